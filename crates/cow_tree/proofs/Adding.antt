@@ -1,6 +1,7 @@
 -- A tile added, all of whose pages are written.
-use Rattle.std.proofs.Common.{◌≡◌, ℕ, zero, suc, ◌+◌, ◌<◌, ◌≤◌, Bool, true, false, not, if◌then◌else◌, List, [], ◌∷◌, ◌++◌, All, Contains, length, get_or, map, None, refl, sym, ap, ap₂, ◌∙◌, subst, arith}
-use Rattle.std.proofs.lemmas.List.Elements.{All-nil, All-cons, All-head, All-tail}
+use Rattle.std.proofs.Common.{◌≡◌, ℕ, suc, ◌+◌, ◌<◌, ◌≤◌, Bool, true, false, not, if◌then◌else◌, List, [], ◌∷◌, ◌++◌, All, Contains, length, get_or, map, None, refl, sym, ap, ap₂, ◌∙◌, subst, arith}
+use Rattle.std.proofs.lemmas.List.{get_or-map, length-map}
+use Rattle.std.proofs.lemmas.List.Elements.{All-cons, All-head, All-tail}
 use Rattle.disk.specs.Disk.{Image}
 use Rattle.lattice.specs.Corners.{Corner, is_before}
 use Rattle.page_codec.specs.Formats.{Format}
@@ -12,12 +13,13 @@ use Rattle.page_map.specs.Planes.{HasPlane, HasPlaneAt}
 use Rattle.page_map.specs.PageMaps.{PageMapValue, IsPageMap, IsAdded, IsFresh, with_tile_location, is_unreached}
 use Rattle.cow_tree.specs.Stored.{StoredTile, with_tile, stale_tile, pages_of_bytes}
 use Rattle.cow_tree.specs.Staged.{AreStaged, IsListedBy, IsTileListed}
-use Rattle.cow_tree.proofs.Standing.{SameOn, All-front, All-back, tile_same, tiles_same}
-use Rattle.page_map.proofs.Occurrences.{times-append}
-use Rattle.cow_tree.proofs.Staging.{tile_listed_same, unreached_test}
+use Rattle.cow_tree.proofs.Standing.{SameOn, All-front, All-back, tile_same, tiles_same, each_tile}
+use Rattle.page_map.proofs.Times.{all_numbers, times-append}
+use Rattle.cow_tree.proofs.Staging.{tile_listed_same}
+use Rattle.page_map.proofs.Listing.{any_none}
 use Rattle.cow_tree.proofs.Tiles.{one_at_corner}
 use Rattle.page_codec.specs.Sizes.{pages_of}
-use Rattle.cow_tree.proofs.Counting.{all_at_times, at_times}
+use Rattle.cow_tree.proofs.Counting.{at_times}
 
 -- it is among them
 pub added_there : (t : TileLocation) (tiles : List TileLocation) → Contains (with_tile_location t tiles) t
@@ -70,23 +72,17 @@ added_tiles t new a b (u ∷ rest) is_new same =
 pub others_same : (t : TileLocation) (tiles : List TileLocation) (a b : Image) → All (λ q. 4 ≤ q) (reached (with_tile_location t tiles)) → ((p : ℕ) → times p (reached (with_tile_location t tiles)) ≤ 1)
     → ((p : ℕ) → 4 ≤ p → times p t.heights.pages ≡ 0 → a p ≡ b p) → SameOn (reached tiles) a b
 others_same t tiles a b low once unwritten =
-    all_at_times (λ q. a q ≡ b q) (reached tiles)
+    all_numbers (λ q. a q ≡ b q) (reached tiles)
     (λ q some. let split = times_added q t tiles in let one = once q in
     unwritten q (at_times (λ p. 4 ≤ p) q (reached (with_tile_location t tiles)) low (omega (arith, split, some)))
     (let whole = times-append q (pages_of_plane t.heights) (pages_of_kept t.kept) in let front = times-append q (t.heights.record_page ∷ []) (pages_behind t.heights) in let behind = times-append q t.heights.index_pages t.heights.pages in omega (arith, split, one, some, whole, front, behind)))
 
 -- what was on the disk of the staged tiles is there still
 pub still_records : (format : Format) (committed tiles : List TileLocation) (a b : Image) → SameOn (reached tiles) a b → AreStaged format committed tiles a → AreStaged format committed tiles b
-still_records format committed [] a b same had = All-nil (IsTileListed format committed b)
-still_records format committed (t ∷ rest) a b same had =
-    All-cons (IsTileListed format committed b) t rest
-    (tile_listed_same format committed t a b (All-front (λ q. a q ≡ b q) (pages_of_tile t) (reached rest) same) (All-head (IsTileListed format committed a) t rest had))
-    (still_records format committed rest a b (All-back (λ q. a q ≡ b q) (pages_of_tile t) (reached rest) same) (All-tail (IsTileListed format committed a) t rest had))
+still_records format committed tiles a b same had k d lt = tile_listed_same format committed (get_or tiles k d) a b (each_tile (λ q. a q ≡ b q) tiles same k d lt) (had k d lt)
 
 pub contains-map : {X Y : Type 0} (f : X → Y) (xs : List X) (x : X) → Contains xs x → Contains (map f xs) (f x)
-contains-map f [] x (k, lt, here) = absurd (omega (arith, lt))
-contains-map f (y ∷ ys) x (zero, lt, here) = (0, omega arith, ap f here)
-contains-map f (y ∷ ys) x (suc k, lt, here) = let later = contains-map f ys x (k, omega arith, here) in (suc later.0, omega (arith, later.1), later.2)
+contains-map f xs x (k, lt, here) = (k, omega (arith, lt, length-map xs f), get_or-map f xs k x (f x) lt ∙ ap f here)
 
 -- a tile was added to a page_map
 module _ (old new : PageMapValue) (c : Corner) (rules : IsPageMap new) (added : IsAdded c old new) where
@@ -161,7 +157,7 @@ module _ (old new : PageMapValue) (c : Corner) (rules : IsPageMap new) (added : 
         (all_added (IsTileListed format old.committed b) t old.staged (record { heights = fresh; kept = tt }) (still_records format old.committed old.staged a b kept_pages was)))
       where
         fresh_page : (q : ℕ) → ¬ Contains (reached old.committed) q → is_unreached old.committed q ≡ false → ⊥
-        fresh_page q none shared = let no : true ≡ false = sym (ap not (unreached_test q (reached old.committed) none)) ∙ shared in cc
+        fresh_page q none shared = let no : true ≡ false = sym (ap not (any_none (reached old.committed) q none)) ∙ shared in cc
 
         record_unreached : ¬ Contains (reached old.committed) added.location.record_page
         record_unreached = subst (λ (tiles : List TileLocation). ¬ Contains (reached tiles) added.location.record_page) committed_is (All-head (IsFresh new) added.location.record_page (pages_behind added.location) added.fresh).unreached

@@ -13,6 +13,7 @@ use Rattle.page_codec.specs.Records.{record_bytes}
 use Rattle.page_codec.specs.Roots.{RootValue, format_of}
 use Rattle.page_codec.specs.Sizes.{sectors_asked}
 use Rattle.roots.specs.Slots.{KeepsAll, HasMoved}
+use Rattle.page_map.proofs.Times.{all_numbers}
 use Rattle.page_map.specs.declared.locations.KeptLocations.{KeptLocations}
 use Rattle.page_map.specs.TileLocations.{TileLocation, pages_of_kept, pages_of_tile, reached, KeepsPageRule}
 use Rattle.page_map.specs.Upgraded.{KeptData, TileData, data_of, data_of_kept, listings}
@@ -24,11 +25,11 @@ use Rattle.page_map.specs.Locations.{PlaneLocation, IsWholePlane, listing_of, pa
 use Rattle.page_map.specs.PageMaps.{AreWholeKept, PageMapValue, IsPageMap, IsWholeTile, is_unreached}
 use Rattle.cow_tree.specs.Staged.{AreListedBy, AreStaged, IsListedBy, IsTileListed}
 use Rattle.cow_tree.specs.Stored.{KeptPlanes, PlanePages, Stored, StoredTile}
-use Rattle.cow_tree.proofs.Counting.{all_at_times, at_times, times_failing}
+use Rattle.cow_tree.proofs.Counting.{at_times, times_failing}
 use Rattle.cow_tree.proofs.ListingPages.{all_within, due_numbers, few_due, number_there, plane_at, plane_length, tiles_numbers}
-use Rattle.cow_tree.proofs.Standing.{SameOn, All-front, All-back, map_same, stores_kept}
+use Rattle.cow_tree.proofs.Standing.{SameOn, All-front, All-back, map_same, stores_kept, each_tile}
 use Rattle.cow_tree.proofs.Steps.{stands}
-use Rattle.cow_tree.proofs.Tiles.{each_tile, unfiltered}
+use Rattle.cow_tree.proofs.Tiles.{unfiltered}
 
 -- ---- what stands on the pages of tiles, without what lists them
 abbrev kept_over : Image → Option KeptData → Option KeptPlanes
@@ -121,7 +122,7 @@ module _ (page_map : PageMapValue) (rules : IsPageMap page_map) (before : List T
 
     data_same : SameOn (all_data (map data_of page_map.staged)) a image
     data_same =
-        all_at_times (λ q. a q ≡ image q) (all_data (map data_of page_map.staged)) (λ q some.
+        all_numbers (λ q. a q ≡ image q) (all_data (map data_of page_map.staged)) (λ q some.
         let split = tiles_split q page_map.staged in
         let few = few_due before all_pages q in
         let all = all_listings q in

@@ -1,27 +1,20 @@
 -- Pages by how often they stand in lists.
-use Rattle.std.proofs.Common.{◌≡◌, ◌≢◌, ⊎_elim, ℕ, zero, suc, ◌+◌, ◌<◌, ◌≤◌, Bool, true, false, cond, List, [], ◌∷◌, ◌++◌, All, Contains, length, get_or, take, drop, refl, sym, ap, ◌∙◌, subst, arith}
+use Rattle.std.proofs.Common.{◌≡◌, ℕ, zero, suc, ◌+◌, ◌<◌, ◌≤◌, Bool, true, false, cond, List, [], ◌∷◌, ◌++◌, All, Contains, length, get_or, take, drop, refl, sym, ap, ◌∙◌, subst, arith}
 use Rattle.std.specs.List.{filter, flat_map}
-use Rattle.std.proofs.lemmas.Bool.{cases_eq}
 use Rattle.std.proofs.lemmas.Grind.{flat_map-append}
 use Rattle.std.proofs.lemmas.List.{append-nil, length-append, take_more, take-append-drop}
-use Rattle.std.proofs.lemmas.List.Elements.{All-head, All-tail, All-contains_itself}
+use Rattle.std.proofs.lemmas.List.Elements.{All-contains}
 use Rattle.page_map.specs.Locations.{times}
-use Rattle.page_map.proofs.Occurrences.{times-append, times_other, stands_there}
+use Rattle.page_map.proofs.Occurrences.{times_other}
+use Rattle.page_map.proofs.Times.{all_numbers, member_of_times, times-append}
 
 -- what holds of a number that stands there
 pub at_times : (P : ℕ → Type 0) (q : ℕ) (xs : List ℕ) → All P xs → 1 ≤ times q xs → P q
-at_times P q [] all some = absurd (omega (arith, some))
-at_times P q (x ∷ xs) all some =
-    ⊎_elim (λ (same : q ≡ x). subst P (sym same) (All-head P x xs all))
-    (λ (other : q ≢ x). at_times P q xs (All-tail P x xs all) (omega (arith, times_other q x xs other, some)))
-    (cases_eq q x)
-
-pub all_at_times : (P : ℕ → Type 0) (xs : List ℕ) → ((q : ℕ) → 1 ≤ times q xs → P q) → All P xs
-all_at_times P xs each k d lt = each _ (stands_there _ xs (All-contains_itself xs k d lt))
+at_times P q xs all some = All-contains P xs q all (member_of_times xs q some)
 
 -- what holds of all holds of fewer
 pub all_of_fewer : (P : ℕ → Type 0) (xs ys : List ℕ) → ((q : ℕ) → times q xs ≤ times q ys) → All P ys → All P xs
-all_of_fewer P xs ys fewer all = all_at_times P xs (λ q some. at_times P q ys all (omega (arith, some, fewer q)))
+all_of_fewer P xs ys fewer all = all_numbers P xs (λ q some. at_times P q ys all (omega (arith, some, fewer q)))
 
 pub times_among : {X : Type 0} (f : X → List ℕ) (p : ℕ) (xs : List X) (x : X) → Contains xs x → times p (f x) ≤ times p (flat_map f xs)
 times_among f p [] x (k, lt, here) = absurd (omega (arith, lt))

@@ -11,7 +11,7 @@ use Rattle.page_map.specs.TileLocations.{TileLocation, reached, pages_of_kept, p
 use Rattle.cow_tree.specs.Entries.{entry_of}
 use Rattle.page_map.specs.PageMaps.{PageMapValue, HasFreshHeights, is_at, corners_of_locations, without_location}
 use Rattle.cow_tree.specs.Staged.{AreStaged, IsTileListed}
-use Rattle.cow_tree.proofs.Tiles.{each_tile}
+use Rattle.cow_tree.proofs.Standing.{each_tile}
 
 pub filter-map : {X Y : Type 0} (test : Y → Bool) (f : X → Y) (xs : List X) → map f (filter (λ x. test (f x)) xs) ≡ filter test (map f xs)
 filter-map test f [] = refl

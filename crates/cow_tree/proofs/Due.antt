@@ -2,9 +2,7 @@
 use Rattle.std.proofs.Common.{◌≡◌, ℕ, zero, suc, ◌+◌, ◌*◌, ◌/◌, ◌<◌, ◌≤◌, ◌==◌, Bool, true, false, cond, not, ◌||◌, if◌then◌else◌, List, [], ◌∷◌, ◌++◌, All, Contains, length, map, refl, sym, ap, ap₂, ◌∙◌, subst, arith}
 use Rattle.std.specs.Prelude.{Option, Some, None}
 use Rattle.std.specs.List.{filter, list_any, slice_set}
-use Rattle.std.proofs.lemmas.Bool.Decides.{nat_tests}
 use Rattle.std.proofs.lemmas.List.{length-append}
-use Rattle.std.proofs.lemmas.List.Folds.{list_any_at}
 use Rattle.std.proofs.lemmas.List.Elements.{All-head, All-tail, All-contains, All-weaker, All-contains_itself, filter-append}
 use Rattle.page_codec.specs.declared.version.Version.{Version}
 use Rattle.page_codec.specs.declared.version.Version.TheVariants.{One, Two}
@@ -16,26 +14,21 @@ use Rattle.page_map.specs.declared.locations.KeptLocations.{KeptLocations}
 use Rattle.page_map.specs.Locations.{PlaneLocation, listing_of, moved_plane, pages_behind}
 use Rattle.page_map.specs.TileLocations.{TileLocation, reached}
 use Rattle.page_map.specs.Upgraded.{listing_of_kept, listing_of_tile, listings}
+use Rattle.page_map.proofs.KeptChanges.{length-filter-le}
+use Rattle.page_map.proofs.Lookup.{tile_at_corner}
 use Rattle.page_map.proofs.UpgradedTiles.{tiles_split}
 use Rattle.page_map.specs.PageMaps.{PageMapValue, IsPageMap, IsFresh, IsLocated, IsRewritten, IsPrepared, IsAdded, HasFreshHeights, AreKept, IsWholeTile, is_at, is_unreached, corners_of_locations, other_kept, with_tile_location, without_location}
 use Rattle.cow_tree.specs.Staged.{index_page_by, pages_due}
 use Rattle.cow_tree.specs.Stored.{with_corner}
 use Rattle.cow_tree.proofs.Adding.{added_there}
 use Rattle.cow_tree.proofs.CornerChanges.{heights_here, heights_still}
-use Rattle.cow_tree.proofs.Staging.{unreached_test}
+use Rattle.page_map.proofs.Listing.{any_none, any_some}
 use Rattle.cow_tree.proofs.Standing.{All-front}
 use Rattle.cow_tree.proofs.Counting.{all_of_fewer}
 use Rattle.cow_tree.proofs.Tiles.{corner_of, located_is, one_at_corner}
 
-pub filter_few : (test : ℕ → Bool) (xs : List ℕ) → length (filter test xs) ≤ length xs
-filter_few test [] = omega arith
-filter_few test (x ∷ xs) = let later = filter_few test xs in elim (test x) as (λ (v : Bool). length (cond v (x ∷ filter test xs) (filter test xs)) ≤ suc (length xs)) [ true ↦ omega (arith, later) | false ↦ omega (arith, later) ]
-
 pub reached_from : (committed : List TileLocation) (page : ℕ) → Contains (reached committed) page → is_unreached committed page ≡ false
-reached_from committed page has = ap not (list_any_at (λ q. q == page) (reached committed) has.0 page has.1 (equal _ _ has.2))
-  where
-    equal : (p q : ℕ) → p ≡ q → (p == q) ≡ true
-    equal p q same = grind (arith, nat_tests)
+reached_from committed page has = ap not (any_some (reached committed) page has)
 
 -- ---- how many of these pages no committed tile reaches
 due_of : List TileLocation → List ℕ → ℕ
@@ -55,11 +48,11 @@ due_append committed xs ys = ap length (filter-append (is_unreached committed) x
 
 due_few : (committed : List TileLocation) (pages : List ℕ) → due_of committed pages ≤ length pages
 unfolding due_of
-due_few committed pages = filter_few (is_unreached committed) pages
+due_few committed pages = length-filter-le (is_unreached committed) pages
 
 due_one : (committed : List TileLocation) (page : ℕ) → ¬ Contains (reached committed) page → due_of committed (page ∷ []) ≡ 1
 unfolding due_of
-due_one committed page none = ap (λ (v : Bool). length (cond v (page ∷ []) [])) (ap not (unreached_test page (reached committed) none))
+due_one committed page none = ap (λ (v : Bool). length (cond v (page ∷ []) [])) (ap not (any_none (reached committed) page none))
 
 due_reached : (committed : List TileLocation) (page : ℕ) → Contains (reached committed) page → due_of committed (page ∷ []) ≡ 0
 unfolding due_of
@@ -151,9 +144,7 @@ after_other c f (t ∷ rest) after =
     ap₂ (λ (v : Bool) (us : List TileLocation). (if v then f t else t) ∷ us) (after_not_same c t.corner after.0) (after_other c f rest after.1)
 
 pub located_tile : (c : Corner) (tiles : List TileLocation) → IsLocated c tiles → (t : TileLocation) × (Contains tiles t × (t.corner ≡ c))
-located_tile c [] (k, lt, here) = absurd (omega (arith, lt))
-located_tile c (t ∷ rest) (zero, lt, here) = (t, ((0, omega arith, refl), here))
-located_tile c (t ∷ rest) (suc k, lt, here) = let later = located_tile c rest (k, omega arith, here) in (later.0, ((suc later.1.0.0, omega (arith, later.1.0.1), later.1.0.2), later.1.1))
+located_tile c tiles located = let (t, (has, (at, heights))) = tile_at_corner c tiles located in (t, (has, at))
 
 -- so much more or less is due as is of the tile
 module _ (committed : List TileLocation) (c : Corner) (f : TileLocation → TileLocation) where

@@ -17,8 +17,8 @@ use Rattle.page_map.specs.PageMaps.{PageMapValue, IsPageMap, IsLocated, corners_
 use Rattle.page_map.proofs.Loading.{kept_back}
 use Rattle.page_map.proofs.Lookup.{lies, lies_there}
 use Rattle.cow_tree.specs.Entries.{entry_of_kept, entry_of}
-use Rattle.cow_tree.proofs.Standing.{All-back}
-use Rattle.cow_tree.proofs.Tiles.{each_tile, one_at_corner, adjacent_map}
+use Rattle.cow_tree.proofs.Standing.{All-back, each_tile}
+use Rattle.cow_tree.proofs.Tiles.{one_at_corner, adjacent_map}
 
 module _ (page_map : PageMapValue) (rules : IsPageMap page_map) where
   -- ---- what a corner's tile is named by

@@ -2,7 +2,6 @@
 use Rattle.std.proofs.Common.{◌≡◌, ℕ, ◌<◌, ◌≤◌, Bool, true, false, not, inl, inr, if◌then◌else◌, List, [], ◌∷◌, ◌++◌, All, Contains, get_or, map, refl, sym, ap, ap₂, ◌∙◌, subst, arith}
 use Rattle.std.specs.Prelude.{Option, Some, option_map}
 use Rattle.std.proofs.lemmas.Bool.{cases_eq}
-use Rattle.std.proofs.lemmas.List.Elements.{Contains-get_or}
 use Rattle.std.proofs.lemmas.Option.{same_Some}
 use Rattle.disk.specs.Disk.{Image}
 use Rattle.lattice.specs.Corners.{Corner}
@@ -15,8 +14,8 @@ use Rattle.page_map.specs.declared.locations.KeptLocations.{KeptLocations}
 use Rattle.page_map.specs.PageMaps.{PageMapValue, IsPageMap, IsClean, IsFresh, IsLocated, AreKept, AreWholeKept, is_at, is_unreached, other_kept}
 use Rattle.page_map.specs.Locations.{PlaneLocation, listing_of, pages_behind, pages_of_plane, times}
 use Rattle.page_map.specs.TileLocations.{TileLocation, pages_of_kept, pages_of_tile, reached}
-use Rattle.page_map.proofs.Occurrences.{times-append, times_here, stands_there}
-use Rattle.page_map.proofs.Times.{member_of_times}
+use Rattle.page_map.proofs.Occurrences.{times_here}
+use Rattle.page_map.proofs.Times.{all_numbers, has_at, member_of_times, times-append}
 use Rattle.cow_tree.specs.Kept.{with_kept}
 use Rattle.cow_tree.specs.Layout.{kept_in, tile_in}
 use Rattle.cow_tree.specs.Staged.{AreListedBy, AreStaged, IsListedBy}
@@ -24,9 +23,9 @@ use Rattle.cow_tree.specs.Stored.{KeptPlanes, PlanePages, StoredTile}
 use Rattle.cow_tree.proofs.Adding.{still_records}
 use Rattle.cow_tree.proofs.CornerChanges.{tile_changed}
 use Rattle.cow_tree.proofs.Due.{located_tile}
-use Rattle.cow_tree.proofs.Counting.{all_at_times, all_of_fewer, at_times, times_among}
+use Rattle.cow_tree.proofs.Counting.{all_of_fewer, at_times, times_among}
 use Rattle.cow_tree.proofs.KeptDrops.{other_stays}
-use Rattle.cow_tree.proofs.Staging.{unreached_test}
+use Rattle.page_map.proofs.Listing.{any_none}
 use Rattle.cow_tree.proofs.Standing.{SameOn, All-front, All-back, tile_same, plane_same}
 use Rattle.cow_tree.proofs.Tiles.{one_at_corner}
 
@@ -115,27 +114,27 @@ module _ (old new : PageMapValue) (c : Corner) (rules : IsPageMap new) (was : Is
   unreached k had q some = subst (λ (tiles : List TileLocation). ¬ Contains (reached tiles) q) committed_is (at_times (IsFresh new) q (pages_of_kept (Some k)) (all_fresh k had) some).unreached
 
   pub pages_unreached : (k : KeptLocations) → anew.locations ≡ k → All (λ q. ¬ Contains (reached old.committed) q) (k.levels.pages ++ k.labels.pages)
-  pages_unreached k had = all_at_times (λ q. ¬ Contains (reached old.committed) q) (k.levels.pages ++ k.labels.pages) (λ q some. unreached k had q (omega (arith, some, pages_within k had q)))
+  pages_unreached k had = all_numbers (λ q. ¬ Contains (reached old.committed) q) (k.levels.pages ++ k.labels.pages) (λ q some. unreached k had q (omega (arith, some, pages_within k had q)))
 
   -- what lists them isn't written before the commit
   listed : (k : KeptLocations) → anew.locations ≡ k → (format : Format) (image : Image) → AreListedBy format old.committed image k
   listed k had format image = record { levels = by k.levels (λ q some. omega (arith, some, times-append q (pages_of_plane k.levels) (pages_of_plane k.labels))); labels = by k.labels (λ q some. omega (arith, some, times-append q (pages_of_plane k.levels) (pages_of_plane k.labels))) }
     where
       shared_not : (q : ℕ) → 1 ≤ times q (pages_of_kept (Some k)) → is_unreached old.committed q ≡ false → ⊥
-      shared_not q some shared = let no : true ≡ false = sym (ap not (unreached_test q (reached old.committed) (unreached k had q some))) ∙ shared in cc
+      shared_not q some shared = let no : true ≡ false = sym (ap not (any_none (reached old.committed) q (unreached k had q some))) ∙ shared in cc
 
       by : (p : PlaneLocation) → ((q : ℕ) → 1 ≤ times q (pages_of_plane p) → 1 ≤ times q (pages_of_kept (Some k))) → IsListedBy format old.committed image p
       by p among = record {
         listed = λ shared. absurd (shared_not p.record_page (among p.record_page (omega (arith, times_here p.record_page p.record_page (pages_behind p) refl))) shared);
         indexed = λ t lt shared. absurd (shared_not (get_or p.index_pages t 0) (among (get_or p.index_pages t 0)
-            (omega (arith, stands_there (get_or p.index_pages t 0) p.index_pages (Contains-get_or p.index_pages t 0 lt), times-append (get_or p.index_pages t 0) (p.record_page ∷ []) (pages_behind p), times-append (get_or p.index_pages t 0) p.index_pages p.pages))) shared);
+            (omega (arith, has_at p.index_pages t 0 lt, times-append (get_or p.index_pages t 0) (p.record_page ∷ []) (pages_behind p), times-append (get_or p.index_pages t 0) p.index_pages p.pages))) shared);
       }
 
   -- what was staged wasn't written
   module _ (k : KeptLocations) (had : anew.locations ≡ k) (a b : Image) (others : (q : ℕ) → 4 ≤ q → times q (k.levels.pages ++ k.labels.pages) ≡ 0 → a q ≡ b q) where
     same : SameOn (reached old.staged) a b
     same =
-        all_at_times (λ q. a q ≡ b q) (reached old.staged)
+        all_numbers (λ q. a q ≡ b q) (reached old.staged)
         (λ q some. others q (at_times (λ p. 4 ≤ p) q (reached old.staged) was.staged.page_rule.low some) (none q some))
       where
         none : (q : ℕ) → 1 ≤ times q (reached old.staged) → times q (k.levels.pages ++ k.labels.pages) ≡ 0

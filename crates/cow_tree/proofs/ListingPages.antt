@@ -19,11 +19,11 @@ use Rattle.page_map.specs.Locations.{PlaneLocation, listing_of, times}
 use Rattle.page_map.specs.Planes.{plane_of}
 use Rattle.page_map.specs.TileLocations.{TileLocation, KeepsPageRule, reached}
 use Rattle.page_map.specs.Upgraded.{listing_of_kept, listing_of_tile, listings}
-use Rattle.page_map.proofs.Occurrences.{times-append, stands_there}
+use Rattle.page_map.proofs.Times.{all_numbers, times-append, times_of_member}
 use Rattle.page_map.proofs.UpgradedTiles.{tiles_split}
 use Rattle.cow_tree.specs.Listings.{ListingPage, WritesListing, IsOn, due_among, index_listing, kept_listing, listing_bytes, listing_if, named_listing, numbers_of, plane_listing, tile_listing, tiles_listing}
 use Rattle.cow_tree.specs.OverRoots.{WritesPages}
-use Rattle.cow_tree.proofs.Counting.{all_at_times, at_times, times_among, times_failing, times_passing}
+use Rattle.cow_tree.proofs.Counting.{at_times, times_among, times_failing, times_passing}
 use Rattle.cow_tree.proofs.Due.{reached_from}
 use Rattle.cow_tree.proofs.Adding.{contains-map}
 use Rattle.cow_tree.proofs.PageWrites.{nothing_written, then_written, refused_within}
@@ -35,6 +35,9 @@ number l = l.page
 -- ---- the numbers of the pages
 pub numbers-append : (xs ys : List ListingPage) → numbers_of (xs ++ ys) ≡ numbers_of xs ++ numbers_of ys
 numbers-append xs ys = map-append number xs ys
+
+pub both_parts : (q : ℕ) (xs ys : List ListingPage) → times q (numbers_of (xs ++ ys)) ≡ times q (numbers_of xs) + times q (numbers_of ys)
+both_parts q xs ys = ap (times q) (numbers-append xs ys) ∙ times-append q (numbers_of xs) (numbers_of ys)
 
 index_numbers : (t : ℕ) (xs pages : List ℕ) → numbers_of (index_listing t xs pages) ≡ xs
 index_numbers t [] pages = refl
@@ -75,7 +78,7 @@ due_are before format tiles = due_numbers before (tiles_listing format tiles) �
 -- none of them is reached by the tiles that were written before
 pub due_unreached : (before : List TileLocation) (ls : List ListingPage) → All (λ q. ¬ Contains (reached before) q) (numbers_of (due_among before ls))
 due_unreached before ls =
-    all_at_times (λ q. ¬ Contains (reached before) q) (numbers_of (due_among before ls))
+    all_numbers (λ q. ¬ Contains (reached before) q) (numbers_of (due_among before ls))
     (λ q some has.
     let none = ap (times q) (due_numbers before ls) ∙ times_failing q (is_unreached before) (reached_from before q has) (numbers_of ls) in
     omega (arith, none, some))
@@ -115,8 +118,7 @@ few_due committed ls q = let same = ap (times q) (due_numbers committed ls) in o
 pub few_first : (k : ℕ) (ls : List ListingPage) (q : ℕ) → times q (numbers_of (take k ls)) ≤ times q (numbers_of ls)
 few_first k ls q =
     let whole = ap (λ (l : List ListingPage). times q (numbers_of l)) (take-append-drop k ls) in
-    let parts = ap (times q) (numbers-append (take k ls) (drop k ls)) in
-    omega (arith, whole, parts, times-append q (numbers_of (take k ls)) (numbers_of (drop k ls)))
+    omega (arith, whole, both_parts q (take k ls) (drop k ls))
 
 pub all_within : (format : Format) (tiles : List TileLocation) → AreWithin (tiles_listing format tiles) tiles
 all_within format tiles q = let same = ap (times q) (tiles_numbers format tiles) in omega (arith, same, tiles_split q tiles)
@@ -128,25 +130,16 @@ tile_within format tiles t among q =
 
 pub plane_within : (format : Format) (tiles : List TileLocation) (t : TileLocation) (name : Plane) (p : PlaneLocation) → Contains tiles t → plane_of name t ≡ Some p → AreWithin (plane_listing format p) tiles
 plane_within format tiles t name p among is q =
-    let all = tile_within format tiles t among q in
-    let parts = ap (λ (l : List ListingPage). times q (numbers_of l)) (by_name format t) in
-    let first = ap (times q) (numbers-append (named_listing format Heights t) (named_listing format Levels t ++ named_listing format Labels t)) in
-    let rest = ap (times q) (numbers-append (named_listing format Levels t) (named_listing format Labels t)) in
-    let split = times-append q (numbers_of (named_listing format Heights t)) (numbers_of (named_listing format Levels t ++ named_listing format Labels t)) in
-    let more = times-append q (numbers_of (named_listing format Levels t)) (numbers_of (named_listing format Labels t)) in
-    let named : times q (numbers_of (named_listing format name t)) ≤ times q (numbers_of (tile_listing format t)) = by name parts first rest split more in
     let own = ap (λ (o : Option PlaneLocation). times q (numbers_of (listing_if format o))) is in
-    omega (arith, all, named, own)
+    omega (arith, tile_within format tiles t among q, by name, own)
   where
-    by : (n : Plane) → times q (numbers_of (tile_listing format t)) ≡ times q (numbers_of (named_listing format Heights t ++ (named_listing format Levels t ++ named_listing format Labels t)))
-        → times q (numbers_of (named_listing format Heights t ++ (named_listing format Levels t ++ named_listing format Labels t))) ≡ times q (numbers_of (named_listing format Heights t) ++ numbers_of (named_listing format Levels t ++ named_listing format Labels t))
-        → times q (numbers_of (named_listing format Levels t ++ named_listing format Labels t)) ≡ times q (numbers_of (named_listing format Levels t) ++ numbers_of (named_listing format Labels t))
-        → times q (numbers_of (named_listing format Heights t) ++ numbers_of (named_listing format Levels t ++ named_listing format Labels t)) ≡ times q (numbers_of (named_listing format Heights t)) + times q (numbers_of (named_listing format Levels t ++ named_listing format Labels t))
-        → times q (numbers_of (named_listing format Levels t) ++ numbers_of (named_listing format Labels t)) ≡ times q (numbers_of (named_listing format Levels t)) + times q (numbers_of (named_listing format Labels t))
-        → times q (numbers_of (named_listing format n t)) ≤ times q (numbers_of (tile_listing format t))
-    by Heights parts first rest split more = omega (arith, parts, first, rest, split, more)
-    by Levels parts first rest split more = omega (arith, parts, first, rest, split, more)
-    by Labels parts first rest split more = omega (arith, parts, first, rest, split, more)
+    split : times q (numbers_of (tile_listing format t)) ≡ times q (numbers_of (named_listing format Heights t)) + (times q (numbers_of (named_listing format Levels t)) + times q (numbers_of (named_listing format Labels t)))
+    split = ap (λ (l : List ListingPage). times q (numbers_of l)) (by_name format t) ∙ both_parts q (named_listing format Heights t) (named_listing format Levels t ++ named_listing format Labels t) ∙ ap (λ n. times q (numbers_of (named_listing format Heights t)) + n) (both_parts q (named_listing format Levels t) (named_listing format Labels t))
+
+    by : (n : Plane) → times q (numbers_of (named_listing format n t)) ≤ times q (numbers_of (tile_listing format t))
+    by Heights = omega (arith, split)
+    by Levels = omega (arith, split)
+    by Labels = omega (arith, split)
 
 -- ---- pages written
 pub none_listed : {D : Type 0} (g : Ghosts D) → ((disk : D) (c : Image) → g.honest disk → g.since disk (g.moment disk) c → g.may disk c) → (roots : Roots D g) → has_failed roots ≡ false → WritesListing {T = Unit {0}} g [] roots roots (Ok tt)
@@ -157,7 +150,7 @@ pub one_listed : {D : Type 0} (g : Ghosts D) (old new : Roots D g) (l : ListingP
 one_listed g old new l r pages wrote = record { pages = pages; written = λ honest. on_ok r (λ here. All-cons (IsOn (g.seen (disk_of new))) l [] here (All-nil (IsOn (g.seen (disk_of new))))) (wrote honest) }
 
 pub number_there : (ls : List ListingPage) (k : ℕ) (d : ListingPage) → k < length ls → 1 ≤ times (get_or ls k d).page (numbers_of ls)
-number_there ls k d lt = stands_there (get_or ls k d).page (numbers_of ls) (contains-map number ls (get_or ls k d) (All-contains_itself ls k d lt))
+number_there ls k d lt = times_of_member (numbers_of ls) (get_or ls k d).page (contains-map number ls (get_or ls k d) (All-contains_itself ls k d lt))
 
 pub then_listed : {D : Type 0} (g : Ghosts D) (tiles : List TileLocation) (sectors : ℕ) → KeepsPageRule sectors tiles → (old mid new : Roots D g) (xs ys : List ListingPage) (r : Result (Unit {0}) Refusal)
     → AreWithin (xs ++ ys) tiles → WritesListing {T = Unit {0}} g xs old mid (Ok tt) → WritesListing g ys mid new r → WritesListing g (xs ++ ys) old new r
@@ -169,10 +162,9 @@ then_listed g tiles sectors rule old mid new xs ys r within first second = recor
       (λ k d lt.
       let q : ℕ = (get_or xs k d).page in
       let there = number_there xs k d lt in
-      let parts = ap (times q) (numbers-append xs ys) in
-      let split = times-append q (numbers_of xs) (numbers_of ys) in
+      let parts = both_parts q xs ys in
       let most = within q in
-      sym (others q (at_times (λ p. 4 ≤ p) q (reached tiles) rule.low (omega (arith, there, parts, split, most))) (omega (arith, there, parts, split, most, rule.once q)))
+      sym (others q (at_times (λ p. 4 ≤ p) q (reached tiles) rule.low (omega (arith, there, parts, most))) (omega (arith, there, parts, most, rule.once q)))
       ∙ first.written (second.pages.honest honest) k d lt)
       wrote)
       (second.pages.others honest) (second.written honest);

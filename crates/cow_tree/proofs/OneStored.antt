@@ -2,7 +2,7 @@
 -- are equal.
 use Rattle.std.proofs.Common.{◌≡◌, ℕ, ◌<◌, ◌*◌, ◌+◌, ◌-◌, ◌/◌, ◌%◌, ◌^◌, List, [], ◌∷◌, All, length, drop, get_or, min, map, arith, Option, Some, None, IfSome, refl, sym, ap, ap₂, ◌∙◌, subst}
 use Rattle.std.proofs.Math.Nat.{div-add-mod, mod-lt}
-use Rattle.std.proofs.lemmas.List.{get_or-take, get_or-drop, length-take, length-drop, same_lists}
+use Rattle.std.proofs.lemmas.List.{get_or-take, get_or-drop, length-take, length-drop, nil_from_length, same_lists}
 use Rattle.std.proofs.lemmas.List.Elements.{All-head, All-tail, All-take, All-drop}
 use Rattle.disk.specs.Disk.{Image}
 use Rattle.lattice.specs.Corners.{Corner}
@@ -47,10 +47,6 @@ alike xs ys low low_2 len same = same_records (length ys) xs ys (record { len = 
 index_length : (format : Format) (p : PlaneLocation) → IsWholePlane format p → (format.version ≡ Two) → (t : ℕ) → 1024 * t < length p.pages → t < length p.index_pages
 index_length format p whole two t below = omega (arith, below, whole.pages, whole.index_pages, ap (λ v. index_pages_by v (pages_of format.side)) two)
 
-empty : (l : List ℕ) → length l ≡ 0 → l ≡ []
-empty [] none = refl
-empty (x ∷ xs) none = absurd (omega (arith, none))
-
 part_low : (t : ℕ) (pages : List ℕ) → All (λ p. p < 2 ^ 32) pages → All (λ p. p < 2 ^ 32) (part_of t pages)
 part_low t pages low = All-take (λ p. p < 2 ^ 32) 1024 (drop (1024 * t) pages) (All-drop (λ p. p < 2 ^ 32) (1024 * t) pages low)
 
@@ -62,7 +58,7 @@ same_behind : (v : Version) (image : Image) (a b : PlaneLocation) → All (λ p.
     → (v ≡ One → length a.index_pages ≡ 0)
     → (a.index_pages ≡ b.index_pages) × (a.pages ≡ b.pages)
 same_behind One image a b low low_2 index_len len same enough p q none = (
-  empty a.index_pages (none refl) ∙ sym (empty b.index_pages (sym index_len ∙ none refl)),
+  nil_from_length a.index_pages (none refl) ∙ sym (nil_from_length b.index_pages (sym index_len ∙ none refl)),
   alike a.pages b.pages (All-back (λ p. p < 2 ^ 32) a.index_pages a.pages low) (All-back (λ p. p < 2 ^ 32) b.index_pages b.pages low_2) len same,
 )
 same_behind Two image a b low low_2 index_len len same enough p q none =

@@ -11,15 +11,14 @@ use Rattle.page_codec.specs.Sizes.{pages_of}
 use Rattle.page_map.specs.declared.locations.KeptLocations.{KeptLocations}
 use Rattle.page_map.specs.declared.plane.Plane.{Plane}
 use Rattle.page_map.specs.declared.plane.Plane.TheVariants.{Heights, Levels, Labels}
-use Rattle.page_map.specs.Locations.{PlaneLocation, pages_behind, pages_of_plane}
+use Rattle.page_map.specs.Locations.{IsWholePlane, PlaneLocation, pages_behind, pages_of_plane}
 use Rattle.page_map.specs.TileLocations.{TileLocation, pages_of_kept, pages_of_tile, reached}
 use Rattle.cow_tree.specs.Layout.{plane_in, kept_in, tile_in}
 use Rattle.page_map.specs.PageMaps.{IsWholeTile, AreWholeKept}
-use Rattle.page_map.specs.Planes.{HasPlaneAt}
+use Rattle.page_map.specs.Planes.{HasPlaneAt, LiesAt}
 use Rattle.cow_tree.specs.Planes.{HasPage}
 use Rattle.cow_tree.proofs.Adding.{contains-map}
-use Rattle.cow_tree.proofs.Standing.{All-front, All-back}
-use Rattle.cow_tree.proofs.Tiles.{each_tile}
+use Rattle.cow_tree.proofs.Standing.{All-front, All-back, each_tile}
 
 -- what holds of all pages that the tiles reach holds of the plane's
 module _ (P : ℕ → Type 0) (tiles : List TileLocation) (c : Corner) (location : PlaneLocation) (all : All P (reached tiles)) where
@@ -38,14 +37,13 @@ module _ (P : ℕ → Type 0) (tiles : List TileLocation) (c : Corner) (location
       subst (λ (p : PlaneLocation). All P p.pages) at (All-back P kept.labels.index_pages kept.labels.pages (All-tail P kept.labels.record_page (pages_behind kept.labels) (All-back P (pages_of_plane kept.levels) (pages_of_plane kept.labels) (of_kept t kept has some))))
 
 -- it has all its pages
-module _ (format : Format) (tiles : List TileLocation) (c : Corner) (location : PlaneLocation) (all : All (IsWholeTile format) tiles) where
-  whole_kept : (t : TileLocation) (kept : KeptLocations) → Contains tiles t → t.kept ≡ Some kept → AreWholeKept format kept
-  whole_kept t kept has some = let whole : IfSome (Some kept) (AreWholeKept format) = subst (λ (o : Option KeptLocations). IfSome o (AreWholeKept format)) some (All-contains (IsWholeTile format) tiles t all has).kept in whole
+pub whole_in : (format : Format) (name : Plane) (t : TileLocation) (p : PlaneLocation) → IsWholeTile format t → LiesAt name t p → IsWholePlane format p
+whole_in format Heights t p whole at = subst (IsWholePlane format) at whole.heights
+whole_in format Levels t p whole (k, (some, at)) = let kept : IfSome (Some k) (AreWholeKept format) = subst (λ (o : Option KeptLocations). IfSome o (AreWholeKept format)) some whole.kept in subst (IsWholePlane format) at kept.levels
+whole_in format Labels t p whole (k, (some, at)) = let kept : IfSome (Some k) (AreWholeKept format) = subst (λ (o : Option KeptLocations). IfSome o (AreWholeKept format)) some whole.kept in subst (IsWholePlane format) at kept.labels
 
-  pub whole_plane : (plane : Plane) → HasPlaneAt tiles c plane location → length location.pages ≡ pages_of format.side
-  whole_plane Heights (t, (has, (corner, at))) = subst (λ (p : PlaneLocation). length p.pages ≡ pages_of format.side) at (All-contains (IsWholeTile format) tiles t all has).heights.pages
-  whole_plane Levels (t, (has, (corner, (kept, (some, at))))) = subst (λ (p : PlaneLocation). length p.pages ≡ pages_of format.side) at (whole_kept t kept has some).levels.pages
-  whole_plane Labels (t, (has, (corner, (kept, (some, at))))) = subst (λ (p : PlaneLocation). length p.pages ≡ pages_of format.side) at (whole_kept t kept has some).labels.pages
+pub whole_plane : (format : Format) (tiles : List TileLocation) (c : Corner) (location : PlaneLocation) → All (IsWholeTile format) tiles → (plane : Plane) → HasPlaneAt tiles c plane location → length location.pages ≡ pages_of format.side
+whole_plane format tiles c location all plane (t, (has, (corner, at))) = (whole_in format plane t location (All-contains (IsWholeTile format) tiles t all has) at).pages
 
 -- page i, read from where it lies
 module _ (image : Image) (tiles : List TileLocation) (c : Corner) (location : PlaneLocation) (i : ℕ) (bytes : List ℕ) (within : i < length location.pages) (read : bytes ≡ image (get_or location.pages i 0)) where

@@ -14,7 +14,8 @@ use Rattle.roots.specs.Slots.{SamePagesBut, KeepsBut}
 use Rattle.roots.specs.declared.roots.Roots.{Roots}
 use Rattle.page_map.specs.TileLocations.{reached}
 use Rattle.page_map.specs.Locations.{times}
-use Rattle.page_map.proofs.Occurrences.{times-append, apart_head}
+use Rattle.page_map.proofs.Occurrences.{apart_head}
+use Rattle.page_map.proofs.Times.{times-append}
 use Rattle.cow_tree.specs.Layout.{StoresAt}
 use Rattle.cow_tree.specs.OverRoots.{EachStores, WritesPages}
 use Rattle.cow_tree.proofs.Counting.{all_of_fewer}

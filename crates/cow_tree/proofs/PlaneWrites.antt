@@ -1,28 +1,26 @@
 -- What lists the pages of one plane of a tile, written page by page.
 use Rattle.std.proofs.Common.{◌≡◌, ◌+◌, ◌<◌, ◌≤◌, ◌++◌, ◌∷◌, [], ℕ, Bool, true, false, cond, List, Contains, get_or, length, take, drop, Result, Ok, Err, OnOk, refl, sym, ap, ◌∙◌, subst, arith}
-use Rattle.std.specs.Prelude.{Option, Some, None, IfSome}
+use Rattle.std.specs.Prelude.{Option, Some, None}
 use Rattle.std.proofs.lemmas.Option.{same_Some}
 use Rattle.std.proofs.lemmas.List.{append-nil, length-append, take-append-drop, take_all, take_more}
 use Rattle.std.proofs.lemmas.List.Elements.{All-contains, Contains-get_or, filter-append}
 use Rattle.disk.specs.declared.disk.Disk.{Ghosts}
 use Rattle.lattice.specs.Corners.{Corner}
 use Rattle.lattice.specs.declared.refusal.Refusal.{Refusal}
-use Rattle.page_codec.specs.Formats.{Format}
 use Rattle.roots.specs.Roots.{disk_of}
 use Rattle.roots.specs.declared.roots.Roots.{Roots}
-use Rattle.page_map.specs.declared.locations.KeptLocations.{KeptLocations}
 use Rattle.page_map.specs.declared.plane.Plane.{Plane}
-use Rattle.page_map.specs.declared.plane.Plane.TheVariants.{Heights, Levels, Labels}
-use Rattle.page_map.specs.PageMaps.{AreWholeKept, PageMapValue, IsPageMap, IsWholeTile, is_unreached, page_if}
+use Rattle.page_map.specs.PageMaps.{PageMapValue, IsPageMap, IsWholeTile, is_unreached, page_if}
 use Rattle.page_map.specs.Locations.{PlaneLocation, IsWholePlane, listing_of, times}
-use Rattle.page_map.specs.Planes.{HasPlane, HasPlaneAt, LiesAt, plane_of}
+use Rattle.page_map.specs.Planes.{HasPlane, HasPlaneAt, plane_of}
 use Rattle.page_map.specs.TileLocations.{TileLocation, reached}
 use Rattle.page_map.proofs.Lookup.{lies, lies_there}
-use Rattle.page_map.proofs.Occurrences.{stands_there, times-append}
+use Rattle.page_map.proofs.Times.{times-append, times_of_member}
 use Rattle.cow_tree.specs.Listings.{ListingPage, WritesListing, due_among, listing_bytes, listing_if, named_listing, numbers_of, plane_listing}
 use Rattle.cow_tree.specs.OverRoots.{WritesPages}
 use Rattle.cow_tree.proofs.Counting.{at_times}
 use Rattle.cow_tree.proofs.ListingPages.{AreWithin, few_due, few_first, listing_refused, numbers-append, one_listed, plane_at, plane_length, plane_numbers, plane_within, then_listed}
+use Rattle.cow_tree.proofs.PageReads.{whole_in}
 use Rattle.cow_tree.proofs.Steps.{on_ok}
 use Rattle.cow_tree.proofs.Tiles.{one_at_corner}
 
@@ -31,15 +29,10 @@ pub record IsPlaneAt (page_map : PageMapValue) (p : PlaneLocation) : Type 0 wher
   pub whole : IsWholePlane page_map.format p
   pub within : AreWithin (plane_listing page_map.format p) page_map.staged
 
-whole_plane : (format : Format) (name : Plane) (t : TileLocation) (p : PlaneLocation) → IsWholeTile format t → LiesAt name t p → IsWholePlane format p
-whole_plane format Heights t p whole at = subst (IsWholePlane format) at whole.heights
-whole_plane format Levels t p whole (k, (some, at)) = let kept : IfSome (Some k) (AreWholeKept format) = subst (λ (o : Option KeptLocations). IfSome o (AreWholeKept format)) some whole.kept in subst (IsWholePlane format) at kept.levels
-whole_plane format Labels t p whole (k, (some, at)) = let kept : IfSome (Some k) (AreWholeKept format) = subst (λ (o : Option KeptLocations). IfSome o (AreWholeKept format)) some whole.kept in subst (IsWholePlane format) at kept.labels
-
 module _ (page_map : PageMapValue) (rules : IsPageMap page_map) (c : Corner) (name : Plane) where
   pub plane_there : (p : PlaneLocation) → HasPlaneAt page_map.staged c name p → IsPlaneAt page_map p
   plane_there p (t, (among, (here, at))) = record {
-    whole = whole_plane page_map.format name t p (All-contains (IsWholeTile page_map.format) page_map.staged t rules.staged.whole among) at;
+    whole = whole_in page_map.format name t p (All-contains (IsWholeTile page_map.format) page_map.staged t rules.staged.whole among) at;
     within = plane_within page_map.format page_map.staged t name p among (lies name t p at);
   }
 
@@ -103,7 +96,7 @@ module _ (page_map : PageMapValue) (rules : IsPageMap page_map) (p : PlaneLocati
 
     there : 1 ≤ times page (reached page_map.staged)
     there =
-        let here = stands_there page (listing_of p) (Contains-get_or (listing_of p) i 0 lt) in
+        let here = times_of_member (listing_of p) page (Contains-get_or (listing_of p) i 0 lt) in
         let same = ap (times page) (plane_numbers page_map.format p) in
         omega (arith, here, same, is.within page)
 

@@ -9,7 +9,7 @@ use Rattle.page_map.specs.PageMaps.{PageMapValue, IsPrepared, is_at, corners_of_
 use Rattle.cow_tree.specs.Staged.{AreStaged, IsTileListed}
 use Rattle.cow_tree.specs.Stored.{StoredTile}
 use Rattle.cow_tree.proofs.CornerChanges.{all_changed, corners_still}
-use Rattle.cow_tree.proofs.Staging.{unreached_test}
+use Rattle.page_map.proofs.Listing.{any_none}
 
 pub prepared_tiles : (c : Corner) (r : ℕ) (image : Image) (tiles : List TileLocation) → map (tile_in image) (with_record c r tiles) ≡ map (tile_in image) tiles
 prepared_tiles c r image [] = refl
@@ -28,7 +28,7 @@ prepared_corners c r = corners_still c (prepared r) (λ t. refl)
 module _ (format : Format) (committed : List TileLocation) (c : Corner) (r : ℕ) (image : Image) (unreached : ¬ Contains (reached committed) r) where
   tile_stays : (t : TileLocation) → IsTileListed format committed image t → IsTileListed format committed image (prepared r t)
   tile_stays t had = record {
-    heights = record { listed = λ shared. absurd (let no : true ≡ false = sym (ap not (unreached_test r (reached committed) unreached)) ∙ shared in cc); indexed = had.heights.indexed };
+    heights = record { listed = λ shared. absurd (let no : true ≡ false = sym (ap not (any_none (reached committed) r unreached)) ∙ shared in cc); indexed = had.heights.indexed };
     kept = had.kept;
   }
 

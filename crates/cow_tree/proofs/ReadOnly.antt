@@ -1,11 +1,13 @@
 -- Reads one after another, and why they were refused.
 use Rattle.std.proofs.Common.{◌≡◌, ◌⊎◌, inl, inr, ⊎_elim, Bool, false, Result, Ok, Err, IsErrOf, IfErr, refl, sym, ◌∙◌, subst, arith}
+use Rattle.std.specs.Result.{IsErrAnd}
 use Rattle.disk.specs.Disk.{Image}
 use Rattle.disk.specs.Stops.{nothing_done, nothing_twice}
 use Rattle.disk.specs.declared.disk.Disk.{Ghosts}
 use Rattle.lattice.specs.declared.refusal.Refusal.{Refusal}
 use Rattle.lattice.specs.declared.refusal.Refusal.TheVariants.{Device, NoMemory, Damaged}
 use Rattle.roots.specs.Roots.{disk_of, has_failed}
+use Rattle.page_map.proofs.Refused.{ended_with}
 use Rattle.cow_tree.specs.OverRoots.{OnlyReads, IsRefusedFor}
 use Rattle.roots.specs.declared.roots.Roots.{Roots}
 
@@ -13,13 +15,9 @@ pub refused_for : (A B : Type 0) (why : Refusal) → (A → B) → IsRefusedFor 
 refused_for A B why implies refused = ⊎_elim (λ h. inl h) (λ rest. inr (⊎_elim (λ h. inl h) (λ h. inr (h.0, implies h.1)) rest)) refused
 
 -- a refusal that is handed on
-pub handed_on : {T E : Type 0} (P : E → Type 0) (r : Result T E) (e : E) → r ≡ Err e → P e → IfErr r P
-handed_on {T} {E} P r e same p = subst (λ (x : Result T E). IfErr x P) (sym same) p
-
--- the same refusal for another reason
-pub refused_so : {T : Type 0} (P Q : Refusal → Type 0) (r : Result T Refusal) → ((why : Refusal) → P why → Q why) → IfErr r P → IfErr r Q
-refused_so P Q (Ok x) implies refused = tt
-refused_so P Q (Err why) implies refused = implies why refused
+pub handed_on : {T E : Type 0} (P : E → Type 0) (r : Result T E) (e : E) → IsErrAnd r (λ x. x ≡ e) → P e → IfErr r P
+handed_on P (Ok x) e same p = tt
+handed_on P (Err x) e same p = subst P (sym same) p
 
 -- reads so far, none of them refused
 abbrev pub HasRead : {D : Type 0} (g : Ghosts D) → Roots D g → Roots D g → Type 0
@@ -58,8 +56,8 @@ module _ {D : Type 0} (g : Ghosts D) where
     ready = λ h r w. second.ready h (first.ready (second.honest h) r works) w;
   }
 
-  -- the same with another answer, where the disk refused nothing
-  pub read_as : {T U : Type 0} (old new : Roots D g) (was : Result T Refusal) (now : Result U Refusal) → OnlyReads g old new was → has_failed new ≡ false → (IsErrOf now Device → IsErrOf was Device) → OnlyReads g old new now
+  -- the same with another answer
+  pub read_as : {T U : Type 0} (old new : Roots D g) (was : Result T Refusal) (now : Result U Refusal) → OnlyReads g old new was → (has_failed new ≡ false) ⊎ IsErrOf now Device → (IsErrOf now Device → IsErrOf was Device) → OnlyReads g old new now
   read_as old new was now reads works same = record {
     size = reads.size;
     writes = reads.writes;
@@ -67,7 +65,7 @@ module _ {D : Type 0} (g : Ghosts D) where
     device = λ is. reads.device (same is);
     root = reads.root;
     begun = reads.begun;
-    works = inl works;
+    works = works;
     honest = reads.honest;
     seen = reads.seen;
     nothing = reads.nothing;
@@ -81,9 +79,9 @@ pub works_ok : {T : Type 0} (x : T) (failed : Bool) → (failed ≡ false) ⊎ I
 works_ok x failed works = ⊎_elim (λ h. h) (λ is. never_refused x Device is) works
 
 -- a call that refused for memory or as Damaged didn't refuse for the disk
-pub not_device : {T A X : Type 0} (r : Result T Refusal) (why : Refusal) → r ≡ Err why → (why ≡ NoMemory) ⊎ ((why ≡ Damaged) × X) → IsErrOf r Device → A
-not_device {T} {A} {X} r why same refused is =
-    let here : IsErrOf {T = T} (Err why) Device = subst (λ (q : Result T Refusal). IsErrOf q Device) same is in
+pub not_device : {T A X : Type 0} (r : Result T Refusal) (why : Refusal) → IsErrAnd r (λ e. e ≡ why) → (why ≡ NoMemory) ⊎ ((why ≡ Damaged) × X) → IsErrOf r Device → A
+not_device {T} {A} {X} r why ended refused is =
+    let here : IsErrOf {T = T} (Err why) Device = subst (λ (q : Result T Refusal). IsErrOf q Device) (ended_with r why ended) is in
     let device : why ≡ Device = cc in
     ⊎_elim (λ memory. (let no : NoMemory ≡ Device = sym memory ∙ device in cc)) (λ damaged. (let no : Damaged ≡ Device = sym damaged.0 ∙ device in cc)) refused
 
@@ -93,26 +91,14 @@ device_again {T} {U} why is = let device : why ≡ Device = cc in subst (λ (w :
 
 module _ {D : Type 0} (g : Ghosts D) where
   -- a refusal that is handed on
-  pub refused_again : {T U : Type 0} (old new : Roots D g) (why : Refusal) (now : Result U Refusal) → now ≡ Err why → OnlyReads {T = T} g old new (Err why) → OnlyReads g old new now
-  refused_again {T} {U} old new why now same reads =
-      subst (λ (r : Result U Refusal). OnlyReads g old new r) (sym same)
-      (record {
-        size = reads.size;
-        writes = reads.writes;
-        later = reads.later;
-        device = λ is. reads.device (device_again {T = U} {U = T} why is);
-        root = reads.root;
-        begun = reads.begun;
-        works = ⊎_elim (λ h. inl h) (λ is. inr (device_again {T = T} {U = U} why is)) reads.works;
-        honest = reads.honest;
-        seen = reads.seen;
-        nothing = reads.nothing;
-        ready = reads.ready;
-      })
+  pub refused_again : {T U : Type 0} (old new : Roots D g) (why : Refusal) (now : Result U Refusal) → IsErrAnd now (λ e. e ≡ why) → OnlyReads {T = T} g old new (Err why) → OnlyReads g old new now
+  refused_again {T} {U} old new why now ended reads =
+      subst (λ (r : Result U Refusal). OnlyReads g old new r) (sym (ended_with now why ended))
+      (read_as g old new (Err why) (Err why) reads (⊎_elim (λ h. inl h) (λ is. inr (device_again {T = T} {U = U} why is)) reads.works) (λ is. device_again {T = U} {U = T} why is))
 
   -- another answer that is no refusal either
   pub read_well : {T U : Type 0} (old new : Roots D g) (x : T) (y : U) → OnlyReads g old new (Ok x) → OnlyReads g old new (Ok y)
-  read_well old new x y reads = read_as g old new (Ok x) (Ok y) reads (works_ok x (has_failed new) reads.works) (λ is. never_refused y Device is)
+  read_well old new x y reads = read_as g old new (Ok x) (Ok y) reads (inl (works_ok x (has_failed new) reads.works)) (λ is. never_refused y Device is)
 
   -- a call after one that wasn't refused
   pub read_after : {T U : Type 0} (old mid new : Roots D g) (x : T) (result : Result U Refusal) → OnlyReads g old mid (Ok x) → OnlyReads g mid new result → OnlyReads g old new result

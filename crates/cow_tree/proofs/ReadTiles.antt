@@ -13,10 +13,9 @@ use Rattle.page_map.specs.TileLocations.{TileLocation, pages_of_tile, reached, K
 use Rattle.cow_tree.specs.Entries.{entry_of}
 use Rattle.cow_tree.specs.Layout.{HasRecords, IsLaidOut}
 use Rattle.cow_tree.specs.Found.{NoTileAt}
-use Rattle.cow_tree.proofs.Standing.{All-front}
-use Rattle.page_map.proofs.Occurrences.{times-append}
+use Rattle.cow_tree.proofs.Standing.{All-front, each_tile}
+use Rattle.page_map.proofs.Times.{times-append}
 use Rattle.cow_tree.proofs.OneStored.{one_layout}
-use Rattle.cow_tree.proofs.Tiles.{each_tile}
 
 abbrev pub entry_corner : EntryValue → Corner
 entry_corner e = e.corner

@@ -3,7 +3,7 @@ use Rattle.std.proofs.Common.{◌≡◌, ℕ, ℤ, zero, suc, ◌+◌, ◌-◌, 
 use Rattle.std.specs.Prelude.{slice_get, slice_range, IsSomeAnd}
 use Rattle.std.specs.List.{concat}
 use Rattle.std.proofs.lemmas.Option.{get_or_from_slice_get, slice_get_within, slice_get_read}
-use Rattle.std.proofs.lemmas.List.{length-append, length-take, length-drop, get_or-take, get_or-drop, get_or_append_left, get_or-append-add, same_lists}
+use Rattle.std.proofs.lemmas.List.{drop-drop, length-append, length-take, length-drop, get_or-take, get_or-drop, get_or_append_left, get_or-append-add, same_lists}
 use Rattle.std.proofs.lemmas.Slice.{take-put_mid}
 use Rattle.std.proofs.Math.Nat.{mul-le-mul_left}
 use Rattle.std.proofs.Math.Seq.{take-add}
@@ -16,7 +16,7 @@ use Rattle.lattice.specs.Limits.{largest_side}
 use Rattle.hgt.specs.Bytes.{sample_of, samples_in}
 use Rattle.hgt.proofs.BytesLemmas.{get_or-samples_in}
 use Rattle.lattice.proofs.CornerOrder.{same_from, before_not_same}
-use Rattle.lattice.proofs.Rising.{AllAfter, Rising, rising_from}
+use Rattle.lattice.proofs.Rising.{AllAfter, Rising, after_at, rising_from}
 use Rattle.page_map.specs.declared.plane.Plane.TheVariants.{Heights}
 use Rattle.page_codec.specs.Formats.{largest_side_of}
 use Rattle.page_codec.specs.declared.version.Version.{Version}
@@ -30,9 +30,7 @@ abbrev corner_of : Tile → Corner
 corner_of t = t.corner
 
 after_differs : (c : Corner) (tiles : List Tile) (t : Tile) → AllAfter corner_of c tiles → Contains tiles t → same_corner c t.corner ≡ false
-after_differs c [] t after (k, lt, here) = absurd (omega (arith, lt))
-after_differs c (u ∷ rest) t after (zero, lt, here) = subst (λ (v : Tile). same_corner c v.corner ≡ false) here (before_not_same c u.corner after.0)
-after_differs c (u ∷ rest) t after (suc k, lt, here) = after_differs c rest t after.1 (k, omega arith, here)
+after_differs c tiles t after (k, lt, here) = subst (λ (v : Tile). same_corner c v.corner ≡ false) here (before_not_same c (get_or tiles k t).corner (after_at corner_of c tiles k t after lt))
 
 samples_there : (tiles : List Tile) (t : Tile) → Rising corner_of tiles → Contains tiles t → samples_among tiles t.corner ≡ Some t.samples
 samples_there [] t rising (k, lt, here) = absurd (omega (arith, lt))
@@ -125,10 +123,6 @@ module _ (n : ℕ) (sinks : List Point) (tiles : List StoredTile) (c : Corner) (
       (part_is t has corner (ap (λ (p : PlanePages). slice_get p (first / 2048)) at ∙ found))
 
 -- ---- one part after another
-drop_twice : {X : Type 0} (a b : ℕ) (xs : List X) → drop b (drop a xs) ≡ drop (a + b) xs
-drop_twice {X} a b xs = same_lists (drop b (drop a xs)) (drop (a + b) xs) (omega (arith, length-drop b (drop a xs), length-drop a xs, length-drop (a + b) xs))
-    (λ k d lt. get_or-drop b (drop a xs) k d ∙ get_or-drop a xs (b + k) d ∙ ap (λ (m : ℕ). get_or xs m d) (let same : a + (b + k) ≡ a + b + k = omega arith in same) ∙ sym (get_or-drop (a + b) xs k d))
-
 pub read_further : (all into part : List ℤ) (first done end : ℕ) → done ≤ end → done ≤ length into → length part ≡ end - done → slice_range all first (first + done) ≡ take done into → slice_range all (first + done) (first + done + length part) ≡ part
     → slice_range all first (first + end) ≡ take end (put_mid done (end - done) into part)
 read_further all into part first done end le within long was next =
@@ -139,7 +133,7 @@ read_further all into part first done end le within long was next =
     ∙ take-add done (length part) (drop first all)
     ∙ ap₂ (λ (x y : List ℤ). x ++ y)
     (ap (λ (n : ℕ). take n (drop first all)) (sym front) ∙ was)
-    (ap (take (length part)) (drop_twice first done all) ∙ ap (λ (n : ℕ). take n (drop (first + done) all)) (sym back) ∙ next)
+    (ap (take (length part)) (drop-drop done first all) ∙ ap (λ (n : ℕ). take n (drop (first + done) all)) (sym back) ∙ next)
     ∙ sym (take-put_mid done (end - done) into part end (omega arith) within)
 
 pub length_further : (into part : List ℤ) (done end : ℕ) → done ≤ end → end ≤ length into → length part ≡ end - done → length (put_mid done (end - done) into part) ≡ length into

@@ -1,12 +1,10 @@
 -- What one written page makes of the staged tiles: the page stands once among all that they reach.
-use Rattle.std.proofs.Common.{◌≡◌, ◌≢◌, ◌==◌, not, Option, IfSome, ℕ, zero, suc, ◌+◌, ◌-◌, ◌*◌, ◌/◌, ◌<◌, inl, inr, length, take, drop, get_or, ◌≤◌, Bool, true, false, if◌then◌else◌, ◌||◌, List, [], ◌∷◌, ◌++◌, All, Contains, map, refl, sym, ap, ap₂, ◌∙◌, subst, arith}
+use Rattle.std.proofs.Common.{◌≡◌, ◌≢◌, ◌==◌, not, Option, IfSome, ℕ, zero, suc, ◌+◌, ◌-◌, ◌*◌, ◌/◌, ◌<◌, inl, inr, length, take, drop, get_or, ◌≤◌, Bool, true, false, if◌then◌else◌, ◌||◌, List, [], ◌∷◌, ◌++◌, All, map, refl, sym, ap, ap₂, ◌∙◌, subst, arith}
 use Rattle.std.specs.Prelude.{Some, None}
 use Rattle.std.specs.List.{slice_set, list_any}
 use Rattle.std.proofs.lemmas.Bool.{cases_eq, cases_lt}
-use Rattle.std.proofs.lemmas.Bool.Decides.{nat_tests}
 use Rattle.std.proofs.lemmas.List.{drop-set-lt, drop-set-add, take-set-le, length-set, get_or-set_same, get_or-set_other}
-use Rattle.std.proofs.lemmas.List.Folds.{list_any_none}
-use Rattle.std.proofs.lemmas.List.Elements.{All-nil, All-cons, All-head, All-tail, All-contains_itself}
+use Rattle.std.proofs.lemmas.List.Elements.{All-nil, All-cons, All-head, All-tail}
 use Rattle.disk.specs.Disk.{Image}
 use Rattle.lattice.specs.Corners.{Corner}
 use Rattle.page_codec.specs.Formats.{Format}
@@ -20,7 +18,8 @@ use Rattle.page_map.specs.PageMaps.{is_at, is_unreached}
 use Rattle.cow_tree.specs.Staged.{AreListedBy, AreStaged, IsListedBy, IsTileListed}
 use Rattle.cow_tree.specs.Stored.{PlanePages, KeptPlanes, StoredTile, with_page_in, with_page}
 use Rattle.cow_tree.proofs.Standing.{SameOn, All-front, All-back, map_same, kept_same, tile_same}
-use Rattle.page_map.proofs.Occurrences.{times-append, times_here, apart_head, absent, set_there}
+use Rattle.page_map.proofs.Occurrences.{times_here, apart_head, absent, set_there}
+use Rattle.page_map.proofs.Times.{times-append}
 
 -- the tile with page i of its heights, its index page and their record elsewhere, if it is the corner's
 abbrev pub rewritten : Corner → (i p x r : ℕ) → TileLocation → TileLocation
@@ -227,10 +226,3 @@ module _ (format : Format) (committed : List TileLocation) (c : Corner) (i p x r
       All-cons (IsTileListed format committed b) (rewritten c i p x r t) (map (rewritten c i p x r) rest)
       (tile_one t (All-head HasFreshIndex t rest fresh_index) (All-head (IsWrittenAt c i p x page a b) t rest written) (All-head (IsTileListed format committed a) t rest had))
       (still_staged rest (All-tail HasFreshIndex t rest fresh_index) (All-tail (IsWrittenAt c i p x page a b) t rest written) (All-tail (IsTileListed format committed a) t rest had))
-
--- a page that no committed tile reaches isn't among theirs, as a test
-pub unreached_test : (p : ℕ) (pages : List ℕ) → ¬ Contains pages p → list_any (λ q. q == p) pages ≡ false
-unreached_test p pages none = list_any_none (λ q. q == p) pages (λ k d lt. unequal _ (λ same. none (subst (Contains pages) same (All-contains_itself pages k d lt))))
-  where
-    unequal : (q : ℕ) → q ≢ p → (q == p) ≡ false
-    unequal q apart = grind (arith, nat_tests)

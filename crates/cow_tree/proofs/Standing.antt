@@ -1,5 +1,5 @@
 -- What stands on an image depends on its current root and on the pages that the tiles reach, and on nothing else.
-use Rattle.std.proofs.Common.{◌≡◌, ◌≢◌, ℕ, ◌+◌, ◌≤◌, List, [], ◌∷◌, ◌++◌, All, Contains, length, map, Option, Some, None, IfSome, refl, sym, ap, ap₂, ◌∙◌, subst, arith}
+use Rattle.std.proofs.Common.{◌≡◌, ◌≢◌, ℕ, ◌+◌, ◌≤◌, List, [], ◌∷◌, ◌++◌, All, Contains, get_or, length, map, Option, Some, None, IfSome, refl, sym, ap, ap₂, ◌∙◌, subst, arith}
 use Rattle.std.proofs.lemmas.List.{length-append, get_or_append_left, get_or-append-add}
 use Rattle.std.proofs.lemmas.List.Elements.{All-nil, All-cons, All-head, All-tail, All-contains_itself}
 use Rattle.disk.specs.Disk.{Image}
@@ -21,6 +21,11 @@ All-front P xs ys all k d lt = subst P (get_or_append_left xs ys d k lt) (all k 
 
 pub All-back : {X : Type 0} (P : X → Type 0) (xs ys : List X) → All P (xs ++ ys) → All P ys
 All-back P xs ys all k d lt = subst P (get_or-append-add xs ys k d) (all (length xs + k) d (omega (arith, length-append xs ys)))
+
+-- what holds of all pages that tiles reach holds of those of each tile
+pub each_tile : (P : ℕ → Type 0) (tiles : List TileLocation) → All P (reached tiles) → All (λ t. All P (pages_of_tile t)) tiles
+each_tile P [] all = All-nil (λ t. All P (pages_of_tile t))
+each_tile P (t ∷ rest) all = All-cons (λ t. All P (pages_of_tile t)) t rest (All-front P (pages_of_tile t) (reached rest) all) (each_tile P rest (All-back P (pages_of_tile t) (reached rest) all))
 
 pub map_same : (pages : List ℕ) (a b : Image) → SameOn pages a b → map a pages ≡ map b pages
 map_same [] a b same = refl
@@ -73,11 +78,7 @@ tile_records_same format t a b same has = record {
 }
 
 pub records_same : (format : Format) (tiles : List TileLocation) (a b : Image) → SameOn (reached tiles) a b → All (HasRecords format a) tiles → All (HasRecords format b) tiles
-records_same format [] a b same all = All-nil (HasRecords format b)
-records_same format (t ∷ rest) a b same all =
-    All-cons (HasRecords format b) t rest
-    (tile_records_same format t a b (All-front (λ q. a q ≡ b q) (pages_of_tile t) (reached rest) same) (All-head (HasRecords format a) t rest all))
-    (records_same format rest a b (All-back (λ q. a q ≡ b q) (pages_of_tile t) (reached rest) same) (All-tail (HasRecords format a) t rest all))
+records_same format tiles a b same all k d lt = tile_records_same format (get_or tiles k d) a b (each_tile (λ q. a q ≡ b q) tiles same k d lt) (all k d lt)
 
 -- what is stored survives on an image with the same current root and the same reached pages
 pub stores_same : (sectors : ℕ) (root : RootValue) (tiles : List TileLocation) (s : Stored) (a b : Image) → IsCurrent root b → SameOn (reached tiles) a b → StoresAt sectors root tiles s a → StoresAt sectors root tiles s b

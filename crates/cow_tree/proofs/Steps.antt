@@ -21,7 +21,8 @@ use Rattle.cow_tree.specs.Staged.{AreStaged}
 use Rattle.cow_tree.specs.Stored.{Stored, with_page}
 use Rattle.cow_tree.proofs.CornerChanges.{corners_still}
 use Rattle.cow_tree.proofs.Standing.{stores_kept_but}
-use Rattle.cow_tree.proofs.Staging.{IsWrittenAt, written_tiles, staged_pages, still_staged, unreached_test}
+use Rattle.cow_tree.proofs.Staging.{IsWrittenAt, written_tiles, staged_pages, still_staged}
+use Rattle.page_map.proofs.Listing.{any_none}
 use Rattle.cow_tree.proofs.Tiles.{located_is}
 
 -- a call that left its owner unfailed answered Ok
@@ -59,7 +60,7 @@ module _ (old new : PageMapValue) (c : Corner) (i p : ℕ) (page : List ℕ) (a 
   fresh_index : All (λ t. i / 1024 < length t.heights.index_pages → list_any (λ q. q == rw.index_page) (reached old.committed) ≡ false) old.staged
   fresh_index =
       All-weaker (IsWholeTile old.format) (λ t. i / 1024 < length t.heights.index_pages → list_any (λ q. q == rw.index_page) (reached old.committed) ≡ false)
-      (λ t whole below. unreached_test rw.index_page (reached old.committed)
+      (λ t whole below. any_none (reached old.committed) rw.index_page
       (subst (λ (tiles : List TileLocation). ¬ Contains (reached tiles) rw.index_page) committed_same (rw.fresh_index (omega (arith, below, whole.heights.index_pages))).unreached))
       old.staged rules.staged.whole
 
@@ -68,7 +69,7 @@ module _ (old new : PageMapValue) (c : Corner) (i p : ℕ) (page : List ℕ) (a 
       subst (λ (tiles : List TileLocation). AreStaged format tiles new.staged b) (sym committed_same)
       (subst (λ (tiles : List TileLocation). AreStaged format old.committed tiles b) (sym staged_is)
       (still_staged format old.committed c i p rw.index_page rw.record_page page a b
-      (unreached_test rw.record_page (reached old.committed) (subst (λ (tiles : List TileLocation). ¬ Contains (reached tiles) rw.record_page) committed_same rw.fresh_record.unreached))
+      (any_none (reached old.committed) rw.record_page (subst (λ (tiles : List TileLocation). ¬ Contains (reached tiles) rw.record_page) committed_same rw.fresh_record.unreached))
       old.staged fresh_index (each_written located lt same written) had))
 
 -- what stores stands

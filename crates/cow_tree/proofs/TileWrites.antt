@@ -10,10 +10,9 @@ use Rattle.page_map.specs.declared.plane.Plane.TheVariants.{Heights, Levels, Lab
 use Rattle.page_map.specs.PageMaps.{PageMapValue, IsPageMap, is_unreached}
 use Rattle.page_map.specs.Locations.{times}
 use Rattle.page_map.specs.TileLocations.{TileLocation}
-use Rattle.page_map.proofs.Occurrences.{times-append}
 use Rattle.cow_tree.specs.Listings.{ListingPage, WritesListing, due_among, named_listing, numbers_of, tile_listing, tiles_listing}
 use Rattle.cow_tree.proofs.Counting.{flat_more}
-use Rattle.cow_tree.proofs.ListingPages.{AreWithin, all_within, by_name, few_due, listing_refused, numbers-append, then_listed, tile_within}
+use Rattle.cow_tree.proofs.ListingPages.{AreWithin, all_within, by_name, few_due, both_parts, listing_refused, then_listed, tile_within}
 
 module _ {D : Type 0} (g : Ghosts D) (page_map : PageMapValue) (rules : IsPageMap page_map) (before : List TileLocation) where
   -- ---- the planes of a tile
@@ -39,9 +38,7 @@ module _ {D : Type 0} (g : Ghosts D) (page_map : PageMapValue) (rules : IsPageMa
     counts : (q : ℕ) → times q (numbers_of whole) ≡ times q (numbers_of heights) + (times q (numbers_of levels) + times q (numbers_of labels))
     counts q =
         let same = ap (λ (l : List ListingPage). times q (numbers_of l)) parts in
-        let first = ap (times q) (numbers-append heights (levels ++ labels)) in
-        let second = ap (times q) (numbers-append levels labels) in
-        omega (arith, same, first, second, times-append q (numbers_of heights) (numbers_of (levels ++ labels)), times-append q (numbers_of levels) (numbers_of labels))
+        omega (arith, same, both_parts q heights (levels ++ labels), both_parts q levels labels)
 
     lengths : length whole ≡ length heights + (length levels + length labels)
     lengths = let same = ap (λ (l : List ListingPage). length l) parts in omega (arith, same, length-append heights (levels ++ labels), length-append levels labels)
@@ -56,12 +53,12 @@ module _ {D : Type 0} (g : Ghosts D) (page_map : PageMapValue) (rules : IsPageMa
     two old mid new r = then_listed g page_map.staged page_map.sectors rules.staged.page_rule old mid new heights levels r within
       where
         within : AreWithin (heights ++ levels) page_map.staged
-        within q = let split = ap (times q) (numbers-append heights levels) in omega (arith, split, counts q, whole_within q, times-append q (numbers_of heights) (numbers_of levels))
+        within q = omega (arith, both_parts q heights levels, counts q, whole_within q)
 
     pub second_refused : (old mid new : Roots D g) (why : Refusal) → WritesListing {T = Unit {0}} g heights old mid (Ok tt) → WritesListing {T = Unit {0}} g levels mid new (Err why) → WritesListing {T = Unit {0}} g whole old new (Err why)
     second_refused old mid new why first second =
         listing_refused g (heights ++ levels) whole old new why (omega (arith, lengths, length-append heights levels))
-        (λ q. let split = ap (times q) (numbers-append heights levels) in omega (arith, split, counts q, times-append q (numbers_of heights) (numbers_of levels)))
+        (λ q. omega (arith, both_parts q heights levels, counts q))
         (two old mid new (Err why) first second)
 
     pub tile_written : (old mid last new : Roots D g) (r : Result (Unit {0}) Refusal) → WritesListing {T = Unit {0}} g heights old mid (Ok tt) → WritesListing {T = Unit {0}} g levels mid last (Ok tt) → WritesListing g labels last new r → WritesListing g whole old new r
@@ -74,7 +71,7 @@ module _ {D : Type 0} (g : Ghosts D) (page_map : PageMapValue) (rules : IsPageMa
         within q = let same = ap (λ (l : List ListingPage). times q (numbers_of l)) parts in omega (arith, same, whole_within q)
 
         behind : AreWithin (levels ++ labels) page_map.staged
-        behind q = let split = ap (times q) (numbers-append levels labels) in omega (arith, split, counts q, whole_within q, times-append q (numbers_of levels) (numbers_of labels))
+        behind q = omega (arith, both_parts q levels labels, counts q, whole_within q)
 
   -- ---- one tile after another
   abbrev due_of_first : ℕ → List ListingPage
@@ -93,8 +90,7 @@ module _ {D : Type 0} (g : Ghosts D) (page_map : PageMapValue) (rules : IsPageMa
   first_few k q =
       let rest : List ListingPage = due_among before (tiles_listing page_map.format (drop k page_map.staged)) in
       let same = ap (λ (l : List ListingPage). times q (numbers_of l)) (joined k) in
-      let split = ap (times q) (numbers-append (due_of_first k) rest) in
-      omega (arith, same, split, times-append q (numbers_of (due_of_first k)) (numbers_of rest))
+      omega (arith, same, both_parts q (due_of_first k) rest)
 
   first_short : (k : ℕ) → length (due_of_first k) ≤ length all
   first_short k =

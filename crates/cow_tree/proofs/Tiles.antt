@@ -1,5 +1,5 @@
 -- Tiles in the order of their corners: a corner has one tile.
-use Rattle.std.proofs.Common.{◌≡◌, ℕ, zero, suc, Bool, true, false, cond, ◌||◌, IsTrue, List, [], ◌∷◌, All, Contains, length, map, refl, sym, ap, ◌∙◌, subst, arith}
+use Rattle.std.proofs.Common.{◌≡◌, zero, suc, Bool, true, false, cond, ◌||◌, IsTrue, List, [], ◌∷◌, All, Contains, length, map, refl, sym, ap, ◌∙◌, subst, arith}
 use Rattle.std.specs.List.{AllAdjacentBelow, filter, list_any}
 use Rattle.std.proofs.lemmas.List.Elements.{All-nil, All-cons, All-head, All-tail}
 use Rattle.lattice.specs.Corners.{Corner, same_corner, is_before}
@@ -7,9 +7,8 @@ use Rattle.lattice.specs.Lattice.{IsBefore}
 use Rattle.lattice.proofs.CornerOrder.{before_apart}
 use Rattle.catalogue.proofs.Presence.{listed_from}
 use Rattle.lattice.proofs.Rising.{AllAfter, Rising, rising_from, adjacent_from}
-use Rattle.page_map.specs.TileLocations.{TileLocation, pages_of_tile, reached}
+use Rattle.page_map.specs.TileLocations.{TileLocation}
 use Rattle.page_map.specs.PageMaps.{is_at, corners_of_locations, IsLocated}
-use Rattle.cow_tree.proofs.Standing.{All-front, All-back}
 
 abbrev pub corner_of : TileLocation → Corner
 corner_of t = t.corner
@@ -38,11 +37,6 @@ located_test c (t ∷ rest) = ap (λ (b : Bool). same_corner t.corner c || b) (l
 
 pub located_is : (c : Corner) (tiles : List TileLocation) → IsLocated c tiles → list_any (is_at c) tiles ≡ true
 located_is c tiles located = located_test c tiles ∙ listed_from c (corners_of_locations tiles) located
-
--- what holds of all pages that tiles reach holds of those of each tile
-pub each_tile : (P : ℕ → Type 0) (tiles : List TileLocation) → All P (reached tiles) → All (λ t. All P (pages_of_tile t)) tiles
-each_tile P [] all = All-nil (λ t. All P (pages_of_tile t))
-each_tile P (t ∷ rest) all = All-cons (λ t. All P (pages_of_tile t)) t rest (All-front P (pages_of_tile t) (reached rest) all) (each_tile P rest (All-back P (pages_of_tile t) (reached rest) all))
 
 -- what holds of those that pass a test
 pub unfiltered : {X : Type 0} (test : X → Bool) (P : X → Type 0) (xs : List X) → All P (filter test xs) → All (λ x. test x ≡ true → P x) xs

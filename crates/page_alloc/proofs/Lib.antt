@@ -1,3 +1,3 @@
 mod BitLemmas
-mod PageLemmas
+pub mod PageLemmas
 mod ResultLemmas

@@ -1,7 +1,8 @@
 -- A page_map whose entry at an index changes.
-use Rattle.std.proofs.Common.{◌≡◌, ℕ, suc, ◌+◌, ◌/◌, ◌<◌, ◌≤◌, true, List, [], ◌∷◌, ◌++◌, length, take, drop, get_or, set, map, if◌then◌else◌, refl, sym, ap, subst, ◌∙◌, arith}
-use Rattle.std.specs.Prelude.{◌||◌, Option, Some, None, IsSome, is_some, IfSome, Contains, Result, Ok, Err, IfOk, OnOk, OnErr}
+use Rattle.std.proofs.Common.{Bor, ◌≡◌, ℕ, suc, ◌+◌, ◌/◌, ◌<◌, ◌≤◌, true, List, [], ◌∷◌, ◌++◌, length, take, drop, get_or, set, map, if◌then◌else◌, refl, sym, ap, subst, ◌∙◌, arith}
+use Rattle.std.specs.Prelude.{IfNone, option_and_then, option_copied, ◌||◌, Option, Some, None, IsSome, is_some, IfSome, Contains, Result, IfOk, OnOk, OnErr}
 use Rattle.std.proofs.lemmas.List.{length-set, set_split}
+use Rattle.std.proofs.lemmas.Result.{IfOk-weaker, on_ok_weaker}
 use Rattle.lattice.specs.Corners.{Corner}
 use Rattle.lattice.specs.declared.refusal.Refusal.{Refusal}
 use Rattle.lattice.proofs.Rising.{Rising, rising_from}
@@ -9,22 +10,25 @@ use Rattle.page_codec.specs.Sizes.{pages_of}
 use Rattle.page_codec.specs.Formats.{Format}
 use Rattle.std.specs.FinSet.{len}
 use Rattle.page_map.specs.FreePages.{FreePages, free_times, AreBalanced, AreInUse}
+use Rattle.page_map.specs.declared.plane.Plane.{Plane}
 use Rattle.page_map.specs.declared.plane_entry.PlaneEntry.{PlaneEntry}
 use Rattle.page_map.specs.declared.plane_entry.Staged.{Staged}
 use Rattle.page_map.specs.declared.plane_entry.Staged.TheVariants.{AsCommitted, Dropped, Fresh}
 use Rattle.page_map.specs.declared.tile_entry.TileEntry.{TileEntry}
 use Rattle.page_map.specs.Locations.{PlaneLocation, IsWholePlane, moved_plane, times}
 use Rattle.page_map.specs.PlaneEntries.{behind_at, fresh_as, fresh_in, is_fresh, is_fresh_as, staged_as, staged_plane, used_in, HasRoom, IsPageRestaged, IsRecordRestaged}
+use Rattle.page_map.specs.Planes.{HasPlane, HasPlaneAt, plane_of}
 use Rattle.page_map.specs.TileLocations.{TileLocation, reached}
 use Rattle.page_map.specs.PageMaps.{PageMapValue, IsFresh, IsLocated, HasFreshHeights, IsPrepared, IsRewritten, is_at, tile_at}
-use Rattle.page_map.specs.TileEntries.{committed_tile, committed_tiles, fresh_kept, page_map_of, staged_tile, staged_tiles, tile_of, tile_planes, used_pages, AreTogether, IsEntryAt, IsKept, IsRoomAt, IsSound}
+use Rattle.page_map.specs.TileEntries.{committed_tile, committed_tiles, fresh_kept, named_plane, page_map_of, staged_tile, staged_tiles, tile_of, tile_planes, used_pages, AreTogether, IsEntryAt, IsKept, IsRoomAt, IsSound}
 use Rattle.page_map.proofs.Times.{one-self, times-append, member_of_times}
 use Rattle.page_map.proofs.FreeTimes.{balanced-append, balanced_same, page_le}
 use Rattle.page_map.proofs.PlaneChanges.{behind_le, used_balanced, used_split}
+use Rattle.page_map.proofs.Refused.{done_or_not}
 use Rattle.page_map.proofs.Room.{room_for_heights}
 use Rattle.page_map.proofs.EntryLists.{corner_of, entry_in_use, pages_of_location, reached_all, times-split, used_parts}
-use Rattle.page_map.proofs.EntryChanges.{all_middle, entry_fresh, kept_unchanged, made_kept, made_page_map, no_more_kept}
-use Rattle.page_map.proofs.Lookup.{split_of, not_located, located_here, tile_is, room_other}
+use Rattle.page_map.proofs.EntryChanges.{all_middle, entry_fresh, kept_unchanged, made_kept, made_page_map, no_more_kept, staged_corner}
+use Rattle.page_map.proofs.Lookup.{lies, lies_there, located_here, not_located, plane_staged, room_other, split_of, tile_here, tile_is}
 
 pub some_heights : (c : Corner) (h l m : Option PlaneLocation) → IsSome (tile_of c h l m) → IsSome h
 some_heights c None l m some = some
@@ -105,6 +109,35 @@ module _ (format : Format) (entries : List TileEntry) (free : FreePages) (kept :
           absurd (there.2.unreached (subst (Contains (reached (committed_tiles entries))) (ap (λ (u : TileLocation). u.heights.record_page) same) (reaches h refl)))
       by o Dropped had reaches = cc
       by o (Fresh l) had reaches = refl
+
+  -- ---- its planes
+  module _ (plane : Plane) where
+    same_plane : option_and_then (plane_of plane) (staged_tile s) ≡ staged_plane (named_plane plane s)
+    same_plane = plane_staged format plane s sound
+
+    pub plane_found : (r : Option (Bor PlaneLocation)) → option_copied r ≡ staged_plane (named_plane plane s) → IfSome r (λ location. HasPlaneAt (staged_tiles entries) c plane location.now)
+    plane_found None same = tt
+    plane_found (Some location) same = by (staged_tile s) refl (same ∙ sym same_plane)
+      where
+        by : (o : Option TileLocation) → staged_tile s ≡ o → Some location.now ≡ option_and_then (plane_of plane) o → HasPlaneAt (staged_tiles entries) c plane location.now
+        by None had lies_at = cc
+        by (Some t) had lies_at = (
+          t,
+          (
+            subst (λ (l : List TileEntry). Contains (staged_tiles l) t) (sym split) (tile_here before s after rising_there t had),
+            (staged_corner before s after rising_there t had ∙ corner, lies_there plane t location.now lies_at),
+          ),
+        )
+
+    -- the corner's plane is the entry's
+    pub plane_at : (location : PlaneLocation) → HasPlaneAt (staged_tiles entries) c plane location → staged_plane (named_plane plane s) ≡ Some location
+    plane_at location (t, (there, (at_corner, lies_at))) =
+        let had : staged_tile s ≡ Some t = tile_is before s after rising_there t (subst (λ (l : List TileEntry). Contains (staged_tiles l) t) split there) (at_corner ∙ sym corner) in
+        sym same_plane ∙ (ap (option_and_then (plane_of plane)) had ∙ lies plane t location lies_at)
+
+    pub plane_none : (r : Option (Bor PlaneLocation)) → option_copied r ≡ staged_plane (named_plane plane s) → IfNone r (¬ HasPlane (staged_tiles entries) c plane)
+    plane_none (Some location) same = tt
+    plane_none None same = λ (t, (there, (at_corner, (location, lies_at)))). (let no : None ≡ Some location = same ∙ plane_at location (t, (there, (at_corner, lies_at))) in cc)
 
   -- ---- another entry in its place
   module _ (new : TileEntry) (now : FreePages) where
@@ -211,18 +244,12 @@ module _ (format : Format) (entries : List TileEntry) (free : FreePages) (kept :
 
     module _ (i : ℕ) (r : Result ℕ Refusal) (staged : IfOk r (λ page. IsPageRestaged i page s.heights h)) where
       pub kept_rewritten : OnErr r (h ≡ s.heights) → IsKept format (set entries at new) now
-      kept_rewritten unchanged = kept_as_set new now (by r staged unchanged)
-        where
-          by : (q : Result ℕ Refusal) → IfOk q (λ page. IsPageRestaged i page s.heights h) → OnErr q (h ≡ s.heights) → IsKept format (before ++ new ∷ after) now
-          by (Ok page) staged alike = page_kept i page staged
-          by (Err refusal) staged alike = unchanged_kept alike
+      kept_rewritten unchanged = kept_as_set new now (done_or_not r (page_kept i) unchanged_kept staged unchanged)
 
       pub is_rewritten : IfOk r (λ page. IsRewritten c i page (page_map_of format entries free) (page_map_of format (set entries at new) now))
-      is_rewritten = by r staged
-        where
-          by : (q : Result ℕ Refusal) → IfOk q (λ page. IsPageRestaged i page s.heights h) → IfOk q (λ page. IsRewritten c i page (page_map_of format entries free) (page_map_of format (set entries at new) now))
-          by (Ok page) staged = at_page_map new now (λ (d : Corner) (x y : PageMapValue). IsRewritten d i page x y) (page_rewritten i page staged)
-          by (Err refusal) staged = tt
+      is_rewritten =
+          IfOk-weaker r (λ page. IsPageRestaged i page s.heights h) (λ page. IsRewritten c i page (page_map_of format entries free) (page_map_of format (set entries at new) now))
+          (λ page done. at_page_map new now (λ (d : Corner) (x y : PageMapValue). IsRewritten d i page x y) (page_rewritten i page done)) staged
 
     -- with a record on a page of its own
     module _ (staged : IsRecordRestaged s.heights h) where
@@ -248,15 +275,7 @@ module _ (format : Format) (entries : List TileEntry) (free : FreePages) (kept :
 
     module _ (r : Result (Unit {0}) Refusal) (staged : OnOk r (IsRecordRestaged s.heights h)) where
       pub kept_prepared : OnErr r (h ≡ s.heights) → IsKept format (set entries at new) now
-      kept_prepared unchanged = kept_as_set new now (by r staged unchanged)
-        where
-          by : (q : Result (Unit {0}) Refusal) → OnOk q (IsRecordRestaged s.heights h) → OnErr q (h ≡ s.heights) → IsKept format (before ++ new ∷ after) now
-          by (Ok done) staged alike = record_kept staged
-          by (Err refusal) staged alike = unchanged_kept alike
+      kept_prepared unchanged = kept_as_set new now (done_or_not r (λ _. record_kept) unchanged_kept staged unchanged)
 
       pub is_prepared : OnOk r (IsPrepared c (page_map_of format entries free) (page_map_of format (set entries at new) now))
-      is_prepared = by r staged
-        where
-          by : (q : Result (Unit {0}) Refusal) → OnOk q (IsRecordRestaged s.heights h) → OnOk q (IsPrepared c (page_map_of format entries free) (page_map_of format (set entries at new) now))
-          by (Ok done) staged = at_page_map new now IsPrepared (record_prepared staged)
-          by (Err refusal) staged = tt
+      is_prepared = on_ok_weaker r (λ done. at_page_map new now IsPrepared (record_prepared done)) staged

@@ -23,7 +23,7 @@ use Rattle.page_map.proofs.Times.{has_at, one-self, times-append, member_of_time
 use Rattle.page_map.proofs.EntryLists.{fresh_parts, pages_of_location, reached_all, tile_times, times-split}
 use Rattle.page_map.proofs.EntryChanges.{entry_fresh}
 use Rattle.page_map.proofs.Listing.{any_none, any_some}
-use Rattle.page_map.proofs.Lookup.{plane_at}
+use Rattle.page_map.proofs.AtEntry.{plane_at}
 use Rattle.page_map.proofs.AtEntry.{split, kept_there, sound}
 
 -- ---- a page that lists a plane is one of its pages

@@ -15,7 +15,7 @@ use Rattle.page_map.specs.declared.tile_entry.TileEntry.{TileEntry}
 use Rattle.page_map.specs.TileLocations.{TileLocation}
 use Rattle.page_map.specs.PageMaps.{PageMapValue, IsFresh, is_at, without_location}
 use Rattle.page_map.specs.TileEntries.{committed_tile, committed_tiles, fresh_kept, fresh_pages, page_map_of, staged_tile, staged_tiles, used_pages, IsKept, IsSound}
-use Rattle.page_map.proofs.EntryLists.{times-split, counted_change, corner_of, rising_change, AllBefore, rising_before, rising_after, staged_own}
+use Rattle.page_map.proofs.EntryLists.{times-split, counted_change, corner_of, rising_change, AllBefore, rising_before, rising_after, staged_all, staged_own}
 use Rattle.page_map.proofs.PageMapRules.{fresh_page}
 
 -- ---- the invariant
@@ -61,20 +61,10 @@ abbrev pub AllOther : Corner → List TileLocation → Type 0
 AllOther c tiles = AllByRecursion (λ t. is_at c t ≡ false) tiles
 
 pub other_before : (c : Corner) (entries : List TileEntry) → AllBefore c entries → AllOther c (staged_tiles entries)
-other_before c [] h = tt
-other_before c (s ∷ rest) h = by (staged_tile s) (staged_own s) (other_before c rest h.1)
-  where
-    by : (o : Option TileLocation) → IfSome o (λ t. t.corner ≡ s.corner) → AllOther c (staged_tiles rest) → AllOther c (cons_option o (staged_tiles rest))
-    by None is later = later
-    by (Some t) is later = (subst (λ (d : Corner). same_corner d c ≡ false) (sym is) (before_not_same s.corner c h.0), later)
+other_before c = staged_all (λ d. same_corner d c ≡ false) (AllBefore c) (λ s rest h. (before_not_same s.corner c h.0, h.1))
 
 pub other_after : (c : Corner) (entries : List TileEntry) → AllAfter corner_of c entries → AllOther c (staged_tiles entries)
-other_after c [] h = tt
-other_after c (s ∷ rest) h = by (staged_tile s) (staged_own s) (other_after c rest h.1)
-  where
-    by : (o : Option TileLocation) → IfSome o (λ t. t.corner ≡ s.corner) → AllOther c (staged_tiles rest) → AllOther c (cons_option o (staged_tiles rest))
-    by None is later = later
-    by (Some t) is later = (subst (λ (d : Corner). same_corner d c ≡ false) (sym is) (after_not_same c s.corner h.0), later)
+other_after c = staged_all (λ d. same_corner d c ≡ false) (AllAfter corner_of c) (λ s rest h. (after_not_same c s.corner h.0, h.1))
 
 module _ (c : Corner) where
   map_other : (f : TileLocation → TileLocation) → ((t : TileLocation) → is_at c t ≡ false → f t ≡ t) → (tiles : List TileLocation) → AllOther c tiles → map f tiles ≡ tiles

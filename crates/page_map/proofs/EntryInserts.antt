@@ -1,6 +1,6 @@
 -- What a page_map is with one entry more.
 use Rattle.std.proofs.Common.{◌≡◌, ℕ, suc, ◌+◌, ◌<◌, ◌≤◌, true, false, cond, List, [], ◌∷◌, ◌++◌, length, refl, sym, ap, subst, ◌∙◌, arith}
-use Rattle.std.specs.Prelude.{IsTrue, Option, Some, None, IfSome, All}
+use Rattle.std.specs.Prelude.{IsTrue, Option, Some, None, All}
 use Rattle.std.specs.List.{cons_option, AllByRecursion, flat_map}
 use Rattle.std.proofs.lemmas.List.{length-append}
 use Rattle.std.proofs.lemmas.List.Elements.{filter_map-append}
@@ -21,7 +21,7 @@ use Rattle.page_map.specs.TileEntries.{added_entry, committed_tile, committed_ti
 use Rattle.page_map.proofs.Times.{times-append, all_numbers}
 use Rattle.page_map.proofs.FreeTimes.{balanced-append, balanced_same, in_use-first}
 use Rattle.page_map.proofs.PlaneChanges.{taken_balanced, taken_fresh}
-use Rattle.page_map.proofs.EntryLists.{corner_of, AllBefore, entry_in_use, rising_insert, rising_before, rising_after, staged_own, times-split, used_parts}
+use Rattle.page_map.proofs.EntryLists.{corner_of, AllBefore, entry_in_use, rising_insert, rising_before, rising_after, staged_all, times-split, used_parts}
 use Rattle.page_map.proofs.EntryChanges.{all_middle, kept_change, no_more_kept, page_map_changed, entry_fresh}
 
 -- ---- the invariant
@@ -56,22 +56,10 @@ kept_insert format before new after free now is earlier later sound committed_ro
 
 -- ---- a tile in its location
 tiles_before : (t : TileLocation) (entries : List TileEntry) → AllBefore t.corner entries → AllByRecursion (λ u. is_before t.corner u.corner ≡ false) (staged_tiles entries)
-tiles_before t [] h = tt
-tiles_before t (s ∷ rest) h = by (staged_tile s) (staged_own s) (tiles_before t rest h.1)
-  where
-    by : (o : Option TileLocation) → IfSome o (λ u. u.corner ≡ s.corner) → AllByRecursion (λ u. is_before t.corner u.corner ≡ false) (staged_tiles rest)
-        → AllByRecursion (λ u. is_before t.corner u.corner ≡ false) (cons_option o (staged_tiles rest))
-    by None is later = later
-    by (Some u) is later = (subst (λ (d : Corner). is_before t.corner d ≡ false) (sym is) (before_not_back s.corner t.corner h.0), later)
+tiles_before t = staged_all (λ d. is_before t.corner d ≡ false) (AllBefore t.corner) (λ s rest h. (before_not_back s.corner t.corner h.0, h.1))
 
 tiles_after : (t : TileLocation) (entries : List TileEntry) → AllAfter corner_of t.corner entries → AllByRecursion (λ u. is_before t.corner u.corner ≡ true) (staged_tiles entries)
-tiles_after t [] h = tt
-tiles_after t (s ∷ rest) h = by (staged_tile s) (staged_own s) (tiles_after t rest h.1)
-  where
-    by : (o : Option TileLocation) → IfSome o (λ u. u.corner ≡ s.corner) → AllByRecursion (λ u. is_before t.corner u.corner ≡ true) (staged_tiles rest)
-        → AllByRecursion (λ u. is_before t.corner u.corner ≡ true) (cons_option o (staged_tiles rest))
-    by None is later = later
-    by (Some u) is later = (subst (λ (d : Corner). is_before t.corner d ≡ true) (sym is) h.0, later)
+tiles_after t = staged_all (λ d. is_before t.corner d ≡ true) (AllAfter corner_of t.corner) (λ s rest h. (h.0, h.1))
 
 inserted : (t : TileLocation) (xs ys : List TileLocation) → AllByRecursion (λ u. is_before t.corner u.corner ≡ false) xs → AllByRecursion (λ u. is_before t.corner u.corner ≡ true) ys
     → xs ++ t ∷ ys ≡ with_tile_location t (xs ++ ys)

@@ -14,7 +14,7 @@ use Rattle.page_map.specs.Locations.{PlaneLocation, IsWholePlane, pages_of_plane
 use Rattle.page_map.specs.declared.tile_entry.TileEntry.{TileEntry}
 use Rattle.page_map.specs.PageMaps.{AreWholeKept, IsWholeTile}
 use Rattle.page_map.specs.PlaneEntries.{fresh_in, pages_at, staged_plane, used_in}
-use Rattle.page_map.specs.TileEntries.{committed_tile, committed_tiles, fresh_kept, fresh_pages, kept_of, staged_tile, tile_of, used_pages, AreCounted, AreTogether, IsKept, IsSound}
+use Rattle.page_map.specs.TileEntries.{committed_tile, committed_tiles, fresh_kept, fresh_pages, kept_of, staged_tile, staged_tiles, tile_of, used_pages, AreCounted, AreTogether, IsKept, IsSound}
 use Rattle.page_map.specs.TileLocations.{TileLocation, pages_of_kept, pages_of_tile, reached}
 use Rattle.page_map.proofs.Times.{times-append}
 use Rattle.page_map.proofs.PlaneChanges.{used_split}
@@ -24,9 +24,9 @@ abbrev pub pages_of_location : Option TileLocation → List ℕ
 pages_of_location None = []
 pages_of_location (Some t) = pages_of_tile t
 
-pub tile_own : (c : Corner) (h l m : Option PlaneLocation) → IfSome (tile_of c h l m) (λ t. t.corner ≡ c)
-tile_own c None l m = tt
-tile_own c (Some h) l m = refl
+pub tile_own : (Q : Corner → Type 0) (c : Corner) (h l m : Option PlaneLocation) → Q c → IfSome (tile_of c h l m) (λ t. Q t.corner)
+tile_own Q c None l m is = tt
+tile_own Q c (Some h) l m is = is
 
 pub tile_whole : (format : Format) (c : Corner) (h l m : Option PlaneLocation) → IfSome h (IsWholePlane format) → IfSome l (IsWholePlane format) → IfSome m (IsWholePlane format) → IfSome (tile_of c h l m) (IsWholeTile format)
 tile_whole format c None l m heights levels labels = tt
@@ -159,10 +159,21 @@ module _ (tile_of : TileEntry → Option TileLocation) (own : (s : TileEntry) �
       by (Some t) is later rising = (subst (λ (d : Corner). AllAfter location_of d (filter_map tile_of rest)) (sym is) later, rising)
 
 pub committed_own : (s : TileEntry) → IfSome (committed_tile s) (λ t. t.corner ≡ s.corner)
-committed_own s = tile_own s.corner s.heights.committed s.levels.committed s.labels.committed
+committed_own s = tile_own (λ d. d ≡ s.corner) s.corner s.heights.committed s.levels.committed s.labels.committed refl
 
 pub staged_own : (s : TileEntry) → IfSome (staged_tile s) (λ t. t.corner ≡ s.corner)
-staged_own s = tile_own s.corner (staged_plane s.heights) (staged_plane s.levels) (staged_plane s.labels)
+staged_own s = tile_own (λ d. d ≡ s.corner) s.corner (staged_plane s.heights) (staged_plane s.levels) (staged_plane s.labels) refl
+
+-- what holds of each entry's corner holds of each staged tile's
+pub staged_all : (P : Corner → Type 0) (R : List TileEntry → Type 0) → ((s : TileEntry) (rest : List TileEntry) → R (s ∷ rest) → P s.corner × R rest) → (entries : List TileEntry) → R entries
+    → AllByRecursion (λ t. P t.corner) (staged_tiles entries)
+staged_all P R each [] all = tt
+staged_all P R each (s ∷ rest) all =
+    by (staged_tile s) (tile_own P s.corner (staged_plane s.heights) (staged_plane s.levels) (staged_plane s.labels) (each s rest all).0) (staged_all P R each rest (each s rest all).1)
+  where
+    by : (o : Option TileLocation) → IfSome o (λ t. P t.corner) → AllByRecursion (λ t. P t.corner) (staged_tiles rest) → AllByRecursion (λ t. P t.corner) (cons_option o (staged_tiles rest))
+    by None here later = later
+    by (Some t) here later = (here, later)
 
 -- ---- where a corner's entry stands
 pub rising_partition : (c : Corner) (entries : List TileEntry) → Rising corner_of entries → (i j : ℕ) (d : TileEntry) → i ≤ j → j < length entries → is_before (get_or entries j d).corner c ≡ true → is_before (get_or entries i d).corner c ≡ true

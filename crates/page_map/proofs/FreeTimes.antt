@@ -1,26 +1,18 @@
 -- Free pages counted by their numbers.
-use Rattle.std.proofs.Common.{◌≡◌, ◌≢◌, ℕ, ◌+◌, ◌-◌, ◌≤◌, ◌<◌, List, [], ◌∷◌, ◌++◌, true, false, cond, eqb, inl, inr, refl, sym, ap, ◌∙◌, arith}
+use Rattle.std.proofs.Common.{◌≡◌, ◌≢◌, ℕ, ◌+◌, ◌-◌, ◌≤◌, ◌<◌, Bool, List, [], ◌∷◌, ◌++◌, true, false, cond, eqb, inl, inr, refl, sym, subst, ap, ap₂, ◌∙◌, arith}
 use Rattle.std.specs.BTreeMap.{is_at}
 use Rattle.std.specs.BTreeSet as tree
 use Rattle.std.specs.Prelude.{not, ◌&&◌, ◌||◌, nat_le, nat_lt}
 use Rattle.std.specs.Ordering.{nat_cmp}
-use Rattle.std.specs.Cmp.{nat_cmp_total, unsigned_tied}
-use Rattle.std.specs.FinSet.{FinSet, contains, insert, remove, len, contains-insert, contains-remove, len-remove}
-use Rattle.std.proofs.lemmas.Bool.{false_from_ne_true, cases_eq, cases_lt, eq-eqb, ne_eqb, le-leb, le-ltb, lt-ltb}
+use Rattle.std.specs.Cmp.{unsigned_tied}
+use Rattle.std.specs.FinSet.{contains}
+use Rattle.std.proofs.lemmas.Bool.{false_from_ne_true, cases_eq, eq-eqb, ne_eqb, le-leb, le-ltb, lt-ltb}
 use Rattle.std.proofs.lemmas.Bool.Decides.{nat_tests}
 use Rattle.std.specs.BTreeSet.{BTreeSet}
 use Rattle.page_alloc.specs.Pages.{PageSet, IsPage, IsFree, with_page, without_page}
+use Rattle.page_alloc.proofs.PageLemmas.{contains-with, contains-without}
 use Rattle.page_map.specs.FreePages.{FreePages, PageRange, free_times, page_times, AreBalanced, AreTaken, AreGiven, AreInUse}
-use Rattle.page_map.proofs.Times.{one, one-other, one-self, times-append}
-
-pub contains-with : (s : FinSet nat_cmp) (k q : ℕ) → contains (insert s k) q ≡ (eqb q k || contains s q)
-contains-with s k q = contains-insert nat_cmp_total s k q ∙ ap (λ b. b || contains s q) (unsigned_tied q k)
-
-pub contains-without : (s : FinSet nat_cmp) (k q : ℕ) → contains (remove s k) q ≡ (not (eqb q k) && contains s q)
-contains-without s k q = contains-remove nat_cmp_total s k q ∙ ap (λ b. not b && contains s q) (unsigned_tied q k)
-
-pub len-without : (s : FinSet nat_cmp) (k : ℕ) → contains s k ≡ true → len (remove s k) ≡ len s - 1
-len-without s k old = len-remove nat_cmp_total s k ∙ ap (λ b. cond b (len s - 1) (len s)) old
+use Rattle.page_map.proofs.Times.{one-other, one-self, times-append}
 
 -- a page of the window
 module _ (pages : FreePages) (p : ℕ) (near : p < pages.range.window) where
@@ -56,130 +48,65 @@ page_none range p none = grind (arith, nat_tests)
 pub page_le : (range : PageRange) (p : ℕ) → page_times range p ≤ 1
 page_le range p = elim (nat_le 4 p && nat_lt p range.sectors) as (λ b. cond b 1 0 ≤ 1) [ true ↦ omega arith | false ↦ omega arith ]
 
--- ---- one page changes: in the window, or behind it
-module _ (old new : FreePages) (same : new.range ≡ old.range) (k : ℕ) where
-  same_far : new.far ≡ old.far → (p : ℕ) → old.range.window ≤ p → free_times new p ≡ free_times old p
-  same_far far p behind = rw (same, le-ltb p old.range.window behind, far) refl
-
-  alike_near : (p : ℕ) → p < old.range.window → contains new.free p ≡ contains old.free p → free_times new p ≡ free_times old p
-  alike_near p near is = free_near new p (rw same near) ∙ (ap (λ b. cond b 1 0) is ∙ sym (free_near old p near))
-
-  near_taken : contains old.free k ≡ true → new.free ≡ remove old.free k → (p : ℕ) → p < old.range.window → one p k + free_times new p ≡ free_times old p
-  near_taken was is p near =
-      let kept : contains new.free p ≡ (not (eqb p k) && contains old.free p) = rw is (contains-without old.free k p) in
-      elim (cases_eq p k) [
-        | inl here ↦
-            let before = near_free old p near (ap (contains old.free) here ∙ was) in
-            let now = near_used new p (rw same near) (kept ∙ ap (λ b. not b && contains old.free p) (eq-eqb p k here)) in
-            let own : one p k ≡ 1 = rw (eq-eqb p k here) refl in
-            omega arith
-        | inr other ↦
-            let alike = alike_near p near (kept ∙ ap (λ b. not b && contains old.free p) (ne_eqb p k other)) in
-            let none = one-other p k other in
-            omega arith
-      ]
-
-  pub taken_near : k < old.range.window → contains old.free k ≡ true → new.free ≡ remove old.free k → new.far ≡ old.far → AreTaken (k ∷ []) old new
-  taken_near inside was is far = record {
+-- ---- one page changes
+module _ (old new : FreePages) (same : new.range ≡ old.range) (k : ℕ) (others : (p : ℕ) → p ≢ k → free_times new p ≡ free_times old p) where
+  one_taken : free_times old k ≡ 1 → free_times new k ≡ 0 → AreTaken (k ∷ []) old new
+  one_taken was is = record {
     same_range = same;
-    each = λ p. elim (cases_lt p old.range.window) [
-      | inl near ↦ omega (arith, near_taken was is p near)
-      | inr behind ↦
-          let alike = same_far far p behind in
-          let none = one-other p k (λ e. omega arith) in
-          omega arith
+    each = λ p. elim (cases_eq p k) [
+      | inl here ↦ rw here (omega (arith, was, is, one-self k))
+      | inr other ↦ omega (arith, others p other, one-other p k other)
     ];
   }
 
-  near_given : contains old.free k ≡ false → new.free ≡ insert old.free k → (p : ℕ) → p < old.range.window → free_times new p ≡ one p k + free_times old p
-  near_given was is p near =
-      let more : contains new.free p ≡ (eqb p k || contains old.free p) = rw is (contains-with old.free k p) in
-      elim (cases_eq p k) [
-        | inl here ↦
-            let before = near_used old p near (ap (contains old.free) here ∙ was) in
-            let now = near_free new p (rw same near) (more ∙ ap (λ b. b || contains old.free p) (eq-eqb p k here)) in
-            let own : one p k ≡ 1 = rw (eq-eqb p k here) refl in
-            omega arith
-        | inr other ↦
-            let alike = alike_near p near (more ∙ ap (λ b. b || contains old.free p) (ne_eqb p k other)) in
-            let none = one-other p k other in
-            omega arith
-      ]
-
-  pub given_near : k < old.range.window → contains old.free k ≡ false → new.free ≡ insert old.free k → new.far ≡ old.far → AreGiven (k ∷ []) old new
-  given_near inside was is far = record {
+  one_given : free_times old k ≡ 0 → free_times new k ≡ 1 → AreGiven (k ∷ []) old new
+  one_given was is = record {
     same_range = same;
-    each = λ p. elim (cases_lt p old.range.window) [
-      | inl near ↦ omega (arith, near_given was is p near)
-      | inr behind ↦
-          let alike = same_far far p behind in
-          let none = one-other p k (λ e. omega arith) in
-          omega arith
+    each = λ p. elim (cases_eq p k) [
+      | inl here ↦ rw here (omega (arith, was, is, one-self k))
+      | inr other ↦ omega (arith, others p other, one-other p k other)
     ];
   }
-
-  -- behind the window
-  module _ (behind : old.range.window ≤ k) (inside : k < old.range.sectors) (free : new.free ≡ old.free) (others : (q : ℕ) → is_at (nat_cmp k) q ≡ false → tree.contains nat_cmp new.far q ≡ tree.contains nat_cmp old.far q) where
-    other_far : (p : ℕ) → p ≢ k → free_times new p ≡ free_times old p
-    other_far p other = elim (cases_lt p old.range.window) [
-      | inl near ↦ alike_near p near (ap (λ s. contains s p) free)
-      | inr far ↦
-          let alike = others p (apart p other) in
-          rw (same, le-ltb p old.range.window far, alike) refl
-    ]
-      where
-        apart : (p : ℕ) → p ≢ k → is_at (nat_cmp k) p ≡ false
-        apart p other = unsigned_tied k p ∙ ne_eqb k p (λ e. other (sym e))
-
-    pub taken_far : tree.contains nat_cmp old.far k ≡ false → tree.contains nat_cmp new.far k ≡ true → AreTaken (k ∷ []) old new
-    taken_far was is = record {
-      same_range = same;
-      each = λ p. elim (cases_eq p k) [
-        | inl here ↦
-            rw here
-            (let before = far_free old k behind inside was in
-            let now = far_used new k (rw same behind) (rw same inside) is in
-            let own = one-self k in
-            omega arith)
-        | inr other ↦ let none = one-other p k other in omega (arith, other_far p other)
-      ];
-    }
-
-    pub given_far : tree.contains nat_cmp old.far k ≡ true → tree.contains nat_cmp new.far k ≡ false → AreGiven (k ∷ []) old new
-    given_far was is = record {
-      same_range = same;
-      each = λ p. elim (cases_eq p k) [
-        | inl here ↦
-            rw here
-            (let before = far_used old k behind inside was in
-            let now = far_free new k (rw same behind) (rw same inside) is in
-            let own = one-self k in
-            omega arith)
-        | inr other ↦ let none = one-other p k other in omega (arith, other_far p other)
-      ];
-    }
 
 -- the free pages of a disk of so many sectors, by those of its window and those in use behind it
 abbrev pub pages_by : ℕ → PageSet → BTreeSet ℕ → FreePages
 pages_by sectors near far = record { range = record { sectors = sectors; window = near.total }; free = near.free; far = far }
 
 module _ (sectors : ℕ) (near new : PageSet) (far : BTreeSet ℕ) (k : ℕ) (inside : k < near.total) where
+  others_near : new.total ≡ near.total → ((p : ℕ) → p ≢ k → contains new.free p ≡ contains near.free p) → (p : ℕ) → p ≢ k → free_times (pages_by sectors new far) p ≡ free_times (pages_by sectors near far) p
+  others_near total alike p other = ap₂ (λ (w : ℕ) (b : Bool). cond (cond (nat_lt p w) b (nat_lt p sectors && not (tree.contains nat_cmp far p))) 1 0) total (alike p other)
+
   pub near_marked : IsFree near k → new ≡ without_page near k → AreTaken (k ∷ []) (pages_by sectors near far) (pages_by sectors new far)
-  near_marked free is = taken_near (pages_by sectors near far) (pages_by sectors new far) (ap (λ (s : PageSet). (pages_by sectors s far).range) is) k inside free (ap (λ (s : PageSet). s.free) is) refl
+  near_marked free is =
+      let total : new.total ≡ near.total = ap (λ (s : PageSet). s.total) is in
+      let left : (p : ℕ) → contains new.free p ≡ (not (eqb p k) && contains near.free p) = λ p. ap (λ (s : PageSet). contains s.free p) is ∙ contains-without near.free k p in
+      one_taken (pages_by sectors near far) (pages_by sectors new far) (ap (λ (s : PageSet). (pages_by sectors s far).range) is) k
+      (others_near total (λ p other. left p ∙ ap (λ b. not b && contains near.free p) (ne_eqb p k other))) (near_free (pages_by sectors near far) k inside free)
+      (near_used (pages_by sectors new far) k (subst (λ (w : ℕ). k < w) (sym total) inside) (left k ∙ ap (λ b. not b && contains near.free k) (eq-eqb k k refl)))
 
   pub near_back : ¬ IsFree near k → new ≡ with_page near k → AreGiven (k ∷ []) (pages_by sectors near far) (pages_by sectors new far)
   near_back used is =
-      given_near (pages_by sectors near far) (pages_by sectors new far) (ap (λ (s : PageSet). (pages_by sectors s far).range) is) k inside (false_from_ne_true (contains near.free k) used) (ap (λ (s : PageSet). s.free) is) refl
+      let total : new.total ≡ near.total = ap (λ (s : PageSet). s.total) is in
+      let more : (p : ℕ) → contains new.free p ≡ (eqb p k || contains near.free p) = λ p. ap (λ (s : PageSet). contains s.free p) is ∙ contains-with near.free k p in
+      one_given (pages_by sectors near far) (pages_by sectors new far) (ap (λ (s : PageSet). (pages_by sectors s far).range) is) k
+      (others_near total (λ p other. more p ∙ ap (λ b. b || contains near.free p) (ne_eqb p k other))) (near_used (pages_by sectors near far) k inside (false_from_ne_true (contains near.free k) used))
+      (near_free (pages_by sectors new far) k (subst (λ (w : ℕ). k < w) (sym total) inside) (more k ∙ ap (λ b. b || contains near.free k) (eq-eqb k k refl)))
 
   pub not_near : ¬ IsFree near k → free_times (pages_by sectors near far) k ≡ 0
   not_near used = near_used (pages_by sectors near far) k inside (false_from_ne_true (contains near.free k) used)
 
 module _ (sectors : ℕ) (near : PageSet) (far new : BTreeSet ℕ) (k : ℕ) (behind : near.total ≤ k) (inside : k < sectors) where
+  others_far : ((q : ℕ) → is_at (nat_cmp k) q ≡ false → tree.contains nat_cmp new q ≡ tree.contains nat_cmp far q) → (p : ℕ) → p ≢ k → free_times (pages_by sectors near new) p ≡ free_times (pages_by sectors near far) p
+  others_far alike p other =
+      ap (λ (b : Bool). cond (cond (nat_lt p near.total) (contains near.free p) (nat_lt p sectors && not b)) 1 0) (alike p (unsigned_tied k p ∙ ne_eqb k p (λ e. other (sym e))))
+
   pub far_marked : tree.contains nat_cmp far k ≡ false → tree.Updates nat_cmp far new k true → AreTaken (k ∷ []) (pages_by sectors near far) (pages_by sectors near new)
-  far_marked was (each, here, others, kept) = taken_far (pages_by sectors near far) (pages_by sectors near new) refl k behind inside refl others was here
+  far_marked was (each, here, others, kept) =
+      one_taken (pages_by sectors near far) (pages_by sectors near new) refl k (others_far others) (far_free (pages_by sectors near far) k behind inside was) (far_used (pages_by sectors near new) k behind inside here)
 
   pub far_back : tree.contains nat_cmp far k ≡ true → tree.Updates nat_cmp far new k false → AreGiven (k ∷ []) (pages_by sectors near far) (pages_by sectors near new)
-  far_back was (each, here, others, kept) = given_far (pages_by sectors near far) (pages_by sectors near new) refl k behind inside refl others was here
+  far_back was (each, here, others, kept) =
+      one_given (pages_by sectors near far) (pages_by sectors near new) refl k (others_far others) (far_used (pages_by sectors near far) k behind inside was) (far_free (pages_by sectors near new) k behind inside here)
 
 -- a page that can be given back is one of the disk, and isn't free
 pub one_in_use : (pages : FreePages) (k : ℕ) → AreInUse (k ∷ []) pages → IsPage pages.range.sectors k × (free_times pages k ≡ 0)

@@ -1,9 +1,10 @@
 -- A tile staged without its kept planes or with others, and one that is taken out.
 use Rattle.std.proofs.Common.{◌≡◌, ℕ, suc, ◌+◌, ◌*◌, ◌≤◌, Bool, true, false, cond, not, if◌then◌else◌, List, [], ◌∷◌, ◌++◌, length, take, drop, get_or, set, refl, sym, ap, subst, ◌∙◌, arith}
-use Rattle.std.specs.Prelude.{Option, Some, None, IsSome, is_some, IfSome, Contains, All, Result, Ok, Err, OnOk, OnErr, filter, ◌||◌}
+use Rattle.std.specs.Prelude.{Option, Some, None, IsSome, is_some, IfSome, Contains, All, Result, OnOk, OnErr, filter, ◌||◌}
 use Rattle.std.specs.List.{flat_map}
 use Rattle.std.proofs.lemmas.Bool.{false≢true}
 use Rattle.std.proofs.lemmas.List.{length-append}
+use Rattle.std.proofs.lemmas.Result.{on_ok_weaker}
 use Rattle.lattice.specs.Corners.{Corner}
 use Rattle.lattice.specs.declared.refusal.Refusal.{Refusal}
 use Rattle.page_codec.specs.Formats.{Format}
@@ -20,6 +21,7 @@ use Rattle.page_map.specs.PageMaps.{AreKept, IsFresh, IsLocated, PageMapValue, H
 use Rattle.page_map.specs.TileEntries.{fresh_kept, fresh_pages, kept_of, page_map_of, staged_tile, staged_tiles, tile_of, tile_planes, used_pages, AreTogether, IsEntryAt, IsKept, IsKeptAnew, IsSound}
 use Rattle.page_map.proofs.Times.{all_numbers, one-self, times-append}
 use Rattle.page_map.proofs.PlaneChanges.{used_split}
+use Rattle.page_map.proofs.Refused.{done_or_not}
 use Rattle.page_map.proofs.Room.{fresh_lengths, plane_few}
 use Rattle.page_map.proofs.Clean.{none_kept_at}
 use Rattle.page_map.proofs.EntryLists.{fresh_parts, used_parts}
@@ -54,9 +56,9 @@ only_kept (b ∷ before) s new after none =
     let later = only_kept before s new after (omega arith) in
     omega (arith, none, later, length-append (fresh_kept b) (flat_map fresh_kept (before ++ new ∷ after)))
 
-length-filter-le : (p : TileLocation → Bool) (tiles : List TileLocation) → length (filter p tiles) ≤ length tiles
+pub length-filter-le : {X : Type 0} (p : X → Bool) (xs : List X) → length (filter p xs) ≤ length xs
 length-filter-le p [] = omega arith
-length-filter-le p (t ∷ rest) = let later = length-filter-le p rest in elim (p t) as (λ b. length (cond b (t ∷ filter p rest) (filter p rest)) ≤ suc (length rest)) [ true ↦ omega arith | false ↦ omega arith ]
+length-filter-le p (x ∷ rest) = let later = length-filter-le p rest in elim (p x) as (λ b. length (cond b (x ∷ filter p rest) (filter p rest)) ≤ suc (length rest)) [ true ↦ omega arith | false ↦ omega arith ]
 
 pub fresh_in_use : (s : TileEntry) (free : FreePages) → AreInUse (used_pages s) free → AreInUse (fresh_pages s) free
 fresh_in_use s free in_use p = omega (arith, in_use p, used_parts p s, fresh_parts p s, used_split p s.heights, used_split p s.levels, used_split p s.labels)
@@ -190,18 +192,11 @@ module _ (format : Format) (entries : List TileEntry) (free : FreePages) (kept :
 
       module _ (r : Result (Unit {0}) Refusal) (told : OnOk r (IsKeptAnew format s other)) where
         pub kept_anew : OnErr r (other ≡ s) → IsKept format (set entries at other) now
-        kept_anew unchanged = kept_as_set format entries free kept c at found s is other now (by r told unchanged)
-          where
-            by : (q : Result (Unit {0}) Refusal) → OnOk q (IsKeptAnew format s other) → OnErr q (other ≡ s) → IsKept format (before ++ other ∷ after) now
-            by (Ok done) anew same = anew_there anew
-            by (Err refusal) anew same = kept_unchanged format before s other after free now there balanced same
+        kept_anew unchanged =
+            kept_as_set format entries free kept c at found s is other now (done_or_not r (λ _. anew_there) (kept_unchanged format before s other after free now there balanced) told unchanged)
 
         pub are_kept : OnOk r (AreKept c (page_map_of format entries free) (page_map_of format (set entries at other) now))
-        are_kept = by r told
-          where
-            by : (q : Result (Unit {0}) Refusal) → OnOk q (IsKeptAnew format s other) → OnOk q (AreKept c (page_map_of format entries free) (page_map_of format (set entries at other) now))
-            by (Ok done) anew = kept_now anew
-            by (Err refusal) anew = tt
+        are_kept = on_ok_weaker r kept_now told
 
   -- ---- a tile taken out
   abbrev without : TileEntry

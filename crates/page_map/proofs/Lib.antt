@@ -1,4 +1,5 @@
 pub mod Times
+pub mod Refused
 pub mod FreeTimes
 pub mod PlaneChanges
 pub mod GivenSoFar

@@ -3,7 +3,7 @@ use Rattle.std.proofs.Common.{◌≡◌, ℕ, zero, suc, ◌+◌, ◌<◌, ◌�
 use Rattle.std.specs.Prelude.{IsTrue, Option, Some, None, IfSome, is_some, ◌||◌, Contains, All, insert}
 use Rattle.std.specs.List.{filter_map, cons_option, AllByRecursion, flat_map}
 use Rattle.std.proofs.lemmas.List.{length-append, append-nil, take-append-drop}
-use Rattle.std.proofs.lemmas.List.Elements.{filter_map-append}
+use Rattle.std.proofs.lemmas.List.Elements.{All-contains, filter_map-append}
 use Rattle.std.proofs.lemmas.Grind.{flat_map-append}
 use Rattle.std.proofs.lemmas.Bool.{false≢true}
 use Rattle.lattice.specs.Corners.{Corner, is_before, is_corner}
@@ -28,10 +28,7 @@ use Rattle.page_map.proofs.Clean.{none_fresh}
 use Rattle.page_map.proofs.PageMapRules.{each_entry, contains_at}
 use Rattle.page_map.proofs.EntryInserts.{kept_insert, kept_added, is_added, kept_again, is_added_again, with_fresh}
 use Rattle.page_map.proofs.Lookup.{located_there}
-use Rattle.page_map.proofs.AtEntry.{split, corner, kept_there, rising_there, set_is}
-
-all_member : {X : Type 0} (P : X → Type 0) (xs : List X) (x : X) → All P xs → Contains xs x → P x
-all_member P xs x all (k, below, here) = subst P here (all k x below)
+use Rattle.page_map.proofs.AtEntry.{at_page_map, corner, kept_as_set, kept_there, rising_there, split}
 
 -- ---- one more committed tile
 pub kept_back : (kept : Option KeptLocations) → kept_of (levels_of kept) (labels_of kept) ≡ kept
@@ -77,8 +74,8 @@ module _ (format : Format) (entries : List TileEntry) (free : FreePages) (kept :
       (subst (λ (l : List TileEntry). IfSome (committed_tile s) (Contains (committed_tiles l))) (sym is) (contains_at committed_tile before s after)))
     where
       by : (d : Corner) (h o l m k n : Option PlaneLocation) → (is_some h || is_some o) ≡ true → IfSome (tile_of d h l m) (Contains (committed_tiles entries)) → IfSome (tile_of d o k n) (Contains (committed_tiles entries)) → IsBefore d c
-      by d (Some h) o l m k n filled staged there = all_member (λ (t : TileLocation). IsBefore t.corner c) (committed_tiles entries) (tile_at d (tile_planes h l m)) later staged
-      by d None (Some o) l m k n filled staged there = all_member (λ (t : TileLocation). IsBefore t.corner c) (committed_tiles entries) (tile_at d (tile_planes o k n)) later there
+      by d (Some h) o l m k n filled staged there = All-contains (λ (t : TileLocation). IsBefore t.corner c) (committed_tiles entries) (tile_at d (tile_planes h l m)) later staged
+      by d None (Some o) l m k n filled staged there = All-contains (λ (t : TileLocation). IsBefore t.corner c) (committed_tiles entries) (tile_at d (tile_planes o k n)) later there
       by d None None l m k n filled staged there = absurd (false≢true filled)
 
   no_page_fresh : flat_map fresh_pages entries ≡ []
@@ -118,7 +115,7 @@ module _ (format : Format) (entries : List TileEntry) (free : FreePages) (kept :
       let none = ap (times p) no_page_fresh in
       let there : 1 ≤ times p (reached (tiles ++ tile_at c planes ∷ [])) = omega (arith, all, own) in
       let member = member_of_times (reached (tiles ++ tile_at c planes ∷ [])) p there in
-      let page = page_one free.range p (all_member (λ q. 4 ≤ q) (reached (tiles ++ tile_at c planes ∷ [])) p rule.low member, all_member (λ q. q < free.range.sectors) (reached (tiles ++ tile_at c planes ∷ [])) p rule.high member) in
+      let page = page_one free.range p (All-contains (λ q. 4 ≤ q) (reached (tiles ++ tile_at c planes ∷ [])) p rule.low member, All-contains (λ q. q < free.range.sectors) (reached (tiles ++ tile_at c planes ∷ [])) p rule.high member) in
       omega (arith, all, own, rule.once p, page, counted_tiles format entries free kept p, none)
 
 -- ---- a tile added where the search says
@@ -176,12 +173,10 @@ module _ (format : Format) (entries : List TileEntry) (free now : FreePages) (ke
 
     pub kept_restaged : IsKept format (set entries at (with_fresh s location)) now
     kept_restaged =
-        subst (λ (l : List TileEntry). IsKept format l now) (sym (set_is format entries free kept c at found s is (with_fresh s location) now))
+        kept_as_set format entries free kept c at found s is (with_fresh s location) now
         (kept_again format (take at entries) s (drop (suc at) entries) free now (kept_there format entries free kept c at found s is) none location whole taken again_room)
 
     pub is_restaged : IsAdded c (page_map_of format entries free) (page_map_of format (set entries at (with_fresh s location)) now)
     is_restaged =
-        subst (λ (l : List TileEntry). IsAdded c (page_map_of format l free) (page_map_of format (set entries at (with_fresh s location)) now)) (sym (split format entries free kept c at found s is))
-        (subst (λ (l : List TileEntry). IsAdded c (page_map_of format (take at entries ++ s ∷ drop (suc at) entries) free) (page_map_of format l now)) (sym (set_is format entries free kept c at found s is (with_fresh s location) now))
-        (subst (λ (d : Corner). IsAdded d (page_map_of format (take at entries ++ s ∷ drop (suc at) entries) free) (page_map_of format (take at entries ++ with_fresh s location ∷ drop (suc at) entries) now)) (corner format entries free kept c at found s is)
-        (is_added_again format (take at entries) s (drop (suc at) entries) free now (kept_there format entries free kept c at found s is) none location whole taken again_room)))
+        at_page_map format entries free kept c at found s is (with_fresh s location) now IsAdded
+        (is_added_again format (take at entries) s (drop (suc at) entries) free now (kept_there format entries free kept c at found s is) none location whole taken again_room)

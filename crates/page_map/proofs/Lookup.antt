@@ -1,15 +1,14 @@
 -- The entry of a corner, and what it says of the page_map's tiles.
 use Rattle.std.proofs.Common.{◌≡◌, ℕ, zero, suc, ◌<◌, false, inl, inr, List, [], ◌∷◌, ◌++◌, length, take, drop, get_or, refl, sym, ap, subst, ◌∙◌, arith, ◌↔◌, Bor}
-use Rattle.std.specs.Prelude.{Option, Some, None, IsSome, IfSome, Contains, IfNone, option_map, option_copied, option_and_then}
-use Rattle.std.specs.List.{cons_option, AllByRecursion}
+use Rattle.std.specs.Prelude.{Option, Some, None, IsSome, IfSome, Contains, IfNone, option_map, option_and_then}
+use Rattle.std.specs.List.{cons_option}
 use Rattle.std.proofs.Math.Seq.{split_at}
 use Rattle.std.proofs.lemmas.List.Elements.{filter_map-append}
 use Rattle.std.proofs.lemmas.Bool.{false≢true, cases_lt}
 use Rattle.lattice.specs.Corners.{Corner, same_corner}
 use Rattle.lattice.proofs.CornerOrder.{before_not_same, after_not_same, same_from}
-use Rattle.lattice.proofs.Rising.{Rising, rising_from}
+use Rattle.lattice.proofs.Rising.{Rising}
 use Rattle.page_codec.specs.Formats.{Format}
-use Rattle.page_map.specs.FreePages.{FreePages}
 use Rattle.page_map.specs.declared.locations.KeptLocations.{KeptLocations}
 use Rattle.page_map.specs.declared.plane.Plane.{Plane}
 use Rattle.page_map.specs.declared.plane.Plane.TheVariants.{Heights, Levels, Labels}
@@ -19,9 +18,9 @@ use Rattle.page_map.specs.PlaneEntries.{staged_plane}
 use Rattle.page_map.specs.Planes.{HasPlane, HasPlaneAt, LiesAt, plane_of}
 use Rattle.page_map.specs.TileLocations.{TileLocation}
 use Rattle.page_map.specs.PageMaps.{IsLocated}
-use Rattle.page_map.specs.TileEntries.{named_plane, staged_tile, staged_tiles, tile_of, AreTogether, IsEntryAt, IsKept, IsRoomAt, IsSound}
-use Rattle.page_map.proofs.EntryLists.{corner_of, staged_own, rising_before, rising_after}
-use Rattle.page_map.proofs.EntryChanges.{AllOther, all_middle, other_before, other_after, staged_corner}
+use Rattle.page_map.specs.TileEntries.{named_plane, staged_tile, staged_tiles, tile_of, AreTogether, IsRoomAt, IsSound}
+use Rattle.page_map.proofs.EntryLists.{corner_of, rising_after, rising_before, staged_all}
+use Rattle.page_map.proofs.EntryChanges.{AllOther, other_before, other_after, staged_corner}
 use Rattle.page_map.proofs.PageMapRules.{contains_at}
 
 -- one of three planes
@@ -90,18 +89,12 @@ module _ (before : List TileEntry) (s : TileEntry) (after : List TileEntry) (ris
 
 -- ---- no entry
 pub room_other : (c : Corner) (at : ℕ) (entries : List TileEntry) → IsRoomAt c at entries → AllOther c (staged_tiles entries)
-room_other c at entries room = all entries (λ k d below. elim (cases_lt k at) [
-  | inl early ↦ before_not_same (get_or entries k d).corner c (room.before k d (omega arith) early)
-  | inr late ↦ after_not_same c (get_or entries k d).corner (room.after k d late below)
-])
-  where
-    all : (l : List TileEntry) → ((k : ℕ) (d : TileEntry) → k < length l → same_corner (get_or l k d).corner c ≡ false) → AllOther c (staged_tiles l)
-    all [] each = tt
-    all (s ∷ rest) each = by (staged_tile s) (staged_own s) (all rest (λ k d below. each (suc k) d (omega arith)))
-      where
-        by : (o : Option TileLocation) → IfSome o (λ t. t.corner ≡ s.corner) → AllOther c (staged_tiles rest) → AllOther c (cons_option o (staged_tiles rest))
-        by None is later = later
-        by (Some t) is later = (subst (λ (d : Corner). same_corner d c ≡ false) (sym is) (each 0 s (omega arith)), later)
+room_other c at entries room =
+    staged_all (λ d. same_corner d c ≡ false) (λ (l : List TileEntry). (k : ℕ) (d : TileEntry) → k < length l → same_corner (get_or l k d).corner c ≡ false)
+    (λ s rest each. (each 0 s (omega arith), λ k d below. each (suc k) d (omega arith))) entries (λ k d below. elim (cases_lt k at) [
+      | inl early ↦ before_not_same (get_or entries k d).corner c (room.before k d (omega arith) early)
+      | inr late ↦ after_not_same c (get_or entries k d).corner (room.after k d late below)
+    ])
 
 -- ---- where a plane lies
 pub lies_there : (plane : Plane) (t : TileLocation) (location : PlaneLocation) → Some location ≡ plane_of plane t → LiesAt plane t location
@@ -147,50 +140,6 @@ plane_staged format plane s sound = plane_in plane s.corner (staged_plane s.heig
     by Levels = refl
     by Labels = refl
 
--- ---- what the entry found answers
-module _ (format : Format) (entries : List TileEntry) (free : FreePages) (kept : IsKept format entries free) (c : Corner) (at : ℕ) (found : IsEntryAt c at entries) (s : TileEntry) (is : s ≡ get_or entries at s) (plane : Plane) where
-  abbrev before_at : List TileEntry
-  before_at = take at entries
-
-  abbrev after_at : List TileEntry
-  after_at = drop (suc at) entries
-
-  split_there : entries ≡ before_at ++ s ∷ after_at
-  split_there = split_of entries at s found.below is
-
-  corner_there : s.corner ≡ c
-  corner_there = ap (λ (x : TileEntry). x.corner) is ∙ found.here s
-
-  rising_split : Rising corner_of (before_at ++ s ∷ after_at)
-  rising_split = subst (λ (l : List TileEntry). Rising corner_of l) split_there (rising_from corner_of entries kept.in_order)
-
-  same_plane : option_and_then (plane_of plane) (staged_tile s) ≡ staged_plane (named_plane plane s)
-  same_plane = plane_staged format plane s (all_middle (IsSound format) before_at s after_at (subst (λ (l : List TileEntry). AllByRecursion (IsSound format) l) split_there kept.sound))
-
-  pub plane_found : (r : Option (Bor PlaneLocation)) → option_copied r ≡ staged_plane (named_plane plane s) → IfSome r (λ location. HasPlaneAt (staged_tiles entries) c plane location.now)
-  plane_found None same = tt
-  plane_found (Some location) same = by (staged_tile s) refl (same ∙ sym same_plane)
-    where
-      by : (o : Option TileLocation) → staged_tile s ≡ o → Some location.now ≡ option_and_then (plane_of plane) o → HasPlaneAt (staged_tiles entries) c plane location.now
-      by None had lies_at = cc
-      by (Some t) had lies_at = (
-        t,
-        (
-          subst (λ (l : List TileEntry). Contains (staged_tiles l) t) (sym split_there) (tile_here before_at s after_at rising_split t had),
-          (staged_corner before_at s after_at rising_split t had ∙ corner_there, lies_there plane t location.now lies_at),
-        ),
-      )
-
-  -- the corner's plane is the entry's
-  pub plane_at : (location : PlaneLocation) → HasPlaneAt (staged_tiles entries) c plane location → staged_plane (named_plane plane s) ≡ Some location
-  plane_at location (t, (there, (at_corner, lies_at))) =
-      let had : staged_tile s ≡ Some t = tile_is before_at s after_at rising_split t (subst (λ (l : List TileEntry). Contains (staged_tiles l) t) split_there there) (at_corner ∙ sym corner_there) in
-      sym same_plane ∙ (ap (option_and_then (plane_of plane)) had ∙ lies plane t location lies_at)
-
-  pub plane_none : (r : Option (Bor PlaneLocation)) → option_copied r ≡ staged_plane (named_plane plane s) → IfNone r (¬ HasPlane (staged_tiles entries) c plane)
-  plane_none (Some location) same = tt
-  plane_none None same = λ (t, (there, (at_corner, (location, lies_at)))). (let no : None ≡ Some location = same ∙ plane_at location (t, (there, (at_corner, lies_at))) in cc)
-
 -- a plane is found where the corner has one, and heights where it has a tile
 pub held_plane : (c : Corner) (plane : Plane) (tiles : List TileLocation) (r : Option (Bor PlaneLocation)) → IfSome r (λ location. HasPlaneAt tiles c plane location.now) → IfNone r (¬ HasPlane tiles c plane) → IsSome r ↔ HasPlane tiles c plane
 held_plane c plane tiles None found none = ((λ some. absurd (false≢true some)), (λ held. absurd (none held)))
@@ -200,6 +149,3 @@ pub located_plane : (c : Corner) (tiles : List TileLocation) (r : Option (Bor Pl
 located_plane c tiles r found none =
     let held = held_plane c Heights tiles r found none in
     ((λ some. let (t, (there, (at_corner, lies_at))) = held.0 some in located-from_tile c tiles t there at_corner), (λ located. held.1 (tile_at_corner c tiles located)))
-
-pub none_located : (c : Corner) (at : ℕ) (entries : List TileEntry) → IsRoomAt c at entries → IsLocated c (staged_tiles entries) → ⊥
-none_located c at entries room located = not_located c (staged_tiles entries) (room_other c at entries room) located

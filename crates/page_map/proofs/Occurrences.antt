@@ -1,14 +1,11 @@
 -- How often a page stands among others.
-use Rattle.std.proofs.Common.{◌≡◌, ◌≢◌, ⊎_elim, ℕ, zero, suc, ◌+◌, ◌<◌, ◌≤◌, List, [], ◌∷◌, ◌++◌, All, Contains, length, get_or, refl, sym, arith}
+use Rattle.std.proofs.Common.{◌≡◌, ◌≢◌, ⊎_elim, ℕ, zero, suc, ◌+◌, ◌<◌, ◌≤◌, List, [], ◌∷◌, All, length, get_or, refl, sym, arith}
 use Rattle.std.specs.List.{slice_set}
 use Rattle.std.proofs.lemmas.Bool.{cases_lt}
 use Rattle.std.proofs.lemmas.Bool.Decides.{nat_tests}
-use Rattle.std.proofs.lemmas.List.Elements.{All-nil, All-cons, Contains-get_or}
+use Rattle.std.proofs.lemmas.List.Elements.{All-nil, All-cons}
 use Rattle.page_map.specs.Locations.{times}
-
-pub times-append : (p : ℕ) (xs ys : List ℕ) → times p (xs ++ ys) ≡ times p xs + times p ys
-times-append p [] ys = omega arith
-times-append p (x ∷ xs) ys = let rest = times-append p xs ys in omega (arith, rest)
+use Rattle.page_map.proofs.Times.{has_at, times-append}
 
 pub times_here : (p x : ℕ) (xs : List ℕ) → p ≡ x → times p (x ∷ xs) ≡ 1 + times p xs
 times_here p x xs e = grind (arith, nat_tests)
@@ -27,12 +24,6 @@ pub absent : (p : ℕ) (xs : List ℕ) → times p xs ≡ 0 → All (λ q. q ≢
 absent p [] none = All-nil (λ q. q ≢ p)
 absent p (x ∷ xs) none = All-cons (λ q. q ≢ p) x xs (apart_head p x xs none) (absent p xs (absent_tail p x xs none))
 
--- .. and one that does
-pub stands_there : (p : ℕ) (xs : List ℕ) → Contains xs p → 1 ≤ times p xs
-stands_there p [] has = absurd (omega (arith, has.1))
-stands_there p (x ∷ xs) (zero, lt, e) = let here = times_here p x xs (sym e) in omega (arith, here)
-stands_there p (x ∷ xs) (suc k, lt, e) = let rest = stands_there p xs (k, omega arith, e) in omega (arith, rest)
-
 -- a page that was put among others
 pub set_there : (p : ℕ) (xs : List ℕ) (i : ℕ) → i < length xs → 1 ≤ times p (slice_set xs i p)
 set_there p [] i lt = absurd (omega arith)
@@ -45,7 +36,7 @@ twice [] k j lt within same = absurd (omega arith)
 twice (x ∷ xs) k zero lt within same = absurd (omega arith)
 twice (x ∷ xs) zero (suc j) lt within same =
     let here = times_here (get_or xs j 0) x xs (sym same) in
-    let there = stands_there (get_or xs j 0) xs (Contains-get_or xs j 0 (omega arith)) in
+    let there = has_at xs j 0 (omega arith) in
     omega (arith, here, there)
 twice (x ∷ xs) (suc k) (suc j) lt within same =
     let rest = twice xs k j (omega arith) (omega arith) same in

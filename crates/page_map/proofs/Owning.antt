@@ -7,7 +7,7 @@ use Rattle.std.proofs.lemmas.List.{length-set, set_past, set-append_left, set-ap
 use Rattle.page_map.specs.FreePages.{FreePages}
 use Rattle.page_map.specs.Locations.{PlaneLocation, pages_behind, IsMovedBehind, times}
 use Rattle.page_map.specs.FreePages.{free_times, differing, AreTaken, IsOwned, IsOwnedPage}
-use Rattle.page_map.proofs.Times.{one, one-self, differing-has, differing-set, length-differing-set, times-has}
+use Rattle.page_map.proofs.Times.{one, one-self, differing-has, differing-set, length-differing-set, has_at}
 
 pub owned_already : (committed pages : List ℕ) (i : ℕ) (free : FreePages) → i < length pages → (i < length committed → get_or pages i 0 ≢ get_or committed i 0)
     → IsOwned committed (get_or pages i 0) pages pages free free
@@ -18,7 +18,7 @@ pub not_committed : (committed : List ℕ) (i page : ℕ) (was now : FreePages) 
     → page ≢ get_or committed i 0
 not_committed committed i page was now within apart taken e =
     let free : one page page + 0 + free_times now page ≡ free_times was page = taken.each page in
-    let has : 1 ≤ times (get_or committed i 0) committed = times-has committed i within in
+    let has : 1 ≤ times (get_or committed i 0) committed = has_at committed i 0 within in
     let has_page : 1 ≤ times page committed = rw e has in
     omega (arith, apart page, free, one-self page)
 

@@ -4,7 +4,7 @@ use Rattle.std.specs.Prelude.{IsTrue, Option, Some, None, IfSome, All, Contains}
 use Rattle.std.specs.List.{filter_map, flat_map, cons_option, AllByRecursion}
 use Rattle.std.proofs.lemmas.List.{append_assoc}
 use Rattle.std.proofs.lemmas.List.Elements.{filter_map-append, All-nil, All-cons, Contains-append_right}
-use Rattle.lattice.specs.Corners.{Corner, is_corner}
+use Rattle.lattice.specs.Corners.{is_corner}
 use Rattle.lattice.proofs.Rising.{Rising, rising_from, adjacent_from}
 use Rattle.page_codec.specs.Formats.{Format}
 use Rattle.page_map.specs.declared.tile_entry.TileEntry.{TileEntry}
@@ -17,7 +17,7 @@ use Rattle.page_map.specs.TileEntries.{committed_tile, committed_tiles, fresh_pa
 use Rattle.page_map.proofs.Times.{times-append, times_of_member, all_numbers}
 use Rattle.page_map.proofs.FreeTimes.{page_at, page_le}
 use Rattle.page_map.proofs.PlaneChanges.{staged_le}
-use Rattle.page_map.proofs.EntryLists.{committed_own, corner_of, counted_tiles, pages_of_location, reached_all, rising_tiles, staged_own, tile_times, tile_whole, used_parts}
+use Rattle.page_map.proofs.EntryLists.{committed_own, corner_of, counted_tiles, pages_of_location, reached_all, rising_tiles, staged_own, tile_own, tile_times, tile_whole, used_parts}
 
 -- ---- the page rule
 pub page_rule : (range : PageRange) (tiles : List TileLocation) → ((p : ℕ) → times p (reached tiles) ≤ page_times range p) → KeepsPageRule range.sectors tiles
@@ -79,10 +79,6 @@ contains_at tile_of before s after =
     by None = tt
     by (Some t) = Contains-append_right (filter_map tile_of before) (t ∷ filter_map tile_of after) t (0, omega arith, refl)
 
-own_corner : (s : TileEntry) (o : Option TileLocation) → IfSome o (λ t. t.corner ≡ s.corner) → IsTrue (is_corner s.corner) → IfSome o (λ t. IsTrue (is_corner t.corner))
-own_corner s None own degrees = tt
-own_corner s (Some t) own degrees = subst (λ (d : Corner). IsTrue (is_corner d)) (sym own) degrees
-
 -- ---- a page_map
 pub mapped : (format : Format) (entries : List TileEntry) (free : FreePages) → IsKept format entries free → IsPageMap (page_map_of format entries free)
 mapped format entries free is =
@@ -90,14 +86,14 @@ mapped format entries free is =
     record {
       size = omega (arith, is.window.enough, is.window.within);
       committed = record {
-        corners = all_tiles (λ t. IsTrue (is_corner t.corner)) (IsSound format) committed_tile (λ s sound. own_corner s (committed_tile s) (committed_own s) sound.corner) entries is.sound;
+        corners = all_tiles (λ t. IsTrue (is_corner t.corner)) (IsSound format) committed_tile (λ s sound. tile_own (λ d. IsTrue (is_corner d)) s.corner s.heights.committed s.levels.committed s.labels.committed sound.corner) entries is.sound;
         in_order = adjacent_from (λ (t : TileLocation). t.corner) (committed_tiles entries) (rising_tiles committed_tile committed_own entries rising);
         room = is.committed_room;
         whole = all_tiles (IsWholeTile format) (IsSound format) committed_tile (λ s sound. tile_whole format s.corner s.heights.committed s.levels.committed s.labels.committed sound.heights.committed sound.levels.committed sound.labels.committed) entries is.sound;
         page_rule = page_rule free.range (committed_tiles entries) (committed_few format entries free is);
       };
       staged = record {
-        corners = all_tiles (λ t. IsTrue (is_corner t.corner)) (IsSound format) staged_tile (λ s sound. own_corner s (staged_tile s) (staged_own s) sound.corner) entries is.sound;
+        corners = all_tiles (λ t. IsTrue (is_corner t.corner)) (IsSound format) staged_tile (λ s sound. tile_own (λ d. IsTrue (is_corner d)) s.corner (staged_plane s.heights) (staged_plane s.levels) (staged_plane s.labels) sound.corner) entries is.sound;
         in_order = adjacent_from (λ (t : TileLocation). t.corner) (staged_tiles entries) (rising_tiles staged_tile staged_own entries rising);
         room = is.staged_room;
         whole = all_tiles (IsWholeTile format) (IsSound format) staged_tile (λ s sound. tile_whole format s.corner (staged_plane s.heights) (staged_plane s.levels) (staged_plane s.labels) sound.heights.staged sound.levels.staged sound.labels.staged) entries is.sound;

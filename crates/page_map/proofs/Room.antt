@@ -1,15 +1,16 @@
 -- A free page is always left: the committed tiles and the fresh pages take fewer than the disk has.
-use Rattle.std.proofs.Common.{◌≡◌, ◌≢◌, ℕ, zero, suc, ◌+◌, ◌-◌, ◌*◌, ◌<◌, ◌≤◌, true, cond, inl, inr, List, [], ◌∷◌, ◌++◌, length, refl, sym, ap, subst, ◌∙◌, arith}
+use Rattle.std.proofs.Common.{◌≡◌, ◌≢◌, ℕ, zero, suc, ◌+◌, ◌-◌, ◌*◌, ◌<◌, ◌≤◌, cond, inl, inr, List, [], ◌∷◌, ◌++◌, length, refl, sym, ap, subst, ◌∙◌, arith}
 use Rattle.std.proofs.Math.Nat.{mul-add, mul-le-mul_left, mul_comm, mul_assoc, mul_left_comm}
 use Rattle.std.specs.Prelude.{Option, Some, None, IsSome, IfSome, is_some, not, ◌&&◌}
 use Rattle.std.specs.List.{filter_map, flat_map, cons_option, AllByRecursion}
 use Rattle.std.specs.Ordering.{nat_cmp}
-use Rattle.std.specs.FinSet.{FinSet, empty, contains, remove, len, empty_of_len, contains-empty}
-use Rattle.std.proofs.lemmas.Bool.{false≢true, cases_eq, cases_Bool, cases_lt, ne_eqb}
+use Rattle.std.specs.FinSet.{FinSet, contains, remove, len}
+use Rattle.std.proofs.lemmas.Bool.{false≢true, cases_eq, cases_Bool, ne_eqb}
 use Rattle.std.proofs.lemmas.List.{length-append}
 use Rattle.page_codec.specs.Sizes.{pages_of, index_pages_by, index_pages_of, plane_pages_of, sectors_asked}
 use Rattle.page_codec.specs.Formats.{Format, upgraded}
 use Rattle.page_codec.specs.declared.version.Version.TheVariants.{One}
+use Rattle.page_alloc.proofs.PageLemmas.{contains-without, len-without, some_member}
 use Rattle.page_map.specs.declared.locations.KeptLocations.{KeptLocations}
 use Rattle.page_map.specs.declared.plane_entry.PlaneEntry.{PlaneEntry}
 use Rattle.page_map.specs.declared.plane_entry.Staged.{Staged}
@@ -22,7 +23,7 @@ use Rattle.page_map.specs.TileLocations.{TileLocation, pages_of_tile, pages_of_k
 use Rattle.page_map.specs.PageMaps.{IsWholeTile, AreWholeKept}
 use Rattle.page_map.specs.TileEntries.{committed_tile, committed_tiles, fresh_kept, fresh_pages, staged_tile, staged_tiles, tile_of, IsKept, IsSound, IsSoundPlane}
 use Rattle.page_map.proofs.Times.{one, one-other, times-append, length-differing}
-use Rattle.page_map.proofs.FreeTimes.{contains-without, free_near, len-without, page_one}
+use Rattle.page_map.proofs.FreeTimes.{free_near, page_one}
 use Rattle.page_map.proofs.EntryLists.{counted_tiles, pages_of_location, reached_all, tile_whole}
 
 abbrev fresh_heights : TileEntry → List ℕ
@@ -39,15 +40,6 @@ left_out q (x ∷ xs) some = elim (cases_eq q x) [
       let rest = left_out q xs (omega arith) in
       (x ∷ rest.0, (ap suc rest.1.0, λ p other. ap (λ n. one p x + n) (rest.1.1 p other)))
 ]
-
-some_member : (s : FinSet nat_cmp) (q : ℕ) → contains s q ≡ true → 0 < len s
-some_member s q member =
-    elim (cases_lt 0 (len s)) [
-      | inl some ↦ some
-      | inr none ↦
-          let is_empty : s ≡ empty = empty_of_len s (omega arith) in
-          absurd (false≢true (sym (ap (λ t. contains t q) is_empty ∙ contains-empty nat_cmp q) ∙ member))
-    ]
 
 abbrev in_set : FinSet nat_cmp → ℕ → ℕ
 in_set s p = cond (contains s p) 1 0
@@ -155,28 +147,31 @@ fresh_lengths (s ∷ rest) =
     let kept = length-append (fresh_kept s) (flat_map fresh_kept rest) in
     omega arith
 
-left_over : (total used left m c nc lc lf : ℕ) → 4 + (4 * c + 2) * m ≤ total → total - 4 ≤ used + left → used ≡ lc + lf → lc ≤ 3 * m * nc → m * nc ≤ m * c → m * c + 2 * m ≤ lf + left
-left_over total used left m c nc lc lf size all joined committed committed_most =
+left_over : (total left m c nc lc lf : ℕ) → 4 + (4 * c + 2) * m ≤ total → total - 4 ≤ lc + lf + left → lc ≤ 3 * m * nc → m * nc ≤ m * c → m * c + 2 * m ≤ lf + left
+left_over total left m c nc lc lf size all committed committed_most =
     let needed : (4 * c + 2) * m ≡ 4 * (m * c) + m * 2 = mul_comm (4 * c + 2) m ∙ (mul-add m (4 * c) 2 ∙ ap (λ n. n + m * 2) (mul_left_comm m 4 c)) in
     let three : 3 * m * nc ≡ 3 * (m * nc) = mul_assoc 3 m nc in
     omega arith
 
 module _ (format : Format) (entries : List TileEntry) (free : FreePages) (is : IsKept format entries free) where
-  -- what the committed tiles leave: a plane for each tile that there is room for, and two more
-  all_left : plane_pages_of format * format.capacity + 2 * plane_pages_of format ≤ length (flat_map fresh_pages entries) + len free.free
-  all_left =
+  -- all pages of the window are committed, fresh or free, and the committed tiles have few
+  pub all_used : free.range.window - 4 ≤ length (reached (committed_tiles entries)) + length (flat_map fresh_pages entries) + len free.free
+  all_used =
       let used = reached (committed_tiles entries) ++ flat_map fresh_pages entries in
-      let m = plane_pages_of format in
       let all : free.range.window - 4 ≤ length used + len free.free =
       pages_le (free.range.window - 4) used free.free (λ p low high. (
       let near = free_near free p (omega (arith, is.window.enough)) in
       let page : page_times free.range p ≡ 1 = page_one free.range p (low, omega (arith, is.window.enough, is.window.within)) in
       omega (arith, counted_tiles format entries free is p, near, page, times-append p (reached (committed_tiles entries)) (flat_map fresh_pages entries)))) in
-      let committed : length (reached (committed_tiles entries)) ≤ 3 * m * length (committed_tiles entries) =
-      rw (reached_all committed_tile entries) (pages_few (λ s. pages_of_location (committed_tile s)) committed_tile (3 * m) (IsSound format) (committed_few format) entries is.sound) in
-      let committed_most : m * length (committed_tiles entries) ≤ m * format.capacity = mul-le-mul_left m is.committed_room in
-      let joined = length-append (reached (committed_tiles entries)) (flat_map fresh_pages entries) in
-      left_over free.range.window (length used) (len free.free) m format.capacity (length (committed_tiles entries)) _ _ is.window.enough all joined committed committed_most
+      omega (arith, all, length-append (reached (committed_tiles entries)) (flat_map fresh_pages entries))
+
+  pub used_few : length (reached (committed_tiles entries)) ≤ 3 * plane_pages_of format * length (committed_tiles entries)
+  used_few = rw (reached_all committed_tile entries) (pages_few (λ s. pages_of_location (committed_tile s)) committed_tile (3 * plane_pages_of format) (IsSound format) (committed_few format) entries is.sound)
+
+  -- what the committed tiles leave: a plane for each tile that there is room for, and two more
+  all_left : plane_pages_of format * format.capacity + 2 * plane_pages_of format ≤ length (flat_map fresh_pages entries) + len free.free
+  all_left =
+      left_over free.range.window (len free.free) (plane_pages_of format) format.capacity (length (committed_tiles entries)) _ _ is.window.enough all_used used_few (mul-le-mul_left (plane_pages_of format) is.committed_room)
 
   -- where no page is fresh there are two planes
   pub room_to_keep : flat_map fresh_pages entries ≡ [] → 2 * plane_pages_of format ≤ len free.free
@@ -224,18 +219,10 @@ upgraded_over total used left c n i p size all committed most some_index some_pa
 pub room_to_upgrade : (format : Format) (entries : List TileEntry) (free : FreePages) → IsKept format entries free → flat_map fresh_pages entries ≡ [] → format.version ≡ One → 3 ≤ format.side → sectors_asked (upgraded format) ≤ free.range.sectors
     → 3 * (1 + index_pages_of (upgraded format)) * length (committed_tiles entries) ≤ len free.free
 room_to_upgrade format entries free is none first side size =
-    let used = reached (committed_tiles entries) in
     let none_index : index_pages_of format ≡ 0 = ap (λ v. index_pages_by v (pages_of format.side)) first in
-    let all : free.range.window - 4 ≤ length used + len free.free =
-    pages_le (free.range.window - 4) used free.free (λ p low high. (
-    let near = free_near free p (omega (arith, is.window.enough)) in
-    let page : page_times free.range p ≡ 1 = page_one free.range p (low, omega (arith, is.window.enough, is.window.within)) in
-    let nothing = ap (times p) none in
-    omega (arith, counted_tiles format entries free is p, near, page, nothing))) in
-    let committed : length used ≤ 3 * plane_pages_of format * length (committed_tiles entries) =
-    rw (reached_all committed_tile entries) (pages_few (λ s. pages_of_location (committed_tile s)) committed_tile (3 * plane_pages_of format) (IsSound format) (committed_few format) entries is.sound) in
+    let nothing : length (flat_map fresh_pages entries) ≡ 0 = ap length none in
     let square : format.side * 3 ≤ format.side * format.side = mul-le-mul_left format.side side in
     let some_page : 1 ≤ pages_of format.side = omega (arith, square, side) in
     let some_index : 1 ≤ index_pages_of (upgraded format) = omega (arith, some_page) in
-    upgraded_over free.range.window (length used) (len free.free) format.capacity (length (committed_tiles entries)) (index_pages_of (upgraded format)) (pages_of format.side) (is.window.upgrade size) all
-    (subst (λ i. length used ≤ 3 * (1 + i + pages_of format.side) * length (committed_tiles entries)) none_index committed) is.committed_room some_index some_page
+    upgraded_over free.range.window (length (reached (committed_tiles entries))) (len free.free) format.capacity (length (committed_tiles entries)) (index_pages_of (upgraded format)) (pages_of format.side) (is.window.upgrade size) (omega (arith, all_used format entries free is, nothing))
+    (subst (λ i. length (reached (committed_tiles entries)) ≤ 3 * (1 + i + pages_of format.side) * length (committed_tiles entries)) none_index (used_few format entries free is)) is.committed_room some_index some_page

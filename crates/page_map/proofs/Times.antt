@@ -152,11 +152,6 @@ differing_more p (x ∷ xs) [] (suc i) below apart = by (drop-nil i) (differing_
 differing_more p (x ∷ xs) (y ∷ ys) zero below apart = rw (ne_eqb x y (apart (omega arith))) refl
 differing_more p (x ∷ xs) (y ∷ ys) (suc i) below apart = differing_more p xs ys i (omega arith) (λ within. apart (omega arith))
 
-pub times-has : (xs : List ℕ) (i : ℕ) → i < length xs → 1 ≤ times (get_or xs i 0) xs
-times-has [] i below = absurd (omega arith)
-times-has (x ∷ xs) zero below = omega (arith, one-self x)
-times-has (x ∷ xs) (suc i) below = let rest = times-has xs i (omega arith) in omega arith
-
 -- ---- numbers in lists
 pub has_at : (xs : List ℕ) (i d : ℕ) → i < length xs → 1 ≤ times (get_or xs i d) xs
 has_at [] i d below = absurd (omega arith)

@@ -4,9 +4,9 @@ use Rattle.std.specs.Prelude.{Option, Some, None, IfSome, All}
 use Rattle.std.specs.List.{flat_map, cons_option, AllByRecursion}
 use Rattle.std.proofs.Math.Nat.{mul-add, mul-le-mul_left}
 use Rattle.std.specs.FinSet.{len}
-use Rattle.std.proofs.lemmas.List.{length-append, length-map, map-append, take_more, append-nil}
-use Rattle.std.proofs.lemmas.List.Elements.{All-nil, All-cons, All-head, All-tail, filter_map-append}
-use Rattle.lattice.specs.Corners.{Corner}
+use Rattle.std.proofs.lemmas.List.{append-nil, get_or-map, length-append, length-map, map-append, nil_from_length, take_more}
+use Rattle.std.proofs.lemmas.List.Elements.{All-map, filter_map-append}
+use Rattle.std.proofs.lemmas.Grind.{flat_map-append}
 use Rattle.lattice.specs.Lattice.{IsBefore}
 use Rattle.lattice.proofs.Rising.{Rising, rising_from}
 use Rattle.page_map.specs.FreePages.{FreePages}
@@ -22,7 +22,7 @@ use Rattle.page_map.specs.TileEntries.{committed_tile, committed_tiles, staged_t
 use Rattle.page_map.specs.Upgraded.{KeptData, TileData, HaveAllPages, KeptHaveAllPages, data_of, data_of_kept, listing_of_kept, listing_of_tile, listings}
 use Rattle.page_map.proofs.Times.{times-append, all_numbers, times_of_member}
 use Rattle.page_map.proofs.FreeTimes.{page_at, page_le}
-use Rattle.page_map.proofs.EntryLists.{corner_of, counted_tiles, rising_before, tile_whole}
+use Rattle.page_map.proofs.EntryLists.{corner_of, counted_tiles, rising_before, tile_own, tile_whole}
 use Rattle.page_map.proofs.EntryChanges.{all_middle}
 use Rattle.page_map.proofs.PageMapRules.{page_rule, all_tiles}
 use Rattle.page_map.proofs.Clean.{none_fresh}
@@ -72,36 +72,16 @@ tiles_split p (t ∷ rest) =
     omega (arith, all, lists, pages, here, later)
 
 listings-append : (p : ℕ) (xs ys : List TileLocation) → times p (listings (xs ++ ys)) ≡ times p (listings xs) + times p (listings ys)
-listings-append p [] ys = omega arith
-listings-append p (x ∷ xs) ys =
-    let all = times-append p (listing_of_tile x) (listings (xs ++ ys)) in
-    let first = times-append p (listing_of_tile x) (listings xs) in
-    let later = listings-append p xs ys in
-    omega (arith, all, first, later)
+listings-append p xs ys = ap (times p) (flat_map-append listing_of_tile xs ys) ∙ times-append p (listings xs) (listings ys)
 
 data-append : (p : ℕ) (xs ys : List TileLocation) → times p (all_data (map data_of (xs ++ ys))) ≡ times p (all_data (map data_of xs)) + times p (all_data (map data_of ys))
-data-append p [] ys = omega arith
-data-append p (x ∷ xs) ys =
-    let all = times-append p (data_pages (data_of x)) (all_data (map data_of (xs ++ ys))) in
-    let first = times-append p (data_pages (data_of x)) (all_data (map data_of xs)) in
-    let later = data-append p xs ys in
-    omega (arith, all, first, later)
+data-append p xs ys =
+    ap (λ (ds : List TileData). times p (all_data ds)) (map-append data_of xs ys) ∙ ap (times p) (flat_map-append data_pages (map data_of xs) (map data_of ys))
+    ∙ times-append p (all_data (map data_of xs)) (all_data (map data_of ys))
 
 -- ---- corners
-data_before : (c : Corner) (ds : List TileData) (tiles : List TileLocation) → map data_of tiles ≡ ds → All (λ d. IsBefore d.corner c) ds → All (λ t. IsBefore t.corner c) tiles
-data_before c ds tiles same all = unmapped tiles (subst (All (λ (d : TileData). IsBefore d.corner c)) (sym same) all)
-  where
-    unmapped : (xs : List TileLocation) → All (λ (d : TileData). IsBefore d.corner c) (map data_of xs) → All (λ (t : TileLocation). IsBefore t.corner c) xs
-    unmapped [] all = All-nil (λ (t : TileLocation). IsBefore t.corner c)
-    unmapped (x ∷ xs) all = All-cons (λ (t : TileLocation). IsBefore t.corner c) x xs (All-head (λ (d : TileData). IsBefore d.corner c) (data_of x) (map data_of xs) all) (unmapped xs (All-tail (λ (d : TileData). IsBefore d.corner c) (data_of x) (map data_of xs) all))
-
-data_all : (c : Corner) (tiles : List TileLocation) → All (λ t. IsBefore t.corner c) tiles → All (λ d. IsBefore d.corner c) (map data_of tiles)
-data_all c [] all = All-nil (λ (d : TileData). IsBefore d.corner c)
-data_all c (t ∷ rest) all = All-cons (λ (d : TileData). IsBefore d.corner c) (data_of t) (map data_of rest) (All-head (λ (u : TileLocation). IsBefore u.corner c) t rest all) (data_all c rest (All-tail (λ (u : TileLocation). IsBefore u.corner c) t rest all))
-
-tile_before : (c d : Corner) (h l m : Option PlaneLocation) → IsBefore d c → IfSome (tile_of d h l m) (λ t. IsBefore t.corner c)
-tile_before c d None l m before = tt
-tile_before c d (Some h) l m before = before
+all_unmapped : (P : TileData → Type 0) (tiles : List TileLocation) → All P (map data_of tiles) → All (λ t. P (data_of t)) tiles
+all_unmapped P tiles all k d lt = subst P (get_or-map data_of tiles k d (data_of d) lt) (all k (data_of d) (omega (arith, lt, length-map tiles data_of)))
 
 all_pages_of_kept : (format : Format) (kept : Option KeptLocations) → IfSome kept (AreWholeKept format) → IfSome kept (KeptHaveAllPages format.side)
 all_pages_of_kept format None whole = tt
@@ -186,9 +166,11 @@ module _ (format : Format) (entries : List TileEntry) (free : FreePages) (kept :
         pub all_before : All (λ t. IsBefore t.corner s.corner) made
         all_before =
             let rising : Rising corner_of (take k entries ++ s ∷ drop (suc k) entries) = subst (Rising corner_of) joined (rising_from corner_of entries kept.in_order) in
-            data_before s.corner (map data_of so_far) made same
-            (data_all s.corner so_far (all_tiles (λ t. IsBefore t.corner s.corner) (λ x. IsBefore x.corner s.corner) committed_tile (λ x before. tile_before s.corner x.corner x.heights.committed x.levels.committed x.labels.committed before) (take k entries)
-            (rising_before (take k entries) s (drop (suc k) entries) rising)))
+            let before : TileData → Type 0 = λ d. IsBefore d.corner s.corner in
+            all_unmapped before made
+            (subst (All before) (sym same)
+            (All-map before data_of so_far (all_tiles (λ t. IsBefore t.corner s.corner) (λ x. IsBefore x.corner s.corner) committed_tile (λ x is. tile_own (λ d. IsBefore d s.corner) x.corner x.heights.committed x.levels.committed x.labels.committed is) (take k entries)
+            (rising_before (take k entries) s (drop (suc k) entries) rising))))
 
         module _ (new : TilePlanes) (alike : data_of (tile_at s.corner new) ≡ data_of (tile_at s.corner planes)) where
           abbrev tile : TileLocation
@@ -218,10 +200,6 @@ module _ (format : Format) (entries : List TileEntry) (free : FreePages) (kept :
                 omega (arith, split, pages, first, old, old_pages, parts, rest, taken_more.each p, counted_tiles format entries free kept p))
 
 -- ---- one plane
-nothing : (xs : List ℕ) → length xs ≡ 0 → xs ≡ []
-nothing [] none = refl
-nothing (x ∷ xs) none = absurd (omega (arith, none))
-
 -- a plane of index pages alone, with pages behind it
 module _ (listing new : PlaneLocation) (pages : List ℕ) (empty : length listing.pages ≡ 0) (more : new ≡ record listing { pages = listing.pages ++ pages }) where
   pub listing_taken : (old now : FreePages) → AreTaken (pages_of_plane listing) old now → AreTaken (listing_of new) old now
@@ -229,11 +207,11 @@ module _ (listing new : PlaneLocation) (pages : List ℕ) (empty : length listin
       rw more
       (record {
         same_range = taken.same_range;
-        each = λ p. (let none = ap (times p) (nothing listing.pages empty) in omega (arith, taken.each p, plane_split p listing, none));
+        each = λ p. (let none = ap (times p) (nil_from_length listing.pages empty) in omega (arith, taken.each p, plane_split p listing, none));
       })
 
   pub pages_behind_listing : new.pages ≡ pages
-  pages_behind_listing = ap (λ (l : PlaneLocation). l.pages) more ∙ ap (λ (l : List ℕ). l ++ pages) (nothing listing.pages empty)
+  pages_behind_listing = ap (λ (l : PlaneLocation). l.pages) more ∙ ap (λ (l : List ℕ). l ++ pages) (nil_from_length listing.pages empty)
 
   pub index_behind_listing : new.index_pages ≡ listing.index_pages
   index_behind_listing = ap (λ (l : PlaneLocation). l.index_pages) more

@@ -32,14 +32,6 @@ corners_of_locations tiles = map (λ t. t.corner) tiles
 abbrev pub IsLocated : Corner → List TileLocation → Type 0
 IsLocated c tiles = Contains (corners_of_locations tiles) c
 
--- the corner's tile has its heights there
-abbrev pub HasHeights : Corner → PlaneLocation → List TileLocation → Type 0
-HasHeights c location tiles = (t : TileLocation) × (Contains tiles t × (t.corner ≡ c) × (t.heights ≡ location))
-
--- the corner's tile has these planes kept there
-abbrev pub HasKept : Corner → KeptLocations → List TileLocation → Type 0
-HasKept c kept tiles = (t : TileLocation) × (Contains tiles t × (t.corner ≡ c) × (t.kept ≡ Some kept))
-
 pub record AreWholeKept (format : Format) (k : KeptLocations) : Type 0 where
   pub levels : IsWholePlane format k.levels
   pub labels : IsWholePlane format k.labels

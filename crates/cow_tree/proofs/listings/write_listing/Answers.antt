@@ -1,5 +1,5 @@
 use Rattle.std.proofs.Common.{◌≡◌, ◌<◌, ◌≤◌, ℕ, List, Result, Ok, Err, length, sym, ap, ◌∙◌, subst, arith}
-use Rattle.std.proofs.lemmas.Result.{err_from_is_err_and}
+use Rattle.page_map.proofs.Refused.{ended_with}
 use Rattle.lattice.specs.declared.refusal.Refusal.{Refusal}
 use Rattle.page_codec.specs.Formats.{Format}
 use Rattle.page_map.specs.Locations.{listing_of}
@@ -53,8 +53,7 @@ returns-in_err-write g c t among at_corner =
     let before = written_before c.args.which page_map in
     let why : Refusal = c.in_err-write.field-0.0 in
     let refused = c.in_err-write.ensures in
-    let p = err_from_is_err_and c.from_residual.result c.from_residual.ensures.1 in
-    let ended : c.from_residual.result ≡ Err why = p.1 ∙ ap (λ (r : Refusal). Err r) p.2 in
+    let ended : c.from_residual.result ≡ Err why = ended_with c.from_residual.result why c.from_residual.ensures.1 in
     let wrote = one_written d c.loop-i.roots c.write.new.self c.in-Some-page_due.page (Err why) refused.size refused.cause refused.refused refused.writes refused.begun refused.honest refused.root refused.not_failed refused.failed refused.ready refused.others refused.any_moment in
     subst (λ (l : List ListingPage). WritesListing d (due_among before l) c.args.roots.now c.write.new.self c.from_residual.result)
     (sym (plane_is page_map c.rules.ensures c.args.corner c.args.name plane c.in-Some.ensures.found t among at_corner))

@@ -1,6 +1,6 @@
 use Rattle.std.proofs.Common.{◌≡◌, ◌<◌, List, Contains, get_or, length, Result, Ok, Err, sym, ap, ◌∙◌, subst, arith}
 use Rattle.std.proofs.lemmas.List.{length-map}
-use Rattle.std.proofs.lemmas.Result.{err_from_is_err_and}
+use Rattle.page_map.proofs.Refused.{ended_with}
 use Rattle.lattice.specs.Corners.{Corner}
 use Rattle.lattice.specs.declared.refusal.Refusal.{Refusal}
 use Rattle.page_map.specs.PageMaps.{corners_of_locations}
@@ -41,8 +41,7 @@ returns-in_err-write_tile g c =
     let before = written_before c.args.which page_map in
     let t = next g at in
     let why : Refusal = c.in_err-write_tile.field-0.0 in
-    let p = err_from_is_err_and c.from_residual.result c.from_residual.ensures.1 in
-    let ended : c.from_residual.result ≡ Err why = p.1 ∙ ap (λ (r : Refusal). Err r) p.2 in
+    let ended : c.from_residual.result ≡ Err why = ended_with c.from_residual.result why c.from_residual.ensures.1 in
     subst (λ (r : Result (Unit {0}) Refusal). WritesListing g.D.Disk (due_among before (tiles_listing page_map.format page_map.staged)) c.args.roots.now c.write_tile.new.roots r) (sym ended)
     (one_refused g.D.Disk page_map c.rules.ensures before c.loop-corner.corner-index t.0 t.1.0 t.1.1.0 c.args.roots.now c.loop-corner.roots c.write_tile.new.roots why c.loop-corner.invariant
     (c.in_err-write_tile.ensures t.0 (among g at) t.1.1.1))

@@ -1,5 +1,5 @@
-use Rattle.std.proofs.Common.{◌≡◌, Result, Err, sym, ap, ◌∙◌, subst}
-use Rattle.std.proofs.lemmas.Result.{err_from_is_err_and}
+use Rattle.std.proofs.Common.{◌≡◌, Result, Err, sym, ◌∙◌, subst}
+use Rattle.page_map.proofs.Refused.{ended_with}
 use Rattle.lattice.specs.declared.refusal.Refusal.{Refusal}
 use Rattle.cow_tree.specs.Listings.{WritesListing, due_among, tile_listing, written_before}
 use Rattle.cow_tree.proofs.Due.{located_tile}
@@ -30,8 +30,7 @@ pub returns-in_err-write_listing : goal.returns-in_err-write_listing
 returns-in_err-write_listing g c t among at =
     let page_map = c.args.page_map.now in
     let why : Refusal = c.in_err-write_listing.field-0.0 in
-    let p = err_from_is_err_and c.from_residual.result c.from_residual.ensures.1 in
-    let ended : c.from_residual.result ≡ Err why = p.1 ∙ ap (λ (r : Refusal). Err r) p.2 in
+    let ended : c.from_residual.result ≡ Err why = ended_with c.from_residual.result why c.from_residual.ensures.1 in
     subst (λ (r : Result (Unit {0}) Refusal). WritesListing g.D.Disk (due_among (written_before c.args.which page_map) (tile_listing page_map.format t)) c.args.roots.now c.write_listing.new.roots r) (sym ended)
     (first_refused g.D.Disk page_map c.rules.ensures (written_before c.args.which page_map) t among c.args.roots.now c.write_listing.new.roots why (c.in_err-write_listing.ensures t among at))
 
@@ -39,8 +38,7 @@ pub returns-in_err-write_listing-2 : goal.returns-in_err-write_listing-2
 returns-in_err-write_listing-2 g c t among at =
     let page_map = c.args.page_map.now in
     let why : Refusal = c.in_err-write_listing-2.field-0.0 in
-    let p = err_from_is_err_and c.from_residual-in_err-write_listing-2.result c.from_residual-in_err-write_listing-2.ensures.1 in
-    let ended : c.from_residual-in_err-write_listing-2.result ≡ Err why = p.1 ∙ ap (λ (r : Refusal). Err r) p.2 in
+    let ended : c.from_residual-in_err-write_listing-2.result ≡ Err why = ended_with c.from_residual-in_err-write_listing-2.result why c.from_residual-in_err-write_listing-2.ensures.1 in
     subst (λ (r : Result (Unit {0}) Refusal). WritesListing g.D.Disk (due_among (written_before c.args.which page_map) (tile_listing page_map.format t)) c.args.roots.now c.write_listing-2.new.roots r) (sym ended)
     (second_refused g.D.Disk page_map c.rules.ensures (written_before c.args.which page_map) t among c.args.roots.now c.write_listing.new.roots c.write_listing-2.new.roots why (c.in_ok-write_listing.ensures t among at) (c.in_err-write_listing-2.ensures t among at))
 

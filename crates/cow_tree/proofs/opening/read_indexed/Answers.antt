@@ -1,17 +1,14 @@
 use Rattle.std.proofs.Common.{◌≡◌, ◌+◌, ◌-◌, ◌/◌, ◌<◌, ◌++◌, ℕ, List, Ok, Err, length, take, drop, get_or, min, below_more, refl, sym, ap, ◌∙◌, subst, arith}
 use Rattle.std.proofs.Math.Seq.{take-append_seam}
 use Rattle.std.proofs.lemmas.List.{get_or_append_left, get_or_read}
-use Rattle.std.proofs.lemmas.Result.{err_from_is_err_and}
 use Rattle.disk.specs.Disk.{Image}
-use Rattle.lattice.specs.declared.refusal.Refusal.{Refusal}
-use Rattle.lattice.specs.declared.refusal.Refusal.TheVariants.{Device}
 use Rattle.page_codec.specs.Records.{IsRecord, part_of, record_bytes}
 use Rattle.page_codec.specs.Sizes.{pages_of, index_pages_by}
 use Rattle.page_map.specs.Locations.{PlaneLocation}
 use Rattle.cow_tree.specs.Found.{NoneListed, NoneIndexed}
 use Rattle.cow_tree.specs.OverRoots.{IsRefusedFor}
 use Rattle.cow_tree.proofs.Indexed.{AreReadTo, within as index_within, read_more, part_same, part_read, none_indexed}
-use Rattle.cow_tree.proofs.ReadOnly.{refused_for, handed_on, read_on, read_as, never_refused, works_ok, refused_again, read_well}
+use Rattle.cow_tree.proofs.ReadOnly.{refused_for, handed_on, read_on, works_ok, refused_again, read_well}
 use Rattle.cow_tree.proofs.opening.read_indexed.Goals as goal
 use Rattle.cow_tree.proofs.opening.read_indexed.Goals.{After-read_listed}
 
@@ -38,10 +35,8 @@ returns-in_err-listed-clause-refused g c honest =
     let here = c.loop-t.invariant in
     let old = c.args.roots.now.disk in
     let mid = c.loop-t.roots.disk in
-    let p = err_from_is_err_and c.from_residual.result c.from_residual.ensures.1 in
-    let ended : c.from_residual.result ≡ Err c.in_err-listed.field-0.0 = p.1 ∙ ap (λ (r : Refusal). Err r) p.2 in
     let reason : Type 0 = NoneIndexed c.args.format (d.size old) (d.seen old) c.args.index.items in
-    handed_on (IsRefusedFor reason) c.from_residual.result c.in_err-listed.field-0.0 ended (refused_for (NoneListed (d.size mid) (d.seen mid) c.index.result.now c.min-count.result) reason c.in_err-listed.field-0.0
+    handed_on (IsRefusedFor reason) c.from_residual.result c.in_err-listed.field-0.0 c.from_residual.ensures.1 (refused_for (NoneListed (d.size mid) (d.seen mid) c.index.result.now c.min-count.result) reason c.in_err-listed.field-0.0
     (λ none. none_indexed c.args.index.items (pages_of c.args.format.side) c.loop-t.t c.loop-t.left c.loop-t.behind.items here.read c.args.format (d.size old) (d.seen old) c.requires.second refl c.requires.count (within g at)
     (subst (λ (n : ℕ). NoneListed n (d.seen old) (get_or c.loop-t.behind.items c.loop-t.t 0) (min c.loop-t.left 1024)) here.reads.size
     (subst (λ (i : Image). NoneListed (d.size mid) i (get_or c.loop-t.behind.items c.loop-t.t 0) (min c.loop-t.left 1024)) (here.reads.seen (c.in_err-listed.ensures.reads.honest honest))
@@ -64,7 +59,7 @@ loop-t-preserved g c =
     c.in_ok-extend_from_slice.ensures.items ∙ ap (λ (l : List ℕ). c.loop-t.behind.items ++ l) c.as_slice.ensures.value in
     record {
       works = works;
-      reads = read_as d c.args.roots.now c.read_listed.new.roots (Ok listed) (Ok tt) (read_on d c.args.roots.now c.loop-t.roots c.read_listed.new.roots (Ok listed) here.reads here.works read) works (λ is. never_refused tt Device is);
+      reads = read_well d c.args.roots.now c.read_listed.new.roots listed tt (read_on d c.args.roots.now c.loop-t.roots c.read_listed.new.roots (Ok listed) here.reads here.works read);
       read = subst (λ (l : List ℕ). AreReadTo index count (c.loop-t.t + 1) (c.loop-t.left - c.min-count.result) l) (sym items_are)
           (subst (λ (n : ℕ). AreReadTo index count (c.loop-t.t + 1) (c.loop-t.left - n) (c.loop-t.behind.items ++ listed.items)) (sym c.min-count.ensures)
           (read_more index count c.loop-t.t c.loop-t.left c.loop-t.behind.items here.read (more g at) listed.items spelt));
@@ -94,9 +89,7 @@ returns-clause-indexed g c honest t lt =
 
 pub returns-in_err-listed-clause-reads : goal.returns-in_err-listed-clause-reads
 returns-in_err-listed-clause-reads g c =
-    let p = err_from_is_err_and c.from_residual.result c.from_residual.ensures.1 in
-    let ended : c.from_residual.result ≡ Err c.in_err-listed.field-0.0 = p.1 ∙ ap (λ (r : Refusal). Err r) p.2 in
-    refused_again g.D.Disk c.args.roots.now c.read_listed.new.roots c.in_err-listed.field-0.0 c.from_residual.result ended
+    refused_again g.D.Disk c.args.roots.now c.read_listed.new.roots c.in_err-listed.field-0.0 c.from_residual.result c.from_residual.ensures.1
     (read_on g.D.Disk c.args.roots.now c.loop-t.roots c.read_listed.new.roots (Err c.in_err-listed.field-0.0) c.loop-t.invariant.reads c.loop-t.invariant.works c.in_err-listed.ensures.reads)
 
 pub returns-clause-reads : goal.returns-clause-reads

@@ -1,6 +1,5 @@
 use Rattle.std.proofs.Common.{◌≡◌, inl, inr, Err, refl, ap, sym, ◌∙◌}
 use Rattle.std.proofs.lemmas.Bool.{false≢true}
-use Rattle.std.proofs.lemmas.Result.{err_from_is_err_and}
 use Rattle.lattice.specs.declared.refusal.Refusal.{Refusal}
 use Rattle.cow_tree.proofs.ReadOnly.{refused_again}
 use Rattle.cow_tree.proofs.opening.read_listed.Goals as goal
@@ -39,9 +38,7 @@ pub returns-in_err-read-clause-reads : goal.returns-in_err-read-clause-reads
 returns-in_err-read-clause-reads g c =
     let why : Refusal = c.in_err-read.field-0.0 in
     let refused = c.in_err-read.ensures in
-    let p = err_from_is_err_and c.from_residual.result c.from_residual.ensures.1 in
-    let ended : c.from_residual.result ≡ Err why = p.1 ∙ ap (λ (r : Refusal). Err r) p.2 in
-    refused_again g.D.Disk {T = Unit {0}} c.args.roots.now c.read.new.self why c.from_residual.result ended
+    refused_again g.D.Disk {T = Unit {0}} c.args.roots.now c.read.new.self why c.from_residual.result c.from_residual.ensures.1
     (record {
       size = refused.size;
       writes = refused.writes;

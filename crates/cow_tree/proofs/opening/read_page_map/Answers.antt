@@ -1,10 +1,7 @@
 use Rattle.std.proofs.Common.{◌≡◌, inl, inr, ⊎_elim, ℕ, ◌+◌, ◌<◌, List, [], ◌∷◌, ◌++◌, All, Ok, Err, length, get_or, map, take, false, sym, ap, ◌∙◌, subst}
 use Rattle.std.proofs.lemmas.List.Elements.{All-push}
-use Rattle.std.proofs.lemmas.Result.{err_from_is_err_and}
 use Rattle.disk.specs.Disk.{Image}
 use Rattle.lattice.specs.Corners.{Corner}
-use Rattle.lattice.specs.declared.refusal.Refusal.{Refusal}
-use Rattle.lattice.specs.declared.refusal.Refusal.TheVariants.{Device}
 use Rattle.page_codec.specs.Entries.{EntryValue}
 use Rattle.page_codec.specs.Formats.{Format}
 use Rattle.page_codec.specs.Roots.{format_of}
@@ -15,7 +12,7 @@ use Rattle.cow_tree.specs.Entries.{entry_of}
 use Rattle.cow_tree.specs.Layout.{HasRecords}
 use Rattle.roots.specs.Roots.{has_failed}
 use Rattle.cow_tree.proofs.ReadTiles.{before_next, one_more, no_next_tile, no_rule}
-use Rattle.cow_tree.proofs.ReadOnly.{refused_for, handed_on, read_on, read_as, never_refused, not_device, works_ok, refused_again, read_well}
+use Rattle.cow_tree.proofs.ReadOnly.{refused_for, handed_on, read_on, read_as, not_device, works_ok, refused_again, read_well}
 use Rattle.cow_tree.proofs.opening.read_page_map.Goals as goal
 use Rattle.cow_tree.proofs.opening.read_page_map.Goals.{In_ok-planes}
 
@@ -32,9 +29,7 @@ returns-in_err-planes-clause-refused g c honest =
     let seen = d.seen start.disk in
     let lt : index < length root.entries = subst (λ (l : List EntryValue). index < length l) c.entries-entries.ensures.value c.loop-entry-test.true in
     let is_e : e ≡ get_or root.entries index e = subst (λ (l : List EntryValue). e ≡ get_or l index e) c.entries-entries.ensures.value c.entry-item.is in
-    let p = err_from_is_err_and c.from_residual-in_err-planes.result c.from_residual-in_err-planes.ensures.1 in
-    let ended : c.from_residual-in_err-planes.result ≡ Err c.in_err-planes.field-0.0 = p.1 ∙ ap (λ (r : Refusal). Err r) p.2 in
-    handed_on _ c.from_residual-in_err-planes.result c.in_err-planes.field-0.0 ended
+    handed_on _ c.from_residual-in_err-planes.result c.in_err-planes.field-0.0 c.from_residual-in_err-planes.ensures.1
     (inr (refused_for _ _ c.in_err-planes.field-0.0
     (λ none. no_next_tile size seen root index e lt is_e
     (subst (λ (f : Format). NoTileAt f size seen e) c.format-format.ensures
@@ -80,9 +75,7 @@ returns-in_err-page_map-2-clause-refused g c honest =
     let at = (goal.at.returns-in_err-page_map-2-clause-refused g c).In_ok-planes in
     let start = c.args.roots.now in
     let before = c.loop-entry.page_map.committed in
-    let p = err_from_is_err_and c.from_residual-in_err-page_map-2.result c.from_residual-in_err-page_map-2.ensures.1 in
-    let ended : c.from_residual-in_err-page_map-2.result ≡ Err c.in_err-page_map-2.field-0.0 = p.1 ∙ ap (λ (r : Refusal). Err r) p.2 in
-    handed_on _ c.from_residual-in_err-page_map-2.result c.in_err-page_map-2.field-0.0 ended
+    handed_on _ c.from_residual-in_err-page_map-2.result c.in_err-page_map-2.field-0.0 c.from_residual-in_err-page_map-2.ensures.1
     (inr (⊎_elim (λ memory. inr (inl memory))
     (λ damaged. inr (inr (
       damaged.0,
@@ -97,10 +90,8 @@ returns-in_err-page_map-2-clause-reads g c =
     let here = c.loop-entry.invariant in
     let planes = c.in_ok-planes.planes in
     let read = c.in_ok-planes.ensures.reads in
-    let p = err_from_is_err_and c.from_residual-in_err-page_map-2.result c.from_residual-in_err-page_map-2.ensures.1 in
-    let ended : c.from_residual-in_err-page_map-2.result ≡ Err c.in_err-page_map-2.field-0.0 = p.1 ∙ ap (λ (r : Refusal). Err r) p.2 in
     read_as d c.args.roots.now c.read_planes.new.roots (Ok planes) c.from_residual-in_err-page_map-2.result (read_on d c.args.roots.now c.loop-entry.roots c.read_planes.new.roots (Ok planes) here.reads here.works read)
-    (works_ok planes c.read_planes.new.roots.failed read.works) (not_device c.from_residual-in_err-page_map-2.result c.in_err-page_map-2.field-0.0 ended c.in_err-page_map-2.ensures.refused)
+    (inl (works_ok planes c.read_planes.new.roots.failed read.works)) (not_device c.from_residual-in_err-page_map-2.result c.in_err-page_map-2.field-0.0 c.from_residual-in_err-page_map-2.ensures.1 c.in_err-page_map-2.ensures.refused)
 
 pub loop-entry-preserved : goal.loop-entry-preserved
 loop-entry-preserved g c =
@@ -113,7 +104,7 @@ loop-entry-preserved g c =
     let loaded = c.in_ok-page_map-2.ensures.loaded in
     record {
       works = works;
-      reads = read_as d c.args.roots.now c.read_planes.new.roots (Ok planes) (Ok tt) (read_on d c.args.roots.now c.loop-entry.roots c.read_planes.new.roots (Ok planes) here.reads here.works read) works (λ is. never_refused tt Device is);
+      reads = read_well d c.args.roots.now c.read_planes.new.roots planes tt (read_on d c.args.roots.now c.loop-entry.roots c.read_planes.new.roots (Ok planes) here.reads here.works read);
       rules = c.in_ok-page_map-2.ensures.rules;
       sectors = ap (λ (x : PageMapValue). x.sectors) loaded ∙ here.sectors;
       format = ap (λ (x : PageMapValue). x.format) loaded ∙ here.format;
@@ -125,9 +116,7 @@ loop-entry-preserved g c =
 
 pub returns-in_err-planes-clause-reads : goal.returns-in_err-planes-clause-reads
 returns-in_err-planes-clause-reads g c =
-    let p = err_from_is_err_and c.from_residual-in_err-planes.result c.from_residual-in_err-planes.ensures.1 in
-    let ended : c.from_residual-in_err-planes.result ≡ Err c.in_err-planes.field-0.0 = p.1 ∙ ap (λ (r : Refusal). Err r) p.2 in
-    refused_again g.D.Disk c.args.roots.now c.read_planes.new.roots c.in_err-planes.field-0.0 c.from_residual-in_err-planes.result ended
+    refused_again g.D.Disk c.args.roots.now c.read_planes.new.roots c.in_err-planes.field-0.0 c.from_residual-in_err-planes.result c.from_residual-in_err-planes.ensures.1
     (read_on g.D.Disk c.args.roots.now c.loop-entry.roots c.read_planes.new.roots (Err c.in_err-planes.field-0.0) c.loop-entry.invariant.reads c.loop-entry.invariant.works c.in_err-planes.ensures.reads)
 
 pub returns-clause-reads : goal.returns-clause-reads

@@ -1,6 +1,5 @@
-use Rattle.std.proofs.Common.{◌≡◌, ◌<◌, ℕ, List, Err, IfOk, length, sym, ap, ◌∙◌, subst}
-use Rattle.std.proofs.lemmas.Result.{err_from_is_err_and}
-use Rattle.lattice.specs.declared.refusal.Refusal.{Refusal}
+use Rattle.std.proofs.Common.{◌≡◌, ◌<◌, ℕ, List, IfOk, length, sym, ap, ◌∙◌, subst}
+use Rattle.std.proofs.lemmas.Result.{IfErr-weaker}
 use Rattle.disk.specs.Disk.{Image}
 use Rattle.page_codec.specs.declared.version.Version.TheVariants.{Two}
 use Rattle.page_codec.specs.Records.{IsRecord, record_bytes}
@@ -9,18 +8,16 @@ use Rattle.cow_tree.specs.Found.{NoneListed, NoneIndexed, NonePlane}
 use Rattle.cow_tree.specs.Layout.{IsIndexed}
 use Rattle.cow_tree.specs.OverRoots.{IsRefusedFor}
 use Rattle.cow_tree.proofs.Indexed.{second_read, none_behind}
-use Rattle.cow_tree.proofs.ReadOnly.{refused_for, refused_so, handed_on, refused_again, read_well, read_after}
+use Rattle.cow_tree.proofs.ReadOnly.{refused_for, handed_on, refused_again, read_well, read_after}
 use Rattle.cow_tree.proofs.Reasons.{none_listed}
 use Rattle.cow_tree.proofs.opening.read_plane.Goals as goal
 use Rattle.cow_tree.proofs.opening.read_plane.Goals.{After-read_indexed}
 
 pub returns-in_err-listed-clause-refused : goal.returns-in_err-listed-clause-refused
 returns-in_err-listed-clause-refused g c honest =
-    let p = err_from_is_err_and c.from_residual.result c.from_residual.ensures.1 in
-    let ended : c.from_residual.result ≡ Err c.in_err-listed.field-0.0 = p.1 ∙ ap (λ (r : Refusal). Err r) p.2 in
     let d = g.D.Disk in
     let old = c.args.roots.now.disk in
-    handed_on _ c.from_residual.result c.in_err-listed.field-0.0 ended (refused_for _ _ c.in_err-listed.field-0.0
+    handed_on _ c.from_residual.result c.in_err-listed.field-0.0 c.from_residual.ensures.1 (refused_for _ _ c.in_err-listed.field-0.0
     (λ none. none_listed c.args.format (d.size old) (d.seen old) c.args.record_page
     (subst (NoneListed (d.size old) (d.seen old) c.args.record_page) c.listed.ensures.value none)) (c.in_err-listed.ensures.refused honest))
 
@@ -58,7 +55,7 @@ returns-in-Two-clause-refused g c honest =
     let at = (goal.at.returns-in-Two-clause-refused g c).After-read_indexed in
     let old = c.args.roots.now.disk in
     let mid = c.read_listed.new.roots.disk in
-    refused_so (IsRefusedFor (NoneIndexed c.args.format (d.size mid) (d.seen mid) (index g at honest))) (IsRefusedFor (NonePlane c.args.format (d.size old) (d.seen old) c.args.record_page)) c.read_indexed.result
+    IfErr-weaker c.read_indexed.result (IsRefusedFor (NoneIndexed c.args.format (d.size mid) (d.seen mid) (index g at honest))) (IsRefusedFor (NonePlane c.args.format (d.size old) (d.seen old) c.args.record_page))
     (λ why refused. refused_for (NoneIndexed c.args.format (d.size mid) (d.seen mid) (index g at honest)) (NonePlane c.args.format (d.size old) (d.seen old) c.args.record_page) why
     (λ none. none_behind c.args.format (d.seen old) c.args.record_page (index g at honest) (spelt g at honest) (d.size old) (two g at honest) (wrote g at honest)
     (subst (λ (n : ℕ). NoneIndexed c.args.format n (d.seen old) (index g at honest)) c.in_ok-listed.ensures.reads.size
@@ -67,9 +64,7 @@ returns-in-Two-clause-refused g c honest =
 
 pub returns-in_err-listed-clause-reads : goal.returns-in_err-listed-clause-reads
 returns-in_err-listed-clause-reads g c =
-    let p = err_from_is_err_and c.from_residual.result c.from_residual.ensures.1 in
-    let ended : c.from_residual.result ≡ Err c.in_err-listed.field-0.0 = p.1 ∙ ap (λ (r : Refusal). Err r) p.2 in
-    refused_again g.D.Disk c.args.roots.now c.read_listed.new.roots c.in_err-listed.field-0.0 c.from_residual.result ended
+    refused_again g.D.Disk c.args.roots.now c.read_listed.new.roots c.in_err-listed.field-0.0 c.from_residual.result c.from_residual.ensures.1
     c.in_err-listed.ensures.reads
 
 pub returns-in-One-clause-reads : goal.returns-in-One-clause-reads

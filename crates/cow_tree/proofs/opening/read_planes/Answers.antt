@@ -1,7 +1,5 @@
 use Rattle.std.proofs.Common.{◌≡◌, ℕ, Err, ap, ◌∙◌, subst, Ok}
 use Rattle.disk.specs.Disk.{Image}
-use Rattle.std.proofs.lemmas.Result.{err_from_is_err_and}
-use Rattle.lattice.specs.declared.refusal.Refusal.{Refusal}
 use Rattle.page_codec.specs.Entries.{EntryValue}
 use Rattle.cow_tree.specs.Found.{NonePlane, NoneKept}
 use Rattle.cow_tree.proofs.ReadOnly.{refused_for, handed_on, refused_again, read_well, read_after}
@@ -10,21 +8,17 @@ use Rattle.cow_tree.proofs.opening.read_planes.Goals as goal
 
 pub returns-in_err-heights-clause-refused : goal.returns-in_err-heights-clause-refused
 returns-in_err-heights-clause-refused g c honest =
-    let p = err_from_is_err_and c.from_residual.result c.from_residual.ensures.1 in
-    let ended : c.from_residual.result ≡ Err c.in_err-heights.field-0.0 = p.1 ∙ ap (λ (r : Refusal). Err r) p.2 in
     let d = g.D.Disk in
     let old = c.args.roots.now.disk in
-    handed_on _ c.from_residual.result c.in_err-heights.field-0.0 ended (refused_for _ _ c.in_err-heights.field-0.0
+    handed_on _ c.from_residual.result c.in_err-heights.field-0.0 c.from_residual.ensures.1 (refused_for _ _ c.in_err-heights.field-0.0
     (λ none. no_heights c.args.format (d.size old) (d.seen old) c.args.entry.now (subst (NonePlane c.args.format (d.size old) (d.seen old)) (ap (λ (e : EntryValue). e.heights) c.entry.view_is) none)) (c.in_err-heights.ensures.refused honest))
 
 pub returns-in_err-kept-clause-refused : goal.returns-in_err-kept-clause-refused
 returns-in_err-kept-clause-refused g c honest =
-    let p = err_from_is_err_and c.from_residual-in_err-kept.result c.from_residual-in_err-kept.ensures.1 in
-    let ended : c.from_residual-in_err-kept.result ≡ Err c.in_err-kept.field-0.0 = p.1 ∙ ap (λ (r : Refusal). Err r) p.2 in
     let d = g.D.Disk in
     let old = c.args.roots.now.disk in
     let first = c.in_ok-heights.ensures.reads in
-    handed_on _ c.from_residual-in_err-kept.result c.in_err-kept.field-0.0 ended (refused_for _ _ c.in_err-kept.field-0.0
+    handed_on _ c.from_residual-in_err-kept.result c.in_err-kept.field-0.0 c.from_residual-in_err-kept.ensures.1 (refused_for _ _ c.in_err-kept.field-0.0
     (λ none. no_kept c.args.format (d.size old) (d.seen old) c.args.entry.now
     (subst (λ (n : ℕ). NoneKept c.args.format n (d.seen old) c.args.entry.now.kept) first.size
     (subst (λ (i : Image). NoneKept c.args.format (d.size c.read_plane.new.roots.disk) i c.args.entry.now.kept) (first.seen (c.in_err-kept.ensures.reads.honest honest))
@@ -32,16 +26,12 @@ returns-in_err-kept-clause-refused g c honest =
 
 pub returns-in_err-heights-clause-reads : goal.returns-in_err-heights-clause-reads
 returns-in_err-heights-clause-reads g c =
-    let p = err_from_is_err_and c.from_residual.result c.from_residual.ensures.1 in
-    let ended : c.from_residual.result ≡ Err c.in_err-heights.field-0.0 = p.1 ∙ ap (λ (r : Refusal). Err r) p.2 in
-    refused_again g.D.Disk c.args.roots.now c.read_plane.new.roots c.in_err-heights.field-0.0 c.from_residual.result ended
+    refused_again g.D.Disk c.args.roots.now c.read_plane.new.roots c.in_err-heights.field-0.0 c.from_residual.result c.from_residual.ensures.1
     c.in_err-heights.ensures.reads
 
 pub returns-in_err-kept-clause-reads : goal.returns-in_err-kept-clause-reads
 returns-in_err-kept-clause-reads g c =
-    let p = err_from_is_err_and c.from_residual-in_err-kept.result c.from_residual-in_err-kept.ensures.1 in
-    let ended : c.from_residual-in_err-kept.result ≡ Err c.in_err-kept.field-0.0 = p.1 ∙ ap (λ (r : Refusal). Err r) p.2 in
-    refused_again g.D.Disk c.args.roots.now c.read_kept.new.roots c.in_err-kept.field-0.0 c.from_residual-in_err-kept.result ended
+    refused_again g.D.Disk c.args.roots.now c.read_kept.new.roots c.in_err-kept.field-0.0 c.from_residual-in_err-kept.result c.from_residual-in_err-kept.ensures.1
     (read_after g.D.Disk c.args.roots.now c.read_plane.new.roots c.read_kept.new.roots c.in_ok-heights.heights (Err c.in_err-kept.field-0.0) c.in_ok-heights.ensures.reads c.in_err-kept.ensures.reads)
 
 pub returns-clause-reads : goal.returns-clause-reads

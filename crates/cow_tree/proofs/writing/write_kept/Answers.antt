@@ -1,13 +1,13 @@
 use Rattle.std.proofs.Common.{◌≡◌, ◌<◌, ◌≤◌, ◌++◌, ℕ, List, length, map, Result, Err, sym, ap, ap₂, ◌∙◌, subst, arith}
 use Rattle.std.specs.Prelude.{Some}
 use Rattle.std.proofs.lemmas.List.{length-append}
-use Rattle.std.proofs.lemmas.Result.{err_from_is_err_and}
+use Rattle.page_map.proofs.Refused.{ended_with}
 use Rattle.lattice.specs.declared.refusal.Refusal.{Refusal}
 use Rattle.page_map.specs.Locations.{times}
-use Rattle.page_map.proofs.Occurrences.{times-append}
+use Rattle.page_map.proofs.Times.{all_numbers, times-append}
 use Rattle.cow_tree.specs.OverRoots.{WritesPages}
 use Rattle.cow_tree.specs.Stored.{PlanePages, pages_of_bytes}
-use Rattle.cow_tree.proofs.Counting.{all_at_times, at_times}
+use Rattle.cow_tree.proofs.Counting.{at_times}
 use Rattle.cow_tree.proofs.PageWrites.{HasWritten, then_written, refused_within}
 use Rattle.cow_tree.proofs.Standing.{SameOn, All-front, All-back, map_same}
 use Rattle.cow_tree.proofs.Steps.{on_ok_both}
@@ -41,8 +41,7 @@ returns-in_err-write_plane-clause-writes g c =
     let l = c.args.levels_at.now in
     let m = c.args.labels_at.now in
     let why : Refusal = c.in_err-write_plane.field-0.0 in
-    let p = err_from_is_err_and c.from_residual.result c.from_residual.ensures.1 in
-    let ended : c.from_residual.result ≡ Err why = p.1 ∙ ap (λ (r : Refusal). Err r) p.2 in
+    let ended : c.from_residual.result ≡ Err why = ended_with c.from_residual.result why c.from_residual.ensures.1 in
     subst (λ (r : Result (Unit {0}) Refusal). WritesPages g.D.Disk (l.pages ++ m.pages) c.args.roots.now c.write_plane.new.roots r) (sym ended)
     (refused_within g.D.Disk l.pages (l.pages ++ m.pages) c.args.roots.now c.write_plane.new.roots why (omega (arith, length-append l.pages m.pages)) (λ q. omega (arith, times-append q l.pages m.pages))
     (subst (λ (ps : List ℕ). WritesPages {T = Unit {0}} g.D.Disk ps c.args.roots.now c.write_plane.new.roots (Err why)) c.pages.ensures c.in_err-write_plane.ensures.writes))
@@ -66,7 +65,7 @@ returns-clause-written g c honest n levels labels =
     on_ok_both c.write_plane-2.result
     (λ others wrote.
     let stays : SameOn l.pages a b =
-    all_at_times (λ q. a q ≡ b q) l.pages (λ q some.
+    all_numbers (λ q. a q ≡ b q) l.pages (λ q some.
     let same = ap (times q) c.pages-2.ensures in
     others q (at_times (λ p. 4 ≤ p) q l.pages (All-front (λ p. 4 ≤ p) l.pages m.pages c.requires.low) some) (omega (arith, some, same, c.requires.distinct q, times-append q l.pages m.pages))) in
     ap₂ (λ (x y : PlanePages). Some (record { levels = x; labels = y }))

@@ -1,6 +1,6 @@
 use Rattle.std.proofs.Common.{◌≡◌, ℕ, ◌+◌, ◌*◌, ◌++◌, ◌∷◌, [], List, Result, Ok, Err, get_or, take, drop, below_more, sym, ap, ◌∙◌, subst, arith}
 use Rattle.std.proofs.lemmas.List.{drop-drop, take_all, take_more}
-use Rattle.std.proofs.lemmas.Result.{err_from_is_err_and}
+use Rattle.page_map.proofs.Refused.{ended_with}
 use Rattle.lattice.specs.declared.refusal.Refusal.{Refusal}
 use Rattle.page_codec.specs.Numbers.{padded}
 use Rattle.roots.specs.Roots.{disk_of}
@@ -19,8 +19,7 @@ returns-in_err-write-clause-writes g c =
     let page : ℕ = get_or pages index 0 in
     let why : Refusal = c.in_err-write.field-0.0 in
     let refused = c.in_err-write.ensures in
-    let p = err_from_is_err_and c.from_residual.result c.from_residual.ensures.1 in
-    let ended : c.from_residual.result ≡ Err why = p.1 ∙ ap (λ (r : Refusal). Err r) p.2 in
+    let ended : c.from_residual.result ≡ Err why = ended_with c.from_residual.result why c.from_residual.ensures.1 in
     let more : take (index + 1) pages ≡ take index pages ++ page ∷ [] = take_more pages index 0 c.loop-page-test.true in
     let wrote = one_written d c.loop-page.roots c.write.new.self page (Err why) refused.size refused.cause refused.refused refused.writes refused.begun refused.honest refused.root refused.not_failed refused.failed refused.ready refused.others refused.any_moment in
     subst (λ (r : Result (Unit {0}) Refusal). WritesPages d pages c.args.roots.now c.write.new.self r) (sym ended)

@@ -1,6 +1,5 @@
-use Rattle.std.proofs.Common.{◌≡◌, ◌++◌, Err, ap, ◌∙◌}
-use Rattle.std.proofs.lemmas.Result.{err_from_is_err_and}
-use Rattle.lattice.specs.declared.refusal.Refusal.{Refusal}
+use Rattle.std.proofs.Common.{◌≡◌, ◌++◌, Err, ◌∙◌}
+use Rattle.page_map.proofs.Refused.{ended_with}
 use Rattle.page_map.specs.Locations.{pages_of_plane}
 use Rattle.page_map.specs.TileLocations.{pages_of_kept}
 use Rattle.page_map.proofs.GivenSoFar.{marked_more, unmarked_first, unmarked_more}
@@ -8,8 +7,7 @@ use Rattle.page_map.proofs.pages.mark_planes.Goals as goal
 
 pub returns-in_err-mark_plane-clause-refused : goal.returns-in_err-mark_plane-clause-refused
 returns-in_err-mark_plane-clause-refused c =
-    let p = err_from_is_err_and c.from_residual.result c.from_residual.ensures.1 in
-    let ended : c.from_residual.result ≡ Err c.in_err-mark_plane.field-0.0 = p.1 ∙ ap (λ (r : Refusal). Err r) p.2 in
+    let ended : c.from_residual.result ≡ Err c.in_err-mark_plane.field-0.0 = ended_with c.from_residual.result c.in_err-mark_plane.field-0.0 c.from_residual.ensures.1 in
     rw ended (unmarked_first (pages_of_plane c.args.planes.now.heights) (pages_of_kept c.args.planes.now.kept) c.args.free.now c.in_err-mark_plane.field-0.0 c.in_err-mark_plane.ensures.refused)
 
 pub returns-in-Some-clause-marked : goal.returns-in-Some-clause-marked

@@ -1,8 +1,6 @@
-use Rattle.std.proofs.Common.{◌≡◌, All, Err, map, inl, inr, ⊎_elim, sym, ap, ◌∙◌, subst}
-use Rattle.std.proofs.lemmas.Result.{err_from_is_err_and}
+use Rattle.std.proofs.Common.{◌≡◌, All, map, inl, inr, ⊎_elim, sym, ap, ◌∙◌, subst}
 use Rattle.disk.specs.Disk.{Image}
 use Rattle.disk.specs.Stops.{AddsNothing, nothing_twice}
-use Rattle.lattice.specs.declared.refusal.Refusal.{Refusal}
 use Rattle.lattice.specs.declared.refusal.Refusal.TheVariants.{Device}
 use Rattle.page_codec.specs.Entries.{EntryValue}
 use Rattle.page_codec.specs.Roots.{format_of}
@@ -57,22 +55,16 @@ returns-in-Ok-clause-unstaged g c = c.in-Ok.ensures.clean
 
 pub returns-in_err-reopen-clause-refusals : goal.returns-in_err-reopen-clause-refusals
 returns-in_err-reopen-clause-refusals g c =
-    let p = err_from_is_err_and c.from_residual.result c.from_residual.ensures.1 in
-    let ended : c.from_residual.result ≡ Err c.in_err-reopen.field-0.0 = p.1 ∙ ap (λ (r : Refusal). Err r) p.2 in
-    handed_on _ c.from_residual.result c.in_err-reopen.field-0.0 ended (inl c.in_err-reopen.ensures.refused)
+    handed_on _ c.from_residual.result c.in_err-reopen.field-0.0 c.from_residual.ensures.1 (inl c.in_err-reopen.ensures.refused)
 
 pub returns-in_err-reopen-clause-refused : goal.returns-in_err-reopen-clause-refused
 returns-in_err-reopen-clause-refused g c honest =
     let why = c.in_err-reopen.field-0.0 in
-    let p = err_from_is_err_and c.from_residual.result c.from_residual.ensures.1 in
-    let ended : c.from_residual.result ≡ Err why = p.1 ∙ ap (λ (r : Refusal). Err r) p.2 in
-    handed_on _ c.from_residual.result why ended (⊎_elim (λ device. (let is : why ≡ Device = cc in inl is)) (λ opens. inr (inr (inl opens))) (c.in_err-reopen.ensures.opens honest))
+    handed_on _ c.from_residual.result why c.from_residual.ensures.1 (⊎_elim (λ device. (let is : why ≡ Device = cc in inl is)) (λ opens. inr (inr (inl opens))) (c.in_err-reopen.ensures.opens honest))
 
 pub returns-in_err-reopen-clause-sure : goal.returns-in_err-reopen-clause-sure
 returns-in_err-reopen-clause-sure g c honest s (root, tiles, stores) =
-    let p = err_from_is_err_and c.from_residual.result c.from_residual.ensures.1 in
-    let ended : c.from_residual.result ≡ Err c.in_err-reopen.field-0.0 = p.1 ∙ ap (λ (r : Refusal). Err r) p.2 in
-    handed_on _ c.from_residual.result c.in_err-reopen.field-0.0 ended (inl (c.in_err-reopen.ensures.store honest root stores.laid_out.store))
+    handed_on _ c.from_residual.result c.in_err-reopen.field-0.0 c.from_residual.ensures.1 (inl (c.in_err-reopen.ensures.store honest root stores.laid_out.store))
 
 pub returns-in-Ok-clause-nothing : goal.returns-in-Ok-clause-nothing
 returns-in-Ok-clause-nothing g c honest =

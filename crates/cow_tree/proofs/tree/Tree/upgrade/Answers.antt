@@ -11,6 +11,7 @@ use Rattle.page_map.specs.PageMaps.{PageMapValue, is_unreached}
 use Rattle.page_map.specs.Locations.{times}
 use Rattle.page_map.specs.TileLocations.{TileLocation, reached}
 use Rattle.page_map.specs.Upgraded.{data_of, listings}
+use Rattle.page_map.proofs.KeptChanges.{length-filter-le}
 use Rattle.cow_tree.specs.Entries.{entry_of}
 use Rattle.cow_tree.specs.Layout.{stored_in, StoresAt, Stands}
 use Rattle.cow_tree.specs.Listings.{due_among, numbers_of, tiles_listing}
@@ -21,7 +22,7 @@ use Rattle.cow_tree.specs.Upgrades.{upgraded_store}
 use Rattle.cow_tree.proofs.Commits.{lands, same_tiles, none_before, nothing_staged, committing}
 use Rattle.cow_tree.proofs.Dropping.{corners_of_entries, clean_is_committed}
 use Rattle.cow_tree.proofs.Counting.{all_of_fewer}
-use Rattle.cow_tree.proofs.Due.{filter_few, none_due}
+use Rattle.cow_tree.proofs.Due.{none_due}
 use Rattle.cow_tree.proofs.ListingPages.{due_are, few_due, tiles_numbers}
 use Rattle.cow_tree.proofs.Steps.{stands, stores_along}
 use Rattle.cow_tree.proofs.UpgradeLands.{corners_stay, few_in_all, few_in_part, few_listed, upgraded_root}
@@ -38,7 +39,7 @@ module _ (g : _) (c : After-write_listings g) where
       let most = few_listed c.args.self.now.page_map new c.in_ok-page_map.ensures.rules c.in_ok-page_map.ensures.upgraded c.args.self.now.root
       (c.in_ok-page_map.ensures.upgraded.format ∙ ap upgraded c.args.self.now.format) c.args.self.now.entries in
       let same = ap (λ (l : List ℕ). length l) (due_are [] new.format new.staged) in
-      omega (arith, most, same, filter_few (is_unreached []) (listings new.staged))
+      omega (arith, most, same, length-filter-le (is_unreached []) (listings new.staged))
 
   -- where no committed tile was
   fresh : All (λ q. ¬ Contains (reached c.args.self.now.page_map.committed) q) (numbers_of (due_among [] (tiles_listing new.format new.staged)))

@@ -3,7 +3,7 @@ use Rattle.std.specs.Prelude.{filter}
 use Rattle.std.proofs.lemmas.Fn.{filter_same}
 use Rattle.std.proofs.lemmas.List.{length-map, with_items_is}
 use Rattle.page_map.specs.declared.tile_entry.TileEntry.{TileEntry}
-use Rattle.page_map.specs.TileEntries.{AreCounted, ended_entry, page_map_of, ended_page_map}
+use Rattle.page_map.specs.TileEntries.{AreCounted, IsKept, ended_entry, page_map_of, ended_page_map}
 use Rattle.page_map.proofs.PageMapRules.{mapped}
 use Rattle.page_map.proofs.Ending.{is_left, kept_left, page_map_left}
 use Rattle.page_map.proofs.page_map.PageMap.end.Goals as goal
@@ -24,10 +24,11 @@ module _ (c : After-retain) where
       filter_same _ is_left _ (λ x b f k. search rules) _ _ c.retain.ensures.filtered
       ∙ ap (filter is_left) (with_items_is c.self.inside.entries c.end_all.new.entries (omega (arith, ap length ended, length-map c.self.inside.entries.items (ended_entry c.args.ending), c.deref_mut.ensures.len)) ∙ ended)
 
+  kept_now : IsKept c.self.inside.format c.retain.new.self.items c.end_all.new.free
+  kept_now = rw left_is (kept_left c.args.ending c.self.inside.format c.self.inside.entries.items c.self.inside.free c.end_all.new.free c.self.invariant c.end_all.ensures.range counted)
+
 pub invariant_of-self : goal.invariant_of-self
-invariant_of-self c =
-    let at = (goal.at.invariant_of-self c).After-retain in
-    rw (left_is at) (kept_left c.args.ending c.self.inside.format c.self.inside.entries.items c.self.inside.free c.end_all.new.free c.self.invariant c.end_all.ensures.range (counted at))
+invariant_of-self c = kept_now (goal.at.invariant_of-self c).After-retain
 
 pub returns-clause-ended : goal.returns-clause-ended
 returns-clause-ended c =
@@ -37,7 +38,4 @@ returns-clause-ended c =
     ∙ ap (ended_page_map c.args.ending) c.self.view_is)
 
 pub returns-clause-rules : goal.returns-clause-rules
-returns-clause-rules c =
-    let at = (goal.at.returns-clause-rules c).After-retain in
-    mapped c.self.inside.format c.retain.new.self.items c.end_all.new.free
-    (rw (left_is at) (kept_left c.args.ending c.self.inside.format c.self.inside.entries.items c.self.inside.free c.end_all.new.free c.self.invariant c.end_all.ensures.range (counted at)))
+returns-clause-rules c = mapped c.self.inside.format _ c.end_all.new.free (kept_now (goal.at.returns-clause-rules c).After-retain)

@@ -1,8 +1,6 @@
-use Rattle.std.proofs.Common.{◌≡◌, ⊎_elim, inl, ◌<◌, List, [], ◌∷◌, ◌++◌, length, ap, sym, subst, ◌∙◌, refl, true, false, inr}
-use Rattle.std.specs.Prelude.{All, Result, Ok, Err, is_ok, is_err}
-use Rattle.std.proofs.lemmas.Bool.{false≢true}
-use Rattle.std.proofs.lemmas.Result.{err_from_is_err_and}
-use Rattle.lattice.specs.declared.refusal.Refusal.{Refusal}
+use Rattle.std.proofs.Common.{◌≡◌, ⊎_elim, inl, ◌<◌, List, [], ◌∷◌, ◌++◌, length, ap, sym, subst, ◌∙◌, inr}
+use Rattle.std.specs.Prelude.{All, Err}
+use Rattle.page_map.proofs.Refused.{ended_with, ok_from}
 use Rattle.lattice.specs.Lattice.{IsBefore}
 use Rattle.page_map.specs.declared.tile_entry.TileEntry.{TileEntry}
 use Rattle.page_map.specs.TileLocations.{KeepsPageRule}
@@ -12,10 +10,6 @@ use Rattle.page_map.proofs.PageMapRules.{mapped}
 use Rattle.page_map.proofs.Loading.{kept_loaded, page_map_loaded, rule_broken}
 use Rattle.page_map.proofs.page_map.PageMap.load.Goals as goal
 use Rattle.page_map.proofs.page_map.PageMap.load.Goals.{Else-is_err}
-
-ok_from : {T E : Type 0} (r : Result T E) → is_err r ≡ false → is_ok r ≡ true
-ok_from (Ok x) none = refl
-ok_from (Err e) none = absurd (false≢true (sym none))
 
 entries_are : (c : Else-is_err) → c.push.new.self.items ≡ c.self.inside.entries.items ++ loaded_entry c.args.corner c.args.planes ∷ []
 entries_are c = rw (ok_from c.push.result (sym c.is_err.ensures.value ∙ c.if-is_err.false), c.committed-entry.ensures) at c.push.ensures.items
@@ -32,8 +26,7 @@ invariant_of-result c =
 
 pub returns-in_err-mark_planes-clause-refused : goal.returns-in_err-mark_planes-clause-refused
 returns-in_err-mark_planes-clause-refused c =
-    let p = err_from_is_err_and c.from_residual.result c.from_residual.ensures.1 in
-    let ended : c.from_residual.result ≡ Err c.in_err-mark_planes.field-0.0 = p.1 ∙ ap (λ (r : Refusal). Err r) p.2 in
+    let ended : c.from_residual.result ≡ Err c.in_err-mark_planes.field-0.0 = ended_with c.from_residual.result c.in_err-mark_planes.field-0.0 c.from_residual.ensures.1 in
     rw ended
     (⊎_elim inl
     (λ damaged. inr (

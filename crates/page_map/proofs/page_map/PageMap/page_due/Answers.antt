@@ -4,7 +4,8 @@ use Rattle.page_map.specs.PageMaps.{PageMapValue, is_unreached, page_if}
 use Rattle.page_map.specs.Locations.{listing_of}
 use Rattle.page_map.specs.Planes.{HasPlaneAt}
 use Rattle.page_map.specs.TileEntries.{IsEntryAt, IsRoomAt, staged_tiles}
-use Rattle.page_map.proofs.Lookup.{none_located, located-from_tile}
+use Rattle.page_map.proofs.AtEntry.{no_entry}
+use Rattle.page_map.proofs.Lookup.{located-from_tile}
 use Rattle.page_map.proofs.DueListings.{page_due}
 use Rattle.page_map.proofs.page_map.PageMap.page_due.Goals as goal
 
@@ -21,4 +22,4 @@ pub returns-in-Err : goal.returns-in-Err
 returns-in-Err c location (t, (there, (here, lies))) below =
     let entries = c.self.inside.entries.items in
     let room : IsRoomAt c.args.c c.in-Err.field-0 entries = rw c.deref.ensures.value at c.in-Err.ensures.absent in
-    absurd (none_located c.args.c c.in-Err.field-0 entries room (located-from_tile c.args.c (staged_tiles entries) t (subst (λ (v : PageMapValue). Contains v.staged t) (sym c.self.view_is) there) here))
+    absurd (no_entry c.args.c c.in-Err.field-0 entries room (located-from_tile c.args.c (staged_tiles entries) t (subst (λ (v : PageMapValue). Contains v.staged t) (sym c.self.view_is) there) here))

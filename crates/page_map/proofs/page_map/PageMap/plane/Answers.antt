@@ -3,7 +3,8 @@ use Rattle.std.specs.Prelude.{IfNone, IfSome}
 use Rattle.page_map.specs.PageMaps.{PageMapValue}
 use Rattle.page_map.specs.Planes.{HasPlane, HasPlaneAt}
 use Rattle.page_map.specs.TileEntries.{IsEntryAt, IsRoomAt}
-use Rattle.page_map.proofs.Lookup.{none_located, located-from_tile, plane_found, plane_none}
+use Rattle.page_map.proofs.AtEntry.{no_entry, plane_found, plane_none}
+use Rattle.page_map.proofs.Lookup.{located-from_tile}
 use Rattle.page_map.proofs.page_map.PageMap.plane.Goals as goal
 
 pub returns-in-Ok-clause-found : goal.returns-in-Ok-clause-found
@@ -25,4 +26,4 @@ returns-in-Err-clause-none c =
     let entries = c.self.inside.entries.items in
     let room : IsRoomAt c.args.c c.in-Err.field-0 entries = rw c.deref.ensures.value at c.in-Err.ensures.absent in
     subst (λ (v : PageMapValue). ¬ HasPlane v.staged c.args.c c.args.plane) c.self.view_is
-    (λ (t, (there, (at_corner, lies))). none_located c.args.c c.in-Err.field-0 entries room (located-from_tile c.args.c _ t there at_corner))
+    (λ (t, (there, (at_corner, lies))). no_entry c.args.c c.in-Err.field-0 entries room (located-from_tile c.args.c _ t there at_corner))

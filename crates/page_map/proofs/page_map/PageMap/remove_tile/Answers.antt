@@ -1,10 +1,11 @@
-use Rattle.std.proofs.Common.{sym, subst, ap, ◌∙◌}
+use Rattle.std.proofs.Common.{set, sym, subst, ap, ◌∙◌}
 use Rattle.page_map.specs.PageMaps.{PageMapValue, IsLocated, HasFreshHeights, without_location}
-use Rattle.page_map.specs.TileEntries.{IsEntryAt, IsRoomAt, staged_tiles}
+use Rattle.page_map.specs.TileEntries.{IsEntryAt, IsKept, IsRoomAt, staged_tiles}
 use Rattle.page_map.proofs.PageMapRules.{mapped}
 use Rattle.page_map.proofs.AtEntry.{in_use, no_entry}
 use Rattle.page_map.proofs.KeptChanges.{fresh_in_use, kept_removed, is_removed}
 use Rattle.page_map.proofs.page_map.PageMap.remove_tile.Goals as goal
+use Rattle.page_map.proofs.page_map.PageMap.remove_tile.Goals.{After-remove}
 
 pub unreachable-requires : goal.unreachable-requires
 unreachable-requires c =
@@ -17,13 +18,16 @@ remove-requires c =
     let found : IsEntryAt c.args.c c.in-Ok.at c.self.inside.entries.items = rw c.deref.ensures.value at c.in-Ok.ensures.found in
     fresh_in_use c.index_mut-entry.result.now c.self.inside.free (in_use c.self.inside.format c.self.inside.entries.items c.self.inside.free c.self.invariant c.args.c c.in-Ok.at found c.index_mut-entry.result.now c.index_mut-entry.ensures.value)
 
-pub invariant_of-self : goal.invariant_of-self
-invariant_of-self c =
+kept_now : (c : After-remove) → IsKept c.self.inside.format (set c.self.inside.entries.items c.in-Ok.at c.remove.new.self) c.remove.new.free
+kept_now c =
     let found : IsEntryAt c.args.c c.in-Ok.at c.self.inside.entries.items = rw c.deref.ensures.value at c.in-Ok.ensures.found in
     rw c.remove.ensures.removed
     (kept_removed c.self.inside.format c.self.inside.entries.items c.self.inside.free c.self.invariant c.args.c c.in-Ok.at found c.index_mut-entry.result.now c.index_mut-entry.ensures.value
     (subst (λ (v : PageMapValue). IsLocated c.args.c v.staged) (sym c.self.view_is) c.requires.present) c.remove.new.free
     (λ fresh. c.requires.settled (subst (λ (v : PageMapValue). HasFreshHeights c.args.c v) c.self.view_is fresh)) c.remove.ensures.given)
+
+pub invariant_of-self : goal.invariant_of-self
+invariant_of-self c = kept_now (goal.at.invariant_of-self c).After-remove
 
 pub returns-clause-removed : goal.returns-clause-removed
 returns-clause-removed c =
@@ -35,10 +39,4 @@ returns-clause-removed c =
     ∙ ap (λ (v : PageMapValue). record v { staged = without_location c.args.c v.staged }) c.self.view_is)
 
 pub returns-clause-rules : goal.returns-clause-rules
-returns-clause-rules c =
-    let found : IsEntryAt c.args.c c.in-Ok.at c.self.inside.entries.items = rw c.deref.ensures.value at c.in-Ok.ensures.found in
-    rw c.remove.ensures.removed
-    (mapped c.self.inside.format _ c.remove.new.free
-    (kept_removed c.self.inside.format c.self.inside.entries.items c.self.inside.free c.self.invariant c.args.c c.in-Ok.at found c.index_mut-entry.result.now c.index_mut-entry.ensures.value
-    (subst (λ (v : PageMapValue). IsLocated c.args.c v.staged) (sym c.self.view_is) c.requires.present) c.remove.new.free
-    (λ fresh. c.requires.settled (subst (λ (v : PageMapValue). HasFreshHeights c.args.c v) c.self.view_is fresh)) c.remove.ensures.given))
+returns-clause-rules c = mapped c.self.inside.format _ c.remove.new.free (kept_now (goal.at.returns-clause-rules c).After-remove)

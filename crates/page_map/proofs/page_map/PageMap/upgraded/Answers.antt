@@ -1,8 +1,7 @@
 use Rattle.std.proofs.Common.{◌≡◌, ⊎_elim, ℕ, ◌+◌, ◌*◌, ◌≤◌, List, [], ◌∷◌, ◌++◌, Err, length, map, sym, ap, subst, ◌∙◌, arith}
 use Rattle.std.specs.FinSet.{len}
 use Rattle.std.proofs.lemmas.List.{take_all}
-use Rattle.std.proofs.lemmas.Result.{err_from_is_err_and}
-use Rattle.lattice.specs.declared.refusal.Refusal.{Refusal}
+use Rattle.page_map.proofs.Refused.{ended_with}
 use Rattle.page_codec.specs.Formats.{Format, upgraded}
 use Rattle.page_codec.specs.Sizes.{index_pages_of, sectors_asked}
 use Rattle.page_codec.specs.declared.version.Version.TheVariants.{One}
@@ -61,8 +60,7 @@ returns-in_err-page_map-2-clause-refused c =
     let clean : staged_tiles entries ≡ committed_tiles entries = rw c.deref-entry-items.ensures.value (subst (λ (v : PageMapValue). v.staged ≡ v.committed) (sym c.self.view_is) c.requires.clean) in
     let keeps = rule c.self.inside.format entries c.self.inside.free kept clean c.loop-entry.entry-index s c.loop-entry-test.true c.entry-item.is c.in-Some.heights c.in-Some.is c.loop-entry.page_map.committed c.loop-entry.invariant.alike
     c.in_ok-planes.planes (c.in_ok-planes.ensures.same_pages s.corner) c.loop-entry.free c.upgraded_planes.new.free c.loop-entry.invariant.taken c.in_ok-planes.ensures.taken in
-    let p = err_from_is_err_and c.from_residual-in_err-page_map-2.result c.from_residual-in_err-page_map-2.ensures.1 in
-    let ended : c.from_residual-in_err-page_map-2.result ≡ Err c.in_err-page_map-2.field-0.0 = p.1 ∙ ap (λ (r : Refusal). Err r) p.2 in
+    let ended : c.from_residual-in_err-page_map-2.result ≡ Err c.in_err-page_map-2.field-0.0 = ended_with c.from_residual-in_err-page_map-2.result c.in_err-page_map-2.field-0.0 c.from_residual-in_err-page_map-2.ensures.1 in
     rw ended
     (⊎_elim (λ memory. memory)
     (λ damaged. absurd (damaged.1 (subst (λ (n : ℕ). KeepsPageRule n (c.loop-entry.page_map.committed ++ tile_at s.corner c.in_ok-planes.planes ∷ [])) (sym c.loop-entry.invariant.sectors) keeps)))
