@@ -18,7 +18,7 @@ use lattice::{Corner, MOST_TILES, Point, Refusal, Side, VOID, point_at, push};
 use std::alloc::Global;
 use tile_labellings::Labellings;
 
-// So many samples at most: while their directions are found, each takes ten bytes, and on a flat fourteen.
+// So many samples at most: while their directions are found, each takes ten bytes.
 const MOST_SAMPLES: usize = 26 << 20;
 
 // To find the directions of so many samples at once takes no longer than a search takes for a point.

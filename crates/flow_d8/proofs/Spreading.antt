@@ -1,5 +1,5 @@
 -- Distances propagated over the flats of all tiles, from sample to sample.
-use Rattle.std.proofs.Common.{◌≡◌, ℕ, suc, ◌+◌, ◌*◌, ◌%◌, true, map, ◌<◌, ◌≤◌, ◌⊎◌, IsTrue, Option, Some, None, List, [], ◌∷◌, ◌++◌, length, get_or, set, inl, inr, ⊎_elim, refl, sym, ap, ◌∙◌, subst, arith, get_or-set_other, get_or-set_same, length-set}
+use Rattle.std.proofs.Common.{◌≡◌, ℕ, suc, ◌+◌, ◌-◌, ◌*◌, ◌%◌, true, map, ◌<◌, ◌≤◌, ◌⊎◌, IsTrue, Option, Some, None, List, [], ◌∷◌, ◌++◌, length, get_or, set, inl, inr, ⊎_elim, refl, sym, ap, ◌∙◌, subst, arith, get_or-set_other, get_or-set_same, length-set}
 use Rattle.std.specs.Prelude.{IfSome, slice_index_or}
 use Rattle.std.proofs.lemmas.Bool.{cases_eq, cases_lt}
 use Rattle.std.proofs.lemmas.List.{get_or_past, length-append, get_or_append_left, get_or-append-add}
@@ -287,6 +287,26 @@ module _ (f : Filled) (flows : List LocalFlow) (are : AreLocalFlows f flows) whe
 
     pub relaxed_all : length queue ≤ head → AreRelaxed f distances
     relaxed_all past g k step = ⊎_elim (λ relaxed. relaxed) (λ w. absurd (omega (arith, w.after, w.within))) (is.relaxed g k step)
+
+  -- what stands in the queue is taken, and what waits after it is next
+  pub next_wave : (distances queue next : List ℕ) (head : ℕ) → length queue ≤ head → IsPropagating f flows distances (queue ++ next) head → IsPropagating f flows distances next 0
+  next_wave distances queue next head past is = record {
+    bounds = is.bounds;
+    waiting = λ i small.
+        let at = get_or-append-add queue next i 0 in
+        subst (λ g. IsOnFlat flows g × (distance_at distances g < unknown)) at (is.waiting (length queue + i) (let long = length-append queue next in omega arith));
+    relaxed = λ g k step. ⊎_elim (λ relaxed. inl relaxed)
+        (λ w.
+        let j = w.index - length queue in
+        let index : w.index ≡ length queue + j = let after = w.after in omega arith in
+        inr (record {
+          index = j;
+          after = omega arith;
+          within = let long = length-append queue next in let within = w.within in omega arith;
+          here = sym (get_or-append-add queue next j 0) ∙ ap (λ i. get_or (queue ++ next) i 0) (sym index) ∙ w.here;
+        }))
+        (is.relaxed g k step);
+  }
 
   module _ (distances queue : List ℕ) (head : ℕ) (p : Point) (level : IsTrue (has_level f p)) where
     pub passed : (i : ℕ) → 8 ≤ i → IsRelaxing f flows distances queue head p i → IsPropagating f flows distances queue (head + 1)

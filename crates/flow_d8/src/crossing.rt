@@ -22,7 +22,7 @@ pub(crate) fn flat_distances(
     let mut distances = starts(alloc, flows)?;
     let mut queue = Vec::new(alloc);
     seed(filled, flows, &mut distances, &mut queue)?;
-    propagate(filled, flows, &mut distances, &mut queue)?;
+    propagate(alloc, filled, flows, &mut distances, queue)?;
     Ok(distances)
 }
 
