@@ -1,7 +1,7 @@
 ghost use Rattle.std.specs.Prelude.{◌≡◌, ◌<◌, ◌≤◌, IfOk};
 ghost use Rattle.disk.specs.MemDisk.{sectors_of};
 
-use crate::asserting::{assert_all, assert_row};
+use crate::asserting::{assert_all, assert_found, assert_row};
 use disk::{Disk, Fault, FaultOnceDisk, FileDisk, FuseDisk, MemDisk, Torn, settle};
 use std::alloc::Global;
 use std::fs;
@@ -103,7 +103,7 @@ fn a_fuse_fails_from_its_call_on(rt: HostRuntime) -> Result<(), Fail> {
         let mut fuse = FuseDisk::new(MemDisk::new(rt.alloc(), 2)?, calls);
         let is_told = four_calls(&mut fuse) == passed;
         let is_behind = holds(fuse.into_inner(), writes, first, second)?;
-        assert_row(&rt, is_told && is_behind, "a fuse, calls", calls);
+        assert_row(&rt, &("a fuse, calls", calls), is_told && is_behind);
     }
     Ok(())
 }
@@ -121,7 +121,7 @@ fn a_fault_once_fails_its_call_alone(rt: HostRuntime) -> Result<(), Fail> {
         let mut faulty = FaultOnceDisk::new(MemDisk::new(rt.alloc(), 2)?, call);
         let is_told = four_calls(&mut faulty) == passed;
         let is_behind = holds(faulty.into_inner(), writes, first, second)?;
-        assert_row(&rt, is_told && is_behind, "a faulty disk, call", call);
+        assert_row(&rt, &("a faulty disk, call", call), is_told && is_behind);
     }
     Ok(())
 }
@@ -190,7 +190,7 @@ fn a_file_is_cut_into_whole_sectors(rt: HostRuntime) -> Result<(), Fail> {
     for (bytes, sectors) in [(0, 0), (4095, 0), (4096, 1), (12_287, 2), (12_288, 3)] {
         fs::File::create(&rt, path)?.set_len(bytes)?;
         let disk = FileDisk::<Brand>::open(&rt, path)?;
-        assert_row(&rt, disk.sectors() == sectors, "bytes", bytes);
+        assert_found(&rt, &("bytes", bytes), &disk.sectors(), &sectors);
     }
     fs::remove_file(&rt, path)?;
     Ok(())

@@ -2,7 +2,7 @@ ghost use Rattle.std.specs.Prelude.{◌≡◌, ◌≤◌, ◌<◌, IfOk, OnOk, f
 ghost use Rattle.disk.specs.MemDisk.{sectors_of};
 ghost use Rattle.roots.specs.Roots.{has_failed, disk_of};
 
-use crate::asserting::{assert_all, assert_row};
+use crate::asserting::{assert_all, assert_found};
 use disk::{Disk, FuseDisk, MemDisk, Torn};
 use lattice::{Refusal, Side};
 use page_codec::{Format, Root};
@@ -144,8 +144,7 @@ fn check_stops(
     let kinds = [Torn::Old, Torn::New, Torn::Fill(0), Torn::Fill(0xa7)];
     for (torn, number) in kinds.iter().zip(numbers.iter()) {
         let stopped = stopped_after(alloc, calls, *torn, root)?;
-        let is_right = stopped == (calls > 20, *number);
-        assert_row(rt, is_right, "calls before a stop", calls);
+        assert_found(rt, &(calls, *number), &stopped, &(calls > 20, *number));
     }
     Ok(())
 }
@@ -184,7 +183,7 @@ fn a_fault_is_answered_device(rt: HostRuntime) -> Result<(), Fail> {
     for calls in 0..21 {
         let fuse = FuseDisk::new(MemDisk::new(rt.alloc(), 16)?, calls);
         let (_, answer) = two_commits(fuse, &root);
-        assert_row(&rt, answer == Err(Refusal::Device), "calls", calls);
+        assert_found(&rt, &("calls", calls), &answer, &Err(Refusal::Device));
     }
     Ok(())
 }
@@ -254,7 +253,12 @@ fn images_that_are_no_stores(rt: HostRuntime) -> Result<(), Fail> {
     for (sector, at, byte, refusal) in table {
         let mut disk = committed_once(rt.alloc())?;
         set_byte(&mut disk, sector, at, byte)?;
-        assert_row(&rt, refused(disk) == (Some(refusal), 16), "byte", at as u64);
+        assert_found(
+            &rt,
+            &(sector, at, byte),
+            &refused(disk),
+            &(Some(refusal), 16),
+        );
     }
     let mut disk = committed_once(rt.alloc())?;
     set_byte(&mut disk, 0, 0, 0)?;

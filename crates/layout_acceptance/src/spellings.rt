@@ -1,4 +1,4 @@
-use crate::asserting::{assert_all, assert_row};
+use crate::asserting::{assert_all, assert_found};
 use arrayvec::ArrayVec;
 use lattice::{Corner, Point, Refusal, Side};
 use page_codec::*;
@@ -135,7 +135,7 @@ fn hostile_roots(rt: HostRuntime) {
         let at = usize::from(at);
         page[at] = bytes[0];
         page[at + 1] = bytes[1];
-        assert_row(&rt, Root::read(&page).err() == damaged, "byte", at as u64);
+        assert_found(&rt, &(at, bytes), &Root::read(&page).err(), &damaged);
     }
     let mut last = page_of(&ONE_TILE);
     last[4095] = 1;
@@ -248,8 +248,8 @@ fn sinks(rt: HostRuntime) -> Result<(), Fail> {
     for (at, byte) in [(3912, 0xfe), (3907, 0), (3904, 1), (3920, 1), (4095, 1)] {
         let mut page = two_sinks();
         page[at] = byte;
-        let is_damaged = Root::read(&page).err() == Some(Damaged::Rule);
-        assert_row(&rt, is_damaged, "byte", at as u64);
+        let refused = Root::read(&page).err();
+        assert_found(&rt, &("byte", at), &refused, &Some(Damaged::Rule));
     }
     Ok(())
 }
@@ -266,7 +266,7 @@ fn formats(rt: HostRuntime) {
         (Version::Two, 1202, 1, None),
     ] {
         let made = Format::new(version, side, capacity);
-        assert_row(&rt, made.err() == refusal, "side", u64::from(side));
+        assert_found(&rt, &(version, side, capacity), &made.err(), &refusal);
     }
 }
 
@@ -288,10 +288,13 @@ const SIZES: [(Version, u32, u32, u32, u32, u32); 10] = [
 fn sizes(rt: HostRuntime) -> Result<(), Fail> {
     for (version, side, capacity, index, data, sectors) in SIZES {
         let format = Format::new(version, side, capacity)?;
-        let is_right = format.index_pages() == index
-            && format.data_pages() == data
-            && format.sectors() == sectors;
-        assert_row(&rt, is_right, "sectors", u64::from(sectors));
+        let found = (format.index_pages(), format.data_pages(), format.sectors());
+        assert_found(
+            &rt,
+            &(version, side, capacity),
+            &found,
+            &(index, data, sectors),
+        );
     }
     Ok(())
 }

@@ -2,7 +2,7 @@ ghost use Rattle.std.specs.Prelude.{◌≡◌, ◌≤◌, map, OnOk, IfOk};
 ghost use Rattle.disk.specs.MemDisk.{sectors_of};
 ghost use Rattle.cow_tree.specs.Trees.{corners_of, root_of};
 
-use crate::asserting::{assert_all, assert_row};
+use crate::asserting::{assert_all, assert_found, assert_row};
 use catalogue::Samples;
 use cow_tree::{Plane, Tree};
 use disk::{Disk, FaultOnceDisk, FuseDisk, MemDisk, Torn};
@@ -11,6 +11,7 @@ use page_codec::Format;
 use std::alloc::Global;
 use std::process::Abort;
 use std::test::Fail;
+use test_tiles::{A as FIRST, B as SECOND};
 
 // Room for two tiles of side 3, each plane of which takes one page.
 const SECTORS: u32 = 24;
@@ -18,11 +19,7 @@ const SECTORS: u32 = 24;
 // As much by the second version, where each plane takes an index page too.
 const SECTORS_UPGRADED: u32 = 34;
 
-// 9 9 9 / 9 1 9 / 9 9 5 and 9 9 9 / 9 1 1 / 9 9 9.
-const FIRST: [u8; 18] = [0, 9, 0, 9, 0, 9, 0, 9, 0, 1, 0, 9, 0, 9, 0, 9, 0, 5];
-
-const SECOND: [u8; 18] = [0, 9, 0, 9, 0, 9, 0, 9, 0, 1, 0, 1, 0, 9, 0, 9, 0, 9];
-
+// The samples of the two tiles.
 const FIRST_SAMPLES: [i16; 9] = [9, 9, 9, 9, 1, 9, 9, 9, 5];
 
 const SECOND_SAMPLES: [i16; 9] = [9, 9, 9, 9, 1, 1, 9, 9, 9];
@@ -190,7 +187,7 @@ fn check_stops(rt: &impl Abort, alloc: Global, calls: u64) -> Result<bool, Fail>
     let mut is_done = false;
     for torn in [Torn::Old, Torn::New, Torn::Fill(0), Torn::Fill(0xa7)] {
         let (is_right, is_whole) = stopped_after(alloc, calls, torn)?;
-        assert_row(rt, is_right, "calls before a stop", calls);
+        assert_row(rt, &("calls before a stop", calls), is_right);
         is_done = is_whole;
     }
     Ok(is_done)
@@ -225,7 +222,7 @@ fn is_told(alloc: Global, call: u64) -> Result<bool, Fail> {
 #[test]
 fn a_fault_at_each_call(rt: HostRuntime) -> Result<(), Fail> {
     for call in 0..40 {
-        assert_row(&rt, is_told(rt.alloc(), call)?, "a fault at call", call);
+        assert_row(&rt, &("a fault at call", call), is_told(rt.alloc(), call)?);
     }
     Ok(())
 }
@@ -255,7 +252,7 @@ fn records_that_are_none(rt: HostRuntime) -> Result<(), Fail> {
     let itself = record.to_le_bytes()[0];
     for (at, byte) in [(0, 0), (0, itself), (0, 24), (1, 1), (4095, 1)] {
         let refusal = refused_with(rt.alloc(), record, at, byte)?;
-        assert_row(&rt, refusal == Refusal::Damaged, "byte", at as u64);
+        assert_found(&rt, &("byte", at), &refusal, &Refusal::Damaged);
     }
     Ok(())
 }
@@ -445,7 +442,7 @@ fn a_page_far_off_is_reached_once(rt: HostRuntime) -> Result<(), Fail> {
             Ok(_) => false,
             Err(not_opened) => not_opened.refusal == Refusal::Damaged,
         };
-        assert_row(&rt, is_damaged, "page", u64::from(page));
+        assert_row(&rt, &("page", page), is_damaged);
     }
     Ok(())
 }
