@@ -34,14 +34,14 @@ pub(crate) struct Commands {
     side: Side,
     middle: Corner,
     palette: [i16; 6],
-    /// Most commands declare sinks, until there are as many as may be.
+    /// Once there is a tile most commands declare sinks, until there are as many as may be.
     is_of_sinks: bool,
 }
 
 impl Commands {
     pub(crate) fn new(mut random: Random, side: Side, middle: Corner) -> Commands {
         let palette = random.one_of(&PALETTES);
-        let is_of_sinks = random.next_below(8) == 0;
+        let is_of_sinks = random.next_below(4) == 0;
         Commands {
             random,
             side,
@@ -53,7 +53,7 @@ impl Commands {
 
     /// The next command to this mosaic.
     pub(crate) fn next(&mut self, alloc: Global, mosaic: &Plain) -> Result<Command, AllocError> {
-        if self.is_of_sinks && self.random.next_below(4) != 0 {
+        if self.is_of_sinks && !mosaic.tiles().is_empty() && self.random.next_below(8) != 0 {
             return Ok(self.sink(mosaic));
         }
         match self.random.next_below(14) {
