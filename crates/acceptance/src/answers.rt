@@ -11,13 +11,13 @@ use std::alloc::{AllocError, Global};
 use watershed::Run;
 
 /// The answers to all queries of a point.
-#[derive(Debug, PartialEq, Drop)]
+#[derive(PartialEq, Drop)]
 pub(crate) struct Answers {
-    pub(crate) elevation: Result<Height, Refusal>,
-    pub(crate) fill: Result<i16, Refusal>,
-    pub(crate) direction: Result<u8, Refusal>,
-    pub(crate) trace: Result<Vec<Point>, Refusal>,
-    pub(crate) watershed: Result<Vec<Run>, Refusal>,
+    elevation: Result<Height, Refusal>,
+    fill: Result<i16, Refusal>,
+    direction: Result<u8, Refusal>,
+    trace: Result<Vec<Point>, Refusal>,
+    watershed: Result<Vec<Run>, Refusal>,
 }
 
 /// What the engine answers.

@@ -1,8 +1,8 @@
 //! Lines and payloads as they are read, the event that a line asks for, and the text of an answer.
-use crate::asserting::{assert_found, assert_row};
+use crate::asserting::assert_row;
 use crate::counting::Counting;
-use edits::Command;
 use engine::Event;
+use edits::Command;
 use lattice::{Corner, Point, Refusal};
 use lines::{
     Ahead, Extent, Line, Request, Text, read_line, read_payload, request_of, skip_payload,
@@ -10,7 +10,6 @@ use lines::{
 use std::alloc::{AllocError, Global};
 use std::io::{self, Read};
 use std::process::Abort;
-use std::str::from_utf8;
 use std::test::Fail;
 use watershed::Run;
 
@@ -32,11 +31,6 @@ impl Read for Trickle<'_> {
         self.bytes = &self.bytes[count..];
         Ok(count)
     }
-}
-
-/// For messages.
-fn text_of(bytes: &[u8]) -> &str {
-    from_utf8(bytes).unwrap_or("bytes that are no text")
 }
 
 /// What the line asks for. None where it is outside the grammar, or too long.
@@ -140,8 +134,8 @@ fn words_of_lines(rt: HostRuntime) {
         (b"sink 1", "none"),
         (b"unsink 1 2 3", "none"),
     ];
-    for (line, word) in lines {
-        assert_found(&rt, &text_of(line), &word_of(line), &word);
+    for ((line, word), row) in lines.into_iter().zip(0..) {
+        assert_row(&rt, word_of(line) == word, "a line by row", row);
     }
 }
 
@@ -159,9 +153,9 @@ fn points_of_lines(rt: HostRuntime) {
         (b"sink 1 -2", "sink", 1, -2),
         (b"unsink -1 2", "unsink", -1, 2),
     ];
-    for (line, word, y, x) in lines {
-        assert_found(&rt, &text_of(line), &word_of(line), &word);
-        assert_found(&rt, &text_of(line), &point_in(line), &Some(Point { y, x }));
+    for ((line, word, y, x), row) in lines.into_iter().zip(0..) {
+        let is_right = word_of(line) == word && point_in(line) == Some(Point { y, x });
+        assert_row(&rt, is_right, "a line by row", row);
     }
 }
 
@@ -192,14 +186,10 @@ fn check_lines<R: Read>(
     reader: &mut R,
     lines: &[(Extent, Option<&[u8]>)],
 ) {
-    for (extent, bytes) in lines {
+    for ((extent, bytes), row) in lines.iter().zip(0..) {
         let mut line = Line::new();
         let is_right = read_line(ahead, reader, &mut line) == Ok(*extent) && line.bytes() == *bytes;
-        let text = match bytes {
-            Some(bytes) => text_of(bytes),
-            None => "a line that is too long",
-        };
-        assert_row(rt, &text, is_right);
+        assert_row(rt, is_right, "a line by row", row);
     }
 }
 
@@ -288,7 +278,7 @@ fn a_read_that_fails(rt: HostRuntime) {
     );
     for call in 0..2 {
         let is_refused = read_line(&mut ahead, &mut reader, &mut Line::new()).is_err();
-        assert_row(&rt, &("a read that fails", call), is_refused);
+        assert_row(&rt, is_refused, "a read that fails", call);
     }
     let skipped = skip_payload(&mut ahead, &mut reader, 1);
     assert!(rt; skipped.is_err());

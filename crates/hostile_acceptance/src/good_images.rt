@@ -1,34 +1,51 @@
 //! Images of good stores of side 3, to be changed.
 use crate::image::{Change, Image};
 use crate::opening::expected_opening;
-use crate::served::served_by_store;
-use crate::stores::{empty_store, into_disk};
+use crate::stores::{empty_store, into_disk, replies};
 use arrayvec::ArrayVec;
 use disk::Disk;
 use edits::{Bytes, Command};
 use lattice::{Corner, Point};
 use std::alloc::Global;
 use std::test::Fail;
-use store::Store;
-use test_tiles::lines_of;
+use store::{Event, Reply, Store};
 
 pub(crate) const HERE: Corner = Corner { lat: 0, lon: 0 };
 
 pub(crate) const EAST: Corner = Corner { lat: 0, lon: 1 };
+
+/// 9 9 9 / 9 1 9 / 9 9 5: nine samples of two bytes each, the higher first, rows from the north.
+pub(crate) const A: [u8; 18] = [0, 9, 0, 9, 0, 9, 0, 9, 0, 1, 0, 9, 0, 9, 0, 9, 0, 5];
+
+/// 9 9 9 / 9 1 1 / 9 9 9.
+pub(crate) const B: [u8; 18] = [0, 9, 0, 9, 0, 9, 0, 9, 0, 1, 0, 1, 0, 9, 0, 9, 0, 9];
+
+/// 9 9 9 / 9 void 9 / 9 9 9.
+pub(crate) const V: [u8; 18] = [0, 9, 0, 9, 0, 9, 0, 9, 128, 0, 0, 9, 0, 9, 0, 9, 0, 9];
 
 /// The levels of A alone, the lower byte first, and the labels: 9 9 9 / 9 5 9 / 9 9 5 and 0 1 2 / 3 7 4 / 5 6 7.
 const LEVELS: [u8; 18] = [9, 0, 9, 0, 9, 0, 9, 0, 5, 0, 9, 0, 9, 0, 9, 0, 5, 0];
 
 const LABELS: [u8; 18] = [0, 0, 1, 0, 2, 0, 3, 0, 7, 0, 4, 0, 5, 0, 6, 0, 7, 0];
 
-/// A good image: the version and the side of an empty store, how many tiles it takes at most, the lines that change it, and
-/// what is changed on its disk then.
+/// What is done to a store that is to be a good one. Corners are written as latitude and longitude, so that a constant can
+/// hold them.
+#[derive(Clone, Copy)]
+pub(crate) enum Act {
+    Import(i16, i16, &'static [u8]),
+    Remove(i16, i16),
+    Wall(i32, Point),
+    Step,
+}
+
+/// A good image: the version and the side of an empty store, how many tiles it takes at most, what is done to it, and what is
+/// changed on its disk then.
 #[derive(Clone, Copy)]
 pub(crate) struct Good {
     pub(crate) version: u32,
     pub(crate) side: u32,
     pub(crate) capacity: u32,
-    pub(crate) lines: &'static [&'static str],
+    pub(crate) acts: &'static [Act],
     pub(crate) changes: &'static [Change<'static>],
 }
 
@@ -37,7 +54,7 @@ pub(crate) const ONE_TILE: Good = Good {
     version: 1,
     side: 3,
     capacity: 1,
-    lines: &["import N00E000 $A"],
+    acts: &[Act::Import(0, 0, &A)],
     changes: &[],
 };
 
@@ -46,7 +63,7 @@ pub(crate) const TWO_TILES: Good = Good {
     version: 1,
     side: 3,
     capacity: 2,
-    lines: &["import N00E000 $A", "import N00E001 $B"],
+    acts: &[Act::Import(0, 0, &A), Act::Import(0, 1, &B)],
     changes: &[],
 };
 
@@ -55,13 +72,13 @@ pub(crate) const EDITED: Good = Good {
     version: 1,
     side: 3,
     capacity: 4,
-    lines: &[
-        "import N00E000 $A",
-        "import N00E001 $B",
-        "import S01E000 $V",
-        "import S01W001 $B",
-        "wall 12 0 1",
-        "remove N00E001",
+    acts: &[
+        Act::Import(0, 0, &A),
+        Act::Import(0, 1, &B),
+        Act::Import(-1, 0, &V),
+        Act::Import(-1, -1, &B),
+        Act::Wall(12, Point { y: 0, x: 1 }),
+        Act::Remove(0, 1),
     ],
     changes: &[],
 };
@@ -71,14 +88,14 @@ pub(crate) const EDITED_BY_VERSION_2: Good = Good {
     version: 2,
     side: 3,
     capacity: 4,
-    lines: &[
-        "import N00E000 $A",
-        "import N00E001 $B",
-        "import S01E000 $V",
-        "import S01W001 $B",
-        "wall 12 0 1",
-        "remove N00E001",
-        "step",
+    acts: &[
+        Act::Import(0, 0, &A),
+        Act::Import(0, 1, &B),
+        Act::Import(-1, 0, &V),
+        Act::Import(-1, -1, &B),
+        Act::Wall(12, Point { y: 0, x: 1 }),
+        Act::Remove(0, 1),
+        Act::Step,
     ],
     changes: &[],
 };
@@ -89,7 +106,7 @@ pub(crate) const ONE_TILE_BY_VERSION_2: Good = Good {
     version: 2,
     side: 3,
     capacity: 1,
-    lines: &["import N00E000 $A", "step"],
+    acts: &[Act::Import(0, 0, &A), Act::Step],
     changes: &[],
 };
 
@@ -98,7 +115,7 @@ pub(crate) const WITH_SINKS: Good = Good {
     version: 1,
     side: 3,
     capacity: 1,
-    lines: &["import N00E000 $A"],
+    acts: &[Act::Import(0, 0, &A)],
     changes: &[
         Change {
             sector: 3,
@@ -118,7 +135,7 @@ pub(crate) const WITH_KEPT_PLANES: Good = Good {
     version: 1,
     side: 3,
     capacity: 1,
-    lines: &["import N00E000 $A"],
+    acts: &[Act::Import(0, 0, &A)],
     changes: &[
         Change {
             sector: 3,
@@ -150,29 +167,49 @@ pub(crate) const WITH_KEPT_PLANES: Good = Good {
 
 pub(crate) fn image_of(alloc: Global, good: Good) -> Result<Image, Fail> {
     let mut store = empty_store(alloc, good.version, good.side, good.capacity)?;
-    let are_done = do_all(alloc, &mut store, good.lines);
+    let are_done = do_all(alloc, &mut store, good.acts);
     let mut disk = into_disk(store);
     if are_done? {
         Image::of(alloc, &mut disk)?.with(good.changes)
     } else {
-        Err("a line is refused".into())
+        Err("an act is refused".into())
     }
 }
 
-// Whether what each line asks for is done.
-fn do_all<D: Disk>(alloc: Global, store: &mut Store<D>, lines: &[&str]) -> Result<bool, Fail> {
-    for line in lines {
-        if !is_done(alloc, store, line)? {
+// Whether each act is done.
+fn do_all<D: Disk>(alloc: Global, store: &mut Store<D>, acts: &[Act]) -> Result<bool, Fail> {
+    for act in acts {
+        if !is_done(alloc, store, *act)? {
             return Ok(false);
         }
     }
     Ok(true)
 }
 
-fn is_done<D: Disk>(alloc: Global, store: &mut Store<D>, line: &str) -> Result<bool, Fail> {
-    let input = lines_of(alloc, &[line])?;
-    let output = served_by_store(alloc, store, &input, 4096)?;
-    Ok(output.starts_with(b"OK"))
+fn is_done<D: Disk>(alloc: Global, store: &mut Store<D>, act: Act) -> Result<bool, Fail> {
+    let event = event_of(alloc, act)?;
+    let replies = replies(alloc, store, &[event]);
+    Ok(!is_refused(&replies?))
+}
+
+fn event_of(alloc: Global, act: Act) -> Result<Event, Fail> {
+    match act {
+        Act::Import(lat, lon, bytes) => { Ok(Event::Do(import(alloc, corner(lat, lon)?, bytes)?)) }
+        Act::Remove(lat, lon) => {
+            let corner = corner(lat, lon)?;
+            Ok(Event::Do(Command::Remove { corner }))
+        }
+        Act::Wall(height, point) => Ok(Event::Do(wall(height, point))),
+        Act::Step => Ok(Event::Step),
+    }
+}
+
+fn corner(lat: i16, lon: i16) -> Result<Corner, Fail> {
+    Ok(Corner::new(lat, lon).ok_or("no corner")?)
+}
+
+fn is_refused(replies: &[Reply]) -> bool {
+    matches!(replies, [Reply::Refused(_), ..])
 }
 
 pub(crate) fn import(alloc: Global, corner: Corner, bytes: &[u8]) -> Result<Command, Fail> {

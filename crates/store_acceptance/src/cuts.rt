@@ -1,6 +1,6 @@
 //! Sessions of a store with power cuts between them.
 use super::asserting::assert_row;
-use super::fixtures::{EAST, HERE, import, opened, store_of};
+use super::fixtures::{A, B, EAST, HERE, import, opened, store_of};
 use disk::{FuseDisk, Torn};
 use edits::Command;
 use memory_store::run_through_power_cut;
@@ -8,7 +8,6 @@ use std::alloc::Global;
 use std::process::Abort;
 use std::test::Fail;
 use store::{Event, Reply};
-use test_tiles::{A, B};
 
 // How many calls opening a store with one tile makes: a sync, both gates, both roots and the record.
 const CALLS_TO_OPEN: u64 = 6;
@@ -46,7 +45,7 @@ fn has_what_was_done(alloc: Global, torn: Torn, calls: u64) -> Result<bool, Fail
 fn check_cuts(rt: &impl Abort, alloc: Global, torn: Torn) -> Result<(), Fail> {
     for calls in 0..CALLS_OF_SESSION {
         let is_there = has_what_was_done(alloc, torn, calls)?;
-        assert_row(rt, &("calls before a cut", calls), is_there);
+        assert_row(rt, is_there, "calls before a cut", calls);
     }
     Ok(())
 }

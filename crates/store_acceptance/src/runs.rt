@@ -1,5 +1,5 @@
 //! Whole runs of a store.
-use super::fixtures::{HERE, at, import, opened, store_of};
+use super::fixtures::{A, HERE, at, import, opened, store_of};
 use disk::{Disk, FaultOnceDisk};
 use edits::Command;
 use lattice::{Height, Refusal};
@@ -7,7 +7,6 @@ use memory_store::store_in_memory;
 use std::alloc::Global;
 use std::test::Fail;
 use store::{Event, Reply, Store};
-use test_tiles::A;
 use watershed::Run;
 
 // How many calls opening a store of the first version with one tile makes: a sync, both gates, both roots and the record.

@@ -1,7 +1,7 @@
 //! Stops and faults at each call of each change and of an opening, on stores of tiles of side 3.
 use super::asserting::assert_row;
-use super::change::{CHANGES, Row, UPGRADES, make, prepared_disk};
-use super::fixtures::{HERE, at, opened, store_of};
+use super::change::{CHANGES, Change, Row, UPGRADES, make, prepared_disk};
+use super::fixtures::{A, HERE, at, opened, store_of};
 use super::standing::{Model, Standing};
 use cow_tree::NotOpened;
 use disk::{Disk, FaultOnceDisk, FuseDisk, MemDisk, Torn};
@@ -11,7 +11,6 @@ use std::alloc::Global;
 use std::process::Abort;
 use std::test::Fail;
 use store::Store;
-use test_tiles::A;
 
 // How many calls opening a store of the first version with one tile makes: a sync, both gates, both roots and a record.
 const CALLS_TO_OPEN: u64 = 6;
@@ -43,7 +42,7 @@ impl Case {
         let (capacity, prepared, change) = row;
         let mut model = Model::new(alloc, version, capacity)?;
         for change in prepared {
-            model.make(change)?;
+            model.make(*change)?;
         }
         let before = model.standing()?;
         model.make(change)?;
@@ -77,7 +76,7 @@ pub(crate) fn make_with(
     alloc: Global,
     disk: MemDisk,
     calls: u64,
-    change: &str,
+    change: Change,
 ) -> Result<(MemDisk, Option<Refusal>), Fail> {
     match Store::open(alloc, FuseDisk::new(disk, calls)) {
         Ok(mut store) => {
@@ -156,10 +155,10 @@ fn stop_each_change(
     version: u32,
     rows: &[Row],
 ) -> Result<(), Fail> {
-    for row in rows {
+    for (row, number) in rows.iter().zip(1..u64::MAX) {
         let case = Case::new(alloc, version, *row)?;
         let through = stop_after_each(alloc, &case)?;
-        assert_row(rt, &("a change that isn't through", version, *row), through);
+        assert_row(rt, through, "a change that isn't through", number);
     }
     Ok(())
 }
@@ -264,11 +263,10 @@ fn fault_in_each_change(
     version: u32,
     rows: &[Row],
 ) -> Result<(), Fail> {
-    for row in rows {
+    for (row, number) in rows.iter().zip(1..u64::MAX) {
         let case = Case::new(alloc, version, *row)?;
         let made = fault_at_each(alloc, &case)?;
-        let what = "not made by a fault in the last sync";
-        assert_row(rt, &(what, version, *row), made);
+        assert_row(rt, made, "not made by a fault in the last sync", number);
     }
     Ok(())
 }

@@ -1,11 +1,10 @@
 //! The upgrade of a store of side 3 to the second version.
-use super::fixtures::{HERE, at, exports, import, opened, sink, store_of_version_1};
+use super::fixtures::{A, HERE, at, exports, import, opened, sink, store_of_version_1};
 use disk::MemDisk;
 use lattice::Refusal;
 use std::alloc::Global;
 use std::test::Fail;
 use store::Store;
-use test_tiles::A;
 
 // Version, commands and commits: an import, a sink and a step were made, and then the upgrade.
 const BEFORE: (u32, u64, u64) = (1, 2, 4);
