@@ -1,8 +1,8 @@
 //! Lines and payloads as they are read, the event that a line asks for, and the text of an answer.
 use crate::asserting::assert_row;
 use crate::counting::Counting;
-use engine::Event;
 use edits::Command;
+use engine::Event;
 use lattice::{Corner, Point, Refusal};
 use lines::{
     Ahead, Extent, Line, Request, Text, read_line, read_payload, request_of, skip_payload,

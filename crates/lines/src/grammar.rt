@@ -12,8 +12,8 @@ use crate::number::{integers, natural};
 use crate::request::{MOST_POINTS, Request};
 use crate::words::{Words, first_word};
 use arrayvec::ArrayVec;
-use engine::Event;
 use edits::Command;
+use engine::Event;
 use hgt::name_of;
 use lattice::{Corner, Point};
 

@@ -16,15 +16,15 @@ mod grammar;
 mod keyword;
 mod lists;
 mod number;
+mod replying;
 mod request;
 mod source;
-mod replying;
 mod text;
 mod words;
 
 pub use grammar::request_of;
 pub use number::natural;
+pub use replying::format_reply;
 pub use request::{MOST_POINTS, Request};
 pub use source::{Ahead, Extent, Line, ReadFault, read_line, read_payload, skip_payload};
-pub use replying::format_reply;
 pub use text::{Text, WriteFault, write_bytes};
