@@ -6,7 +6,7 @@
 //!
 //! ```
 //! let request = request_of(b"fill 1 1");                 // Some: the event to fill y = 1, x = 1
-//! let text = format_reply(alloc, reply);                         // "OK 5" and an LF
+//! let text = format_reply(alloc, reply);                 // "OK 5" and an LF
 //! text.write(&mut writer)?;
 //! ```
 #![tactic(auto)]

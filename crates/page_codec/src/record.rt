@@ -80,6 +80,7 @@ fn read_pages(bytes: &[u8; PAGE_BYTES], count: u32) -> Result<ArrayVec<u32, RECO
     Ok(pages)
 }
 
+// A page of these numbers, and zeros behind them.
 fn write_pages(pages: &[u32]) -> [u8; PAGE_BYTES]
     requires { length pages.now ≤ RECORD_PAGES }
     ensures { result ≡ record_bytes pages.now }

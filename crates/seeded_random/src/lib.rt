@@ -1,5 +1,8 @@
 //! Numbers that look random, and are the same in each run: for random tests, which draw their commands and bytes from it.
 //!
+//! Tests rest on this: `next_below` answers a number below its bound. That a seed gives the same numbers in each run isn't in
+//! a contract.
+//!
 //! ```
 //! let mut random = Random::new(1);
 //! let height = random.next_below(100);                   // 0 to 99

@@ -1,5 +1,5 @@
 //! The tiles that tests ask about: the bytes of their HGT files, two for each sample, the higher first, rows from the north;
-//! and texts in which `$` and a letter stand for a tile.
+//! and texts in which `$` and a letter stand for a tile. No contract speaks of them.
 //!
 //! ```
 //! let item = expand(alloc, "import N00E000 $A")?;        // "import N00E000 18", an LF, and 9 9 9 / 9 1 9 / 9 9 5

@@ -47,7 +47,7 @@ fn is_on_rim(n: usize, i: usize, j: usize) -> bool
     i == 0 || i + 1 == n || j == 0 || j + 1 == n
 }
 
-// Rim points are numbered row by row from the north-west.
+// The number of the rim point in row i and column j: rim points are numbered row by row from the north-west.
 fn number_of(n: usize, i: usize, j: usize) -> u16
     requires side { IsSide n }
     requires cell { (i < n) × (j < n) }
