@@ -118,7 +118,7 @@ impl Table {
     }
 }
 
-/// Reads each sample, after which each is known to be a number of 16 bits. A compiler leaves nothing of it.
+/// For the prover alone: a sample that is read is known to be a number of 16 bits. No code comes of it.
 pub(crate) fn read_all(samples: &[i16])
     ensures { All IsSample samples.now }
 {
