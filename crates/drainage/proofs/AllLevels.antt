@@ -20,7 +20,7 @@ use Rattle.catalogue.specs.Readers.{OnlyReads}
 use Rattle.catalogue.specs.Tiles.{corners_of}
 use Rattle.catalogue.specs.declared.samples.Samples.{Ghosts}
 use Rattle.flow_d8.specs.Filled.{Filled, IsFilledOf}
-use Rattle.downstream.proofs.Nearby.{level_ground}
+use Rattle.flow_d8.proofs.Nearby.{level_ground}
 use Rattle.drainage.proofs.Questioned.{answered, wanting}
 use Rattle.drainage.specs.Everywhere.{IsLevelOrVoid, AreLevelsTo, sample_point}
 

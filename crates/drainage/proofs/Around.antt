@@ -13,8 +13,8 @@ use Rattle.lattice.specs.Steps.{step, order_of}
 use Rattle.lattice.proofs.Levels.{level_is_unique}
 use Rattle.catalogue.specs.Tiles.{corners_of}
 use Rattle.catalogue.proofs.Sharing.{shared_from}
-use Rattle.downstream.specs.Near.{IsNear}
-use Rattle.downstream.proofs.Nearby.{all_around, level_ground, told}
+use Rattle.flow_d8.specs.LevelsAround.{IsNear}
+use Rattle.flow_d8.proofs.Nearby.{all_around, level_ground, told}
 use Rattle.tile_labellings.specs.Labellings.{IsFlooded}
 use Rattle.border_graph.specs.Others.{corner_at}
 use Rattle.tile_flood.specs.Blocks.{LabelledGround}

@@ -14,7 +14,7 @@ use Rattle.lattice.proofs.Samples.{index_below, point_at_index}
 use Rattle.flow_d8.specs.Flow.{way_of}
 use Rattle.flow_d8.specs.declared.flow.Flow.{Flow}
 use Rattle.flow_d8.specs.declared.flow.Flow.TheVariants.{Unknown}
-use Rattle.downstream.specs.Way.{IsWay}
+use Rattle.flow_d8.specs.Way.{IsWay}
 use Rattle.drainage.specs.Flows.{AreFlowsOf}
 
 none_some : (way : Option Dir) → ◌≡◌ {A = Option (Option Dir)} None (Some way) → ⊥

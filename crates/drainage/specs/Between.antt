@@ -4,7 +4,7 @@ use Rattle.lattice.specs.Mosaic.{Mosaic}
 use Rattle.lattice.specs.declared.point.Point.{Point}
 use Rattle.catalogue.specs.declared.samples.Samples.{Ghosts}
 use Rattle.flow_d8.specs.Directions.{Directions, AreDirectionsOf}
-use Rattle.downstream.specs.Around.{OnLevels}
+use Rattle.flow_d8.specs.LevelsAround.{OnLevels}
 use Rattle.drainage.specs.Flows.{AreFlows}
 use Rattle.drainage.specs.Invalidating.{IsLeftOf, IsNotedOf}
 use Rattle.drainage.specs.Holding.{IsRight}

@@ -8,7 +8,7 @@ use Rattle.lattice.specs.declared.direction.Dir.{Dir}
 use Rattle.flow_d8.specs.Flow.{way_of}
 use Rattle.flow_d8.specs.declared.flow.Flow.{Flow}
 use Rattle.flow_d8.specs.declared.flow.Flow.TheVariants.{Unknown}
-use Rattle.downstream.specs.Way.{IsWay}
+use Rattle.flow_d8.specs.Way.{IsWay}
 use Rattle.drainage.specs.declared.flows.TileFlows.{TileFlows}
 use Rattle.drainage.specs.declared.flows.Flows.{Flows}
 

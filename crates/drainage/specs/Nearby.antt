@@ -3,7 +3,7 @@ use Rattle.std.specs.Prelude.{ℕ, ℤ, Option}
 use Rattle.lattice.specs.declared.point.Point.{Point}
 use Rattle.lattice.specs.Lattice.{Holds}
 use Rattle.lattice.specs.Mosaic.{Mosaic, IsMosaic}
-use Rattle.downstream.specs.Levels.{IsLevelAt}
+use Rattle.flow_d8.specs.LevelsAround.{IsLevelAt}
 use Rattle.border_graph.specs.Others.{corner_at}
 use Rattle.drainage.specs.Holding.{Known, IsRight}
 

@@ -41,5 +41,5 @@ pub fn watershed<S: Labellings>(
     ensures held { IsHeldFor S.Samples samples.new held.new }
 {
     check_ground(samples, point)?;
-    upstream::watershed(alloc, held, samples, point)
+    watershed::watershed_at(alloc, held, samples, point)
 }

@@ -1,7 +1,7 @@
 //! Where the points of tiles drain, as far as questions found it.
 ghost use Rattle.std.specs.Prelude.{◌≡◌, ◌*◌, ◌<◌, IfOk, IfSome, length};
 ghost use Rattle.lattice.specs.Mosaic.{Mosaic};
-ghost use Rattle.downstream.specs.Way.{IsWay};
+ghost use Rattle.flow_d8.specs.Way.{IsWay};
 
 use catalogue::Samples;
 use flow_d8::Flow;

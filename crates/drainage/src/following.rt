@@ -18,8 +18,7 @@ use crate::drainage_cache::DrainageCache;
 use crate::everywhere::{far, learn_all};
 use crate::filling::level;
 use catalogue::share_tile;
-use downstream::{FilledLevels, Near, direction_at};
-use flow_d8::Directions;
+use flow_d8::{Directions, FilledLevels, Near, direction_at};
 use lattice::{Dir, Point, Refusal};
 use std::alloc::Global;
 use tile_labellings::Labellings;
@@ -72,7 +71,7 @@ pub fn trace<S: Labellings>(
     ensures held { IsHeldFor S.Samples samples.new held.new }
 {
     check_ground(samples, point)?;
-    downstream::trace(alloc, held, samples, point)
+    flow_d8::trace(alloc, held, samples, point)
 }
 
 impl<S: Labellings> FilledLevels<S> for DrainageCache {

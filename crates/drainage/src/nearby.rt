@@ -1,6 +1,6 @@
 //! The levels at a point and around it, where what is held tells them.
 ghost use Rattle.std.specs.Prelude.{◌≡◌, ◌<◌, Some, IfSome, length};
-ghost use Rattle.downstream.specs.Near.{IsNear};
+ghost use Rattle.flow_d8.specs.LevelsAround.{IsNear};
 ghost use Rattle.lattice.specs.Mosaic.{Mosaic, IsMosaic};
 ghost use Rattle.lattice.specs.Steps.{step};
 ghost use Rattle.border_graph.specs.Others.{corner_at};
@@ -12,7 +12,7 @@ ghost use Rattle.drainage.specs.TileCaches.{known_of};
 use crate::filling::spot_of;
 use crate::tile_cache::TileCache;
 use border_graph::node_at;
-use downstream::Near;
+use flow_d8::Near;
 use lattice::{Corner, DIRECTIONS, Dir, Point, index_in, neighbour};
 use tile_flood::{Labelled, NO_LABEL, OUT};
 

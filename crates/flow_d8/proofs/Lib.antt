@@ -21,3 +21,15 @@ pub mod Draining
 pub mod Fitting
 pub mod Tracing
 pub mod Feeding
+pub mod PointSquares
+pub mod PointTables
+pub mod Asked
+pub mod Nearby
+pub mod Descending
+pub mod Reaching
+pub mod Shortest
+pub mod Ends
+pub mod Following
+pub mod FlatsSearched
+pub mod FlatsMeasured
+pub mod Learning

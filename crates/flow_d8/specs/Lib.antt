@@ -12,3 +12,14 @@ pub mod Surface
 pub mod Crossing
 pub mod Directions
 pub mod Flow
+pub mod PointSquares
+pub mod PointTable
+pub mod LevelsAround
+pub mod Way
+pub mod Asking
+pub mod Seen
+pub mod Steepest
+pub mod FlatSearch
+pub mod Lie
+pub mod Flats
+pub mod FlowSteps

@@ -3,3 +3,4 @@ pub mod RunsLaws
 pub mod Order
 pub mod Search
 pub mod Questions
+pub mod Feeding

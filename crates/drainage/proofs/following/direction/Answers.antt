@@ -1,7 +1,7 @@
 use Rattle.std.proofs.Common.{Err, refl, subst}
 use Rattle.std.proofs.lemmas.Result.{err_from_is_err_and}
 use Rattle.lattice.specs.Mosaic.{Mosaic}
-use Rattle.downstream.specs.Way.{IsWay}
+use Rattle.flow_d8.specs.Way.{IsWay}
 use Rattle.catalogue.proofs.Asking.{asked_passed}
 use Rattle.drainage.proofs.Questioned.{answered, asked_then, refused_by}
 use Rattle.drainage.proofs.Followed.{held_still}

@@ -4,7 +4,7 @@ use Rattle.std.proofs.lemmas.Result.{IfOk-weaker}
 use Rattle.lattice.specs.Mosaic.{Mosaic}
 use Rattle.lattice.specs.Ground.{is_ground, terrain}
 use Rattle.flow_d8.specs.FlowPath.{IsFlowPath}
-use Rattle.downstream.specs.Around.{OnLevels}
+use Rattle.flow_d8.specs.LevelsAround.{OnLevels}
 use Rattle.drainage.proofs.Questioned.{asked_then}
 use Rattle.drainage.proofs.Followed.{held_still, asked_by}
 use Rattle.drainage.proofs.following.trace.Goals as goal

@@ -3,8 +3,8 @@ use Rattle.std.specs.Prelude.{IfSome}
 use Rattle.lattice.specs.Ground.{terrain}
 use Rattle.flow_d8.specs.Directions.{AreDirectionsOf}
 use Rattle.flow_d8.specs.Drainage.{IsDirection}
-use Rattle.downstream.specs.Around.{OnLevels}
-use Rattle.downstream.proofs.Ends.{level_function}
+use Rattle.flow_d8.specs.LevelsAround.{OnLevels}
+use Rattle.flow_d8.proofs.Ends.{level_function}
 use Rattle.drainage.proofs.drainage_cache.DrainageCache.way_of.Goals as goal
 
 pub returns-in-Some : goal.returns-in-Some

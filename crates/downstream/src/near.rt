@@ -1,8 +1,0 @@
-//! The levels at a point and around it, at once.
-
-/// The filled level of a ground point, and those of the points that are adjacent to it, by direction in the order of codes.
-#[derive(Clone, Copy)]
-pub struct Near {
-    pub height: i16,
-    pub around: [Option<i16>; 8],
-}

@@ -1,0 +1,34 @@
+-- Calls one after another.
+use Rattle.std.proofs.Common.{◌∙◌, refl, sym, subst, Ok, Err}
+use Rattle.std.specs.Prelude.{Option, Some, None, Result, IfOk, IfSome}
+use Rattle.flow_d8.specs.declared.filled_levels.FilledLevels.{Ghosts}
+use Rattle.lattice.specs.Mosaic.{Mosaic}
+use Rattle.lattice.specs.Ground.{terrain}
+use Rattle.flow_d8.specs.LevelsAround.{OnLevels}
+use Rattle.flow_d8.specs.Asking.{Asks}
+use Rattle.flow_d8.specs.declared.flats.Flats.{Flats}
+use Rattle.flow_d8.specs.Flats.{AreMeasured, AreFlatsOf}
+
+module _ {L S : Type 0} (g : Ghosts L S) where
+  pub asks_nothing : (s : L) (a : S) → Asks g s a s a
+  asks_nothing s a = record { honest = λ honest. honest; mosaic = λ honest. refl }
+
+  pub asks_on : (s s' s'' : L) (a b c : S) → Asks g s a s' b → Asks g s' b s'' c → Asks g s a s'' c
+  asks_on s s' s'' a b c first then = record {
+    honest = λ honest. first.honest (then.honest honest);
+    mosaic = λ honest. then.mosaic honest ∙ first.mosaic (then.honest honest);
+  }
+
+  -- what was found of flats before a call is right after it
+  pub flats_on : (s s' : L) (a b : S) (held : Flats) → Asks g s a s' b → AreFlatsOf g s a held → AreFlatsOf g s' b held
+  flats_on s s' a b held asks are honest = subst (λ (m : Mosaic). OnLevels m (λ level. AreMeasured (terrain m) level held)) (sym (asks.mosaic honest)) (are (asks.honest honest))
+
+pub on_ok : {T E : Type 0} (P Q : T → Type 0) (r : Result T E) → ((x : T) → P x → Q x) → IfOk r P → IfOk r Q
+on_ok P Q (Ok x) f h = f x h
+on_ok P Q (Err e) f h = h
+
+-- both of what was found, if something was
+pub on_found : {T E : Type 0} (P Q R : T → Type 0) (r : Result (Option T) E) → ((x : T) → P x → Q x → R x) → IfOk r (λ f. IfSome f P) → IfOk r (λ f. IfSome f Q) → IfOk r (λ f. IfSome f R)
+on_found P Q R (Ok (Some x)) f p q = f x p q
+on_found P Q R (Ok None) f p q = p
+on_found P Q R (Err e) f p q = p

@@ -1,0 +1,159 @@
+-- What lies around a point of a mosaic.
+use Rattle.std.proofs.Common.{◌≡◌, ℕ, ◌<◌, ℤ, Bool, true, false, not, ◌&&◌, ◌||◌, IsTrue, IsFalse, Option, Some, None, List, [], ◌∷◌, length, get_or, inl, inr, refl, sym, ap, ◌∙◌, arith, true≢false}
+use Rattle.std.specs.Prelude.{is_some, count_by, nat_lt}
+use Rattle.std.specs.List.{list_all}
+use Rattle.std.proofs.lemmas.Bool.{cases_Bool, cond-true, cond-false}
+use Rattle.std.proofs.lemmas.List.{same_lists, get_or_default}
+use Rattle.lattice.specs.declared.point.Point.{Point}
+use Rattle.lattice.specs.declared.direction.Dir.{Dir}
+use Rattle.lattice.specs.declared.direction.Dir.TheVariants.{East, SouthEast, South, SouthWest, West, NorthWest, North, NorthEast}
+use Rattle.lattice.specs.Steps.{step, order_of, directions}
+use Rattle.lattice.specs.Stepping.{fits_point}
+use Rattle.lattice.specs.Terrain.{Terrain, IsPath, IsFilledLevel}
+use Rattle.lattice.specs.Mosaic.{Mosaic, IsMosaic, void, is_void}
+use Rattle.lattice.specs.Height.{samples_at, height_of}
+use Rattle.lattice.specs.Ground.{is_ground, same_point, is_near, share_tile, is_adjacent, is_outlet, is_sink, terrain, metres}
+use Rattle.lattice.proofs.Lawful.{five_parts, five_from, terrain_is_lawful}
+use Rattle.lattice.proofs.Levels.{level_is_unique, height-le_level}
+use Rattle.flow_d8.specs.Drainage.{AreFilledLevels}
+use Rattle.flow_d8.proofs.Compass.{dir_at, order_of-dir_at, dir_at_place}
+use Rattle.flow_d8.proofs.Surfaces.{step_near, step_other}
+use Rattle.flow_d8.proofs.Beginning.{counted}
+use Rattle.flow_d8.proofs.Fitting.{ground_fits}
+use Rattle.flow_d8.proofs.FilledOf.{ground_not_void, above_void}
+use Rattle.flow_d8.proofs.MosaicGrid.{mosaic_is_grid}
+use Rattle.flow_d8.specs.LevelsAround.{IsLevelAt}
+use Rattle.flow_d8.specs.LevelsAround.{beside_of, around_of}
+
+module _ (t : Terrain Point) (level : Point → ℤ) (p : Point) where
+  pub beside_there : (d : Dir) → IsTrue (t.is_adjacent p (step d p)) → beside_of t level p d ≡ Some (level (step d p))
+  beside_there d on = cond-true (t.is_adjacent p (step d p)) (Some (level (step d p))) None on
+
+  pub beside_none : (d : Dir) → IsFalse (t.is_adjacent p (step d p)) → beside_of t level p d ≡ None
+  beside_none d off = cond-false (t.is_adjacent p (step d p)) (Some (level (step d p))) None off
+
+  pub beside_some : (d : Dir) (v : ℤ) → beside_of t level p d ≡ Some v → IsTrue (t.is_adjacent p (step d p)) × (v ≡ level (step d p))
+  beside_some d v is = elim (cases_Bool (t.is_adjacent p (step d p))) [
+    | inl on ↦ (on, some_same (sym is ∙ beside_there d on))
+    | inr off ↦ absurd (no_some (sym is ∙ beside_none d off))
+  ]
+    where
+      some_same : {a b : ℤ} → Some a ≡ Some b → a ≡ b
+      some_same e = cc
+
+      no_some : {a : ℤ} → ◌≡◌ {A = Option ℤ} (Some a) None → ⊥
+      no_some e = cc
+
+  -- what stands at a direction's place
+  pub in_place : (d : Dir) → get_or (around_of t level p) (order_of d) None ≡ beside_of t level p d
+  in_place East = refl
+  in_place SouthEast = refl
+  in_place South = refl
+  in_place SouthWest = refl
+  in_place West = refl
+  in_place NorthWest = refl
+  in_place North = refl
+  in_place NorthEast = refl
+
+  pub placed : (k : ℕ) (x : Dir) → k < 8 → order_of (get_or directions k x) ≡ k
+  placed k x small = ap order_of (dir_at_place (dir_at k) x k (order_of-dir_at k small)) ∙ order_of-dir_at k small
+
+  pub found_at : (around : List (Option ℤ)) → around ≡ around_of t level p → (k : ℕ) (e : Option ℤ) (x : Dir) → k < 8 → get_or around k e ≡ beside_of t level p (get_or directions k x)
+  found_at around are k e x small =
+      get_or_default around k e None (omega (arith, ap length are)) ∙ ap (λ xs. get_or xs k None) are
+      ∙ ap (λ i. get_or (around_of t level p) i None) (sym (placed k x small)) ∙ in_place (get_or directions k x)
+
+  -- eight that are right at each direction's place are all
+  pub all_around : (around : List (Option ℤ)) → length around ≡ 8 → ((d : Dir) → get_or around (order_of d) None ≡ beside_of t level p d) → around ≡ around_of t level p
+  all_around around eight each = same_lists around (around_of t level p) eight
+      (λ k d small.
+      let is = order_of-dir_at k (omega arith) in
+      get_or_default around k d None small
+      ∙ ap (λ i. get_or around i None) (sym is) ∙ each (dir_at k) ∙ sym (in_place (dir_at k)) ∙ ap (λ i. get_or (around_of t level p) i None) is
+      ∙ get_or_default (around_of t level p) k None d (omega arith))
+
+-- a point with a filled level is ground
+pub level_ground : (m : Mosaic) → (p : Point) (v : ℤ) → IsFilledLevel (terrain m) p v → IsTrue (is_ground m p)
+level_ground m p v filled = from filled.reached.0 filled.reached.1.0.path
+  where
+    from : (rest : List Point) → IsPath (terrain m) p rest → IsTrue (is_ground m p)
+    from [] path = path
+    from (y ∷ rest) path = (terrain_is_lawful m).from_ground p y path.0
+
+pub found_ground : (m : Mosaic) (p : Point) (found : Option ℤ) → is_some found ≡ true → IsLevelAt m p found → IsTrue (is_ground m p)
+found_ground m p None is none = absurd (true≢false (sym is))
+found_ground m p (Some v) is there = level_ground m p v there
+
+-- ground one step away is adjacent where some tile holds both points
+pub one_step : (m : Mosaic) (p : Point) (d : Dir) → IsTrue (is_ground m p) → IsTrue (is_ground m (step d p)) → IsTrue (share_tile m p (step d p)) → IsTrue (is_adjacent m p (step d p))
+one_step m p d here there share = five_from (is_ground m p) (is_ground m (step d p)) (not (same_point p (step d p))) (is_near p (step d p)) (share_tile m p (step d p))
+    (record { first = here; second = there; third = ap not (step_other p d); fourth = step_near p d; fifth = share })
+
+pub in_one_tile : (m : Mosaic) (p q : Point) → IsTrue (is_adjacent m p q) → IsTrue (share_tile m p q)
+in_one_tile m p q beside = (five_parts (is_ground m p) (is_ground m q) (not (same_point p q)) (is_near p q) (share_tile m p q) beside).fifth
+
+module _ (m : Mosaic) (level : Point → ℤ) (p : Point) where
+  -- no point is adjacent that can't be stepped to, that no tile holds beside p, or that isn't ground
+  module _ (is : IsMosaic m) (d : Dir) where
+    not_beside : (IsTrue (is_ground m (step d p)) → IsTrue (share_tile m p (step d p)) → ⊥) → None ≡ beside_of (terrain m) level p d
+    not_beside none = sym (beside_none (terrain m) level p d apart)
+      where
+        apart : IsFalse (is_adjacent m p (step d p))
+        apart = elim (cases_Bool (is_adjacent m p (step d p))) [
+          | inl on ↦
+              let parts = five_parts (is_ground m p) (is_ground m (step d p)) (not (same_point p (step d p))) (is_near p (step d p)) (share_tile m p (step d p)) on in
+              absurd (none parts.second parts.fifth)
+          | inr off ↦ off
+        ]
+
+    pub beside_unfit : (IsTrue (fits_point (step d p)) → ⊥) → None ≡ beside_of (terrain m) level p d
+    beside_unfit far = not_beside (λ solid share. far (ground_fits m is (step d p) solid))
+
+    pub beside_apart : IsFalse (share_tile m p (step d p)) → None ≡ beside_of (terrain m) level p d
+    beside_apart apart = not_beside (λ solid share. true≢false (sym share ∙ apart))
+
+    pub beside_void : IsFalse (is_ground m (step d p)) → None ≡ beside_of (terrain m) level p d
+    beside_void none = not_beside (λ solid share. true≢false (sym solid ∙ none))
+
+    pub beside_found : AreFilledLevels (terrain m) level → IsTrue (is_ground m p) → IsTrue (share_tile m p (step d p)) → (v : ℤ) → IsFilledLevel (terrain m) (step d p) v → IsTrue (is_ground m (step d p))
+        → Some v ≡ beside_of (terrain m) level p d
+    beside_found filled here share v there solid =
+        ap Some (level_is_unique (terrain m) (step d p) v (level (step d p)) there (filled (step d p) solid))
+        ∙ sym (beside_there (terrain m) level p d (one_step m p d here solid share))
+
+    pub told : AreFilledLevels (terrain m) level → IsTrue (is_ground m p) → IsTrue (share_tile m p (step d p)) → (found : Option ℤ) → IsLevelAt m (step d p) found → found ≡ beside_of (terrain m) level p d
+    told filled here share None none = beside_void none
+    told filled here share (Some v) there = beside_found filled here share v there (level_ground m (step d p) v there)
+
+  some_beside : (d : Dir) → is_some (beside_of (terrain m) level p d) ≡ is_adjacent m p (step d p)
+  some_beside d = elim (cases_Bool (is_adjacent m p (step d p))) [
+    | inl on ↦ ap is_some (beside_there (terrain m) level p d on) ∙ sym on
+    | inr off ↦ ap is_some (beside_none (terrain m) level p d off) ∙ sym off
+  ]
+
+  all_eight : (a b c d e g h i a' b' c' d' e' g' h' i' : Bool) → a ≡ a' → b ≡ b' → c ≡ c' → d ≡ d' → e ≡ e' → g ≡ g' → h ≡ h' → i ≡ i' →
+      (a && (b && (c && (d && (e && (g && (h && (i && true)))))))) ≡ (a' && (b' && (c' && (d' && (e' && (g' && (h' && (i' && true))))))))
+  all_eight a b c d e g h i a' b' c' d' e' g' h' i' sa sb sc sd se sg sh si = cc
+
+  -- a ground point is an outlet exactly where it is a sink or lacks an adjacent point
+  pub outlet_is : IsTrue (is_ground m p) → (is_sink m p || not (list_all is_some (around_of (terrain m) level p))) ≡ is_outlet m p
+  outlet_is solid =
+      ap (λ b. is_sink m p || not b) (all_eight _ _ _ _ _ _ _ _ _ _ _ _ _ _ _ _ (some_beside East) (some_beside SouthEast) (some_beside South) (some_beside SouthWest)
+      (some_beside West) (some_beside NorthWest) (some_beside North) (some_beside NorthEast))
+      ∙ ap (λ b. is_sink m p || b) (sym (counted _ _ _ _ _ _ _ _))
+      ∙ turned (nat_lt (count_by (λ d. is_adjacent m p (step d p)) directions) 8) (is_sink m p) (is_ground m p) solid
+    where
+      turned : (few sink on : Bool) → on ≡ true → (sink || few) ≡ (on && (few || sink))
+      turned true true true is = refl
+      turned true false true is = refl
+      turned false true true is = refl
+      turned false false true is = refl
+      turned few sink false is = absurd (true≢false (sym is))
+
+-- no filled level is the void
+pub never_void : (m : Mosaic) → IsMosaic m → (level : Point → ℤ) → AreFilledLevels (terrain m) level → (p : Point) → IsTrue (is_ground m p) → level p ≡ void → ⊥
+never_void m is level filled p solid none =
+    let low = (mosaic_is_grid m is).bottom_below p solid in
+    let high = height-le_level (terrain m) p (level p) (filled p solid) in
+    let some : is_void (level p) ≡ false = above_void (metres (height_of m p)) (level p) (ground_not_void (samples_at m p) solid) low high in
+    true≢false (sym (ap is_void none) ∙ some)

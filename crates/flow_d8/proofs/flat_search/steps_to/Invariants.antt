@@ -1,0 +1,17 @@
+use Rattle.std.proofs.Common.{ℕ, ◌<◌, ℤ, length}
+use Rattle.lattice.specs.declared.point.Point.{Point}
+use Rattle.lattice.specs.Terrain.{Terrain}
+use Rattle.flow_d8.specs.FlatSearch.{lead_at, LeadsTo, AreDrained}
+use Rattle.flow_d8.specs.FlowSteps.{FlowsBy}
+use Rattle.flow_d8.proofs.flat_search.steps_to.Given as goal
+
+abbrev pub invariant-back : goal.invariant-back
+invariant-back l = record {
+  within : l.at < length l.leads;
+  leads_on : (r : ℕ) × LeadsTo l.leads l.head l.at r;
+  some : l.at < l.head → 0 < length l.steps.items;
+  flows : (t : Terrain Point) (level : Point → ℤ) → AreDrained t level l.leads l.head → FlowsBy t level (lead_at l.leads l.at).point l.steps.items (lead_at l.leads l.head).point;
+}
+
+abbrev pub decreases-back : goal.decreases-back
+decreases-back l = l.at

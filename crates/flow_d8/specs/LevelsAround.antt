@@ -1,0 +1,32 @@
+-- What is answered of the levels at a point and around it.
+use Rattle.std.specs.Prelude.{◌≡◌, ℤ, IsTrue, IsFalse, if◌then◌else◌, List, Option, Some, None, MatchOption, map}
+use Rattle.lattice.specs.declared.point.Point.{Point}
+use Rattle.lattice.specs.declared.direction.Dir.{Dir}
+use Rattle.lattice.specs.Steps.{step, directions}
+use Rattle.lattice.specs.Terrain.{Terrain, IsFilledLevel}
+use Rattle.lattice.specs.Mosaic.{Mosaic}
+use Rattle.lattice.specs.Ground.{is_ground, terrain}
+use Rattle.flow_d8.specs.declared.levels_around.Near.{Near}
+use Rattle.flow_d8.specs.Drainage.{AreFilledLevels}
+
+-- the point's filled level, or none where it isn't ground
+abbrev pub IsLevelAt : Mosaic → Point → Option ℤ → Type 0
+IsLevelAt m p found = MatchOption found (IsFalse (is_ground m p)) (λ level. IsFilledLevel (terrain m) p level)
+
+-- the level of the adjacent point in the direction, if there is one
+abbrev pub beside_of : Terrain Point → (Point → ℤ) → Point → Dir → Option ℤ
+beside_of t level p d = if t.is_adjacent p (step d p) then Some (level (step d p)) else None
+
+-- by direction in the order of codes
+abbrev pub around_of : Terrain Point → (Point → ℤ) → Point → List (Option ℤ)
+around_of t level p = map (beside_of t level p) directions
+
+-- it holds for the function that gives the filled levels of the mosaic
+abbrev pub OnLevels : Mosaic → ((Point → ℤ) → Type 0) → Type 0
+OnLevels m Says = (level : Point → ℤ) → AreFilledLevels (terrain m) level → Says level
+
+-- the point is ground of this level, with these levels around it
+pub record IsNear (m : Mosaic) (p : Point) (near : Near) : Type 0 where
+  pub solid : IsTrue (is_ground m p)
+  pub here : OnLevels m (λ level. level p ≡ near.height)
+  pub around_it : OnLevels m (λ level. near.around ≡ around_of (terrain m) level p)

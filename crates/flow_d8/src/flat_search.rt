@@ -1,0 +1,198 @@
+//! The shortest way across a flat, searched outward from one point.
+ghost use Rattle.std.specs.Prelude.{◌≡◌, ◌+◌, ◌<◌, ℤ, [], ◌∷◌, IsTrue, IsFalse, IfOk, IfErr, IfSome, OnOk, length};
+ghost use Rattle.lattice.specs.declared.point.Point.{Point};
+ghost use Rattle.lattice.specs.Terrain.{Terrain};
+ghost use Rattle.lattice.specs.Ground.{is_ground, terrain};
+ghost use Rattle.flow_d8.specs.Drainage.{CrossesFlat};
+ghost use Rattle.flow_d8.specs.LevelsAround.{OnLevels};
+ghost use Rattle.flow_d8.specs.Asking.{Asks};
+ghost use Rattle.flow_d8.specs.Seen.{has_seen};
+ghost use Rattle.flow_d8.specs.FlowSteps.{FlowsBy, FlowsOn};
+ghost use Rattle.flow_d8.specs.Flats.{IsFollowed};
+ghost use Rattle.flow_d8.specs.FlatSearch.{AreReached, AreLinked, IsVisited, AreVisited, IsOnFlat, IsSearched, AreDrained, lead_at};
+
+use crate::FilledLevels;
+use crate::levels_around::{around, leads_off};
+use crate::seen::Seen;
+use crate::steepest::steepest;
+use lattice::{DIRECTIONS, Dir, Point, Refusal, neighbour};
+use std::alloc::{AllocError, Global};
+
+/// A point that the search has reached, the step to it, and the place of the lead that the step is from.
+#[derive(Clone, Copy)]
+pub(crate) struct Lead {
+    point: Point,
+    by: Dir,
+    from: usize,
+}
+
+/// The steps, the last one first, of the way from a point over points of its level to one that drains downhill or off the
+/// mosaic: a shortest one, and of those the first in the order of codes, step for step.
+///
+/// None where no end is among the first points that are reached, some `most` of them.
+///
+/// Points are reached in the order of their distances, and those of one distance in the order of the ways to them. So the
+/// first of them that drains is at the end of that way.
+pub(crate) fn way_across<S, L: FilledLevels<S>>(
+    alloc: Global,
+    levels: &mut L,
+    source: &mut S,
+    point: Point,
+    height: i16,
+    around: &[Option<i16>; 8],
+    most: usize,
+) -> Result<Option<Vec<Dir>>, Refusal>
+    requires fits { L.fits levels.old source.old }
+    requires flat { L.is_honest levels.old source.old → IsOnFlat (L.mosaic levels.old source.old) point height around.now }
+    ensures way { L.is_honest levels.new source.new → IfOk result (λ found. IfSome found (λ steps. OnLevels (L.mosaic levels.old source.old) (λ level. FlowsOn (terrain (L.mosaic levels.old source.old)) level point steps.items))) }
+    ensures some { IfOk result (λ found. IfSome found (λ steps. 0 < length steps.items)) }
+    ensures refusal { IfErr result (L.refuses levels.old source.old levels.new source.new) }
+    ensures asks { Asks L.FilledLevels levels.old source.old levels.new source.new }
+    ensures keeps { OnOk result (L.keeps levels.old source.old levels.new source.new) }
+    ensures fits { L.fits levels.new source.new }
+{
+    let mut seen = Seen::new(alloc);
+    let mut leads = Vec::new(alloc);
+    start(point, &mut seen, &mut leads)?;
+    spread(point, 0, height, around, &mut seen, &mut leads)?;
+    let mut head = 1;
+    'leads: while head < leads.len() {
+        if leads.len() > most {
+            return Ok(None);
+        }
+        if follow(alloc, levels, source, height, head, &mut seen, &mut leads)? {
+            return Ok(Some(steps_to(alloc, &leads, head)?));
+        }
+        head += 1;
+    }
+    Err(Refusal::Damaged)
+}
+
+/// Reaches the point that the search is from. No step is to it.
+pub(crate) fn start(point: Point, seen: &mut Seen, leads: &mut Vec<Lead>) -> Result<(), AllocError>
+    requires none { (p : Point) → IsFalse (has_seen seen.old p) }
+    requires empty { leads.old.items ≡ [] }
+    ensures reached { OnOk result (AreReached seen.new leads.new.items) }
+    ensures first { OnOk result ((lead : Lead) × ((leads.new.items ≡ lead ∷ []) × (lead.point ≡ point))) }
+{
+    seen.see(point)?;
+    leads.push(Lead {
+        point,
+        by: Dir::East,
+        from: 0,
+    })?;
+    Ok(())
+}
+
+/// Whether the lead at the head drains downhill or off the mosaic. If not, the points around it are reached.
+pub(crate) fn follow<S, L: FilledLevels<S>>(
+    alloc: Global,
+    levels: &mut L,
+    source: &mut S,
+    height: i16,
+    head: usize,
+    seen: &mut Seen,
+    leads: &mut Vec<Lead>,
+) -> Result<bool, Refusal>
+    requires fits { L.fits levels.old source.old }
+    requires head { head < length leads.old.items }
+    requires reached { AreReached seen.old leads.old.items }
+    ensures reached { OnOk result (AreReached seen.new leads.new.items) }
+    ensures kept { IfOk result (λ end. IsTrue end → leads.new.items ≡ leads.old.items) }
+    ensures end { L.is_honest levels.new source.new → IfOk result (λ end. IsTrue end → OnLevels (L.mosaic levels.old source.old) (λ level. (x : Point) → level x ≡ height
+        → IsSearched (terrain (L.mosaic levels.old source.old)) level x leads.old.items head → CrossesFlat (terrain (L.mosaic levels.old source.old)) level (lead_at leads.old.items head).point 0)) }
+    ensures on { L.is_honest levels.new source.new → IfOk result (λ end. IsFalse end → OnLevels (L.mosaic levels.old source.old) (λ level. (x : Point) → level x ≡ height
+        → IsSearched (terrain (L.mosaic levels.old source.old)) level x leads.old.items head → IsSearched (terrain (L.mosaic levels.old source.old)) level x leads.new.items (head + 1))) }
+    ensures followed { L.is_honest levels.new source.new → IfOk result (λ end. IsTrue (is_ground (L.mosaic levels.old source.old) (lead_at leads.old.items head).point) → OnLevels (L.mosaic levels.old source.old) (λ level. level (lead_at leads.old.items head).point ≡ height
+        → IsFollowed (terrain (L.mosaic levels.old source.old)) level (lead_at leads.old.items head).point leads.old.items leads.new.items end)) }
+    ensures refusal { IfErr result (L.refuses levels.old source.old levels.new source.new) }
+    ensures asks { Asks L.FilledLevels levels.old source.old levels.new source.new }
+    ensures keeps { OnOk result (L.keeps levels.old source.old levels.new source.new) }
+    ensures fits { L.fits levels.new source.new }
+{
+    let lead = leads[head];
+    let around = around(alloc, levels, source, lead.point)?;
+    if leads_off(levels, source, lead.point, &around) || steepest(height, &around).is_some() {
+        return Ok(true);
+    }
+    spread(lead.point, head, height, &around, seen, leads)?;
+    Ok(false)
+}
+
+/// The point of the lead at this place.
+pub(crate) fn point_of(leads: &[Lead], place: usize) -> Point
+    requires { place < length leads.now }
+    ensures { result ≡ (lead_at leads.now place).point }
+{
+    leads[place].point
+}
+
+// Reaches the points around this one, whose lead has the place `from`, that have its level.
+fn spread(
+    point: Point,
+    from: usize,
+    height: i16,
+    around: &[Option<i16>; 8],
+    seen: &mut Seen,
+    leads: &mut Vec<Lead>,
+) -> Result<(), AllocError>
+    requires from { from < length leads.old.items }
+    requires reached { AreReached seen.old leads.old.items }
+    ensures reached { OnOk result (AreReached seen.new leads.new.items) }
+    ensures visited { OnOk result (AreVisited point from height around.now leads.old.items leads.new.items 8) }
+{
+    for i in 0..8 {
+        visit(point, from, height, DIRECTIONS[i], around[i], seen, leads)?;
+    }
+    Ok(())
+}
+
+// Reaches the point one step away, where it has this level and wasn't seen before.
+fn visit(
+    point: Point,
+    from: usize,
+    height: i16,
+    direction: Dir,
+    beside: Option<i16>,
+    seen: &mut Seen,
+    leads: &mut Vec<Lead>,
+) -> Result<(), AllocError>
+    requires from { from < length leads.old.items }
+    requires reached { AreReached seen.old leads.old.items }
+    ensures reached { OnOk result (AreReached seen.new leads.new.items) }
+    ensures visited { OnOk result (IsVisited point from direction height beside leads.old.items leads.new.items) }
+    ensures more { OnOk result (from < length leads.new.items) }
+{
+    if beside != Some(height) {
+        return Ok(());
+    }
+    let Some(to) = neighbour(point, direction) else {
+        return Ok(());
+    };
+    if seen.see(to)? {
+        leads.push(Lead {
+            point: to,
+            by: direction,
+            from,
+        })?;
+    }
+    Ok(())
+}
+
+// The steps of the way to the lead at the head, the last one first.
+fn steps_to(alloc: Global, leads: &[Lead], head: usize) -> Result<Vec<Dir>, AllocError>
+    requires head { head < length leads.now }
+    requires linked { AreLinked leads.now }
+    ensures steps { IfOk result (λ steps. (t : Terrain Point) (level : Point → ℤ) → AreDrained t level leads.now head
+        → FlowsBy t level (lead_at leads.now 0).point steps.items (lead_at leads.now head).point) }
+    ensures some { 0 < head → IfOk result (λ steps. 0 < length steps.items) }
+{
+    let mut steps = Vec::new(alloc);
+    let mut at = head;
+    'back: while at > 0 {
+        let lead = leads[at];
+        steps.push(lead.by)?;
+        at = lead.from;
+    }
+    Ok(steps)
+}
