@@ -1,28 +1,31 @@
 -- The filled levels of all tiles, found one after another.
-use Rattle.std.proofs.Common.{◌≡◌, ℕ, ◌+◌, ◌*◌, ◌/◌, ◌%◌, ◌<◌, ◌≤◌, ℤ, pos, IsTrue, IsFalse, Option, Some, None, List, [], ◌∷◌, ◌++◌, length, get_or, inl, inr, refl, sym, ap, ◌∙◌, subst, arith, true≢false}
+use Rattle.std.proofs.Common.{◌≡◌, ℕ, ◌+◌, ◌*◌, ◌-◌, ◌<◌, ℤ, IsTrue, IsFalse, Option, Some, None, List, [], ◌∷◌, ◌++◌, length, get_or, inl, inr, refl, sym, ap, ◌∙◌, subst, arith, true≢false}
 use Rattle.std.specs.Prelude.{Result, Ok, Err, IfErr, MatchOption, slice_index_or, slice_get}
 use Rattle.std.proofs.lemmas.Bool.{cases_eq}
 use Rattle.std.proofs.lemmas.Grind.{rows}
-use Rattle.std.proofs.lemmas.List.{get_or-append-add, get_or_append_left, get_or_default, length-append}
-use Rattle.std.proofs.lemmas.Nat.{div-mul-add, mod-mul-add}
+use Rattle.std.proofs.lemmas.List.{get_or-append-add, get_or_append_left, length-append}
 use Rattle.std.proofs.lemmas.Option.{slice_get_within, get_or_from_slice_get}
+use Rattle.lattice.specs.Block.{is_rim, rim_number}
 use Rattle.lattice.specs.Corners.{Corner}
 use Rattle.lattice.specs.Lattice.{point_of}
 use Rattle.lattice.specs.Ground.{is_ground, terrain}
-use Rattle.lattice.specs.Mosaic.{Mosaic, void}
+use Rattle.lattice.specs.Mosaic.{Mosaic, IsMosaic, void}
+use Rattle.lattice.specs.RimPoints.{IsRimPoint}
 use Rattle.lattice.specs.Terrain.{IsFilledLevel}
 use Rattle.lattice.specs.declared.point.Point.{Point}
 use Rattle.lattice.specs.declared.refusal.Refusal.{Refusal}
 use Rattle.lattice.specs.declared.refusal.Refusal.TheVariants.{NoMemory}
+use Rattle.lattice.proofs.RimNumbers.{one_index, number_below}
 use Rattle.border_graph.specs.Others.{corner_at}
 use Rattle.catalogue.specs.Asked.{Asked}
 use Rattle.catalogue.specs.Readers.{OnlyReads}
 use Rattle.catalogue.specs.Tiles.{corners_of}
 use Rattle.catalogue.specs.declared.samples.Samples.{Ghosts}
-use Rattle.flow_d8.specs.Filled.{Filled, IsFilledOf}
+use Rattle.flow_d8.specs.Filled.{IsFilledOf}
 use Rattle.flow_d8.proofs.Nearby.{level_ground}
+use Rattle.tile_flood.specs.Raising.{AreRimLevels, AreTileLevels}
 use Rattle.drainage.proofs.Questioned.{answered, wanting}
-use Rattle.drainage.specs.Everywhere.{IsLevelOrVoid, AreLevelsTo, sample_point}
+use Rattle.drainage.specs.Everywhere.{IsLevelOrVoid, AreRimLevelsTo, AreLevelsOf}
 
 pub level_or_void_is : (m : Mosaic) (p : Point) (found : Option ℤ) (level : ℤ) → MatchOption found (level ≡ void) (λ l. level ≡ l) → MatchOption found (IsFalse (is_ground m p)) (λ l. IsFilledLevel (terrain m) p l) → IsLevelOrVoid m p level
 level_or_void_is m p (Some l) level same filled = record {
@@ -34,70 +37,88 @@ level_or_void_is m p None level same off = record {
   elsewhere = λ _. same;
 }
 
+-- a list that grew by one
+last_of : (old new : List ℤ) (k : ℕ) (level : ℤ) → new ≡ old ++ level ∷ [] → length old ≡ k → get_or new k void ≡ level
+last_of old new k level is whole =
+    let end : k ≡ length old + 0 = omega (arith, whole) in
+    ap (λ (l : List ℤ). get_or l k void) is ∙ (ap (λ i. get_or (old ++ level ∷ []) i void) end ∙ get_or-append-add old (level ∷ []) 0 void)
+
+earlier_of : (old more new : List ℤ) (k j : ℕ) → new ≡ old ++ more → length old ≡ k → j < k → get_or new j void ≡ get_or old j void
+earlier_of old more new k j is whole below = ap (λ (l : List ℤ). get_or l j void) is ∙ get_or_append_left old more void j (omega (arith, whole))
+
+-- the rim of one tile
+module _ (m : Mosaic) (is : IsMosaic m) (c : Corner) where
+  pub no_rim : AreRimLevelsTo m c 0 []
+  no_rim = record { whole = refl; each = λ k e below. absurd (omega arith) }
+
+  -- one more rim point
+  pub rim_more : (old new : List ℤ) (k e : ℕ) (level : ℤ) → new ≡ old ++ level ∷ [] → IsRimPoint m.side k e → IsLevelOrVoid m (point_of m.side c e) level → AreRimLevelsTo m c k old → AreRimLevelsTo m c (k + 1) new
+  rim_more old new k e level grown rim this are = record {
+    whole = ap (λ (l : List ℤ). length l) grown ∙ (length-append old (level ∷ []) ∙ ap (λ i. i + 1) are.whole);
+    each = λ j f below rim'. elim (cases_eq j k) [
+      | inl same ↦
+          let at : e ≡ f = one_index m.side k e f is.side_low rim (subst (λ i. IsRimPoint m.side i f) same rim') in
+          let read : level ≡ get_or new j void = sym (ap (λ i. get_or new i void) same ∙ last_of old new k level grown are.whole) in
+          subst (λ i. IsLevelOrVoid m (point_of m.side c i) (get_or new j void)) at (subst (IsLevelOrVoid m (point_of m.side c e)) read this)
+      | inr other ↦
+          let before : j < k = omega arith in
+          subst (IsLevelOrVoid m (point_of m.side c f)) (sym (earlier_of old (level ∷ []) new k j grown are.whole before)) (are.each j f before rim')
+    ];
+  }
+
+  pub rim_whole : (levels : List ℤ) → AreRimLevelsTo m c (4 * (m.side - 1)) levels → AreRimLevels m c levels
+  rim_whole levels are = record {
+    whole = are.whole;
+    filled = λ e small rim solid. (at e small rim).on_ground solid;
+    void_points = λ e small rim off. (at e small rim).elsewhere off;
+  }
+    where
+      at : (e : ℕ) → e < m.side * m.side → IsTrue (is_rim m.side e) → IsLevelOrVoid m (point_of m.side c e) (slice_index_or levels (rim_number m.side e) void)
+      at e small rim =
+          let here : IsRimPoint m.side (rim_number m.side e) e = record { small = small; rim = rim; number = refl } in
+          are.each (rim_number m.side e) e (number_below m.side (rim_number m.side e) e is.side_low here) here
+
 within : (k e count a : ℕ) → k < count → e < a → k * a + e < count * a
 within k e count a low below = grind (arith, rows)
 
 one_tile : (t a : ℕ) → t * a + a ≡ (t + 1) * a
 one_tile t a = grind (arith, rows)
 
--- the point of a tile's sample
-pub sample_of_tile : (n : ℕ) (corners : List Corner) (t e : ℕ) (c : Corner) → c ≡ get_or corners t c → t < length corners → e < n * n → point_of n c e ≡ sample_point n corners (t * (n * n) + e)
-sample_of_tile n corners t e c is small below =
-    let tile : c ≡ corner_at corners t = is ∙ sym (get_or_default corners t (record { lat = pos 0; lon = pos 0 }) c small) in
-    ap (λ (d : Corner). point_of n d e) (tile ∙ ap (corner_at corners) (sym (div-mul-add t (n * n) e below))) ∙ ap (point_of n (corner_at corners ((t * (n * n) + e) / (n * n)))) (sym (mod-mul-add t (n * n) e below))
+module _ (m : Mosaic) where
+  pub no_tiles : AreLevelsOf m 0 []
+  no_tiles = record { whole = none (m.side * m.side); each = λ t e below. absurd (omega arith) }
+    where
+      none : (a : ℕ) → 0 ≡ 0 * a
+      none a = omega arith
 
-module _ (m : Mosaic) (n : ℕ) (corners : List Corner) where
-  pub none_yet : AreLevelsTo m n corners 0 []
-  none_yet = record { whole = refl; each = λ g below. absurd (omega arith) }
-
-  -- one more level
-  pub level_more : (old new : List ℤ) (k : ℕ) (level : ℤ) → new ≡ old ++ level ∷ [] → IsLevelOrVoid m (sample_point n corners k) level → AreLevelsTo m n corners k old → AreLevelsTo m n corners (k + 1) new
-  level_more old new k level is this are = subst (AreLevelsTo m n corners (k + 1)) (sym is) (record {
-    whole = length-append old (level ∷ []) ∙ ap (λ i. i + 1) are.whole;
-    each = λ g below. elim (cases_eq g k) [
+  -- one more tile
+  pub tile_more : (old tile new : List ℤ) (t : ℕ) → new ≡ old ++ tile → AreTileLevels m (corner_at (corners_of m) t) tile → AreLevelsOf m t old → AreLevelsOf m (t + 1) new
+  tile_more old tile new t grown here are = record {
+    whole = ap (λ (l : List ℤ). length l) grown ∙ (length-append old tile ∙ (ap (λ i. i + length tile) are.whole ∙ (ap (λ i. t * (m.side * m.side) + i) here.whole ∙ one_tile t (m.side * m.side))));
+    each = λ u e below inside. elim (cases_eq u t) [
       | inl same ↦
-          let end : k ≡ length old + 0 = let w = are.whole in omega (arith, w) in
-          let read : get_or (old ++ level ∷ []) k void ≡ level = ap (λ i. get_or (old ++ level ∷ []) i void) end ∙ get_or-append-add old (level ∷ []) 0 void in
-          subst (λ i. IsLevelOrVoid m (sample_point n corners i) (get_or (old ++ level ∷ []) i void)) (sym same) (subst (IsLevelOrVoid m (sample_point n corners k)) (sym read) this)
+          let read : slice_index_or new (t * (m.side * m.side) + e) void ≡ slice_index_or tile e void =
+          ap (λ (l : List ℤ). get_or l (t * (m.side * m.side) + e) void) grown
+          ∙ (ap (λ i. get_or (old ++ tile) (i + e) void) (sym are.whole) ∙ get_or-append-add old tile e void) in
+          let this : IsLevelOrVoid m (point_of m.side (corner_at (corners_of m) t) e) (slice_index_or tile e void) =
+          record { on_ground = here.filled e inside; elsewhere = here.void_points e inside } in
+          subst (λ i. IsLevelOrVoid m (point_of m.side (corner_at (corners_of m) i) e) (slice_index_or new (i * (m.side * m.side) + e) void)) (sym same)
+          (subst (IsLevelOrVoid m (point_of m.side (corner_at (corners_of m) t) e)) (sym read) this)
       | inr other ↦
-          let read : get_or (old ++ level ∷ []) g void ≡ get_or old g void = get_or_append_left old (level ∷ []) void g (let w = are.whole in omega (arith, w)) in
-          subst (IsLevelOrVoid m (sample_point n corners g)) (sym read) (are.each g (omega arith))
+          let before : u < t = omega arith in
+          subst (IsLevelOrVoid m (point_of m.side (corner_at (corners_of m) u) e))
+          (sym (earlier_of old tile new (t * (m.side * m.side)) (u * (m.side * m.side) + e) grown are.whole (within u e t (m.side * m.side) before inside))) (are.each u e before inside)
     ];
-  })
-
-  -- one more in the same tile
-  pub level_next : (old new : List ℤ) (a e : ℕ) (level : ℤ) → new ≡ old ++ level ∷ [] → IsLevelOrVoid m (sample_point n corners (a + e)) level → AreLevelsTo m n corners (a + e) old → AreLevelsTo m n corners (a + (e + 1)) new
-  level_next old new a e level is this are = subst (λ k. AreLevelsTo m n corners k new) (plus_one a e) (level_more old new (a + e) level is this are)
-    where
-      plus_one : (b c : ℕ) → b + c + 1 ≡ b + (c + 1)
-      plus_one b c = omega arith
-
-  pub no_tiles : (levels : List ℤ) (a : ℕ) → AreLevelsTo m n corners 0 levels → AreLevelsTo m n corners (0 * a) levels
-  no_tiles levels a are = subst (λ k. AreLevelsTo m n corners k levels) (no_times a) are
-    where
-      no_times : (k : ℕ) → 0 ≡ 0 * k
-      no_times k = omega arith
-
-  pub none_more : (levels : List ℤ) (count : ℕ) → AreLevelsTo m n corners count levels → AreLevelsTo m n corners (count + 0) levels
-  none_more levels count are = subst (λ k. AreLevelsTo m n corners k levels) (plus_none count) are
-    where
-      plus_none : (k : ℕ) → k ≡ k + 0
-      plus_none k = omega arith
-
-  -- with the last one of a tile
-  pub all_of : (levels : List ℤ) (t e : ℕ) → e ≡ n * n → AreLevelsTo m n corners (t * (n * n) + e) levels → AreLevelsTo m n corners ((t + 1) * (n * n)) levels
-  all_of levels t e all are = subst (λ k. AreLevelsTo m n corners k levels) (ap (λ k. t * (n * n) + k) all ∙ one_tile t (n * n)) are
+  }
 
   -- they are those of the mosaic
-  module _ (levels : List ℤ) (sinks : List Point) (are : AreLevelsTo m n corners (length corners * (n * n)) levels) (side : n ≡ m.side) (all : corners ≡ corners_of m) (declared : sinks ≡ m.sinks) where
+  module _ (n : ℕ) (corners : List Corner) (levels : List ℤ) (sinks : List Point) (are : AreLevelsOf m (length corners) levels) (side : n ≡ m.side) (all : corners ≡ corners_of m) (declared : sinks ≡ m.sinks) where
     at : (k e : ℕ) (c : Corner) → slice_get corners k ≡ Some c → e < n * n → IsLevelOrVoid m (point_of n c e) (slice_index_or levels (k * (n * n) + e) void)
     at k e c there below =
-        let g = k * (n * n) + e in
-        let quotient : g / (n * n) ≡ k = div-mul-add k (n * n) e below in
-        let remainder : g % (n * n) ≡ e = mod-mul-add k (n * n) e below in
-        let corner : get_or corners (g / (n * n)) (record { lat = pos 0; lon = pos 0 }) ≡ c = ap (λ i. get_or corners i (record { lat = pos 0; lon = pos 0 })) quotient ∙ get_or_from_slice_get corners k c _ there in
-        let place : sample_point n corners g ≡ point_of n c e = ap (λ (d : Corner). point_of n d (g % (n * n))) corner ∙ ap (point_of n c) remainder in
-        subst (λ p. IsLevelOrVoid m p (slice_index_or levels g void)) place (are.each g (within k e (length corners) (n * n) (slice_get_within corners k c there) below))
+        let corner : corner_at (corners_of m) k ≡ c = ap (λ (cs : List Corner). corner_at cs k) (sym all) ∙ get_or_from_slice_get corners k c _ there in
+        subst (λ (d : Corner). IsLevelOrVoid m (point_of n d e) (slice_index_or levels (k * (n * n) + e) void)) corner
+        (subst (λ s. IsLevelOrVoid m (point_of s (corner_at (corners_of m) k) e) (slice_index_or levels (k * (s * s) + e) void)) (sym side)
+        (are.each k e (slice_get_within corners k c there) (subst (λ s. e < s * s) side below)))
 
     pub are_filled : IsFilledOf m (record { side = n; corners = corners; levels = levels; sinks = sinks })
     are_filled = record {

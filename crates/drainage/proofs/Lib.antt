@@ -33,3 +33,4 @@ mod SparedLevels
 mod HeightSet
 mod FewTiles
 pub mod AllLevels
+mod TileLevels

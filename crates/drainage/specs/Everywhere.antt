@@ -1,11 +1,13 @@
 -- The filled levels of all tiles, one after another.
-use Rattle.std.specs.Prelude.{◌≡◌, ℕ, ◌*◌, ◌/◌, ◌%◌, ◌<◌, ℤ, IsTrue, IsFalse, List, length, slice_index_or}
+use Rattle.std.specs.Prelude.{◌≡◌, ℕ, ◌+◌, ◌*◌, ◌<◌, ℤ, IsTrue, IsFalse, List, length, slice_index_or}
 use Rattle.lattice.specs.Corners.{Corner}
 use Rattle.lattice.specs.Lattice.{point_of}
 use Rattle.lattice.specs.Ground.{is_ground, terrain}
 use Rattle.lattice.specs.Mosaic.{Mosaic, void}
+use Rattle.lattice.specs.RimPoints.{IsRimPoint}
 use Rattle.lattice.specs.Terrain.{IsFilledLevel}
 use Rattle.lattice.specs.declared.point.Point.{Point}
+use Rattle.catalogue.specs.Tiles.{corners_of}
 use Rattle.border_graph.specs.Others.{corner_at}
 
 -- the point's filled level, void where it isn't ground
@@ -13,11 +15,12 @@ pub record IsLevelOrVoid (m : Mosaic) (p : Point) (level : ℤ) : Type 0 where
   pub on_ground : IsTrue (is_ground m p) → IsFilledLevel (terrain m) p level
   pub elsewhere : IsFalse (is_ground m p) → level ≡ void
 
--- the point of the sample with this number, where samples are numbered tile after tile
-abbrev pub sample_point : ℕ → List Corner → ℕ → Point
-sample_point n corners g = point_of n (corner_at corners (g / (n * n))) (g % (n * n))
-
--- so many, those of the corners' tiles
-pub record AreLevelsTo (m : Mosaic) (n : ℕ) (corners : List Corner) (count : ℕ) (levels : List ℤ) : Type 0 where
+-- those of the first rim points of the corner's tile, by rim number
+pub record AreRimLevelsTo (m : Mosaic) (c : Corner) (count : ℕ) (levels : List ℤ) : Type 0 where
   pub whole : length levels ≡ count
-  pub each : (g : ℕ) → g < count → IsLevelOrVoid m (sample_point n corners g) (slice_index_or levels g void)
+  pub each : (k e : ℕ) → k < count → IsRimPoint m.side k e → IsLevelOrVoid m (point_of m.side c e) (slice_index_or levels k void)
+
+-- those of the first tiles, tile after tile
+pub record AreLevelsOf (m : Mosaic) (tiles : ℕ) (levels : List ℤ) : Type 0 where
+  pub whole : length levels ≡ tiles * (m.side * m.side)
+  pub each : (t e : ℕ) → t < tiles → e < m.side * m.side → IsLevelOrVoid m (point_of m.side (corner_at (corners_of m) t) e) (slice_index_or levels (t * (m.side * m.side) + e) void)

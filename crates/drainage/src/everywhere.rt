@@ -1,20 +1,21 @@
 //! Where all points of a mosaic drain, found at once.
-ghost use Rattle.std.specs.Prelude.{◌≡◌, ◌≤◌, ◌<◌, ◌+◌, ◌*◌, IsTrue, IfOk, IfErr, OnOk, MatchOption, length};
+ghost use Rattle.std.specs.Prelude.{◌≡◌, ◌≤◌, ◌++◌, IsTrue, IfOk, IfErr, OnOk, length};
 ghost use Rattle.lattice.specs.Limits.{most_tiles};
-ghost use Rattle.lattice.specs.Mosaic.{Mosaic, IsMosaic, void};
+ghost use Rattle.lattice.specs.Mosaic.{Mosaic, IsMosaic};
+ghost use Rattle.lattice.specs.declared.refusal.Refusal.TheVariants.{NoMemory};
 ghost use Rattle.catalogue.specs.Asked.{Asked};
 ghost use Rattle.catalogue.specs.Endings.{ends_any};
 ghost use Rattle.flow_d8.specs.Filled.{IsFilledOf};
 ghost use Rattle.drainage.specs.Between.{IsHeldOf, IsHeldFor};
-ghost use Rattle.drainage.specs.Everywhere.{AreLevelsTo, IsLevelOrVoid};
+ghost use Rattle.drainage.specs.Everywhere.{AreLevelsOf};
 ghost use Rattle.drainage.specs.Holding.{IsRight};
 ghost use Rattle.drainage.specs.TileCaches.{known_of};
 
 use crate::drainage_cache::DrainageCache;
-use crate::filling::level_in;
 use crate::tile_cache::TileCache;
+use crate::tile_levels::tile_levels;
 use flow_d8::Filled;
-use lattice::{Corner, MOST_TILES, Point, Refusal, Side, VOID, point_at, push};
+use lattice::{MOST_TILES, Refusal, Side};
 use std::alloc::Global;
 use tile_labellings::Labellings;
 
@@ -55,7 +56,7 @@ pub(crate) fn learn_all<S: Labellings>(
     if !are_few(side, corners.len()) {
         return Ok(());
     }
-    let levels = levels_of(alloc, samples, held, side, &corners)?;
+    let levels = levels_of(alloc, samples, held)?;
     let sinks = Vec::from_slice(alloc, samples.sinks())?;
     if let Some(filled) = Filled::new(side, corners, levels, sinks) {
         know(held, &filled);
@@ -70,23 +71,21 @@ fn are_few(side: Side, tiles: usize) -> bool
     tiles <= MOST_TILES as usize && tiles * side.area() as usize <= MOST_SAMPLES
 }
 
-// The filled levels of the tiles at these corners, tile after tile; void where a point isn't ground.
+// The filled levels of all tiles, tile after tile; void where a point isn't ground.
 fn levels_of<S: Labellings>(
     alloc: Global,
     samples: &mut S,
     held: &mut DrainageCache,
-    side: Side,
-    corners: &[Corner],
 ) -> Result<Vec<i16>, Refusal>
     requires held { IsHeldFor S.Samples samples.old held.old }
-    requires few { length corners.now ≤ most_tiles }
-    ensures levels { S.is_honest samples.new → IfOk result (λ levels. AreLevelsTo (S.mosaic samples.old) side corners.now (length corners.now * (side * side)) levels.items) }
+    requires few { length (S.corners samples.old) ≤ most_tiles }
+    ensures levels { S.is_honest samples.new → IfOk result (λ levels. AreLevelsOf (S.mosaic samples.old) (length (S.corners samples.old)) levels.items) }
     ensures held { IsHeldFor S.Samples samples.new held.new }
     ensures causes { IfErr result (λ r. IsTrue (ends_any r)) }
     ensures asked { Asked S.Samples samples.old samples.new result }
 {
     let mut tile_cache = held.take(alloc, samples)?;
-    let levels = levels_by(alloc, samples, &mut tile_cache, side, corners);
+    let levels = levels_by(alloc, samples, &mut tile_cache);
     held.put(tile_cache);
     levels
 }
@@ -96,74 +95,29 @@ fn levels_by<S: Labellings>(
     alloc: Global,
     samples: &mut S,
     tile_cache: &mut TileCache,
-    side: Side,
-    corners: &[Corner],
 ) -> Result<Vec<i16>, Refusal>
     requires right { S.is_honest samples.old → IsRight (S.mosaic samples.old) (known_of tile_cache.old) }
-    requires few { length corners.now ≤ most_tiles }
-    ensures levels { S.is_honest samples.new → IfOk result (λ levels. AreLevelsTo (S.mosaic samples.old) side corners.now (length corners.now * (side * side)) levels.items) }
+    requires few { length (S.corners samples.old) ≤ most_tiles }
+    ensures levels { S.is_honest samples.new → IfOk result (λ levels. AreLevelsOf (S.mosaic samples.old) (length (S.corners samples.old)) levels.items) }
     ensures right { S.is_honest samples.new → IsRight (S.mosaic samples.new) (known_of tile_cache.new) }
     ensures causes { IfErr result (λ r. IsTrue (ends_any r)) }
     ensures asked { Asked S.Samples samples.old samples.new result }
 {
-    let mut levels = Vec::with_capacity(alloc, corners.len() * side.area() as usize)?;
-    for t in 0..corners.len() {
-        add_levels(alloc, samples, tile_cache, side, corners, t, &mut levels)?;
+    let count = samples.count();
+    let mut levels = Vec::with_capacity(alloc, count * samples.side().area() as usize)?;
+    for t in 0..count {
+        let tile = tile_levels(alloc, samples, tile_cache, t)?;
+        append(&mut levels, &tile)?;
     }
     Ok(levels)
 }
 
-// Appends the filled levels of one tile.
-fn add_levels<S: Labellings>(
-    alloc: Global,
-    samples: &mut S,
-    tile_cache: &mut TileCache,
-    side: Side,
-    corners: &[Corner],
-    t: usize,
-    levels: &mut Vec<i16>,
-) -> Result<(), Refusal>
-    requires right { S.is_honest samples.old → IsRight (S.mosaic samples.old) (known_of tile_cache.old) }
-    requires tile { t < length corners.now }
-    requires levels { S.is_honest samples.old → AreLevelsTo (S.mosaic samples.old) side corners.now (t * (side * side)) levels.old.items }
-    ensures levels { S.is_honest samples.new → OnOk result (AreLevelsTo (S.mosaic samples.old) side corners.now ((t + 1) * (side * side)) levels.new.items) }
-    ensures right { S.is_honest samples.new → IsRight (S.mosaic samples.new) (known_of tile_cache.new) }
-    ensures causes { IfErr result (λ r. IsTrue (ends_any r)) }
-    ensures asked { Asked S.Samples samples.old samples.new result }
+fn append(levels: &mut Vec<i16>, tile: &[i16]) -> Result<(), Refusal>
+    ensures appended { OnOk result (levels.new.items ≡ levels.old.items ++ tile.now) }
+    ensures refusal { IfErr result (λ r. r ≡ NoMemory) }
 {
-    let corner = corners[t];
-    for index in 0..side.area() {
-        let point = point_at(side, corner, index);
-        let level = level_of(alloc, samples, tile_cache, point)?;
-        push(levels, level)?;
-    }
+    levels.extend_from_slice(tile)?;
     Ok(())
-}
-
-// The filled level of the point; void where it isn't ground.
-fn level_of<S: Labellings>(
-    alloc: Global,
-    samples: &mut S,
-    tile_cache: &mut TileCache,
-    point: Point,
-) -> Result<i16, Refusal>
-    requires right { S.is_honest samples.old → IsRight (S.mosaic samples.old) (known_of tile_cache.old) }
-    ensures level { S.is_honest samples.new → IfOk result (IsLevelOrVoid (S.mosaic samples.old) point) }
-    ensures right { S.is_honest samples.new → IsRight (S.mosaic samples.new) (known_of tile_cache.new) }
-    ensures causes { IfErr result (λ r. IsTrue (ends_any r)) }
-    ensures asked { Asked S.Samples samples.old samples.new result }
-{
-    let found = level_in(alloc, samples, tile_cache, point)?;
-    Ok(level_or_void(found))
-}
-
-fn level_or_void(found: Option<i16>) -> i16
-    ensures { MatchOption found (result ≡ void) (λ level. result ≡ level) }
-{
-    match found {
-        Some(level) => level,
-        None => VOID,
-    }
 }
 
 // Holds where all points drain, as their filled levels tell it, if there is memory for it.

@@ -33,6 +33,7 @@ mod rims;
 mod ring;
 mod summing;
 mod tile_cache;
+mod tile_levels;
 
 pub use drainage_cache::DrainageCache;
 pub use draining::watershed;

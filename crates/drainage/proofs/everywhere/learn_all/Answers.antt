@@ -1,11 +1,10 @@
-use Rattle.std.proofs.Common.{rules, ◌≡◌, ◌*◌, List, length, sym, ◌∙◌, subst}
+use Rattle.std.proofs.Common.{rules, ◌≡◌, length, sym, ap, ◌∙◌, subst}
 use Rattle.std.specs.Prelude.{IfErr}
-use Rattle.lattice.specs.Corners.{Corner}
 use Rattle.lattice.specs.Mosaic.{Mosaic}
 use Rattle.lattice.specs.declared.refusal.Refusal.TheVariants.{NoMemory}
 use Rattle.flow_d8.specs.Filled.{IsFilledOf}
 use Rattle.catalogue.proofs.Reading.{reads_nothing}
-use Rattle.drainage.specs.Everywhere.{AreLevelsTo}
+use Rattle.drainage.specs.Everywhere.{AreLevelsOf}
 use Rattle.drainage.proofs.AllLevels.{are_filled, short_of_memory}
 use Rattle.drainage.proofs.Questioned.{answered}
 use Rattle.drainage.proofs.everywhere.learn_all.Goals as goal
@@ -23,18 +22,17 @@ returns-then-not-are_few-clause-asked g c =
 
 pub returns-in-Some-clause-held : goal.returns-in-Some-clause-held
 returns-in-Some-clause-held g c honest =
+    let a = c.args.samples.now in
     let b = c.levels_of.new.samples in
     let m = g.S.Samples.mosaic b in
     let is = g.met.S.Samples.is_mosaic b honest in
     let told = c.in_ok-levels.ensures in
     let read = told.asked.reads in
-    let n = c.side-side.result in
     let corners = c.in_ok-corners.corners.items in
     let levels = c.in_ok-levels.levels.items in
-    let sinks = c.in_ok-sinks.sinks.items in
-    let are = subst (λ (cs : List Corner). AreLevelsTo m n cs (length cs * (n * n)) levels) c.deref.ensures.value
-    (subst (λ (k : Mosaic). AreLevelsTo k n c.deref.result.now (length c.deref.result.now * (n * n)) levels) (sym (read.mosaic honest)) (told.levels honest)) in
-    let side : n ≡ m.side = c.side-side.ensures ∙ sym read.side ∙ sym (g.met.S.Samples.same_side b honest) in
+    let are = subst (λ k. AreLevelsOf m k levels) (ap (λ cs. length cs) (sym c.in_ok-corners.ensures.corners))
+    (subst (λ (k : Mosaic). AreLevelsOf k (length (g.S.Samples.corners a)) levels) (sym (read.mosaic honest)) (told.levels honest)) in
+    let side : c.side-side.result ≡ m.side = c.side-side.ensures ∙ sym read.side ∙ sym (g.met.S.Samples.same_side b honest) in
     let all = c.in_ok-corners.ensures.corners ∙ sym read.corners ∙ sym (g.met.S.Samples.same_corners b honest) in
     let declared = c.in_ok-sinks.ensures.items ∙ c.sinks.ensures.sinks ∙ sym (g.met.S.Samples.same_sinks b honest) in
-    c.know.ensures m is (subst (IsFilledOf m) (sym c.in-Some.ensures.1) (are_filled m n corners levels sinks are side all declared)) (told.held honest)
+    c.know.ensures m is (subst (IsFilledOf m) (sym c.in-Some.ensures.1) (are_filled m c.side-side.result corners levels c.in_ok-sinks.sinks.items are side all declared)) (told.held honest)

@@ -1,12 +1,15 @@
-use Rattle.std.proofs.Common.{rules, ◌≡◌, ◌+◌, ◌*◌, ℤ, List, Ok, Err, length, sym, subst, arith}
+use Rattle.std.proofs.Common.{rules, ◌≡◌, ◌++◌, ℤ, List, Ok, Err, length, sym, ap, ◌∙◌, subst, arith}
 use Rattle.std.specs.Prelude.{IfErr}
 use Rattle.std.proofs.lemmas.Result.{err_from_is_err_and}
+use Rattle.lattice.specs.Corners.{Corner}
 use Rattle.lattice.specs.Mosaic.{Mosaic}
 use Rattle.lattice.specs.declared.refusal.Refusal.TheVariants.{NoMemory}
+use Rattle.border_graph.specs.Others.{corner_at}
 use Rattle.catalogue.proofs.Asking.{asked_on, asked_passed}
 use Rattle.catalogue.proofs.Reading.{reads_nothing, reads_on}
-use Rattle.drainage.specs.Everywhere.{AreLevelsTo}
-use Rattle.drainage.proofs.AllLevels.{none_yet, no_tiles, short_of_memory}
+use Rattle.tile_flood.specs.Raising.{AreTileLevels}
+use Rattle.drainage.specs.Everywhere.{AreLevelsOf}
+use Rattle.drainage.proofs.AllLevels.{no_tiles, tile_more, short_of_memory}
 use Rattle.drainage.proofs.Questioned.{asked_reads, answered, refused_by}
 use Rattle.drainage.proofs.everywhere.levels_by.Goals as goal
 
@@ -14,28 +17,27 @@ pub loop-t-init : goal.loop-t-init
 loop-t-init g c = record {
   reads = reads_nothing g.S.Samples g.met.S.Samples.keeps_itself c.args.samples.now (tt {0});
   right = c.requires.right;
-  levels = λ honest.
-      let m = g.S.Samples.mosaic c.args.samples.now in
-      no_tiles m c.args.side c.args.corners.now c.in_ok-levels.levels.items (c.args.side * c.args.side)
-      (subst (λ (l : List ℤ). AreLevelsTo m c.args.side c.args.corners.now 0 l) (sym c.in_ok-levels.ensures.items) (none_yet m c.args.side c.args.corners.now));
+  levels = λ honest. subst (λ (l : List ℤ). AreLevelsOf (g.S.Samples.mosaic c.args.samples.now) 0 l) (sym c.in_ok-levels.ensures.items) (no_tiles (g.S.Samples.mosaic c.args.samples.now));
 }
-
-pub add_levels-requires-clause-levels : goal.add_levels-requires-clause-levels
-add_levels-requires-clause-levels g c honest =
-    let so = c.loop-t.invariant in
-    subst (λ (m : Mosaic). AreLevelsTo m c.args.side c.args.corners.now (c.loop-t.t * (c.args.side * c.args.side)) c.loop-t.levels.items) (sym (so.reads.mosaic honest)) (so.levels honest)
 
 pub loop-t-preserved : goal.loop-t-preserved
 loop-t-preserved g c =
     let now = c.args.samples.now in
     let so = c.loop-t.invariant in
-    let told = c.in_ok-add_levels.ensures in
+    let told = c.in_ok-tile.ensures in
+    let read = asked_reads g.S.Samples c.loop-t.samples c.tile_levels.new.samples _ told.asked in
     record {
-      reads = reads_on g.S.Samples g.met.S.Samples.keeps_on now c.loop-t.samples c.add_levels.new.samples tt (Ok tt) so.reads (asked_reads g.S.Samples c.loop-t.samples c.add_levels.new.samples _ told.asked);
+      reads = reads_on g.S.Samples g.met.S.Samples.keeps_on now c.loop-t.samples c.tile_levels.new.samples tt (Ok tt) so.reads read;
       right = told.right;
       levels = λ honest.
-          let mid = told.asked.reads.honest honest in
-          subst (λ (m : Mosaic). AreLevelsTo m c.args.side c.args.corners.now ((c.loop-t.t + 1) * (c.args.side * c.args.side)) c.add_levels.new.levels.items) (so.reads.mosaic mid) (told.levels honest);
+          let mid = read.honest honest in
+          let first = so.reads.honest mid in
+          let m = g.S.Samples.mosaic now in
+          let here = subst (λ (k : Mosaic). AreTileLevels k (corner_at (g.S.Samples.corners c.loop-t.samples) c.loop-t.t) c.in_ok-tile.tile.items) (so.reads.mosaic mid) (told.levels honest) in
+          let corners = so.reads.corners ∙ sym (g.met.S.Samples.same_corners now first) in
+          tile_more m c.loop-t.levels.items c.in_ok-tile.tile.items c.append.new.levels.items c.loop-t.t
+          (c.in_ok-append.ensures.appended ∙ ap (λ l. c.loop-t.levels.items ++ l) c.deref.ensures.value)
+          (subst (λ (cs : List Corner). AreTileLevels m (corner_at cs c.loop-t.t) c.in_ok-tile.tile.items) corners here) (so.levels mid);
     }
 
 pub returns-in_err-levels-clause-asked : goal.returns-in_err-levels-clause-asked
@@ -44,21 +46,28 @@ returns-in_err-levels-clause-asked g c =
     let memory : IfErr c.from_residual.result (λ r. r ≡ NoMemory) = search rules in
     short_of_memory g.S.Samples a a c.from_residual.result (reads_nothing g.S.Samples g.met.S.Samples.keeps_itself a (tt {0})) memory
 
-pub returns-in_err-add_levels-clause-asked : goal.returns-in_err-add_levels-clause-asked
-returns-in_err-add_levels-clause-asked g c =
+pub returns-in_err-tile-clause-asked : goal.returns-in_err-tile-clause-asked
+returns-in_err-tile-clause-asked g c =
     let a = c.args.samples.now in
     let b = c.loop-t.samples in
-    let d = c.add_levels.new.samples in
-    let r = c.in_err-add_levels.field-0.0 in
-    let p = err_from_is_err_and c.from_residual-in_err-add_levels.result c.from_residual-in_err-add_levels.ensures.1 in
-    refused_by g.S.Samples a d c.from_residual-in_err-add_levels.result p.0 r p.1 p.2
-    (asked_passed g.S.Samples a d r (asked_on g.S.Samples g.met.S.Samples.keeps_on a b d (tt {0}) (Err r) c.loop-t.invariant.reads c.in_err-add_levels.ensures.asked))
+    let d = c.tile_levels.new.samples in
+    let r = c.in_err-tile.field-0.0 in
+    let p = err_from_is_err_and c.from_residual-in_err-tile.result c.from_residual-in_err-tile.ensures.1 in
+    refused_by g.S.Samples a d c.from_residual-in_err-tile.result p.0 r p.1 p.2
+    (asked_passed g.S.Samples a d r (asked_on g.S.Samples g.met.S.Samples.keeps_on a b d (tt {0}) (Err r) c.loop-t.invariant.reads c.in_err-tile.ensures.asked))
+
+pub returns-in_err-append-clause-asked : goal.returns-in_err-append-clause-asked
+returns-in_err-append-clause-asked g c =
+    let a = c.args.samples.now in
+    let d = c.tile_levels.new.samples in
+    let memory : IfErr c.from_residual-in_err-append.result (λ r. r ≡ NoMemory) = search rules in
+    short_of_memory g.S.Samples a d c.from_residual-in_err-append.result
+    (reads_on g.S.Samples g.met.S.Samples.keeps_on a c.loop-t.samples d tt (Ok tt) c.loop-t.invariant.reads (asked_reads g.S.Samples c.loop-t.samples d _ c.in_ok-tile.ensures.asked)) memory
 
 pub returns-clause-levels : goal.returns-clause-levels
 returns-clause-levels g c honest =
-    let n = c.args.side in
-    let all : c.loop-t.t ≡ length c.args.corners.now = omega (arith, c.loop-t-test.false, c.loop-t.auto.t-end) in
-    subst (λ k. AreLevelsTo (g.S.Samples.mosaic c.args.samples.now) n c.args.corners.now (k * (n * n)) c.loop-t.levels.items) all (c.loop-t.invariant.levels honest)
+    let all : c.loop-t.t ≡ length (g.S.Samples.corners c.args.samples.now) = omega (arith, c.loop-t-test.false, c.loop-t.auto.t-end, c.count-count.ensures) in
+    subst (λ k. AreLevelsOf (g.S.Samples.mosaic c.args.samples.now) k c.loop-t.levels.items) all (c.loop-t.invariant.levels honest)
 
 pub returns-clause-asked : goal.returns-clause-asked
 returns-clause-asked g c = answered g.S.Samples c.args.samples.now c.loop-t.samples _ c.loop-t.invariant.reads

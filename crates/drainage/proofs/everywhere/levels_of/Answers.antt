@@ -1,6 +1,4 @@
-use Rattle.std.proofs.Common.{List, ℤ, Err, sym, subst}
-use Rattle.std.proofs.lemmas.Result.{err_from_is_err_and}
-use Rattle.lattice.specs.declared.refusal.Refusal.{Refusal}
+use Rattle.std.proofs.Common.{sym, subst}
 use Rattle.lattice.specs.Mosaic.{Mosaic}
 use Rattle.drainage.specs.Between.{IsHeldOf}
 use Rattle.catalogue.proofs.Reading.{reads_nothing}

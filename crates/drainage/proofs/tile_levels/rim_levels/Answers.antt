@@ -1,0 +1,84 @@
+use Rattle.std.proofs.Common.{rules, SFits, w16, to_z, of_z, ◌≡◌, ◌*◌, ◌-◌, ℤ, List, Ok, Err, sym, ap, ◌∙◌, subst, arith}
+use Rattle.std.specs.Prelude.{IfErr}
+use Rattle.std.proofs.lemmas.Int.{to_z-of_z}
+use Rattle.std.proofs.lemmas.Result.{err_from_is_err_and}
+use Rattle.lattice.specs.Lattice.{point_of}
+use Rattle.lattice.specs.Mosaic.{Mosaic}
+use Rattle.lattice.specs.RimPoints.{IsRimPoint}
+use Rattle.lattice.specs.declared.refusal.Refusal.TheVariants.{NoMemory}
+use Rattle.catalogue.proofs.Asking.{asked_on, asked_passed}
+use Rattle.catalogue.proofs.Reading.{reads_nothing, reads_on}
+use Rattle.drainage.specs.Everywhere.{AreRimLevelsTo, IsLevelOrVoid}
+use Rattle.drainage.proofs.AllLevels.{no_rim, rim_more, rim_whole, short_of_memory}
+use Rattle.drainage.proofs.Questioned.{asked_reads, answered, refused_by}
+use Rattle.drainage.proofs.tile_levels.rim_levels.Goals as goal
+
+pub loop-number-init : goal.loop-number-init
+loop-number-init g c = record {
+  reads = reads_nothing g.S.Samples g.met.S.Samples.keeps_itself c.args.samples.now (tt {0});
+  right = c.requires.right;
+  levels = λ honest.
+      let m = g.S.Samples.mosaic c.args.samples.now in
+      subst (λ (l : List ℤ). AreRimLevelsTo m c.args.corner 0 l) (sym c.in_ok-rim.ensures.items) (no_rim m (g.met.S.Samples.is_mosaic c.args.samples.now honest) c.args.corner);
+}
+
+pub loop-number-preserved : goal.loop-number-preserved
+loop-number-preserved g c =
+    let now = c.args.samples.now in
+    let so = c.loop-number.invariant in
+    let told = c.in_ok-level.ensures in
+    let read = asked_reads g.S.Samples c.loop-number.samples c.level_of.new.samples _ told.asked in
+    record {
+      reads = reads_on g.S.Samples g.met.S.Samples.keeps_on now c.loop-number.samples c.level_of.new.samples tt (Ok tt) so.reads read;
+      right = told.right;
+      levels = λ honest.
+          let mid = read.honest honest in
+          let first = so.reads.honest mid in
+          let m = g.S.Samples.mosaic now in
+          let v = to_z w16 (of_z w16 c.in_ok-level.level) in
+          let fits : SFits w16 c.in_ok-level.level = search rules in
+          let side : c.side-side.result ≡ m.side = c.side-side.ensures ∙ sym (g.met.S.Samples.same_side now first) in
+          let here = subst (λ p. IsLevelOrVoid m p v) c.point_at-point.ensures.value
+          (subst (IsLevelOrVoid m c.point_at-point.result) (sym (to_z-of_z w16 c.in_ok-level.level fits)) (subst (λ (k : Mosaic). IsLevelOrVoid k c.point_at-point.result c.in_ok-level.level) (so.reads.mosaic mid) (told.level honest))) in
+          rim_more m (g.met.S.Samples.is_mosaic now first) c.args.corner c.loop-number.rim.items c.push.new.items.items c.loop-number.number c.rim_index.result v c.in_ok-push.ensures.pushed
+          (subst (λ n. IsRimPoint n c.loop-number.number c.rim_index.result) side c.rim_index.ensures)
+          (subst (λ n. IsLevelOrVoid m (point_of n c.args.corner c.rim_index.result) v) side here) (so.levels mid);
+    }
+
+pub returns-in_err-rim-clause-asked : goal.returns-in_err-rim-clause-asked
+returns-in_err-rim-clause-asked g c =
+    let a = c.args.samples.now in
+    let memory : IfErr c.from_residual.result (λ r. r ≡ NoMemory) = search rules in
+    short_of_memory g.S.Samples a a c.from_residual.result (reads_nothing g.S.Samples g.met.S.Samples.keeps_itself a (tt {0})) memory
+
+pub returns-in_err-level-clause-asked : goal.returns-in_err-level-clause-asked
+returns-in_err-level-clause-asked g c =
+    let a = c.args.samples.now in
+    let b = c.loop-number.samples in
+    let d = c.level_of.new.samples in
+    let r = c.in_err-level.field-0.0 in
+    let p = err_from_is_err_and c.from_residual-in_err-level.result c.from_residual-in_err-level.ensures.1 in
+    refused_by g.S.Samples a d c.from_residual-in_err-level.result p.0 r p.1 p.2
+    (asked_passed g.S.Samples a d r (asked_on g.S.Samples g.met.S.Samples.keeps_on a b d (tt {0}) (Err r) c.loop-number.invariant.reads c.in_err-level.ensures.asked))
+
+pub returns-in_err-push-clause-asked : goal.returns-in_err-push-clause-asked
+returns-in_err-push-clause-asked g c =
+    let a = c.args.samples.now in
+    let d = c.level_of.new.samples in
+    let memory : IfErr c.from_residual-in_err-push.result (λ r. r ≡ NoMemory) = search rules in
+    short_of_memory g.S.Samples a d c.from_residual-in_err-push.result
+    (reads_on g.S.Samples g.met.S.Samples.keeps_on a c.loop-number.samples d tt (Ok tt) c.loop-number.invariant.reads (asked_reads g.S.Samples c.loop-number.samples d _ c.in_ok-level.ensures.asked)) memory
+
+pub returns-clause-levels : goal.returns-clause-levels
+returns-clause-levels g c honest =
+    let now = c.args.samples.now in
+    let first = c.loop-number.invariant.reads.honest honest in
+    let m = g.S.Samples.mosaic now in
+    let last : c.loop-number.number ≡ c.rim-number-end.result = omega (arith, c.loop-number-test.false, c.loop-number.auto.number-end) in
+    let side : c.side-side.result ≡ m.side = c.side-side.ensures ∙ sym (g.met.S.Samples.same_side now first) in
+    let count : c.rim-number-end.result ≡ 4 * (m.side - 1) = c.rim-number-end.ensures.value ∙ ap (λ n. 4 * (n - 1)) side in
+    rim_whole m (g.met.S.Samples.is_mosaic now first) c.args.corner c.loop-number.rim.items
+    (subst (λ k. AreRimLevelsTo m c.args.corner k c.loop-number.rim.items) (last ∙ count) (c.loop-number.invariant.levels honest))
+
+pub returns-clause-asked : goal.returns-clause-asked
+returns-clause-asked g c = answered g.S.Samples c.args.samples.now c.loop-number.samples _ c.loop-number.invariant.reads

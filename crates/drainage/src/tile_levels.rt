@@ -1,0 +1,115 @@
+//! The filled levels of a whole tile, from its labelling and those of its rim.
+ghost use Rattle.std.specs.Prelude.{◌≡◌, ◌<◌, IsTrue, IfOk, IfErr, MatchOption, length};
+ghost use Rattle.lattice.specs.Mosaic.{void};
+ghost use Rattle.catalogue.specs.Asked.{Asked};
+ghost use Rattle.catalogue.specs.Endings.{ends_any};
+ghost use Rattle.border_graph.specs.Others.{corner_at};
+ghost use Rattle.tile_flood.specs.Raising.{AreRimLevels, AreTileLevels};
+ghost use Rattle.drainage.specs.Holding.{IsRight};
+ghost use Rattle.drainage.specs.TileCaches.{known_of};
+ghost use Rattle.drainage.specs.Everywhere.{IsLevelOrVoid};
+
+use crate::filling::level_in;
+use crate::renewing::current_labelling;
+use crate::tile_cache::TileCache;
+use lattice::{Corner, Point, Refusal, VOID, point_at, push, rim_index};
+use std::alloc::Global;
+use tile_flood::raise;
+use tile_labellings::Labellings;
+
+/// The filled levels of all points of the tile with this place, row by row from the north; void where a point isn't ground.
+/// Its rim points are asked one by one; the levels of the others follow from the tile's labelling in one pass.
+///
+/// It is refused as a level is.
+pub(crate) fn tile_levels<S: Labellings>(
+    alloc: Global,
+    samples: &mut S,
+    tile_cache: &mut TileCache,
+    t: usize,
+) -> Result<Vec<i16>, Refusal>
+    requires right { S.is_honest samples.old → IsRight (S.mosaic samples.old) (known_of tile_cache.old) }
+    requires place { t < length (S.corners samples.old) }
+    ensures levels { S.is_honest samples.new → IfOk result (λ levels. AreTileLevels (S.mosaic samples.old) (corner_at (S.corners samples.old) t) levels.items) }
+    ensures right { S.is_honest samples.new → IsRight (S.mosaic samples.new) (known_of tile_cache.new) }
+    ensures causes { IfErr result (λ r. IsTrue (ends_any r)) }
+    ensures asked { Asked S.Samples samples.old samples.new result }
+{
+    let Some(corner) = tile_cache.rim_graph.corner(t) else {
+        return Err(Refusal::Damaged);
+    };
+    let rim = rim_levels(alloc, samples, tile_cache, corner)?;
+    levels_over_rim(alloc, samples, tile_cache, t, corner, &rim)
+}
+
+// The filled levels of the corner's rim points, by rim number; void where a point isn't ground.
+fn rim_levels<S: Labellings>(
+    alloc: Global,
+    samples: &mut S,
+    tile_cache: &mut TileCache,
+    corner: Corner,
+) -> Result<Vec<i16>, Refusal>
+    requires right { S.is_honest samples.old → IsRight (S.mosaic samples.old) (known_of tile_cache.old) }
+    ensures levels { S.is_honest samples.new → IfOk result (λ rim. AreRimLevels (S.mosaic samples.old) corner rim.items) }
+    ensures right { S.is_honest samples.new → IsRight (S.mosaic samples.new) (known_of tile_cache.new) }
+    ensures causes { IfErr result (λ r. IsTrue (ends_any r)) }
+    ensures asked { Asked S.Samples samples.old samples.new result }
+{
+    let side = samples.side();
+    let mut rim = Vec::with_capacity(alloc, side.rim() as usize)?;
+    for number in 0..side.rim() {
+        let point = point_at(side, corner, rim_index(side, number));
+        let level = level_of(alloc, samples, tile_cache, point)?;
+        push(&mut rim, level)?;
+    }
+    Ok(rim)
+}
+
+// The filled level of the point; void where it isn't ground.
+fn level_of<S: Labellings>(
+    alloc: Global,
+    samples: &mut S,
+    tile_cache: &mut TileCache,
+    point: Point,
+) -> Result<i16, Refusal>
+    requires right { S.is_honest samples.old → IsRight (S.mosaic samples.old) (known_of tile_cache.old) }
+    ensures level { S.is_honest samples.new → IfOk result (IsLevelOrVoid (S.mosaic samples.old) point) }
+    ensures right { S.is_honest samples.new → IsRight (S.mosaic samples.new) (known_of tile_cache.new) }
+    ensures causes { IfErr result (λ r. IsTrue (ends_any r)) }
+    ensures asked { Asked S.Samples samples.old samples.new result }
+{
+    let found = level_in(alloc, samples, tile_cache, point)?;
+    Ok(level_or_void(found))
+}
+
+fn level_or_void(found: Option<i16>) -> i16
+    ensures { MatchOption found (result ≡ void) (λ level. result ≡ level) }
+{
+    match found {
+        Some(level) => level,
+        None => VOID,
+    }
+}
+
+// The filled levels of the tile with this place and corner, by those of its rim.
+fn levels_over_rim<S: Labellings>(
+    alloc: Global,
+    samples: &mut S,
+    tile_cache: &mut TileCache,
+    t: usize,
+    corner: Corner,
+    rim: &[i16],
+) -> Result<Vec<i16>, Refusal>
+    requires right { S.is_honest samples.old → IsRight (S.mosaic samples.old) (known_of tile_cache.old) }
+    requires place { t < length (S.corners samples.old) }
+    requires corner { S.is_honest samples.old → corner_at (S.corners samples.old) t ≡ corner }
+    requires rim { S.is_honest samples.old → AreRimLevels (S.mosaic samples.old) corner rim.now }
+    ensures levels { S.is_honest samples.new → IfOk result (λ levels. AreTileLevels (S.mosaic samples.old) corner levels.items) }
+    ensures right { S.is_honest samples.new → IsRight (S.mosaic samples.new) (known_of tile_cache.new) }
+    ensures causes { IfErr result (λ r. IsTrue (ends_any r)) }
+    ensures asked { Asked S.Samples samples.old samples.new result }
+{
+    let labelling = current_labelling(alloc, samples, &mut tile_cache.labellings, t, corner)?;
+    let levels = raise(alloc, labelling.labelled(), rim);
+    tile_cache.labellings.hold(t, labelling);
+    levels
+}
