@@ -1,10 +1,9 @@
 //! Tiles in memory.
-ghost use Rattle.std.specs.Prelude.{◌≡◌, ◌<◌, ◌*◌, ◌↔◌, IsTrue, IsFalse, IfErr, IfOk, OnOk, OnErr, option_map, vec_len, length, All, Contains};
-ghost use Rattle.lattice.specs.Mosaic.{IsSample};
+ghost use Rattle.std.specs.Prelude.{◌≡◌, ◌<◌, ◌*◌, ◌↔◌, IsTrue, IsFalse, IfErr, IfOk, OnOk, OnErr, option_map, vec_len, length, Contains};
 
 use crate::Samples;
 use arrayvec::ArrayVec;
-use lattice::{Corner, MOST_SINKS, Point, Refusal, Side};
+use lattice::{Corner, MOST_SINKS, Point, Refusal, Side, corner_in_range, samples_in_range};
 use std::alloc::Global;
 use std::collections::BTreeMap;
 use std::marker::Model;
@@ -69,9 +68,8 @@ impl Table {
         ensures unchanged { OnErr result (self.new ≡ self.old) }
         ensures valid { IsMosaic self.new }
     {
-        // Degrees and samples are known to be in range once they were read.
-        let _lat = corner.lat;
-        read_all(&samples);
+        corner_in_range(corner);
+        samples_in_range(&samples);
         match self.tiles.insert(corner, samples) {
             Ok(_) => Ok(()),
             Err(_) => Err(Refusal::NoMemory),
@@ -115,15 +113,6 @@ impl Table {
         ensures valid { IsMosaic self.now }
     {
         Ok(self.tiles.keys().copied().collect(self.alloc)?)
-    }
-}
-
-/// For the prover alone: a sample that is read is known to be a number of 16 bits. No code comes of it.
-pub(crate) fn read_all(samples: &[i16])
-    ensures { All IsSample samples.now }
-{
-    for sample in samples {
-        let _sample = *sample;
     }
 }
 

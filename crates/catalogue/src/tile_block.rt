@@ -12,8 +12,9 @@ ghost use Rattle.catalogue.specs.Elsewhere.{IsOwnOrHeight, is_held_elsewhere as 
 
 use crate::Samples;
 use crate::seam_rule::height;
-use crate::table::read_all;
-use lattice::{Corner, Height, Point, Refusal, VOID, holders, point_at, rim_index};
+use lattice::{
+    Corner, Height, Point, Refusal, VOID, holders, point_at, rim_index, samples_in_range,
+};
 use std::alloc::Global;
 
 /// The heights of the points of the corner's tile by the seam rule, by index, void where a point has none.
@@ -36,7 +37,7 @@ pub fn block_heights<S: Samples>(
     samples.read_samples(corner, 0, heights.as_mut_slice())?;
     put_rim(samples, corner, heights.as_mut_slice())?;
     // Each height is known to be a number of 16 bits once it was read.
-    read_all(&heights);
+    samples_in_range(&heights);
     Ok(heights)
 }
 

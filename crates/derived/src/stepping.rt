@@ -14,7 +14,7 @@ ghost use Rattle.derived.specs.Steps.{HasStepped};
 
 use cow_tree::Tree;
 use disk::Disk;
-use lattice::{Corner, Refusal};
+use lattice::{Corner, Refusal, bytes_in_range};
 use page_codec::Entry;
 use std::alloc::Global;
 use tile_labellings::{KeptPlanes, kept_planes};
@@ -120,15 +120,10 @@ fn commit_planes<D: Disk>(
     ensures stepped { HasStepped D.Disk tree.old tree.new result }
     ensures writes { D.writes (disk_of tree.new) ≤ D.writes (disk_of tree.old) + (2 * plane_pages_of (format_of (root_of tree.old)) + 3) }
 {
-    are_bytes(levels);
-    are_bytes(labels);
+    bytes_in_range(levels);
+    bytes_in_range(labels);
     tree.stage_kept(corner, levels, labels)?;
     let count = tree.current().count();
     tree.commit(count)?;
     Ok(Some(corner))
 }
-
-// That each is a byte is told by its type.
-fn are_bytes(bytes: &[u8])
-    ensures { All (λ b. b < 256) bytes.now }
-{}

@@ -5,7 +5,7 @@ ghost use Rattle.page_codec.specs.Formats.{upgraded};
 ghost use Rattle.page_codec.specs.Sizes.{pages_of, sectors_asked};
 ghost use Rattle.page_codec.specs.declared.version.Version.TheVariants.{One};
 ghost use Rattle.std.specs.List.{AllAdjacentBelow};
-ghost use Rattle.lattice.specs.Corners.{is_before, is_corner};
+ghost use Rattle.lattice.specs.Corners.{is_before};
 ghost use Rattle.lattice.specs.Lattice.{IsBefore};
 ghost use Rattle.lattice.specs.Limits.{most_tiles};
 ghost use Rattle.page_map.specs.TileEntries.{ended_entry, IsEntryAt, IsRoomAt, AreCounted};
@@ -18,7 +18,7 @@ use crate::plane_entry::{Ending, Staged};
 use crate::tile_entry::TileEntry;
 use crate::upgrading::upgraded_planes;
 use arrayvec::ArrayVec;
-use lattice::{Corner, MOST_TILES, Refusal, is_before};
+use lattice::{Corner, MOST_TILES, Refusal, corner_in_range, is_before};
 use page_codec::Format;
 use std::alloc::Global;
 use std::marker::Model;
@@ -87,7 +87,7 @@ impl PageMap {
         ensures rules { IfOk result IsPageMap }
         ensures refused { IfErr result (λ refusal. (refusal ≡ NoMemory) ⊎ ((refusal ≡ Damaged) × ¬ KeepsPageRule self.sectors (self.committed ++ tile_at corner planes ∷ []))) }
     {
-        know_degrees(corner);
+        corner_in_range(corner);
         let PageMap {
             alloc,
             format,
@@ -225,7 +225,7 @@ impl PageMap {
         ensures unchanged { OnErr result (self.new ≡ self.old) }
         ensures rules { IsPageMap self.new }
     {
-        know_degrees(c);
+        corner_in_range(c);
         self.entries.reserve(1)?;
         let location = fresh_plane(
             self.alloc,
@@ -352,13 +352,6 @@ fn find(entries: &[TileEntry], c: Corner) -> Result<usize, usize>
     } else {
         Err(at)
     }
-}
-
-// A corner's degrees are known to be in range once they were read.
-fn know_degrees(c: Corner)
-    ensures { IsTrue (is_corner c) }
-{
-    let _lat = c.lat;
 }
 
 /// Commits or gives up what is staged in each entry.

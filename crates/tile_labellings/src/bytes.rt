@@ -1,9 +1,9 @@
 //! Levels and labels as bytes.
-ghost use Rattle.std.specs.Prelude.{◌≡◌, ◌*◌, ◌<◌, ◌∷◌, [], ℕ, All, IfOk, length, vec_len};
-ghost use Rattle.lattice.specs.Mosaic.{IsSample};
+ghost use Rattle.std.specs.Prelude.{◌≡◌, ◌*◌, ◌<◌, ◌∷◌, [], ℕ, IfOk, length, vec_len};
 ghost use Rattle.tile_flood.specs.Kept.{labels_in, levels_in};
 
 use byteorder::{ByteOrder, LittleEndian};
+use lattice::{labels_in_range, samples_in_range};
 use std::alloc::{AllocError, Global};
 
 /// The bytes of these levels.
@@ -68,7 +68,7 @@ fn write_levels(levels: &[i16], bytes: &mut [u8])
     requires { length bytes.old ≡ 2 * length levels.now }
     ensures { levels_in bytes.new ≡ levels.now }
 {
-    read_levels(levels);
+    samples_in_range(levels);
     LittleEndian::write_i16_into(levels, bytes);
 }
 
@@ -76,7 +76,7 @@ fn write_labels(labels: &[u16], bytes: &mut [u8])
     requires { length bytes.old ≡ 2 * length labels.now }
     ensures { labels_in bytes.new ≡ labels.now }
 {
-    read_labels(labels);
+    labels_in_range(labels);
     LittleEndian::write_u16_into(labels, bytes);
 }
 
@@ -92,22 +92,4 @@ fn fill_labels(bytes: &[u8], labels: &mut [u16])
     ensures { labels.new ≡ labels_in bytes.now }
 {
     LittleEndian::read_u16_into(bytes, labels);
-}
-
-// Reads each level, after which each is known to be a number of 16 bits. A compiler leaves nothing of it.
-fn read_levels(levels: &[i16])
-    ensures { All IsSample levels.now }
-{
-    for level in levels {
-        let _level = *level;
-    }
-}
-
-// The same of labels.
-fn read_labels(labels: &[u16])
-    ensures { All (λ n. n < 65536) labels.now }
-{
-    for label in labels {
-        let _label = *label;
-    }
 }

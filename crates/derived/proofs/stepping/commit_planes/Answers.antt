@@ -82,7 +82,7 @@ returns-in_err-commit-clause-stepped g c =
     (sym (refused_as c.from_residual-in_err-commit.result c.in_err-commit.field-0.0 c.from_residual-in_err-commit.ensures.1 ∙ ap (λ (r : Refusal). Err r) c.in_err-commit.ensures.refused))
     (fails_in_commit d seen old mid new c.args.corner c.requires.stale c.requires.number kept done
     (λ honest s at. let was = settled_at d old s c.requires.unstaged c.requires.declared at (seen (disk_of old) (does.honest honest)) in (c.in_ok-stage_kept.ensures.staged honest s at ∙ ap (with_kept c.args.corner kept) was.tiles, does.sinks ∙ was.sinks))
-    (λ honest s at keeps. planes_right n (mosaic_stored s) c.args.corner c.args.levels.now c.args.labels.now (side_at d old s at (seen (disk_of old) honest)) (c.requires.right honest s at keeps) c.requires.levels c.requires.labels c.are_bytes.ensures c.are_bytes-2.ensures)
+    (λ honest s at keeps. planes_right n (mosaic_stored s) c.args.corner c.args.levels.now c.args.labels.now (side_at d old s at (seen (disk_of old) honest)) (c.requires.right honest s at keeps) c.requires.levels c.requires.labels c.bytes_in_range.ensures c.bytes_in_range-2.ensures)
     c.count-count.result (c.count-count.ensures.value ∙ ap (λ (r : RootValue). r.count) c.current.ensures)
     c.commit.ensures.size c.commit.ensures.cause.later c.commit.ensures.honest c.commit.ensures.any_moment
     c.in_err-commit.ensures.last_known c.in_err-commit.ensures.failed (c.in_err-commit.ensures.cause.failed refl))
@@ -110,7 +110,7 @@ returns-clause-stepped g c =
     } in
     commits_it d seen old mid new c.args.corner c.requires.stale c.requires.number kept done
     (λ honest s at. let was = settled_at d old s c.requires.unstaged c.requires.declared at (seen (disk_of old) (does.honest honest)) in (c.in_ok-stage_kept.ensures.staged honest s at ∙ ap (with_kept c.args.corner kept) was.tiles, does.sinks ∙ was.sinks))
-    (λ honest s at keeps. planes_right n (mosaic_stored s) c.args.corner c.args.levels.now c.args.labels.now (side_at d old s at (seen (disk_of old) honest)) (c.requires.right honest s at keeps) c.requires.levels c.requires.labels c.are_bytes.ensures c.are_bytes-2.ensures)
+    (λ honest s at keeps. planes_right n (mosaic_stored s) c.args.corner c.args.levels.now c.args.labels.now (side_at d old s at (seen (disk_of old) honest)) (c.requires.right honest s at keeps) c.requires.levels c.requires.labels c.bytes_in_range.ensures c.bytes_in_range-2.ensures)
     c.count-count.result (c.count-count.ensures.value ∙ ap (λ (r : RootValue). r.count) c.current.ensures)
     c.commit.ensures.size c.commit.ensures.cause.later c.commit.ensures.honest c.commit.ensures.any_moment
     c.in_ok-commit.ensures.not_failed

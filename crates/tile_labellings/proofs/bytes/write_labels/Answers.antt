@@ -4,4 +4,4 @@ use Rattle.tile_labellings.proofs.LittleBytes.{labels_back}
 use Rattle.tile_labellings.proofs.bytes.write_labels.Goals as goal
 
 pub returns : goal.returns
-returns c = ap labels_in c.write_u16_into.ensures ∙ labels_back _ (λ n. refl) c.args.labels.now c.read_labels.ensures
+returns c = ap labels_in c.write_u16_into.ensures ∙ labels_back _ (λ n. refl) c.args.labels.now c.labels_in_range.ensures

@@ -22,7 +22,7 @@ invariant_of-result c =
     (subst (λ (v : PageMapValue). All (λ t. IsBefore t.corner c.args.corner) v.committed) (sym c.self.view_is) c.requires.after)
     (subst (λ (v : PageMapValue). length v.committed < v.format.capacity) (sym c.self.view_is) c.requires.room)
     (subst (λ (v : PageMapValue). IsWholeTile v.format (tile_at c.args.corner c.args.planes)) (sym c.self.view_is) c.requires.whole)
-    c.know_degrees.ensures c.mark_planes.new.free c.in_ok-mark_planes.ensures.marked)
+    c.corner_in_range.ensures c.mark_planes.new.free c.in_ok-mark_planes.ensures.marked)
 
 pub returns-in_err-mark_planes-clause-refused : goal.returns-in_err-mark_planes-clause-refused
 returns-in_err-mark_planes-clause-refused c =
@@ -60,4 +60,4 @@ returns-clause-rules c =
     (subst (λ (v : PageMapValue). All (λ t. IsBefore t.corner c.args.corner) v.committed) (sym c.self.view_is) c.requires.after)
     (subst (λ (v : PageMapValue). length v.committed < v.format.capacity) (sym c.self.view_is) c.requires.room)
     (subst (λ (v : PageMapValue). IsWholeTile v.format (tile_at c.args.corner c.args.planes)) (sym c.self.view_is) c.requires.whole)
-    c.know_degrees.ensures c.mark_planes.new.free c.in_ok-mark_planes.ensures.marked))
+    c.corner_in_range.ensures c.mark_planes.new.free c.in_ok-mark_planes.ensures.marked))

@@ -37,7 +37,7 @@ kept_inside c =
     subst (λ (l : List TileEntry). IsKept c.self.inside.format l c.fresh_plane.new.free) (sym insert_is)
     (kept_inserted c.self.inside.format c.self.inside.entries.items c.self.inside.free c.fresh_plane.new.free c.self.invariant c.args.c c.in_ok-location.location
     (record { index_pages = c.in_ok-location.ensures.index_pages ∙ c.index_pages.ensures; pages = c.in_ok-location.ensures.pages ∙ c.data_pages.ensures.value }) c.in_ok-location.ensures.taken (subst (λ (v : PageMapValue). length v.staged < v.format.capacity) (sym c.self.view_is) c.requires.room)
-    c.know_degrees.ensures c.in-Err.at (rw (c.deref.ensures.value, c.in_ok-reserve.ensures.items) at c.in-Err.ensures.absent))
+    c.corner_in_range.ensures c.in-Err.at (rw (c.deref.ensures.value, c.in_ok-reserve.ensures.items) at c.in-Err.ensures.absent))
 
 pub invariant_of-self-in-Ok : goal.invariant_of-self-in-Ok
 invariant_of-self-in-Ok c =
@@ -83,7 +83,7 @@ returns-else-is_err-clause-added c =
     (subst (λ (l : List TileEntry). IsAdded c.args.c (page_map_of c.self.inside.format c.self.inside.entries.items c.self.inside.free) (page_map_of c.self.inside.format l c.fresh_plane.new.free)) (sym insert_is)
     (is_inserted c.self.inside.format c.self.inside.entries.items c.self.inside.free c.fresh_plane.new.free c.self.invariant c.args.c c.in_ok-location.location
     (record { index_pages = c.in_ok-location.ensures.index_pages ∙ c.index_pages.ensures; pages = c.in_ok-location.ensures.pages ∙ c.data_pages.ensures.value }) c.in_ok-location.ensures.taken (subst (λ (v : PageMapValue). length v.staged < v.format.capacity) (sym c.self.view_is) c.requires.room)
-    c.know_degrees.ensures c.in-Err.at (rw (c.deref.ensures.value, c.in_ok-reserve.ensures.items) at c.in-Err.ensures.absent)))
+    c.corner_in_range.ensures c.in-Err.at (rw (c.deref.ensures.value, c.in_ok-reserve.ensures.items) at c.in-Err.ensures.absent)))
 
 pub returns-else-is_err-clause-rules : goal.returns-else-is_err-clause-rules
 returns-else-is_err-clause-rules c = mapped c.self.inside.format _ c.fresh_plane.new.free (kept_inside (goal.at.returns-else-is_err-clause-rules c).Else-is_err)
