@@ -31,6 +31,7 @@ impl Model for Summary {
 }
 
 impl Summary {
+    /// What the tile at this corner tells: its rim points, by number, and the spills between its labels.
     pub fn new(corner: Corner, rim: Vec<RimPoint>, spills: Vec<Spill>) -> Summary
         ensures { result ≡ record { corner = corner; rim = rim.items; spills = spills.items } }
     {

@@ -26,6 +26,7 @@ impl TileSamples {
         TileSamples { samples }
     }
 
+    /// The samples, in the order of their indices.
     pub fn as_slice(&self) -> &[i16]
         ensures { result.now ≡ self.now }
     {

@@ -27,6 +27,7 @@ impl Bytes {
         Bytes { bytes }
     }
 
+    /// The bytes, in their order.
     pub fn as_slice(&self) -> &[u8]
         ensures { result.now ≡ self.now }
     {

@@ -1,3 +1,4 @@
+//! What disks in memory, with faults and over a file do, call by call.
 ghost use Rattle.std.specs.Prelude.{◌≡◌, ◌<◌, ◌≤◌, IfOk};
 ghost use Rattle.disk.specs.MemDisk.{sectors_of};
 

@@ -1,3 +1,4 @@
+//! Which pages of a disk are free, by disks of a few sectors and by the largest.
 use crate::asserting::assert_row;
 use page_alloc::{FIRST_PAGE, Pages};
 use std::test::Fail;

@@ -1,3 +1,4 @@
+//! The bytes of roots, entries, sinks, records and index pages, by spellings worked by hand.
 use crate::asserting::{assert_all, assert_found};
 use arrayvec::ArrayVec;
 use lattice::{Corner, Point, Refusal, Side};

@@ -79,12 +79,14 @@ impl Format {
         }
     }
 
+    /// The version of the layout.
     pub fn version(self) -> Version
         ensures { result ≡ self.version }
     {
         self.version
     }
 
+    /// The side of each tile.
     pub fn side(self) -> Side
         ensures value { result ≡ self.side }
         ensures rules { IsFormat self }

@@ -130,12 +130,14 @@ impl Root {
         }
     }
 
+    /// The version, side and capacity of the store.
     pub fn format(&self) -> Format
         ensures { result ≡ format_of self.now }
     {
         self.format
     }
 
+    /// The side of each tile.
     pub fn side(&self) -> Side
         ensures value { result ≡ self.now.side }
         ensures high { result ≤ largest_side_of self.now.version }

@@ -27,6 +27,7 @@ impl Version {
         }
     }
 
+    /// The number that stands for the version in a root.
     pub fn number(self) -> u32
         ensures { result ≡ number_of self }
     {

@@ -31,6 +31,7 @@ impl PlainTile {
         PlainTile { corner, samples }
     }
 
+    /// The tile's corner.
     pub fn corner(&self) -> Corner
         ensures value { result ≡ self.now.corner }
         ensures valid { IsTrue (is_corner self.now.corner) }
@@ -40,6 +41,7 @@ impl PlainTile {
         corner
     }
 
+    /// Its samples, row by row from the north-west.
     pub fn samples(&self) -> &[i16]
         ensures { result.now ≡ self.now.samples }
     {
@@ -122,6 +124,7 @@ impl Plain {
         })
     }
 
+    /// The side of each tile.
     pub fn side(&self) -> Side
         ensures value { result ≡ self.now.side }
         ensures whole { IsMosaic self.now }
