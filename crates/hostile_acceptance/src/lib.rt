@@ -1,5 +1,11 @@
 //! Tests alone, of what comes from outside and means harm: images of a disk that no store wrote, and lines that no client
 //! should send. What an image has to open as is read plainly from its bytes, by the rules of the layout.
+//!
+//! A row of images is a sector, a place in it, the bytes that are put there, and what an opening says then:
+//!
+//! ```
+//! (ROOT_A, 12, &[0xb2, 4], SMALL),                       // a larger side
+//! ```
 #![tactic(auto)]
 
 #[cfg(test)]

@@ -1,4 +1,10 @@
 //! Tests alone, of the half that keeps bytes: disks, free pages, spellings of roots and records, slots and gates, trees.
+//!
+//! A row says what is changed, and what is found then:
+//!
+//! ```
+//! (12, [2, 0], Some(Damaged::Rule)),                     // a root whose side is 2
+//! ```
 #![tactic(auto)]
 
 #[cfg(test)]

@@ -1,5 +1,11 @@
 //! Tests alone, of the half that knows terrain: points and tiles, heights, floods, directions, watersheds, and the plain
 //! programs. What lines can ask is tested by the rows of `acceptance`.
+//!
+//! A row says what it shows, what is asked, and the answer:
+//!
+//! ```
+//! ("a void disagrees with a height", [(N00E000, K), (N00E001, H)], 1),
+//! ```
 #![tactic(auto)]
 
 #[cfg(test)]
