@@ -45,9 +45,7 @@ pub use laws::{
 pub use limits::{LARGEST_SIDE, MOST_SINKS, MOST_TILES};
 pub use order::{is_before, is_point_before};
 pub use point::Point;
-pub use ranges::{
-    bytes_in_range, corner_in_range, labels_in_range, sample_in_range, samples_in_range,
-};
+pub use ranges::{bytes_in_range, corner_in_range, labels_in_range, samples_in_range};
 pub use refusal::Refusal;
 pub use rim::{rim_index, rim_number};
 pub use side::Side;

@@ -1,5 +1,5 @@
 //! What the types of numbers say of values, as facts that a proof can cite. Nothing is done at run time.
-ghost use Rattle.std.specs.Prelude.{◌≡◌, ◌<◌, All, IsTrue};
+ghost use Rattle.std.specs.Prelude.{◌<◌, All, IsTrue};
 ghost use Rattle.lattice.specs.Corners.{is_corner};
 ghost use Rattle.lattice.specs.Mosaic.{IsSample};
 
@@ -23,14 +23,6 @@ pub fn samples_in_range(samples: &[i16])
     for sample in samples {
         let _sample = *sample;
     }
-}
-
-/// The sample, which is a number of 16 bits.
-pub fn sample_in_range(sample: i16) -> i16
-    ensures value { result ≡ sample }
-    ensures sample { IsSample result }
-{
-    sample
 }
 
 /// The corner is one of the grid of tiles.

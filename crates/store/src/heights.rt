@@ -2,7 +2,7 @@
 ghost use Rattle.std.specs.Prelude.{◌≡◌, ◌≢◌, ◌<◌, ◌+◌, ◌*◌, ◌/◌, ℕ, false, All, Contains, IsTrue, IfErr, IfSome, IfNone, OnOk, length, take, slice_index_or};
 ghost use Rattle.lattice.specs.Corners.{is_corner};
 ghost use Rattle.lattice.specs.Lattice.{IsIndexOf};
-ghost use Rattle.lattice.specs.Mosaic.{Mosaic};
+ghost use Rattle.lattice.specs.Mosaic.{Mosaic, IsSample};
 ghost use Rattle.lattice.specs.declared.refusal.Refusal.TheVariants.{Device};
 ghost use Rattle.cow_tree.specs.Stored.{Stored};
 ghost use Rattle.cow_tree.specs.Trees.{disk_of, root_of, has_failed, corners_of, staged_in, IsAt};
@@ -14,7 +14,7 @@ use cow_tree::{Plane, Tree};
 use disk::Disk;
 use edits::NewHeight;
 use hgt::put_sample;
-use lattice::{Corner, Point, Refusal, Side, holders, index_in, sample_in_range};
+use lattice::{Corner, Point, Refusal, Side, holders, index_in};
 
 /// Stages the points' new heights in each present tile that holds them: of each tile the pages that one of them lies in,
 /// each read and written once. Memory for all of it is had before the first page is written: refused with NoMemory, and
@@ -167,7 +167,7 @@ fn set_heights(
     for k in 0..heights.len() {
         let height = nth(heights, k);
         if let Some(at) = place_in(side, corner, page_index, height.point) {
-            let metres = sample_in_range(height.metres);
+            let metres = metres_of(&height);
             put_sample(page, at, metres);
         }
     }
@@ -183,6 +183,14 @@ fn place_in(side: Side, corner: Corner, page_index: u32, point: Point) -> Option
         return None;
     }
     Some((index % SAMPLES_IN_PAGE) as usize)
+}
+
+// Its height, which is known to be a number of 16 bits once it is read.
+fn metres_of(height: &NewHeight) -> i16
+    ensures value { result ≡ height.now.metres }
+    ensures sample { IsSample result }
+{
+    height.metres
 }
 
 // The height with this index.

@@ -1,7 +1,7 @@
 //! Heights staged where a patch fills voids.
 ghost use Rattle.std.specs.Prelude.{◌≡◌, ◌<◌, ◌≤◌, ◌+◌, ◌*◌, ◌-◌, ◌/◌, ◌^◌, ◌&&◌, int_le, ℕ, false, All, Contains, IfErr, OnOk, length, vec_len};
 ghost use Rattle.lattice.specs.Lattice.{point_of};
-ghost use Rattle.lattice.specs.Mosaic.{Mosaic, IsMosaic, is_void};
+ghost use Rattle.lattice.specs.Mosaic.{Mosaic, IsMosaic, IsSample, is_void};
 ghost use Rattle.lattice.specs.declared.refusal.Refusal.TheVariants.{Device};
 ghost use Rattle.page_codec.specs.Sizes.{pages_of};
 ghost use Rattle.edits.specs.Effect.{is_in_box};
@@ -16,7 +16,7 @@ use crate::staging::SAMPLES_IN_PAGE;
 use cow_tree::{Plane, Tree};
 use disk::Disk;
 use hgt::{put_sample, sample};
-use lattice::{Corner, Point, Refusal, Side, VOID, point_at, sample_in_range};
+use lattice::{Corner, Point, Refusal, Side, VOID, point_at};
 use page_codec::pages_in_plane;
 use std::alloc::Global;
 
@@ -172,7 +172,7 @@ fn fill_samples(side: Side, rim: &RimVoids, patch: Patch, index: u32, page: &mut
         → IsEdited side (filled m patch) rim.now.corner index page.old page.new }
     ensures left { result ≡ false → page.new ≡ page.old }
 {
-    let height = sample_in_range(patch.height);
+    let height = height_of(&patch);
     let mut is_filled = false;
     for at in 0..SAMPLES_IN_PAGE {
         if is_due(side, rim, patch, SAMPLES_IN_PAGE * index, page, at) {
@@ -181,6 +181,14 @@ fn fill_samples(side: Side, rim: &RimVoids, patch: Patch, index: u32, page: &mut
         }
     }
     is_filled
+}
+
+// The height, which is known to be a number of 16 bits once it is read.
+fn height_of(patch: &Patch) -> i16
+    ensures value { result ≡ patch.now.height }
+    ensures sample { IsSample result }
+{
+    patch.height
 }
 
 // Whether sample `at` of the page, which begins with the tile's sample `first`, is to be filled: it is a void, and its

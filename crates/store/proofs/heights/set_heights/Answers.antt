@@ -22,12 +22,12 @@ loop-k-preserved c = λ corner.
     let within : k < length heights = let less = c.loop-k-test.true in let end = c.loop-k.auto.k-end in omega (arith, less, end) in
     elim c.match-place_in.branch [
       | in-Some w ↦
-          let metres : ℤ = w.sample_in_range-metres.result in
-          let value : metres ≡ h.metres = w.sample_in_range-metres.ensures.value in
+          let metres : ℤ = w.metres_of-metres.result in
+          let value : metres ≡ h.metres = w.metres_of-metres.ensures.value in
           let at : ℕ = w.in-Some.at in
-          let written = w.put_sample.ensures.bytes ∙ ap (λ (s : ℤ). with_bytes at s now) (sample_passed metres w.sample_in_range-metres.ensures.sample ∙ value) in
+          let written = w.put_sample.ensures.bytes ∙ ap (λ (s : ℤ). with_bytes at s now) (sample_passed metres w.metres_of-metres.ensures.sample ∙ value) in
           subst (λ (p : List ℕ). IsSetTo n heights c.args.corner i (k + 1) was p) (sym (w.page-is ∙ written))
-          (height_set n heights c.args.corner corner i was k h within (c.nth-height.ensures c.nth-height.result) now so at w.in-Some.ensures.some.0 w.in-Some.ensures.some.1 (subst IsSample value w.sample_in_range-metres.ensures.sample))
+          (height_set n heights c.args.corner corner i was k h within (c.nth-height.ensures c.nth-height.result) now so at w.in-Some.ensures.some.0 w.in-Some.ensures.some.1 (subst IsSample value w.metres_of-metres.ensures.sample))
       | in_default w ↦
           subst (λ (p : List ℕ). IsSetTo n heights c.args.corner i (k + 1) was p) (sym w.page-is)
           (height_passed n heights c.args.corner corner i was k h within (c.nth-height.ensures c.nth-height.result) now so w.in_default.ensures.none)

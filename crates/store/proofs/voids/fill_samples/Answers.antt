@@ -19,13 +19,13 @@ loop-at-preserved c =
     let so = c.loop-at.invariant in
     elim c.if-is_due.branch [
       | then-is_due w ↦
-          let height : ℤ = c.sample_in_range-height.result in
-          let value : height ≡ patch.height = c.sample_in_range-height.ensures.value in
-          let written = w.put_sample.ensures.bytes ∙ ap (λ (s : ℤ). with_bytes at s now) (sample_passed height c.sample_in_range-height.ensures.sample ∙ value) in
+          let height : ℤ = c.height_of-height.result in
+          let value : height ≡ patch.height = c.height_of-height.ensures.value in
+          let written = w.put_sample.ensures.bytes ∙ ap (λ (s : ℤ). with_bytes at s now) (sample_passed height c.height_of-height.ensures.sample ∙ value) in
           let page_is = w.page-is ∙ written in
           let due : is_due n rim patch (2048 * i + at) (page_sample now at) ≡ true = sym c.is_due.ensures ∙ w.if-is_due.true in
           record {
-            filled = subst (λ (p : List ℕ). IsFilledTo n rim patch i (at + 1) was p) (sym page_is) (filled_more n rim patch i was at now so.filled so.long c.loop-at-test.true (subst IsSample value c.sample_in_range-height.ensures.sample) due);
+            filled = subst (λ (p : List ℕ). IsFilledTo n rim patch i (at + 1) was p) (sym page_is) (filled_more n rim patch i was at now so.filled so.long c.loop-at-test.true (subst IsSample value c.height_of-height.ensures.sample) due);
             long = ap length page_is ∙ length_with_bytes at patch.height now ∙ so.long;
             left = λ is. absurd (let e : true ≡ false = sym w.is_filled-is ∙ is in cc);
           }
