@@ -20,6 +20,10 @@ found_there n held page is =
     let at = Contains-lookup (nat_eq n) held page is in
     subst (λ (k : ℕ). Contains held (k, page)) (sym (eqb-true n at.0 at.2)) at.1
 
+-- what is held where no page is that wasn't
+pub held_before : (old new : PageCache) → ((e : ℕ × Vec ℕ) → Contains (entries_of new) e → Contains (entries_of old) e) → (page : ℕ) (bytes : List ℕ) → IsHeld new page bytes → IsHeld old page bytes
+held_before old new kept page bytes has = record { entry = has.entry; there = kept (page, has.entry) has.there; same = has.same }
+
 -- what is there after a page was put in was there, or is that page
 pub there_or_put : (cache : LruCache ℕ (Vec ℕ)) (n : ℕ) (bytes : Vec ℕ) (page : ℕ) (held : Vec ℕ) → Contains (put_entries nat_eq cache n bytes) (page, held)
     → Contains cache.entries (page, held) ⊎ ((page ≡ n) × (held ≡ bytes))
@@ -40,10 +44,6 @@ gone n held distinct bytes =
     none_there n (remove_entry (nat_eq n) held) bytes (none_passes_from_lookup (nat_eq n) (remove_entry (nat_eq n) held) out)
 
 -- when a cache agrees with an image
-
--- a cache without pages
-pub none_agrees : (cache : PageCache) (image : Image) → entries_of cache ≡ [] → Agrees cache image
-none_agrees cache image none page bytes has = let at = subst (λ (held : List (ℕ × Vec ℕ)). Contains held (page, has.entry)) none has.there in absurd (omega (arith, at.1))
 
 -- one that holds no other pages than one that agrees
 pub fewer_agree : (old new : PageCache) (image : Image) → ((page : ℕ) (bytes : List ℕ) → IsHeld new page bytes → IsHeld old page bytes) → Agrees old image → Agrees new image

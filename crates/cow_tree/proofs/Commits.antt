@@ -201,11 +201,11 @@ none_before format tiles image k d lt = record { heights = by (get_or tiles k d)
     by_kept (Some k) = record { levels = by k.levels; labels = by k.labels }
 
 -- how much it writes
-pub few_in_part : (began : Bool) (before now pages : ℕ) {due : ℕ} → now ≤ before + pages + (if began then 0 else 1) → pages ≡ due → now ≤ before + due + (if began then 2 else 3)
+pub few_in_part : (began : Bool) (before now pages : ℕ) {due : ℕ} → now ≤ before + pages + (if began then 0 else 1) → pages ≤ due → now ≤ before + due + (if began then 2 else 3)
 few_in_part true before now pages few same = omega (arith, few, same)
 few_in_part false before now pages few same = omega (arith, few, same)
 
-pub few_in_all : (began begins : Bool) (before mid now pages : ℕ) {due : ℕ} → mid + (if begins then 0 else 1) ≤ before + pages + (if began then 0 else 1) → now ≤ mid + (if begins then 2 else 3) → pages ≡ due → now ≤ before + due + (if began then 2 else 3)
+pub few_in_all : (began begins : Bool) (before mid now pages : ℕ) {due : ℕ} → mid + (if begins then 0 else 1) ≤ before + pages + (if began then 0 else 1) → now ≤ mid + (if begins then 2 else 3) → pages ≤ due → now ≤ before + due + (if began then 2 else 3)
 few_in_all true true before mid now pages first second same = omega (arith, first, second, same)
 few_in_all true false before mid now pages first second same = omega (arith, first, second, same)
 few_in_all false true before mid now pages first second same = omega (arith, first, second, same)

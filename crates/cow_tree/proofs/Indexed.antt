@@ -1,10 +1,10 @@
 -- The pages of a plane as its index pages list them, one index page after another.
-use Rattle.std.proofs.Common.{◌≡◌, ◌⊎◌, inl, inr, ⊎_elim, ℕ, ◌+◌, ◌-◌, ◌*◌, ◌/◌, ◌<◌, ◌≤◌, ◌^◌, List, [], ◌∷◌, ◌++◌, All, length, take, drop, get_or, min, sym, ap, ◌∙◌, subst, arith}
+use Rattle.std.proofs.Common.{◌≡◌, ◌⊎◌, inl, inr, ⊎_elim, ℕ, ◌+◌, ◌-◌, ◌*◌, ◌/◌, ◌<◌, ◌≤◌, ◌^◌, List, [], ◌++◌, All, length, take, drop, get_or, min, sym, ap, ◌∙◌, subst, arith}
 use Rattle.std.specs.Prelude.{Result, Ok, Err, IfOk}
 use Rattle.std.proofs.Math.Seq.{drop-append_seam}
 use Rattle.std.proofs.Math.Nat.{min-le_left, min-le_right, min-eq_left, min-eq_right, min_comm}
 use Rattle.std.proofs.lemmas.Bool.{cases_lt}
-use Rattle.std.proofs.lemmas.List.{append-nil, drop_all, length-append, length-take, length-drop, take-append-le, drop-append-le, take_all, get_or_append_left, append_assoc}
+use Rattle.std.proofs.lemmas.List.{length-append, length-take, length-drop, take-append-le, drop-append-le, take_all, get_or_append_left, append_assoc}
 use Rattle.std.proofs.lemmas.List.Elements.{All-tail, All-append, All-take, All-drop}
 use Rattle.disk.specs.Disk.{Image}
 use Rattle.lattice.specs.declared.refusal.Refusal.{Refusal}
@@ -26,17 +26,6 @@ pub record AreReadTo (index : List ℕ) (count t left : ℕ) (behind : List ℕ)
   pub sum : length (drop (length index) behind) + left ≡ count
   pub few : length (drop (length index) behind) ≤ 1024 * t
   pub full : (length (drop (length index) behind) ≡ 1024 * t) ⊎ (left ≡ 0)
-
-pub none_read_yet : (index : List ℕ) (count : ℕ) → AreReadTo index count 0 count index
-none_read_yet index count =
-    let none = drop_all (length index) index (omega arith) in
-    record {
-      is = sym (append-nil index) ∙ ap (λ l. index ++ l) (sym none);
-      each = subst (All (λ p. p < 2 ^ 32)) (sym none) (λ k d lt. absurd (omega (arith, lt)));
-      sum = (let long = ap length none in omega (arith, long));
-      few = omega (arith, ap length none);
-      full = inl (ap length none);
-    }
 
 module _ (index : List ℕ) (count t left : ℕ) (behind : List ℕ) (so_far : AreReadTo index count t left behind) where
   abbrev pages : List ℕ

@@ -2,8 +2,8 @@
 use Rattle.std.proofs.Common.{◌≡◌, ℕ, zero, suc, ◌+◌, ◌<◌, ◌≤◌, Bool, true, false, cond, List, [], ◌∷◌, ◌++◌, All, Contains, length, get_or, take, drop, Result, Ok, Err, OnOk, refl, sym, ap, ap₂, ◌∙◌, subst, arith}
 use Rattle.std.specs.Prelude.{Option, Some, None, option_map}
 use Rattle.std.specs.List.{filter}
-use Rattle.std.proofs.lemmas.List.{map-append, length-map, take-append-drop}
-use Rattle.std.proofs.lemmas.List.Elements.{All-nil, All-cons, All-append, All-contains_itself}
+use Rattle.std.proofs.lemmas.List.{map-append, length-append, length-map, take-append-drop}
+use Rattle.std.proofs.lemmas.List.Elements.{All-nil, All-cons, All-append, All-contains_itself, filter-append}
 use Rattle.disk.specs.Disk.{Image}
 use Rattle.disk.specs.declared.disk.Disk.{Ghosts}
 use Rattle.lattice.specs.declared.refusal.Refusal.{Refusal}
@@ -170,9 +170,25 @@ then_listed g tiles sectors rule old mid new xs ys r within first second = recor
       (second.pages.others honest) (second.written honest);
 }
 
-pub listing_refused : {D : Type 0} (g : Ghosts D) (xs ys : List ListingPage) (old new : Roots D g) (why : Refusal) → length xs ≤ length ys → ((q : ℕ) → times q (numbers_of xs) ≤ times q (numbers_of ys))
-    → WritesListing {T = Unit {0}} g xs old new (Err why) → WritesListing {T = Unit {0}} g ys old new (Err why)
-listing_refused g xs ys old new why le fewer had = record {
-  pages = refused_within g (numbers_of xs) (numbers_of ys) old new why (omega (arith, le, length-map xs number, length-map ys number)) fewer had.pages;
-  written = λ _. tt;
-}
+-- ---- those of two lists that are due, one list after the other
+module _ {D : Type 0} (g : Ghosts D) (before : List TileLocation) (xs ys : List ListingPage) where
+  due_parts : due_among before (xs ++ ys) ≡ due_among before xs ++ due_among before ys
+  due_parts = filter-append (λ (l : ListingPage). is_unreached before l.page) xs ys
+
+  pub due_then : (tiles : List TileLocation) (sectors : ℕ) → KeepsPageRule sectors tiles → AreWithin (xs ++ ys) tiles → (old mid new : Roots D g) (r : Result (Unit {0}) Refusal)
+      → WritesListing {T = Unit {0}} g (due_among before xs) old mid (Ok tt) → WritesListing g (due_among before ys) mid new r → WritesListing g (due_among before (xs ++ ys)) old new r
+  due_then tiles sectors rule within old mid new r first second =
+      subst (λ (l : List ListingPage). WritesListing g l old new r) (sym due_parts)
+      (then_listed g tiles sectors rule old mid new (due_among before xs) (due_among before ys) r
+      (λ q. let same = ap (λ (l : List ListingPage). times q (numbers_of l)) due_parts in omega (arith, same, few_due before (xs ++ ys) q, within q)) first second)
+
+  -- a refused call may have written no more
+  pub due_refused : (old new : Roots D g) (why : Refusal) → WritesListing {T = Unit {0}} g (due_among before xs) old new (Err why) → WritesListing {T = Unit {0}} g (due_among before (xs ++ ys)) old new (Err why)
+  due_refused old new why had =
+      let both : numbers_of (due_among before (xs ++ ys)) ≡ numbers_of (due_among before xs) ++ numbers_of (due_among before ys) = ap numbers_of due_parts ∙ numbers-append (due_among before xs) (due_among before ys) in
+      let long = ap (λ (l : List ℕ). length l) both in
+      record {
+        pages = refused_within g (numbers_of (due_among before xs)) (numbers_of (due_among before (xs ++ ys))) old new why (omega (arith, long, length-append (numbers_of (due_among before xs)) (numbers_of (due_among before ys))))
+            (λ q. let parts = ap (times q) both in omega (arith, parts, times-append q (numbers_of (due_among before xs)) (numbers_of (due_among before ys)))) had.pages;
+        written = λ _. tt;
+      }

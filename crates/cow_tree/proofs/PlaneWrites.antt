@@ -2,7 +2,7 @@
 use Rattle.std.proofs.Common.{◌≡◌, ◌+◌, ◌<◌, ◌≤◌, ◌++◌, ◌∷◌, [], ℕ, Bool, true, false, cond, List, Contains, get_or, length, take, drop, Result, Ok, Err, OnOk, refl, sym, ap, ◌∙◌, subst, arith}
 use Rattle.std.specs.Prelude.{Option, Some, None}
 use Rattle.std.proofs.lemmas.Option.{same_Some}
-use Rattle.std.proofs.lemmas.List.{append-nil, length-append, take-append-drop, take_all, take_more}
+use Rattle.std.proofs.lemmas.List.{append-nil, take-append-drop, take_all, take_more}
 use Rattle.std.proofs.lemmas.List.Elements.{All-contains, Contains-get_or, filter-append}
 use Rattle.disk.specs.declared.disk.Disk.{Ghosts}
 use Rattle.lattice.specs.Corners.{Corner}
@@ -15,11 +15,11 @@ use Rattle.page_map.specs.Locations.{PlaneLocation, IsWholePlane, listing_of, ti
 use Rattle.page_map.specs.Planes.{HasPlane, HasPlaneAt, plane_of}
 use Rattle.page_map.specs.TileLocations.{TileLocation, reached}
 use Rattle.page_map.proofs.Lookup.{lies, lies_there}
-use Rattle.page_map.proofs.Times.{times-append, times_of_member}
+use Rattle.page_map.proofs.Times.{times_of_member}
 use Rattle.cow_tree.specs.Listings.{ListingPage, WritesListing, due_among, listing_bytes, listing_if, named_listing, numbers_of, plane_listing}
 use Rattle.cow_tree.specs.OverRoots.{WritesPages}
 use Rattle.cow_tree.proofs.Counting.{at_times}
-use Rattle.cow_tree.proofs.ListingPages.{AreWithin, few_due, few_first, listing_refused, numbers-append, one_listed, plane_at, plane_length, plane_numbers, plane_within, then_listed}
+use Rattle.cow_tree.proofs.ListingPages.{AreWithin, due_refused, due_then, few_first, one_listed, plane_at, plane_length, plane_numbers, plane_within}
 use Rattle.cow_tree.proofs.PageReads.{whole_in}
 use Rattle.cow_tree.proofs.Steps.{on_ok}
 use Rattle.cow_tree.proofs.Tiles.{one_at_corner}
@@ -60,22 +60,6 @@ module _ (page_map : PageMapValue) (rules : IsPageMap page_map) (p : PlaneLocati
   pub all_due : (i : ℕ) → length (listing_of p) ≤ i → due_to i ≡ due_among before pages
   all_due i le = ap (due_among before) (take_all i pages (omega (arith, le, plane_length page_map.format p)))
 
-  pub few_to : (i : ℕ) → length (due_to i) ≤ length (due_among before pages)
-  few_to i =
-      let whole = ap (λ (l : List ListingPage). length l) (filter-append (λ (l : ListingPage). is_unreached before l.page) (take i pages) (drop i pages)) in
-      let same = ap (λ (l : List ListingPage). length (due_among before l)) (take-append-drop i pages) in
-      omega (arith, whole, same, length-append (due_to i) (due_among before (drop i pages)))
-
-  pub numbers_to : (i : ℕ) (q : ℕ) → times q (numbers_of (due_to i)) ≤ times q (numbers_of (due_among before pages))
-  numbers_to i q =
-      let whole = ap (λ (l : List ListingPage). times q (numbers_of l)) (filter-append (λ (l : ListingPage). is_unreached before l.page) (take i pages) (drop i pages)) in
-      let same = ap (λ (l : List ListingPage). times q (numbers_of (due_among before l))) (take-append-drop i pages) in
-      let parts = ap (times q) (numbers-append (due_to i) (due_among before (drop i pages))) in
-      omega (arith, whole, same, parts, times-append q (numbers_of (due_to i)) (numbers_of (due_among before (drop i pages))))
-
-  pub first_within : (i : ℕ) → AreWithin (due_to i) page_map.staged
-  first_within i q = omega (arith, few_due before (take i pages) q, few_first i pages q, is.within q)
-
   module _ (i : ℕ) (lt : i < length (listing_of p)) where
     abbrev page : ℕ
     page = get_or (listing_of p) i 0
@@ -83,16 +67,11 @@ module _ (page_map : PageMapValue) (rules : IsPageMap page_map) (p : PlaneLocati
     abbrev this : ListingPage
     this = record { page = page; bytes = listing_bytes page_map.format p i }
 
-    more : due_to (i + 1) ≡ due_to i ++ due_among before (this ∷ [])
-    more =
-        ap (due_among before) (take_more pages i this (omega (arith, lt, plane_length page_map.format p)) ∙ ap (λ (l : ListingPage). take i pages ++ l ∷ []) (plane_at page_map.format p i this lt))
-        ∙ filter-append (λ (l : ListingPage). is_unreached before l.page) (take i pages) (this ∷ [])
+    more : take (i + 1) pages ≡ take i pages ++ this ∷ []
+    more = take_more pages i this (omega (arith, lt, plane_length page_map.format p)) ∙ ap (λ (l : ListingPage). take i pages ++ l ∷ []) (plane_at page_map.format p i this lt)
 
-    pub due_more : is_unreached before page ≡ true → due_to (i + 1) ≡ due_to i ++ this ∷ []
-    due_more fresh = more ∙ ap (λ (v : Bool). due_to i ++ cond v (this ∷ []) []) fresh
-
-    pub due_same : is_unreached before page ≡ false → due_to (i + 1) ≡ due_to i
-    due_same shared = more ∙ ap (λ (v : Bool). due_to i ++ cond v (this ∷ []) []) shared ∙ append-nil (due_to i)
+    still_within : AreWithin (take i pages ++ this ∷ []) page_map.staged
+    still_within q = let same = ap (λ (l : List ListingPage). times q (numbers_of l)) more in omega (arith, same, few_first (i + 1) pages q, is.within q)
 
     there : 1 ≤ times page (reached page_map.staged)
     there =
@@ -122,17 +101,20 @@ module _ (page_map : PageMapValue) (rules : IsPageMap page_map) (p : PlaneLocati
         → WritesPages g (n ∷ []) mid new r → (g.honest (disk_of new) → OnOk r (g.seen (disk_of new) n ≡ listing_bytes page_map.format p i)) → WritesListing g (due_to (i + 1)) old new r
     page_more g old mid new n r here so_far wrote bytes =
         let due = page_is (is_unreached before page) page n here in
-        subst (λ (l : List ListingPage). WritesListing g l old new r) (sym (due_more due.0))
-        (then_listed g page_map.staged page_map.sectors rules.staged.page_rule old mid new (due_to i) (this ∷ []) r
-        (λ q. let same = ap (λ (l : List ListingPage). times q (numbers_of l)) (due_more due.0) in omega (arith, same, first_within (i + 1) q)) so_far
-        (one_listed g mid new this r (subst (λ (m : ℕ). WritesPages g (m ∷ []) mid new r) (sym due.1) wrote)
-        (λ honest. on_ok r (λ has. ap (g.seen (disk_of new)) due.1 ∙ has) (bytes honest))))
+        subst (λ (l : List ListingPage). WritesListing g (due_among before l) old new r) (sym more)
+        (due_then g before (take i pages) (this ∷ []) page_map.staged page_map.sectors rules.staged.page_rule still_within old mid new r so_far
+        (subst (λ (v : Bool). WritesListing g (cond v (this ∷ []) []) mid new r) (sym due.0)
+        (one_listed g mid new this r (subst (λ (m : ℕ). WritesPages g (m ∷ []) mid new r) (sym due.1) wrote) (λ honest. on_ok r (λ has. ap (g.seen (disk_of new)) due.1 ∙ has) (bytes honest)))))
 
     pub page_refused : {D : Type 0} (g : Ghosts D) (old mid new : Roots D g) (n : ℕ) (why : Refusal) → page_if (is_unreached before page) page ≡ Some n → WritesListing {T = Unit {0}} g (due_to i) old mid (Ok tt)
         → WritesPages {T = Unit {0}} g (n ∷ []) mid new (Err why) → WritesListing {T = Unit {0}} g (due_among before pages) old new (Err why)
     page_refused g old mid new n why here so_far wrote =
-        listing_refused g (due_to (i + 1)) (due_among before pages) old new why (few_to (i + 1)) (numbers_to (i + 1)) (page_more g old mid new n (Err why) here so_far wrote (λ _. tt))
+        subst (λ (l : List ListingPage). WritesListing {T = Unit {0}} g (due_among before l) old new (Err why)) (take-append-drop (i + 1) pages)
+        (due_refused g before (take (i + 1) pages) (drop (i + 1) pages) old new why (page_more g old mid new n (Err why) here so_far wrote (λ _. tt)))
 
     pub page_passed : {D : Type 0} (g : Ghosts D) (old mid : Roots D g) → page_if (is_unreached before page) page ≡ None → WritesListing {T = Unit {0}} g (due_to i) old mid (Ok tt) → WritesListing {T = Unit {0}} g (due_to (i + 1)) old mid (Ok tt)
     page_passed g old mid none so_far =
-        subst (λ (l : List ListingPage). WritesListing {T = Unit {0}} g l old mid (Ok tt)) (sym (due_same (no_page (is_unreached before page) page none))) so_far
+        let same : due_to (i + 1) ≡ due_to i =
+        ap (due_among before) more
+        ∙ (filter-append (λ (l : ListingPage). is_unreached before l.page) (take i pages) (this ∷ []) ∙ (ap (λ (v : Bool). due_to i ++ cond v (this ∷ []) []) (no_page (is_unreached before page) page none) ∙ append-nil (due_to i))) in
+        subst (λ (l : List ListingPage). WritesListing {T = Unit {0}} g l old mid (Ok tt)) (sym same) so_far

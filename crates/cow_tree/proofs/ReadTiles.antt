@@ -2,7 +2,7 @@
 use Rattle.std.proofs.Common.{◌≡◌, ℕ, zero, suc, ◌+◌, ◌<◌, ◌≤◌, IsTrue, List, [], ◌∷◌, ◌++◌, All, length, get_or, map, take, drop, refl, sym, ap, ap₂, ◌∙◌, subst, arith}
 use Rattle.std.proofs.lemmas.List.{length-map, take-map, take_more, take-append-drop, map-append}
 use Rattle.std.proofs.lemmas.List.Concat.{flat_map-append}
-use Rattle.std.proofs.lemmas.List.Elements.{All-nil, All-cons, All-head, All-tail, All-take, All-push}
+use Rattle.std.proofs.lemmas.List.Elements.{All-nil, All-cons, All-take, All-push}
 use Rattle.disk.specs.Disk.{Image}
 use Rattle.lattice.specs.Corners.{Corner, is_before}
 use Rattle.page_codec.specs.Entries.{EntryValue}
@@ -15,6 +15,7 @@ use Rattle.cow_tree.specs.Layout.{HasRecords, IsLaidOut}
 use Rattle.cow_tree.specs.Found.{NoTileAt}
 use Rattle.cow_tree.proofs.Standing.{All-front, each_tile}
 use Rattle.page_map.proofs.Times.{times-append}
+use Rattle.page_map.proofs.UpgradedTiles.{unmapped}
 use Rattle.cow_tree.proofs.OneStored.{one_layout}
 
 abbrev pub entry_corner : EntryValue → Corner
@@ -30,10 +31,6 @@ rising_at [] k d rising lt = absurd (omega arith)
 rising_at (e ∷ rest) zero d rising lt = All-nil (λ e. IsTrue (is_before e.corner _))
 rising_at (e ∷ rest) (suc k) d rising lt =
     All-cons (λ x. IsTrue (is_before x.corner (get_or rest k d).corner)) e (take k rest) (after_at e.corner rest k d rising.0 (omega arith)) (rising_at rest k d rising.1 (omega arith))
-
-unmapped : {X Y : Type 0} (P : Y → Type 0) (f : X → Y) (xs : List X) → All P (map f xs) → All (λ x. P (f x)) xs
-unmapped P f [] all = All-nil (λ x. P (f x))
-unmapped P f (x ∷ xs) all = All-cons (λ x. P (f x)) x xs (All-head P (f x) (map f xs) all) (unmapped P f xs (All-tail P (f x) (map f xs) all))
 
 -- the tiles so far stand before the next
 pub before_next : (entries : List EntryValue) (tiles : List TileLocation) (k : ℕ) (e : EntryValue) (c : Corner) → AreInOrder entries → k < length entries → map entry_of tiles ≡ take k entries → e ≡ get_or entries k e → e.corner ≡ c → All (λ t. IsTrue (is_before t.corner c)) tiles

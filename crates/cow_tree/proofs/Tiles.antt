@@ -9,6 +9,7 @@ use Rattle.catalogue.proofs.Presence.{listed_from}
 use Rattle.lattice.proofs.Rising.{AllAfter, Rising, rising_from, adjacent_from}
 use Rattle.page_map.specs.TileLocations.{TileLocation}
 use Rattle.page_map.specs.PageMaps.{is_at, corners_of_locations, IsLocated}
+use Rattle.page_map.proofs.EntryLists.{rising_map}
 
 abbrev pub corner_of : TileLocation → Corner
 corner_of t = t.corner
@@ -48,17 +49,8 @@ unfiltered test P (x ∷ xs) all =
     ] refl all
 
 -- what is made of them, with the same corners, is in the same order
-module _ {X Y : Type 0} (f : X → Y) (key : Y → Corner) where
-  after_map : (c : Corner) (xs : List X) → AllAfter (λ x. key (f x)) c xs → AllAfter key c (map f xs)
-  after_map c [] after = tt
-  after_map c (x ∷ rest) after = (after.0, after_map c rest after.1)
-
-  rising_map : (xs : List X) → Rising (λ x. key (f x)) xs → Rising key (map f xs)
-  rising_map [] rising = tt
-  rising_map (x ∷ rest) rising = (after_map (key (f x)) rest rising.0, rising_map rest rising.1)
-
-  pub adjacent_map : (xs : List X) → AllAdjacentBelow (λ a b. IsBefore (key (f a)) (key (f b))) xs (length xs) → AllAdjacentBelow (λ a b. IsBefore (key a) (key b)) (map f xs) (length (map f xs))
-  adjacent_map xs in_order = adjacent_from key (map f xs) (rising_map xs (rising_from (λ x. key (f x)) xs in_order))
+pub adjacent_map : {X Y : Type 0} (f : X → Y) (key : Y → Corner) (xs : List X) → AllAdjacentBelow (λ a b. IsBefore (key (f a)) (key (f b))) xs (length xs) → AllAdjacentBelow (λ a b. IsBefore (key a) (key b)) (map f xs) (length (map f xs))
+adjacent_map f key xs in_order = adjacent_from key (map f xs) (rising_map f key xs (rising_from (λ x. key (f x)) xs in_order))
 
 pub corners_adjacent : (tiles : List TileLocation) → AllAdjacentBelow (λ a b. IsBefore a.corner b.corner) tiles (length tiles) → AllAdjacentBelow IsBefore (corners_of_locations tiles) (length (corners_of_locations tiles))
 corners_adjacent = adjacent_map corner_of (λ d. d)

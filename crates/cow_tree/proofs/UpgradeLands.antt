@@ -58,13 +58,7 @@ module _ (old new : PageMapValue) (rules : IsPageMap new) (up : IsUpgraded old n
       sym (length-map new.committed data_of) ∙ ap length up.stays ∙ length-map old.committed data_of ∙ sym (length-map old.committed entry_of) ∙ ap length entries in
       subst (λ (n : ℕ). length (listings new.staged) ≤ 3 * (1 + index_pages_of (upgraded (format_of root))) * n) count (omega (arith, same, few))
 
--- a commit that was refused while its pages were written, and one whose root was written too
-pub few_in_part : (began : Bool) (before now pages most : ℕ) → now ≤ before + pages + (if began then 0 else 1) → pages ≤ most → now ≤ before + (most + 3)
-few_in_part true before now pages most few le = omega (arith, few, le)
-few_in_part false before now pages most few le = omega (arith, few, le)
-
-pub few_in_all : (began begins : Bool) (before mid now pages most : ℕ) → mid + (if begins then 0 else 1) ≤ before + pages + (if began then 0 else 1) → now ≤ mid + (if begins then 2 else 3) → pages ≤ most → now ≤ before + (most + 3)
-few_in_all true true before mid now pages most first second le = omega (arith, first, second, le)
-few_in_all true false before mid now pages most first second le = omega (arith, first, second, le)
-few_in_all false true before mid now pages most first second le = omega (arith, first, second, le)
-few_in_all false false before mid now pages most first second le = omega (arith, first, second, le)
+-- a commit writes three pages besides these at most
+pub three_more : (began : Bool) (before now most : ℕ) → now ≤ before + most + (if began then 2 else 3) → now ≤ before + (most + 3)
+three_more true before now most few = omega (arith, few)
+three_more false before now most few = omega (arith, few)

@@ -1,5 +1,5 @@
 //! Pages of a disk that were read lately.
-ghost use Rattle.std.specs.Prelude.{◌≡◌, ◌≤◌, ◌+◌, ◌⊎◌, ℕ, List, [], true, slice_range, IfOk, IfErr};
+ghost use Rattle.std.specs.Prelude.{◌≡◌, ◌≤◌, ◌+◌, ◌⊎◌, ℕ, List, [], length, true, slice_range, IfOk, IfErr};
 ghost use Rattle.lattice.specs.declared.refusal.Refusal.TheVariants.{NoMemory};
 ghost use Rattle.cow_tree.specs.Caches.{entries_of, IsHeld};
 
@@ -33,27 +33,12 @@ impl PageCache {
         }
     }
 
-    /// Whether the page is held; then it is copied.
-    pub(crate) fn find(&mut self, number: u32, into: &mut [u8; 4096]) -> bool
+    /// Whether the page is held; then as many of its bytes as there is room for are copied, those from `from` on.
+    pub(crate) fn find(&mut self, number: u32, from: usize, into: &mut [u8]) -> bool
+        requires { from + length into.old ≤ 4096 }
         ensures kept { (page : ℕ) (bytes : List ℕ) → IsHeld self.new page bytes → IsHeld self.old page bytes }
-        ensures found { result ≡ true → IsHeld self.old number into.new }
-    {
-        self.pages.promote(&number);
-        let Some(page) = self.pages.peek(&number) else {
-            return false;
-        };
-        if page.len() != into.len() {
-            return false;
-        }
-        into.copy_from_slice(page);
-        true
-    }
-
-    /// Whether the page is held; then its two bytes from `from` on are copied.
-    pub(crate) fn find_two(&mut self, number: u32, from: usize, into: &mut [u8; 2]) -> bool
-        requires { from + 2 ≤ 4096 }
-        ensures kept { (page : ℕ) (bytes : List ℕ) → IsHeld self.new page bytes → IsHeld self.old page bytes }
-        ensures found { result ≡ true → (bytes : List ℕ) × (IsHeld self.old number bytes × (slice_range bytes from (from + 2) ≡ into.new)) }
+        ensures found { result ≡ true → (bytes : List ℕ) × (IsHeld self.old number bytes × ((length bytes ≡ 4096) × (slice_range bytes from (from + length into.old) ≡ into.new))) }
+        ensures length { length into.new ≡ length into.old }
     {
         self.pages.promote(&number);
         let Some(page) = self.pages.peek(&number) else {
@@ -62,7 +47,7 @@ impl PageCache {
         if page.len() != PAGE_BYTES {
             return false;
         }
-        into.copy_from_slice(&page[from..from + 2]);
+        into.copy_from_slice(&page[from..from + into.len()]);
         true
     }
 

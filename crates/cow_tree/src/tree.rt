@@ -272,18 +272,7 @@ impl<D: Disk> Tree<D> {
         ensures page { D.honest (disk_of self.new) → OnOk result (HasPage (staged_in D.Disk self.old) c plane i into.new) }
         ensures failed { has_failed self.old ≡ true → (result ≡ Err Failed) × (disk_of self.new ≡ disk_of self.old) }
     {
-        if self.roots.has_failed() {
-            return Err(Refusal::Failed);
-        }
-        let number = self.page_number(c, plane, i);
-        if self.cache.find(number, into) {
-            return Ok(());
-        }
-        let answer = self.roots.read(number, into);
-        if answer.is_ok() {
-            self.cache.keep(number, into);
-        }
-        answer
+        self.read_bytes(c, plane, i, 0, into)
     }
 
     /// Reads the two bytes from `from` on of page `i` of a plane, as the next commit will have it: a page that was read
@@ -302,11 +291,31 @@ impl<D: Disk> Tree<D> {
         ensures reads { Reads D.Disk self.old self.new result }
         ensures two { D.honest (disk_of self.new) → OnOk result ((bytes : List ℕ) × (HasPage (staged_in D.Disk self.old) c plane i bytes × (slice_range bytes from (from + 2) ≡ into.new))) }
     {
+        self.read_bytes(c, plane, i, from, into)
+    }
+
+    // Reads as many bytes of page `i` of a plane as there is room for, those from `from` on.
+    fn read_bytes(
+        &mut self,
+        c: Corner,
+        plane: Plane,
+        i: u32,
+        from: usize,
+        into: &mut [u8],
+    ) -> Result<(), Refusal>
+        requires held { Holds self.old c plane }
+        requires index { i < pages_of (root_of self.old).side }
+        requires inside { from + length into.old ≤ 4096 }
+        ensures reads { Reads D.Disk self.old self.new result }
+        ensures bytes { D.honest (disk_of self.new) → OnOk result ((bytes : List ℕ) × (HasPage (staged_in D.Disk self.old) c plane i bytes × ((length bytes ≡ 4096) × (slice_range bytes from (from + length into.old) ≡ into.new)))) }
+        ensures length { length into.new ≡ length into.old }
+        ensures failed { has_failed self.old ≡ true → (result ≡ Err Failed) × (disk_of self.new ≡ disk_of self.old) }
+    {
         if self.roots.has_failed() {
             return Err(Refusal::Failed);
         }
         let number = self.page_number(c, plane, i);
-        if self.cache.find_two(number, from, into) {
+        if self.cache.find(number, from, into) {
             return Ok(());
         }
         let mut page = [0; PAGE_BYTES];
@@ -314,7 +323,7 @@ impl<D: Disk> Tree<D> {
         if answer.is_ok() {
             self.cache.keep(number, &page);
         }
-        into.copy_from_slice(&page[from..from + 2]);
+        into.copy_from_slice(&page[from..from + into.len()]);
         answer
     }
 

@@ -1,6 +1,6 @@
 -- A page_map whose entry at an index changes.
-use Rattle.std.proofs.Common.{Bor, ◌≡◌, ℕ, suc, ◌+◌, ◌/◌, ◌<◌, ◌≤◌, true, List, [], ◌∷◌, ◌++◌, length, take, drop, get_or, set, map, if◌then◌else◌, refl, sym, ap, subst, ◌∙◌, arith}
-use Rattle.std.specs.Prelude.{IfNone, option_and_then, option_copied, ◌||◌, Option, Some, None, IsSome, is_some, IfSome, Contains, Result, IfOk, OnOk, OnErr}
+use Rattle.std.proofs.Common.{Bor, ◌≡◌, ℕ, suc, ◌+◌, ◌/◌, ◌<◌, ◌≤◌, true, List, ◌∷◌, ◌++◌, length, take, drop, get_or, set, map, if◌then◌else◌, refl, sym, ap, subst, ◌∙◌, arith}
+use Rattle.std.specs.Prelude.{IfNone, option_and_then, option_copied, Option, Some, None, IsSome, IfSome, Contains, Result, IfOk, OnOk, OnErr}
 use Rattle.std.proofs.lemmas.List.{length-set, set_split}
 use Rattle.std.proofs.lemmas.Result.{IfOk-weaker, on_ok_weaker}
 use Rattle.lattice.specs.Corners.{Corner}
@@ -186,7 +186,6 @@ module _ (format : Format) (entries : List TileEntry) (free : FreePages) (kept :
         labels = sound.labels;
         committed = subst (λ (o : Option PlaneLocation). AreTogether o s.levels.committed s.labels.committed) (sym same) sound.committed;
         staged = subst (λ (o : Option PlaneLocation). AreTogether o (staged_plane s.levels) (staged_plane s.labels)) (sym has) still_together;
-        filled = ap (λ (o : Option PlaneLocation). is_some o || is_some h.committed) has;
       }
 
       abbrev tile : TileLocation

@@ -1,12 +1,12 @@
 -- What a page_map is once what is staged has ended.
-use Rattle.std.proofs.Common.{◌≡◌, ℕ, suc, ◌+◌, ◌<◌, ◌≤◌, Bool, true, false, cond, List, [], ◌∷◌, ◌++◌, length, map, take, drop, get_or, set, refl, sym, ap, subst, ◌∙◌, arith}
-use Rattle.std.specs.Prelude.{Option, Some, None, is_some, filter, ◌||◌}
+use Rattle.std.proofs.Common.{◌≡◌, ℕ, suc, ◌<◌, ◌≤◌, Bool, true, false, cond, List, [], ◌∷◌, ◌++◌, length, map, take, drop, get_or, set, refl, sym, ap, subst, ◌∙◌, arith}
+use Rattle.std.specs.Prelude.{Option, Some, None, is_some, filter}
 use Rattle.std.specs.List.{filter_map, cons_option, AllByRecursion, flat_map}
 use Rattle.std.proofs.Math.Seq.{split_at}
 use Rattle.std.proofs.lemmas.Bool.{false≢true}
 use Rattle.std.proofs.lemmas.List.{set_split}
 use Rattle.lattice.specs.Corners.{Corner}
-use Rattle.lattice.proofs.Rising.{AllAfter, Rising, rising_from, adjacent_from, rising-filter}
+use Rattle.lattice.proofs.Rising.{rising_from, adjacent_from, rising-filter}
 use Rattle.page_codec.specs.Formats.{Format}
 use Rattle.page_map.specs.FreePages.{FreePages, PageRange, AreBalanced, AreInUse}
 use Rattle.page_map.specs.declared.plane_entry.Ending.{Ending}
@@ -20,7 +20,7 @@ use Rattle.page_map.specs.TileLocations.{TileLocation}
 use Rattle.page_map.specs.PageMaps.{PageMapValue}
 use Rattle.page_map.specs.TileEntries.{committed_tile, committed_tiles, ended_entry, ended_page_map, fresh_kept, page_map_of, staged_tile, staged_tiles, tile_of, used_pages, AreCounted, AreTogether, IsKept, IsSound, IsSoundPlane}
 use Rattle.page_map.proofs.Times.{times-append}
-use Rattle.page_map.proofs.EntryLists.{corner_of, counted_change, entry_in_use}
+use Rattle.page_map.proofs.EntryLists.{corner_of, counted_change, entry_in_use, rising_map}
 
 -- ---- one entry after another
 module _ (entries : List TileEntry) (free now : FreePages) (counted : AreCounted entries free) (i : ℕ) (s : TileEntry) (below : i < length entries) (is : s ≡ get_or entries i s) where
@@ -73,14 +73,6 @@ module _ (ending : Ending) where
       by Committed = record { committed = sound.staged; staged = sound.staged }
       by GivenUp = record { committed = sound.committed; staged = sound.committed }
 
-  after_ended : (c : Corner) (entries : List TileEntry) → AllAfter corner_of c entries → AllAfter corner_of c (map ended entries)
-  after_ended c [] h = tt
-  after_ended c (s ∷ rest) h = (h.0, after_ended c rest h.1)
-
-  rising_ended : (entries : List TileEntry) → Rising corner_of entries → Rising corner_of (map ended entries)
-  rising_ended [] h = tt
-  rising_ended (s ∷ rest) h = (after_ended s.corner rest h.0, rising_ended rest h.1)
-
   -- the entries without a committed tile have no tile and no pages
   left_tiles : (tile : TileEntry → Option TileLocation) → ((s : TileEntry) → tile (ended s) ≡ ended_tile s) → (entries : List TileEntry) → filter_map tile (filter is_left (map ended entries)) ≡ filter_map ended_tile entries
   left_tiles tile same [] = refl
@@ -122,7 +114,6 @@ module _ (ending : Ending) where
           labels = sound_ended format s.labels sound.0.labels;
           committed = together format s sound.0;
           staged = together format s sound.0;
-          filled = ap (λ (v : Bool). v || is_left (ended s)) here;
         },
         later,
       )
@@ -144,7 +135,7 @@ module _ (ending : Ending) where
       fits = rw same_range is.fits;
       window = rw same_range is.window;
       few = is.few;
-      in_order = adjacent_from corner_of left (rising-filter corner_of is_left (map ended entries) (rising_ended entries (rising_from corner_of entries is.in_order)));
+      in_order = adjacent_from corner_of left (rising-filter corner_of is_left (map ended entries) (rising_map ended corner_of entries (rising_from corner_of entries is.in_order)));
       sound = left_sound format entries is.sound;
       committed_room = rw (left_tiles committed_tile (λ s. refl) entries) room;
       staged_room = rw (left_tiles staged_tile (λ s. refl) entries) room;

@@ -1,8 +1,8 @@
 -- What a page_map is once one entry has changed.
-use Rattle.std.proofs.Common.{◌≡◌, ℕ, suc, ◌*◌, ◌≤◌, true, false, cond, if◌then◌else◌, not, List, [], ◌∷◌, ◌++◌, length, map, refl, sym, ap, subst, ◌∙◌, arith}
+use Rattle.std.proofs.Common.{◌≡◌, ℕ, ◌*◌, ◌≤◌, true, false, cond, if◌then◌else◌, not, List, [], ◌∷◌, ◌++◌, length, map, refl, sym, ap, subst, ◌∙◌, arith}
 use Rattle.std.specs.Prelude.{Option, Some, None, IfSome}
 use Rattle.std.specs.List.{cons_option, flat_map, AllByRecursion}
-use Rattle.std.proofs.lemmas.List.{length-append}
+use Rattle.std.proofs.lemmas.List.{length-append, length-map}
 use Rattle.std.proofs.lemmas.List.Elements.{filter_map-append}
 use Rattle.lattice.specs.Corners.{Corner, same_corner}
 use Rattle.lattice.proofs.CornerOrder.{before_not_same, after_not_same, same_from}
@@ -34,23 +34,23 @@ no_more_kept [] s new after fewer = omega (arith, fewer, length-append (fresh_ke
 no_more_kept (b ∷ before) s new after fewer =
     omega (arith, no_more_kept before s new after fewer, length-append (fresh_kept b) (flat_map fresh_kept (before ++ new ∷ after)), length-append (fresh_kept b) (flat_map fresh_kept (before ++ s ∷ after)))
 
-same_committed_tiles : (before : List TileEntry) (s new : TileEntry) (after : List TileEntry) → committed_tile new ≡ committed_tile s → committed_tiles (before ++ new ∷ after) ≡ committed_tiles (before ++ s ∷ after)
+pub same_committed_tiles : (before : List TileEntry) (s new : TileEntry) (after : List TileEntry) → committed_tile new ≡ committed_tile s → committed_tiles (before ++ new ∷ after) ≡ committed_tiles (before ++ s ∷ after)
 same_committed_tiles before s new after same =
     filter_map-append committed_tile before (new ∷ after)
     ∙ (ap (λ (o : Option TileLocation). committed_tiles before ++ cons_option o (committed_tiles after)) same
     ∙ sym (filter_map-append committed_tile before (s ∷ after)))
 
 pub kept_change : (format : Format) (before : List TileEntry) (s new : TileEntry) (after : List TileEntry) (free now : FreePages)
-    → IsKept format (before ++ s ∷ after) free → new.corner ≡ s.corner → committed_tile new ≡ committed_tile s → IsSound format new
-    → length (staged_tiles (before ++ new ∷ after)) ≤ format.capacity → length (flat_map fresh_kept (before ++ new ∷ after)) ≤ 2 * plane_pages_of format
+    → IsKept format (before ++ s ∷ after) free → new.corner ≡ s.corner → IsSound format new
+    → length (committed_tiles (before ++ new ∷ after)) ≤ format.capacity → length (staged_tiles (before ++ new ∷ after)) ≤ format.capacity → length (flat_map fresh_kept (before ++ new ∷ after)) ≤ 2 * plane_pages_of format
     → AreBalanced (used_pages s) (used_pages new) free now → IsKept format (before ++ new ∷ after) now
-kept_change format before s new after free now is same_corner same_committed sound room kept_room balanced = record {
+kept_change format before s new after free now is same_corner sound committed_room room kept_room balanced = record {
   fits = rw (balanced.same_range) is.fits;
   window = rw (balanced.same_range) is.window;
   few = is.few;
   in_order = adjacent_from corner_of (before ++ new ∷ after) (rising_change before s new after same_corner (rising_from corner_of (before ++ s ∷ after) is.in_order));
   sound = all_change (IsSound format) before s new after sound is.sound;
-  committed_room = rw (same_committed_tiles before s new after same_committed) is.committed_room;
+  committed_room = committed_room;
   staged_room = room;
   kept_room = kept_room;
   counted = counted_change before s after free is.counted new now balanced;
@@ -119,10 +119,6 @@ module _ (before : List TileEntry) (s : TileEntry) (after : List TileEntry) (ris
       ∙ (sym (without_at location (staged_tiles before) t (staged_tiles after) earlier_other staged_at later_other)
       ∙ ap (without_location location) (sym staged_split)))
 
-length-map : (f : TileLocation → TileLocation) (tiles : List TileLocation) → length (map f tiles) ≡ length tiles
-length-map f [] = refl
-length-map f (t ∷ rest) = ap (λ n. suc n) (length-map f rest)
-
 -- a entry's fresh page is fresh in the page_map
 pub entry_fresh : (format : Format) (before : List TileEntry) (s : TileEntry) (after : List TileEntry) (free : FreePages) → IsKept format (before ++ s ∷ after) free → (p : ℕ) → 1 ≤ times p (fresh_pages s) → IsFresh (page_map_of format (before ++ s ∷ after) free) p
 entry_fresh format before s after free is p some = fresh_page format (before ++ s ∷ after) free is p (omega (arith, some, times-split fresh_pages p before s after))
@@ -141,8 +137,8 @@ page_map_changed format before s new after free now total same tiles staged =
 pub kept_unchanged : (format : Format) (before : List TileEntry) (s new : TileEntry) (after : List TileEntry) (free now : FreePages) → IsKept format (before ++ s ∷ after) free → AreBalanced (used_pages s) (used_pages new) free now → new ≡ s
     → IsKept format (before ++ new ∷ after) now
 kept_unchanged format before s new after free now is balanced same =
-    kept_change format before s new after free now is (ap corner_of same) (ap committed_tile same)
-    (subst (λ (x : TileEntry). IsSound format x) (sym same) (all_middle (IsSound format) before s after is.sound))
+    kept_change format before s new after free now is (ap corner_of same)
+    (subst (λ (x : TileEntry). IsSound format x) (sym same) (all_middle (IsSound format) before s after is.sound)) (rw (same_committed_tiles before s new after (ap committed_tile same)) is.committed_room)
     (subst (λ (x : TileEntry). length (staged_tiles (before ++ x ∷ after)) ≤ format.capacity) (sym same) is.staged_room)
     (subst (λ (x : TileEntry). length (flat_map fresh_kept (before ++ x ∷ after)) ≤ 2 * plane_pages_of format) (sym same) is.kept_room) balanced
 
@@ -166,7 +162,7 @@ module _ (format : Format) (before : List TileEntry) (s new : TileEntry) (after 
 
   pub made_kept : IsSound format new → length (flat_map fresh_kept (before ++ new ∷ after)) ≤ 2 * plane_pages_of format → IsKept format (before ++ new ∷ after) now
   made_kept sound kept_room =
-      kept_change format before s new after free now is same_corner same_committed sound (rw made_tiles (rw (length-map made_in (staged_tiles (before ++ s ∷ after))) is.staged_room)) kept_room balanced
+      kept_change format before s new after free now is same_corner sound (rw (same_committed_tiles before s new after same_committed) is.committed_room) (rw made_tiles (rw (length-map (staged_tiles (before ++ s ∷ after)) made_in) is.staged_room)) kept_room balanced
 
   pub made_page_map : page_map_of format (before ++ new ∷ after) now ≡ record (page_map_of format (before ++ s ∷ after) free) { staged = map made_in (staged_tiles (before ++ s ∷ after)) }
   made_page_map = page_map_changed format before s new after free now balanced.same_range same_committed _ made_tiles

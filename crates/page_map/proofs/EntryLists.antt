@@ -1,5 +1,5 @@
 -- Lists of entries in which one entry changes.
-use Rattle.std.proofs.Common.{◌≡◌, ◌≢◌, ℕ, ◌+◌, ◌<◌, ◌≤◌, true, false, IsTrue, inl, inr, List, [], ◌∷◌, ◌++◌, length, get_or, refl, sym, ap, subst, ◌∙◌, arith}
+use Rattle.std.proofs.Common.{◌≡◌, ◌≢◌, ℕ, ◌+◌, ◌<◌, ◌≤◌, true, false, IsTrue, inl, inr, List, [], ◌∷◌, ◌++◌, length, get_or, map, refl, sym, ap, subst, ◌∙◌, arith}
 use Rattle.std.specs.Prelude.{Option, Some, None, IfSome}
 use Rattle.std.specs.List.{filter_map, flat_map, cons_option, AllByRecursion}
 use Rattle.std.proofs.lemmas.Grind.{flat_map-append}
@@ -111,6 +111,16 @@ after_change c (b ∷ before) s new after same h = (h.0, after_change c before s
 pub rising_change : (before : List TileEntry) (s new : TileEntry) (after : List TileEntry) → new.corner ≡ s.corner → Rising corner_of (before ++ s ∷ after) → Rising corner_of (before ++ new ∷ after)
 rising_change [] s new after same h = (subst (λ (d : Corner). AllAfter corner_of d after) (sym same) h.0, h.1)
 rising_change (b ∷ before) s new after same h = (after_change b.corner before s new after same h.0, rising_change before s new after same h.1)
+
+-- what is made of a list, with the same corners, is in the same order
+module _ {X Y : Type 0} (f : X → Y) (key : Y → Corner) where
+  after_map : (c : Corner) (xs : List X) → AllAfter (λ x. key (f x)) c xs → AllAfter key c (map f xs)
+  after_map c [] after = tt
+  after_map c (x ∷ rest) after = (after.0, after_map c rest after.1)
+
+  pub rising_map : (xs : List X) → Rising (λ x. key (f x)) xs → Rising key (map f xs)
+  rising_map [] rising = tt
+  rising_map (x ∷ rest) rising = (after_map (key (f x)) rest rising.0, rising_map rest rising.1)
 
 -- all of the entries are before the corner
 abbrev pub AllBefore : Corner → List TileEntry → Type 0

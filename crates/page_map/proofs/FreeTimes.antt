@@ -1,5 +1,5 @@
 -- Free pages counted by their numbers.
-use Rattle.std.proofs.Common.{◌≡◌, ◌≢◌, ℕ, ◌+◌, ◌-◌, ◌≤◌, ◌<◌, Bool, List, [], ◌∷◌, ◌++◌, true, false, cond, eqb, inl, inr, refl, sym, subst, ap, ap₂, ◌∙◌, arith}
+use Rattle.std.proofs.Common.{◌≡◌, ◌≢◌, ℕ, ◌≤◌, ◌<◌, Bool, List, [], ◌∷◌, ◌++◌, true, false, cond, eqb, inl, inr, refl, sym, subst, ap, ap₂, ◌∙◌, arith}
 use Rattle.std.specs.BTreeMap.{is_at}
 use Rattle.std.specs.BTreeSet as tree
 use Rattle.std.specs.Prelude.{not, ◌&&◌, ◌||◌, nat_le, nat_lt}
@@ -19,11 +19,8 @@ module _ (pages : FreePages) (p : ℕ) (near : p < pages.range.window) where
   pub free_near : free_times pages p ≡ cond (contains pages.free p) 1 0
   free_near = rw (lt-ltb p pages.range.window near) refl
 
-  pub near_free : contains pages.free p ≡ true → free_times pages p ≡ 1
-  near_free is = rw (lt-ltb p pages.range.window near, is) refl
-
-  pub near_used : contains pages.free p ≡ false → free_times pages p ≡ 0
-  near_used is = rw (lt-ltb p pages.range.window near, is) refl
+  pub near_times : (is : Bool) → contains pages.free p ≡ is → free_times pages p ≡ cond is 1 0
+  near_times is same = free_near ∙ ap (λ (b : Bool). cond b 1 0) same
 
 -- a page behind it
 module _ (pages : FreePages) (p : ℕ) (behind : pages.range.window ≤ p) (inside : p < pages.range.sectors) where
@@ -33,17 +30,11 @@ module _ (pages : FreePages) (p : ℕ) (behind : pages.range.window ≤ p) (insi
   pub far_used : tree.contains nat_cmp pages.far p ≡ true → free_times pages p ≡ 0
   far_used is = rw (le-ltb p pages.range.window behind, lt-ltb p pages.range.sectors inside, is) refl
 
-pub free_past : (pages : FreePages) (p : ℕ) → pages.range.window ≤ p → pages.range.sectors ≤ p → free_times pages p ≡ 0
-free_past pages p behind past = rw (le-ltb p pages.range.window behind, le-ltb p pages.range.sectors past) refl
-
 pub page_at : (range : PageRange) (p : ℕ) → 1 ≤ page_times range p → IsPage range.sectors p
 page_at range p some = grind (arith, nat_tests)
 
 pub page_one : (range : PageRange) (p : ℕ) → IsPage range.sectors p → page_times range p ≡ 1
 page_one range p (low, high) = rw (le-leb 4 p low, lt-ltb p range.sectors high) refl
-
-pub page_none : (range : PageRange) (p : ℕ) → ¬ IsPage range.sectors p → page_times range p ≡ 0
-page_none range p none = grind (arith, nat_tests)
 
 pub page_le : (range : PageRange) (p : ℕ) → page_times range p ≤ 1
 page_le range p = elim (nat_le 4 p && nat_lt p range.sectors) as (λ b. cond b 1 0 ≤ 1) [ true ↦ omega arith | false ↦ omega arith ]
@@ -81,19 +72,19 @@ module _ (sectors : ℕ) (near new : PageSet) (far : BTreeSet ℕ) (k : ℕ) (in
       let total : new.total ≡ near.total = ap (λ (s : PageSet). s.total) is in
       let left : (p : ℕ) → contains new.free p ≡ (not (eqb p k) && contains near.free p) = λ p. ap (λ (s : PageSet). contains s.free p) is ∙ contains-without near.free k p in
       one_taken (pages_by sectors near far) (pages_by sectors new far) (ap (λ (s : PageSet). (pages_by sectors s far).range) is) k
-      (others_near total (λ p other. left p ∙ ap (λ b. not b && contains near.free p) (ne_eqb p k other))) (near_free (pages_by sectors near far) k inside free)
-      (near_used (pages_by sectors new far) k (subst (λ (w : ℕ). k < w) (sym total) inside) (left k ∙ ap (λ b. not b && contains near.free k) (eq-eqb k k refl)))
+      (others_near total (λ p other. left p ∙ ap (λ b. not b && contains near.free p) (ne_eqb p k other))) (near_times (pages_by sectors near far) k inside true free)
+      (near_times (pages_by sectors new far) k (subst (λ (w : ℕ). k < w) (sym total) inside) false (left k ∙ ap (λ b. not b && contains near.free k) (eq-eqb k k refl)))
 
   pub near_back : ¬ IsFree near k → new ≡ with_page near k → AreGiven (k ∷ []) (pages_by sectors near far) (pages_by sectors new far)
   near_back used is =
       let total : new.total ≡ near.total = ap (λ (s : PageSet). s.total) is in
       let more : (p : ℕ) → contains new.free p ≡ (eqb p k || contains near.free p) = λ p. ap (λ (s : PageSet). contains s.free p) is ∙ contains-with near.free k p in
       one_given (pages_by sectors near far) (pages_by sectors new far) (ap (λ (s : PageSet). (pages_by sectors s far).range) is) k
-      (others_near total (λ p other. more p ∙ ap (λ b. b || contains near.free p) (ne_eqb p k other))) (near_used (pages_by sectors near far) k inside (false_from_ne_true (contains near.free k) used))
-      (near_free (pages_by sectors new far) k (subst (λ (w : ℕ). k < w) (sym total) inside) (more k ∙ ap (λ b. b || contains near.free k) (eq-eqb k k refl)))
+      (others_near total (λ p other. more p ∙ ap (λ b. b || contains near.free p) (ne_eqb p k other))) (near_times (pages_by sectors near far) k inside false (false_from_ne_true (contains near.free k) used))
+      (near_times (pages_by sectors new far) k (subst (λ (w : ℕ). k < w) (sym total) inside) true (more k ∙ ap (λ b. b || contains near.free k) (eq-eqb k k refl)))
 
   pub not_near : ¬ IsFree near k → free_times (pages_by sectors near far) k ≡ 0
-  not_near used = near_used (pages_by sectors near far) k inside (false_from_ne_true (contains near.free k) used)
+  not_near used = near_times (pages_by sectors near far) k inside false (false_from_ne_true (contains near.free k) used)
 
 module _ (sectors : ℕ) (near : PageSet) (far new : BTreeSet ℕ) (k : ℕ) (behind : near.total ≤ k) (inside : k < sectors) where
   others_far : ((q : ℕ) → is_at (nat_cmp k) q ≡ false → tree.contains nat_cmp new q ≡ tree.contains nat_cmp far q) → (p : ℕ) → p ≢ k → free_times (pages_by sectors near new) p ≡ free_times (pages_by sectors near far) p
@@ -119,7 +110,7 @@ one_in_use pages k in_use =
 pub near_in_use : (sectors : ℕ) (near : PageSet) (far : BTreeSet ℕ) (k : ℕ) → k < near.total → AreInUse (k ∷ []) (pages_by sectors near far) → ¬ IsFree near k
 near_in_use sectors near far k inside in_use free =
     let none = (one_in_use (pages_by sectors near far) k in_use).1 in
-    let some = near_free (pages_by sectors near far) k inside free in
+    let some = near_times (pages_by sectors near far) k inside true free in
     absurd (omega arith)
 
 -- ---- lists of pages

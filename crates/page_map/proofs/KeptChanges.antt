@@ -1,6 +1,6 @@
 -- A tile staged without its kept planes or with others, and one that is taken out.
-use Rattle.std.proofs.Common.{◌≡◌, ℕ, suc, ◌+◌, ◌*◌, ◌≤◌, Bool, true, false, cond, not, if◌then◌else◌, List, [], ◌∷◌, ◌++◌, length, take, drop, get_or, set, refl, sym, ap, subst, ◌∙◌, arith}
-use Rattle.std.specs.Prelude.{Option, Some, None, IsSome, is_some, IfSome, Contains, All, Result, OnOk, OnErr, filter, ◌||◌}
+use Rattle.std.proofs.Common.{◌≡◌, ℕ, suc, ◌*◌, ◌≤◌, Bool, true, false, cond, not, List, [], ◌∷◌, ◌++◌, length, take, drop, get_or, set, refl, sym, ap, subst, arith}
+use Rattle.std.specs.Prelude.{Option, Some, None, IsSome, IfSome, All, Result, OnOk, OnErr, filter}
 use Rattle.std.specs.List.{flat_map}
 use Rattle.std.proofs.lemmas.Bool.{false≢true}
 use Rattle.std.proofs.lemmas.List.{length-append}
@@ -12,22 +12,21 @@ use Rattle.page_codec.specs.Sizes.{plane_pages_of}
 use Rattle.page_map.specs.FreePages.{FreePages, AreBalanced, AreGiven, AreInUse}
 use Rattle.page_map.specs.declared.locations.KeptLocations.{KeptLocations}
 use Rattle.page_map.specs.declared.plane_entry.Staged.{Staged}
-use Rattle.page_map.specs.declared.plane_entry.Staged.TheVariants.{AsCommitted, Dropped, Fresh}
+use Rattle.page_map.specs.declared.plane_entry.Staged.TheVariants.{Dropped, Fresh}
 use Rattle.page_map.specs.declared.tile_entry.TileEntry.{TileEntry}
 use Rattle.page_map.specs.Locations.{PlaneLocation, IsWholePlane, pages_of_plane, times}
-use Rattle.page_map.specs.PlaneEntries.{fresh_as, fresh_in, staged_as, staged_plane}
+use Rattle.page_map.specs.PlaneEntries.{fresh_in, staged_as, staged_plane}
 use Rattle.page_map.specs.TileLocations.{TileLocation, pages_of_kept}
-use Rattle.page_map.specs.PageMaps.{AreKept, IsFresh, IsLocated, PageMapValue, HasFreshHeights, is_at, other_kept, tile_at, without_location}
+use Rattle.page_map.specs.PageMaps.{AreKept, IsFresh, IsLocated, PageMapValue, is_at, other_kept, tile_at, without_location}
 use Rattle.page_map.specs.TileEntries.{fresh_kept, fresh_pages, kept_of, page_map_of, staged_tile, staged_tiles, tile_of, tile_planes, used_pages, AreTogether, IsEntryAt, IsKept, IsKeptAnew, IsSound}
-use Rattle.page_map.proofs.Times.{all_numbers, one-self, times-append}
+use Rattle.page_map.proofs.Times.{all_numbers, times-append}
 use Rattle.page_map.proofs.PlaneChanges.{used_split}
 use Rattle.page_map.proofs.Refused.{done_or_not}
 use Rattle.page_map.proofs.Room.{fresh_lengths, plane_few}
 use Rattle.page_map.proofs.Clean.{none_kept_at}
 use Rattle.page_map.proofs.EntryLists.{fresh_parts, used_parts}
-use Rattle.page_map.proofs.EntryChanges.{entry_fresh, kept_change, kept_unchanged, made_kept, made_page_map, no_more_kept, page_map_changed, staged_without}
-use Rattle.page_map.proofs.Lookup.{tile_here}
-use Rattle.page_map.proofs.AtEntry.{at_page_map, corner, heights_present, kept_as_set, kept_there, present, rising_there, set_is, sound, split}
+use Rattle.page_map.proofs.EntryChanges.{entry_fresh, kept_change, kept_unchanged, made_kept, made_page_map, no_more_kept, page_map_changed, same_committed_tiles, staged_without}
+use Rattle.page_map.proofs.AtEntry.{at_page_map, heights_present, kept_as_set, kept_there, present, rising_there, set_is, sound, split}
 
 -- the same tile with other kept planes
 other_kept_planes : (c : Corner) (h l m k n : Option PlaneLocation) (t : TileLocation) → tile_of c h l m ≡ Some t → tile_of c h k n ≡ Some (record t { kept = kept_of k n })
@@ -113,7 +112,6 @@ module _ (format : Format) (entries : List TileEntry) (free : FreePages) (kept :
         labels = record { committed = own.labels.committed; staged = labels_whole };
         committed = own.committed;
         staged = together;
-        filled = own.filled;
       }
 
       pub changed_kept : length (flat_map fresh_kept (before ++ new ∷ after)) ≤ 2 * plane_pages_of format → IsKept format (before ++ new ∷ after) now
@@ -202,34 +200,12 @@ module _ (format : Format) (entries : List TileEntry) (free : FreePages) (kept :
   abbrev without : TileEntry
   without = record s { heights = record (s.heights) { staged = Dropped }; levels = record (s.levels) { staged = Dropped }; labels = record (s.labels) { staged = Dropped } }
 
-  module _ (settled : ¬ HasFreshHeights c (page_map_of format entries free)) (given : AreGiven (fresh_pages s) free now) where
+  module _ (given : AreGiven (fresh_pages s) free now) where
     without_balanced : AreBalanced (used_pages s) (used_pages without) free now
     without_balanced = record {
       same_range = given.same_range;
       each = λ p. omega (arith, given.each p, fresh_parts p s, used_parts p s, used_parts p without, used_split p s.heights, used_split p s.levels, used_split p s.labels, used_split p without.heights, used_split p without.levels, used_split p without.labels);
     }
-
-    -- heights that aren't fresh are the committed ones
-    was_committed : is_some s.heights.committed ≡ true
-    was_committed = by s.heights.committed s.heights.staged refl (heights_present format entries free kept c at found s is located)
-      where
-        by : (o : Option PlaneLocation) (g : Staged) → s.heights.staged ≡ g → IsSome (staged_as o g) → is_some o ≡ true
-        by o AsCommitted same some = some
-        by o Dropped same some = absurd (false≢true some)
-        by o (Fresh location) same some =
-            let t : TileLocation = tile_at s.corner (tile_planes location (staged_plane s.levels) (staged_plane s.labels)) in
-            let had : staged_tile s ≡ Some t = ap (λ (x : Staged). tile_of s.corner (staged_as s.heights.committed x) (staged_plane s.levels) (staged_plane s.labels)) same in
-            absurd (settled (
-              t,
-              (
-                subst (λ (l : List TileEntry). Contains (staged_tiles l) t) (sym (split format entries free kept c at found s is)) (tile_here before s after (rising_there format entries free kept c at found s is) t had),
-                corner format entries free kept c at found s is,
-                subst (λ (l : List TileEntry). IsFresh (page_map_of format l free) location.record_page) (sym (split format entries free kept c at found s is))
-                    (entry_fresh format before s after free there location.record_page
-                    (let own = ap (λ (x : Staged). times location.record_page (fresh_as s.heights.committed x)) same in
-                    omega (arith, own, one-self location.record_page, times-append location.record_page (fresh_in s.heights) (fresh_kept s)))),
-              ),
-            ))
 
     removed_tiles : staged_tiles (before ++ without ∷ after) ≡ without_location s.corner (staged_tiles (before ++ s ∷ after))
     removed_tiles = staged_without before s after (rising_there format entries free kept c at found s is) tile.0 tile.1 without refl
@@ -237,7 +213,7 @@ module _ (format : Format) (entries : List TileEntry) (free : FreePages) (kept :
     pub kept_removed : IsKept format (set entries at without) now
     kept_removed =
         kept_as_set format entries free kept c at found s is without now
-        (kept_change format before s without after free now there refl refl
+        (kept_change format before s without after free now there refl
         (record {
           corner = own.corner;
           heights = record { committed = own.heights.committed; staged = tt };
@@ -245,8 +221,8 @@ module _ (format : Format) (entries : List TileEntry) (free : FreePages) (kept :
           labels = record { committed = own.labels.committed; staged = tt };
           committed = own.committed;
           staged = tt;
-          filled = was_committed;
         })
+        (rw (same_committed_tiles before s without after refl) there.committed_room)
         (rw removed_tiles (let fewer = length-filter-le (λ t. not (is_at s.corner t)) (staged_tiles (before ++ s ∷ after)) in omega (arith, fewer, there.staged_room)))
         (omega (arith, there.kept_room, no_more_kept before s without after (omega arith))) without_balanced)
 

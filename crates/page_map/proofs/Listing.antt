@@ -1,10 +1,11 @@
 -- What is listed of the entries, one after another.
-use Rattle.std.proofs.Common.{◌≡◌, ℕ, zero, suc, ◌+◌, ◌<◌, ◌≤◌, true, false, inl, inr, List, [], ◌∷◌, ◌++◌, length, take, drop, get_or, refl, sym, ap, ◌∙◌, arith, Bor}
+use Rattle.std.proofs.Common.{◌≡◌, ℕ, suc, ◌+◌, ◌<◌, ◌≤◌, true, false, List, [], ◌∷◌, ◌++◌, length, take, drop, get_or, refl, sym, ap, subst, ◌∙◌, arith, Bor}
 use Rattle.std.specs.Prelude.{Option, Some, None, IsSome, IfSome, is_some, Contains, ◌==◌, option_copied}
 use Rattle.std.specs.List.{cons_option, list_any}
 use Rattle.std.proofs.lemmas.List.{take_more, length-append, map-append, length-map, append-nil}
-use Rattle.std.proofs.lemmas.List.Elements.{filter_map-append}
-use Rattle.std.proofs.lemmas.Bool.{false≢true, cases_eq, eq-eqb, ne_eqb}
+use Rattle.std.proofs.lemmas.List.Elements.{filter_map-append, Contains-get_or}
+use Rattle.std.proofs.lemmas.List.Folds.{list_any_at, list_any_none}
+use Rattle.std.proofs.lemmas.Bool.{false≢true, eq-eqb, ne_eqb}
 use Rattle.lattice.specs.Corners.{Corner}
 use Rattle.lattice.specs.Limits.{most_tiles}
 use Rattle.page_map.specs.declared.tile_entry.TileEntry.{TileEntry}
@@ -68,14 +69,7 @@ module _ (entries : List TileEntry) (i : ℕ) (s : TileEntry) (below : i < lengt
 
 -- ---- a page among those of a list, as a test
 pub any_none : (xs : List ℕ) (r : ℕ) → (Contains xs r → ⊥) → list_any (λ p. p == r) xs ≡ false
-any_none [] r none = refl
-any_none (x ∷ xs) r none =
-    rw (ne_eqb x r (λ e. none (0, omega arith, e))) (any_none xs r (λ member. none (suc member.0, omega (arith, member.1), member.2)))
+any_none xs r none = list_any_none (λ p. p == r) xs (λ k d below. ne_eqb (get_or xs k d) r (λ e. none (subst (Contains xs) e (Contains-get_or xs k d below))))
 
 pub any_some : (xs : List ℕ) (r : ℕ) → Contains xs r → list_any (λ p. p == r) xs ≡ true
-any_some [] r (k, below, here) = absurd (omega arith)
-any_some (x ∷ xs) r (zero, below, here) = rw (eq-eqb x r here) refl
-any_some (x ∷ xs) r (suc k, below, here) = elim (cases_eq x r) [
-  | inl same ↦ rw (eq-eqb x r same) refl
-  | inr other ↦ rw (ne_eqb x r other) (any_some xs r (k, omega arith, here))
-]
+any_some xs r (k, below, here) = list_any_at (λ p. p == r) xs k r below (eq-eqb (get_or xs k r) r here)

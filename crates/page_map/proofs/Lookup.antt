@@ -3,7 +3,7 @@ use Rattle.std.proofs.Common.{◌≡◌, ℕ, zero, suc, ◌<◌, false, inl, in
 use Rattle.std.specs.Prelude.{Option, Some, None, IsSome, IfSome, Contains, IfNone, option_map, option_and_then}
 use Rattle.std.specs.List.{cons_option}
 use Rattle.std.proofs.Math.Seq.{split_at}
-use Rattle.std.proofs.lemmas.List.Elements.{filter_map-append}
+use Rattle.std.proofs.lemmas.List.Elements.{Contains-append_right, filter_map-append}
 use Rattle.std.proofs.lemmas.Bool.{false≢true, cases_lt}
 use Rattle.lattice.specs.Corners.{Corner, same_corner}
 use Rattle.lattice.proofs.CornerOrder.{before_not_same, after_not_same, same_from}
@@ -20,8 +20,7 @@ use Rattle.page_map.specs.TileLocations.{TileLocation}
 use Rattle.page_map.specs.PageMaps.{IsLocated}
 use Rattle.page_map.specs.TileEntries.{named_plane, staged_tile, staged_tiles, tile_of, AreTogether, IsRoomAt, IsSound}
 use Rattle.page_map.proofs.EntryLists.{corner_of, rising_after, rising_before, staged_all}
-use Rattle.page_map.proofs.EntryChanges.{AllOther, other_before, other_after, staged_corner}
-use Rattle.page_map.proofs.PageMapRules.{contains_at}
+use Rattle.page_map.proofs.EntryChanges.{AllOther, other_before, other_after, staged_corner, staged_split}
 
 -- one of three planes
 abbrev named : Plane → Option PlaneLocation → Option PlaneLocation → Option PlaneLocation → Option PlaneLocation
@@ -65,7 +64,7 @@ module _ (before : List TileEntry) (s : TileEntry) (after : List TileEntry) (ris
       by (Some t) located = refl
 
   pub tile_here : (t : TileLocation) → staged_tile s ≡ Some t → Contains (staged_tiles (before ++ s ∷ after)) t
-  tile_here t had = let there : IfSome (Some t) (Contains (staged_tiles (before ++ s ∷ after))) = subst (λ (o : Option TileLocation). IfSome o (Contains (staged_tiles (before ++ s ∷ after)))) had (contains_at staged_tile before s after) in there
+  tile_here t had = subst (λ (l : List TileLocation). Contains l t) (sym (staged_split before s after rising t had)) (Contains-append_right (staged_tiles before) (t ∷ staged_tiles after) t (0, omega arith, refl))
 
   pub located_there : (t : TileLocation) → staged_tile s ≡ Some t → IsLocated s.corner (staged_tiles (before ++ s ∷ after))
   located_there t had = located-from_tile s.corner (staged_tiles (before ++ s ∷ after)) t (tile_here t had) (staged_corner before s after rising t had)

@@ -17,12 +17,9 @@ times_other p x xs e = grind (arith, nat_tests)
 pub apart_head : (p x : ℕ) (xs : List ℕ) → times p (x ∷ xs) ≡ 0 → x ≢ p
 apart_head p x xs none e = let here = times_here p x xs (sym e) in omega (arith, here, none)
 
-pub absent_tail : (p x : ℕ) (xs : List ℕ) → times p (x ∷ xs) ≡ 0 → times p xs ≡ 0
-absent_tail p x xs none = omega (arith, none)
-
 pub absent : (p : ℕ) (xs : List ℕ) → times p xs ≡ 0 → All (λ q. q ≢ p) xs
 absent p [] none = All-nil (λ q. q ≢ p)
-absent p (x ∷ xs) none = All-cons (λ q. q ≢ p) x xs (apart_head p x xs none) (absent p xs (absent_tail p x xs none))
+absent p (x ∷ xs) none = All-cons (λ q. q ≢ p) x xs (apart_head p x xs none) (absent p xs (omega (arith, none)))
 
 -- a page that was put among others
 pub set_there : (p : ℕ) (xs : List ℕ) (i : ℕ) → i < length xs → 1 ≤ times p (slice_set xs i p)

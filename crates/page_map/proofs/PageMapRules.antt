@@ -1,9 +1,8 @@
 -- What is known of every page_map.
-use Rattle.std.proofs.Common.{◌≡◌, ℕ, ◌+◌, ◌<◌, ◌≤◌, List, [], ◌∷◌, ◌++◌, refl, sym, ap, subst, ◌∙◌, arith}
-use Rattle.std.specs.Prelude.{IsTrue, Option, Some, None, IfSome, All, Contains}
+use Rattle.std.proofs.Common.{ℕ, ◌<◌, ◌≤◌, List, [], ◌∷◌, ap, arith}
+use Rattle.std.specs.Prelude.{IsTrue, Option, Some, None, IfSome, All}
 use Rattle.std.specs.List.{filter_map, flat_map, cons_option, AllByRecursion}
-use Rattle.std.proofs.lemmas.List.{append_assoc}
-use Rattle.std.proofs.lemmas.List.Elements.{filter_map-append, All-nil, All-cons, Contains-append_right}
+use Rattle.std.proofs.lemmas.List.Elements.{All-nil, All-cons}
 use Rattle.lattice.specs.Corners.{is_corner}
 use Rattle.lattice.proofs.Rising.{Rising, rising_from, adjacent_from}
 use Rattle.page_codec.specs.Formats.{Format}
@@ -62,22 +61,6 @@ all_tiles P Q tile_of each (s ∷ rest) all = by (tile_of s) (each s all.0) (all
     by : (o : Option TileLocation) → IfSome o P → All P (filter_map tile_of rest) → All P (cons_option o (filter_map tile_of rest))
     by None here later = later
     by (Some t) here later = All-cons P t (filter_map tile_of rest) here later
-
--- a fact of each entry from where it stands
-pub each_entry : (P : TileEntry → Type 0) (done rest : List TileEntry) → ((before : List TileEntry) (s : TileEntry) (after : List TileEntry) → done ++ rest ≡ before ++ s ∷ after → P s) → AllByRecursion P rest
-each_entry P done [] each = tt
-each_entry P done (s ∷ rest) each = (
-  each done s rest refl,
-  each_entry P (done ++ s ∷ []) rest (λ before x after is. each before x after (sym (append_assoc done (s ∷ []) rest) ∙ is)),
-)
-
-pub contains_at : (tile_of : TileEntry → Option TileLocation) (before : List TileEntry) (s : TileEntry) (after : List TileEntry) → IfSome (tile_of s) (Contains (filter_map tile_of (before ++ s ∷ after)))
-contains_at tile_of before s after =
-    subst (λ (l : List TileLocation). IfSome (tile_of s) (Contains l)) (sym (filter_map-append tile_of before (s ∷ after))) (by (tile_of s))
-  where
-    by : (o : Option TileLocation) → IfSome o (Contains (filter_map tile_of before ++ cons_option o (filter_map tile_of after)))
-    by None = tt
-    by (Some t) = Contains-append_right (filter_map tile_of before) (t ∷ filter_map tile_of after) t (0, omega arith, refl)
 
 -- ---- a page_map
 pub mapped : (format : Format) (entries : List TileEntry) (free : FreePages) → IsKept format entries free → IsPageMap (page_map_of format entries free)

@@ -80,8 +80,8 @@ data-append p xs ys =
     ∙ times-append p (all_data (map data_of xs)) (all_data (map data_of ys))
 
 -- ---- corners
-all_unmapped : (P : TileData → Type 0) (tiles : List TileLocation) → All P (map data_of tiles) → All (λ t. P (data_of t)) tiles
-all_unmapped P tiles all k d lt = subst P (get_or-map data_of tiles k d (data_of d) lt) (all k (data_of d) (omega (arith, lt, length-map tiles data_of)))
+pub unmapped : {X Y : Type 0} (P : Y → Type 0) (f : X → Y) (xs : List X) → All P (map f xs) → All (λ x. P (f x)) xs
+unmapped P f xs all k d lt = subst P (get_or-map f xs k d (f d) lt) (all k (f d) (omega (arith, lt, length-map xs f)))
 
 all_pages_of_kept : (format : Format) (kept : Option KeptLocations) → IfSome kept (AreWholeKept format) → IfSome kept (KeptHaveAllPages format.side)
 all_pages_of_kept format None whole = tt
@@ -167,7 +167,7 @@ module _ (format : Format) (entries : List TileEntry) (free : FreePages) (kept :
         all_before =
             let rising : Rising corner_of (take k entries ++ s ∷ drop (suc k) entries) = subst (Rising corner_of) joined (rising_from corner_of entries kept.in_order) in
             let before : TileData → Type 0 = λ d. IsBefore d.corner s.corner in
-            all_unmapped before made
+            unmapped before data_of made
             (subst (All before) (sym same)
             (All-map before data_of so_far (all_tiles (λ t. IsBefore t.corner s.corner) (λ x. IsBefore x.corner s.corner) committed_tile (λ x is. tile_own (λ d. IsBefore d s.corner) x.corner x.heights.committed x.levels.committed x.labels.committed is) (take k entries)
             (rising_before (take k entries) s (drop (suc k) entries) rising))))

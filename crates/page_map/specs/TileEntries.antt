@@ -1,5 +1,5 @@
 -- How a page_map is kept: an entry for each corner that has a committed or a staged tile.
-use Rattle.std.specs.Prelude.{◌≡◌, ℕ, ◌+◌, ◌*◌, ◌≤◌, ◌<◌, ◌^◌, true, ◌||◌, IsTrue, List, [], ◌++◌, length, Option, Some, None, IfSome, is_some}
+use Rattle.std.specs.Prelude.{◌≡◌, ℕ, ◌+◌, ◌*◌, ◌≤◌, ◌<◌, ◌^◌, IsTrue, List, ◌++◌, length, Option, Some, None, IfSome}
 use Rattle.std.specs.Option.{option_map}
 use Rattle.std.specs.List.{HoldsAt, AllWithin, filter_map, flat_map, AllByRecursion, AllAdjacentBelow}
 use Rattle.lattice.specs.Corners.{Corner, is_corner}
@@ -76,9 +76,9 @@ labels_of kept = option_map (λ (k : KeptLocations). k.labels) kept
 abbrev pub loaded_entry : Corner → TilePlanes → TileEntry
 loaded_entry c planes = record { corner = c; heights = settled_plane (Some planes.heights); levels = settled_plane (levels_of planes.kept); labels = settled_plane (labels_of planes.kept) }
 
--- a tile that isn't committed, with these heights
-abbrev pub added_entry : Corner → PlaneLocation → TileEntry
-added_entry c heights = record { corner = c; heights = record { committed = None; staged = Fresh heights }; levels = settled_plane None; labels = settled_plane None }
+-- no planes
+abbrev pub empty_entry : Corner → TileEntry
+empty_entry c = record { corner = c; heights = settled_plane None; levels = settled_plane None; labels = settled_plane None }
 
 -- the entry once what is staged has ended so
 abbrev pub ended_entry : Ending → TileEntry → TileEntry
@@ -112,7 +112,7 @@ pub record IsSoundPlane (format : Format) (e : PlaneEntry) : Type 0 where
   pub committed : IfSome e.committed (IsWholePlane format)
   pub staged : IfSome (staged_plane e) (IsWholePlane format)
 
--- it stands for a tile of a corner, whose planes have all their pages
+-- it is a corner's, and its planes have all their pages
 pub record IsSound (format : Format) (s : TileEntry) : Type 0 where
   pub corner : IsTrue (is_corner s.corner)
   pub heights : IsSoundPlane format s.heights
@@ -120,7 +120,6 @@ pub record IsSound (format : Format) (s : TileEntry) : Type 0 where
   pub labels : IsSoundPlane format s.labels
   pub committed : AreTogether s.heights.committed s.levels.committed s.labels.committed
   pub staged : AreTogether (staged_plane s.heights) (staged_plane s.levels) (staged_plane s.labels)
-  pub filled : (is_some (staged_plane s.heights) || is_some s.heights.committed) ≡ true
 
 -- every page of the disk is committed, or fresh, or free, and no page is two of them
 abbrev pub AreCounted : List TileEntry → FreePages → Type 0
@@ -147,6 +146,10 @@ pub record IsKept (format : Format) (entries : List TileEntry) (free : FreePages
 abbrev pub page_map_of : Format → List TileEntry → FreePages → PageMapValue
 page_map_of format entries free =
     record { sectors = free.range.sectors; format = format; committed = committed_tiles entries; staged = staged_tiles entries }
+
+-- the entries make the same page_map, whatever pages are free
+abbrev pub AreAlike : List TileEntry → List TileEntry → Type 0
+AreAlike old new = (format : Format) (free : FreePages) → IsKept format old free → IsKept format new free × (page_map_of format new free ≡ page_map_of format old free)
 
 -- the corner's entry stands at this index
 pub record IsEntryAt (c : Corner) (at : ℕ) (entries : List TileEntry) : Type 0 where

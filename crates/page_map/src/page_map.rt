@@ -8,7 +8,7 @@ ghost use Rattle.std.specs.List.{AllAdjacentBelow};
 ghost use Rattle.lattice.specs.Corners.{is_before};
 ghost use Rattle.lattice.specs.Lattice.{IsBefore};
 ghost use Rattle.lattice.specs.Limits.{most_tiles};
-ghost use Rattle.page_map.specs.TileEntries.{ended_entry, IsEntryAt, IsRoomAt, AreCounted};
+ghost use Rattle.page_map.specs.TileEntries.{ended_entry, AreAlike, IsEntryAt, IsRoomAt, AreCounted};
 
 use crate::free_pages::FreePages;
 use crate::locations::{PagedPlane, TilePlanes};
@@ -95,10 +95,8 @@ impl PageMap {
             mut free,
         } = self;
         mark_planes(&mut free, &planes)?;
-        let entry = TileEntry::committed(corner, planes);
-        if entries.push(entry).is_err() {
-            return Err(Refusal::NoMemory);
-        }
+        let at = place(&mut entries, corner)?;
+        entries[at] = TileEntry::committed(corner, planes);
         Ok(PageMap {
             alloc,
             format,
@@ -225,34 +223,21 @@ impl PageMap {
         ensures unchanged { OnErr result (self.new ≡ self.old) }
         ensures rules { IsPageMap self.new }
     {
-        corner_in_range(c);
-        self.entries.reserve(1)?;
+        let at = place(&mut self.entries, c)?;
         let location = fresh_plane(
             self.alloc,
             &mut self.free,
             self.format.index_pages(),
             self.format.data_pages(),
         )?;
-        match find(&self.entries, c) {
-            Ok(at) => {
-                let entry = &mut self.entries[at];
-                entry.heights.staged = Staged::Fresh(location);
-                Ok(())
-            }
-            Err(at) => {
-                let entry = TileEntry::added(c, location);
-                if self.entries.insert(at, entry).is_err() {
-                    unreachable!();
-                }
-                Ok(())
-            }
-        }
+        let entry = &mut self.entries[at];
+        entry.heights.staged = Staged::Fresh(location);
+        Ok(())
     }
 
     /// Takes the corner's tile out. The pages of the committed one stay in use until the commit.
     pub fn remove_tile(&mut self, c: Corner)
-        requires present { IsLocated c self.old.staged }
-        requires settled { ¬ HasFreshHeights c self.old }
+        requires { IsLocated c self.old.staged }
         ensures removed { self.new ≡ record (self.old) { staged = without_location c self.old.staged } }
         ensures rules { IsPageMap self.new }
     {
@@ -351,6 +336,25 @@ fn find(entries: &[TileEntry], c: Corner) -> Result<usize, usize>
         Ok(at)
     } else {
         Err(at)
+    }
+}
+
+/// Where the entry of a corner is, which has no planes where there was none. Refused with NoMemory.
+fn place(entries: &mut Vec<TileEntry>, c: Corner) -> Result<usize, Refusal>
+    requires { AllAdjacentBelow (λ a b. IsBefore a.corner b.corner) entries.old.items (length entries.old.items) }
+    ensures placed { IfOk result (λ at. IsEntryAt c at entries.new.items) }
+    ensures alike { AreAlike entries.old.items entries.new.items }
+    ensures refused { IfErr result (λ refusal. refusal ≡ NoMemory) }
+{
+    corner_in_range(c);
+    match find(entries, c) {
+        Ok(at) => Ok(at),
+        Err(at) => {
+            if entries.insert(at, TileEntry::empty(c)).is_err() {
+                return Err(Refusal::NoMemory);
+            }
+            Ok(at)
+        }
     }
 }
 

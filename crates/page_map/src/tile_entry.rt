@@ -26,7 +26,7 @@ pub(crate) struct TileEntry {
 }
 
 impl TileEntry {
-    ghost use Rattle.page_map.specs.TileEntries.{added_entry, ended_entry, fresh_kept, fresh_pages, loaded_entry, named_plane, used_pages, IsKeptAnew};
+    ghost use Rattle.page_map.specs.TileEntries.{empty_entry, ended_entry, fresh_kept, fresh_pages, loaded_entry, named_plane, used_pages, IsKeptAnew};
 
     /// A committed tile of which nothing is staged.
     pub(crate) fn committed(corner: Corner, planes: TilePlanes) -> TileEntry
@@ -45,16 +45,13 @@ impl TileEntry {
         }
     }
 
-    /// A tile with these heights that isn't committed.
-    pub(crate) fn added(corner: Corner, heights: PagedPlane) -> TileEntry
-        ensures { result ≡ added_entry corner heights }
+    /// An entry without planes.
+    pub(crate) fn empty(corner: Corner) -> TileEntry
+        ensures { result ≡ empty_entry corner }
     {
         TileEntry {
             corner,
-            heights: PlaneEntry {
-                committed: None,
-                staged: Staged::Fresh(heights),
-            },
+            heights: PlaneEntry::new(None),
             levels: PlaneEntry::new(None),
             labels: PlaneEntry::new(None),
         }

@@ -1,4 +1,4 @@
-use Rattle.std.proofs.Common.{◌≡◌, ℕ, Err, ap, ◌∙◌, subst, Ok}
+use Rattle.std.proofs.Common.{ℕ, Err, ap, subst, Ok}
 use Rattle.disk.specs.Disk.{Image}
 use Rattle.page_codec.specs.Entries.{EntryValue}
 use Rattle.cow_tree.specs.Found.{NonePlane, NoneKept}

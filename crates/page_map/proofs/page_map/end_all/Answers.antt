@@ -1,4 +1,4 @@
-use Rattle.std.proofs.Common.{◌≡◌, List, set, ◌++◌, ◌<◌, ◌≤◌, length, map, refl, ap, ap₂, sym, ◌∙◌, subst, arith}
+use Rattle.std.proofs.Common.{List, set, ◌++◌, ◌<◌, length, map, refl, ap, ap₂, sym, ◌∙◌, subst, arith}
 use Rattle.std.proofs.lemmas.List.{append-nil, drop_all, take_all}
 use Rattle.std.proofs.lemmas.List.Edits.{map_over_more}
 use Rattle.page_map.specs.declared.tile_entry.TileEntry.{TileEntry}

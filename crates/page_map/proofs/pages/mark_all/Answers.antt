@@ -1,4 +1,4 @@
-use Rattle.std.proofs.Common.{◌≡◌, Err, ◌∙◌}
+use Rattle.std.proofs.Common.{◌≡◌, Err}
 use Rattle.page_map.proofs.Refused.{ended_with}
 use Rattle.page_map.proofs.GivenSoFar.{taken_more, unmarked_here}
 use Rattle.page_map.proofs.pages.mark_all.Goals as goal

@@ -1,4 +1,4 @@
-use Rattle.std.proofs.Common.{◌≡◌, ◌++◌, Err, ◌∙◌}
+use Rattle.std.proofs.Common.{◌≡◌, ◌++◌, Err}
 use Rattle.page_map.proofs.Refused.{ended_with}
 use Rattle.page_map.specs.Locations.{pages_of_plane}
 use Rattle.page_map.specs.TileLocations.{pages_of_kept}

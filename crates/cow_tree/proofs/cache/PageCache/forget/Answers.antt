@@ -2,16 +2,11 @@ use Rattle.std.proofs.Common.{ℕ, Contains, subst}
 use Rattle.std.specs.Global.{Vec}
 use Rattle.lru.specs.LruCache.{LruCache}
 use Rattle.lru.proofs.CallerLemmas.{Contains-remove_entry}
-use Rattle.cow_tree.proofs.Cached.{gone}
+use Rattle.cow_tree.proofs.Cached.{gone, held_before}
 use Rattle.cow_tree.proofs.cache.PageCache.forget.Goals as goal
 
 pub returns-clause-kept : goal.returns-clause-kept
-returns-clause-kept c page bytes has =
-    record {
-      entry = has.entry;
-      there = Contains-remove_entry _ c.args.self.now.pages.entries (page, has.entry) (subst (λ (x : LruCache ℕ (Vec ℕ)). Contains x.entries (page, has.entry)) c.pop.ensures.entries has.there);
-      same = has.same;
-    }
+returns-clause-kept c = held_before c.args.self.now _ (λ e there. Contains-remove_entry _ c.args.self.now.pages.entries e (subst (λ (x : LruCache ℕ (Vec ℕ)). Contains x.entries e) c.pop.ensures.entries there))
 
 pub returns-clause-gone : goal.returns-clause-gone
 returns-clause-gone c bytes has =

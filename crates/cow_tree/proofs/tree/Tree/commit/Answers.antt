@@ -1,4 +1,4 @@
-use Rattle.std.proofs.Common.{◌≡◌, ◌⊎◌, inl, ℕ, List, length, map, refl, sym, ap, ap₂, ◌∙◌, subst}
+use Rattle.std.proofs.Common.{◌≡◌, ◌≤◌, ◌⊎◌, inl, ℕ, List, length, map, refl, sym, ap, ap₂, ◌∙◌, subst, arith}
 use Rattle.disk.specs.Disk.{Image}
 use Rattle.disk.specs.Stops.{LeavesOnly, weaker}
 use Rattle.lattice.specs.declared.point.Point.{Point}
@@ -33,8 +33,8 @@ module _ (g : _) (c : After-write_listings g) where
   abbrev old : PageMapValue
   old = c.args.self.now.page_map
 
-  count : length (numbers_of (due_among old.committed (tiles_listing old.format old.staged))) ≡ length (pages_due old)
-  count = ap (λ (l : List ℕ). length l) (due_are old.committed old.format old.staged)
+  count : length (numbers_of (due_among old.committed (tiles_listing old.format old.staged))) ≤ length (pages_due old)
+  count = subst (λ (l : List ℕ). length (numbers_of (due_among old.committed (tiles_listing old.format old.staged))) ≤ length l) (due_are old.committed old.format old.staged) (omega arith)
 
 pub returns-in_err-write_listings-clause-writes : goal.returns-in_err-write_listings-clause-writes
 returns-in_err-write_listings-clause-writes g c =

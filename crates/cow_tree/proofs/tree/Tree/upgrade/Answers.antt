@@ -19,13 +19,13 @@ use Rattle.cow_tree.specs.Staged.{AreStaged}
 use Rattle.cow_tree.specs.Stored.{Stored}
 use Rattle.cow_tree.specs.Trees.{IsAt}
 use Rattle.cow_tree.specs.Upgrades.{upgraded_store}
-use Rattle.cow_tree.proofs.Commits.{lands, same_tiles, none_before, nothing_staged, committing}
+use Rattle.cow_tree.proofs.Commits.{lands, same_tiles, few_in_all, few_in_part, none_before, nothing_staged, committing}
 use Rattle.cow_tree.proofs.Dropping.{corners_of_entries, clean_is_committed}
 use Rattle.cow_tree.proofs.Counting.{all_of_fewer}
 use Rattle.cow_tree.proofs.Due.{none_due}
 use Rattle.cow_tree.proofs.ListingPages.{due_are, few_due, tiles_numbers}
 use Rattle.cow_tree.proofs.Steps.{stands, stores_along}
-use Rattle.cow_tree.proofs.UpgradeLands.{corners_stay, few_in_all, few_in_part, few_listed, upgraded_root}
+use Rattle.cow_tree.proofs.UpgradeLands.{corners_stay, few_listed, three_more, upgraded_root}
 use Rattle.cow_tree.proofs.tree.Tree.upgrade.Goals as goal
 use Rattle.cow_tree.proofs.tree.Tree.upgrade.Goals.{After-write_listings, After-commit}
 
@@ -51,7 +51,7 @@ module _ (g : _) (c : After-write_listings g) where
 
 pub returns-in_err-write_listings-clause-writes : goal.returns-in_err-write_listings-clause-writes
 returns-in_err-write_listings-clause-writes g c =
-    few_in_part _ _ _ _ _ c.write_listings.ensures.pages.few (few g (goal.at.returns-in_err-write_listings-clause-writes g c).After-write_listings)
+    three_more _ _ _ _ (few_in_part _ _ _ _ c.write_listings.ensures.pages.few (few g (goal.at.returns-in_err-write_listings-clause-writes g c).After-write_listings))
 
 pub returns-in_err-write_listings-clause-any_moment : goal.returns-in_err-write_listings-clause-any_moment
 returns-in_err-write_listings-clause-any_moment g c honest s is =
@@ -123,14 +123,14 @@ module _ (g : _) (c : After-commit g) (honest : g.D.Disk.honest c.commit.new.sel
 
 pub returns-in_err-commit-clause-writes : goal.returns-in_err-commit-clause-writes
 returns-in_err-commit-clause-writes g c =
-    few_in_all _ _ _ _ _ _ _ c.in_ok-write_listings.ensures.pages.writes c.commit.ensures.writes (few g (goal.at.returns-in_err-commit-clause-writes g c).After-write_listings)
+    three_more _ _ _ _ (few_in_all _ _ _ _ _ _ c.in_ok-write_listings.ensures.pages.writes c.commit.ensures.writes (few g (goal.at.returns-in_err-commit-clause-writes g c).After-write_listings))
 
 pub returns-in_err-commit-clause-any_moment : goal.returns-in_err-commit-clause-any_moment
 returns-in_err-commit-clause-any_moment g c honest s is = leaves g (goal.at.returns-in_err-commit-clause-any_moment g c).After-commit honest s is (fresh g (goal.at.returns-in_err-commit-clause-any_moment g c).After-write_listings)
 
 pub returns-clause-writes : goal.returns-clause-writes
 returns-clause-writes g c =
-    few_in_all _ _ _ _ _ _ _ c.in_ok-write_listings.ensures.pages.writes c.commit.ensures.writes (few g (goal.at.returns-clause-writes g c).After-write_listings)
+    three_more _ _ _ _ (few_in_all _ _ _ _ _ _ c.in_ok-write_listings.ensures.pages.writes c.commit.ensures.writes (few g (goal.at.returns-clause-writes g c).After-write_listings))
 
 pub returns-clause-any_moment : goal.returns-clause-any_moment
 returns-clause-any_moment g c honest s is = leaves g (goal.at.returns-clause-any_moment g c).After-commit honest s is (fresh g (goal.at.returns-clause-any_moment g c).After-write_listings)

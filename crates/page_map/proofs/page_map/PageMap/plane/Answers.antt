@@ -1,4 +1,4 @@
-use Rattle.std.proofs.Common.{◌≡◌, subst}
+use Rattle.std.proofs.Common.{subst}
 use Rattle.std.specs.Prelude.{IfNone, IfSome}
 use Rattle.page_map.specs.PageMaps.{PageMapValue}
 use Rattle.page_map.specs.Planes.{HasPlane, HasPlaneAt}

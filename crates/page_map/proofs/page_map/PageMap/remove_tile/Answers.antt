@@ -1,5 +1,5 @@
 use Rattle.std.proofs.Common.{set, sym, subst, ap, ◌∙◌}
-use Rattle.page_map.specs.PageMaps.{PageMapValue, IsLocated, HasFreshHeights, without_location}
+use Rattle.page_map.specs.PageMaps.{PageMapValue, IsLocated, without_location}
 use Rattle.page_map.specs.TileEntries.{IsEntryAt, IsKept, IsRoomAt, staged_tiles}
 use Rattle.page_map.proofs.PageMapRules.{mapped}
 use Rattle.page_map.proofs.AtEntry.{in_use, no_entry}
@@ -10,7 +10,7 @@ use Rattle.page_map.proofs.page_map.PageMap.remove_tile.Goals.{After-remove}
 pub unreachable-requires : goal.unreachable-requires
 unreachable-requires c =
     let room : IsRoomAt c.args.c c.in-Err.field-0 c.self.inside.entries.items = rw c.deref.ensures.value at c.in-Err.ensures.absent in
-    let located : IsLocated c.args.c (staged_tiles c.self.inside.entries.items) = subst (λ (v : PageMapValue). IsLocated c.args.c v.staged) (sym c.self.view_is) c.requires.present in
+    let located : IsLocated c.args.c (staged_tiles c.self.inside.entries.items) = subst (λ (v : PageMapValue). IsLocated c.args.c v.staged) (sym c.self.view_is) c.requires in
     no_entry c.args.c c.in-Err.field-0 c.self.inside.entries.items room located
 
 pub remove-requires : goal.remove-requires
@@ -23,8 +23,7 @@ kept_now c =
     let found : IsEntryAt c.args.c c.in-Ok.at c.self.inside.entries.items = rw c.deref.ensures.value at c.in-Ok.ensures.found in
     rw c.remove.ensures.removed
     (kept_removed c.self.inside.format c.self.inside.entries.items c.self.inside.free c.self.invariant c.args.c c.in-Ok.at found c.index_mut-entry.result.now c.index_mut-entry.ensures.value
-    (subst (λ (v : PageMapValue). IsLocated c.args.c v.staged) (sym c.self.view_is) c.requires.present) c.remove.new.free
-    (λ fresh. c.requires.settled (subst (λ (v : PageMapValue). HasFreshHeights c.args.c v) c.self.view_is fresh)) c.remove.ensures.given)
+    (subst (λ (v : PageMapValue). IsLocated c.args.c v.staged) (sym c.self.view_is) c.requires) c.remove.new.free c.remove.ensures.given)
 
 pub invariant_of-self : goal.invariant_of-self
 invariant_of-self c = kept_now (goal.at.invariant_of-self c).After-remove
@@ -34,8 +33,7 @@ returns-clause-removed c =
     let found : IsEntryAt c.args.c c.in-Ok.at c.self.inside.entries.items = rw c.deref.ensures.value at c.in-Ok.ensures.found in
     rw c.remove.ensures.removed
     (is_removed c.self.inside.format c.self.inside.entries.items c.self.inside.free c.self.invariant c.args.c c.in-Ok.at found c.index_mut-entry.result.now c.index_mut-entry.ensures.value
-    (subst (λ (v : PageMapValue). IsLocated c.args.c v.staged) (sym c.self.view_is) c.requires.present) c.remove.new.free
-    (λ fresh. c.requires.settled (subst (λ (v : PageMapValue). HasFreshHeights c.args.c v) c.self.view_is fresh)) c.remove.ensures.given
+    (subst (λ (v : PageMapValue). IsLocated c.args.c v.staged) (sym c.self.view_is) c.requires) c.remove.new.free c.remove.ensures.given
     ∙ ap (λ (v : PageMapValue). record v { staged = without_location c.args.c v.staged }) c.self.view_is)
 
 pub returns-clause-rules : goal.returns-clause-rules

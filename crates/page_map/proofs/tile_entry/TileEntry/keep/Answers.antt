@@ -1,4 +1,4 @@
-use Rattle.std.proofs.Common.{◌≡◌, ℕ, ◌∙◌, List, [], ◌∷◌, ◌++◌, ap₂, ap, refl, arith}
+use Rattle.std.proofs.Common.{◌≡◌, ℕ, ◌∙◌, List, [], ◌++◌, ap₂, ap, refl, arith}
 use Rattle.page_map.specs.FreePages.{AreBalanced, AreInUse, FreePages, free_times, page_times}
 use Rattle.page_map.specs.declared.plane_entry.Staged.TheVariants.{Fresh}
 use Rattle.page_map.specs.Locations.{pages_behind, times}

@@ -3,18 +3,18 @@ use Rattle.disk.specs.Disk.{Image}
 use Rattle.cow_tree.specs.Caches.{Agrees}
 use Rattle.cow_tree.proofs.Cached.{fewer_agree, one_more_agrees}
 use Rattle.cow_tree.proofs.Steps.{ok_where_works}
-use Rattle.cow_tree.proofs.tree.Tree.read_two.Goals as goal
+use Rattle.cow_tree.proofs.tree.Tree.read_bytes.Goals as goal
 
 pub invariant_of-self-clause-cached : goal.invariant_of-self-clause-cached
 invariant_of-self-clause-cached g c honest works =
     let old = c.args.self.now in
-    fewer_agree old.cache c.find_two.new.self (g.D.Disk.seen old.roots.disk) c.find_two.ensures.kept (old.cached honest works)
+    fewer_agree old.cache c.find.new.self (g.D.Disk.seen old.roots.disk) c.find.ensures.kept (old.cached honest works)
 
-pub returns-then-find_two-clause-two : goal.returns-then-find_two-clause-two
-returns-then-find_two-clause-two g c honest =
+pub returns-then-find-clause-bytes : goal.returns-then-find-clause-bytes
+returns-then-find-clause-bytes g c honest =
     let old = c.args.self.now in
     let worked : old.roots.failed ≡ false = search rules in
-    let held = c.find_two.ensures.found c.if-find_two.true in
+    let held = c.find.ensures.found c.if-find.true in
     (held.0, (c.page_number-number.ensures.page (g.D.Disk.seen old.roots.disk) held.0 (sym (old.cached honest worked c.page_number-number.result held.0 held.1.0).1), held.1.1))
 
 pub invariant_of-self-then-is_ok-clause-cached : goal.invariant_of-self-then-is_ok-clause-cached
@@ -26,7 +26,7 @@ invariant_of-self-then-is_ok-clause-cached g c honest works =
     let worked : old.roots.failed ≡ false = search rules in
     let same : d.seen new.disk ≡ d.seen old.roots.disk = read.seen honest in
     let there : c.read-answer.new.into ≡ d.seen old.roots.disk c.page_number-number.result = ok_where_works c.read-answer.result new.failed read.failed works (read.read honest) in
-    one_more_agrees c.find_two.new.self c.keep.new.self (d.seen new.disk) c.page_number-number.result c.read-answer.new.into c.page_number-number.ensures.low
+    one_more_agrees c.find.new.self c.keep.new.self (d.seen new.disk) c.page_number-number.result c.read-answer.new.into c.page_number-number.ensures.low
     (there ∙ ap (λ (image : Image). image c.page_number-number.result) (sym same)) c.keep.ensures
-    (subst (λ (image : Image). Agrees c.find_two.new.self image) (sym same)
-    (fewer_agree old.cache c.find_two.new.self (d.seen old.roots.disk) c.find_two.ensures.kept (old.cached (read.nothing honest).honest worked)))
+    (subst (λ (image : Image). Agrees c.find.new.self image) (sym same)
+    (fewer_agree old.cache c.find.new.self (d.seen old.roots.disk) c.find.ensures.kept (old.cached (read.nothing honest).honest worked)))
