@@ -34,7 +34,7 @@ pub use edge_source::{Edge, EdgeSource};
 pub use joining::join;
 pub use linking::links_between;
 pub use reducing::reduced;
-pub use seams::{edges_to_others, node_at};
+pub use seams::{edges_to_others, node_at, place_of};
 pub use summary::{RimPoint, Summary};
 pub use tile_graph::TileGraph;
 pub use waiting::Link;

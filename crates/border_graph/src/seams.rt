@@ -68,8 +68,8 @@ fn add(into: &mut Vec<Edge>, edge: Edge) -> Result<(), AllocError>
     Ok(())
 }
 
-// Where among the corners this one stands.
-fn place_of(corners: &[Corner], corner: Corner) -> Option<usize>
+/// Where among the corners this one stands.
+pub fn place_of(corners: &[Corner], corner: Corner) -> Option<usize>
     ensures some { IfSome result (λ u. (u < length corners.now) × (corner_at corners.now u ≡ corner)) }
     ensures none { IfNone result ((u : ℕ) → u < length corners.now → corner_at corners.now u ≡ corner → ⊥) }
 {

@@ -5,6 +5,7 @@ use Rattle.disk.specs.Disk.{Image, HasRisen}
 use Rattle.disk.specs.Stops.{LeavesOnly}
 use Rattle.disk.specs.declared.disk.Disk.{Ghosts}
 use Rattle.lattice.specs.Corners.{Corner}
+use Rattle.lattice.specs.Mosaic.{Mosaic}
 use Rattle.lattice.specs.declared.refusal.Refusal.{Refusal}
 use Rattle.lattice.specs.declared.refusal.Refusal.TheVariants.{Device, NoMemory, Worn}
 use Rattle.page_codec.specs.Roots.{RootValue}
@@ -61,8 +62,8 @@ abbrev pub StepsOn : RootValue → Option Corner → RootValue → Type 0
 StepsOn was None root = root ≡ was
 StepsOn was (Some c) root = (root.version ≡ was.version) × (root.count ≡ was.count) × (root.number ≡ was.number + 1)
 
--- The step was made, and answered so, by a tree that hadn't failed.
-pub record HasStepped {D : Type 0} (g : Ghosts D) (old new : Tree D g) (result : Result (Option Corner) Refusal) : Type 0 where
+-- The step was made, and answered so, by a tree that hadn't failed. What it leaves is told where the premise holds of the mosaic.
+pub record HasStepped {D : Type 0} (g : Ghosts D) (P : Mosaic → Type 0) (old new : Tree D g) (result : Result (Option Corner) Refusal) : Type 0 where
   pub size : g.size (disk_of new) ≡ g.size (disk_of old)
   pub side : (root_of new).side ≡ (root_of old).side
   pub capacity : (root_of new).capacity ≡ (root_of old).capacity
@@ -80,4 +81,4 @@ pub record HasStepped {D : Type 0} (g : Ghosts D) (old new : Tree D g) (result :
   -- nothing is staged
   pub clean : has_failed new ≡ false → IsClean new
   -- what is stored then, where all that was kept was right
-  pub ends : g.honest (disk_of new) → (s : Stored) → IsAt g old s → KeepsRight s → EndsStep g old new s result
+  pub ends : g.honest (disk_of new) → (s : Stored) → P (mosaic_stored s) → IsAt g old s → KeepsRight s → EndsStep g old new s result

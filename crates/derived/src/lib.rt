@@ -12,5 +12,5 @@
 mod staleness;
 mod stepping;
 
-pub use staleness::stale;
-pub use stepping::step;
+pub use staleness::{next_stale, stale};
+pub use stepping::{step, step_held};

@@ -1,5 +1,5 @@
 //! Which tiles are stale: of those that are present, the ones of which no levels and labels are kept.
-ghost use Rattle.std.specs.Prelude.{◌≡◌, ◌&&◌, false, Contains};
+ghost use Rattle.std.specs.Prelude.{◌≡◌, ◌&&◌, [], false, Contains, MatchOption};
 ghost use Rattle.std.specs.List.{list_any};
 ghost use Rattle.std.specs.Option.{is_none};
 ghost use Rattle.lattice.specs.Corners.{same_corner};
@@ -8,6 +8,7 @@ ghost use Rattle.cow_tree.specs.Stored.{Stored, corners_of_stored};
 ghost use Rattle.cow_tree.specs.Trees.{disk_of, root_of, IsAt};
 ghost use Rattle.derived.specs.Kept.{stale_in, KeepsRight, IsFresh};
 
+use crate::stepping::first_stale;
 use cow_tree::Tree;
 use disk::Disk;
 use lattice::Corner;
@@ -22,6 +23,13 @@ pub fn stale<D: Disk>(tree: &Tree<D>, corner: Corner) -> bool
         → Contains (corners_of_stored s.tiles) corner → result ≡ false → IsFresh s corner }
 {
     is_stale(tree.current().entries(), corner)
+}
+
+/// The tile whose levels and labels a step keeps next, as last known; none where no tile is stale.
+pub fn next_stale<D: Disk>(tree: &Tree<D>) -> Option<Corner>
+    ensures { MatchOption result (stale_in (root_of tree.now) ≡ []) (Contains (stale_in (root_of tree.now))) }
+{
+    first_stale(tree.current().entries())
 }
 
 // Whether some entry is the corner's and keeps nothing.

@@ -1,23 +1,24 @@
 //! Steps: the levels and labels of one stale tile more are kept.
-ghost use Rattle.std.specs.Prelude.{◌≡◌, ◌≤◌, ◌<◌, ◌+◌, ◌*◌, ◌^◌, ◌⊎◌, false, true, [], Err, All, Contains, IfOk, IfErr, OnOk, IsErrOf, MatchOption, length, vec_len};
+ghost use Rattle.std.specs.Prelude.{◌≡◌, ◌≤◌, ◌<◌, ◌+◌, ◌*◌, ◌^◌, ◌⊎◌, false, true, [], Err, All, Contains, IfOk, IfErr, OnOk, IsErrOf, IsTrue, MatchOption, length, vec_len};
 ghost use Rattle.disk.specs.Disk.{HasRisen};
 ghost use Rattle.lattice.specs.declared.refusal.Refusal.TheVariants.{Device, NoMemory, Failed};
 ghost use Rattle.page_codec.specs.Sizes.{plane_pages_of};
 ghost use Rattle.page_codec.specs.Roots.{format_of};
 ghost use Rattle.tile_flood.specs.Kept.{AreKeptOf};
+ghost use Rattle.tile_labellings.specs.Labellings.{IsFlooded};
 ghost use Rattle.cow_tree.specs.Reading.{mosaic_of, HasOnlyRead, IsReadable};
-ghost use Rattle.cow_tree.specs.Stored.{Stored};
-ghost use Rattle.cow_tree.specs.Trees.{disk_of, root_of, has_failed, corners_of, sinks_of, IsUnstaged, IsAt};
-ghost use Rattle.derived.specs.Kept.{stale_among, stale_in, mosaic_stored, KeepsRight};
+ghost use Rattle.cow_tree.specs.Trees.{disk_of, root_of, has_failed, corners_of, sinks_of, IsUnstaged};
+ghost use Rattle.derived.specs.Kept.{stale_among, stale_in};
 ghost use Rattle.derived.specs.Clean.{IsClean};
 ghost use Rattle.derived.specs.Steps.{HasStepped};
 
 use cow_tree::Tree;
 use disk::Disk;
-use lattice::{Corner, Refusal, bytes_in_range};
+use lattice::{Corner, Refusal, Side, bytes_in_range};
 use page_codec::Entry;
 use std::alloc::Global;
-use tile_labellings::{KeptPlanes, kept_planes};
+use tile_flood::Labelled;
+use tile_labellings::{KeptPlanes, kept_planes, planes_of};
 
 /// Floods the first stale tile, keeps its levels and labels and names it, or answers none where no tile is stale. A step is
 /// a commit at the same count of commands. What was staged before is given up.
@@ -25,7 +26,7 @@ use tile_labellings::{KeptPlanes, kept_planes};
 /// Refused with Failed, with Worn where the commit number can't grow, or for the disk or for memory, which is had before
 /// the first write.
 pub fn step<D: Disk>(alloc: Global, tree: &mut Tree<D>) -> Result<Option<Corner>, Refusal>
-    ensures stepped { has_failed tree.old ≡ false → HasStepped D.Disk tree.old tree.new result }
+    ensures stepped { has_failed tree.old ≡ false → HasStepped D.Disk (λ _. Unit {0}) tree.old tree.new result }
 
     ensures clean { has_failed tree.new ≡ false → IsClean tree.new }
 
@@ -49,8 +50,51 @@ pub fn step<D: Disk>(alloc: Global, tree: &mut Tree<D>) -> Result<Option<Corner>
     keep(alloc, tree, corner)
 }
 
+/// Steps as `step` does. Where the first stale tile is the one at `at`, the levels and labels are those of this labelling,
+/// which is of that tile, and nothing is flooded.
+pub fn step_held<D: Disk>(
+    alloc: Global,
+    tree: &mut Tree<D>,
+    at: Corner,
+    labelled: &Labelled,
+) -> Result<Option<Corner>, Refusal>
+    ensures stepped { has_failed tree.old ≡ false → HasStepped D.Disk (λ m. IsFlooded m at labelled.now) tree.old tree.new result }
+
+    ensures clean { has_failed tree.new ≡ false → IsClean tree.new }
+
+    // It writes as much as a step does, on any disk.
+    ensures writes { D.writes (disk_of tree.new) ≤ D.writes (disk_of tree.old) + (2 * plane_pages_of (format_of (root_of tree.old)) + 3) }
+
+    // A tree that failed makes no call of the disk, and stays failed.
+    ensures failed { has_failed tree.old ≡ true → (result ≡ Err Failed) × (tree.new ≡ tree.old) }
+{
+    if tree.has_failed() {
+        return Err(Refusal::Failed);
+    }
+    tree.abandon();
+    let root = tree.current();
+    let Some(corner) = first_stale(root.entries()) else {
+        return Ok(None);
+    };
+    let side = root.side();
+    if root.number() == u64::MAX {
+        return Err(Refusal::Worn);
+    }
+    if is_of(labelled, side, at, corner) {
+        return keep_labelled(alloc, tree, corner, labelled);
+    }
+    keep(alloc, tree, corner)
+}
+
+// Whether the labelling is of this side, and the two corners are the same.
+fn is_of(labelled: &Labelled, side: Side, at: Corner, corner: Corner) -> bool
+    ensures { IsTrue result → (at ≡ corner) × (labelled.now.side ≡ side) }
+{
+    at == corner && labelled.side() == side
+}
+
 // The first of the tiles that keeps nothing.
-fn first_stale(entries: &[Entry]) -> Option<Corner>
+pub(crate) fn first_stale(entries: &[Entry]) -> Option<Corner>
     ensures { MatchOption result (stale_among entries.now ≡ []) (Contains (stale_among entries.now)) }
 {
     for entry in entries {
@@ -61,7 +105,28 @@ fn first_stale(entries: &[Entry]) -> Option<Corner>
     None
 }
 
-// Keeps the levels and labels of this stale tile, where nothing is staged.
+// Keeps the levels and labels of this stale tile, where nothing is staged: those of the labelling.
+fn keep_labelled<D: Disk>(
+    alloc: Global,
+    tree: &mut Tree<D>,
+    corner: Corner,
+    labelled: &Labelled,
+) -> Result<Option<Corner>, Refusal>
+    requires works { has_failed tree.old ≡ false }
+    requires clean { IsClean tree.old }
+    requires unstaged { IsUnstaged tree.old }
+    requires declared { sinks_of tree.old ≡ (root_of tree.old).sinks }
+    requires stale { Contains (stale_in (root_of tree.old)) corner }
+    requires number { (root_of tree.old).number + 1 < 2 ^ 64 }
+    requires side { labelled.now.side ≡ (root_of tree.old).side }
+    ensures stepped { HasStepped D.Disk (λ m. IsFlooded m corner labelled.now) tree.old tree.new result }
+    ensures writes { D.writes (disk_of tree.new) ≤ D.writes (disk_of tree.old) + (2 * plane_pages_of (format_of (root_of tree.old)) + 3) }
+{
+    let planes = planes_of(alloc, labelled)?;
+    commit_planes(tree, corner, &planes.levels, &planes.labels)
+}
+
+// Keeps the levels and labels of this stale tile, where nothing is staged: those of a flood.
 fn keep<D: Disk>(
     alloc: Global,
     tree: &mut Tree<D>,
@@ -73,7 +138,7 @@ fn keep<D: Disk>(
     requires declared { sinks_of tree.old ≡ (root_of tree.old).sinks }
     requires stale { Contains (stale_in (root_of tree.old)) corner }
     requires number { (root_of tree.old).number + 1 < 2 ^ 64 }
-    ensures stepped { HasStepped D.Disk tree.old tree.new result }
+    ensures stepped { HasStepped D.Disk (λ _. Unit {0}) tree.old tree.new result }
     ensures writes { D.writes (disk_of tree.new) ≤ D.writes (disk_of tree.old) + (2 * plane_pages_of (format_of (root_of tree.old)) + 3) }
 {
     let planes = read_planes(alloc, tree, corner)?;
@@ -116,8 +181,7 @@ fn commit_planes<D: Disk>(
     requires number { (root_of tree.old).number + 1 < 2 ^ 64 }
     requires levels { length levels.now ≡ 2 * ((root_of tree.old).side * (root_of tree.old).side) }
     requires labels { length labels.now ≡ 2 * ((root_of tree.old).side * (root_of tree.old).side) }
-    requires right { D.honest (disk_of tree.old) → (s : Stored) → IsAt D.Disk tree.old s → KeepsRight s → AreKeptOf (mosaic_stored s) corner levels.now labels.now }
-    ensures stepped { HasStepped D.Disk tree.old tree.new result }
+    ensures stepped { HasStepped D.Disk (λ m. AreKeptOf m corner levels.now labels.now) tree.old tree.new result }
     ensures writes { D.writes (disk_of tree.new) ≤ D.writes (disk_of tree.old) + (2 * plane_pages_of (format_of (root_of tree.old)) + 3) }
 {
     bytes_in_range(levels);

@@ -1,4 +1,4 @@
--- Bytes that load_tile where points drain.
+-- Bytes that tell where points drain.
 use Rattle.std.proofs.Common.{◌≡◌, ℕ, ◌*◌, ◌<◌, Option, Some, None, Bool, true, false, List, [], ◌∷◌, ◌++◌, length, inl, inr, get_or, set, replicate, sym, ap, ◌∙◌, subst, get_or-set_other, get_or-set_same}
 use Rattle.std.proofs.lemmas.List.{get_or-replicate}
 use Rattle.std.proofs.lemmas.Bool.{cases_eq}
@@ -24,7 +24,7 @@ unwrap : (a b : Option Dir) → ◌≡◌ {A = Option (Option Dir)} (Some a) (So
 unwrap a b e = cc
 
 module _ (m : Mosaic) (n : ℕ) (c : Corner) where
-  -- nothing is loaded
+  -- nothing is told
   pub none_told : AreFlowsOf m n c (replicate (n * n) Unknown)
   none_told p e way at is = absurd (none_some way (sym (ap way_of (get_or-replicate (n * n) e Unknown Unknown (index_below n c p e at))) ∙ is))
 

@@ -3,6 +3,7 @@ ghost use Rattle.std.specs.Prelude.{◌≡◌, None, IfOk, IfErr, IfSome};
 ghost use Rattle.lattice.specs.Height.{height_of};
 ghost use Rattle.lattice.specs.Mosaic.{Mosaic, IsMosaic};
 ghost use Rattle.lattice.specs.declared.height.Height.TheVariants.{At};
+ghost use Rattle.tile_labellings.specs.Labellings.{IsFlooded};
 ghost use Rattle.flow_d8.specs.LevelsAround.{IsNear};
 ghost use Rattle.flow_d8.specs.LevelsAround.{OnLevels};
 ghost use Rattle.flow_d8.specs.Way.{IsWay};
@@ -17,8 +18,9 @@ use crate::nearby::near;
 use crate::tile_cache::TileCache;
 use catalogue::Samples;
 use flow_d8::{Directions, Near};
-use lattice::{Dir, Point, Refusal, Side};
+use lattice::{Corner, Dir, Point, Refusal, Side};
 use std::alloc::Global;
+use tile_flood::Labelled;
 
 /// What questions about the water of one mosaic found, so that a later question doesn't find it again: the ways of the
 /// tiles that water came to, the labellings of those that were asked, as many as there is room for, the levels of rim
@@ -85,6 +87,14 @@ impl DrainageCache {
         };
         tile_cache.note_changed(point, was, to);
         self.tile_cache = Some(tile_cache);
+    }
+
+    /// The labelling of the corner's tile, where it is held and none of its heights may have changed since.
+    pub fn labelling(&self, corner: Corner) -> Option<&Labelled>
+        ensures { (m : Mosaic) → IsHeldOf m self.now → IfSome result (λ labelled. IsFlooded m corner labelled.now) }
+    {
+        let tile_cache = self.tile_cache.as_ref()?;
+        tile_cache.labelling(corner)
     }
 
     // Nothing is known of where points drain from then on: that depends on levels all over the mosaic.

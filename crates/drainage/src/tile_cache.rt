@@ -1,8 +1,9 @@
 //! What is found of a mosaic's water: ways, labellings and levels, tile by tile as they are asked for.
-ghost use Rattle.std.specs.Prelude.{◌≡◌, ◌≢◌, ◌-◌, ◌*◌, ◌<◌, ℕ, IfOk, IfErr, OnOk, IsTrue, Ok, Some, length};
+ghost use Rattle.std.specs.Prelude.{◌≡◌, ◌≢◌, ◌-◌, ◌*◌, ◌<◌, ℕ, IfOk, IfErr, IfSome, OnOk, IsTrue, Ok, Some, length};
 ghost use Rattle.catalogue.specs.Asked.{Asked};
 ghost use Rattle.catalogue.specs.Endings.{ends_any};
 ghost use Rattle.catalogue.specs.Readers.{OnlyReads};
+ghost use Rattle.tile_labellings.specs.Labellings.{IsFlooded};
 ghost use Rattle.tile_labellings.specs.Spots.{IsLabelledAt};
 ghost use Rattle.lattice.specs.Height.{height_of};
 ghost use Rattle.lattice.specs.Mosaic.{Mosaic};
@@ -22,10 +23,11 @@ use crate::renewing::{current_labelling, kept_spot};
 use crate::rim_graph::RimGraph;
 use crate::rims::RimLevels;
 use crate::summing::summarize;
-use border_graph::{Edge, EdgeSource};
+use border_graph::{Edge, EdgeSource, place_of};
 use catalogue::Samples;
 use lattice::{Corner, Point, Refusal};
 use std::alloc::Global;
+use tile_flood::Labelled;
 use tile_labellings::Labellings;
 
 /// The ways of the tiles that water has come to, their labellings, and the levels of rim points that were found.
@@ -79,6 +81,15 @@ impl TileCache {
         self.labellings
             .note_changed(side, &self.rim_graph.corners, point);
         self.rim_graph.invalidate_between(point, point);
+    }
+
+    /// The labelling of the corner's tile, where it is held and none of its heights may have changed since.
+    pub(crate) fn labelling(&self, corner: Corner) -> Option<&Labelled>
+        ensures { (m : Mosaic) → IsRight m (known_of self.now) → IfSome result (λ labelled. IsFlooded m corner labelled.now) }
+    {
+        let t = place_of(&self.rim_graph.corners, corner)?;
+        let labelled = self.labellings.labelling(t)?;
+        Some(labelled)
     }
 
     // Has the ways of the tile with this place and corner from then on, unless it had them.

@@ -6,6 +6,7 @@ use Rattle.disk.specs.Disk.{Image}
 use Rattle.disk.specs.Stops.{LeavesOnly, weaker}
 use Rattle.disk.specs.declared.disk.Disk.{Ghosts}
 use Rattle.lattice.specs.Corners.{Corner}
+use Rattle.lattice.specs.Mosaic.{Mosaic}
 use Rattle.lattice.specs.declared.refusal.Refusal.{Refusal}
 use Rattle.lattice.specs.declared.refusal.Refusal.TheVariants.{Device, NoMemory, Failed, Worn}
 use Rattle.page_codec.specs.Roots.{RootValue}
@@ -21,10 +22,10 @@ use Rattle.cow_tree.specs.Stored.{Stored}
 use Rattle.cow_tree.specs.Trees.{disk_of, root_of, has_failed, sinks_of, staged_in, IsAt as IsTreeAt}
 use Rattle.cow_tree.specs.declared.tree.Tree.{Tree}
 use Rattle.derived.specs.Clean.{IsSettled}
-use Rattle.derived.specs.Kept.{KeepsRight, stale_corners}
+use Rattle.derived.specs.Kept.{KeepsRight, mosaic_stored, stale_corners}
 use Rattle.derived.specs.Steps.{StandsStepped, Stays, MaySteps, Makes, StepsOn, HasStepped}
 use Rattle.derived.proofs.RootStored.{sinks_at}
-use Rattle.store.specs.Ended.{LeavesOr, IsStepped, step_ending}
+use Rattle.store.specs.Ended.{EndsAt, LeavesOr, IsStepped, step_ending}
 use Rattle.store.specs.Standing.{Holds, StandsFor}
 use Rattle.store.specs.States.{StandsForState, IsStateOf}
 use Rattle.store.specs.StoreState.{known_by}
@@ -34,7 +35,7 @@ use Rattle.store.proofs.Ended as ended
 use Rattle.store.proofs.InMemory.{is_working}
 use Rattle.store.proofs.Opened.{in_state}
 use Rattle.store.proofs.States.{at_failure}
-use Rattle.store.proofs.SteppedTiles.{stored_right, stepped_holds}
+use Rattle.store.proofs.SteppedTiles.{stored_mosaic, stored_right, stepped_holds}
 
 -- a store that had failed
 pub had_failed : {D : Type 0} (g : Ghosts D) (tree : Tree D g) → has_failed tree ≡ true → IsStepped g (Err Failed) tree tree
@@ -137,8 +138,8 @@ module _ {D : Type 0} (g : Ghosts D) (seen : (disk : D) → g.honest disk → g.
           ),
         )
 
-    fails_so : (c : Corner) → MaySteps g old new stored c → HasStepped g old new (Err Device) → Outcome (Err Device)
-    fails_so c may is =
+    fails_so : (P : Mosaic → Type 0) (c : Corner) → MaySteps g old new stored c → HasStepped g P old new (Err Device) → Outcome (Err Device)
+    fails_so P c may is =
         let t : State = failing s (step_in_doubt s.contents (Some c)) in
         let run = leaves c t may (λ image made. inr (stepped c s.contents, doubted c may, made)) in
         let failed = (is.device refl).1 in (
@@ -152,23 +153,29 @@ module _ {D : Type 0} (g : Ghosts D) (seen : (disk : D) → g.honest disk → g.
           ),
         )
 
-    ends_so : g.honest (disk_of new) → (result : Result (Option Corner) Refusal) → HasStepped g old new result → Outcome result
-    ends_so honest (Ok None) is =
-        let ends = is.ends honest stored (at.sound works).tree right in
-        stays_so honest (Ok None) ends.0 (record { working = is_working g old works s at; same = refl }, holds.stale ∙ ends.1)
-    ends_so honest (Ok (Some c)) is = makes_so honest c (is.ends honest stored (at.sound works).tree right)
-    ends_so honest (Err Device) is = let ends = is.ends honest stored (at.sound works).tree right in fails_so ends.0 ends.1 is
-    ends_so honest (Err NoMemory) is = stays_so honest (Err NoMemory) (is.ends honest stored (at.sound works).tree right) (record { working = is_working g old works s at; same = refl })
-    ends_so honest (Err Worn) is =
-        let ends = is.ends honest stored (at.sound works).tree right in
-        stays_so honest (Err Worn) ends.0 (
-          record { stays = record { working = is_working g old works s at; same = refl }; worn = sym holds.number ∙ ends.1 },
-          λ none. ends.2 (sym holds.stale ∙ none),
-        )
-    ends_so honest (Err r) is = absurd (is.ends honest stored (at.sound works).tree right)
+    module _ (P : Mosaic → Type 0) (holds_of : P s.contents.mosaic) where
+      there : P (mosaic_stored stored)
+      there = subst P (sym (stored_mosaic (root_of old).side (root_of old).capacity stored s.contents holds)) holds_of
 
-  pub by_tree : (result : Result (Option Corner) Refusal) → HasStepped g old new result → IsStepped g result old new
-  by_tree result is = record {
+      ends_so : g.honest (disk_of new) → (result : Result (Option Corner) Refusal) → HasStepped g P old new result → Outcome result
+      ends_so honest (Ok None) is =
+          let ends = is.ends honest stored there (at.sound works).tree right in
+          stays_so honest (Ok None) ends.0 (record { working = is_working g old works s at; same = refl }, holds.stale ∙ ends.1)
+      ends_so honest (Ok (Some c)) is = makes_so honest c (is.ends honest stored there (at.sound works).tree right)
+      ends_so honest (Err Device) is = let ends = is.ends honest stored there (at.sound works).tree right in fails_so P ends.0 ends.1 is
+      ends_so honest (Err NoMemory) is = stays_so honest (Err NoMemory) (is.ends honest stored there (at.sound works).tree right) (record { working = is_working g old works s at; same = refl })
+      ends_so honest (Err Worn) is =
+          let ends = is.ends honest stored there (at.sound works).tree right in
+          stays_so honest (Err Worn) ends.0 (
+            record { stays = record { working = is_working g old works s at; same = refl }; worn = sym holds.number ∙ ends.1 },
+            λ none. ends.2 (sym holds.stale ∙ none),
+          )
+      ends_so honest (Err r) is = absurd (is.ends honest stored there (at.sound works).tree right)
+
+  -- from each state of which the premise holds
+  by_tree : (P : Mosaic → Type 0) (Was : State → Type 0) → ((s : State) → Was s → IsInState g old s × P s.contents.mosaic) → (result : Result (Option Corner) Refusal) → HasStepped g P old new result
+      → EndsAt g (step_ending (root_of old).capacity) result old new Was (λ t. IsInState g new t)
+  by_tree P Was leads result is = record {
     size = is.size;
     side = is.side;
     capacity = is.capacity;
@@ -183,7 +190,7 @@ module _ {D : Type 0} (g : Ghosts D) (seen : (disk : D) → g.honest disk → g.
     unwritten = unwritten result is.quiet;
     idle = is.idle;
     honest = is.honest;
-    outcome = λ honest s at. ends_so s at honest result is;
+    outcome = λ honest s was. ends_so s (leads s was).0 P (leads s was).1 honest result is;
   }
     where
       Quiet : Result (Option Corner) Refusal → Type 0
@@ -201,14 +208,35 @@ module _ {D : Type 0} (g : Ghosts D) (seen : (disk : D) → g.honest disk → g.
       unwritten (Ok tile) says = tt
       unwritten (Err r) says = λ other. (says other).1.1
 
--- a step of a tree, whether it had failed or not
-pub stepped_by : {D : Type 0} (g : Ghosts D) → ((disk : D) → g.honest disk → g.may disk (g.seen disk)) → (old new : Tree D g) (result : Result (Option Corner) Refusal)
-    → (has_failed old ≡ true → (result ≡ Err Failed) × (new ≡ old)) → (has_failed old ≡ false → HasStepped g old new result) → IsStepped g result old new
-stepped_by g seen old new result failed stepped = by (has_failed old) refl
+-- a step of a tree, whether it had failed or not, from each state of which the premise holds
+pub stepped_by : {D : Type 0} (g : Ghosts D) → ((disk : D) → g.honest disk → g.may disk (g.seen disk)) → (P : Mosaic → Type 0) (Was : State → Type 0) (old new : Tree D g)
+    → ((s : State) → Was s → IsInState g old s × P s.contents.mosaic) → (result : Result (Option Corner) Refusal)
+    → (has_failed old ≡ true → (result ≡ Err Failed) × (new ≡ old)) → (has_failed old ≡ false → HasStepped g P old new result)
+    → EndsAt g (step_ending (root_of old).capacity) result old new Was (λ t. IsInState g new t)
+stepped_by g seen P Was old new leads result failed stepped = by (has_failed old) refl
   where
-    by : (b : Bool) → has_failed old ≡ b → IsStepped g result old new
+    from_states : IsStepped g result old new → EndsAt g (step_ending (root_of old).capacity) result old new Was (λ t. IsInState g new t)
+    from_states is = record {
+      size = is.size;
+      side = is.side;
+      capacity = is.capacity;
+      later = is.later;
+      device = is.device;
+      works = is.works;
+      fails = is.fails;
+      causes = is.causes;
+      quiet = is.quiet;
+      known = is.known;
+      last_known = is.last_known;
+      unwritten = is.unwritten;
+      idle = is.idle;
+      honest = is.honest;
+      outcome = λ honest s was. is.outcome honest s (leads s was).0;
+    }
+
+    by : (b : Bool) → has_failed old ≡ b → EndsAt g (step_ending (root_of old).capacity) result old new Was (λ t. IsInState g new t)
     by true fails =
         let same = failed fails in
-        subst (λ (t : Tree _ g). IsStepped g result old t) (sym same.1)
-        (subst (λ (answer : Result (Option Corner) Refusal). IsStepped g answer old old) (sym same.0) (had_failed g old fails))
-    by false works = by_tree g seen old new works result (stepped works)
+        from_states (subst (λ (t : Tree _ g). IsStepped g result old t) (sym same.1)
+        (subst (λ (answer : Result (Option Corner) Refusal). IsStepped g answer old old) (sym same.0) (had_failed g old fails)))
+    by false works = by_tree g seen old new works P Was leads result (stepped works)

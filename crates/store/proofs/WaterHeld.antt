@@ -138,9 +138,28 @@ module _ {D : Type 0} (g : Ghosts D) (old new : Tree D g) where
   still_holding ending held result same =
       ended_holding ending held held result (λ honest s t at right happens. subst (λ (m : Mosaic). IsHeldOf m held) (sym (same s t happens)) right)
 
-  pub stepped_holding : (held : DrainageCache) (result : Result (Option Corner) Refusal) → IsStepped g result old new
+  -- a step, from states of whose mosaic what is held is right
+  pub stepped_holding : (held : DrainageCache) (result : Result (Option Corner) Refusal) → EndsAt g (step_ending (root_of old).capacity) result old new (λ s. IsHolding g old held s) (λ t. IsInState g new t)
       → EndsAt g (step_ending (root_of old).capacity) result old new (λ s. IsHolding g old held s) (λ t. IsHolding g new held t)
-  stepped_holding held result = still_holding (step_ending (root_of old).capacity) held result (λ s t. steps (root_of old).capacity s t result)
+  stepped_holding held result is = record {
+    size = is.size;
+    side = is.side;
+    capacity = is.capacity;
+    later = is.later;
+    device = is.device;
+    works = is.works;
+    fails = is.fails;
+    causes = is.causes;
+    quiet = is.quiet;
+    known = is.known;
+    last_known = is.last_known;
+    unwritten = is.unwritten;
+    idle = is.idle;
+    honest = is.honest;
+    outcome = λ honest s at.
+        let step = is.outcome honest s at in
+        (step.0, (record { in_state = step.1.0; right = subst (λ (m : Mosaic). IsHeldOf m held) (sym (steps (root_of old).capacity s step.0 result step.1.1)) at.right }, step.1.1, step.1.2));
+  }
 
   pub upgraded_holding : (held : DrainageCache) (result : Result (Unit {0}) Refusal) → IsUpgraded g result old new
       → EndsAt g (upgrade_ending (g.size (disk_of old)) (root_of old)) result old new (λ s. IsHolding g old held s) (λ t. IsHolding g new held t)

@@ -1,5 +1,12 @@
 //! Steps: the planes of one stale tile more are kept.
-ghost use Rattle.std.specs.Prelude.{◌≡◌, true, Ok, None, OnErr};
+ghost use Rattle.std.specs.Prelude.{◌≡◌, ◌≤◌, ◌+◌, ◌*◌, true, false, Ok, Err, None, OnErr};
+ghost use Rattle.lattice.specs.declared.refusal.Refusal.TheVariants.{Failed};
+ghost use Rattle.page_codec.specs.Roots.{format_of};
+ghost use Rattle.page_codec.specs.Sizes.{plane_pages_of};
+ghost use Rattle.cow_tree.specs.Trees.{disk_of as disk_under, root_of as root_under, has_failed as have_failed};
+ghost use Rattle.derived.specs.Clean.{IsClean};
+ghost use Rattle.derived.specs.Steps.{HasStepped};
+ghost use Rattle.drainage.specs.Between.{IsHeldOf};
 ghost use Rattle.engine.specs.Engines.{IsCall, answered};
 ghost use Rattle.engine.specs.declared.event.Event.TheVariants as ask;
 ghost use Rattle.engine.specs.declared.event.Reply.TheVariants as reply;
@@ -7,13 +14,18 @@ ghost use Rattle.store.specs.StoreState.{members};
 ghost use Rattle.store.specs.Stores.{disk_of, root_of, has_failed};
 
 use crate::Store;
+use cow_tree::Tree;
+use derived::{next_stale, step_held};
 use disk::Disk;
+use drainage::DrainageCache;
 use lattice::{Corner, Refusal};
+use std::alloc::Global;
 
 impl<D: Disk> Store<D> {
-    /// Keeps the levels and labels of the first stale tile and names it, or answers none where no tile is stale. A step is
-    /// a commit, and no command. Refused with Failed, with Worn where the commit number can't grow, or for the disk or for
-    /// memory, which is had before the first write. A stop at any moment leaves the store as it was, or with those planes.
+    /// Keeps the levels and labels of the first stale tile and names it, or answers none where no tile is stale. Where a
+    /// question left the tile's labelling held, that is kept; else the tile is flooded. A step is a commit, and no command.
+    /// Refused with Failed, with Worn where the commit number can't grow, or for the disk or for memory, which is had before
+    /// the first write. A stop at any moment leaves the store as it was, or with those planes.
     ///
     /// It writes two planes with what lists their pages, a root and two gates at most, on any disk.
     pub fn step(&mut self) -> Result<Option<Corner>, Refusal>
@@ -24,6 +36,26 @@ impl<D: Disk> Store<D> {
         // A store that failed makes no call of the disk.
         ensures failed { has_failed self.old ≡ true → disk_of self.new ≡ disk_of self.old }
     {
-        derived::step(self.alloc, &mut self.tree)
+        step_tree(self.alloc, &mut self.tree, &self.held)
+    }
+}
+
+// Keeps the levels and labels of the first stale tile, those of what is held where it is held.
+fn step_tree<D: Disk>(
+    alloc: Global,
+    tree: &mut Tree<D>,
+    held: &DrainageCache,
+) -> Result<Option<Corner>, Refusal>
+    ensures stepped { have_failed tree.old ≡ false → HasStepped D.Disk (λ m. IsHeldOf m held.now) tree.old tree.new result }
+    ensures clean { have_failed tree.new ≡ false → IsClean tree.new }
+    ensures writes { D.writes (disk_under tree.new) ≤ D.writes (disk_under tree.old) + (2 * plane_pages_of (format_of (root_under tree.old)) + 3) }
+    ensures failed { have_failed tree.old ≡ true → (result ≡ Err Failed) × (tree.new ≡ tree.old) }
+{
+    let Some(corner) = next_stale(tree) else {
+        return derived::step(alloc, tree);
+    };
+    match held.labelling(corner) {
+        Some(labelled) => step_held(alloc, tree, corner, labelled),
+        None => derived::step(alloc, tree),
     }
 }

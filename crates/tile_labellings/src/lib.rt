@@ -18,6 +18,6 @@ mod tile_labelling;
 
 pub use flooded_block::FloodedBlock;
 pub use labellings::{Labellings, flooded};
-pub use planes::{KeptPlanes, kept_planes};
+pub use planes::{KeptPlanes, kept_planes, planes_of};
 pub use reading::{labelled_at, labelled_from};
 pub use tile_labelling::TileLabelling;

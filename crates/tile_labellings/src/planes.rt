@@ -3,13 +3,14 @@ ghost use Rattle.std.specs.Prelude.{◌≡◌, ◌*◌, ◌⊎◌, IfOk, IfErr, 
 ghost use Rattle.lattice.specs.declared.refusal.Refusal.TheVariants.{NoMemory};
 ghost use Rattle.catalogue.specs.Readers.{OnlyReads, reads_of};
 ghost use Rattle.catalogue.specs.Reading.{MayRefuse};
-ghost use Rattle.tile_flood.specs.Kept.{AreKeptOf};
+ghost use Rattle.tile_flood.specs.Kept.{AreKeptOf, labels_in, levels_in};
 
 use crate::bytes::{label_bytes, level_bytes};
 use crate::labellings::flooded;
 use catalogue::Samples;
 use lattice::{Corner, Refusal};
 use std::alloc::Global;
+use tile_flood::Labelled;
 
 /// The levels and labels of a tile, as its planes hold them: two bytes a point, the least significant first.
 #[derive(Drop)]
@@ -35,7 +36,18 @@ pub fn kept_planes<S: Samples>(
     ensures reads { OnlyReads S.Samples samples.old samples.new (reads_of result) }
 {
     let flooded = flooded(alloc, samples, corner)?;
-    let labelled = flooded.labelled();
+    let planes = planes_of(alloc, flooded.labelled())?;
+    Ok(planes)
+}
+
+/// The levels and labels of the labelling, as planes hold them. NoMemory is the only refusal.
+pub fn planes_of(alloc: Global, labelled: &Labelled) -> Result<KeptPlanes, Refusal>
+    ensures levels { IfOk result (λ planes. levels_in planes.levels.items ≡ labelled.now.levels) }
+    ensures labels { IfOk result (λ planes. labels_in planes.labels.items ≡ labelled.now.labels) }
+    ensures levels_len { IfOk result (λ planes. vec_len planes.levels ≡ 2 * (labelled.now.side * labelled.now.side)) }
+    ensures labels_len { IfOk result (λ planes. vec_len planes.labels ≡ 2 * (labelled.now.side * labelled.now.side)) }
+    ensures refusal { IfErr result (λ r. r ≡ NoMemory) }
+{
     let levels = level_bytes(alloc, labelled.levels())?;
     let labels = label_bytes(alloc, labelled.labels())?;
     Ok(KeptPlanes { levels, labels })

@@ -1,9 +1,11 @@
 use Rattle.std.proofs.Common.{◌≡◌, ◌⊎◌, ⊎_elim, List, refl, sym, ap, ◌∙◌, subst}
 use Rattle.std.specs.Prelude.{Option, Result, Ok, Err, Contains}
 use Rattle.lattice.specs.Corners.{Corner}
+use Rattle.lattice.specs.Mosaic.{Mosaic}
 use Rattle.lattice.specs.declared.refusal.Refusal.{Refusal}
 use Rattle.lattice.specs.declared.refusal.Refusal.TheVariants.{Device, NoMemory}
 use Rattle.page_codec.specs.Roots.{RootValue}
+use Rattle.tile_flood.specs.Kept.{AreKeptOf}
 use Rattle.cow_tree.specs.Kept.{planes_of_bytes, with_kept}
 use Rattle.cow_tree.specs.Trees.{disk_of, root_of}
 use Rattle.cow_tree.proofs.ReadOnly.{never_refused}
@@ -24,6 +26,7 @@ stage_kept-requires-clause-present g c =
 pub returns-in_err-stage_kept-clause-stepped : goal.returns-in_err-stage_kept-clause-stepped
 returns-in_err-stage_kept-clause-stepped g c =
     let d = g.D.Disk in
+    let P : Mosaic → Type 0 = λ m. AreKeptOf m c.args.corner c.args.levels.now c.args.labels.now in
     let old = c.args.tree.now in
     let mid = c.stage_kept.new.self in
     let does = c.stage_kept.ensures in
@@ -41,17 +44,17 @@ returns-in_err-stage_kept-clause-stepped g c =
       at = does.at;
       run = does.any_moment;
     } in
-    subst (λ (result : Result (Option Corner) Refusal). HasStepped d old mid result) (sym (refused_as c.from_residual.result r c.from_residual.ensures.1))
+    subst (λ (result : Result (Option Corner) Refusal). HasStepped d P old mid result) (sym (refused_as c.from_residual.result r c.from_residual.ensures.1))
     (⊎_elim
     (λ device.
-    subst (λ (x : Refusal). HasStepped d old mid (Err x)) (sym device)
-    (fails_before d seen old mid c.args.corner c.requires.stale c.requires.number (subst (λ (x : Refusal). CommitsNothing {T = Unit {0}} d old mid (Err x)) device any)))
+    subst (λ (x : Refusal). HasStepped d P old mid (Err x)) (sym device)
+    (fails_before d P seen old mid c.args.corner c.requires.stale c.requires.number (subst (λ (x : Refusal). CommitsNothing {T = Unit {0}} d old mid (Err x)) device any)))
     (λ memory.
     let is : ◌≡◌ {A = Result (Unit {0}) Refusal} (Err r) (Err NoMemory) = ap (λ (x : Refusal). Err x) memory in
     let disk = refused.unchanged is in
     let page_map = refused.same is in
-    subst (λ (x : Refusal). HasStepped d old mid (Err x)) (sym memory)
-    (no_memory d seen old mid (Err r) any
+    subst (λ (x : Refusal). HasStepped d P old mid (Err x)) (sym memory)
+    (no_memory d P seen old mid (Err r) any
     (⊎_elim (λ works. works) (λ device. absurd (let e : Err NoMemory ≡ Err Device = sym is ∙ device in cc)) refused.works)
     (still_clean d old mid page_map does.root does.corners c.requires.clean) (ap d.writes disk)
     (λ honest s at. let was = settled_at d old s c.requires.unstaged c.requires.declared at (seen (disk_of old) (does.honest honest)) in (staged_same d old mid disk page_map ∙ was.tiles, does.sinks ∙ was.sinks))))
@@ -60,6 +63,7 @@ returns-in_err-stage_kept-clause-stepped g c =
 pub returns-in_err-commit-clause-stepped : goal.returns-in_err-commit-clause-stepped
 returns-in_err-commit-clause-stepped g c =
     let d = g.D.Disk in
+    let P : Mosaic → Type 0 = λ m. AreKeptOf m c.args.corner c.args.levels.now c.args.labels.now in
     let old = c.args.tree.now in
     let mid = c.stage_kept.new.self in
     let new = c.commit.new.self in
@@ -78,11 +82,11 @@ returns-in_err-commit-clause-stepped g c =
       at = does.at;
       run = does.any_moment;
     } in
-    subst (λ (result : Result (Option Corner) Refusal). HasStepped d old new result)
+    subst (λ (result : Result (Option Corner) Refusal). HasStepped d P old new result)
     (sym (refused_as c.from_residual-in_err-commit.result c.in_err-commit.field-0.0 c.from_residual-in_err-commit.ensures.1 ∙ ap (λ (r : Refusal). Err r) c.in_err-commit.ensures.refused))
-    (fails_in_commit d seen old mid new c.args.corner c.requires.stale c.requires.number kept done
+    (fails_in_commit d P seen old mid new c.args.corner c.requires.stale c.requires.number kept done
     (λ honest s at. let was = settled_at d old s c.requires.unstaged c.requires.declared at (seen (disk_of old) (does.honest honest)) in (c.in_ok-stage_kept.ensures.staged honest s at ∙ ap (with_kept c.args.corner kept) was.tiles, does.sinks ∙ was.sinks))
-    (λ honest s at keeps. planes_right n (mosaic_stored s) c.args.corner c.args.levels.now c.args.labels.now (side_at d old s at (seen (disk_of old) honest)) (c.requires.right honest s at keeps) c.requires.levels c.requires.labels c.bytes_in_range.ensures c.bytes_in_range-2.ensures)
+    (λ honest s p at keeps. planes_right n (mosaic_stored s) c.args.corner c.args.levels.now c.args.labels.now (side_at d old s at (seen (disk_of old) honest)) p c.requires.levels c.requires.labels c.bytes_in_range.ensures c.bytes_in_range-2.ensures)
     c.count-count.result (c.count-count.ensures.value ∙ ap (λ (r : RootValue). r.count) c.current.ensures)
     c.commit.ensures.size c.commit.ensures.cause.later c.commit.ensures.honest c.commit.ensures.any_moment
     c.in_err-commit.ensures.last_known c.in_err-commit.ensures.failed (c.in_err-commit.ensures.cause.failed refl))
@@ -90,6 +94,7 @@ returns-in_err-commit-clause-stepped g c =
 pub returns-clause-stepped : goal.returns-clause-stepped
 returns-clause-stepped g c =
     let d = g.D.Disk in
+    let P : Mosaic → Type 0 = λ m. AreKeptOf m c.args.corner c.args.levels.now c.args.labels.now in
     let old = c.args.tree.now in
     let mid = c.stage_kept.new.self in
     let new = c.commit.new.self in
@@ -108,9 +113,9 @@ returns-clause-stepped g c =
       at = does.at;
       run = does.any_moment;
     } in
-    commits_it d seen old mid new c.args.corner c.requires.stale c.requires.number kept done
+    commits_it d P seen old mid new c.args.corner c.requires.stale c.requires.number kept done
     (λ honest s at. let was = settled_at d old s c.requires.unstaged c.requires.declared at (seen (disk_of old) (does.honest honest)) in (c.in_ok-stage_kept.ensures.staged honest s at ∙ ap (with_kept c.args.corner kept) was.tiles, does.sinks ∙ was.sinks))
-    (λ honest s at keeps. planes_right n (mosaic_stored s) c.args.corner c.args.levels.now c.args.labels.now (side_at d old s at (seen (disk_of old) honest)) (c.requires.right honest s at keeps) c.requires.levels c.requires.labels c.bytes_in_range.ensures c.bytes_in_range-2.ensures)
+    (λ honest s p at keeps. planes_right n (mosaic_stored s) c.args.corner c.args.levels.now c.args.labels.now (side_at d old s at (seen (disk_of old) honest)) p c.requires.levels c.requires.labels c.bytes_in_range.ensures c.bytes_in_range-2.ensures)
     c.count-count.result (c.count-count.ensures.value ∙ ap (λ (r : RootValue). r.count) c.current.ensures)
     c.commit.ensures.size c.commit.ensures.cause.later c.commit.ensures.honest c.commit.ensures.any_moment
     c.in_ok-commit.ensures.not_failed

@@ -17,7 +17,7 @@ use Rattle.derived.specs.Steps.{HasStepped}
 use Rattle.derived.specs.Uncommitted.{CommitsNothing}
 use Rattle.derived.proofs.KeptTiles.{stale_present}
 use Rattle.derived.proofs.Settled.{settled_at, still_clean, mosaic_settled, readable_settled, mosaic_read}
-use Rattle.derived.proofs.StepEnds.{no_memory, fails_before, stepped_after}
+use Rattle.derived.proofs.StepEnds.{no_memory, fails_before, premised, stepped_after}
 use Rattle.derived.proofs.Uncommitted.{refused_as, reading}
 use Rattle.derived.proofs.stepping.keep.Goals as goal
 
@@ -37,21 +37,6 @@ pub commit_planes-requires-clause-declared : goal.commit_planes-requires-clause-
 commit_planes-requires-clause-declared g c =
     let keeps = c.read_planes.ensures.reads in
     keeps.sinks ∙ c.requires.declared ∙ ap (λ (r : RootValue). r.sinks) (sym keeps.root)
-
-pub commit_planes-requires-clause-right : goal.commit_planes-requires-clause-right
-commit_planes-requires-clause-right g c honest s at keeps_right =
-    let d = g.D.Disk in
-    let old = c.args.tree.now in
-    let mid = c.read_planes.new.tree in
-    let keeps = c.read_planes.ensures.reads in
-    let shown = g.met.D.Disk.seen_may (disk_of mid) honest in
-    let settled = settled_at d mid s (commit_planes-requires-clause-unstaged g c) (commit_planes-requires-clause-declared g c) at shown in
-    let m : Mosaic = mosaic_of d old in
-    let same : mosaic_stored s ≡ m = sym (mosaic_settled d mid s settled shown) ∙ mosaic_read d old mid keeps honest in
-    subst (λ (x : Mosaic). AreKeptOf x c.args.corner c.deref.result.now c.deref-2.result.now) (sym same)
-    (subst (λ (bs : List ℕ). AreKeptOf m c.args.corner bs c.deref-2.result.now) (sym c.deref.ensures.value)
-    (subst (λ (bs : List ℕ). AreKeptOf m c.args.corner c.in_ok-planes.planes.levels.items bs) (sym c.deref-2.ensures.value)
-    (c.in_ok-planes.ensures.right (readable_settled d mid s settled shown honest keeps_right))))
 
 pub commit_planes-requires-clause-stale : goal.commit_planes-requires-clause-stale
 commit_planes-requires-clause-stale g c = subst (λ (r : RootValue). Contains (stale_in r) c.args.corner) (sym c.read_planes.ensures.reads.root) c.requires.stale
@@ -78,6 +63,7 @@ returns-clause-writes g c =
 pub returns-in_err-planes-clause-stepped : goal.returns-in_err-planes-clause-stepped
 returns-in_err-planes-clause-stepped g c =
     let d = g.D.Disk in
+    let P : Mosaic → Type 0 = λ m. Unit {0} in
     let old = c.args.tree.now in
     let mid = c.read_planes.new.tree in
     let does = c.read_planes.ensures in
@@ -86,14 +72,14 @@ returns-in_err-planes-clause-stepped g c =
     let seen = g.met.D.Disk.seen_may in
     let refused = c.in_err-planes.ensures in
     let any = reading d {T = KeptPlanes} old mid keeps (Err r) refused.device refused.failed tt in
-    subst (λ (result : Result (Option Corner) Refusal). HasStepped d old mid result) (sym (refused_as c.from_residual.result r c.from_residual.ensures.1))
+    subst (λ (result : Result (Option Corner) Refusal). HasStepped d P old mid result) (sym (refused_as c.from_residual.result r c.from_residual.ensures.1))
     (⊎_elim
     (λ device.
-    subst (λ (x : Refusal). HasStepped d old mid (Err x)) (sym device)
-    (fails_before d seen old mid c.args.corner c.requires.stale c.requires.number (subst (λ (x : Refusal). CommitsNothing {T = KeptPlanes} d old mid (Err x)) device any)))
+    subst (λ (x : Refusal). HasStepped d P old mid (Err x)) (sym device)
+    (fails_before d P seen old mid c.args.corner c.requires.stale c.requires.number (subst (λ (x : Refusal). CommitsNothing {T = KeptPlanes} d old mid (Err x)) device any)))
     (λ memory.
-    subst (λ (x : Refusal). HasStepped d old mid (Err x)) (sym memory.0)
-    (no_memory d seen old mid (Err r) any memory.1 (still_clean d old mid keeps.page_map keeps.root keeps.corners c.requires.clean) keeps.writes
+    subst (λ (x : Refusal). HasStepped d P old mid (Err x)) (sym memory.0)
+    (no_memory d P seen old mid (Err r) any memory.1 (still_clean d old mid keeps.page_map keeps.root keeps.corners c.requires.clean) keeps.writes
     (λ honest s at. let was = settled_at d old s c.requires.unstaged c.requires.declared at (seen (disk_of old) (keeps.honest honest)) in (keeps.staged honest ∙ was.tiles, keeps.sinks ∙ was.sinks))))
     refused.refusal)
 
@@ -102,6 +88,20 @@ returns-clause-stepped g c =
     let d = g.D.Disk in
     let old = c.args.tree.now in
     let mid = c.read_planes.new.tree in
+    let keeps = c.read_planes.ensures.reads in
     let planes = c.in_ok-planes.planes in
-    let done = reading d old mid c.read_planes.ensures.reads (Ok planes) (λ is. never_refused planes Device is) (λ is. never_refused planes Device is) c.in_ok-planes.ensures.works in
-    stepped_after d g.met.D.Disk.seen_may old mid c.commit_planes.new.tree planes done c.read_planes.ensures.reads.writes c.commit_planes.result c.commit_planes.ensures.stepped
+    let done = reading d old mid keeps (Ok planes) (λ is. never_refused planes Device is) (λ is. never_refused planes Device is) c.in_ok-planes.ensures.works in
+    stepped_after d (λ m. Unit {0}) g.met.D.Disk.seen_may old mid c.commit_planes.new.tree planes done keeps.writes c.commit_planes.result
+    (premised d (λ m. AreKeptOf m c.args.corner c.deref.result.now c.deref-2.result.now) g.met.D.Disk.seen_may (λ m. Unit {0}) mid c.commit_planes.new.tree c.commit_planes.result
+    (λ honest s _ at keeps_right.
+    let shown = g.met.D.Disk.seen_may (disk_of mid) honest in
+    let unstaged = subst (λ (page_map : PageMapValue). IsCleanPageMap page_map) (sym keeps.page_map) c.requires.unstaged in
+    let declared = keeps.sinks ∙ c.requires.declared ∙ ap (λ (r : RootValue). r.sinks) (sym keeps.root) in
+    let settled = settled_at d mid s unstaged declared at shown in
+    let m : Mosaic = mosaic_of d old in
+    let same : mosaic_stored s ≡ m = sym (mosaic_settled d mid s settled shown) ∙ mosaic_read d old mid keeps honest in
+    subst (λ (x : Mosaic). AreKeptOf x c.args.corner c.deref.result.now c.deref-2.result.now) (sym same)
+    (subst (λ (bs : List ℕ). AreKeptOf m c.args.corner bs c.deref-2.result.now) (sym c.deref.ensures.value)
+    (subst (λ (bs : List ℕ). AreKeptOf m c.args.corner c.in_ok-planes.planes.levels.items bs) (sym c.deref-2.ensures.value)
+    (c.in_ok-planes.ensures.right (readable_settled d mid s settled shown honest keeps_right)))))
+    c.commit_planes.ensures.stepped)

@@ -25,7 +25,7 @@ returns-in_default-clause-stepped g c works =
     let nothing : CommitsNothing {T = Unit {0}} d old old (Ok tt) = in_memory d old old (Ok tt) g.met.D.Disk.only_now refl refl works (λ s at. at) (λ refused. never_refused tt Device refused) in
     let done : CommitsNothing {T = Unit {0}} d old mid (Ok tt) = given_up d old old mid (Ok tt) nothing gives.disk gives.root gives.failed gives.at in
     let entries = c.entries.ensures.value ∙ ap (λ (r : RootValue). r.entries) (c.current-root.ensures ∙ gives.root) in
-    none_is_stale d g.met.D.Disk.seen_may old mid (Ok tt) done (gives.failed ∙ works) (record { none_staged = gives.none_staged; none_due = gives.none_due; corners = gives.corners }) (ap d.writes gives.disk)
+    none_is_stale d (λ m. Unit {0}) g.met.D.Disk.seen_may old mid (Ok tt) done (gives.failed ∙ works) (record { none_staged = gives.none_staged; none_due = gives.none_due; corners = gives.corners }) (ap d.writes gives.disk)
     (λ honest s at. let was = subst d.honest gives.disk honest in (gives.committed was s at, gives.undeclared was s at))
     (subst (λ (es : List EntryValue). stale_among es ≡ []) entries c.in_default.ensures)
 
@@ -39,7 +39,7 @@ returns-then-number-clause-stepped g c works =
     let done : CommitsNothing {T = Unit {0}} d old mid (Ok tt) = given_up d old old mid (Ok tt) nothing gives.disk gives.root gives.failed gives.at in
     let root : c.current-root.result.now ≡ root_of old = c.current-root.ensures ∙ gives.root in
     let entries = c.entries.ensures.value ∙ ap (λ (r : RootValue). r.entries) root in
-    is_worn d g.met.D.Disk.seen_may old mid (Ok tt) done (gives.failed ∙ works) (record { none_staged = gives.none_staged; none_due = gives.none_due; corners = gives.corners }) (ap d.writes gives.disk)
+    is_worn d (λ m. Unit {0}) g.met.D.Disk.seen_may old mid (Ok tt) done (gives.failed ∙ works) (record { none_staged = gives.none_staged; none_due = gives.none_due; corners = gives.corners }) (ap d.writes gives.disk)
     (λ honest s at. let was = subst d.honest gives.disk honest in (gives.committed was s at, gives.undeclared was s at))
     (ap (λ (r : RootValue). r.number) (sym root) ∙ sym c.number.ensures ∙ c.if-number.true)
     (not_empty (stale_in (root_of old)) c.in-Some.corner (subst (λ (es : List EntryValue). Contains (stale_among es) c.in-Some.corner) entries c.in-Some.ensures))
@@ -52,7 +52,7 @@ returns-clause-stepped g c works =
     let gives = c.abandon.ensures in
     let nothing : CommitsNothing {T = Unit {0}} d old old (Ok tt) = in_memory d old old (Ok tt) g.met.D.Disk.only_now refl refl works (λ s at. at) (λ refused. never_refused tt Device refused) in
     let done : CommitsNothing {T = Unit {0}} d old mid (Ok tt) = given_up d old old mid (Ok tt) nothing gives.disk gives.root gives.failed gives.at in
-    stepped_after d g.met.D.Disk.seen_may old mid c.keep.new.tree tt done (ap d.writes gives.disk) c.keep.result c.keep.ensures.stepped
+    stepped_after d (λ m. Unit {0}) g.met.D.Disk.seen_may old mid c.keep.new.tree tt done (ap d.writes gives.disk) c.keep.result c.keep.ensures.stepped
 
 pub returns-in_default-clause-clean : goal.returns-in_default-clause-clean
 returns-in_default-clause-clean g c works = record { none_staged = c.abandon.ensures.none_staged; none_due = c.abandon.ensures.none_due; corners = c.abandon.ensures.corners }

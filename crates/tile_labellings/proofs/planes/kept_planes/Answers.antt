@@ -9,13 +9,13 @@ pub returns-clause-kept : goal.returns-clause-kept
 returns-clause-kept g c honest =
     let made = c.in_ok-flooded.ensures in
     let m = g.S.Samples.mosaic c.args.samples.now in
-    let flooded = c.labelled-labelled.ensures.flooded m c.args.corner made.current (subst (λ (xs : List ℕ). IsBlockBut m c.args.corner xs c.in_ok-flooded.flooded.block) (sym made.current) (made.block honest)) in
-    let levels = c.in_ok-levels.ensures.levels ∙ (c.levels.ensures.value ∙ ap (λ (l : LabelledGround). l.levels) c.labelled-labelled.ensures.value) in
-    let labels = c.in_ok-labels.ensures.labels ∙ (c.labels.ensures.value ∙ ap (λ (l : LabelledGround). l.labels) c.labelled-labelled.ensures.value) in
+    let flooded = c.labelled.ensures.flooded m c.args.corner made.current (subst (λ (xs : List ℕ). IsBlockBut m c.args.corner xs c.in_ok-flooded.flooded.block) (sym made.current) (made.block honest)) in
+    let levels = c.in_ok-planes.ensures.levels ∙ ap (λ (l : LabelledGround). l.levels) c.labelled.ensures.value in
+    let labels = c.in_ok-planes.ensures.labels ∙ ap (λ (l : LabelledGround). l.labels) c.labelled.ensures.value in
     record {
       block = flooded.valid.0;
       ground = flooded.valid.1.0;
       labelling =
-          subst (λ (ls : List ℤ). IsLabelling flooded.valid.0 ls (labels_in c.in_ok-labels.labels.items)) (sym levels)
+          subst (λ (ls : List ℤ). IsLabelling flooded.valid.0 ls (labels_in c.in_ok-planes.planes.labels.items)) (sym levels)
           (subst (λ (ks : List ℕ). IsLabelling flooded.valid.0 c.in_ok-flooded.flooded.labelled.levels ks) (sym labels) flooded.valid.1.1);
     }
