@@ -5,6 +5,7 @@ use Rattle.std.specs.List.{cons_option}
 use Rattle.std.proofs.Math.Seq.{split_at}
 use Rattle.std.proofs.lemmas.List.Elements.{Contains-append_right, filter_map-append}
 use Rattle.std.proofs.lemmas.Bool.{false≢true, cases_lt}
+use Rattle.std.proofs.lemmas.Option.{same_Some}
 use Rattle.lattice.specs.Corners.{Corner, same_corner}
 use Rattle.lattice.proofs.CornerOrder.{before_not_same, after_not_same, same_from}
 use Rattle.lattice.proofs.Rising.{Rising}
@@ -21,12 +22,6 @@ use Rattle.page_map.specs.PageMaps.{IsLocated}
 use Rattle.page_map.specs.TileEntries.{named_plane, staged_tile, staged_tiles, tile_of, AreTogether, IsRoomAt, IsSound}
 use Rattle.page_map.proofs.EntryLists.{corner_of, rising_after, rising_before, staged_all}
 use Rattle.page_map.proofs.EntryChanges.{AllOther, other_before, other_after, staged_corner, staged_split}
-
--- one of three planes
-abbrev named : Plane → Option PlaneLocation → Option PlaneLocation → Option PlaneLocation → Option PlaneLocation
-named Heights h l m = h
-named Levels h l m = l
-named Labels h l m = m
 
 -- ---- a entry in its list
 pub split_of : (entries : List TileEntry) (at : ℕ) (s : TileEntry) → at < length entries → s ≡ get_or entries at s → entries ≡ take at entries ++ s ∷ drop (suc at) entries
@@ -96,18 +91,14 @@ room_other c at entries room =
     ])
 
 -- ---- where a plane lies
+of_kept : (f : KeptLocations → PlaneLocation) (o : Option KeptLocations) (location : PlaneLocation) → Some location ≡ option_map f o → (k : KeptLocations) × ((o ≡ Some k) × (f k ≡ location))
+of_kept f None location is = cc
+of_kept f (Some k) location is = (k, (refl, sym (same_Some location (f k) is)))
+
 pub lies_there : (plane : Plane) (t : TileLocation) (location : PlaneLocation) → Some location ≡ plane_of plane t → LiesAt plane t location
-lies_there Heights t location is = (let same : location ≡ t.heights = cc in sym same)
-lies_there Levels t location is = by t.kept refl is
-  where
-    by : (o : Option KeptLocations) → t.kept ≡ o → Some location ≡ option_map (λ (k : KeptLocations). k.levels) o → LiesAt Levels t location
-    by None kept is = cc
-    by (Some k) kept is = (k, (kept, (let same : location ≡ k.levels = cc in sym same)))
-lies_there Labels t location is = by t.kept refl is
-  where
-    by : (o : Option KeptLocations) → t.kept ≡ o → Some location ≡ option_map (λ (k : KeptLocations). k.labels) o → LiesAt Labels t location
-    by None kept is = cc
-    by (Some k) kept is = (k, (kept, (let same : location ≡ k.labels = cc in sym same)))
+lies_there Heights t location is = sym (same_Some location t.heights is)
+lies_there Levels t location is = of_kept (λ k. k.levels) t.kept location is
+lies_there Labels t location is = of_kept (λ k. k.labels) t.kept location is
 
 pub lies : (plane : Plane) (t : TileLocation) (location : PlaneLocation) → LiesAt plane t location → plane_of plane t ≡ Some location
 lies Heights t location at = ap Some at
@@ -115,29 +106,24 @@ lies Levels t location (k, (some, at)) = ap (option_map (λ (l : KeptLocations).
 lies Labels t location (k, (some, at)) = ap (option_map (λ (l : KeptLocations). l.labels)) some ∙ ap Some at
 
 -- a plane of an entry is one of its staged tile
-plane_in : (plane : Plane) (c : Corner) (h l m : Option PlaneLocation) → AreTogether h l m → option_and_then (plane_of plane) (tile_of c h l m) ≡ named plane h l m
-plane_in Heights c None None None together = refl
-plane_in Levels c None None None together = refl
-plane_in Labels c None None None together = refl
-plane_in plane c None None (Some m) together = absurd together
-plane_in plane c None (Some l) None together = absurd together
-plane_in plane c None (Some l) (Some m) together = absurd together
-plane_in Heights c (Some h) None None together = refl
-plane_in Levels c (Some h) None None together = refl
-plane_in Labels c (Some h) None None together = refl
-plane_in plane c (Some h) None (Some m) together = absurd together
-plane_in plane c (Some h) (Some l) None together = absurd together
-plane_in Heights c (Some h) (Some l) (Some m) together = refl
-plane_in Levels c (Some h) (Some l) (Some m) together = refl
-plane_in Labels c (Some h) (Some l) (Some m) together = refl
+heights_in : (c : Corner) (h l m : Option PlaneLocation) → option_and_then (plane_of Heights) (tile_of c h l m) ≡ h
+heights_in c None l m = refl
+heights_in c (Some h) l m = refl
+
+kept_in : (c : Corner) (h l m : Option PlaneLocation) → AreTogether h l m → (option_and_then (plane_of Levels) (tile_of c h l m) ≡ l) × (option_and_then (plane_of Labels) (tile_of c h l m) ≡ m)
+kept_in c None None None together = (refl, refl)
+kept_in c None None (Some m) together = absurd together
+kept_in c None (Some l) None together = absurd together
+kept_in c None (Some l) (Some m) together = absurd together
+kept_in c (Some h) None None together = (refl, refl)
+kept_in c (Some h) None (Some m) together = absurd together
+kept_in c (Some h) (Some l) None together = absurd together
+kept_in c (Some h) (Some l) (Some m) together = (refl, refl)
 
 pub plane_staged : (format : Format) (plane : Plane) (s : TileEntry) → IsSound format s → option_and_then (plane_of plane) (staged_tile s) ≡ staged_plane (named_plane plane s)
-plane_staged format plane s sound = plane_in plane s.corner (staged_plane s.heights) (staged_plane s.levels) (staged_plane s.labels) sound.staged ∙ by plane
-  where
-    by : (q : Plane) → named q (staged_plane s.heights) (staged_plane s.levels) (staged_plane s.labels) ≡ staged_plane (named_plane q s)
-    by Heights = refl
-    by Levels = refl
-    by Labels = refl
+plane_staged format Heights s sound = heights_in s.corner (staged_plane s.heights) (staged_plane s.levels) (staged_plane s.labels)
+plane_staged format Levels s sound = (kept_in s.corner (staged_plane s.heights) (staged_plane s.levels) (staged_plane s.labels) sound.staged).0
+plane_staged format Labels s sound = (kept_in s.corner (staged_plane s.heights) (staged_plane s.levels) (staged_plane s.labels) sound.staged).1
 
 -- a plane is found where the corner has one, and heights where it has a tile
 pub held_plane : (c : Corner) (plane : Plane) (tiles : List TileLocation) (r : Option (Bor PlaneLocation)) → IfSome r (λ location. HasPlaneAt tiles c plane location.now) → IfNone r (¬ HasPlane tiles c plane) → IsSome r ↔ HasPlane tiles c plane
