@@ -10,7 +10,8 @@ use Rattle.lattice.specs.Mosaic.{void}
 use Rattle.border_graph.specs.declared.waiting.Link.{Link}
 use Rattle.border_graph.specs.declared.summary.RimPoint.{RimPoint}
 use Rattle.border_graph.specs.Summaries.{Summary}
-use Rattle.border_graph.specs.Joining.{Node, Outlet, Rim, IsThere, IsThereAt, IsLink, IsOutletLink, IsLabelLink, IsSpillLink, rim_point, summary_at}
+use Rattle.border_graph.specs.Joining.{Node, Outlet, Rim, IsThere, IsLink, IsOutletLink, IsLabelLink, IsSpillLink, rim_point, summary_at}
+use Rattle.border_graph.specs.RimLookup.{IsThereAt}
 use Rattle.border_graph.specs.Rising.{IsListed, AreLinks}
 use Rattle.border_graph.specs.Linking.{node_number, AreListedStill, IsAddedTo, AreSoFar, AreLabelsListed, IsSpillListed, AreSpillsListed}
 

@@ -12,7 +12,8 @@ use Rattle.lattice.proofs.Samples.{index_below, index_unique, index_of_point, he
 use Rattle.border_graph.specs.declared.waiting.Link.{Link}
 use Rattle.border_graph.specs.declared.summary.RimPoint.{RimPoint}
 use Rattle.border_graph.specs.Summaries.{Summary}
-use Rattle.border_graph.specs.Joining.{Rim, summary_at, IsThere, IsThereAt, IsRimNumberOf, IsSharedLink, rim_point}
+use Rattle.border_graph.specs.Joining.{Rim, summary_at, IsThere, IsRimNumberOf, IsSharedLink, rim_point}
+use Rattle.border_graph.specs.RimLookup.{IsThereAt}
 use Rattle.border_graph.specs.Rising.{IsListed}
 use Rattle.border_graph.specs.Linking.{node_number, AreSoFar, AreListedStill, IsAddedTo}
 use Rattle.border_graph.specs.Sharing.{AreInOrder, IsOfRim, IsSharedListed, AreSharedListed}

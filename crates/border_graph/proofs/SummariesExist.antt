@@ -7,7 +7,8 @@ use Rattle.lattice.specs.Terrain.{IsFilledLevel, end_of}
 use Rattle.lattice.specs.Mosaic.{Mosaic, IsMosaic, void}
 use Rattle.lattice.specs.Height.{height_of}
 use Rattle.lattice.specs.Ground.{is_outlet, metres}
-use Rattle.lattice.specs.Block.{IsBlockOf, block_terrain, is_solid, is_rim, rim_number, is_exit, is_inner_outlet, sinks_in}
+use Rattle.lattice.specs.Block.{IsBlockOf, block_terrain, is_solid, is_rim, rim_number, is_exit, is_inner_outlet}
+use Rattle.lattice.specs.SinkIndices.{sinks_in}
 use Rattle.lattice.specs.RimPoints.{rim_index}
 use Rattle.lattice.proofs.Existence.{level_exists}
 use Rattle.lattice.proofs.Lawful.{block_is_lawful}

@@ -74,11 +74,6 @@ module _ (n : ℕ) (summaries : List Summary) where
     pub number : k < 4 * (n - 1)
     pub solid : (rim_point (summary_at summaries t) k).height ≢ void
 
-  -- and what the summary says of it
-  pub record IsThereAt (t k : ℕ) (point : RimPoint) : Type 0 where
-    pub there : IsThere t k
-    pub is : rim_point (summary_at summaries t) k ≡ point
-
   -- to what its label names, at its height
   pub record IsLabelLink (t k label : ℕ) (level : ℤ) : Type 0 where
     pub names : (rim_point (summary_at summaries t) k).label ≡ label

@@ -1,6 +1,7 @@
 pub mod Summaries
 pub mod Links
 pub mod Joining
+pub mod RimLookup
 pub mod Joins
 pub mod Waiting
 pub mod Rising

@@ -1,7 +1,8 @@
 //! The links between the rim points of all tiles.
 ghost use Rattle.std.specs.Prelude.{◌≡◌, Contains, ◌+◌, ◌*◌, ◌-◌, ◌<◌, ℕ, [], IfSome, IfNone, IfOk, IfErr, OnOk, length, map, vec_len, slice_index_or};
 ghost use Rattle.lattice.specs.Limits.{IsSide};
-ghost use Rattle.border_graph.specs.Joining.{IsThere, IsThereAt, Rim, summary_at};
+ghost use Rattle.border_graph.specs.Joining.{IsThere, Rim, summary_at};
+ghost use Rattle.border_graph.specs.RimLookup.{IsThereAt};
 ghost use Rattle.lattice.specs.declared.refusal.Refusal.TheVariants.{NoMemory};
 ghost use Rattle.border_graph.specs.Sharing.{AreInOrder, IsPointListed, IsTileListed};
 ghost use Rattle.border_graph.specs.Linking.{AreLinked, IsAddedTo, AreAddedBetween, AreSoFar, AreSpillsListed, IsSpillListed, AreListedStill, AreOutletsListed, AreLabelsListed, node_number};

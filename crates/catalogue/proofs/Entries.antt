@@ -13,7 +13,8 @@ use Rattle.std.proofs.lemmas.Bool.{or_parts, false≢true, cond-false}
 use Rattle.lattice.specs.Corners.{Corner, is_corner, is_before, same_corner}
 use Rattle.lattice.specs.Mosaic.{Tile, Mosaic, IsSample, IsTile, IsMosaic, is_present, samples_among, samples_of}
 use Rattle.catalogue.specs.Entries.{tiles_in}
-use Rattle.catalogue.specs.Tiles.{with_tile, added, without, with_sample_in, with_sample}
+use Rattle.catalogue.specs.Tiles.{with_tile, added, without}
+use Rattle.catalogue.specs.Tables.{with_sample_in, with_sample}
 use Rattle.catalogue.proofs.Mosaics.{corner_of, rising_tiles, mosaic-added, mosaic-without, mosaic-with_sample}
 use Rattle.lattice.specs.declared.point.Point.{Point}
 use Rattle.lattice.proofs.CornerOrder.{corner_cmp, ranked_corners, same_says, same_from, before_not_same, after_not_same, before_not_back}

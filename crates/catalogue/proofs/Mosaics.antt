@@ -7,7 +7,8 @@ use Rattle.std.proofs.lemmas.List.Elements.{All-nil, All-cons, All-head, All-tai
 use Rattle.std.proofs.lemmas.Bool.{or_parts}
 use Rattle.lattice.specs.Corners.{Corner, is_before, same_corner}
 use Rattle.lattice.specs.Mosaic.{Tile, Mosaic, IsSample, IsTile, IsMosaic, AreSinks, is_present}
-use Rattle.catalogue.specs.Tiles.{with_tile, added, without, with_sample_in, with_sample, with_sinks}
+use Rattle.catalogue.specs.Tiles.{with_tile, added, without, with_sinks}
+use Rattle.catalogue.specs.Tables.{with_sample_in, with_sample}
 use Rattle.lattice.specs.declared.point.Point.{Point}
 use Rattle.lattice.proofs.CornerOrder.{after_from, same_comm}
 use Rattle.lattice.proofs.Rising.{AllAfter, Rising, rising_from, adjacent_from, rising-filter, after_later}

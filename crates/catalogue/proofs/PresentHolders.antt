@@ -10,7 +10,7 @@ use Rattle.lattice.specs.Mosaic.{Tile, Mosaic, IsMosaic, is_present}
 use Rattle.lattice.specs.declared.point.Point.{Point}
 use Rattle.lattice.proofs.Samples.{holds_is}
 use Rattle.catalogue.specs.Tiles.{corners_of, is_listed}
-use Rattle.catalogue.specs.Seams.{is_first, present_holders}
+use Rattle.catalogue.specs.SeamCounting.{is_first, present_holders}
 use Rattle.lattice.proofs.CornerOrder.{same_says, same_from, before_not_back}
 use Rattle.lattice.proofs.Rising.{AllAfter, Rising, Adjacent, rising_from, rising-filter}
 use Rattle.catalogue.proofs.Mosaics.{corner_of}

@@ -9,7 +9,8 @@ use Rattle.std.proofs.lemmas.List.Elements.{All-head, All-tail}
 use Rattle.std.proofs.lemmas.Bool.{and_parts, false_from_ne_true}
 use Rattle.lattice.specs.Corners.{Corner, is_corner, is_before, same_corner}
 use Rattle.lattice.proofs.IntTests.{le_true}
-use Rattle.catalogue.specs.Tiles.{corners_before, is_listed}
+use Rattle.catalogue.specs.Tiles.{is_listed}
+use Rattle.catalogue.specs.SeamCounting.{corners_before}
 use Rattle.lattice.proofs.CornerOrder.{Below, before_says, before_from, same_says, before_not_back, after_from, before_apart}
 use Rattle.lattice.proofs.Rising.{AllAfter, Rising, after_later}
 use Rattle.catalogue.proofs.Holders.{itself, not_listed}

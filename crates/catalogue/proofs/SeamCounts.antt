@@ -18,8 +18,10 @@ use Rattle.lattice.specs.declared.refusal.Refusal.{Refusal}
 use Rattle.lattice.proofs.RimNumbers.{rim_index_is, rim_index_of_number, number_below}
 use Rattle.lattice.proofs.SamePoints.{same_point_says, same_point_from}
 use Rattle.lattice.proofs.Samples.{holds_is, index_of_point_is, point_of_held, point_of_index, index_of_below, index_of_held}
-use Rattle.catalogue.specs.Tiles.{corners_of, corners_before, is_listed}
-use Rattle.catalogue.specs.Seams.{IsSeamCount, is_first, present_holders, is_own_seam, own_seams_below, seams_of, seams_before}
+use Rattle.catalogue.specs.Tiles.{corners_of, is_listed}
+use Rattle.catalogue.specs.SeamCounting.{corners_before}
+use Rattle.catalogue.specs.Seams.{IsSeamCount}
+use Rattle.catalogue.specs.SeamCounting.{is_first, present_holders, is_own_seam, own_seams_below, seams_of, seams_before}
 use Rattle.lattice.proofs.CornerOrder.{same_says, same_from, same_comm}
 use Rattle.lattice.proofs.Rising.{AllAfter, Rising}
 use Rattle.catalogue.proofs.InnerPoints.{inner_agrees}

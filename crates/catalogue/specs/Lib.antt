@@ -5,6 +5,8 @@ pub mod Entries
 pub mod Locality
 pub mod Readers
 pub mod Reading
+pub mod SeamCounting
 pub mod SeamRule
 pub mod Seams
+pub mod Tables
 pub mod Tiles

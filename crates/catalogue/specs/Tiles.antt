@@ -1,17 +1,13 @@
 -- The tiles of a mosaic in their order, and what becomes of them (this product's own profile).
-use Rattle.std.specs.Prelude.{ℕ, ℤ, Bool, not, IsTrue, if◌then◌else◌, List, [], ◌∷◌, All, map, filter, slice_set}
+use Rattle.std.specs.Prelude.{Bool, not, if◌then◌else◌, List, [], ◌∷◌, map, filter}
 use Rattle.std.specs.List.{list_any}
-use Rattle.lattice.specs.Corners.{Corner, is_corner, is_before, same_corner}
+use Rattle.lattice.specs.Corners.{Corner, is_before, same_corner}
 use Rattle.lattice.specs.Mosaic.{Tile, Mosaic}
 use Rattle.lattice.specs.declared.point.Point.{Point}
 
 -- the corners of the present tiles, in order
 abbrev pub corners_of : Mosaic → List Corner
 corners_of m = map (λ t. t.corner) m.tiles
-
--- whole degrees at which tiles can lie
-abbrev pub AreCorners : List Corner → Type 0
-AreCorners corners = All (λ c. IsTrue (is_corner c)) corners
 
 -- the corner is in the list
 abbrev pub is_listed : Corner → List Corner → Bool
@@ -30,18 +26,6 @@ added t m = record m { tiles = with_tile t m.tiles }
 abbrev pub without : Corner → Mosaic → Mosaic
 without c m = record m { tiles = filter (λ t. not (same_corner t.corner c)) m.tiles }
 
--- the tile with this sample at the index, if it is the corner's
-abbrev pub with_sample_in : Corner → ℕ → ℤ → Tile → Tile
-with_sample_in c i s t = if same_corner t.corner c then record t { samples = slice_set t.samples i s } else t
-
--- the mosaic with this sample at the index of the corner's tile
-abbrev pub with_sample : Corner → ℕ → ℤ → Mosaic → Mosaic
-with_sample c i s m = record m { tiles = map (with_sample_in c i s) m.tiles }
-
 -- the mosaic with these sinks and no others
 abbrev pub with_sinks : List Point → Mosaic → Mosaic
 with_sinks sinks m = record m { sinks = sinks }
-
--- those of the corners that stand before this latitude and longitude
-abbrev pub corners_before : ℤ → ℤ → List Corner → List Corner
-corners_before lat lon corners = filter (λ c. is_before c (record { lat = lat; lon = lon })) corners

@@ -4,7 +4,8 @@ ghost use Rattle.std.specs.List.{AllAdjacentBelow};
 ghost use Rattle.lattice.specs.Corners.{is_corner};
 ghost use Rattle.lattice.specs.Lattice.{IsBefore};
 ghost use Rattle.lattice.specs.declared.refusal.Refusal.TheVariants.{NoMemory};
-ghost use Rattle.catalogue.specs.Tiles.{corners_of, is_listed, AreCorners};
+ghost use Rattle.catalogue.specs.Tiles.{corners_of, is_listed};
+ghost use Rattle.catalogue.specs.Tables.{AreCorners};
 
 use crate::Samples;
 use lattice::{Corner, Refusal};

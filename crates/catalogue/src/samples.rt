@@ -7,7 +7,8 @@ ghost use Rattle.lattice.specs.Mosaic.{Mosaic, IsMosaic, AreSinks};
 ghost use Rattle.lattice.specs.declared.point.Point.{Point};
 ghost use Rattle.lattice.specs.declared.refusal.Refusal.TheVariants.{Device, NoMemory};
 ghost use Rattle.catalogue.specs.Reading.{IsSampleOf, AreSamplesOf, MayRefuse};
-ghost use Rattle.catalogue.specs.Tiles.{corners_of, AreCorners};
+ghost use Rattle.catalogue.specs.Tiles.{corners_of};
+ghost use Rattle.catalogue.specs.Tables.{AreCorners};
 
 use lattice::{Corner, Point, Refusal, Side};
 

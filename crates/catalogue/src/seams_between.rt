@@ -3,7 +3,8 @@ ghost use Rattle.std.specs.Prelude.{◌≡◌, ◌+◌, ◌*◌, ◌<◌, ◌≤
 ghost use Rattle.lattice.specs.Lattice.{point_of};
 ghost use Rattle.lattice.specs.Height.{disagrees as differing};
 ghost use Rattle.catalogue.specs.Readers.{OnlyReads};
-ghost use Rattle.catalogue.specs.Seams.{IsSeamCount, is_first, present_holders, is_own_seam as own_seam, seams_of, seams_before};
+ghost use Rattle.catalogue.specs.Seams.{IsSeamCount};
+ghost use Rattle.catalogue.specs.SeamCounting.{is_first, present_holders, is_own_seam as own_seam, seams_of, seams_before};
 
 use crate::Samples;
 use crate::listing::present_at;

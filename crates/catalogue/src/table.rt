@@ -32,7 +32,8 @@ impl Model for Table {
 impl Table {
     ghost use Rattle.lattice.specs.Mosaic.{Mosaic, IsMosaic, AreSinks, is_present, samples_of, empty_mosaic};
     ghost use Rattle.lattice.specs.declared.refusal.Refusal.TheVariants.{NoMemory};
-    ghost use Rattle.catalogue.specs.Tiles.{added, without, with_sample, with_sinks, corners_of};
+    ghost use Rattle.catalogue.specs.Tiles.{added, without, with_sinks, corners_of};
+    ghost use Rattle.catalogue.specs.Tables.{with_sample};
 
     /// A table of no tiles, of which each will have this side.
     pub fn new(alloc: Global, side: Side) -> Table
@@ -122,7 +123,8 @@ impl Samples for Table {
     ghost use Rattle.std.specs.List.{AllAdjacentBelow};
     ghost use Rattle.lattice.specs.Lattice.{IsBefore};
     ghost use Rattle.lattice.specs.Mosaic.{IsMosaic, is_present};
-    ghost use Rattle.catalogue.specs.Tiles.{corners_of, AreCorners};
+    ghost use Rattle.catalogue.specs.Tiles.{corners_of};
+    ghost use Rattle.catalogue.specs.Tables.{AreCorners};
 
     ghost side_of = { λ table. table.side };
 

@@ -12,7 +12,8 @@ use Rattle.page_codec.specs.Formats.{Format}
 use Rattle.page_codec.specs.Records.{record_bytes}
 use Rattle.page_codec.specs.Roots.{RootValue, format_of}
 use Rattle.page_codec.specs.Sizes.{sectors_asked}
-use Rattle.roots.specs.Slots.{KeepsAll, HasMoved}
+use Rattle.roots.specs.Slots.{KeepsAll}
+use Rattle.roots.specs.Found.{HasMoved}
 use Rattle.page_map.proofs.Times.{all_numbers}
 use Rattle.page_map.specs.declared.locations.KeptLocations.{KeptLocations}
 use Rattle.page_map.specs.TileLocations.{TileLocation, pages_of_kept, pages_of_tile, reached, KeepsPageRule}

@@ -5,7 +5,8 @@ use Rattle.std.proofs.lemmas.Bool.{and_left}
 use Rattle.lattice.specs.declared.point.Point.{Point}
 use Rattle.lattice.specs.Ground.{same_point}
 use Rattle.lattice.specs.Mosaic.{Mosaic, IsMosaic, void}
-use Rattle.catalogue.specs.Tiles.{AreCorners, corners_of}
+use Rattle.catalogue.specs.Tiles.{corners_of}
+use Rattle.catalogue.specs.Tables.{AreCorners}
 use Rattle.catalogue.proofs.OneTile.{corners_are}
 use Rattle.edits.specs.declared.edit.NewHeight.{NewHeight}
 use Rattle.edits.specs.Edits.{AreEarlier, with_height, with_heights}

@@ -14,7 +14,8 @@ use Rattle.lattice.specs.Height.{by_seam_rule, first_height, height_of, sample_a
 use Rattle.lattice.specs.Lattice.{holds, index_of, point_of}
 use Rattle.lattice.specs.Mosaic.{Tile, Mosaic, void, is_void}
 use Rattle.lattice.proofs.Samples.{holds_is, point_of_index}
-use Rattle.catalogue.specs.Tiles.{AreCorners, corners_of}
+use Rattle.catalogue.specs.Tiles.{corners_of}
+use Rattle.catalogue.specs.Tables.{AreCorners}
 use Rattle.edits.specs.Edits.{with_height}
 use Rattle.edits.specs.Effect.{changed_from}
 

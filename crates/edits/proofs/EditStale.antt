@@ -11,7 +11,8 @@ use Rattle.lattice.specs.Lattice.{Holds, holds}
 use Rattle.lattice.specs.Mosaic.{Tile, Mosaic}
 use Rattle.lattice.proofs.CornerOrder.{same_says, same_from}
 use Rattle.lattice.proofs.Samples.{holds_is}
-use Rattle.catalogue.specs.Tiles.{AreCorners, corners_of, is_listed}
+use Rattle.catalogue.specs.Tiles.{corners_of, is_listed}
+use Rattle.catalogue.specs.Tables.{AreCorners}
 use Rattle.edits.specs.declared.edit.NewHeight.{NewHeight}
 use Rattle.edits.specs.Edits.{AreVoidTiles, holds_any, points_of}
 use Rattle.edits.specs.Effect.{has_void_from}

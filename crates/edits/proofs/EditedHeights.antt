@@ -8,7 +8,8 @@ use Rattle.lattice.specs.Height.{by_seam_rule, height_of, sample_at}
 use Rattle.lattice.specs.Lattice.{holds, index_of, point_of}
 use Rattle.lattice.specs.Mosaic.{Tile, Mosaic, void}
 use Rattle.lattice.proofs.Samples.{holds_is, point_of_index}
-use Rattle.catalogue.specs.Tiles.{AreCorners, corners_of}
+use Rattle.catalogue.specs.Tiles.{corners_of}
+use Rattle.catalogue.specs.Tables.{AreCorners}
 use Rattle.edits.specs.Effect.{changed_from, edited}
 
 changed_same : (g : ℕ → ℤ → ℤ) (e : ℕ) (l : List ℤ) (k : ℕ) (d : ℤ) → ((s : ℤ) → g (e + k) s ≡ s) → get_or (changed_from g e l) k d ≡ get_or l k d

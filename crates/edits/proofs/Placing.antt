@@ -10,7 +10,8 @@ use Rattle.lattice.specs.declared.point.Point.{Point}
 use Rattle.lattice.specs.Ground.{same_point}
 use Rattle.lattice.specs.Lattice.{point_of}
 use Rattle.lattice.specs.Mosaic.{Tile, Mosaic, IsMosaic, IsTile}
-use Rattle.catalogue.specs.Tiles.{corners_of, with_sample, with_sample_in}
+use Rattle.catalogue.specs.Tiles.{corners_of}
+use Rattle.catalogue.specs.Tables.{with_sample, with_sample_in}
 use Rattle.lattice.proofs.CornerOrder.{same_says, same_from}
 use Rattle.edits.specs.declared.places.Place.{Place}
 use Rattle.edits.specs.Boxes.{filled}

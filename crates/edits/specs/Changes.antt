@@ -4,7 +4,8 @@ use Rattle.lattice.specs.Corners.{Corner, same_corner}
 use Rattle.lattice.specs.Lattice.{point_of}
 use Rattle.lattice.specs.declared.point.Point.{Point}
 use Rattle.lattice.specs.Mosaic.{Mosaic, IsMosaic, AreSinks}
-use Rattle.catalogue.specs.Tiles.{added, corners_of, without, with_sample, with_sinks}
+use Rattle.catalogue.specs.Tiles.{added, corners_of, without, with_sinks}
+use Rattle.catalogue.specs.Tables.{with_sample}
 use Rattle.edits.specs.declared.change.Change.{Change}
 use Rattle.edits.specs.declared.change.Change.TheVariants.{Add, Drop, Set, Sink, Unsink}
 use Rattle.edits.specs.Effect.{edited}

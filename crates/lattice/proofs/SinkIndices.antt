@@ -7,7 +7,8 @@ use Rattle.lattice.specs.declared.point.Point.{Point}
 use Rattle.lattice.specs.Lattice.{holds, index_of, point_of}
 use Rattle.lattice.specs.Mosaic.{Mosaic, IsMosaic}
 use Rattle.lattice.specs.Ground.{same_point}
-use Rattle.lattice.specs.Block.{AreHeightsOf, IsBlockOf, sinks_in}
+use Rattle.lattice.specs.Block.{AreHeightsOf, IsBlockOf}
+use Rattle.lattice.specs.SinkIndices.{sinks_in}
 use Rattle.lattice.proofs.SamePoints.{same_point_says, same_point_from}
 use Rattle.lattice.proofs.Samples.{holds_is, point_of_held, point_of_index, index_of_point_is}
 

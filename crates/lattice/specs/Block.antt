@@ -1,10 +1,9 @@
 -- A block: the n by n points of one tile with their heights by the seam rule and the sinks among them, as a terrain of
 -- its own, and the numbers of its rim points (this product's own profile, after the tiled flooding of Barnes 2016).
-use Rattle.std.specs.Prelude.{◌≡◌, ℕ, ◌+◌, ◌-◌, ◌*◌, ◌/◌, ◌%◌, ◌<◌, ℤ, Bool, ◌&&◌, ◌||◌, not, if◌then◌else◌, nat_lt, nat_le, nat_eq, List, [], ◌∷◌, length, map, filter, slice_index_or}
+use Rattle.std.specs.Prelude.{◌≡◌, ℕ, ◌+◌, ◌-◌, ◌*◌, ◌/◌, ◌%◌, ◌<◌, ℤ, Bool, ◌&&◌, ◌||◌, not, if◌then◌else◌, nat_lt, nat_le, nat_eq, List, [], ◌∷◌, length, slice_index_or}
 use Rattle.std.specs.List.{list_all, list_any}
 use Rattle.lattice.specs.Corners.{Corner}
-use Rattle.lattice.specs.Lattice.{point_of, index_of, holds}
-use Rattle.lattice.specs.declared.point.Point.{Point}
+use Rattle.lattice.specs.Lattice.{point_of}
 use Rattle.lattice.specs.Terrain.{Terrain}
 use Rattle.lattice.specs.Mosaic.{Mosaic, void, is_void}
 use Rattle.lattice.specs.Height.{height_of}
@@ -68,7 +67,3 @@ pub record IsBlockOf (m : Mosaic) (c : Corner) (b : Block) : Type 0 where
   pub side : b.side ≡ m.side
   pub heights : AreHeightsOf m c b.heights
   pub sinks : (e : ℕ) → e < m.side * m.side → is_sink_at b e ≡ is_sink m (point_of m.side c e)
-
--- the indices of those of the points that the corner's tile holds
-abbrev pub sinks_in : ℕ → Corner → List Point → List ℕ
-sinks_in n c sinks = map (index_of n c) (filter (holds n c) sinks)

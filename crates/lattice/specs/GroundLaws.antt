@@ -5,7 +5,8 @@ use Rattle.lattice.specs.declared.point.Point.{Point}
 use Rattle.lattice.specs.Terrain.{IsFilledLevel, LeadsOut, IsLawful}
 use Rattle.lattice.specs.Mosaic.{Mosaic, IsMosaic}
 use Rattle.lattice.specs.Ground.{is_ground, terrain}
-use Rattle.lattice.specs.Block.{Block, AreHeightsOf, IsBlockOf, block_terrain, sinks_in}
+use Rattle.lattice.specs.Block.{Block, AreHeightsOf, IsBlockOf, block_terrain}
+use Rattle.lattice.specs.SinkIndices.{sinks_in}
 
 -- adjacent points are ground and adjacent both ways, and outlets are ground
 abbrev pub TerrainsAreLawful : Type 0

@@ -10,6 +10,7 @@ pub mod Mosaic
 pub mod Height
 pub mod Ground
 pub mod Block
+pub mod SinkIndices
 pub mod RimPoints
 pub mod Degrees
 pub mod LatticeLaws

@@ -1,7 +1,7 @@
 //! Which points can be sinks, and the sinks of a tile.
 ghost use Rattle.std.specs.Prelude.{◌≡◌, ◌≤◌, ◌↔◌, IsTrue, length};
 ghost use Rattle.lattice.specs.Limits.{most_sinks};
-ghost use Rattle.lattice.specs.Block.{sinks_in as indices_in};
+ghost use Rattle.lattice.specs.SinkIndices.{sinks_in as indices_in};
 ghost use Rattle.lattice.specs.Mosaic.{IsHeld};
 
 use crate::{Corner, MOST_SINKS, Point, Side, holders, index_in};

@@ -4,7 +4,8 @@ use Rattle.disk.specs.Disk.{Image}
 use Rattle.disk.specs.Stops.{LeavesOnly, in_turn, weaker}
 use Rattle.disk.specs.declared.disk.Disk.{Ghosts}
 use Rattle.page_codec.specs.Roots.{RootValue}
-use Rattle.roots.specs.Slots.{SamePages, KeepsAll, KeepsBut, HasMoved}
+use Rattle.roots.specs.Slots.{SamePages, KeepsAll, KeepsBut}
+use Rattle.roots.specs.Found.{HasMoved}
 
 module _ {D : Type 0} (g : Ghosts D) (old mid : D) (root : RootValue) (first : LeavesOnly g old mid (KeepsAll root (g.may old))) where
   all_again : (i : Image) → KeepsAll root (g.may mid) i → KeepsAll root (g.may old) i

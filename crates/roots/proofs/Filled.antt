@@ -7,7 +7,8 @@ use Rattle.page_codec.specs.Roots.{RootValue}
 use Rattle.roots.specs.declared.slot.Slot.{Slot}
 use Rattle.roots.specs.declared.slot.Slot.TheVariants.{A}
 use Rattle.roots.specs.Found.{Filling}
-use Rattle.roots.specs.Slots.{is_open, gate, root_sector, other, IsSpelledBy, IsAt, SamePages, KeepsAll, HasMoved}
+use Rattle.roots.specs.Slots.{is_open, gate, root_sector, other, IsSpelledBy, IsAt, SamePages, KeepsAll}
+use Rattle.roots.specs.Found.{HasMoved}
 use Rattle.roots.proofs.Begun.{then_committed}
 use Rattle.roots.proofs.Turns.{taken, beside_slot, gate_torn, root_torn, closed_not_open, turned, pages_root, pages_gate}
 

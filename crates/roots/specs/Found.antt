@@ -7,7 +7,7 @@ use Rattle.lattice.specs.declared.refusal.Refusal.{Refusal}
 use Rattle.page_codec.specs.Roots.{RootValue}
 use Rattle.page_codec.specs.declared.damaged.Damaged.{Damaged}
 use Rattle.roots.specs.Opening.{ReadsAs}
-use Rattle.roots.specs.Slots.{gate, root_sector, IsSpelledBy}
+use Rattle.roots.specs.Slots.{gate, root_sector, IsSpelledBy, IsCurrent, SamePages}
 use Rattle.roots.specs.declared.opening.Found.{Found}
 use Rattle.roots.specs.declared.slot.Slot.{Slot}
 use Rattle.roots.specs.declared.slot.Slot.TheVariants.{A, B}
@@ -44,3 +44,7 @@ abbrev pub Filling : Slot → RootValue → (Image → Type 0) → Image → Ima
 Filling slot root images seen image =
     TornAt (root_sector slot) images image
     ⊎ ((d : Image) × SameBut (root_sector slot) seen d × IsSpelledBy root (d (root_sector slot)) × SameBut (gate slot) d image)
+
+-- the image has this current root, and the pages of that image
+abbrev pub HasMoved : RootValue → Image → Image → Type 0
+HasMoved root pages image = IsCurrent root image × SamePages pages image

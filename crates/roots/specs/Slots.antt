@@ -75,7 +75,3 @@ KeepsAll root images image = IsCurrent root image × ((d : Image) × images d ×
 -- .. but for one page
 abbrev pub KeepsBut : ℕ → RootValue → (Image → Type 0) → Image → Type 0
 KeepsBut p root images image = IsCurrent root image × ((d : Image) × images d × SamePagesBut p d image)
-
--- the image has this current root, and the pages of that image
-abbrev pub HasMoved : RootValue → Image → Image → Type 0
-HasMoved root pages image = IsCurrent root image × SamePages pages image

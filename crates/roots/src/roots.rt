@@ -3,7 +3,8 @@ ghost use Rattle.std.specs.Prelude.{◌≡◌, ◌≤◌, ◌<◌, ◌+◌, ◌�
 ghost use Rattle.disk.specs.Disk.{SameBut, Only, counted, HasRisen};
 ghost use Rattle.disk.specs.Stops.{LeavesOnly, AddsNothing, HasCause};
 ghost use Rattle.lattice.specs.declared.refusal.Refusal.TheVariants.{Device};
-ghost use Rattle.roots.specs.Slots.{SamePages, SamePagesBut, KeepsAll, KeepsBut, HasMoved, IsCurrent};
+ghost use Rattle.roots.specs.Slots.{SamePages, SamePagesBut, KeepsAll, KeepsBut, IsCurrent};
+ghost use Rattle.roots.specs.Found.{HasMoved};
 ghost use Rattle.page_codec.specs.Roots.{RootValue};
 ghost use Rattle.roots.specs.Opening.{OpensAs, HoldsStore, IsRefusalOfOpening};
 

@@ -21,7 +21,8 @@ use Rattle.lattice.specs.Limits.{largest_side}
 use Rattle.lattice.proofs.Levels.{height-le_level, ≤ℤ_same}
 use Rattle.lattice.proofs.Lawful.{terrain_is_lawful, block_is_lawful}
 use Rattle.tile_flood.specs.Labelling.{IsLabelling, OUT, NO_LABEL}
-use Rattle.tile_flood.specs.Raising.{AreRimLevels, AreTileLevels, IsRimFilled, raised_level, AreRaised, AreRaisedBelow, CannotBeRaised}
+use Rattle.tile_flood.specs.Raising.{AreRimLevels, AreTileLevels, IsRimFilled, raised_level, AreRaised, CannotBeRaised}
+use Rattle.tile_flood.specs.RaisingLoop.{AreRaisedBelow}
 use Rattle.tile_flood.proofs.Parts.{level_of_part, level_at_outlet}
 use Rattle.tile_flood.proofs.InMosaic.{block_is_part, ground_is, inner_outlet_is_outlet}
 use Rattle.tile_flood.proofs.Passages.{not_void, solid_has_level}

@@ -3,6 +3,7 @@ pub mod Carried
 pub mod Spills
 pub mod Passing
 pub mod Raising
+pub mod RaisingLoop
 pub mod Waiting
 pub mod Blocks
 pub mod Flooding

@@ -47,11 +47,6 @@ module _ (n : ℕ) (levels : List ℤ) (labels : List ℕ) (rim : List ℤ) wher
     pub whole : length filled ≡ n * n
     pub each : (e : ℕ) → e < n * n → raised_level rim (slice_index_or levels e void) (slice_index labels e) ≡ Some (slice_index_or filled e void)
 
-  -- as far as k
-  pub record AreRaisedBelow (filled : List ℤ) (k : ℕ) : Type 0 where
-    pub whole : length filled ≡ k
-    pub each : (e : ℕ) → e < k → raised_level rim (slice_index_or levels e void) (slice_index labels e) ≡ Some (slice_index_or filled e void)
-
   -- the rim isn't one of a tile of this side, or some point can't be raised
   abbrev pub CannotBeRaised : Type 0
   CannotBeRaised = (length rim ≢ 4 * (n - 1)) ⊎ ((e : ℕ) × ((e < n * n) × (raised_level rim (slice_index_or levels e void) (slice_index labels e) ≡ None)))

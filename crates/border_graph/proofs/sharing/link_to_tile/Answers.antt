@@ -2,7 +2,8 @@ use Rattle.std.proofs.lemmas.Int.{to_z-of_z}
 use Rattle.std.proofs.lemmas.List.{length-map}
 use Rattle.std.proofs.Common.{rules, arith, ◌≡◌, ◌+◌, ◌*◌, ◌-◌, ◌<◌, ◌∙◌, map, length, ap, sym, subst, SFits, w16, of_z, to_z}
 use Rattle.lattice.specs.Block.{rim_number}
-use Rattle.border_graph.specs.Joining.{Rim, IsThere, IsThereAt}
+use Rattle.border_graph.specs.Joining.{Rim, IsThere}
+use Rattle.border_graph.specs.RimLookup.{IsThereAt}
 use Rattle.border_graph.specs.Linking.{IsAddedTo, node_number}
 use Rattle.border_graph.proofs.Building.{node_number_below}
 use Rattle.border_graph.proofs.Shared.{shared_held, one_tile_at, shared_so_far, shared_listed, none_shared}

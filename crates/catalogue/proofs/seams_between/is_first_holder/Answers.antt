@@ -5,7 +5,7 @@ use Rattle.catalogue.proofs.Presence.{present_iff}
 use Rattle.std.specs.Prelude.{Contains}
 use Rattle.lattice.specs.Corners.{Corner}
 use Rattle.lattice.specs.Lattice.{Holds}
-use Rattle.catalogue.specs.Seams.{is_first}
+use Rattle.catalogue.specs.SeamCounting.{is_first}
 use Rattle.lattice.proofs.Rising.{Adjacent}
 use Rattle.catalogue.proofs.Holders.{itself}
 use Rattle.catalogue.proofs.PresentHolders.{present_holders_are, first_step}

@@ -1,6 +1,7 @@
 use Rattle.std.proofs.Common.{◌≡◌, Err, ℤ, pos, negsuc, arith, ap, sym, ◌∙◌, subst}
 use Rattle.std.proofs.lemmas.Int.{ints}
-use Rattle.catalogue.specs.Seams.{IsSeamCount, seams_before}
+use Rattle.catalogue.specs.Seams.{IsSeamCount}
+use Rattle.catalogue.specs.SeamCounting.{seams_before}
 use Rattle.catalogue.proofs.Reading.{reads_nothing, reads_on}
 use Rattle.catalogue.proofs.SeamCounts.{seams_counted, seams-first, seams-last}
 use Rattle.std.proofs.lemmas.Result.{err_from_is_err_and}

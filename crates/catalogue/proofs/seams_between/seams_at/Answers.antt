@@ -3,8 +3,9 @@ use mir.Syntax.{w16}
 use mir.Val.{SFits, to_z, of_z}
 use Rattle.lattice.specs.Corners.{Corner}
 use Rattle.lattice.specs.Mosaic.{Mosaic, IsMosaic}
-use Rattle.catalogue.specs.Tiles.{corners_of, is_listed, AreCorners}
-use Rattle.catalogue.specs.Seams.{seams_before}
+use Rattle.catalogue.specs.Tiles.{corners_of, is_listed}
+use Rattle.catalogue.specs.Tables.{AreCorners}
+use Rattle.catalogue.specs.SeamCounting.{seams_before}
 use Rattle.catalogue.proofs.OneTile.{corners_are}
 use Rattle.catalogue.proofs.Rows.{corner_at, corner_at_is}
 use Rattle.catalogue.proofs.SeamCounts.{seams_ok, seams_none}

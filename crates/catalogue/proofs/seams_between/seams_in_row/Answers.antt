@@ -2,7 +2,7 @@ use Rattle.std.proofs.Common.{◌≡◌, Err, ◌+◌, ℤ, pos, negsuc, arith, 
 use Rattle.std.proofs.lemmas.Int.{ints, to_z-of_z}
 use mir.Syntax.{w16}
 use mir.Val.{to_z, of_z}
-use Rattle.catalogue.specs.Seams.{seams_before}
+use Rattle.catalogue.specs.SeamCounting.{seams_before}
 use Rattle.catalogue.proofs.SeamCounts.{seams-row}
 use Rattle.std.proofs.lemmas.Result.{err_from_is_err_and}
 use Rattle.lattice.specs.declared.refusal.Refusal.{Refusal}

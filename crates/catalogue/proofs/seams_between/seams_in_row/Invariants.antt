@@ -1,6 +1,6 @@
 use Rattle.std.proofs.Common.{◌≡◌, ℕ, ◌+◌, pos, negsuc, ◌+ℤ◌, ◌*ℤ◌, ◌≤ℤ◌, Ok}
 use Rattle.catalogue.specs.Readers.{OnlyReads}
-use Rattle.catalogue.specs.Seams.{seams_before}
+use Rattle.catalogue.specs.SeamCounting.{seams_before}
 use Rattle.catalogue.proofs.seams_between.seams_in_row.Given as goal
 
 abbrev pub invariant-loop-lon : goal.invariant-loop-lon

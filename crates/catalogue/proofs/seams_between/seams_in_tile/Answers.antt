@@ -3,7 +3,7 @@ use Rattle.lattice.specs.Lattice.{point_of}
 use Rattle.lattice.specs.Mosaic.{Mosaic}
 use Rattle.lattice.specs.RimPoints.{IsRimPoint, rim_index}
 use Rattle.lattice.proofs.RimNumbers.{one_index, rim_index_is}
-use Rattle.catalogue.specs.Seams.{is_own_seam}
+use Rattle.catalogue.specs.SeamCounting.{is_own_seam}
 use Rattle.catalogue.proofs.Reading.{reads_nothing, reads_on, reads_as}
 use Rattle.catalogue.proofs.SeamCounts.{tile_start, tile_step}
 use Rattle.catalogue.proofs.seams_between.seams_in_tile.Goals as goal

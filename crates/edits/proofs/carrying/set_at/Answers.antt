@@ -5,7 +5,8 @@ use Rattle.std.proofs.lemmas.List.{take_all}
 use mir.Syntax.{w16}
 use Rattle.lattice.specs.Corners.{Corner}
 use Rattle.lattice.specs.Mosaic.{Mosaic}
-use Rattle.catalogue.specs.Tiles.{corners_of, with_sample}
+use Rattle.catalogue.specs.Tiles.{corners_of}
+use Rattle.catalogue.specs.Tables.{with_sample}
 use Rattle.catalogue.proofs.Presence.{present_iff}
 use Rattle.edits.specs.declared.places.Place.{Place}
 use Rattle.edits.specs.Edits.{with_height}

@@ -1,7 +1,7 @@
 use Rattle.std.proofs.Common.{◌+◌, ◌++◌, ◌≤◌, ℕ, List, IsTrue, drop, refl, ap, ◌∙◌, subst, arith}
 use Rattle.std.proofs.lemmas.Bool.{false_from_ne_true, false≢true}
 use Rattle.arrayvec.specs.ArrayVec.{ArrayVec, array_vec_len}
-use Rattle.lattice.specs.Block.{sinks_in}
+use Rattle.lattice.specs.SinkIndices.{sinks_in}
 use Rattle.lattice.specs.Corners.{is_corner}
 use Rattle.lattice.proofs.Samples.{holds_is, index_is}
 use Rattle.lattice.proofs.SinkIndices.{index_found, none_found}

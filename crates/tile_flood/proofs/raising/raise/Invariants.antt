@@ -1,4 +1,4 @@
-use Rattle.tile_flood.specs.Raising.{AreRaisedBelow}
+use Rattle.tile_flood.specs.RaisingLoop.{AreRaisedBelow}
 use Rattle.tile_flood.proofs.raising.raise.Given as goal
 
 abbrev pub invariant-loop-e : goal.invariant-loop-e

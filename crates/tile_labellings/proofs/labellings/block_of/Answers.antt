@@ -1,7 +1,8 @@
 use Rattle.std.proofs.Common.{◌≡◌, ℕ, ap₂, sym, subst, ◌∙◌, List, Contains}
 use Rattle.lattice.specs.declared.point.Point.{Point}
 use Rattle.lattice.specs.Corners.{Corner}
-use Rattle.lattice.specs.Block.{IsBlockOf, sinks_in}
+use Rattle.lattice.specs.Block.{IsBlockOf}
+use Rattle.lattice.specs.SinkIndices.{sinks_in}
 use Rattle.lattice.proofs.SinkIndices.{block_from}
 use Rattle.catalogue.proofs.OneTile.{corner_is}
 use Rattle.tile_labellings.proofs.labellings.block_of.Goals as goal

@@ -6,7 +6,8 @@ use Rattle.lattice.specs.Mosaic.{AreSinks}
 use Rattle.page_codec.specs.Formats.{Format}
 use Rattle.page_codec.specs.Roots.{RootValue, format_of}
 use Rattle.roots.specs.Roots.{IsReady, ready_current}
-use Rattle.roots.specs.Slots.{KeepsAll, HasMoved, SamePages, IsCurrent}
+use Rattle.roots.specs.Slots.{KeepsAll, SamePages, IsCurrent}
+use Rattle.roots.specs.Found.{HasMoved}
 use Rattle.page_codec.specs.Entries.{EntryValue}
 use Rattle.page_map.specs.PageMaps.{PageMapValue, corners_of_locations}
 use Rattle.cow_tree.specs.Entries.{entry_of}

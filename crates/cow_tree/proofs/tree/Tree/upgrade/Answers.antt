@@ -6,7 +6,8 @@ use Rattle.page_codec.specs.Entries.{EntryValue}
 use Rattle.page_codec.specs.Roots.{RootValue, format_of}
 use Rattle.page_codec.specs.Sizes.{index_pages_of}
 use Rattle.roots.specs.Roots.{IsReady, ready_current}
-use Rattle.roots.specs.Slots.{KeepsAll, HasMoved, SamePages, IsCurrent}
+use Rattle.roots.specs.Slots.{KeepsAll, SamePages, IsCurrent}
+use Rattle.roots.specs.Found.{HasMoved}
 use Rattle.page_map.specs.PageMaps.{PageMapValue, is_unreached}
 use Rattle.page_map.specs.Locations.{times}
 use Rattle.page_map.specs.TileLocations.{TileLocation, reached}

@@ -3,7 +3,8 @@ use Rattle.disk.specs.Disk.{Image}
 use Rattle.page_codec.specs.Roots.{RootValue}
 use Rattle.disk.specs.Stops.{LeavesOnly}
 use Rattle.roots.specs.Roots.{IsReady}
-use Rattle.roots.specs.Slots.{IsAt, KeepsAll, HasMoved}
+use Rattle.roots.specs.Slots.{IsAt, KeepsAll}
+use Rattle.roots.specs.Found.{HasMoved}
 use Rattle.roots.proofs.Answered.{noted_ok, noted_works}
 use Rattle.roots.proofs.Begun.{begun_for_root}
 use Rattle.roots.proofs.Filled.{committing, committed}
