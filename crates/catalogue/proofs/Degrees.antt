@@ -1,5 +1,5 @@
 -- Adjacent points are within the numbers of 32 bits, so that the steps that can be made are enough.
-use Rattle.std.proofs.Common.{◌≡◌, ℕ, ◌+◌, ◌-◌, ◌*◌, ◌≤◌, ℤ, pos, negsuc, ◌*ℤ◌, ◌≤ℤ◌, Bool, true, false, cond, not, ◌&&◌, IsTrue, List, [], ◌∷◌, refl, sym, ◌∙◌, ap, arith}
+use Rattle.std.proofs.Common.{◌≡◌, ℕ, ◌+◌, ◌-◌, ◌*◌, ◌≤◌, ℤ, pos, negsuc, ◌*ℤ◌, ◌≤ℤ◌, Bool, true, false, cond, not, ◌&&◌, List, [], ◌∷◌, refl, sym, ◌∙◌, ap, arith}
 use Rattle.std.specs.Prelude.{count_by, int_le}
 use Rattle.std.specs.List.{fold}
 use Rattle.std.proofs.lemmas.Int.{ints}
@@ -8,15 +8,16 @@ use Rattle.std.proofs.lemmas.Bool.{and_parts, and_from, false≢true, false_from
 use Rattle.lattice.specs.declared.point.Point.{Point}
 use Rattle.lattice.specs.declared.direction.Dir.{Dir}
 use Rattle.lattice.specs.declared.direction.Step.{Step}
-use Rattle.lattice.specs.Corners.{Corner, is_corner}
+use Rattle.lattice.specs.Corners.{Corner}
 use Rattle.lattice.specs.Lattice.{Holds}
 use Rattle.lattice.specs.Steps.{step, directions}
 use Rattle.lattice.specs.Stepping.{reach_of, fits_number, fits_point}
 use Rattle.lattice.specs.Mosaic.{Mosaic, IsMosaic}
-use Rattle.lattice.proofs.IntTests.{le_true, le_from}
+use Rattle.lattice.proofs.IntTests.{le_from}
 use Rattle.lattice.specs.Ground.{is_ground, is_near, same_point, share_tile, is_adjacent, degree_of}
 use Rattle.lattice.specs.Limits.{largest_side}
 use Rattle.catalogue.proofs.Sharing.{shared_says}
+use Rattle.catalogue.proofs.Rows.{corner_range}
 
 -- how many steps lead where f holds, if f holds only where steps can lead
 reach-count : (f : Point → Bool) (p : Point) → ((q : Point) → f q ≡ true → fits_point q ≡ true) → (ds : List Dir) (a : ℕ)
@@ -65,15 +66,8 @@ held_fits n c q small held =
     and_from (fits_number q.y) (fits_number q.x)
     (fits q.y (omega (arith, ints, at.y, north, south)) (omega (arith, ints, at.y, north, south)))
     (fits q.x (omega (arith, ints, at.x, east, west)) (omega (arith, ints, at.x, east, west)))
-  where
-    corner_range : (d : Corner) → IsTrue (is_corner d) → (negsuc 89 ≤ℤ d.lat) × (d.lat ≤ℤ pos 89) × (negsuc 179 ≤ℤ d.lon) × (d.lon ≤ℤ pos 179)
-    corner_range d corner =
-        let three = and_parts (int_le (negsuc 89) d.lat && int_le d.lat (pos 89) && int_le (negsuc 179) d.lon) (int_le d.lon (pos 179)) corner in
-        let two = and_parts (int_le (negsuc 89) d.lat && int_le d.lat (pos 89)) (int_le (negsuc 179) d.lon) three.0 in
-        let one = and_parts (int_le (negsuc 89) d.lat) (int_le d.lat (pos 89)) two.0 in
-        (le_true _ _ one.0, le_true _ _ one.1, le_true _ _ two.1, le_true _ _ three.1)
 
-adjacent_fits : (m : Mosaic) (p q : Point) → IsMosaic m → is_adjacent m p q ≡ true → fits_point q ≡ true
+pub adjacent_fits : (m : Mosaic) (p q : Point) → IsMosaic m → is_adjacent m p q ≡ true → fits_point q ≡ true
 adjacent_fits m p q valid adjacent =
     let shared = (and_parts (is_ground m p && is_ground m q && not (same_point p q) && is_near p q) (share_tile m p q) adjacent).1 in
     let found = shared_says m p q valid shared in

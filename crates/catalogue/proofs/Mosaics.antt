@@ -36,7 +36,7 @@ rising-with_tile new (t ∷ ts) absent h =
     by rest other true before = ((before, after_later corner_of new.corner t.corner ts before h.0), h)
     by rest other false not_before = (after-with_tile t.corner new ts (after_from new.corner t.corner not_before (same_comm t.corner new.corner other)) h.0, rest)
 
-all-with_tile : (P : Tile → Type 0) (new : Tile) (tiles : List Tile) → P new → All P tiles → All P (with_tile new tiles)
+pub all-with_tile : (P : Tile → Type 0) (new : Tile) (tiles : List Tile) → P new → All P tiles → All P (with_tile new tiles)
 all-with_tile P new [] one all = All-cons P new [] one (All-nil P)
 all-with_tile P new (t ∷ ts) one all = elim (is_before new.corner t.corner) as (λ b. All P (cond b (new ∷ (t ∷ ts)) (t ∷ with_tile new ts))) [
   | true ↦ All-cons P new (t ∷ ts) one all

@@ -3,7 +3,7 @@ use Rattle.std.proofs.Common.{◌≡◌, ℕ, zero, suc, ◌+◌, ◌-◌, ◌*�
 use Rattle.std.specs.Prelude.{nat_lt, count_by}
 use Rattle.std.specs.List.{filter, list_any}
 use Rattle.std.proofs.Math.Path.{fun_ext}
-use Rattle.std.proofs.lemmas.Bool.{and_parts, and_right, ltb-true}
+use Rattle.std.proofs.lemmas.Bool.{and_parts, ltb-true}
 use Rattle.std.proofs.lemmas.Int.{ints, by_lt_z}
 use Rattle.lattice.specs.Corners.{Corner, is_corner, is_before, same_corner}
 use Rattle.lattice.specs.declared.point.Point.{Point}
@@ -23,6 +23,7 @@ use Rattle.lattice.proofs.Rising.{AllAfter, Rising, rising-filter, after_later}
 use Rattle.catalogue.proofs.Holders.{none_after}
 use Rattle.catalogue.proofs.Mosaics.{corner_of, rising_tiles}
 use Rattle.lattice.proofs.Multiples.{product_plus}
+use Rattle.lattice.proofs.BoolTests.{fourth_fails}
 
 -- ---- tiles that hold points beside each other lie at most a degree apart
 few_steps : (m d : ℕ) → 2 ≤ m → d * m ≤ m + 1 → d < 2
@@ -126,9 +127,6 @@ any_of_both f g (t ∷ ts) = elim (f t) as (λ b. ((b && g t) || list_any (λ u.
   | true ↦ ap (λ b. g t || b) (any_of_both f g ts)
   | false ↦ any_of_both f g ts
 ]
-
-fourth_fails : (a b c d e : Bool) → d ≡ false → (a && b && c && d && e) ≡ false
-fourth_fails a b c d e off = ap (λ x. x && e) (and_right (a && b && c) d off)
 
 -- ---- two mosaics with the same tiles near the corner
 module _ (m new : Mosaic) (m_valid : IsMosaic m) (new_valid : IsMosaic new) (same_side : new.side ≡ m.side) (c : Corner) (same : SameNearby m new c) where

@@ -4,6 +4,7 @@ use Rattle.std.specs.Prelude.{Contains}
 use Rattle.std.specs.List.{filter}
 use Rattle.std.proofs.lemmas.List.{drop_more}
 use Rattle.std.proofs.lemmas.Bool.{and_parts, and_from, false≢true, or_left}
+use Rattle.std.proofs.Math.Bool.{and-false}
 use Rattle.lattice.specs.Corners.{Corner, is_before, same_corner}
 use Rattle.lattice.specs.Lattice.{Holds, holds}
 use Rattle.lattice.specs.Mosaic.{Tile, Mosaic, IsMosaic, is_present}
@@ -13,15 +14,11 @@ use Rattle.catalogue.specs.Tiles.{corners_of, is_listed}
 use Rattle.catalogue.specs.SeamCounting.{is_first, present_holders}
 use Rattle.lattice.proofs.CornerOrder.{same_says, same_from, before_not_back}
 use Rattle.lattice.proofs.Rising.{AllAfter, Rising, Adjacent, rising_from, rising-filter}
+use Rattle.lattice.proofs.BoolTests.{same_tests}
 use Rattle.catalogue.proofs.Mosaics.{corner_of}
 use Rattle.catalogue.proofs.Presence.{listed_from, listed_says, present-listed, corners_rise}
 use Rattle.catalogue.proofs.OneTile.{corner_is}
 use Rattle.catalogue.proofs.Holders.{itself, not_listed, listed_after}
-
-pub same_tests : (a b : Bool) → (a ≡ true → b ≡ true) → (b ≡ true → a ≡ true) → a ≡ b
-same_tests true b there back = sym (there refl)
-same_tests false true there back = back refl
-same_tests false false there back = refl
 
 listed_self : (x : Corner) (xs : List Corner) → is_listed x (x ∷ xs) ≡ true
 listed_self x xs = or_left (same_corner x x) (is_listed x xs) (same_from x x refl)
@@ -64,11 +61,7 @@ listed-filter f c (d ∷ ds) = by (f d) refl (same_corner d c) refl (listed-filt
     by true fd false apart rest = rw apart rest
     by false fd true is rest =
         let not_here : f c ≡ false = ap f (sym (same_says d c is)) ∙ fd in
-        rest ∙ rw not_here (and_none (is_listed c ds))
-      where
-        and_none : (a : Bool) → (a && false) ≡ false
-        and_none true = refl
-        and_none false = refl
+        rest ∙ rw not_here (and-false (is_listed c ds))
     by false fd false apart rest = rest
 
 map-filter : (f : Corner → Bool) (tiles : List Tile) → map corner_of (filter (λ (t : Tile). f t.corner) tiles) ≡ filter f (map corner_of tiles)

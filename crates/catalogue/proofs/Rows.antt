@@ -13,9 +13,10 @@ use Rattle.catalogue.specs.Tiles.{is_listed}
 use Rattle.catalogue.specs.SeamCounting.{corners_before}
 use Rattle.lattice.proofs.CornerOrder.{Below, before_says, before_from, same_says, before_not_back, after_from, before_apart}
 use Rattle.lattice.proofs.Rising.{AllAfter, Rising, after_later}
+use Rattle.lattice.proofs.BoolTests.{same_tests}
 use Rattle.catalogue.proofs.Holders.{itself, not_listed}
 
-corner_range : (c : Corner) → IsTrue (is_corner c) → (negsuc 89 ≤ℤ c.lat) × (c.lat ≤ℤ pos 89) × (negsuc 179 ≤ℤ c.lon) × (c.lon ≤ℤ pos 179)
+pub corner_range : (c : Corner) → IsTrue (is_corner c) → (negsuc 89 ≤ℤ c.lat) × (c.lat ≤ℤ pos 89) × (negsuc 179 ≤ℤ c.lon) × (c.lon ≤ℤ pos 179)
 corner_range c corner =
     let three = and_parts (int_le (negsuc 89) c.lat && int_le c.lat (pos 89) && int_le (negsuc 179) c.lon) (int_le c.lon (pos 179)) corner in
     let two = and_parts (int_le (negsuc 89) c.lat && int_le c.lat (pos 89)) (int_le (negsuc 179) c.lon) three.0 in
@@ -82,15 +83,10 @@ module _ (lat lon : ℤ) where
 
 -- from the end of a row to the next
 row_end : (lat : ℤ) (x : Corner) → IsTrue (is_corner x) → is_before x (corner_at lat (pos 180)) ≡ is_before x (corner_at (lat +ℤ pos 1) (negsuc 179))
-row_end lat x corner = both (is_before x (corner_at lat (pos 180))) (is_before x (corner_at (lat +ℤ pos 1) (negsuc 179)))
+row_end lat x corner = same_tests (is_before x (corner_at lat (pos 180))) (is_before x (corner_at (lat +ℤ pos 1) (negsuc 179)))
     (λ before. before_from x (corner_at (lat +ℤ pos 1) (negsuc 179)) (inl (on (corner_range x corner) (before_says x (corner_at lat (pos 180)) before))))
     (λ before. back (corner_range x corner) (before_says x (corner_at (lat +ℤ pos 1) (negsuc 179)) before))
   where
-    both : (a b : Bool) → (a ≡ true → b ≡ true) → (b ≡ true → a ≡ true) → a ≡ b
-    both true b there back = sym (there refl)
-    both false true there back = back refl
-    both false false there back = refl
-
     on : (negsuc 89 ≤ℤ x.lat) × (x.lat ≤ℤ pos 89) × (negsuc 179 ≤ℤ x.lon) × (x.lon ≤ℤ pos 179) → Below x (corner_at lat (pos 180)) → x.lat <ℤ (lat +ℤ pos 1)
     on r (inl p) = omega (arith, ints)
     on r (inr p) = omega (arith, ints)

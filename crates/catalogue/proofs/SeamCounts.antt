@@ -6,6 +6,7 @@ use Rattle.std.proofs.lemmas.List.{length-append}
 use Rattle.std.proofs.lemmas.List.Sums.{sum_by-append}
 use Rattle.std.proofs.lemmas.List.Elements.{All-head, All-tail}
 use Rattle.std.proofs.lemmas.Bool.{and_parts, and_from, and_right, or_left, cases_lt, false≢true, lt-ltb, le-ltb}
+use Rattle.std.proofs.Math.Bool.{and-true}
 use Rattle.lattice.specs.Corners.{Corner, is_corner, same_corner}
 use Rattle.lattice.specs.Lattice.{Holds, holds, index_of, point_of}
 use Rattle.lattice.specs.Mosaic.{Tile, Mosaic, IsMosaic}
@@ -284,12 +285,8 @@ module _ (m : Mosaic) (valid : IsMosaic m) (p : Point) where
       ∙ ap (is_listed h) (sym (holders_filtered m p) ∙ holders)
       ∙ or_left (same_corner h h) (is_listed h found.1) (same_from h h refl)) in
       sum-same (λ c. cond (is_own_seam m c p && holds m.side c p) 1 0) (λ c. cond (same_corner h c && holds m.side c p) 1 0)
-      (λ c. rw (some, holders) (ap (λ b. cond (b && holds m.side c p) 1 0) (and_yes (same_corner h c)))) (corners_of m)
+      (λ c. rw (some, holders) (ap (λ b. cond (b && holds m.side c p) 1 0) (and-true (same_corner h c)))) (corners_of m)
       ∙ sum-listed (λ c. holds m.side c p) h both.1 (corners_of m) (corners_rise m valid) both.0
-    where
-      and_yes : (b : Bool) → (b && true) ≡ b
-      and_yes true = refl
-      and_yes false = refl
 
 -- the seams of all tiles are the points that disagree
 pub seams_counted : (m : Mosaic) → IsMosaic m → IsSeamCount m (sum_by (seams_of m) (corners_of m))

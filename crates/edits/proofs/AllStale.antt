@@ -8,10 +8,8 @@ use Rattle.std.proofs.lemmas.Int.{ints}
 use Rattle.std.proofs.lemmas.List.Elements.{All-nil, All-cons, All-head, All-tail}
 use Rattle.lattice.specs.Corners.{Corner, is_before, same_corner}
 use Rattle.lattice.specs.Mosaic.{Tile, Mosaic, is_present}
-use Rattle.lattice.specs.Lattice.{point_of}
 use Rattle.lattice.specs.Height.{height_of}
 use Rattle.lattice.specs.Ground.{metres}
-use Rattle.lattice.specs.declared.point.Point.{Point}
 use Rattle.lattice.specs.declared.refusal.Refusal.{Refusal}
 use Rattle.lattice.specs.declared.refusal.Refusal.TheVariants.{BadLength, TileThere, NoTile, Full, NothingVoid, BadHeight, BadDepth, BadBox, Repeated}
 use Rattle.hgt.specs.Bytes.{samples_in}
@@ -19,10 +17,11 @@ use Rattle.catalogue.specs.Tiles.{with_tile, added, without, with_sinks, corners
 use Rattle.lattice.proofs.CornerOrder.{same_from}
 use Rattle.edits.specs.declared.command.Command.{Command}
 use Rattle.edits.specs.declared.command.Command.TheVariants.{Import, Remove, Patch, Burn, Wall, Sink, Unsink}
-use Rattle.edits.specs.Effect.{effect, edited, changed_from, is_in_box, is_void_at, is_named, patched, burnt, walled, unless_fault, first_fault, is_height, is_depth, is_box, has_void, is_repeated}
+use Rattle.edits.specs.Effect.{effect, is_in_box, is_void_at, is_named, patched, burnt, walled, unless_fault, first_fault, is_height, is_depth, is_box, has_void, is_repeated}
 use Rattle.edits.specs.Sinks.{with_point, without_point}
 use Rattle.edits.specs.Touched.{are_neighbours, goes_stale}
 use Rattle.edits.proofs.Accepted.{accepted_is}
+use Rattle.edits.proofs.EditedHeights.{edited_corners}
 
 abbrev corner_of : Tile → Corner
 corner_of t = t.corner
@@ -44,14 +43,6 @@ filter_each P f (t ∷ ts) each =
       | true ↦ All-cons P t.corner (map corner_of (filter f ts)) (All-head P t.corner (map corner_of ts) each) rest
       | false ↦ rest
     ]
-
--- an edit changes no corner
-same_corners : (g : Tile → List ℤ) (ts : List Tile) → map corner_of (map (λ t. record { corner = t.corner; samples = g t }) ts) ≡ map corner_of ts
-same_corners g [] = refl
-same_corners g (t ∷ ts) = ap (λ (cs : List Corner). t.corner ∷ cs) (same_corners g ts)
-
-edited_corners : (f : Point → ℤ → ℤ) (m : Mosaic) → corners_of (edited f m) ≡ corners_of m
-edited_corners f m = same_corners (λ t. changed_from (λ e s. f (point_of m.side t.corner e) s) 0 t.samples) m.tiles
 
 -- all tiles are stale, and stay so
 

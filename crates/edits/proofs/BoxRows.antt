@@ -2,8 +2,9 @@
 use Rattle.std.proofs.Common.{◌≡◌, ℕ, ◌+◌, ℤ, pos, ◌+ℤ◌, Bool, true, false, ◌&&◌, ◌||◌, refl, sym, ◌∙◌, ap, ap₂, arith}
 use Rattle.std.specs.Prelude.{int_le, int_lt}
 use Rattle.std.specs.Ordering.{int_eq}
-use Rattle.std.proofs.lemmas.Bool.{and_parts}
+use Rattle.std.proofs.lemmas.Bool.{and_parts, and_right}
 use Rattle.std.proofs.lemmas.Int.{ints}
+use Rattle.std.proofs.Math.Bool.{and-or_distrib_left, and-or_distrib_right}
 use Rattle.lattice.specs.declared.point.Point.{Point}
 use Rattle.lattice.specs.declared.height.Height.{Height}
 use Rattle.lattice.specs.Mosaic.{Mosaic}
@@ -11,7 +12,7 @@ use Rattle.lattice.specs.Height.{height_of}
 use Rattle.lattice.specs.Ground.{same_point}
 use Rattle.edits.specs.Boxes.{is_in_row, is_in_rows, is_void_in_row, is_void_in_rows}
 use Rattle.edits.specs.Effect.{is_void_at, is_void_height, is_in_box}
-use Rattle.edits.proofs.SamePoints.{same_point_says}
+use Rattle.lattice.proofs.SamePoints.{same_point_says}
 
 -- ---- one point more
 
@@ -27,28 +28,14 @@ not_both a x k inside at = elim contrary [ ]
 none_along : (a x : ℤ) → (int_le a x && int_lt x (a +ℤ pos 0)) ≡ false
 none_along a x = grind (arith, ints)
 
-and_none : (b c : Bool) → c ≡ false → (b && c) ≡ false
-and_none true c none = none
-and_none false c none = refl
-
-spread : (e b c : Bool) → (e && (b || c)) ≡ ((e && b) || (e && c))
-spread true b c = refl
-spread false b c = refl
-
-spread_last : (b c e : Bool) → ((b || c) && e) ≡ ((b && e) || (c && e))
-spread_last true c true = refl
-spread_last true true false = refl
-spread_last true false false = refl
-spread_last false c e = refl
-
 pub in_row_none : (start q : Point) → is_in_row start 0 q ≡ false
-in_row_none start q = and_none (int_eq q.y start.y) (int_le start.x q.x && int_lt q.x (start.x +ℤ pos 0)) (none_along start.x q.x)
+in_row_none start q = and_right (int_eq q.y start.y) (int_le start.x q.x && int_lt q.x (start.x +ℤ pos 0)) (none_along start.x q.x)
 
 module _ (start p : Point) (k : ℕ) (at : p ≡ record { y = start.y; x = start.x +ℤ pos k }) where
   pub in_row_more : (q : Point) → is_in_row start (k + 1) q ≡ (is_in_row start k q || same_point q p)
   in_row_more q =
       ap (λ b. int_eq q.y start.y && b) (east_more start.x (start.x +ℤ pos k) q.x k refl)
-      ∙ spread (int_eq q.y start.y) (int_le start.x q.x && int_lt q.x (start.x +ℤ pos k)) (int_eq q.x (start.x +ℤ pos k))
+      ∙ and-or_distrib_left (int_eq q.y start.y) (int_le start.x q.x && int_lt q.x (start.x +ℤ pos k)) (int_eq q.x (start.x +ℤ pos k))
       ∙ ap (λ (r : Point). is_in_row start k q || same_point q r) (sym at)
 
   pub not_in_row : (q : Point) → is_in_row start k q ≡ true → same_point q p ≡ true → ⊥
@@ -58,7 +45,7 @@ module _ (start p : Point) (k : ℕ) (at : p ≡ record { y = start.y; x = start
       not_both start.x q.x k column.1 here.1
 
   pub row_more : (m : Mosaic) (q : Point) → is_void_in_row m start (k + 1) q ≡ (is_void_in_row m start k q || (same_point q p && is_void_at m q))
-  row_more m q = ap (λ b. b && is_void_at m q) (in_row_more q) ∙ spread_last (is_in_row start k q) (same_point q p) (is_void_at m q)
+  row_more m q = ap (λ b. b && is_void_at m q) (in_row_more q) ∙ and-or_distrib_right (is_in_row start k q) (same_point q p) (is_void_at m q)
 
 -- ---- one row more
 
@@ -69,7 +56,7 @@ module _ (from start : Point) (rows columns : ℕ) (at : start ≡ record { y = 
   pub in_rows_more : (q : Point) → is_in_rows from (rows + 1) columns q ≡ (is_in_rows from rows columns q || is_in_row start columns q)
   in_rows_more q =
       ap (λ b. b && (int_le from.x q.x && int_lt q.x (from.x +ℤ pos columns))) (east_more from.y (from.y +ℤ pos rows) q.y rows refl)
-      ∙ spread_last (int_le from.y q.y && int_lt q.y (from.y +ℤ pos rows)) (int_eq q.y (from.y +ℤ pos rows)) (int_le from.x q.x && int_lt q.x (from.x +ℤ pos columns))
+      ∙ and-or_distrib_right (int_le from.y q.y && int_lt q.y (from.y +ℤ pos rows)) (int_eq q.y (from.y +ℤ pos rows)) (int_le from.x q.x && int_lt q.x (from.x +ℤ pos columns))
       ∙ ap (λ (r : Point). is_in_rows from rows columns q || is_in_row r columns q) (sym at)
 
   pub not_in_rows : (q : Point) → is_in_rows from rows columns q ≡ true → is_in_row start columns q ≡ true → ⊥
@@ -79,7 +66,7 @@ module _ (from start : Point) (rows columns : ℕ) (at : start ≡ record { y = 
       not_both from.y q.y rows row.0 here.0
 
   pub rows_more : (m : Mosaic) (q : Point) → is_void_in_rows m from (rows + 1) columns q ≡ (is_void_in_rows m from rows columns q || is_void_in_row m start columns q)
-  rows_more m q = ap (λ b. b && is_void_at m q) (in_rows_more q) ∙ spread_last (is_in_rows from rows columns q) (is_in_row start columns q) (is_void_at m q)
+  rows_more m q = ap (λ b. b && is_void_at m q) (in_rows_more q) ∙ and-or_distrib_right (is_in_rows from rows columns q) (is_in_row start columns q) (is_void_at m q)
 
 -- all rows are the box
 pub rows_all : (m : Mosaic) (from to : Point) (rows columns : ℕ) → to.y +ℤ pos 1 ≡ from.y +ℤ pos rows → to.x +ℤ pos 1 ≡ from.x +ℤ pos columns → (q : Point) →
@@ -112,4 +99,4 @@ void_is m p b is q = by (same_point q p) refl
     by false other = refl
 
 pub not_void_is : (m : Mosaic) (p : Point) (h : Height) → height_of m p ≡ h → is_void_height h ≡ false → (q : Point) → (same_point q p && is_void_at m q) ≡ false
-not_void_is m p h e none q = void_is m p false (ap is_void_height e ∙ none) q ∙ and_none (same_point q p) false refl
+not_void_is m p h e none q = void_is m p false (ap is_void_height e ∙ none) q ∙ and_right (same_point q p) false refl

@@ -1,5 +1,5 @@
 -- The heights that points have, until they get others one after another.
-use Rattle.std.proofs.Common.{◌≡◌, ◌≤◌, ℤ, true, false, List, [], ◌∷◌, sym, ◌∙◌, ap, subst}
+use Rattle.std.proofs.Common.{◌≡◌, ◌≤◌, true, false, List, [], ◌∷◌, sym, ◌∙◌, ap, subst, refl}
 use Rattle.std.specs.Prelude.{All, if◌then◌else◌}
 use Rattle.std.proofs.lemmas.Bool.{both_ways, false_from_ne_true, or_parts}
 use Rattle.std.proofs.lemmas.List.Elements.{All-nil, All-cons, All-head, All-tail}
@@ -14,13 +14,13 @@ use Rattle.edits.specs.declared.edit.NewHeight.{NewHeight}
 use Rattle.edits.specs.Edits.{AreEarlier, points_of, with_height}
 use Rattle.edits.specs.Effect.{is_named, is_repeated}
 use Rattle.edits.proofs.EditedHeights.{edited_corners, height_stays}
-use Rattle.edits.proofs.SamePoints.{same_point_from, same_point_says}
+use Rattle.lattice.proofs.SamePoints.{same_point_from, same_point_says}
 
 abbrev HasEarlier : Mosaic → NewHeight → Type 0
 HasEarlier m h = height_of m h.point ≡ At h.was
 
 apart : (p q : Point) → same_point p q ≡ false → same_point q p ≡ false
-apart p q out = false_from_ne_true (same_point q p) (λ same. both_ways (same_point p q) out (subst (λ (x : Point). same_point x q ≡ true) (same_point_says q p same) (same_point_from q)))
+apart p q out = false_from_ne_true (same_point q p) (λ same. both_ways (same_point p q) out (subst (λ (x : Point). same_point x q ≡ true) (same_point_says q p same) (same_point_from q q refl)))
 
 module _ (h : NewHeight) (m : Mosaic) (side : 3 ≤ m.side) (are : AreCorners (corners_of m)) where
   one_stays : (k : NewHeight) → same_point h.point k.point ≡ false → HasEarlier m k → HasEarlier (with_height h.point h.metres m) k

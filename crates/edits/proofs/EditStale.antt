@@ -11,6 +11,7 @@ use Rattle.lattice.specs.Lattice.{Holds, holds}
 use Rattle.lattice.specs.Mosaic.{Tile, Mosaic}
 use Rattle.lattice.proofs.CornerOrder.{same_says, same_from}
 use Rattle.lattice.proofs.Samples.{holds_is}
+use Rattle.lattice.proofs.BoolTests.{same_tests}
 use Rattle.catalogue.specs.Tiles.{corners_of, is_listed}
 use Rattle.catalogue.specs.Tables.{AreCorners}
 use Rattle.edits.specs.declared.edit.NewHeight.{NewHeight}
@@ -18,7 +19,6 @@ use Rattle.edits.specs.Edits.{AreVoidTiles, holds_any, points_of}
 use Rattle.edits.specs.Effect.{has_void_from}
 use Rattle.edits.specs.Touched.{are_neighbours, holds_one}
 use Rattle.edits.specs.Touched.{is_near_one}
-use Rattle.edits.proofs.TouchedTiles.{same_bools}
 use Rattle.edits.proofs.Voids.{any_says, any_from, tile_at}
 
 any_corner : (test : Corner → Bool) (ts : List Tile) → list_any test (map (λ t. t.corner) ts) ≡ list_any (λ t. test t.corner) ts
@@ -55,7 +55,7 @@ module _ (n : ℕ) (side : 3 ≤ n) (corners : List Corner) (are : AreCorners co
 -- some of the points are held near the corner
 pub any_near : (n : ℕ) (corners : List Corner) (heights : List NewHeight) (p : Corner) →
     list_any (λ h. list_any (λ c. holds n c h.point && are_neighbours c p) corners) heights ≡ list_any (λ c. holds_any n heights c && are_neighbours c p) corners
-any_near n corners heights p = same_bools _ _
+any_near n corners heights p = same_tests _ _
     (λ some.
     let height = any_says (λ (h : NewHeight). list_any (λ c. holds n c h.point && are_neighbours c p) corners) heights some in
     let h = height.0 in
@@ -95,7 +95,7 @@ stale_named m n corners side same heights p =
 
 pub stale_voids : (m : Mosaic) (from to : Point) (tiles : List Corner) → AreVoidTiles m from to tiles → All (Contains (corners_of m)) tiles → (p : Corner)
     → list_any (λ c. are_neighbours c p) tiles ≡ is_near_one (λ t. has_void_from m from to t.corner 0 t.samples) m p
-stale_voids m from to tiles voids present p = same_bools _ _
+stale_voids m from to tiles voids present p = same_tests _ _
     (λ some.
     let found = any_says (λ c. are_neighbours c p) tiles some in
     let tile = tile_at m found.0 (All-contains (Contains (corners_of m)) tiles found.0 present found.1.0) in

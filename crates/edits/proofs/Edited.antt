@@ -11,7 +11,7 @@ use Rattle.edits.specs.declared.edit.NewHeight.{NewHeight}
 use Rattle.edits.specs.Edits.{with_height, with_heights}
 use Rattle.edits.specs.Effect.{changed_from, edited, is_named}
 use Rattle.edits.proofs.EditedHeights.{edited_corners}
-use Rattle.edits.proofs.SamePoints.{same_point_says}
+use Rattle.lattice.proofs.SamePoints.{same_point_says}
 
 none_from : (e : ℕ) (l : List ℤ) → changed_from (λ e s. s) e l ≡ l
 none_from e [] = refl

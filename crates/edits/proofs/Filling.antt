@@ -2,6 +2,7 @@
 use Rattle.std.proofs.Common.{◌≡◌, ℤ, Bool, true, false, ◌&&◌, ◌||◌, refl, sym, ◌∙◌, ap, ap₂}
 use Rattle.std.specs.Prelude.{if◌then◌else◌}
 use Rattle.std.proofs.lemmas.Bool.{and_left, false_from_ne_true}
+use Rattle.std.proofs.Math.Bool.{or-false, and-true, and-false}
 use Rattle.lattice.specs.declared.point.Point.{Point}
 use Rattle.lattice.specs.Ground.{same_point}
 use Rattle.lattice.specs.Mosaic.{Mosaic, IsMosaic}
@@ -19,24 +20,12 @@ fill_alike one other s same m = edited_alike (λ p v. if one p then s else v) (�
 pub fill_none : (test : Point → Bool) (s : ℤ) → ((p : Point) → test p ≡ false) → (m : Mosaic) → m ≡ filled test s m
 fill_none test s none m = sym (edited_none m) ∙ sym (fill_alike test (λ p. false) s none m)
 
-pub and_true : (b : Bool) → (b && true) ≡ b
-and_true true = refl
-and_true false = refl
-
 -- a single point
 pub fill_void : (p : Point) (s : ℤ) (m : Mosaic) → is_void_at m p ≡ true → with_height p s m ≡ filled (λ q. same_point q p && is_void_at m q) s m
-fill_void p s m is = fill_alike (λ q. same_point q p) (λ q. same_point q p && is_void_at m q) s (λ q. sym (void_is m p true is q ∙ and_true (same_point q p))) m
+fill_void p s m is = fill_alike (λ q. same_point q p) (λ q. same_point q p && is_void_at m q) s (λ q. sym (void_is m p true is q ∙ and-true (same_point q p))) m
 
 pub fill_ground : (p : Point) (s : ℤ) (m : Mosaic) → is_void_at m p ≡ false → m ≡ filled (λ q. same_point q p && is_void_at m q) s m
-fill_ground p s m is = fill_none (λ q. same_point q p && is_void_at m q) s (λ q. void_is m p false is q ∙ none (same_point q p)) m
-  where
-    none : (b : Bool) → (b && false) ≡ false
-    none true = refl
-    none false = refl
-
-or_none : (b : Bool) → (b || false) ≡ b
-or_none true = refl
-or_none false = refl
+fill_ground p s m is = fill_none (λ q. same_point q p && is_void_at m q) s (λ q. void_is m p false is q ∙ and-false (same_point q p)) m
 
 -- What was filled isn't read again: the voids of a part that comes later are still those that they were.
 module _ (m : Mosaic) (valid : IsMosaic m) (s : ℤ) (box more both : Point → Bool) (joined : (p : Point) → both p ≡ (box p || more p)) (apart : (p : Point) → box p ≡ true → more p ≡ true → ⊥) where
@@ -64,7 +53,7 @@ module _ (m : Mosaic) (valid : IsMosaic m) (s : ℤ) (box more both : Point → 
           ∙ sym (ap (λ b. once b (is_void_at m p) v) (joined p ∙ ap₂ (λ a b. a || b) out now))
       by false later =
           ap (λ b. twice b (is_void_at mid p) (box p) (is_void_at m p) v) later
-          ∙ sym (ap (λ b. once b (is_void_at m p) v) (joined p ∙ ap (λ b. box p || b) later ∙ or_none (box p)))
+          ∙ sym (ap (λ b. once b (is_void_at m p) v) (joined p ∙ ap (λ b. box p || b) later ∙ or-false (box p)))
 
   pub fill_more : filled (λ p. more p && is_void_at mid p) s mid ≡ filled (λ p. both p && is_void_at m p) s m
   fill_more =

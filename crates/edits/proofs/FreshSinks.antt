@@ -24,7 +24,7 @@ use Rattle.edits.proofs.Accepted.{IsMade, accepted_is}
 use Rattle.edits.proofs.AllStale.{near_itself}
 use Rattle.edits.proofs.FreshBlocks.{fresh_stays}
 use Rattle.edits.proofs.NewMosaics.{new_side}
-use Rattle.edits.proofs.SamePoints.{same_point_says}
+use Rattle.lattice.proofs.SamePoints.{same_point_says}
 use Rattle.edits.proofs.Voids.{any_from, tile_at}
 
 -- ---- a point more or less leaves the others
@@ -36,7 +36,7 @@ any_with f p (q ∷ rest) out = elim (is_point_before p q) as (λ b. list_any f 
   | false ↦ ap (λ b. f q || b) (any_with f p rest out)
 ]
 
-any_without : (q p : Point) (points : List Point) → same_point p q ≡ false → list_any (λ s. same_point s q) (without_point p points) ≡ list_any (λ s. same_point s q) points
+pub any_without : (q p : Point) (points : List Point) → same_point p q ≡ false → list_any (λ s. same_point s q) (without_point p points) ≡ list_any (λ s. same_point s q) points
 any_without q p [] apart = refl
 any_without q p (s ∷ rest) apart = by (same_point s p) refl (any_without q p rest apart)
   where

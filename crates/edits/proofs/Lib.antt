@@ -9,14 +9,13 @@ mod Filling
 mod FreshBlocks
 pub mod FreshSinks
 mod NewHeights
-mod NewMosaics
+pub mod NewMosaics
 mod Once
 mod Overlapping
 mod PlaceLemmas
 mod Planned
 mod Placing
 mod Repeats
-mod SamePoints
 mod Searching
 mod Setting
 pub mod SinkLists

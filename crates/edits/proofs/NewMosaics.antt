@@ -1,9 +1,9 @@
 -- What a command that isn't refused makes is a mosaic.
-use Rattle.std.proofs.Common.{◌≡◌, ℕ, zero, suc, ◌+◌, ◌*◌, ◌<◌, ◌≤◌, inl, inr, ℤ, pos, negsuc, ◌-ℤ◌, ◌≤ℤ◌, Bool, true, false, cond, not, ◌&&◌, List, [], ◌∷◌, length, map, get_or, refl, sym, ◌∙◌, ap, subst, arith}
-use Rattle.std.specs.Prelude.{Option, Some, None, Ok, int_le, int_lt, nat_lt}
+use Rattle.std.proofs.Common.{◌≡◌, ℕ, ◌+◌, ◌*◌, ◌<◌, ◌≤◌, inl, inr, ℤ, pos, negsuc, ◌-ℤ◌, ◌≤ℤ◌, Bool, true, false, cond, not, ◌&&◌, List, [], ◌∷◌, length, map, refl, sym, ◌∙◌, ap, subst, arith}
+use Rattle.std.specs.Prelude.{Option, Some, None, Ok, int_le, int_lt}
 use Rattle.std.specs.Int.{int_max}
 use Rattle.std.specs.List.{All, filter}
-use Rattle.std.proofs.lemmas.Bool.{and_parts, or_cases, false≢true, eqb-true, ltb-true, ltb-false}
+use Rattle.std.proofs.lemmas.Bool.{and_parts, or_cases, false≢true, eqb-true, ltb-true}
 use Rattle.std.proofs.lemmas.Int.{ints}
 use Rattle.std.proofs.lemmas.List.{length-map}
 use Rattle.std.proofs.lemmas.List.Elements.{All-nil, All-cons, All-head, All-tail}
@@ -14,14 +14,15 @@ use Rattle.lattice.specs.declared.height.Height.TheVariants as height
 use Rattle.lattice.specs.declared.refusal.Refusal.{Refusal}
 use Rattle.lattice.specs.declared.refusal.Refusal.TheVariants.{TooDeep}
 use Rattle.lattice.specs.Ground.{metres, same_point}
-use Rattle.lattice.specs.Height.{height_of, by_seam_rule, first_height, samples_at, sample_at}
-use Rattle.lattice.specs.Lattice.{point_of, holds, index_of}
-use Rattle.lattice.specs.Mosaic.{Tile, Mosaic, IsSample, IsTile, IsMosaic, void, is_void}
-use Rattle.hgt.specs.Bytes.{sample_of, samples_in}
-use Rattle.hgt.proofs.BytesLemmas.{length-samples_in}
+use Rattle.lattice.specs.Height.{height_of}
+use Rattle.lattice.specs.Lattice.{point_of}
+use Rattle.lattice.specs.Mosaic.{Tile, Mosaic, IsSample, IsTile, IsMosaic, void}
+use Rattle.hgt.specs.Bytes.{samples_in}
+use Rattle.hgt.proofs.BytesLemmas.{length-samples_in, samples_in_are_samples}
 use Rattle.catalogue.specs.Tiles.{added, with_tile, without, with_sinks}
 use Rattle.catalogue.proofs.Mosaics.{corner_of, rising_tiles, mosaic-added, mosaic-without}
 use Rattle.lattice.proofs.Rising.{AllAfter, Rising, adjacent_from}
+use Rattle.lattice.proofs.SampleRange.{max_is_sample, metres_are_sample}
 use Rattle.edits.specs.declared.command.Command.{Command}
 use Rattle.edits.specs.declared.command.Command.TheVariants.{Import, Remove, Patch, Burn, Wall, Sink, Unsink}
 use Rattle.edits.specs.Effect.{effect, changed_from, edited, is_named, is_height, is_depth, is_in_box, is_void_at, first_fault, fault_at, patched, burnt, walled}
@@ -29,13 +30,10 @@ use Rattle.edits.specs.EffectLaws.{IsCommand}
 use Rattle.edits.specs.Sinks.{with_point, without_point}
 use Rattle.edits.proofs.Accepted.{IsMade, accepted_is}
 use Rattle.edits.proofs.Placing.{length-changed_from}
-use Rattle.edits.proofs.SamePoints.{same_point_says}
+use Rattle.lattice.proofs.SamePoints.{same_point_says}
 use Rattle.edits.proofs.SinkLists.{sunk_makes, unsunk_leaves}
 
 -- ---- samples
-
-void_is_sample : IsSample void
-void_is_sample = (omega (arith, ints), omega (arith, ints))
 
 height_is_sample : (h : ℤ) → is_height h ≡ true → IsSample h
 height_is_sample h e =
@@ -47,57 +45,6 @@ height_is_sample h e =
 
     high : (z : ℤ) → int_le z (pos 32767) ≡ true → z ≤ℤ pos 32767
     high z e = grind (arith, ints)
-
-max_is_sample : (a b : ℤ) → IsSample a → IsSample b → IsSample (int_max a b)
-max_is_sample a b one other = elim (int_lt b a) as (λ v. IsSample (cond v a b)) [ true ↦ one | false ↦ other ]
-
--- what two bytes say
-pair_is_sample : (high low : ℕ) → high < 256 → low < 256 → IsSample (sample_of high low)
-pair_is_sample high low h l = by (nat_lt high 128) refl
-  where
-    by : (b : Bool) → nat_lt high 128 ≡ b → IsSample (cond b (pos (256 * high + low)) (pos (256 * high + low) -ℤ pos 65536))
-    by true small = let below : high < 128 = ltb-true high 128 small in (omega (arith, ints), omega (arith, ints))
-    by false large = let above : 128 ≤ high = ltb-false high 128 large in (omega (arith, ints), omega (arith, ints))
-
-samples_are : (bytes : List ℕ) → All (λ b. b < 256) bytes → All IsSample (samples_in bytes)
-samples_are [] small = All-nil IsSample
-samples_are (high ∷ []) small = All-nil IsSample
-samples_are (high ∷ (low ∷ rest)) small =
-    let later = All-tail (λ b. b < 256) high (low ∷ rest) small in
-    All-cons IsSample (sample_of high low) (samples_in rest)
-    (pair_is_sample high low (All-head (λ b. b < 256) high (low ∷ rest) small) (All-head (λ b. b < 256) low rest later))
-    (samples_are rest (All-tail (λ b. b < 256) low rest later))
-
--- what a tile says of a point
-tile_says_sample : (n : ℕ) (t : Tile) (p : Point) → IsTile n t → IsSample (sample_at n t p)
-tile_says_sample n t p tile = by t.samples (index_of n t.corner p) tile.samples
-  where
-    by : (l : List ℤ) (i : ℕ) → All IsSample l → IsSample (get_or l i void)
-    by [] i all = void_is_sample
-    by (s ∷ rest) zero all = All-head IsSample s rest all
-    by (s ∷ rest) (suc i) all = by rest i (All-tail IsSample s rest all)
-
-samples_at_are : (n : ℕ) (ts : List Tile) (p : Point) → All (IsTile n) ts → All IsSample (map (λ t. sample_at n t p) (filter (λ t. holds n t.corner p) ts))
-samples_at_are n [] p all = All-nil IsSample
-samples_at_are n (t ∷ ts) p all = elim (holds n t.corner p) as (λ b. All IsSample (map (λ u. sample_at n u p) (cond b (t ∷ filter (λ u. holds n u.corner p) ts) (filter (λ u. holds n u.corner p) ts)))) [
-  | true ↦ All-cons IsSample (sample_at n t p) (map (λ u. sample_at n u p) (filter (λ u. holds n u.corner p) ts)) (tile_says_sample n t p (All-head (IsTile n) t ts all)) (samples_at_are n ts p (All-tail (IsTile n) t ts all))
-  | false ↦ samples_at_are n ts p (All-tail (IsTile n) t ts all)
-]
-
-first_is_sample : (l : List ℤ) → All IsSample l → IsSample (metres (first_height l))
-first_is_sample [] all = void_is_sample
-first_is_sample (s ∷ rest) all = elim (is_void s) as (λ b. IsSample (metres (cond b (first_height rest) (height.At s)))) [
-  | true ↦ first_is_sample rest (All-tail IsSample s rest all)
-  | false ↦ All-head IsSample s rest all
-]
-
--- a height is a number of 16 bits
-metres_are_sample : (m : Mosaic) (p : Point) → IsMosaic m → IsSample (metres (height_of m p))
-metres_are_sample m p valid = by (samples_at m p) (samples_at_are m.side m.tiles p valid.tiles)
-  where
-    by : (l : List ℤ) → All IsSample l → IsSample (metres (by_seam_rule l))
-    by [] all = void_is_sample
-    by (s ∷ rest) all = first_is_sample (s ∷ rest) all
 
 -- ---- edits
 
@@ -128,7 +75,7 @@ module _ (m : Mosaic) (f : Point → ℤ → ℤ) (keeps : (p : Point) (s : ℤ)
   rising_edited [] h = tt
   rising_edited (t ∷ ts) h = (after_edited t.corner ts h.0, rising_edited ts h.1)
 
-  edited_is_mosaic : IsMosaic m → IsMosaic (edited f m)
+  pub edited_is_mosaic : IsMosaic m → IsMosaic (edited f m)
   edited_is_mosaic valid = record {
     side_low = valid.side_low;
     side_high = valid.side_high;
@@ -180,7 +127,7 @@ new_is_mosaic capacity m c new valid given made = by c given (accepted_is capaci
         let tile : IsTile m.side (record { corner = corner; samples = samples_in bytes }) = record {
           corner = given.0;
           whole = length-samples_in bytes (m.side * m.side) (eqb-true (length bytes) (2 * (m.side * m.side)) whole);
-          samples = samples_are bytes given.1;
+          samples = samples_in_are_samples bytes given.1;
         } in
         subst IsMosaic (sym is) (mosaic-added (record { corner = corner; samples = samples_in bytes }) m valid tile absent)
     by (Remove corner) given is = subst IsMosaic (sym is) (mosaic-without corner m valid)

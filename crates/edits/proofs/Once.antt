@@ -17,7 +17,7 @@ use Rattle.edits.specs.declared.places.Place.{Place}
 use Rattle.edits.specs.Changes.{IsSetAt, SetOnce, set_same}
 use Rattle.edits.specs.Effect.{is_named, is_repeated}
 use Rattle.edits.specs.Places.{IsPlace, ArePlaces}
-use Rattle.edits.proofs.SamePoints.{same_point_says, same_point_from}
+use Rattle.lattice.proofs.SamePoints.{same_point_says, same_point_from}
 
 abbrev pub set_to : ℤ → Place → Change
 set_to s x = Set x.corner x.index s
@@ -26,7 +26,7 @@ set_to s x = Set x.corner x.index s
 
 named_is : (ps : List Point) (p : Point) (i : ℕ) → i < length ps → is_named ps (get_or ps i p) ≡ true
 named_is [] p i below = absurd (omega arith)
-named_is (q ∷ ps) p zero below = or_left (same_point q q) (is_named ps q) (same_point_from q)
+named_is (q ∷ ps) p zero below = or_left (same_point q q) (is_named ps q) (same_point_from q q refl)
 named_is (q ∷ ps) p (suc i) below = or_right (same_point (get_or ps i p) q) (is_named ps (get_or ps i p)) (named_is ps p i (omega arith))
 
 pub not_named : (ps : List Point) (i : ℕ) (p : Point) → is_repeated ps ≡ false → i < length ps → is_named (take i ps) (get_or ps i p) ≡ false
@@ -103,7 +103,7 @@ once_at n cs p s places are before apart changes single =
     (once_within n before (λ q. before q || same_point q p) (λ q was. or_left (before q) (same_point q p) was) changes single)
   where
     here : (x : Place) → IsPlace n cs p x → same_point (point_of n x.corner x.index) p ≡ true
-    here x at = ap (λ (q : Point). same_point q p) at.here ∙ same_point_from p
+    here x at = ap (λ (q : Point). same_point q p) at.here ∙ same_point_from p p refl
 
     elsewhere : (y : Change) (x : Place) → IsPlace n cs p x → (t : ℤ) × (y ≡ Set x.corner x.index t) → Contains changes y → ⊥
     elsewhere y x at (t, is) (k, below, there) =

@@ -9,6 +9,7 @@ use Rattle.lattice.specs.Corners.{Corner}
 use Rattle.lattice.specs.declared.point.Point.{Point}
 use Rattle.lattice.specs.Lattice.{Holds, IsIndexOf, holds, is_along}
 use Rattle.lattice.proofs.Samples.{holds_is}
+use Rattle.lattice.proofs.Levels.{le-max_left}
 use Rattle.edits.specs.Boxes.{is_in_rows, is_overlap}
 use Rattle.edits.specs.Effect.{is_box, is_in_box}
 
@@ -53,15 +54,12 @@ module _ (first last low high a b : ℤ) (lower : a ≡ int_max first low) (uppe
       through : (x y z : ℤ) → int_le x y ≡ true → int_le y z ≡ true → int_le x z ≡ true
       through x y z p q = grind (arith, ints)
 
-      at_least : (x y : ℤ) → x ≤ℤ int_max x y
-      at_least x y = grind (arith, ints)
-
       at_most : (x y : ℤ) → int_min x y ≤ℤ x
       at_most x y = grind (arith, ints)
 
       shorter : (first last low high a b : ℤ) (n : ℕ) → a ≡ int_max first low → b ≡ int_min last high → int_lt (last -ℤ first) (pos n) ≡ true → int_lt (b -ℤ a) (pos n) ≡ true
       shorter first last low high a b n lower upper short =
-          closer first last a b n (subst (λ z. first ≤ℤ z) (sym lower) (at_least first low)) (subst (λ z. z ≤ℤ last) (sym upper) (at_most last high)) short
+          closer first last a b n (subst (λ z. first ≤ℤ z) (sym lower) (le-max_left first low)) (subst (λ z. z ≤ℤ last) (sym upper) (at_most last high)) short
         where
           closer : (first last a b : ℤ) (n : ℕ) → first ≤ℤ a → b ≤ℤ last → int_lt (last -ℤ first) (pos n) ≡ true → int_lt (b -ℤ a) (pos n) ≡ true
           closer first last a b n p q short = grind (arith, ints)

@@ -11,6 +11,7 @@ use Rattle.lattice.specs.Corners.{Corner, is_corner, same_corner}
 use Rattle.lattice.specs.declared.point.Point.{Point}
 use Rattle.lattice.specs.Lattice.{Holds, IsIndexOf, point_of, index_of}
 use Rattle.lattice.proofs.Samples.{index_is, index_below, index_of_point_is, point_of_held, point_at_index}
+use Rattle.lattice.proofs.Multiples.{some_side}
 use Rattle.edits.specs.declared.places.Place.{Place}
 use Rattle.edits.specs.Places.{IsPlace, ArePlaces}
 
@@ -28,10 +29,6 @@ not_earlier [] i d rising below there = omega arith
 not_earlier (h ∷ hs) zero d rising below (k, small, here) = omega arith
 not_earlier (h ∷ hs) (suc i) d rising below (zero, small, here) = before_apart h (get_or hs i d) (after_at (λ p. p) h hs i d rising.0 (omega arith)) here
 not_earlier (h ∷ hs) (suc i) d rising below (suc k, small, here) = not_earlier hs i d rising.1 (omega arith) (k, omega arith, here)
-
-some_side : (n e : ℕ) → e < n * n → 0 < n
-some_side zero e within = absurd (omega arith)
-some_side (suc n) e within = omega arith
 
 module _ (n : ℕ) (cs : List Corner) (p : Point) where
   pub places_none : PlacesAmong n cs [] p []

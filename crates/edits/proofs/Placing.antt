@@ -17,7 +17,7 @@ use Rattle.edits.specs.declared.places.Place.{Place}
 use Rattle.edits.specs.Boxes.{filled}
 use Rattle.edits.specs.Effect.{changed_from, edited}
 use Rattle.edits.specs.Places.{IsPlace, ArePlaces}
-use Rattle.edits.proofs.SamePoints.{same_point_says, same_point_from}
+use Rattle.lattice.proofs.SamePoints.{same_point_says, same_point_from}
 
 abbrev place : Corner → ℕ → Place
 place c k = record { corner = c; index = k }
@@ -139,7 +139,7 @@ pub length-changed_from : (f : ℕ → ℤ → ℤ) (e : ℕ) (l : List ℤ) →
 length-changed_from f e [] = refl
 length-changed_from f e (s ∷ rest) = ap suc (length-changed_from f (e + 1) rest)
 
-get-changed_from : (f : ℕ → ℤ → ℤ) (e : ℕ) (l : List ℤ) (k : ℕ) (d : ℤ) → k < length l → get_or (changed_from f e l) k d ≡ f (e + k) (get_or l k d)
+pub get-changed_from : (f : ℕ → ℤ → ℤ) (e : ℕ) (l : List ℤ) (k : ℕ) (d : ℤ) → k < length l → get_or (changed_from f e l) k d ≡ f (e + k) (get_or l k d)
 get-changed_from f e [] k d within = absurd (omega arith)
 get-changed_from f e (s ∷ rest) zero d within = ap (λ i. f i s) (sym (add-zero e))
 get-changed_from f e (s ∷ rest) (suc k) d within =
@@ -190,7 +190,7 @@ module _ (m : Mosaic) (are_whole : All (IsWhole m.side) m.tiles) (p : Point) (s 
           apart : (x : Place) → IsPlace m.side (corners_of m) p x → x ≡ place t.corner e → ⊥
           apart x at is =
               let point : point_of m.side t.corner e ≡ p = ap (λ (y : Place). point_of m.side y.corner y.index) (sym is) ∙ at.here in
-              both_ways (same_point (point_of m.side t.corner e) p) other (ap (λ (q : Point). same_point q p) point ∙ same_point_from p)
+              both_ways (same_point (point_of m.side t.corner e) p) other (ap (λ (q : Point). same_point q p) point ∙ same_point_from p p refl)
 
   one_tile : (t : Tile) → Here t → tile_put s places t ≡ record { corner = t.corner; samples = changed_from (λ e v. cond (same_point (point_of m.side t.corner e) p) s v) 0 t.samples }
   one_tile t here = ap (λ (l : List ℤ). record { corner = t.corner; samples = l }) (same_lists (put_all t.corner s places t.samples) (changed_from f 0 t.samples) lengths each)

@@ -6,6 +6,7 @@ use Rattle.std.proofs.lemmas.Bool.{both_ways, false≢true, or_cases, or_left, o
 use Rattle.std.proofs.lemmas.List.{get_or-map, length-map, map-append, take-map, take_more}
 use Rattle.std.proofs.lemmas.List.Elements.{All-append, All-map, All-weaker}
 use Rattle.std.proofs.lemmas.List.Folds.{list_any-append}
+use Rattle.std.proofs.Math.Bool.{or-false}
 use Rattle.lattice.specs.Corners.{Corner}
 use Rattle.lattice.specs.declared.point.Point.{Point}
 use Rattle.lattice.specs.Ground.{same_point}
@@ -13,7 +14,6 @@ use Rattle.lattice.specs.Mosaic.{Mosaic, IsMosaic}
 use Rattle.catalogue.specs.Tiles.{corners_of}
 use Rattle.catalogue.specs.Tables.{with_sample}
 use Rattle.edits.specs.declared.change.Change.{Change}
-use Rattle.edits.specs.declared.change.Change.TheVariants.{Set}
 use Rattle.edits.specs.declared.edit.NewHeight.{NewHeight}
 use Rattle.edits.specs.declared.places.Place.{Place}
 use Rattle.edits.specs.Boxes.{filled}
@@ -24,7 +24,7 @@ use Rattle.edits.specs.Places.{IsPlace, ArePlaces}
 use Rattle.edits.proofs.Edited.{edited_none, edited_twice, edited_alike, heights_edit, heights_next}
 use Rattle.edits.proofs.EditedHeights.{edited_corners}
 use Rattle.edits.proofs.Once.{not_named, once_at, once_none, once_within, set_to}
-use Rattle.edits.proofs.SamePoints.{same_point_says}
+use Rattle.lattice.proofs.SamePoints.{same_point_says}
 use Rattle.edits.proofs.Placing.{placed, placed_edit, whole_tiles, edited_whole}
 
 all_on : (old more : List Change) (m : Mosaic) → all_changed (old ++ more) m ≡ all_changed more (all_changed old m)
@@ -34,10 +34,6 @@ all_on (x ∷ old) more m = all_on old more (changed x m)
 all_placed : (s : ℤ) (places : List Place) (m : Mosaic) → all_changed (map (set_to s) places) m ≡ placed s places m
 all_placed s [] m = refl
 all_placed s (x ∷ rest) m = all_placed s rest (with_sample x.corner x.index s m)
-
-or_none : (a : Bool) → (a || false) ≡ a
-or_none true = refl
-or_none false = refl
 
 either : (a b : Bool) (s u : ℤ) → (if b then s else (if a then s else u)) ≡ (if a || b then s else u)
 either true true s u = refl
@@ -136,7 +132,7 @@ module _ (n : ℕ) (cs : List Corner) where
           ap (λ (l : List NewHeight). is_named (points_of l) q) (take_more hs i h below ∙ ap (λ (x : NewHeight). take i hs ++ x ∷ []) (sym is))
           ∙ ap (λ (l : List Point). is_named l q) (map-append (λ (x : NewHeight). x.point) (take i hs) (h ∷ []))
           ∙ list_any-append (same_point q) (points_of (take i hs)) (h.point ∷ [])
-          ∙ ap (λ b. is_named (points_of (take i hs)) q || b) (or_none (same_point q h.point))
+          ∙ ap (λ b. is_named (points_of (take i hs)) q || b) (or-false (same_point q h.point))
 
 -- of the same tiles
 pub sets_kept : (test : Point → Bool) (s : ℤ) (n k : ℕ) (cs ds : List Corner) (a b : List Change) → n ≡ k → cs ≡ ds → Sets n cs test s a b → Sets k ds test s a b

@@ -3,9 +3,9 @@ use Rattle.std.proofs.Common.{◌≡◌, ℕ, ℤ, ◌+◌, ◌<◌, ◌≤◌, 
 use Rattle.std.specs.Prelude.{nat_lt, Result, Ok, Err}
 use Rattle.std.specs.List.{All, list_any, filter}
 use Rattle.std.proofs.Math.Seq.{drop-cons}
-use Rattle.std.proofs.lemmas.Bool.{cond-true, cond-false, or_parts, false_from_ne_true, false≢true, lt-ltb, ltb-true, le-ltb}
+use Rattle.std.proofs.lemmas.Bool.{cond-true, cond-false, or_parts, lt-ltb, ltb-true, le-ltb}
 use Rattle.std.proofs.lemmas.List.Elements.{All-cons, All-nil, All-head, All-tail, All-filter}
-use Rattle.lattice.specs.Corners.{Corner, is_before, same_corner}
+use Rattle.lattice.specs.Corners.{Corner, is_before}
 use Rattle.lattice.specs.declared.point.Point.{Point}
 use Rattle.lattice.specs.declared.height.Height.{Height}
 use Rattle.lattice.specs.declared.height.Height.TheVariants as height
@@ -17,7 +17,7 @@ use Rattle.lattice.specs.Lattice.{holds}
 use Rattle.lattice.specs.Limits.{most_sinks}
 use Rattle.lattice.specs.Mosaic.{Tile, Mosaic, IsTile, IsMosaic, IsHeld, AreSinks}
 use Rattle.lattice.specs.Points.{is_point_before}
-use Rattle.lattice.proofs.CornerOrder.{after_from, same_says, same_from}
+use Rattle.lattice.proofs.CornerOrder.{after_from, same_comm}
 use Rattle.lattice.proofs.Rising.{AllAfter, Rising, after_later, rising_from, adjacent_from, rising-filter}
 use Rattle.catalogue.specs.Tiles.{with_sinks}
 use Rattle.edits.specs.Sinks.{with_point, without_point, sunk, sunk_at, unsunk, SinksMakeMosaics, SinksLeaveMosaics}
@@ -25,9 +25,6 @@ use Rattle.edits.specs.Sinks.{with_point, without_point, sunk, sunk_at, unsunk, 
 -- points are ordered as corners are
 abbrev key : Point → Corner
 key p = record { lat = p.y; lon = p.x }
-
-other_way : (a b : Corner) → same_corner a b ≡ false → same_corner b a ≡ false
-other_way a b apart = false_from_ne_true (same_corner b a) (λ same. false≢true (sym apart ∙ same_from a b (sym (same_says b a same))))
 
 after_with : (c : Corner) (p : Point) (points : List Point) → IsTrue (is_before c (key p)) → AllAfter key c points → AllAfter key c (with_point p points)
 after_with c p [] before after = (before, tt)
@@ -45,7 +42,7 @@ rising_with p (q ∷ rest) absent rising =
     by : (b : Bool) → is_point_before p q ≡ b → same_point q p ≡ false → Rising key (with_point p rest) → Rising key (cond b (p ∷ (q ∷ rest)) (q ∷ with_point p rest))
     by true before apart later = ((before, after_later key (key p) (key q) rest before rising.0), rising)
     by false not_before apart later =
-        let after : is_before (key q) (key p) ≡ true = after_from (key p) (key q) not_before (other_way (key q) (key p) apart) in
+        let after : is_before (key q) (key p) ≡ true = after_from (key p) (key q) not_before (same_comm (key q) (key p) apart) in
         (after_with (key q) p rest after rising.0, later)
 
 pub length_with : (p : Point) (points : List Point) → length (with_point p points) ≡ length points + 1

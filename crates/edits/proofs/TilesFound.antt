@@ -6,6 +6,7 @@ use Rattle.std.proofs.lemmas.Bool.{and_parts, and_from, false_from_ne_true, both
 use Rattle.std.proofs.lemmas.List.Elements.{All-contains, All-push, Contains-get_or}
 use Rattle.std.proofs.lemmas.List.Quantifiers.{all_pairs_push}
 use Rattle.std.proofs.lemmas.List.Folds.{list_any-append}
+use Rattle.std.proofs.Math.Bool.{or-true, and-false, or-false}
 use Rattle.lattice.specs.Corners.{Corner, same_corner}
 use Rattle.lattice.specs.declared.point.Point.{Point}
 use Rattle.lattice.specs.Lattice.{Holds, point_of, holds, index_of}
@@ -72,11 +73,7 @@ module _ {S : Type 0} (g : Ghosts S) (from to : Point) where
 
   module _ (looked : List Corner) (c : Corner) (old mid now : S) (tiles : List Corner) (so : FindsTiles g from to looked old mid tiles) (reads : OnlyReads {T = Unit {0}} g old now (Ok tt)) (still : g.is_honest now → g.is_honest mid) where
     listed_more : (list : List Corner) (p : Corner) → is_listed p (list ++ c ∷ []) ≡ (is_listed p list || same_corner c p)
-    listed_more list p = list_any-append (λ d. same_corner d p) list (c ∷ []) ∙ ap (λ (b : Bool). is_listed p list || b) (last (same_corner c p))
-      where
-        last : (b : Bool) → (b || false) ≡ b
-        last true = refl
-        last false = refl
+    listed_more list p = list_any-append (λ d. same_corner d p) list (c ∷ []) ∙ ap (λ (b : Bool). is_listed p list || b) (or-false (same_corner c p))
 
     other_tile : (a l v s : Bool) → a ≡ (l && v) → s ≡ false → a ≡ ((l || s) && v)
     other_tile a l v true is no_ = absurd (false≢true (sym no_))
@@ -125,11 +122,7 @@ module _ {S : Type 0} (g : Ghosts S) (from to : Point) where
         apart k d below = false_from_ne_true (same_corner (get_or tiles k d) c) (λ same. both_ways (is_listed c tiles) fresh (any_from (λ e. same_corner e c) tiles (get_or tiles k d) (Contains-get_or tiles k d below) same))
 
         this : (a l v s : Bool) → s ≡ true → v ≡ true → (a || s) ≡ ((l || s) && v)
-        this a l true true is void = either a ∙ sym (ap (λ (b : Bool). b && true) (either l))
-          where
-            either : (b : Bool) → (b || true) ≡ true
-            either true = refl
-            either false = refl
+        this a l true true is void = or-true a ∙ sym (ap (λ (b : Bool). b && true) (or-true l))
         this a l false true is void = cc
         this a l v false is void = cc
 
@@ -167,11 +160,7 @@ module _ {S : Type 0} (g : Ghosts S) (from to : Point) where
           let parts = and_parts (is_in_box from to p) (is_void_at m p) one.1.1 in
           let held : Holds m.side t.corner p = point_of_held m.side t.corner one.0 (some_edge m.side valid.side_low) tile.corner one.1.0 in
           ap (λ (b : Bool). b && true) (any_from (λ d. same_corner d t.corner) looked t.corner (all t.corner p parts.0 held) (same_from t.corner t.corner refl))
-      by false none = off (is_listed t.corner looked)
-        where
-          off : (b : Bool) → (b && false) ≡ false
-          off true = refl
-          off false = refl
+      by false none = and-false (is_listed t.corner looked)
 
 -- the effect of a patch, by the tiles found
 

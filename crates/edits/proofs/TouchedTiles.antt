@@ -1,7 +1,6 @@
 -- The tiles that hold a point of a command.
-use Rattle.std.proofs.Common.{◌≡◌, ℕ, ◌*◌, ◌<◌, ◌≤◌, Bool, true, false, List, refl, sym, ◌∙◌, ap, subst, zero-add, arith}
+use Rattle.std.proofs.Common.{◌≡◌, ℕ, ◌*◌, ◌<◌, ◌≤◌, Bool, true, List, sym, ◌∙◌, ap, subst, zero-add, arith}
 use Rattle.std.specs.List.{Contains}
-use Rattle.std.proofs.lemmas.Bool.{false_from_ne_true}
 use Rattle.std.proofs.lemmas.List.{length-map, get_or-map}
 use Rattle.lattice.specs.declared.point.Point.{Point}
 use Rattle.lattice.specs.Ground.{same_point}
@@ -11,12 +10,8 @@ use Rattle.lattice.proofs.Samples.{holds_is, point_of_held}
 use Rattle.catalogue.specs.Tiles.{corners_of}
 use Rattle.edits.specs.Effect.{is_named, has_void_from}
 use Rattle.edits.specs.Touched.{holds_one}
-use Rattle.edits.proofs.SamePoints.{same_point_says}
+use Rattle.lattice.proofs.SamePoints.{same_point_says}
 use Rattle.edits.proofs.Voids.{any_says, any_from, is_void_within, some_index, at_index}
-
-pub same_bools : (a b : Bool) → (a ≡ true → b ≡ true) → (b ≡ true → a ≡ true) → a ≡ b
-same_bools true b there back = sym (there refl)
-same_bools false b there back = sym (false_from_ne_true b (λ e. let contrary : false ≡ true = back e in cc))
 
 pub some_edge : (n : ℕ) → 3 ≤ n → 0 < n
 some_edge n side = omega arith

@@ -1,30 +1,38 @@
 -- Samples in bytes and bytes of samples, by index.
-use Rattle.std.proofs.Common.{◌≡◌, ℕ, zero, suc, ◌+◌, ◌*◌, ◌/◌, ◌%◌, ◌<◌, ℤ, pos, List, [], ◌∷◌, length, get_or, set, All, subst, refl, ap, sym, ◌∙◌, arith, of_z, w16}
+use Rattle.std.proofs.Common.{◌≡◌, ℕ, zero, suc, ◌+◌, ◌*◌, ◌/◌, ◌%◌, ◌<◌, ℤ, pos, List, [], ◌∷◌, length, get_or, set, All, subst, refl, ap, sym, ◌∙◌, arith, of_z, w16, Bool, true, false, cond, nat_lt, ◌≤◌, ◌-ℤ◌}
 use Rattle.std.specs.List.{flat_map}
 use Rattle.std.proofs.lemmas.List.{same_lists, get_or_default}
-use Rattle.std.proofs.lemmas.List.Elements.{All-head, All-tail}
+use Rattle.std.proofs.lemmas.List.Elements.{All-head, All-tail, All-nil, All-cons}
+use Rattle.std.proofs.lemmas.Bool.{ltb-true, ltb-false}
+use Rattle.std.proofs.lemmas.Int.{ints}
 use Rattle.lattice.specs.Mosaic.{IsSample}
+use Rattle.lattice.proofs.Pairs.{length-pairs, get_or-pairs}
 use Rattle.hgt.specs.Bytes.{AreHgtBytes, unsigned_of, sample_of, samples_in, hgt_bytes, high_byte, low_byte}
 use Rattle.hgt.specs.HgtLaws.{IsByte}
 use Rattle.hgt.proofs.Words.{word_of_sample, sample_of_bytes, high_byte_of, low_byte_of, unsigned-sample_of, sample_of_pair, byte-high_byte, byte-low_byte}
 
-get_or_third : {A : Type 0} (x y : A) (xs : List A) (i j : ℕ) (d : A) → j ≡ suc (suc i) → get_or (x ∷ y ∷ xs) j d ≡ get_or xs i d
-get_or_third x y xs i j d e = ap (λ n. get_or (x ∷ y ∷ xs) n d) e
-
 pub get_or-samples_in : (bytes : List ℕ) (i : ℕ) (d : ℤ) → 2 * i + 1 < length bytes → get_or (samples_in bytes) i d ≡ sample_of (get_or bytes (2 * i) 0) (get_or bytes (2 * i + 1) 0)
-get_or-samples_in [] i d h = absurd (omega arith)
-get_or-samples_in (b ∷ []) i d h = absurd (omega arith)
-get_or-samples_in (b ∷ c ∷ rest) zero d h = refl
-get_or-samples_in (b ∷ c ∷ rest) (suc i) d h =
-    let high : get_or (b ∷ c ∷ rest) (2 * suc i) 0 ≡ get_or rest (2 * i) 0 = get_or_third b c rest (2 * i) (2 * suc i) 0 (omega arith) in
-    let low : get_or (b ∷ c ∷ rest) (2 * suc i + 1) 0 ≡ get_or rest (2 * i + 1) 0 = get_or_third b c rest (2 * i + 1) (2 * suc i + 1) 0 (omega arith) in
-    rw (high, low) (get_or-samples_in rest i d (omega arith))
+get_or-samples_in = get_or-pairs samples_in sample_of refl (λ b c rest. refl)
 
 pub length-samples_in : (bytes : List ℕ) (n : ℕ) → length bytes ≡ 2 * n → length (samples_in bytes) ≡ n
-length-samples_in [] n h = omega arith
-length-samples_in (b ∷ []) n h = absurd (omega arith)
-length-samples_in (b ∷ c ∷ rest) zero h = absurd (omega arith)
-length-samples_in (b ∷ c ∷ rest) (suc n) h = ap suc (length-samples_in rest n (omega arith))
+length-samples_in = length-pairs samples_in sample_of refl (λ b c rest. refl)
+
+-- what two bytes say
+pub sample_of_is_sample : (high low : ℕ) → high < 256 → low < 256 → IsSample (sample_of high low)
+sample_of_is_sample high low h l = by (nat_lt high 128) refl
+  where
+    by : (b : Bool) → nat_lt high 128 ≡ b → IsSample (cond b (pos (256 * high + low)) (pos (256 * high + low) -ℤ pos 65536))
+    by true small = let below : high < 128 = ltb-true high 128 small in (omega (arith, ints), omega (arith, ints))
+    by false large = let above : 128 ≤ high = ltb-false high 128 large in (omega (arith, ints), omega (arith, ints))
+
+pub samples_in_are_samples : (bytes : List ℕ) → All (λ b. b < 256) bytes → All IsSample (samples_in bytes)
+samples_in_are_samples [] small = All-nil IsSample
+samples_in_are_samples (high ∷ []) small = All-nil IsSample
+samples_in_are_samples (high ∷ (low ∷ rest)) small =
+    let later = All-tail (λ b. b < 256) high (low ∷ rest) small in
+    All-cons IsSample (sample_of high low) (samples_in rest)
+    (sample_of_is_sample high low (All-head (λ b. b < 256) high (low ∷ rest) small) (All-head (λ b. b < 256) low rest later))
+    (samples_in_are_samples rest (All-tail (λ b. b < 256) low rest later))
 
 pub length-hgt_bytes : (samples : List ℤ) → length (hgt_bytes samples) ≡ 2 * length samples
 length-hgt_bytes [] = refl

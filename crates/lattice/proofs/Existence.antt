@@ -6,11 +6,8 @@ use Rattle.std.specs.List.{list_any}
 use Rattle.std.proofs.lemmas.Int.{ints}
 use Rattle.std.proofs.lemmas.Bool.{cases_Bool, and_parts, and_from, or_cases, or_left, or_right, not-true}
 use Rattle.lattice.specs.Terrain.{Terrain, crest, LeadsOut, IsFilledLevel, IsLawful}
-use Rattle.lattice.proofs.IntTests.{le_true, le_from}
+use Rattle.lattice.proofs.IntTests.{le_true, le_from, le_or_above}
 use Rattle.lattice.proofs.Levels.{le-max_left, le-max_right, max-le, ≤ℤ_trans, height-le_crest}
-
-le_or_above : (a b : ℤ) → (a ≤ℤ b) ⊎ (b <ℤ a)
-le_or_above a b = elim (cases_Bool (int_le a b)) [ inl le ↦ inl (le_true a b le) | inr above ↦ inr (grind (arith, ints)) ]
 
 -- how many of the points are marked
 tally : {P : Type 0} → (P → Bool) → List P → ℕ

@@ -1,5 +1,8 @@
 -- What the tests of whole numbers tell.
-use Rattle.std.proofs.Common.{◌≡◌, ℤ, ◌≤ℤ◌, ◌<ℤ◌, int_le, int_lt, true, false, arith}
+use Rattle.std.proofs.Common.{◌≡◌, ◌≢◌, ℤ, ◌≤ℤ◌, ◌<ℤ◌, ◌⊎◌, inl, inr, int_le, int_lt, true, false, true≢false, sym, ◌∙◌, arith}
+use Rattle.std.specs.Ordering.{int_eq}
+use Rattle.std.proofs.lemmas.Bool.{cases_Bool}
+use Rattle.std.proofs.lemmas.Bool.Decides.{Decides-int_eq}
 use Rattle.std.proofs.lemmas.Int.{ints}
 
 pub le_true : (a b : ℤ) → int_le a b ≡ true → a ≤ℤ b
@@ -22,3 +25,24 @@ lt_false a b e = grind (arith, ints)
 
 pub lt_not : (a b : ℤ) → b ≤ℤ a → int_lt a b ≡ false
 lt_not a b h = grind (arith, ints)
+
+pub eq_true : (a b : ℤ) → int_eq a b ≡ true → a ≡ b
+eq_true a b e = (Decides-int_eq a b).0 e
+
+pub eq_from : (a b : ℤ) → a ≡ b → int_eq a b ≡ true
+eq_from a b h = (Decides-int_eq a b).1 h
+
+pub eq_false : (a b : ℤ) → int_eq a b ≡ false → (a <ℤ b) ⊎ (b <ℤ a)
+eq_false a b e = grind (arith, ints)
+
+pub int_eq-swap : (a b : ℤ) → int_eq a b ≡ int_eq b a
+int_eq-swap a b = grind (arith, ints)
+
+pub eq_or_not : (a b : ℤ) → (a ≡ b) ⊎ (a ≢ b)
+eq_or_not a b = elim (cases_Bool (int_eq a b)) [
+  | inl same ↦ inl (eq_true a b same)
+  | inr other ↦ inr (λ same. true≢false (sym (eq_from a b same) ∙ other))
+]
+
+pub le_or_above : (a b : ℤ) → (a ≤ℤ b) ⊎ (b <ℤ a)
+le_or_above a b = elim (cases_Bool (int_le a b)) [ inl le ↦ inl (le_true a b le) | inr above ↦ inr (le_false a b above) ]

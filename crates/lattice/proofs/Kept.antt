@@ -1,11 +1,11 @@
 -- The tiles that hold a point are among the four next to it: those kept of the four by the test are the holders, in
 -- the order of tiles.
-use Rattle.std.proofs.Common.{◌≡◌, ◌∙◌, ℕ, zero, suc, ◌+◌, ◌-◌, ◌/◌, ◌<◌, ◌≤◌, ◌⊎◌, inl, inr, ℤ, pos, negsuc, ◌+ℤ◌, ◌*◌, ◌-ℤ◌, ◌*ℤ◌, ◌≤ℤ◌, ◌<ℤ◌, int_lt, ◌↔◌, Bool, true, IsTrue, ◌&&◌, List, [], ◌∷◌, ◌++◌, length, map, get_or, drop, refl, sym, ap, ap₂, append_assoc, append-nil, add-one, drop-cons, arith}
+use Rattle.std.proofs.Common.{◌≡◌, ◌∙◌, ℕ, ◌+◌, ◌-◌, ◌/◌, ◌<◌, ◌≤◌, ◌⊎◌, inl, inr, ℤ, pos, negsuc, ◌+ℤ◌, ◌*◌, ◌-ℤ◌, ◌*ℤ◌, ◌≤ℤ◌, ◌<ℤ◌, int_lt, ◌↔◌, Bool, true, IsTrue, ◌&&◌, List, [], ◌∷◌, ◌++◌, length, map, get_or, drop, refl, sym, ap, ap₂, append_assoc, append-nil, add-one, drop-cons, arith}
 use Rattle.std.specs.List.{Contains, AllPairs, AllAdjacentBelow, filter}
 use Rattle.std.proofs.lemmas.Int.{ints}
-use Rattle.std.proofs.lemmas.Bool.{and_parts, and_from, cond-true, cond-false, cond_both, false_from_ne_true, cases_Bool, both_ways}
+use Rattle.std.proofs.lemmas.Bool.{and_parts, and_from, cond-true, cond-false, cond_both, false_from_ne_true, cases_Bool}
 use Rattle.std.proofs.lemmas.List.{drop_all}
-use Rattle.std.proofs.lemmas.List.Elements.{All-nil, All-cons, All-contains, Contains-append_right, filter_passes}
+use Rattle.std.proofs.lemmas.List.Elements.{All-nil, All-cons, All-contains, filter_passes}
 use Rattle.std.proofs.lemmas.List.Kept.{AllPairs-cons, AllPairs-filter}
 use Rattle.lattice.specs.Corners.{Corner, is_corner}
 use Rattle.lattice.specs.LatticeLaws.{AreHolders}
@@ -14,6 +14,7 @@ use Rattle.lattice.specs.declared.point.Point.{Point}
 use Rattle.lattice.specs.declared.holding.Degrees.{Degrees}
 use Rattle.lattice.specs.Degrees.{corner_at}
 use Rattle.lattice.proofs.Along.{parts}
+use Rattle.lattice.proofs.Filters.{contains_filtered}
 use Rattle.lattice.proofs.Multiples.{product_plus, factor_less}
 use Rattle.lattice.proofs.Samples.{holds_is, along_of_holds}
 
@@ -68,19 +69,6 @@ passed n p cs i d found whole side small far so_far =
     let more : kept n p (drop i cs) ≡ rest = ap (kept n p) (turn cs i d small) ∙ cond-false (is_held n p here) (here ∷ rest) rest not_held in
     ap (λ (s : List Corner). found ++ s) (sym more) ∙ so_far
 
--- what passes a test stays
-pub stays : (test : Corner → Bool) (xs : List Corner) (k : ℕ) (c : Corner) → k < length xs → get_or xs k c ≡ c → test c ≡ true → Contains (filter test xs) c
-stays test [] k c small is yes_c = absurd (omega arith)
-stays test (x ∷ xs) zero c small is yes_c =
-    cond_both (test x) (x ∷ filter test xs) (filter test xs) (λ l. Contains l c)
-    (λ _. (0, omega arith, is))
-    (λ no_x. absurd (both_ways (test x) no_x (ap test is ∙ yes_c)))
-stays test (x ∷ xs) (suc k) c small is yes_c =
-    let rest : Contains (filter test xs) c = stays test xs k c (omega arith) is yes_c in
-    cond_both (test x) (x ∷ filter test xs) (filter test xs) (λ l. Contains l c)
-    (λ _. Contains-append_right (x ∷ []) (filter test xs) c rest)
-    (λ _. rest)
-
 -- a tile along whose edge v lies begins at the last whole degree up to v, or one before it
 near : (m : ℕ) (last corner v : ℤ) → 0 < m → (last *ℤ pos m) ≤ℤ v → v <ℤ (last *ℤ pos m +ℤ pos m) → IsTrue (is_along (pos m) corner v) →
     (corner ≡ last -ℤ pos 1) ⊎ (corner ≡ last)
@@ -112,7 +100,7 @@ kept_exactly n p lat lon side y_from y_to x_from x_to c = (
   λ held.
       let along = along_of_holds n c p held in
       let here = among lat lon c (near (n - 1) lat c.lat p.y (omega arith) y_from y_to along.0) (near (n - 1) lon c.lon p.x (omega arith) x_from x_to along.1) in
-      stays (is_held n p) (map corner_at (around lat lon)) here.0 c here.1 here.2 ((held_is n p c side).1 held),
+      contains_filtered (is_held n p) (map corner_at (around lat lon)) c here ((held_is n p c side).1 held),
 )
 
 before_by_lat : (a b : Corner) → a.lat <ℤ b.lat → IsBefore a b

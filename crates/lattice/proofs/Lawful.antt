@@ -1,16 +1,17 @@
 -- Adjacency is between ground points and goes both ways, and outlets are ground: on a mosaic and in a block.
 use Rattle.std.proofs.Common.{◌≡◌, ℕ, ◌+◌, ◌/◌, ◌%◌, ℤ, ◌-ℤ◌, Bool, true, false, IsTrue, ◌&&◌, ◌||◌, not, List, [], ◌∷◌, refl, ◌∙◌, ap, ap₂, nat_abs, arith, ⊎_elim}
 use Rattle.std.specs.Prelude.{nat_lt, nat_le, nat_eq}
-use Rattle.std.specs.Ordering.{int_eq}
 use Rattle.std.specs.List.{list_any}
 use Rattle.std.proofs.lemmas.Bool.{and_parts, and_from, or_cases}
 use Rattle.std.proofs.lemmas.Int.{ints}
 use Rattle.std.proofs.lemmas.Bool.Decides.{nat_tests}
+use Rattle.std.proofs.Math.Bool.{and_comm}
 use Rattle.lattice.specs.declared.point.Point.{Point}
 use Rattle.lattice.specs.Lattice.{holds}
 use Rattle.lattice.specs.Terrain.{IsLawful}
 use Rattle.lattice.specs.Mosaic.{Mosaic, Tile}
 use Rattle.lattice.specs.Ground.{is_ground, same_point, is_near, share_tile, is_adjacent, terrain}
+use Rattle.lattice.proofs.IntTests.{int_eq-swap}
 use Rattle.lattice.specs.Block.{is_solid, is_linked, is_beside, is_exit, is_inner_outlet, is_rim, Block, block_terrain}
 
 pub record AllFive (a b c d e : Bool) : Type 0 where
@@ -32,22 +33,13 @@ pub five_from : (a b c d e : Bool) → AllFive a b c d e → (a && b && c && d &
 five_from a b c d e h =
     and_from (a && b && c && d) e (and_from (a && b && c) d (and_from (a && b) c (and_from a b h.first h.second) h.third) h.fourth) h.fifth
 
-int_eq-swap : (a b : ℤ) → int_eq a b ≡ int_eq b a
-int_eq-swap a b = grind (arith, ints)
-
 nat_abs-swap : (a b : ℤ) → nat_abs (a -ℤ b) ≡ nat_abs (b -ℤ a)
 nat_abs-swap a b = omega (arith, ints)
-
-and-swap : (a b : Bool) → (a && b) ≡ (b && a)
-and-swap true true = refl
-and-swap true false = refl
-and-swap false true = refl
-and-swap false false = refl
 
 share_tile-swap : (n : ℕ) (tiles : List Tile) (p q : Point) →
     list_any (λ t. holds n t.corner p && holds n t.corner q) tiles ≡ list_any (λ t. holds n t.corner q && holds n t.corner p) tiles
 share_tile-swap n [] p q = refl
-share_tile-swap n (t ∷ rest) p q = ap₂ ◌||◌ (and-swap (holds n t.corner p) (holds n t.corner q)) (share_tile-swap n rest p q)
+share_tile-swap n (t ∷ rest) p q = ap₂ ◌||◌ (and_comm (holds n t.corner p) (holds n t.corner q)) (share_tile-swap n rest p q)
 
 near-swap : (p q : Point) → is_near p q ≡ is_near q p
 near-swap p q = ap₂ ◌&&◌ (ap (λ d. nat_lt d 2) (nat_abs-swap p.y q.y)) (ap (λ d. nat_lt d 2) (nat_abs-swap p.x q.x))
@@ -79,10 +71,10 @@ nat_eq-swap : (a b : ℕ) → nat_eq a b ≡ nat_eq b a
 nat_eq-swap a b = grind (arith, nat_tests)
 
 turned : (a b c d : Bool) → (a && b && c && d) ≡ (b && a && d && c)
-turned a b c d = ap₂ (λ x y. x && y) (ap₂ (λ x y. x && y) (and-swap a b) refl) refl ∙ rest (b && a)
+turned a b c d = ap₂ (λ x y. x && y) (ap₂ (λ x y. x && y) (and_comm a b) refl) refl ∙ rest (b && a)
   where
     rest : (x : Bool) → (x && c && d) ≡ (x && d && c)
-    rest true = and-swap c d
+    rest true = and_comm c d
     rest false = refl
 
 beside-swap : (n e f : ℕ) → is_beside n e f ≡ is_beside n f e

@@ -1,6 +1,6 @@
 -- Filled levels of any terrain: there is at most one, an outlet's is its height, and each step of a flood finds one
 -- (after the correctness argument of Barnes, Lehman and Mulla 2014).
-use Rattle.std.proofs.Common.{◌≡◌, ℤ, ◌≤ℤ◌, Bool, IsTrue, IsFalse, List, [], ◌∷◌, refl, sym, ap, ◌∙◌, subst, arith, inl, inr, true≢false}
+use Rattle.std.proofs.Common.{◌≡◌, ℤ, ◌≤ℤ◌, Bool, IsTrue, IsFalse, List, [], ◌∷◌, refl, sym, ap, ◌∙◌, subst, arith, inl, inr, true≢false, ◌⊎◌, cond, int_lt}
 use Rattle.std.specs.Int.{int_max}
 use Rattle.std.proofs.lemmas.Int.{ints, clamps}
 use Rattle.std.proofs.lemmas.Bool.{cases_Bool}
@@ -14,6 +14,12 @@ le-max_right a b = omega (arith, ints, clamps)
 
 pub max-le : (a b c : ℤ) → a ≤ℤ c → b ≤ℤ c → int_max a b ≤ℤ c
 max-le a b c ac bc = omega (arith, ints, clamps)
+
+pub max_one_of : (a b : ℤ) → (int_max a b ≡ a) ⊎ (int_max a b ≡ b)
+max_one_of a b = elim (cases_Bool (int_lt b a)) [ inl h ↦ inl (ap (λ v. cond v a b) h) | inr h ↦ inr (ap (λ v. cond v a b) h) ]
+
+pub max-swap : (a b : ℤ) → int_max a b ≡ int_max b a
+max-swap a b = omega (arith, ints, clamps)
 
 pub ≤ℤ_trans : (a b c : ℤ) → a ≤ℤ b → b ≤ℤ c → a ≤ℤ c
 ≤ℤ_trans a b c ab bc = omega (arith, ints)

@@ -1,7 +1,11 @@
 pub mod IntTests
+pub mod BoolTests
+pub mod Filters
+pub mod Pairs
 pub mod Along
 pub mod Multiples
 pub mod Samples
+pub mod SampleRange
 pub mod Interior
 pub mod RimNumbers
 pub mod CornerOrder

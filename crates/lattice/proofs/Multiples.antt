@@ -52,3 +52,7 @@ multiples_same a b m i k some inside within e =
         let far : 1 * m ≤ d * m = mul-le-mul_right m some_apart in
         let product : (a *ℤ pos m) ≡ b *ℤ pos m +ℤ pos (d * m) = ap (λ (x : ℤ). x *ℤ pos m) is ∙ product_plus b d m in
         omega (arith, ints, e, product, far)
+
+pub some_side : (n e : ℕ) → e < n * n → 0 < n
+some_side zero e within = absurd (omega arith)
+some_side (suc n) e within = omega arith

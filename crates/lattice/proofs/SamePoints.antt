@@ -6,10 +6,13 @@ use Rattle.std.proofs.lemmas.Bool.Decides.{Decides-int_eq}
 use Rattle.lattice.specs.declared.point.Point.{Point}
 use Rattle.lattice.specs.Ground.{same_point}
 
+pub same_place : (p q : Point) → p.y ≡ q.y → p.x ≡ q.x → p ≡ q
+same_place p q y x = ap₂ (λ (v u : ℤ). record { y = v; x = u }) y x
+
 pub same_point_says : (p q : Point) → same_point p q ≡ true → p ≡ q
 same_point_says p q e =
     let both = and_parts (int_eq p.y q.y) (int_eq p.x q.x) e in
-    ap₂ (λ (y x : ℤ). record { y = y; x = x }) ((Decides-int_eq p.y q.y).0 both.0) ((Decides-int_eq p.x q.x).0 both.1)
+    same_place p q ((Decides-int_eq p.y q.y).0 both.0) ((Decides-int_eq p.x q.x).0 both.1)
 
 pub same_point_from : (p q : Point) → p ≡ q → same_point p q ≡ true
 same_point_from p q e =

@@ -9,21 +9,16 @@ use Rattle.lattice.specs.Mosaic.{Mosaic, IsMosaic}
 use Rattle.lattice.specs.Ground.{same_point}
 use Rattle.lattice.specs.Block.{AreHeightsOf, IsBlockOf}
 use Rattle.lattice.specs.SinkIndices.{sinks_in}
+use Rattle.lattice.proofs.BoolTests.{same_tests}
 use Rattle.lattice.proofs.SamePoints.{same_point_says, same_point_from}
 use Rattle.lattice.proofs.Samples.{holds_is, point_of_held, point_of_index, index_of_point_is}
-
-both_or_neither : (a b : Bool) → (a ≡ true → b ≡ true) → (b ≡ true → a ≡ true) → a ≡ b
-both_or_neither true true to from = refl
-both_or_neither true false to from = sym (to refl)
-both_or_neither false true to from = from refl
-both_or_neither false false to from = refl
 
 module _ (n : ℕ) (c : Corner) (e : ℕ) (side : 3 ≤ n) (corner : IsTrue (is_corner c)) (small : e < n * n) where
   here : IsTrue (holds n c (point_of n c e))
   here = (holds_is n c (point_of n c e) side corner).1 (point_of_held n c e (omega arith) corner small)
 
   same_index : (s : Point) → holds n c s ≡ true → nat_eq (index_of n c s) e ≡ same_point s (point_of n c e)
-  same_index s held = both_or_neither (nat_eq (index_of n c s) e) (same_point s (point_of n c e))
+  same_index s held = same_tests (nat_eq (index_of n c s) e) (same_point s (point_of n c e))
       (λ same. same_point_from s (point_of n c e)
       (sym (point_of_index n c s ((holds_is n c s side corner).0 held)) ∙ ap (point_of n c) (eqb-true (index_of n c s) e same)))
       (λ same. eq-eqb (index_of n c s) e

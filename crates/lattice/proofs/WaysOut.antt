@@ -13,12 +13,9 @@ use Rattle.lattice.specs.Terrain.{LeadsOut}
 use Rattle.lattice.specs.Mosaic.{Mosaic, Tile, IsMosaic, IsTile}
 use Rattle.lattice.specs.Height.{sample_at, by_seam_rule}
 use Rattle.lattice.specs.Ground.{is_ground, is_height, is_adjacent, is_sink, degree_of, terrain}
+use Rattle.lattice.proofs.BoolTests.{one_at_most}
 use Rattle.lattice.proofs.IntTests.{le_true}
 use Rattle.lattice.proofs.Lawful.{terrain_is_lawful}
-
-one_at_most : (b : Bool) → cond b 1 0 ≤ 1
-one_at_most true = omega arith
-one_at_most false = omega arith
 
 none : (b : Bool) → b ≡ false → cond b 1 0 ≤ 0
 none true off = absurd (true≢false off)

@@ -1,6 +1,7 @@
 use Rattle.std.proofs.Common.{◌≡◌, ◌∙◌, ◌&&◌, inl, inr, true, false, ap, sym, subst, to_z, of_z}
 use Rattle.std.proofs.lemmas.Int.{to_z-of_z}
 use Rattle.std.proofs.lemmas.Result.{on_ok_weaker}
+use Rattle.std.proofs.Math.Bool.{and-true}
 use mir.Syntax.{w16}
 use Rattle.lattice.specs.declared.height.Height.TheVariants as height
 use Rattle.lattice.specs.Height.{height_of}
@@ -8,7 +9,6 @@ use Rattle.lattice.specs.Ground.{same_point}
 use Rattle.edits.specs.Changes.{Sets}
 use Rattle.edits.specs.Effect.{is_void_at, is_void_height}
 use Rattle.edits.proofs.BoxRows.{not_void_is, void_is}
-use Rattle.edits.proofs.Filling.{and_true}
 use Rattle.edits.proofs.Setting.{fits_kept, sets_alike, sets_kept, sets_none}
 use Rattle.edits.proofs.listing.put_if_void.Goals as goal
 
@@ -25,7 +25,7 @@ returns-in-Void-clause-sets g c = λ honest.
     let void : height_of m p ≡ height.Void = sym (c.in_ok-height.ensures.value honest) ∙ c.in-Void.is in
     on_ok_weaker c.put.result
     (λ put. subst (λ v. Sets n cs (λ q. same_point q p && is_void_at m q) v a b) (to_z-of_z w16 c.args.sample c.ranges.sample)
-    (sets_alike n cs (λ q. same_point q p) (λ q. same_point q p && is_void_at m q) (to_z w16 (of_z w16 c.args.sample)) (λ q. sym (void_is m p true (ap is_void_height void) q ∙ and_true (same_point q p))) a b
+    (sets_alike n cs (λ q. same_point q p) (λ q. same_point q p && is_void_at m q) (to_z w16 (of_z w16 c.args.sample)) (λ q. sym (void_is m p true (ap is_void_height void) q ∙ and-true (same_point q p))) a b
     (sets_kept (λ q. same_point q p) (to_z w16 (of_z w16 c.args.sample)) (g.S.Samples.side_of c.height.new.samples) n (g.S.Samples.corners c.height.new.samples) cs a b read.side read.corners put)))
     c.put.ensures.sets
 
