@@ -1,5 +1,5 @@
 -- The list of links as it grows.
-use Rattle.std.proofs.Common.{◌≡◌, ◌≢◌, ℕ, ◌+◌, ◌*◌, ◌-◌, ◌<◌, ◌≤◌, ◌⊎◌, inl, inr, ℤ, ◌≤ℤ◌, List, length, get_or, refl, sym, ap, ◌∙◌, subst, arith, Bool, true, false, not, Contains, SFits, w16}
+use Rattle.std.proofs.Common.{◌≡◌, ◌≢◌, ℕ, ◌+◌, ◌*◌, ◌-◌, ◌<◌, ◌≤◌, ◌⊎◌, inl, inr, ℤ, ◌≤ℤ◌, List, length, get_or, refl, sym, ap, ◌∙◌, subst, arith, true, Contains, SFits, w16}
 use Rattle.std.proofs.lemmas.Int.{ints}
 use Rattle.std.proofs.lemmas.Bool.{cases_lt}
 use Rattle.std.proofs.lemmas.List.{get_or_default}
@@ -117,10 +117,6 @@ module _ (n : ℕ) (summaries : List Summary) (old mid new : List (List Link)) (
         subst (λ v. IsListed new (node_number n (Rim t point.label)) (node_number n (Rim t k)) v) (second_level ∙ at)
             (subst (λ x. IsListed new x (node_number n (Rim t k)) second.level) second_from two.listed),
       )
-
-pub true_if_not : (b : Bool) → not b ≡ false → b ≡ true
-true_if_not true h = refl
-true_if_not false h = sym h
 
 -- a spill
 module _ (n : ℕ) (summaries : List Summary) (old mid new : List (List Link)) (t : ℕ) (spill : Spill) (has : Contains (summary_at summaries t).spills spill) (there_a : IsThere n summaries t spill.a) (s : AreSoFar n summaries old) (full : spill.level ≢ void) where

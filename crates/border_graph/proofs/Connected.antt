@@ -1,14 +1,9 @@
 -- Places that are joined by ways at no more than a level.
-use Rattle.std.proofs.Common.{ℕ, ℤ, ◌≤ℤ◌, inl, inr, List, [], ◌∷◌, refl, sym, subst, Contains}
+use Rattle.std.proofs.Common.{ℕ, ℤ, ◌≤ℤ◌, inl, inr, List, [], ◌∷◌, refl, Contains}
 use Rattle.border_graph.specs.Links.{IsWayBelow}
-use Rattle.border_graph.proofs.Surge.{way_up}
+use Rattle.border_graph.proofs.Surge.{way_up, go_on}
 use Rattle.border_graph.specs.declared.pass.Pass.{Pass}
 use Rattle.border_graph.specs.Passes.{IsPass, AreJoined}
-
--- a way to a, and on from there
-pub go_on : (L : ℕ → ℕ → ℤ → Type 0) (a b : ℕ) (level : ℤ) (x : ℕ) (rest more : List ℕ) → IsWayBelow L a level x rest → IsWayBelow L b level a more → (all : List ℕ) × IsWayBelow L b level x all
-go_on L a b level x [] more way on = (more, subst (λ v. IsWayBelow L b level v more) (sym way) on)
-go_on L a b level x (y ∷ rest) more way on = let further = go_on L a b level y rest more way.1 on in (y ∷ further.0, (way.0, further.1))
 
 -- a way is one over more links too
 pub over_more : (L L' : ℕ → ℕ → ℤ → Type 0) → ((x y : ℕ) (l : ℤ) → L x y l → L' x y l) → (out : ℕ) (level : ℤ) (x : ℕ) (rest : List ℕ) → IsWayBelow L out level x rest → IsWayBelow L' out level x rest

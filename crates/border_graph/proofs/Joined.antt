@@ -4,7 +4,6 @@ use Rattle.std.proofs.lemmas.List.{length-map, get_or_default}
 use denote.Struct.Props.{props}
 use Rattle.std.specs.Int.{int_max}
 use Rattle.std.specs.Ordering.{int_eq}
-use Rattle.std.proofs.lemmas.Int.{ints, clamps}
 use Rattle.std.proofs.lemmas.Bool.{cases_Bool, cases_eq, cases_lt, and_parts, and_from, or_cases}
 use Rattle.std.proofs.lemmas.Bool.Decides.{Decides-int_eq}
 use Rattle.lattice.specs.declared.point.Point.{Point}
@@ -14,7 +13,7 @@ use Rattle.lattice.specs.Terrain.{IsPath, end_of, crest, LeadsOut, IsFilledLevel
 use Rattle.lattice.specs.Mosaic.{Mosaic, Tile, IsMosaic, is_present, void}
 use Rattle.lattice.specs.Ground.{is_ground, is_outlet, is_adjacent, same_point, is_near, share_tile, terrain}
 use Rattle.lattice.specs.Block.{block_terrain, is_solid, is_linked, is_rim, rim_number, is_inner_outlet}
-use Rattle.lattice.proofs.Levels.{≤ℤ_trans, le-max_left, le-max_right, max-le, height-le_level, height-le_crest, level_is_unique, level_of_outlet}
+use Rattle.lattice.proofs.Levels.{≤ℤ_trans, le-max_left, le-max_right, max-le, height-le_level, height-le_crest, level_is_unique, level_of_outlet, max-swap}
 use Rattle.lattice.proofs.Lawful.{terrain_is_lawful, block_is_lawful, five_parts}
 use Rattle.lattice.proofs.Samples.{index_of_point, holds_is, point_of_index, index_of_below, index_of_point_is, point_of_held}
 use Rattle.lattice.proofs.FilledLevels.{filled_level_exists}
@@ -313,9 +312,6 @@ module _ (m : Mosaic) (is : IsMosaic m) (summaries : List Summary) (all : AreSum
           ),
         );
       }
-        where
-          max-swap : (a b : ℤ) → int_max a b ≡ int_max b a
-          max-swap a b = omega (arith, ints, clamps)
 
       -- a link between two rim points of the tile
       inner_link : (k l : ℕ) (a : At k) (b : At l) (v : ℤ) → IsInnerLink m.side summaries t k l v → v ≤ℤ level →

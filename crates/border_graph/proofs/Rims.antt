@@ -1,8 +1,5 @@
 -- The levels that water reaches over the listed links are the filled levels of the rims.
-use Rattle.std.proofs.Common.{◌≡◌, ◌≢◌, ℕ, ◌+◌, ◌*◌, ◌-◌, ◌<◌, ◌⊎◌, inl, inr, ℤ, ◌≤ℤ◌, IsFalse, List, [], ◌∷◌, length, get_or, slice_index_or, refl, sym, ◌∙◌, subst, arith, true≢false}
-use Rattle.std.specs.Ordering.{int_eq}
-use Rattle.std.proofs.lemmas.Bool.{cases_Bool}
-use Rattle.std.proofs.lemmas.Bool.Decides.{Decides-int_eq}
+use Rattle.std.proofs.Common.{◌≡◌, ◌≢◌, ℕ, ◌+◌, ◌*◌, ◌-◌, ◌<◌, inl, inr, ℤ, ◌≤ℤ◌, IsFalse, List, [], ◌∷◌, length, get_or, slice_index_or, refl, sym, ◌∙◌, subst, arith, true≢false}
 use Rattle.lattice.specs.declared.point.Point.{Point}
 use Rattle.lattice.specs.Lattice.{point_of}
 use Rattle.lattice.specs.Terrain.{IsFilledLevel}
@@ -10,6 +7,7 @@ use Rattle.lattice.specs.Mosaic.{Mosaic, IsMosaic, void}
 use Rattle.lattice.specs.Ground.{is_ground, terrain}
 use Rattle.lattice.specs.Block.{rim_number}
 use Rattle.lattice.proofs.Levels.{≤ℤ_trans}
+use Rattle.lattice.proofs.IntTests.{eq_or_not}
 use Rattle.tile_flood.specs.Raising.{AreRimLevels}
 use Rattle.tile_flood.proofs.Raised.{lowest_height, rim_number_below}
 use Rattle.tile_flood.proofs.Passages.{solid_has_level, not_void}
@@ -23,12 +21,6 @@ use Rattle.border_graph.specs.Linking.{node_number, AreLinked}
 use Rattle.border_graph.proofs.Joined.{of, there_at, ground_at, solid_at, joined_is_filled, is_joined, height-le_level_at, spill_of}
 use Rattle.border_graph.proofs.Listed.{joined_over_links, no_way_over_links, one_tile, one_number}
 use Rattle.border_graph.proofs.Surge.{max_not_void}
-
-void_or_not : (v : ℤ) → (v ≡ void) ⊎ (v ≢ void)
-void_or_not v = elim (cases_Bool (int_eq v void)) [
-  | inl same ↦ inl ((Decides-int_eq v void).0 same)
-  | inr other ↦ inr (λ same. true≢false (sym ((Decides-int_eq v void).1 same) ∙ other))
-]
 
 module _ (m : Mosaic) (is : IsMosaic m) (summaries : List Summary) (all : AreSummaries m summaries) where
   -- a spill is at the level of some height
@@ -76,7 +68,7 @@ module _ (m : Mosaic) (is : IsMosaic m) (summaries : List Summary) (all : AreSum
 
     -- nothing leads from what isn't there
     not_there : (t k : ℕ) → k < 4 * (m.side - 1) → (IsThere m.side summaries t k → ⊥) → get_or levels (node_number m.side (Rim t k)) void ≡ void
-    not_there t k small off = elim (void_or_not (get_or levels (node_number m.side (Rim t k)) void)) [
+    not_there t k small off = elim (eq_or_not (get_or levels (node_number m.side (Rim t k)) void) void) [
       | inl gap ↦ gap
       | inr full ↦ let joined = reached (node_number m.side (Rim t k)) full in absurd (leads (get_or levels (node_number m.side (Rim t k)) void) joined.reached.0 joined.reached.1)
     ]
@@ -122,7 +114,7 @@ module _ (m : Mosaic) (is : IsMosaic m) (summaries : List Summary) (all : AreSum
     }
       where
         gap_height : (t : ℕ) (small : t < length summaries) (e : ℕ) → e < m.side * m.side → IsFalse (is_ground m (point_of m.side (summary_at summaries t).corner e)) → slice_index_or (of m is summaries all t small).heights e void ≡ void
-        gap_height t small e inside off = elim (void_or_not (slice_index_or (of m is summaries all t small).heights e void)) [
+        gap_height t small e inside off = elim (eq_or_not (slice_index_or (of m is summaries all t small).heights e void) void) [
           | inl gap ↦ gap
           | inr full ↦ absurd (true≢false (sym (ground_at m is summaries all t small e (solid_if m.side (of m is summaries all t small).heights e inside (not_void (slice_index_or (of m is summaries all t small).heights e void) full))) ∙ off))
         ]

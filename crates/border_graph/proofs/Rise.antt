@@ -9,7 +9,7 @@ use Rattle.std.proofs.lemmas.List.Elements.{Contains-get_or}
 use Rattle.lattice.specs.Mosaic.{void}
 use Rattle.lattice.proofs.Levels.{≤ℤ_same, ≤ℤ_trans, le-max_left, le-max_right, max-le}
 use Rattle.border_graph.specs.Links.{IsWayBelow, IsJoinedLevel}
-use Rattle.border_graph.proofs.Surge.{way_up}
+use Rattle.border_graph.proofs.Surge.{way_up, go_on}
 use Rattle.border_graph.specs.declared.edge_source.Edge.{Edge}
 use Rattle.border_graph.specs.declared.frontier.Entry.{Entry}
 use Rattle.border_graph.specs.Summaries.{Summary}
@@ -19,11 +19,6 @@ use Rattle.border_graph.specs.Waiting.{IsAdded}
 use Rattle.border_graph.specs.Frontier.{is_among, IsNext, NoneLeft}
 use Rattle.border_graph.proofs.Next.{taken_still, taken_other}
 use Rattle.border_graph.specs.Bottleneck.{raised, AreRaised, WaitsBelow, IsEnd, IsExpanded, IsOn, IsSearching}
-
--- a way to a, and on from there
-pub go_on : (L : ℕ → ℕ → ℤ → Type 0) (a b : ℕ) (level : ℤ) (x : ℕ) (rest more : List ℕ) → IsWayBelow L a level x rest → IsWayBelow L b level a more → (all : List ℕ) × IsWayBelow L b level x all
-go_on L a b level x [] more way on = (more, subst (λ v. IsWayBelow L b level v more) (sym way) on)
-go_on L a b level x (y ∷ rest) more way on = let further = go_on L a b level y rest more way.1 on in (y ∷ further.0, (way.0, further.1))
 
 -- links lead back, but for those to the outlet node, from which none leads
 pub record IsTwoWay (L : ℕ → ℕ → ℤ → Type 0) : Type 0 where

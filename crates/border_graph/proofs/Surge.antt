@@ -1,40 +1,35 @@
 -- The steps of water that rises over links: each node that is reached has its least level (after the correctness
 -- argument of Barnes, Lehman and Mulla 2014).
-use Rattle.std.proofs.Common.{◌≡◌, ◌≢◌, ℕ, zero, suc, ◌+◌, ◌<◌, ◌⊎◌, inl, inr, ℤ, ◌≤ℤ◌, false, List, [], ◌∷◌, length, get_or, set, cond, sym, ap, ◌∙◌, subst, arith, true≢false, get_or-set_same, get_or-set_other, length-set, Contains, map}
+use Rattle.std.proofs.Common.{◌≡◌, ◌≢◌, ℕ, zero, suc, ◌+◌, ◌<◌, ◌⊎◌, inl, inr, ℤ, ◌≤ℤ◌, false, List, [], ◌∷◌, length, get_or, set, cond, sym, ap, ◌∙◌, subst, arith, get_or-set_same, get_or-set_other, length-set, Contains, map}
 use Rattle.std.specs.Int.{int_max}
-use Rattle.std.specs.Ordering.{int_eq}
 use Rattle.std.proofs.Math.ListN.{get_or-eq_default}
-use Rattle.std.proofs.lemmas.Int.{ints}
 use Rattle.std.proofs.lemmas.Bool.{cases_Bool, cases_eq, cases_lt}
 use Rattle.std.proofs.lemmas.Bool.Decides.{Decides-int_eq}
 use Rattle.std.proofs.lemmas.List.{get_or_default, length-map}
 use Rattle.std.proofs.Math.ListN.{get_or-map}
 use Rattle.std.proofs.lemmas.List.Elements.{Contains-get_or}
 use Rattle.lattice.specs.Mosaic.{void, is_void}
-use Rattle.lattice.proofs.Levels.{≤ℤ_same, ≤ℤ_trans, le-max_left, le-max_right, max-le}
+use Rattle.lattice.proofs.Levels.{≤ℤ_same, ≤ℤ_trans, le-max_left, le-max_right, max-le, ≤ℤ_antisym}
+use Rattle.lattice.proofs.IntTests.{eq_or_not}
 use Rattle.border_graph.specs.declared.waiting.Link.{Link}
 use Rattle.border_graph.specs.Links.{IsWayBelow, IsJoinedLevel}
 use Rattle.border_graph.specs.Waiting.{IsAdded, IsTaken}
 use Rattle.border_graph.specs.Rising.{AreLinks, IsListed, links_to, links_left, IsReached, WaitsBelow, IsRising, IsFollowing}
+
+-- a way to a, and on from there
+pub go_on : (L : ℕ → ℕ → ℤ → Type 0) (a b : ℕ) (level : ℤ) (x : ℕ) (rest more : List ℕ) → IsWayBelow L a level x rest → IsWayBelow L b level a more → (all : List ℕ) × IsWayBelow L b level x all
+go_on L a b level x [] more way on = (more, subst (λ v. IsWayBelow L b level v more) (sym way) on)
+go_on L a b level x (y ∷ rest) more way on = let further = go_on L a b level y rest more way.1 on in (y ∷ further.0, (way.0, further.1))
 
 -- a way at a level is one at any higher level
 pub way_up : {Q : Type 0} (L : Q → Q → ℤ → Type 0) (out : Q) (low high : ℤ) → low ≤ℤ high → (x : Q) (rest : List Q) → IsWayBelow L out low x rest → IsWayBelow L out high x rest
 way_up L out low high le x [] way = way
 way_up L out low high le x (y ∷ rest) way = ((way.0.0, (way.0.1.0, ≤ℤ_trans way.0.0 low high way.0.1.1 le)), way_up L out low high le y rest way.1)
 
-void_or_not : (v : ℤ) → (v ≡ void) ⊎ (v ≢ void)
-void_or_not v = elim (cases_Bool (int_eq v void)) [
-  | inl same ↦ inl ((Decides-int_eq v void).0 same)
-  | inr other ↦ inr (λ same. true≢false (sym ((Decides-int_eq v void).1 same) ∙ other))
-]
-
 pub max_not_void : (a b : ℤ) → (void ≤ℤ b) × (b ≢ void) → (void ≤ℤ int_max a b) × (int_max a b ≢ void)
 max_not_void a b h =
     let high : b ≤ℤ int_max a b = le-max_right a b in
-    (≤ℤ_trans void b (int_max a b) h.0 high, λ same. h.1 (between b h.0 (subst (λ v. b ≤ℤ v) same high)))
-  where
-    between : (v : ℤ) → void ≤ℤ v → v ≤ℤ void → v ≡ void
-    between v low high = omega (arith, ints)
+    (≤ℤ_trans void b (int_max a b) h.0 high, λ same. h.1 (≤ℤ_antisym b void (subst (λ v. b ≤ℤ v) same high) h.0))
 
 module _ (links : List (List Link)) (law : AreLinks links) where
   listed_in : (x y : ℕ) (level : ℤ) → IsListed links x y level → y < length links
@@ -53,7 +48,7 @@ module _ (links : List (List Link)) (law : AreLinks links) where
     reached_or_not : (x : ℕ) → IsReached links levels waiting x ⊎ (IsReached links levels waiting x → ⊥)
     reached_or_not x = elim (cases_eq x 0) [
       | inl first ↦ inl (inl first)
-      | inr later ↦ elim (void_or_not (get_or levels x void)) [
+      | inr later ↦ elim (eq_or_not (get_or levels x void) void) [
         | inl gap ↦ inr (neither later gap)
         | inr full ↦ inl (inr full)
       ]

@@ -1,5 +1,5 @@
 -- What a labelling keeps when a height changes, and that carried levels that no link can lower are a labelling.
-use Rattle.std.proofs.Common.{◌≡◌, ◌≢◌, ℕ, ◌+◌, ◌*◌, ◌/◌, ◌%◌, ◌<◌, ◌≤◌, ℤ, ◌≤ℤ◌, Bool, true, false, not, cond, int_lt, ◌-◌, IsTrue, List, [], ◌∷◌, ◌++◌, length, get_or, set, get_or-set_other, get_or-set_same, length-set, length-append, slice_index, ◌⊎◌, inl, inr, refl, sym, ap, ap₂, ◌∙◌, subst, arith, true≢false, ◌&&◌, ◌||◌, nat_eq}
+use Rattle.std.proofs.Common.{◌≡◌, ◌≢◌, ℕ, ◌+◌, ◌*◌, ◌/◌, ◌%◌, ◌<◌, ◌≤◌, ℤ, ◌≤ℤ◌, Bool, true, false, not, ◌-◌, IsTrue, List, [], ◌∷◌, ◌++◌, length, get_or, set, get_or-set_other, get_or-set_same, length-set, length-append, slice_index, inl, inr, refl, sym, ap, ap₂, ◌∙◌, subst, arith, true≢false, ◌&&◌, ◌||◌, nat_eq}
 use Rattle.std.specs.Int.{int_max}
 use Rattle.std.specs.List.{list_all}
 use Rattle.std.specs.Ordering.{int_eq}
@@ -10,8 +10,9 @@ use Rattle.std.proofs.Math.Seq.{get_or-append_seam}
 use Rattle.lattice.specs.Mosaic.{void}
 use Rattle.lattice.specs.Terrain.{IsFilledLevel, IsPath, LeadsOut, crest, end_of}
 use Rattle.lattice.specs.Block.{block_terrain, is_solid, is_linked, is_exit, is_inner_outlet, is_rim, is_beside, is_sink_at, around}
-use Rattle.lattice.proofs.Levels.{max-le, le-max_left, le-max_right, ≤ℤ_trans}
+use Rattle.lattice.proofs.Levels.{max-le, le-max_left, le-max_right, ≤ℤ_trans, max_one_of}
 use Rattle.lattice.proofs.Lawful.{block_is_lawful}
+use Rattle.lattice.proofs.BoolTests.{one_at_most}
 use Rattle.tile_flood.specs.declared.affected.Affected.{Affected}
 use Rattle.tile_flood.specs.Blocks.{block_of, bare_block}
 use Rattle.tile_flood.specs.Labelling.{IsLabelAt, IsLabelling, Names, OUT, NO_LABEL}
@@ -308,15 +309,8 @@ unmarked_most [] = omega arith
 unmarked_most (l ∷ rest) =
     let more : unmarked (l ∷ rest) ≡ lack l + unmarked rest = sum_by-cons lack l rest in
     let rest_most = unmarked_most rest in
-    let one = one_most (int_eq l void) in
+    let one = one_at_most (int_eq l void) in
     omega arith
-  where
-    one_most : (b : Bool) → cond b 1 0 ≤ 1
-    one_most true = omega arith
-    one_most false = omega arith
-
-max_one_of : (a b : ℤ) → (int_max a b ≡ a) ⊎ (int_max a b ≡ b)
-max_one_of a b = elim (cases_Bool (int_lt b a)) [ inl h ↦ inl (ap (λ v. cond v a b) h) | inr h ↦ inr (ap (λ v. cond v a b) h) ]
 
 pub max_mono : (a b c d : ℤ) → a ≤ℤ c → b ≤ℤ d → int_max a b ≤ℤ int_max c d
 max_mono a b c d ac bd = max-le a b (int_max c d) (≤ℤ_trans a c (int_max c d) ac (le-max_left c d)) (≤ℤ_trans b d (int_max c d) bd (le-max_right c d))

@@ -6,7 +6,7 @@ use Rattle.std.specs.Ordering.{int_eq}
 use Rattle.std.specs.List.{list_any, list_all}
 use Rattle.std.proofs.lemmas.Int.{ints}
 use Rattle.std.proofs.lemmas.Grind.{rows}
-use Rattle.std.proofs.lemmas.Bool.{cases_Bool, and_parts, and_from, or_cases, or_left, or_right, ltb-true, lt-ltb, ltb-false, eqb-true, ne_eqb, eqb-false}
+use Rattle.std.proofs.lemmas.Bool.{cases_Bool, and_parts, and_from, or_cases, or_left, or_right, ltb-true, lt-ltb, ltb-false, eqb-true, ne_eqb, eqb-false, or_parts, not-true, eq-eqb}
 use Rattle.std.proofs.lemmas.Bool.Decides.{Decides-int_eq}
 use Rattle.lattice.specs.declared.point.Point.{Point}
 use Rattle.lattice.specs.declared.height.Height.{Height}
@@ -22,6 +22,7 @@ use Rattle.lattice.specs.Block.{IsBlockOf, block_terrain, is_solid, is_linked, i
 use Rattle.lattice.proofs.Along.{from_parts}
 use Rattle.lattice.proofs.Samples.{holds_is, point_of_held, index_of_point_is, point_of_index, index_of_below}
 use Rattle.lattice.proofs.Lawful.{five_parts, five_from, terrain_is_lawful}
+use Rattle.lattice.proofs.BoolTests.{one_at_most}
 use Rattle.tile_flood.proofs.Parts.{IsPart}
 use Rattle.tile_flood.specs.Blocks.{block_of, bare_block}
 use Rattle.tile_flood.proofs.Squares.{inner_at, linked_parts, linked_from, linked_apart, Apart, beside_if, solid_below, row_of_cell, column_of_cell, cell_of, row_below, rim_is_exit, inner_is_exit}
@@ -72,10 +73,6 @@ pub record AllEight (f : Dir → Bool) : Type 0 where
   pub north : IsTrue (f North)
   pub north_east : IsTrue (f NorthEast)
 
-at_most_one : (b : Bool) → cond b 1 0 ≤ 1
-at_most_one true = omega arith
-at_most_one false = omega arith
-
 one_if : (b : Bool) → b ≡ true → 1 ≤ cond b 1 0
 one_if true h = omega arith
 one_if false h = absurd (true≢false (sym h))
@@ -114,7 +111,7 @@ pub eight_from_degree : (m : Mosaic) (p : Point) → 8 ≤ degree_of m p → All
 eight_from_degree m p h =
     let adjacent : Dir → ℕ = λ d. cond (is_adjacent m p (step d p)) 1 0 in
     let each = each_of (adjacent East) (adjacent SouthEast) (adjacent South) (adjacent SouthWest) (adjacent West) (adjacent NorthWest) (adjacent North) (adjacent NorthEast)
-    (at_most_one _) (at_most_one _) (at_most_one _) (at_most_one _) (at_most_one _) (at_most_one _) (at_most_one _) (at_most_one _) h in
+    (one_at_most _) (one_at_most _) (one_at_most _) (one_at_most _) (one_at_most _) (one_at_most _) (one_at_most _) (one_at_most _) h in
     record {
       east = true_if _ each.a1;
       south_east = true_if _ each.b1;
@@ -197,9 +194,9 @@ pub record IsInner (n e : ℕ) : Type 0 where
 
 pub inner_if : (n e : ℕ) → e < n * n → 3 ≤ n → is_rim n e ≡ false → IsInner n e
 inner_if n e small side off =
-    let a = or_false (nat_eq (e / n) 0 || nat_eq (e / n + 1) n || nat_eq (e % n) 0) (nat_eq (e % n + 1) n) off in
-    let b = or_false (nat_eq (e / n) 0 || nat_eq (e / n + 1) n) (nat_eq (e % n) 0) a.0 in
-    let d = or_false (nat_eq (e / n) 0) (nat_eq (e / n + 1) n) b.0 in
+    let a = or_parts (nat_eq (e / n) 0 || nat_eq (e / n + 1) n || nat_eq (e % n) 0) (nat_eq (e % n + 1) n) off in
+    let b = or_parts (nat_eq (e / n) 0 || nat_eq (e / n + 1) n) (nat_eq (e % n) 0) a.0 in
+    let d = or_parts (nat_eq (e / n) 0) (nat_eq (e / n + 1) n) b.0 in
     let row : e / n < n = row_below n e small in
     let column : e % n < n = omega arith in
     let r0 : e / n ≢ 0 = eqb-false (e / n) 0 d.0 in
@@ -207,10 +204,6 @@ inner_if n e small side off =
     let c0 : e % n ≢ 0 = eqb-false (e % n) 0 b.1 in
     let c1 : e % n + 1 ≢ n = eqb-false (e % n + 1) n a.1 in
     record { above = omega arith; below = omega arith; before = omega arith; after = omega arith }
-  where
-    or_false : (a b : Bool) → (a || b) ≡ false → (a ≡ false) × (b ≡ false)
-    or_false true b h = absurd (true≢false h)
-    or_false false b h = (refl, h)
 
 module _ (m : Mosaic) (is : IsMosaic m) (c : Corner) (present : IsTrue (is_present m c)) (heights : List ℤ) (sinks : List ℕ) (of : IsBlockOf m c (block_of m.side heights sinks)) where
   at : ℕ → Point
@@ -267,15 +260,12 @@ module _ (m : Mosaic) (is : IsMosaic m) (c : Corner) (present : IsTrue (is_prese
         first = solid_is_ground e both.from;
         second = solid_is_ground f both.to;
         third = elim (cases_Bool (same_point p q)) [
-          | inl same ↦ absurd (true≢false (sym both.apart ∙ ap not (ap (nat_eq e) (sym (one_index e f in_e in_f (coordinates p q same))) ∙ eq_itself e)))
+          | inl same ↦ absurd (true≢false (sym both.apart ∙ ap not (ap (nat_eq e) (sym (one_index e f in_e in_f (coordinates p q same))) ∙ eq-eqb e e refl)))
           | inr differs ↦ ap not differs
         ];
         fourth = near_if (c.lat *ℤ pos (m.side - 1) +ℤ pos (m.side - 1)) (c.lon *ℤ pos (m.side - 1)) (e / m.side) (f / m.side) (e % m.side) (f % m.side) apart.north apart.south apart.west apart.east;
         fifth = tile_passes (λ k. holds m.side k p && holds m.side k q) c m.tiles present (and_from (holds m.side c p) (holds m.side c q) (held e in_e) (held f in_f));
       })
-    where
-      eq_itself : (e : ℕ) → nat_eq e e ≡ true
-      eq_itself e = grind arith
 
   -- and what the tile holds and is adjacent in the mosaic is adjacent in the block
   pub adjacent_in_tile : (e f : ℕ) → e < m.side * m.side → f < m.side * m.side → IsTrue (is_adjacent m (point_of m.side c e) (point_of m.side c f)) → IsTrue (is_linked (bare_block m.side heights) e f)
@@ -463,10 +453,6 @@ module _ (m : Mosaic) (is : IsMosaic m) (c : Corner) (present : IsTrue (is_prese
         | inr sink ↦ and_from (is_ground m p) (nat_lt (degree_of m p) 8 || is_sink m p) (solid_is_ground e first.0)
             (or_right (nat_lt (degree_of m p) 8) (is_sink m p) (sym (of.sinks e (solid_below m.side heights e first.0)) ∙ sink))
       ]
-    where
-      not-true : (b : Bool) → not b ≡ true → b ≡ false
-      not-true true h = absurd (true≢false (sym h))
-      not-true false h = refl
 
   pub block_is_part : IsPart (block_terrain (block_of m.side heights sinks)) (terrain m) (λ e. point_of m.side c e) (is_rim m.side)
   block_is_part = record {

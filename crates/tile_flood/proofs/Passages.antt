@@ -1,6 +1,6 @@
 -- Where water passes between labels: each two adjacent points are met once, and the lowest place between two labels is
 -- the first in order.
-use Rattle.std.proofs.Common.{◌≡◌, ◌≢◌, ℕ, ◌+◌, ◌*◌, ◌-◌, ◌/◌, ◌%◌, ◌<◌, ◌≤◌, ◌⊎◌, inl, inr, ℤ, ◌≤ℤ◌, Bool, true, false, not, IsTrue, ◌&&◌, List, [], ◌∷◌, ◌++◌, length, get_or, set, get_or-set_same, get_or-set_other, length-set, slice_index, refl, sym, ap, ap₂, ◌∙◌, subst, add-zero, arith, true≢false, cond, int_lt, nat_eq, All, Contains}
+use Rattle.std.proofs.Common.{◌≡◌, ◌≢◌, ℕ, ◌+◌, ◌*◌, ◌-◌, ◌/◌, ◌%◌, ◌<◌, ◌≤◌, ◌⊎◌, inl, inr, ℤ, ◌≤ℤ◌, false, not, IsTrue, ◌&&◌, List, [], ◌∷◌, ◌++◌, length, get_or, set, get_or-set_same, get_or-set_other, length-set, slice_index, refl, sym, ap, ap₂, ◌∙◌, subst, add-zero, arith, true≢false, cond, int_lt, nat_eq, All, Contains}
 use Rattle.std.specs.Int.{int_max}
 use Rattle.std.specs.Ordering.{int_eq, is_lt, nat_cmp, int_cmp, ordering_then}
 use Rattle.std.specs.declared.cmp.Ordering.TheVariants.{Less, Equal, Greater}
@@ -8,15 +8,15 @@ use Rattle.std.specs.Cmp.{nat_cmp_is}
 use Rattle.std.specs.List.{AllPairs}
 use Rattle.std.specs.List.Sorted.{IsPermutation}
 use Rattle.std.proofs.lemmas.List.Quantifiers.{all_pairs_push}
-use Rattle.std.proofs.lemmas.Int.{ints, clamps}
-use Rattle.std.proofs.lemmas.Bool.{cases_Bool, ne_eqb, cases_lt, cases_eq}
+use Rattle.std.proofs.lemmas.Int.{ints}
+use Rattle.std.proofs.lemmas.Bool.{cases_Bool, ne_eqb, cases_lt, cases_eq, not-true, eq-eqb}
 use Rattle.std.proofs.lemmas.Bool.Decides.{Decides-int_eq}
 use Rattle.std.proofs.lemmas.List.Elements.{Contains-get_or, Contains-append_left, Contains-push, Contains-push_cases}
 use Rattle.std.proofs.lemmas.List.Sorted.{Contains-permutation, IsPermutation-sym}
 use Rattle.std.proofs.Math.Nat.{mul-le-mul_right}
 use Rattle.lattice.specs.Mosaic.{void, IsSample}
 use Rattle.lattice.specs.Block.{block_terrain, is_solid, is_linked, is_beside}
-use Rattle.lattice.proofs.Levels.{height-le_level, ≤ℤ_same, ≤ℤ_trans}
+use Rattle.lattice.proofs.Levels.{height-le_level, ≤ℤ_same, ≤ℤ_trans, max-swap}
 use Rattle.std.proofs.Math.ListN.{get_or-eq_default}
 use Rattle.std.proofs.lemmas.List.{get_or_default}
 use Rattle.lattice.proofs.Lawful.{block_is_lawful}
@@ -28,14 +28,8 @@ use Rattle.tile_flood.specs.Passing.{IsPassage, IsNoPassage, IsMetBy, IsListed, 
 use Rattle.tile_flood.specs.Blocks.{block_of, bare_block}
 use Rattle.tile_flood.proofs.Squares.{linked_parts, linked_from, linked_apart, beside_if, solid_below, solid_if, row_of_cell, column_of_cell, cell_of, row_below, test_if, solid_height}
 
-max-swap : (a b : ℤ) → int_max a b ≡ int_max b a
-max-swap a b = omega (arith, ints, clamps)
-
 differ : (e f : ℕ) → IsTrue (not (nat_eq e f)) → e ≢ f
-differ e f h same = absurd (true≢false (sym h ∙ ap not (ap (nat_eq e) (sym same) ∙ eq_itself e)))
-  where
-    eq_itself : (e : ℕ) → nat_eq e e ≡ true
-    eq_itself e = grind arith
+differ e f h same = absurd (true≢false (sym h ∙ ap not (ap (nat_eq e) (sym same) ∙ eq-eqb e e refl)))
 
 -- of what stands once there is one in the list
 one_of_each : (spills : List Spill) → AllPairs (λ p q. ¬ HaveSameLabels p q) spills → (p q : Spill) → Contains spills p → Contains spills q → HaveSameLabels p q → p ≡ q
@@ -181,10 +175,6 @@ module _ (n : ℕ) (levels : List ℤ) (labels : List ℕ) where
     where
       solid_of : (e : ℕ) → e < n * n → IsTrue (is_marked levels e) → IsTrue (is_solid (bare_block n levels) e)
       solid_of e below on = solid_if n levels e below (not-true (int_eq (get_or levels e void) void) on)
-        where
-          not-true : (b : Bool) → not b ≡ true → b ≡ false
-          not-true true h = absurd (true≢false (sym h))
-          not-true false h = refl
 
   pub found_still : (old new : List Spill) (e f : ℕ) → AreFoundStill old new → IsFound n levels labels old e f → IsFound n levels labels new e f
   found_still old new e f still was link apart = let h = was link apart in (h.0, (met_still old new h.0 still h.1.0, h.1.1))

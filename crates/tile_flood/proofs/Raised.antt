@@ -1,7 +1,6 @@
 -- Raising gives the filled levels of the mosaic at all points of a tile.
 use Rattle.std.proofs.Common.{◌≡◌, ◌≢◌, ℕ, suc, ◌+◌, ◌*◌, ◌-◌, ◌/◌, ◌%◌, ◌<◌, ◌≤◌, inl, inr, ℤ, ◌≤ℤ◌, Bool, true, false, cond, IsTrue, IsFalse, List, [], ◌∷◌, ◌++◌, length, length-append, get_or, slice_index, refl, sym, ap, ◌∙◌, subst, arith, true≢false, nat_eq, map, filter, All, Some, None}
 use Rattle.std.specs.Int.{int_max}
-use Rattle.std.proofs.lemmas.Int.{ints}
 use Rattle.std.proofs.lemmas.Bool.{cases_Bool, cond-true, cond-false, eqb-true, eqb-false, ne_eqb, eq-eqb, cases_lt}
 use Rattle.std.proofs.lemmas.Bool.Decides.{Decides-int_eq}
 use Rattle.std.proofs.Math.ListN.{get_or-eq_default, get_or-append}
@@ -18,7 +17,7 @@ use Rattle.lattice.specs.Height.{height_of, by_seam_rule, first_height, samples_
 use Rattle.lattice.specs.Ground.{is_ground, metres, terrain}
 use Rattle.lattice.specs.Block.{AreHeightsOf, IsBlockOf, block_terrain, is_solid, is_rim, rim_number, is_exit, is_inner_outlet}
 use Rattle.lattice.specs.Limits.{largest_side}
-use Rattle.lattice.proofs.Levels.{height-le_level, ≤ℤ_same}
+use Rattle.lattice.proofs.Levels.{height-le_level, ≤ℤ_same, ≤ℤ_antisym}
 use Rattle.lattice.proofs.Lawful.{terrain_is_lawful, block_is_lawful}
 use Rattle.tile_flood.specs.Labelling.{IsLabelling, OUT, NO_LABEL}
 use Rattle.tile_flood.specs.Raising.{AreRimLevels, AreTileLevels, IsRimFilled, raised_level, AreRaised, CannotBeRaised}
@@ -165,10 +164,7 @@ module _ (m : Mosaic) (is : IsMosaic m) (c : Corner) (present : IsTrue (is_prese
             let high : metres (height_of m (point_of m.side c r)) ≤ℤ l = height-le_level (terrain m) (point_of m.side c r) l fill in
             let at : get_or heights r void ≡ metres (height_of m (point_of m.side c r)) = of.heights.values r (solid_below m.side heights r solid_r) in
             let low : void ≤ℤ get_or heights r void = least_height r in
-            solid_height m.side heights r solid_r (between (get_or heights r void) low (subst (λ v. v ≤ℤ void) (sym at) (subst (λ v. metres (height_of m (point_of m.side c r)) ≤ℤ v) same high)))
-          where
-            between : (v : ℤ) → void ≤ℤ v → v ≤ℤ void → v ≡ void
-            between v low high = omega (arith, ints)
+            solid_height m.side heights r solid_r (≤ℤ_antisym (get_or heights r void) void (subst (λ v. v ≤ℤ void) (sym at) (subst (λ v. metres (height_of m (point_of m.side c r)) ≤ℤ v) same high)) low)
 
     by_out : IsTrue (is_inner_outlet (block_of m.side heights sinks) r) → slice_index labels e ≡ OUT → IsRaised e
     by_out inner label = record {

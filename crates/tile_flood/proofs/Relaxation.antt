@@ -1,5 +1,5 @@
 -- Levels that are lowered: where no link is left that lowers one, each is at most every crest of its point.
-use Rattle.std.proofs.Common.{◌≡◌, ◌≢◌, ℕ, ◌+◌, ◌*◌, ◌<◌, ◌≤◌, ℤ, ◌≤ℤ◌, ◌<ℤ◌, int_lt, ◌-ℤ◌, nat_abs, true, false, not, IsTrue, List, [], ◌∷◌, ◌++◌, length, get_or, set, get_or-set_same, get_or-set_other, length-set, length-append, slice_index, inl, inr, refl, sym, ap, ◌∙◌, subst, arith, true≢false}
+use Rattle.std.proofs.Common.{◌≡◌, ◌≢◌, ℕ, ◌+◌, ◌*◌, ◌<◌, ◌≤◌, ℤ, ◌≤ℤ◌, ◌<ℤ◌, ◌-ℤ◌, nat_abs, false, not, IsTrue, List, [], ◌∷◌, ◌++◌, length, get_or, set, get_or-set_same, get_or-set_other, length-set, length-append, slice_index, inl, inr, refl, sym, ap, ◌∙◌, subst, arith, true≢false}
 use Rattle.std.specs.Int.{int_max}
 use Rattle.std.specs.Ordering.{int_eq}
 use Rattle.std.proofs.lemmas.Bool.{cases_Bool, cases_eq, cases_lt}
@@ -24,9 +24,6 @@ use Rattle.tile_flood.specs.Lowering.{AreRelaxed, AreRelaxing, AreRelaxingBut, A
 use Rattle.tile_flood.specs.Affected.{IsAffected}
 use Rattle.tile_flood.specs.Clearing.{AreListedCleared}
 use Rattle.tile_flood.proofs.Dependence.{max_mono, full_at, solid_at, kept_same}
-
-pub int_lt-true : (a b : ℤ) → int_lt a b ≡ true → a <ℤ b
-int_lt-true a b h = grind (arith, ints)
 
 -- relaxed levels are lower bounds
 pub relaxed_least : (n : ℕ) (heights : List ℤ) (sinks : List ℕ) (levels : List ℤ) → AreRelaxed (block_of n heights sinks) levels → (e : ℕ) (rest : List ℕ) → LeadsOut (block_terrain (block_of n heights sinks)) e rest →

@@ -1,6 +1,6 @@
 -- The steps of a flood: each point that gets its level gets its filled level, and a label that is reached at it (after
 -- the correctness argument of Barnes, Lehman and Mulla 2014).
-use Rattle.std.proofs.Common.{◌≡◌, ◌≢◌, ℕ, ◌+◌, ◌*◌, ◌/◌, ◌<◌, ℤ, ◌≤ℤ◌, true, false, not, cond, IsTrue, IsFalse, List, [], ◌∷◌, length, get_or, set, slice_index, ◌⊎◌, inl, inr, refl, sym, ap, ap₂, ◌∙◌, subst, arith, true≢false, get_or-set_other, get_or-set_same, length-set, ◌&&◌, int_lt, SFits, w16, to_z, of_z}
+use Rattle.std.proofs.Common.{◌≡◌, ◌≢◌, ℕ, ◌+◌, ◌*◌, ◌/◌, ◌<◌, ℤ, ◌≤ℤ◌, true, false, not, cond, IsTrue, IsFalse, List, [], ◌∷◌, length, get_or, set, slice_index, ◌⊎◌, inl, inr, refl, sym, ap, ap₂, ◌∙◌, subst, arith, true≢false, get_or-set_other, get_or-set_same, length-set, ◌&&◌, SFits, w16, to_z, of_z}
 use Rattle.std.specs.Int.{int_max}
 use Rattle.std.specs.Ordering.{int_eq}
 use Rattle.std.proofs.lemmas.Bool.{cases_Bool, cases_eq, cases_lt, not-true, ne_eqb, or_right}
@@ -10,7 +10,7 @@ use Rattle.std.proofs.lemmas.Int.{to_z-of_z}
 use Rattle.lattice.specs.Mosaic.{void}
 use Rattle.lattice.specs.Terrain.{IsFilledLevel, IsPath}
 use Rattle.lattice.specs.Block.{block_terrain, is_solid, is_linked, is_exit, is_inner_outlet, is_rim}
-use Rattle.lattice.proofs.Levels.{level_beside, level_of_outlet, all_marked, le-max_right, ≤ℤ_same}
+use Rattle.lattice.proofs.Levels.{level_beside, level_of_outlet, all_marked, le-max_right, ≤ℤ_same, max_one_of}
 use Rattle.lattice.proofs.Lawful.{block_is_lawful}
 use Rattle.tile_flood.specs.Waiting.{Queue, Waits, IsJoined, IsTaken}
 use Rattle.tile_flood.specs.Labelling.{IsLabelAt, IsLabelling, Names, OUT, NO_LABEL}
@@ -203,9 +203,6 @@ module _ (n : ℕ) (heights : List ℤ) (sinks : List ℕ) (levels : List ℤ) (
       taken = (still c spreading.taken.0, same_at c spreading.taken.0 ∙ spreading.taken.1);
       named = get_or-set_other labels y c label 0 (λ h. true≢false (sym spreading.taken.0 ∙ (ap (is_marked levels) h ∙ off))) ∙ spreading.named;
     }
-
-max_one_of : (a b : ℤ) → (int_max a b ≡ a) ⊎ (int_max a b ≡ b)
-max_one_of a b = elim (cases_Bool (int_lt b a)) [ inl h ↦ inl (ap (λ v. cond v a b) h) | inr h ↦ inr (ap (λ v. cond v a b) h) ]
 
 -- what the mark of a point beside c leaves
 pub record IsVisited (n : ℕ) (heights : List ℤ) (sinks : List ℕ) (levels levels' : List ℤ) (labels' : List ℕ) (queue' : Queue) (c : ℕ) (low : ℤ) (label e : ℕ) : Type 0 where

@@ -1,8 +1,8 @@
 -- Points of a block: rows and columns, adjacency, outlets, and a way out of each ground point.
-use Rattle.std.proofs.Common.{◌≡◌, ◌≢◌, ℕ, zero, suc, ◌+◌, ◌*◌, ◌-◌, ◌/◌, ◌%◌, ◌<◌, ◌≤◌, ℤ, Bool, true, false, not, IsTrue, ◌&&◌, ◌||◌, List, [], ◌∷◌, get_or, refl, sym, ap, ◌∙◌, arith, true≢false, nat_le, nat_lt, nat_eq, mod-lt, inl, inr}
+use Rattle.std.proofs.Common.{◌≡◌, ◌≢◌, ℕ, zero, suc, ◌+◌, ◌*◌, ◌-◌, ◌/◌, ◌%◌, ◌<◌, ◌≤◌, ℤ, false, not, IsTrue, ◌&&◌, ◌||◌, List, [], ◌∷◌, get_or, sym, ap, ◌∙◌, arith, true≢false, nat_le, nat_lt, nat_eq, mod-lt, inl, inr}
 use Rattle.std.specs.Ordering.{int_eq}
 use Rattle.std.specs.List.{list_all}
-use Rattle.std.proofs.lemmas.Bool.{cases_Bool, and_parts, and_from, ltb-true, lt-ltb, leb-true, le-leb, ne_eqb, and_left, and_right, or_left, or_right, eqb-false}
+use Rattle.std.proofs.lemmas.Bool.{cases_Bool, and_parts, and_from, ltb-true, lt-ltb, leb-true, le-leb, ne_eqb, and_left, and_right, or_left, or_right, eqb-false, or_parts}
 use Rattle.std.proofs.lemmas.Bool.Decides.{Decides-int_eq}
 use Rattle.std.proofs.lemmas.Nat.{rows}
 use Rattle.lattice.specs.Mosaic.{void}
@@ -83,10 +83,6 @@ beside_if n c z a =
     (and_from (nat_le (c / n) (z / n + 1)) (nat_le (z / n) (c / n + 1)) (le-leb (c / n) (z / n + 1) a.north) (le-leb (z / n) (c / n + 1) a.south))
     (le-leb (c % n) (z % n + 1) a.west)) (le-leb (z % n) (c % n + 1) a.east)
 
-or_false_left : (a b : Bool) → (a || b) ≡ false → a ≡ false
-or_false_left true b h = h
-or_false_left false b h = refl
-
 -- the point above one that isn't in the first row
 pub record North (n e : ℕ) : Type 0 where
   pub row : (e - n) / n + 1 ≡ e / n
@@ -108,9 +104,9 @@ north n e some high =
 
 inner_high : (n e : ℕ) → is_rim n e ≡ false → 1 ≤ e / n
 inner_high n e inner =
-    let a = or_false_left (nat_eq (e / n) 0 || nat_eq (e / n + 1) n || nat_eq (e % n) 0) (nat_eq (e % n + 1) n) inner in
-    let b = or_false_left (nat_eq (e / n) 0 || nat_eq (e / n + 1) n) (nat_eq (e % n) 0) a in
-    let d = or_false_left (nat_eq (e / n) 0) (nat_eq (e / n + 1) n) b in
+    let a = (or_parts (nat_eq (e / n) 0 || nat_eq (e / n + 1) n || nat_eq (e % n) 0) (nat_eq (e % n + 1) n) inner).0 in
+    let b = (or_parts (nat_eq (e / n) 0 || nat_eq (e / n + 1) n) (nat_eq (e % n) 0) a).0 in
+    let d = (or_parts (nat_eq (e / n) 0) (nat_eq (e / n + 1) n) b).0 in
     let f : e / n ≢ 0 = eqb-false (e / n) 0 d in
     omega arith
 

@@ -1,9 +1,10 @@
 use Rattle.std.proofs.lemmas.Int.{to_z-of_z}
 use Rattle.std.proofs.lemmas.List.{length-map}
 use Rattle.std.proofs.Common.{arith, rules, ◌≡◌, ◌+◌, ◌*◌, ◌-◌, ◌<◌, ◌∙◌, to_z, map, length, inl, inr, sym, ap, subst, SFits, w16, of_z}
+use Rattle.std.proofs.lemmas.Bool.{not-false}
 use Rattle.border_graph.specs.Joining.{rim_point, summary_at}
 use Rattle.border_graph.specs.Rising.{IsListed}
-use Rattle.border_graph.proofs.Building.{node_number_below, first_below, outlets_so_far, true_if_not}
+use Rattle.border_graph.proofs.Building.{node_number_below, first_below, outlets_so_far}
 use Rattle.border_graph.proofs.linking.link_outlet.Goals as goal
 use Rattle.border_graph.proofs.linking.link_outlet.Goals.{else-not-point-via-then-not-point+else-point, else-not-point-via-else-not-point}
 
@@ -13,7 +14,7 @@ returns-clause-so_far c =
     outlets_so_far c.args.n c.args.summaries.now (map (λ v. v.items) c.args.links.now.items) (map (λ v. v.items) c.add.new.links.items) c.args.t c.args.k c.in-Some.point (record { level = to_z w16 (of_z w16 c.in-Some.point.height); from = c.node_number-from.result }) c.in-Some.ensures.some c.requires.so_far
     (elim c.else-not-point.branch [
       | else-not-point-via-then-not-point+else-point w ↦ inr w.if-point.false
-      | else-not-point-via-else-not-point w ↦ inl (true_if_not _ w.if-not-point.false)
+      | else-not-point-via-else-not-point w ↦ inl (not-false _ w.if-not-point.false)
     ]) c.node_number-from.ensures (to_z-of_z w16 c.in-Some.point.height fits) fits c.in_ok-add.ensures
 
 pub returns-in_default-clause-listed : goal.returns-in_default-clause-listed

@@ -2,10 +2,11 @@ use Rattle.std.proofs.Common.{◌≡◌, ◌≢◌, ◌<◌, ◌≤ℤ◌, ◌<�
 use Rattle.std.specs.Int.{int_max}
 use Rattle.std.proofs.lemmas.Int.{ints, to_z-of_z}
 use Rattle.lattice.specs.Mosaic.{void}
+use Rattle.lattice.proofs.IntTests.{lt_true}
 use Rattle.tile_flood.specs.Flooding.{is_marked}
 use Rattle.tile_flood.proofs.Squares.{solid_height}
 use Rattle.tile_flood.proofs.Spreading.{passed_max}
-use Rattle.tile_flood.proofs.Relaxation.{int_lt-true, IsLoweredAt, lowered_as, lowering_solid, max_full, depth_less, inside_still}
+use Rattle.tile_flood.proofs.Relaxation.{IsLoweredAt, lowered_as, lowering_solid, max_full, depth_less, inside_still}
 use Rattle.tile_flood.proofs.flood.Flood.lower_at.Goals as goal
 
 is_max : (c : goal.In_ok-lower_to) → to_z w16 (of_z w16 c.higher-new.result) ≡ int_max (slice_index_or c.args.heights.now c.args.e void) c.args.level
@@ -21,7 +22,7 @@ less c =
     let fits_new : SFits w16 c.higher-new.result = search rules in
     let fits_at : SFits w16 c.at-2.result = search rules in
     let at : to_z w16 (of_z w16 c.at-2.result) ≡ slice_index_or c.args.self.now.levels.items c.args.e void = to_z-of_z w16 c.at-2.result fits_at ∙ (c.at-2.ensures ∙ ap (λ l. slice_index_or l c.args.e void) c.deref.ensures.value) in
-    subst (λ v. to_z w16 (of_z w16 c.higher-new.result) <ℤ v) at (int_lt-true (to_z w16 (of_z w16 c.higher-new.result)) (to_z w16 (of_z w16 c.at-2.result)) test)
+    subst (λ v. to_z w16 (of_z w16 c.higher-new.result) <ℤ v) at (lt_true (to_z w16 (of_z w16 c.higher-new.result)) (to_z w16 (of_z w16 c.at-2.result)) test)
 
 marked : (c : goal.In_ok-lower_to) → IsTrue (is_marked c.args.self.now.levels.items c.args.e)
 marked c = ap not (sym c.is_unmarked.ensures ∙ c.if-is_unmarked.false)
