@@ -1,24 +1,22 @@
 -- What is known of a command that isn't refused.
-use Rattle.std.proofs.Common.{◌≡◌, ◌∙◌, ℕ, ℤ, pos, negsuc, ◌-ℤ◌, ◌≤ℤ◌, int_le, int_lt, Bool, true, false, cond, not, ◌&&◌, List, [], ◌∷◌, length, get_or, filter, Option, Some, None, Result, Ok, Err, nat_lt, inl, inr, refl, sym, ap₂, subst, arith}
-use Rattle.std.proofs.lemmas.Int.{ints, clamps}
-use Rattle.std.proofs.lemmas.Bool.{cases_lt, cond_both, and_parts, or_cases, not-false, false≢true}
-use Rattle.std.proofs.lemmas.List.{get_or_past}
-use Rattle.std.proofs.lemmas.List.Elements.{All-head, All-tail, All-filter, All-map, All-weaker}
+use Rattle.std.proofs.Common.{◌≡◌, ◌∙◌, ℕ, ℤ, pos, negsuc, ◌-ℤ◌, ◌≤ℤ◌, int_le, int_lt, Bool, true, false, cond, not, ◌&&◌, List, [], ◌∷◌, length, Option, Some, None, Result, Ok, Err, nat_lt, inl, inr, refl, sym, subst, arith}
+use Rattle.std.proofs.lemmas.Int.{ints}
+use Rattle.std.proofs.lemmas.Bool.{cond_both, and_parts, or_cases, not-false, false≢true}
 use Rattle.std.specs.Int.{int_max}
-use Rattle.std.specs.Ordering.{int_eq}
-use Rattle.std.specs.List.{All, list_any}
+use Rattle.std.specs.List.{list_any}
 use Rattle.lattice.specs.Corners.{Corner}
 use Rattle.lattice.specs.declared.point.Point.{Point}
 use Rattle.lattice.specs.declared.height.Height.{Height}
 use Rattle.lattice.specs.declared.height.Height.TheVariants.{Outside, Void, At}
 use Rattle.lattice.specs.declared.refusal.Refusal.{Refusal}
 use Rattle.lattice.specs.declared.refusal.Refusal.TheVariants.{NothingVoid, BadHeight, BadDepth, BadBox, Repeated, TooDeep, SinkThere, SinksFull, NoSink}
-use Rattle.lattice.specs.Lattice.{holds, index_of}
-use Rattle.lattice.specs.Mosaic.{Mosaic, IsTile, IsMosaic, IsSample, is_void, void}
-use Rattle.lattice.specs.Height.{sample_at, first_height, by_seam_rule, height_of}
+use Rattle.lattice.specs.Mosaic.{Mosaic, IsMosaic, IsSample}
+use Rattle.lattice.specs.Height.{height_of}
 use Rattle.lattice.specs.Limits.{most_sinks}
 use Rattle.lattice.specs.Ground.{metres, same_point, is_sink}
-use Rattle.lattice.proofs.IntTests.{le_true}
+use Rattle.lattice.proofs.IntTests.{le_true, lt_false}
+use Rattle.lattice.proofs.SamePoints.{same_point_says}
+use Rattle.lattice.proofs.SampleRange.{max_is_sample, metres_are_sample}
 use Rattle.edits.specs.declared.command.Command.{Command}
 use Rattle.edits.specs.declared.command.Command.TheVariants.{Import, Remove, Patch, Burn, Wall, Sink, Unsink}
 use Rattle.edits.specs.Effect as effects
@@ -27,7 +25,6 @@ use Rattle.edits.specs.Sinks.{with_point, sunk_at}
 use Rattle.edits.specs.Effect.{effect, edited, patched, burnt, walled, is_named, is_repeated, is_depth, is_box, has_void, is_in_box, is_void_at, fault_at, first_fault, unless_fault}
 use Rattle.reference.specs.Answers.{refusal_of}
 use Rattle.reference.specs.Changes.{change_of, FitsAll}
-use Rattle.reference.proofs.SeamLemmas.{told}
 
 some_not_none : {r : Refusal} → ◌≡◌ {A = Option Refusal} (Some r) None → ⊥
 some_not_none h = cc
@@ -55,39 +52,6 @@ pub accepted_unsink : (b : Bool) (new : Mosaic) → refusal_of (cond b (Ok new) 
 accepted_unsink true new h = refl
 accepted_unsink false new h = absurd (some_not_none h)
 
-sample_fits : (samples : List ℤ) (i : ℕ) → All IsSample samples → IsSample (get_or samples i void)
-sample_fits samples i all = elim (cases_lt i (length samples)) [
-  | inl inside ↦ all i void inside
-  | inr past ↦ subst IsSample (sym (get_or_past samples i void past)) (omega (arith, ints), omega (arith, ints))
-]
-
-first_fits : (samples : List ℤ) → All IsSample samples → IsSample (metres (first_height samples))
-first_fits [] all = (omega (arith, ints), omega (arith, ints))
-first_fits (s ∷ later) all = elim (is_void s) as (λ b. IsSample (metres (cond b (first_height later) (At s)))) [
-  | true ↦ first_fits later (All-tail IsSample s later all)
-  | false ↦ All-head IsSample s later all
-]
-
-seam_fits : (samples : List ℤ) → All IsSample samples → IsSample (metres (by_seam_rule samples))
-seam_fits [] all = (omega (arith, ints), omega (arith, ints))
-seam_fits (s ∷ later) all = first_fits (s ∷ later) all
-
--- heights are numbers of 16 bits
-pub height_fits : (m : Mosaic) (p : Point) → IsMosaic m → IsSample (metres (height_of m p))
-height_fits m p w = seam_fits (told m.side p m.tiles)
-    (All-map IsSample (λ t. sample_at m.side t p) (filter (λ t. holds m.side t.corner p) m.tiles)
-    (All-weaker (IsTile m.side) (λ t. IsSample (sample_at m.side t p)) (λ t h. sample_fits t.samples (index_of m.side t.corner p) h.samples)
-    (filter (λ t. holds m.side t.corner p) m.tiles) (All-filter (λ t. holds m.side t.corner p) (IsTile m.side) m.tiles w.tiles)))
-
-eq_true : (a b : ℤ) → int_eq a b ≡ true → a ≡ b
-eq_true a b e = grind (arith, ints)
-
-lt_false : (a b : ℤ) → int_lt a b ≡ false → b ≤ℤ a
-lt_false a b e = grind (arith, ints)
-
-pub same_point_is : (p q : Point) → same_point p q ≡ true → p ≡ q
-same_point_is p q h = let both = and_parts (int_eq p.y q.y) (int_eq p.x q.x) h in ap₂ (λ (v u : ℤ). record { y = v; x = u }) (eq_true p.y q.y both.0) (eq_true p.x q.x both.1)
-
 no_fault_at : (depth : ℤ) (h : Height) (later : Option Refusal) → fault_at depth h later ≡ None → (later ≡ None) × (negsuc 32766 ≤ℤ (metres h -ℤ depth))
 no_fault_at depth Outside later e = absurd (some_not_none e)
 no_fault_at depth Void later e = absurd (some_not_none e)
@@ -103,7 +67,7 @@ named_fits m depth [] p none named = absurd (false≢true named)
 named_fits m depth (q ∷ rest) p none named =
     let here = no_fault_at depth (height_of m q) (first_fault m depth rest) none in
     elim (or_cases (same_point p q) (list_any (same_point p) rest) named) [
-      | inl same ↦ subst (λ v. negsuc 32766 ≤ℤ (metres (height_of m v) -ℤ depth)) (sym (same_point_is p q same)) here.1
+      | inl same ↦ subst (λ v. negsuc 32766 ≤ℤ (metres (height_of m v) -ℤ depth)) (sym (same_point_says p q same)) here.1
       | inr later ↦ named_fits m depth rest p here.0 later
     ]
 
@@ -113,9 +77,6 @@ in_range h e =
     let low = le_true (negsuc 32766) h both.0 in
     let high = le_true h (pos 32767) both.1 in
     (omega (arith, ints), high)
-
-max_fits : (a b : ℤ) → IsSample a → IsSample b → IsSample (int_max a b)
-max_fits a b h k = (omega (arith, ints, clamps, h.0), omega (arith, ints, clamps, h.1, k.1))
 
 lowered_fits : (h depth : ℤ) → IsSample h → pos 1 ≤ℤ depth → negsuc 32766 ≤ℤ (h -ℤ depth) → IsSample (h -ℤ depth)
 lowered_fits h depth k low deep = (omega (arith, ints), omega (arith, ints, k.1))
@@ -137,11 +98,11 @@ accepted_fits k m (Burn depth points) w h p s fits =
     let three = no_fault (first_fault m depth points.items) (burnt depth points.items m) two.1 in
     let range = and_parts (int_le (pos 1) depth) (int_le depth (pos 32767)) (not-false (is_depth depth) one.0) in
     cond_both (is_named points.items p) (metres (height_of m p) -ℤ depth) s IsSample
-    (λ named. lowered_fits (metres (height_of m p)) depth (height_fits m p w) (le_true (pos 1) depth range.0) (named_fits m depth points.items p three.0 named)) (λ _. fits)
+    (λ named. lowered_fits (metres (height_of m p)) depth (metres_are_sample m p w) (le_true (pos 1) depth range.0) (named_fits m depth points.items p three.0 named)) (λ _. fits)
 accepted_fits k m (Wall height points) w h p s fits =
     let one = pass (not (effects.is_height height)) BadHeight _ h in
     cond_both (is_named points.items p) (int_max (metres (height_of m p)) height) s IsSample
-    (λ _. max_fits (metres (height_of m p)) height (height_fits m p w) (in_range height (not-false (effects.is_height height) one.0))) (λ _. fits)
+    (λ _. max_is_sample (metres (height_of m p)) height (metres_are_sample m p w) (in_range height (not-false (effects.is_height height) one.0))) (λ _. fits)
 
 -- and its effect is that every sample changes
 pub accepted_edit : (k : ℕ) (m : Mosaic) (c : Command) → refusal_of (effect k m c) ≡ None →

@@ -1,11 +1,9 @@
 -- The tests of commands, step by step.
-use Rattle.std.proofs.Common.{◌≡◌, ◌∙◌, ℕ, zero, suc, ◌+◌, ◌*◌, ◌/◌, ◌<◌, ◌≤◌, ℤ, pos, negsuc, ◌-ℤ◌, Bool, true, false, cond, not, ◌&&◌, ◌||◌, List, [], ◌∷◌, ◌++◌, length, get_or, drop, Option, Some, None, Err, nat_lt, refl, sym, ap, ap₂, subst, append_assoc, to_z, w16, SFits, arith, length-drop}
+use Rattle.std.proofs.Common.{◌≡◌, ◌∙◌, ℕ, suc, ◌+◌, ◌*◌, ◌/◌, ◌<◌, ◌≤◌, ℤ, pos, negsuc, Bool, true, false, cond, not, ◌&&◌, ◌||◌, List, [], ◌∷◌, ◌++◌, length, get_or, drop, Option, Some, None, Err, refl, sym, ap, ap₂, subst, append_assoc, to_z, w16, SFits, arith, length-drop}
 use Rattle.std.proofs.lemmas.List.{at_drop_more, at_drop_all}
-use Rattle.std.proofs.lemmas.Bool.{cond_both, ltb-true, ltb-false}
 use Rattle.std.proofs.lemmas.Grind.{common_steps}
 use Rattle.std.proofs.lemmas.Int.{ints}
-use Rattle.std.proofs.lemmas.List.Elements.{All-nil, All-cons, All-head, All-tail}
-use Rattle.std.specs.List.{position_or_len, insert, All}
+use Rattle.std.specs.List.{position_or_len, insert}
 use Rattle.lattice.specs.Corners.{Corner, is_before}
 use Rattle.lattice.specs.declared.point.Point.{Point}
 use Rattle.lattice.specs.declared.refusal.Refusal.{Refusal}
@@ -56,12 +54,6 @@ short (b ∷ c ∷ rest) h = absurd (omega arith)
 pub samples_in_end : (bytes : List ℕ) (e : ℕ) → length bytes / 2 ≤ e → samples_in (drop (2 * e) bytes) ≡ []
 samples_in_end bytes e past = short (drop (2 * e) bytes) (omega (arith, length-drop {A = ℕ}))
 
-pub length-samples_in : (bytes : List ℕ) (n : ℕ) → length bytes ≡ 2 * n → length (samples_in bytes) ≡ n
-length-samples_in [] n h = omega arith
-length-samples_in (b ∷ []) n h = absurd (omega arith)
-length-samples_in (b ∷ c ∷ rest) zero h = absurd (omega arith)
-length-samples_in (b ∷ c ∷ rest) (suc n) h = ap (λ k. suc k) (length-samples_in rest n (omega arith))
-
 -- the new tile goes to the place of the first one that it is before
 pub with_tile_at : (new : Tile) (tiles : List Tile) → with_tile new tiles ≡ insert tiles (position_or_len (λ t. is_before new.corner t.corner) tiles) new
 with_tile_at new [] = refl
@@ -105,15 +97,3 @@ sample_fits (negsuc n) h = record { sfits = omega (arith, ints, h.0) }
 
 pub fits_sample : (n : ℕ) → IsSample (to_z w16 n)
 fits_sample n = (omega (arith, ints), omega (arith, ints))
-
--- bytes stand for numbers of 16 bits
-sample_of_fits : (high low : ℕ) → high < 256 → low < 256 → IsSample (sample_of high low)
-sample_of_fits high low h l = cond_both (nat_lt high 128) (pos (256 * high + low)) (pos (256 * high + low) -ℤ pos 65536) IsSample
-    (λ e. let k = ltb-true high 128 e in (omega (arith, ints), omega (arith, ints))) (λ e. let k = ltb-false high 128 e in (omega (arith, ints), omega (arith, ints)))
-
-pub samples_in_fit : (bytes : List ℕ) → All (λ b. b < 256) bytes → All IsSample (samples_in bytes)
-samples_in_fit [] all = All-nil IsSample
-samples_in_fit (b ∷ []) all = All-nil IsSample
-samples_in_fit (b ∷ c ∷ rest) all =
-    let tail = All-tail (λ v. v < 256) b (c ∷ rest) all in
-    All-cons IsSample (sample_of b c) (samples_in rest) (sample_of_fits b c (All-head (λ v. v < 256) b (c ∷ rest) all) (All-head (λ v. v < 256) c rest tail)) (samples_in_fit rest (All-tail (λ v. v < 256) c rest tail))

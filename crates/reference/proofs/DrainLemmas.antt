@@ -20,8 +20,8 @@ use Rattle.reference.specs.declared.levels.Cell.{Cell}
 use Rattle.reference.specs.Levels.{level_of}
 use Rattle.reference.specs.Flats.{is_lower, is_level}
 use Rattle.reference.specs.Drains.{falls_faster, outranks, is_steepest, DrainsBy, IsFirstOf}
-use Rattle.reference.proofs.GroundLemmas.{adjacent_fits}
 use Rattle.reference.proofs.FlatLemmas.{lower_is, lower_from, level_is}
+use Rattle.catalogue.proofs.Degrees.{adjacent_fits}
 
 abbrev step_at : Point → Dir → Step
 step_at p d = record { direction = d; to = step d p }

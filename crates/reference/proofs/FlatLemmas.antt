@@ -1,35 +1,23 @@
 -- The points of round k are those that cross their flat in k steps.
-use Rattle.std.proofs.Common.{◌≡◌, ◌∙◌, ℕ, zero, suc, ◌+◌, ◌<◌, ℤ, ◌<ℤ◌, Bool, true, false, cond, IsTrue, List, [], ◌∷◌, filter, inl, inr, ⊎_elim, refl, sym, subst, arith, add-one}
+use Rattle.std.proofs.Common.{◌≡◌, ◌∙◌, ℕ, zero, suc, ◌+◌, ◌<◌, Bool, true, false, IsTrue, List, filter, inl, inr, ⊎_elim, refl, sym, subst, arith, add-one}
 use Rattle.std.specs.Prelude.{int_lt}
 use Rattle.std.specs.Ordering.{int_eq}
 use Rattle.std.specs.List.{Contains, list_any}
-use Rattle.std.proofs.lemmas.Int.{ints}
 use Rattle.std.proofs.lemmas.Bool.{cases_eq, cases_lt, and_parts, and_from, or_cases, or_left, or_right, false≢true}
-use Rattle.std.proofs.lemmas.List.Elements.{All-contains, All-filter, All-contains_itself, filter_passes, Contains-append_right}
+use Rattle.std.proofs.lemmas.List.Elements.{All-contains, All-filter, All-contains_itself, filter_passes}
 use Rattle.std.proofs.lemmas.List.Folds.{list_any_at, Any-from_list_any}
 use Rattle.lattice.specs.declared.point.Point.{Point}
 use Rattle.lattice.specs.Mosaic.{Mosaic}
 use Rattle.lattice.specs.Ground.{is_ground, is_adjacent, is_outlet, same_point, terrain}
+use Rattle.lattice.proofs.IntTests.{lt_true, lt_from, eq_true, eq_from}
+use Rattle.lattice.proofs.Filters.{contains_filtered}
+use Rattle.lattice.proofs.SamePoints.{same_point_says, same_point_from}
 use Rattle.flow_d8.specs.Drainage.{IsLower, CrossesFlat, IsFlatDistance}
 use Rattle.edits.specs.Effect.{is_named}
 use Rattle.reference.specs.declared.levels.Cell.{Cell}
 use Rattle.reference.specs.Levels.{level_of}
 use Rattle.reference.specs.Flats.{is_lower, is_level, is_end, crossing}
 use Rattle.reference.proofs.GroundLemmas.{adjacent_parts}
-use Rattle.reference.proofs.Accepted.{same_point_is}
-use Rattle.reference.proofs.LevelLemmas.{same_point_from}
-
-lt_true : (a b : ℤ) → int_lt a b ≡ true → a <ℤ b
-lt_true a b e = grind (arith, ints)
-
-lt_from : (a b : ℤ) → a <ℤ b → int_lt a b ≡ true
-lt_from a b e = grind (arith, ints)
-
-eq_true : (a b : ℤ) → int_eq a b ≡ true → a ≡ b
-eq_true a b e = grind (arith, ints)
-
-eq_from : (a b : ℤ) → a ≡ b → int_eq a b ≡ true
-eq_from a b e = grind (arith, ints)
 
 -- tests of some element
 pub any_has : {X : Type 0} (test : X → Bool) (xs : List X) (x : X) → Contains xs x → test x ≡ true → list_any test xs ≡ true
@@ -37,15 +25,6 @@ any_has test xs x has passes = list_any_at test xs has.0 x has.1 (subst (λ y. t
 
 pub any_gives : {X : Type 0} (test : X → Bool) (xs : List X) → list_any test xs ≡ true → (x : X) × (Contains xs x × (test x ≡ true))
 any_gives test xs h = let any = Any-from_list_any test xs h in (any.1, ((any.0, any.2, any.3), any.4))
-
-pub filter_has : {X : Type 0} (test : X → Bool) (xs : List X) (x : X) → Contains xs x → test x ≡ true → Contains (filter test xs) x
-filter_has test [] x has passes = absurd (omega (arith, has.1))
-filter_has test (y ∷ rest) x (zero, lt, is) passes =
-    let here : test y ≡ true = subst (λ v. test v ≡ true) (sym is) passes in
-    subst (λ b. Contains (cond b (y ∷ filter test rest) (filter test rest)) x) (sym here) (0, omega arith, is)
-filter_has test (y ∷ rest) x (suc k, lt, is) passes =
-    let later = filter_has test rest x (k, omega arith, is) passes in
-    elim (test y) as (λ b. Contains (cond b (y ∷ filter test rest) (filter test rest)) x) [ true ↦ Contains-append_right (y ∷ []) (filter test rest) x later | false ↦ later ]
 
 pub filter_within : {X : Type 0} (test : X → Bool) (xs : List X) (x : X) → Contains (filter test xs) x → Contains xs x
 filter_within test xs x has = All-contains (Contains xs) (filter test xs) x (All-filter test (Contains xs) xs (All-contains_itself xs)) has
@@ -55,7 +34,7 @@ filter_test test xs x has = All-contains (λ y. test y ≡ true) (filter test xs
 
 -- a list names the points that it has
 pub named_is : (points : List Point) (p : Point) → is_named points p ≡ true → Contains points p
-named_is points p h = let any = any_gives (same_point p) points h in subst (λ q. Contains points q) (sym (same_point_is p any.0 any.1.1)) any.1.0
+named_is points p h = let any = any_gives (same_point p) points h in subst (λ q. Contains points q) (sym (same_point_says p any.0 any.1.1)) any.1.0
 
 pub named_from : (points : List Point) (p : Point) → Contains points p → is_named points p ≡ true
 named_from points p has = any_has (same_point p) points p has (same_point_from p p refl)
@@ -90,13 +69,13 @@ module _ (m : Mosaic) (cells : List Cell) where
     module _ (every : (p : Point) → IsTrue (is_ground m p) → Contains points p) where
       pub crossing_from : (k : ℕ) (p : Point) → IsTrue (is_ground m p) → CrossesFlat (terrain m) (level_of cells) p k → Contains (crossing m cells points k) p
       crossing_from zero p on (inl low) =
-          filter_has (is_end m cells points) points p (every p on)
+          contains_filtered (is_end m cells points) points p (every p on)
           (or_left (list_any (is_lower m cells p) points) (is_outlet m p)
           (any_has (is_lower m cells p) points low.0 (every low.0 (adjacent_parts m p low.0 low.1.beside).to_ground) (lower_from p low.0 low.1)))
       crossing_from zero p on (inr out) =
-          filter_has (is_end m cells points) points p (every p on) (or_right (list_any (is_lower m cells p) points) (is_outlet m p) out)
+          contains_filtered (is_end m cells points) points p (every p on) (or_right (list_any (is_lower m cells p) points) (is_outlet m p) out)
       crossing_from (suc k) p on (q, (beside, same, crosses)) =
-          filter_has (λ r. list_any (is_level m cells r) (crossing m cells points k)) points p (every p on)
+          contains_filtered (λ r. list_any (is_level m cells r) (crossing m cells points k)) points p (every p on)
           (any_has (is_level m cells p) (crossing m cells points k) q (crossing_from k q (adjacent_parts m p q beside).to_ground crosses) (level_from p q beside same))
 
       -- the first round that has a point tells its flat distance

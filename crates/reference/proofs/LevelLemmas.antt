@@ -2,10 +2,9 @@
 use Rattle.std.proofs.Common.{◌≡◌, ◌∙◌, ℕ, zero, suc, ◌<◌, ℤ, pos, negsuc, ◌+ℤ◌, ◌≤ℤ◌, ◌<ℤ◌, int_le, nat_abs, true, false, ◌||◌, cond, IsTrue, IsFalse, List, [], ◌∷◌, length, get_or, set, Option, Some, None, MatchOption, unwrap_or, nat_lt, ◌⊎◌, inl, inr, refl, sym, ap, ap₂, subst, arith, get_or-set_same, get_or-set_other, length-set, map}
 use Rattle.std.proofs.lemmas.Int.{ints, clamps}
 use Rattle.std.proofs.lemmas.List.{length-map}
-use Rattle.std.proofs.lemmas.Bool.{cases_Bool, cases_eq, and_parts, and_from, false≢true, false_from_ne_true}
+use Rattle.std.proofs.lemmas.Bool.{cases_Bool, cases_eq, and_parts, false≢true, false_from_ne_true}
 use Rattle.std.proofs.lemmas.List.Elements.{All-contains, All-set, All-map}
 use Rattle.std.specs.Int.{int_max}
-use Rattle.std.specs.Ordering.{int_eq}
 use Rattle.std.specs.List.{All, Contains, sum_by}
 use Rattle.std.proofs.lemmas.List.Sums.{sum_by-set}
 use Rattle.lattice.specs.declared.point.Point.{Point}
@@ -14,11 +13,12 @@ use Rattle.lattice.specs.Mosaic.{Mosaic, IsMosaic, IsSample, void}
 use Rattle.lattice.proofs.WaysOut.{way_out}
 use Rattle.lattice.specs.Height.{height_of}
 use Rattle.lattice.specs.Ground.{is_ground, is_adjacent, is_outlet, is_sink, degree_of, metres, same_point, terrain}
+use Rattle.lattice.proofs.IntTests.{le_true, le_false}
+use Rattle.lattice.proofs.SamePoints.{same_point_says, same_point_from}
 use Rattle.flow_d8.specs.Drainage.{AreFilledLevels}
 use Rattle.reference.specs.declared.levels.Cell.{Cell}
 use Rattle.reference.specs.Levels.{level_of, level_in, starting_cell, lower_level, level_by}
 use Rattle.reference.proofs.GroundLemmas.{adjacent_parts}
-use Rattle.reference.proofs.Accepted.{same_point_is}
 
 -- every ground point has a cell
 abbrev pub Lists : Mosaic → List Cell → Type 0
@@ -43,12 +43,6 @@ pub record IsLower (m : Mosaic) (cell other : Cell) (l : ℤ) : Type 0 where
   pub beside : is_adjacent m cell.point other.point ≡ true
   pub through : (k : ℤ) × ((other.level ≡ Some k) × (l ≡ int_max (metres (height_of m cell.point)) k))
   pub below : (k : ℤ) → cell.level ≡ Some k → l <ℤ k
-
-le_false : (a b : ℤ) → int_le a b ≡ false → b <ℤ a
-le_false a b e = grind (arith, ints)
-
-le_true : (a b : ℤ) → int_le a b ≡ true → a ≤ℤ b
-le_true a b e = grind (arith, ints)
 
 lower_parts : (h : ℤ) (own other : Option ℤ) (l : ℤ) → lower_level h own other ≡ Some l →
     ((k : ℤ) × ((other ≡ Some k) × (l ≡ int_max h k))) × ((k : ℤ) → own ≡ Some k → l <ℤ k)
@@ -114,19 +108,13 @@ complete m cells lists outlets settled (q ∷ rest) i d inside way =
     higher : (h k v w : ℤ) → k ≤ℤ int_max h v → v ≤ℤ w → k ≤ℤ int_max h w
     higher h k v w a b = omega (arith, ints, clamps)
 
-pub same_point_from : (p q : Point) → p ≡ q → same_point p q ≡ true
-same_point_from p q is = subst (λ v. same_point p v ≡ true) is (and_from (int_eq p.y p.y) (int_eq p.x p.x) (eq_self p.y) (eq_self p.x))
-  where
-    eq_self : (v : ℤ) → int_eq v v ≡ true
-    eq_self v = grind (arith, ints)
-
 -- the level that is looked up is that of a cell of the point
 level_in_cases : (cells : List Cell) (p : Point) (d : Cell) →
     ((k : ℕ) × ((k < length cells) × (((get_or cells k d).point ≡ p) × (level_in cells p ≡ (get_or cells k d).level))))
     ⊎ ((level_in cells p ≡ None) × ((k : ℕ) → k < length cells → (get_or cells k d).point ≡ p → ⊥))
 level_in_cases [] p d = inr (refl, λ k inside. absurd (omega arith))
 level_in_cases (c ∷ rest) p d = elim (cases_Bool (same_point c.point p)) [
-  | inl same ↦ inl (0, (omega arith, (same_point_is c.point p same, ap (λ b. cond b c.level (level_in rest p)) same)))
+  | inl same ↦ inl (0, (omega arith, (same_point_says c.point p same, ap (λ b. cond b c.level (level_in rest p)) same)))
   | inr other ↦
       let here : level_in (c ∷ rest) p ≡ level_in rest p = ap (λ b. cond b c.level (level_in rest p)) other in
       elim (level_in_cases rest p d) [

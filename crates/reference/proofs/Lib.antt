@@ -6,7 +6,6 @@ pub mod GroundLemmas
 pub mod Kept
 pub mod LevelLemmas
 pub mod LoopLemmas
-pub mod Order
 pub mod PathLemmas
 pub mod PointLemmas
 pub mod RunLemmas

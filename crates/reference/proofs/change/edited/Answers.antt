@@ -4,9 +4,10 @@ use Rattle.std.specs.List.{All}
 use Rattle.lattice.specs.Corners.{Corner}
 use Rattle.lattice.specs.Mosaic.{Mosaic, Tile, IsTile, IsMosaic}
 use Rattle.reference.specs.Changes.{change_of}
-use Rattle.reference.proofs.Kept.{edited_tile, kept_edited}
+use Rattle.reference.proofs.Kept.{edited_tile}
 use Rattle.reference.proofs.LoopLemmas.{all_mapped, mapped_more}
 use Rattle.reference.proofs.change.edited.Goals as goal
+use Rattle.edits.proofs.NewMosaics.{edited_is_mosaic}
 
 abbrev tile : Corner → List ℤ → Tile
 tile corner samples = record { corner = corner; samples = samples }
@@ -34,7 +35,7 @@ with_tiles-requires c =
     let tiles : c.loop-tile.tiles.items ≡ map (edited_tile f m.side) m.tiles =
     all_mapped (edited_tile f m.side) c.tiles-tile-items.result.now c.loop-tile.tile-index c.loop-tile.tiles.items c.loop-tile-test.false c.loop-tile.invariant
     ∙ ap (map (edited_tile f m.side)) c.tiles-tile-items.ensures.value in
-    subst (λ (ts : List Tile). IsMosaic (record m { tiles = ts })) (sym tiles) (kept_edited f m c.side-side.ensures.whole c.requires)
+    subst (λ (ts : List Tile). IsMosaic (record m { tiles = ts })) (sym tiles) (edited_is_mosaic m f c.requires c.side-side.ensures.whole)
 
 pub returns : goal.returns
 returns c =

@@ -1,10 +1,10 @@
 use Rattle.std.proofs.Common.{◌≡◌, ◌∙◌, ◌++◌, [], ◌∷◌, ap, sym, subst, filter, not, Bool, List}
 use Rattle.lattice.specs.Corners.{Corner, same_corner}
 use Rattle.lattice.specs.Mosaic.{Tile, IsMosaic}
-use Rattle.reference.proofs.Kept.{kept_without}
 use Rattle.reference.proofs.LoopLemmas.{all_passed, passes_more, passes_same}
 use Rattle.reference.proofs.commands.removed.Goals.{then-not-is_same_corner+in_ok-copy+in_ok-push, else-not-is_same_corner}
 use Rattle.reference.proofs.commands.removed.Goals as goal
+use Rattle.catalogue.proofs.Mosaics.{mosaic-without}
 
 abbrev stays : Corner → Tile → Bool
 stays corner t = not (same_corner t.corner corner)
@@ -32,4 +32,4 @@ with_tiles-requires c =
     let tiles : c.loop-tile.tiles.items ≡ filter (stays corner) c.args.mosaic.now.tiles =
     all_passed (stays corner) c.tiles-tile-items.result.now c.loop-tile.tile-index c.loop-tile.tiles.items c.loop-tile-test.false c.loop-tile.invariant
     ∙ ap (filter (stays corner)) c.tiles-tile-items.ensures.value in
-    subst (λ (ts : List Tile). IsMosaic (record c.args.mosaic.now { tiles = ts })) (sym tiles) (kept_without corner c.args.mosaic.now c.side-side.ensures.whole)
+    subst (λ (ts : List Tile). IsMosaic (record c.args.mosaic.now { tiles = ts })) (sym tiles) (mosaic-without corner c.args.mosaic.now c.side-side.ensures.whole)

@@ -4,7 +4,8 @@ use Rattle.std.proofs.lemmas.List.Elements.{All-from_get_or}
 use Rattle.std.specs.List.{All}
 use Rattle.lattice.specs.Mosaic.{IsSample}
 use Rattle.hgt.specs.Bytes.{samples_in}
-use Rattle.reference.proofs.CommandLemmas.{samples_in_more, samples_in_end, samples_in_fit}
+use Rattle.hgt.proofs.BytesLemmas.{samples_in_are_samples}
+use Rattle.reference.proofs.CommandLemmas.{samples_in_more, samples_in_end}
 use Rattle.reference.proofs.commands.samples_in.Goals as goal
 
 pub loop-e-preserved : goal.loop-e-preserved
@@ -22,4 +23,4 @@ returns-clause-value c = value c
 pub returns-clause-fits : goal.returns-clause-fits
 returns-clause-fits c =
     let bytes = All-from_get_or (λ b. b < 256) c.args.bytes.now 0 (λ i inside. omega (arith, (c.type_inv.bytes i).fits)) in
-    subst (All IsSample) (sym (value c)) (samples_in_fit c.args.bytes.now bytes)
+    subst (All IsSample) (sym (value c)) (samples_in_are_samples c.args.bytes.now bytes)

@@ -3,7 +3,7 @@ use Rattle.std.specs.List.{All}
 use Rattle.lattice.specs.Corners.{Corner, is_corner}
 use Rattle.lattice.specs.Mosaic.{IsTile, IsSample}
 use Rattle.hgt.specs.Bytes.{samples_in}
-use Rattle.reference.proofs.CommandLemmas.{length-samples_in}
+use Rattle.hgt.proofs.BytesLemmas.{length-samples_in}
 use Rattle.reference.proofs.Kept.{same_tile}
 use Rattle.reference.proofs.commands.tile_of.Goals as goal
 
