@@ -4,6 +4,7 @@ use Rattle.std.proofs.lemmas.Str.Parse.{digit_from_value}
 use Rattle.lattice.specs.declared.point.Point.{Point}
 use Rattle.std.specs.Prelude.{Option, Some, None, IfSome, ◌⊎◌}
 use Rattle.lattice.specs.Corners.{Corner}
+use Rattle.lattice.proofs.SamePoints.{same_place}
 use Rattle.hgt.specs.Names.{IsName}
 use Rattle.hgt.proofs.NameLemmas.{IsName-same}
 use Rattle.engine.specs.declared.event.Event.{Event}
@@ -42,11 +43,6 @@ same_ints (w ∷ ws) (y ∷ ys) [] h i = absurd i
 same_ints (w ∷ ws) (y ∷ ys) (z ∷ zs) h i =
     let head = same_int w y z h.0 i.0 in let tail = same_ints ws ys zs h.1 i.1 in cc
 
-same_point : (p q : Point) → p.y ≡ q.y → p.x ≡ q.x → p ≡ q
-same_point p q e f =
-    let at : ℤ → ℤ → Point = λ y x. record { y = y; x = x } in
-    ap (λ y. at y p.x) e ∙ ap (λ x. at q.y x) f
-
 same_points : (ps qs : List Point) → coordinates ps ≡ coordinates qs → ps ≡ qs
 same_points [] [] e = refl
 same_points [] (q ∷ qs) e = cc
@@ -55,7 +51,7 @@ same_points (p ∷ ps) (q ∷ qs) e =
     let y : p.y ≡ q.y = cc in
     let x : p.x ≡ q.x = cc in
     let rest : coordinates ps ≡ coordinates qs = cc in
-    let head = same_point p q y x in
+    let head = same_place p q y x in
     let tail = same_points ps qs rest in
     cc
 
@@ -94,8 +90,8 @@ same_box event args a b (from, to, height, h, is) (from', to', height', i, js) =
     let y1 : to.y ≡ to'.y = cc in
     let x1 : to.x ≡ to'.x = cc in
     let heights : height ≡ height' = cc in
-    let froms = same_point from from' y0 x0 in
-    let tos = same_point to to' y1 x1 in
+    let froms = same_place from from' y0 x0 in
+    let tos = same_place to to' y1 x1 in
     let events : AskEvent (event from to height) ≡ AskEvent (event from' to' height') = cc in
     is ∙ events ∙ sym js
 
@@ -113,7 +109,7 @@ same_at event args a b (p, h, is) (q, i, js) =
     let same = same_ints args (p.y ∷ p.x ∷ []) (q.y ∷ q.x ∷ []) h i in
     let y : p.y ≡ q.y = cc in
     let x : p.x ≡ q.x = cc in
-    is ∙ ap (λ (r : Point). AskEvent (event r)) (same_point p q y x) ∙ sym js
+    is ∙ ap (λ (r : Point). AskEvent (event r)) (same_place p q y x) ∙ sym js
 
 same_alone : (what : Asked) (args : List (List ℕ)) (a b : Asked) → AsksAlone what args a → AsksAlone what args b → a ≡ b
 same_alone what args a b h i = h.1 ∙ sym i.1

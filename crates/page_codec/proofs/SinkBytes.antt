@@ -1,5 +1,5 @@
 -- The bytes of a sink: they spell one sink only.
-use Rattle.std.proofs.Common.{◌≡◌, ℕ, ◌-◌, ◌*◌, ◌≤◌, ℤ, pos, ◌+ℤ◌, ◌*ℤ◌, IsTrue, List, [], ◌++◌, length, sym, ap, ap₂, ◌∙◌, arith, append_assoc}
+use Rattle.std.proofs.Common.{◌≡◌, ℕ, ◌-◌, ◌*◌, ◌≤◌, ℤ, pos, ◌+ℤ◌, ◌*ℤ◌, IsTrue, List, [], ◌++◌, length, sym, ap, ◌∙◌, arith, append_assoc}
 use Rattle.std.specs.Prelude.{unsigned_abs}
 use Rattle.std.specs.List.{flat_map}
 use Rattle.std.specs.Int.{w32}
@@ -15,6 +15,7 @@ use Rattle.lattice.specs.declared.point.Point.{Point}
 use Rattle.lattice.proofs.Along.{steps}
 use Rattle.page_codec.specs.Numbers.{i32_bytes}
 use Rattle.lattice.specs.Mosaic.{IsHeld}
+use Rattle.lattice.proofs.SamePoints.{same_place}
 use Rattle.page_codec.specs.Sinks.{sink_bytes}
 use Rattle.page_codec.proofs.Fields.{same_i32, length-i32_bytes}
 use Rattle.page_codec.proofs.Items.{SpellsOne, length_items}
@@ -47,9 +48,6 @@ pub length-sink_bytes : (p : Point) → length (sink_bytes p) ≡ 8
 unfolding sink_bytes
 length-sink_bytes p = omega (arith, length-append (i32_bytes p.y) (i32_bytes p.x), length-i32_bytes p.y, length-i32_bytes p.x)
 
-same_points : (a b : Point) → a.y ≡ b.y → a.x ≡ b.x → a ≡ b
-same_points a b y x = ap₂ (λ (s t : ℤ). let p : Point = record { y = s; x = t } in p) y x
-
 -- where coordinates fit their bytes
 same_sink_bytes : (a b : Point) (x y : List ℕ) → FitsSigned w32 a.y × FitsSigned w32 a.x → FitsSigned w32 b.y × FitsSigned w32 b.x → sink_bytes a ++ x ≡ sink_bytes b ++ y → (a ≡ b) × (x ≡ y)
 unfolding sink_bytes
@@ -57,7 +55,7 @@ same_sink_bytes a b x y p q e =
     let parts : i32_bytes a.y ++ (i32_bytes a.x ++ x) ≡ i32_bytes b.y ++ (i32_bytes b.x ++ y) = sym (append_assoc (i32_bytes a.y) (i32_bytes a.x) x) ∙ e ∙ append_assoc (i32_bytes b.y) (i32_bytes b.x) y in
     let first = same_i32 a.y b.y (i32_bytes a.x ++ x) (i32_bytes b.x ++ y) p.0 q.0 parts in
     let second = same_i32 a.x b.x x y p.1 q.1 first.1 in
-    (same_points a b first.0 second.0, second.1)
+    (same_place a b first.0 second.0, second.1)
 
 pub one_sink : (side : ℕ) → IsSide side → SpellsOne sink_bytes (IsHeld side)
 one_sink side known = record { same = λ a b x y p q e. same_sink_bytes a b x y (sink_fits side a known p) (sink_fits side b known q) e }

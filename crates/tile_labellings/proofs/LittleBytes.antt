@@ -1,11 +1,12 @@
 -- Numbers of 16 bits as two bytes each, the least significant first, and back.
-use Rattle.std.proofs.Common.{◌≡◌, ℕ, zero, suc, ◌+◌, ◌*◌, ◌/◌, ◌%◌, ◌<◌, ℤ, pos, negsuc, of_z, to_z, w8, w16, Fits, List, [], ◌∷◌, length, drop, get_or, refl, sym, ap, ◌∙◌, subst, arith, add-zero}
+use Rattle.std.proofs.Common.{◌≡◌, ℕ, ◌+◌, ◌*◌, ◌/◌, ◌%◌, ◌<◌, ℤ, pos, negsuc, of_z, to_z, w8, w16, Fits, List, [], ◌∷◌, length, drop, get_or, refl, sym, ap, ◌∙◌, subst, arith, add-zero}
 use Rattle.std.specs.List.{All, flat_map}
 use Rattle.std.proofs.lemmas.Int.{ints}
 use Rattle.std.proofs.lemmas.Grind.{same_number_lists}
 use Rattle.std.proofs.lemmas.List.{same_lists, length-map, get_or-map, get_or-drop}
 use Rattle.std.proofs.lemmas.List.Elements.{All-head, All-tail}
 use Rattle.lattice.specs.Mosaic.{IsSample}
+use Rattle.lattice.proofs.Pairs.{length-pairs, get_or-pairs}
 use Rattle.tile_flood.specs.Kept.{labels_in, levels_in, signed}
 
 whole : (n : ℕ) → n < 65536 → n % 256 + 256 * (n / 256 % 256) ≡ n
@@ -32,23 +33,11 @@ levels_back f is (z ∷ levels) fits =
 
 -- ---- and as they are read
 
-get_or_third : {A : Type 0} (x y : A) (xs : List A) (i j : ℕ) (d : A) → j ≡ suc (suc i) → get_or (x ∷ y ∷ xs) j d ≡ get_or xs i d
-get_or_third x y xs i j d e = ap (λ n. get_or (x ∷ y ∷ xs) n d) e
-
 get_or-labels_in : (bytes : List ℕ) (i d : ℕ) → 2 * i + 1 < length bytes → get_or (labels_in bytes) i d ≡ get_or bytes (2 * i) 0 + 256 * get_or bytes (2 * i + 1) 0
-get_or-labels_in [] i d h = absurd (omega arith)
-get_or-labels_in (b ∷ []) i d h = absurd (omega arith)
-get_or-labels_in (b ∷ c ∷ rest) zero d h = refl
-get_or-labels_in (b ∷ c ∷ rest) (suc i) d h =
-    let low : get_or (b ∷ c ∷ rest) (2 * suc i) 0 ≡ get_or rest (2 * i) 0 = get_or_third b c rest (2 * i) (2 * suc i) 0 (omega arith) in
-    let high : get_or (b ∷ c ∷ rest) (2 * suc i + 1) 0 ≡ get_or rest (2 * i + 1) 0 = get_or_third b c rest (2 * i + 1) (2 * suc i + 1) 0 (omega arith) in
-    rw (low, high) (get_or-labels_in rest i d (omega arith))
+get_or-labels_in = get_or-pairs labels_in (λ low high. low + 256 * high) refl (λ b c rest. refl)
 
 pub length-labels_in : (bytes : List ℕ) (n : ℕ) → length bytes ≡ 2 * n → length (labels_in bytes) ≡ n
-length-labels_in [] n h = omega arith
-length-labels_in (b ∷ []) n h = absurd (omega arith)
-length-labels_in (b ∷ c ∷ rest) zero h = absurd (omega arith)
-length-labels_in (b ∷ c ∷ rest) (suc n) h = ap suc (length-labels_in rest n (omega arith))
+length-labels_in = length-pairs labels_in (λ low high. low + 256 * high) refl (λ b c rest. refl)
 
 pub length-levels_in : (bytes : List ℕ) (n : ℕ) → length bytes ≡ 2 * n → length (levels_in bytes) ≡ n
 length-levels_in bytes n h = length-map (labels_in bytes) signed ∙ length-labels_in bytes n h
