@@ -1,54 +1,31 @@
 -- Distances over all tiles that were walked, and that no step across saves more than one, are the flat distances.
-use Rattle.std.proofs.Common.{◌≡◌, ℕ, zero, suc, ◌+◌, ◌<◌, ◌≤◌, Bool, true, ◌&&◌, IsTrue, Option, Some, None, inl, inr, ⊎_elim, List, [], ◌∷◌, length, get_or, refl, sym, ap, ◌∙◌, subst, arith, true≢false, eq-eqb, eqb}
+use Rattle.std.proofs.Common.{◌≡◌, ℕ, zero, suc, ◌+◌, ◌<◌, ◌≤◌, Bool, true, ◌&&◌, IsTrue, Option, Some, None, inl, inr, List, [], ◌∷◌, length, get_or, refl, sym, ap, ◌∙◌, subst, arith, eq-eqb, eqb}
 use Rattle.std.specs.Prelude.{nat_lt, if◌then◌else◌, slice_index_or}
 use Rattle.std.specs.List.{list_any}
-use Rattle.std.proofs.lemmas.Bool.{cases_Bool, cases_eq, cases_lt, cond-true, cond-false, and_parts, and_from, or_left, or_right}
-use Rattle.std.proofs.lemmas.Bool.Decides.{nat_tests}
+use Rattle.std.proofs.lemmas.Bool.{cases_Bool, cases_eq, cases_lt, cond-true, cond-false, and_parts, and_from, or_left, or_right, lt-ltb, ltb-true}
 use Rattle.std.proofs.lemmas.List.{get_or_past}
 use Rattle.std.proofs.lemmas.Map.Steps.{le-length_from_below}
 use Rattle.lattice.specs.declared.point.Point.{Point}
 use Rattle.lattice.specs.Steps.{step}
 use Rattle.flow_d8.specs.declared.local_flow.LocalFlow.{LocalFlow}
-use Rattle.flow_d8.specs.declared.local_flow.LocalFlow.TheVariants.{NoGround, Edge, Flat, Seam, Drains}
+use Rattle.flow_d8.specs.declared.local_flow.LocalFlow.TheVariants.{NoGround}
 use Rattle.flow_d8.specs.Drainage.{IsFlatDistance}
 use Rattle.flow_d8.specs.Filled.{Filled}
 use Rattle.flow_d8.specs.FlatCertificate.{AreMeasured, AreExact, IsClosed}
 use Rattle.flow_d8.specs.Surface.{number_in, level_at, has_level, adjoins, surface}
-use Rattle.flow_d8.specs.Propagation.{unknown, distance_at, DrainsAtOnce}
+use Rattle.flow_d8.specs.Propagation.{unknown, distance_at}
 use Rattle.flow_d8.specs.Crossing.{Crosses, DrainsLike, HasSite, AreLocalFlows, AreBounds, AreRelaxed, AreDistances, IsAcross}
 use Rattle.flow_d8.proofs.FlatCertificate.{exact}
 use Rattle.flow_d8.proofs.Unique.{one_distance}
 use Rattle.flow_d8.proofs.Numbers.{few_samples}
 use Rattle.flow_d8.proofs.Surfaces.{surface_lawful, level_within}
+use Rattle.flow_d8.proofs.PointFlows.{end_of}
 use Rattle.flow_d8.proofs.SampleFlows.{sample_is}
-
-lt-true : (a b : ℕ) → a < b → nat_lt a b ≡ true
-lt-true a b h = grind (arith, nat_tests)
-
-lt-said : (a b : ℕ) → nat_lt a b ≡ true → a < b
-lt-said a b h = grind (arith, nat_tests)
 
 any_of : (xs : List ℕ) (g q d : ℕ) → g < length xs → get_or xs g d ≡ q → list_any (eqb q) xs ≡ true
 any_of [] g q d small is = absurd (omega arith)
 any_of (x ∷ xs) zero q d small is = or_left (eqb q x) (list_any (eqb q) xs) (eq-eqb q x (sym is))
 any_of (x ∷ xs) (suc g) q d small is = or_right (eqb q x) (list_any (eqb q) xs) (any_of xs g q d (omega arith) is)
-
-module _ (f : Filled) (p : Point) where
-  -- a point that drains at once is an end
-  pub end_of : (flow : LocalFlow) → DrainsLike f p flow → Crosses f p 0 → DrainsAtOnce flow
-  end_of NoGround is crosses = is
-  end_of Edge is crosses = tt
-  end_of Flat is crosses = ⊎_elim (λ low. absurd (is.0 low)) (λ out. absurd (true≢false (sym out ∙ is.1))) crosses
-  end_of Seam is crosses = ⊎_elim (λ low. absurd (is.0 low)) (λ out. absurd (true≢false (sym out ∙ is.1))) crosses
-  end_of (Drains d) is crosses = tt
-
-  -- and an end's point drains at once
-  pub crosses_end : (flow : LocalFlow) → DrainsLike f p flow → DrainsAtOnce flow → Crosses f p 0
-  crosses_end NoGround is end = absurd is
-  crosses_end Edge is end = inr is.1
-  crosses_end Flat is end = absurd end
-  crosses_end Seam is end = absurd end
-  crosses_end (Drains d) is end = inl (step d p, is.lower)
 
 module _ (f : Filled) (flows : List LocalFlow) (are : AreLocalFlows f flows) where
   abbrev flow_at : Point → LocalFlow
@@ -83,18 +60,18 @@ module _ (f : Filled) (flows : List LocalFlow) (are : AreLocalFlows f flows) whe
       | inl on ↦
           let parts = and_parts (has_level f p) (nat_lt (dist p) unknown) on in
           let at : dist p ≡ d = some_same (sym (cond-true (is_known p) (Some (dist p)) None on) ∙ is) in
-          record { level = parts.0; at = at; small = subst (λ v. v < unknown) at (lt-said (dist p) unknown parts.1) }
+          record { level = parts.0; at = at; small = subst (λ v. v < unknown) at (ltb-true (dist p) unknown parts.1) }
       | inr off ↦ absurd (no_some (sym (cond-false (is_known p) (Some (dist p)) None off) ∙ is))
     ]
 
     some_from : (p : Point) → IsTrue (has_level f p) → dist p < unknown → distance p ≡ Some (dist p)
-    some_from p level small = cond-true (is_known p) (Some (dist p)) None (and_from (has_level f p) (nat_lt (dist p) unknown) level (lt-true (dist p) unknown small))
+    some_from p level small = cond-true (is_known p) (Some (dist p)) None (and_from (has_level f p) (nat_lt (dist p) unknown) level (lt-ltb (dist p) unknown small))
 
     walked_at : (p : Point) → IsTrue (has_level f p) → dist p < unknown → Crosses f p (dist p)
     walked_at p level small = subst (λ q. Crosses f q (dist p)) (sample_is f are.valid p level) (bounds.walked (number_in f p) small)
 
     end_zero : (p : Point) → IsTrue (has_level f p) → Crosses f p 0 → dist p ≡ 0
-    end_zero p level crosses = bounds.ends (number_in f p) (end_of f p (flow_at p) (like_at p level) crosses)
+    end_zero p level crosses = bounds.ends (number_in f p) (end_of (surface f) (level_at f) p (flow_at p) (like_at p level) crosses)
 
     -- no step across saves more than one
     step_saves_one : (p q : Point) → IsAcross f p q → dist q < unknown → dist p ≤ dist q + 1

@@ -13,7 +13,8 @@ use Rattle.flow_d8.specs.Propagation.{unknown, distance_at, DrainsAtOnce, IsEnd}
 use Rattle.flow_d8.specs.Crossing.{Crosses, DrainsLike, AreLocalFlows, AreDistances, IsDrainOf, AreDrainedTo, AreDrained}
 use Rattle.flow_d8.proofs.Surfaces.{level_within, same_site}
 use Rattle.flow_d8.proofs.Nearest.{known_is, across_flat}
-use Rattle.flow_d8.proofs.Crossed.{end_of, crosses_end, like_at}
+use Rattle.flow_d8.proofs.PointFlows.{end_of, crosses_end}
+use Rattle.flow_d8.proofs.Crossed.{like_at}
 use Rattle.flow_d8.proofs.Found.{nowhere_in_no_mosaic}
 
 module _ (f : Filled) (flows : List LocalFlow) (are : AreLocalFlows f flows) (distances : List ℕ) (is : AreDistances f distances) where
@@ -23,7 +24,7 @@ module _ (f : Filled) (flows : List LocalFlow) (are : AreLocalFlows f flows) (di
 
   -- what drains at once
   pub known_end : (p : Point) (g : ℕ) (flow : LocalFlow) → IsTrue (has_level f p) → number_in f p ≡ g → slice_index_or flows g NoGround ≡ flow → DrainsAtOnce flow → distance_at distances g < unknown
-  known_end p g flow level at same end = subst (λ n. distance_at distances n < unknown) at (is.all p 0 level (crosses_end f p flow (like_of p g flow level at same) end))
+  known_end p g flow level at same end = subst (λ n. distance_at distances n < unknown) at (is.all p 0 level (crosses_end (surface f) (level_at f) p flow (like_of p g flow level at same) end))
 
   pub edge_drains : (g : ℕ) → slice_index_or flows g NoGround ≡ Edge → IsDrainOf f g None
   edge_drains g same p level at = like_of p g Edge level at same
@@ -41,7 +42,7 @@ module _ (f : Filled) (flows : List LocalFlow) (are : AreLocalFlows f flows) (di
       | inl none ↦
           let here : distance_at distances (number_in f p) ≡ 0 = ap (distance_at distances) at ∙ none in
           let exact = known_is f is.valid distances is p level (omega arith) in
-          absurd (no_end (subst (IsEnd flows) at (end_of f p (slice_index_or flows (number_in f p) NoGround) (like_at f flows are p level) (subst (Crosses f p) here exact.crosses))))
+          absurd (no_end (subst (IsEnd flows) at (end_of (surface f) (level_at f) p (slice_index_or flows (number_in f p) NoGround) (like_at f flows are p level) (subst (Crosses f p) here exact.crosses))))
       | inr some ↦ omega arith
     ]
 

@@ -1,36 +1,38 @@
 -- The lead at the head of a search, and whether it is at an end of the flat.
-use Rattle.std.proofs.Common.{◌≡◌, ℕ, ◌+◌, ◌<◌, ◌≤◌, ℤ, Bool, true, false, IsTrue, IsFalse, Option, Some, None, List, length, get_or, inl, inr, ⊎_elim, refl, sym, ap, ◌∙◌, subst, true≢false}
-use Rattle.std.specs.Prelude.{is_some, MatchOption}
+use Rattle.std.proofs.Common.{◌≡◌, ℕ, ◌+◌, ◌<◌, ◌≤◌, ℤ, Bool, true, false, IsTrue, Option, List, length, get_or, refl, sym, ap, ◌∙◌, subst, true≢false}
 use Rattle.lattice.specs.declared.point.Point.{Point}
-use Rattle.lattice.specs.declared.direction.Dir.{Dir}
-use Rattle.lattice.specs.Steps.{step}
 use Rattle.lattice.specs.Mosaic.{Mosaic, IsMosaic, void}
-use Rattle.lattice.specs.Terrain.{Terrain, IsFilledLevel}
-use Rattle.lattice.specs.Ground.{is_ground, is_outlet, terrain}
+use Rattle.lattice.specs.Terrain.{IsFilledLevel}
+use Rattle.lattice.specs.Ground.{is_ground, terrain}
 use Rattle.lattice.proofs.FilledLevels.{filled_level_exists}
-use Rattle.flow_d8.specs.Drainage.{AreFilledLevels, HasLower, IsSteepest, CrossesFlat}
+use Rattle.lattice.proofs.Levels.{level_is_unique}
+use Rattle.flow_d8.specs.Drainage.{AreFilledLevels, CrossesFlat}
 use Rattle.flow_d8.proofs.Fitting.{ground_fits}
 use Rattle.flow_d8.proofs.MosaicGrid.{mosaic_is_grid}
 use Rattle.flow_d8.proofs.Exists.{distance_exists}
 use Rattle.flow_d8.specs.declared.flat_search.Lead.{Lead}
-use Rattle.flow_d8.specs.LevelsAround.{around_of, OnLevels}
+use Rattle.flow_d8.specs.declared.local_flow.LocalFlow.{LocalFlow}
+use Rattle.flow_d8.specs.LevelsAround.{around_of, OnLevels, IsNear}
+use Rattle.flow_d8.specs.Places.{IsFlowOf}
 use Rattle.flow_d8.specs.FlatSearch.{AreVisited, lead_at, IsSearched}
 use Rattle.flow_d8.proofs.Reaching.{read_is, head_level, head_ground, searched_on}
 use Rattle.flow_d8.proofs.Shortest.{none_left}
 
+-- a ground point of this level, with these levels around it, whatever function gives them
+near_is : (m : Mosaic) (p : Point) (height : ℤ) (around : List (Option ℤ)) (level : Point → ℤ) → AreFilledLevels (terrain m) level → IsTrue (is_ground m p) → level p ≡ height
+    → OnLevels m (λ level. around ≡ around_of (terrain m) level p) → IsNear m p (record { height = height; around = around })
+near_is m p height around level filled solid here are = record {
+  solid = solid;
+  here = λ other others. level_is_unique (terrain m) p (other p) (level p) (others p solid) (filled p solid) ∙ here;
+  around_it = are;
+}
+
 -- what was said of the levels as they are after a call holds of those before it
-pub moved : (m n : Mosaic) (p : Point) (around : List (Option ℤ)) (r : Bool) → n ≡ m → (IsTrue (is_ground n p) → OnLevels n (λ level. around ≡ around_of (terrain n) level p → r ≡ is_outlet n p))
-    → IsTrue (is_ground m p) → OnLevels m (λ level. around ≡ around_of (terrain m) level p → r ≡ is_outlet m p)
-moved m n p around r same said = subst (λ (k : Mosaic). IsTrue (is_ground k p) → OnLevels k (λ level. around ≡ around_of (terrain k) level p → r ≡ is_outlet k p)) same said
-
--- where a steepest step was found some point is lower, else none
-pub some_lower : (t : Terrain Point) (level : Point → ℤ) (p : Point) (r : Option Dir) → is_some r ≡ true → MatchOption r (HasLower t level p → ⊥) (IsSteepest t level p) → HasLower t level p
-some_lower t level p (Some d) is steep = (step d p, steep.lower)
-some_lower t level p None is none = absurd (true≢false (sym is))
-
-pub none_lower : (t : Terrain Point) (level : Point → ℤ) (p : Point) (r : Option Dir) → is_some r ≡ false → MatchOption r (HasLower t level p → ⊥) (IsSteepest t level p) → HasLower t level p → ⊥
-none_lower t level p (Some d) is steep = absurd (true≢false is)
-none_lower t level p None is none = none
+pub moved : (m n : Mosaic) (p : Point) (height : ℤ) (around : List (Option ℤ)) (flow : LocalFlow) → n ≡ m
+    → (IsNear n p (record { height = height; around = around }) → OnLevels n (λ level. IsFlowOf (terrain n) level p flow))
+    → IsTrue (is_ground m p) → OnLevels m (λ level. around ≡ around_of (terrain m) level p) → OnLevels m (λ level. level p ≡ height → IsFlowOf (terrain m) level p flow)
+moved m n p height around flow same said solid are level filled here =
+    subst (λ (k : Mosaic). IsNear k p (record { height = height; around = around }) → OnLevels k (λ level. IsFlowOf (terrain k) level p flow)) same said (near_is m p height around level filled solid here are) level filled
 
 -- some function gives the filled levels
 module _ (m : Mosaic) (is : IsMosaic m) where
@@ -56,21 +58,14 @@ module _ (m : Mosaic) (is : IsMosaic m) (level : Point → ℤ) (x : Point) (hei
     pub lead_level : level lead.point ≡ height
     lead_level = ap level point_is ∙ head_level (terrain m) (mosaic_is_grid m is) level x (ground_fits m is) height here old head s within
 
-    pub end_off : IsTrue (is_outlet m lead.point) → CrossesFlat (terrain m) level (lead_at old head).point 0
-    end_off out = inr (subst (λ q. IsTrue (is_outlet m q)) point_is out)
-
-    pub end_low : HasLower (terrain m) level lead.point → CrossesFlat (terrain m) level (lead_at old head).point 0
-    end_low low = inl (subst (λ q. HasLower (terrain m) level q) point_is low)
-
-    not_end : (HasLower (terrain m) level lead.point → ⊥) → IsFalse (is_outlet m lead.point) → CrossesFlat (terrain m) level (lead_at old head).point 0 → ⊥
-    not_end none off crosses = ⊎_elim (λ low. none (subst (λ q. HasLower (terrain m) level q) (sym point_is) low))
-        (λ out. true≢false (sym out ∙ subst (λ q. IsFalse (is_outlet m q)) point_is off)) crosses
+    pub end : CrossesFlat (terrain m) level lead.point 0 → CrossesFlat (terrain m) level (lead_at old head).point 0
+    end crosses = subst (λ q. CrossesFlat (terrain m) level q 0) point_is crosses
 
     pub on : (around : List (Option ℤ)) → around ≡ around_of (terrain m) level lead.point → (new : List Lead) → AreVisited lead.point head height around old new 8
-        → (HasLower (terrain m) level lead.point → ⊥) → IsFalse (is_outlet m lead.point) → IsSearched (terrain m) level x new (head + 1)
-    on around are new visits none off =
+        → (CrossesFlat (terrain m) level lead.point 0 → ⊥) → IsSearched (terrain m) level x new (head + 1)
+    on around are new visits no_end =
         searched_on (terrain m) (mosaic_is_grid m is) level x (ground_fits m is) height here old head s within around (are ∙ ap (around_of (terrain m) level) point_is) new
-        (subst (λ q. AreVisited q head height around old new 8) point_is visits) (not_end none off)
+        (subst (λ q. AreVisited q head height around old new 8) point_is visits) (λ crosses. no_end (subst (λ q. CrossesFlat (terrain m) level q 0) (sym point_is) crosses))
 
   -- on a mosaic the search comes to an end of the flat
   pub some_left : AreFilledLevels (terrain m) level → length old ≤ head → ⊥

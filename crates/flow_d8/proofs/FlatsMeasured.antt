@@ -9,12 +9,12 @@ use Rattle.lattice.specs.Steps.{step, order_of}
 use Rattle.lattice.specs.Stepping.{fits_point}
 use Rattle.lattice.specs.Terrain.{Terrain}
 use Rattle.lattice.specs.Mosaic.{void}
-use Rattle.flow_d8.specs.Drainage.{CrossesFlat, IsFlatDistance, IsNearer, IsFirstNearer}
+use Rattle.flow_d8.specs.Drainage.{CrossesFlat, IsFlatDistance, IsFirstNearer}
 use Rattle.flow_d8.specs.Grid.{IsGrid}
 use Rattle.flow_d8.proofs.Compass.{same_order, order_below}
-use Rattle.flow_d8.proofs.Unique.{one_distance}
 use Rattle.flow_d8.specs.LevelsAround.{beside_of, around_of}
-use Rattle.flow_d8.specs.FlatSearch.{IsAcross}
+use Rattle.flow_d8.specs.FlatCertificate.{IsAcross}
+use Rattle.flow_d8.proofs.NearerSteps.{LeadsNearer, some_nearer, first_nearer}
 use Rattle.flow_d8.specs.declared.flats.Flats.{Flats}
 use Rattle.flow_d8.specs.Flats.{found_of, known_or_none, distance_of, IsSet, point_at, IsWaiting, IsMeasured, AreMeasured, IsBeside, IsMeasuring, IsReaching, IsCloser}
 use Rattle.flow_d8.proofs.Nearby.{beside_there, beside_some, in_place}
@@ -303,41 +303,28 @@ module _ (t : Terrain Point) (grid : IsGrid t void) (level : Point → ℤ) (hel
     in_direction : (d : Dir) → slice_index_or around (order_of d) None ≡ beside_of t level x d
     in_direction d = ap (λ xs. get_or xs (order_of d) None) is ∙ in_place t level x d
 
-    closer_by : (d : Dir) → IsAcross t level x (step d x) → distance_of held (step d x) < far → IsCloser held x height around d
-    closer_by d over less = record {
-      level = in_direction d ∙ beside_there t level x d over.beside ∙ ap Some (over.same_level ∙ here);
-      fits = fits (step d x) (grid.lawful.to_ground x (step d x) over.beside);
-      less = omega (arith, less, x_far);
+    abbrev Leads : Dir → Type 0
+    Leads d = LeadsNearer t level x far x_is.exact (distance_of held) across_far d
+
+    closer_by : (d : Dir) → Leads d → IsCloser held x height around d
+    closer_by d leads = record {
+      level = in_direction d ∙ beside_there t level x d leads.across.beside ∙ ap Some (leads.across.same_level ∙ here);
+      fits = fits (step d x) (grid.lawful.to_ground x (step d x) leads.across.beside);
+      less = omega (arith, leads.less, x_far);
     }
 
-    nearer_closer : (d : Dir) → IsNearer t level x (step d x) → IsCloser held x height around d
-    nearer_closer d near =
-        let over : IsAcross t level x (step d x) = record { beside = near.beside; same_level = near.same_level } in
-        let there = one_distance t level (step d x) near.nearer.0 (distance_of held (step d x)) near.nearer.1.0 (across_far (step d x) over) in
-        let this = one_distance t level x (suc near.nearer.0) far near.nearer.1.1 x_is.exact in
-        closer_by d over (omega (arith, there, this))
-
-    closer_nearer : (d : Dir) → IsCloser held x height around d → IsNearer t level x (step d x)
-    closer_nearer d closer =
+    leads_by : (d : Dir) → IsCloser held x height around d → Leads d
+    leads_by d closer =
         let found = beside_some t level x d height (sym (in_direction d) ∙ closer.level) in
-        let over : IsAcross t level x (step d x) = record { beside = found.0; same_level = sym found.1 ∙ sym here } in
-        let there = across_far (step d x) over in
-        let low : far ≤ suc (distance_of held (step d x)) = x_is.exact.least (suc (distance_of held (step d x))) (step d x, (over.beside, over.same_level, there.crosses)) in
-        let same : far ≡ suc (distance_of held (step d x)) = omega (arith, low, closer.less, x_far) in
-        record { beside = over.beside; same_level = over.same_level; nearer = (distance_of held (step d x), (there, subst (IsFlatDistance t level x) same x_is.exact)) }
+        record { across = record { beside = found.0; same_level = sym found.1 ∙ sym here }; less = omega (arith, closer.less, x_far) }
 
     -- some point is closer
     pub some_closer : ((d : Dir) → IsCloser held x height around d → ⊥) → ⊥
-    some_closer none = on far refl x_is.exact.crosses
+    some_closer none = some_nearer t level x far x_is.exact (distance_of held) across_far some (grid.steps x) (λ d leads. none d (closer_by d leads))
       where
-        on : (k : ℕ) → far ≡ k → CrossesFlat t level x k → ⊥
-        on zero same crosses = x_is.inside.no_end crosses
-        on (suc k) same crosses =
-            let over : IsAcross t level x crosses.0 = record { beside = crosses.1.0; same_level = crosses.1.1 } in
-            let low : distance_of held crosses.0 ≤ k = (across_far crosses.0 over).least k crosses.1.2 in
-            let away = grid.steps x crosses.0 over.beside in
-            none away.0 (closer_by away.0 (subst (IsAcross t level x) away.1 over) (subst (λ q. distance_of held q < far) away.1 (omega (arith, low, same))))
+        some : 0 < far
+        some = elim (cases_eq far 0) [ inl drains ↦ absurd (x_is.inside.no_end (subst (CrossesFlat t level x) drains x_is.exact.crosses)) | inr other ↦ omega arith ]
 
     -- the first of those that are closer is the step across the flat
     pub first_is_nearer : (d : Dir) → IsCloser held x height around d → ((e : Dir) → IsCloser held x height around e → order_of d ≤ order_of e) → IsFirstNearer t level x d
-    first_is_nearer d closer first = record { nearer = closer_nearer d closer; first = λ e near. first e (nearer_closer e near) }
+    first_is_nearer d closer first = first_nearer t level x far x_is.exact (distance_of held) across_far d (leads_by d closer) (λ e leads. first e (closer_by e leads))

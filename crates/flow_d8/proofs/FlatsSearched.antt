@@ -15,13 +15,14 @@ use Rattle.lattice.specs.Terrain.{Terrain}
 use Rattle.lattice.specs.Mosaic.{void}
 use Rattle.flow_d8.specs.Drainage.{CrossesFlat, IsFlatDistance}
 use Rattle.flow_d8.specs.Grid.{IsGrid}
-use Rattle.flow_d8.proofs.Compass.{same_order, order_below}
+use Rattle.flow_d8.proofs.Compass.{same_order, order_at, order_below}
 use Rattle.flow_d8.specs.declared.flat_search.Lead.{Lead}
 use Rattle.flow_d8.specs.LevelsAround.{beside_of, around_of}
-use Rattle.flow_d8.specs.FlatSearch.{lead_at, lead_by, IsMarked, IsAcross, IsVisited, AreVisited, dir_number}
+use Rattle.flow_d8.specs.FlatCertificate.{IsAcross}
+use Rattle.flow_d8.specs.FlatSearch.{lead_at, lead_by, IsMarked, IsVisited, AreVisited, dir_number}
 use Rattle.flow_d8.specs.declared.flats.Flats.{Flats}
 use Rattle.flow_d8.specs.Flats.{found_of, known_or_none, distance_of, IsSet, point_at, IsWaiting, IsInside, IsMeasured, AreMeasured, IsRound, IsBeside, IsFinding, IsMeasuring}
-use Rattle.flow_d8.proofs.Nearby.{beside_there, beside_some, placed, found_at}
+use Rattle.flow_d8.proofs.Nearby.{beside_there, beside_some, found_at}
 use Rattle.flow_d8.proofs.Reaching.{longer_by_one, at_old, at_end, read_is, marked, marked_on}
 
 eq_said : (a b : ℤ) → int_eq a b ≡ true → a ≡ b
@@ -115,7 +116,7 @@ module _ (t : Terrain Point) (level : Point → ℤ) where
     })
     round_by new (suc k) le visits =
         let small : k < 8 = omega arith in
-        let place : order_of (dir_number k) ≡ k = placed t level p k East small in
+        let place : order_of (dir_number k) ≡ k = order_at k East small in
         let before : IsRoundBy p old visits.0 (order_of (dir_number k)) = subst (IsRoundBy p old visits.0) (sym place) (round_by visits.0 k (omega arith) visits.1.0) in
         let v : IsVisited p from (dir_number k) height (beside_of t level p (dir_number k)) visits.0 new =
         subst (λ f. IsVisited p from (dir_number k) height f visits.0 new) (found_at t level p around are k None East small) visits.1.1 in

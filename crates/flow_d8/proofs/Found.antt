@@ -1,8 +1,7 @@
 -- The directions and distances that are found from the filled levels of a mosaic are those of the mosaic.
 use Rattle.std.proofs.Common.{◌≡◌, ℕ, ◌<◌, ◌≤◌, ℤ, true, false, IsTrue, IsFalse, Option, Some, None, List, length, sym, ◌∙◌, subst, arith, inl, inr, true≢false}
 use Rattle.std.specs.Prelude.{nat_lt}
-use Rattle.std.proofs.lemmas.Bool.{cases_Bool, cond-true, cond-false}
-use Rattle.std.proofs.lemmas.Bool.Decides.{nat_tests}
+use Rattle.std.proofs.lemmas.Bool.{cases_Bool, cond-true, cond-false, lt-ltb, ltb-true}
 use Rattle.std.proofs.lemmas.List.{get_or_past}
 use Rattle.lattice.specs.declared.point.Point.{Point}
 use Rattle.lattice.specs.declared.direction.Dir.{Dir}
@@ -22,12 +21,6 @@ use Rattle.flow_d8.proofs.FilledOf.{alike, ground_level, level_ground, filled_at
 use Rattle.flow_d8.proofs.MosaicGrid.{mosaic_is_grid}
 use Rattle.flow_d8.proofs.Exists.{distance_exists}
 
-lt-true : (a b : ℕ) → a < b → nat_lt a b ≡ true
-lt-true a b h = grind (arith, nat_tests)
-
-lt-said : (a b : ℕ) → nat_lt a b ≡ true → a < b
-lt-said a b h = grind (arith, nat_tests)
-
 module _ (f : Filled) (drains : List (Option Dir)) (distances : List ℕ) (drained : AreDrained f drains) (are : AreDistances f distances)
     (known : (p : Point) → IsTrue (has_level f p) → distance_at distances (number_in f p) < unknown) where
   -- only points with a level have a known distance
@@ -45,7 +38,7 @@ module _ (f : Filled) (drains : List (Option Dir)) (distances : List ℕ) (drain
   module _ (m : Mosaic) (is : IsMosaic m) (of : IsFilledOf m f) where
     nothing_known : (p : Point) → IsFalse (is_ground m p) → nat_lt (distance_at distances (number_in f p)) unknown ≡ false
     nothing_known p none = elim (cases_Bool (nat_lt (distance_at distances (number_in f p)) unknown)) [
-      | inl lt ↦ absurd (true≢false (sym (level_ground m f is are.valid of p (level_of_known p (lt-said (distance_at distances (number_in f p)) unknown lt))) ∙ none))
+      | inl lt ↦ absurd (true≢false (sym (level_ground m f is are.valid of p (level_of_known p (ltb-true (distance_at distances (number_in f p)) unknown lt))) ∙ none))
       | inr no_less ↦ no_less
     ]
 
@@ -53,12 +46,12 @@ module _ (f : Filled) (drains : List (Option Dir)) (distances : List ℕ) (drain
     directions_found level filled = record {
       direction = λ p solid.
           let has = ground_level m f is are.valid of p solid in
-          let lt = lt-true (distance_at distances (number_in f p)) unknown (known p has) in
+          let lt = lt-ltb (distance_at distances (number_in f p)) unknown (known p has) in
           subst (λ d. IsDirection (terrain m) level p d) (sym (cond-true (nat_lt (distance_at distances (number_in f p)) unknown) (drain_at f drains p) None lt))
           (direction_too (surface f) (terrain m) (level_at f) level (alike m f is are.valid of level filled) p (drain_at f drains p) (drained.drained p has));
       distance = λ p solid.
           let has = ground_level m f is are.valid of p solid in
-          let lt = lt-true (distance_at distances (number_in f p)) unknown (known p has) in (
+          let lt = lt-ltb (distance_at distances (number_in f p)) unknown (known p has) in (
             distance_at distances (number_in f p),
             (
               cond-true (nat_lt (distance_at distances (number_in f p)) unknown) (Some (distance_at distances (number_in f p))) None lt,

@@ -9,7 +9,9 @@ pub mod MosaicGrid
 pub mod Numbers
 pub mod Surfaces
 pub mod Inside
+pub mod PointFlows
 pub mod SampleFlows
+pub mod NearerSteps
 pub mod Nearest
 pub mod Crossed
 pub mod Tiles
@@ -25,7 +27,7 @@ pub mod PointSquares
 pub mod PointTables
 pub mod Asked
 pub mod Nearby
-pub mod Descending
+pub mod ThreeRows
 pub mod Reaching
 pub mod Shortest
 pub mod Ends

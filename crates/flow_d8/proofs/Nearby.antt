@@ -1,7 +1,6 @@
 -- What lies around a point of a mosaic.
-use Rattle.std.proofs.Common.{◌≡◌, ℕ, ◌<◌, ℤ, Bool, true, false, not, ◌&&◌, ◌||◌, IsTrue, IsFalse, Option, Some, None, List, [], ◌∷◌, length, get_or, inl, inr, refl, sym, ap, ◌∙◌, arith, true≢false}
-use Rattle.std.specs.Prelude.{is_some, count_by, nat_lt}
-use Rattle.std.specs.List.{list_all}
+use Rattle.std.proofs.Common.{◌≡◌, ℕ, ◌<◌, ℤ, true, false, not, IsTrue, IsFalse, Option, Some, None, List, [], ◌∷◌, length, get_or, inl, inr, refl, sym, ap, ◌∙◌, arith, true≢false}
+use Rattle.std.specs.Prelude.{is_some}
 use Rattle.std.proofs.lemmas.Bool.{cases_Bool, cond-true, cond-false}
 use Rattle.std.proofs.lemmas.List.{same_lists, get_or_default}
 use Rattle.lattice.specs.declared.point.Point.{Point}
@@ -12,18 +11,17 @@ use Rattle.lattice.specs.Stepping.{fits_point}
 use Rattle.lattice.specs.Terrain.{Terrain, IsPath, IsFilledLevel}
 use Rattle.lattice.specs.Mosaic.{Mosaic, IsMosaic, void, is_void}
 use Rattle.lattice.specs.Height.{samples_at, height_of}
-use Rattle.lattice.specs.Ground.{is_ground, same_point, is_near, share_tile, is_adjacent, is_outlet, is_sink, terrain, metres}
+use Rattle.lattice.specs.Ground.{is_ground, same_point, is_near, share_tile, is_adjacent, terrain, metres}
 use Rattle.lattice.proofs.Lawful.{five_parts, five_from, terrain_is_lawful}
 use Rattle.lattice.proofs.Levels.{level_is_unique, height-le_level}
 use Rattle.flow_d8.specs.Drainage.{AreFilledLevels}
-use Rattle.flow_d8.proofs.Compass.{dir_at, order_of-dir_at, dir_at_place}
+use Rattle.flow_d8.specs.LevelGrid.{IsLevelGrid}
+use Rattle.flow_d8.proofs.Compass.{dir_at, order_of-dir_at, order_at}
 use Rattle.flow_d8.proofs.Surfaces.{step_near, step_other}
-use Rattle.flow_d8.proofs.Beginning.{counted}
 use Rattle.flow_d8.proofs.Fitting.{ground_fits}
 use Rattle.flow_d8.proofs.FilledOf.{ground_not_void, above_void}
 use Rattle.flow_d8.proofs.MosaicGrid.{mosaic_is_grid}
-use Rattle.flow_d8.specs.LevelsAround.{IsLevelAt}
-use Rattle.flow_d8.specs.LevelsAround.{beside_of, around_of}
+use Rattle.flow_d8.specs.LevelsAround.{IsLevelAt, beside_of, around_of}
 
 module _ (t : Terrain Point) (level : Point → ℤ) (p : Point) where
   pub beside_there : (d : Dir) → IsTrue (t.is_adjacent p (step d p)) → beside_of t level p d ≡ Some (level (step d p))
@@ -55,13 +53,10 @@ module _ (t : Terrain Point) (level : Point → ℤ) (p : Point) where
   in_place North = refl
   in_place NorthEast = refl
 
-  pub placed : (k : ℕ) (x : Dir) → k < 8 → order_of (get_or directions k x) ≡ k
-  placed k x small = ap order_of (dir_at_place (dir_at k) x k (order_of-dir_at k small)) ∙ order_of-dir_at k small
-
   pub found_at : (around : List (Option ℤ)) → around ≡ around_of t level p → (k : ℕ) (e : Option ℤ) (x : Dir) → k < 8 → get_or around k e ≡ beside_of t level p (get_or directions k x)
   found_at around are k e x small =
       get_or_default around k e None (omega (arith, ap length are)) ∙ ap (λ xs. get_or xs k None) are
-      ∙ ap (λ i. get_or (around_of t level p) i None) (sym (placed k x small)) ∙ in_place (get_or directions k x)
+      ∙ ap (λ i. get_or (around_of t level p) i None) (sym (order_at k x small)) ∙ in_place (get_or directions k x)
 
   -- eight that are right at each direction's place are all
   pub all_around : (around : List (Option ℤ)) → length around ≡ 8 → ((d : Dir) → get_or around (order_of d) None ≡ beside_of t level p d) → around ≡ around_of t level p
@@ -125,31 +120,6 @@ module _ (m : Mosaic) (level : Point → ℤ) (p : Point) where
     told filled here share None none = beside_void none
     told filled here share (Some v) there = beside_found filled here share v there (level_ground m (step d p) v there)
 
-  some_beside : (d : Dir) → is_some (beside_of (terrain m) level p d) ≡ is_adjacent m p (step d p)
-  some_beside d = elim (cases_Bool (is_adjacent m p (step d p))) [
-    | inl on ↦ ap is_some (beside_there (terrain m) level p d on) ∙ sym on
-    | inr off ↦ ap is_some (beside_none (terrain m) level p d off) ∙ sym off
-  ]
-
-  all_eight : (a b c d e g h i a' b' c' d' e' g' h' i' : Bool) → a ≡ a' → b ≡ b' → c ≡ c' → d ≡ d' → e ≡ e' → g ≡ g' → h ≡ h' → i ≡ i' →
-      (a && (b && (c && (d && (e && (g && (h && (i && true)))))))) ≡ (a' && (b' && (c' && (d' && (e' && (g' && (h' && (i' && true))))))))
-  all_eight a b c d e g h i a' b' c' d' e' g' h' i' sa sb sc sd se sg sh si = cc
-
-  -- a ground point is an outlet exactly where it is a sink or lacks an adjacent point
-  pub outlet_is : IsTrue (is_ground m p) → (is_sink m p || not (list_all is_some (around_of (terrain m) level p))) ≡ is_outlet m p
-  outlet_is solid =
-      ap (λ b. is_sink m p || not b) (all_eight _ _ _ _ _ _ _ _ _ _ _ _ _ _ _ _ (some_beside East) (some_beside SouthEast) (some_beside South) (some_beside SouthWest)
-      (some_beside West) (some_beside NorthWest) (some_beside North) (some_beside NorthEast))
-      ∙ ap (λ b. is_sink m p || b) (sym (counted _ _ _ _ _ _ _ _))
-      ∙ turned (nat_lt (count_by (λ d. is_adjacent m p (step d p)) directions) 8) (is_sink m p) (is_ground m p) solid
-    where
-      turned : (few sink on : Bool) → on ≡ true → (sink || few) ≡ (on && (few || sink))
-      turned true true true is = refl
-      turned true false true is = refl
-      turned false true true is = refl
-      turned false false true is = refl
-      turned few sink false is = absurd (true≢false (sym is))
-
 -- no filled level is the void
 pub never_void : (m : Mosaic) → IsMosaic m → (level : Point → ℤ) → AreFilledLevels (terrain m) level → (p : Point) → IsTrue (is_ground m p) → level p ≡ void → ⊥
 never_void m is level filled p solid none =
@@ -157,3 +127,6 @@ never_void m is level filled p solid none =
     let high = height-le_level (terrain m) p (level p) (filled p solid) in
     let some : is_void (level p) ≡ false = above_void (metres (height_of m p)) (level p) (ground_not_void (samples_at m p) solid) low high in
     true≢false (sym (ap is_void none) ∙ some)
+
+pub level_grid : (m : Mosaic) → IsMosaic m → (level : Point → ℤ) → AreFilledLevels (terrain m) level → IsLevelGrid (terrain m) level
+level_grid m is level filled = let grid = mosaic_is_grid m is in record { lawful = grid.lawful; steps = grid.steps; some = never_void m is level filled }

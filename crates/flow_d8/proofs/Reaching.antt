@@ -1,6 +1,5 @@
 -- The search over a flat: what it reaches around one point after another.
 use Rattle.std.proofs.Common.{◌≡◌, ℕ, zero, suc, ◌+◌, ◌<◌, ◌≤◌, ℤ, IsTrue, Option, Some, None, List, [], ◌∷◌, ◌++◌, length, get_or, inl, inr, ⊎_elim, refl, sym, ap, ◌∙◌, subst, arith}
-use Rattle.std.specs.Prelude.{slice_index_or}
 use Rattle.std.proofs.lemmas.Bool.{cases_lt, cases_eq}
 use Rattle.std.proofs.lemmas.List.{get_or_default}
 use Rattle.std.proofs.lemmas.List.Elements.{Contains-append_left, Contains-append_right}
@@ -13,11 +12,12 @@ use Rattle.lattice.specs.Terrain.{Terrain}
 use Rattle.lattice.specs.Mosaic.{void}
 use Rattle.flow_d8.specs.Drainage.{CrossesFlat}
 use Rattle.flow_d8.specs.Grid.{IsGrid}
-use Rattle.flow_d8.proofs.Compass.{dir_at, order_of-dir_at, dir_at_place, order_below}
+use Rattle.flow_d8.proofs.Compass.{dir_at_place, order_at, order_below}
 use Rattle.flow_d8.specs.declared.flat_search.Lead.{Lead}
 use Rattle.flow_d8.specs.LevelsAround.{beside_of, around_of}
-use Rattle.flow_d8.specs.FlatSearch.{lead_at, lead_by, HasPoint, AreLinked, IsVisited, dir_number, AreVisited, IsMarked, IsAcross, IsPlaced, IsSearched}
-use Rattle.flow_d8.proofs.Nearby.{beside_there, beside_some, in_place}
+use Rattle.flow_d8.specs.FlatCertificate.{IsAcross}
+use Rattle.flow_d8.specs.FlatSearch.{lead_at, lead_by, HasPoint, AreLinked, IsVisited, dir_number, AreVisited, IsMarked, IsPlaced, IsSearched}
+use Rattle.flow_d8.proofs.Nearby.{beside_there, beside_some, found_at}
 
 -- a list with one more at its end
 pub longer_by_one : (xs : List Lead) (l : Lead) → length (xs ++ l ∷ []) ≡ suc (length xs)
@@ -164,19 +164,13 @@ module _ (t : Terrain Point) (grid : IsGrid t void) (level : Point → ℤ) (x :
 
     -- one direction after another
     module _ (old : List Lead) (head : ℕ) (around : List (Option ℤ)) (are : around ≡ around_of t level p) (s : IsSpread p old head 0) where
-      placed_at : (k : ℕ) → k < 8 → order_of (dir_number k) ≡ k
-      placed_at k small = ap order_of (dir_at_place (dir_at k) East k (order_of-dir_at k small)) ∙ order_of-dir_at k small
-
-      found : (k : ℕ) → k < 8 → slice_index_or around k None ≡ beside_of t level p (dir_number k)
-      found k small = ap (λ xs. get_or xs k None) are ∙ ap (λ i. get_or (around_of t level p) i None) (sym (placed_at k small)) ∙ in_place t level p (dir_number k)
-
       pub spread_over : (new : List Lead) (k : ℕ) → k ≤ 8 → AreVisited p head height around old new k → IsSpread p new head k
       spread_over new zero le same = subst (λ l. IsSpread p l head 0) (sym same) s
       spread_over new (suc k) le visits =
           let small : k < 8 = omega arith in
-          let before : IsSpread p visits.0 head (order_of (dir_number k)) = subst (λ i. IsSpread p visits.0 head i) (sym (placed_at k small)) (spread_over visits.0 k (omega arith) visits.1.0) in
-          let v : IsVisited p head (dir_number k) height (beside_of t level p (dir_number k)) visits.0 new = subst (λ f. IsVisited p head (dir_number k) height f visits.0 new) (found k small) visits.1.1 in
-          subst (λ i. IsSpread p new head (suc i)) (placed_at k small) (visited visits.0 head (dir_number k) before new v)
+          let before : IsSpread p visits.0 head (order_of (dir_number k)) = subst (λ i. IsSpread p visits.0 head i) (sym (order_at k East small)) (spread_over visits.0 k (omega arith) visits.1.0) in
+          let v : IsVisited p head (dir_number k) height (beside_of t level p (dir_number k)) visits.0 new = subst (λ f. IsVisited p head (dir_number k) height f visits.0 new) (found_at t level p around are k None East small) visits.1.1 in
+          subst (λ i. IsSpread p new head (suc i)) (order_at k East small) (visited visits.0 head (dir_number k) before new v)
 
   -- all eight directions of the head are gone
   closed : (p : Point) (leads : List Lead) (head : ℕ) → IsSpread p leads head 8 → (CrossesFlat t level p 0 → ⊥) → IsSearched t level x leads (head + 1)

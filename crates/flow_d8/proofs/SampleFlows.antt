@@ -3,7 +3,7 @@ use Rattle.std.proofs.Common.{◌≡◌, ℕ, ◌<◌, ◌*◌, ◌%◌, ℤ, po
 use Rattle.std.specs.Prelude.{IfSome, MatchOption, nat_lt, if◌then◌else◌, slice_index_or, count_by}
 use Rattle.std.proofs.lemmas.Int.{ints}
 use Rattle.std.proofs.lemmas.List.{get_or_append_left, get_or-append-add}
-use Rattle.std.proofs.lemmas.Bool.{cases_Bool, cases_eq, cond-true, cond-false, and_from}
+use Rattle.std.proofs.lemmas.Bool.{cases_Bool, cases_eq, cond-true, cond-false}
 use Rattle.lattice.specs.declared.point.Point.{Point}
 use Rattle.lattice.specs.declared.direction.Dir.{Dir}
 use Rattle.lattice.specs.declared.direction.Dir.TheVariants.{East, SouthEast, South, SouthWest, West, NorthWest, North, NorthEast}
@@ -16,7 +16,7 @@ use Rattle.flow_d8.specs.Surface.{number_in, level_at, has_level, adjoins, leads
 use Rattle.flow_d8.specs.LevelGrid.{level_beside, IsLevelGrid}
 use Rattle.flow_d8.specs.Places.{place_by, IsShown, IsLocalFlow, IsFlowAt}
 use Rattle.flow_d8.specs.Crossing.{sample_point, DrainsLike, IsSampleFlow}
-use Rattle.flow_d8.proofs.Beginning.{counted}
+use Rattle.flow_d8.proofs.PointFlows.{flow_is, flat_or_edge, seam_or_edge}
 use Rattle.flow_d8.proofs.Surfaces.{surface_lawful, surface_steps, beside_there, beside_none, at_level, level_held, level_within, same_site, beside_some}
 use Rattle.flow_d8.proofs.Numbers.{point_at_number}
 use Rattle.flow_d8.proofs.Inside.{Beside, deep_of, east, south_east, south, south_west, west, north_west, north, north_east}
@@ -102,65 +102,19 @@ module _ (f : Filled) where
         | inr off ↦ absurd (level_some p level (sym same ∙ maybe_beside d (place_by f.side number d) (deep_beside level d).is ∙ cond-false (adjoins f p (step d p)) (level_at f (step d p)) void off))
       ]
 
-    abbrev beside : Dir → Bool
-    beside d = adjoins f p (step d p)
-
-    abbrev all_there : Bool
-    all_there = beside East && (beside SouthEast && (beside South && (beside SouthWest && (beside West && (beside NorthWest && (beside North && (beside NorthEast && true)))))))
-
-    under : (a r : Bool) → r ≡ false → (a && r) ≡ false
-    under true r is = is
-    under false r is = refl
-
-    here_out : (a r : Bool) → a ≡ false → (a && r) ≡ false
-    here_out a r is = ap (λ b. b && r) is
-
-    some_out : (d : Dir) → beside d ≡ false → all_there ≡ false
-    some_out East gap = here_out (beside East) _ gap
-    some_out SouthEast gap = under (beside East) _ (here_out (beside SouthEast) _ gap)
-    some_out South gap = under (beside East) _ (under (beside SouthEast) _ (here_out (beside South) _ gap))
-    some_out SouthWest gap = under (beside East) _ (under (beside SouthEast) _ (under (beside South) _ (here_out (beside SouthWest) _ gap)))
-    some_out West gap = under (beside East) _ (under (beside SouthEast) _ (under (beside South) _ (under (beside SouthWest) _ (here_out (beside West) _ gap))))
-    some_out NorthWest gap = under (beside East) _ (under (beside SouthEast) _ (under (beside South) _ (under (beside SouthWest) _ (under (beside West) _ (here_out (beside NorthWest) _ gap)))))
-    some_out North gap = under (beside East) _ (under (beside SouthEast) _ (under (beside South) _ (under (beside SouthWest) _ (under (beside West) _ (under (beside NorthWest) _ (here_out (beside North) _ gap))))))
-    some_out NorthEast gap = under (beside East) _ (under (beside SouthEast) _ (under (beside South) _ (under (beside SouthWest) _ (under (beside West) _ (under (beside NorthWest) _ (under (beside North) _ (here_out (beside NorthEast) _ gap)))))))
-
-    both : (a r : Bool) → a ≡ true → r ≡ true → (a && r) ≡ true
-    both a r is_a is_r = and_from a r is_a is_r
-
-    none_out : ((d : Dir) → beside d ≡ true) → all_there ≡ true
-    none_out all = both _ _ (all East) (both _ _ (all SouthEast) (both _ _ (all South) (both _ _ (all SouthWest) (both _ _ (all West) (both _ _ (all NorthWest) (both _ _ (all North) (both _ _ (all NorthEast) refl)))))))
-
-    outlet_is : IsTrue (has_level f p) → leads_off f p ≡ (not all_there || is_declared f p)
+    rule : leads_off f p ≡ (has_level f p && (nat_lt (count_by (λ d. adjoins f p (step d p)) directions) 8 || is_declared f p))
     unfolding leads_off
-    outlet_is level = ap (λ b. b && (nat_lt (count_by (λ d. adjoins f p (step d p)) directions) 8 || is_declared f p)) level ∙ ap (λ b. b || is_declared f p) (counted _ _ _ _ _ _ _ _)
+    rule = refl
 
-    edge_off : (d : Dir) → IsTrue (has_level f p) → IsFalse (adjoins f p (step d p)) → IsTrue (leads_off f p)
-    edge_off d level gap = outlet_is level ∙ ap (λ b. not b || is_declared f p) (some_out d gap)
+    -- what the kernel says of a point with a level
+    pub drains_like : IsTrue (has_level f p) → (flow : LocalFlow) → (flow ≡ Flat → ⊥) → IsLocalFlow (surface f) (level_at f) p flow → DrainsLike f p flow
+    drains_like level flow other is = flow_is (surface f) (level_at f) p (is_declared f p) rule level flow other is
 
-    inner_is : IsTrue (has_level f p) → ((d : Dir) → IsTrue (adjoins f p (step d p))) → leads_off f p ≡ is_declared f p
-    inner_is level all = outlet_is level ∙ ap (λ b. not b || is_declared f p) (none_out all)
+    pub flat_like : IsTrue (has_level f p) → IsLocalFlow (surface f) (level_at f) p Flat → DrainsLike f p (if is_declared f p then Edge else Flat)
+    flat_like level is = flat_or_edge (surface f) (level_at f) p (is_declared f p) rule level is
 
-    module _ (level : IsTrue (has_level f p)) where
-      -- what the kernel says of a point with a level, but on flats
-      pub drains_like : (flow : LocalFlow) → (flow ≡ Flat → ⊥) → IsLocalFlow (surface f) (level_at f) p flow → DrainsLike f p flow
-      drains_like NoGround other is = absurd (true≢false (sym level ∙ is))
-      drains_like Edge other is = (is.1, edge_off is.2.0 level is.2.1)
-      drains_like Flat other is = absurd (other refl)
-      drains_like Seam other is = absurd is
-      drains_like (Drains d) other is = is.1
-
-      pub flat_like : IsLocalFlow (surface f) (level_at f) p Flat → DrainsLike f p (if is_declared f p then Edge else Flat)
-      flat_like is = elim (cases_Bool (is_declared f p)) [
-        | inl sink ↦ subst (DrainsLike f p) (sym (cond-true (is_declared f p) Edge Flat sink)) (is.1, inner_is level is.2 ∙ sink)
-        | inr none ↦ subst (DrainsLike f p) (sym (cond-false (is_declared f p) Edge Flat none)) (is.1, inner_is level is.2 ∙ none)
-      ]
-
-      pub seam_like : IsLocalFlow (surface f) (level_at f) p Flat → DrainsLike f p (if is_declared f p then Edge else Seam)
-      seam_like is = elim (cases_Bool (is_declared f p)) [
-        | inl sink ↦ subst (DrainsLike f p) (sym (cond-true (is_declared f p) Edge Seam sink)) (is.1, inner_is level is.2 ∙ sink)
-        | inr none ↦ subst (DrainsLike f p) (sym (cond-false (is_declared f p) Edge Seam none)) (is.1, inner_is level is.2 ∙ none)
-      ]
+    pub seam_like : IsTrue (has_level f p) → IsLocalFlow (surface f) (level_at f) p Flat → DrainsLike f p (if is_declared f p then Edge else Seam)
+    seam_like level is = seam_or_edge (surface f) (level_at f) p (is_declared f p) rule level is
 
     -- a flow that isn't NoGround is of a point with a level
     pub solid_of : (flow : LocalFlow) → (flow ≡ NoGround → ⊥) → IsLocalFlow (surface f) (level_at f) p flow → IsTrue (has_level f p)
@@ -234,22 +188,6 @@ no_flow f number none = record { right = λ p level at. none p level at; site = 
   where
     ground_flat : ◌≡◌ {A = LocalFlow} NoGround Flat → ⊥
     ground_flat e = cc
-
--- nine levels in three rows, of which each is the point's or that of the point beside it
-pub rows_shown : (f : Filled) (p : Point) (nw n ne w here e sw s se : ℤ) → here ≡ (if has_level f p then level_at f p else void) → nw ≡ level_beside (surface f) (level_at f) p NorthWest → n ≡ level_beside (surface f) (level_at f) p North
-    → ne ≡ level_beside (surface f) (level_at f) p NorthEast → w ≡ level_beside (surface f) (level_at f) p West → e ≡ level_beside (surface f) (level_at f) p East → sw ≡ level_beside (surface f) (level_at f) p SouthWest
-    → s ≡ level_beside (surface f) (level_at f) p South → se ≡ level_beside (surface f) (level_at f) p SouthEast → IsShown (surface f) (level_at f) (nw ∷ n ∷ ne ∷ w ∷ here ∷ e ∷ sw ∷ s ∷ se ∷ []) 3 p 4
-rows_shown f p nw n ne w here e sw s se is_here is_nw is_n is_ne is_w is_e is_sw is_s is_se = record { here = is_here; around = λ level. each }
-  where
-    each : (d : Dir) → slice_index_or (nw ∷ n ∷ ne ∷ w ∷ here ∷ e ∷ sw ∷ s ∷ se ∷ []) (place_by 3 4 d) void ≡ level_beside (surface f) (level_at f) p d
-    each East = is_e
-    each SouthEast = is_se
-    each South = is_s
-    each SouthWest = is_sw
-    each West = is_w
-    each NorthWest = is_nw
-    each North = is_n
-    each NorthEast = is_ne
 
 -- one more flow
 pub flows_more : (f : Filled) (old new : List LocalFlow) (k : ℕ) (flow : LocalFlow) → length old ≡ k → new ≡ old ++ (flow ∷ []) → ((g : ℕ) → g < k → IsSampleFlow f g (slice_index_or old g NoGround)) → IsSampleFlow f k flow

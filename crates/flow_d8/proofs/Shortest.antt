@@ -8,7 +8,8 @@ use Rattle.lattice.specs.Terrain.{Terrain}
 use Rattle.flow_d8.specs.Drainage.{CrossesFlat, IsFlatDistance, IsFirstNearer}
 use Rattle.flow_d8.proofs.Unique.{one_distance}
 use Rattle.flow_d8.specs.declared.flat_search.Lead.{Lead}
-use Rattle.flow_d8.specs.FlatSearch.{lead_at, LeadsTo, AreDrained, IsAcross, IsSearched}
+use Rattle.flow_d8.specs.FlatCertificate.{IsAcross}
+use Rattle.flow_d8.specs.FlatSearch.{lead_at, LeadsTo, AreDrained, IsSearched}
 
 module _ (t : Terrain Point) (level : Point → ℤ) (x : Point) (leads : List Lead) (head : ℕ) (s : IsSearched t level x leads head) where
   -- where no lead is left no way crosses the flat

@@ -17,7 +17,8 @@ use Rattle.flow_d8.specs.Propagation.{unknown, distance_at, IsOnFlat, IsEnd, Dra
 use Rattle.flow_d8.specs.Crossing.{Crosses, DrainsLike, sample_point, HasSite, AreLocalFlows, AreBounds, IsAcross, AreAround, IsStepAcross, AreRelaxed, AreWaiting, IsSeeding, IsPropagating, IsRelaxing, IsToCome}
 use Rattle.flow_d8.proofs.Compass.{same_order, order_below, dir_at, order_of-dir_at}
 use Rattle.flow_d8.proofs.SampleFlows.{sample_is, deep_beside, deep_adjoins}
-use Rattle.flow_d8.proofs.Crossed.{crosses_end, like_at}
+use Rattle.flow_d8.proofs.PointFlows.{crosses_end}
+use Rattle.flow_d8.proofs.Crossed.{like_at}
 use Rattle.flow_d8.proofs.Surfaces.{surface_lawful, surface_steps, same_site, at_level, level_within, beside_there, beside_some}
 
 flat_none : ◌≡◌ {A = LocalFlow} Flat NoGround → ⊥
@@ -202,7 +203,7 @@ module _ (f : Filled) (flows : List LocalFlow) (are : AreLocalFlows f flows) whe
           let s = (are.each g (omega (arith, are.whole))).site (λ none. subst DrainsAtOnce none end) in
           let is : sample_point f g ≡ s.0 = ap (sample_point f) (sym s.1.1) ∙ sample_is f are.valid s.0 s.1.0 in
           let like = (are.each g (omega (arith, are.whole))).right s.0 s.1.0 s.1.1 in
-          subst (Crosses f (sample_point f g)) (sym (ends g end)) (subst (λ p. Crosses f p 0) (sym is) (crosses_end f s.0 (slice_index_or flows g NoGround) like end)))
+          subst (Crosses f (sample_point f g)) (sym (ends g end)) (subst (λ p. Crosses f p 0) (sym is) (crosses_end (surface f) (level_at f) s.0 (slice_index_or flows g NoGround) like end)))
           (λ no_end. absurd (omega (arith, others g no_end)))
           (decided (slice_index_or flows g NoGround));
     }

@@ -1,8 +1,6 @@
 -- The steepest way down, found one direction after another.
-use Rattle.std.proofs.Common.{◌≡◌, ℕ, zero, suc, ◌+◌, ◌*◌, ◌<◌, ◌≤◌, ℤ, ◌-ℤ◌, ◌≤ℤ◌, ◌<ℤ◌, true, false, IsTrue, IsFalse, ◌⊎◌, inl, inr, ⊎_elim, sym, ap, ◌∙◌, subst, arith, nat_abs}
-use Rattle.std.specs.Prelude.{nat_lt}
-use Rattle.std.proofs.lemmas.Bool.{cases_eq, cases_Bool, cond-true, cond-false}
-use Rattle.std.proofs.lemmas.Bool.Decides.{nat_tests}
+use Rattle.std.proofs.Common.{◌≡◌, ℕ, zero, suc, ◌+◌, ◌*◌, ◌<◌, ◌≤◌, ℤ, ◌-ℤ◌, ◌≤ℤ◌, ◌<ℤ◌, IsTrue, IsFalse, ◌⊎◌, inl, inr, ⊎_elim, sym, ap, ◌∙◌, subst, arith, nat_abs}
+use Rattle.std.proofs.lemmas.Bool.{cases_eq, cases_Bool, cond-true, cond-false, lt-ltb, le-ltb}
 use Rattle.std.proofs.lemmas.Int.{ints}
 use Rattle.lattice.specs.declared.point.Point.{Point}
 use Rattle.lattice.specs.declared.direction.Dir.{Dir}
@@ -15,12 +13,6 @@ use Rattle.flow_d8.proofs.Compass.{same_order, order_below}
 use Rattle.flow_d8.specs.declared.slopes.Best.{Best}
 use Rattle.flow_d8.specs.LevelGrid.{level_beside, IsLevelGrid}
 use Rattle.flow_d8.specs.SteepestStep.{LeadsDown, slope_in, IsSteepestOf}
-
-lt-true : (a b : ℕ) → a < b → nat_lt a b ≡ true
-lt-true a b h = grind (arith, nat_tests)
-
-lt-not : (a b : ℕ) → b ≤ a → nat_lt a b ≡ false
-lt-not a b h = grind (arith, nat_tests)
 
 order : (a b : ℤ) → (a ≤ℤ b) ⊎ (b <ℤ a)
 order a b = grind (arith, ints)
@@ -124,8 +116,8 @@ module _ (t : Terrain Point) (level : Point → ℤ) (p : Point) where
       pub steepest_of_all : 0 < best.slope → IsSteepest t level p best.direction
       steepest_of_all much = record {
         lower = is.down much;
-        steepest = λ e low. lt-not (slope_in t level p best.direction) (slope_in t level p e) (subst (λ v. slope_in t level p e ≤ v) (is.is much) (is.steepest e (order_below e) low));
-        first = λ e low before. lt-true (slope_in t level p e) (slope_in t level p best.direction) (subst (λ v. slope_in t level p e < v) (is.is much) (is.first much e before low));
+        steepest = λ e low. le-ltb (slope_in t level p best.direction) (slope_in t level p e) (subst (λ v. slope_in t level p e ≤ v) (is.is much) (is.steepest e (order_below e) low));
+        first = λ e low before. lt-ltb (slope_in t level p e) (slope_in t level p best.direction) (subst (λ v. slope_in t level p e < v) (is.is much) (is.first much e before low));
       }
 
       pub none_of_all : best.slope ≡ 0 → HasLower t level p → ⊥

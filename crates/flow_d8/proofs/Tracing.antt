@@ -1,7 +1,7 @@
 -- A trace on its way: what leads from its first point to the last one so far.
-use Rattle.std.proofs.Common.{◌≡◌, ℕ, ◌<◌, ◌≤◌, ℤ, true, false, IsTrue, Option, Some, None, List, [], ◌∷◌, ◌++◌, length, get_or, refl, sym, ◌∙◌, subst, arith, inl, inr, ⊎_elim, append_assoc}
+use Rattle.std.proofs.Common.{◌≡◌, ℕ, ◌<◌, ◌≤◌, ℤ, false, IsTrue, Option, Some, None, List, [], ◌∷◌, ◌++◌, length, get_or, refl, sym, ◌∙◌, subst, arith, inl, inr, ⊎_elim, append_assoc}
 use Rattle.std.specs.Prelude.{nat_lt}
-use Rattle.std.proofs.lemmas.Bool.{cases_Bool, cond-true, cond-false}
+use Rattle.std.proofs.lemmas.Bool.{cases_Bool, cond-true, cond-false, lt-ltb}
 use Rattle.std.proofs.lemmas.Bool.Decides.{nat_tests}
 use Rattle.std.proofs.lemmas.List.{get_or_past, get_or_default, append-nil}
 use Rattle.lattice.specs.declared.point.Point.{Point}
@@ -20,15 +20,12 @@ use Rattle.flow_d8.proofs.Numbers.{number_past}
 use Rattle.flow_d8.proofs.MosaicGrid.{mosaic_is_grid}
 use Rattle.flow_d8.proofs.Fitting.{ground_fits}
 
-lt-true : (a b : ℕ) → a < b → nat_lt a b ≡ true
-lt-true a b h = grind (arith, nat_tests)
-
 lt-not : (a b : ℕ) → (a < b → ⊥) → nat_lt a b ≡ false
 lt-not a b h = grind (arith, nat_tests)
 
 module _ (d : Directions) (p : Point) where
   pub direction_known : IsKnown d p → direction_in d p ≡ get_or d.drains (number_of d.side d.corners p) None
-  direction_known known = cond-true (nat_lt (distance_at d.distances (number_of d.side d.corners p)) unknown) (get_or d.drains (number_of d.side d.corners p) None) None (lt-true _ _ known)
+  direction_known known = cond-true (nat_lt (distance_at d.distances (number_of d.side d.corners p)) unknown) (get_or d.drains (number_of d.side d.corners p) None) None (lt-ltb _ _ known)
 
   pub direction_unknown : (IsKnown d p → ⊥) → direction_in d p ≡ None
   direction_unknown none = cond-false (nat_lt (distance_at d.distances (number_of d.side d.corners p)) unknown) (get_or d.drains (number_of d.side d.corners p) None) None (lt-not _ _ none)

@@ -1,17 +1,18 @@
 -- What is known of the samples of filled levels: where each point drains, and how far it is across its flat.
-use Rattle.std.specs.Prelude.{◌≡◌, ℕ, ◌+◌, ◌*◌, ◌/◌, ◌%◌, ◌<◌, ◌≤◌, ◌⊎◌, pos, true, IsTrue, IsFalse, Option, Some, None, List, length, slice_index_or}
+use Rattle.std.specs.Prelude.{◌≡◌, ℕ, ◌+◌, ◌*◌, ◌/◌, ◌%◌, ◌<◌, ◌≤◌, ◌⊎◌, pos, true, IsTrue, Option, Some, None, List, length, slice_index_or}
 use Rattle.lattice.specs.declared.point.Point.{Point}
 use Rattle.lattice.specs.declared.direction.Dir.{Dir}
 use Rattle.lattice.specs.Steps.{step, order_of}
 use Rattle.lattice.specs.Lattice.{point_of}
 use Rattle.lattice.specs.Mosaic.{void}
 use Rattle.flow_d8.specs.declared.local_flow.LocalFlow.{LocalFlow}
-use Rattle.flow_d8.specs.declared.local_flow.LocalFlow.TheVariants.{NoGround, Edge, Flat, Seam, Drains}
-use Rattle.flow_d8.specs.Drainage.{HasLower, IsSteepest, CrossesFlat, IsFlatDistance, IsDirection}
+use Rattle.flow_d8.specs.declared.local_flow.LocalFlow.TheVariants.{NoGround, Flat}
+use Rattle.flow_d8.specs.Drainage.{CrossesFlat, IsFlatDistance, IsDirection}
 use Rattle.flow_d8.specs.FlatCertificate as certificate
 use Rattle.flow_d8.specs.Filled.{Filled, AreLevels, is_deep}
+use Rattle.flow_d8.specs.Places.{IsFlowOf}
 use Rattle.flow_d8.specs.Propagation.{unknown, distance_at, IsEnd, IsOnFlat, IsWaiting}
-use Rattle.flow_d8.specs.Surface.{number_in, level_at, has_level, leads_off, surface}
+use Rattle.flow_d8.specs.Surface.{number_in, level_at, has_level, surface}
 
 module _ (f : Filled) where
   abbrev pub Crosses : Point → ℕ → Type 0
@@ -23,11 +24,7 @@ module _ (f : Filled) where
 
   -- what is said of a point with a level is so
   abbrev pub DrainsLike : Point → LocalFlow → Type 0
-  DrainsLike p NoGround = ⊥
-  DrainsLike p Edge = (HasLower (surface f) (level_at f) p → ⊥) × IsTrue (leads_off f p)
-  DrainsLike p Flat = (HasLower (surface f) (level_at f) p → ⊥) × IsFalse (leads_off f p)
-  DrainsLike p Seam = (HasLower (surface f) (level_at f) p → ⊥) × IsFalse (leads_off f p)
-  DrainsLike p (Drains d) = IsSteepest (surface f) (level_at f) p d
+  DrainsLike p flow = IsFlowOf (surface f) (level_at f) p flow
 
   -- some point with a level has this number
   abbrev pub HasSite : ℕ → Type 0

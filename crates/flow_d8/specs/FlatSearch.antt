@@ -10,6 +10,7 @@ use Rattle.lattice.specs.Terrain.{Terrain}
 use Rattle.lattice.specs.Mosaic.{Mosaic}
 use Rattle.lattice.specs.Ground.{is_ground, is_outlet, terrain}
 use Rattle.flow_d8.specs.Drainage.{HasLower, CrossesFlat, IsDirection}
+use Rattle.flow_d8.specs.FlatCertificate.{IsAcross}
 use Rattle.flow_d8.specs.LevelsAround.{around_of, OnLevels}
 use Rattle.flow_d8.specs.Seen.{has_seen}
 use Rattle.flow_d8.specs.declared.seen.Seen.{Seen}
@@ -73,20 +74,15 @@ module _ (t : Terrain Point) (level : Point → ℤ) where
   AreDrained leads head = (i r : ℕ) → 0 < i → i < length leads → LeadsTo leads head i r
       → IsDirection t level (lead_at leads (lead_at leads i).from).point (Some (lead_at leads i).by) × ((lead_at leads i).point ≡ step (lead_at leads i).by (lead_at leads (lead_at leads i).from).point)
 
-  -- q lies beside p and has its level
-  pub record IsAcross (p q : Point) : Type 0 where
-    pub beside : IsTrue (t.is_adjacent p q)
-    pub same_level : level q ≡ level p
-
   -- The lead at this place is of the flat of x, and by the step from one before it. What lies across from leads before that
   -- one, and from that one by the steps before this in the order of codes, was reached before it.
   pub record IsPlaced (x : Point) (leads : List Lead) (i : ℕ) (lead : Lead) : Type 0 where
     pub linked : lead.from < i
-    pub across : IsAcross (lead_at leads lead.from).point lead.point
+    pub across : IsAcross t level (lead_at leads lead.from).point lead.point
     pub stepped : lead.point ≡ step lead.by (lead_at leads lead.from).point
     pub flat : level lead.point ≡ level x
-    pub earlier : (j : ℕ) (z : Point) → j < lead.from → IsAcross (lead_at leads j).point z → IsMarked leads z i
-    pub sooner : (e : Dir) → order_of e < order_of lead.by → IsAcross (lead_at leads lead.from).point (step e (lead_at leads lead.from).point) → IsMarked leads (step e (lead_at leads lead.from).point) i
+    pub earlier : (j : ℕ) (z : Point) → j < lead.from → IsAcross t level (lead_at leads j).point z → IsMarked leads z i
+    pub sooner : (e : Dir) → order_of e < order_of lead.by → IsAcross t level (lead_at leads lead.from).point (step e (lead_at leads lead.from).point) → IsMarked leads (step e (lead_at leads lead.from).point) i
 
   -- the search is from x: what lies across from each lead before the head is reached, and none of those is an end of the flat
   pub record IsSearched (x : Point) (leads : List Lead) (head : ℕ) : Type 0 where
@@ -94,5 +90,5 @@ module _ (t : Terrain Point) (level : Point → ℤ) where
     pub some : 0 < length leads
     pub first : (lead_at leads 0).point ≡ x
     pub placed : (i : ℕ) → 0 < i → i < length leads → IsPlaced x leads i (lead_at leads i)
-    pub around : (i : ℕ) (z : Point) → i < head → IsAcross (lead_at leads i).point z → IsMarked leads z (length leads)
+    pub around : (i : ℕ) (z : Point) → i < head → IsAcross t level (lead_at leads i).point z → IsMarked leads z (length leads)
     pub no_end : (i : ℕ) → i < head → CrossesFlat t level (lead_at leads i).point 0 → ⊥

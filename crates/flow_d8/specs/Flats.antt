@@ -12,7 +12,8 @@ use Rattle.flow_d8.specs.Drainage.{CrossesFlat, IsFlatDistance}
 use Rattle.flow_d8.specs.declared.flat_search.Lead.{Lead}
 use Rattle.flow_d8.specs.declared.flats.Flats.{Flats}
 use Rattle.flow_d8.specs.declared.filled_levels.FilledLevels.{Ghosts}
-use Rattle.flow_d8.specs.FlatSearch.{lead_at, IsMarked, IsAcross}
+use Rattle.flow_d8.specs.FlatCertificate.{IsAcross}
+use Rattle.flow_d8.specs.FlatSearch.{lead_at, IsMarked}
 use Rattle.flow_d8.specs.LevelsAround.{OnLevels}
 
 -- what is found of the point

@@ -18,8 +18,7 @@ pub mod LevelsAround
 pub mod Way
 pub mod Asking
 pub mod Seen
-pub mod Steepest
 pub mod FlatSearch
-pub mod Lie
+pub mod PointFlow
 pub mod Flats
 pub mod FlowSteps

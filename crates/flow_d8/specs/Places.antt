@@ -53,6 +53,14 @@ IsLocalFlow t level p Flat = IsTrue (t.is_ground p) × (HasLower t level p → �
 IsLocalFlow t level p Seam = ⊥
 IsLocalFlow t level p (Drains d) = IsTrue (t.is_ground p) × IsSteepest t level p d
 
+-- .. where it is told too which points lead off
+abbrev pub IsFlowOf : Terrain Point → (Point → ℤ) → Point → LocalFlow → Type 0
+IsFlowOf t level p NoGround = ⊥
+IsFlowOf t level p Edge = (HasLower t level p → ⊥) × IsTrue (t.is_outlet p)
+IsFlowOf t level p Flat = (HasLower t level p → ⊥) × IsFalse (t.is_outlet p)
+IsFlowOf t level p Seam = (HasLower t level p → ⊥) × IsFalse (t.is_outlet p)
+IsFlowOf t level p (Drains d) = IsSteepest t level p d
+
 -- it is so of each terrain that the levels show
 abbrev pub IsFlowAt : List ℤ → ℕ → ℕ → LocalFlow → Type 0
 IsFlowAt levels width k flow = (t : Terrain Point) (level : Point → ℤ) (p : Point) → IsLevelGrid t level → IsShown t level levels width p k → IsLocalFlow t level p flow

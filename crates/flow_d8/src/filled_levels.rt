@@ -4,9 +4,7 @@ ghost use Rattle.lattice.specs.declared.refusal.Refusal.{Refusal};
 ghost use Rattle.lattice.specs.declared.refusal.Refusal.TheVariants.{NoMemory, Damaged};
 ghost use Rattle.lattice.specs.Mosaic.{Mosaic, IsMosaic};
 ghost use Rattle.lattice.specs.Ground.{share_tile as shared, is_sink as is_declared};
-ghost use Rattle.flow_d8.specs.LevelsAround.{IsLevelAt};
-ghost use Rattle.flow_d8.specs.LevelsAround.{IsNear};
-ghost use Rattle.flow_d8.specs.LevelsAround.{OnLevels};
+ghost use Rattle.flow_d8.specs.LevelsAround.{IsLevelAt, IsNear, OnLevels};
 ghost use Rattle.flow_d8.specs.Way.{IsWay};
 ghost use Rattle.flow_d8.specs.Directions.{AreDirectionsOf};
 

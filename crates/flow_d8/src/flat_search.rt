@@ -12,9 +12,10 @@ ghost use Rattle.flow_d8.specs.Flats.{IsFollowed};
 ghost use Rattle.flow_d8.specs.FlatSearch.{AreReached, AreLinked, IsVisited, AreVisited, IsOnFlat, IsSearched, AreDrained, lead_at};
 
 use crate::FilledLevels;
-use crate::levels_around::{around, leads_off};
+use crate::levels_around::{Near, around};
+use crate::local_flow::drains_at_once;
+use crate::point_flow::flow_by;
 use crate::seen::Seen;
-use crate::steepest::steepest;
 use lattice::{DIRECTIONS, Dir, Point, Refusal, neighbour};
 use std::alloc::{AllocError, Global};
 
@@ -112,7 +113,8 @@ pub(crate) fn follow<S, L: FilledLevels<S>>(
 {
     let lead = leads[head];
     let around = around(alloc, levels, source, lead.point)?;
-    if leads_off(levels, source, lead.point, &around) || steepest(height, &around).is_some() {
+    let near = Near { height, around };
+    if drains_at_once(flow_by(levels, source, lead.point, &near)) {
         return Ok(true);
     }
     spread(lead.point, head, height, &around, seen, leads)?;

@@ -1,7 +1,6 @@
 //! The levels at a point and around it.
-ghost use Rattle.std.specs.Prelude.{◌≡◌, IsTrue, IfOk, IfErr, OnOk, is_some};
-ghost use Rattle.std.specs.List.{list_all};
-ghost use Rattle.lattice.specs.Ground.{is_ground, is_outlet, terrain};
+ghost use Rattle.std.specs.Prelude.{◌≡◌, IsTrue, IfOk, IfErr, OnOk};
+ghost use Rattle.lattice.specs.Ground.{is_ground, terrain};
 ghost use Rattle.flow_d8.specs.LevelsAround.{beside_of, around_of, OnLevels};
 ghost use Rattle.flow_d8.specs.Asking.{Asks};
 
@@ -82,24 +81,4 @@ fn beside<S, L: FilledLevels<S>>(
         return Ok(None);
     }
     levels.level(alloc, source, to)
-}
-
-/// Whether water can leave the mosaic at a ground point, from what is around it.
-pub(crate) fn leads_off<S, L: FilledLevels<S>>(
-    levels: &L,
-    source: &S,
-    point: Point,
-    around: &[Option<i16>; 8],
-) -> bool
-    ensures { L.is_honest levels.now source.now → IsTrue (is_ground (L.mosaic levels.now source.now) point)
-        → OnLevels (L.mosaic levels.now source.now) (λ level. around.now ≡ around_of (terrain (L.mosaic levels.now source.now)) level point → result ≡ is_outlet (L.mosaic levels.now source.now) point) }
-{
-    levels.is_sink(source, point) || !are_all_there(around)
-}
-
-// Whether there is a point in each of the eight directions.
-fn are_all_there(around: &[Option<i16>; 8]) -> bool
-    ensures { result ≡ list_all is_some around.now }
-{
-    around.iter().all(|beside| beside.is_some())
 }

@@ -3,7 +3,7 @@ ghost use Rattle.std.specs.Prelude.{◌≡◌, ℕ, ◌+◌, ◌<◌, ◌≤◌,
 ghost use Rattle.lattice.specs.declared.direction.Dir.{Dir};
 ghost use Rattle.lattice.specs.Mosaic.{void};
 ghost use Rattle.flow_d8.specs.Places.{place_by, IsInner, IsFlowAt, IsBestAt};
-ghost use Rattle.flow_d8.specs.Propagation.{IsFlat, IsOnFlat, IsEnd};
+ghost use Rattle.flow_d8.specs.Propagation.{IsFlat, IsOnFlat, DrainsAtOnce, IsEnd};
 
 use crate::slopes::{Best, at, better};
 use lattice::{Dir, VOID};
@@ -47,7 +47,15 @@ pub(crate) fn is_end(flows: &[LocalFlow], number: usize) -> bool
     requires { number < length flows.now }
     ensures { IsTrue result ↔ IsEnd flows.now number }
 {
-    match flows[number] {
+    drains_at_once(flows[number])
+}
+
+/// Whether a point with this flow drains at once.
+#[inline(always)]
+pub(crate) fn drains_at_once(flow: LocalFlow) -> bool
+    ensures { IsTrue result ↔ DrainsAtOnce flow }
+{
+    match flow {
         LocalFlow::Edge | LocalFlow::Drains(_) => true,
         LocalFlow::NoGround | LocalFlow::Flat | LocalFlow::Seam => false,
     }

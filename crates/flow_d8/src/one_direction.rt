@@ -9,7 +9,7 @@ ghost use Rattle.flow_d8.specs.Way.{IsWay};
 use crate::FilledLevels;
 use crate::flat_search::way_across;
 use crate::flats::{Flats, first_nearer};
-use crate::lie::{Lie, lie_of};
+use crate::point_flow::{PointFlow, point_flow};
 use lattice::{Dir, Point, Refusal, neighbour};
 use std::alloc::{AllocError, Global};
 
@@ -107,9 +107,9 @@ fn find_direction<S, L: FilledLevels<S>>(
     ensures keeps { OnOk result (L.keeps levels.old source.old levels.new source.new) }
     ensures fits { L.fits levels.new source.new }
 {
-    match lie_of(alloc, levels, source, point)? {
-        Lie::Drains(direction) => Ok(Some(direction)),
-        Lie::Inside { height, around } => {
+    match point_flow(alloc, levels, source, point)? {
+        PointFlow::Drains(direction) => Ok(Some(direction)),
+        PointFlow::Inside { height, around } => {
             let step = first_nearer(alloc, levels, source, flats, point, height, &around, most)?;
             Ok(way_by(step))
         }
@@ -194,9 +194,9 @@ fn find_steps<S, L: FilledLevels<S>>(
     ensures keeps { OnOk result (L.keeps levels.old source.old levels.new source.new) }
     ensures fits { L.fits levels.new source.new }
 {
-    match lie_of(alloc, levels, source, point)? {
-        Lie::Drains(direction) => Ok(Some(one_or_none(alloc, direction)?)),
-        Lie::Inside { height, around } => {
+    match point_flow(alloc, levels, source, point)? {
+        PointFlow::Drains(direction) => Ok(Some(one_or_none(alloc, direction)?)),
+        PointFlow::Inside { height, around } => {
             way_across(alloc, levels, source, point, height, &around, most)
         }
     }

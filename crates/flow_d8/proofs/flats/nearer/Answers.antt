@@ -1,15 +1,12 @@
-use Rattle.std.proofs.Common.{rules, w16, ◌≡◌, ℕ, ◌<◌, ◌≤◌, IsTrue, Some, None, inl, inr, sym, ap, ◌∙◌, subst, arith, get_or, true≢false}
+use Rattle.std.proofs.Common.{rules, w16, ◌≡◌, ◌<◌, ◌≤◌, IsTrue, Some, None, inl, inr, sym, ap, ◌∙◌, subst, arith, get_or, true≢false}
 use Rattle.std.proofs.lemmas.Bool.{cases_eq, cases_lt}
 use Rattle.std.proofs.lemmas.Int.{to_z-of_z}
 use Rattle.lattice.specs.declared.direction.Dir.TheVariants.{East}
 use Rattle.lattice.specs.Steps.{step, order_of, directions}
 use Rattle.lattice.specs.Stepping.{fits_point}
-use Rattle.flow_d8.proofs.Compass.{dir_at, order_of-dir_at, dir_at_place, order_below}
+use Rattle.flow_d8.proofs.Compass.{order_at, dir_at_place, order_below}
 use Rattle.flow_d8.specs.Flats.{distance_of, IsCloser}
 use Rattle.flow_d8.proofs.flats.nearer.Goals as goal
-
-place_of : (k : ℕ) → k < 8 → order_of (get_or directions k East) ≡ k
-place_of k small = ap order_of (dir_at_place (dir_at k) East k (order_of-dir_at k small)) ∙ order_of-dir_at k small
 
 pub loop-i-preserved : goal.loop-i-preserved
 loop-i-preserved c d below closer = elim (cases_eq (order_of d) c.loop-i.i) [
@@ -27,7 +24,7 @@ loop-i-preserved c d below closer = elim (cases_eq (order_of d) c.loop-i.i) [
 pub returns-then-is_closer-clause-first : goal.returns-then-is_closer-clause-first
 returns-then-is_closer-clause-first c e closer = elim (cases_lt (order_of e) c.loop-i.i) [
   | inl before ↦ absurd (c.loop-i.invariant e before (subst (λ h. IsCloser c.args.flats.now c.args.point h c.args.around.now e) (sym (to_z-of_z w16 c.args.height (search rules))) closer))
-  | inr after ↦ subst (λ k. k ≤ order_of e) (sym (place_of c.loop-i.i c.loop-i-test.true)) after
+  | inr after ↦ subst (λ k. k ≤ order_of e) (sym (order_at c.loop-i.i East c.loop-i-test.true)) after
 ]
 
 pub returns-clause-none : goal.returns-clause-none
@@ -39,7 +36,7 @@ returns-then-is_closer-clause-closer c =
     let i = c.loop-i.i in
     let d = get_or directions i East in
     record {
-      level = ap (λ k. get_or c.args.around.now k None) (place_of i c.loop-i-test.true) ∙ said.0 ∙ ap Some (to_z-of_z w16 c.args.height (search rules));
+      level = ap (λ k. get_or c.args.around.now k None) (order_at i East c.loop-i-test.true) ∙ said.0 ∙ ap Some (to_z-of_z w16 c.args.height (search rules));
       fits = said.1.0;
       less = subst (λ k. distance_of c.args.flats.now (step d c.args.point) < k) c.distance-distance.ensures said.1.1;
     }

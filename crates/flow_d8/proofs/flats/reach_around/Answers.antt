@@ -4,7 +4,7 @@ use Rattle.lattice.specs.declared.direction.Dir.TheVariants.{East}
 use Rattle.lattice.specs.Ground.{terrain}
 use Rattle.flow_d8.proofs.MosaicGrid.{mosaic_is_grid}
 use Rattle.flow_d8.specs.Flats.{distance_of, IsReaching}
-use Rattle.flow_d8.proofs.Nearby.{placed}
+use Rattle.flow_d8.proofs.Compass.{order_at}
 use Rattle.flow_d8.proofs.FlatsMeasured.{point_is, head_at, head_on}
 use Rattle.flow_d8.proofs.flats.reach_around.Goals as goal
 
@@ -12,7 +12,7 @@ pub loop-i-preserved : goal.loop-i-preserved
 loop-i-preserved g c honest level filled x near far s =
     let t = terrain (g.L.FilledLevels.mosaic c.args.levels.now c.args.source.now) in
     let p = c.index-point.result.now in
-    let place = placed t level p c.loop-i.i East c.loop-i-test.true in
+    let place = order_at c.loop-i.i East c.loop-i-test.true in
     subst (λ k. IsReaching t level x c.reach.new.flats c.reach.new.queue.items c.args.head p near (k + 1)) place
     (c.in_ok-reach.ensures honest level filled x c.args.head near far
     (subst (IsReaching t level x c.loop-i.flats c.loop-i.queue.items c.args.head p near) (sym place) (c.loop-i.invariant honest level filled x near far s)))

@@ -3,8 +3,10 @@ use Rattle.lattice.specs.declared.direction.Dir.TheVariants.{East, SouthEast, So
 use Rattle.lattice.specs.Mosaic.{void}
 use Rattle.std.specs.Prelude.{slice_index_or}
 use Rattle.std.proofs.lemmas.Int.{to_z-of_z}
+use Rattle.flow_d8.specs.Surface.{level_at, surface}
 use Rattle.flow_d8.proofs.Surfaces.{level_within}
-use Rattle.flow_d8.proofs.SampleFlows.{number_within, level_read, shown_here, rows_shown}
+use Rattle.flow_d8.proofs.SampleFlows.{number_within, level_read, shown_here}
+use Rattle.flow_d8.proofs.ThreeRows.{rows_shown}
 use Rattle.flow_d8.proofs.flows.levels_around.Goals as goal
 
 pub level_or_void-requires : goal.level_or_void-requires
@@ -40,7 +42,7 @@ pub returns : goal.returns
 returns c =
     let f = c.args.filled.now in
     let valid = c.levels-levels.ensures.valid in
-    rows_shown f c.args.point (to_z w16 (of_z w16 c.level_or_void.result)) (to_z w16 (of_z w16 c.level_or_void-2.result)) (to_z w16 (of_z w16 c.level_or_void-3.result)) (to_z w16 (of_z w16 c.level_or_void-4.result)) (to_z w16 (of_z w16 c.level_or_void-5.result)) (to_z w16 (of_z w16 c.level_or_void-6.result)) (to_z w16 (of_z w16 c.level_or_void-7.result)) (to_z w16 (of_z w16 c.level_or_void-8.result)) (to_z w16 (of_z w16 c.level_or_void-9.result))
+    rows_shown (surface f) (level_at f) c.args.point (to_z w16 (of_z w16 c.level_or_void.result)) (to_z w16 (of_z w16 c.level_or_void-2.result)) (to_z w16 (of_z w16 c.level_or_void-3.result)) (to_z w16 (of_z w16 c.level_or_void-4.result)) (to_z w16 (of_z w16 c.level_or_void-5.result)) (to_z w16 (of_z w16 c.level_or_void-6.result)) (to_z w16 (of_z w16 c.level_or_void-7.result)) (to_z w16 (of_z w16 c.level_or_void-8.result)) (to_z w16 (of_z w16 c.level_or_void-9.result))
     (to_z-of_z w16 c.level_or_void-5.result (record { sfits = c.level_or_void-5.type_inv }) ∙ c.level_or_void-5.ensures ∙ ap (λ xs. slice_index_or xs c.args.number void) c.levels-levels.ensures.value ∙ shown_here f c.args.point c.args.number c.requires.numbered)
     (to_z-of_z w16 c.level_or_void.result (record { sfits = c.level_or_void.type_inv }) ∙ level_read f valid c.args.point c.levels-levels.result.now c.levels-levels.ensures.value _ NorthWest c.level_or_void.result (ap (λ ks. slice_index_or ks 5 None) c.around-around.ensures) c.level_or_void.ensures)
     (to_z-of_z w16 c.level_or_void-2.result (record { sfits = c.level_or_void-2.type_inv }) ∙ level_read f valid c.args.point c.levels-levels.result.now c.levels-levels.ensures.value _ North c.level_or_void-2.result (ap (λ ks. slice_index_or ks 6 None) c.around-around.ensures) c.level_or_void-2.ensures)

@@ -1,8 +1,7 @@
 use Rattle.std.proofs.Common.{◌≡◌, IsTrue, IsFalse, Option, ℤ, sym, ◌∙◌, subst}
 use Rattle.lattice.specs.Steps.{step}
 use Rattle.lattice.specs.Ground.{is_ground, share_tile, terrain}
-use Rattle.flow_d8.specs.LevelsAround.{IsLevelAt}
-use Rattle.flow_d8.specs.LevelsAround.{beside_of, OnLevels}
+use Rattle.flow_d8.specs.LevelsAround.{IsLevelAt, beside_of, OnLevels}
 use Rattle.flow_d8.proofs.Asked.{on_ok}
 use Rattle.flow_d8.proofs.Nearby.{beside_unfit, beside_apart, told}
 use Rattle.flow_d8.proofs.levels_around.beside.Goals as goal

@@ -4,7 +4,7 @@ use Rattle.lattice.specs.declared.direction.Dir.{Dir}
 use Rattle.lattice.specs.Mosaic.{Mosaic}
 use Rattle.lattice.specs.Ground.{terrain}
 use Rattle.flow_d8.specs.LevelsAround.{OnLevels}
-use Rattle.flow_d8.specs.Lie.{IsLie}
+use Rattle.flow_d8.specs.PointFlow.{IsPointFlow}
 use Rattle.flow_d8.specs.FlowSteps.{FlowsOn, AreNext}
 use Rattle.flow_d8.proofs.Asked.{on_found}
 use Rattle.flow_d8.proofs.Following.{are_steps}
@@ -18,7 +18,7 @@ some_not_none (d ∷ steps) some none = absurd (cc)
 pub returns-in_ok-one_or_none-in-Drains-clause-steps : goal.returns-in_ok-one_or_none-in-Drains-clause-steps
 returns-in_ok-one_or_none-in-Drains-clause-steps g c honest =
     let m = g.L.FilledLevels.mosaic c.args.levels.now c.args.source.now in
-    subst (AreNext m c.args.point) (sym c.in_ok-one_or_none-in-Drains.ensures) (next_by m c.args.point c.in-Drains.direction (subst (IsLie m c.args.point) c.in-Drains.is (c.in_ok-direction.ensures.lie honest)))
+    subst (AreNext m c.args.point) (sym c.in_ok-one_or_none-in-Drains.ensures) (next_by m c.args.point c.in-Drains.direction (subst (IsPointFlow m c.args.point) c.in-Drains.is (c.in_ok-direction.ensures.flow honest)))
 
 pub returns-in-Inside-clause-steps : goal.returns-in-Inside-clause-steps
 returns-in-Inside-clause-steps g c honest =
@@ -26,7 +26,7 @@ returns-in-Inside-clause-steps g c honest =
     let p = c.args.point in
     let before = c.way_across.ensures.asks.honest honest in
     let same = c.in_ok-direction.ensures.asks.mosaic before in
-    let flat = subst (IsLie m p) c.in-Inside.is (c.in_ok-direction.ensures.lie before) in
+    let flat = subst (IsPointFlow m p) c.in-Inside.is (c.in_ok-direction.ensures.flow before) in
     on_found (λ steps. OnLevels m (λ level. FlowsOn (terrain m) level p steps.items)) (λ steps. 0 < length steps.items) (λ steps. AreNext m p steps.items) c.way_across.result
     (λ steps flows some. record {
       lead = λ _ level filled. are_steps (terrain m) level p steps.items (λ none. absurd (some_not_none steps.items some none)) (flows level filled);

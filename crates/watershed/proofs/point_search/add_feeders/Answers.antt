@@ -1,9 +1,9 @@
-use Rattle.std.proofs.Common.{◌+◌, ◌≡◌, get_or, sym, ap, ◌∙◌, subst}
+use Rattle.std.proofs.Common.{◌+◌, ◌≡◌, get_or, sym, subst}
 use Rattle.lattice.specs.declared.direction.Dir.TheVariants.{East}
 use Rattle.lattice.specs.Steps.{order_of, directions}
 use Rattle.lattice.specs.Mosaic.{Mosaic}
 use Rattle.lattice.specs.Ground.{terrain}
-use Rattle.flow_d8.proofs.Compass.{dir_at, order_of-dir_at, dir_at_place}
+use Rattle.flow_d8.proofs.Compass.{order_at}
 use Rattle.flow_d8.proofs.MosaicGrid.{mosaic_is_grid}
 use Rattle.watershed.specs.Search.{IsFeeder}
 use Rattle.flow_d8.specs.LevelsAround.{OnLevels}
@@ -27,7 +27,7 @@ loop-i-preserved g c =
     let told = c.in_ok-add_feeder.ensures in
     let i = c.loop-i.i in
     let d = get_or directions i East in
-    let place : order_of d ≡ i = ap order_of (dir_at_place (dir_at i) East i (order_of-dir_at i c.loop-i-test.true)) ∙ order_of-dir_at i c.loop-i-test.true in
+    let place : order_of d ≡ i = order_at i East c.loop-i-test.true in
     let now = c.args.levels.now in
     let at = c.args.source.now in
     record {

@@ -1,16 +1,13 @@
-use Rattle.std.proofs.Common.{◌≡◌, ℕ, ◌+◌, ◌<◌, List, ap, sym, subst, ◌∙◌, arith, get_or}
+use Rattle.std.proofs.Common.{◌+◌, List, ap, sym, subst, arith, get_or}
 use Rattle.arrayvec.specs.ArrayVec.{ArrayVec, array_vec_len}
 use Rattle.lattice.specs.declared.point.Point.{Point}
 use Rattle.lattice.specs.declared.direction.Dir.{Dir}
 use Rattle.lattice.specs.declared.direction.Dir.TheVariants.{East}
-use Rattle.lattice.specs.Steps.{directions, order_of}
-use Rattle.flow_d8.proofs.Compass.{dir_at, order_of-dir_at, dir_at_place}
+use Rattle.lattice.specs.Steps.{directions}
+use Rattle.flow_d8.proofs.Compass.{order_at}
 use Rattle.flow_d8.proofs.Feeding.{IsFeeding, feeding_on, feeding_more, fed}
 use Rattle.flow_d8.proofs.directions.Directions.feeders.Goals as goal
 use Rattle.flow_d8.proofs.directions.Directions.feeders.Goals.{in-Some, in_default}
-
-listed : (i : ℕ) → i < 8 → order_of (get_or directions i East) ≡ i
-listed i lt = ap order_of (dir_at_place (dir_at i) East i (order_of-dir_at i lt)) ∙ order_of-dir_at i lt
 
 pub loop-i-preserved : goal.loop-i-preserved
 loop-i-preserved c =
@@ -18,7 +15,7 @@ loop-i-preserved c =
     let p = c.args.point in
     let i = c.loop-i.i in
     let e : Dir = get_or directions i East in
-    let order = listed i c.loop-i-test.true in
+    let order = order_at i East c.loop-i-test.true in
     let so_far = c.loop-i.invariant.feeding in
     elim c.match-feeder.branch [
       | in-Some w ↦ record {

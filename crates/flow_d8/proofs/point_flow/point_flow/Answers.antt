@@ -5,24 +5,22 @@ use Rattle.lattice.specs.Mosaic.{Mosaic}
 use Rattle.lattice.specs.Terrain.{IsFilledLevel}
 use Rattle.lattice.specs.Ground.{is_ground, terrain}
 use Rattle.lattice.proofs.Levels.{level_is_unique}
-use Rattle.flow_d8.specs.declared.lie.Lie.{Lie}
+use Rattle.flow_d8.specs.declared.point_flow.PointFlow.{PointFlow}
 use Rattle.flow_d8.specs.declared.levels_around.Near.{Near}
-use Rattle.flow_d8.specs.LevelsAround.{IsLevelAt}
-use Rattle.flow_d8.specs.LevelsAround.{around_of, OnLevels}
-use Rattle.flow_d8.specs.LevelsAround.{IsNear}
-use Rattle.flow_d8.specs.Lie.{IsLie}
+use Rattle.flow_d8.specs.LevelsAround.{IsLevelAt, around_of, OnLevels, IsNear}
+use Rattle.flow_d8.specs.PointFlow.{IsPointFlow}
 use Rattle.flow_d8.proofs.Nearby.{level_ground}
-use Rattle.flow_d8.proofs.lie.lie_of.Goals as goal
+use Rattle.flow_d8.proofs.point_flow.point_flow.Goals as goal
 
 brought : (m n : Mosaic) (p : Point) (around : List (Option ℤ)) → n ≡ m → (IsTrue (is_ground n p) → OnLevels n (λ level. around ≡ around_of (terrain n) level p))
     → IsTrue (is_ground m p) → OnLevels m (λ level. around ≡ around_of (terrain m) level p)
 brought m n p around same said = subst (λ (k : Mosaic). IsTrue (is_ground k p) → OnLevels k (λ level. around ≡ around_of (terrain k) level p)) same said
 
-lies_still : (m n : Mosaic) (p : Point) (near : Near) (lie : Lie) → n ≡ m → (IsNear n p near → IsLie n p lie) → IsNear m p near → IsLie m p lie
-lies_still m n p near lie same said = subst (λ (k : Mosaic). IsNear k p near → IsLie k p lie) same said
+flows_still : (m n : Mosaic) (p : Point) (near : Near) (flow : PointFlow) → n ≡ m → (IsNear n p near → IsPointFlow n p flow) → IsNear m p near → IsPointFlow m p flow
+flows_still m n p near flow same said = subst (λ (k : Mosaic). IsNear k p near → IsPointFlow k p flow) same said
 
-pub returns-clause-lie : goal.returns-clause-lie
-returns-clause-lie g c honest =
+pub returns-clause-flow : goal.returns-clause-flow
+returns-clause-flow g c honest =
     let m = g.L.FilledLevels.mosaic c.args.levels.now c.args.source.now in
     let p = c.args.point in
     let asks = c.in_ok-around.ensures.asks in
@@ -36,5 +34,5 @@ returns-clause-lie g c honest =
       here = λ level filled. level_is_unique (terrain m) p (level p) c.in-Some-2.height (filled p solid) at_point ∙ sym (to_z-of_z w16 c.in-Some-2.height fits);
       around_it = brought m (g.L.FilledLevels.mosaic c.level.new.self c.level.new.source) p c.in_ok-around.around first (c.in_ok-around.ensures.around honest) solid;
     } in
-    lies_still m (g.L.FilledLevels.mosaic c.around.new.levels c.around.new.source) p (record { height = to_z w16 (of_z w16 c.in-Some-2.height); around = c.in_ok-around.around }) c.lie_by-2.result
-    (asks.mosaic honest ∙ first) (c.lie_by-2.ensures honest) near
+    flows_still m (g.L.FilledLevels.mosaic c.around.new.levels c.around.new.source) p (record { height = to_z w16 (of_z w16 c.in-Some-2.height); around = c.in_ok-around.around }) c.point_flow_by-2.result
+    (asks.mosaic honest ∙ first) (c.point_flow_by-2.ensures honest) near
