@@ -102,10 +102,10 @@ module _ (f : Filled) (whole : AreLevels f) where
 le_said : (a b : ℕ) → nat_le a b ≡ true → a ≤ b
 le_said a b h = grind (arith, nat_tests)
 
-quotient : (n i j : ℕ) → j < n → (i * n + j) / n ≡ i
+pub quotient : (n i j : ℕ) → j < n → (i * n + j) / n ≡ i
 quotient n i j small = grind (arith, rows)
 
-remainder : (n i j : ℕ) → j < n → (i * n + j) % n ≡ j
+pub remainder : (n i j : ℕ) → j < n → (i * n + j) % n ≡ j
 remainder n i j small = grind (arith, rows)
 
 -- a point deep inside its tile

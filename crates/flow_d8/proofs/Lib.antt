@@ -10,6 +10,7 @@ pub mod Numbers
 pub mod Surfaces
 pub mod Inside
 pub mod PointFlows
+pub mod InTiles
 pub mod SampleFlows
 pub mod NearerSteps
 pub mod Nearest

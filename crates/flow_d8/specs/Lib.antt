@@ -22,3 +22,4 @@ pub mod FlatSearch
 pub mod PointFlow
 pub mod Flats
 pub mod FlowSteps
+pub mod TilePlaces

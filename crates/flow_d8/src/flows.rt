@@ -8,8 +8,9 @@ ghost use Rattle.flow_d8.specs.Places.{IsShown};
 ghost use Rattle.flow_d8.specs.Surface.{number_in, level_at, has_level, is_declared, surface};
 ghost use Rattle.lattice.specs.declared.point.Point.{Point};
 
-use crate::filled::{Filled, lies_deep};
+use crate::filled::Filled;
 use crate::local_flow::{LocalFlow, local_flow_at};
+use crate::tile_place::TilePlace;
 use lattice::{Point, VOID};
 use std::alloc::{AllocError, Global};
 
@@ -18,19 +19,24 @@ pub(crate) fn local_flows(alloc: Global, filled: &Filled) -> Result<Vec<LocalFlo
     ensures { IfOk result (λ flows. AreLocalFlows filled.now flows.items) }
 {
     let count = filled.levels().len();
+    let side = filled.side();
     let mut flows = Vec::with_capacity(alloc, count)?;
+    let mut place = TilePlace::first();
     for number in 0..count {
-        flows.push(flow_of(filled, number))?;
+        flows.push(flow_of(filled, number, place.is_deep(side)))?;
+        place = place.next(side);
     }
     Ok(flows)
 }
 
+// The local flow of the sample, which lies at least two samples from the edges of its tile, or doesn't.
 #[inline(always)]
-fn flow_of(filled: &Filled, number: usize) -> LocalFlow
-    requires { number < length filled.now.levels }
+fn flow_of(filled: &Filled, number: usize, deep: bool) -> LocalFlow
+    requires number { number < length filled.now.levels }
+    requires deep { deep ≡ is_deep filled.now.side (number % (filled.now.side * filled.now.side)) }
     ensures { IsSampleFlow filled.now number result }
 {
-    if lies_deep(filled.side(), number) {
+    if deep {
         flow_inside(filled, number)
     } else {
         flow_over_edges(filled, number)

@@ -49,6 +49,7 @@ mod propagating;
 mod seeding;
 mod seen;
 mod slopes;
+mod tile_place;
 
 pub use directions::Directions;
 pub use filled::Filled;
