@@ -1,6 +1,6 @@
 -- The steps of a bottleneck search from a start over links: what is visited next ends a least path (after the correctness
 -- argument of Barnes, Lehman and Mulla 2014).
-use Rattle.std.proofs.Common.{◌≡◌, ℕ, zero, suc, ◌+◌, ◌*◌, ◌-◌, ◌<◌, ◌≤◌, ◌⊎◌, inl, inr, ℤ, ◌≤ℤ◌, true, false, List, [], ◌∷◌, length, get_or, refl, sym, ap, ◌∙◌, subst, arith, true≢false, Contains, int_lt}
+use Rattle.std.proofs.Common.{◌≡◌, ℕ, zero, suc, ◌+◌, ◌*◌, ◌-◌, ◌<◌, ◌≤◌, ◌⊎◌, inl, inr, ℤ, ◌≤ℤ◌, ◌<ℤ◌, true, false, IsTrue, List, [], ◌∷◌, length, get_or, refl, sym, ap, ◌∙◌, subst, arith, true≢false, Contains, int_lt}
 use Rattle.std.specs.Int.{int_max}
 use Rattle.std.proofs.lemmas.Bool.{cases_Bool, cases_eq, cases_lt}
 use Rattle.std.proofs.lemmas.Int.{ints, clamps}
@@ -11,6 +11,7 @@ use Rattle.lattice.proofs.Levels.{≤ℤ_same, ≤ℤ_trans, le-max_left, le-max
 use Rattle.border_graph.specs.Links.{IsWayBelow, IsJoinedLevel}
 use Rattle.border_graph.proofs.Surge.{way_up, go_on}
 use Rattle.border_graph.specs.declared.edge_source.Edge.{Edge}
+use Rattle.border_graph.specs.declared.bottleneck.Settled.{Settled}
 use Rattle.border_graph.specs.declared.frontier.Entry.{Entry}
 use Rattle.border_graph.specs.Summaries.{Summary}
 use Rattle.border_graph.specs.Edges.{AreEdges, IsReachedBelow}
@@ -18,7 +19,7 @@ use Rattle.border_graph.specs.Placed.{IsPlacedLink}
 use Rattle.border_graph.specs.Waiting.{IsAdded}
 use Rattle.border_graph.specs.Frontier.{is_among, IsNext, NoneLeft}
 use Rattle.border_graph.proofs.Next.{taken_still, taken_other}
-use Rattle.border_graph.specs.Bottleneck.{raised, AreRaised, WaitsBelow, IsEnd, IsExpanded, IsOn, IsSearching}
+use Rattle.border_graph.specs.Bottleneck.{raised, AreRaised, IsSettledBy, WaitsBelow, IsEnd, IsExpanded, IsOn, IsSearching}
 
 -- links lead back, but for those to the outlet node, from which none leads
 pub record IsTwoWay (L : ℕ → ℕ → ℤ → Type 0) : Type 0 where
@@ -45,8 +46,8 @@ way_back L two start x level (y ∷ rest) way some =
     above (suc y) rest way = omega arith
 
 -- what the start reaches below its level has the very same level
-pub alike : (L : ℕ → ℕ → ℤ → Type 0) → IsTwoWay L → (start x : ℕ) (crest level : ℤ) → IsJoinedLevel L 0 start level → 0 < x → IsReachedBelow L start crest x → int_lt crest level ≡ true → IsJoinedLevel L 0 x level
-alike L two start x crest level joined some first lower_crest = record {
+pub alike : (L : ℕ → ℕ → ℤ → Type 0) → IsTwoWay L → (start x : ℕ) (crest level : ℤ) → IsJoinedLevel L 0 start level → 0 < x → IsReachedBelow L start crest x → crest <ℤ level → IsJoinedLevel L 0 x level
+alike L two start x crest level joined some first below = record {
   reached =
       let back = way_back L two start x crest first.0 first.1 some in
       go_on L start 0 level x back.0 joined.reached.0 (way_up L start crest level (lt-le crest level lower_crest) x back.0 back.1) joined.reached.1;
@@ -55,11 +56,41 @@ alike L two start x crest level joined some first lower_crest = record {
       under crest lower level lower_crest (joined.least (int_max crest lower) on.0 on.1);
 }
   where
+    less : (a b : ℤ) → a <ℤ b → int_lt a b ≡ true
+    less a b lower = grind (arith, ints)
+
+    lower_crest : int_lt crest level ≡ true
+    lower_crest = less crest level below
+
     lt-le : (a b : ℤ) → int_lt a b ≡ true → a ≤ℤ b
     lt-le a b less = omega (arith, ints)
 
     under : (a b c : ℤ) → int_lt a c ≡ true → c ≤ℤ int_max a b → c ≤ℤ b
     under a b c less le = omega (arith, ints, clamps)
+
+-- and what it reaches at its level, where no link from there is lower
+pub alike_at : (L : ℕ → ℕ → ℤ → Type 0) → IsTwoWay L → (start x : ℕ) (level : ℤ) → IsJoinedLevel L 0 start level → 0 < x → IsReachedBelow L start level x → ((y : ℕ) (l : ℤ) → L x y l → level ≤ℤ l) → IsJoinedLevel L 0 x level
+alike_at L two start x level joined some first from = record {
+  reached =
+      let back = way_back L two start x level first.0 first.1 some in
+      go_on L start 0 level x back.0 joined.reached.0 back.1 joined.reached.1;
+  least = λ lower rest way. over lower rest way;
+}
+  where
+    over : (lower : ℤ) (rest : List ℕ) → IsWayBelow L 0 lower x rest → level ≤ℤ lower
+    over lower [] way = let here = some in absurd (omega (arith, way))
+    over lower (y ∷ rest) way = ≤ℤ_trans level way.0.0 lower (from y way.0.0 way.0.1.0) way.0.1.1
+
+-- the node of an entry was settled, with all its links
+pub settled_by : (L : ℕ → ℕ → ℤ → Type 0) (start : ℕ) (entry : Entry) (edges : List Edge) (one : Settled) → AreEdges L entry.node edges → IsSettledBy entry edges one → 0 < entry.node → IsReachedBelow L start entry.crest entry.node
+    → (0 < one.node) × (IsReachedBelow L start one.crest one.node × (IsTrue one.has_no_lower → (y : ℕ) (level : ℤ) → L one.node y level → one.crest ≤ℤ level))
+settled_by L start entry edges one all by some reached = (
+  subst (λ v. 0 < v) (sym by.node) some,
+  (
+    subst (λ v. IsReachedBelow L start v one.node) (sym by.crest) (subst (IsReachedBelow L start entry.crest) (sym by.node) reached),
+    λ yes y level link. subst (λ v. v ≤ℤ level) (sym by.crest) (by.no_lower yes (record { level = level; to = y }) (all.all y level (subst (λ v. L v y level) by.node link))),
+  ),
+)
 
 waits_up : (frontier : List Entry) (x : ℕ) (low high : ℤ) → low ≤ℤ high → WaitsBelow frontier x low → WaitsBelow frontier x high
 waits_up frontier x low high le w = record { entry = w.entry; waits = w.waits; node = w.node; low = ≤ℤ_trans w.entry.crest low high w.low le }

@@ -1,9 +1,10 @@
 -- A bottleneck (minimax) search from a start over links, the lowest first (after Barnes, Lehman and Mulla 2014).
-use Rattle.std.specs.Prelude.{◌≡◌, ℕ, ℤ, ◌<◌, ◌≤ℤ◌, ◌⊎◌, true, false, List, Contains, slice_index_or}
+use Rattle.std.specs.Prelude.{◌≡◌, ℕ, ℤ, ◌<◌, ◌≤ℤ◌, ◌<ℤ◌, ◌⊎◌, true, false, IsTrue, List, Contains, slice_index_or}
 use Rattle.std.specs.Int.{int_max}
 use Rattle.border_graph.specs.Links.{IsWayBelow}
 use Rattle.border_graph.specs.Edges.{IsReachedBelow}
 use Rattle.border_graph.specs.declared.edge_source.Edge.{Edge}
+use Rattle.border_graph.specs.declared.bottleneck.Settled.{Settled}
 use Rattle.border_graph.specs.declared.frontier.Entry.{Entry}
 use Rattle.border_graph.specs.Frontier.{is_among}
 
@@ -23,6 +24,16 @@ pub record WaitsBelow (frontier : List Entry) (x : ℕ) (level : ℤ) : Type 0 w
   pub waits : Contains frontier entry
   pub node : entry.node ≡ x
   pub low : entry.crest ≤ℤ level
+
+-- the entry's node, from which these edges lead
+pub record IsSettledBy (entry : Entry) (edges : List Edge) (settled : Settled) : Type 0 where
+  pub node : settled.node ≡ entry.node
+  pub crest : settled.crest ≡ entry.crest
+  pub no_lower : IsTrue settled.has_no_lower → (edge : Edge) → Contains edges edge → entry.crest ≤ℤ edge.level
+
+-- the node was settled below the level, or at it and no edge from it is lower
+abbrev pub HasLevel : Settled → ℤ → Type 0
+HasLevel settled level = (settled.crest <ℤ level) ⊎ ((settled.crest ≡ level) × IsTrue settled.has_no_lower)
 
 module _ (IsLink : ℕ → ℕ → ℤ → Type 0) where
   -- the least level, no lower than the entry's crest, at which a path leads out from the entry's node

@@ -1,14 +1,14 @@
 //! The lowest pass from a node to an outlet: a bottleneck (minimax) search, lowest crest first.
-ghost use Rattle.std.specs.Prelude.{◌≡◌, ℕ, ℤ, ◌<◌, ◌⊎◌, List, [], ◌∷◌, ◌++◌, Contains, IfOk, IfErr, OnOk, IfSome, IfNone, length, int_lt, true};
+ghost use Rattle.std.specs.Prelude.{◌≡◌, ℕ, ℤ, ◌<◌, ◌⊎◌, List, [], ◌∷◌, ◌++◌, Contains, IfOk, IfErr, OnOk, IfSome, IfNone, IsTrue, length, ◌≤ℤ◌};
 ghost use Rattle.border_graph.specs.Links.{IsJoinedLevel, IsWayBelow};
 ghost use Rattle.border_graph.specs.Summaries.{Summary};
-ghost use Rattle.border_graph.specs.Edges.{IsTileReached};
+ghost use Rattle.border_graph.specs.Edges.{AreEdges, IsTileReached};
 ghost use Rattle.border_graph.specs.Placed.{IsPlacedLink, IsOfTile};
 ghost use Rattle.border_graph.specs.Crests.{LeadsOut, IsLeastCrest};
 ghost use Rattle.border_graph.specs.declared.edge_source.Edge.{Edge as EdgeOf};
 ghost use Rattle.border_graph.specs.Frontier.{IsNext, NoneLeft};
-ghost use Rattle.border_graph.specs.declared.frontier.Entry.{Entry as EntryOf};
-ghost use Rattle.border_graph.specs.Bottleneck.{IsExpanded, IsEnd, AreRaised, raised};
+ghost use Rattle.border_graph.specs.Bottleneck.{IsExpanded, IsEnd, AreRaised, IsSettledBy, HasLevel, raised};
+ghost use Rattle.border_graph.specs.declared.bottleneck.Settled.{Settled as SettledOf};
 
 use crate::frontier::{Entry, Frontier};
 use crate::visited::Visited;
@@ -20,8 +20,9 @@ use std::alloc::{AllocError, Global};
 /// where no path leads there. Both are said of paths edge by edge, and of lists of nodes as where all tiles are joined.
 ///
 /// Where it answers a level, it asked only for tiles with a rim point that the start reaches at no more than that level.
-/// Then it lists nodes that have the very same level: those that the search settled below it. Each of them and the start
-/// reach one another below that level, so that they share their lowest pass.
+/// Then it lists nodes that have the very same level: those that the search settled below it, each of which and the start
+/// reach one another below that level, so that they share their lowest pass; and of those that it settled at that level the
+/// ones from which no edge is lower.
 ///
 /// It is refused as the graph's answers are, where want of memory is such a refusal.
 pub fn lowest_pass<S, G: EdgeSource<S>>(
@@ -58,33 +59,73 @@ pub fn lowest_pass<S, G: EdgeSource<S>>(
         node: start,
     })?;
     'rise: while let Some(entry) = pop_unvisited(&mut frontier, &mut visited)? {
-        if let Some(level) = expand(alloc, graph, source, entry, &visited, &mut frontier)? {
-            list_below(&settled, level, alike)?;
+        let mut edges = Vec::new(alloc);
+        if let Some(level) = expand(
+            alloc,
+            graph,
+            source,
+            entry,
+            &visited,
+            &mut frontier,
+            &mut edges,
+        )? {
+            list_alike(&settled, level, alike)?;
             return Ok(Some(level));
         }
-        settle(&mut settled, entry)?;
+        settle(&mut settled, entry, &edges)?;
     }
     Ok(None)
 }
 
-// One settled entry more.
-fn settle(settled: &mut Vec<Entry>, entry: Entry) -> Result<(), AllocError>
-    ensures { OnOk result (settled.new.items ≡ settled.old.items ++ entry ∷ []) }
+// A node that the search settled, the greatest level on the path to it, in metres, and whether no edge from it is lower.
+#[derive(Clone, Copy)]
+pub(crate) struct Settled {
+    node: u32,
+    crest: i16,
+    has_no_lower: bool,
+}
+
+// The node of the entry is settled, from which these edges lead.
+fn settle(settled: &mut Vec<Settled>, entry: Entry, edges: &[Edge]) -> Result<(), AllocError>
+    ensures { OnOk result ((one : SettledOf) × ((settled.new.items ≡ settled.old.items ++ one ∷ []) × IsSettledBy entry edges.now one)) }
 {
-    settled.push(entry)?;
+    settled.push(Settled {
+        node: entry.node,
+        crest: entry.crest,
+        has_no_lower: has_no_lower(edges, entry.crest),
+    })?;
     Ok(())
 }
 
-// Lists the nodes of the entries whose crest is below the level.
-fn list_below(settled: &[Entry], level: i16, into: &mut Vec<u32>) -> Result<(), AllocError>
-    ensures { OnOk result ((x : ℕ) → Contains into.new.items x → Contains into.old.items x ⊎ ((entry : EntryOf) × (Contains settled.now entry × ((entry.node ≡ x) × (int_lt entry.crest level ≡ true))))) }
+// Whether no edge is lower than the crest.
+fn has_no_lower(edges: &[Edge], crest: i16) -> bool
+    ensures { IsTrue result → (edge : EdgeOf) → Contains edges.now edge → crest ≤ℤ edge.level }
 {
-    for entry in settled {
-        if entry.crest < level {
-            into.push(entry.node)?;
+    for edge in edges {
+        if edge.level < crest {
+            return false;
+        }
+    }
+    true
+}
+
+// Lists the settled nodes that have the level that the start has.
+fn list_alike(settled: &[Settled], level: i16, into: &mut Vec<u32>) -> Result<(), AllocError>
+    ensures { OnOk result ((x : ℕ) → Contains into.new.items x → Contains into.old.items x ⊎ ((one : SettledOf) × (Contains settled.now one × ((one.node ≡ x) × HasLevel one level)))) }
+{
+    for one in settled {
+        if has_level(*one, level) {
+            into.push(one.node)?;
         }
     }
     Ok(())
+}
+
+// Whether the node was settled below the level, or at it and no edge from it is lower.
+fn has_level(settled: Settled, level: i16) -> bool
+    ensures { IsTrue result → HasLevel settled level }
+{
+    settled.crest < level || settled.crest == level && settled.has_no_lower
 }
 
 // Visits the node of the lowest entry of the frontier that isn't visited.
@@ -103,8 +144,8 @@ fn pop_unvisited(
     Ok(None)
 }
 
-// Puts each node on the frontier to which an edge leads from the entry's node, unless it is visited. Or, where that is the
-// outlet node or its level is known, the least crest of the paths on from there that go through it.
+// Lists the edges from the entry's node, and puts each node on the frontier to which one leads, unless it is visited. Or,
+// where that is the outlet node or its level is known, the least crest of the paths on from there that go through it.
 fn expand<S, G: EdgeSource<S>>(
     alloc: Global,
     graph: &mut G,
@@ -112,11 +153,15 @@ fn expand<S, G: EdgeSource<S>>(
     entry: Entry,
     visited: &Visited,
     frontier: &mut Frontier,
+    edges: &mut Vec<Edge>,
 ) -> Result<Option<i16>, Refusal>
+    requires empty { edges.old.items ≡ [] }
     ensures ends { (n : ℕ) (summaries : List Summary) → G.fits graph.new n summaries
         → IfOk result (λ found. IfSome found (IsEnd (IsPlacedLink n summaries) entry)) }
     ensures followed { (n : ℕ) (summaries : List Summary) → G.fits graph.new n summaries
         → IfOk result (λ found. IfNone found (IsExpanded (IsPlacedLink n summaries) visited.now frontier.old frontier.new entry)) }
+    ensures listed { (n : ℕ) (summaries : List Summary) → G.fits graph.new n summaries
+        → IfOk result (λ found. IfNone found (AreEdges (IsPlacedLink n summaries) entry.node edges.new.items)) }
     ensures told { (n : ℕ) (summaries : List Summary) → G.fits graph.new n summaries → (t : ℕ) → G.told graph.new t → G.told graph.old t ⊎ IsOfTile n t entry.node }
     ensures refusal { IfErr result (G.refuses graph.old source.old graph.new source.new) }
     ensures fits { (n : ℕ) (summaries : List Summary) → G.fits graph.new n summaries → G.fits graph.old n summaries }
@@ -125,11 +170,10 @@ fn expand<S, G: EdgeSource<S>>(
     if entry.node == 0 {
         return Ok(Some(entry.crest));
     }
-    let mut found = Vec::new(alloc);
-    if let Some(level) = graph.edges_from(alloc, source, entry.node, &mut found)? {
+    if let Some(level) = graph.edges_from(alloc, source, entry.node, edges)? {
         return Ok(Some(entry.crest.max(level)));
     }
-    push_all(entry, &found, visited, frontier)?;
+    push_all(entry, edges, visited, frontier)?;
     Ok(None)
 }
 

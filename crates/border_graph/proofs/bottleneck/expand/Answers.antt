@@ -29,3 +29,7 @@ returns-clause-followed g c n summaries fits =
     followed_all (IsPlacedLink n summaries) c.args.visited.now c.args.frontier.now c.push_all.new.frontier c.args.entry c.edges_from.new.into.items (let other = c.if-entry-eq0.false in omega arith)
     (subst (λ known. MatchOption known (AreEdges (IsPlacedLink n summaries) c.args.entry.node c.edges_from.new.into.items) (IsJoinedLevel (IsPlacedLink n summaries) 0 c.args.entry.node)) c.in_default.is answer)
     (subst (λ found. AreRaised found (length found) c.args.entry c.args.visited.now c.args.frontier.now c.push_all.new.frontier) c.deref.ensures.value c.in_ok-push_all.ensures)
+
+pub returns-clause-listed : goal.returns-clause-listed
+returns-clause-listed g c n summaries fits =
+    subst (λ known. MatchOption known (AreEdges (IsPlacedLink n summaries) c.args.entry.node c.edges_from.new.into.items) (IsJoinedLevel (IsPlacedLink n summaries) 0 c.args.entry.node)) c.in_default.is (c.in_ok-level.ensures.answer n summaries fits)

@@ -1,4 +1,4 @@
-use Rattle.std.proofs.Common.{rules, true, ◌≡◌, ◌<◌, ◌≤ℤ◌, ◌^◌, ◌⊎◌, ℕ, ℤ, inl, inr, Contains, int_lt, SFits, w16, refl, sym, subst, arith, to_z, of_z, List, [], ◌∷◌, map}
+use Rattle.std.proofs.Common.{rules, true, ◌≡◌, ◌<◌, ◌≤ℤ◌, ◌^◌, ◌⊎◌, ℕ, ℤ, inl, inr, Contains, IsTrue, SFits, w16, refl, sym, subst, arith, to_z, of_z, List, [], ◌∷◌, map}
 use Rattle.std.specs.Prelude.{IfSome, IfNone}
 use Rattle.std.proofs.lemmas.List.Elements.{Contains-push_cases}
 use Rattle.std.proofs.lemmas.Int.{to_z-of_z}
@@ -7,7 +7,7 @@ use Rattle.lattice.specs.Mosaic.{void}
 use Rattle.border_graph.specs.Links.{IsJoinedLevel}
 use Rattle.border_graph.specs.Joining.{Rim}
 use Rattle.border_graph.specs.Linking.{node_number}
-use Rattle.border_graph.specs.Edges.{IsReachedBelow}
+use Rattle.border_graph.specs.Edges.{AreEdges, IsReachedBelow}
 use Rattle.border_graph.specs.Placed.{IsPlacedLink}
 use Rattle.border_graph.specs.Waiting.{IsAdded}
 use Rattle.border_graph.specs.Frontier.{is_among, IsNext, NoneLeft}
@@ -15,11 +15,12 @@ use Rattle.border_graph.specs.declared.edge_source.Edge.{Edge}
 use Rattle.border_graph.specs.Crests.{crest, LeadsOut}
 use Rattle.border_graph.proofs.Surge.{way_up}
 use Rattle.border_graph.specs.declared.frontier.Entry.{Entry}
-use Rattle.border_graph.specs.Bottleneck.{IsEnd, IsExpanded}
+use Rattle.border_graph.specs.declared.bottleneck.Settled.{Settled}
+use Rattle.border_graph.specs.Bottleneck.{IsEnd, IsExpanded, IsSettledBy, HasLevel}
 use Rattle.border_graph.proofs.Crested.{below_crest, least_crest}
 use Rattle.border_graph.proofs.Left.{fewer_left}
 use Rattle.border_graph.proofs.Next.{taken_now, taken_still, taken_other}
-use Rattle.border_graph.proofs.Rise.{IsTwoWay, two_way, alike, rising_first, no_way, reached_below, ended, risen}
+use Rattle.border_graph.proofs.Rise.{IsTwoWay, two_way, alike, alike_at, settled_by, rising_first, no_way, reached_below, ended, risen}
 use Rattle.border_graph.proofs.bottleneck.lowest_pass.Goals as goal
 
 none : {X : Type 0} (x : X) → Contains [] x → ⊥
@@ -31,7 +32,7 @@ rise-init g c = record {
   keeps = g.met.G.EdgeSource.keeps_itself c.args.graph.now c.args.source.now;
   told = λ n summaries fits t told. inl told;
   none = c.requires.empty;
-  settled = λ n summaries fits entry has. absurd (none entry (subst (λ (l : List Entry). Contains l entry) c.new-settled.ensures.items has));
+  settled = λ n summaries fits one has. absurd (none one (subst (λ (l : List Settled). Contains l one) c.new-settled.ensures.items has));
   rising = λ n summaries fits. rising_first (IsPlacedLink n summaries) c.args.start (λ x y level. g.met.G.EdgeSource.levels_fit c.args.graph.now n summaries x y level fits) c.requires.start c.new-visited.result c.new-visited.ensures c.push.new.self (record { crest = void; level = void; node = c.args.start })
       (subst (λ old. IsAdded old c.push.new.self (record { crest = void; level = void; node = c.args.start })) c.new-frontier.ensures c.in_ok-push.ensures) refl refl;
 }
@@ -55,17 +56,24 @@ pub returns-in-Some-2-clause-alike : goal.returns-in-Some-2-clause-alike
 returns-in-Some-2-clause-alike g c n summaries fits x has =
     let before = c.in_ok-level.ensures.fits n summaries fits in
     let two = two_way n summaries (λ x y level some link. g.met.G.EdgeSource.links_turn c.expand.new.graph n summaries x y level fits some link) in
-    by (IsPlacedLink n summaries) two (to_z w16 (of_z w16 c.in-Some-2.level)) (returns-in-Some-2-clause-joined g c n summaries fits) (λ entry held. c.rise.invariant.settled n summaries before entry (subst (λ (l : List Entry). Contains l entry) c.deref.ensures.value held))
-    (c.in_ok-list_below.ensures x has)
+    by (IsPlacedLink n summaries) two (to_z w16 (of_z w16 c.in-Some-2.level)) (returns-in-Some-2-clause-joined g c n summaries fits) (λ one held. c.rise.invariant.settled n summaries before one (subst (λ (l : List Settled). Contains l one) c.deref.ensures.value held))
+    (c.in_ok-list_alike.ensures x has)
   where
-    by : (L : ℕ → ℕ → ℤ → Type 0) → IsTwoWay L → (level : ℤ) → IsJoinedLevel L 0 c.args.start level → ((entry : Entry) → Contains c.deref.result.now entry → (0 < entry.node) × IsReachedBelow L c.args.start entry.crest entry.node)
-        → Contains c.rise.alike.items x ⊎ ((entry : Entry) × (Contains c.deref.result.now entry × ((entry.node ≡ x) × (int_lt entry.crest level ≡ true)))) → (0 < x) × IsJoinedLevel L 0 x level
+    by : (L : ℕ → ℕ → ℤ → Type 0) → IsTwoWay L → (level : ℤ) → IsJoinedLevel L 0 c.args.start level
+        → ((one : Settled) → Contains c.deref.result.now one → (0 < one.node) × (IsReachedBelow L c.args.start one.crest one.node × (IsTrue one.has_no_lower → (y : ℕ) (l : ℤ) → L one.node y l → one.crest ≤ℤ l)))
+        → Contains c.rise.alike.items x ⊎ ((one : Settled) × (Contains c.deref.result.now one × ((one.node ≡ x) × HasLevel one level))) → (0 < x) × IsJoinedLevel L 0 x level
     by L two level joined settled (inl early) = absurd (none x (subst (λ (l : List ℕ). Contains l x) c.rise.invariant.none early))
     by L two level joined settled (inr found) =
-        let entry = found.0 in
-        let reached = settled entry found.1.0 in
-        subst (λ y. (0 < y) × IsJoinedLevel L 0 y level) found.1.1.0
-        (reached.0, alike L two c.args.start entry.node entry.crest level joined reached.0 reached.1 found.1.1.1)
+        let one = found.0 in
+        let reached = settled one found.1.0 in
+        subst (λ y. (0 < y) × IsJoinedLevel L 0 y level) found.1.1.0 (
+          reached.0,
+          elim found.1.1.1 [
+            | inl below ↦ alike L two c.args.start one.node one.crest level joined reached.0 reached.1.0 below
+            | inr at ↦ alike_at L two c.args.start one.node level joined reached.0 (subst (λ v. IsReachedBelow L c.args.start v one.node) at.0 reached.1.0)
+                (λ y l link. subst (λ v. v ≤ℤ l) at.0 (reached.1.1 at.1 y l link))
+          ],
+        )
 
 pub returns-in-Some-2-clause-told : goal.returns-in-Some-2-clause-told
 returns-in-Some-2-clause-told g c n summaries fits t told =
@@ -108,13 +116,16 @@ rise-preserved g c =
         ]
       ];
       none = c.rise.invariant.none;
-      settled = λ n summaries fits entry has.
+      settled = λ n summaries fits one has.
           let before = c.in_ok-level.ensures.fits n summaries fits in
           let followed = subst (λ found. IfNone found (IsExpanded (IsPlacedLink n summaries) c.pop_unvisited.new.visited c.pop_unvisited.new.frontier c.expand.new.frontier c.in-Some.entry)) c.in_default-2.is (c.in_ok-level.ensures.followed n summaries fits) in
-          elim (Contains-push_cases c.rise.settled.items c.in-Some.entry entry (subst (λ (l : List Entry). Contains l entry) c.in_ok-settle.ensures has)) [
-            | inl earlier ↦ c.rise.invariant.settled n summaries before entry earlier
-            | inr last ↦ subst (λ (s : Entry). (0 < s.node) × IsReachedBelow (IsPlacedLink n summaries) c.args.start s.crest s.node) last
-                (followed.inner, (c.rise.invariant.rising n summaries before).ways c.in-Some.entry next.waited)
+          let listed = subst (λ found. IfNone found (AreEdges (IsPlacedLink n summaries) c.in-Some.entry.node c.expand.new.edges.items)) c.in_default-2.is (c.in_ok-level.ensures.listed n summaries fits) in
+          let last = c.in_ok-settle.ensures.1.1 in
+          elim (Contains-push_cases c.rise.settled.items c.in_ok-settle.ensures.0 one (subst (λ (l : List Settled). Contains l one) c.in_ok-settle.ensures.1.0 has)) [
+            | inl earlier ↦ c.rise.invariant.settled n summaries before one earlier
+            | inr here ↦ subst (λ (s : Settled). (0 < s.node) × (IsReachedBelow (IsPlacedLink n summaries) c.args.start s.crest s.node × (IsTrue s.has_no_lower → (y : ℕ) (level : ℤ) → IsPlacedLink n summaries s.node y level → s.crest ≤ℤ level))) here
+                (settled_by (IsPlacedLink n summaries) c.args.start c.in-Some.entry c.expand.new.edges.items c.in_ok-settle.ensures.0 listed
+                (subst (λ (l : List Edge). IsSettledBy c.in-Some.entry l c.in_ok-settle.ensures.0) c.deref-in-Some.ensures.value last) followed.inner ((c.rise.invariant.rising n summaries before).ways c.in-Some.entry next.waited))
           ];
       rising = λ n summaries fits.
           let before = c.in_ok-level.ensures.fits n summaries fits in
@@ -128,8 +139,8 @@ returns-in_err-level-clause-refusal g c =
     rw p.1 (subst (g.G.EdgeSource.refuses c.args.graph.now c.args.source.now c.expand.new.graph c.expand.new.source) (sym p.2)
     (g.met.G.EdgeSource.refuses_on c.args.graph.now c.rise.graph c.expand.new.graph c.args.source.now c.rise.source c.expand.new.source c.in_err-level.field-0.0 c.rise.invariant.keeps c.in_err-level.ensures.refusal))
 
-pub returns-in_err-list_below-clause-refusal : goal.returns-in_err-list_below-clause-refusal
-returns-in_err-list_below-clause-refusal g c =
+pub returns-in_err-list_alike-clause-refusal : goal.returns-in_err-list_alike-clause-refusal
+returns-in_err-list_alike-clause-refusal g c =
     let keeps = g.met.G.EdgeSource.keeps_on c.args.graph.now c.rise.graph c.expand.new.graph c.args.source.now c.rise.source c.expand.new.source c.rise.invariant.keeps c.in_ok-level.ensures.keeps in
     let out = g.met.G.EdgeSource.runs_out c.args.graph.now c.expand.new.graph c.args.source.now c.expand.new.source keeps in
     search rules
