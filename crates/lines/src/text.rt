@@ -150,6 +150,17 @@ impl Text {
         Ok(Text::lines(text))
     }
 
+    /// The text's bytes in two parts, of which the second is empty but for the bytes of a tile: its head comes first.
+    pub fn parts(&self) -> (&[u8], &[u8])
+        ensures { result.0.now ++ result.1.now ≡ self.now }
+    {
+        match &self.held {
+            Held::Short(line) => (line.as_slice(), &[]),
+            Held::Long(text) => (text.as_slice(), &[]),
+            Held::Tile(head, bytes) => (head.as_slice(), bytes.as_slice()),
+        }
+    }
+
     fn line(line: ArrayVec<u8, LONGEST_LINE>) -> Text
         ensures { result ≡ line.items }
     {

@@ -134,6 +134,47 @@ fn seams_of_a_file(rt: HostRuntime) -> Result<(), Fail> {
     Ok(())
 }
 
+/// Each word works on the files at its own paths, and on no others.
+#[test]
+fn files_at_their_paths(rt: HostRuntime) -> Result<(), Fail> {
+    let first = cleared(&rt, "server_test_first");
+    let second = cleared(&rt, "server_test_second");
+    let (west, east) = ("N00E000.first.hgt", "N00E000.second.hgt");
+    fs::write(&rt, west, tile(b'G'))?;
+    fs::write(&rt, east, tile(b'H'))?;
+    let empty = b"count 0 commits 1\nseams 0\n";
+    let all = [
+        ends(&rt, &["format", first, "3", "1"], b"", 0, b"OK 0\n"),
+        fs::metadata(&rt, second).is_err(),
+        ends(&rt, &["format", second, "3", "1"], b"", 0, b"OK 0\n"),
+        ends(&rt, &["import", first, west], b"", 0, b"OK 1\n"),
+        ends(&rt, &["check", second], b"", 0, empty),
+        ends(&rt, &["import", second, east], b"", 0, b"OK 1\n"),
+    ];
+    assert_all(&rt, &all, "two stores are made");
+    let lines = b"export N00E000\nremove N00E000\n";
+    let replies = written(rt.alloc(), b"OK 18\n$HOK 2\n")?;
+    let kept = b"count 1 commits 2\nN00E000 stale\nseams 0\n";
+    let all = [
+        ends(&rt, &["serve", second], lines, 0, &replies),
+        ends(&rt, &["check", first], b"", 0, kept),
+        ends(
+            &rt,
+            &["check", second],
+            b"",
+            0,
+            b"count 2 commits 3\nseams 0\n",
+        ),
+    ];
+    assert_all(&rt, &all, "files at their paths");
+    let replies = written(rt.alloc(), b"OK 18\n$G")?;
+    assert!(rt; ends(&rt, &["serve", first], b"export N00E000\n", 0, &replies));
+    for path in [first, second, west, east] {
+        fs::remove_file(&rt, path)?;
+    }
+    Ok(())
+}
+
 #[test]
 fn a_path_with_no_file(rt: HostRuntime) -> Result<(), Fail> {
     let m = cleared(&rt, "server_test_none");

@@ -1,12 +1,11 @@
 -- What the program writes at its end, and its exit status (this product's own profile).
-use Rattle.std.specs.Prelude.{◌≡◌, ◌⊎◌, ℕ, List, [], false, true, codes, decimal, Option, Result, Ok, Err}
-use Rattle.std.specs.Io.KnownBytes.{Appends}
+use Rattle.std.specs.Prelude.{◌≡◌, ◌⊎◌, ℕ, List, [], codes, decimal, Result, Ok, Err}
 use Rattle.lattice.specs.declared.refusal.Refusal.{Refusal}
 use Rattle.lattice.specs.declared.refusal.Refusal.TheVariants.{NoMemory}
 use Rattle.lines.specs.Replies.{line_of, ok_line, refusal_text}
 use Rattle.serving.specs.declared.session.ServeFault.{ServeFault}
 use Rattle.serving.specs.declared.session.ServeFault.TheVariants.{Input, Output}
-use Rattle.serving.specs.Outputs.{Begins, Puts, Stream}
+use Rattle.serving.specs.Outputs.{HasFailed, Leaves, Puts, Stream}
 
 abbrev pub bad_words : List ℕ
 bad_words = line_of (codes "mosaic: bad arguments")
@@ -16,31 +15,32 @@ fault_line Input = line_of (codes "mosaic: input fault")
 fault_line Output = line_of (codes "mosaic: output fault")
 
 -- a line of the program's own, or want of memory for it
-abbrev pub Tells : List ℕ → Option (List ℕ) → Stream → ℕ → Type 0
+abbrev pub Tells : List ℕ → Stream → Stream → ℕ → Type 0
 Tells words written new status = (Puts written new (line_of words) ⊎ Puts written new (refusal_text NoMemory)) × (status ≡ 1)
 
 -- the refusal's line
-abbrev pub TellsRefusal : Refusal → Option (List ℕ) → Stream → ℕ → Type 0
+abbrev pub TellsRefusal : Refusal → Stream → Stream → ℕ → Type 0
 TellsRefusal r written new status = Puts written new (refusal_text r) × (status ≡ 1)
 
--- A reply was written whole and no call of the output has failed; or one has, and the line that tells of it was tried.
-abbrev pub EndsReplying : List ℕ → Option (List ℕ) → Stream → ℕ → Type 0
+-- A reply was written whole, all has left, and no call of the output has failed; or one has, and the line that tells of it
+-- was tried.
+abbrev pub EndsReplying : List ℕ → Stream → Stream → ℕ → Type 0
 EndsReplying text written new status =
-    (Appends written new.contents text × (new.failed ≡ false) × (status ≡ 0))
-    ⊎ ((mid : Option (List ℕ)) × Begins written mid text × Begins mid new.contents (fault_line Output) × (new.failed ≡ true) × (status ≡ 1))
+    (Leaves written new text × (new.failures ≡ 0) × (status ≡ 0))
+    ⊎ ((mid : Stream) × Puts written mid text × HasFailed mid × Puts mid new (fault_line Output) × (status ≡ 1))
 
 -- A session is over: all that was written has left, or a line tells which stream failed. The output is told so only where
 -- a write or a flush of it has failed.
-abbrev pub EndsSession : Result (Unit {0}) ServeFault → Option (List ℕ) → Stream → ℕ → Type 0
+abbrev pub EndsSession : Result (Unit {0}) ServeFault → Stream → Stream → ℕ → Type 0
 EndsSession (Ok done) written new status = EndsReplying [] written new status
 EndsSession (Err Input) written new status = Puts written new (fault_line Input) × (status ≡ 1)
-EndsSession (Err Output) written new status = Puts written new (fault_line Output) × (new.failed ≡ true) × (status ≡ 1)
+EndsSession (Err Output) written new status = HasFailed written × Puts written new (fault_line Output) × (status ≡ 1)
 
 -- a number of commands is told
 abbrev pub count_line : ℕ → List ℕ
 count_line k = ok_line (decimal k)
 
 -- a call's answer is told: its text, or its refusal
-abbrev pub EndsAnswering : {T : Type 0} → (T → List ℕ) → Result T Refusal → Option (List ℕ) → Stream → ℕ → Type 0
+abbrev pub EndsAnswering : {T : Type 0} → (T → List ℕ) → Result T Refusal → Stream → Stream → ℕ → Type 0
 EndsAnswering text (Ok value) written new status = EndsReplying (text value) written new status
 EndsAnswering text (Err r) written new status = TellsRefusal r written new status

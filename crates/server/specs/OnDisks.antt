@@ -1,6 +1,6 @@
 -- What a subcommand does on the disk of a store: what it finds there, what it does, and what a stop (a power cut) at any
 -- moment leaves (this product's own profile).
-use Rattle.std.specs.Prelude.{◌≡◌, ◌⊎◌, ◌≤◌, ◌+◌, ◌*◌, ℕ, nat_le, false, List, [], ◌∷◌, map, codes, ◌++◌, take, Option, Some, None, IfSome, IsSome, Result, Ok, Err, IsErrOf, OnOk, IfOk, IfErr}
+use Rattle.std.specs.Prelude.{◌≡◌, ◌⊎◌, ◌≤◌, ◌+◌, ◌*◌, ℕ, nat_le, false, List, [], ◌∷◌, map, codes, ◌++◌, Option, Result, Ok, Err, IsErrOf, OnOk, IfOk, IfErr}
 use Rattle.disk.specs.Disk.{Image, HasRisen}
 use Rattle.disk.specs.Stops.{AddsNothing}
 use Rattle.disk.specs.declared.disk.Disk.{Ghosts}
@@ -29,19 +29,16 @@ use Rattle.store.specs.Stores.{disk_of, side_of, has_failed}
 use Rattle.store.specs.declared.store.Store.{Store}
 use Rattle.server.specs.Endings.{EndsAnswering, EndsSession, Tells, TellsRefusal, count_line}
 use Rattle.serving.specs.Outputs.{Stream}
-use Rattle.server.specs.Places.{HasGrown, HasNotGrown}
+use Rattle.server.specs.Places.{Access, Reads, HasGrown, HasNotGrown}
+use Rattle.server.specs.declared.places.TileFault.{TileFault}
+use Rattle.server.specs.declared.places.TileFault.TheVariants as fault
 use Rattle.server.specs.Sizes.{IsTaken, IsRefusedOn}
 use Rattle.server.specs.Report.{IsReportText, Reports}
 use Rattle.server.specs.Sessions.{TellsCall}
 
--- the bytes that a reader has, if there is one and they are known
-abbrev pub given_by : {R : Type 0} → (R → Option (List ℕ)) → Option R → Option (List ℕ)
-given_by remaining None = None
-given_by remaining (Some reader) = remaining reader
-
--- what is taken of a tile's file: as much as a tile has, and one byte more where there are more
-abbrev pub IsTileRead : (side : ℕ) → (given : Option (List ℕ)) → List ℕ → Type 0
-IsTileRead side given bytes = IfSome given (λ all. bytes ≡ take (2 * (side * side) + 1) all)
+-- how much is taken of a tile's file: as much as a tile has, and one byte more where there are more
+abbrev pub most_bytes : (side : ℕ) → ℕ
+most_bytes side = 2 * (side * side) + 1
 
 -- whether it was done, without the count of commands
 abbrev pub done_of : Result ℕ Refusal → Result (Unit {0}) Refusal
@@ -72,7 +69,7 @@ module _ {D : Type 0} (g : Ghosts D) where
     pub sure : g.honest new → (side capacity : ℕ) (a b : Contents) → HoldsEither old side capacity a b → (r ≡ Device) ⊎ (r ≡ NoMemory)
 
   -- nothing was done but to tell why
-  abbrev pub TellsClosed : D → D → Option (List ℕ) → Stream → ℕ → Type 0
+  abbrev pub TellsClosed : D → D → Stream → Stream → ℕ → Type 0
   TellsClosed old new written now status = (r : Refusal) × IsClosed old new r × TellsRefusal r written now status
 
   -- The store was found at one of the two contents and went from there through these states, of which the last is what
@@ -122,10 +119,10 @@ module _ {D : Type 0} (g : Ghosts D) where
         → IsSession old new (map (λ (s : Store D g). g.moment (disk_of s)) (store ∷ stores)) n capacity before after written now result a b
 
   -- lines are served on the disk's store, where there is one
-  abbrev pub ServesLines : D → D → (before after written : Option (List ℕ)) → Stream → ℕ → Type 0
+  abbrev pub ServesLines : D → D → (before after : Option (List ℕ)) → Stream → Stream → ℕ → Type 0
   ServesLines old new before after written now status =
       ((after ≡ before) × TellsClosed old new written now status)
-      ⊎ ((result : Result (Unit {0}) ServeFault) × (mid : Option (List ℕ)) × HasServed old new before after written mid result × EndsSession result mid now status)
+      ⊎ ((result : Result (Unit {0}) ServeFault) × (mid : Stream) × HasServed old new before after written.contents mid.contents result × EndsSession result mid now status)
 
   -- ---- one command
 
@@ -142,14 +139,19 @@ module _ {D : Type 0} (g : Ghosts D) where
     pub honest : g.honest new → g.honest old
     pub applied : g.honest new → (side capacity : ℕ) (a b : Contents) → HoldsEither old side capacity a b → IsApplied old new side capacity command result a b
 
-  -- the tile is imported, where there is a store and the tile's file can be read
-  abbrev pub ImportsTile : {R : Type 0} → (R → Option (List ℕ)) → Corner → (tile : List ℕ) → Option R → D → D → Option (List ℕ) → Stream → ℕ → Type 0
-  ImportsTile remaining corner tile reader old new written now status =
-      TellsClosed old new written now status
-      ⊎ (WasRead old new × Tells (codes "mosaic: cannot read " ++ tile) written now status)
-      ⊎ (IsSome reader × WasRead old new × TellsRefusal NoMemory written now status)
-      ⊎ (IsSome reader × (store : Store D g) × (bytes : List ℕ) × (result : Result ℕ Refusal) × WasRead old (disk_of store) × IsOpening g old (Ok store)
-      × IsTileRead (side_of store) (given_by remaining reader) bytes × HasApplied old new (Import corner bytes) result × EndsAnswering count_line result written now status)
+  -- what was given of the tile's file is imported, or why nothing was given is told
+  abbrev pub EndsImport : Corner → (tile : List ℕ) → Result (List ℕ) TileFault → D → D → Stream → Stream → ℕ → Type 0
+  EndsImport corner tile (Ok bytes) old new written now status =
+      (result : Result ℕ Refusal) × HasApplied old new (Import corner bytes) result × EndsAnswering count_line result written now status
+  EndsImport corner tile (Err fault.Unreadable) old new written now status = WasRead old new × Tells (codes "mosaic: cannot read " ++ tile) written now status
+  EndsImport corner tile (Err fault.NoMemory) old new written now status = WasRead old new × TellsRefusal NoMemory written now status
+
+  -- where there is a store, the tile's file is asked for, and what was given of it is imported
+  abbrev pub ImportsTile : Corner → (tile : List ℕ) → List (Access D) → D → D → Stream → Stream → ℕ → Type 0
+  ImportsTile corner tile accesses old new written now status =
+      ((accesses ≡ []) × TellsClosed old new written now status)
+      ⊎ ((store : Store D g) × (given : Result (List ℕ) TileFault) × (accesses ≡ Reads tile (most_bytes (side_of store)) given ∷ [])
+      × WasRead old (disk_of store) × IsOpening g old (Ok store) × EndsImport corner tile given old new written now status)
 
   -- ---- an upgrade
 
@@ -173,20 +175,20 @@ module _ {D : Type 0} (g : Ghosts D) where
     pub upgraded : g.honest new → (side capacity : ℕ) (a b : Contents) → HoldsEither old side capacity a b → IsUpgraded old new side capacity result a b
 
   -- the store is upgraded, where there is one
-  abbrev pub UpgradesStore : D → D → Option (List ℕ) → Stream → ℕ → Type 0
+  abbrev pub UpgradesStore : D → D → Stream → Stream → ℕ → Type 0
   UpgradesStore old new written now status =
       TellsClosed old new written now status
       ⊎ ((result : Result ℕ Refusal) × HasUpgraded old new result × EndsAnswering count_line result written now status)
 
   -- the disk is made as long as so many sectors, and the store on it is upgraded; or a call that was to make it longer
   -- failed
-  abbrev pub RunsGrown : (sectors : ℕ) → (measured left : D) → Option (List ℕ) → Stream → ℕ → Type 0
+  abbrev pub RunsGrown : (sectors : ℕ) → (measured left : D) → Stream → Stream → ℕ → Type 0
   RunsGrown sectors measured left written now status =
       (HasNotGrown g measured left × TellsRefusal Device written now status)
       ⊎ ((longer : D) × HasGrown g sectors measured longer × UpgradesStore longer left written now status)
 
   -- the store on the disk tells how many sectors are asked; the disk is one throughout
-  abbrev pub GrowsAndUpgrades : D → D → Option (List ℕ) → Stream → ℕ → Type 0
+  abbrev pub GrowsAndUpgrades : D → D → Stream → Stream → ℕ → Type 0
   GrowsAndUpgrades old left written now status =
       TellsClosed old left written now status
       ⊎ ((sectors : ℕ) × (measured : D) × HasMeasured old measured sectors × RunsGrown sectors measured left written now status)
@@ -205,7 +207,7 @@ module _ {D : Type 0} (g : Ghosts D) where
     pub sure : IsTaken side capacity → sectors_asked (format_2 side capacity) ≤ g.size old → IfErr result (λ r. r ≡ Device)
 
   -- the disk is made a store without tiles
-  abbrev pub MakesStore : (side capacity : ℕ) → D → D → Option (List ℕ) → Stream → ℕ → Type 0
+  abbrev pub MakesStore : (side capacity : ℕ) → D → D → Stream → Stream → ℕ → Type 0
   MakesStore side capacity old new written now status =
       (result : Result (Unit {0}) Refusal) × HasFormatted old new side capacity result × EndsAnswering (λ _. count_line 0) result written now status
 
@@ -217,7 +219,7 @@ module _ {D : Type 0} (g : Ghosts D) where
         → (first : Contents) × (((first ≡ a) ⊎ (first ≡ b)) × ((left : State) × Reports (working first) result left))
 
   -- the store is reported on, where there is one
-  abbrev pub ChecksStore : D → D → Option (List ℕ) → Stream → ℕ → Type 0
+  abbrev pub ChecksStore : D → D → Stream → Stream → ℕ → Type 0
   ChecksStore old new written now status =
       TellsClosed old new written now status
       ⊎ ((result : Result (List ℕ) Refusal) × HasReported old new result × EndsAnswering (λ text. text) result written now status)

@@ -1,25 +1,32 @@
 -- What is asked of places, and what they give (this product's own profile).
-use Rattle.std.specs.Prelude.{◌≡◌, ℕ, max, List, [], ◌∷◌, Option, Result}
+use Rattle.std.specs.Prelude.{◌≡◌, ℕ, max, List, [], ◌∷◌, Option, Result, Ok, Err, Vec}
 use Rattle.disk.specs.Disk.{counted}
 use Rattle.disk.specs.Stops.{AddsNothing}
 use Rattle.disk.specs.declared.disk.Disk.{Ghosts}
 use Rattle.server.specs.declared.places.MakeFault.{MakeFault}
+use Rattle.server.specs.declared.places.TileFault.{TileFault}
 
--- One access, with what it gave: a path was asked for a new file of so many sectors, for a store's file, or for a tile's.
-pub data Access (D T : Type 0) : Type 0 where
-  Makes : (path : List ℕ) → (sectors : ℕ) → Result D MakeFault → Access D T
-  Opens : (path : List ℕ) → Option D → Access D T
-  Reads : (path : List ℕ) → Option T → Access D T
+-- One access, with what it gave: a path was asked for a new file of so many sectors, for a store's file, or for so many
+-- bytes of a tile's at most.
+pub data Access (D : Type 0) : Type 0 where
+  Makes : (path : List ℕ) → (sectors : ℕ) → Result D MakeFault → Access D
+  Opens : (path : List ℕ) → Option D → Access D
+  Reads : (path : List ℕ) → (most : ℕ) → Result (List ℕ) TileFault → Access D
 
-module _ {P D T : Type 0} (accessed : P → Access D T → P → Type 0) where
+-- what was given of a tile's file
+abbrev pub given_of : {A : Type 0} → Result (Vec ℕ A) TileFault → Result (List ℕ) TileFault
+given_of (Ok bytes) = Ok bytes.items
+given_of (Err fault) = Err fault
+
+module _ {P D : Type 0} (accessed : P → Access D → P → Type 0) where
   -- these accesses were made in this order, and no others
-  abbrev pub Accesses : P → List (Access D T) → P → Type 0
+  abbrev pub Accesses : P → List (Access D) → P → Type 0
   Accesses old [] new = new ≡ old
   Accesses old (access ∷ more) new = (mid : P) × accessed old access mid × Accesses mid more new
 
   -- these were made, whichever they are, and with them this was done
-  abbrev pub Accessing : P → P → (List (Access D T) → Type 0) → Type 0
-  Accessing old new Does = (accesses : List (Access D T)) × Accesses old accesses new × Does accesses
+  abbrev pub Accessing : P → P → (List (Access D) → Type 0) → Type 0
+  Accessing old new Does = (accesses : List (Access D)) × Accesses old accesses new × Does accesses
 
 module _ {D : Type 0} (g : Ghosts D) where
   -- a disk was made as long as was wanted, where it was shorter, and holds what it held

@@ -1,7 +1,6 @@
 -- What the program does with its words: which files it asks for, what it does on a store's, what it writes, and its exit
 -- status (this product's own profile).
 use Rattle.std.specs.Prelude.{◌≡◌, ◌⊎◌, ◌<◌, ◌≤◌, ℕ, List, [], ◌∷◌, ◌++◌, codes, All, Option, Some, None, Result, Ok, Err}
-use Rattle.std.specs.declared.fs.File.{File}
 use Rattle.std.specs.declared.marker.Brand.{Brand}
 use Rattle.disk.specs.Disk.{Image}
 use Rattle.disk.specs.FileWorlds.{giving}
@@ -25,7 +24,7 @@ use Rattle.server.specs.Endings.{EndsSession, Tells, TellsRefusal, bad_words}
 use Rattle.server.specs.Files.{GivesUntouched}
 use Rattle.server.specs.OnDisks.{ServesLines, ImportsTile, MakesStore, ChecksStore, GrowsAndUpgrades}
 use Rattle.serving.specs.Outputs.{Puts, Stream}
-use Rattle.server.specs.Places.{Access, Makes, Opens, Reads}
+use Rattle.server.specs.Places.{Access, Makes, Opens}
 use Rattle.server.specs.Sizes.{IsTaken, IsRefusedFor}
 use Rattle.server.specs.declared.arguments.Arguments.{Arguments}
 use Rattle.server.specs.declared.arguments.Arguments.TheVariants.{Format, Import, Serve, Table, Check, Upgrade}
@@ -35,13 +34,13 @@ use Rattle.server.specs.declared.places.MakeFault.TheVariants.{Exists, Closed}
 -- ---- on an empty table
 
 -- an empty table of this side is served: all was served and has left, or a stream failed and a line tells which
-abbrev pub EndsServing : (side capacity : ℕ) → (before after written : Option (List ℕ)) → Stream → ℕ → Type 0
+abbrev pub EndsServing : (side capacity : ℕ) → (before after : Option (List ℕ)) → Stream → Stream → ℕ → Type 0
 EndsServing side capacity before after written new status =
-    (states : List State) × (mid : Option (List ℕ)) × (result : Result (Unit {0}) ServeFault)
-    × Outcome (Replied (Happens capacity) side_in) before after written mid (working (fresh side)) states result × EndsSession result mid new status
+    (states : List State) × (mid : Stream) × (result : Result (Unit {0}) ServeFault)
+    × Outcome (Replied (Happens capacity) side_in) before after written.contents mid.contents (working (fresh side)) states result × EndsSession result mid new status
 
 -- the side is tested first, then the capacity
-abbrev pub RunsTable : (side capacity : ℕ) → (before after written : Option (List ℕ)) → Stream → ℕ → Type 0
+abbrev pub RunsTable : (side capacity : ℕ) → (before after : Option (List ℕ)) → Stream → Stream → ℕ → Type 0
 RunsTable side capacity before after written new status =
     (((side < 3) ⊎ (largest_side < side)) × (after ≡ before) × TellsRefusal BadSide written new status)
     ⊎ ((3 ≤ side) × (side ≤ largest_side) × ((capacity < 1) ⊎ (most_tiles < capacity)) × (after ≡ before) × TellsRefusal BadCapacity written new status)
@@ -50,57 +49,55 @@ RunsTable side capacity before after written new status =
 -- ---- on files: those that were asked for are listed in their order, each with what was given
 
 -- why there is no file of a store at the path
-abbrev pub TellsFault : (path : List ℕ) → MakeFault → Option (List ℕ) → Stream → ℕ → Type 0
+abbrev pub TellsFault : (path : List ℕ) → MakeFault → Stream → Stream → ℕ → Type 0
 TellsFault path Exists written new status = Tells (codes "mosaic: exists " ++ path) written new status
 TellsFault path Closed written new status = Tells (codes "mosaic: cannot open " ++ path) written new status
 
--- a disk, by its ghosts, and a tile's file, by the bytes that it has left
-module _ {D T : Type 0} (g : Ghosts D) (remaining : T → Option (List ℕ)) where
+module _ {D : Type 0} (g : Ghosts D) where
   -- where a file was made, it is made a store, and its disk is the one that is handed back
-  abbrev pub EndsMaking : (path : List ℕ) → (side capacity : ℕ) → Result D MakeFault → Option (List ℕ) → Stream → Option D → ℕ → Type 0
+  abbrev pub EndsMaking : (path : List ℕ) → (side capacity : ℕ) → Result D MakeFault → Stream → Stream → Option D → ℕ → Type 0
   EndsMaking path side capacity (Ok old) written new disk status =
       (left : D) × (disk ≡ Some left) × (g.size old ≡ sectors_asked (format_2 side capacity)) × MakesStore g side capacity old left written new status
   EndsMaking path side capacity (Err fault) written new disk status = (disk ≡ None) × TellsFault path fault written new status
 
   -- a file of the least size is made, or why it isn't is told
-  abbrev pub RunsFormat : (path : List ℕ) → (side capacity : ℕ) → List (Access D T) → Option (List ℕ) → Stream → Option D → ℕ → Type 0
+  abbrev pub RunsFormat : (path : List ℕ) → (side capacity : ℕ) → List (Access D) → Stream → Stream → Option D → ℕ → Type 0
   RunsFormat path side capacity accesses written new disk status =
       ((refusal : Refusal) × (accesses ≡ []) × (disk ≡ None) × IsRefusedFor side capacity refusal × TellsRefusal refusal written new status)
       ⊎ ((given : Result D MakeFault) × (accesses ≡ Makes path (sectors_asked (format_2 side capacity)) given ∷ []) × IsTaken side capacity × EndsMaking path side capacity given written new disk status)
 
   -- the store's file can't be opened, which a line tells
-  abbrev pub TellsNone : (path : List ℕ) → List (Access D T) → Option (List ℕ) → Stream → Option D → ℕ → Type 0
+  abbrev pub TellsNone : (path : List ℕ) → List (Access D) → Stream → Stream → Option D → ℕ → Type 0
   TellsNone path accesses written new disk status = (accesses ≡ Opens path None ∷ []) × (disk ≡ None) × TellsFault path Closed written new status
 
   -- the store's file was opened, and this was done on its disk, which is the one that is handed back
-  abbrev pub OnStore : (path : List ℕ) → List (Access D T) → Option D → (D → D → Type 0) → Type 0
+  abbrev pub OnStore : (path : List ℕ) → List (Access D) → Option D → (D → D → Type 0) → Type 0
   OnStore path accesses disk Did = (old left : D) × (accesses ≡ Opens path (Some old) ∷ []) × (disk ≡ Some left) × Did old left
 
-  -- the name of the tile's file is tested first; then the store's file is opened, then the tile's
-  abbrev pub RunsImport : (path tile : List ℕ) → List (Access D T) → Option (List ℕ) → Stream → Option D → ℕ → Type 0
+  -- the name of the tile's file is tested first; then the store's file is opened, and the store in it; then the tile's is read
+  abbrev pub RunsImport : (path tile : List ℕ) → List (Access D) → Stream → Stream → Option D → ℕ → Type 0
   RunsImport path tile accesses written new disk status =
       ((accesses ≡ []) × (disk ≡ None) × ((c : Corner) → ¬ IsFileName tile c) × TellsRefusal BadName written new status)
       ⊎ ((c : Corner) × IsFileName tile c × (
       TellsNone path accesses written new disk status
-      ⊎ ((old left : D) × (reader : Option T) × (accesses ≡ Opens path (Some old) ∷ Reads tile reader ∷ []) × (disk ≡ Some left)
-      × ImportsTile g remaining c tile reader old left written new status)))
+      ⊎ ((old left : D) × (more : List (Access D)) × (accesses ≡ Opens path (Some old) ∷ more) × (disk ≡ Some left) × ImportsTile g c tile more old left written new status)))
 
-  abbrev pub RunsServe : (path : List ℕ) → List (Access D T) → (before after written : Option (List ℕ)) → Stream → Option D → ℕ → Type 0
+  abbrev pub RunsServe : (path : List ℕ) → List (Access D) → (before after : Option (List ℕ)) → Stream → Stream → Option D → ℕ → Type 0
   RunsServe path accesses before after written new disk status =
       ((after ≡ before) × TellsNone path accesses written new disk status)
       ⊎ OnStore path accesses disk (λ old left. ServesLines g old left before after written new status)
 
-  abbrev pub RunsCheck : (path : List ℕ) → List (Access D T) → Option (List ℕ) → Stream → Option D → ℕ → Type 0
+  abbrev pub RunsCheck : (path : List ℕ) → List (Access D) → Stream → Stream → Option D → ℕ → Type 0
   RunsCheck path accesses written new disk status =
       TellsNone path accesses written new disk status ⊎ OnStore path accesses disk (λ old left. ChecksStore g old left written new status)
 
-  abbrev pub RunsUpgrade : (path : List ℕ) → List (Access D T) → Option (List ℕ) → Stream → Option D → ℕ → Type 0
+  abbrev pub RunsUpgrade : (path : List ℕ) → List (Access D) → Stream → Stream → Option D → ℕ → Type 0
   RunsUpgrade path accesses written new disk status =
       TellsNone path accesses written new disk status ⊎ OnStore path accesses disk (λ old left. GrowsAndUpgrades g old left written new status)
 
   -- ---- by its words
 
-  abbrev pub RunsAs : Arguments → List (Access D T) → (before after written : Option (List ℕ)) → Stream → Option D → ℕ → Type 0
+  abbrev pub RunsAs : Arguments → List (Access D) → (before after : Option (List ℕ)) → Stream → Stream → Option D → ℕ → Type 0
   RunsAs (Format path side capacity) accesses before after written new disk status = (after ≡ before) × RunsFormat path.now side capacity accesses written new disk status
   RunsAs (Import path tile) accesses before after written new disk status = (after ≡ before) × RunsImport path.now tile.now accesses written new disk status
   RunsAs (Serve path) accesses before after written new disk status = RunsServe path.now accesses before after written new disk status
@@ -111,17 +108,17 @@ module _ {D T : Type 0} (g : Ghosts D) (remaining : T → Option (List ℕ)) whe
   -- What the program with these words makes of the files that it asks for, of what the reader and the writer had before and
   -- have after, the disk that it hands back, and its exit status: other words than it takes are told, and so is want of
   -- memory for them; else it does what they ask for.
-  abbrev pub CarriesOut : (words : List (List ℕ)) → List (Access D T) → (before after written : Option (List ℕ)) → Stream → Option D → ℕ → Type 0
+  abbrev pub CarriesOut : (words : List (List ℕ)) → List (Access D) → (before after : Option (List ℕ)) → Stream → Stream → Option D → ℕ → Type 0
   CarriesOut words accesses before after written new disk status =
       ((accesses ≡ []) × (disk ≡ None) × (after ≡ before) × AskNothing words × Puts written new bad_words × (status ≡ 2))
       ⊎ ((accesses ≡ []) × (disk ≡ None) × (after ≡ before) × TellsRefusal NoMemory written new status)
       ⊎ ((a : Arguments) × AskedBy words a × RunsAs a accesses before after written new disk status)
 
 -- The same on the system's files, whose reads give these images as time goes on: each disk that is given is untouched.
-abbrev pub RunsOnFiles : {V : Type 0} → (images : ℕ → Image) → (words : List (List ℕ)) → (before after written : Option (List ℕ)) → Stream → Option (FileDisk V) → ℕ → Type 0
+abbrev pub RunsOnFiles : {V : Type 0} → (images : ℕ → Image) → (words : List (List ℕ)) → (before after : Option (List ℕ)) → Stream → Stream → Option (FileDisk V) → ℕ → Type 0
 RunsOnFiles {V} images words before after written new disk status =
-    (accesses : List (Access (FileDisk V) File)) × All GivesUntouched accesses × CarriesOut (giving images) (λ _. None) words accesses before after written new disk status
+    (accesses : List (Access (FileDisk V))) × All GivesUntouched accesses × CarriesOut (giving images) words accesses before after written new disk status
 
 -- .. where the disk is closed
-abbrev pub Runs : (images : ℕ → Image) → (words : List (List ℕ)) → (before after written : Option (List ℕ)) → Stream → ℕ → Type 0
+abbrev pub Runs : (images : ℕ → Image) → (words : List (List ℕ)) → (before after : Option (List ℕ)) → Stream → Stream → ℕ → Type 0
 Runs images words before after written new status = (disk : Option (FileDisk Brand)) × RunsOnFiles images words before after written new disk status

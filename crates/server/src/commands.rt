@@ -3,7 +3,6 @@ ghost use Rattle.std.specs.Prelude.{◌≡◌, ◌≤◌, ℕ, IfErr, IfOk, map}
 ghost use Rattle.disk.specs.Disk.{Image};
 ghost use Rattle.store.specs.Formatted.{format_2};
 ghost use Rattle.server.specs.Endings.{TellsRefusal};
-ghost use Rattle.serving.specs.Outputs.{stream_of};
 ghost use Rattle.server.specs.Places.{Accessing};
 ghost use Rattle.server.specs.Program.{CarriesOut, EndsServing, Runs, RunsAs, RunsCheck, RunsFormat, RunsImport, RunsOnFiles, RunsServe, RunsTable, RunsUpgrade, TellsFault};
 ghost use Rattle.server.specs.Sizes.{IsRefusedFor, IsTaken};
@@ -50,7 +49,7 @@ pub fn program<S: AsStr, R: Read, O: Output>(
     writer: &mut O,
 ) -> u8
     ghost images: { ℕ → Image }
-    ensures { Runs images (map S.text words.now) (R.remaining reader.old) (R.remaining reader.new) (O.contents writer.old) (stream_of O.contents O.failed writer.new) result }
+    ensures { Runs images (map S.text words.now) (R.remaining reader.old) (R.remaining reader.new) (O.stream writer.old) (O.stream writer.new) result }
 {
     on_files::<Brand, S, R, O>(rt, words, reader, writer).status
 }
@@ -62,7 +61,7 @@ fn on_files<V: World, S: AsStr, R: Read, O: Output>(
     reader: &mut R,
     writer: &mut O,
 ) -> Exit<FileDisk<V>>
-    ensures { RunsOnFiles V.image (map S.text words.now) (R.remaining reader.old) (R.remaining reader.new) (O.contents writer.old) (stream_of O.contents O.failed writer.new) result.disk result.status }
+    ensures { RunsOnFiles V.image (map S.text words.now) (R.remaining reader.old) (R.remaining reader.new) (O.stream writer.old) (O.stream writer.new) result.disk result.status }
 {
     let mut places = FilePlaces::<V>::new(rt);
     carry_out(rt.alloc(), &mut places, words, reader, writer)
@@ -72,8 +71,8 @@ fn on_files<V: World, S: AsStr, R: Read, O: Output>(
 /// hands back the disk that it worked on.
 ///
 /// It asks for the files that the words name, in this order, each at most once, and for no others. What it does on a
-/// store's file is said of the disk that its path gave, and that disk is handed back; the bytes of a tile are those of the
-/// reader that its path gave. There is no disk where the words ask for none, or where a line tells that none could be made
+/// store's file is said of the disk that its path gave, and that disk is handed back; the bytes of a tile are those that its
+/// path gave. There is no disk where the words ask for none, or where a line tells that none could be made
 /// or opened.
 pub fn carry_out<P: Places, S: AsStr, R: Read, O: Output>(
     alloc: Global,
@@ -82,7 +81,7 @@ pub fn carry_out<P: Places, S: AsStr, R: Read, O: Output>(
     reader: &mut R,
     writer: &mut O,
 ) -> Exit<P::File>
-    ensures { Accessing P.accessed places.old places.new (λ accesses. CarriesOut P.File.Disk P.Tile.remaining (map S.text words.now) accesses (R.remaining reader.old) (R.remaining reader.new) (O.contents writer.old) (stream_of O.contents O.failed writer.new) result.disk result.status) }
+    ensures { Accessing P.accessed places.old places.new (λ accesses. CarriesOut P.File.Disk (map S.text words.now) accesses (R.remaining reader.old) (R.remaining reader.new) (O.stream writer.old) (O.stream writer.new) result.disk result.status) }
 {
     match Arguments::parse(alloc, words) {
         Ok(arguments) => run(alloc, places, arguments, reader, writer),
@@ -105,7 +104,7 @@ fn run<P: Places, R: Read, O: Output>(
     reader: &mut R,
     writer: &mut O,
 ) -> Exit<P::File>
-    ensures { Accessing P.accessed places.old places.new (λ accesses. RunsAs P.File.Disk P.Tile.remaining arguments.entry accesses (R.remaining reader.old) (R.remaining reader.new) (O.contents writer.old) (stream_of O.contents O.failed writer.new) result.disk result.status) }
+    ensures { Accessing P.accessed places.old places.new (λ accesses. RunsAs P.File.Disk arguments.entry accesses (R.remaining reader.old) (R.remaining reader.new) (O.stream writer.old) (O.stream writer.new) result.disk result.status) }
 {
     match arguments {
         Arguments::Format {
@@ -133,7 +132,7 @@ fn format<P: Places, O: Output>(
     capacity: u32,
     writer: &mut O,
 ) -> Exit<P::File>
-    ensures { Accessing P.accessed places.old places.new (λ accesses. RunsFormat P.File.Disk P.Tile.remaining path.now side capacity accesses (O.contents writer.old) (stream_of O.contents O.failed writer.new) result.disk result.status) }
+    ensures { Accessing P.accessed places.old places.new (λ accesses. RunsFormat P.File.Disk path.now side capacity accesses (O.stream writer.old) (O.stream writer.new) result.disk result.status) }
 {
     let format = match format_of(side, capacity) {
         Ok(format) => format,
@@ -169,7 +168,7 @@ fn import<P: Places, O: Output>(
     tile: &str,
     writer: &mut O,
 ) -> Exit<P::File>
-    ensures { Accessing P.accessed places.old places.new (λ accesses. RunsImport P.File.Disk P.Tile.remaining path.now tile.now accesses (O.contents writer.old) (stream_of O.contents O.failed writer.new) result.disk result.status) }
+    ensures { Accessing P.accessed places.old places.new (λ accesses. RunsImport P.File.Disk path.now tile.now accesses (O.stream writer.old) (O.stream writer.new) result.disk result.status) }
 {
     let Ok(corner) = file_name(tile.as_bytes()) else {
         return Exit {
@@ -178,10 +177,7 @@ fn import<P: Places, O: Output>(
         };
     };
     match places.open(path) {
-        Some(disk) => {
-            let reader = places.read(tile);
-            exit_on(import_tile(alloc, disk, corner, tile.as_bytes(), reader, writer))
-        }
+        Some(disk) => exit_on(import_tile(alloc, places, disk, corner, tile, writer)),
         None => not_opened(alloc, path, writer),
     }
 }
@@ -194,7 +190,7 @@ fn serve_file<P: Places, R: Read, O: Output>(
     reader: &mut R,
     writer: &mut O,
 ) -> Exit<P::File>
-    ensures { Accessing P.accessed places.old places.new (λ accesses. RunsServe P.File.Disk P.Tile.remaining path.now accesses (R.remaining reader.old) (R.remaining reader.new) (O.contents writer.old) (stream_of O.contents O.failed writer.new) result.disk result.status) }
+    ensures { Accessing P.accessed places.old places.new (λ accesses. RunsServe P.File.Disk path.now accesses (R.remaining reader.old) (R.remaining reader.new) (O.stream writer.old) (O.stream writer.new) result.disk result.status) }
 {
     match places.open(path) {
         Some(disk) => exit_on(serve_store(alloc, disk, reader, writer)),
@@ -209,7 +205,7 @@ fn check<P: Places, O: Output>(
     path: &str,
     writer: &mut O,
 ) -> Exit<P::File>
-    ensures { Accessing P.accessed places.old places.new (λ accesses. RunsCheck P.File.Disk P.Tile.remaining path.now accesses (O.contents writer.old) (stream_of O.contents O.failed writer.new) result.disk result.status) }
+    ensures { Accessing P.accessed places.old places.new (λ accesses. RunsCheck P.File.Disk path.now accesses (O.stream writer.old) (O.stream writer.new) result.disk result.status) }
 {
     match places.open(path) {
         Some(disk) => exit_on(check_store(alloc, disk, writer)),
@@ -225,7 +221,7 @@ fn upgrade<P: Places, O: Output>(
     path: &str,
     writer: &mut O,
 ) -> Exit<P::File>
-    ensures { Accessing P.accessed places.old places.new (λ accesses. RunsUpgrade P.File.Disk P.Tile.remaining path.now accesses (O.contents writer.old) (stream_of O.contents O.failed writer.new) result.disk result.status) }
+    ensures { Accessing P.accessed places.old places.new (λ accesses. RunsUpgrade P.File.Disk path.now accesses (O.stream writer.old) (O.stream writer.new) result.disk result.status) }
 {
     match places.open(path) {
         Some(disk) => exit_on(grow_and_upgrade(alloc, disk, writer)),
@@ -248,7 +244,7 @@ fn exit_on<D>(work: (D, u8)) -> Exit<D>
 /// Tells that the store's file can't be opened.
 fn not_opened<D, O: Output>(alloc: Global, path: &str, writer: &mut O) -> Exit<D>
     ensures none { result.disk ≡ None }
-    ensures told { TellsFault path.now MakeFault.Closed (O.contents writer.old) (stream_of O.contents O.failed writer.new) result.status }
+    ensures told { TellsFault path.now MakeFault.Closed (O.stream writer.old) (O.stream writer.new) result.status }
 {
     Exit {
         status: tell_fault(alloc, path, MakeFault::Closed, writer),
@@ -258,7 +254,7 @@ fn not_opened<D, O: Output>(alloc: Global, path: &str, writer: &mut O) -> Exit<D
 
 /// Tells why there is no file of a store at the path, and answers the exit status.
 fn tell_fault<O: Output>(alloc: Global, path: &str, fault: MakeFault, writer: &mut O) -> u8
-    ensures { TellsFault path.now fault (O.contents writer.old) (stream_of O.contents O.failed writer.new) result }
+    ensures { TellsFault path.now fault (O.stream writer.old) (O.stream writer.new) result }
 {
     match fault {
         MakeFault::Exists => write_message(alloc, writer, b"mosaic: exists ", path.as_bytes()),
@@ -269,7 +265,7 @@ fn tell_fault<O: Output>(alloc: Global, path: &str, fault: MakeFault, writer: &m
 /// Tells that memory was refused, by the line `ERR 21 NoMemory`, and answers the exit status. It is for a program that
 /// has no room for its words.
 pub fn no_room<O: Output>(writer: &mut O) -> u8
-    ensures { TellsRefusal Refusal.NoMemory (O.contents writer.old) (stream_of O.contents O.failed writer.new) result }
+    ensures { TellsRefusal Refusal.NoMemory (O.stream writer.old) (O.stream writer.new) result }
 {
     refuse(writer, Refusal::NoMemory)
 }
@@ -282,7 +278,7 @@ fn table<R: Read, O: Output>(
     reader: &mut R,
     writer: &mut O,
 ) -> u8
-    ensures { RunsTable side capacity (R.remaining reader.old) (R.remaining reader.new) (O.contents writer.old) (stream_of O.contents O.failed writer.new) result }
+    ensures { RunsTable side capacity (R.remaining reader.old) (R.remaining reader.new) (O.stream writer.old) (O.stream writer.new) result }
 {
     let Some(side) = Side::new(side) else {
         return refuse(writer, Refusal::BadSide);
@@ -302,7 +298,7 @@ fn serve_table<R: Read, O: Output>(
     writer: &mut O,
 ) -> u8
     requires { capacity ≤ MOST_TILES }
-    ensures { EndsServing side capacity (R.remaining reader.old) (R.remaining reader.new) (O.contents writer.old) (stream_of O.contents O.failed writer.new) result }
+    ensures { EndsServing side capacity (R.remaining reader.old) (R.remaining reader.new) (O.stream writer.old) (O.stream writer.new) result }
 {
     let mut engine = TableEngine::new(alloc, side, capacity);
     let served = serve(alloc, reader, writer, &mut engine);

@@ -1,57 +1,51 @@
 //! The subcommands on the disk of a store, whatever disk it is.
-ghost use Rattle.std.specs.Prelude.{◌≡◌, IfErr, IfOk, IsSome};
+ghost use Rattle.std.specs.Prelude.{◌≡◌, IfErr, IfOk};
 ghost use Rattle.store.specs.Stores.{root_of};
 ghost use Rattle.store.specs.Upgraded.{HasUpgraded as Upgraded};
-ghost use Rattle.server.specs.OnDisks.{ChecksStore, GrowsAndUpgrades, HasMeasured, ImportsTile, IsClosed, IsTileRead, MakesStore, RunsGrown, ServesLines, UpgradesStore, done_of, given_by};
-ghost use Rattle.serving.specs.Outputs.{stream_of};
+ghost use Rattle.server.specs.OnDisks.{ChecksStore, GrowsAndUpgrades, HasMeasured, ImportsTile, IsClosed, MakesStore, RunsGrown, ServesLines, UpgradesStore, done_of};
+ghost use Rattle.server.specs.Places.{Accessing};
 
 use crate::exit::{end_command, end_format, end_report, end_session, refuse, write_message};
-use crate::places::Lengthen;
+use crate::places::{Lengthen, Places, TileFault};
 use crate::reporting::report;
 use disk::Disk;
 use edits::{Bytes, Command};
 use engine::Engine;
-use lattice::{Corner, Refusal, Side};
+use lattice::{Corner, Refusal};
 use serving::{Output, serve};
 use std::alloc::Global;
-use std::io::{ErrorKind, Read};
+use std::io::Read;
 use store::Store;
-
-/// Why there are no bytes of a tile.
-enum TileFault {
-    Unreadable,
-    NoMemory,
-}
 
 /// Makes a disk a store without tiles. It hands the disk back, with the exit status.
 pub fn make_store<D: Disk, O: Output>(disk: D, side: u32, capacity: u32, writer: &mut O) -> (D, u8)
-    ensures { MakesStore D.Disk side capacity disk result.0 (O.contents writer.old) (stream_of O.contents O.failed writer.new) result.1 }
+    ensures { MakesStore D.Disk side capacity disk result.0 (O.stream writer.old) (O.stream writer.new) result.1 }
 {
     let mut disk = disk;
     let formatted = Store::format(&mut disk, side, capacity);
     (disk, end_format(writer, formatted))
 }
 
-/// Imports the HGT bytes that the reader of the file at `tile` gives, if there is one, into the store on a disk. It hands
-/// the disk back, with the exit status.
-pub fn import_tile<D: Disk, R: Read + Drop, O: Output>(
+/// Imports the HGT bytes that these places give at `tile` into the store on a disk. They are asked for so many bytes as a
+/// tile of the store has, and one more, once it is open. It hands the disk back, with the exit status.
+pub fn import_tile<P: Places, O: Output>(
     alloc: Global,
-    disk: D,
+    places: &mut P,
+    disk: P::File,
     corner: Corner,
-    tile: &[u8],
-    reader: Option<R>,
+    tile: &str,
     writer: &mut O,
-) -> (D, u8)
-    ensures { ImportsTile D.Disk R.remaining corner tile.now reader disk result.0 (O.contents writer.old) (stream_of O.contents O.failed writer.new) result.1 }
+) -> (P::File, u8)
+    ensures { Accessing P.accessed places.old places.new (λ accesses. ImportsTile P.File.Disk corner tile.now accesses disk result.0 (O.stream writer.old) (O.stream writer.new) result.1) }
 {
     let mut store = match Store::open(alloc, disk) {
         Ok(store) => store,
         Err(refused) => return (refused.disk, refuse(writer, refused.refusal)),
     };
-    let bytes = match read_tile(alloc, reader, store.tile_side()) {
+    let bytes = match places.read(tile, store.tile_side().file_bytes() + 1) {
         Ok(bytes) => Bytes::new(bytes),
         Err(TileFault::Unreadable) => {
-            let status = write_message(alloc, writer, b"mosaic: cannot read ", tile);
+            let status = write_message(alloc, writer, b"mosaic: cannot read ", tile.as_bytes());
             return (store.into_disk(), status);
         }
         Err(TileFault::NoMemory) => {
@@ -61,29 +55,6 @@ pub fn import_tile<D: Disk, R: Read + Drop, O: Output>(
     };
     let applied = Engine::apply(&mut store, &Command::Import { corner, bytes });
     (store.into_disk(), end_command(writer, applied))
-}
-
-// The bytes of a tile's file, or as many as a tile has and one more where there are more.
-fn read_tile<R: Read + Drop>(
-    alloc: Global,
-    reader: Option<R>,
-    side: Side,
-) -> Result<Vec<u8>, TileFault>
-    ensures read { IfOk result (λ bytes. IsSome reader × IsTileRead side (given_by R.remaining reader) bytes.items) }
-    ensures room { result ≡ Err TileFault.NoMemory → IsSome reader }
-{
-    let Some(reader) = reader else {
-        return Err(TileFault::Unreadable);
-    };
-    let most = side.file_bytes() + 1;
-    let Ok(mut bytes) = Vec::with_capacity(alloc, most as usize) else {
-        return Err(TileFault::NoMemory);
-    };
-    match reader.take(u64::from(most)).read_to_end(&mut bytes) {
-        Ok(_) => Ok(bytes),
-        Err(error) if error.kind() == ErrorKind::OutOfMemory => Err(TileFault::NoMemory),
-        Err(_) => Err(TileFault::Unreadable),
-    }
 }
 
 /// Serves lines on the store on a disk. It hands the disk back, with the exit status.
@@ -96,7 +67,7 @@ pub fn serve_store<D: Disk, R: Read, O: Output>(
     reader: &mut R,
     writer: &mut O,
 ) -> (D, u8)
-    ensures { ServesLines D.Disk disk result.0 (R.remaining reader.old) (R.remaining reader.new) (O.contents writer.old) (stream_of O.contents O.failed writer.new) result.1 }
+    ensures { ServesLines D.Disk disk result.0 (R.remaining reader.old) (R.remaining reader.new) (O.stream writer.old) (O.stream writer.new) result.1 }
 {
     let mut store = match Store::open(alloc, disk) {
         Ok(store) => store,
@@ -127,7 +98,7 @@ pub fn grow_and_upgrade<D: Disk + Lengthen, O: Output>(
     disk: D,
     writer: &mut O,
 ) -> (D, u8)
-    ensures { GrowsAndUpgrades D.Disk disk result.0 (O.contents writer.old) (stream_of O.contents O.failed writer.new) result.1 }
+    ensures { GrowsAndUpgrades D.Disk disk result.0 (O.stream writer.old) (O.stream writer.new) result.1 }
 {
     let (disk, measured) = measure_store(alloc, disk);
     match measured {
@@ -143,7 +114,7 @@ fn upgrade_grown<D: Disk + Lengthen, O: Output>(
     sectors: u32,
     writer: &mut O,
 ) -> (D, u8)
-    ensures { RunsGrown D.Disk sectors disk result.0 (O.contents writer.old) (stream_of O.contents O.failed writer.new) result.1 }
+    ensures { RunsGrown D.Disk sectors disk result.0 (O.stream writer.old) (O.stream writer.new) result.1 }
 {
     if disk.lengthen(sectors).is_err() {
         return (disk, refuse(writer, Refusal::Device));
@@ -153,7 +124,7 @@ fn upgrade_grown<D: Disk + Lengthen, O: Output>(
 
 /// Makes the store on a disk one of the second version. It hands the disk back, with the exit status.
 pub fn upgrade_store<D: Disk, O: Output>(alloc: Global, disk: D, writer: &mut O) -> (D, u8)
-    ensures { UpgradesStore D.Disk disk result.0 (O.contents writer.old) (stream_of O.contents O.failed writer.new) result.1 }
+    ensures { UpgradesStore D.Disk disk result.0 (O.stream writer.old) (O.stream writer.new) result.1 }
 {
     let mut store = match Store::open(alloc, disk) {
         Ok(store) => store,
@@ -175,7 +146,7 @@ fn upgrade_counted<D: Disk>(store: &mut Store<D>) -> Result<u64, Refusal>
 /// Reports on the store on a disk: how many commands it accepted and commits it made, its tiles, and how many points of
 /// seams disagree. It hands the disk back, with the exit status.
 pub fn check_store<D: Disk, O: Output>(alloc: Global, disk: D, writer: &mut O) -> (D, u8)
-    ensures { ChecksStore D.Disk disk result.0 (O.contents writer.old) (stream_of O.contents O.failed writer.new) result.1 }
+    ensures { ChecksStore D.Disk disk result.0 (O.stream writer.old) (O.stream writer.new) result.1 }
 {
     let mut store = match Store::open(alloc, disk) {
         Ok(store) => store,

@@ -1,9 +1,9 @@
 //! How the program ends: what it writes, and its exit status.
-ghost use Rattle.std.specs.Prelude.{◌≡◌, ◌++◌, Err, IfOk, true};
+ghost use Rattle.std.specs.Prelude.{◌≡◌, ◌++◌, Err, IfOk};
 ghost use Rattle.engine.specs.Engines.{items_in};
 ghost use Rattle.lines.specs.Replies.{line_of};
 ghost use Rattle.server.specs.Endings.{EndsAnswering, EndsReplying, EndsSession, Tells, TellsRefusal, count_line, fault_line};
-ghost use Rattle.serving.specs.Outputs.{Puts, stream_of};
+ghost use Rattle.serving.specs.Outputs.{HasFailed, Puts};
 
 use lattice::Refusal;
 use lines::Text;
@@ -19,8 +19,8 @@ pub const BAD_WORDS: u8 = 2;
 
 /// Ends a session, and answers the exit status.
 pub(crate) fn end_session<O: Output>(writer: &mut O, served: Result<(), ServeFault>) -> u8
-    ensures { (served ≡ Err ServeFault.Output → O.failed writer.old ≡ true)
-        → EndsSession served (O.contents writer.old) (stream_of O.contents O.failed writer.new) result }
+    ensures { (served ≡ Err ServeFault.Output → HasFailed (O.stream writer.old))
+        → EndsSession served (O.stream writer.old) (O.stream writer.new) result }
 {
     match served {
         Ok(()) => reply_text(writer, b""),
@@ -30,7 +30,7 @@ pub(crate) fn end_session<O: Output>(writer: &mut O, served: Result<(), ServeFau
 
 /// Tells that a store was made, or why it wasn't, and answers the exit status.
 pub(crate) fn end_format<O: Output>(writer: &mut O, answer: Result<(), Refusal>) -> u8
-    ensures { EndsAnswering (λ _. count_line 0) answer (O.contents writer.old) (stream_of O.contents O.failed writer.new) result }
+    ensures { EndsAnswering (λ _. count_line 0) answer (O.stream writer.old) (O.stream writer.new) result }
 {
     match answer {
         Ok(()) => reply(writer, Text::number(0_u64)),
@@ -40,7 +40,7 @@ pub(crate) fn end_format<O: Output>(writer: &mut O, answer: Result<(), Refusal>)
 
 /// Tells how many commands were accepted, or a refusal, and answers the exit status.
 pub(crate) fn end_command<O: Output>(writer: &mut O, answer: Result<u64, Refusal>) -> u8
-    ensures { EndsAnswering count_line answer (O.contents writer.old) (stream_of O.contents O.failed writer.new) result }
+    ensures { EndsAnswering count_line answer (O.stream writer.old) (O.stream writer.new) result }
 {
     match answer {
         Ok(count) => reply(writer, Text::number(count)),
@@ -50,7 +50,7 @@ pub(crate) fn end_command<O: Output>(writer: &mut O, answer: Result<u64, Refusal
 
 /// Tells a report, or why there is none, and answers the exit status.
 pub(crate) fn end_report<O: Output>(writer: &mut O, answer: Result<Vec<u8>, Refusal>) -> u8
-    ensures { EndsAnswering (λ text. text) (items_in answer) (O.contents writer.old) (stream_of O.contents O.failed writer.new) result }
+    ensures { EndsAnswering (λ text. text) (items_in answer) (O.stream writer.old) (O.stream writer.new) result }
 {
     match answer {
         Ok(text) => reply_text(writer, text.as_slice()),
@@ -60,7 +60,7 @@ pub(crate) fn end_report<O: Output>(writer: &mut O, answer: Result<Vec<u8>, Refu
 
 /// Writes a reply, and answers the exit status.
 pub(crate) fn reply<O: Output>(writer: &mut O, reply: Text) -> u8
-    ensures { EndsReplying reply (O.contents writer.old) (stream_of O.contents O.failed writer.new) result }
+    ensures { EndsReplying reply (O.stream writer.old) (O.stream writer.new) result }
 {
     writer.put_reply(&reply);
     if writer.has_failed() {
@@ -71,7 +71,7 @@ pub(crate) fn reply<O: Output>(writer: &mut O, reply: Text) -> u8
 
 /// Writes a reply of any number of lines, and answers the exit status.
 pub(crate) fn reply_text<O: Output>(writer: &mut O, text: &[u8]) -> u8
-    ensures { EndsReplying text.now (O.contents writer.old) (stream_of O.contents O.failed writer.new) result }
+    ensures { EndsReplying text.now (O.stream writer.old) (O.stream writer.new) result }
 {
     writer.put(text);
     if writer.has_failed() {
@@ -92,7 +92,7 @@ pub(crate) fn fault_line(fault: ServeFault) -> &'static [u8]
 
 /// Tells of a refusal, and answers the exit status.
 pub(crate) fn refuse<O: Output>(writer: &mut O, refusal: Refusal) -> u8
-    ensures { TellsRefusal refusal (O.contents writer.old) (stream_of O.contents O.failed writer.new) result }
+    ensures { TellsRefusal refusal (O.stream writer.old) (O.stream writer.new) result }
 {
     writer.put_reply(&Text::refused(refusal));
     REFUSED
@@ -101,8 +101,7 @@ pub(crate) fn refuse<O: Output>(writer: &mut O, refusal: Refusal) -> u8
 /// Ends with a line of the program's own.
 pub(crate) fn end_with<O: Output>(writer: &mut O, line: &[u8], status: u8) -> u8
     ensures status { result ≡ status }
-    ensures line { Puts (O.contents writer.old) (stream_of O.contents O.failed writer.new) line.now }
-    ensures stays { O.failed writer.old ≡ true → O.failed writer.new ≡ true }
+    ensures line { Puts (O.stream writer.old) (O.stream writer.new) line.now }
 {
     writer.put(line);
     status
@@ -115,7 +114,7 @@ pub(crate) fn write_message<O: Output>(
     words: &[u8],
     about: &[u8],
 ) -> u8
-    ensures { Tells (words.now ++ about.now) (O.contents writer.old) (stream_of O.contents O.failed writer.new) result }
+    ensures { Tells (words.now ++ about.now) (O.stream writer.old) (O.stream writer.new) result }
 {
     match line_about(alloc, words, about) {
         Ok(line) => end_with(writer, line.as_slice(), REFUSED),

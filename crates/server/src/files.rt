@@ -3,12 +3,14 @@
 //! No contract sees what a file holds. So what is done to one is said for whatever images its reads may give: where each
 //! answer in the record of the file's calls is right for them, the file was an honest disk, and what holds of a store on
 //! such a disk holds of it.
+ghost use Rattle.std.specs.Prelude.{◌≡◌, IfOk, IfSome, take};
 ghost use Rattle.server.specs.Files.{GivesUntouched};
 
-use crate::places::{Lengthen, MakeFault, Places};
+use crate::places::{Lengthen, MakeFault, Places, TileFault};
 use disk::{Disk, Fault, FileDisk, World};
+use std::alloc::Global;
 use std::fs::File;
-use std::io::ErrorKind;
+use std::io::{ErrorKind, Read};
 use std::marker::PhantomData;
 
 impl<V: World> Lengthen for FileDisk<V> {
@@ -37,8 +39,6 @@ impl<'a, V: World> FilePlaces<'a, V> {
 impl<V: World> Places for FilePlaces<'_, V> {
     type File = FileDisk<V>;
 
-    type Tile = File;
-
     ghost accessed = { λ old access new. GivesUntouched access };
 
     fn make(&mut self, path: &str, sectors: u32) -> Result<FileDisk<V>, MakeFault> {
@@ -53,7 +53,24 @@ impl<V: World> Places for FilePlaces<'_, V> {
         FileDisk::open(self.rt, path).ok()
     }
 
-    fn read(&mut self, path: &str) -> Option<File> {
-        File::open(self.rt, path).ok()
+    fn read(&mut self, path: &str, most: u32) -> Result<Vec<u8>, TileFault> {
+        match File::open(self.rt, path) {
+            Ok(file) => read_at_most(self.rt.alloc(), file, most),
+            Err(_) => Err(TileFault::Unreadable),
+        }
+    }
+}
+
+/// The bytes that a reader gives, or so many first ones where there are more.
+fn read_at_most<R: Read + Drop>(alloc: Global, reader: R, most: u32) -> Result<Vec<u8>, TileFault>
+    ensures { IfOk result (λ bytes. IfSome (R.remaining reader) (λ all. bytes.items ≡ take most all)) }
+{
+    let Ok(mut bytes) = Vec::with_capacity(alloc, most as usize) else {
+        return Err(TileFault::NoMemory);
+    };
+    match reader.take(u64::from(most)).read_to_end(&mut bytes) {
+        Ok(_) => Ok(bytes),
+        Err(error) if error.kind() == ErrorKind::OutOfMemory => Err(TileFault::NoMemory),
+        Err(_) => Err(TileFault::Unreadable),
     }
 }

@@ -29,7 +29,7 @@ pub use disks::{
 pub use engine::Engine;
 pub use files::FilePlaces;
 pub use following::{longer_disks_hold, serving_is_a_session, sessions_follow};
-pub use places::{Lengthen, MakeFault, Places};
+pub use places::{Lengthen, MakeFault, Places, TileFault};
 pub use reporting::report;
-pub use serving::{CheckedWriter, Output, ServeFault, serve};
+pub use serving::{CheckedWriter, Output, OutputFault, ServeFault, serve};
 pub use table_engine::TableEngine;

@@ -1,9 +1,8 @@
 //! Where files are: what the program asks for at a path.
 ghost use Rattle.std.specs.Prelude.{◌≡◌, IfOk, OnErr, OnOk};
-ghost use Rattle.server.specs.Places.{Access, HasGrown, HasNotGrown, Makes, Opens, Reads};
+ghost use Rattle.server.specs.Places.{Access, HasGrown, HasNotGrown, Makes, Opens, Reads, given_of};
 
 use disk::{Disk, Fault};
-use std::io::Read;
 
 /// A disk that can be made longer.
 pub trait Lengthen: Disk {
@@ -22,6 +21,15 @@ pub enum MakeFault {
     Closed,
 }
 
+/// Why nothing was given of a tile's file.
+#[derive(Clone, Copy, Debug, PartialEq, Eq)]
+pub enum TileFault {
+    /// The file can't be opened, or a read of it failed.
+    Unreadable,
+    /// There is no memory for its bytes.
+    NoMemory,
+}
+
 /// Where files are.
 ///
 /// An access is said by one relation, which only these calls make known. So code over any places shows which paths it
@@ -30,11 +38,8 @@ pub trait Places {
     /// A store's file, open as a disk.
     type File: Disk + Lengthen + Drop;
 
-    /// A tile's file, open for reading.
-    type Tile: Read + Drop;
-
     /// This was asked for and given, and then they were those places.
-    ghost accessed: { Self → Access Self.File Self.Tile → Self → Type 0 };
+    ghost accessed: { Self → Access Self.File → Self → Type 0 };
 
     /// Makes a file of so many sectors where there is nothing yet.
     fn make(&mut self, path: &str, sectors: u32) -> Result<Self::File, MakeFault>
@@ -45,7 +50,7 @@ pub trait Places {
     fn open(&mut self, path: &str) -> Option<Self::File>
         ensures { accessed self.old (Opens path.now result) self.new };
 
-    /// Opens a tile's file.
-    fn read(&mut self, path: &str) -> Option<Self::Tile>
-        ensures { accessed self.old (Reads path.now result) self.new };
+    /// The bytes of a tile's file, or so many first ones where there are more.
+    fn read(&mut self, path: &str, most: u32) -> Result<Vec<u8>, TileFault>
+        ensures { accessed self.old (Reads path.now most (given_of result)) self.new };
 }

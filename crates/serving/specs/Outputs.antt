@@ -1,37 +1,58 @@
 -- What was written to an output (this product's own profile).
-use Rattle.std.specs.Prelude.{◌≡◌, ◌≢◌, ◌⊎◌, ℕ, List, [], take, Option, Bool, true, Result, Ok, Err}
-use Rattle.std.specs.Io.KnownBytes.{Appends}
+use Rattle.std.specs.Prelude.{◌≡◌, ◌≤◌, ◌<◌, ◌⊎◌, ℕ, List, length, take, Option, Bool, true, Result, Ok, Err}
+use Rattle.std.specs.Io.KnownBytes.{Appends, Keeps}
+use Rattle.catalogue.specs.Reading.{HasRisen}
 use Rattle.serving.specs.declared.session.ServeFault.{ServeFault}
 use Rattle.serving.specs.declared.session.ServeFault.TheVariants.{Output}
 
--- the bytes, where they are known, and whether a write or a flush has failed
+-- the bytes, where they are known, how many calls have failed, up to the largest 64-bit number, and whether a flush has
+-- succeeded since the last write
 pub record Stream : Type 0 where
   pub contents : Option (List ℕ)
-  pub failed : Bool
+  pub failures : ℕ
+  pub is_flushed : Bool
 
-abbrev pub stream_of : {O : Type 0} → (O → Option (List ℕ)) → (O → Bool) → O → Stream
-stream_of contents failed output = record { contents = contents output; failed = failed output }
+abbrev pub HasFailed : Stream → Type 0
+HasFailed s = 0 < s.failures
+
+-- a call failed, and wrote nothing
+abbrev pub Fails : Stream → Stream → Type 0
+Fails old new = Keeps old.contents new.contents × HasRisen old.failures new.failures
+
+-- some of the bytes were written, one at least; or the call failed
+abbrev pub Writes : {E : Type 0} → Stream → Stream → Result ℕ E → List ℕ → Type 0
+Writes old new (Ok n) bytes = (0 < n) × (n ≤ length bytes) × Appends old.contents new.contents (take n bytes) × (new.failures ≡ old.failures)
+Writes old new (Err e) bytes = Fails old new
+
+-- all that was written has left; or the call failed
+abbrev pub Flushes : {E : Type 0} → Stream → Stream → Result (Unit {0}) E → Type 0
+Flushes old new (Ok u) = Keeps old.contents new.contents × (new.failures ≡ old.failures) × (new.is_flushed ≡ true)
+Flushes old new (Err e) = Fails old new
 
 -- a beginning of the text was written
 abbrev pub Begins : Option (List ℕ) → Option (List ℕ) → List ℕ → Type 0
 Begins written new text = (n : ℕ) × Appends written new (take n text)
 
--- the text was written whole; or a write or a flush has failed, and a beginning of it was written
-abbrev pub Puts : Option (List ℕ) → Stream → List ℕ → Type 0
-Puts written new text = Appends written new.contents text ⊎ (Begins written new.contents text × (new.failed ≡ true))
+-- .. and a call failed
+abbrev pub Breaks : Stream → Stream → List ℕ → Type 0
+Breaks old new text = Begins old.contents new.contents text × HasRisen old.failures new.failures
 
--- a write failed, or took none of some bytes
-abbrev pub FailsToWrite : {E : Type 0} → Result ℕ E → List ℕ → Type 0
-FailsToWrite (Ok n) bytes = (n ≡ 0) × (bytes ≢ [])
-FailsToWrite (Err e) bytes = Unit {0}
+-- the text was written whole, and no call failed; or one failed
+abbrev pub WritesAll : {E : Type 0} → Stream → Stream → Result (Unit {0}) E → List ℕ → Type 0
+WritesAll old new (Ok u) text = Appends old.contents new.contents text × (new.failures ≡ old.failures)
+WritesAll old new (Err e) text = Breaks old new text
 
--- that a call has failed is remembered where this one fails, and it was or this one fails where it is remembered
-pub record Notes (Fails : Type 0) (failed_before failed : Bool) : Type 0 where
-  pub noted : Fails → failed ≡ true
-  pub stays : failed_before ≡ true → failed ≡ true
-  pub caused : failed ≡ true → (failed_before ≡ true) ⊎ Fails
+-- the text was written whole and has left, and no call failed
+pub record Leaves (old new : Stream) (text : List ℕ) : Type 0 where
+  pub whole : Appends old.contents new.contents text
+  pub none : new.failures ≡ old.failures
+  pub flushed : new.is_flushed ≡ true
 
--- A fault of the output is answered where a write or a flush has failed, and nowhere else.
-pub record TellsFailure {T : Type 0} (failed_before failed : Bool) (result : Result T ServeFault) : Type 0 where
-  pub told : failed ≡ true → (failed_before ≡ true) ⊎ (result ≡ Err Output)
-  pub caused : result ≡ Err Output → failed ≡ true
+-- the text was written whole and has left; or a call failed, and a beginning of the text was written
+abbrev pub Puts : Stream → Stream → List ℕ → Type 0
+Puts old new text = Leaves old new text ⊎ Breaks old new text
+
+-- A fault of the output is answered where a write or a flush failed, and nowhere else.
+pub record TellsFailure {T : Type 0} (old new : Stream) (result : Result T ServeFault) : Type 0 where
+  pub told : (new.failures ≡ old.failures) ⊎ (result ≡ Err Output)
+  pub caused : result ≡ Err Output → HasFailed new

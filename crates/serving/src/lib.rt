@@ -1,10 +1,10 @@
 //! Serves lines from any reader to any writer over any engine.
 //!
 //! The layer above rests on this: the bytes that `serve` writes are the replies to the items that it reads, each a line,
-//! or an import line with its payload, and how the reader cuts the bytes makes no difference. They go to an `Output`, a
-//! writer that remembers whether it has failed: a fault of it is answered where it has, and nowhere else. Each command or
-//! question is one call of the engine, and its reply tells what that call answered. A power cut at any moment since a
-//! reply leaves the contents of the state after it, of a later one, or of its commit in doubt, whole.
+//! or an import line with its payload, and how the reader cuts the bytes makes no difference. They go to an `Output`,
+//! which flushes each of them and counts the calls that failed: its fault is answered where one has failed, and nowhere
+//! else. Each command or question is one call of the engine, and its reply tells what that call answered. A power cut at
+//! any moment since a reply leaves the contents of the state after it, of a later one, or of its commit in doubt, whole.
 //! `specs/Promises.antt` says all that is known of a session, `specs/Answers.antt` what an item comes to.
 //!
 //! ```
@@ -14,9 +14,11 @@
 #![tactic(auto)]
 
 mod answering;
+mod checked_writer;
 mod output;
 mod reading;
 mod session;
 
-pub use output::{CheckedWriter, Output};
+pub use checked_writer::CheckedWriter;
+pub use output::{Output, OutputFault};
 pub use session::{ServeFault, serve};

@@ -1,114 +1,71 @@
 //! Where replies are written.
-ghost use Rattle.std.specs.Prelude.{◌≡◌, Bool, IsErr, false, true};
-ghost use Rattle.std.specs.Io.{WritesAtMost};
-ghost use Rattle.std.specs.Io.KnownBytes.{Keeps, WriteAppends};
-ghost use Rattle.serving.specs.Outputs.{FailsToWrite, Notes, Puts, stream_of};
+ghost use Rattle.std.specs.Prelude.{◌<◌, ◌↔◌, IsTrue, length};
+ghost use Rattle.serving.specs.Outputs.{Flushes, HasFailed, Puts, Stream, Writes, WritesAll};
 
-use lines::{Text, WriteFault, write_bytes};
-use std::io::{self, Write};
+use lines::Text;
+
+/// A write failed or took no byte, or a flush failed.
+#[derive(Clone, Copy, Debug, PartialEq, Eq)]
+pub struct OutputFault;
 
 /// A writer that remembers whether a call of it has failed.
 ///
-/// Code over any output can't set what it remembers. So where a contract says that a call has failed, one has.
-pub trait Output: Write {
-    /// Whether a write or a flush has failed, of all so far.
-    ghost failed: { Self → Bool };
+/// Only its own `write` and `flush` change what it remembers. So where a contract says that a call has failed, one was made
+/// and failed; and where it says that all was flushed, a flush was made since the last write.
+pub trait Output {
+    /// What was written, how many calls have failed, and whether all has left.
+    ghost stream: { Self → Stream };
 
     /// Whether a write or a flush has failed, of all so far.
     fn has_failed(&self) -> bool
-        ensures { result ≡ failed self.now };
+        ensures { IsTrue result ↔ HasFailed (stream self.now) };
+
+    /// Writes a beginning of these bytes, by one call, and answers how many were taken: one at least.
+    fn write(&mut self, bytes: &[u8]) -> Result<usize, OutputFault>
+        requires { 0 < length bytes.now }
+        ensures { Writes (stream self.old) (stream self.new) result bytes.now };
+
+    /// Flushes what was written, by one call.
+    fn flush(&mut self) -> Result<(), OutputFault>
+        ensures { Flushes (stream self.old) (stream self.new) result };
 
     /// Writes a text, and flushes all that was written. Each is tried once.
-    fn put(&mut self, text: &[u8])
-        ensures written { Puts (Self.contents self.old) (stream_of Self.contents failed self.new) text.now }
-        ensures stays { failed self.old ≡ true → failed self.new ≡ true };
+    final fn put(&mut self, text: &[u8])
+    where
+        Self: Sized,
+        ensures { Puts (stream self.old) (stream self.new) text.now }
+    {
+        let _ = write_all(self, text);
+        let _ = self.flush();
+    }
 
     /// Writes a reply as [`Output::put`] writes a text.
-    fn put_reply(&mut self, reply: &Text)
-        ensures written { Puts (Self.contents self.old) (stream_of Self.contents failed self.new) reply.now }
-        ensures stays { failed self.old ≡ true → failed self.new ≡ true };
-}
-
-/// Any writer, with whether a call of it has failed.
-#[derive(Drop)]
-pub struct CheckedWriter<W> {
-    writer: W,
-    failed: bool,
-}
-
-impl<W> CheckedWriter<W> {
-    /// A writer of which no call has failed yet.
-    pub fn new(writer: W) -> CheckedWriter<W>
-        ensures { result ≡ record { writer = writer; failed = false } }
+    final fn put_reply(&mut self, reply: &Text)
+    where
+        Self: Sized,
+        ensures { Puts (stream self.old) (stream self.new) reply.now }
     {
-        CheckedWriter {
-            writer,
-            failed: false,
-        }
-    }
-
-    /// The writer, with all that was written to it.
-    pub fn into_inner(self) -> W
-        ensures { result ≡ self.writer }
-    {
-        self.writer
+        let _ = write_reply(self, reply);
+        let _ = self.flush();
     }
 }
 
-impl<W: Write> CheckedWriter<W> {
-    /// Flushes what was written, and notes whether this or the write before it has failed.
-    fn finish(&mut self, written: Result<(), WriteFault>)
-        ensures bytes { Keeps (W.contents self.old.writer) (W.contents self.new.writer) }
-        ensures noted { IsErr written → self.new.failed ≡ true }
-        ensures stays { self.old.failed ≡ true → self.new.failed ≡ true }
-    {
-        if self.writer.flush().is_err() || written.is_err() {
-            self.failed = true;
-        }
+/// Writes all the bytes. After a fault a beginning of them was written.
+fn write_all<O: Output>(output: &mut O, bytes: &[u8]) -> Result<(), OutputFault>
+    ensures { WritesAll (O.stream output.old) (O.stream output.new) result bytes.now }
+{
+    let mut at = 0;
+    while at < bytes.len() {
+        at += output.write(&bytes[at..])?;
     }
+    Ok(())
 }
 
-impl<W: Write> Write for CheckedWriter<W> {
-    ghost contents = { λ checked. W.contents checked.writer };
-
-    fn write(&mut self, buf: &[u8]) -> io::Result<usize>
-        ensures bound { WritesAtMost result buf.now }
-        ensures bytes { WriteAppends (W.contents self.old.writer) (W.contents self.new.writer) result buf.now }
-        ensures noted { Notes (FailsToWrite result buf.now) self.old.failed self.new.failed }
-    {
-        let answer = self.writer.write(buf);
-        if !matches!(&answer, Ok(count) if *count > 0 || buf.is_empty()) {
-            self.failed = true;
-        }
-        answer
-    }
-
-    fn flush(&mut self) -> io::Result<()>
-        ensures bytes { Keeps (W.contents self.old.writer) (W.contents self.new.writer) }
-        ensures noted { Notes (IsErr result) self.old.failed self.new.failed }
-    {
-        let answer = self.writer.flush();
-        if answer.is_err() {
-            self.failed = true;
-        }
-        answer
-    }
-}
-
-impl<W: Write> Output for CheckedWriter<W> {
-    ghost failed = { λ checked. checked.failed };
-
-    fn has_failed(&self) -> bool {
-        self.failed
-    }
-
-    fn put(&mut self, text: &[u8]) {
-        let written = write_bytes(&mut self.writer, text);
-        self.finish(written);
-    }
-
-    fn put_reply(&mut self, reply: &Text) {
-        let written = reply.write(&mut self.writer);
-        self.finish(written);
-    }
+/// Writes a reply. The bytes of a tile leave by a call of their own, behind their head.
+fn write_reply<O: Output>(output: &mut O, reply: &Text) -> Result<(), OutputFault>
+    ensures { WritesAll (O.stream output.old) (O.stream output.new) result reply.now }
+{
+    let (head, rest) = reply.parts();
+    write_all(output, head)?;
+    write_all(output, rest)
 }

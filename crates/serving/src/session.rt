@@ -44,8 +44,8 @@ fn step<R: Read, O: Output, E: Engine>(
 ) -> Result<Next, ServeFault>
     ensures calls { (engines : List E) × ((last_of engine.old engines ≡ engine.new)
         × Steps (Answers E.Engine) (to_come ahead.old (R.remaining reader.old)) (to_come ahead.new (R.remaining reader.new))
-        (O.contents writer.old) (O.contents writer.new) engine.old engines result) }
-    ensures output { TellsFailure (O.failed writer.old) (O.failed writer.new) result }
+        (O.stream writer.old).contents (O.stream writer.new).contents engine.old engines result) }
+    ensures output { TellsFailure (O.stream writer.old) (O.stream writer.new) result }
     ensures spent { result ≡ Ok Next.More → weight ahead.new < weight ahead.old }
     ensures none_ahead { result ≡ Err ServeFault.Input → ahead.new.bytes ≡ [] }
 {
@@ -93,8 +93,8 @@ pub fn serve<R: Read, O: Output, E: Engine>(
     engine: &mut E,
 ) -> Result<(), ServeFault>
     ensures calls { (engines : List E) × ((last_of engine.old engines ≡ engine.new)
-        × Serves E.Engine (R.remaining reader.old) (R.remaining reader.new) (O.contents writer.old) (O.contents writer.new) engine.old engines result) }
-    ensures output { TellsFailure (O.failed writer.old) (O.failed writer.new) result }
+        × Serves E.Engine (R.remaining reader.old) (R.remaining reader.new) (O.stream writer.old).contents (O.stream writer.new).contents engine.old engines result) }
+    ensures output { TellsFailure (O.stream writer.old) (O.stream writer.new) result }
 {
     let mut ahead = Ahead::new(alloc);
     let mut line = Line::new();

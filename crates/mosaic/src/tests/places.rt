@@ -4,7 +4,7 @@ ghost use Rattle.disk.specs.Disk.{CountsFault, counted};
 
 use super::owned;
 use disk::{Disk, Fault};
-use server::{CheckedWriter, Exit, Lengthen, MakeFault, Places, carry_out};
+use server::{CheckedWriter, Exit, Lengthen, MakeFault, Places, TileFault, carry_out};
 use std::alloc::{AllocError, Global};
 use std::test::Fail;
 use store::Store;
@@ -150,10 +150,8 @@ impl MemoryPlaces<'_> {
     }
 }
 
-impl<'a> Places for MemoryPlaces<'a> {
+impl Places for MemoryPlaces<'_> {
     type File = PlainDisk;
-
-    type Tile = &'a [u8];
 
     ghost accessed = { λ old access new. Unit {0} };
 
@@ -174,13 +172,13 @@ impl<'a> Places for MemoryPlaces<'a> {
         }
     }
 
-    fn read(&mut self, path: &str) -> Option<&'a [u8]> {
+    fn read(&mut self, path: &str, most: u32) -> Result<Vec<u8>, TileFault> {
         self.note(b"read ", path);
-        if path == self.tile {
-            Some(self.bytes)
-        } else {
-            None
+        if path != self.tile {
+            return Err(TileFault::Unreadable);
         }
+        let count = self.bytes.len().min(most as usize);
+        Vec::from_slice(self.alloc, &self.bytes[..count]).map_err(|_| TileFault::NoMemory)
     }
 }
 

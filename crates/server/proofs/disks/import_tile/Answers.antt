@@ -1,12 +1,21 @@
-use Rattle.std.proofs.Common.{ℕ, List, inl, inr, sym, subst}
+use Rattle.std.proofs.Common.{◌≡◌, ◌+◌, ◌*◌, ℕ, List, [], ◌∷◌, ◌++◌, codes, Ok, Err, inl, inr, refl, sym, ap, ◌∙◌, subst}
 use Rattle.edits.specs.declared.command.Command.TheVariants.{Import}
-use Rattle.server.specs.OnDisks.{HasApplied, IsTileRead, WasRead, given_by}
+use Rattle.store.specs.Stores.{side_of}
+use Rattle.server.specs.Endings.{Tells}
+use Rattle.server.specs.OnDisks.{HasApplied, WasRead, most_bytes}
+use Rattle.server.specs.Places.{Reads}
+use Rattle.server.specs.declared.places.TileFault.{TileFault}
+use Rattle.server.specs.declared.places.TileFault.TheVariants as fault
 use Rattle.server.proofs.OnStores.{IsOpened, has_applied, was_read}
 use Rattle.server.proofs.disks.import_tile.Goals as goal
 
 pub returns-in-Err : goal.returns-in-Err
-returns-in-Err g c =
-    inl (
+returns-in-Err g c = (
+  [],
+  refl,
+  inl (
+    refl,
+    (
       c.in-Err.refused.refusal,
       record {
         read = record { size = c.in-Err.ensures.size; writes = c.in-Err.ensures.writes; later = c.in-Err.ensures.later; nothing = c.in-Err.ensures.nothing };
@@ -15,11 +24,13 @@ returns-in-Err g c =
         sure = c.in-Err.ensures.sure;
       },
       c.refuse.ensures,
-    )
+    ),
+  ),
+)
 
 pub returns-in-Err-Unreadable : goal.returns-in-Err-Unreadable
 returns-in-Err-Unreadable g c =
-    let opened : IsOpened g.D.Disk c.args.disk c.in-Ok.store = record {
+    let opened : IsOpened g.P.File.Disk c.args.disk c.in-Ok.store = record {
       size = c.in-Ok.ensures.size;
       writes = c.in-Ok.ensures.writes;
       later = c.in-Ok.ensures.later;
@@ -27,11 +38,57 @@ returns-in-Err-Unreadable g c =
       works = c.in-Ok.ensures.works;
       at = c.in-Ok.ensures.at;
     } in
-    inr (inl (subst (λ d. WasRead g.D.Disk c.args.disk d) (sym c.into_disk.ensures) (was_read g.D.Disk c.args.disk c.in-Ok.store opened), c.write_message-status.ensures))
+    let read = was_read g.P.File.Disk c.args.disk c.in-Ok.store opened in
+    let most : c.file_bytes.result + 1 ≡ most_bytes (side_of c.in-Ok.store) = ap (λ (n : ℕ). n + 1) (c.file_bytes.ensures.value ∙ ap (λ (n : ℕ). 2 * (n * n)) c.tile_side.ensures) in
+    let told = subst (λ (about : List ℕ). Tells (codes "mosaic: cannot read " ++ about) (g.O.Output.stream c.args.writer.now) (g.O.Output.stream c.write_message-status.new.writer) c.write_message-status.result)
+    c.as_bytes.ensures.value c.write_message-status.ensures in (
+      Reads c.args.tile.now (c.file_bytes.result + 1) (Err fault.Unreadable) ∷ [],
+      (
+        c.read.new.self,
+        subst (λ (f : TileFault). g.P.Places.accessed c.args.places.now (Reads c.args.tile.now (c.file_bytes.result + 1) (Err f)) c.read.new.self) c.in-Err-Unreadable.field-0-is c.in-Err-Unreadable.ensures,
+        refl,
+      ),
+      inr (
+        c.in-Ok.store,
+        Err fault.Unreadable,
+        ap (λ (n : ℕ). Reads c.args.tile.now n (Err fault.Unreadable) ∷ []) most,
+        read,
+        record { size = opened.size; nothing = opened.nothing; at = opened.at; sure = λ h side capacity a b holds. tt; device = tt },
+        (subst (λ d. WasRead g.P.File.Disk c.args.disk d) (sym c.into_disk.ensures) read, told),
+      ),
+    )
+
+pub returns-in-Err-NoMemory : goal.returns-in-Err-NoMemory
+returns-in-Err-NoMemory g c =
+    let opened : IsOpened g.P.File.Disk c.args.disk c.in-Ok.store = record {
+      size = c.in-Ok.ensures.size;
+      writes = c.in-Ok.ensures.writes;
+      later = c.in-Ok.ensures.later;
+      nothing = c.in-Ok.ensures.nothing;
+      works = c.in-Ok.ensures.works;
+      at = c.in-Ok.ensures.at;
+    } in
+    let read = was_read g.P.File.Disk c.args.disk c.in-Ok.store opened in
+    let most : c.file_bytes.result + 1 ≡ most_bytes (side_of c.in-Ok.store) = ap (λ (n : ℕ). n + 1) (c.file_bytes.ensures.value ∙ ap (λ (n : ℕ). 2 * (n * n)) c.tile_side.ensures) in (
+      Reads c.args.tile.now (c.file_bytes.result + 1) (Err fault.NoMemory) ∷ [],
+      (
+        c.read.new.self,
+        subst (λ (f : TileFault). g.P.Places.accessed c.args.places.now (Reads c.args.tile.now (c.file_bytes.result + 1) (Err f)) c.read.new.self) c.in-Err-NoMemory.field-0-is c.in-Err-NoMemory.ensures,
+        refl,
+      ),
+      inr (
+        c.in-Ok.store,
+        Err fault.NoMemory,
+        ap (λ (n : ℕ). Reads c.args.tile.now n (Err fault.NoMemory) ∷ []) most,
+        read,
+        record { size = opened.size; nothing = opened.nothing; at = opened.at; sure = λ h side capacity a b holds. tt; device = tt },
+        (subst (λ d. WasRead g.P.File.Disk c.args.disk d) (sym c.into_disk-in-Err-NoMemory.ensures) read, c.refuse-status.ensures),
+      ),
+    )
 
 pub returns : goal.returns
 returns g c =
-    let opened : IsOpened g.D.Disk c.args.disk c.in-Ok.store = record {
+    let opened : IsOpened g.P.File.Disk c.args.disk c.in-Ok.store = record {
       size = c.in-Ok.ensures.size;
       writes = c.in-Ok.ensures.writes;
       later = c.in-Ok.ensures.later;
@@ -40,16 +97,21 @@ returns g c =
       at = c.in-Ok.ensures.at;
     } in
     let bytes = c.new-bytes.result in
-    let read = subst (λ (b : List ℕ). IsTileRead c.tile_side.result (given_by g.R.Read.remaining c.args.reader) b) (sym c.new-bytes.ensures) c.in-Ok-read_tile.ensures.read.1 in
-    let applied = has_applied g.D.Disk c.args.disk c.in-Ok.store c.apply-applied.new.self (Import c.args.corner bytes) c.apply-applied.result opened c.apply-applied.ensures in
-    inr (inr (inr (
-      c.in-Ok-read_tile.ensures.read.0,
-      c.in-Ok.store,
-      bytes,
-      c.apply-applied.result,
-      was_read g.D.Disk c.args.disk c.in-Ok.store opened,
-      record { size = opened.size; nothing = opened.nothing; at = opened.at; sure = λ h side capacity a b holds. tt; device = tt },
-      subst (λ (n : ℕ). IsTileRead n (given_by g.R.Read.remaining c.args.reader) bytes) c.tile_side.ensures read,
-      subst (λ d. HasApplied g.D.Disk c.args.disk d (Import c.args.corner bytes) c.apply-applied.result) (sym c.into_disk-2.ensures) applied,
-      c.end_command.ensures,
-    )))
+    let most : c.file_bytes.result + 1 ≡ most_bytes (side_of c.in-Ok.store) = ap (λ (n : ℕ). n + 1) (c.file_bytes.ensures.value ∙ ap (λ (n : ℕ). 2 * (n * n)) c.tile_side.ensures) in
+    let applied = has_applied g.P.File.Disk c.args.disk c.in-Ok.store c.apply-applied.new.self (Import c.args.corner bytes) c.apply-applied.result opened c.apply-applied.ensures in (
+      Reads c.args.tile.now (c.file_bytes.result + 1) (Ok c.in-Ok-read.bytes.items) ∷ [],
+      (c.read.new.self, c.in-Ok-read.ensures, refl),
+      inr (
+        c.in-Ok.store,
+        Ok bytes,
+        subst (λ (b : List ℕ). Reads c.args.tile.now (c.file_bytes.result + 1) (Ok c.in-Ok-read.bytes.items) ∷ [] ≡ Reads c.args.tile.now (most_bytes (side_of c.in-Ok.store)) (Ok b) ∷ []) (sym c.new-bytes.ensures)
+            (ap (λ (n : ℕ). Reads c.args.tile.now n (Ok c.in-Ok-read.bytes.items) ∷ []) most),
+        was_read g.P.File.Disk c.args.disk c.in-Ok.store opened,
+        record { size = opened.size; nothing = opened.nothing; at = opened.at; sure = λ h side capacity a b holds. tt; device = tt },
+        (
+          c.apply-applied.result,
+          subst (λ d. HasApplied g.P.File.Disk c.args.disk d (Import c.args.corner bytes) c.apply-applied.result) (sym c.into_disk-2.ensures) applied,
+          c.end_command.ensures,
+        ),
+      ),
+    )

@@ -33,15 +33,15 @@ returns g c =
       at = c.in-Ok.ensures.at;
     } in
     let (stores, (last, serves)) = c.serve-served.ensures.calls in
-    let answers = outcome _ (TellsCall g.D.Disk) (g.R.Read.remaining c.args.reader.now) (g.R.Read.remaining c.serve-served.new.reader) (g.O.Write.contents c.args.writer.now) (g.O.Write.contents c.serve-served.new.writer)
+    let answers = outcome _ (TellsCall g.D.Disk) (g.R.Read.remaining c.args.reader.now) (g.R.Read.remaining c.serve-served.new.reader) (g.O.Output.stream c.args.writer.now).contents (g.O.Output.stream c.serve-served.new.writer).contents
     c.in-Ok.store stores c.serve-served.result serves.answers (λ s i text t told. record { replied = told.replied; done = told.done; fault = told.fault; blamed = told.blamed }) in
-    let served = has_served g.D.Disk c.args.disk c.in-Ok.store stores (g.R.Read.remaining c.args.reader.now) (g.R.Read.remaining c.serve-served.new.reader) (g.O.Write.contents c.args.writer.now)
-    (g.O.Write.contents c.serve-served.new.writer) c.serve-served.result opened serves.told answers serves.honest serves.failures
+    let served = has_served g.D.Disk c.args.disk c.in-Ok.store stores (g.R.Read.remaining c.args.reader.now) (g.R.Read.remaining c.serve-served.new.reader) (g.O.Output.stream c.args.writer.now).contents
+    (g.O.Output.stream c.serve-served.new.writer).contents c.serve-served.result opened serves.told answers serves.honest serves.failures
     (λ honest s at. let run = serves.states honest s at in (run.0, (run.1.outcome, run.1.later))) in
     inr (
       c.serve-served.result,
-      g.O.Write.contents c.serve-served.new.writer,
-      subst (λ d. HasServed g.D.Disk c.args.disk d (g.R.Read.remaining c.args.reader.now) (g.R.Read.remaining c.serve-served.new.reader) (g.O.Write.contents c.args.writer.now) (g.O.Write.contents c.serve-served.new.writer) c.serve-served.result)
+      g.O.Output.stream c.serve-served.new.writer,
+      subst (λ d. HasServed g.D.Disk c.args.disk d (g.R.Read.remaining c.args.reader.now) (g.R.Read.remaining c.serve-served.new.reader) (g.O.Output.stream c.args.writer.now).contents (g.O.Output.stream c.serve-served.new.writer).contents c.serve-served.result)
           (ap disk_of last ∙ sym c.into_disk.ensures) served,
       c.end_session.ensures c.serve-served.ensures.output.caused,
     )

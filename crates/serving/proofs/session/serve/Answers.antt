@@ -9,14 +9,14 @@ use Rattle.serving.proofs.SessionLemmas.{so_far_none, so_far_more, so_far_end, s
 use Rattle.serving.proofs.session.serve.Goals as goal
 
 pub loop-ahead-init : goal.loop-ahead-init
-loop-ahead-init g c = (λ failed. failed, ([], (refl, so_far_none (Answers g.E.Engine) c.new-ahead.result.bytes _ _ c.args.engine.now c.new-ahead.ensures.bytes)))
+loop-ahead-init g c = (refl, ([], (refl, so_far_none (Answers g.E.Engine) c.new-ahead.result.bytes _ _ c.args.engine.now c.new-ahead.ensures.bytes)))
 
 pub loop-ahead-preserved : goal.loop-ahead-preserved
 loop-ahead-preserved g c =
     let before = c.loop-ahead.invariant.1 in
     let next = c.in-Ok-More.ensures.calls in
     let more : c.in-Ok-More.field-0 ≡ More = search rules in (
-      λ failed. ⊎_elim c.loop-ahead.invariant.0 (λ told. absurd (cc)) (c.in-Ok-More.ensures.output.told failed),
+      ⊎_elim (λ none. none ∙ c.loop-ahead.invariant.0) (λ told. absurd (cc)) c.in-Ok-More.ensures.output.told,
       (
         before.0 ++ next.0,
         (
@@ -66,7 +66,7 @@ pub returns-in-Ok-End-clause-output : goal.returns-in-Ok-End-clause-output
 returns-in-Ok-End-clause-output g c =
     let step = c.in-Ok-End.ensures.output in
     record {
-      told = λ failed. ⊎_elim (λ before. inl (c.loop-ahead.invariant.0 before)) (λ told. absurd (cc)) (step.told failed);
+      told = ⊎_elim (λ none. inl (none ∙ c.loop-ahead.invariant.0)) (λ told. absurd (cc)) step.told;
       caused = λ told. absurd (cc);
     }
 
@@ -74,6 +74,6 @@ pub returns-in-Err-clause-output : goal.returns-in-Err-clause-output
 returns-in-Err-clause-output g c =
     let step = c.in-Err.ensures.output in
     record {
-      told = λ failed. ⊎_elim (λ before. inl (c.loop-ahead.invariant.0 before)) (λ told. inr (cc)) (step.told failed);
+      told = ⊎_elim (λ none. inl (none ∙ c.loop-ahead.invariant.0)) (λ told. inr (cc)) step.told;
       caused = λ told. step.caused (cc);
     }

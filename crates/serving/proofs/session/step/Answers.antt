@@ -1,9 +1,8 @@
-use Rattle.std.proofs.Common.{rules, ◌≡◌, ◌≢◌, [], ◌∷◌, ◌++◌, ◌∙◌, inr, refl, sym}
+use Rattle.std.proofs.Common.{rules, ◌≡◌, ◌≢◌, [], ◌∷◌, ◌++◌, inl, inr, refl}
 use Rattle.std.specs.Io.KnownBytes.{IsAtEnd}
 use Rattle.std.proofs.KnownBytes.{Appends-nil}
 use Rattle.std.proofs.lemmas.Bool.{both_ways}
 use Rattle.lines.specs.declared.source.Extent.TheVariants.{Cut}
-use Rattle.serving.specs.Outputs.{stream_of}
 use Rattle.serving.specs.Promises.{Answers}
 use Rattle.serving.proofs.OutputLemmas.{begun, put_whole}
 use Rattle.serving.proofs.SessionLemmas.{item_taken, begun_taken, ends_none, ends_last, goes_on, one_reply}
@@ -47,7 +46,7 @@ returns-then-has_failed-clause-calls g c =
       same_side = g.met.E.Engine.same_side;
     })
     c.args.engine.now engine i c.answer-reply.result found.1.item.asked (c.answer-reply.ensures i found.1) in
-    let wrote = begun (g.O.Write.contents c.args.writer.now) (stream_of g.O.Write.contents g.O.Output.failed c.put_reply.new.self) c.answer-reply.result c.put_reply.ensures.written in (
+    let wrote = begun (g.O.Output.stream c.args.writer.now) (g.O.Output.stream c.put_reply.new.self) c.answer-reply.result c.put_reply.ensures in (
       engine ∷ [],
       (refl, (i, c.in-Ok-read_item.item.extent, c.answer-reply.result, wrote.0, found.1.item, taken, wrote.1, one_reply (Answers g.E.Engine) c.args.engine.now i c.answer-reply.result engine answered)),
     )
@@ -67,7 +66,8 @@ returns-clause-calls g c =
     })
     c.args.engine.now engine i c.answer-reply.result found.1.item.asked (c.answer-reply.ensures i found.1) in
     let replied = one_reply (Answers g.E.Engine) c.args.engine.now i c.answer-reply.result engine answered in
-    let wrote = put_whole (g.O.Write.contents c.args.writer.now) (stream_of g.O.Write.contents g.O.Output.failed c.put_reply.new.self) c.answer-reply.result c.put_reply.ensures.written (sym c.has_failed.ensures ∙ c.if-has_failed.false) in (
+    let wrote = (put_whole (g.O.Output.stream c.args.writer.now) (g.O.Output.stream c.put_reply.new.self) c.answer-reply.result c.put_reply.ensures
+    (λ failed. both_ways c.has_failed.result c.if-has_failed.false (c.has_failed.ensures.1 failed))).whole in (
       engine ∷ [],
       (
         refl,
@@ -77,3 +77,12 @@ returns-clause-calls g c =
         ],
       ),
     )
+
+pub returns-then-has_failed-clause-output : goal.returns-then-has_failed-clause-output
+returns-then-has_failed-clause-output g c = record { told = inr refl; caused = λ told. c.has_failed.ensures.0 c.if-has_failed.true }
+
+pub returns-clause-output : goal.returns-clause-output
+returns-clause-output g c =
+    let left = put_whole (g.O.Output.stream c.args.writer.now) (g.O.Output.stream c.put_reply.new.self) c.answer-reply.result c.put_reply.ensures
+    (λ failed. both_ways c.has_failed.result c.if-has_failed.false (c.has_failed.ensures.1 failed)) in
+    record { told = inl left.none; caused = λ told. absurd (cc) }
