@@ -1,5 +1,5 @@
 -- Each ground point has a flat distance and a direction.
-use Rattle.std.proofs.Common.{◌≡◌, ℕ, zero, suc, ◌+◌, ◌<◌, ◌≤◌, ℤ, ◌≤ℤ◌, ◌<ℤ◌, ◌⊎◌, inl, inr, ⊎_elim, true, false, IsTrue, IsFalse, Option, Some, None, List, [], ◌∷◌, refl, sym, ap, ◌∙◌, subst, arith, true≢false}
+use Rattle.std.proofs.Common.{◌≡◌, ℕ, zero, suc, ◌+◌, ◌<◌, ◌≤◌, ℤ, ◌≤ℤ◌, ◌⊎◌, inl, inr, ⊎_elim, true, false, IsTrue, IsFalse, Option, Some, None, List, [], ◌∷◌, refl, sym, ap, ◌∙◌, subst, arith, true≢false}
 use Rattle.std.specs.Prelude.{int_lt, nat_lt}
 use Rattle.std.proofs.lemmas.Bool.{cases_Bool, cases_eq, cases_order}
 use Rattle.std.proofs.lemmas.Bool.Decides.{nat_tests}
@@ -9,32 +9,18 @@ use Rattle.lattice.specs.declared.direction.Dir.{Dir}
 use Rattle.lattice.specs.Steps.{step, order_of, slope_of}
 use Rattle.lattice.specs.Terrain.{Terrain, LeadsOut, crest}
 use Rattle.lattice.proofs.Levels.{le-max_right, ≤ℤ_trans, ≤ℤ_same, ≤ℤ_antisym}
+use Rattle.lattice.proofs.IntTests.{lt_true, lt_false, eq_or_not}
 use Rattle.flow_d8.specs.Drainage.{AreFilledLevels, IsLower, HasLower, drop_by, IsSteepest, CrossesFlat, IsFlatDistance, IsNearer, IsFirstNearer, IsDirection}
 use Rattle.flow_d8.specs.Grid.{IsGrid}
 use Rattle.flow_d8.proofs.Compass.{dir_at, order_below, order_of-dir_at, at_or_later, first_dir}
 use Rattle.flow_d8.proofs.Unique.{one_distance}
 
-int_lt-true : (a b : ℤ) → int_lt a b ≡ true → a <ℤ b
-int_lt-true a b h = grind (arith, ints)
-
-int_lt-false : (a b : ℤ) → int_lt a b ≡ false → b ≤ℤ a
-int_lt-false a b h = grind (arith, ints)
-
-same_or_not : (a b : ℤ) → (a ≡ b) ⊎ (a ≡ b → ⊥)
-same_or_not a b = elim (cases_Bool (int_lt a b)) [
-  | inl below ↦ let lt = int_lt-true a b below in inr (λ same. absurd (omega (arith, ints)))
-  | inr le ↦ elim (cases_Bool (int_lt b a)) [
-    | inl above ↦ let gt = int_lt-true b a above in inr (λ same. absurd (omega (arith, ints)))
-    | inr ge ↦ inl (≤ℤ_antisym a b (int_lt-false b a ge) (int_lt-false a b le))
-  ]
-]
-
 module _ (t : Terrain Point) (bottom : ℤ) (grid : IsGrid t bottom) (level : Point → ℤ) (filled : AreFilledLevels t level) where
   decide_lower : (x y : Point) → IsLower t level x y ⊎ (IsLower t level x y → ⊥)
   decide_lower x y = elim (cases_Bool (t.is_adjacent x y)) [
     | inl on ↦ elim (cases_Bool (int_lt (level y) (level x))) [
-      | inl below ↦ inl (record { beside = on; below = int_lt-true (level y) (level x) below })
-      | inr not ↦ inr (λ h. let lt = h.below in let ge = int_lt-false (level y) (level x) not in absurd (omega (arith, ints)))
+      | inl below ↦ inl (record { beside = on; below = lt_true (level y) (level x) below })
+      | inr not ↦ inr (λ h. let lt = h.below in let ge = lt_false (level y) (level x) not in absurd (omega (arith, ints)))
     ]
     | inr off ↦ inr (λ h. true≢false (sym h.beside ∙ off))
   ]
@@ -138,7 +124,7 @@ module _ (t : Terrain Point) (bottom : ℤ) (grid : IsGrid t bottom) (level : Po
     | inl on ↦ ⊎_elim
         (λ same. ⊎_elim (λ yes. inl (record { beside = on; same_level = same; crosses = yes })) (λ no. inr (λ h. no h.crosses)) known)
         (λ other. inr (λ h. other h.same_level))
-        (same_or_not (level y) (level x))
+        (eq_or_not (level y) (level x))
     | inr off ↦ inr (λ h. true≢false (sym h.beside ∙ off))
   ]
 
@@ -162,9 +148,9 @@ module _ (t : Terrain Point) (bottom : ℤ) (grid : IsGrid t bottom) (level : Po
       let least : level y ≤ℤ crest t y rest = (filled y (grid.lawful.to_ground x y out.path.0)).least rest on in
       let bound : crest t y rest ≤ℤ level x = ≤ℤ_trans (crest t y rest) (crest t x (y ∷ rest)) (level x) (le-max_right (t.height x) (crest t y rest)) below in
       elim (cases_Bool (int_lt (level y) (level x))) [
-        | inl falls ↦ (0, inl (y, record { beside = out.path.0; below = int_lt-true (level y) (level x) falls }))
+        | inl falls ↦ (0, inl (y, record { beside = out.path.0; below = lt_true (level y) (level x) falls }))
         | inr stays ↦
-            let same : level y ≡ level x = ≤ℤ_antisym (level y) (level x) (≤ℤ_trans (level y) (crest t y rest) (level x) least bound) (int_lt-false (level y) (level x) stays) in
+            let same : level y ≡ level x = ≤ℤ_antisym (level y) (level x) (≤ℤ_trans (level y) (crest t y rest) (level x) least bound) (lt_false (level y) (level x) stays) in
             let further = crosses_along y rest on (subst (λ v. crest t y rest ≤ℤ v) (sym same) bound) in
             (suc further.0, (y, (out.path.0, same, further.1)))
       ]

@@ -18,6 +18,7 @@ use Rattle.lattice.specs.Ground.{is_ground, is_height, metres, same_point, is_ne
 use Rattle.lattice.proofs.Samples.{point_of_index}
 use Rattle.lattice.proofs.WaysOut.{held}
 use Rattle.lattice.proofs.Levels.{height-le_level, level_is_unique}
+use Rattle.lattice.proofs.BoolTests.{same_tests}
 use Rattle.flow_d8.specs.Drainage.{AreFilledLevels}
 use Rattle.flow_d8.specs.Filled.{Filled, AreLevels, IsFilledOf, is_holder, is_held}
 use Rattle.flow_d8.specs.Surface.{level_at, has_level, is_shared, adjoins, is_declared, leads_off, surface}
@@ -42,11 +43,6 @@ ground_not_void (s ∷ later) h = not_void (s ∷ later) h
 
 pub above_void : (height level : ℤ) → is_void height ≡ false → void ≤ℤ height → height ≤ℤ level → is_void level ≡ false
 above_void height level some low le = grind (arith, ints)
-
-same_bool : (a b : Bool) → (a ≡ true → b ≡ true) → (b ≡ true → a ≡ true) → a ≡ b
-same_bool true b to from = sym (to refl)
-same_bool false true to from = from refl
-same_bool false false to from = refl
 
 -- the corners of tiles hold what the tiles hold
 any_corner : (P Q : Corner → Bool) (n : ℕ) (tiles : List Tile) → All (IsTile n) tiles → ((c : Corner) → IsTrue (is_corner c) → P c ≡ Q c)
@@ -113,7 +109,7 @@ module _ (m : Mosaic) (f : Filled) (is : IsMosaic m) (whole : AreLevels f) (of :
   ]
 
   pub ground_same : (p : Point) → has_level f p ≡ is_ground m p
-  ground_same p = same_bool (has_level f p) (is_ground m p) (level_ground p) (ground_level p)
+  ground_same p = same_tests (has_level f p) (is_ground m p) (level_ground p) (ground_level p)
 
   pub adjacent_same : (p q : Point) → adjoins f p q ≡ is_adjacent m p q
   unfolding adjoins

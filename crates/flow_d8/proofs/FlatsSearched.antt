@@ -1,8 +1,6 @@
 -- A flat is searched: which points are inside it, and which drain.
-use Rattle.std.proofs.Common.{◌≡◌, ℕ, zero, suc, ◌+◌, ◌<◌, ◌≤◌, ℤ, true, IsTrue, Option, Some, None, List, [], ◌∷◌, ◌++◌, length, get_or, ◌⊎◌, inl, inr, ⊎_elim, refl, sym, ap, ap₂, ◌∙◌, subst, arith, true≢false}
+use Rattle.std.proofs.Common.{◌≡◌, ℕ, zero, suc, ◌+◌, ◌<◌, ◌≤◌, ℤ, true, IsTrue, Option, Some, None, List, [], ◌∷◌, ◌++◌, length, get_or, ◌⊎◌, inl, inr, ⊎_elim, refl, sym, ap, ◌∙◌, subst, arith, true≢false}
 use Rattle.std.specs.Prelude.{is_some, Contains}
-use Rattle.std.specs.Ordering.{int_eq}
-use Rattle.std.proofs.lemmas.Int.{ints}
 use Rattle.std.proofs.lemmas.Bool.{cases_Bool, cases_eq, cases_lt}
 use Rattle.std.proofs.lemmas.List.{get_or_default}
 use Rattle.std.proofs.lemmas.List.Elements.{All-append, Contains-append_left, Contains-append_right}
@@ -13,6 +11,8 @@ use Rattle.lattice.specs.Steps.{step, order_of}
 use Rattle.lattice.specs.Stepping.{fits_point}
 use Rattle.lattice.specs.Terrain.{Terrain}
 use Rattle.lattice.specs.Mosaic.{void}
+use Rattle.lattice.specs.Ground.{same_point}
+use Rattle.lattice.proofs.SamePoints.{same_point_says, same_point_from}
 use Rattle.flow_d8.specs.Drainage.{CrossesFlat, IsFlatDistance}
 use Rattle.flow_d8.specs.Grid.{IsGrid}
 use Rattle.flow_d8.proofs.Compass.{same_order, order_at, order_below}
@@ -25,19 +25,10 @@ use Rattle.flow_d8.specs.Flats.{found_of, known_or_none, distance_of, IsSet, poi
 use Rattle.flow_d8.proofs.Nearby.{beside_there, beside_some, found_at}
 use Rattle.flow_d8.proofs.Reaching.{longer_by_one, at_old, at_end, read_is, marked, marked_on}
 
-eq_said : (a b : ℤ) → int_eq a b ≡ true → a ≡ b
-eq_said a b h = grind (arith, ints)
-
-eq_holds : (a b : ℤ) → a ≡ b → int_eq a b ≡ true
-eq_holds a b h = grind (arith, ints)
-
 pub same_or_not : (p q : Point) → (p ≡ q) ⊎ (p ≡ q → ⊥)
-same_or_not p q = elim (cases_Bool (int_eq p.y q.y)) [
-  | inr other ↦ inr (λ same. true≢false (sym (eq_holds p.y q.y (ap (λ (r : Point). r.y) same)) ∙ other))
-  | inl row ↦ elim (cases_Bool (int_eq p.x q.x)) [
-    | inr other ↦ inr (λ same. true≢false (sym (eq_holds p.x q.x (ap (λ (r : Point). r.x) same)) ∙ other))
-    | inl column ↦ inl (ap₂ (λ (y x : ℤ). record { y = y; x = x }) (eq_said p.y q.y row) (eq_said p.x q.x column))
-  ]
+same_or_not p q = elim (cases_Bool (same_point p q)) [
+  | inl same ↦ inl (same_point_says p q same)
+  | inr other ↦ inr (λ same. true≢false (sym (same_point_from p q same) ∙ other))
 ]
 
 pub not_known : {k : ℕ} {A : Type 0} → ◌≡◌ {A = Option (Option ℕ)} (Some None) (Some (Some k)) → A

@@ -2,10 +2,9 @@
 use Rattle.std.proofs.Common.{◌≡◌, ℕ, ◌+◌, ◌*◌, ◌/◌, ◌%◌, ◌<◌, ◌≤◌, sym, ap, ◌∙◌, subst, arith}
 use Rattle.std.proofs.Math.Nat.{mul-le-mul_right}
 use Rattle.std.proofs.lemmas.Grind.{rows}
-use Rattle.std.proofs.lemmas.Nat.{mod-mul-add}
+use Rattle.std.proofs.lemmas.Nat.{div-mul-add, mod-mul-add}
 use Rattle.std.specs.Prelude.{nat_le, ◌&&◌}
 use Rattle.flow_d8.specs.Filled.{is_deep}
-use Rattle.flow_d8.proofs.Inside.{quotient, remainder}
 
 whole_and_rest : (a number : ℕ) → number ≡ number / a * a + number % a
 whole_and_rest a number = grind (arith, rows)
@@ -56,7 +55,7 @@ module _ (n number row column : ℕ) (is : number % (n * n) ≡ row * n + column
 -- the test on an index is one on the row and the column
 pub deep_by_place : (n e row column : ℕ) → e ≡ row * n + column → column < n → (nat_le 2 row && nat_le (row + 3) n && nat_le 2 column && nat_le (column + 3) n) ≡ is_deep n e
 deep_by_place n e row column is small =
-    let q : row ≡ e / n = sym (ap (λ v. v / n) is ∙ quotient n row column small) in
-    let r : column ≡ e % n = sym (ap (λ v. v % n) is ∙ remainder n row column small) in
+    let q : row ≡ e / n = sym (ap (λ v. v / n) is ∙ div-mul-add row n column small) in
+    let r : column ≡ e % n = sym (ap (λ v. v % n) is ∙ mod-mul-add row n column small) in
     ap (λ i. nat_le 2 i && nat_le (i + 3) n && nat_le 2 column && nat_le (column + 3) n) q
     ∙ ap (λ j. nat_le 2 (e / n) && nat_le (e / n + 3) n && nat_le 2 j && nat_le (j + 3) n) r

@@ -8,6 +8,7 @@ use Rattle.std.proofs.lemmas.Grind.{rows}
 use Rattle.std.proofs.lemmas.Option.{slice_get_read, get_or_from_slice_get}
 use Rattle.std.proofs.lemmas.Bool.{cases_Bool, cond-true, cond-false, and_parts, and_from, or_left, or_right}
 use Rattle.std.proofs.lemmas.Bool.Decides.{nat_tests}
+use Rattle.std.proofs.lemmas.Nat.{div-mul-add, mod-mul-add}
 use Rattle.lattice.specs.declared.point.Point.{Point}
 use Rattle.lattice.specs.declared.direction.Dir.{Dir}
 use Rattle.lattice.specs.Corners.{Corner, is_corner}
@@ -102,12 +103,6 @@ module _ (f : Filled) (whole : AreLevels f) where
 le_said : (a b : ℕ) → nat_le a b ≡ true → a ≤ b
 le_said a b h = grind (arith, nat_tests)
 
-pub quotient : (n i j : ℕ) → j < n → (i * n + j) / n ≡ i
-quotient n i j small = grind (arith, rows)
-
-pub remainder : (n i j : ℕ) → j < n → (i * n + j) % n ≡ j
-remainder n i j small = grind (arith, rows)
-
 -- a point deep inside its tile
 pub record IsDeep (f : Filled) (p : Point) (number : ℕ) : Type 0 where
   pub k : ℕ
@@ -133,9 +128,9 @@ module _ (f : Filled) (whole : AreLevels f) (p : Point) (level : IsTrue (has_lev
       let column : j < f.side = x.sample.2.0.column in
       let e_is : e ≡ i * f.side + j = x.sample.2.1 in
       let number_is : number ≡ seat.number * (f.side * f.side) + e = sym at ∙ seat.numbered in
-      let rest : number % (f.side * f.side) ≡ e = ap (λ v. v % (f.side * f.side)) number_is ∙ remainder (f.side * f.side) seat.number e (index_small f.side seat.corner p whole.side_low seat.held) in
-      let row_is : (number % (f.side * f.side)) / f.side ≡ i = ap (λ v. v / f.side) (rest ∙ e_is) ∙ quotient f.side i j column in
-      let column_is : (number % (f.side * f.side)) % f.side ≡ j = ap (λ v. v % f.side) (rest ∙ e_is) ∙ remainder f.side i j column in
+      let rest : number % (f.side * f.side) ≡ e = ap (λ v. v % (f.side * f.side)) number_is ∙ mod-mul-add seat.number (f.side * f.side) e (index_small f.side seat.corner p whole.side_low seat.held) in
+      let row_is : (number % (f.side * f.side)) / f.side ≡ i = ap (λ v. v / f.side) (rest ∙ e_is) ∙ div-mul-add i f.side j column in
+      let column_is : (number % (f.side * f.side)) % f.side ≡ j = ap (λ v. v % f.side) (rest ∙ e_is) ∙ mod-mul-add i f.side j column in
       let q = (number % (f.side * f.side)) / f.side in
       let r = (number % (f.side * f.side)) % f.side in
       let one = and_parts (nat_le 2 q && nat_le (q + 3) f.side && nat_le 2 r) (nat_le (r + 3) f.side) test in
@@ -266,8 +261,8 @@ deep_number f whole p k e c listed in_range index test =
     let j = index.sample.1 in
     let at = index.sample.2.0 in
     let is : e ≡ i * f.side + j = index.sample.2.1 in
-    let row : e / f.side ≡ i = ap (λ v. v / f.side) is ∙ quotient f.side i j at.column in
-    let column : e % f.side ≡ j = ap (λ v. v % f.side) is ∙ remainder f.side i j at.column in
+    let row : e / f.side ≡ i = ap (λ v. v / f.side) is ∙ div-mul-add i f.side j at.column in
+    let column : e % f.side ≡ j = ap (λ v. v % f.side) is ∙ mod-mul-add i f.side j at.column in
     let said = deep_says f.side e test in
     let i_low : 2 ≤ i = subst (λ v. 2 ≤ v) row said.0 in
     let i_high : i + 3 ≤ f.side = subst (λ v. v + 3 ≤ f.side) row said.1 in

@@ -1,5 +1,5 @@
 -- The terrain of a mosaic is a grid: adjacent points are a step apart, and no ground is as low as the void.
-use Rattle.std.proofs.Common.{◌≡◌, ℕ, suc, ◌<◌, ℤ, pos, negsuc, ◌+ℤ◌, ◌-ℤ◌, ◌≤ℤ◌, ◌<ℤ◌, ◌⊎◌, inl, inr, ⊎_elim, true, false, not, List, [], ◌∷◌, sym, ap₂, ◌∙◌, subst, arith, nat_abs, true≢false}
+use Rattle.std.proofs.Common.{◌≡◌, ℕ, suc, ◌<◌, ℤ, pos, negsuc, ◌+ℤ◌, ◌-ℤ◌, ◌≤ℤ◌, ◌⊎◌, inl, inr, ⊎_elim, true, false, not, List, [], ◌∷◌, sym, ap₂, ◌∙◌, subst, arith, nat_abs, true≢false}
 use Rattle.std.specs.Prelude.{nat_lt, int_lt, All, filter, slice_index_or, if◌then◌else◌, cond, map, length}
 use Rattle.std.specs.Ordering.{int_eq}
 use Rattle.std.proofs.lemmas.Bool.{ltb-true, not-true, cases_Bool, cases_lt, and_parts, and_from}
@@ -17,22 +17,14 @@ use Rattle.lattice.specs.Ground.{is_ground, same_point, is_near, share_tile, ter
 use Rattle.lattice.proofs.Levels.{≤ℤ_same}
 use Rattle.flow_d8.specs.Grid.{IsGrid}
 use Rattle.lattice.proofs.Lawful.{five_parts, terrain_is_lawful}
-
-pub int_lt-true : (a b : ℤ) → int_lt a b ≡ true → a <ℤ b
-int_lt-true a b h = grind (arith, ints)
-
-pub int_lt-false : (a b : ℤ) → int_lt a b ≡ false → b ≤ℤ a
-int_lt-false a b h = grind (arith, ints)
-
-int_eq-same : (a b : ℤ) → a ≡ b → int_eq a b ≡ true
-int_eq-same a b h = grind (arith, ints)
+use Rattle.lattice.proofs.IntTests.{lt_true, lt_false, eq_from}
 
 shifted : (a b : ℤ) → nat_abs (a -ℤ b) < 2 → (b ≡ a +ℤ pos 0) ⊎ ((b ≡ a +ℤ pos 1) ⊎ (b ≡ a +ℤ negsuc 0))
 shifted a b near = elim (cases_Bool (int_lt a b)) [
-  | inl up ↦ let gt = int_lt-true a b up in inr (inl (omega (arith, ints)))
-  | inr not_up ↦ let le = int_lt-false a b not_up in elim (cases_Bool (int_lt b a)) [
-    | inl down ↦ let lt = int_lt-true b a down in inr (inr (omega (arith, ints)))
-    | inr not_down ↦ let ge = int_lt-false b a not_down in inl (omega (arith, ints))
+  | inl up ↦ let gt = lt_true a b up in inr (inl (omega (arith, ints)))
+  | inr not_up ↦ let le = lt_false a b not_up in elim (cases_Bool (int_lt b a)) [
+    | inl down ↦ let lt = lt_true b a down in inr (inr (omega (arith, ints)))
+    | inr not_down ↦ let ge = lt_false b a not_down in inl (omega (arith, ints))
   ]
 ]
 
@@ -44,7 +36,7 @@ Away p q = (d : Dir) × (q ≡ step d p)
 
 in_row : (p q : Point) (same : same_point p q ≡ false) → q.y ≡ p.y +ℤ pos 0 → (q.x ≡ p.x +ℤ pos 0) ⊎ ((q.x ≡ p.x +ℤ pos 1) ⊎ (q.x ≡ p.x +ℤ negsuc 0)) → Away p q
 unfolding Away
-in_row p q same hy (inl hx) = absurd (true≢false (sym (and_from (int_eq p.y q.y) (int_eq p.x q.x) (int_eq-same p.y q.y (omega (arith, ints))) (int_eq-same p.x q.x (omega (arith, ints)))) ∙ same))
+in_row p q same hy (inl hx) = absurd (true≢false (sym (and_from (int_eq p.y q.y) (int_eq p.x q.x) (eq_from p.y q.y (omega (arith, ints))) (eq_from p.x q.x (omega (arith, ints)))) ∙ same))
 in_row p q same hy (inr (inl hx)) = (East, at q (p.y +ℤ pos 0) (p.x +ℤ pos 1) hy hx)
 in_row p q same hy (inr (inr hx)) = (West, at q (p.y +ℤ pos 0) (p.x +ℤ negsuc 0) hy hx)
 

@@ -5,6 +5,7 @@ use Rattle.std.proofs.lemmas.Int.{ints}
 use Rattle.std.proofs.lemmas.Bool.{cases_Bool, cond-true, cond-false, and_parts, and_from, or_cases, or_left, or_right}
 use Rattle.std.proofs.lemmas.Grind.{rows}
 use Rattle.std.proofs.Math.Nat.{mul-le-mul_right}
+use Rattle.std.proofs.lemmas.Nat.{div-mul-add, mod-mul-add}
 use Rattle.lattice.specs.declared.point.Point.{Point}
 use Rattle.lattice.specs.Corners.{Corner, is_corner}
 use Rattle.lattice.specs.Lattice.{Holds, holds, index_of, point_of, is_along}
@@ -159,12 +160,6 @@ pub same_test : (n : ℕ) (c : Corner) (p : Point) (answer : Bool) → 3 ≤ n �
 same_test n c p true side from to = sym (holds_holder n c p side (from refl))
 same_test n c p false side from to = elim (cases_Bool (is_holder n c p)) [ inl on ↦ absurd (true≢false (sym (to (holder_holds n c p side on)))) | inr off ↦ sym off ]
 
-quotient : (a k i : ℕ) → i < a → (k * a + i) / a ≡ k
-quotient a k i small = grind (arith, rows)
-
-remainder : (a k i : ℕ) → i < a → (k * a + i) % a ≡ i
-remainder a k i small = grind (arith, rows)
-
 pub tile_below : (a count number : ℕ) → 0 < a → number < count * a → number / a < count
 tile_below a count number some small = grind (arith, rows)
 
@@ -176,8 +171,8 @@ point_at_number n corners p number d side held same =
     let i = index_of n seat.corner p in
     let small : i < n * n = index_small n seat.corner p side seat.held in
     let is : number ≡ seat.number * (n * n) + i = sym same ∙ seat.numbered in
-    let k_is : number / (n * n) ≡ seat.number = ap (λ v. v / (n * n)) is ∙ quotient (n * n) seat.number i small in
-    let i_is : number % (n * n) ≡ i = ap (λ v. v % (n * n)) is ∙ remainder (n * n) seat.number i small in
+    let k_is : number / (n * n) ≡ seat.number = ap (λ v. v / (n * n)) is ∙ div-mul-add seat.number (n * n) i small in
+    let i_is : number % (n * n) ≡ i = ap (λ v. v % (n * n)) is ∙ mod-mul-add seat.number (n * n) i small in
     ap (λ k. point_of n (get_or corners k d) (number % (n * n))) k_is
     ∙ ap (λ c. point_of n c (number % (n * n))) (seat.at d)
     ∙ ap (λ j. point_of n seat.corner j) i_is

@@ -6,10 +6,8 @@ use Rattle.std.specs.Ordering.{int_eq}
 use Rattle.std.proofs.lemmas.Int.{ints}
 use Rattle.std.proofs.lemmas.Bool.{and_parts}
 use Rattle.lattice.specs.declared.point.Point.{Point}
+use Rattle.lattice.proofs.IntTests.{eq_true}
 use Rattle.flow_d8.specs.PointSquares.{square_of, cell_of, is_number}
-
-same : (a b : ℤ) → int_eq a b ≡ true → a ≡ b
-same a b h = grind (arith, ints)
 
 alike : (a : ℤ) → int_eq a a ≡ true
 alike a = grind (arith, ints)
@@ -17,7 +15,7 @@ alike a = grind (arith, ints)
 pub number_same : (q k : ℤ × ℤ) → is_number q k ≡ true → q ≡ k
 number_same q k h =
     let parts = and_parts (int_eq q.0 k.0) (int_eq q.1 k.1) h in
-    ap₂ (λ (a b : ℤ). (a, b)) (same q.0 k.0 parts.0) (same q.1 k.1 parts.1)
+    ap₂ (λ (a b : ℤ). (a, b)) (eq_true q.0 k.0 parts.0) (eq_true q.1 k.1 parts.1)
 
 pub number_itself : (q : ℤ × ℤ) → is_number q q ≡ true
 number_itself q = ap₂ (λ a b. a && b) (alike q.0) (alike q.1)

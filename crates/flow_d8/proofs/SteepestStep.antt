@@ -8,14 +8,12 @@ use Rattle.lattice.specs.declared.direction.Dir.TheVariants.{East, SouthEast, So
 use Rattle.lattice.specs.Steps.{step, order_of, slope_of}
 use Rattle.lattice.specs.Terrain.{Terrain}
 use Rattle.lattice.specs.Mosaic.{void}
+use Rattle.lattice.proofs.IntTests.{le_or_above}
 use Rattle.flow_d8.specs.Drainage.{IsLower, HasLower, IsSteepest, drop_by}
 use Rattle.flow_d8.proofs.Compass.{same_order, order_below}
 use Rattle.flow_d8.specs.declared.slopes.Best.{Best}
 use Rattle.flow_d8.specs.LevelGrid.{level_beside, IsLevelGrid}
 use Rattle.flow_d8.specs.SteepestStep.{LeadsDown, slope_in, IsSteepestOf}
-
-order : (a b : ℤ) → (a ≤ℤ b) ⊎ (b <ℤ a)
-order a b = grind (arith, ints)
 
 square_some : (n : ℕ) → 0 < n → 0 < n * n
 square_some zero some = absurd (omega arith)
@@ -77,7 +75,7 @@ module _ (t : Terrain Point) (level : Point → ℤ) (p : Point) where
             let there : beside ≡ level (step d p) = shown ∙ beside_there d on in
             ⊎_elim (λ high. absurd (omega (arith, none (inr high))))
             (λ below. record { beside = on; below = subst (λ v. v <ℤ level p) there (subst (λ v. beside <ℤ v) (sym here) below) })
-            (order height beside)
+            (le_or_above height beside)
         | inr off ↦ absurd (omega (arith, none (inl (shown ∙ beside_none d off))))
       ]
 

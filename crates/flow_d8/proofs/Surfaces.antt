@@ -6,6 +6,7 @@ use Rattle.std.specs.List.{list_any}
 use Rattle.std.proofs.lemmas.Int.{ints}
 use Rattle.std.proofs.lemmas.List.{get_or_past}
 use Rattle.std.proofs.lemmas.Bool.{cases_Bool, cond-true, cond-false, not-true, and_parts, and_from, or_cases, or_left, or_right}
+use Rattle.std.proofs.Math.Bool.{and_comm}
 use Rattle.lattice.specs.declared.point.Point.{Point}
 use Rattle.lattice.specs.declared.direction.Dir.{Dir}
 use Rattle.lattice.specs.declared.direction.Dir.TheVariants.{East, SouthEast, South, SouthWest, West, NorthWest, North, NorthEast}
@@ -16,27 +17,19 @@ use Rattle.lattice.specs.Terrain.{IsLawful}
 use Rattle.lattice.specs.Mosaic.{void, is_void}
 use Rattle.lattice.specs.Ground.{same_point, is_near}
 use Rattle.lattice.proofs.Lawful.{AllFive, five_parts, five_from}
+use Rattle.lattice.proofs.IntTests.{int_eq-swap}
 use Rattle.flow_d8.specs.Filled.{Filled, AreLevels, is_holder, is_held, number_of}
 use Rattle.flow_d8.specs.Surface.{number_in, level_at, has_level, is_shared, adjoins, leads_off, surface, beside_of}
 use Rattle.flow_d8.proofs.Numbers.{number_past, number_below, number_injective, seat_of, held_fits}
 use Rattle.flow_d8.proofs.MosaicGrid.{Away, away}
 
-int_eq-swap : (a b : ℤ) → int_eq a b ≡ int_eq b a
-int_eq-swap a b = grind (arith, ints)
-
 near_one-swap : (a b : ℤ) → nat_lt (nat_abs (a -ℤ b)) 2 ≡ nat_lt (nat_abs (b -ℤ a)) 2
 near_one-swap a b = ap (λ d. nat_lt d 2) (omega (arith, ints))
-
-and-swap : (a b : Bool) → (a && b) ≡ (b && a)
-and-swap true true = refl
-and-swap true false = refl
-and-swap false true = refl
-and-swap false false = refl
 
 shared-swap : (n : ℕ) (corners : List Corner) (p q : Point) →
     list_any (λ c. is_holder n c p && is_holder n c q) corners ≡ list_any (λ c. is_holder n c q && is_holder n c p) corners
 shared-swap n [] p q = refl
-shared-swap n (c ∷ rest) p q = ap₂ ◌||◌ (and-swap (is_holder n c p) (is_holder n c q)) (shared-swap n rest p q)
+shared-swap n (c ∷ rest) p q = ap₂ ◌||◌ (and_comm (is_holder n c p) (is_holder n c q)) (shared-swap n rest p q)
 
 both_held : (n : ℕ) (corners : List Corner) (p q : Point) → IsTrue (list_any (λ c. is_holder n c p && is_holder n c q) corners) → IsTrue (is_held n corners p)
 both_held n [] p q h = h

@@ -1,14 +1,16 @@
 -- Runs on their way: those of the points so far, the last of them still growing.
-use Rattle.std.proofs.Common.{◌≡◌, ℕ, zero, suc, ◌+◌, ◌<◌, ◌≤◌, ℤ, pos, ◌+ℤ◌, ◌≤ℤ◌, ◌⊎◌, ◌↔◌, inl, inr, ⊎_elim, List, [], ◌∷◌, ◌++◌, length, get_or, take, refl, sym, ap, ap₂, ◌∙◌, subst, arith, ◌-◌}
+use Rattle.std.proofs.Common.{◌≡◌, ℕ, zero, suc, ◌+◌, ◌<◌, ◌≤◌, ℤ, pos, ◌+ℤ◌, ◌≤ℤ◌, ◌⊎◌, ◌↔◌, inl, inr, ⊎_elim, List, [], ◌∷◌, ◌++◌, length, get_or, take, refl, sym, ap, ◌∙◌, subst, arith, ◌-◌}
 use Rattle.std.specs.Prelude.{Contains, All, slice_index_or}
 use Rattle.std.specs.List.{AllAdjacentBelow}
 use Rattle.std.proofs.lemmas.Int.{ints}
 use Rattle.std.proofs.lemmas.Bool.{cases_Bool}
 use Rattle.std.specs.Prelude.{int_lt}
-use Rattle.flow_d8.proofs.MosaicGrid.{int_lt-true, int_lt-false}
 use Rattle.std.proofs.lemmas.List.{get_or_default, take_all}
 use Rattle.std.proofs.lemmas.List.Elements.{Contains-append_left, Contains-append_right, Contains-append_cases}
 use Rattle.lattice.specs.declared.point.Point.{Point}
+use Rattle.lattice.proofs.IntTests.{lt_true, lt_false}
+use Rattle.lattice.proofs.Levels.{≤ℤ_trans, ≤ℤ_same, ≤ℤ_antisym}
+use Rattle.lattice.proofs.SamePoints.{same_place}
 use Rattle.watershed.specs.declared.runs.Run.{Run}
 use Rattle.watershed.specs.Runs.{IsInRun, IsAfter, AreRuns}
 use Rattle.watershed.specs.Order.{ComesBy}
@@ -77,9 +79,6 @@ drawn_runs seen runs run drawn = record {
   in_order = chain_order (runs ++ run ∷ []) drawn.chain;
 }
 
-≤ℤ_trans : (a b c : ℤ) → a ≤ℤ b → b ≤ℤ c → a ≤ℤ c
-≤ℤ_trans a b c ab bc = omega (arith, ints)
-
 pub take_more : (points : List Point) (k : ℕ) (p : Point) → k < length points → p ≡ get_or points k p → take (k + 1) points ≡ take k points ++ p ∷ []
 take_more [] k p lt is = absurd (omega arith)
 take_more (q ∷ rest) zero p lt is = ap (λ (r : Point). r ∷ []) (sym is)
@@ -89,22 +88,13 @@ take_more (q ∷ rest) (suc k) p lt is =
     let tail : take (suc k) rest ≡ take k rest ++ p ∷ [] = subst (λ j. take j rest ≡ take k rest ++ p ∷ []) one (take_more rest k p (omega arith) is) in
     subst (λ j. take j (q ∷ rest) ≡ take (suc k) (q ∷ rest) ++ p ∷ []) two (ap (λ (l : List Point). q ∷ l) tail)
 
-≤ℤ_same : (a : ℤ) → a ≤ℤ a
-≤ℤ_same a = omega (arith, ints)
-
-eq_ℤ : (a b : ℤ) → a ≤ℤ b → b ≤ℤ a → a ≡ b
-eq_ℤ a b ab ba = omega (arith, ints)
-
-same_point : (p q : Point) → p.y ≡ q.y → p.x ≡ q.x → p ≡ q
-same_point p q hy hx = ap₂ (λ (v w : ℤ). let r : Point = record { y = v; x = w } in r) hy hx
-
 run_at : Point → Run
 run_at p = record { y = p.y; first = p.x; last = p.x }
 
 -- the run of one point has that point alone
 at_only : (p q : Point) → IsInRun (run_at p) q → q ≡ p
 unfolding run_at
-at_only p q inside = same_point q p inside.0 (eq_ℤ q.x p.x inside.1.1 inside.1.0)
+at_only p q inside = same_place q p inside.0 (≤ℤ_antisym q.x p.x inside.1.1 inside.1.0)
 
 at_itself : (p q : Point) → q ≡ p → IsInRun (run_at p) q
 unfolding run_at
@@ -130,15 +120,15 @@ longer r p = record { y = r.y; first = r.first; last = p.x }
 
 int_split : (a b : ℤ) → a ≤ℤ (b +ℤ pos 1) → (a ≤ℤ b) ⊎ (a ≡ (b +ℤ pos 1))
 int_split a b le = elim (cases_Bool (int_lt b a)) [
-  | inl far ↦ let lt = int_lt-true b a far in inr (omega (arith, ints))
-  | inr near ↦ inl (int_lt-false b a near)
+  | inl far ↦ let lt = lt_true b a far in inr (omega (arith, ints))
+  | inr near ↦ inl (lt_false b a near)
 ]
 
 longer_cases : (r : Run) (p q : Point) → p.y ≡ r.y → p.x ≤ℤ (r.last +ℤ pos 1) → IsInRun (longer r p) q → IsInRun r q ⊎ (q ≡ p)
 unfolding longer
 longer_cases r p q row near inside = ⊎_elim
     (λ old. inl (inside.0, (inside.1.0, old)))
-    (λ new. inr (same_point q p (inside.0 ∙ sym row) (let last = inside.1.1 in omega (arith, ints))))
+    (λ new. inr (same_place q p (inside.0 ∙ sym row) (let last = inside.1.1 in omega (arith, ints))))
     (int_split q.x r.last (let last = inside.1.1 in omega (arith, ints)))
 
 pub drawn_longer : (seen : List Point) (runs : List Run) (r : Run) (p : Point) → p.y ≡ r.y → r.last ≤ℤ p.x → r.first ≤ℤ r.last → p.x ≤ℤ (r.last +ℤ pos 1)
@@ -189,8 +179,8 @@ drawn_more seen runs r p after drawn = record {
 pub next_after : (r : Run) (last p : Point) → last.y ≡ r.y → last.x ≡ r.last → ComesBy last p → ((p.y ≡ r.y) × (p.x ≤ℤ (r.last +ℤ pos 1)) → ⊥) → IsAfter r (record { y = p.y; first = p.x; last = p.x })
 next_after r last p row end (inl south) far = inl (omega (arith, ints))
 next_after r last p row end (inr east) far = elim (cases_Bool (int_lt (r.last +ℤ pos 1) p.x)) [
-  | inl gap ↦ inr (sym row ∙ east.0, int_lt-true (r.last +ℤ pos 1) p.x gap)
-  | inr near ↦ absurd (far (sym east.0 ∙ row, int_lt-false (r.last +ℤ pos 1) p.x near))
+  | inl gap ↦ inr (sym row ∙ east.0, lt_true (r.last +ℤ pos 1) p.x gap)
+  | inr near ↦ absurd (far (sym east.0 ∙ row, lt_false (r.last +ℤ pos 1) p.x near))
 ]
 
 pub next_past : (r : Run) (last p : Point) → last.y ≡ r.y → last.x ≡ r.last → ComesBy last p → p.y ≡ r.y → r.last ≤ℤ p.x

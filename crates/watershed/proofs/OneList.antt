@@ -4,8 +4,9 @@ use Rattle.std.specs.Prelude.{All, Any, int_lt, slice_index_or}
 use Rattle.std.specs.List.{AllAdjacentBelow}
 use Rattle.std.proofs.lemmas.Int.{ints}
 use Rattle.std.proofs.lemmas.Bool.{cases_Bool}
-use Rattle.std.specs.Prelude.{true, false}
 use Rattle.lattice.specs.declared.point.Point.{Point}
+use Rattle.lattice.proofs.IntTests.{lt_true, lt_false}
+use Rattle.lattice.proofs.Levels.{≤ℤ_same, ≤ℤ_antisym}
 use Rattle.watershed.specs.declared.runs.Run.{Run}
 use Rattle.watershed.specs.Runs.{IsInRun, IsAfter, AreRuns}
 
@@ -57,12 +58,6 @@ all_beyond r [] p is h = absurd h
 all_beyond r (s ∷ rest) p is (inl here) = after_beyond r s p (is.in_order 0 s (omega arith)) here
 all_beyond r (s ∷ rest) p is (inr later) = beyond_later r s p (is.full 1 s (omega arith)) (is.in_order 0 s (omega arith)) (all_beyond s rest p (tail_sorted r (s ∷ rest) is) later)
 
-≤ℤ_same : (a : ℤ) → a ≤ℤ a
-≤ℤ_same a = omega (arith, ints)
-
-eq_ℤ : (a b : ℤ) → a ≤ℤ b → b ≤ℤ a → a ≡ b
-eq_ℤ a b ab ba = omega (arith, ints)
-
 start_of : Run → Point
 start_of r = record { y = r.y; x = r.first }
 
@@ -103,17 +98,11 @@ reaches : (r s : Run) → s.y ≡ r.y → r.first ≡ s.first → s.first ≤ℤ
 unfolding past
 reaches r s row west full far = (row, (omega (arith, ints), omega (arith, ints)))
 
-int_lt-true : (a b : ℤ) → int_lt a b ≡ true → a <ℤ b
-int_lt-true a b h = grind (arith, ints)
-
-int_lt-false : (a b : ℤ) → int_lt a b ≡ false → b ≤ℤ a
-int_lt-false a b h = grind (arith, ints)
-
 -- it ends no later either
 ends : (r s : Run) (rest rest' : List Run) → Sorted (s ∷ rest') → ((p : Point) → InSome (r ∷ rest) p → InSome (s ∷ rest') p) → s.y ≡ r.y → r.first ≡ s.first → r.last ≤ℤ s.last
 ends r s rest rest' is' covers row west = elim (cases_Bool (int_lt s.last r.last)) [
-  | inl far ↦ absurd (not_past s rest' is' (covers (past s) (inl (reaches r s row west (is'.full 0 s (omega arith)) (int_lt-true s.last r.last far)))))
-  | inr near ↦ int_lt-false s.last r.last near
+  | inl far ↦ absurd (not_past s rest' is' (covers (past s) (inl (reaches r s row west (is'.full 0 s (omega arith)) (lt_true s.last r.last far)))))
+  | inr near ↦ lt_false s.last r.last near
 ]
 
 same_run : (r s : Run) → r.y ≡ s.y → r.first ≡ s.first → r.last ≡ s.last → r ≡ s
@@ -137,9 +126,9 @@ one_sorted (r ∷ rest) [] is is' to from = absurd (to (start_of r) (inl (starts
 one_sorted (r ∷ rest) (s ∷ rest') is is' to from =
     let a = begins r s rest rest' is is' from in
     let b = begins s r rest' rest is' is to in
-    let row : r.y ≡ s.y = eq_ℤ r.y s.y b.north a.north in
-    let west : r.first ≡ s.first = eq_ℤ r.first s.first (a.west (sym row)) (b.west row) in
-    let east : r.last ≡ s.last = eq_ℤ r.last s.last (ends r s rest rest' is' to (sym row) west) (ends s r rest' rest is from row (sym west)) in
+    let row : r.y ≡ s.y = ≤ℤ_antisym r.y s.y b.north a.north in
+    let west : r.first ≡ s.first = ≤ℤ_antisym r.first s.first (a.west (sym row)) (b.west row) in
+    let east : r.last ≡ s.last = ≤ℤ_antisym r.last s.last (ends r s rest rest' is' to (sym row) west) (ends s r rest' rest is from row (sym west)) in
     let same : r ≡ s = same_run r s row west east in
     ap₂ (λ u v. u ∷ v) same
     (one_sorted rest rest' (tail_sorted r rest is) (tail_sorted s rest' is') (tails r s rest rest' same is to) (tails s r rest' rest (sym same) is' from))

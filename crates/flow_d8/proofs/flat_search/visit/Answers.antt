@@ -1,14 +1,11 @@
-use Rattle.std.proofs.Common.{rules, ◌≡◌, Bool, true, false, not, IsTrue, inl, inr, ◌++◌, [], ◌∷◌, List, length, refl, sym, ap, ◌∙◌, subst, arith, true≢false}
+use Rattle.std.proofs.Common.{rules, false, IsTrue, inl, inr, ◌++◌, [], ◌∷◌, List, length, sym, ap, ◌∙◌, subst, arith}
+use Rattle.std.proofs.lemmas.Bool.{not-false}
 use Rattle.lattice.specs.declared.point.Point.{Point}
 use Rattle.flow_d8.specs.declared.flat_search.Lead.{Lead}
 use Rattle.flow_d8.specs.Seen.{has_seen}
 use Rattle.flow_d8.specs.FlatSearch.{HasPoint, AreLinked}
 use Rattle.flow_d8.proofs.Reaching.{longer_by_one, linked_on, still_there, there_now}
 use Rattle.flow_d8.proofs.flat_search.visit.Goals as goal
-
-turned : (b : Bool) → not b ≡ false → b ≡ true
-turned true off = refl
-turned false off = absurd (true≢false off)
 
 pub returns-in_ok-push-clause-reached : goal.returns-in_ok-push-clause-reached
 returns-in_ok-push-clause-reached c =
@@ -42,7 +39,7 @@ returns-in_ok-push-clause-more c =
 pub returns-else-branch-clause-reached : goal.returns-else-branch-clause-reached
 returns-else-branch-clause-reached c = record {
   there = λ p has. elim (c.in_ok-see.ensures.seen p has) [
-    | inl is ↦ c.requires.reached.there p (subst (λ q. IsTrue (has_seen c.args.seen.now q)) (sym is) (turned (has_seen c.args.seen.now c.in-Some.to) (sym c.in_ok-see.ensures.fresh ∙ c.if-branch.false)))
+    | inl is ↦ c.requires.reached.there p (subst (λ q. IsTrue (has_seen c.args.seen.now q)) (sym is) (not-false (has_seen c.args.seen.now c.in-Some.to) (sym c.in_ok-see.ensures.fresh ∙ c.if-branch.false)))
     | inr before ↦ c.requires.reached.there p before
   ];
   linked = c.requires.reached.linked;
