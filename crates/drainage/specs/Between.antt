@@ -1,5 +1,5 @@
 -- What is held between two questions.
-use Rattle.std.specs.Prelude.{◌≡◌, Option, Some, None}
+use Rattle.std.specs.Prelude.{◌≡◌, ℤ, Option, Some, None}
 use Rattle.lattice.specs.Mosaic.{Mosaic}
 use Rattle.lattice.specs.declared.point.Point.{Point}
 use Rattle.catalogue.specs.declared.samples.Samples.{Ghosts}
@@ -42,13 +42,14 @@ abbrev pub IsLeftHeld : Point → Point → DrainageCache → DrainageCache → 
 IsLeftHeld from to held left = are_left from to held.tile_cache left.tile_cache
 
 -- what was found is left, but for the summaries that the point reaches, the labellings of tiles that hold it, and the levels
-abbrev pub are_noted : Point → Option TileCache → Option TileCache → Type 0
-are_noted p None left = left ≡ None
-are_noted p (Some tile_cache) left =
-    (some : TileCache) × (left ≡ Some some) × IsNotedOf (is_reached tile_cache.rim_graph.side tile_cache.rim_graph.corners.items p p) p (known_of tile_cache) (known_of some)
+-- that may change as it gets another height than it had
+abbrev pub are_noted : Point → ℤ → ℤ → Option TileCache → Option TileCache → Type 0
+are_noted p was is None left = left ≡ None
+are_noted p was is (Some tile_cache) left =
+    (some : TileCache) × (left ≡ Some some) × IsNotedOf (is_reached tile_cache.rim_graph.side tile_cache.rim_graph.corners.items p p) p was is (known_of tile_cache) (known_of some)
 
-abbrev pub IsNotedHeld : Point → DrainageCache → DrainageCache → Type 0
-IsNotedHeld p held left = are_noted p held.tile_cache left.tile_cache
+abbrev pub IsNotedHeld : Point → ℤ → ℤ → DrainageCache → DrainageCache → Type 0
+IsNotedHeld p was is held left = are_noted p was is held.tile_cache left.tile_cache
 
 -- what is held is right for the mosaic that the samples stand for, where they are honest
 abbrev pub IsHeldFor : {S : Type 0} (g : Ghosts S) → S → DrainageCache → Type 0

@@ -1,14 +1,15 @@
 -- What changes leave of what is held: all that is held of tiles that they don't reach.
-use Rattle.std.specs.Prelude.{◌≡◌, ℕ, false, List, All, Option, Some, None}
+use Rattle.std.specs.Prelude.{◌≡◌, ℕ, ℤ, false, List, All, Option, Some, None}
 use Rattle.lattice.specs.Corners.{Corner}
 use Rattle.lattice.specs.declared.point.Point.{Point}
 use Rattle.edits.specs.declared.edit.Edit.{Edit}
 use Rattle.edits.specs.declared.edit.Edit.TheVariants.{Heights, Voids, Sink, Unsink}
 use Rattle.edits.specs.declared.edit.NewHeight.{NewHeight}
 use Rattle.drainage.specs.Between.{IsLeftHeld}
-use Rattle.drainage.specs.Holding.{labelling_at}
+use Rattle.drainage.specs.Holding.{labelling_at, level_of}
 use Rattle.drainage.specs.Reaching.{is_reached}
 use Rattle.drainage.specs.RimGraphs.{loaded_at}
+use Rattle.drainage.specs.Spared.{IsSpared}
 use Rattle.drainage.specs.declared.drainage_cache.DrainageCache.{DrainageCache}
 use Rattle.drainage.specs.declared.tile_cache.TileCache.{TileCache}
 
@@ -39,9 +40,18 @@ are_kept_beyond at all (Some tile_cache) left =
 abbrev pub IsKeptBeyondHeights : List NewHeight → DrainageCache → DrainageCache → Type 0
 IsKeptBeyondHeights heights held left = are_kept_beyond (λ h. Some h.point) heights held.tile_cache left.tile_cache
 
--- .. the edit, where no tile comes or goes
+-- the levels of rim points that none of these new heights can change are kept
+abbrev pub are_levels_kept : List NewHeight → Option TileCache → Option TileCache → Type 0
+are_levels_kept heights None left = Unit {0}
+are_levels_kept heights (Some tile_cache) left =
+    (x : ℕ) (level : ℤ) → level_of tile_cache.levels x ≡ Some level → All (λ h. IsSpared h.was h.metres level) heights → (some : TileCache) × (left ≡ Some some) × (level_of some.levels x ≡ Some level)
+
+abbrev pub AreLevelsKept : List NewHeight → DrainageCache → DrainageCache → Type 0
+AreLevelsKept heights held left = are_levels_kept heights held.tile_cache left.tile_cache
+
+-- what is held of tiles that the edit doesn't reach is kept, where no tile comes or goes
 abbrev pub IsKeptBeyondEdit : Edit → DrainageCache → DrainageCache → Type 0
-IsKeptBeyondEdit (Heights heights) held left = IsKeptBeyondHeights heights.items held left
+IsKeptBeyondEdit (Heights heights) held left = IsKeptBeyondHeights heights.items held left × AreLevelsKept heights.items held left
 IsKeptBeyondEdit (Voids from to h tiles) held left = IsLeftHeld from to held left
 IsKeptBeyondEdit (Sink p) held left = IsLeftHeld p p held left
 IsKeptBeyondEdit (Unsink p) held left = IsLeftHeld p p held left

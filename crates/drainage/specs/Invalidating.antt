@@ -7,6 +7,7 @@ use Rattle.border_graph.specs.TileGraph.{TileGraph}
 use Rattle.tile_labellings.specs.declared.tile_labelling.TileLabelling.{TileLabelling}
 use Rattle.drainage.specs.Holding.{Known, labelling_at, level_of}
 use Rattle.drainage.specs.RimGraphs.{loaded_at}
+use Rattle.drainage.specs.Spared.{IsSpared}
 
 -- all that was known, but for the tiles whose places pass the test, and for the levels
 pub record IsLeftOf (gone : ℕ → Bool) (known known' : Known) : Type 0 where
@@ -18,11 +19,11 @@ pub record IsLeftOf (gone : ℕ → Bool) (known known' : Known) : Type 0 where
   pub levels : (x : ℕ) → level_of known'.levels x ≡ None
 
 -- all that was known, but for the summaries of the tiles whose places pass the test, for the labellings of those that hold
--- the point, and for some of the levels
-pub record IsNotedOf (gone : ℕ → Bool) (p : Point) (known known' : Known) : Type 0 where
+-- the point, and for the levels that may change as this gets another height than it had
+pub record IsNotedOf (gone : ℕ → Bool) (p : Point) (was is : ℤ) (known known' : Known) : Type 0 where
   pub same_side : known'.side ≡ known.side
   pub same_corners : known'.corners ≡ known.corners
   pub whole : length known'.loaded ≡ length known.loaded
   pub loaded : (t : ℕ) (ways : TileGraph) → loaded_at known'.loaded t ≡ Some ways ↔ ((loaded_at known.loaded t ≡ Some ways) × (gone t ≡ false))
   pub labellings : (t : ℕ) → t < length known.corners → holds known.side (corner_at known.corners t) p ≡ false → labelling_at known'.labellings t ≡ labelling_at known.labellings t
-  pub levels : (x : ℕ) (level : ℤ) → level_of known'.levels x ≡ Some level → level_of known.levels x ≡ Some level
+  pub levels : (x : ℕ) (level : ℤ) → level_of known'.levels x ≡ Some level ↔ ((level_of known.levels x ≡ Some level) × IsSpared was is level)

@@ -76,7 +76,7 @@ impl DrainageCache {
     /// beside it are given up, and where points drain; and of the levels of rim points those that aren't below both heights of
     /// the point, nor above both. What is held serves on, for the mosaic as it was and as it becomes.
     pub fn note_changed(&mut self, point: Point, was: i16, to: i16)
-        ensures left { IsNotedHeld point self.old self.new }
+        ensures left { IsNotedHeld point was to self.old self.new }
         ensures still { (m : Mosaic) → IsHeldOf m self.old → IsHeldOf m self.new }
         ensures right { (m new : Mosaic) → DifferAt m new point → height_of m point ≡ At was → IsSetTo m new point to → IsHeldOf m self.old → IsHeldOf new self.new }
     {

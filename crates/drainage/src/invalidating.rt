@@ -4,7 +4,7 @@ ghost use Rattle.catalogue.specs.Tiles.{with_sinks};
 ghost use Rattle.edits.specs.Edits.{AreEarlier, TellsHeights, edit_made, with_heights};
 ghost use Rattle.edits.specs.Sinks.{with_point, without_point};
 ghost use Rattle.drainage.specs.Between.{IsHeldOf, IsLeftHeld};
-ghost use Rattle.drainage.specs.Beyond.{IsKeptBeyondEdit, IsKeptBeyondHeights};
+ghost use Rattle.drainage.specs.Beyond.{AreLevelsKept, IsKeptBeyondEdit, IsKeptBeyondHeights};
 
 use crate::drainage_cache::DrainageCache;
 use edits::{Edit, NewHeight};
@@ -18,7 +18,7 @@ pub fn invalidate_edit(held: &mut DrainageCache, edit: &Edit)
     ensures still { (m : Mosaic) → IsMosaic m → IsHeldOf m held.old → IsHeldOf m held.new }
     ensures changed { (m : Mosaic) → IsMosaic m → TellsHeights m edit.now → IsHeldOf m held.old → IsHeldOf (edit_made edit.now m) held.new }
 
-    // What is held of a tile that the edit doesn't reach is kept.
+    // What is held of a tile that the edit doesn't reach is kept, and so are levels of rim points that new heights can't change.
     ensures kept { IsKeptBeyondEdit edit.now held.old held.new }
 {
     match edit {
@@ -36,6 +36,7 @@ fn invalidate_heights(held: &mut DrainageCache, heights: &[NewHeight])
     ensures still { (m : Mosaic) → IsMosaic m → IsHeldOf m held.old → IsHeldOf m held.new }
     ensures changed { (m : Mosaic) → IsMosaic m → AreEarlier heights.now m → IsHeldOf m held.old → IsHeldOf (with_heights heights.now m) held.new }
     ensures kept { IsKeptBeyondHeights heights.now held.old held.new }
+    ensures levels { AreLevelsKept heights.now held.old held.new }
 {
     for height in heights {
         held.note_changed(height.point, height.was, height.metres);

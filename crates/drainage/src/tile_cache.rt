@@ -72,7 +72,7 @@ impl TileCache {
     /// of the labellings of the tiles that hold it, to be mended; of the levels of rim points those are given up that may change.
     /// Else as `invalidate_between` does.
     pub(crate) fn note_changed(&mut self, point: Point, was: i16, to: i16)
-        ensures left { IsNotedOf (is_reached self.old.rim_graph.side self.old.rim_graph.corners.items point point) point (known_of self.old) (known_of self.new) }
+        ensures left { IsNotedOf (is_reached self.old.rim_graph.side self.old.rim_graph.corners.items point point) point was to (known_of self.old) (known_of self.new) }
         ensures still { (m : Mosaic) → IsRight m (known_of self.old) → IsRight m (known_of self.new) }
         ensures right { (m new : Mosaic) → DifferAt m new point → height_of m point ≡ At was → IsSetTo m new point to → IsRight m (known_of self.old) → IsRight new (known_of self.new) }
     {

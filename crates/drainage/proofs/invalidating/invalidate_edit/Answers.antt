@@ -4,6 +4,7 @@ use Rattle.edits.specs.declared.edit.NewHeight.{NewHeight}
 use Rattle.edits.specs.Edits.{AreEarlier, TellsHeights, edit_made, with_heights}
 use Rattle.edits.specs.Effect.{patched}
 use Rattle.drainage.specs.Between.{IsHeldOf}
+use Rattle.drainage.specs.Beyond.{AreLevelsKept, IsKeptBeyondEdit, IsKeptBeyondHeights}
 use Rattle.drainage.proofs.EditedBox.{differ_patched}
 use Rattle.drainage.proofs.Reached.{unmoved}
 use Rattle.drainage.proofs.invalidating.invalidate_edit.Goals as goal
@@ -41,3 +42,9 @@ returns-in-Sink-clause-changed c m valid tells right =
 pub returns-in-Unsink-clause-changed : goal.returns-in-Unsink-clause-changed
 returns-in-Unsink-clause-changed c m valid tells right =
     subst (λ (e : Edit). IsHeldOf (edit_made e m) c.invalidate_near_sink-in-Unsink.new.held) (sym c.in-Unsink.is) (c.invalidate_near_sink-in-Unsink.ensures.taken_back m valid right)
+
+pub returns-in-Heights-clause-kept : goal.returns-in-Heights-clause-kept
+returns-in-Heights-clause-kept c =
+    subst (λ (e : Edit). IsKeptBeyondEdit e c.args.held.now c.invalidate_heights.new.held) (sym c.in-Heights.is)
+    (subst (λ (l : List NewHeight). IsKeptBeyondHeights l c.args.held.now c.invalidate_heights.new.held × AreLevelsKept l c.args.held.now c.invalidate_heights.new.held) c.as_slice.ensures.value
+    (c.invalidate_heights.ensures.kept, c.invalidate_heights.ensures.levels))

@@ -1,6 +1,6 @@
 use Rattle.std.proofs.lemmas.Int.{to_z-of_z}
 use Rattle.drainage.specs.Spared.{IsSetTo}
-use Rattle.std.proofs.Common.{rules, SFits, w16, ℤ, sym, ◌≡◌, inr, ◌+◌, List, get_or, take, pos, refl, subst}
+use Rattle.std.proofs.Common.{rules, SFits, w16, to_z, of_z, ℤ, sym, ◌≡◌, inr, ◌+◌, List, get_or, take, pos, refl, subst}
 use Rattle.std.specs.Prelude.{Some}
 use Rattle.std.proofs.lemmas.List.{take_all}
 use Rattle.lattice.specs.declared.height.Height.TheVariants.{At}
@@ -8,8 +8,8 @@ use Rattle.lattice.specs.Height.{height_of}
 use Rattle.edits.specs.declared.edit.NewHeight.{NewHeight}
 use Rattle.edits.specs.Edits.{with_heights}
 use Rattle.edits.proofs.EditStale.{read_within}
-use Rattle.drainage.specs.Between.{IsHeldOf}
-use Rattle.drainage.proofs.Beyond.{all_kept, kept_by_noted, one_kept}
+use Rattle.drainage.specs.Between.{IsHeldOf, are_noted}
+use Rattle.drainage.proofs.Beyond.{all_kept, all_levels_kept, kept_by_noted, one_kept, one_levels_kept}
 use Rattle.drainage.proofs.EditedBox.{differ_more, earlier_at, set_more}
 use Rattle.drainage.proofs.invalidating.invalidate_heights.Goals as goal
 
@@ -21,6 +21,7 @@ loop-height-init c = record {
   still = λ m valid right. right;
   changed = λ m valid earlier right. right;
   kept = all_kept (λ (x : NewHeight). Some x.point) c.args.heights.now c.args.held.now.tile_cache;
+  levels = all_levels_kept c.args.heights.now c.args.held.now.tile_cache;
 }
 
 pub loop-height-preserved : goal.loop-height-preserved
@@ -30,6 +31,9 @@ loop-height-preserved c =
     let h = get_or heights i none in
     let fits : SFits w16 (get_or c.args.heights.now c.loop-height.height-index none).metres = search rules in
     let had : SFits w16 (get_or c.args.heights.now c.loop-height.height-index none).was = search rules in
+    let noted : are_noted h.point h.was h.metres c.loop-height.held.tile_cache c.note_changed.new.self.tile_cache =
+    subst (λ (u : ℤ). are_noted h.point u h.metres c.loop-height.held.tile_cache c.note_changed.new.self.tile_cache) (to_z-of_z w16 h.was had)
+    (subst (λ (v : ℤ). are_noted h.point (to_z w16 (of_z w16 h.was)) v c.loop-height.held.tile_cache c.note_changed.new.self.tile_cache) (to_z-of_z w16 h.metres fits) c.note_changed.ensures.left) in
     record {
       still = λ m valid right. c.note_changed.ensures.still m (c.loop-height.invariant.still m valid right);
       changed = λ m valid earlier right. c.note_changed.ensures.right (with_heights (take i heights) m) (with_heights (take (i + 1) heights) m)
@@ -39,7 +43,8 @@ loop-height-preserved c =
           (subst (λ (v : ℤ). IsSetTo (with_heights (take i heights) m) (with_heights (take (i + 1) heights) m) h.point v) (sym (to_z-of_z w16 h.metres fits))
           (inr (set_more heights i h m valid c.loop-height-test.true (read_within heights i none h c.loop-height-test.true)))) (c.loop-height.invariant.changed m valid earlier right);
       kept = one_kept (λ (x : NewHeight). Some x.point) heights i h h.point c.args.held.now.tile_cache c.loop-height.held.tile_cache c.note_changed.new.self.tile_cache c.loop-height-test.true (read_within heights i none h c.loop-height-test.true) refl
-          (kept_by_noted h.point c.loop-height.held.tile_cache c.note_changed.new.self.tile_cache c.note_changed.ensures.left) c.loop-height.invariant.kept;
+          (kept_by_noted h.point h.was h.metres c.loop-height.held.tile_cache c.note_changed.new.self.tile_cache noted) c.loop-height.invariant.kept;
+      levels = one_levels_kept heights i h c.args.held.now.tile_cache c.loop-height.held.tile_cache c.note_changed.new.self.tile_cache c.loop-height-test.true (read_within heights i none h c.loop-height-test.true) noted c.loop-height.invariant.levels;
     }
 
 pub returns-clause-changed : goal.returns-clause-changed

@@ -1,4 +1,4 @@
-use Rattle.std.proofs.Common.{rules, SFits, w16, ℤ, ◌≡◌, refl, sym, ◌∙◌, subst}
+use Rattle.std.proofs.Common.{rules, SFits, w16, to_z, of_z, ℤ, ◌≡◌, refl, sym, ◌∙◌, subst}
 use Rattle.std.proofs.lemmas.Int.{to_z-of_z}
 use Rattle.lattice.specs.declared.height.Height.TheVariants.{At}
 use Rattle.lattice.specs.Height.{height_of}
@@ -11,7 +11,11 @@ use Rattle.drainage.proofs.drainage_cache.DrainageCache.note_changed.Goals as go
 pub returns-clause-left : goal.returns-clause-left
 returns-clause-left c =
     let left = c.note_changed.new.self in
-    subst (λ (held : Option TileCache). are_noted c.args.point held (Some left)) (c.in-Some.ensures.value ∙ c.invalidate_ways.ensures.tile_cache) (left, refl, c.note_changed.ensures.left)
+    let had : SFits w16 c.args.was = search rules in
+    let fits : SFits w16 c.args.to = search rules in
+    subst (λ (u : ℤ). are_noted c.args.point u c.args.to c.args.self.now.tile_cache (Some left)) (to_z-of_z w16 c.args.was had)
+    (subst (λ (v : ℤ). are_noted c.args.point (to_z w16 (of_z w16 c.args.was)) v c.args.self.now.tile_cache (Some left)) (to_z-of_z w16 c.args.to fits)
+    (subst (λ (held : Option TileCache). are_noted c.args.point (to_z w16 (of_z w16 c.args.was)) (to_z w16 (of_z w16 c.args.to)) held (Some left)) (c.in-Some.ensures.value ∙ c.invalidate_ways.ensures.tile_cache) (left, refl, c.note_changed.ensures.left)))
 
 pub returns-clause-right : goal.returns-clause-right
 returns-clause-right c m new differ was set right =

@@ -12,10 +12,22 @@ use Rattle.drainage.proofs.Reached.{unmoved}
 use Rattle.drainage.proofs.SparedLevels.{spared_level}
 use Rattle.drainage.proofs.tile_cache.TileCache.note_changed.Goals as goal
 
+-- the heights as they are passed on
+spared_as : (was is level : ℤ) → SFits w16 was → SFits w16 is → IsSpared (to_z w16 (of_z w16 was)) (to_z w16 (of_z w16 is)) level → IsSpared was is level
+spared_as was is level had fits spared =
+    subst (λ (u : ℤ). IsSpared u is level) (to_z-of_z w16 was had) (subst (λ (v : ℤ). IsSpared (to_z w16 (of_z w16 was)) v level) (to_z-of_z w16 is fits) spared)
+
+passed_on_as : (was is level : ℤ) → SFits w16 was → SFits w16 is → IsSpared was is level → IsSpared (to_z w16 (of_z w16 was)) (to_z w16 (of_z w16 is)) level
+passed_on_as was is level had fits spared =
+    subst (λ (v : ℤ). IsSpared (to_z w16 (of_z w16 was)) v level) (sym (to_z-of_z w16 is fits)) (subst (λ (u : ℤ). IsSpared u is level) (sym (to_z-of_z w16 was had)) spared)
+
 pub returns-clause-left : goal.returns-clause-left
 returns-clause-left c =
     let was = c.args.self.now in
     let rim_graph = c.invalidate_between.ensures in
+    let had : SFits w16 c.args.was = search rules in
+    let fits : SFits w16 c.args.to = search rules in
+    let seen = c.invalidate_reached.ensures in
     record {
       same_side = rim_graph.side;
       same_corners = rim_graph.corners;
@@ -23,14 +35,17 @@ returns-clause-left c =
       loaded = rim_graph.loaded;
       labellings = subst (λ (cs : List Corner). (t : ℕ) → t < length cs → holds was.rim_graph.side (corner_at cs t) c.args.point ≡ false → labelling_at c.note_changed.new.self t ≡ labelling_at was.labellings t)
           c.deref.ensures.value c.note_changed.ensures.kept;
-      levels = λ x level at. (c.invalidate_reached.ensures.left x level at).0;
+      levels = λ x level. (
+        (λ at. ((seen.left x level at).0, spared_as c.args.was c.args.to level had fits (seen.left x level at).1)),
+        (λ had_spared. seen.kept x level had_spared.0 (passed_on_as c.args.was c.args.to level had fits had_spared.1)),
+      );
     }
 
 pub returns-clause-still : goal.returns-clause-still
 returns-clause-still c m right =
     let was = c.args.self.now in
     let same : DifferAt m m c.args.point = record { around = unmoved m c.args.point c.args.point; all_sinks = λ q. refl } in
-    noted_right m m c.args.point (known_of was) (known_of (record { rim_graph = c.invalidate_between.new.self; labellings = c.note_changed.new.self; levels = c.invalidate_reached.new.self })) same
+    noted_right m m c.args.point c.args.was c.args.to (known_of was) (known_of (record { rim_graph = c.invalidate_between.new.self; labellings = c.note_changed.new.self; levels = c.invalidate_reached.new.self })) same
     (returns-clause-left c)
     (λ t. subst (λ (cs : List Corner). IsEntered m (corner_at cs t) was.labellings t → IsEntered m (corner_at cs t) c.note_changed.new.self t) c.deref.ensures.value
     (c.note_changed.ensures.noted m m t same (sym right.ready.same_side)))
@@ -45,15 +60,13 @@ returns-clause-right c m new differ before set right =
     let had : SFits w16 c.args.was = search rules in
     let fits : SFits w16 c.args.to = search rules in
     let corners = was.rim_graph.corners.items in
-    noted_right m new c.args.point (known_of was) (known_of (record { rim_graph = c.invalidate_between.new.self; labellings = c.note_changed.new.self; levels = c.invalidate_reached.new.self })) differ
+    noted_right m new c.args.point c.args.was c.args.to (known_of was) (known_of (record { rim_graph = c.invalidate_between.new.self; labellings = c.note_changed.new.self; levels = c.invalidate_reached.new.self })) differ
     (returns-clause-left c)
     (λ t. subst (λ (cs : List Corner). IsEntered m (corner_at cs t) was.labellings t → IsEntered new (corner_at cs t) c.note_changed.new.self t) c.deref.ensures.value
     (c.note_changed.ensures.noted m new t differ (sym right.ready.same_side)))
     (λ x level at.
     let seen = c.invalidate_reached.ensures.left x level at in
-    let spared : IsSpared c.args.was c.args.to level =
-    subst (λ (u : ℤ). IsSpared u c.args.to level) (to_z-of_z w16 c.args.was had)
-    (subst (λ (v : ℤ). IsSpared (to_z w16 (of_z w16 c.args.was)) v level) (to_z-of_z w16 c.args.to fits) seen.1) in
+    let spared = spared_as c.args.was c.args.to level had fits seen.1 in
     subst (λ (cs : List Corner). IsRimLevel new cs x level) (sym c.invalidate_between.ensures.corners)
     (spared_level m new c.args.point differ c.args.was c.args.to before set corners x level spared (right.levels x level seen.0)))
     right
