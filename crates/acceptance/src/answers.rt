@@ -11,13 +11,13 @@ use std::alloc::{AllocError, Global};
 use watershed::Run;
 
 /// The answers to all queries of a point.
-#[derive(PartialEq, Drop)]
+#[derive(Debug, PartialEq, Drop)]
 pub(crate) struct Answers {
-    elevation: Result<Height, Refusal>,
-    fill: Result<i16, Refusal>,
-    direction: Result<u8, Refusal>,
-    trace: Result<Vec<Point>, Refusal>,
-    watershed: Result<Vec<Run>, Refusal>,
+    pub(crate) elevation: Result<Height, Refusal>,
+    pub(crate) fill: Result<i16, Refusal>,
+    pub(crate) direction: Result<u8, Refusal>,
+    pub(crate) trace: Result<Vec<Point>, Refusal>,
+    pub(crate) watershed: Result<Vec<Run>, Refusal>,
 }
 
 /// What the engine answers.

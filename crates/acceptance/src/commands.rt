@@ -2,12 +2,10 @@
 use crate::region::corner_beside;
 use arrayvec::ArrayVec;
 use edits::{Bytes, Command};
-use lattice::{Corner, Point, Side, point_at};
+use lattice::{Corner, Point, Side, VOID, point_at};
 use reference::Plain;
 use seeded_random::Random;
 use std::alloc::{AllocError, Global};
-
-const VOID: i16 = i16::MIN;
 
 /// What the samples of a session are taken from: few heights, so that flats, pits and ties come up.
 const PALETTES: [[i16; 6]; 4] = [
@@ -36,21 +34,28 @@ pub(crate) struct Commands {
     side: Side,
     middle: Corner,
     palette: [i16; 6],
+    /// Once there is a tile most commands declare sinks, until there are as many as may be.
+    is_of_sinks: bool,
 }
 
 impl Commands {
     pub(crate) fn new(mut random: Random, side: Side, middle: Corner) -> Commands {
         let palette = random.one_of(&PALETTES);
+        let is_of_sinks = random.next_below(4) == 0;
         Commands {
             random,
             side,
             middle,
             palette,
+            is_of_sinks,
         }
     }
 
     /// The next command to this mosaic.
     pub(crate) fn next(&mut self, alloc: Global, mosaic: &Plain) -> Result<Command, AllocError> {
+        if self.is_of_sinks && !mosaic.tiles().is_empty() && self.random.next_below(8) != 0 {
+            return Ok(self.sink(mosaic));
+        }
         match self.random.next_below(14) {
             0..=3 => self.import(alloc),
             4 => Ok(self.remove()),

@@ -1,5 +1,12 @@
 //! Tests alone. Random sessions: whatever commands come, an engine's replies are those of the plain programs, which answer
 //! exactly what the definitions say. Worked sessions: lines in and replies out, byte for byte.
+//!
+//! A row of a session is a line and its reply, asked of the plain programs, of a mosaic in memory and of stores of both
+//! versions:
+//!
+//! ```
+//! ("fill 1 1", "OK 5"),                                  // a pit fills to its lowest way out
+//! ```
 #![tactic(auto)]
 
 #[cfg(test)]

@@ -1,5 +1,5 @@
 //! Lines and payloads as they are read, the event that a line asks for, and the text of an answer.
-use crate::asserting::assert_row;
+use crate::asserting::{assert_found, assert_row};
 use crate::counting::Counting;
 use edits::Command;
 use engine::Event;
@@ -10,6 +10,7 @@ use lines::{
 use std::alloc::{AllocError, Global};
 use std::io::{self, Read};
 use std::process::Abort;
+use std::str::from_utf8;
 use std::test::Fail;
 use watershed::Run;
 
@@ -31,6 +32,11 @@ impl Read for Trickle<'_> {
         self.bytes = &self.bytes[count..];
         Ok(count)
     }
+}
+
+/// For messages.
+fn text_of(bytes: &[u8]) -> &str {
+    from_utf8(bytes).unwrap_or("bytes that are no text")
 }
 
 /// What the line asks for. None where it is outside the grammar, or too long.
@@ -134,8 +140,8 @@ fn words_of_lines(rt: HostRuntime) {
         (b"sink 1", "none"),
         (b"unsink 1 2 3", "none"),
     ];
-    for ((line, word), row) in lines.into_iter().zip(0..) {
-        assert_row(&rt, word_of(line) == word, "a line by row", row);
+    for (line, word) in lines {
+        assert_found(&rt, &text_of(line), &word_of(line), &word);
     }
 }
 
@@ -153,9 +159,9 @@ fn points_of_lines(rt: HostRuntime) {
         (b"sink 1 -2", "sink", 1, -2),
         (b"unsink -1 2", "unsink", -1, 2),
     ];
-    for ((line, word, y, x), row) in lines.into_iter().zip(0..) {
-        let is_right = word_of(line) == word && point_in(line) == Some(Point { y, x });
-        assert_row(&rt, is_right, "a line by row", row);
+    for (line, word, y, x) in lines {
+        assert_found(&rt, &text_of(line), &word_of(line), &word);
+        assert_found(&rt, &text_of(line), &point_in(line), &Some(Point { y, x }));
     }
 }
 
@@ -186,10 +192,14 @@ fn check_lines<R: Read>(
     reader: &mut R,
     lines: &[(Extent, Option<&[u8]>)],
 ) {
-    for ((extent, bytes), row) in lines.iter().zip(0..) {
+    for (extent, bytes) in lines {
         let mut line = Line::new();
         let is_right = read_line(ahead, reader, &mut line) == Ok(*extent) && line.bytes() == *bytes;
-        assert_row(rt, is_right, "a line by row", row);
+        let text = match bytes {
+            Some(bytes) => text_of(bytes),
+            None => "a line that is too long",
+        };
+        assert_row(rt, &text, is_right);
     }
 }
 
@@ -278,7 +288,7 @@ fn a_read_that_fails(rt: HostRuntime) {
     );
     for call in 0..2 {
         let is_refused = read_line(&mut ahead, &mut reader, &mut Line::new()).is_err();
-        assert_row(&rt, is_refused, "a read that fails", call);
+        assert_row(&rt, &("a read that fails", call), is_refused);
     }
     let skipped = skip_payload(&mut ahead, &mut reader, 1);
     assert!(rt; skipped.is_err());

@@ -1,6 +1,8 @@
-//! Lines in and replies out, byte for byte: over a mosaic in memory, and over a store on a disk that may fail.
+//! Lines in and replies out, byte for byte: by the plain programs, over a mosaic in memory, and over a store of either
+//! version, on a disk that may fail.
 
 mod basins;
+mod plain_lines;
 mod rows;
 mod script;
 mod sessions;

@@ -1,5 +1,6 @@
 //! A random session: a mosaic by the definitions, which engines follow.
 use crate::answers::{defined, served};
+use crate::asserting::assert_found;
 use crate::commands::Commands;
 use crate::region::{MIDDLES, corners_around, points_around};
 use edits::Command;
@@ -8,6 +9,7 @@ use lattice::{Corner, Point, Refusal, Side};
 use reference::Plain;
 use seeded_random::Random;
 use std::alloc::{AllocError, Global};
+use std::fmt::Debug;
 use std::process::Abort;
 use std::test::Fail;
 
@@ -62,8 +64,13 @@ impl Session {
             let command = self.commands.next(self.alloc, &self.mosaic)?;
             let expected = self.apply(&command);
             self.step = self.step.saturating_add(1);
-            let is_right = engine.apply(&command) == expected && other.apply(&command) == expected;
-            self.assert(rt, is_right, "a command");
+            self.assert_found(rt, &"a command", &engine.apply(&command), &expected);
+            self.assert_found(
+                rt,
+                &"a command of the other",
+                &other.apply(&command),
+                &expected,
+            );
             if let Err(refusal) = expected {
                 self.refusals.push(refusal)?;
             }
@@ -77,10 +84,16 @@ impl Session {
         assert!(rt; holds, "seed {seed}, step {step}: {what}");
     }
 
-    // The same of a point or a corner, by its number among those of the region.
-    fn assert_at(&self, rt: &impl Abort, holds: bool, what: &str, number: u64) {
+    // The same where something else was found than is wanted of what this names.
+    fn assert_found<R: Debug, T: Debug + PartialEq>(
+        &self,
+        rt: &impl Abort,
+        what: &R,
+        found: &T,
+        wanted: &T,
+    ) {
         let Session { seed, step, .. } = *self;
-        assert!(rt; holds, "seed {seed}, step {step}: {what} {number}");
+        assert_found(rt, &("seed", seed, "step", step, what), found, wanted);
     }
 
     /// Has the engine make so many steps, or as many as there are stale tiles.
@@ -112,30 +125,28 @@ impl Session {
         rt: &impl Abort,
         engine: &mut E,
     ) -> Result<(), Fail> {
-        let has_count = engine.count() == self.count;
-        self.assert(rt, has_count, "the count");
+        self.assert_found(rt, &"the count", &engine.count(), &self.count);
         let has_tiles = self.has_tiles(&engine.tiles()?);
         self.assert(rt, has_tiles, "the tiles");
-        let has_sinks = engine.sinks()?.as_slice() == self.mosaic.sinks();
-        self.assert(rt, has_sinks, "the sinks");
+        let sinks = engine.sinks()?;
+        self.assert_found(rt, &"the sinks", &sinks.as_slice(), &self.mosaic.sinks());
         self.check_files(rt, engine)?;
         self.check_elevations(rt, engine);
         Ok(())
     }
 
     fn check_files<E: Engine>(&self, rt: &impl Abort, engine: &mut E) -> Result<(), Fail> {
-        for (corner, number) in self.corners.iter().zip(0..) {
-            let has_file = self.has_file(*corner, engine.export(*corner))?;
-            self.assert_at(rt, has_file, "the file of corner", number);
+        for corner in &self.corners {
+            let wanted = self.file(*corner)?;
+            self.assert_found(rt, corner, &engine.export(*corner), &wanted);
         }
         Ok(())
     }
 
     fn check_elevations<E: Engine>(&self, rt: &impl Abort, engine: &mut E) {
-        for (point, number) in self.points.iter().zip(0..) {
+        for point in &self.points {
             let height = reference::height(&self.mosaic, *point);
-            let is_right = engine.elevation(*point) == Ok(height);
-            self.assert_at(rt, is_right, "the elevation of point", number);
+            self.assert_found(rt, point, &engine.elevation(*point), &Ok(height));
         }
     }
 
@@ -146,10 +157,9 @@ impl Session {
         engine: &mut E,
     ) -> Result<(), Fail> {
         let levels = reference::filled_levels(self.alloc, &self.mosaic)?;
-        for (point, number) in self.points.iter().zip(0..) {
+        for point in &self.points {
             let answers = defined(self.alloc, &self.mosaic, &levels, *point)?;
-            let is_right = served(engine, *point) == answers;
-            self.assert_at(rt, is_right, "the answers of point", number);
+            self.assert_found(rt, point, &served(engine, *point), &answers);
         }
         Ok(())
     }
@@ -164,14 +174,11 @@ impl Session {
         found.len() == tiles.len()
     }
 
-    fn has_file(
-        &self,
-        corner: Corner,
-        found: Result<Vec<u8>, Refusal>,
-    ) -> Result<bool, AllocError> {
+    // What is exported of the corner.
+    fn file(&self, corner: Corner) -> Result<Result<Vec<u8>, Refusal>, AllocError> {
         match self.mosaic.samples_of(corner) {
-            Some(samples) => Ok(found == Ok(hgt::bytes_of(self.alloc, samples)?)),
-            None => Ok(found == Err(Refusal::NoTile)),
+            Some(samples) => Ok(Ok(hgt::bytes_of(self.alloc, samples)?)),
+            None => Ok(Err(Refusal::NoTile)),
         }
     }
 }

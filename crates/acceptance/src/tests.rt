@@ -15,7 +15,7 @@ use table_engine::TableEngine;
 const SECTORS: u32 = 58;
 
 /// What commands are refused with.
-const REFUSALS: [Refusal; 14] = [
+const REFUSALS: [Refusal; 15] = [
     Refusal::BadLength,
     Refusal::TileThere,
     Refusal::NoTile,
@@ -29,6 +29,7 @@ const REFUSALS: [Refusal; 14] = [
     Refusal::Repeated,
     Refusal::TooDeep,
     Refusal::SinkThere,
+    Refusal::SinksFull,
     Refusal::NoSink,
 ];
 

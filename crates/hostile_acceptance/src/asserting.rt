@@ -1,11 +1,11 @@
 //! An assertion that names its row.
+use std::fmt::Debug;
 use std::process::Abort;
 
 /// A table's name and the number of a row, for messages.
 pub(crate) type Place<'a> = (&'a str, u64);
 
-/// Ends the test where this doesn't hold of the row. All tables need one message then, which a prover reads once.
-pub(crate) fn assert_row(rt: &impl Abort, holds: bool, what: &str, place: Place) {
-    let (table, row) = place;
-    assert!(rt; holds, "{what}: {table}, {row}");
+/// Ends the test where this doesn't hold of the row, and names what was found and the row.
+pub(crate) fn assert_row<R: Debug>(rt: &impl Abort, holds: bool, what: &str, row: &R) {
+    assert!(rt; holds, "{what}: {row:?}");
 }

@@ -1,6 +1,6 @@
 //! Opens images, and compares what is found with the plain reading of them.
 use crate::asserting::{Place, assert_row};
-use crate::good_images::{A, EAST, HERE, burn, import, wall};
+use crate::good_images::{EAST, HERE, burn, import, wall};
 use crate::image::Image;
 use crate::opening::{Root, bytes_of_tile, expected_opening, listed};
 use crate::stores::{
@@ -14,6 +14,7 @@ use std::alloc::Global;
 use std::process::Abort;
 use std::test::Fail;
 use store::{Event, Reply, Store};
+use test_tiles::A;
 
 /// Opens the image: it is refused by its right number, or what is opened has the right contents, answers twice the same,
 /// writes nothing until it is to change, and answers whatever is to change it: a removal, and all else. Answers the refusal.
@@ -29,12 +30,12 @@ pub(crate) fn check(
     match (open(alloc, disk), expected) {
         (Ok(store), Ok(root)) => {
             let later = check_opened(rt, alloc, store, image, &root, place)?;
-            assert_row(rt, later == writes, "written image", place);
+            assert_row(rt, later == writes, "written image", &place);
             Ok(None)
         }
         (Err((refusal, disk)), Err(expected)) => {
-            assert_row(rt, refusal == expected, "refused image", place);
-            assert_row(rt, disk.writes() == writes, "written image", place);
+            assert_row(rt, refusal == expected, "refused image", &place);
+            assert_row(rt, disk.writes() == writes, "written image", &place);
             Ok(Some(refusal))
         }
         (Ok(_), Err(_)) => Err("an image opens".into()),
@@ -52,13 +53,13 @@ fn check_opened(
     place: Place,
 ) -> Result<u64, Fail> {
     let (contents, answers, disk) = asked(alloc, store, image, root)?;
-    assert_row(rt, contents, "contents of image", place);
-    assert_row(rt, answers, "answers of image", place);
+    assert_row(rt, contents, "contents of image", &place);
+    assert_row(rt, answers, "answers of image", &place);
     let writes = disk.writes();
     let removes = removes_a_tile(alloc, disk, root)?;
-    assert_row(rt, removes, "a removal from image", place);
+    assert_row(rt, removes, "a removal from image", &place);
     let changes = has_changes(alloc, image, root)?;
-    assert_row(rt, changes, "changes of image", place);
+    assert_row(rt, changes, "changes of image", &place);
     Ok(writes)
 }
 

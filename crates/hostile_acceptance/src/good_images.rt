@@ -1,51 +1,34 @@
 //! Images of good stores of side 3, to be changed.
 use crate::image::{Change, Image};
 use crate::opening::expected_opening;
-use crate::stores::{empty_store, into_disk, replies};
+use crate::served::served_by_store;
+use crate::stores::{empty_store, into_disk};
 use arrayvec::ArrayVec;
 use disk::Disk;
 use edits::{Bytes, Command};
 use lattice::{Corner, Point};
 use std::alloc::Global;
 use std::test::Fail;
-use store::{Event, Reply, Store};
+use store::Store;
+use test_tiles::lines_of;
 
 pub(crate) const HERE: Corner = Corner { lat: 0, lon: 0 };
 
 pub(crate) const EAST: Corner = Corner { lat: 0, lon: 1 };
-
-/// 9 9 9 / 9 1 9 / 9 9 5: nine samples of two bytes each, the higher first, rows from the north.
-pub(crate) const A: [u8; 18] = [0, 9, 0, 9, 0, 9, 0, 9, 0, 1, 0, 9, 0, 9, 0, 9, 0, 5];
-
-/// 9 9 9 / 9 1 1 / 9 9 9.
-pub(crate) const B: [u8; 18] = [0, 9, 0, 9, 0, 9, 0, 9, 0, 1, 0, 1, 0, 9, 0, 9, 0, 9];
-
-/// 9 9 9 / 9 void 9 / 9 9 9.
-pub(crate) const V: [u8; 18] = [0, 9, 0, 9, 0, 9, 0, 9, 128, 0, 0, 9, 0, 9, 0, 9, 0, 9];
 
 /// The levels of A alone, the lower byte first, and the labels: 9 9 9 / 9 5 9 / 9 9 5 and 0 1 2 / 3 7 4 / 5 6 7.
 const LEVELS: [u8; 18] = [9, 0, 9, 0, 9, 0, 9, 0, 5, 0, 9, 0, 9, 0, 9, 0, 5, 0];
 
 const LABELS: [u8; 18] = [0, 0, 1, 0, 2, 0, 3, 0, 7, 0, 4, 0, 5, 0, 6, 0, 7, 0];
 
-/// What is done to a store that is to be a good one. Corners are written as latitude and longitude, so that a constant can
-/// hold them.
-#[derive(Clone, Copy)]
-pub(crate) enum Act {
-    Import(i16, i16, &'static [u8]),
-    Remove(i16, i16),
-    Wall(i32, Point),
-    Step,
-}
-
-/// A good image: the version and the side of an empty store, how many tiles it takes at most, what is done to it, and what is
-/// changed on its disk then.
+/// A good image: the version and the side of an empty store, how many tiles it takes at most, the lines that change it, and
+/// what is changed on its disk then.
 #[derive(Clone, Copy)]
 pub(crate) struct Good {
     pub(crate) version: u32,
     pub(crate) side: u32,
     pub(crate) capacity: u32,
-    pub(crate) acts: &'static [Act],
+    pub(crate) lines: &'static [&'static str],
     pub(crate) changes: &'static [Change<'static>],
 }
 
@@ -54,7 +37,7 @@ pub(crate) const ONE_TILE: Good = Good {
     version: 1,
     side: 3,
     capacity: 1,
-    acts: &[Act::Import(0, 0, &A)],
+    lines: &["import N00E000 $A"],
     changes: &[],
 };
 
@@ -63,7 +46,7 @@ pub(crate) const TWO_TILES: Good = Good {
     version: 1,
     side: 3,
     capacity: 2,
-    acts: &[Act::Import(0, 0, &A), Act::Import(0, 1, &B)],
+    lines: &["import N00E000 $A", "import N00E001 $B"],
     changes: &[],
 };
 
@@ -72,13 +55,13 @@ pub(crate) const EDITED: Good = Good {
     version: 1,
     side: 3,
     capacity: 4,
-    acts: &[
-        Act::Import(0, 0, &A),
-        Act::Import(0, 1, &B),
-        Act::Import(-1, 0, &V),
-        Act::Import(-1, -1, &B),
-        Act::Wall(12, Point { y: 0, x: 1 }),
-        Act::Remove(0, 1),
+    lines: &[
+        "import N00E000 $A",
+        "import N00E001 $B",
+        "import S01E000 $V",
+        "import S01W001 $B",
+        "wall 12 0 1",
+        "remove N00E001",
     ],
     changes: &[],
 };
@@ -88,14 +71,14 @@ pub(crate) const EDITED_BY_VERSION_2: Good = Good {
     version: 2,
     side: 3,
     capacity: 4,
-    acts: &[
-        Act::Import(0, 0, &A),
-        Act::Import(0, 1, &B),
-        Act::Import(-1, 0, &V),
-        Act::Import(-1, -1, &B),
-        Act::Wall(12, Point { y: 0, x: 1 }),
-        Act::Remove(0, 1),
-        Act::Step,
+    lines: &[
+        "import N00E000 $A",
+        "import N00E001 $B",
+        "import S01E000 $V",
+        "import S01W001 $B",
+        "wall 12 0 1",
+        "remove N00E001",
+        "step",
     ],
     changes: &[],
 };
@@ -106,7 +89,7 @@ pub(crate) const ONE_TILE_BY_VERSION_2: Good = Good {
     version: 2,
     side: 3,
     capacity: 1,
-    acts: &[Act::Import(0, 0, &A), Act::Step],
+    lines: &["import N00E000 $A", "step"],
     changes: &[],
 };
 
@@ -115,7 +98,7 @@ pub(crate) const WITH_SINKS: Good = Good {
     version: 1,
     side: 3,
     capacity: 1,
-    acts: &[Act::Import(0, 0, &A)],
+    lines: &["import N00E000 $A"],
     changes: &[
         Change {
             sector: 3,
@@ -135,7 +118,7 @@ pub(crate) const WITH_KEPT_PLANES: Good = Good {
     version: 1,
     side: 3,
     capacity: 1,
-    acts: &[Act::Import(0, 0, &A)],
+    lines: &["import N00E000 $A"],
     changes: &[
         Change {
             sector: 3,
@@ -167,49 +150,29 @@ pub(crate) const WITH_KEPT_PLANES: Good = Good {
 
 pub(crate) fn image_of(alloc: Global, good: Good) -> Result<Image, Fail> {
     let mut store = empty_store(alloc, good.version, good.side, good.capacity)?;
-    let are_done = do_all(alloc, &mut store, good.acts);
+    let are_done = do_all(alloc, &mut store, good.lines);
     let mut disk = into_disk(store);
     if are_done? {
         Image::of(alloc, &mut disk)?.with(good.changes)
     } else {
-        Err("an act is refused".into())
+        Err("a line is refused".into())
     }
 }
 
-// Whether each act is done.
-fn do_all<D: Disk>(alloc: Global, store: &mut Store<D>, acts: &[Act]) -> Result<bool, Fail> {
-    for act in acts {
-        if !is_done(alloc, store, *act)? {
+// Whether what each line asks for is done.
+fn do_all<D: Disk>(alloc: Global, store: &mut Store<D>, lines: &[&str]) -> Result<bool, Fail> {
+    for line in lines {
+        if !is_done(alloc, store, line)? {
             return Ok(false);
         }
     }
     Ok(true)
 }
 
-fn is_done<D: Disk>(alloc: Global, store: &mut Store<D>, act: Act) -> Result<bool, Fail> {
-    let event = event_of(alloc, act)?;
-    let replies = replies(alloc, store, &[event]);
-    Ok(!is_refused(&replies?))
-}
-
-fn event_of(alloc: Global, act: Act) -> Result<Event, Fail> {
-    match act {
-        Act::Import(lat, lon, bytes) => { Ok(Event::Do(import(alloc, corner(lat, lon)?, bytes)?)) }
-        Act::Remove(lat, lon) => {
-            let corner = corner(lat, lon)?;
-            Ok(Event::Do(Command::Remove { corner }))
-        }
-        Act::Wall(height, point) => Ok(Event::Do(wall(height, point))),
-        Act::Step => Ok(Event::Step),
-    }
-}
-
-fn corner(lat: i16, lon: i16) -> Result<Corner, Fail> {
-    Ok(Corner::new(lat, lon).ok_or("no corner")?)
-}
-
-fn is_refused(replies: &[Reply]) -> bool {
-    matches!(replies, [Reply::Refused(_), ..])
+fn is_done<D: Disk>(alloc: Global, store: &mut Store<D>, line: &str) -> Result<bool, Fail> {
+    let input = lines_of(alloc, &[line])?;
+    let output = served_by_store(alloc, store, &input, 4096)?;
+    Ok(output.starts_with(b"OK"))
 }
 
 pub(crate) fn import(alloc: Global, corner: Corner, bytes: &[u8]) -> Result<Command, Fail> {

@@ -234,7 +234,7 @@ fn check_row(
     let (sector, at, bytes, refusal) = row;
     let changed = image.with(&[Change { sector, at, bytes }])?;
     let answer = check(rt, alloc, &changed, place)?;
-    assert_row(rt, answer == refusal, "how it opens", place);
+    assert_row(rt, answer == refusal, "how it opens", &(place, row, answer));
     Ok(())
 }
 
@@ -272,7 +272,7 @@ fn disks_of_few_sectors(rt: HostRuntime) -> Result<(), Fail> {
         };
         let place = ("sectors", sectors as u64);
         let answer = check(&rt, rt.alloc(), &image, place)?;
-        assert_row(&rt, answer == expected, "how it opens", place);
+        assert_row(&rt, answer == expected, "how it opens", &(place, answer));
     }
     Ok(())
 }
@@ -288,7 +288,7 @@ fn pages_are_there(rt: HostRuntime) -> Result<(), Fail> {
     let alloc = rt.alloc();
     for (name, good, pages) in PAGES {
         let has_pages = has_pages(alloc, &image_of(alloc, good)?, pages)?;
-        assert_row(&rt, has_pages, "other pages", (name, 0));
+        assert_row(&rt, has_pages, "other pages", &name);
     }
     Ok(())
 }

@@ -1,12 +1,13 @@
 //! Lines and payloads that no client should send, to a mosaic in memory and to a store.
 use crate::asserting::{Place, assert_row};
-use crate::good_images::A;
 use crate::served::{served_by_store, served_by_table};
 use crate::stores::{empty_store, into_disk};
 use seeded_random::Random;
-use std::alloc::Global;
+use std::alloc::{AllocError, Global};
 use std::process::Abort;
+use std::str::from_utf8;
 use std::test::Fail;
+use test_tiles::{A, expand};
 
 /// What a mosaic of four tiles of side 3 answers, and a store of as many.
 fn both(alloc: Global, bytes: &[u8], size: usize) -> Result<(Vec<u8>, Vec<u8>), Fail> {
@@ -22,6 +23,10 @@ fn served_by_new_store(alloc: Global, bytes: &[u8], size: usize) -> Result<Vec<u
     output
 }
 
+fn text_of(bytes: &[u8]) -> &str {
+    from_utf8(bytes).unwrap_or("bytes that are no text")
+}
+
 // Both answer so, given the bytes in pieces of this size.
 fn check(
     rt: &impl Abort,
@@ -32,13 +37,15 @@ fn check(
     place: Place,
 ) -> Result<(), Fail> {
     let (table, store) = both(alloc, input, size)?;
+    let by_table = table.as_slice() == wanted;
     assert_row(
         rt,
-        table.as_slice() == wanted,
+        by_table,
         "the mosaic in memory",
-        place,
+        &(place, text_of(&table)),
     );
-    assert_row(rt, store.as_slice() == wanted, "the store", place);
+    let by_store = store.as_slice() == wanted;
+    assert_row(rt, by_store, "the store", &(place, text_of(&store)));
     Ok(())
 }
 
@@ -179,13 +186,9 @@ const REPLIES: &[u8] = b"OK 1\nOK 5\nERR 7 Outside\nERR 1 BadLine\nERR 4 TileThe
 /// Where items of the session end, and the replies to them.
 const ITEMS: [(usize, usize); 6] = [(36, 5), (45, 10), (54, 24), (60, 38), (96, 54), (101, 59)];
 
-fn session(alloc: Global) -> Result<Vec<u8>, Fail> {
-    let mut input = Vec::from_slice(alloc, b"import N00E000 18\n")?;
-    input.extend_from_slice(&A)?;
-    input.extend_from_slice(b"elev 0 2\nelev 5 5\nhello\nimport N00E000 18\n")?;
-    input.extend_from_slice(&A)?;
-    input.extend_from_slice(b"count")?;
-    Ok(input)
+fn session(alloc: Global) -> Result<Vec<u8>, AllocError> {
+    let text = "import N00E000 $Aelev 0 2\nelev 5 5\nhello\nimport N00E000 $Acount";
+    expand(alloc, text)
 }
 
 #[test]
@@ -245,8 +248,14 @@ fn a_session_that_ends_at_any_byte(rt: HostRuntime) -> Result<(), Fail> {
         let place = ("up to", end as u64);
         let (table, store) = both(rt.alloc(), &input[..end], 4096)?;
         let is_same = table.as_slice() == store.as_slice();
-        assert_row(&rt, is_same, "the store", place);
-        assert_row(&rt, is_answered(&table, end), "the mosaic", place);
+        assert_row(&rt, is_same, "the store", &(place, text_of(&store)));
+        let is_right = is_answered(&table, end);
+        assert_row(
+            &rt,
+            is_right,
+            "the mosaic in memory",
+            &(place, text_of(&table)),
+        );
     }
     Ok(())
 }
@@ -275,7 +284,12 @@ fn sessions_with_other_bytes(rt: HostRuntime) -> Result<(), Fail> {
         let input = mutated(rt.alloc(), &mut random)?;
         let (table, store) = both(rt.alloc(), &input, 4096)?;
         let is_right = table.as_slice() == store.as_slice() && table.ends_with(b"\n");
-        assert_row(&rt, is_right, "other bytes", ("sessions", number));
+        assert_row(
+            &rt,
+            is_right,
+            "another answer to session",
+            &(number, text_of(&input)),
+        );
     }
     Ok(())
 }

@@ -1,7 +1,7 @@
 //! A fault at each call of each query and of the opening before it, in stores of either version, of stale tiles and of
 //! fresh ones.
 use crate::asserting::assert_row;
-use crate::good_images::{A, Act, B, EAST, Good, HERE, image_of};
+use crate::good_images::{EAST, Good, HERE, image_of};
 use crate::image::Image;
 use crate::stores::{
     Numbers, into_disk, is_stale, known, open, opened, reopen, replies, seams, upgrade,
@@ -13,24 +13,20 @@ use std::alloc::Global;
 use std::process::Abort;
 use std::test::Fail;
 use store::{Event, Reply, Store};
+use test_tiles::B;
 use watershed::Run;
 
 /// More calls of the disk than an opening and a query make.
 const MANY_CALLS: u64 = 120;
 
-const STALE: [Act; 2] = [Act::Import(0, 0, &A), Act::Import(0, 1, &B)];
+const STALE: [&str; 2] = ["import N00E000 $A", "import N00E001 $B"];
 
-const ONE_FRESH: [Act; 3] = [Act::Import(0, 0, &A), Act::Import(0, 1, &B), Act::Step];
+const ONE_FRESH: [&str; 3] = ["import N00E000 $A", "import N00E001 $B", "step"];
 
-const BOTH_FRESH: [Act; 4] = [
-    Act::Import(0, 0, &A),
-    Act::Import(0, 1, &B),
-    Act::Step,
-    Act::Step,
-];
+const BOTH_FRESH: [&str; 4] = ["import N00E000 $A", "import N00E001 $B", "step", "step"];
 
-/// Stores of two tiles, and their versions.
-const STORES: [(&str, u32, &[Act]); 6] = [
+/// Stores of two tiles, their versions, and the lines that change them.
+const STORES: [(&str, u32, &[&str]); 6] = [
     ("stale, by the first version", 1, &STALE),
     ("one fresh, by the first version", 1, &ONE_FRESH),
     ("both fresh, by the first version", 1, &BOTH_FRESH),
@@ -193,13 +189,14 @@ fn fault_in_query<D: Disk>(
     }
     let is_failed = first == Reply::Refused(Refusal::Device) && refuses_all(alloc, store)?;
     if !is_failed || told(store) != before {
-        return Err("not failed".into());
+        return Err(("not failed", number, first).into());
     }
     reopen(store)?;
-    if told(store) == before && reply(alloc, store, number)? == *answer {
+    let again = reply(alloc, store, number)?;
+    if told(store) == before && again == *answer {
         Ok(true)
     } else {
-        Err("another answer once it is open again".into())
+        Err(("another answer once it is open again", number, again).into())
     }
 }
 
@@ -226,26 +223,26 @@ fn fault_in_each_query(
     for (answer, number) in answers.iter().zip(0..answers.len()) {
         let faults = fault_at_each(alloc, image, number, answer)?;
         let place = (name, number as u64);
-        assert_row(rt, 0 < faults, "no call to fail in query", place);
+        assert_row(rt, 0 < faults, "no call to fail in query", &place);
     }
     Ok(())
 }
 
 fn fault_in_each_store(rt: &impl Abort, alloc: Global, answers: &[Reply]) -> Result<(), Fail> {
-    for (name, version, acts) in STORES {
-        let image = two_tiles(alloc, version, acts)?;
+    for (name, version, lines) in STORES {
+        let image = two_tiles(alloc, version, lines)?;
         fault_in_each_query(rt, alloc, name, &image, answers)?;
     }
     Ok(())
 }
 
-// The image of a store of two tiles, after these acts.
-fn two_tiles(alloc: Global, version: u32, acts: &'static [Act]) -> Result<Image, Fail> {
+// The image of a store of two tiles, after these lines.
+fn two_tiles(alloc: Global, version: u32, lines: &'static [&'static str]) -> Result<Image, Fail> {
     let good = Good {
         version,
         side: 3,
         capacity: 2,
-        acts,
+        lines,
         changes: &[],
     };
     image_of(alloc, good)

@@ -1,7 +1,7 @@
 //! Calls of a store of either version, each made until it is answered. With ample memory none is refused.
 //! `examples/scarce_calls` runs the last two tests again and again, with each request for memory refused in turn.
 use crate::asserting::assert_row;
-use crate::good_images::{A, EAST, HERE, V, burn, import, wall};
+use crate::good_images::{EAST, HERE, burn, import, wall};
 use crate::stores::{
     Numbers, format, into_disk, is_stale, known, open, reopen, run, seams, upgrade,
 };
@@ -11,6 +11,7 @@ use lattice::{Height, Point, Refusal};
 use std::alloc::Global;
 use std::test::Fail;
 use store::{Event, Reply, Store};
+use test_tiles::{A, V};
 use watershed::Run;
 
 const MIDDLE: Point = Point { y: 1, x: 1 };
@@ -321,8 +322,12 @@ fn left_on<D: Disk + Drop>(alloc: Global, disk: D) -> Result<(bool, Numbers, boo
 fn ample_memory_is_enough(rt: HostRuntime) -> Result<(), Fail> {
     for version in [1, 2] {
         let refused = refusals(rt.alloc(), version)?;
-        let place = ("version", u64::from(version));
-        assert_row(&rt, refused == 0, "a refusal", place);
+        assert_row(
+            &rt,
+            refused == 0,
+            "refusals by version",
+            &(version, refused),
+        );
     }
     Ok(())
 }
@@ -333,8 +338,12 @@ fn opening_succeeds_with_ample_memory(rt: HostRuntime) -> Result<(), Fail> {
         let disk = into_disk(store_of_a(rt.alloc(), version)?);
         let (refused, numbers, _) = left_on(rt.alloc(), disk)?;
         let is_right = numbers.count == 1 && numbers.version == version;
-        let place = ("version", u64::from(version));
-        assert_row(&rt, !refused && is_right, "another opening", place);
+        assert_row(
+            &rt,
+            !refused && is_right,
+            "another opening by version",
+            &version,
+        );
     }
     Ok(())
 }
@@ -344,7 +353,7 @@ fn what_was_refused_is_answered_when_asked_again_by_the_first_version(
     rt: HostRuntime,
 ) -> Result<(), Fail> {
     let refused = refusals(rt.alloc(), 1)?;
-    assert_row(&rt, refused < 2, "more refusals", ("version", 1));
+    assert_row(&rt, refused < 2, "more refusals", &refused);
     Ok(())
 }
 
@@ -353,6 +362,6 @@ fn what_was_refused_is_answered_when_asked_again_by_the_second_version(
     rt: HostRuntime,
 ) -> Result<(), Fail> {
     let refused = refusals(rt.alloc(), 2)?;
-    assert_row(&rt, refused < 2, "more refusals", ("version", 2));
+    assert_row(&rt, refused < 2, "more refusals", &refused);
     Ok(())
 }

@@ -6,8 +6,10 @@ use crate::stores::{empty_store, into_disk, known, open, opened};
 use disk::{Disk, FaultOnceDisk, FuseDisk, MemDisk, Torn};
 use lattice::Refusal;
 use std::alloc::{AllocError, Global};
+use std::str::from_utf8;
 use std::test::Fail;
 use store::Store;
+use test_tiles::{lines_of, push_line};
 
 /// More calls of the disk than a session makes.
 const MANY_CALLS: u64 = 80;
@@ -22,83 +24,73 @@ const STOPS: [(Torn, Torn); 6] = [
     (Torn::Fill(0xa7), Torn::Old),
 ];
 
-/// Lines to a store of two tiles, the reply to each with how many commands were told to be done by then, and what is replied
-/// to `QUESTIONS` after so many commands.
+/// What lines to a store of two tiles show, each with its reply and with how many commands were told to be done by then, and
+/// what is replied to `QUESTIONS` after so many commands.
 #[derive(Clone, Copy)]
 struct Session {
-    lines: &'static [u8],
-    replies: &'static [(&'static [u8], u64)],
-    left: &'static [&'static [u8]],
+    shows: &'static str,
+    said: &'static [(&'static str, &'static str, u64)],
+    left: &'static [[&'static str; 5]],
 }
 
-const QUESTIONS: &[u8] = b"tiles\nsinks\nelev 1 2\nexport N00E000\nexport N00E001\n";
+const QUESTIONS: [&str; 5] = [
+    "tiles",
+    "sinks",
+    "elev 1 2",
+    "export N00E000",
+    "export N00E001",
+];
 
-const EMPTY: &[u8] = b"OK 0\nOK 0\nERR 7 Outside\nERR 5 NoTile\nERR 5 NoTile\n";
+const EMPTY: [&str; 5] = [
+    "OK 0",
+    "OK 0",
+    "ERR 7 Outside",
+    "ERR 5 NoTile",
+    "ERR 5 NoTile",
+];
 
-// With 9 9 9 / 9 9 7 / 9 9 9, with 9 9 9 / 8 9 9 / 9 9 9 to the east of it, and with the latter alone.
+const WITH_WEST: [&str; 5] = ["OK 1 N00E000", "OK 0", "OK 7", "OK $G", "ERR 5 NoTile"];
 
-const WITH_WEST: &[u8] = b"OK 1 N00E000\nOK 0\nOK 7\n\
-OK 18\n\0\x09\0\x09\0\x09\0\x09\0\x09\0\x07\0\x09\0\x09\0\x09ERR 5 NoTile\n";
+const WITH_BOTH: [&str; 5] = ["OK 2 N00E000 N00E001", "OK 0", "OK 7", "OK $G", "OK $H"];
 
-const WITH_BOTH: &[u8] = b"OK 2 N00E000 N00E001\nOK 0\nOK 7\n\
-OK 18\n\0\x09\0\x09\0\x09\0\x09\0\x09\0\x07\0\x09\0\x09\0\x09\
-OK 18\n\0\x09\0\x09\0\x09\0\x08\0\x09\0\x09\0\x09\0\x09\0\x09";
+const WITH_SINK: [&str; 5] = [
+    "OK 2 N00E000 N00E001",
+    "OK 1\n1 1",
+    "OK 7",
+    "OK $G",
+    "OK $H",
+];
 
-const WITH_SINK: &[u8] = b"OK 2 N00E000 N00E001\nOK 1\n1 1\nOK 7\n\
-OK 18\n\0\x09\0\x09\0\x09\0\x09\0\x09\0\x07\0\x09\0\x09\0\x09\
-OK 18\n\0\x09\0\x09\0\x09\0\x08\0\x09\0\x09\0\x09\0\x09\0\x09";
+const WITH_EAST: [&str; 5] = ["OK 1 N00E001", "OK 0", "OK 8", "ERR 5 NoTile", "OK $H"];
 
-const WITH_EAST: &[u8] = b"OK 1 N00E001\nOK 0\nOK 8\nERR 5 NoTile\n\
-OK 18\n\0\x09\0\x09\0\x09\0\x08\0\x09\0\x09\0\x09\0\x09\0\x09";
-
-/// Each tile's bytes, and the height where they meet, which is then the other one's.
 const SEAMS: Session = Session {
-    lines: b"import N00E000 18\n\0\x09\0\x09\0\x09\0\x09\0\x09\0\x07\0\x09\0\x09\0\x09\
-import N00E001 18\n\0\x09\0\x09\0\x09\0\x08\0\x09\0\x09\0\x09\0\x09\0\x09\
-elev 1 2\nexport N00E000\nexport N00E001\nremove N00E000\nelev 1 2\n",
-    replies: &REPLIES_OF_SEAMS,
-    left: &LEFT_OF_SEAMS,
+    shows: "each tile's bytes, and the height where they meet, which is then the other one's",
+    said: &[
+        ("import N00E000 $G", "OK 1", 1),
+        ("import N00E001 $H", "OK 2", 2),
+        ("elev 1 2", "OK 7", 2),
+        ("export N00E000", "OK $G", 2),
+        ("export N00E001", "OK $H", 2),
+        ("remove N00E000", "OK 3", 3),
+        ("elev 1 2", "OK 8", 3),
+    ],
+    left: &[EMPTY, WITH_WEST, WITH_BOTH, WITH_EAST],
 };
 
-const REPLIES_OF_SEAMS: [(&[u8], u64); 7] = [
-    (b"OK 1\n", 1),
-    (b"OK 2\n", 2),
-    (b"OK 7\n", 2),
-    (
-        b"OK 18\n\0\x09\0\x09\0\x09\0\x09\0\x09\0\x07\0\x09\0\x09\0\x09",
-        2,
-    ),
-    (
-        b"OK 18\n\0\x09\0\x09\0\x09\0\x08\0\x09\0\x09\0\x09\0\x09\0\x09",
-        2,
-    ),
-    (b"OK 3\n", 3),
-    (b"OK 8\n", 3),
-];
-
-const LEFT_OF_SEAMS: [&[u8]; 4] = [EMPTY, WITH_WEST, WITH_BOTH, WITH_EAST];
-
-/// A sink comes and goes, and planes are kept.
 const SINKS: Session = Session {
-    lines: b"import N00E000 18\n\0\x09\0\x09\0\x09\0\x09\0\x09\0\x07\0\x09\0\x09\0\x09\
-import N00E001 18\n\0\x09\0\x09\0\x09\0\x08\0\x09\0\x09\0\x09\0\x09\0\x09\
-elev 1 2\nsink 1 1\nstep\nunsink 1 1\nremove N00E000\ntiles\n",
-    replies: &REPLIES_OF_SINKS,
-    left: &LEFT_OF_SINKS,
+    shows: "a sink comes and goes, and planes are kept",
+    said: &[
+        ("import N00E000 $G", "OK 1", 1),
+        ("import N00E001 $H", "OK 2", 2),
+        ("elev 1 2", "OK 7", 2),
+        ("sink 1 1", "OK 3", 3),
+        ("step", "OK N00E000", 3),
+        ("unsink 1 1", "OK 4", 4),
+        ("remove N00E000", "OK 5", 5),
+        ("tiles", "OK 1 N00E001", 5),
+    ],
+    left: &[EMPTY, WITH_WEST, WITH_BOTH, WITH_SINK, WITH_BOTH, WITH_EAST],
 };
-
-const REPLIES_OF_SINKS: [(&[u8], u64); 8] = [
-    (b"OK 1\n", 1),
-    (b"OK 2\n", 2),
-    (b"OK 7\n", 2),
-    (b"OK 3\n", 3),
-    (b"OK N00E000\n", 3),
-    (b"OK 4\n", 4),
-    (b"OK 5\n", 5),
-    (b"OK 1 N00E001\n", 5),
-];
-
-const LEFT_OF_SINKS: [&[u8]; 6] = [EMPTY, WITH_WEST, WITH_BOTH, WITH_SINK, WITH_BOTH, WITH_EAST];
 
 /// Versions, sessions, and how many commands these have.
 const ROWS: [(u32, Session, u64); 4] = [(1, SEAMS, 3), (2, SEAMS, 3), (1, SINKS, 5), (2, SINKS, 5)];
@@ -107,17 +99,31 @@ const ROWS: [(u32, Session, u64); 4] = [(1, SEAMS, 3), (2, SEAMS, 3), (1, SINKS,
 const FAILED: &[u8] = b"ERR 20 Device\nERR 22 Failed\nERR 22 Failed\nERR 22 Failed\nERR 22 Failed\n\
 ERR 22 Failed\nERR 22 Failed\nERR 22 Failed\n";
 
+fn input_of(alloc: Global, session: &Session) -> Result<Vec<u8>, AllocError> {
+    let mut input = Vec::new(alloc);
+    for (line, ..) in session.said {
+        push_line(&mut input, line)?;
+    }
+    Ok(input)
+}
+
 // How many commands were told to be done, where the replies are right up to a fault.
-fn told_in(session: &Session, output: &[u8]) -> Option<u64> {
+fn told_in(alloc: Global, session: &Session, output: &[u8]) -> Result<u64, Fail> {
     let mut rest = output;
     let mut told = 0;
-    for (reply, count) in session.replies {
-        if rest.starts_with(reply) {
-            rest = &rest[reply.len()..];
+    for (_, reply, count) in session.said {
+        let reply = lines_of(alloc, &[*reply])?;
+        if rest.starts_with(&reply) {
+            rest = rest.get(reply.len()..).unwrap_or(&[]);
             told = *count;
         }
     }
-    FAILED.starts_with(rest).then_some(told)
+    if FAILED.starts_with(rest) {
+        Ok(told)
+    } else {
+        let text = from_utf8(rest).unwrap_or("bytes that are no text");
+        Err((session.shows, "another reply", text).into())
+    }
 }
 
 // Serves the lines: the disk then, and how many commands were told to be done.
@@ -135,8 +141,8 @@ fn serve_on<D: Disk + Drop>(alloc: Global, disk: D, session: &Session) -> Result
 
 // How many commands the store told to be done in the session.
 fn told_by<D: Disk>(alloc: Global, store: &mut Store<D>, session: &Session) -> Result<u64, Fail> {
-    let output = served_by_store(alloc, store, session.lines, 4096)?;
-    Ok(told_in(session, &output).ok_or("another reply")?)
+    let output = served_by_store(alloc, store, &input_of(alloc, session)?, 4096)?;
+    told_in(alloc, session, &output)
 }
 
 // How many commands an opening finds, where these are those that were told to be done, or one more, each whole.
@@ -146,22 +152,24 @@ fn commands_found<D: Disk + Drop>(
     session: &Session,
     told: u64,
 ) -> Result<(D, u64), Fail> {
+    let questions = lines_of(alloc, &QUESTIONS)?;
     let mut store = opened(alloc, disk)?;
     let done = known(&store).count;
-    let output = served_by_store(alloc, &mut store, QUESTIONS, 4096);
+    let output = served_by_store(alloc, &mut store, &questions, 4096);
     let disk = into_disk(store);
-    if is_left(session, done, &output?) && (told == done || told.saturating_add(1) == done) {
+    let is_told = told == done || told.saturating_add(1) == done;
+    if is_left(alloc, session, done, &output?)? && is_told {
         Ok((disk, done))
     } else {
-        Err("a command that was told is gone".into())
+        Err((session.shows, "told and found", told, done).into())
     }
 }
 
 // Whether the questions are answered so after this many commands.
-fn is_left(session: &Session, done: u64, output: &[u8]) -> bool {
+fn is_left(alloc: Global, session: &Session, done: u64, output: &[u8]) -> Result<bool, AllocError> {
     match session.left.get(done as usize) {
-        Some(left) => output == *left,
-        None => false,
+        Some(left) => Ok(lines_of(alloc, left)?.as_slice() == output),
+        None => Ok(false),
     }
 }
 
@@ -217,7 +225,18 @@ fn stop_after_each_call(
         let disk = stopped_in_openings(alloc, disk, stop)?;
         let (_, again) = commands_found(alloc, disk, session, told)?;
         if again != done {
-            return Err("an opening changed the store".into());
+            let found = (done, again);
+            return Err(
+                (
+                    session.shows,
+                    version,
+                    calls,
+                    stop,
+                    "found before and after an opening",
+                    found,
+                )
+                    .into(),
+            );
         }
     }
     Ok(told)
@@ -251,25 +270,20 @@ fn fault_in_each_call(alloc: Global, version: u32, session: &Session) -> Result<
 
 #[test]
 fn what_was_told_is_there_after_a_stop(rt: HostRuntime) -> Result<(), Fail> {
-    for ((version, session, commands), row) in ROWS.iter().zip(1..5) {
+    for (version, session, commands) in ROWS.iter() {
         let are_through = stop_in_each_way(rt.alloc(), *version, session, *commands)?;
-        let place = ("stops", row);
-        assert_row(&rt, are_through, "a session that isn't through", place);
+        let row = (*version, session.shows);
+        assert_row(&rt, are_through, "a session that isn't through", &row);
     }
     Ok(())
 }
 
 #[test]
 fn what_was_told_is_there_after_a_fault(rt: HostRuntime) -> Result<(), Fail> {
-    for ((version, session, commands), row) in ROWS.iter().zip(1..5) {
+    for (version, session, commands) in ROWS.iter() {
         let told = fault_in_each_call(rt.alloc(), *version, session)?;
-        let place = ("faults", row);
-        assert_row(
-            &rt,
-            told == *commands,
-            "a session that isn't through",
-            place,
-        );
+        let row = (*version, session.shows, told);
+        assert_row(&rt, told == *commands, "a session that isn't through", &row);
     }
     Ok(())
 }

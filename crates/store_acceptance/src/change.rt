@@ -1,81 +1,71 @@
-//! What is stopped: a store before a change, and the change.
-use self::Change::{Do, Step, Upgrade};
-use super::fixtures::{A, B, H, V, empty_store, sectors_for, store_of_version_1};
-use super::script::Asked::{Burn, Import, Patch, Remove, Sink, Unsink, Wall};
-use super::script::{Asked, command};
+//! What is stopped: a store before a change, and the change. A change is written as a line, or as `upgrade`.
+use super::fixtures::{empty_store, sectors_for, store_of_version_1};
+use super::script::command;
 use disk::{Disk, MemDisk};
 use lattice::Refusal;
 use std::alloc::Global;
 use std::test::Fail;
 use store::Store;
 
-/// A call of a store that commits.
-#[derive(Clone, Copy)]
-pub(crate) enum Change<'a> {
-    Do(Asked<'a>),
-    Step,
-    Upgrade,
-}
-
 /// How many tiles the store takes at most, what was done to it before, and the change.
-pub(crate) type Row = (u32, &'static [Change<'static>], Change<'static>);
+pub(crate) type Row = (u32, &'static [&'static str], &'static str);
 
-pub(crate) const ONE_TILE: [Change<'static>; 1] = [Do(Import(0, 0, &A))];
+pub(crate) const ONE_TILE: [&str; 1] = ["import N00E000 $A"];
 
-pub(crate) const ONE_SINK: [Change<'static>; 2] = [Do(Import(0, 0, &A)), Do(Sink(1, 1))];
+pub(crate) const ONE_SINK: [&str; 2] = ["import N00E000 $A", "sink 1 1"];
 
-const ONE_FRESH: [Change<'static>; 3] = [Do(Import(0, 0, &A)), Do(Sink(1, 1)), Step];
+const ONE_FRESH: [&str; 3] = ["import N00E000 $A", "sink 1 1", "step"];
 
 // They meet where the meridian of 1° east crosses their middle rows.
-const TWO_TILES: [Change<'static>; 2] = [Do(Import(0, 0, &V)), Do(Import(0, 1, &H))];
+const TWO_TILES: [&str; 2] = ["import N00E000 $V", "import N00E001 $H"];
 
-const FIRST_FRESH: [Change<'static>; 3] = [Do(Import(0, 0, &V)), Do(Import(0, 1, &H)), Step];
+const FIRST_FRESH: [&str; 3] = ["import N00E000 $V", "import N00E001 $H", "step"];
 
-const BOTH_FRESH: [Change<'static>; 4] = [Do(Import(0, 0, &V)), Do(Import(0, 1, &H)), Step, Step];
+const BOTH_FRESH: [&str; 4] = ["import N00E000 $V", "import N00E001 $H", "step", "step"];
 
 /// Changes that stores of either version take.
 pub(crate) const CHANGES: [Row; 19] = [
-    (2, &ONE_TILE, Do(Import(0, 1, &B))),
-    (2, &ONE_TILE, Do(Sink(1, 1))),
-    (2, &ONE_TILE, Step),
-    (4, &TWO_TILES, Do(Import(1, 0, &A))),
-    (4, &TWO_TILES, Do(Remove(0, 0))),
-    (4, &TWO_TILES, Do(Patch((1, 1), (1, 1), 4))),
-    (4, &TWO_TILES, Do(Burn(2, &[(1, 2)]))),
-    (4, &TWO_TILES, Do(Wall(12, &[(1, 2)]))),
-    (4, &TWO_TILES, Do(Sink(1, 2))),
-    (4, &BOTH_FRESH, Do(Import(1, 0, &A))),
-    (4, &BOTH_FRESH, Do(Remove(0, 0))),
-    (4, &BOTH_FRESH, Do(Patch((1, 1), (1, 1), 4))),
-    (4, &BOTH_FRESH, Do(Burn(2, &[(1, 2)]))),
-    (4, &BOTH_FRESH, Do(Wall(12, &[(1, 2)]))),
-    (4, &BOTH_FRESH, Do(Sink(1, 2))),
-    (1, &ONE_FRESH, Do(Unsink(1, 1))),
-    (1, &ONE_SINK, Step),
-    (4, &TWO_TILES, Step),
-    (4, &FIRST_FRESH, Step),
+    (2, &ONE_TILE, "import N00E001 $B"),
+    (2, &ONE_TILE, "sink 1 1"),
+    (2, &ONE_TILE, "step"),
+    (4, &TWO_TILES, "import N01E000 $A"),
+    (4, &TWO_TILES, "remove N00E000"),
+    (4, &TWO_TILES, "patch 1 1 1 1 4"),
+    (4, &TWO_TILES, "burn 2 1 2"),
+    (4, &TWO_TILES, "wall 12 1 2"),
+    (4, &TWO_TILES, "sink 1 2"),
+    (4, &BOTH_FRESH, "import N01E000 $A"),
+    (4, &BOTH_FRESH, "remove N00E000"),
+    (4, &BOTH_FRESH, "patch 1 1 1 1 4"),
+    (4, &BOTH_FRESH, "burn 2 1 2"),
+    (4, &BOTH_FRESH, "wall 12 1 2"),
+    (4, &BOTH_FRESH, "sink 1 2"),
+    (1, &ONE_FRESH, "unsink 1 1"),
+    (1, &ONE_SINK, "step"),
+    (4, &TWO_TILES, "step"),
+    (4, &FIRST_FRESH, "step"),
 ];
 
 /// Upgrades of stores of the first version.
 pub(crate) const UPGRADES: [Row; 6] = [
-    (1, &[], Upgrade),
-    (2, &ONE_TILE, Upgrade),
-    (1, &ONE_FRESH, Upgrade),
-    (2, &TWO_TILES, Upgrade),
-    (2, &FIRST_FRESH, Upgrade),
-    (4, &BOTH_FRESH, Upgrade),
+    (1, &[], "upgrade"),
+    (2, &ONE_TILE, "upgrade"),
+    (1, &ONE_FRESH, "upgrade"),
+    (2, &TWO_TILES, "upgrade"),
+    (2, &FIRST_FRESH, "upgrade"),
+    (4, &BOTH_FRESH, "upgrade"),
 ];
 
 /// Makes the change. Answers how it is refused, if it is.
 pub(crate) fn make<D: Disk>(
     alloc: Global,
     store: &mut Store<D>,
-    change: Change,
+    change: &str,
 ) -> Result<Option<Refusal>, Fail> {
-    match change {
-        Do(asked) => Ok(store.apply(&command(alloc, asked)?).err()),
-        Step => Ok(store.step().err()),
-        Upgrade => Ok(store.upgrade().err()),
+    match change.as_bytes() {
+        b"step" => Ok(store.step().err()),
+        b"upgrade" => Ok(store.upgrade().err()),
+        _ => Ok(store.apply(&command(alloc, change)?).err()),
     }
 }
 
@@ -83,17 +73,18 @@ pub(crate) fn make<D: Disk>(
 /// store is to be upgraded the smallest that allows it.
 pub(crate) fn prepared_disk(alloc: Global, version: u32, row: Row) -> Result<MemDisk, Fail> {
     let (capacity, prepared, change) = row;
-    let mut store = match (version, change) {
-        (1, Upgrade) => store_of_version_1(alloc, sectors_for(2, capacity), 3, capacity)?,
-        _ => empty_store(alloc, version, capacity)?,
+    let mut store = if version == 1 && change == "upgrade" {
+        store_of_version_1(alloc, sectors_for(2, capacity), 3, capacity)?
+    } else {
+        empty_store(alloc, version, capacity)?
     };
     make_all(alloc, &mut store, prepared)?;
     Ok(store.into_disk())
 }
 
-fn make_all(alloc: Global, store: &mut Store<MemDisk>, changes: &[Change]) -> Result<(), Fail> {
+fn make_all(alloc: Global, store: &mut Store<MemDisk>, changes: &[&str]) -> Result<(), Fail> {
     for change in changes {
-        if let Some(refusal) = make(alloc, store, *change)? {
+        if let Some(refusal) = make(alloc, store, change)? {
             return Err(refusal.into());
         }
     }

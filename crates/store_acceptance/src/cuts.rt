@@ -1,6 +1,6 @@
 //! Sessions of a store with power cuts between them.
 use super::asserting::assert_row;
-use super::fixtures::{A, B, EAST, HERE, import, opened, store_of};
+use super::fixtures::{EAST, HERE, import, opened, store_of};
 use disk::{FuseDisk, Torn};
 use edits::Command;
 use memory_store::run_through_power_cut;
@@ -8,6 +8,7 @@ use std::alloc::Global;
 use std::process::Abort;
 use std::test::Fail;
 use store::{Event, Reply};
+use test_tiles::{A, B};
 
 // How many calls opening a store with one tile makes: a sync, both gates, both roots and the record.
 const CALLS_TO_OPEN: u64 = 6;
@@ -15,7 +16,8 @@ const CALLS_TO_OPEN: u64 = 6;
 // As many calls more than the session makes.
 const CALLS_OF_SESSION: u64 = 30;
 
-fn count_done(replies: &[Reply]) -> u64 {
+/// How many commands were done.
+pub(crate) fn count_done(replies: &[Reply]) -> u64 {
     let mut done: u64 = 0;
     for reply in replies {
         if matches!(reply, Reply::Done(_)) {
@@ -25,9 +27,9 @@ fn count_done(replies: &[Reply]) -> u64 {
     done
 }
 
-// Whether a store of one tile has what it answered done before a cut after so many calls, and at most the command in doubt
-// besides.
-fn has_what_was_done(alloc: Global, torn: Torn, calls: u64) -> Result<bool, Fail> {
+// How many commands a store of one tile answered done before a cut after so many calls, and how many it has then, beside the
+// one that was done before.
+fn done_and_found(alloc: Global, torn: Torn, calls: u64) -> Result<(u64, u64), Fail> {
     let events = [
         Event::Do(import(alloc, EAST, &B)?),
         Event::Do(Command::Remove { corner: HERE }),
@@ -37,15 +39,15 @@ fn has_what_was_done(alloc: Global, torn: Torn, calls: u64) -> Result<bool, Fail
     let disk = store_of(alloc, 2, &[(HERE, A)])?.into_disk();
     let fuse = FuseDisk::new(disk, CALLS_TO_OPEN.saturating_add(calls));
     let found = run_through_power_cut(alloc, opened(alloc, fuse)?, &events, torn, &mut replies)?;
-    let done = count_done(&replies).saturating_add(1);
-    Ok(done <= found.count() && found.count() <= done.saturating_add(1))
+    Ok((count_done(&replies), found.count().saturating_sub(1)))
 }
 
-// Cuts the session after each count of calls.
+// Cuts the session after each count of calls: what was done is found, and at most the command in doubt besides.
 fn check_cuts(rt: &impl Abort, alloc: Global, torn: Torn) -> Result<(), Fail> {
     for calls in 0..CALLS_OF_SESSION {
-        let is_there = has_what_was_done(alloc, torn, calls)?;
-        assert_row(rt, is_there, "calls before a cut", calls);
+        let (done, found) = done_and_found(alloc, torn, calls)?;
+        let is_right = done <= found && found <= done.saturating_add(1);
+        assert_row(rt, &(torn, calls, done, found), is_right);
     }
     Ok(())
 }

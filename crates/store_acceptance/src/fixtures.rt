@@ -1,5 +1,4 @@
-//! Tiles of side 3, and commands on them, for tests.
-use arrayvec::ArrayVec;
+//! Stores of tiles of side 3, and commands on them, for tests.
 use disk::{Disk, MemDisk};
 use edits::{Bytes, Command};
 use lattice::{Corner, Point};
@@ -12,29 +11,6 @@ pub(crate) const HERE: Corner = Corner { lat: 0, lon: 0 };
 
 pub(crate) const EAST: Corner = Corner { lat: 0, lon: 1 };
 
-// Tiles: nine samples of two bytes each, the higher first, rows from the north.
-
-/// 9 9 9 / 9 1 9 / 9 9 5.
-pub(crate) const A: [u8; 18] = [0, 9, 0, 9, 0, 9, 0, 9, 0, 1, 0, 9, 0, 9, 0, 9, 0, 5];
-
-/// 9 9 9 / 9 1 1 / 9 9 9.
-pub(crate) const B: [u8; 18] = [0, 9, 0, 9, 0, 9, 0, 9, 0, 1, 0, 1, 0, 9, 0, 9, 0, 9];
-
-/// 9 9 9 / 1 1 3 / 9 9 9: to the east of B the valley goes on, and ends higher.
-pub(crate) const C: [u8; 18] = [0, 9, 0, 9, 0, 9, 0, 1, 0, 1, 0, 3, 0, 9, 0, 9, 0, 9];
-
-/// 9 9 9 / 1 1 1 / 9 9 9: the valley goes through.
-pub(crate) const D: [u8; 18] = [0, 9, 0, 9, 0, 9, 0, 1, 0, 1, 0, 1, 0, 9, 0, 9, 0, 9];
-
-/// 9 9 9 / 9 9 7 / 9 9 9.
-pub(crate) const G: [u8; 18] = [0, 9, 0, 9, 0, 9, 0, 9, 0, 9, 0, 7, 0, 9, 0, 9, 0, 9];
-
-/// 9 9 9 / 8 9 9 / 9 9 9.
-pub(crate) const H: [u8; 18] = [0, 9, 0, 9, 0, 9, 0, 8, 0, 9, 0, 9, 0, 9, 0, 9, 0, 9];
-
-/// 9 9 9 / 9 void 9 / 9 9 9.
-pub(crate) const V: [u8; 18] = [0, 9, 0, 9, 0, 9, 0, 9, 128, 0, 0, 9, 0, 9, 0, 9, 0, 9];
-
 pub(crate) fn at(y: i32, x: i32) -> Point {
     Point { y, x }
 }
@@ -44,34 +20,8 @@ pub(crate) fn import(alloc: Global, corner: Corner, bytes: &[u8]) -> Result<Comm
     Ok(Command::Import { corner, bytes })
 }
 
-pub(crate) fn patch(from: Point, to: Point, height: i32) -> Command {
-    Command::Patch { from, to, height }
-}
-
-pub(crate) fn burn(depth: i32, points: &[Point]) -> Command {
-    let points = listed(points);
-    Command::Burn { depth, points }
-}
-
-pub(crate) fn wall(height: i32, points: &[Point]) -> Command {
-    let points = listed(points);
-    Command::Wall { height, points }
-}
-
 pub(crate) fn sink(point: Point) -> Command {
     Command::Sink { point }
-}
-
-pub(crate) fn unsink(point: Point) -> Command {
-    Command::Unsink { point }
-}
-
-fn listed(points: &[Point]) -> ArrayVec<Point, 64> {
-    let mut list = ArrayVec::new();
-    for point in points {
-        let _ = list.try_push(*point);
-    }
-    list
 }
 
 /// An empty store of the first version on a new disk in memory.

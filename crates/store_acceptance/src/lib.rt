@@ -1,5 +1,11 @@
 //! Tests alone, of a store on disks in memory: its answers row by row, whole runs, stops and faults at each call, tiles of
 //! real size.
+//!
+//! A row of changes that are stopped is for how many tiles there is room, what was done before, and the change:
+//!
+//! ```
+//! (2, &ONE_TILE, "import N00E001 $B"),                   // a second tile beside the first
+//! ```
 #![tactic(auto)]
 
 #[cfg(test)]
@@ -24,6 +30,8 @@ mod standing;
 mod steps;
 #[cfg(test)]
 mod stops;
+#[cfg(test)]
+mod two_sessions;
 #[cfg(test)]
 mod upgrades;
 #[cfg(test)]

@@ -1,10 +1,8 @@
 //! Tiles of 1201 by 1201 samples, and one of 3601 by 3601.
-use super::change::Change::{Do, Step};
-use super::fixtures::{EAST, HERE, at, exports, opened};
-use super::script::Asked::{Burn, Import};
+use super::asserting::assert_found;
+use super::fixtures::{EAST, HERE, at, exports, import, opened};
 use super::writes::make_counted;
 use disk::MemDisk;
-use edits::{Bytes, Command};
 use lattice::{Corner, Height};
 use memory_store::store_in_memory;
 use std::alloc::Global;
@@ -25,20 +23,6 @@ fn tile(alloc: Global, shift: u32) -> Result<Vec<u8>, Fail> {
     Ok(bytes)
 }
 
-fn import(
-    alloc: Global,
-    store: &mut Store<MemDisk>,
-    corner: Corner,
-    shift: u32,
-) -> Result<(), Fail> {
-    let import = Command::Import {
-        corner,
-        bytes: Bytes::new(tile(alloc, shift)?),
-    };
-    store.apply(&import)?;
-    Ok(())
-}
-
 fn comes_back(
     alloc: Global,
     store: &mut Store<MemDisk>,
@@ -50,8 +34,8 @@ fn comes_back(
 
 fn two_neighbours(alloc: Global) -> Result<MemDisk, Fail> {
     let mut store = store_in_memory(alloc, SECTORS, 1201, 2)?;
-    import(alloc, &mut store, HERE, 0)?;
-    import(alloc, &mut store, EAST, 7)?;
+    store.apply(&import(alloc, HERE, &tile(alloc, 0)?)?)?;
+    store.apply(&import(alloc, EAST, &tile(alloc, 7)?)?)?;
     Ok(store.into_disk())
 }
 
@@ -64,17 +48,24 @@ fn two_neighbours_come_back_byte_for_byte(rt: HostRuntime) -> Result<(), Fail> {
     Ok(())
 }
 
+// Imports the tile into the store of this disk. Answers the disk, and how many writes that made.
+fn import_counted(alloc: Global, disk: MemDisk, bytes: &[u8]) -> Result<(MemDisk, u64), Fail> {
+    let before = disk.writes();
+    let mut store = opened(alloc, disk)?;
+    store.apply(&import(alloc, HERE, bytes)?)?;
+    let disk = store.into_disk();
+    let writes = disk.writes().saturating_sub(before);
+    Ok((disk, writes))
+}
+
 #[test]
 fn a_tile_of_the_first_version_is_written_once(rt: HostRuntime) -> Result<(), Fail> {
     let alloc = rt.alloc();
     let mut disk = MemDisk::new(alloc, 4240)?;
     Store::format_1(&mut disk, 1201, 1)?;
-    let bytes = tile(alloc, 0)?;
-    let rows = [
-        (Do(Import(0, 0, &bytes)), 708),
-        (Do(Burn(1, &[(600, 600)])), 5),
-    ];
-    make_counted(&rt, alloc, disk, &rows)?;
+    let (disk, writes) = import_counted(alloc, disk, &tile(alloc, 0)?)?;
+    assert_found(&rt, &"an import", &writes, &708);
+    make_counted(&rt, alloc, disk, &[("burn 1 600 600", 5)])?;
     Ok(())
 }
 
@@ -104,13 +95,14 @@ fn the_largest_tile_comes_back_is_burnt_and_kept_filled(rt: HostRuntime) -> Resu
     let alloc = rt.alloc();
     let disk = store_in_memory(alloc, LARGEST_SECTORS, LARGEST_SIDE, 1)?.into_disk();
     let bytes = slope(alloc, 0)?;
-    let disk = make_counted(&rt, alloc, disk, &[(Do(Import(0, 0, &bytes)), 6342)])?;
+    let (disk, writes) = import_counted(alloc, disk, &bytes)?;
+    assert_found(&rt, &"an import", &writes, &6342);
     let mut store = opened(alloc, disk)?;
     // The last sample is in the last page.
     let is_back = exports(&mut store, HERE, &bytes)?
         && store.elevation(at(0, 3600)) == Ok(Height::At(14_400));
     assert!(rt; is_back);
-    let rows = [(Do(Burn(1, &[(1800, 1800)])), 6), (Step, 12_683)];
+    let rows = [("burn 1 1800 1800", 6), ("step", 12_683)];
     let disk = make_counted(&rt, alloc, store.into_disk(), &rows)?;
     assert!(rt; is_burnt_and_filled(alloc, disk)?);
     Ok(())

@@ -1,12 +1,10 @@
-//! What a store of tiles of side 3 answers, command by command and query by query, where no line asks for it.
-//! `acceptance` has the rows of lines.
-use super::asserting::assert_row;
-use super::fixtures::{A, B, C, G, H, V, opened};
-use super::script::Asked::{Burn, Import, Patch, Remove, Wall};
-use super::script::Step::{Done, Drains, Elevation, Exports, Filled, Refused, Seams, Shed};
-use super::script::{Asked, command, follow};
+//! What a store of tiles of side 3 answers where no line asks for it: sizes, counts of calls, seams. `acceptance` has the
+//! rows of lines.
+use super::asserting::{assert_found, assert_row};
+use super::fixtures::opened;
+use super::script::{Session, check_sessions, command};
 use disk::{CountedDisk, MemDisk};
-use lattice::{Height, Refusal};
+use lattice::Refusal;
 use std::alloc::Global;
 use std::test::Fail;
 use store::Store;
@@ -37,8 +35,10 @@ fn sizes_that_format_takes(rt: HostRuntime) -> Result<(), Fail> {
     for (sectors, side, capacity, answer) in table {
         let mut disk = MemDisk::new(rt.alloc(), sectors)?;
         let found = Store::format(&mut disk, side, capacity);
-        let is_right = found == answer && (answer.is_err() || is_second(rt.alloc(), disk, side)?);
-        assert_row(&rt, is_right, "sectors", u64::from(sectors));
+        let size = (sectors, side, capacity);
+        assert_found(&rt, &size, &found, &answer);
+        let is_right = answer.is_err() || is_second(rt.alloc(), disk, side)?;
+        assert_row(&rt, &size, is_right);
     }
     Ok(())
 }
@@ -59,8 +59,9 @@ fn sizes_that_the_first_version_takes(rt: HostRuntime) -> Result<(), Fail> {
         let mut disk = MemDisk::new(rt.alloc(), sectors)?;
         let found = Store::format_1(&mut disk, side, capacity);
         let writes = if answer.is_ok() { 4 } else { 0 };
-        let is_right = found == answer && disk.writes() == writes;
-        assert_row(&rt, is_right, "sectors", u64::from(sectors));
+        let size = (sectors, side, capacity);
+        assert_found(&rt, &size, &found, &answer);
+        assert_found(&rt, &size, &disk.writes(), &writes);
     }
     Ok(())
 }
@@ -72,9 +73,9 @@ type Commits = (u64, Result<u64, Refusal>, u64);
 fn counted(
     alloc: Global,
     disk: MemDisk,
-    asked: Asked,
+    line: &str,
 ) -> Result<(MemDisk, Commits, (u64, u64)), Fail> {
-    let command = command(alloc, asked)?;
+    let command = command(alloc, line)?;
     let mut store = opened(alloc, CountedDisk::new(disk))?;
     let before = store.commits();
     let answer = store.apply(&command);
@@ -93,102 +94,55 @@ fn writes_and_syncs_of_commands(rt: HostRuntime) -> Result<(), Fail> {
     // An opening makes one sync. The first import writes a page, a record, a root and a gate; later ones close the gate
     // first. Behind each answer the commits, and how many writes and syncs were made.
     let steps = [
-        (Import(0, 0, &A), Ok(1), 2, 4, 3),
-        (Import(0, 1, &B), Ok(2), 3, 5, 4),
-        (Import(5, 5, &A), Err(Refusal::Full), 3, 0, 1),
-        (Remove(0, 0), Ok(3), 4, 3, 4),
-        (Import(5, 5, &A), Ok(4), 5, 5, 4),
+        ("import N00E000 $A", Ok(1), 2, 4, 3),
+        ("import N00E001 $B", Ok(2), 3, 5, 4),
+        ("import N05E005 $A", Err(Refusal::Full), 3, 0, 1),
+        ("remove N00E000", Ok(3), 4, 3, 4),
+        ("import N05E005 $A", Ok(4), 5, 5, 4),
     ];
     let mut before = 1;
-    for (asked, answer, commits, writes, syncs) in steps {
-        let (left, found, calls) = counted(alloc, disk, asked)?;
-        assert_row(&rt, found == (before, answer, commits), "commits", commits);
-        assert_row(
-            &rt,
-            calls == (writes, syncs),
-            "writes and syncs at commit",
-            commits,
-        );
+    for (line, answer, commits, writes, syncs) in steps {
+        let (left, found, calls) = counted(alloc, disk, line)?;
+        assert_found(&rt, &line, &found, &(before, answer, commits));
+        assert_found(&rt, &line, &calls, &(writes, syncs));
         disk = left;
         before = commits;
     }
     Ok(())
 }
 
-#[test]
-fn tiles_that_disagree_at_a_point(rt: HostRuntime) -> Result<(), Fail> {
-    let script = [
-        Done(Import(0, 0, &G), 1),
-        Done(Import(0, 1, &H), 2),
-        Elevation(1, 2, Height::At(7)),
-        Exports(0, 0, &G),
-        Exports(0, 1, &H),
-        Seams(1),
-        Done(Remove(0, 0), 3),
-        Elevation(1, 2, Height::At(8)),
-    ];
-    follow(&rt, rt.alloc(), 4, &script)
-}
+const SEAMS: [Session; 2] = [
+    Session {
+        shows: "a burn makes tiles agree at a seam",
+        capacity: 4,
+        said: &[
+            ("import N00E000 $G", "OK 1"),
+            ("import N00E001 $H", "OK 2"),
+            ("export N00E000", "OK $G"),
+            ("export N00E001", "OK $H"),
+            ("seams", "OK 1"),
+            ("burn 1 1 2", "OK 3"),
+            ("elev 1 2", "OK 6"),
+            ("seams", "OK 0"),
+        ],
+    },
+    Session {
+        shows: "a wall makes tiles agree at a seam",
+        capacity: 4,
+        said: &[
+            ("import N00E000 $G", "OK 1"),
+            ("import N00E001 $H", "OK 2"),
+            ("export N00E000", "OK $G"),
+            ("export N00E001", "OK $H"),
+            ("seams", "OK 1"),
+            ("wall 3 1 2", "OK 3"),
+            ("elev 1 2", "OK 7"),
+            ("seams", "OK 0"),
+        ],
+    },
+];
 
 #[test]
-fn edits_reach_each_tile_at_a_seam(rt: HostRuntime) -> Result<(), Fail> {
-    for (edit, height) in [(Burn(1, &[(1, 2)]), 6), (Wall(3, &[(1, 2)]), 7)] {
-        let script = [
-            Done(Import(0, 0, &G), 1),
-            Done(Import(0, 1, &H), 2),
-            Done(edit, 3),
-            Elevation(1, 2, Height::At(height)),
-            Seams(0),
-            Done(Remove(0, 0), 4),
-            Elevation(1, 2, Height::At(height)),
-        ];
-        follow(&rt, rt.alloc(), 4, &script)?;
-    }
-    Ok(())
-}
-
-#[test]
-fn a_patch_across_a_seam(rt: HostRuntime) -> Result<(), Fail> {
-    // void 9 9 / 9 void void / 9 9 9, and to the east 9 9 9 / void 9 9 / 9 9 9.
-    let west = [128, 0, 0, 9, 0, 9, 0, 9, 128, 0, 128, 0, 0, 9, 0, 9, 0, 9];
-    let east = [0, 9, 0, 9, 0, 9, 128, 0, 0, 9, 0, 9, 0, 9, 0, 9, 0, 9];
-    let patched_west = [128, 0, 0, 9, 0, 9, 0, 9, 0, 5, 0, 5, 0, 9, 0, 9, 0, 9];
-    let patched_east = [0, 9, 0, 9, 0, 9, 0, 5, 0, 9, 0, 9, 0, 9, 0, 9, 0, 9];
-    let script = [
-        Done(Import(0, 0, &west), 1),
-        Done(Import(0, 1, &east), 2),
-        Done(Patch((0, 1), (2, 3), 5), 3),
-        Exports(0, 0, &patched_west),
-        Exports(0, 1, &patched_east),
-    ];
-    follow(&rt, rt.alloc(), 4, &script)
-}
-
-#[test]
-fn burns_and_walls_that_are_refused(rt: HostRuntime) -> Result<(), Fail> {
-    let script = [
-        Done(Import(0, 0, &V), 1),
-        Refused(Burn(0, &[(1, 1)]), Refusal::BadDepth),
-        Refused(Burn(0, &[(1, 1), (1, 1)]), Refusal::BadDepth),
-        Refused(Burn(1, &[(1, 1), (1, 1)]), Refusal::Repeated),
-        Refused(Burn(5, &[(9, 9), (1, 1)]), Refusal::Outside),
-        Refused(Burn(5, &[(1, 1), (9, 9)]), Refusal::Void),
-        Refused(Wall(32_768, &[(1, 1), (1, 1)]), Refusal::BadHeight),
-    ];
-    follow(&rt, rt.alloc(), 4, &script)
-}
-
-#[test]
-fn a_valley_through_two_tiles(rt: HostRuntime) -> Result<(), Fail> {
-    let script = [
-        Done(Import(0, 0, &B), 1),
-        Filled(1, 1, Ok(1)),
-        Done(Import(0, 1, &C), 2),
-        Filled(1, 1, Ok(3)),
-        Drains(1, 1, Ok(1)),
-        Shed(1, 4, &[(2, 0, 4), (1, 0, 4), (0, 0, 4)]),
-        Done(Wall(5, &[(1, 4)]), 3),
-        Filled(1, 1, Ok(5)),
-    ];
-    follow(&rt, rt.alloc(), 4, &script)
+fn edits_make_tiles_agree_at_a_seam(rt: HostRuntime) -> Result<(), Fail> {
+    check_sessions(&rt, rt.alloc(), &SEAMS)
 }

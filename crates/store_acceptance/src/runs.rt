@@ -1,12 +1,15 @@
 //! Whole runs of a store.
-use super::fixtures::{A, HERE, at, import, opened, store_of};
+use super::asserting::assert_found;
+use super::fixtures::{HERE, at, import, opened, store_of};
 use disk::{Disk, FaultOnceDisk};
 use edits::Command;
 use lattice::{Height, Refusal};
 use memory_store::store_in_memory;
 use std::alloc::Global;
+use std::process::Abort;
 use std::test::Fail;
 use store::{Event, Reply, Store};
+use test_tiles::A;
 use watershed::Run;
 
 // How many calls opening a store of the first version with one tile makes: a sync, both gates, both roots and the record.
@@ -31,12 +34,13 @@ fn removal() -> Event {
     Event::Do(Command::Remove { corner: HERE })
 }
 
-// Whether a run of these events has these replies, in order.
-fn replies<D: Disk>(
+// Has the store answer these events, and compares the replies.
+fn check_run<D: Disk>(
+    rt: &impl Abort,
     alloc: Global,
     store: &mut Store<D>,
     rows: Vec<(Event, Reply)>,
-) -> Result<bool, Fail> {
+) -> Result<(), Fail> {
     let mut events = Vec::new(alloc);
     let mut expected = Vec::new(alloc);
     for (event, reply) in rows {
@@ -45,7 +49,8 @@ fn replies<D: Disk>(
     }
     let mut out = Vec::new(alloc);
     store.run(&events, &mut out)?;
-    Ok(out.as_slice() == expected.as_slice())
+    assert_found(rt, &"a run", &out.as_slice(), &expected.as_slice());
+    Ok(())
 }
 
 fn rows_of<const N: usize>(
@@ -91,8 +96,7 @@ fn every_event(alloc: Global) -> Result<Vec<(Event, Reply)>, Fail> {
 fn every_event_of_a_run(rt: HostRuntime) -> Result<(), Fail> {
     let rows = every_event(rt.alloc())?;
     let mut store = store_in_memory(rt.alloc(), 22, 3, 1)?;
-    assert!(rt; replies(rt.alloc(), &mut store, rows)?);
-    Ok(())
+    check_run(&rt, rt.alloc(), &mut store, rows)
 }
 
 #[test]
@@ -102,7 +106,8 @@ fn replies_go_behind_what_is_there(rt: HostRuntime) -> Result<(), Fail> {
     let mut store = store_in_memory(rt.alloc(), 22, 3, 1)?;
     store.run(&events, &mut out)?;
     store.run(&[], &mut out)?;
-    assert!(rt; out.as_slice() == [Reply::Reopened, Reply::Done(1), Reply::Count(1)].as_slice());
+    let expected = [Reply::Reopened, Reply::Done(1), Reply::Count(1)];
+    assert_found(&rt, &"a run", &out.as_slice(), &expected.as_slice());
     Ok(())
 }
 
@@ -131,6 +136,5 @@ fn a_fault_in_a_run(rt: HostRuntime) -> Result<(), Fail> {
     let rows = after_a_fault(rt.alloc())?;
     let disk = store_of(rt.alloc(), 1, &[(HERE, A)])?.into_disk();
     let mut store = opened(rt.alloc(), FaultOnceDisk::new(disk, CALLS_TO_OPEN))?;
-    assert!(rt; replies(rt.alloc(), &mut store, rows)?);
-    Ok(())
+    check_run(&rt, rt.alloc(), &mut store, rows)
 }

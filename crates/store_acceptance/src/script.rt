@@ -1,131 +1,99 @@
-//! Scripts: commands, questions and the right answers, one after another, for a store.
-use super::asserting::assert_row;
-use super::fixtures::{at, burn, empty_store, exports, import, patch, sink, unsink, wall};
-use disk::{Disk, MemDisk};
-use edits::Command;
-use lattice::{Corner, Height, Point, Refusal};
+//! Scripts: texts, and what a store answers to each, one after another. A text is a line of the line language, or one of three
+//! words for what no line asks: `seams`, `commits`, and `stale`, which lists the stale tiles as `tiles` lists all. In a text
+//! `$` and a letter stand for a tile.
+use super::fixtures::empty_store;
+use disk::Disk;
+use edits::{Bytes, Command};
+use engine::{Event, Reply};
+use hgt::name_of;
+use lattice::Corner;
+use lines::{Request, format_reply, request_of};
+use serving::{CheckedWriter, serve};
 use std::alloc::Global;
 use std::process::Abort;
+use std::str::from_utf8;
 use std::test::Fail;
 use store::Store;
-use watershed::Run;
+use test_tiles::{expand, lines_of, split_payload};
 
-/// A command. Corners are written as latitude and longitude, points as y and x.
-#[derive(Clone, Copy)]
-pub(crate) enum Asked<'a> {
-    Import(i16, i16, &'a [u8]),
-    Remove(i16, i16),
-    Patch((i32, i32), (i32, i32), i32),
-    Burn(i32, &'a [(i32, i32)]),
-    Wall(i32, &'a [(i32, i32)]),
-    Sink(i32, i32),
-    Unsink(i32, i32),
+/// A text and its answer.
+pub(crate) type Said<'a> = (&'a str, &'a str);
+
+/// What a session of tiles of side 3 shows, how many there is room for, and its texts with their answers.
+pub(crate) struct Session<'a> {
+    pub(crate) shows: &'a str,
+    pub(crate) capacity: u32,
+    pub(crate) said: &'a [Said<'a>],
 }
 
-/// A command or a question, and how it is answered.
-#[derive(Clone, Copy)]
-pub(crate) enum Step<'a> {
-    Done(Asked<'a>, u64),
-    Refused(Asked<'a>, Refusal),
-    Elevation(i32, i32, Height),
-    Filled(i32, i32, Result<i16, Refusal>),
-    Drains(i32, i32, Result<u8, Refusal>),
-    /// The runs of a watershed: y, the first x and the last.
-    Shed(i32, i32, &'a [(i32, i32, i32)]),
-    Exports(i16, i16, &'a [u8]),
-    Seams(u64),
-    Count(u64),
-    Commits(u64),
-    /// The tile whose planes a step keeps, if there is one.
-    Stepped(Option<(i16, i16)>),
-    /// All tiles that are stale.
-    Stale(&'a [(i16, i16)]),
-}
-
-/// Follows the script on a new store of either version, of so many tiles at most.
-pub(crate) fn follow(
+/// Has a new store of either version answer each session, and compares.
+pub(crate) fn check_sessions(
     rt: &impl Abort,
     alloc: Global,
-    capacity: u32,
-    script: &[Step],
+    sessions: &[Session],
 ) -> Result<(), Fail> {
-    follow_by(rt, alloc, 1, capacity, script)?;
-    follow_by(rt, alloc, 2, capacity, script)
-}
-
-fn follow_by(
-    rt: &impl Abort,
-    alloc: Global,
-    version: u32,
-    capacity: u32,
-    script: &[Step],
-) -> Result<(), Fail> {
-    let which = if version == 1 {
-        "a step by the first version"
-    } else {
-        "a step by the second"
-    };
-    let mut store = empty_store(alloc, version, capacity)?;
-    follow_on(rt, alloc, &mut store, script, which)
-}
-
-fn follow_on(
-    rt: &impl Abort,
-    alloc: Global,
-    store: &mut Store<MemDisk>,
-    script: &[Step],
-    which: &str,
-) -> Result<(), Fail> {
-    for (step, number) in script.iter().zip(1..) {
-        assert_row(rt, is_answered(alloc, store, *step)?, which, number);
+    for session in sessions {
+        check_session(rt, alloc, 1, session)?;
+        check_session(rt, alloc, 2, session)?;
     }
     Ok(())
 }
 
-/// Whether the store answers so.
-pub(crate) fn is_answered<D: Disk>(
+fn check_session(
+    rt: &impl Abort,
     alloc: Global,
-    store: &mut Store<D>,
-    step: Step,
-) -> Result<bool, Fail> {
-    match step {
-        Step::Done(asked, count) => does(alloc, store, asked, Ok(count)),
-        Step::Refused(asked, refusal) => does(alloc, store, asked, Err(refusal)),
-        Step::Elevation(y, x, height) => Ok(store.elevation(at(y, x)) == Ok(height)),
-        Step::Filled(y, x, level) => Ok(store.fill(at(y, x)) == level),
-        Step::Drains(y, x, code) => Ok(store.direction(at(y, x)) == code),
-        Step::Shed(y, x, runs) => Ok(are_runs(&store.watershed(at(y, x))?, runs)),
-        Step::Exports(lat, lon, bytes) => exports(store, corner(lat, lon)?, bytes),
-        Step::Seams(count) => Ok(store.seams() == Ok(count)),
-        Step::Count(count) => Ok(store.count() == count),
-        Step::Commits(commits) => Ok(store.commits() == commits),
-        Step::Stepped(tile) => Ok(store.step()? == named(tile)?),
-        Step::Stale(corners) => Ok(are_corners(&stale_tiles(alloc, store)?, corners)),
+    version: u32,
+    session: &Session,
+) -> Result<(), Fail> {
+    let shows = session.shows;
+    let mut store = empty_store(alloc, version, session.capacity)?;
+    for (text, wanted) in session.said {
+        let answer = answer(alloc, &mut store, text)?;
+        let is_right = answer == lines_of(alloc, &[*wanted])?;
+        let found = from_utf8(&answer).unwrap_or("bytes that are no text");
+        assert!(rt;
+            is_right,
+            "{shows}, version {version}: {text}: found {found}"
+        );
     }
+    Ok(())
 }
 
-/// Whether the store answers each of them so, one after another.
+/// Whether the store answers each text so, one after another.
 pub(crate) fn are_answered<D: Disk>(
     alloc: Global,
     store: &mut Store<D>,
-    steps: &[Step],
+    said: &[Said],
 ) -> Result<bool, Fail> {
-    for step in steps {
-        if !is_answered(alloc, store, *step)? {
+    for (text, wanted) in said {
+        if answer(alloc, store, text)? != lines_of(alloc, &[*wanted])? {
             return Ok(false);
         }
     }
     Ok(true)
 }
 
-fn does<D: Disk>(
-    alloc: Global,
-    store: &mut Store<D>,
-    asked: Asked,
-    answer: Result<u64, Refusal>,
-) -> Result<bool, Fail> {
-    let command = command(alloc, asked)?;
-    Ok(store.apply(&command) == answer)
+// What the store answers, as replies are written.
+fn answer<D: Disk>(alloc: Global, store: &mut Store<D>, text: &str) -> Result<Vec<u8>, Fail> {
+    let reply = match text.as_bytes() {
+        b"seams" => Reply::Count(store.seams()?),
+        b"commits" => Reply::Count(store.commits()),
+        b"stale" => Reply::Tiles(stale_tiles(alloc, store)?),
+        _ => return served(alloc, store, text),
+    };
+    let mut output = Vec::new(alloc);
+    format_reply(alloc, reply)
+        .write(&mut output)
+        .map_err(|_| "no memory")?;
+    Ok(output)
+}
+
+fn served<D: Disk>(alloc: Global, store: &mut Store<D>, line: &str) -> Result<Vec<u8>, Fail> {
+    let input = lines_of(alloc, &[line])?;
+    let mut reader = input.as_slice();
+    let mut output = CheckedWriter::new(Vec::new(alloc));
+    serve(alloc, &mut reader, &mut output, store)?;
+    Ok(output.into_inner())
 }
 
 fn stale_tiles<D: Disk>(alloc: Global, store: &mut Store<D>) -> Result<Vec<Corner>, Fail> {
@@ -138,50 +106,20 @@ fn stale_tiles<D: Disk>(alloc: Global, store: &mut Store<D>) -> Result<Vec<Corne
     Ok(stale)
 }
 
-pub(crate) fn command(alloc: Global, asked: Asked) -> Result<Command, Fail> {
-    match asked {
-        Asked::Import(lat, lon, bytes) => import(alloc, corner(lat, lon)?, bytes),
-        Asked::Remove(lat, lon) => Ok(Command::Remove {
-            corner: corner(lat, lon)?,
-        }),
-        Asked::Patch((south, west), (north, east), height) => {
-            Ok(patch(at(south, west), at(north, east), height))
+/// The command that a line asks for.
+pub(crate) fn command(alloc: Global, line: &str) -> Result<Command, Fail> {
+    let item = expand(alloc, line)?;
+    let (line, payload) = split_payload(&item);
+    if line.len() > 2048 {
+        return Err("no command".into());
+    }
+    match request_of(line) {
+        Some(Request::Ask(Event::Do(command))) => Ok(command),
+        Some(Request::Import { name, .. }) => {
+            let corner = name_of(name)?;
+            let bytes = Bytes::new(Vec::from_slice(alloc, payload)?);
+            Ok(Command::Import { corner, bytes })
         }
-        Asked::Burn(depth, points) => Ok(burn(depth, &listed(alloc, points)?)),
-        Asked::Wall(height, points) => Ok(wall(height, &listed(alloc, points)?)),
-        Asked::Sink(y, x) => Ok(sink(at(y, x))),
-        Asked::Unsink(y, x) => Ok(unsink(at(y, x))),
+        _ => Err("no command".into()),
     }
-}
-
-fn corner(lat: i16, lon: i16) -> Result<Corner, Fail> {
-    Ok(Corner::new(lat, lon).ok_or("no corner")?)
-}
-
-fn named(tile: Option<(i16, i16)>) -> Result<Option<Corner>, Fail> {
-    match tile {
-        Some((lat, lon)) => Ok(Some(corner(lat, lon)?)),
-        None => Ok(None),
-    }
-}
-
-fn listed(alloc: Global, points: &[(i32, i32)]) -> Result<Vec<Point>, Fail> {
-    let mut list = Vec::new(alloc);
-    for (y, x) in points {
-        list.push(at(*y, *x))?;
-    }
-    Ok(list)
-}
-
-fn are_corners(found: &[Corner], wanted: &[(i16, i16)]) -> bool {
-    found.len() == wanted.len()
-        && found.iter().zip(wanted).all(|(corner, (lat, lon))| corner.lat == *lat
-            && corner.lon == *lon)
-}
-
-fn are_runs(found: &[Run], wanted: &[(i32, i32, i32)]) -> bool {
-    found.len() == wanted.len()
-        && found.iter().zip(wanted).all(|(run, (y, first, last))| run.y == *y
-            && run.first == *first
-            && run.last == *last)
 }

@@ -3,7 +3,6 @@ ghost use Rattle.lattice.specs.Ground.{terrain};
 ghost use Rattle.flow_d8.specs.Drainage.{AreFilledLevels};
 ghost use Rattle.reference.specs.Levels.{level_of};
 
-use super::change::Change;
 use super::fixtures::at;
 use super::script::command;
 use disk::Disk;
@@ -50,17 +49,17 @@ impl Model {
     }
 
     /// Makes the change. All tiles are neighbours of each other, so that each command leaves all of them stale.
-    pub(crate) fn make(&mut self, change: Change) -> Result<(), Fail> {
+    pub(crate) fn make(&mut self, change: &str) -> Result<(), Fail> {
         self.commits = self.commits.saturating_add(1);
-        match change {
-            Change::Do(asked) => {
-                let command = command(self.alloc, asked)?;
+        match change.as_bytes() {
+            b"step" => self.fresh = self.fresh.saturating_add(1),
+            b"upgrade" => self.version = 2,
+            _ => {
+                let command = command(self.alloc, change)?;
                 self.mosaic = reference::effect(self.alloc, self.capacity, &self.mosaic, &command)?;
                 self.count = self.count.saturating_add(1);
                 self.fresh = 0;
             }
-            Change::Step => self.fresh = self.fresh.saturating_add(1),
-            Change::Upgrade => self.version = 2,
         }
         Ok(())
     }

@@ -1,88 +1,115 @@
 //! Steps, and which tiles commands leave stale.
-use super::change::Change::{Do, Step};
 use super::change::{Row, prepared_disk};
-use super::fixtures::{B, C, D, G, H, opened};
-use super::script::Asked::{Import, Wall};
-use super::script::Step::{Commits, Count, Done, Elevation, Filled, Stale, Stepped};
-use super::script::{are_answered, follow};
+use super::fixtures::opened;
+use super::script::{Said, Session, are_answered, check_sessions};
 use super::stops::{MANY_CALLS, STOPS, make_with, stopped};
 use disk::MemDisk;
-use lattice::{Height, Refusal};
+use lattice::Refusal;
 use std::alloc::Global;
 use std::test::Fail;
 
-#[test]
-fn each_tile_is_named_once(rt: HostRuntime) -> Result<(), Fail> {
-    let script = [
-        Done(Import(0, 0, &G), 1),
-        Stepped(Some((0, 0))),
-        Stepped(None),
-        Done(Import(0, 1, &H), 2),
-        Stale(&[(0, 0), (0, 1)]),
-        Stepped(Some((0, 0))),
-        Stepped(Some((0, 1))),
-        Stepped(None),
-        Stale(&[]),
-        Count(2),
-        Commits(6),
-    ];
-    follow(&rt, rt.alloc(), 4, &script)
-}
+const STEPS: [Session; 3] = [
+    Session {
+        shows: "each stale tile is named once",
+        capacity: 4,
+        said: &[
+            ("import N00E000 $G", "OK 1"),
+            ("step", "OK N00E000"),
+            ("step", "OK none"),
+            ("import N00E001 $H", "OK 2"),
+            ("stale", "OK 2 N00E000 N00E001"),
+            ("step", "OK N00E000"),
+            ("step", "OK N00E001"),
+            ("step", "OK none"),
+            ("stale", "OK 0"),
+            ("count", "OK 2"),
+            ("commits", "OK 6"),
+        ],
+    },
+    Session {
+        shows: "a wall leaves far tiles fresh",
+        capacity: 4,
+        said: &[
+            ("import N00E000 $B", "OK 1"),
+            ("import N00E001 $D", "OK 2"),
+            ("import N00E002 $D", "OK 3"),
+            ("import N00E003 $C", "OK 4"),
+            ("step", "OK N00E000"),
+            ("step", "OK N00E001"),
+            ("step", "OK N00E002"),
+            ("step", "OK N00E003"),
+            ("step", "OK none"),
+            ("fill 1 1", "OK 3"),
+            ("wall 5 1 8", "OK 5"),
+            ("stale", "OK 2 N00E002 N00E003"),
+            ("elev 1 8", "OK 5"),
+            ("fill 1 1", "OK 5"),
+        ],
+    },
+    Session {
+        shows: "a wall that raises nothing leaves the same tiles stale",
+        capacity: 4,
+        said: &[
+            ("import N00E000 $B", "OK 1"),
+            ("import N00E001 $D", "OK 2"),
+            ("import N00E002 $D", "OK 3"),
+            ("import N00E003 $C", "OK 4"),
+            ("step", "OK N00E000"),
+            ("step", "OK N00E001"),
+            ("step", "OK N00E002"),
+            ("step", "OK N00E003"),
+            ("wall 1 1 8", "OK 5"),
+            ("stale", "OK 2 N00E002 N00E003"),
+            ("elev 1 8", "OK 3"),
+            ("fill 1 1", "OK 3"),
+        ],
+    },
+];
 
-// The second wall raises nothing.
 #[test]
-fn a_wall_leaves_far_tiles_fresh(rt: HostRuntime) -> Result<(), Fail> {
-    for (height, raised) in [(5, 5), (1, 3)] {
-        let script = [
-            Done(Import(0, 0, &B), 1),
-            Done(Import(0, 1, &D), 2),
-            Done(Import(0, 2, &D), 3),
-            Done(Import(0, 3, &C), 4),
-            Stepped(Some((0, 0))),
-            Stepped(Some((0, 1))),
-            Stepped(Some((0, 2))),
-            Stepped(Some((0, 3))),
-            Stepped(None),
-            Filled(1, 1, Ok(3)),
-            Done(Wall(height, &[(1, 8)]), 5),
-            Stale(&[(0, 2), (0, 3)]),
-            Elevation(1, 8, Height::At(raised)),
-            Filled(1, 1, Ok(raised)),
-        ];
-        follow(&rt, rt.alloc(), 4, &script)?;
-    }
-    Ok(())
+fn which_tiles_are_stale(rt: HostRuntime) -> Result<(), Fail> {
+    check_sessions(&rt, rt.alloc(), &STEPS)
 }
 
 // A valley through four tiles with a wall across it far in the east, and the wall raised.
 const RAISED: Row = (
     4,
     &[
-        Do(Import(0, 0, &B)),
-        Do(Import(0, 1, &D)),
-        Do(Import(0, 2, &D)),
-        Do(Import(0, 3, &C)),
-        Step,
-        Step,
-        Step,
-        Step,
-        Do(Wall(5, &[(1, 8)])),
+        "import N00E000 $B",
+        "import N00E001 $D",
+        "import N00E002 $D",
+        "import N00E003 $C",
+        "step",
+        "step",
+        "step",
+        "step",
+        "wall 5 1 8",
     ],
-    Do(Wall(9, &[(1, 8)])),
+    "wall 9 1 8",
 );
 
-// Whether the wall is raised, as it has to be where the change was through, or as it was, and only the tiles near to it are
-// stale.
+// What is answered of the wall as it was, and raised. Only the tiles near to it are stale.
+const AS_IT_WAS: [Said; 3] = [
+    ("count", "OK 5"),
+    ("stale", "OK 2 N00E002 N00E003"),
+    ("fill 1 1", "OK 5"),
+];
+
+const ONCE_RAISED: [Said; 3] = [
+    ("count", "OK 6"),
+    ("stale", "OK 2 N00E002 N00E003"),
+    ("fill 1 1", "OK 9"),
+];
+
+// Whether the wall is raised, as it has to be where the change was through, or as it was.
 fn is_left(alloc: Global, disk: MemDisk, through: bool) -> Result<bool, Fail> {
     let mut store = opened(alloc, disk)?;
-    let raised = through || store.count() == 6;
-    let (count, level) = if raised { (6, 9) } else { (5, 5) };
-    let steps = [
-        Count(count),
-        Stale(&[(0, 2), (0, 3)]),
-        Filled(1, 1, Ok(level)),
-    ];
-    are_answered(alloc, &mut store, &steps)
+    let said = if through || store.count() == 6 {
+        &ONCE_RAISED
+    } else {
+        &AS_IT_WAS
+    };
+    are_answered(alloc, &mut store, said)
 }
 
 // Stops the change after so many calls, in each way. Answers whether it was through by then.
@@ -95,7 +122,7 @@ fn stop_after(alloc: Global, version: u32, calls: u64) -> Result<bool, Fail> {
         through = refused.is_none();
         let is_right = through || refused == Some(Refusal::Device);
         if !is_right || !is_left(alloc, stopped(disk, stop)?, through)? {
-            return Err("another store".into());
+            return Err(("another store", refused, version, calls, stop).into());
         }
     }
     Ok(through)

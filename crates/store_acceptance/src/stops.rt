@@ -1,16 +1,18 @@
 //! Stops and faults at each call of each change and of an opening, on stores of tiles of side 3.
 use super::asserting::assert_row;
-use super::change::{CHANGES, Change, Row, UPGRADES, make, prepared_disk};
-use super::fixtures::{A, HERE, at, opened, store_of};
+use super::change::{CHANGES, Row, UPGRADES, make, prepared_disk};
+use super::fixtures::{HERE, at, opened, store_of};
 use super::standing::{Model, Standing};
 use cow_tree::NotOpened;
 use disk::{Disk, FaultOnceDisk, FuseDisk, MemDisk, Torn};
 use edits::Command;
 use lattice::{Height, Refusal};
 use std::alloc::Global;
+use std::fmt::Debug;
 use std::process::Abort;
 use std::test::Fail;
 use store::Store;
+use test_tiles::A;
 
 // How many calls opening a store of the first version with one tile makes: a sync, both gates, both roots and a record.
 const CALLS_TO_OPEN: u64 = 6;
@@ -28,6 +30,9 @@ pub(crate) const STOPS: [(Torn, Torn); 6] = [
     (Torn::Fill(0xa7), Torn::Old),
 ];
 
+// Where a change is stopped, or meets a fault: after so many calls of the disk, and what a stop leaves.
+type Place = (u64, Option<(Torn, Torn)>);
+
 // A store of a version before a change, and how it stands then and after it.
 #[derive(Drop)]
 struct Case {
@@ -42,7 +47,7 @@ impl Case {
         let (capacity, prepared, change) = row;
         let mut model = Model::new(alloc, version, capacity)?;
         for change in prepared {
-            model.make(*change)?;
+            model.make(change)?;
         }
         let before = model.standing()?;
         model.make(change)?;
@@ -58,15 +63,25 @@ impl Case {
     fn disk(&self, alloc: Global) -> Result<MemDisk, Fail> {
         prepared_disk(alloc, self.version, self.row)
     }
+
+    // For messages: what was found there.
+    fn fails<F: Debug + Drop>(&self, place: Place, found: F) -> Fail {
+        (found, self.version, place, self.row).into()
+    }
 }
 
 // Whether an opening finds the change made, where all that the store tells and answers goes with that.
-fn finds_made(alloc: Global, disk: MemDisk, case: &Case) -> Result<(MemDisk, bool), Fail> {
+fn finds_made(
+    alloc: Global,
+    disk: MemDisk,
+    case: &Case,
+    place: Place,
+) -> Result<(MemDisk, bool), Fail> {
     let mut store = opened(alloc, disk)?;
     let made = store.commits() != case.before.commits;
     let standing = if made { &case.after } else { &case.before };
     if !standing.is_of(alloc, &mut store)? {
-        return Err("neither of the two stores".into());
+        return Err(case.fails(place, "neither of the two stores"));
     }
     Ok((store.into_disk(), made))
 }
@@ -76,7 +91,7 @@ pub(crate) fn make_with(
     alloc: Global,
     disk: MemDisk,
     calls: u64,
-    change: Change,
+    change: &str,
 ) -> Result<(MemDisk, Option<Refusal>), Fail> {
     match Store::open(alloc, FuseDisk::new(disk, calls)) {
         Ok(mut store) => {
@@ -114,18 +129,20 @@ fn stopped_in_openings(alloc: Global, disk: MemDisk, stop: (Torn, Torn)) -> Resu
 // Stops the change after so many calls, in this way. Answers whether it was through by then.
 fn stop_so(alloc: Global, calls: u64, stop: (Torn, Torn), case: &Case) -> Result<bool, Fail> {
     let (_, _, change) = case.row;
+    let place = (calls, Some(stop));
     let (disk, refused) = make_with(alloc, case.disk(alloc)?, calls, change)?;
     let through = refused.is_none();
     if !through && refused != Some(Refusal::Device) {
-        return Err("refused otherwise".into());
+        return Err(case.fails(place, refused));
     }
-    let (disk, made) = finds_made(alloc, stopped(disk, stop)?, case)?;
+    let (disk, made) = finds_made(alloc, stopped(disk, stop)?, case, place)?;
     if through && !made {
-        return Err("an acknowledged change is gone".into());
+        return Err(case.fails(place, "an acknowledged change is gone"));
     }
-    let (_, again) = finds_made(alloc, stopped_in_openings(alloc, disk, stop)?, case)?;
+    let disk = stopped_in_openings(alloc, disk, stop)?;
+    let (_, again) = finds_made(alloc, disk, case, place)?;
     if again != made {
-        return Err("an opening changed the store".into());
+        return Err(case.fails(place, "an opening changed the store"));
     }
     Ok(through)
 }
@@ -155,10 +172,10 @@ fn stop_each_change(
     version: u32,
     rows: &[Row],
 ) -> Result<(), Fail> {
-    for (row, number) in rows.iter().zip(1..u64::MAX) {
+    for row in rows {
         let case = Case::new(alloc, version, *row)?;
         let through = stop_after_each(alloc, &case)?;
-        assert_row(rt, through, "a change that isn't through", number);
+        assert_row(rt, &("a change that isn't through", version, *row), through);
     }
     Ok(())
 }
@@ -200,9 +217,9 @@ fn refuses_all<D: Disk>(store: &mut Store<D>) -> bool {
 // is made.
 fn fault_at(alloc: Global, call: u64, case: &Case) -> Result<Option<bool>, Fail> {
     match Store::open(alloc, FaultOnceDisk::new(case.disk(alloc)?, call)) {
-        Ok(store) => fault_in_change(alloc, store, case),
+        Ok(store) => fault_in_change(alloc, store, case, call),
         Err(NotOpened { disk, refusal }) => {
-            let (_, made) = finds_made(alloc, disk.into_inner(), case)?;
+            let (_, made) = finds_made(alloc, disk.into_inner(), case, (call, None))?;
             Ok((refusal == Refusal::Device).then_some(made))
         }
     }
@@ -213,16 +230,18 @@ fn fault_in_change(
     alloc: Global,
     store: Store<FaultOnceDisk<MemDisk>>,
     case: &Case,
+    call: u64,
 ) -> Result<Option<bool>, Fail> {
     let (_, _, change) = case.row;
+    let place = (call, None);
     let mut store = store;
     let Some(refusal) = make(alloc, &mut store, change)? else {
         return Ok(None);
     };
-    let made = is_made_after(&mut store, refusal, case)?;
-    let (_, again) = finds_made(alloc, store.into_disk().into_inner(), case)?;
+    let made = is_made_after(&mut store, refusal, case, place)?;
+    let (_, again) = finds_made(alloc, store.into_disk().into_inner(), case, place)?;
     if again != made {
-        return Err("reopened elsewhere".into());
+        return Err(case.fails(place, "reopened elsewhere"));
     }
     Ok(Some(made))
 }
@@ -232,12 +251,13 @@ fn is_made_after<D: Disk>(
     store: &mut Store<D>,
     refusal: Refusal,
     case: &Case,
+    place: Place,
 ) -> Result<bool, Fail> {
     if refusal != Refusal::Device || !refuses_all(store) {
-        return Err("not failed".into());
+        return Err(case.fails(place, (refusal, "not failed")));
     }
     if store.commits() != case.before.commits || store.reopen().is_err() {
-        return Err("not reopened".into());
+        return Err(case.fails(place, "not reopened"));
     }
     Ok(store.commits() != case.before.commits)
 }
@@ -250,7 +270,7 @@ fn fault_at_each(alloc: Global, case: &Case) -> Result<bool, Fail> {
             break;
         };
         if made {
-            return Err("made by a fault before the last sync".into());
+            return Err(case.fails((call, None), "made by a fault before the last sync"));
         }
         made = found;
     }
@@ -263,10 +283,11 @@ fn fault_in_each_change(
     version: u32,
     rows: &[Row],
 ) -> Result<(), Fail> {
-    for (row, number) in rows.iter().zip(1..u64::MAX) {
+    for row in rows {
         let case = Case::new(alloc, version, *row)?;
         let made = fault_at_each(alloc, &case)?;
-        assert_row(rt, made, "not made by a fault in the last sync", number);
+        let what = "not made by a fault in the last sync";
+        assert_row(rt, &(what, version, *row), made);
     }
     Ok(())
 }

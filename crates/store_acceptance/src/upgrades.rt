@@ -1,10 +1,12 @@
 //! The upgrade of a store of side 3 to the second version.
-use super::fixtures::{A, HERE, at, exports, import, opened, sink, store_of_version_1};
+use super::asserting::assert_found;
+use super::fixtures::{HERE, at, exports, import, opened, sink, store_of_version_1};
 use disk::MemDisk;
 use lattice::Refusal;
 use std::alloc::Global;
 use std::test::Fail;
 use store::Store;
+use test_tiles::A;
 
 // Version, commands and commits: an import, a sink and a step were made, and then the upgrade.
 const BEFORE: (u32, u64, u64) = (1, 2, 4);
@@ -42,16 +44,29 @@ fn numbers(store: &Store<MemDisk>) -> (u32, u64, u64) {
 #[test]
 fn an_upgrade_needs_room(rt: HostRuntime) -> Result<(), Fail> {
     let mut store = one_tile(rt.alloc(), 16)?;
-    assert!(rt; store.upgrade() == Err(Refusal::TooSmall) && numbers(&store) == BEFORE);
+    assert_found(
+        &rt,
+        &"an upgrade",
+        &store.upgrade(),
+        &Err(Refusal::TooSmall),
+    );
+    assert_found(&rt, &"numbers", &numbers(&store), &BEFORE);
     Ok(())
 }
 
 #[test]
 fn an_upgrade_is_made_once(rt: HostRuntime) -> Result<(), Fail> {
     let mut store = one_tile(rt.alloc(), 22)?;
-    assert!(rt; store.upgrade() == Ok(()) && numbers(&store) == AFTER);
-    assert!(rt; store.upgrade() == Err(Refusal::NotOld));
+    assert_found(&rt, &"an upgrade", &store.upgrade(), &Ok(()));
+    assert_found(&rt, &"numbers", &numbers(&store), &AFTER);
+    assert_found(
+        &rt,
+        &"a second one",
+        &store.upgrade(),
+        &Err(Refusal::NotOld),
+    );
     let mut again = opened(rt.alloc(), store.into_disk())?;
-    assert!(rt; numbers(&again) == AFTER && has_all(&mut again)?);
+    assert_found(&rt, &"numbers once opened again", &numbers(&again), &AFTER);
+    assert!(rt; has_all(&mut again)?);
     Ok(())
 }

@@ -1,45 +1,76 @@
 //! How many writes changes of a store make, by either version.
-use super::asserting::assert_row;
-use super::change::Change::{self, Do, Step};
+use super::asserting::assert_found;
 use super::change::{ONE_SINK, ONE_TILE, make, prepared_disk};
 use super::fixtures::opened;
-use super::script::Asked::{Burn, Import, Sink, Unsink};
 use disk::MemDisk;
 use lattice::Refusal;
 use std::alloc::Global;
 use std::process::Abort;
 use std::test::Fail;
 
-// All 9.
-const FLAT: [u8; 18] = [0, 9, 0, 9, 0, 9, 0, 9, 0, 9, 0, 9, 0, 9, 0, 9, 0, 9];
-
 // Four tiles around a point.
-const AROUND: [Change<'static>; 4] = [
-    Do(Import(0, 0, &FLAT)),
-    Do(Import(0, 1, &FLAT)),
-    Do(Import(1, 0, &FLAT)),
-    Do(Import(1, 1, &FLAT)),
+const AROUND: [&str; 4] = [
+    "import N00E000 $E",
+    "import N00E001 $E",
+    "import N01E000 $E",
+    "import N01E001 $E",
 ];
 
-// What was done before, a change, how it is refused, if it is, and how many writes it makes by the first version and by the
-// second.
-type Row = (
-    &'static [Change<'static>],
-    Change<'static>,
-    Option<Refusal>,
-    (u64, u64),
-);
+/// What was done before, a change, how it is refused, if it is, and how many writes it makes by the first version and by the
+/// second.
+struct Row {
+    before: &'static [&'static str],
+    change: &'static str,
+    refusal: Option<Refusal>,
+    writes: [u64; 2],
+}
 
 const ROWS: [Row; 7] = [
-    // Each tile holds the point. A second one of the first tile lies in a page that is written anyway.
-    (&AROUND, Do(Burn(1, &[(2, 2)])), None, (11, 15)),
-    (&AROUND, Do(Burn(1, &[(1, 1), (2, 2)])), None, (11, 15)),
-    (&ONE_TILE, Do(Sink(1, 1)), None, (3, 3)),
-    (&ONE_SINK, Do(Sink(1, 1)), Some(Refusal::SinkThere), (0, 0)),
-    (&ONE_SINK, Do(Unsink(1, 1)), None, (3, 3)),
-    (&ONE_TILE, Do(Unsink(1, 1)), Some(Refusal::NoSink), (0, 0)),
+    // Each tile holds the point.
+    Row {
+        before: &AROUND,
+        change: "burn 1 2 2",
+        refusal: None,
+        writes: [11, 15],
+    },
+    // A second point of the first tile lies in a page that is written anyway.
+    Row {
+        before: &AROUND,
+        change: "burn 1 1 1 2 2",
+        refusal: None,
+        writes: [11, 15],
+    },
+    Row {
+        before: &ONE_TILE,
+        change: "sink 1 1",
+        refusal: None,
+        writes: [3, 3],
+    },
+    Row {
+        before: &ONE_SINK,
+        change: "sink 1 1",
+        refusal: Some(Refusal::SinkThere),
+        writes: [0, 0],
+    },
+    Row {
+        before: &ONE_SINK,
+        change: "unsink 1 1",
+        refusal: None,
+        writes: [3, 3],
+    },
+    Row {
+        before: &ONE_TILE,
+        change: "unsink 1 1",
+        refusal: Some(Refusal::NoSink),
+        writes: [0, 0],
+    },
     // Two planes with what lists their pages, a root and two gates.
-    (&ONE_TILE, Step, None, (7, 9)),
+    Row {
+        before: &ONE_TILE,
+        change: "step",
+        refusal: None,
+        writes: [7, 9],
+    },
 ];
 
 // Makes the change on the store of this disk, opened anew. Answers the disk, how the change is refused, if it is, and how
@@ -47,7 +78,7 @@ const ROWS: [Row; 7] = [
 fn counted(
     alloc: Global,
     disk: MemDisk,
-    change: Change,
+    change: &str,
 ) -> Result<(MemDisk, Option<Refusal>, u64), Fail> {
     let before = disk.writes();
     let mut store = opened(alloc, disk)?;
@@ -58,12 +89,14 @@ fn counted(
 }
 
 fn check_rows(rt: &impl Abort, alloc: Global, version: u32) -> Result<(), Fail> {
-    for ((prepared, change, refusal, (first, second)), number) in ROWS.iter().zip(1..u64::MAX) {
-        let wanted = if version == 1 { *first } else { *second };
-        let disk = prepared_disk(alloc, version, (4, *prepared, *change))?;
-        let (_, refused, writes) = counted(alloc, disk, *change)?;
-        let is_right = refused == *refusal && writes == wanted;
-        assert_row(rt, is_right, "writes of row", number);
+    for row in ROWS.iter() {
+        let [first, second] = row.writes;
+        let wanted = if version == 1 { first } else { second };
+        let disk = prepared_disk(alloc, version, (4, row.before, row.change))?;
+        let (_, refusal, writes) = counted(alloc, disk, row.change)?;
+        let asked = (version, row.before, row.change);
+        assert_found(rt, &asked, &refusal, &row.refusal);
+        assert_found(rt, &asked, &writes, &wanted);
     }
     Ok(())
 }
@@ -79,13 +112,13 @@ pub(crate) fn make_counted(
     rt: &impl Abort,
     alloc: Global,
     disk: MemDisk,
-    rows: &[(Change, u64)],
+    rows: &[(&str, u64)],
 ) -> Result<MemDisk, Fail> {
     let mut disk = disk;
     for (change, wanted) in rows {
-        let (left, refused, writes) = counted(alloc, disk, *change)?;
-        let is_right = refused.is_none() && writes == *wanted;
-        assert_row(rt, is_right, "not so many writes", *wanted);
+        let (left, refusal, writes) = counted(alloc, disk, change)?;
+        assert_found(rt, change, &refusal, &None);
+        assert_found(rt, change, &writes, wanted);
         disk = left;
     }
     Ok(disk)

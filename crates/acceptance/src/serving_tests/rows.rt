@@ -1,110 +1,230 @@
-//! Sessions over tiles of side 3, byte for byte.
-use super::script::{Row, check_rows};
+//! Tiles, heights and commands, by rows worked by hand.
+use super::script::{Row, SUBJECTS, check_rows};
 use std::test::Fail;
 
-const TILES_AND_EDITS: [Row; 14] = [
-    // An empty mosaic answers.
-    (
-        3,
-        4,
-        b"count\ntiles\nelev 0 0\nexport N00E000\n",
-        b"OK 0\nOK 0\nERR 7 Outside\nERR 5 NoTile\n",
-    ),
-    // Seams after a removal.
-    (
-        3,
-        4,
-        b"import N00E000 18\n$Gimport N00E001 18\n$Helev 1 2\nexport N00E000\nexport N00E001\nremove N00E000\nelev 1 2\nremove N00E000\n",
-        b"OK 1\nOK 2\nOK 7\nOK 18\n$GOK 18\n$HOK 3\nOK 8\nERR 5 NoTile\n",
-    ),
-    // Edits reach each tile at a seam.
-    (
-        3,
-        4,
-        b"import N00E000 18\n$Gimport N00E001 18\n$Hburn 1 1 2\nelev 1 2\nremove N00E000\nelev 1 2\n",
-        b"OK 1\nOK 2\nOK 3\nOK 6\nOK 4\nOK 6\n",
-    ),
-    (
-        3,
-        4,
-        b"import N00E000 18\n$Gimport N00E001 18\n$Hwall 3 1 2\nelev 1 2\nremove N00E000\nelev 1 2\n",
-        b"OK 1\nOK 2\nOK 3\nOK 7\nOK 4\nOK 7\n",
-    ),
-    // Patches.
-    (
-        3,
-        4,
-        b"import N00E000 18\n$Kimport N00E001 18\n$Helev 1 2\npatch 1 2 1 2 4\n",
-        b"OK 1\nOK 2\nOK 8\nERR 9 NothingVoid\n",
-    ),
-    (
-        3,
-        4,
-        b"import N00E000 18\n$Velev 1 1\npatch 1 1 1 1 4\npatch 1 1 1 1 4\nelev 1 1\n",
-        b"OK 1\nOK void\nOK 2\nERR 9 NothingVoid\nOK 4\n",
-    ),
-    (
-        3,
-        4,
-        b"import N00E000 18\n$Vpatch 1 1 3 3 4\nexport N00E000\n",
-        b"OK 1\nOK 2\nOK 18\n$P",
-    ),
-    (
-        3,
-        4,
-        b"patch 0 0 0 3 4\npatch 1 1 0 1 4\npatch 0 0 2 2 40000\npatch 0 0 2 2 4\n",
-        b"ERR 12 BadBox\nERR 12 BadBox\nERR 10 BadHeight\nERR 9 NothingVoid\n",
-    ),
-    // Burns and walls.
-    (
-        3,
-        4,
-        b"import N00E000 18\n$Mburn 32767 1 1\n",
-        b"OK 1\nERR 14 TooDeep\n",
-    ),
-    (
-        3,
-        4,
-        b"import N00E000 18\n$Zburn 32767 1 1\nelev 1 1\n",
-        b"OK 1\nOK 2\nOK -32767\n",
-    ),
-    (
-        3,
-        4,
-        b"import N00E000 18\n$Aburn 1 1 1 1 1\nburn 0 1 1\n",
-        b"OK 1\nERR 13 Repeated\nERR 11 BadDepth\n",
-    ),
-    (
-        3,
-        4,
-        b"import N00E000 18\n$Vburn 0 1 1 1 1\nburn 5 9 9 1 1\nburn 5 1 1 9 9\nwall 32768 1 1 1 1\n",
-        b"OK 1\nERR 11 BadDepth\nERR 7 Outside\nERR 8 Void\nERR 10 BadHeight\n",
-    ),
-    // Tiles by their names.
-    (
-        3,
-        4,
-        b"import s00w000 18\n$Atiles\nimport S91E000 18\n$Aimport S01W001 18\n$Atiles\nsinks\nelev 0 0\n",
-        b"OK 1\nOK 1 N00E000\nERR 2 BadName\nOK 2\nOK 2 S01W001 N00E000\nOK 0\nOK 9\n",
-    ),
-    (
-        3,
-        2,
-        b"import N00E000 18\n$Aimport N00E001 18\n$Bimport N00E002 18\n$Aremove N00E000\nimport N05E005 18\n$Aremove S91E000\n",
-        b"OK 1\nOK 2\nERR 6 Full\nOK 3\nOK 4\nERR 2 BadName\n",
-    ),
+const TILES: [Row; 8] = [
+    Row {
+        shows: "an empty mosaic answers",
+        side: 3,
+        capacity: 4,
+        said: &[
+            ("count", "OK 0"),
+            ("tiles", "OK 0"),
+            ("elev 0 0", "ERR 7 Outside"),
+            ("export N00E000", "ERR 5 NoTile"),
+            ("remove N00E000", "ERR 5 NoTile"),
+        ],
+    },
+    Row {
+        shows: "an import adds its tile, and a removal takes it out",
+        side: 3,
+        capacity: 4,
+        said: &[
+            ("import N00E000 $A", "OK 1"),
+            ("elev 0 2", "OK 5"),
+            ("elev 2 0", "OK 9"),
+            ("elev 1 1", "OK 1"),
+            ("elev 0 3", "ERR 7 Outside"),
+            ("elev -1 0", "ERR 7 Outside"),
+            ("export N00E000", "OK $A"),
+            ("remove N00E000", "OK 2"),
+            ("elev 0 2", "ERR 7 Outside"),
+            ("hello", "ERR 1 BadLine"),
+        ],
+    },
+    Row {
+        shows: "an import is refused by presence, then by room",
+        side: 3,
+        capacity: 1,
+        said: &[
+            ("import N00E000 $A", "OK 1"),
+            ("import N00E001 $A", "ERR 6 Full"),
+            ("import N00E000 $A", "ERR 4 TileThere"),
+            ("remove N00E001", "ERR 5 NoTile"),
+        ],
+    },
+    Row {
+        shows: "a removal makes room",
+        side: 3,
+        capacity: 2,
+        said: &[
+            ("import N00E000 $A", "OK 1"),
+            ("import N00E001 $B", "OK 2"),
+            ("import N00E002 $A", "ERR 6 Full"),
+            ("remove N00E000", "OK 3"),
+            ("import N05E005 $A", "OK 4"),
+        ],
+    },
+    Row {
+        shows: "tiles are in order, and named by good names alone",
+        side: 3,
+        capacity: 4,
+        said: &[
+            ("import s00w000 $A", "OK 1"),
+            ("tiles", "OK 1 N00E000"),
+            ("import S91E000 $A", "ERR 2 BadName"),
+            ("import S01W001 $A", "OK 2"),
+            ("tiles", "OK 2 S01W001 N00E000"),
+            ("sinks", "OK 0"),
+            ("elev 0 0", "OK 9"),
+            ("remove S91E000", "ERR 2 BadName"),
+        ],
+    },
+    Row {
+        shows: "the first sample that isn't void counts",
+        side: 3,
+        capacity: 4,
+        said: &[
+            ("import N00E001 $H", "OK 1"),
+            ("import N00E000 $G", "OK 2"),
+            ("elev 1 2", "OK 7"),
+            ("export N00E000", "OK $G"),
+            ("export N00E001", "OK $H"),
+            ("remove N00E000", "OK 3"),
+            ("elev 1 2", "OK 8"),
+            ("remove N00E000", "ERR 5 NoTile"),
+            ("import N00E000 $K", "OK 4"),
+            ("elev 1 2", "OK 8"),
+            ("patch 1 2 1 2 4", "ERR 9 NothingVoid"),
+        ],
+    },
+    Row {
+        shows: "four tiles meet at a corner",
+        side: 3,
+        capacity: 4,
+        said: &[
+            ("import S01W001 $A", "OK 1"),
+            ("elev 0 0", "OK 9"),
+            ("import N01E001 $O", "OK 2"),
+            ("import N00E000 $F", "OK 3"),
+            ("elev 2 2", "OK 5"),
+            ("elev 3 3", "OK 1"),
+        ],
+    },
+    Row {
+        shows: "a void is no height",
+        side: 3,
+        capacity: 4,
+        said: &[
+            ("import N00E000 $V", "OK 1"),
+            ("elev 1 1", "OK void"),
+            ("fill 1 1", "ERR 8 Void"),
+            ("dir 1 1", "ERR 8 Void"),
+            ("trace 1 1", "ERR 8 Void"),
+            ("watershed 1 1", "ERR 8 Void"),
+        ],
+    },
 ];
 
 #[test]
-fn tiles_and_edits(rt: HostRuntime) -> Result<(), Fail> {
-    check_rows(&rt, rt.alloc(), &TILES_AND_EDITS)
+fn tiles_and_heights(rt: HostRuntime) -> Result<(), Fail> {
+    check_rows(&rt, rt.alloc(), &SUBJECTS, &TILES)
 }
 
+const EDITS: [Row; 8] = [
+    Row {
+        shows: "a burn is written into both tiles of a seam",
+        side: 3,
+        capacity: 4,
+        said: &[
+            ("import N00E000 $G", "OK 1"),
+            ("import N00E001 $H", "OK 2"),
+            ("burn 1 1 2", "OK 3"),
+            ("elev 1 2", "OK 6"),
+            ("remove N00E000", "OK 4"),
+            ("elev 1 2", "OK 6"),
+        ],
+    },
+    Row {
+        shows: "a wall that raises nothing is written into both",
+        side: 3,
+        capacity: 4,
+        said: &[
+            ("import N00E000 $G", "OK 1"),
+            ("import N00E001 $H", "OK 2"),
+            ("wall 3 1 2", "OK 3"),
+            ("elev 1 2", "OK 7"),
+            ("remove N00E000", "OK 4"),
+            ("elev 1 2", "OK 7"),
+        ],
+    },
+    Row {
+        shows: "no height falls below the lowest",
+        side: 3,
+        capacity: 4,
+        said: &[
+            ("import N00E000 $M", "OK 1"),
+            ("import N00E001 $Z", "OK 2"),
+            ("burn 32767 1 1", "ERR 14 TooDeep"),
+            ("burn 32767 1 3", "OK 3"),
+            ("elev 1 3", "OK -32767"),
+        ],
+    },
+    Row {
+        shows: "named points are tested in order",
+        side: 3,
+        capacity: 4,
+        said: &[
+            ("import N00E000 $V", "OK 1"),
+            ("burn 0 1 1", "ERR 11 BadDepth"),
+            ("burn 0 1 1 1 1", "ERR 11 BadDepth"),
+            ("burn 1 1 1 1 1", "ERR 13 Repeated"),
+            ("burn 5 9 9 1 1", "ERR 7 Outside"),
+            ("burn 5 1 1 9 9", "ERR 8 Void"),
+            ("wall 32768 1 1 1 1", "ERR 10 BadHeight"),
+        ],
+    },
+    Row {
+        shows: "a patch fills voids alone",
+        side: 3,
+        capacity: 4,
+        said: &[
+            ("import N00E000 $V", "OK 1"),
+            ("patch 1 1 3 3 4", "OK 2"),
+            ("patch 1 1 1 1 4", "ERR 9 NothingVoid"),
+            ("elev 1 1", "OK 4"),
+            ("elev 2 2", "OK 9"),
+            ("export N00E000", "OK $P"),
+        ],
+    },
+    Row {
+        shows: "a patch goes across a seam",
+        side: 3,
+        capacity: 4,
+        said: &[
+            ("import N00E000 $I", "OK 1"),
+            ("import N00E001 $J", "OK 2"),
+            ("patch 0 1 2 3 5", "OK 3"),
+            ("export N00E000", "OK $X"),
+            ("export N00E001", "OK $Y"),
+        ],
+    },
+    Row {
+        shows: "a void sample under a height is no void point",
+        side: 3,
+        capacity: 4,
+        said: &[
+            ("import N00E000 $K", "OK 1"),
+            ("import N00E001 $H", "OK 2"),
+            ("elev 1 2", "OK 8"),
+            ("patch 1 2 1 2 4", "ERR 9 NothingVoid"),
+        ],
+    },
+    Row {
+        shows: "heights and boxes are tested before voids",
+        side: 3,
+        capacity: 4,
+        said: &[
+            ("patch 0 0 2 2 4", "ERR 9 NothingVoid"),
+            ("import N00E000 $V", "OK 1"),
+            ("patch 0 0 0 3 4", "ERR 12 BadBox"),
+            ("patch 1 1 0 1 4", "ERR 12 BadBox"),
+            ("patch 0 0 2 2 40000", "ERR 10 BadHeight"),
+        ],
+    },
+];
+
 #[test]
-fn a_burn_of_too_many_points(rt: HostRuntime) -> Result<(), Fail> {
-    let mut line = Vec::from_slice(rt.alloc(), b"burn 1")?;
-    for _ in 0..65 {
-        line.extend_from_slice(b" 1 1")?;
-    }
-    check_rows(&rt, rt.alloc(), &[(3, 4, &line, b"ERR 1 BadLine\n")])
+fn edits_of_tiles(rt: HostRuntime) -> Result<(), Fail> {
+    check_rows(&rt, rt.alloc(), &SUBJECTS, &EDITS)
 }

@@ -1,87 +1,109 @@
-//! Sessions written as texts, in which `$` and a letter stand for the bytes of a tile.
-use crate::asserting::assert_row;
+//! Sessions as pairs of a line and its reply, and who is asked: the plain programs, a mosaic in memory, and a store of either
+//! version. In a text `$` and a letter stand for a tile; a text that has no `$` is a line, or lines, that an LF ends.
+use super::plain_lines::PlainLines;
 use disk::{Disk, MemDisk};
 use engine::Engine;
 use lattice::Side;
 use memory_store::store_in_memory;
 use serving::{CheckedWriter, serve};
-use std::alloc::Global;
+use std::alloc::{AllocError, Global};
+use std::fmt::Debug;
 use std::process::Abort;
+use std::str::from_utf8;
 use std::test::Fail;
 use store::Store;
 use table_engine::TableEngine;
+use test_tiles::{expand, lines_of, push_line};
 
-/// The tiles by their letters: a character for each sample, rows from the north. A digit is a height in metres, `x` stands
-/// for 10, `y` for 20, `m` for -1 and `v` for a void.
-const TILES: [(u8, &[u8]); 19] = [
-    // A pit.
-    (b'A', b"999919995"),
-    // Valleys to the east and through.
-    (b'B', b"999911999"),
-    (b'C', b"999113999"),
-    (b'D', b"999111999"),
-    // A notch in the rim.
-    (b'G', b"999997999"),
-    (b'H', b"999899999"),
-    // Voids, and V once it was patched with 4, with -1 and with 0.
-    (b'K', b"99999v999"),
-    (b'V', b"9999v9999"),
-    (b'P', b"999949999"),
-    (b'M', b"9999m9999"),
-    (b'Z', b"999909999"),
-    // Flat.
-    (b'F', b"555555555"),
-    (b'O', b"111111111"),
-    // A slope to a corner.
-    (b'S', b"yyyyx2yy0"),
-    (b'T', b"yyyyx3yy0"),
-    // A void and a way out of it on the other rim, and a notch where the void was.
-    (b'L', b"999v53999"),
-    (b'R', b"999399999"),
-    // Of side 5: a way out to the south around a void, and flat.
-    (b'W', b"9999995v99999399919999999"),
-    (b'N', b"9999999999999999999999999"),
+/// A line and its reply.
+pub(crate) type Said<'a> = (&'a str, &'a str);
+
+/// What a session shows, the side of its tiles, how many there is room for, and its lines with their replies.
+pub(crate) struct Row<'a> {
+    pub(crate) shows: &'a str,
+    pub(crate) side: u32,
+    pub(crate) capacity: u32,
+    pub(crate) said: &'a [Said<'a>],
+}
+
+/// Who is asked.
+#[derive(Clone, Copy)]
+pub(crate) enum Subject {
+    Plain,
+    Table,
+    FirstVersion,
+    SecondVersion,
+}
+
+/// All of them.
+pub(crate) const SUBJECTS: [Subject; 4] = [
+    Subject::Plain,
+    Subject::Table,
+    Subject::FirstVersion,
+    Subject::SecondVersion,
 ];
 
-/// The samples of the tile of this letter.
-fn tile(letter: u8) -> &'static [u8] {
-    for (name, samples) in TILES {
-        if name == letter {
-            return samples;
+/// Those that read lines themselves, and make steps.
+pub(crate) const ENGINES: [Subject; 3] = [
+    Subject::Table,
+    Subject::FirstVersion,
+    Subject::SecondVersion,
+];
+
+impl Subject {
+    fn name(self) -> &'static str {
+        match self {
+            Subject::Plain => "the plain programs",
+            Subject::Table => "the mosaic in memory",
+            Subject::FirstVersion => "the store of the first version",
+            Subject::SecondVersion => "the store of the second version",
         }
     }
-    b""
-}
 
-/// The two bytes of a sample, the higher first.
-fn bytes_of_sample(sample: u8) -> [u8; 2] {
-    match sample {
-        b'v' => [0x80, 0],
-        b'm' => [0xff, 0xff],
-        b'x' => [0, 10],
-        b'y' => [0, 20],
-        digit => [0, digit.saturating_sub(b'0')],
+    // What this one, made anew, replies to the lines of the row.
+    fn replies(self, alloc: Global, row: &Row) -> Result<Vec<u8>, Fail> {
+        if let Subject::Plain = self {
+            return plain_replies(alloc, row);
+        }
+        let input = input_of(alloc, row.said)?;
+        match self {
+            Subject::FirstVersion => replies(
+                alloc,
+                &mut store_of_version_1(alloc, row.side, row.capacity)?,
+                &input,
+            ),
+            Subject::SecondVersion => {
+                replies(alloc, &mut store(alloc, row.side, row.capacity)?, &input)
+            }
+            _ => replies(alloc, &mut table(alloc, row.side, row.capacity)?, &input),
+        }
     }
 }
 
-fn push_tile(bytes: &mut Vec<u8>, letter: u8) -> Result<(), Fail> {
-    for sample in tile(letter) {
-        bytes.extend_from_slice(&bytes_of_sample(*sample))?;
+fn plain_replies(alloc: Global, row: &Row) -> Result<Vec<u8>, Fail> {
+    let side = Side::new(row.side).ok_or("no side")?;
+    let mut plain = PlainLines::new(alloc, side, row.capacity);
+    let mut output = Vec::new(alloc);
+    for (line, _) in row.said {
+        plain.write_reply(&expand(alloc, line)?, &mut output)?;
     }
-    Ok(())
+    Ok(output)
 }
 
-/// The bytes that the text stands for.
-pub(crate) fn bytes_of(alloc: Global, text: &[u8]) -> Result<Vec<u8>, Fail> {
+/// The bytes of the lines.
+pub(crate) fn input_of(alloc: Global, said: &[Said]) -> Result<Vec<u8>, AllocError> {
     let mut bytes = Vec::new(alloc);
-    let mut is_tile = false;
-    for byte in text {
-        if is_tile {
-            push_tile(&mut bytes, *byte)?;
-        } else if *byte != b'$' {
-            bytes.push(*byte)?;
-        }
-        is_tile = !is_tile && *byte == b'$';
+    for (line, _) in said {
+        push_line(&mut bytes, line)?;
+    }
+    Ok(bytes)
+}
+
+/// The bytes of the replies.
+pub(crate) fn output_of(alloc: Global, said: &[Said]) -> Result<Vec<u8>, AllocError> {
+    let mut bytes = Vec::new(alloc);
+    for (_, reply) in said {
+        push_line(&mut bytes, reply)?;
     }
     Ok(bytes)
 }
@@ -111,7 +133,11 @@ pub(crate) fn store(alloc: Global, samples: u32, capacity: u32) -> Result<Store<
 }
 
 /// Such a store by the first version.
-fn store_of_version_1(alloc: Global, samples: u32, capacity: u32) -> Result<Store<MemDisk>, Fail> {
+pub(crate) fn store_of_version_1(
+    alloc: Global,
+    samples: u32,
+    capacity: u32,
+) -> Result<Store<MemDisk>, Fail> {
     let sectors = capacity.saturating_mul(8).saturating_add(8);
     let mut disk = MemDisk::new(alloc, sectors)?;
     Store::format_1(&mut disk, samples, capacity)?;
@@ -125,38 +151,71 @@ pub(crate) fn opened<D: Disk + Drop>(alloc: Global, disk: D) -> Result<Store<D>,
     }
 }
 
-/// A session and the replies to it, for tiles of this side, so many at most.
-pub(crate) type Row<'a> = (u32, u32, &'a [u8], &'a [u8]);
-
-// Whether the engine replies so to the lines.
-fn answers<E: Engine + Drop>(
-    alloc: Global,
-    engine: E,
-    (input, wanted): (&[u8], &[u8]),
-) -> Result<bool, Fail> {
-    let mut engine = engine;
-    let output = replies(alloc, &mut engine, input)?;
-    Ok(output.as_slice() == wanted)
+// What stands behind the wanted bytes. None where others stand there.
+fn after<'a>(found: &'a [u8], wanted: &[u8]) -> Option<&'a [u8]> {
+    if found.starts_with(wanted) {
+        found.get(wanted.len()..)
+    } else {
+        None
+    }
 }
 
-fn check(rt: &impl Abort, alloc: Global, session: Row, number: u64) -> Result<(), Fail> {
-    let (samples, capacity, lines, replies) = session;
-    let input = bytes_of(alloc, lines)?;
-    let wanted = bytes_of(alloc, replies)?;
-    let texts = (input.as_slice(), wanted.as_slice());
-    let by_table = answers(alloc, table(alloc, samples, capacity)?, texts)?;
-    assert_row(rt, by_table, "the mosaic in memory, session", number);
-    let by_store = answers(alloc, store(alloc, samples, capacity)?, texts)?;
-    assert_row(rt, by_store, "the store, session", number);
-    let by_first = answers(alloc, store_of_version_1(alloc, samples, capacity)?, texts)?;
-    assert_row(rt, by_first, "the first version, session", number);
+/// Ends the test at the first line that wasn't answered so, and names the row, the line and what was found in place of its
+/// reply.
+pub(crate) fn check_replies<R: Debug>(
+    rt: &impl Abort,
+    alloc: Global,
+    row: &R,
+    found: &[u8],
+    said: &[Said],
+) -> Result<(), Fail> {
+    let mut rest = found;
+    for said in said {
+        rest = check_reply(rt, alloc, row, rest, *said)?;
+    }
+    let text = text_of(rest);
+    assert!(rt; rest.is_empty(), "{row:?}: found more: {text}");
     Ok(())
 }
 
-/// Serves each session to a mosaic in memory and to a store of either version, each made anew, and compares the replies.
-pub(crate) fn check_rows(rt: &impl Abort, alloc: Global, rows: &[Row]) -> Result<(), Fail> {
-    for (row, number) in rows.iter().zip(0..) {
-        check(rt, alloc, *row, number)?;
+// What was found after the reply to this line.
+fn check_reply<'a, R: Debug>(
+    rt: &impl Abort,
+    alloc: Global,
+    row: &R,
+    found: &'a [u8],
+    (line, reply): Said,
+) -> Result<&'a [u8], Fail> {
+    let wanted = lines_of(alloc, &[reply])?;
+    let Some(rest) = after(found, &wanted) else {
+        let text = text_of(found);
+        assert!(rt; false, "{row:?}: {line}: found {text}");
+        return Ok(found);
+    };
+    Ok(rest)
+}
+
+fn text_of(bytes: &[u8]) -> &str {
+    from_utf8(bytes).unwrap_or("bytes that are no text")
+}
+
+/// Asks each of these, made anew, each session, and compares the replies.
+pub(crate) fn check_rows(
+    rt: &impl Abort,
+    alloc: Global,
+    subjects: &[Subject],
+    rows: &[Row],
+) -> Result<(), Fail> {
+    for row in rows {
+        check_row(rt, alloc, subjects, row)?;
+    }
+    Ok(())
+}
+
+fn check_row(rt: &impl Abort, alloc: Global, subjects: &[Subject], row: &Row) -> Result<(), Fail> {
+    for subject in subjects {
+        let found = subject.replies(alloc, row)?;
+        check_replies(rt, alloc, &(row.shows, subject.name()), &found, row.said)?;
     }
     Ok(())
 }

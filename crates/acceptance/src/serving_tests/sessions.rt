@@ -1,6 +1,6 @@
 //! Sessions by readers and writers of many kinds.
-use super::script::{Row, bytes_of, check_rows, table};
-use crate::asserting::assert_row;
+use super::script::{ENGINES, Row, Said, check_replies, check_rows, input_of, output_of, table};
+use crate::asserting::{assert_found, assert_row};
 use crate::counting::Counting;
 use serving::{CheckedWriter, ServeFault, serve};
 use std::alloc::Global;
@@ -57,119 +57,127 @@ fn served<R: Read>(
     Ok((served, output.into_inner()))
 }
 
-const IMPORTS_AND_ENDS: [Row; 8] = [
-    // An import.
-    (
-        3,
-        4,
-        b"import N00E000 18\n$Aelev 0 2\nelev 2 0\nexport N00E000\n",
-        b"OK 1\nOK 5\nOK 9\nOK 18\n$A",
-    ),
-    // A full mosaic.
-    (
-        3,
-        1,
-        b"import N00E000 18\n$Aimport N00E001 18\n$Aimport N00E000 18\n$A",
-        b"OK 1\nERR 6 Full\nERR 4 TileThere\n",
-    ),
-    // Payloads of other lengths.
-    (
-        3,
-        4,
-        b"import S01W001 17\n0123456789abcdefgcount\n",
-        b"ERR 3 BadLength\nOK 0\n",
-    ),
-    (3, 4, b"import S01W001 18\n0123456789", b"ERR 3 BadLength\n"),
-    (
-        3,
-        4,
-        b"import X 6\ncount\ncount\n",
-        b"ERR 2 BadName\nOK 0\n",
-    ),
-    (
-        3,
-        4,
-        b"import X 1234567890\ncount\n",
-        b"ERR 1 BadLine\nOK 0\n",
-    ),
-    // Voids and quit.
-    (
-        3,
-        4,
-        b"import n00e000 18\r\n$Velev 1 1\nquit\ncount\n",
-        b"OK 1\nOK void\nOK\n",
-    ),
-    // A store is served.
-    (
-        3,
-        2,
-        b"import N00E000 18\n$Aelev 0 2\nelev 5 5\nhello\nimport N00E000 18\n$Acount\nexport N00E000\n",
-        b"OK 1\nOK 5\nERR 7 Outside\nERR 1 BadLine\nERR 4 TileThere\nOK 1\nOK 18\n$A",
-    ),
+// A `$` at the end of a text: no LF ends it.
+const ITEMS: [Row; 6] = [
+    Row {
+        shows: "a payload of another length is read, and refused",
+        side: 3,
+        capacity: 4,
+        said: &[
+            ("import S01W001 17\n0123456789abcdefg$", "ERR 3 BadLength"),
+            ("count", "OK 0"),
+        ],
+    },
+    Row {
+        shows: "a payload that is cut is refused",
+        side: 3,
+        capacity: 4,
+        said: &[("import S01W001 18\n0123456789$", "ERR 3 BadLength")],
+    },
+    Row {
+        shows: "the payload of a bad name is read",
+        side: 3,
+        capacity: 4,
+        said: &[("import X 6\ncount", "ERR 2 BadName"), ("count", "OK 0")],
+    },
+    Row {
+        shows: "no payload follows a line that is none",
+        side: 3,
+        capacity: 4,
+        said: &[("import X 1234567890", "ERR 1 BadLine"), ("count", "OK 0")],
+    },
+    Row {
+        shows: "a CR ends a line, and nothing is read past quit",
+        side: 3,
+        capacity: 4,
+        said: &[
+            ("import n00e000 18\r\n012345678901234567$", "OK 1"),
+            ("elev 2 0\r", "OK 12337"),
+            ("quit\ncount", "OK"),
+        ],
+    },
+    Row {
+        shows: "the end of the input ends a line",
+        side: 3,
+        capacity: 2,
+        said: &SESSION,
+    },
 ];
 
 #[test]
-fn imports_and_ends(rt: HostRuntime) -> Result<(), Fail> {
-    check_rows(&rt, rt.alloc(), &IMPORTS_AND_ENDS)
+fn items_and_ends(rt: HostRuntime) -> Result<(), Fail> {
+    check_rows(&rt, rt.alloc(), &ENGINES, &ITEMS)
 }
 
-const SESSION: &[u8] =
-    b"import N00E000 18\n$Aelev 0 2\nelev 5 5\nhello\nimport N00E000 18\n$Acount";
-
-const REPLIES: &[u8] = b"OK 1\nOK 5\nERR 7 Outside\nERR 1 BadLine\nERR 4 TileThere\nOK 1\n";
+const SESSION: [Said; 6] = [
+    ("import N00E000 $A", "OK 1"),
+    ("elev 0 2", "OK 5"),
+    ("elev 5 5", "ERR 7 Outside"),
+    ("hello", "ERR 1 BadLine"),
+    ("import N00E000 $A", "ERR 4 TileThere"),
+    ("count$", "OK 1"),
+];
 
 #[test]
 fn a_session_cut_anywhere(rt: HostRuntime) -> Result<(), Fail> {
-    let input = bytes_of(rt.alloc(), SESSION)?;
+    let input = input_of(rt.alloc(), &SESSION)?;
     for cut in 0..input.len() {
         let mut reader = Halves { bytes: &input, cut };
         let (served, output) = served(rt.alloc(), &mut reader)?;
-        let is_right = served.is_ok() && output.as_slice() == REPLIES;
-        assert_row(&rt, is_right, "cut at", cut as u64);
+        served?;
+        check_replies(&rt, rt.alloc(), &("cut at", cut), &output, &SESSION)?;
     }
     Ok(())
 }
 
 #[test]
 fn a_reader_that_fails(rt: HostRuntime) -> Result<(), Fail> {
-    let mut input = bytes_of(rt.alloc(), SESSION)?;
+    let mut input = input_of(rt.alloc(), &SESSION)?;
     input.truncate(50);
     let mut reader = Broken { bytes: &input };
     let (served, output) = served(rt.alloc(), &mut reader)?;
-    let is_right = served == Err(ServeFault::Input)
-        && output.as_slice() == b"OK 1\nOK 5\n".as_slice();
-    assert!(rt; is_right);
-    Ok(())
+    assert_found(&rt, &"what was served", &served, &Err(ServeFault::Input));
+    let said = SESSION.get(..2).unwrap_or(&[]);
+    check_replies(&rt, rt.alloc(), &"what was read", &output, said)
 }
 
 /// Whether a writer with room for so many bytes takes so many of the replies, and then fails.
-fn fails_after(alloc: Global, input: &[u8], room: usize) -> Result<bool, Fail> {
+fn fails_after(alloc: Global, input: &[u8], replies: &[u8], room: usize) -> Result<bool, Fail> {
     let mut reader = input;
     let mut bytes = vec![in alloc; 0; room]?;
     let mut writer = CheckedWriter::new(bytes.as_mut_slice());
     let served = serve(alloc, &mut reader, &mut writer, &mut table(alloc, 3, 4)?);
-    Ok(served == Err(ServeFault::Output) && REPLIES.starts_with(&bytes))
+    Ok(served == Err(ServeFault::Output) && replies.starts_with(&bytes))
 }
 
 #[test]
 fn a_writer_that_fails_at_each_byte(rt: HostRuntime) -> Result<(), Fail> {
-    let input = bytes_of(rt.alloc(), SESSION)?;
-    for room in 0..REPLIES.len() {
-        let fails = fails_after(rt.alloc(), &input, room)?;
-        assert_row(&rt, fails, "room for", room as u64);
+    let input = input_of(rt.alloc(), &SESSION)?;
+    let replies = output_of(rt.alloc(), &SESSION)?;
+    for room in 0..replies.len() {
+        let fails = fails_after(rt.alloc(), &input, &replies, room)?;
+        assert_row(&rt, &("room for", room), fails);
     }
     Ok(())
 }
 
+const LONG_REPLIES: [Said; 6] = [
+    ("import N00E000 $A", "OK 1"),
+    ("export N00E000", "OK $A"),
+    ("tiles", "OK 1 N00E000"),
+    ("trace 0 0", "OK 3\n0 0\n1 1\n0 2"),
+    ("watershed 0 2", "OK 9 3\n2 0 2\n1 0 2\n0 0 2"),
+    ("elev 9 9", "ERR 7 Outside"),
+];
+
 #[test]
 fn a_write_for_each_reply(rt: HostRuntime) -> Result<(), Fail> {
     let alloc = rt.alloc();
-    let lines = b"import N00E000 18\n$Aexport N00E000\ntiles\ntrace 0 0\nwatershed 0 2\nelev 9 9\n";
-    let input = bytes_of(alloc, lines)?;
+    let input = input_of(alloc, &LONG_REPLIES)?;
     let mut reader = input.as_slice();
     let mut writer = CheckedWriter::new(Counting::new());
     serve(alloc, &mut reader, &mut writer, &mut table(alloc, 3, 4)?)?;
     // The bytes of the tile leave by one of their own.
-    assert!(rt; writer.into_inner().writes == 7);
+    assert_found(&rt, &"writes", &writer.into_inner().writes, &7);
     Ok(())
 }

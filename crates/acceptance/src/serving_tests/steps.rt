@@ -1,24 +1,56 @@
-//! Steps through `serve`, byte for byte: each names the least stale tile.
-use super::script::{Row, check_rows};
+//! Steps, by rows worked by hand: each names the least stale tile.
+use super::script::{ENGINES, Row, check_rows};
 use std::test::Fail;
+
+const STEPS: [Row; 2] = [
+    Row {
+        shows: "each tile is named once",
+        side: 3,
+        capacity: 4,
+        said: &[
+            ("step", "OK none"),
+            ("import N00E000 $G", "OK 1"),
+            ("step", "OK N00E000"),
+            ("step", "OK none"),
+            ("import N00E001 $H", "OK 2"),
+            ("step", "OK N00E000"),
+            ("step", "OK N00E001"),
+            ("step", "OK none"),
+            ("count", "OK 2"),
+            ("step 1", "ERR 1 BadLine"),
+            ("Step", "ERR 1 BadLine"),
+        ],
+    },
+    Row {
+        shows: "a wall leaves far tiles fresh",
+        side: 3,
+        capacity: 4,
+        said: &[
+            ("import N00E000 $B", "OK 1"),
+            ("import N00E001 $D", "OK 2"),
+            ("import N00E002 $D", "OK 3"),
+            ("import N00E003 $C", "OK 4"),
+            ("step", "OK N00E000"),
+            ("step", "OK N00E001"),
+            ("step", "OK N00E002"),
+            ("step", "OK N00E003"),
+            ("step", "OK none"),
+            ("fill 1 1", "OK 3"),
+            ("wall 5 1 8", "OK 5"),
+            ("fill 1 1", "OK 5"),
+            ("step", "OK N00E002"),
+            ("step", "OK N00E003"),
+            ("step", "OK none"),
+            ("sink 1 4", "OK 6"),
+            ("step", "OK N00E000"),
+            ("step", "OK N00E001"),
+            ("step", "OK N00E002"),
+            ("step", "OK N00E003"),
+        ],
+    },
+];
 
 #[test]
 fn steps_name_tiles(rt: HostRuntime) -> Result<(), Fail> {
-    let rows: [Row; 2] = [
-        // Each tile is named once.
-        (
-            3,
-            4,
-            b"step\nimport N00E000 18\n$Gstep\nstep\nimport N00E001 18\n$Hstep\nstep\nstep\ncount\nstep 1\nStep\n",
-            b"OK none\nOK 1\nOK N00E000\nOK none\nOK 2\nOK N00E000\nOK N00E001\nOK none\nOK 2\nERR 1 BadLine\nERR 1 BadLine\n",
-        ),
-        // A wall leaves far tiles fresh.
-        (
-            3,
-            4,
-            b"import N00E000 18\n$Bimport N00E001 18\n$Dimport N00E002 18\n$Dimport N00E003 18\n$Cstep\nstep\nstep\nstep\nstep\nfill 1 1\nwall 5 1 8\nfill 1 1\nstep\nstep\nstep\nsink 1 4\nstep\nstep\nstep\nstep\n",
-            b"OK 1\nOK 2\nOK 3\nOK 4\nOK N00E000\nOK N00E001\nOK N00E002\nOK N00E003\nOK none\nOK 3\nOK 5\nOK 5\nOK N00E002\nOK N00E003\nOK none\nOK 6\nOK N00E000\nOK N00E001\nOK N00E002\nOK N00E003\n",
-        ),
-    ];
-    check_rows(&rt, rt.alloc(), &rows)
+    check_rows(&rt, rt.alloc(), &ENGINES, &STEPS)
 }

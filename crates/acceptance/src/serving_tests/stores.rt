@@ -1,6 +1,5 @@
-//! Sessions over a store on a disk in memory.
-use super::script::{bytes_of, check_rows, opened, replies, store};
-use crate::asserting::assert_row;
+//! Sessions over a store on a disk in memory of which a call fails.
+use super::script::{Said, check_replies, input_of, opened, replies, store, store_of_version_1};
 use disk::{FaultOnceDisk, MemDisk};
 use std::alloc::Global;
 use std::process::Abort;
@@ -10,99 +9,138 @@ use store::Store;
 /// Lines to a store that was opened anew after others, and of the first one each call fails in turn.
 #[derive(Clone, Copy)]
 struct Faulty {
-    before: &'static [u8],
-    /// How many calls the opening makes, and how many the first line.
-    calls: (u64, u64),
-    lines: &'static [u8],
+    shows: &'static str,
+    before: &'static [Said<'static>],
+    /// How many calls the opening makes, and how many the first line, by the first version and by the second.
+    calls: [(u64, u64); 2],
     /// What is replied where one of these calls fails.
-    replies: &'static [u8],
+    said: &'static [Said<'static>],
     /// What is asked once the disk was opened again, and replied after a fault in the last of the calls and in the others.
-    questions: &'static [u8],
-    last: &'static [u8],
-    others: &'static [u8],
+    after_last: &'static [Said<'static>],
+    after_others: &'static [Said<'static>],
+}
+
+impl Faulty {
+    fn calls_of(&self, version: u32) -> (u64, u64) {
+        let [first, second] = self.calls;
+        if version == 1 { first } else { second }
+    }
 }
 
 // Without tiles an opening makes a sync and reads both gates and the root behind the open one; later both roots, and for
-// a tile a record and an index page. An import writes a page, an index page, a record and a root, and makes a sync, opens
-// the gate, and makes a sync; where the gate is open at first, it is closed and that is synced.
+// a tile a record and, by the second version, an index page. An import writes a page, by the second version an index page,
+// a record and a root, and makes a sync, opens the gate, and makes a sync; where the gate is open at first, it is closed
+// and that is synced.
+const FAULTS: [Faulty; 3] = [
+    Faulty {
+        shows: "a fault in the first import",
+        before: &[],
+        calls: [(4, 6), (4, 7)],
+        said: &[
+            ("import N00E000 $A", "ERR 20 Device"),
+            ("elev 0 2", "ERR 22 Failed"),
+            ("count", "OK 0"),
+            ("export N00E000", "ERR 22 Failed"),
+            ("tiles", "ERR 22 Failed"),
+            ("wall 3 1 1", "ERR 22 Failed"),
+        ],
+        after_last: &[("count", "OK 1"), ("elev 0 2", "OK 5")],
+        after_others: &[("count", "OK 0"), ("elev 0 2", "ERR 7 Outside")],
+    },
+    Faulty {
+        shows: "a fault in the second import",
+        before: &[("import N00E000 $A", "OK 1")],
+        calls: [(6, 8), (7, 9)],
+        said: &[
+            ("import N00E001 $B", "ERR 20 Device"),
+            ("elev 0 2", "ERR 22 Failed"),
+            ("count", "OK 1"),
+        ],
+        after_last: &[
+            ("count", "OK 2"),
+            ("elev 0 2", "OK 5"),
+            ("elev 1 4", "OK 1"),
+        ],
+        after_others: &[
+            ("count", "OK 1"),
+            ("elev 0 2", "OK 5"),
+            ("elev 1 4", "ERR 7 Outside"),
+        ],
+    },
+    Faulty {
+        shows: "a fault in a question",
+        before: &[("import N00E000 $A", "OK 1")],
+        calls: [(6, 1), (7, 1)],
+        said: &[("elev 0 2", "ERR 20 Device"), ("count", "OK 1")],
+        after_last: &[("elev 0 2", "OK 5")],
+        after_others: &[],
+    },
+];
 
-const FIRST_IMPORT: Faulty = Faulty {
-    before: b"",
-    calls: (4, 7),
-    lines: b"import N00E000 18\n$Aelev 0 2\ncount\nexport N00E000\ntiles\nwall 3 1 1\n",
-    replies: b"ERR 20 Device\nERR 22 Failed\nOK 0\nERR 22 Failed\nERR 22 Failed\nERR 22 Failed\n",
-    questions: b"count\nelev 0 2\n",
-    last: b"OK 1\nOK 5\n",
-    others: b"OK 0\nERR 7 Outside\n",
-};
-
-const SECOND_IMPORT: Faulty = Faulty {
-    before: b"import N00E000 18\n$A",
-    calls: (7, 9),
-    lines: b"import N00E001 18\n$Belev 0 2\ncount\n",
-    replies: b"ERR 20 Device\nERR 22 Failed\nOK 1\n",
-    questions: b"count\nelev 0 2\nelev 1 4\n",
-    last: b"OK 2\nOK 5\nOK 1\n",
-    others: b"OK 1\nOK 5\nERR 7 Outside\n",
-};
-
-const ELEVATION: Faulty = Faulty {
-    before: b"import N00E000 18\n$A",
-    calls: (7, 1),
-    lines: b"elev 0 2\ncount\n",
-    replies: b"ERR 20 Device\nOK 1\n",
-    questions: b"elev 0 2\n",
-    last: b"OK 5\n",
-    others: b"",
-};
-
-/// A store that was opened anew, of whose disk this call fails.
+/// A store of this version that was opened anew, of whose disk this call fails.
 fn failing_store(
     alloc: Global,
-    before: &[u8],
+    version: u32,
+    before: &[Said],
     call: u64,
 ) -> Result<Store<FaultOnceDisk<MemDisk>>, Fail> {
-    let mut fresh = store(alloc, 3, 2)?;
-    let lines = bytes_of(alloc, before)?;
+    let mut fresh = if version == 1 {
+        store_of_version_1(alloc, 3, 2)?
+    } else {
+        store(alloc, 3, 2)?
+    };
+    let lines = input_of(alloc, before)?;
     replies(alloc, &mut fresh, &lines)?;
     opened(alloc, FaultOnceDisk::new(fresh.into_disk(), call))
 }
 
-/// What is replied to these questions once the disk of the store was opened again.
+/// What is replied to these lines once the disk of the store was opened again.
 fn replies_again(
     alloc: Global,
     store: Store<FaultOnceDisk<MemDisk>>,
-    questions: &[u8],
+    said: &[Said],
 ) -> Result<Vec<u8>, Fail> {
     let mut again = opened(alloc, store.into_disk())?;
-    replies(alloc, &mut again, questions)
+    replies(alloc, &mut again, &input_of(alloc, said)?)
 }
 
-// Whether the replies are right where this call of the first line fails, and once the disk was opened again.
-fn is_told(alloc: Global, faulty: &Faulty, call: u64) -> Result<bool, Fail> {
-    let (to_open, calls) = faulty.calls;
-    let lines = bytes_of(alloc, faulty.lines)?;
-    let mut failing = failing_store(alloc, faulty.before, to_open.saturating_add(call))?;
-    let output = replies(alloc, &mut failing, &lines)?;
-    if output.as_slice() != faulty.replies {
-        return Ok(false);
-    }
+// Has this call of the first line fail, and compares the replies then, and once the disk was opened again.
+fn check_fault(
+    rt: &impl Abort,
+    alloc: Global,
+    faulty: &Faulty,
+    version: u32,
+    call: u64,
+) -> Result<(), Fail> {
+    let (to_open, calls) = faulty.calls_of(version);
+    let failing_call = to_open.saturating_add(call);
+    let mut failing = failing_store(alloc, version, faulty.before, failing_call)?;
+    let row = (faulty.shows, "version", version, "call", call);
+    let found = replies(alloc, &mut failing, &input_of(alloc, faulty.said)?)?;
+    check_replies(rt, alloc, &row, &found, faulty.said)?;
     let is_last = call.saturating_add(1) == calls;
-    let wanted = if is_last { faulty.last } else { faulty.others };
-    let later = replies_again(alloc, failing, faulty.questions)?;
-    Ok(later.as_slice() == wanted)
+    let said = if is_last {
+        faulty.after_last
+    } else {
+        faulty.after_others
+    };
+    let found = replies_again(alloc, failing, said)?;
+    check_replies(rt, alloc, &row, &found, said)
 }
 
-fn fault_at_each_call(rt: &impl Abort, alloc: Global, faulty: &Faulty) -> Result<(), Fail> {
-    for call in 0..faulty.calls.1 {
-        assert_row(rt, is_told(alloc, faulty, call)?, "a fault at call", call);
+fn check_faults(rt: &impl Abort, alloc: Global, faulty: &Faulty, version: u32) -> Result<(), Fail> {
+    let (_, calls) = faulty.calls_of(version);
+    for call in 0..calls {
+        check_fault(rt, alloc, faulty, version, call)?;
     }
     Ok(())
 }
 
 #[test]
 fn a_fault_at_each_call_of_a_line(rt: HostRuntime) -> Result<(), Fail> {
-    fault_at_each_call(&rt, rt.alloc(), &FIRST_IMPORT)?;
-    fault_at_each_call(&rt, rt.alloc(), &SECOND_IMPORT)?;
-    fault_at_each_call(&rt, rt.alloc(), &ELEVATION)
+    for faulty in FAULTS.iter() {
+        check_faults(&rt, rt.alloc(), faulty, 1)?;
+        check_faults(&rt, rt.alloc(), faulty, 2)?;
+    }
+    Ok(())
 }
