@@ -137,8 +137,8 @@ fn a_reader_that_fails(rt: HostRuntime) -> Result<(), Fail> {
     let mut reader = Broken { bytes: &input };
     let (served, output) = served(rt.alloc(), &mut reader)?;
     assert_found(&rt, &"what was served", &served, &Err(ServeFault::Input));
-    let said = SESSION.get(..2).unwrap_or(&[]);
-    check_replies(&rt, rt.alloc(), &"what was read", &output, said)
+    let said = [SESSION[0], SESSION[1]];
+    check_replies(&rt, rt.alloc(), &"what was read", &output, &said)
 }
 
 /// Whether a writer with room for so many bytes takes so many of the replies, and then fails.
