@@ -5,6 +5,7 @@ use Rattle.std.specs.List.{list_any}
 use Rattle.std.specs.Option.{is_none}
 use Rattle.std.proofs.lemmas.List.{take_more}
 use Rattle.std.proofs.lemmas.List.Elements.{All-nil, All-cons, All-head, All-tail, All-contains}
+use Rattle.std.proofs.Math.Bool.{and-true, and-false}
 use Rattle.lattice.specs.Corners.{Corner, same_corner}
 use Rattle.lattice.specs.Mosaic.{Tile, Mosaic, IsMosaic}
 use Rattle.lattice.specs.declared.point.Point.{Point}
@@ -156,14 +157,6 @@ none_more entries i e below is some before =
 
 -- ---- whether a corner's tile is stale
 
-and_true : (b : Bool) → (b && true) ≡ b
-and_true true = refl
-and_true false = refl
-
-and_false : (b : Bool) → (b && false) ≡ false
-and_false true = refl
-and_false false = refl
-
 -- .. by the entries of a root
 pub entry_listed : (c : Corner) (entries : List EntryValue) → list_any (λ e. same_corner e.corner c && is_none e.kept) entries ≡ is_listed c (stale_among entries)
 entry_listed c [] = refl
@@ -172,8 +165,8 @@ entry_listed c (e ∷ rest) = by (is_none e.kept) (entry_listed c rest)
     by : (b : Bool) → list_any (λ x. same_corner x.corner c && is_none x.kept) rest ≡ is_listed c (stale_among rest)
         → ((same_corner e.corner c && b) || list_any (λ x. same_corner x.corner c && is_none x.kept) rest)
         ≡ is_listed c (map (λ x. x.corner) (cond b (e ∷ filter (λ x. is_none x.kept) rest) (filter (λ x. is_none x.kept) rest)))
-    by true later = ap₂ (λ (x y : Bool). x || y) (and_true (same_corner e.corner c)) later
-    by false later = ap₂ (λ (x y : Bool). x || y) (and_false (same_corner e.corner c)) later
+    by true later = ap₂ (λ (x y : Bool). x || y) (and-true (same_corner e.corner c)) later
+    by false later = ap₂ (λ (x y : Bool). x || y) (and-false (same_corner e.corner c)) later
 
 -- .. by what is stored: a present corner that isn't listed keeps its planes
 pub record KeepsPlanes (tiles : List StoredTile) (c : Corner) : Type 0 where
