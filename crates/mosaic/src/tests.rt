@@ -6,16 +6,14 @@ mod sessions;
 
 use disk::FileDisk;
 use server::{CheckedWriter, program};
-use sessions::{tile, written};
+use sessions::serves;
 use std::alloc::{AllocError, Global};
 use std::fs;
 use std::marker::Brand;
 use std::process::Abort;
 use std::test::Fail;
 use store::Store;
-
-/// 9 9 9 / 9 1 9 / 9 9 5, rows from the north.
-const TILE: &[u8] = b"\x00\x09\x00\x09\x00\x09\x00\x09\x00\x01\x00\x09\x00\x09\x00\x09\x00\x05";
+use test_tiles::{A, G, H};
 
 fn run(rt: &HostRuntime, words: &[&str], input: &[u8]) -> (u8, Vec<u8>) {
     match owned(rt.alloc(), words) {
@@ -63,7 +61,7 @@ fn a_store_on_a_file(rt: HostRuntime) -> Result<(), Fail> {
     let m = cleared(&rt, "server_test_m");
     let x = cleared(&rt, "server_test_none_made");
     let tile = "N00E000.hgt";
-    fs::write(&rt, tile, TILE)?;
+    fs::write(&rt, tile, &A)?;
     assert!(rt; ends(&rt, &["format", m, "3", "2"], b"", 0, b"OK 0\n"));
     assert_eq!(rt; fs::metadata(&rt, m)?.len(), 139_264);
     let report = b"count 1 commits 2\nN00E000 stale\nseams 0\n";
@@ -109,9 +107,13 @@ fn seams_of_a_file(rt: HostRuntime) -> Result<(), Fail> {
     let m = cleared(&rt, "server_test_seams");
     let west = "n00e000.srtm.HGT";
     let east = "N00E001.hgt";
-    fs::write(&rt, west, tile(b'G'))?;
-    fs::write(&rt, east, tile(b'H'))?;
-    let lines = b"elev 1 2\nexport N00E000\nexport N00E001\n";
+    fs::write(&rt, west, &G)?;
+    fs::write(&rt, east, &H)?;
+    let said = [
+        ("elev 1 2", "OK 7"),
+        ("export N00E000", "OK $G"),
+        ("export N00E001", "OK $H"),
+    ];
     let all = [
         ends(&rt, &["format", m, "3", "4"], b"", 0, b"OK 0\n"),
         ends(&rt, &["check", m], b"", 0, b"count 0 commits 1\nseams 0\n"),
@@ -119,15 +121,13 @@ fn seams_of_a_file(rt: HostRuntime) -> Result<(), Fail> {
         ends(&rt, &["import", m, east], b"", 0, b"OK 2\n"),
     ];
     assert_all(&rt, &all, "tiles with a seam");
-    let replies = written(rt.alloc(), b"OK 7\nOK 18\n$GOK 18\n$H")?;
     let report = b"count 2 commits 3\nN00E000 stale\nN00E001 stale\nseams 1\n";
     let all = [
-        ends(&rt, &["serve", m], lines, 0, &replies),
+        serves(&rt, m, &said),
         ends(&rt, &["check", m], b"", 0, report),
+        serves(&rt, m, &[("remove N00E000", "OK 3"), ("elev 1 2", "OK 8")]),
     ];
     assert_all(&rt, &all, "seams of a file");
-    let lines = b"remove N00E000\nelev 1 2\n";
-    assert!(rt; ends(&rt, &["serve", m], lines, 0, b"OK 3\nOK 8\n"));
     fs::remove_file(&rt, m)?;
     fs::remove_file(&rt, west)?;
     fs::remove_file(&rt, east)?;
@@ -140,8 +140,8 @@ fn files_at_their_paths(rt: HostRuntime) -> Result<(), Fail> {
     let first = cleared(&rt, "server_test_first");
     let second = cleared(&rt, "server_test_second");
     let (west, east) = ("N00E000.first.hgt", "N00E000.second.hgt");
-    fs::write(&rt, west, tile(b'G'))?;
-    fs::write(&rt, east, tile(b'H'))?;
+    fs::write(&rt, west, &G)?;
+    fs::write(&rt, east, &H)?;
     let empty = b"count 0 commits 1\nseams 0\n";
     let all = [
         ends(&rt, &["format", first, "3", "1"], b"", 0, b"OK 0\n"),
@@ -152,11 +152,10 @@ fn files_at_their_paths(rt: HostRuntime) -> Result<(), Fail> {
         ends(&rt, &["import", second, east], b"", 0, b"OK 1\n"),
     ];
     assert_all(&rt, &all, "two stores are made");
-    let lines = b"export N00E000\nremove N00E000\n";
-    let replies = written(rt.alloc(), b"OK 18\n$HOK 2\n")?;
+    let said = [("export N00E000", "OK $H"), ("remove N00E000", "OK 2")];
     let kept = b"count 1 commits 2\nN00E000 stale\nseams 0\n";
     let all = [
-        ends(&rt, &["serve", second], lines, 0, &replies),
+        serves(&rt, second, &said),
         ends(&rt, &["check", first], b"", 0, kept),
         ends(
             &rt,
@@ -167,8 +166,7 @@ fn files_at_their_paths(rt: HostRuntime) -> Result<(), Fail> {
         ),
     ];
     assert_all(&rt, &all, "files at their paths");
-    let replies = written(rt.alloc(), b"OK 18\n$G")?;
-    assert!(rt; ends(&rt, &["serve", first], b"export N00E000\n", 0, &replies));
+    assert!(rt; serves(&rt, first, &[("export N00E000", "OK $G")]));
     for path in [first, second, west, east] {
         fs::remove_file(&rt, path)?;
     }
@@ -179,7 +177,7 @@ fn files_at_their_paths(rt: HostRuntime) -> Result<(), Fail> {
 fn a_path_with_no_file(rt: HostRuntime) -> Result<(), Fail> {
     let m = cleared(&rt, "server_test_none");
     let tile = "S01W001.hgt";
-    fs::write(&rt, tile, TILE)?;
+    fs::write(&rt, tile, &A)?;
     let missing = b"mosaic: cannot open server_test_none\n";
     let below = "server_test_none/m";
     let folder = b"mosaic: cannot open server_test_none/m\n";
@@ -219,7 +217,7 @@ fn a_tile_of_another_length(rt: HostRuntime) -> Result<(), Fail> {
         ends(&rt, &["import", m, "N05E005.hgt"], b"", 1, unread),
     ];
     assert_all(&rt, &all, "a tile with no file");
-    fs::write(&rt, tile, &TILE[..17])?;
+    fs::write(&rt, tile, &A[..17])?;
     let is_short = ends(&rt, &["import", m, tile], b"", 1, b"ERR 3 BadLength\n");
     fs::File::create(&rt, tile)?.set_len(1_000_000)?;
     let is_long = ends(&rt, &["import", m, tile], b"", 1, b"ERR 3 BadLength\n");
@@ -325,7 +323,7 @@ fn what_is_no_regular_file(rt: HostRuntime) {
 fn a_file_is_upgraded(rt: HostRuntime) -> Result<(), Fail> {
     let m = cleared(&rt, "server_test_upgraded");
     let tile = "N00E000.upgraded.hgt";
-    fs::write(&rt, tile, TILE)?;
+    fs::write(&rt, tile, &A)?;
     let mut disk = FileDisk::<Brand>::create(&rt, m, 16)?;
     Store::format_1(&mut disk, 3, 1).map_err(|_| "not formatted")?;
     drop(disk);

@@ -8,6 +8,7 @@ use server::{CheckedWriter, Exit, Lengthen, MakeFault, Places, TileFault, carry_
 use std::alloc::{AllocError, Global};
 use std::test::Fail;
 use store::Store;
+use test_tiles::A;
 
 /// Sectors in memory, of which one call fails, by its number from 0. Its contract promises nothing of what they hold.
 #[derive(Drop)]
@@ -318,14 +319,14 @@ const ROWS: [Row; 15] = [
     },
 ];
 
-/// Places without a store, and with one tile: 9 9 9 / 9 1 9 / 9 9 5.
+/// Places without a store, and with one tile.
 fn one_tile(alloc: Global) -> MemoryPlaces<'static> {
     MemoryPlaces {
         alloc,
         path: "m",
         store: None,
         tile: "N00E000.hgt",
-        bytes: super::TILE,
+        bytes: &A,
         accesses: Vec::new(alloc),
     }
 }
