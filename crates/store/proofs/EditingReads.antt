@@ -1,5 +1,5 @@
 -- A command planned by reading the tree.
-use Rattle.std.proofs.Common.{◌≡◌, ◌≢◌, ◌⊎◌, inl, inr, ℕ, false, true, Result, Ok, Err, OnOk, OnErr, IfErr, IsErrOf, List, [], ◌∷◌, Contains, zero, suc, refl, sym, ap, ap₂, ◌∙◌, subst, arith}
+use Rattle.std.proofs.Common.{◌≡◌, ◌≢◌, ℕ, false, true, Result, Ok, Err, OnOk, OnErr, IfErr, IsErrOf, List, [], ◌∷◌, Contains, zero, suc, refl, sym, ap, ap₂, ◌∙◌, subst, arith}
 use Rattle.std.specs.Prelude.{IsTrue}
 use Rattle.disk.specs.Disk.{HasRisen}
 use Rattle.disk.specs.declared.disk.Disk.{Ghosts}
@@ -7,7 +7,7 @@ use Rattle.lattice.specs.Corners.{Corner}
 use Rattle.lattice.specs.declared.point.Point.{Point}
 use Rattle.lattice.specs.Mosaic.{IsMosaic}
 use Rattle.lattice.specs.declared.refusal.Refusal.{Refusal}
-use Rattle.lattice.specs.declared.refusal.Refusal.TheVariants.{BadLine, BadName, BadLength, TileThere, NoTile, Full, Outside, Void, NothingVoid, BadHeight, BadDepth, BadBox, Repeated, TooDeep, Device, NoMemory, Failed, Damaged, Worn, NotAStore, Version, BadSide, BadCapacity, TooSmall, SinkThere, SinksFull, NoSink, NotOld}
+use Rattle.lattice.specs.declared.refusal.Refusal.TheVariants.{Device, Failed, Damaged}
 use Rattle.page_codec.specs.Roots.{RootValue}
 use Rattle.catalogue.specs.Readers.{reads_of}
 use Rattle.catalogue.specs.Reading.{MayRefuse}
@@ -30,37 +30,6 @@ use Rattle.store.specs.TreeStates.{IsInState}
 pub use Rattle.derived.proofs.Uncommitted.{reading}
 use Rattle.store.proofs.HeldTiles.{AreTilesOf, whole_filled}
 use Rattle.store.proofs.Holding.{held}
-
--- a refusal is the disk's or isn't
-pub device_or_not : (r : Refusal) → (r ≡ Device) ⊎ (r ≢ Device)
-device_or_not BadLine = inr (λ e. cc)
-device_or_not BadName = inr (λ e. cc)
-device_or_not BadLength = inr (λ e. cc)
-device_or_not TileThere = inr (λ e. cc)
-device_or_not NoTile = inr (λ e. cc)
-device_or_not Full = inr (λ e. cc)
-device_or_not Outside = inr (λ e. cc)
-device_or_not Void = inr (λ e. cc)
-device_or_not NothingVoid = inr (λ e. cc)
-device_or_not BadHeight = inr (λ e. cc)
-device_or_not BadDepth = inr (λ e. cc)
-device_or_not BadBox = inr (λ e. cc)
-device_or_not Repeated = inr (λ e. cc)
-device_or_not TooDeep = inr (λ e. cc)
-device_or_not SinkThere = inr (λ e. cc)
-device_or_not SinksFull = inr (λ e. cc)
-device_or_not NoSink = inr (λ e. cc)
-device_or_not Device = inl refl
-device_or_not NoMemory = inr (λ e. cc)
-device_or_not Failed = inr (λ e. cc)
-device_or_not Damaged = inr (λ e. cc)
-device_or_not Worn = inr (λ e. cc)
-device_or_not NotAStore = inr (λ e. cc)
-device_or_not Version = inr (λ e. cc)
-device_or_not BadSide = inr (λ e. cc)
-device_or_not BadCapacity = inr (λ e. cc)
-device_or_not TooSmall = inr (λ e. cc)
-device_or_not NotOld = inr (λ e. cc)
 
 -- where only the disk refuses a read, any other refusal is of no read
 pub none_refused : (r : Refusal) → r ≢ Device → IfErr (reads_of {T = Unit {0}} (Err r)) (λ x. x ≡ Device) → reads_of {T = Unit {0}} (Err r) ≡ Ok tt

@@ -1,5 +1,6 @@
 -- Calls that stage and commit nothing, one after another.
-use Rattle.std.proofs.Common.{Result, Ok, Err, ap, ◌∙◌}
+use Rattle.std.proofs.Common.{◌≡◌, Result, Ok, Err, ap, sym, subst, ◌∙◌}
+use Rattle.std.specs.Prelude.{IsErrAnd}
 use Rattle.disk.specs.declared.disk.Disk.{Ghosts}
 use Rattle.lattice.specs.declared.refusal.Refusal.{Refusal}
 use Rattle.lattice.specs.declared.refusal.Refusal.TheVariants.{Device}
@@ -17,6 +18,12 @@ module _ {D : Type 0} (g : Ghosts D) where
     sinks = second.sinks ∙ first.sinks;
     still_staged = λ c was. second.still_staged c (first.still_staged c was);
   }
+
+  -- .. where the second was refused, and the refusal handed on
+  pub stages_refused : {T U : Type 0} (old mid new : Tree D g) (x : T) (result : Result U Refusal) (r : Refusal) → IsErrAnd result (λ why. why ≡ r) → StagesOnly g old mid (Ok x) → StagesOnly {T = U} g mid new (Err r)
+      → StagesOnly g old new result
+  stages_refused {T} {U} old mid new x result r handed first second =
+      subst (λ (answer : Result U Refusal). StagesOnly g old new answer) (sym (refused_as result r handed)) (stages_on old mid new x (Err r) first second)
 
   pub stages_ok : {T U : Type 0} (old new : Tree D g) (x : T) (y : U) → StagesOnly g old new (Ok x) → StagesOnly g old new (Ok y)
   stages_ok old new x y done = record {

@@ -6,6 +6,7 @@ use Rattle.std.specs.Option.{is_none}
 use Rattle.std.proofs.lemmas.Bool.{or_left, or_right, both_ways}
 use Rattle.std.proofs.lemmas.List.{length-map, get_or-map, get_or_default}
 use Rattle.std.proofs.lemmas.List.Elements.{All-nil, All-cons, All-head, All-tail, All-filter, All-contains, All-contains_itself}
+use Rattle.std.proofs.Math.Bool.{or-false}
 use Rattle.lattice.specs.Corners.{Corner, is_before, same_corner}
 use Rattle.lattice.specs.Mosaic.{Tile, Mosaic, IsMosaic}
 use Rattle.lattice.proofs.CornerOrder.{same_from, before_not_same, after_not_same}
@@ -168,10 +169,6 @@ listed_where (u ∷ rest) t rising (suc k, below, here) =
 
 -- ---- from one commit to the next
 
-or_false : (b : Bool) → (b || false) ≡ b
-or_false true = refl
-or_false false = refl
-
 if_some : (P Q : KeptPlanes → Type 0) → ((k : KeptPlanes) → P k → Q k) → (o : Option KeptPlanes) → IfSome o P → IfSome o Q
 if_some P Q then_ (Some k) is = then_ k is
 if_some P Q then_ None is = tt
@@ -225,7 +222,7 @@ module _ (n capacity : ℕ) (m new : Mosaic) (command : Command) (was now : List
           by false fresh =
               let u = keep.fresh t there fresh in
               ap (λ b. list_any (same_corner t.corner) (stale_corners was) || b) fresh
-              ∙ or_false (list_any (same_corner t.corner) (stale_corners was))
+              ∙ or-false (list_any (same_corner t.corner) (stale_corners was))
               ∙ ap (λ (c : Corner). list_any (same_corner c) (stale_corners was)) (sym u.1.1.0)
               ∙ listed_where was u.0 (rising_stored n was m are_was valid) u.1.0
               ∙ ap is_none u.1.1.1

@@ -1,3 +1,4 @@
+pub mod AskedTrees
 pub mod Committed
 pub mod EditingReads
 pub mod EditingSteps

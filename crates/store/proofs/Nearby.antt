@@ -1,8 +1,9 @@
 -- Kept planes given up near touched tiles, corner by corner and change by change.
 use Rattle.std.proofs.Common.{◌≡◌, ℕ, ◌+◌, ◌<◌, ◌≤◌, Bool, true, false, ◌||◌, ◌&&◌, List, length, take, get_or, take_all, Contains, refl, sym, ap, ◌∙◌, subst}
 use Rattle.std.specs.List.{list_any}
-use Rattle.std.proofs.lemmas.Bool.{and_from, false_from_ne_true}
+use Rattle.std.proofs.lemmas.Bool.{and_from}
 use Rattle.std.proofs.lemmas.List.Folds.{list_any_at, list_any_none, list_any_more}
+use Rattle.std.proofs.Math.Bool.{or-false, and-true, and-false}
 use Rattle.disk.specs.declared.disk.Disk.{Ghosts}
 use Rattle.lattice.specs.Corners.{Corner, same_corner}
 use Rattle.lattice.proofs.CornerOrder.{same_says, same_from}
@@ -15,22 +16,6 @@ use Rattle.store.specs.Staling.{Stales}
 use Rattle.store.proofs.Finding.{stored_corner}
 use Rattle.store.proofs.InMemory.{corners_kept}
 use Rattle.store.proofs.Staled.{stales_on, stales_as}
-
-or_false : (b : Bool) → (b || false) ≡ b
-or_false true = refl
-or_false false = refl
-
-and_true : (b : Bool) → (b && true) ≡ b
-and_true true = refl
-and_true false = refl
-
-and_false : (b : Bool) → (b && false) ≡ false
-and_false true = refl
-and_false false = refl
-
-pub same_bools : (a b : Bool) → (a ≡ true → b ≡ true) → (b ≡ true → a ≡ true) → a ≡ b
-same_bools true b there back = sym (there refl)
-same_bools false b there back = sym (false_from_ne_true b (λ e. let contrary : false ≡ true = back e in cc))
 
 -- ---- near one corner
 
@@ -63,7 +48,7 @@ module _ {D : Type 0} (g : Ghosts D) (touched : Corner) (corners : List Corner) 
       stales_as g (λ p. near_first touched (take i corners) p || same_corner p d) (near_first touched (take (i + 1) corners)) old new
       (λ t there.
       let p = t.corner in
-      sym (more p ∙ ap (λ b. near_first touched (take i corners) p || (same_corner p d && b)) near ∙ ap (λ b. near_first touched (take i corners) p || b) (and_true (same_corner p d))))
+      sym (more p ∙ ap (λ b. near_first touched (take i corners) p || (same_corner p d && b)) near ∙ ap (λ b. near_first touched (take i corners) p || b) (and-true (same_corner p d))))
       (stales_on g (near_first touched (take i corners)) (λ p. same_corner p d) old mid new so drops)
 
   pub near_same : are_neighbours touched d ≡ false → Stales g (near_first touched (take (i + 1) corners)) old mid
@@ -71,8 +56,8 @@ module _ {D : Type 0} (g : Ghosts D) (touched : Corner) (corners : List Corner) 
       stales_as g (near_first touched (take i corners)) (near_first touched (take (i + 1) corners)) old mid
       (λ t there.
       let p = t.corner in
-      sym (more p ∙ ap (λ b. near_first touched (take i corners) p || (same_corner p d && b)) far ∙ ap (λ b. near_first touched (take i corners) p || b) (and_false (same_corner p d))
-      ∙ or_false (near_first touched (take i corners) p)))
+      sym (more p ∙ ap (λ b. near_first touched (take i corners) p || (same_corner p d && b)) far ∙ ap (λ b. near_first touched (take i corners) p || b) (and-false (same_corner p d))
+      ∙ or-false (near_first touched (take i corners) p)))
       so
 
 module _ {D : Type 0} (g : Ghosts D) (old new : Tree D g) where
@@ -107,7 +92,7 @@ module _ {D : Type 0} (g : Ghosts D) (test : Corner → Bool) (corners : List Co
   tested_same fails =
       stales_as g (near_tested test (take i corners)) (near_tested test (take (i + 1) corners)) old mid
       (λ t there.
-      sym (more_tested t.corner ∙ ap (λ b. near_tested test (take i corners) t.corner || (b && are_neighbours d t.corner)) fails ∙ or_false (near_tested test (take i corners) t.corner)))
+      sym (more_tested t.corner ∙ ap (λ b. near_tested test (take i corners) t.corner || (b && are_neighbours d t.corner)) fails ∙ or-false (near_tested test (take i corners) t.corner)))
       so
 
 -- all of them

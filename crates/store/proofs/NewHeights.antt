@@ -1,6 +1,6 @@
 -- New heights of points: what they make of samples, page by page and all together.
-use Rattle.std.proofs.Common.{◌≡◌, ◌≢◌, ◌⊎◌, inl, inr, ⊎_elim, ℕ, zero, suc, ◌+◌, ◌*◌, ◌/◌, ◌<◌, ◌≤◌, ℤ, pos, Bool, true, false, cond, List, [], ◌∷◌, ◌++◌, length, get_or, map, set, take, take_all, Contains, refl, sym, ap, ap₂, ◌∙◌, subst, arith}
-use Rattle.std.specs.Prelude.{Option, All, IsTrue}
+use Rattle.std.proofs.Common.{◌≡◌, ◌≢◌, ◌⊎◌, inl, inr, ⊎_elim, ℕ, suc, ◌+◌, ◌*◌, ◌/◌, ◌<◌, ◌≤◌, ℤ, pos, Bool, true, false, cond, List, [], ◌∷◌, ◌++◌, length, get_or, set, take, take_all, Contains, refl, sym, ap, ◌∙◌, subst, arith}
+use Rattle.std.specs.Prelude.{All, IsTrue}
 use Rattle.std.proofs.lemmas.Bool.{false_from_ne_true}
 use Rattle.std.proofs.lemmas.List.{get_or_default, length-set, take_more}
 use Rattle.std.proofs.lemmas.List.Elements.{All-contains, All-more, All-weaker}
@@ -8,13 +8,15 @@ use Rattle.hgt.specs.Bytes.{high_byte, low_byte}
 use Rattle.lattice.specs.Corners.{Corner, is_corner}
 use Rattle.lattice.specs.Ground.{same_point}
 use Rattle.lattice.specs.Lattice.{IsIndexOf, point_of}
-use Rattle.lattice.specs.Mosaic.{Tile, Mosaic, IsTile, IsSample}
+use Rattle.lattice.specs.Mosaic.{Mosaic, IsSample}
 use Rattle.lattice.specs.declared.point.Point.{Point}
 use Rattle.lattice.proofs.SamePoints.{same_point_says, same_point_from}
 use Rattle.lattice.proofs.Samples.{index_of_point, index_unique, point_at_index}
+use Rattle.lattice.proofs.Multiples.{some_side}
 use Rattle.edits.specs.declared.edit.NewHeight.{NewHeight}
 use Rattle.edits.specs.Edits.{with_height, with_heights}
-use Rattle.edits.specs.Effect.{changed_from, edited}
+use Rattle.edits.specs.Effect.{edited}
+use Rattle.edits.proofs.Edited.{edited_none, edited_twice}
 use Rattle.cow_tree.specs.Stored.{IsPage, StoredTile}
 use Rattle.store.specs.Underway.{page_sample, heightened, stored_sample, IsEdited, IsPointSettled, IsSettled, Advances}
 use Rattle.store.proofs.Pages.{with_bytes, page_with_bytes}
@@ -22,33 +24,8 @@ use Rattle.store.proofs.VoidPages.{sample_put, sample_beside}
 
 -- ---- one edit after another
 
-changed_twice : (f h : ℕ → ℤ → ℤ) (e : ℕ) (l : List ℤ) → changed_from h e (changed_from f e l) ≡ changed_from (λ i s. h i (f i s)) e l
-changed_twice f h e [] = refl
-changed_twice f h e (s ∷ rest) = ap (λ (l : List ℤ). h e (f e s) ∷ l) (changed_twice f h (e + 1) rest)
-
-changed_never : (e : ℕ) (l : List ℤ) → changed_from (λ i s. s) e l ≡ l
-changed_never e [] = refl
-changed_never e (s ∷ rest) = ap (λ (l : List ℤ). s ∷ l) (changed_never (e + 1) rest)
-
-module _ (n : ℕ) where
-  abbrev tile_edited : (Point → ℤ → ℤ) → Tile → Tile
-  tile_edited f t = record { corner = t.corner; samples = changed_from (λ e s. f (point_of n t.corner e) s) 0 t.samples }
-
-  tiles_twice : (f h : Point → ℤ → ℤ) (tiles : List Tile) → map (tile_edited h) (map (tile_edited f) tiles) ≡ map (tile_edited (λ p s. h p (f p s))) tiles
-  tiles_twice f h [] = refl
-  tiles_twice f h (t ∷ rest) =
-      ap₂ (λ (l : List ℤ) (ts : List Tile). record { corner = t.corner; samples = l } ∷ ts)
-      (changed_twice (λ e s. f (point_of n t.corner e) s) (λ e s. h (point_of n t.corner e) s) 0 t.samples) (tiles_twice f h rest)
-
-  tiles_never : (tiles : List Tile) → map (tile_edited (λ p s. s)) tiles ≡ tiles
-  tiles_never [] = refl
-  tiles_never (t ∷ rest) = ap₂ (λ (l : List ℤ) (ts : List Tile). record { corner = t.corner; samples = l } ∷ ts) (changed_never 0 t.samples) (tiles_never rest)
-
-edited_twice : (f h : Point → ℤ → ℤ) (m : Mosaic) → edited h (edited f m) ≡ edited (λ p s. h p (f p s)) m
-edited_twice f h m = ap (λ (ts : List Tile). record { side = m.side; sinks = m.sinks; tiles = ts }) (tiles_twice m.side f h m.tiles)
-
 pub heights_made : (heights : List NewHeight) (m : Mosaic) → with_heights heights m ≡ edited (heightened heights) m
-heights_made [] m = ap (λ (ts : List Tile). record { side = m.side; sinks = m.sinks; tiles = ts }) (sym (tiles_never m.side m.tiles))
+heights_made [] m = sym (edited_none m)
 heights_made (h ∷ later) m = heights_made later (with_height h.point h.metres m) ∙ edited_twice (λ p s. cond (same_point p h.point) h.metres s) (heightened later) m
 
 -- ---- what becomes of one sample
@@ -83,11 +60,6 @@ more_heights [] h p s = refl
 more_heights (x ∷ rest) h p s = more_heights rest h p (cond (same_point p x.point) x.metres s)
 
 -- ---- the heights of a page, one after another
-
--- where there are samples there is a side
-some_side : (n e : ℕ) → e < n * n → 0 < n
-some_side zero e inside = absurd (omega (arith, inside))
-some_side (suc n) e inside = omega arith
 
 pub length_with_bytes : (j : ℕ) (s : ℤ) (page : List ℕ) → length (with_bytes j s page) ≡ length page
 length_with_bytes j s page = length-set (set page (2 * j) (high_byte s)) (2 * j + 1) (low_byte s) ∙ length-set page (2 * j) (high_byte s)

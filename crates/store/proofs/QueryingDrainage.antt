@@ -1,36 +1,29 @@
 -- What a query of drainage leaves, by the tree before and after its reads.
-use Rattle.std.proofs.Common.{◌≡◌, ◌≢◌, ◌↔◌, ℕ, ℤ, ◌≤◌, false, IsTrue, List, length, map, refl, sym, ap, ◌∙◌, subst, arith}
+use Rattle.std.proofs.Common.{◌≡◌, ◌↔◌, ℕ, ◌≤◌, false, List, length, map, refl, sym, ap, ◌∙◌, subst, arith}
 use Rattle.std.proofs.lemmas.List.{length-map}
-use Rattle.std.specs.Prelude.{None, Result, Ok, Err, IsOk, IfOk, IsErrOf, IfErr, OnOk, OnErr, MatchResult, Vec}
+use Rattle.std.specs.Prelude.{None, Result, Ok, Err, IsOk, IfErr, OnOk, OnErr, MatchResult, Vec}
 use Rattle.disk.specs.declared.disk.Disk.{Ghosts}
 use Rattle.lattice.specs.Corners.{Corner}
-use Rattle.lattice.specs.Ground.{is_ground, terrain}
-use Rattle.lattice.specs.Height.{height_of}
 use Rattle.lattice.specs.Limits.{most_tiles}
 use Rattle.lattice.specs.Mosaic.{Mosaic}
-use Rattle.lattice.specs.declared.height.Height.TheVariants as height
 use Rattle.lattice.specs.declared.point.Point.{Point}
 use Rattle.lattice.specs.declared.refusal.Refusal.{Refusal}
-use Rattle.lattice.specs.declared.refusal.Refusal.TheVariants.{Outside, Void, Device, Damaged}
+use Rattle.lattice.specs.declared.refusal.Refusal.TheVariants.{Device}
 use Rattle.page_codec.specs.Entries.{EntryValue}
 use Rattle.page_codec.specs.Roots.{RootValue, IsRoot}
-use Rattle.catalogue.specs.Asked.{IsOwnRefusal}
 use Rattle.catalogue.specs.Tiles.{corners_of}
 use Rattle.engine.specs.State.{State, failing}
 use Rattle.cow_tree.specs.Reading.{mosaic_of, HasOnlyRead}
 use Rattle.cow_tree.specs.Trees.{disk_of, root_of, has_failed, corners_of as corners_under}
 use Rattle.cow_tree.specs.declared.tree.Tree.{Tree}
-use Rattle.drainage.specs.Asking.{IsHeldByNone, may_refuse}
+use Rattle.drainage.specs.Asking.{IsHeldByNone}
 use Rattle.drainage.specs.Between.{IsHeldOf}
 use Rattle.drainage.specs.declared.drainage_cache.DrainageCache.{DrainageCache}
-use Rattle.drainage.proofs.Answered.{told_of_levels}
-use Rattle.flow_d8.specs.Drainage.{AreFilledLevels}
-use Rattle.watershed.specs.Questions.{IsAnswered, IsUnanswered}
 use Rattle.engine.specs.Engines.{items_in}
 use Rattle.store.specs.TreeStates.{IsInState}
 use Rattle.store.proofs.InMemory.{corners_are}
 use Rattle.store.specs.Water.{IsHolding}
-use Rattle.store.proofs.Querying.{valid_at, mosaic_at, same_mosaic_read, true_where, still_at, failing_at}
+use Rattle.store.proofs.Querying.{mosaic_at, same_mosaic_read, true_where, still_at, failing_at}
 
 -- an answer with a list for the vector that holds it
 pub listed : {X A : Type 0} (Answers : Result (List X) Refusal → Type 0) (result : Result (Vec X A) Refusal) → MatchResult result (λ xs. Answers (Ok xs.items)) (λ r. Answers (Err r)) → Answers (items_in result)
@@ -57,20 +50,6 @@ module _ {D : Type 0} (g : Ghosts D) (old new : Tree D g) (works : has_failed ol
   held_here T p is =
       subst (λ (n : ℕ). T ↔ IsHeldByNone n (corners_of here) p) (sym (at.sound works).holds.side_is)
       (subst (λ (cs : List Corner). T ↔ IsHeldByNone (root_of old).side cs p) (corners_are g old works s at) is)
-
-  -- what is told of the point by every function that gives the filled levels
-  pub told_here : {T : Type 0} (p : Point) (Says : Mosaic → T → (Point → ℤ) → Type 0) (result : Result T Refusal) → IfErr result IsOwnRefusal → result ≢ Err Damaged
-      → IfOk result (λ x. (level : Point → ℤ) → AreFilledLevels (terrain (mosaic_of g old)) level → Says (mosaic_of g old) x level)
-      → (IsOk result → IsTrue (is_ground (mosaic_of g old) p)) → (IsErrOf result Outside ↔ IsHeldByNone (root_of old).side (corners_under old) p)
-      → (IsErrOf result Void → height_of (mosaic_of g old) p ≡ height.Void) → IfErr result (λ r. IsTrue (may_refuse r))
-      → MatchResult result (λ x. IsAnswered here p (Says here x)) (IsUnanswered here p)
-  told_here p Says result own sound found on outside void may =
-      told_of_levels here (valid_at g old works s at) p (Says here) result own sound
-      (of_here (λ (m : Mosaic). IfOk result (λ x. (level : Point → ℤ) → AreFilledLevels (terrain m) level → Says m x level)) found)
-      (of_here (λ (m : Mosaic). IsOk result → IsTrue (is_ground m p)) on)
-      (held_here (IsErrOf result Outside) p outside)
-      (of_here (λ (m : Mosaic). IsErrOf result Void → height_of m p ≡ height.Void) void)
-      may
 
   -- what is held then is right for the state's mosaic
   pub right_here : (held : DrainageCache) → IsHeldOf (mosaic_of g new) held → IsHeldOf here held

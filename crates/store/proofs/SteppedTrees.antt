@@ -17,6 +17,7 @@ use Rattle.engine.specs.Steps.{stepped, step_in_doubt}
 use Rattle.engine.specs.Told.{Knows, may_refuse_step}
 use Rattle.engine.specs.declared.event.Event.TheVariants as ask
 use Rattle.engine.specs.declared.event.Reply.TheVariants as reply
+use Rattle.engine.proofs.Questions.{device_or_not}
 use Rattle.cow_tree.specs.Layout.{Stands}
 use Rattle.cow_tree.specs.Stored.{Stored}
 use Rattle.cow_tree.specs.Trees.{disk_of, root_of, has_failed, sinks_of, staged_in, IsAt as IsTreeAt}
@@ -30,7 +31,6 @@ use Rattle.store.specs.Standing.{Holds, StandsFor}
 use Rattle.store.specs.States.{StandsForState, IsStateOf}
 use Rattle.store.specs.StoreState.{known_by}
 use Rattle.store.specs.TreeStates.{IsInState}
-use Rattle.store.proofs.EditingReads.{device_or_not}
 use Rattle.store.proofs.Ended as ended
 use Rattle.store.proofs.InMemory.{is_working}
 use Rattle.store.proofs.Opened.{in_state}

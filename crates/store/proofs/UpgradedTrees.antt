@@ -17,6 +17,7 @@ use Rattle.page_codec.specs.Roots.{RootValue, format_of}
 use Rattle.engine.specs.Outcomes.{Stays}
 use Rattle.engine.specs.State.{Contents, State, last_number, if_numbered}
 use Rattle.engine.specs.Steps.{IsOld, UpgradesNot as AnswersNot, upgraded}
+use Rattle.engine.proofs.Questions.{device_or_not}
 use Rattle.cow_tree.specs.Layout.{Stands}
 use Rattle.cow_tree.specs.Stored.{Stored}
 use Rattle.cow_tree.specs.Trees.{disk_of, root_of, has_failed, corners_of, sinks_of, records_due, HasStaged, staged_in, IsAt as IsTreeAt}
@@ -28,7 +29,6 @@ use Rattle.derived.specs.Clean.{IsClean}
 use Rattle.store.specs.TreeStates.{IsInState}
 use Rattle.store.specs.Upgraded.{IsUpgraded, has_room, may_refuse_upgrade, upgrade_ending}
 use Rattle.store.proofs.EditingSteps.{given_up, in_memory}
-use Rattle.store.proofs.EditingReads.{device_or_not}
 use Rattle.store.proofs.Ended as ended
 use Rattle.store.proofs.InMemory.{is_working}
 use Rattle.cow_tree.proofs.ReadOnly.{never_refused}

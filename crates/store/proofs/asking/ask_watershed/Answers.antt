@@ -5,32 +5,28 @@ use Rattle.lattice.specs.Mosaic.{Mosaic}
 use Rattle.lattice.specs.declared.refusal.Refusal.{Refusal}
 use Rattle.engine.specs.State.{State}
 use Rattle.flow_d8.specs.FlowPath.{IsInWatershed}
+use Rattle.watershed.specs.Questions.{IsAnswered}
 use Rattle.watershed.specs.Runs.{AreRuns}
 use Rattle.watershed.specs.declared.runs.Run.{Run}
+use Rattle.engine.specs.Engines.{items_in}
 use Rattle.engine.specs.Outcomes.{Sheds}
 use Rattle.engine.proofs.Answered.{sheds}
-use Rattle.catalogue.proofs.Asking.{asked_risen, asked_works, asked_fails, asked_quiet}
-use Rattle.engine.specs.Engines.{items_in}
+use Rattle.cow_tree.specs.Reading.{mosaic_of}
 use Rattle.cow_tree.specs.Trees.{disk_of, has_failed}
-use Rattle.store.specs.Labelling.{IsSure}
 use Rattle.store.specs.Queried.{IsQueried}
 use Rattle.derived.specs.Clean.{IsClean}
 use Rattle.store.specs.Water.{IsHolding}
-use Rattle.store.proofs.Labelled.{still_sure}
-use Rattle.store.proofs.Querying.{stays_at, still_clean, queried, fails_so}
-use Rattle.store.proofs.QueryingDrainage.{right_here, listed, read_answered, told_here}
+use Rattle.store.proofs.Querying.{still_clean}
+use Rattle.store.proofs.QueryingDrainage.{listed}
+use Rattle.store.proofs.AskedTrees.{of_levels, asked_queried, asked_outcome}
 use Rattle.store.proofs.asking.ask_watershed.Goals as goal
 
 pub returns-clause-reads : goal.returns-clause-reads
 returns-clause-reads g c =
-    let old = c.args.tree.now in
     let works = c.requires.works in
-    let after = c.watershed.new.samples in
-    let new = after.tree.now in
-    let result = c.watershed.result in
     let asked = c.watershed.ensures.asked in
-    let is : IsQueried g.D.Disk old new result = queried g.D.Disk old new works asked.reads.keeps.1 result (asked_risen _ _ after result asked) (asked_works _ _ after result asked works) (asked_fails _ _ after result asked)
-    (asked_quiet _ _ after result asked works) in
+    let is : IsQueried g.D.Disk c.args.tree.now c.watershed.new.samples.tree.now c.watershed.result = asked_queried g.D.Disk _ _ works _ _ c.watershed.new.samples c.watershed.result asked
+    (record { ready = works; works = (λ is. is, λ is. is); risen = λ is. is; keeps = asked.reads.keeps.1 }) in
     search rules
 
 pub returns-clause-clean : goal.returns-clause-clean
@@ -43,19 +39,17 @@ returns-clause-clean g c =
 pub returns-clause-outcome : goal.returns-clause-outcome
 returns-clause-outcome g c =
     let d = g.D.Disk in
+    let p = c.args.point in
     let old = c.args.tree.now in
     let new = c.watershed.new.samples.tree.now in
     let held = c.watershed.new.held in
     let works = c.requires.works in
     let ensures = c.watershed.ensures in
     let asked = ensures.asked in
-    let keeps = asked.reads.keeps.1 in
     let result : Result (Vec Run) Refusal = c.watershed.result in
-    let is : g.P.Premise.holds → d.honest (disk_of new) → (s : State) → IsHolding d old c.args.held.now s → (t : State) × (IsHolding d new held t × Sheds s c.args.point (items_in result) t) = λ holds honest s at.
-    let in_state = at.in_state in
-    let sure : IsSure d new × g.P.Premise.holds = (still_sure d old new works keeps honest s in_state, holds) in
-    read_answered d old new works keeps honest s in_state held (right_here d old new works keeps honest s in_state held (ensures.held sure)) (λ (s : State) (r : Result (Vec Run) Refusal) (t : State). Sheds s c.args.point (items_in r) t) result asked.read asked.passed (asked.reads.ready works) asked.reads.unready
-    (asked.reads.only_device works) (fails_so d old new works keeps honest s in_state)
-    (λ unread. listed (λ r. Sheds s c.args.point r s) result (sheds s s (stays_at d old works s in_state) c.args.point result (told_here d old new works keeps honest s in_state c.args.point (λ (m : Mosaic) runs level. AreRuns (IsInWatershed (terrain m) level c.args.point) runs.items) result (asked.own unread) (asked.sound sure works)
-    (ensures.runs sure) (ensures.on_ground sure) ensures.outside (ensures.void sure) ensures.causes))) in
+    let is : g.P.Premise.holds → d.honest (disk_of new) → (s : State) → IsHolding d old c.args.held.now s → (t : State) × (IsHolding d new held t × Sheds s p (items_in result) t) = λ holds.
+    asked_outcome d old new works _ _ c.watershed.new.samples result asked
+    (record { ready = works; works = (λ is. is, λ is. is); risen = λ is. is; keeps = asked.reads.keeps.1 })
+    p (λ (m : Mosaic) runs. IsAnswered m p (λ level. AreRuns (IsInWatershed (terrain m) level p) runs.items)) (λ honest. of_levels _ p (λ runs level. AreRuns (IsInWatershed (terrain (mosaic_of d old)) level p) runs.items) result (ensures.runs honest) (ensures.on_ground honest)) ensures.outside ensures.void ensures.causes
+    c.args.held.now held ensures.held (λ (s : State) (r : Result (Vec Run) Refusal) (t : State). Sheds s p (items_in r) t) (λ s t fails. fails) (λ s stays is. listed (λ r. Sheds s p r s) result (sheds s s stays p result is)) (λ sure. (sure, holds)) in
     search rules

@@ -1,14 +1,11 @@
-use Rattle.std.proofs.Common.{◌≡◌, ◌+◌, ◌<◌, ◌≤◌, ◌*◌, ◌-◌, ◌/◌, ℕ, below_more, Contains, List, Result, Ok, Err, vec_len, sym, ap, ◌∙◌, subst, arith}
+use Rattle.std.proofs.Common.{◌≡◌, ◌<◌, ◌≤◌, ◌*◌, ◌-◌, ℕ, below_more, Contains, List, Result, Ok, vec_len, sym, ap, ◌∙◌, subst, arith}
 use Rattle.lattice.specs.Corners.{Corner}
-use Rattle.lattice.specs.Mosaic.{Mosaic}
 use Rattle.lattice.specs.declared.refusal.Refusal.{Refusal}
 use Rattle.page_codec.specs.Roots.{RootValue}
 use Rattle.page_codec.specs.Sizes.{pages_of}
-use Rattle.cow_tree.specs.Stored.{StoredTile}
-use Rattle.cow_tree.specs.Trees.{root_of, corners_of, staged_in}
-use Rattle.store.specs.Editing.{StagesOnly}
-use Rattle.store.specs.Underway.{filled, IsSettled, IsUnderway, Advances, Settles}
-use Rattle.store.proofs.EditingSteps.{refused_as, stages_on}
+use Rattle.cow_tree.specs.Trees.{root_of, staged_in}
+use Rattle.store.specs.Underway.{filled, IsSettled, IsUnderway, Settles}
+use Rattle.store.proofs.EditingSteps.{stages_on, stages_refused}
 use Rattle.store.proofs.Underway.{advances_on}
 use Rattle.store.proofs.voids.fill_tile.Goals as goal
 
@@ -32,14 +29,7 @@ fill_page-requires-clause-index g c =
 
 pub returns-in_err-fill_page-clause-stages : goal.returns-in_err-fill_page-clause-stages
 returns-in_err-fill_page-clause-stages g c =
-    let d = g.D.Disk in
-    let old = c.args.tree.now in
-    let mid = c.loop-index.tree in
-    let new = c.fill_page.new.tree in
-    let r : Refusal = c.in_err-fill_page.field-0.0 in
-    let err : Result (Unit {0}) Refusal = Err r in
-    subst (λ (result : Result (Unit {0}) Refusal). StagesOnly d old new result) (sym (refused_as c.from_residual.result r c.from_residual.ensures.1))
-    (stages_on d old mid new tt err c.loop-index.invariant.stages c.in_err-fill_page.ensures.stages)
+    stages_refused g.D.Disk c.args.tree.now c.loop-index.tree c.fill_page.new.tree tt c.from_residual.result c.in_err-fill_page.field-0.0 c.from_residual.ensures.1 c.loop-index.invariant.stages c.in_err-fill_page.ensures.stages
 
 pub loop-index-preserved : goal.loop-index-preserved
 loop-index-preserved g c =

@@ -1,15 +1,12 @@
-use Rattle.std.proofs.Common.{◌≡◌, ◌+◌, ◌<◌, ◌≤◌, ◌*◌, ◌-◌, ℕ, All, Contains, List, length, get_or, take, take_all, Result, Ok, Err, vec_len, sym, ap, ◌∙◌, subst}
+use Rattle.std.proofs.Common.{◌≡◌, ◌*◌, ◌-◌, ℕ, All, Contains, List, take, take_all, Result, Ok, vec_len, sym, ap, subst}
 use Rattle.std.proofs.lemmas.List.Elements.{All-more, All-weaker}
 use Rattle.lattice.specs.Corners.{Corner}
-use Rattle.lattice.specs.Mosaic.{Mosaic}
 use Rattle.lattice.specs.declared.refusal.Refusal.{Refusal}
 use Rattle.page_codec.specs.Roots.{RootValue}
-use Rattle.cow_tree.specs.Stored.{StoredTile}
 use Rattle.cow_tree.specs.Trees.{root_of, corners_of, staged_in, HasStaged}
-use Rattle.store.specs.Editing.{StagesOnly}
 use Rattle.store.specs.Underway.{filled, AreRimVoids, IsSettled, IsUnderway, Advances}
 use Rattle.store.specs.declared.rims.RimVoids.{RimVoids}
-use Rattle.store.proofs.EditingSteps.{refused_as, stages_on}
+use Rattle.store.proofs.EditingSteps.{stages_on, stages_refused}
 use Rattle.store.proofs.Underway.{advances_on}
 use Rattle.store.proofs.voids.fill_tiles.Goals as goal
 
@@ -30,14 +27,7 @@ fill_tile-requires-clause-whole g c =
 
 pub returns-in_err-fill_tile-clause-stages : goal.returns-in_err-fill_tile-clause-stages
 returns-in_err-fill_tile-clause-stages g c =
-    let d = g.D.Disk in
-    let old = c.args.tree.now in
-    let mid = c.loop-rim.tree in
-    let new = c.fill_tile.new.tree in
-    let r : Refusal = c.in_err-fill_tile.field-0.0 in
-    let err : Result (Unit {0}) Refusal = Err r in
-    subst (λ (result : Result (Unit {0}) Refusal). StagesOnly d old new result) (sym (refused_as c.from_residual.result r c.from_residual.ensures.1))
-    (stages_on d old mid new tt err c.loop-rim.invariant.stages c.in_err-fill_tile.ensures.stages)
+    stages_refused g.D.Disk c.args.tree.now c.loop-rim.tree c.fill_tile.new.tree tt c.from_residual.result c.in_err-fill_tile.field-0.0 c.from_residual.ensures.1 c.loop-rim.invariant.stages c.in_err-fill_tile.ensures.stages
 
 pub loop-rim-preserved : goal.loop-rim-preserved
 loop-rim-preserved g c =

@@ -23,7 +23,7 @@ use Rattle.derived.specs.Uncommitted.{CommitsNothing}
 use Rattle.store.specs.Underway.{filled, AreRimVoids, IsSettled, IsUnderway, Advances}
 use Rattle.store.specs.declared.rims.RimVoids.{RimVoids}
 use Rattle.store.proofs.EditingReads.{reading, risen_read, fails_read, works_read}
-use Rattle.store.proofs.EditingSteps.{refused_as, stages_on}
+use Rattle.store.proofs.EditingSteps.{refused_as, stages_on, stages_refused}
 use Rattle.store.proofs.Querying.{true_where}
 use Rattle.store.proofs.Underway.{whole_pages}
 use Rattle.store.proofs.voids.stage_voids.Goals as goal
@@ -83,13 +83,10 @@ returns-in_err-prepare_tiles-clause-stages g c =
     let old = c.args.tree.now in
     let mid = c.read_rims.new.samples in
     let new = c.prepare_tiles.new.tree in
-    let r : Refusal = c.in_err-prepare_tiles.field-0.0 in
-    let err : Result (Unit {0}) Refusal = Err r in
     let reads = c.in_ok-rims.ensures.reads in
     let ok : Result (Unit {0}) Refusal = Ok tt in
     let first = only_read d old mid ok reads.keeps (reading d old mid reads.keeps ok (λ is. never_refused tt Device is) (λ is. absurd (never_refused tt Device is)) (reads.ready c.requires.works)) in
-    subst (λ (result : Result (Unit {0}) Refusal). StagesOnly d old new result) (sym (refused_as c.from_residual-in_err-prepare_tiles.result r c.from_residual-in_err-prepare_tiles.ensures.1))
-    (stages_on d old mid new tt err first c.in_err-prepare_tiles.ensures.prepares.stages)
+    stages_refused d old mid new tt c.from_residual-in_err-prepare_tiles.result c.in_err-prepare_tiles.field-0.0 c.from_residual-in_err-prepare_tiles.ensures.1 first c.in_err-prepare_tiles.ensures.prepares.stages
 
 pub returns-in_err-prepare_tiles-clause-refused : goal.returns-in_err-prepare_tiles-clause-refused
 returns-in_err-prepare_tiles-clause-refused g c =

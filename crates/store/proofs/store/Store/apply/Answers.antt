@@ -1,5 +1,5 @@
 use Rattle.std.proofs.Common.{◌≡◌, ⊎_elim, inl, inr, ℕ, ◌<◌, false, true, List, All, refl, sym, ap, ap₂, ◌∙◌, subst, arith}
-use Rattle.std.specs.Prelude.{Result, Ok, Err, IfErr, IsTrue}
+use Rattle.std.specs.Prelude.{Result, Ok, Err, IsTrue}
 use Rattle.std.proofs.lemmas.Bool.{both_ways}
 use Rattle.std.proofs.lemmas.Result.{IfErr-weaker}
 use Rattle.lattice.specs.Corners.{Corner, is_corner}
@@ -10,6 +10,7 @@ use Rattle.page_codec.specs.Formats.{number_of}
 use Rattle.page_codec.specs.Roots.{RootValue}
 use Rattle.engine.specs.Told.{WritesFew}
 use Rattle.engine.specs.declared.event.Event.TheVariants as ask
+use Rattle.engine.proofs.Questions.{device_or_not}
 use Rattle.drainage.specs.Between.{IsHeldOf}
 use Rattle.edits.specs.declared.command.Command.{Command}
 use Rattle.edits.specs.declared.command.Command.TheVariants.{Import, Remove, Patch, Burn, Wall, Sink, Unsink}
@@ -31,7 +32,7 @@ use Rattle.derived.specs.Uncommitted.{CommitsNothing}
 use Rattle.store.specs.Staling.{staled}
 use Rattle.store.specs.Standing.{AreTilesOf}
 use Rattle.store.proofs.Committed.{fails_before, failed_first, quiet, may_end_it}
-use Rattle.store.proofs.EditingReads.{device_or_not, reading, mosaic_is, readable, refused_so, risen_read, works_read, fails_read, quiet_read}
+use Rattle.store.proofs.EditingReads.{reading, mosaic_is, readable, refused_so, risen_read, works_read, fails_read, quiet_read}
 use Rattle.store.proofs.EditingSteps.{in_memory, uncommitted_on, refused_as}
 use Rattle.store.proofs.EditingWrites.{none_written, staged_written}
 use Rattle.store.proofs.Holding.{held}
