@@ -36,7 +36,6 @@ pub fn block_heights<S: Samples>(
     let mut heights = vec![in alloc; 0; samples.side().area() as usize]?;
     samples.read_samples(corner, 0, heights.as_mut_slice())?;
     put_rim(samples, corner, heights.as_mut_slice())?;
-    // Each height is known to be a number of 16 bits once it was read.
     samples_in_range(&heights);
     Ok(heights)
 }
