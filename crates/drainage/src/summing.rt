@@ -10,6 +10,7 @@ ghost use Rattle.catalogue.specs.Endings.{ends_any};
 ghost use Rattle.catalogue.specs.Readers.{OnlyReads, reads_of};
 ghost use Rattle.catalogue.specs.Reading.{MayRefuse};
 ghost use Rattle.tile_labellings.specs.Labellings.{IsFlooded};
+ghost use Rattle.tile_labellings.specs.TileLabellings.{labelled_of, IsCurrent, IsTileLabelling};
 ghost use Rattle.drainage.specs.Flooded.{IsRimPointIn, HasOtherRimHeight, AreRimPointsIn};
 ghost use Rattle.drainage.specs.Ring.{AreRemembered};
 
@@ -20,7 +21,8 @@ use border_graph::{RimPoint, Summary};
 use catalogue::Samples;
 use lattice::{Corner, Point, Refusal, point_at, push, rim_index};
 use std::alloc::Global;
-use tile_flood::{Labelled, spills};
+use tile_flood::Labelled;
+use tile_labellings::TileLabelling;
 
 /// The summary of the corner's tile with this labelling. It reads the points around the tile and, unless the labelling is that
 /// of a flooded block, those of its rim.
@@ -30,20 +32,22 @@ pub(crate) fn summarize<S: Samples>(
     alloc: Global,
     samples: &mut S,
     corner: Corner,
-    labelled: &Labelled,
-    is_flooded: bool,
+    labelling: &mut TileLabelling,
 ) -> Result<Summary, Refusal>
-    requires labelled_side { labelled.now.side ≡ S.side_of samples.old }
+    requires labelled_side { (labelled_of labelling.old).side ≡ S.side_of samples.old }
     requires present { Contains (S.corners samples.old) corner }
     ensures corner { IfOk result (λ b. b.corner ≡ corner) }
-    ensures border { S.is_honest samples.new → IsFlooded (S.mosaic samples.old) corner labelled.now → IfOk result (IsSummaryOf (S.mosaic samples.old)) }
+    ensures same { labelling.new ≡ labelling.old }
+    ensures border { S.is_honest samples.new → IsCurrent labelling.old → IsTileLabelling (S.mosaic samples.old) corner labelling.old → IfOk result (IsSummaryOf (S.mosaic samples.old)) }
     ensures causes { IfErr result (λ r. IsTrue (ends_any r)) }
-    ensures asked { (S.is_honest samples.new → IsFlooded (S.mosaic samples.old) corner labelled.now) → Asked S.Samples samples.old samples.new result }
+    ensures asked { IsCurrent labelling.old → (S.is_honest samples.new → IsTileLabelling (S.mosaic samples.old) corner labelling.old) → Asked S.Samples samples.old samples.new result }
     ensures reads { OnOk result (OnlyReads {T = Unit {0}} S.Samples samples.old samples.new (Ok tt)) }
     ensures honest { S.is_honest samples.new → S.is_honest samples.old }
     ensures mosaic { S.is_honest samples.new → S.mosaic samples.new ≡ S.mosaic samples.old }
 {
-    let spills = spills(alloc, labelled)?;
+    let spills = labelling.spills(alloc)?;
+    let is_flooded = labelling.is_flooded();
+    let labelled = labelling.labelled();
     let Some(rim) = rim_of(alloc, samples, corner, labelled, is_flooded)? else {
         return Err(Refusal::Damaged);
     };

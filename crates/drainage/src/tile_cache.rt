@@ -115,9 +115,8 @@ impl TileCache {
         if self.rim_graph.loaded[t].is_some() {
             return Ok(());
         }
-        let labelling = current_labelling(alloc, samples, &mut self.labellings, t, corner)?;
-        let is_flooded = labelling.is_flooded();
-        let summary = summarize(alloc, samples, corner, labelling.labelled(), is_flooded)?;
+        let mut labelling = current_labelling(alloc, samples, &mut self.labellings, t, corner)?;
+        let summary = summarize(alloc, samples, corner, &mut labelling)?;
         self.rim_graph.learn(alloc, t, summary)?;
         self.labellings.hold(t, labelling);
         Ok(())

@@ -9,6 +9,8 @@ pub mod Dependence
 pub mod Seeds
 pub mod Relaxation
 pub mod ChangedHeights
+pub mod ListedChanges
+pub mod SameSpills
 pub mod Passages
 pub mod Parts
 pub mod InMosaic

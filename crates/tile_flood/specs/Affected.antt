@@ -1,6 +1,7 @@
 -- The points that a mending affects, with the level and the label that each had.
-use Rattle.std.specs.Prelude.{◌≡◌, ℕ, ◌+◌, ◌/◌, ◌%◌, ◌<◌, ◌≤◌, ℤ, IsTrue, List, length, slice_index, slice_index_or}
+use Rattle.std.specs.Prelude.{◌≡◌, ℕ, ◌+◌, ◌*◌, ◌/◌, ◌%◌, ◌<◌, ◌≤◌, ◌⊎◌, ℤ, IsTrue, List, length, slice_index, slice_index_or}
 use Rattle.lattice.specs.Mosaic.{void}
+use Rattle.lattice.specs.Block.{is_beside}
 use Rattle.tile_flood.specs.declared.affected.Affected.{Affected}
 use Rattle.tile_flood.specs.Flooding.{is_marked}
 
@@ -33,3 +34,17 @@ AreKept levels labels levels' labels' = (z : ℕ) → IsTrue (is_marked levels' 
 -- the number is among those of the list, from place k on
 abbrev pub IsAmong : List ℕ → ℕ → ℕ → Type 0
 IsAmong points k e = (j : ℕ) × (k ≤ j) × (j < length points) × (slice_index_or points j e ≡ e)
+
+-- from these levels and labels on, all that changed is listed, with the label that it had
+pub record AreChangesListed (levels₀ : List ℤ) (labels₀ : List ℕ) (levels : List ℤ) (labels : List ℕ) (affected : List Affected) : Type 0 where
+  pub entries : (j : ℕ) (d : Affected) → j < length affected → (slice_index_or affected j d).label ≡ slice_index labels₀ (slice_index_or affected j d).point
+  pub kept : (e : ℕ) → IsTrue (is_marked levels e) → slice_index labels e ≡ slice_index labels₀ e
+  pub others : (e : ℕ) → ((slice_index_or levels e void ≡ slice_index_or levels₀ e void) × (slice_index labels e ≡ slice_index labels₀ e)) ⊎ IsAffected affected e
+
+-- where all changes were listed they are still
+abbrev pub StayListed : List ℤ → List ℕ → List Affected → List ℤ → List ℕ → List Affected → Type 0
+StayListed levels labels affected levels' labels' affected' = (levels₀ : List ℤ) (labels₀ : List ℕ) → AreChangesListed levels₀ labels₀ levels labels affected → AreChangesListed levels₀ labels₀ levels' labels' affected'
+
+-- the first k of the list have the label that they had, and so has each point with a level beside one of them
+abbrev pub AreOffBorders : ℕ → List ℤ → List ℕ → List Affected → ℕ → Type 0
+AreOffBorders n levels labels affected k = (j : ℕ) (d : Affected) (z : ℕ) → j < k → z < n * n → IsTrue (is_beside n (slice_index_or affected j d).point z) → IsTrue (is_marked levels z) → slice_index labels z ≡ (slice_index_or affected j d).label

@@ -7,7 +7,7 @@ ghost use Rattle.tile_flood.specs.Labelling.{NO_LABEL as no_label};
 ghost use Rattle.tile_flood.specs.Blocks.{block_of};
 ghost use Rattle.tile_flood.specs.Flooding.{is_marked, unmarked};
 ghost use Rattle.tile_flood.specs.declared.affected.Affected.{Affected};
-ghost use Rattle.tile_flood.specs.Affected.{AreKept, GrowsInto};
+ghost use Rattle.tile_flood.specs.Affected.{AreKept, GrowsInto, StayListed};
 ghost use Rattle.tile_flood.specs.Clearing.{AreListedCleared, MayDependOn, IsClearing, AreDependentsCleared};
 
 use crate::affected::{Affected, window_point};
@@ -45,6 +45,7 @@ impl Flood {
         requires state { IsClearing (block_of n heights.now sinks.now) self.old.levels.items self.old.labels.items affected.old.items }
         ensures dependents_cleared { IfOk result (λ all. IsTrue all → AreDependentsCleared (block_of n heights.now sinks.now) self.new.levels.items self.new.labels.items affected.new.items) }
         ensures queue { OnOk result (self.new.queue ≡ self.old.queue) }
+        ensures listed { OnOk result (StayListed self.old.levels.items self.old.labels.items affected.old.items self.new.levels.items self.new.labels.items affected.new.items) }
     {
         let mut k = 0;
         while k < affected.len() {
@@ -78,6 +79,7 @@ impl Flood {
         ensures queue { OnOk result (self.new.queue ≡ self.old.queue) }
         ensures count { OnOk result (unmarked self.new.levels.items + length affected.old.items ≡ unmarked self.old.levels.items + length affected.new.items) }
         ensures no_dependents { OnOk result ((y : ℕ) → y < n * n → IsTrue (is_beside n from.point y) → IsTrue (is_marked self.new.levels.items y) → MayDependOn heights.now self.new.levels.items self.new.labels.items y from → ⊥) }
+        ensures listed { OnOk result (StayListed self.old.levels.items self.old.labels.items affected.old.items self.new.levels.items self.new.labels.items affected.new.items) }
     {
         for d in 0..9 {
             if let Some(e) = window_point(n, from.point as usize, d) {
@@ -107,6 +109,7 @@ impl Flood {
         ensures queue { OnOk result (self.new.queue ≡ self.old.queue) }
         ensures count { OnOk result (unmarked self.new.levels.items + length affected.old.items ≡ unmarked self.old.levels.items + length affected.new.items) }
         ensures no_dependents { OnOk result (IsTrue (is_marked self.new.levels.items e) → MayDependOn heights.now self.new.levels.items self.new.labels.items e from → ⊥) }
+        ensures listed { OnOk result (StayListed self.old.levels.items self.old.labels.items affected.old.items self.new.levels.items self.new.labels.items affected.new.items) }
     {
         if !self.is_unmarked(e)
             && label_at(&self.labels, e) == from.label

@@ -8,6 +8,7 @@ ghost use Rattle.lattice.specs.declared.refusal.Refusal.TheVariants.{NoMemory};
 ghost use Rattle.tile_flood.specs.Labelling.{IsLabelling, NO_LABEL as no_label};
 ghost use Rattle.tile_flood.specs.Carried.{AreCarried};
 ghost use Rattle.tile_flood.specs.Blocks.{block_of, bare_block};
+ghost use Rattle.tile_flood.specs.Affected.{AreKept};
 ghost use Rattle.tile_flood.specs.Waiting.{waiting, IsJoined};
 ghost use Rattle.tile_flood.specs.Cells.{levels_of, labels_of, AreCells};
 ghost use Rattle.tile_flood.specs.Flooding.{is_marked, unmarked, AreMarkedStill, IsNear, IsFlooding, IsSpreading};
@@ -75,6 +76,7 @@ impl Flood {
         requires state { IsFlooding (block_of n heights.now sinks.now) self.old.levels.items self.old.labels.items self.old.queue }
         ensures labelling { OnOk result (IsLabelling (block_of n heights.now sinks.now) self.new.levels.items self.new.labels.items) }
         ensures carried { OnOk result (AreCarried (block_of n heights.now sinks.now) self.new.levels.items self.new.labels.items) }
+        ensures left { OnOk result (AreKept self.new.levels.items self.new.labels.items self.old.levels.items self.old.labels.items) }
     {
         while let Some(seat) = self.queue.pop() {
             self.spread(n, heights, sinks, seat.point as usize, seat.level)?;
@@ -98,6 +100,7 @@ impl Flood {
         requires state { IsSpreading (block_of n heights.now sinks.now) self.old.levels.items self.old.labels.items self.old.queue point level (slice_index self.old.labels.items point) }
         ensures state { OnOk result (IsFlooding (block_of n heights.now sinks.now) self.new.levels.items self.new.labels.items self.new.queue) }
         ensures count { OnOk result (unmarked self.new.levels.items + waiting self.new.queue ≡ unmarked self.old.levels.items + waiting self.old.queue) }
+        ensures left { OnOk result (AreKept self.new.levels.items self.new.labels.items self.old.levels.items self.old.labels.items) }
     {
         let front = Front {
             point,
@@ -130,6 +133,7 @@ impl Flood {
         ensures marked { OnOk result (IsTrue (is_solid (bare_block n heights.now) e) → IsTrue (is_marked self.new.levels.items e)) }
         ensures still { OnOk result (AreMarkedStill self.old.levels.items self.new.levels.items) }
         ensures count { OnOk result (unmarked self.new.levels.items + waiting self.new.queue ≡ unmarked self.old.levels.items + waiting self.old.queue) }
+        ensures left { OnOk result (AreKept self.new.levels.items self.new.labels.items self.old.levels.items self.old.labels.items) }
     {
         if self.is_unmarked(e) && is_ground(n, heights, e) {
             let level = higher(at(heights, e), front.level);

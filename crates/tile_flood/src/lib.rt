@@ -15,6 +15,7 @@
 
 mod affected;
 mod block;
+mod borders;
 mod cells;
 mod clearing;
 mod flood;
@@ -35,6 +36,6 @@ mod waiting;
 pub use block::Block;
 pub use flood::Flood;
 pub use labelled::{Labelled, NO_LABEL, OUT};
-pub use mending::mend;
+pub use mending::{Mended, mend};
 pub use passing::{Spill, spills};
 pub use raising::{raise, raise_at};

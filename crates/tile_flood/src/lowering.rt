@@ -8,6 +8,7 @@ ghost use Rattle.tile_flood.specs.Blocks.{block_of};
 ghost use Rattle.tile_flood.specs.Flooding.{is_marked};
 ghost use Rattle.tile_flood.specs.Waiting.{Waits, waiting, IsJoined, WaitInside};
 ghost use Rattle.tile_flood.specs.Mending.{IsLabelledBefore};
+ghost use Rattle.tile_flood.specs.Affected.{StayListed};
 ghost use Rattle.tile_flood.specs.Lowering.{IsStarting, IsLowering, AreLowered, AreRelaxed, AreRelaxing, AreRelaxingBut, AreOutletsLow, depth};
 
 use crate::affected::{Affected, window_point};
@@ -36,6 +37,7 @@ impl Flood {
         ensures inside { OnOk result (WaitInside n self.new.queue) }
         ensures relaxing { OnOk result (AreRelaxing (block_of n heights.now sinks.now) self.new.levels.items self.new.queue) }
         ensures exits { OnOk result (AreOutletsLow (block_of n heights.now sinks.now) self.new.levels.items) }
+        ensures listed { OnOk result (StayListed self.old.levels.items self.old.labels.items affected.old.items self.new.levels.items self.new.labels.items affected.new.items) }
     {
         for k in 0..points.len() {
             self.lower_changed_at(n, heights, sinks, points, k, affected)?;
@@ -58,7 +60,8 @@ impl Flood {
         requires whole { length heights.now ≡ n * n }
         requires k { k < length points.now }
         requires state { IsStarting (block_of n heights.now sinks.now) points.now self.old.levels.items self.old.labels.items self.old.queue affected.old.items k }
-        ensures { OnOk result (IsStarting (block_of n heights.now sinks.now) points.now self.new.levels.items self.new.labels.items self.new.queue affected.new.items (k + 1)) }
+        ensures state { OnOk result (IsStarting (block_of n heights.now sinks.now) points.now self.new.levels.items self.new.labels.items self.new.queue affected.new.items (k + 1)) }
+        ensures listed { OnOk result (StayListed self.old.levels.items self.old.labels.items affected.old.items self.new.levels.items self.new.labels.items affected.new.items) }
     {
         let e = points[k] as usize;
         if self.is_marked(e) {
@@ -87,6 +90,7 @@ impl Flood {
         ensures state { OnOk result (IsLowering (block_of n heights.now sinks.now) self.new.levels.items self.new.labels.items affected.new.items) }
         ensures relaxed { OnOk result (AreRelaxed (block_of n heights.now sinks.now) self.new.levels.items) }
         ensures nobody { OnOk result ((l : ℤ) (e : ℕ) → Waits self.new.queue l e → ⊥) }
+        ensures listed { OnOk result (StayListed self.old.levels.items self.old.labels.items affected.old.items self.new.levels.items self.new.labels.items affected.new.items) }
     {
         while let Some(seat) = self.queue.pop() {
             self.lower_around(n, heights, sinks, seat.point as usize, seat.level, affected)?;
@@ -116,6 +120,7 @@ impl Flood {
         ensures relaxing { OnOk result (AreRelaxing (block_of n heights.now sinks.now) self.new.levels.items self.new.queue) }
         ensures lowered { OnOk result (AreLowered self.old.levels.items self.new.levels.items self.old.queue self.new.queue) }
         ensures count { OnOk result (depth self.new.levels.items + depth self.new.levels.items + waiting self.new.queue ≤ depth self.old.levels.items + depth self.old.levels.items + waiting self.old.queue) }
+        ensures listed { OnOk result (StayListed self.old.levels.items self.old.labels.items affected.old.items self.new.levels.items self.new.labels.items affected.new.items) }
     {
         for d in 0..9 {
             if let Some(e) = window_point(n, c, d) {
@@ -145,6 +150,7 @@ impl Flood {
         ensures lowered { OnOk result (AreLowered self.old.levels.items self.new.levels.items self.old.queue self.new.queue) }
         ensures low { OnOk result (IsTrue (is_solid (block_of n heights.now sinks.now) e) → slice_index_or self.new.levels.items e void ≤ℤ int_max (slice_index_or heights.now e void) level) }
         ensures count { OnOk result (depth self.new.levels.items + depth self.new.levels.items + waiting self.new.queue ≤ depth self.old.levels.items + depth self.old.levels.items + waiting self.old.queue) }
+        ensures listed { OnOk result (StayListed self.old.levels.items self.old.labels.items affected.old.items self.new.levels.items self.new.labels.items affected.new.items) }
     {
         if self.is_unmarked(e) {
             return Ok(());

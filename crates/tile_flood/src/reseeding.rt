@@ -7,6 +7,7 @@ ghost use Rattle.tile_flood.specs.Flooding.{is_marked, IsFlooding};
 ghost use Rattle.tile_flood.specs.Waiting.{Waits};
 ghost use Rattle.tile_flood.specs.declared.affected.Affected.{Affected};
 ghost use Rattle.tile_flood.specs.Clearing.{AreDependentsCleared};
+ghost use Rattle.tile_flood.specs.Affected.{AreKept};
 ghost use Rattle.tile_flood.specs.Reseeding.{IsReseeding};
 
 use crate::affected::Affected;
@@ -29,7 +30,8 @@ impl Flood {
         requires whole { length heights.now ≡ n * n }
         requires state { AreDependentsCleared (block_of n heights.now sinks.now) self.old.levels.items self.old.labels.items affected.now }
         requires nobody { (l : ℤ) (e : ℕ) → Waits self.old.queue l e → ⊥ }
-        ensures { OnOk result (IsFlooding (block_of n heights.now sinks.now) self.new.levels.items self.new.labels.items self.new.queue) }
+        ensures state { OnOk result (IsFlooding (block_of n heights.now sinks.now) self.new.levels.items self.new.labels.items self.new.queue) }
+        ensures left { OnOk result (AreKept self.new.levels.items self.new.labels.items self.old.levels.items self.old.labels.items) }
     {
         for k in 0..affected.len() {
             self.reseed_at(n, heights, sinks, affected, k)?;
@@ -54,6 +56,7 @@ impl Flood {
         requires state { IsReseeding (block_of n heights.now sinks.now) self.old.levels.items self.old.labels.items self.old.queue affected.now k }
         ensures state { OnOk result (IsReseeding (block_of n heights.now sinks.now) self.new.levels.items self.new.labels.items self.new.queue affected.now k) }
         ensures seeded { OnOk result ((d : Affected) → IsTrue (is_exit (block_of n heights.now sinks.now) (slice_index_or affected.now k d).point) → IsTrue (is_marked self.new.levels.items (slice_index_or affected.now k d).point)) }
+        ensures left { OnOk result (AreKept self.new.levels.items self.new.labels.items self.old.levels.items self.old.labels.items) }
     {
         let e = affected[k].point as usize;
         if self.is_unmarked(e) {

@@ -1,6 +1,7 @@
 -- Labellings of tiles, made or kept, and when the marks of what is kept fit each other (this product's own profile, after
 -- the tiled flooding of Barnes 2016).
-use Rattle.std.specs.Prelude.{◌≡◌, ◌≢◌, ℕ, ◌*◌, ◌-◌, ◌<◌, ◌⊎◌, ℤ, List, None, IsTrue, Contains, length, slice_index, slice_index_or}
+use Rattle.std.specs.Prelude.{◌≡◌, ◌≢◌, ℕ, ◌*◌, ◌-◌, ◌<◌, ◌⊎◌, ℤ, List, Option, None, IfSome, IsTrue, Contains, length, slice_index, slice_index_or}
+use Rattle.std.specs.Global.{Vec}
 use Rattle.lattice.specs.Corners.{Corner}
 use Rattle.lattice.specs.Lattice.{point_of}
 use Rattle.lattice.specs.Mosaic.{Mosaic, void}
@@ -11,6 +12,8 @@ use Rattle.tile_flood.specs.Blocks.{LabelledGround}
 use Rattle.tile_flood.specs.Carried.{AreCarried}
 use Rattle.tile_flood.specs.Labelling.{IsLabelling}
 use Rattle.tile_flood.specs.Raising.{raised_level}
+use Rattle.tile_flood.specs.Spills.{AreSpills}
+use Rattle.tile_flood.specs.declared.passing.Spill.{Spill}
 
 -- a valid labelling of the block of the corner's tile
 pub record IsFlooded (m : Mosaic) (c : Corner) (labelled : LabelledGround) : Type 0 where
@@ -28,6 +31,10 @@ pub record IsFloodOf (b : Block) (labelled : LabelledGround) : Type 0 where
   pub side : labelled.side ≡ b.side
   pub labelling : IsLabelling b labelled.levels labelled.labels
   pub carried : AreCarried b labelled.levels labelled.labels
+
+-- where spills are held, they are those of the labelling
+abbrev pub AreHeldSpills : LabelledGround → Option (Vec Spill) → Type 0
+AreHeldSpills labelled spills = IfSome spills (λ held. AreSpills labelled.side labelled.levels labelled.levels labelled.labels held.items)
 
 -- the block is the ground of the corner's tile, but for the heights of these points
 pub record IsBlockBut (m : Mosaic) (c : Corner) (changed : List ℕ) (b : Block) : Type 0 where

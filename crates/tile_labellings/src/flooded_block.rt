@@ -11,14 +11,15 @@ ghost use Rattle.catalogue.specs.Readers.{OnlyReads, reads_of};
 ghost use Rattle.catalogue.specs.Reading.{MayRefuse};
 ghost use Rattle.tile_flood.specs.Blocks.{LabelledGround};
 ghost use Rattle.tile_flood.specs.Mending.{IsLabelledBefore};
-ghost use Rattle.tile_labellings.specs.Labellings.{IsFlooded, IsBlockBut};
+ghost use Rattle.tile_flood.specs.Spills.{AreSpills, HaveSameSpills};
+ghost use Rattle.tile_labellings.specs.Labellings.{AreHeldSpills, IsFlooded, IsBlockBut};
 ghost use Rattle.tile_labellings.specs.Updating.{IsUpdated};
 
 use catalogue::{Samples, height};
 use lattice::{Corner, Height, Refusal, VOID, point_at};
 use std::alloc::{AllocError, Global};
 use std::marker::Model;
-use tile_flood::{Block, Flood, Labelled, mend};
+use tile_flood::{Block, Flood, Labelled, Spill, mend, spills};
 
 /// A block that was flooded, with its labelling, and those of its points whose heights may have changed since.
 #[derive(Drop)]
@@ -26,16 +27,18 @@ pub struct FloodedBlock {
     block: Block,
     labelled: Labelled,
     changed: Vec<u32>,
+    // The spills of the labelling, once they were asked for.
+    spills: Option<Vec<Spill>>,
 }
 
 impl Model for FloodedBlock {
-    ghost use Rattle.tile_labellings.specs.Labellings.{FloodedGround, IsFloodOf};
+    ghost use Rattle.tile_labellings.specs.Labellings.{FloodedGround, AreHeldSpills, IsFloodOf};
 
     ghost Value = { FloodedGround };
 
     ghost view = { λ f. record { block = f.block; labelled = f.labelled; changed = f.changed.items } };
 
-    ghost invariant = { λ f. IsFloodOf f.block f.labelled };
+    ghost invariant = { λ f. IsFloodOf f.block f.labelled × AreHeldSpills f.labelled f.spills };
 }
 
 impl FloodedBlock {
@@ -51,6 +54,7 @@ impl FloodedBlock {
             block,
             labelled,
             changed: Vec::new(alloc),
+            spills: None,
         })
     }
 
@@ -60,6 +64,21 @@ impl FloodedBlock {
         ensures flooded { (m : Mosaic) (c : Corner) → self.now.changed ≡ [] → IsBlockBut m c self.now.changed self.now.block → IsFlooded m c self.now.labelled }
     {
         &self.labelled
+    }
+
+    /// The spills of the labelling. They are held from then on, where there is memory for them, and stay through a mending that
+    /// leaves the borders between labels and the levels beside them. NoMemory is the only refusal.
+    pub fn spills(&mut self, alloc: Global) -> Result<Vec<Spill>, Refusal>
+        ensures same { self.new ≡ self.old }
+        ensures spills { IfOk result (λ spills. AreSpills self.old.labelled.side self.old.labelled.levels self.old.labelled.levels self.old.labelled.labels spills.items) }
+        ensures refusal { IfErr result (λ r. r ≡ NoMemory) }
+    {
+        if let Some(held) = &self.spills {
+            return Ok(Vec::from_slice(alloc, held)?);
+        }
+        let found = spills(alloc, &self.labelled)?;
+        self.spills = Vec::from_slice(alloc, &found).ok();
+        Ok(found)
     }
 
     /// Gives up the block. What is left can't be mended.
@@ -113,13 +132,24 @@ impl FloodedBlock {
         if !read_changed(samples, corner, &self.labelled, &self.changed, &mut block)? {
             return Ok(None);
         }
-        let labelled = mend(alloc, &block, self.labelled, &self.changed)?;
+        let mended = mend(alloc, &block, self.labelled, &self.changed)?;
         Ok(Some(FloodedBlock {
             block,
-            labelled,
+            labelled: mended.labelled,
             changed: Vec::new(alloc),
+            spills: still_held(self.spills, mended.same_spills),
         }))
     }
+}
+
+// What is held of spills after a mending: those of before, where they are the same.
+fn still_held(spills: Option<Vec<Spill>>, are_same: bool) -> Option<Vec<Spill>>
+    ensures { (old new : LabelledGround) → (IsTrue are_same → HaveSameSpills old new) → AreHeldSpills old spills → AreHeldSpills new result }
+{
+    if are_same {
+        return spills;
+    }
+    None
 }
 
 // Gives the changed points of the block the heights that they have now; whether each was ground and is.

@@ -5,13 +5,14 @@ ghost use Rattle.lattice.specs.Mosaic.{Mosaic};
 ghost use Rattle.lattice.specs.declared.refusal.Refusal.TheVariants.{NoMemory};
 ghost use Rattle.catalogue.specs.Readers.{OnlyReads, reads_of};
 ghost use Rattle.catalogue.specs.Reading.{MayRefuse};
+ghost use Rattle.tile_flood.specs.Spills.{AreSpills};
 ghost use Rattle.tile_labellings.specs.Labellings.{IsFlooded};
 
 use crate::flooded_block::FloodedBlock;
 use catalogue::Samples;
 use lattice::{Corner, Refusal};
 use std::alloc::Global;
-use tile_flood::Labelled;
+use tile_flood::{Labelled, Spill, spills};
 
 // So many points of a block may have changed before its labelling is given up: to mend for many takes as long as a flood.
 const MOST_CHANGED: usize = 64;
@@ -44,6 +45,18 @@ impl TileLabelling {
         match self {
             TileLabelling::Flooded(_) => true,
             _ => false,
+        }
+    }
+
+    /// The spills of the labelling, found, or as they were held with a flooded block. NoMemory is the only refusal.
+    pub fn spills(&mut self, alloc: Global) -> Result<Vec<Spill>, Refusal>
+        ensures same { self.new ≡ self.old }
+        ensures spills { IfOk result (λ spills. AreSpills (labelled_of self.old).side (labelled_of self.old).levels (labelled_of self.old).levels (labelled_of self.old).labels spills.items) }
+        ensures refusal { IfErr result (λ r. r ≡ NoMemory) }
+    {
+        match self {
+            TileLabelling::Kept(labelled) => spills(alloc, labelled),
+            TileLabelling::Flooded(flooded) => flooded.spills(alloc),
         }
     }
 

@@ -1,46 +1,55 @@
-use Rattle.std.proofs.Common.{◌-◌, ◌*◌, sym, ◌∙◌, subst}
+use Rattle.std.proofs.Common.{◌-◌, ◌*◌, sym, ap, ◌∙◌, subst}
 use Rattle.std.specs.Prelude.{MatchOption}
 use Rattle.std.proofs.lemmas.Result.{err_from_is_err_and}
 use Rattle.lattice.specs.declared.refusal.Refusal.TheVariants.{NoMemory}
 use Rattle.catalogue.proofs.Asking.{asked_by_reads}
 use Rattle.catalogue.proofs.Reading.{reads_nothing}
 use Rattle.border_graph.specs.Joining.{IsSummaryOf}
+use Rattle.tile_flood.specs.Blocks.{LabelledGround}
+use Rattle.tile_flood.specs.Spills.{AreSpills}
+use Rattle.tile_labellings.specs.TileLabellings.{labelled_of, IsCurrent, IsTileLabelling}
 use Rattle.drainage.specs.Flooded.{HasOtherRimHeight, AreRimPointsIn}
 use Rattle.drainage.proofs.Questioned.{answered, passed_on, refused_by, stopped, wanting}
 use Rattle.drainage.proofs.Summed.{rim_holds, summary_is}
 use Rattle.drainage.proofs.summing.summarize.Goals as goal
 
 pub returns-clause-border : goal.returns-clause-border
-returns-clause-border g c honest flooded =
+returns-clause-border g c honest current is =
     let old = c.args.samples.now in
     let m = g.S.Samples.mosaic old in
-    let labelled = c.args.labelled.now in
+    let labelled = c.labelled-labelled.result.now in
+    let same = sym c.in_ok-spills.ensures.same in
+    let flooded = c.labelled-labelled.ensures.flooded m c.args.corner (subst IsCurrent same current) (subst (IsTileLabelling m c.args.corner) same is) in
     let first = c.in_ok-rim.ensures.reads.honest honest in
     let found : AreRimPointsIn m c.args.corner labelled.labels c.in-Some.rim.items (4 * (g.S.Samples.side_of old - 1)) =
     subst (λ found. MatchOption found (HasOtherRimHeight m c.args.corner labelled.levels)
     (λ rim. AreRimPointsIn m c.args.corner labelled.labels rim.items (4 * (g.S.Samples.side_of old - 1)))) c.in-Some.is (c.in_ok-rim.ensures.rim honest flooded) in
     let points : AreRimPointsIn m c.args.corner labelled.labels c.in-Some.rim.items (4 * (m.side - 1)) =
     subst (λ n. AreRimPointsIn m c.args.corner labelled.labels c.in-Some.rim.items (4 * (n - 1))) (sym (g.met.S.Samples.same_side old first)) found in
+    let spills : AreSpills labelled.side labelled.levels labelled.levels labelled.labels c.in_ok-spills.spills.items =
+    subst (λ (l : LabelledGround). AreSpills l.side l.levels l.levels l.labels c.in_ok-spills.spills.items) (sym (c.labelled-labelled.ensures.value ∙ ap labelled_of c.in_ok-spills.ensures.same)) c.in_ok-spills.ensures.spills in
     subst (IsSummaryOf m) (sym c.new.ensures)
-    (summary_is m (g.met.S.Samples.is_mosaic old first) c.args.corner labelled flooded c.in-Some.rim.items points c.in_ok-spills.spills.items c.in_ok-spills.ensures.of_any)
+    (summary_is m (g.met.S.Samples.is_mosaic old first) c.args.corner labelled flooded c.in-Some.rim.items points c.in_ok-spills.spills.items spills)
 
 pub returns-clause-asked : goal.returns-clause-asked
-returns-clause-asked g c flooded = answered g.S.Samples c.args.samples.now c.rim_of.new.samples _ c.in_ok-rim.ensures.reads
+returns-clause-asked g c current is = answered g.S.Samples c.args.samples.now c.rim_of.new.samples _ c.in_ok-rim.ensures.reads
 
 pub returns-in_default-clause-asked : goal.returns-in_default-clause-asked
-returns-in_default-clause-asked g c flooded =
+returns-in_default-clause-asked g c current is =
     let a = c.args.samples.now in
     let d = c.rim_of.new.samples in
     let m = g.S.Samples.mosaic a in
-    let labelled = c.args.labelled.now in
+    let labelled = c.labelled-labelled.result.now in
+    let same = sym c.in_ok-spills.ensures.same in
     stopped g.S.Samples a d c.in_ok-rim.ensures.reads (λ honest.
+    let flooded = c.labelled-labelled.ensures.flooded m c.args.corner (subst IsCurrent same current) (subst (IsTileLabelling m c.args.corner) same (is honest)) in
     let other : HasOtherRimHeight m c.args.corner labelled.levels =
     subst (λ found. MatchOption found (HasOtherRimHeight m c.args.corner labelled.levels)
-    (λ rim. AreRimPointsIn m c.args.corner labelled.labels rim.items (4 * (g.S.Samples.side_of a - 1)))) c.in_default.is (c.in_ok-rim.ensures.rim honest (flooded honest)) in
-    rim_holds m c.args.corner labelled (flooded honest) other)
+    (λ rim. AreRimPointsIn m c.args.corner labelled.labels rim.items (4 * (g.S.Samples.side_of a - 1)))) c.in_default.is (c.in_ok-rim.ensures.rim honest flooded) in
+    rim_holds m c.args.corner labelled flooded other)
 
 pub returns-in_err-rim-clause-asked : goal.returns-in_err-rim-clause-asked
-returns-in_err-rim-clause-asked g c flooded =
+returns-in_err-rim-clause-asked g c current is =
     let a = c.args.samples.now in
     let d = c.rim_of.new.samples in
     let r = c.in_err-rim.field-0.0 in
@@ -49,7 +58,7 @@ returns-in_err-rim-clause-asked g c flooded =
     (passed_on g.S.Samples a d c.rim_of.result r c.in_err-rim.was (asked_by_reads g.S.Samples a d _ _ c.rim_of.result c.rim_of.ensures.reads c.rim_of.ensures.refusal))
 
 pub returns-in_err-spills-clause-asked : goal.returns-in_err-spills-clause-asked
-returns-in_err-spills-clause-asked g c flooded =
+returns-in_err-spills-clause-asked g c current is =
     let a = c.args.samples.now in
     let p = err_from_is_err_and c.from_residual.result c.from_residual.ensures.1 in
     refused_by g.S.Samples a a c.from_residual.result p.0 NoMemory p.1 (p.2 ∙ c.in_err-spills.ensures.refusal)

@@ -6,6 +6,7 @@ use Rattle.catalogue.proofs.Asking.{asked_on}
 use Rattle.catalogue.proofs.Reading.{reads_nothing, reads_on}
 use Rattle.border_graph.specs.Joining.{IsSummaryOf}
 use Rattle.tile_labellings.specs.TileLabellings.{IsTileLabelling}
+use Rattle.tile_labellings.specs.declared.tile_labelling.TileLabelling.{TileLabelling}
 use Rattle.drainage.specs.Holding.{IsRight}
 use Rattle.drainage.specs.TileCaches.{known_of}
 use Rattle.drainage.proofs.Growing.{grown_by, grown_fewer}
@@ -62,9 +63,8 @@ returns-in_err-summary-clause-asked g c right =
     let p = err_from_is_err_and c.from_residual-in_err-summary.result c.from_residual-in_err-summary.ensures.1 in
     refused_by g.S.Samples a d c.from_residual-in_err-summary.result p.0 r p.1 p.2
     (asked_on g.S.Samples g.met.S.Samples.keeps_on a b d (tt {0}) (Err r) made.reads
-    (passed_on g.S.Samples b d c.summarize.result r c.in_err-summary.was (c.summarize.ensures.asked (λ honest.
+    (passed_on g.S.Samples b d c.summarize.result r c.in_err-summary.was (c.summarize.ensures.asked made.current (λ honest.
     let mid = summed.honest honest in
-    c.labelled.ensures.flooded (g.S.Samples.mosaic b) c.args.corner made.current
     (subst (λ (m : Mosaic). IsTileLabelling m c.args.corner c.in_ok-labelling.labelling) (sym (made.mosaic mid))
     (made.valid mid (entered_there g.S.Samples a (known_of c.args.self.now) c.args.t c.args.corner c.requires.place c.requires.corner (right honest))))))))
 
@@ -86,8 +86,8 @@ returns-in_err-learn-clause-grown g c =
     (λ honest right.
     let mid = summed.honest honest in
     learned.right (g.S.Samples.mosaic a) (c.requires.corner ∙ sym summed.corner)
-    (subst (λ (m : Mosaic). IsSummaryOf m c.in_ok-summary.summary) (made.mosaic mid) (summed.border honest
-    (c.labelled.ensures.flooded (g.S.Samples.mosaic b) c.args.corner made.current (subst (λ (m : Mosaic). IsTileLabelling m c.args.corner labelling) (sym (made.mosaic mid)) (valid honest right)))))
+    (subst (λ (m : Mosaic). IsSummaryOf m c.in_ok-summary.summary) (made.mosaic mid) (summed.border honest made.current
+    (subst (λ (m : Mosaic). IsTileLabelling m c.args.corner labelling) (sym (made.mosaic mid)) (valid honest right))))
     right.ready.tiles)
     (λ m e u here labellings. made.left m e u labellings)
 
@@ -118,10 +118,10 @@ returns-clause-grown g c =
     (λ honest right.
     let mid = summed.honest honest in
     learned.right (g.S.Samples.mosaic a) (c.requires.corner ∙ sym summed.corner)
-    (subst (λ (m : Mosaic). IsSummaryOf m c.in_ok-summary.summary) (made.mosaic mid) (summed.border honest
-    (c.labelled.ensures.flooded (g.S.Samples.mosaic b) c.args.corner made.current (subst (λ (m : Mosaic). IsTileLabelling m c.args.corner labelling) (sym (made.mosaic mid)) (valid honest right)))))
+    (subst (λ (m : Mosaic). IsSummaryOf m c.in_ok-summary.summary) (made.mosaic mid) (summed.border honest made.current
+    (subst (λ (m : Mosaic). IsTileLabelling m c.args.corner labelling) (sym (made.mosaic mid)) (valid honest right))))
     right.ready.tiles)
-    (λ m e u here labellings. c.hold.ensures m e u here (made.left m e u labellings))
+    (λ m e u here labellings. c.hold.ensures m e u (λ same. subst (λ (x : TileLabelling). IsTileLabelling m e x) (sym summed.same) (here same)) (made.left m e u labellings))
 
 pub returns-clause-reads : goal.returns-clause-reads
 returns-clause-reads g c =

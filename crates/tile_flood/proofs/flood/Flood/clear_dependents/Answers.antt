@@ -3,6 +3,7 @@ use Rattle.std.proofs.lemmas.List.{get_or_default}
 use Rattle.tile_flood.specs.declared.affected.Affected.{Affected}
 use Rattle.tile_flood.specs.Clearing.{HaveNoDependents}
 use Rattle.tile_flood.proofs.Dependence.{no_dependents_more, unmarked_most, dependents_cleared}
+use Rattle.tile_flood.proofs.ListedChanges.{listed_twice}
 use Rattle.tile_flood.proofs.flood.Flood.clear_dependents.Goals as goal
 
 from_is : (c : goal.In_ok-clear_dependents_of) (d : Affected) → slice_index_or c.loop-k.affected.items c.loop-k.k d ≡ c.index-from.result.now
@@ -28,6 +29,7 @@ loop-k-preserved c =
     record {
       state = a.state;
       queue = a.queue ∙ c.loop-k.invariant.queue;
+      listed = listed_twice c.args.self.now.levels.items c.loop-k.self.levels.items c.clear_dependents_of.new.self.levels.items c.args.self.now.labels.items c.loop-k.self.labels.items c.clear_dependents_of.new.self.labels.items c.args.affected.now.items c.loop-k.affected.items c.clear_dependents_of.new.affected.items c.loop-k.invariant.listed a.listed;
       within = let grown = (a.grows c.loop-k.k c.index-from.result.now inside).0 in omega arith;
       no_dependents = no_dependents_more c.args.n c.args.heights.now c.loop-k.self.levels.items c.clear_dependents_of.new.self.levels.items c.loop-k.self.labels.items c.clear_dependents_of.new.self.labels.items
           c.loop-k.affected.items c.clear_dependents_of.new.affected.items c.loop-k.k c.index-from.result.now c.loop-k.invariant.no_dependents inside (from_is c) a.kept a.grows a.no_dependents;

@@ -4,6 +4,7 @@ use Rattle.tile_flood.specs.Flooding.{is_marked}
 use Rattle.tile_flood.specs.Affected.{IsInWindow}
 use Rattle.tile_flood.specs.Clearing.{MayDependOn}
 use Rattle.tile_flood.proofs.Dependence.{kept_dependence, kept_twice, grows_twice, one_window_point, window_point_of}
+use Rattle.tile_flood.proofs.ListedChanges.{listed_twice}
 use Rattle.tile_flood.proofs.flood.Flood.clear_dependents_of.Goals as goal
 use Rattle.tile_flood.proofs.flood.Flood.clear_dependents_of.Goals.{in-Some+in_ok-clear_if_dependent, in_default}
 
@@ -24,6 +25,7 @@ loop-d-preserved c =
             kept = kept_twice c.args.self.now.levels.items levels levels' c.args.self.now.labels.items labels labels' i.kept a.kept;
             queue = a.queue ∙ i.queue;
             grows = grows_twice c.args.affected.now.items c.loop-d.affected.items w.clear_if_dependent.new.affected.items i.grows a.grows;
+            listed = listed_twice c.args.self.now.levels.items levels levels' c.args.self.now.labels.items labels labels' c.args.affected.now.items c.loop-d.affected.items w.clear_if_dependent.new.affected.items i.listed a.listed;
             count = let one = i.count in let two = a.count in omega arith;
             no_dependents = λ k y less small spot on depends. elim (cases_lt k d) [
               | inl before ↦ i.no_dependents k y before small spot (a.kept y on).0 (kept_dependence c.args.heights.now levels levels' labels labels' y c.args.from a.kept on depends)
@@ -38,6 +40,7 @@ loop-d-preserved c =
         kept = i.kept;
         queue = i.queue;
         grows = i.grows;
+        listed = i.listed;
         count = i.count;
         no_dependents = λ k y less small spot on depends. elim (cases_lt k d) [
           | inl before ↦ i.no_dependents k y before small spot on depends

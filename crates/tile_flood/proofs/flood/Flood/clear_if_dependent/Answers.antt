@@ -1,7 +1,8 @@
-use Rattle.std.proofs.Common.{◌∙◌, IsTrue, not, ap, sym, refl, slice_index, slice_index_or}
+use Rattle.std.proofs.Common.{◌<◌, ◌∙◌, IsTrue, not, ap, sym, refl, subst, slice_index, slice_index_or}
 use Rattle.lattice.specs.Mosaic.{void}
 use Rattle.tile_flood.specs.Flooding.{is_marked}
 use Rattle.tile_flood.proofs.Dependence.{IsClearedAt, cleared_as}
+use Rattle.tile_flood.proofs.ListedChanges.{cleared_listed}
 use Rattle.tile_flood.proofs.flood.Flood.clear_if_dependent.Goals as goal
 
 after : (c : goal.In_ok-clear) → IsClearedAt c.args.n c.args.heights.now c.args.sinks.now c.args.self.now.levels.items c.clear.new.self.levels.items c.args.self.now.labels.items c.clear.new.self.labels.items
@@ -18,3 +19,9 @@ returns-in_ok-clear-clause-state c = (after c).state
 
 pub returns-in_ok-clear-clause-kept : goal.returns-in_ok-clear-clause-kept
 returns-in_ok-clear-clause-kept c = (after c).kept
+
+pub returns-in_ok-clear-clause-listed : goal.returns-in_ok-clear-clause-listed
+returns-in_ok-clear-clause-listed c =
+    cleared_listed c.args.self.now.levels.items c.clear.new.self.levels.items c.args.self.now.labels.items c.clear.new.self.labels.items c.args.affected.now.items c.clear.new.affected.items c.args.e
+    (record { point = c.args.e; level = slice_index_or c.args.self.now.levels.items c.args.e void; label = slice_index c.args.self.now.labels.items c.args.e })
+    (subst (λ m. c.args.e < m) (sym c.requires.state.points.levels_whole) c.requires.e) (ap not (sym c.is_unmarked.ensures ∙ c.if-not-is_unmarked.true)) refl refl c.in_ok-clear.ensures.levels c.in_ok-clear.ensures.labels c.in_ok-clear.ensures.affected

@@ -10,6 +10,7 @@ use Rattle.tile_flood.specs.Affected.{IsInWindow}
 use Rattle.tile_flood.specs.Lowering.{AreRelaxingBut}
 use Rattle.tile_flood.proofs.Dependence.{one_window_point, window_point_of}
 use Rattle.tile_flood.proofs.Relaxation.{still_relaxing, lowered_twice, lowered_same, relaxing_end}
+use Rattle.tile_flood.proofs.ListedChanges.{listed_same, listed_twice}
 use Rattle.tile_flood.proofs.flood.Flood.lower_around.Goals as goal
 use Rattle.tile_flood.proofs.flood.Flood.lower_around.Goals.{in-Some+in_ok-lower_at, in_default}
 
@@ -20,6 +21,7 @@ loop-d-init c = record {
   relaxing = let fits : SFits w16 c.args.level = search rules in subst (λ v. AreRelaxingBut (block_of c.args.n c.args.heights.now c.args.sinks.now) c.args.self.now.levels.items c.args.self.now.queue c.args.c v) (sym (to_z-of_z w16 c.args.level fits)) c.requires.relaxing;
   lowered = lowered_same c.args.self.now.levels.items c.args.self.now.queue;
   low = λ k y less small spot solid. absurd (omega arith);
+  listed = listed_same c.args.self.now.levels.items c.args.self.now.labels.items c.args.affected.now.items;
   count = omega arith;
 }
 
@@ -48,6 +50,7 @@ loop-d-preserved c =
                   let is : y ≡ e = one_window_point n c.args.c d y e (subst (λ k. IsInWindow n c.args.c k y) same spot) w.in-Some.ensures.some in
                   subst (λ z. slice_index_or levels' z void ≤ℤ int_max (slice_index_or c.args.heights.now z void) v) (sym is) (a.low (subst (λ z. IsTrue (is_solid b z)) is solid))
             ];
+            listed = listed_twice c.args.self.now.levels.items levels levels' c.args.self.now.labels.items c.loop-d.self.labels.items w.lower_at.new.self.labels.items c.args.affected.now.items c.loop-d.affected.items w.lower_at.new.affected.items i.listed a.listed;
             count = let one = i.count in let two = a.count in omega arith;
           })
       | in_default w ↦ rw (w.self-is, w.affected-is) (record {
@@ -59,6 +62,7 @@ loop-d-preserved c =
           | inl before ↦ i.low k y before small spot solid
           | inr ge ↦ let same : k ≡ d = omega arith in absurd (w.in_default.ensures.none y small (subst (λ k. IsInWindow n c.args.c k y) same spot))
         ];
+        listed = i.listed;
         count = i.count;
       })
     ]

@@ -7,6 +7,7 @@ use Rattle.tile_flood.specs.Flooding.{is_marked}
 use Rattle.tile_flood.proofs.Squares.{solid_height}
 use Rattle.tile_flood.proofs.Spreading.{passed_max}
 use Rattle.tile_flood.proofs.Relaxation.{IsLoweredAt, lowered_as, lowering_solid, max_full, depth_less, inside_still}
+use Rattle.tile_flood.proofs.ListedChanges.{lowered_listed}
 use Rattle.tile_flood.proofs.flood.Flood.lower_at.Goals as goal
 
 is_max : (c : goal.In_ok-lower_to) → to_z w16 (of_z w16 c.higher-new.result) ≡ int_max (slice_index_or c.args.heights.now c.args.e void) c.args.level
@@ -66,3 +67,9 @@ returns-in_ok-lower_to-clause-count c =
     let fewer = depth_less c.args.self.now.levels.items c.args.e (to_z w16 (of_z w16 c.higher-new.result)) inside (low c) (less c) in
     let more = c.in_ok-lower_to.ensures.count in
     rw c.in_ok-lower_to.ensures.levels (omega arith)
+
+pub returns-in_ok-lower_to-clause-listed : goal.returns-in_ok-lower_to-clause-listed
+returns-in_ok-lower_to-clause-listed c =
+    lowered_listed c.args.self.now.levels.items c.lower_to.new.self.levels.items c.args.self.now.labels.items c.lower_to.new.self.labels.items c.args.affected.now.items c.lower_to.new.affected.items c.args.e (to_z w16 (of_z w16 c.higher-new.result))
+    (record { point = c.args.e; level = slice_index_or c.args.self.now.levels.items c.args.e void; label = slice_index c.args.self.now.labels.items c.args.e })
+    (marked c) refl refl c.in_ok-lower_to.ensures.levels c.in_ok-lower_to.ensures.labels c.in_ok-lower_to.ensures.affected

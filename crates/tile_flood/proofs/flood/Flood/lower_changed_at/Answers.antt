@@ -8,6 +8,7 @@ use Rattle.tile_flood.proofs.Squares.{not_void_if, solid_height}
 use Rattle.tile_flood.proofs.Relaxation.{inside_still}
 use Rattle.tile_flood.proofs.Joining.{inside_joined}
 use Rattle.tile_flood.proofs.ChangedHeights.{affected_ground, starting_more, starting_passed}
+use Rattle.tile_flood.proofs.ListedChanges.{lowered_listed}
 use Rattle.tile_flood.proofs.flood.Flood.lower_changed_at.Goals as goal
 
 pub wait_beside-requires-clause-point : goal.wait_beside-requires-clause-point
@@ -19,14 +20,14 @@ lowered_whole levels levels' e v n wrote whole = ap length wrote ∙ (length-set
 pub wait_beside-requires-clause-levels : goal.wait_beside-requires-clause-levels
 wait_beside-requires-clause-levels c = lowered_whole c.args.self.now.levels.items c.lower_to.new.self.levels.items _ _ c.args.n c.in_ok-lower_to.ensures.levels c.requires.state.lowering.levels_whole
 
-pub returns-else-is_marked : goal.returns-else-is_marked
-returns-else-is_marked c =
+pub returns-else-is_marked-clause-state : goal.returns-else-is_marked-clause-state
+returns-else-is_marked-clause-state c =
     let e = slice_index c.args.points.now c.args.k in
     starting_passed c.args.n c.args.heights.now c.args.sinks.now c.args.points.now c.args.self.now.levels.items c.args.self.now.labels.items c.args.self.now.queue c.args.affected.now.items c.args.k e
     c.requires.state (λ d. get_or_default c.args.points.now c.args.k d 0 c.requires.k) (sym c.is_marked.ensures.value ∙ c.if-is_marked.false)
 
-pub returns-in_ok-wait_beside : goal.returns-in_ok-wait_beside
-returns-in_ok-wait_beside c =
+pub returns-in_ok-wait_beside-clause-state : goal.returns-in_ok-wait_beside-clause-state
+returns-in_ok-wait_beside-clause-state c =
     let n = c.args.n in
     let heights = c.args.heights.now in
     let sinks = c.args.sinks.now in
@@ -59,3 +60,12 @@ returns-in_ok-wait_beside c =
     (b.levels ∙ a.levels) (b.labels ∙ a.labels) a.affected
     (inside_joined n c.lower_to.new.self.levels.items c.lower_to.new.self.queue c.wait_beside.new.self.queue (lowered_whole before c.lower_to.new.self.levels.items _ _ n a.levels s.lowering.levels_whole) (inside_still n c.args.self.now.queue c.lower_to.new.self.queue (to_z w16 (of_z w16 c.starting_level-level.result)) e s.inside small a.joined) b.joined) b.joined.still
     (λ y below beside marked_y. subst (λ ls. Waits c.wait_beside.new.self.queue (slice_index_or ls y void) y) (sym b.levels) (b.waits y below beside (subst (λ ls. IsTrue (is_marked ls y)) b.levels marked_y)))
+
+pub returns-in_ok-wait_beside-clause-listed : goal.returns-in_ok-wait_beside-clause-listed
+returns-in_ok-wait_beside-clause-listed c =
+    let e = slice_index c.args.points.now c.args.k in
+    let a = c.in_ok-lower_to.ensures in
+    let b = c.in_ok-wait_beside.ensures in
+    lowered_listed c.args.self.now.levels.items c.wait_beside.new.self.levels.items c.args.self.now.labels.items c.wait_beside.new.self.labels.items c.args.affected.now.items c.lower_to.new.affected.items e (to_z w16 (of_z w16 c.starting_level-level.result))
+    (record { point = e; level = slice_index_or c.args.self.now.levels.items e void; label = slice_index c.args.self.now.labels.items e })
+    (sym c.is_marked.ensures.value ∙ c.if-is_marked.true) refl refl (b.levels ∙ a.levels) (b.labels ∙ a.labels) a.affected

@@ -6,6 +6,7 @@ use Rattle.tile_flood.specs.Blocks.{block_of}
 use Rattle.tile_flood.specs.Waiting.{Waits}
 use Rattle.tile_flood.specs.Lowering.{AreRelaxingBut}
 use Rattle.tile_flood.proofs.Relaxation.{inside_taken, relaxing_taken, relaxed_end}
+use Rattle.tile_flood.proofs.ListedChanges.{listed_twice}
 use Rattle.tile_flood.proofs.flood.Flood.lower_levels.Goals as goal
 
 pub lower_around-requires-clause-c : goal.lower_around-requires-clause-c
@@ -27,6 +28,7 @@ loop-seat-preserved c =
       state = a.state;
       inside = a.inside;
       relaxing = a.relaxing;
+      listed = listed_twice c.args.self.now.levels.items c.loop-seat.self.levels.items c.lower_around.new.self.levels.items c.args.self.now.labels.items c.loop-seat.self.labels.items c.lower_around.new.self.labels.items c.args.affected.now.items c.loop-seat.affected.items c.lower_around.new.affected.items c.loop-seat.invariant.listed a.listed;
       exits = λ e out. ≤ℤ_trans (slice_index_or c.lower_around.new.self.levels.items e void) (slice_index_or c.loop-seat.self.levels.items e void) (slice_index_or c.args.heights.now e void) (a.lowered.lower e) (c.loop-seat.invariant.exits e out);
     }
 

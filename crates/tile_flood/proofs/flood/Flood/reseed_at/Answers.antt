@@ -7,6 +7,7 @@ use Rattle.tile_flood.specs.Blocks.{block_of}
 use Rattle.tile_flood.specs.Flooding.{is_marked, IsOwnLabel}
 use Rattle.tile_flood.proofs.Squares.{cell_of}
 use Rattle.tile_flood.proofs.Seeds.{IsReseeded, reseeded_as}
+use Rattle.tile_flood.proofs.ListedChanges.{left_marked}
 use Rattle.tile_flood.proofs.flood.Flood.reseed_at.Goals as goal
 
 abbrev none : Affected
@@ -38,3 +39,8 @@ returns-in_default-clause-seeded c d out =
     let e = (slice_index_or c.args.affected.now c.args.k none).point in
     let cell : e ≡ (e / c.args.n) * c.args.n + e % c.args.n = cell_of c.args.n e in
     absurd (true≢false (sym (subst (λ x. IsTrue (is_exit b x.point)) (get_or_default c.args.affected.now c.args.k d none c.requires.k) out) ∙ (ap (is_exit b) cell ∙ c.in_default.ensures.none)))
+
+pub returns-in_ok-mark-clause-left : goal.returns-in_ok-mark-clause-left
+returns-in_ok-mark-clause-left c =
+    left_marked c.args.self.now.levels.items c.mark.new.self.levels.items c.args.self.now.labels.items c.mark.new.self.labels.items (slice_index_or c.args.affected.now c.args.k none).point (to_z w16 (of_z w16 c.at.result)) c.in-Some.label
+    (ap not (sym c.is_unmarked.ensures ∙ c.if-is_unmarked.true)) c.in_ok-mark.ensures.levels c.in_ok-mark.ensures.labels

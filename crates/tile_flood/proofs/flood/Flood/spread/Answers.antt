@@ -4,7 +4,7 @@ use Rattle.lattice.specs.Block.{is_solid}
 use Rattle.tile_flood.specs.Blocks.{bare_block}
 use Rattle.tile_flood.specs.Affected.{IsInWindow}
 use Rattle.tile_flood.specs.Flooding.{is_marked}
-use Rattle.tile_flood.proofs.Dependence.{one_window_point, window_point_of, window_beside}
+use Rattle.tile_flood.proofs.Dependence.{kept_twice, one_window_point, window_point_of, window_beside}
 use Rattle.tile_flood.proofs.Squares.{linked_parts, solid_below}
 use Rattle.tile_flood.proofs.Spreading.{spread_end}
 use Rattle.tile_flood.proofs.flood.Flood.spread.Goals as goal
@@ -30,6 +30,7 @@ loop-d-preserved c =
           let levels' = w.visit.new.self.levels.items in
           rw w.self-is (record {
             state = a.state;
+            left = kept_twice levels' c.loop-d.self.levels.items c.args.self.now.levels.items w.visit.new.self.labels.items c.loop-d.self.labels.items c.args.self.now.labels.items a.left i.left;
             count = let one = i.count in let two = a.count in omega arith;
             marked = λ k z less small spot solid. elim (cases_lt k d) [
               | inl before ↦ a.still z (i.marked k z before small spot solid)
@@ -41,6 +42,7 @@ loop-d-preserved c =
           })
       | in_default w ↦ rw w.self-is (record {
         state = i.state;
+        left = i.left;
         count = i.count;
         marked = λ k z less small spot solid. elim (cases_lt k d) [
           | inl before ↦ i.marked k z before small spot solid

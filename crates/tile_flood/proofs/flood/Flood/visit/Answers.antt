@@ -4,6 +4,7 @@ use Rattle.lattice.specs.Block.{is_solid}
 use Rattle.tile_flood.specs.Flooding.{is_marked}
 use Rattle.tile_flood.proofs.Spreading.{IsVisited, visited_as, passed_max, near_linked}
 use Rattle.tile_flood.specs.Blocks.{bare_block}
+use Rattle.tile_flood.proofs.ListedChanges.{left_marked}
 use Rattle.tile_flood.proofs.flood.Flood.visit.Goals as goal
 
 after : (c : goal.In_ok-mark) → IsVisited c.args.n c.args.heights.now c.args.sinks.now c.args.self.now.levels.items c.mark.new.self.levels.items c.mark.new.self.labels.items c.mark.new.self.queue
@@ -31,3 +32,8 @@ returns-in_ok-mark-clause-still c = (after c).still
 
 pub returns-in_ok-mark-clause-count : goal.returns-in_ok-mark-clause-count
 returns-in_ok-mark-clause-count c = let fewer = (after c).count in let more = c.in_ok-mark.ensures.count in omega arith
+
+pub returns-in_ok-mark-clause-left : goal.returns-in_ok-mark-clause-left
+returns-in_ok-mark-clause-left c =
+    left_marked c.args.self.now.levels.items c.mark.new.self.levels.items c.args.self.now.labels.items c.mark.new.self.labels.items c.args.e (to_z w16 (of_z w16 c.higher-level.result)) c.args.front.label
+    (ap not (sym c.is_unmarked.ensures ∙ c.if-is_unmarked.true)) c.in_ok-mark.ensures.levels c.in_ok-mark.ensures.labels

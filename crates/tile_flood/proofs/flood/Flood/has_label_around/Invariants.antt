@@ -1,0 +1,7 @@
+use Rattle.std.proofs.Common.{◌≡◌, ℕ, ◌*◌, ◌<◌, IsTrue, slice_index}
+use Rattle.tile_flood.specs.Flooding.{is_marked}
+use Rattle.tile_flood.specs.Affected.{IsInWindow}
+use Rattle.tile_flood.proofs.flood.Flood.has_label_around.Given as goal
+
+abbrev pub invariant-loop-d : goal.invariant-loop-d
+invariant-loop-d l = (k z : ℕ) → k < l.d → z < l.n * l.n → IsInWindow l.n l.point k z → IsTrue (is_marked l.self.levels.items z) → slice_index l.self.labels.items z ≡ l.label
