@@ -10,7 +10,7 @@ use Rattle.watershed.specs.Runs.{AreRuns}
 ≤ℤ_same a = omega (arith, ints)
 
 -- a set of no points has no run
-empty_runs : (inside : Point → Type 0) (runs : List Run) → AreRuns inside runs → ((p : Point) → inside p → ⊥) → runs ≡ []
+pub empty_runs : (inside : Point → Type 0) (runs : List Run) → AreRuns inside runs → ((p : Point) → inside p → ⊥) → runs ≡ []
 empty_runs inside [] are none = refl
 empty_runs inside (r ∷ rest) are none =
     let start : Point = record { y = r.y; x = r.first } in

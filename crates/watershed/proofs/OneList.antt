@@ -1,5 +1,5 @@
 -- A set has at most one list of maximal runs.
-use Rattle.std.proofs.Common.{◌≡◌, zero, suc, ◌+◌, ℤ, pos, ◌+ℤ◌, ◌≤ℤ◌, ◌<ℤ◌, ◌⊎◌, inl, inr, ⊎_elim, List, [], ◌∷◌, refl, sym, ap₂, ◌∙◌, subst, arith, length}
+use Rattle.std.proofs.Common.{◌≡◌, zero, suc, ◌+◌, pos, ◌+ℤ◌, ◌≤ℤ◌, ◌<ℤ◌, ◌⊎◌, inl, inr, ⊎_elim, List, [], ◌∷◌, refl, sym, ap₂, ◌∙◌, subst, arith, length}
 use Rattle.std.specs.Prelude.{All, Any, int_lt, slice_index_or}
 use Rattle.std.specs.List.{AllAdjacentBelow}
 use Rattle.std.proofs.lemmas.Int.{ints}

@@ -1,9 +1,8 @@
 -- The search up the flow paths: what is found after each step, and that in the end it is the watershed.
-use Rattle.std.proofs.Common.{◌≡◌, ℕ, zero, suc, ◌+◌, ◌<◌, ◌≤◌, ℤ, Bool, IsTrue, IsFalse, Option, Some, None, List, [], ◌++◌, ◌↔◌, length, get_or, refl, sym, ap, ◌∙◌, subst, arith, inl, inr, length-append}
-use Rattle.std.specs.Prelude.{Contains, All, slice_index_or, is_some}
-use Rattle.std.proofs.lemmas.Bool.{cases_Bool, cases_eq}
-use Rattle.std.proofs.lemmas.List.{get_or_append_left, get_or_default}
-use Rattle.std.proofs.lemmas.List.Elements.{All-append, Contains-append_left, Contains-append_right}
+use Rattle.std.proofs.Common.{◌≡◌, ℕ, zero, suc, ℤ, IsTrue, IsFalse, Option, Some, None, List, [], ◌∷◌, ◌++◌, ◌⊎◌, ◌↔◌, inl, inr, ⊎_elim, refl, sym, ap, ◌∙◌, subst, arith, true≢false}
+use Rattle.std.specs.Prelude.{Contains, is_some, if◌then◌else◌}
+use Rattle.std.proofs.lemmas.Bool.{cases_Bool}
+use Rattle.std.proofs.lemmas.List.Elements.{Contains-append_left, Contains-append_right, Contains-append_cases, Contains-push, Contains-push_cases}
 use Rattle.lattice.specs.declared.point.Point.{Point}
 use Rattle.lattice.specs.declared.direction.Dir.{Dir}
 use Rattle.lattice.specs.Steps.{step}
@@ -14,77 +13,117 @@ use Rattle.flow_d8.specs.Drainage.{IsDirection}
 use Rattle.flow_d8.specs.FlowPath.{FlowsTo, IsInWatershed}
 use Rattle.flow_d8.specs.Directions.{Directions, DrainsTo, AreDirectionsOf, direction_in, distance_in}
 use Rattle.flow_d8.proofs.Unique.{one_direction}
-use Rattle.watershed.specs.Search.{IsFeeder, LeadsTo, AreFeeders, AreUpstream}
+use Rattle.watershed.specs.Runs.{AreRuns}
+use Rattle.watershed.specs.declared.runs.Run.{Run}
+use Rattle.watershed.specs.Search.{IsFeeder, LeadsTo, AreUpstream}
+use Rattle.watershed.proofs.Found.{empty_runs}
 
-module _ (Feeds : Point → Point → Type 0) (on_ground : Bool) where
-  -- the points found so far; what feeds the first `done` of them is found
-  pub record IsSearching (p : Point) (found : List Point) (done : ℕ) : Type 0 where
-    pub lead : All (λ x. (k : ℕ) × LeadsTo Feeds x k p) found
-    pub begins : IsTrue on_ground → Contains found p
-    pub elsewhere : IsFalse on_ground → found ≡ []
-    pub few : done ≤ length found
-    pub closed : (i : ℕ) (q x : Point) → i < done → Feeds x (slice_index_or found i q) → Contains found x
+module _ (t : Terrain Point) (level : Point → ℤ) (p : Point) where
+  -- the points that are marked or wait so far; what feeds a marked one is among them
+  pub record IsSearching (Marked : Point → Type 0) (waiting : List Point) : Type 0 where
+    pub lead : (x : Point) → Marked x ⊎ Contains waiting x → (k : ℕ) × LeadsTo t level x k p
+    pub begins : IsTrue (t.is_ground p) → Marked p ⊎ Contains waiting p
+    pub elsewhere : (x : Point) → Marked x ⊎ Contains waiting x → IsTrue (t.is_ground p)
+    pub closed : (q x : Point) → Marked q → IsFeeder t level x q → Marked x ⊎ Contains waiting x
 
-  pub search_on : (p at : Point) (found new : List Point) (done : ℕ) → done < length found → at ≡ get_or found done at → AreFeeders Feeds at found new → IsSearching p found done → IsSearching p new (done + 1)
-  search_on p at found new done lt is fed so_far = subst (λ l. IsSearching p l (done + 1)) (sym fed.after) (record {
-    lead = All-append (λ x. (k : ℕ) × LeadsTo Feeds x k p) found fed.more so_far.lead (λ k x low.
-        let y = get_or fed.more k x in
-        let drains = (fed.exactly y).0 (k, low, get_or_default fed.more k y x low) in
-        let on : (k : ℕ) × LeadsTo Feeds at k p = subst (λ q. (k : ℕ) × LeadsTo Feeds q k p) (sym is) (so_far.lead done at lt) in
-        (suc on.0, (at, (drains, on.1))));
-    begins = λ known. Contains-append_left found fed.more p (so_far.begins known);
-    elsewhere = λ none. absurd (omega (arith, ap length (so_far.elsewhere none)));
-    few = omega (arith, length-append found fed.more);
-    closed = λ i q x below drains. elim (cases_eq i done) [
-      | inl here ↦
-          let same : slice_index_or (found ++ fed.more) i q ≡ at = ap (λ j. get_or (found ++ fed.more) j q) here ∙ get_or_append_left found fed.more q done lt ∙ get_or_default found done q at lt ∙ sym is in
-          Contains-append_right found fed.more x ((fed.exactly x).1 (subst (Feeds x) same drains))
-      | inr other ↦
-          let low : i < done = omega arith in
-          let same : slice_index_or (found ++ fed.more) i q ≡ slice_index_or found i q = get_or_append_left found fed.more q i (omega arith) in
-          Contains-append_left found fed.more x (so_far.closed i q x low (subst (Feeds x) same drains))
-    ];
-  })
+  none_waits : (Marked : Point → Type 0) (x : Point) → ((q : Point) → Marked q → ⊥) → Marked x ⊎ Contains [] x → ⊥
+  none_waits Marked x none (inl marked) = none x marked
+  none_waits Marked x none (inr has) = absurd (omega (arith, has.1))
 
-  pub search_done : (p : Point) (found : List Point) (done : ℕ) → length found ≤ done → IsSearching p found done → AreUpstream Feeds on_ground p found
-  search_done p found done all so_far = record {
-    lead = so_far.lead;
-    begins = so_far.begins;
-    elsewhere = so_far.elsewhere;
-    closed = λ q x has drains. so_far.closed has.0 q x (omega (arith, has.1)) (subst (Feeds x) (sym has.2) drains);
+  alone : (Marked : Point → Type 0) (x : Point) → ((q : Point) → Marked q → ⊥) → Marked x ⊎ Contains (p ∷ []) x → x ≡ p
+  alone Marked x none (inl marked) = absurd (none x marked)
+  alone Marked x none (inr has) = ⊎_elim (λ before. absurd (omega (arith, before.1))) (λ this. sym this) (Contains-push_cases [] p x has)
+
+  -- the search begins with the point, where that is ground
+  pub begun : (Marked : Point → Type 0) (waiting : List Point) → ((q : Point) → Marked q → ⊥) → waiting ≡ (if t.is_ground p then p ∷ [] else []) → IsSearching Marked waiting
+  begun Marked waiting none is = elim (cases_Bool (t.is_ground p)) [
+    | inl solid ↦ subst (IsSearching Marked) (sym (is ∙ ap (λ b. if b then p ∷ [] else []) solid)) (record {
+      lead = λ x found. (0, alone Marked x none found);
+      begins = λ _. inr (Contains-push [] p);
+      elsewhere = λ _ _. solid;
+      closed = λ q x marked feeds. absurd (none q marked);
+    })
+    | inr off ↦ subst (IsSearching Marked) (sym (is ∙ ap (λ b. if b then p ∷ [] else []) off)) (record {
+      lead = λ x found. absurd (none_waits Marked x none found);
+      begins = λ solid. absurd (true≢false (sym solid ∙ off));
+      elsewhere = λ x found. absurd (none_waits Marked x none found);
+      closed = λ q x marked feeds. absurd (none q marked);
+    })
+  ]
+
+  -- the last that waits is marked, and what feeds it waits
+  module _ (Marked Marked' : Point → Type 0) (rest more : List Point) (at : Point)
+      (mark : (x : Point) → Marked' x ↔ (Marked x ⊎ (x ≡ at))) (exactly : (x : Point) → Contains more x ↔ IsFeeder t level x at) (so_far : IsSearching Marked (rest ++ at ∷ [])) where
+    kept : (x : Point) → Marked x ⊎ Contains (rest ++ at ∷ []) x → Marked' x ⊎ Contains (rest ++ more) x
+    kept x (inl marked) = inl ((mark x).1 (inl marked))
+    kept x (inr has) = ⊎_elim (λ before. inr (Contains-append_left rest more x before)) (λ this. inl ((mark x).1 (inr (sym this)))) (Contains-push_cases rest at x has)
+
+    -- what is found now was found before, or feeds the point
+    was : (x : Point) → Marked' x ⊎ Contains (rest ++ more) x → (Marked x ⊎ Contains (rest ++ at ∷ []) x) ⊎ IsFeeder t level x at
+    was x (inl marked) = inl (⊎_elim (λ old. inl old) (λ this. inr (subst (Contains (rest ++ at ∷ [])) (sym this) (Contains-push rest at))) ((mark x).0 marked))
+    was x (inr has) = ⊎_elim (λ before. inl (inr (Contains-append_left rest (at ∷ []) x before))) (λ new. inr ((exactly x).0 new)) (Contains-append_cases rest more x has)
+
+    waited : Marked at ⊎ Contains (rest ++ at ∷ []) at
+    waited = inr (Contains-push rest at)
+
+    pub search_on : IsSearching Marked' (rest ++ more)
+    search_on = record {
+      lead = λ x found. ⊎_elim (λ old. so_far.lead x old) (λ feeds. let on = so_far.lead at waited in (suc on.0, (at, (feeds, on.1)))) (was x found);
+      begins = λ solid. kept p (so_far.begins solid);
+      elsewhere = λ x found. so_far.elsewhere at waited;
+      closed = λ q x marked feeds. ⊎_elim
+          (λ old. kept x (so_far.closed q x old feeds))
+          (λ this. inr (Contains-append_right rest more x ((exactly x).1 (subst (IsFeeder t level x) this feeds))))
+          ((mark q).0 marked);
+    }
+
+  marked_all : (Marked : Point → Type 0) (x : Point) → Marked x ⊎ Contains [] x → Marked x
+  marked_all Marked x (inl marked) = marked
+  marked_all Marked x (inr has) = absurd (omega (arith, has.1))
+
+  pub search_done : (Marked : Point → Type 0) → IsSearching Marked [] → AreUpstream t level p Marked
+  search_done Marked so_far = record {
+    lead = λ x marked. so_far.lead x (inl marked);
+    begins = λ solid. marked_all Marked p (so_far.begins solid);
+    elsewhere = λ x marked. so_far.elsewhere x (inl marked);
+    closed = λ q x marked feeds. marked_all Marked x (so_far.closed q x marked feeds);
   }
 
--- Where feeders are those of the terrain, what is found is the watershed.
-module _ (t : Terrain Point) (level : Point → ℤ) (lawful : IsLawful t) (Feeds : Point → Point → Type 0) (same : (x y : Point) → Feeds x y ↔ IsFeeder t level x y) (p : Point) (found : List Point) (up : AreUpstream Feeds (t.is_ground p) p found) where
+module _ (t : Terrain Point) (level : Point → ℤ) (lawful : IsLawful t) (p : Point) where
   -- a step of a flow path is to ground
   stays : (x : Point) (e : Dir) → IsDirection t level x (Some e) → IsTrue (t.is_ground (step e x))
   stays x e (inl down) = lawful.to_ground x (step e x) down.lower.beside
   stays x e (inr across) = lawful.to_ground x (step e x) across.1.1.nearer.beside
 
-  flows : (x : Point) (k : ℕ) → IsTrue (t.is_ground p) → LeadsTo Feeds x k p → IsInWatershed t level p x
-  flows x zero solid leads = record { on_ground = subst (λ q. IsTrue (t.is_ground q)) (sym leads) solid; flows = (0, leads) }
-  flows x (suc k) solid leads =
-      let feeder = (same x leads.0).0 leads.1.0 in
-      let on = flows leads.0 k solid leads.1.1 in
-      record { on_ground = feeder.on_ground; flows = (suc on.flows.0, (feeder.drains.0, (feeder.drains.1.0, subst (λ q. FlowsTo t level q on.flows.0 p) (sym feeder.drains.1.1) on.flows.1))) }
+  flows_on_ground : (x : Point) (k : ℕ) → IsTrue (t.is_ground x) → FlowsTo t level x k p → IsTrue (t.is_ground p)
+  flows_on_ground x zero solid flow = subst (λ q. IsTrue (t.is_ground q)) flow solid
+  flows_on_ground x (suc k) solid flow = flows_on_ground (step flow.0 x) k (stays x flow.0 flow.1.0) flow.1.1
 
-  -- the flow path of a ground point stays on ground, and the search meets each of its points
-  met : (x : Point) (k : ℕ) → IsTrue (t.is_ground x) → FlowsTo t level x k p → Contains found x
-  met x zero solid flow = subst (Contains found) (sym flow) (up.begins (subst (λ q. IsTrue (t.is_ground q)) flow solid))
-  met x (suc k) solid flow =
-      let e = flow.0 in
-      up.closed (step e x) x (met (step e x) k (stays x e flow.1.0) flow.1.1) ((same x (step e x)).1 (record { on_ground = solid; drains = (e, (flow.1.0, refl)) }))
+  -- the watershed of a point that isn't ground has no run
+  pub no_watershed : (runs : List Run) → AreRuns (IsInWatershed t level p) runs → IsFalse (t.is_ground p) → runs ≡ []
+  no_watershed runs are off = empty_runs (IsInWatershed t level p) runs are (λ x within. true≢false (sym (flows_on_ground x within.flows.0 within.on_ground within.flows.1) ∙ off))
 
-  pub found_is_watershed : (x : Point) → Contains found x ↔ IsInWatershed t level p x
-  found_is_watershed x = (
-    (λ has. elim (cases_Bool (t.is_ground p)) [
-      | inl solid ↦
-          let leads : (k : ℕ) × LeadsTo Feeds x k p = subst (λ q. (k : ℕ) × LeadsTo Feeds q k p) has.2 (up.lead has.0 x has.1) in
-          flows x leads.0 solid leads.1
-      | inr off ↦ absurd (omega (arith, has.1, ap length (up.elsewhere off)))
-    ]),
-    (λ within. met x within.flows.0 within.on_ground within.flows.1),
-  )
+  -- what is found is the watershed
+  module _ (Found : Point → Type 0) (up : AreUpstream t level p Found) where
+    flows : (x : Point) (k : ℕ) → IsTrue (t.is_ground p) → LeadsTo t level x k p → IsInWatershed t level p x
+    flows x zero solid leads = record { on_ground = subst (λ q. IsTrue (t.is_ground q)) (sym leads) solid; flows = (0, leads) }
+    flows x (suc k) solid leads =
+        let feeder = leads.1.0 in
+        let on = flows leads.0 k solid leads.1.1 in
+        record { on_ground = feeder.on_ground; flows = (suc on.flows.0, (feeder.drains.0, (feeder.drains.1.0, subst (λ q. FlowsTo t level q on.flows.0 p) (sym feeder.drains.1.1) on.flows.1))) }
+
+    -- the flow path of a ground point stays on ground, and the search meets each of its points
+    met : (x : Point) (k : ℕ) → IsTrue (t.is_ground x) → FlowsTo t level x k p → Found x
+    met x zero solid flow = subst Found (sym flow) (up.begins (subst (λ q. IsTrue (t.is_ground q)) flow solid))
+    met x (suc k) solid flow =
+        let e = flow.0 in
+        up.closed (step e x) x (met (step e x) k (stays x e flow.1.0) flow.1.1) (record { on_ground = solid; drains = (e, (flow.1.0, refl)) })
+
+    pub found_is_watershed : (x : Point) → Found x ↔ IsInWatershed t level p x
+    found_is_watershed x = (
+      (λ found. let leads = up.lead x found in flows x leads.0 (up.elsewhere x found) leads.1),
+      (λ within. met x within.flows.0 within.on_ground within.flows.1),
+    )
 
 no_some : {A : Type 0} (a : A) → ◌≡◌ {A = Option A} None (Some a) → ⊥
 no_some a e = cc

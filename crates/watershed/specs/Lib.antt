@@ -4,3 +4,4 @@ pub mod Order
 pub mod Search
 pub mod Questions
 pub mod Feeding
+pub mod Marks

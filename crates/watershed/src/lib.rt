@@ -18,7 +18,10 @@
 //! ```
 #![tactic(auto)]
 
+mod feeders;
+mod held;
 mod laws;
+mod marks;
 mod point_search;
 mod runs;
 mod search;

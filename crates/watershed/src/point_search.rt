@@ -1,23 +1,29 @@
 //! The search up the flow paths over filled levels that are asked for point by point: from the point to those whose
 //! direction leads to one that is found.
-ghost use Rattle.std.specs.Prelude.{◌≡◌, ◌↔◌, ◌++◌, [], ◌∷◌, Some, None, if◌then◌else◌, IsTrue, IsFalse, IfOk, IfErr, IfSome, OnOk};
+ghost use Rattle.std.specs.Prelude.{◌≡◌, ◌↔◌, ◌+◌, ◌<◌, ◌≤◌, ◌++◌, [], ◌∷◌, Some, None, IsTrue, IsFalse, IfOk, IfErr, IfSome, OnOk, Contains};
+ghost use Rattle.std.proofs.Common.{◌∙◌};
+ghost use Rattle.arrayvec.specs.ArrayVec.{array_vec_len};
+ghost use Rattle.lattice.specs.declared.point.Point.{Point};
 ghost use Rattle.lattice.specs.declared.direction.Dir.{Dir};
 ghost use Rattle.lattice.specs.Steps.{step};
 ghost use Rattle.lattice.specs.Stepping.{fits_point};
 ghost use Rattle.lattice.specs.Ground.{is_ground, terrain};
+ghost use Rattle.flow_d8.specs.Drainage.{AreFilledLevels};
 ghost use Rattle.flow_d8.specs.FlowPath.{IsInWatershed};
-ghost use Rattle.watershed.specs.Runs.{AreRuns};
-ghost use Rattle.watershed.specs.Search.{IsFeeder, AreFeeders, AreUpstream};
 ghost use Rattle.flow_d8.specs.LevelsAround.{OnLevels};
 ghost use Rattle.flow_d8.specs.Asking.{Asks};
 ghost use Rattle.flow_d8.specs.Flats.{AreFlatsOf};
+ghost use Rattle.watershed.specs.Runs.{AreRuns};
+ghost use Rattle.watershed.specs.Search.{IsFeeder};
 ghost use Rattle.watershed.specs.Feeding.{IsFeederAdded};
 
-use crate::runs::{Run, runs_of_points};
-use crate::search::watershed;
+use crate::feeders::Feeders;
+use crate::runs::Run;
+use crate::search::{search, search_all, watershed};
+use arrayvec::ArrayVec;
 use flow_d8::{FilledLevels, Flats, direction_over};
 use lattice::{DIRECTIONS, Dir, Point, Refusal, neighbour};
-use std::alloc::{AllocError, Global};
+use std::alloc::Global;
 
 // Up the flow paths a search may reach so many times the points: a river of a mountain takes less time by points.
 const FARTHER_UP: usize = 4;
@@ -45,7 +51,7 @@ pub fn watershed_at<S, L: FilledLevels<S>>(
         return watershed(alloc, directions, point);
     }
     let far = levels.far(source).saturating_mul(FARTHER_UP);
-    if let Some(runs) = by_search(alloc, levels, source, point, far)? {
+    if let Some(runs) = by_few_points(alloc, levels, source, point, far)? {
         return Ok(runs);
     }
     wide_watershed(alloc, levels, source, point)
@@ -70,14 +76,35 @@ fn wide_watershed<S, L: FilledLevels<S>>(
     if let Some(directions) = levels.directions(source) {
         return watershed(alloc, directions, point);
     }
-    match by_search(alloc, levels, source, point, usize::MAX)? {
-        Some(runs) => Ok(runs),
-        None => Err(Refusal::NoMemory),
-    }
+    by_points(alloc, levels, source, point)
+}
+
+// The watershed, found point by point.
+fn by_points<S, L: FilledLevels<S>>(
+    alloc: Global,
+    levels: &mut L,
+    source: &mut S,
+    point: Point,
+) -> Result<Vec<Run>, Refusal>
+    requires { L.fits levels.old source.old }
+    ensures runs { L.is_honest levels.new source.new → IfOk result (λ runs. OnLevels (L.mosaic levels.old source.old) (λ level. AreRuns (IsInWatershed (terrain (L.mosaic levels.old source.old)) level point) runs.items)) }
+    ensures elsewhere { L.is_honest levels.new source.new → IfOk result (λ runs. IsFalse (is_ground (L.mosaic levels.old source.old) point) → runs.items ≡ []) }
+    ensures refusal { IfErr result (L.refuses levels.old source.old levels.new source.new) }
+    ensures asks { Asks L.FilledLevels levels.old source.old levels.new source.new }
+    ensures keeps { OnOk result (L.keeps levels.old source.old levels.new source.new) }
+    ensures fits { L.fits levels.new source.new }
+{
+    let mut flats = Flats::new(alloc);
+    let mut asked = Asked {
+        levels,
+        source,
+        flats: &mut flats,
+    };
+    search_all(alloc, &mut asked, point)
 }
 
 // The watershed, found point by point. None where it has more points than `most`.
-fn by_search<S, L: FilledLevels<S>>(
+fn by_few_points<S, L: FilledLevels<S>>(
     alloc: Global,
     levels: &mut L,
     source: &mut S,
@@ -92,96 +119,88 @@ fn by_search<S, L: FilledLevels<S>>(
     ensures keeps { OnOk result (L.keeps levels.old source.old levels.new source.new) }
     ensures fits { L.fits levels.new source.new }
 {
-    let Some(points) = upstream(alloc, levels, source, point, most)? else {
-        return Ok(None);
-    };
-    Ok(Some(runs_of_points(alloc, points)?))
-}
-
-// The points whose flow path contains the point, each after the one that it drains to; None where they are more than `most`.
-fn upstream<S, L: FilledLevels<S>>(
-    alloc: Global,
-    levels: &mut L,
-    source: &mut S,
-    point: Point,
-    most: usize,
-) -> Result<Option<Vec<Point>>, Refusal>
-    requires { L.fits levels.old source.old }
-    ensures found { L.is_honest levels.new source.new → IfOk result (λ points. IfSome points (λ found. OnLevels (L.mosaic levels.old source.old) (λ level. AreUpstream (IsFeeder (terrain (L.mosaic levels.old source.old)) level) (is_ground (L.mosaic levels.old source.old) point) point found.items))) }
-    ensures refusal { IfErr result (L.refuses levels.old source.old levels.new source.new) }
-    ensures asks { Asks L.FilledLevels levels.old source.old levels.new source.new }
-    ensures keeps { OnOk result (L.keeps levels.old source.old levels.new source.new) }
-    ensures fits { L.fits levels.new source.new }
-{
     let mut flats = Flats::new(alloc);
-    let mut found = Vec::new(alloc);
-    start(alloc, levels, source, point, &mut found)?;
-    let mut done = 0;
-    'search: while done < found.len() {
-        if found.len() > most {
-            return Ok(None);
-        }
-        let at = found[done];
-        add_feeders(alloc, levels, source, &mut flats, at, &mut found)?;
-        done += 1;
+    let mut asked = Asked {
+        levels,
+        source,
+        flats: &mut flats,
+    };
+    search(alloc, &mut asked, point, most)
+}
+
+// Filled levels, asked which points drain straight to a point.
+#[derive(Drop)]
+struct Asked<'a, 'b, 'c, S, L: FilledLevels<S>> {
+    levels: &'a mut L,
+    source: &'b mut S,
+    flats: &'c mut Flats,
+}
+
+impl<'a, 'b, 'c, S, L: FilledLevels<S>> Feeders for Asked<'a, 'b, 'c, S, L> {
+    ghost tells = { λ asked m level. L.is_honest asked.levels.now asked.source.now × ((m ≡ L.mosaic asked.levels.now asked.source.now) × AreFilledLevels (terrain m) level) };
+
+    ghost is_ready = { λ asked. L.fits asked.levels.now asked.source.now × AreFlatsOf L.FilledLevels asked.levels.now asked.source.now asked.flats.now };
+
+    // They are the same levels, and right for their source.
+    ghost follows = { λ old new. (new.levels.ghost_name ≡ old.levels.ghost_name) × (new.source.ghost_name ≡ old.source.ghost_name) × Asks L.FilledLevels old.levels.now old.source.now new.levels.now new.source.now × L.fits new.levels.now new.source.now };
+
+    ghost keeps = { λ old new. L.keeps old.levels.now old.source.now new.levels.now new.source.now };
+
+    ghost refuses = { λ old new r. L.refuses old.levels.now old.source.now new.levels.now new.source.now r };
+
+    fn is_ground(&mut self, alloc: Global, point: Point) -> Result<bool, Refusal> {
+        let level = self.levels.level(alloc, self.source, point)?;
+        Ok(level.is_some())
     }
-    Ok(Some(found))
-}
 
-// Finds the point, where it is ground.
-fn start<S, L: FilledLevels<S>>(
-    alloc: Global,
-    levels: &mut L,
-    source: &mut S,
-    point: Point,
-    found: &mut Vec<Point>,
-) -> Result<(), Refusal>
-    requires fits { L.fits levels.old source.old }
-    requires empty { found.old.items ≡ [] }
-    ensures found { L.is_honest levels.new source.new → OnOk result (found.new.items ≡ (if is_ground (L.mosaic levels.old source.old) point then point ∷ [] else [])) }
-    ensures refusal { IfErr result (L.refuses levels.old source.old levels.new source.new) }
-    ensures asks { Asks L.FilledLevels levels.old source.old levels.new source.new }
-    ensures keeps { OnOk result (L.keeps levels.old source.old levels.new source.new) }
-    ensures fits { L.fits levels.new source.new }
-{
-    if levels.level(alloc, source, point)?.is_some() {
-        find(found, point)?;
+    fn feeders(&mut self, alloc: Global, point: Point) -> Result<ArrayVec<Point, 8>, Refusal> {
+        feeders(alloc, self.levels, self.source, self.flats, point)
     }
-    Ok(())
+
+    ghost told_before = { λ a b m level follows told. (follows.2.honest told.0, (told.1.0 ∙ follows.2.mosaic told.0, told.1.1)) };
+
+    ghost follows_on = { λ a b c first then. (then.0 ∙ first.0, then.1 ∙ first.1, record { honest = λ honest. first.2.honest (then.2.honest honest); mosaic = λ honest. then.2.mosaic honest ∙ first.2.mosaic (then.2.honest honest) }, then.3) };
+
+    ghost keeps_on = { λ a b c first then. L.keeps_on a.levels.now b.levels.now c.levels.now a.source.now b.source.now c.source.now first then };
+
+    ghost refuses_on = { λ a b c r kept refused. L.refuses_on a.levels.now b.levels.now c.levels.now a.source.now b.source.now c.source.now r kept refused };
+
+    ghost runs_out = { λ a b kept. L.runs_out a.levels.now b.levels.now a.source.now b.source.now kept };
 }
 
-fn find(found: &mut Vec<Point>, point: Point) -> Result<(), AllocError>
-    ensures { OnOk result (found.new.items ≡ found.old.items ++ point ∷ []) }
-{
-    found.push(point)?;
-    Ok(())
-}
-
-// Finds the points that drain straight to this one.
-fn add_feeders<S, L: FilledLevels<S>>(
+// The points that drain straight to the point.
+fn feeders<S, L: FilledLevels<S>>(
     alloc: Global,
     levels: &mut L,
     source: &mut S,
     flats: &mut Flats,
     point: Point,
-    found: &mut Vec<Point>,
-) -> Result<(), Refusal>
+) -> Result<ArrayVec<Point, 8>, Refusal>
     requires fits { L.fits levels.old source.old }
     requires flats { AreFlatsOf L.FilledLevels levels.old source.old flats.old }
-    ensures feeders { L.is_honest levels.new source.new → OnOk result (OnLevels (L.mosaic levels.old source.old) (λ level. AreFeeders (IsFeeder (terrain (L.mosaic levels.old source.old)) level) point found.old.items found.new.items)) }
+    ensures feeders { L.is_honest levels.new source.new → IfOk result (λ found. OnLevels (L.mosaic levels.old source.old) (λ level. (x : Point) → Contains found.items x ↔ IsFeeder (terrain (L.mosaic levels.old source.old)) level x point)) }
     ensures flats { OnOk result (AreFlatsOf L.FilledLevels levels.new source.new flats.new) }
     ensures refusal { IfErr result (L.refuses levels.old source.old levels.new source.new) }
     ensures asks { Asks L.FilledLevels levels.old source.old levels.new source.new }
     ensures keeps { OnOk result (L.keeps levels.old source.old levels.new source.new) }
     ensures fits { L.fits levels.new source.new }
 {
+    let mut found = ArrayVec::new();
     for i in 0..8 {
-        add_feeder(alloc, levels, source, flats, point, DIRECTIONS[i], found)?;
+        add_feeder(
+            alloc,
+            levels,
+            source,
+            flats,
+            point,
+            DIRECTIONS[i],
+            &mut found,
+        )?;
     }
-    Ok(())
+    Ok(found)
 }
 
-// Finds the point in the direction, where it drains straight back.
+// Adds the point in the direction, where it drains straight back.
 fn add_feeder<S, L: FilledLevels<S>>(
     alloc: Global,
     levels: &mut L,
@@ -189,11 +208,13 @@ fn add_feeder<S, L: FilledLevels<S>>(
     flats: &mut Flats,
     point: Point,
     direction: Dir,
-    found: &mut Vec<Point>,
+    found: &mut ArrayVec<Point, 8>,
 ) -> Result<(), Refusal>
     requires fits { L.fits levels.old source.old }
     requires flats { AreFlatsOf L.FilledLevels levels.old source.old flats.old }
+    requires room { array_vec_len found.old < 8 }
     ensures feeder { L.is_honest levels.new source.new → OnOk result (OnLevels (L.mosaic levels.old source.old) (λ level. IsFeederAdded (IsFeeder (terrain (L.mosaic levels.old source.old)) level) point direction found.old.items found.new.items)) }
+    ensures room { array_vec_len found.new ≤ array_vec_len found.old + 1 }
     ensures flats { OnOk result (AreFlatsOf L.FilledLevels levels.new source.new flats.new) }
     ensures refusal { IfErr result (L.refuses levels.old source.old levels.new source.new) }
     ensures asks { Asks L.FilledLevels levels.old source.old levels.new source.new }
@@ -205,7 +226,8 @@ fn add_feeder<S, L: FilledLevels<S>>(
     };
     let way = direction_over(alloc, levels, source, flats, from)?;
     if leads_to(from, way, point) {
-        find(found, from)?;
+        found.push(from);
+        return Ok(());
     }
     Ok(())
 }

@@ -1,18 +1,22 @@
-//! The search up the flow paths.
-ghost use Rattle.std.specs.Prelude.{◌≡◌, ℤ, IsFalse, IfOk, IfErr, OnOk, is_some, []};
+//! The search up the flow paths: from a point to those that drain straight to it, and so on.
+ghost use Rattle.std.specs.Prelude.{◌≡◌, ℤ, [], ◌∷◌, if◌then◌else◌, IsFalse, IfOk, IfErr, IfSome, OnOk};
 ghost use Rattle.lattice.specs.declared.point.Point.{Point};
 ghost use Rattle.lattice.specs.declared.refusal.Refusal.TheVariants.{NoMemory};
 ghost use Rattle.lattice.specs.Mosaic.{Mosaic, IsMosaic};
 ghost use Rattle.lattice.specs.Ground.{is_ground, terrain};
 ghost use Rattle.flow_d8.specs.FlowPath.{IsInWatershed};
-ghost use Rattle.flow_d8.specs.Directions.{AreDirectionsOf, DrainsTo, distance_in};
+ghost use Rattle.flow_d8.specs.Directions.{AreDirectionsOf};
 ghost use Rattle.watershed.specs.Runs.{AreRuns};
-ghost use Rattle.watershed.specs.Search.{AreFeeders, AreUpstream};
+ghost use Rattle.watershed.specs.Search.{AreUpstream};
+ghost use Rattle.watershed.specs.Marks.{IsMarked};
 
-use crate::runs::{Run, runs_of_points};
+use crate::feeders::Feeders;
+use crate::held::Held;
+use crate::marks::Marks;
+use crate::runs::Run;
 use flow_d8::Directions;
 use lattice::{Point, Refusal};
-use std::alloc::{AllocError, Global};
+use std::alloc::Global;
 
 /// The watershed of the point: the ground points whose flow path contains it, as maximal runs, from the north down, in
 /// a row from the west. Empty where the point isn't ground. NoMemory is the only refusal.
@@ -21,38 +25,87 @@ pub fn watershed(alloc: Global, directions: &Directions, point: Point) -> Result
     ensures elsewhere { IfOk result (λ runs. (m : Mosaic) (level : Point → ℤ) → IsMosaic m → AreDirectionsOf m level directions.now → IsFalse (is_ground m point) → runs.items ≡ []) }
     ensures refusal { IfErr result (λ r. r ≡ NoMemory) }
 {
-    let points = upstream(alloc, directions, point)?;
-    Ok(runs_of_points(alloc, points)?)
+    let mut held = Held { directions };
+    search_all(alloc, &mut held, point)
 }
 
-// The points whose flow path contains the point, each after the one that it drains to.
-fn upstream(alloc: Global, directions: &Directions, point: Point) -> Result<Vec<Point>, AllocError>
-    ensures { IfOk result (λ found. AreUpstream (DrainsTo directions.now) (is_some (distance_in directions.now point)) point found.items) }
-{
-    let mut found = Vec::new(alloc);
-    if directions.flat_distance(point).is_some() {
-        found.push(point)?;
-    }
-    let mut done = 0;
-    'search: while done < found.len() {
-        let at = found[done];
-        add_feeders(directions, at, &mut found)?;
-        done += 1;
-    }
-    Ok(found)
-}
-
-// Adds the points that drain straight to the point.
-fn add_feeders(
-    directions: &Directions,
+/// The watershed of the point, however many points it has.
+pub(crate) fn search_all<F: Feeders>(
+    alloc: Global,
+    asked: &mut F,
     point: Point,
-    found: &mut Vec<Point>,
-) -> Result<(), AllocError>
-    ensures { OnOk result (AreFeeders (DrainsTo directions.now) point found.old.items found.new.items) }
+) -> Result<Vec<Run>, Refusal>
+    requires { F.is_ready asked.old }
+    ensures runs { IfOk result (λ runs. (m : Mosaic) (level : Point → ℤ) → F.tells asked.new m level → AreRuns (IsInWatershed (terrain m) level point) runs.items) }
+    ensures follows { F.follows asked.old asked.new }
+    ensures keeps { OnOk result (F.keeps asked.old asked.new) }
+    ensures refusal { IfErr result (F.refuses asked.old asked.new) }
 {
-    let feeders = directions.feeders(point);
-    for feeder in feeders.as_slice() {
-        found.push(*feeder)?;
+    match search(alloc, asked, point, usize::MAX)? {
+        Some(runs) => Ok(runs),
+        None => Err(Refusal::NoMemory),
     }
-    Ok(())
+}
+
+/// The watershed of the point; None where it has more points than `most`.
+pub(crate) fn search<F: Feeders>(
+    alloc: Global,
+    asked: &mut F,
+    point: Point,
+    most: usize,
+) -> Result<Option<Vec<Run>>, Refusal>
+    requires { F.is_ready asked.old }
+    ensures runs { IfOk result (λ found. IfSome found (λ runs. (m : Mosaic) (level : Point → ℤ) → F.tells asked.new m level → AreRuns (IsInWatershed (terrain m) level point) runs.items)) }
+    ensures follows { F.follows asked.old asked.new }
+    ensures keeps { OnOk result (F.keeps asked.old asked.new) }
+    ensures refusal { IfErr result (F.refuses asked.old asked.new) }
+{
+    let Some(marks) = upstream(alloc, asked, point, most)? else {
+        return Ok(None);
+    };
+    Ok(Some(marks.runs(alloc)?))
+}
+
+// The points whose flow path contains the point; None where they are more than `most`. Each drains to one alone, so that
+// none is found twice.
+fn upstream<F: Feeders>(
+    alloc: Global,
+    asked: &mut F,
+    point: Point,
+    most: usize,
+) -> Result<Option<Marks>, Refusal>
+    requires { F.is_ready asked.old }
+    ensures found { IfOk result (λ found. IfSome found (λ marks. (m : Mosaic) (level : Point → ℤ) → F.tells asked.new m level → AreUpstream (terrain m) level point (IsMarked marks))) }
+    ensures follows { F.follows asked.old asked.new }
+    ensures keeps { OnOk result (F.keeps asked.old asked.new) }
+    ensures refusal { IfErr result (F.refuses asked.old asked.new) }
+{
+    let mut marks = Marks::new(alloc);
+    let mut waiting = start(alloc, asked, point)?;
+    let mut left = most;
+    'search: while let Some(at) = waiting.pop() {
+        if left == 0 {
+            return Ok(None);
+        }
+        left -= 1;
+        marks.mark(at)?;
+        let feeders = asked.feeders(alloc, at)?;
+        waiting.extend_from_slice(feeders.as_slice())?;
+    }
+    Ok(Some(marks))
+}
+
+// The point, where it is ground.
+fn start<F: Feeders>(alloc: Global, asked: &mut F, point: Point) -> Result<Vec<Point>, Refusal>
+    requires { F.is_ready asked.old }
+    ensures found { IfOk result (λ found. (m : Mosaic) (level : Point → ℤ) → F.tells asked.new m level → found.items ≡ (if is_ground m point then point ∷ [] else [])) }
+    ensures ready { OnOk result (F.is_ready asked.new) }
+    ensures follows { F.follows asked.old asked.new }
+    ensures keeps { OnOk result (F.keeps asked.old asked.new) }
+    ensures refusal { IfErr result (F.refuses asked.old asked.new) }
+{
+    if !asked.is_ground(alloc, point)? {
+        return Ok(Vec::new(alloc));
+    }
+    Ok(Vec::from_slice(alloc, &[point])?)
 }

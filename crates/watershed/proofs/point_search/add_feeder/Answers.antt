@@ -14,8 +14,8 @@ returns-in_default-clause-feeder g c honest level filled =
     let is = g.met.L.FilledLevels.is_mosaic c.args.levels.now c.args.source.now honest in
     inr (refl, λ feeds. c.in_default.ensures (ground_fits m is (step c.args.direction c.args.point) feeds.on_ground))
 
-pub returns-in_ok-find-clause-feeder : goal.returns-in_ok-find-clause-feeder
-returns-in_ok-find-clause-feeder g c honest level filled =
+pub returns-then-leads_to-clause-feeder : goal.returns-then-leads_to-clause-feeder
+returns-then-leads_to-clause-feeder g c honest level filled =
     let m = g.L.FilledLevels.mosaic c.args.levels.now c.args.source.now in
     let told = c.in_ok-way.ensures in
     let is = g.met.L.FilledLevels.is_mosaic c.args.levels.now c.args.source.now (told.asks.honest honest) in
@@ -23,10 +23,10 @@ returns-in_ok-find-clause-feeder g c honest level filled =
     let from = c.in-Some.from in
     let there : from ≡ step c.args.direction p = c.in-Some.ensures.1 in
     let feeds = leads_feeds (terrain m) (mosaic_is_grid m is) level (ground_fits m is) from p c.in_ok-way.way (λ solid. (told.way honest).drains solid level filled) (told.way honest).elsewhere (c.leads_to.ensures.0 c.if-leads_to.true) in
-    inl (c.in_ok-find.ensures ∙ ap (λ (q : Point). c.args.found.now.items ++ q ∷ []) there, subst (λ q. IsFeeder (terrain m) level q p) there feeds)
+    inl (c.push.ensures.items ∙ ap (λ (q : Point). c.args.found.now.items ++ q ∷ []) there, subst (λ q. IsFeeder (terrain m) level q p) there feeds)
 
-pub returns-else-leads_to-clause-feeder : goal.returns-else-leads_to-clause-feeder
-returns-else-leads_to-clause-feeder g c honest level filled =
+pub returns-clause-feeder : goal.returns-clause-feeder
+returns-clause-feeder g c honest level filled =
     let m = g.L.FilledLevels.mosaic c.args.levels.now c.args.source.now in
     let told = c.in_ok-way.ensures in
     let is = g.met.L.FilledLevels.is_mosaic c.args.levels.now c.args.source.now (told.asks.honest honest) in

@@ -1,5 +1,5 @@
 use Rattle.std.proofs.Common.{sym, subst}
-use Rattle.std.specs.Prelude.{IfSome}
+use Rattle.std.specs.Prelude.{IfOk, IfSome}
 use Rattle.std.proofs.lemmas.Result.{IfOk-weaker, IfErr-weaker}
 use Rattle.lattice.specs.Mosaic.{Mosaic}
 use Rattle.lattice.specs.Ground.{terrain}
@@ -36,9 +36,7 @@ returns-in-Some-clause-refusal g c =
     let at = c.args.source.now in
     IfErr-weaker c.watershed.result _ _ (λ r same. subst (g.L.FilledLevels.refuses now at c.learn_all.new.self c.learn_all.new.source) (sym same) (laws.runs_out now c.learn_all.new.self at c.learn_all.new.source c.in_ok-learn_all.ensures.keeps)) c.watershed.ensures.refusal
 
-pub returns-in-Some-2-clause-runs : goal.returns-in-Some-2-clause-runs
-returns-in-Some-2-clause-runs g c honest =
-    let found = subst (λ (m : Mosaic). IfSome c.in_ok-runs.field-0 (λ runs. OnLevels m (λ level. AreRuns (IsInWatershed (terrain m) level c.args.point) runs.items)))
-    (c.in_ok-learn_all.ensures.mosaic (c.in_ok-runs.ensures.asks.honest honest)) (c.in_ok-runs.ensures.runs honest) in
-    let m = g.L.FilledLevels.mosaic c.args.levels.now c.args.source.now in
-    subst (λ f. IfSome f (λ runs. OnLevels m (λ level. AreRuns (IsInWatershed (terrain m) level c.args.point) runs.items))) c.in-Some-2.is found
+pub returns-clause-runs : goal.returns-clause-runs
+returns-clause-runs g c honest =
+    subst (λ (m : Mosaic). IfOk c.by_points.result (λ runs. OnLevels m (λ level. AreRuns (IsInWatershed (terrain m) level c.args.point) runs.items)))
+    (c.in_ok-learn_all.ensures.mosaic (c.by_points.ensures.asks.honest honest)) (c.by_points.ensures.runs honest)

@@ -1,10 +1,12 @@
+use Rattle.std.proofs.Common.{◌≤◌}
+use Rattle.arrayvec.specs.ArrayVec.{array_vec_len}
 use Rattle.lattice.specs.Ground.{terrain}
 use Rattle.watershed.specs.Search.{IsFeeder}
 use Rattle.flow_d8.specs.LevelsAround.{OnLevels}
 use Rattle.flow_d8.specs.Asking.{Asks}
 use Rattle.flow_d8.specs.Flats.{AreFlatsOf}
 use Rattle.watershed.proofs.Feeding.{AreFeedersBy}
-use Rattle.watershed.proofs.point_search.add_feeders.Given as goal
+use Rattle.watershed.proofs.point_search.feeders.Given as goal
 
 abbrev pub invariant-loop-i : goal.invariant-loop-i
 invariant-loop-i g l = record {
@@ -12,5 +14,6 @@ invariant-loop-i g l = record {
   keeps : g.L.FilledLevels.keeps l.fn.levels l.fn.source l.levels l.source;
   fits : g.L.FilledLevels.fits l.levels l.source;
   flats : AreFlatsOf g.L.FilledLevels l.levels l.source l.flats;
-  feeders : g.L.FilledLevels.is_honest l.levels l.source → OnLevels (g.L.FilledLevels.mosaic l.fn.levels l.fn.source) (λ level. AreFeedersBy (IsFeeder (terrain (g.L.FilledLevels.mosaic l.fn.levels l.fn.source)) level) l.point l.fn.found.items l.found.items l.i);
+  room : array_vec_len l.found ≤ l.i;
+  feeders : g.L.FilledLevels.is_honest l.levels l.source → OnLevels (g.L.FilledLevels.mosaic l.fn.levels l.fn.source) (λ level. AreFeedersBy (IsFeeder (terrain (g.L.FilledLevels.mosaic l.fn.levels l.fn.source)) level) l.point l.found.items l.i);
 }
