@@ -14,6 +14,7 @@ use Rattle.border_graph.specs.Joining.{Node, Outlet, Rim, IsThere, IsLink, IsOut
 use Rattle.border_graph.specs.RimLookup.{IsThereAt}
 use Rattle.border_graph.specs.Rising.{IsListed, AreLinks}
 use Rattle.border_graph.specs.Linking.{node_number, AreListedStill, IsAddedTo, AreSoFar, AreLabelsListed, IsSpillListed, AreSpillsListed}
+use Rattle.border_graph.proofs.Listed.{is_there}
 
 -- numbers of nodes are below the number of nodes
 pub node_number_below : (n : ℕ) (summaries : List Summary) (links : List (List Link)) (t k : ℕ) → AreSoFar n summaries links → t < length summaries → k < 4 * (n - 1) → 1 + t * (4 * (n - 1)) + k < length links
@@ -58,17 +59,13 @@ are_links n summaries links s = record {
   some = first_below n summaries links s;
   nodes = λ x y level has.
       let found = s.each x y level has in
-      let there = is_there found.0 found.1 found.2 level found.3.1.1 in
+      let there = is_there n summaries found.0 found.1 found.2 level found.3.1.1 in
       subst (λ v. (0 < v) × (v < length links)) (sym found.3.0) (above (found.0 * (4 * (n - 1))) found.1, node_number_below n summaries links found.0 found.1 s there.tile there.number);
   levels = s.heights;
 }
   where
     above : (a k : ℕ) → 0 < 1 + a + k
     above a k = omega arith
-
-    is_there : (t k : ℕ) (to : Node) (level : ℤ) → IsLink n summaries (Rim t k) to level → IsThere n summaries t k
-    is_there t k Outlet level link = link.0
-    is_there t k (Rim u l) level link = link.0
 
 -- the height of a ground rim point is its summary's
 pub height_at : (n : ℕ) (summaries : List Summary) (t k : ℕ) (point : RimPoint) → IsThereAt n summaries t k point → (rim_point (summary_at summaries t) k).height ≡ point.height

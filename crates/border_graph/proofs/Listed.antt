@@ -1,5 +1,5 @@
 -- The least levels over the links as they are listed are those over the links between rim points.
-use Rattle.std.proofs.Common.{◌≡◌, ◌≢◌, ℕ, ◌+◌, ◌-◌, ◌*◌, ◌/◌, ◌<◌, ℤ, List, [], ◌∷◌, refl, sym, ap, ◌∙◌, subst, arith, map}
+use Rattle.std.proofs.Common.{◌≡◌, ◌≢◌, ℕ, ◌+◌, ◌-◌, ◌*◌, ◌/◌, ◌<◌, ℤ, ◌≤ℤ◌, List, [], ◌∷◌, refl, sym, ap, ◌∙◌, subst, arith, map}
 use Rattle.lattice.specs.Mosaic.{void}
 use Rattle.tile_flood.proofs.Squares.{row_of_cell}
 use Rattle.border_graph.specs.declared.waiting.Link.{Link}
@@ -21,6 +21,25 @@ one_number size t u k l tile same =
     let at : 1 + u * size + k ≡ 1 + u * size + l = sym (ap (λ v. 1 + v * size + k) tile) ∙ same in
     omega arith
 
+-- a link's first rim point is there
+pub is_there : (n : ℕ) (summaries : List Summary) (t k : ℕ) (to : Node) (level : ℤ) → IsLink n summaries (Rim t k) to level → IsThere n summaries t k
+is_there n summaries t k Outlet level link = link.0
+is_there n summaries t k (Rim u l) level link = link.0
+
+-- a way that goes on over a link from the number of a rim point goes on over that link from the point
+module _ (n : ℕ) (summaries : List Summary) (level : ℤ) (t k : ℕ) (there : IsThere n summaries t k) (y : ℕ) (link_level : ℤ) (low : link_level ≤ℤ level) where
+  pub onward : (u l : ℕ) (to : Node) → node_number n (Rim t k) ≡ node_number n (Rim u l) → y ≡ node_number n to → IsLink n summaries (Rim u l) to link_level →
+      ((v j : ℕ) → IsThere n summaries v j → y ≡ node_number n (Rim v j) → (back : List Node) × IsWayBelow (IsLink n summaries) Outlet level (Rim v j) back) →
+      (back : List Node) × IsWayBelow (IsLink n summaries) Outlet level (Rim t k) back
+  onward u l to at at_y link more =
+      let tile : t ≡ u = one_tile (4 * (n - 1)) t u k l there.number (is_there n summaries u l to link_level link).number at in
+      let number : k ≡ l = one_number (4 * (n - 1)) t u k l tile at in
+      by to at_y (subst (λ v. IsLink n summaries (Rim v k) to link_level) (sym tile) (subst (λ j. IsLink n summaries (Rim u j) to link_level) (sym number) link))
+    where
+      by : (z : Node) → y ≡ node_number n z → IsLink n summaries (Rim t k) z link_level → (back : List Node) × IsWayBelow (IsLink n summaries) Outlet level (Rim t k) back
+      by Outlet at_z here = (Outlet ∷ [], ((link_level, (here, low)), refl))
+      by (Rim v j) at_z here = let on = more v j here.1.0 at_z in (Rim v j ∷ on.0, ((link_level, (here, low)), on.1))
+
 module _ (n : ℕ) (summaries : List Summary) (links : List (List Link)) (linked : AreLinked n summaries links)
     (full : (x y : Node) (level : ℤ) → IsLink n summaries x y level → level ≢ void) where
   -- a way over links, as they are listed
@@ -36,24 +55,7 @@ module _ (n : ℕ) (summaries : List Summary) (links : List (List Link)) (linked
       above a k h = absurd (omega arith)
   from_listed level t k (y ∷ rest) there way =
       let found = linked.each (node_number n (Rim t k)) y way.0.0 way.0.1.0 in
-      let u = found.0 in
-      let l = found.1 in
-      onward u l found.2 found.3.0 found.3.1.0 found.3.1.1 (λ v j is_there on. from_listed level v j rest is_there (subst (λ p. IsWayBelow (IsListed links) 0 level p rest) on way.1))
-    where
-      onward : (u l : ℕ) (to : Node) → node_number n (Rim t k) ≡ node_number n (Rim u l) → y ≡ node_number n to → IsLink n summaries (Rim u l) to way.0.0 →
-          ((v j : ℕ) → IsThere n summaries v j → y ≡ node_number n (Rim v j) → (back : List Node) × IsWayBelow (IsLink n summaries) Outlet level (Rim v j) back) →
-          (back : List Node) × IsWayBelow (IsLink n summaries) Outlet level (Rim t k) back
-      onward u l Outlet at at_y link more =
-          let tile : t ≡ u = one_tile (4 * (n - 1)) t u k l there.number link.0.number at in
-          let number : k ≡ l = one_number (4 * (n - 1)) t u k l tile at in
-          let here : IsLink n summaries (Rim t k) Outlet way.0.0 = subst (λ v. IsLink n summaries (Rim v k) Outlet way.0.0) (sym tile) (subst (λ j. IsLink n summaries (Rim u j) Outlet way.0.0) (sym number) link) in
-          (Outlet ∷ [], ((way.0.0, (here, way.0.1.1)), refl))
-      onward u l (Rim v j) at at_y link more =
-          let tile : t ≡ u = one_tile (4 * (n - 1)) t u k l there.number link.0.number at in
-          let number : k ≡ l = one_number (4 * (n - 1)) t u k l tile at in
-          let here : IsLink n summaries (Rim t k) (Rim v j) way.0.0 = subst (λ a. IsLink n summaries (Rim a k) (Rim v j) way.0.0) (sym tile) (subst (λ b. IsLink n summaries (Rim u b) (Rim v j) way.0.0) (sym number) link) in
-          let on = more v j link.1.0 at_y in
-          (Rim v j ∷ on.0, ((way.0.0, (here, way.0.1.1)), on.1))
+      onward n summaries level t k there y way.0.0 way.0.1.1 found.0 found.1 found.2 found.3.0 found.3.1.0 found.3.1.1 (λ v j is_there on. from_listed level v j rest is_there (subst (λ p. IsWayBelow (IsListed links) 0 level p rest) on way.1))
 
   pub joined_over_links : (t k : ℕ) (level : ℤ) → IsThere n summaries t k → IsJoinedLevel (IsListed links) 0 (node_number n (Rim t k)) level → IsJoinedLevel (IsLink n summaries) Outlet (Rim t k) level
   joined_over_links t k level there joined = record {

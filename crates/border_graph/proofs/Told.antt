@@ -40,7 +40,7 @@ module _ (row : List ShortLink) (links : List Link) (at : row ≡ map short link
     ap wide (sym (get_or-map short links k (wide link)) ∙ (sym (ap (λ (l : List ShortLink). get_or l k link) at) ∙ is)),
   )
 
-inner_turned : (n : ℕ) (bs : List Summary) (t k l : ℕ) (level : ℤ) → IsInnerLink n bs t k l level → IsInnerLink n bs t l k level
+pub inner_turned : (n : ℕ) (bs : List Summary) (t k l : ℕ) (level : ℤ) → IsInnerLink n bs t k l level → IsInnerLink n bs t l k level
 inner_turned n bs t k l level (inl label) = inr (inl label)
 inner_turned n bs t k l level (inr (inl label)) = inl label
 inner_turned n bs t k l level (inr (inr (inl spill))) = inr (inr (inr spill))

@@ -1,10 +1,11 @@
 //! Adjacent points, and the points where water can leave.
-ghost use Rattle.std.specs.Prelude.{◌≡◌, IfOk};
+ghost use Rattle.std.specs.Prelude.{◌≡◌, false, Contains, IfOk, IfSome, IfNone};
 ghost use Rattle.lattice.specs.Ground.{is_ground as ground, is_near as near, share_tile as shared, is_adjacent, degree_of, is_outlet, is_sink as is_declared};
+ghost use Rattle.lattice.specs.Lattice.{Holds};
 ghost use Rattle.catalogue.specs.Readers.{OnlyReads};
 
 use crate::{Samples, height};
-use lattice::{Height, Point, Refusal, holders, index_in, steps};
+use lattice::{Corner, Height, Point, Refusal, holders, index_in, steps};
 
 /// Whether the two points are adjacent: both have a height, they are at most one row and one column apart and aren't
 /// the same, and some one present tile holds both.
@@ -51,13 +52,15 @@ pub fn outlet<S: Samples>(samples: &mut S, point: Point) -> Result<bool, Refusal
     Ok(count < 8)
 }
 
-fn is_sink<S: Samples>(samples: &S, point: Point) -> bool
+/// Whether the point is declared a sink.
+pub fn is_sink<S: Samples>(samples: &S, point: Point) -> bool
     ensures { S.is_honest samples.now → result ≡ is_declared (S.mosaic samples.now) point }
 {
     samples.sinks().contains(&point)
 }
 
-fn is_ground<S: Samples>(samples: &mut S, point: Point) -> Result<bool, Refusal>
+/// Whether the point has a height. It is refused as a read may be.
+pub fn is_ground<S: Samples>(samples: &mut S, point: Point) -> Result<bool, Refusal>
     ensures value { S.is_honest samples.new → IfOk result (λ answer. answer ≡ ground (S.mosaic samples.old) point) }
     ensures reads { OnlyReads S.Samples samples.old samples.new result }
 {
@@ -76,12 +79,20 @@ fn is_near(p: Point, q: Point) -> bool
 pub fn share_tile<S: Samples>(samples: &S, p: Point, q: Point) -> bool
     ensures { S.is_honest samples.now → result ≡ shared (S.mosaic samples.now) p q }
 {
+    tile_of_both(samples, p, q).is_some()
+}
+
+/// A present tile that holds both points, where there is one.
+pub fn tile_of_both<S: Samples>(samples: &S, p: Point, q: Point) -> Option<Corner>
+    ensures some { IfSome result (λ c. Contains (S.corners samples.now) c × (Holds (S.side_of samples.now) c p × Holds (S.side_of samples.now) c q)) }
+    ensures none { S.is_honest samples.now → IfNone result (shared (S.mosaic samples.now) p q ≡ false) }
+{
     let side = samples.side();
     let corners = holders(side, p);
     for corner in corners.as_slice() {
         if samples.present(*corner) && index_in(side, *corner, q).is_some() {
-            return true;
+            return Some(*corner);
         }
     }
-    false
+    None
 }

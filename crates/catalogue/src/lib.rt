@@ -19,7 +19,7 @@ mod seams_between;
 mod table;
 mod tile_block;
 
-pub use adjacency::{adjacent, degree, outlet, share_tile};
+pub use adjacency::{adjacent, degree, is_ground, is_sink, outlet, share_tile, tile_of_both};
 pub use lattice::Height;
 pub use listing::tiles;
 pub use locality::blocks_are_local;

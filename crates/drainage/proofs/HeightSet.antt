@@ -1,5 +1,5 @@
 -- A ground point that is given a height has it.
-use Rattle.std.proofs.Common.{◌≡◌, ◌≢◌, ◌⊎◌, inl, inr, ℕ, zero, suc, ◌+◌, ◌<◌, ◌≤◌, ℤ, Bool, true, false, cond, IsTrue, List, [], ◌∷◌, length, map, get_or, refl, sym, ◌∙◌, ap, subst, add-zero, arith}
+use Rattle.std.proofs.Common.{◌≡◌, ◌≢◌, ◌⊎◌, inl, inr, ℕ, ◌+◌, ◌≤◌, ℤ, Bool, true, false, cond, IsTrue, List, [], ◌∷◌, length, map, get_or, refl, sym, ◌∙◌, ap, subst, arith}
 use Rattle.std.specs.List.{filter}
 use Rattle.std.specs.Ordering.{int_eq}
 use Rattle.std.proofs.lemmas.Bool.{cases_Bool, cases_lt, and_from, false≢true}
@@ -18,17 +18,7 @@ use Rattle.catalogue.specs.Tiles.{corners_of}
 use Rattle.catalogue.specs.Tables.{AreCorners}
 use Rattle.edits.specs.Edits.{with_height}
 use Rattle.edits.specs.Effect.{changed_from}
-
-changed_there : (g : ℕ → ℤ → ℤ) (e : ℕ) (l : List ℤ) (k : ℕ) (d : ℤ) → k < length l → get_or (changed_from g e l) k d ≡ g (e + k) (get_or l k d)
-changed_there g e [] k d small = absurd (omega arith)
-changed_there g e (s ∷ rest) zero d small = ap (λ i. g i s) (sym (add-zero e))
-changed_there g e (s ∷ rest) (suc k) d small =
-    let next : e + 1 + k ≡ e + suc k = omega arith in
-    changed_there g (e + 1) rest k d (omega arith) ∙ ap (λ i. g i (get_or rest k d)) next
-
-changed_past : (g : ℕ → ℤ → ℤ) (e : ℕ) (l : List ℤ) → length (changed_from g e l) ≡ length l
-changed_past g e [] = refl
-changed_past g e (s ∷ rest) = ap suc (changed_past g (e + 1) rest)
+use Rattle.edits.proofs.Placing.{get-changed_from, length-changed_from}
 
 void_or_not : (s : ℤ) → (s ≡ void) ⊎ (s ≢ void)
 void_or_not s = elim (cases_Bool (int_eq s void)) [
@@ -55,8 +45,8 @@ module _ (p : Point) (h : ℤ) (full : h ≢ void) (n : ℕ) (side : 3 ≤ n) wh
         | inl inside ↦
             let back : point_of n t.corner k ≡ p = point_of_index n t.corner p ((holds_is n t.corner p side corner).0 held) in
             let first : 0 + k ≡ k = omega arith in
-            inl (changed_there g 0 t.samples k void inside ∙ ap (λ i. f (point_of n t.corner i) (get_or t.samples k void)) first ∙ ap (λ q. f q (get_or t.samples k void)) back ∙ ap (λ b. cond b h (get_or t.samples k void)) same_itself)
-        | inr past ↦ inr (get_or_past (changed_from g 0 t.samples) k void (subst (λ l. l ≤ k) (sym (changed_past g 0 t.samples)) past), get_or_past t.samples k void past)
+            inl (get-changed_from g 0 t.samples k void inside ∙ ap (λ i. f (point_of n t.corner i) (get_or t.samples k void)) first ∙ ap (λ q. f q (get_or t.samples k void)) back ∙ ap (λ b. cond b h (get_or t.samples k void)) same_itself)
+        | inr past ↦ inr (get_or_past (changed_from g 0 t.samples) k void (subst (λ l. l ≤ k) (sym (length-changed_from g 0 t.samples)) past), get_or_past t.samples k void past)
       ]
 
   abbrev said : List Tile → List ℤ

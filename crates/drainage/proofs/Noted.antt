@@ -10,6 +10,7 @@ use Rattle.lattice.specs.Height.{height_of}
 use Rattle.lattice.specs.Lattice.{Holds, IsIndexOf, holds, index_of, point_of}
 use Rattle.lattice.specs.Mosaic.{Mosaic}
 use Rattle.lattice.proofs.Samples.{index_of_point_is, holds_is}
+use Rattle.lattice.proofs.Multiples.{some_side}
 use Rattle.tile_labellings.specs.Labellings.{IsFlooded, IsBlockBut}
 use Rattle.tile_labellings.specs.TileLabellings.{IsTileLabelling, DifferAt as DifferAtIndex}
 use Rattle.tile_labellings.specs.declared.tile_labelling.TileLabelling.{TileLabelling}
@@ -18,7 +19,7 @@ use Rattle.tile_flood.specs.Blocks.{LabelledGround}
 use Rattle.drainage.specs.Reaching.{is_between, DifferAt}
 use Rattle.drainage.proofs.Asked.{is_at}
 use Rattle.drainage.proofs.Reached.{between_itself}
-use Rattle.drainage.proofs.Unreached.{held_by_index, some_side, tile_still}
+use Rattle.drainage.proofs.Unreached.{held_by_index, tile_still}
 
 pub held_there : (found : Option ℕ) (n : ℕ) (c : Corner) (p : Point) → 3 ≤ n → IsTrue (is_corner c) → (IsSome found → Holds n c p) → IfSome found (λ e. IsIndexOf n c p e)
     → IfSome found (λ e. IsIndexOf n c p e × (holds n c p ≡ true))

@@ -1,16 +1,17 @@
 -- The ways of a node, by its number.
-use Rattle.std.proofs.Common.{◌≡◌, ◌≢◌, ◌⊎◌, inl, inr, ℕ, ◌+◌, ◌*◌, ◌-◌, ◌/◌, ◌%◌, ◌<◌, ◌≤◌, ℤ, List, [], length, sym, ap, ap₂, ◌∙◌, subst, arith, mod-lt, Contains}
+use Rattle.std.proofs.Common.{◌≡◌, ◌≢◌, ◌⊎◌, inl, inr, ℕ, ◌+◌, ◌*◌, ◌-◌, ◌/◌, ◌%◌, ◌<◌, ◌≤◌, List, [], length, sym, ap, ap₂, ◌∙◌, subst, arith, mod-lt, Contains}
 use Rattle.std.specs.Prelude.{Option, Some}
 use Rattle.std.proofs.lemmas.Bool.{cases_eq}
 use Rattle.lattice.specs.Corners.{Corner}
 use Rattle.tile_flood.proofs.Squares.{cell_of, row_of_cell}
 use Rattle.border_graph.specs.Summaries.{Summary}
-use Rattle.border_graph.specs.Joining.{Node, Outlet, Rim, IsThere, IsLink}
+use Rattle.border_graph.specs.Joining.{Rim, IsThere}
 use Rattle.border_graph.specs.Linking.{node_number}
 use Rattle.border_graph.specs.Edges.{AreEdges}
 use Rattle.border_graph.specs.Placed.{IsPlacedLink, IsOfTile}
 use Rattle.border_graph.specs.TileGraph.{TileGraph}
 use Rattle.border_graph.specs.declared.edge_source.Edge.{Edge}
+use Rattle.border_graph.proofs.Listed.{is_there}
 use Rattle.drainage.specs.RimGraphs.{loaded_at, Fits, AreTileEdges}
 use Rattle.drainage.proofs.OnRims.{as_many, are_ways}
 
@@ -24,10 +25,6 @@ rim_some : (n : ℕ) → 3 ≤ n → 0 < 4 * (n - 1)
 rim_some n low = omega arith
 
 module _ (side : ℕ) (corners : List Corner) (loaded : List (Option TileGraph)) (n : ℕ) (summaries : List Summary) (fits : Fits side corners loaded n summaries) (node r r' : ℕ) (some : 0 < node) (low : 3 ≤ side) (is_r : r ≡ 4 * (side - 1)) (is_r' : r' ≡ 4 * (side - 1)) where
-  there_is : (t k : ℕ) (to : Node) (level : ℤ) → IsLink n summaries (Rim t k) to level → IsThere n summaries t k
-  there_is t k Outlet level link = link.0
-  there_is t k (Rim u l) level link = link.0
-
   many : length corners ≡ length summaries
   many = as_many fits.mosaic fits.is summaries fits.all corners fits.same_corners
 
@@ -35,7 +32,7 @@ module _ (side : ℕ) (corners : List Corner) (loaded : List (Option TileGraph))
   pub no_ways : length corners ≤ (node - 1) / r → (into : List Edge) → into ≡ [] → AreEdges (IsPlacedLink n summaries) node into
   no_ways past into empty = record {
     each = λ way has. let h = (subst (λ (l : List Edge). Contains l way) empty has).1 in absurd (omega arith);
-    all = λ y level link. absurd (none link.tile link.number link.starts (there_is link.tile link.number link.to level link.link));
+    all = λ y level link. absurd (none link.tile link.number link.starts (is_there n summaries link.tile link.number link.to level link.link));
   }
     where
       none : (t k : ℕ) → node ≡ node_number n (Rim t k) → IsThere n summaries t k → ⊥

@@ -1,10 +1,10 @@
 -- The least levels over links between nodes by their numbers are those over the links between rim points.
-use Rattle.std.proofs.Common.{◌≡◌, ℕ, ◌+◌, ◌-◌, ◌*◌, ℤ, List, [], ◌∷◌, refl, sym, ap, subst, arith, map}
+use Rattle.std.proofs.Common.{◌≡◌, ℕ, ◌+◌, ◌-◌, ◌*◌, ℤ, List, [], ◌∷◌, refl, ap, subst, arith, map}
 use Rattle.border_graph.specs.Summaries.{Summary}
 use Rattle.border_graph.specs.Links.{IsWayBelow, IsJoinedLevel}
 use Rattle.border_graph.specs.Joining.{Node, Outlet, Rim, IsThere, IsLink}
 use Rattle.border_graph.specs.Linking.{node_number}
-use Rattle.border_graph.proofs.Listed.{one_tile, one_number}
+use Rattle.border_graph.proofs.Listed.{onward}
 use Rattle.border_graph.specs.Placed.{IsPlacedLink}
 
 module _ (n : ℕ) (summaries : List Summary) where
@@ -23,22 +23,7 @@ module _ (n : ℕ) (summaries : List Summary) where
       above a k h = absurd (omega arith)
   from_placed level t k (y ∷ rest) there way =
       let found = way.0.1.0 in
-      onward found.tile found.number found.to found.starts found.ends found.link (λ v j is_there on. from_placed level v j rest is_there (subst (λ p. IsWayBelow (IsPlacedLink n summaries) 0 level p rest) on way.1))
-    where
-      onward : (u l : ℕ) (to : Node) → node_number n (Rim t k) ≡ node_number n (Rim u l) → y ≡ node_number n to → IsLink n summaries (Rim u l) to way.0.0 →
-          ((v j : ℕ) → IsThere n summaries v j → y ≡ node_number n (Rim v j) → (back : List Node) × IsWayBelow (IsLink n summaries) Outlet level (Rim v j) back) →
-          (back : List Node) × IsWayBelow (IsLink n summaries) Outlet level (Rim t k) back
-      onward u l Outlet at at_y link more =
-          let tile : t ≡ u = one_tile (4 * (n - 1)) t u k l there.number link.0.number at in
-          let number : k ≡ l = one_number (4 * (n - 1)) t u k l tile at in
-          let here : IsLink n summaries (Rim t k) Outlet way.0.0 = subst (λ v. IsLink n summaries (Rim v k) Outlet way.0.0) (sym tile) (subst (λ j. IsLink n summaries (Rim u j) Outlet way.0.0) (sym number) link) in
-          (Outlet ∷ [], ((way.0.0, (here, way.0.1.1)), refl))
-      onward u l (Rim v j) at at_y link more =
-          let tile : t ≡ u = one_tile (4 * (n - 1)) t u k l there.number link.0.number at in
-          let number : k ≡ l = one_number (4 * (n - 1)) t u k l tile at in
-          let here : IsLink n summaries (Rim t k) (Rim v j) way.0.0 = subst (λ a. IsLink n summaries (Rim a k) (Rim v j) way.0.0) (sym tile) (subst (λ b. IsLink n summaries (Rim u b) (Rim v j) way.0.0) (sym number) link) in
-          let on = more v j link.1.0 at_y in
-          (Rim v j ∷ on.0, ((way.0.0, (here, way.0.1.1)), on.1))
+      onward n summaries level t k there y way.0.0 way.0.1.1 found.tile found.number found.to found.starts found.ends found.link (λ v j is_there on. from_placed level v j rest is_there (subst (λ p. IsWayBelow (IsPlacedLink n summaries) 0 level p rest) on way.1))
 
   pub joined_over_links : (t k : ℕ) (level : ℤ) → IsThere n summaries t k → IsJoinedLevel (IsPlacedLink n summaries) 0 (node_number n (Rim t k)) level → IsJoinedLevel (IsLink n summaries) Outlet (Rim t k) level
   joined_over_links t k level there joined = record {

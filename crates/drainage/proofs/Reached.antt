@@ -1,17 +1,17 @@
 -- What a change of a point leaves as it was: all but that point.
-use Rattle.std.proofs.Common.{◌≡◌, ℤ, int_le, Bool, true, false, cond, not, ◌&&◌, ◌||◌, List, [], ◌∷◌, refl, sym, ap, ap₂, ◌∙◌, arith}
+use Rattle.std.proofs.Common.{◌≡◌, ℤ, int_le, true, false, cond, ◌&&◌, ◌||◌, List, [], ◌∷◌, refl, sym, ap, ap₂, ◌∙◌, arith}
 use Rattle.std.specs.List.{list_any}
 use Rattle.std.proofs.lemmas.Bool.{and_parts, and_from, false_from_ne_true, both_ways}
 use Rattle.std.proofs.lemmas.Int.{ints}
-use Rattle.lattice.specs.Corners.{Corner}
 use Rattle.lattice.specs.declared.point.Point.{Point}
 use Rattle.lattice.specs.Ground.{same_point}
 use Rattle.lattice.specs.Mosaic.{Mosaic}
 use Rattle.lattice.specs.Points.{is_point_before}
-use Rattle.lattice.proofs.CornerOrder.{same_says}
 use Rattle.lattice.proofs.IntTests.{le_true, le_from}
+use Rattle.lattice.proofs.SamePoints.{same_point_says}
 use Rattle.catalogue.specs.Tiles.{with_sinks}
 use Rattle.edits.specs.Sinks.{with_point, without_point}
+use Rattle.edits.proofs.FreshSinks.{any_without}
 use Rattle.drainage.specs.Reaching.{is_between, DifferBetween}
 
 -- ---- the box of one point
@@ -49,17 +49,8 @@ other_point p q out same = both_ways (is_between p p q) out (ap (is_between p p)
 
 -- ---- one sink comes or goes
 
-point_says : (p q : Point) → same_point p q ≡ true → p ≡ q
-point_says p q same = key_is (same_says (key p) (key q) same)
-  where
-    key : Point → Corner
-    key r = record { lat = r.y; lon = r.x }
-
-    key_is : key p ≡ key q → p ≡ q
-    key_is e = ap₂ (λ (y x : ℤ). record { y = y; x = x }) (ap (λ (c : Corner). c.lat) e) (ap (λ (c : Corner). c.lon) e)
-
 pub apart_points : (p q : Point) → (p ≡ q → ⊥) → same_point p q ≡ false
-apart_points p q apart = false_from_ne_true (same_point p q) (λ same. apart (point_says p q same))
+apart_points p q apart = false_from_ne_true (same_point p q) (λ same. apart (same_point_says p q same))
 
 any_with : (q p : Point) (points : List Point) → same_point p q ≡ false → list_any (λ s. same_point s q) (with_point p points) ≡ list_any (λ s. same_point s q) points
 any_with q p [] out = ap (λ b. b || false) out
@@ -67,15 +58,6 @@ any_with q p (r ∷ rest) out = elim (is_point_before p r) as (λ b. list_any (�
   | true ↦ ap (λ b. b || list_any (λ s. same_point s q) (r ∷ rest)) out
   | false ↦ ap (λ b. same_point r q || b) (any_with q p rest out)
 ]
-
-any_without : (q p : Point) (points : List Point) → same_point p q ≡ false → list_any (λ s. same_point s q) (without_point p points) ≡ list_any (λ s. same_point s q) points
-any_without q p [] apart = refl
-any_without q p (s ∷ rest) apart = by (same_point s p) refl (any_without q p rest apart)
-  where
-    by : (b : Bool) → same_point s p ≡ b → list_any (λ r. same_point r q) (without_point p rest) ≡ list_any (λ r. same_point r q) rest
-        → list_any (λ r. same_point r q) (cond (not b) (s ∷ without_point p rest) (without_point p rest)) ≡ list_any (λ r. same_point r q) (s ∷ rest)
-    by true is later = later ∙ sym (ap (λ b. b || list_any (λ r. same_point r q) rest) (ap (λ (r : Point). same_point r q) (point_says s p is) ∙ apart))
-    by false other later = ap (λ b. same_point s q || b) later
 
 module _ (m : Mosaic) (p : Point) where
   pub differ_with : DifferBetween m (with_sinks (with_point p m.sinks) m) p p

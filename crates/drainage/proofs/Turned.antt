@@ -9,12 +9,7 @@ use Rattle.border_graph.specs.Joining.{Node, Outlet, Rim, summary_at, rim_point,
 use Rattle.border_graph.specs.Linking.{node_number}
 use Rattle.border_graph.proofs.Joined.{of}
 use Rattle.border_graph.specs.Placed.{IsPlacedLink}
-
-inner_turned : (n : ℕ) (summaries : List Summary) (t k l : ℕ) (level : ℤ) → IsInnerLink n summaries t k l level → IsInnerLink n summaries t l k level
-inner_turned n summaries t k l level (inl label) = inr (inl label)
-inner_turned n summaries t k l level (inr (inl label)) = inl label
-inner_turned n summaries t k l level (inr (inr (inl spill))) = inr (inr (inr spill))
-inner_turned n summaries t k l level (inr (inr (inr spill))) = inr (inr (inl spill))
+use Rattle.border_graph.proofs.Told.{inner_turned}
 
 module _ (m : Mosaic) (is : IsMosaic m) (summaries : List Summary) (all : AreSummaries m summaries) where
   -- the height of a rim point is that of its point in the mosaic

@@ -1,9 +1,9 @@
 -- A tile that reaches no point of a box keeps its block and its summary, where two mosaics differ in that box alone.
-use Rattle.std.proofs.Common.{◌≡◌, inl, inr, ℕ, zero, suc, ◌-◌, ◌*◌, ◌/◌, ◌%◌, ◌<◌, ℤ, pos, ◌+ℤ◌, ◌-ℤ◌, ◌*ℤ◌, nat_abs, int_le, Bool, true, false, not, ◌&&◌, ◌||◌, IsTrue, List, [], ◌∷◌, map, refl, sym, ◌∙◌, ap, ap₂, subst, arith}
+use Rattle.std.proofs.Common.{◌≡◌, inl, inr, ℕ, ◌-◌, ◌*◌, ◌/◌, ◌%◌, ◌<◌, ℤ, pos, ◌+ℤ◌, ◌-ℤ◌, ◌*ℤ◌, nat_abs, int_le, Bool, true, false, not, ◌&&◌, ◌||◌, IsTrue, List, [], ◌∷◌, map, refl, sym, ◌∙◌, ap, ap₂, subst, arith}
 use Rattle.std.specs.Prelude.{nat_lt, count_by, slice_index, slice_index_or}
 use Rattle.std.specs.List.{list_any}
 use Rattle.std.proofs.Math.Path.{fun_ext}
-use Rattle.std.proofs.lemmas.Bool.{and_parts, and_from, and_right, ltb-true, false_from_ne_true, both_ways}
+use Rattle.std.proofs.lemmas.Bool.{and_parts, and_from, ltb-true, false_from_ne_true, both_ways}
 use Rattle.std.proofs.lemmas.Int.{ints}
 use Rattle.lattice.specs.Block.{Block, IsBlockOf, is_rim, rim_number}
 use Rattle.lattice.specs.Corners.{Corner}
@@ -18,6 +18,8 @@ use Rattle.lattice.specs.Steps.{step, directions}
 use Rattle.lattice.proofs.Along.{parts}
 use Rattle.lattice.proofs.IntTests.{le_true, le_from}
 use Rattle.lattice.proofs.Samples.{along_of_sample, row_below}
+use Rattle.lattice.proofs.Multiples.{some_side}
+use Rattle.lattice.proofs.BoolTests.{fourth_fails}
 use Rattle.border_graph.specs.Joining.{IsSummaryOf, Summarizes, rim_point}
 use Rattle.border_graph.specs.Summaries.{Summary}
 use Rattle.tile_labellings.specs.TileLabellings.{IsTileLabelling}
@@ -55,10 +57,6 @@ module _ (n : ℕ) (c : Corner) (from to : Point) (out : reaches n c from to ≡
 
 -- ---- the points of a tile
 
-pub some_side : (n e : ℕ) → e < n * n → 0 < n
-some_side zero e small = absurd (omega arith)
-some_side (suc n) e small = omega arith
-
 pub held_by_index : (n : ℕ) (c : Corner) (e : ℕ) → e < n * n → holds n c (point_of n c e) ≡ true
 held_by_index n c e small =
     let some = some_side n e small in
@@ -71,9 +69,6 @@ held_by_index n c e small =
 any_corner : (f : Corner → Bool) (ts : List Tile) → list_any (λ t. f t.corner) ts ≡ list_any f (map (λ t. t.corner) ts)
 any_corner f [] = refl
 any_corner f (t ∷ ts) = ap (λ b. f t.corner || b) (any_corner f ts)
-
-fourth_fails : (a b c d e : Bool) → d ≡ false → (a && b && c && d && e) ≡ false
-fourth_fails a b c d e off = ap (λ x. x && e) (and_right (a && b && c) d off)
 
 -- ---- two mosaics that are alike in a tile
 

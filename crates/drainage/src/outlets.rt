@@ -1,15 +1,15 @@
 //! Which rim points of a tile are outlets of the mosaic, by the tile's labelling and the points around the tile.
-ghost use Rattle.std.specs.Prelude.{◌≡◌, ◌<◌, ◌*◌, IfOk, OnOk, IfSome, IfNone, Contains, false, true};
-ghost use Rattle.lattice.specs.Ground.{is_ground as ground, is_sink as is_declared, is_near, same_point, is_adjacent, degree_of, is_outlet, share_tile};
-ghost use Rattle.lattice.specs.Lattice.{IsIndexOf, Holds};
+ghost use Rattle.std.specs.Prelude.{◌≡◌, ◌<◌, ◌*◌, IfOk, OnOk, Contains, false, true};
+ghost use Rattle.lattice.specs.Ground.{is_near, same_point, is_adjacent, degree_of, is_outlet};
+ghost use Rattle.lattice.specs.Lattice.{IsIndexOf};
 ghost use Rattle.catalogue.specs.Readers.{OnlyReads};
 ghost use Rattle.tile_labellings.specs.Labellings.{IsFlooded};
 ghost use Rattle.drainage.specs.Flooded.{IsGroundOf};
 ghost use Rattle.drainage.specs.Ring.{AreRemembered};
 
 use crate::ring::Ring;
-use catalogue::{Samples, height};
-use lattice::{Corner, Height, Point, Refusal, holders, index_in, steps};
+use catalogue::{Samples, is_ground, is_sink, tile_of_both};
+use lattice::{Corner, Point, Refusal, index_in, steps};
 use tile_flood::{Labelled, NO_LABEL};
 
 /// Whether water can leave at the point with this index in the corner's tile: it is ground, and is declared a sink or has
@@ -99,35 +99,4 @@ fn is_adjacent_to<S: Samples>(
     }
     ring.remember(to, tile);
     Ok(true)
-}
-
-// Some present tile that holds both points.
-fn tile_of_both<S: Samples>(samples: &S, p: Point, q: Point) -> Option<Corner>
-    ensures some { IfSome result (λ c. Contains (S.corners samples.now) c × (Holds (S.side_of samples.now) c p × Holds (S.side_of samples.now) c q)) }
-    ensures none { S.is_honest samples.now → IfNone result (share_tile (S.mosaic samples.now) p q ≡ false) }
-{
-    let side = samples.side();
-    let corners = holders(side, p);
-    for corner in corners.as_slice() {
-        if samples.present(*corner) && index_in(side, *corner, q).is_some() {
-            return Some(*corner);
-        }
-    }
-    None
-}
-
-// Whether the point is declared a sink.
-fn is_sink<S: Samples>(samples: &S, point: Point) -> bool
-    ensures { S.is_honest samples.now → result ≡ is_declared (S.mosaic samples.now) point }
-{
-    samples.sinks().contains(&point)
-}
-
-// Whether the point has a height.
-fn is_ground<S: Samples>(samples: &mut S, point: Point) -> Result<bool, Refusal>
-    ensures value { S.is_honest samples.new → IfOk result (λ answer. answer ≡ ground (S.mosaic samples.old) point) }
-    ensures reads { OnlyReads S.Samples samples.old samples.new result }
-{
-    let height = height(samples, point)?;
-    Ok(matches!(height, Height::At(_)))
 }

@@ -14,7 +14,7 @@ mod Once
 mod Overlapping
 mod PlaceLemmas
 mod Planned
-mod Placing
+pub mod Placing
 mod Repeats
 mod Searching
 mod Setting

@@ -14,6 +14,7 @@ use Rattle.lattice.proofs.CornerOrder.{same_says, same_from}
 use Rattle.lattice.proofs.Rising.{AllAfter, Rising}
 use Rattle.catalogue.proofs.Mosaics.{corner_of, rising_tiles}
 use Rattle.edits.specs.Effect.{changed_from, edited}
+use Rattle.edits.proofs.Placing.{get-changed_from, length-changed_from}
 use Rattle.page_map.specs.declared.plane.Plane.TheVariants.{Heights}
 use Rattle.cow_tree.specs.Planes.{HasPage}
 use Rattle.cow_tree.specs.Stored.{AreWhole, IsPage, PlanePages, KeptPlanes, StoredTile, samples_of_plane, mosaic_of_tiles, with_page_in, with_page}
@@ -25,16 +26,6 @@ use Rattle.store.proofs.Pages.{length_samples, sample_in_page}
 use Rattle.store.proofs.QueryingPages.{one_tile}
 
 -- ---- samples changed by their indices
-
-length-changed_from : (f : ℕ → ℤ → ℤ) (e : ℕ) (l : List ℤ) → length (changed_from f e l) ≡ length l
-length-changed_from f e [] = refl
-length-changed_from f e (s ∷ rest) = ap suc (length-changed_from f (e + 1) rest)
-
-get-changed_from : (f : ℕ → ℤ → ℤ) (e : ℕ) (l : List ℤ) (k : ℕ) (d : ℤ) → k < length l → get_or (changed_from f e l) k d ≡ f (e + k) (get_or l k d)
-get-changed_from f e [] k d within = absurd (omega (arith, within))
-get-changed_from f e (s ∷ rest) zero d within = ap (λ i. f i s) (let same : e ≡ e + 0 = omega arith in same)
-get-changed_from f e (s ∷ rest) (suc k) d within =
-    get-changed_from f (e + 1) rest k d (omega (arith, within)) ∙ ap (λ i. f i (get_or rest k d)) (let next : e + 1 + k ≡ e + suc k = omega arith in next)
 
 -- ---- samples of a plane by its pages
 

@@ -1,14 +1,16 @@
 -- The stale tiles of a mosaic in memory: those that aren't fresh.
-use Rattle.std.proofs.Common.{◌≡◌, ℕ, zero, suc, ◌+◌, ◌<◌, length, take, arith, Bool, true, false, cond, not, ◌&&◌, ◌||◌, List, [], ◌∷◌, ◌++◌, filter, get_or, refl, sym, ap, ap₂, ◌∙◌, subst}
+use Rattle.std.proofs.Common.{◌≡◌, ℕ, ◌+◌, ◌<◌, length, take, Bool, true, false, cond, not, ◌&&◌, ◌||◌, List, [], ◌∷◌, ◌++◌, filter, get_or, refl, sym, ap, ap₂, ◌∙◌}
 use Rattle.std.specs.Prelude.{Ok}
-use Rattle.std.specs.List.{All, Contains, list_any}
+use Rattle.std.specs.List.{All, list_any}
 use Rattle.std.proofs.lemmas.List.{take_more}
 use Rattle.std.proofs.lemmas.List.Elements.{All-head, All-tail, filter_agree, filter-append}
 use Rattle.std.proofs.lemmas.List.Folds.{list_any-append}
 use Rattle.std.proofs.lemmas.Map.Views.{any-filter_same}
+use Rattle.std.proofs.Math.Bool.{or-false}
 use Rattle.lattice.specs.Corners.{Corner, same_corner}
 use Rattle.lattice.specs.Mosaic.{Mosaic}
 use Rattle.lattice.proofs.CornerOrder.{same_says, same_from}
+use Rattle.lattice.proofs.BoolTests.{same_tests}
 use Rattle.catalogue.specs.Tiles.{corners_of, is_listed}
 use Rattle.edits.specs.declared.command.Command.{Command}
 use Rattle.edits.specs.declared.edit.Edit.{Edit}
@@ -35,24 +37,7 @@ filter_twice {X} f g (x ∷ xs) = by (g x) (filter_twice f g xs)
     by false rest = rest
 
 same_turned : (a b : Corner) → same_corner a b ≡ same_corner b a
-same_turned a b = both (same_corner a b) (same_corner b a) (λ e. same_from b a (sym (same_says a b e))) (λ e. same_from a b (sym (same_says b a e)))
-  where
-    both : (x y : Bool) → (x ≡ true → y ≡ true) → (y ≡ true → x ≡ true) → x ≡ y
-    both true true there back = refl
-    both false false there back = refl
-    both true false there back = sym (there refl)
-    both false true there back = back refl
-
--- what stands in a list and passes is among what passes
-pub contains_filtered : {X : Type 0} (test : X → Bool) (xs : List X) (x : X) → Contains xs x → test x ≡ true → Contains (filter test xs) x
-contains_filtered test [] x (k, below, here) passes = absurd (omega arith)
-contains_filtered {X} test (y ∷ ys) x (zero, below, here) passes =
-    subst (λ (b : Bool). Contains (cond b (y ∷ filter test ys) (filter test ys)) x) (sym (ap test here ∙ passes)) (0, omega arith, here)
-contains_filtered {X} test (y ∷ ys) x (suc k, below, here) passes = by (test y) (contains_filtered test ys x (k, omega arith, here) passes)
-  where
-    by : (b : Bool) → Contains (filter test ys) x → Contains (cond b (y ∷ filter test ys) (filter test ys)) x
-    by true (j, within, there) = (suc j, omega arith, there)
-    by false there = there
+same_turned a b = same_tests (same_corner a b) (same_corner b a) (λ e. same_from b a (sym (same_says a b e))) (λ e. same_from a b (sym (same_says b a e)))
 
 -- one element more
 pub filtered_more : {X : Type 0} (test : X → Bool) (xs : List X) (i : ℕ) (x : X) (b : Bool) → i < length xs → x ≡ get_or xs i x → test x ≡ b
@@ -63,10 +48,6 @@ filtered_more {X} test xs i x b below is here =
     ∙ ap (λ (c : Bool). filter test (take i xs) ++ cond c (x ∷ []) []) here
 
 -- ---- one tile more is fresh
-
-or_none : (a : Bool) → (a || false) ≡ a
-or_none true = refl
-or_none false = refl
 
 not_or : (a b : Bool) → not (a || b) ≡ (not a && not b)
 not_or true b = refl
@@ -80,7 +61,7 @@ one_less corners fresh c =
     tests : (p : Corner) → not (is_listed p (fresh ++ c ∷ [])) ≡ (not (is_listed p fresh) && not (same_corner p c))
     tests p =
         ap not (list_any-append (λ d. same_corner d p) fresh (c ∷ []))
-        ∙ ap (λ (b : Bool). not (is_listed p fresh || b)) (or_none (same_corner c p) ∙ same_turned c p)
+        ∙ ap (λ (b : Bool). not (is_listed p fresh || b)) (or-false (same_corner c p) ∙ same_turned c p)
         ∙ not_or (is_listed p fresh) (same_corner p c)
 
 -- ---- a command is done

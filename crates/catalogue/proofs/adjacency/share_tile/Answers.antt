@@ -1,55 +1,28 @@
-use Rattle.std.proofs.Common.{◌≡◌, inl, inr, ap, sym, ◌∙◌, subst, arith, get_or, List}
-use Rattle.std.specs.Prelude.{Contains}
-use Rattle.std.proofs.lemmas.List.{get_or_read}
-use Rattle.std.proofs.lemmas.Bool.{cases_eq, false≢true}
+use Rattle.std.proofs.Common.{◌≡◌, false, List, ℕ, Option, Some, None, ◌∙◌, subst, sym}
+use Rattle.std.specs.Prelude.{Contains, IfSome, IfNone}
+use Rattle.std.specs.Option.{is_some}
 use Rattle.lattice.specs.Corners.{Corner}
+use Rattle.lattice.specs.Ground.{share_tile}
 use Rattle.lattice.specs.Lattice.{Holds}
-use Rattle.catalogue.proofs.Sharing.{shared_from, not_shared}
+use Rattle.lattice.specs.Mosaic.{Mosaic, IsMosaic}
+use Rattle.lattice.specs.declared.point.Point.{Point}
+use Rattle.catalogue.specs.Tiles.{corners_of}
+use Rattle.catalogue.proofs.Sharing.{shared_from}
 use Rattle.catalogue.proofs.adjacency.share_tile.Goals as goal
-use Rattle.catalogue.proofs.adjacency.share_tile.Goals.{else-present-via-then-present+else-is_some, else-present-via-else-present}
 
-pub returns-then-is_some : goal.returns-then-is_some
-returns-then-is_some g c honest =
-    let laws = g.met.S.Samples in
-    let now = c.args.samples.now in
-    let m = g.S.Samples.mosaic now in
-    let corner : Corner = c.corner-item.result in
-    let side = laws.same_side now honest ∙ sym c.side-side.ensures in
-    let there = subst (λ (cs : List Corner). Contains cs corner) (sym (laws.same_corners now honest)) (c.present.ensures.answer.0 c.if-present.true) in
-    let among = subst (λ (cs : List Corner). Contains cs corner) c.as_slice-corner-items.ensures.value (c.loop-corner.corner-index, c.loop-corner-test.true, sym c.corner-item.is) in
-    let holds_p = c.holders-corners.ensures.exactly corner in
-    let holds_q = c.index_in.ensures.held.0 (sym c.is_some.ensures ∙ c.if-is_some.true) in
-    sym (shared_from m c.args.p c.args.q corner (laws.is_mosaic now honest) there
-    (subst (λ n. Holds n corner c.args.p) (sym side) (holds_p.0 among))
-    (subst (λ n. Holds n corner c.args.q) (sym side) holds_q))
-
-pub loop-corner-preserved : goal.loop-corner-preserved
-loop-corner-preserved g c k d below present held =
-    let items = c.as_slice-corner-items.result.now in
-    elim (cases_eq k c.loop-corner.corner-index) [
-      | inl this ↦
-          let is : get_or items k d ≡ c.corner-item.result = ap (λ i. get_or items i d) this ∙ sym (get_or_read items c.loop-corner.corner-index c.corner-item.result c.loop-corner-test.true c.corner-item.is d) in
-          let present_here = subst (λ (e : Corner). Contains (g.S.Samples.corners c.args.samples.now) e) is present in
-          let held_here = subst (λ (e : Corner). Holds (g.S.Samples.side_of c.args.samples.now) e c.args.q) is held in
-          elim c.else-present.branch [
-            | else-present-via-then-present+else-is_some w ↦
-                let found = w.index_in.ensures.held.1 (subst (λ n. Holds n c.corner-item.result c.args.q) (sym c.side-side.ensures) held_here) in
-                false≢true (sym w.if-is_some.false ∙ w.is_some.ensures ∙ found)
-            | else-present-via-else-present w ↦ false≢true (sym w.if-present.false ∙ c.present.ensures.answer.1 present_here)
-          ]
-      | inr other ↦ c.loop-corner.invariant k d (omega arith) present held
-    ]
+told : (m : Mosaic) (p q : Point) → IsMosaic m → (tile : Option Corner) → IfSome tile (λ c. Contains (corners_of m) c × (Holds m.side c p × Holds m.side c q)) → IfNone tile (share_tile m p q ≡ false)
+    → is_some tile ≡ share_tile m p q
+told m p q is (Some c) both none = sym (shared_from m p q c is both.0 both.1.0 both.1.1)
+told m p q is None both none = sym none
 
 pub returns : goal.returns
 returns g c honest =
     let laws = g.met.S.Samples in
     let now = c.args.samples.now in
+    let tile = c.tile_of_both.result in
     let m = g.S.Samples.mosaic now in
-    let items = c.as_slice-corner-items.result.now in
-    let side = laws.same_side now honest in
-    sym (not_shared m c.args.p c.args.q items (laws.is_mosaic now honest)
-    (λ corner held. subst (λ (cs : List Corner). Contains cs corner) (sym c.as_slice-corner-items.ensures.value)
-    ((c.holders-corners.ensures.exactly corner).1 (subst (λ n. Holds n corner c.args.p) (side ∙ sym c.side-side.ensures) held)))
-    (λ k d below present held. c.loop-corner.invariant k d (omega (arith, below))
-    (subst (λ (cs : List Corner). Contains cs (get_or items k d)) (laws.same_corners now honest) present)
-    (subst (λ n. Holds n (get_or items k d) c.args.q) side held)))
+    c.is_some.ensures
+    ∙ told m c.args.p c.args.q (laws.is_mosaic now honest) tile
+    (subst (λ (n : ℕ). IfSome tile (λ d. Contains (corners_of m) d × (Holds n d c.args.p × Holds n d c.args.q))) (sym (laws.same_side now honest))
+    (subst (λ (cs : List Corner). IfSome tile (λ d. Contains cs d × (Holds (g.S.Samples.side_of now) d c.args.p × Holds (g.S.Samples.side_of now) d c.args.q))) (sym (laws.same_corners now honest)) c.tile_of_both.ensures.some))
+    (c.tile_of_both.ensures.none honest)

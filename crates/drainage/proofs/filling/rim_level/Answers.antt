@@ -13,6 +13,7 @@ use Rattle.drainage.proofs.Found.{right_more, right_all, reached_later, start_is
 use Rattle.drainage.proofs.Questioned.{answered, stopped}
 use Rattle.drainage.proofs.RimNodes.{node_there}
 use Rattle.drainage.proofs.filling.rim_level.Goals as goal
+use Rattle.drainage.proofs.filling.rim_level.Goals.{After-know_all}
 
 pub returns-in_default-clause-asked : goal.returns-in_default-clause-asked
 returns-in_default-clause-asked g c =
@@ -63,53 +64,38 @@ returns-clause-level g c honest =
     (c.in-Some.ensures.some ∙ ap (λ k. 1 + c.args.t * (4 * (w.side - 1)) + k) c.from.ensures) c.in-Some-2.level
     (λ n all agrees. subst (λ found. IfSome found (IsJoinedLevel (IsPlacedLink n all) 0 c.in-Some.start)) c.in-Some-2.is (c.in_ok-level.ensures.joined n all agrees)))
 
+-- the levels that are known then, whether or not there was the memory for all of them
+module _ (g : _) (c : After-know_all g) where
+  right_then : g.S.Samples.is_honest c.lowest_pass.new.source
+      → IsRight (g.S.Samples.mosaic c.lowest_pass.new.source) (known_of (record { rim_graph = c.lowest_pass.new.graph.rim_graph; labellings = c.lowest_pass.new.graph.labellings; levels = c.know_all.new.self }))
+  right_then honest =
+      let a = c.args.samples.now in
+      let d = c.lowest_pass.new.source in
+      let w = known_of c.args.tile_cache.now in
+      let carried = c.in_ok-level.ensures.keeps in
+      let before = carried.reads.honest honest in
+      let known = known_of c.lowest_pass.new.graph in
+      let in_range : SFits w16 c.in-Some-2.level = search rules in
+      let same = to_z-of_z w16 c.in-Some-2.level in_range in
+      let started : IsRight (g.S.Samples.mosaic d) (record { side = known.side; corners = known.corners; loaded = known.loaded; labellings = known.labellings; levels = c.know.new.self }) =
+      right_more (g.S.Samples.mosaic d) known c.know.new.self c.in-Some.start c.in-Some-2.level
+      (λ x. subst (λ (v : ℤ). level_of c.know.new.self x ≡ cond (c.in-Some.start == x) (Some v) (level_of known.levels x)) same (c.in_ok-know.ensures.known x))
+      (found_later g.S.Samples a d (g.met.S.Samples.is_mosaic a before) w known carried.grown honest (c.requires.right before) c.args.t c.args.number c.requires.place (c.requires.there before) c.in-Some.start
+      (c.in-Some.ensures.some ∙ ap (λ k. 1 + c.args.t * (4 * (w.side - 1)) + k) c.from.ensures) c.in-Some-2.level
+      (λ n all agrees. subst (λ found. IfSome found (IsJoinedLevel (IsPlacedLink n all) 0 c.in-Some.start)) c.in-Some-2.is (c.in_ok-level.ensures.joined n all agrees)))
+      (right_still g.S.Samples a d w known carried.grown honest (c.requires.right before)) in
+      right_all (g.S.Samples.mosaic d) (record { side = known.side; corners = known.corners; loaded = known.loaded; labellings = known.labellings; levels = c.know.new.self }) c.know_all.new.self c.deref.result.now c.in-Some-2.level
+      (λ x found is. subst (λ (v : ℤ). (level_of c.know.new.self x ≡ Some found) ⊎ (Contains c.deref.result.now x × (found ≡ v))) same (c.know_all.ensures.only x found is))
+      (λ x has. reached_later g.S.Samples a d (g.met.S.Samples.is_mosaic a before) w known carried.grown honest (c.requires.right before) x c.in-Some-2.level
+      (λ n all agrees. subst (λ found. IfSome found (λ level. (y : ℕ) → Contains c.lowest_pass.new.alike.items y → (0 < y) × IsJoinedLevel (IsPlacedLink n all) 0 y level)) c.in-Some-2.is (c.in_ok-level.ensures.alike n all agrees) x
+      (subst (λ (l : List ℕ). Contains l x) c.deref.ensures.value has)))
+      started
+
 pub returns-clause-right : goal.returns-clause-right
-returns-clause-right g c honest =
-    let a = c.args.samples.now in
-    let d = c.lowest_pass.new.source in
-    let w = known_of c.args.tile_cache.now in
-    let carried = c.in_ok-level.ensures.keeps in
-    let before = carried.reads.honest honest in
-    let known = known_of c.lowest_pass.new.graph in
-    let in_range : SFits w16 c.in-Some-2.level = search rules in
-    let same = to_z-of_z w16 c.in-Some-2.level in_range in
-    let started : IsRight (g.S.Samples.mosaic d) (record { side = known.side; corners = known.corners; loaded = known.loaded; labellings = known.labellings; levels = c.know.new.self }) =
-    right_more (g.S.Samples.mosaic d) known c.know.new.self c.in-Some.start c.in-Some-2.level
-    (λ x. subst (λ (v : ℤ). level_of c.know.new.self x ≡ cond (c.in-Some.start == x) (Some v) (level_of known.levels x)) same (c.in_ok-know.ensures.known x))
-    (found_later g.S.Samples a d (g.met.S.Samples.is_mosaic a before) w known carried.grown honest (c.requires.right before) c.args.t c.args.number c.requires.place (c.requires.there before) c.in-Some.start
-    (c.in-Some.ensures.some ∙ ap (λ k. 1 + c.args.t * (4 * (w.side - 1)) + k) c.from.ensures) c.in-Some-2.level
-    (λ n all agrees. subst (λ found. IfSome found (IsJoinedLevel (IsPlacedLink n all) 0 c.in-Some.start)) c.in-Some-2.is (c.in_ok-level.ensures.joined n all agrees)))
-    (right_still g.S.Samples a d w known carried.grown honest (c.requires.right before)) in
-    right_all (g.S.Samples.mosaic d) (record { side = known.side; corners = known.corners; loaded = known.loaded; labellings = known.labellings; levels = c.know.new.self }) c.know_all.new.self c.deref.result.now c.in-Some-2.level
-    (λ x found is. subst (λ (v : ℤ). (level_of c.know.new.self x ≡ Some found) ⊎ (Contains c.deref.result.now x × (found ≡ v))) same (c.in_ok-know_all.ensures.only x found is))
-    (λ x has. reached_later g.S.Samples a d (g.met.S.Samples.is_mosaic a before) w known carried.grown honest (c.requires.right before) x c.in-Some-2.level
-    (λ n all agrees. subst (λ found. IfSome found (λ level. (y : ℕ) → Contains c.lowest_pass.new.alike.items y → (0 < y) × IsJoinedLevel (IsPlacedLink n all) 0 y level)) c.in-Some-2.is (c.in_ok-level.ensures.alike n all agrees) x
-    (subst (λ (l : List ℕ). Contains l x) c.deref.ensures.value has)))
-    started
+returns-clause-right g c honest = right_then g (goal.at.returns-clause-right g c).After-know_all honest
 
 pub returns-in_err-know_all-clause-right : goal.returns-in_err-know_all-clause-right
-returns-in_err-know_all-clause-right g c honest =
-    let a = c.args.samples.now in
-    let d = c.lowest_pass.new.source in
-    let w = known_of c.args.tile_cache.now in
-    let carried = c.in_ok-level.ensures.keeps in
-    let before = carried.reads.honest honest in
-    let known = known_of c.lowest_pass.new.graph in
-    let in_range : SFits w16 c.in-Some-2.level = search rules in
-    let same = to_z-of_z w16 c.in-Some-2.level in_range in
-    let started : IsRight (g.S.Samples.mosaic d) (record { side = known.side; corners = known.corners; loaded = known.loaded; labellings = known.labellings; levels = c.know.new.self }) =
-    right_more (g.S.Samples.mosaic d) known c.know.new.self c.in-Some.start c.in-Some-2.level
-    (λ x. subst (λ (v : ℤ). level_of c.know.new.self x ≡ cond (c.in-Some.start == x) (Some v) (level_of known.levels x)) same (c.in_ok-know.ensures.known x))
-    (found_later g.S.Samples a d (g.met.S.Samples.is_mosaic a before) w known carried.grown honest (c.requires.right before) c.args.t c.args.number c.requires.place (c.requires.there before) c.in-Some.start
-    (c.in-Some.ensures.some ∙ ap (λ k. 1 + c.args.t * (4 * (w.side - 1)) + k) c.from.ensures) c.in-Some-2.level
-    (λ n all agrees. subst (λ found. IfSome found (IsJoinedLevel (IsPlacedLink n all) 0 c.in-Some.start)) c.in-Some-2.is (c.in_ok-level.ensures.joined n all agrees)))
-    (right_still g.S.Samples a d w known carried.grown honest (c.requires.right before)) in
-    right_all (g.S.Samples.mosaic d) (record { side = known.side; corners = known.corners; loaded = known.loaded; labellings = known.labellings; levels = c.know.new.self }) c.know_all.new.self c.deref.result.now c.in-Some-2.level
-    (λ x found is. subst (λ (v : ℤ). (level_of c.know.new.self x ≡ Some found) ⊎ (Contains c.deref.result.now x × (found ≡ v))) same (c.in_err-know_all.ensures.only x found is))
-    (λ x has. reached_later g.S.Samples a d (g.met.S.Samples.is_mosaic a before) w known carried.grown honest (c.requires.right before) x c.in-Some-2.level
-    (λ n all agrees. subst (λ found. IfSome found (λ level. (y : ℕ) → Contains c.lowest_pass.new.alike.items y → (0 < y) × IsJoinedLevel (IsPlacedLink n all) 0 y level)) c.in-Some-2.is (c.in_ok-level.ensures.alike n all agrees) x
-    (subst (λ (l : List ℕ). Contains l x) c.deref.ensures.value has)))
-    started
+returns-in_err-know_all-clause-right g c honest = right_then g (goal.at.returns-in_err-know_all-clause-right g c).After-know_all honest
 
 pub returns-clause-asked : goal.returns-clause-asked
 returns-clause-asked g c = answered g.S.Samples c.args.samples.now c.lowest_pass.new.source _ c.in_ok-level.ensures.keeps.reads

@@ -1,7 +1,8 @@
 use Rattle.std.proofs.Common.{◌≡◌, [], ◌++◌, List, false, not, ap, sym, ◌∙◌}
 use Rattle.lattice.specs.Corners.{Corner}
+use Rattle.lattice.proofs.Filters.{contains_filtered}
 use Rattle.catalogue.specs.Tiles.{is_listed}
-use Rattle.table_engine.proofs.FreshTiles.{contains_filtered, filtered_more}
+use Rattle.table_engine.proofs.FreshTiles.{filtered_more}
 use Rattle.table_engine.proofs.table_engine.first_stale.Goals as goal
 
 pub returns-then-not-contains : goal.returns-then-not-contains

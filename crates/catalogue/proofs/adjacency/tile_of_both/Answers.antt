@@ -5,8 +5,8 @@ use Rattle.std.proofs.lemmas.Bool.{cases_eq, false≢true}
 use Rattle.lattice.specs.Corners.{Corner}
 use Rattle.lattice.specs.Lattice.{Holds}
 use Rattle.catalogue.proofs.Sharing.{not_shared}
-use Rattle.drainage.proofs.outlets.tile_of_both.Goals as goal
-use Rattle.drainage.proofs.outlets.tile_of_both.Goals.{else-present-via-then-present+else-is_some, else-present-via-else-present}
+use Rattle.catalogue.proofs.adjacency.tile_of_both.Goals as goal
+use Rattle.catalogue.proofs.adjacency.tile_of_both.Goals.{else-present-via-then-present+else-is_some, else-present-via-else-present}
 
 pub returns-then-is_some-clause-some : goal.returns-then-is_some-clause-some
 returns-then-is_some-clause-some g c =
