@@ -3,7 +3,7 @@ use Rattle.std.proofs.Common.{◌≡◌, ◌≢◌, ℕ, zero, suc, ◌<◌, inl
 use Rattle.std.proofs.lemmas.Bool.{cases_eq}
 use Rattle.std.proofs.lemmas.List.{length-map, get_or_default}
 use Rattle.std.proofs.lemmas.List.Elements.{Contains-append_left, Contains-push, Contains-push_cases}
-use Rattle.border_graph.specs.declared.waiting.Link.{Link}
+use Rattle.border_graph.specs.declared.link.Link.{Link}
 use Rattle.border_graph.specs.Rising.{links_to}
 use Rattle.border_graph.specs.Linking.{IsAddedTo}
 use Rattle.std.proofs.Math.ListN.{get_or-map}

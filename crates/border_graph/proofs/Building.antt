@@ -7,7 +7,7 @@ use Rattle.tile_flood.specs.Labelling.{OUT}
 use Rattle.tile_flood.specs.declared.passing.Spill.{Spill}
 use Rattle.std.proofs.Math.Nat.{mul-le-mul_right}
 use Rattle.lattice.specs.Mosaic.{void}
-use Rattle.border_graph.specs.declared.waiting.Link.{Link}
+use Rattle.border_graph.specs.declared.link.Link.{Link}
 use Rattle.border_graph.specs.declared.summary.RimPoint.{RimPoint}
 use Rattle.border_graph.specs.Summaries.{Summary}
 use Rattle.border_graph.specs.Joining.{Node, Outlet, Rim, IsThere, IsLink, IsOutletLink, IsLabelLink, IsSpillLink, rim_point, summary_at}

@@ -1,17 +1,12 @@
 -- What waits in a heap of what is reversed: the lowest comes first.
-use Rattle.std.proofs.Common.{◌≡◌, ℤ, zero, suc, ◌<◌, ◌⊎◌, inl, inr, ◌≤ℤ◌, false, List, [], ◌∷◌, length, get_or, refl, sym, ap, ◌∙◌, subst, arith, true≢false, map, cond, int_lt, Contains}
+use Rattle.std.proofs.Common.{◌≡◌, zero, suc, ◌<◌, ◌⊎◌, inl, inr, List, [], ◌∷◌, length, get_or, refl, sym, ap, ◌∙◌, subst, arith, map, Contains}
 use Rattle.std.proofs.lemmas.List.{length-map}
 use Rattle.std.specs.List.{AllByRecursion}
 use Rattle.std.specs.List.Sorted.{IsPermutation}
-use Rattle.std.specs.Ordering.{is_lt, int_cmp, nat_cmp, ordering_then}
-use Rattle.std.specs.declared.cmp.Ordering.TheVariants.{Less, Equal, Greater}
 use Rattle.std.specs.declared.cmp.Reverse.{Reverse}
-use Rattle.std.proofs.lemmas.Int.{ints}
-use Rattle.std.proofs.lemmas.Bool.{cases_Bool}
 use Rattle.std.proofs.lemmas.List.Elements.{Contains-get_or, Contains-append_right}
 use Rattle.std.proofs.lemmas.List.Sorted.{Contains-permutation, IsPermutation-sym}
-use Rattle.border_graph.specs.declared.waiting.Link.{Link}
-use Rattle.border_graph.specs.Waiting.{IsAdded, IsTaken}
+use Rattle.border_graph.specs.Heaps.{IsAdded, IsTaken}
 use Rattle.std.proofs.Math.ListN.{get_or-map}
 
 module _ {X : Type 0} where
@@ -46,13 +41,13 @@ module _ {X : Type 0} where
         ];
   }
 
-  pub taken_from_heap : (level : X → ℤ) (IsAfter : Reverse X → Type 0) (old new : List (Reverse X)) (x : Reverse X) → ((y : Reverse X) → IsAfter y → level x.0 ≤ℤ level y.0)
-      → IsPermutation old (x ∷ new) → AllByRecursion IsAfter old → IsTaken level (map (λ (r : Reverse X). r.0) old) (map (λ (r : Reverse X). r.0) new) x.0
-  taken_from_heap level IsAfter old new x after p least = record {
+  pub taken_from_heap : (IsNoHigher : X → X → Type 0) (old new : List (Reverse X)) (x : Reverse X) → IsPermutation old (x ∷ new) → AllByRecursion (λ (y : Reverse X). IsNoHigher x.0 y.0) old
+      → IsTaken IsNoHigher (map (λ (r : Reverse X). r.0) old) (map (λ (r : Reverse X). r.0) new) x.0
+  taken_from_heap IsNoHigher old new x p least = record {
     waited = contains_map old x (Contains-permutation (x ∷ new) old x (IsPermutation-sym old (x ∷ new) p) (0, omega arith, refl));
     lowest = λ l has.
         let there = contains_unmap old l has in
-        subst (λ (v : X). level x.0 ≤ℤ level v) there.1.1 (after there.0 (all_has IsAfter old there.0 least there.1.0));
+        subst (λ (v : X). IsNoHigher x.0 v) there.1.1 (all_has (λ (y : Reverse X). IsNoHigher x.0 y.0) old there.0 least there.1.0);
     others = λ l has.
         let there = contains_unmap old l has in
         elim (first_or_rest x there.0 new (Contains-permutation old (x ∷ new) there.0 p there.1.0)) [
@@ -63,9 +58,3 @@ module _ {X : Type 0} where
         let there = contains_unmap new l has in
         subst (Contains (map (λ (r : Reverse X). r.0) old)) there.1.1 (contains_map old there.0 (Contains-permutation (x ∷ new) old there.0 (IsPermutation-sym old (x ∷ new) p) (Contains-append_right (x ∷ []) new there.0 there.1.0)));
   }
-
-pub no_link_lower : (a b : Link) → is_lt (ordering_then (int_cmp b.level a.level) (nat_cmp b.from a.from)) ≡ false → a.level ≤ℤ b.level
-no_link_lower a b h = elim (cases_Bool (int_lt b.level a.level)) [
-  | inl less ↦ absurd (true≢false (sym (ap (λ t. is_lt (ordering_then (cond t Less (cond (int_lt a.level b.level) Greater Equal)) (nat_cmp b.from a.from))) less) ∙ h))
-  | inr more ↦ grind (arith, ints)
-]

@@ -1,9 +1,9 @@
 -- What is visited next: the lowest entry that waits, of a node that isn't visited.
-use Rattle.std.proofs.Common.{◌≡◌, ℕ, ◌⊎◌, inl, inr, ◌==◌, Bool, true, false, not, cond, List, [], refl, sym, ap, ◌∙◌, subst, arith, true≢false, Contains}
+use Rattle.std.proofs.Common.{◌≡◌, ℕ, ◌≤ℤ◌, ◌⊎◌, inl, inr, ◌==◌, Bool, true, false, not, cond, List, [], refl, sym, ap, ◌∙◌, subst, arith, true≢false, Contains}
 use Rattle.std.proofs.lemmas.Bool.{cases_Bool}
 use Rattle.std.proofs.lemmas.Bool.Decides.{eqb_tells}
 use Rattle.border_graph.specs.declared.frontier.Entry.{Entry}
-use Rattle.border_graph.specs.Waiting.{IsTaken}
+use Rattle.border_graph.specs.Heaps.{IsTaken}
 use Rattle.border_graph.specs.Frontier.{is_among, IsNext, NoneLeft}
 
 pub not_taken : (b : Bool) → true ≡ not b → b ≡ false
@@ -41,7 +41,7 @@ module _ (old : List Entry) (visited : List ℕ) (mid : List Entry) (held : List
     | inr still ↦ let h = (subst (λ ls. Contains ls l) none still).1 in absurd (omega arith)
   ]
 
-  module _ (new : List Entry) (visited' : List ℕ) (entry : Entry) (p : IsTaken (λ (s : Entry). s.crest) mid new entry) (takes : (x : ℕ) → is_among visited' x ≡ cond (entry.node == x) true (is_among held x)) where
+  module _ (new : List Entry) (visited' : List ℕ) (entry : Entry) (p : IsTaken (λ (x y : Entry). x.crest ≤ℤ y.crest) mid new entry) (takes : (x : ℕ) → is_among visited' x ≡ cond (entry.node == x) true (is_among held x)) where
     takes_too : (x : ℕ) → is_among visited' x ≡ cond (entry.node == x) true (is_among visited x)
     takes_too x = takes x ∙ ap (λ b. cond (entry.node == x) true b) (same x)
 

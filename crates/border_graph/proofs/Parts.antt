@@ -2,7 +2,7 @@
 use Rattle.std.proofs.Common.{◌≡◌, ◌≢◌, ℕ, ◌*◌, ◌-◌, ◌<◌, ◌≤◌, inl, inr, ℤ, List, [], length, get_or, sym, ap, ◌∙◌, subst, arith}
 use Rattle.std.proofs.lemmas.Bool.{cases_lt}
 use Rattle.lattice.specs.Mosaic.{Mosaic, IsMosaic, void}
-use Rattle.border_graph.specs.declared.waiting.Link.{Link}
+use Rattle.border_graph.specs.declared.link.Link.{Link}
 use Rattle.border_graph.specs.declared.summary.RimPoint.{RimPoint}
 use Rattle.border_graph.specs.Summaries.{Summary}
 use Rattle.std.proofs.lemmas.List.{get_or_past}

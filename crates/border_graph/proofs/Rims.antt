@@ -12,7 +12,7 @@ use Rattle.tile_flood.specs.Raising.{AreRimLevels}
 use Rattle.tile_flood.proofs.Raised.{lowest_height, rim_number_below}
 use Rattle.tile_flood.proofs.Passages.{solid_has_level, not_void}
 use Rattle.tile_flood.proofs.Squares.{linked_parts, solid_if}
-use Rattle.border_graph.specs.declared.waiting.Link.{Link}
+use Rattle.border_graph.specs.declared.link.Link.{Link}
 use Rattle.border_graph.specs.Summaries.{Summary}
 use Rattle.border_graph.specs.Links.{IsWayBelow, IsJoinedLevel}
 use Rattle.border_graph.specs.Joining.{AreSummaries, IsRimNumberOf, Node, Outlet, Rim, summary_at, IsThere, IsLink, IsInnerLink, IsSpillLink}
@@ -20,7 +20,7 @@ use Rattle.border_graph.specs.Rising.{IsListed}
 use Rattle.border_graph.specs.Linking.{node_number, AreLinked}
 use Rattle.border_graph.proofs.Joined.{of, there_at, ground_at, solid_at, joined_is_filled, is_joined, height-le_level_at, spill_of}
 use Rattle.border_graph.proofs.Listed.{joined_over_links, no_way_over_links, one_tile, one_number}
-use Rattle.border_graph.proofs.Surge.{max_not_void}
+use Rattle.border_graph.proofs.RisingSteps.{max_not_void}
 
 module _ (m : Mosaic) (is : IsMosaic m) (summaries : List Summary) (all : AreSummaries m summaries) where
   -- a spill is at the level of some height

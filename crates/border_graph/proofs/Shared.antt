@@ -9,7 +9,7 @@ use Rattle.lattice.specs.Lattice.{Holds, IsIndexOf, point_of}
 use Rattle.lattice.specs.Mosaic.{void}
 use Rattle.lattice.specs.Block.{is_rim, rim_number}
 use Rattle.lattice.proofs.Samples.{index_below, index_unique, index_of_point, held_at, point_at_index}
-use Rattle.border_graph.specs.declared.waiting.Link.{Link}
+use Rattle.border_graph.specs.declared.link.Link.{Link}
 use Rattle.border_graph.specs.declared.summary.RimPoint.{RimPoint}
 use Rattle.border_graph.specs.Summaries.{Summary}
 use Rattle.border_graph.specs.Joining.{Rim, summary_at, IsThere, IsRimNumberOf, IsSharedLink, rim_point}

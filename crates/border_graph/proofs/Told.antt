@@ -4,7 +4,7 @@ use Rattle.std.proofs.lemmas.List.{get_or_default, length-map}
 use Rattle.std.proofs.Math.ListN.{get_or-map}
 use Rattle.lattice.specs.Limits.{largest_side}
 use Rattle.lattice.specs.Mosaic.{void}
-use Rattle.border_graph.specs.declared.waiting.Link.{Link}
+use Rattle.border_graph.specs.declared.link.Link.{Link}
 use Rattle.border_graph.specs.Summaries.{Summary}
 use Rattle.border_graph.specs.Joining.{Node, Outlet, Rim, IsLink, IsInnerLink}
 use Rattle.border_graph.specs.Linking.{node_number, AreSoFar}

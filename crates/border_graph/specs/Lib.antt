@@ -3,7 +3,7 @@ pub mod Links
 pub mod Joining
 pub mod RimLookup
 pub mod Joins
-pub mod Waiting
+pub mod Heaps
 pub mod Rising
 pub mod Linking
 pub mod Sharing

@@ -1,6 +1,6 @@
 -- Rows of links one after another in one list.
 use Rattle.std.specs.Prelude.{◌≡◌, ℕ, ◌+◌, ◌<◌, ◌≤◌, List, [], length, map, slice_index_or, slice_range}
-use Rattle.border_graph.specs.declared.waiting.Link.{Link}
+use Rattle.border_graph.specs.declared.link.Link.{Link}
 use Rattle.border_graph.specs.declared.link_rows.ShortLink.{ShortLink}
 
 abbrev pub short : Link → ShortLink

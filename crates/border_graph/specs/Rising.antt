@@ -2,7 +2,7 @@
 use Rattle.std.specs.Prelude.{◌≡◌, ◌≢◌, ℕ, ◌+◌, ◌<◌, ℤ, ◌≤ℤ◌, ◌⊎◌, List, [], ◌∷◌, Contains, length, slice_index_or, cond}
 use Rattle.std.specs.Int.{int_max}
 use Rattle.lattice.specs.Mosaic.{void, is_void}
-use Rattle.border_graph.specs.declared.waiting.Link.{Link}
+use Rattle.border_graph.specs.declared.link.Link.{Link}
 use Rattle.border_graph.specs.Links.{IsWayBelow, IsJoinedLevel}
 
 -- the links to a node
@@ -25,7 +25,7 @@ links_left [] links = 0
 links_left (level ∷ levels) [] = 0
 links_left (level ∷ levels) (row ∷ links) = cond (is_void level) (length row) 0 + links_left levels links
 
-module _ (links : List (List Link)) (levels : List ℤ) (waiting : List Link) where
+module _ (links : List (List Link)) (levels : List ℤ) (queue : List Link) where
   -- the outlet node, and each node that has its level
   abbrev pub IsReached : ℕ → Type 0
   IsReached x = (x ≡ 0) ⊎ (slice_index_or levels x void ≢ void)
@@ -33,7 +33,7 @@ module _ (links : List (List Link)) (levels : List ℤ) (waiting : List Link) wh
   -- water waits at x at no more than the level
   pub record WaitsBelow (x : ℕ) (level : ℤ) : Type 0 where
     pub link : Link
-    pub waits : Contains waiting link
+    pub waits : Contains queue link
     pub from : link.from ≡ x
     pub low : link.level ≤ℤ level
 
@@ -42,9 +42,9 @@ module _ (links : List (List Link)) (levels : List ℤ) (waiting : List Link) wh
     pub whole : length levels ≡ length links
     pub outlet : slice_index_or levels 0 void ≡ void
     pub final : (x : ℕ) → slice_index_or levels x void ≢ void → IsJoinedLevel (IsListed links) 0 x (slice_index_or levels x void)
-    pub nodes : (link : Link) → Contains waiting link → (0 < link.from) × (link.from < length links)
-    pub heights : (link : Link) → Contains waiting link → (void ≤ℤ link.level) × (link.level ≢ void)
-    pub ways : (link : Link) → Contains waiting link → (rest : List ℕ) × IsWayBelow (IsListed links) 0 link.level link.from rest
+    pub nodes : (link : Link) → Contains queue link → (0 < link.from) × (link.from < length links)
+    pub heights : (link : Link) → Contains queue link → (void ≤ℤ link.level) × (link.level ≢ void)
+    pub ways : (link : Link) → Contains queue link → (rest : List ℕ) × IsWayBelow (IsListed links) 0 link.level link.from rest
 
   -- where a link leads to a node that is reached, water waits at its start or that is reached too
   pub record IsRising : Type 0 where

@@ -5,7 +5,7 @@ use Rattle.lattice.specs.declared.point.Point.{Point}
 use Rattle.lattice.specs.Corners.{Corner, is_corner}
 use Rattle.lattice.specs.Lattice.{IsBefore, IsIndexOf}
 use Rattle.lattice.specs.Block.{is_rim, rim_number}
-use Rattle.border_graph.specs.declared.waiting.Link.{Link}
+use Rattle.border_graph.specs.declared.link.Link.{Link}
 use Rattle.border_graph.specs.Summaries.{Summary}
 use Rattle.border_graph.specs.Joining.{Rim, summary_at, IsThere, IsSharedLink}
 use Rattle.border_graph.specs.Rising.{IsListed}

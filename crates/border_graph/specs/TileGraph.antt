@@ -2,7 +2,7 @@
 use Rattle.std.specs.Prelude.{◌≡◌, ◌≢◌, ℕ, ◌+◌, ◌<◌, ℤ, ◌⊎◌, List, [], ◌∷◌, Contains, length, slice_index_or}
 use Rattle.lattice.specs.Limits.{IsSide}
 use Rattle.lattice.specs.Mosaic.{void}
-use Rattle.border_graph.specs.declared.waiting.Link.{Link}
+use Rattle.border_graph.specs.declared.link.Link.{Link}
 use Rattle.border_graph.specs.Summaries.{Summary}
 use Rattle.border_graph.specs.Joining.{Outlet, Rim, IsLink}
 use Rattle.border_graph.specs.Linking.{AreSoFar, AreLinked}

@@ -1,9 +1,9 @@
 //! The links of one tile, in one list.
 ghost use Rattle.std.specs.Prelude.{◌≡◌, ◌≤◌, ◌<◌, ◌++◌, ◌+◌, List, map, length, slice_index_or, slice_range, Contains, IfOk, OnOk};
 ghost use Rattle.border_graph.specs.LinkRows.{short, AreRowsBelow};
-ghost use Rattle.border_graph.specs.declared.waiting.Link.{Link as LinkOf};
+ghost use Rattle.border_graph.specs.declared.link.Link.{Link as LinkOf};
 
-use crate::waiting::Link;
+use crate::link::Link;
 use std::alloc::{AllocError, Global};
 
 /// From which node of one tile a link leads, and at which level, in metres.

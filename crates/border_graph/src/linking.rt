@@ -7,9 +7,9 @@ ghost use Rattle.lattice.specs.declared.refusal.Refusal.TheVariants.{NoMemory};
 ghost use Rattle.border_graph.specs.Sharing.{AreInOrder, IsPointListed, IsTileListed};
 ghost use Rattle.border_graph.specs.Linking.{AreLinked, IsAddedTo, AreAddedBetween, AreSoFar, AreSpillsListed, IsSpillListed, AreListedStill, AreOutletsListed, AreLabelsListed, node_number};
 
+use crate::link::Link;
 use crate::sharing::link_shared;
 use crate::summary::{RimPoint, Summary};
-use crate::waiting::Link;
 use lattice::{Refusal, Side};
 use std::alloc::{AllocError, Global};
 use tile_flood::{OUT, Spill};

@@ -5,7 +5,8 @@ ghost use Rattle.lattice.specs.Mosaic.{void};
 ghost use Rattle.border_graph.specs.Links.{IsJoinedLevel, IsWayBelow};
 ghost use Rattle.border_graph.specs.Rising.{AreLinks, IsListed, links_to, IsRising, IsFollowing};
 
-use crate::waiting::{Link, Waiting};
+use crate::link::Link;
+use crate::lowest_first::LowestFirst;
 use std::alloc::{AllocError, Global};
 
 /// For each node the least level of its ways over links to the first node, the outlet node, in metres: -32768 for that
@@ -19,37 +20,37 @@ pub(crate) fn rise(alloc: Global, links: &[Vec<Link>]) -> Result<Vec<i16>, Alloc
         → (level : ℤ) (rest : List ℕ) → IsWayBelow (IsListed (map (λ v. v.items) links.now)) 0 level x rest → ⊥) }
 {
     let mut levels = vec![in alloc; i16::MIN; links.len()]?;
-    let mut waiting = Waiting::new(alloc);
-    follow(links, 0, &levels, &mut waiting)?;
-    while let Some(link) = waiting.pop() {
+    let mut queue = LowestFirst::new(alloc);
+    follow(links, 0, &levels, &mut queue)?;
+    while let Some(link) = queue.pop() {
         if at(&levels, link.from) == i16::MIN {
             levels[link.from] = link.level;
-            follow(links, link.from, &levels, &mut waiting)?;
+            follow(links, link.from, &levels, &mut queue)?;
         }
     }
     Ok(levels)
 }
 
-// Lets each link to the node c wait that leads from a node without a level.
+// Puts each link to the node c into the queue that leads from a node without a level.
 fn follow(
     links: &[Vec<Link>],
     c: usize,
     levels: &[i16],
-    waiting: &mut Waiting,
+    queue: &mut LowestFirst<Link>,
 ) -> Result<(), AllocError>
     requires links { AreLinks (map (λ v. v.items) links.now) }
     requires c { c < length links.now }
     requires levels { length levels.now ≡ length links.now }
-    requires state { IsFollowing (map (λ v. v.items) links.now) levels.now waiting.old c 0 }
-    ensures state { OnOk result (IsRising (map (λ v. v.items) links.now) levels.now waiting.new) }
-    ensures count { OnOk result (length waiting.new ≤ length waiting.old + length (links_to (map (λ v. v.items) links.now) c)) }
+    requires state { IsFollowing (map (λ v. v.items) links.now) levels.now queue.old c 0 }
+    ensures state { OnOk result (IsRising (map (λ v. v.items) links.now) levels.now queue.new) }
+    ensures count { OnOk result (length queue.new ≤ length queue.old + length (links_to (map (λ v. v.items) links.now) c)) }
 {
     let level = at(levels, c);
     let row = &links[c];
     for j in 0..row.len() {
         let link = row[j];
         if at(levels, link.from) == i16::MIN {
-            waiting.push(raised(link, level))?;
+            queue.push(raised(link, level))?;
         }
     }
     Ok(())

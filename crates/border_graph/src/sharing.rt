@@ -7,9 +7,9 @@ ghost use Rattle.border_graph.specs.Joining.{summary_at};
 ghost use Rattle.border_graph.specs.Linking.{AreSoFar, AreListedStill};
 ghost use Rattle.border_graph.specs.Sharing.{AreInOrder, IsOfRim, IsSharedListed, AreSharedListed};
 
+use crate::link::Link;
 use crate::linking::{add, ground_rim_point, node_number};
 use crate::summary::Summary;
-use crate::waiting::Link;
 use lattice::{Corner, Point, Side, holders, index_in, is_before, point_at, rim_index, rim_number};
 use std::alloc::AllocError;
 

@@ -6,7 +6,7 @@ use Rattle.border_graph.specs.Links.{IsJoinedLevel}
 use Rattle.border_graph.specs.Edges.{AreEdges}
 use Rattle.border_graph.specs.Placed.{IsPlacedLink}
 use Rattle.border_graph.specs.Bottleneck.{IsEnd, AreRaised}
-use Rattle.border_graph.proofs.Rise.{end_at_outlet, end_at_known, followed_all}
+use Rattle.border_graph.proofs.SearchSteps.{end_at_outlet, end_at_known, followed_all}
 use Rattle.border_graph.proofs.bottleneck.expand.Goals as goal
 
 pub returns-then-entry-eq0-clause-ends : goal.returns-then-entry-eq0-clause-ends

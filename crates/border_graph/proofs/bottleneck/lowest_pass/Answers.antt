@@ -9,18 +9,18 @@ use Rattle.border_graph.specs.Joining.{Rim}
 use Rattle.border_graph.specs.Linking.{node_number}
 use Rattle.border_graph.specs.Edges.{AreEdges, IsReachedBelow}
 use Rattle.border_graph.specs.Placed.{IsPlacedLink}
-use Rattle.border_graph.specs.Waiting.{IsAdded}
+use Rattle.border_graph.specs.Heaps.{IsAdded}
 use Rattle.border_graph.specs.Frontier.{is_among, IsNext, NoneLeft}
 use Rattle.border_graph.specs.declared.edge_source.Edge.{Edge}
 use Rattle.border_graph.specs.Crests.{crest, LeadsOut}
-use Rattle.border_graph.proofs.Surge.{way_up}
+use Rattle.border_graph.proofs.RisingSteps.{way_up}
 use Rattle.border_graph.specs.declared.frontier.Entry.{Entry}
 use Rattle.border_graph.specs.declared.bottleneck.Settled.{Settled}
 use Rattle.border_graph.specs.Bottleneck.{IsEnd, IsExpanded, IsSettledBy, HasLevel}
 use Rattle.border_graph.proofs.Crested.{below_crest, least_crest}
 use Rattle.border_graph.proofs.Left.{fewer_left}
 use Rattle.border_graph.proofs.Next.{taken_now, taken_still, taken_other}
-use Rattle.border_graph.proofs.Rise.{IsTwoWay, two_way, alike, alike_at, settled_by, rising_first, no_way, reached_below, ended, risen}
+use Rattle.border_graph.proofs.SearchSteps.{IsTwoWay, two_way, alike, alike_at, settled_by, rising_first, no_way, reached_below, ended, risen}
 use Rattle.border_graph.proofs.bottleneck.lowest_pass.Goals as goal
 
 none : {X : Type 0} (x : X) → Contains [] x → ⊥
@@ -34,7 +34,7 @@ rise-init g c = record {
   none = c.requires.empty;
   settled = λ n summaries fits one has. absurd (none one (subst (λ (l : List Settled). Contains l one) c.new-settled.ensures.items has));
   rising = λ n summaries fits. rising_first (IsPlacedLink n summaries) c.args.start (λ x y level. g.met.G.EdgeSource.levels_fit c.args.graph.now n summaries x y level fits) c.requires.start c.new-visited.result c.new-visited.ensures c.push.new.self (record { crest = void; level = void; node = c.args.start })
-      (subst (λ old. IsAdded old c.push.new.self (record { crest = void; level = void; node = c.args.start })) c.new-frontier.ensures c.in_ok-push.ensures) refl refl;
+      (subst (λ old. IsAdded old c.push.new.self (record { crest = void; level = void; node = c.args.start })) c.new-frontier.ensures c.in_ok-push.ensures.added) refl refl;
 }
 
 pub returns-in-Some-2-clause-joined : goal.returns-in-Some-2-clause-joined

@@ -1,7 +1,7 @@
 use Rattle.std.proofs.Common.{◌≡◌, ◌<◌, ◌++◌, List, [], ◌∷◌, length, map, get_or, sym, ap, ◌∙◌, subst, Contains, Vec, Global, arith}
 use Rattle.std.proofs.lemmas.List.{length-map}
 use Rattle.std.proofs.lemmas.List.Elements.{Contains-get_or}
-use Rattle.border_graph.specs.declared.waiting.Link.{Link}
+use Rattle.border_graph.specs.declared.link.Link.{Link}
 use Rattle.border_graph.proofs.RowsTogether.{one_more_row}
 use Rattle.border_graph.proofs.Told.{row_is}
 use Rattle.border_graph.proofs.link_rows.rows_together.Goals as goal

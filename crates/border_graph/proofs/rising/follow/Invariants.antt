@@ -4,6 +4,6 @@ use Rattle.border_graph.proofs.rising.follow.Given as goal
 
 abbrev pub invariant-loop-j : goal.invariant-loop-j
 invariant-loop-j l = record {
-  state : IsFollowing (map (λ v. v.items) l.links) l.levels l.waiting l.c l.j;
-  count : length l.waiting ≤ length l.fn.waiting + l.j;
+  state : IsFollowing (map (λ v. v.items) l.links) l.levels l.queue l.c l.j;
+  count : length l.queue ≤ length l.fn.queue + l.j;
 }

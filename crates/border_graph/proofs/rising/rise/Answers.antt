@@ -3,7 +3,8 @@ use Rattle.std.proofs.lemmas.Int.{to_z-of_z}
 use Rattle.std.proofs.lemmas.List.{length-map}
 use Rattle.lattice.specs.Mosaic.{void}
 use Rattle.border_graph.specs.Rising.{IsRising, IsFollowing, links_to, links_left}
-use Rattle.border_graph.proofs.Surge.{reached_now, passed, unreached, left_less}
+use Rattle.border_graph.proofs.HeapOrders.{lowest_link}
+use Rattle.border_graph.proofs.RisingSteps.{reached_now, passed, unreached, left_less}
 use Rattle.border_graph.proofs.rising.rise.Goals as goal
 
 pub at-requires : goal.at-requires
@@ -32,7 +33,7 @@ follow-requires-then-at-clause-state c =
     let here : c.at.result ≡ void = sym (to_z-of_z w16 c.at.result fits_at) ∙ ap (to_z w16) c.if-at.true in
     let gap : get_or c.loop-link.levels.items c.in-Some.link.from void ≡ void = subst (λ ls. get_or ls c.in-Some.link.from void ≡ void) c.deref-in-Some.ensures.value (sym c.at.ensures ∙ here) in
     subst (λ ls. IsFollowing (map (λ v. v.items) c.args.links.now) ls c.pop.new.self c.in-Some.link.from 0) (sym c.deref-then-at.ensures.value)
-    (reached_now (map (λ v. v.items) c.args.links.now) c.requires c.loop-link.levels.items c.loop-link.waiting c.pop.new.self c.in-Some.link (to_z w16 (of_z w16 c.in-Some.link.level)) c.loop-link.invariant c.in-Some.ensures.taken gap
+    (reached_now (map (λ v. v.items) c.args.links.now) c.requires c.loop-link.levels.items c.loop-link.queue c.pop.new.self c.in-Some.link (to_z w16 (of_z w16 c.in-Some.link.level)) c.loop-link.invariant (lowest_link c.loop-link.queue c.pop.new.self c.in-Some.link c.in-Some.ensures.taken) gap
     (to_z-of_z w16 c.in-Some.link.level fits))
 
 pub loop-link-smaller-in-Continue-branch-3 : goal.loop-link-smaller-in-Continue-branch-3
@@ -48,19 +49,19 @@ loop-link-smaller-in-Continue-branch-3 c =
     let less : links_left (set c.loop-link.levels.items c.in-Some.link.from (to_z w16 (of_z w16 c.in-Some.link.level))) (map (λ v. v.items) c.args.links.now) + length (links_to (map (λ v. v.items) c.args.links.now) c.in-Some.link.from)
     ≡ links_left c.loop-link.levels.items (map (λ v. v.items) c.args.links.now) =
     left_less c.loop-link.levels.items (map (λ v. v.items) c.args.links.now) c.in-Some.link.from (to_z w16 (of_z w16 c.in-Some.link.level)) inside node gap (λ same. full (sym (to_z-of_z w16 c.in-Some.link.level fits) ∙ same)) in
-    let popped : length c.loop-link.waiting ≡ length c.pop.new.self + 1 = c.in-Some.ensures.count in
+    let popped : length c.loop-link.queue ≡ length c.pop.new.self + 1 = c.in-Some.ensures.count in
     let more = c.in_ok-follow-2.ensures.count in
     omega arith
 
 pub loop-link-preserved : goal.loop-link-preserved
-loop-link-preserved c = passed (map (λ v. v.items) c.args.links.now) c.requires c.loop-link.levels.items c.loop-link.waiting c.pop.new.self c.in-Some.link c.loop-link.invariant c.in-Some.ensures.taken
+loop-link-preserved c = passed (map (λ v. v.items) c.args.links.now) c.requires c.loop-link.levels.items c.loop-link.queue c.pop.new.self c.in-Some.link c.loop-link.invariant (lowest_link c.loop-link.queue c.pop.new.self c.in-Some.link c.in-Some.ensures.taken)
     (λ gap. c.if-at.false (ap (of_z w16) (c.at.ensures ∙ subst (λ ls. get_or ls c.in-Some.link.from void ≡ void) (sym c.deref-in-Some.ensures.value) gap)))
 
 pub returns-clause-unreached : goal.returns-clause-unreached
-returns-clause-unreached c = unreached (map (λ v. v.items) c.args.links.now) c.requires c.loop-link.levels.items c.loop-link.waiting c.loop-link.invariant c.in_default.ensures.none
+returns-clause-unreached c = unreached (map (λ v. v.items) c.args.links.now) c.requires c.loop-link.levels.items c.loop-link.queue c.loop-link.invariant c.in_default.ensures.none
 
 pub loop-link-preserved-in-Continue-branch-3 : goal.loop-link-preserved-in-Continue-branch-3
-loop-link-preserved-in-Continue-branch-3 c = subst (λ ls. IsRising (map (λ v. v.items) c.args.links.now) ls c.follow-then-at.new.waiting) c.deref-then-at.ensures.value c.in_ok-follow-2.ensures.state
+loop-link-preserved-in-Continue-branch-3 c = subst (λ ls. IsRising (map (λ v. v.items) c.args.links.now) ls c.follow-then-at.new.queue) c.deref-then-at.ensures.value c.in_ok-follow-2.ensures.state
 
 pub returns-clause-whole : goal.returns-clause-whole
 returns-clause-whole c = c.loop-link.invariant.reached.whole ∙ length-map c.args.links.now (λ v. v.items)

@@ -1,6 +1,6 @@
 use Rattle.std.proofs.Common.{◌≤◌, List, [], ◌∷◌, map, sym, subst, arith, Vec, Global}
 use Rattle.lattice.specs.Limits.{largest_side}
-use Rattle.border_graph.specs.declared.waiting.Link.{Link}
+use Rattle.border_graph.specs.declared.link.Link.{Link}
 use Rattle.border_graph.specs.Summaries.{Summary}
 use Rattle.border_graph.specs.Linking.{AreSoFar}
 use Rattle.border_graph.proofs.Told.{short_links}

@@ -9,14 +9,14 @@ use Rattle.std.proofs.lemmas.List.Elements.{Contains-get_or}
 use Rattle.lattice.specs.Mosaic.{void}
 use Rattle.lattice.proofs.Levels.{≤ℤ_same, ≤ℤ_trans, le-max_left, le-max_right, max-le}
 use Rattle.border_graph.specs.Links.{IsWayBelow, IsJoinedLevel}
-use Rattle.border_graph.proofs.Surge.{way_up, go_on}
+use Rattle.border_graph.proofs.RisingSteps.{way_up, go_on}
 use Rattle.border_graph.specs.declared.edge_source.Edge.{Edge}
 use Rattle.border_graph.specs.declared.bottleneck.Settled.{Settled}
 use Rattle.border_graph.specs.declared.frontier.Entry.{Entry}
 use Rattle.border_graph.specs.Summaries.{Summary}
 use Rattle.border_graph.specs.Edges.{AreEdges, IsReachedBelow}
 use Rattle.border_graph.specs.Placed.{IsPlacedLink}
-use Rattle.border_graph.specs.Waiting.{IsAdded}
+use Rattle.border_graph.specs.Heaps.{IsAdded}
 use Rattle.border_graph.specs.Frontier.{is_among, IsNext, NoneLeft}
 use Rattle.border_graph.proofs.Next.{taken_still, taken_other}
 use Rattle.border_graph.specs.Bottleneck.{raised, AreRaised, IsSettledBy, WaitsBelow, IsEnd, IsExpanded, IsOn, IsSearching}

@@ -11,9 +11,9 @@ use Rattle.std.proofs.lemmas.List.Elements.{Contains-get_or}
 use Rattle.lattice.specs.Mosaic.{void, is_void}
 use Rattle.lattice.proofs.Levels.{≤ℤ_same, ≤ℤ_trans, le-max_left, le-max_right, max-le, ≤ℤ_antisym}
 use Rattle.lattice.proofs.IntTests.{eq_or_not}
-use Rattle.border_graph.specs.declared.waiting.Link.{Link}
+use Rattle.border_graph.specs.declared.link.Link.{Link}
 use Rattle.border_graph.specs.Links.{IsWayBelow, IsJoinedLevel}
-use Rattle.border_graph.specs.Waiting.{IsAdded, IsTaken}
+use Rattle.border_graph.specs.Heaps.{IsAdded, IsTaken}
 use Rattle.border_graph.specs.Rising.{AreLinks, IsListed, links_to, links_left, IsReached, WaitsBelow, IsRising, IsFollowing}
 
 -- a way to a, and on from there
@@ -44,8 +44,8 @@ module _ (links : List (List Link)) (law : AreLinks links) where
   listed_at : (y j : ℕ) (d : Link) → j < length (links_to links y) → IsListed links (get_or (links_to links y) j d).from y (get_or (links_to links y) j d).level
   listed_at y j d small = Contains-get_or (links_to links y) j d small
 
-  module _ (levels : List ℤ) (waiting : List Link) where
-    reached_or_not : (x : ℕ) → IsReached links levels waiting x ⊎ (IsReached links levels waiting x → ⊥)
+  module _ (levels : List ℤ) (queue : List Link) where
+    reached_or_not : (x : ℕ) → IsReached links levels queue x ⊎ (IsReached links levels queue x → ⊥)
     reached_or_not x = elim (cases_eq x 0) [
       | inl first ↦ inl (inl first)
       | inr later ↦ elim (eq_or_not (get_or levels x void) void) [
@@ -54,27 +54,27 @@ module _ (links : List (List Link)) (law : AreLinks links) where
       ]
     ]
       where
-        neither : x ≢ 0 → get_or levels x void ≡ void → IsReached links levels waiting x → ⊥
+        neither : x ≢ 0 → get_or levels x void ≡ void → IsReached links levels queue x → ⊥
         neither later gap (inl first) = later first
         neither later gap (inr full) = full gap
 
-    module _ (s : IsRising links levels waiting) where
+    module _ (s : IsRising links levels queue) where
       -- a listed link to a node that is reached
-      met : (x y : ℕ) (l : ℤ) → IsListed links x y l → IsReached links levels waiting y → IsReached links levels waiting x ⊎ WaitsBelow links levels waiting x (int_max (get_or levels y void) l)
+      met : (x y : ℕ) (l : ℤ) → IsListed links x y l → IsReached links levels queue y → IsReached links levels queue x ⊎ WaitsBelow links levels queue x (int_max (get_or levels y void) l)
       met x y l listed on =
           let link : Link = record { level = l; from = x } in
           let at : get_or (links_to links y) listed.0 (record { level = l; from = x }) ≡ record { level = l; from = x } = listed.2 in
-          let T : Link → Type 0 = λ v. IsReached links levels waiting v.from ⊎ WaitsBelow links levels waiting v.from (int_max (get_or levels y void) v.level) in
+          let T : Link → Type 0 = λ v. IsReached links levels queue v.from ⊎ WaitsBelow links levels queue v.from (int_max (get_or levels y void) v.level) in
           subst T at (s.border y listed.0 (record { level = l; from = x }) (listed_in x y l listed) listed.1 on)
 
-      level_below : (x y : ℕ) (l level : ℤ) (rest : List ℕ) → IsListed links x y l → l ≤ℤ level → IsReached links levels waiting y → IsWayBelow (IsListed links) 0 level y rest → int_max (get_or levels y void) l ≤ℤ level
+      level_below : (x y : ℕ) (l level : ℤ) (rest : List ℕ) → IsListed links x y l → l ≤ℤ level → IsReached links levels queue y → IsWayBelow (IsListed links) 0 level y rest → int_max (get_or levels y void) l ≤ℤ level
       level_below x y l level rest listed low (inl first) way =
           let at : get_or levels y void ≡ void = ap (λ v. get_or levels v void) first ∙ s.reached.outlet in
           max-le (get_or levels y void) l level (≤ℤ_trans (get_or levels y void) l level (subst (λ v. v ≤ℤ l) (sym at) (law.levels x y l listed).0) low) low
       level_below x y l level rest listed low (inr full) way = max-le (get_or levels y void) l level ((s.reached.final y full).least level rest way) low
 
       -- a way from a node that isn't reached comes to one where water waits
-      enters : (low : ℤ) → ((w : Link) → Contains waiting w → low ≤ℤ w.level) → (level : ℤ) (x : ℕ) (rest : List ℕ) → (IsReached links levels waiting x → ⊥) → IsWayBelow (IsListed links) 0 level x rest → low ≤ℤ level
+      enters : (low : ℤ) → ((w : Link) → Contains queue w → low ≤ℤ w.level) → (level : ℤ) (x : ℕ) (rest : List ℕ) → (IsReached links levels queue x → ⊥) → IsWayBelow (IsListed links) 0 level x rest → low ≤ℤ level
       enters low least level x [] off way = absurd (off (inl way))
       enters low least level x (y ∷ rest) off way = elim (reached_or_not y) [
         | inr off' ↦ enters low least level y rest off' way.1
@@ -85,7 +85,7 @@ module _ (links : List (List Link)) (law : AreLinks links) where
       ]
 
       -- where nothing waits there is no such way
-      no_way : waiting ≡ [] → (level : ℤ) (x : ℕ) (rest : List ℕ) → (IsReached links levels waiting x → ⊥) → IsWayBelow (IsListed links) 0 level x rest → ⊥
+      no_way : queue ≡ [] → (level : ℤ) (x : ℕ) (rest : List ℕ) → (IsReached links levels queue x → ⊥) → IsWayBelow (IsListed links) 0 level x rest → ⊥
       no_way none level x [] off way = off (inl way)
       no_way none level x (y ∷ rest) off way = elim (reached_or_not y) [
         | inr off' ↦ no_way none level y rest off' way.1
@@ -96,8 +96,8 @@ module _ (links : List (List Link)) (law : AreLinks links) where
       ]
 
   -- the lowest link that waits, from a node that is reached already
-  pub passed : (levels : List ℤ) (waiting waiting' : List Link) (link : Link) → IsRising links levels waiting → IsTaken (λ (l : Link). l.level) waiting waiting' link → get_or levels link.from void ≢ void → IsRising links levels waiting'
-  passed levels waiting waiting' link s t full = record {
+  pub passed : (levels : List ℤ) (queue queue' : List Link) (link : Link) → IsRising links levels queue → IsTaken (λ (x y : Link). x.level ≤ℤ y.level) queue queue' link → get_or levels link.from void ≢ void → IsRising links levels queue'
+  passed levels queue queue' link s t full = record {
     reached = record {
       whole = s.reached.whole;
       outlet = s.reached.outlet;
@@ -116,9 +116,9 @@ module _ (links : List (List Link)) (law : AreLinks links) where
   }
 
   -- the lowest link that waits, from a node that isn't
-  pub reached_now : (levels : List ℤ) (waiting waiting' : List Link) (link : Link) (v : ℤ) → IsRising links levels waiting → IsTaken (λ (l : Link). l.level) waiting waiting' link → get_or levels link.from void ≡ void → v ≡ link.level →
-      IsFollowing links (set levels link.from v) waiting' link.from 0
-  reached_now levels waiting waiting' link v s t gap is =
+  pub reached_now : (levels : List ℤ) (queue queue' : List Link) (link : Link) (v : ℤ) → IsRising links levels queue → IsTaken (λ (x y : Link). x.level ≤ℤ y.level) queue queue' link → get_or levels link.from void ≡ void → v ≡ link.level →
+      IsFollowing links (set levels link.from v) queue' link.from 0
+  reached_now levels queue queue' link v s t gap is =
       let c = link.from in
       let node = s.reached.nodes link t.waited in
       let full = s.reached.heights link t.waited in
@@ -132,7 +132,7 @@ module _ (links : List (List Link)) (law : AreLinks links) where
             | inl same ↦ subst (λ y. IsJoinedLevel (IsListed links) 0 y (get_or (set levels link.from v) y void)) (sym same)
                 (subst (λ l. IsJoinedLevel (IsListed links) 0 link.from l) (sym (here ∙ is)) (record {
                   reached = s.reached.ways link t.waited;
-                  least = λ level rest way. enters levels waiting s link.level t.lowest level link.from rest (unreached node.0) way;
+                  least = λ level rest way. enters levels queue s link.level t.lowest level link.from rest (unreached node.0) way;
                 }))
             | inr other ↦
                 let at = get_or-set_other levels link.from x v void other in
@@ -157,27 +157,27 @@ module _ (links : List (List Link)) (law : AreLinks links) where
         ];
       }
     where
-      unreached : 0 < link.from → IsReached links levels waiting link.from → ⊥
+      unreached : 0 < link.from → IsReached links levels queue link.from → ⊥
       unreached some (inl first) = absurd (omega arith)
       unreached some (inr full) = full gap
 
-      before : (y : ℕ) → get_or (set levels link.from v) y void ≡ get_or levels y void → IsReached links (set levels link.from v) waiting' y → IsReached links levels waiting y
+      before : (y : ℕ) → get_or (set levels link.from v) y void ≡ get_or levels y void → IsReached links (set levels link.from v) queue' y → IsReached links levels queue y
       before y at (inl first) = inl first
       before y at (inr full) = inr (λ none. full (at ∙ none))
 
-      still : (x : ℕ) → IsReached links levels waiting x → IsReached links (set levels link.from v) waiting' x
+      still : (x : ℕ) → IsReached links levels queue x → IsReached links (set levels link.from v) queue' x
       still x (inl first) = inl first
       still x (inr full) = inr (λ none. elim (cases_eq x link.from) [
         | inl same ↦ full (ap (λ y. get_or levels y void) same ∙ gap)
         | inr other ↦ full (sym (get_or-set_other levels link.from x v void other) ∙ none)
       ])
 
-  module _ (levels : List ℤ) (waiting : List Link) (c i : ℕ) (d : Link) (in_c : c < length links) (in_i : i < length (links_to links c)) (s : IsFollowing links levels waiting c i) where
+  module _ (levels : List ℤ) (queue : List Link) (c i : ℕ) (d : Link) (in_c : c < length links) (in_i : i < length (links_to links c)) (s : IsFollowing links levels queue c i) where
     same_link : (j : ℕ) (e : Link) → i ≡ j → get_or (links_to links c) i d ≡ get_or (links_to links c) j e
     same_link j e same = get_or_default (links_to links c) i d e in_i ∙ ap (λ k. get_or (links_to links c) k e) same
 
     -- its start is reached
-    pub followed : IsReached links levels waiting (get_or (links_to links c) i d).from → IsFollowing links levels waiting c (i + 1)
+    pub followed : IsReached links levels queue (get_or (links_to links c) i d).from → IsFollowing links levels queue c (i + 1)
     followed on = record {
       reached = s.reached;
       here = s.here;
@@ -185,14 +185,14 @@ module _ (links : List (List Link)) (law : AreLinks links) where
         | inr other ↦ s.border y j e in_y in_j (λ same. absurd (other same)) is
         | inl same ↦ elim (cases_lt j i) [
           | inl earlier ↦ s.border y j e in_y in_j (λ _. earlier) is
-          | inr later ↦ let h = done same in inl (subst (λ (v : ℕ). IsReached links levels waiting (get_or (links_to links v) j e).from) (sym same) (subst (λ (l : Link). IsReached links levels waiting l.from) (same_link j e (omega arith)) on))
+          | inr later ↦ let h = done same in inl (subst (λ (v : ℕ). IsReached links levels queue (get_or (links_to links v) j e).from) (sym same) (subst (λ (l : Link). IsReached links levels queue l.from) (same_link j e (omega arith)) on))
         ]
       ];
     }
 
     -- it waits
-    pub added : (waiting' : List Link) (link : Link) → IsAdded waiting waiting' link → link.from ≡ (get_or (links_to links c) i d).from → link.level ≡ int_max (get_or levels c void) (get_or (links_to links c) i d).level → IsFollowing links levels waiting' c (i + 1)
-    added waiting' link a from level =
+    pub added : (queue' : List Link) (link : Link) → IsAdded queue queue' link → link.from ≡ (get_or (links_to links c) i d).from → link.level ≡ int_max (get_or levels c void) (get_or (links_to links c) i d).level → IsFollowing links levels queue' c (i + 1)
+    added queue' link a from level =
         let here = get_or (links_to links c) i d in
         let listed = listed_at c i d in_i in
         record {
@@ -224,17 +224,17 @@ module _ (links : List (List Link)) (law : AreLinks links) where
           ];
         }
       where
-        more : (x : ℕ) (v : ℤ) → IsReached links levels waiting x ⊎ WaitsBelow links levels waiting x v → IsReached links levels waiting' x ⊎ WaitsBelow links levels waiting' x v
+        more : (x : ℕ) (v : ℤ) → IsReached links levels queue x ⊎ WaitsBelow links levels queue x v → IsReached links levels queue' x ⊎ WaitsBelow links levels queue' x v
         more x v (inl on) = inl on
         more x v (inr w) = inr (record { link = w.link; waits = a.others w.link w.waits; from = w.from; low = w.low })
 
-        new : (y j : ℕ) (e : Link) → y ≡ c → i ≡ j → WaitsBelow links levels waiting' (get_or (links_to links y) j e).from (int_max (get_or levels y void) (get_or (links_to links y) j e).level)
-        new y j e same at = subst (λ v. WaitsBelow links levels waiting' (get_or (links_to links v) j e).from (int_max (get_or levels v void) (get_or (links_to links v) j e).level)) (sym same)
-            (subst (λ (l : Link). WaitsBelow links levels waiting' l.from (int_max (get_or levels c void) l.level)) (same_link j e at)
+        new : (y j : ℕ) (e : Link) → y ≡ c → i ≡ j → WaitsBelow links levels queue' (get_or (links_to links y) j e).from (int_max (get_or levels y void) (get_or (links_to links y) j e).level)
+        new y j e same at = subst (λ v. WaitsBelow links levels queue' (get_or (links_to links v) j e).from (int_max (get_or levels v void) (get_or (links_to links v) j e).level)) (sym same)
+            (subst (λ (l : Link). WaitsBelow links levels queue' l.from (int_max (get_or levels c void) l.level)) (same_link j e at)
             (record { link = link; waits = a.waits; from = from; low = subst (λ v. link.level ≤ℤ v) level (≤ℤ_same link.level) }))
 
         -- over the link, and on from c
-        way_on : IsReached links levels waiting c → (rest : List ℕ) × IsWayBelow (IsListed links) 0 (int_max (get_or levels c void) (get_or (links_to links c) i d).level) (get_or (links_to links c) i d).from rest
+        way_on : IsReached links levels queue c → (rest : List ℕ) × IsWayBelow (IsListed links) 0 (int_max (get_or levels c void) (get_or (links_to links c) i d).level) (get_or (links_to links c) i d).from rest
         way_on (inl first) = (c ∷ [], (((get_or (links_to links c) i d).level, (listed_at c i d in_i, le-max_right (get_or levels c void) (get_or (links_to links c) i d).level)), first))
         way_on (inr full) =
             let on = (s.reached.final c full).reached in (
@@ -246,17 +246,17 @@ module _ (links : List (List Link)) (law : AreLinks links) where
             )
 
   -- all links to c are done
-  pub follow_end : (levels : List ℤ) (waiting : List Link) (c : ℕ) → IsFollowing links levels waiting c (length (links_to links c)) → IsRising links levels waiting
-  follow_end levels waiting c s = record {
+  pub follow_end : (levels : List ℤ) (queue : List Link) (c : ℕ) → IsFollowing links levels queue c (length (links_to links c)) → IsRising links levels queue
+  follow_end levels queue c s = record {
     reached = s.reached;
     border = λ y j d in_y in_j on. s.border y j d in_y in_j (λ same. subst (λ v. j < length (links_to links v)) same in_j) on;
   }
 
   -- where nothing waits, a node without a level has no way
-  pub unreached : (levels : List ℤ) (waiting : List Link) → IsRising links levels waiting → waiting ≡ [] → (x : ℕ) → 0 < x → get_or levels x void ≡ void → (level : ℤ) (rest : List ℕ) → IsWayBelow (IsListed links) 0 level x rest → ⊥
-  unreached levels waiting s none x some gap level rest way = no_way levels waiting s none level x rest off way
+  pub unreached : (levels : List ℤ) (queue : List Link) → IsRising links levels queue → queue ≡ [] → (x : ℕ) → 0 < x → get_or levels x void ≡ void → (level : ℤ) (rest : List ℕ) → IsWayBelow (IsListed links) 0 level x rest → ⊥
+  unreached levels queue s none x some gap level rest way = no_way levels queue s none level x rest off way
     where
-      off : IsReached links levels waiting x → ⊥
+      off : IsReached links levels queue x → ⊥
       off (inl first) = absurd (omega arith)
       off (inr full) = full gap
 
@@ -281,7 +281,7 @@ pub row_is : {V : Type 0} (f : V → List Link) (xs : List V) (c : ℕ) (v : V) 
 row_is f xs c v small is = ap f is ∙ (sym (get_or-map f xs c v) ∙ get_or_default (map f xs) c (f v) [] (subst (λ n. c < n) (sym (length-map xs f)) small))
 
 -- a turn of the loop over the links to c, as the code does it
-module _ (links : List (List Link)) (law : AreLinks links) (levels : List ℤ) (waiting : List Link) (c i : ℕ) (row : List Link) (link : Link)
+module _ (links : List (List Link)) (law : AreLinks links) (levels : List ℤ) (queue : List Link) (c i : ℕ) (row : List Link) (link : Link)
     (at_row : row ≡ links_to links c) (is : link ≡ get_or row i link) (in_c : c < length links) (in_row : i < length row) where
   in_links : i < length (links_to links c)
   in_links = subst (λ (r : List Link). i < length r) at_row in_row
@@ -292,9 +292,9 @@ module _ (links : List (List Link)) (law : AreLinks links) (levels : List ℤ) (
   pub node_of_link : (0 < link.from) × (link.from < length links)
   node_of_link = law.nodes link.from c link.level (i, in_links, sym here)
 
-  pub turn_waits : IsFollowing links levels waiting c i → (waiting' : List Link) (new : Link) → IsAdded waiting waiting' new → new.from ≡ link.from → new.level ≡ int_max (get_or levels c void) link.level →
-      IsFollowing links levels waiting' c (i + 1)
-  turn_waits s waiting' new a from level = added links law levels waiting c i link in_c in_links s waiting' new a (from ∙ ap (λ (l : Link). l.from) here) (level ∙ ap (λ (l : Link). int_max (get_or levels c void) l.level) here)
+  pub turn_waits : IsFollowing links levels queue c i → (queue' : List Link) (new : Link) → IsAdded queue queue' new → new.from ≡ link.from → new.level ≡ int_max (get_or levels c void) link.level →
+      IsFollowing links levels queue' c (i + 1)
+  turn_waits s queue' new a from level = added links law levels queue c i link in_c in_links s queue' new a (from ∙ ap (λ (l : Link). l.from) here) (level ∙ ap (λ (l : Link). int_max (get_or levels c void) l.level) here)
 
-  pub turn_passes : IsFollowing links levels waiting c i → get_or levels link.from void ≢ void → IsFollowing links levels waiting c (i + 1)
-  turn_passes s full = followed links law levels waiting c i link in_c in_links s (inr (subst (λ (l : Link). get_or levels l.from void ≢ void) here full))
+  pub turn_passes : IsFollowing links levels queue c i → get_or levels link.from void ≢ void → IsFollowing links levels queue c (i + 1)
+  turn_passes s full = followed links law levels queue c i link in_c in_links s (inr (subst (λ (l : Link). get_or levels l.from void ≢ void) here full))

@@ -1,16 +1,16 @@
--- What waits in a heap, as links whose end water has reached: the lowest comes first.
-use Rattle.std.specs.Prelude.{◌≡◌, ℤ, ◌≤ℤ◌, ◌⊎◌, List, Contains}
+-- What a heap holds once an element is added, or its lowest taken.
+use Rattle.std.specs.Prelude.{◌≡◌, ◌⊎◌, List, Contains}
 
 module _ {X : Type 0} where
-  -- x waits from now on
+  -- x is in the heap from now on
   pub record IsAdded (old new : List X) (x : X) : Type 0 where
     pub waits : Contains new x
     pub others : (l : X) → Contains old l → Contains new l
     pub only : (l : X) → Contains new l → (l ≡ x) ⊎ Contains old l
 
-  -- x waited, none was lower, and it waits no longer
-  pub record IsTaken (level : X → ℤ) (old new : List X) (x : X) : Type 0 where
+  -- x was in the heap, is no higher than any there, and is in it no longer
+  pub record IsTaken (IsNoHigher : X → X → Type 0) (old new : List X) (x : X) : Type 0 where
     pub waited : Contains old x
-    pub lowest : (l : X) → Contains old l → level x ≤ℤ level l
+    pub lowest : (l : X) → Contains old l → IsNoHigher x l
     pub others : (l : X) → Contains old l → (l ≡ x) ⊎ Contains new l
     pub only : (l : X) → Contains new l → Contains old l

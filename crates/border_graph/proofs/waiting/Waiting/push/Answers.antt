@@ -1,9 +1,0 @@
-use Rattle.std.proofs.Common.{subst, map}
-use Rattle.std.specs.BinaryHeap.{heap_items}
-use Rattle.border_graph.specs.Waiting.{IsAdded}
-use Rattle.border_graph.proofs.Heaps.{added_to_heap}
-use Rattle.border_graph.proofs.waiting.Waiting.push.Goals as goal
-
-pub returns-clause-added : goal.returns-clause-added
-returns-clause-added c = subst (λ old. IsAdded old (map (λ r. r.0) (heap_items c.push.new.self)) c.args.link) c.self.view_is
-    (added_to_heap (heap_items c.self.inside.links) (heap_items c.push.new.self) _ c.in_ok-push.ensures.permutation)
