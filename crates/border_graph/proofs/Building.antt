@@ -97,14 +97,14 @@ module _ (n : ℕ) (summaries : List Summary) (old mid new : List (List Link)) (
   label_link : (v : ℤ) → v ≡ point.height → IsLabelLink n summaries t k point.label v
   label_link v is = record { names = ap (λ (p : RimPoint). p.label) h.is; height = height_at n summaries t k point h ∙ sym is }
 
-  pub labels_so_far : AreSoFar n summaries new
+  labels_so_far : AreSoFar n summaries new
   labels_so_far =
       so_far_more n summaries mid new (node_number n (Rim t k)) second t point.label (Rim t k)
       (so_far_more n summaries old mid (node_number n (Rim t point.label)) first t k (Rim t point.label) s one first_from refl (h.there, (named, inl (refl, inl (label_link first.level first_level)))) (subst (λ v. void ≤ℤ v) (sym first_level) (fits_above point.height fits), full first.level first_level))
       two second_from refl (named, (h.there, inl (refl, inr (inl (label_link second.level second_level)))))
       (subst (λ v. void ≤ℤ v) (sym second_level) (fits_above point.height fits), full second.level second_level)
 
-  pub labels_listed : AreLabelsListed n summaries new t k
+  labels_listed : AreLabelsListed n summaries new t k
   labels_listed l level here there label =
       let name : point.label ≡ l = sym (ap (λ (p : RimPoint). p.label) h.is) ∙ label.names in
       let at : point.height ≡ level = sym (height_at n summaries t k point h) ∙ label.height in
@@ -114,6 +114,9 @@ module _ (n : ℕ) (summaries : List Summary) (old mid new : List (List Link)) (
         subst (λ v. IsListed new (node_number n (Rim t point.label)) (node_number n (Rim t k)) v) (second_level ∙ at)
             (subst (λ x. IsListed new x (node_number n (Rim t k)) second.level) second_from two.listed),
       )
+
+  pub labels_linked : AreSoFar n summaries new × AreLabelsListed n summaries new t k
+  labels_linked = (labels_so_far, labels_listed)
 
 -- a spill
 module _ (n : ℕ) (summaries : List Summary) (old mid new : List (List Link)) (t : ℕ) (spill : Spill) (has : Contains (summary_at summaries t).spills spill) (there_a : IsThere n summaries t spill.a) (s : AreSoFar n summaries old) (full : spill.level ≢ void) where
@@ -127,14 +130,14 @@ module _ (n : ℕ) (summaries : List Summary) (old mid new : List (List Link)) (
 
   module _ (there_b : IsThere n summaries t spill.b) (first second : Link) (first_from : first.from ≡ node_number n (Rim t spill.a)) (second_from : second.from ≡ node_number n (Rim t spill.b)) (first_level : first.level ≡ spill.level) (second_level : second.level ≡ spill.level)
       (fits : SFits w16 spill.level) (one : IsAddedTo old mid (node_number n (Rim t spill.b)) first) (two : IsAddedTo mid new (node_number n (Rim t spill.a)) second) where
-    pub spill_so_far : AreSoFar n summaries new
+    spill_so_far : AreSoFar n summaries new
     spill_so_far =
         so_far_more n summaries mid new (node_number n (Rim t spill.a)) second t spill.b (Rim t spill.a)
         (so_far_more n summaries old mid (node_number n (Rim t spill.b)) first t spill.a (Rim t spill.b) s one first_from refl (there_a, (there_b, inl (refl, inr (inr (inl (spill_at first.level first_level)))))) (subst (λ v. void ≤ℤ v) (sym first_level) (fits_above spill.level fits), λ same. full (sym first_level ∙ same)))
         two second_from refl (there_b, (there_a, inl (refl, inr (inr (inr (spill_at second.level second_level))))))
         (subst (λ v. void ≤ℤ v) (sym second_level) (fits_above spill.level fits), λ same. full (sym second_level ∙ same))
 
-    pub spill_listed : spill.b ≢ OUT → IsSpillListed n summaries new t spill
+    spill_listed : spill.b ≢ OUT → IsSpillListed n summaries new t spill
     spill_listed inner = record {
       out = λ _ out _. absurd (inner out);
       inner = λ _ _ _. (
@@ -144,6 +147,9 @@ module _ (n : ℕ) (summaries : List Summary) (old mid new : List (List Link)) (
             (subst (λ x. IsListed new x (node_number n (Rim t spill.a)) second.level) second_from two.listed),
       );
     }
+
+    pub spill_linked : AreSoFar n summaries new × (spill.b ≢ OUT → IsSpillListed n summaries new t spill)
+    spill_linked = (spill_so_far, spill_listed)
 
 pub spill_still : (n : ℕ) (summaries : List Summary) (old new : List (List Link)) (t : ℕ) (spill : Spill) → AreListedStill old new → IsSpillListed n summaries old t spill → IsSpillListed n summaries new t spill
 spill_still n summaries old new t spill still was = record {

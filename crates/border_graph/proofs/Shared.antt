@@ -96,7 +96,7 @@ module _ (n : ℕ) (summaries : List Summary) (t k : ℕ) (p : Point) (c : Corne
       at_level : (rim_point (summary_at summaries t) k).height ≡ link.level
       at_level = height_at n summaries t k point is_here ∙ sym level
 
-      pub shared_so_far : AreSoFar n summaries new
+      shared_so_far : AreSoFar n summaries new
       shared_so_far = so_far_more n summaries old new (node_number n (Rim v (rim_number n e))) link t k (Rim v (rim_number n e)) s a from refl (
         is_here.there,
         (
@@ -121,7 +121,7 @@ module _ (n : ℕ) (summaries : List Summary) (t k : ℕ) (p : Point) (c : Corne
           above : (w : ℤ) → SFits w16 w → void ≤ℤ w
           above w fits = omega (arith, ints)
 
-      pub shared_listed : AreInOrder summaries → IsSharedListed n summaries new t k c
+      shared_listed : AreInOrder summaries → IsSharedListed n summaries new t k c
       shared_listed order u l w at _ there shared =
           let tile : u ≡ v = one_tile_at summaries order u v c there.tile v_small at v_at in
           let number : l ≡ rim_number n e = shared_number order u l w at there.tile shared in
@@ -130,6 +130,9 @@ module _ (n : ℕ) (summaries : List Summary) (t k : ℕ) (p : Point) (c : Corne
           (subst (λ x. IsListed new link.from (node_number n (Rim x l)) w) (sym tile)
           (subst (λ x. IsListed new link.from (node_number n (Rim v x)) w) (sym number)
           (subst (λ x. IsListed new link.from (node_number n (Rim v (rim_number n e))) x) height a.listed)))
+
+      pub shared_linked : AreSoFar n summaries new × (AreInOrder summaries → IsSharedListed n summaries new t k c)
+      shared_linked = (shared_so_far, shared_listed)
 
     -- the point isn't ground there
     pub none_shared : (new : List (List Link)) → (IsThere n summaries v (rim_number n e) → ⊥) → AreInOrder summaries → IsSharedListed n summaries new t k c

@@ -1,42 +1,36 @@
 use Rattle.std.proofs.lemmas.Int.{to_z-of_z}
 use Rattle.std.proofs.lemmas.List.{length-map}
-use Rattle.std.proofs.Common.{arith, rules, ◌+◌, ◌*◌, ◌-◌, ◌<◌, ◌∙◌, to_z, map, length, sym, ap, subst, SFits, w16, of_z}
+use Rattle.std.proofs.Common.{arith, rules, ℤ, ◌+◌, ◌*◌, ◌-◌, ◌<◌, ◌∙◌, to_z, map, length, sym, ap, subst, SFits, w16, of_z}
 use Rattle.border_graph.specs.Joining.{IsThere}
-use Rattle.border_graph.specs.Linking.{IsAddedTo}
-use Rattle.border_graph.proofs.Building.{node_number_below, labels_so_far, labels_listed}
+use Rattle.border_graph.specs.Linking.{IsAddedTo, AreAddedBetween, AreSoFar, AreLabelsListed}
+use Rattle.border_graph.proofs.Building.{node_number_below, labels_linked}
 use Rattle.border_graph.proofs.linking.link_label.Goals as goal
+use Rattle.border_graph.proofs.linking.link_label.Goals.{After-add_between}
+
+-- the two links that are added
+module _ (c : After-add_between) where
+  abbrev level : ℤ
+  level = to_z w16 (of_z w16 c.in-Some.point.height)
+
+  both : AreAddedBetween (map (λ v. v.items) c.args.links.now.items) (map (λ v. v.items) c.add_between.new.links.items) c.node_number-here.result c.node_number-there.result level
+      → AreSoFar c.args.n c.args.summaries.now (map (λ v. v.items) c.add_between.new.links.items) × AreLabelsListed c.args.n c.args.summaries.now (map (λ v. v.items) c.add_between.new.links.items) c.args.t c.args.k
+  both added =
+      let fits : SFits w16 c.in-Some.point.height = search rules in
+      let same = to_z-of_z w16 c.in-Some.point.height fits in
+      let here = c.node_number-here.result in
+      let there = c.node_number-there.result in
+      let old = map (λ v. v.items) c.args.links.now.items in
+      let new = map (λ v. v.items) c.add_between.new.links.items in
+      labels_linked c.args.n c.args.summaries.now old added.half new c.args.t c.args.k c.in-Some.point (record { level = level; from = here }) (record { level = level; from = there })
+      c.in-Some.ensures.some c.in-Some-ground_rim_point.ensures.some.there c.requires.so_far c.node_number-here.ensures c.node_number-there.ensures same same fits
+      (subst (λ to. IsAddedTo old added.half to (record { level = level; from = here })) c.node_number-there.ensures added.there)
+      (subst (λ to. IsAddedTo added.half new to (record { level = level; from = there })) c.node_number-here.ensures added.back)
 
 pub returns-clause-so_far : goal.returns-clause-so_far
-returns-clause-so_far c =
-    let height = c.in-Some.point.height in
-    let fits : SFits w16 height = search rules in
-    let h = to_z w16 (of_z w16 height) in
-    let same = to_z-of_z w16 height fits in
-    let here = c.node_number-here.result in
-    let there = c.node_number-there.result in
-    let old = map (λ v. v.items) c.args.links.now.items in
-    let new = map (λ v. v.items) c.add_between.new.links.items in
-    let added = c.in_ok-add_between.ensures in
-    labels_so_far c.args.n c.args.summaries.now old added.half new c.args.t c.args.k c.in-Some.point (record { level = h; from = here }) (record { level = h; from = there })
-    c.in-Some.ensures.some c.in-Some-ground_rim_point.ensures.some.there c.requires.so_far c.node_number-here.ensures c.node_number-there.ensures same same fits
-    (subst (λ to. IsAddedTo old added.half to (record { level = h; from = here })) c.node_number-there.ensures added.there)
-    (subst (λ to. IsAddedTo added.half new to (record { level = h; from = there })) c.node_number-here.ensures added.back)
+returns-clause-so_far c = (both (goal.at.returns-clause-so_far c).After-add_between c.in_ok-add_between.ensures).0
 
 pub returns-clause-listed : goal.returns-clause-listed
-returns-clause-listed c =
-    let height = c.in-Some.point.height in
-    let fits : SFits w16 height = search rules in
-    let h = to_z w16 (of_z w16 height) in
-    let same = to_z-of_z w16 height fits in
-    let here = c.node_number-here.result in
-    let there = c.node_number-there.result in
-    let old = map (λ v. v.items) c.args.links.now.items in
-    let new = map (λ v. v.items) c.add_between.new.links.items in
-    let added = c.in_ok-add_between.ensures in
-    labels_listed c.args.n c.args.summaries.now old added.half new c.args.t c.args.k c.in-Some.point (record { level = h; from = here }) (record { level = h; from = there })
-    c.in-Some.ensures.some c.in-Some-ground_rim_point.ensures.some.there c.requires.so_far c.node_number-here.ensures c.node_number-there.ensures same same fits
-    (subst (λ to. IsAddedTo old added.half to (record { level = h; from = here })) c.node_number-there.ensures added.there)
-    (subst (λ to. IsAddedTo added.half new to (record { level = h; from = there })) c.node_number-here.ensures added.back)
+returns-clause-listed c = (both (goal.at.returns-clause-listed c).After-add_between c.in_ok-add_between.ensures).1
 
 pub returns-in_default-clause-listed : goal.returns-in_default-clause-listed
 returns-in_default-clause-listed c l level here = absurd (c.in_default.ensures.none here)

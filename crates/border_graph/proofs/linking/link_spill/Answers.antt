@@ -1,11 +1,13 @@
 use Rattle.std.proofs.lemmas.Int.{to_z-of_z}
 use Rattle.std.proofs.lemmas.List.{length-map}
-use Rattle.std.proofs.Common.{arith, rules, ◌≡◌, ◌+◌, ◌*◌, ◌-◌, ◌<◌, ◌∙◌, to_z, map, length, sym, ap, subst, SFits, w16, of_z}
+use Rattle.std.proofs.Common.{arith, rules, ◌≡◌, ◌≢◌, ℤ, ◌+◌, ◌*◌, ◌-◌, ◌<◌, ◌∙◌, to_z, map, length, sym, ap, subst, SFits, w16, of_z}
 use Rattle.lattice.specs.Mosaic.{void}
-use Rattle.border_graph.specs.Linking.{IsAddedTo}
+use Rattle.tile_flood.specs.Labelling.{OUT}
+use Rattle.border_graph.specs.Linking.{IsAddedTo, AreAddedBetween, AreSoFar, IsSpillListed}
 use Rattle.border_graph.specs.Rising.{IsListed}
-use Rattle.border_graph.proofs.Building.{node_number_below, first_below, spill_out_so_far, spill_so_far, spill_listed}
+use Rattle.border_graph.proofs.Building.{node_number_below, first_below, spill_out_so_far, spill_linked}
 use Rattle.border_graph.proofs.linking.link_spill.Goals as goal
+use Rattle.border_graph.proofs.linking.link_spill.Goals.{After-add_between}
 
 pub returns-then-spill-eq-OUT-clause-so_far : goal.returns-then-spill-eq-OUT-clause-so_far
 returns-then-spill-eq-OUT-clause-so_far c =
@@ -17,38 +19,31 @@ returns-then-spill-eq-OUT-clause-so_far c =
     spill_out_so_far c.args.n c.args.summaries.now old old (map (λ v. v.items) c.add.new.links.items) c.args.t c.args.spill c.requires.spill c.in-Some.ensures.some.there c.requires.so_far full
     (record { level = level; from = c.node_number-first.result }) c.if-spill-eq-OUT.true c.node_number-first.ensures same fits c.in_ok-add.ensures
 
+-- the two links that are added
+module _ (c : After-add_between) where
+  abbrev level : ℤ
+  level = to_z w16 (of_z w16 c.args.spill.level)
+
+  both : AreAddedBetween (map (λ v. v.items) c.args.links.now.items) (map (λ v. v.items) c.add_between.new.links.items) c.node_number-first.result c.node_number-second.result level
+      → AreSoFar c.args.n c.args.summaries.now (map (λ v. v.items) c.add_between.new.links.items) × (c.args.spill.b ≢ OUT → IsSpillListed c.args.n c.args.summaries.now (map (λ v. v.items) c.add_between.new.links.items) c.args.t c.args.spill)
+  both added =
+      let fits : SFits w16 c.args.spill.level = search rules in
+      let same = to_z-of_z w16 c.args.spill.level fits in
+      let full = λ (e : c.args.spill.level ≡ void). c.if-spill-eq32768.false (ap (of_z w16) e) in
+      let first = c.node_number-first.result in
+      let second = c.node_number-second.result in
+      let old = map (λ v. v.items) c.args.links.now.items in
+      let new = map (λ v. v.items) c.add_between.new.links.items in
+      spill_linked c.args.n c.args.summaries.now old added.half new c.args.t c.args.spill c.requires.spill c.in-Some.ensures.some.there c.requires.so_far full
+      c.in-Some-ground_rim_point.ensures.some.there (record { level = level; from = first }) (record { level = level; from = second }) c.node_number-first.ensures c.node_number-second.ensures same same fits
+      (subst (λ to. IsAddedTo old added.half to (record { level = level; from = first })) c.node_number-second.ensures added.there)
+      (subst (λ to. IsAddedTo added.half new to (record { level = level; from = second })) c.node_number-first.ensures added.back)
+
 pub returns-clause-so_far : goal.returns-clause-so_far
-returns-clause-so_far c =
-    let fits : SFits w16 c.args.spill.level = search rules in
-    let same = to_z-of_z w16 c.args.spill.level fits in
-    let level = to_z w16 (of_z w16 c.args.spill.level) in
-    let full = λ (e : c.args.spill.level ≡ void). c.if-spill-eq32768.false (ap (of_z w16) e) in
-    let old = map (λ v. v.items) c.args.links.now.items in
-    let first = c.node_number-first.result in
-    let second = c.node_number-second.result in
-    let new = map (λ v. v.items) c.add_between.new.links.items in
-    let added = c.in_ok-add_between.ensures in
-    spill_so_far c.args.n c.args.summaries.now old added.half new c.args.t c.args.spill c.requires.spill c.in-Some.ensures.some.there c.requires.so_far full
-    c.in-Some-ground_rim_point.ensures.some.there (record { level = level; from = first }) (record { level = level; from = second }) c.node_number-first.ensures c.node_number-second.ensures same same fits
-    (subst (λ to. IsAddedTo old added.half to (record { level = level; from = first })) c.node_number-second.ensures added.there)
-    (subst (λ to. IsAddedTo added.half new to (record { level = level; from = second })) c.node_number-first.ensures added.back)
+returns-clause-so_far c = (both (goal.at.returns-clause-so_far c).After-add_between c.in_ok-add_between.ensures).0
 
 pub returns-clause-listed : goal.returns-clause-listed
-returns-clause-listed c =
-    let fits : SFits w16 c.args.spill.level = search rules in
-    let same = to_z-of_z w16 c.args.spill.level fits in
-    let level = to_z w16 (of_z w16 c.args.spill.level) in
-    let full = λ (e : c.args.spill.level ≡ void). c.if-spill-eq32768.false (ap (of_z w16) e) in
-    let old = map (λ v. v.items) c.args.links.now.items in
-    let first = c.node_number-first.result in
-    let second = c.node_number-second.result in
-    let new = map (λ v. v.items) c.add_between.new.links.items in
-    let added = c.in_ok-add_between.ensures in
-    spill_listed c.args.n c.args.summaries.now old added.half new c.args.t c.args.spill c.requires.spill c.in-Some.ensures.some.there c.requires.so_far full
-    c.in-Some-ground_rim_point.ensures.some.there (record { level = level; from = first }) (record { level = level; from = second }) c.node_number-first.ensures c.node_number-second.ensures same same fits
-    (subst (λ to. IsAddedTo old added.half to (record { level = level; from = first })) c.node_number-second.ensures added.there)
-    (subst (λ to. IsAddedTo added.half new to (record { level = level; from = second })) c.node_number-first.ensures added.back)
-    c.if-spill-eq-OUT.false
+returns-clause-listed c = (both (goal.at.returns-clause-listed c).After-add_between c.in_ok-add_between.ensures).1 c.if-spill-eq-OUT.false
 
 pub returns-in_default-clause-listed : goal.returns-in_default-clause-listed
 returns-in_default-clause-listed c = record { out = λ _ _ there. absurd (c.in_default.ensures.none there); inner = λ _ there _. absurd (c.in_default.ensures.none there) }

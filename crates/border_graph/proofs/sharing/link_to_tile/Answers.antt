@@ -1,13 +1,16 @@
 use Rattle.std.proofs.lemmas.Int.{to_z-of_z}
 use Rattle.std.proofs.lemmas.List.{length-map}
-use Rattle.std.proofs.Common.{rules, arith, ◌≡◌, ◌+◌, ◌*◌, ◌-◌, ◌<◌, ◌∙◌, map, length, ap, sym, subst, SFits, w16, of_z, to_z}
+use Rattle.std.proofs.Common.{rules, arith, ◌≡◌, ◌+◌, ◌*◌, ◌-◌, ◌<◌, ◌∙◌, List, map, length, ap, sym, subst, SFits, w16, of_z, to_z}
 use Rattle.lattice.specs.Block.{rim_number}
 use Rattle.border_graph.specs.Joining.{Rim, IsThere}
 use Rattle.border_graph.specs.RimLookup.{IsThereAt}
-use Rattle.border_graph.specs.Linking.{IsAddedTo, node_number}
+use Rattle.border_graph.specs.Linking.{IsAddedTo, AreSoFar, node_number}
+use Rattle.border_graph.specs.Sharing.{AreInOrder, IsSharedListed}
+use Rattle.border_graph.specs.declared.link.Link.{Link}
 use Rattle.border_graph.proofs.Building.{node_number_below}
-use Rattle.border_graph.proofs.Shared.{shared_held, one_tile_at, shared_so_far, shared_listed, none_shared}
+use Rattle.border_graph.proofs.Shared.{shared_held, one_tile_at, shared_linked, none_shared}
 use Rattle.border_graph.proofs.sharing.link_to_tile.Goals as goal
+use Rattle.border_graph.proofs.sharing.link_to_tile.Goals.{After-add}
 
 pub returns-then-u-t-clause-listed : goal.returns-then-u-t-clause-listed
 returns-then-u-t-clause-listed c order u l level at here there shared =
@@ -52,35 +55,37 @@ add-requires c =
     let many = length-map c.args.links.now.items (λ v. v.items) in
     omega (arith, c.args.links.now.ok.0)
 
+-- the link that is added
+module _ (c : After-add) where
+  abbrev old : List (List Link)
+  old = map (λ v. v.items) c.args.links.now.items
+
+  abbrev new : List (List Link)
+  new = map (λ v. v.items) c.add.new.links.items
+
+  abbrev link : Link
+  link = record { level = to_z w16 (of_z w16 c.in-Some.here.height); from = c.node_number-from.result }
+
+  both : IsAddedTo old new c.node_number-to.result link → AreSoFar c.args.side c.args.summaries.now new × (AreInOrder c.args.summaries.now → IsSharedListed c.args.side c.args.summaries.now new c.args.t c.args.k c.args.corner)
+  both added =
+      let found = c.in-Some-tile_at.ensures.some in
+      let index = c.in-Some-rim_number_in.ensures.some in
+      let fits : SFits w16 c.in-Some.here.height = search rules in
+      let n_is = c.samples-n.ensures.value in
+      let to_is : c.node_number-to.result ≡ node_number c.args.side (Rim c.in-Some-tile_at.u (rim_number c.args.side index.0)) =
+      subst (λ n. c.node_number-to.result ≡ node_number n (Rim c.in-Some-tile_at.u c.in-Some-rim_number_in.l)) n_is c.node_number-to.ensures ∙ ap (λ j. node_number c.args.side (Rim c.in-Some-tile_at.u j)) index.1.1 in
+      shared_linked c.args.side c.args.summaries.now c.args.t c.args.k c.args.point c.args.corner c.samples-n.ensures.low c.requires.point c.in-Some-tile_at.u index.0 found.0 found.1 index.1.0
+      old new c.in-Some.here link c.requires.so_far
+      (subst (λ n. IsThereAt n c.args.summaries.now c.args.t c.args.k c.in-Some.here) n_is c.in-Some.ensures.some)
+      (subst (λ j. IsThere c.args.side c.args.summaries.now c.in-Some-tile_at.u j) index.1.1 (subst (λ n. IsThere n c.args.summaries.now c.in-Some-tile_at.u c.in-Some-rim_number_in.l) n_is c.in-Some-ground_rim_point.ensures.some.there))
+      c.if-u-t.false (subst (λ n. c.node_number-from.result ≡ node_number n (Rim c.args.t c.args.k)) n_is c.node_number-from.ensures) (to_z-of_z w16 c.in-Some.here.height fits) fits
+      (subst (λ to. IsAddedTo old new to link) to_is added)
+
 pub returns-clause-so_far : goal.returns-clause-so_far
-returns-clause-so_far c =
-    let found = c.in-Some-tile_at.ensures.some in
-    let index = c.in-Some-rim_number_in.ensures.some in
-    let fits : SFits w16 c.in-Some.here.height = search rules in
-    let n_is = c.samples-n.ensures.value in
-    let to_is : c.node_number-to.result ≡ node_number c.args.side (Rim c.in-Some-tile_at.u (rim_number c.args.side index.0)) =
-    subst (λ n. c.node_number-to.result ≡ node_number n (Rim c.in-Some-tile_at.u c.in-Some-rim_number_in.l)) n_is c.node_number-to.ensures ∙ ap (λ j. node_number c.args.side (Rim c.in-Some-tile_at.u j)) index.1.1 in
-    shared_so_far c.args.side c.args.summaries.now c.args.t c.args.k c.args.point c.args.corner c.samples-n.ensures.low c.requires.point c.in-Some-tile_at.u index.0 found.0 found.1 index.1.0
-    (map (λ v. v.items) c.args.links.now.items) (map (λ v. v.items) c.add.new.links.items) c.in-Some.here (record { level = to_z w16 (of_z w16 c.in-Some.here.height); from = c.node_number-from.result }) c.requires.so_far
-    (subst (λ n. IsThereAt n c.args.summaries.now c.args.t c.args.k c.in-Some.here) n_is c.in-Some.ensures.some)
-    (subst (λ j. IsThere c.args.side c.args.summaries.now c.in-Some-tile_at.u j) index.1.1 (subst (λ n. IsThere n c.args.summaries.now c.in-Some-tile_at.u c.in-Some-rim_number_in.l) n_is c.in-Some-ground_rim_point.ensures.some.there))
-    c.if-u-t.false (subst (λ n. c.node_number-from.result ≡ node_number n (Rim c.args.t c.args.k)) n_is c.node_number-from.ensures) (to_z-of_z w16 c.in-Some.here.height fits) fits
-    (subst (λ to. IsAddedTo (map (λ v. v.items) c.args.links.now.items) (map (λ v. v.items) c.add.new.links.items) to (record { level = to_z w16 (of_z w16 c.in-Some.here.height); from = c.node_number-from.result })) to_is c.in_ok-add.ensures)
+returns-clause-so_far c = (both (goal.at.returns-clause-so_far c).After-add c.in_ok-add.ensures).0
 
 pub returns-clause-listed : goal.returns-clause-listed
-returns-clause-listed c =
-    let found = c.in-Some-tile_at.ensures.some in
-    let index = c.in-Some-rim_number_in.ensures.some in
-    let fits : SFits w16 c.in-Some.here.height = search rules in
-    let n_is = c.samples-n.ensures.value in
-    let to_is : c.node_number-to.result ≡ node_number c.args.side (Rim c.in-Some-tile_at.u (rim_number c.args.side index.0)) =
-    subst (λ n. c.node_number-to.result ≡ node_number n (Rim c.in-Some-tile_at.u c.in-Some-rim_number_in.l)) n_is c.node_number-to.ensures ∙ ap (λ j. node_number c.args.side (Rim c.in-Some-tile_at.u j)) index.1.1 in
-    shared_listed c.args.side c.args.summaries.now c.args.t c.args.k c.args.point c.args.corner c.samples-n.ensures.low c.requires.point c.in-Some-tile_at.u index.0 found.0 found.1 index.1.0
-    (map (λ v. v.items) c.args.links.now.items) (map (λ v. v.items) c.add.new.links.items) c.in-Some.here (record { level = to_z w16 (of_z w16 c.in-Some.here.height); from = c.node_number-from.result }) c.requires.so_far
-    (subst (λ n. IsThereAt n c.args.summaries.now c.args.t c.args.k c.in-Some.here) n_is c.in-Some.ensures.some)
-    (subst (λ j. IsThere c.args.side c.args.summaries.now c.in-Some-tile_at.u j) index.1.1 (subst (λ n. IsThere n c.args.summaries.now c.in-Some-tile_at.u c.in-Some-rim_number_in.l) n_is c.in-Some-ground_rim_point.ensures.some.there))
-    c.if-u-t.false (subst (λ n. c.node_number-from.result ≡ node_number n (Rim c.args.t c.args.k)) n_is c.node_number-from.ensures) (to_z-of_z w16 c.in-Some.here.height fits) fits
-    (subst (λ to. IsAddedTo (map (λ v. v.items) c.args.links.now.items) (map (λ v. v.items) c.add.new.links.items) to (record { level = to_z w16 (of_z w16 c.in-Some.here.height); from = c.node_number-from.result })) to_is c.in_ok-add.ensures)
+returns-clause-listed c = (both (goal.at.returns-clause-listed c).After-add c.in_ok-add.ensures).1
 
 pub returns-in_default-clause-listed : goal.returns-in_default-clause-listed
 returns-in_default-clause-listed c order u l level at here there shared = absurd (c.in_default.ensures.none (subst (λ n. IsThere n c.args.summaries.now c.args.t c.args.k) (sym c.samples-n.ensures.value) here))
