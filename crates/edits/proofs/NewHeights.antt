@@ -1,4 +1,4 @@
--- Treating the named points one after another.
+-- The new heights of the named points, one after another.
 use Rattle.std.proofs.Common.{◌≡◌, ◌≢◌, ℕ, ◌+◌, ◌<◌, ◌≤◌, ℤ, pos, negsuc, ◌-ℤ◌, true, false, IsTrue, List, [], ◌∷◌, ◌++◌, map, length, get_or, take, drop, refl, sym, ◌∙◌, ap, ap₂}
 use Rattle.std.specs.Prelude.{Option, Some, Result, Ok, Err, IfOk, All, int_lt, if◌then◌else◌}
 use Rattle.std.proofs.lemmas.List.{take_more, take_all, at_drop_more, at_drop_all, map-append}
@@ -21,7 +21,7 @@ use Rattle.edits.specs.declared.point_edit.PointEdit.{PointEdit}
 use Rattle.edits.specs.declared.point_edit.PointEdit.TheVariants.{Lower, Raise}
 use Rattle.edits.specs.Edits.{AreEarlier, points_of, with_heights}
 use Rattle.edits.specs.Effect.{effect, is_depth, is_height, is_repeated, first_fault, fault_at, edited, unless_fault, burnt, walled}
-use Rattle.edits.specs.PointEdits.{edited_metres, depth_of, treatment_at, fault_of, refuses, treats}
+use Rattle.edits.specs.PointEdits.{edited_metres, depth_of, edited_sample, fault_of, refuses, edit_points}
 use Rattle.edits.proofs.Edited.{height_by, named_heights}
 use Rattle.edits.proofs.EarlierHeights.{are_earlier}
 use Rattle.edits.proofs.PointEditing.{height_not_void, fault_says}
@@ -92,23 +92,23 @@ module _ {S : Type 0} (g : Ghosts S) (t : PointEdit) (points : List Point) where
 
     -- without a height, or too deep
     pub heights_end : is_repeated points ≡ false → (r : Refusal) → g.is_honest mid → fault_at (depth_of t) (height_of (g.mosaic mid) p) (first_fault (g.mosaic old) (depth_of t) (drop (i + 1) points)) ≡ Some r →
-        treats t (g.mosaic old) points ≡ Err r
+        edit_points t (g.mosaic old) points ≡ Err r
     heights_end single r honest fault =
         ap (λ b. if b then Err Repeated else unless_fault (first_fault (g.mosaic old) (depth_of t) points) made) single
         ∙ ap (λ f. unless_fault f made) (fault_from honest ∙ fault)
       where
         made : Mosaic
-        made = edited (treatment_at t (g.mosaic old) points) (g.mosaic old)
+        made = edited (edited_sample t (g.mosaic old) points) (g.mosaic old)
 
   module _ (i : ℕ) (old now : S) (heights : List NewHeight) (all : length points ≤ i) (so : HaveHeights g t points i old now heights) where
     pub heights_named : points_of heights ≡ points
     heights_named = so.named ∙ take_all i points all
 
-    pub heights_made : is_repeated points ≡ false → g.is_honest now → treats t (g.mosaic old) points ≡ Ok (with_heights heights (g.mosaic old))
+    pub heights_made : is_repeated points ≡ false → g.is_honest now → edit_points t (g.mosaic old) points ≡ Ok (with_heights heights (g.mosaic old))
     heights_made single honest =
         let m = g.mosaic old in
-        ap (λ b. if b then Err Repeated else unless_fault (first_fault m (depth_of t) points) (edited (treatment_at t m points) m)) single
-        ∙ ap (λ f. unless_fault f (edited (treatment_at t m points) m)) (so.faults honest ∙ at_drop_all (first_fault m (depth_of t)) points i all)
+        ap (λ b. if b then Err Repeated else unless_fault (first_fault m (depth_of t) points) (edited (edited_sample t m points) m)) single
+        ∙ ap (λ f. unless_fault f (edited (edited_sample t m points) m)) (so.faults honest ∙ at_drop_all (first_fault m (depth_of t)) points i all)
         ∙ ap (λ (n : Mosaic). Ok n) (sym (ap (λ (l : List NewHeight). with_heights l m) (so.values honest ∙ ap (map (height_by (metres_at m) (edited_at t m))) (take_all i points all))
         ∙ named_heights (metres_at m) (edited_at t m) points m))
 
@@ -117,7 +117,7 @@ module _ {S : Type 0} (g : Ghosts S) (t : PointEdit) (points : List Point) where
 
 -- why a point ends the point_edit
 pub ends_editing : {S : Type 0} (g : Ghosts S) (t : PointEdit) (points : List Point) (i : ℕ) (p : Point) (old mid now : S) (heights : List NewHeight) → i < length points → p ≡ get_or points i p
-    → HaveHeights g t points i old mid heights → is_repeated points ≡ false → (r : Refusal) → g.is_honest mid → fault_of (height_of (g.mosaic mid) p) r → IsTrue (refuses t r) → treats t (g.mosaic old) points ≡ Err r
+    → HaveHeights g t points i old mid heights → is_repeated points ≡ false → (r : Refusal) → g.is_honest mid → fault_of (height_of (g.mosaic mid) p) r → IsTrue (refuses t r) → edit_points t (g.mosaic old) points ≡ Err r
 ends_editing g t points i p old mid now heights within is so single r honest why fault =
     heights_end g t points i p old mid now heights within is so single r honest (by r why fault)
   where
@@ -130,7 +130,7 @@ ends_editing g t points i p old mid now heights within is so single r honest why
 
 pub deep_editing : {S : Type 0} (g : Ghosts S) (t : PointEdit) (points : List Point) (i : ℕ) (p : Point) (old mid now : S) (heights : List NewHeight) → i < length points → p ≡ get_or points i p
     → HaveHeights g t points i old mid heights → is_repeated points ≡ false → (h : ℤ) → g.is_honest mid → height_of (g.mosaic mid) p ≡ height.At h → int_lt (h -ℤ depth_of t) (negsuc 32766) ≡ true
-    → treats t (g.mosaic old) points ≡ Err TooDeep
+    → edit_points t (g.mosaic old) points ≡ Err TooDeep
 deep_editing g t points i p old mid now heights within is so single h honest at deep =
     heights_end g t points i p old mid now heights within is so single TooDeep honest
     (ap (λ v. fault_at (depth_of t) v later) at ∙ ap (λ b. if b then Some TooDeep else later) deep)
@@ -141,13 +141,13 @@ deep_editing g t points i p old mid now heights within is so single h honest at 
 -- the effect of burns and walls, by the point_edit of their points
 
 pub burn_made : (capacity : ℕ) (m : Mosaic) (depth : ℤ) (by_ : ℕ) (points : ArrayVec Point) (result : Result (ArrayVec NewHeight) Refusal) → is_depth depth ≡ true → depth ≡ pos by_ →
-    IfOk result (λ heights. treats (Lower by_) m points.items ≡ Ok (with_heights heights.items m)) → IfOk result (λ heights. effect capacity m (Burn depth points) ≡ Ok (with_heights heights.items m))
+    IfOk result (λ heights. edit_points (Lower by_) m points.items ≡ Ok (with_heights heights.items m)) → IfOk result (λ heights. effect capacity m (Burn depth points) ≡ Ok (with_heights heights.items m))
 burn_made capacity m depth by_ points (Ok heights) in_range same made =
     rw in_range (ap (λ d. if is_repeated points.items then Err Repeated else unless_fault (first_fault m d points.items) (burnt d points.items m)) same ∙ made)
 burn_made capacity m depth by_ points (Err r) in_range same made = tt
 
 pub wall_made : (capacity : ℕ) (m : Mosaic) (h to : ℤ) (points : ArrayVec Point) (result : Result (ArrayVec NewHeight) Refusal) → is_height h ≡ true → h ≡ to →
-    IfOk result (λ heights. treats (Raise to) m points.items ≡ Ok (with_heights heights.items m)) → IfOk result (λ heights. effect capacity m (Wall h points) ≡ Ok (with_heights heights.items m))
+    IfOk result (λ heights. edit_points (Raise to) m points.items ≡ Ok (with_heights heights.items m)) → IfOk result (λ heights. effect capacity m (Wall h points) ≡ Ok (with_heights heights.items m))
 wall_made capacity m h to points (Ok heights) in_range same made =
     rw in_range (ap (λ k. if is_repeated points.items then Err Repeated else unless_fault (first_fault m (pos 0) points.items) (walled k points.items m)) same ∙ made)
 wall_made capacity m h to points (Err r) in_range same made = tt

@@ -13,6 +13,7 @@ use Rattle.edits.specs.Effect.{is_named, is_repeated, first_fault, unless_fault,
 use Rattle.edits.specs.declared.point_edit.PointEdit.{PointEdit}
 use Rattle.edits.specs.declared.point_edit.PointEdit.TheVariants.{Lower, Raise}
 
+-- what becomes of a height in metres
 abbrev pub edited_metres : PointEdit → ℤ → ℤ
 edited_metres (Lower by) h = h -ℤ pos by
 edited_metres (Raise to) h = int_max h to
@@ -22,7 +23,7 @@ abbrev pub depth_of : PointEdit → ℤ
 depth_of (Lower by) = pos by
 depth_of (Raise to) = pos 0
 
--- the height is why there is none to apply_to, if the refusal isn't that of a read
+-- the height is why there is none to edit, if the refusal isn't that of a read
 abbrev pub fault_of : Height → Refusal → Type 0
 fault_of h Outside = h ≡ height.Outside
 fault_of h Void = h ≡ height.Void
@@ -42,14 +43,15 @@ abbrev pub is_fault : PointEdit → Refusal → Bool
 is_fault (Lower by) TooDeep = true
 is_fault t r = is_groundless r
 
--- what becomes of a sample at a point, where these are edited_metres
-abbrev pub treatment_at : PointEdit → Mosaic → List Point → Point → ℤ → ℤ
-treatment_at t m points p s = if is_named points p then edited_metres t (metres (height_of m p)) else s
+-- what becomes of a sample at a point, where these points are edited
+abbrev pub edited_sample : PointEdit → Mosaic → List Point → Point → ℤ → ℤ
+edited_sample t m points p s = if is_named points p then edited_metres t (metres (height_of m p)) else s
 
--- the points edited_metres, or the first refusal that applies
-abbrev pub treats : PointEdit → Mosaic → List Point → Result Mosaic Refusal
-treats t m points = if is_repeated points then Err Repeated else unless_fault (first_fault m (depth_of t) points) (edited (treatment_at t m points) m)
+-- the mosaic where these points are edited, or the first refusal that applies
+abbrev pub edit_points : PointEdit → Mosaic → List Point → Result Mosaic Refusal
+edit_points t m points = if is_repeated points then Err Repeated else unless_fault (first_fault m (depth_of t) points) (edited (edited_sample t m points) m)
 
+-- the refusals that it may have of its own
 abbrev pub refuses : PointEdit → Refusal → Bool
 refuses t Repeated = true
 refuses t r = is_fault t r

@@ -38,11 +38,11 @@ is_near_one touched m p = list_any (λ t. touched t && are_neighbours t.corner p
 abbrev pub goes_stale : Mosaic → Command → Corner → Bool
 goes_stale m (Import c bytes) p = are_neighbours c p
 goes_stale m (Remove c) p = are_neighbours c p
-goes_stale m (Patch from to h) p = list_any (λ t. is_touched m (Patch from to h) t && are_neighbours t.corner p) m.tiles
-goes_stale m (Burn depth points) p = list_any (λ t. is_touched m (Burn depth points) t && are_neighbours t.corner p) m.tiles
-goes_stale m (Wall h points) p = list_any (λ t. is_touched m (Wall h points) t && are_neighbours t.corner p) m.tiles
-goes_stale m (Sink q) p = list_any (λ t. is_touched m (Sink q) t && are_neighbours t.corner p) m.tiles
-goes_stale m (Unsink q) p = list_any (λ t. is_touched m (Unsink q) t && are_neighbours t.corner p) m.tiles
+goes_stale m (Patch from to h) p = is_near_one (is_touched m (Patch from to h)) m p
+goes_stale m (Burn depth points) p = is_near_one (is_touched m (Burn depth points)) m p
+goes_stale m (Wall h points) p = is_near_one (is_touched m (Wall h points)) m p
+goes_stale m (Sink q) p = is_near_one (is_touched m (Sink q)) m p
+goes_stale m (Unsink q) p = is_near_one (is_touched m (Unsink q)) m p
 
 -- the tiles without kept planes once the command made the new mosaic: those so far that are still present, those that
 -- it touches, and their neighbours

@@ -8,7 +8,7 @@ ghost use Rattle.catalogue.specs.Readers.{OnlyReads, reads_of};
 ghost use Rattle.edits.specs.Edits.{AreEarlier, points_of, with_heights};
 ghost use Rattle.edits.specs.Effect.{effect, is_named, is_repeated};
 ghost use Rattle.edits.specs.Plans.{is_own, may_end};
-ghost use Rattle.edits.specs.PointEdits.{fault_of, is_groundless, refuses, treats};
+ghost use Rattle.edits.specs.PointEdits.{fault_of, is_groundless, refuses, edit_points};
 ghost use Rattle.edits.specs.declared.command.Command.TheVariants.{Burn, Wall};
 
 use crate::NewHeight;
@@ -34,7 +34,7 @@ pub(crate) fn lowered<S: Samples>(
     if depth < 1 || DEEPEST < depth {
         return Err(Refusal::BadDepth);
     }
-    apply_to(samples, points, PointEdit::Lower { by: depth as u16 })
+    new_heights(samples, points, PointEdit::Lower { by: depth as u16 })
 }
 
 /// The heights that a wall gives to its points.
@@ -54,17 +54,17 @@ pub(crate) fn raised<S: Samples>(
     if height < LOWEST || HIGHEST < height {
         return Err(Refusal::BadHeight);
     }
-    apply_to(samples, points, PointEdit::Raise { to: height as i16 })
+    new_heights(samples, points, PointEdit::Raise { to: height as i16 })
 }
 
-// The points with their new heights. None of them may be named twice.
-fn apply_to<S: Samples>(
+// The new heights of the points, each by this edit. Repeated where a point is named twice.
+fn new_heights<S: Samples>(
     samples: &mut S,
     points: &ArrayVec<Point, 64>,
     point_edit: PointEdit,
 ) -> Result<ArrayVec<NewHeight, 64>, Refusal>
-    ensures made { S.is_honest samples.new → IfOk result (λ heights. treats point_edit (S.mosaic samples.old) points.now.items ≡ Ok (with_heights heights.items (S.mosaic samples.old))) }
-    ensures refused { S.is_honest samples.new → IfErr result (λ r. IsTrue (refuses point_edit r) → treats point_edit (S.mosaic samples.old) points.now.items ≡ Err r) }
+    ensures made { S.is_honest samples.new → IfOk result (λ heights. edit_points point_edit (S.mosaic samples.old) points.now.items ≡ Ok (with_heights heights.items (S.mosaic samples.old))) }
+    ensures refused { S.is_honest samples.new → IfErr result (λ r. IsTrue (refuses point_edit r) → edit_points point_edit (S.mosaic samples.old) points.now.items ≡ Err r) }
     ensures causes { IfErr result (λ r. IsTrue (refuses point_edit r || ends_any r)) }
     ensures memory { IfErr result (λ r. r ≢ NoMemory) }
     ensures points { IfOk result (λ heights. points_of heights.items ≡ points.now.items) }

@@ -34,7 +34,7 @@ pub(crate) fn changes_of<S: Samples>(
     match edit {
         Edit::Add { corner, bytes } => {
             let samples = TileSamples::new(hgt::samples(alloc, *bytes, samples.side())?);
-            just(
+            one_change(
                 alloc,
                 Change::Add {
                     corner: *corner,
@@ -42,7 +42,7 @@ pub(crate) fn changes_of<S: Samples>(
                 },
             )
         }
-        Edit::Drop { corner } => just(alloc, Change::Drop { corner: *corner }),
+        Edit::Drop { corner } => one_change(alloc, Change::Drop { corner: *corner }),
         Edit::Heights { heights } => put_heights(alloc, samples, heights.as_slice()),
         Edit::Voids {
             from,
@@ -50,13 +50,13 @@ pub(crate) fn changes_of<S: Samples>(
             height,
             ..
         } => put_in_voids(alloc, samples, *from, *to, *height),
-        Edit::Sink { point } => just(alloc, Change::Sink { point: *point }),
-        Edit::Unsink { point } => just(alloc, Change::Unsink { point: *point }),
+        Edit::Sink { point } => one_change(alloc, Change::Sink { point: *point }),
+        Edit::Unsink { point } => one_change(alloc, Change::Unsink { point: *point }),
     }
 }
 
 // This change alone.
-fn just(alloc: Global, change: Change) -> Result<Vec<Change>, Refusal>
+fn one_change(alloc: Global, change: Change) -> Result<Vec<Change>, Refusal>
     ensures items { IfOk result (λ changes. changes.items ≡ change ∷ []) }
     ensures len { IfOk result (λ changes. vec_len changes ≡ 1) }
     ensures refusal { IfErr result (λ r. r ≡ NoMemory) }

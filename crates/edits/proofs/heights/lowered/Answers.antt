@@ -17,5 +17,5 @@ returns-clause-made g c = λ capacity honest.
     let high : int_le depth (pos 32767) ≡ true = grind (arith, ints) in
     let in_range : is_depth depth ≡ true = and_from (int_le (pos 1) depth) (int_le depth (pos 32767)) low high in
     let kept : to_z w32 (of_z w32 depth) ≡ depth = to_z-of_z w32 depth c.ranges.depth in
-    burn_made capacity (g.S.Samples.mosaic c.args.samples.now) depth (nat_abs (to_z w32 (of_z w32 depth))) c.args.points.now c.apply_to.result in_range
-    (whole depth (to_z w32 (of_z w32 depth)) low kept) (c.apply_to.ensures.made honest)
+    burn_made capacity (g.S.Samples.mosaic c.args.samples.now) depth (nat_abs (to_z w32 (of_z w32 depth))) c.args.points.now c.new_heights.result in_range
+    (whole depth (to_z w32 (of_z w32 depth)) low kept) (c.new_heights.ensures.made honest)

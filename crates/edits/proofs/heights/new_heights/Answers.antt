@@ -11,10 +11,10 @@ use Rattle.lattice.specs.Mosaic.{void}
 use Rattle.catalogue.proofs.Reading.{reads_on}
 use Rattle.edits.specs.declared.edit.NewHeight.{NewHeight}
 use Rattle.edits.specs.Edits.{with_heights}
-use Rattle.edits.specs.PointEdits.{edited_metres, depth_of, refuses, treats}
+use Rattle.edits.specs.PointEdits.{edited_metres, depth_of, refuses, edit_points}
 use Rattle.edits.proofs.NewHeights.{HaveHeights, heights_more, heights_made, heights_earlier, ends_editing, deep_editing}
 use Rattle.edits.proofs.PointEditing.{origin, read_anyhow, height_not_void}
-use Rattle.edits.proofs.heights.apply_to.Goals as goal
+use Rattle.edits.proofs.heights.new_heights.Goals as goal
 
 pub loop-point-preserved : goal.loop-point-preserved
 loop-point-preserved g c =
@@ -40,8 +40,8 @@ returns-in_err-height-clause-refused g c = λ honest.
     let m = g.S.Samples.mosaic c.args.samples.now in
     let points = c.as_slice-points.result.now in
     let i = c.loop-point.point-index in
-    subst (λ (res : Result _ Refusal). IfErr res (λ r. IsTrue (refuses c.args.point_edit r) → treats c.args.point_edit m c.args.points.now.items ≡ Err r)) (sym ended)
-    (λ own. subst (λ (l : List Point). treats c.args.point_edit m l ≡ Err c.in_err-height.field-0.0) c.as_slice-points.ensures.value
+    subst (λ (res : Result _ Refusal). IfErr res (λ r. IsTrue (refuses c.args.point_edit r) → edit_points c.args.point_edit m c.args.points.now.items ≡ Err r)) (sym ended)
+    (λ own. subst (λ (l : List Point). edit_points c.args.point_edit m l ≡ Err c.in_err-height.field-0.0) c.as_slice-points.ensures.value
     (ends_editing g.S.Samples c.args.point_edit points i (get_or points i origin) c.args.samples.now c.loop-point.samples c.ground.new.samples c.loop-point.heights.items c.loop-point-test.true (read_anyhow points i origin c.loop-point-test.true) c.loop-point.invariant
     (sym c.is_repeated.ensures ∙ c.if-is_repeated.false) c.in_err-height.field-0.0 (c.in_err-height.ensures.reads.honest honest) (c.in_err-height.ensures.refused honest) own))
 
@@ -58,8 +58,8 @@ returns-in_err-metres-clause-refused g c = λ honest.
     let at = c.in_ok-height.ensures.metres honest in
     let deep : int_lt (h -ℤ depth_of c.args.point_edit) (negsuc 32766) ≡ true =
     subst (λ v. v ≢ void → int_lt (v -ℤ depth_of c.args.point_edit) (negsuc 32766) ≡ true) same c.in_err-metres.ensures.deep (height_not_void (g.S.Samples.mosaic c.loop-point.samples) (get_or points i origin) h at) in
-    subst (λ (res : Result _ Refusal). IfErr res (λ r. IsTrue (refuses c.args.point_edit r) → treats c.args.point_edit m c.args.points.now.items ≡ Err r)) (sym ended)
-    (λ own. subst (λ (l : List Point). treats c.args.point_edit m l ≡ Err TooDeep) c.as_slice-points.ensures.value
+    subst (λ (res : Result _ Refusal). IfErr res (λ r. IsTrue (refuses c.args.point_edit r) → edit_points c.args.point_edit m c.args.points.now.items ≡ Err r)) (sym ended)
+    (λ own. subst (λ (l : List Point). edit_points c.args.point_edit m l ≡ Err TooDeep) c.as_slice-points.ensures.value
     (deep_editing g.S.Samples c.args.point_edit points i (get_or points i origin) c.args.samples.now c.loop-point.samples c.ground.new.samples c.loop-point.heights.items c.loop-point-test.true (read_anyhow points i origin c.loop-point-test.true) c.loop-point.invariant
     (sym c.is_repeated.ensures ∙ c.if-is_repeated.false) h (c.in_ok-height.ensures.reads.honest honest) at deep))
 
@@ -72,7 +72,7 @@ returns-in_err-metres-clause-reads g c =
 pub returns-clause-made : goal.returns-clause-made
 returns-clause-made g c = λ honest.
     let m = g.S.Samples.mosaic c.args.samples.now in
-    subst (λ (l : List Point). treats c.args.point_edit m l ≡ Ok (with_heights c.loop-point.heights.items m)) c.as_slice-points.ensures.value
+    subst (λ (l : List Point). edit_points c.args.point_edit m l ≡ Ok (with_heights c.loop-point.heights.items m)) c.as_slice-points.ensures.value
     (heights_made g.S.Samples c.args.point_edit c.as_slice-points.result.now c.loop-point.point-index c.args.samples.now c.loop-point.samples c.loop-point.heights.items c.loop-point-test.false c.loop-point.invariant
     (sym c.is_repeated.ensures ∙ c.if-is_repeated.false) honest)
 

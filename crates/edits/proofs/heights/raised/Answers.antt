@@ -18,4 +18,4 @@ returns-clause-made g c = λ capacity honest.
     let fits : SFits w16 height = search rules in
     let kept : to_z w32 (of_z w32 height) ≡ height = to_z-of_z w32 height c.ranges.height in
     let same : height ≡ to_ = sym (ap (λ v. to_z w16 (of_z w16 v)) kept ∙ to_z-of_z w16 height fits) in
-    wall_made capacity (g.S.Samples.mosaic c.args.samples.now) height to_ c.args.points.now c.apply_to.result in_range same (c.apply_to.ensures.made honest)
+    wall_made capacity (g.S.Samples.mosaic c.args.samples.now) height to_ c.args.points.now c.new_heights.result in_range same (c.new_heights.ensures.made honest)
