@@ -1,5 +1,5 @@
 //! Steps: the levels and labels of one stale tile more are kept.
-ghost use Rattle.std.specs.Prelude.{◌≡◌, ◌≤◌, ◌<◌, ◌+◌, ◌*◌, ◌^◌, ◌⊎◌, false, true, [], Err, All, Contains, IfOk, IfErr, OnOk, IsErrOf, IsTrue, MatchOption, length, vec_len};
+ghost use Rattle.std.specs.Prelude.{◌≡◌, ◌≤◌, ◌<◌, ◌+◌, ◌*◌, ◌^◌, ◌⊎◌, false, true, [], Err, All, Contains, IfOk, IfErr, OnOk, IsErrOf, IfSome, Some, MatchOption, length, vec_len};
 ghost use Rattle.disk.specs.Disk.{HasRisen};
 ghost use Rattle.lattice.specs.declared.refusal.Refusal.TheVariants.{Device, NoMemory, Failed};
 ghost use Rattle.page_codec.specs.Sizes.{plane_pages_of};
@@ -36,29 +36,17 @@ pub fn step<D: Disk>(alloc: Global, tree: &mut Tree<D>) -> Result<Option<Corner>
     // A tree that failed makes no call of the disk, and stays failed.
     ensures failed { has_failed tree.old ≡ true → (result ≡ Err Failed) × (tree.new ≡ tree.old) }
 {
-    if tree.has_failed() {
-        return Err(Refusal::Failed);
-    }
-    tree.abandon();
-    let root = tree.current();
-    let Some(corner) = first_stale(root.entries()) else {
-        return Ok(None);
-    };
-    if root.number() == u64::MAX {
-        return Err(Refusal::Worn);
-    }
-    keep(alloc, tree, corner)
+    step_held(alloc, tree, None)
 }
 
-/// Steps as `step` does. Where the first stale tile is the one at `at`, the levels and labels are those of this labelling,
-/// which is of that tile, and nothing is flooded.
+/// Steps as `step` does. Where a labelling of the first stale tile is given, with that tile's corner, its levels and labels
+/// are kept, and nothing is flooded.
 pub fn step_held<D: Disk>(
     alloc: Global,
     tree: &mut Tree<D>,
-    at: Corner,
-    labelled: &Labelled,
+    held: Option<(Corner, &Labelled)>,
 ) -> Result<Option<Corner>, Refusal>
-    ensures stepped { has_failed tree.old ≡ false → HasStepped D.Disk (λ m. IsFlooded m at labelled.now) tree.old tree.new result }
+    ensures stepped { has_failed tree.old ≡ false → HasStepped D.Disk (λ m. IfSome held (λ given. IsFlooded m given.0 given.1.now)) tree.old tree.new result }
 
     ensures clean { has_failed tree.new ≡ false → IsClean tree.new }
 
@@ -76,21 +64,29 @@ pub fn step_held<D: Disk>(
     let Some(corner) = first_stale(root.entries()) else {
         return Ok(None);
     };
-    let side = root.side();
     if root.number() == u64::MAX {
         return Err(Refusal::Worn);
     }
-    if is_of(labelled, side, at, corner) {
-        return keep_labelled(alloc, tree, corner, labelled);
+    match labelling_of(held, root.side(), corner) {
+        Some(labelled) => keep_labelled(alloc, tree, corner, labelled),
+        None => keep(alloc, tree, corner),
     }
-    keep(alloc, tree, corner)
 }
 
-// Whether the labelling is of this side, and the two corners are the same.
-fn is_of(labelled: &Labelled, side: Side, at: Corner, corner: Corner) -> bool
-    ensures { IsTrue result → (at ≡ corner) × (labelled.now.side ≡ side) }
+// The labelling, where it is given as this corner's and is of this side.
+fn labelling_of<'a>(
+    held: Option<(Corner, &'a Labelled)>,
+    side: Side,
+    corner: Corner,
+) -> Option<&'a Labelled>
+    ensures { IfSome result (λ labelled. (held ≡ Some (corner, labelled)) × (labelled.now.side ≡ side)) }
 {
-    at == corner && labelled.side() == side
+    let (at, labelled) = held?;
+    if at == corner && labelled.side() == side {
+        Some(labelled)
+    } else {
+        None
+    }
 }
 
 // The first of the tiles that keeps nothing.

@@ -1,8 +1,10 @@
 //! Steps: the planes of one stale tile more are kept.
-ghost use Rattle.std.specs.Prelude.{◌≡◌, ◌≤◌, ◌+◌, ◌*◌, true, false, Ok, Err, None, OnErr};
+ghost use Rattle.std.specs.Prelude.{◌≡◌, ◌≤◌, ◌+◌, ◌*◌, true, false, Ok, Err, None, OnErr, IfSome};
+ghost use Rattle.lattice.specs.Mosaic.{Mosaic};
 ghost use Rattle.lattice.specs.declared.refusal.Refusal.TheVariants.{Failed};
 ghost use Rattle.page_codec.specs.Roots.{format_of};
 ghost use Rattle.page_codec.specs.Sizes.{plane_pages_of};
+ghost use Rattle.tile_labellings.specs.Labellings.{IsFlooded};
 ghost use Rattle.cow_tree.specs.Trees.{disk_of as disk_under, root_of as root_under, has_failed as have_failed};
 ghost use Rattle.derived.specs.Clean.{IsClean};
 ghost use Rattle.derived.specs.Steps.{HasStepped};
@@ -20,6 +22,7 @@ use disk::Disk;
 use drainage::DrainageCache;
 use lattice::{Corner, Refusal};
 use std::alloc::Global;
+use tile_flood::Labelled;
 
 impl<D: Disk> Store<D> {
     /// Keeps the levels and labels of the first stale tile and names it, or answers none where no tile is stale. Where a
@@ -51,11 +54,17 @@ fn step_tree<D: Disk>(
     ensures writes { D.writes (disk_under tree.new) ≤ D.writes (disk_under tree.old) + (2 * plane_pages_of (format_of (root_under tree.old)) + 3) }
     ensures failed { have_failed tree.old ≡ true → (result ≡ Err Failed) × (tree.new ≡ tree.old) }
 {
-    let Some(corner) = next_stale(tree) else {
-        return derived::step(alloc, tree);
-    };
-    match held.labelling(corner) {
-        Some(labelled) => step_held(alloc, tree, corner, labelled),
-        None => derived::step(alloc, tree),
-    }
+    step_held(alloc, tree, held_of_next(tree, held))
+}
+
+// The labelling that is held of the first stale tile, with the tile's corner.
+fn held_of_next<'a, D: Disk>(
+    tree: &Tree<D>,
+    held: &'a DrainageCache,
+) -> Option<(Corner, &'a Labelled)>
+    ensures { (m : Mosaic) → IsHeldOf m held.now → IfSome result (λ given. IsFlooded m given.0 given.1.now) }
+{
+    let corner = next_stale(tree)?;
+    let labelled = held.labelling(corner)?;
+    Some((corner, labelled))
 }

@@ -1,64 +1,9 @@
-use Rattle.std.proofs.Common.{◌≡◌, ◌≢◌, List, [], length, refl, sym, ap, ◌∙◌, subst, arith}
-use Rattle.std.specs.Prelude.{Ok, Contains}
-use Rattle.lattice.specs.Corners.{Corner}
-use Rattle.lattice.specs.declared.refusal.Refusal.TheVariants.{Device}
-use Rattle.page_codec.specs.Entries.{EntryValue}
-use Rattle.page_codec.specs.Roots.{RootValue}
-use Rattle.cow_tree.specs.Trees.{root_of}
-use Rattle.cow_tree.proofs.ReadOnly.{never_refused}
-use Rattle.derived.specs.Kept.{stale_among, stale_in}
-use Rattle.derived.specs.Uncommitted.{CommitsNothing}
-use Rattle.derived.proofs.StepEnds.{none_is_stale, is_worn, stepped_after}
-use Rattle.derived.proofs.Uncommitted.{in_memory, given_up}
+use Rattle.std.specs.Prelude.{IfSome}
+use Rattle.lattice.specs.Mosaic.{Mosaic}
+use Rattle.tile_labellings.specs.Labellings.{IsFlooded}
+use Rattle.derived.proofs.StepEnds.{premised}
 use Rattle.derived.proofs.stepping.step.Goals as goal
-
--- a list that has an element isn't empty
-not_empty : (cs : List Corner) (c : Corner) → Contains cs c → cs ≢ []
-not_empty cs c (k, below, here) none = absurd (let no : length cs ≡ 0 = ap (λ (l : List Corner). length l) none in omega (arith, below, no))
-
-pub returns-in_default-clause-stepped : goal.returns-in_default-clause-stepped
-returns-in_default-clause-stepped g c works =
-    let d = g.D.Disk in
-    let old = c.args.tree.now in
-    let mid = c.abandon.new.self in
-    let gives = c.abandon.ensures in
-    let nothing : CommitsNothing {T = Unit {0}} d old old (Ok tt) = in_memory d old old (Ok tt) g.met.D.Disk.only_now refl refl works (λ s at. at) (λ refused. never_refused tt Device refused) in
-    let done : CommitsNothing {T = Unit {0}} d old mid (Ok tt) = given_up d old old mid (Ok tt) nothing gives.disk gives.root gives.failed gives.at in
-    let entries = c.entries.ensures.value ∙ ap (λ (r : RootValue). r.entries) (c.current-root.ensures ∙ gives.root) in
-    none_is_stale d (λ m. Unit {0}) g.met.D.Disk.seen_may old mid (Ok tt) done (gives.failed ∙ works) (record { none_staged = gives.none_staged; none_due = gives.none_due; corners = gives.corners }) (ap d.writes gives.disk)
-    (λ honest s at. let was = subst d.honest gives.disk honest in (gives.committed was s at, gives.undeclared was s at))
-    (subst (λ (es : List EntryValue). stale_among es ≡ []) entries c.in_default.ensures)
-
-pub returns-then-number-clause-stepped : goal.returns-then-number-clause-stepped
-returns-then-number-clause-stepped g c works =
-    let d = g.D.Disk in
-    let old = c.args.tree.now in
-    let mid = c.abandon.new.self in
-    let gives = c.abandon.ensures in
-    let nothing : CommitsNothing {T = Unit {0}} d old old (Ok tt) = in_memory d old old (Ok tt) g.met.D.Disk.only_now refl refl works (λ s at. at) (λ refused. never_refused tt Device refused) in
-    let done : CommitsNothing {T = Unit {0}} d old mid (Ok tt) = given_up d old old mid (Ok tt) nothing gives.disk gives.root gives.failed gives.at in
-    let root : c.current-root.result.now ≡ root_of old = c.current-root.ensures ∙ gives.root in
-    let entries = c.entries.ensures.value ∙ ap (λ (r : RootValue). r.entries) root in
-    is_worn d (λ m. Unit {0}) g.met.D.Disk.seen_may old mid (Ok tt) done (gives.failed ∙ works) (record { none_staged = gives.none_staged; none_due = gives.none_due; corners = gives.corners }) (ap d.writes gives.disk)
-    (λ honest s at. let was = subst d.honest gives.disk honest in (gives.committed was s at, gives.undeclared was s at))
-    (ap (λ (r : RootValue). r.number) (sym root) ∙ sym c.number.ensures ∙ c.if-number.true)
-    (not_empty (stale_in (root_of old)) c.in-Some.corner (subst (λ (es : List EntryValue). Contains (stale_among es) c.in-Some.corner) entries c.in-Some.ensures))
 
 pub returns-clause-stepped : goal.returns-clause-stepped
 returns-clause-stepped g c works =
-    let d = g.D.Disk in
-    let old = c.args.tree.now in
-    let mid = c.abandon.new.self in
-    let gives = c.abandon.ensures in
-    let nothing : CommitsNothing {T = Unit {0}} d old old (Ok tt) = in_memory d old old (Ok tt) g.met.D.Disk.only_now refl refl works (λ s at. at) (λ refused. never_refused tt Device refused) in
-    let done : CommitsNothing {T = Unit {0}} d old mid (Ok tt) = given_up d old old mid (Ok tt) nothing gives.disk gives.root gives.failed gives.at in
-    stepped_after d (λ m. Unit {0}) g.met.D.Disk.seen_may old mid c.keep.new.tree tt done (ap d.writes gives.disk) c.keep.result c.keep.ensures.stepped
-
-pub returns-in_default-clause-clean : goal.returns-in_default-clause-clean
-returns-in_default-clause-clean g c works = record { none_staged = c.abandon.ensures.none_staged; none_due = c.abandon.ensures.none_due; corners = c.abandon.ensures.corners }
-
-pub returns-then-number-clause-clean : goal.returns-then-number-clause-clean
-returns-then-number-clause-clean g c works = record { none_staged = c.abandon.ensures.none_staged; none_due = c.abandon.ensures.none_due; corners = c.abandon.ensures.corners }
-
-pub returns-clause-clean : goal.returns-clause-clean
-returns-clause-clean g c works = c.keep.ensures.stepped.clean works
+    premised g.D.Disk (λ (m : Mosaic). Unit {0}) g.met.D.Disk.seen_may (λ (m : Mosaic). Unit {0}) c.args.tree.now c.step_held.new.tree c.step_held.result (λ honest s _ at keeps. tt) (c.step_held.ensures.stepped works)

@@ -1,21 +1,12 @@
-use Rattle.std.proofs.Common.{subst}
-use Rattle.std.specs.Prelude.{IfSome}
 use Rattle.lattice.specs.Mosaic.{Mosaic}
+use Rattle.std.specs.Prelude.{IfSome}
 use Rattle.drainage.specs.Between.{IsHeldOf}
 use Rattle.tile_labellings.specs.Labellings.{IsFlooded}
 use Rattle.derived.specs.Kept.{mosaic_stored}
 use Rattle.derived.proofs.StepEnds.{premised}
 use Rattle.store.proofs.stepping.step_tree.Goals as goal
 
-pub returns-in_default-clause-stepped : goal.returns-in_default-clause-stepped
-returns-in_default-clause-stepped g c works =
-    premised g.D.Disk (λ m. Unit {0}) g.met.D.Disk.seen_may (λ (m : Mosaic). IsHeldOf m c.args.held.now) c.args.tree.now c.step.new.tree c.step.result (λ honest s right at keeps. tt) (c.step.ensures.stepped works)
-
-pub returns-in-None-clause-stepped : goal.returns-in-None-clause-stepped
-returns-in-None-clause-stepped g c works =
-    premised g.D.Disk (λ m. Unit {0}) g.met.D.Disk.seen_may (λ (m : Mosaic). IsHeldOf m c.args.held.now) c.args.tree.now c.step-in-None.new.tree c.step-in-None.result (λ honest s right at keeps. tt) (c.step-in-None.ensures.stepped works)
-
-pub returns-in-Some-labelling-clause-stepped : goal.returns-in-Some-labelling-clause-stepped
-returns-in-Some-labelling-clause-stepped g c works =
-    premised g.D.Disk (λ m. IsFlooded m c.in-Some.corner c.in-Some-labelling.labelled.now) g.met.D.Disk.seen_may (λ (m : Mosaic). IsHeldOf m c.args.held.now) c.args.tree.now c.step_held.new.tree c.step_held.result
-    (λ honest s right at keeps. subst (λ found. IfSome found (λ l. IsFlooded (mosaic_stored s) c.in-Some.corner l.now)) c.in-Some-labelling.is (c.labelling.ensures (mosaic_stored s) right)) (c.step_held.ensures.stepped works)
+pub returns-clause-stepped : goal.returns-clause-stepped
+returns-clause-stepped g c works =
+    premised g.D.Disk (λ m. IfSome c.held_of_next.result (λ given. IsFlooded m given.0 given.1.now)) g.met.D.Disk.seen_may (λ (m : Mosaic). IsHeldOf m c.args.held.now) c.args.tree.now c.step_held.new.tree c.step_held.result
+    (λ honest s right at keeps. c.held_of_next.ensures (mosaic_stored s) right) (c.step_held.ensures.stepped works)
