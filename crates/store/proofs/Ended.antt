@@ -17,7 +17,7 @@ use Rattle.cow_tree.specs.Stored.{Stored}
 use Rattle.cow_tree.specs.Trees.{disk_of, root_of, has_failed, sinks_of, staged_in, IsAt as IsTreeAt}
 use Rattle.cow_tree.specs.declared.tree.Tree.{Tree}
 use Rattle.cow_tree.proofs.ReadOnly.{never_refused}
-use Rattle.store.specs.Ended.{LeavesOr, Ending, HasEnded}
+use Rattle.store.specs.Ended.{LeavesOr, Ending, EndsAt, HasEnded}
 use Rattle.derived.specs.Uncommitted.{CommitsNothing}
 use Rattle.store.specs.Standing.{Holds, StandsFor}
 use Rattle.store.specs.States.{StandsForState, IsStateOf}
@@ -27,6 +27,28 @@ use Rattle.store.proofs.EditingSteps.{in_memory, refusal_is}
 use Rattle.store.proofs.InMemory.{is_working}
 use Rattle.store.proofs.Opened.{in_state}
 use Rattle.store.proofs.States.{at_failure}
+
+-- how the same call ends, told of other states
+pub of_other_states : {D T : Type 0} (g : Ghosts D) (ending : Ending T) (result : Result T Refusal) (old new : Tree D g) (Was Is Was' Is' : State → Type 0)
+    → (g.honest (disk_of new) → (s : State) → Was' s → (t : State) × (Is' t × ending.Happens s result t × (s.failed ≡ false → LeavesOnly g (disk_of old) (disk_of new) (LeavesOr g old s t))))
+    → EndsAt g ending result old new Was Is → EndsAt g ending result old new Was' Is'
+of_other_states g ending result old new Was Is Was' Is' outcome is = record {
+  size = is.size;
+  side = is.side;
+  capacity = is.capacity;
+  later = is.later;
+  device = is.device;
+  works = is.works;
+  fails = is.fails;
+  causes = is.causes;
+  quiet = is.quiet;
+  known = is.known;
+  last_known = is.last_known;
+  unwritten = is.unwritten;
+  idle = is.idle;
+  honest = is.honest;
+  outcome = outcome;
+}
 
 -- what is known by a root of the same version
 pub known_as : (was root : RootValue) (count number : ℕ) → root.version ≡ was.version → root.count ≡ count → root.number ≡ number

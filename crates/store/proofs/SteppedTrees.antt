@@ -216,23 +216,9 @@ pub stepped_by : {D : Type 0} (g : Ghosts D) → ((disk : D) → g.honest disk �
 stepped_by g seen P Was old new leads result failed stepped = by (has_failed old) refl
   where
     from_states : IsStepped g result old new → EndsAt g (step_ending (root_of old).capacity) result old new Was (λ t. IsInState g new t)
-    from_states is = record {
-      size = is.size;
-      side = is.side;
-      capacity = is.capacity;
-      later = is.later;
-      device = is.device;
-      works = is.works;
-      fails = is.fails;
-      causes = is.causes;
-      quiet = is.quiet;
-      known = is.known;
-      last_known = is.last_known;
-      unwritten = is.unwritten;
-      idle = is.idle;
-      honest = is.honest;
-      outcome = λ honest s was. is.outcome honest s (leads s was).0;
-    }
+    from_states is =
+        ended.of_other_states g (step_ending (root_of old).capacity) result old new (λ s. IsInState g old s) (λ t. IsInState g new t) Was (λ t. IsInState g new t)
+        (λ honest s was. is.outcome honest s (leads s was).0) is
 
     by : (b : Bool) → has_failed old ≡ b → EndsAt g (step_ending (root_of old).capacity) result old new Was (λ t. IsInState g new t)
     by true fails =

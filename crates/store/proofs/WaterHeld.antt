@@ -19,6 +19,7 @@ use Rattle.store.specs.Ended.{Ending, EndsAt, HasEnded, IsApplied, IsStepped, co
 use Rattle.store.specs.TreeStates.{IsInState}
 use Rattle.store.specs.Upgraded.{IsUpgraded, upgrade_ending}
 use Rattle.store.specs.Water.{IsHolding}
+use Rattle.store.proofs.Ended.{of_other_states}
 
 -- ---- commands
 
@@ -99,25 +100,12 @@ module _ {D : Type 0} (g : Ghosts D) (old new : Tree D g) where
   ended_holding : {T : Type 0} (ending : Ending T) (was now : DrainageCache) (result : Result T Refusal)
       → (g.honest (disk_of new) → (s t : State) → IsInState g old s → IsHeldOf s.contents.mosaic was → ending.Happens s result t → IsHeldOf t.contents.mosaic now)
       → HasEnded g ending result old new → EndsAt g ending result old new (λ s. IsHolding g old was s) (λ t. IsHolding g new now t)
-  ended_holding ending was now result left is = record {
-    size = is.size;
-    side = is.side;
-    capacity = is.capacity;
-    later = is.later;
-    device = is.device;
-    works = is.works;
-    fails = is.fails;
-    causes = is.causes;
-    quiet = is.quiet;
-    known = is.known;
-    last_known = is.last_known;
-    unwritten = is.unwritten;
-    idle = is.idle;
-    honest = is.honest;
-    outcome = λ honest s at.
-        let step = is.outcome honest s at.in_state in
-        (step.0, (record { in_state = step.1.0; right = left honest s step.0 at.in_state at.right step.1.1 }, step.1.1, step.1.2));
-  }
+  ended_holding ending was now result left is =
+      of_other_states g ending result old new (λ s. IsInState g old s) (λ t. IsInState g new t) (λ s. IsHolding g old was s) (λ t. IsHolding g new now t)
+      (λ honest s at.
+      let step = is.outcome honest s at.in_state in
+      (step.0, (record { in_state = step.1.0; right = left honest s step.0 at.in_state at.right step.1.1 }, step.1.1, step.1.2)))
+      is
 
   -- a command that leaves what is held right
   pub done_holding : (was now : DrainageCache) (c : Command) (result : Result ℕ Refusal)
@@ -141,25 +129,12 @@ module _ {D : Type 0} (g : Ghosts D) (old new : Tree D g) where
   -- a step, from states of whose mosaic what is held is right
   pub stepped_holding : (held : DrainageCache) (result : Result (Option Corner) Refusal) → EndsAt g (step_ending (root_of old).capacity) result old new (λ s. IsHolding g old held s) (λ t. IsInState g new t)
       → EndsAt g (step_ending (root_of old).capacity) result old new (λ s. IsHolding g old held s) (λ t. IsHolding g new held t)
-  stepped_holding held result is = record {
-    size = is.size;
-    side = is.side;
-    capacity = is.capacity;
-    later = is.later;
-    device = is.device;
-    works = is.works;
-    fails = is.fails;
-    causes = is.causes;
-    quiet = is.quiet;
-    known = is.known;
-    last_known = is.last_known;
-    unwritten = is.unwritten;
-    idle = is.idle;
-    honest = is.honest;
-    outcome = λ honest s at.
-        let step = is.outcome honest s at in
-        (step.0, (record { in_state = step.1.0; right = subst (λ (m : Mosaic). IsHeldOf m held) (sym (steps (root_of old).capacity s step.0 result step.1.1)) at.right }, step.1.1, step.1.2));
-  }
+  stepped_holding held result is =
+      of_other_states g (step_ending (root_of old).capacity) result old new (λ s. IsHolding g old held s) (λ t. IsInState g new t) (λ s. IsHolding g old held s) (λ t. IsHolding g new held t)
+      (λ honest s at.
+      let step = is.outcome honest s at in
+      (step.0, (record { in_state = step.1.0; right = subst (λ (m : Mosaic). IsHeldOf m held) (sym (steps (root_of old).capacity s step.0 result step.1.1)) at.right }, step.1.1, step.1.2)))
+      is
 
   pub upgraded_holding : (held : DrainageCache) (result : Result (Unit {0}) Refusal) → IsUpgraded g result old new
       → EndsAt g (upgrade_ending (g.size (disk_of old)) (root_of old)) result old new (λ s. IsHolding g old held s) (λ t. IsHolding g new held t)
