@@ -16,8 +16,9 @@ use Rattle.clap.proofs.FaultLemmas.{past}
 use Rattle.clap.proofs.OnLiterals.{clap_on_literals}
 use Rattle.clap.proofs.SimpleLemmas.{is_nil, label_first}
 use Rattle.clap.proofs.WalkLemmas.{both, walk_stopped}
-use Rattle.server.specs.CommandLine.{AskedBy, AskedIn, AskNothing, IsOption, SpellsOut, Texts, program_app, texts_in, texts_of}
-use Rattle.server.specs.CommandLine.{check_app, format_app, import_app, serve_app, table_app, upgrade_app}
+use Rattle.server.specs.CommandLine.{AskedBy, AskNothing, IsOption, SpellsOut}
+use Rattle.server.specs.Subcommands.{AskedIn, Texts, program_app, texts_in, texts_of}
+use Rattle.server.specs.Subcommands.{check_app, format_app, import_app, serve_app, table_app, upgrade_app}
 use Rattle.server.specs.declared.arguments.ArgumentFault.TheVariants.{Bad}
 use Rattle.server.specs.declared.arguments.Arguments.{Arguments}
 use Rattle.server.specs.declared.arguments.Arguments.TheVariants.{Format, Import, Serve, Table, Check, Upgrade}

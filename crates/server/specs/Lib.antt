@@ -1,3 +1,4 @@
+pub mod CommandLine
 pub mod Endings
 pub mod Files
 pub mod Following
@@ -8,4 +9,4 @@ pub mod Report
 pub mod ServedSessions
 pub mod Sessions
 pub mod Sizes
-pub mod CommandLine
+pub mod Subcommands

@@ -2,7 +2,8 @@
 ghost use Rattle.std.specs.Prelude.{◌≡◌, ◌↔◌, ℕ, false, Any, Err, IfOk, IsTrue, MatchOption, Some, codes, map, option_map};
 ghost use Rattle.clap.specs.Walk.{rule_of};
 ghost use Rattle.clap.specs.Words.{app_of, first_of, found_of, rows_of, subcommand_rows_of, with_subcommand};
-ghost use Rattle.server.specs.CommandLine.{AskNothing, AskedBy, IsNatIn, IsOption, Reads, program_app, required_text, texts_of, words_app};
+ghost use Rattle.server.specs.CommandLine.{AskNothing, AskedBy, IsOption};
+ghost use Rattle.server.specs.Subcommands.{IsNatIn, Reads, program_app, required_text, texts_of, words_app};
 
 use clap::error::ErrorKind;
 use clap::{Arg, ArgMatches, Command};

@@ -5,7 +5,8 @@ use Rattle.std.proofs.KnownBytes.{Appends-kept, Appends-trans}
 use Rattle.std.proofs.lemmas.List.{take_all}
 use Rattle.catalogue.specs.Reading.{HasRisen}
 use Rattle.lines.proofs.WriteLemmas.{Appends-first, Appends-second}
-use Rattle.serving.specs.Outputs.{Begins, Breaks, Fails, Flushes, HasFailed, Leaves, Puts, Stream, WritesAll}
+use Rattle.serving.specs.Outputs.{Begins, Breaks, Fails, Flushes, HasFailed, Leaves, Puts, Stream}
+use Rattle.serving.specs.Writing.{WritesAll}
 
 -- what was written whole was begun
 whole_begun : (a b : Option (List ℕ)) (text : List ℕ) → Appends a b text → Begins a b text

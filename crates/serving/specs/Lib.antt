@@ -4,3 +4,4 @@ pub mod Outputs
 pub mod Promises
 pub mod Served
 pub mod Session
+pub mod Writing

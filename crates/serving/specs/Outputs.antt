@@ -37,11 +37,6 @@ Begins written new text = (n : ℕ) × Appends written new (take n text)
 abbrev pub Breaks : Stream → Stream → List ℕ → Type 0
 Breaks old new text = Begins old.contents new.contents text × HasRisen old.failures new.failures
 
--- the text was written whole, and no call failed; or one failed
-abbrev pub WritesAll : {E : Type 0} → Stream → Stream → Result (Unit {0}) E → List ℕ → Type 0
-WritesAll old new (Ok u) text = Appends old.contents new.contents text × (new.failures ≡ old.failures)
-WritesAll old new (Err e) text = Breaks old new text
-
 -- the text was written whole and has left, and no call failed
 pub record Leaves (old new : Stream) (text : List ℕ) : Type 0 where
   pub whole : Appends old.contents new.contents text

@@ -1,6 +1,7 @@
 //! Where replies are written.
 ghost use Rattle.std.specs.Prelude.{◌<◌, ◌↔◌, IsTrue, length};
-ghost use Rattle.serving.specs.Outputs.{Flushes, HasFailed, Puts, Stream, Writes, WritesAll};
+ghost use Rattle.serving.specs.Outputs.{Flushes, HasFailed, Puts, Stream, Writes};
+ghost use Rattle.serving.specs.Writing.{WritesAll};
 
 use lines::Text;
 

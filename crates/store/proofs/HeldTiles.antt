@@ -12,7 +12,7 @@ use Rattle.catalogue.specs.Tiles as mosaics
 use Rattle.catalogue.proofs.Mosaics.{corner_of}
 use Rattle.cow_tree.specs.Stored.{IsPage, StoredTile, AreWhole, plane_bytes, pages_of_bytes, samples_of_plane, mosaic_of_tiles, without_tile, with_tile, stale_tile, corners_of_stored}
 use Rattle.cow_tree.proofs.Planes.{plane_read_back, length-pages_of_bytes, whole_pages}
-pub use Rattle.store.specs.Standing.{IsFilled, AreTilesOf}
+pub use Rattle.store.specs.Editing.{IsFilled, AreTilesOf}
 use Rattle.store.specs.Standing.{HoldsTile}
 use Rattle.store.proofs.Pages.{bytes_of_plane, length_plane, long_enough}
 

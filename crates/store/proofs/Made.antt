@@ -15,10 +15,9 @@ use Rattle.engine.specs.State.{State}
 use Rattle.cow_tree.specs.Stored.{KeptPlanes, StoredTile, pages_of_bytes, stale_tile, with_tile, without_tile}
 use Rattle.cow_tree.specs.Trees.{root_of, has_failed, sinks_of, staged_in}
 use Rattle.cow_tree.specs.declared.tree.Tree.{Tree}
-use Rattle.store.specs.Editing.{ComesIn, IsMade, KeepsBut}
+use Rattle.store.specs.Editing.{ComesIn, IsMade, KeepsBut, AreTilesOf}
 use Rattle.store.specs.Staging.{WillHold}
 use Rattle.store.specs.Staling.{staled, keepers, KeepFresh}
-use Rattle.store.specs.Standing.{AreTilesOf}
 use Rattle.store.specs.TreeStates.{IsInState}
 use Rattle.store.proofs.Holding.{holds_with}
 use Rattle.store.proofs.Keeping.{contains_left, found_keeper, found_with, keep_but, staled_keep}

@@ -11,7 +11,7 @@ use Rattle.lattice.proofs.CornerOrder.{same_says}
 use Rattle.catalogue.specs.Tiles.{is_listed}
 use Rattle.edits.specs.Effect.{edited, has_void_from, is_in_box, is_void_at}
 use Rattle.cow_tree.specs.Stored.{StoredTile}
-use Rattle.store.specs.Standing.{AreTilesOf}
+use Rattle.store.specs.Editing.{AreTilesOf}
 use Rattle.store.specs.Underway.{filled, stored_sample, IsPartly, IsSettled, IsUnderway}
 use Rattle.store.specs.declared.voids.Patch.{Patch}
 use Rattle.store.proofs.Underway.{all_settled, tile_of}

@@ -13,11 +13,20 @@ use Rattle.edits.specs.declared.edit.Edit.{Edit}
 use Rattle.edits.specs.declared.edit.Edit.TheVariants as edit
 use Rattle.edits.specs.declared.edit.NewHeight.{NewHeight}
 use Rattle.edits.specs.Edits.{edit_made}
-use Rattle.cow_tree.specs.Stored.{StoredTile}
+use Rattle.cow_tree.specs.Stored.{IsPage, StoredTile, mosaic_of_tiles}
 use Rattle.cow_tree.specs.Trees.{disk_of, root_of, has_begun, has_failed, corners_of, sinks_of, records_due, HasStaged, staged_in}
 use Rattle.cow_tree.specs.declared.tree.Tree.{Tree}
 use Rattle.derived.specs.Uncommitted.{CommitsNothing}
-use Rattle.store.specs.Standing.{AreTilesOf}
+
+-- the stored tile has whole pages enough for its heights
+pub record IsFilled (n : ℕ) (t : StoredTile) : Type 0 where
+  pub pages : All IsPage t.heights
+  pub enough : 2 * (n * n) ≤ 4096 * length t.heights
+
+-- these stored tiles are the tiles of the mosaic
+pub record AreTilesOf (n : ℕ) (tiles : List StoredTile) (m : Mosaic) : Type 0 where
+  pub mosaic : m ≡ mosaic_of_tiles n m.sinks tiles
+  pub filled : All (IsFilled n) tiles
 
 -- the writes so far, and the one that begins a commit where none was begun
 abbrev pub writes_begun : {D : Type 0} (g : Ghosts D) → Tree D g → ℕ

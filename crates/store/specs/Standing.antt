@@ -1,12 +1,12 @@
 -- What an image of a store's disk stands for (this product's own profile; SRTM documentation for the bytes of a tile).
-use Rattle.std.specs.Prelude.{◌≡◌, ◌*◌, ◌≤◌, ℕ, List, All, length}
+use Rattle.std.specs.Prelude.{◌≡◌, ℕ, All}
 use Rattle.std.specs.List.{AllZip}
 use Rattle.disk.specs.Disk.{Image}
-use Rattle.lattice.specs.Mosaic.{Tile, Mosaic, IsMosaic}
+use Rattle.lattice.specs.Mosaic.{Tile, IsMosaic}
 use Rattle.page_codec.specs.Formats.{number_of}
 use Rattle.hgt.specs.Bytes.{AreHgtBytes}
 use Rattle.engine.specs.State.{Contents}
-use Rattle.cow_tree.specs.Stored.{IsPage, plane_bytes, mosaic_of_tiles, StoredTile, Stored}
+use Rattle.cow_tree.specs.Stored.{IsPage, plane_bytes, StoredTile, Stored}
 use Rattle.cow_tree.specs.Layout.{Stands}
 use Rattle.derived.specs.Kept.{KeepRight, stale_corners}
 
@@ -15,16 +15,6 @@ pub record HoldsTile (n : ℕ) (stored : StoredTile) (t : Tile) : Type 0 where
   pub corner : stored.corner ≡ t.corner
   pub pages : All IsPage stored.heights
   pub heights : AreHgtBytes n (plane_bytes n stored.heights) t.samples
-
--- the stored tile has whole pages enough for its heights
-pub record IsFilled (n : ℕ) (t : StoredTile) : Type 0 where
-  pub pages : All IsPage t.heights
-  pub enough : 2 * (n * n) ≤ 4096 * length t.heights
-
--- these stored tiles are the tiles of the mosaic
-pub record AreTilesOf (n : ℕ) (tiles : List StoredTile) (m : Mosaic) : Type 0 where
-  pub mosaic : m ≡ mosaic_of_tiles n m.sinks tiles
-  pub filled : All (IsFilled n) tiles
 
 -- what is stored, with tiles of this side and room for so many, are these contents
 pub record Holds (side capacity : ℕ) (stored : Stored) (c : Contents) : Type 0 where

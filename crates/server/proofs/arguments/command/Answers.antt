@@ -3,7 +3,7 @@ use Rattle.std.proofs.lemmas.List.Sums.{fold_more}
 use Rattle.std.specs.Prelude.{fold}
 use Rattle.clap.specs.Simple.{Shape, app_of_fields, on_top}
 use Rattle.clap.specs.Words.{App}
-use Rattle.server.specs.CommandLine.{empty_app}
+use Rattle.server.specs.Subcommands.{empty_app}
 use Rattle.server.proofs.arguments.command.Invariants.{IsBuilt, Row, step}
 use Rattle.server.proofs.arguments.command.Goals as goal
 

@@ -2,7 +2,7 @@ use Rattle.std.proofs.Common.{◌≡◌, List, ℕ, take}
 use Rattle.std.specs.Borrow.{Bor}
 use Rattle.std.specs.Prelude.{fold}
 use Rattle.clap.specs.Words.{App, Text, app_of, with_subcommand}
-use Rattle.server.specs.CommandLine.{empty_app, words_app}
+use Rattle.server.specs.Subcommands.{empty_app, words_app}
 use Rattle.server.proofs.arguments.command.Given as goal
 
 -- a subcommand's name and those of its texts

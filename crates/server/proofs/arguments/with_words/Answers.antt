@@ -6,7 +6,7 @@ use Rattle.clap.specs.Simple.{Shape}
 use Rattle.clap.specs.Words.{App, Text, app_of, new_app, with_rule, with_subcommand}
 use Rattle.clap.specs.declared.builder.command.Command.{Command}
 use Rattle.clap.specs.declared.builder.command.Command.TheViews.{out-Command}
-use Rattle.server.specs.CommandLine.{required_text, words_app}
+use Rattle.server.specs.Subcommands.{required_text, words_app}
 use Rattle.server.proofs.arguments.with_words.Goals as goal
 
 abbrev shape : App → Shape

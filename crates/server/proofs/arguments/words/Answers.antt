@@ -2,7 +2,7 @@ use Rattle.std.proofs.Common.{◌∙◌, ap₂, sym}
 use Rattle.std.specs.Borrow.{Bor}
 use Rattle.std.proofs.lemmas.List.Sums.{fold_more}
 use Rattle.clap.specs.Words.{App, Text, new_app, with_rule}
-use Rattle.server.specs.CommandLine.{required_text}
+use Rattle.server.specs.Subcommands.{required_text}
 use Rattle.server.proofs.arguments.words.Goals as goal
 
 abbrev step : App → Bor Text → App

@@ -26,9 +26,8 @@ use Rattle.cow_tree.specs.Stored.{StoredTile, mosaic_of_tiles, pages_of_bytes, s
 use Rattle.cow_tree.specs.Trees.{root_of, corners_of, sinks_of, staged_in}
 use Rattle.cow_tree.proofs.ReadOnly.{never_refused}
 use Rattle.cow_tree.proofs.Steps.{on_ok}
-use Rattle.store.specs.Editing.{IsMade, KeepsBut}
+use Rattle.store.specs.Editing.{IsMade, KeepsBut, AreTilesOf}
 use Rattle.store.specs.Staling.{keepers}
-use Rattle.store.specs.Standing.{AreTilesOf}
 use Rattle.store.specs.Underway.{filled, heightened, IsSettled, IsUnderway, Advances}
 use Rattle.store.specs.declared.voids.Patch.{Patch}
 use Rattle.store.proofs.EditingSteps.{in_memory}

@@ -2,7 +2,7 @@ use Rattle.std.proofs.Common.{rules, ◌≡◌, ◌∙◌, ap, sym, true, map, [
 use Rattle.std.proofs.lemmas.Bool.{both_ways}
 use Rattle.clap.specs.Faults.{fault_of, is_simple_and_free}
 use Rattle.clap.specs.Words.{App, is_simple, subcommand_of, subcommand_rows_of, takes}
-use Rattle.server.specs.CommandLine.{program_app, texts_of}
+use Rattle.server.specs.Subcommands.{program_app, texts_of}
 use Rattle.server.proofs.CommandLineLemmas.{free_app, no_options, read_bad, read_ok, simple_app, some_option, takes_asked}
 use Rattle.server.proofs.arguments.Arguments.parse.Goals as goal
 

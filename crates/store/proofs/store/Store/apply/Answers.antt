@@ -27,10 +27,9 @@ use Rattle.cow_tree.specs.Trees.{disk_of, root_of, has_failed, corners_of, sinks
 use Rattle.cow_tree.proofs.ReadOnly.{never_refused}
 use Rattle.cow_tree.proofs.Steps.{on_ok}
 use Rattle.store.specs.Ended.{IsApplied}
-use Rattle.store.specs.Editing.{ComesIn, IsGiven}
+use Rattle.store.specs.Editing.{ComesIn, IsGiven, AreTilesOf}
 use Rattle.derived.specs.Uncommitted.{CommitsNothing}
 use Rattle.store.specs.Staling.{staled}
-use Rattle.store.specs.Standing.{AreTilesOf}
 use Rattle.store.proofs.Committed.{fails_before, failed_first, quiet, may_end_it}
 use Rattle.store.proofs.EditingReads.{reading, mosaic_is, readable, refused_so, risen_read, works_read, fails_read, quiet_read}
 use Rattle.store.proofs.EditingSteps.{in_memory, uncommitted_on, refused_as}
