@@ -1,11 +1,11 @@
 -- What was done to a store, as what was done to its disk.
 use Rattle.std.proofs.Common.{◌≡◌, ◌⊎◌, inl, inr, ⊎_elim, ℕ, ◌≤◌, Bool, false, List, [], ◌∷◌, map, Option, Result, Ok, Err, IfOk, refl, sym, ap, ap₂, ◌∙◌, subst, arith}
-use Rattle.std.specs.Prelude.{Vec, nat_le, IsErrOf}
-use Rattle.disk.specs.Disk.{Image}
+use Rattle.std.specs.Prelude.{Vec, nat_le, IsErrOf, IfErr}
+use Rattle.disk.specs.Disk.{Image, HasRisen}
 use Rattle.disk.specs.Stops.{AddsNothing, LeavesOnly, nothing_twice, weaker}
 use Rattle.disk.specs.declared.disk.Disk.{Ghosts}
 use Rattle.lattice.specs.declared.refusal.Refusal.{Refusal}
-use Rattle.lattice.specs.declared.refusal.Refusal.TheVariants.{Device}
+use Rattle.lattice.specs.declared.refusal.Refusal.TheVariants.{Device, NoMemory}
 use Rattle.edits.specs.declared.command.Command.{Command}
 use Rattle.engine.specs.declared.event.Event.TheVariants as ask
 use Rattle.engine.specs.declared.event.Reply.TheVariants as reply
@@ -17,11 +17,12 @@ use Rattle.engine.specs.Told.{IsTold}
 use Rattle.engine.specs.Runs.{last_of}
 use Rattle.engine.specs.State.{Contents, State, working}
 use Rattle.page_codec.specs.Sizes.{sectors_asked}
+use Rattle.cow_tree.specs.Trees.{MayRefuse}
 use Rattle.store.specs.Ended.{LeavesOr, HasEndedAt}
 use Rattle.store.specs.Formatted.{format_2}
 use Rattle.store.specs.Standing.{StandsFor}
 use Rattle.store.specs.StoreState.{IsStoreAt, LeavesStates, StandsForOne, members}
-use Rattle.store.specs.Stores.{IsAt, disk_of, root_of, side_of, capacity_of, has_failed}
+use Rattle.store.specs.Stores.{IsAt, disk_of, disk_after, root_of, side_of, capacity_of, has_failed}
 use Rattle.store.specs.declared.store.Store.{Store}
 use Rattle.store.specs.StoreRuns.{allowed}
 use Rattle.store.specs.Queried.{Queries}
@@ -32,18 +33,8 @@ use Rattle.serving.specs.Served.{Outcome}
 use Rattle.serving.specs.declared.session.ServeFault.{ServeFault}
 use Rattle.server.specs.Report.{IsReportText, Reports}
 use Rattle.server.specs.Sessions.{TellsCall}
-use Rattle.server.specs.OnDisks.{StandsForEither, HoldsEither, WasRead, GoesFrom, LeavesLater, IsSession, HasServed, IsApplied, HasApplied, HasReported, HasMeasured, HasUpgraded, done_of}
-
--- what an opening that succeeds promises
-pub record IsOpened {D : Type 0} (g : Ghosts D) (old : D) (store : Store D g) : Type 0 where
-  pub size : g.size (disk_of store) ≡ g.size old
-  pub writes : g.writes (disk_of store) ≡ g.writes old
-  pub later : g.failures old ≤ g.failures (disk_of store)
-  pub nothing : g.honest (disk_of store) → AddsNothing g old (disk_of store)
-  pub works : has_failed store ≡ false
-  pub at : g.honest (disk_of store) → (side capacity : ℕ) (a b : Contents)
-      → ((image : Image) → g.may old image → StandsFor (g.size old) side capacity image a ⊎ StandsFor (g.size old) side capacity image b)
-      → (side_of store ≡ side) × ((capacity_of store ≡ capacity) × (IsAt g store (working a) ⊎ IsAt g store (working b)))
+use Rattle.server.specs.Openings.{IsOpened}
+use Rattle.server.specs.OnDisks.{StandsForEither, HoldsEither, WasRead, IsClosed, GoesFrom, LeavesLater, IsSession, HasServed, IsApplied, HasApplied, HasReported, HasMeasured, HasUpgraded, done_of}
 
 -- where the store was found
 pub record IsFound {D : Type 0} (g : Ghosts D) (store : Store D g) (side capacity : ℕ) (a b : Contents) : Type 0 where
@@ -56,6 +47,19 @@ pub record IsFound {D : Type 0} (g : Ghosts D) (store : Store D g) (side capacit
 module _ {D : Type 0} (g : Ghosts D) where
   store_at : (store : Store D g) (s : State) → IsAt g store s → IsStoreAt g store s
   store_at store s at = record { at = at; same_side = at.in_state.side_is }
+
+  -- how an opening ends
+  pub opens : (old : D) (result : Result (Store D g) _) → g.size (disk_after result) ≡ g.size old → g.writes (disk_after result) ≡ g.writes old → g.failures old ≤ g.failures (disk_after result)
+      → IfErr result (λ e. e.refusal ≡ Device → HasRisen (g.failures old) (g.failures e.disk))
+      → (g.honest (disk_after result) → AddsNothing g old (disk_after result))
+      → IfOk result (λ store. has_failed store ≡ false)
+      → (g.honest (disk_after result) → (side capacity : ℕ) (a b : Contents) → HoldsEither g old side capacity a b
+      → IfOk result (λ store. (side_of store ≡ side) × ((capacity_of store ≡ capacity) × (IsAt g store (working a) ⊎ IsAt g store (working b)))))
+      → (g.honest (disk_after result) → (side capacity : ℕ) (a b : Contents) → HoldsEither g old side capacity a b → IfErr result (λ e. (e.refusal ≡ Device) ⊎ (e.refusal ≡ NoMemory)))
+      → (g.honest (disk_after result) → IfErr result (λ e. MayRefuse (g.size old) (g.seen old) e.refusal))
+      → IfOk result (IsOpened g old) × IfErr result (λ e. IsClosed g old e.disk e.refusal)
+  opens old (Ok store) size writes later device nothing works at sure refused = (record { size = size; writes = writes; later = later; nothing = nothing; works = works; at = at }, tt)
+  opens old (Err e) size writes later device nothing works at sure refused = (tt, record { read = record { size = size; writes = writes; later = later; nothing = nothing }; device = device; reason = refused; sure = sure })
 
   pub was_read : (old : D) (store : Store D g) → IsOpened g old store → WasRead g old (disk_of store)
   was_read old store opened = record { size = opened.size; writes = opened.writes; later = opened.later; nothing = opened.nothing }

@@ -3,6 +3,7 @@ pub mod Endings
 pub mod Files
 pub mod Following
 pub mod OnDisks
+pub mod Openings
 pub mod Places
 pub mod Program
 pub mod Report

@@ -3,11 +3,13 @@ ghost use Rattle.std.specs.Prelude.{◌≡◌, IfErr, IfOk};
 ghost use Rattle.store.specs.Stores.{root_of};
 ghost use Rattle.store.specs.Upgraded.{HasUpgraded as Upgraded};
 ghost use Rattle.server.specs.OnDisks.{ChecksStore, GrowsAndUpgrades, HasMeasured, ImportsTile, IsClosed, MakesStore, RunsGrown, ServesLines, UpgradesStore, done_of};
+ghost use Rattle.server.specs.Openings.{IsOpened};
 ghost use Rattle.server.specs.Places.{Accessing};
 
 use crate::exit::{end_command, end_format, end_report, end_session, refuse, write_message};
 use crate::places::{Lengthen, Places, TileFault};
 use crate::reporting::report;
+use cow_tree::NotOpened;
 use disk::Disk;
 use edits::{Bytes, Command};
 use engine::Engine;
@@ -16,6 +18,14 @@ use serving::{Output, serve};
 use std::alloc::Global;
 use std::io::Read;
 use store::Store;
+
+// Opens the store on a disk, or hands the disk back with the refusal.
+fn open_store<D: Disk>(alloc: Global, disk: D) -> Result<Store<D>, NotOpened<D>>
+    ensures opened { IfOk result (IsOpened D.Disk disk) }
+    ensures refused { IfErr result (λ refused. IsClosed D.Disk disk refused.disk refused.refusal) }
+{
+    Store::open(alloc, disk)
+}
 
 /// Makes a disk a store without tiles. It hands the disk back, with the exit status.
 pub fn make_store<D: Disk, O: Output>(disk: D, side: u32, capacity: u32, writer: &mut O) -> (D, u8)
@@ -38,7 +48,7 @@ pub fn import_tile<P: Places, O: Output>(
 ) -> (P::File, u8)
     ensures { Accessing P.accessed places.old places.new (λ accesses. ImportsTile P.File.Disk corner tile.now accesses disk result.0 (O.stream writer.old) (O.stream writer.new) result.1) }
 {
-    let mut store = match Store::open(alloc, disk) {
+    let mut store = match open_store(alloc, disk) {
         Ok(store) => store,
         Err(refused) => return (refused.disk, refuse(writer, refused.refusal)),
     };
@@ -69,7 +79,7 @@ pub fn serve_store<D: Disk, R: Read, O: Output>(
 ) -> (D, u8)
     ensures { ServesLines D.Disk disk result.0 (R.remaining reader.old) (R.remaining reader.new) (O.stream writer.old) (O.stream writer.new) result.1 }
 {
-    let mut store = match Store::open(alloc, disk) {
+    let mut store = match open_store(alloc, disk) {
         Ok(store) => store,
         Err(refused) => return (refused.disk, refuse(writer, refused.refusal)),
     };
@@ -82,7 +92,7 @@ pub fn measure_store<D: Disk>(alloc: Global, disk: D) -> (D, Result<u32, Refusal
     ensures measured { IfOk result.1 (HasMeasured D.Disk disk result.0) }
     ensures refused { IfErr result.1 (IsClosed D.Disk disk result.0) }
 {
-    match Store::open(alloc, disk) {
+    match open_store(alloc, disk) {
         Ok(store) => {
             let sectors = store.sectors_to_upgrade();
             (store.into_disk(), Ok(sectors))
@@ -126,7 +136,7 @@ fn upgrade_grown<D: Disk + Lengthen, O: Output>(
 pub fn upgrade_store<D: Disk, O: Output>(alloc: Global, disk: D, writer: &mut O) -> (D, u8)
     ensures { UpgradesStore D.Disk disk result.0 (O.stream writer.old) (O.stream writer.new) result.1 }
 {
-    let mut store = match Store::open(alloc, disk) {
+    let mut store = match open_store(alloc, disk) {
         Ok(store) => store,
         Err(refused) => return (refused.disk, refuse(writer, refused.refusal)),
     };
@@ -148,7 +158,7 @@ fn upgrade_counted<D: Disk>(store: &mut Store<D>) -> Result<u64, Refusal>
 pub fn check_store<D: Disk, O: Output>(alloc: Global, disk: D, writer: &mut O) -> (D, u8)
     ensures { ChecksStore D.Disk disk result.0 (O.stream writer.old) (O.stream writer.new) result.1 }
 {
-    let mut store = match Store::open(alloc, disk) {
+    let mut store = match open_store(alloc, disk) {
         Ok(store) => store,
         Err(refused) => return (refused.disk, refuse(writer, refused.refusal)),
     };

@@ -6,7 +6,7 @@ use Rattle.server.specs.OnDisks.{HasApplied, WasRead, most_bytes}
 use Rattle.server.specs.Places.{Reads}
 use Rattle.server.specs.declared.places.TileFault.{TileFault}
 use Rattle.server.specs.declared.places.TileFault.TheVariants as fault
-use Rattle.server.proofs.OnStores.{IsOpened, has_applied, was_read}
+use Rattle.server.proofs.OnStores.{has_applied, was_read}
 use Rattle.server.proofs.disks.import_tile.Goals as goal
 
 pub returns-in-Err : goal.returns-in-Err
@@ -17,12 +17,7 @@ returns-in-Err g c = (
     refl,
     (
       c.in-Err.refused.refusal,
-      record {
-        read = record { size = c.in-Err.ensures.size; writes = c.in-Err.ensures.writes; later = c.in-Err.ensures.later; nothing = c.in-Err.ensures.nothing };
-        device = c.in-Err.ensures.device;
-        reason = c.in-Err.ensures.refused;
-        sure = c.in-Err.ensures.sure;
-      },
+      c.in-Err.ensures.refused,
       c.refuse.ensures,
     ),
   ),
@@ -30,14 +25,7 @@ returns-in-Err g c = (
 
 pub returns-in-Err-Unreadable : goal.returns-in-Err-Unreadable
 returns-in-Err-Unreadable g c =
-    let opened : IsOpened g.P.File.Disk c.args.disk c.in-Ok.store = record {
-      size = c.in-Ok.ensures.size;
-      writes = c.in-Ok.ensures.writes;
-      later = c.in-Ok.ensures.later;
-      nothing = c.in-Ok.ensures.nothing;
-      works = c.in-Ok.ensures.works;
-      at = c.in-Ok.ensures.at;
-    } in
+    let opened = c.in-Ok.ensures.opened in
     let read = was_read g.P.File.Disk c.args.disk c.in-Ok.store opened in
     let most : c.file_bytes.result + 1 ≡ most_bytes (side_of c.in-Ok.store) = ap (λ (n : ℕ). n + 1) (c.file_bytes.ensures.value ∙ ap (λ (n : ℕ). 2 * (n * n)) c.tile_side.ensures) in
     let told = subst (λ (about : List ℕ). Tells (codes "mosaic: cannot read " ++ about) (g.O.Output.stream c.args.writer.now) (g.O.Output.stream c.write_message-status.new.writer) c.write_message-status.result)
@@ -60,14 +48,7 @@ returns-in-Err-Unreadable g c =
 
 pub returns-in-Err-NoMemory : goal.returns-in-Err-NoMemory
 returns-in-Err-NoMemory g c =
-    let opened : IsOpened g.P.File.Disk c.args.disk c.in-Ok.store = record {
-      size = c.in-Ok.ensures.size;
-      writes = c.in-Ok.ensures.writes;
-      later = c.in-Ok.ensures.later;
-      nothing = c.in-Ok.ensures.nothing;
-      works = c.in-Ok.ensures.works;
-      at = c.in-Ok.ensures.at;
-    } in
+    let opened = c.in-Ok.ensures.opened in
     let read = was_read g.P.File.Disk c.args.disk c.in-Ok.store opened in
     let most : c.file_bytes.result + 1 ≡ most_bytes (side_of c.in-Ok.store) = ap (λ (n : ℕ). n + 1) (c.file_bytes.ensures.value ∙ ap (λ (n : ℕ). 2 * (n * n)) c.tile_side.ensures) in (
       Reads c.args.tile.now (c.file_bytes.result + 1) (Err fault.NoMemory) ∷ [],
@@ -88,14 +69,7 @@ returns-in-Err-NoMemory g c =
 
 pub returns : goal.returns
 returns g c =
-    let opened : IsOpened g.P.File.Disk c.args.disk c.in-Ok.store = record {
-      size = c.in-Ok.ensures.size;
-      writes = c.in-Ok.ensures.writes;
-      later = c.in-Ok.ensures.later;
-      nothing = c.in-Ok.ensures.nothing;
-      works = c.in-Ok.ensures.works;
-      at = c.in-Ok.ensures.at;
-    } in
+    let opened = c.in-Ok.ensures.opened in
     let bytes = c.new-bytes.result in
     let most : c.file_bytes.result + 1 ≡ most_bytes (side_of c.in-Ok.store) = ap (λ (n : ℕ). n + 1) (c.file_bytes.ensures.value ∙ ap (λ (n : ℕ). 2 * (n * n)) c.tile_side.ensures) in
     let applied = has_applied g.P.File.Disk c.args.disk c.in-Ok.store c.apply-applied.new.self (Import c.args.corner bytes) c.apply-applied.result opened c.apply-applied.ensures in (

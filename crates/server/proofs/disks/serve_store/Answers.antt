@@ -2,7 +2,7 @@ use Rattle.std.proofs.Common.{inl, inr, refl, sym, ◌∙◌, ap, subst}
 use Rattle.store.specs.Stores.{disk_of}
 use Rattle.server.specs.OnDisks.{HasServed}
 use Rattle.server.specs.Sessions.{TellsCall}
-use Rattle.server.proofs.OnStores.{IsOpened, has_served}
+use Rattle.server.proofs.OnStores.{has_served}
 use Rattle.server.proofs.Sessions.{outcome}
 use Rattle.server.proofs.disks.serve_store.Goals as goal
 
@@ -12,26 +12,14 @@ returns-in-Err g c =
       refl,
       (
         c.in-Err.refused.refusal,
-        record {
-          read = record { size = c.in-Err.ensures.size; writes = c.in-Err.ensures.writes; later = c.in-Err.ensures.later; nothing = c.in-Err.ensures.nothing };
-          device = c.in-Err.ensures.device;
-          reason = c.in-Err.ensures.refused;
-          sure = c.in-Err.ensures.sure;
-        },
+        c.in-Err.ensures.refused,
         c.refuse.ensures,
       ),
     )
 
 pub returns : goal.returns
 returns g c =
-    let opened : IsOpened g.D.Disk c.args.disk c.in-Ok.store = record {
-      size = c.in-Ok.ensures.size;
-      writes = c.in-Ok.ensures.writes;
-      later = c.in-Ok.ensures.later;
-      nothing = c.in-Ok.ensures.nothing;
-      works = c.in-Ok.ensures.works;
-      at = c.in-Ok.ensures.at;
-    } in
+    let opened = c.in-Ok.ensures.opened in
     let (stores, (last, serves)) = c.serve-served.ensures.calls in
     let answers = outcome _ (TellsCall g.D.Disk) (g.R.Read.remaining c.args.reader.now) (g.R.Read.remaining c.serve-served.new.reader) (g.O.Output.stream c.args.writer.now).contents (g.O.Output.stream c.serve-served.new.writer).contents
     c.in-Ok.store stores c.serve-served.result serves.answers (λ s i text t told. record { replied = told.replied; done = told.done; fault = told.fault; blamed = told.blamed }) in
