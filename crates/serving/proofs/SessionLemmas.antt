@@ -1,4 +1,4 @@
--- Items that are heard one after another, and what is written for them.
+-- Items that are read one after another, and what is written for them.
 use Rattle.std.proofs.Common.{◌≡◌, ◌≢◌, ℕ, List, [], ◌∷◌, ◌++◌, length, Option, Some, None, refl, sym, ap, ◌∙◌, subst, append_assoc, arith, inl, inr, ◌⊎◌, ◌<◌}
 use Rattle.std.specs.Prelude.{IfSome, flat_map, All, Contains, Result, Ok, Err, Vec, option_map, nat_le, if◌then◌else◌, Bool, true, false}
 use Rattle.std.specs.declared.alloc.Global.{Global}

@@ -16,7 +16,7 @@ abbrev pub Stored : {A : Type 0} → Option (Vec ℕ A) → List ℕ → Type 0
 Stored None bytes = Unit {0}
 Stored (Some v) bytes = v.items ≡ bytes
 
--- the item that is kept is this one that was heard
+-- the item that is kept is this one that was read
 pub record Holds (kept : KeptItem) (i : Item) : Type 0 where
   pub asked : option_map asked kept.request ≡ i.asked
   pub payload : Stored kept.payload i.payload

@@ -1,4 +1,4 @@
-//! Hears items, one after another: a line, or an import line with its payload.
+//! Reads items, one after another: a line, or an import line with its payload.
 ghost use Rattle.std.specs.Prelude.{◌≡◌, ◌≢◌, ◌≤◌, ◌<◌, ◌⊎◌, ℕ, List, [], length, OnOk, OnErr, IfOk, Option, Some, option_map, IsTrue, ◌↔◌};
 ghost use Rattle.std.specs.Io.KnownBytes.{IsAtEnd};
 ghost use Rattle.lines.specs.Ahead.{Taken, weight};
@@ -39,7 +39,7 @@ fn payload_len(request: &Option<Request<'_>>) -> u32
 }
 
 /// Reads a payload, and keeps it where it has a tile's length and there is room.
-fn hear_payload<R: Read>(
+fn read_or_skip_payload<R: Read>(
     alloc: Global,
     tile_len: u32,
     len: u32,
@@ -86,7 +86,13 @@ pub(crate) fn read_item<'a, R: Read>(
 {
     let request = request_in(line);
     let (payload, extent) = match fed {
-        Extent::Whole => hear_payload(alloc, tile_len, payload_len(&request), ahead, reader)?,
+        Extent::Whole => read_or_skip_payload(
+            alloc,
+            tile_len,
+            payload_len(&request),
+            ahead,
+            reader,
+        )?,
         Extent::Cut => (None, Extent::Cut),
     };
     Ok(KeptItem {
@@ -103,7 +109,7 @@ pub(crate) fn is_over(fed: Extent, line: &Line) -> bool
     fed == Extent::Cut && line.is_empty()
 }
 
-/// Whether no further item is heard after this one.
+/// Whether no further item is read after this one.
 pub fn is_last(item: &KeptItem<'_>) -> bool
     ensures { IsTrue result ↔ ((item.now.extent ≡ Extent.Cut) ⊎ (option_map asked item.now.request ≡ Some AskQuit)) }
 {

@@ -1,4 +1,4 @@
-//! Serves items, one after another: each is heard, answered, and its reply written.
+//! Serves items, one after another: each is read, answered, and its reply written.
 ghost use Rattle.std.specs.Prelude.{◌≡◌, ◌<◌, List, [], Ok, Err};
 ghost use Rattle.engine.specs.Runs.{last_of};
 ghost use Rattle.lines.specs.Ahead.{to_come, weight};
@@ -26,14 +26,14 @@ pub enum ServeFault {
     Output,
 }
 
-/// Whether more items are to be heard.
+/// Whether more items are to be read.
 #[derive(Clone, Copy, Debug, PartialEq, Eq)]
 enum Next {
     More,
     End,
 }
 
-/// Hears an item, answers it and writes the reply.
+/// Reads an item, answers it and writes the reply.
 fn step<R: Read, O: Output, E: Engine>(
     alloc: Global,
     ahead: &mut Ahead,

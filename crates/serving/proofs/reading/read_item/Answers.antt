@@ -4,15 +4,15 @@ use Rattle.lines.specs.declared.source.Extent.TheVariants.{Whole, Cut}
 use Rattle.lines.specs.Requests.{asked}
 use Rattle.serving.proofs.SessionLemmas.{holds_whole, holds_cut, nothing_taken}
 use Rattle.serving.proofs.reading.read_item.Goals as goal
-use Rattle.serving.proofs.reading.read_item.Goals.{in-Whole+in_ok-hear_payload-in-Whole, in-Cut}
+use Rattle.serving.proofs.reading.read_item.Goals.{in-Whole+in_ok-read_or_skip_payload-in-Whole, in-Cut}
 
 pub returns-clause-ok : goal.returns-clause-ok
 returns-clause-ok g c = λ text is line some.
     let request = c.request_in-request.result in
     let right = c.request_in-request.ensures text is in
     elim c.match-fed.branch [
-      | in-Whole+in_ok-hear_payload-in-Whole w ↦
-          let came = w.in_ok-hear_payload-in-Whole.ensures.ok in
+      | in-Whole+in_ok-read_or_skip_payload-in-Whole w ↦
+          let came = w.in_ok-read_or_skip_payload-in-Whole.ensures.ok in
           let fed : c.args.fed ≡ Whole = search rules in
           rw (w.payload-is, w.ahead-is, w.reader-is)
           (record { line = text; fed = Whole; asked = option_map asked request; payload = came.0 }, holds_whole text request _ _ came.0 line (rw fed at some) right came.1 (rw w.payload_len.ensures at came.2), refl, sym fed, came.3)
