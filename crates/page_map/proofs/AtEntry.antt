@@ -1,15 +1,16 @@
--- A page_map whose entry at an index changes.
-use Rattle.std.proofs.Common.{Bor, ◌≡◌, ℕ, suc, ◌+◌, ◌/◌, ◌<◌, ◌≤◌, true, List, ◌∷◌, ◌++◌, length, take, drop, get_or, set, map, if◌then◌else◌, refl, sym, ap, subst, ◌∙◌, arith}
+-- A page_map where the planes of a corner change.
+use Rattle.std.proofs.Common.{Bor, ◌≡◌, ℕ, ◌+◌, ◌/◌, ◌<◌, ◌≤◌, true, List, ◌∷◌, ◌++◌, length, map, if◌then◌else◌, refl, sym, ap, subst, ◌∙◌, arith}
 use Rattle.std.specs.Prelude.{IfNone, option_and_then, option_copied, Option, Some, None, IsSome, IfSome, Contains, Result, IfOk, OnOk, OnErr}
-use Rattle.std.proofs.lemmas.List.{length-set, set_split}
-use Rattle.std.proofs.lemmas.Result.{IfOk-weaker, on_ok_weaker}
+use Rattle.std.proofs.lemmas.List.{length-set}
+use Rattle.std.proofs.lemmas.Map.Steps.{set_value_same}
+use Rattle.std.proofs.lemmas.Result.{IfOk-weaker, on_err_weaker, on_ok_weaker}
 use Rattle.lattice.specs.Corners.{Corner}
 use Rattle.lattice.specs.declared.refusal.Refusal.{Refusal}
 use Rattle.lattice.proofs.Rising.{Rising, rising_from}
 use Rattle.page_codec.specs.Sizes.{pages_of}
 use Rattle.page_codec.specs.Formats.{Format}
 use Rattle.std.specs.FinSet.{len}
-use Rattle.page_map.specs.FreePages.{FreePages, free_times, AreBalanced, AreInUse}
+use Rattle.page_map.specs.FreePages.{FreePages, PageRange, free_times, AreBalanced, AreInUse}
 use Rattle.page_map.specs.declared.plane.Plane.{Plane}
 use Rattle.page_map.specs.declared.plane_entry.PlaneEntry.{PlaneEntry}
 use Rattle.page_map.specs.declared.plane_entry.Staged.{Staged}
@@ -20,7 +21,7 @@ use Rattle.page_map.specs.PlaneEntries.{behind_at, fresh_as, fresh_in, is_fresh,
 use Rattle.page_map.specs.Planes.{HasPlane, HasPlaneAt, plane_of}
 use Rattle.page_map.specs.TileLocations.{TileLocation, reached}
 use Rattle.page_map.specs.PageMaps.{PageMapValue, IsFresh, IsLocated, HasFreshHeights, IsPrepared, IsRewritten, is_at, tile_at}
-use Rattle.page_map.specs.TileEntries.{committed_tile, committed_tiles, fresh_kept, named_plane, page_map_of, staged_tile, staged_tiles, tile_of, tile_planes, used_pages, AreTogether, IsEntryAt, IsKept, IsRoomAt, IsSound}
+use Rattle.page_map.specs.TileEntries.{committed_tile, committed_tiles, fresh_kept, is_at_corner, named_plane, page_map_of, planes_at, staged_tile, staged_tiles, tile_of, tile_planes, used_pages, with_planes, AreTogether, Entry, IsKept, IsSound}
 use Rattle.page_map.proofs.Times.{one-self, times-append, member_of_times}
 use Rattle.page_map.proofs.FreeTimes.{balanced-append, balanced_same, page_le}
 use Rattle.page_map.proofs.PlaneChanges.{behind_le, used_balanced, used_split}
@@ -28,7 +29,7 @@ use Rattle.page_map.proofs.Refused.{done_or_not}
 use Rattle.page_map.proofs.Room.{room_for_heights}
 use Rattle.page_map.proofs.EntryLists.{corner_of, entry_in_use, pages_of_location, reached_all, times-split, used_parts}
 use Rattle.page_map.proofs.EntryChanges.{all_middle, entry_fresh, kept_unchanged, made_kept, made_page_map, no_more_kept, staged_corner}
-use Rattle.page_map.proofs.Lookup.{lies, lies_there, located_here, not_located, plane_staged, room_other, split_of, tile_here, tile_is}
+use Rattle.page_map.proofs.Lookup.{lies, lies_there, located_here, plane_staged, there, tile_here, tile_is}
 
 pub some_heights : (c : Corner) (h l m : Option PlaneLocation) → IsSome (tile_of c h l m) → IsSome h
 some_heights c None l m some = some
@@ -40,43 +41,34 @@ together_some a b None (Some m) together = absurd together
 together_some a b (Some l) None together = absurd together
 together_some a b (Some l) (Some m) together = tt
 
-pub no_entry : (c : Corner) (at : ℕ) (entries : List TileEntry) → IsRoomAt c at entries → IsLocated c (staged_tiles entries) → ⊥
-no_entry c at entries room located = not_located c (staged_tiles entries) (room_other c at entries room) located
+module _ (format : Format) (entries : List Entry) (free : FreePages) (kept : IsKept format entries free) (c : Corner) (s : TileEntry) (found : planes_at c entries ≡ Some s) where
+  abbrev before : List Entry
+  before = (there c entries s found).before
 
-module _ (format : Format) (entries : List TileEntry) (free : FreePages) (kept : IsKept format entries free) (c : Corner) (at : ℕ) (found : IsEntryAt c at entries) (s : TileEntry) (is : s ≡ get_or entries at s) where
-  abbrev before : List TileEntry
-  before = take at entries
+  abbrev after : List Entry
+  after = (there c entries s found).after
 
-  abbrev after : List TileEntry
-  after = drop (suc at) entries
+  pub split : entries ≡ before ++ (c, s) ∷ after
+  split = (there c entries s found).split
 
-  pub split : entries ≡ before ++ s ∷ after
-  split = split_of entries at s found.below is
+  pub kept_there : IsKept format (before ++ (c, s) ∷ after) free
+  kept_there = subst (λ (l : List Entry). IsKept format l free) split kept
 
-  pub corner : s.corner ≡ c
-  corner = ap (λ (x : TileEntry). x.corner) is ∙ found.here s
+  pub rising_there : Rising corner_of (before ++ (c, s) ∷ after)
+  rising_there = rising_from corner_of (before ++ (c, s) ∷ after) kept_there.in_order
 
-  pub kept_there : IsKept format (before ++ s ∷ after) free
-  kept_there = subst (λ (l : List TileEntry). IsKept format l free) split kept
+  pub present : IsLocated c (staged_tiles entries) → IsSome (staged_tile (c, s))
+  present located = located_here before (c, s) after rising_there (subst (λ (l : List Entry). IsLocated c (staged_tiles l)) split located)
 
-  pub rising_there : Rising corner_of (before ++ s ∷ after)
-  rising_there = rising_from corner_of (before ++ s ∷ after) kept_there.in_order
-
-  pub present_there : IsLocated c (staged_tiles entries) → IsLocated s.corner (staged_tiles (before ++ s ∷ after))
-  present_there located = subst (λ (d : Corner). IsLocated d (staged_tiles (before ++ s ∷ after))) (sym corner) (subst (λ (l : List TileEntry). IsLocated c (staged_tiles l)) split located)
-
-  pub present : IsLocated c (staged_tiles entries) → IsSome (staged_tile s)
-  present located = located_here before s after rising_there (present_there located)
-
-  pub sound : IsSound format s
-  sound = all_middle (IsSound format) before s after kept_there.sound
+  pub sound : IsSound format (c, s)
+  sound = all_middle (IsSound format) before (c, s) after kept_there.sound
 
   pub in_use : AreInUse (used_pages s) free
-  in_use = entry_in_use before s after free kept_there.counted
+  in_use = entry_in_use before (c, s) after free kept_there.counted
 
   -- ---- its heights
   pub heights_present : IsLocated c (staged_tiles entries) → IsSome (staged_plane s.heights)
-  heights_present located = some_heights s.corner (staged_plane s.heights) (staged_plane s.levels) (staged_plane s.labels) (present located)
+  heights_present located = some_heights c (staged_plane s.heights) (staged_plane s.levels) (staged_plane s.labels) (present located)
 
   pub index_within : (i : ℕ) → i < pages_of format.side → IfSome (staged_plane s.heights) (λ l. i < length l.pages)
   index_within i below = by (staged_plane s.heights) sound.heights.staged
@@ -89,70 +81,75 @@ module _ (format : Format) (entries : List TileEntry) (free : FreePages) (kept :
   apart p = omega (arith, in_use p, page_le free.range p, behind_le p s.heights.committed, used_split p s.heights, used_parts p s)
 
   pub room : HasRoom s.heights (len free.free)
-  room = room_for_heights format before s after free kept_there sound
+  room = room_for_heights format before (c, s) after free kept_there sound
 
   pub staged_before : HasFreshHeights c (page_map_of format entries free) → is_fresh s.heights ≡ true
   staged_before (t, there) =
-      let among : Contains (staged_tiles (before ++ s ∷ after)) t = subst (λ (l : List TileEntry). Contains (staged_tiles l) t) split there.0 in
-      by s.heights.committed s.heights.staged (tile_is before s after rising_there t among (there.1 ∙ sym corner))
+      let among : Contains (staged_tiles (before ++ (c, s) ∷ after)) t = subst (λ (l : List Entry). Contains (staged_tiles l) t) split there.0 in
+      by s.heights.committed s.heights.staged (tile_is before (c, s) after rising_there t among there.1)
       (λ h (here : s.heights.committed ≡ Some h). member_of_times (reached (committed_tiles entries)) h.record_page (
       let r = h.record_page in
-      let whole = ap (λ (l : List TileEntry). times r (reached (committed_tiles l))) split ∙ ap (times r) (reached_all committed_tile (before ++ s ∷ after)) in
-      let own = ap (λ (o : Option PlaneLocation). times r (pages_of_location (tile_of s.corner o s.levels.committed s.labels.committed))) here in
-      omega (arith, whole, own, times-split (λ (x : TileEntry). pages_of_location (committed_tile x)) r before s after, one-self r)))
+      let whole = ap (λ (l : List Entry). times r (reached (committed_tiles l))) split ∙ ap (times r) (reached_all committed_tile (before ++ (c, s) ∷ after)) in
+      let own = ap (λ (o : Option PlaneLocation). times r (pages_of_location (tile_of c o s.levels.committed s.labels.committed))) here in
+      omega (arith, whole, own, times-split (λ (x : Entry). pages_of_location (committed_tile x)) r before (c, s) after, one-self r)))
     where
-      by : (o : Option PlaneLocation) (g : Staged) → tile_of s.corner (staged_as o g) (staged_plane s.levels) (staged_plane s.labels) ≡ Some t
+      by : (o : Option PlaneLocation) (g : Staged) → tile_of c (staged_as o g) (staged_plane s.levels) (staged_plane s.labels) ≡ Some t
           → ((h : PlaneLocation) → o ≡ Some h → Contains (reached (committed_tiles entries)) h.record_page) → is_fresh_as g ≡ true
       by None AsCommitted had reaches = cc
       by (Some h) AsCommitted had reaches =
-          let same : tile_at s.corner (tile_planes h (staged_plane s.levels) (staged_plane s.labels)) ≡ t = cc in
+          let same : tile_at c (tile_planes h (staged_plane s.levels) (staged_plane s.labels)) ≡ t = cc in
           absurd (there.2.unreached (subst (Contains (reached (committed_tiles entries))) (ap (λ (u : TileLocation). u.heights.record_page) same) (reaches h refl)))
       by o Dropped had reaches = cc
       by o (Fresh l) had reaches = refl
 
   -- ---- its planes
   module _ (plane : Plane) where
-    same_plane : option_and_then (plane_of plane) (staged_tile s) ≡ staged_plane (named_plane plane s)
-    same_plane = plane_staged format plane s sound
+    same_plane : option_and_then (plane_of plane) (staged_tile (c, s)) ≡ staged_plane (named_plane plane s)
+    same_plane = plane_staged format plane (c, s) sound
 
     pub plane_found : (r : Option (Bor PlaneLocation)) → option_copied r ≡ staged_plane (named_plane plane s) → IfSome r (λ location. HasPlaneAt (staged_tiles entries) c plane location.now)
     plane_found None same = tt
-    plane_found (Some location) same = by (staged_tile s) refl (same ∙ sym same_plane)
+    plane_found (Some location) same = by (staged_tile (c, s)) refl (same ∙ sym same_plane)
       where
-        by : (o : Option TileLocation) → staged_tile s ≡ o → Some location.now ≡ option_and_then (plane_of plane) o → HasPlaneAt (staged_tiles entries) c plane location.now
+        by : (o : Option TileLocation) → staged_tile (c, s) ≡ o → Some location.now ≡ option_and_then (plane_of plane) o → HasPlaneAt (staged_tiles entries) c plane location.now
         by None had lies_at = cc
         by (Some t) had lies_at = (
           t,
           (
-            subst (λ (l : List TileEntry). Contains (staged_tiles l) t) (sym split) (tile_here before s after rising_there t had),
-            (staged_corner before s after rising_there t had ∙ corner, lies_there plane t location.now lies_at),
+            subst (λ (l : List Entry). Contains (staged_tiles l) t) (sym split) (tile_here before (c, s) after rising_there t had),
+            (staged_corner before (c, s) after rising_there t had, lies_there plane t location.now lies_at),
           ),
         )
 
     -- the corner's plane is the entry's
     pub plane_at : (location : PlaneLocation) → HasPlaneAt (staged_tiles entries) c plane location → staged_plane (named_plane plane s) ≡ Some location
     plane_at location (t, (there, (at_corner, lies_at))) =
-        let had : staged_tile s ≡ Some t = tile_is before s after rising_there t (subst (λ (l : List TileEntry). Contains (staged_tiles l) t) split there) (at_corner ∙ sym corner) in
+        let had : staged_tile (c, s) ≡ Some t = tile_is before (c, s) after rising_there t (subst (λ (l : List Entry). Contains (staged_tiles l) t) split there) at_corner in
         sym same_plane ∙ (ap (option_and_then (plane_of plane)) had ∙ lies plane t location lies_at)
 
     pub plane_none : (r : Option (Bor PlaneLocation)) → option_copied r ≡ staged_plane (named_plane plane s) → IfNone r (¬ HasPlane (staged_tiles entries) c plane)
     plane_none (Some location) same = tt
     plane_none None same = λ (t, (there, (at_corner, (location, lies_at)))). (let no : None ≡ Some location = same ∙ plane_at location (t, (there, (at_corner, lies_at))) in cc)
 
-  -- ---- another entry in its place
-  module _ (new : TileEntry) (now : FreePages) where
-    pub set_is : set entries at new ≡ before ++ new ∷ after
-    set_is = set_split entries at new found.below
+  -- ---- other planes in their place
+  module _ (new : TileEntry) (now : FreePages) (put : List Entry) (puts : put ≡ with_planes c new entries) where
+    pub put_is : put ≡ before ++ (c, new) ∷ after
+    put_is = puts ∙ (there c entries s found).puts new
 
-    pub kept_as_set : IsKept format (before ++ new ∷ after) now → IsKept format (set entries at new) now
-    kept_as_set k = subst (λ (l : List TileEntry). IsKept format l now) (sym set_is) k
+    pub kept_as_put : IsKept format (before ++ (c, new) ∷ after) now → IsKept format put now
+    kept_as_put k = subst (λ (l : List Entry). IsKept format l now) (sym put_is) k
 
     -- what holds of the page_map where the entry is in the middle holds of them
-    pub at_page_map : (P : Corner → PageMapValue → PageMapValue → Type 0) → P s.corner (page_map_of format (before ++ s ∷ after) free) (page_map_of format (before ++ new ∷ after) now) → P c (page_map_of format entries free) (page_map_of format (set entries at new) now)
+    pub at_page_map : (P : PageMapValue → PageMapValue → Type 0) → P (page_map_of format (before ++ (c, s) ∷ after) free) (page_map_of format (before ++ (c, new) ∷ after) now) → P (page_map_of format entries free) (page_map_of format put now)
     at_page_map P here =
-        subst (λ (l : List TileEntry). P c (page_map_of format l free) (page_map_of format (set entries at new) now)) (sym split)
-        (subst (λ (l : List TileEntry). P c (page_map_of format (before ++ s ∷ after) free) (page_map_of format l now)) (sym set_is)
-        (subst (λ (d : Corner). P d (page_map_of format (before ++ s ∷ after) free) (page_map_of format (before ++ new ∷ after) now)) corner here))
+        subst (λ (l : List Entry). P (page_map_of format l free) (page_map_of format put now)) (sym split)
+        (subst (λ (l : List Entry). P (page_map_of format (before ++ (c, s) ∷ after) free) (page_map_of format l now)) (sym put_is) here)
+
+    -- the same planes change nothing
+    pub same_page_map : now.range ≡ free.range → new ≡ s → page_map_of format put now ≡ page_map_of format entries free
+    same_page_map range same =
+        ap (λ (l : List Entry). page_map_of format l now) (puts ∙ (ap (λ (x : TileEntry). with_planes c x entries) same ∙ set_value_same (is_at_corner c) entries s found))
+        ∙ ap (λ (r : PageRange). let v : PageMapValue = record { sectors = r.sectors; format = format; committed = committed_tiles entries; staged = staged_tiles entries } in v) range
 
   -- ---- other heights
   module _ (h : PlaneEntry) (now : FreePages) (same : h.committed ≡ s.heights.committed) (balanced : AreBalanced (fresh_in s.heights) (fresh_in h) free now) where
@@ -175,7 +172,7 @@ module _ (format : Format) (entries : List TileEntry) (free : FreePages) (kept :
       still_together =
           together_some location (made location) (staged_plane s.levels) (staged_plane s.labels) (subst (λ (o : Option PlaneLocation). AreTogether o (staged_plane s.levels) (staged_plane s.labels)) had sound.staged)
 
-      pub sound_made : IsSound format new
+      pub sound_made : IsSound format (c, new)
       sound_made = record {
         corner = sound.corner;
         heights = record {
@@ -189,30 +186,30 @@ module _ (format : Format) (entries : List TileEntry) (free : FreePages) (kept :
       }
 
       abbrev tile : TileLocation
-      tile = tile_at s.corner (tile_planes location (staged_plane s.levels) (staged_plane s.labels))
+      tile = tile_at c (tile_planes location (staged_plane s.levels) (staged_plane s.labels))
 
-      had_tile : staged_tile s ≡ Some tile
-      had_tile = ap (λ (o : Option PlaneLocation). tile_of s.corner o (staged_plane s.levels) (staged_plane s.labels)) had
+      had_tile : staged_tile (c, s) ≡ Some tile
+      had_tile = ap (λ (o : Option PlaneLocation). tile_of c o (staged_plane s.levels) (staged_plane s.labels)) had
 
-      has_tile : staged_tile new ≡ Some (make tile)
-      has_tile = ap (λ (o : Option PlaneLocation). tile_of s.corner o (staged_plane s.levels) (staged_plane s.labels)) has
+      has_tile : staged_tile (c, new) ≡ Some (make tile)
+      has_tile = ap (λ (o : Option PlaneLocation). tile_of c o (staged_plane s.levels) (staged_plane s.labels)) has
 
-      committed_still : committed_tile new ≡ committed_tile s
-      committed_still = ap (λ (o : Option PlaneLocation). tile_of s.corner o s.levels.committed s.labels.committed) same
+      committed_still : committed_tile (c, new) ≡ committed_tile (c, s)
+      committed_still = ap (λ (o : Option PlaneLocation). tile_of c o s.levels.committed s.labels.committed) same
 
-      pub heights_kept : IsKept format (before ++ new ∷ after) now
+      pub heights_kept : IsKept format (before ++ (c, new) ∷ after) now
       heights_kept =
-          made_kept format before s new after free now kept_there all_balanced refl committed_still tile make had_tile has_tile sound_made
-          (omega (arith, kept_there.kept_room, no_more_kept before s new after (omega arith)))
+          made_kept format before c s new after free now kept_there all_balanced committed_still tile make had_tile has_tile sound_made
+          (omega (arith, kept_there.kept_room, no_more_kept before (c, s) (c, new) after (omega arith)))
 
-      pub heights_page_map : page_map_of format (before ++ new ∷ after) now ≡ record (page_map_of format (before ++ s ∷ after) free) { staged = map (λ (u : TileLocation). if is_at s.corner u then make u else u) (staged_tiles (before ++ s ∷ after)) }
-      heights_page_map = made_page_map format before s new after free now kept_there all_balanced refl committed_still tile make had_tile has_tile
+      pub heights_page_map : page_map_of format (before ++ (c, new) ∷ after) now ≡ record (page_map_of format (before ++ (c, s) ∷ after) free) { staged = map (λ (u : TileLocation). if is_at c u then make u else u) (staged_tiles (before ++ (c, s) ∷ after)) }
+      heights_page_map = made_page_map format before c s new after free now kept_there all_balanced committed_still tile make had_tile has_tile
 
-      pub fresh_now : (p : ℕ) → 1 ≤ times p (fresh_in h) → IsFresh (page_map_of format (before ++ new ∷ after) now) p
-      fresh_now p some = entry_fresh format before new after now heights_kept p (omega (arith, some, times-append p (fresh_in h) (fresh_kept s)))
+      pub fresh_now : (p : ℕ) → 1 ≤ times p (fresh_in h) → IsFresh (page_map_of format (before ++ (c, new) ∷ after) now) p
+      fresh_now p some = entry_fresh format before (c, new) after now heights_kept p (omega (arith, some, times-append p (fresh_in h) (fresh_kept s)))
 
-    unchanged_kept : h ≡ s.heights → IsKept format (before ++ new ∷ after) now
-    unchanged_kept alike = kept_unchanged format before s new after free now kept_there all_balanced (ap (λ (x : PlaneEntry). let e : TileEntry = record s { heights = x } in e) alike)
+    unchanged_kept : h ≡ s.heights → IsKept format (before ++ (c, new) ∷ after) now
+    unchanged_kept alike = kept_unchanged format before c s new after free now kept_there all_balanced (ap (λ (x : PlaneEntry). let e : TileEntry = record s { heights = x } in e) alike)
 
     -- with a page that may be written
     module _ (i page : ℕ) (staged : IsPageRestaged i page s.heights h) where
@@ -225,10 +222,10 @@ module _ (format : Format) (entries : List TileEntry) (free : FreePages) (kept :
         pages = length-set (staged.location).pages i page ∙ whole.pages;
       }
 
-      page_kept : IsKept format (before ++ new ∷ after) now
+      page_kept : IsKept format (before ++ (c, new) ∷ after) now
       page_kept = heights_kept staged.location rewrite staged.had staged.has whole_moved
 
-      page_rewritten : IsRewritten s.corner i page (page_map_of format (before ++ s ∷ after) free) (page_map_of format (before ++ new ∷ after) now)
+      page_rewritten : IsRewritten c i page (page_map_of format (before ++ (c, s) ∷ after) free) (page_map_of format (before ++ (c, new) ∷ after) now)
       page_rewritten =
           let fresh = fresh_now staged.location rewrite staged.had staged.has whole_moved in
           let was = was_whole staged.location rewrite staged.had staged.has whole_moved in
@@ -241,14 +238,14 @@ module _ (format : Format) (entries : List TileEntry) (free : FreePages) (kept :
             changed = heights_page_map staged.location rewrite staged.had staged.has whole_moved;
           }
 
-    module _ (i : ℕ) (r : Result ℕ Refusal) (staged : IfOk r (λ page. IsPageRestaged i page s.heights h)) where
-      pub kept_rewritten : OnErr r (h ≡ s.heights) → IsKept format (set entries at new) now
-      kept_rewritten unchanged = kept_as_set new now (done_or_not r (page_kept i) unchanged_kept staged unchanged)
+    module _ (put : List Entry) (puts : put ≡ with_planes c new entries) (i : ℕ) (r : Result ℕ Refusal) (staged : IfOk r (λ page. IsPageRestaged i page s.heights h)) where
+      pub kept_rewritten : OnErr r (h ≡ s.heights) → IsKept format put now
+      kept_rewritten unchanged = kept_as_put new now put puts (done_or_not r (page_kept i) unchanged_kept staged unchanged)
 
-      pub is_rewritten : IfOk r (λ page. IsRewritten c i page (page_map_of format entries free) (page_map_of format (set entries at new) now))
+      pub is_rewritten : IfOk r (λ page. IsRewritten c i page (page_map_of format entries free) (page_map_of format put now))
       is_rewritten =
-          IfOk-weaker r (λ page. IsPageRestaged i page s.heights h) (λ page. IsRewritten c i page (page_map_of format entries free) (page_map_of format (set entries at new) now))
-          (λ page done. at_page_map new now (λ (d : Corner) (x y : PageMapValue). IsRewritten d i page x y) (page_rewritten i page done)) staged
+          IfOk-weaker r (λ page. IsPageRestaged i page s.heights h) (λ page. IsRewritten c i page (page_map_of format entries free) (page_map_of format put now))
+          (λ page done. at_page_map new now put puts (IsRewritten c i page) (page_rewritten i page done)) staged
 
     -- with a record on a page of its own
     module _ (staged : IsRecordRestaged s.heights h) where
@@ -261,10 +258,10 @@ module _ (format : Format) (entries : List TileEntry) (free : FreePages) (kept :
       whole_still : IsWholePlane format (staged.location) → IsWholePlane format (move staged.location)
       whole_still whole = record { index_pages = whole.index_pages; pages = whole.pages }
 
-      record_kept : IsKept format (before ++ new ∷ after) now
+      record_kept : IsKept format (before ++ (c, new) ∷ after) now
       record_kept = heights_kept staged.location move staged.had has_moved whole_still
 
-      record_prepared : IsPrepared s.corner (page_map_of format (before ++ s ∷ after) free) (page_map_of format (before ++ new ∷ after) now)
+      record_prepared : IsPrepared c (page_map_of format (before ++ (c, s) ∷ after) free) (page_map_of format (before ++ (c, new) ∷ after) now)
       record_prepared = record {
         record_page = staged.record_page;
         fresh_record = fresh_now staged.location move staged.had has_moved whole_still staged.record_page
@@ -272,9 +269,14 @@ module _ (format : Format) (entries : List TileEntry) (free : FreePages) (kept :
         changed = heights_page_map staged.location move staged.had has_moved whole_still;
       }
 
-    module _ (r : Result (Unit {0}) Refusal) (staged : OnOk r (IsRecordRestaged s.heights h)) where
-      pub kept_prepared : OnErr r (h ≡ s.heights) → IsKept format (set entries at new) now
-      kept_prepared unchanged = kept_as_set new now (done_or_not r (λ _. record_kept) unchanged_kept staged unchanged)
+    module _ (put : List Entry) (puts : put ≡ with_planes c new entries) where
+      module _ (r : Result (Unit {0}) Refusal) (staged : OnOk r (IsRecordRestaged s.heights h)) where
+        pub kept_prepared : OnErr r (h ≡ s.heights) → IsKept format put now
+        kept_prepared unchanged = kept_as_put new now put puts (done_or_not r (λ _. record_kept) unchanged_kept staged unchanged)
 
-      pub is_prepared : OnOk r (IsPrepared c (page_map_of format entries free) (page_map_of format (set entries at new) now))
-      is_prepared = on_ok_weaker r (λ done. at_page_map new now IsPrepared (record_prepared done)) staged
+        pub is_prepared : OnOk r (IsPrepared c (page_map_of format entries free) (page_map_of format put now))
+        is_prepared = on_ok_weaker r (λ done. at_page_map new now put puts (IsPrepared c) (record_prepared done)) staged
+
+      -- the same heights change nothing
+      pub same_heights : {A : Type 0} (r : Result A Refusal) → OnErr r (h ≡ s.heights) → OnErr r (page_map_of format put now ≡ page_map_of format entries free)
+      same_heights r unchanged = on_err_weaker r (λ alike. same_page_map new now put puts balanced.same_range (ap (λ (x : PlaneEntry). let e : TileEntry = record s { heights = x } in e) alike)) unchanged

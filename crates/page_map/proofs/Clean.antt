@@ -7,30 +7,29 @@ use Rattle.page_map.specs.FreePages.{FreePages}
 use Rattle.page_map.specs.Locations.{times}
 use Rattle.page_map.specs.PlaneEntries.{fresh_in, staged_plane}
 use Rattle.page_map.specs.TileLocations.{TileLocation, reached}
-use Rattle.page_map.specs.declared.tile_entry.TileEntry.{TileEntry}
-use Rattle.page_map.specs.TileEntries.{committed_tiles, fresh_kept, fresh_pages, staged_tile, staged_tiles, IsKept, IsSound}
+use Rattle.page_map.specs.TileEntries.{committed_tiles, fresh_by, fresh_kept, staged_tile, staged_tiles, Entry, IsKept, IsSound}
 use Rattle.page_map.proofs.Times.{times-append, empty_of_times}
 use Rattle.page_map.proofs.FreeTimes.{page_le}
 use Rattle.page_map.proofs.PlaneChanges.{fresh_le, nil_parts}
 use Rattle.page_map.proofs.EntryLists.{counted_tiles, fresh_parts, pages_of_location, reached_all, tile_times}
 
 -- the fresh pages of entries are their staged tiles'
-all_fresh_le : (format : Format) (p : ℕ) (entries : List TileEntry) → AllByRecursion (IsSound format) entries → times p (flat_map fresh_pages entries) ≤ times p (flat_map (λ s. pages_of_location (staged_tile s)) entries)
+all_fresh_le : (format : Format) (p : ℕ) (entries : List Entry) → AllByRecursion (IsSound format) entries → times p (flat_map fresh_by entries) ≤ times p (flat_map (λ s. pages_of_location (staged_tile s)) entries)
 all_fresh_le format p [] sound = omega arith
 all_fresh_le format p (s ∷ rest) sound =
-    let fresh = times-append p (fresh_pages s) (flat_map fresh_pages rest) in
+    let fresh = times-append p (fresh_by s) (flat_map fresh_by rest) in
     let staged = times-append p (pages_of_location (staged_tile s)) (flat_map (λ s. pages_of_location (staged_tile s)) rest) in
-    let tile = tile_times p s.corner (staged_plane s.heights) (staged_plane s.levels) (staged_plane s.labels) sound.0.staged in
-    omega (arith, fresh, staged, tile, fresh_parts p s, fresh_le p s.heights, fresh_le p s.levels, fresh_le p s.labels, all_fresh_le format p rest sound.1)
+    let tile = tile_times p s.0 (staged_plane s.1.heights) (staged_plane s.1.levels) (staged_plane s.1.labels) sound.0.staged in
+    omega (arith, fresh, staged, tile, fresh_parts p s.1, fresh_le p s.1.heights, fresh_le p s.1.levels, fresh_le p s.1.labels, all_fresh_le format p rest sound.1)
 
-pub none_fresh : (format : Format) (entries : List TileEntry) (free : FreePages) → IsKept format entries free → staged_tiles entries ≡ committed_tiles entries → flat_map fresh_pages entries ≡ []
-none_fresh format entries free is clean = empty_of_times (flat_map fresh_pages entries) (λ p. (
+pub none_fresh : (format : Format) (entries : List Entry) (free : FreePages) → IsKept format entries free → staged_tiles entries ≡ committed_tiles entries → flat_map fresh_by entries ≡ []
+none_fresh format entries free is clean = empty_of_times (flat_map fresh_by entries) (λ p. (
     let staged = ap (times p) (reached_all staged_tile entries) in
     let same = ap (λ (l : List TileLocation). times p (reached l)) clean in
     omega (arith, staged, same, all_fresh_le format p entries is.sound, counted_tiles format entries free is p, page_le free.range p)))
 
-pub none_kept_at : (before : List TileEntry) (s : TileEntry) (after : List TileEntry) → flat_map fresh_pages (before ++ s ∷ after) ≡ [] → fresh_kept s ≡ []
+pub none_kept_at : (before : List Entry) (s : Entry) (after : List Entry) → flat_map fresh_by (before ++ s ∷ after) ≡ [] → fresh_kept s.1 ≡ []
 none_kept_at before s after none =
-    let parts = nil_parts (flat_map fresh_pages before) (fresh_pages s ++ flat_map fresh_pages after) (sym (flat_map-append fresh_pages before (s ∷ after)) ∙ none) in
-    let here = nil_parts (fresh_pages s) (flat_map fresh_pages after) parts.1 in
-    (nil_parts (fresh_in s.heights) (fresh_kept s) here.0).1
+    let parts = nil_parts (flat_map fresh_by before) (fresh_by s ++ flat_map fresh_by after) (sym (flat_map-append fresh_by before (s ∷ after)) ∙ none) in
+    let here = nil_parts (fresh_by s) (flat_map fresh_by after) parts.1 in
+    (nil_parts (fresh_in s.1.heights) (fresh_kept s.1) here.0).1

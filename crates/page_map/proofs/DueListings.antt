@@ -1,5 +1,5 @@
 -- A page of what lists a staged plane is reached by the committed tiles where it is the committed one, and by none where it isn't.
-use Rattle.std.proofs.Common.{◌≡◌, ℕ, zero, suc, ◌+◌, ◌<◌, ◌≤◌, Bool, true, false, not, inl, inr, List, ◌∷◌, ◌++◌, length, take, drop, get_or, refl, sym, ap, subst, ◌∙◌, arith}
+use Rattle.std.proofs.Common.{◌≡◌, ℕ, zero, suc, ◌+◌, ◌<◌, ◌≤◌, Bool, true, false, not, inl, inr, List, ◌∷◌, ◌++◌, length, get_or, refl, sym, ap, subst, ◌∙◌, arith}
 use Rattle.std.specs.Prelude.{Option, Some, None, IfSome, Contains, slice_get}
 use Rattle.std.proofs.lemmas.Bool.{cases_eq}
 use Rattle.std.proofs.lemmas.List.{get_or_append_left, length-append}
@@ -18,13 +18,13 @@ use Rattle.page_map.specs.PlaneEntries.{behind_at, fresh_as, fresh_in, listed_at
 use Rattle.page_map.specs.Planes.{HasPlaneAt}
 use Rattle.page_map.specs.TileLocations.{reached}
 use Rattle.page_map.specs.PageMaps.{is_unreached, page_if}
-use Rattle.page_map.specs.TileEntries.{committed_tile, committed_tiles, fresh_pages, named_plane, staged_tiles, IsEntryAt, IsKept, IsSoundPlane}
+use Rattle.page_map.specs.TileEntries.{committed_tile, committed_tiles, fresh_pages, named_plane, planes_at, staged_tiles, Entry, IsKept, IsSoundPlane}
 use Rattle.page_map.proofs.Times.{has_at, one-self, times-append, member_of_times, differing-has}
 use Rattle.page_map.proofs.EntryLists.{fresh_parts, pages_of_location, reached_all, tile_times, times-split}
 use Rattle.page_map.proofs.EntryChanges.{entry_fresh}
 use Rattle.page_map.proofs.Listing.{any_none, any_some}
-use Rattle.page_map.proofs.AtEntry.{plane_at}
-use Rattle.page_map.proofs.AtEntry.{split, kept_there, sound}
+use Rattle.page_map.proofs.Lookup.{there}
+use Rattle.page_map.proofs.AtEntry.{kept_there, plane_at, sound, split}
 
 -- ---- a page that lists a plane is one of its pages
 listing_page : (i page : ℕ) (o : Option PlaneLocation) → listed_at i o ≡ Some page → 1 ≤ times page (pages_at o)
@@ -60,23 +60,23 @@ fresh_there format i page e sound listed apart = by e.staged sound.staged listed
     by Dropped whole listed = cc
     by (Fresh l) whole listed = other_page format l e.committed i page whole sound.committed listed apart
 
-module _ (format : Format) (entries : List TileEntry) (free : FreePages) (kept : IsKept format entries free) (c : Corner) (at : ℕ) (found : IsEntryAt c at entries) (s : TileEntry) (is : s ≡ get_or entries at s) (plane : Plane) where
-  abbrev before : List TileEntry
-  before = take at entries
+module _ (format : Format) (entries : List Entry) (free : FreePages) (kept : IsKept format entries free) (c : Corner) (s : TileEntry) (found : planes_at c entries ≡ Some s) (plane : Plane) where
+  abbrev before : List Entry
+  before = (there c entries s found).before
 
-  abbrev after : List TileEntry
-  after = drop (suc at) entries
+  abbrev after : List Entry
+  after = (there c entries s found).after
 
   own : (q : Plane) → IsSoundPlane format (named_plane q s)
-  own Heights = (sound format entries free kept c at found s is).heights
-  own Levels = (sound format entries free kept c at found s is).levels
-  own Labels = (sound format entries free kept c at found s is).labels
+  own Heights = (sound format entries free kept c s found).heights
+  own Levels = (sound format entries free kept c s found).levels
+  own Labels = (sound format entries free kept c s found).labels
 
-  named_committed : (page : ℕ) (q : Plane) → times page (pages_at (named_plane q s).committed) ≤ times page (pages_of_location (committed_tile s))
-  named_committed page q = by q (tile_times page s.corner s.heights.committed s.levels.committed s.labels.committed (sound format entries free kept c at found s is).committed)
+  named_committed : (page : ℕ) (q : Plane) → times page (pages_at (named_plane q s).committed) ≤ times page (pages_of_location (committed_tile (c, s)))
+  named_committed page q = by q (tile_times page c s.heights.committed s.levels.committed s.labels.committed (sound format entries free kept c s found).committed)
     where
-      by : (q : Plane) → times page (pages_of_location (committed_tile s)) ≡ times page (pages_at s.heights.committed) + (times page (pages_at s.levels.committed) + times page (pages_at s.labels.committed))
-          → times page (pages_at (named_plane q s).committed) ≤ times page (pages_of_location (committed_tile s))
+      by : (q : Plane) → times page (pages_of_location (committed_tile (c, s))) ≡ times page (pages_at s.heights.committed) + (times page (pages_at s.levels.committed) + times page (pages_at s.labels.committed))
+          → times page (pages_at (named_plane q s).committed) ≤ times page (pages_of_location (committed_tile (c, s)))
       by Heights all = omega (arith, all)
       by Levels all = omega (arith, all)
       by Labels all = omega (arith, all)
@@ -86,17 +86,17 @@ module _ (format : Format) (entries : List TileEntry) (free : FreePages) (kept :
   named_fresh page Levels = omega (arith, fresh_parts page s)
   named_fresh page Labels = omega (arith, fresh_parts page s)
 
-  reached_there : (page : ℕ) → 1 ≤ times page (pages_of_location (committed_tile s)) → is_unreached (committed_tiles entries) page ≡ false
+  reached_there : (page : ℕ) → 1 ≤ times page (pages_of_location (committed_tile (c, s))) → is_unreached (committed_tiles entries) page ≡ false
   reached_there page there =
-      let whole = ap (λ (l : List TileEntry). times page (reached (committed_tiles l))) (split format entries free kept c at found s is) ∙ ap (times page) (reached_all committed_tile (before ++ s ∷ after)) in
-      let some : 1 ≤ times page (reached (committed_tiles entries)) = omega (arith, there, whole, times-split (λ (x : TileEntry). pages_of_location (committed_tile x)) page before s after) in
+      let whole = ap (λ (l : List Entry). times page (reached (committed_tiles l))) (split format entries free kept c s found) ∙ ap (times page) (reached_all committed_tile (before ++ (c, s) ∷ after)) in
+      let some : 1 ≤ times page (reached (committed_tiles entries)) = omega (arith, there, whole, times-split (λ (x : Entry). pages_of_location (committed_tile x)) page before (c, s) after) in
       ap not (any_some (reached (committed_tiles entries)) page (member_of_times (reached (committed_tiles entries)) page some))
 
   unreached_there : (page : ℕ) → 1 ≤ times page (fresh_pages s) → is_unreached (committed_tiles entries) page ≡ true
   unreached_there page some =
       ap not (any_none (reached (committed_tiles entries)) page
-      (subst (λ (l : List TileEntry). Contains (reached (committed_tiles l)) page → ⊥) (sym (split format entries free kept c at found s is))
-      (entry_fresh format before s after free (kept_there format entries free kept c at found s is) page some).unreached))
+      (subst (λ (l : List Entry). Contains (reached (committed_tiles l)) page → ⊥) (sym (split format entries free kept c s found))
+      (entry_fresh format before (c, s) after free (kept_there format entries free kept c s found) page some).unreached))
 
   pub page_due : (i : ℕ) (location : PlaneLocation) → HasPlaneAt (staged_tiles entries) c plane location → i < length (listing_of location) → (result : Option ℕ)
       → (listed_at i (named_plane plane s).committed ≡ listed_at i (staged_plane (named_plane plane s)) → result ≡ None)
@@ -104,7 +104,7 @@ module _ (format : Format) (entries : List TileEntry) (free : FreePages) (kept :
       → result ≡ page_if (is_unreached (committed_tiles entries) (get_or (listing_of location) i 0)) (get_or (listing_of location) i 0)
   page_due i location there below result same other =
       let page : ℕ = get_or (listing_of location) i 0 in
-      let staged : listed_at i (staged_plane (named_plane plane s)) ≡ Some page = ap (listed_at i) (plane_at format entries free kept c at found s is plane location there) ∙ slice_get-get_or (listing_of location) i 0 below in
+      let staged : listed_at i (staged_plane (named_plane plane s)) ≡ Some page = ap (listed_at i) (plane_at format entries free kept c s found plane location there) ∙ slice_get-get_or (listing_of location) i 0 below in
       by page (listed_at i (named_plane plane s).committed) refl staged
     where
       fresh_page : (page : ℕ) → listed_at i (staged_plane (named_plane plane s)) ≡ Some page → (listed_at i (named_plane plane s).committed ≡ Some page → ⊥) → result ≡ page_if (is_unreached (committed_tiles entries) page) page

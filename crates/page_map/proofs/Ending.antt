@@ -1,10 +1,9 @@
 -- What a page_map is once what is staged has ended.
-use Rattle.std.proofs.Common.{◌≡◌, ℕ, suc, ◌<◌, ◌≤◌, Bool, true, false, cond, List, [], ◌∷◌, ◌++◌, length, map, take, drop, get_or, set, refl, sym, ap, subst, ◌∙◌, arith}
+use Rattle.std.proofs.Common.{◌≡◌, ℕ, ◌≤◌, Bool, true, false, cond, List, [], ◌∷◌, ◌++◌, length, map, append_assoc, refl, sym, ap, ap₂, subst, ◌∙◌, arith}
 use Rattle.std.specs.Prelude.{Option, Some, None, is_some, filter}
 use Rattle.std.specs.List.{filter_map, cons_option, AllByRecursion, flat_map}
-use Rattle.std.proofs.Math.Seq.{split_at}
+use Rattle.std.specs.Map.Calls.{RetainsPairs}
 use Rattle.std.proofs.lemmas.Bool.{false≢true}
-use Rattle.std.proofs.lemmas.List.{set_split}
 use Rattle.lattice.specs.Corners.{Corner}
 use Rattle.lattice.proofs.Rising.{rising_from, adjacent_from, rising-filter}
 use Rattle.page_codec.specs.Formats.{Format}
@@ -18,28 +17,43 @@ use Rattle.page_map.specs.Locations.{PlaneLocation, times}
 use Rattle.page_map.specs.PlaneEntries.{ended_plane, pages_at}
 use Rattle.page_map.specs.TileLocations.{TileLocation}
 use Rattle.page_map.specs.PageMaps.{PageMapValue}
-use Rattle.page_map.specs.TileEntries.{committed_tile, committed_tiles, ended_entry, ended_page_map, fresh_kept, page_map_of, staged_tile, staged_tiles, tile_of, used_pages, AreCounted, AreTogether, IsKept, IsSound, IsSoundPlane}
+use Rattle.page_map.specs.TileEntries.{committed_tile, committed_tiles, ended_entry, ended_page_map, ended_planes, fresh_kept_by, page_map_of, staged_tile, staged_tiles, tile_of, used_by, AreCounted, AreTogether, Entry, IsKept, IsSound, IsSoundPlane}
 use Rattle.page_map.proofs.Times.{times-append}
 use Rattle.page_map.proofs.EntryLists.{corner_of, counted_change, entry_in_use, rising_map}
 
 -- ---- one entry after another
-module _ (entries : List TileEntry) (free now : FreePages) (counted : AreCounted entries free) (i : ℕ) (s : TileEntry) (below : i < length entries) (is : s ≡ get_or entries i s) where
-  there : entries ≡ take i entries ++ s ∷ drop (suc i) entries
-  there = split_at entries i s below ∙ ap (λ x. take i entries ++ x ∷ drop (suc i) entries) (sym is)
+-- the pages of the entries that were passed are given back, and the others are to come
+pub record IsGivenBack (ending : Ending) (entries rest : List Entry) (free : FreePages) : Type 0 where
+  pub passed : List Entry
+  pub all : passed ++ map (ended_entry ending) rest ≡ map (ended_entry ending) entries
+  pub counted : AreCounted (passed ++ rest) free
 
-  counted_there : AreCounted (take i entries ++ s ∷ drop (suc i) entries) free
-  counted_there = subst (λ (l : List TileEntry). AreCounted l free) there counted
+module _ (ending : Ending) (entries : List Entry) (e : Entry) (rest : List Entry) (free : FreePages) (so_far : IsGivenBack ending entries (e ∷ rest) free) where
+  pub next_in_use : AreInUse (used_by e) free
+  next_in_use = entry_in_use so_far.passed e rest free so_far.counted
 
-  pub next_in_use : AreInUse (used_pages s) free
-  next_in_use = entry_in_use (take i entries) s (drop (suc i) entries) free counted_there
-
-  pub counted_more : (new : TileEntry) → AreBalanced (used_pages s) (used_pages new) free now → AreCounted (set entries i new) now
-  counted_more new balanced =
-      subst (λ (l : List TileEntry). AreCounted l now) (sym (set_split entries i new below)) (counted_change (take i entries) s (drop (suc i) entries) free counted_there new now balanced)
+  pub given_next : (now : FreePages) → AreBalanced (used_by e) (used_by (ended_entry ending e)) free now → IsGivenBack ending entries rest now
+  given_next now balanced = record {
+    passed = so_far.passed ++ ended_entry ending e ∷ [];
+    all = append_assoc so_far.passed (ended_entry ending e ∷ []) (map (ended_entry ending) rest) ∙ so_far.all;
+    counted = subst (λ (l : List Entry). AreCounted l now) (sym (append_assoc so_far.passed (ended_entry ending e ∷ []) rest)) (counted_change so_far.passed e rest free so_far.counted (ended_entry ending e) now balanced);
+  }
 
 -- ---- the entries that are left
-abbrev pub is_left : TileEntry → Bool
-is_left s = is_some s.heights.committed
+abbrev pub is_left : Entry → Bool
+is_left e = is_some e.1.heights.committed
+
+-- what a closure leaves that ends each entry and says whether it is left
+pub ended_left : {F : Type 0} (T : F → Corner → TileEntry → Bool → TileEntry → F → Type 0) (ending : Ending) (f : F)
+    → ((c : Corner) (s : TileEntry) (b : Bool) (w : TileEntry) (g : F) → T f c s b w g → (b ≡ is_left (c, w)) × (w ≡ ended_planes ending s) × (g ≡ f))
+    → (entries left : List Entry) → RetainsPairs T f entries left → left ≡ filter is_left (map (ended_entry ending) entries)
+ended_left T ending f each [] left r = r
+ended_left T ending f each (e ∷ rest) left r =
+    let told = each e.0 e.1 r.0 r.1 r.2 r.4 in
+    let after = ended_left T ending f each rest r.3 (subst (λ u. RetainsPairs T u rest r.3) told.2 r.5) in
+    r.6
+    ∙ (ap (λ b. cond b ((e.0, r.1) ∷ r.3) r.3) (told.0 ∙ ap (λ (x : TileEntry). is_left (e.0, x)) told.1)
+    ∙ ap₂ (λ (x : TileEntry) (l : List Entry). cond (is_left (ended_entry ending e)) ((e.0, x) ∷ l) l) told.1 after)
 
 no_tile : (c : Corner) (h l m : Option PlaneLocation) → is_some h ≡ false → None ≡ tile_of c h l m
 no_tile c None l m none = refl
@@ -53,16 +67,16 @@ no_pages None (Some l) (Some m) none together = absurd together
 no_pages (Some h) l m none together = absurd (false≢true (sym none))
 
 module _ (ending : Ending) where
-  abbrev ended : TileEntry → TileEntry
+  abbrev ended : Entry → Entry
   ended s = ended_entry ending s
 
-  abbrev ended_tile : TileEntry → Option TileLocation
+  abbrev ended_tile : Entry → Option TileLocation
   ended_tile s = committed_tile (ended_entry ending s)
 
-  together : (format : Format) (s : TileEntry) → IsSound format s → AreTogether (ended_plane ending s.heights) (ended_plane ending s.levels) (ended_plane ending s.labels)
+  together : (format : Format) (s : Entry) → IsSound format s → AreTogether (ended_plane ending s.1.heights) (ended_plane ending s.1.levels) (ended_plane ending s.1.labels)
   together format s sound = by ending
     where
-      by : (e : Ending) → AreTogether (ended_plane e s.heights) (ended_plane e s.levels) (ended_plane e s.labels)
+      by : (e : Ending) → AreTogether (ended_plane e s.1.heights) (ended_plane e s.1.levels) (ended_plane e s.1.labels)
       by Committed = sound.staged
       by GivenUp = sound.committed
 
@@ -74,34 +88,34 @@ module _ (ending : Ending) where
       by GivenUp = record { committed = sound.committed; staged = sound.committed }
 
   -- the entries without a committed tile have no tile and no pages
-  left_tiles : (tile : TileEntry → Option TileLocation) → ((s : TileEntry) → tile (ended s) ≡ ended_tile s) → (entries : List TileEntry) → filter_map tile (filter is_left (map ended entries)) ≡ filter_map ended_tile entries
+  left_tiles : (tile : Entry → Option TileLocation) → ((s : Entry) → tile (ended s) ≡ ended_tile s) → (entries : List Entry) → filter_map tile (filter is_left (map ended entries)) ≡ filter_map ended_tile entries
   left_tiles tile same [] = refl
   left_tiles tile same (s ∷ rest) = by (is_left (ended s)) refl (left_tiles tile same rest)
     where
       by : (b : Bool) → is_left (ended s) ≡ b → filter_map tile (filter is_left (map ended rest)) ≡ filter_map ended_tile rest
           → filter_map tile (cond b (ended s ∷ filter is_left (map ended rest)) (filter is_left (map ended rest))) ≡ cons_option (ended_tile s) (filter_map ended_tile rest)
       by true here later = ap (λ (o : Option TileLocation). cons_option o (filter_map tile (filter is_left (map ended rest)))) (same s) ∙ ap (cons_option (ended_tile s)) later
-      by false here later = later ∙ ap (λ (o : Option TileLocation). cons_option o (filter_map ended_tile rest)) (no_tile s.corner (ended_plane ending s.heights) (ended_plane ending s.levels) (ended_plane ending s.labels) here)
+      by false here later = later ∙ ap (λ (o : Option TileLocation). cons_option o (filter_map ended_tile rest)) (no_tile s.0 (ended_plane ending s.1.heights) (ended_plane ending s.1.levels) (ended_plane ending s.1.labels) here)
 
-  left_pages : (format : Format) (p : ℕ) (entries : List TileEntry) → AllByRecursion (IsSound format) entries → times p (flat_map used_pages (filter is_left (map ended entries))) ≡ times p (flat_map used_pages (map ended entries))
+  left_pages : (format : Format) (p : ℕ) (entries : List Entry) → AllByRecursion (IsSound format) entries → times p (flat_map used_by (filter is_left (map ended entries))) ≡ times p (flat_map used_by (map ended entries))
   left_pages format p [] sound = refl
   left_pages format p (s ∷ rest) sound = by (is_left (ended s)) refl (left_pages format p rest sound.1)
     where
-      by : (b : Bool) → is_left (ended s) ≡ b → times p (flat_map used_pages (filter is_left (map ended rest))) ≡ times p (flat_map used_pages (map ended rest))
-          → times p (flat_map used_pages (cond b (ended s ∷ filter is_left (map ended rest)) (filter is_left (map ended rest)))) ≡ times p (used_pages (ended s) ++ flat_map used_pages (map ended rest))
+      by : (b : Bool) → is_left (ended s) ≡ b → times p (flat_map used_by (filter is_left (map ended rest))) ≡ times p (flat_map used_by (map ended rest))
+          → times p (flat_map used_by (cond b (ended s ∷ filter is_left (map ended rest)) (filter is_left (map ended rest)))) ≡ times p (used_by (ended s) ++ flat_map used_by (map ended rest))
       by true here later =
-          omega (arith, later, times-append p (used_pages (ended s)) (flat_map used_pages (filter is_left (map ended rest))), times-append p (used_pages (ended s)) (flat_map used_pages (map ended rest)))
+          omega (arith, later, times-append p (used_by (ended s)) (flat_map used_by (filter is_left (map ended rest))), times-append p (used_by (ended s)) (flat_map used_by (map ended rest)))
       by false here later =
-          later ∙ ap (λ (l : List ℕ). times p (l ++ flat_map used_pages (map ended rest))) (sym (no_pages (ended_plane ending s.heights) (ended_plane ending s.levels) (ended_plane ending s.labels) here (together format s sound.0)))
+          later ∙ ap (λ (l : List ℕ). times p (l ++ flat_map used_by (map ended rest))) (sym (no_pages (ended_plane ending s.1.heights) (ended_plane ending s.1.levels) (ended_plane ending s.1.labels) here (together format s sound.0)))
 
-  left_kept : (entries : List TileEntry) → flat_map fresh_kept (filter is_left (map ended entries)) ≡ []
+  left_kept : (entries : List Entry) → flat_map fresh_kept_by (filter is_left (map ended entries)) ≡ []
   left_kept [] = refl
-  left_kept (s ∷ rest) = elim (is_left (ended s)) as (λ b. flat_map fresh_kept (cond b (ended s ∷ filter is_left (map ended rest)) (filter is_left (map ended rest))) ≡ []) [
+  left_kept (s ∷ rest) = elim (is_left (ended s)) as (λ b. flat_map fresh_kept_by (cond b (ended s ∷ filter is_left (map ended rest)) (filter is_left (map ended rest))) ≡ []) [
     | true ↦ left_kept rest
     | false ↦ left_kept rest
   ]
 
-  left_sound : (format : Format) (entries : List TileEntry) → AllByRecursion (IsSound format) entries → AllByRecursion (IsSound format) (filter is_left (map ended entries))
+  left_sound : (format : Format) (entries : List Entry) → AllByRecursion (IsSound format) entries → AllByRecursion (IsSound format) (filter is_left (map ended entries))
   left_sound format [] sound = tt
   left_sound format (s ∷ rest) sound = by (is_left (ended s)) refl (left_sound format rest sound.1)
     where
@@ -109,9 +123,9 @@ module _ (ending : Ending) where
       by true here later = (
         record {
           corner = sound.0.corner;
-          heights = sound_ended format s.heights sound.0.heights;
-          levels = sound_ended format s.levels sound.0.levels;
-          labels = sound_ended format s.labels sound.0.labels;
+          heights = sound_ended format s.1.heights sound.0.heights;
+          levels = sound_ended format s.1.levels sound.0.levels;
+          labels = sound_ended format s.1.labels sound.0.labels;
           committed = together format s sound.0;
           staged = together format s sound.0;
         },
@@ -119,8 +133,8 @@ module _ (ending : Ending) where
       )
       by false here later = later
 
-  module _ (format : Format) (entries : List TileEntry) (free now : FreePages) (is : IsKept format entries free) (same_range : now.range ≡ free.range) (counted : AreCounted (map ended entries) now) where
-    abbrev left : List TileEntry
+  module _ (format : Format) (entries : List Entry) (free now : FreePages) (is : IsKept format entries free) (same_range : now.range ≡ free.range) (counted : AreCounted (map ended entries) now) where
+    abbrev left : List Entry
     left = filter is_left (map ended entries)
 
     room : length (filter_map ended_tile entries) ≤ format.capacity

@@ -14,57 +14,57 @@ use Rattle.page_map.specs.Locations.{times}
 use Rattle.page_map.specs.declared.tile_entry.TileEntry.{TileEntry}
 use Rattle.page_map.specs.TileLocations.{TileLocation}
 use Rattle.page_map.specs.PageMaps.{PageMapValue, IsFresh, is_at, without_location}
-use Rattle.page_map.specs.TileEntries.{committed_tile, committed_tiles, fresh_kept, fresh_pages, page_map_of, staged_tile, staged_tiles, used_pages, IsKept, IsSound}
+use Rattle.page_map.specs.TileEntries.{committed_tile, committed_tiles, fresh_by, fresh_kept_by, page_map_of, staged_tile, staged_tiles, used_pages, Entry, IsKept, IsSound}
 use Rattle.page_map.proofs.EntryLists.{times-split, counted_change, corner_of, rising_change, AllBefore, rising_before, rising_after, staged_all, staged_own}
 use Rattle.page_map.proofs.PageMapRules.{fresh_page}
 
 -- ---- the invariant
-all_change : (P : TileEntry → Type 0) (before : List TileEntry) (s new : TileEntry) (after : List TileEntry) → P new → AllByRecursion P (before ++ s ∷ after) → AllByRecursion P (before ++ new ∷ after)
+all_change : (P : Entry → Type 0) (before : List Entry) (s new : Entry) (after : List Entry) → P new → AllByRecursion P (before ++ s ∷ after) → AllByRecursion P (before ++ new ∷ after)
 all_change P [] s new after here all = (here, all.1)
 all_change P (b ∷ before) s new after here all = (all.0, all_change P before s new after here all.1)
 
-pub all_middle : (P : TileEntry → Type 0) (before : List TileEntry) (s : TileEntry) (after : List TileEntry) → AllByRecursion P (before ++ s ∷ after) → P s
+pub all_middle : (P : Entry → Type 0) (before : List Entry) (s : Entry) (after : List Entry) → AllByRecursion P (before ++ s ∷ after) → P s
 all_middle P [] s after all = all.0
 all_middle P (b ∷ before) s after all = all_middle P before s after all.1
 
 -- no more pages of kept planes are fresh where no more of the entry are
-pub no_more_kept : (before : List TileEntry) (s new : TileEntry) (after : List TileEntry) → length (fresh_kept new) ≤ length (fresh_kept s)
-    → length (flat_map fresh_kept (before ++ new ∷ after)) ≤ length (flat_map fresh_kept (before ++ s ∷ after))
-no_more_kept [] s new after fewer = omega (arith, fewer, length-append (fresh_kept new) (flat_map fresh_kept after), length-append (fresh_kept s) (flat_map fresh_kept after))
+pub no_more_kept : (before : List Entry) (s new : Entry) (after : List Entry) → length (fresh_kept_by new) ≤ length (fresh_kept_by s)
+    → length (flat_map fresh_kept_by (before ++ new ∷ after)) ≤ length (flat_map fresh_kept_by (before ++ s ∷ after))
+no_more_kept [] s new after fewer = omega (arith, fewer, length-append (fresh_kept_by new) (flat_map fresh_kept_by after), length-append (fresh_kept_by s) (flat_map fresh_kept_by after))
 no_more_kept (b ∷ before) s new after fewer =
-    omega (arith, no_more_kept before s new after fewer, length-append (fresh_kept b) (flat_map fresh_kept (before ++ new ∷ after)), length-append (fresh_kept b) (flat_map fresh_kept (before ++ s ∷ after)))
+    omega (arith, no_more_kept before s new after fewer, length-append (fresh_kept_by b) (flat_map fresh_kept_by (before ++ new ∷ after)), length-append (fresh_kept_by b) (flat_map fresh_kept_by (before ++ s ∷ after)))
 
-pub same_committed_tiles : (before : List TileEntry) (s new : TileEntry) (after : List TileEntry) → committed_tile new ≡ committed_tile s → committed_tiles (before ++ new ∷ after) ≡ committed_tiles (before ++ s ∷ after)
+pub same_committed_tiles : (before : List Entry) (s new : Entry) (after : List Entry) → committed_tile new ≡ committed_tile s → committed_tiles (before ++ new ∷ after) ≡ committed_tiles (before ++ s ∷ after)
 same_committed_tiles before s new after same =
     filter_map-append committed_tile before (new ∷ after)
     ∙ (ap (λ (o : Option TileLocation). committed_tiles before ++ cons_option o (committed_tiles after)) same
     ∙ sym (filter_map-append committed_tile before (s ∷ after)))
 
-pub kept_change : (format : Format) (before : List TileEntry) (s new : TileEntry) (after : List TileEntry) (free now : FreePages)
-    → IsKept format (before ++ s ∷ after) free → new.corner ≡ s.corner → IsSound format new
-    → length (committed_tiles (before ++ new ∷ after)) ≤ format.capacity → length (staged_tiles (before ++ new ∷ after)) ≤ format.capacity → length (flat_map fresh_kept (before ++ new ∷ after)) ≤ 2 * plane_pages_of format
-    → AreBalanced (used_pages s) (used_pages new) free now → IsKept format (before ++ new ∷ after) now
-kept_change format before s new after free now is same_corner sound committed_room room kept_room balanced = record {
+pub kept_change : (format : Format) (before : List Entry) (c : Corner) (s new : TileEntry) (after : List Entry) (free now : FreePages)
+    → IsKept format (before ++ (c, s) ∷ after) free → IsSound format (c, new)
+    → length (committed_tiles (before ++ (c, new) ∷ after)) ≤ format.capacity → length (staged_tiles (before ++ (c, new) ∷ after)) ≤ format.capacity → length (flat_map fresh_kept_by (before ++ (c, new) ∷ after)) ≤ 2 * plane_pages_of format
+    → AreBalanced (used_pages s) (used_pages new) free now → IsKept format (before ++ (c, new) ∷ after) now
+kept_change format before c s new after free now is sound committed_room room kept_room balanced = record {
   fits = rw (balanced.same_range) is.fits;
   window = rw (balanced.same_range) is.window;
   few = is.few;
-  in_order = adjacent_from corner_of (before ++ new ∷ after) (rising_change before s new after same_corner (rising_from corner_of (before ++ s ∷ after) is.in_order));
-  sound = all_change (IsSound format) before s new after sound is.sound;
+  in_order = adjacent_from corner_of (before ++ (c, new) ∷ after) (rising_change c s new before after (rising_from corner_of (before ++ (c, s) ∷ after) is.in_order));
+  sound = all_change (IsSound format) before (c, s) (c, new) after sound is.sound;
   committed_room = committed_room;
   staged_room = room;
   kept_room = kept_room;
-  counted = counted_change before s after free is.counted new now balanced;
+  counted = counted_change before (c, s) after free is.counted (c, new) now balanced;
 }
 
 -- ---- the staged tiles
 abbrev pub AllOther : Corner → List TileLocation → Type 0
 AllOther c tiles = AllByRecursion (λ t. is_at c t ≡ false) tiles
 
-pub other_before : (c : Corner) (entries : List TileEntry) → AllBefore c entries → AllOther c (staged_tiles entries)
-other_before c = staged_all (λ d. same_corner d c ≡ false) (AllBefore c) (λ s rest h. (before_not_same s.corner c h.0, h.1))
+pub other_before : (c : Corner) (entries : List Entry) → AllBefore c entries → AllOther c (staged_tiles entries)
+other_before c = staged_all (λ d. same_corner d c ≡ false) (AllBefore c) (λ s rest h. (before_not_same s.0 c h.0, h.1))
 
-pub other_after : (c : Corner) (entries : List TileEntry) → AllAfter corner_of c entries → AllOther c (staged_tiles entries)
-other_after c = staged_all (λ d. same_corner d c ≡ false) (AllAfter corner_of c) (λ s rest h. (after_not_same c s.corner h.0, h.1))
+pub other_after : (c : Corner) (entries : List Entry) → AllAfter corner_of c entries → AllOther c (staged_tiles entries)
+other_after c = staged_all (λ d. same_corner d c ≡ false) (AllAfter corner_of c) (λ s rest h. (after_not_same c s.0 h.0, h.1))
 
 module _ (c : Corner) where
   map_other : (f : TileLocation → TileLocation) → ((t : TileLocation) → is_at c t ≡ false → f t ≡ t) → (tiles : List TileLocation) → AllOther c tiles → map f tiles ≡ tiles
@@ -86,45 +86,45 @@ module _ (c : Corner) where
       ap (λ b. cond (not b) (x ∷ without_location c (xs ++ t ∷ ys)) (without_location c (xs ++ t ∷ ys))) earlier.0 ∙ ap (λ l. x ∷ l) (without_at xs t ys earlier.1 here later)
 
 -- the entry in the middle, with its neighbours
-module _ (before : List TileEntry) (s : TileEntry) (after : List TileEntry) (rising : Rising corner_of (before ++ s ∷ after)) (t : TileLocation) (had : staged_tile s ≡ Some t) where
+module _ (before : List Entry) (s : Entry) (after : List Entry) (rising : Rising corner_of (before ++ s ∷ after)) (t : TileLocation) (had : staged_tile s ≡ Some t) where
   abbrev location : Corner
-  location = s.corner
+  location = s.0
 
-  pub staged_corner : t.corner ≡ s.corner
-  staged_corner = let own : IfSome (Some t) (λ (u : TileLocation). u.corner ≡ s.corner) = subst (λ (o : Option TileLocation). IfSome o (λ u. u.corner ≡ s.corner)) had (staged_own s) in own
+  pub staged_corner : t.corner ≡ s.0
+  staged_corner = let own : IfSome (Some t) (λ (u : TileLocation). u.corner ≡ s.0) = subst (λ (o : Option TileLocation). IfSome o (λ u. u.corner ≡ s.0)) had (staged_own s) in own
 
   pub staged_at : is_at location t ≡ true
-  staged_at = same_from t.corner s.corner staged_corner
+  staged_at = same_from t.corner s.0 staged_corner
 
   pub staged_split : staged_tiles (before ++ s ∷ after) ≡ staged_tiles before ++ t ∷ staged_tiles after
   staged_split = filter_map-append staged_tile before (s ∷ after) ∙ ap (λ (o : Option TileLocation). staged_tiles before ++ cons_option o (staged_tiles after)) had
 
   earlier_other : AllOther location (staged_tiles before)
-  earlier_other = other_before location before (rising_before before s after rising)
+  earlier_other = other_before location before (rising_before corner_of before s after rising)
 
   later_other : AllOther location (staged_tiles after)
   later_other = other_after location after (rising_after before s after rising)
 
-  pub staged_mapped : (f : TileLocation → TileLocation) → ((u : TileLocation) → is_at location u ≡ false → f u ≡ u) → (new : TileEntry) → staged_tile new ≡ Some (f t) → staged_tiles (before ++ new ∷ after) ≡ map f (staged_tiles (before ++ s ∷ after))
+  pub staged_mapped : (f : TileLocation → TileLocation) → ((u : TileLocation) → is_at location u ≡ false → f u ≡ u) → (new : Entry) → staged_tile new ≡ Some (f t) → staged_tiles (before ++ new ∷ after) ≡ map f (staged_tiles (before ++ s ∷ after))
   staged_mapped f same new has =
       filter_map-append staged_tile before (new ∷ after)
       ∙ (ap (λ (o : Option TileLocation). staged_tiles before ++ cons_option o (staged_tiles after)) has
       ∙ (sym (map_at location f same (staged_tiles before) t (staged_tiles after) earlier_other later_other)
       ∙ ap (map f) (sym staged_split)))
 
-  pub staged_without : (new : TileEntry) → staged_tile new ≡ None → staged_tiles (before ++ new ∷ after) ≡ without_location location (staged_tiles (before ++ s ∷ after))
+  pub staged_without : (new : Entry) → staged_tile new ≡ None → staged_tiles (before ++ new ∷ after) ≡ without_location location (staged_tiles (before ++ s ∷ after))
   staged_without new has =
       filter_map-append staged_tile before (new ∷ after)
       ∙ (ap (λ (o : Option TileLocation). staged_tiles before ++ cons_option o (staged_tiles after)) has
       ∙ (sym (without_at location (staged_tiles before) t (staged_tiles after) earlier_other staged_at later_other)
       ∙ ap (without_location location) (sym staged_split)))
 
--- a entry's fresh page is fresh in the page_map
-pub entry_fresh : (format : Format) (before : List TileEntry) (s : TileEntry) (after : List TileEntry) (free : FreePages) → IsKept format (before ++ s ∷ after) free → (p : ℕ) → 1 ≤ times p (fresh_pages s) → IsFresh (page_map_of format (before ++ s ∷ after) free) p
-entry_fresh format before s after free is p some = fresh_page format (before ++ s ∷ after) free is p (omega (arith, some, times-split fresh_pages p before s after))
+-- an entry's fresh page is fresh in the page_map
+pub entry_fresh : (format : Format) (before : List Entry) (s : Entry) (after : List Entry) (free : FreePages) → IsKept format (before ++ s ∷ after) free → (p : ℕ) → 1 ≤ times p (fresh_by s) → IsFresh (page_map_of format (before ++ s ∷ after) free) p
+entry_fresh format before s after free is p some = fresh_page format (before ++ s ∷ after) free is p (omega (arith, some, times-split fresh_by p before s after))
 
 -- the page_map with other staged tiles
-pub page_map_changed : (format : Format) (before : List TileEntry) (s new : TileEntry) (after : List TileEntry) (free now : FreePages) → now.range ≡ free.range → committed_tile new ≡ committed_tile s
+pub page_map_changed : (format : Format) (before : List Entry) (s new : Entry) (after : List Entry) (free now : FreePages) → now.range ≡ free.range → committed_tile new ≡ committed_tile s
     → (tiles : List TileLocation) → staged_tiles (before ++ new ∷ after) ≡ tiles
     → page_map_of format (before ++ new ∷ after) now ≡ record (page_map_of format (before ++ s ∷ after) free) { staged = tiles }
 page_map_changed format before s new after free now total same tiles staged =
@@ -134,35 +134,34 @@ page_map_changed format before s new after free now total same tiles staged =
     ∙ ap (λ (l : List TileLocation). page_map free.range.sectors (committed_tiles (before ++ s ∷ after)) l) staged)
 
 -- ---- an entry that is the same, beside other free pages
-pub kept_unchanged : (format : Format) (before : List TileEntry) (s new : TileEntry) (after : List TileEntry) (free now : FreePages) → IsKept format (before ++ s ∷ after) free → AreBalanced (used_pages s) (used_pages new) free now → new ≡ s
-    → IsKept format (before ++ new ∷ after) now
-kept_unchanged format before s new after free now is balanced same =
-    kept_change format before s new after free now is (ap corner_of same)
-    (subst (λ (x : TileEntry). IsSound format x) (sym same) (all_middle (IsSound format) before s after is.sound)) (rw (same_committed_tiles before s new after (ap committed_tile same)) is.committed_room)
-    (subst (λ (x : TileEntry). length (staged_tiles (before ++ x ∷ after)) ≤ format.capacity) (sym same) is.staged_room)
-    (subst (λ (x : TileEntry). length (flat_map fresh_kept (before ++ x ∷ after)) ≤ 2 * plane_pages_of format) (sym same) is.kept_room) balanced
+pub kept_unchanged : (format : Format) (before : List Entry) (c : Corner) (s new : TileEntry) (after : List Entry) (free now : FreePages) → IsKept format (before ++ (c, s) ∷ after) free → AreBalanced (used_pages s) (used_pages new) free now → new ≡ s
+    → IsKept format (before ++ (c, new) ∷ after) now
+kept_unchanged format before c s new after free now is balanced same =
+    subst (λ (x : TileEntry). IsKept format (before ++ (c, x) ∷ after) now) (sym same)
+    (kept_change format before c s s after free now is (all_middle (IsSound format) before (c, s) after is.sound) is.committed_room is.staged_room is.kept_room (subst (λ (x : TileEntry). AreBalanced (used_pages s) (used_pages x) free now) same balanced))
 
 -- ---- an entry whose staged tile is another
-module _ (format : Format) (before : List TileEntry) (s new : TileEntry) (after : List TileEntry) (free now : FreePages) (is : IsKept format (before ++ s ∷ after) free) (balanced : AreBalanced (used_pages s) (used_pages new) free now)
-    (same_corner : new.corner ≡ s.corner) (same_committed : committed_tile new ≡ committed_tile s) (tile : TileLocation) (made : TileLocation → TileLocation) (had : staged_tile s ≡ Some tile) (has : staged_tile new ≡ Some (made tile)) where
+module _ (format : Format) (before : List Entry) (c : Corner) (s new : TileEntry) (after : List Entry) (free now : FreePages) (is : IsKept format (before ++ (c, s) ∷ after) free) (balanced : AreBalanced (used_pages s) (used_pages new) free now)
+    (same_committed : committed_tile (c, new) ≡ committed_tile (c, s)) (tile : TileLocation) (made : TileLocation → TileLocation) (had : staged_tile (c, s) ≡ Some tile) (has : staged_tile (c, new) ≡ Some (made tile)) where
   abbrev made_in : TileLocation → TileLocation
-  made_in u = if is_at s.corner u then made u else u
+  made_in u = if is_at c u then made u else u
 
-  rising : Rising corner_of (before ++ s ∷ after)
-  rising = rising_from corner_of (before ++ s ∷ after) is.in_order
+  rising : Rising corner_of (before ++ (c, s) ∷ after)
+  rising = rising_from corner_of (before ++ (c, s) ∷ after) is.in_order
 
-  made_other : (u : TileLocation) → is_at s.corner u ≡ false → made_in u ≡ u
+  made_other : (u : TileLocation) → is_at c u ≡ false → made_in u ≡ u
   made_other u other = ap (λ b. if b then made u else u) other
 
   made_here : made tile ≡ made_in tile
-  made_here = sym (ap (λ b. if b then made tile else tile) (staged_at before s after rising tile had))
+  made_here = sym (ap (λ b. if b then made tile else tile) (staged_at before (c, s) after rising tile had))
 
-  made_tiles : staged_tiles (before ++ new ∷ after) ≡ map made_in (staged_tiles (before ++ s ∷ after))
-  made_tiles = staged_mapped before s after rising tile had made_in made_other new (has ∙ ap Some made_here)
+  made_tiles : staged_tiles (before ++ (c, new) ∷ after) ≡ map made_in (staged_tiles (before ++ (c, s) ∷ after))
+  made_tiles = staged_mapped before (c, s) after rising tile had made_in made_other (c, new) (has ∙ ap Some made_here)
 
-  pub made_kept : IsSound format new → length (flat_map fresh_kept (before ++ new ∷ after)) ≤ 2 * plane_pages_of format → IsKept format (before ++ new ∷ after) now
+  pub made_kept : IsSound format (c, new) → length (flat_map fresh_kept_by (before ++ (c, new) ∷ after)) ≤ 2 * plane_pages_of format → IsKept format (before ++ (c, new) ∷ after) now
   made_kept sound kept_room =
-      kept_change format before s new after free now is same_corner sound (rw (same_committed_tiles before s new after same_committed) is.committed_room) (rw made_tiles (rw (length-map (staged_tiles (before ++ s ∷ after)) made_in) is.staged_room)) kept_room balanced
+      kept_change format before c s new after free now is sound (rw (same_committed_tiles before (c, s) (c, new) after same_committed) is.committed_room)
+      (rw made_tiles (rw (length-map (staged_tiles (before ++ (c, s) ∷ after)) made_in) is.staged_room)) kept_room balanced
 
-  pub made_page_map : page_map_of format (before ++ new ∷ after) now ≡ record (page_map_of format (before ++ s ∷ after) free) { staged = map made_in (staged_tiles (before ++ s ∷ after)) }
-  made_page_map = page_map_changed format before s new after free now balanced.same_range same_committed _ made_tiles
+  pub made_page_map : page_map_of format (before ++ (c, new) ∷ after) now ≡ record (page_map_of format (before ++ (c, s) ∷ after) free) { staged = map made_in (staged_tiles (before ++ (c, s) ∷ after)) }
+  made_page_map = page_map_changed format before (c, s) (c, new) after free now balanced.same_range same_committed _ made_tiles

@@ -1,13 +1,18 @@
 -- What a page_map is with one entry more.
 use Rattle.std.proofs.Common.{◌≡◌, ℕ, ◌<◌, true, false, cond, List, [], ◌∷◌, ◌++◌, length, refl, sym, ap, ap₂, subst, ◌∙◌, arith}
-use Rattle.std.specs.Prelude.{IsTrue, Option, Some, None}
+use Rattle.std.specs.Prelude.{IsTrue, Option, Some, None, is_some}
+use Rattle.std.specs.BTreeMap.{insert_entry}
 use Rattle.std.specs.List.{cons_option, filter_map, AllByRecursion, flat_map}
+use Rattle.std.specs.Ordering.{MatchOrdering, is_eq, match_ordering}
+use Rattle.std.specs.declared.cmp.Ordering.{Ordering}
+use Rattle.std.specs.declared.cmp.Ordering.TheVariants.{Less, Equal, Greater}
+use Rattle.std.proofs.lemmas.Bool.{false≢true}
 use Rattle.std.proofs.lemmas.List.{length-append}
 use Rattle.std.proofs.lemmas.List.Elements.{filter_map-append}
 use Rattle.std.proofs.lemmas.Grind.{flat_map-append}
 use Rattle.lattice.specs.Corners.{Corner, is_before, is_corner}
-use Rattle.lattice.proofs.CornerOrder.{before_not_back}
-use Rattle.lattice.proofs.Rising.{AllAfter, Rising, rising_from, adjacent_from}
+use Rattle.lattice.proofs.CornerOrder.{before_not_back, corner_cmp, ranked_corners}
+use Rattle.lattice.proofs.Rising.{AllAfter, Rising, adjacent_from, after_later, rising_from}
 use Rattle.page_codec.specs.Formats.{Format}
 use Rattle.page_map.specs.FreePages.{FreePages, AreBalanced, AreInUse, AreTaken}
 use Rattle.page_map.specs.declared.plane_entry.Staged.{Staged}
@@ -17,7 +22,7 @@ use Rattle.page_map.specs.Locations.{PlaneLocation, IsWholePlane, times, pages_o
 use Rattle.page_map.specs.PlaneEntries.{fresh_as, fresh_in, settled_plane, staged_as, staged_plane, used_in}
 use Rattle.page_map.specs.TileLocations.{TileLocation}
 use Rattle.page_map.specs.PageMaps.{PageMapValue, IsFresh, IsAdded, with_tile_location}
-use Rattle.page_map.specs.TileEntries.{committed_tile, empty_entry, fresh_kept, page_map_of, staged_tile, staged_tiles, tile_of, used_pages, AreAlike, AreTogether, IsKept, IsSound, IsSoundPlane}
+use Rattle.page_map.specs.TileEntries.{committed_tile, fresh_kept, fresh_kept_by, no_planes, page_map_of, planes_at, staged_tile, staged_tiles, tile_of, used_by, used_pages, AreAlike, AreInOrder, AreTogether, Entry, IsKept, IsSound, IsSoundPlane}
 use Rattle.page_map.proofs.Times.{times-append, all_numbers}
 use Rattle.page_map.proofs.FreeTimes.{balanced-append, balanced_same, in_use-first}
 use Rattle.page_map.proofs.PlaneChanges.{taken_balanced, taken_fresh}
@@ -25,34 +30,65 @@ use Rattle.page_map.proofs.EntryLists.{corner_of, AllBefore, entry_in_use, risin
 use Rattle.page_map.proofs.EntryChanges.{all_middle, kept_change, no_more_kept, page_map_changed, same_committed_tiles, entry_fresh}
 
 -- ---- an entry without planes
-all_insert : (P : TileEntry → Type 0) (before : List TileEntry) (new : TileEntry) (after : List TileEntry) → P new → AllByRecursion P (before ++ after) → AllByRecursion P (before ++ new ∷ after)
+all_insert : (P : Entry → Type 0) (before : List Entry) (new : Entry) (after : List Entry) → P new → AllByRecursion P (before ++ after) → AllByRecursion P (before ++ new ∷ after)
 all_insert P [] new after here all = (here, all)
 all_insert P (b ∷ before) new after here all = (all.0, all_insert P before new after here all.1)
 
-module _ (c : Corner) (before after : List TileEntry) where
-  no_pages : (pages : TileEntry → List ℕ) → pages (empty_entry c) ≡ [] → flat_map pages (before ++ empty_entry c ∷ after) ≡ flat_map pages (before ++ after)
-  no_pages pages none = flat_map-append pages before (empty_entry c ∷ after) ∙ (ap (λ (l : List ℕ). flat_map pages before ++ (l ++ flat_map pages after)) none ∙ sym (flat_map-append pages before after))
+-- the entries before a corner's, and those after it, where it has none
+record IsRoom (c : Corner) (entries : List Entry) (put : List Entry) : Type 0 where
+  pub before : List Entry
+  pub after : List Entry
+  pub split : entries ≡ before ++ after
+  pub earlier : AllBefore c before
+  pub later : AllAfter corner_of c after
+  pub puts : put ≡ before ++ (c, no_planes) ∷ after
 
-  no_tiles : (tile_of : TileEntry → Option TileLocation) → tile_of (empty_entry c) ≡ None → filter_map tile_of (before ++ empty_entry c ∷ after) ≡ filter_map tile_of (before ++ after)
+room : (c : Corner) (entries : List Entry) → Rising corner_of entries → planes_at c entries ≡ None → IsRoom c entries (insert_entry corner_cmp entries c no_planes)
+room c [] rising none = record { before = []; after = []; split = refl; earlier = tt; later = tt; puts = refl }
+room c (e ∷ rest) rising none = by (corner_cmp c e.0) (ranked_corners c e.0) none (room c rest rising.1)
+  where
+    by : (o : Ordering) → MatchOrdering o (is_before c e.0 ≡ true) (c ≡ e.0) (is_before e.0 c ≡ true) → cond (is_eq o) (Some e.1) (planes_at c rest) ≡ None → (planes_at c rest ≡ None → IsRoom c rest (insert_entry corner_cmp rest c no_planes))
+        → IsRoom c (e ∷ rest) (match_ordering o ((c, no_planes) ∷ e ∷ rest) ((e.0, no_planes) ∷ rest) (e ∷ insert_entry corner_cmp rest c no_planes))
+    by Less is none further = record { before = []; after = e ∷ rest; split = refl; earlier = tt; later = (is, after_later corner_of c e.0 rest is rising.0); puts = refl }
+    by Equal is none further = cc
+    by Greater is none further =
+        let found = further none in
+        record { before = e ∷ found.before; after = found.after; split = ap (λ l. e ∷ l) found.split; earlier = (is, found.earlier); later = found.later; puts = ap (λ l. e ∷ l) found.puts }
+
+module _ (c : Corner) (before after : List Entry) where
+  no_pages : (pages : Entry → List ℕ) → pages (c, no_planes) ≡ [] → flat_map pages (before ++ (c, no_planes) ∷ after) ≡ flat_map pages (before ++ after)
+  no_pages pages none = flat_map-append pages before ((c, no_planes) ∷ after) ∙ (ap (λ (l : List ℕ). flat_map pages before ++ (l ++ flat_map pages after)) none ∙ sym (flat_map-append pages before after))
+
+  no_tiles : (tile_of : Entry → Option TileLocation) → tile_of (c, no_planes) ≡ None → filter_map tile_of (before ++ (c, no_planes) ∷ after) ≡ filter_map tile_of (before ++ after)
   no_tiles tile_of none =
-      filter_map-append tile_of before (empty_entry c ∷ after) ∙ (ap (λ (o : Option TileLocation). filter_map tile_of before ++ cons_option o (filter_map tile_of after)) none ∙ sym (filter_map-append tile_of before after))
+      filter_map-append tile_of before ((c, no_planes) ∷ after) ∙ (ap (λ (o : Option TileLocation). filter_map tile_of before ++ cons_option o (filter_map tile_of after)) none ∙ sym (filter_map-append tile_of before after))
 
-  pub empty_alike : IsTrue (is_corner c) → AllBefore c before → AllAfter corner_of c after → AreAlike (before ++ after) (before ++ empty_entry c ∷ after)
+  empty_alike : IsTrue (is_corner c) → AllBefore c before → AllAfter corner_of c after → AreAlike (before ++ after) (before ++ (c, no_planes) ∷ after)
   empty_alike degrees earlier later format free is =
       let none : IsSoundPlane format (settled_plane None) = record { committed = tt; staged = tt } in (
         record {
           fits = is.fits;
           window = is.window;
           few = is.few;
-          in_order = adjacent_from corner_of (before ++ empty_entry c ∷ after) (rising_insert before (empty_entry c) after earlier later (rising_from corner_of (before ++ after) is.in_order));
-          sound = all_insert (IsSound format) before (empty_entry c) after (record { corner = degrees; heights = none; levels = none; labels = none; committed = tt; staged = tt }) is.sound;
+          in_order = adjacent_from corner_of (before ++ (c, no_planes) ∷ after) (rising_insert before (c, no_planes) after earlier later (rising_from corner_of (before ++ after) is.in_order));
+          sound = all_insert (IsSound format) before (c, no_planes) after (record { corner = degrees; heights = none; levels = none; labels = none; committed = tt; staged = tt }) is.sound;
           committed_room = rw (no_tiles committed_tile refl) is.committed_room;
           staged_room = rw (no_tiles staged_tile refl) is.staged_room;
-          kept_room = rw (no_pages fresh_kept refl) is.kept_room;
-          counted = λ p. let same = ap (times p) (no_pages used_pages refl) in omega (arith, same, is.counted p);
+          kept_room = rw (no_pages fresh_kept_by refl) is.kept_room;
+          counted = λ p. let same = ap (times p) (no_pages used_by refl) in omega (arith, same, is.counted p);
         },
         ap₂ (λ (xs ys : List TileLocation). let v : PageMapValue = record { sectors = free.range.sectors; format = format; committed = xs; staged = ys } in v) (no_tiles committed_tile refl) (no_tiles staged_tile refl),
       )
+
+none_from : (o : Option TileEntry) → is_some o ≡ false → o ≡ None
+none_from None none = refl
+none_from (Some s) none = absurd (false≢true (sym none))
+
+pub placed_alike : (c : Corner) (entries : List Entry) → IsTrue (is_corner c) → AreInOrder entries → is_some (planes_at c entries) ≡ false → AreAlike entries (insert_entry corner_cmp entries c no_planes)
+placed_alike c entries degrees in_order none =
+    let found = room c entries (rising_from corner_of entries in_order) (none_from (planes_at c entries) none) in
+    subst (λ (l : List Entry). AreAlike l (insert_entry corner_cmp entries c no_planes)) (sym found.split)
+    (subst (λ (l : List Entry). AreAlike (found.before ++ found.after) l) (sym found.puts) (empty_alike c found.before found.after degrees found.earlier found.later))
 
 -- ---- a tile in its location
 inserted : (t : TileLocation) (xs ys : List TileLocation) → AllByRecursion (λ u. is_before t.corner u.corner ≡ false) xs → AllByRecursion (λ u. is_before t.corner u.corner ≡ true) ys
@@ -81,31 +117,31 @@ no_heights : (c : Corner) (h l m : Option PlaneLocation) → tile_of c h l m ≡
 no_heights c None l m none = refl
 no_heights c (Some h) l m none = cc
 
-module _ (format : Format) (before : List TileEntry) (s : TileEntry) (after : List TileEntry) (free now : FreePages) (is : IsKept format (before ++ s ∷ after) free) (none : staged_tile s ≡ None)
-    (location : PlaneLocation) (whole : IsWholePlane format location) (taken : AreTaken (pages_of_plane location) free now) (room : length (staged_tiles (before ++ s ∷ after)) < format.capacity) where
+module _ (format : Format) (before : List Entry) (c : Corner) (s : TileEntry) (after : List Entry) (free now : FreePages) (is : IsKept format (before ++ (c, s) ∷ after) free) (none : staged_tile (c, s) ≡ None)
+    (location : PlaneLocation) (whole : IsWholePlane format location) (taken : AreTaken (pages_of_plane location) free now) (room : length (staged_tiles (before ++ (c, s) ∷ after)) < format.capacity) where
   abbrev new : TileEntry
   new = with_fresh s location
 
   abbrev tile : TileLocation
-  tile = record { corner = s.corner; heights = location; kept = None }
+  tile = record { corner = c; heights = location; kept = None }
 
-  rising : Rising corner_of (before ++ s ∷ after)
-  rising = rising_from corner_of (before ++ s ∷ after) is.in_order
+  rising : Rising corner_of (before ++ (c, s) ∷ after)
+  rising = rising_from corner_of (before ++ (c, s) ∷ after) is.in_order
 
-  own : IsSound format s
-  own = all_middle (IsSound format) before s after is.sound
+  own : IsSound format (c, s)
+  own = all_middle (IsSound format) before (c, s) after is.sound
 
   no_plane : staged_plane s.heights ≡ None
-  no_plane = no_heights s.corner (staged_plane s.heights) (staged_plane s.levels) (staged_plane s.labels) none
+  no_plane = no_heights c (staged_plane s.heights) (staged_plane s.levels) (staged_plane s.labels) none
 
   others : (staged_plane s.levels ≡ None) × (staged_plane s.labels ≡ None)
   others = none_together (staged_plane s.levels) (staged_plane s.labels) (subst (λ (o : Option PlaneLocation). AreTogether o (staged_plane s.levels) (staged_plane s.labels)) no_plane own.staged)
 
-  has : staged_tile new ≡ Some tile
-  has = ap (λ (o : Option PlaneLocation). tile_of s.corner (Some location) o (staged_plane s.labels)) others.0
+  has : staged_tile (c, new) ≡ Some tile
+  has = ap (λ (o : Option PlaneLocation). tile_of c (Some location) o (staged_plane s.labels)) others.0
 
   in_use : AreInUse (used_in s.heights) free
-  in_use = in_use-first (used_in s.heights) (used_in s.levels ++ used_in s.labels) free (entry_in_use before s after free is.counted)
+  in_use = in_use-first (used_in s.heights) (used_in s.levels ++ used_in s.labels) free (entry_in_use before (c, s) after free is.counted)
 
   balanced : AreBalanced (used_pages s) (used_pages new) free now
   balanced =
@@ -116,32 +152,32 @@ module _ (format : Format) (before : List TileEntry) (s : TileEntry) (after : Li
   together : AreTogether (Some location) (staged_plane s.levels) (staged_plane s.labels)
   together = subst (λ (o : Option PlaneLocation). AreTogether (Some location) o (staged_plane s.labels)) (sym others.0) (subst (λ (o : Option PlaneLocation). AreTogether (Some location) None o) (sym others.1) tt)
 
-  old_tiles : staged_tiles (before ++ s ∷ after) ≡ staged_tiles before ++ staged_tiles after
-  old_tiles = filter_map-append staged_tile before (s ∷ after) ∙ ap (λ (o : Option TileLocation). staged_tiles before ++ cons_option o (staged_tiles after)) none
+  old_tiles : staged_tiles (before ++ (c, s) ∷ after) ≡ staged_tiles before ++ staged_tiles after
+  old_tiles = filter_map-append staged_tile before ((c, s) ∷ after) ∙ ap (λ (o : Option TileLocation). staged_tiles before ++ cons_option o (staged_tiles after)) none
 
-  new_tiles : staged_tiles (before ++ new ∷ after) ≡ staged_tiles before ++ tile ∷ staged_tiles after
-  new_tiles = filter_map-append staged_tile before (new ∷ after) ∙ ap (λ (o : Option TileLocation). staged_tiles before ++ cons_option o (staged_tiles after)) has
+  new_tiles : staged_tiles (before ++ (c, new) ∷ after) ≡ staged_tiles before ++ tile ∷ staged_tiles after
+  new_tiles = filter_map-append staged_tile before ((c, new) ∷ after) ∙ ap (λ (o : Option TileLocation). staged_tiles before ++ cons_option o (staged_tiles after)) has
 
-  pub kept_added : IsKept format (before ++ new ∷ after) now
+  pub kept_added : IsKept format (before ++ (c, new) ∷ after) now
   kept_added =
-      kept_change format before s new after free now is refl
+      kept_change format before c s new after free now is
       (record { corner = own.corner; heights = record { committed = own.heights.committed; staged = whole }; levels = own.levels; labels = own.labels; committed = own.committed; staged = together })
-      (rw (same_committed_tiles before s new after refl) is.committed_room)
+      (rw (same_committed_tiles before (c, s) (c, new) after refl) is.committed_room)
       (omega (arith, room, ap length old_tiles, ap length new_tiles, length-append (staged_tiles before) (staged_tiles after), length-append (staged_tiles before) (tile ∷ staged_tiles after)))
-      (omega (arith, is.kept_room, no_more_kept before s new after (omega arith))) balanced
+      (omega (arith, is.kept_room, no_more_kept before (c, s) (c, new) after (omega arith))) balanced
 
-  pub is_added : IsAdded s.corner (page_map_of format (before ++ s ∷ after) free) (page_map_of format (before ++ new ∷ after) now)
+  pub is_added : IsAdded c (page_map_of format (before ++ (c, s) ∷ after) free) (page_map_of format (before ++ (c, new) ∷ after) now)
   is_added = record {
     location = location;
     whole = whole;
-    fresh = all_numbers (IsFresh (page_map_of format (before ++ new ∷ after) now)) (pages_of_plane location)
-        (λ p some. entry_fresh format before new after now kept_added p
+    fresh = all_numbers (IsFresh (page_map_of format (before ++ (c, new) ∷ after) now)) (pages_of_plane location)
+        (λ p some. entry_fresh format before (c, new) after now kept_added p
         (let same = ap (times p) (taken_fresh s.heights location free now in_use taken) in omega (arith, some, same, times-append p (fresh_in new.heights) (fresh_kept new))));
     changed =
-        page_map_changed format before s new after free now taken.same_range refl _
+        page_map_changed format before (c, s) (c, new) after free now taken.same_range refl _
         (new_tiles
         ∙ (inserted tile (staged_tiles before) (staged_tiles after)
-        (staged_all (λ d. is_before s.corner d ≡ false) (AllBefore s.corner) (λ x rest h. (before_not_back x.corner s.corner h.0, h.1)) before (rising_before before s after rising))
-        (staged_all (λ d. is_before s.corner d ≡ true) (AllAfter corner_of s.corner) (λ x rest h. (h.0, h.1)) after (rising_after before s after rising))
+        (staged_all (λ d. is_before c d ≡ false) (AllBefore c) (λ x rest h. (before_not_back x.0 c h.0, h.1)) before (rising_before corner_of before (c, s) after rising))
+        (staged_all (λ d. is_before c d ≡ true) (AllAfter corner_of c) (λ x rest h. (h.0, h.1)) after (rising_after before (c, s) after rising))
         ∙ ap (with_tile_location tile) (sym old_tiles)));
   }

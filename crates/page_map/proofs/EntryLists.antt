@@ -1,20 +1,18 @@
 -- Lists of entries in which one entry changes.
-use Rattle.std.proofs.Common.{◌≡◌, ◌≢◌, ℕ, ◌+◌, ◌<◌, ◌≤◌, true, false, IsTrue, inl, inr, List, [], ◌∷◌, ◌++◌, length, get_or, map, refl, sym, ap, subst, ◌∙◌, arith}
+use Rattle.std.proofs.Common.{◌≡◌, ℕ, ◌+◌, IsTrue, List, [], ◌∷◌, ◌++◌, map, refl, sym, ap, subst, ◌∙◌, arith}
 use Rattle.std.specs.Prelude.{Option, Some, None, IfSome}
 use Rattle.std.specs.List.{filter_map, flat_map, cons_option, AllByRecursion}
 use Rattle.std.proofs.lemmas.Grind.{flat_map-append}
-use Rattle.std.proofs.lemmas.Bool.{cases_eq, false_from_ne_true}
 use Rattle.lattice.specs.Corners.{Corner, is_before}
 use Rattle.lattice.specs.Lattice.{IsBefore}
-use Rattle.lattice.proofs.CornerOrder.{before_trans, same_says, after_from}
-use Rattle.lattice.proofs.Rising.{AllAfter, Rising, rises_at}
+use Rattle.lattice.proofs.Rising.{AllAfter, Rising}
 use Rattle.page_codec.specs.Formats.{Format}
 use Rattle.page_map.specs.FreePages.{FreePages, free_times, page_times, AreBalanced, AreInUse}
 use Rattle.page_map.specs.Locations.{PlaneLocation, IsWholePlane, pages_of_plane, times}
 use Rattle.page_map.specs.declared.tile_entry.TileEntry.{TileEntry}
 use Rattle.page_map.specs.PageMaps.{AreWholeKept, IsWholeTile}
 use Rattle.page_map.specs.PlaneEntries.{fresh_in, pages_at, staged_plane, used_in}
-use Rattle.page_map.specs.TileEntries.{committed_tile, committed_tiles, fresh_kept, fresh_pages, kept_of, staged_tile, staged_tiles, tile_of, used_pages, AreCounted, AreTogether, IsKept, IsSound}
+use Rattle.page_map.specs.TileEntries.{committed_tile, committed_tiles, fresh_by, fresh_kept, fresh_pages, kept_of, staged_tile, staged_tiles, tile_of, used_by, used_pages, AreCounted, AreTogether, Entry, IsKept, IsSound}
 use Rattle.page_map.specs.TileLocations.{TileLocation, pages_of_kept, pages_of_tile, reached}
 use Rattle.page_map.proofs.Times.{times-append}
 use Rattle.page_map.proofs.PlaneChanges.{used_split}
@@ -55,13 +53,14 @@ pub fresh_parts : (p : ℕ) (s : TileEntry) → times p (fresh_pages s) ≡ time
 fresh_parts p s = omega (arith, times-append p (fresh_in s.heights) (fresh_kept s), times-append p (fresh_in s.levels) (fresh_in s.labels))
 
 -- the pages that it uses are its committed tile's and the fresh ones
-pub used_tile : (format : Format) (p : ℕ) (s : TileEntry) → IsSound format s → times p (used_pages s) ≡ times p (pages_of_location (committed_tile s)) + times p (fresh_pages s)
-used_tile format p s sound =
-    omega (arith, used_parts p s, fresh_parts p s, used_split p s.heights, used_split p s.levels, used_split p s.labels, tile_times p s.corner s.heights.committed s.levels.committed s.labels.committed sound.committed)
+pub used_tile : (format : Format) (p : ℕ) (e : Entry) → IsSound format e → times p (used_by e) ≡ times p (pages_of_location (committed_tile e)) + times p (fresh_by e)
+used_tile format p e sound =
+    let s = e.1 in
+    omega (arith, used_parts p s, fresh_parts p s, used_split p s.heights, used_split p s.levels, used_split p s.labels, tile_times p e.0 s.heights.committed s.levels.committed s.labels.committed sound.committed)
 
 -- ---- pages
 -- the pages of tiles are those of the entries that have them
-pub reached_all : (tile_of : TileEntry → Option TileLocation) (entries : List TileEntry) → reached (filter_map tile_of entries) ≡ flat_map (λ s. pages_of_location (tile_of s)) entries
+pub reached_all : (tile_of : Entry → Option TileLocation) (entries : List Entry) → reached (filter_map tile_of entries) ≡ flat_map (λ s. pages_of_location (tile_of s)) entries
 reached_all tile_of [] = refl
 reached_all tile_of (s ∷ rest) = by (tile_of s) (reached_all tile_of rest)
   where
@@ -70,47 +69,48 @@ reached_all tile_of (s ∷ rest) = by (tile_of s) (reached_all tile_of rest)
     by None h = h
     by (Some t) h = ap (λ l. pages_of_tile t ++ l) h
 
-pub used_tiles : (format : Format) (p : ℕ) (entries : List TileEntry) → AllByRecursion (IsSound format) entries → times p (flat_map used_pages entries) ≡ times p (reached (committed_tiles entries)) + times p (flat_map fresh_pages entries)
+pub used_tiles : (format : Format) (p : ℕ) (entries : List Entry) → AllByRecursion (IsSound format) entries → times p (flat_map used_by entries) ≡ times p (reached (committed_tiles entries)) + times p (flat_map fresh_by entries)
 used_tiles format p [] sound = refl
 used_tiles format p (s ∷ rest) sound =
     let tiles = ap (times p) (reached_all committed_tile (s ∷ rest)) in
     let later = ap (times p) (reached_all committed_tile rest) in
-    let used = times-append p (used_pages s) (flat_map used_pages rest) in
+    let used = times-append p (used_by s) (flat_map used_by rest) in
     let committed = times-append p (pages_of_location (committed_tile s)) (flat_map (λ s. pages_of_location (committed_tile s)) rest) in
-    let fresh = times-append p (fresh_pages s) (flat_map fresh_pages rest) in
+    let fresh = times-append p (fresh_by s) (flat_map fresh_by rest) in
     omega (arith, tiles, later, used, committed, fresh, used_tile format p s sound.0, used_tiles format p rest sound.1)
 
-pub counted_tiles : (format : Format) (entries : List TileEntry) (free : FreePages) → IsKept format entries free → (p : ℕ) → times p (reached (committed_tiles entries)) + times p (flat_map fresh_pages entries) + free_times free p ≡ page_times free.range p
+pub counted_tiles : (format : Format) (entries : List Entry) (free : FreePages) → IsKept format entries free → (p : ℕ) → times p (reached (committed_tiles entries)) + times p (flat_map fresh_by entries) + free_times free p ≡ page_times free.range p
 counted_tiles format entries free is p = omega (arith, is.counted p, used_tiles format p entries is.sound)
 
 -- how often a page stands among the pages of entries, of which one is in the middle
-module _ (pages : TileEntry → List ℕ) (p : ℕ) (before : List TileEntry) (s : TileEntry) (after : List TileEntry) where
+module _ (pages : Entry → List ℕ) (p : ℕ) (before : List Entry) (s : Entry) (after : List Entry) where
   pub times-split : times p (flat_map pages (before ++ s ∷ after)) ≡ times p (flat_map pages before) + (times p (pages s) + times p (flat_map pages after))
   times-split =
       ap (times p) (flat_map-append pages before (s ∷ after))
       ∙ (times-append p (flat_map pages before) (pages s ++ flat_map pages after)
       ∙ ap (λ n. times p (flat_map pages before) + n) (times-append p (pages s) (flat_map pages after)))
 
-module _ (before : List TileEntry) (s : TileEntry) (after : List TileEntry) (free : FreePages) (counted : AreCounted (before ++ s ∷ after) free) where
-  pub entry_in_use : AreInUse (used_pages s) free
-  entry_in_use p = omega (arith, times-split used_pages p before s after, counted p)
+module _ (before : List Entry) (s : Entry) (after : List Entry) (free : FreePages) (counted : AreCounted (before ++ s ∷ after) free) where
+  pub entry_in_use : AreInUse (used_by s) free
+  entry_in_use p = omega (arith, times-split used_by p before s after, counted p)
 
-  pub counted_change : (new : TileEntry) (now : FreePages) → AreBalanced (used_pages s) (used_pages new) free now → AreCounted (before ++ new ∷ after) now
+  pub counted_change : (new : Entry) (now : FreePages) → AreBalanced (used_by s) (used_by new) free now → AreCounted (before ++ new ∷ after) now
   counted_change new now balanced p =
       let total = ap (λ n. page_times n p) balanced.same_range in
-      omega (arith, total, balanced.each p, times-split used_pages p before s after, times-split used_pages p before new after, counted p)
+      omega (arith, total, balanced.each p, times-split used_by p before s after, times-split used_by p before new after, counted p)
 
 -- ---- order
-abbrev pub corner_of : TileEntry → Corner
-corner_of s = s.corner
+abbrev pub corner_of : Entry → Corner
+corner_of e = e.0
 
-pub after_change : (c : Corner) (before : List TileEntry) (s new : TileEntry) (after : List TileEntry) → new.corner ≡ s.corner → AllAfter corner_of c (before ++ s ∷ after) → AllAfter corner_of c (before ++ new ∷ after)
-after_change c [] s new after same h = (subst (λ (d : Corner). IsTrue (is_before c d)) (sym same) h.0, h.1)
-after_change c (b ∷ before) s new after same h = (h.0, after_change c before s new after same h.1)
+module _ (c : Corner) (s new : TileEntry) where
+  after_change : (d : Corner) (before after : List Entry) → AllAfter corner_of d (before ++ (c, s) ∷ after) → AllAfter corner_of d (before ++ (c, new) ∷ after)
+  after_change d [] after h = h
+  after_change d (b ∷ before) after h = (h.0, after_change d before after h.1)
 
-pub rising_change : (before : List TileEntry) (s new : TileEntry) (after : List TileEntry) → new.corner ≡ s.corner → Rising corner_of (before ++ s ∷ after) → Rising corner_of (before ++ new ∷ after)
-rising_change [] s new after same h = (subst (λ (d : Corner). AllAfter corner_of d after) (sym same) h.0, h.1)
-rising_change (b ∷ before) s new after same h = (after_change b.corner before s new after same h.0, rising_change before s new after same h.1)
+  pub rising_change : (before after : List Entry) → Rising corner_of (before ++ (c, s) ∷ after) → Rising corner_of (before ++ (c, new) ∷ after)
+  rising_change [] after h = h
+  rising_change (b ∷ before) after h = (after_change b.0 before after h.0, rising_change before after h.1)
 
 -- what is made of a list, with the same corners, is in the same order
 module _ {X Y : Type 0} (f : X → Y) (key : Y → Corner) where
@@ -123,82 +123,65 @@ module _ {X Y : Type 0} (f : X → Y) (key : Y → Corner) where
   rising_map (x ∷ rest) rising = (after_map (key (f x)) rest rising.0, rising_map rest rising.1)
 
 -- all of the entries are before the corner
-abbrev pub AllBefore : Corner → List TileEntry → Type 0
-AllBefore c entries = AllByRecursion (λ s. IsBefore s.corner c) entries
+abbrev pub AllBefore : Corner → List Entry → Type 0
+AllBefore c entries = AllByRecursion (λ e. IsBefore e.0 c) entries
 
-pub rising_before : (before : List TileEntry) (s : TileEntry) (after : List TileEntry) → Rising corner_of (before ++ s ∷ after) → AllBefore s.corner before
-rising_before [] s after h = tt
-rising_before (b ∷ before) s after h = (by before h.0, rising_before before s after h.1)
-  where
-    by : (rest : List TileEntry) → AllAfter corner_of b.corner (rest ++ s ∷ after) → IsBefore b.corner s.corner
-    by [] g = g.0
-    by (x ∷ rest) g = by rest g.1
+module _ {X : Type 0} (key : X → Corner) where
+  pub rising_before : (before : List X) (s : X) (after : List X) → Rising key (before ++ s ∷ after) → AllByRecursion (λ x. IsBefore (key x) (key s)) before
+  rising_before [] s after h = tt
+  rising_before (b ∷ before) s after h = (by before h.0, rising_before before s after h.1)
+    where
+      by : (rest : List X) → AllAfter key (key b) (rest ++ s ∷ after) → IsBefore (key b) (key s)
+      by [] g = g.0
+      by (x ∷ rest) g = by rest g.1
 
-pub rising_after : (before : List TileEntry) (s : TileEntry) (after : List TileEntry) → Rising corner_of (before ++ s ∷ after) → AllAfter corner_of s.corner after
+pub rising_after : (before : List Entry) (s : Entry) (after : List Entry) → Rising corner_of (before ++ s ∷ after) → AllAfter corner_of s.0 after
 rising_after [] s after h = h.0
 rising_after (b ∷ before) s after h = rising_after before s after h.1
 
-pub rising_insert : (before : List TileEntry) (s : TileEntry) (after : List TileEntry) → AllBefore s.corner before → AllAfter corner_of s.corner after → Rising corner_of (before ++ after) → Rising corner_of (before ++ s ∷ after)
+pub rising_insert : (before : List Entry) (s : Entry) (after : List Entry) → AllBefore s.0 before → AllAfter corner_of s.0 after → Rising corner_of (before ++ after) → Rising corner_of (before ++ s ∷ after)
 rising_insert [] s after earlier later h = (later, h)
 rising_insert (b ∷ before) s after earlier later h = (by before h.0, rising_insert before s after earlier.1 later h.1)
   where
-    by : (rest : List TileEntry) → AllAfter corner_of b.corner (rest ++ after) → AllAfter corner_of b.corner (rest ++ s ∷ after)
+    by : (rest : List Entry) → AllAfter corner_of b.0 (rest ++ after) → AllAfter corner_of b.0 (rest ++ s ∷ after)
     by [] g = (earlier.0, g)
     by (x ∷ rest) g = (g.0, by rest g.1)
 
 -- the tiles of entries are in the order of the entries, as each has its entry's corner
-module _ (tile_of : TileEntry → Option TileLocation) (own : (s : TileEntry) → IfSome (tile_of s) (λ t. t.corner ≡ s.corner)) where
+module _ (tile_of : Entry → Option TileLocation) (own : (s : Entry) → IfSome (tile_of s) (λ t. t.corner ≡ s.0)) where
   abbrev location_of : TileLocation → Corner
   location_of t = t.corner
 
-  after_tiles : (c : Corner) (entries : List TileEntry) → AllAfter corner_of c entries → AllAfter location_of c (filter_map tile_of entries)
+  after_tiles : (c : Corner) (entries : List Entry) → AllAfter corner_of c entries → AllAfter location_of c (filter_map tile_of entries)
   after_tiles c [] h = tt
   after_tiles c (s ∷ rest) h = by (tile_of s) (own s) (after_tiles c rest h.1)
     where
-      by : (o : Option TileLocation) → IfSome o (λ t. t.corner ≡ s.corner) → AllAfter location_of c (filter_map tile_of rest) → AllAfter location_of c (cons_option o (filter_map tile_of rest))
+      by : (o : Option TileLocation) → IfSome o (λ t. t.corner ≡ s.0) → AllAfter location_of c (filter_map tile_of rest) → AllAfter location_of c (cons_option o (filter_map tile_of rest))
       by None is later = later
       by (Some t) is later = (subst (λ (d : Corner). IsTrue (is_before c d)) (sym is) h.0, later)
 
-  pub rising_tiles : (entries : List TileEntry) → Rising corner_of entries → Rising location_of (filter_map tile_of entries)
+  pub rising_tiles : (entries : List Entry) → Rising corner_of entries → Rising location_of (filter_map tile_of entries)
   rising_tiles [] h = tt
-  rising_tiles (s ∷ rest) h = by (tile_of s) (own s) (after_tiles s.corner rest h.0) (rising_tiles rest h.1)
+  rising_tiles (s ∷ rest) h = by (tile_of s) (own s) (after_tiles s.0 rest h.0) (rising_tiles rest h.1)
     where
-      by : (o : Option TileLocation) → IfSome o (λ t. t.corner ≡ s.corner) → AllAfter location_of s.corner (filter_map tile_of rest) → Rising location_of (filter_map tile_of rest)
+      by : (o : Option TileLocation) → IfSome o (λ t. t.corner ≡ s.0) → AllAfter location_of s.0 (filter_map tile_of rest) → Rising location_of (filter_map tile_of rest)
           → Rising location_of (cons_option o (filter_map tile_of rest))
       by None is later rising = rising
       by (Some t) is later rising = (subst (λ (d : Corner). AllAfter location_of d (filter_map tile_of rest)) (sym is) later, rising)
 
-pub committed_own : (s : TileEntry) → IfSome (committed_tile s) (λ t. t.corner ≡ s.corner)
-committed_own s = tile_own (λ d. d ≡ s.corner) s.corner s.heights.committed s.levels.committed s.labels.committed refl
+pub committed_own : (s : Entry) → IfSome (committed_tile s) (λ t. t.corner ≡ s.0)
+committed_own s = tile_own (λ d. d ≡ s.0) s.0 s.1.heights.committed s.1.levels.committed s.1.labels.committed refl
 
-pub staged_own : (s : TileEntry) → IfSome (staged_tile s) (λ t. t.corner ≡ s.corner)
-staged_own s = tile_own (λ d. d ≡ s.corner) s.corner (staged_plane s.heights) (staged_plane s.levels) (staged_plane s.labels) refl
+pub staged_own : (s : Entry) → IfSome (staged_tile s) (λ t. t.corner ≡ s.0)
+staged_own s = tile_own (λ d. d ≡ s.0) s.0 (staged_plane s.1.heights) (staged_plane s.1.levels) (staged_plane s.1.labels) refl
 
 -- what holds of each entry's corner holds of each staged tile's
-pub staged_all : (P : Corner → Type 0) (R : List TileEntry → Type 0) → ((s : TileEntry) (rest : List TileEntry) → R (s ∷ rest) → P s.corner × R rest) → (entries : List TileEntry) → R entries
+pub staged_all : (P : Corner → Type 0) (R : List Entry → Type 0) → ((s : Entry) (rest : List Entry) → R (s ∷ rest) → P s.0 × R rest) → (entries : List Entry) → R entries
     → AllByRecursion (λ t. P t.corner) (staged_tiles entries)
 staged_all P R each [] all = tt
 staged_all P R each (s ∷ rest) all =
-    by (staged_tile s) (tile_own P s.corner (staged_plane s.heights) (staged_plane s.levels) (staged_plane s.labels) (each s rest all).0) (staged_all P R each rest (each s rest all).1)
+    by (staged_tile s) (tile_own P s.0 (staged_plane s.1.heights) (staged_plane s.1.levels) (staged_plane s.1.labels) (each s rest all).0) (staged_all P R each rest (each s rest all).1)
   where
     by : (o : Option TileLocation) → IfSome o (λ t. P t.corner) → AllByRecursion (λ t. P t.corner) (staged_tiles rest) → AllByRecursion (λ t. P t.corner) (cons_option o (staged_tiles rest))
     by None here later = later
     by (Some t) here later = (here, later)
-
--- ---- where a corner's entry stands
-pub rising_partition : (c : Corner) (entries : List TileEntry) → Rising corner_of entries → (i j : ℕ) (d : TileEntry) → i ≤ j → j < length entries → is_before (get_or entries j d).corner c ≡ true → is_before (get_or entries i d).corner c ≡ true
-rising_partition c entries h i j d le below earlier = elim (cases_eq i j) [
-  | inl same ↦ subst (λ k. is_before (get_or entries k d).corner c ≡ true) (sym same) earlier
-  | inr other ↦ before_trans (get_or entries i d).corner (get_or entries j d).corner c (rises_at corner_of entries i j d h (omega arith) below) earlier
-]
-
--- no entry from here on is before the corner, and the one here isn't its own: all from here on are after it
-pub room_after : (c : Corner) (entries : List TileEntry) → Rising corner_of entries → (at : ℕ) → ((k : ℕ) (d : TileEntry) → at ≤ k → k < length entries → is_before (get_or entries k d).corner c ≡ false)
-    → (at < length entries → (d : TileEntry) → (get_or entries at d).corner ≢ c) → (k : ℕ) (d : TileEntry) → at ≤ k → k < length entries → is_before c (get_or entries k d).corner ≡ true
-room_after c entries h at late other k d from below =
-    let here : is_before c (get_or entries at d).corner ≡ true =
-    after_from (get_or entries at d).corner c (late at d (omega arith) (omega arith)) (false_from_ne_true _ (λ same. other (omega arith) d (same_says (get_or entries at d).corner c same))) in
-    elim (cases_eq at k) [
-      | inl same ↦ subst (λ n. is_before c (get_or entries n d).corner ≡ true) same here
-      | inr more ↦ before_trans c (get_or entries at d).corner (get_or entries k d).corner here (rises_at corner_of entries at k d h (omega arith) below)
-    ]

@@ -1,13 +1,16 @@
 -- The entry of a corner, and what it says of the page_map's tiles.
-use Rattle.std.proofs.Common.{◌≡◌, ℕ, zero, suc, ◌<◌, false, inl, inr, List, [], ◌∷◌, ◌++◌, length, take, drop, get_or, refl, sym, ap, subst, ◌∙◌, arith, ◌↔◌, Bor}
+use Rattle.std.proofs.Common.{◌≡◌, zero, suc, true, false, cond, List, [], ◌∷◌, ◌++◌, refl, sym, ap, ap₂, subst, ◌∙◌, arith, ◌↔◌, Bor, MutBor}
 use Rattle.std.specs.Prelude.{Option, Some, None, IsSome, IfSome, Contains, IfNone, option_map, option_and_then}
+use Rattle.std.specs.Option.{option_copied_mut}
 use Rattle.std.specs.List.{cons_option}
-use Rattle.std.proofs.Math.Seq.{split_at}
+use Rattle.std.specs.Ordering.{MatchOrdering, is_eq}
+use Rattle.std.specs.declared.cmp.Ordering.{Ordering}
+use Rattle.std.specs.declared.cmp.Ordering.TheVariants.{Less, Equal, Greater}
 use Rattle.std.proofs.lemmas.List.Elements.{Contains-append_right, filter_map-append}
-use Rattle.std.proofs.lemmas.Bool.{false≢true, cases_lt}
+use Rattle.std.proofs.lemmas.Bool.{false≢true}
 use Rattle.std.proofs.lemmas.Option.{same_Some}
-use Rattle.lattice.specs.Corners.{Corner, same_corner}
-use Rattle.lattice.proofs.CornerOrder.{before_not_same, after_not_same, same_from}
+use Rattle.lattice.specs.Corners.{Corner, is_before, same_corner}
+use Rattle.lattice.proofs.CornerOrder.{after_not_same, before_not_same, corner_cmp, ranked_corners, same_from}
 use Rattle.lattice.proofs.Rising.{Rising}
 use Rattle.page_codec.specs.Formats.{Format}
 use Rattle.page_map.specs.declared.locations.KeptLocations.{KeptLocations}
@@ -19,13 +22,39 @@ use Rattle.page_map.specs.PlaneEntries.{staged_plane}
 use Rattle.page_map.specs.Planes.{HasPlane, HasPlaneAt, LiesAt, plane_of}
 use Rattle.page_map.specs.TileLocations.{TileLocation}
 use Rattle.page_map.specs.PageMaps.{IsLocated}
-use Rattle.page_map.specs.TileEntries.{named_plane, staged_tile, staged_tiles, tile_of, AreTogether, IsRoomAt, IsSound}
+use Rattle.page_map.specs.TileEntries.{named_plane, planes_at, staged_tile, staged_tiles, tile_of, with_planes, AreTogether, Entry, IsSound}
 use Rattle.page_map.proofs.EntryLists.{corner_of, rising_after, rising_before, staged_all}
 use Rattle.page_map.proofs.EntryChanges.{AllOther, other_before, other_after, staged_corner, staged_split}
 
--- ---- a entry in its list
-pub split_of : (entries : List TileEntry) (at : ℕ) (s : TileEntry) → at < length entries → s ≡ get_or entries at s → entries ≡ take at entries ++ s ∷ drop (suc at) entries
-split_of entries at s below is = split_at entries at s below ∙ ap (λ x. take at entries ++ x ∷ drop (suc at) entries) (sym is)
+-- ---- what the map has at a corner
+-- the corner has these planes among the entries, and what is put there stands in the same place
+pub record IsThere (c : Corner) (s : TileEntry) (entries : List Entry) (put : TileEntry → List Entry) : Type 0 where
+  pub before : List Entry
+  pub after : List Entry
+  pub split : entries ≡ before ++ (c, s) ∷ after
+  pub puts : (w : TileEntry) → put w ≡ before ++ (c, w) ∷ after
+
+pub there : (c : Corner) (entries : List Entry) (s : TileEntry) → planes_at c entries ≡ Some s → IsThere c s entries (λ w. with_planes c w entries)
+there c [] s found = cc
+there c (e ∷ rest) s found = by (corner_cmp c e.0) (ranked_corners c e.0) found (there c rest s)
+  where
+    further : IsThere c s rest (λ w. with_planes c w rest) → IsThere c s (e ∷ rest) (λ w. e ∷ with_planes c w rest)
+    further later = record { before = e ∷ later.before; after = later.after; split = ap (λ l. e ∷ l) later.split; puts = λ w. ap (λ l. e ∷ l) (later.puts w) }
+
+    by : (o : Ordering) → MatchOrdering o (is_before c e.0 ≡ true) (c ≡ e.0) (is_before e.0 c ≡ true) → cond (is_eq o) (Some e.1) (planes_at c rest) ≡ Some s → (planes_at c rest ≡ Some s → IsThere c s rest (λ w. with_planes c w rest))
+        → IsThere c s (e ∷ rest) (λ w. cond (is_eq o) ((e.0, w) ∷ rest) (e ∷ with_planes c w rest))
+    by Less is found later = further (later found)
+    by Equal is found later = record { before = []; after = rest; split = ap₂ (λ (d : Corner) (x : TileEntry). (d, x) ∷ rest) (sym is) (same_Some e.1 s found); puts = λ w. ap (λ (d : Corner). (d, w) ∷ rest) (sym is) }
+    by Greater is found later = further (later found)
+
+-- a corner without an entry
+pub none_apart : (c : Corner) (e : Entry) (rest : List Entry) → planes_at c (e ∷ rest) ≡ None → (same_corner e.0 c ≡ false) × (planes_at c rest ≡ None)
+none_apart c e rest none = by (corner_cmp c e.0) (ranked_corners c e.0) none
+  where
+    by : (o : Ordering) → MatchOrdering o (is_before c e.0 ≡ true) (c ≡ e.0) (is_before e.0 c ≡ true) → cond (is_eq o) (Some e.1) (planes_at c rest) ≡ None → (same_corner e.0 c ≡ false) × (planes_at c rest ≡ None)
+    by Less is none = (after_not_same c e.0 is, none)
+    by Equal is none = cc
+    by Greater is none = (before_not_same e.0 c is, none)
 
 -- ---- tiles of other corners
 pub not_located : (c : Corner) (tiles : List TileLocation) → AllOther c tiles → IsLocated c tiles → ⊥
@@ -47,48 +76,48 @@ tile_at_corner c [] (k, below, here) = absurd (omega arith)
 tile_at_corner c (t ∷ rest) (zero, below, here) = (t, ((0, omega arith, refl), (here, (t.heights, refl))))
 tile_at_corner c (t ∷ rest) (suc k, below, here) = let (u, ((j, within, is), found)) = tile_at_corner c rest (k, omega arith, here) in (u, ((suc j, omega arith, is), found))
 
-module _ (before : List TileEntry) (s : TileEntry) (after : List TileEntry) (rising : Rising corner_of (before ++ s ∷ after)) where
-  others : AllOther s.corner (staged_tiles before) × AllOther s.corner (staged_tiles after)
-  others = (other_before s.corner before (rising_before before s after rising), other_after s.corner after (rising_after before s after rising))
+module _ (before : List Entry) (s : Entry) (after : List Entry) (rising : Rising corner_of (before ++ s ∷ after)) where
+  others : AllOther s.0 (staged_tiles before) × AllOther s.0 (staged_tiles after)
+  others = (other_before s.0 before (rising_before corner_of before s after rising), other_after s.0 after (rising_after before s after rising))
 
-  pub located_here : IsLocated s.corner (staged_tiles (before ++ s ∷ after)) → IsSome (staged_tile s)
-  located_here located = by (staged_tile s) (subst (λ (l : List TileLocation). IsLocated s.corner l) (filter_map-append staged_tile before (s ∷ after)) located)
+  pub located_here : IsLocated s.0 (staged_tiles (before ++ s ∷ after)) → IsSome (staged_tile s)
+  located_here located = by (staged_tile s) (subst (λ (l : List TileLocation). IsLocated s.0 l) (filter_map-append staged_tile before (s ∷ after)) located)
     where
-      by : (o : Option TileLocation) → IsLocated s.corner (staged_tiles before ++ cons_option o (staged_tiles after)) → IsSome o
-      by None located = absurd (not_located s.corner (staged_tiles before ++ staged_tiles after) (other-append s.corner (staged_tiles before) (staged_tiles after) others.0 others.1) located)
+      by : (o : Option TileLocation) → IsLocated s.0 (staged_tiles before ++ cons_option o (staged_tiles after)) → IsSome o
+      by None located = absurd (not_located s.0 (staged_tiles before ++ staged_tiles after) (other-append s.0 (staged_tiles before) (staged_tiles after) others.0 others.1) located)
       by (Some t) located = refl
 
   pub tile_here : (t : TileLocation) → staged_tile s ≡ Some t → Contains (staged_tiles (before ++ s ∷ after)) t
   tile_here t had = subst (λ (l : List TileLocation). Contains l t) (sym (staged_split before s after rising t had)) (Contains-append_right (staged_tiles before) (t ∷ staged_tiles after) t (0, omega arith, refl))
 
-  pub located_there : (t : TileLocation) → staged_tile s ≡ Some t → IsLocated s.corner (staged_tiles (before ++ s ∷ after))
-  located_there t had = located-from_tile s.corner (staged_tiles (before ++ s ∷ after)) t (tile_here t had) (staged_corner before s after rising t had)
+  pub located_there : (t : TileLocation) → staged_tile s ≡ Some t → IsLocated s.0 (staged_tiles (before ++ s ∷ after))
+  located_there t had = located-from_tile s.0 (staged_tiles (before ++ s ∷ after)) t (tile_here t had) (staged_corner before s after rising t had)
 
   -- the corner's tile is the entry's
-  pub tile_is : (t : TileLocation) → Contains (staged_tiles (before ++ s ∷ after)) t → t.corner ≡ s.corner → staged_tile s ≡ Some t
+  pub tile_is : (t : TileLocation) → Contains (staged_tiles (before ++ s ∷ after)) t → t.corner ≡ s.0 → staged_tile s ≡ Some t
   tile_is t there same = by (staged_tile s) refl (subst (λ (l : List TileLocation). Contains l t) (filter_map-append staged_tile before (s ∷ after)) there)
     where
-      not_among : (tiles : List TileLocation) → AllOther s.corner tiles → Contains tiles t → ⊥
-      not_among tiles other among = not_located s.corner tiles other (located-from_tile s.corner tiles t among same)
+      not_among : (tiles : List TileLocation) → AllOther s.0 tiles → Contains tiles t → ⊥
+      not_among tiles other among = not_located s.0 tiles other (located-from_tile s.0 tiles t among same)
 
-      pick : (xs : List TileLocation) (u : TileLocation) (ys : List TileLocation) → AllOther s.corner xs → AllOther s.corner ys → Contains (xs ++ u ∷ ys) t → u ≡ t
+      pick : (xs : List TileLocation) (u : TileLocation) (ys : List TileLocation) → AllOther s.0 xs → AllOther s.0 ys → Contains (xs ++ u ∷ ys) t → u ≡ t
       pick [] u ys first second (zero, below, here) = here
       pick [] u ys first second (suc k, below, here) = absurd (not_among ys second (k, omega arith, here))
-      pick (x ∷ xs) u ys first second (zero, below, here) = absurd (false≢true (sym first.0 ∙ same_from x.corner s.corner (ap (λ (v : TileLocation). v.corner) here ∙ same)))
+      pick (x ∷ xs) u ys first second (zero, below, here) = absurd (false≢true (sym first.0 ∙ same_from x.corner s.0 (ap (λ (v : TileLocation). v.corner) here ∙ same)))
       pick (x ∷ xs) u ys first second (suc k, below, here) = pick xs u ys first.1 second (k, omega arith, here)
 
       by : (o : Option TileLocation) → staged_tile s ≡ o → Contains (staged_tiles before ++ cons_option o (staged_tiles after)) t → o ≡ Some t
-      by None is among = absurd (not_among (staged_tiles before ++ staged_tiles after) (other-append s.corner (staged_tiles before) (staged_tiles after) others.0 others.1) among)
+      by None is among = absurd (not_among (staged_tiles before ++ staged_tiles after) (other-append s.0 (staged_tiles before) (staged_tiles after) others.0 others.1) among)
       by (Some u) is among = ap Some (pick (staged_tiles before) u (staged_tiles after) others.0 others.1 among)
 
 -- ---- no entry
-pub room_other : (c : Corner) (at : ℕ) (entries : List TileEntry) → IsRoomAt c at entries → AllOther c (staged_tiles entries)
-room_other c at entries room =
-    staged_all (λ d. same_corner d c ≡ false) (λ (l : List TileEntry). (k : ℕ) (d : TileEntry) → k < length l → same_corner (get_or l k d).corner c ≡ false)
-    (λ s rest each. (each 0 s (omega arith), λ k d below. each (suc k) d (omega arith))) entries (λ k d below. elim (cases_lt k at) [
-      | inl early ↦ before_not_same (get_or entries k d).corner c (room.before k d (omega arith) early)
-      | inr late ↦ after_not_same c (get_or entries k d).corner (room.after k d late below)
-    ])
+pub no_entry : (c : Corner) (entries : List Entry) → planes_at c entries ≡ None → IsLocated c (staged_tiles entries) → ⊥
+no_entry c entries none = not_located c (staged_tiles entries) (staged_all (λ d. same_corner d c ≡ false) (λ (l : List Entry). planes_at c l ≡ None) (none_apart c) entries none)
+
+-- what is lent for a corner with a staged tile
+pub some_entry : (c : Corner) (entries : List Entry) (r : Option (MutBor TileEntry)) → option_copied_mut r ≡ planes_at c entries → IsLocated c (staged_tiles entries) → IsSome r
+some_entry c entries None is located = absurd (no_entry c entries (sym is) located)
+some_entry c entries (Some s) is located = refl
 
 -- ---- where a plane lies
 of_kept : (f : KeptLocations → PlaneLocation) (o : Option KeptLocations) (location : PlaneLocation) → Some location ≡ option_map f o → (k : KeptLocations) × ((o ≡ Some k) × (f k ≡ location))
@@ -120,10 +149,10 @@ kept_in c (Some h) None (Some m) together = absurd together
 kept_in c (Some h) (Some l) None together = absurd together
 kept_in c (Some h) (Some l) (Some m) together = (refl, refl)
 
-pub plane_staged : (format : Format) (plane : Plane) (s : TileEntry) → IsSound format s → option_and_then (plane_of plane) (staged_tile s) ≡ staged_plane (named_plane plane s)
-plane_staged format Heights s sound = heights_in s.corner (staged_plane s.heights) (staged_plane s.levels) (staged_plane s.labels)
-plane_staged format Levels s sound = (kept_in s.corner (staged_plane s.heights) (staged_plane s.levels) (staged_plane s.labels) sound.staged).0
-plane_staged format Labels s sound = (kept_in s.corner (staged_plane s.heights) (staged_plane s.levels) (staged_plane s.labels) sound.staged).1
+pub plane_staged : (format : Format) (plane : Plane) (s : Entry) → IsSound format s → option_and_then (plane_of plane) (staged_tile s) ≡ staged_plane (named_plane plane s.1)
+plane_staged format Heights s sound = heights_in s.0 (staged_plane s.1.heights) (staged_plane s.1.levels) (staged_plane s.1.labels)
+plane_staged format Levels s sound = (kept_in s.0 (staged_plane s.1.heights) (staged_plane s.1.levels) (staged_plane s.1.labels) sound.staged).0
+plane_staged format Labels s sound = (kept_in s.0 (staged_plane s.1.heights) (staged_plane s.1.levels) (staged_plane s.1.labels) sound.staged).1
 
 -- a plane is found where the corner has one, and heights where it has a tile
 pub held_plane : (c : Corner) (plane : Plane) (tiles : List TileLocation) (r : Option (Bor PlaneLocation)) → IfSome r (λ location. HasPlaneAt tiles c plane location.now) → IfNone r (¬ HasPlane tiles c plane) → IsSome r ↔ HasPlane tiles c plane

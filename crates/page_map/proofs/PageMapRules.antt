@@ -6,13 +6,12 @@ use Rattle.std.proofs.lemmas.List.Elements.{All-nil, All-cons}
 use Rattle.lattice.specs.Corners.{is_corner}
 use Rattle.lattice.proofs.Rising.{Rising, rising_from, adjacent_from}
 use Rattle.page_codec.specs.Formats.{Format}
-use Rattle.page_map.specs.declared.tile_entry.TileEntry.{TileEntry}
 use Rattle.page_map.specs.Locations.{times}
 use Rattle.page_map.specs.FreePages.{FreePages, PageRange, page_times}
 use Rattle.page_map.specs.TileLocations.{TileLocation, KeepsPageRule, reached}
 use Rattle.page_map.specs.PageMaps.{IsPageMap, IsFresh, IsWholeTile}
 use Rattle.page_map.specs.PlaneEntries.{staged_plane}
-use Rattle.page_map.specs.TileEntries.{committed_tile, committed_tiles, fresh_pages, page_map_of, staged_tile, staged_tiles, used_pages, IsKept, IsSound}
+use Rattle.page_map.specs.TileEntries.{committed_tile, committed_tiles, fresh_by, page_map_of, staged_tile, staged_tiles, used_by, Entry, IsKept, IsSound}
 use Rattle.page_map.proofs.Times.{times-append, times_of_member, all_numbers}
 use Rattle.page_map.proofs.FreeTimes.{page_at, page_le}
 use Rattle.page_map.proofs.PlaneChanges.{staged_le}
@@ -27,22 +26,22 @@ page_rule range tiles few = record {
 }
 
 -- staged tiles reach no more than their entries use
-all_staged_le : (format : Format) (p : ℕ) (entries : List TileEntry) → AllByRecursion (IsSound format) entries → times p (flat_map (λ s. pages_of_location (staged_tile s)) entries) ≤ times p (flat_map used_pages entries)
+all_staged_le : (format : Format) (p : ℕ) (entries : List Entry) → AllByRecursion (IsSound format) entries → times p (flat_map (λ s. pages_of_location (staged_tile s)) entries) ≤ times p (flat_map used_by entries)
 all_staged_le format p [] sound = omega arith
 all_staged_le format p (s ∷ rest) sound =
     let staged = times-append p (pages_of_location (staged_tile s)) (flat_map (λ s. pages_of_location (staged_tile s)) rest) in
-    let used = times-append p (used_pages s) (flat_map used_pages rest) in
-    let tile = tile_times p s.corner (staged_plane s.heights) (staged_plane s.levels) (staged_plane s.labels) sound.0.staged in
-    omega (arith, staged, used, tile, used_parts p s, staged_le p s.heights, staged_le p s.levels, staged_le p s.labels, all_staged_le format p rest sound.1)
+    let used = times-append p (used_by s) (flat_map used_by rest) in
+    let tile = tile_times p s.0 (staged_plane s.1.heights) (staged_plane s.1.levels) (staged_plane s.1.labels) sound.0.staged in
+    omega (arith, staged, used, tile, used_parts p s.1, staged_le p s.1.heights, staged_le p s.1.levels, staged_le p s.1.labels, all_staged_le format p rest sound.1)
 
-module _ (format : Format) (entries : List TileEntry) (free : FreePages) (is : IsKept format entries free) where
+module _ (format : Format) (entries : List Entry) (free : FreePages) (is : IsKept format entries free) where
   committed_few : (p : ℕ) → times p (reached (committed_tiles entries)) ≤ page_times free.range p
   committed_few p = omega (arith, counted_tiles format entries free is p)
 
   staged_few : (p : ℕ) → times p (reached (staged_tiles entries)) ≤ page_times free.range p
   staged_few p = let staged = ap (times p) (reached_all staged_tile entries) in omega (arith, is.counted p, staged, all_staged_le format p entries is.sound)
 
-  pub fresh_page : (p : ℕ) → 1 ≤ times p (flat_map fresh_pages entries) → IsFresh (page_map_of format entries free) p
+  pub fresh_page : (p : ℕ) → 1 ≤ times p (flat_map fresh_by entries) → IsFresh (page_map_of format entries free) p
   fresh_page p some =
       let all = counted_tiles format entries free is p in
       let few = page_le free.range p in
@@ -54,7 +53,7 @@ module _ (format : Format) (entries : List TileEntry) (free : FreePages) (is : I
       }
 
 -- ---- each tile
-pub all_tiles : (P : TileLocation → Type 0) (Q : TileEntry → Type 0) (tile_of : TileEntry → Option TileLocation) → ((s : TileEntry) → Q s → IfSome (tile_of s) P) → (entries : List TileEntry) → AllByRecursion Q entries → All P (filter_map tile_of entries)
+pub all_tiles : (P : TileLocation → Type 0) (Q : Entry → Type 0) (tile_of : Entry → Option TileLocation) → ((s : Entry) → Q s → IfSome (tile_of s) P) → (entries : List Entry) → AllByRecursion Q entries → All P (filter_map tile_of entries)
 all_tiles P Q tile_of each [] all = All-nil P
 all_tiles P Q tile_of each (s ∷ rest) all = by (tile_of s) (each s all.0) (all_tiles P Q tile_of each rest all.1)
   where
@@ -63,23 +62,23 @@ all_tiles P Q tile_of each (s ∷ rest) all = by (tile_of s) (each s all.0) (all
     by (Some t) here later = All-cons P t (filter_map tile_of rest) here later
 
 -- ---- a page_map
-pub mapped : (format : Format) (entries : List TileEntry) (free : FreePages) → IsKept format entries free → IsPageMap (page_map_of format entries free)
+pub mapped : (format : Format) (entries : List Entry) (free : FreePages) → IsKept format entries free → IsPageMap (page_map_of format entries free)
 mapped format entries free is =
     let rising : Rising corner_of entries = rising_from corner_of entries is.in_order in
     record {
       size = omega (arith, is.window.enough, is.window.within);
       committed = record {
-        corners = all_tiles (λ t. IsTrue (is_corner t.corner)) (IsSound format) committed_tile (λ s sound. tile_own (λ d. IsTrue (is_corner d)) s.corner s.heights.committed s.levels.committed s.labels.committed sound.corner) entries is.sound;
+        corners = all_tiles (λ t. IsTrue (is_corner t.corner)) (IsSound format) committed_tile (λ s sound. tile_own (λ d. IsTrue (is_corner d)) s.0 s.1.heights.committed s.1.levels.committed s.1.labels.committed sound.corner) entries is.sound;
         in_order = adjacent_from (λ (t : TileLocation). t.corner) (committed_tiles entries) (rising_tiles committed_tile committed_own entries rising);
         room = is.committed_room;
-        whole = all_tiles (IsWholeTile format) (IsSound format) committed_tile (λ s sound. tile_whole format s.corner s.heights.committed s.levels.committed s.labels.committed sound.heights.committed sound.levels.committed sound.labels.committed) entries is.sound;
+        whole = all_tiles (IsWholeTile format) (IsSound format) committed_tile (λ s sound. tile_whole format s.0 s.1.heights.committed s.1.levels.committed s.1.labels.committed sound.heights.committed sound.levels.committed sound.labels.committed) entries is.sound;
         page_rule = page_rule free.range (committed_tiles entries) (committed_few format entries free is);
       };
       staged = record {
-        corners = all_tiles (λ t. IsTrue (is_corner t.corner)) (IsSound format) staged_tile (λ s sound. tile_own (λ d. IsTrue (is_corner d)) s.corner (staged_plane s.heights) (staged_plane s.levels) (staged_plane s.labels) sound.corner) entries is.sound;
+        corners = all_tiles (λ t. IsTrue (is_corner t.corner)) (IsSound format) staged_tile (λ s sound. tile_own (λ d. IsTrue (is_corner d)) s.0 (staged_plane s.1.heights) (staged_plane s.1.levels) (staged_plane s.1.labels) sound.corner) entries is.sound;
         in_order = adjacent_from (λ (t : TileLocation). t.corner) (staged_tiles entries) (rising_tiles staged_tile staged_own entries rising);
         room = is.staged_room;
-        whole = all_tiles (IsWholeTile format) (IsSound format) staged_tile (λ s sound. tile_whole format s.corner (staged_plane s.heights) (staged_plane s.levels) (staged_plane s.labels) sound.heights.staged sound.levels.staged sound.labels.staged) entries is.sound;
+        whole = all_tiles (IsWholeTile format) (IsSound format) staged_tile (λ s sound. tile_whole format s.0 (staged_plane s.1.heights) (staged_plane s.1.levels) (staged_plane s.1.labels) sound.heights.staged sound.levels.staged sound.labels.staged) entries is.sound;
         page_rule = page_rule free.range (staged_tiles entries) (staged_few format entries free is);
       };
     }

@@ -15,19 +15,18 @@ use Rattle.page_map.specs.declared.locations.KeptLocations.{KeptLocations}
 use Rattle.page_map.specs.declared.plane_entry.PlaneEntry.{PlaneEntry}
 use Rattle.page_map.specs.declared.plane_entry.Staged.{Staged}
 use Rattle.page_map.specs.declared.plane_entry.Staged.TheVariants.{AsCommitted, Dropped, Fresh}
-use Rattle.page_map.specs.declared.tile_entry.TileEntry.{TileEntry}
 use Rattle.page_map.specs.Locations.{PlaneLocation, IsWholePlane, times, pages_behind, pages_of_plane}
 use Rattle.page_map.specs.FreePages.{FreePages, page_times}
 use Rattle.page_map.specs.PlaneEntries.{behind_at, fresh_as, fresh_in, staged_as, staged_plane, HasRoom}
 use Rattle.page_map.specs.TileLocations.{TileLocation, pages_of_tile, pages_of_kept, reached}
 use Rattle.page_map.specs.PageMaps.{IsWholeTile, AreWholeKept}
-use Rattle.page_map.specs.TileEntries.{committed_tile, committed_tiles, fresh_kept, fresh_pages, staged_tile, staged_tiles, tile_of, IsKept, IsSound, IsSoundPlane}
+use Rattle.page_map.specs.TileEntries.{committed_tile, committed_tiles, fresh_by, fresh_kept_by, staged_tile, staged_tiles, tile_of, Entry, IsKept, IsSound, IsSoundPlane}
 use Rattle.page_map.proofs.Times.{one, one-other, times-append, length-differing}
 use Rattle.page_map.proofs.FreeTimes.{free_near, page_one}
 use Rattle.page_map.proofs.EntryLists.{counted_tiles, pages_of_location, reached_all, tile_whole}
 
-abbrev fresh_heights : TileEntry → List ℕ
-fresh_heights s = fresh_in s.heights
+abbrev fresh_heights : Entry → List ℕ
+fresh_heights s = fresh_in s.1.heights
 
 -- ---- numbers that all stand in a list or a set are no more than these have
 -- the list without a number that stands in it
@@ -70,8 +69,8 @@ abbrev count : Option TileLocation → ℕ
 count None = 0
 count (Some t) = 1
 
-pages_few : (pages : TileEntry → List ℕ) (tile_of : TileEntry → Option TileLocation) (most : ℕ) (Q : TileEntry → Type 0) → ((s : TileEntry) → Q s → length (pages s) ≤ most * count (tile_of s))
-    → (entries : List TileEntry) → AllByRecursion Q entries → length (flat_map pages entries) ≤ most * length (filter_map tile_of entries)
+pages_few : (pages : Entry → List ℕ) (tile_of : Entry → Option TileLocation) (most : ℕ) (Q : Entry → Type 0) → ((s : Entry) → Q s → length (pages s) ≤ most * count (tile_of s))
+    → (entries : List Entry) → AllByRecursion Q entries → length (flat_map pages entries) ≤ most * length (filter_map tile_of entries)
 pages_few pages tile_of most Q each [] all = omega arith
 pages_few pages tile_of most Q each (s ∷ rest) all = by (tile_of s) (each s all.0) (pages_few pages tile_of most Q each rest all.1)
   where
@@ -94,8 +93,8 @@ module _ (format : Format) where
   tile_few : (t : TileLocation) → IsWholeTile format t → length (pages_of_tile t) ≤ 3 * plane_size
   tile_few t whole = omega (arith, length-append (pages_of_plane t.heights) (pages_of_kept t.kept), plane_few t.heights whole.heights, kept_few t.kept whole.kept)
 
-  committed_few : (s : TileEntry) → IsSound format s → length (pages_of_location (committed_tile s)) ≤ 3 * plane_size * count (committed_tile s)
-  committed_few s sound = by (committed_tile s) (tile_whole format s.corner s.heights.committed s.levels.committed s.labels.committed sound.heights.committed sound.levels.committed sound.labels.committed)
+  committed_few : (s : Entry) → IsSound format s → length (pages_of_location (committed_tile s)) ≤ 3 * plane_size * count (committed_tile s)
+  committed_few s sound = by (committed_tile s) (tile_whole format s.0 s.1.heights.committed s.1.levels.committed s.1.labels.committed sound.heights.committed sound.levels.committed sound.labels.committed)
     where
       by : (o : Option TileLocation) → IfSome o (IsWholeTile format) → length (pages_of_location o) ≤ 3 * plane_size * count o
       by None whole = omega arith
@@ -109,19 +108,19 @@ module _ (format : Format) where
       by o Dropped whole = omega arith
       by o (Fresh location) whole = omega (arith, length-differing (pages_behind location) (behind_at o), plane_few location whole)
 
-  heights_few : (s : TileEntry) → IsSound format s → length (fresh_heights s) ≤ plane_size * count (staged_tile s)
-  heights_few s sound = by s.heights.committed s.heights.staged (fresh_few s.heights sound.heights)
+  heights_few : (s : Entry) → IsSound format s → length (fresh_heights s) ≤ plane_size * count (staged_tile s)
+  heights_few s sound = by s.1.heights.committed s.1.heights.staged (fresh_few s.1.heights sound.heights)
     where
-      by : (o : Option PlaneLocation) (g : Staged) → length (fresh_as o g) ≤ plane_size → length (fresh_as o g) ≤ plane_size * count (tile_of s.corner (staged_as o g) (staged_plane s.levels) (staged_plane s.labels))
+      by : (o : Option PlaneLocation) (g : Staged) → length (fresh_as o g) ≤ plane_size → length (fresh_as o g) ≤ plane_size * count (tile_of s.0 (staged_as o g) (staged_plane s.1.levels) (staged_plane s.1.labels))
       by o AsCommitted few = omega arith
       by o Dropped few = omega arith
       by o (Fresh location) few = omega (arith, few)
 
-  all_heights_few : (entries : List TileEntry) → AllByRecursion (IsSound format) entries → length (flat_map fresh_heights entries) ≤ plane_size * length (staged_tiles entries)
+  all_heights_few : (entries : List Entry) → AllByRecursion (IsSound format) entries → length (flat_map fresh_heights entries) ≤ plane_size * length (staged_tiles entries)
   all_heights_few = pages_few fresh_heights staged_tile plane_size (IsSound format) heights_few
 
   -- all but those of one entry's tile
-  other_heights_few : (before : List TileEntry) (s : TileEntry) (after : List TileEntry) → AllByRecursion (IsSound format) (before ++ s ∷ after) → IsSome (staged_tile s)
+  other_heights_few : (before : List Entry) (s : Entry) (after : List Entry) → AllByRecursion (IsSound format) (before ++ s ∷ after) → IsSome (staged_tile s)
       → length (flat_map fresh_heights (before ++ s ∷ after)) + plane_size ≤ plane_size * length (staged_tiles (before ++ s ∷ after)) + length (fresh_heights s)
   other_heights_few [] s after all some = by (staged_tile s) some
     where
@@ -137,14 +136,14 @@ module _ (format : Format) where
       by (Some t) here later = omega (arith, length-append (fresh_heights b) (flat_map fresh_heights (before ++ s ∷ after)), mul-add plane_size 1 (length (staged_tiles (before ++ s ∷ after))))
 
 -- the fresh pages are those of heights and those of kept planes
-pub fresh_lengths : (entries : List TileEntry) → length (flat_map fresh_pages entries) ≡ length (flat_map fresh_heights entries) + length (flat_map fresh_kept entries)
+pub fresh_lengths : (entries : List Entry) → length (flat_map fresh_by entries) ≡ length (flat_map fresh_heights entries) + length (flat_map fresh_kept_by entries)
 fresh_lengths [] = refl
 fresh_lengths (s ∷ rest) =
     let parts = fresh_lengths rest in
-    let all = length-append (fresh_pages s) (flat_map fresh_pages rest) in
-    let here = length-append (fresh_heights s) (fresh_kept s) in
+    let all = length-append (fresh_by s) (flat_map fresh_by rest) in
+    let here = length-append (fresh_heights s) (fresh_kept_by s) in
     let heights = length-append (fresh_heights s) (flat_map fresh_heights rest) in
-    let kept = length-append (fresh_kept s) (flat_map fresh_kept rest) in
+    let kept = length-append (fresh_kept_by s) (flat_map fresh_kept_by rest) in
     omega arith
 
 left_over : (total left m c nc lc lf : ℕ) → 4 + (4 * c + 2) * m ≤ total → total - 4 ≤ lc + lf + left → lc ≤ 3 * m * nc → m * nc ≤ m * c → m * c + 2 * m ≤ lf + left
@@ -153,28 +152,28 @@ left_over total left m c nc lc lf size all committed committed_most =
     let three : 3 * m * nc ≡ 3 * (m * nc) = mul_assoc 3 m nc in
     omega arith
 
-module _ (format : Format) (entries : List TileEntry) (free : FreePages) (is : IsKept format entries free) where
+module _ (format : Format) (entries : List Entry) (free : FreePages) (is : IsKept format entries free) where
   -- all pages of the window are committed, fresh or free, and the committed tiles have few
-  pub all_used : free.range.window - 4 ≤ length (reached (committed_tiles entries)) + length (flat_map fresh_pages entries) + len free.free
+  pub all_used : free.range.window - 4 ≤ length (reached (committed_tiles entries)) + length (flat_map fresh_by entries) + len free.free
   all_used =
-      let used = reached (committed_tiles entries) ++ flat_map fresh_pages entries in
+      let used = reached (committed_tiles entries) ++ flat_map fresh_by entries in
       let all : free.range.window - 4 ≤ length used + len free.free =
       pages_le (free.range.window - 4) used free.free (λ p low high. (
       let near = free_near free p (omega (arith, is.window.enough)) in
       let page : page_times free.range p ≡ 1 = page_one free.range p (low, omega (arith, is.window.enough, is.window.within)) in
-      omega (arith, counted_tiles format entries free is p, near, page, times-append p (reached (committed_tiles entries)) (flat_map fresh_pages entries)))) in
-      omega (arith, all, length-append (reached (committed_tiles entries)) (flat_map fresh_pages entries))
+      omega (arith, counted_tiles format entries free is p, near, page, times-append p (reached (committed_tiles entries)) (flat_map fresh_by entries)))) in
+      omega (arith, all, length-append (reached (committed_tiles entries)) (flat_map fresh_by entries))
 
   pub used_few : length (reached (committed_tiles entries)) ≤ 3 * plane_pages_of format * length (committed_tiles entries)
   used_few = rw (reached_all committed_tile entries) (pages_few (λ s. pages_of_location (committed_tile s)) committed_tile (3 * plane_pages_of format) (IsSound format) (committed_few format) entries is.sound)
 
   -- what the committed tiles leave: a plane for each tile that there is room for, and two more
-  all_left : plane_pages_of format * format.capacity + 2 * plane_pages_of format ≤ length (flat_map fresh_pages entries) + len free.free
+  all_left : plane_pages_of format * format.capacity + 2 * plane_pages_of format ≤ length (flat_map fresh_by entries) + len free.free
   all_left =
       left_over free.range.window (len free.free) (plane_pages_of format) format.capacity (length (committed_tiles entries)) _ _ is.window.enough all_used used_few (mul-le-mul_left (plane_pages_of format) is.committed_room)
 
   -- where no page is fresh there are two planes
-  pub room_to_keep : flat_map fresh_pages entries ≡ [] → 2 * plane_pages_of format ≤ len free.free
+  pub room_to_keep : flat_map fresh_by entries ≡ [] → 2 * plane_pages_of format ≤ len free.free
   room_to_keep none = let nothing = ap length none in omega (arith, all_left, nothing)
 
   -- for one tile more there is a plane
@@ -185,7 +184,7 @@ module _ (format : Format) (entries : List TileEntry) (free : FreePages) (is : I
       omega (arith, all_left, fresh_lengths entries, all_heights_few format entries is.sound, is.kept_room, tiles, mul-add m (length (staged_tiles entries)) 1)
 
 -- for the heights of a staged tile there is one, with those pages of them that are fresh already
-module _ (format : Format) (before : List TileEntry) (s : TileEntry) (after : List TileEntry) (free : FreePages) (is : IsKept format (before ++ s ∷ after) free) (sound : IsSound format s) where
+module _ (format : Format) (before : List Entry) (s : Entry) (after : List Entry) (free : FreePages) (is : IsKept format (before ++ s ∷ after) free) (sound : IsSound format s) where
   heights_left : IsSome (staged_tile s) → plane_pages_of format ≤ length (fresh_heights s) + len free.free
   heights_left some =
       let entries = before ++ s ∷ after in
@@ -193,13 +192,13 @@ module _ (format : Format) (before : List TileEntry) (s : TileEntry) (after : Li
       let tiles : m * length (staged_tiles entries) ≤ m * format.capacity = mul-le-mul_left m is.staged_room in
       omega (arith, all_left format entries free is, fresh_lengths entries, other_heights_few format before s after is.sound some, is.kept_room, tiles)
 
-  pub room_for_heights : HasRoom s.heights (len free.free)
-  room_for_heights = by (staged_plane s.heights) refl sound.heights.staged
+  pub room_for_heights : HasRoom s.1.heights (len free.free)
+  room_for_heights = by (staged_plane s.1.heights) refl sound.heights.staged
     where
-      by : (o : Option PlaneLocation) → staged_plane s.heights ≡ o → IfSome o (IsWholePlane format) → IfSome o (λ l. length (pages_of_plane l) ≤ length (fresh_in s.heights) + len free.free)
+      by : (o : Option PlaneLocation) → staged_plane s.1.heights ≡ o → IfSome o (IsWholePlane format) → IfSome o (λ l. length (pages_of_plane l) ≤ length (fresh_in s.1.heights) + len free.free)
       by None had whole = tt
       by (Some l) had whole =
-          omega (arith, plane_few format l whole, heights_left (ap (λ (o : Option PlaneLocation). is_some (tile_of s.corner o (staged_plane s.levels) (staged_plane s.labels))) had))
+          omega (arith, plane_few format l whole, heights_left (ap (λ (o : Option PlaneLocation). is_some (tile_of s.0 o (staged_plane s.1.levels) (staged_plane s.1.labels))) had))
 
 -- what lists the planes of all committed tiles by the second version finds room, where a store of it does
 upgraded_over : (total used left c n i p : ℕ) → 4 + (4 * c + 2) * (1 + i + p) ≤ total → total - 4 ≤ used + left → used ≤ 3 * (1 + p) * n → n ≤ c → 1 ≤ i → 1 ≤ p → 3 * (1 + i) * n ≤ left
@@ -216,11 +215,11 @@ upgraded_over total used left c n i p size all committed most some_index some_pa
     let page_least : n * 1 ≤ n * p = mul-le-mul_left n some_page in
     omega arith
 
-pub room_to_upgrade : (format : Format) (entries : List TileEntry) (free : FreePages) → IsKept format entries free → flat_map fresh_pages entries ≡ [] → format.version ≡ One → 3 ≤ format.side → sectors_asked (upgraded format) ≤ free.range.sectors
+pub room_to_upgrade : (format : Format) (entries : List Entry) (free : FreePages) → IsKept format entries free → flat_map fresh_by entries ≡ [] → format.version ≡ One → 3 ≤ format.side → sectors_asked (upgraded format) ≤ free.range.sectors
     → 3 * (1 + index_pages_of (upgraded format)) * length (committed_tiles entries) ≤ len free.free
 room_to_upgrade format entries free is none first side size =
     let none_index : index_pages_of format ≡ 0 = ap (λ v. index_pages_by v (pages_of format.side)) first in
-    let nothing : length (flat_map fresh_pages entries) ≡ 0 = ap length none in
+    let nothing : length (flat_map fresh_by entries) ≡ 0 = ap length none in
     let square : format.side * 3 ≤ format.side * format.side = mul-le-mul_left format.side side in
     let some_page : 1 ≤ pages_of format.side = omega (arith, square, side) in
     let some_index : 1 ≤ index_pages_of (upgraded format) = omega (arith, some_page) in

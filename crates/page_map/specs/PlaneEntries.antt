@@ -35,10 +35,13 @@ abbrev pub behind_at : Option PlaneLocation → List ℕ
 behind_at None = []
 behind_at (Some location) = pages_behind location
 
--- the record of the one plane, and the pages behind it that don't stand at the same index in the other
+-- the record of a plane, and the pages behind it that don't stand at the same index among the others, or in another plane
+abbrev pub replaced_by : List ℕ → Option PlaneLocation → List ℕ
+replaced_by others None = []
+replaced_by others (Some location) = location.record_page ∷ differing (pages_behind location) others
+
 abbrev pub replaced : Option PlaneLocation → Option PlaneLocation → List ℕ
-replaced None others = []
-replaced (Some location) others = location.record_page ∷ differing (pages_behind location) (behind_at others)
+replaced location other = replaced_by (behind_at other) location
 
 -- the pages that only the staged plane has
 abbrev pub fresh_as : Option PlaneLocation → Staged → List ℕ

@@ -1,7 +1,9 @@
--- How a page_map is kept: an entry for each corner that has a committed or a staged tile.
-use Rattle.std.specs.Prelude.{◌≡◌, ℕ, ◌+◌, ◌*◌, ◌≤◌, ◌<◌, ◌^◌, IsTrue, List, ◌++◌, length, Option, Some, None, IfSome}
+-- How a page_map is kept: the planes of each corner that has a committed or a staged tile.
+use Rattle.std.specs.Prelude.{◌≡◌, ℕ, ◌+◌, ◌*◌, ◌≤◌, ◌<◌, ◌^◌, Bool, IsTrue, List, ◌++◌, length, Option, Some, None, IfSome}
 use Rattle.std.specs.Option.{option_map}
-use Rattle.std.specs.List.{HoldsAt, AllWithin, filter_map, flat_map, AllByRecursion, AllAdjacentBelow}
+use Rattle.std.specs.List.{filter_map, flat_map, AllByRecursion, AllAdjacentBelow}
+use Rattle.std.specs.Map.{lookup, set_value}
+use Rattle.std.specs.Ordering.{int_cmp, is_eq, ordering_then}
 use Rattle.lattice.specs.Corners.{Corner, is_corner}
 use Rattle.lattice.specs.Lattice.{IsBefore}
 use Rattle.lattice.specs.Limits.{most_tiles}
@@ -35,18 +37,32 @@ tile_planes heights levels labels = record { heights = heights; kept = kept_of l
 abbrev pub tile_of : Corner → Option PlaneLocation → Option PlaneLocation → Option PlaneLocation → Option TileLocation
 tile_of c heights levels labels = option_map (λ (h : PlaneLocation). tile_at c (tile_planes h levels labels)) heights
 
+-- a corner with its planes
+abbrev pub Entry : Type 0
+Entry = Corner × TileEntry
+
 -- the entry's tile as committed, and as staged
-abbrev pub committed_tile : TileEntry → Option TileLocation
-committed_tile s = tile_of s.corner s.heights.committed s.levels.committed s.labels.committed
+abbrev pub committed_tile : Entry → Option TileLocation
+committed_tile e = tile_of e.0 e.1.heights.committed e.1.levels.committed e.1.labels.committed
 
-abbrev pub staged_tile : TileEntry → Option TileLocation
-staged_tile s = tile_of s.corner (staged_plane s.heights) (staged_plane s.levels) (staged_plane s.labels)
+abbrev pub staged_tile : Entry → Option TileLocation
+staged_tile e = tile_of e.0 (staged_plane e.1.heights) (staged_plane e.1.levels) (staged_plane e.1.labels)
 
-abbrev pub committed_tiles : List TileEntry → List TileLocation
+abbrev pub committed_tiles : List Entry → List TileLocation
 committed_tiles entries = filter_map committed_tile entries
 
-abbrev pub staged_tiles : List TileEntry → List TileLocation
+abbrev pub staged_tiles : List Entry → List TileLocation
 staged_tiles entries = filter_map staged_tile entries
+
+-- the corner's planes, where it has an entry; the entries with other ones there
+abbrev pub is_at_corner : Corner → Corner → Bool
+is_at_corner c d = is_eq (ordering_then (int_cmp c.lat d.lat) (int_cmp c.lon d.lon))
+
+abbrev pub planes_at : Corner → List Entry → Option TileEntry
+planes_at c entries = lookup (is_at_corner c) entries
+
+abbrev pub with_planes : Corner → TileEntry → List Entry → List Entry
+with_planes c planes entries = set_value (is_at_corner c) entries planes
 
 abbrev pub named_plane : Plane → TileEntry → PlaneEntry
 named_plane Heights s = s.heights
@@ -65,6 +81,16 @@ fresh_pages s = fresh_in s.heights ++ fresh_kept s
 abbrev pub used_pages : TileEntry → List ℕ
 used_pages s = used_in s.heights ++ (used_in s.levels ++ used_in s.labels)
 
+-- the same of an entry
+abbrev pub fresh_kept_by : Entry → List ℕ
+fresh_kept_by e = fresh_kept e.1
+
+abbrev pub fresh_by : Entry → List ℕ
+fresh_by e = fresh_pages e.1
+
+abbrev pub used_by : Entry → List ℕ
+used_by e = used_pages e.1
+
 -- ---- entries
 -- a committed tile, of which nothing is staged
 abbrev pub levels_of : Option KeptLocations → Option PlaneLocation
@@ -73,21 +99,22 @@ levels_of kept = option_map (λ (k : KeptLocations). k.levels) kept
 abbrev pub labels_of : Option KeptLocations → Option PlaneLocation
 labels_of kept = option_map (λ (k : KeptLocations). k.labels) kept
 
-abbrev pub loaded_entry : Corner → TilePlanes → TileEntry
-loaded_entry c planes = record { corner = c; heights = settled_plane (Some planes.heights); levels = settled_plane (levels_of planes.kept); labels = settled_plane (labels_of planes.kept) }
+abbrev pub loaded_planes : TilePlanes → TileEntry
+loaded_planes planes = record { heights = settled_plane (Some planes.heights); levels = settled_plane (levels_of planes.kept); labels = settled_plane (labels_of planes.kept) }
 
--- no planes
-abbrev pub empty_entry : Corner → TileEntry
-empty_entry c = record { corner = c; heights = settled_plane None; levels = settled_plane None; labels = settled_plane None }
+abbrev pub no_planes : TileEntry
+no_planes = record { heights = settled_plane None; levels = settled_plane None; labels = settled_plane None }
 
--- the entry once what is staged has ended so
-abbrev pub ended_entry : Ending → TileEntry → TileEntry
-ended_entry ending s = record {
-  corner = s.corner;
+-- the planes, and the entry, once what is staged has ended so
+abbrev pub ended_planes : Ending → TileEntry → TileEntry
+ended_planes ending s = record {
   heights = settled_plane (ended_plane ending s.heights);
   levels = settled_plane (ended_plane ending s.levels);
   labels = settled_plane (ended_plane ending s.labels);
 }
+
+abbrev pub ended_entry : Ending → Entry → Entry
+ended_entry ending e = (e.0, ended_planes ending e.1)
 
 -- the entry's tile has levels and labels on fresh pages; it is the same otherwise
 pub record IsKeptAnew (format : Format) (old new : TileEntry) : Type 0 where
@@ -113,17 +140,21 @@ pub record IsSoundPlane (format : Format) (e : PlaneEntry) : Type 0 where
   pub staged : IfSome (staged_plane e) (IsWholePlane format)
 
 -- it is a corner's, and its planes have all their pages
-pub record IsSound (format : Format) (s : TileEntry) : Type 0 where
-  pub corner : IsTrue (is_corner s.corner)
-  pub heights : IsSoundPlane format s.heights
-  pub levels : IsSoundPlane format s.levels
-  pub labels : IsSoundPlane format s.labels
-  pub committed : AreTogether s.heights.committed s.levels.committed s.labels.committed
-  pub staged : AreTogether (staged_plane s.heights) (staged_plane s.levels) (staged_plane s.labels)
+pub record IsSound (format : Format) (e : Entry) : Type 0 where
+  pub corner : IsTrue (is_corner e.0)
+  pub heights : IsSoundPlane format e.1.heights
+  pub levels : IsSoundPlane format e.1.levels
+  pub labels : IsSoundPlane format e.1.labels
+  pub committed : AreTogether e.1.heights.committed e.1.levels.committed e.1.labels.committed
+  pub staged : AreTogether (staged_plane e.1.heights) (staged_plane e.1.levels) (staged_plane e.1.labels)
 
 -- every page of the disk is committed, or fresh, or free, and no page is two of them
-abbrev pub AreCounted : List TileEntry → FreePages → Type 0
-AreCounted entries free = (p : ℕ) → times p (flat_map used_pages entries) + free_times free p ≡ page_times free.range p
+abbrev pub AreCounted : List Entry → FreePages → Type 0
+AreCounted entries free = (p : ℕ) → times p (flat_map used_by entries) + free_times free p ≡ page_times free.range p
+
+-- the corners rise
+abbrev pub AreInOrder : List Entry → Type 0
+AreInOrder entries = AllAdjacentBelow (λ a b. IsBefore a.0 b.0) entries (length entries)
 
 -- pages are taken from as many as a store of the format asks and, where the disk has room for it, one of the second version
 pub record HasWindow (format : Format) (range : PageRange) : Type 0 where
@@ -131,36 +162,25 @@ pub record HasWindow (format : Format) (range : PageRange) : Type 0 where
   pub within : range.window ≤ range.sectors
   pub upgrade : sectors_asked (upgraded format) ≤ range.sectors → sectors_asked (upgraded format) ≤ range.window
 
-pub record IsKept (format : Format) (entries : List TileEntry) (free : FreePages) : Type 0 where
+pub record IsKept (format : Format) (entries : List Entry) (free : FreePages) : Type 0 where
   pub fits : free.range.sectors < 2 ^ 32
   pub window : HasWindow format free.range
   pub few : format.capacity ≤ most_tiles
-  pub in_order : AllAdjacentBelow (λ a b. IsBefore a.corner b.corner) entries (length entries)
+  pub in_order : AreInOrder entries
   pub sound : AllByRecursion (IsSound format) entries
   pub committed_room : length (committed_tiles entries) ≤ format.capacity
   pub staged_room : length (staged_tiles entries) ≤ format.capacity
-  pub kept_room : length (flat_map fresh_kept entries) ≤ 2 * plane_pages_of format
+  pub kept_room : length (flat_map fresh_kept_by entries) ≤ 2 * plane_pages_of format
   pub counted : AreCounted entries free
 
 -- what a page_map of these entries is
-abbrev pub page_map_of : Format → List TileEntry → FreePages → PageMapValue
+abbrev pub page_map_of : Format → List Entry → FreePages → PageMapValue
 page_map_of format entries free =
     record { sectors = free.range.sectors; format = format; committed = committed_tiles entries; staged = staged_tiles entries }
 
 -- the entries make the same page_map, whatever pages are free
-abbrev pub AreAlike : List TileEntry → List TileEntry → Type 0
+abbrev pub AreAlike : List Entry → List Entry → Type 0
 AreAlike old new = (format : Format) (free : FreePages) → IsKept format old free → IsKept format new free × (page_map_of format new free ≡ page_map_of format old free)
-
--- the corner's entry stands at this index
-pub record IsEntryAt (c : Corner) (at : ℕ) (entries : List TileEntry) : Type 0 where
-  pub below : at < length entries
-  pub here : HoldsAt (λ s. s.corner ≡ c) entries at
-
--- no entry is the corner's, and one at this index would be in order
-pub record IsRoomAt (c : Corner) (at : ℕ) (entries : List TileEntry) : Type 0 where
-  pub within : at ≤ length entries
-  pub before : AllWithin (λ s. IsBefore s.corner c) entries 0 at
-  pub after : AllWithin (λ s. IsBefore c s.corner) entries at (length entries)
 
 -- the page_map once what is staged has ended so
 abbrev pub ended_page_map : Ending → PageMapValue → PageMapValue

@@ -4,11 +4,10 @@ ghost use Rattle.lattice.specs.declared.refusal.Refusal.TheVariants.{Damaged, No
 ghost use Rattle.page_codec.specs.Formats.{upgraded};
 ghost use Rattle.page_codec.specs.Sizes.{pages_of, sectors_asked};
 ghost use Rattle.page_codec.specs.declared.version.Version.TheVariants.{One};
-ghost use Rattle.std.specs.List.{AllAdjacentBelow};
 ghost use Rattle.lattice.specs.Corners.{is_before};
 ghost use Rattle.lattice.specs.Lattice.{IsBefore};
 ghost use Rattle.lattice.specs.Limits.{most_tiles};
-ghost use Rattle.page_map.specs.TileEntries.{ended_entry, AreAlike, IsEntryAt, IsRoomAt, AreCounted};
+ghost use Rattle.page_map.specs.TileEntries.{ended_entry, planes_at, AreAlike, AreCounted, AreInOrder};
 
 use crate::free_pages::FreePages;
 use crate::locations::{PagedPlane, TilePlanes};
@@ -21,6 +20,7 @@ use arrayvec::ArrayVec;
 use lattice::{Corner, MOST_TILES, Refusal, corner_in_range, is_before};
 use page_codec::Format;
 use std::alloc::Global;
+use std::collections::BTreeMap;
 use std::marker::Model;
 
 // The most tiles of a page_map, as a length.
@@ -34,8 +34,7 @@ const TILES: usize = MOST_TILES as usize;
 pub struct PageMap {
     alloc: Global,
     format: Format,
-    // In the order of their corners.
-    entries: Vec<TileEntry>,
+    entries: BTreeMap<Corner, TileEntry>,
     free: FreePages,
 }
 
@@ -45,9 +44,9 @@ impl Model for PageMap {
 
     ghost Value = { PageMapValue };
 
-    ghost view = { λ c. page_map_of c.format c.entries.items c.free };
+    ghost view = { λ c. page_map_of c.format c.entries.entries c.free };
 
-    ghost invariant = { λ c. IsKept c.format c.entries.items c.free };
+    ghost invariant = { λ c. IsKept c.format c.entries.entries c.free };
 }
 
 impl PageMap {
@@ -72,7 +71,7 @@ impl PageMap {
         Ok(PageMap {
             alloc,
             format,
-            entries: Vec::new(alloc),
+            entries: BTreeMap::new(alloc),
             free,
         })
     }
@@ -95,8 +94,9 @@ impl PageMap {
             mut free,
         } = self;
         mark_planes(&mut free, &planes)?;
-        let at = place(&mut entries, corner)?;
-        entries[at] = TileEntry::committed(corner, planes);
+        place(&mut entries, corner)?;
+        let entry = entries.get_mut(&corner).unwrap();
+        *entry = TileEntry::committed(planes);
         Ok(PageMap {
             alloc,
             format,
@@ -120,10 +120,10 @@ impl PageMap {
         let _side = format.side();
         let mut free = self.free.copy(self.alloc)?;
         let mut page_map = PageMap::new(self.alloc, free.sectors(), format)?;
-        for entry in &self.entries {
+        for (corner, entry) in &self.entries {
             if let Some(heights) = &entry.heights.committed {
                 let planes = upgraded_planes(self.alloc, heights, entry, format, &mut free)?;
-                page_map = page_map.load(entry.corner, planes)?;
+                page_map = page_map.load(*corner, planes)?;
             }
         }
         Ok(page_map)
@@ -155,10 +155,8 @@ impl PageMap {
         ensures found { IfSome result (λ location. HasPlaneAt self.now.staged c plane location.now) }
         ensures none { IfNone result (¬ HasPlane self.now.staged c plane) }
     {
-        match find(&self.entries, c) {
-            Ok(at) => self.entries[at].plane(plane).location(),
-            Err(_) => None,
-        }
+        let entry = self.entries.get(&c)?;
+        entry.plane(plane).location()
     }
 
     /// The page to which new content of page `i` of the corner's heights may be written. It is free to be written, as
@@ -173,15 +171,10 @@ impl PageMap {
         ensures unchanged { OnErr result (self.new ≡ self.old) }
         ensures rules { IsPageMap self.new }
     {
-        match find(&self.entries, c) {
-            Ok(at) => {
-                let entry = &mut self.entries[at];
-                entry
-                    .heights
-                    .page_for_writing(self.alloc, i as usize, &mut self.free)
-            }
-            Err(_) => unreachable!(),
-        }
+        let entry = self.entries.get_mut(&c).unwrap();
+        entry
+            .heights
+            .page_for_writing(self.alloc, i as usize, &mut self.free)
     }
 
     /// Stages the heights of the corner's tile as they are: their record is to be written, and a page for writing in them
@@ -193,13 +186,8 @@ impl PageMap {
         ensures unchanged { OnErr result (self.new ≡ self.old) }
         ensures rules { IsPageMap self.new }
     {
-        match find(&self.entries, c) {
-            Ok(at) => {
-                let entry = &mut self.entries[at];
-                entry.heights.prepare(self.alloc, &mut self.free)
-            }
-            Err(_) => unreachable!(),
-        }
+        let entry = self.entries.get_mut(&c).unwrap();
+        entry.heights.prepare(self.alloc, &mut self.free)
     }
 
     /// A page of what lists a plane of the corner's staged tile, by its number, where it is still to be written: no
@@ -208,10 +196,8 @@ impl PageMap {
         ensures { (location : PlaneLocation) → HasPlaneAt self.now.staged c plane location → i < length (listing_of location)
             → result ≡ page_if (is_unreached self.now.committed (slice_index (listing_of location) i)) (slice_index (listing_of location) i) }
     {
-        match find(&self.entries, c) {
-            Ok(at) => self.entries[at].plane(plane).page_due(i),
-            Err(_) => None,
-        }
+        let entry = self.entries.get(&c)?;
+        entry.plane(plane).page_due(i)
     }
 
     /// Adds a tile with fresh pages for its heights.
@@ -223,14 +209,14 @@ impl PageMap {
         ensures unchanged { OnErr result (self.new ≡ self.old) }
         ensures rules { IsPageMap self.new }
     {
-        let at = place(&mut self.entries, c)?;
+        place(&mut self.entries, c)?;
         let location = fresh_plane(
             self.alloc,
             &mut self.free,
             self.format.index_pages(),
             self.format.data_pages(),
         )?;
-        let entry = &mut self.entries[at];
+        let entry = self.entries.get_mut(&c).unwrap();
         entry.heights.staged = Staged::Fresh(location);
         Ok(())
     }
@@ -241,13 +227,8 @@ impl PageMap {
         ensures removed { self.new ≡ record (self.old) { staged = without_location c self.old.staged } }
         ensures rules { IsPageMap self.new }
     {
-        match find(&self.entries, c) {
-            Ok(at) => {
-                let entry = &mut self.entries[at];
-                entry.remove(&mut self.free);
-            }
-            Err(_) => unreachable!(),
-        }
+        let entry = self.entries.get_mut(&c).unwrap();
+        entry.remove(&mut self.free);
     }
 
     /// Stages fresh pages for the levels and the labels of the corner's tile, where nothing is staged yet. Refused with
@@ -260,13 +241,8 @@ impl PageMap {
         ensures unchanged { OnErr result (self.new ≡ self.old) }
         ensures rules { IsPageMap self.new }
     {
-        match find(&self.entries, c) {
-            Ok(at) => {
-                let entry = &mut self.entries[at];
-                entry.keep(self.alloc, self.format, &mut self.free)
-            }
-            Err(_) => unreachable!(),
-        }
+        let entry = self.entries.get_mut(&c).unwrap();
+        entry.keep(self.alloc, self.format, &mut self.free)
     }
 
     /// Stages the corner's tile without its kept planes. The pages of committed ones stay in use until the commit. Takes no
@@ -276,13 +252,8 @@ impl PageMap {
         ensures dropped { self.new ≡ record (self.old) { staged = other_kept c None self.old.staged } }
         ensures rules { IsPageMap self.new }
     {
-        match find(&self.entries, c) {
-            Ok(at) => {
-                let entry = &mut self.entries[at];
-                entry.drop_kept(&mut self.free);
-            }
-            Err(_) => unreachable!(),
-        }
+        let entry = self.entries.get_mut(&c).unwrap();
+        entry.drop_kept(&mut self.free);
     }
 
     /// The corners of the staged tiles, in order.
@@ -291,9 +262,9 @@ impl PageMap {
         ensures room { length result.items ≤ self.now.format.capacity }
     {
         let mut corners = ArrayVec::new();
-        for entry in &self.entries {
+        for (corner, entry) in &self.entries {
             if entry.heights.location().is_some() {
-                corners.push(entry.corner);
+                corners.push(*corner);
             }
         }
         corners
@@ -319,53 +290,38 @@ impl PageMap {
         ensures ended { self.new ≡ ended_page_map ending self.old }
         ensures rules { IsPageMap self.new }
     {
-        end_all(&mut self.entries, ending, &mut self.free);
-        self.entries
-            .retain(|entry| entry.heights.committed.is_some());
+        give_back(&self.entries, ending, &mut self.free);
+        self.entries.retain(|_, entry| {
+            entry.end(ending);
+            entry.heights.committed.is_some()
+        });
     }
 }
 
-/// Where the entry of a corner is, or where it belongs.
-fn find(entries: &[TileEntry], c: Corner) -> Result<usize, usize>
-    requires { AllAdjacentBelow (λ a b. IsBefore a.corner b.corner) entries.now (length entries.now) }
-    ensures found { IfOk result (λ at. IsEntryAt c at entries.now) }
-    ensures absent { IfErr result (λ at. IsRoomAt c at entries.now) }
-{
-    let at = entries.partition_point(|entry| is_before(entry.corner, c));
-    if at < entries.len() && entries[at].corner == c {
-        Ok(at)
-    } else {
-        Err(at)
-    }
-}
-
-/// Where the entry of a corner is, which has no planes where there was none. Refused with NoMemory.
-fn place(entries: &mut Vec<TileEntry>, c: Corner) -> Result<usize, Refusal>
-    requires { AllAdjacentBelow (λ a b. IsBefore a.corner b.corner) entries.old.items (length entries.old.items) }
-    ensures placed { IfOk result (λ at. IsEntryAt c at entries.new.items) }
-    ensures alike { AreAlike entries.old.items entries.new.items }
+/// Sees to it that the corner has an entry, which has no planes where there was none. Refused with NoMemory.
+fn place(entries: &mut BTreeMap<Corner, TileEntry>, c: Corner) -> Result<(), Refusal>
+    requires { AreInOrder entries.old.entries }
+    ensures placed { OnOk result (IsSome (planes_at c entries.new.entries)) }
+    ensures alike { AreAlike entries.old.entries entries.new.entries }
     ensures refused { IfErr result (λ refusal. refusal ≡ NoMemory) }
 {
     corner_in_range(c);
-    match find(entries, c) {
-        Ok(at) => Ok(at),
-        Err(at) => {
-            if entries.insert(at, TileEntry::empty(c)).is_err() {
-                return Err(Refusal::NoMemory);
-            }
-            Ok(at)
-        }
+    if entries.contains_key(&c) {
+        return Ok(());
+    }
+    match entries.insert(c, TileEntry::empty()) {
+        Ok(_) => Ok(()),
+        Err(_) => Err(Refusal::NoMemory),
     }
 }
 
-/// Commits or gives up what is staged in each entry.
-fn end_all(entries: &mut [TileEntry], ending: Ending, free: &mut FreePages)
-    requires { AreCounted entries.old free.old }
-    ensures ended { entries.new ≡ map (ended_entry ending) entries.old }
+/// Gives back the pages that the entries do without once what is staged has ended so.
+fn give_back(entries: &BTreeMap<Corner, TileEntry>, ending: Ending, free: &mut FreePages)
+    requires { AreCounted entries.now.entries free.old }
     ensures range { free.new.range ≡ free.old.range }
-    ensures counted { AreCounted entries.new free.new }
+    ensures counted { AreCounted (map (ended_entry ending) entries.now.entries) free.new }
 {
-    for entry in entries.iter_mut() {
-        entry.end(ending, free);
+    for (_, entry) in entries {
+        entry.give_back(ending, free);
     }
 }

@@ -4,7 +4,7 @@ ghost use Rattle.std.specs.FinSet as set;
 ghost use Rattle.lattice.specs.declared.refusal.Refusal.TheVariants.{NoMemory};
 ghost use Rattle.page_map.specs.Locations.{times, listing_of, pages_behind, IsMovedBehind};
 ghost use Rattle.page_map.specs.FreePages.{free_times, differing, AreBalanced, AreTaken, AreGiven, AreInUse, IsOwned, IsOwnedPage};
-ghost use Rattle.page_map.specs.PlaneEntries.{behind_at, replaced};
+ghost use Rattle.page_map.specs.PlaneEntries.{behind_at, replaced_by};
 
 use crate::free_pages::FreePages;
 use crate::locations::PagedPlane;
@@ -42,7 +42,7 @@ pub(crate) enum Ending {
 }
 
 impl PlaneEntry {
-    ghost use Rattle.page_map.specs.PlaneEntries.{ended_plane, fresh_in, is_fresh, listed_at, settled_plane, staged_plane, used_in, HasRoom, IsPageRestaged, IsRecordRestaged};
+    ghost use Rattle.page_map.specs.PlaneEntries.{ended_plane, fresh_in, is_fresh, listed_at, settled_plane, staged_as, staged_plane, used_in, HasRoom, IsPageRestaged, IsRecordRestaged};
 
     /// A plane of which nothing is staged.
     pub(crate) fn new(committed: Option<PagedPlane>) -> PlaneEntry
@@ -140,47 +140,76 @@ impl PlaneEntry {
         ensures staged { self.new ≡ record (self.old) { staged = staged } }
         ensures given { AreGiven (fresh_in self.old) free.old free.new }
     {
-        match mem::replace(&mut self.staged, staged) {
-            Staged::AsCommitted => (),
-            Staged::Dropped => (),
-            Staged::Fresh(location) => give_replaced(free, &location, behind(&self.committed)),
-        }
+        self.give_staged(free);
+        self.staged = staged;
     }
 
-    /// Commits or gives up what is staged, and gives back the pages that the plane does without.
-    pub(crate) fn end(&mut self, ending: Ending, free: &mut FreePages)
-        requires { AreInUse (used_in self.old) free.old }
-        ensures ended { self.new ≡ settled_plane (ended_plane ending self.old) }
-        ensures balanced { AreBalanced (used_in self.old) (used_in self.new) free.old free.new }
+    /// Gives back the pages that the plane does without once what is staged has ended so.
+    pub(crate) fn give_back(&self, ending: Ending, free: &mut FreePages)
+        requires { AreInUse (used_in self.now) free.old }
+        ensures { AreBalanced (used_in self.now) (used_in (settled_plane (ended_plane ending self.now))) free.old free.new }
     {
         match ending {
-            Ending::Committed => self.settle(free),
-            Ending::GivenUp => self.restage(Staged::AsCommitted, free),
+            Ending::Committed => self.give_committed(free),
+            Ending::GivenUp => self.give_staged(free),
         }
     }
 
-    fn settle(&mut self, free: &mut FreePages)
-        requires { AreInUse (used_in self.old) free.old }
-        ensures ended { self.new ≡ settled_plane (staged_plane self.old) }
-        ensures balanced { AreBalanced (used_in self.old) (used_in self.new) free.old free.new }
+    /// Commits or gives up what is staged.
+    pub(crate) fn end(&mut self, ending: Ending)
+        ensures { self.new ≡ settled_plane (ended_plane ending self.old) }
     {
-        match mem::replace(&mut self.staged, Staged::AsCommitted) {
+        let staged = mem::replace(&mut self.staged, Staged::AsCommitted);
+        match ending {
+            Ending::Committed => self.commit(staged),
+            Ending::GivenUp => (),
+        }
+    }
+
+    fn commit(&mut self, staged: Staged)
+        ensures { self.new ≡ record (self.old) { committed = staged_as self.old.committed staged } }
+    {
+        match staged {
             Staged::AsCommitted => (),
-            Staged::Dropped => self.commit(None, free),
-            Staged::Fresh(location) => self.commit(Some(location), free),
+            Staged::Dropped => self.committed = None,
+            Staged::Fresh(location) => self.committed = Some(location),
         }
     }
 
-    /// Puts this in the committed plane's place, and gives back the pages that it doesn't have there.
-    fn commit(&mut self, location: Option<PagedPlane>, free: &mut FreePages)
-        requires { AreInUse (replaced self.old.committed location) free.old }
-        ensures committed { self.new ≡ record (self.old) { committed = location } }
-        ensures given { AreGiven (replaced self.old.committed location) free.old free.new }
+    /// Gives back the pages of what is staged that the committed plane doesn't have.
+    fn give_staged(&self, free: &mut FreePages)
+        requires { AreInUse (fresh_in self.now) free.old }
+        ensures { AreGiven (fresh_in self.now) free.old free.new }
     {
-        match mem::replace(&mut self.committed, location) {
-            Some(was) => give_replaced(free, &was, behind(&self.committed)),
-            None => (),
+        match &self.staged {
+            Staged::AsCommitted => (),
+            Staged::Dropped => (),
+            Staged::Fresh(location) => give_replaced(free, location, behind(&self.committed)),
         }
+    }
+
+    /// Gives back the pages of the committed plane that aren't staged.
+    fn give_committed(&self, free: &mut FreePages)
+        requires { AreInUse (used_in self.now) free.old }
+        ensures { AreBalanced (used_in self.now) (used_in (settled_plane (staged_plane self.now))) free.old free.new }
+    {
+        match &self.staged {
+            Staged::AsCommitted => (),
+            Staged::Dropped => give_location(free, &self.committed, &[]),
+            Staged::Fresh(location) => give_location(free, &self.committed, location.behind()),
+        }
+    }
+}
+
+/// Gives back the pages of a plane, where there is one, without those behind its record that stand at the same index among
+/// the others.
+fn give_location(free: &mut FreePages, location: &Option<PagedPlane>, others: &[u32])
+    requires { AreInUse (replaced_by others.now location.now) free.old }
+    ensures { AreGiven (replaced_by others.now location.now) free.old free.new }
+{
+    match location {
+        Some(location) => give_replaced(free, location, others),
+        None => (),
     }
 }
 

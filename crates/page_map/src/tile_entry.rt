@@ -11,26 +11,24 @@ use crate::locations::{PagedPlane, TilePlanes};
 use crate::pages::{fresh_plane, give_replaced};
 use crate::plane::Plane;
 use crate::plane_entry::{Ending, PlaneEntry, Staged};
-use lattice::{Corner, Refusal};
+use lattice::Refusal;
 use page_codec::Format;
 use std::alloc::Global;
 
-/// A corner with the three planes of its tile. It has heights where it has a tile, and levels and labels where these are
-/// kept.
+/// The three planes of a corner. It has heights where it has a tile, and levels and labels where these are kept.
 #[derive(Drop)]
 pub(crate) struct TileEntry {
-    pub(crate) corner: Corner,
     pub(crate) heights: PlaneEntry,
     pub(crate) levels: PlaneEntry,
     pub(crate) labels: PlaneEntry,
 }
 
 impl TileEntry {
-    ghost use Rattle.page_map.specs.TileEntries.{empty_entry, ended_entry, fresh_kept, fresh_pages, loaded_entry, named_plane, used_pages, IsKeptAnew};
+    ghost use Rattle.page_map.specs.TileEntries.{ended_planes, fresh_kept, fresh_pages, loaded_planes, named_plane, no_planes, used_pages, IsKeptAnew};
 
     /// A committed tile of which nothing is staged.
-    pub(crate) fn committed(corner: Corner, planes: TilePlanes) -> TileEntry
-        ensures { result ≡ loaded_entry corner planes }
+    pub(crate) fn committed(planes: TilePlanes) -> TileEntry
+        ensures { result ≡ loaded_planes planes }
     {
         let TilePlanes { heights, kept } = planes;
         let (levels, labels) = match kept {
@@ -38,7 +36,6 @@ impl TileEntry {
             None => (None, None),
         };
         TileEntry {
-            corner,
             heights: PlaneEntry::new(Some(heights)),
             levels: PlaneEntry::new(levels),
             labels: PlaneEntry::new(labels),
@@ -46,11 +43,10 @@ impl TileEntry {
     }
 
     /// An entry without planes.
-    pub(crate) fn empty(corner: Corner) -> TileEntry
-        ensures { result ≡ empty_entry corner }
+    pub(crate) fn empty() -> TileEntry
+        ensures { result ≡ no_planes }
     {
         TileEntry {
-            corner,
             heights: PlaneEntry::new(None),
             levels: PlaneEntry::new(None),
             labels: PlaneEntry::new(None),
@@ -119,14 +115,22 @@ impl TileEntry {
         self.drop_kept(free);
     }
 
-    /// Commits or gives up what is staged, and gives back the pages that it does without.
-    pub(crate) fn end(&mut self, ending: Ending, free: &mut FreePages)
-        requires { AreInUse (used_pages self.old) free.old }
-        ensures ended { self.new ≡ ended_entry ending self.old }
-        ensures balanced { AreBalanced (used_pages self.old) (used_pages self.new) free.old free.new }
+    /// Gives back the pages that it does without once what is staged has ended so.
+    pub(crate) fn give_back(&self, ending: Ending, free: &mut FreePages)
+        requires { AreInUse (used_pages self.now) free.old }
+        ensures { AreBalanced (used_pages self.now) (used_pages (ended_planes ending self.now)) free.old free.new }
     {
-        self.heights.end(ending, free);
-        self.levels.end(ending, free);
-        self.labels.end(ending, free);
+        self.heights.give_back(ending, free);
+        self.levels.give_back(ending, free);
+        self.labels.give_back(ending, free);
+    }
+
+    /// Commits or gives up what is staged.
+    pub(crate) fn end(&mut self, ending: Ending)
+        ensures { self.new ≡ ended_planes ending self.old }
+    {
+        self.heights.end(ending);
+        self.levels.end(ending);
+        self.labels.end(ending);
     }
 }

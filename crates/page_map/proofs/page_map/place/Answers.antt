@@ -1,14 +1,13 @@
-use Rattle.std.proofs.Common.{◌≡◌, List, sym, subst, ◌∙◌}
-use Rattle.std.specs.Prelude.{insert}
-use Rattle.page_map.specs.declared.tile_entry.TileEntry.{TileEntry}
-use Rattle.page_map.specs.TileEntries.{empty_entry, AreAlike}
-use Rattle.page_map.proofs.Refused.{ok_from}
-use Rattle.page_map.proofs.Loading.{placed_alike}
+use Rattle.std.proofs.Common.{◌≡◌, false, List, sym, subst, ◌∙◌}
+use Rattle.std.specs.Prelude.{is_some}
+use Rattle.std.specs.BTreeMap.{insert_entry}
+use Rattle.lattice.proofs.CornerOrder.{corner_cmp}
+use Rattle.page_map.specs.TileEntries.{no_planes, planes_at, AreAlike, Entry}
+use Rattle.page_map.proofs.EntryInserts.{placed_alike}
 use Rattle.page_map.proofs.page_map.place.Goals as goal
 
-pub returns-else-is_err-clause-alike : goal.returns-else-is_err-clause-alike
-returns-else-is_err-clause-alike c =
-    let placed : c.insert.new.self.items ≡ insert c.args.entries.now.items c.in-Err.at (empty_entry c.args.c) =
-    rw (ok_from c.insert.result (sym c.is_err.ensures.value ∙ c.if-is_err.false), c.empty.ensures) at c.insert.ensures.items in
-    subst (λ (l : List TileEntry). AreAlike c.args.entries.now.items l) (sym placed)
-    (placed_alike c.args.c c.args.entries.now.items c.corner_in_range.ensures c.in-Err.at (rw c.deref.ensures.value at c.in-Err.ensures.absent))
+pub returns-in-Ok-clause-alike : goal.returns-in-Ok-clause-alike
+returns-in-Ok-clause-alike c =
+    let absent : is_some (planes_at c.args.c c.args.entries.now.entries) ≡ false = sym c.contains_key.ensures ∙ c.if-contains_key.false in
+    let put : c.insert.new.self.entries ≡ insert_entry corner_cmp c.args.entries.now.entries c.args.c no_planes = rw c.empty.ensures at c.in-Ok.ensures.entries in
+    subst (λ (l : List Entry). AreAlike c.args.entries.now.entries l) (sym put) (placed_alike c.args.c c.args.entries.now.entries c.corner_in_range.ensures c.requires absent)

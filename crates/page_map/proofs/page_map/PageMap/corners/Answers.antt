@@ -1,27 +1,62 @@
-use Rattle.std.proofs.Common.{◌<◌, length, arith, sym, ◌∙◌}
-use Rattle.lattice.specs.Limits.{most_tiles}
-use Rattle.page_map.proofs.Listing.{located_more, located_same, located_room}
-use Rattle.page_map.proofs.Listing.{some_alike}
+use Rattle.std.proofs.Common.{◌≡◌, ◌≤◌, List, ◌∷◌, ◌++◌, length, sym, ap, ap₂, subst, ◌∙◌, arith, rules}
+use Rattle.std.specs.Prelude.{is_some}
+use Rattle.std.proofs.lemmas.List.{append-nil, length-map}
+use Rattle.lattice.specs.Corners.{Corner}
+use Rattle.page_map.specs.PageMaps.{PageMapValue, corners_of_locations}
+use Rattle.page_map.specs.TileLocations.{TileLocation}
+use Rattle.page_map.specs.TileEntries.{staged_tile, staged_tiles, Entry}
+use Rattle.page_map.proofs.Listing.{located_more, located_room, located_same, some_alike}
 use Rattle.page_map.proofs.page_map.PageMap.corners.Goals as goal
-use Rattle.page_map.proofs.page_map.PageMap.corners.Goals.{then-is_some, else-is_some}
+use Rattle.page_map.proofs.page_map.PageMap.corners.Goals.{After-is_some, In-None}
+
+module _ (c : After-is_some) where
+  abbrev here : Entry
+  here = (c.in-Some.corner.now, c.in-Some.entry.now)
+
+  abbrev all : List Corner
+  all = corners_of_locations c.args.self.now.staged
+
+  so_far : c.loop-corner.corners.items ++ corners_of_locations (staged_tiles (here ∷ c.next.new.self)) ≡ all
+  so_far = subst (λ (l : List Entry). c.loop-corner.corners.items ++ corners_of_locations (staged_tiles l) ≡ all) c.in-Some.ensures.steps c.loop-corner.invariant
+
+  tested : is_some (staged_tile here) ≡ c.is_some.result
+  tested = sym (some_alike c.location.result here c.location.ensures) ∙ sym c.is_some.ensures
+
+few : (c : In-None) → length (corners_of_locations c.args.self.now.staged) ≤ c.args.self.now.format.capacity
+few c =
+    subst (λ (v : PageMapValue). length (corners_of_locations v.staged) ≤ v.format.capacity) c.self.view_is
+    (omega (arith, c.self.invariant.staged_room, length-map (staged_tiles c.self.inside.entries.entries) (λ (t : TileLocation). t.corner)))
+
+pub loop-corner-init : goal.loop-corner-init
+loop-corner-init c =
+    let start : c.into_iter-corner-iterator.result ≡ c.self.inside.entries.entries = search rules in
+    ap₂ (λ (xs : List Corner) (es : List Entry). xs ++ corners_of_locations (staged_tiles es)) c.new-corners.ensures start ∙ ap (λ (v : PageMapValue). corners_of_locations v.staged) c.self.view_is
 
 pub push-requires : goal.push-requires
 push-requires c =
-    let there = sym (some_alike c.location.result c.entry-item.result c.location.ensures) ∙ (sym c.is_some.ensures ∙ c.if-is_some.true) in
-    let room : length c.loop-entry.corners.items < most_tiles =
-    located_room c.self.inside.entries.items c.loop-entry.entry-index c.entry-item.result (rw c.deref-entry-items.ensures.value at c.loop-entry-test.true) (rw c.deref-entry-items.ensures.value at c.entry-item.is)
-    c.loop-entry.corners.items (rw c.deref-entry-items.ensures.value at c.loop-entry.invariant) there (omega (arith, c.self.invariant.staged_room, c.self.invariant.few)) in
-    (omega arith, room)
+    let at = (goal.at.push-requires c).After-is_some in
+    let room = located_room c.loop-corner.corners.items (all at) (here at) c.next.new.self (so_far at) (tested at ∙ c.if-is_some.true) in
+    let count = length-map (staged_tiles c.self.inside.entries.entries) (λ (t : TileLocation). t.corner) in
+    let same = ap (λ (v : PageMapValue). length (corners_of_locations v.staged)) c.self.view_is in
+    (omega arith, omega (arith, room, count, same, c.self.invariant.staged_room, c.self.invariant.few))
 
-pub loop-entry-preserved : goal.loop-entry-preserved
-loop-entry-preserved c =
-    let alike = some_alike c.location.result c.entry-item.result c.location.ensures in
-    let entries = c.deref-entry-items.result.now in
-    elim c.if-is_some.branch [
-      | then-is_some w ↦
-          let there = sym alike ∙ (sym c.is_some.ensures ∙ w.if-is_some.true) in
-          rw (w.corners-is, w.push.ensures.items) (located_more entries c.loop-entry.entry-index c.entry-item.result c.loop-entry-test.true c.entry-item.is c.loop-entry.corners.items c.loop-entry.invariant there)
-      | else-is_some w ↦
-          let none = sym alike ∙ (sym c.is_some.ensures ∙ w.if-is_some.false) in
-          rw w.corners-is (located_same entries c.loop-entry.entry-index c.entry-item.result c.loop-entry-test.true c.entry-item.is c.loop-entry.corners.items c.loop-entry.invariant none)
-    ]
+pub loop-corner-preserved-then-is_some : goal.loop-corner-preserved-then-is_some
+loop-corner-preserved-then-is_some c =
+    let at = (goal.at.loop-corner-preserved-then-is_some c).After-is_some in
+    rw c.push.ensures.items (located_more c.loop-corner.corners.items (all at) (here at) c.next.new.self (so_far at) (tested at ∙ c.if-is_some.true))
+
+pub loop-corner-preserved : goal.loop-corner-preserved
+loop-corner-preserved c =
+    let at = (goal.at.loop-corner-preserved c).After-is_some in
+    located_same c.loop-corner.corners.items (all at) (here at) c.next.new.self (so_far at) (tested at ∙ c.if-is_some.false)
+
+listed : (c : In-None) → c.loop-corner.corners.items ≡ corners_of_locations c.args.self.now.staged
+listed c =
+    sym (append-nil c.loop-corner.corners.items)
+    ∙ subst (λ (l : List Entry). c.loop-corner.corners.items ++ corners_of_locations (staged_tiles l) ≡ corners_of_locations c.args.self.now.staged) c.in-None.ensures.steps.0 c.loop-corner.invariant
+
+pub returns-clause-value : goal.returns-clause-value
+returns-clause-value c = listed c
+
+pub returns-clause-room : goal.returns-clause-room
+returns-clause-room c = omega (arith, ap length (listed c), few c)

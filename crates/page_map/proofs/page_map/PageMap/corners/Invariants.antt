@@ -1,7 +1,8 @@
-use Rattle.std.proofs.Common.{◌≡◌, take}
+use Rattle.std.proofs.Common.{◌≡◌, ◌++◌}
 use Rattle.page_map.specs.PageMaps.{corners_of_locations}
 use Rattle.page_map.specs.TileEntries.{staged_tiles}
 use Rattle.page_map.proofs.page_map.PageMap.corners.Given as goal
 
-abbrev pub invariant-loop-entry : goal.invariant-loop-entry
-invariant-loop-entry l = l.corners.items ≡ corners_of_locations (staged_tiles (take l.entry-index l.entry-items))
+-- the corners so far, and those of the entries that are left, are all
+abbrev pub invariant-loop-corner : goal.invariant-loop-corner
+invariant-loop-corner l = l.corners.items ++ corners_of_locations (staged_tiles l.corner-iterator) ≡ corners_of_locations l.self.staged

@@ -3,23 +3,19 @@ use Rattle.std.specs.Prelude.{Contains, slice_index}
 use Rattle.page_map.specs.PageMaps.{PageMapValue, is_unreached, page_if}
 use Rattle.page_map.specs.Locations.{listing_of}
 use Rattle.page_map.specs.Planes.{HasPlaneAt}
-use Rattle.page_map.specs.TileEntries.{IsEntryAt, IsRoomAt, staged_tiles}
-use Rattle.page_map.proofs.AtEntry.{no_entry}
-use Rattle.page_map.proofs.Lookup.{located-from_tile}
+use Rattle.page_map.specs.TileEntries.{staged_tiles}
+use Rattle.page_map.proofs.Lookup.{located-from_tile, no_entry}
 use Rattle.page_map.proofs.DueListings.{page_due}
 use Rattle.page_map.proofs.page_map.PageMap.page_due.Goals as goal
 
-pub returns-in-Ok : goal.returns-in-Ok
-returns-in-Ok c location had below =
-    let entries = c.self.inside.entries.items in
-    let found : IsEntryAt c.args.c c.in-Ok.at entries = rw c.deref.ensures.value at c.in-Ok.ensures.found in
-    let there : HasPlaneAt (staged_tiles entries) c.args.c c.args.plane location = subst (λ (v : PageMapValue). HasPlaneAt v.staged c.args.c c.args.plane location) (sym c.self.view_is) had in
+pub returns : goal.returns
+returns c location had below =
+    let there : HasPlaneAt (staged_tiles c.self.inside.entries.entries) c.args.c c.args.plane location = subst (λ (v : PageMapValue). HasPlaneAt v.staged c.args.c c.args.plane location) (sym c.self.view_is) had in
     subst (λ (v : PageMapValue). c.page_due.result ≡ page_if (is_unreached v.committed (slice_index (listing_of location) c.args.i)) (slice_index (listing_of location) c.args.i)) c.self.view_is
-    (page_due c.self.inside.format entries c.self.inside.free c.self.invariant c.args.c c.in-Ok.at found c.index.result.now c.index.ensures c.args.plane c.args.i location there below
+    (page_due c.self.inside.format c.self.inside.entries.entries c.self.inside.free c.self.invariant c.args.c c.in_ok-entry.entry.now (sym c.in_ok-entry.ensures.value) c.args.plane c.args.i location there below
     c.page_due.result (rw c.plane.ensures at c.page_due.ensures.same) (rw c.plane.ensures at c.page_due.ensures.other))
 
-pub returns-in-Err : goal.returns-in-Err
-returns-in-Err c location (t, (there, (here, lies))) below =
-    let entries = c.self.inside.entries.items in
-    let room : IsRoomAt c.args.c c.in-Err.field-0 entries = rw c.deref.ensures.value at c.in-Err.ensures.absent in
-    absurd (no_entry c.args.c c.in-Err.field-0 entries room (located-from_tile c.args.c (staged_tiles entries) t (subst (λ (v : PageMapValue). Contains v.staged t) (sym c.self.view_is) there) here))
+pub returns-in_err-entry : goal.returns-in_err-entry
+returns-in_err-entry c location (t, (there, (here, lies))) below =
+    let entries = c.self.inside.entries.entries in
+    absurd (no_entry c.args.c entries (sym c.in_err-entry.ensures.value) (located-from_tile c.args.c (staged_tiles entries) t (subst (λ (v : PageMapValue). Contains v.staged t) (sym c.self.view_is) there) here))

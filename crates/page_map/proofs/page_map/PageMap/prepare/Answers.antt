@@ -1,39 +1,49 @@
-use Rattle.std.proofs.Common.{sym, subst, set}
-use Rattle.std.specs.Prelude.{OnOk}
+use Rattle.std.proofs.Common.{◌≡◌, sym, ap, subst, ◌∙◌}
+use Rattle.std.specs.Option.{option_copied_mut}
+use Rattle.std.specs.Prelude.{OnErr, OnOk}
 use Rattle.page_map.specs.PageMaps.{PageMapValue, IsLocated, IsPrepared}
 use Rattle.page_map.specs.TileEntries.{IsKept, page_map_of}
 use Rattle.page_map.proofs.PageMapRules.{mapped}
-use Rattle.page_map.proofs.AtEntry.{heights_present, room, kept_prepared, is_prepared, no_entry}
+use Rattle.page_map.proofs.Lookup.{some_entry}
+use Rattle.page_map.proofs.AtEntry.{heights_present, room, kept_prepared, is_prepared, same_heights}
 use Rattle.page_map.proofs.page_map.PageMap.prepare.Goals as goal
 use Rattle.page_map.proofs.page_map.PageMap.prepare.Goals.{After-prepare}
 
+pub unwrap-entry-requires : goal.unwrap-entry-requires
+unwrap-entry-requires c = some_entry c.args.c c.self.inside.entries.entries c.get_mut.result c.get_mut.ensures.value (subst (λ (v : PageMapValue). IsLocated c.args.c v.staged) (sym c.self.view_is) c.requires)
+
 pub prepare-requires-clause-room : goal.prepare-requires-clause-room
 prepare-requires-clause-room c =
-    room c.self.inside.format c.self.inside.entries.items c.self.inside.free c.self.invariant c.args.c c.in-Ok.at (rw c.deref.ensures.value at c.in-Ok.ensures.found) c.index_mut-entry.result.now c.index_mut-entry.ensures.value
+    let found = sym c.get_mut.ensures.value ∙ ap option_copied_mut c.unwrap-entry.ensures in
+    room c.self.inside.format c.self.inside.entries.entries c.self.inside.free c.self.invariant c.args.c c.unwrap-entry.result.now found
 
 pub prepare-requires-clause-present : goal.prepare-requires-clause-present
 prepare-requires-clause-present c =
-    heights_present c.self.inside.format c.self.inside.entries.items c.self.inside.free c.self.invariant c.args.c c.in-Ok.at (rw c.deref.ensures.value at c.in-Ok.ensures.found) c.index_mut-entry.result.now c.index_mut-entry.ensures.value
-    (subst (λ (v : PageMapValue). IsLocated c.args.c v.staged) (sym c.self.view_is) c.requires)
+    let found = sym c.get_mut.ensures.value ∙ ap option_copied_mut c.unwrap-entry.ensures in
+    heights_present c.self.inside.format c.self.inside.entries.entries c.self.inside.free c.self.invariant c.args.c c.unwrap-entry.result.now found (subst (λ (v : PageMapValue). IsLocated c.args.c v.staged) (sym c.self.view_is) c.requires)
 
-kept_now : (c : After-prepare) → IsKept c.self.inside.format (set c.self.inside.entries.items c.in-Ok.at (record (c.index_mut-entry.result.now) { heights = c.prepare.new.self })) c.prepare.new.free
+kept_now : (c : After-prepare) → IsKept c.self.inside.format (c.get_mut.follows.lender (record (c.unwrap-entry.result.now) { heights = c.prepare.new.self })).entries c.prepare.new.free
 kept_now c =
-    kept_prepared c.self.inside.format c.self.inside.entries.items c.self.inside.free c.self.invariant c.args.c c.in-Ok.at (rw c.deref.ensures.value at c.in-Ok.ensures.found) c.index_mut-entry.result.now c.index_mut-entry.ensures.value
-    c.prepare.new.self c.prepare.new.free c.prepare.ensures.committed c.prepare.ensures.balanced c.prepare.result c.prepare.ensures.staged c.prepare.ensures.unchanged
+    let found = sym c.get_mut.ensures.value ∙ ap option_copied_mut c.unwrap-entry.ensures in
+    kept_prepared c.self.inside.format c.self.inside.entries.entries c.self.inside.free c.self.invariant c.args.c c.unwrap-entry.result.now found
+    c.prepare.new.self c.prepare.new.free c.prepare.ensures.committed c.prepare.ensures.balanced _ (c.get_mut.follows.holds _).0 c.prepare.result c.prepare.ensures.staged c.prepare.ensures.unchanged
 
 pub invariant_of-self : goal.invariant_of-self
 invariant_of-self c = kept_now (goal.at.invariant_of-self c).After-prepare
 
-pub unreachable-requires : goal.unreachable-requires
-unreachable-requires c =
-    no_entry c.args.c c.in-Err.field-0 c.self.inside.entries.items (rw c.deref.ensures.value at c.in-Err.ensures.absent)
-    (subst (λ (v : PageMapValue). IsLocated c.args.c v.staged) (sym c.self.view_is) c.requires)
-
 pub returns-clause-prepared : goal.returns-clause-prepared
 returns-clause-prepared c =
-    subst (λ (v : PageMapValue). OnOk c.prepare.result (IsPrepared c.args.c v (page_map_of c.self.inside.format (set c.self.inside.entries.items c.in-Ok.at (record (c.index_mut-entry.result.now) { heights = c.prepare.new.self })) c.prepare.new.free))) c.self.view_is
-    (is_prepared c.self.inside.format c.self.inside.entries.items c.self.inside.free c.self.invariant c.args.c c.in-Ok.at (rw c.deref.ensures.value at c.in-Ok.ensures.found) c.index_mut-entry.result.now c.index_mut-entry.ensures.value
-    c.prepare.new.self c.prepare.new.free c.prepare.ensures.committed c.prepare.ensures.balanced c.prepare.result c.prepare.ensures.staged)
+    let found = sym c.get_mut.ensures.value ∙ ap option_copied_mut c.unwrap-entry.ensures in
+    subst (λ (v : PageMapValue). OnOk c.prepare.result (IsPrepared c.args.c v (page_map_of c.self.inside.format (c.get_mut.follows.lender (record (c.unwrap-entry.result.now) { heights = c.prepare.new.self })).entries c.prepare.new.free))) c.self.view_is
+    (is_prepared c.self.inside.format c.self.inside.entries.entries c.self.inside.free c.self.invariant c.args.c c.unwrap-entry.result.now found
+    c.prepare.new.self c.prepare.new.free c.prepare.ensures.committed c.prepare.ensures.balanced _ (c.get_mut.follows.holds _).0 c.prepare.result c.prepare.ensures.staged)
+
+pub returns-clause-unchanged : goal.returns-clause-unchanged
+returns-clause-unchanged c =
+    let found = sym c.get_mut.ensures.value ∙ ap option_copied_mut c.unwrap-entry.ensures in
+    subst (λ (v : PageMapValue). OnErr c.prepare.result (page_map_of c.self.inside.format (c.get_mut.follows.lender (record (c.unwrap-entry.result.now) { heights = c.prepare.new.self })).entries c.prepare.new.free ≡ v)) c.self.view_is
+    (same_heights c.self.inside.format c.self.inside.entries.entries c.self.inside.free c.self.invariant c.args.c c.unwrap-entry.result.now found
+    c.prepare.new.self c.prepare.new.free c.prepare.ensures.committed c.prepare.ensures.balanced _ (c.get_mut.follows.holds _).0 c.prepare.result c.prepare.ensures.unchanged)
 
 pub returns-clause-rules : goal.returns-clause-rules
 returns-clause-rules c = mapped c.self.inside.format _ c.prepare.new.free (kept_now (goal.at.returns-clause-rules c).After-prepare)
