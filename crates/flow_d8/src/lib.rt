@@ -63,3 +63,4 @@ pub use laws::{
 };
 pub use levels_around::Near;
 pub use one_direction::{direction_at, direction_over};
+pub use point_table::PointTable;

@@ -1,31 +1,29 @@
--- Runs on their way: those of the points so far, the last of them still growing.
-use Rattle.std.proofs.Common.{◌≡◌, ℕ, zero, suc, ◌+◌, ◌<◌, ◌≤◌, ℤ, pos, ◌+ℤ◌, ◌≤ℤ◌, ◌⊎◌, ◌↔◌, inl, inr, ⊎_elim, List, [], ◌∷◌, ◌++◌, length, get_or, take, refl, sym, ap, ◌∙◌, subst, arith, ◌-◌}
-use Rattle.std.specs.Prelude.{Contains, All, slice_index_or}
+-- Runs on their way: those of the parts so far, the last of them still growing.
+use Rattle.std.proofs.Common.{◌≡◌, ℕ, zero, suc, ◌+◌, ◌<◌, ◌≤◌, pos, ◌+ℤ◌, ◌≤ℤ◌, ◌<ℤ◌, ◌⊎◌, ◌↔◌, inl, inr, ⊎_elim, List, [], ◌∷◌, ◌++◌, length, get_or, take, refl, sym, ap, ◌∙◌, subst, arith, ◌-◌}
+use Rattle.std.specs.Prelude.{All, slice_index_or}
 use Rattle.std.specs.List.{AllAdjacentBelow}
 use Rattle.std.proofs.lemmas.Int.{ints}
 use Rattle.std.proofs.lemmas.Bool.{cases_Bool}
 use Rattle.std.specs.Prelude.{int_lt}
 use Rattle.std.proofs.lemmas.List.{get_or_default, take_all}
-use Rattle.std.proofs.lemmas.List.Elements.{Contains-append_left, Contains-append_right, Contains-append_cases}
 use Rattle.lattice.specs.declared.point.Point.{Point}
 use Rattle.lattice.proofs.IntTests.{lt_true, lt_false}
-use Rattle.lattice.proofs.Levels.{≤ℤ_trans, ≤ℤ_same, ≤ℤ_antisym}
-use Rattle.lattice.proofs.SamePoints.{same_place}
+use Rattle.lattice.proofs.Levels.{≤ℤ_trans, ≤ℤ_same}
 use Rattle.watershed.specs.declared.runs.Run.{Run}
-use Rattle.watershed.specs.Runs.{IsInRun, IsAfter, AreRuns}
+use Rattle.watershed.specs.Runs.{IsInRun, IsAfter, IsJoined, AreFull, Cover, AreRuns}
 use Rattle.watershed.specs.Order.{ComesBy}
 use Rattle.watershed.proofs.OneList.{InSome, from_any, to_any}
 
-in_left : (xs ys : List Run) (p : Point) → InSome xs p → InSome (xs ++ ys) p
+pub in_left : (xs ys : List Run) (p : Point) → InSome xs p → InSome (xs ++ ys) p
 in_left [] ys p h = absurd h
 in_left (r ∷ rest) ys p (inl here) = inl here
 in_left (r ∷ rest) ys p (inr later) = inr (in_left rest ys p later)
 
-in_right : (xs ys : List Run) (p : Point) → InSome ys p → InSome (xs ++ ys) p
+pub in_right : (xs ys : List Run) (p : Point) → InSome ys p → InSome (xs ++ ys) p
 in_right [] ys p h = h
 in_right (r ∷ rest) ys p h = inr (in_right rest ys p h)
 
-in_cases : (xs ys : List Run) (p : Point) → InSome (xs ++ ys) p → InSome xs p ⊎ InSome ys p
+pub in_cases : (xs ys : List Run) (p : Point) → InSome (xs ++ ys) p → InSome xs p ⊎ InSome ys p
 in_cases [] ys p h = inr h
 in_cases (r ∷ rest) ys p (inl here) = inl (inl here)
 in_cases (r ∷ rest) ys p (inr later) = ⊎_elim (λ a. inl (inr a)) (λ b. inr b) (in_cases rest ys p later)
@@ -67,163 +65,143 @@ chain_more [] r s after full h = (h, (after, full))
 chain_more (a ∷ []) r s after full h = (h.0, (h.1.0, (h.1.1, (after, full))))
 chain_more (a ∷ b ∷ rest) r s after full h = (h.0, (h.1.0, chain_more (b ∷ rest) r s after full h.1.1))
 
--- the runs, the last of them apart, are those of the points, which end with the last point of the last run
-pub record AreDrawn (seen : List Point) (runs : List Run) (run : Run) : Type 0 where
+-- the runs, the last of them apart, have the points of the parts
+pub record AreDrawn (parts : List Run) (runs : List Run) (run : Run) : Type 0 where
   pub chain : IsChain (runs ++ run ∷ [])
-  pub covers : (p : Point) → InSome (runs ++ run ∷ []) p ↔ Contains seen p
+  pub covers : (p : Point) → InSome (runs ++ run ∷ []) p ↔ InSome parts p
 
-pub drawn_runs : (seen : List Point) (runs : List Run) (run : Run) → AreDrawn seen runs run → AreRuns (Contains seen) (runs ++ run ∷ [])
-drawn_runs seen runs run drawn = record {
-  covers = λ p. ((λ any. (drawn.covers p).0 (from_any (runs ++ run ∷ []) p any)), (λ has. to_any (runs ++ run ∷ []) p ((drawn.covers p).1 has)));
+drawn_runs : (parts runs : List Run) (run : Run) → AreDrawn parts runs run → AreRuns (Cover parts) (runs ++ run ∷ [])
+drawn_runs parts runs run drawn = record {
+  covers = λ p. ((λ any. to_any parts p ((drawn.covers p).0 (from_any (runs ++ run ∷ []) p any))), (λ any. to_any (runs ++ run ∷ []) p ((drawn.covers p).1 (from_any parts p any))));
   full = chain_full (runs ++ run ∷ []) drawn.chain;
   in_order = chain_order (runs ++ run ∷ []) drawn.chain;
 }
 
-pub take_more : (points : List Point) (k : ℕ) (p : Point) → k < length points → p ≡ get_or points k p → take (k + 1) points ≡ take k points ++ p ∷ []
+pub take_more : {A : Type 0} (items : List A) (k : ℕ) (p : A) → k < length items → p ≡ get_or items k p → take (k + 1) items ≡ take k items ++ p ∷ []
 take_more [] k p lt is = absurd (omega arith)
-take_more (q ∷ rest) zero p lt is = ap (λ (r : Point). r ∷ []) (sym is)
+take_more (q ∷ rest) zero p lt is = ap (λ r. r ∷ []) (sym is)
 take_more (q ∷ rest) (suc k) p lt is =
     let one : k + 1 ≡ suc k = omega arith in
     let two : suc (suc k) ≡ suc k + 1 = omega arith in
     let tail : take (suc k) rest ≡ take k rest ++ p ∷ [] = subst (λ j. take j rest ≡ take k rest ++ p ∷ []) one (take_more rest k p (omega arith) is) in
-    subst (λ j. take j (q ∷ rest) ≡ take (suc k) (q ∷ rest) ++ p ∷ []) two (ap (λ (l : List Point). q ∷ l) tail)
+    subst (λ j. take j (q ∷ rest) ≡ take (suc k) (q ∷ rest) ++ p ∷ []) two (ap (λ l. q ∷ l) tail)
 
-run_at : Point → Run
-run_at p = record { y = p.y; first = p.x; last = p.x }
+drawn_first : (part : Run) → part.first ≤ℤ part.last → AreDrawn (part ∷ []) [] part
+drawn_first part full = record { chain = full; covers = λ q. ((λ has. has), (λ has. has)) }
 
--- the run of one point has that point alone
-at_only : (p q : Point) → IsInRun (run_at p) q → q ≡ p
-unfolding run_at
-at_only p q inside = same_place q p inside.0 (≤ℤ_antisym q.x p.x inside.1.1 inside.1.0)
+-- the part begins in the run's row, at most one past its end
+module _ (r part new : Run) (joined : IsJoined r part new) (row : part.y ≡ r.y) (west : r.first ≤ℤ part.first) (near : part.first ≤ℤ (r.last +ℤ pos 1)) where
+  in_joined : (q : Point) → IsInRun new q → IsInRun r q ⊎ IsInRun part q
+  in_joined q inside = elim (cases_Bool (int_lt r.last q.x)) [
+    | inl far ↦ inr (inside.0 ∙ joined.row ∙ sym row, ((let past = lt_true r.last q.x far in omega (arith, ints)), ends joined.last (lt_true r.last q.x far)))
+    | inr within ↦ inl (inside.0 ∙ joined.row, (subst (λ a. a ≤ℤ q.x) joined.first inside.1.0, lt_false r.last q.x within))
+  ]
+    where
+      ends : (new.last ≡ r.last) ⊎ (new.last ≡ part.last) → r.last <ℤ q.x → q.x ≤ℤ part.last
+      ends (inl same) past = let last = inside.1.1 in absurd (omega (arith, ints))
+      ends (inr same) past = subst (λ a. q.x ≤ℤ a) same inside.1.1
 
-at_itself : (p q : Point) → q ≡ p → IsInRun (run_at p) q
-unfolding run_at
-at_itself p q same = subst (λ (r : Point). (r.y ≡ p.y) × ((p.x ≤ℤ r.x) × (r.x ≤ℤ p.x))) (sym same) (refl, (≤ℤ_same p.x, ≤ℤ_same p.x))
+  run_joined : (q : Point) → IsInRun r q → IsInRun new q
+  run_joined q inside = (inside.0 ∙ sym joined.row, (subst (λ a. a ≤ℤ q.x) (sym joined.first) inside.1.0, ≤ℤ_trans q.x r.last new.last inside.1.1 joined.past_one))
 
-only : (p q : Point) → Contains (p ∷ []) q → q ≡ p
-only p q (zero, lt, same) = sym same
-only p q (suc k, lt, same) = absurd (omega arith)
+  part_joined : (q : Point) → IsInRun part q → IsInRun new q
+  part_joined q inside = (inside.0 ∙ row ∙ sym joined.row, (subst (λ a. a ≤ℤ q.x) (sym joined.first) (≤ℤ_trans r.first part.first q.x west inside.1.0), ≤ℤ_trans q.x part.last new.last inside.1.1 joined.past_other))
 
-alone : (p q : Point) → q ≡ p → Contains (p ∷ []) q
-alone p q same = (0, omega arith, sym same)
+  drawn_longer : (parts runs : List Run) → AreDrawn parts runs r → AreDrawn (parts ++ part ∷ []) runs new
+  drawn_longer parts runs drawn = record {
+    chain = chain_longer runs r new joined.row joined.first joined.past_one drawn.chain;
+    covers = λ q. (
+      (λ has. ⊎_elim
+          (λ earlier. in_left parts (part ∷ []) q ((drawn.covers q).0 (in_left runs (r ∷ []) q earlier)))
+          (λ here. ⊎_elim
+          (λ within. ⊎_elim
+          (λ old. in_left parts (part ∷ []) q ((drawn.covers q).0 (in_right runs (r ∷ []) q (inl old))))
+          (λ added. in_right parts (part ∷ []) q (inl added))
+          (in_joined q within))
+          (λ none. absurd none)
+          here)
+          (in_cases runs (new ∷ []) q has)),
+      (λ has. ⊎_elim
+          (λ old. ⊎_elim
+          (λ earlier. in_left runs (new ∷ []) q earlier)
+          (λ here. ⊎_elim (λ within. in_right runs (new ∷ []) q (inl (run_joined q within))) (λ none. absurd none) here)
+          (in_cases runs (r ∷ []) q ((drawn.covers q).1 old)))
+          (λ added. ⊎_elim (λ within. in_right runs (new ∷ []) q (inl (part_joined q within))) (λ none. absurd none) added)
+          (in_cases parts (part ∷ []) q has)),
+    );
+  }
 
-pub drawn_first : (p : Point) → AreDrawn (p ∷ []) [] (record { y = p.y; first = p.x; last = p.x })
-unfolding run_at
-drawn_first p = record {
-  chain = ≤ℤ_same p.x;
-  covers = λ q. ((λ in_run. ⊎_elim (λ here. alone p q (at_only p q here)) (λ none. absurd none) in_run), (λ has. inl (at_itself p q (only p q has))));
-}
-
--- a point in the run's row, at most one past its end
-longer : Run → Point → Run
-longer r p = record { y = r.y; first = r.first; last = p.x }
-
-int_split : (a b : ℤ) → a ≤ℤ (b +ℤ pos 1) → (a ≤ℤ b) ⊎ (a ≡ (b +ℤ pos 1))
-int_split a b le = elim (cases_Bool (int_lt b a)) [
-  | inl far ↦ let lt = lt_true b a far in inr (omega (arith, ints))
-  | inr near ↦ inl (lt_false b a near)
-]
-
-longer_cases : (r : Run) (p q : Point) → p.y ≡ r.y → p.x ≤ℤ (r.last +ℤ pos 1) → IsInRun (longer r p) q → IsInRun r q ⊎ (q ≡ p)
-unfolding longer
-longer_cases r p q row near inside = ⊎_elim
-    (λ old. inl (inside.0, (inside.1.0, old)))
-    (λ new. inr (same_place q p (inside.0 ∙ sym row) (let last = inside.1.1 in omega (arith, ints))))
-    (int_split q.x r.last (let last = inside.1.1 in omega (arith, ints)))
-
-pub drawn_longer : (seen : List Point) (runs : List Run) (r : Run) (p : Point) → p.y ≡ r.y → r.last ≤ℤ p.x → r.first ≤ℤ r.last → p.x ≤ℤ (r.last +ℤ pos 1)
-    → AreDrawn seen runs r → AreDrawn (seen ++ p ∷ []) runs (record { y = r.y; first = r.first; last = p.x })
-unfolding longer
-drawn_longer seen runs r p row past full near drawn = record {
-  chain = chain_longer runs r (longer r p) refl refl past drawn.chain;
+drawn_more : (parts runs : List Run) (r part : Run) → IsAfter r part → part.first ≤ℤ part.last → AreDrawn parts runs r → AreDrawn (parts ++ part ∷ []) (runs ++ r ∷ []) part
+drawn_more parts runs r part after full drawn = record {
+  chain = chain_more runs r part after full drawn.chain;
   covers = λ q. (
-    (λ has. ⊎_elim
-        (λ earlier. Contains-append_left seen (p ∷ []) q ((drawn.covers q).0 (in_left runs (r ∷ []) q earlier)))
-        (λ here. ⊎_elim
-        (λ within. ⊎_elim
-        (λ old. Contains-append_left seen (p ∷ []) q ((drawn.covers q).0 (in_right runs (r ∷ []) q (inl old))))
-        (λ new. Contains-append_right seen (p ∷ []) q (alone p q new))
-        (longer_cases r p q row near within))
-        (λ none. absurd none)
-        here)
-        (in_cases runs (longer r p ∷ []) q has)),
-    (λ has. ⊎_elim
-        (λ old. ⊎_elim
-        (λ earlier. in_left runs (longer r p ∷ []) q earlier)
-        (λ here. ⊎_elim (λ within. in_right runs (longer r p ∷ []) q (inl (within.0, (within.1.0, (let last = within.1.1 in omega (arith, ints)))))) (λ none. absurd none) here)
-        (in_cases runs (r ∷ []) q ((drawn.covers q).1 old)))
-        (λ new. let same = only p q new in
-        in_right runs (longer r p ∷ []) q (inl (subst (λ (z : Point). IsInRun (longer r p) z) (sym same) (row, (≤ℤ_trans r.first r.last p.x full past, ≤ℤ_same p.x)))))
-        (Contains-append_cases seen (p ∷ []) q has)),
+    (λ has. ⊎_elim (λ old. in_left parts (part ∷ []) q ((drawn.covers q).0 old)) (λ added. in_right parts (part ∷ []) q added) (in_cases (runs ++ r ∷ []) (part ∷ []) q has)),
+    (λ has. ⊎_elim (λ old. in_left (runs ++ r ∷ []) (part ∷ []) q ((drawn.covers q).1 old)) (λ added. in_right (runs ++ r ∷ []) (part ∷ []) q added) (in_cases parts (part ∷ []) q has)),
   );
 }
 
-pub drawn_more : (seen : List Point) (runs : List Run) (r : Run) (p : Point) → IsAfter r (record { y = p.y; first = p.x; last = p.x })
-    → AreDrawn seen runs r → AreDrawn (seen ++ p ∷ []) (runs ++ r ∷ []) (record { y = p.y; first = p.x; last = p.x })
-unfolding run_at
-drawn_more seen runs r p after drawn = record {
-  chain = chain_more runs r (run_at p) after (≤ℤ_same p.x) drawn.chain;
-  covers = λ q. (
-    (λ has. ⊎_elim
-        (λ earlier. Contains-append_left seen (p ∷ []) q ((drawn.covers q).0 earlier))
-        (λ here. ⊎_elim (λ at. Contains-append_right seen (p ∷ []) q (alone p q (at_only p q at))) (λ none. absurd none) here)
-        (in_cases (runs ++ r ∷ []) (run_at p ∷ []) q has)),
-    (λ has. ⊎_elim
-        (λ old. in_left (runs ++ r ∷ []) (run_at p ∷ []) q ((drawn.covers q).1 old))
-        (λ new. in_right (runs ++ r ∷ []) (run_at p ∷ []) q (inl (at_itself p q (only p q new))))
-        (Contains-append_cases seen (p ∷ []) q has)),
-  );
-}
+-- the first k + 1 parts are drawn
+pub record AreDrawnTo (parts : List Run) (k : ℕ) (runs : List Run) (run : Run) : Type 0 where
+  pub drawn : AreDrawn (take k parts) runs run
+  pub row : (d : Run) → (slice_index_or parts (k - 1) d).y ≡ run.y
+  pub west : (d : Run) → run.first ≤ℤ (slice_index_or parts (k - 1) d).first
 
--- the next point lies in the run's row, past its end, or south of it
-pub next_after : (r : Run) (last p : Point) → last.y ≡ r.y → last.x ≡ r.last → ComesBy last p → ((p.y ≡ r.y) × (p.x ≤ℤ (r.last +ℤ pos 1)) → ⊥) → IsAfter r (record { y = p.y; first = p.x; last = p.x })
-next_after r last p row end (inl south) far = inl (omega (arith, ints))
-next_after r last p row end (inr east) far = elim (cases_Bool (int_lt (r.last +ℤ pos 1) p.x)) [
-  | inl gap ↦ inr (sym row ∙ east.0, lt_true (r.last +ℤ pos 1) p.x gap)
-  | inr near ↦ absurd (far (sym east.0 ∙ row, lt_false (r.last +ℤ pos 1) p.x near))
-]
+-- the first part is a run so far
+pub drawn_one : (parts : List Run) (run : Run) → 0 < length parts → run ≡ get_or parts 0 run → AreFull parts → AreDrawnTo parts 1 [] run
+drawn_one [] run some is full = absurd (omega arith)
+drawn_one (part ∷ rest) run some is full = subst (AreDrawnTo (part ∷ rest) 1 []) (sym is) (record {
+  drawn = drawn_first part (full 0 part (omega arith));
+  row = λ d. refl;
+  west = λ d. ≤ℤ_same part.first;
+})
 
-pub next_past : (r : Run) (last p : Point) → last.y ≡ r.y → last.x ≡ r.last → ComesBy last p → p.y ≡ r.y → r.last ≤ℤ p.x
-next_past r last p row end (inl south) same = absurd (omega (arith, ints))
-next_past r last p row end (inr east) same = let further = east.1 in omega (arith, ints)
+module _ (parts : List Run) (k : ℕ) (part : Run) (start : 1 ≤ k) (lt : k < length parts) (is : part ≡ get_or parts k part) (runs : List Run) (run : Run) (full : AreFull parts) (order : AllAdjacentBelow ComesBy parts (length parts)) (so_far : AreDrawnTo parts k runs run) where
+  here : (d : Run) → slice_index_or parts (k + 1 - 1) d ≡ part
+  here d = let same : k + 1 - 1 ≡ k = omega arith in ap (λ j. slice_index_or parts j d) same ∙ get_or_default parts k d part lt ∙ sym is
 
-chain_last : (rs : List Run) (r : Run) → IsChain (rs ++ r ∷ []) → r.first ≤ℤ r.last
-chain_last [] r h = h
-chain_last (a ∷ []) r h = h.1.1
-chain_last (a ∷ b ∷ rest) r h = chain_last (b ∷ rest) r h.1.1
+  before : Run
+  before = slice_index_or parts (k - 1) part
 
--- the first k + 1 points are drawn
-pub record AreDrawnTo (points : List Point) (k : ℕ) (runs : List Run) (run : Run) : Type 0 where
-  pub drawn : AreDrawn (take k points) runs run
-  pub row : (d : Point) → (slice_index_or points (k - 1) d).y ≡ run.y
-  pub end : (d : Point) → (slice_index_or points (k - 1) d).x ≡ run.last
-
-module _ (points : List Point) (k : ℕ) (p : Point) (start : 1 ≤ k) (lt : k < length points) (is : p ≡ get_or points k p) (runs : List Run) (run : Run) (order : AllAdjacentBelow ComesBy points (length points)) (so_far : AreDrawnTo points k runs run) where
-  here : (d : Point) → slice_index_or points (k + 1 - 1) d ≡ p
-  here d = let same : k + 1 - 1 ≡ k = omega arith in ap (λ j. slice_index_or points j d) same ∙ get_or_default points k d p lt ∙ sym is
-
-  comes : ComesBy (slice_index_or points (k - 1) p) p
+  comes : ComesBy before part
+  unfolding before
   comes = let up : (k - 1) + 1 ≡ k = omega arith in
-      subst (λ q. ComesBy (slice_index_or points (k - 1) p) q) (sym is) (subst (λ j. ComesBy (slice_index_or points (k - 1) p) (slice_index_or points j p)) up (order (k - 1) p (omega arith)))
+      subst (λ q. ComesBy (slice_index_or parts (k - 1) part) q) (sym is) (subst (λ j. ComesBy (slice_index_or parts (k - 1) part) (slice_index_or parts j part)) up (order (k - 1) part (omega arith)))
 
-  seen_more : take (k + 1) points ≡ take k points ++ p ∷ []
-  seen_more = take_more points k p lt is
+  row_before : before.y ≡ run.y
+  unfolding before
+  row_before = so_far.row part
 
-  pub drawn_on : (p.y ≡ run.y) × (p.x ≤ℤ (run.last +ℤ pos 1)) → AreDrawnTo points (k + 1) runs (record { y = run.y; first = run.first; last = p.x })
-  drawn_on near = record {
-    drawn = subst (λ l. AreDrawn l runs (record { y = run.y; first = run.first; last = p.x })) (sym seen_more)
-        (drawn_longer (take k points) runs run p near.0 (next_past run (slice_index_or points (k - 1) p) p (so_far.row p) (so_far.end p) comes near.0) (chain_last runs run so_far.drawn.chain) near.1 so_far.drawn);
-    row = λ d. ap (λ (q : Point). q.y) (here d) ∙ near.0;
-    end = λ d. ap (λ (q : Point). q.x) (here d);
+  west_before : run.first ≤ℤ before.first
+  unfolding before
+  west_before = so_far.west part
+
+  seen_more : take (k + 1) parts ≡ take k parts ++ part ∷ []
+  seen_more = take_more parts k part lt is
+
+  pub drawn_on : (new : Run) → IsJoined run part new → (part.y ≡ run.y) × (part.first ≤ℤ (run.last +ℤ pos 1)) → AreDrawnTo parts (k + 1) runs new
+  drawn_on new joined near = record {
+    drawn = subst (λ l. AreDrawn l runs new) (sym seen_more) (drawn_longer run part new joined near.0 (further comes) near.1 (take k parts) runs so_far.drawn);
+    row = λ d. ap (λ (r : Run). r.y) (here d) ∙ near.0 ∙ sym joined.row;
+    west = λ d. subst (λ a. a ≤ℤ (slice_index_or parts (k + 1 - 1) d).first) (sym joined.first) (subst (λ (r : Run). run.first ≤ℤ r.first) (sym (here d)) (further comes));
   }
+    where
+      further : ComesBy before part → run.first ≤ℤ part.first
+      further (inl south) = let row = row_before in let same = near.0 in absurd (omega (arith, ints))
+      further (inr east) = ≤ℤ_trans run.first before.first part.first west_before east.1
 
-  pub drawn_next : ((p.y ≡ run.y) × (p.x ≤ℤ (run.last +ℤ pos 1)) → ⊥) → AreDrawnTo points (k + 1) (runs ++ run ∷ []) (record { y = p.y; first = p.x; last = p.x })
+  pub drawn_next : ((part.y ≡ run.y) × (part.first ≤ℤ (run.last +ℤ pos 1)) → ⊥) → AreDrawnTo parts (k + 1) (runs ++ run ∷ []) part
   drawn_next far = record {
-    drawn = subst (λ l. AreDrawn l (runs ++ run ∷ []) (record { y = p.y; first = p.x; last = p.x })) (sym seen_more)
-        (drawn_more (take k points) runs run p (next_after run (slice_index_or points (k - 1) p) p (so_far.row p) (so_far.end p) comes far) so_far.drawn);
-    row = λ d. ap (λ (q : Point). q.y) (here d);
-    end = λ d. ap (λ (q : Point). q.x) (here d);
+    drawn = subst (λ l. AreDrawn l (runs ++ run ∷ []) part) (sym seen_more) (drawn_more (take k parts) runs run part (after comes) (subst (λ (r : Run). r.first ≤ℤ r.last) (sym is) (full k part lt)) so_far.drawn);
+    row = λ d. ap (λ (r : Run). r.y) (here d);
+    west = λ d. subst (λ (r : Run). part.first ≤ℤ r.first) (sym (here d)) (≤ℤ_same part.first);
   }
+    where
+      after : ComesBy before part → IsAfter run part
+      after (inl south) = inl (let row = row_before in omega (arith, ints))
+      after (inr east) = elim (cases_Bool (int_lt (run.last +ℤ pos 1) part.first)) [
+        | inl gap ↦ inr (sym row_before ∙ east.0, lt_true (run.last +ℤ pos 1) part.first gap)
+        | inr near ↦ absurd (far (sym east.0 ∙ row_before, lt_false (run.last +ℤ pos 1) part.first near))
+      ]
 
-pub drawn_all : (points : List Point) (k : ℕ) (runs : List Run) (run : Run) → length points ≤ k → AreDrawnTo points k runs run → AreRuns (Contains points) (runs ++ run ∷ [])
-drawn_all points k runs run all drawn = subst (λ l. AreRuns (Contains l) (runs ++ run ∷ [])) (take_all k points all) (drawn_runs (take k points) runs run drawn.drawn)
+pub drawn_all : (parts : List Run) (k : ℕ) (runs : List Run) (run : Run) → length parts ≤ k → AreDrawnTo parts k runs run → AreRuns (Cover parts) (runs ++ run ∷ [])
+drawn_all parts k runs run all drawn = subst (λ l. AreRuns (Cover l) (runs ++ run ∷ [])) (take_all k parts all) (drawn_runs (take k parts) runs run drawn.drawn)

@@ -1,13 +1,9 @@
 -- The runs of sets that have the same points.
-use Rattle.std.proofs.Common.{◌≡◌, ℤ, ◌≤ℤ◌, ◌↔◌, List, [], ◌∷◌, length, refl, ap, arith}
-use Rattle.std.specs.Prelude.{Contains}
-use Rattle.std.proofs.lemmas.Int.{ints}
+use Rattle.std.proofs.Common.{◌≡◌, ◌↔◌, List, [], ◌∷◌, refl, arith}
 use Rattle.lattice.specs.declared.point.Point.{Point}
+use Rattle.lattice.proofs.Levels.{≤ℤ_same}
 use Rattle.watershed.specs.declared.runs.Run.{Run}
 use Rattle.watershed.specs.Runs.{AreRuns}
-
-≤ℤ_same : (a : ℤ) → a ≤ℤ a
-≤ℤ_same a = omega (arith, ints)
 
 -- a set of no points has no run
 pub empty_runs : (inside : Point → Type 0) (runs : List Run) → AreRuns inside runs → ((p : Point) → inside p → ⊥) → runs ≡ []
@@ -23,6 +19,3 @@ runs_alike inside other runs same are = record {
   full = are.full;
   in_order = are.in_order;
 }
-
-pub no_runs : (points : List Point) (runs : List Run) → AreRuns (Contains points) runs → points ≡ [] → runs ≡ []
-no_runs points runs are none = empty_runs (Contains points) runs are (λ x has. absurd (omega (arith, has.1, ap length none)))

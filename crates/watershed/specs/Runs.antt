@@ -8,12 +8,28 @@ use Rattle.watershed.specs.declared.runs.Run.{Run}
 abbrev pub IsInRun : Run → Point → Type 0
 IsInRun r p = (p.y ≡ r.y) × ((r.first ≤ℤ p.x) × (p.x ≤ℤ r.last))
 
+-- the point lies in some of the runs
+abbrev pub Cover : List Run → Point → Type 0
+Cover runs p = Any (λ r. IsInRun r p) runs
+
+-- each run has a point
+abbrev pub AreFull : List Run → Type 0
+AreFull runs = All (λ r. r.first ≤ℤ r.last) runs
+
 -- the run b comes after a, from the north down, in a row from the west, and doesn't touch it
 abbrev pub IsAfter : Run → Run → Type 0
 IsAfter a b = (b.y <ℤ a.y) ⊎ ((a.y ≡ b.y) × ((a.last +ℤ pos 1) <ℤ b.first))
 
+-- the run goes from where a begins to where the last of both ends
+pub record IsJoined (a b run : Run) : Type 0 where
+  pub row : run.y ≡ a.y
+  pub first : run.first ≡ a.first
+  pub past_one : a.last ≤ℤ run.last
+  pub past_other : b.last ≤ℤ run.last
+  pub last : (run.last ≡ a.last) ⊎ (run.last ≡ b.last)
+
 -- the runs are the maximal ones of the set, from the north down, in a row from the west
 pub record AreRuns (inside : Point → Type 0) (runs : List Run) : Type 0 where
-  pub covers : (p : Point) → Any (λ r. IsInRun r p) runs ↔ inside p
-  pub full : All (λ r. r.first ≤ℤ r.last) runs
+  pub covers : (p : Point) → Cover runs p ↔ inside p
+  pub full : AreFull runs
   pub in_order : AllAdjacentBelow IsAfter runs (length runs)

@@ -8,7 +8,7 @@ ghost use Rattle.flow_d8.specs.FlowPath.{IsInWatershed};
 ghost use Rattle.flow_d8.specs.Directions.{AreDirectionsOf};
 ghost use Rattle.watershed.specs.Runs.{AreRuns};
 ghost use Rattle.watershed.specs.Search.{AreUpstream};
-ghost use Rattle.watershed.specs.Marks.{IsMarked};
+ghost use Rattle.watershed.specs.Marks.{IsMarked, AreListed};
 
 use crate::feeders::Feeders;
 use crate::held::Held;
@@ -76,6 +76,7 @@ fn upstream<F: Feeders>(
 ) -> Result<Option<Marks>, Refusal>
     requires { F.is_ready asked.old }
     ensures found { IfOk result (λ found. IfSome found (λ marks. (m : Mosaic) (level : Point → ℤ) → F.tells asked.new m level → AreUpstream (terrain m) level point (IsMarked marks))) }
+    ensures listed { IfOk result (λ found. IfSome found AreListed) }
     ensures follows { F.follows asked.old asked.new }
     ensures keeps { OnOk result (F.keeps asked.old asked.new) }
     ensures refusal { IfErr result (F.refuses asked.old asked.new) }

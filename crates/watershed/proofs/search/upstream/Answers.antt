@@ -14,7 +14,8 @@ search-init g c =
       ready = told.ready;
       follows = told.follows;
       keeps = told.keeps;
-      searching = λ m level tells. begun (terrain m) level c.args.point (IsMarked c.new-marks.result) c.in_ok-waiting.waiting.items c.new-marks.ensures (told.found m level tells);
+      listed = c.new-marks.ensures.listed;
+      searching = λ m level tells. begun (terrain m) level c.args.point (IsMarked c.new-marks.result) c.in_ok-waiting.waiting.items c.new-marks.ensures.none (told.found m level tells);
     }
 
 pub search-preserved : goal.search-preserved
@@ -35,10 +36,11 @@ search-preserved g c =
       ready = told.ready;
       follows = laws.follows_on first old new inv.follows told.follows;
       keeps = laws.keeps_on first old new inv.keeps told.keeps;
+      listed = c.in_ok-mark.ensures.listed;
       searching = λ m level tells.
           let before = laws.told_before old new m level told.follows tells in
           subst (IsSearching (terrain m) level p (IsMarked c.mark.new.self)) (sym is)
-          (search_on (terrain m) level p (IsMarked c.search.marks) (IsMarked c.mark.new.self) rest more at c.in_ok-mark.ensures (told.feeders m level tells)
+          (search_on (terrain m) level p (IsMarked c.search.marks) (IsMarked c.mark.new.self) rest more at c.in_ok-mark.ensures.marked (told.feeders m level tells)
           (subst (IsSearching (terrain m) level p (IsMarked c.search.marks)) was (inv.searching m level before)));
     }
 
