@@ -13,6 +13,8 @@ use Rattle.drainage.specs.Invalidating.{IsLeftOf, IsNotedOf}
 use Rattle.drainage.specs.Holding.{Known, IsEntered, IsRight, IsRimLevel, level_of}
 use Rattle.drainage.specs.Reaching.{is_reached, reaches, DifferAt, DifferBetween}
 use Rattle.drainage.specs.RimGraphs.{AreReady, loaded_at}
+use Rattle.drainage.specs.Spared.{AreLevelsStill}
+use Rattle.drainage.proofs.SparedLevels.{rim_level_still}
 use Rattle.drainage.proofs.Unreached.{labelling_still, summarizes_still}
 
 -- ---- what is left is right
@@ -46,17 +48,18 @@ module _ (m new : Mosaic) (from to : Point) (known known' : Known) (differ : Dif
     };
   }
 
-  no_levels : ((x : ℕ) → level_of known'.levels x ≡ None) → (x : ℕ) (level : ℤ) → level_of known'.levels x ≡ Some level → IsRimLevel new known'.corners x level
-  no_levels none x level is = absurd (none_is level (sym (none x) ∙ is))
-
-pub left_right : (m new : Mosaic) (from to : Point) (known known' : Known) → DifferBetween m new from to → IsLeftOf (is_reached known.side known.corners from to) known known' → IsRight m known → IsRight new known'
-left_right m new from to known known' differ left right = record {
+pub left_right : (m new : Mosaic) (from to : Point) (spared : ℤ → Type 0) (known known' : Known) → DifferBetween m new from to → AreLevelsStill spared m new → IsLeftOf (is_reached known.side known.corners from to) spared known known' → IsRight m known
+    → IsRight new known'
+left_right m new from to spared known known' differ still left right = record {
   ready = left_ready m new from to known known' differ left.same_side left.same_corners left.whole left.loaded right;
   labellings = λ t labelling is.
       let was = (left.labellings t labelling).0 is in
       subst (λ (cs : List Corner). IsTileLabelling new (corner_at cs t) labelling) (sym left.same_corners)
       (labelling_still m new from to differ (corner_at known.corners t) (unreached m new from to known known' differ left.same_side left.same_corners left.whole left.loaded right t was.1) labelling (right.labellings t labelling was.0));
-  levels = no_levels m new from to known known' differ left.same_side left.same_corners left.whole left.loaded right left.levels;
+  levels = λ x level is.
+      let was = (left.levels x level).0 is in
+      subst (λ (cs : List Corner). IsRimLevel new cs x level) (sym left.same_corners)
+      (rim_level_still m new differ.same_side known.corners x level (λ q. still q level was.1) (right.levels x level was.0));
 }
 
 -- what is left where a height may have changed

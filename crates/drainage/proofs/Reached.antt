@@ -1,17 +1,17 @@
 -- What a change of a point leaves as it was: all but that point.
 use Rattle.std.proofs.Common.{◌≡◌, ℤ, int_le, true, false, cond, ◌&&◌, ◌||◌, List, [], ◌∷◌, refl, sym, ap, ap₂, ◌∙◌, arith}
 use Rattle.std.specs.List.{list_any}
-use Rattle.std.proofs.lemmas.Bool.{and_parts, and_from, false_from_ne_true, both_ways}
+use Rattle.std.proofs.lemmas.Bool.{and_parts, and_from, or_right, false_from_ne_true, both_ways}
 use Rattle.std.proofs.lemmas.Int.{ints}
 use Rattle.lattice.specs.declared.point.Point.{Point}
 use Rattle.lattice.specs.Ground.{same_point}
 use Rattle.lattice.specs.Mosaic.{Mosaic}
 use Rattle.lattice.specs.Points.{is_point_before}
 use Rattle.lattice.proofs.IntTests.{le_true, le_from}
-use Rattle.lattice.proofs.SamePoints.{same_point_says}
+use Rattle.lattice.proofs.SamePoints.{same_point_says, same_point_from}
 use Rattle.catalogue.specs.Tiles.{with_sinks}
 use Rattle.edits.specs.Sinks.{with_point, without_point}
-use Rattle.edits.proofs.FreshSinks.{any_without}
+use Rattle.edits.proofs.FreshSinks.{any_with, any_without}
 use Rattle.drainage.specs.Reaching.{is_between, DifferBetween}
 
 -- ---- the box of one point
@@ -52,11 +52,12 @@ other_point p q out same = both_ways (is_between p p q) out (ap (is_between p p)
 pub apart_points : (p q : Point) → (p ≡ q → ⊥) → same_point p q ≡ false
 apart_points p q apart = false_from_ne_true (same_point p q) (λ same. apart (same_point_says p q same))
 
-any_with : (q p : Point) (points : List Point) → same_point p q ≡ false → list_any (λ s. same_point s q) (with_point p points) ≡ list_any (λ s. same_point s q) points
-any_with q p [] out = ap (λ b. b || false) out
-any_with q p (r ∷ rest) out = elim (is_point_before p r) as (λ b. list_any (λ s. same_point s q) (cond b (p ∷ (r ∷ rest)) (r ∷ with_point p rest)) ≡ list_any (λ s. same_point s q) (r ∷ rest)) [
-  | true ↦ ap (λ b. b || list_any (λ s. same_point s q) (r ∷ rest)) out
-  | false ↦ ap (λ b. same_point r q || b) (any_with q p rest out)
+-- the point itself is one of them
+pub own_with : (p : Point) (points : List Point) → list_any (λ s. same_point s p) (with_point p points) ≡ true
+own_with p [] = ap (λ b. b || false) (same_point_from p p refl)
+own_with p (r ∷ rest) = elim (is_point_before p r) as (λ b. list_any (λ s. same_point s p) (cond b (p ∷ (r ∷ rest)) (r ∷ with_point p rest)) ≡ true) [
+  | true ↦ ap (λ b. b || list_any (λ s. same_point s p) (r ∷ rest)) (same_point_from p p refl)
+  | false ↦ or_right (same_point r p) (list_any (λ s. same_point s p) (with_point p rest)) (own_with p rest)
 ]
 
 module _ (m : Mosaic) (p : Point) where
@@ -65,7 +66,7 @@ module _ (m : Mosaic) (p : Point) where
     same_side = refl;
     same_corners = refl;
     heights = λ q out. refl;
-    sinks = λ q out. any_with q p m.sinks (apart_points p q (other_point p q out));
+    sinks = λ q out. any_with (λ s. same_point s q) p m.sinks (apart_points p q (other_point p q out));
   }
 
   pub differ_without : DifferBetween m (with_sinks (without_point p m.sinks) m) p p

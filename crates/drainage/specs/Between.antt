@@ -32,14 +32,14 @@ pub record IsHeldOf (m : Mosaic) (held : DrainageCache) : Type 0 where
   pub flows : drain_right m held.flows
   pub directions : directions_right m held.directions
 
--- what was found is left, but for the tiles that the box reaches, and for the levels
-abbrev pub are_left : Point → Point → Option TileCache → Option TileCache → Type 0
-are_left from to None left = left ≡ None
-are_left from to (Some tile_cache) left =
-    (some : TileCache) × (left ≡ Some some) × IsLeftOf (is_reached tile_cache.rim_graph.side tile_cache.rim_graph.corners.items from to) (known_of tile_cache) (known_of some)
+-- what was found is left, but for the tiles that the box reaches, and for the levels that aren't spared
+abbrev pub are_left : Point → Point → (ℤ → Type 0) → Option TileCache → Option TileCache → Type 0
+are_left from to spared None left = left ≡ None
+are_left from to spared (Some tile_cache) left =
+    (some : TileCache) × (left ≡ Some some) × IsLeftOf (is_reached tile_cache.rim_graph.side tile_cache.rim_graph.corners.items from to) spared (known_of tile_cache) (known_of some)
 
-abbrev pub IsLeftHeld : Point → Point → DrainageCache → DrainageCache → Type 0
-IsLeftHeld from to held left = are_left from to held.tile_cache left.tile_cache
+abbrev pub IsLeftHeld : Point → Point → (ℤ → Type 0) → DrainageCache → DrainageCache → Type 0
+IsLeftHeld from to spared held left = are_left from to spared held.tile_cache left.tile_cache
 
 -- what was found is left, but for the summaries that the point reaches, the labellings of tiles that hold it, and the levels
 -- that may change as it gets another height than it had

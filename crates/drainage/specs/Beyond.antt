@@ -9,7 +9,7 @@ use Rattle.drainage.specs.Between.{IsLeftHeld}
 use Rattle.drainage.specs.Holding.{labelling_at, level_of}
 use Rattle.drainage.specs.Reaching.{is_reached}
 use Rattle.drainage.specs.RimGraphs.{loaded_at}
-use Rattle.drainage.specs.Spared.{IsSpared}
+use Rattle.drainage.specs.Spared.{IsNoHigher, IsSpared, one_lower}
 use Rattle.drainage.specs.declared.drainage_cache.DrainageCache.{DrainageCache}
 use Rattle.drainage.specs.declared.tile_cache.TileCache.{TileCache}
 
@@ -49,10 +49,11 @@ are_levels_kept heights (Some tile_cache) left =
 abbrev pub AreLevelsKept : List NewHeight → DrainageCache → DrainageCache → Type 0
 AreLevelsKept heights held left = are_levels_kept heights held.tile_cache left.tile_cache
 
--- what is held of tiles that the edit doesn't reach is kept, where no tile comes or goes
+-- what is held of tiles that the edit doesn't reach is kept, where no tile comes or goes; as a sink comes, levels no higher
+-- than its ground are kept too, and as one goes, levels below it
 abbrev pub IsKeptBeyondEdit : Edit → DrainageCache → DrainageCache → Type 0
 IsKeptBeyondEdit (Heights heights) held left = IsKeptBeyondHeights heights.items held left × AreLevelsKept heights.items held left
-IsKeptBeyondEdit (Voids from to h tiles) held left = IsLeftHeld from to held left
-IsKeptBeyondEdit (Sink p) held left = IsLeftHeld p p held left
-IsKeptBeyondEdit (Unsink p) held left = IsLeftHeld p p held left
+IsKeptBeyondEdit (Voids from to h tiles) held left = IsLeftHeld from to (IsNoHigher None) held left
+IsKeptBeyondEdit (Sink p h) held left = IsLeftHeld p p (IsNoHigher (Some h)) held left
+IsKeptBeyondEdit (Unsink p h) held left = IsLeftHeld p p (IsNoHigher (one_lower h)) held left
 IsKeptBeyondEdit edit held left = Unit {0}

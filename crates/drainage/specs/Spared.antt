@@ -1,14 +1,29 @@
--- The filled levels that one height can't change (this product's own profile).
-use Rattle.std.specs.Prelude.{◌≡◌, ◌≢◌, ◌⊎◌, ℤ, ◌<ℤ◌, true}
+-- The filled levels that a change of one point can't change (this product's own profile).
+use Rattle.std.specs.Prelude.{◌≡◌, ◌≢◌, ◌⊎◌, ℤ, pos, ◌-ℤ◌, ◌<ℤ◌, ◌≤ℤ◌, Option, Some, None, true}
 use Rattle.lattice.specs.declared.point.Point.{Point}
 use Rattle.lattice.specs.declared.height.Height.TheVariants.{At}
-use Rattle.lattice.specs.Ground.{is_ground}
+use Rattle.lattice.specs.Ground.{is_ground, terrain}
 use Rattle.lattice.specs.Height.{height_of}
 use Rattle.lattice.specs.Mosaic.{Mosaic, void}
+use Rattle.lattice.specs.Terrain.{IsFilledLevel}
 
 -- as a ground point gets another height, a level below both heights stays, and one above both
 abbrev pub IsSpared : ℤ → ℤ → ℤ → Type 0
 IsSpared was is level = (is ≢ void) × (((level <ℤ was) × (level <ℤ is)) ⊎ ((was <ℤ level) × (is <ℤ level)))
+
+-- a level no higher than this one, where there is one
+abbrev pub IsNoHigher : Option ℤ → ℤ → Type 0
+IsNoHigher None level = ⊥
+IsNoHigher (Some most) level = level ≤ℤ most
+
+-- .. and one that is lower than a height, in whole metres
+abbrev pub one_lower : Option ℤ → Option ℤ
+one_lower None = None
+one_lower (Some h) = Some (h -ℤ pos 1)
+
+-- filled levels that pass the test are those of the changed mosaic too
+abbrev pub AreLevelsStill : (ℤ → Type 0) → Mosaic → Mosaic → Type 0
+AreLevelsStill stays m new = (q : Point) (level : ℤ) → stays level → IsFilledLevel (terrain m) q level → IsFilledLevel (terrain new) q level
 
 -- the point has the height that it had, or, where it was ground, this one
 abbrev pub IsSetTo : Mosaic → Mosaic → Point → ℤ → Type 0

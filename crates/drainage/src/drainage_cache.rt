@@ -10,7 +10,7 @@ ghost use Rattle.flow_d8.specs.Directions.{AreDirectionsOf};
 ghost use Rattle.lattice.specs.declared.refusal.Refusal.TheVariants.{NoMemory};
 ghost use Rattle.drainage.specs.Holding.{IsRight};
 ghost use Rattle.drainage.specs.Reaching.{DifferAt, DifferBetween};
-ghost use Rattle.drainage.specs.Spared.{IsSetTo};
+ghost use Rattle.drainage.specs.Spared.{AreLevelsStill, IsNoHigher, IsSetTo};
 
 use crate::flows::Flows;
 use crate::nearby::near;
@@ -57,17 +57,18 @@ impl DrainageCache {
     }
 
     /// Gives up what changes of points from the one to the other, ends included, may make wrong: the ways and the labellings
-    /// of the tiles that hold such a point or one beside it, all levels of rim points, and where points drain. What else is
-    /// held serves on, for the mosaic as it was and as it becomes. Takes no memory.
-    pub fn invalidate_between(&mut self, from: Point, to: Point)
-        ensures left { IsLeftHeld from to self.old self.new }
-        ensures right { (m new : Mosaic) → DifferBetween m new from to → IsHeldOf m self.old → IsHeldOf new self.new }
+    /// of the tiles that hold such a point or one beside it, where points drain, and the levels of rim points that are higher
+    /// than `most`, in metres, or all of them. What else is held serves on, for the mosaic as it was and as it becomes. Takes
+    /// no memory.
+    pub fn invalidate_between(&mut self, from: Point, to: Point, most: Option<i32>)
+        ensures left { IsLeftHeld from to (IsNoHigher most) self.old self.new }
+        ensures right { (m new : Mosaic) → DifferBetween m new from to → AreLevelsStill (IsNoHigher most) m new → IsHeldOf m self.old → IsHeldOf new self.new }
     {
         self.invalidate_ways();
         let Some(mut tile_cache) = self.tile_cache.take() else {
             return;
         };
-        tile_cache.invalidate_between(from, to);
+        tile_cache.invalidate_between(from, to, most);
         self.tile_cache = Some(tile_cache);
     }
 

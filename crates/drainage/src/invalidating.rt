@@ -1,10 +1,14 @@
 //! Drops what an edit of a mosaic may make wrong of what is held of its water.
+ghost use Rattle.std.specs.Prelude.{◌≡◌, ◌<ℤ◌, ◌≤ℤ◌, IfSome};
+ghost use Rattle.lattice.specs.Ground.{metres};
+ghost use Rattle.lattice.specs.Height.{height_of};
 ghost use Rattle.lattice.specs.Mosaic.{Mosaic, IsMosaic};
 ghost use Rattle.catalogue.specs.Tiles.{with_sinks};
 ghost use Rattle.edits.specs.Edits.{AreEarlier, TellsHeights, edit_made, with_heights};
 ghost use Rattle.edits.specs.Sinks.{with_point, without_point};
 ghost use Rattle.drainage.specs.Between.{IsHeldOf, IsLeftHeld};
 ghost use Rattle.drainage.specs.Beyond.{AreLevelsKept, IsKeptBeyondEdit, IsKeptBeyondHeights};
+ghost use Rattle.drainage.specs.Spared.{IsNoHigher, one_lower};
 
 use crate::drainage_cache::DrainageCache;
 use edits::{Edit, NewHeight};
@@ -25,9 +29,13 @@ pub fn invalidate_edit(held: &mut DrainageCache, edit: &Edit)
         Edit::Add { .. } => held.invalidate(),
         Edit::Drop { .. } => held.invalidate(),
         Edit::Heights { heights } => invalidate_heights(held, heights.as_slice()),
-        Edit::Voids { from, to, .. } => held.invalidate_between(*from, *to),
-        Edit::Sink { point } => invalidate_near_sink(held, *point),
-        Edit::Unsink { point } => invalidate_near_sink(held, *point),
+        Edit::Voids { from, to, .. } => held.invalidate_between(*from, *to, None),
+        Edit::Sink { point, metres } => invalidate_near_sink(
+            held,
+            *point,
+            Some(i32::from(*metres)),
+        ),
+        Edit::Unsink { point, metres } => invalidate_near_sink(held, *point, one_lower(*metres)),
     }
 }
 
@@ -43,12 +51,21 @@ fn invalidate_heights(held: &mut DrainageCache, heights: &[NewHeight])
     }
 }
 
-// Gives up what a sink that comes or goes at the point may make wrong.
-fn invalidate_near_sink(held: &mut DrainageCache, point: Point)
+// Gives up what a sink that comes or goes at the point may make wrong. Each way out by it crosses its ground, so that no level
+// below that changes; and as it comes, none as high.
+fn invalidate_near_sink(held: &mut DrainageCache, point: Point, most: Option<i32>)
     ensures still { (m : Mosaic) → IsMosaic m → IsHeldOf m held.old → IsHeldOf m held.new }
-    ensures declared { (m : Mosaic) → IsMosaic m → IsHeldOf m held.old → IsHeldOf (with_sinks (with_point point m.sinks) m) held.new }
-    ensures taken_back { (m : Mosaic) → IsMosaic m → IsHeldOf m held.old → IsHeldOf (with_sinks (without_point point m.sinks) m) held.new }
-    ensures kept { IsLeftHeld point point held.old held.new }
+    ensures declared { (m : Mosaic) → IsMosaic m → IfSome most (λ level. level ≤ℤ metres (height_of m point)) → IsHeldOf m held.old → IsHeldOf (with_sinks (with_point point m.sinks) m) held.new }
+    ensures taken_back { (m : Mosaic) → IsMosaic m → IfSome most (λ level. level <ℤ metres (height_of m point)) → IsHeldOf m held.old → IsHeldOf (with_sinks (without_point point m.sinks) m) held.new }
+    ensures kept { IsLeftHeld point point (IsNoHigher most) held.old held.new }
 {
-    held.invalidate_between(point, point);
+    held.invalidate_between(point, point, most);
+}
+
+// The greatest level that is lower than the height, where there is one.
+fn one_lower(metres: Option<i16>) -> Option<i32>
+    ensures { result ≡ one_lower metres }
+{
+    let metres = metres?;
+    Some(i32::from(metres) - 1)
 }

@@ -2,7 +2,7 @@
 ghost use Rattle.std.specs.Prelude.{◌≡◌, ◌==◌, ◌⊎◌, ◌↔◌, ◌<◌, ◌<ℤ◌, ℕ, ℤ, length, slice_set, Some, None, Contains, cond, IsTrue, IsFalse, IfSome, OnOk, IfErr};
 ghost use Rattle.lattice.specs.declared.refusal.Refusal.TheVariants.{NoMemory};
 ghost use Rattle.drainage.specs.Holding.{level_of};
-ghost use Rattle.drainage.specs.Spared.{IsSpared};
+ghost use Rattle.drainage.specs.Spared.{IsNoHigher, IsSpared};
 
 use lattice::{Refusal, VOID};
 use std::alloc::Global;
@@ -42,11 +42,15 @@ impl RimLevels {
         }
     }
 
-    /// Knows no level from then on. Takes no memory.
-    pub(crate) fn invalidate(&mut self)
-        ensures { (x : ℕ) → level_of self.new x ≡ None }
+    /// Gives up the levels that are higher than this one, in metres, or all where it is none. Takes no memory.
+    pub(crate) fn invalidate_above(&mut self, most: Option<i32>)
+        ensures { (x : ℕ) (level : ℤ) → level_of self.new x ≡ Some level ↔ ((level_of self.old x ≡ Some level) × IsNoHigher most level) }
     {
-        self.levels.clear();
+        for x in 0..self.levels.len() {
+            if is_above(most, self.at(x)) {
+                self.invalidate_at(x);
+            }
+        }
     }
 
     /// Gives up the levels that may change as a ground point gets another height than it had, in metres. Takes no memory.
@@ -101,6 +105,20 @@ impl RimLevels {
         }
         Ok(())
     }
+}
+
+// Whether there is a level that is higher than the most.
+fn is_above(most: Option<i32>, level: Option<i16>) -> bool
+    ensures yes { IsTrue result → IfSome level (λ l. IsNoHigher most l → ⊥) }
+    ensures no { IsFalse result → IfSome level (IsNoHigher most) }
+{
+    let Some(level) = level else {
+        return false;
+    };
+    let Some(most) = most else {
+        return true;
+    };
+    most < i32::from(level)
 }
 
 // Whether the level, if there is one, may change as a ground point gets another height.

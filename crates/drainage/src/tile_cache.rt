@@ -15,7 +15,7 @@ ghost use Rattle.drainage.specs.RimGraphs.{loaded_at};
 ghost use Rattle.drainage.specs.Invalidating.{IsLeftOf, IsNotedOf};
 ghost use Rattle.drainage.specs.Holding.{IsRight, IsGrown};
 ghost use Rattle.drainage.specs.Reaching.{DifferAt, DifferBetween, is_reached};
-ghost use Rattle.drainage.specs.Spared.{IsSetTo};
+ghost use Rattle.drainage.specs.Spared.{AreLevelsStill, IsNoHigher, IsSetTo};
 
 use crate::filling::spot_of;
 use crate::labelling_cache::LabellingCache;
@@ -56,12 +56,13 @@ impl TileCache {
     }
 
     /// Gives up what changes from the one point to the other may make wrong: the ways and the labellings of the tiles that
-    /// they reach, and each level of a rim point, which depends on the water's whole way out. Takes no memory.
-    pub(crate) fn invalidate_between(&mut self, from: Point, to: Point)
-        ensures left { IsLeftOf (is_reached self.old.rim_graph.side self.old.rim_graph.corners.items from to) (known_of self.old) (known_of self.new) }
-        ensures right { (m new : Mosaic) → DifferBetween m new from to → IsRight m (known_of self.old) → IsRight new (known_of self.new) }
+    /// they reach, and of the levels of rim points, which depend on the water's whole way out, those that are higher than
+    /// `most`, in metres, or all. Takes no memory.
+    pub(crate) fn invalidate_between(&mut self, from: Point, to: Point, most: Option<i32>)
+        ensures left { IsLeftOf (is_reached self.old.rim_graph.side self.old.rim_graph.corners.items from to) (IsNoHigher most) (known_of self.old) (known_of self.new) }
+        ensures right { (m new : Mosaic) → DifferBetween m new from to → AreLevelsStill (IsNoHigher most) m new → IsRight m (known_of self.old) → IsRight new (known_of self.new) }
     {
-        self.levels.invalidate();
+        self.levels.invalidate_above(most);
         let side = self.rim_graph.side;
         self.labellings
             .invalidate_between(side, &self.rim_graph.corners, from, to);

@@ -29,7 +29,7 @@ use Rattle.edits.proofs.Voids.{any_from, tile_at}
 
 -- ---- a point more or less leaves the others
 
-any_with : (f : Point → Bool) (p : Point) (points : List Point) → f p ≡ false → list_any f (with_point p points) ≡ list_any f points
+pub any_with : (f : Point → Bool) (p : Point) (points : List Point) → f p ≡ false → list_any f (with_point p points) ≡ list_any f points
 any_with f p [] out = ap (λ b. b || false) out
 any_with f p (q ∷ rest) out = elim (is_point_before p q) as (λ b. list_any f (cond b (p ∷ (q ∷ rest)) (q ∷ with_point p rest)) ≡ list_any f (q ∷ rest)) [
   | true ↦ ap (λ b. b || list_any f (q ∷ rest)) out

@@ -1,5 +1,5 @@
 -- What an edit makes of a mosaic, and which tiles go stale by it (this product's own profile).
-use Rattle.std.specs.Prelude.{◌≡◌, ℕ, ◌*◌, ◌<◌, ℤ, Bool, ◌&&◌, if◌then◌else◌, IsTrue, List, [], ◌∷◌, map, length, All, AllPairs, IsFalse, Contains}
+use Rattle.std.specs.Prelude.{◌≡◌, ℕ, ◌*◌, ◌<◌, ℤ, Bool, ◌&&◌, if◌then◌else◌, IsTrue, IfSome, List, [], ◌∷◌, map, length, All, AllPairs, IsFalse, Contains}
 use Rattle.std.specs.List.{list_any}
 use Rattle.lattice.specs.Corners.{Corner, same_corner}
 use Rattle.lattice.specs.declared.point.Point.{Point}
@@ -38,8 +38,8 @@ edit_made (Add c bytes) m = added (record { corner = c; samples = samples_in byt
 edit_made (Drop c) m = without c m
 edit_made (Heights heights) m = with_heights heights.items m
 edit_made (Voids from to h tiles) m = patched from to h m
-edit_made (Sink p) m = with_sinks (with_point p m.sinks) m
-edit_made (Unsink p) m = with_sinks (without_point p m.sinks) m
+edit_made (Sink p h) m = with_sinks (with_point p m.sinks) m
+edit_made (Unsink p h) m = with_sinks (without_point p m.sinks) m
 
 abbrev pub points_of : List NewHeight → List Point
 points_of heights = map (λ h. h.point) heights
@@ -51,8 +51,8 @@ IsEditOf (command.Remove c) (Drop d) = c ≡ d
 IsEditOf (command.Patch from to h) (Voids first last height tiles) = (from ≡ first) × (to ≡ last) × (h ≡ height)
 IsEditOf (command.Burn depth points) (Heights heights) = points_of heights.items ≡ points.items
 IsEditOf (command.Wall h points) (Heights heights) = points_of heights.items ≡ points.items
-IsEditOf (command.Sink p) (Sink q) = p ≡ q
-IsEditOf (command.Unsink p) (Unsink q) = p ≡ q
+IsEditOf (command.Sink p) (Sink q h) = p ≡ q
+IsEditOf (command.Unsink p) (Unsink q h) = p ≡ q
 IsEditOf c edit = ⊥
 
 -- present tiles, none twice
@@ -75,8 +75,8 @@ FitsIn n corners sinks (Add c bytes) = (¬ Contains corners c) × (length bytes.
 FitsIn n corners sinks (Drop c) = Contains corners c
 FitsIn n corners sinks (Heights heights) = Unit {0}
 FitsIn n corners sinks (Voids from to h tiles) = IsTrue (is_height h) × IsTrue (is_box n from to) × AreTiles corners tiles.items
-FitsIn n corners sinks (Sink p) = AreSinks n (with_point p sinks)
-FitsIn n corners sinks (Unsink p) = Unit {0}
+FitsIn n corners sinks (Sink p h) = AreSinks n (with_point p sinks)
+FitsIn n corners sinks (Unsink p h) = Unit {0}
 
 -- no tile comes in
 abbrev pub AddsNone : Edit → Type 0
@@ -93,9 +93,11 @@ abbrev pub FindsVoids : Mosaic → Edit → Type 0
 FindsVoids m (Voids from to h tiles) = AreVoidTiles m from to tiles.items
 FindsVoids m edit = Unit {0}
 
--- an edit of heights tells which ones its points have
+-- an edit of heights, or of a sink, tells which ones its points have
 abbrev pub TellsHeights : Mosaic → Edit → Type 0
 TellsHeights m (Heights heights) = AreEarlier heights.items m
+TellsHeights m (Sink p h) = height_of m p ≡ At h
+TellsHeights m (Unsink p h) = IfSome h (λ h. height_of m p ≡ At h)
 TellsHeights m edit = Unit {0}
 
 -- the tile holds one of the points
@@ -108,5 +110,5 @@ goes_stale_by n corners (Add c bytes) p = are_neighbours c p
 goes_stale_by n corners (Drop c) p = are_neighbours c p
 goes_stale_by n corners (Heights heights) p = list_any (λ c. holds_any n heights.items c && are_neighbours c p) corners
 goes_stale_by n corners (Voids from to h tiles) p = list_any (λ c. are_neighbours c p) tiles.items
-goes_stale_by n corners (Sink q) p = list_any (λ c. holds n c q && are_neighbours c p) corners
-goes_stale_by n corners (Unsink q) p = list_any (λ c. holds n c q && are_neighbours c p) corners
+goes_stale_by n corners (Sink q h) p = list_any (λ c. holds n c q && are_neighbours c p) corners
+goes_stale_by n corners (Unsink q h) p = list_any (λ c. holds n c q && are_neighbours c p) corners

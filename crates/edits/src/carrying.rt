@@ -42,11 +42,11 @@ pub fn carry_out(alloc: Global, edit: &Edit, table: &mut Table) -> Result<(), Re
             height,
             ..
         } => fill_voids(table, *from, *to, *height),
-        Edit::Sink { point } => {
+        Edit::Sink { point, .. } => {
             let sinks = with_point(table.sinks(), *point);
             table.declare(&sinks);
         }
-        Edit::Unsink { point } => {
+        Edit::Unsink { point, .. } => {
             let sinks = without_point(table.sinks(), *point);
             table.declare(&sinks);
         }

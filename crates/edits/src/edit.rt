@@ -10,7 +10,7 @@ ghost use Rattle.edits.specs.Touched.{goes_stale};
 
 use crate::Command;
 use crate::heights::{lowered, raised};
-use crate::sinks::{with_sink, without_sink};
+use crate::sinks::{new_sink_height, old_sink_height};
 use crate::tiles::{can_import, can_remove};
 use crate::void_tiles::tiles_to_patch;
 use arrayvec::ArrayVec;
@@ -49,13 +49,15 @@ pub enum Edit<'a> {
         height: i16,
         tiles: ArrayVec<Corner, 16>,
     },
-    /// The point is declared a sink.
+    /// The point, of this height, is declared a sink.
     Sink {
         point: Point,
+        metres: i16,
     },
-    /// The point is a sink no more.
+    /// The point, of this height where it has one, is a sink no more.
     Unsink {
         point: Point,
+        metres: Option<i16>,
     },
 }
 
@@ -82,7 +84,7 @@ pub fn edit_of<'a, S: Samples>(
     // The tiles of a patch are those with a void in the box.
     ensures voids { S.is_honest samples.new → IfOk result (FindsVoids (S.mosaic samples.old)) }
 
-    // The points of a burn or a wall have the heights that are told.
+    // The points of a burn or a wall, and a sink, have the heights that are told.
     ensures heights { S.is_honest samples.new → IfOk result (TellsHeights (S.mosaic samples.old)) }
     ensures stale { S.is_honest samples.new → IfOk result (λ edit. (p : Corner) → goes_stale_by (S.side_of samples.old) (S.corners samples.old) edit p ≡ goes_stale (S.mosaic samples.old) command.now p) }
     ensures reads { OnlyReads S.Samples samples.old samples.new (reads_of result) }
@@ -118,12 +120,18 @@ pub fn edit_of<'a, S: Samples>(
             Ok(Edit::Heights { heights })
         }
         Command::Sink { point } => {
-            with_sink(samples, *point)?;
-            Ok(Edit::Sink { point: *point })
+            let metres = new_sink_height(samples, *point)?;
+            Ok(Edit::Sink {
+                point: *point,
+                metres,
+            })
         }
         Command::Unsink { point } => {
-            without_sink(samples, *point)?;
-            Ok(Edit::Unsink { point: *point })
+            let metres = old_sink_height(samples, *point)?;
+            Ok(Edit::Unsink {
+                point: *point,
+                metres,
+            })
         }
     }
 }

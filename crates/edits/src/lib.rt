@@ -39,6 +39,6 @@ pub use laws::{
 };
 pub use neighbours::are_neighbours;
 pub use planning::plan;
-pub use sinks::{with_point, with_sink, without_point, without_sink};
+pub use sinks::{with_point, without_point};
 pub use stale::leaves_stale;
 pub use tiles::{can_import, can_remove};

@@ -50,8 +50,8 @@ pub(crate) fn changes_of<S: Samples>(
             height,
             ..
         } => put_in_voids(alloc, samples, *from, *to, *height),
-        Edit::Sink { point } => one_change(alloc, Change::Sink { point: *point }),
-        Edit::Unsink { point } => one_change(alloc, Change::Unsink { point: *point }),
+        Edit::Sink { point, .. } => one_change(alloc, Change::Sink { point: *point }),
+        Edit::Unsink { point, .. } => one_change(alloc, Change::Unsink { point: *point }),
     }
 }
 

@@ -1,29 +1,30 @@
 //! Declared sinks: the list of them once a point is declared one, or is none any more.
-ghost use Rattle.std.specs.Prelude.{◌≡◌, ◌≢◌, ◌||◌, ◌<◌, ◌≤◌, IsTrue, IfOk, IfErr, Ok, Err, length};
+ghost use Rattle.std.specs.Prelude.{◌≡◌, ◌≢◌, ◌||◌, ◌<◌, ◌≤◌, IsTrue, IfOk, IfErr, IfSome, OnOk, Ok, Err, length};
 ghost use Rattle.std.specs.List.{list_any};
 ghost use Rattle.lattice.specs.Ground.{same_point};
+ghost use Rattle.lattice.specs.Height.{height_of};
 ghost use Rattle.lattice.specs.Mosaic.{AreSinks};
-ghost use Rattle.lattice.specs.declared.refusal.Refusal.TheVariants.{NoMemory, NoSink};
+ghost use Rattle.lattice.specs.declared.height.Height.TheVariants.{At};
+ghost use Rattle.lattice.specs.declared.refusal.Refusal.TheVariants.{NoMemory};
 ghost use Rattle.catalogue.specs.Endings.{ends_any};
 ghost use Rattle.catalogue.specs.Readers.{OnlyReads, reads_of};
 ghost use Rattle.catalogue.specs.Tiles.{with_sinks};
+ghost use Rattle.edits.specs.Plans.{is_own, may_end};
+ghost use Rattle.edits.specs.declared.command.Command.TheVariants.{Unsink};
 ghost use Rattle.edits.specs.Sinks.{with_point, without_point, sunk, unsunk, refuses_sink};
 
 use crate::heights::ground;
 use arrayvec::ArrayVec;
-use catalogue::Samples;
-use lattice::{MOST_SINKS, Point, Refusal, is_held};
+use catalogue::{Samples, height};
+use lattice::{Height, MOST_SINKS, Point, Refusal, is_held};
 
-/// The sinks with the point, which has to be ground and no sink, where not as many are declared as may be. The samples
-/// are only read.
-pub fn with_sink<S: Samples>(
-    samples: &mut S,
-    point: Point,
-) -> Result<ArrayVec<Point, MOST_SINKS>, Refusal>
-    ensures sinks { S.is_honest samples.new → IfOk result (λ sinks. sunk (S.mosaic samples.old) point ≡ Ok (with_sinks sinks.items (S.mosaic samples.old))) }
+/// The height of the point, in metres, where it may be declared a sink: it has to be ground and no sink, and not as many may be
+/// declared as may be. The samples are only read.
+pub(crate) fn new_sink_height<S: Samples>(samples: &mut S, point: Point) -> Result<i16, Refusal>
+    ensures made { S.is_honest samples.new → OnOk result (sunk (S.mosaic samples.old) point ≡ Ok (with_sinks (with_point point (S.mosaic samples.old).sinks) (S.mosaic samples.old))) }
+    ensures height { S.is_honest samples.new → IfOk result (λ metres. height_of (S.mosaic samples.old) point ≡ At metres) }
     ensures refused { S.is_honest samples.new → IfErr result (λ r. IsTrue (refuses_sink r) → sunk (S.mosaic samples.old) point ≡ Err r) }
-    ensures valid { IfOk result (λ sinks. AreSinks (S.side_of samples.old) sinks.items) }
-    ensures one_more { IfOk result (λ sinks. sinks.items ≡ with_point point (S.sinks_of samples.old)) }
+    ensures fits { OnOk result (AreSinks (S.side_of samples.old) (with_point point (S.sinks_of samples.old))) }
 
     // Any other refusal is of a read.
     ensures causes { IfErr result (λ r. IsTrue (refuses_sink r || ends_any r)) }
@@ -33,7 +34,7 @@ pub fn with_sink<S: Samples>(
     if !is_held(samples.side(), point) {
         return Err(Refusal::Outside);
     }
-    ground(samples, point)?;
+    let metres = ground(samples, point)?;
     let sinks = samples.sinks();
     if is_among(sinks, point) {
         return Err(Refusal::SinkThere);
@@ -41,25 +42,36 @@ pub fn with_sink<S: Samples>(
     if sinks.len() >= MOST_SINKS {
         return Err(Refusal::SinksFull);
     }
-    Ok(with_point(sinks, point))
+    Ok(metres)
 }
 
-/// The sinks without the point, which has to be one, wherever it lies.
-pub fn without_sink<S: Samples>(
-    samples: &S,
+/// The height of the point, in metres, where it has one. It has to be a sink, wherever it lies. The samples are only read.
+pub(crate) fn old_sink_height<S: Samples>(
+    samples: &mut S,
     point: Point,
-) -> Result<ArrayVec<Point, MOST_SINKS>, Refusal>
-    ensures sinks { S.is_honest samples.now → IfOk result (λ sinks. unsunk (S.mosaic samples.now) point ≡ Ok (with_sinks sinks.items (S.mosaic samples.now))) }
-    ensures refused { S.is_honest samples.now → IfErr result (λ r. unsunk (S.mosaic samples.now) point ≡ Err r) }
-    ensures valid { IfOk result (λ sinks. AreSinks (S.side_of samples.now) sinks.items) }
-    ensures one_less { IfOk result (λ sinks. sinks.items ≡ without_point point (S.sinks_of samples.now)) }
-    ensures causes { IfErr result (λ r. r ≡ NoSink) }
+) -> Result<Option<i16>, Refusal>
+    ensures made { S.is_honest samples.new → OnOk result (unsunk (S.mosaic samples.old) point ≡ Ok (with_sinks (without_point point (S.mosaic samples.old).sinks) (S.mosaic samples.old))) }
+    ensures height { S.is_honest samples.new → IfOk result (λ found. IfSome found (λ metres. height_of (S.mosaic samples.old) point ≡ At metres)) }
+    ensures refused { S.is_honest samples.new → IfErr result (λ r. IsTrue (is_own (Unsink point) r) → unsunk (S.mosaic samples.old) point ≡ Err r) }
+    ensures causes { IfErr result (λ r. IsTrue (may_end (Unsink point) r)) }
+    ensures memory { IfErr result (λ r. r ≢ NoMemory) }
+    ensures reads { OnlyReads S.Samples samples.old samples.new (reads_of result) }
 {
-    let sinks = samples.sinks();
-    if !is_among(sinks, point) {
+    if !is_among(samples.sinks(), point) {
         return Err(Refusal::NoSink);
     }
-    Ok(without_point(sinks, point))
+    let found = height(samples, point)?;
+    Ok(metres(found))
+}
+
+// The height in metres, where there is one.
+fn metres(height: Height) -> Option<i16>
+    ensures { IfSome result (λ metres. height ≡ At metres) }
+{
+    match height {
+        Height::At(metres) => Some(metres),
+        _ => None,
+    }
 }
 
 fn is_among(points: &[Point], point: Point) -> bool

@@ -20,8 +20,8 @@ pub fn leaves_stale<S: Samples>(samples: &S, edit: &Edit, corner: Corner) -> boo
         Edit::Drop { corner: own } => are_neighbours(*own, corner),
         Edit::Heights { heights } => is_one_near(samples, heights.as_slice(), corner),
         Edit::Voids { tiles, .. } => is_near_any(tiles.as_slice(), corner),
-        Edit::Sink { point } => is_held_near(samples, *point, corner),
-        Edit::Unsink { point } => is_held_near(samples, *point, corner),
+        Edit::Sink { point, .. } => is_held_near(samples, *point, corner),
+        Edit::Unsink { point, .. } => is_held_near(samples, *point, corner),
     }
 }
 

@@ -78,8 +78,8 @@ StagesFew g (edit.Add c bytes) old new result = Unit {0}
 StagesFew g (edit.Drop c) old new result = Unit {0}
 StagesFew g (edit.Heights heights) old new result = StagesPages g (4 * length heights.items) (4 * length heights.items) old new result
 StagesFew g (edit.Voids from to h tiles) old new result = Unit {0}
-StagesFew g (edit.Sink p) old new result = (disk_of new ≡ disk_of old) × (has_begun new ≡ has_begun old) × (records_due new ≡ records_due old)
-StagesFew g (edit.Unsink p) old new result = (disk_of new ≡ disk_of old) × (has_begun new ≡ has_begun old) × (records_due new ≡ records_due old)
+StagesFew g (edit.Sink p h) old new result = (disk_of new ≡ disk_of old) × (has_begun new ≡ has_begun old) × (records_due new ≡ records_due old)
+StagesFew g (edit.Unsink p h) old new result = (disk_of new ≡ disk_of old) × (has_begun new ≡ has_begun old) × (records_due new ≡ records_due old)
 
 -- as an edit can be given: a corner is that of a tile, and a byte has eight bits
 abbrev pub IsGiven : Edit → Type 0

@@ -21,8 +21,8 @@ pub(crate) fn mark_stale<D: Disk>(tree: &mut Tree<D>, edit: &Edit<'_>)
         Edit::Drop { corner } => mark_stale_near(tree, *corner),
         Edit::Heights { heights } => mark_stale_near_points(tree, heights.as_slice()),
         Edit::Voids { tiles, .. } => mark_stale_near_tiles(tree, tiles.as_slice()),
-        Edit::Sink { point } => mark_stale_near_holders(tree, *point),
-        Edit::Unsink { point } => mark_stale_near_holders(tree, *point),
+        Edit::Sink { point, .. } => mark_stale_near_holders(tree, *point),
+        Edit::Unsink { point, .. } => mark_stale_near_holders(tree, *point),
     }
 }
 

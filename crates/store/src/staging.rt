@@ -61,12 +61,12 @@ pub(crate) fn stage<D: Disk>(
             };
             stage_voids(alloc, tree, tiles.as_slice(), patch)
         }
-        Edit::Sink { point } => {
+        Edit::Sink { point, .. } => {
             let sinks = with_point(tree.sinks(), *point);
             tree.declare(&sinks);
             Ok(())
         }
-        Edit::Unsink { point } => {
+        Edit::Unsink { point, .. } => {
             let sinks = without_point(tree.sinks(), *point);
             tree.declare(&sinks);
             Ok(())

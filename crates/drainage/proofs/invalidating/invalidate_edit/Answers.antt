@@ -1,21 +1,37 @@
-use Rattle.std.proofs.Common.{List, sym, subst}
+use Rattle.std.proofs.Common.{◌≡◌, ℤ, ◌≤ℤ◌, ◌<ℤ◌, List, sym, ap, ◌∙◌, subst, arith, rules, w32, of_z, to_z}
+use Rattle.std.specs.Prelude.{Option, Some, None, IfSome}
+use Rattle.std.proofs.lemmas.Int.{ints}
+use Rattle.lattice.specs.declared.height.Height.TheVariants.{At}
+use Rattle.lattice.specs.declared.point.Point.{Point}
+use Rattle.lattice.specs.Ground.{metres}
+use Rattle.lattice.specs.Height.{height_of}
+use Rattle.lattice.specs.Mosaic.{Mosaic}
+use Rattle.lattice.proofs.Levels.{≤ℤ_same}
 use Rattle.edits.specs.declared.edit.Edit.{Edit}
 use Rattle.edits.specs.declared.edit.NewHeight.{NewHeight}
 use Rattle.edits.specs.Edits.{AreEarlier, TellsHeights, edit_made, with_heights}
 use Rattle.edits.specs.Effect.{patched}
 use Rattle.drainage.specs.Between.{IsHeldOf}
 use Rattle.drainage.specs.Beyond.{AreLevelsKept, IsKeptBeyondEdit, IsKeptBeyondHeights}
+use Rattle.drainage.specs.Spared.{one_lower}
 use Rattle.drainage.proofs.EditedBox.{differ_patched}
 use Rattle.drainage.proofs.Reached.{unmoved}
 use Rattle.drainage.proofs.invalidating.invalidate_edit.Goals as goal
 
+no_higher : (m : Mosaic) (p : Point) (h most : ℤ) → most ≡ h → height_of m p ≡ At h → most ≤ℤ metres (height_of m p)
+no_higher m p h most same at = subst (λ (w : ℤ). most ≤ℤ w) (same ∙ sym (ap metres at)) (≤ℤ_same most)
+
+lower : (m : Mosaic) (p : Point) (h : Option ℤ) → IfSome h (λ h. height_of m p ≡ At h) → IfSome (one_lower h) (λ level. level <ℤ metres (height_of m p))
+lower m p None at = tt
+lower m p (Some h) at = let same : metres (height_of m p) ≡ h = ap metres at in omega (arith, ints)
+
 pub returns-in-Voids-clause-still : goal.returns-in-Voids-clause-still
-returns-in-Voids-clause-still c m valid right = c.invalidate_between.ensures.right m m (unmoved m c.in-Voids.from c.in-Voids.to) right
+returns-in-Voids-clause-still c m valid right = c.invalidate_between.ensures.right m m (unmoved m c.in-Voids.from c.in-Voids.to) (λ q level none. absurd none) right
 
 pub returns-in-Voids-clause-changed : goal.returns-in-Voids-clause-changed
 returns-in-Voids-clause-changed c m valid tells right =
     subst (λ (e : Edit). IsHeldOf (edit_made e m) c.invalidate_between.new.self) (sym c.in-Voids.is)
-    (c.invalidate_between.ensures.right m (patched c.in-Voids.from c.in-Voids.to c.in-Voids.height m) (differ_patched c.in-Voids.from c.in-Voids.to c.in-Voids.height m valid) right)
+    (c.invalidate_between.ensures.right m (patched c.in-Voids.from c.in-Voids.to c.in-Voids.height m) (differ_patched c.in-Voids.from c.in-Voids.to c.in-Voids.height m valid) (λ q level none. absurd none) right)
 
 pub returns-in-Add-clause-still : goal.returns-in-Add-clause-still
 returns-in-Add-clause-still c m valid right = c.invalidate.ensures m
@@ -37,11 +53,14 @@ returns-in-Heights-clause-changed c m valid tells right =
 
 pub returns-in-Sink-clause-changed : goal.returns-in-Sink-clause-changed
 returns-in-Sink-clause-changed c m valid tells right =
-    subst (λ (e : Edit). IsHeldOf (edit_made e m) c.invalidate_near_sink.new.held) (sym c.in-Sink.is) (c.invalidate_near_sink.ensures.declared m valid right)
+    let same : to_z w32 (of_z w32 c.from.result) ≡ c.in-Sink.metres = search rules in
+    subst (λ (e : Edit). TellsHeights m e → IsHeldOf (edit_made e m) c.invalidate_near_sink.new.held) (sym c.in-Sink.is)
+    (λ at. c.invalidate_near_sink.ensures.declared m valid (no_higher m c.in-Sink.point c.in-Sink.metres (to_z w32 (of_z w32 c.from.result)) same at) right) tells
 
 pub returns-in-Unsink-clause-changed : goal.returns-in-Unsink-clause-changed
 returns-in-Unsink-clause-changed c m valid tells right =
-    subst (λ (e : Edit). IsHeldOf (edit_made e m) c.invalidate_near_sink-in-Unsink.new.held) (sym c.in-Unsink.is) (c.invalidate_near_sink-in-Unsink.ensures.taken_back m valid right)
+    subst (λ (e : Edit). TellsHeights m e → IsHeldOf (edit_made e m) c.invalidate_near_sink-in-Unsink.new.held) (sym c.in-Unsink.is)
+    (λ at. c.invalidate_near_sink-in-Unsink.ensures.taken_back m valid (subst (λ (most : Option ℤ). IfSome most (λ level. level <ℤ metres (height_of m c.in-Unsink.point))) (sym c.one_lower.ensures) (lower m c.in-Unsink.point c.in-Unsink.metres at)) right) tells
 
 pub returns-in-Heights-clause-kept : goal.returns-in-Heights-clause-kept
 returns-in-Heights-clause-kept c =

@@ -34,19 +34,20 @@ returns-in_ok-can_remove-in-Remove-clause-made g c = λ honest.
     subst (λ (k : Command). effect c.args.capacity m k ≡ Ok (without c.in-Remove.corner m)) (sym c.in-Remove.is)
     (c.in_ok-can_remove-in-Remove.ensures.accepted c.args.capacity m (g.met.S.Samples.same_corners now honest))
 
-pub returns-in_ok-with_sink-in-Sink-clause-stale : goal.returns-in_ok-with_sink-in-Sink-clause-stale
-returns-in_ok-with_sink-in-Sink-clause-stale g c = λ honest p.
+pub returns-in_ok-metres-in-Sink-clause-stale : goal.returns-in_ok-metres-in-Sink-clause-stale
+returns-in_ok-metres-in-Sink-clause-stale g c = λ honest p.
     let old = c.args.samples.now in
     let m = g.S.Samples.mosaic old in
-    let was = c.in_ok-with_sink-in-Sink.ensures.reads.honest honest in
+    let was = c.in_ok-metres-in-Sink.ensures.reads.honest honest in
     stale_holders m (g.S.Samples.side_of old) (g.S.Samples.corners old) (g.met.S.Samples.same_side old was) (g.met.S.Samples.same_corners old was) c.in-Sink.point p
     ∙ ap (λ (k : Command). goes_stale m k p) (sym c.in-Sink.is)
 
-pub returns-in_ok-without_sink-in-Unsink-clause-stale : goal.returns-in_ok-without_sink-in-Unsink-clause-stale
-returns-in_ok-without_sink-in-Unsink-clause-stale g c = λ honest p.
+pub returns-in_ok-metres-in-Unsink-clause-stale : goal.returns-in_ok-metres-in-Unsink-clause-stale
+returns-in_ok-metres-in-Unsink-clause-stale g c = λ honest p.
     let old = c.args.samples.now in
     let m = g.S.Samples.mosaic old in
-    stale_holders m (g.S.Samples.side_of old) (g.S.Samples.corners old) (g.met.S.Samples.same_side old honest) (g.met.S.Samples.same_corners old honest) c.in-Unsink.point p
+    let was = c.in_ok-metres-in-Unsink.ensures.reads.honest honest in
+    stale_holders m (g.S.Samples.side_of old) (g.S.Samples.corners old) (g.met.S.Samples.same_side old was) (g.met.S.Samples.same_corners old was) c.in-Unsink.point p
     ∙ ap (λ (k : Command). goes_stale m k p) (sym c.in-Unsink.is)
 
 pub returns-in_err-tiles-in-Patch-clause-refused : goal.returns-in_err-tiles-in-Patch-clause-refused

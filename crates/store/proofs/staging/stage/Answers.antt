@@ -187,7 +187,7 @@ returns-in-Sink-clause-made g c honest s m at valid are sinks finds =
     let new = c.declare.new.self in
     let n : ℕ = (root_of old).side in
     let p : Point = c.in-Sink.point in
-    let made : Edit = Sink p in
+    let made : Edit = Sink p c.in-Sink.metres in
     let is = c.declare.ensures in
     let now : sinks_of new ≡ with_point p m.sinks = is.sinks ∙ c.deref.ensures.0 ∙ c.with_point-sinks.ensures ∙ ap (with_point p) (c.sinks.ensures.value ∙ sinks) in
     subst (λ (e : Edit). IsMade d e m old new) (sym c.in-Sink.is)
@@ -204,7 +204,7 @@ returns-in-Unsink-clause-made g c honest s m at valid are sinks finds =
     let new = c.declare-in-Unsink.new.self in
     let n : ℕ = (root_of old).side in
     let p : Point = c.in-Unsink.point in
-    let made : Edit = Unsink p in
+    let made : Edit = Unsink p c.in-Unsink.metres in
     let is = c.declare-in-Unsink.ensures in
     let now : sinks_of new ≡ without_point p m.sinks =
     is.sinks ∙ c.deref-in-Unsink.ensures.0 ∙ c.without_point-sinks.ensures ∙ ap (without_point p) (c.sinks-in-Unsink.ensures.value ∙ sinks) in

@@ -3,6 +3,7 @@ use Rattle.std.specs.Prelude.{◌↔◌, Some}
 use Rattle.lattice.specs.Corners.{Corner}
 use Rattle.drainage.specs.Holding.{labelling_at}
 use Rattle.drainage.specs.Reaching.{is_reached}
+use Rattle.drainage.specs.Spared.{IsNoHigher}
 use Rattle.drainage.specs.TileCaches.{known_of}
 use Rattle.drainage.proofs.Invalidated.{left_right}
 use Rattle.drainage.proofs.tile_cache.TileCache.invalidate_between.Goals as goal
@@ -18,10 +19,10 @@ returns-clause-left c =
       loaded = rim_graph.loaded;
       labellings = λ t labelled. subst (λ (cs : List Corner). labelling_at c.invalidate_between.new.self t ≡ Some labelled ↔ ((labelling_at was.labellings t ≡ Some labelled) × (is_reached was.rim_graph.side cs c.args.from c.args.to t ≡ false)))
           c.deref.ensures.value (c.invalidate_between.ensures t labelled);
-      levels = c.invalidate.ensures;
+      levels = c.invalidate_above.ensures;
     }
 
 pub returns-clause-right : goal.returns-clause-right
-returns-clause-right c m new differ right =
-    left_right m new c.args.from c.args.to (known_of c.args.self.now) (known_of (record { rim_graph = c.invalidate_between-2.new.self; labellings = c.invalidate_between.new.self; levels = c.invalidate.new.self })) differ
+returns-clause-right c m new differ still right =
+    left_right m new c.args.from c.args.to (IsNoHigher c.args.most) (known_of c.args.self.now) (known_of (record { rim_graph = c.invalidate_between-2.new.self; labellings = c.invalidate_between.new.self; levels = c.invalidate_above.new.self })) differ still
     (returns-clause-left c) right

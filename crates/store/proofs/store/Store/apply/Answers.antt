@@ -140,9 +140,9 @@ comes_stale m (Burn depth points) (edit.Heights heights) corner form comes = abs
 comes_stale m (Burn depth points) _ corner form comes = absurd form
 comes_stale m (Wall h points) (edit.Heights heights) corner form comes = absurd comes
 comes_stale m (Wall h points) _ corner form comes = absurd form
-comes_stale m (Sink p) (edit.Sink q) corner form comes = absurd comes
+comes_stale m (Sink p) (edit.Sink q h) corner form comes = absurd comes
 comes_stale m (Sink p) _ corner form comes = absurd form
-comes_stale m (Unsink p) (edit.Unsink q) corner form comes = absurd comes
+comes_stale m (Unsink p) (edit.Unsink q h) corner form comes = absurd comes
 comes_stale m (Unsink p) _ corner form comes = absurd form
 
 same_made : (a b : Mosaic) → ◌≡◌ {A = Result Mosaic Refusal} (Ok a) (Ok b) → a ≡ b

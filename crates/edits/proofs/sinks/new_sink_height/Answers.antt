@@ -1,10 +1,11 @@
-use Rattle.std.proofs.Common.{◌≡◌, ◌<◌, ℕ, List, length, sym, ◌∙◌, subst, arith}
+use Rattle.std.proofs.Common.{◌≡◌, ◌<◌, ℕ, List, length, sym, ap, ◌∙◌, subst, arith}
 use Rattle.std.proofs.lemmas.Bool.{both_ways}
 use Rattle.lattice.specs.declared.point.Point.{Point}
 use Rattle.lattice.specs.Limits.{most_sinks}
 use Rattle.lattice.specs.Mosaic.{IsHeld, AreSinks}
+use Rattle.edits.specs.Sinks.{with_point}
 use Rattle.edits.proofs.SinkLists.{outside_refused, sink_there, sinks_full, sink_made, sinks_with}
-use Rattle.edits.proofs.sinks.with_sink.Goals as goal
+use Rattle.edits.proofs.sinks.new_sink_height.Goals as goal
 
 pub returns-then-not-is_held-clause-refused : goal.returns-then-not-is_held-clause-refused
 returns-then-not-is_held-clause-refused g c = λ honest own.
@@ -18,37 +19,38 @@ pub returns-then-is_among-clause-refused : goal.returns-then-is_among-clause-ref
 returns-then-is_among-clause-refused g c = λ honest own.
     let old = c.args.samples.now in
     let m = g.S.Samples.mosaic old in
-    let reads = c.in_ok-ground.ensures.reads in
+    let reads = c.in_ok-metres.ensures.reads in
     let are : m.sinks ≡ c.sinks-sinks.result.now = g.met.S.Samples.same_sinks old (reads.honest honest) ∙ sym reads.sinks ∙ sym c.sinks-sinks.ensures.sinks in
-    sink_there m c.args.point c.sinks-sinks.result.now are c.in_ok-ground.field-0 (c.in_ok-ground.ensures.metres honest) (sym c.is_among.ensures ∙ c.if-is_among.true)
+    sink_there m c.args.point c.sinks-sinks.result.now are c.in_ok-metres.metres (c.in_ok-metres.ensures.metres honest) (sym c.is_among.ensures ∙ c.if-is_among.true)
 
 pub returns-then-sinks-ge-MOST_SINKS-clause-refused : goal.returns-then-sinks-ge-MOST_SINKS-clause-refused
 returns-then-sinks-ge-MOST_SINKS-clause-refused g c = λ honest own.
     let old = c.args.samples.now in
     let m = g.S.Samples.mosaic old in
-    let reads = c.in_ok-ground.ensures.reads in
+    let reads = c.in_ok-metres.ensures.reads in
     let are : m.sinks ≡ c.sinks-sinks.result.now = g.met.S.Samples.same_sinks old (reads.honest honest) ∙ sym reads.sinks ∙ sym c.sinks-sinks.ensures.sinks in
-    sinks_full m c.args.point c.sinks-sinks.result.now are c.in_ok-ground.field-0 (c.in_ok-ground.ensures.metres honest) (sym c.is_among.ensures ∙ c.if-is_among.false) c.if-sinks-ge-MOST_SINKS.true
+    sinks_full m c.args.point c.sinks-sinks.result.now are c.in_ok-metres.metres (c.in_ok-metres.ensures.metres honest) (sym c.is_among.ensures ∙ c.if-is_among.false) c.if-sinks-ge-MOST_SINKS.true
 
-pub returns-clause-sinks : goal.returns-clause-sinks
-returns-clause-sinks g c = λ honest.
+pub returns-clause-made : goal.returns-clause-made
+returns-clause-made g c = λ honest.
     let old = c.args.samples.now in
     let m = g.S.Samples.mosaic old in
-    let reads = c.in_ok-ground.ensures.reads in
+    let reads = c.in_ok-metres.ensures.reads in
     let are : m.sinks ≡ c.sinks-sinks.result.now = g.met.S.Samples.same_sinks old (reads.honest honest) ∙ sym reads.sinks ∙ sym c.sinks-sinks.ensures.sinks in
     let few = c.if-sinks-ge-MOST_SINKS.false in
     let room : length c.sinks-sinks.result.now < most_sinks = omega (arith, few) in
-    sink_made m c.args.point c.sinks-sinks.result.now are c.in_ok-ground.field-0 (c.in_ok-ground.ensures.metres honest) (sym c.is_among.ensures ∙ c.if-is_among.false) room
-    c.with_point.result.items c.with_point.ensures
+    sink_made m c.args.point c.sinks-sinks.result.now are c.in_ok-metres.metres (c.in_ok-metres.ensures.metres honest) (sym c.is_among.ensures ∙ c.if-is_among.false) room
+    (with_point c.args.point m.sinks) (ap (with_point c.args.point) are)
 
-pub returns-clause-valid : goal.returns-clause-valid
-returns-clause-valid g c =
+pub returns-clause-fits : goal.returns-clause-fits
+returns-clause-fits g c =
     let old = c.args.samples.now in
     let n = g.S.Samples.side_of old in
-    let reads = c.in_ok-ground.ensures.reads in
+    let reads = c.in_ok-metres.ensures.reads in
     let sinks = c.sinks-sinks.result.now in
+    let same : sinks ≡ g.S.Samples.sinks_of old = c.sinks-sinks.ensures.sinks ∙ reads.sinks in
     let are : AreSinks n sinks = subst (λ (l : List Point). AreSinks n l) (sym c.sinks-sinks.ensures.sinks) (subst (λ (k : ℕ). AreSinks k (g.S.Samples.sinks_of c.ground.new.samples)) reads.side c.sinks-sinks.ensures.valid) in
     let held : IsHeld n c.args.point = subst (λ (k : ℕ). IsHeld k c.args.point) c.side.ensures (c.is_held.ensures.0 c.if-not-is_held.false) in
     let few = c.if-sinks-ge-MOST_SINKS.false in
     let room : length sinks < most_sinks = omega (arith, few) in
-    subst (λ (l : List Point). AreSinks n l) (sym c.with_point.ensures) (sinks_with n c.args.point sinks (sym c.is_among.ensures ∙ c.if-is_among.false) room held are)
+    subst (λ (l : List Point). AreSinks n (with_point c.args.point l)) same (sinks_with n c.args.point sinks (sym c.is_among.ensures ∙ c.if-is_among.false) room held are)
