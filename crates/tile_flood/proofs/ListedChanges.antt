@@ -1,5 +1,5 @@
 -- What a mending changes is listed, with the label that it had; and what a flood goes on from keeps its levels and labels.
-use Rattle.std.proofs.Common.{◌≡◌, ◌≢◌, ℕ, ◌+◌, ◌<◌, ℤ, Bool, true, false, not, IsTrue, List, [], ◌∷◌, ◌++◌, length, get_or, set, get_or-set_other, get_or-set_same, length-append, slice_index, slice_index_or, ◌⊎◌, inl, inr, refl, sym, ap, ◌∙◌, subst, arith, true≢false}
+use Rattle.std.proofs.Common.{◌≡◌, ◌≢◌, ℕ, ◌+◌, ◌<◌, ℤ, false, not, IsTrue, List, [], ◌∷◌, ◌++◌, length, get_or, set, get_or-set_other, get_or-set_same, length-append, slice_index, inl, inr, refl, sym, ap, ◌∙◌, subst, arith, true≢false}
 use Rattle.std.specs.Ordering.{int_eq}
 use Rattle.std.proofs.lemmas.Bool.{cases_Bool, cases_eq, cases_lt}
 use Rattle.std.proofs.lemmas.Bool.Decides.{Decides-int_eq}
@@ -9,7 +9,7 @@ use Rattle.lattice.specs.Mosaic.{void}
 use Rattle.tile_flood.specs.declared.affected.Affected.{Affected}
 use Rattle.tile_flood.specs.Labelling.{NO_LABEL}
 use Rattle.tile_flood.specs.Flooding.{is_marked}
-use Rattle.tile_flood.specs.Affected.{IsAffected, AreKept, AreChangesListed, StayListed}
+use Rattle.tile_flood.specs.Affected.{AreKept, AreChangesListed, StayListed}
 use Rattle.tile_flood.specs.Clearing.{AreListedCleared}
 
 pub void_if : (levels : List ℤ) (e : ℕ) → is_marked levels e ≡ false → get_or levels e void ≡ void

@@ -1,8 +1,7 @@
 -- Where all that a mending affected lies off the borders between labels, the spills are those of before.
-use Rattle.std.proofs.Common.{◌≡◌, ◌≢◌, ℕ, ◌*◌, ◌<◌, ℤ, true, false, not, cond, int_lt, IsTrue, List, [], ◌∷◌, length, get_or, slice_index, ◌⊎◌, inl, inr, sym, ap, ap₂, ◌∙◌, subst, arith}
+use Rattle.std.proofs.Common.{◌≡◌, ◌≢◌, ℕ, ℤ, true, false, cond, int_lt, IsTrue, List, [], ◌∷◌, length, get_or, slice_index, ◌⊎◌, inl, inr, sym, ap, ap₂, ◌∙◌, subst, arith}
 use Rattle.std.specs.Int.{int_max}
-use Rattle.std.specs.Ordering.{int_eq}
-use Rattle.std.proofs.lemmas.Bool.{cases_Bool, and_parts}
+use Rattle.std.proofs.lemmas.Bool.{cases_Bool}
 use Rattle.lattice.specs.Mosaic.{void}
 use Rattle.lattice.specs.Block.{is_solid, is_beside}
 use Rattle.tile_flood.specs.declared.affected.Affected.{Affected}

@@ -1,4 +1,4 @@
-use Rattle.std.proofs.Common.{◌≡◌, pos, arith, ap, sym, subst, ◌∙◌, IsTrue, inl, inr, slice_index, slice_index_or}
+use Rattle.std.proofs.Common.{◌≡◌, pos, arith, ap, sym, subst, ◌∙◌, IsTrue, inl, inr, slice_index_or}
 use Rattle.std.proofs.lemmas.Bool.{cases_lt}
 use Rattle.std.proofs.lemmas.List.{get_or_default}
 use Rattle.lattice.specs.Block.{is_beside}

@@ -1,4 +1,3 @@
-use Rattle.std.proofs.Common.{◌≡◌, List, sym, subst}
 use Rattle.tile_labellings.proofs.Mended.{labelled_now}
 use Rattle.tile_labellings.proofs.flooded_block.FloodedBlock.mended.Goals as goal
 
