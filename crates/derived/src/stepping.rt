@@ -36,17 +36,18 @@ pub fn step<D: Disk>(alloc: Global, tree: &mut Tree<D>) -> Result<Option<Corner>
     // A tree that failed makes no call of the disk, and stays failed.
     ensures failed { has_failed tree.old ≡ true → (result ≡ Err Failed) × (tree.new ≡ tree.old) }
 {
-    step_held(alloc, tree, None)
+    step_held(alloc, tree, None, None)
 }
 
-/// Steps as `step` does. Where a labelling of the first stale tile is given, with that tile's corner, its levels and labels
-/// are kept, and nothing is flooded.
+/// Steps as `step` does. Where a labelling is given, which is of the tile at `at`, and that is the first stale tile, the
+/// levels and labels are those of the labelling, and nothing is flooded.
 pub fn step_held<D: Disk>(
     alloc: Global,
     tree: &mut Tree<D>,
-    held: Option<(Corner, &Labelled)>,
+    at: Option<Corner>,
+    labelled: Option<&Labelled>,
 ) -> Result<Option<Corner>, Refusal>
-    ensures stepped { has_failed tree.old ≡ false → HasStepped D.Disk (λ m. IfSome held (λ given. IsFlooded m given.0 given.1.now)) tree.old tree.new result }
+    ensures stepped { has_failed tree.old ≡ false → HasStepped D.Disk (λ m. IfSome at (λ c. IfSome labelled.entry (λ l. IsFlooded m c l.now))) tree.old tree.new result }
 
     ensures clean { has_failed tree.new ≡ false → IsClean tree.new }
 
@@ -67,22 +68,23 @@ pub fn step_held<D: Disk>(
     if root.number() == u64::MAX {
         return Err(Refusal::Worn);
     }
-    match labelling_of(held, root.side(), corner) {
+    match labelling_of(at, labelled, root.side(), corner) {
         Some(labelled) => keep_labelled(alloc, tree, corner, labelled),
         None => keep(alloc, tree, corner),
     }
 }
 
-// The labelling, where it is given as this corner's and is of this side.
+// The labelling, where it is one of this corner's tile and of this side.
 fn labelling_of<'a>(
-    held: Option<(Corner, &'a Labelled)>,
+    at: Option<Corner>,
+    labelled: Option<&'a Labelled>,
     side: Side,
     corner: Corner,
 ) -> Option<&'a Labelled>
-    ensures { IfSome result (λ labelled. (held ≡ Some (corner, labelled)) × (labelled.now.side ≡ side)) }
+    ensures { IfSome result (λ l. (at ≡ Some corner) × (labelled.entry ≡ Some l) × (l.now.side ≡ side)) }
 {
-    let (at, labelled) = held?;
-    if at == corner && labelled.side() == side {
+    let labelled = labelled?;
+    if at == Some(corner) && labelled.side() == side {
         Some(labelled)
     } else {
         None

@@ -54,17 +54,13 @@ fn step_tree<D: Disk>(
     ensures writes { D.writes (disk_under tree.new) ≤ D.writes (disk_under tree.old) + (2 * plane_pages_of (format_of (root_under tree.old)) + 3) }
     ensures failed { have_failed tree.old ≡ true → (result ≡ Err Failed) × (tree.new ≡ tree.old) }
 {
-    step_held(alloc, tree, held_of_next(tree, held))
+    let next = next_stale(tree);
+    step_held(alloc, tree, next, labelling_at(held, next))
 }
 
-// The labelling that is held of the first stale tile, with the tile's corner.
-fn held_of_next<'a, D: Disk>(
-    tree: &Tree<D>,
-    held: &'a DrainageCache,
-) -> Option<(Corner, &'a Labelled)>
-    ensures { (m : Mosaic) → IsHeldOf m held.now → IfSome result (λ given. IsFlooded m given.0 given.1.now) }
+// The labelling that is held of the corner's tile.
+fn labelling_at(held: &DrainageCache, corner: Option<Corner>) -> Option<&Labelled>
+    ensures { (m : Mosaic) → IsHeldOf m held.now → IfSome corner (λ c. IfSome result (λ l. IsFlooded m c l.now)) }
 {
-    let corner = next_stale(tree)?;
-    let labelled = held.labelling(corner)?;
-    Some((corner, labelled))
+    held.labelling(corner?)
 }

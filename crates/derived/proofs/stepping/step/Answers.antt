@@ -1,6 +1,4 @@
-use Rattle.std.specs.Prelude.{IfSome}
 use Rattle.lattice.specs.Mosaic.{Mosaic}
-use Rattle.tile_labellings.specs.Labellings.{IsFlooded}
 use Rattle.derived.proofs.StepEnds.{premised}
 use Rattle.derived.proofs.stepping.step.Goals as goal
 

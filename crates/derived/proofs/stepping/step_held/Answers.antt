@@ -1,5 +1,5 @@
 use Rattle.std.proofs.Common.{◌≡◌, ◌≢◌, false, List, [], length, refl, sym, ap, ◌∙◌, subst, arith}
-use Rattle.std.specs.Prelude.{Ok, Some, Option, Contains, IfSome}
+use Rattle.std.specs.Prelude.{Ok, Contains, IfSome}
 use Rattle.lattice.specs.Corners.{Corner}
 use Rattle.lattice.specs.Mosaic.{Mosaic}
 use Rattle.lattice.specs.declared.refusal.Refusal.TheVariants.{Device}
@@ -24,7 +24,7 @@ not_empty cs c (k, below, here) none = absurd (let no : length cs ≡ 0 = ap (λ
 -- what was staged is given up, and nothing else was done
 module _ (g : _) (c : After-abandon g) where
   abbrev given : Mosaic → Type 0
-  given m = IfSome c.args.held (λ held. IsFlooded m held.0 held.1.now)
+  given m = IfSome c.args.at (λ corner. IfSome c.args.labelled (λ l. IsFlooded m corner l.now))
 
   nothing_done : has_failed c.args.tree.now ≡ false → CommitsNothing {T = Unit {0}} g.D.Disk c.args.tree.now c.abandon.new.self (Ok tt)
   nothing_done works =
@@ -78,7 +78,9 @@ returns-in-Some-labelling_of-clause-stepped g c works =
     let labelled = c.in-Some-labelling_of.labelled.now in
     stepped_after d (given g after) g.met.D.Disk.seen_may c.args.tree.now mid c.keep_labelled.new.tree tt (nothing_done g after works) (ap d.writes c.abandon.ensures.disk) c.keep_labelled.result
     (premised d (λ m. IsFlooded m c.in-Some.corner labelled) g.met.D.Disk.seen_may (given g after) mid c.keep_labelled.new.tree c.keep_labelled.result
-    (λ honest s p at keeps. subst (λ held. IfSome held (λ given. IsFlooded (mosaic_stored s) given.0 given.1.now)) c.in-Some-labelling_of.ensures.0 p)
+    (λ honest s p at keeps.
+    subst (λ found. IfSome found (λ l. IsFlooded (mosaic_stored s) c.in-Some.corner l.now)) c.in-Some-labelling_of.ensures.1
+    (subst (λ there. IfSome there (λ corner. IfSome c.args.labelled (λ l. IsFlooded (mosaic_stored s) corner l.now))) c.in-Some-labelling_of.ensures.0 p))
     c.keep_labelled.ensures.stepped)
 
 pub returns-in_default-clause-clean : goal.returns-in_default-clause-clean
@@ -94,4 +96,4 @@ pub returns-in-Some-labelling_of-clause-clean : goal.returns-in-Some-labelling_o
 returns-in-Some-labelling_of-clause-clean g c works = c.keep_labelled.ensures.stepped.clean works
 
 pub keep_labelled-requires-clause-side : goal.keep_labelled-requires-clause-side
-keep_labelled-requires-clause-side g c = c.in-Some-labelling_of.ensures.1 ∙ (c.side.ensures.value ∙ ap (λ (r : RootValue). r.side) c.current-root.ensures)
+keep_labelled-requires-clause-side g c = c.in-Some-labelling_of.ensures.2 ∙ (c.side.ensures.value ∙ ap (λ (r : RootValue). r.side) c.current-root.ensures)
