@@ -6,7 +6,6 @@ use Rattle.std.proofs.lemmas.Bool.{cases_Bool, cases_eq, cases_lt, cond-true, co
 use Rattle.std.proofs.lemmas.List.{get_or_past}
 use Rattle.std.proofs.lemmas.Map.Steps.{le-length_from_below}
 use Rattle.lattice.specs.declared.point.Point.{Point}
-use Rattle.lattice.specs.Steps.{step}
 use Rattle.flow_d8.specs.declared.local_flow.LocalFlow.{LocalFlow}
 use Rattle.flow_d8.specs.declared.local_flow.LocalFlow.TheVariants.{NoGround}
 use Rattle.flow_d8.specs.Drainage.{IsFlatDistance}

@@ -12,17 +12,21 @@ use Rattle.lattice.specs.declared.direction.Dir.{Dir}
 use Rattle.lattice.specs.declared.direction.Dir.TheVariants.{East, SouthEast, South, SouthWest, West, NorthWest, North, NorthEast}
 use Rattle.lattice.specs.Steps.{step, order_of, north_of, east_of}
 use Rattle.lattice.specs.Stepping.{fits_point}
-use Rattle.lattice.specs.Mosaic.{void, is_void}
+use Rattle.lattice.specs.Mosaic.{Mosaic, void, is_void}
+use Rattle.lattice.specs.Ground.{is_ground, terrain}
 use Rattle.flow_d8.specs.Filled.{Filled, AreLevels, is_held, is_deep, number_of}
 use Rattle.flow_d8.specs.Surface.{has_level, beside_of}
 use Rattle.flow_d8.specs.Propagation.{unknown, distance_at}
-use Rattle.flow_d8.specs.Directions.{Directions, AreWhole, DrainsTo, direction_in, number_beside}
+use Rattle.flow_d8.specs.Directions.{Directions, AreWhole, AreDirectionsOf, DrainsTo, direction_in, number_beside}
+use Rattle.flow_d8.specs.Drainage.{IsDirection}
+use Rattle.flow_d8.specs.Feeders.{IsFeeder, LeadsBy}
 use Rattle.flow_d8.specs.Places.{back_of}
 use Rattle.flow_d8.proofs.Compass.{order_below, same_order}
 use Rattle.flow_d8.proofs.Numbers.{seat_of, held_fits, number_below}
 use Rattle.flow_d8.proofs.Surfaces.{beside_some, surface_lawful, level_from, level_held}
 use Rattle.flow_d8.proofs.Inside.{IsDeep, deep_of, Beside}
 use Rattle.flow_d8.proofs.Tracing.{direction_known, direction_unknown, unheld_unknown}
+use Rattle.flow_d8.proofs.Unique.{one_direction}
 
 pub back-back : (e : Dir) → back_of (back_of e) ≡ e
 back-back East = refl
@@ -178,29 +182,29 @@ answered N Q F None x none fits is = absurd (none fits)
 answered N Q F (Some y) x some fits is = (some.1, is)
 
 -- of the first i directions, the points that drain straight back are found
-pub record IsFeeding (d : Directions) (p : Point) (i : ℕ) (found : List Point) : Type 0 where
-  pub drain : All (λ q. (e : Dir) × ((order_of e < i) × ((q ≡ step e p) × (direction_in d q ≡ Some (back_of e))))) found
-  pub whole : (e : Dir) → order_of e < i → direction_in d (step e p) ≡ Some (back_of e) → Contains found (step e p)
+pub record IsFeeding (way : Point → Option Dir) (p : Point) (i : ℕ) (found : List Point) : Type 0 where
+  pub drain : All (λ q. (e : Dir) × ((order_of e < i) × ((q ≡ step e p) × (way q ≡ Some (back_of e))))) found
+  pub whole : (e : Dir) → order_of e < i → way (step e p) ≡ Some (back_of e) → Contains found (step e p)
   pub once : (j k : ℕ) (x : Point) → j < k → k < length found → get_or found j x ≡ get_or found k x → ⊥
 
-module _ (d : Directions) (p : Point) (i : ℕ) (found : List Point) (e : Dir) (is : order_of e ≡ i) (so_far : IsFeeding d p i found) where
-  earlier : (q : Point) → (c : Dir) × ((order_of c < i) × ((q ≡ step c p) × (direction_in d q ≡ Some (back_of c)))) → (c : Dir) × ((order_of c < i + 1) × ((q ≡ step c p) × (direction_in d q ≡ Some (back_of c))))
+module _ (way : Point → Option Dir) (p : Point) (i : ℕ) (found : List Point) (e : Dir) (is : order_of e ≡ i) (so_far : IsFeeding way p i found) where
+  earlier : (q : Point) → (c : Dir) × ((order_of c < i) × ((q ≡ step c p) × (way q ≡ Some (back_of c)))) → (c : Dir) × ((order_of c < i + 1) × ((q ≡ step c p) × (way q ≡ Some (back_of c))))
   earlier q h = (h.0, (omega (arith, h.1.0), h.1.1))
 
-  pub feeding_on : (direction_in d (step e p) ≡ Some (back_of e) → ⊥) → IsFeeding d p (i + 1) found
+  pub feeding_on : (way (step e p) ≡ Some (back_of e) → ⊥) → IsFeeding way p (i + 1) found
   feeding_on not = record {
     drain = λ k q lt. earlier (get_or found k q) (so_far.drain k q lt);
     whole = λ c below drains. elim (cases_eq (order_of c) i) [
-      | inl here ↦ absurd (not (subst (λ (a : Dir). direction_in d (step a p) ≡ Some (back_of a)) (same_order c e (here ∙ sym is)) drains))
+      | inl here ↦ absurd (not (subst (λ (a : Dir). way (step a p) ≡ Some (back_of a)) (same_order c e (here ∙ sym is)) drains))
       | inr other ↦ so_far.whole c (omega arith) drains
     ];
     once = so_far.once;
   }
 
-  pub feeding_more : (q : Point) → q ≡ step e p → direction_in d (step e p) ≡ Some (back_of e) → IsFeeding d p (i + 1) (found ++ q ∷ [])
+  pub feeding_more : (q : Point) → q ≡ step e p → way (step e p) ≡ Some (back_of e) → IsFeeding way p (i + 1) (found ++ q ∷ [])
   feeding_more q at drains = record {
     drain = All-append Drains found (q ∷ []) (λ k x lt. earlier (get_or found k x) (so_far.drain k x lt))
-        (All-cons Drains q [] (e, (omega (arith, is), (at, ap (direction_in d) at ∙ drains))) (All-nil Drains));
+        (All-cons Drains q [] (e, (omega (arith, is), (at, ap way at ∙ drains))) (All-nil Drains));
     whole = λ c below c_drains. elim (cases_eq (order_of c) i) [
       | inl here ↦
           let same : step c p ≡ q = ap (λ (a : Dir). step a p) (same_order c e (here ∙ sym is)) ∙ sym at in
@@ -222,15 +226,34 @@ module _ (d : Directions) (p : Point) (i : ℕ) (found : List Point) (e : Dir) (
   }
     where
       Drains : Point → Type 0
-      Drains x = (c : Dir) × ((order_of c < i + 1) × ((x ≡ step c p) × (direction_in d x ≡ Some (back_of c))))
+      Drains x = (c : Dir) × ((order_of c < i + 1) × ((x ≡ step c p) × (way x ≡ Some (back_of c))))
 
-pub fed : (d : Directions) (p : Point) (i : ℕ) (found : List Point) → 8 ≤ i → IsFeeding d p i found → (q : Point) → Contains found q ↔ DrainsTo d q p
-fed d p i found all is q = (
+pub fed : (way : Point → Option Dir) (p : Point) (i : ℕ) (found : List Point) → 8 ≤ i → IsFeeding way p i found → (q : Point) → Contains found q ↔ LeadsBy way q p
+fed way p i found all is q = (
   (λ has.
-      let at = subst (λ x. (e : Dir) × ((order_of e < i) × ((x ≡ step e p) × (direction_in d x ≡ Some (back_of e))))) has.2 (is.drain has.0 q has.1) in
+      let at = subst (λ x. (e : Dir) × ((order_of e < i) × ((x ≡ step e p) × (way x ≡ Some (back_of e))))) has.2 (is.drain has.0 q has.1) in
       (back_of at.0, (at.1.1.1, ap (step (back_of at.0)) at.1.1.0 ∙ step_back at.0 p))),
   (λ drains.
       let e = drains.0 in
       let back : step (back_of e) p ≡ q = ap (step (back_of e)) (sym drains.1.1) ∙ step_back e q in
-      subst (Contains found) back (is.whole (back_of e) (omega (arith, order_below (back_of e), all)) (ap (direction_in d) back ∙ drains.1.0 ∙ ap Some (sym (back-back e))))),
+      subst (Contains found) back (is.whole (back_of e) (omega (arith, order_below (back_of e), all)) (ap way back ∙ drains.1.0 ∙ ap Some (sym (back-back e))))),
 )
+
+-- the directions that are held say which points are feeders
+module _ (m : Mosaic) (level : Point → ℤ) (d : Directions) (are : AreDirectionsOf m level d) where
+  drains_ground : (x : Point) (e : Dir) → direction_in d x ≡ Some e → IsTrue (is_ground m x)
+  drains_ground x e at = elim (cases_Bool (is_ground m x)) [
+    | inl solid ↦ solid
+    | inr off ↦ absurd (none_some e (sym ((are.elsewhere x off).0) ∙ at))
+  ]
+
+  pub drains_are_feeders : (x y : Point) → DrainsTo d x y ↔ IsFeeder (terrain m) level x y
+  drains_are_feeders x y = (
+    (λ drains.
+        let e = drains.0 in
+        let solid = drains_ground x e drains.1.0 in
+        record { on_ground = solid; drains = (e, (subst (IsDirection (terrain m) level x) drains.1.0 (are.direction x solid), drains.1.1)) }),
+    (λ feeder.
+        let e = feeder.drains.0 in
+        (e, (one_direction (terrain m) level x (direction_in d x) (Some e) (are.direction x feeder.on_ground) feeder.drains.1.0, feeder.drains.1.1))),
+  )

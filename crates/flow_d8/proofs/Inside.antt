@@ -244,7 +244,7 @@ module _ (f : Filled) (whole : AreLevels f) (p : Point) (level : IsTrue (has_lev
         let low = whole.side_low in
         omega arith
 
-deep_says : (n e : ℕ) → is_deep n e ≡ true → (2 ≤ e / n) × (e / n + 3 ≤ n) × (2 ≤ e % n) × (e % n + 3 ≤ n)
+pub deep_says : (n e : ℕ) → is_deep n e ≡ true → (2 ≤ e / n) × (e / n + 3 ≤ n) × (2 ≤ e % n) × (e % n + 3 ≤ n)
 deep_says n e test =
     let q = e / n in
     let r = e % n in

@@ -36,3 +36,7 @@ pub mod Following
 pub mod FlatsSearched
 pub mod FlatsMeasured
 pub mod Learning
+pub mod Beside
+pub mod TileShown
+pub mod FlowBytes
+pub mod TileFeeders

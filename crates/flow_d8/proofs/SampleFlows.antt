@@ -8,21 +8,29 @@ use Rattle.lattice.specs.declared.point.Point.{Point}
 use Rattle.lattice.specs.declared.direction.Dir.{Dir}
 use Rattle.lattice.specs.declared.direction.Dir.TheVariants.{East, SouthEast, South, SouthWest, West, NorthWest, North, NorthEast}
 use Rattle.lattice.specs.Steps.{step, directions}
+use Rattle.lattice.specs.Terrain.{Terrain}
 use Rattle.lattice.specs.Mosaic.{void, is_void}
 use Rattle.flow_d8.specs.declared.local_flow.LocalFlow.{LocalFlow}
 use Rattle.flow_d8.specs.declared.local_flow.LocalFlow.TheVariants.{NoGround, Edge, Flat, Seam, Drains}
 use Rattle.flow_d8.specs.Filled.{Filled, AreLevels, is_deep, is_held}
 use Rattle.flow_d8.specs.Surface.{number_in, level_at, has_level, adjoins, leads_off, is_declared, surface, beside_of}
 use Rattle.flow_d8.specs.LevelGrid.{level_beside, IsLevelGrid}
-use Rattle.flow_d8.specs.Places.{place_by, IsShown, IsLocalFlow, IsFlowAt}
-use Rattle.flow_d8.specs.Crossing.{sample_point, DrainsLike, IsSampleFlow}
+use Rattle.flow_d8.specs.Places.{place_by, IsShown, IsLocalFlow, IsFlowOf, IsGroundFlow, IsFlowAt}
+use Rattle.flow_d8.specs.Crossing.{sample_point, DrainsLike, IsFlowIn, IsSampleFlow}
 use Rattle.flow_d8.proofs.PointFlows.{flow_is, flat_or_edge, seam_or_edge}
 use Rattle.flow_d8.proofs.Surfaces.{surface_lawful, surface_steps, beside_there, beside_none, at_level, level_held, level_within, same_site, beside_some}
-use Rattle.flow_d8.proofs.Numbers.{point_at_number}
+use Rattle.flow_d8.proofs.Numbers.{number_past, point_at_number}
 use Rattle.flow_d8.proofs.Inside.{Beside, deep_of, east, south_east, south, south_west, west, north_west, north, north_east}
 
 void_is : (v : ℤ) → not (is_void v) ≡ false → v ≡ void
 void_is v h = grind (arith, ints)
+
+none_there : (t : Terrain Point) (level : Point → ℤ) (p : Point) (flow : LocalFlow) → IsFalse (t.is_ground p) → IsLocalFlow t level p flow → flow ≡ NoGround
+none_there t level p NoGround off is = refl
+none_there t level p Edge off is = absurd (true≢false (sym is.0 ∙ off))
+none_there t level p Flat off is = absurd (true≢false (sym is.0 ∙ off))
+none_there t level p Seam off is = absurd is
+none_there t level p (Drains d) off is = absurd (true≢false (sym is.0 ∙ off))
 
 module _ (f : Filled) where
   level_some : (x : Point) → IsTrue (has_level f x) → level_at f x ≡ void → ⊥
@@ -110,42 +118,45 @@ module _ (f : Filled) where
     pub drains_like : IsTrue (has_level f p) → (flow : LocalFlow) → (flow ≡ Flat → ⊥) → IsLocalFlow (surface f) (level_at f) p flow → DrainsLike f p flow
     drains_like level flow other is = flow_is (surface f) (level_at f) p (is_declared f p) rule level flow other is
 
-    pub flat_like : IsTrue (has_level f p) → IsLocalFlow (surface f) (level_at f) p Flat → DrainsLike f p (if is_declared f p then Edge else Flat)
-    flat_like level is = flat_or_edge (surface f) (level_at f) p (is_declared f p) rule level is
-
     pub seam_like : IsTrue (has_level f p) → IsLocalFlow (surface f) (level_at f) p Flat → DrainsLike f p (if is_declared f p then Edge else Seam)
     seam_like level is = seam_or_edge (surface f) (level_at f) p (is_declared f p) rule level is
 
-    -- a flow that isn't NoGround is of a point with a level
-    pub solid_of : (flow : LocalFlow) → (flow ≡ NoGround → ⊥) → IsLocalFlow (surface f) (level_at f) p flow → IsTrue (has_level f p)
-    solid_of NoGround other is = absurd (other refl)
-    solid_of Edge other is = is.0
-    solid_of Flat other is = is.0
-    solid_of Seam other is = absurd is
-    solid_of (Drains d) other is = is.0
+  -- a number below the count of samples is that of a held point alone
+  number_held : (whole : AreLevels f) (number : ℕ) (p : Point) → number < length f.levels → number_in f p ≡ number → IsTrue (is_held f.side f.corners p)
+  number_held whole number p small at = elim (cases_Bool (is_held f.side f.corners p)) [
+    | inl held ↦ held
+    | inr off ↦ absurd (omega (arith, number_past f.side f.corners p off, whole.whole))
+  ]
 
--- a deep sample's flow, as the kernel reads it
-module _ (f : Filled) (whole : AreLevels f) (number : ℕ) (test : is_deep f.side (number % (f.side * f.side)) ≡ true) (at : number_in f (sample_point f number) ≡ number) where
-  one_point : (p : Point) → IsTrue (has_level f p) → number_in f p ≡ number → IsTrue (has_level f (sample_point f number)) → sample_point f number ≡ p
-  one_point p level same there = same_site f whole (sample_point f number) p there level (at ∙ sym same)
+  -- what the kernel shows of a sample
+  module _ (number : ℕ) where
+    pub kernel_flow : (flow : LocalFlow) → (flow ≡ Flat → ⊥) → IsFlowAt f.levels f.side number flow → IsFlowIn f number flow
+    kernel_flow flow other is t level p grid shown held at rule =
+        let local = is t level p grid shown in
+        record { on_ground = λ solid. flow_is t level p (is_declared f p) rule solid flow other local; elsewhere = λ off. none_there t level p flow off local }
 
-  read : (flow : LocalFlow) → IsFlowAt f.levels f.side number flow → IsLocalFlow (surface f) (level_at f) (sample_point f number) flow
-  read flow is = is (surface f) (level_at f) (sample_point f number) (level_grid f) (deep_shown f (sample_point f number) whole number at test)
+    pub kernel_flat : IsFlowAt f.levels f.side number Flat → (flow : LocalFlow) → ((p : Point) → number_in f p ≡ number → IsTrue (is_held f.side f.corners p) → flow ≡ (if is_declared f p then Edge else Flat))
+        → IsFlowIn f number flow
+    kernel_flat is flow told t level p grid shown held at rule =
+        let local : IsLocalFlow t level p Flat = is t level p grid shown in
+        record {
+          on_ground = λ solid. subst (IsFlowOf t level p) (sym (told p at held)) (flat_or_edge t level p (is_declared f p) rule solid local);
+          elsewhere = λ off. absurd (true≢false (sym local.0 ∙ off));
+        }
 
-  pub deep_flow : (flow : LocalFlow) → (flow ≡ Flat → ⊥) → IsFlowAt f.levels f.side number flow → IsSampleFlow f number flow
-  deep_flow flow other is = record {
-    right = λ p level same. drains_like f p level flow other (is (surface f) (level_at f) p (level_grid f) (deep_shown f p whole number same test));
-    site = λ some. (sample_point f number, (solid_of f (sample_point f number) flow some (read flow is), at));
-    deep = λ flat. absurd (other flat);
-  }
-
-  pub deep_flat : IsFlowAt f.levels f.side number Flat → (flow : LocalFlow) → ((p : Point) → number_in f p ≡ number → IsTrue (is_held f.side f.corners p) → flow ≡ (if is_declared f p then Edge else Flat))
-      → IsSampleFlow f number flow
-  deep_flat is flow told = record {
-    right = λ p level same. subst (DrainsLike f p) (sym (told p same (level_held f whole p level))) (flat_like f p level (is (surface f) (level_at f) p (level_grid f) (deep_shown f p whole number same test)));
-    site = λ some. (sample_point f number, ((read Flat is).0, at));
-    deep = λ flat. test;
-  }
+    -- and so of a deep one
+    pub deep_flow : AreLevels f → is_deep f.side (number % (f.side * f.side)) ≡ true → number < length f.levels → number_in f (sample_point f number) ≡ number → (flow : LocalFlow) → IsFlowIn f number flow → IsSampleFlow f number flow
+    deep_flow whole test small at flow is = record {
+      right = λ p level same. (seen p same).on_ground level;
+      site = λ some. elim (cases_Bool (has_level f (sample_point f number))) [
+        | inl on ↦ (sample_point f number, (on, at))
+        | inr off ↦ absurd (some ((seen (sample_point f number) at).elsewhere off))
+      ];
+      deep = λ flat. test;
+    }
+      where
+        seen : (p : Point) → number_in f p ≡ number → IsGroundFlow (surface f) (level_at f) p flow
+        seen p same = is (surface f) (level_at f) p level_grid (deep_shown p whole number same test) (number_held whole number p small same) same (rule p)
 
 -- a level that is read at a number, where there is one
 module _ (f : Filled) (whole : AreLevels f) (p : Point) where

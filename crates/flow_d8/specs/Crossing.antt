@@ -1,18 +1,20 @@
 -- What is known of the samples of filled levels: where each point drains, and how far it is across its flat.
-use Rattle.std.specs.Prelude.{◌≡◌, ℕ, ◌+◌, ◌*◌, ◌/◌, ◌%◌, ◌<◌, ◌≤◌, ◌⊎◌, pos, true, IsTrue, Option, Some, None, List, length, slice_index_or}
+use Rattle.std.specs.Prelude.{◌≡◌, ℕ, ◌+◌, ◌*◌, ◌/◌, ◌%◌, ◌<◌, ◌≤◌, ◌⊎◌, ℤ, pos, true, ◌&&◌, ◌||◌, nat_lt, IsTrue, Option, Some, None, List, length, count_by, slice_index_or}
 use Rattle.lattice.specs.declared.point.Point.{Point}
 use Rattle.lattice.specs.declared.direction.Dir.{Dir}
-use Rattle.lattice.specs.Steps.{step, order_of}
+use Rattle.lattice.specs.Steps.{step, order_of, directions}
+use Rattle.lattice.specs.Terrain.{Terrain}
 use Rattle.lattice.specs.Lattice.{point_of}
 use Rattle.lattice.specs.Mosaic.{void}
 use Rattle.flow_d8.specs.declared.local_flow.LocalFlow.{LocalFlow}
 use Rattle.flow_d8.specs.declared.local_flow.LocalFlow.TheVariants.{NoGround, Flat}
 use Rattle.flow_d8.specs.Drainage.{CrossesFlat, IsFlatDistance, IsDirection}
 use Rattle.flow_d8.specs.FlatCertificate as certificate
-use Rattle.flow_d8.specs.Filled.{Filled, AreLevels, is_deep}
-use Rattle.flow_d8.specs.Places.{IsFlowOf}
+use Rattle.flow_d8.specs.Filled.{Filled, AreLevels, is_deep, is_held}
+use Rattle.flow_d8.specs.LevelGrid.{IsLevelGrid}
+use Rattle.flow_d8.specs.Places.{IsShown, IsFlowOf, IsGroundFlow}
 use Rattle.flow_d8.specs.Propagation.{unknown, distance_at, IsEnd, IsOnFlat, IsWaiting}
-use Rattle.flow_d8.specs.Surface.{number_in, level_at, has_level, surface}
+use Rattle.flow_d8.specs.Surface.{number_in, level_at, has_level, is_declared, surface}
 
 module _ (f : Filled) where
   abbrev pub Crosses : Point → ℕ → Type 0
@@ -35,6 +37,11 @@ module _ (f : Filled) where
     pub right : (p : Point) → IsTrue (has_level f p) → number_in f p ≡ g → DrainsLike p flow
     pub site : (flow ≡ NoGround → ⊥) → HasSite g
     pub deep : flow ≡ Flat → is_deep f.side (g % (f.side * f.side)) ≡ true
+
+  -- in each terrain that the levels at the sample and around it show, and whose sinks are these, its point drains so
+  abbrev pub IsFlowIn : ℕ → LocalFlow → Type 0
+  IsFlowIn g flow = (t : Terrain Point) (level : Point → ℤ) (p : Point) → IsLevelGrid t level → IsShown t level f.levels f.side p g → IsTrue (is_held f.side f.corners p) → number_in f p ≡ g
+      → t.is_outlet p ≡ (t.is_ground p && (nat_lt (count_by (λ d. t.is_adjacent p (step d p)) directions) 8 || is_declared f p)) → IsGroundFlow t level p flow
 
   -- the first k samples have their flows
   pub record AreFlowsTo (k : ℕ) (flows : List LocalFlow) : Type 0 where

@@ -11,6 +11,7 @@ use Rattle.lattice.specs.Lattice.{IsBefore}
 use Rattle.lattice.specs.Mosaic.{Mosaic}
 use Rattle.lattice.specs.Ground.{is_ground, terrain}
 use Rattle.flow_d8.specs.Drainage.{IsFlatDistance, IsDirection}
+use Rattle.flow_d8.specs.Feeders.{LeadsBy}
 use Rattle.flow_d8.specs.Filled.{is_held, number_of}
 use Rattle.flow_d8.specs.Propagation.{unknown, distance_at}
 
@@ -47,7 +48,7 @@ number_beside d p e = if fits_point (step e p) && is_held d.side d.corners (step
 
 -- x drains straight to p
 abbrev pub DrainsTo : Directions → Point → Point → Type 0
-DrainsTo d x p = (e : Dir) × ((direction_in d x ≡ Some e) × (step e x ≡ p))
+DrainsTo d x p = LeadsBy (direction_in d) x p
 
 -- each ground point's direction and flat distance; a point that isn't ground has neither
 pub record AreDirectionsOf (m : Mosaic) (level : Point → ℤ) (d : Directions) : Type 0 where

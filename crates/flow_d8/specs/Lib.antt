@@ -23,3 +23,6 @@ pub mod PointFlow
 pub mod Flats
 pub mod FlowSteps
 pub mod TilePlaces
+pub mod Feeders
+pub mod DeepFlows
+pub mod TileFlows

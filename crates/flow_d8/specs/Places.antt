@@ -61,6 +61,11 @@ IsFlowOf t level p Flat = (HasLower t level p → ⊥) × IsFalse (t.is_outlet p
 IsFlowOf t level p Seam = (HasLower t level p → ⊥) × IsFalse (t.is_outlet p)
 IsFlowOf t level p (Drains d) = IsSteepest t level p d
 
+-- a ground point drains so, and no ground is said where there is none
+pub record IsGroundFlow (t : Terrain Point) (level : Point → ℤ) (p : Point) (flow : LocalFlow) : Type 0 where
+  pub on_ground : IsTrue (t.is_ground p) → IsFlowOf t level p flow
+  pub elsewhere : IsFalse (t.is_ground p) → flow ≡ NoGround
+
 -- it is so of each terrain that the levels show
 abbrev pub IsFlowAt : List ℤ → ℕ → ℕ → LocalFlow → Type 0
 IsFlowAt levels width k flow = (t : Terrain Point) (level : Point → ℤ) (p : Point) → IsLevelGrid t level → IsShown t level levels width p k → IsLocalFlow t level p flow

@@ -7,6 +7,7 @@ ghost use Rattle.lattice.specs.Stepping.{fits_point};
 ghost use Rattle.lattice.specs.declared.refusal.Refusal.TheVariants.{NoMemory};
 ghost use Rattle.lattice.specs.Mosaic.{Mosaic, IsMosaic};
 ghost use Rattle.lattice.specs.Ground.{is_ground, terrain};
+ghost use Rattle.flow_d8.specs.Feeders.{AreFeedersOf};
 ghost use Rattle.flow_d8.specs.FlowPath.{IsFlowPath};
 ghost use Rattle.flow_d8.specs.Filled.{is_held, is_deep, number_of};
 ghost use Rattle.flow_d8.specs.Propagation.{unknown, distance_at};
@@ -92,6 +93,7 @@ impl Directions {
     pub fn feeders(&self, point: Point) -> ArrayVec<Point, 8>
         ensures exactly { (q : Point) → Contains result.items q ↔ DrainsTo self.now q point }
         ensures once { (j k : ℕ) (x : Point) → j < k → k < length result.items → slice_index_or result.items j x ≡ slice_index_or result.items k x → ⊥ }
+        ensures of_mosaic { (m : Mosaic) (level : Point → ℤ) → AreDirectionsOf m level self.now → AreFeedersOf (terrain m) level point result.items }
     {
         let _drains = self.drains();
         let around = self.numbers_around(point);
@@ -274,8 +276,8 @@ impl Directions {
     }
 }
 
-// The direction of the step back.
-fn opposite(direction: Dir) -> Dir
+/// The direction of the step back.
+pub(crate) fn opposite(direction: Dir) -> Dir
     ensures { result ≡ back_of direction }
 {
     match direction {

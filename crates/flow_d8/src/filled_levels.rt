@@ -3,13 +3,15 @@ ghost use Rattle.std.specs.Prelude.{◌≡◌, IfOk, IfErr, OnOk, IfSome};
 ghost use Rattle.lattice.specs.declared.refusal.Refusal.{Refusal};
 ghost use Rattle.lattice.specs.declared.refusal.Refusal.TheVariants.{NoMemory, Damaged};
 ghost use Rattle.lattice.specs.Mosaic.{Mosaic, IsMosaic};
-ghost use Rattle.lattice.specs.Ground.{share_tile as shared, is_sink as is_declared};
+ghost use Rattle.lattice.specs.Ground.{terrain, share_tile as shared, is_sink as is_declared};
 ghost use Rattle.flow_d8.specs.LevelsAround.{IsLevelAt, IsNear, OnLevels};
 ghost use Rattle.flow_d8.specs.Way.{IsWay};
+ghost use Rattle.flow_d8.specs.Feeders.{AreFeedersOf};
 ghost use Rattle.flow_d8.specs.Directions.{AreDirectionsOf};
 
 use crate::directions::Directions;
 use crate::levels_around::Near;
+use arrayvec::ArrayVec;
 use lattice::{Dir, Point, Refusal};
 use std::alloc::Global;
 
@@ -74,6 +76,20 @@ pub trait FilledLevels<S> {
 
     /// Learns where all points drain, where they are few enough.
     fn learn_all(&mut self, alloc: Global, source: &mut S) -> Result<(), Refusal>
+        requires { fits self.old source.old }
+        ensures fits { fits self.new source.new }
+        ensures refusal { IfErr result (refuses self.old source.old self.new source.new) }
+        ensures honest { is_honest self.new source.new → is_honest self.old source.old }
+        ensures mosaic { is_honest self.new source.new → mosaic self.new source.new ≡ mosaic self.old source.old }
+        ensures keeps { OnOk result (keeps self.old source.old self.new source.new) };
+
+    /// The points that drain straight to this one, each once, where that is at hand. None says nothing.
+    fn feeders(&self, source: &S, point: Point) -> Option<ArrayVec<Point, 8>>
+        requires { fits self.now source.now }
+        ensures { is_honest self.now source.now → IfSome result (λ feeders. OnLevels (mosaic self.now source.now) (λ level. AreFeedersOf (terrain (mosaic self.now source.now)) level point feeders.items)) };
+
+    /// Learns where the points around this one drain, where it pays: once that was asked of many of them. Whether it did.
+    fn learn_tile(&mut self, alloc: Global, source: &mut S, point: Point) -> Result<bool, Refusal>
         requires { fits self.old source.old }
         ensures fits { fits self.new source.new }
         ensures refusal { IfErr result (refuses self.old source.old self.new source.new) }

@@ -1,5 +1,6 @@
 //! Where a point drains, in one byte.
-ghost use Rattle.std.specs.Prelude.{◌≡◌, Some};
+ghost use Rattle.std.specs.Prelude.{◌≡◌, ◌↔◌, IsTrue, Option, Some, None, MatchOption};
+ghost use Rattle.lattice.specs.declared.direction.Dir.{Dir};
 ghost use Rattle.flow_d8.specs.Flow.{way_of};
 
 use lattice::Dir;
@@ -37,6 +38,14 @@ impl Flow {
             Some(Dir::North) => Flow::North,
             Some(Dir::NorthEast) => Flow::NorthEast,
         }
+    }
+
+    /// Whether the point drains in this direction, where that is known.
+    pub(crate) fn leads(self, direction: Dir) -> Option<bool>
+        ensures { MatchOption result (way_of self ≡ None) (λ leads. (way : Option Dir) × ((way_of self ≡ Some way) × (IsTrue leads ↔ (way ≡ Some direction)))) }
+    {
+        let way = self.way()?;
+        Some(way == Some(direction))
     }
 
     /// The direction in which the point drains, where that is known.

@@ -2,8 +2,8 @@
 ghost use Rattle.std.specs.Prelude.{◌≡◌, ◌<◌, ◌*◌, ◌%◌, true, IsTrue, IfOk, IfSome, MatchOption, if◌then◌else◌, length, slice_index_or};
 ghost use Rattle.lattice.specs.Mosaic.{void};
 ghost use Rattle.flow_d8.specs.declared.local_flow.LocalFlow.TheVariants.{Edge, Flat, Seam};
-ghost use Rattle.flow_d8.specs.Crossing.{AreLocalFlows, IsSampleFlow};
-ghost use Rattle.flow_d8.specs.Filled.{is_deep, is_held};
+ghost use Rattle.flow_d8.specs.Crossing.{AreLocalFlows, IsFlowIn, IsSampleFlow, sample_point};
+ghost use Rattle.flow_d8.specs.Filled.{AreLevels, is_deep, is_held};
 ghost use Rattle.flow_d8.specs.Places.{IsShown};
 ghost use Rattle.flow_d8.specs.Surface.{number_in, level_at, has_level, is_declared, surface};
 ghost use Rattle.lattice.specs.declared.point.Point.{Point};
@@ -43,12 +43,14 @@ fn flow_of(filled: &Filled, number: usize, deep: bool) -> LocalFlow
     }
 }
 
-// Where all around the sample lies in its own tile, the levels of the tile show it.
+/// The local flow of a sample that lies at least two samples from the edges of its tile: the levels of the tile show it.
 #[inline(always)]
-fn flow_inside(filled: &Filled, number: usize) -> LocalFlow
+pub(crate) fn flow_inside(filled: &Filled, number: usize) -> LocalFlow
     requires number { number < length filled.now.levels }
     requires deep { is_deep filled.now.side (number % (filled.now.side * filled.now.side)) ≡ true }
-    ensures { IsSampleFlow filled.now number result }
+    ensures shown { IsFlowIn filled.now number result }
+    ensures numbered { number_in filled.now (sample_point filled.now number) ≡ number }
+    ensures valid { AreLevels filled.now }
 {
     let width = filled.row_length(number);
     match local_flow_at(filled.levels(), width, number) {

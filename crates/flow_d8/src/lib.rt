@@ -27,6 +27,7 @@
 
 mod around;
 mod crossing;
+mod deep_flows;
 mod directions;
 mod filled;
 mod filled_levels;
@@ -49,6 +50,7 @@ mod propagating;
 mod seeding;
 mod seen;
 mod slopes;
+mod tile_flows;
 mod tile_place;
 
 pub use directions::Directions;
@@ -64,3 +66,4 @@ pub use laws::{
 pub use levels_around::Near;
 pub use one_direction::{direction_at, direction_over};
 pub use point_table::PointTable;
+pub use tile_flows::TileFlows;

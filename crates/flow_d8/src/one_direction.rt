@@ -51,7 +51,7 @@ pub fn direction_over<S, L: FilledLevels<S>>(
     ensures keeps { OnOk result (L.keeps levels.old source.old levels.new source.new) }
     ensures fits { L.fits levels.new source.new }
 {
-    if let Some(way) = levels.way(source, point) {
+    if let Some(way) = known_way(alloc, levels, source, point)? {
         return Ok(way);
     }
     let far = levels.far(source);
@@ -60,6 +60,29 @@ pub fn direction_over<S, L: FilledLevels<S>>(
         return Ok(way);
     }
     far_direction(alloc, levels, source, flats, point)
+}
+
+// Where the point drains, where that was learnt, or is now with the points around it.
+fn known_way<S, L: FilledLevels<S>>(
+    alloc: Global,
+    levels: &mut L,
+    source: &mut S,
+    point: Point,
+) -> Result<Option<Option<Dir>>, Refusal>
+    requires { L.fits levels.old source.old }
+    ensures way { L.is_honest levels.new source.new → IfOk result (λ found. IfSome found (IsWay (L.mosaic levels.old source.old) point)) }
+    ensures refusal { IfErr result (L.refuses levels.old source.old levels.new source.new) }
+    ensures asks { Asks L.FilledLevels levels.old source.old levels.new source.new }
+    ensures keeps { OnOk result (L.keeps levels.old source.old levels.new source.new) }
+    ensures fits { L.fits levels.new source.new }
+{
+    if let Some(way) = levels.way(source, point) {
+        return Ok(Some(way));
+    }
+    if levels.learn_tile(alloc, source, point)? {
+        return Ok(levels.way(source, point));
+    }
+    Ok(None)
 }
 
 // Where a point drains that lies inside a wide flat.
@@ -143,7 +166,7 @@ pub(crate) fn steps_on<S, L: FilledLevels<S>>(
     ensures keeps { OnOk result (L.keeps levels.old source.old levels.new source.new) }
     ensures fits { L.fits levels.new source.new }
 {
-    if let Some(way) = levels.way(source, point) {
+    if let Some(way) = known_way(alloc, levels, source, point)? {
         return Ok(one_or_none(alloc, way)?);
     }
     let far = levels.far(source);

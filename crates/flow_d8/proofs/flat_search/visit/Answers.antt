@@ -1,4 +1,4 @@
-use Rattle.std.proofs.Common.{rules, false, IsTrue, inl, inr, ◌++◌, [], ◌∷◌, List, length, sym, ap, ◌∙◌, subst, arith}
+use Rattle.std.proofs.Common.{rules, IsTrue, inl, inr, ◌++◌, [], ◌∷◌, List, length, sym, ap, ◌∙◌, subst, arith}
 use Rattle.std.proofs.lemmas.Bool.{not-false}
 use Rattle.lattice.specs.declared.point.Point.{Point}
 use Rattle.flow_d8.specs.declared.flat_search.Lead.{Lead}

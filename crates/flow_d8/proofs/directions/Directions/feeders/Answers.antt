@@ -4,14 +4,15 @@ use Rattle.lattice.specs.declared.point.Point.{Point}
 use Rattle.lattice.specs.declared.direction.Dir.{Dir}
 use Rattle.lattice.specs.declared.direction.Dir.TheVariants.{East}
 use Rattle.lattice.specs.Steps.{directions}
+use Rattle.flow_d8.specs.Directions.{direction_in}
 use Rattle.flow_d8.proofs.Compass.{order_at}
-use Rattle.flow_d8.proofs.Feeding.{IsFeeding, feeding_on, feeding_more, fed}
+use Rattle.flow_d8.proofs.Feeding.{IsFeeding, feeding_on, feeding_more, fed, drains_are_feeders}
 use Rattle.flow_d8.proofs.directions.Directions.feeders.Goals as goal
 use Rattle.flow_d8.proofs.directions.Directions.feeders.Goals.{in-Some, in_default}
 
 pub loop-i-preserved : goal.loop-i-preserved
 loop-i-preserved c =
-    let d = c.args.self.now in
+    let d = direction_in c.args.self.now in
     let p = c.args.point in
     let i = c.loop-i.i in
     let e : Dir = get_or directions i East in
@@ -30,4 +31,14 @@ loop-i-preserved c =
     ]
 
 pub returns-clause-exactly : goal.returns-clause-exactly
-returns-clause-exactly c = fed c.args.self.now c.args.point c.loop-i.i c.loop-i.found.items c.loop-i-test.false c.loop-i.invariant.feeding
+returns-clause-exactly c = fed (direction_in c.args.self.now) c.args.point c.loop-i.i c.loop-i.found.items c.loop-i-test.false c.loop-i.invariant.feeding
+
+pub returns-clause-of_mosaic : goal.returns-clause-of_mosaic
+returns-clause-of_mosaic c m level are =
+    let d = c.args.self.now in
+    let p = c.args.point in
+    let so = fed (direction_in d) p c.loop-i.i c.loop-i.found.items c.loop-i-test.false c.loop-i.invariant.feeding in
+    record {
+      exactly = λ x. let feeds = drains_are_feeders m level d are x p in ((λ has. feeds.0 ((so x).0 has)), (λ feeder. (so x).1 (feeds.1 feeder)));
+      once = c.loop-i.invariant.feeding.once;
+    }

@@ -1,0 +1,88 @@
+-- Bytes that tell where points drain.
+use Rattle.std.proofs.Common.{◌≡◌, ℕ, ◌+◌, ◌*◌, ◌%◌, ◌<◌, true, Option, Some, None, List, length, inl, inr, get_or, set, replicate, refl, sym, ap, ◌∙◌, subst, arith, get_or-set_other, get_or-set_same}
+use Rattle.std.proofs.lemmas.List.{get_or-replicate, length-set}
+use Rattle.std.proofs.lemmas.Bool.{cases_eq}
+use Rattle.std.specs.Prelude.{IfSome, slice_index_or}
+use Rattle.lattice.specs.Corners.{Corner}
+use Rattle.lattice.specs.Lattice.{IsIndexOf}
+use Rattle.lattice.specs.Mosaic.{Mosaic, IsMosaic}
+use Rattle.lattice.specs.declared.point.Point.{Point}
+use Rattle.lattice.specs.declared.direction.Dir.{Dir}
+use Rattle.lattice.proofs.Samples.{index_below, point_at_index}
+use Rattle.flow_d8.specs.DeepFlows.{IsTileOf, IsToldFlow, AreFlowsOf, IsLearntAt, AreLearntTo}
+use Rattle.flow_d8.specs.Filled.{Filled, is_deep}
+use Rattle.flow_d8.specs.Flow.{way_of}
+use Rattle.flow_d8.specs.Way.{IsWay}
+use Rattle.flow_d8.specs.declared.flow.Flow.{Flow}
+use Rattle.flow_d8.specs.declared.flow.Flow.TheVariants.{Unknown}
+use Rattle.flow_d8.proofs.TileShown.{deep_alone}
+
+none_some : (way : Option Dir) → ◌≡◌ {A = Option (Option Dir)} None (Some way) → ⊥
+none_some way e = cc
+
+unwrap : (a b : Option Dir) → ◌≡◌ {A = Option (Option Dir)} (Some a) (Some b) → a ≡ b
+unwrap a b e = cc
+
+module _ (m : Mosaic) (n : ℕ) (c : Corner) where
+  -- nothing is told
+  pub none_told : AreFlowsOf m n c (replicate (n * n) Unknown)
+  none_told p e way at is = absurd (none_some way (sym (ap way_of (get_or-replicate (n * n) e Unknown Unknown (index_below n c p e at))) ∙ is))
+
+  -- what a byte tells
+  pub way_told : (flows : List Flow) (p : Point) (e : ℕ) (flow : Flow) (found : Option (Option Dir)) → IsIndexOf n c p e → get_or flows e Unknown ≡ flow → found ≡ way_of flow → AreFlowsOf m n c flows → IfSome found (IsWay m p)
+  way_told flows p e flow (Some way) at there is are = are p e way at (ap way_of there ∙ sym is)
+  way_told flows p e flow None at there is are = tt
+
+  -- another byte tells what is right
+  pub byte_told : (flows : List Flow) (e : ℕ) (flow : Flow) → e < length flows → ((p : Point) (way : Option Dir) → IsIndexOf n c p e → way_of flow ≡ Some way → IsWay m p way) → AreFlowsOf m n c flows → AreFlowsOf m n c (set flows e flow)
+  byte_told flows e flow within right before q f w there is = elim (cases_eq f e) [
+    | inl same ↦ right q w (subst (IsIndexOf n c q) same there) (sym (ap way_of (ap (λ k. get_or (set flows e flow) k Unknown) same ∙ get_or-set_same flows e flow Unknown within)) ∙ is)
+    | inr other ↦ before q f w there (sym (ap way_of (get_or-set_other flows e f flow Unknown other)) ∙ is)
+  ]
+
+  pub one_told : (flows : List Flow) (p : Point) (e : ℕ) (flow : Flow) (way : Option Dir) → e < length flows → IsIndexOf n c p e → way_of flow ≡ Some way → IsWay m p way → AreFlowsOf m n c flows → AreFlowsOf m n c (set flows e flow)
+  one_told flows p e flow way within at tells right = byte_told flows e flow within (λ q w there is.
+      let here : q ≡ p = sym (point_at_index n c q e there) ∙ point_at_index n c p e at in
+      subst (λ x. IsWay m x w) (sym here) (subst (IsWay m p) (unwrap way w (sym tells ∙ is)) right))
+
+module _ (f : Filled) where
+  pub none_learnt : (flows : List Flow) → AreLearntTo f 0 flows flows
+  none_learnt flows = record { whole = refl; right = λ m c is of are. are; told = λ m c is of p e below. absurd (omega (arith, below)) }
+
+  pub learnt_more : (k : ℕ) (old mid new : List Flow) → AreLearntTo f k old mid → IsLearntAt f k mid new → AreLearntTo f (k + 1) old new
+  learnt_more k old mid new so_far at = record {
+    whole = at.whole ∙ so_far.whole;
+    right = λ m c is of are. at.right m c is of (so_far.right m c is of are);
+    told = λ m c is of p e below index deep none. elim (cases_eq e k) [
+      | inl same ↦ at.told m c p is of (subst (IsIndexOf f.side c p) same index) (subst (λ i. is_deep f.side i ≡ true) same deep) (subst (λ i. way_of (slice_index_or new i Unknown) ≡ None) same none)
+      | inr other ↦ so_far.told m c is of p e (omega arith) index deep (sym (ap way_of (at.others e other)) ∙ none)
+    ];
+  }
+
+  module _ (g : ℕ) (flows : List Flow) (within : g < length flows) (flow : Flow) (tells : (m : Mosaic) (c : Corner) (p : Point) → IsMosaic m → IsTileOf m c f → IsIndexOf f.side c p g → IsToldFlow m p flow) where
+    -- the byte is written
+    pub learnt_written : IsLearntAt f g flows (set flows g flow)
+    learnt_written = record {
+      whole = length-set flows g flow;
+      others = λ e other. get_or-set_other flows g e flow Unknown other;
+      right = λ m c is of. byte_told m f.side c flows g flow within (λ p way index. (tells m c p is of index).right way);
+      told = λ m c p is of index deep none. (tells m c p is of index).flat (sym (ap way_of (get_or-set_same flows g flow Unknown within)) ∙ none);
+    }
+
+    -- or isn't, as it tells nothing
+    pub learnt_nothing : flow ≡ Unknown → IsLearntAt f g flows flows
+    learnt_nothing nothing = record {
+      whole = refl;
+      others = λ e other. refl;
+      right = λ m c is of are. are;
+      told = λ m c p is of index deep none. (tells m c p is of index).flat (ap way_of nothing);
+    }
+
+  -- a sample near the edges is left
+  pub learnt_not : (g : ℕ) (flows : List Flow) → (is_deep f.side (g % (f.side * f.side)) ≡ true → ⊥) → IsLearntAt f g flows flows
+  learnt_not g flows near = record {
+    whole = refl;
+    others = λ e other. refl;
+    right = λ m c is of are. are;
+    told = λ m c p is of index deep none. absurd (near (deep_alone f.side g (index_below f.side c p g index) ∙ deep));
+  }

@@ -1,0 +1,9 @@
+use Rattle.flow_d8.specs.DeepFlows.{AreLearntTo}
+use Rattle.flow_d8.specs.TilePlaces.{IsPlaceOf}
+use Rattle.flow_d8.proofs.deep_flows.learn_deep.Given as goal
+
+abbrev pub invariant-loop-number : goal.invariant-loop-number
+invariant-loop-number l = record {
+  learnt : AreLearntTo l.filled l.number l.fn.flows l.flows;
+  place : IsPlaceOf l.filled.side l.number l.place;
+}

@@ -1,0 +1,159 @@
+//! Where the points of one tile drain, in a byte each.
+ghost use Rattle.std.specs.Prelude.{◌≡◌, ◌+◌, ◌*◌, ◌^◌, ◌<◌, ◌≤◌, IsTrue, IfOk, IfSome, MatchOption, Option, Some, length, map, slice_index_or};
+ghost use Rattle.lattice.specs.Lattice.{IsIndexOf};
+ghost use Rattle.lattice.specs.Mosaic.{Mosaic, IsMosaic};
+ghost use Rattle.lattice.specs.Ground.{terrain};
+ghost use Rattle.lattice.specs.Steps.{step, directions};
+ghost use Rattle.lattice.specs.declared.direction.Dir.{Dir};
+ghost use Rattle.lattice.proofs.Interior.{IsInner as IsOffRim};
+ghost use Rattle.flow_d8.specs.Flow.{way_of};
+ghost use Rattle.flow_d8.specs.LevelsAround.{OnLevels};
+ghost use Rattle.flow_d8.specs.Places.{back_of, place_by};
+ghost use Rattle.flow_d8.specs.Way.{IsWay};
+ghost use Rattle.flow_d8.specs.declared.flow.Flow.TheVariants.{Unknown};
+
+use crate::deep_flows::learn_deep;
+use crate::directions::opposite;
+use crate::filled::Filled;
+use crate::flow::Flow;
+use arrayvec::ArrayVec;
+use lattice::{Corner, DIRECTIONS, Dir, Point, Side, index_in, neighbour};
+use std::alloc::{AllocError, Global};
+
+/// What is known of where the points of one tile drain: a byte for each of its samples.
+#[derive(Drop)]
+pub struct TileFlows {
+    side: Side,
+    corner: Corner,
+    flows: Vec<Flow>,
+    ghost whole: { length flows.items ≡ side * side },
+}
+
+impl TileFlows {
+    ghost use Rattle.flow_d8.specs.Feeders.{AreFeedersOf};
+    ghost use Rattle.flow_d8.specs.DeepFlows.{IsTileOf};
+    ghost use Rattle.flow_d8.specs.TileFlows.{AreFlowsIn, AreToldIn, way_in};
+
+    /// Nothing is known of the points of the corner's tile.
+    pub fn new(alloc: Global, side: Side, corner: Corner) -> Result<TileFlows, AllocError>
+        ensures side { IfOk result (λ tile. tile.side ≡ side) }
+        ensures corner { IfOk result (λ tile. tile.corner ≡ corner) }
+        ensures flows { IfOk result (λ tile. (m : Mosaic) → AreFlowsIn m tile) }
+    {
+        let flows = vec![in alloc; Flow::Unknown; side.area() as usize]?;
+        Ok(TileFlows {
+            side,
+            corner,
+            flows,
+        })
+    }
+
+    /// The corner of the tile.
+    pub fn corner(&self) -> Corner
+        ensures { result ≡ self.now.corner }
+    {
+        self.corner
+    }
+
+    /// Where the point drains, where that is known.
+    pub fn way(&self, point: Point) -> Option<Option<Dir>>
+        ensures { (m : Mosaic) → AreFlowsIn m self.now → IfSome result (IsWay m point) }
+    {
+        let index = index_in(self.side, self.corner, point)?;
+        self.flows[index as usize].way()
+    }
+
+    /// Learns where a point of the tile drains.
+    pub fn learn(&mut self, point: Point, way: Option<Dir>)
+        ensures side { self.new.side ≡ self.old.side }
+        ensures corner { self.new.corner ≡ self.old.corner }
+        ensures flows { (m : Mosaic) → IsWay m point way → AreFlowsIn m self.old → AreFlowsIn m self.new }
+    {
+        if let Some(index) = index_in(self.side, self.corner, point) {
+            self.flows[index as usize] = Flow::by(way);
+        }
+    }
+
+    /// Learns where all points drain that lie at least two samples from the tile's edges, but those inside flats: the
+    /// filled levels of the tile tell it, where these are of that tile alone.
+    pub fn learn_all(&mut self, filled: &Filled)
+        ensures side { self.new.side ≡ self.old.side }
+        ensures corner { self.new.corner ≡ self.old.corner }
+        ensures flows { (m : Mosaic) → IsMosaic m → IsTileOf m self.old.corner filled.now → AreFlowsIn m self.old → AreFlowsIn m self.new }
+        ensures told { (m : Mosaic) → IsMosaic m → IsTileOf m self.old.corner filled.now → self.old.side ≡ filled.now.side → AreToldIn m self.new }
+    {
+        if self.side == filled.side() && self.flows.len() == filled.levels().len() {
+            learn_deep(filled, &mut self.flows);
+        }
+    }
+
+    /// The points that drain straight to this one, each once, where it is known of all points around it where they drain,
+    /// and the tile holds them. None says nothing.
+    pub fn feeders(&self, point: Point) -> Option<ArrayVec<Point, 8>>
+        ensures { (m : Mosaic) → IsMosaic m → AreFlowsIn m self.now → IfSome result (λ found. OnLevels m (λ level. AreFeedersOf (terrain m) level point found.items)) }
+    {
+        let place = self.place_off_rim(point)?;
+        let places = places_around(self.side.samples() as usize, place);
+        let mut found = ArrayVec::new();
+        for i in 0..8 {
+            if let Some(feeder) = self.feeder(point, DIRECTIONS[i], places[i])? {
+                found.push(feeder);
+            }
+        }
+        Some(found)
+    }
+
+    // The place of a point of the tile that doesn't lie on its rim.
+    fn place_off_rim(&self, point: Point) -> Option<usize>
+        ensures { IfSome result (λ place. IsIndexOf self.now.side self.now.corner point place × IsOffRim self.now.side place) }
+    {
+        let index = index_in(self.side, self.corner, point)?;
+        if is_off_rim(self.side, index) {
+            Some(index as usize)
+        } else {
+            None
+        }
+    }
+
+    // The point one step away, which has this place, where it drains straight back. None where that isn't known.
+    fn feeder(&self, point: Point, direction: Dir, place: usize) -> Option<Option<Point>>
+        requires { IsIndexOf self.now.side self.now.corner (step direction point) place }
+        ensures known { IfSome result (λ _. (way : Option Dir) × (way_of (slice_index_or self.now.flows.items place Unknown) ≡ Some way)) }
+        ensures feeder { IfSome result (λ feeder. MatchOption feeder (way_in self.now (step direction point) ≡ Some (back_of direction) → ⊥) (λ q. (q ≡ step direction point) × (way_in self.now (step direction point) ≡ Some (back_of direction)))) }
+    {
+        let leads = self.flows[place].leads(opposite(direction))?;
+        if !leads {
+            return Some(None);
+        }
+        let from = neighbour(point, direction)?;
+        Some(Some(from))
+    }
+}
+
+// Whether the sample with this index lies on no edge of its tile.
+fn is_off_rim(side: Side, index: u32) -> bool
+    ensures { IsTrue result → IsOffRim side index }
+{
+    let n = side.samples();
+    let row = index / n;
+    let column = index % n;
+    1 <= row && row + 2 <= n && 1 <= column && column + 2 <= n
+}
+
+// The places around one in rows of this width, by direction in the order of codes.
+fn places_around(width: usize, place: usize) -> [usize; 8]
+    requires before { width + 1 ≤ place }
+    requires after { place + width + 1 < 2 ^ 64 }
+    ensures { result ≡ map (place_by width place) directions }
+{
+    [
+        place + 1,
+        place + width + 1,
+        place + width,
+        place + width - 1,
+        place - 1,
+        place - width - 1,
+        place - width,
+        place - width + 1,
+    ]
+}
