@@ -1,9 +1,9 @@
 -- The filled levels of all tiles, found one after another.
-use Rattle.std.proofs.Common.{◌≡◌, ℕ, ◌+◌, ◌*◌, ◌-◌, ◌<◌, ℤ, IsTrue, IsFalse, Option, Some, None, List, [], ◌∷◌, ◌++◌, length, get_or, inl, inr, refl, sym, ap, ◌∙◌, subst, arith, true≢false}
+use Rattle.std.proofs.Common.{◌≡◌, ℕ, ◌+◌, ◌*◌, ◌-◌, ◌<◌, ℤ, pos, IsTrue, IsFalse, Option, Some, None, List, [], ◌∷◌, ◌++◌, length, get_or, inl, inr, refl, sym, ap, ◌∙◌, subst, arith, true≢false}
 use Rattle.std.specs.Prelude.{Result, Ok, Err, IfErr, MatchOption, slice_index_or, slice_get}
 use Rattle.std.proofs.lemmas.Bool.{cases_eq}
 use Rattle.std.proofs.lemmas.Grind.{rows}
-use Rattle.std.proofs.lemmas.List.{get_or-append-add, get_or_append_left, length-append}
+use Rattle.std.proofs.lemmas.List.{get_or-append-add, get_or_append_left, get_or_default, length-append}
 use Rattle.std.proofs.lemmas.Option.{slice_get_within, get_or_from_slice_get}
 use Rattle.lattice.specs.Block.{is_rim, rim_number}
 use Rattle.lattice.specs.Corners.{Corner}
@@ -21,6 +21,7 @@ use Rattle.catalogue.specs.Asked.{Asked}
 use Rattle.catalogue.specs.Readers.{OnlyReads}
 use Rattle.catalogue.specs.Tiles.{corners_of}
 use Rattle.catalogue.specs.declared.samples.Samples.{Ghosts}
+use Rattle.flow_d8.specs.DeepFlows.{IsTileOf}
 use Rattle.flow_d8.specs.Filled.{IsFilledOf}
 use Rattle.flow_d8.proofs.Nearby.{level_ground}
 use Rattle.tile_flood.specs.Raising.{AreRimLevels, AreTileLevels}
@@ -128,6 +129,18 @@ module _ (m : Mosaic) where
       elsewhere = λ k e c there below off. (at k e c there below).elsewhere off;
       sinks = declared;
     }
+
+-- the levels of one tile are those of the mosaic's tile alone
+pub tile_of : (m : Mosaic) (c : Corner) (t n : ℕ) (corners : List Corner) (levels : List ℤ) (sinks : List Point) → AreTileLevels m c levels → n ≡ m.side → corners ≡ c ∷ [] → t < length (corners_of m) → corner_at (corners_of m) t ≡ c → sinks ≡ m.sinks
+    → IsTileOf m c (record { side = n; corners = corners; levels = levels; sinks = sinks })
+tile_of m c t n corners levels sinks are side only low here declared = record {
+  side = side;
+  corners = only;
+  present = (t, low, get_or_default (corners_of m) t c (record { lat = pos 0; lon = pos 0 }) low ∙ here);
+  on_ground = subst (λ s. (e : ℕ) → e < s * s → IsTrue (is_ground m (point_of s c e)) → IsFilledLevel (terrain m) (point_of s c e) (slice_index_or levels e void)) (sym side) are.filled;
+  elsewhere = subst (λ s. (e : ℕ) → e < s * s → IsFalse (is_ground m (point_of s c e)) → slice_index_or levels e void ≡ void) (sym side) are.void_points;
+  sinks = declared;
+}
 
 -- a question ended after reads, if not with an answer then for want of memory
 pub short_of_memory : {S T : Type 0} (g : Ghosts S) (a b : S) (result : Result T Refusal) → OnlyReads {T = Unit {0}} g a b (Ok tt) → IfErr result (λ r. r ≡ NoMemory) → Asked g a b result

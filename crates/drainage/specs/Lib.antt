@@ -12,6 +12,7 @@ pub mod Invalidating
 pub mod Nearby
 pub mod Ring
 pub mod Beyond
+pub mod Room
 pub mod Flows
 pub mod Spared
 pub mod Everywhere

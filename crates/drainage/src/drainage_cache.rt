@@ -4,6 +4,9 @@ ghost use Rattle.lattice.specs.Height.{height_of};
 ghost use Rattle.lattice.specs.Mosaic.{Mosaic, IsMosaic};
 ghost use Rattle.lattice.specs.declared.height.Height.TheVariants.{At};
 ghost use Rattle.tile_labellings.specs.Labellings.{IsFlooded};
+ghost use Rattle.lattice.specs.Ground.{terrain};
+ghost use Rattle.flow_d8.specs.DeepFlows.{IsTileOf};
+ghost use Rattle.flow_d8.specs.Feeders.{AreFeedersOf};
 ghost use Rattle.flow_d8.specs.LevelsAround.{IsNear, OnLevels};
 ghost use Rattle.flow_d8.specs.Way.{IsWay};
 ghost use Rattle.flow_d8.specs.Directions.{AreDirectionsOf};
@@ -15,8 +18,9 @@ ghost use Rattle.drainage.specs.Spared.{AreLevelsStill, IsNoHigher, IsSetTo};
 use crate::flows::Flows;
 use crate::nearby::near;
 use crate::tile_cache::TileCache;
+use arrayvec::ArrayVec;
 use catalogue::Samples;
-use flow_d8::{Directions, Near};
+use flow_d8::{Directions, Filled, Near};
 use lattice::{Corner, Dir, Point, Refusal, Side};
 use std::alloc::Global;
 use tile_flood::Labelled;
@@ -164,6 +168,40 @@ impl DrainageCache {
     {
         let mut flows = self.take_flows(alloc, samples.side());
         flows.learn(alloc, samples, point, way);
+        self.flows = Some(flows);
+    }
+
+    // The points that drain straight to this one, each once, where what was learnt tells them.
+    pub(crate) fn feeders_of(&self, point: Point) -> Option<ArrayVec<Point, 8>>
+        ensures { (m : Mosaic) → IsMosaic m → IsHeldOf m self.now → IfSome result (λ found. OnLevels m (λ level. AreFeedersOf (terrain m) level point found.items)) }
+    {
+        if let Some(directions) = self.all_directions() {
+            return Some(directions.feeders(point));
+        }
+        let flows = self.flows.as_ref()?;
+        flows.feeders(point)
+    }
+
+    // The corner of a tile that holds the point, where it pays to learn of all its points at once where they drain.
+    pub(crate) fn due_tile(&mut self, point: Point) -> Option<Corner>
+        ensures { (m : Mosaic) → IsHeldOf m self.old → IsHeldOf m self.new }
+    {
+        let Some(mut flows) = self.flows.take() else {
+            return None;
+        };
+        let due = flows.due(point);
+        self.flows = Some(flows);
+        due
+    }
+
+    // Learns where the points of the corner's tile drain, as its filled levels tell it.
+    pub(crate) fn learn_tile(&mut self, corner: Corner, filled: &Filled)
+        ensures { (m : Mosaic) → IsMosaic m → IsTileOf m corner filled.now → IsHeldOf m self.old → IsHeldOf m self.new }
+    {
+        let Some(mut flows) = self.flows.take() else {
+            return;
+        };
+        flows.learn_tile(corner, filled);
         self.flows = Some(flows);
     }
 

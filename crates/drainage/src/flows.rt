@@ -1,11 +1,18 @@
 //! Where the points of tiles drain, as far as questions found it.
-ghost use Rattle.std.specs.Prelude.{◌≡◌, ◌*◌, ◌<◌, IfOk, IfSome, length};
-ghost use Rattle.lattice.specs.Mosaic.{Mosaic};
+ghost use Rattle.std.specs.Prelude.{◌≡◌, ◌≤◌, ◌<◌, ℕ, IsTrue, IfOk, IfSome, length};
+ghost use Rattle.lattice.specs.Mosaic.{Mosaic, IsMosaic};
+ghost use Rattle.lattice.specs.Ground.{terrain};
+ghost use Rattle.flow_d8.specs.DeepFlows.{IsTileOf};
+ghost use Rattle.flow_d8.specs.Feeders.{AreFeedersOf};
+ghost use Rattle.flow_d8.specs.LevelsAround.{OnLevels};
+ghost use Rattle.flow_d8.specs.TileFlows.{AreFlowsIn};
 ghost use Rattle.flow_d8.specs.Way.{IsWay};
+ghost use Rattle.drainage.specs.Room.{AreFew};
 
+use arrayvec::ArrayVec;
 use catalogue::Samples;
-use flow_d8::Flow;
-use lattice::{Corner, Dir, Point, Side, holders, index_in};
+use flow_d8::{Filled, TileFlows};
+use lattice::{Corner, Dir, Point, Side, holders};
 use std::alloc::{AllocError, Global};
 
 // As many bytes are held, one a point, but those of a few tiles at any side.
@@ -13,42 +20,59 @@ const MOST_BYTES: usize = 128 << 20;
 
 const FEWEST_TILES: usize = 9;
 
-/// Where the points of one tile drain: a byte for each of its samples.
+// So many points of a tile are learnt one by one, before all are learnt at once. That takes some 30 milliseconds, as long as
+// 30,000 points one by one; a search that got so far mostly goes on.
+const MOST_ALONE: u32 = 1 << 12;
+
+// Tiles are found by the last four bits of the degrees of their corners.
+const SLOTS: usize = 256;
+
+/// What is known of where the points of one tile drain.
 #[derive(Drop)]
-struct TileFlows {
-    side: Side,
-    corner: Corner,
-    flows: Vec<Flow>,
-    ghost whole: { length flows.items ≡ side * side },
+struct AskedTile {
+    flows: TileFlows,
+    // How many points were learnt one by one.
+    alone: u32,
+    // Whether all were to be learnt at once.
+    tried: bool,
 }
 
-impl TileFlows {
-    ghost use Rattle.drainage.specs.Flows.{AreFlowsIn};
-
+impl AskedTile {
     // Nothing is known of the tile's points.
-    fn new(alloc: Global, side: Side, corner: Corner) -> Result<TileFlows, AllocError>
-        ensures { IfOk result (λ tile. (m : Mosaic) → AreFlowsIn m tile) }
+    fn new(alloc: Global, side: Side, corner: Corner) -> Result<AskedTile, AllocError>
+        ensures { IfOk result (λ tile. (m : Mosaic) → AreFlowsIn m tile.flows) }
     {
-        let flows = vec![in alloc; Flow::Unknown; side.area() as usize]?;
-        Ok(TileFlows {
-            side,
-            corner,
-            flows,
+        Ok(AskedTile {
+            flows: TileFlows::new(alloc, side, corner)?,
+            alone: 0,
+            tried: false,
         })
     }
 
-    fn way(&self, point: Point) -> Option<Option<Dir>>
-        ensures { (m : Mosaic) → AreFlowsIn m self.now → IfSome result (IsWay m point) }
+    fn learn(&mut self, point: Point, way: Option<Dir>)
+        ensures { (m : Mosaic) → IsWay m point way → AreFlowsIn m self.old.flows → AreFlowsIn m self.new.flows }
     {
-        let index = index_in(self.side, self.corner, point)?;
-        self.flows[index as usize].way()
+        self.alone = self.alone.saturating_add(1);
+        self.flows.learn(point, way);
     }
 
-    fn learn(&mut self, point: Point, way: Option<Dir>)
-        ensures { (m : Mosaic) → IsWay m point way → AreFlowsIn m self.old → AreFlowsIn m self.new }
+    // Whether it pays to learn all points at once.
+    fn is_due(&self) -> bool {
+        !self.tried && self.alone >= MOST_ALONE
+    }
+
+    fn note_tried(&mut self)
+        ensures { self.new.flows ≡ self.old.flows }
     {
-        if let Some(index) = index_in(self.side, self.corner, point) {
-            self.flows[index as usize] = Flow::by(way);
+        self.tried = true;
+    }
+
+    // Learns what the filled levels of the corner's tile tell, where that is this one.
+    fn learn_all(&mut self, corner: Corner, filled: &Filled)
+        ensures { (m : Mosaic) → IsMosaic m → IsTileOf m corner filled.now → AreFlowsIn m self.old.flows → AreFlowsIn m self.new.flows }
+    {
+        if self.flows.corner() == corner {
+            self.flows.learn_all(filled);
         }
     }
 }
@@ -58,14 +82,15 @@ impl TileFlows {
 #[derive(Drop)]
 pub(crate) struct Flows {
     side: Side,
-    tiles: Vec<TileFlows>,
-    room: usize,
+    tiles: Vec<AskedTile>,
     // The place of the tile that is given up next.
     oldest: usize,
+    slots: Slots,
+    ghost few: { AreFew side (length tiles.items) },
 }
 
 impl Flows {
-    ghost use Rattle.drainage.specs.Flows.{AreFlows, AreFlowsIn};
+    ghost use Rattle.drainage.specs.Flows.{AreFlows};
 
     /// Nothing is known. Takes no memory.
     pub(crate) fn new(alloc: Global, side: Side) -> Flows
@@ -74,8 +99,8 @@ impl Flows {
         Flows {
             side,
             tiles: Vec::new(alloc),
-            room: most_tiles(side),
             oldest: 0,
+            slots: Slots::new(alloc),
         }
     }
 
@@ -97,7 +122,21 @@ impl Flows {
         ensures { (m : Mosaic) → AreFlows m self.now → IfSome result (IsWay m point) }
     {
         let t = self.place_of(corner)?;
-        self.tiles[t].way(point)
+        self.tiles[t].flows.way(point)
+    }
+
+    /// The points that drain straight to this one, each once, where it was learnt of all points around it where they drain,
+    /// and a tile holds them all.
+    pub(crate) fn feeders(&self, point: Point) -> Option<ArrayVec<Point, 8>>
+        ensures { (m : Mosaic) → IsMosaic m → AreFlows m self.now → IfSome result (λ found. OnLevels m (λ level. AreFeedersOf (terrain m) level point found.items)) }
+    {
+        let corners = holders(self.side, point);
+        let corners = corners.as_slice();
+        if corners.len() != 1 {
+            return None;
+        }
+        let t = self.place_of(corners[0])?;
+        self.tiles[t].flows.feeders(point)
     }
 
     /// Learns where the point drains, in a present tile that holds it, if there is memory for that.
@@ -123,17 +162,53 @@ impl Flows {
             self.tiles[t].learn(point, way);
             return;
         }
-        if let Ok(mut tile) = TileFlows::new(alloc, self.side, corner) {
+        if let Ok(mut tile) = AskedTile::new(alloc, self.side, corner) {
             tile.learn(point, way);
-            self.hold(tile);
+            self.hold(alloc, corner, tile);
         }
     }
 
-    // Holds this, in place of the tile that was begun the longest ago where there is no room.
-    fn hold(&mut self, tile: TileFlows)
-        ensures { (m : Mosaic) → AreFlowsIn m tile → AreFlows m self.old → AreFlows m self.new }
+    /// The corner of a tile that holds the point, where it pays to learn of all its points at once where they drain. Each
+    /// tile is told once.
+    pub(crate) fn due(&mut self, point: Point) -> Option<Corner>
+        ensures { (m : Mosaic) → AreFlows m self.old → AreFlows m self.new }
     {
-        if self.tiles.len() < self.room {
+        let t = self.due_place(point)?;
+        self.tiles[t].note_tried();
+        Some(self.tiles[t].flows.corner())
+    }
+
+    // The place of that tile.
+    fn due_place(&self, point: Point) -> Option<usize>
+        ensures { IfSome result (λ t. t < length self.now.tiles.items) }
+    {
+        let corners = holders(self.side, point);
+        for corner in corners.as_slice() {
+            if let Some(t) = self.place_of(*corner) {
+                if self.tiles[t].is_due() {
+                    return Some(t);
+                }
+            }
+        }
+        None
+    }
+
+    /// Learns where the points of the corner's tile drain, as its filled levels tell it.
+    pub(crate) fn learn_tile(&mut self, corner: Corner, filled: &Filled)
+        ensures { (m : Mosaic) → IsMosaic m → IsTileOf m corner filled.now → AreFlows m self.old → AreFlows m self.new }
+    {
+        if let Some(t) = self.place_of(corner) {
+            self.tiles[t].learn_all(corner, filled);
+        }
+    }
+
+    // Holds this of the corner's tile, in place of the tile that was begun the longest ago where there is no room.
+    fn hold(&mut self, alloc: Global, corner: Corner, tile: AskedTile)
+        ensures { (m : Mosaic) → AreFlowsIn m tile.flows → AreFlows m self.old → AreFlows m self.new }
+    {
+        let count = self.tiles.len();
+        if count < most_tiles(self.side) {
+            self.slots.note(alloc, corner, count);
             let _ = self.tiles.push(tile);
             return;
         }
@@ -143,6 +218,7 @@ impl Flows {
             0
         };
         if place < self.tiles.len() {
+            self.slots.note(alloc, corner, place);
             self.tiles[place] = tile;
             self.oldest = place + 1;
         }
@@ -152,13 +228,75 @@ impl Flows {
     fn place_of(&self, corner: Corner) -> Option<usize>
         ensures { IfSome result (λ t. t < length self.now.tiles.items) }
     {
+        let t = self.slots.place(corner);
+        if self.is_at(t, corner) {
+            return Some(t);
+        }
+        self.find(corner)
+    }
+
+    // Whether the corner's tile has this place.
+    fn is_at(&self, t: usize, corner: Corner) -> bool
+        ensures { IsTrue result → t < length self.now.tiles.items }
+    {
+        t < self.tiles.len() && self.tiles[t].flows.corner() == corner
+    }
+
+    // The place of the corner's tile, which may have a slot with another.
+    fn find(&self, corner: Corner) -> Option<usize>
+        ensures { IfSome result (λ t. t < length self.now.tiles.items) }
+    {
         for (t, tile) in self.tiles.iter().enumerate() {
-            if tile.corner == corner {
+            if tile.flows.corner() == corner {
                 return Some(t);
             }
         }
         None
     }
+}
+
+// Where tiles are to be found: by the last bits of their corners, the places of those that were begun last.
+#[derive(Drop)]
+struct Slots {
+    places: Vec<usize>,
+}
+
+impl Slots {
+    fn new(alloc: Global) -> Slots {
+        Slots {
+            places: Vec::new(alloc),
+        }
+    }
+
+    // Notes where the corner's tile is to be found, if there is memory for it.
+    fn note(&mut self, alloc: Global, corner: Corner, place: usize) {
+        if self.places.is_empty() {
+            if let Ok(places) = vec![in alloc; 0; SLOTS] {
+                self.places = places;
+            }
+        }
+        let slot = slot_of(corner);
+        if slot < self.places.len() {
+            self.places[slot] = place;
+        }
+    }
+
+    // Where the corner's tile is to be found, unless another has its slot, or it isn't there.
+    fn place(&self, corner: Corner) -> usize {
+        let slot = slot_of(corner);
+        if slot < self.places.len() {
+            self.places[slot]
+        } else {
+            0
+        }
+    }
+}
+
+// The slot of the corner's tile.
+fn slot_of(corner: Corner) -> usize {
+    let lat = (i32::from(corner.lat) + 90) as usize;
+    let lon = (i32::from(corner.lon) + 180) as usize;
+    lat % 16 * 16 + lon % 16
 }
 
 // The first of the present tiles that hold the point.
@@ -173,6 +311,13 @@ fn present_holder<S: Samples>(samples: &S, side: Side, point: Point) -> Option<C
 }
 
 // Of how many tiles of this side the flows are held.
-fn most_tiles(side: Side) -> usize {
-    (MOST_BYTES / side.area() as usize).max(FEWEST_TILES)
+fn most_tiles(side: Side) -> usize
+    ensures { (count : ℕ) → count ≤ result → AreFew side count }
+{
+    let most = MOST_BYTES / side.area() as usize;
+    if most < FEWEST_TILES {
+        FEWEST_TILES
+    } else {
+        most
+    }
 }

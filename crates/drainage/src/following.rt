@@ -17,6 +17,8 @@ use crate::asking::check_ground;
 use crate::drainage_cache::DrainageCache;
 use crate::everywhere::{far, learn_all};
 use crate::filling::level;
+use crate::learning::learn_tile;
+use arrayvec::ArrayVec;
 use catalogue::share_tile;
 use flow_d8::{Directions, FilledLevels, Near, direction_at};
 use lattice::{Dir, Point, Refusal};
@@ -121,6 +123,14 @@ impl<S: Labellings> FilledLevels<S> for DrainageCache {
 
     fn learn_all(&mut self, alloc: Global, source: &mut S) -> Result<(), Refusal> {
         learn_all(alloc, source, self)
+    }
+
+    fn feeders(&self, _source: &S, point: Point) -> Option<ArrayVec<Point, 8>> {
+        self.feeders_of(point)
+    }
+
+    fn learn_tile(&mut self, alloc: Global, source: &mut S, point: Point) -> Result<bool, Refusal> {
+        learn_tile(alloc, source, self, point)
     }
 
     fn share_tile(&self, source: &S, point: Point, other: Point) -> bool {

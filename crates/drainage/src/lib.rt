@@ -24,6 +24,7 @@ mod heights;
 mod invalidating;
 mod labelling_cache;
 mod laws;
+mod learning;
 mod nearby;
 mod outlets;
 mod reaching;

@@ -1,12 +1,13 @@
 use Rattle.std.proofs.Common.{sym, subst}
 use Rattle.std.proofs.lemmas.List.Elements.{All-set}
-use Rattle.drainage.specs.Flows.{AreFlowsIn}
+use Rattle.flow_d8.specs.TileFlows.{AreFlowsIn}
+use Rattle.drainage.specs.declared.flows.AskedTile.{AskedTile}
 use Rattle.drainage.proofs.flows.Flows.learn_in.Goals as goal
 
 pub returns-in-Some : goal.returns-in-Some
 returns-in-Some c m right are =
-    let there = subst (AreFlowsIn m) (sym c.index_mut.ensures.value) (are c.in-Some.t c.index_mut.result.now c.in-Some.ensures) in
-    All-set (AreFlowsIn m) c.args.self.now.tiles.items c.in-Some.t c.learn.new.self (c.learn.ensures m right there) are
+    let there = subst (λ (tile : AskedTile). AreFlowsIn m tile.flows) (sym c.index_mut.ensures.value) (are c.in-Some.t c.index_mut.result.now c.in-Some.ensures) in
+    All-set (λ (tile : AskedTile). AreFlowsIn m tile.flows) c.args.self.now.tiles.items c.in-Some.t c.learn.new.self (c.learn.ensures m right there) are
 
 pub returns-in-Ok : goal.returns-in-Ok
 returns-in-Ok c m right are = c.hold.ensures m (c.learn-in-Ok.ensures m right (c.in-Ok.ensures m)) are
