@@ -16,7 +16,7 @@ use Rattle.flow_d8.proofs.Compass.{same_order, order_below}
 use Rattle.flow_d8.proofs.Unique.{one_direction}
 use Rattle.flow_d8.specs.LevelsAround.{IsLevelAt}
 use Rattle.flow_d8.proofs.Nearby.{found_ground}
-use Rattle.watershed.specs.Search.{IsFeeder}
+use Rattle.flow_d8.specs.Feeders.{IsFeeder}
 use Rattle.watershed.specs.Feeding.{IsFeederAdded}
 
 module _ (Feeds : Point → Point → Type 0) (p : Point) where

@@ -15,7 +15,8 @@ use Rattle.flow_d8.specs.Directions.{Directions, DrainsTo, AreDirectionsOf, dire
 use Rattle.flow_d8.proofs.Unique.{one_direction}
 use Rattle.watershed.specs.Runs.{AreRuns}
 use Rattle.watershed.specs.declared.runs.Run.{Run}
-use Rattle.watershed.specs.Search.{IsFeeder, LeadsTo, AreUpstream}
+use Rattle.flow_d8.specs.Feeders.{IsFeeder}
+use Rattle.watershed.specs.Search.{LeadsTo, AreUpstream}
 use Rattle.watershed.proofs.Found.{empty_runs}
 
 module _ (t : Terrain Point) (level : Point → ℤ) (p : Point) where

@@ -1,25 +1,18 @@
 -- The search up the flow paths: which points lead to a point, and which are found.
-use Rattle.std.specs.Prelude.{◌≡◌, ℕ, zero, suc, ℤ, IsTrue, Some}
+use Rattle.std.specs.Prelude.{◌≡◌, ℕ, zero, suc, ℤ, IsTrue}
 use Rattle.lattice.specs.declared.point.Point.{Point}
-use Rattle.lattice.specs.declared.direction.Dir.{Dir}
-use Rattle.lattice.specs.Steps.{step}
 use Rattle.lattice.specs.Terrain.{Terrain}
-use Rattle.flow_d8.specs.Drainage.{IsDirection}
+use Rattle.flow_d8.specs.Feeders.{IsFeeder}
 
 module _ (t : Terrain Point) (level : Point → ℤ) where
-  -- x is ground that drains straight to y
-  pub record IsFeeder (x y : Point) : Type 0 where
-    pub on_ground : IsTrue (t.is_ground x)
-    pub drains : (e : Dir) × (IsDirection t level x (Some e) × (step e x ≡ y))
-
   -- so many such steps lead from x to p
   abbrev pub LeadsTo : Point → ℕ → Point → Type 0
   LeadsTo x zero p = x ≡ p
-  LeadsTo x (suc k) p = (y : Point) × (IsFeeder x y × LeadsTo y k p)
+  LeadsTo x (suc k) p = (y : Point) × (IsFeeder t level x y × LeadsTo y k p)
 
   -- the points that lead to p, where p is ground
   pub record AreUpstream (p : Point) (Found : Point → Type 0) : Type 0 where
     pub lead : (x : Point) → Found x → (k : ℕ) × LeadsTo x k p
     pub begins : IsTrue (t.is_ground p) → Found p
     pub elsewhere : (x : Point) → Found x → IsTrue (t.is_ground p)
-    pub closed : (q x : Point) → Found q → IsFeeder x q → Found x
+    pub closed : (q x : Point) → Found q → IsFeeder t level x q → Found x

@@ -5,7 +5,7 @@ ghost use Rattle.lattice.specs.declared.refusal.Refusal.{Refusal};
 ghost use Rattle.lattice.specs.declared.refusal.Refusal.TheVariants.{NoMemory};
 ghost use Rattle.lattice.specs.Mosaic.{Mosaic};
 ghost use Rattle.lattice.specs.Ground.{terrain, is_ground as is_solid};
-ghost use Rattle.watershed.specs.Search.{IsFeeder};
+ghost use Rattle.flow_d8.specs.Feeders.{IsFeeder};
 
 use arrayvec::ArrayVec;
 use lattice::{Point, Refusal};

@@ -14,7 +14,7 @@ ghost use Rattle.flow_d8.specs.LevelsAround.{OnLevels};
 ghost use Rattle.flow_d8.specs.Asking.{Asks};
 ghost use Rattle.flow_d8.specs.Flats.{AreFlatsOf};
 ghost use Rattle.watershed.specs.Runs.{AreRuns};
-ghost use Rattle.watershed.specs.Search.{IsFeeder};
+ghost use Rattle.flow_d8.specs.Feeders.{IsFeeder};
 ghost use Rattle.watershed.specs.Feeding.{IsFeederAdded};
 
 use crate::feeders::Feeders;
@@ -57,7 +57,7 @@ pub fn watershed_at<S, L: FilledLevels<S>>(
     wide_watershed(alloc, levels, source, point)
 }
 
-// The watershed of a point that has many.
+// The watershed of a point that has many: where all points drain is learnt first, if they are few enough.
 fn wide_watershed<S, L: FilledLevels<S>>(
     alloc: Global,
     levels: &mut L,
@@ -73,9 +73,6 @@ fn wide_watershed<S, L: FilledLevels<S>>(
     ensures fits { L.fits levels.new source.new }
 {
     levels.learn_all(alloc, source)?;
-    if let Some(directions) = levels.directions(source) {
-        return watershed(alloc, directions, point);
-    }
     by_points(alloc, levels, source, point)
 }
 
@@ -170,6 +167,29 @@ impl<'a, 'b, 'c, S, L: FilledLevels<S>> Feeders for Asked<'a, 'b, 'c, S, L> {
 
 // The points that drain straight to the point.
 fn feeders<S, L: FilledLevels<S>>(
+    alloc: Global,
+    levels: &mut L,
+    source: &mut S,
+    flats: &mut Flats,
+    point: Point,
+) -> Result<ArrayVec<Point, 8>, Refusal>
+    requires fits { L.fits levels.old source.old }
+    requires flats { AreFlatsOf L.FilledLevels levels.old source.old flats.old }
+    ensures feeders { L.is_honest levels.new source.new → IfOk result (λ found. OnLevels (L.mosaic levels.old source.old) (λ level. (x : Point) → Contains found.items x ↔ IsFeeder (terrain (L.mosaic levels.old source.old)) level x point)) }
+    ensures flats { OnOk result (AreFlatsOf L.FilledLevels levels.new source.new flats.new) }
+    ensures refusal { IfErr result (L.refuses levels.old source.old levels.new source.new) }
+    ensures asks { Asks L.FilledLevels levels.old source.old levels.new source.new }
+    ensures keeps { OnOk result (L.keeps levels.old source.old levels.new source.new) }
+    ensures fits { L.fits levels.new source.new }
+{
+    if let Some(found) = levels.feeders(source, point) {
+        return Ok(found);
+    }
+    feeders_around(alloc, levels, source, flats, point)
+}
+
+// The points around the point that drain straight to it, each of them asked.
+fn feeders_around<S, L: FilledLevels<S>>(
     alloc: Global,
     levels: &mut L,
     source: &mut S,

@@ -4,7 +4,7 @@ use Rattle.lattice.specs.Steps.{step}
 use Rattle.lattice.specs.Ground.{terrain}
 use Rattle.flow_d8.proofs.Fitting.{ground_fits}
 use Rattle.flow_d8.proofs.MosaicGrid.{mosaic_is_grid}
-use Rattle.watershed.specs.Search.{IsFeeder}
+use Rattle.flow_d8.specs.Feeders.{IsFeeder}
 use Rattle.watershed.proofs.Feeding.{leads_feeds, feeds_leads}
 use Rattle.watershed.proofs.point_search.add_feeder.Goals as goal
 

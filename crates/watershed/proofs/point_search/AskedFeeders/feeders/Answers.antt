@@ -4,7 +4,7 @@ use Rattle.std.proofs.lemmas.Result.{IfOk-weaker}
 use Rattle.lattice.specs.Mosaic.{Mosaic}
 use Rattle.lattice.specs.Ground.{terrain}
 use Rattle.flow_d8.specs.Drainage.{AreFilledLevels}
-use Rattle.watershed.specs.Search.{IsFeeder}
+use Rattle.flow_d8.specs.Feeders.{IsFeeder}
 use Rattle.watershed.proofs.Feeding.{given_later}
 use Rattle.watershed.proofs.point_search.AskedFeeders.feeders.Goals as goal
 

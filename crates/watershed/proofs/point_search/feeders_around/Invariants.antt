@@ -1,12 +1,12 @@
 use Rattle.std.proofs.Common.{◌≤◌}
 use Rattle.arrayvec.specs.ArrayVec.{array_vec_len}
 use Rattle.lattice.specs.Ground.{terrain}
-use Rattle.watershed.specs.Search.{IsFeeder}
+use Rattle.flow_d8.specs.Feeders.{IsFeeder}
 use Rattle.flow_d8.specs.LevelsAround.{OnLevels}
 use Rattle.flow_d8.specs.Asking.{Asks}
 use Rattle.flow_d8.specs.Flats.{AreFlatsOf}
 use Rattle.watershed.proofs.Feeding.{AreFeedersBy}
-use Rattle.watershed.proofs.point_search.feeders.Given as goal
+use Rattle.watershed.proofs.point_search.feeders_around.Given as goal
 
 abbrev pub invariant-loop-i : goal.invariant-loop-i
 invariant-loop-i g l = record {
