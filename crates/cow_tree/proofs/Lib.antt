@@ -30,3 +30,4 @@ pub mod SampleReads
 pub mod TreeReads
 pub mod LongerDisks
 pub mod UpgradeLands
+pub mod Uncommitted

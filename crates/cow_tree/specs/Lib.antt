@@ -12,4 +12,5 @@ pub mod Sinks
 pub mod Staged
 pub mod Stored
 pub mod Trees
+pub mod Uncommitted
 pub mod Upgrades

@@ -64,6 +64,7 @@ pub struct Tree<D: Disk> {
 impl<D: Disk> Tree<D> {
     ghost use Rattle.cow_tree.specs.Reading.{Reads};
     ghost use Rattle.cow_tree.specs.Trees.{disk_of, root_of, page_map_of, has_failed, has_begun, corners_of, sinks_of, Holds, HasStaged, IsUnstaged, records_due, disk_after, staged_in, IsAt, MayRefuse};
+    ghost use Rattle.cow_tree.specs.Uncommitted.{CommitsNothing};
 
     /// Makes an empty store of this format on a disk. A fault before the Ok may leave anything.
     pub fn format(disk: &mut D, format: Format) -> Result<(), Refusal>
@@ -377,21 +378,15 @@ impl<D: Disk> Tree<D> {
         requires heights { plane ≡ Heights }
         requires present { Contains (corners_of self.old) c }
         requires index { i < pages_of (root_of self.old).side }
-        ensures size { D.size (disk_of self.new) ≡ D.size (disk_of self.old) }
-        ensures cause { IsErrOf result Device → HasRisen (D.failures (disk_of self.old)) (D.failures (disk_of self.new)) }
-        ensures later { D.failures (disk_of self.old) ≤ D.failures (disk_of self.new) }
+        ensures uncommitted { CommitsNothing D.Disk self.old self.new result }
         ensures refused { IfErr result (λ refusal. (refusal ≡ Device) ⊎ (refusal ≡ NoMemory)) }
         ensures writes { D.writes (disk_of self.new) ≤ D.writes (disk_of self.old) + (if has_begun self.old then 1 else 2) }
-        ensures honest { D.honest (disk_of self.new) → D.honest (disk_of self.old) }
-        ensures root { root_of self.new ≡ root_of self.old }
         ensures corners { corners_of self.new ≡ corners_of self.old }
         ensures sinks { sinks_of self.new ≡ sinks_of self.old }
         ensures works { has_failed self.new ≡ false ⊎ IsErrOf result Device }
-        ensures not_failed { OnOk result (has_failed self.new ≡ false) }
         ensures begun { OnOk result (has_begun self.new ≡ true) }
         ensures unchanged { IsErrOf result NoMemory → disk_of self.new ≡ disk_of self.old }
         ensures same { IsErrOf result NoMemory → staged_in D.Disk self.new ≡ staged_in D.Disk self.old }
-        ensures device { IsErrOf result Device → has_failed self.new ≡ true }
 
         // Heights that were staged before ask for no memory, and for no further record. By the second version one more index
         // page may be due.
@@ -405,12 +400,6 @@ impl<D: Disk> Tree<D> {
         // The page is staged, and nothing else.
         ensures staged { D.honest (disk_of self.new) → (s : Stored) → IsAt D.Disk self.old s
             → OnOk result (staged_in D.Disk self.new ≡ with_page c i page.now (staged_in D.Disk self.old)) }
-        ensures at { D.honest (disk_of self.new) → (s : Stored) → IsAt D.Disk self.old s
-            → has_failed self.new ≡ false → IsAt D.Disk self.new s }
-
-        // A stop at any moment leaves what is committed.
-        ensures any_moment { D.honest (disk_of self.new) → (s : Stored) → IsAt D.Disk self.old s
-            → LeavesOnly D.Disk (disk_of self.old) (disk_of self.new) (λ image. Stands (D.size (disk_of self.old)) image s) }
     {
         prove!(plane == Plane::Heights);
         self.page_map.rules();
@@ -451,18 +440,12 @@ impl<D: Disk> Tree<D> {
         requires absent { ¬ Contains (corners_of self.old) c }
         requires room { length (corners_of self.old) < (root_of self.old).capacity }
         requires whole { length bytes.now ≡ 2 * ((root_of self.old).side * (root_of self.old).side) }
-        ensures size { D.size (disk_of self.new) ≡ D.size (disk_of self.old) }
-        ensures cause { IsErrOf result Device → HasRisen (D.failures (disk_of self.old)) (D.failures (disk_of self.new)) }
-        ensures later { D.failures (disk_of self.old) ≤ D.failures (disk_of self.new) }
+        ensures uncommitted { CommitsNothing D.Disk self.old self.new result }
         ensures refused { IfErr result (λ refusal. (refusal ≡ Device) ⊎ (refusal ≡ NoMemory)) }
         ensures writes { D.writes (disk_of self.new) ≤ D.writes (disk_of self.old) + pages_of (root_of self.old).side + (if has_begun self.old then 0 else 1) }
-        ensures honest { D.honest (disk_of self.new) → D.honest (disk_of self.old) }
-        ensures root { root_of self.new ≡ root_of self.old }
         ensures works { has_failed self.new ≡ false ⊎ IsErrOf result Device }
-        ensures not_failed { OnOk result (has_failed self.new ≡ false) }
         ensures unchanged { IsErrOf result NoMemory → disk_of self.new ≡ disk_of self.old }
         ensures same { IsErrOf result NoMemory → staged_in D.Disk self.new ≡ staged_in D.Disk self.old }
-        ensures device { IsErrOf result Device → has_failed self.new ≡ true }
         ensures corners { OnOk result (corners_of self.new ≡ with_corner c (corners_of self.old)) }
         ensures same_corners { IsErrOf result NoMemory → corners_of self.new ≡ corners_of self.old }
         ensures sinks { sinks_of self.new ≡ sinks_of self.old }
@@ -474,12 +457,6 @@ impl<D: Disk> Tree<D> {
         // The tile is staged, and nothing else.
         ensures staged { D.honest (disk_of self.new) → (s : Stored) → IsAt D.Disk self.old s
             → OnOk result (staged_in D.Disk self.new ≡ with_tile (stale_tile c (pages_of_bytes (pages_of (root_of self.old).side) bytes.now)) (staged_in D.Disk self.old)) }
-        ensures at { D.honest (disk_of self.new) → (s : Stored) → IsAt D.Disk self.old s
-            → has_failed self.new ≡ false → IsAt D.Disk self.new s }
-
-        // A stop at any moment leaves what is committed.
-        ensures any_moment { D.honest (disk_of self.new) → (s : Stored) → IsAt D.Disk self.old s
-            → LeavesOnly D.Disk (disk_of self.old) (disk_of self.new) (λ image. Stands (D.size (disk_of self.old)) image s) }
     {
         prove!(plane == Plane::Heights);
         self.page_map.tile_for_writing(c)?;
@@ -498,33 +475,21 @@ impl<D: Disk> Tree<D> {
         requires unstaged { IsUnstaged self.old }
         requires levels { length levels.now ≡ 2 * ((root_of self.old).side * (root_of self.old).side) }
         requires labels { length labels.now ≡ 2 * ((root_of self.old).side * (root_of self.old).side) }
-        ensures size { D.size (disk_of self.new) ≡ D.size (disk_of self.old) }
-        ensures cause { IsErrOf result Device → HasRisen (D.failures (disk_of self.old)) (D.failures (disk_of self.new)) }
-        ensures later { D.failures (disk_of self.old) ≤ D.failures (disk_of self.new) }
+        ensures uncommitted { CommitsNothing D.Disk self.old self.new result }
         ensures refused { IfErr result (λ refusal. (refusal ≡ Device) ⊎ (refusal ≡ NoMemory)) }
         ensures writes { D.writes (disk_of self.new) ≤ D.writes (disk_of self.old) + 2 * pages_of (root_of self.old).side + (if has_begun self.old then 0 else 1) }
         ensures begun { OnOk result (D.writes (disk_of self.new) + (if has_begun self.new then 0 else 1)
             ≤ D.writes (disk_of self.old) + 2 * pages_of (root_of self.old).side + (if has_begun self.old then 0 else 1)) }
-        ensures honest { D.honest (disk_of self.new) → D.honest (disk_of self.old) }
-        ensures root { root_of self.new ≡ root_of self.old }
         ensures corners { corners_of self.new ≡ corners_of self.old }
         ensures sinks { sinks_of self.new ≡ sinks_of self.old }
         ensures works { has_failed self.new ≡ false ⊎ IsErrOf result Device }
-        ensures not_failed { OnOk result (has_failed self.new ≡ false) }
         ensures unchanged { IsErrOf result NoMemory → disk_of self.new ≡ disk_of self.old }
         ensures same { IsErrOf result NoMemory → page_map_of self.new ≡ page_map_of self.old }
-        ensures device { IsErrOf result Device → has_failed self.new ≡ true }
         ensures due { records_due self.new ≤ records_due self.old + 2 * (1 + index_pages_of (format_of (root_of self.old))) }
 
         // The levels and labels are staged, and nothing else.
         ensures staged { D.honest (disk_of self.new) → (s : Stored) → IsAt D.Disk self.old s
             → OnOk result (staged_in D.Disk self.new ≡ with_kept c (planes_of_bytes (root_of self.old).side levels.now labels.now) (staged_in D.Disk self.old)) }
-        ensures at { D.honest (disk_of self.new) → (s : Stored) → IsAt D.Disk self.old s
-            → has_failed self.new ≡ false → IsAt D.Disk self.new s }
-
-        // A stop at any moment leaves what is committed.
-        ensures any_moment { D.honest (disk_of self.new) → (s : Stored) → IsAt D.Disk self.old s
-            → LeavesOnly D.Disk (disk_of self.old) (disk_of self.new) (λ image. Stands (D.size (disk_of self.old)) image s) }
     {
         self.page_map.rules();
         self.page_map.keep(c)?;

@@ -2,4 +2,3 @@ pub mod KeptTiles
 pub mod RootStored
 pub mod Settled
 pub mod StepEnds
-pub mod Uncommitted

@@ -20,10 +20,10 @@ use Rattle.cow_tree.proofs.ReadOnly.{never_refused}
 use Rattle.derived.specs.Clean.{IsClean}
 use Rattle.derived.specs.Kept.{AreRight, KeepsRight, mosaic_stored, stale_in, stale_corners}
 use Rattle.derived.specs.Steps.{IsStepped, StandsStepped, Stays, MaySteps, EndsStep, StepsOn, HasStepped}
-use Rattle.derived.specs.Uncommitted.{CommitsNothing}
+use Rattle.cow_tree.specs.Uncommitted.{CommitsNothing}
 use Rattle.derived.proofs.KeptTiles.{is_stepped}
 use Rattle.derived.proofs.RootStored.{count_at, number_at, stale_at}
-use Rattle.derived.proofs.Uncommitted.{refusal_is}
+use Rattle.cow_tree.proofs.Uncommitted.{refusal_is}
 
 module _ {D : Type 0} (g : Ghosts D) (P : Mosaic → Type 0) (seen : (disk : D) → g.honest disk → g.may disk (g.seen disk)) where
   -- ---- nothing is committed, and nothing failed

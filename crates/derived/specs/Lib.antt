@@ -1,4 +1,3 @@
 pub mod Clean
 pub mod Kept
 pub mod Steps
-pub mod Uncommitted

@@ -27,7 +27,7 @@ use Rattle.cow_tree.specs.Trees.{disk_of, root_of, has_failed, sinks_of, staged_
 use Rattle.cow_tree.specs.declared.tree.Tree.{Tree}
 use Rattle.store.specs.Editing.{StagesOnly}
 use Rattle.store.specs.TreeStates.{IsInState}
-pub use Rattle.derived.proofs.Uncommitted.{reading}
+pub use Rattle.cow_tree.proofs.Uncommitted.{reading}
 use Rattle.store.proofs.HeldTiles.{AreTilesOf, whole_filled}
 use Rattle.store.proofs.Holding.{held}
 

@@ -6,8 +6,8 @@ use Rattle.lattice.specs.declared.refusal.Refusal.{Refusal}
 use Rattle.lattice.specs.declared.refusal.Refusal.TheVariants.{Device}
 use Rattle.cow_tree.specs.declared.tree.Tree.{Tree}
 use Rattle.cow_tree.proofs.ReadOnly.{never_refused}
-pub use Rattle.derived.proofs.Uncommitted.{refused_as, refusal_is, always, each_stands, in_memory, uncommitted_on, given_up}
-use Rattle.derived.proofs.Uncommitted.{uncommitted_as}
+pub use Rattle.cow_tree.proofs.Uncommitted.{refused_as, refusal_is, always, each_stands, in_memory, uncommitted_on, given_up}
+use Rattle.cow_tree.proofs.Uncommitted.{uncommitted_as}
 use Rattle.store.specs.Editing.{StagesOnly}
 
 module _ {D : Type 0} (g : Ghosts D) where

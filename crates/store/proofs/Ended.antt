@@ -18,7 +18,7 @@ use Rattle.cow_tree.specs.Trees.{disk_of, root_of, has_failed, sinks_of, staged_
 use Rattle.cow_tree.specs.declared.tree.Tree.{Tree}
 use Rattle.cow_tree.proofs.ReadOnly.{never_refused}
 use Rattle.store.specs.Ended.{LeavesOr, Ending, EndsAt, HasEnded}
-use Rattle.derived.specs.Uncommitted.{CommitsNothing}
+use Rattle.cow_tree.specs.Uncommitted.{CommitsNothing}
 use Rattle.store.specs.Standing.{Holds, StandsFor}
 use Rattle.store.specs.States.{StandsForState, IsStateOf}
 use Rattle.store.specs.StoreState.{known_by}

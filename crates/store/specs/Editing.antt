@@ -16,7 +16,7 @@ use Rattle.edits.specs.Edits.{edit_made}
 use Rattle.cow_tree.specs.Stored.{IsPage, StoredTile, mosaic_of_tiles}
 use Rattle.cow_tree.specs.Trees.{disk_of, root_of, has_begun, has_failed, corners_of, sinks_of, records_due, HasStaged, staged_in}
 use Rattle.cow_tree.specs.declared.tree.Tree.{Tree}
-use Rattle.derived.specs.Uncommitted.{CommitsNothing}
+use Rattle.cow_tree.specs.Uncommitted.{CommitsNothing}
 
 -- the stored tile has whole pages enough for its heights
 pub record IsFilled (n : ℕ) (t : StoredTile) : Type 0 where

@@ -10,7 +10,7 @@ use Rattle.engine.specs.State.{State, made_by}
 use Rattle.cow_tree.specs.Stored.{Stored, next_commit}
 use Rattle.cow_tree.specs.Trees.{disk_of, root_of, has_failed, sinks_of, staged_in}
 use Rattle.cow_tree.specs.declared.tree.Tree.{Tree}
-use Rattle.derived.specs.Uncommitted.{CommitsNothing}
+use Rattle.cow_tree.specs.Uncommitted.{CommitsNothing}
 use Rattle.store.specs.Ended.{IsApplied}
 use Rattle.store.specs.Standing.{Holds}
 use Rattle.store.specs.TreeStates.{IsInState}

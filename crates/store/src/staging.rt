@@ -6,7 +6,7 @@ ghost use Rattle.edits.specs.Edits.{FitsIn, HasRoom, FindsVoids};
 ghost use Rattle.cow_tree.specs.Stored.{Stored};
 ghost use Rattle.cow_tree.specs.Trees.{disk_of, root_of, has_failed, corners_of, sinks_of, staged_in, HasStaged, IsAt};
 ghost use Rattle.store.specs.Editing.{IsGiven, IsMade, IsRefusedEarly, StagesFew, AreTilesOf};
-ghost use Rattle.derived.specs.Uncommitted.{CommitsNothing};
+ghost use Rattle.cow_tree.specs.Uncommitted.{CommitsNothing};
 
 use crate::heights::stage_heights;
 use crate::voids::{Patch, stage_voids};

@@ -1,5 +1,5 @@
-use Rattle.std.proofs.Common.{◌≡◌, ⊎_elim, false, List, refl, sym, ap, ◌∙◌, subst}
-use Rattle.std.specs.Prelude.{Option, Result, Ok, Err, Contains}
+use Rattle.std.proofs.Common.{◌≡◌, ⊎_elim, List, refl, sym, ap, ◌∙◌, subst}
+use Rattle.std.specs.Prelude.{Option, Result, Err, Contains}
 use Rattle.lattice.specs.Corners.{Corner}
 use Rattle.lattice.specs.Mosaic.{Mosaic}
 use Rattle.lattice.specs.declared.refusal.Refusal.{Refusal}
@@ -8,16 +8,15 @@ use Rattle.page_codec.specs.Roots.{RootValue}
 use Rattle.tile_flood.specs.Kept.{AreKeptOf}
 use Rattle.cow_tree.specs.Kept.{planes_of_bytes, with_kept}
 use Rattle.cow_tree.specs.Stored.{KeptPlanes, Stored}
-use Rattle.cow_tree.specs.Trees.{disk_of, root_of, has_failed, sinks_of, staged_in, IsAt}
-use Rattle.cow_tree.proofs.ReadOnly.{never_refused}
+use Rattle.cow_tree.specs.Trees.{disk_of, root_of, sinks_of, staged_in, IsAt}
 use Rattle.derived.specs.Kept.{AreRight, KeepsRight, mosaic_stored}
 use Rattle.derived.specs.Steps.{HasStepped}
-use Rattle.derived.specs.Uncommitted.{CommitsNothing}
+use Rattle.cow_tree.specs.Uncommitted.{CommitsNothing}
 use Rattle.derived.proofs.KeptTiles.{planes_right, stale_present}
 use Rattle.derived.proofs.RootStored.{side_at}
 use Rattle.derived.proofs.Settled.{settled_at, still_clean, staged_same}
 use Rattle.derived.proofs.StepEnds.{no_memory, fails_before, fails_in_commit, commits_it}
-use Rattle.derived.proofs.Uncommitted.{refused_as}
+use Rattle.cow_tree.proofs.Uncommitted.{refused_as}
 use Rattle.derived.proofs.stepping.commit_planes.Goals as goal
 use Rattle.derived.proofs.stepping.commit_planes.Goals.{After-stage_kept}
 
@@ -35,17 +34,7 @@ returns-in_err-stage_kept-clause-stepped g c =
     let refused = c.in_err-stage_kept.ensures in
     let r : Refusal = c.in_err-stage_kept.field-0.0 in
     let seen = g.met.D.Disk.seen_may in
-    let any : CommitsNothing {T = Unit {0}} d old mid (Err r) = record {
-      size = does.size;
-      later = does.later;
-      device = refused.cause;
-      failed = refused.device;
-      works = tt;
-      honest = does.honest;
-      root = does.root;
-      at = does.at;
-      run = does.any_moment;
-    } in
+    let any : CommitsNothing {T = Unit {0}} d old mid (Err r) = refused.uncommitted in
     subst (λ (result : Result (Option Corner) Refusal). HasStepped d P old mid result) (sym (refused_as c.from_residual.result r c.from_residual.ensures.1))
     (⊎_elim
     (λ device.
@@ -58,29 +47,14 @@ returns-in_err-stage_kept-clause-stepped g c =
     subst (λ (x : Refusal). HasStepped d P old mid (Err x)) (sym memory)
     (no_memory d P seen old mid (Err r) any
     (⊎_elim (λ works. works) (λ device. absurd (let e : Err NoMemory ≡ Err Device = sym is ∙ device in cc)) refused.works)
-    (still_clean d old mid page_map does.root does.corners c.requires.clean) (ap d.writes disk)
-    (λ honest s at. let was = settled_at d old s c.requires.unstaged c.requires.declared at (seen (disk_of old) (does.honest honest)) in (staged_same d old mid disk page_map ∙ was.tiles, does.sinks ∙ was.sinks))))
+    (still_clean d old mid page_map does.uncommitted.root does.corners c.requires.clean) (ap d.writes disk)
+    (λ honest s at. let was = settled_at d old s c.requires.unstaged c.requires.declared at (seen (disk_of old) (does.uncommitted.honest honest)) in (staged_same d old mid disk page_map ∙ was.tiles, does.sinks ∙ was.sinks))))
     refused.refused)
 
 -- the planes are staged, and nothing is committed yet
 module _ (g : _) (c : After-stage_kept g) where
   abbrev kept : KeptPlanes
   kept = planes_of_bytes (root_of c.args.tree.now).side c.args.levels.now c.args.labels.now
-
-  nothing_done : has_failed c.stage_kept.new.self ≡ false → CommitsNothing {T = Unit {0}} g.D.Disk c.args.tree.now c.stage_kept.new.self (Ok tt)
-  nothing_done works =
-      let does = c.stage_kept.ensures in
-      record {
-        size = does.size;
-        later = does.later;
-        device = λ is. never_refused tt Device is;
-        failed = λ is. never_refused tt Device is;
-        works = works;
-        honest = does.honest;
-        root = does.root;
-        at = does.at;
-        run = does.any_moment;
-      }
 
   right_then : g.D.Disk.honest (disk_of c.args.tree.now) → (s : Stored) → AreKeptOf (mosaic_stored s) c.args.corner c.args.levels.now c.args.labels.now → IsAt g.D.Disk c.args.tree.now s → KeepsRight s → AreRight (mosaic_stored s) c.args.corner kept
   right_then honest s p at keeps =
@@ -90,7 +64,7 @@ module _ (g : _) (c : After-stage_kept g) where
   settled : g.D.Disk.honest (disk_of c.stage_kept.new.self) → (s : Stored) → IsAt g.D.Disk c.args.tree.now s → (staged_in g.D.Disk c.args.tree.now ≡ s.tiles) × (sinks_of c.stage_kept.new.self ≡ s.sinks)
   settled honest s at =
       let does = c.stage_kept.ensures in
-      let was = settled_at g.D.Disk c.args.tree.now s c.requires.unstaged c.requires.declared at (g.met.D.Disk.seen_may (disk_of c.args.tree.now) (does.honest honest)) in
+      let was = settled_at g.D.Disk c.args.tree.now s c.requires.unstaged c.requires.declared at (g.met.D.Disk.seen_may (disk_of c.args.tree.now) (does.uncommitted.honest honest)) in
       (was.tiles, does.sinks ∙ was.sinks)
 
 pub returns-in_err-commit-clause-stepped : goal.returns-in_err-commit-clause-stepped
@@ -103,7 +77,7 @@ returns-in_err-commit-clause-stepped g c =
     let new = c.commit.new.self in
     subst (λ (result : Result (Option Corner) Refusal). HasStepped d P old new result)
     (sym (refused_as c.from_residual-in_err-commit.result c.in_err-commit.field-0.0 c.from_residual-in_err-commit.ensures.1 ∙ ap (λ (r : Refusal). Err r) c.in_err-commit.ensures.refused))
-    (fails_in_commit d P g.met.D.Disk.seen_may old mid new c.args.corner c.requires.stale c.requires.number (kept g after) (nothing_done g after c.in_ok-stage_kept.ensures.not_failed)
+    (fails_in_commit d P g.met.D.Disk.seen_may old mid new c.args.corner c.requires.stale c.requires.number (kept g after) c.in_ok-stage_kept.ensures.uncommitted
     (λ honest s at. (c.in_ok-stage_kept.ensures.staged honest s at ∙ ap (with_kept c.args.corner (kept g after)) (settled g after honest s at).0, (settled g after honest s at).1))
     (right_then g after)
     c.count-count.result (c.count-count.ensures.value ∙ ap (λ (r : RootValue). r.count) c.current.ensures)
@@ -115,7 +89,7 @@ returns-clause-stepped g c =
     let after = (goal.at.returns-clause-stepped g c).After-stage_kept in
     let d = g.D.Disk in
     let P : Mosaic → Type 0 = λ m. AreKeptOf m c.args.corner c.args.levels.now c.args.labels.now in
-    commits_it d P g.met.D.Disk.seen_may c.args.tree.now c.stage_kept.new.self c.commit.new.self c.args.corner c.requires.stale c.requires.number (kept g after) (nothing_done g after c.in_ok-stage_kept.ensures.not_failed)
+    commits_it d P g.met.D.Disk.seen_may c.args.tree.now c.stage_kept.new.self c.commit.new.self c.args.corner c.requires.stale c.requires.number (kept g after) c.in_ok-stage_kept.ensures.uncommitted
     (λ honest s at. (c.in_ok-stage_kept.ensures.staged honest s at ∙ ap (with_kept c.args.corner (kept g after)) (settled g after honest s at).0, (settled g after honest s at).1))
     (right_then g after)
     c.count-count.result (c.count-count.ensures.value ∙ ap (λ (r : RootValue). r.count) c.current.ensures)

@@ -14,11 +14,11 @@ use Rattle.cow_tree.specs.Trees.{disk_of, root_of}
 use Rattle.cow_tree.proofs.ReadOnly.{never_refused}
 use Rattle.derived.specs.Kept.{stale_in, mosaic_stored}
 use Rattle.derived.specs.Steps.{HasStepped}
-use Rattle.derived.specs.Uncommitted.{CommitsNothing}
+use Rattle.cow_tree.specs.Uncommitted.{CommitsNothing}
 use Rattle.derived.proofs.KeptTiles.{stale_present}
 use Rattle.derived.proofs.Settled.{settled_at, still_clean, mosaic_settled, readable_settled, mosaic_read}
 use Rattle.derived.proofs.StepEnds.{no_memory, fails_before, premised, stepped_after}
-use Rattle.derived.proofs.Uncommitted.{refused_as, reading}
+use Rattle.cow_tree.proofs.Uncommitted.{refused_as, reading}
 use Rattle.derived.proofs.stepping.keep.Goals as goal
 
 pub read_planes-requires-clause-present : goal.read_planes-requires-clause-present

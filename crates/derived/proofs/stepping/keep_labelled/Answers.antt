@@ -9,10 +9,10 @@ use Rattle.tile_flood.specs.Labelling.{IsLabelling}
 use Rattle.tile_labellings.specs.Labellings.{IsFlooded}
 use Rattle.cow_tree.specs.Trees.{disk_of}
 use Rattle.derived.specs.Steps.{HasStepped}
-use Rattle.derived.specs.Uncommitted.{CommitsNothing}
+use Rattle.cow_tree.specs.Uncommitted.{CommitsNothing}
 use Rattle.derived.proofs.Settled.{settled_at}
 use Rattle.derived.proofs.StepEnds.{no_memory, premised}
-use Rattle.derived.proofs.Uncommitted.{in_memory, refused_as}
+use Rattle.cow_tree.proofs.Uncommitted.{in_memory, refused_as}
 use Rattle.derived.proofs.stepping.keep_labelled.Goals as goal
 
 pub commit_planes-requires-clause-levels : goal.commit_planes-requires-clause-levels

@@ -11,9 +11,9 @@ use Rattle.cow_tree.specs.Trees.{disk_of, root_of, has_failed, sinks_of, staged_
 use Rattle.cow_tree.proofs.ReadOnly.{never_refused}
 use Rattle.derived.specs.Clean.{IsClean}
 use Rattle.derived.specs.Kept.{stale_among, stale_in, mosaic_stored}
-use Rattle.derived.specs.Uncommitted.{CommitsNothing}
+use Rattle.cow_tree.specs.Uncommitted.{CommitsNothing}
 use Rattle.derived.proofs.StepEnds.{none_is_stale, is_worn, premised, stepped_after}
-use Rattle.derived.proofs.Uncommitted.{in_memory, given_up}
+use Rattle.cow_tree.proofs.Uncommitted.{in_memory, given_up}
 use Rattle.derived.proofs.stepping.step_held.Goals as goal
 use Rattle.derived.proofs.stepping.step_held.Goals.{After-abandon}
 

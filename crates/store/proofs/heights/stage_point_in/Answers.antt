@@ -92,7 +92,7 @@ returns-clause-pages g c =
     record {
       stages = stages_on d old mid new tt c.stage.result (page_read d old mid ok read)
           (record {
-            uncommitted = record { size = is.size; later = is.later; device = is.cause; failed = is.device; works = is.not_failed; honest = is.honest; root = is.root; at = is.at; run = is.any_moment };
+            uncommitted = is.uncommitted;
             corners = is.corners;
             sinks = is.sinks;
             still_staged = is.still_staged;
@@ -123,7 +123,7 @@ returns-clause-set g c honest s m at under settled =
     let read = c.in_ok-read_page.ensures.reads in
     let side : c.side-side.result ≡ n = c.side-side.ensures.value ∙ ap (λ (r : RootValue). r.side) c.current.ensures in
     let index = index_at g (goal.at.returns-clause-set g c).After-stage in
-    let mid_honest = c.stage.ensures.honest honest in
+    let mid_honest = c.stage.ensures.uncommitted.honest honest in
     let mid_at = read.keeps.at mid_honest s at read.not_failed in
     let has : HasPage (staged_in d old) corner Heights i page = c.in_ok-read_page.ensures.page mid_honest in
     let edits : IsEdited n edit corner i page made = subst (λ (k : ℕ). IsEdited k edit corner i page made) side (c.set_heights.ensures index.corner) in

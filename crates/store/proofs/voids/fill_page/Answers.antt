@@ -56,7 +56,7 @@ returns-clause-stages g c =
     let ok : Result (Unit {0}) Refusal = Ok tt in
     stages_on d old mid new tt c.stage.result (page_read d old mid ok c.in_ok-scan_page.ensures.reads)
     (record {
-      uncommitted = record { size = is.size; later = is.later; device = is.cause; failed = is.device; works = is.not_failed; honest = is.honest; root = is.root; at = is.at; run = is.any_moment };
+      uncommitted = is.uncommitted;
       corners = is.corners;
       sinks = is.sinks;
       still_staged = is.still_staged;
@@ -100,7 +100,7 @@ returns-clause-set g c honest s m at known under =
     let page = c.scan_page.new.into in
     let made = c.fill_samples.new.page in
     let read = c.in_ok-scan_page.ensures.reads in
-    let mid_honest = c.stage.ensures.honest honest in
+    let mid_honest = c.stage.ensures.uncommitted.honest honest in
     let mid_at = read.keeps.at mid_honest s at read.not_failed in
     let side : c.side-side.result ≡ n = c.side-side.ensures.value ∙ ap (λ (r : RootValue). r.side) c.current.ensures in
     let has : HasPage (staged_in d old) corner Heights i page = c.in_ok-scan_page.ensures.page mid_honest in

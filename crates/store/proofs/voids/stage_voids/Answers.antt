@@ -19,7 +19,7 @@ use Rattle.cow_tree.specs.declared.tree.Tree.{Tree}
 use Rattle.cow_tree.proofs.ReadOnly.{never_refused}
 use Rattle.cow_tree.proofs.Steps.{on_ok}
 use Rattle.store.specs.Editing.{StagesOnly, IsRefusedEarly}
-use Rattle.derived.specs.Uncommitted.{CommitsNothing}
+use Rattle.cow_tree.specs.Uncommitted.{CommitsNothing}
 use Rattle.store.specs.Underway.{filled, AreRimVoids, IsSettled, IsUnderway, Advances}
 use Rattle.store.specs.declared.rims.RimVoids.{RimVoids}
 use Rattle.store.proofs.EditingReads.{reading, risen_read, fails_read, works_read}

@@ -1,4 +1,5 @@
-use Rattle.std.proofs.Common.{◌<◌, ◌≤◌, ◌+◌, ℕ, length, map, arith, sym, ap, ◌∙◌, subst}
+use Rattle.std.proofs.Common.{◌<◌, ◌≤◌, ◌+◌, ℕ, length, map, arith, refl, sym, ap, ◌∙◌, subst}
+use Rattle.std.specs.Prelude.{is_err}
 use Rattle.page_codec.specs.Sizes.{pages_of}
 use Rattle.std.proofs.lemmas.Bool.{false≢true}
 use Rattle.page_codec.specs.Formats.{Format}
@@ -9,6 +10,8 @@ use Rattle.cow_tree.specs.Staged.{index_page_by, pages_due}
 use Rattle.cow_tree.proofs.Steps.{corners_same, stage_pages, stage_stays, page_unreached, still_stands, each_still, stores_along, ok_where_works, on_ok_both, ok_where, failed_where, only_device}
 use Rattle.cow_tree.proofs.Cached.{written_agrees}
 use Rattle.cow_tree.proofs.Due.{written_due, written_due_same, written_due_before, written_here, written_still}
+use Rattle.page_map.proofs.Refused.{ended_with}
+use Rattle.cow_tree.proofs.Uncommitted.{refused_in_memory}
 use Rattle.cow_tree.proofs.tree.Tree.stage.Goals as goal
 
 pub returns-clause-corners : goal.returns-clause-corners
@@ -26,35 +29,40 @@ returns-clause-staged g c honest s is =
     (stage_pages old.page_map c.page_for_writing.new.self c.args.c c.args.i c.in_ok-number.number c.args.page.now (d.seen old.roots.disk) (d.seen c.write.new.self.disk) c.rules.ensures c.in_ok-number.ensures.rules rw c.requires.present index)
     (c.write.ensures.others honest) (c.write.ensures.written honest)
 
-pub returns-clause-at : goal.returns-clause-at
-returns-clause-at g c honest s is works =
+pub returns-clause-uncommitted : goal.returns-clause-uncommitted
+returns-clause-uncommitted g c =
     let d = g.D.Disk in
     let old = c.args.self.now in
     let new_page_map = c.page_for_writing.new.self in
     let rw = c.in_ok-number.ensures.written in
     let index : c.args.i < pages_of old.page_map.format.side = subst (λ (n : ℕ). c.args.i < pages_of n) (sym (ap (λ (f : Format). f.side) old.format)) c.requires.index in
     let failed = c.write.ensures.failed in
+    let unreached = page_unreached old.page_map new_page_map c.args.c c.args.i c.in_ok-number.number c.args.page.now (d.seen old.roots.disk) (d.seen c.write.new.self.disk) c.rules.ensures c.in_ok-number.ensures.rules rw in
     record {
-      ready = ok_where_works c.write.result c.write.new.self.failed failed works (c.write.ensures.ready honest is.ready);
-      each = λ image may. stores_along (d.size old.roots.disk) (d.size c.write.new.self.disk) old.roots.root c.write.new.self.root old.page_map.committed new_page_map.committed s image
-          c.write.ensures.size c.write.ensures.root (ap (λ (page_map : PageMapValue). page_map.committed) rw.changed)
-          (each_still d old.roots.disk c.write.new.self.disk c.in_ok-number.number (d.size old.roots.disk) old.roots.root old.page_map.committed s is.each
-          (page_unreached old.page_map new_page_map c.args.c c.args.i c.in_ok-number.number c.args.page.now (d.seen old.roots.disk) (d.seen c.write.new.self.disk) c.rules.ensures c.in_ok-number.ensures.rules rw)
-          (c.write.ensures.any_moment honest is.ready) image may);
-      staged = ok_where_works c.write.result c.write.new.self.failed failed works
-          (on_ok_both c.write.result
-          (λ same written. stage_stays old.page_map new_page_map c.args.c c.args.i c.in_ok-number.number c.args.page.now (d.seen old.roots.disk) (d.seen c.write.new.self.disk) c.rules.ensures c.in_ok-number.ensures.rules rw (format_of old.root) c.requires.present index same written is.staged)
-          (c.write.ensures.others honest) (c.write.ensures.written honest));
+      size = c.write.ensures.size;
+      later = c.write.ensures.cause.later;
+      device = λ is. c.write.ensures.cause.failed (ap is_err is);
+      failed = failed_where c.write.result _ failed;
+      works = c.write.ensures.not_failed;
+      honest = c.write.ensures.honest;
+      root = refl;
+      at = λ honest s is works. record {
+        ready = ok_where_works c.write.result c.write.new.self.failed failed works (c.write.ensures.ready honest is.ready);
+        each = λ image may. stores_along (d.size old.roots.disk) (d.size c.write.new.self.disk) old.roots.root c.write.new.self.root old.page_map.committed new_page_map.committed s image
+            c.write.ensures.size c.write.ensures.root (ap (λ (page_map : PageMapValue). page_map.committed) rw.changed)
+            (each_still d old.roots.disk c.write.new.self.disk c.in_ok-number.number (d.size old.roots.disk) old.roots.root old.page_map.committed s is.each unreached (c.write.ensures.any_moment honest is.ready) image may);
+        staged = ok_where_works c.write.result c.write.new.self.failed failed works
+            (on_ok_both c.write.result
+            (λ same written. stage_stays old.page_map new_page_map c.args.c c.args.i c.in_ok-number.number c.args.page.now (d.seen old.roots.disk) (d.seen c.write.new.self.disk) c.rules.ensures c.in_ok-number.ensures.rules rw (format_of old.root) c.requires.present index same written is.staged)
+            (c.write.ensures.others honest) (c.write.ensures.written honest));
+      };
+      run = λ honest s is. still_stands d old.roots.disk c.write.new.self.disk c.in_ok-number.number (d.size old.roots.disk) old.roots.root old.page_map.committed s is.each unreached (c.write.ensures.any_moment honest is.ready);
     }
 
-pub returns-clause-any_moment : goal.returns-clause-any_moment
-returns-clause-any_moment g c honest s is =
-    let d = g.D.Disk in
-    let old = c.args.self.now in
-    let rw = c.in_ok-number.ensures.written in
-    still_stands d old.roots.disk c.write.new.self.disk c.in_ok-number.number (d.size old.roots.disk) old.roots.root old.page_map.committed s is.each
-    (page_unreached old.page_map c.page_for_writing.new.self c.args.c c.args.i c.in_ok-number.number c.args.page.now (d.seen old.roots.disk) (d.seen c.write.new.self.disk) c.rules.ensures c.in_ok-number.ensures.rules rw)
-    (c.write.ensures.any_moment honest is.ready)
+pub returns-in_err-number-clause-uncommitted : goal.returns-in_err-number-clause-uncommitted
+returns-in_err-number-clause-uncommitted g c =
+    refused_in_memory g.D.Disk c.args.self.now _ c.from_residual.result c.in_err-number.field-0.0 g.met.D.Disk.only_now refl refl c.in_err-number.ensures.unchanged c.requires.not_failed
+    (ended_with c.from_residual.result c.in_err-number.field-0.0 c.from_residual.ensures.1) c.in_err-number.ensures.refused
 
 pub returns-in_err-number-clause-sure : goal.returns-in_err-number-clause-sure
 returns-in_err-number-clause-sure g c had _ = false≢true (c.in_err-number.ensures.sure had)
@@ -70,9 +78,6 @@ returns-in_err-number-clause-due_before g c = let due = ap (λ (x : PageMapValue
 
 pub returns-in_err-number-clause-still_staged : goal.returns-in_err-number-clause-still_staged
 returns-in_err-number-clause-still_staged g c other had = subst (HasFreshHeights other) (sym c.in_err-number.ensures.unchanged) had
-
-pub returns-clause-device : goal.returns-clause-device
-returns-clause-device g c = failed_where c.write.result _ c.write.ensures.failed
 
 pub returns-clause-sure : goal.returns-clause-sure
 returns-clause-sure g c had = only_device c.write.result c.write.ensures.refused

@@ -1,18 +1,18 @@
-use Rattle.std.proofs.Common.{◌≡◌, ◌+◌, ◌≤◌, ◌*◌, ◌++◌, length, Some, ap, ◌∙◌, subst, arith}
+use Rattle.std.proofs.Common.{◌≡◌, ◌+◌, ◌≤◌, ◌*◌, ◌++◌, length, Some, refl, ap, ◌∙◌, subst, arith}
 use Rattle.std.proofs.lemmas.List.{length-append}
-use Rattle.disk.specs.Stops.{weaker}
 use Rattle.page_codec.specs.Formats.{Format}
 use Rattle.page_codec.specs.Roots.{format_of}
 use Rattle.page_codec.specs.Sizes.{index_pages_of, pages_of}
 use Rattle.page_map.specs.PageMaps.{PageMapValue, AreKept, AreWholeKept, corners_of_locations}
 use Rattle.page_map.specs.declared.locations.KeptLocations.{KeptLocations}
 use Rattle.cow_tree.specs.Kept.{planes_of_bytes}
-use Rattle.cow_tree.specs.Layout.{StoresAt, Stands}
 use Rattle.cow_tree.specs.Staged.{pages_due}
 use Rattle.cow_tree.proofs.Due.{kept_more}
 use Rattle.cow_tree.proofs.KeptDrops.{other_corners}
 use Rattle.cow_tree.proofs.KeptStaging.{locations_are, no_labels, no_levels, whole_planes, pages_low, pages_high, pages_once, pages_unreached, kept_staged, kept_stays}
-use Rattle.cow_tree.proofs.Steps.{stands, stores_along, ok_where_works, on_ok, on_ok_both}
+use Rattle.page_map.proofs.Refused.{ended_with}
+use Rattle.cow_tree.proofs.Steps.{on_ok, on_ok_both}
+use Rattle.cow_tree.proofs.Uncommitted.{refused_in_memory, wrote}
 use Rattle.cow_tree.proofs.tree.Tree.stage_kept.Goals as goal
 use Rattle.cow_tree.proofs.tree.Tree.stage_kept.Goals.{In-Some-plane}
 
@@ -98,33 +98,21 @@ returns-clause-staged g c honest s is =
     (planes_of_bytes before.root.side c.args.levels.now c.args.labels.now) wrote)
     (c.write_kept.ensures.writes.others honest) (c.write_kept.ensures.written honest before.root.side (whole g here).levels.pages (whole g here).labels.pages)
 
-pub returns-clause-at : goal.returns-clause-at
-returns-clause-at g c honest s is works =
-    let here = (goal.at.returns-clause-at g c).In-Some-plane in
+pub returns-clause-uncommitted : goal.returns-clause-uncommitted
+returns-clause-uncommitted g c =
+    let here = (goal.at.returns-clause-uncommitted g c).In-Some-plane in
     let d = g.D.Disk in
     let before = c.args.self.now in
-    let roots = c.write_kept.new.roots in
-    let written = c.write_kept.ensures.writes in
-    let none = pages_unreached (old g here) (new g here) c.args.c c.in_ok-keep.ensures.rules c.rules.ensures (anew g here) c.requires.unstaged c.requires.present (kept g here) (kept_is g here) in
-    record {
-      ready = ok_where_works c.write_kept.result roots.failed written.failed works (written.ready honest is.ready);
-      each = λ image may. stores_along (d.size before.roots.disk) (d.size roots.disk) before.roots.root roots.root before.page_map.committed (new g here).committed s image
-          written.size written.root (ap (λ (x : PageMapValue). x.committed) (anew g here).changed)
-          ((written.any_moment honest is.ready before.page_map.committed s none is.each).now image may);
-      staged = ok_where_works c.write_kept.result roots.failed written.failed works
-          (on_ok c.write_kept.result
-          (λ others. kept_stays (old g here) (new g here) c.args.c c.in_ok-keep.ensures.rules c.rules.ensures (anew g here) c.requires.unstaged c.requires.present (kept g here) (kept_is g here)
-          (d.seen before.roots.disk) (d.seen roots.disk) others (format_of before.root) is.staged)
-          (written.others honest));
-    }
+    wrote d before _ c.write_kept.result _ c.write_kept.ensures.writes
+    (pages_unreached (old g here) (new g here) c.args.c c.in_ok-keep.ensures.rules c.rules.ensures (anew g here) c.requires.unstaged c.requires.present (kept g here) (kept_is g here))
+    (ap (λ (x : PageMapValue). x.committed) (anew g here).changed) refl
+    (λ honest s is.
+    on_ok c.write_kept.result
+    (λ others. kept_stays (old g here) (new g here) c.args.c c.in_ok-keep.ensures.rules c.rules.ensures (anew g here) c.requires.unstaged c.requires.present (kept g here) (kept_is g here)
+    (d.seen before.roots.disk) (d.seen c.write_kept.new.roots.disk) others (format_of before.root) is.staged)
+    (c.write_kept.ensures.writes.others honest))
 
-pub returns-clause-any_moment : goal.returns-clause-any_moment
-returns-clause-any_moment g c honest s is =
-    let here = (goal.at.returns-clause-any_moment g c).In-Some-plane in
-    let d = g.D.Disk in
-    let before = c.args.self.now in
-    let size = d.size before.roots.disk in
-    weaker d before.roots.disk c.write_kept.new.roots.disk (StoresAt size before.roots.root before.page_map.committed s) (λ image. Stands size image s)
-    (λ image stores. stands size before.roots.root before.page_map.committed s image stores)
-    (c.write_kept.ensures.writes.any_moment honest is.ready before.page_map.committed s
-    (pages_unreached (old g here) (new g here) c.args.c c.in_ok-keep.ensures.rules c.rules.ensures (anew g here) c.requires.unstaged c.requires.present (kept g here) (kept_is g here)) is.each)
+pub returns-in_err-keep-clause-uncommitted : goal.returns-in_err-keep-clause-uncommitted
+returns-in_err-keep-clause-uncommitted g c =
+    refused_in_memory g.D.Disk c.args.self.now _ c.from_residual.result c.in_err-keep.field-0.0 g.met.D.Disk.only_now refl refl c.in_err-keep.ensures.unchanged c.requires.not_failed
+    (ended_with c.from_residual.result c.in_err-keep.field-0.0 c.from_residual.ensures.1) c.in_err-keep.ensures.refused

@@ -1,18 +1,18 @@
-use Rattle.std.proofs.Common.{◌≡◌, ℕ, ◌+◌, ◌≤◌, ◌<◌, List, All, Contains, length, map, sym, ap, ◌∙◌, subst}
+use Rattle.std.proofs.Common.{◌≡◌, ℕ, ◌+◌, ◌≤◌, ◌<◌, List, All, Contains, length, map, refl, sym, ap, ◌∙◌, subst}
 use Rattle.page_codec.specs.Formats.{Format}
 use Rattle.page_codec.specs.Roots.{format_of}
 use Rattle.disk.specs.Disk.{Image}
-use Rattle.disk.specs.Stops.{weaker}
 use Rattle.page_map.specs.PageMaps.{PageMapValue, IsAdded}
 use Rattle.page_map.specs.TileLocations.{reached}
-use Rattle.cow_tree.specs.Layout.{StoresAt, Stands}
 use Rattle.page_map.specs.Locations.{times}
 use Rattle.cow_tree.specs.Staged.{pages_due}
 use Rattle.cow_tree.specs.Stored.{pages_of_bytes}
 use Rattle.page_codec.specs.Sizes.{index_pages_of}
 use Rattle.cow_tree.proofs.Adding.{added_heights, pages_low, pages_high, pages_unreached, pages_once, plane_staged, plane_stays}
 use Rattle.cow_tree.proofs.Due.{added_corners, added_due, added_here}
-use Rattle.cow_tree.proofs.Steps.{stands, stores_along, ok_where_works, on_ok, on_ok_both, ok_where, failed_where}
+use Rattle.page_map.proofs.Refused.{ended_with}
+use Rattle.cow_tree.proofs.Steps.{on_ok, on_ok_both, ok_where}
+use Rattle.cow_tree.proofs.Uncommitted.{refused_in_memory, wrote}
 use Rattle.cow_tree.proofs.tree.Tree.stage_plane.Goals as goal
 use Rattle.cow_tree.proofs.tree.Tree.stage_plane.Goals.{After-pages}
 
@@ -70,36 +70,24 @@ returns-clause-staged g c honest s is =
     (subst (λ (pages : List ℕ). map b pages ≡ pages_of_bytes (length pages) c.args.bytes.now) c.pages.ensures wrote))
     (c.write_plane.ensures.written honest) (c.write_plane.ensures.writes.others honest)
 
-pub returns-clause-at : goal.returns-clause-at
-returns-clause-at g c honest s is works =
-    let here = (goal.at.returns-clause-at g c).After-pages in
+pub returns-clause-uncommitted : goal.returns-clause-uncommitted
+returns-clause-uncommitted g c =
+    let here = (goal.at.returns-clause-uncommitted g c).After-pages in
     let d = g.D.Disk in
     let before = c.args.self.now in
-    let roots = c.write_plane.new.roots in
-    let written = c.write_plane.ensures.writes in
-    record {
-      ready = ok_where_works c.write_plane.result roots.failed written.failed works (written.ready honest is.ready);
-      each = λ image may. stores_along (d.size before.roots.disk) (d.size roots.disk) before.roots.root roots.root before.page_map.committed (new g here).committed s image
-          written.size written.root (ap (λ (x : PageMapValue). x.committed) (added g here).changed)
-          ((written.any_moment honest is.ready before.page_map.committed s (unreached g here) is.each).now image may);
-      staged = ok_where_works c.write_plane.result roots.failed written.failed works
-          (on_ok c.write_plane.result
-          (λ others. plane_stays (old g here) (new g here) c.args.c c.in_ok-tile_for_writing.ensures.rules (added g here) c.in-Some.plane.now c.in-Some.ensures.found (d.seen before.roots.disk) (d.seen roots.disk) c.args.bytes.now
-          (subst (λ (pages : List ℕ). SameElsewhere pages (d.seen before.roots.disk) (d.seen roots.disk)) c.pages.ensures others) (format_of before.root) is.staged)
-          (written.others honest));
-    }
+    let a = d.seen before.roots.disk in
+    let b = d.seen c.write_plane.new.roots.disk in
+    wrote d before _ c.write_plane.result c.pages.result.now c.write_plane.ensures.writes (unreached g here) (ap (λ (x : PageMapValue). x.committed) (added g here).changed) refl
+    (λ honest s is.
+    on_ok c.write_plane.result
+    (λ others. plane_stays (old g here) (new g here) c.args.c c.in_ok-tile_for_writing.ensures.rules (added g here) c.in-Some.plane.now c.in-Some.ensures.found a b c.args.bytes.now
+    (subst (λ (pages : List ℕ). SameElsewhere pages a b) c.pages.ensures others) (format_of before.root) is.staged)
+    (c.write_plane.ensures.writes.others honest))
 
-pub returns-clause-any_moment : goal.returns-clause-any_moment
-returns-clause-any_moment g c honest s is =
-    let d = g.D.Disk in
-    let before = c.args.self.now in
-    let size = d.size before.roots.disk in
-    weaker d before.roots.disk c.write_plane.new.roots.disk (StoresAt size before.roots.root before.page_map.committed s) (λ image. Stands size image s)
-    (λ image stores. stands size before.roots.root before.page_map.committed s image stores)
-    (c.write_plane.ensures.writes.any_moment honest is.ready before.page_map.committed s (unreached g (goal.at.returns-clause-any_moment g c).After-pages) is.each)
-
-pub returns-clause-device : goal.returns-clause-device
-returns-clause-device g c = failed_where c.write_plane.result _ c.write_plane.ensures.writes.failed
+pub returns-in_err-tile_for_writing-clause-uncommitted : goal.returns-in_err-tile_for_writing-clause-uncommitted
+returns-in_err-tile_for_writing-clause-uncommitted g c =
+    refused_in_memory g.D.Disk c.args.self.now _ c.from_residual.result c.in_err-tile_for_writing.field-0.0 g.met.D.Disk.only_now refl refl c.in_err-tile_for_writing.ensures.unchanged c.requires.not_failed
+    (ended_with c.from_residual.result c.in_err-tile_for_writing.field-0.0 c.from_residual.ensures.1) c.in_err-tile_for_writing.ensures.refused
 
 pub returns-clause-corners : goal.returns-clause-corners
 returns-clause-corners g c = ok_where c.write_plane.result (added_corners c.args.self.now.page_map c.tile_for_writing.new.self c.args.c c.in_ok-tile_for_writing.ensures.added)

@@ -28,7 +28,7 @@ use Rattle.cow_tree.proofs.ReadOnly.{never_refused}
 use Rattle.cow_tree.proofs.Steps.{on_ok}
 use Rattle.store.specs.Ended.{IsApplied}
 use Rattle.store.specs.Editing.{ComesIn, IsGiven, AreTilesOf}
-use Rattle.derived.specs.Uncommitted.{CommitsNothing}
+use Rattle.cow_tree.specs.Uncommitted.{CommitsNothing}
 use Rattle.store.specs.Staling.{staled}
 use Rattle.store.proofs.Committed.{fails_before, failed_first, quiet, may_end_it}
 use Rattle.store.proofs.EditingReads.{reading, mosaic_is, readable, refused_so, risen_read, works_read, fails_read, quiet_read}

@@ -1,18 +1,25 @@
--- Calls that commit nothing, one after another.
-use Rattle.std.proofs.Common.{◌≡◌, ◌≤◌, false, true, Result, Ok, Err, OnOk, IsErrOf, refl, sym, ap, ◌∙◌, subst, arith, ℕ}
-use Rattle.std.specs.Prelude.{IsErrAnd}
+-- Calls that commit nothing: one, and one after another.
+use Rattle.std.proofs.Common.{◌≡◌, ◌≤◌, false, true, List, All, Contains, Result, Ok, Err, OnOk, IsErrOf, refl, sym, ap, ◌∙◌, subst, arith, ℕ}
+use Rattle.std.specs.Prelude.{IsErrAnd, is_err}
 use Rattle.disk.specs.Disk.{Image, HasRisen}
 use Rattle.disk.specs.Stops.{LeavesOnly, weaker, in_turn, nothing_done}
 use Rattle.disk.specs.declared.disk.Disk.{Ghosts}
 use Rattle.lattice.specs.declared.refusal.Refusal.{Refusal}
-use Rattle.lattice.specs.declared.refusal.Refusal.TheVariants.{Device}
-use Rattle.cow_tree.specs.Layout.{Stands}
+use Rattle.lattice.specs.declared.refusal.Refusal.TheVariants.{Device, NoMemory}
+use Rattle.page_codec.specs.Roots.{RootValue, format_of}
+use Rattle.page_map.specs.PageMaps.{PageMapValue}
+use Rattle.page_map.specs.TileLocations.{reached}
+use Rattle.roots.specs.Roots.{IsReady, disk_of as disk_under, has_failed as have_failed}
+use Rattle.roots.specs.declared.roots.Roots.{Roots}
+use Rattle.cow_tree.specs.Layout.{Stands, StoresAt}
+use Rattle.cow_tree.specs.OverRoots.{EachStores, WritesPages}
 use Rattle.cow_tree.specs.Reading.{HasOnlyRead}
+use Rattle.cow_tree.specs.Staged.{AreStaged}
 use Rattle.cow_tree.specs.Stored.{Stored}
 use Rattle.cow_tree.specs.Trees.{disk_of, root_of, has_failed, IsAt}
 use Rattle.cow_tree.specs.declared.tree.Tree.{Tree}
-use Rattle.cow_tree.proofs.Steps.{on_ok}
-use Rattle.derived.specs.Uncommitted.{CommitsNothing}
+use Rattle.cow_tree.proofs.Steps.{failed_where, ok_where_works, on_ok, stands, stores_along}
+use Rattle.cow_tree.specs.Uncommitted.{CommitsNothing}
 
 -- what a refusal that was handed on answers
 pub refused_as : {T : Type 0} (result : Result T Refusal) (r : Refusal) → IsErrAnd result (λ why. why ≡ r) → result ≡ Err r
@@ -115,3 +122,47 @@ module _ {D : Type 0} (g : Ghosts D) where
     run = λ honest s at.
         weaker g (disk_of old) (disk_of new) (g.may (disk_of old)) (λ image. Stands (g.size (disk_of old)) image s) (each_stands old s at) (keeps.nothing honest).run;
   }
+
+  -- a tree with the same roots and the same pages
+  at_same : (old new : Tree D g) → new.roots ≡ old.roots → new.root ≡ old.root → new.page_map ≡ old.page_map → (s : Stored) → IsAt g old s → IsAt g new s
+  at_same old new roots root page_map s is = record {
+    ready = subst (IsReady g) (sym roots) is.ready;
+    each = subst (λ (r : Roots D g). EachStores g r new.page_map.committed s) (sym roots) (subst (λ (m : PageMapValue). EachStores g old.roots m.committed s) (sym page_map) is.each);
+    staged = subst (λ (r : Roots D g). AreStaged (format_of new.root) new.page_map.committed new.page_map.staged (g.seen (disk_under r))) (sym roots)
+        (subst (λ (v : RootValue). AreStaged (format_of v) new.page_map.committed new.page_map.staged (g.seen (disk_of old))) (sym root)
+        (subst (λ (m : PageMapValue). AreStaged (format_of old.root) m.committed m.staged (g.seen (disk_of old))) (sym page_map) is.staged));
+  }
+
+  -- a call that was refused for memory, before any call of the disk
+  pub refused_in_memory : {T : Type 0} (old new : Tree D g) (result : Result T Refusal) (why : Refusal) → OnlyNow → new.roots ≡ old.roots → new.root ≡ old.root → new.page_map ≡ old.page_map → has_failed old ≡ false
+      → result ≡ Err why → why ≡ NoMemory → CommitsNothing g old new result
+  refused_in_memory {T} old new result why only_now roots root page_map works ended memory =
+      in_memory old new result only_now (ap (λ (r : Roots D g). disk_under r) roots) root (ap (λ (r : Roots D g). have_failed r) roots ∙ works) (at_same old new roots root page_map)
+      (λ device. (let e : ◌≡◌ {A = Result T Refusal} (Err NoMemory) (Err Device) = sym (ended ∙ ap (λ (x : Refusal). Err x) memory) ∙ device in cc))
+
+  -- a call that wrote pages which no committed tile reaches
+  module _ {T : Type 0} (old new : Tree D g) (result : Result T Refusal) (pages : List ℕ) (writes : WritesPages g pages old.roots new.roots result)
+      (unreached : All (λ p. ¬ Contains (reached old.page_map.committed) p) pages) (committed : new.page_map.committed ≡ old.page_map.committed) (root : new.root ≡ old.root)
+      (staged : g.honest (disk_of new) → (s : Stored) → IsAt g old s → OnOk result (AreStaged (format_of new.root) new.page_map.committed new.page_map.staged (g.seen (disk_of new)))) where
+    abbrev sectors : ℕ
+    sectors = g.size (disk_of old)
+
+    pub wrote : CommitsNothing g old new result
+    wrote = record {
+      size = writes.size;
+      later = writes.cause.later;
+      device = λ is. writes.cause.failed (ap is_err is);
+      failed = failed_where result Device writes.failed;
+      works = writes.works;
+      honest = writes.honest;
+      root = root;
+      at = λ honest s is works. record {
+        ready = ok_where_works result (has_failed new) writes.failed works (writes.ready honest is.ready);
+        each = λ image may. stores_along sectors (g.size (disk_of new)) old.roots.root new.roots.root old.page_map.committed new.page_map.committed s image writes.size writes.root committed
+            ((writes.any_moment honest is.ready old.page_map.committed s unreached is.each).now image may);
+        staged = ok_where_works result (has_failed new) writes.failed works (staged honest s is);
+      };
+      run = λ honest s is.
+          weaker g (disk_of old) (disk_of new) (StoresAt sectors old.roots.root old.page_map.committed s) (λ image. Stands sectors image s)
+          (λ image stores. stands sectors old.roots.root old.page_map.committed s image stores) (writes.any_moment honest is.ready old.page_map.committed s unreached is.each);
+    }
