@@ -1,10 +1,8 @@
 //! Steps: the planes of one stale tile more are kept.
-ghost use Rattle.std.specs.Prelude.{◌≡◌, ◌≤◌, ◌+◌, ◌*◌, true, false, Ok, Err, None, OnErr, IfSome};
-ghost use Rattle.lattice.specs.Mosaic.{Mosaic};
+ghost use Rattle.std.specs.Prelude.{◌≡◌, ◌≤◌, ◌+◌, ◌*◌, true, false, Ok, Err, None, OnErr};
 ghost use Rattle.lattice.specs.declared.refusal.Refusal.TheVariants.{Failed};
 ghost use Rattle.page_codec.specs.Roots.{format_of};
 ghost use Rattle.page_codec.specs.Sizes.{plane_pages_of};
-ghost use Rattle.tile_labellings.specs.Labellings.{IsFlooded};
 ghost use Rattle.cow_tree.specs.Trees.{disk_of as disk_under, root_of as root_under, has_failed as have_failed};
 ghost use Rattle.derived.specs.Clean.{IsClean};
 ghost use Rattle.derived.specs.Steps.{HasStepped};
@@ -22,7 +20,6 @@ use disk::Disk;
 use drainage::DrainageCache;
 use lattice::{Corner, Refusal};
 use std::alloc::Global;
-use tile_flood::Labelled;
 
 impl<D: Disk> Store<D> {
     /// Keeps the levels and labels of the first stale tile and names it, or answers none where no tile is stale. Where a
@@ -54,13 +51,8 @@ fn step_tree<D: Disk>(
     ensures writes { D.writes (disk_under tree.new) ≤ D.writes (disk_under tree.old) + (2 * plane_pages_of (format_of (root_under tree.old)) + 3) }
     ensures failed { have_failed tree.old ≡ true → (result ≡ Err Failed) × (tree.new ≡ tree.old) }
 {
-    let next = next_stale(tree);
-    step_held(alloc, tree, next, labelling_at(held, next))
-}
-
-// The labelling that is held of the corner's tile.
-fn labelling_at(held: &DrainageCache, corner: Option<Corner>) -> Option<&Labelled>
-    ensures { (m : Mosaic) → IsHeldOf m held.now → IfSome corner (λ c. IfSome result (λ l. IsFlooded m c l.now)) }
-{
-    held.labelling(corner?)
+    match next_stale(tree) {
+        Some(corner) => step_held(alloc, tree, Some(corner), held.labelling(corner)),
+        None => derived::step(alloc, tree),
+    }
 }
