@@ -1,5 +1,5 @@
 //! What is held of a tile's labelling.
-ghost use Rattle.std.specs.Prelude.{◌≡◌, ◌⊎◌, ◌<◌, IfErr, IfOk, IfSome, IsTrue};
+ghost use Rattle.std.specs.Prelude.{◌≡◌, ◌⊎◌, ◌↔◌, ◌<◌, false, IfErr, IfOk, IfSome, IsTrue};
 ghost use Rattle.lattice.specs.Corners.{Corner};
 ghost use Rattle.lattice.specs.Mosaic.{Mosaic};
 ghost use Rattle.lattice.specs.declared.refusal.Refusal.TheVariants.{NoMemory};
@@ -62,7 +62,7 @@ impl TileLabelling {
 
     /// Whether no height may have changed since they were made.
     pub fn is_current(&self) -> bool
-        ensures { IsTrue result → IsCurrent self.now }
+        ensures { IsTrue result ↔ IsCurrent self.now }
     {
         match self {
             TileLabelling::Kept(_) => true,
@@ -73,7 +73,9 @@ impl TileLabelling {
     /// The height of the tile's point with this index may change from then on. False where that can't be noted: then the
     /// labelling is to be given up.
     pub fn note_changed(&mut self, index: u32) -> bool
-        ensures { IsTrue result → (m new : Mosaic) (c : Corner) → DifferAt c index m new → IsTileLabelling m c self.old → IsTileLabelling new c self.new }
+        ensures noted { IsTrue result → (m new : Mosaic) (c : Corner) → DifferAt c index m new → IsTileLabelling m c self.old → IsTileLabelling new c self.new }
+        ensures labelled { IsTrue result → labelled_of self.new ≡ labelled_of self.old }
+        ensures flooded { is_flooded self.new ≡ is_flooded self.old }
     {
         match self {
             TileLabelling::Kept(_) => false,
@@ -114,7 +116,9 @@ impl TileLabelling {
 
     /// The labelling without its block, so that it can't be mended; None where heights may have changed already.
     pub fn without_block(self) -> Option<TileLabelling>
-        ensures { IfSome result (λ left. (m : Mosaic) (c : Corner) → IsTileLabelling m c self → IsTileLabelling m c left) }
+        ensures valid { IfSome result (λ left. (m : Mosaic) (c : Corner) → IsTileLabelling m c self → IsTileLabelling m c left) }
+        ensures labelled { IfSome result (λ left. labelled_of left ≡ labelled_of self) }
+        ensures kept { IfSome result (λ left. is_flooded left ≡ false) }
     {
         if !self.is_current() {
             return None;
