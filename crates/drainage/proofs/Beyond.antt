@@ -60,7 +60,7 @@ kept_by_noted p before after (Some tile_cache) left (some, at, is) = λ t out. (
 
 pub all_kept : {A : Type 0} (point : A → Option Point) (changes : List A) (held : Option TileCache) → are_kept_beyond point changes held held
 all_kept point changes None = tt
-all_kept point changes (Some tile_cache) = λ t beyond. (tile_cache, refl, record { same_side = refl; same_corners = refl; loaded = refl; labellings = refl })
+all_kept point changes (Some tile_cache) = λ t beyond. (tile_cache, refl, record { same_side = refl; same_corners = refl; loaded = refl; labellings = λ l. ((λ at. at), (λ at. at)) })
 
 -- ---- levels that no height can change
 
@@ -97,6 +97,6 @@ one_kept point changes i x p (Some tile_cache) held left below is_x at kept befo
         same_side = now.2.same_side ∙ was.2.same_side;
         same_corners = now.2.same_corners ∙ was.2.same_corners;
         loaded = now.2.loaded ∙ was.2.loaded;
-        labellings = now.2.labellings ∙ was.2.labellings;
+        labellings = λ l. ((λ at. (was.2.labellings l).0 ((now.2.labellings l).0 at)), (λ at. (now.2.labellings l).1 ((was.2.labellings l).1 at)));
       },
     )

@@ -8,6 +8,7 @@ use Rattle.tile_labellings.specs.declared.tile_labelling.TileLabelling.{TileLabe
 use Rattle.lattice.specs.Mosaic.{Mosaic}
 use Rattle.border_graph.specs.Others.{corner_at}
 use Rattle.drainage.specs.RimGraphs.{AreLoaded, AreKept}
+use Rattle.drainage.specs.declared.labelling_cache.HeldLabelling.{HeldLabelling}
 use Rattle.drainage.specs.Holding.{Known, IsRimLevel, IsEntered, IsRight, IsGrown, Agrees, level_of}
 use Rattle.border_graph.specs.Summaries.{Summary}
 use Rattle.drainage.specs.Kept.{ready_later}
@@ -36,7 +37,7 @@ module _ {S : Type 0} (g : Ghosts S) (a b : S) (known known' : Known) (kept : Ar
   }
 
 -- labellings that were held are given up, and nothing else is done but reads
-pub grown_fewer : {S : Type 0} (g : Ghosts S) (a b : S) (known : Known) (labellings : List (Option TileLabelling)) → (g.is_honest b → g.is_honest a) → (g.is_honest b → g.mosaic b ≡ g.mosaic a)
+pub grown_fewer : {S : Type 0} (g : Ghosts S) (a b : S) (known : Known) (labellings : List HeldLabelling) → (g.is_honest b → g.is_honest a) → (g.is_honest b → g.mosaic b ≡ g.mosaic a)
     → ((m : Mosaic) (c : Corner) (u : ℕ) → IsEntered m c known.labellings u → IsEntered m c labellings u)
     → IsGrown g a b known (record { side = known.side; corners = known.corners; loaded = known.loaded; labellings = labellings; levels = known.levels })
 grown_fewer g a b known labellings honest mosaic left = record {

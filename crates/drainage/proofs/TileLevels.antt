@@ -17,6 +17,7 @@ use Rattle.tile_flood.specs.Raising.{AreRimLevels, IsRimFilled}
 use Rattle.tile_labellings.specs.Labellings.{IsFlooded}
 use Rattle.tile_labellings.specs.TileLabellings.{IsTileLabelling}
 use Rattle.tile_labellings.specs.declared.tile_labelling.TileLabelling.{TileLabelling}
+use Rattle.drainage.specs.declared.labelling_cache.HeldLabelling.{HeldLabelling}
 use Rattle.drainage.specs.Holding.{Known, IsEntered, IsRight}
 use Rattle.drainage.proofs.Questioned.{answered, stopped, wanting}
 use Rattle.drainage.proofs.Renewed as renewed
@@ -39,7 +40,7 @@ module _ {S : Type 0} (g : Ghosts S) (a : S) (is : IsMosaic (g.mosaic a)) (known
   entered_there = renewed.entered_there g a known t c place_here at_here right
 
   -- what is held of tiles is right, with another labelling of this one
-  pub right_held : (labellings : List (Option TileLabelling)) (labelling : TileLabelling) → IsTileLabelling (g.mosaic a) c labelling
+  pub right_held : (labellings : List HeldLabelling) (labelling : TileLabelling) → IsTileLabelling (g.mosaic a) c labelling
       → ((m : Mosaic) (d : Corner) (u : ℕ) → (u ≡ t → IsTileLabelling m d labelling) → IsEntered m d known.labellings u → IsEntered m d labellings u)
       → IsRight (g.mosaic a) (record { side = known.side; corners = known.corners; loaded = known.loaded; labellings = labellings; levels = known.levels })
   right_held labellings labelling valid held = record {
@@ -50,7 +51,7 @@ module _ {S : Type 0} (g : Ghosts S) (a : S) (is : IsMosaic (g.mosaic a)) (known
   }
 
   -- .. and with fewer
-  pub right_fewer : (labellings : List (Option TileLabelling)) → ((m : Mosaic) (d : Corner) (u : ℕ) → IsEntered m d known.labellings u → IsEntered m d labellings u)
+  pub right_fewer : (labellings : List HeldLabelling) → ((m : Mosaic) (d : Corner) (u : ℕ) → IsEntered m d known.labellings u → IsEntered m d labellings u)
       → IsRight (g.mosaic a) (record { side = known.side; corners = known.corners; loaded = known.loaded; labellings = labellings; levels = known.levels })
   right_fewer labellings left = record { ready = right.ready; labellings = λ u. left (g.mosaic a) (corner_at known.corners u) u (right.labellings u); levels = right.levels }
 

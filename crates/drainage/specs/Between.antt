@@ -1,14 +1,17 @@
 -- What is held between two questions.
 use Rattle.std.specs.Prelude.{◌≡◌, ℤ, Option, Some, None}
+use Rattle.lattice.specs.Corners.{Corner}
 use Rattle.lattice.specs.Mosaic.{Mosaic}
 use Rattle.lattice.specs.declared.point.Point.{Point}
 use Rattle.catalogue.specs.declared.samples.Samples.{Ghosts}
+use Rattle.tile_flood.specs.Blocks.{LabelledGround}
 use Rattle.flow_d8.specs.Directions.{Directions, AreDirectionsOf}
 use Rattle.flow_d8.specs.LevelsAround.{OnLevels}
 use Rattle.drainage.specs.Flows.{AreFlows}
 use Rattle.drainage.specs.Invalidating.{IsLeftOf, IsNotedOf}
-use Rattle.drainage.specs.Holding.{IsRight}
+use Rattle.drainage.specs.Holding.{IsRight, IsCurrentIn}
 use Rattle.drainage.specs.Reaching.{is_reached}
+use Rattle.drainage.specs.Room.{AreFew}
 use Rattle.drainage.specs.TileCaches.{known_of}
 use Rattle.drainage.specs.declared.flows.Flows.{Flows}
 use Rattle.drainage.specs.declared.drainage_cache.DrainageCache.{DrainageCache}
@@ -31,6 +34,22 @@ pub record IsHeldOf (m : Mosaic) (held : DrainageCache) : Type 0 where
   pub tile_cache : are_right m held.tile_cache
   pub flows : drain_right m held.flows
   pub directions : directions_right m held.directions
+
+-- the labellings of few tiles are held, or none is
+abbrev pub are_few : Option TileCache → Type 0
+are_few None = Unit {0}
+are_few (Some tile_cache) = AreFew tile_cache.rim_graph.side tile_cache.labellings.held.items
+
+abbrev pub HoldsFew : DrainageCache → Type 0
+HoldsFew held = are_few held.tile_cache
+
+-- these are the levels and labels that are held of the corner's tile, and no height may have changed since
+abbrev pub is_current_in : Option TileCache → Corner → LabelledGround → Type 0
+is_current_in None c labelled = ⊥
+is_current_in (Some tile_cache) c labelled = IsCurrentIn (known_of tile_cache) c labelled
+
+abbrev pub IsCurrentOf : DrainageCache → Corner → LabelledGround → Type 0
+IsCurrentOf held c labelled = is_current_in held.tile_cache c labelled
 
 -- what was found is left, but for the tiles that the box reaches, and for the levels that aren't spared
 abbrev pub are_left : Point → Point → (ℤ → Type 0) → Option TileCache → Option TileCache → Type 0

@@ -1,12 +1,13 @@
 -- What changes leave of what is held: all that is held of tiles that they don't reach.
-use Rattle.std.specs.Prelude.{◌≡◌, ℕ, ℤ, false, List, All, Option, Some, None}
+use Rattle.std.specs.Prelude.{◌≡◌, ◌↔◌, ℕ, ℤ, false, List, All, Option, Some, None}
 use Rattle.lattice.specs.Corners.{Corner}
 use Rattle.lattice.specs.declared.point.Point.{Point}
+use Rattle.tile_labellings.specs.declared.tile_labelling.TileLabelling.{TileLabelling}
 use Rattle.edits.specs.declared.edit.Edit.{Edit}
 use Rattle.edits.specs.declared.edit.Edit.TheVariants.{Heights, Voids, Sink, Unsink}
 use Rattle.edits.specs.declared.edit.NewHeight.{NewHeight}
 use Rattle.drainage.specs.Between.{IsLeftHeld}
-use Rattle.drainage.specs.Holding.{labelling_at, level_of}
+use Rattle.drainage.specs.Holding.{IsHeldAt, level_of}
 use Rattle.drainage.specs.Reaching.{is_reached}
 use Rattle.drainage.specs.RimGraphs.{loaded_at}
 use Rattle.drainage.specs.Spared.{IsNoHigher, IsSpared, one_lower}
@@ -18,7 +19,7 @@ pub record IsKeptAt (t : ℕ) (tile_cache left : TileCache) : Type 0 where
   pub same_side : left.rim_graph.side ≡ tile_cache.rim_graph.side
   pub same_corners : left.rim_graph.corners.items ≡ tile_cache.rim_graph.corners.items
   pub loaded : loaded_at left.rim_graph.loaded.items t ≡ loaded_at tile_cache.rim_graph.loaded.items t
-  pub labellings : labelling_at left.labellings t ≡ labelling_at tile_cache.labellings t
+  pub labellings : (labelling : TileLabelling) → IsHeldAt left.labellings.held.items t labelling ↔ IsHeldAt tile_cache.labellings.held.items t labelling
 
 -- the tile with this place neither holds the point nor one beside it
 abbrev pub is_beyond : ℕ → List Corner → ℕ → Option Point → Type 0

@@ -1,5 +1,5 @@
 -- What is found of a mosaic's tiles, and held between two questions (this product's own profile).
-use Rattle.std.specs.Prelude.{◌≡◌, ℕ, ◌<◌, ℤ, List, Option, Some, None, Ok, Err, IsTrue, length, slice_index_or}
+use Rattle.std.specs.Prelude.{◌≡◌, ℕ, ◌<◌, ℤ, List, Option, Some, None, Ok, Err, IsTrue, Contains, length, slice_index_or}
 use Rattle.lattice.specs.Lattice.{point_of}
 use Rattle.lattice.specs.Mosaic.{Mosaic}
 use Rattle.lattice.specs.Ground.{is_ground, terrain}
@@ -14,13 +14,15 @@ use Rattle.border_graph.specs.Joining.{Rim}
 use Rattle.border_graph.specs.Links.{IsJoinedLevel}
 use Rattle.border_graph.specs.Linking.{node_number}
 use Rattle.border_graph.specs.Summaries.{Summary}
-use Rattle.tile_labellings.specs.TileLabellings.{IsTileLabelling}
+use Rattle.tile_flood.specs.Blocks.{LabelledGround}
+use Rattle.tile_labellings.specs.TileLabellings.{labelled_of, IsCurrent, IsTileLabelling}
 use Rattle.tile_labellings.specs.declared.tile_labelling.TileLabelling.{TileLabelling}
 use Rattle.lattice.specs.Corners.{Corner}
 use Rattle.border_graph.specs.Others.{corner_at}
 use Rattle.border_graph.specs.Placed.{IsPlacedLink}
 use Rattle.border_graph.specs.TileGraph.{TileGraph}
 use Rattle.drainage.specs.RimGraphs.{Fits, AreReady, AreKept}
+use Rattle.drainage.specs.declared.labelling_cache.HeldLabelling.{HeldLabelling}
 
 -- the side, the corners of all tiles in order, what is loaded of the ways of each, the labellings of those that were asked,
 -- and the levels of rim points, by the numbers of their nodes
@@ -28,16 +30,24 @@ pub record Known : Type 0 where
   pub side : ℕ
   pub corners : List Corner
   pub loaded : List (Option TileGraph)
-  pub labellings : List (Option TileLabelling)
+  pub labellings : List HeldLabelling
   pub levels : List (Option ℤ)
 
--- the labelling that is held of the tile with this place
-abbrev pub labelling_at : List (Option TileLabelling) → ℕ → Option TileLabelling
-labelling_at labellings t = slice_index_or labellings t None
+-- this labelling is held of the tile with this place
+abbrev pub IsHeldAt : List HeldLabelling → ℕ → TileLabelling → Type 0
+IsHeldAt labellings t labelling = Contains labellings (record { place = t; labelling = labelling })
 
 -- what is held of the tile with this place is a labelling of the corner's tile
-abbrev pub IsEntered : Mosaic → Corner → List (Option TileLabelling) → ℕ → Type 0
-IsEntered m c labellings t = (labelling : TileLabelling) → labelling_at labellings t ≡ Some labelling → IsTileLabelling m c labelling
+abbrev pub IsEntered : Mosaic → Corner → List HeldLabelling → ℕ → Type 0
+IsEntered m c labellings t = (labelling : TileLabelling) → IsHeldAt labellings t labelling → IsTileLabelling m c labelling
+
+-- the first place of the corner
+abbrev pub IsPlaceOf : List Corner → Corner → ℕ → Type 0
+IsPlaceOf corners c t = (t < length corners) × (corner_at corners t ≡ c) × ((u : ℕ) → u < t → corner_at corners u ≡ c → ⊥)
+
+-- these are the levels and labels that are held of the corner's tile, and no height may have changed since
+abbrev pub IsCurrentIn : Known → Corner → LabelledGround → Type 0
+IsCurrentIn known c labelled = (t : ℕ) × (labelling : TileLabelling) × IsPlaceOf known.corners c t × IsHeldAt known.labellings t labelling × IsCurrent labelling × (labelled ≡ labelled_of labelling)
 
 -- the level that is known of the rim point with this node
 abbrev pub level_of : List (Option ℤ) → ℕ → Option ℤ

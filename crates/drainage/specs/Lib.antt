@@ -5,6 +5,7 @@ pub mod Following
 pub mod RimGraphs
 pub mod Kept
 pub mod Holding
+pub mod Room
 pub mod TileCaches
 pub mod Between
 pub mod Reaching
@@ -12,7 +13,6 @@ pub mod Invalidating
 pub mod Nearby
 pub mod Ring
 pub mod Beyond
-pub mod Room
 pub mod Flows
 pub mod Spared
 pub mod Everywhere

@@ -1,8 +1,9 @@
 //! What is found of a mosaic's water, held between two questions.
-ghost use Rattle.std.specs.Prelude.{◌≡◌, None, IfOk, IfErr, IfSome};
+ghost use Rattle.std.specs.Prelude.{◌≡◌, None, IfOk, IfErr, IfSome, IfNone};
 ghost use Rattle.lattice.specs.Height.{height_of};
 ghost use Rattle.lattice.specs.Mosaic.{Mosaic, IsMosaic};
 ghost use Rattle.lattice.specs.declared.height.Height.TheVariants.{At};
+ghost use Rattle.tile_flood.specs.Blocks.{LabelledGround};
 ghost use Rattle.tile_labellings.specs.Labellings.{IsFlooded};
 ghost use Rattle.lattice.specs.Ground.{terrain};
 ghost use Rattle.flow_d8.specs.DeepFlows.{IsTileOf};
@@ -37,7 +38,7 @@ pub struct DrainageCache {
 }
 
 impl DrainageCache {
-    ghost use Rattle.drainage.specs.Between.{IsHeldOf, IsLeftHeld, IsNotedHeld};
+    ghost use Rattle.drainage.specs.Between.{IsHeldOf, IsLeftHeld, IsNotedHeld, IsCurrentOf};
     ghost use Rattle.drainage.specs.Flows.{AreFlows};
     ghost use Rattle.drainage.specs.TileCaches.{known_of};
 
@@ -95,7 +96,9 @@ impl DrainageCache {
 
     /// The labelling of the corner's tile, where it is held and none of its heights may have changed since.
     pub fn labelling(&self, corner: Corner) -> Option<&Labelled>
-        ensures { (m : Mosaic) → IsHeldOf m self.now → IfSome result (λ labelled. IsFlooded m corner labelled.now) }
+        ensures flooded { (m : Mosaic) → IsHeldOf m self.now → IfSome result (λ labelled. IsFlooded m corner labelled.now) }
+        ensures some { IfSome result (λ labelled. IsCurrentOf self.now corner labelled.now) }
+        ensures none { IfNone result ((labelled : LabelledGround) → IsCurrentOf self.now corner labelled → ⊥) }
     {
         let tile_cache = self.tile_cache.as_ref()?;
         tile_cache.labelling(corner)

@@ -7,7 +7,7 @@ ghost use Rattle.flow_d8.specs.Feeders.{AreFeedersOf};
 ghost use Rattle.flow_d8.specs.LevelsAround.{OnLevels};
 ghost use Rattle.flow_d8.specs.TileFlows.{AreFlowsIn};
 ghost use Rattle.flow_d8.specs.Way.{IsWay};
-ghost use Rattle.drainage.specs.Room.{AreFew};
+ghost use Rattle.drainage.specs.Room.{AreFewTiles};
 
 use arrayvec::ArrayVec;
 use catalogue::Samples;
@@ -86,7 +86,7 @@ pub(crate) struct Flows {
     // The place of the tile that is given up next.
     oldest: usize,
     slots: Slots,
-    ghost few: { AreFew side (length tiles.items) },
+    ghost few: { AreFewTiles side (length tiles.items) },
 }
 
 impl Flows {
@@ -312,7 +312,7 @@ fn present_holder<S: Samples>(samples: &S, side: Side, point: Point) -> Option<C
 
 // Of how many tiles of this side the flows are held.
 fn most_tiles(side: Side) -> usize
-    ensures { (count : ℕ) → count ≤ result → AreFew side count }
+    ensures { (count : ℕ) → count ≤ result → AreFewTiles side count }
 {
     let most = MOST_BYTES / side.area() as usize;
     if most < FEWEST_TILES {

@@ -1,5 +1,5 @@
 //! The labellings of the tiles that were asked.
-ghost use Rattle.std.specs.Prelude.{◌≡◌, ◌<◌, ◌↔◌, ℕ, Some, None, false, true, IfOk, IfErr, IfSome, IfNone, IsTrue, length, slice_set};
+ghost use Rattle.std.specs.Prelude.{◌≡◌, ◌≢◌, ◌<◌, ◌≤◌, ◌↔◌, ℕ, true, false, not, IfOk, IfErr, IfSome, IfNone, All, Contains, filter, count_by, length, slice_index_or};
 ghost use Rattle.lattice.specs.Corners.{Corner};
 ghost use Rattle.lattice.specs.Lattice.{IsIndexOf, holds};
 ghost use Rattle.lattice.specs.Mosaic.{Mosaic};
@@ -7,16 +7,17 @@ ghost use Rattle.lattice.specs.declared.refusal.Refusal.TheVariants.{NoMemory};
 ghost use Rattle.border_graph.specs.Others.{corner_at};
 ghost use Rattle.tile_labellings.specs.Labellings.{IsFlooded};
 ghost use Rattle.tile_labellings.specs.Spots.{IsLabelledAt};
-ghost use Rattle.tile_labellings.specs.TileLabellings.{IsTileLabelling, DifferAt as DifferAtIndex};
+ghost use Rattle.tile_labellings.specs.TileLabellings.{labelled_of, IsCurrent, IsTileLabelling};
 ghost use Rattle.tile_labellings.specs.declared.tile_labelling.TileLabelling.{TileLabelling};
-ghost use Rattle.drainage.specs.Holding.{IsEntered, labelling_at};
+ghost use Rattle.drainage.specs.Holding.{IsHeldAt, IsEntered};
+ghost use Rattle.drainage.specs.Invalidating.{IsNoted};
 ghost use Rattle.drainage.specs.Reaching.{DifferAt, is_reached};
+ghost use Rattle.drainage.specs.Room.{most_labellings, most_blocks, HasSide, has_block};
 
 use crate::filling::spot_of;
 use crate::reaching::is_reached;
-use lattice::{Corner, Point, Refusal, Side, index_in, push};
+use lattice::{Corner, Point, Refusal, Side, index_in};
 use std::alloc::Global;
-use std::marker::Model;
 use tile_flood::Labelled;
 use tile_labellings::TileLabelling;
 
@@ -34,62 +35,72 @@ const FEWEST_BLOCKS: usize = 4;
 // whole.
 const MOST_ALONE: u16 = 256;
 
-/// The labellings of tiles, by place. Where there is no room for another, the one that was used the longest ago is given
-/// up.
+/// The labelling that is held of the tile with this place.
 #[derive(Drop)]
-pub(crate) struct LabellingCache {
-    tiles: Vec<Option<TileLabelling>>,
-    // The places of those that are held, the one that was used last at the end.
-    by_use: Vec<usize>,
-    room: usize,
-    // Of so many tiles the blocks are held too.
-    blocks: usize,
-    // How many points of each tile were read by themselves since its labelling was to be held.
-    alone: Vec<u16>,
+pub(crate) struct HeldLabelling {
+    place: usize,
+    labelling: TileLabelling,
 }
 
-impl Model for LabellingCache {
-    ghost use Rattle.std.specs.Prelude.{List, Option};
-    ghost use Rattle.tile_labellings.specs.declared.tile_labelling.TileLabelling.{TileLabelling};
+impl HeldLabelling {
+    // The height of the point may change from then on. False where this can't be noted: then the labelling is to be given
+    // up.
+    fn note_changed(&mut self, side: Side, corners: &[Corner], point: Point) -> bool
+        ensures { IsNoted side corners.now point self.old result self.new }
+    {
+        let Some(corner) = corners.get(self.place) else {
+            return false;
+        };
+        match index_held(side, *corner, point) {
+            Some(index) => self.labelling.note_changed(index),
+            None => true,
+        }
+    }
+}
 
-    ghost Value = { List (Option TileLabelling) };
-
-    ghost view = { λ e. e.tiles.items };
+/// The labellings of tiles with one side. Where there is no room for another, the one that was used the longest ago is
+/// given up.
+#[derive(Drop)]
+pub(crate) struct LabellingCache {
+    side: Side,
+    // The one that was used last stands first.
+    held: Vec<HeldLabelling>,
+    // How many points of each tile were read by themselves since its labelling was to be held.
+    alone: Vec<u16>,
+    ghost few: { length held.items ≤ most_labellings side },
+    ghost few_blocks: { count_by has_block held.items ≤ most_blocks side },
+    ghost sides: { All (HasSide side) held.items },
 }
 
 impl LabellingCache {
     /// None of so many tiles is held. NoMemory is the only refusal.
     pub(crate) fn new(alloc: Global, side: Side, count: usize) -> Result<LabellingCache, Refusal>
-        ensures none { IfOk result (λ e. (t : ℕ) → labelling_at e t ≡ None) }
+        ensures none { IfOk result (λ cache. (t : ℕ) (l : TileLabelling) → IsHeldAt cache.held.items t l → ⊥) }
+        ensures side { IfOk result (λ cache. cache.side ≡ side) }
         ensures refusal { IfErr result (λ r. r ≡ NoMemory) }
     {
-        let mut tiles = Vec::new(alloc);
-        for _ in 0..count {
-            push(&mut tiles, None)?;
-        }
+        let alone = vec![in alloc; 0; count]?;
         Ok(LabellingCache {
-            tiles,
-            by_use: Vec::new(alloc),
-            room: most_tiles(side),
-            blocks: most_blocks(side),
-            alone: vec![in alloc; 0; count]?,
+            side,
+            held: Vec::new(alloc),
+            alone,
         })
     }
 
     /// The place of the tile that was used last, if one was.
     pub(crate) fn last(&self) -> usize {
-        let count = self.by_use.len();
-        if count == 0 {
-            return 0;
+        match self.held.first() {
+            Some(held) => held.place,
+            None => 0,
         }
-        self.by_use[count - 1]
     }
 
     /// The level and the label of the point with this index in the tile with this place, where its labelling is held and
     /// none of its heights may have changed since.
     pub(crate) fn spot(&mut self, t: usize, index: u32) -> Option<(i16, u16)>
-        ensures same { self.new ≡ self.old }
-        ensures some { IfSome result (λ spot. (m : Mosaic) (c : Corner) → IsEntered m c self.old t → IsLabelledAt m c index spot.0 spot.1) }
+        ensures same { All (Contains self.old.held.items) self.new.held.items }
+        ensures side { self.new.side ≡ self.old.side }
+        ensures some { IfSome result (λ spot. (m : Mosaic) (c : Corner) → IsEntered m c self.old.held.items t → IsLabelledAt m c index spot.0 spot.1) }
     {
         self.use_again(t);
         let labelled = self.labelling(t)?;
@@ -99,7 +110,8 @@ impl LabellingCache {
     /// Whether one more point of the tile with this place, of which nothing is held, is read by itself. Where not, its
     /// labelling is worth to be held.
     pub(crate) fn reads_alone(&mut self, t: usize) -> bool
-        ensures { self.new ≡ self.old }
+        ensures same { self.new.held.items ≡ self.old.held.items }
+        ensures side { self.new.side ≡ self.old.side }
     {
         if t >= self.alone.len() {
             return false;
@@ -112,73 +124,71 @@ impl LabellingCache {
         true
     }
 
-    /// The labelling of the tile with this place, where it is held and none of its heights may have changed since.
+    /// The labelling of the tile with this place, where one is held of which no height may have changed since.
     pub(crate) fn labelling(&self, t: usize) -> Option<&Labelled>
-        ensures { IfSome result (λ labelled. (m : Mosaic) (c : Corner) → IsEntered m c self.now t → IsFlooded m c labelled.now) }
+        ensures some { IfSome result (λ labelled. (l : TileLabelling) × IsHeldAt self.now.held.items t l × IsCurrent l × (labelled.now ≡ labelled_of l)) }
+        ensures none { IfNone result ((l : TileLabelling) → IsHeldAt self.now.held.items t l → IsCurrent l → ⊥) }
+        ensures flooded { IfSome result (λ labelled. (m : Mosaic) (c : Corner) → IsEntered m c self.now.held.items t → IsFlooded m c labelled.now) }
     {
-        let labelling = self.held(t)?;
-        if !labelling.is_current() {
-            return None;
-        }
-        Some(labelling.labelled())
-    }
-
-    // What is held of the tile with this place.
-    fn held(&self, t: usize) -> Option<&TileLabelling>
-        ensures { IfSome result (λ labelling. labelling_at self.now t ≡ Some labelling.now) }
-    {
-        match self.tiles.get(t) {
-            Some(Some(labelling)) => Some(labelling),
-            _ => None,
-        }
-    }
-
-    /// The place of a tile that holds the point, of those whose labellings are held. The ones that were used last are tried
-    /// first.
-    pub(crate) fn holder(&self, side: Side, corners: &[Corner], point: Point) -> Option<usize> {
-        for t in self.by_use.iter().rev() {
-            if is_in(side, corners, *t, point) {
-                return Some(*t);
+        for held in &self.held {
+            if held.place == t && held.labelling.is_current() {
+                return Some(held.labelling.labelled());
             }
         }
         None
     }
 
-    /// Hands out what is held of the tile with this place. Nothing is held of it then.
-    pub(crate) fn take(&mut self, t: usize) -> Option<TileLabelling>
-        ensures taken { IfSome result (λ labelling. labelling_at self.old t ≡ Some labelling) }
-        ensures left { (m : Mosaic) (c : Corner) (u : ℕ) → IsEntered m c self.old u → IsEntered m c self.new u }
-    {
-        if t >= self.tiles.len() {
-            return None;
+    /// The place of a tile that holds the point, of those whose labellings are held. The ones that were used last are tried
+    /// first.
+    pub(crate) fn holder(&self, side: Side, corners: &[Corner], point: Point) -> Option<usize> {
+        for held in &self.held {
+            if is_in(side, corners, held.place, point) {
+                return Some(held.place);
+            }
         }
-        let held = self.tiles[t].take();
-        self.invalidate(t);
-        held
+        None
     }
 
-    /// Holds the labelling of the tile with this place, where there is memory for it.
-    pub(crate) fn hold(&mut self, t: usize, labelling: TileLabelling)
-        ensures { (m : Mosaic) (c : Corner) (u : ℕ) → (u ≡ t → IsTileLabelling m c labelling) → IsEntered m c self.old u → IsEntered m c self.new u }
+    /// Hands out a labelling that is held of the tile with this place; None where none is.
+    pub(crate) fn take(&mut self, t: usize) -> Option<TileLabelling>
+        ensures some { IfSome result (IsHeldAt self.old.held.items t) }
+        ensures none { IfNone result ((l : TileLabelling) → IsHeldAt self.old.held.items t l → ⊥) }
+        ensures left { (m : Mosaic) (c : Corner) (u : ℕ) → IsEntered m c self.old.held.items u → IsEntered m c self.new.held.items u }
+        ensures side { self.new.side ≡ self.old.side }
     {
-        if t >= self.tiles.len() {
+        let at = place_of(&self.held, t)?;
+        let held = self.held.remove(at);
+        Some(held.labelling)
+    }
+
+    /// Holds the labelling of the tile with this place, where it is of the side, and there is memory for it.
+    pub(crate) fn hold(&mut self, t: usize, labelling: TileLabelling)
+        ensures entered { (m : Mosaic) (c : Corner) (u : ℕ) → (u ≡ t → IsTileLabelling m c labelling) → IsEntered m c self.old.held.items u → IsEntered m c self.new.held.items u }
+        ensures side { self.new.side ≡ self.old.side }
+    {
+        if labelling.labelled().side() != self.side {
             return;
         }
         self.make_room();
-        if t < self.tiles.len() && self.by_use.push(t).is_ok() {
-            self.replace(t, labelling);
-        }
+        let _ = self.held.insert(
+            0,
+            HeldLabelling {
+                place: t,
+                labelling,
+            },
+        );
     }
 
     // Gives up what there is no room for beside one tile more.
     fn make_room(&mut self)
-        ensures { (m : Mosaic) (c : Corner) (u : ℕ) → IsEntered m c self.old u → IsEntered m c self.new u }
+        ensures entered { (m : Mosaic) (c : Corner) (u : ℕ) → IsEntered m c self.old.held.items u → IsEntered m c self.new.held.items u }
+        ensures room { length self.new.held.items < most_labellings self.new.side }
+        ensures block { count_by has_block self.new.held.items < most_blocks self.new.side }
+        ensures side { self.new.side ≡ self.old.side }
     {
-        if self.by_use.len() >= self.room {
-            self.give_up();
-        }
-        if let Some(oldest) = self.oldest_block() {
-            self.give_up_block(oldest);
+        self.held.truncate(most_labellings(self.side) - 1);
+        if let Some(at) = oldest_block(&self.held, most_blocks(self.side)) {
+            give_up_block(&mut self.held, at);
         }
     }
 
@@ -190,143 +200,111 @@ impl LabellingCache {
         from: Point,
         to: Point,
     )
-        ensures { (t : ℕ) (l : TileLabelling) → labelling_at self.new t ≡ Some l ↔ ((labelling_at self.old t ≡ Some l) × (is_reached side corners.now from to t ≡ false)) }
+        ensures left { (t : ℕ) (l : TileLabelling) → IsHeldAt self.new.held.items t l ↔ (IsHeldAt self.old.held.items t l × (is_reached side corners.now from to t ≡ false)) }
+        ensures side { self.new.side ≡ self.old.side }
     {
-        for t in 0..self.tiles.len() {
-            if is_reached(side, corners, from, to, t) {
-                self.invalidate(t);
-            }
-        }
+        retain_unreached(&mut self.held, side, corners, from, to);
     }
 
     /// The height of the point may change from then on: of each tile that holds it this is noted, to mend its labelling once
     /// that is asked for, or the labelling is given up.
     pub(crate) fn note_changed(&mut self, side: Side, corners: &[Corner], point: Point)
-        ensures noted { (m new : Mosaic) (t : ℕ) → DifferAt m new point → m.side ≡ side → IsEntered m (corner_at corners.now t) self.old t → IsEntered new (corner_at corners.now t) self.new t }
-        ensures kept { (t : ℕ) → t < length corners.now → holds side (corner_at corners.now t) point ≡ false → labelling_at self.new t ≡ labelling_at self.old t }
+        ensures noted { (m new : Mosaic) (t : ℕ) → DifferAt m new point → m.side ≡ side → IsEntered m (corner_at corners.now t) self.old.held.items t → IsEntered new (corner_at corners.now t) self.new.held.items t }
+        ensures kept { (t : ℕ) → t < length corners.now → holds side (corner_at corners.now t) point ≡ false → (l : TileLabelling) → IsHeldAt self.new.held.items t l ↔ IsHeldAt self.old.held.items t l }
+        ensures side { self.new.side ≡ self.old.side }
     {
-        for t in 0..self.tiles.len() {
-            self.note_in(side, corners, t, point);
-        }
-    }
-
-    // The height of the point may change from then on, if the tile with this place holds it.
-    fn note_in(&mut self, side: Side, corners: &[Corner], t: usize, point: Point)
-        requires { t < length self.old }
-        ensures noted { (m new : Mosaic) → DifferAt m new point → m.side ≡ side → IsEntered m (corner_at corners.now t) self.old t → IsEntered new (corner_at corners.now t) self.new t }
-        ensures kept { t < length corners.now → holds side (corner_at corners.now t) point ≡ false → self.new ≡ self.old }
-        ensures others { (u : ℕ) → (u ≡ t → ⊥) → labelling_at self.new u ≡ labelling_at self.old u }
-        ensures whole { length self.new ≡ length self.old }
-    {
-        if t >= corners.len() {
-            self.invalidate(t);
-            return;
-        }
-        if let Some(index) = index_held(side, corners[t], point) {
-            self.note_at(t, index);
-        }
-    }
-
-    // The height of the tile's point with this index may change from then on.
-    fn note_at(&mut self, t: usize, index: u32)
-        requires { t < length self.old }
-        ensures noted { (m new : Mosaic) (c : Corner) → DifferAtIndex c index m new → IsEntered m c self.old t → IsEntered new c self.new t }
-        ensures others { (u : ℕ) → (u ≡ t → ⊥) → labelling_at self.new u ≡ labelling_at self.old u }
-        ensures whole { length self.new ≡ length self.old }
-    {
-        let Some(labelling) = &mut self.tiles[t] else {
-            return;
-        };
-        if !labelling.note_changed(index) {
-            self.invalidate(t);
-        }
-    }
-
-    // Gives up the labelling of the tile with this place.
-    fn invalidate(&mut self, t: usize)
-        requires { t < length self.old }
-        ensures { self.new ≡ slice_set self.old t None }
-    {
-        self.tiles[t] = None;
-        if let Some(at) = place_of(&self.by_use, t) {
-            self.by_use.remove(at);
-        }
-    }
-
-    // Gives up the labelling that was used the longest ago.
-    fn give_up(&mut self)
-        ensures { (u : ℕ) (l : TileLabelling) → labelling_at self.new u ≡ Some l → labelling_at self.old u ≡ Some l }
-    {
-        if self.by_use.len() == 0 {
-            return;
-        }
-        let oldest = self.by_use.remove(0);
-        if oldest < self.tiles.len() {
-            self.tiles[oldest] = None;
-        }
-    }
-
-    // Gives up the block of the tile with this place, so that its labelling can't be mended any more.
-    fn give_up_block(&mut self, t: usize)
-        requires { t < length self.old }
-        ensures { (m : Mosaic) (c : Corner) (u : ℕ) → IsEntered m c self.old u → IsEntered m c self.new u }
-    {
-        let Some(labelling) = self.tiles[t].take() else {
-            return;
-        };
-        let Some(left) = labelling.without_block() else {
-            self.invalidate(t);
-            return;
-        };
-        self.replace(t, left);
-    }
-
-    // Holds this of the tile with this place in place of what is held of it.
-    fn replace(&mut self, t: usize, labelling: TileLabelling)
-        requires { t < length self.old }
-        ensures { self.new ≡ slice_set self.old t (Some labelling) }
-    {
-        self.tiles[t] = Some(labelling);
-    }
-
-    // Where as many blocks are held as there is room for, the place of the tile whose block was used the longest ago.
-    fn oldest_block(&self) -> Option<usize>
-        ensures { IfSome result (λ t. t < length self.now) }
-    {
-        let mut room = self.blocks;
-        for t in self.by_use.iter().rev() {
-            if self.has_block(*t) {
-                room = room.saturating_sub(1);
-                if room == 0 {
-                    return Some(*t);
-                }
-            }
-        }
-        None
-    }
-
-    // Whether the labelling of the tile with this place is held with its block.
-    fn has_block(&self, t: usize) -> bool
-        ensures { IsTrue result → t < length self.now }
-    {
-        match self.tiles.get(t) {
-            Some(Some(TileLabelling::Flooded(_))) => true,
-            _ => false,
-        }
+        retain_noted(&mut self.held, side, corners, point);
     }
 
     // The tile with this place is the one that was used last, where it is held.
     fn use_again(&mut self, t: usize)
-        ensures { self.new ≡ self.old }
+        ensures only { All (Contains self.old.held.items) self.new.held.items }
+        ensures all { All (Contains self.new.held.items) self.old.held.items }
+        ensures side { self.new.side ≡ self.old.side }
     {
-        if self.last() == t {
-            return;
+        if let Some(at) = place_of(&self.held, t) {
+            move_first(&mut self.held, at);
         }
-        let Some(at) = place_of(&self.by_use, t) else {
-            return;
-        };
-        self.by_use[at..].rotate_left(1);
     }
+}
+
+// Moves the one with this index before all others.
+fn move_first(held: &mut Vec<HeldLabelling>, at: usize)
+    requires { at < length held.old.items }
+    ensures only { All (Contains held.old.items) held.new.items }
+    ensures all { All (Contains held.new.items) held.old.items }
+    ensures count { length held.new.items ≡ length held.old.items }
+    ensures blocks { count_by has_block held.new.items ≡ count_by has_block held.old.items }
+{
+    if at == 0 {
+        return;
+    }
+    let one = held.remove(at);
+    // What was removed left room for it.
+    let _ = held.insert(0, one);
+}
+
+// Gives up the block of the one with this index, so that its labelling can't be mended any more.
+fn give_up_block(held: &mut Vec<HeldLabelling>, at: usize)
+    requires { at < length held.old.items }
+    ensures entered { (m : Mosaic) (c : Corner) (u : ℕ) → IsEntered m c held.old.items u → IsEntered m c held.new.items u }
+    ensures sides { (n : ℕ) → All (HasSide n) held.old.items → All (HasSide n) held.new.items }
+    ensures count { length held.new.items ≤ length held.old.items }
+    ensures blocks { (d : HeldLabelling) → has_block (slice_index_or held.old.items at d) ≡ true → count_by has_block held.new.items < count_by has_block held.old.items }
+{
+    let one = held.remove(at);
+    if let Some(labelling) = one.labelling.without_block() {
+        // What was removed left room for it.
+        let _ = held.insert(
+            at,
+            HeldLabelling {
+                place: one.place,
+                labelling,
+            },
+        );
+    }
+}
+
+// Where as many blocks are held as there is room for, the index of the one that was used the longest ago.
+fn oldest_block(held: &[HeldLabelling], room: usize) -> Option<usize>
+    requires { 0 < room }
+    ensures some { IfSome result (λ at. (at < length held.now) × ((d : HeldLabelling) → has_block (slice_index_or held.now at d) ≡ true)) }
+    ensures none { IfNone result (count_by has_block held.now < room) }
+{
+    let mut count = 0;
+    for (at, one) in held.iter().enumerate() {
+        if one.labelling.is_flooded() {
+            count += 1;
+            if count == room {
+                return Some(at);
+            }
+        }
+    }
+    None
+}
+
+// Keeps those of the tiles that changes from the one point to the other don't reach.
+fn retain_unreached(
+    held: &mut Vec<HeldLabelling>,
+    side: Side,
+    corners: &[Corner],
+    from: Point,
+    to: Point,
+)
+    ensures { held.new.items ≡ filter (λ one. not (is_reached side corners.now from to one.place)) held.old.items }
+{
+    held.retain(|one| !is_reached(side, corners, from, to, one.place));
+}
+
+// The height of the point may change from then on: keeps those of which this is noted, where their tiles hold it.
+fn retain_noted(held: &mut Vec<HeldLabelling>, side: Side, corners: &[Corner], point: Point)
+    ensures noted { (m new : Mosaic) (t : ℕ) → DifferAt m new point → m.side ≡ side → IsEntered m (corner_at corners.now t) held.old.items t → IsEntered new (corner_at corners.now t) held.new.items t }
+    ensures kept { (t : ℕ) → t < length corners.now → holds side (corner_at corners.now t) point ≡ false → (l : TileLabelling) → IsHeldAt held.new.items t l ↔ IsHeldAt held.old.items t l }
+    ensures sides { (n : ℕ) → All (HasSide n) held.old.items → All (HasSide n) held.new.items }
+    ensures count { length held.new.items ≤ length held.old.items }
+    ensures blocks { count_by has_block held.new.items ≤ count_by has_block held.old.items }
+{
+    held.retain_mut(|one| one.note_changed(side, corners, point));
 }
 
 // The index of the point in the corner's tile, where that holds it.
@@ -349,23 +327,30 @@ fn is_in(side: Side, corners: &[Corner], t: usize, point: Point) -> bool {
 }
 
 // Of how many tiles of this side the labellings are held.
-fn most_tiles(side: Side) -> usize {
+fn most_labellings(side: Side) -> usize
+    ensures value { result ≡ most_labellings side }
+    ensures some { 0 < result }
+{
     let bytes = 4 * side.area() as usize;
     (MOST_BYTES / bytes).max(FEWEST_TILES)
 }
 
 // Of how many of them the blocks are held too.
-fn most_blocks(side: Side) -> usize {
+fn most_blocks(side: Side) -> usize
+    ensures value { result ≡ most_blocks side }
+    ensures some { 0 < result }
+{
     let bytes = 2 * side.area() as usize;
     (MOST_BLOCK_BYTES / bytes).max(FEWEST_BLOCKS)
 }
 
-// Where among the places this one stands.
-fn place_of(places: &[usize], t: usize) -> Option<usize>
-    ensures { IfSome result (λ at. at < length places.now) }
+// Where among these one of the tile with this place stands.
+fn place_of(held: &[HeldLabelling], t: usize) -> Option<usize>
+    ensures some { IfSome result (λ at. (at < length held.now) × ((d : HeldLabelling) → (slice_index_or held.now at d).place ≡ t)) }
+    ensures none { IfNone result (All (λ one. one.place ≢ t) held.now) }
 {
-    for (at, place) in places.iter().enumerate() {
-        if *place == t {
+    for (at, one) in held.iter().enumerate() {
+        if one.place == t {
             return Some(at);
         }
     }

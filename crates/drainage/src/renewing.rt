@@ -28,11 +28,12 @@ pub(crate) fn current_labelling<S: Labellings>(
     t: usize,
     corner: Corner,
 ) -> Result<TileLabelling, Refusal>
-    ensures valid { S.is_honest samples.new → IsEntered (S.mosaic samples.old) corner labellings.old t → IfOk result (IsTileLabelling (S.mosaic samples.old) corner) }
+    ensures valid { S.is_honest samples.new → IsEntered (S.mosaic samples.old) corner labellings.old.held.items t → IfOk result (IsTileLabelling (S.mosaic samples.old) corner) }
     ensures current { IfOk result IsCurrent }
     ensures side { IfOk result (λ labelling. (labelled_of labelling).side ≡ S.side_of samples.old) }
     ensures present { OnOk result (Contains (S.corners samples.old) corner) }
-    ensures left { (m : Mosaic) (c : Corner) (u : ℕ) → IsEntered m c labellings.old u → IsEntered m c labellings.new u }
+    ensures left { (m : Mosaic) (c : Corner) (u : ℕ) → IsEntered m c labellings.old.held.items u → IsEntered m c labellings.new.held.items u }
+    ensures same_side { labellings.new.side ≡ labellings.old.side }
     ensures honest { S.is_honest samples.new → S.is_honest samples.old }
     ensures mosaic { S.is_honest samples.new → S.mosaic samples.new ≡ S.mosaic samples.old }
     ensures asked { (S.is_honest samples.new → Contains (S.corners samples.old) corner) → Asked S.Samples samples.old samples.new result }
@@ -62,7 +63,8 @@ pub(crate) fn kept_spot<S: Labellings>(
     index: u32,
 ) -> Result<Option<(i16, u16)>, Refusal>
     ensures spot { S.is_honest samples.new → IfOk result (λ found. IfSome found (λ spot. IsLabelledAt (S.mosaic samples.old) corner index spot.0 spot.1)) }
-    ensures same { labellings.new ≡ labellings.old }
+    ensures same { labellings.new.held.items ≡ labellings.old.held.items }
+    ensures same_side { labellings.new.side ≡ labellings.old.side }
     ensures asked { (S.is_honest samples.new → Contains (S.corners samples.old) corner) → Asked S.Samples samples.old samples.new result }
     ensures reads { OnOk result (OnlyReads {T = Unit {0}} S.Samples samples.old samples.new (Ok tt)) }
     ensures honest { S.is_honest samples.new → S.is_honest samples.old }
@@ -91,10 +93,11 @@ fn renewed<S: Samples>(
     t: usize,
     corner: Corner,
 ) -> Result<Option<TileLabelling>, Refusal>
-    ensures valid { S.is_honest samples.new → IsEntered (S.mosaic samples.old) corner labellings.old t → IfOk result (λ found. IfSome found (IsTileLabelling (S.mosaic samples.old) corner)) }
+    ensures valid { S.is_honest samples.new → IsEntered (S.mosaic samples.old) corner labellings.old.held.items t → IfOk result (λ found. IfSome found (IsTileLabelling (S.mosaic samples.old) corner)) }
     ensures current { IfOk result (λ found. IfSome found IsCurrent) }
     ensures side { IfOk result (λ found. IfSome found (λ renewed. (labelled_of renewed).side ≡ S.side_of samples.old)) }
-    ensures left { (m : Mosaic) (c : Corner) (u : ℕ) → IsEntered m c labellings.old u → IsEntered m c labellings.new u }
+    ensures left { (m : Mosaic) (c : Corner) (u : ℕ) → IsEntered m c labellings.old.held.items u → IsEntered m c labellings.new.held.items u }
+    ensures same_side { labellings.new.side ≡ labellings.old.side }
     ensures refusal { IfErr result (λ r. (r ≡ NoMemory) ⊎ MayRefuse (S.failures samples.old) (S.failures samples.new) r) }
     ensures reads { OnlyReads S.Samples samples.old samples.new (reads_of result) }
 {

@@ -1,8 +1,9 @@
 //! What is found of a mosaic's water: ways, labellings and levels, tile by tile as they are asked for.
-ghost use Rattle.std.specs.Prelude.{◌≡◌, ◌≢◌, ◌-◌, ◌*◌, ◌<◌, ℕ, IfOk, IfErr, IfSome, OnOk, IsTrue, Ok, Some, length};
+ghost use Rattle.std.specs.Prelude.{◌≡◌, ◌≢◌, ◌-◌, ◌*◌, ◌<◌, ℕ, IfOk, IfErr, IfSome, IfNone, OnOk, IsTrue, Ok, Some, length};
 ghost use Rattle.catalogue.specs.Asked.{Asked};
 ghost use Rattle.catalogue.specs.Endings.{ends_any};
 ghost use Rattle.catalogue.specs.Readers.{OnlyReads};
+ghost use Rattle.tile_flood.specs.Blocks.{LabelledGround};
 ghost use Rattle.tile_labellings.specs.Labellings.{IsFlooded};
 ghost use Rattle.tile_labellings.specs.Spots.{IsLabelledAt};
 ghost use Rattle.lattice.specs.Height.{height_of};
@@ -13,7 +14,7 @@ ghost use Rattle.border_graph.specs.TileGraph.{TileGraph as TileGraphOf};
 ghost use Rattle.border_graph.specs.Others.{corner_at};
 ghost use Rattle.drainage.specs.RimGraphs.{loaded_at};
 ghost use Rattle.drainage.specs.Invalidating.{IsLeftOf, IsNotedOf};
-ghost use Rattle.drainage.specs.Holding.{IsRight, IsGrown};
+ghost use Rattle.drainage.specs.Holding.{IsRight, IsGrown, IsCurrentIn};
 ghost use Rattle.drainage.specs.Reaching.{DifferAt, DifferBetween, is_reached};
 ghost use Rattle.drainage.specs.Spared.{AreLevelsStill, IsNoHigher, IsSetTo};
 
@@ -36,6 +37,7 @@ pub(crate) struct TileCache {
     pub(crate) rim_graph: RimGraph,
     pub(crate) labellings: LabellingCache,
     pub(crate) levels: RimLevels,
+    ghost same_side: { labellings.side ≡ rim_graph.side },
 }
 
 impl TileCache {
@@ -86,7 +88,9 @@ impl TileCache {
 
     /// The labelling of the corner's tile, where it is held and none of its heights may have changed since.
     pub(crate) fn labelling(&self, corner: Corner) -> Option<&Labelled>
-        ensures { (m : Mosaic) → IsRight m (known_of self.now) → IfSome result (λ labelled. IsFlooded m corner labelled.now) }
+        ensures flooded { (m : Mosaic) → IsRight m (known_of self.now) → IfSome result (λ labelled. IsFlooded m corner labelled.now) }
+        ensures some { IfSome result (λ labelled. IsCurrentIn (known_of self.now) corner labelled.now) }
+        ensures none { IfNone result ((labelled : LabelledGround) → IsCurrentIn (known_of self.now) corner labelled → ⊥) }
     {
         let t = place_of(&self.rim_graph.corners, corner)?;
         let labelled = self.labellings.labelling(t)?;

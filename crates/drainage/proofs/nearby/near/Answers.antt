@@ -13,11 +13,11 @@ use Rattle.drainage.proofs.nearby.near.Goals as goal
 
 pub level_in_tile-requires-clause-held : goal.level_in_tile-requires-clause-held
 level_in_tile-requires-clause-held c m right =
-    c.in_ok-labelled.ensures m c.in_ok-corner.corner (λ x at. subst (λ (d : Corner). IsTileLabelling m d x) c.in_ok-corner.ensures.some.1 (right.labellings c.in_ok-t.t x at))
+    c.in_ok-labelled.ensures.flooded m c.in_ok-corner.corner (λ x at. subst (λ (d : Corner). IsTileLabelling m d x) c.in_ok-corner.ensures.some.1 (right.labellings c.in_ok-t.t x at))
 
 pub level_beside-requires-clause-held : goal.level_beside-requires-clause-held
 level_beside-requires-clause-held c m right =
-    c.in_ok-labelled.ensures m c.in_ok-corner.corner (λ x at. subst (λ (d : Corner). IsTileLabelling m d x) c.in_ok-corner.ensures.some.1 (right.labellings c.in_ok-t.t x at))
+    c.in_ok-labelled.ensures.flooded m c.in_ok-corner.corner (λ x at. subst (λ (d : Corner). IsTileLabelling m d x) c.in_ok-corner.ensures.some.1 (right.labellings c.in_ok-t.t x at))
 
 pub loop-i-preserved : goal.loop-i-preserved
 loop-i-preserved c =

@@ -2,7 +2,7 @@ use Rattle.std.proofs.Common.{sym, subst}
 use Rattle.std.proofs.lemmas.Result.{err_from_is_err_and}
 use Rattle.lattice.specs.Mosaic.{Mosaic}
 use Rattle.drainage.specs.Holding.{IsRight}
-use Rattle.drainage.specs.TileCaches.{known_of}
+use Rattle.drainage.specs.TileCaches.{known_by, known_of}
 use Rattle.drainage.proofs.Questioned.{passed_on, refused_by}
 use Rattle.drainage.proofs.TileLevels.{is_there, entered_there, right_held, right_fewer, rim_filled, raised_asked, raised_causes}
 use Rattle.drainage.proofs.tile_levels.levels_over_rim.Goals as goal
@@ -12,9 +12,9 @@ returns-in_err-labelling-clause-right g c honest =
     let a = c.args.samples.now in
     let made = c.in_err-labelling.ensures in
     let before = made.honest honest in
-    subst (λ (m : Mosaic). IsRight m (known_of (record { rim_graph = c.args.tile_cache.now.rim_graph; labellings = c.current_labelling.new.labellings; levels = c.args.tile_cache.now.levels }))) (sym (made.mosaic honest))
+    subst (λ (m : Mosaic). IsRight m (known_by c.args.tile_cache.now.rim_graph c.current_labelling.new.labellings c.args.tile_cache.now.levels)) (sym (made.mosaic honest))
     (right_fewer g.S.Samples a (g.met.S.Samples.is_mosaic a before) (known_of c.args.tile_cache.now) c.args.t c.args.corner c.requires.place (c.requires.corner before) (c.requires.right before) (g.met.S.Samples.same_corners a before)
-    c.current_labelling.new.labellings made.left)
+    c.current_labelling.new.labellings.held.items made.left)
 
 pub returns-in_err-labelling-clause-asked : goal.returns-in_err-labelling-clause-asked
 returns-in_err-labelling-clause-asked g c =
@@ -50,9 +50,9 @@ returns-clause-right g c honest =
     let known = known_of c.args.tile_cache.now in
     let same = g.met.S.Samples.same_corners a before in
     let valid = made.valid honest (entered_there g.S.Samples a is known c.args.t c.args.corner c.requires.place (c.requires.corner before) (c.requires.right before) same) in
-    subst (λ (m : Mosaic). IsRight m (known_of (record { rim_graph = c.args.tile_cache.now.rim_graph; labellings = c.hold.new.self; levels = c.args.tile_cache.now.levels }))) (sym (made.mosaic honest))
-    (right_held g.S.Samples a is known c.args.t c.args.corner c.requires.place (c.requires.corner before) (c.requires.right before) same c.hold.new.self c.in_ok-labelling.labelling valid
-    (λ m d u there entered. c.hold.ensures m d u there (made.left m d u entered)))
+    subst (λ (m : Mosaic). IsRight m (known_by c.args.tile_cache.now.rim_graph c.hold.new.self c.args.tile_cache.now.levels)) (sym (made.mosaic honest))
+    (right_held g.S.Samples a is known c.args.t c.args.corner c.requires.place (c.requires.corner before) (c.requires.right before) same c.hold.new.self.held.items c.in_ok-labelling.labelling valid
+    (λ m d u there entered. c.hold.ensures.entered m d u there (made.left m d u entered)))
 
 pub returns-clause-causes : goal.returns-clause-causes
 returns-clause-causes g c = raised_causes g.S.Samples c.args.samples.now c.current_labelling.new.samples _ c.raise-levels.result c.raise-levels.ensures.refusal

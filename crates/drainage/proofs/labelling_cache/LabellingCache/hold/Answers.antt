@@ -1,15 +1,14 @@
-use Rattle.std.proofs.Common.{rules, ◌<◌, List, length, sym, subst}
-use Rattle.std.specs.Prelude.{Option, Some}
-use Rattle.tile_labellings.specs.declared.tile_labelling.TileLabelling.{TileLabelling}
+use Rattle.std.proofs.Common.{List, sym, subst}
+use Rattle.std.specs.Prelude.{insert, is_ok}
 use Rattle.drainage.specs.Holding.{IsEntered}
-use Rattle.drainage.proofs.Caching.{set_there, set_any}
+use Rattle.drainage.specs.declared.labelling_cache.HeldLabelling.{HeldLabelling}
+use Rattle.drainage.proofs.Caching.{entered_one, inserted_or_not}
 use Rattle.drainage.proofs.labelling_cache.LabellingCache.hold.Goals as goal
 
-pub returns-then-is_ok : goal.returns-then-is_ok
-returns-then-is_ok c m d u valid labellings =
-    let tiles = c.self-2.inside.tiles.items in
-    let t = c.args.t in
-    let inside : t < length tiles = search rules in
-    subst (λ (l : List (Option TileLabelling)). IsEntered m d l u) (sym c.replace.ensures)
-    (set_any m d tiles t (Some c.args.labelling) u (λ is. set_there m d tiles t c.args.labelling inside (valid is))
-    (subst (λ (l : List (Option TileLabelling)). IsEntered m d l u) (sym c.self-2.view_is) (c.make_room.ensures m d u labellings)))
+pub returns-clause-entered : goal.returns-clause-entered
+returns-clause-entered c m d u valid entered =
+    let held = c.make_room.new.self.held.items in
+    let was = c.make_room.ensures.entered m d u entered in
+    subst (λ (l : List HeldLabelling). IsEntered m d l u) (sym c.insert.ensures.items)
+    (inserted_or_not (λ (l : List HeldLabelling). IsEntered m d l u) (is_ok c.insert.result) (insert held 0 (record { place = c.args.t; labelling = c.args.labelling })) held
+    (entered_one m d c.args.t c.args.labelling u held 0 valid was) was)

@@ -1,25 +1,32 @@
-use Rattle.std.proofs.Common.{◌≡◌, ◌+◌, ◌<◌, ◌≤◌, length, sym, ap, ◌∙◌, subst, rules}
+use Rattle.std.proofs.Common.{◌≡◌, false, List, length, not, sym, ap, subst, arith}
+use Rattle.std.specs.Prelude.{◌↔◌, All, count_by}
+use Rattle.std.proofs.lemmas.List.Elements.{All-filter}
+use Rattle.std.proofs.lemmas.List.Sums.{length-filter, count_by-le-length}
+use Rattle.drainage.specs.Holding.{IsHeldAt}
 use Rattle.drainage.specs.Reaching.{is_reached}
-use Rattle.drainage.proofs.Invalidated.{AreGivenUp, one_spared, one_given_up, all_given_up}
+use Rattle.drainage.specs.Room.{HasSide, has_block}
+use Rattle.drainage.specs.declared.labelling_cache.HeldLabelling.{HeldLabelling}
+use Rattle.drainage.proofs.Caching.{count_filtered, left_unreached}
 use Rattle.drainage.proofs.labelling_cache.LabellingCache.invalidate_between.Goals as goal
-use Rattle.drainage.proofs.labelling_cache.LabellingCache.invalidate_between.Goals.{then-is_reached, else-is_reached}
 
-pub loop-t-preserved : goal.loop-t-preserved
-loop-t-preserved c =
+pub invariant_of-self-clause-few : goal.invariant_of-self-clause-few
+invariant_of-self-clause-few c =
+    let test = λ (one : HeldLabelling). not (is_reached c.args.side c.args.corners.now c.args.from c.args.to one.place) in
+    omega (arith, ap length c.retain_unreached.ensures, length-filter test c.args.self.now.held.items, count_by-le-length test c.args.self.now.held.items, c.args.self.now.few)
+
+pub invariant_of-self-clause-few_blocks : goal.invariant_of-self-clause-few_blocks
+invariant_of-self-clause-few_blocks c =
+    let test = λ (one : HeldLabelling). not (is_reached c.args.side c.args.corners.now c.args.from c.args.to one.place) in
+    omega (arith, ap (count_by has_block) c.retain_unreached.ensures, count_filtered has_block test c.args.self.now.held.items, c.args.self.now.few_blocks)
+
+pub invariant_of-self-clause-sides : goal.invariant_of-self-clause-sides
+invariant_of-self-clause-sides c =
     let was = c.args.self.now in
-    let so = c.loop-t.invariant in
+    subst (All (HasSide was.side)) (sym c.retain_unreached.ensures)
+    (All-filter (λ (one : HeldLabelling). not (is_reached c.args.side c.args.corners.now c.args.from c.args.to one.place)) (HasSide was.side) was.held.items was.sides)
+
+pub returns-clause-left : goal.returns-clause-left
+returns-clause-left c t l =
+    let held = c.args.self.now.held.items in
     let gone = is_reached c.args.side c.args.corners.now c.args.from c.args.to in
-    let many : length c.self.inside.tiles.items ≡ length was = ap length c.self.view_is in
-    let inside : c.loop-t.t < length c.loop-t.self = (let below = c.loop-t-test.true in let size = c.len-t-end.ensures in let whole = so.whole in search rules) in
-    elim c.if-is_reached.branch [
-      | then-is_reached w ↦ subst (AreGivenUp gone was (c.loop-t.t + 1)) (sym (w.self-is ∙ w.invalidate.ensures)) (one_given_up gone was c.loop-t.t c.loop-t.self inside (sym c.is_reached.ensures ∙ w.if-is_reached.true) so)
-      | else-is_reached w ↦ subst (AreGivenUp gone was (c.loop-t.t + 1)) (sym w.self-is) (one_spared gone was c.loop-t.t c.loop-t.self (sym c.is_reached.ensures ∙ w.if-is_reached.false) so)
-    ]
-
-pub returns : goal.returns
-returns c t l =
-    let was = c.args.self.now in
-    let so = c.loop-t.invariant in
-    let many : length c.self.inside.tiles.items ≡ length was = ap length c.self.view_is in
-    let whole : length c.loop-t.self ≤ c.loop-t.t = (let last = c.loop-t-test.false in let size = c.len-t-end.ensures in let same = so.whole in search rules) in
-    all_given_up (is_reached c.args.side c.args.corners.now c.args.from c.args.to) was c.loop-t.self c.loop-t.t whole so t l
+    subst (λ (left : List HeldLabelling). IsHeldAt left t l ↔ (IsHeldAt held t l × (gone t ≡ false))) (sym c.retain_unreached.ensures) (left_unreached gone held t l)

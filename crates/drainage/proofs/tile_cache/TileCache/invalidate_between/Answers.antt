@@ -1,10 +1,10 @@
 use Rattle.std.proofs.Common.{◌≡◌, false, List, subst}
-use Rattle.std.specs.Prelude.{◌↔◌, Some}
+use Rattle.std.specs.Prelude.{◌↔◌}
 use Rattle.lattice.specs.Corners.{Corner}
-use Rattle.drainage.specs.Holding.{labelling_at}
+use Rattle.drainage.specs.Holding.{IsHeldAt}
 use Rattle.drainage.specs.Reaching.{is_reached}
 use Rattle.drainage.specs.Spared.{IsNoHigher}
-use Rattle.drainage.specs.TileCaches.{known_of}
+use Rattle.drainage.specs.TileCaches.{known_by, known_of}
 use Rattle.drainage.proofs.Invalidated.{left_right}
 use Rattle.drainage.proofs.tile_cache.TileCache.invalidate_between.Goals as goal
 
@@ -17,12 +17,12 @@ returns-clause-left c =
       same_corners = rim_graph.corners;
       whole = rim_graph.whole;
       loaded = rim_graph.loaded;
-      labellings = λ t labelled. subst (λ (cs : List Corner). labelling_at c.invalidate_between.new.self t ≡ Some labelled ↔ ((labelling_at was.labellings t ≡ Some labelled) × (is_reached was.rim_graph.side cs c.args.from c.args.to t ≡ false)))
-          c.deref.ensures.value (c.invalidate_between.ensures t labelled);
+      labellings = λ t labelled. subst (λ (cs : List Corner). IsHeldAt c.invalidate_between.new.self.held.items t labelled ↔ (IsHeldAt was.labellings.held.items t labelled × (is_reached was.rim_graph.side cs c.args.from c.args.to t ≡ false)))
+          c.deref.ensures.value (c.invalidate_between.ensures.left t labelled);
       levels = c.invalidate_above.ensures;
     }
 
 pub returns-clause-right : goal.returns-clause-right
 returns-clause-right c m new differ still right =
-    left_right m new c.args.from c.args.to (IsNoHigher c.args.most) (known_of c.args.self.now) (known_of (record { rim_graph = c.invalidate_between-2.new.self; labellings = c.invalidate_between.new.self; levels = c.invalidate_above.new.self })) differ still
+    left_right m new c.args.from c.args.to (IsNoHigher c.args.most) (known_of c.args.self.now) (known_by c.invalidate_between-2.new.self c.invalidate_between.new.self c.invalidate_above.new.self) differ still
     (returns-clause-left c) right

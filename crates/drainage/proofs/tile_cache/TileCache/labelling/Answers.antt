@@ -1,11 +1,12 @@
-use Rattle.std.proofs.Common.{◌≡◌, List, subst}
+use Rattle.std.proofs.Common.{◌≡◌, List, subst, arith}
 use Rattle.lattice.specs.Corners.{Corner}
 use Rattle.border_graph.specs.Others.{corner_at}
 use Rattle.tile_labellings.specs.TileLabellings.{IsTileLabelling}
+use Rattle.drainage.specs.Holding.{IsPlaceOf}
 use Rattle.drainage.proofs.tile_cache.TileCache.labelling.Goals as goal
 
-pub returns : goal.returns
-returns c m right =
+pub returns-clause-flooded : goal.returns-clause-flooded
+returns-clause-flooded c m right =
     let t = c.in_ok-t.t in
     let place : corner_at c.args.self.now.rim_graph.corners.items t ≡ c.args.corner = subst (λ (cs : List Corner). corner_at cs t ≡ c.args.corner) c.deref.ensures.value c.in_ok-t.ensures.some.1 in
-    c.in_ok-labelled.ensures m c.args.corner (λ x at. subst (λ (d : Corner). IsTileLabelling m d x) place (right.labellings t x at))
+    c.in_ok-labelled.ensures.flooded m c.args.corner (λ x at. subst (λ (d : Corner). IsTileLabelling m d x) place (right.labellings t x at))

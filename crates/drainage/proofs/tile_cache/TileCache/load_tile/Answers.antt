@@ -8,7 +8,7 @@ use Rattle.border_graph.specs.Joining.{IsSummaryOf}
 use Rattle.tile_labellings.specs.TileLabellings.{IsTileLabelling}
 use Rattle.tile_labellings.specs.declared.tile_labelling.TileLabelling.{TileLabelling}
 use Rattle.drainage.specs.Holding.{IsRight}
-use Rattle.drainage.specs.TileCaches.{known_of}
+use Rattle.drainage.specs.TileCaches.{known_by, known_of}
 use Rattle.drainage.proofs.Growing.{grown_by, grown_fewer}
 use Rattle.drainage.proofs.Questioned.{answered, passed_on, refused_by, stopped, wanting}
 use Rattle.drainage.proofs.Renewed.{entered_there, is_there}
@@ -49,7 +49,7 @@ pub returns-in_err-summary-clause-grown : goal.returns-in_err-summary-clause-gro
 returns-in_err-summary-clause-grown g c =
     let made = c.in_ok-labelling.ensures in
     let summed = c.in_err-summary.ensures in
-    grown_fewer g.S.Samples c.args.samples.now c.summarize.new.samples (known_of c.args.self.now) c.current_labelling.new.labellings
+    grown_fewer g.S.Samples c.args.samples.now c.summarize.new.samples (known_of c.args.self.now) c.current_labelling.new.labellings.held.items
     (λ honest. made.honest (summed.honest honest)) (λ honest. summed.mosaic honest ∙ made.mosaic (summed.honest honest)) made.left
 
 pub returns-in_err-summary-clause-asked : goal.returns-in_err-summary-clause-asked
@@ -80,7 +80,7 @@ returns-in_err-learn-clause-grown g c =
     let labelling = c.in_ok-labelling.labelling in
     let valid : g.S.Samples.is_honest d → IsRight (g.S.Samples.mosaic a) was → IsTileLabelling (g.S.Samples.mosaic a) c.args.corner labelling =
     λ honest right. made.valid (summed.honest honest) (entered_there g.S.Samples a was c.args.t c.args.corner c.requires.place c.requires.corner right) in
-    grown_by g.S.Samples a d was (known_of (record { rim_graph = c.learn.new.self; labellings = c.current_labelling.new.labellings; levels = c.args.self.now.levels }))
+    grown_by g.S.Samples a d was (known_by c.learn.new.self c.current_labelling.new.labellings c.args.self.now.levels)
     (record { honest = λ honest. made.honest (summed.honest honest); mosaic = λ honest. summed.mosaic honest ∙ made.mosaic (summed.honest honest); same_side = learned.side; same_corners = learned.corners; still = learned.still }) refl
     c.args.t c.args.corner labelling c.requires.corner valid
     (λ honest right.
@@ -112,7 +112,7 @@ returns-clause-grown g c =
     let labelling = c.in_ok-labelling.labelling in
     let valid : g.S.Samples.is_honest d → IsRight (g.S.Samples.mosaic a) was → IsTileLabelling (g.S.Samples.mosaic a) c.args.corner labelling =
     λ honest right. made.valid (summed.honest honest) (entered_there g.S.Samples a was c.args.t c.args.corner c.requires.place c.requires.corner right) in
-    grown_by g.S.Samples a d was (known_of (record { rim_graph = c.learn.new.self; labellings = c.hold.new.self; levels = c.args.self.now.levels }))
+    grown_by g.S.Samples a d was (known_by c.learn.new.self c.hold.new.self c.args.self.now.levels)
     (record { honest = λ honest. made.honest (summed.honest honest); mosaic = λ honest. summed.mosaic honest ∙ made.mosaic (summed.honest honest); same_side = learned.side; same_corners = learned.corners; still = learned.still }) refl
     c.args.t c.args.corner labelling c.requires.corner valid
     (λ honest right.
@@ -121,7 +121,7 @@ returns-clause-grown g c =
     (subst (λ (m : Mosaic). IsSummaryOf m c.in_ok-summary.summary) (made.mosaic mid) (summed.border honest made.current
     (subst (λ (m : Mosaic). IsTileLabelling m c.args.corner labelling) (sym (made.mosaic mid)) (valid honest right))))
     right.ready.tiles)
-    (λ m e u here labellings. c.hold.ensures m e u (λ same. subst (λ (x : TileLabelling). IsTileLabelling m e x) (sym summed.same) (here same)) (made.left m e u labellings))
+    (λ m e u here labellings. c.hold.ensures.entered m e u (λ same. subst (λ (x : TileLabelling). IsTileLabelling m e x) (sym summed.same) (here same)) (made.left m e u labellings))
 
 pub returns-clause-reads : goal.returns-clause-reads
 returns-clause-reads g c =

@@ -1,12 +1,14 @@
 use Rattle.std.proofs.lemmas.Int.{to_z-of_z}
 use Rattle.std.proofs.Common.{rules, SFits, w16, to_z, of_z, ℤ, ◌≡◌, ◌<◌, ℕ, false, List, length, refl, sym, subst}
+use Rattle.std.specs.Prelude.{◌↔◌}
 use Rattle.lattice.specs.Corners.{Corner}
 use Rattle.lattice.specs.Lattice.{holds}
 use Rattle.border_graph.specs.Others.{corner_at}
-use Rattle.drainage.specs.Holding.{IsEntered, IsRimLevel, labelling_at}
+use Rattle.tile_labellings.specs.declared.tile_labelling.TileLabelling.{TileLabelling}
+use Rattle.drainage.specs.Holding.{IsEntered, IsHeldAt, IsRimLevel}
 use Rattle.drainage.specs.Reaching.{DifferAt}
 use Rattle.drainage.specs.Spared.{IsSpared}
-use Rattle.drainage.specs.TileCaches.{known_of}
+use Rattle.drainage.specs.TileCaches.{known_by, known_of}
 use Rattle.drainage.proofs.Invalidated.{noted_right}
 use Rattle.drainage.proofs.Reached.{unmoved}
 use Rattle.drainage.proofs.SparedLevels.{spared_level}
@@ -33,7 +35,7 @@ returns-clause-left c =
       same_corners = rim_graph.corners;
       whole = rim_graph.whole;
       loaded = rim_graph.loaded;
-      labellings = subst (λ (cs : List Corner). (t : ℕ) → t < length cs → holds was.rim_graph.side (corner_at cs t) c.args.point ≡ false → labelling_at c.note_changed.new.self t ≡ labelling_at was.labellings t)
+      labellings = subst (λ (cs : List Corner). (t : ℕ) → t < length cs → holds was.rim_graph.side (corner_at cs t) c.args.point ≡ false → (l : TileLabelling) → IsHeldAt c.note_changed.new.self.held.items t l ↔ IsHeldAt was.labellings.held.items t l)
           c.deref.ensures.value c.note_changed.ensures.kept;
       levels = λ x level. (
         (λ at. ((seen.left x level at).0, spared_as c.args.was c.args.to level had fits (seen.left x level at).1)),
@@ -45,9 +47,9 @@ pub returns-clause-still : goal.returns-clause-still
 returns-clause-still c m right =
     let was = c.args.self.now in
     let same : DifferAt m m c.args.point = record { around = unmoved m c.args.point c.args.point; all_sinks = λ q. refl } in
-    noted_right m m c.args.point c.args.was c.args.to (known_of was) (known_of (record { rim_graph = c.invalidate_between.new.self; labellings = c.note_changed.new.self; levels = c.invalidate_reached.new.self })) same
+    noted_right m m c.args.point c.args.was c.args.to (known_of was) (known_by c.invalidate_between.new.self c.note_changed.new.self c.invalidate_reached.new.self) same
     (returns-clause-left c)
-    (λ t. subst (λ (cs : List Corner). IsEntered m (corner_at cs t) was.labellings t → IsEntered m (corner_at cs t) c.note_changed.new.self t) c.deref.ensures.value
+    (λ t. subst (λ (cs : List Corner). IsEntered m (corner_at cs t) was.labellings.held.items t → IsEntered m (corner_at cs t) c.note_changed.new.self.held.items t) c.deref.ensures.value
     (c.note_changed.ensures.noted m m t same (sym right.ready.same_side)))
     (λ x level at.
     let seen = c.invalidate_reached.ensures.left x level at in
@@ -60,9 +62,9 @@ returns-clause-right c m new differ before set right =
     let had : SFits w16 c.args.was = search rules in
     let fits : SFits w16 c.args.to = search rules in
     let corners = was.rim_graph.corners.items in
-    noted_right m new c.args.point c.args.was c.args.to (known_of was) (known_of (record { rim_graph = c.invalidate_between.new.self; labellings = c.note_changed.new.self; levels = c.invalidate_reached.new.self })) differ
+    noted_right m new c.args.point c.args.was c.args.to (known_of was) (known_by c.invalidate_between.new.self c.note_changed.new.self c.invalidate_reached.new.self) differ
     (returns-clause-left c)
-    (λ t. subst (λ (cs : List Corner). IsEntered m (corner_at cs t) was.labellings t → IsEntered new (corner_at cs t) c.note_changed.new.self t) c.deref.ensures.value
+    (λ t. subst (λ (cs : List Corner). IsEntered m (corner_at cs t) was.labellings.held.items t → IsEntered new (corner_at cs t) c.note_changed.new.self.held.items t) c.deref.ensures.value
     (c.note_changed.ensures.noted m new t differ (sym right.ready.same_side)))
     (λ x level at.
     let seen = c.invalidate_reached.ensures.left x level at in

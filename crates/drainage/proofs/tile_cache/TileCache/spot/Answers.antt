@@ -1,5 +1,5 @@
 use Rattle.std.proofs.Common.{◌≡◌, Result, Ok, Err, List, sym, ◌∙◌, subst}
-use Rattle.std.specs.Prelude.{Option, IfOk, OnOk}
+use Rattle.std.specs.Prelude.{All, Contains, IfOk, OnOk}
 use Rattle.std.proofs.lemmas.Result.{err_from_is_err_and}
 use Rattle.lattice.specs.Mosaic.{Mosaic}
 use Rattle.lattice.specs.declared.refusal.Refusal.{Refusal}
@@ -7,10 +7,11 @@ use Rattle.catalogue.proofs.Asking.{asked_on}
 use Rattle.catalogue.proofs.Reading.{reads_nothing, reads_on}
 use Rattle.catalogue.specs.declared.samples.Samples.{Ghosts}
 use Rattle.tile_labellings.specs.Spots.{IsLabelledAt}
-use Rattle.tile_labellings.specs.declared.tile_labelling.TileLabelling.{TileLabelling}
 use Rattle.drainage.specs.Holding.{Known, IsEntered, IsGrown}
 use Rattle.drainage.specs.Kept.{grown_on, right_still}
 use Rattle.drainage.specs.TileCaches.{known_of}
+use Rattle.drainage.specs.declared.labelling_cache.HeldLabelling.{HeldLabelling}
+use Rattle.drainage.proofs.Caching.{entered_among}
 use Rattle.drainage.proofs.Growing.{grown_fewer}
 use Rattle.drainage.proofs.Questioned.{answered, passed_on, refused_by}
 use Rattle.drainage.proofs.Renewed.{entered_there, is_there}
@@ -23,16 +24,16 @@ returns-in-Some-clause-spot g c honest right =
 pub returns-in-Some-clause-asked : goal.returns-in-Some-clause-asked
 returns-in-Some-clause-asked g c right = answered g.S.Samples c.args.samples.now c.args.samples.now c.in-Some.spot (reads_nothing g.S.Samples g.met.S.Samples.keeps_itself c.args.samples.now (tt {0}))
 
--- reads alone, after which the same is held
-read_alone : {S : Type 0} (g : Ghosts S) (a b : S) (known : Known) (labellings mid : List (Option TileLabelling)) → (g.is_honest b → g.is_honest a) → (g.is_honest b → g.mosaic b ≡ g.mosaic a) → mid ≡ known.labellings → labellings ≡ mid
+-- reads alone, after which no more is held
+read_alone : {S : Type 0} (g : Ghosts S) (a b : S) (known : Known) (labellings mid : List HeldLabelling) → (g.is_honest b → g.is_honest a) → (g.is_honest b → g.mosaic b ≡ g.mosaic a) → All (Contains known.labellings) mid → labellings ≡ mid
     → IsGrown g a b known (record { side = known.side; corners = known.corners; loaded = known.loaded; labellings = labellings; levels = known.levels })
 read_alone g a b known labellings mid honest mosaic first second =
-    grown_fewer g a b known labellings honest mosaic (λ m d u. subst (λ (e : List (Option TileLabelling)). IsEntered m d e u) (sym (second ∙ first)))
+    grown_fewer g a b known labellings honest mosaic (λ m d u entered. subst (λ (e : List HeldLabelling). IsEntered m d e u) (sym second) (entered_among m d u known.labellings mid first entered))
 
 pub returns-in_err-spot-clause-grown : goal.returns-in_err-spot-clause-grown
 returns-in_err-spot-clause-grown g c =
     let read = c.in_err-spot.ensures in
-    read_alone g.S.Samples c.args.samples.now c.kept_spot.new.samples (known_of c.args.self.now) c.kept_spot.new.labellings c.spot.new.self read.honest read.mosaic c.spot.ensures.same read.same
+    read_alone g.S.Samples c.args.samples.now c.kept_spot.new.samples (known_of c.args.self.now) c.kept_spot.new.labellings.held.items c.spot.new.self.held.items read.honest read.mosaic c.spot.ensures.same read.same
 
 pub returns-in_err-spot-clause-asked : goal.returns-in_err-spot-clause-asked
 returns-in_err-spot-clause-asked g c right =
@@ -48,13 +49,13 @@ returns-in_err-spot-clause-asked g c right =
 pub returns-in-Some-2-clause-grown : goal.returns-in-Some-2-clause-grown
 returns-in-Some-2-clause-grown g c =
     let read = c.kept_spot.ensures in
-    read_alone g.S.Samples c.args.samples.now c.kept_spot.new.samples (known_of c.args.self.now) c.kept_spot.new.labellings c.spot.new.self read.honest read.mosaic c.spot.ensures.same read.same
+    read_alone g.S.Samples c.args.samples.now c.kept_spot.new.samples (known_of c.args.self.now) c.kept_spot.new.labellings.held.items c.spot.new.self.held.items read.honest read.mosaic c.spot.ensures.same read.same
 
 pub returns-clause-grown : goal.returns-clause-grown
 returns-clause-grown g c =
     let read = c.kept_spot.ensures in
     grown_on g.S.Samples c.args.samples.now c.kept_spot.new.samples c.cached_spot.new.samples (known_of c.args.self.now) _ (known_of c.cached_spot.new.self)
-    (read_alone g.S.Samples c.args.samples.now c.kept_spot.new.samples (known_of c.args.self.now) c.kept_spot.new.labellings c.spot.new.self read.honest read.mosaic c.spot.ensures.same read.same)
+    (read_alone g.S.Samples c.args.samples.now c.kept_spot.new.samples (known_of c.args.self.now) c.kept_spot.new.labellings.held.items c.spot.new.self.held.items read.honest read.mosaic c.spot.ensures.same read.same)
     c.cached_spot.ensures.grown
 
 pub returns-clause-spot : goal.returns-clause-spot
@@ -64,7 +65,7 @@ returns-clause-spot g c honest right =
     let d = c.cached_spot.new.samples in
     let read = c.kept_spot.ensures in
     let mid : g.S.Samples.is_honest b = c.cached_spot.ensures.grown.kept.honest honest in
-    let alone = read_alone g.S.Samples a b (known_of c.args.self.now) c.kept_spot.new.labellings c.spot.new.self read.honest read.mosaic c.spot.ensures.same read.same in
+    let alone = read_alone g.S.Samples a b (known_of c.args.self.now) c.kept_spot.new.labellings.held.items c.spot.new.self.held.items read.honest read.mosaic c.spot.ensures.same read.same in
     subst (λ (m : Mosaic). IfOk c.cached_spot.result (λ s. IsLabelledAt m c.args.corner c.args.index s.0 s.1)) (read.mosaic mid)
     (c.cached_spot.ensures.spot honest (right_still g.S.Samples a b (known_of c.args.self.now) _ alone mid right))
 
@@ -85,6 +86,6 @@ returns-clause-asked g c right =
     let b = c.kept_spot.new.samples in
     let d = c.cached_spot.new.samples in
     let read = c.kept_spot.ensures in
-    let alone = read_alone g.S.Samples a b (known_of c.args.self.now) c.kept_spot.new.labellings c.spot.new.self read.honest read.mosaic c.spot.ensures.same read.same in
+    let alone = read_alone g.S.Samples a b (known_of c.args.self.now) c.kept_spot.new.labellings.held.items c.spot.new.self.held.items read.honest read.mosaic c.spot.ensures.same read.same in
     asked_on g.S.Samples g.met.S.Samples.keeps_on a b d tt c.cached_spot.result c.in_ok-spot.ensures.reads
     (c.cached_spot.ensures.asked (λ honest. right_still g.S.Samples a b (known_of c.args.self.now) _ alone (c.cached_spot.ensures.grown.kept.honest honest) (right honest)))

@@ -1,0 +1,7 @@
+use Rattle.std.proofs.Common.{◌≢◌, take}
+use Rattle.std.specs.Prelude.{All}
+use Rattle.drainage.specs.declared.labelling_cache.HeldLabelling.{HeldLabelling}
+use Rattle.drainage.proofs.labelling_cache.place_of.Given as goal
+
+abbrev pub invariant-loop-at : goal.invariant-loop-at
+invariant-loop-at l = All (λ (one : HeldLabelling). one.place ≢ l.t) (take l.at l.held)
