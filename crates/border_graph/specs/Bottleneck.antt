@@ -1,5 +1,5 @@
 -- A bottleneck (minimax) search from a start over links, the lowest first (after Barnes, Lehman and Mulla 2014).
-use Rattle.std.specs.Prelude.{◌≡◌, ℕ, ℤ, ◌<◌, ◌≤ℤ◌, ◌<ℤ◌, ◌⊎◌, true, false, IsTrue, List, Contains, slice_index_or}
+use Rattle.std.specs.Prelude.{◌≡◌, ℕ, ℤ, ◌<◌, ◌≤ℤ◌, ◌<ℤ◌, ◌⊎◌, true, false, IsTrue, IsFalse, List, Contains, slice_index_or}
 use Rattle.std.specs.Int.{int_max}
 use Rattle.border_graph.specs.Links.{IsWayBelow}
 use Rattle.border_graph.specs.Edges.{IsReachedBelow}
@@ -30,6 +30,7 @@ pub record IsSettledBy (entry : Entry) (edges : List Edge) (settled : Settled) :
   pub node : settled.node ≡ entry.node
   pub crest : settled.crest ≡ entry.crest
   pub no_lower : IsTrue settled.has_no_lower → (edge : Edge) → Contains edges edge → entry.crest ≤ℤ edge.level
+  pub lower : IsFalse settled.has_no_lower → (edge : Edge) × (Contains edges edge × (edge.level <ℤ entry.crest))
 
 -- the node was settled below the level, or at it and no edge from it is lower
 abbrev pub HasLevel : Settled → ℤ → Type 0

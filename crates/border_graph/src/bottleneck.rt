@@ -1,5 +1,5 @@
 //! The lowest pass from a node to an outlet: a bottleneck (minimax) search, lowest crest first.
-ghost use Rattle.std.specs.Prelude.{◌≡◌, ℕ, ℤ, ◌<◌, ◌⊎◌, List, [], ◌∷◌, ◌++◌, Contains, IfOk, IfErr, OnOk, IfSome, IfNone, IsTrue, length, ◌≤ℤ◌};
+ghost use Rattle.std.specs.Prelude.{◌≡◌, ℕ, ℤ, ◌<◌, ◌⊎◌, List, [], ◌∷◌, ◌++◌, Contains, IfOk, IfErr, OnOk, IfSome, IfNone, IsTrue, IsFalse, length, ◌≤ℤ◌, ◌<ℤ◌, ◌↔◌};
 ghost use Rattle.border_graph.specs.Links.{IsJoinedLevel, IsWayBelow};
 ghost use Rattle.border_graph.specs.Summaries.{Summary};
 ghost use Rattle.border_graph.specs.Edges.{AreEdges, IsTileReached};
@@ -99,7 +99,8 @@ fn settle(settled: &mut Vec<Settled>, entry: Entry, edges: &[Edge]) -> Result<()
 
 // Whether no edge is lower than the crest.
 fn has_no_lower(edges: &[Edge], crest: i16) -> bool
-    ensures { IsTrue result → (edge : EdgeOf) → Contains edges.now edge → crest ≤ℤ edge.level }
+    ensures yes { IsTrue result → (edge : EdgeOf) → Contains edges.now edge → crest ≤ℤ edge.level }
+    ensures no { IsFalse result → (edge : EdgeOf) × (Contains edges.now edge × (edge.level <ℤ crest)) }
 {
     for edge in edges {
         if edge.level < crest {
@@ -111,7 +112,8 @@ fn has_no_lower(edges: &[Edge], crest: i16) -> bool
 
 // Lists the settled nodes that have the level that the start has.
 fn list_alike(settled: &[Settled], level: i16, into: &mut Vec<u32>) -> Result<(), AllocError>
-    ensures { OnOk result ((x : ℕ) → Contains into.new.items x → Contains into.old.items x ⊎ ((one : SettledOf) × (Contains settled.now one × ((one.node ≡ x) × HasLevel one level)))) }
+    ensures only { OnOk result ((x : ℕ) → Contains into.new.items x → Contains into.old.items x ⊎ ((one : SettledOf) × (Contains settled.now one × ((one.node ≡ x) × HasLevel one level)))) }
+    ensures all { OnOk result ((one : SettledOf) → Contains settled.now one → HasLevel one level → Contains into.new.items one.node) }
 {
     for one in settled {
         if has_level(*one, level) {
@@ -123,7 +125,7 @@ fn list_alike(settled: &[Settled], level: i16, into: &mut Vec<u32>) -> Result<()
 
 // Whether the node was settled below the level, or at it and no edge from it is lower.
 fn has_level(settled: Settled, level: i16) -> bool
-    ensures { IsTrue result → HasLevel settled level }
+    ensures { IsTrue result ↔ HasLevel settled level }
 {
     settled.crest < level || settled.crest == level && settled.has_no_lower
 }

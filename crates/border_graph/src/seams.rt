@@ -71,6 +71,7 @@ fn add(into: &mut Vec<Edge>, edge: Edge) -> Result<(), AllocError>
 /// Where among the corners this one stands.
 pub fn place_of(corners: &[Corner], corner: Corner) -> Option<usize>
     ensures some { IfSome result (λ u. (u < length corners.now) × (corner_at corners.now u ≡ corner)) }
+    ensures first { IfSome result (λ u. (v : ℕ) → v < u → corner_at corners.now v ≡ corner → ⊥) }
     ensures none { IfNone result ((u : ℕ) → u < length corners.now → corner_at corners.now u ≡ corner → ⊥) }
 {
     for (place, found) in corners.iter().enumerate() {

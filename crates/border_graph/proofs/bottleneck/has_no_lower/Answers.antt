@@ -20,8 +20,8 @@ loop-edge-preserved c k d below =
       | inr other ↦ c.loop-edge.invariant k d (omega arith)
     ]
 
-pub returns : goal.returns
-returns c told edge has =
+pub returns-clause-yes : goal.returns-clause-yes
+returns-clause-yes c told edge has =
     let inside : has.0 < c.loop-edge.edge-index = omega (arith, has.1, c.loop-edge-test.false) in
     subst (λ v. v ≤ℤ edge.level) (to_z-of_z w16 c.args.crest (search rules))
     (subst (λ (e : Edge). to_z w16 (of_z w16 c.args.crest) ≤ℤ e.level) has.2 (c.loop-edge.invariant has.0 edge inside))

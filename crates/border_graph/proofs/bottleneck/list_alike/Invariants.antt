@@ -1,7 +1,11 @@
-use Rattle.std.proofs.Common.{◌≡◌, ℕ, ◌⊎◌, Contains}
+use Rattle.std.proofs.Common.{◌≡◌, ℕ, ◌⊎◌, Contains, take}
+use Rattle.std.specs.Prelude.{All}
 use Rattle.border_graph.specs.Bottleneck.{HasLevel}
 use Rattle.border_graph.specs.declared.bottleneck.Settled.{Settled}
 use Rattle.border_graph.proofs.bottleneck.list_alike.Given as goal
 
 abbrev pub invariant-loop-one : goal.invariant-loop-one
-invariant-loop-one l = (x : ℕ) → Contains l.into.items x → Contains l.fn.into.items x ⊎ ((one : Settled) × (Contains l.settled one × ((one.node ≡ x) × HasLevel one l.level)))
+invariant-loop-one l = record {
+  only : (x : ℕ) → Contains l.into.items x → Contains l.fn.into.items x ⊎ ((one : Settled) × (Contains l.settled one × ((one.node ≡ x) × HasLevel one l.level)));
+  all : All (λ (one : Settled). HasLevel one l.level → Contains l.into.items one.node) (take l.one-index l.settled);
+}

@@ -57,7 +57,7 @@ returns-in-Some-2-clause-alike g c n summaries fits x has =
     let before = c.in_ok-level.ensures.fits n summaries fits in
     let two = two_way n summaries (λ x y level some link. g.met.G.EdgeSource.links_turn c.expand.new.graph n summaries x y level fits some link) in
     by (IsPlacedLink n summaries) two (to_z w16 (of_z w16 c.in-Some-2.level)) (returns-in-Some-2-clause-joined g c n summaries fits) (λ one held. c.rise.invariant.settled n summaries before one (subst (λ (l : List Settled). Contains l one) c.deref.ensures.value held))
-    (c.in_ok-list_alike.ensures x has)
+    (c.in_ok-list_alike.ensures.only x has)
   where
     by : (L : ℕ → ℕ → ℤ → Type 0) → IsTwoWay L → (level : ℤ) → IsJoinedLevel L 0 c.args.start level
         → ((one : Settled) → Contains c.deref.result.now one → (0 < one.node) × (IsReachedBelow L c.args.start one.crest one.node × (IsTrue one.has_no_lower → (y : ℕ) (l : ℤ) → L one.node y l → one.crest ≤ℤ l)))
