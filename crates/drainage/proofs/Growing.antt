@@ -9,10 +9,16 @@ use Rattle.lattice.specs.Mosaic.{Mosaic}
 use Rattle.border_graph.specs.Others.{corner_at}
 use Rattle.drainage.specs.RimGraphs.{AreLoaded, AreKept}
 use Rattle.drainage.specs.declared.labelling_cache.HeldLabelling.{HeldLabelling}
+use Rattle.drainage.specs.declared.labelling_cache.LabellingCache.{LabellingCache}
+use Rattle.drainage.specs.declared.rim_graph.RimGraph.{RimGraph}
 use Rattle.drainage.specs.Holding.{Known, IsRimLevel, IsEntered, IsRight, IsGrown, Agrees, level_of}
 use Rattle.border_graph.specs.Summaries.{Summary}
 use Rattle.drainage.specs.Kept.{ready_later}
 use Rattle.drainage.proofs.LoadingTiles.{fits_before}
+
+-- what is known by these parts of what was found
+abbrev pub known_by : RimGraph → LabellingCache → List (Option ℤ) → Known
+known_by rim_graph labellings levels = record { side = rim_graph.side; corners = rim_graph.corners.items; loaded = rim_graph.loaded.items; labellings = labellings.held.items; levels = levels }
 
 module _ {S : Type 0} (g : Ghosts S) (a b : S) (known known' : Known) (kept : AreKept g a b known.side known.corners known.loaded known'.side known'.corners known'.loaded) (levels : known'.levels ≡ known.levels) where
   levels_later : IsRight (g.mosaic a) known → (x : ℕ) (level : ℤ) → level_of known'.levels x ≡ Some level → IsRimLevel (g.mosaic a) known'.corners x level

@@ -76,6 +76,7 @@ impl LabellingCache {
     /// None of so many tiles is held. NoMemory is the only refusal.
     pub(crate) fn new(alloc: Global, side: Side, count: usize) -> Result<LabellingCache, Refusal>
         ensures none { IfOk result (λ cache. (t : ℕ) (l : TileLabelling) → IsHeldAt cache.held.items t l → ⊥) }
+        ensures entered { IfOk result (λ cache. (m : Mosaic) (c : Corner) (t : ℕ) → IsEntered m c cache.held.items t) }
         ensures side { IfOk result (λ cache. cache.side ≡ side) }
         ensures refusal { IfErr result (λ r. r ≡ NoMemory) }
     {

@@ -9,6 +9,7 @@ use Rattle.border_graph.specs.Placed.{IsPlacedLink}
 use Rattle.drainage.specs.Holding.{IsRight, IsRimLevel, level_of}
 use Rattle.drainage.specs.Kept.{right_still}
 use Rattle.drainage.specs.TileCaches.{known_of}
+use Rattle.drainage.proofs.Growing.{known_by}
 use Rattle.drainage.proofs.Found.{right_more, right_all, reached_later, start_is, found, found_later, never}
 use Rattle.drainage.proofs.Questioned.{answered, stopped}
 use Rattle.drainage.proofs.RimNodes.{node_there}
@@ -67,7 +68,7 @@ returns-clause-level g c honest =
 -- the levels that are known then, whether or not there was the memory for all of them
 module _ (g : _) (c : After-know_all g) where
   right_then : g.S.Samples.is_honest c.lowest_pass.new.source
-      → IsRight (g.S.Samples.mosaic c.lowest_pass.new.source) (known_of (record { rim_graph = c.lowest_pass.new.graph.rim_graph; labellings = c.lowest_pass.new.graph.labellings; levels = c.know_all.new.self }))
+      → IsRight (g.S.Samples.mosaic c.lowest_pass.new.source) (known_by c.lowest_pass.new.graph.rim_graph c.lowest_pass.new.graph.labellings c.know_all.new.self)
   right_then honest =
       let a = c.args.samples.now in
       let d = c.lowest_pass.new.source in

@@ -2,7 +2,8 @@ use Rattle.std.proofs.Common.{sym, subst}
 use Rattle.std.proofs.lemmas.Result.{err_from_is_err_and}
 use Rattle.lattice.specs.Mosaic.{Mosaic}
 use Rattle.drainage.specs.Holding.{IsRight}
-use Rattle.drainage.specs.TileCaches.{known_by, known_of}
+use Rattle.drainage.specs.TileCaches.{known_of}
+use Rattle.drainage.proofs.Growing.{known_by}
 use Rattle.drainage.proofs.Questioned.{passed_on, refused_by}
 use Rattle.drainage.proofs.TileLevels.{is_there, entered_there, right_held, right_fewer, rim_filled, raised_asked, raised_causes}
 use Rattle.drainage.proofs.tile_levels.levels_over_rim.Goals as goal

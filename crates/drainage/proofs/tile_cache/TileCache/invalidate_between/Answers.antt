@@ -4,7 +4,8 @@ use Rattle.lattice.specs.Corners.{Corner}
 use Rattle.drainage.specs.Holding.{IsHeldAt}
 use Rattle.drainage.specs.Reaching.{is_reached}
 use Rattle.drainage.specs.Spared.{IsNoHigher}
-use Rattle.drainage.specs.TileCaches.{known_by, known_of}
+use Rattle.drainage.specs.TileCaches.{known_of}
+use Rattle.drainage.proofs.Growing.{known_by}
 use Rattle.drainage.proofs.Invalidated.{left_right}
 use Rattle.drainage.proofs.tile_cache.TileCache.invalidate_between.Goals as goal
 

@@ -8,8 +8,8 @@ use Rattle.border_graph.specs.Joining.{IsSummaryOf}
 use Rattle.tile_labellings.specs.TileLabellings.{IsTileLabelling}
 use Rattle.tile_labellings.specs.declared.tile_labelling.TileLabelling.{TileLabelling}
 use Rattle.drainage.specs.Holding.{IsRight}
-use Rattle.drainage.specs.TileCaches.{known_by, known_of}
-use Rattle.drainage.proofs.Growing.{grown_by, grown_fewer}
+use Rattle.drainage.specs.TileCaches.{known_of}
+use Rattle.drainage.proofs.Growing.{known_by, grown_by, grown_fewer}
 use Rattle.drainage.proofs.Questioned.{answered, passed_on, refused_by, stopped, wanting}
 use Rattle.drainage.proofs.Renewed.{entered_there, is_there}
 use Rattle.drainage.proofs.LoadingTiles.{some_there}
@@ -33,6 +33,11 @@ pub returns-then-is_some-clause-loaded : goal.returns-then-is_some-clause-loaded
 returns-then-is_some-clause-loaded g c =
     let inside : c.args.t < length c.args.self.now.rim_graph.loaded.items = (let size = c.len.ensures in search rules) in
     some_there c.args.self.now.rim_graph.loaded.items c.args.t c.index.result.now inside c.index.ensures (sym c.is_some.ensures ∙ c.if-is_some.true)
+
+pub returns-in_err-labelling-clause-grown : goal.returns-in_err-labelling-clause-grown
+returns-in_err-labelling-clause-grown g c =
+    let made = c.in_err-labelling.ensures in
+    grown_fewer g.S.Samples c.args.samples.now c.current_labelling.new.samples (known_of c.args.self.now) c.current_labelling.new.labellings.held.items made.honest made.mosaic made.left
 
 pub returns-in_err-labelling-clause-asked : goal.returns-in_err-labelling-clause-asked
 returns-in_err-labelling-clause-asked g c right =

@@ -8,7 +8,8 @@ use Rattle.tile_labellings.specs.declared.tile_labelling.TileLabelling.{TileLabe
 use Rattle.drainage.specs.Holding.{IsEntered, IsHeldAt, IsRimLevel}
 use Rattle.drainage.specs.Reaching.{DifferAt}
 use Rattle.drainage.specs.Spared.{IsSpared}
-use Rattle.drainage.specs.TileCaches.{known_by, known_of}
+use Rattle.drainage.specs.TileCaches.{known_of}
+use Rattle.drainage.proofs.Growing.{known_by}
 use Rattle.drainage.proofs.Invalidated.{noted_right}
 use Rattle.drainage.proofs.Reached.{unmoved}
 use Rattle.drainage.proofs.SparedLevels.{spared_level}

@@ -1,5 +1,5 @@
-use Rattle.std.proofs.Common.{◌≡◌, Result, Ok, Err, List, sym, ◌∙◌, subst}
-use Rattle.std.specs.Prelude.{All, Contains, IfOk, OnOk}
+use Rattle.std.proofs.Common.{◌≡◌, Result, Ok, Err, List, refl, sym, ◌∙◌, subst}
+use Rattle.std.specs.Prelude.{ℕ, ℤ, All, Contains, Option, IfOk, IfSome, OnOk}
 use Rattle.std.proofs.lemmas.Result.{err_from_is_err_and}
 use Rattle.lattice.specs.Mosaic.{Mosaic}
 use Rattle.lattice.specs.declared.refusal.Refusal.{Refusal}
@@ -29,6 +29,15 @@ read_alone : {S : Type 0} (g : Ghosts S) (a b : S) (known : Known) (labellings m
     → IsGrown g a b known (record { side = known.side; corners = known.corners; loaded = known.loaded; labellings = labellings; levels = known.levels })
 read_alone g a b known labellings mid honest mosaic first second =
     grown_fewer g a b known labellings honest mosaic (λ m d u entered. subst (λ (e : List HeldLabelling). IsEntered m d e u) (sym second) (entered_among m d u known.labellings mid first entered))
+
+pub returns-in-Some-clause-grown : goal.returns-in-Some-clause-grown
+returns-in-Some-clause-grown g c =
+    let held = c.spot.new.self.held.items in
+    read_alone g.S.Samples c.args.samples.now c.args.samples.now (known_of c.args.self.now) held held (λ h. h) (λ _. refl) c.spot.ensures.same refl
+
+pub returns-in-Some-2-clause-spot : goal.returns-in-Some-2-clause-spot
+returns-in-Some-2-clause-spot g c honest right =
+    subst (λ (found : Option (ℤ × ℕ)). IfSome found (λ s. IsLabelledAt (g.S.Samples.mosaic c.args.samples.now) c.args.corner c.args.index s.0 s.1)) c.in-Some-2.is (c.in_ok-spot.ensures.spot honest)
 
 pub returns-in_err-spot-clause-grown : goal.returns-in_err-spot-clause-grown
 returns-in_err-spot-clause-grown g c =
