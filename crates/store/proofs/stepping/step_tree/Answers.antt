@@ -13,4 +13,4 @@ returns-in-None-clause-stepped g c works =
 pub returns-in-Some-clause-stepped : goal.returns-in-Some-clause-stepped
 returns-in-Some-clause-stepped g c works =
     premised g.D.Disk (λ m. IfSome c.labelling.result (λ l. IsFlooded m c.in-Some.corner l.now)) g.met.D.Disk.seen_may (λ (m : Mosaic). IsHeldOf m c.args.held.now) c.args.tree.now c.step_held.new.tree c.step_held.result
-    (λ honest s right at keeps. c.labelling.ensures (mosaic_stored s) right) (c.step_held.ensures.stepped works)
+    (λ honest s right at keeps. c.labelling.ensures.flooded (mosaic_stored s) right) (c.step_held.ensures.stepped works)
