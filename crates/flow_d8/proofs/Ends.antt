@@ -1,4 +1,4 @@
--- The lead at the head of a search, and whether it is at an end of the flat.
+-- The node at the head of a search, and whether it is at an end of the flat.
 use Rattle.std.proofs.Common.{◌≡◌, ℕ, ◌+◌, ◌<◌, ◌≤◌, ℤ, Bool, true, false, IsTrue, Option, List, length, get_or, refl, sym, ap, ◌∙◌, subst, true≢false}
 use Rattle.lattice.specs.declared.point.Point.{Point}
 use Rattle.lattice.specs.Mosaic.{Mosaic, IsMosaic, void}
@@ -10,11 +10,11 @@ use Rattle.flow_d8.specs.Drainage.{AreFilledLevels, CrossesFlat}
 use Rattle.flow_d8.proofs.Fitting.{ground_fits}
 use Rattle.flow_d8.proofs.MosaicGrid.{mosaic_is_grid}
 use Rattle.flow_d8.proofs.Exists.{distance_exists}
-use Rattle.flow_d8.specs.declared.flat_search.Lead.{Lead}
+use Rattle.flow_d8.specs.declared.flat_search.Node.{Node}
 use Rattle.flow_d8.specs.declared.local_flow.LocalFlow.{LocalFlow}
 use Rattle.flow_d8.specs.LevelsAround.{around_of, OnLevels, IsNear}
 use Rattle.flow_d8.specs.Places.{IsFlowOf}
-use Rattle.flow_d8.specs.FlatSearch.{AreVisited, lead_at, IsSearched}
+use Rattle.flow_d8.specs.FlatSearch.{AreVisited, node_at, IsSearched}
 use Rattle.flow_d8.proofs.Reaching.{read_is, head_level, head_ground, searched_on}
 use Rattle.flow_d8.proofs.Shortest.{none_left}
 
@@ -47,22 +47,22 @@ module _ (m : Mosaic) (is : IsMosaic m) where
   pub level_function : (level : Point → ℤ) × AreFilledLevels (terrain m) level
   level_function = ((λ p. level_by p (is_ground m p) refl), λ p on. level_is p (is_ground m p) refl on)
 
-module _ (m : Mosaic) (is : IsMosaic m) (level : Point → ℤ) (x : Point) (height : ℤ) (here : level x ≡ height) (old : List Lead) (head : ℕ) (s : IsSearched (terrain m) level x old head) where
-  module _ (within : head < length old) (lead : Lead) (read : lead ≡ get_or old head lead) where
-    point_is : lead.point ≡ (lead_at old head).point
-    point_is = ap (λ (l : Lead). l.point) (read_is old head lead within read)
+module _ (m : Mosaic) (is : IsMosaic m) (level : Point → ℤ) (x : Point) (height : ℤ) (here : level x ≡ height) (old : List Node) (head : ℕ) (s : IsSearched (terrain m) level x old head) where
+  module _ (within : head < length old) (node : Node) (read : node ≡ get_or old head node) where
+    point_is : node.point ≡ (node_at old head).point
+    point_is = ap (λ (l : Node). l.point) (read_is old head node within read)
 
-    pub solid : IsTrue (is_ground m lead.point)
+    pub solid : IsTrue (is_ground m node.point)
     solid = subst (λ q. IsTrue (is_ground m q)) (sym point_is) (head_ground (terrain m) (mosaic_is_grid m is) level x (ground_fits m is) height here old head s within)
 
-    pub lead_level : level lead.point ≡ height
-    lead_level = ap level point_is ∙ head_level (terrain m) (mosaic_is_grid m is) level x (ground_fits m is) height here old head s within
+    pub node_level : level node.point ≡ height
+    node_level = ap level point_is ∙ head_level (terrain m) (mosaic_is_grid m is) level x (ground_fits m is) height here old head s within
 
-    pub end : CrossesFlat (terrain m) level lead.point 0 → CrossesFlat (terrain m) level (lead_at old head).point 0
+    pub end : CrossesFlat (terrain m) level node.point 0 → CrossesFlat (terrain m) level (node_at old head).point 0
     end crosses = subst (λ q. CrossesFlat (terrain m) level q 0) point_is crosses
 
-    pub on : (around : List (Option ℤ)) → around ≡ around_of (terrain m) level lead.point → (new : List Lead) → AreVisited lead.point head height around old new 8
-        → (CrossesFlat (terrain m) level lead.point 0 → ⊥) → IsSearched (terrain m) level x new (head + 1)
+    pub on : (around : List (Option ℤ)) → around ≡ around_of (terrain m) level node.point → (new : List Node) → AreVisited node.point head height around old new 8
+        → (CrossesFlat (terrain m) level node.point 0 → ⊥) → IsSearched (terrain m) level x new (head + 1)
     on around are new visits no_end =
         searched_on (terrain m) (mosaic_is_grid m is) level x (ground_fits m is) height here old head s within around (are ∙ ap (around_of (terrain m) level) point_is) new
         (subst (λ q. AreVisited q head height around old new 8) point_is visits) (λ crosses. no_end (subst (λ q. CrossesFlat (terrain m) level q 0) (sym point_is) crosses))

@@ -16,10 +16,10 @@ use Rattle.lattice.proofs.SamePoints.{same_point_says, same_point_from}
 use Rattle.flow_d8.specs.Drainage.{CrossesFlat, IsFlatDistance}
 use Rattle.flow_d8.specs.Grid.{IsGrid}
 use Rattle.flow_d8.proofs.Compass.{same_order, order_at, order_below}
-use Rattle.flow_d8.specs.declared.flat_search.Lead.{Lead}
+use Rattle.flow_d8.specs.declared.flat_search.Node.{Node}
 use Rattle.flow_d8.specs.LevelsAround.{beside_of, around_of}
 use Rattle.flow_d8.specs.FlatCertificate.{IsAcross}
-use Rattle.flow_d8.specs.FlatSearch.{lead_at, lead_by, IsMarked, IsVisited, AreVisited, dir_number}
+use Rattle.flow_d8.specs.FlatSearch.{node_at, node_by, IsMarked, IsVisited, AreVisited, dir_number}
 use Rattle.flow_d8.specs.declared.flats.Flats.{Flats}
 use Rattle.flow_d8.specs.Flats.{found_of, known_or_none, distance_of, IsSet, point_at, IsWaiting, IsInside, IsMeasured, AreMeasured, IsRound, IsBeside, IsFinding, IsMeasuring}
 use Rattle.flow_d8.proofs.Nearby.{beside_there, beside_some, found_at}
@@ -40,9 +40,9 @@ not_there e = absurd (cc)
 pub one_known : {j k : ℕ} → ◌≡◌ {A = Option (Option ℕ)} (Some (Some j)) (Some (Some k)) → j ≡ k
 one_known e = cc
 
--- the point of a lead that was read
-pub point_read : (leads : List Lead) (i : ℕ) (lead : Lead) → i < length leads → lead ≡ get_or leads i lead → lead.point ≡ (lead_at leads i).point
-point_read leads i lead below read = ap (λ (l : Lead). l.point) (read_is leads i lead below read)
+-- the point of a node that was read
+pub point_read : (nodes : List Node) (i : ℕ) (node : Node) → i < length nodes → node ≡ get_or nodes i node → node.point ≡ (node_at nodes i).point
+point_read nodes i node below read = ap (λ (l : Node). l.point) (read_is nodes i node below read)
 
 -- what is found stays found
 pub still_found : (old new : Flats) (p : Point) (v : Option ℕ) → IsSet old new p v → (q : Point) → IsTrue (is_some (found_of old q)) → IsTrue (is_some (found_of new q))
@@ -60,21 +60,21 @@ module _ (t : Terrain Point) (level : Point → ℤ) where
   }
 
   -- the points that are reached around p by its first directions
-  record IsRoundBy (p : Point) (old new : List Lead) (k : ℕ) : Type 0 where
+  record IsRoundBy (p : Point) (old new : List Node) (k : ℕ) : Type 0 where
     longer : length old ≤ length new
-    kept : (i : ℕ) → i < length old → lead_at new i ≡ lead_at old i
-    across : (i : ℕ) → length old ≤ i → i < length new → IsAcross t level p (lead_at new i).point
+    kept : (i : ℕ) → i < length old → node_at new i ≡ node_at old i
+    across : (i : ℕ) → length old ≤ i → i < length new → IsAcross t level p (node_at new i).point
     reached : (e : Dir) → order_of e < k → IsAcross t level p (step e p) → IsMarked new (step e p) (length new)
 
-  module _ (fits : (q : Point) → IsTrue (t.is_ground q) → IsTrue (fits_point q)) (grid : IsGrid t void) (p : Point) (height : ℤ) (here : level p ≡ height) (from : ℕ) (around : List (Option ℤ)) (are : around ≡ around_of t level p) (old : List Lead) where
+  module _ (fits : (q : Point) → IsTrue (t.is_ground q) → IsTrue (fits_point q)) (grid : IsGrid t void) (p : Point) (height : ℤ) (here : level p ≡ height) (from : ℕ) (around : List (Option ℤ)) (are : around ≡ around_of t level p) (old : List Node) where
     -- one direction more
-    module _ (mid new : List Lead) (d : Dir) (s : IsRoundBy p old mid (order_of d)) (v : IsVisited p from d height (beside_of t level p d) mid new) where
-      grown : length mid ≤ length new → ((i : ℕ) → i < length mid → lead_at new i ≡ lead_at mid i) → ((i : ℕ) → length mid ≤ i → i < length new → IsAcross t level p (lead_at new i).point) → IsRoundBy p old new (suc (order_of d))
+    module _ (mid new : List Node) (d : Dir) (s : IsRoundBy p old mid (order_of d)) (v : IsVisited p from d height (beside_of t level p d) mid new) where
+      grown : length mid ≤ length new → ((i : ℕ) → i < length mid → node_at new i ≡ node_at mid i) → ((i : ℕ) → length mid ≤ i → i < length new → IsAcross t level p (node_at new i).point) → IsRoundBy p old new (suc (order_of d))
       grown longer same last = record {
         longer = omega (arith, s.longer);
         kept = λ i below. same i (omega (arith, s.longer)) ∙ s.kept i below;
         across = λ i low high. elim (cases_lt i (length mid)) [
-          | inl inside ↦ subst (λ (l : Lead). IsAcross t level p l.point) (sym (same i inside)) (s.across i low inside)
+          | inl inside ↦ subst (λ (l : Node). IsAcross t level p l.point) (sym (same i inside)) (s.across i low inside)
           | inr past ↦ last i past high
         ];
         reached = λ e below over. elim (cases_eq (order_of e) (order_of d)) [
@@ -89,16 +89,16 @@ module _ (t : Terrain Point) (level : Point → ℤ) where
 
       round_on : IsRoundBy p old new (suc (order_of d))
       round_on = ⊎_elim
-          (λ same. grown (omega (arith, ap length same)) (λ i below. ap (λ l. lead_at l i) same) (λ i low high. absurd (omega (arith, ap length same))))
-          (λ added. grown (omega (arith, ap length added.1, longer_by_one mid (lead_by p d from))) (λ i below. ap (λ l. lead_at l i) added.1 ∙ at_old mid (lead_by p d from) i below)
+          (λ same. grown (omega (arith, ap length same)) (λ i below. ap (λ l. node_at l i) same) (λ i low high. absurd (omega (arith, ap length same))))
+          (λ added. grown (omega (arith, ap length added.1, longer_by_one mid (node_by p d from))) (λ i below. ap (λ l. node_at l i) added.1 ∙ at_old mid (node_by p d from) i below)
           (λ i low high.
-          let last : length mid ≡ i = omega (arith, ap length added.1, longer_by_one mid (lead_by p d from)) in
-          let is : lead_at new i ≡ lead_by p d from = ap (λ l. lead_at l i) added.1 ∙ ap (lead_at (mid ++ lead_by p d from ∷ [])) (sym last) ∙ at_end mid (lead_by p d from) in
+          let last : length mid ≡ i = omega (arith, ap length added.1, longer_by_one mid (node_by p d from)) in
+          let is : node_at new i ≡ node_by p d from = ap (λ l. node_at l i) added.1 ∙ ap (node_at (mid ++ node_by p d from ∷ [])) (sym last) ∙ at_end mid (node_by p d from) in
           let found = beside_some t level p d height added.0 in
-          subst (λ (l : Lead). IsAcross t level p l.point) (sym is) (record { beside = found.0; same_level = sym found.1 ∙ sym here })))
+          subst (λ (l : Node). IsAcross t level p l.point) (sym is) (record { beside = found.0; same_level = sym found.1 ∙ sym here })))
           v.only
 
-    round_by : (new : List Lead) (k : ℕ) → k ≤ 8 → AreVisited p from height around old new k → IsRoundBy p old new k
+    round_by : (new : List Node) (k : ℕ) → k ≤ 8 → AreVisited p from height around old new k → IsRoundBy p old new k
     round_by new zero le same = subst (λ l. IsRoundBy p old l 0) (sym same) (record {
       longer = omega arith;
       kept = λ i below. refl;
@@ -113,8 +113,8 @@ module _ (t : Terrain Point) (level : Point → ℤ) where
         subst (λ f. IsVisited p from (dir_number k) height f visits.0 new) (found_at t level p around are k None East small) visits.1.1 in
         subst (λ i. IsRoundBy p old new (suc i)) place (round_on visits.0 new (dir_number k) before v)
 
-    -- all eight directions lead to all that lies across
-    pub round : (new : List Lead) → AreVisited p from height around old new 8 → IsRound t level p old new
+    -- all eight directions go to all that lies across
+    pub round : (new : List Node) → AreVisited p from height around old new 8 → IsRound t level p old new
     round new visits =
         let by = round_by new 8 (omega arith) visits in
         record {
@@ -128,12 +128,12 @@ module _ (t : Terrain Point) (level : Point → ℤ) where
 
   module _ (x : Point) where
     -- the search begins with x alone
-    pub finding_begun : IsTrue (t.is_ground x) → (held : Flats) → AreMeasured t level held → (l : Lead) → l.point ≡ x → (leads : List Lead) → leads ≡ l ∷ [] → IsFinding t level x held [] leads 0
-    finding_begun solid held are l is leads one = subst (λ ls. IsFinding t level x held [] ls 0) (sym one) (record {
+    pub finding_begun : IsTrue (t.is_ground x) → (held : Flats) → AreMeasured t level held → (l : Node) → l.point ≡ x → (nodes : List Node) → nodes ≡ l ∷ [] → IsFinding t level x held [] nodes 0
+    finding_begun solid held are l is nodes one = subst (λ ls. IsFinding t level x held [] ls 0) (sym one) (record {
       right = are.right;
       some = omega arith;
       first = is;
-      flat = λ i below. subst (λ k. IsBeside t level x (lead_at (l ∷ []) k).point) (only i below) (record { solid = subst (λ q. IsTrue (t.is_ground q)) (sym is) solid; same_level = ap level is });
+      flat = λ i below. subst (λ k. IsBeside t level x (node_at (l ∷ []) k).point) (only i below) (record { solid = subst (λ q. IsTrue (t.is_ground q)) (sym is) solid; same_level = ap level is });
       unknown = λ p unknown. absurd (are.known p unknown);
       settled = λ i below. absurd (omega arith);
       drain = λ k d below. absurd (omega arith);
@@ -142,9 +142,9 @@ module _ (t : Terrain Point) (level : Point → ℤ) where
         only : (i : ℕ) → i < 1 → 0 ≡ i
         only i below = omega arith
 
-    module _ (held : Flats) (ends : List Point) (leads : List Lead) (head : ℕ) (s : IsFinding t level x held ends leads head) (within : head < length leads) where
-      -- the lead at the head drains
-      pub end_found : CrossesFlat t level (lead_at leads head).point 0 → IsFinding t level x held (ends ++ (lead_at leads head).point ∷ []) leads (head + 1)
+    module _ (held : Flats) (ends : List Point) (nodes : List Node) (head : ℕ) (s : IsFinding t level x held ends nodes head) (within : head < length nodes) where
+      -- the node at the head drains
+      pub end_found : CrossesFlat t level (node_at nodes head).point 0 → IsFinding t level x held (ends ++ (node_at nodes head).point ∷ []) nodes (head + 1)
       end_found crosses = record {
         right = s.right;
         some = s.some;
@@ -152,57 +152,57 @@ module _ (t : Terrain Point) (level : Point → ℤ) where
         flat = s.flat;
         unknown = s.unknown;
         settled = λ i below. elim (cases_eq i head) [
-          | inl this ↦ inr (subst (λ k. Contains (ends ++ (lead_at leads head).point ∷ []) (lead_at leads k).point) (sym this) (Contains-append_right ends ((lead_at leads head).point ∷ []) (lead_at leads head).point (0, omega arith, refl)))
-          | inr other ↦ ⊎_elim (λ unknown. inl unknown) (λ has. inr (Contains-append_left ends ((lead_at leads head).point ∷ []) (lead_at leads i).point has)) (s.settled i (omega arith))
+          | inl this ↦ inr (subst (λ k. Contains (ends ++ (node_at nodes head).point ∷ []) (node_at nodes k).point) (sym this) (Contains-append_right ends ((node_at nodes head).point ∷ []) (node_at nodes head).point (0, omega arith, refl)))
+          | inr other ↦ ⊎_elim (λ unknown. inl unknown) (λ has. inr (Contains-append_left ends ((node_at nodes head).point ∷ []) (node_at nodes i).point has)) (s.settled i (omega arith))
         ];
-        drain = All-append (λ p. IsBeside t level x p × CrossesFlat t level p 0) ends ((lead_at leads head).point ∷ []) s.drain (λ k d low. subst (λ q. IsBeside t level x q × CrossesFlat t level q 0) (one_only k d low) (s.flat head within, crosses));
+        drain = All-append (λ p. IsBeside t level x p × CrossesFlat t level p 0) ends ((node_at nodes head).point ∷ []) s.drain (λ k d low. subst (λ q. IsBeside t level x q × CrossesFlat t level q 0) (one_only k d low) (s.flat head within, crosses));
       }
         where
-          one_only : (k : ℕ) (d : Point) → k < 1 → (lead_at leads head).point ≡ get_or ((lead_at leads head).point ∷ []) k d
+          one_only : (k : ℕ) (d : Point) → k < 1 → (node_at nodes head).point ≡ get_or ((node_at nodes head).point ∷ []) k d
           one_only zero d low = refl
           one_only (suc k) d low = absurd (omega arith)
 
       -- it lies inside the flat
-      module _ (grid : IsGrid t void) (new_held : Flats) (set : IsSet held new_held (lead_at leads head).point None) (inside : IsInside t level (lead_at leads head).point) (new : List Lead) (round : IsRound t level (lead_at leads head).point leads new) where
-        marked_still : (q : Point) → IsMarked leads q (length leads) → IsMarked new q (length new)
-        marked_still q m = marked_on leads new round.kept q (length leads) (length new) (omega arith) round.longer m
+      module _ (grid : IsGrid t void) (new_held : Flats) (set : IsSet held new_held (node_at nodes head).point None) (inside : IsInside t level (node_at nodes head).point) (new : List Node) (round : IsRound t level (node_at nodes head).point nodes new) where
+        marked_still : (q : Point) → IsMarked nodes q (length nodes) → IsMarked new q (length new)
+        marked_still q m = marked_on nodes new round.kept q (length nodes) (length new) (omega arith) round.longer m
 
         open_still : (p : Point) → found_of held p ≡ Some None → found_of new_held p ≡ Some None
-        open_still p unknown = elim (same_or_not p (lead_at leads head).point) [
+        open_still p unknown = elim (same_or_not p (node_at nodes head).point) [
           | inl this ↦ ap (found_of new_held) this ∙ set.here
           | inr other ↦ set.apart p other ∙ unknown
         ]
 
         pub inside_found : IsFinding t level x new_held ends new (head + 1)
         inside_found = record {
-          right = λ p k known. elim (same_or_not p (lead_at leads head).point) [
+          right = λ p k known. elim (same_or_not p (node_at nodes head).point) [
             | inl this ↦ not_known (sym (ap (found_of new_held) this ∙ set.here) ∙ known)
-            | inr other ↦ still_measured held new_held (lead_at leads head).point None set p k (s.right p k (sym (set.apart p other) ∙ known))
+            | inr other ↦ still_measured held new_held (node_at nodes head).point None set p k (s.right p k (sym (set.apart p other) ∙ known))
           ];
           some = omega (arith, s.some, round.longer);
-          first = ap (λ (l : Lead). l.point) (round.kept 0 s.some) ∙ s.first;
-          flat = λ i below. elim (cases_lt i (length leads)) [
-            | inl before ↦ subst (λ (l : Lead). IsBeside t level x l.point) (sym (round.kept i before)) (s.flat i before)
+          first = ap (λ (l : Node). l.point) (round.kept 0 s.some) ∙ s.first;
+          flat = λ i below. elim (cases_lt i (length nodes)) [
+            | inl before ↦ subst (λ (l : Node). IsBeside t level x l.point) (sym (round.kept i before)) (s.flat i before)
             | inr past ↦
                 let over = round.across i past below in
-                record { solid = grid.lawful.to_ground (lead_at leads head).point (lead_at new i).point over.beside; same_level = over.same_level ∙ (s.flat head within).same_level }
+                record { solid = grid.lawful.to_ground (node_at nodes head).point (node_at new i).point over.beside; same_level = over.same_level ∙ (s.flat head within).same_level }
           ];
-          unknown = λ p unknown. elim (same_or_not p (lead_at leads head).point) [
+          unknown = λ p unknown. elim (same_or_not p (node_at nodes head).point) [
             | inl this ↦ subst (λ r. IsInside t level r × ((level r ≡ level x) × ((q : Point) → IsAcross t level r q → IsMarked new q (length new)))) (sym this) (inside, ((s.flat head within).same_level, round.reached))
             | inr other ↦
                 let was = s.unknown p (sym (set.apart p other) ∙ unknown) in
                 (was.0, (was.1.0, λ q over. marked_still q (was.1.1 q over)))
           ];
-          settled = λ i below. subst (λ (l : Lead). (found_of new_held l.point ≡ Some None) ⊎ Contains ends l.point) (sym (round.kept i (omega arith))) (elim (cases_eq i head) [
-            | inl this ↦ inl (ap (λ k. found_of new_held (lead_at leads k).point) this ∙ set.here)
-            | inr other ↦ ⊎_elim (λ unknown. inl (open_still (lead_at leads i).point unknown)) (λ has. inr has) (s.settled i (omega arith))
+          settled = λ i below. subst (λ (l : Node). (found_of new_held l.point ≡ Some None) ⊎ Contains ends l.point) (sym (round.kept i (omega arith))) (elim (cases_eq i head) [
+            | inl this ↦ inl (ap (λ k. found_of new_held (node_at nodes k).point) this ∙ set.here)
+            | inr other ↦ ⊎_elim (λ unknown. inl (open_still (node_at nodes i).point unknown)) (λ has. inr has) (s.settled i (omega arith))
           ]);
           drain = s.drain;
         }
 
-    -- all leads are looked at
-    module _ (held : Flats) (ends : List Point) (leads : List Lead) (head : ℕ) (s : IsFinding t level x held ends leads head) (all : length leads ≤ head) (inside : IsInside t level x) where
-      settled_mark : (q : Point) → IsMarked leads q (length leads) → (found_of held q ≡ Some None) ⊎ Contains ends q
+    -- all nodes are looked at
+    module _ (held : Flats) (ends : List Point) (nodes : List Node) (head : ℕ) (s : IsFinding t level x held ends nodes head) (all : length nodes ≤ head) (inside : IsInside t level x) where
+      settled_mark : (q : Point) → IsMarked nodes q (length nodes) → (found_of held q ≡ Some None) ⊎ Contains ends q
       settled_mark q m = subst (λ r. (found_of held r ≡ Some None) ⊎ Contains ends r) m.here (s.settled m.place (omega (arith, m.before)))
 
       waits : (q : Point) → Contains ends q → IsWaiting ends 0 q

@@ -9,11 +9,11 @@ use Rattle.lattice.specs.Stepping.{fits_point}
 use Rattle.lattice.specs.Terrain.{Terrain}
 use Rattle.lattice.specs.Ground.{terrain}
 use Rattle.flow_d8.specs.Drainage.{CrossesFlat, IsFlatDistance}
-use Rattle.flow_d8.specs.declared.flat_search.Lead.{Lead}
+use Rattle.flow_d8.specs.declared.flat_search.Node.{Node}
 use Rattle.flow_d8.specs.declared.flats.Flats.{Flats}
 use Rattle.flow_d8.specs.declared.filled_levels.FilledLevels.{Ghosts}
 use Rattle.flow_d8.specs.FlatCertificate.{IsAcross}
-use Rattle.flow_d8.specs.FlatSearch.{lead_at, IsMarked}
+use Rattle.flow_d8.specs.FlatSearch.{node_at, IsMarked}
 use Rattle.flow_d8.specs.LevelsAround.{OnLevels}
 
 -- what is found of the point
@@ -63,32 +63,32 @@ module _ (t : Terrain Point) (level : Point → ℤ) where
     pub right : AreRight held
     pub known : (p : Point) → found_of held p ≡ Some None → ⊥
 
-  -- the leads before are as they were, each new one is across from p, and all that lies across from p is reached
-  pub record IsRound (p : Point) (old new : List Lead) : Type 0 where
+  -- the nodes before are as they were, each new one is across from p, and all that lies across from p is reached
+  pub record IsRound (p : Point) (old new : List Node) : Type 0 where
     pub longer : length old ≤ length new
-    pub kept : (i : ℕ) → i < length old → lead_at new i ≡ lead_at old i
-    pub across : (i : ℕ) → length old ≤ i → i < length new → IsAcross t level p (lead_at new i).point
+    pub kept : (i : ℕ) → i < length old → node_at new i ≡ node_at old i
+    pub across : (i : ℕ) → length old ≤ i → i < length new → IsAcross t level p (node_at new i).point
     pub reached : (q : Point) → IsAcross t level p q → IsMarked new q (length new)
 
   -- p drains, or lies inside a flat, and what lies across is reached
-  abbrev pub IsFollowed : Point → List Lead → List Lead → Bool → Type 0
-  IsFollowed p old new true = CrossesFlat t level p 0
-  IsFollowed p old new false = IsInside p × IsRound p old new
+  abbrev pub IsExpanded : Point → List Node → List Node → Bool → Type 0
+  IsExpanded p old new true = CrossesFlat t level p 0
+  IsExpanded p old new false = IsInside p × IsRound p old new
 
   -- q is ground of p's level
   pub record IsBeside (p q : Point) : Type 0 where
     pub solid : IsTrue (t.is_ground q)
     pub same_level : level q ≡ level p
 
-  -- The leads, of which x is the first, are ground of its level. Those before the head drain and are among the ends, or lie
+  -- The nodes, of which x is the first, are ground of its level. Those before the head drain and are among the ends, or lie
   -- inside the flat and are open, and what lies across from open points is reached.
-  pub record IsFinding (x : Point) (held : Flats) (ends : List Point) (leads : List Lead) (head : ℕ) : Type 0 where
+  pub record IsFinding (x : Point) (held : Flats) (ends : List Point) (nodes : List Node) (head : ℕ) : Type 0 where
     pub right : AreRight held
-    pub some : 0 < length leads
-    pub first : (lead_at leads 0).point ≡ x
-    pub flat : (i : ℕ) → i < length leads → IsBeside x (lead_at leads i).point
-    pub unknown : (p : Point) → found_of held p ≡ Some None → IsInside p × ((level p ≡ level x) × ((q : Point) → IsAcross t level p q → IsMarked leads q (length leads)))
-    pub settled : (i : ℕ) → i < head → (found_of held (lead_at leads i).point ≡ Some None) ⊎ Contains ends (lead_at leads i).point
+    pub some : 0 < length nodes
+    pub first : (node_at nodes 0).point ≡ x
+    pub flat : (i : ℕ) → i < length nodes → IsBeside x (node_at nodes i).point
+    pub unknown : (p : Point) → found_of held p ≡ Some None → IsInside p × ((level p ≡ level x) × ((q : Point) → IsAcross t level p q → IsMarked nodes q (length nodes)))
+    pub settled : (i : ℕ) → i < head → (found_of held (node_at nodes i).point ≡ Some None) ⊎ Contains ends (node_at nodes i).point
     pub drain : All (λ p. IsBeside x p × CrossesFlat t level p 0) ends
 
   -- x is found. The points of the queue are ground of its level with their distances, the nearest first, and from the head

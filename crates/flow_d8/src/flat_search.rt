@@ -8,8 +8,8 @@ ghost use Rattle.flow_d8.specs.LevelsAround.{OnLevels};
 ghost use Rattle.flow_d8.specs.Asking.{Asks};
 ghost use Rattle.flow_d8.specs.Seen.{has_seen};
 ghost use Rattle.flow_d8.specs.FlowSteps.{FlowsBy, FlowsOn};
-ghost use Rattle.flow_d8.specs.Flats.{IsFollowed};
-ghost use Rattle.flow_d8.specs.FlatSearch.{AreReached, AreLinked, IsVisited, AreVisited, IsOnFlat, IsSearched, AreDrained, lead_at};
+ghost use Rattle.flow_d8.specs.Flats.{IsExpanded};
+ghost use Rattle.flow_d8.specs.FlatSearch.{AreReached, AreLinked, IsVisited, AreVisited, IsOnFlat, IsSearched, AreDrained, node_at};
 
 use crate::FilledLevels;
 use crate::levels_around::{Near, around};
@@ -19,9 +19,9 @@ use crate::seen::Seen;
 use lattice::{DIRECTIONS, Dir, Point, Refusal, neighbour};
 use std::alloc::{AllocError, Global};
 
-/// A point that the search has reached, the step to it, and the place of the lead that the step is from.
+/// A point that the search has reached, the step to it, and the place of the node that the step is from.
 #[derive(Clone, Copy)]
-pub(crate) struct Lead {
+pub(crate) struct Node {
     point: Point,
     by: Dir,
     from: usize,
@@ -34,7 +34,7 @@ pub(crate) struct Lead {
 ///
 /// Points are reached in the order of their distances, and those of one distance in the order of the ways to them. So the
 /// first of them that drains is at the end of that way.
-pub(crate) fn way_across<S, L: FilledLevels<S>>(
+pub(crate) fn path_across_flat<S, L: FilledLevels<S>>(
     alloc: Global,
     levels: &mut L,
     source: &mut S,
@@ -53,16 +53,16 @@ pub(crate) fn way_across<S, L: FilledLevels<S>>(
     ensures fits { L.fits levels.new source.new }
 {
     let mut seen = Seen::new(alloc);
-    let mut leads = Vec::new(alloc);
-    start(point, &mut seen, &mut leads)?;
-    spread(point, 0, height, around, &mut seen, &mut leads)?;
+    let mut nodes = Vec::new(alloc);
+    start(point, &mut seen, &mut nodes)?;
+    spread(point, 0, height, around, &mut seen, &mut nodes)?;
     let mut head = 1;
-    'leads: while head < leads.len() {
-        if leads.len() > most {
+    'nodes: while head < nodes.len() {
+        if nodes.len() > most {
             return Ok(None);
         }
-        if follow(alloc, levels, source, height, head, &mut seen, &mut leads)? {
-            return Ok(Some(steps_to(alloc, &leads, head)?));
+        if expand(alloc, levels, source, height, head, &mut seen, &mut nodes)? {
+            return Ok(Some(steps_to(alloc, &nodes, head)?));
         }
         head += 1;
     }
@@ -70,14 +70,14 @@ pub(crate) fn way_across<S, L: FilledLevels<S>>(
 }
 
 /// Reaches the point that the search is from. No step is to it.
-pub(crate) fn start(point: Point, seen: &mut Seen, leads: &mut Vec<Lead>) -> Result<(), AllocError>
+pub(crate) fn start(point: Point, seen: &mut Seen, nodes: &mut Vec<Node>) -> Result<(), AllocError>
     requires none { (p : Point) → IsFalse (has_seen seen.old p) }
-    requires empty { leads.old.items ≡ [] }
-    ensures reached { OnOk result (AreReached seen.new leads.new.items) }
-    ensures first { OnOk result ((lead : Lead) × ((leads.new.items ≡ lead ∷ []) × (lead.point ≡ point))) }
+    requires empty { nodes.old.items ≡ [] }
+    ensures reached { OnOk result (AreReached seen.new nodes.new.items) }
+    ensures first { OnOk result ((node : Node) × ((nodes.new.items ≡ node ∷ []) × (node.point ≡ point))) }
 {
     seen.see(point)?;
-    leads.push(Lead {
+    nodes.push(Node {
         point,
         by: Dir::East,
         from: 0,
@@ -85,66 +85,66 @@ pub(crate) fn start(point: Point, seen: &mut Seen, leads: &mut Vec<Lead>) -> Res
     Ok(())
 }
 
-/// Whether the lead at the head drains downhill or off the mosaic. If not, the points around it are reached.
-pub(crate) fn follow<S, L: FilledLevels<S>>(
+/// Whether the node at the head drains downhill or off the mosaic. If not, the points around it are reached.
+pub(crate) fn expand<S, L: FilledLevels<S>>(
     alloc: Global,
     levels: &mut L,
     source: &mut S,
     height: i16,
     head: usize,
     seen: &mut Seen,
-    leads: &mut Vec<Lead>,
+    nodes: &mut Vec<Node>,
 ) -> Result<bool, Refusal>
     requires fits { L.fits levels.old source.old }
-    requires head { head < length leads.old.items }
-    requires reached { AreReached seen.old leads.old.items }
-    ensures reached { OnOk result (AreReached seen.new leads.new.items) }
-    ensures kept { IfOk result (λ end. IsTrue end → leads.new.items ≡ leads.old.items) }
+    requires head { head < length nodes.old.items }
+    requires reached { AreReached seen.old nodes.old.items }
+    ensures reached { OnOk result (AreReached seen.new nodes.new.items) }
+    ensures kept { IfOk result (λ end. IsTrue end → nodes.new.items ≡ nodes.old.items) }
     ensures end { L.is_honest levels.new source.new → IfOk result (λ end. IsTrue end → OnLevels (L.mosaic levels.old source.old) (λ level. (x : Point) → level x ≡ height
-        → IsSearched (terrain (L.mosaic levels.old source.old)) level x leads.old.items head → CrossesFlat (terrain (L.mosaic levels.old source.old)) level (lead_at leads.old.items head).point 0)) }
+        → IsSearched (terrain (L.mosaic levels.old source.old)) level x nodes.old.items head → CrossesFlat (terrain (L.mosaic levels.old source.old)) level (node_at nodes.old.items head).point 0)) }
     ensures on { L.is_honest levels.new source.new → IfOk result (λ end. IsFalse end → OnLevels (L.mosaic levels.old source.old) (λ level. (x : Point) → level x ≡ height
-        → IsSearched (terrain (L.mosaic levels.old source.old)) level x leads.old.items head → IsSearched (terrain (L.mosaic levels.old source.old)) level x leads.new.items (head + 1))) }
-    ensures followed { L.is_honest levels.new source.new → IfOk result (λ end. IsTrue (is_ground (L.mosaic levels.old source.old) (lead_at leads.old.items head).point) → OnLevels (L.mosaic levels.old source.old) (λ level. level (lead_at leads.old.items head).point ≡ height
-        → IsFollowed (terrain (L.mosaic levels.old source.old)) level (lead_at leads.old.items head).point leads.old.items leads.new.items end)) }
+        → IsSearched (terrain (L.mosaic levels.old source.old)) level x nodes.old.items head → IsSearched (terrain (L.mosaic levels.old source.old)) level x nodes.new.items (head + 1))) }
+    ensures expanded { L.is_honest levels.new source.new → IfOk result (λ end. IsTrue (is_ground (L.mosaic levels.old source.old) (node_at nodes.old.items head).point) → OnLevels (L.mosaic levels.old source.old) (λ level. level (node_at nodes.old.items head).point ≡ height
+        → IsExpanded (terrain (L.mosaic levels.old source.old)) level (node_at nodes.old.items head).point nodes.old.items nodes.new.items end)) }
     ensures refusal { IfErr result (L.refuses levels.old source.old levels.new source.new) }
     ensures asks { Asks L.FilledLevels levels.old source.old levels.new source.new }
     ensures keeps { OnOk result (L.keeps levels.old source.old levels.new source.new) }
     ensures fits { L.fits levels.new source.new }
 {
-    let lead = leads[head];
-    let around = around(alloc, levels, source, lead.point)?;
+    let node = nodes[head];
+    let around = around(alloc, levels, source, node.point)?;
     let near = Near { height, around };
-    if drains_at_once(flow_by(levels, source, lead.point, &near)) {
+    if drains_at_once(flow_by(levels, source, node.point, &near)) {
         return Ok(true);
     }
-    spread(lead.point, head, height, &around, seen, leads)?;
+    spread(node.point, head, height, &around, seen, nodes)?;
     Ok(false)
 }
 
-/// The point of the lead at this place.
-pub(crate) fn point_of(leads: &[Lead], place: usize) -> Point
-    requires { place < length leads.now }
-    ensures { result ≡ (lead_at leads.now place).point }
+/// The point of the node at this place.
+pub(crate) fn point_of(nodes: &[Node], place: usize) -> Point
+    requires { place < length nodes.now }
+    ensures { result ≡ (node_at nodes.now place).point }
 {
-    leads[place].point
+    nodes[place].point
 }
 
-// Reaches the points around this one, whose lead has the place `from`, that have its level.
+// Reaches the points around this one, whose node has the place `from`, that have its level.
 fn spread(
     point: Point,
     from: usize,
     height: i16,
     around: &[Option<i16>; 8],
     seen: &mut Seen,
-    leads: &mut Vec<Lead>,
+    nodes: &mut Vec<Node>,
 ) -> Result<(), AllocError>
-    requires from { from < length leads.old.items }
-    requires reached { AreReached seen.old leads.old.items }
-    ensures reached { OnOk result (AreReached seen.new leads.new.items) }
-    ensures visited { OnOk result (AreVisited point from height around.now leads.old.items leads.new.items 8) }
+    requires from { from < length nodes.old.items }
+    requires reached { AreReached seen.old nodes.old.items }
+    ensures reached { OnOk result (AreReached seen.new nodes.new.items) }
+    ensures visited { OnOk result (AreVisited point from height around.now nodes.old.items nodes.new.items 8) }
 {
     for i in 0..8 {
-        visit(point, from, height, DIRECTIONS[i], around[i], seen, leads)?;
+        visit(point, from, height, DIRECTIONS[i], around[i], seen, nodes)?;
     }
     Ok(())
 }
@@ -157,13 +157,13 @@ fn visit(
     direction: Dir,
     beside: Option<i16>,
     seen: &mut Seen,
-    leads: &mut Vec<Lead>,
+    nodes: &mut Vec<Node>,
 ) -> Result<(), AllocError>
-    requires from { from < length leads.old.items }
-    requires reached { AreReached seen.old leads.old.items }
-    ensures reached { OnOk result (AreReached seen.new leads.new.items) }
-    ensures visited { OnOk result (IsVisited point from direction height beside leads.old.items leads.new.items) }
-    ensures more { OnOk result (from < length leads.new.items) }
+    requires from { from < length nodes.old.items }
+    requires reached { AreReached seen.old nodes.old.items }
+    ensures reached { OnOk result (AreReached seen.new nodes.new.items) }
+    ensures visited { OnOk result (IsVisited point from direction height beside nodes.old.items nodes.new.items) }
+    ensures more { OnOk result (from < length nodes.new.items) }
 {
     if beside != Some(height) {
         return Ok(());
@@ -172,7 +172,7 @@ fn visit(
         return Ok(());
     };
     if seen.see(to)? {
-        leads.push(Lead {
+        nodes.push(Node {
             point: to,
             by: direction,
             from,
@@ -181,20 +181,20 @@ fn visit(
     Ok(())
 }
 
-// The steps of the way to the lead at the head, the last one first.
-fn steps_to(alloc: Global, leads: &[Lead], head: usize) -> Result<Vec<Dir>, AllocError>
-    requires head { head < length leads.now }
-    requires linked { AreLinked leads.now }
-    ensures steps { IfOk result (λ steps. (t : Terrain Point) (level : Point → ℤ) → AreDrained t level leads.now head
-        → FlowsBy t level (lead_at leads.now 0).point steps.items (lead_at leads.now head).point) }
+// The steps of the way to the node at the head, the last one first.
+fn steps_to(alloc: Global, nodes: &[Node], head: usize) -> Result<Vec<Dir>, AllocError>
+    requires head { head < length nodes.now }
+    requires linked { AreLinked nodes.now }
+    ensures steps { IfOk result (λ steps. (t : Terrain Point) (level : Point → ℤ) → AreDrained t level nodes.now head
+        → FlowsBy t level (node_at nodes.now 0).point steps.items (node_at nodes.now head).point) }
     ensures some { 0 < head → IfOk result (λ steps. 0 < length steps.items) }
 {
     let mut steps = Vec::new(alloc);
     let mut at = head;
     'back: while at > 0 {
-        let lead = leads[at];
-        steps.push(lead.by)?;
-        at = lead.from;
+        let node = nodes[at];
+        steps.push(node.by)?;
+        at = node.from;
     }
     Ok(steps)
 }

@@ -13,7 +13,7 @@ ghost use Rattle.flow_d8.specs.FlatSearch.{IsOnFlat};
 ghost use Rattle.flow_d8.specs.Flats.{found_of, distance_of, IsSet, AreFlatsOf, IsInFlat, AreMeasured, IsMeasuring, IsReaching, IsCloser};
 
 use crate::FilledLevels;
-use crate::flat_search::{follow, point_of, start};
+use crate::flat_search::{expand, point_of, start};
 use crate::flow_path::lengthen;
 use crate::point_table::PointTable;
 use crate::seen::Seen;
@@ -105,7 +105,7 @@ pub(crate) fn first_nearer<S, L: FilledLevels<S>>(
     }
 }
 
-// Finds the distances of the point, which lies inside a flat, and of all that it leads to over points inside it, where they
+// Finds the distances of the point, which lies inside a flat, and of all that it nodes to over points inside it, where they
 // aren't found yet. False where these are more than some `most`: then no flat is found any more.
 fn cross<S, L: FilledLevels<S>>(
     alloc: Global,
@@ -137,7 +137,7 @@ fn cross<S, L: FilledLevels<S>>(
     Ok(true)
 }
 
-// Finds the points that the point leads to over points inside its flat, and leaves their distances open. The answer has
+// Finds the points that the point nodes to over points inside its flat, and leaves their distances open. The answer has
 // those that drain, or is None where more than some `most` are reached.
 fn find<S, L: FilledLevels<S>>(
     alloc: Global,
@@ -158,16 +158,16 @@ fn find<S, L: FilledLevels<S>>(
     ensures fits { L.fits levels.new source.new }
 {
     let mut seen = Seen::new(alloc);
-    let mut leads = Vec::new(alloc);
+    let mut nodes = Vec::new(alloc);
     let mut ends = Vec::new(alloc);
-    start(point, &mut seen, &mut leads)?;
+    start(point, &mut seen, &mut nodes)?;
     let mut head = 0;
-    'leads: while head < leads.len() {
-        if leads.len() > most {
+    'nodes: while head < nodes.len() {
+        if nodes.len() > most {
             return Ok(None);
         }
-        let at = point_of(&leads, head);
-        if follow(alloc, levels, source, height, head, &mut seen, &mut leads)? {
+        let at = point_of(&nodes, head);
+        if expand(alloc, levels, source, height, head, &mut seen, &mut nodes)? {
             lengthen(&mut ends, at)?;
         } else {
             flats.set(at, None)?;

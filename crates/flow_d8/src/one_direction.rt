@@ -7,7 +7,7 @@ ghost use Rattle.flow_d8.specs.FlowSteps.{AreNext};
 ghost use Rattle.flow_d8.specs.Way.{IsWay};
 
 use crate::FilledLevels;
-use crate::flat_search::way_across;
+use crate::flat_search::path_across_flat;
 use crate::flats::{Flats, first_nearer};
 use crate::point_flow::{PointFlow, point_flow};
 use lattice::{Dir, Point, Refusal, neighbour};
@@ -220,7 +220,7 @@ fn find_steps<S, L: FilledLevels<S>>(
     match point_flow(alloc, levels, source, point)? {
         PointFlow::Drains(direction) => Ok(Some(one_or_none(alloc, direction)?)),
         PointFlow::Inside { height, around } => {
-            way_across(alloc, levels, source, point, height, &around, most)
+            path_across_flat(alloc, levels, source, point, height, &around, most)
         }
     }
 }

@@ -10,11 +10,11 @@ loop-i-preserved c =
     record {
       from = c.in_ok-visit.ensures.more;
       reached = c.in_ok-visit.ensures.reached;
-      visited = subst (λ k. AreVisited c.args.point c.args.from (to_z w16 (of_z w16 c.args.height)) c.args.around.now c.args.leads.now.items c.visit.new.leads.items k) next (
-        c.loop-i.leads.items,
+      visited = subst (λ k. AreVisited c.args.point c.args.from (to_z w16 (of_z w16 c.args.height)) c.args.around.now c.args.nodes.now.items c.visit.new.nodes.items k) next (
+        c.loop-i.nodes.items,
         (
           c.loop-i.invariant.visited,
-          subst (λ f. IsVisited c.args.point c.args.from (dir_number i) (to_z w16 (of_z w16 c.args.height)) f c.loop-i.leads.items c.visit.new.leads.items)
+          subst (λ f. IsVisited c.args.point c.args.from (dir_number i) (to_z w16 (of_z w16 c.args.height)) f c.loop-i.nodes.items c.visit.new.nodes.items)
               (get_or_default c.args.around.now i _ None (omega (arith, c.told-around))) c.in_ok-visit.ensures.visited,
         ),
       );

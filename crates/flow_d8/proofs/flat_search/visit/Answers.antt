@@ -1,7 +1,7 @@
 use Rattle.std.proofs.Common.{rules, IsTrue, inl, inr, ◌++◌, [], ◌∷◌, List, length, sym, ap, ◌∙◌, subst, arith}
 use Rattle.std.proofs.lemmas.Bool.{not-false}
 use Rattle.lattice.specs.declared.point.Point.{Point}
-use Rattle.flow_d8.specs.declared.flat_search.Lead.{Lead}
+use Rattle.flow_d8.specs.declared.flat_search.Node.{Node}
 use Rattle.flow_d8.specs.Seen.{has_seen}
 use Rattle.flow_d8.specs.FlatSearch.{HasPoint, AreLinked}
 use Rattle.flow_d8.proofs.Reaching.{longer_by_one, linked_on, still_there, there_now}
@@ -9,32 +9,32 @@ use Rattle.flow_d8.proofs.flat_search.visit.Goals as goal
 
 pub returns-in_ok-push-clause-reached : goal.returns-in_ok-push-clause-reached
 returns-in_ok-push-clause-reached c =
-    let old = c.args.leads.now.items in
-    let lead : Lead = record { point = c.in-Some.to; by = c.args.direction; from = c.args.from } in
+    let old = c.args.nodes.now.items in
+    let node : Node = record { point = c.in-Some.to; by = c.args.direction; from = c.args.from } in
     record {
       there = λ p has.
-          subst (λ (l : List Lead). HasPoint l p) (sym c.in_ok-push.ensures.items)
+          subst (λ (l : List Node). HasPoint l p) (sym c.in_ok-push.ensures.items)
           (elim (c.in_ok-see.ensures.seen p has) [
-            | inl is ↦ subst (λ q. HasPoint (old ++ lead ∷ []) q) (sym is) (there_now old lead)
-            | inr before ↦ still_there old lead p (c.requires.reached.there p before)
+            | inl is ↦ subst (λ q. HasPoint (old ++ node ∷ []) q) (sym is) (there_now old node)
+            | inr before ↦ still_there old node p (c.requires.reached.there p before)
           ]);
-      linked = subst AreLinked (sym c.in_ok-push.ensures.items) (linked_on old lead c.requires.from c.requires.reached.linked);
+      linked = subst AreLinked (sym c.in_ok-push.ensures.items) (linked_on old node c.requires.from c.requires.reached.linked);
     }
 
 pub returns-in_ok-push-clause-visited : goal.returns-in_ok-push-clause-visited
 returns-in_ok-push-clause-visited c =
-    let old = c.args.leads.now.items in
-    let lead : Lead = record { point = c.in-Some.to; by = c.args.direction; from = c.args.from } in
+    let old = c.args.nodes.now.items in
+    let node : Node = record { point = c.in-Some.to; by = c.args.direction; from = c.args.from } in
     record {
       only = inr (search rules, c.in_ok-push.ensures.items ∙ ap (λ (q : Point). old ++ record { point = q; by = c.args.direction; from = c.args.from } ∷ []) c.in-Some.ensures.1);
-      there = λ said fits. subst (λ q. HasPoint c.push.new.self.items q) c.in-Some.ensures.1 (subst (λ (l : List Lead). HasPoint l c.in-Some.to) (sym c.in_ok-push.ensures.items) (there_now old lead));
+      there = λ said fits. subst (λ q. HasPoint c.push.new.self.items q) c.in-Some.ensures.1 (subst (λ (l : List Node). HasPoint l c.in-Some.to) (sym c.in_ok-push.ensures.items) (there_now old node));
     }
 
 pub returns-in_ok-push-clause-more : goal.returns-in_ok-push-clause-more
 returns-in_ok-push-clause-more c =
-    let old = c.args.leads.now.items in
-    let lead : Lead = record { point = c.in-Some.to; by = c.args.direction; from = c.args.from } in
-    omega (arith, c.requires.from, longer_by_one old lead, ap length c.in_ok-push.ensures.items)
+    let old = c.args.nodes.now.items in
+    let node : Node = record { point = c.in-Some.to; by = c.args.direction; from = c.args.from } in
+    omega (arith, c.requires.from, longer_by_one old node, ap length c.in_ok-push.ensures.items)
 
 pub returns-else-branch-clause-reached : goal.returns-else-branch-clause-reached
 returns-else-branch-clause-reached c = record {

@@ -7,9 +7,9 @@ use Rattle.lattice.specs.declared.refusal.Refusal.TheVariants.{NoMemory}
 use Rattle.lattice.specs.declared.point.Point.{Point}
 use Rattle.lattice.specs.Mosaic.{Mosaic}
 use Rattle.lattice.specs.Ground.{is_ground, terrain}
-use Rattle.flow_d8.specs.declared.flat_search.Lead.{Lead}
-use Rattle.flow_d8.specs.FlatSearch.{lead_at}
-use Rattle.flow_d8.specs.Flats.{IsSet, IsFollowed, IsFinding}
+use Rattle.flow_d8.specs.declared.flat_search.Node.{Node}
+use Rattle.flow_d8.specs.FlatSearch.{node_at}
+use Rattle.flow_d8.specs.Flats.{IsSet, IsExpanded, IsFinding}
 use Rattle.flow_d8.proofs.MosaicGrid.{mosaic_is_grid}
 use Rattle.flow_d8.specs.LevelsAround.{OnLevels}
 use Rattle.flow_d8.proofs.Asked.{asks_nothing, asks_on}
@@ -17,24 +17,24 @@ use Rattle.flow_d8.proofs.FlatsSearched.{finding_begun, end_found, inside_found,
 use Rattle.flow_d8.proofs.flats.find.Goals as goal
 use Rattle.flow_d8.proofs.flats.find.Goals.{then-branch+in_ok-lengthen, else-branch+in_ok-set}
 
-pub leads-init : goal.leads-init
-leads-init g c = record {
+pub nodes-init : goal.nodes-init
+nodes-init g c = record {
   asks = asks_nothing g.L.FilledLevels c.args.levels.now c.args.source.now;
   keeps = g.met.L.FilledLevels.keeps_itself c.args.levels.now c.args.source.now;
   fits = c.requires.fits;
   reached = c.in_ok-start.ensures.reached;
   finding = λ honest level filled.
       let first = c.in_ok-start.ensures.first in
-      subst (λ (l : List Point). IsFinding (terrain (g.L.FilledLevels.mosaic c.args.levels.now c.args.source.now)) level c.args.point c.args.flats.now l c.start.new.leads.items 0) (sym c.new-ends.ensures.items)
+      subst (λ (l : List Point). IsFinding (terrain (g.L.FilledLevels.mosaic c.args.levels.now c.args.source.now)) level c.args.point c.args.flats.now l c.start.new.nodes.items 0) (sym c.new-ends.ensures.items)
       (finding_begun (terrain (g.L.FilledLevels.mosaic c.args.levels.now c.args.source.now)) level c.args.point (c.requires.flat honest level filled).0.solid c.args.flats.now
-      (c.requires.flats honest level filled) first.0 first.1.1 c.start.new.leads.items first.1.0);
+      (c.requires.flats honest level filled) first.0 first.1.1 c.start.new.nodes.items first.1.0);
 }
 
-pub returns-in_err-follow-clause-refusal : goal.returns-in_err-follow-clause-refusal
-returns-in_err-follow-clause-refusal g c =
-    let p = err_from_is_err_and c.from_residual-in_err-follow.result c.from_residual-in_err-follow.ensures.1 in
-    rw p.1 (subst (g.L.FilledLevels.refuses c.args.levels.now c.args.source.now c.follow.new.levels c.follow.new.source) (sym p.2)
-    (g.met.L.FilledLevels.refuses_on c.args.levels.now c.leads.levels c.follow.new.levels c.args.source.now c.leads.source c.follow.new.source c.in_err-follow.field-0.0 c.leads.invariant.keeps c.in_err-follow.ensures.refusal))
+pub returns-in_err-expand-clause-refusal : goal.returns-in_err-expand-clause-refusal
+returns-in_err-expand-clause-refusal g c =
+    let p = err_from_is_err_and c.from_residual-in_err-expand.result c.from_residual-in_err-expand.ensures.1 in
+    rw p.1 (subst (g.L.FilledLevels.refuses c.args.levels.now c.args.source.now c.expand.new.levels c.expand.new.source) (sym p.2)
+    (g.met.L.FilledLevels.refuses_on c.args.levels.now c.nodes.levels c.expand.new.levels c.args.source.now c.nodes.source c.expand.new.source c.in_err-expand.field-0.0 c.nodes.invariant.keeps c.in_err-expand.ensures.refusal))
 
 pub returns-in_err-lengthen-clause-refusal : goal.returns-in_err-lengthen-clause-refusal
 returns-in_err-lengthen-clause-refusal g c =
@@ -42,9 +42,9 @@ returns-in_err-lengthen-clause-refusal g c =
     let now = c.args.levels.now in
     let at = c.args.source.now in
     let memory : IfErr c.from_residual-in_err-lengthen.result (λ r. r ≡ NoMemory) = search rules in
-    let kept = laws.keeps_on now c.leads.levels c.follow.new.levels at c.leads.source c.follow.new.source c.leads.invariant.keeps c.in_ok-follow.ensures.keeps in
+    let kept = laws.keeps_on now c.nodes.levels c.expand.new.levels at c.nodes.source c.expand.new.source c.nodes.invariant.keeps c.in_ok-expand.ensures.keeps in
     IfErr-weaker c.from_residual-in_err-lengthen.result _ _
-    (λ r same. subst (g.L.FilledLevels.refuses now at c.follow.new.levels c.follow.new.source) (sym same) (laws.runs_out now c.follow.new.levels at c.follow.new.source kept)) memory
+    (λ r same. subst (g.L.FilledLevels.refuses now at c.expand.new.levels c.expand.new.source) (sym same) (laws.runs_out now c.expand.new.levels at c.expand.new.source kept)) memory
 
 pub returns-in_err-set-clause-refusal : goal.returns-in_err-set-clause-refusal
 returns-in_err-set-clause-refusal g c =
@@ -52,51 +52,51 @@ returns-in_err-set-clause-refusal g c =
     let now = c.args.levels.now in
     let at = c.args.source.now in
     let memory : IfErr c.from_residual-in_err-set.result (λ r. r ≡ NoMemory) = search rules in
-    let kept = laws.keeps_on now c.leads.levels c.follow.new.levels at c.leads.source c.follow.new.source c.leads.invariant.keeps c.in_ok-follow.ensures.keeps in
+    let kept = laws.keeps_on now c.nodes.levels c.expand.new.levels at c.nodes.source c.expand.new.source c.nodes.invariant.keeps c.in_ok-expand.ensures.keeps in
     IfErr-weaker c.from_residual-in_err-set.result _ _
-    (λ r same. subst (g.L.FilledLevels.refuses now at c.follow.new.levels c.follow.new.source) (sym same) (laws.runs_out now c.follow.new.levels at c.follow.new.source kept)) memory
+    (λ r same. subst (g.L.FilledLevels.refuses now at c.expand.new.levels c.expand.new.source) (sym same) (laws.runs_out now c.expand.new.levels at c.expand.new.source kept)) memory
 
-pub leads-preserved : goal.leads-preserved
-leads-preserved g c =
-    let inv = c.leads.invariant in
+pub nodes-preserved : goal.nodes-preserved
+nodes-preserved g c =
+    let inv = c.nodes.invariant in
     record {
-      asks = asks_on g.L.FilledLevels c.args.levels.now c.leads.levels c.follow.new.levels c.args.source.now c.leads.source c.follow.new.source inv.asks c.in_ok-follow.ensures.asks;
-      keeps = g.met.L.FilledLevels.keeps_on c.args.levels.now c.leads.levels c.follow.new.levels c.args.source.now c.leads.source c.follow.new.source inv.keeps c.in_ok-follow.ensures.keeps;
-      fits = c.in_ok-follow.ensures.fits;
-      reached = c.in_ok-follow.ensures.reached;
+      asks = asks_on g.L.FilledLevels c.args.levels.now c.nodes.levels c.expand.new.levels c.args.source.now c.nodes.source c.expand.new.source inv.asks c.in_ok-expand.ensures.asks;
+      keeps = g.met.L.FilledLevels.keeps_on c.args.levels.now c.nodes.levels c.expand.new.levels c.args.source.now c.nodes.source c.expand.new.source inv.keeps c.in_ok-expand.ensures.keeps;
+      fits = c.in_ok-expand.ensures.fits;
+      reached = c.in_ok-expand.ensures.reached;
       finding = λ honest level filled.
-          let before = c.in_ok-follow.ensures.asks.honest honest in
+          let before = c.in_ok-expand.ensures.asks.honest honest in
           let m = g.L.FilledLevels.mosaic c.args.levels.now c.args.source.now in
           let is = g.met.L.FilledLevels.is_mosaic c.args.levels.now c.args.source.now (inv.asks.honest before) in
-          let old = c.leads.leads.items in
-          let new = c.follow.new.leads.items in
-          let head = c.leads.head in
+          let old = c.nodes.nodes.items in
+          let new = c.expand.new.nodes.items in
+          let head = c.nodes.head in
           let x = c.args.point in
-          let p = (lead_at old head).point in
+          let p = (node_at old head).point in
           let s = inv.finding before level filled in
-          let within : head < length old = let test = c.leads-test.true in omega (arith, c.len.ensures) in
-          let at : c.point_of-at.result ≡ p = c.point_of-at.ensures ∙ ap (λ (l : List Lead). (lead_at l head).point) c.deref.ensures.value in
+          let within : head < length old = let test = c.nodes-test.true in omega (arith, c.len.ensures) in
+          let at : c.point_of-at.result ≡ p = c.point_of-at.ensures ∙ ap (λ (l : List Node). (node_at l head).point) c.deref.ensures.value in
           let here : level p ≡ c.args.height = (s.flat head within).same_level ∙ (c.requires.flat (inv.asks.honest before) level filled).1 in
-          let end = c.in_ok-follow.field-0 in
+          let end = c.in_ok-expand.field-0 in
           let fits : SFits w16 c.args.height = search rules in
-          let followed = subst (λ (n : Mosaic). IsTrue (is_ground n p) → OnLevels n (λ level. level p ≡ to_z w16 (of_z w16 c.args.height) → IsFollowed (terrain n) level p old new end)) (inv.asks.mosaic before)
-          (c.in_ok-follow.ensures.followed honest) (s.flat head within).solid level filled (here ∙ sym (to_z-of_z w16 c.args.height fits)) in
+          let expanded = subst (λ (n : Mosaic). IsTrue (is_ground n p) → OnLevels n (λ level. level p ≡ to_z w16 (of_z w16 c.args.height) → IsExpanded (terrain n) level p old new end)) (inv.asks.mosaic before)
+          (c.in_ok-expand.ensures.expanded honest) (s.flat head within).solid level filled (here ∙ sym (to_z-of_z w16 c.args.height fits)) in
           elim c.if-branch.branch [
             | then-branch+in_ok-lengthen w ↦
-                let kept : new ≡ old = c.in_ok-follow.ensures.kept w.if-branch.true in
-                let ends : w.lengthen.new.path.items ≡ c.leads.ends.items ++ p ∷ [] = w.in_ok-lengthen.ensures.path ∙ ap (λ (q : Point). c.leads.ends.items ++ q ∷ []) at in
-                rw (w.flats-is, w.ends-is) (subst (λ (l : List Point). IsFinding (terrain m) level x c.leads.flats l new (head + 1)) (sym ends) (subst (λ (l : List Lead). IsFinding (terrain m) level x c.leads.flats (c.leads.ends.items ++ p ∷ []) l (head + 1)) (sym kept)
-                (end_found (terrain m) level x c.leads.flats c.leads.ends.items old head s within (subst (IsFollowed (terrain m) level p old new) w.if-branch.true followed))))
+                let kept : new ≡ old = c.in_ok-expand.ensures.kept w.if-branch.true in
+                let ends : w.lengthen.new.path.items ≡ c.nodes.ends.items ++ p ∷ [] = w.in_ok-lengthen.ensures.path ∙ ap (λ (q : Point). c.nodes.ends.items ++ q ∷ []) at in
+                rw (w.flats-is, w.ends-is) (subst (λ (l : List Point). IsFinding (terrain m) level x c.nodes.flats l new (head + 1)) (sym ends) (subst (λ (l : List Node). IsFinding (terrain m) level x c.nodes.flats (c.nodes.ends.items ++ p ∷ []) l (head + 1)) (sym kept)
+                (end_found (terrain m) level x c.nodes.flats c.nodes.ends.items old head s within (subst (IsExpanded (terrain m) level p old new) w.if-branch.true expanded))))
             | else-branch+in_ok-set w ↦
-                let inside = subst (IsFollowed (terrain m) level p old new) w.if-branch.false followed in
-                rw (w.flats-is, w.ends-is) (inside_found (terrain m) level x c.leads.flats c.leads.ends.items old head s within (mosaic_is_grid m is) w.set.new.self
-                (subst (λ q. IsSet c.leads.flats w.set.new.self q None) at w.in_ok-set.ensures) inside.0 new inside.1)
+                let inside = subst (IsExpanded (terrain m) level p old new) w.if-branch.false expanded in
+                rw (w.flats-is, w.ends-is) (inside_found (terrain m) level x c.nodes.flats c.nodes.ends.items old head s within (mosaic_is_grid m is) w.set.new.self
+                (subst (λ q. IsSet c.nodes.flats w.set.new.self q None) at w.in_ok-set.ensures) inside.0 new inside.1)
           ];
     }
 
 pub returns-clause-found : goal.returns-clause-found
 returns-clause-found g c honest level filled =
-    let inv = c.leads.invariant in
-    let all : length c.leads.leads.items ≤ c.leads.head = grind (arith, common_steps) in
-    all_found (terrain (g.L.FilledLevels.mosaic c.args.levels.now c.args.source.now)) level c.args.point c.leads.flats c.leads.ends.items c.leads.leads.items c.leads.head
+    let inv = c.nodes.invariant in
+    let all : length c.nodes.nodes.items ≤ c.nodes.head = grind (arith, common_steps) in
+    all_found (terrain (g.L.FilledLevels.mosaic c.args.levels.now c.args.source.now)) level c.args.point c.nodes.flats c.nodes.ends.items c.nodes.nodes.items c.nodes.head
     (inv.finding honest level filled) all (c.requires.flat (inv.asks.honest honest) level filled).0

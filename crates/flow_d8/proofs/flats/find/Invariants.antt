@@ -6,14 +6,14 @@ use Rattle.flow_d8.specs.FlatSearch.{AreReached}
 use Rattle.flow_d8.specs.Flats.{IsFinding}
 use Rattle.flow_d8.proofs.flats.find.Given as goal
 
-abbrev pub invariant-leads : goal.invariant-leads
-invariant-leads g l = record {
+abbrev pub invariant-nodes : goal.invariant-nodes
+invariant-nodes g l = record {
   asks : Asks g.L.FilledLevels l.fn.levels l.fn.source l.levels l.source;
   keeps : g.L.FilledLevels.keeps l.fn.levels l.fn.source l.levels l.source;
   fits : g.L.FilledLevels.fits l.levels l.source;
-  reached : AreReached l.seen l.leads.items;
-  finding : g.L.FilledLevels.is_honest l.levels l.source → OnLevels (g.L.FilledLevels.mosaic l.fn.levels l.fn.source) (λ level. IsFinding (terrain (g.L.FilledLevels.mosaic l.fn.levels l.fn.source)) level l.fn.point l.flats l.ends.items l.leads.items l.head);
+  reached : AreReached l.seen l.nodes.items;
+  finding : g.L.FilledLevels.is_honest l.levels l.source → OnLevels (g.L.FilledLevels.mosaic l.fn.levels l.fn.source) (λ level. IsFinding (terrain (g.L.FilledLevels.mosaic l.fn.levels l.fn.source)) level l.fn.point l.flats l.ends.items l.nodes.items l.head);
 }
 
-abbrev pub decreases-leads : goal.decreases-leads
-decreases-leads g l = 2 ^ 64 - l.head
+abbrev pub decreases-nodes : goal.decreases-nodes
+decreases-nodes g l = 2 ^ 64 - l.head

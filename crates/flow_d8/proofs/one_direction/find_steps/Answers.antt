@@ -24,13 +24,13 @@ pub returns-in-Inside-clause-steps : goal.returns-in-Inside-clause-steps
 returns-in-Inside-clause-steps g c honest =
     let m = g.L.FilledLevels.mosaic c.args.levels.now c.args.source.now in
     let p = c.args.point in
-    let before = c.way_across.ensures.asks.honest honest in
+    let before = c.path_across_flat.ensures.asks.honest honest in
     let same = c.in_ok-direction.ensures.asks.mosaic before in
     let flat = subst (IsPointFlow m p) c.in-Inside.is (c.in_ok-direction.ensures.flow before) in
-    on_found (λ steps. OnLevels m (λ level. FlowsOn (terrain m) level p steps.items)) (λ steps. 0 < length steps.items) (λ steps. AreNext m p steps.items) c.way_across.result
+    on_found (λ steps. OnLevels m (λ level. FlowsOn (terrain m) level p steps.items)) (λ steps. 0 < length steps.items) (λ steps. AreNext m p steps.items) c.path_across_flat.result
     (λ steps flows some. record {
       lead = λ _ level filled. are_steps (terrain m) level p steps.items (λ none. absurd (some_not_none steps.items some none)) (flows level filled);
       elsewhere = λ off. absurd (true≢false (sym flat.solid ∙ off));
     })
-    (subst (λ (n : Mosaic). IfOk c.way_across.result (λ found. IfSome found (λ steps. OnLevels n (λ level. FlowsOn (terrain n) level p steps.items)))) same (c.way_across.ensures.way honest))
-    c.way_across.ensures.some
+    (subst (λ (n : Mosaic). IfOk c.path_across_flat.result (λ found. IfSome found (λ steps. OnLevels n (λ level. FlowsOn (terrain n) level p steps.items)))) same (c.path_across_flat.ensures.way honest))
+    c.path_across_flat.ensures.some
