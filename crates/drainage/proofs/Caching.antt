@@ -10,10 +10,11 @@ use Rattle.lattice.specs.Lattice.{holds}
 use Rattle.lattice.specs.Mosaic.{Mosaic}
 use Rattle.lattice.specs.declared.point.Point.{Point}
 use Rattle.border_graph.specs.Others.{corner_at}
-use Rattle.tile_labellings.specs.TileLabellings.{labelled_of, IsTileLabelling}
+use Rattle.tile_flood.specs.Blocks.{LabelledGround}
+use Rattle.tile_labellings.specs.TileLabellings.{labelled_of, is_flooded, can_note, IsTileLabelling}
 use Rattle.tile_labellings.specs.declared.tile_labelling.TileLabelling.{TileLabelling}
 use Rattle.drainage.specs.Holding.{IsHeldAt, IsEntered}
-use Rattle.drainage.specs.Invalidating.{IsNoted}
+use Rattle.drainage.specs.Invalidating.{IsNoted, IsHeldStill}
 use Rattle.drainage.specs.Reaching.{DifferAt}
 use Rattle.drainage.specs.Room.{HasSide, has_block}
 use Rattle.drainage.specs.declared.labelling_cache.HeldLabelling.{HeldLabelling}
@@ -209,12 +210,35 @@ module _ (side : ℕ) (corners : List Corner) (p : Point) where
           ],
         )
 
+  -- a flooded block with room for one more point stays
+  module _ (t : ℕ) (below : t < length corners) (l : TileLabelling) (can : can_note l ≡ true) where
+    pub noted_still : (xs ys : List HeldLabelling) → AreNoted xs ys → IsHeldAt xs t l → IsHeldStill ys t l
+    noted_still [] ys is at = absurd (nothing_there (record { place = t; labelling = l }) at)
+    noted_still (x ∷ xs) ys (b, y, noted, zs, rest, is) at = subst (λ (ws : List HeldLabelling). IsHeldStill ws t l) (sym is)
+        (elim (first_or_behind x xs (record { place = t; labelling = l }) at) [
+          | inl here ↦ taken b noted (ap (λ (h : HeldLabelling). h.place) here) (ap (λ (h : HeldLabelling). h.labelling) here)
+          | inr there ↦ later b (noted_still xs zs rest there)
+        ])
+      where
+        later : (b : Bool) → IsHeldStill zs t l → IsHeldStill (cond b (y ∷ zs) zs) t l
+        later true still = record { noted = still.noted; held = behind y zs (record { place = t; labelling = still.noted }) still.held; same = still.same; flooded = still.flooded }
+        later false still = still
+
+        taken : (b : Bool) → IsNoted side corners p x b y → x.place ≡ t → x.labelling ≡ l → IsHeldStill (cond b (y ∷ zs) zs) t l
+        taken true noted place labelling = record {
+          noted = y.labelling;
+          held = subst (Contains (y ∷ zs)) (same_held y t y.labelling (noted.same_place ∙ place) refl) (first y zs);
+          same = noted.same_labelled refl ∙ ap labelled_of labelling;
+          flooded = noted.same_block ∙ ap is_flooded labelling;
+        }
+        taken false noted place labelling = let yes = noted.mended (subst (λ v. v < length corners) (sym place) below) (ap can_note labelling ∙ can) in absurd (cc)
+
   pub noted_sides : (n : ℕ) (xs ys : List HeldLabelling) → AreNoted xs ys → All (HasSide n) xs → All (HasSide n) ys
   noted_sides n [] ys is all = subst (All (HasSide n)) (sym is) all
   noted_sides n (x ∷ xs) ys (b, y, noted, zs, rest, is) all = subst (All (HasSide n)) (sym is) (by (noted_sides n xs zs rest (All-tail (HasSide n) x xs all)) b noted)
     where
       by : All (HasSide n) zs → (b : Bool) → IsNoted side corners p x b y → All (HasSide n) (cond b (y ∷ zs) zs)
-      by later true noted = All-cons (HasSide n) y zs (noted.same_side refl ∙ All-head (HasSide n) x xs all) later
+      by later true noted = All-cons (HasSide n) y zs (ap (λ (g : LabelledGround). g.side) (noted.same_labelled refl) ∙ All-head (HasSide n) x xs all) later
       by later false noted = later
 
   pub noted_blocks : (xs ys : List HeldLabelling) → AreNoted xs ys → count_by has_block ys ≤ count_by has_block xs

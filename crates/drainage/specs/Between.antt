@@ -1,5 +1,6 @@
 -- What is held between two questions.
-use Rattle.std.specs.Prelude.{◌≡◌, ℤ, Option, Some, None}
+use Rattle.std.specs.Prelude.{◌≡◌, ℤ, Option, Some, None, length}
+use Rattle.std.specs.Option.{ForSome}
 use Rattle.lattice.specs.Corners.{Corner}
 use Rattle.lattice.specs.Mosaic.{Mosaic}
 use Rattle.lattice.specs.declared.point.Point.{Point}
@@ -11,7 +12,7 @@ use Rattle.drainage.specs.Flows.{AreFlows}
 use Rattle.drainage.specs.Invalidating.{IsLeftOf, IsNotedOf}
 use Rattle.drainage.specs.Holding.{IsRight, IsCurrentIn}
 use Rattle.drainage.specs.Reaching.{is_reached}
-use Rattle.drainage.specs.Room.{AreFew}
+use Rattle.drainage.specs.Room.{AreFew, AreFewTiles, AreFewSamples}
 use Rattle.drainage.specs.TileCaches.{known_of}
 use Rattle.drainage.specs.declared.flows.Flows.{Flows}
 use Rattle.drainage.specs.declared.drainage_cache.DrainageCache.{DrainageCache}
@@ -40,8 +41,16 @@ abbrev pub are_few : Option TileCache → Type 0
 are_few None = Unit {0}
 are_few (Some tile_cache) = AreFew tile_cache.rim_graph.side tile_cache.labellings.held.items
 
-abbrev pub HoldsFew : DrainageCache → Type 0
-HoldsFew held = are_few held.tile_cache
+-- of few tiles it is held where their points drain, or of none
+abbrev pub of_few_tiles : Option Flows → Type 0
+of_few_tiles None = Unit {0}
+of_few_tiles (Some flows) = AreFewTiles flows.side (length flows.tiles.items)
+
+-- no more is held than there is room for
+pub record HoldsFew (held : DrainageCache) : Type 0 where
+  pub labellings : are_few held.tile_cache
+  pub flows : of_few_tiles held.flows
+  pub directions : ForSome held.directions AreFewSamples
 
 -- these are the levels and labels that are held of the corner's tile, and no height may have changed since
 abbrev pub is_current_in : Option TileCache → Corner → LabelledGround → Type 0

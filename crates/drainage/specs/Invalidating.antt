@@ -1,12 +1,12 @@
 -- What is left of what was known of a mosaic's water (this product's own profile).
-use Rattle.std.specs.Prelude.{◌≡◌, ◌↔◌, ◌<◌, ℕ, ℤ, Bool, false, IsTrue, List, Some, length}
+use Rattle.std.specs.Prelude.{◌≡◌, ◌↔◌, ◌<◌, ℕ, ℤ, Bool, true, false, IsTrue, List, Some, length}
 use Rattle.lattice.specs.Corners.{Corner}
 use Rattle.lattice.specs.Lattice.{holds}
 use Rattle.lattice.specs.Mosaic.{Mosaic}
 use Rattle.lattice.specs.declared.point.Point.{Point}
 use Rattle.border_graph.specs.Others.{corner_at}
 use Rattle.border_graph.specs.TileGraph.{TileGraph}
-use Rattle.tile_labellings.specs.TileLabellings.{labelled_of, IsTileLabelling}
+use Rattle.tile_labellings.specs.TileLabellings.{labelled_of, is_flooded, can_note, IsTileLabelling}
 use Rattle.tile_labellings.specs.declared.tile_labelling.TileLabelling.{TileLabelling}
 use Rattle.drainage.specs.Holding.{Known, IsHeldAt, level_of}
 use Rattle.drainage.specs.Reaching.{DifferAt}
@@ -24,14 +24,22 @@ pub record IsLeftOf (gone : ℕ → Bool) (spared : ℤ → Type 0) (known known
   pub labellings : (t : ℕ) (labelling : TileLabelling) → IsHeldAt known'.labellings t labelling ↔ (IsHeldAt known.labellings t labelling × (gone t ≡ false))
   pub levels : (x : ℕ) (level : ℤ) → level_of known'.levels x ≡ Some level ↔ ((level_of known.levels x ≡ Some level) × spared level)
 
+-- the levels and labels of this flooded block are held of the tile with this place, to be mended once they are asked for
+pub record IsHeldStill (labellings : List HeldLabelling) (t : ℕ) (labelling : TileLabelling) : Type 0 where
+  pub noted : TileLabelling
+  pub held : IsHeldAt labellings t noted
+  pub same : labelled_of noted ≡ labelled_of labelling
+  pub flooded : is_flooded noted ≡ is_flooded labelling
+
 -- all that was known, but for the summaries of the tiles whose places pass the test, for the labellings of those that hold
--- the point, and for the levels that may change as this gets another height than it had
+-- the point, of which those stay that can be mended, and for the levels that may change as this gets another height than it had
 pub record IsNotedOf (gone : ℕ → Bool) (p : Point) (was is : ℤ) (known known' : Known) : Type 0 where
   pub same_side : known'.side ≡ known.side
   pub same_corners : known'.corners ≡ known.corners
   pub whole : length known'.loaded ≡ length known.loaded
   pub loaded : (t : ℕ) (ways : TileGraph) → loaded_at known'.loaded t ≡ Some ways ↔ ((loaded_at known.loaded t ≡ Some ways) × (gone t ≡ false))
   pub labellings : (t : ℕ) → t < length known.corners → holds known.side (corner_at known.corners t) p ≡ false → (labelling : TileLabelling) → IsHeldAt known'.labellings t labelling ↔ IsHeldAt known.labellings t labelling
+  pub mended : (t : ℕ) → t < length known.corners → (labelling : TileLabelling) → IsHeldAt known.labellings t labelling → can_note labelling ≡ true → IsHeldStill known'.labellings t labelling
   pub levels : (x : ℕ) (level : ℤ) → level_of known'.levels x ≡ Some level ↔ ((level_of known.levels x ≡ Some level) × IsSpared was is level)
 
 -- The height of the point may change from then on: this is noted of a labelling that is held, as far as its tile holds the
@@ -39,6 +47,7 @@ pub record IsNotedOf (gone : ℕ → Bool) (p : Point) (was is : ℤ) (known kno
 pub record IsNoted (side : ℕ) (corners : List Corner) (p : Point) (held : HeldLabelling) (noted : Bool) (held' : HeldLabelling) : Type 0 where
   pub same_place : held'.place ≡ held.place
   pub same_block : has_block held' ≡ has_block held
-  pub same_side : IsTrue noted → (labelled_of held'.labelling).side ≡ (labelled_of held.labelling).side
   pub right : IsTrue noted → (m new : Mosaic) → DifferAt m new p → m.side ≡ side → IsTileLabelling m (corner_at corners held.place) held.labelling → IsTileLabelling new (corner_at corners held.place) held'.labelling
   pub kept : held.place < length corners → holds side (corner_at corners held.place) p ≡ false → IsTrue noted × (held'.labelling ≡ held.labelling)
+  pub mended : held.place < length corners → can_note held.labelling ≡ true → IsTrue noted
+  pub same_labelled : IsTrue noted → labelled_of held'.labelling ≡ labelled_of held.labelling

@@ -1,6 +1,7 @@
 -- How much is held at most (this product's own profile).
 use Rattle.std.specs.Prelude.{◌≡◌, ℕ, ◌*◌, ◌/◌, ◌^◌, ◌<◌, ◌≤◌, max, Bool, List, All, count_by, length}
 use Rattle.tile_labellings.specs.TileLabellings.{labelled_of, is_flooded}
+use Rattle.flow_d8.specs.Directions.{Directions}
 use Rattle.drainage.specs.declared.labelling_cache.HeldLabelling.{HeldLabelling}
 
 -- of how many tiles with this side the labellings are held: 256 MiB of them, at four bytes a sample, but nine at any side
@@ -29,3 +30,10 @@ pub record AreFew (n : ℕ) (held : List HeldLabelling) : Type 0 where
 -- 128 MB have bytes
 abbrev pub AreFewTiles : ℕ → ℕ → Type 0
 AreFewTiles n tiles = 9 < tiles → tiles * (n * n) ≤ 134217728
+
+-- of a mosaic of so many samples at most it is held where all points drain: while that is found, each takes ten bytes
+abbrev pub most_samples : ℕ
+most_samples = 27262976
+
+abbrev pub AreFewSamples : Directions → Type 0
+AreFewSamples directions = length directions.drains ≤ most_samples

@@ -1,5 +1,6 @@
 //! What is found of a mosaic's water, held between two questions.
 ghost use Rattle.std.specs.Prelude.{◌≡◌, None, IfOk, IfErr, IfSome, IfNone};
+ghost use Rattle.std.specs.Option.{ForSome};
 ghost use Rattle.lattice.specs.Height.{height_of};
 ghost use Rattle.lattice.specs.Mosaic.{Mosaic, IsMosaic};
 ghost use Rattle.lattice.specs.declared.height.Height.TheVariants.{At};
@@ -14,6 +15,7 @@ ghost use Rattle.flow_d8.specs.Directions.{AreDirectionsOf};
 ghost use Rattle.lattice.specs.declared.refusal.Refusal.TheVariants.{NoMemory};
 ghost use Rattle.drainage.specs.Holding.{IsRight};
 ghost use Rattle.drainage.specs.Reaching.{DifferAt, DifferBetween};
+ghost use Rattle.drainage.specs.Room.{AreFewSamples};
 ghost use Rattle.drainage.specs.Spared.{AreLevelsStill, IsNoHigher, IsSetTo};
 
 use crate::flows::Flows;
@@ -35,6 +37,7 @@ pub struct DrainageCache {
     flows: Option<Flows>,
     // Of all points, once a search went far.
     directions: Option<Directions>,
+    ghost few: { ForSome directions AreFewSamples },
 }
 
 impl DrainageCache {
@@ -142,6 +145,7 @@ impl DrainageCache {
 
     // Learns where all points drain.
     pub(crate) fn learn_directions(&mut self, directions: Directions)
+        requires few { AreFewSamples directions }
         ensures { (m : Mosaic) → OnLevels m (λ level. AreDirectionsOf m level directions) → IsHeldOf m self.old → IsHeldOf m self.new }
     {
         self.invalidate_ways();

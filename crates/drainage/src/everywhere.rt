@@ -1,5 +1,5 @@
 //! Where all points of a mosaic drain, found at once.
-ghost use Rattle.std.specs.Prelude.{◌≡◌, ◌≤◌, ◌++◌, IsTrue, IfOk, IfErr, OnOk, length};
+ghost use Rattle.std.specs.Prelude.{◌≡◌, ◌*◌, ◌≤◌, ◌++◌, IsTrue, IfOk, IfErr, OnOk, length};
 ghost use Rattle.lattice.specs.Limits.{most_tiles};
 ghost use Rattle.lattice.specs.Mosaic.{Mosaic, IsMosaic};
 ghost use Rattle.lattice.specs.declared.refusal.Refusal.TheVariants.{NoMemory};
@@ -9,6 +9,7 @@ ghost use Rattle.flow_d8.specs.Filled.{IsFilledOf};
 ghost use Rattle.drainage.specs.Between.{IsHeldOf, IsHeldFor};
 ghost use Rattle.drainage.specs.Everywhere.{AreLevelsOf};
 ghost use Rattle.drainage.specs.Holding.{IsRight};
+ghost use Rattle.drainage.specs.Room.{most_samples};
 ghost use Rattle.drainage.specs.TileCaches.{known_of};
 
 use crate::drainage_cache::DrainageCache;
@@ -67,7 +68,8 @@ pub(crate) fn learn_all<S: Labellings>(
 
 // Whether so many tiles have so few samples.
 fn are_few(side: Side, tiles: usize) -> bool
-    ensures { IsTrue result → tiles ≤ most_tiles }
+    ensures tiles { IsTrue result → tiles ≤ most_tiles }
+    ensures samples { IsTrue result → tiles * (side * side) ≤ most_samples }
 {
     tiles <= MOST_TILES as usize && tiles * side.area() as usize <= MOST_SAMPLES
 }
@@ -123,6 +125,7 @@ fn append(levels: &mut Vec<i16>, tile: &[i16]) -> Result<(), Refusal>
 
 // Holds where all points drain, as their filled levels tell it, if there is memory for it.
 fn know(held: &mut DrainageCache, filled: &Filled)
+    requires few { length filled.now.levels ≤ most_samples }
     ensures { (m : Mosaic) → IsMosaic m → IsFilledOf m filled.now → IsHeldOf m held.old → IsHeldOf m held.new }
 {
     if let Ok(directions) = filled.directions() {

@@ -7,10 +7,10 @@ ghost use Rattle.lattice.specs.declared.refusal.Refusal.TheVariants.{NoMemory};
 ghost use Rattle.border_graph.specs.Others.{corner_at};
 ghost use Rattle.tile_labellings.specs.Labellings.{IsFlooded};
 ghost use Rattle.tile_labellings.specs.Spots.{IsLabelledAt};
-ghost use Rattle.tile_labellings.specs.TileLabellings.{labelled_of, IsCurrent, IsTileLabelling};
+ghost use Rattle.tile_labellings.specs.TileLabellings.{labelled_of, can_note, IsCurrent, IsTileLabelling};
 ghost use Rattle.tile_labellings.specs.declared.tile_labelling.TileLabelling.{TileLabelling};
 ghost use Rattle.drainage.specs.Holding.{IsHeldAt, IsEntered};
-ghost use Rattle.drainage.specs.Invalidating.{IsNoted};
+ghost use Rattle.drainage.specs.Invalidating.{IsNoted, IsHeldStill};
 ghost use Rattle.drainage.specs.Reaching.{DifferAt, is_reached};
 ghost use Rattle.drainage.specs.Room.{most_labellings, most_blocks, HasSide, has_block};
 
@@ -212,6 +212,7 @@ impl LabellingCache {
     pub(crate) fn note_changed(&mut self, side: Side, corners: &[Corner], point: Point)
         ensures noted { (m new : Mosaic) (t : ℕ) → DifferAt m new point → m.side ≡ side → IsEntered m (corner_at corners.now t) self.old.held.items t → IsEntered new (corner_at corners.now t) self.new.held.items t }
         ensures kept { (t : ℕ) → t < length corners.now → holds side (corner_at corners.now t) point ≡ false → (l : TileLabelling) → IsHeldAt self.new.held.items t l ↔ IsHeldAt self.old.held.items t l }
+        ensures mended { (t : ℕ) → t < length corners.now → (l : TileLabelling) → IsHeldAt self.old.held.items t l → can_note l ≡ true → IsHeldStill self.new.held.items t l }
         ensures side { self.new.side ≡ self.old.side }
     {
         retain_noted(&mut self.held, side, corners, point);
@@ -301,6 +302,7 @@ fn retain_unreached(
 fn retain_noted(held: &mut Vec<HeldLabelling>, side: Side, corners: &[Corner], point: Point)
     ensures noted { (m new : Mosaic) (t : ℕ) → DifferAt m new point → m.side ≡ side → IsEntered m (corner_at corners.now t) held.old.items t → IsEntered new (corner_at corners.now t) held.new.items t }
     ensures kept { (t : ℕ) → t < length corners.now → holds side (corner_at corners.now t) point ≡ false → (l : TileLabelling) → IsHeldAt held.new.items t l ↔ IsHeldAt held.old.items t l }
+    ensures mended { (t : ℕ) → t < length corners.now → (l : TileLabelling) → IsHeldAt held.old.items t l → can_note l ≡ true → IsHeldStill held.new.items t l }
     ensures sides { (n : ℕ) → All (HasSide n) held.old.items → All (HasSide n) held.new.items }
     ensures count { length held.new.items ≤ length held.old.items }
     ensures blocks { count_by has_block held.new.items ≤ count_by has_block held.old.items }

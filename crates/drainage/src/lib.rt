@@ -41,4 +41,4 @@ pub use draining::watershed;
 pub use filling::{fill, level};
 pub use following::{direction, trace};
 pub use invalidating::invalidate_edit;
-pub use laws::{few_labellings_are_held, level_functions_exist};
+pub use laws::{level_functions_exist, what_is_held_is_bounded};

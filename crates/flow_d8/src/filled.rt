@@ -1,5 +1,5 @@
 //! The filled levels of a mosaic.
-ghost use Rattle.std.specs.Prelude.{◌≡◌, ◌≤◌, ◌<◌, ◌*◌, IsTrue, MatchOption, SomeIff, length, ◌↔◌, ◌&&◌, not, if◌then◌else◌, true, slice_index_or, ◌%◌, ◌+◌};
+ghost use Rattle.std.specs.Prelude.{◌≡◌, ◌≤◌, ◌<◌, ◌*◌, IsTrue, MatchOption, SomeIff, IsFalse, [], length, ◌↔◌, ◌&&◌, not, if◌then◌else◌, true, slice_index_or, ◌%◌, ◌+◌};
 ghost use Rattle.std.specs.List.{AllAdjacentBelow};
 ghost use Rattle.lattice.specs.Corners.{is_before};
 ghost use Rattle.lattice.specs.Lattice.{IsBefore};
@@ -88,6 +88,14 @@ impl Filled {
         ensures small { length self.now.levels ≤ 3112192240 }
     {
         &self.levels
+    }
+
+    /// Whether any point is declared a sink.
+    #[inline(always)]
+    pub(crate) fn has_sinks(&self) -> bool
+        ensures { IsFalse result → self.now.sinks ≡ [] }
+    {
+        !self.sinks.is_empty()
     }
 
     /// Whether the point is declared a sink.

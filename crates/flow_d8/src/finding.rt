@@ -27,6 +27,7 @@ impl Filled {
     pub fn directions(&self) -> Result<Directions, Refusal>
         ensures found { IfOk result (λ d. (m : Mosaic) (level : Point → ℤ) → IsMosaic m → AreFilledLevels (terrain m) level → IsFilledOf m self.now → AreDirectionsOf m level d) }
         ensures refusal { IfErr result (λ r. (r ≡ NoMemory) ⊎ ((r ≡ Damaged) × IsOfNoMosaic self.now)) }
+        ensures size { IfOk result (λ d. length d.drains ≡ length self.now.levels) }
     {
         let alloc = self.allocator();
         let flows = local_flows(alloc, self)?;

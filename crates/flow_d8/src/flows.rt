@@ -80,7 +80,8 @@ fn flat_or_sink(filled: &Filled, number: usize) -> LocalFlow
     requires deep { is_deep filled.now.side (number % (filled.now.side * filled.now.side)) ≡ true }
     ensures { (p : Point) → number_in filled.now p ≡ number → IsTrue (is_held filled.now.side filled.now.corners p) → result ≡ (if is_declared filled.now p then Edge else Flat) }
 {
-    if filled.is_sink(filled.point(number)) {
+    // A sample's point takes divisions to find: where no sink is declared, none is looked for.
+    if filled.has_sinks() && filled.is_sink(filled.point(number)) {
         LocalFlow::Edge
     } else {
         LocalFlow::Flat

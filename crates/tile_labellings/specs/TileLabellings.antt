@@ -1,5 +1,5 @@
 -- What is held of a tile's labelling.
-use Rattle.std.specs.Prelude.{◌≡◌, ◌≢◌, ℕ, ◌*◌, ◌<◌, Bool, true, false, []}
+use Rattle.std.specs.Prelude.{◌≡◌, ◌≢◌, ℕ, ◌*◌, ◌<◌, Bool, true, false, [], length, nat_lt}
 use Rattle.lattice.specs.Corners.{Corner}
 use Rattle.lattice.specs.Ground.{is_sink}
 use Rattle.lattice.specs.Height.{height_of}
@@ -17,6 +17,15 @@ labelled_of (Flooded flooded) = flooded.labelled
 abbrev pub is_flooded : TileLabelling → Bool
 is_flooded (Kept labelled) = false
 is_flooded (Flooded flooded) = true
+
+-- so many points of a block may have changed before its labelling is given up
+abbrev pub most_changed : ℕ
+most_changed = 64
+
+-- a flooded block of which one more changed point can be noted, to be mended
+abbrev pub can_note : TileLabelling → Bool
+can_note (Kept labelled) = false
+can_note (Flooded flooded) = nat_lt (length flooded.changed) most_changed
 
 -- no height may have changed since
 abbrev pub IsCurrent : TileLabelling → Type 0

@@ -1,5 +1,5 @@
 //! Blocks that were flooded, whose labellings are mended where heights change.
-ghost use Rattle.std.specs.Prelude.{◌≡◌, ◌<◌, ◌⊎◌, ℕ, ℤ, [], true, false, Contains, IfOk, IfErr, IfSome, OnOk, IsTrue, length, slice_set};
+ghost use Rattle.std.specs.Prelude.{◌≡◌, ◌<◌, ◌≤◌, ◌⊎◌, ℕ, ℤ, [], true, false, Contains, IfOk, IfErr, IfSome, IsTrue, IsFalse, length, slice_set};
 ghost use Rattle.lattice.specs.Block.{Block, is_solid};
 ghost use Rattle.lattice.specs.Corners.{Corner};
 ghost use Rattle.lattice.specs.Ground.{metres};
@@ -13,20 +13,25 @@ ghost use Rattle.tile_flood.specs.Blocks.{LabelledGround};
 ghost use Rattle.tile_flood.specs.Mending.{IsLabelledBefore};
 ghost use Rattle.tile_flood.specs.Spills.{AreSpills, HaveSameSpills};
 ghost use Rattle.tile_labellings.specs.Labellings.{AreHeldSpills, IsFlooded, IsBlockBut};
+ghost use Rattle.tile_labellings.specs.TileLabellings.{most_changed};
 ghost use Rattle.tile_labellings.specs.Updating.{IsUpdated};
 
+use arrayvec::ArrayVec;
 use catalogue::{Samples, height};
 use lattice::{Corner, Height, Refusal, VOID, point_at};
-use std::alloc::{AllocError, Global};
+use std::alloc::Global;
 use std::marker::Model;
 use tile_flood::{Block, Flood, Labelled, Spill, mend, spills};
+
+// So many points may have changed before the block is flooded anew: to mend for many takes as long as a flood.
+const MOST_CHANGED: usize = 64;
 
 /// A block that was flooded, with its labelling, and those of its points whose heights may have changed since.
 #[derive(Drop)]
 pub struct FloodedBlock {
     block: Block,
     labelled: Labelled,
-    changed: Vec<u32>,
+    changed: ArrayVec<u32, MOST_CHANGED>,
     // The spills of the labelling, once they were asked for.
     spills: Option<Vec<Spill>>,
 }
@@ -53,7 +58,7 @@ impl FloodedBlock {
         Ok(FloodedBlock {
             block,
             labelled,
-            changed: Vec::new(alloc),
+            changed: ArrayVec::new(),
             spills: None,
         })
     }
@@ -96,17 +101,19 @@ impl FloodedBlock {
         self.changed.len()
     }
 
-    /// The height of the point with this index may change from then on.
-    pub fn note_changed(&mut self, index: u32) -> Result<(), AllocError>
-        ensures block { OnOk result (self.new.block ≡ self.old.block) }
-        ensures labelled { OnOk result (self.new.labelled ≡ self.old.labelled) }
-        ensures noted { OnOk result (Contains self.new.changed index) }
-        ensures still { OnOk result ((e : ℕ) → Contains self.old.changed e → Contains self.new.changed e) }
+    /// The height of the point with this index may change from then on. False where that can't be noted, since there are as
+    /// many such points as there is room for. Takes no memory.
+    pub fn note_changed(&mut self, index: u32) -> bool
+        ensures block { self.new.block ≡ self.old.block }
+        ensures labelled { self.new.labelled ≡ self.old.labelled }
+        ensures noted { IsTrue result → Contains self.new.changed index }
+        ensures still { (e : ℕ) → Contains self.old.changed e → Contains self.new.changed e }
+        ensures full { IsFalse result → most_changed ≤ length self.old.changed }
     {
-        if !self.changed.contains(&index) {
-            self.changed.push(index)?;
+        if self.changed.as_slice().contains(&index) {
+            return true;
         }
-        Ok(())
+        self.changed.try_push(index).is_ok()
     }
 
     /// The block of the corner's tile with the heights that its changed points have now, and its labelling, mended. None
@@ -129,14 +136,16 @@ impl FloodedBlock {
             return Ok(Some(self));
         }
         let mut block = self.block;
-        if !read_changed(samples, corner, &self.labelled, &self.changed, &mut block)? {
+        let labelled = self.labelled;
+        let changed = self.changed;
+        if !read_changed(samples, corner, &labelled, changed.as_slice(), &mut block)? {
             return Ok(None);
         }
-        let mended = mend(alloc, &block, self.labelled, &self.changed)?;
+        let mended = mend(alloc, &block, labelled, changed.as_slice())?;
         Ok(Some(FloodedBlock {
             block,
             labelled: mended.labelled,
-            changed: Vec::new(alloc),
+            changed: ArrayVec::new(),
             spills: still_held(self.spills, mended.same_spills),
         }))
     }

@@ -1,5 +1,5 @@
 //! What is held of a tile's labelling.
-ghost use Rattle.std.specs.Prelude.{◌≡◌, ◌⊎◌, ◌↔◌, ◌<◌, false, IfErr, IfOk, IfSome, IsTrue};
+ghost use Rattle.std.specs.Prelude.{◌≡◌, ◌⊎◌, ◌↔◌, true, false, IfErr, IfOk, IfSome, IsTrue};
 ghost use Rattle.lattice.specs.Corners.{Corner};
 ghost use Rattle.lattice.specs.Mosaic.{Mosaic};
 ghost use Rattle.lattice.specs.declared.refusal.Refusal.TheVariants.{NoMemory};
@@ -14,9 +14,6 @@ use lattice::{Corner, Refusal};
 use std::alloc::Global;
 use tile_flood::{Labelled, Spill, spills};
 
-// So many points of a block may have changed before its labelling is given up: to mend for many takes as long as a flood.
-const MOST_CHANGED: usize = 64;
-
 /// The labelling of a tile: as it was kept, valid but maybe not to be mended; or of its block as it was flooded.
 #[derive(Drop)]
 pub enum TileLabelling {
@@ -25,7 +22,7 @@ pub enum TileLabelling {
 }
 
 impl TileLabelling {
-    ghost use Rattle.tile_labellings.specs.TileLabellings.{labelled_of, is_flooded, DifferAt, IsCurrent, IsTileLabelling};
+    ghost use Rattle.tile_labellings.specs.TileLabellings.{labelled_of, is_flooded, can_note, DifferAt, IsCurrent, IsTileLabelling};
 
     /// The levels and labels; those of the tile where no height may have changed since they were made.
     pub fn labelled(&self) -> &Labelled
@@ -71,17 +68,16 @@ impl TileLabelling {
     }
 
     /// The height of the tile's point with this index may change from then on. False where that can't be noted: then the
-    /// labelling is to be given up.
+    /// labelling is to be given up. A flooded block has room for 64 such points. Takes no memory.
     pub fn note_changed(&mut self, index: u32) -> bool
         ensures noted { IsTrue result → (m new : Mosaic) (c : Corner) → DifferAt c index m new → IsTileLabelling m c self.old → IsTileLabelling new c self.new }
         ensures labelled { IsTrue result → labelled_of self.new ≡ labelled_of self.old }
         ensures flooded { is_flooded self.new ≡ is_flooded self.old }
+        ensures room { can_note self.old ≡ true → IsTrue result }
     {
         match self {
             TileLabelling::Kept(_) => false,
-            TileLabelling::Flooded(flooded) => {
-                flooded.count_changed() < MOST_CHANGED && flooded.note_changed(index).is_ok()
-            }
+            TileLabelling::Flooded(flooded) => flooded.note_changed(index),
         }
     }
 

@@ -1,5 +1,5 @@
 use Rattle.std.proofs.Common.{rules}
-use Rattle.drainage.proofs.Caching.{AreNoted, noted_in_turn, noted_right, noted_kept, noted_sides, noted_blocks}
+use Rattle.drainage.proofs.Caching.{AreNoted, noted_in_turn, noted_right, noted_kept, noted_still, noted_sides, noted_blocks}
 use Rattle.drainage.proofs.labelling_cache.retain_noted.Goals as goal
 use Rattle.drainage.proofs.labelling_cache.retain_noted.Goals.{After-retain_mut}
 
@@ -14,6 +14,10 @@ returns-clause-noted c m new t differ same =
 pub returns-clause-kept : goal.returns-clause-kept
 returns-clause-kept c t below out l =
     noted_kept c.args.side c.args.corners.now c.args.point t below out l c.args.held.now.items c.retain_mut.new.self.items (noted (goal.at.returns-clause-kept c).After-retain_mut)
+
+pub returns-clause-mended : goal.returns-clause-mended
+returns-clause-mended c t below l at can =
+    noted_still c.args.side c.args.corners.now c.args.point t below l can c.args.held.now.items c.retain_mut.new.self.items (noted (goal.at.returns-clause-mended c).After-retain_mut) at
 
 pub returns-clause-sides : goal.returns-clause-sides
 returns-clause-sides c n = noted_sides c.args.side c.args.corners.now c.args.point n c.args.held.now.items c.retain_mut.new.self.items (noted (goal.at.returns-clause-sides c).After-retain_mut)

@@ -3,7 +3,6 @@ use Rattle.std.proofs.lemmas.Bool.{both_ways}
 use Rattle.lattice.specs.Corners.{Corner}
 use Rattle.lattice.specs.Lattice.{IsIndexOf, holds}
 use Rattle.border_graph.specs.Others.{corner_at}
-use Rattle.tile_flood.specs.Blocks.{LabelledGround}
 use Rattle.drainage.proofs.Noted.{differ_at_index, labelling_elsewhere}
 use Rattle.drainage.proofs.labelling_cache.HeldLabelling.note_changed.Goals as goal
 
@@ -17,9 +16,10 @@ returns-in-Some-index_held c =
     record {
       same_place = refl;
       same_block = noted.flooded;
-      same_side = λ yes. ap (λ (l : LabelledGround). l.side) (noted.labelled yes);
+      same_labelled = noted.labelled;
       right = λ yes m new differ same was. noted.noted yes m new corner
           (differ_at_index m new c.args.point differ corner c.args.side c.in-Some-index_held.index (sym same) (subst (λ (d : Corner). IsIndexOf c.args.side d c.args.point c.in-Some-index_held.index) (sym place) there.0)) was;
+      mended = λ below can. noted.room can;
       kept = λ below out. absurd (both_ways (holds c.args.side corner c.args.point) out (subst (λ (d : Corner). holds c.args.side d c.args.point ≡ true) (sym place) there.1));
     }
 
@@ -32,7 +32,8 @@ returns-in-None c =
     record {
       same_place = refl;
       same_block = refl;
-      same_side = λ yes. refl;
+      same_labelled = λ yes. refl;
       right = λ yes m new differ same was. labelling_elsewhere m new c.args.point differ corner c.args.side (sym same) out one.labelling was;
+      mended = λ below can. refl;
       kept = λ below out. (refl, refl);
     }

@@ -1,11 +1,13 @@
 use Rattle.std.proofs.lemmas.Int.{to_z-of_z}
-use Rattle.std.proofs.Common.{rules, SFits, w16, to_z, of_z, ℤ, ◌≡◌, ◌<◌, ℕ, false, List, length, refl, sym, subst}
+use Rattle.std.proofs.Common.{rules, SFits, w16, to_z, of_z, ℤ, ◌≡◌, ◌<◌, ℕ, true, false, List, length, refl, sym, subst}
 use Rattle.std.specs.Prelude.{◌↔◌}
 use Rattle.lattice.specs.Corners.{Corner}
 use Rattle.lattice.specs.Lattice.{holds}
 use Rattle.border_graph.specs.Others.{corner_at}
+use Rattle.tile_labellings.specs.TileLabellings.{can_note}
 use Rattle.tile_labellings.specs.declared.tile_labelling.TileLabelling.{TileLabelling}
 use Rattle.drainage.specs.Holding.{IsEntered, IsHeldAt, IsRimLevel}
+use Rattle.drainage.specs.Invalidating.{IsHeldStill}
 use Rattle.drainage.specs.Reaching.{DifferAt}
 use Rattle.drainage.specs.Spared.{IsSpared}
 use Rattle.drainage.specs.TileCaches.{known_of}
@@ -38,6 +40,8 @@ returns-clause-left c =
       loaded = rim_graph.loaded;
       labellings = subst (λ (cs : List Corner). (t : ℕ) → t < length cs → holds was.rim_graph.side (corner_at cs t) c.args.point ≡ false → (l : TileLabelling) → IsHeldAt c.note_changed.new.self.held.items t l ↔ IsHeldAt was.labellings.held.items t l)
           c.deref.ensures.value c.note_changed.ensures.kept;
+      mended = subst (λ (cs : List Corner). (t : ℕ) → t < length cs → (l : TileLabelling) → IsHeldAt was.labellings.held.items t l → can_note l ≡ true → IsHeldStill c.note_changed.new.self.held.items t l)
+          c.deref.ensures.value c.note_changed.ensures.mended;
       levels = λ x level. (
         (λ at. ((seen.left x level at).0, spared_as c.args.was c.args.to level had fits (seen.left x level at).1)),
         (λ had_spared. seen.kept x level had_spared.0 (passed_on_as c.args.was c.args.to level had fits had_spared.1)),
