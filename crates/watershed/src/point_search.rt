@@ -19,7 +19,7 @@ ghost use Rattle.watershed.specs.Feeding.{IsFeederAdded};
 
 use crate::feeders::Feeders;
 use crate::runs::Run;
-use crate::search::{search, search_all, watershed};
+use crate::search::{search, watershed};
 use arrayvec::ArrayVec;
 use flow_d8::{FilledLevels, Flats, direction_over};
 use lattice::{DIRECTIONS, Dir, Point, Refusal, neighbour};
@@ -51,7 +51,7 @@ pub fn watershed_at<S, L: FilledLevels<S>>(
         return watershed(alloc, directions, point);
     }
     let far = levels.far(source).saturating_mul(FARTHER_UP);
-    if let Some(runs) = by_few_points(alloc, levels, source, point, far)? {
+    if let Some(runs) = by_points(alloc, levels, source, point, far)? {
         return Ok(runs);
     }
     wide_watershed(alloc, levels, source, point)
@@ -73,35 +73,14 @@ fn wide_watershed<S, L: FilledLevels<S>>(
     ensures fits { L.fits levels.new source.new }
 {
     levels.learn_all(alloc, source)?;
-    by_points(alloc, levels, source, point)
-}
-
-// The watershed, found point by point.
-fn by_points<S, L: FilledLevels<S>>(
-    alloc: Global,
-    levels: &mut L,
-    source: &mut S,
-    point: Point,
-) -> Result<Vec<Run>, Refusal>
-    requires { L.fits levels.old source.old }
-    ensures runs { L.is_honest levels.new source.new → IfOk result (λ runs. OnLevels (L.mosaic levels.old source.old) (λ level. AreRuns (IsInWatershed (terrain (L.mosaic levels.old source.old)) level point) runs.items)) }
-    ensures elsewhere { L.is_honest levels.new source.new → IfOk result (λ runs. IsFalse (is_ground (L.mosaic levels.old source.old) point) → runs.items ≡ []) }
-    ensures refusal { IfErr result (L.refuses levels.old source.old levels.new source.new) }
-    ensures asks { Asks L.FilledLevels levels.old source.old levels.new source.new }
-    ensures keeps { OnOk result (L.keeps levels.old source.old levels.new source.new) }
-    ensures fits { L.fits levels.new source.new }
-{
-    let mut flats = Flats::new(alloc);
-    let mut asked = Asked {
-        levels,
-        source,
-        flats: &mut flats,
-    };
-    search_all(alloc, &mut asked, point)
+    match by_points(alloc, levels, source, point, usize::MAX)? {
+        Some(runs) => Ok(runs),
+        None => Err(Refusal::NoMemory),
+    }
 }
 
 // The watershed, found point by point. None where it has more points than `most`.
-fn by_few_points<S, L: FilledLevels<S>>(
+fn by_points<S, L: FilledLevels<S>>(
     alloc: Global,
     levels: &mut L,
     source: &mut S,

@@ -26,22 +26,7 @@ pub fn watershed(alloc: Global, directions: &Directions, point: Point) -> Result
     ensures refusal { IfErr result (λ r. r ≡ NoMemory) }
 {
     let mut held = Held { directions };
-    search_all(alloc, &mut held, point)
-}
-
-/// The watershed of the point, however many points it has.
-pub(crate) fn search_all<F: Feeders>(
-    alloc: Global,
-    asked: &mut F,
-    point: Point,
-) -> Result<Vec<Run>, Refusal>
-    requires { F.is_ready asked.old }
-    ensures runs { IfOk result (λ runs. (m : Mosaic) (level : Point → ℤ) → F.tells asked.new m level → AreRuns (IsInWatershed (terrain m) level point) runs.items) }
-    ensures follows { F.follows asked.old asked.new }
-    ensures keeps { OnOk result (F.keeps asked.old asked.new) }
-    ensures refusal { IfErr result (F.refuses asked.old asked.new) }
-{
-    match search(alloc, asked, point, usize::MAX)? {
+    match search(alloc, &mut held, point, usize::MAX)? {
         Some(runs) => Ok(runs),
         None => Err(Refusal::NoMemory),
     }
