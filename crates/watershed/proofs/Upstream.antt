@@ -1,5 +1,5 @@
 -- The search up the flow paths: what is found after each step, and that in the end it is the watershed.
-use Rattle.std.proofs.Common.{◌≡◌, ℕ, zero, suc, ℤ, IsTrue, IsFalse, Option, Some, None, List, [], ◌∷◌, ◌++◌, ◌⊎◌, ◌↔◌, inl, inr, ⊎_elim, refl, sym, ap, ◌∙◌, subst, arith, true≢false}
+use Rattle.std.proofs.Common.{◌≡◌, ℕ, zero, suc, ℤ, IsTrue, IsFalse, Some, List, [], ◌∷◌, ◌++◌, ◌⊎◌, ◌↔◌, inl, inr, ⊎_elim, refl, sym, ap, ◌∙◌, subst, arith, true≢false}
 use Rattle.std.specs.Prelude.{Contains, is_some, if◌then◌else◌}
 use Rattle.std.proofs.lemmas.Bool.{cases_Bool}
 use Rattle.std.proofs.lemmas.List.Elements.{Contains-append_left, Contains-append_right, Contains-append_cases, Contains-push, Contains-push_cases}
@@ -8,11 +8,10 @@ use Rattle.lattice.specs.declared.direction.Dir.{Dir}
 use Rattle.lattice.specs.Steps.{step}
 use Rattle.lattice.specs.Terrain.{Terrain, IsLawful}
 use Rattle.lattice.specs.Mosaic.{Mosaic}
-use Rattle.lattice.specs.Ground.{is_ground, terrain}
+use Rattle.lattice.specs.Ground.{is_ground}
 use Rattle.flow_d8.specs.Drainage.{IsDirection}
 use Rattle.flow_d8.specs.FlowPath.{FlowsTo, IsInWatershed}
-use Rattle.flow_d8.specs.Directions.{Directions, DrainsTo, AreDirectionsOf, direction_in, distance_in}
-use Rattle.flow_d8.proofs.Unique.{one_direction}
+use Rattle.flow_d8.specs.Directions.{Directions, AreDirectionsOf, distance_in}
 use Rattle.watershed.specs.Runs.{AreRuns}
 use Rattle.watershed.specs.declared.runs.Run.{Run}
 use Rattle.flow_d8.specs.Feeders.{IsFeeder}
@@ -126,30 +125,9 @@ module _ (t : Terrain Point) (level : Point → ℤ) (lawful : IsLawful t) (p : 
       (λ within. met x within.flows.0 within.on_ground within.flows.1),
     )
 
-no_some : {A : Type 0} (a : A) → ◌≡◌ {A = Option A} None (Some a) → ⊥
-no_some a e = cc
-
--- the directions that are held say so
-module _ (m : Mosaic) (level : Point → ℤ) (d : Directions) (are : AreDirectionsOf m level d) where
-  pub known_on_ground : (p : Point) → is_some (distance_in d p) ≡ is_ground m p
-  known_on_ground p = elim (cases_Bool (is_ground m p)) [
-    | inl solid ↦ ap is_some ((are.distance p solid).1.0) ∙ sym solid
-    | inr off ↦ ap is_some ((are.elsewhere p off).1) ∙ sym off
-  ]
-
-  drains_ground : (x : Point) (e : Dir) → direction_in d x ≡ Some e → IsTrue (is_ground m x)
-  drains_ground x e at = elim (cases_Bool (is_ground m x)) [
-    | inl solid ↦ solid
-    | inr off ↦ absurd (no_some e (sym ((are.elsewhere x off).0) ∙ at))
-  ]
-
-  pub drains_are_feeders : (x y : Point) → DrainsTo d x y ↔ IsFeeder (terrain m) level x y
-  drains_are_feeders x y = (
-    (λ drains.
-        let e = drains.0 in
-        let solid = drains_ground x e drains.1.0 in
-        record { on_ground = solid; drains = (e, (subst (IsDirection (terrain m) level x) drains.1.0 (are.direction x solid), drains.1.1)) }),
-    (λ feeder.
-        let e = feeder.drains.0 in
-        (e, (one_direction (terrain m) level x (direction_in d x) (Some e) (are.direction x feeder.on_ground) feeder.drains.1.0, feeder.drains.1.1))),
-  )
+-- the distances that are held say which points are ground
+pub known_on_ground : (m : Mosaic) (level : Point → ℤ) (d : Directions) → AreDirectionsOf m level d → (p : Point) → is_some (distance_in d p) ≡ is_ground m p
+known_on_ground m level d are p = elim (cases_Bool (is_ground m p)) [
+  | inl solid ↦ ap is_some ((are.distance p solid).1.0) ∙ sym solid
+  | inr off ↦ ap is_some ((are.elsewhere p off).1) ∙ sym off
+]
