@@ -1,5 +1,6 @@
 -- What callers see of a block's labelling, and blocks by their parts.
-use Rattle.std.specs.Prelude.{ℕ, ℤ, List, []}
+use Rattle.std.specs.Prelude.{◌≡◌, ℕ, ◌*◌, ◌<◌, ℤ, List, [], length}
+use Rattle.lattice.specs.Limits.{IsSide}
 use Rattle.lattice.specs.Block.{Block}
 
 -- a block's side, and a level and a label for each of its points, row by row from the north-west
@@ -15,3 +16,9 @@ block_of n heights sinks = record { side = n; heights = heights; sinks = sinks }
 -- a block without sinks: which points are ground, and which are linked, don't depend on sinks
 abbrev pub bare_block : ℕ → List ℤ → Block
 bare_block n heights = block_of n heights []
+
+-- a block of this side has these heights; the indices of its points are numbers of 32 bits
+pub record AreHeights (n : ℕ) (heights : List ℤ) : Type 0 where
+  pub side : IsSide n
+  pub small : n * n < 4294967296
+  pub whole : length heights ≡ n * n

@@ -1,10 +1,9 @@
 //! Affected points lose their levels and labels, and so does all that may depend on one of them.
 ghost use Rattle.std.specs.Prelude.{◌≡◌, ◌<◌, ◌*◌, ◌+◌, ◌++◌, ◌∷◌, [], ℕ, IfOk, OnOk, IsTrue, length, slice_set, slice_index, slice_index_or};
-ghost use Rattle.lattice.specs.Limits.{IsSide};
 ghost use Rattle.lattice.specs.Mosaic.{void};
 ghost use Rattle.lattice.specs.Block.{is_beside};
 ghost use Rattle.tile_flood.specs.Labelling.{NO_LABEL as no_label};
-ghost use Rattle.tile_flood.specs.Blocks.{block_of};
+ghost use Rattle.tile_flood.specs.Blocks.{block_of, AreHeights};
 ghost use Rattle.tile_flood.specs.Flooding.{is_marked, unmarked};
 ghost use Rattle.tile_flood.specs.declared.affected.Affected.{Affected};
 ghost use Rattle.tile_flood.specs.Affected.{AreKept, GrowsInto, StayListed};
@@ -39,9 +38,7 @@ impl Flood {
         affected: &mut Vec<Affected>,
         most: usize,
     ) -> Result<bool, AllocError>
-        requires side { IsSide n }
-        requires small { n * n < 4294967296 }
-        requires whole { length heights.now ≡ n * n }
+        requires heights { AreHeights n heights.now }
         requires state { IsClearing (block_of n heights.now sinks.now) self.old.levels.items self.old.labels.items affected.old.items }
         ensures dependents_cleared { IfOk result (λ all. IsTrue all → AreDependentsCleared (block_of n heights.now sinks.now) self.new.levels.items self.new.labels.items affected.new.items) }
         ensures queue { OnOk result (self.new.queue ≡ self.old.queue) }
@@ -68,9 +65,7 @@ impl Flood {
         from: Affected,
         affected: &mut Vec<Affected>,
     ) -> Result<(), AllocError>
-        requires side { IsSide n }
-        requires small { n * n < 4294967296 }
-        requires whole { length heights.now ≡ n * n }
+        requires heights { AreHeights n heights.now }
         requires point { from.point < n * n }
         requires state { IsClearing (block_of n heights.now sinks.now) self.old.levels.items self.old.labels.items affected.old.items }
         ensures state { OnOk result (IsClearing (block_of n heights.now sinks.now) self.new.levels.items self.new.labels.items affected.new.items) }
@@ -99,8 +94,7 @@ impl Flood {
         e: usize,
         affected: &mut Vec<Affected>,
     ) -> Result<(), AllocError>
-        requires small { n * n < 4294967296 }
-        requires whole { length heights.now ≡ n * n }
+        requires heights { AreHeights n heights.now }
         requires e { e < n * n }
         requires state { IsClearing (block_of n heights.now sinks.now) self.old.levels.items self.old.labels.items affected.old.items }
         ensures state { OnOk result (IsClearing (block_of n heights.now sinks.now) self.new.levels.items self.new.labels.items affected.new.items) }
@@ -115,27 +109,28 @@ impl Flood {
             && label_at(&self.labels, e) == from.label
             && at(&self.levels, e) == higher(at(heights, e), from.level)
         {
-            self.clear(e, affected)?;
+            self.list_affected(e, affected)?;
+            self.clear_at(e);
         }
         Ok(())
     }
 
-    // Takes its level and its label from the point, and lists them.
-    fn clear(&mut self, e: usize, affected: &mut Vec<Affected>) -> Result<(), AllocError>
+    // Lists the point, with its level and its label.
+    pub(crate) fn list_affected(
+        &self,
+        e: usize,
+        affected: &mut Vec<Affected>,
+    ) -> Result<(), AllocError>
         requires small { e < 4294967296 }
-        requires levels { e < length self.old.levels.items }
-        requires labels { e < length self.old.labels.items }
-        ensures levels { OnOk result (self.new.levels.items ≡ slice_set self.old.levels.items e void) }
-        ensures labels { OnOk result (self.new.labels.items ≡ slice_set self.old.labels.items e no_label) }
-        ensures queue { OnOk result (self.new.queue ≡ self.old.queue) }
-        ensures affected { OnOk result (affected.new.items ≡ affected.old.items ++ record { point = e; level = slice_index_or self.old.levels.items e void; label = slice_index self.old.labels.items e } ∷ []) }
+        requires levels { e < length self.now.levels.items }
+        requires labels { e < length self.now.labels.items }
+        ensures { OnOk result (affected.new.items ≡ affected.old.items ++ record { point = e; level = slice_index_or self.now.levels.items e void; label = slice_index self.now.labels.items e } ∷ []) }
     {
         affected.push(Affected {
             point: e as u32,
             level: at(&self.levels, e),
             label: label_at(&self.labels, e),
         })?;
-        self.clear_at(e);
         Ok(())
     }
 

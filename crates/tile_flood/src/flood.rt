@@ -1,13 +1,12 @@
 //! Priority-Flood over one block (Barnes, Lehman and Mulla 2014), with labels.
 ghost use Rattle.std.specs.Prelude.{◌≡◌, ◌<◌, ℕ, ◌*◌, ◌+◌, IfOk, IfErr, OnOk, IsTrue, length, slice_set, slice_index, slice_index_or};
 ghost use Rattle.std.specs.Ordering.{int_eq};
-ghost use Rattle.lattice.specs.Limits.{IsSide};
 ghost use Rattle.lattice.specs.Mosaic.{void};
 ghost use Rattle.lattice.specs.Block.{is_solid};
 ghost use Rattle.lattice.specs.declared.refusal.Refusal.TheVariants.{NoMemory};
 ghost use Rattle.tile_flood.specs.Labelling.{IsLabelling, NO_LABEL as no_label};
 ghost use Rattle.tile_flood.specs.Carried.{AreCarried};
-ghost use Rattle.tile_flood.specs.Blocks.{block_of, bare_block};
+ghost use Rattle.tile_flood.specs.Blocks.{block_of, bare_block, AreHeights};
 ghost use Rattle.tile_flood.specs.Affected.{AreKept};
 ghost use Rattle.tile_flood.specs.Waiting.{waiting, IsJoined};
 ghost use Rattle.tile_flood.specs.Cells.{levels_of, labels_of, AreCells};
@@ -70,9 +69,7 @@ impl Flood {
         heights: &[i16],
         sinks: &[u32],
     ) -> Result<(), AllocError>
-        requires side { IsSide n }
-        requires small { n * n < 4294967296 }
-        requires whole { length heights.now ≡ n * n }
+        requires heights { AreHeights n heights.now }
         requires state { IsFlooding (block_of n heights.now sinks.now) self.old.levels.items self.old.labels.items self.old.queue }
         ensures labelling { OnOk result (IsLabelling (block_of n heights.now sinks.now) self.new.levels.items self.new.labels.items) }
         ensures carried { OnOk result (AreCarried (block_of n heights.now sinks.now) self.new.levels.items self.new.labels.items) }
@@ -93,9 +90,7 @@ impl Flood {
         point: usize,
         level: i16,
     ) -> Result<(), AllocError>
-        requires side { IsSide n }
-        requires small { n * n < 4294967296 }
-        requires whole { length heights.now ≡ n * n }
+        requires heights { AreHeights n heights.now }
         requires point { point < length self.old.labels.items }
         requires state { IsSpreading (block_of n heights.now sinks.now) self.old.levels.items self.old.labels.items self.old.queue point level (slice_index self.old.labels.items point) }
         ensures state { OnOk result (IsFlooding (block_of n heights.now sinks.now) self.new.levels.items self.new.labels.items self.new.queue) }
@@ -124,8 +119,7 @@ impl Flood {
         front: Front,
         e: usize,
     ) -> Result<(), AllocError>
-        requires small { n * n < 4294967296 }
-        requires whole { length heights.now ≡ n * n }
+        requires heights { AreHeights n heights.now }
         requires state { IsSpreading (block_of n heights.now sinks.now) self.old.levels.items self.old.labels.items self.old.queue front.point front.level front.label }
         requires e { e < n * n }
         requires near { IsNear n front.point e }
@@ -181,9 +175,7 @@ fn flood_cells(
     sinks: &[u32],
     cells: &mut [Cell],
 ) -> Result<(), AllocError>
-    requires side { IsSide n }
-    requires small { n * n < 4294967296 }
-    requires whole { length heights.now ≡ n * n }
+    requires heights { AreHeights n heights.now }
     requires cells { AreCells heights.now cells.old }
     requires no_level { (e : ℕ) → slice_index_or (levels_of cells.old) e void ≡ void }
     requires no_label { (e : ℕ) → e < n * n → slice_index (labels_of cells.old) e ≡ no_label }

@@ -1,10 +1,9 @@
 //! Where heights changed, levels are lowered to at most what they can be.
 ghost use Rattle.std.specs.Prelude.{◌≡◌, ◌<◌, ◌≤◌, ◌*◌, ◌+◌, ◌++◌, ◌∷◌, [], ℕ, ℤ, ◌≤ℤ◌, ◌⊎◌, OnOk, IsTrue, length, slice_set, slice_index, slice_index_or};
 ghost use Rattle.std.specs.Int.{int_max};
-ghost use Rattle.lattice.specs.Limits.{IsSide};
 ghost use Rattle.lattice.specs.Mosaic.{void};
 ghost use Rattle.lattice.specs.Block.{is_solid, is_beside, is_exit};
-ghost use Rattle.tile_flood.specs.Blocks.{block_of};
+ghost use Rattle.tile_flood.specs.Blocks.{block_of, AreHeights};
 ghost use Rattle.tile_flood.specs.Flooding.{is_marked};
 ghost use Rattle.tile_flood.specs.Waiting.{Waits, waiting, IsJoined, WaitInside};
 ghost use Rattle.tile_flood.specs.Mending.{IsLabelledBefore};
@@ -14,7 +13,7 @@ ghost use Rattle.tile_flood.specs.Lowering.{IsStarting, IsLowering, AreLowered, 
 use crate::affected::{Affected, window_point};
 use crate::flood::Flood;
 use crate::outlets::own_label;
-use crate::values::{at, higher, label_at};
+use crate::values::{at, higher};
 use std::alloc::AllocError;
 
 impl Flood {
@@ -27,9 +26,7 @@ impl Flood {
         points: &[u32],
         affected: &mut Vec<Affected>,
     ) -> Result<(), AllocError>
-        requires side { IsSide n }
-        requires small { n * n < 4294967296 }
-        requires whole { length heights.now ≡ n * n }
+        requires heights { AreHeights n heights.now }
         requires before { IsLabelledBefore (block_of n heights.now sinks.now) points.now self.old.levels.items self.old.labels.items }
         requires nobody { (l : ℤ) (e : ℕ) → Waits self.old.queue l e → ⊥ }
         requires none { affected.old.items ≡ [] }
@@ -55,9 +52,7 @@ impl Flood {
         k: usize,
         affected: &mut Vec<Affected>,
     ) -> Result<(), AllocError>
-        requires side { IsSide n }
-        requires small { n * n < 4294967296 }
-        requires whole { length heights.now ≡ n * n }
+        requires heights { AreHeights n heights.now }
         requires k { k < length points.now }
         requires state { IsStarting (block_of n heights.now sinks.now) points.now self.old.levels.items self.old.labels.items self.old.queue affected.old.items k }
         ensures state { OnOk result (IsStarting (block_of n heights.now sinks.now) points.now self.new.levels.items self.new.labels.items self.new.queue affected.new.items (k + 1)) }
@@ -80,9 +75,7 @@ impl Flood {
         sinks: &[u32],
         affected: &mut Vec<Affected>,
     ) -> Result<(), AllocError>
-        requires side { IsSide n }
-        requires small { n * n < 4294967296 }
-        requires whole { length heights.now ≡ n * n }
+        requires heights { AreHeights n heights.now }
         requires state { IsLowering (block_of n heights.now sinks.now) self.old.levels.items self.old.labels.items affected.old.items }
         requires inside { WaitInside n self.old.queue }
         requires relaxing { AreRelaxing (block_of n heights.now sinks.now) self.old.levels.items self.old.queue }
@@ -108,9 +101,7 @@ impl Flood {
         level: i16,
         affected: &mut Vec<Affected>,
     ) -> Result<(), AllocError>
-        requires side { IsSide n }
-        requires small { n * n < 4294967296 }
-        requires whole { length heights.now ≡ n * n }
+        requires heights { AreHeights n heights.now }
         requires c { c < n * n }
         requires state { IsLowering (block_of n heights.now sinks.now) self.old.levels.items self.old.labels.items affected.old.items }
         requires inside { WaitInside n self.old.queue }
@@ -140,8 +131,7 @@ impl Flood {
         level: i16,
         affected: &mut Vec<Affected>,
     ) -> Result<(), AllocError>
-        requires small { n * n < 4294967296 }
-        requires whole { length heights.now ≡ n * n }
+        requires heights { AreHeights n heights.now }
         requires e { e < n * n }
         requires state { IsLowering (block_of n heights.now sinks.now) self.old.levels.items self.old.labels.items affected.old.items }
         requires inside { WaitInside n self.old.queue }
@@ -178,11 +168,7 @@ impl Flood {
         ensures affected { OnOk result (affected.new.items ≡ affected.old.items ++ record { point = e; level = slice_index_or self.old.levels.items e void; label = slice_index self.old.labels.items e } ∷ []) }
         ensures count { OnOk result (waiting self.new.queue ≡ waiting self.old.queue + 1) }
     {
-        affected.push(Affected {
-            point: e as u32,
-            level: at(&self.levels, e),
-            label: label_at(&self.labels, e),
-        })?;
+        self.list_affected(e, affected)?;
         self.queue.push(level, e as u32)?;
         self.levels[e] = level;
         Ok(())
@@ -191,8 +177,7 @@ impl Flood {
 
 // The level from which a point begins whose height changed: an outlet is at most at its height.
 fn starting_level(n: usize, heights: &[i16], sinks: &[u32], point: usize, level: i16) -> i16
-    requires side { IsSide n }
-    requires whole { length heights.now ≡ n * n }
+    requires heights { AreHeights n heights.now }
     requires point { point < n * n }
     ensures value { (result ≡ level) ⊎ (result ≡ slice_index_or heights.now point void) }
     ensures lower { result ≤ℤ level }

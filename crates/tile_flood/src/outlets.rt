@@ -3,15 +3,14 @@ ghost use Rattle.std.specs.Prelude.{nat_eq, ◌≡◌, false, ◌+◌, ◌*◌, 
 ghost use Rattle.std.specs.List.{list_all, list_any};
 ghost use Rattle.lattice.specs.Limits.{IsSide};
 ghost use Rattle.lattice.specs.Block.{is_solid, is_exit, is_rim, rim_number, around};
-ghost use Rattle.tile_flood.specs.Blocks.{block_of, bare_block};
+ghost use Rattle.tile_flood.specs.Blocks.{block_of, bare_block, AreHeights};
 ghost use Rattle.tile_flood.specs.Flooding.{IsOwnLabel};
 
 use crate::labelled::OUT;
 
 // The label that an outlet of the block starts with, where the point in row i and column j is one.
 pub(crate) fn own_label(n: usize, heights: &[i16], sinks: &[u32], i: usize, j: usize) -> Option<u16>
-    requires side { IsSide n }
-    requires whole { length heights.now ≡ n * n }
+    requires heights { AreHeights n heights.now }
     requires cell { (i < n) × (j < n) }
     ensures none { IfNone result (is_exit (block_of n heights.now sinks.now) (i * n + j) ≡ false) }
     ensures outlet { IfSome result (λ _. IsTrue (is_exit (block_of n heights.now sinks.now) (i * n + j))) }
@@ -32,7 +31,7 @@ pub(crate) fn own_label(n: usize, heights: &[i16], sinks: &[u32], i: usize, j: u
 }
 
 pub(crate) fn is_ground(n: usize, heights: &[i16], e: usize) -> bool
-    requires whole { length heights.now ≡ n * n }
+    requires heights { AreHeights n heights.now }
     requires e { e < n * n }
     ensures { result ≡ is_solid (bare_block n heights.now) e }
 {
@@ -64,8 +63,7 @@ fn number_of(n: usize, i: usize, j: usize) -> u16
 }
 
 fn is_enclosed(n: usize, heights: &[i16], e: usize) -> bool
-    requires side { IsSide n }
-    requires whole { length heights.now ≡ n * n }
+    requires heights { AreHeights n heights.now }
     requires e { e < n * n }
     requires inner { is_rim n e ≡ false }
     ensures { result ≡ list_all (is_solid (bare_block n heights.now)) (around n e) }

@@ -1,8 +1,7 @@
 //! A flood that starts again where points were cleared.
 ghost use Rattle.std.specs.Prelude.{◌≡◌, ◌<◌, ◌*◌, ℕ, ℤ, OnOk, IsTrue, length, slice_index_or};
-ghost use Rattle.lattice.specs.Limits.{IsSide};
 ghost use Rattle.lattice.specs.Block.{is_exit};
-ghost use Rattle.tile_flood.specs.Blocks.{block_of};
+ghost use Rattle.tile_flood.specs.Blocks.{block_of, AreHeights};
 ghost use Rattle.tile_flood.specs.Flooding.{is_marked, IsFlooding};
 ghost use Rattle.tile_flood.specs.Waiting.{Waits};
 ghost use Rattle.tile_flood.specs.declared.affected.Affected.{Affected};
@@ -25,9 +24,7 @@ impl Flood {
         sinks: &[u32],
         affected: &[Affected],
     ) -> Result<(), AllocError>
-        requires side { IsSide n }
-        requires small { n * n < 4294967296 }
-        requires whole { length heights.now ≡ n * n }
+        requires heights { AreHeights n heights.now }
         requires state { AreDependentsCleared (block_of n heights.now sinks.now) self.old.levels.items self.old.labels.items affected.now }
         requires nobody { (l : ℤ) (e : ℕ) → Waits self.old.queue l e → ⊥ }
         ensures state { OnOk result (IsFlooding (block_of n heights.now sinks.now) self.new.levels.items self.new.labels.items self.new.queue) }
@@ -49,9 +46,7 @@ impl Flood {
         affected: &[Affected],
         k: usize,
     ) -> Result<(), AllocError>
-        requires side { IsSide n }
-        requires small { n * n < 4294967296 }
-        requires whole { length heights.now ≡ n * n }
+        requires heights { AreHeights n heights.now }
         requires k { k < length affected.now }
         requires state { IsReseeding (block_of n heights.now sinks.now) self.old.levels.items self.old.labels.items self.old.queue affected.now k }
         ensures state { OnOk result (IsReseeding (block_of n heights.now sinks.now) self.new.levels.items self.new.labels.items self.new.queue affected.now k) }

@@ -1,7 +1,6 @@
 //! A flood begins at the outlets of a block.
 ghost use Rattle.std.specs.Prelude.{◌≡◌, ◌<◌, ◌≤◌, ◌*◌, ◌+◌, OnOk, IsTrue, length};
-ghost use Rattle.lattice.specs.Limits.{IsSide};
-ghost use Rattle.tile_flood.specs.Blocks.{block_of};
+ghost use Rattle.tile_flood.specs.Blocks.{block_of, AreHeights};
 ghost use Rattle.tile_flood.specs.Cells.{levels_of, labels_of, AreCells};
 ghost use Rattle.tile_flood.specs.Flooding.{IsFullSpan, IsPlainSpan, IsSeeding, IsFlooding};
 
@@ -22,9 +21,7 @@ pub(crate) fn seed(
     cells: &mut [Cell],
     queue: &mut FullQueue,
 ) -> Result<(), AllocError>
-    requires side { IsSide n }
-    requires small { n * n < 4294967296 }
-    requires whole { length heights.now ≡ n * n }
+    requires heights { AreHeights n heights.now }
     requires cells { AreCells heights.now cells.old }
     requires state { IsSeeding (block_of n heights.now sinks.now) (levels_of cells.old) (labels_of cells.old) queue.old 0 }
     ensures cells { OnOk result (AreCells heights.now cells.new) }
@@ -45,9 +42,7 @@ fn seed_row(
     queue: &mut FullQueue,
     i: usize,
 ) -> Result<(), AllocError>
-    requires side { IsSide n }
-    requires small { n * n < 4294967296 }
-    requires whole { length heights.now ≡ n * n }
+    requires heights { AreHeights n heights.now }
     requires i { i < n }
     requires cells { AreCells heights.now cells.old }
     requires state { IsSeeding (block_of n heights.now sinks.now) (levels_of cells.old) (labels_of cells.old) queue.old (i * n) }
@@ -76,9 +71,7 @@ fn seed_span(
     from: usize,
     to: usize,
 ) -> Result<(), AllocError>
-    requires side { IsSide n }
-    requires small { n * n < 4294967296 }
-    requires whole { length heights.now ≡ n * n }
+    requires heights { AreHeights n heights.now }
     requires i { i < n }
     requires columns { (0 < from) × ((from ≤ to) × (to < n)) }
     requires cells { AreCells heights.now cells.old }
@@ -103,9 +96,7 @@ fn seed_columns(
     from: usize,
     to: usize,
 ) -> Result<(), AllocError>
-    requires side { IsSide n }
-    requires small { n * n < 4294967296 }
-    requires whole { length heights.now ≡ n * n }
+    requires heights { AreHeights n heights.now }
     requires i { i < n }
     requires columns { (from ≤ to) × (to < n) }
     requires cells { AreCells heights.now cells.old }
@@ -129,9 +120,7 @@ fn seed_at(
     i: usize,
     j: usize,
 ) -> Result<(), AllocError>
-    requires side { IsSide n }
-    requires small { n * n < 4294967296 }
-    requires whole { length heights.now ≡ n * n }
+    requires heights { AreHeights n heights.now }
     requires cell { (i < n) × (j < n) }
     requires cells { AreCells heights.now cells.old }
     requires state { IsSeeding (block_of n heights.now sinks.now) (levels_of cells.old) (labels_of cells.old) queue.old (i * n + j) }
@@ -148,9 +137,7 @@ fn seed_at(
 
 // No point of the row in these columns can be an outlet: no void lies there or beside them, and the block has no sinks.
 fn is_plain(n: usize, heights: &[i16], sinks: &[u32], i: usize, from: usize, to: usize) -> bool
-    requires side { IsSide n }
-    requires small { n * n < 4294967296 }
-    requires whole { length heights.now ≡ n * n }
+    requires heights { AreHeights n heights.now }
     requires i { i < n }
     requires columns { (0 < from) × ((from ≤ to) × (to < n)) }
     ensures { IsTrue result → IsPlainSpan (block_of n heights.now sinks.now) i from to }
@@ -167,8 +154,7 @@ fn is_plain(n: usize, heights: &[i16], sinks: &[u32], i: usize, from: usize, to:
 
 // All points of the row in these columns are ground.
 fn is_full(n: usize, heights: &[i16], i: usize, from: usize, to: usize) -> bool
-    requires small { n * n < 4294967296 }
-    requires whole { length heights.now ≡ n * n }
+    requires heights { AreHeights n heights.now }
     requires i { i < n }
     requires columns { to ≤ n }
     ensures { IsTrue result → IsFullSpan n heights.now i from to }

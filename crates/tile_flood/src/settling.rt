@@ -1,10 +1,9 @@
 //! Labelled points spread to the points beside them, the lowest level first.
 ghost use Rattle.std.specs.Prelude.{◌≡◌, ◌<◌, ◌*◌, ◌+◌, ◌/◌, ℕ, OnOk, IsTrue, length, slice_index};
-ghost use Rattle.lattice.specs.Limits.{IsSide};
 ghost use Rattle.lattice.specs.Block.{is_solid, is_linked};
 ghost use Rattle.tile_flood.specs.Labelling.{IsLabelling};
 ghost use Rattle.tile_flood.specs.Carried.{AreCarried};
-ghost use Rattle.tile_flood.specs.Blocks.{block_of, bare_block};
+ghost use Rattle.tile_flood.specs.Blocks.{block_of, bare_block, AreHeights};
 ghost use Rattle.tile_flood.specs.Waiting.{waiting};
 ghost use Rattle.tile_flood.specs.Cells.{levels_of, labels_of, AreCells};
 ghost use Rattle.tile_flood.specs.Flooding.{is_marked, unmarked, AreMarkedStill, IsNear, IsFlooding, IsSpreading};
@@ -30,9 +29,7 @@ pub(crate) fn settle(
     cells: &mut [Cell],
     queue: &mut FullQueue,
 ) -> Result<(), AllocError>
-    requires side { IsSide n }
-    requires small { n * n < 4294967296 }
-    requires whole { length heights.now ≡ n * n }
+    requires heights { AreHeights n heights.now }
     requires cells { AreCells heights.now cells.old }
     requires state { IsFlooding (block_of n heights.now sinks.now) (levels_of cells.old) (labels_of cells.old) queue.old }
     ensures labelling { OnOk result (IsLabelling (block_of n heights.now sinks.now) (levels_of cells.new) (labels_of cells.new)) }
@@ -59,9 +56,7 @@ fn spread(
     queue: &mut FullQueue,
     front: Front,
 ) -> Result<(), AllocError>
-    requires side { IsSide n }
-    requires small { n * n < 4294967296 }
-    requires whole { length heights.now ≡ n * n }
+    requires heights { AreHeights n heights.now }
     requires cells { AreCells heights.now cells.old }
     requires state { IsSpreading (block_of n heights.now sinks.now) (levels_of cells.old) (labels_of cells.old) queue.old front.point front.level front.label }
     ensures cells { OnOk result (AreCells heights.now cells.new) }
@@ -87,9 +82,7 @@ fn visit_row(
     front: Front,
     i: usize,
 ) -> Result<(), AllocError>
-    requires side { IsSide n }
-    requires small { n * n < 4294967296 }
-    requires whole { length heights.now ≡ n * n }
+    requires heights { AreHeights n heights.now }
     requires cells { AreCells heights.now cells.old }
     requires state { IsSpreading (block_of n heights.now sinks.now) (levels_of cells.old) (labels_of cells.old) queue.old front.point front.level front.label }
     requires i { i < 3 }
@@ -121,8 +114,7 @@ fn visit(
     front: Front,
     e: usize,
 ) -> Result<(), AllocError>
-    requires small { n * n < 4294967296 }
-    requires whole { length heights.now ≡ n * n }
+    requires heights { AreHeights n heights.now }
     requires cells { AreCells heights.now cells.old }
     requires state { IsSpreading (block_of n heights.now sinks.now) (levels_of cells.old) (labels_of cells.old) queue.old front.point front.level front.label }
     requires e { e < n * n }

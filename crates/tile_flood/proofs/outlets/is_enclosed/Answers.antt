@@ -15,25 +15,25 @@ off_rim : (n e : ℕ) → 3 ≤ n → e < n * n → is_rim n e ≡ false → (n 
 off_rim n e side small off = let i = inner_if n e small side off in bounds n e (e / n) (e % n) (cell_of n e) i.above i.below i.before i.after
 
 pub is_ground-requires-clause-e : goal.is_ground-requires-clause-e
-is_ground-requires-clause-e c = let b = off_rim c.args.n c.args.e c.requires.side.0 c.requires.e c.requires.inner in let low = b.0 in let high = b.1 in omega arith
+is_ground-requires-clause-e c = let b = off_rim c.args.n c.args.e c.requires.heights.side.0 c.requires.e c.requires.inner in let low = b.0 in let high = b.1 in omega arith
 
 pub is_ground-requires-then-is_ground-clause-e : goal.is_ground-requires-then-is_ground-clause-e
-is_ground-requires-then-is_ground-clause-e c = let b = off_rim c.args.n c.args.e c.requires.side.0 c.requires.e c.requires.inner in let low = b.0 in let high = b.1 in omega arith
+is_ground-requires-then-is_ground-clause-e c = let b = off_rim c.args.n c.args.e c.requires.heights.side.0 c.requires.e c.requires.inner in let low = b.0 in let high = b.1 in omega arith
 
 pub is_ground-requires-then-is_ground-2-clause-e : goal.is_ground-requires-then-is_ground-2-clause-e
-is_ground-requires-then-is_ground-2-clause-e c = let b = off_rim c.args.n c.args.e c.requires.side.0 c.requires.e c.requires.inner in let low = b.0 in let high = b.1 in omega arith
+is_ground-requires-then-is_ground-2-clause-e c = let b = off_rim c.args.n c.args.e c.requires.heights.side.0 c.requires.e c.requires.inner in let low = b.0 in let high = b.1 in omega arith
 
 pub is_ground-requires-then-is_ground-3-clause-e : goal.is_ground-requires-then-is_ground-3-clause-e
-is_ground-requires-then-is_ground-3-clause-e c = let b = off_rim c.args.n c.args.e c.requires.side.0 c.requires.e c.requires.inner in let low = b.0 in let high = b.1 in omega arith
+is_ground-requires-then-is_ground-3-clause-e c = let b = off_rim c.args.n c.args.e c.requires.heights.side.0 c.requires.e c.requires.inner in let low = b.0 in let high = b.1 in omega arith
 
 pub is_ground-requires-then-is_ground-4-clause-e : goal.is_ground-requires-then-is_ground-4-clause-e
-is_ground-requires-then-is_ground-4-clause-e c = let b = off_rim c.args.n c.args.e c.requires.side.0 c.requires.e c.requires.inner in let low = b.0 in let high = b.1 in omega arith
+is_ground-requires-then-is_ground-4-clause-e c = let b = off_rim c.args.n c.args.e c.requires.heights.side.0 c.requires.e c.requires.inner in let low = b.0 in let high = b.1 in omega arith
 
 pub is_ground-requires-then-is_ground-5-clause-e : goal.is_ground-requires-then-is_ground-5-clause-e
-is_ground-requires-then-is_ground-5-clause-e c = let b = off_rim c.args.n c.args.e c.requires.side.0 c.requires.e c.requires.inner in let low = b.0 in let high = b.1 in omega arith
+is_ground-requires-then-is_ground-5-clause-e c = let b = off_rim c.args.n c.args.e c.requires.heights.side.0 c.requires.e c.requires.inner in let low = b.0 in let high = b.1 in omega arith
 
 pub is_ground-requires-then-is_ground-6-clause-e : goal.is_ground-requires-then-is_ground-6-clause-e
-is_ground-requires-then-is_ground-6-clause-e c = let b = off_rim c.args.n c.args.e c.requires.side.0 c.requires.e c.requires.inner in let low = b.0 in let high = b.1 in omega arith
+is_ground-requires-then-is_ground-6-clause-e c = let b = off_rim c.args.n c.args.e c.requires.heights.side.0 c.requires.e c.requires.inner in let low = b.0 in let high = b.1 in omega arith
 
 pub is_ground-requires-then-is_ground-7-clause-e : goal.is_ground-requires-then-is_ground-7-clause-e
-is_ground-requires-then-is_ground-7-clause-e c = let b = off_rim c.args.n c.args.e c.requires.side.0 c.requires.e c.requires.inner in let low = b.0 in let high = b.1 in omega arith
+is_ground-requires-then-is_ground-7-clause-e c = let b = off_rim c.args.n c.args.e c.requires.heights.side.0 c.requires.e c.requires.inner in let low = b.0 in let high = b.1 in omega arith

@@ -13,7 +13,7 @@ in_square : (n i j : ℕ) → i < n → j < n → i * n + j < n * n
 in_square n i j row column = grind (arith, rows)
 
 pub mark-requires-clause-labelled : goal.mark-requires-clause-labelled
-mark-requires-clause-labelled c = own_labelled c.args.n c.args.heights.now c.args.sinks.now (c.args.i * c.args.n + c.args.j) c.in-Some.label c.requires.side (in_square c.args.n c.args.i c.args.j c.requires.cell.0 c.requires.cell.1) c.in-Some.ensures.label
+mark-requires-clause-labelled c = own_labelled c.args.n c.args.heights.now c.args.sinks.now (c.args.i * c.args.n + c.args.j) c.in-Some.label c.requires.heights.side (in_square c.args.n c.args.i c.args.j c.requires.cell.0 c.requires.cell.1) c.in-Some.ensures.label
 
 next_point : (n : ℕ) (heights : List ℤ) (sinks : List ℕ) (levels : List ℤ) (labels : List ℕ) (queue : Queue) (west j : ℕ) →
     IsSeeding (block_of n heights sinks) levels labels queue ((west + j) + 1) → IsSeeding (block_of n heights sinks) levels labels queue (west + (j + 1))

@@ -13,6 +13,6 @@ seed_at-requires-2-clause-state c =
 
 pub returns-clause-state : goal.returns-clause-state
 returns-clause-state c =
-    let low = c.requires.side.0 in
+    let low = c.requires.heights.side.0 in
     let end : c.args.i * c.args.n + ((c.args.n - 1) + 1) ≡ (c.args.i + 1) * c.args.n = omega arith in
     subst (IsSeeding (block_of c.args.n c.args.heights.now c.args.sinks.now) (levels_of c.seed_at-2.new.cells) (labels_of c.seed_at-2.new.cells) c.seed_at-2.new.queue) end c.in_ok-seed_at-2.ensures.state

@@ -21,12 +21,12 @@ cell_at-requires c = (begun c.args.n c.args.heights.now c.args.sinks.now c.loop-
 
 pub returns-clause-carried : goal.returns-clause-carried
 returns-clause-carried c =
-    let least = c.requires.side.0 in
+    let least = c.requires.heights.side.0 in
     carried_end c.args.n c.args.heights.now c.args.sinks.now (levels_of c.loop-seat.cells) (labels_of c.loop-seat.cells) c.loop-seat.queue (omega arith) c.loop-seat.invariant.state c.in_default.ensures.taken
 
 pub returns-clause-labelling : goal.returns-clause-labelling
 returns-clause-labelling c =
-    let least = c.requires.side.0 in
+    let least = c.requires.heights.side.0 in
     flooding_end c.args.n c.args.heights.now c.args.sinks.now (levels_of c.loop-seat.cells) (labels_of c.loop-seat.cells) c.loop-seat.queue (omega arith) c.loop-seat.invariant.state c.in_default.ensures.taken
 
 pub spread-requires-clause-state : goal.spread-requires-clause-state

@@ -6,10 +6,10 @@ use Rattle.tile_flood.proofs.Spreading.{IsVisited, visited_as, passed_max, near_
 use Rattle.tile_flood.proofs.settling.visit.Goals as goal
 
 opened : (c : goal.After-higher) → IsOpen c.args.n c.args.heights.now c.args.cells.now c.args.e
-opened c = open_if c.args.n c.args.heights.now c.args.cells.now c.args.e c.requires.whole c.requires.cells c.requires.e c.cell_at-cell.result (c.cell_at-cell.ensures none) (sym c.is_open.ensures ∙ c.if-is_open.true)
+opened c = open_if c.args.n c.args.heights.now c.args.cells.now c.args.e c.requires.heights.whole c.requires.cells c.requires.e c.cell_at-cell.result (c.cell_at-cell.ensures none) (sym c.is_open.ensures ∙ c.if-is_open.true)
 
 pub mark-requires-clause-labelled : goal.mark-requires-clause-labelled
-mark-requires-clause-labelled c = front_labelled c.args.n c.args.heights.now c.args.sinks.now c.args.cells.now c.args.queue.now c.args.front.point c.args.front.level c.args.front.label c.requires.whole c.requires.cells c.requires.state
+mark-requires-clause-labelled c = front_labelled c.args.n c.args.heights.now c.args.sinks.now c.args.cells.now c.args.queue.now c.args.front.point c.args.front.level c.args.front.label c.requires.heights.whole c.requires.cells c.requires.state
 
 after : (c : goal.In_ok-mark) → IsVisited c.args.n c.args.heights.now c.args.sinks.now (levels_of c.args.cells.now) (levels_of c.mark.new.cells) (labels_of c.mark.new.cells) c.mark.new.queue
     c.args.front.point c.args.front.level c.args.front.label c.args.e
@@ -17,7 +17,7 @@ after c =
     let fits_height : SFits w16 c.cell_at-cell.result.level = search rules in
     let fits_low : SFits w16 c.args.front.level = search rules in
     let fits_new : SFits w16 c.higher.result = search rules in
-    let o = open_if c.args.n c.args.heights.now c.args.cells.now c.args.e c.requires.whole c.requires.cells c.requires.e c.cell_at-cell.result (c.cell_at-cell.ensures none) (sym c.is_open.ensures ∙ c.if-is_open.true) in
+    let o = open_if c.args.n c.args.heights.now c.args.cells.now c.args.e c.requires.heights.whole c.requires.cells c.requires.e c.cell_at-cell.result (c.cell_at-cell.ensures none) (sym c.is_open.ensures ∙ c.if-is_open.true) in
     visited_as c.args.n c.args.heights.now c.args.sinks.now (levels_of c.args.cells.now) (levels_of c.mark.new.cells) (labels_of c.args.cells.now) (labels_of c.mark.new.cells)
     c.args.queue.now c.mark.new.queue c.args.front.point c.args.front.level c.args.e (to_z w16 (of_z w16 c.higher.result)) c.args.front.label
     c.requires.state (near_linked c.args.n c.args.heights.now c.args.sinks.now (levels_of c.args.cells.now) (labels_of c.args.cells.now) c.args.queue.now c.args.front.point c.args.front.level c.args.front.label c.args.e c.requires.state c.requires.near o.solid o.off) o.off
@@ -40,4 +40,4 @@ pub returns-in_ok-mark-clause-count : goal.returns-in_ok-mark-clause-count
 returns-in_ok-mark-clause-count c = let fewer = (after c).count in let more = c.in_ok-mark.ensures.count in omega arith
 
 pub returns-else-is_open-clause-marked : goal.returns-else-is_open-clause-marked
-returns-else-is_open-clause-marked c = marked_unless_open c.args.n c.args.heights.now c.args.sinks.now c.args.cells.now c.args.queue.now c.args.e c.requires.whole c.requires.cells c.requires.state.marks c.requires.e c.cell_at-cell.result (c.cell_at-cell.ensures none) (sym c.is_open.ensures ∙ c.if-is_open.false)
+returns-else-is_open-clause-marked c = marked_unless_open c.args.n c.args.heights.now c.args.sinks.now c.args.cells.now c.args.queue.now c.args.e c.requires.heights.whole c.requires.cells c.requires.state.marks c.requires.e c.cell_at-cell.result (c.cell_at-cell.ensures none) (sym c.is_open.ensures ∙ c.if-is_open.false)

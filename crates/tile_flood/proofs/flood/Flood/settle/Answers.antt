@@ -23,12 +23,12 @@ spread-requires-clause-state c =
 
 pub returns-clause-carried : goal.returns-clause-carried
 returns-clause-carried c =
-    let least = c.requires.side.0 in
+    let least = c.requires.heights.side.0 in
     carried_end c.args.n c.args.heights.now c.args.sinks.now c.loop-seat.self.levels.items c.loop-seat.self.labels.items c.loop-seat.self.queue (omega arith) c.loop-seat.invariant.state c.in_default.ensures.taken
 
 pub returns-clause-labelling : goal.returns-clause-labelling
 returns-clause-labelling c =
-    let least = c.requires.side.0 in
+    let least = c.requires.heights.side.0 in
     flooding_end c.args.n c.args.heights.now c.args.sinks.now c.loop-seat.self.levels.items c.loop-seat.self.labels.items c.loop-seat.self.queue (omega arith) c.loop-seat.invariant.state c.in_default.ensures.taken
 
 pub loop-seat-init : goal.loop-seat-init
