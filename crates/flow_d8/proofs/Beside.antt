@@ -1,23 +1,66 @@
--- Around a point off the rim of a tile lie points of that tile, at the places around its own.
-use Rattle.std.proofs.Common.{◌≡◌, ℕ, ◌+◌, ◌-◌, ◌*◌, ◌/◌, ◌%◌, ◌<◌, ◌≤◌, pos, ◌+ℤ◌, ◌-ℤ◌, ◌*ℤ◌, true, ◌∙◌, ap, subst, arith}
+-- Around a point off the rim of a tile lie points of that tile, at the places around its own, and no other tile holds it.
+use Rattle.std.proofs.Common.{◌≡◌, ℕ, ◌+◌, ◌-◌, ◌*◌, ◌/◌, ◌%◌, ◌<◌, ◌≤◌, pos, ◌+ℤ◌, ◌-ℤ◌, ◌*ℤ◌, ◌≤ℤ◌, true, ◌&&◌, ◌∙◌, ap, sym, subst, arith}
+use Rattle.std.specs.Prelude.{nat_le}
+use Rattle.std.proofs.lemmas.Bool.{and_parts}
+use Rattle.std.proofs.lemmas.Bool.Decides.{nat_tests}
 use Rattle.std.proofs.lemmas.Int.{ints}
 use Rattle.std.proofs.lemmas.Nat.{div-mul-add, mod-mul-add}
 use Rattle.lattice.specs.declared.point.Point.{Point}
 use Rattle.lattice.specs.declared.direction.Dir.{Dir}
 use Rattle.lattice.specs.declared.direction.Dir.TheVariants.{East, SouthEast, South, SouthWest, West, NorthWest, North, NorthEast}
 use Rattle.lattice.specs.Corners.{Corner}
-use Rattle.lattice.specs.Lattice.{IsIndexOf}
+use Rattle.lattice.specs.Lattice.{Holds, IsIndexOf}
 use Rattle.lattice.specs.Steps.{step, north_of, east_of}
-use Rattle.lattice.proofs.Interior.{IsInner}
+use Rattle.lattice.proofs.Interior.{IsInner, inner_holder}
 use Rattle.flow_d8.specs.Filled.{is_deep}
 use Rattle.flow_d8.specs.Places.{place_by}
-use Rattle.flow_d8.proofs.Inside.{deep_says}
 
--- what lies two samples from the edges lies off the rim
+le_said : (a b : ℕ) → nat_le a b ≡ true → a ≤ b
+le_said a b h = grind (arith, nat_tests)
+
+-- the row and the column of what lies two samples from the edges
+pub deep_says : (n e : ℕ) → is_deep n e ≡ true → (2 ≤ e / n) × (e / n + 3 ≤ n) × (2 ≤ e % n) × (e % n + 3 ≤ n)
+deep_says n e test =
+    let q = e / n in
+    let r = e % n in
+    let one = and_parts (nat_le 2 q && nat_le (q + 3) n && nat_le 2 r) (nat_le (r + 3) n) test in
+    let two = and_parts (nat_le 2 q && nat_le (q + 3) n) (nat_le 2 r) one.0 in
+    let three = and_parts (nat_le 2 q) (nat_le (q + 3) n) two.0 in
+    (le_said 2 q three.0, le_said (q + 3) n three.1, le_said 2 r two.1, le_said (r + 3) n one.1)
+
+-- it lies off the rim
 pub deep_inner : (n e : ℕ) → is_deep n e ≡ true → IsInner n e
 deep_inner n e test =
     let said = deep_says n e test in
     record { above = omega (arith, said.0); below = omega (arith, said.1); before = omega (arith, said.2); after = omega (arith, said.3) }
+
+inner_at : (n e i j : ℕ) → e ≡ i * n + j → 1 ≤ i → i + 2 ≤ n → 1 ≤ j → j + 2 ≤ n → IsInner n e
+inner_at n e i j is above below before after =
+    let row : e / n ≡ i = ap (λ v. v / n) is ∙ div-mul-add i n j (omega arith) in
+    let column : e % n ≡ j = ap (λ v. v % n) is ∙ mod-mul-add i n j (omega arith) in
+    record { above = subst (λ v. 1 ≤ v) (sym row) above; below = subst (λ v. v + 2 ≤ n) (sym row) below; before = subst (λ v. 1 ≤ v) (sym column) before; after = subst (λ v. v + 2 ≤ n) (sym column) after }
+
+-- a step leads at most one row and one column away
+near : (d : Dir) → (pos 0 ≤ℤ (north_of d +ℤ pos 1)) × (north_of d ≤ℤ pos 1) × (pos 0 ≤ℤ (east_of d +ℤ pos 1)) × (east_of d ≤ℤ pos 1)
+near East = (omega (arith, ints), omega (arith, ints), omega (arith, ints), omega (arith, ints))
+near SouthEast = (omega (arith, ints), omega (arith, ints), omega (arith, ints), omega (arith, ints))
+near South = (omega (arith, ints), omega (arith, ints), omega (arith, ints), omega (arith, ints))
+near SouthWest = (omega (arith, ints), omega (arith, ints), omega (arith, ints), omega (arith, ints))
+near West = (omega (arith, ints), omega (arith, ints), omega (arith, ints), omega (arith, ints))
+near NorthWest = (omega (arith, ints), omega (arith, ints), omega (arith, ints), omega (arith, ints))
+near North = (omega (arith, ints), omega (arith, ints), omega (arith, ints), omega (arith, ints))
+near NorthEast = (omega (arith, ints), omega (arith, ints), omega (arith, ints), omega (arith, ints))
+
+-- places by number, where the tile's samples have the numbers from k on
+pub place_from : (n k e : ℕ) → n + 1 ≤ e → (d : Dir) → place_by n (k + e) d ≡ k + place_by n e d
+place_from n k e room East = omega arith
+place_from n k e room SouthEast = omega arith
+place_from n k e room South = omega arith
+place_from n k e room SouthWest = omega arith
+place_from n k e room West = omega arith
+place_from n k e room NorthWest = omega arith
+place_from n k e room North = omega arith
+place_from n k e room NorthEast = omega arith
 
 module _ (n : ℕ) (c : Corner) (p : Point) (e : ℕ) (index : IsIndexOf n c p e) (inner : IsInner n e) where
   abbrev row : ℕ
@@ -79,3 +122,27 @@ module _ (n : ℕ) (c : Corner) (p : Point) (e : ℕ) (index : IsIndexOf n c p e
   -- a row and a sample more lie before it
   pub room_before : n + 1 ≤ e
   room_before = let u = above in let w = before in let a = at in let r = row_above in omega arith
+
+  -- no other tile holds it
+  pub only : (k : Corner) → Holds n k p → k ≡ c
+  only k held = let u = above in let v = below in let w = before in let z = after in
+      inner_holder n c k p row column index.sample.2.0 (omega arith) (omega arith) (omega arith) (omega arith) held
+
+-- and around what lies two samples from the edges none lies on the rim
+pub inner_beside : (n : ℕ) (c : Corner) (p : Point) (e : ℕ) → IsIndexOf n c p e → is_deep n e ≡ true → (d : Dir) → IsInner n (place_by n e d)
+inner_beside n c p e index test d =
+    let i = index.sample.0 in
+    let j = index.sample.1 in
+    let s = index.sample.2.0 in
+    let there = (beside n c p e index (deep_inner n e test) d).sample in
+    let s' = there.2.0 in
+    let is = index.sample.2.1 in
+    let said = deep_says n e test in
+    let row : e / n ≡ i = ap (λ v. v / n) is ∙ div-mul-add i n j s.column in
+    let column : e % n ≡ j = ap (λ v. v % n) is ∙ mod-mul-add i n j s.column in
+    let close = near d in
+    let y : p.y +ℤ pos i ≡ c.lat *ℤ pos (n - 1) +ℤ pos (n - 1) = s.y in
+    let y' : (p.y +ℤ north_of d) +ℤ pos there.0 ≡ c.lat *ℤ pos (n - 1) +ℤ pos (n - 1) = s'.y in
+    let x : p.x ≡ c.lon *ℤ pos (n - 1) +ℤ pos j = s.x in
+    let x' : (p.x +ℤ east_of d) ≡ c.lon *ℤ pos (n - 1) +ℤ pos there.1 = s'.x in
+    inner_at n (place_by n e d) there.0 there.1 there.2.1 (omega (arith, ints, said.0, close.1)) (omega (arith, ints, said.1, close.0)) (omega (arith, ints, said.2, close.2)) (omega (arith, ints, said.3, close.3))

@@ -20,11 +20,11 @@ use Rattle.flow_d8.specs.Propagation.{unknown, distance_at}
 use Rattle.flow_d8.specs.Directions.{Directions, AreWhole, AreDirectionsOf, DrainsTo, direction_in, number_beside}
 use Rattle.flow_d8.specs.Drainage.{IsDirection}
 use Rattle.flow_d8.specs.Feeders.{IsFeeder, LeadsBy}
-use Rattle.flow_d8.specs.Places.{back_of}
+use Rattle.flow_d8.specs.Places.{place_by, back_of}
 use Rattle.flow_d8.proofs.Compass.{order_below, same_order}
 use Rattle.flow_d8.proofs.Numbers.{seat_of, held_fits, number_below}
 use Rattle.flow_d8.proofs.Surfaces.{beside_some, surface_lawful, level_from, level_held}
-use Rattle.flow_d8.proofs.Inside.{IsDeep, deep_of, Beside}
+use Rattle.flow_d8.proofs.Inside.{IsDeep, deep_of, beside_deep}
 use Rattle.flow_d8.proofs.Tracing.{direction_known, direction_unknown, unheld_unknown}
 use Rattle.flow_d8.proofs.Unique.{one_direction}
 
@@ -157,8 +157,10 @@ module _ (d : Directions) (whole : AreWhole d) where
     pub deep : IsDeep plain p number
     deep = deep_of plain plain_valid p (held_level p held) number at test
 
-    pub inside_beside : (e : Dir) (g : ℕ) → Beside plain plain_valid p (held_level p held) number at deep e g → Some g ≡ number_beside d p e
-    inside_beside e g b =
+    inside_beside : (e : Dir) → Some (place_by d.side number e) ≡ number_beside d p e
+    inside_beside e =
+        let g = place_by d.side number e in
+        let b = beside_deep plain plain_valid p (held_level p held) number at deep e in
         let within : g < length d.distances = omega (arith, b.within, length-map d.distances (λ (x : ℕ). pos 0)) in
         let there : beside_of plain p e ≡ Some g = sym b.is ∙ cond-true (not (is_void (slice_index_or plain.levels g void))) (Some g) None (plain_read g within) in
         let beside = beside_some plain p e g there in
@@ -166,8 +168,8 @@ module _ (d : Directions) (whole : AreWhole d) where
         ap Some beside.1 ∙ sym (beside_held p e there_held)
 
     -- the same for a number that is read with another row length
-    pub inside_told : (e : Dir) (n : ℕ) (g : ℕ → ℕ) → n ≡ d.side → Beside plain plain_valid p (held_level p held) number at deep e (g d.side) → Some (g n) ≡ number_beside d p e
-    inside_told e n g side b = ap (λ m. Some (g m)) side ∙ inside_beside e (g d.side) b
+    pub inside_told : (e : Dir) (n : ℕ) → n ≡ d.side → Some (place_by n number e) ≡ number_beside d p e
+    inside_told e n side = ap (λ m. Some (place_by m number e)) side ∙ inside_beside e
 
   -- whether the point one step away drains in a direction
   pub drains_said : (p : Point) (e : Dir) (g : ℕ) → IsBeside p e g → (way : Dir) → direction_in d (step e p) ≡ Some way → slice_index_or d.drains g None ≡ Some way

@@ -6,7 +6,6 @@ use Rattle.std.proofs.lemmas.List.{get_or_append_left, get_or-append-add}
 use Rattle.std.proofs.lemmas.Bool.{cases_Bool, cases_eq, cond-true, cond-false}
 use Rattle.lattice.specs.declared.point.Point.{Point}
 use Rattle.lattice.specs.declared.direction.Dir.{Dir}
-use Rattle.lattice.specs.declared.direction.Dir.TheVariants.{East, SouthEast, South, SouthWest, West, NorthWest, North, NorthEast}
 use Rattle.lattice.specs.Steps.{step, directions}
 use Rattle.lattice.specs.Terrain.{Terrain}
 use Rattle.lattice.specs.Mosaic.{void, is_void}
@@ -20,7 +19,7 @@ use Rattle.flow_d8.specs.Crossing.{sample_point, DrainsLike, IsFlowIn, IsSampleF
 use Rattle.flow_d8.proofs.PointFlows.{flow_is, flat_or_edge, seam_or_edge}
 use Rattle.flow_d8.proofs.Surfaces.{surface_lawful, surface_steps, beside_there, beside_none, at_level, level_held, level_within, same_site, beside_some}
 use Rattle.flow_d8.proofs.Numbers.{number_past, point_at_number}
-use Rattle.flow_d8.proofs.Inside.{Beside, deep_of, east, south_east, south, south_west, west, north_west, north, north_east}
+use Rattle.flow_d8.proofs.Inside.{Beside, deep_of, beside_deep}
 
 void_is : (v : ℤ) → not (is_void v) ≡ false → v ≡ void
 void_is v h = grind (arith, ints)
@@ -91,14 +90,7 @@ module _ (f : Filled) where
     -- a deep sample's levels show its point
     module _ (whole : AreLevels f) (number : ℕ) (at : number_in f p ≡ number) (test : is_deep f.side (number % (f.side * f.side)) ≡ true) where
       pub deep_beside : (level : IsTrue (has_level f p)) (d : Dir) → Beside f whole p level number at (deep_of f whole p level number at test) d (place_by f.side number d)
-      deep_beside level East = east f whole p level number at (deep_of f whole p level number at test)
-      deep_beside level SouthEast = south_east f whole p level number at (deep_of f whole p level number at test)
-      deep_beside level South = south f whole p level number at (deep_of f whole p level number at test)
-      deep_beside level SouthWest = south_west f whole p level number at (deep_of f whole p level number at test)
-      deep_beside level West = west f whole p level number at (deep_of f whole p level number at test)
-      deep_beside level NorthWest = north_west f whole p level number at (deep_of f whole p level number at test)
-      deep_beside level North = north f whole p level number at (deep_of f whole p level number at test)
-      deep_beside level NorthEast = north_east f whole p level number at (deep_of f whole p level number at test)
+      deep_beside level = beside_deep f whole p level number at (deep_of f whole p level number at test)
 
       pub deep_shown : IsShown (surface f) (level_at f) f.levels f.side p number
       deep_shown = record { here = shown_here number at; around = λ level d. maybe_beside d (place_by f.side number d) (deep_beside level d).is }
