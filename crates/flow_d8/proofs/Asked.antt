@@ -1,11 +1,13 @@
 -- Calls one after another.
 use Rattle.std.proofs.Common.{◌∙◌, refl, sym, subst, Ok, Err}
-use Rattle.std.specs.Prelude.{Option, Some, None, Result, IfOk, IfSome}
+use Rattle.std.specs.Prelude.{◌≡◌, Option, Some, None, Result, IfOk, IfErr, IfSome}
 use Rattle.flow_d8.specs.declared.filled_levels.FilledLevels.{Ghosts}
 use Rattle.lattice.specs.Mosaic.{Mosaic}
 use Rattle.lattice.specs.Ground.{terrain}
 use Rattle.flow_d8.specs.LevelsAround.{OnLevels}
-use Rattle.flow_d8.specs.Asking.{Asks}
+use Rattle.flow_d8.specs.Asking.{Asks, IsAsked}
+use Rattle.lattice.specs.declared.refusal.Refusal.{Refusal}
+use Rattle.lattice.specs.declared.refusal.Refusal.TheVariants.{NoMemory}
 use Rattle.flow_d8.specs.declared.flats.Flats.{Flats}
 use Rattle.flow_d8.specs.Flats.{AreMeasured, AreFlatsOf}
 
@@ -18,6 +20,15 @@ module _ {L S : Type 0} (g : Ghosts L S) where
     honest = λ honest. first.honest (then.honest honest);
     mosaic = λ honest. then.mosaic honest ∙ first.mosaic (then.honest honest);
   }
+
+  -- a question that was refused after others were answered
+  pub refused : {T : Type 0} (s s' : L) (a b : S) (e : Refusal) → Asks g s a s' b → g.fits s' b → g.refuses s a s' b e → IsAsked {T = T} g s a s' b (Err e)
+  refused s s' a b e asks fits refuses = record { asks = asks; fits = fits; keeps = tt; refusal = refuses }
+
+  -- memory ran out after questions that were answered
+  pub out_of_memory : {T : Type 0} (s s' : L) (a b : S) (r : Result T Refusal) → Asks g s a s' b → g.fits s' b → g.keeps s a s' b → g.refuses s a s' b NoMemory → IfErr r (λ e. e ≡ NoMemory) → IsAsked g s a s' b r
+  out_of_memory s s' a b (Ok x) asks fits kept refuses is = record { asks = asks; fits = fits; keeps = kept; refusal = tt }
+  out_of_memory s s' a b (Err e) asks fits kept refuses is = refused s s' a b e asks fits (subst (g.refuses s a s' b) (sym is) refuses)
 
   -- what was found of flats before a call is right after it
   pub flats_on : (s s' : L) (a b : S) (held : Flats) → Asks g s a s' b → AreFlatsOf g s a held → AreFlatsOf g s' b held

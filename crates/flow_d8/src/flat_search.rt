@@ -1,11 +1,11 @@
 //! The shortest way across a flat, searched outward from one point.
-ghost use Rattle.std.specs.Prelude.{◌≡◌, ◌+◌, ◌<◌, ℤ, [], ◌∷◌, IsTrue, IsFalse, IfOk, IfErr, IfSome, OnOk, length};
+ghost use Rattle.std.specs.Prelude.{◌≡◌, ◌+◌, ◌<◌, ℤ, [], ◌∷◌, IsTrue, IsFalse, IfOk, IfSome, OnOk, length};
 ghost use Rattle.lattice.specs.declared.point.Point.{Point};
 ghost use Rattle.lattice.specs.Terrain.{Terrain};
 ghost use Rattle.lattice.specs.Ground.{is_ground, terrain};
 ghost use Rattle.flow_d8.specs.Drainage.{CrossesFlat};
 ghost use Rattle.flow_d8.specs.LevelsAround.{OnLevels};
-ghost use Rattle.flow_d8.specs.Asking.{Asks};
+ghost use Rattle.flow_d8.specs.Asking.{IsAsked};
 ghost use Rattle.flow_d8.specs.Seen.{has_seen};
 ghost use Rattle.flow_d8.specs.FlowSteps.{FlowsBy, FlowsOn};
 ghost use Rattle.flow_d8.specs.Flats.{IsExpanded};
@@ -47,10 +47,7 @@ pub(crate) fn path_across_flat<S, L: FilledLevels<S>>(
     requires flat { L.is_honest levels.old source.old → IsOnFlat (L.mosaic levels.old source.old) point height around.now }
     ensures way { L.is_honest levels.new source.new → IfOk result (λ found. IfSome found (λ steps. OnLevels (L.mosaic levels.old source.old) (λ level. FlowsOn (terrain (L.mosaic levels.old source.old)) level point steps.items))) }
     ensures some { IfOk result (λ found. IfSome found (λ steps. 0 < length steps.items)) }
-    ensures refusal { IfErr result (L.refuses levels.old source.old levels.new source.new) }
-    ensures asks { Asks L.FilledLevels levels.old source.old levels.new source.new }
-    ensures keeps { OnOk result (L.keeps levels.old source.old levels.new source.new) }
-    ensures fits { L.fits levels.new source.new }
+    ensures asked { IsAsked L.FilledLevels levels.old source.old levels.new source.new result }
 {
     let mut seen = Seen::new(alloc);
     let mut nodes = Vec::new(alloc);
@@ -106,10 +103,7 @@ pub(crate) fn expand<S, L: FilledLevels<S>>(
         → IsSearched (terrain (L.mosaic levels.old source.old)) level x nodes.old.items head → IsSearched (terrain (L.mosaic levels.old source.old)) level x nodes.new.items (head + 1))) }
     ensures expanded { L.is_honest levels.new source.new → IfOk result (λ end. IsTrue (is_ground (L.mosaic levels.old source.old) (node_at nodes.old.items head).point) → OnLevels (L.mosaic levels.old source.old) (λ level. level (node_at nodes.old.items head).point ≡ height
         → IsExpanded (terrain (L.mosaic levels.old source.old)) level (node_at nodes.old.items head).point nodes.old.items nodes.new.items end)) }
-    ensures refusal { IfErr result (L.refuses levels.old source.old levels.new source.new) }
-    ensures asks { Asks L.FilledLevels levels.old source.old levels.new source.new }
-    ensures keeps { OnOk result (L.keeps levels.old source.old levels.new source.new) }
-    ensures fits { L.fits levels.new source.new }
+    ensures asked { IsAsked L.FilledLevels levels.old source.old levels.new source.new result }
 {
     let node = nodes[head];
     let around = around(alloc, levels, source, node.point)?;

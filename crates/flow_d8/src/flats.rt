@@ -1,5 +1,5 @@
 //! Flats, each searched once: the distances of the points inside them.
-ghost use Rattle.std.specs.Prelude.{◌≡◌, ◌+◌, ◌<◌, ◌≤◌, ◌↔◌, ℕ, ℤ, Some, None, IsTrue, IfOk, IfErr, OnOk, IfSome, IfNone, is_some, length};
+ghost use Rattle.std.specs.Prelude.{◌≡◌, ◌+◌, ◌<◌, ◌≤◌, ◌↔◌, ℕ, ℤ, Some, None, IsTrue, IfOk, OnOk, IfSome, IfNone, is_some, length};
 ghost use Rattle.lattice.specs.declared.point.Point.{Point};
 ghost use Rattle.lattice.specs.declared.direction.Dir.{Dir};
 ghost use Rattle.lattice.specs.Steps.{step, order_of};
@@ -8,7 +8,7 @@ ghost use Rattle.lattice.specs.Terrain.{Terrain};
 ghost use Rattle.lattice.specs.Ground.{terrain};
 ghost use Rattle.flow_d8.specs.Drainage.{IsFirstNearer};
 ghost use Rattle.flow_d8.specs.LevelsAround.{OnLevels};
-ghost use Rattle.flow_d8.specs.Asking.{Asks};
+ghost use Rattle.flow_d8.specs.Asking.{IsAsked};
 ghost use Rattle.flow_d8.specs.FlatSearch.{IsOnFlat};
 ghost use Rattle.flow_d8.specs.Flats.{found_of, distance_of, IsSet, AreFlatsOf, IsInFlat, AreMeasured, IsMeasuring, IsReaching, IsCloser};
 
@@ -91,10 +91,7 @@ pub(crate) fn first_nearer<S, L: FilledLevels<S>>(
     requires flat { L.is_honest levels.old source.old → IsOnFlat (L.mosaic levels.old source.old) point height around.now }
     ensures nearer { L.is_honest levels.new source.new → IfOk result (λ found. IfSome found (λ d. OnLevels (L.mosaic levels.old source.old) (λ level. IsFirstNearer (terrain (L.mosaic levels.old source.old)) level point d))) }
     ensures flats { OnOk result (AreFlatsOf L.FilledLevels levels.new source.new flats.new) }
-    ensures refusal { IfErr result (L.refuses levels.old source.old levels.new source.new) }
-    ensures asks { Asks L.FilledLevels levels.old source.old levels.new source.new }
-    ensures keeps { OnOk result (L.keeps levels.old source.old levels.new source.new) }
-    ensures fits { L.fits levels.new source.new }
+    ensures asked { IsAsked L.FilledLevels levels.old source.old levels.new source.new result }
 {
     if !cross(alloc, levels, source, flats, point, height, most)? {
         return Ok(None);
@@ -105,7 +102,7 @@ pub(crate) fn first_nearer<S, L: FilledLevels<S>>(
     }
 }
 
-// Finds the distances of the point, which lies inside a flat, and of all that it nodes to over points inside it, where they
+// Finds the distances of the point, which lies inside a flat, and of all that it leads to over points inside it, where they
 // aren't found yet. False where these are more than some `most`: then no flat is found any more.
 fn cross<S, L: FilledLevels<S>>(
     alloc: Global,
@@ -121,10 +118,7 @@ fn cross<S, L: FilledLevels<S>>(
     requires flat { IsInFlat L.FilledLevels levels.old source.old point height }
     ensures found { L.is_honest levels.new source.new → IfOk result (λ found. IsTrue found → IsTrue (is_some (found_of flats.new point))) }
     ensures flats { OnOk result (AreFlatsOf L.FilledLevels levels.new source.new flats.new) }
-    ensures refusal { IfErr result (L.refuses levels.old source.old levels.new source.new) }
-    ensures asks { Asks L.FilledLevels levels.old source.old levels.new source.new }
-    ensures keeps { OnOk result (L.keeps levels.old source.old levels.new source.new) }
-    ensures fits { L.fits levels.new source.new }
+    ensures asked { IsAsked L.FilledLevels levels.old source.old levels.new source.new result }
 {
     if flats.found(point).is_some() {
         return Ok(true);
@@ -137,7 +131,7 @@ fn cross<S, L: FilledLevels<S>>(
     Ok(true)
 }
 
-// Finds the points that the point nodes to over points inside its flat, and leaves their distances open. The answer has
+// Finds the points that the point leads to over points inside its flat, and leaves their distances open. The answer has
 // those that drain, or is None where more than some `most` are reached.
 fn find<S, L: FilledLevels<S>>(
     alloc: Global,
@@ -152,10 +146,7 @@ fn find<S, L: FilledLevels<S>>(
     requires flats { AreFlatsOf L.FilledLevels levels.old source.old flats.old }
     requires flat { IsInFlat L.FilledLevels levels.old source.old point height }
     ensures found { L.is_honest levels.new source.new → IfOk result (λ found. IfSome found (λ ends. OnLevels (L.mosaic levels.old source.old) (λ level. IsMeasuring (terrain (L.mosaic levels.old source.old)) level point flats.new ends.items 0))) }
-    ensures refusal { IfErr result (L.refuses levels.old source.old levels.new source.new) }
-    ensures asks { Asks L.FilledLevels levels.old source.old levels.new source.new }
-    ensures keeps { OnOk result (L.keeps levels.old source.old levels.new source.new) }
-    ensures fits { L.fits levels.new source.new }
+    ensures asked { IsAsked L.FilledLevels levels.old source.old levels.new source.new result }
 {
     let mut seen = Seen::new(alloc);
     let mut nodes = Vec::new(alloc);

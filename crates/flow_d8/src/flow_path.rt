@@ -1,9 +1,9 @@
 //! The flow path of one point.
-ghost use Rattle.std.specs.Prelude.{◌≡◌, ◌<◌, ◌^◌, ◌++◌, [], ◌∷◌, length, IsTrue, IsFalse, IfOk, IfSome, IfErr, OnOk};
+ghost use Rattle.std.specs.Prelude.{◌≡◌, ◌<◌, ◌^◌, ◌++◌, [], ◌∷◌, length, IsTrue, IsFalse, IfOk, IfSome, OnOk};
 ghost use Rattle.lattice.specs.Ground.{is_ground, terrain};
 ghost use Rattle.flow_d8.specs.FlowPath.{IsFlowPath};
 ghost use Rattle.flow_d8.specs.LevelsAround.{OnLevels};
-ghost use Rattle.flow_d8.specs.Asking.{Asks};
+ghost use Rattle.flow_d8.specs.Asking.{IsAsked};
 ghost use Rattle.flow_d8.specs.FlowSteps.{IsNext, FlowsOn, AreSteps};
 
 use crate::FilledLevels;
@@ -25,10 +25,7 @@ pub fn trace<S, L: FilledLevels<S>>(
     ensures path { L.is_honest levels.new source.new → IfOk result (λ path. IsTrue (is_ground (L.mosaic levels.old source.old) point)
         → OnLevels (L.mosaic levels.old source.old) (λ level. IsFlowPath (terrain (L.mosaic levels.old source.old)) level point path.items)) }
     ensures elsewhere { L.is_honest levels.new source.new → IfOk result (λ path. IsFalse (is_ground (L.mosaic levels.old source.old) point) → path.items ≡ []) }
-    ensures refusal { IfErr result (L.refuses levels.old source.old levels.new source.new) }
-    ensures asks { Asks L.FilledLevels levels.old source.old levels.new source.new }
-    ensures keeps { OnOk result (L.keeps levels.old source.old levels.new source.new) }
-    ensures fits { L.fits levels.new source.new }
+    ensures asked { IsAsked L.FilledLevels levels.old source.old levels.new source.new result }
 {
     if levels.level(alloc, source, point)?.is_none() {
         return Ok(Vec::new(alloc));
@@ -46,10 +43,7 @@ fn follow<S, L: FilledLevels<S>>(
     requires { L.fits levels.old source.old }
     ensures path { L.is_honest levels.new source.new → IfOk result (λ path. IsTrue (is_ground (L.mosaic levels.old source.old) point)
         → OnLevels (L.mosaic levels.old source.old) (λ level. IsFlowPath (terrain (L.mosaic levels.old source.old)) level point path.items)) }
-    ensures refusal { IfErr result (L.refuses levels.old source.old levels.new source.new) }
-    ensures asks { Asks L.FilledLevels levels.old source.old levels.new source.new }
-    ensures keeps { OnOk result (L.keeps levels.old source.old levels.new source.new) }
-    ensures fits { L.fits levels.new source.new }
+    ensures asked { IsAsked L.FilledLevels levels.old source.old levels.new source.new result }
 {
     let mut path = Vec::new(alloc);
     lengthen(&mut path, point)?;
@@ -85,10 +79,7 @@ fn next<S, L: FilledLevels<S>>(
         → OnLevels (L.mosaic levels.old source.old) (λ level. FlowsOn (terrain (L.mosaic levels.old source.old)) level point steps.old.items → IsNext (terrain (L.mosaic levels.old source.old)) level point found)) }
     ensures steps { L.is_honest levels.new source.new → IfOk result (λ found. IsTrue (is_ground (L.mosaic levels.old source.old) point)
         → OnLevels (L.mosaic levels.old source.old) (λ level. FlowsOn (terrain (L.mosaic levels.old source.old)) level point steps.old.items → IfSome found (λ to. FlowsOn (terrain (L.mosaic levels.old source.old)) level to steps.new.items))) }
-    ensures refusal { IfErr result (L.refuses levels.old source.old levels.new source.new) }
-    ensures asks { Asks L.FilledLevels levels.old source.old levels.new source.new }
-    ensures keeps { OnOk result (L.keeps levels.old source.old levels.new source.new) }
-    ensures fits { L.fits levels.new source.new }
+    ensures asked { IsAsked L.FilledLevels levels.old source.old levels.new source.new result }
 {
     have_steps(alloc, levels, source, point, steps)?;
     let Some(direction) = steps.pop() else {
@@ -108,10 +99,7 @@ fn have_steps<S, L: FilledLevels<S>>(
     requires { L.fits levels.old source.old }
     ensures steps { L.is_honest levels.new source.new → OnOk result (IsTrue (is_ground (L.mosaic levels.old source.old) point)
         → OnLevels (L.mosaic levels.old source.old) (λ level. FlowsOn (terrain (L.mosaic levels.old source.old)) level point steps.old.items → AreSteps (terrain (L.mosaic levels.old source.old)) level point steps.new.items)) }
-    ensures refusal { IfErr result (L.refuses levels.old source.old levels.new source.new) }
-    ensures asks { Asks L.FilledLevels levels.old source.old levels.new source.new }
-    ensures keeps { OnOk result (L.keeps levels.old source.old levels.new source.new) }
-    ensures fits { L.fits levels.new source.new }
+    ensures asked { IsAsked L.FilledLevels levels.old source.old levels.new source.new result }
 {
     if !steps.is_empty() {
         return Ok(());

@@ -1,8 +1,8 @@
 //! The levels at a point and around it.
-ghost use Rattle.std.specs.Prelude.{◌≡◌, IsTrue, IfOk, IfErr, OnOk};
+ghost use Rattle.std.specs.Prelude.{◌≡◌, IsTrue, IfOk};
 ghost use Rattle.lattice.specs.Ground.{is_ground, terrain};
 ghost use Rattle.flow_d8.specs.LevelsAround.{beside_of, around_of, OnLevels};
-ghost use Rattle.flow_d8.specs.Asking.{Asks};
+ghost use Rattle.flow_d8.specs.Asking.{IsAsked};
 
 use crate::FilledLevels;
 use lattice::{DIRECTIONS, Dir, Point, Refusal, neighbour};
@@ -25,10 +25,7 @@ pub(crate) fn around<S, L: FilledLevels<S>>(
     requires { L.fits levels.old source.old }
     ensures around { L.is_honest levels.new source.new → IfOk result (λ around. IsTrue (is_ground (L.mosaic levels.old source.old) point)
         → OnLevels (L.mosaic levels.old source.old) (λ level. around ≡ around_of (terrain (L.mosaic levels.old source.old)) level point)) }
-    ensures refusal { IfErr result (L.refuses levels.old source.old levels.new source.new) }
-    ensures asks { Asks L.FilledLevels levels.old source.old levels.new source.new }
-    ensures keeps { OnOk result (L.keeps levels.old source.old levels.new source.new) }
-    ensures fits { L.fits levels.new source.new }
+    ensures asked { IsAsked L.FilledLevels levels.old source.old levels.new source.new result }
 {
     if let Some(near) = levels.near(source, point) {
         return Ok(near.around);
@@ -46,10 +43,7 @@ fn point_by_point<S, L: FilledLevels<S>>(
     requires { L.fits levels.old source.old }
     ensures around { L.is_honest levels.new source.new → IfOk result (λ around. IsTrue (is_ground (L.mosaic levels.old source.old) point)
         → OnLevels (L.mosaic levels.old source.old) (λ level. around ≡ around_of (terrain (L.mosaic levels.old source.old)) level point)) }
-    ensures refusal { IfErr result (L.refuses levels.old source.old levels.new source.new) }
-    ensures asks { Asks L.FilledLevels levels.old source.old levels.new source.new }
-    ensures keeps { OnOk result (L.keeps levels.old source.old levels.new source.new) }
-    ensures fits { L.fits levels.new source.new }
+    ensures asked { IsAsked L.FilledLevels levels.old source.old levels.new source.new result }
 {
     let mut found = [None; 8];
     for i in 0..8 {
@@ -69,10 +63,7 @@ fn beside<S, L: FilledLevels<S>>(
     requires { L.fits levels.old source.old }
     ensures beside { L.is_honest levels.new source.new → IfOk result (λ found. IsTrue (is_ground (L.mosaic levels.old source.old) point)
         → OnLevels (L.mosaic levels.old source.old) (λ level. found ≡ beside_of (terrain (L.mosaic levels.old source.old)) level point direction)) }
-    ensures refusal { IfErr result (L.refuses levels.old source.old levels.new source.new) }
-    ensures asks { Asks L.FilledLevels levels.old source.old levels.new source.new }
-    ensures keeps { OnOk result (L.keeps levels.old source.old levels.new source.new) }
-    ensures fits { L.fits levels.new source.new }
+    ensures asked { IsAsked L.FilledLevels levels.old source.old levels.new source.new result }
 {
     let Some(to) = neighbour(point, direction) else {
         return Ok(None);

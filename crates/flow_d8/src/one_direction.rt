@@ -1,7 +1,7 @@
 //! The direction of one point.
 ghost use Rattle.std.specs.Option.{option_to_list};
-ghost use Rattle.std.specs.Prelude.{◌≡◌, Some, None, MatchOption, IfOk, IfErr, IfSome, OnOk};
-ghost use Rattle.flow_d8.specs.Asking.{Asks};
+ghost use Rattle.std.specs.Prelude.{◌≡◌, Some, None, MatchOption, IfOk, IfSome, OnOk};
+ghost use Rattle.flow_d8.specs.Asking.{Asks, IsAsked};
 ghost use Rattle.flow_d8.specs.Flats.{AreFlatsOf};
 ghost use Rattle.flow_d8.specs.FlowSteps.{AreNext};
 ghost use Rattle.flow_d8.specs.Way.{IsWay};
@@ -24,10 +24,7 @@ pub fn direction_at<S, L: FilledLevels<S>>(
 ) -> Result<Option<Dir>, Refusal>
     requires { L.fits levels.old source.old }
     ensures way { L.is_honest levels.new source.new → IfOk result (IsWay (L.mosaic levels.old source.old) point) }
-    ensures refusal { IfErr result (L.refuses levels.old source.old levels.new source.new) }
-    ensures asks { Asks L.FilledLevels levels.old source.old levels.new source.new }
-    ensures keeps { OnOk result (L.keeps levels.old source.old levels.new source.new) }
-    ensures fits { L.fits levels.new source.new }
+    ensures asked { IsAsked L.FilledLevels levels.old source.old levels.new source.new result }
 {
     let mut steps = steps_on(alloc, levels, source, point)?;
     Ok(steps.pop())
@@ -46,10 +43,7 @@ pub fn direction_over<S, L: FilledLevels<S>>(
     requires flats { AreFlatsOf L.FilledLevels levels.old source.old flats.old }
     ensures way { L.is_honest levels.new source.new → IfOk result (IsWay (L.mosaic levels.old source.old) point) }
     ensures flats { OnOk result (AreFlatsOf L.FilledLevels levels.new source.new flats.new) }
-    ensures refusal { IfErr result (L.refuses levels.old source.old levels.new source.new) }
-    ensures asks { Asks L.FilledLevels levels.old source.old levels.new source.new }
-    ensures keeps { OnOk result (L.keeps levels.old source.old levels.new source.new) }
-    ensures fits { L.fits levels.new source.new }
+    ensures asked { IsAsked L.FilledLevels levels.old source.old levels.new source.new result }
 {
     if let Some(way) = known_way(alloc, levels, source, point)? {
         return Ok(way);
@@ -71,10 +65,7 @@ fn known_way<S, L: FilledLevels<S>>(
 ) -> Result<Option<Option<Dir>>, Refusal>
     requires { L.fits levels.old source.old }
     ensures way { L.is_honest levels.new source.new → IfOk result (λ found. IfSome found (IsWay (L.mosaic levels.old source.old) point)) }
-    ensures refusal { IfErr result (L.refuses levels.old source.old levels.new source.new) }
-    ensures asks { Asks L.FilledLevels levels.old source.old levels.new source.new }
-    ensures keeps { OnOk result (L.keeps levels.old source.old levels.new source.new) }
-    ensures fits { L.fits levels.new source.new }
+    ensures asked { IsAsked L.FilledLevels levels.old source.old levels.new source.new result }
 {
     if let Some(way) = levels.way(source, point) {
         return Ok(Some(way));
@@ -97,10 +88,7 @@ fn far_direction<S, L: FilledLevels<S>>(
     requires flats { AreFlatsOf L.FilledLevels levels.old source.old flats.old }
     ensures way { L.is_honest levels.new source.new → IfOk result (IsWay (L.mosaic levels.old source.old) point) }
     ensures flats { OnOk result (AreFlatsOf L.FilledLevels levels.new source.new flats.new) }
-    ensures refusal { IfErr result (L.refuses levels.old source.old levels.new source.new) }
-    ensures asks { Asks L.FilledLevels levels.old source.old levels.new source.new }
-    ensures keeps { OnOk result (L.keeps levels.old source.old levels.new source.new) }
-    ensures fits { L.fits levels.new source.new }
+    ensures asked { IsAsked L.FilledLevels levels.old source.old levels.new source.new result }
 {
     levels.learn_all(alloc, source)?;
     if let Some(way) = levels.way(source, point) {
@@ -125,10 +113,7 @@ fn find_direction<S, L: FilledLevels<S>>(
     requires flats { AreFlatsOf L.FilledLevels levels.old source.old flats.old }
     ensures way { L.is_honest levels.new source.new → IfOk result (λ found. IfSome found (IsWay (L.mosaic levels.old source.old) point)) }
     ensures flats { OnOk result (AreFlatsOf L.FilledLevels levels.new source.new flats.new) }
-    ensures refusal { IfErr result (L.refuses levels.old source.old levels.new source.new) }
-    ensures asks { Asks L.FilledLevels levels.old source.old levels.new source.new }
-    ensures keeps { OnOk result (L.keeps levels.old source.old levels.new source.new) }
-    ensures fits { L.fits levels.new source.new }
+    ensures asked { IsAsked L.FilledLevels levels.old source.old levels.new source.new result }
 {
     match point_flow(alloc, levels, source, point)? {
         PointFlow::Drains(direction) => Ok(Some(direction)),
@@ -161,10 +146,7 @@ pub(crate) fn steps_on<S, L: FilledLevels<S>>(
 ) -> Result<Vec<Dir>, Refusal>
     requires { L.fits levels.old source.old }
     ensures steps { L.is_honest levels.new source.new → IfOk result (λ steps. AreNext (L.mosaic levels.old source.old) point steps.items) }
-    ensures refusal { IfErr result (L.refuses levels.old source.old levels.new source.new) }
-    ensures asks { Asks L.FilledLevels levels.old source.old levels.new source.new }
-    ensures keeps { OnOk result (L.keeps levels.old source.old levels.new source.new) }
-    ensures fits { L.fits levels.new source.new }
+    ensures asked { IsAsked L.FilledLevels levels.old source.old levels.new source.new result }
 {
     if let Some(way) = known_way(alloc, levels, source, point)? {
         return Ok(one_or_none(alloc, way)?);
@@ -186,10 +168,7 @@ fn far_steps<S, L: FilledLevels<S>>(
 ) -> Result<Vec<Dir>, Refusal>
     requires { L.fits levels.old source.old }
     ensures steps { L.is_honest levels.new source.new → IfOk result (λ steps. AreNext (L.mosaic levels.old source.old) point steps.items) }
-    ensures refusal { IfErr result (L.refuses levels.old source.old levels.new source.new) }
-    ensures asks { Asks L.FilledLevels levels.old source.old levels.new source.new }
-    ensures keeps { OnOk result (L.keeps levels.old source.old levels.new source.new) }
-    ensures fits { L.fits levels.new source.new }
+    ensures asked { IsAsked L.FilledLevels levels.old source.old levels.new source.new result }
 {
     levels.learn_all(alloc, source)?;
     if let Some(way) = levels.way(source, point) {
@@ -212,10 +191,7 @@ fn find_steps<S, L: FilledLevels<S>>(
 ) -> Result<Option<Vec<Dir>>, Refusal>
     requires { L.fits levels.old source.old }
     ensures steps { L.is_honest levels.new source.new → IfOk result (λ found. IfSome found (λ steps. AreNext (L.mosaic levels.old source.old) point steps.items)) }
-    ensures refusal { IfErr result (L.refuses levels.old source.old levels.new source.new) }
-    ensures asks { Asks L.FilledLevels levels.old source.old levels.new source.new }
-    ensures keeps { OnOk result (L.keeps levels.old source.old levels.new source.new) }
-    ensures fits { L.fits levels.new source.new }
+    ensures asked { IsAsked L.FilledLevels levels.old source.old levels.new source.new result }
 {
     match point_flow(alloc, levels, source, point)? {
         PointFlow::Drains(direction) => Ok(Some(one_or_none(alloc, direction)?)),

@@ -1,11 +1,11 @@
 //! Where one point drains, as far as the levels at it and around it tell.
-ghost use Rattle.std.specs.Prelude.{◌≡◌, ℤ, IsTrue, IfOk, IfErr, OnOk, MatchOption, if◌then◌else◌};
+ghost use Rattle.std.specs.Prelude.{◌≡◌, ℤ, IsTrue, IfOk, MatchOption, if◌then◌else◌};
 ghost use Rattle.lattice.specs.declared.point.Point.{Point};
 ghost use Rattle.lattice.specs.Terrain.{Terrain};
 ghost use Rattle.lattice.specs.Mosaic.{void};
 ghost use Rattle.lattice.specs.Ground.{terrain};
 ghost use Rattle.flow_d8.specs.declared.local_flow.LocalFlow.TheVariants.{Edge, Flat};
-ghost use Rattle.flow_d8.specs.Asking.{Asks};
+ghost use Rattle.flow_d8.specs.Asking.{IsAsked};
 ghost use Rattle.flow_d8.specs.LevelsAround.{around_of, OnLevels, IsNear};
 ghost use Rattle.flow_d8.specs.Places.{IsShown, IsFlowOf};
 ghost use Rattle.flow_d8.specs.PointFlow.{IsPointFlow};
@@ -37,10 +37,7 @@ pub(crate) fn point_flow<S, L: FilledLevels<S>>(
 ) -> Result<PointFlow, Refusal>
     requires { L.fits levels.old source.old }
     ensures flow { L.is_honest levels.new source.new → IfOk result (IsPointFlow (L.mosaic levels.old source.old) point) }
-    ensures refusal { IfErr result (L.refuses levels.old source.old levels.new source.new) }
-    ensures asks { Asks L.FilledLevels levels.old source.old levels.new source.new }
-    ensures keeps { OnOk result (L.keeps levels.old source.old levels.new source.new) }
-    ensures fits { L.fits levels.new source.new }
+    ensures asked { IsAsked L.FilledLevels levels.old source.old levels.new source.new result }
 {
     if let Some(near) = levels.near(source, point) {
         return Ok(point_flow_by(levels, source, point, &near));

@@ -1,6 +1,6 @@
 //! The search up the flow paths over filled levels that are asked for point by point: from the point to those whose
 //! direction leads to one that is found.
-ghost use Rattle.std.specs.Prelude.{◌≡◌, ◌↔◌, ◌+◌, ◌<◌, ◌≤◌, ◌++◌, [], ◌∷◌, Some, None, IsTrue, IsFalse, IfOk, IfErr, IfSome, OnOk, Contains};
+ghost use Rattle.std.specs.Prelude.{◌≡◌, ◌↔◌, ◌+◌, ◌<◌, ◌≤◌, ◌++◌, [], ◌∷◌, Some, None, IsTrue, IsFalse, IfOk, IfSome, OnOk, Contains};
 ghost use Rattle.std.proofs.Common.{◌∙◌};
 ghost use Rattle.arrayvec.specs.ArrayVec.{array_vec_len};
 ghost use Rattle.lattice.specs.declared.point.Point.{Point};
@@ -11,7 +11,7 @@ ghost use Rattle.lattice.specs.Ground.{is_ground, terrain};
 ghost use Rattle.flow_d8.specs.Drainage.{AreFilledLevels};
 ghost use Rattle.flow_d8.specs.FlowPath.{IsInWatershed};
 ghost use Rattle.flow_d8.specs.LevelsAround.{OnLevels};
-ghost use Rattle.flow_d8.specs.Asking.{Asks};
+ghost use Rattle.flow_d8.specs.Asking.{Asks, IsAsked};
 ghost use Rattle.flow_d8.specs.Flats.{AreFlatsOf};
 ghost use Rattle.watershed.specs.Runs.{AreRuns};
 ghost use Rattle.flow_d8.specs.Feeders.{IsFeeder};
@@ -42,10 +42,7 @@ pub fn watershed_at<S, L: FilledLevels<S>>(
     requires { L.fits levels.old source.old }
     ensures runs { L.is_honest levels.new source.new → IfOk result (λ runs. OnLevels (L.mosaic levels.old source.old) (λ level. AreRuns (IsInWatershed (terrain (L.mosaic levels.old source.old)) level point) runs.items)) }
     ensures elsewhere { L.is_honest levels.new source.new → IfOk result (λ runs. IsFalse (is_ground (L.mosaic levels.old source.old) point) → runs.items ≡ []) }
-    ensures refusal { IfErr result (L.refuses levels.old source.old levels.new source.new) }
-    ensures asks { Asks L.FilledLevels levels.old source.old levels.new source.new }
-    ensures keeps { OnOk result (L.keeps levels.old source.old levels.new source.new) }
-    ensures fits { L.fits levels.new source.new }
+    ensures asked { IsAsked L.FilledLevels levels.old source.old levels.new source.new result }
 {
     if let Some(directions) = levels.directions(source) {
         return watershed(alloc, directions, point);
@@ -67,10 +64,7 @@ fn wide_watershed<S, L: FilledLevels<S>>(
     requires { L.fits levels.old source.old }
     ensures runs { L.is_honest levels.new source.new → IfOk result (λ runs. OnLevels (L.mosaic levels.old source.old) (λ level. AreRuns (IsInWatershed (terrain (L.mosaic levels.old source.old)) level point) runs.items)) }
     ensures elsewhere { L.is_honest levels.new source.new → IfOk result (λ runs. IsFalse (is_ground (L.mosaic levels.old source.old) point) → runs.items ≡ []) }
-    ensures refusal { IfErr result (L.refuses levels.old source.old levels.new source.new) }
-    ensures asks { Asks L.FilledLevels levels.old source.old levels.new source.new }
-    ensures keeps { OnOk result (L.keeps levels.old source.old levels.new source.new) }
-    ensures fits { L.fits levels.new source.new }
+    ensures asked { IsAsked L.FilledLevels levels.old source.old levels.new source.new result }
 {
     levels.learn_all(alloc, source)?;
     match by_points(alloc, levels, source, point, usize::MAX)? {
@@ -90,10 +84,7 @@ fn by_points<S, L: FilledLevels<S>>(
     requires { L.fits levels.old source.old }
     ensures runs { L.is_honest levels.new source.new → IfOk result (λ found. IfSome found (λ runs. OnLevels (L.mosaic levels.old source.old) (λ level. AreRuns (IsInWatershed (terrain (L.mosaic levels.old source.old)) level point) runs.items))) }
     ensures elsewhere { L.is_honest levels.new source.new → IfOk result (λ found. IfSome found (λ runs. IsFalse (is_ground (L.mosaic levels.old source.old) point) → runs.items ≡ [])) }
-    ensures refusal { IfErr result (L.refuses levels.old source.old levels.new source.new) }
-    ensures asks { Asks L.FilledLevels levels.old source.old levels.new source.new }
-    ensures keeps { OnOk result (L.keeps levels.old source.old levels.new source.new) }
-    ensures fits { L.fits levels.new source.new }
+    ensures asked { IsAsked L.FilledLevels levels.old source.old levels.new source.new result }
 {
     let mut flats = Flats::new(alloc);
     let mut asked = Asked {
@@ -156,10 +147,7 @@ fn feeders<S, L: FilledLevels<S>>(
     requires flats { AreFlatsOf L.FilledLevels levels.old source.old flats.old }
     ensures feeders { L.is_honest levels.new source.new → IfOk result (λ found. OnLevels (L.mosaic levels.old source.old) (λ level. (x : Point) → Contains found.items x ↔ IsFeeder (terrain (L.mosaic levels.old source.old)) level x point)) }
     ensures flats { OnOk result (AreFlatsOf L.FilledLevels levels.new source.new flats.new) }
-    ensures refusal { IfErr result (L.refuses levels.old source.old levels.new source.new) }
-    ensures asks { Asks L.FilledLevels levels.old source.old levels.new source.new }
-    ensures keeps { OnOk result (L.keeps levels.old source.old levels.new source.new) }
-    ensures fits { L.fits levels.new source.new }
+    ensures asked { IsAsked L.FilledLevels levels.old source.old levels.new source.new result }
 {
     if let Some(found) = levels.feeders(source, point) {
         return Ok(found);
@@ -179,10 +167,7 @@ fn feeders_around<S, L: FilledLevels<S>>(
     requires flats { AreFlatsOf L.FilledLevels levels.old source.old flats.old }
     ensures feeders { L.is_honest levels.new source.new → IfOk result (λ found. OnLevels (L.mosaic levels.old source.old) (λ level. (x : Point) → Contains found.items x ↔ IsFeeder (terrain (L.mosaic levels.old source.old)) level x point)) }
     ensures flats { OnOk result (AreFlatsOf L.FilledLevels levels.new source.new flats.new) }
-    ensures refusal { IfErr result (L.refuses levels.old source.old levels.new source.new) }
-    ensures asks { Asks L.FilledLevels levels.old source.old levels.new source.new }
-    ensures keeps { OnOk result (L.keeps levels.old source.old levels.new source.new) }
-    ensures fits { L.fits levels.new source.new }
+    ensures asked { IsAsked L.FilledLevels levels.old source.old levels.new source.new result }
 {
     let mut found = ArrayVec::new();
     for i in 0..8 {
@@ -215,10 +200,7 @@ fn add_feeder<S, L: FilledLevels<S>>(
     ensures feeder { L.is_honest levels.new source.new → OnOk result (OnLevels (L.mosaic levels.old source.old) (λ level. IsFeederAdded (IsFeeder (terrain (L.mosaic levels.old source.old)) level) point direction found.old.items found.new.items)) }
     ensures room { array_vec_len found.new ≤ array_vec_len found.old + 1 }
     ensures flats { OnOk result (AreFlatsOf L.FilledLevels levels.new source.new flats.new) }
-    ensures refusal { IfErr result (L.refuses levels.old source.old levels.new source.new) }
-    ensures asks { Asks L.FilledLevels levels.old source.old levels.new source.new }
-    ensures keeps { OnOk result (L.keeps levels.old source.old levels.new source.new) }
-    ensures fits { L.fits levels.new source.new }
+    ensures asked { IsAsked L.FilledLevels levels.old source.old levels.new source.new result }
 {
     let Some(from) = neighbour(point, direction) else {
         return Ok(());

@@ -22,7 +22,7 @@ watershed_at-requires g c =
 pub returns-clause-runs : goal.returns-clause-runs
 returns-clause-runs g c honest =
     let checked = c.in_ok-check_ground.ensures in
-    let mid = c.watershed_at.ensures.asks.honest honest in
+    let mid = c.watershed_at.ensures.asked.asks.honest honest in
     let loaded = subst (λ (m : Mosaic). IfOk c.watershed_at.result (λ runs. OnLevels m (λ level. AreRuns (IsInWatershed (terrain m) level c.args.point) runs.items))) (checked.asked.reads.mosaic mid) (c.watershed_at.ensures.runs honest) in
     loaded
 
@@ -31,4 +31,4 @@ returns-clause-asked g c =
     let a = c.args.samples.now in
     let b = c.check_ground.new.samples in
     let d = c.watershed_at.new.source in
-    asked_then g.S.Samples g.met.S.Samples.keeps_on a b d tt c.watershed_at.result c.in_ok-check_ground.ensures.asked (asked_by g.S.Samples b d c.watershed_at.result c.watershed_at.ensures.keeps c.watershed_at.ensures.refusal)
+    asked_then g.S.Samples g.met.S.Samples.keeps_on a b d tt c.watershed_at.result c.in_ok-check_ground.ensures.asked (asked_by g.S.Samples b d c.watershed_at.result c.watershed_at.ensures.asked.keeps c.watershed_at.ensures.asked.refusal)

@@ -25,13 +25,13 @@ returns-in_err-direction-clause-asked g c =
     let r = c.in_err-direction.field-0.0 in
     let p = err_from_is_err_and c.from_residual-in_err-direction.result c.from_residual-in_err-direction.ensures.1 in
     refused_by g.S.Samples a d c.from_residual-in_err-direction.result p.0 r p.1 p.2
-    (asked_passed g.S.Samples a d r (asked_then g.S.Samples g.met.S.Samples.keeps_on a b d tt (Err r) c.in_ok-check_ground.ensures.asked c.in_err-direction.ensures.refusal.asked))
+    (asked_passed g.S.Samples a d r (asked_then g.S.Samples g.met.S.Samples.keeps_on a b d tt (Err r) c.in_ok-check_ground.ensures.asked c.in_err-direction.ensures.asked.refusal.asked))
 
 pub returns-clause-direction : goal.returns-clause-direction
 returns-clause-direction g c honest level filled =
     let checked = c.in_ok-check_ground.ensures in
     let found = c.in_ok-direction.direction in
-    let mid = c.in_ok-direction.ensures.asks.honest honest in
+    let mid = c.in_ok-direction.ensures.asked.asks.honest honest in
     let loaded = subst (λ (m : Mosaic). IsWay m c.args.point found) (checked.asked.reads.mosaic mid) (c.in_ok-direction.ensures.way honest) in
     (found, (loaded.drains (checked.on_ground mid refl) level filled, c.code.ensures))
 
@@ -40,4 +40,4 @@ returns-clause-asked g c =
     let a = c.args.samples.now in
     let b = c.check_ground.new.samples in
     let d = c.direction_at.new.source in
-    asked_then g.S.Samples g.met.S.Samples.keeps_on a b d tt _ c.in_ok-check_ground.ensures.asked (answered g.S.Samples b d _ c.in_ok-direction.ensures.keeps)
+    asked_then g.S.Samples g.met.S.Samples.keeps_on a b d tt _ c.in_ok-check_ground.ensures.asked (answered g.S.Samples b d _ c.in_ok-direction.ensures.asked.keeps)

@@ -22,7 +22,7 @@ trace-requires g c =
 pub returns-clause-path : goal.returns-clause-path
 returns-clause-path g c honest =
     let checked = c.in_ok-check_ground.ensures in
-    let mid = c.trace.ensures.asks.honest honest in
+    let mid = c.trace.ensures.asked.asks.honest honest in
     let loaded = subst (λ (m : Mosaic). IfOk c.trace.result (λ path. IsTrue (is_ground m c.args.point) → OnLevels m (λ level. IsFlowPath (terrain m) level c.args.point path.items))) (checked.asked.reads.mosaic mid)
     (c.trace.ensures.path honest) in
     IfOk-weaker c.trace.result _ _ (λ path traced level filled. traced (checked.on_ground mid refl) level filled) loaded
@@ -32,4 +32,4 @@ returns-clause-asked g c =
     let a = c.args.samples.now in
     let b = c.check_ground.new.samples in
     let d = c.trace.new.source in
-    asked_then g.S.Samples g.met.S.Samples.keeps_on a b d tt c.trace.result c.in_ok-check_ground.ensures.asked (asked_by g.S.Samples b d c.trace.result c.trace.ensures.keeps c.trace.ensures.refusal)
+    asked_then g.S.Samples g.met.S.Samples.keeps_on a b d tt c.trace.result c.in_ok-check_ground.ensures.asked (asked_by g.S.Samples b d c.trace.result c.trace.ensures.asked.keeps c.trace.ensures.asked.refusal)

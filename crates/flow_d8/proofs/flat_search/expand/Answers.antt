@@ -13,7 +13,7 @@ use Rattle.flow_d8.proofs.flat_search.expand.Goals as goal
 pub returns-then-drains_at_once-clause-end : goal.returns-then-drains_at_once-clause-end
 returns-then-drains_at_once-clause-end g c honest _ level filled x here s =
     let m = g.L.FilledLevels.mosaic c.args.levels.now c.args.source.now in
-    let asks = c.in_ok-around.ensures.asks in
+    let asks = c.in_ok-around.ensures.asked.asks in
     let is = g.met.L.FilledLevels.is_mosaic c.args.levels.now c.args.source.now (asks.honest honest) in
     let node = c.index-node.result.now in
     let old = c.args.nodes.now.items in
@@ -30,7 +30,7 @@ returns-then-drains_at_once-clause-end g c honest _ level filled x here s =
 pub returns-clause-on : goal.returns-clause-on
 returns-clause-on g c honest _ level filled x here s =
     let m = g.L.FilledLevels.mosaic c.args.levels.now c.args.source.now in
-    let asks = c.in_ok-around.ensures.asks in
+    let asks = c.in_ok-around.ensures.asked.asks in
     let is = g.met.L.FilledLevels.is_mosaic c.args.levels.now c.args.source.now (asks.honest honest) in
     let node = c.index-node.result.now in
     let old = c.args.nodes.now.items in
@@ -48,7 +48,7 @@ returns-clause-on g c honest _ level filled x here s =
 pub returns-then-drains_at_once-clause-expanded : goal.returns-then-drains_at_once-clause-expanded
 returns-then-drains_at_once-clause-expanded g c honest solid_there level filled here =
     let m = g.L.FilledLevels.mosaic c.args.levels.now c.args.source.now in
-    let asks = c.in_ok-around.ensures.asks in
+    let asks = c.in_ok-around.ensures.asked.asks in
     let node = c.index-node.result.now in
     let p = point_read c.args.nodes.now.items c.args.head node c.requires.head c.index-node.ensures in
     let height = to_z w16 (of_z w16 c.args.height) in
@@ -62,7 +62,7 @@ returns-then-drains_at_once-clause-expanded g c honest solid_there level filled 
 pub returns-clause-expanded : goal.returns-clause-expanded
 returns-clause-expanded g c honest solid_there level filled here =
     let m = g.L.FilledLevels.mosaic c.args.levels.now c.args.source.now in
-    let asks = c.in_ok-around.ensures.asks in
+    let asks = c.in_ok-around.ensures.asked.asks in
     let is = g.met.L.FilledLevels.is_mosaic c.args.levels.now c.args.source.now (asks.honest honest) in
     let node = c.index-node.result.now in
     let old = c.args.nodes.now.items in

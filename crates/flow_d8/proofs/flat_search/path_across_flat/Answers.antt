@@ -1,8 +1,7 @@
 use Rattle.std.proofs.Common.{rules, SFits, w16, to_z, of_z, ◌≡◌, ◌+◌, ◌<◌, List, length, ⊎_elim, sym, ◌∙◌, subst, arith, true≢false}
 use Rattle.std.proofs.lemmas.Int.{to_z-of_z}
-use Rattle.std.specs.Prelude.{IfErr}
-use Rattle.std.proofs.lemmas.Result.{err_from_is_err_and, IfErr-weaker}
-use Rattle.lattice.specs.declared.refusal.Refusal.TheVariants.{NoMemory}
+use Rattle.std.proofs.lemmas.Result.{err_from_is_err_and}
+use Rattle.lattice.specs.declared.refusal.Refusal.TheVariants.{Damaged}
 use Rattle.lattice.specs.declared.point.Point.{Point}
 use Rattle.lattice.specs.Mosaic.{Mosaic}
 use Rattle.lattice.specs.Ground.{terrain}
@@ -13,7 +12,7 @@ use Rattle.flow_d8.specs.declared.flat_search.Node.{Node}
 use Rattle.flow_d8.specs.LevelsAround.{OnLevels}
 use Rattle.flow_d8.specs.FlowSteps.{FlowsBy}
 use Rattle.flow_d8.specs.FlatSearch.{AreVisited, AreLinked, IsSearched, AreDrained, node_at}
-use Rattle.flow_d8.proofs.Asked.{asks_nothing, asks_on}
+use Rattle.flow_d8.proofs.Asked.{asks_nothing, asks_on, refused, out_of_memory}
 use Rattle.flow_d8.proofs.Reaching.{searched_first}
 use Rattle.flow_d8.proofs.Shortest.{are_drained}
 use Rattle.flow_d8.proofs.Ends.{level_function, some_left}
@@ -40,14 +39,14 @@ nodes-init g c = record {
       (⊎_elim (flat.none_lower level filled) (λ out. true≢false (sym out ∙ flat.enclosed)));
 }
 
-pub returns-in_err-expand-clause-refusal : goal.returns-in_err-expand-clause-refusal
-returns-in_err-expand-clause-refusal g c =
+pub returns-in_err-expand-clause-asked : goal.returns-in_err-expand-clause-asked
+returns-in_err-expand-clause-asked g c =
     let p = err_from_is_err_and c.from_residual-in_err-expand.result c.from_residual-in_err-expand.ensures.1 in
-    rw p.1 (subst (g.L.FilledLevels.refuses c.args.levels.now c.args.source.now c.expand.new.levels c.expand.new.source) (sym p.2)
-    (g.met.L.FilledLevels.refuses_on c.args.levels.now c.nodes.levels c.expand.new.levels c.args.source.now c.nodes.source c.expand.new.source c.in_err-expand.field-0.0 c.nodes.invariant.keeps c.in_err-expand.ensures.refusal))
-
-pub returns-in_err-expand-clause-asks : goal.returns-in_err-expand-clause-asks
-returns-in_err-expand-clause-asks g c = asks_on g.L.FilledLevels c.args.levels.now c.nodes.levels c.expand.new.levels c.args.source.now c.nodes.source c.expand.new.source c.nodes.invariant.asks c.in_err-expand.ensures.asks
+    rw p.1 (refused g.L.FilledLevels c.args.levels.now c.expand.new.levels c.args.source.now c.expand.new.source p.0
+    (asks_on g.L.FilledLevels c.args.levels.now c.nodes.levels c.expand.new.levels c.args.source.now c.nodes.source c.expand.new.source c.nodes.invariant.asks c.in_err-expand.ensures.asked.asks)
+    c.in_err-expand.ensures.asked.fits
+    (subst (g.L.FilledLevels.refuses c.args.levels.now c.args.source.now c.expand.new.levels c.expand.new.source) (sym p.2)
+    (g.met.L.FilledLevels.refuses_on c.args.levels.now c.nodes.levels c.expand.new.levels c.args.source.now c.nodes.source c.expand.new.source c.in_err-expand.field-0.0 c.nodes.invariant.keeps c.in_err-expand.ensures.asked.refusal)))
 
 pub steps_to-requires-clause-head : goal.steps_to-requires-clause-head
 steps_to-requires-clause-head g c =
@@ -63,7 +62,7 @@ returns-then-branch-clause-way g c honest level filled =
     let at = c.args.source.now in
     let m = g.L.FilledLevels.mosaic now at in
     let inv = c.nodes.invariant in
-    let before = c.in_ok-expand.ensures.asks.honest honest in
+    let before = c.in_ok-expand.ensures.asked.asks.honest honest in
     let same = inv.asks.mosaic before in
     let flat = c.requires.flat (inv.asks.honest before) in
     let old = c.nodes.nodes.items in
@@ -83,33 +82,32 @@ returns-then-branch-clause-way g c honest level filled =
     let flows = told drained in
     ((node_at old head).point, subst (λ q. FlowsBy (terrain m) level q steps.items (node_at old head).point) s.first flows)
 
-pub returns-in_err-steps_to-clause-refusal : goal.returns-in_err-steps_to-clause-refusal
-returns-in_err-steps_to-clause-refusal g c =
-    let laws = g.met.L.FilledLevels in
-    let now = c.args.levels.now in
-    let at = c.args.source.now in
-    let memory : IfErr c.from_residual-in_err-steps_to.result (λ r. r ≡ NoMemory) = search rules in
-    let kept = laws.keeps_on now c.nodes.levels c.expand.new.levels at c.nodes.source c.expand.new.source c.nodes.invariant.keeps c.in_ok-expand.ensures.keeps in
-    IfErr-weaker c.from_residual-in_err-steps_to.result _ _
-    (λ r same. subst (g.L.FilledLevels.refuses now at c.expand.new.levels c.expand.new.source) (sym same) (laws.runs_out now c.expand.new.levels at c.expand.new.source kept)) memory
+pub returns-in_err-steps_to-clause-asked : goal.returns-in_err-steps_to-clause-asked
+returns-in_err-steps_to-clause-asked g c =
+    let kept = g.met.L.FilledLevels.keeps_on c.args.levels.now c.nodes.levels c.expand.new.levels c.args.source.now c.nodes.source c.expand.new.source c.nodes.invariant.keeps c.in_ok-expand.ensures.asked.keeps in
+    out_of_memory g.L.FilledLevels c.args.levels.now c.expand.new.levels c.args.source.now c.expand.new.source c.from_residual-in_err-steps_to.result
+    (asks_on g.L.FilledLevels c.args.levels.now c.nodes.levels c.expand.new.levels c.args.source.now c.nodes.source c.expand.new.source c.nodes.invariant.asks c.in_ok-expand.ensures.asked.asks)
+    c.in_ok-expand.ensures.asked.fits kept (g.met.L.FilledLevels.runs_out c.args.levels.now c.expand.new.levels c.args.source.now c.expand.new.source kept) (search rules)
 
-pub returns-then-branch-clause-asks : goal.returns-then-branch-clause-asks
-returns-then-branch-clause-asks g c = asks_on g.L.FilledLevels c.args.levels.now c.nodes.levels c.expand.new.levels c.args.source.now c.nodes.source c.expand.new.source c.nodes.invariant.asks c.in_ok-expand.ensures.asks
-
-pub returns-then-branch-clause-keeps : goal.returns-then-branch-clause-keeps
-returns-then-branch-clause-keeps g c = g.met.L.FilledLevels.keeps_on c.args.levels.now c.nodes.levels c.expand.new.levels c.args.source.now c.nodes.source c.expand.new.source c.nodes.invariant.keeps c.in_ok-expand.ensures.keeps
+pub returns-then-branch-clause-asked : goal.returns-then-branch-clause-asked
+returns-then-branch-clause-asked g c = record {
+  asks = asks_on g.L.FilledLevels c.args.levels.now c.nodes.levels c.expand.new.levels c.args.source.now c.nodes.source c.expand.new.source c.nodes.invariant.asks c.in_ok-expand.ensures.asked.asks;
+  fits = c.in_ok-expand.ensures.asked.fits;
+  keeps = g.met.L.FilledLevels.keeps_on c.args.levels.now c.nodes.levels c.expand.new.levels c.args.source.now c.nodes.source c.expand.new.source c.nodes.invariant.keeps c.in_ok-expand.ensures.asked.keeps;
+  refusal = tt;
+}
 
 pub nodes-preserved : goal.nodes-preserved
 nodes-preserved g c =
     let inv = c.nodes.invariant in
     record {
-      asks = asks_on g.L.FilledLevels c.args.levels.now c.nodes.levels c.expand.new.levels c.args.source.now c.nodes.source c.expand.new.source inv.asks c.in_ok-expand.ensures.asks;
-      keeps = g.met.L.FilledLevels.keeps_on c.args.levels.now c.nodes.levels c.expand.new.levels c.args.source.now c.nodes.source c.expand.new.source inv.keeps c.in_ok-expand.ensures.keeps;
-      fits = c.in_ok-expand.ensures.fits;
+      asks = asks_on g.L.FilledLevels c.args.levels.now c.nodes.levels c.expand.new.levels c.args.source.now c.nodes.source c.expand.new.source c.nodes.invariant.asks c.in_ok-expand.ensures.asked.asks;
+      keeps = g.met.L.FilledLevels.keeps_on c.args.levels.now c.nodes.levels c.expand.new.levels c.args.source.now c.nodes.source c.expand.new.source c.nodes.invariant.keeps c.in_ok-expand.ensures.asked.keeps;
+      fits = c.in_ok-expand.ensures.asked.fits;
       reached = c.in_ok-expand.ensures.reached;
       on = omega arith;
       searched = λ honest level filled.
-          let before = c.in_ok-expand.ensures.asks.honest honest in
+          let before = c.in_ok-expand.ensures.asked.asks.honest honest in
           let flat = c.requires.flat (inv.asks.honest before) in
           let old = c.nodes.nodes.items in
           let head = c.nodes.head in
@@ -119,8 +117,8 @@ nodes-preserved g c =
           (c.in_ok-expand.ensures.on honest c.if-branch.false) level filled c.args.point (flat.here level filled ∙ sym (to_z-of_z w16 c.args.height fits)) (inv.searched before level filled);
     }
 
-pub returns-clause-refusal : goal.returns-clause-refusal
-returns-clause-refusal g c = g.met.L.FilledLevels.finds_out c.args.levels.now c.nodes.levels c.args.source.now c.nodes.source c.nodes.invariant.keeps (λ honest.
+pub returns-clause-asked : goal.returns-clause-asked
+returns-clause-asked g c = refused g.L.FilledLevels c.args.levels.now c.nodes.levels c.args.source.now c.nodes.source Damaged c.nodes.invariant.asks c.nodes.invariant.fits (g.met.L.FilledLevels.finds_out c.args.levels.now c.nodes.levels c.args.source.now c.nodes.source c.nodes.invariant.keeps (λ honest.
     let inv = c.nodes.invariant in
     let now = c.args.levels.now in
     let at = c.args.source.now in
@@ -130,4 +128,4 @@ returns-clause-refusal g c = g.met.L.FilledLevels.finds_out c.args.levels.now c.
     let flat = c.requires.flat first in
     let by = level_function m is in
     some_left m is by.0 c.args.point c.args.height (flat.here by.0 by.1) c.nodes.nodes.items c.nodes.head (inv.searched honest by.0 by.1) by.1
-    (let test = c.nodes-test.false in omega (arith, c.len.ensures)))
+    (let test = c.nodes-test.false in omega (arith, c.len.ensures))))

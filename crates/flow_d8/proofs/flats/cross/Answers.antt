@@ -16,14 +16,14 @@ find-requires-clause-flat g c honest level filled =
 pub returns-clause-found : goal.returns-clause-found
 returns-clause-found g c honest _ =
     let all = subst (λ f. IfSome f (λ ends. OnLevels (g.L.FilledLevels.mosaic c.find.new.levels c.find.new.source) (λ level. IsMeasuring (terrain (g.L.FilledLevels.mosaic c.find.new.levels c.find.new.source)) level c.args.point c.find.new.flats ends.items 0))) c.in-Some.is
-    (subst (λ (n : Mosaic). IfSome c.in_ok-ends.field-0 (λ ends. OnLevels n (λ level. IsMeasuring (terrain n) level c.args.point c.find.new.flats ends.items 0))) (sym (c.in_ok-ends.ensures.asks.mosaic honest)) (c.in_ok-ends.ensures.found honest)) in
+    (subst (λ (n : Mosaic). IfSome c.in_ok-ends.field-0 (λ ends. OnLevels n (λ level. IsMeasuring (terrain n) level c.args.point c.find.new.flats ends.items 0))) (sym (c.in_ok-ends.ensures.asked.asks.mosaic honest)) (c.in_ok-ends.ensures.found honest)) in
     let by = level_function (g.L.FilledLevels.mosaic c.find.new.levels c.find.new.source) (g.met.L.FilledLevels.is_mosaic c.find.new.levels c.find.new.source honest) in
     (c.in_ok-measure.ensures honest by.0 by.1 c.args.point (all by.0 by.1)).1
 
 pub returns-clause-flats : goal.returns-clause-flats
 returns-clause-flats g c honest level filled =
     let all = subst (λ f. IfSome f (λ ends. OnLevels (g.L.FilledLevels.mosaic c.find.new.levels c.find.new.source) (λ level. IsMeasuring (terrain (g.L.FilledLevels.mosaic c.find.new.levels c.find.new.source)) level c.args.point c.find.new.flats ends.items 0))) c.in-Some.is
-    (subst (λ (n : Mosaic). IfSome c.in_ok-ends.field-0 (λ ends. OnLevels n (λ level. IsMeasuring (terrain n) level c.args.point c.find.new.flats ends.items 0))) (sym (c.in_ok-ends.ensures.asks.mosaic honest)) (c.in_ok-ends.ensures.found honest)) in
+    (subst (λ (n : Mosaic). IfSome c.in_ok-ends.field-0 (λ ends. OnLevels n (λ level. IsMeasuring (terrain n) level c.args.point c.find.new.flats ends.items 0))) (sym (c.in_ok-ends.ensures.asked.asks.mosaic honest)) (c.in_ok-ends.ensures.found honest)) in
     (c.in_ok-measure.ensures honest level filled c.args.point (all level filled)).0
 
 pub returns-in_default-clause-flats : goal.returns-in_default-clause-flats

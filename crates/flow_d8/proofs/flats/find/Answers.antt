@@ -1,9 +1,7 @@
 use Rattle.std.proofs.Common.{rules, SFits, w16, to_z, of_z, ◌≡◌, ◌+◌, ◌<◌, ◌≤◌, IsTrue, None, List, [], ◌∷◌, ◌++◌, length, sym, ap, ◌∙◌, subst, arith}
 use Rattle.std.proofs.lemmas.Grind.{common_steps}
 use Rattle.std.proofs.lemmas.Int.{to_z-of_z}
-use Rattle.std.specs.Prelude.{IfErr}
-use Rattle.std.proofs.lemmas.Result.{err_from_is_err_and, IfErr-weaker}
-use Rattle.lattice.specs.declared.refusal.Refusal.TheVariants.{NoMemory}
+use Rattle.std.proofs.lemmas.Result.{err_from_is_err_and}
 use Rattle.lattice.specs.declared.point.Point.{Point}
 use Rattle.lattice.specs.Mosaic.{Mosaic}
 use Rattle.lattice.specs.Ground.{is_ground, terrain}
@@ -12,7 +10,7 @@ use Rattle.flow_d8.specs.FlatSearch.{node_at}
 use Rattle.flow_d8.specs.Flats.{IsSet, IsExpanded, IsFinding}
 use Rattle.flow_d8.proofs.MosaicGrid.{mosaic_is_grid}
 use Rattle.flow_d8.specs.LevelsAround.{OnLevels}
-use Rattle.flow_d8.proofs.Asked.{asks_nothing, asks_on}
+use Rattle.flow_d8.proofs.Asked.{asks_nothing, asks_on, refused, out_of_memory}
 use Rattle.flow_d8.proofs.FlatsSearched.{finding_begun, end_found, inside_found, all_found}
 use Rattle.flow_d8.proofs.flats.find.Goals as goal
 use Rattle.flow_d8.proofs.flats.find.Goals.{then-branch+in_ok-lengthen, else-branch+in_ok-set}
@@ -30,42 +28,39 @@ nodes-init g c = record {
       (c.requires.flats honest level filled) first.0 first.1.1 c.start.new.nodes.items first.1.0);
 }
 
-pub returns-in_err-expand-clause-refusal : goal.returns-in_err-expand-clause-refusal
-returns-in_err-expand-clause-refusal g c =
+pub returns-in_err-expand-clause-asked : goal.returns-in_err-expand-clause-asked
+returns-in_err-expand-clause-asked g c =
     let p = err_from_is_err_and c.from_residual-in_err-expand.result c.from_residual-in_err-expand.ensures.1 in
-    rw p.1 (subst (g.L.FilledLevels.refuses c.args.levels.now c.args.source.now c.expand.new.levels c.expand.new.source) (sym p.2)
-    (g.met.L.FilledLevels.refuses_on c.args.levels.now c.nodes.levels c.expand.new.levels c.args.source.now c.nodes.source c.expand.new.source c.in_err-expand.field-0.0 c.nodes.invariant.keeps c.in_err-expand.ensures.refusal))
+    rw p.1 (refused g.L.FilledLevels c.args.levels.now c.expand.new.levels c.args.source.now c.expand.new.source p.0
+    (asks_on g.L.FilledLevels c.args.levels.now c.nodes.levels c.expand.new.levels c.args.source.now c.nodes.source c.expand.new.source c.nodes.invariant.asks c.in_err-expand.ensures.asked.asks)
+    c.in_err-expand.ensures.asked.fits
+    (subst (g.L.FilledLevels.refuses c.args.levels.now c.args.source.now c.expand.new.levels c.expand.new.source) (sym p.2)
+    (g.met.L.FilledLevels.refuses_on c.args.levels.now c.nodes.levels c.expand.new.levels c.args.source.now c.nodes.source c.expand.new.source c.in_err-expand.field-0.0 c.nodes.invariant.keeps c.in_err-expand.ensures.asked.refusal)))
 
-pub returns-in_err-lengthen-clause-refusal : goal.returns-in_err-lengthen-clause-refusal
-returns-in_err-lengthen-clause-refusal g c =
-    let laws = g.met.L.FilledLevels in
-    let now = c.args.levels.now in
-    let at = c.args.source.now in
-    let memory : IfErr c.from_residual-in_err-lengthen.result (λ r. r ≡ NoMemory) = search rules in
-    let kept = laws.keeps_on now c.nodes.levels c.expand.new.levels at c.nodes.source c.expand.new.source c.nodes.invariant.keeps c.in_ok-expand.ensures.keeps in
-    IfErr-weaker c.from_residual-in_err-lengthen.result _ _
-    (λ r same. subst (g.L.FilledLevels.refuses now at c.expand.new.levels c.expand.new.source) (sym same) (laws.runs_out now c.expand.new.levels at c.expand.new.source kept)) memory
+pub returns-in_err-lengthen-clause-asked : goal.returns-in_err-lengthen-clause-asked
+returns-in_err-lengthen-clause-asked g c =
+    let kept = g.met.L.FilledLevels.keeps_on c.args.levels.now c.nodes.levels c.expand.new.levels c.args.source.now c.nodes.source c.expand.new.source c.nodes.invariant.keeps c.in_ok-expand.ensures.asked.keeps in
+    out_of_memory g.L.FilledLevels c.args.levels.now c.expand.new.levels c.args.source.now c.expand.new.source c.from_residual-in_err-lengthen.result
+    (asks_on g.L.FilledLevels c.args.levels.now c.nodes.levels c.expand.new.levels c.args.source.now c.nodes.source c.expand.new.source c.nodes.invariant.asks c.in_ok-expand.ensures.asked.asks)
+    c.in_ok-expand.ensures.asked.fits kept (g.met.L.FilledLevels.runs_out c.args.levels.now c.expand.new.levels c.args.source.now c.expand.new.source kept) (search rules)
 
-pub returns-in_err-set-clause-refusal : goal.returns-in_err-set-clause-refusal
-returns-in_err-set-clause-refusal g c =
-    let laws = g.met.L.FilledLevels in
-    let now = c.args.levels.now in
-    let at = c.args.source.now in
-    let memory : IfErr c.from_residual-in_err-set.result (λ r. r ≡ NoMemory) = search rules in
-    let kept = laws.keeps_on now c.nodes.levels c.expand.new.levels at c.nodes.source c.expand.new.source c.nodes.invariant.keeps c.in_ok-expand.ensures.keeps in
-    IfErr-weaker c.from_residual-in_err-set.result _ _
-    (λ r same. subst (g.L.FilledLevels.refuses now at c.expand.new.levels c.expand.new.source) (sym same) (laws.runs_out now c.expand.new.levels at c.expand.new.source kept)) memory
+pub returns-in_err-set-clause-asked : goal.returns-in_err-set-clause-asked
+returns-in_err-set-clause-asked g c =
+    let kept = g.met.L.FilledLevels.keeps_on c.args.levels.now c.nodes.levels c.expand.new.levels c.args.source.now c.nodes.source c.expand.new.source c.nodes.invariant.keeps c.in_ok-expand.ensures.asked.keeps in
+    out_of_memory g.L.FilledLevels c.args.levels.now c.expand.new.levels c.args.source.now c.expand.new.source c.from_residual-in_err-set.result
+    (asks_on g.L.FilledLevels c.args.levels.now c.nodes.levels c.expand.new.levels c.args.source.now c.nodes.source c.expand.new.source c.nodes.invariant.asks c.in_ok-expand.ensures.asked.asks)
+    c.in_ok-expand.ensures.asked.fits kept (g.met.L.FilledLevels.runs_out c.args.levels.now c.expand.new.levels c.args.source.now c.expand.new.source kept) (search rules)
 
 pub nodes-preserved : goal.nodes-preserved
 nodes-preserved g c =
     let inv = c.nodes.invariant in
     record {
-      asks = asks_on g.L.FilledLevels c.args.levels.now c.nodes.levels c.expand.new.levels c.args.source.now c.nodes.source c.expand.new.source inv.asks c.in_ok-expand.ensures.asks;
-      keeps = g.met.L.FilledLevels.keeps_on c.args.levels.now c.nodes.levels c.expand.new.levels c.args.source.now c.nodes.source c.expand.new.source inv.keeps c.in_ok-expand.ensures.keeps;
-      fits = c.in_ok-expand.ensures.fits;
+      asks = asks_on g.L.FilledLevels c.args.levels.now c.nodes.levels c.expand.new.levels c.args.source.now c.nodes.source c.expand.new.source c.nodes.invariant.asks c.in_ok-expand.ensures.asked.asks;
+      keeps = g.met.L.FilledLevels.keeps_on c.args.levels.now c.nodes.levels c.expand.new.levels c.args.source.now c.nodes.source c.expand.new.source c.nodes.invariant.keeps c.in_ok-expand.ensures.asked.keeps;
+      fits = c.in_ok-expand.ensures.asked.fits;
       reached = c.in_ok-expand.ensures.reached;
       finding = λ honest level filled.
-          let before = c.in_ok-expand.ensures.asks.honest honest in
+          let before = c.in_ok-expand.ensures.asked.asks.honest honest in
           let m = g.L.FilledLevels.mosaic c.args.levels.now c.args.source.now in
           let is = g.met.L.FilledLevels.is_mosaic c.args.levels.now c.args.source.now (inv.asks.honest before) in
           let old = c.nodes.nodes.items in

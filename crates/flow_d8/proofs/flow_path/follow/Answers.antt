@@ -31,14 +31,14 @@ pub steps-preserved : goal.steps-preserved
 steps-preserved g c =
     let inv = c.steps.invariant in
     record {
-      asks = asks_on g.L.FilledLevels c.args.levels.now c.steps.levels c.next.new.levels c.args.source.now c.steps.source c.next.new.source inv.asks c.in_ok-to.ensures.asks;
-      keeps = g.met.L.FilledLevels.keeps_on c.args.levels.now c.steps.levels c.next.new.levels c.args.source.now c.steps.source c.next.new.source inv.keeps c.in_ok-to.ensures.keeps;
-      fits = c.in_ok-to.ensures.fits;
+      asks = asks_on g.L.FilledLevels c.args.levels.now c.steps.levels c.next.new.levels c.args.source.now c.steps.source c.next.new.source inv.asks c.in_ok-to.ensures.asked.asks;
+      keeps = g.met.L.FilledLevels.keeps_on c.args.levels.now c.steps.levels c.next.new.levels c.args.source.now c.steps.source c.next.new.source inv.keeps c.in_ok-to.ensures.asked.keeps;
+      fits = c.in_ok-to.ensures.asked.fits;
       followed = λ honest solid level filled.
           let now = c.args.levels.now in
           let at = c.args.source.now in
           let m = g.L.FilledLevels.mosaic now at in
-          let before = c.in_ok-to.ensures.asks.honest honest in
+          let before = c.in_ok-to.ensures.asked.asks.honest honest in
           let is = g.met.L.FilledLevels.is_mosaic now at (inv.asks.honest before) in
           let so_far = inv.followed before solid level filled in
           let next = subst (λ (n : Mosaic). IsTrue (is_ground n c.steps.last) → OnLevels n (λ level. FlowsOn (terrain n) level c.steps.last c.steps.steps.items → IsNext (terrain n) level c.steps.last c.in_ok-to.field-0)) (inv.asks.mosaic before)
@@ -49,7 +49,7 @@ steps-preserved g c =
           let now = c.args.levels.now in
           let at = c.args.source.now in
           let m = g.L.FilledLevels.mosaic now at in
-          let before = c.in_ok-to.ensures.asks.honest honest in
+          let before = c.in_ok-to.ensures.asked.asks.honest honest in
           let so_far = inv.followed before solid level filled in
           let rest = subst (λ (n : Mosaic). IsTrue (is_ground n c.steps.last) → OnLevels n (λ level. FlowsOn (terrain n) level c.steps.last c.steps.steps.items → IfSome c.in_ok-to.field-0 (λ to. FlowsOn (terrain n) level to c.next.new.steps.items)))
           (inv.asks.mosaic before) (c.in_ok-to.ensures.steps honest) so_far.solid level filled (inv.leads_on before solid level filled) in
@@ -62,7 +62,7 @@ returns-clause-path g c honest solid level filled =
     let at = c.args.source.now in
     let m = g.L.FilledLevels.mosaic now at in
     let inv = c.steps.invariant in
-    let before = c.in_ok-to.ensures.asks.honest honest in
+    let before = c.in_ok-to.ensures.asked.asks.honest honest in
     let is = g.met.L.FilledLevels.is_mosaic now at (inv.asks.honest before) in
     let so_far = inv.followed before solid level filled in
     let next = subst (λ (n : Mosaic). IsTrue (is_ground n c.steps.last) → OnLevels n (λ level. FlowsOn (terrain n) level c.steps.last c.steps.steps.items → IsNext (terrain n) level c.steps.last c.in_ok-to.field-0)) (inv.asks.mosaic before)

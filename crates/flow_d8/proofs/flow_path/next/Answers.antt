@@ -12,7 +12,7 @@ returns-clause-next g c honest solid level filled flows =
     let now = c.args.levels.now in
     let at = c.args.source.now in
     let m = g.L.FilledLevels.mosaic now at in
-    let is = g.met.L.FilledLevels.is_mosaic now at (c.in_ok-have_steps.ensures.asks.honest honest) in
+    let is = g.met.L.FilledLevels.is_mosaic now at (c.in_ok-have_steps.ensures.asked.asks.honest honest) in
     let are = c.in_ok-have_steps.ensures.steps honest solid level filled flows in
     let first = first_is (terrain m) level c.args.point c.have_steps.new.steps.items c.pop.new.self.items c.pop.result c.pop.ensures.items (none_when c.pop.result _ _ _ c.pop.ensures.cases c.have_steps.new.steps.ok.0) are in
     next_is (terrain m) (mosaic_is_grid m is) level (ground_fits m is) c.args.point c.in-Some.direction (subst (λ f. IsDirection (terrain m) level c.args.point f) c.in-Some.is first) c.neighbour.result c.neighbour.ensures

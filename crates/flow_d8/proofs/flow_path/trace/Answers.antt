@@ -11,12 +11,12 @@ use Rattle.flow_d8.proofs.flow_path.trace.Goals as goal
 pub returns-clause-path : goal.returns-clause-path
 returns-clause-path g c honest =
     subst (λ (n : Mosaic). IfOk c.follow.result (λ path. IsTrue (is_ground n c.args.point) → OnLevels n (λ level. IsFlowPath (terrain n) level c.args.point path.items)))
-    (c.level.ensures.mosaic (c.follow.ensures.asks.honest honest)) (c.follow.ensures.path honest)
+    (c.level.ensures.mosaic (c.follow.ensures.asked.asks.honest honest)) (c.follow.ensures.path honest)
 
 pub returns-clause-elsewhere : goal.returns-clause-elsewhere
 returns-clause-elsewhere g c honest =
     let m = g.L.FilledLevels.mosaic c.args.levels.now c.args.source.now in
-    let there = c.in_ok-level.ensures.level (c.follow.ensures.asks.honest honest) in
+    let there = c.in_ok-level.ensures.level (c.follow.ensures.asked.asks.honest honest) in
     let some : is_some c.in_ok-level.field-0 ≡ true = c.is_none.ensures ∙ ap not c.if-is_none.false in
     let solid = found_ground m c.args.point c.in_ok-level.field-0 some there in
     on_ok _ (λ path. IsFalse (is_ground m c.args.point) → path.items ≡ []) c.follow.result (λ path _ none. absurd (true≢false (sym solid ∙ none))) (c.follow.ensures.path honest)

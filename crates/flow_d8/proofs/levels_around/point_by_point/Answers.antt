@@ -18,12 +18,12 @@ loop-i-preserved g c =
     let inv = c.loop-i.invariant in
     let within : i < length found = let small = c.loop-i-test.true in let eight = inv.eight in omega arith in
     record {
-      asks = asks_on g.L.FilledLevels c.args.levels.now c.loop-i.levels c.beside.new.levels c.args.source.now c.loop-i.source c.beside.new.source inv.asks c.in_ok-found.ensures.asks;
-      keeps = g.met.L.FilledLevels.keeps_on c.args.levels.now c.loop-i.levels c.beside.new.levels c.args.source.now c.loop-i.source c.beside.new.source inv.keeps c.in_ok-found.ensures.keeps;
-      fits = c.in_ok-found.ensures.fits;
+      asks = asks_on g.L.FilledLevels c.args.levels.now c.loop-i.levels c.beside.new.levels c.args.source.now c.loop-i.source c.beside.new.source inv.asks c.in_ok-found.ensures.asked.asks;
+      keeps = g.met.L.FilledLevels.keeps_on c.args.levels.now c.loop-i.levels c.beside.new.levels c.args.source.now c.loop-i.source c.beside.new.source inv.keeps c.in_ok-found.ensures.asked.keeps;
+      fits = c.in_ok-found.ensures.asked.fits;
       eight = length-set found i v ∙ inv.eight;
       found = λ honest solid level filled d below.
-          let before = c.in_ok-found.ensures.asks.honest honest in
+          let before = c.in_ok-found.ensures.asked.asks.honest honest in
           let m = g.L.FilledLevels.mosaic c.args.levels.now c.args.source.now in
           let same = inv.asks.mosaic before in
           elim (cases_eq (order_of d) i) [

@@ -24,8 +24,8 @@ pub returns-in-Inside-clause-steps : goal.returns-in-Inside-clause-steps
 returns-in-Inside-clause-steps g c honest =
     let m = g.L.FilledLevels.mosaic c.args.levels.now c.args.source.now in
     let p = c.args.point in
-    let before = c.path_across_flat.ensures.asks.honest honest in
-    let same = c.in_ok-direction.ensures.asks.mosaic before in
+    let before = c.path_across_flat.ensures.asked.asks.honest honest in
+    let same = c.in_ok-direction.ensures.asked.asks.mosaic before in
     let flat = subst (IsPointFlow m p) c.in-Inside.is (c.in_ok-direction.ensures.flow before) in
     on_found (λ steps. OnLevels m (λ level. FlowsOn (terrain m) level p steps.items)) (λ steps. 0 < length steps.items) (λ steps. AreNext m p steps.items) c.path_across_flat.result
     (λ steps flows some. record {

@@ -23,7 +23,7 @@ pub returns-clause-flow : goal.returns-clause-flow
 returns-clause-flow g c honest =
     let m = g.L.FilledLevels.mosaic c.args.levels.now c.args.source.now in
     let p = c.args.point in
-    let asks = c.in_ok-around.ensures.asks in
+    let asks = c.in_ok-around.ensures.asked.asks in
     let after = asks.honest honest in
     let first = c.level.ensures.mosaic after in
     let fits : SFits w16 c.in-Some-2.height = search rules in

@@ -18,7 +18,7 @@ pub returns-then-leads_to-clause-feeder : goal.returns-then-leads_to-clause-feed
 returns-then-leads_to-clause-feeder g c honest level filled =
     let m = g.L.FilledLevels.mosaic c.args.levels.now c.args.source.now in
     let told = c.in_ok-way.ensures in
-    let is = g.met.L.FilledLevels.is_mosaic c.args.levels.now c.args.source.now (told.asks.honest honest) in
+    let is = g.met.L.FilledLevels.is_mosaic c.args.levels.now c.args.source.now (told.asked.asks.honest honest) in
     let p = c.args.point in
     let from = c.in-Some.from in
     let there : from ≡ step c.args.direction p = c.in-Some.ensures.1 in
@@ -29,7 +29,7 @@ pub returns-clause-feeder : goal.returns-clause-feeder
 returns-clause-feeder g c honest level filled =
     let m = g.L.FilledLevels.mosaic c.args.levels.now c.args.source.now in
     let told = c.in_ok-way.ensures in
-    let is = g.met.L.FilledLevels.is_mosaic c.args.levels.now c.args.source.now (told.asks.honest honest) in
+    let is = g.met.L.FilledLevels.is_mosaic c.args.levels.now c.args.source.now (told.asked.asks.honest honest) in
     let p = c.args.point in
     let from = c.in-Some.from in
     let there : from ≡ step c.args.direction p = c.in-Some.ensures.1 in

@@ -32,13 +32,13 @@ loop-i-preserved g c =
     let now = c.args.levels.now in
     let at = c.args.source.now in
     record {
-      asks = asks_on g.L.FilledLevels now c.loop-i.levels c.add_feeder.new.levels at c.loop-i.source c.add_feeder.new.source inv.asks told.asks;
-      keeps = g.met.L.FilledLevels.keeps_on now c.loop-i.levels c.add_feeder.new.levels at c.loop-i.source c.add_feeder.new.source inv.keeps told.keeps;
-      fits = told.fits;
+      asks = asks_on g.L.FilledLevels now c.loop-i.levels c.add_feeder.new.levels at c.loop-i.source c.add_feeder.new.source inv.asks told.asked.asks;
+      keeps = g.met.L.FilledLevels.keeps_on now c.loop-i.levels c.add_feeder.new.levels at c.loop-i.source c.add_feeder.new.source inv.keeps told.asked.keeps;
+      fits = told.asked.fits;
       flats = told.flats;
       room = omega (arith, told.room, inv.room);
       feeders = λ honest level filled.
-          let before = told.asks.honest honest in
+          let before = told.asked.asks.honest honest in
           let t = terrain (g.L.FilledLevels.mosaic now at) in
           let old = c.loop-i.found.items in
           let new = c.add_feeder.new.found.items in

@@ -1,12 +1,13 @@
-use Rattle.std.proofs.Common.{sym, subst}
+use Rattle.std.proofs.Common.{subst}
 use Rattle.std.specs.Prelude.{IfOk, IfSome}
-use Rattle.std.proofs.lemmas.Result.{IfOk-weaker, IfErr-weaker}
+use Rattle.std.proofs.lemmas.Result.{IfOk-weaker}
 use Rattle.lattice.specs.Mosaic.{Mosaic}
 use Rattle.lattice.specs.Ground.{terrain}
 use Rattle.flow_d8.specs.Directions.{AreDirectionsOf}
 use Rattle.flow_d8.specs.FlowPath.{IsInWatershed}
 use Rattle.watershed.specs.Runs.{AreRuns}
 use Rattle.flow_d8.specs.LevelsAround.{OnLevels}
+use Rattle.flow_d8.proofs.Asked.{asks_nothing, out_of_memory}
 use Rattle.flow_d8.proofs.Ends.{level_function}
 use Rattle.watershed.proofs.point_search.watershed_at.Goals as goal
 
@@ -25,12 +26,13 @@ returns-in-Some-clause-elsewhere g c honest =
     let by = level_function m is in
     IfOk-weaker c.watershed.result _ _ (λ runs told off. told m by.0 is (are by.0 by.1) off) c.watershed.ensures.elsewhere
 
-pub returns-in-Some-clause-refusal : goal.returns-in-Some-clause-refusal
-returns-in-Some-clause-refusal g c =
+pub returns-in-Some-clause-asked : goal.returns-in-Some-clause-asked
+returns-in-Some-clause-asked g c =
     let laws = g.met.L.FilledLevels in
     let now = c.args.levels.now in
     let at = c.args.source.now in
-    IfErr-weaker c.watershed.result _ _ (λ r same. subst (g.L.FilledLevels.refuses now at now at) (sym same) (laws.runs_out now now at at (laws.keeps_itself now at))) c.watershed.ensures.refusal
+    let kept = laws.keeps_itself now at in
+    out_of_memory g.L.FilledLevels now now at at c.watershed.result (asks_nothing g.L.FilledLevels now at) c.requires kept (laws.runs_out now now at at kept) c.watershed.ensures.refusal
 
 pub returns-in-Some-2-clause-runs : goal.returns-in-Some-2-clause-runs
 returns-in-Some-2-clause-runs g c honest =
@@ -40,4 +42,4 @@ returns-in-Some-2-clause-runs g c honest =
 pub returns-clause-runs : goal.returns-clause-runs
 returns-clause-runs g c honest =
     subst (λ (m : Mosaic). IfOk c.wide_watershed.result (λ runs. OnLevels m (λ level. AreRuns (IsInWatershed (terrain m) level c.args.point) runs.items)))
-    (c.in_ok-runs.ensures.asks.mosaic (c.wide_watershed.ensures.asks.honest honest)) (c.wide_watershed.ensures.runs honest)
+    (c.in_ok-runs.ensures.asked.asks.mosaic (c.wide_watershed.ensures.asked.asks.honest honest)) (c.wide_watershed.ensures.runs honest)

@@ -13,6 +13,6 @@ returns-clause-feeders g c =
     let told = c.feeders.ensures in
     let p = c.args.point in
     IfOk-weaker c.feeders.result _ _ (λ found fed m level tells x.
-    let same = tells.1.0 ∙ told.asks.mosaic tells.0 in
+    let same = tells.1.0 ∙ told.asked.asks.mosaic tells.0 in
     subst (λ (n : Mosaic). Contains found.items x ↔ IsFeeder (terrain n) level x p) (sym same) (fed tells.0 level (subst (λ (n : Mosaic). AreFilledLevels (terrain n) level) same tells.1.1) x))
     (given_later _ _ c.feeders.result told.feeders)
