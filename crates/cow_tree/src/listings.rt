@@ -139,7 +139,7 @@ fn write_listing<D: Disk>(
 }
 
 // Writes what lists the pages of the corner's staged tile.
-fn write_tile<D: Disk>(
+fn write_tile_listings<D: Disk>(
     roots: &mut Roots<D>,
     page_map: &PageMap,
     which: Listings,
@@ -170,7 +170,7 @@ pub(crate) fn write_listings<D: Disk>(
     page_map.rules();
     let corners = page_map.corners();
     for corner in corners.as_slice() {
-        write_tile(roots, page_map, which, *corner)?;
+        write_tile_listings(roots, page_map, which, *corner)?;
     }
     Ok(())
 }

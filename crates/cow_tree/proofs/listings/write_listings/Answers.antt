@@ -10,10 +10,10 @@ use Rattle.cow_tree.proofs.EntryTiles.{tile_at, corner_located}
 use Rattle.cow_tree.proofs.ListingPages.{none_listed}
 use Rattle.cow_tree.proofs.TileWrites.{first_all, one_more, one_refused}
 use Rattle.cow_tree.proofs.listings.write_listings.Goals as goal
-use Rattle.cow_tree.proofs.listings.write_listings.Goals.{After-write_tile}
+use Rattle.cow_tree.proofs.listings.write_listings.Goals.{After-write_tile_listings}
 
 -- the tile of this turn
-module _ (g : _) (c : After-write_tile g) where
+module _ (g : _) (c : After-write_tile_listings g) where
   abbrev tiles : List TileLocation
   tiles = c.args.page_map.now.staged
 
@@ -26,33 +26,33 @@ module _ (g : _) (c : After-write_tile g) where
   among : Contains tiles next.0
   among = (c.loop-corner.corner-index, next.1.0, next.1.1.0)
 
-pub write_tile-requires-clause-present : goal.write_tile-requires-clause-present
-write_tile-requires-clause-present g c =
+pub write_tile_listings-requires-clause-present : goal.write_tile_listings-requires-clause-present
+write_tile_listings-requires-clause-present g c =
     let corners : c.as_slice-corner-items.result.now ≡ corners_of_locations c.args.page_map.now.staged = c.as_slice-corner-items.ensures.value ∙ c.corners-corners.ensures.value in
     corner_located c.args.page_map.now.staged c.loop-corner.corner-index c.corner-item.result (rw corners at c.loop-corner-test.true) (rw corners at c.corner-item.is)
 
 pub loop-corner-init : goal.loop-corner-init
 loop-corner-init g c = none_listed g.D.Disk g.met.D.Disk.only_now c.args.roots.now c.requires.not_failed
 
-pub returns-in_err-write_tile : goal.returns-in_err-write_tile
-returns-in_err-write_tile g c =
-    let at = (goal.at.returns-in_err-write_tile g c).After-write_tile in
+pub returns-in_err-write_tile_listings : goal.returns-in_err-write_tile_listings
+returns-in_err-write_tile_listings g c =
+    let at = (goal.at.returns-in_err-write_tile_listings g c).After-write_tile_listings in
     let page_map = c.args.page_map.now in
     let before = written_before c.args.which page_map in
     let t = next g at in
-    let why : Refusal = c.in_err-write_tile.field-0.0 in
+    let why : Refusal = c.in_err-write_tile_listings.field-0.0 in
     let ended : c.from_residual.result ≡ Err why = ended_with c.from_residual.result why c.from_residual.ensures.1 in
-    subst (λ (r : Result (Unit {0}) Refusal). WritesListing g.D.Disk (due_among before (tiles_listing page_map.format page_map.staged)) c.args.roots.now c.write_tile.new.roots r) (sym ended)
-    (one_refused g.D.Disk page_map c.rules.ensures before c.loop-corner.corner-index t.0 t.1.0 t.1.1.0 c.args.roots.now c.loop-corner.roots c.write_tile.new.roots why c.loop-corner.invariant
-    (c.in_err-write_tile.ensures t.0 (among g at) t.1.1.1))
+    subst (λ (r : Result (Unit {0}) Refusal). WritesListing g.D.Disk (due_among before (tiles_listing page_map.format page_map.staged)) c.args.roots.now c.write_tile_listings.new.roots r) (sym ended)
+    (one_refused g.D.Disk page_map c.rules.ensures before c.loop-corner.corner-index t.0 t.1.0 t.1.1.0 c.args.roots.now c.loop-corner.roots c.write_tile_listings.new.roots why c.loop-corner.invariant
+    (c.in_err-write_tile_listings.ensures t.0 (among g at) t.1.1.1))
 
 pub loop-corner-preserved : goal.loop-corner-preserved
 loop-corner-preserved g c =
-    let at = (goal.at.loop-corner-preserved g c).After-write_tile in
+    let at = (goal.at.loop-corner-preserved g c).After-write_tile_listings in
     let page_map = c.args.page_map.now in
     let t = next g at in
-    one_more g.D.Disk page_map c.rules.ensures (written_before c.args.which page_map) c.loop-corner.corner-index t.0 t.1.0 t.1.1.0 c.args.roots.now c.loop-corner.roots c.write_tile.new.roots (Ok tt) c.loop-corner.invariant
-    (c.in_ok-write_tile.ensures t.0 (among g at) t.1.1.1)
+    one_more g.D.Disk page_map c.rules.ensures (written_before c.args.which page_map) c.loop-corner.corner-index t.0 t.1.0 t.1.1.0 c.args.roots.now c.loop-corner.roots c.write_tile_listings.new.roots (Ok tt) c.loop-corner.invariant
+    (c.in_ok-write_tile_listings.ensures t.0 (among g at) t.1.1.1)
 
 pub returns : goal.returns
 returns g c =

@@ -4,7 +4,7 @@ use Rattle.lattice.specs.declared.refusal.Refusal.{Refusal}
 use Rattle.cow_tree.specs.Listings.{WritesListing, due_among, tile_listing, written_before}
 use Rattle.cow_tree.proofs.Due.{located_tile}
 use Rattle.cow_tree.proofs.TileWrites.{first_refused, second_refused, tile_written}
-use Rattle.cow_tree.proofs.listings.write_tile.Goals as goal
+use Rattle.cow_tree.proofs.listings.write_tile_listings.Goals as goal
 
 pub write_listing-requires-2-clause-not_failed : goal.write_listing-requires-2-clause-not_failed
 write_listing-requires-2-clause-not_failed g c =
