@@ -1,5 +1,6 @@
 -- A tile added, all of whose pages are written.
 use Rattle.std.proofs.Common.{◌≡◌, ℕ, suc, ◌+◌, ◌<◌, ◌≤◌, Bool, true, false, not, if◌then◌else◌, List, [], ◌∷◌, ◌++◌, All, Contains, length, get_or, map, None, refl, sym, ap, ap₂, ◌∙◌, subst, arith}
+use Rattle.std.proofs.lemmas.Option.{same_Some}
 use Rattle.std.proofs.lemmas.List.{get_or-map, length-map}
 use Rattle.std.proofs.lemmas.List.Elements.{All-cons, All-head, All-tail}
 use Rattle.disk.specs.Disk.{Image}
@@ -9,7 +10,7 @@ use Rattle.page_map.specs.Locations.{PlaneLocation, pages_behind, pages_of_plane
 use Rattle.page_map.specs.TileLocations.{TileLocation, pages_of_kept, pages_of_tile, reached}
 use Rattle.cow_tree.specs.Layout.{tile_in}
 use Rattle.page_map.specs.declared.plane.Plane.TheVariants.{Heights}
-use Rattle.page_map.specs.Planes.{HasPlane, HasPlaneAt}
+use Rattle.page_map.specs.Planes.{HasPlane, HasPlaneAt, plane_of}
 use Rattle.page_map.specs.PageMaps.{PageMapValue, IsPageMap, IsAdded, IsFresh, with_tile_location, is_unreached}
 use Rattle.cow_tree.specs.Stored.{StoredTile, with_tile, stale_tile, pages_of_bytes}
 use Rattle.cow_tree.specs.Staged.{AreStaged, IsListedBy, IsTileListed}
@@ -96,10 +97,10 @@ module _ (old new : PageMapValue) (c : Corner) (rules : IsPageMap new) (added : 
   among = subst (λ (tiles : List TileLocation). Contains tiles (record { corner = c; heights = added.location; kept = None })) (sym staged_is) (added_there (record { corner = c; heights = added.location; kept = None }) old.staged)
 
   pub added_heights : HasPlane new.staged c Heights
-  added_heights = (record { corner = c; heights = added.location; kept = None }, (among, (refl, (added.location, refl))))
+  added_heights = (added.location, (record { corner = c; heights = added.location; kept = None }, (among, (refl, refl))))
 
   pub location_is : (plane : PlaneLocation) → HasPlaneAt new.staged c Heights plane → added.location ≡ plane
-  location_is plane had = ap (λ (t : TileLocation). t.heights) (one_at_corner new.staged (record { corner = c; heights = added.location; kept = None }) had.0 rules.staged.in_order among had.1.0 (sym had.1.1.0)) ∙ had.1.1.1
+  location_is plane had = same_Some added.location plane (ap (plane_of Heights) (one_at_corner new.staged (record { corner = c; heights = added.location; kept = None }) had.0 rules.staged.in_order among had.1.0 (sym had.1.1.0)) ∙ had.1.1.1)
 
   fresh_pages : (plane : PlaneLocation) → HasPlaneAt new.staged c Heights plane → All (IsFresh new) plane.pages
   fresh_pages plane had = subst (λ (q : PlaneLocation). All (IsFresh new) q.pages) (location_is plane had) (All-back (IsFresh new) added.location.index_pages added.location.pages (All-tail (IsFresh new) added.location.record_page (pages_behind added.location) added.fresh))

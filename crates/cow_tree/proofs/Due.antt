@@ -144,7 +144,7 @@ after_other c f (t ∷ rest) after =
     ap₂ (λ (v : Bool) (us : List TileLocation). (if v then f t else t) ∷ us) (after_not_same c t.corner after.0) (after_other c f rest after.1)
 
 pub located_tile : (c : Corner) (tiles : List TileLocation) → IsLocated c tiles → (t : TileLocation) × (Contains tiles t × (t.corner ≡ c))
-located_tile c tiles located = let (t, (has, (at, heights))) = tile_at_corner c tiles located in (t, (has, at))
+located_tile c tiles located = let (location, (t, (has, (at, heights)))) = tile_at_corner c tiles located in (t, (has, at))
 
 -- so much more or less is due as is of the tile
 module _ (committed : List TileLocation) (c : Corner) (f : TileLocation → TileLocation) where

@@ -1,6 +1,7 @@
 -- The entries of the staged tiles, found by their corners.
 use Rattle.std.proofs.Common.{◌≡◌, ℕ, zero, suc, ◌+◌, ◌<◌, ◌^◌, IsTrue, List, [], ◌∷◌, ◌++◌, All, Contains, length, get_or, map, take, Bor, refl, sym, ap, ap₂, ◌∙◌, arith}
 use Rattle.std.specs.Prelude.{Option, Some, None, IfSome, IfNone, option_copied}
+use Rattle.std.proofs.lemmas.Option.{same_Some}
 use Rattle.std.proofs.lemmas.List.{map_more}
 use Rattle.std.proofs.lemmas.List.Elements.{All-head, All-contains, All-map, All-contains_itself}
 use Rattle.lattice.specs.Corners.{Corner, is_corner}
@@ -15,7 +16,6 @@ use Rattle.page_map.specs.Planes.{HasPlane, HasPlaneAt, plane_of}
 use Rattle.page_map.specs.TileEntries.{kept_of}
 use Rattle.page_map.specs.PageMaps.{PageMapValue, IsPageMap, IsLocated, corners_of_locations}
 use Rattle.page_map.proofs.Loading.{kept_back}
-use Rattle.page_map.proofs.Lookup.{lies, lies_there}
 use Rattle.cow_tree.specs.Entries.{entry_of_kept, entry_of}
 use Rattle.cow_tree.proofs.Standing.{All-back, each_tile}
 use Rattle.cow_tree.proofs.Tiles.{one_at_corner, adjacent_map}
@@ -26,12 +26,12 @@ module _ (page_map : PageMapValue) (rules : IsPageMap page_map) where
     -- the planes found are the tile's
     plane_is : (plane : Plane) (r : Option (Bor PlaneLocation)) → IfSome r (λ location. HasPlaneAt page_map.staged c plane location.now) → IfNone r (¬ HasPlane page_map.staged c plane) → option_copied r ≡ plane_of plane t
     plane_is plane (Some location) (u, (among, (here, lies_at))) none =
-        sym (lies plane u location.now lies_at) ∙ ap (plane_of plane) (one_at_corner page_map.staged u t rules.staged.in_order among has (here ∙ sym at))
+        sym lies_at ∙ ap (plane_of plane) (one_at_corner page_map.staged u t rules.staged.in_order among has (here ∙ sym at))
     plane_is plane None found none = by (plane_of plane t) refl
       where
         by : (o : Option PlaneLocation) → plane_of plane t ≡ o → None ≡ o
         by None is = refl
-        by (Some location) is = absurd (none (t, (has, (at, (location, lies_there plane t location (sym is))))))
+        by (Some location) is = absurd (none (location, (t, (has, (at, is)))))
 
     pub entry_is : (heights : PlaneLocation) (levels labels : Option (Bor PlaneLocation)) → HasPlaneAt page_map.staged c Heights heights
         → IfSome levels (λ location. HasPlaneAt page_map.staged c Levels location.now) → IfNone levels (¬ HasPlane page_map.staged c Levels)
@@ -41,7 +41,7 @@ module _ (page_map : PageMapValue) (rules : IsPageMap page_map) where
         let same : u ≡ t = one_at_corner page_map.staged u t rules.staged.in_order among has (here ∙ sym at) in
         let kept_is : kept_of (option_copied levels) (option_copied labels) ≡ t.kept =
         ap₂ kept_of (plane_is Levels levels has_levels no_levels) (plane_is Labels labels has_labels no_labels) ∙ kept_back t.kept in
-        ap₂ (λ (h : PlaneLocation) (k : Option KeptLocations). let e : EntryValue = record { corner = c; heights = h.record_page; kept = entry_of_kept k } in e) (sym is ∙ ap (λ (v : TileLocation). v.heights) same) kept_is
+        ap₂ (λ (h : PlaneLocation) (k : Option KeptLocations). let e : EntryValue = record { corner = c; heights = h.record_page; kept = entry_of_kept k } in e) (sym (same_Some u.heights heights is) ∙ ap (λ (v : TileLocation). v.heights) same) kept_is
         ∙ ap (λ (d : Corner). let e : EntryValue = record { corner = d; heights = t.heights.record_page; kept = entry_of_kept t.kept } in e) (sym at)
 
   module _ (fits : page_map.sectors < 2 ^ 32) where

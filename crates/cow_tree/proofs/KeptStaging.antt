@@ -9,7 +9,6 @@ use Rattle.page_codec.specs.Formats.{Format}
 use Rattle.page_map.specs.declared.plane.Plane.{Plane}
 use Rattle.page_map.specs.declared.plane.Plane.TheVariants.{Levels, Labels}
 use Rattle.page_map.specs.Planes.{HasPlane, HasPlaneAt, plane_of}
-use Rattle.page_map.proofs.Lookup.{lies, lies_there}
 use Rattle.page_map.specs.declared.locations.KeptLocations.{KeptLocations}
 use Rattle.page_map.specs.PageMaps.{PageMapValue, IsPageMap, IsClean, IsFresh, IsLocated, AreKept, AreWholeKept, is_at, is_unreached, other_kept}
 use Rattle.page_map.specs.Locations.{PlaneLocation, listing_of, pages_behind, pages_of_plane, times}
@@ -64,7 +63,7 @@ module _ (old new : PageMapValue) (c : Corner) (rules : IsPageMap new) (was : Is
 
   -- it has both planes, and they lie there
   has_plane : (plane : Plane) (location : PlaneLocation) → plane_of plane has_kept.0 ≡ Some location → HasPlane new.staged c plane
-  has_plane plane location is = (has_kept.0, (has_kept.1.0, (has_kept.1.1, (location, lies_there plane has_kept.0 location (sym is)))))
+  has_plane plane location is = (location, (has_kept.0, (has_kept.1.0, (has_kept.1.1, is))))
 
   pub no_levels : ¬ HasPlane new.staged c Levels → ⊥
   no_levels none = none (has_plane Levels anew.locations.levels (ap (option_map (λ (k : KeptLocations). k.levels)) has_kept.1.2))
@@ -74,7 +73,7 @@ module _ (old new : PageMapValue) (c : Corner) (rules : IsPageMap new) (was : Is
 
   lies_so : (plane : Plane) (location : PlaneLocation) → HasPlaneAt new.staged c plane location → plane_of plane has_kept.0 ≡ Some location
   lies_so plane location (t, (there, (at, lies_at))) =
-      ap (plane_of plane) (one_at_corner new.staged has_kept.0 t rules.staged.in_order has_kept.1.0 there (has_kept.1.1 ∙ sym at)) ∙ lies plane t location lies_at
+      ap (plane_of plane) (one_at_corner new.staged has_kept.0 t rules.staged.in_order has_kept.1.0 there (has_kept.1.1 ∙ sym at)) ∙ lies_at
 
   pub locations_are : (levels labels : PlaneLocation) → HasPlaneAt new.staged c Levels levels → HasPlaneAt new.staged c Labels labels → anew.locations ≡ record { levels = levels; labels = labels }
   locations_are levels labels has_levels has_labels =

@@ -14,7 +14,6 @@ use Rattle.page_map.specs.PageMaps.{PageMapValue, IsPageMap, IsWholeTile, is_unr
 use Rattle.page_map.specs.Locations.{PlaneLocation, IsWholePlane, listing_of, times}
 use Rattle.page_map.specs.Planes.{HasPlane, HasPlaneAt, plane_of}
 use Rattle.page_map.specs.TileLocations.{TileLocation, reached}
-use Rattle.page_map.proofs.Lookup.{lies, lies_there}
 use Rattle.page_map.proofs.Times.{times_of_member}
 use Rattle.cow_tree.specs.Listings.{ListingPage, WritesListing, due_among, listing_bytes, listing_if, named_listing, numbers_of, plane_listing}
 use Rattle.cow_tree.specs.OverRoots.{WritesPages}
@@ -33,21 +32,21 @@ module _ (page_map : PageMapValue) (rules : IsPageMap page_map) (c : Corner) (na
   pub plane_there : (p : PlaneLocation) → HasPlaneAt page_map.staged c name p → IsPlaneAt page_map p
   plane_there p (t, (among, (here, at))) = record {
     whole = whole_in page_map.format name t p (All-contains (IsWholeTile page_map.format) page_map.staged t rules.staged.whole among) at;
-    within = plane_within page_map.format page_map.staged t name p among (lies name t p at);
+    within = plane_within page_map.format page_map.staged t name p among at;
   }
 
   -- it is the one of the corner's tile
   pub plane_is : (p : PlaneLocation) → HasPlaneAt page_map.staged c name p → (t : TileLocation) → Contains page_map.staged t → t.corner ≡ c → named_listing page_map.format name t ≡ plane_listing page_map.format p
   plane_is p (u, (there, (here, at))) t among corner =
       let same : u ≡ t = one_at_corner page_map.staged u t rules.staged.in_order there among (here ∙ sym corner) in
-      ap (listing_if page_map.format) (ap (plane_of name) (sym same) ∙ lies name u p at)
+      ap (listing_if page_map.format) (ap (plane_of name) (sym same) ∙ at)
 
   pub no_plane : ¬ HasPlane page_map.staged c name → (t : TileLocation) → Contains page_map.staged t → t.corner ≡ c → named_listing page_map.format name t ≡ []
   no_plane none t among corner = by (plane_of name t) refl
     where
       by : (o : Option PlaneLocation) → plane_of name t ≡ o → listing_if page_map.format o ≡ []
       by None is = refl
-      by (Some p) is = absurd (none (t, (among, (corner, (p, lies_there name t p (sym is))))))
+      by (Some p) is = absurd (none (p, (t, (among, (corner, is)))))
 
 -- ---- its pages, one after another
 module _ (page_map : PageMapValue) (rules : IsPageMap page_map) (p : PlaneLocation) (is : IsPlaneAt page_map p) (before : List TileLocation) where

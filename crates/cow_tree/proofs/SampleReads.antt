@@ -116,11 +116,11 @@ module _ (n : ℕ) (sinks : List Point) (tiles : List StoredTile) (c : Corner) (
         get_or-take (first + length into - first) (drop first all) k d (omega (arith, small, many)) ∙ get_or-drop first all k d ∙ sample_at k d small))
 
   pub part_read : HasPage tiles c Heights (first / 2048) page → (all : List ℤ) → samples_of (mosaic_of_tiles n sinks tiles) c ≡ Some all → slice_range all first (first + length into) ≡ into
-  part_read (t, (has, (corner, (pages, (at, found))))) all is =
+  part_read (t, (has, (corner, found))) all is =
       let same : Some all ≡ Some (samples_of_plane n t.heights) = sym is ∙ samples_are n sinks tiles c t valid has corner in
       let all_is : all ≡ samples_of_plane n t.heights = cc in
       subst (λ (l : List ℤ). slice_range l first (first + length into) ≡ into) (sym all_is)
-      (part_is t has corner (ap (λ (p : PlanePages). slice_get p (first / 2048)) at ∙ found))
+      (part_is t has corner found)
 
 -- ---- one part after another
 pub read_further : (all into part : List ℤ) (first done end : ℕ) → done ≤ end → done ≤ length into → length part ≡ end - done → slice_range all first (first + done) ≡ take done into → slice_range all (first + done) (first + done + length part) ≡ part

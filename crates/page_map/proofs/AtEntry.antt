@@ -29,7 +29,7 @@ use Rattle.page_map.proofs.Refused.{done_or_not}
 use Rattle.page_map.proofs.Room.{room_for_heights}
 use Rattle.page_map.proofs.EntryLists.{corner_of, entry_in_use, pages_of_location, reached_all, times-split, used_parts}
 use Rattle.page_map.proofs.EntryChanges.{all_middle, entry_fresh, kept_unchanged, made_kept, made_page_map, no_more_kept, staged_corner}
-use Rattle.page_map.proofs.Lookup.{lies, lies_there, located_here, plane_staged, there, tile_here, tile_is}
+use Rattle.page_map.proofs.Lookup.{located_here, plane_staged, there, tile_here, tile_is}
 
 pub some_heights : (c : Corner) (h l m : Option PlaneLocation) → IsSome (tile_of c h l m) → IsSome h
 some_heights c None l m some = some
@@ -117,7 +117,7 @@ module _ (format : Format) (entries : List Entry) (free : FreePages) (kept : IsK
           t,
           (
             subst (λ (l : List Entry). Contains (staged_tiles l) t) (sym split) (tile_here before (c, s) after rising_there t had),
-            (staged_corner before (c, s) after rising_there t had, lies_there plane t location.now lies_at),
+            (staged_corner before (c, s) after rising_there t had, sym lies_at),
           ),
         )
 
@@ -125,11 +125,11 @@ module _ (format : Format) (entries : List Entry) (free : FreePages) (kept : IsK
     pub plane_at : (location : PlaneLocation) → HasPlaneAt (staged_tiles entries) c plane location → staged_plane (named_plane plane s) ≡ Some location
     plane_at location (t, (there, (at_corner, lies_at))) =
         let had : staged_tile (c, s) ≡ Some t = tile_is before (c, s) after rising_there t (subst (λ (l : List Entry). Contains (staged_tiles l) t) split there) at_corner in
-        sym same_plane ∙ (ap (option_and_then (plane_of plane)) had ∙ lies plane t location lies_at)
+        sym same_plane ∙ (ap (option_and_then (plane_of plane)) had ∙ lies_at)
 
     pub plane_none : (r : Option (Bor PlaneLocation)) → option_copied r ≡ staged_plane (named_plane plane s) → IfNone r (¬ HasPlane (staged_tiles entries) c plane)
     plane_none (Some location) same = tt
-    plane_none None same = λ (t, (there, (at_corner, (location, lies_at)))). (let no : None ≡ Some location = same ∙ plane_at location (t, (there, (at_corner, lies_at))) in cc)
+    plane_none None same = λ (location, at). (let no : None ≡ Some location = same ∙ plane_at location at in cc)
 
   -- ---- other planes in their place
   module _ (new : TileEntry) (now : FreePages) (put : List Entry) (puts : put ≡ with_planes c new entries) where

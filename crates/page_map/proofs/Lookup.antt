@@ -1,6 +1,6 @@
 -- The entry of a corner, and what it says of the page_map's tiles.
 use Rattle.std.proofs.Common.{◌≡◌, zero, suc, true, false, cond, List, [], ◌∷◌, ◌++◌, refl, sym, ap, ap₂, subst, ◌∙◌, arith, ◌↔◌, Bor, MutBor}
-use Rattle.std.specs.Prelude.{Option, Some, None, IsSome, IfSome, Contains, IfNone, option_map, option_and_then}
+use Rattle.std.specs.Prelude.{Option, Some, None, IsSome, IfSome, Contains, IfNone, option_and_then}
 use Rattle.std.specs.Option.{option_copied_mut}
 use Rattle.std.specs.List.{cons_option}
 use Rattle.std.specs.Ordering.{MatchOrdering, is_eq}
@@ -13,13 +13,12 @@ use Rattle.lattice.specs.Corners.{Corner, is_before, same_corner}
 use Rattle.lattice.proofs.CornerOrder.{after_not_same, before_not_same, corner_cmp, ranked_corners, same_from}
 use Rattle.lattice.proofs.Rising.{Rising}
 use Rattle.page_codec.specs.Formats.{Format}
-use Rattle.page_map.specs.declared.locations.KeptLocations.{KeptLocations}
 use Rattle.page_map.specs.declared.plane.Plane.{Plane}
 use Rattle.page_map.specs.declared.plane.Plane.TheVariants.{Heights, Levels, Labels}
 use Rattle.page_map.specs.declared.tile_entry.TileEntry.{TileEntry}
 use Rattle.page_map.specs.Locations.{PlaneLocation}
 use Rattle.page_map.specs.PlaneEntries.{staged_plane}
-use Rattle.page_map.specs.Planes.{HasPlane, HasPlaneAt, LiesAt, plane_of}
+use Rattle.page_map.specs.Planes.{HasPlane, HasPlaneAt, plane_of}
 use Rattle.page_map.specs.TileLocations.{TileLocation}
 use Rattle.page_map.specs.PageMaps.{IsLocated}
 use Rattle.page_map.specs.TileEntries.{named_plane, planes_at, staged_tile, staged_tiles, tile_of, with_planes, AreTogether, Entry, IsSound}
@@ -73,8 +72,8 @@ located-from_tile c (x ∷ rest) t (suc k, below, here) same = let later = locat
 
 pub tile_at_corner : (c : Corner) (tiles : List TileLocation) → IsLocated c tiles → HasPlane tiles c Heights
 tile_at_corner c [] (k, below, here) = absurd (omega arith)
-tile_at_corner c (t ∷ rest) (zero, below, here) = (t, ((0, omega arith, refl), (here, (t.heights, refl))))
-tile_at_corner c (t ∷ rest) (suc k, below, here) = let (u, ((j, within, is), found)) = tile_at_corner c rest (k, omega arith, here) in (u, ((suc j, omega arith, is), found))
+tile_at_corner c (t ∷ rest) (zero, below, here) = (t.heights, (t, ((0, omega arith, refl), (here, refl))))
+tile_at_corner c (t ∷ rest) (suc k, below, here) = let (location, (u, ((j, within, is), found))) = tile_at_corner c rest (k, omega arith, here) in (location, (u, ((suc j, omega arith, is), found)))
 
 module _ (before : List Entry) (s : Entry) (after : List Entry) (rising : Rising corner_of (before ++ s ∷ after)) where
   others : AllOther s.0 (staged_tiles before) × AllOther s.0 (staged_tiles after)
@@ -120,20 +119,6 @@ some_entry c entries None is located = absurd (no_entry c entries (sym is) locat
 some_entry c entries (Some s) is located = refl
 
 -- ---- where a plane lies
-of_kept : (f : KeptLocations → PlaneLocation) (o : Option KeptLocations) (location : PlaneLocation) → Some location ≡ option_map f o → (k : KeptLocations) × ((o ≡ Some k) × (f k ≡ location))
-of_kept f None location is = cc
-of_kept f (Some k) location is = (k, (refl, sym (same_Some location (f k) is)))
-
-pub lies_there : (plane : Plane) (t : TileLocation) (location : PlaneLocation) → Some location ≡ plane_of plane t → LiesAt plane t location
-lies_there Heights t location is = sym (same_Some location t.heights is)
-lies_there Levels t location is = of_kept (λ k. k.levels) t.kept location is
-lies_there Labels t location is = of_kept (λ k. k.labels) t.kept location is
-
-pub lies : (plane : Plane) (t : TileLocation) (location : PlaneLocation) → LiesAt plane t location → plane_of plane t ≡ Some location
-lies Heights t location at = ap Some at
-lies Levels t location (k, (some, at)) = ap (option_map (λ (l : KeptLocations). l.levels)) some ∙ ap Some at
-lies Labels t location (k, (some, at)) = ap (option_map (λ (l : KeptLocations). l.labels)) some ∙ ap Some at
-
 -- a plane of an entry is one of its staged tile
 heights_in : (c : Corner) (h l m : Option PlaneLocation) → option_and_then (plane_of Heights) (tile_of c h l m) ≡ h
 heights_in c None l m = refl
@@ -157,9 +142,9 @@ plane_staged format Labels s sound = (kept_in s.0 (staged_plane s.1.heights) (st
 -- a plane is found where the corner has one, and heights where it has a tile
 pub held_plane : (c : Corner) (plane : Plane) (tiles : List TileLocation) (r : Option (Bor PlaneLocation)) → IfSome r (λ location. HasPlaneAt tiles c plane location.now) → IfNone r (¬ HasPlane tiles c plane) → IsSome r ↔ HasPlane tiles c plane
 held_plane c plane tiles None found none = ((λ some. absurd (false≢true some)), (λ held. absurd (none held)))
-held_plane c plane tiles (Some location) (t, (there, (at_corner, lies_at))) none = ((λ some. (t, (there, (at_corner, (location.now, lies_at))))), (λ held. refl))
+held_plane c plane tiles (Some location) found none = ((λ some. (location.now, found)), (λ held. refl))
 
 pub located_plane : (c : Corner) (tiles : List TileLocation) (r : Option (Bor PlaneLocation)) → IfSome r (λ location. HasPlaneAt tiles c Heights location.now) → IfNone r (¬ HasPlane tiles c Heights) → IsSome r ↔ IsLocated c tiles
 located_plane c tiles r found none =
     let held = held_plane c Heights tiles r found none in
-    ((λ some. let (t, (there, (at_corner, lies_at))) = held.0 some in located-from_tile c tiles t there at_corner), (λ located. held.1 (tile_at_corner c tiles located)))
+    ((λ some. let (location, (t, (there, (at_corner, lies_at)))) = held.0 some in located-from_tile c tiles t there at_corner), (λ located. held.1 (tile_at_corner c tiles located)))

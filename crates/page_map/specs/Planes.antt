@@ -7,22 +7,16 @@ use Rattle.page_map.specs.declared.locations.KeptLocations.{KeptLocations}
 use Rattle.page_map.specs.Locations.{PlaneLocation}
 use Rattle.page_map.specs.TileLocations.{TileLocation}
 
--- the tile has its plane there
-abbrev pub LiesAt : Plane → TileLocation → PlaneLocation → Type 0
-LiesAt Heights t location = t.heights ≡ location
-LiesAt Levels t location = (kept : KeptLocations) × ((t.kept ≡ Some kept) × (kept.levels ≡ location))
-LiesAt Labels t location = (kept : KeptLocations) × ((t.kept ≡ Some kept) × (kept.labels ≡ location))
-
 -- where the tile has its plane, if it has one
 abbrev pub plane_of : Plane → TileLocation → Option PlaneLocation
 plane_of Heights t = Some t.heights
 plane_of Levels t = option_map (λ (k : KeptLocations). k.levels) t.kept
 plane_of Labels t = option_map (λ (k : KeptLocations). k.labels) t.kept
 
--- these tiles have a plane of this name for the corner
-abbrev pub HasPlane : List TileLocation → Corner → Plane → Type 0
-HasPlane tiles c plane = (t : TileLocation) × (Contains tiles t × ((t.corner ≡ c) × ((location : PlaneLocation) × LiesAt plane t location)))
-
--- the corner's plane lies there
+-- the corner's tile has its plane there
 abbrev pub HasPlaneAt : List TileLocation → Corner → Plane → PlaneLocation → Type 0
-HasPlaneAt tiles c plane location = (t : TileLocation) × (Contains tiles t × ((t.corner ≡ c) × LiesAt plane t location))
+HasPlaneAt tiles c plane location = (t : TileLocation) × (Contains tiles t × ((t.corner ≡ c) × (plane_of plane t ≡ Some location)))
+
+-- the corner's tile has a plane of this name
+abbrev pub HasPlane : List TileLocation → Corner → Plane → Type 0
+HasPlane tiles c plane = (location : PlaneLocation) × HasPlaneAt tiles c plane location

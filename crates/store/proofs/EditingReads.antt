@@ -1,5 +1,5 @@
 -- A command planned by reading the tree.
-use Rattle.std.proofs.Common.{◌≡◌, ◌≢◌, ℕ, false, true, Result, Ok, Err, OnOk, OnErr, IfErr, IsErrOf, List, [], ◌∷◌, Contains, zero, suc, refl, sym, ap, ap₂, ◌∙◌, subst, arith}
+use Rattle.std.proofs.Common.{◌≡◌, ◌≢◌, ℕ, false, true, Result, Ok, Err, OnOk, OnErr, IfErr, IsErrOf, List, refl, sym, ap, ap₂, ◌∙◌, subst}
 use Rattle.std.specs.Prelude.{IsTrue}
 use Rattle.disk.specs.Disk.{HasRisen}
 use Rattle.disk.specs.declared.disk.Disk.{Ghosts}
@@ -17,10 +17,7 @@ use Rattle.edits.specs.Plans.{is_own, may_end}
 use Rattle.engine.specs.Outcomes.{AppliesNot}
 use Rattle.engine.specs.State.{State}
 use Rattle.engine.proofs.Applying.{plan_refused}
-use Rattle.page_map.specs.PageMaps.{PageMapValue, HasFreshHeights, corners_of_locations}
-use Rattle.page_map.specs.TileLocations.{TileLocation}
-use Rattle.page_map.specs.Planes.{HasPlane}
-use Rattle.page_map.specs.declared.plane.Plane.TheVariants.{Heights}
+use Rattle.page_map.specs.PageMaps.{PageMapValue, HasFreshHeights}
 use Rattle.cow_tree.specs.Reading.{mosaic_of, IsReadable, HasOnlyRead, Reads}
 use Rattle.cow_tree.specs.Stored.{StoredTile, AreWhole, mosaic_of_tiles}
 use Rattle.cow_tree.specs.Trees.{disk_of, root_of, has_failed, sinks_of, staged_in, HasStaged}
@@ -99,18 +96,6 @@ module _ {D : Type 0} (g : Ghosts D) (old new : Tree D g) (keeps : HasOnlyRead g
           pages = subst AreWhole (sym (keeps.staged honest)) (whole_filled side (staged_in g old) tiles_held.filled);
           valid = subst IsMosaic (sym (same ∙ mosaic_is)) (at.sound works).holds.valid;
         }
-
--- the tile of a present corner has heights
-
-held_later : (t : TileLocation) (rest : List TileLocation) (u : TileLocation) → Contains rest u → Contains (t ∷ rest) u
-held_later t rest u (k, below, here) = (suc k, omega (arith, below), here)
-
-pub heights_held : (c : Corner) (tiles : List TileLocation) → Contains (corners_of_locations tiles) c → HasPlane tiles c Heights
-heights_held c [] (k, below, here) = absurd (omega (arith, below))
-heights_held c (t ∷ rest) (zero, below, here) = (t, ((0, omega arith, refl), (here, (t.heights, refl))))
-heights_held c (t ∷ rest) (suc k, below, here) =
-    let later = heights_held c rest (k, omega (arith, below), here) in
-    (later.0, (held_later t rest later.0 later.1.0, later.1.1))
 
 -- a page was read
 pub page_read : {D T : Type 0} (g : Ghosts D) (old new : Tree D g) (result : Result T Refusal) → Reads g old new result → StagesOnly g old new result

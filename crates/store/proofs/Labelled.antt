@@ -1,6 +1,6 @@
 -- Labellings that are kept are right where the store's tree is sure; and reads of the tree one after another.
-use Rattle.std.proofs.Common.{◌≡◌, ◌≢◌, ◌⊎◌, inl, inr, ℕ, ℤ, ◌≤ℤ◌, false, true, List, Contains, Option, Some, Result, Ok, Err, refl, sym, ap, ◌∙◌, subst, true≢false, arith}
-use Rattle.std.specs.Prelude.{IsOk, IfOk, IfErr, IfSome, IsErrOf, OnErr, slice_index, slice_index_or}
+use Rattle.std.proofs.Common.{◌≡◌, ◌≢◌, ◌⊎◌, inl, inr, ℕ, ℤ, ◌≤ℤ◌, false, true, List, Contains, Option, Some, None, Result, Ok, Err, refl, sym, ap, ◌∙◌, subst, true≢false, arith}
+use Rattle.std.specs.Prelude.{IsOk, IfOk, IfErr, IfSome, IsErrOf, OnErr, option_map, slice_index, slice_index_or}
 use Rattle.std.proofs.lemmas.List.Elements.{All-contains}
 use Rattle.disk.specs.Disk.{Image, HasRisen}
 use Rattle.disk.specs.declared.disk.Disk.{Ghosts}
@@ -10,6 +10,8 @@ use Rattle.lattice.specs.declared.refusal.Refusal.{Refusal}
 use Rattle.lattice.specs.declared.refusal.Refusal.TheVariants.{Device, NoMemory, Failed, Damaged}
 use Rattle.catalogue.specs.Reading.{MayRefuse}
 use Rattle.page_map.specs.Planes.{HasPlane}
+use Rattle.page_map.specs.declared.locations.KeptLocations.{KeptLocations}
+use Rattle.page_map.specs.Locations.{PlaneLocation}
 use Rattle.page_map.specs.TileLocations.{TileLocation}
 use Rattle.page_map.specs.declared.plane.Plane.TheVariants.{Levels}
 use Rattle.tile_labellings.specs.Labellings.{IsFlooded}
@@ -77,14 +79,18 @@ pub record KeepsThere {D : Type 0} (g : Ghosts D) (tree : Tree D g) (c : Corner)
 right_there : (m : Mosaic) (c : Corner) (t : StoredTile) (kept : KeptPlanes) → t.kept ≡ Some kept → IfSome t.kept (AreRight m c) → AreRight m c kept
 right_there m c t kept is right = subst (λ (o : Option KeptPlanes). IfSome o (AreRight m c)) is right
 
+kept_at : (o : Option KeptLocations) (p : PlaneLocation) → option_map (λ (k : KeptLocations). k.levels) o ≡ Some p → (k : KeptLocations) × (o ≡ Some k)
+kept_at None p is = cc
+kept_at (Some k) p is = (k, refl)
+
 pub keeps_there : {D : Type 0} (g : Ghosts D) (tree : Tree D g) (c : Corner) → HasPlane tree.page_map.staged c Levels → IsSure g tree → KeepsThere g tree c
 keeps_there g tree c held sure =
     let image = g.seen tree.roots.disk in
-    let place : TileLocation = held.0 in
+    let place : TileLocation = held.1.0 in
     let tile : StoredTile = tile_in image place in
-    let there : Contains (staged_in g tree) tile = contains-map (tile_in image) tree.page_map.staged place held.1.0 in
-    let corner : tile.corner ≡ c = held.1.1.0 in
-    let has = ap (kept_in image) held.1.1.1.1.1.0 in
+    let there : Contains (staged_in g tree) tile = contains-map (tile_in image) tree.page_map.staged place held.1.1.0 in
+    let corner : tile.corner ≡ c = held.1.1.1.0 in
+    let has = ap (kept_in image) (kept_at place.kept held.0 held.1.1.1.1).1 in
     let right = All-contains (λ (t : StoredTile). IfSome t.kept (AreRight (mosaic_of g tree) t.corner)) (staged_in g tree) tile sure.kept there in
     record {
       tile = tile;

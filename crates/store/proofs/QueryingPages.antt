@@ -1,6 +1,6 @@
 -- The bytes of a tile's plane, read page by page.
 use Rattle.std.proofs.Common.{◌≡◌, ⊎_elim, ℕ, zero, suc, ◌+◌, ◌-◌, ◌*◌, ◌<◌, ◌≤◌, ℤ, true, false, Option, Some, None, List, [], ◌∷◌, ◌++◌, length, take, drop, min, Contains, refl, sym, ap, ◌∙◌, subst, arith}
-use Rattle.std.specs.Prelude.{slice_get, is_some}
+use Rattle.std.specs.Prelude.{option_and_then, slice_get, is_some}
 use Rattle.std.specs.List.{concat}
 use Rattle.std.proofs.Math.Seq.{take-append-add}
 use Rattle.std.proofs.lemmas.Bool.{cases_lt, false≢true}
@@ -17,10 +17,9 @@ use Rattle.catalogue.proofs.Presence.{present_iff, some-samples}
 use Rattle.lattice.proofs.Rising.{Rising}
 use Rattle.page_map.specs.TileLocations.{TileLocation}
 use Rattle.cow_tree.specs.Layout.{tile_in}
-use Rattle.cow_tree.specs.Planes.{HasPage, HasPages}
+use Rattle.cow_tree.specs.Planes.{HasPage, stored_page, stored_plane}
 use Rattle.page_map.specs.declared.plane.Plane.{Plane}
-use Rattle.page_map.specs.declared.plane.Plane.TheVariants.{Heights, Levels, Labels}
-use Rattle.cow_tree.specs.Stored.{StoredTile, PlanePages, KeptPlanes, plane_bytes}
+use Rattle.cow_tree.specs.Stored.{StoredTile, PlanePages, plane_bytes}
 use Rattle.cow_tree.specs.Trees.{root_of, has_failed, corners_of as corners_under, staged_in}
 use Rattle.cow_tree.specs.declared.tree.Tree.{Tree}
 use Rattle.cow_tree.proofs.Adding.{contains-map}
@@ -87,22 +86,11 @@ all_read n pages bytes read =
 
 -- ---- the corner's tile
 
-same_kept : {a b : KeptPlanes} → Some a ≡ Some b → a ≡ b
-same_kept h = cc
-
--- a tile has one list of pages for each plane
-one_plane : (plane : Plane) (t : StoredTile) (p q : PlanePages) → HasPages plane t p → HasPages plane t q → p ≡ q
-one_plane Heights t p q first second = sym first ∙ second
-one_plane Levels t p q (k, (is, at)) (l, (same, there)) = sym at ∙ (ap (λ (x : KeptPlanes). x.levels) (same_kept (sym is ∙ same)) ∙ there)
-one_plane Labels t p q (k, (is, at)) (l, (same, there)) = sym at ∙ (ap (λ (x : KeptPlanes). x.labels) (same_kept (sym is ∙ same)) ∙ there)
-
 -- a page of a plane of the corner is one of the tile
-pub page_of_tile : (plane : Plane) (tiles : List StoredTile) (c : Corner) (t : StoredTile) (pages : PlanePages) (i : ℕ) (page : List ℕ) → IsTileOf tiles c t → HasPages plane t pages → HasPage tiles c plane i page
+pub page_of_tile : (plane : Plane) (tiles : List StoredTile) (c : Corner) (t : StoredTile) (pages : PlanePages) (i : ℕ) (page : List ℕ) → IsTileOf tiles c t → stored_plane plane t ≡ Some pages → HasPage tiles c plane i page
     → slice_get pages i ≡ Some page
-page_of_tile plane tiles c t pages i page is has (other, (there, (corner, (found, (lies, at))))) =
-    let same : other ≡ t = is.only other there corner in
-    let here : HasPages plane t found = subst (λ (x : StoredTile). HasPages plane x found) same lies in
-    ap (λ (l : PlanePages). slice_get l i) (one_plane plane t pages found has here) ∙ at
+page_of_tile plane tiles c t pages i page is has (other, (there, (corner, at))) =
+    ap (option_and_then (λ (l : PlanePages). slice_get l i)) (sym has) ∙ ap (stored_page plane i) (sym (is.only other there corner)) ∙ at
 
 not_before : (c : Corner) → is_before c c ≡ true → ⊥
 not_before c before = false≢true (sym (before_not_same c c before) ∙ same_from c c refl)

@@ -224,18 +224,18 @@ keepers_with_page c i page (t ∷ rest) = ap₂ (λ (x : Corner × Option KeptPl
 module _ (n : ℕ) (edit : Point → ℤ → ℤ) (m : Mosaic) (tiles : List StoredTile) (is : IsUnderway n edit m tiles) where
   -- a page that was read is that of the corner's only tile
   pub one_page : (c : Corner) (i : ℕ) (page : List ℕ) → HasPage tiles c Heights i page → (t : StoredTile) → Contains tiles t → t.corner ≡ c → slice_get t.heights i ≡ Some page
-  one_page c i page (u, (there, (corner, (pages, (are, read))))) t among same =
+  one_page c i page (u, (there, (corner, read))) t among same =
       let only : u ≡ t = one_tile tiles t u (partly_rising n edit m.tiles tiles is.tiles (rising_tiles m is.valid)) among there (corner ∙ sym same) in
-      subst (λ (x : StoredTile). slice_get x.heights i ≡ Some page) only (subst (λ (ps : PlanePages). slice_get ps i ≡ Some page) (sym are) read)
+      subst (λ (x : StoredTile). slice_get x.heights i ≡ Some page) only read
 
   -- .. and what it holds is of the mosaic's
   pub page_of : (c : Corner) (i : ℕ) (page : List ℕ) → HasPage tiles c Heights i page → IsPageOf n edit m c i page
-  page_of c i page (u, (there, (corner, (pages, (are, read))))) =
+  page_of c i page (u, (there, (corner, read))) =
       let found = tile_of n edit m.tiles tiles u is.tiles there in
       let t : Tile = found.0 in
       let part : IsPartly n edit t u = found.1.1 in
       let own_corner : t.corner ≡ c = sym part.corner ∙ corner in
-      let reads : get_or u.heights i [] ≡ page = get_or_from_slice_get u.heights i page [] (subst (λ (ps : PlanePages). slice_get ps i ≡ Some page) (sym are) read) in
+      let reads : get_or u.heights i [] ≡ page = get_or_from_slice_get u.heights i page [] read in
       record {
         tile = t;
         there = found.1.0;

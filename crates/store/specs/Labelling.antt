@@ -1,11 +1,11 @@
 -- What a store's tree reads to flood a tile, or to have its labelling from what is kept (this product's own profile).
-use Rattle.std.specs.Prelude.{◌≡◌, ℕ, List, All, Result, Err, IsOk, IfErr}
+use Rattle.std.specs.Prelude.{◌≡◌, ℕ, List, All, Some, Result, Err, IsOk, IfErr}
 use Rattle.page_map.specs.declared.plane.Plane.{Plane}
 use Rattle.disk.specs.declared.disk.Disk.{Ghosts}
 use Rattle.lattice.specs.Corners.{Corner}
 use Rattle.lattice.specs.declared.refusal.Refusal.{Refusal}
 use Rattle.catalogue.specs.Asked.{IsOwnRefusal}
-use Rattle.cow_tree.specs.Planes.{HasPages}
+use Rattle.cow_tree.specs.Planes.{stored_plane}
 use Rattle.cow_tree.specs.Reading.{mosaic_of, IsReadable, Reads}
 use Rattle.cow_tree.specs.Stored.{IsPage, PlanePages, StoredTile, plane_bytes}
 use Rattle.cow_tree.specs.Trees.{staged_in}
@@ -30,4 +30,4 @@ pub record Consults {D T : Type 0} (g : Ghosts D) (old new : Tree D g) (result :
 
 -- these two bytes are the value with this index in the plane of the corner's tile, if its pages are whole
 abbrev pub IsKeptValue : ℕ → List StoredTile → Corner → Plane → ℕ → List ℕ → Type 0
-IsKeptValue n tiles c plane e two = (t : StoredTile) (pages : PlanePages) → IsTileOf tiles c t → HasPages plane t pages → All IsPage pages → StandsAt (plane_bytes n pages) e two
+IsKeptValue n tiles c plane e two = (t : StoredTile) (pages : PlanePages) → IsTileOf tiles c t → stored_plane plane t ≡ Some pages → All IsPage pages → StandsAt (plane_bytes n pages) e two

@@ -1,5 +1,5 @@
 //! The queries of a store: they only read.
-ghost use Rattle.std.specs.Prelude.{◌≡◌, ◌≢◌, ◌≤◌, ◌*◌, length, false, true, Err, OnOk, IfErr, vec_len, vec_capacity};
+ghost use Rattle.std.specs.Prelude.{◌≡◌, ◌≢◌, ◌≤◌, ◌*◌, length, false, true, Some, Err, OnOk, IfErr, vec_len, vec_capacity};
 ghost use Rattle.lattice.specs.Limits.{most_tiles};
 ghost use Rattle.lattice.specs.declared.refusal.Refusal.TheVariants.{NoMemory, Failed};
 ghost use Rattle.engine.specs.Engines.{IsCall, answered};
@@ -7,7 +7,7 @@ ghost use Rattle.engine.specs.State.{State};
 ghost use Rattle.engine.specs.declared.event.Event.TheVariants as ask;
 ghost use Rattle.engine.specs.declared.event.Reply.TheVariants as reply;
 ghost use Rattle.cow_tree.specs.Reading.{Reads};
-ghost use Rattle.cow_tree.specs.Planes.{HasPages};
+ghost use Rattle.cow_tree.specs.Planes.{stored_plane};
 ghost use Rattle.cow_tree.specs.Stored.{PlanePages, StoredTile, plane_bytes};
 ghost use Rattle.cow_tree.specs.Trees.{disk_of as disk_under, root_of as root_under, corners_of, has_failed as have_failed, staged_in, Holds};
 ghost use Rattle.store.specs.Queried.{Queries, OnlyReads, IsTileOf, CountsSeams};
@@ -154,7 +154,7 @@ pub(crate) fn read_plane<D: Disk>(
     requires empty { vec_len bytes.old ≡ 0 }
     requires room { 2 * ((root_under tree.old).side * (root_under tree.old).side) ≤ vec_capacity bytes.old }
     ensures reads { Reads D.Disk tree.old tree.new result }
-    ensures bytes { D.honest (disk_under tree.new) → OnOk result ((t : StoredTile) (pages : PlanePages) → IsTileOf (staged_in D.Disk tree.old) corner t → HasPages plane t pages
+    ensures bytes { D.honest (disk_under tree.new) → OnOk result ((t : StoredTile) (pages : PlanePages) → IsTileOf (staged_in D.Disk tree.old) corner t → stored_plane plane t ≡ Some pages
         → bytes.new.items ≡ plane_bytes (root_under tree.old).side pages) }
     ensures whole { OnOk result (vec_len bytes.new ≡ 2 * ((root_under tree.old).side * (root_under tree.old).side)) }
 {

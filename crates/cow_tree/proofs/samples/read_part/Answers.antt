@@ -1,14 +1,12 @@
-use Rattle.std.proofs.Common.{length, refl, arith}
+use Rattle.std.proofs.Common.{length, arith}
 use Rattle.cow_tree.specs.Trees.{staged_in}
-use Rattle.cow_tree.proofs.Due.{located_tile}
+use Rattle.page_map.proofs.Lookup.{tile_at_corner}
 use Rattle.cow_tree.proofs.SampleReads.{part_read}
 use Rattle.cow_tree.proofs.TreeReads.{was_readable}
 use Rattle.cow_tree.proofs.samples.read_part.Goals as goal
 
 pub scan_page-requires-clause-held : goal.scan_page-requires-clause-held
-scan_page-requires-clause-held g c =
-    let found = located_tile c.args.c c.args.tree.now.page_map.staged c.requires.present in
-    (found.0, (found.1.0, (found.1.1, (found.0.heights, refl))))
+scan_page-requires-clause-held g c = tile_at_corner c.args.c c.args.tree.now.page_map.staged c.requires.present
 
 pub returns-clause-samples : goal.returns-clause-samples
 returns-clause-samples g c readable =

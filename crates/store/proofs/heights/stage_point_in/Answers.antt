@@ -18,7 +18,8 @@ use Rattle.cow_tree.specs.Trees.{disk_of, root_of, has_begun, records_due, stage
 use Rattle.cow_tree.proofs.Steps.{on_ok}
 use Rattle.store.specs.Editing.{StagesPages, writes_begun, index_pages_due}
 use Rattle.store.specs.Underway.{heightened, IsEdited, IsPointSettled, IsSettled, Advances, Settles}
-use Rattle.store.proofs.EditingReads.{page_read, heights_held}
+use Rattle.store.proofs.EditingReads.{page_read}
+use Rattle.page_map.proofs.Lookup.{tile_at_corner}
 use Rattle.store.proofs.EditingSteps.{always, stages_on}
 use Rattle.store.proofs.EditingWrites.{page_written}
 use Rattle.store.proofs.NewHeights.{heightened_once}
@@ -28,7 +29,7 @@ use Rattle.store.proofs.heights.stage_point_in.Goals as goal
 use Rattle.store.proofs.heights.stage_point_in.Goals.{After-stage}
 
 pub read_page-requires-clause-held : goal.read_page-requires-clause-held
-read_page-requires-clause-held g c = heights_held c.args.corner c.args.tree.now.page_map.staged c.requires.present
+read_page-requires-clause-held g c = tile_at_corner c.args.corner c.args.tree.now.page_map.staged c.requires.present
 
 pub returns-then-is_done-clause-set : goal.returns-then-is_done-clause-set
 returns-then-is_done-clause-set g c honest s m at under settled =

@@ -1,8 +1,9 @@
 use Rattle.std.proofs.Common.{◌≡◌, ◌*◌, ◌<◌, ℕ, Err, refl, sym, ap, ◌∙◌, subst}
+use Rattle.std.specs.Prelude.{option_map}
 use Rattle.lattice.specs.declared.refusal.Refusal.TheVariants.{Failed}
 use Rattle.page_codec.specs.Roots.{RootValue}
 use Rattle.cow_tree.specs.Reading.{mosaic_of}
-use Rattle.cow_tree.specs.Stored.{plane_bytes}
+use Rattle.cow_tree.specs.Stored.{KeptPlanes, plane_bytes}
 use Rattle.store.proofs.Labelled.{was_sure, keeps_there, labelled_by_bytes, least_height, failed_before, answered_whole}
 use Rattle.store.proofs.labelling.kept_spot.Goals as goal
 
@@ -23,8 +24,8 @@ returns-clause-spot g c sure =
     let there = keeps_there d old c.args.corner c.requires.levels (was_sure d old c.read_spot.new.tree two.reads.keeps sure) in
     let made = c.labelled_at.ensures in
     labelled_by_bytes m c.args.corner (plane_bytes m.side there.kept.levels) (plane_bytes m.side there.kept.labels) there.right.labelling c.args.index c.in_ok-level.level c.in_ok-level.label
-    (two.level sure.readable.honest there.tile there.kept.levels there.is (there.kept, (there.keeps, refl)) there.right.levels)
-    (two.label sure.readable.honest there.tile there.kept.labels there.is (there.kept, (there.keeps, refl)) there.right.labels)
+    (two.level sure.readable.honest there.tile there.kept.levels there.is (ap (option_map (λ (k : KeptPlanes). k.levels)) there.keeps) there.right.levels)
+    (two.label sure.readable.honest there.tile there.kept.labels there.is (ap (option_map (λ (k : KeptPlanes). k.labels)) there.keeps) there.right.labels)
     c.labelled_at.result made.level made.label
 
 pub returns-clause-sound : goal.returns-clause-sound
@@ -40,5 +41,5 @@ returns-clause-sound g c sure =
     answered_whole c.labelled_at.result (c.labelled_at.ensures.sound kept.block (plane_bytes m.side there.kept.levels) (plane_bytes m.side there.kept.labels) c.args.index (kept.ground.side ∙ sym side) kept.labelling
     (least_height m c.args.corner _ _ kept was.readable.valid)
     (subst (λ (n : ℕ). c.args.index < n * n) (sym side) c.requires.index)
-    (two.level sure.readable.honest there.tile there.kept.levels there.is (there.kept, (there.keeps, refl)) there.right.levels)
-    (two.label sure.readable.honest there.tile there.kept.labels there.is (there.kept, (there.keeps, refl)) there.right.labels))
+    (two.level sure.readable.honest there.tile there.kept.levels there.is (ap (option_map (λ (k : KeptPlanes). k.levels)) there.keeps) there.right.levels)
+    (two.label sure.readable.honest there.tile there.kept.labels there.is (ap (option_map (λ (k : KeptPlanes). k.labels)) there.keeps) there.right.labels))

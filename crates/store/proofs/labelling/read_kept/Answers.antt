@@ -1,9 +1,10 @@
-use Rattle.std.proofs.Common.{◌≡◌, ◌∙◌, List, Ok, Err, ap, refl, sym, subst}
+use Rattle.std.proofs.Common.{◌≡◌, ◌∙◌, List, Ok, Err, ap, sym, subst}
+use Rattle.std.specs.Prelude.{option_map}
 use Rattle.std.proofs.lemmas.Result.{err_from_is_err_and}
 use Rattle.lattice.specs.declared.refusal.Refusal.{Refusal}
 use Rattle.lattice.specs.declared.refusal.Refusal.TheVariants.{Device}
 use Rattle.cow_tree.specs.Reading.{Reads}
-use Rattle.cow_tree.specs.Stored.{StoredTile, plane_bytes}
+use Rattle.cow_tree.specs.Stored.{KeptPlanes, StoredTile, plane_bytes}
 use Rattle.page_codec.specs.Roots.{RootValue}
 use Rattle.store.specs.Queried.{IsTileOf}
 use Rattle.store.proofs.Labelled.{reads_then}
@@ -11,7 +12,7 @@ use Rattle.store.proofs.labelling.read_kept.Goals as goal
 
 pub returns-clause-level_bytes : goal.returns-clause-level_bytes
 returns-clause-level_bytes g c honest t kept is has =
-    c.in_ok-read_plane.ensures.bytes (c.in_ok-read_plane-2.ensures.reads.keeps.honest honest) t kept.levels is (kept, (has, refl))
+    c.in_ok-read_plane.ensures.bytes (c.in_ok-read_plane-2.ensures.reads.keeps.honest honest) t kept.levels is (ap (option_map (λ (k : KeptPlanes). k.levels)) has)
 
 pub returns-clause-label_bytes : goal.returns-clause-label_bytes
 returns-clause-label_bytes g c honest t kept is has =
@@ -19,7 +20,7 @@ returns-clause-label_bytes g c honest t kept is has =
     let second = c.in_ok-read_plane-2.ensures in
     let mid = second.reads.keeps.honest honest in
     subst (λ (r : RootValue). c.read_plane-2.new.bytes.items ≡ plane_bytes r.side kept.labels) first.root
-    (second.bytes honest t kept.labels (subst (λ (ts : List StoredTile). IsTileOf ts c.args.corner t) (sym (first.staged mid)) is) (kept, (has, refl)))
+    (second.bytes honest t kept.labels (subst (λ (ts : List StoredTile). IsTileOf ts c.args.corner t) (sym (first.staged mid)) is) (ap (option_map (λ (k : KeptPlanes). k.labels)) has))
 
 pub returns-clause-reads : goal.returns-clause-reads
 returns-clause-reads g c =

@@ -13,7 +13,8 @@ use Rattle.cow_tree.specs.Stored.{StoredTile, with_page}
 use Rattle.cow_tree.specs.Trees.{root_of, staged_in, HasStaged}
 use Rattle.store.specs.Editing.{StagesOnly}
 use Rattle.store.specs.Underway.{filled, AreRimVoids, IsEdited, IsPageOf, Settles}
-use Rattle.store.proofs.EditingReads.{page_read, heights_held}
+use Rattle.store.proofs.EditingReads.{page_read}
+use Rattle.page_map.proofs.Lookup.{tile_at_corner}
 use Rattle.cow_tree.proofs.Steps.{on_ok}
 use Rattle.store.proofs.EditingSteps.{refused_as, stages_on}
 use Rattle.store.proofs.StagingSteps.{only_device}
@@ -22,7 +23,7 @@ use Rattle.store.proofs.VoidPages.{filled_once}
 use Rattle.store.proofs.voids.fill_page.Goals as goal
 
 pub scan_page-requires-clause-held : goal.scan_page-requires-clause-held
-scan_page-requires-clause-held g c = heights_held c.args.rim.now.corner c.args.tree.now.page_map.staged c.requires.present
+scan_page-requires-clause-held g c = tile_at_corner c.args.rim.now.corner c.args.tree.now.page_map.staged c.requires.present
 
 pub returns-in_err-scan_page-clause-stages : goal.returns-in_err-scan_page-clause-stages
 returns-in_err-scan_page-clause-stages g c =

@@ -8,6 +8,7 @@ use Rattle.cow_tree.specs.Layout.{tile_in}
 use Rattle.cow_tree.specs.Reading.{mosaic_of}
 use Rattle.cow_tree.specs.Stored.{StoredTile, samples_of_plane}
 use Rattle.cow_tree.specs.Trees.{staged_in}
+use Rattle.page_map.proofs.Lookup.{tile_at_corner}
 use Rattle.cow_tree.proofs.Adding.{contains-map}
 use Rattle.cow_tree.proofs.Due.{located_tile}
 use Rattle.cow_tree.proofs.SampleReads.{samples_are, as_many, part_read, one_sample}
@@ -19,9 +20,7 @@ first_of [] some = absurd (omega (arith, some))
 first_of (x ∷ xs) some = refl
 
 pub read_two-requires-clause-held : goal.read_two-requires-clause-held
-read_two-requires-clause-held g c =
-    let found = located_tile c.args.c c.args.self.now.page_map.staged c.requires.present in
-    (found.0, (found.1.0, (found.1.1, (found.0.heights, refl))))
+read_two-requires-clause-held g c = tile_at_corner c.args.c c.args.self.now.page_map.staged c.requires.present
 
 pub returns-clause-sample : goal.returns-clause-sample
 returns-clause-sample g c readable =

@@ -1,13 +1,23 @@
-use Rattle.std.proofs.Common.{refl}
+use Rattle.std.proofs.Common.{◌≡◌, Option, Some, None, refl}
+use Rattle.std.specs.Prelude.{option_map}
+use Rattle.page_map.specs.declared.locations.KeptLocations.{KeptLocations}
 use Rattle.page_map.specs.declared.plane.Plane.TheVariants.{Levels}
+use Rattle.page_map.specs.Locations.{PlaneLocation}
 use Rattle.page_map.proofs.Lookup.{held_plane}
 use Rattle.cow_tree.proofs.tree.Tree.keeps.Goals as goal
 
 pub returns-clause-levels : goal.returns-clause-levels
 returns-clause-levels g c = rw c.is_some.ensures (held_plane c.args.c Levels c.args.self.now.page_map.staged c.plane.result c.plane.ensures.found c.plane.ensures.none)
 
+-- where one of the kept planes lies, the other does
+with_it : (f h : KeptLocations → PlaneLocation) (o : Option KeptLocations) (p : PlaneLocation) → option_map f o ≡ Some p → (q : PlaneLocation) × (option_map h o ≡ Some q)
+with_it f h None p is = cc
+with_it f h (Some k) p is = (h k, refl)
+
 pub returns-clause-labels : goal.returns-clause-labels
-returns-clause-labels g c = let held = held_plane c.args.c Levels c.args.self.now.page_map.staged c.plane.result c.plane.ensures.found c.plane.ensures.none in rw c.is_some.ensures (
-  λ yes. let (t, (there, (at, (location, (kept, (some, here)))))) = held.0 yes in (t, (there, (at, (kept.labels, (kept, (some, refl)))))),
-  λ (t, (there, (at, (location, (kept, (some, here)))))). held.1 (t, (there, (at, (kept.levels, (kept, (some, refl)))))),
-)
+returns-clause-labels g c =
+    let held = held_plane c.args.c Levels c.args.self.now.page_map.staged c.plane.result c.plane.ensures.found c.plane.ensures.none in
+    rw c.is_some.ensures (
+      λ yes. let (p, (t, (there, (at, is)))) = held.0 yes in let (q, other) = with_it (λ k. k.levels) (λ k. k.labels) t.kept p is in (q, (t, (there, (at, other)))),
+      λ (p, (t, (there, (at, is)))). let (q, other) = with_it (λ k. k.labels) (λ k. k.levels) t.kept p is in held.1 (q, (t, (there, (at, other)))),
+    )

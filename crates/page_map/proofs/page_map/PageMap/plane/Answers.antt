@@ -10,7 +10,7 @@ pub returns-in_err-entry-clause-none : goal.returns-in_err-entry-clause-none
 returns-in_err-entry-clause-none c =
     rw c.from_residual.ensures
     (subst (λ (v : PageMapValue). ¬ HasPlane v.staged c.args.c c.args.plane) c.self.view_is
-    (λ (t, (there, (at_corner, lies))). no_entry c.args.c c.self.inside.entries.entries (sym c.in_err-entry.ensures.value) (located-from_tile c.args.c _ t there at_corner)))
+    (λ (location, (t, (there, (at_corner, lies)))). no_entry c.args.c c.self.inside.entries.entries (sym c.in_err-entry.ensures.value) (located-from_tile c.args.c _ t there at_corner)))
 
 pub returns-clause-found : goal.returns-clause-found
 returns-clause-found c =

@@ -7,7 +7,7 @@ use Rattle.lattice.specs.declared.refusal.Refusal.{Refusal}
 use Rattle.lattice.specs.declared.refusal.Refusal.TheVariants.{Device, NoMemory, NoTile}
 use Rattle.engine.specs.State.{failing}
 use Rattle.engine.proofs.Questions.{export_asked}
-use Rattle.cow_tree.proofs.Due.{located_tile}
+use Rattle.page_map.proofs.Lookup.{tile_at_corner}
 use Rattle.cow_tree.proofs.ReadOnly.{never_refused}
 use Rattle.store.specs.Queried.{IsQueried}
 use Rattle.store.proofs.EditingSteps.{refused_as}
@@ -45,9 +45,7 @@ invariant_of-self g c =
     record { clean = still_clean d old.tree new c.in_ok-check_working.ensures.works keeps old.clean }
 
 pub read_plane-requires-clause-held : goal.read_plane-requires-clause-held
-read_plane-requires-clause-held g c =
-    let found = located_tile c.args.corner c.args.self.now.tree.page_map.staged (c.present.ensures.answer.0 c.if-not-present.false) in
-    (found.0, (found.1.0, (found.1.1, (found.0.heights, refl))))
+read_plane-requires-clause-held g c = tile_at_corner c.args.corner c.args.self.now.tree.page_map.staged (c.present.ensures.answer.0 c.if-not-present.false)
 
 pub returns-in_err-read_plane-clause-call : goal.returns-in_err-read_plane-clause-call
 returns-in_err-read_plane-clause-call g c =
