@@ -1,5 +1,5 @@
 -- Calls that commit nothing: one, and one after another.
-use Rattle.std.proofs.Common.{◌≡◌, ◌≤◌, false, true, List, All, Contains, Result, Ok, Err, OnOk, IsErrOf, refl, sym, ap, ◌∙◌, subst, arith, ℕ}
+use Rattle.std.proofs.Common.{◌≡◌, false, true, List, All, Contains, Result, Ok, Err, OnOk, IsErrOf, refl, sym, ap, ◌∙◌, subst, arith, ℕ}
 use Rattle.std.specs.Prelude.{IsErrAnd, is_err}
 use Rattle.disk.specs.Disk.{Image, HasRisen}
 use Rattle.disk.specs.Stops.{LeavesOnly, weaker, in_turn, nothing_done}
@@ -9,17 +9,17 @@ use Rattle.lattice.specs.declared.refusal.Refusal.TheVariants.{Device, NoMemory}
 use Rattle.page_codec.specs.Roots.{RootValue, format_of}
 use Rattle.page_map.specs.PageMaps.{PageMapValue}
 use Rattle.page_map.specs.TileLocations.{reached}
-use Rattle.roots.specs.Roots.{IsReady, disk_of as disk_under, has_failed as have_failed}
+use Rattle.roots.specs.Roots.{IsReady, disk_of as disk_under, has_begun as have_begun, has_failed as have_failed}
 use Rattle.roots.specs.declared.roots.Roots.{Roots}
 use Rattle.cow_tree.specs.Layout.{Stands, StoresAt}
 use Rattle.cow_tree.specs.OverRoots.{EachStores, WritesPages}
 use Rattle.cow_tree.specs.Reading.{HasOnlyRead}
 use Rattle.cow_tree.specs.Staged.{AreStaged}
 use Rattle.cow_tree.specs.Stored.{Stored}
-use Rattle.cow_tree.specs.Trees.{disk_of, root_of, has_failed, IsAt}
+use Rattle.cow_tree.specs.Trees.{disk_of, has_failed, IsAt}
 use Rattle.cow_tree.specs.declared.tree.Tree.{Tree}
 use Rattle.cow_tree.proofs.Steps.{failed_where, ok_where_works, on_ok, stands, stores_along}
-use Rattle.cow_tree.specs.Uncommitted.{CommitsNothing}
+use Rattle.cow_tree.specs.Uncommitted.{CommitsNothing, MakesNoCall}
 
 -- what a refusal that was handed on answers
 pub refused_as : {T : Type 0} (result : Result T Refusal) (r : Refusal) → IsErrAnd result (λ why. why ≡ r) → result ≡ Err r
@@ -41,22 +41,29 @@ module _ {D : Type 0} (g : Ghosts D) where
   abbrev pub OnlyNow : Type 0
   OnlyNow = (disk : D) (c : Image) → g.honest disk → g.since disk (g.moment disk) c → g.may disk c
 
-  -- no call of the disk was made
-  pub in_memory : {T : Type 0} (old new : Tree D g) (result : Result T Refusal) → OnlyNow → disk_of new ≡ disk_of old → root_of new ≡ root_of old → has_failed new ≡ false
-      → ((s : Stored) → IsAt g old s → IsAt g new s) → (IsErrOf result Device → ⊥) → CommitsNothing g old new result
-  in_memory old new result only_now same root works at other = record {
-    size = subst (λ (disk : D). g.size disk ≡ g.size (disk_of old)) (sym same) refl;
-    later = subst (λ (disk : D). g.failures (disk_of old) ≤ g.failures disk) (sym same) (omega arith);
+  -- nothing was called so far
+  pub no_call_yet : (tree : Tree D g) → MakesNoCall tree tree
+  no_call_yet tree = record { disk = refl; root = refl; failed = refl; begun = refl }
+
+  pub no_call_twice : (old mid new : Tree D g) → MakesNoCall old mid → MakesNoCall mid new → MakesNoCall old new
+  no_call_twice old mid new first second = record { disk = second.disk ∙ first.disk; root = second.root ∙ first.root; failed = second.failed ∙ first.failed; begun = second.begun ∙ first.begun }
+
+  -- what makes no call of the disk commits nothing
+  pub in_memory : {T : Type 0} (old new : Tree D g) (result : Result T Refusal) → OnlyNow → MakesNoCall old new → has_failed old ≡ false → (g.honest (disk_of old) → (s : Stored) → IsAt g old s → IsAt g new s)
+      → (IsErrOf result Device → ⊥) → CommitsNothing g old new result
+  in_memory old new result only_now makes works at other = record {
+    size = ap g.size makes.disk;
+    later = let same = ap g.failures makes.disk in omega (arith, same);
     device = λ is. absurd (other is);
     failed = λ is. absurd (other is);
-    works = always result works;
-    honest = subst g.honest same;
-    root = root;
-    at = λ h s was _. at s was;
+    works = always result (makes.failed ∙ works);
+    honest = subst g.honest makes.disk;
+    root = makes.root;
+    at = λ h s was _. at (subst g.honest makes.disk h) s was;
     run = λ h s was.
-        subst (λ (disk : D). LeavesOnly g (disk_of old) disk (λ image. Stands (g.size (disk_of old)) image s)) (sym same)
+        subst (λ (disk : D). LeavesOnly g (disk_of old) disk (λ image. Stands (g.size (disk_of old)) image s)) (sym makes.disk)
         (weaker g (disk_of old) (disk_of old) (g.may (disk_of old)) (λ image. Stands (g.size (disk_of old)) image s) (each_stands old s was)
-        (nothing_done g (disk_of old) (only_now (disk_of old)) (subst g.honest same h)).run);
+        (nothing_done g (disk_of old) (only_now (disk_of old)) (subst g.honest makes.disk h)).run);
   }
 
   -- a call after one that wasn't refused
@@ -93,18 +100,18 @@ module _ {D : Type 0} (g : Ghosts D) where
   }
 
   -- what was staged is given up
-  pub given_up : {T : Type 0} (old mid new : Tree D g) (result : Result T Refusal) → CommitsNothing g old mid result → disk_of new ≡ disk_of mid → root_of new ≡ root_of mid → has_failed new ≡ has_failed mid
-      → (g.honest (disk_of mid) → (s : Stored) → IsAt g mid s → IsAt g new s) → CommitsNothing g old new result
-  given_up old mid new result done same root failed at = record {
-    size = subst (λ (disk : D). g.size disk ≡ g.size (disk_of old)) (sym same) done.size;
-    later = subst (λ (disk : D). g.failures (disk_of old) ≤ g.failures disk) (sym same) done.later;
-    device = λ is. subst (λ (disk : D). HasRisen (g.failures (disk_of old)) (g.failures disk)) (sym same) (done.device is);
-    failed = λ is. failed ∙ done.failed is;
-    works = on_ok result (λ w. failed ∙ w) done.works;
-    honest = λ h. done.honest (subst g.honest same h);
-    root = root ∙ done.root;
-    at = λ h s was now. at (subst g.honest same h) s (done.at (subst g.honest same h) s was (sym failed ∙ now));
-    run = λ h s was. subst (λ (disk : D). LeavesOnly g (disk_of old) disk (λ image. Stands (g.size (disk_of old)) image s)) (sym same) (done.run (subst g.honest same h) s was);
+  pub given_up : {T : Type 0} (old mid new : Tree D g) (result : Result T Refusal) → CommitsNothing g old mid result → MakesNoCall mid new → (g.honest (disk_of mid) → (s : Stored) → IsAt g mid s → IsAt g new s)
+      → CommitsNothing g old new result
+  given_up old mid new result done makes at = record {
+    size = ap g.size makes.disk ∙ done.size;
+    later = let same = ap g.failures makes.disk in omega (arith, same, done.later);
+    device = λ is. subst (λ (disk : D). HasRisen (g.failures (disk_of old)) (g.failures disk)) (sym makes.disk) (done.device is);
+    failed = λ is. makes.failed ∙ done.failed is;
+    works = on_ok result (λ w. makes.failed ∙ w) done.works;
+    honest = λ h. done.honest (subst g.honest makes.disk h);
+    root = makes.root ∙ done.root;
+    at = λ h s was now. at (subst g.honest makes.disk h) s (done.at (subst g.honest makes.disk h) s was (sym makes.failed ∙ now));
+    run = λ h s was. subst (λ (disk : D). LeavesOnly g (disk_of old) disk (λ image. Stands (g.size (disk_of old)) image s)) (sym makes.disk) (done.run (subst g.honest makes.disk h) s was);
   }
 
   -- reading commits nothing
@@ -137,7 +144,9 @@ module _ {D : Type 0} (g : Ghosts D) where
   pub refused_in_memory : {T : Type 0} (old new : Tree D g) (result : Result T Refusal) (why : Refusal) → OnlyNow → new.roots ≡ old.roots → new.root ≡ old.root → new.page_map ≡ old.page_map → has_failed old ≡ false
       → result ≡ Err why → why ≡ NoMemory → CommitsNothing g old new result
   refused_in_memory {T} old new result why only_now roots root page_map works ended memory =
-      in_memory old new result only_now (ap (λ (r : Roots D g). disk_under r) roots) root (ap (λ (r : Roots D g). have_failed r) roots ∙ works) (at_same old new roots root page_map)
+      in_memory old new result only_now
+      (record { disk = ap (λ (r : Roots D g). disk_under r) roots; root = root; failed = ap (λ (r : Roots D g). have_failed r) roots; begun = ap (λ (r : Roots D g). have_begun r) roots }) works
+      (λ _. at_same old new roots root page_map)
       (λ device. (let e : ◌≡◌ {A = Result T Refusal} (Err NoMemory) (Err Device) = sym (ended ∙ ap (λ (x : Refusal). Err x) memory) ∙ device in cc))
 
   -- a call that wrote pages which no committed tile reaches

@@ -7,8 +7,15 @@ use Rattle.lattice.specs.declared.refusal.Refusal.{Refusal}
 use Rattle.lattice.specs.declared.refusal.Refusal.TheVariants.{Device}
 use Rattle.cow_tree.specs.Layout.{Stands}
 use Rattle.cow_tree.specs.Stored.{Stored}
-use Rattle.cow_tree.specs.Trees.{disk_of, root_of, has_failed, IsAt}
+use Rattle.cow_tree.specs.Trees.{disk_of, root_of, has_begun, has_failed, IsAt}
 use Rattle.cow_tree.specs.declared.tree.Tree.{Tree}
+
+-- No call of the disk was made: the disk, the current root, and whether a call failed or a page was written, are as they were.
+pub record MakesNoCall {D : Type 0} {g : Ghosts D} (old new : Tree D g) : Type 0 where
+  pub disk : disk_of new ≡ disk_of old
+  pub root : root_of new ≡ root_of old
+  pub failed : has_failed new ≡ has_failed old
+  pub begun : has_begun new ≡ has_begun old
 
 -- The call read pages of the tree, and may have staged some or given up what was staged. What is committed stays, and a
 -- stop at any moment leaves it.

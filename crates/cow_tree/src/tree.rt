@@ -64,7 +64,7 @@ pub struct Tree<D: Disk> {
 impl<D: Disk> Tree<D> {
     ghost use Rattle.cow_tree.specs.Reading.{Reads};
     ghost use Rattle.cow_tree.specs.Trees.{disk_of, root_of, page_map_of, has_failed, has_begun, corners_of, sinks_of, Holds, HasStaged, IsUnstaged, records_due, disk_after, staged_in, IsAt, MayRefuse};
-    ghost use Rattle.cow_tree.specs.Uncommitted.{CommitsNothing};
+    ghost use Rattle.cow_tree.specs.Uncommitted.{CommitsNothing, MakesNoCall};
 
     /// Makes an empty store of this format on a disk. A fault before the Ok may leave anything.
     pub fn format(disk: &mut D, format: Format) -> Result<(), Refusal>
@@ -230,12 +230,9 @@ impl<D: Disk> Tree<D> {
     /// Declares these points sinks and no others, from the next commit on. No call of the disk is made.
     pub fn declare(&mut self, sinks: &[Point])
         requires { AreSinks (root_of self.old).side sinks.now }
+        ensures no_call { MakesNoCall self.old self.new }
         ensures sinks { sinks_of self.new ≡ sinks.now }
-        ensures disk { disk_of self.new ≡ disk_of self.old }
-        ensures root { root_of self.new ≡ root_of self.old }
         ensures page_map { page_map_of self.new ≡ page_map_of self.old }
-        ensures failed { has_failed self.new ≡ has_failed self.old }
-        ensures begun { has_begun self.new ≡ has_begun self.old }
         ensures staged { staged_in D.Disk self.new ≡ staged_in D.Disk self.old }
         ensures at { (s : Stored) → IsAt D.Disk self.old s → IsAt D.Disk self.new s }
     {
@@ -415,12 +412,9 @@ impl<D: Disk> Tree<D> {
         requires present { Contains (corners_of self.old) c }
         ensures refused { IfErr result (λ refusal. refusal ≡ NoMemory) }
         ensures unchanged { OnErr result (page_map_of self.new ≡ page_map_of self.old) }
-        ensures disk { disk_of self.new ≡ disk_of self.old }
-        ensures root { root_of self.new ≡ root_of self.old }
+        ensures no_call { MakesNoCall self.old self.new }
         ensures corners { corners_of self.new ≡ corners_of self.old }
         ensures sinks { sinks_of self.new ≡ sinks_of self.old }
-        ensures failed { has_failed self.new ≡ has_failed self.old }
-        ensures begun { has_begun self.new ≡ has_begun self.old }
         ensures staged { staged_in D.Disk self.new ≡ staged_in D.Disk self.old }
         ensures due { records_due self.new ≤ records_due self.old + 1 }
         ensures due_same { HasStaged self.old c → records_due self.new ≡ records_due self.old }
@@ -634,10 +628,7 @@ impl<D: Disk> Tree<D> {
 
     /// Gives up what was staged.
     pub fn abandon(&mut self)
-        ensures disk { disk_of self.new ≡ disk_of self.old }
-        ensures root { root_of self.new ≡ root_of self.old }
-        ensures failed { has_failed self.new ≡ has_failed self.old }
-        ensures begun { has_begun self.new ≡ has_begun self.old }
+        ensures no_call { MakesNoCall self.old self.new }
         ensures corners { corners_of self.new ≡ map (λ e. e.corner) (root_of self.new).entries }
         ensures sinks { sinks_of self.new ≡ (root_of self.new).sinks }
         ensures none_staged { (c : Corner) → ¬ HasStaged self.new c }
@@ -659,10 +650,7 @@ impl<D: Disk> Tree<D> {
         requires heights { plane ≡ Heights }
         requires present { Contains (corners_of self.old) c }
         requires settled { ¬ HasStaged self.old c }
-        ensures disk { disk_of self.new ≡ disk_of self.old }
-        ensures root { root_of self.new ≡ root_of self.old }
-        ensures not_failed { has_failed self.new ≡ false }
-        ensures begun { has_begun self.new ≡ has_begun self.old }
+        ensures no_call { MakesNoCall self.old self.new }
         ensures corners { corners_of self.new ≡ filter (λ other. not (same_corner other c)) (corners_of self.old) }
         ensures sinks { sinks_of self.new ≡ sinks_of self.old }
         ensures due { records_due self.new ≤ records_due self.old }
@@ -677,10 +665,7 @@ impl<D: Disk> Tree<D> {
     /// is made.
     pub fn drop_kept(&mut self, c: Corner)
         requires { Contains (corners_of self.old) c }
-        ensures disk { disk_of self.new ≡ disk_of self.old }
-        ensures root { root_of self.new ≡ root_of self.old }
-        ensures failed { has_failed self.new ≡ has_failed self.old }
-        ensures begun { has_begun self.new ≡ has_begun self.old }
+        ensures no_call { MakesNoCall self.old self.new }
         ensures corners { corners_of self.new ≡ corners_of self.old }
         ensures sinks { sinks_of self.new ≡ sinks_of self.old }
         ensures due { records_due self.new ≤ records_due self.old }

@@ -6,7 +6,7 @@ use Rattle.lattice.specs.declared.refusal.Refusal.{Refusal}
 use Rattle.lattice.specs.declared.refusal.Refusal.TheVariants.{Device}
 use Rattle.cow_tree.specs.declared.tree.Tree.{Tree}
 use Rattle.cow_tree.proofs.ReadOnly.{never_refused}
-pub use Rattle.cow_tree.proofs.Uncommitted.{refused_as, refusal_is, always, each_stands, in_memory, uncommitted_on, given_up}
+pub use Rattle.cow_tree.proofs.Uncommitted.{refused_as, refusal_is, always, each_stands, in_memory, no_call_yet, no_call_twice, uncommitted_on, given_up}
 use Rattle.cow_tree.proofs.Uncommitted.{uncommitted_as}
 use Rattle.store.specs.Editing.{StagesOnly}
 

@@ -23,7 +23,7 @@ use Rattle.store.specs.Standing.{Holds, StandsFor}
 use Rattle.store.specs.States.{StandsForState, IsStateOf}
 use Rattle.store.specs.StoreState.{known_by}
 use Rattle.store.specs.TreeStates.{IsInState}
-use Rattle.store.proofs.EditingSteps.{in_memory, refusal_is}
+use Rattle.store.proofs.EditingSteps.{in_memory, no_call_yet, refusal_is}
 use Rattle.store.proofs.InMemory.{is_working}
 use Rattle.store.proofs.Opened.{in_state}
 use Rattle.store.proofs.States.{at_failure}
@@ -255,7 +255,7 @@ pub stays_first : {D T : Type 0} (g : Ghosts D) (ending : Ending T) (tree : Tree
     → (answer : Result T Refusal) → IsNoFault answer → IfErr answer (λ r. IsTrue (ending.may_refuse r) × (r ≢ Failed)) → IfOk answer (λ x. ending.Knows (root_of tree) x (root_of tree))
     → ((s : State) → IsInState g tree s → ending.Happens s answer s) → HasEnded g ending answer tree tree
 stays_first g ending tree works only_now answer other own known happens =
-    let nothing : CommitsNothing {T = Unit {0}} g tree tree (Ok tt) = in_memory g tree tree (Ok tt) only_now refl refl works (λ s at. at) (λ device. never_refused tt Device device) in
+    let nothing : CommitsNothing {T = Unit {0}} g tree tree (Ok tt) = in_memory g tree tree (Ok tt) only_now (no_call_yet g tree) works (λ _ s at. at) (λ device. never_refused tt Device device) in
     quiet g ending tree tree works (Ok tt) nothing works (λ honest s at. (refl, refl)) answer other own known refl (λ honest s at. happens s at)
 
 -- a store that had failed

@@ -14,6 +14,7 @@ use Rattle.edits.specs.declared.edit.NewHeight.{NewHeight}
 use Rattle.cow_tree.specs.Staged.{index_page_by}
 use Rattle.cow_tree.specs.Stored.{Stored}
 use Rattle.cow_tree.specs.Trees.{disk_of, root_of, corners_of, sinks_of, has_begun, has_failed, records_due, staged_in, HasStaged, IsAt}
+use Rattle.cow_tree.specs.Uncommitted.{MakesNoCall}
 use Rattle.cow_tree.specs.declared.tree.Tree.{Tree}
 use Rattle.cow_tree.proofs.ReadOnly.{never_refused}
 use Rattle.cow_tree.proofs.Steps.{on_ok}
@@ -110,20 +111,19 @@ module _ {D : Type 0} (g : Ghosts D) where
       let device : r ≡ Device = refusal_is {T = T} r failed in
       let no : NoMemory ≡ Device = sym is ∙ device in cc
 
-  pub prepared_one : {T : Type 0} (old new : Tree D g) (result : Result T Refusal) → ((disk : D) (c : Image) → g.honest disk → g.since disk (g.moment disk) c → g.may disk c) → disk_of new ≡ disk_of old → root_of new ≡ root_of old
-      → corners_of new ≡ corners_of old → sinks_of new ≡ sinks_of old → has_failed new ≡ has_failed old → has_failed old ≡ false → has_begun new ≡ has_begun old → staged_in g new ≡ staged_in g old
-      → records_due new ≤ records_due old + 1 → ((c : Corner) → HasStaged old c → HasStaged new c) → ((s : Stored) → IsAt g old s → IsAt g new s) → IfErr result (λ r. r ≡ NoMemory) → Prepares g 1 old new result
-  prepared_one old new result only_now disk root corners sinks failed works begun staged due still at refused = record {
+  pub prepared_one : {T : Type 0} (old new : Tree D g) (result : Result T Refusal) → ((disk : D) (c : Image) → g.honest disk → g.since disk (g.moment disk) c → g.may disk c) → MakesNoCall old new → has_failed old ≡ false
+      → corners_of new ≡ corners_of old → sinks_of new ≡ sinks_of old → staged_in g new ≡ staged_in g old → records_due new ≤ records_due old + 1 → ((c : Corner) → HasStaged old c → HasStaged new c) → ((s : Stored) → IsAt g old s → IsAt g new s) → IfErr result (λ r. r ≡ NoMemory) → Prepares g 1 old new result
+  prepared_one old new result only_now makes works corners sinks staged due still at refused = record {
     stages = record {
-      uncommitted = in_memory g old new result only_now disk root (failed ∙ works) at (not_device result refused);
+      uncommitted = in_memory g old new result only_now makes works (λ _. at) (not_device result refused);
       corners = corners;
       sinks = sinks;
       still_staged = still;
     };
     refused = refused;
-    works = failed ∙ works;
-    writes = ap g.writes disk;
-    begun = begun;
+    works = makes.failed ∙ works;
+    writes = ap g.writes makes.disk;
+    begun = makes.begun;
     due = due;
     staged = staged;
   }

@@ -5,6 +5,7 @@ use Rattle.lattice.specs.Corners.{Corner}
 use Rattle.cow_tree.specs.Stored.{StoredTile, stale_tile}
 use Rattle.cow_tree.specs.Trees.{staged_in}
 use Rattle.cow_tree.specs.declared.tree.Tree.{Tree}
+use Rattle.store.proofs.EditingSteps.{no_call_twice, no_call_yet}
 use Rattle.store.specs.Staling.{staled_in, staled, Stales}
 
 none_staled : (tiles : List StoredTile) → tiles ≡ staled (λ p. false) tiles
@@ -30,10 +31,7 @@ staled_twice f h (t ∷ rest) = ap₂ (λ (x : StoredTile) (xs : List StoredTile
 module _ {D : Type 0} (g : Ghosts D) where
   pub stales_none : (tree : Tree D g) → Stales g (λ p. false) tree tree
   stales_none tree = record {
-    disk = refl;
-    root = refl;
-    failed = refl;
-    begun = refl;
+    no_call = no_call_yet g tree;
     corners = refl;
     sinks = refl;
     due = omega arith;
@@ -44,10 +42,7 @@ module _ {D : Type 0} (g : Ghosts D) where
   -- once more
   pub stales_on : (f h : Corner → Bool) (a b c : Tree D g) → Stales g f a b → Stales g h b c → Stales g (λ p. f p || h p) a c
   stales_on f h a b c first second = record {
-    disk = second.disk ∙ first.disk;
-    root = second.root ∙ first.root;
-    failed = second.failed ∙ first.failed;
-    begun = second.begun ∙ first.begun;
+    no_call = no_call_twice g a b c first.no_call second.no_call;
     corners = second.corners ∙ first.corners;
     sinks = second.sinks ∙ first.sinks;
     due = omega (arith, second.due, first.due);
@@ -58,10 +53,7 @@ module _ {D : Type 0} (g : Ghosts D) where
   -- by a test that says the same of the tiles that are there
   pub stales_as : (f h : Corner → Bool) (a b : Tree D g) → ((t : StoredTile) → Contains (staged_in g a) t → f t.corner ≡ h t.corner) → Stales g f a b → Stales g h a b
   stales_as f h a b same stales = record {
-    disk = stales.disk;
-    root = stales.root;
-    failed = stales.failed;
-    begun = stales.begun;
+    no_call = stales.no_call;
     corners = stales.corners;
     sinks = stales.sinks;
     due = stales.due;

@@ -23,12 +23,12 @@ use Rattle.cow_tree.specs.Stored.{Stored}
 use Rattle.cow_tree.specs.Trees.{disk_of, root_of, has_failed, corners_of, sinks_of, records_due, HasStaged, staged_in, IsAt as IsTreeAt}
 use Rattle.cow_tree.specs.Upgrades.{MayUpgrade, UpgradesNot, upgraded_store}
 use Rattle.cow_tree.specs.declared.tree.Tree.{Tree}
-use Rattle.cow_tree.specs.Uncommitted.{CommitsNothing}
+use Rattle.cow_tree.specs.Uncommitted.{CommitsNothing, MakesNoCall}
 use Rattle.store.specs.Standing.{Holds}
 use Rattle.derived.specs.Clean.{IsClean}
 use Rattle.store.specs.TreeStates.{IsInState}
 use Rattle.store.specs.Upgraded.{IsUpgraded, has_room, may_refuse_upgrade, upgrade_ending}
-use Rattle.store.proofs.EditingSteps.{given_up, in_memory}
+use Rattle.store.proofs.EditingSteps.{in_memory}
 use Rattle.store.proofs.Ended as ended
 use Rattle.store.proofs.InMemory.{is_working}
 use Rattle.cow_tree.proofs.ReadOnly.{never_refused}
@@ -75,9 +75,7 @@ pub record HasUpgradedTree {D : Type 0} (g : Ghosts D) (mid new : Tree D g) (res
 
 -- what was staged in it is given up, and nothing else was done
 pub record HasGivenUp {D : Type 0} (g : Ghosts D) (old mid : Tree D g) : Type 0 where
-  pub disk : disk_of mid ≡ disk_of old
-  pub root : root_of mid ≡ root_of old
-  pub failed : has_failed mid ≡ has_failed old
+  pub no_call : MakesNoCall old mid
   pub sinks : sinks_of mid ≡ (root_of mid).sinks
   pub at : g.honest (disk_of old) → (s : Stored) → IsTreeAt g old s → IsTreeAt g mid s
   pub committed : g.honest (disk_of old) → (s : Stored) → IsTreeAt g old s → staged_in g mid ≡ s.tiles
@@ -95,7 +93,7 @@ module _ {D : Type 0} (g : Ghosts D) (only_now : (disk : D) (image : Image) → 
   -- nothing was committed so far
   before : CommitsNothing {T = Unit {0}} g old mid (Ok tt)
   before =
-      given_up g old old mid (Ok tt) (in_memory g old old (Ok tt) only_now refl refl works (λ s at. at) (λ device. never_refused tt Device device)) gave.disk gave.root gave.failed gave.at
+      in_memory g old mid (Ok tt) only_now gave.no_call works gave.at (λ device. never_refused tt Device device)
 
   -- a number that can't grow is the last
   last_is : g.honest (disk_of old) → (s : State) → IsInState g old s → ¬ ((root_of old).number + 1 < 2 ^ 64) → s.contents.number ≡ last_number
@@ -131,19 +129,19 @@ module _ {D : Type 0} (g : Ghosts D) (only_now : (disk : D) (image : Image) → 
   -- it is refused, and nothing was done
   module _ (r : Refusal) (done : HasUpgradedTree g mid new (Err r)) where
     refused_of : UpgradesNot (g.size (disk_of old)) (root_of old) r
-    refused_of = subst (λ (d : D). UpgradesNot (g.size d) (root_of old) r) gave.disk (subst (λ (root : RootValue). UpgradesNot (g.size (disk_of mid)) root r) gave.root done.refused)
+    refused_of = subst (λ (d : D). UpgradesNot (g.size d) (root_of old) r) gave.no_call.disk (subst (λ (root : RootValue). UpgradesNot (g.size (disk_of mid)) root r) gave.no_call.root done.refused)
 
     pub refuses : r ≢ Device → IsUpgraded g (Err r) old new
     refuses other =
         let same : new ≡ mid = done.unchanged other in
         let why = answers_not r other refused_of in
         subst (λ (tree : Tree D g). IsUpgraded g (Err r) old tree) (sym same)
-        (ended.quiet g (upgrade_ending (g.size (disk_of old)) (root_of old)) old mid works (Ok tt) before (gave.failed ∙ works)
+        (ended.quiet g (upgrade_ending (g.size (disk_of old)) (root_of old)) old mid works (Ok tt) before (gave.no_call.failed ∙ works)
         (λ honest s at.
         let sound = at.sound works in
-        let was = subst g.honest gave.disk honest in
+        let was = subst g.honest gave.no_call.disk honest in
         (gave.committed was sound.stored sound.tree ∙ sym sound.nothing_staged, gave.undeclared was sound.stored sound.tree ∙ sym sound.none_declared))
-        (Err r) (ended.other_refusal r other) why.0 tt (ap g.writes gave.disk) (λ honest s at. why.1 (subst g.honest gave.disk honest) s at))
+        (Err r) (ended.other_refusal r other) why.0 tt (ap g.writes gave.no_call.disk) (λ honest s at. why.1 (subst g.honest gave.no_call.disk honest) s at))
 
   -- ---- the commit
   abbrev doubt : State → Option Contents
@@ -154,13 +152,13 @@ module _ {D : Type 0} (g : Ghosts D) (only_now : (disk : D) (image : Image) → 
 
   module _ (result : Result (Unit {0}) Refusal) (done : HasUpgradedTree g mid new result) where
     size_is : g.size (disk_of new) ≡ g.size (disk_of old)
-    size_is = done.size ∙ ap g.size gave.disk
+    size_is = done.size ∙ ap g.size gave.no_call.disk
 
     later_is : g.failures (disk_of old) ≤ g.failures (disk_of new)
-    later_is = subst (λ (d : D). g.failures d ≤ g.failures (disk_of new)) gave.disk done.later
+    later_is = subst (λ (d : D). g.failures d ≤ g.failures (disk_of new)) gave.no_call.disk done.later
 
     honest_was : g.honest (disk_of new) → g.honest (disk_of old)
-    honest_was h = subst g.honest gave.disk (done.honest h)
+    honest_was h = subst g.honest gave.no_call.disk (done.honest h)
 
     mid_at : g.honest (disk_of new) → (s : State) → (at : IsInState g old s) → IsTreeAt g mid (at.sound works).stored
     mid_at h s at = gave.at (honest_was h) (at.sound works).stored (at.sound works).tree
@@ -168,14 +166,14 @@ module _ {D : Type 0} (g : Ghosts D) (only_now : (disk : D) (image : Image) → 
     run : g.honest (disk_of new) → (s : State) → (at : IsInState g old s)
         → LeavesOnly g (disk_of old) (disk_of new) (λ image. Stands (g.size (disk_of old)) image (at.sound works).stored ⊎ Stands (g.size (disk_of old)) image (target s at))
     run h s at =
-        subst (λ (d : D). LeavesOnly g d (disk_of new) (λ image. Stands (g.size d) image (at.sound works).stored ⊎ Stands (g.size d) image (target s at))) gave.disk
+        subst (λ (d : D). LeavesOnly g d (disk_of new) (λ image. Stands (g.size d) image (at.sound works).stored ⊎ Stands (g.size d) image (target s at))) gave.no_call.disk
         (done.any_moment h (at.sound works).stored (mid_at h s at))
 
     holds : g.honest (disk_of new) → (s : State) → (at : IsInState g old s) → Holds (root_of old).side (root_of old).capacity (target s at) (upgraded s.contents)
     holds h s at = upgraded_holds (root_of old).side (root_of old).capacity (at.sound works).stored s.contents (at.sound works).holds
 
   may_of : MayUpgrade (g.size (disk_of mid)) (root_of mid) → MayUpgrade (g.size (disk_of old)) (root_of old)
-  may_of may = subst (λ (d : D). MayUpgrade (g.size d) (root_of old)) gave.disk (subst (λ (root : RootValue). MayUpgrade (g.size (disk_of mid)) root) gave.root may)
+  may_of may = subst (λ (d : D). MayUpgrade (g.size d) (root_of old)) gave.no_call.disk (subst (λ (root : RootValue). MayUpgrade (g.size (disk_of mid)) root) gave.no_call.root may)
 
   number_at : MayUpgrade (g.size (disk_of old)) (root_of old) → (s : State) → IsInState g old s → s.contents.number < last_number
   number_at may s at = omega (arith, may.number, at.number)
@@ -186,16 +184,16 @@ module _ {D : Type 0} (g : Ghosts D) (only_now : (disk : D) (image : Image) → 
       let may : MayUpgrade (g.size (disk_of old)) (root_of old) = may_of done.refused in
       ended.fails_in_commit g (upgrade_ending (g.size (disk_of old)) (root_of old)) old new works (λ s. upgraded s.contents) target (size_is (Err Device) done) (later_is (Err Device) done)
       (honest_was (Err Device) done) (run (Err Device) done) (holds (Err Device) done) doubt (λ h s at. ended.is_doubted s.contents (upgraded s.contents) (number_at may s at)) refl
-      (λ s at. (old_at s at may, record { working = is_working g old works s at; fails = refl })) (done.last_known ∙ gave.root) (done.device refl)
-      (subst (λ (d : D). HasRisen (g.failures d) (g.failures (disk_of new))) gave.disk (done.cause refl))
+      (λ s at. (old_at s at may, record { working = is_working g old works s at; fails = refl })) (done.last_known ∙ gave.no_call.root) (done.device refl)
+      (subst (λ (d : D). HasRisen (g.failures d) (g.failures (disk_of new))) gave.no_call.disk (done.cause refl))
 
   -- it was done
   pub upgrades : HasUpgradedTree g mid new (Ok tt) → IsUpgraded g (Ok tt) old new
   upgrades done =
       let may : MayUpgrade (g.size (disk_of old)) (root_of old) = may_of done.allowed in
       ended.commits_it g (upgrade_ending (g.size (disk_of old)) (root_of old)) old new works (λ s. upgraded s.contents) target (size_is (Ok tt) done) (later_is (Ok tt) done)
-      (honest_was (Ok tt) done) (run (Ok tt) done) (holds (Ok tt) done) tt done.works (done.side ∙ ap (λ (r : RootValue). r.side) gave.root) (done.capacity ∙ ap (λ (r : RootValue). r.capacity) gave.root)
-      (record { version = done.version; count = done.count ∙ ap (λ (r : RootValue). r.count) gave.root; number = done.number ∙ ap (λ (r : RootValue). r.number + 1) gave.root })
+      (honest_was (Ok tt) done) (run (Ok tt) done) (holds (Ok tt) done) tt done.works (done.side ∙ ap (λ (r : RootValue). r.side) gave.no_call.root) (done.capacity ∙ ap (λ (r : RootValue). r.capacity) gave.no_call.root)
+      (record { version = done.version; count = done.count ∙ ap (λ (r : RootValue). r.count) gave.no_call.root; number = done.number ∙ ap (λ (r : RootValue). r.number + 1) gave.no_call.root })
       refl (seen_may (disk_of new)) (λ h s at. done.at h (at.sound works).stored (mid_at (Ok tt) done h s at)) (λ h s at. done.staged h (at.sound works).stored (mid_at (Ok tt) done h s at))
       (done.sinks ∙ gave.sinks ∙ sym done.declared)
       (λ h s at. (

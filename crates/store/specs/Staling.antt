@@ -9,7 +9,8 @@ use Rattle.lattice.specs.Mosaic.{Mosaic}
 use Rattle.edits.specs.declared.command.Command.{Command}
 use Rattle.edits.specs.Touched.{are_neighbours, goes_stale}
 use Rattle.cow_tree.specs.Stored.{KeptPlanes, StoredTile, Stored, stale_tile}
-use Rattle.cow_tree.specs.Trees.{disk_of, root_of, has_failed, has_begun, corners_of, sinks_of, records_due, staged_in, IsAt}
+use Rattle.cow_tree.specs.Trees.{corners_of, sinks_of, records_due, staged_in, IsAt}
+use Rattle.cow_tree.specs.Uncommitted.{MakesNoCall}
 use Rattle.cow_tree.specs.declared.tree.Tree.{Tree}
 
 -- the tiles, of which those whose corners pass the test are stale
@@ -25,10 +26,7 @@ near_holders n corners q p = list_any (λ c. holds n c q && are_neighbours c p) 
 
 -- the tiles whose corners pass the test will keep nothing, and nothing else has changed
 pub record Stales {D : Type 0} (g : Ghosts D) (test : Corner → Bool) (old new : Tree D g) : Type 0 where
-  pub disk : disk_of new ≡ disk_of old
-  pub root : root_of new ≡ root_of old
-  pub failed : has_failed new ≡ has_failed old
-  pub begun : has_begun new ≡ has_begun old
+  pub no_call : MakesNoCall old new
   pub corners : corners_of new ≡ corners_of old
   pub sinks : sinks_of new ≡ sinks_of old
   pub due : records_due new ≤ records_due old

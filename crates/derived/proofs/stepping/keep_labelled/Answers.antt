@@ -12,7 +12,7 @@ use Rattle.derived.specs.Steps.{HasStepped}
 use Rattle.cow_tree.specs.Uncommitted.{CommitsNothing}
 use Rattle.derived.proofs.Settled.{settled_at}
 use Rattle.derived.proofs.StepEnds.{no_memory, premised}
-use Rattle.cow_tree.proofs.Uncommitted.{in_memory, refused_as}
+use Rattle.cow_tree.proofs.Uncommitted.{in_memory, no_call_yet, refused_as}
 use Rattle.derived.proofs.stepping.keep_labelled.Goals as goal
 
 pub commit_planes-requires-clause-levels : goal.commit_planes-requires-clause-levels
@@ -30,7 +30,7 @@ returns-in_err-planes-clause-stepped g c =
     let old = c.args.tree.now in
     let r : Refusal = c.in_err-planes.field-0.0 in
     let seen = g.met.D.Disk.seen_may in
-    let nothing : CommitsNothing {T = Unit {0}} d old old (Err NoMemory) = in_memory d old old (Err NoMemory) g.met.D.Disk.only_now refl refl c.requires.works (λ s at. at) (λ device. absurd (let e : Err NoMemory ≡ Err Device = device in cc)) in
+    let nothing : CommitsNothing {T = Unit {0}} d old old (Err NoMemory) = in_memory d old old (Err NoMemory) g.met.D.Disk.only_now (no_call_yet d old) c.requires.works (λ _ s at. at) (λ device. absurd (let e : Err NoMemory ≡ Err Device = device in cc)) in
     subst (λ (result : Result (Option Corner) Refusal). HasStepped d P old old result) (sym (refused_as c.from_residual.result r c.from_residual.ensures.1))
     (subst (λ (x : Refusal). HasStepped d P old old (Err x)) (sym c.in_err-planes.ensures.refusal)
     (no_memory d P seen old old (Err NoMemory) nothing c.requires.works c.requires.clean refl

@@ -1,4 +1,4 @@
-use Rattle.std.proofs.Common.{◌≡◌, ◌≢◌, false, List, [], length, refl, sym, ap, ◌∙◌, subst, arith}
+use Rattle.std.proofs.Common.{◌≡◌, ◌≢◌, false, List, [], length, sym, ap, ◌∙◌, subst, arith}
 use Rattle.std.specs.Prelude.{Ok, Contains, IfSome}
 use Rattle.lattice.specs.Corners.{Corner}
 use Rattle.lattice.specs.Mosaic.{Mosaic}
@@ -13,7 +13,7 @@ use Rattle.derived.specs.Clean.{IsClean}
 use Rattle.derived.specs.Kept.{stale_among, stale_in, mosaic_stored}
 use Rattle.cow_tree.specs.Uncommitted.{CommitsNothing}
 use Rattle.derived.proofs.StepEnds.{none_is_stale, is_worn, premised, stepped_after}
-use Rattle.cow_tree.proofs.Uncommitted.{in_memory, given_up}
+use Rattle.cow_tree.proofs.Uncommitted.{in_memory}
 use Rattle.derived.proofs.stepping.step_held.Goals as goal
 use Rattle.derived.proofs.stepping.step_held.Goals.{After-abandon}
 
@@ -28,10 +28,8 @@ module _ (g : _) (c : After-abandon g) where
 
   nothing_done : has_failed c.args.tree.now ≡ false → CommitsNothing {T = Unit {0}} g.D.Disk c.args.tree.now c.abandon.new.self (Ok tt)
   nothing_done works =
-      let d = g.D.Disk in
-      let old = c.args.tree.now in
       let gives = c.abandon.ensures in
-      given_up d old old c.abandon.new.self (Ok tt) (in_memory d old old (Ok tt) g.met.D.Disk.only_now refl refl works (λ s at. at) (λ refused. never_refused tt Device refused)) gives.disk gives.root gives.failed gives.at
+      in_memory g.D.Disk c.args.tree.now c.abandon.new.self (Ok tt) g.met.D.Disk.only_now gives.no_call works gives.at (λ refused. never_refused tt Device refused)
 
   clean : IsClean c.abandon.new.self
   clean = record { none_staged = c.abandon.ensures.none_staged; none_due = c.abandon.ensures.none_due; corners = c.abandon.ensures.corners }
@@ -39,7 +37,7 @@ module _ (g : _) (c : After-abandon g) where
   settled : g.D.Disk.honest (disk_of c.abandon.new.self) → (s : Stored) → IsAt g.D.Disk c.args.tree.now s → (staged_in g.D.Disk c.abandon.new.self ≡ s.tiles) × (sinks_of c.abandon.new.self ≡ s.sinks)
   settled honest s at =
       let gives = c.abandon.ensures in
-      let was = subst g.D.Disk.honest gives.disk honest in
+      let was = subst g.D.Disk.honest gives.no_call.disk honest in
       (gives.committed was s at, gives.undeclared was s at)
 
 pub returns-in_default-clause-stepped : goal.returns-in_default-clause-stepped
@@ -47,8 +45,8 @@ returns-in_default-clause-stepped g c works =
     let after = (goal.at.returns-in_default-clause-stepped g c).After-abandon in
     let d = g.D.Disk in
     let gives = c.abandon.ensures in
-    let entries = c.entries.ensures.value ∙ ap (λ (r : RootValue). r.entries) (c.current-root.ensures ∙ gives.root) in
-    none_is_stale d (given g after) g.met.D.Disk.seen_may c.args.tree.now c.abandon.new.self (Ok tt) (nothing_done g after works) (gives.failed ∙ works) (clean g after) (ap d.writes gives.disk) (settled g after)
+    let entries = c.entries.ensures.value ∙ ap (λ (r : RootValue). r.entries) (c.current-root.ensures ∙ gives.no_call.root) in
+    none_is_stale d (given g after) g.met.D.Disk.seen_may c.args.tree.now c.abandon.new.self (Ok tt) (nothing_done g after works) (gives.no_call.failed ∙ works) (clean g after) (ap d.writes gives.no_call.disk) (settled g after)
     (subst (λ (es : List EntryValue). stale_among es ≡ []) entries c.in_default.ensures)
 
 pub returns-then-number-clause-stepped : goal.returns-then-number-clause-stepped
@@ -56,9 +54,9 @@ returns-then-number-clause-stepped g c works =
     let after = (goal.at.returns-then-number-clause-stepped g c).After-abandon in
     let d = g.D.Disk in
     let gives = c.abandon.ensures in
-    let root : c.current-root.result.now ≡ root_of c.args.tree.now = c.current-root.ensures ∙ gives.root in
+    let root : c.current-root.result.now ≡ root_of c.args.tree.now = c.current-root.ensures ∙ gives.no_call.root in
     let entries = c.entries.ensures.value ∙ ap (λ (r : RootValue). r.entries) root in
-    is_worn d (given g after) g.met.D.Disk.seen_may c.args.tree.now c.abandon.new.self (Ok tt) (nothing_done g after works) (gives.failed ∙ works) (clean g after) (ap d.writes gives.disk) (settled g after)
+    is_worn d (given g after) g.met.D.Disk.seen_may c.args.tree.now c.abandon.new.self (Ok tt) (nothing_done g after works) (gives.no_call.failed ∙ works) (clean g after) (ap d.writes gives.no_call.disk) (settled g after)
     (ap (λ (r : RootValue). r.number) (sym root) ∙ sym c.number.ensures ∙ c.if-number.true)
     (not_empty (stale_in (root_of c.args.tree.now)) c.in-Some.corner (subst (λ (es : List EntryValue). Contains (stale_among es) c.in-Some.corner) entries c.in-Some.ensures))
 
@@ -67,7 +65,7 @@ returns-in-None-clause-stepped g c works =
     let after = (goal.at.returns-in-None-clause-stepped g c).After-abandon in
     let d = g.D.Disk in
     let mid = c.abandon.new.self in
-    stepped_after d (given g after) g.met.D.Disk.seen_may c.args.tree.now mid c.keep.new.tree tt (nothing_done g after works) (ap d.writes c.abandon.ensures.disk) c.keep.result
+    stepped_after d (given g after) g.met.D.Disk.seen_may c.args.tree.now mid c.keep.new.tree tt (nothing_done g after works) (ap d.writes c.abandon.ensures.no_call.disk) c.keep.result
     (premised d (λ m. Unit {0}) g.met.D.Disk.seen_may (given g after) mid c.keep.new.tree c.keep.result (λ honest s p at keeps. tt) c.keep.ensures.stepped)
 
 pub returns-in-Some-labelling_of-clause-stepped : goal.returns-in-Some-labelling_of-clause-stepped
@@ -76,7 +74,7 @@ returns-in-Some-labelling_of-clause-stepped g c works =
     let d = g.D.Disk in
     let mid = c.abandon.new.self in
     let labelled = c.in-Some-labelling_of.labelled.now in
-    stepped_after d (given g after) g.met.D.Disk.seen_may c.args.tree.now mid c.keep_labelled.new.tree tt (nothing_done g after works) (ap d.writes c.abandon.ensures.disk) c.keep_labelled.result
+    stepped_after d (given g after) g.met.D.Disk.seen_may c.args.tree.now mid c.keep_labelled.new.tree tt (nothing_done g after works) (ap d.writes c.abandon.ensures.no_call.disk) c.keep_labelled.result
     (premised d (λ m. IsFlooded m c.in-Some.corner labelled) g.met.D.Disk.seen_may (given g after) mid c.keep_labelled.new.tree c.keep_labelled.result
     (λ honest s p at keeps.
     subst (λ found. IfSome found (λ l. IsFlooded (mosaic_stored s) c.in-Some.corner l.now)) c.in-Some-labelling_of.ensures.1

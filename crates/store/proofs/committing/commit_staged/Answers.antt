@@ -17,12 +17,12 @@ returns-in-Err-clause-command g c old command staged =
     let r : Refusal = c.in-Err.refusal in
     let refused : IsStaged d old mid command (Err r) = subst (λ (answer : Result (Unit {0}) Refusal). IsStaged d old mid command answer) c.in-Err.is staged in
     gives_up d old new command refused.working r
-    (given_up d old mid new (Err r) refused.uncommitted c.abandon.ensures.disk c.abandon.ensures.root c.abandon.ensures.failed c.abandon.ensures.at)
-    (⊎_elim (λ device. inl device) (λ no_room. inr (no_room.0, c.abandon.ensures.failed ∙ no_room.1, ap d.writes c.abandon.ensures.disk ∙ no_room.2)) refused.refused)
+    (given_up d old mid new (Err r) refused.uncommitted c.abandon.ensures.no_call c.abandon.ensures.at)
+    (⊎_elim (λ device. inl device) (λ no_room. inr (no_room.0, c.abandon.ensures.no_call.failed ∙ no_room.1, ap d.writes c.abandon.ensures.no_call.disk ∙ no_room.2)) refused.refused)
     (λ honest s at works.
     let sound = at.sound refused.working in
-    let mid_honest = subst d.honest c.abandon.ensures.disk honest in
-    let mid_at = refused.uncommitted.at mid_honest sound.stored sound.tree (sym c.abandon.ensures.failed ∙ works) in
+    let mid_honest = subst d.honest c.abandon.ensures.no_call.disk honest in
+    let mid_at = refused.uncommitted.at mid_honest sound.stored sound.tree (sym c.abandon.ensures.no_call.failed ∙ works) in
     (c.abandon.ensures.committed mid_honest sound.stored mid_at, c.abandon.ensures.undeclared mid_honest sound.stored mid_at))
 
 pub returns-in_err-commit-clause-command : goal.returns-in_err-commit-clause-command

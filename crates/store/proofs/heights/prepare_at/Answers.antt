@@ -26,7 +26,7 @@ returns-in_err-prepare-clause-prepares g c =
     subst (λ (result : Result (Unit {0}) Refusal). Prepares d 4 old new result) (sym (refused_as c.from_residual.result r c.from_residual.ensures.1))
     (prepares_within d (i + 1) 4 old new err (let few = c.as_slice-corner-items.ensures.fits in let less = c.loop-corner-test.true in omega (arith, few, less))
     (prepares_on d i 1 old mid new tt err so.prepares
-    (prepared_one d mid new err g.met.D.Disk.only_now is.disk is.root is.corners is.sinks is.failed so.prepares.works is.begun is.staged is.due is.still_staged is.at c.in_err-prepare.ensures.refused)))
+    (prepared_one d mid new err g.met.D.Disk.only_now is.no_call so.prepares.works is.corners is.sinks is.staged is.due is.still_staged is.at c.in_err-prepare.ensures.refused)))
 
 pub loop-corner-preserved : goal.loop-corner-preserved
 loop-corner-preserved g c =
@@ -44,7 +44,7 @@ loop-corner-preserved g c =
             let is = w.in_ok-prepare.ensures in
             subst (λ (t : Tree _ d). Prepares {T = Unit {0}} d (i + 1) old t ok) (sym w.tree-is)
             (prepares_on d i 1 old mid w.prepare.new.self tt ok so.prepares
-            (prepared_one d mid w.prepare.new.self ok g.met.D.Disk.only_now is.disk is.root is.corners is.sinks is.failed so.prepares.works is.begun is.staged is.due is.still_staged is.at tt))
+            (prepared_one d mid w.prepare.new.self ok g.met.D.Disk.only_now is.no_call so.prepares.works is.corners is.sinks is.staged is.due is.still_staged is.at tt))
         | else-present w ↦
             subst (λ (t : Tree _ d). Prepares {T = Unit {0}} d (i + 1) old t ok) (sym w.tree-is) (prepares_within d i (i + 1) old mid ok (omega arith) so.prepares)
       ];

@@ -34,7 +34,7 @@ loop-corner-preserved g c =
           let dropped = w.drop_kept.ensures in
           subst (λ (t : Tree _ d). Stales d (near_first c.args.touched (take (i + 1) corners)) old t) (sym w.tree-is)
           (near_more d c.args.touched corners i here within is old mid c.loop-corner.invariant w.drop_kept.new.self near
-          (record { disk = dropped.disk; root = dropped.root; failed = dropped.failed; begun = dropped.begun; corners = dropped.corners; sinks = dropped.sinks; due = dropped.due; staged = dropped.staged; at = dropped.at }))
+          (record { no_call = dropped.no_call; corners = dropped.corners; sinks = dropped.sinks; due = dropped.due; staged = dropped.staged; at = dropped.at }))
       | else-is_near w ↦
           let far : are_neighbours c.args.touched here ≡ false = search rules in
           subst (λ (t : Tree _ d). Stales d (near_first c.args.touched (take (i + 1) corners)) old t) (sym w.tree-is)

@@ -100,7 +100,7 @@ returns-in-Drop-clause-uncommitted g c =
     let is = c.drop_plane.ensures in
     let nothing : Unit {0} = tt in
     let ok : Result (Unit {0}) Refusal = Ok nothing in
-    in_memory g.D.Disk c.args.tree.now c.drop_plane.new.self ok g.met.D.Disk.only_now is.disk is.root is.not_failed is.at (λ refused. never_refused nothing Device refused)
+    in_memory g.D.Disk c.args.tree.now c.drop_plane.new.self ok g.met.D.Disk.only_now is.no_call c.requires.works (λ _. is.at) (λ refused. never_refused nothing Device refused)
 
 pub returns-in-Drop-clause-made : goal.returns-in-Drop-clause-made
 returns-in-Drop-clause-made g c honest s m at valid are sinks finds =
@@ -171,14 +171,14 @@ returns-in-Sink-clause-uncommitted g c =
     let is = c.declare.ensures in
     let nothing : Unit {0} = tt in
     let ok : Result (Unit {0}) Refusal = Ok nothing in
-    in_memory g.D.Disk c.args.tree.now c.declare.new.self ok g.met.D.Disk.only_now is.disk is.root (is.failed ∙ c.requires.works) is.at (λ refused. never_refused nothing Device refused)
+    in_memory g.D.Disk c.args.tree.now c.declare.new.self ok g.met.D.Disk.only_now is.no_call c.requires.works (λ _. is.at) (λ refused. never_refused nothing Device refused)
 
 pub returns-in-Unsink-clause-uncommitted : goal.returns-in-Unsink-clause-uncommitted
 returns-in-Unsink-clause-uncommitted g c =
     let is = c.declare-in-Unsink.ensures in
     let nothing : Unit {0} = tt in
     let ok : Result (Unit {0}) Refusal = Ok nothing in
-    in_memory g.D.Disk c.args.tree.now c.declare-in-Unsink.new.self ok g.met.D.Disk.only_now is.disk is.root (is.failed ∙ c.requires.works) is.at (λ refused. never_refused nothing Device refused)
+    in_memory g.D.Disk c.args.tree.now c.declare-in-Unsink.new.self ok g.met.D.Disk.only_now is.no_call c.requires.works (λ _. is.at) (λ refused. never_refused nothing Device refused)
 
 pub returns-in-Sink-clause-made : goal.returns-in-Sink-clause-made
 returns-in-Sink-clause-made g c honest s m at valid are sinks finds =

@@ -6,7 +6,7 @@ returns-clause-upgraded g c =
     let gave = c.abandon.ensures in
     let does = c.upgrade.ensures in
     ends g.D.Disk g.met.D.Disk.only_now g.met.D.Disk.seen_may c.args.tree.now c.abandon.new.self c.upgrade.new.self c.requires.works
-    (record { disk = gave.disk; root = gave.root; failed = gave.failed; sinks = gave.sinks; at = gave.at; committed = gave.committed; undeclared = gave.undeclared })
+    (record { no_call = gave.no_call; sinks = gave.sinks; at = gave.at; committed = gave.committed; undeclared = gave.undeclared })
     c.upgrade.result
     (record {
       size = does.size;

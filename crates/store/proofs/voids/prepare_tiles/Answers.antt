@@ -28,7 +28,7 @@ returns-in_err-prepare-clause-prepares g c =
     subst (λ (result : Result (Unit {0}) Refusal). Prepares d (length c.args.tiles.now) c.args.tree.now new result) (sym (refused_as c.from_residual.result r c.from_residual.ensures.1))
     (prepares_within d (i + 1) (length c.args.tiles.now) c.args.tree.now new err (let less = c.loop-corner-test.true in omega (arith, less))
     (prepares_on d i 1 c.args.tree.now mid new tt err so.prepares
-    (prepared_one d mid new err g.met.D.Disk.only_now is.disk is.root is.corners is.sinks is.failed so.prepares.works is.begun is.staged is.due is.still_staged is.at c.in_err-prepare.ensures.refused)))
+    (prepared_one d mid new err g.met.D.Disk.only_now is.no_call so.prepares.works is.corners is.sinks is.staged is.due is.still_staged is.at c.in_err-prepare.ensures.refused)))
 
 pub loop-corner-preserved : goal.loop-corner-preserved
 loop-corner-preserved g c =
@@ -41,7 +41,7 @@ loop-corner-preserved g c =
     let ok : Result (Unit {0}) Refusal = Ok tt in
     record {
       prepares = prepares_on d i 1 c.args.tree.now mid new tt ok so.prepares
-          (prepared_one d mid new ok g.met.D.Disk.only_now is.disk is.root is.corners is.sinks is.failed so.prepares.works is.begun is.staged is.due is.still_staged is.at tt);
+          (prepared_one d mid new ok g.met.D.Disk.only_now is.no_call so.prepares.works is.corners is.sinks is.staged is.due is.still_staged is.at tt);
       prepared = All-more (HasStaged new) c.args.tiles.now i c.corner-item.result c.loop-corner-test.true (All-weaker (HasStaged mid) (HasStaged new) is.still_staged (take i c.args.tiles.now) so.prepared)
           (subst (HasStaged new) c.corner-item.is c.in_ok-prepare.ensures.has_staged);
     }

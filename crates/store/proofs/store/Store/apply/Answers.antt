@@ -169,17 +169,17 @@ returns-clause-call g c =
     let read : Result Edit Refusal = Ok made in
     let gives_up : CommitsNothing d old marked (Ok nothing) =
     uncommitted_on d old planned marked made (Ok nothing) (reading d old planned keeps read (λ refused. never_refused made Device refused) (λ refused. absurd (never_refused made Device refused)) now_works)
-    (in_memory d planned marked (Ok nothing) g.met.D.Disk.only_now marks.disk marks.root (marks.failed ∙ now_works) marks.at (λ refused. never_refused nothing Device refused)) in
+    (in_memory d planned marked (Ok nothing) g.met.D.Disk.only_now marks.no_call now_works (λ _. marks.at) (λ refused. never_refused nothing Device refused)) in
     let clean = still_clean d old planned works keeps c.args.self.now.clean now_works in
     let few =
-    staged_written d (root_of old).version (root_of old).side marked mid c.commit_staged.new.tree c.stage-staged.result (ap (λ (r : RootValue). r.version) (marks.root ∙ keeps.root)) (let due = marks.due in omega (arith, due, clean.none_due))
+    staged_written d (root_of old).version (root_of old).side marked mid c.commit_staged.new.tree c.stage-staged.result (ap (λ (r : RootValue). r.version) (marks.no_call.root ∙ keeps.root)) (let due = marks.due in omega (arith, due, clean.none_due))
     c.commit_staged.ensures.writes c.commit_staged.ensures.unwritten command made is.form stages.few in
     commanded d g.met.D.Disk.only_now c.args.self.now _ command result
     (done_holding d old c.commit_staged.new.tree c.args.self.now.held c.invalidate_edit.new.held command result
     (λ honest s at right.
     let sound = at.sound works in
     let m : Mosaic = s.contents.mosaic in
-    let planned_honest = subst d.honest marks.disk (stages.uncommitted.honest (c.commit_staged.ensures.honest honest)) in
+    let planned_honest = subst d.honest marks.no_call.disk (stages.uncommitted.honest (c.commit_staged.ensures.honest honest)) in
     let same_m = mosaic_is d old planned keeps works s at in
     let makes : effect (root_of old).capacity m command ≡ Ok (edit_made made m) =
     subst (λ (n : ℕ). effect n m command ≡ Ok (edit_made made m)) capacity
@@ -190,15 +190,15 @@ returns-clause-call g c =
     (c.commit_staged.ensures.command old command (record {
       working = works;
       uncommitted = uncommitted_on d old marked mid nothing c.stage-staged.result gives_up stages.uncommitted;
-      refused = IfErr-weaker c.stage-staged.result _ _ (λ r. ⊎_elim (λ device. inl device) (λ no_room. inr (no_room.0, no_room.1, no_room.2 ∙ ap d.writes marks.disk ∙ keeps.writes))) stages.refused;
+      refused = IfErr-weaker c.stage-staged.result _ _ (λ r. ⊎_elim (λ device. inl device) (λ no_room. inr (no_room.0, no_room.1, no_room.2 ∙ ap d.writes marks.no_call.disk ∙ keeps.writes))) stages.refused;
       next = λ honest s at.
           let sound = at.sound works in
           let m : Mosaic = s.contents.mosaic in
           let marked_honest = stages.uncommitted.honest honest in
-          let planned_honest = subst d.honest marks.disk marked_honest in
+          let planned_honest = subst d.honest marks.no_call.disk marked_honest in
           let sure = readable d old planned keeps works s at planned_honest in
           let same_m = mosaic_is d old planned keeps works s at in
-          let root : root_of marked ≡ root_of old = marks.root ∙ keeps.root in
+          let root : root_of marked ≡ root_of old = marks.no_call.root ∙ keeps.root in
           let side : (root_of marked).side ≡ (root_of old).side = ap (λ (r : RootValue). r.side) root in
           let makes : effect (root_of old).capacity m command ≡ Ok (edit_made made m) =
           subst (λ (n : ℕ). effect n m command ≡ Ok (edit_made made m)) capacity
@@ -223,7 +223,7 @@ returns-clause-call g c =
           (λ so. made_holds d old marked mid works command s at made makes valid side now (λ corner comes. comes_stale m command made corner is.form comes) so)
           (stages.made honest sound.stored m marked_at sound.holds.valid tiles sinks finds);
     })))
-    (subst (λ (n : ℕ). WritesFew (number_of (root_of old).version) (root_of old).side (ask.Do command) n (d.writes (disk_of c.commit_staged.new.tree))) (ap d.writes marks.disk ∙ keeps.writes) few)
+    (subst (λ (n : ℕ). WritesFew (number_of (root_of old).version) (root_of old).side (ask.Do command) n (d.writes (disk_of c.commit_staged.new.tree))) (ap d.writes marks.no_call.disk ∙ keeps.writes) few)
     (λ had. absurd (both_ways (has_failed old) works had))
 
 -- ---- what staging asks
@@ -243,7 +243,7 @@ stage-staged-requires-clause-fits g c =
     let old = c.args.self.now.tree in
     let marked = c.mark_stale.new.tree in
     let made : Edit = c.in_ok-edit.edit in
-    subst (λ (n : ℕ). FitsIn n (corners_of marked) (sinks_of marked) made) (sym (ap (λ (r : RootValue). r.side) (marks.root ∙ keeps.root)))
+    subst (λ (n : ℕ). FitsIn n (corners_of marked) (sinks_of marked) made) (sym (ap (λ (r : RootValue). r.side) (marks.no_call.root ∙ keeps.root)))
     (subst (λ (cs : List Corner). FitsIn (root_of old).side cs (sinks_of marked) made) (sym (marks.corners ∙ keeps.corners))
     (subst (λ sinks. FitsIn (root_of old).side (corners_of old) sinks made) (sym (marks.sinks ∙ keeps.sinks)) c.in_ok-edit.ensures.fits))
 
@@ -254,7 +254,7 @@ stage-staged-requires-clause-room g c =
     let old = c.args.self.now.tree in
     let marked = c.mark_stale.new.tree in
     let made : Edit = c.in_ok-edit.edit in
-    subst (λ (n : ℕ). HasRoom n (corners_of marked) made) (c.capacity-capacity.ensures.value ∙ ap (λ (x : RootValue). x.capacity) (c.current.ensures ∙ sym (marks.root ∙ keeps.root)))
+    subst (λ (n : ℕ). HasRoom n (corners_of marked) made) (c.capacity-capacity.ensures.value ∙ ap (λ (x : RootValue). x.capacity) (c.current.ensures ∙ sym (marks.no_call.root ∙ keeps.root)))
     (subst (λ (cs : List Corner). HasRoom c.capacity-capacity.result cs made) (sym (marks.corners ∙ keeps.corners)) c.in_ok-edit.ensures.room)
 
 pub invariant_of-self : goal.invariant_of-self
