@@ -1,6 +1,6 @@
 -- What is held of a tile that a change doesn't reach is kept, change after change.
 use Rattle.std.proofs.Common.{◌≡◌, ℕ, ℤ, ◌<◌, true, false, List, length, get_or, refl, sym, ap, ◌∙◌, subst}
-use Rattle.std.specs.Prelude.{◌↔◌, Option, Some, None, All, nat_lt, not}
+use Rattle.std.specs.Prelude.{◌↔◌, Option, Some, None, nat_lt, not}
 use Rattle.std.proofs.lemmas.Bool.{or_parts, false_from_ne_true, both_ways, ltb-true}
 use Rattle.std.proofs.lemmas.List.Elements.{All-get_or}
 use Rattle.lattice.specs.Corners.{Corner}
@@ -9,7 +9,7 @@ use Rattle.lattice.specs.declared.point.Point.{Point}
 use Rattle.edits.specs.declared.edit.NewHeight.{NewHeight}
 use Rattle.border_graph.specs.Others.{corner_at}
 use Rattle.drainage.specs.Between.{are_noted}
-use Rattle.drainage.specs.Beyond.{IsKeptAt, is_beyond, are_kept_from, are_kept_beyond, are_levels_kept}
+use Rattle.drainage.specs.Beyond.{is_beyond, are_kept_from, are_kept_beyond, are_levels_kept}
 use Rattle.drainage.specs.Holding.{level_of}
 use Rattle.drainage.specs.Reaching.{is_between, is_reached, reaches}
 use Rattle.drainage.specs.Spared.{IsSpared}

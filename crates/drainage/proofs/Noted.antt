@@ -1,21 +1,15 @@
 -- A tile whose labelling is held, where the height of one point may change.
-use Rattle.std.proofs.Common.{◌≡◌, ◌≢◌, inl, inr, ℕ, ◌-◌, ◌*◌, ◌<◌, ◌≤◌, true, false, IsTrue, refl, sym, ◌∙◌, ap, subst, arith}
+use Rattle.std.proofs.Common.{◌≡◌, ℕ, ◌<◌, ◌≤◌, true, false, IsTrue, refl, sym, ◌∙◌, ap}
 use Rattle.std.specs.Prelude.{Option, Some, None, IsSome, IfSome, IfNone}
 use Rattle.std.proofs.lemmas.Bool.{false_from_ne_true, false≢true}
-use Rattle.lattice.specs.Block.{Block, IsBlockOf}
 use Rattle.lattice.specs.Corners.{Corner, is_corner}
 use Rattle.lattice.specs.declared.point.Point.{Point}
-use Rattle.lattice.specs.Ground.{metres, is_sink}
-use Rattle.lattice.specs.Height.{height_of}
 use Rattle.lattice.specs.Lattice.{Holds, IsIndexOf, holds, index_of, point_of}
 use Rattle.lattice.specs.Mosaic.{Mosaic}
 use Rattle.lattice.proofs.Samples.{index_of_point_is, holds_is}
 use Rattle.lattice.proofs.Multiples.{some_side}
-use Rattle.tile_labellings.specs.Labellings.{IsFlooded, IsBlockBut}
 use Rattle.tile_labellings.specs.TileLabellings.{IsTileLabelling, DifferAt as DifferAtIndex}
 use Rattle.tile_labellings.specs.declared.tile_labelling.TileLabelling.{TileLabelling}
-use Rattle.tile_labellings.specs.declared.tile_labelling.TileLabelling.TheVariants.{Kept, Flooded}
-use Rattle.tile_flood.specs.Blocks.{LabelledGround}
 use Rattle.drainage.specs.Reaching.{is_between, DifferAt}
 use Rattle.drainage.proofs.Asked.{is_at}
 use Rattle.drainage.proofs.Reached.{between_itself}

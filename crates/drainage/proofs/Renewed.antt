@@ -1,5 +1,5 @@
 -- A labelling is asked of a tile that is there.
-use Rattle.std.proofs.Common.{◌≡◌, ℕ, ◌<◌, pos, List, length, sym, ◌∙◌, subst}
+use Rattle.std.proofs.Common.{◌≡◌, ℕ, ◌<◌, pos, List, length, ◌∙◌, subst}
 use Rattle.std.specs.Prelude.{Contains}
 use Rattle.std.proofs.lemmas.List.{get_or_default}
 use Rattle.lattice.specs.Corners.{Corner}

@@ -1,6 +1,6 @@
 -- The levels of a whole tile, from its labelling and those of its rim.
 use Rattle.std.proofs.Common.{◌≡◌, ℕ, ◌<◌, ◌⊎◌, inl, inr, ℤ, IsTrue, List, Result, Ok, Err, length, refl, sym, ap, ◌∙◌, subst}
-use Rattle.std.specs.Prelude.{IfErr, Option, Contains}
+use Rattle.std.specs.Prelude.{IfErr, Contains}
 use Rattle.lattice.specs.Corners.{Corner}
 use Rattle.lattice.specs.Mosaic.{Mosaic, IsMosaic}
 use Rattle.lattice.specs.declared.refusal.Refusal.{Refusal}

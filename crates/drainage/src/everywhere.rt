@@ -8,13 +8,10 @@ ghost use Rattle.catalogue.specs.Endings.{ends_any};
 ghost use Rattle.flow_d8.specs.Filled.{IsFilledOf};
 ghost use Rattle.drainage.specs.Between.{IsHeldOf, IsHeldFor};
 ghost use Rattle.drainage.specs.Everywhere.{AreLevelsOf};
-ghost use Rattle.drainage.specs.Holding.{IsRight};
 ghost use Rattle.drainage.specs.Room.{most_samples};
-ghost use Rattle.drainage.specs.TileCaches.{known_of};
 
 use crate::drainage_cache::DrainageCache;
-use crate::tile_cache::TileCache;
-use crate::tile_levels::tile_levels;
+use crate::learning::levels_at;
 use flow_d8::Filled;
 use lattice::{MOST_TILES, Refusal, Side};
 use std::alloc::Global;
@@ -87,29 +84,10 @@ fn levels_of<S: Labellings>(
     ensures causes { IfErr result (λ r. IsTrue (ends_any r)) }
     ensures asked { Asked S.Samples samples.old samples.new result }
 {
-    let mut tile_cache = held.take(alloc, samples)?;
-    let levels = levels_by(alloc, samples, &mut tile_cache);
-    held.put(tile_cache);
-    levels
-}
-
-// The same by what is held of levels.
-fn levels_by<S: Labellings>(
-    alloc: Global,
-    samples: &mut S,
-    tile_cache: &mut TileCache,
-) -> Result<Vec<i16>, Refusal>
-    requires right { S.is_honest samples.old → IsRight (S.mosaic samples.old) (known_of tile_cache.old) }
-    requires few { length (S.corners samples.old) ≤ most_tiles }
-    ensures levels { S.is_honest samples.new → IfOk result (λ levels. AreLevelsOf (S.mosaic samples.old) (length (S.corners samples.old)) levels.items) }
-    ensures right { S.is_honest samples.new → IsRight (S.mosaic samples.new) (known_of tile_cache.new) }
-    ensures causes { IfErr result (λ r. IsTrue (ends_any r)) }
-    ensures asked { Asked S.Samples samples.old samples.new result }
-{
     let count = samples.count();
     let mut levels = Vec::with_capacity(alloc, count * samples.side().area() as usize)?;
     for t in 0..count {
-        let tile = tile_levels(alloc, samples, tile_cache, t)?;
+        let tile = levels_at(alloc, samples, held, t)?;
         append(&mut levels, &tile)?;
     }
     Ok(levels)

@@ -64,8 +64,9 @@ fn learn_at<S: Labellings>(
     Ok(true)
 }
 
-// The filled levels of the tile with this place.
-fn levels_at<S: Labellings>(
+/// The filled levels of the tile with this place, row by row from the north; void where a point isn't ground. What is found
+/// is held then.
+pub(crate) fn levels_at<S: Labellings>(
     alloc: Global,
     samples: &mut S,
     held: &mut DrainageCache,

@@ -1,25 +1,73 @@
-use Rattle.std.proofs.Common.{sym, subst}
-use Rattle.lattice.specs.Mosaic.{Mosaic}
-use Rattle.drainage.specs.Between.{IsHeldOf}
-use Rattle.catalogue.proofs.Reading.{reads_nothing}
-use Rattle.drainage.proofs.AllLevels.{short_of_memory}
-use Rattle.std.proofs.Common.{rules, ◌≡◌}
+use Rattle.std.proofs.Common.{rules, ◌≡◌, ◌++◌, ℤ, List, Ok, Err, length, sym, ap, ◌∙◌, subst, arith}
 use Rattle.std.specs.Prelude.{IfErr}
+use Rattle.std.proofs.lemmas.Result.{err_from_is_err_and}
+use Rattle.lattice.specs.Corners.{Corner}
+use Rattle.lattice.specs.Mosaic.{Mosaic}
 use Rattle.lattice.specs.declared.refusal.Refusal.TheVariants.{NoMemory}
+use Rattle.border_graph.specs.Others.{corner_at}
+use Rattle.catalogue.proofs.Asking.{asked_on, asked_passed}
+use Rattle.catalogue.proofs.Reading.{reads_nothing, reads_on}
+use Rattle.tile_flood.specs.Raising.{AreTileLevels}
+use Rattle.drainage.specs.Everywhere.{AreLevelsOf}
+use Rattle.drainage.proofs.AllLevels.{no_tiles, tile_more, short_of_memory}
+use Rattle.drainage.proofs.Questioned.{asked_reads, answered, refused_by}
 use Rattle.drainage.proofs.everywhere.levels_of.Goals as goal
 
-pub returns-in_err-tile_cache-clause-held : goal.returns-in_err-tile_cache-clause-held
-returns-in_err-tile_cache-clause-held g c honest = c.take.ensures.left (g.S.Samples.mosaic c.args.samples.now) (c.requires.held honest)
+pub loop-t-init : goal.loop-t-init
+loop-t-init g c = record {
+  reads = reads_nothing g.S.Samples g.met.S.Samples.keeps_itself c.args.samples.now (tt {0});
+  held = c.requires.held;
+  levels = λ honest. subst (λ (l : List ℤ). AreLevelsOf (g.S.Samples.mosaic c.args.samples.now) 0 l) (sym c.in_ok-levels.ensures.items) (no_tiles (g.S.Samples.mosaic c.args.samples.now));
+}
 
-pub returns-clause-held : goal.returns-clause-held
-returns-clause-held g c honest =
-    let read = c.levels_by-levels.ensures.asked.reads in
-    let m = g.S.Samples.mosaic c.levels_by-levels.new.samples in
-    let left = c.in_ok-tile_cache.ensures.left (g.S.Samples.mosaic c.args.samples.now) (c.requires.held (read.honest honest)) in
-    c.put.ensures m (c.levels_by-levels.ensures.right honest) (subst (λ (n : Mosaic). IsHeldOf n c.take.new.self) (sym (read.mosaic honest)) left)
+pub loop-t-preserved : goal.loop-t-preserved
+loop-t-preserved g c =
+    let now = c.args.samples.now in
+    let so = c.loop-t.invariant in
+    let told = c.in_ok-tile.ensures in
+    let read = asked_reads g.S.Samples c.loop-t.samples c.levels_at.new.samples _ told.asked in
+    record {
+      reads = reads_on g.S.Samples g.met.S.Samples.keeps_on now c.loop-t.samples c.levels_at.new.samples tt (Ok tt) so.reads read;
+      held = told.held;
+      levels = λ honest.
+          let mid = read.honest honest in
+          let first = so.reads.honest mid in
+          let m = g.S.Samples.mosaic now in
+          let here = subst (λ (k : Mosaic). AreTileLevels k (corner_at (g.S.Samples.corners c.loop-t.samples) c.loop-t.t) c.in_ok-tile.tile.items) (so.reads.mosaic mid) (told.levels honest) in
+          let corners = so.reads.corners ∙ sym (g.met.S.Samples.same_corners now first) in
+          tile_more m c.loop-t.levels.items c.in_ok-tile.tile.items c.append.new.levels.items c.loop-t.t
+          (c.in_ok-append.ensures.appended ∙ ap (λ l. c.loop-t.levels.items ++ l) c.deref.ensures.value)
+          (subst (λ (cs : List Corner). AreTileLevels m (corner_at cs c.loop-t.t) c.in_ok-tile.tile.items) corners here) (so.levels mid);
+    }
 
-pub returns-in_err-tile_cache-clause-asked : goal.returns-in_err-tile_cache-clause-asked
-returns-in_err-tile_cache-clause-asked g c =
+pub returns-in_err-levels-clause-asked : goal.returns-in_err-levels-clause-asked
+returns-in_err-levels-clause-asked g c =
     let a = c.args.samples.now in
     let memory : IfErr c.from_residual.result (λ r. r ≡ NoMemory) = search rules in
     short_of_memory g.S.Samples a a c.from_residual.result (reads_nothing g.S.Samples g.met.S.Samples.keeps_itself a (tt {0})) memory
+
+pub returns-in_err-tile-clause-asked : goal.returns-in_err-tile-clause-asked
+returns-in_err-tile-clause-asked g c =
+    let a = c.args.samples.now in
+    let b = c.loop-t.samples in
+    let d = c.levels_at.new.samples in
+    let r = c.in_err-tile.field-0.0 in
+    let p = err_from_is_err_and c.from_residual-in_err-tile.result c.from_residual-in_err-tile.ensures.1 in
+    refused_by g.S.Samples a d c.from_residual-in_err-tile.result p.0 r p.1 p.2
+    (asked_passed g.S.Samples a d r (asked_on g.S.Samples g.met.S.Samples.keeps_on a b d (tt {0}) (Err r) c.loop-t.invariant.reads c.in_err-tile.ensures.asked))
+
+pub returns-in_err-append-clause-asked : goal.returns-in_err-append-clause-asked
+returns-in_err-append-clause-asked g c =
+    let a = c.args.samples.now in
+    let d = c.levels_at.new.samples in
+    let memory : IfErr c.from_residual-in_err-append.result (λ r. r ≡ NoMemory) = search rules in
+    short_of_memory g.S.Samples a d c.from_residual-in_err-append.result
+    (reads_on g.S.Samples g.met.S.Samples.keeps_on a c.loop-t.samples d tt (Ok tt) c.loop-t.invariant.reads (asked_reads g.S.Samples c.loop-t.samples d _ c.in_ok-tile.ensures.asked)) memory
+
+pub returns-clause-levels : goal.returns-clause-levels
+returns-clause-levels g c honest =
+    let all : c.loop-t.t ≡ length (g.S.Samples.corners c.args.samples.now) = omega (arith, c.loop-t-test.false, c.loop-t.auto.t-end, c.count-count.ensures) in
+    subst (λ k. AreLevelsOf (g.S.Samples.mosaic c.args.samples.now) k c.loop-t.levels.items) all (c.loop-t.invariant.levels honest)
+
+pub returns-clause-asked : goal.returns-clause-asked
+returns-clause-asked g c = answered g.S.Samples c.args.samples.now c.loop-t.samples _ c.loop-t.invariant.reads

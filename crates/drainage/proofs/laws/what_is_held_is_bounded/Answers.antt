@@ -1,7 +1,7 @@
 use Rattle.std.proofs.Common.{subst}
-use Rattle.std.specs.Prelude.{All, Option, Some, None}
+use Rattle.std.specs.Prelude.{Option, Some, None}
 use Rattle.drainage.specs.Between.{are_few, of_few_tiles}
-use Rattle.drainage.specs.Room.{most_labellings, most_blocks, HasSide, AreFew}
+use Rattle.drainage.specs.Room.{AreFew}
 use Rattle.drainage.specs.declared.flows.Flows.{Flows}
 use Rattle.drainage.specs.declared.labelling_cache.LabellingCache.{LabellingCache}
 use Rattle.drainage.specs.declared.tile_cache.TileCache.{TileCache}

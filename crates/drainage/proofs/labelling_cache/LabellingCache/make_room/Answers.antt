@@ -1,4 +1,4 @@
-use Rattle.std.proofs.Common.{◌≡◌, ◌-◌, ◌<◌, true, List, [], take, cond, sym, ap, subst, arith}
+use Rattle.std.proofs.Common.{◌≡◌, ◌-◌, ◌<◌, true, List, [], cond, sym, ap, subst, arith}
 use Rattle.std.specs.Prelude.{All, Contains, count_by, slice_index_or}
 use Rattle.std.proofs.lemmas.List.Elements.{All-take, All-contains_itself}
 use Rattle.std.proofs.lemmas.List.Sums.{sum_by-take-le}

@@ -1,8 +1,7 @@
-use Rattle.std.proofs.Common.{◌≡◌, List, subst, arith}
+use Rattle.std.proofs.Common.{◌≡◌, List, subst}
 use Rattle.lattice.specs.Corners.{Corner}
 use Rattle.border_graph.specs.Others.{corner_at}
 use Rattle.tile_labellings.specs.TileLabellings.{IsTileLabelling}
-use Rattle.drainage.specs.Holding.{IsPlaceOf}
 use Rattle.drainage.proofs.tile_cache.TileCache.labelling.Goals as goal
 
 pub returns-clause-flooded : goal.returns-clause-flooded

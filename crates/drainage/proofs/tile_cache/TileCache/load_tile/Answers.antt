@@ -1,5 +1,6 @@
-use Rattle.std.proofs.Common.{◌<◌, ◌≤◌, ◌∙◌, Ok, Err, length, refl, sym, subst, arith, rules}
+use Rattle.std.proofs.Common.{ℕ, ◌≡◌, ◌<◌, ◌≤◌, ◌∙◌, Ok, Err, length, refl, sym, subst, arith, rules}
 use Rattle.std.proofs.lemmas.Result.{err_from_is_err_and}
+use Rattle.lattice.specs.Corners.{Corner}
 use Rattle.lattice.specs.Mosaic.{Mosaic}
 use Rattle.lattice.specs.declared.refusal.Refusal.TheVariants.{NoMemory}
 use Rattle.catalogue.proofs.Asking.{asked_on}
@@ -7,13 +8,15 @@ use Rattle.catalogue.proofs.Reading.{reads_nothing, reads_on}
 use Rattle.border_graph.specs.Joining.{IsSummaryOf}
 use Rattle.tile_labellings.specs.TileLabellings.{IsTileLabelling}
 use Rattle.tile_labellings.specs.declared.tile_labelling.TileLabelling.{TileLabelling}
-use Rattle.drainage.specs.Holding.{IsRight}
+use Rattle.drainage.specs.Holding.{IsEntered, IsRight, IsGrown}
+use Rattle.drainage.specs.declared.labelling_cache.LabellingCache.{LabellingCache}
 use Rattle.drainage.specs.TileCaches.{known_of}
 use Rattle.drainage.proofs.Growing.{known_by, grown_by, grown_fewer}
 use Rattle.drainage.proofs.Questioned.{answered, passed_on, refused_by, stopped, wanting}
 use Rattle.drainage.proofs.Renewed.{entered_there, is_there}
 use Rattle.drainage.proofs.LoadingTiles.{some_there}
 use Rattle.drainage.proofs.tile_cache.TileCache.load_tile.Goals as goal
+use Rattle.drainage.proofs.tile_cache.TileCache.load_tile.Goals.{After-learn}
 
 pub returns-then-t-len-clause-asked : goal.returns-then-t-len-clause-asked
 returns-then-t-len-clause-asked g c ready =
@@ -73,28 +76,33 @@ returns-in_err-summary-clause-asked g c right =
     (subst (λ (m : Mosaic). IsTileLabelling m c.args.corner c.in_ok-labelling.labelling) (sym (made.mosaic mid))
     (made.valid mid (entered_there g.S.Samples a (known_of c.args.self.now) c.args.t c.args.corner c.requires.place c.requires.corner (right honest))))))))
 
+-- what is known once the ways of the tile are
+module _ (g : _) (c : After-learn g) where
+  grown_then : (labellings : LabellingCache) → ((m : Mosaic) (e : Corner) (u : ℕ) → (u ≡ c.args.t → IsTileLabelling m e c.in_ok-labelling.labelling) → IsEntered m e (known_of c.args.self.now).labellings u → IsEntered m e labellings.held.items u)
+      → IsGrown g.S.Samples c.args.samples.now c.summarize.new.samples (known_of c.args.self.now) (known_by c.learn.new.self labellings c.args.self.now.levels)
+  grown_then labellings entered =
+      let a = c.args.samples.now in
+      let d = c.summarize.new.samples in
+      let was = known_of c.args.self.now in
+      let made = c.in_ok-labelling.ensures in
+      let summed = c.in_ok-summary.ensures in
+      let learned = c.learn.ensures in
+      let labelling = c.in_ok-labelling.labelling in
+      let valid : g.S.Samples.is_honest d → IsRight (g.S.Samples.mosaic a) was → IsTileLabelling (g.S.Samples.mosaic a) c.args.corner labelling =
+      λ honest right. made.valid (summed.honest honest) (entered_there g.S.Samples a was c.args.t c.args.corner c.requires.place c.requires.corner right) in
+      grown_by g.S.Samples a d was (known_by c.learn.new.self labellings c.args.self.now.levels)
+      (record { honest = λ honest. made.honest (summed.honest honest); mosaic = λ honest. summed.mosaic honest ∙ made.mosaic (summed.honest honest); same_side = learned.side; same_corners = learned.corners; still = learned.still }) refl
+      c.args.t c.args.corner labelling c.requires.corner valid
+      (λ honest right.
+      let mid = summed.honest honest in
+      learned.right (g.S.Samples.mosaic a) (c.requires.corner ∙ sym summed.corner)
+      (subst (λ (m : Mosaic). IsSummaryOf m c.in_ok-summary.summary) (made.mosaic mid) (summed.border honest made.current
+      (subst (λ (m : Mosaic). IsTileLabelling m c.args.corner labelling) (sym (made.mosaic mid)) (valid honest right))))
+      right.ready.tiles)
+      entered
+
 pub returns-in_err-learn-clause-grown : goal.returns-in_err-learn-clause-grown
-returns-in_err-learn-clause-grown g c =
-    let a = c.args.samples.now in
-    let b = c.current_labelling.new.samples in
-    let d = c.summarize.new.samples in
-    let was = known_of c.args.self.now in
-    let made = c.in_ok-labelling.ensures in
-    let summed = c.in_ok-summary.ensures in
-    let learned = c.in_err-learn.ensures in
-    let labelling = c.in_ok-labelling.labelling in
-    let valid : g.S.Samples.is_honest d → IsRight (g.S.Samples.mosaic a) was → IsTileLabelling (g.S.Samples.mosaic a) c.args.corner labelling =
-    λ honest right. made.valid (summed.honest honest) (entered_there g.S.Samples a was c.args.t c.args.corner c.requires.place c.requires.corner right) in
-    grown_by g.S.Samples a d was (known_by c.learn.new.self c.current_labelling.new.labellings c.args.self.now.levels)
-    (record { honest = λ honest. made.honest (summed.honest honest); mosaic = λ honest. summed.mosaic honest ∙ made.mosaic (summed.honest honest); same_side = learned.side; same_corners = learned.corners; still = learned.still }) refl
-    c.args.t c.args.corner labelling c.requires.corner valid
-    (λ honest right.
-    let mid = summed.honest honest in
-    learned.right (g.S.Samples.mosaic a) (c.requires.corner ∙ sym summed.corner)
-    (subst (λ (m : Mosaic). IsSummaryOf m c.in_ok-summary.summary) (made.mosaic mid) (summed.border honest made.current
-    (subst (λ (m : Mosaic). IsTileLabelling m c.args.corner labelling) (sym (made.mosaic mid)) (valid honest right))))
-    right.ready.tiles)
-    (λ m e u here labellings. made.left m e u labellings)
+returns-in_err-learn-clause-grown g c = grown_then g (goal.at.returns-in_err-learn-clause-grown g c).After-learn c.current_labelling.new.labellings (λ m e u here labellings. c.in_ok-labelling.ensures.left m e u labellings)
 
 pub returns-in_err-learn-clause-asked : goal.returns-in_err-learn-clause-asked
 returns-in_err-learn-clause-asked g c right =
@@ -106,27 +114,8 @@ returns-in_err-learn-clause-asked g c right =
     (wanting g.S.Samples a d (reads_on g.S.Samples g.met.S.Samples.keeps_on a b d tt (Ok tt) c.in_ok-labelling.ensures.reads c.in_ok-summary.ensures.reads))
 
 pub returns-clause-grown : goal.returns-clause-grown
-returns-clause-grown g c =
-    let a = c.args.samples.now in
-    let b = c.current_labelling.new.samples in
-    let d = c.summarize.new.samples in
-    let was = known_of c.args.self.now in
-    let made = c.in_ok-labelling.ensures in
-    let summed = c.in_ok-summary.ensures in
-    let learned = c.in_ok-learn.ensures in
-    let labelling = c.in_ok-labelling.labelling in
-    let valid : g.S.Samples.is_honest d → IsRight (g.S.Samples.mosaic a) was → IsTileLabelling (g.S.Samples.mosaic a) c.args.corner labelling =
-    λ honest right. made.valid (summed.honest honest) (entered_there g.S.Samples a was c.args.t c.args.corner c.requires.place c.requires.corner right) in
-    grown_by g.S.Samples a d was (known_by c.learn.new.self c.hold.new.self c.args.self.now.levels)
-    (record { honest = λ honest. made.honest (summed.honest honest); mosaic = λ honest. summed.mosaic honest ∙ made.mosaic (summed.honest honest); same_side = learned.side; same_corners = learned.corners; still = learned.still }) refl
-    c.args.t c.args.corner labelling c.requires.corner valid
-    (λ honest right.
-    let mid = summed.honest honest in
-    learned.right (g.S.Samples.mosaic a) (c.requires.corner ∙ sym summed.corner)
-    (subst (λ (m : Mosaic). IsSummaryOf m c.in_ok-summary.summary) (made.mosaic mid) (summed.border honest made.current
-    (subst (λ (m : Mosaic). IsTileLabelling m c.args.corner labelling) (sym (made.mosaic mid)) (valid honest right))))
-    right.ready.tiles)
-    (λ m e u here labellings. c.hold.ensures.entered m e u (λ same. subst (λ (x : TileLabelling). IsTileLabelling m e x) (sym summed.same) (here same)) (made.left m e u labellings))
+returns-clause-grown g c = grown_then g (goal.at.returns-clause-grown g c).After-learn c.hold.new.self
+    (λ m e u here labellings. c.hold.ensures.entered m e u (λ same. subst (λ (x : TileLabelling). IsTileLabelling m e x) (sym c.in_ok-summary.ensures.same) (here same)) (c.in_ok-labelling.ensures.left m e u labellings))
 
 pub returns-clause-reads : goal.returns-clause-reads
 returns-clause-reads g c =
