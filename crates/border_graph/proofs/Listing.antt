@@ -5,7 +5,7 @@ use Rattle.std.proofs.lemmas.List.{get_or_default}
 use Rattle.std.proofs.lemmas.List.Elements.{Contains-get_or, Contains-append_left, Contains-push, Contains-push_cases}
 use Rattle.border_graph.specs.declared.link_rows.ShortLink.{ShortLink}
 use Rattle.border_graph.specs.declared.edge_source.Edge.{Edge}
-use Rattle.border_graph.specs.TileGraph.{turned, out_at, AreListedStill, AreTurned, AreOut}
+use Rattle.border_graph.specs.TileGraph.{reversed, out_at, AreListedStill, AreReversed, AreOut}
 
 -- one edge more
 pub still_more : (old mid new : List Edge) (way : Edge) → new ≡ mid ++ way ∷ [] → AreListedStill old mid → AreListedStill old new
@@ -26,12 +26,12 @@ module _ (row : List ShortLink) (i : ℕ) (link d : ShortLink) (small : i < leng
   in_row : Contains row link
   in_row = subst (Contains row) (sym at) (Contains-get_or row i d small)
 
-  pub turned_more : (first : ℕ) (old mid new : List Edge) (way : Edge) → way ≡ turned first link → new ≡ mid ++ way ∷ [] → AreTurned row i first old mid → AreTurned row (i + 1) first old new
-  turned_more first old mid new way is more r = record {
+  pub reversed_more : (first : ℕ) (old mid new : List Edge) (way : Edge) → way ≡ reversed first link → new ≡ mid ++ way ∷ [] → AreReversed row i first old mid → AreReversed row (i + 1) first old new
+  reversed_more first old mid new way is more r = record {
     still = still_more old mid new way more r.still;
     listed = λ j e below. elim (cases_lt j i) [
-      | inl earlier ↦ still_more mid mid new way more (λ x has. has) (turned first (get_or row j e)) (r.listed j e earlier)
-      | inr later ↦ subst (λ (l : ShortLink). Contains new (turned first l)) (this j e below later) (subst (Contains new) is (last_has mid new way more))
+      | inl earlier ↦ still_more mid mid new way more (λ x has. has) (reversed first (get_or row j e)) (r.listed j e earlier)
+      | inr later ↦ subst (λ (l : ShortLink). Contains new (reversed first l)) (this j e below later) (subst (Contains new) is (last_has mid new way more))
     ];
     only = λ x has. elim (before_or_last mid new way x more has) [
       | inl before ↦ r.only x before

@@ -13,7 +13,7 @@ use Rattle.border_graph.specs.Sharing.{AreInOrder}
 use Rattle.border_graph.specs.declared.edge_source.Edge.{Edge}
 use Rattle.border_graph.specs.declared.link_rows.ShortLink.{ShortLink}
 use Rattle.border_graph.specs.LinkRows.{short}
-use Rattle.border_graph.specs.TileGraph.{AreTileLinks, AreTurned, AreOut, AreEdgesOut, AreEdgesAcross, turned, out_at}
+use Rattle.border_graph.specs.TileGraph.{AreTileLinks, AreReversed, AreOut, AreEdgesOut, AreEdgesAcross, reversed, out_at}
 
 -- a row of a list of lists
 pub row_is : (rows : List (Vec Link Global)) (x : ℕ) (v : Vec Link Global) → x < length rows → v ≡ get_or rows x v → v.items ≡ get_or (map (λ (v : Vec Link Global). v.items) rows) x []
@@ -140,7 +140,7 @@ module _ (n : ℕ) (b : Summary) (links : List (List Link)) (is : AreTileLinks n
         subst (λ (l : ShortLink). Contains new (out_at l)) has.2 (r.listed has.0 (record { level = level; from = node_number n (Rim 0 k) }) has.1 (ap (λ (l : ShortLink). l.from) has.2 ∙ node_is));
   }
 
-  pub edges_across : (row : List ShortLink) (first : ℕ) (old new : List Edge) → row ≡ map short (get_or links (1 + k) []) → AreTurned row (length row) first old new → AreEdgesAcross n b k first old new
+  pub edges_across : (row : List ShortLink) (first : ℕ) (old new : List Edge) → row ≡ map short (get_or links (1 + k) []) → AreReversed row (length row) first old new → AreEdgesAcross n b k first old new
   edges_across row first old new at r = record {
     still = r.still;
     only = λ way has. elim (r.only way has) [
@@ -159,7 +159,7 @@ module _ (n : ℕ) (b : Summary) (links : List (List Link)) (is : AreTileLinks n
 
       across : (l : ℕ) (level : ℤ) → Contains row (record { level = level; from = node_number n (Rim 0 l) }) → Contains new (record { level = level; to = first + (1 + l) })
       across l level has =
-          let on : Contains new (turned first (record { level = level; from = node_number n (Rim 0 l) })) = subst (λ (x : ShortLink). Contains new (turned first x)) has.2 (r.listed has.0 (record { level = level; from = node_number n (Rim 0 l) }) has.1) in
+          let on : Contains new (reversed first (record { level = level; from = node_number n (Rim 0 l) })) = subst (λ (x : ShortLink). Contains new (reversed first x)) has.2 (r.listed has.0 (record { level = level; from = node_number n (Rim 0 l) }) has.1) in
           subst (λ x. Contains new (record { level = level; to = first + x })) (number_of 0 l refl) on
 
   -- numbers of a row's links are small

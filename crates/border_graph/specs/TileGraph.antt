@@ -33,14 +33,14 @@ abbrev pub AreListedStill : List Edge → List Edge → Type 0
 AreListedStill old new = (way : Edge) → Contains old way → Contains new way
 
 -- the edge to the start of a link, where nodes are numbered from the first one on
-abbrev pub turned : ℕ → ShortLink → Edge
-turned first link = record { level = link.level; to = first + link.from }
+abbrev pub reversed : ℕ → ShortLink → Edge
+reversed first link = record { level = link.level; to = first + link.from }
 
 -- the edges to the starts of the first links of a row
-pub record AreTurned (row : List ShortLink) (count first : ℕ) (old new : List Edge) : Type 0 where
+pub record AreReversed (row : List ShortLink) (count first : ℕ) (old new : List Edge) : Type 0 where
   pub still : AreListedStill old new
-  pub listed : (j : ℕ) (d : ShortLink) → j < count → Contains new (turned first (slice_index_or row j d))
-  pub only : (way : Edge) → Contains new way → Contains old way ⊎ ((link : ShortLink) × (Contains row link × (way ≡ turned first link)))
+  pub listed : (j : ℕ) (d : ShortLink) → j < count → Contains new (reversed first (slice_index_or row j d))
+  pub only : (way : Edge) → Contains new way → Contains old way ⊎ ((link : ShortLink) × (Contains row link × (way ≡ reversed first link)))
 
 -- the edge to the outlet node at the level of a link
 abbrev pub out_at : ShortLink → Edge

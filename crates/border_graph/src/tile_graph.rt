@@ -3,7 +3,7 @@ ghost use Rattle.std.specs.Prelude.{◌≡◌, ◌+◌, ◌-◌, ◌*◌, ◌^�
 ghost use Rattle.lattice.specs.declared.refusal.Refusal.TheVariants.{NoMemory};
 ghost use Rattle.border_graph.specs.Joining.{rim_point};
 ghost use Rattle.border_graph.specs.declared.link_rows.ShortLink.{ShortLink as LinkOf};
-ghost use Rattle.border_graph.specs.TileGraph.{turned, out_at, AreTurned, AreOut, AreEdgesOut, AreEdgesAcross};
+ghost use Rattle.border_graph.specs.TileGraph.{reversed, out_at, AreReversed, AreOut, AreEdgesOut, AreEdgesAcross};
 
 use crate::Edge;
 use crate::link_rows::{LinkRows, ShortLink, rows_together};
@@ -82,7 +82,7 @@ impl TileGraph {
         requires room { first + 4 * (self.now.side - 1) < 2 ^ 32 }
         ensures { OnOk result (AreEdgesAcross self.now.side self.now.summary k first into.old.items into.new.items) }
     {
-        push_turned(self.rows.row(1 + k as usize), first, into)?;
+        push_reversed(self.rows.row(1 + k as usize), first, into)?;
         Ok(())
     }
 }
@@ -100,12 +100,12 @@ fn push_out(row: &[ShortLink], from: usize, into: &mut Vec<Edge>) -> Result<(), 
 }
 
 // Lists an edge to the start of each link of the row.
-fn push_turned(row: &[ShortLink], first: u32, into: &mut Vec<Edge>) -> Result<(), AllocError>
+fn push_reversed(row: &[ShortLink], first: u32, into: &mut Vec<Edge>) -> Result<(), AllocError>
     requires { (link : LinkOf) → Contains row.now link → first + link.from < 2 ^ 32 }
-    ensures { OnOk result (AreTurned row.now (length row.now) first into.old.items into.new.items) }
+    ensures { OnOk result (AreReversed row.now (length row.now) first into.old.items into.new.items) }
 {
     for link in row {
-        into.push(turned(first, *link))?;
+        into.push(reversed(first, *link))?;
     }
     Ok(())
 }
@@ -121,9 +121,9 @@ fn out_at(link: ShortLink) -> Edge
 }
 
 // The edge to the start of the link.
-fn turned(first: u32, link: ShortLink) -> Edge
+fn reversed(first: u32, link: ShortLink) -> Edge
     requires { first + link.from < 2 ^ 32 }
-    ensures { result ≡ turned first link }
+    ensures { result ≡ reversed first link }
 {
     Edge {
         level: link.level,

@@ -191,6 +191,7 @@ impl Line {
         !self.is_long && self.bytes.is_empty()
     }
 
+    /// The line is empty from then on.
     fn clear(&mut self)
         ensures { self.new ≡ kept [] }
     {

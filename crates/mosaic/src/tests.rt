@@ -270,6 +270,7 @@ fn a_real_tile_comes_back(rt: HostRuntime) -> Result<(), Fail> {
     Ok(())
 }
 
+// What `table` answers, and what is answered to words that ask for nothing.
 #[test]
 fn programs(rt: HostRuntime) {
     let all = [

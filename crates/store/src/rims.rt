@@ -18,7 +18,7 @@ pub(crate) struct RimVoids {
     pub(crate) voids: Vec<bool>,
 }
 
-// Those of each of the tiles.
+// Which points of the box on the rims of the tiles are void, tile after tile.
 pub(crate) fn read_rims<S: Samples>(
     alloc: Global,
     samples: &mut S,
@@ -42,7 +42,7 @@ pub(crate) fn read_rims<S: Samples>(
     Ok(rims)
 }
 
-// Those of one tile.
+// Which points of the box on the rim of the tile are void.
 fn read_rim<S: Samples>(
     alloc: Global,
     samples: &mut S,

@@ -12,8 +12,8 @@ row-requires c =
     let there : 1 + c.args.k < length is.links = rows_there a.side a.summary is.links is.of c.args.k number in
     record { there = omega (arith, is.rows.whole); in_order = is.rows.in_order (1 + c.args.k) there; inside = is.rows.inside (1 + c.args.k) there }
 
-pub push_turned-requires : goal.push_turned-requires
-push_turned-requires c =
+pub push_reversed-requires : goal.push_reversed-requires
+push_reversed-requires c =
     let a = c.self.inside in
     let is = c.self.invariant in
     let number : c.args.k < 4 * (a.side - 1) = subst (λ (t : TileGraph). c.args.k < 4 * (t.side - 1)) (sym c.self.view_is) c.requires.number in
@@ -29,5 +29,5 @@ returns c =
     let number : c.args.k < 4 * (a.side - 1) = subst (λ (t : TileGraph). c.args.k < 4 * (t.side - 1)) (sym c.self.view_is) c.requires.number in
     let there : 1 + c.args.k < length is.links = rows_there a.side a.summary is.links is.of c.args.k number in
     let at : c.row.result.now ≡ map short (get_or is.links (1 + c.args.k) []) = c.row.ensures ∙ is.rows.each (1 + c.args.k) there in
-    subst (λ (t : TileGraph). AreEdgesAcross t.side t.summary c.args.k c.args.first c.args.into.now.items c.push_turned.new.into.items) c.self.view_is
-    (edges_across a.side a.summary is.links is.of c.args.k number c.row.result.now c.args.first c.args.into.now.items c.push_turned.new.into.items at c.in_ok-push_turned.ensures)
+    subst (λ (t : TileGraph). AreEdgesAcross t.side t.summary c.args.k c.args.first c.args.into.now.items c.push_reversed.new.into.items) c.self.view_is
+    (edges_across a.side a.summary is.links is.of c.args.k number c.row.result.now c.args.first c.args.into.now.items c.push_reversed.new.into.items at c.in_ok-push_reversed.ensures)
