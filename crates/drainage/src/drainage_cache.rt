@@ -201,14 +201,14 @@ impl DrainageCache {
         due
     }
 
-    // Learns where the points of the corner's tile drain, as its filled levels tell it.
-    pub(crate) fn learn_tile(&mut self, corner: Corner, filled: &Filled)
+    // Learns where the points of the corner's tile drain, as its filled levels tell it, as far as there is memory for it.
+    pub(crate) fn learn_tile(&mut self, alloc: Global, corner: Corner, filled: &Filled)
         ensures { (m : Mosaic) → IsMosaic m → IsTileOf m corner filled.now → IsHeldOf m self.old → IsHeldOf m self.new }
     {
         let Some(mut flows) = self.flows.take() else {
             return;
         };
-        flows.learn_tile(corner, filled);
+        flows.learn_tile(alloc, corner, filled);
         self.flows = Some(flows);
     }
 

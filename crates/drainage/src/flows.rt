@@ -67,12 +67,12 @@ impl AskedTile {
         self.tried = true;
     }
 
-    // Learns what the filled levels of the corner's tile tell, where that is this one.
-    fn learn_all(&mut self, corner: Corner, filled: &Filled)
+    // Learns what the filled levels of the corner's tile tell, where that is this one, as far as there is memory for it.
+    fn learn_all(&mut self, alloc: Global, corner: Corner, filled: &Filled)
         ensures { (m : Mosaic) → IsMosaic m → IsTileOf m corner filled.now → AreFlowsIn m self.old.flows → AreFlowsIn m self.new.flows }
     {
         if self.flows.corner() == corner {
-            self.flows.learn_all(filled);
+            let _ = self.flows.learn_all(alloc, filled);
         }
     }
 }
@@ -193,12 +193,12 @@ impl Flows {
         None
     }
 
-    /// Learns where the points of the corner's tile drain, as its filled levels tell it.
-    pub(crate) fn learn_tile(&mut self, corner: Corner, filled: &Filled)
+    /// Learns where the points of the corner's tile drain, as its filled levels tell it, as far as there is memory for it.
+    pub(crate) fn learn_tile(&mut self, alloc: Global, corner: Corner, filled: &Filled)
         ensures { (m : Mosaic) → IsMosaic m → IsTileOf m corner filled.now → AreFlows m self.old → AreFlows m self.new }
     {
         if let Some(t) = self.place_of(corner) {
-            self.tiles[t].learn_all(corner, filled);
+            self.tiles[t].learn_all(alloc, corner, filled);
         }
     }
 

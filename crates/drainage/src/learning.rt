@@ -15,7 +15,7 @@ use std::alloc::Global;
 use tile_labellings::Labellings;
 
 /// Learns where the points of a tile that holds this one drain, where it pays: once that was asked of many of them. Whether
-/// it did. Points near the edges of the tile and inside flats are left to later questions.
+/// it did. Points on the edges of the tile and inside flats that reach these are left to later questions.
 ///
 /// It is refused as a level is.
 pub(crate) fn learn_tile<S: Labellings>(
@@ -60,7 +60,7 @@ fn learn_at<S: Labellings>(
     let Some(filled) = Filled::new(samples.side(), corners, levels, sinks) else {
         return Ok(false);
     };
-    held.learn_tile(corner, &filled);
+    held.learn_tile(alloc, corner, &filled);
     Ok(true)
 }
 

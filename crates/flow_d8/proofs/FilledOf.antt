@@ -25,7 +25,7 @@ use Rattle.flow_d8.specs.Surface.{level_at, has_level, is_shared, adjoins, is_de
 use Rattle.flow_d8.proofs.Numbers.{seat_of, holder_holds, index_small}
 use Rattle.flow_d8.proofs.Surfaces.{level_held, at_level}
 use Rattle.flow_d8.proofs.MosaicGrid.{mosaic_is_grid}
-use Rattle.flow_d8.proofs.Transport.{Alike}
+use Rattle.flow_d8.proofs.Transport.{Alike, Anywhere}
 
 -- a height isn't void
 some_sample : (s : ℤ) (later : List ℤ) (b : Bool) → is_void s ≡ b → (IsTrue (is_height (first_height later)) → is_void (metres (first_height later)) ≡ false)
@@ -50,7 +50,7 @@ any_corner : (P Q : Corner → Bool) (n : ℕ) (tiles : List Tile) → All (IsTi
 any_corner P Q n [] whole same = refl
 any_corner P Q n (t ∷ rest) whole same = ap₂ ◌||◌ (same t.corner (whole 0 t (omega arith)).corner) (any_corner P Q n rest (λ k d lt. whole (suc k) d (omega arith)) same)
 
-all_eight : (a b c d e g h i a' b' c' d' e' g' h' i' : Bool) → a ≡ a' → b ≡ b' → c ≡ c' → d ≡ d' → e ≡ e' → g ≡ g' → h ≡ h' → i ≡ i' →
+pub all_eight : (a b c d e g h i a' b' c' d' e' g' h' i' : Bool) → a ≡ a' → b ≡ b' → c ≡ c' → d ≡ d' → e ≡ e' → g ≡ g' → h ≡ h' → i ≡ i' →
     0 + cond a 1 0 + cond b 1 0 + cond c 1 0 + cond d 1 0 + cond e 1 0 + cond g 1 0 + cond h 1 0 + cond i 1 0
     ≡ 0 + cond a' 1 0 + cond b' 1 0 + cond c' 1 0 + cond d' 1 0 + cond e' 1 0 + cond g' 1 0 + cond h' 1 0 + cond i' 1 0
 all_eight a b c d e g h i a' b' c' d' e' g' h' i' sa sb sc sd se sg sh si = cc
@@ -128,11 +128,11 @@ module _ (m : Mosaic) (f : Filled) (is : IsMosaic m) (whole : AreLevels f) (of :
   outlet_same p = ap₂ (λ a c. a && (nat_lt c 8 || is_declared f p)) (ground_same p) (counts p)
       ∙ ap (λ (ss : List Point). is_ground m p && (nat_lt (degree_of m p) 8 || list_any (λ s. same_point s p) ss)) of.sinks
 
-  pub alike : (level : Point → ℤ) → AreFilledLevels (terrain m) level → Alike (surface f) (terrain m) (level_at f) level
+  pub alike : (level : Point → ℤ) → AreFilledLevels (terrain m) level → Alike Anywhere (surface f) (terrain m) (level_at f) level
   alike level filled = record {
-    beside = adjacent_same;
-    outlet = outlet_same;
-    level = λ x y on. (same_level x (left x y on), same_level y (right x y on));
+    beside = λ x y _. adjacent_same x y;
+    outlet = λ x _. outlet_same x;
+    level = λ x y _ on. (same_level x (left x y on), same_level y (right x y on));
   }
     where
       same_level : (x : Point) → IsTrue (is_ground m x) → level_at f x ≡ level x

@@ -1,5 +1,5 @@
 -- Bytes that tell where points drain.
-use Rattle.std.proofs.Common.{◌≡◌, ℕ, ◌+◌, ◌*◌, ◌%◌, ◌<◌, true, Option, Some, None, List, length, inl, inr, get_or, set, replicate, refl, sym, ap, ◌∙◌, subst, arith, get_or-set_other, get_or-set_same}
+use Rattle.std.proofs.Common.{◌≡◌, ℕ, ◌+◌, ◌*◌, ◌%◌, ◌<◌, Bool, true, not, Option, Some, None, List, length, inl, inr, get_or, set, replicate, refl, sym, ap, ◌∙◌, subst, arith, get_or-set_other, get_or-set_same}
 use Rattle.std.proofs.lemmas.List.{get_or-replicate, length-set}
 use Rattle.std.proofs.lemmas.Bool.{cases_eq}
 use Rattle.std.specs.Prelude.{IfSome, slice_index_or}
@@ -9,13 +9,14 @@ use Rattle.lattice.specs.Mosaic.{Mosaic, IsMosaic}
 use Rattle.lattice.specs.declared.point.Point.{Point}
 use Rattle.lattice.specs.declared.direction.Dir.{Dir}
 use Rattle.lattice.proofs.Samples.{index_below, point_at_index}
-use Rattle.flow_d8.specs.DeepFlows.{IsTileOf, IsToldFlow, AreFlowsOf, IsLearntAt, AreLearntTo}
+use Rattle.flow_d8.specs.DeepFlows.{IsTileOf, IsInsideFlat, IsInRimFlat, is_off_rim, IsToldFlow, AreFlowsOf, IsLearntAt, AreLearntTo}
 use Rattle.flow_d8.specs.Filled.{Filled, is_deep}
 use Rattle.flow_d8.specs.Flow.{way_of}
 use Rattle.flow_d8.specs.Way.{IsWay}
 use Rattle.flow_d8.specs.declared.flow.Flow.{Flow}
 use Rattle.flow_d8.specs.declared.flow.Flow.TheVariants.{Unknown}
-use Rattle.flow_d8.proofs.TileShown.{deep_alone}
+use Rattle.flow_d8.proofs.RimPlaces.{deep_off}
+use Rattle.flow_d8.proofs.TileShown.{alone}
 
 none_some : (way : Option Dir) → ◌≡◌ {A = Option (Option Dir)} None (Some way) → ⊥
 none_some way e = cc
@@ -45,44 +46,53 @@ module _ (m : Mosaic) (n : ℕ) (c : Corner) where
       let here : q ≡ p = sym (point_at_index n c q e there) ∙ point_at_index n c p e at in
       subst (λ x. IsWay m x w) (sym here) (subst (IsWay m p) (unwrap way w (sym tells ∙ is)) right))
 
-module _ (f : Filled) where
-  pub none_learnt : (flows : List Flow) → AreLearntTo f 0 flows flows
+-- what is asked for, and what may be left
+module _ (is_asked : ℕ → ℕ → Bool) (IsLeft : Mosaic → Corner → Point → Type 0) (f : Filled) where
+  pub none_learnt : (flows : List Flow) → AreLearntTo is_asked IsLeft f 0 flows flows
   none_learnt flows = record { whole = refl; right = λ m c is of are. are; told = λ m c is of p e below. absurd (omega (arith, below)) }
 
-  pub learnt_more : (k : ℕ) (old mid new : List Flow) → AreLearntTo f k old mid → IsLearntAt f k mid new → AreLearntTo f (k + 1) old new
+  pub learnt_more : (k : ℕ) (old mid new : List Flow) → AreLearntTo is_asked IsLeft f k old mid → IsLearntAt is_asked IsLeft f k mid new → AreLearntTo is_asked IsLeft f (k + 1) old new
   learnt_more k old mid new so_far at = record {
     whole = at.whole ∙ so_far.whole;
     right = λ m c is of are. at.right m c is of (so_far.right m c is of are);
-    told = λ m c is of p e below index deep none. elim (cases_eq e k) [
-      | inl same ↦ at.told m c p is of (subst (IsIndexOf f.side c p) same index) (subst (λ i. is_deep f.side i ≡ true) same deep) (subst (λ i. way_of (slice_index_or new i Unknown) ≡ None) same none)
-      | inr other ↦ so_far.told m c is of p e (omega arith) index deep (sym (ap way_of (at.others e other)) ∙ none)
+    told = λ m c is of p e below index asked none. elim (cases_eq e k) [
+      | inl same ↦ at.told m c p is of (subst (IsIndexOf f.side c p) same index) (subst (λ i. is_asked f.side i ≡ true) same asked) (subst (λ i. way_of (slice_index_or new i Unknown) ≡ None) same none)
+      | inr other ↦ so_far.told m c is of p e (omega arith) index asked (sym (ap way_of (at.others e other)) ∙ none)
     ];
   }
 
-  module _ (g : ℕ) (flows : List Flow) (within : g < length flows) (flow : Flow) (tells : (m : Mosaic) (c : Corner) (p : Point) → IsMosaic m → IsTileOf m c f → IsIndexOf f.side c p g → IsToldFlow m p flow) where
+  module _ (g : ℕ) (flows : List Flow) (within : g < length flows) (flow : Flow) (tells : (m : Mosaic) (c : Corner) (p : Point) → IsMosaic m → IsTileOf m c f → IsIndexOf f.side c p g → IsToldFlow m p (IsLeft m c p) flow) where
     -- the byte is written
-    pub learnt_written : IsLearntAt f g flows (set flows g flow)
+    pub learnt_written : IsLearntAt is_asked IsLeft f g flows (set flows g flow)
     learnt_written = record {
       whole = length-set flows g flow;
       others = λ e other. get_or-set_other flows g e flow Unknown other;
       right = λ m c is of. byte_told m f.side c flows g flow within (λ p way index. (tells m c p is of index).right way);
-      told = λ m c p is of index deep none. (tells m c p is of index).flat (sym (ap way_of (get_or-set_same flows g flow Unknown within)) ∙ none);
+      told = λ m c p is of index asked none. (tells m c p is of index).left (sym (ap way_of (get_or-set_same flows g flow Unknown within)) ∙ none);
     }
 
     -- or isn't, as it tells nothing
-    pub learnt_nothing : flow ≡ Unknown → IsLearntAt f g flows flows
+    pub learnt_nothing : flow ≡ Unknown → IsLearntAt is_asked IsLeft f g flows flows
     learnt_nothing nothing = record {
       whole = refl;
       others = λ e other. refl;
       right = λ m c is of are. are;
-      told = λ m c p is of index deep none. (tells m c p is of index).flat (ap way_of nothing);
+      told = λ m c p is of index asked none. (tells m c p is of index).left (ap way_of nothing);
     }
 
-  -- a sample near the edges is left
-  pub learnt_not : (g : ℕ) (flows : List Flow) → (is_deep f.side (g % (f.side * f.side)) ≡ true → ⊥) → IsLearntAt f g flows flows
+  -- a sample that isn't asked for is left
+  pub learnt_not : (g : ℕ) (flows : List Flow) → (is_asked f.side (g % (f.side * f.side)) ≡ true → ⊥) → IsLearntAt is_asked IsLeft f g flows flows
   learnt_not g flows near = record {
     whole = refl;
     others = λ e other. refl;
     right = λ m c is of are. are;
-    told = λ m c p is of index deep none. absurd (near (deep_alone f.side g (index_below f.side c p g index) ∙ deep));
+    told = λ m c p is of index asked none. absurd (near (alone is_asked f.side g (index_below f.side c p g index) ∙ asked));
   }
+
+-- what is told off the rim is told of deep samples
+pub inside_deep : (f : Filled) (k : ℕ) (old new : List Flow) → AreLearntTo is_off_rim IsInRimFlat f k old new → AreLearntTo is_deep (λ m c p. IsInsideFlat m p) f k old new
+inside_deep f k old new learnt = record {
+  whole = learnt.whole;
+  right = learnt.right;
+  told = λ m c is of p e below index deep none. (learnt.told m c is of p e below index (ap not (deep_off f.side e deep)) none).inside;
+}

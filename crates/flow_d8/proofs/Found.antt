@@ -16,7 +16,7 @@ use Rattle.flow_d8.specs.Directions.{AreDirectionsOf}
 use Rattle.flow_d8.proofs.Numbers.{number_past, number_injective}
 use Rattle.flow_d8.proofs.Surfaces.{level_held}
 use Rattle.flow_d8.proofs.Nearest.{known_is}
-use Rattle.flow_d8.proofs.Transport.{other_way, direction_too, distance_too, crosses_too}
+use Rattle.flow_d8.proofs.Transport.{Anywhere, other_way, direction_too, distance_too, crosses_too}
 use Rattle.flow_d8.proofs.FilledOf.{alike, ground_level, level_ground, filled_at}
 use Rattle.flow_d8.proofs.MosaicGrid.{mosaic_is_grid}
 use Rattle.flow_d8.proofs.Exists.{distance_exists}
@@ -48,14 +48,14 @@ module _ (f : Filled) (drains : List (Option Dir)) (distances : List ℕ) (drain
           let has = ground_level m f is are.valid of p solid in
           let lt = lt-ltb (distance_at distances (number_in f p)) unknown (known p has) in
           subst (λ d. IsDirection (terrain m) level p d) (sym (cond-true (nat_lt (distance_at distances (number_in f p)) unknown) (drain_at f drains p) None lt))
-          (direction_too (surface f) (terrain m) (level_at f) level (alike m f is are.valid of level filled) p (drain_at f drains p) (drained.drained p has));
+          (direction_too Anywhere (surface f) (terrain m) (level_at f) level (alike m f is are.valid of level filled) (λ x y _ _. tt) p (drain_at f drains p) tt (drained.drained p has));
       distance = λ p solid.
           let has = ground_level m f is are.valid of p solid in
           let lt = lt-ltb (distance_at distances (number_in f p)) unknown (known p has) in (
             distance_at distances (number_in f p),
             (
               cond-true (nat_lt (distance_at distances (number_in f p)) unknown) (Some (distance_at distances (number_in f p))) None lt,
-              distance_too (surface f) (terrain m) (level_at f) level (alike m f is are.valid of level filled) p (distance_at distances (number_in f p)) (known_is f are.valid distances are p has (known p has)),
+              distance_too Anywhere (surface f) (terrain m) (level_at f) level (alike m f is are.valid of level filled) (λ x y _ _. tt) p (distance_at distances (number_in f p)) tt (known_is f are.valid distances are p has (known p has)),
             ),
           );
       elsewhere = λ p none. (
@@ -73,4 +73,4 @@ nowhere_in_no_mosaic f whole nowhere m is of =
     let same = alike m f is whole of level filled in
     let solid = level_ground m f is whole of p nowhere.1.0 in
     let dist = distance_exists (terrain m) void (mosaic_is_grid m is) level filled p solid in
-    nowhere.1.1 dist.0 (crosses_too (terrain m) (surface f) level (level_at f) (other_way (surface f) (terrain m) (level_at f) level same) dist.0 p dist.1.crosses)
+    nowhere.1.1 dist.0 (crosses_too Anywhere (terrain m) (surface f) level (level_at f) (other_way Anywhere (surface f) (terrain m) (level_at f) level same) (λ x y _ _. tt) dist.0 p tt dist.1.crosses)

@@ -40,3 +40,7 @@ pub mod Beside
 pub mod TileShown
 pub mod FlowBytes
 pub mod TileFeeders
+pub mod RimPlaces
+pub mod RimMarking
+pub mod TileSurface
+pub mod InsideTold

@@ -45,22 +45,22 @@ module _ (queue : List ℕ) (v : ℕ) where
   abbrev longer : List ℕ
   longer = queue ++ (v ∷ [])
 
-  longer_by : length longer ≡ length queue + 1
+  pub longer_by : length longer ≡ length queue + 1
   longer_by = length-append queue (v ∷ [])
 
-  earlier : (i : ℕ) → i < length queue → get_or longer i 0 ≡ get_or queue i 0
+  pub earlier : (i : ℕ) → i < length queue → get_or longer i 0 ≡ get_or queue i 0
   earlier i small = get_or_append_left queue (v ∷ []) 0 i small
 
-  last : get_or longer (length queue) 0 ≡ v
+  pub last : get_or longer (length queue) 0 ≡ v
   last = ap (λ i. get_or longer i 0) (no_more (length queue)) ∙ get_or-append-add queue (v ∷ []) 0 0
     where
       no_more : (n : ℕ) → n ≡ n + 0
       no_more n = omega arith
 
-  waits_still : (head k : ℕ) → IsWaiting queue head k → IsWaiting longer head k
+  pub waits_still : (head k : ℕ) → IsWaiting queue head k → IsWaiting longer head k
   waits_still head k w = record { index = w.index; after = w.after; within = omega (arith, w.within, longer_by); here = earlier w.index w.within ∙ w.here }
 
-  waits_last : (head : ℕ) → head ≤ length queue → IsWaiting longer head v
+  pub waits_last : (head : ℕ) → head ≤ length queue → IsWaiting longer head v
   waits_last head le = record { index = length queue; after = le; within = omega (arith, longer_by); here = last }
 
 -- the numbers around a point

@@ -18,7 +18,7 @@ use Rattle.lattice.proofs.Lawful.{five_parts}
 use Rattle.lattice.proofs.Levels.{level_is_unique}
 use Rattle.lattice.proofs.Samples.{holds_is, held_at, index_below, index_is, point_at_index}
 use Rattle.flow_d8.specs.Crossing.{IsFlowIn}
-use Rattle.flow_d8.specs.DeepFlows.{IsTileOf, IsToldFlow}
+use Rattle.flow_d8.specs.DeepFlows.{IsTileOf, IsInsideFlat, IsToldFlow}
 use Rattle.flow_d8.specs.Drainage.{AreFilledLevels}
 use Rattle.flow_d8.specs.Filled.{Filled, is_holder, is_held, is_deep, number_of}
 use Rattle.flow_d8.specs.Flow.{way_of}
@@ -46,8 +46,8 @@ drains_none : (d : Dir) → ◌≡◌ {A = LocalFlow} (Drains d) NoGround → �
 drains_none d e = cc
 
 -- in one tile alone a sample's number is its index
-pub deep_alone : (n e : ℕ) → e < n * n → is_deep n (e % (n * n)) ≡ is_deep n e
-deep_alone n e low = ap (is_deep n) (ap (λ v. v % (n * n)) (none_before e (n * n)) ∙ mod-mul-add 0 (n * n) e low)
+pub alone : (test : ℕ → ℕ → Bool) (n e : ℕ) → e < n * n → test n (e % (n * n)) ≡ test n e
+alone test n e low = ap (test n) (ap (λ v. v % (n * n)) (none_before e (n * n)) ∙ mod-mul-add 0 (n * n) e low)
   where
     none_before : (e a : ℕ) → e ≡ 0 * a + e
     none_before e a = omega arith
@@ -63,15 +63,26 @@ module _ (m : Mosaic) (is : IsMosaic m) (c : Corner) (f : Filled) (of : IsTileOf
   side_same : (p : Point) (e : ℕ) → IsIndexOf f.side c p e → IsIndexOf m.side c p e
   side_same p e index = subst (λ n. IsIndexOf n c p e) of.side index
 
-  share : (p q : Point) (e g : ℕ) → IsIndexOf f.side c p e → IsIndexOf f.side c q g → IsTrue (share_tile m p q)
+  pub share : (p q : Point) (e g : ℕ) → IsIndexOf f.side c p e → IsIndexOf f.side c q g → IsTrue (share_tile m p q)
   share p q e g one other =
       let hp = (holds_is m.side c p is.side_low one.corner).1 (held_at m.side c p e (side_same p e one)) in
       let hq = (holds_is m.side c q is.side_low other.corner).1 (held_at m.side c q g (side_same q g other)) in
       any_tile (λ d. holds m.side d p && holds m.side d q) m.tiles of.present.0 c of.present.1 of.present.2 (and_from (holds m.side c p) (holds m.side c q) hp hq)
 
+  -- a sample's point is held, and has its index as its number
+  module _ (p : Point) (e : ℕ) (index : IsIndexOf f.side c p e) where
+    pub holder : is_holder f.side c p ≡ true
+    holder = holds_holder f.side c p (subst (λ n. 3 ≤ n) (sym of.side) is.side_low) (held_at f.side c p e index)
+
+    pub held : IsTrue (is_held f.side f.corners p)
+    held = any_at (λ d. is_holder f.side d p) f.corners 0 c (ap (λ cs. slice_get cs 0) of.corners) holder
+
+    pub numbered : number_in f p ≡ e
+    numbered = ap (λ cs. number_of f.side cs p) of.corners ∙ number-here f.side c [] p holder ∙ index_is f.side c p e index
+
   module _ (level : Point → ℤ) (filled : AreFilledLevels (terrain m) level) where
     -- the level at a point's index
-    level_there : (q : Point) (e : ℕ) → IsIndexOf f.side c q e → slice_index_or f.levels e void ≡ (if is_ground m q then level q else void)
+    pub level_there : (q : Point) (e : ℕ) → IsIndexOf f.side c q e → slice_index_or f.levels e void ≡ (if is_ground m q then level q else void)
     level_there q e index =
         let point : point_of f.side c e ≡ q = point_at_index f.side c q e index in
         let small = index_below f.side c q e index in
@@ -95,61 +106,45 @@ module _ (m : Mosaic) (is : IsMosaic m) (c : Corner) (f : Filled) (of : IsTileOf
           level_there q (place_by f.side e d) there ∙ ap (λ b. if b then level q else void) (sym adjacent);
     }
 
-  module _ (p : Point) (e : ℕ) (index : IsIndexOf f.side c p e) (test : is_deep f.side e ≡ true) (flow : LocalFlow) (shown : IsFlowIn f e flow) where
-    holder : is_holder f.side c p ≡ true
-    holder = holds_holder f.side c p (subst (λ n. 3 ≤ n) (sym of.side) is.side_low) (held_at f.side c p e index)
+  -- a deep sample's point drains so on the mosaic
+  pub seen : (p : Point) (e : ℕ) → IsIndexOf f.side c p e → is_deep f.side e ≡ true → (flow : LocalFlow) → IsFlowIn f e flow → OnLevels m (λ level. IsGroundFlow (terrain m) level p flow)
+  seen p e index test flow shown level filled = shown (terrain m) level p (level_grid m is level filled) (tile_shown level filled p e index (deep_inner f.side e test)) (held p e index) (numbered p e index)
+      (ap (λ ss. is_ground m p && (nat_lt (degree_of m p) 8 || list_any (λ s. same_point s p) ss)) (sym of.sinks))
 
-    held : IsTrue (is_held f.side f.corners p)
-    held = any_at (λ d. is_holder f.side d p) f.corners 0 c (ap (λ cs. slice_get cs 0) of.corners) holder
+-- what is told of a point, as far as what is around it tells
+module _ (m : Mosaic) (is : IsMosaic m) (p : Point) (flow : LocalFlow) (seen : OnLevels m (λ level. IsGroundFlow (terrain m) level p flow)) where
+  said : (other : LocalFlow) → flow ≡ other → (level : Point → ℤ) → AreFilledLevels (terrain m) level → IsTrue (is_ground m p) → IsFlowOf (terrain m) level p other
+  said other same level filled solid = subst (IsFlowOf (terrain m) level p) same ((seen level filled).on_ground solid)
 
-    numbered : number_in f p ≡ e
-    numbered = ap (λ cs. number_of f.side cs p) of.corners ∙ number-here f.side c [] p holder ∙ index_is f.side c p e index
+  -- there is ground where that isn't denied
+  pub ground : (flow ≡ NoGround → ⊥) → IsTrue (is_ground m p)
+  ground some = elim (cases_Bool (is_ground m p)) [
+    | inl on ↦ on
+    | inr off ↦ let by = level_function m is in absurd (some ((seen by.0 by.1).elsewhere off))
+  ]
 
-    -- so the point drains on the mosaic
-    seen : OnLevels m (λ level. IsGroundFlow (terrain m) level p flow)
-    seen level filled = shown (terrain m) level p (level_grid m is level filled) (tile_shown level filled p e index (deep_inner f.side e test)) held numbered
-        (ap (λ ss. is_ground m p && (nat_lt (degree_of m p) 8 || list_any (λ s. same_point s p) ss)) (sym of.sinks))
+  pub told_off : (IsLeft : Type 0) → (flow ≡ NoGround) ⊎ (flow ≡ Edge) → IsToldFlow m p IsLeft Off
+  told_off IsLeft either = record {
+    right = λ way same. subst (IsWay m p) (unwrapped None way same) (record {
+      drains = λ solid level filled. ⊎_elim (λ none. absurd (said NoGround none level filled solid)) (λ edge. said Edge edge level filled solid) either;
+      elsewhere = λ off. refl;
+    });
+    left = λ none. absurd (some_none None none);
+  }
 
-    said : (other : LocalFlow) → flow ≡ other → (level : Point → ℤ) → AreFilledLevels (terrain m) level → IsTrue (is_ground m p) → IsFlowOf (terrain m) level p other
-    said other same level filled solid = subst (IsFlowOf (terrain m) level p) same ((seen level filled).on_ground solid)
+  pub told_down : (IsLeft : Type 0) (d : Dir) → flow ≡ Drains d → (byte : Flow) → way_of byte ≡ Some (Some d) → IsToldFlow m p IsLeft byte
+  told_down IsLeft d same byte tells = record {
+    right = λ way told. subst (IsWay m p) (unwrapped (Some d) way (sym tells ∙ told)) (record {
+      drains = λ solid level filled. inl (said (Drains d) same level filled solid);
+      elsewhere = λ off. absurd (true≢false (sym (ground (λ none. drains_none d (sym same ∙ none))) ∙ off));
+    });
+    left = λ none. absurd (some_none (Some d) (sym tells ∙ none));
+  }
 
-    -- there is ground where that isn't denied
-    ground : (flow ≡ NoGround → ⊥) → IsTrue (is_ground m p)
-    ground some = elim (cases_Bool (is_ground m p)) [
-      | inl on ↦ on
-      | inr off ↦ let by = level_function m is in absurd (some ((seen by.0 by.1).elsewhere off))
-    ]
-
-    pub told_off : (flow ≡ NoGround) ⊎ (flow ≡ Edge) → IsToldFlow m p Off
-    told_off either = record {
-      right = λ way same. subst (IsWay m p) (unwrapped None way same) (record {
-        drains = λ solid level filled. ⊎_elim (λ none. absurd (said NoGround none level filled solid)) (λ edge. said Edge edge level filled solid) either;
-        elsewhere = λ off. refl;
-      });
-      flat = λ none. absurd (some_none None none);
-    }
-
-    pub told_down : (d : Dir) → flow ≡ Drains d → (byte : Flow) → way_of byte ≡ Some (Some d) → IsToldFlow m p byte
-    told_down d same byte tells = record {
-      right = λ way told. subst (IsWay m p) (unwrapped (Some d) way (sym tells ∙ told)) (record {
-        drains = λ solid level filled. inl (said (Drains d) same level filled solid);
-        elsewhere = λ off. absurd (true≢false (sym (ground (λ none. drains_none d (sym same ∙ none))) ∙ off));
-      });
-      flat = λ none. absurd (some_none (Some d) (sym tells ∙ none));
-    }
-
-    pub told_flat : (flow ≡ Flat) ⊎ (flow ≡ Seam) → IsToldFlow m p Unknown
-    told_flat either = record {
-      right = λ way same. absurd (some_none way (sym same));
-      flat = λ _.
-          let by = level_function m is in
-          let solid = ground (λ none. ⊎_elim (λ flat. flat_none (sym flat ∙ none)) (λ seam. seam_none (sym seam ∙ none)) either) in
-          record {
-            solid = solid;
-            enclosed = (inside by.0 by.1 solid).1;
-            none_lower = λ level filled. (inside level filled solid).0;
-          };
-    }
+  -- a point on a flat
+  module _ (either : (flow ≡ Flat) ⊎ (flow ≡ Seam)) where
+    pub flat_ground : IsTrue (is_ground m p)
+    flat_ground = ground (λ none. ⊎_elim (λ flat. flat_none (sym flat ∙ none)) (λ seam. seam_none (sym seam ∙ none)) either)
       where
         flat_none : ◌≡◌ {A = LocalFlow} Flat NoGround → ⊥
         flat_none e = cc
@@ -157,5 +152,17 @@ module _ (m : Mosaic) (is : IsMosaic m) (c : Corner) (f : Filled) (of : IsTileOf
         seam_none : ◌≡◌ {A = LocalFlow} Seam NoGround → ⊥
         seam_none e = cc
 
-        inside : (level : Point → ℤ) → AreFilledLevels (terrain m) level → IsTrue (is_ground m p) → IsFlowOf (terrain m) level p Flat
-        inside level filled solid = ⊎_elim (λ flat. said Flat flat level filled solid) (λ seam. said Seam seam level filled solid) either
+    pub inside_flat : IsInsideFlat m p
+    inside_flat =
+        let by = level_function m is in
+        record {
+          solid = flat_ground;
+          enclosed = (inside by.0 by.1).1;
+          none_lower = λ level filled. (inside level filled).0;
+        }
+      where
+        inside : (level : Point → ℤ) → AreFilledLevels (terrain m) level → IsFlowOf (terrain m) level p Flat
+        inside level filled = ⊎_elim (λ flat. said Flat flat level filled flat_ground) (λ seam. said Seam seam level filled flat_ground) either
+
+  pub told_nothing : (IsLeft : Type 0) → IsLeft → IsToldFlow m p IsLeft Unknown
+  told_nothing IsLeft left = record { right = λ way same. absurd (some_none way (sym same)); left = λ _. left }

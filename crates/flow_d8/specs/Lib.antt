@@ -25,4 +25,5 @@ pub mod FlowSteps
 pub mod TilePlaces
 pub mod Feeders
 pub mod DeepFlows
+pub mod RimMarks
 pub mod TileFlows

@@ -5,7 +5,7 @@ ghost use Rattle.lattice.specs.Lattice.{IsIndexOf};
 ghost use Rattle.lattice.specs.Mosaic.{Mosaic, IsMosaic};
 ghost use Rattle.lattice.specs.declared.point.Point.{Point};
 ghost use Rattle.flow_d8.specs.Filled.{is_deep};
-ghost use Rattle.flow_d8.specs.DeepFlows.{IsTileOf, IsToldFlow, IsLearntAt, AreLearntTo};
+ghost use Rattle.flow_d8.specs.DeepFlows.{IsTileOf, IsInsideFlat, IsToldFlow, IsLearntAt, AreLearntTo};
 
 use crate::filled::Filled;
 use crate::flow::Flow;
@@ -17,7 +17,7 @@ use crate::tile_place::TilePlace;
 /// flats.
 pub(crate) fn learn_deep(filled: &Filled, flows: &mut [Flow])
     requires { length flows.old ≡ length filled.now.levels }
-    ensures { AreLearntTo filled.now (length filled.now.levels) flows.old flows.new }
+    ensures { AreLearntTo is_deep (λ m c p. IsInsideFlat m p) filled.now (length filled.now.levels) flows.old flows.new }
 {
     let side = filled.side();
     let mut place = TilePlace::first();
@@ -33,7 +33,7 @@ fn learn_at(filled: &Filled, number: usize, deep: bool, flows: &mut [Flow])
     requires number { number < length filled.now.levels }
     requires whole { length flows.old ≡ length filled.now.levels }
     requires deep { deep ≡ is_deep filled.now.side (number % (filled.now.side * filled.now.side)) }
-    ensures { IsLearntAt filled.now number flows.old flows.new }
+    ensures { IsLearntAt is_deep (λ m c p. IsInsideFlat m p) filled.now number flows.old flows.new }
 {
     if !deep {
         return;
@@ -49,7 +49,7 @@ fn learn_at(filled: &Filled, number: usize, deep: bool, flows: &mut [Flow])
 fn deep_flow(filled: &Filled, number: usize) -> Flow
     requires number { number < length filled.now.levels }
     requires deep { is_deep filled.now.side (number % (filled.now.side * filled.now.side)) ≡ true }
-    ensures { (m : Mosaic) (c : Corner) (p : Point) → IsMosaic m → IsTileOf m c filled.now → IsIndexOf filled.now.side c p number → IsToldFlow m p result }
+    ensures { (m : Mosaic) (c : Corner) (p : Point) → IsMosaic m → IsTileOf m c filled.now → IsIndexOf filled.now.side c p number → IsToldFlow m p (IsInsideFlat m p) result }
 {
     match flow_inside(filled, number) {
         LocalFlow::NoGround | LocalFlow::Edge => Flow::Off,

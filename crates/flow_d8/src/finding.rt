@@ -82,9 +82,9 @@ fn drain_of(
     }
 }
 
-// Across a flat.
+/// The same of a point on a flat. Its distance isn't known where it is damaged.
 #[inline(always)]
-fn drain_across(
+pub(crate) fn drain_across(
     filled: &Filled,
     flows: &[LocalFlow],
     distances: &[u32],
@@ -96,6 +96,7 @@ fn drain_across(
     requires flat { IsOnFlat flows.now number }
     ensures drained { IfOk result (IsDrainOf filled.now number) }
     ensures known { OnOk result (distance_at distances.now number < unknown) }
+    ensures unknown { IfErr result (λ _. distance_at distances.now number ≡ unknown) }
     ensures damaged { IfErr result (λ r. (r ≡ Damaged) × IsOfNoMosaic filled.now) }
 {
     if distances[number] == UNKNOWN {

@@ -1,14 +1,16 @@
 //! Where the points of one tile drain, in a byte each.
-ghost use Rattle.std.specs.Prelude.{◌≡◌, ◌+◌, ◌*◌, ◌^◌, ◌<◌, ◌≤◌, IsTrue, IfOk, IfSome, MatchOption, Option, Some, length, map, slice_index_or};
+ghost use Rattle.std.specs.Prelude.{◌≡◌, ◌+◌, ◌*◌, ◌^◌, ◌<◌, ◌≤◌, IsTrue, IfOk, OnOk, IfSome, MatchOption, Option, Some, length, map, slice_index_or};
 ghost use Rattle.lattice.specs.Lattice.{IsIndexOf};
 ghost use Rattle.lattice.specs.Mosaic.{Mosaic, IsMosaic};
 ghost use Rattle.lattice.specs.Ground.{terrain};
-ghost use Rattle.lattice.specs.Steps.{step, directions};
+ghost use Rattle.lattice.specs.Steps.{step};
 ghost use Rattle.lattice.specs.declared.direction.Dir.{Dir};
 ghost use Rattle.lattice.proofs.Interior.{IsInner as IsOffRim};
+ghost use Rattle.flow_d8.specs.DeepFlows.{IsInsideFlat, IsInRimFlat, is_off_rim, AreLearntTo};
+ghost use Rattle.flow_d8.specs.Filled.{is_deep};
 ghost use Rattle.flow_d8.specs.Flow.{way_of};
 ghost use Rattle.flow_d8.specs.LevelsAround.{OnLevels};
-ghost use Rattle.flow_d8.specs.Places.{back_of, place_by};
+ghost use Rattle.flow_d8.specs.Places.{back_of};
 ghost use Rattle.flow_d8.specs.Way.{IsWay};
 ghost use Rattle.flow_d8.specs.declared.flow.Flow.TheVariants.{Unknown};
 
@@ -16,6 +18,8 @@ use crate::deep_flows::learn_deep;
 use crate::directions::opposite;
 use crate::filled::Filled;
 use crate::flow::Flow;
+use crate::inside_flows::learn_inside;
+use crate::tile_place::places_around;
 use arrayvec::ArrayVec;
 use lattice::{Corner, DIRECTIONS, Dir, Point, Side, index_in, neighbour};
 use std::alloc::{AllocError, Global};
@@ -32,7 +36,7 @@ pub struct TileFlows {
 impl TileFlows {
     ghost use Rattle.flow_d8.specs.Feeders.{AreFeedersOf};
     ghost use Rattle.flow_d8.specs.DeepFlows.{IsTileOf};
-    ghost use Rattle.flow_d8.specs.TileFlows.{AreFlowsIn, AreToldIn, way_in};
+    ghost use Rattle.flow_d8.specs.TileFlows.{AreFlowsIn, AreToldIn, AreToldInside, way_in};
 
     /// Nothing is known of the points of the corner's tile.
     pub fn new(alloc: Global, side: Side, corner: Corner) -> Result<TileFlows, AllocError>
@@ -74,16 +78,21 @@ impl TileFlows {
         }
     }
 
-    /// Learns where all points drain that lie at least two samples from the tile's edges, but those inside flats: the
-    /// filled levels of the tile tell it, where these are of that tile alone.
-    pub fn learn_all(&mut self, filled: &Filled)
+    /// Learns where all points drain that lie off the tile's rim, but those inside flats that reach the rim: the filled
+    /// levels of the tile tell it, where these are of that tile alone. Where memory is refused it learns what takes none:
+    /// of the points at least two samples from the tile's edges those that lie inside no flat.
+    pub fn learn_all(&mut self, alloc: Global, filled: &Filled) -> Result<(), AllocError>
         ensures side { self.new.side ≡ self.old.side }
         ensures corner { self.new.corner ≡ self.old.corner }
         ensures flows { (m : Mosaic) → IsMosaic m → IsTileOf m self.old.corner filled.now → AreFlowsIn m self.old → AreFlowsIn m self.new }
         ensures told { (m : Mosaic) → IsMosaic m → IsTileOf m self.old.corner filled.now → self.old.side ≡ filled.now.side → AreToldIn m self.new }
+        ensures inside { OnOk result ((m : Mosaic) → IsMosaic m → IsTileOf m self.old.corner filled.now → self.old.side ≡ filled.now.side → AreToldInside m self.new) }
     {
-        if self.side == filled.side() && self.flows.len() == filled.levels().len() {
-            learn_deep(filled, &mut self.flows);
+        let area = self.side.area() as usize;
+        if self.side == filled.side() && filled.levels().len() == area {
+            learn_tile(alloc, filled, &mut self.flows)
+        } else {
+            Ok(())
         }
     }
 
@@ -140,20 +149,18 @@ fn is_off_rim(side: Side, index: u32) -> bool
     1 <= row && row + 2 <= n && 1 <= column && column + 2 <= n
 }
 
-// The places around one in rows of this width, by direction in the order of codes.
-fn places_around(width: usize, place: usize) -> [usize; 8]
-    requires before { width + 1 ≤ place }
-    requires after { place + width + 1 < 2 ^ 64 }
-    ensures { result ≡ map (place_by width place) directions }
+// Learns where the points of the tile drain, those inside its flats as well where there is memory for it.
+fn learn_tile(alloc: Global, filled: &Filled, flows: &mut [Flow]) -> Result<(), AllocError>
+    requires whole { length flows.old ≡ length filled.now.levels }
+    requires one { length filled.now.levels ≡ filled.now.side * filled.now.side }
+    ensures deep { AreLearntTo is_deep (λ m c p. IsInsideFlat m p) filled.now (length filled.now.levels) flows.old flows.new }
+    ensures inside { OnOk result (AreLearntTo is_off_rim IsInRimFlat filled.now (length filled.now.levels) flows.old flows.new) }
 {
-    [
-        place + 1,
-        place + width + 1,
-        place + width,
-        place + width - 1,
-        place - 1,
-        place - width - 1,
-        place - width,
-        place - width + 1,
-    ]
+    match learn_inside(alloc, filled, flows) {
+        Ok(()) => Ok(()),
+        Err(error) => {
+            learn_deep(filled, flows);
+            Err(error)
+        }
+    }
 }

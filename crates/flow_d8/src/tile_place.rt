@@ -1,5 +1,7 @@
 //! Rows and columns of samples, as they are numbered tile after tile.
-ghost use Rattle.std.specs.Prelude.{◌≡◌, ℕ, ◌+◌, ◌<◌, ◌≤◌};
+ghost use Rattle.std.specs.Prelude.{◌≡◌, ℕ, ◌+◌, ◌^◌, ◌<◌, ◌≤◌, ◌&&◌, not, map};
+ghost use Rattle.lattice.specs.Steps.{directions};
+ghost use Rattle.flow_d8.specs.Places.{place_by};
 
 use lattice::Side;
 
@@ -11,7 +13,7 @@ pub(crate) struct TilePlace {
 }
 
 impl TilePlace {
-    ghost use Rattle.flow_d8.specs.TilePlaces.{IsPlaceOf, is_deep_place};
+    ghost use Rattle.flow_d8.specs.TilePlaces.{IsPlaceOf, is_deep_place, is_rim_place};
 
     /// That of the first sample.
     pub(crate) fn first() -> TilePlace
@@ -52,4 +54,44 @@ impl TilePlace {
         let n = side.samples();
         2 <= self.row && self.row + 3 <= n && 2 <= self.column && self.column + 3 <= n
     }
+
+    /// Whether the sample lies on an edge of its tile.
+    #[inline(always)]
+    pub(crate) fn is_on_rim(self, side: Side) -> bool
+        requires row { self.row < side }
+        requires column { self.column < side }
+        ensures { result ≡ is_rim_place side self }
+    {
+        let n = side.samples();
+        self.row == 0 || self.row + 1 == n || self.column == 0 || self.column + 1 == n
+    }
+
+    /// Whether the sample lies one sample from an edge of its tile.
+    #[inline(always)]
+    pub(crate) fn is_beside_rim(self, side: Side) -> bool
+        requires row { self.row < side }
+        requires column { self.column < side }
+        ensures { result ≡ (not (is_rim_place side self) && not (is_deep_place side self)) }
+    {
+        !self.is_on_rim(side) && !self.is_deep(side)
+    }
+}
+
+/// The places around one in rows of this width, by direction in the order of codes.
+#[inline(always)]
+pub(crate) fn places_around(width: usize, place: usize) -> [usize; 8]
+    requires before { width + 1 ≤ place }
+    requires after { place + width + 1 < 2 ^ 64 }
+    ensures { result ≡ map (place_by width place) directions }
+{
+    [
+        place + 1,
+        place + width + 1,
+        place + width,
+        place + width - 1,
+        place - 1,
+        place - width - 1,
+        place - width,
+        place - width + 1,
+    ]
 }
