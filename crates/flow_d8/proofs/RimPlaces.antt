@@ -12,7 +12,7 @@ use Rattle.lattice.proofs.Interior.{IsInner, inner_if}
 use Rattle.flow_d8.specs.Filled.{is_deep}
 use Rattle.flow_d8.specs.Places.{place_by, back_of}
 use Rattle.flow_d8.specs.RimMarks.{IsOff}
-use Rattle.flow_d8.proofs.Inside.{deep_says}
+use Rattle.flow_d8.proofs.Beside.{deep_says}
 use Rattle.flow_d8.proofs.InTiles.{deep_by_place}
 use Rattle.flow_d8.proofs.TileShown.{alone}
 
