@@ -20,8 +20,8 @@ const MOST_BYTES: usize = 128 << 20;
 
 const FEWEST_TILES: usize = 9;
 
-// So many points of a tile are learnt one by one, before all are learnt at once. That takes some 30 milliseconds, as long as
-// 30,000 points one by one; a search that got so far mostly goes on.
+// So many points of a tile are learnt one by one, before all are learnt at once. That takes some 50 milliseconds, 100 where
+// all is flat, as long as 50,000 points one by one; a search that got so far mostly goes on.
 const MOST_ALONE: u32 = 1 << 12;
 
 // Tiles are found by the last four bits of the degrees of their corners.

@@ -42,5 +42,6 @@ pub mod FlowBytes
 pub mod TileFeeders
 pub mod RimPlaces
 pub mod RimMarking
+pub mod RimDrawn
 pub mod TileSurface
 pub mod InsideTold

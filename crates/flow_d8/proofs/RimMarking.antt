@@ -1,54 +1,44 @@
 -- Samples marked from the rim of a tile inwards, over samples of one level.
-use Rattle.std.proofs.Common.{◌≡◌, ℕ, suc, ◌+◌, ◌*◌, ◌<◌, ◌≤◌, ℤ, Bool, true, false, List, [], ◌∷◌, ◌++◌, length, get_or, set, ◌⊎◌, inl, inr, refl, sym, ap, ◌∙◌, subst, arith, true≢false, get_or-set_other, get_or-set_same}
+use Rattle.std.proofs.Common.{◌≡◌, ℕ, suc, ◌+◌, ◌-◌, ◌*◌, ◌/◌, ◌%◌, ◌<◌, ◌≤◌, ℤ, Bool, true, false, List, [], ◌∷◌, ◌++◌, length, get_or, set, ◌⊎◌, inl, inr, refl, sym, ap, ◌∙◌, subst, arith, true≢false, get_or-set_other, get_or-set_same}
 use Rattle.std.specs.Prelude.{slice_index_or}
 use Rattle.std.proofs.lemmas.Bool.{cases_eq, cases_lt}
-use Rattle.std.proofs.lemmas.List.{get_or_past, length-set, length-append, get_or_append_left, get_or-append-add}
+use Rattle.std.proofs.lemmas.List.{get_or_past, length-set}
 use Rattle.lattice.specs.Block.{is_rim}
 use Rattle.lattice.specs.Mosaic.{void}
 use Rattle.lattice.specs.Steps.{order_of}
 use Rattle.lattice.specs.declared.direction.Dir.{Dir}
 use Rattle.flow_d8.specs.Places.{place_by, back_of}
 use Rattle.flow_d8.specs.Propagation.{IsWaiting}
-use Rattle.flow_d8.specs.RimMarks.{is_marked, IsOff, IsLevelStep, LeadsToRim, AreRimMarks, IsMarking, IsMarkingTo, IsMarkingFrom, IsMarkingAround, IsMarkStep}
+use Rattle.flow_d8.specs.RimMarks.{is_marked, IsOff, IsLevelStep, LeadsToRim, AreRimMarks, IsMarking, IsMarkingBut, IsMarkingFrom, IsMarkingAround, IsMarkStep, IsUnseen}
 use Rattle.flow_d8.proofs.Compass.{order_below, same_order}
-use Rattle.flow_d8.proofs.RimPlaces.{place_within, there_and_back}
+use Rattle.flow_d8.proofs.RimPlaces.{row_and_column, place_within, there_and_back, around_off, deep_if, off_inner}
 use Rattle.flow_d8.proofs.Spreading.{longer_by, earlier, last, waits_still, waits_last}
 
--- marks with one more
-pub longer_by_one : (marks : List Bool) (v : Bool) → length (marks ++ v ∷ []) ≡ length marks + 1
-longer_by_one marks v = length-append marks (v ∷ [])
-
-pub marks_before : (marks : List Bool) (v : Bool) (e : ℕ) → e < length marks → is_marked (marks ++ v ∷ []) e ≡ is_marked marks e
-marks_before marks v e small = get_or_append_left marks (v ∷ []) false e small
-
-pub mark_last : (marks : List Bool) (v : Bool) (e : ℕ) → e ≡ length marks → is_marked (marks ++ v ∷ []) e ≡ v
-mark_last marks v e is = ap (is_marked (marks ++ v ∷ [])) (is ∙ no_more (length marks)) ∙ get_or-append-add marks (v ∷ []) 0 false
-  where
-    no_more : (k : ℕ) → k ≡ k + 0
-    no_more k = omega arith
-
-marked_within : (marks : List Bool) (e : ℕ) → is_marked marks e ≡ true → e < length marks
+pub marked_within : (marks : List Bool) (e : ℕ) → is_marked marks e ≡ true → e < length marks
 marked_within marks e on = elim (cases_lt e (length marks)) [ inl small ↦ small | inr past ↦ absurd (true≢false (sym on ∙ get_or_past marks e false past)) ]
 
 module _ (marks : List Bool) (to : ℕ) (within : to < length marks) where
-  marked_now : (e : ℕ) → e ≡ to → is_marked (set marks to true) e ≡ true
+  pub marked_now : (e : ℕ) → e ≡ to → is_marked (set marks to true) e ≡ true
   marked_now e same = ap (is_marked (set marks to true)) same ∙ get_or-set_same marks to true false within
 
-  marked_before : (e : ℕ) → (e ≡ to → ⊥) → is_marked (set marks to true) e ≡ is_marked marks e
+  pub marked_before : (e : ℕ) → (e ≡ to → ⊥) → is_marked (set marks to true) e ≡ is_marked marks e
   marked_before e other = get_or-set_other marks to e true false other
 
-  still_marked : (e : ℕ) → is_marked marks e ≡ true → is_marked (set marks to true) e ≡ true
+  pub still_marked : (e : ℕ) → is_marked marks e ≡ true → is_marked (set marks to true) e ≡ true
   still_marked e on = elim (cases_eq e to) [ inl same ↦ marked_now e same | inr other ↦ marked_before e other ∙ on ]
 
 module _ (n : ℕ) (levels : List ℤ) where
   -- the rim alone is marked
-  pub marking_start : 3 ≤ n → (marks : List Bool) → length marks ≡ n * n → ((e : ℕ) → e < n * n → is_marked marks e ≡ is_rim n e) → IsMarkingTo n levels 0 marks []
+  pub marking_start : 3 ≤ n → (marks : List Bool) → length marks ≡ n * n → ((e : ℕ) → e < n * n → is_marked marks e ≡ is_rim n e) → IsMarkingBut n levels 1 [] marks []
   marking_start side marks whole rim = record {
     whole = whole;
     rim = λ e small off. sym (rim e small) ∙ off;
     reached = λ e on. let small = marked_within marks e on in (0, sym (rim e (omega (arith, small, whole))) ∙ on);
     waiting = λ i below. absurd (omega (arith, below));
-    all = λ e d off step on. inr (inr (omega arith, sym (rim (place_by n e d) (place_within n e side off d)) ∙ on));
+    all = λ e d off step on.
+        let inner = off_inner n e side off in
+        let un : IsUnseen n 1 [] e = record { other = tt; north = λ _. inner.before; south = λ _. inner.before; west = λ _. inner.above; east = λ _. inner.above } in
+        inr (inr (un, sym (rim (place_by n e d) (place_within n e side off d)) ∙ on));
   }
 
   -- other steps are left
@@ -107,24 +97,76 @@ module _ (n : ℕ) (levels : List ℤ) where
   pub leads_on : (e : ℕ) (d : Dir) → IsOff n e → IsLevelStep n levels e d → ((k : ℕ) × LeadsToRim n levels (place_by n e d) k) → (k : ℕ) × LeadsToRim n levels e k
   leads_on e d off step there = (suc there.0, (off.off, (d, (step, there.1))))
 
-  -- the first samples are seen
-  pub begin_none : (k : ℕ) (marks : List Bool) (queue : List ℕ) → IsMarkingTo n levels k marks queue
-      → (IsOff n k → (d : Dir) → IsLevelStep n levels k d → is_marked marks (place_by n k d) ≡ true → is_rim n (place_by n k d) ≡ true → ⊥) → IsMarkingTo n levels (k + 1) marks queue
-  begin_none k marks queue was none = marking_with marks queue 0 (λ e d. (k ≤ e) × (is_rim n (place_by n e d) ≡ true)) (λ e d. (k + 1 ≤ e) × (is_rim n (place_by n e d) ≡ true)) was
+  abbrev IsLeftBut : ℕ → List ℕ → ℕ → Dir → Type 0
+  IsLeftBut i seen e d = IsUnseen n i seen e × (is_rim n (place_by n e d) ≡ true)
+
+  unseen_other : (i k : ℕ) (seen : List ℕ) (e : ℕ) → (e ≡ k → ⊥) → IsUnseen n i seen e → IsUnseen n i (k ∷ seen) e
+  unseen_other i k seen e other was = record {
+    other = (other, was.other);
+    north = was.north;
+    south = was.south;
+    west = was.west;
+    east = was.east;
+  }
+
+  -- one more sample is seen
+  pub begin_none : (i k : ℕ) (seen : List ℕ) (marks : List Bool) (queue : List ℕ) → ((d : Dir) → IsLevelStep n levels k d → is_marked marks (place_by n k d) ≡ true → ⊥) → IsMarkingBut n levels i seen marks queue
+      → IsMarkingBut n levels i (k ∷ seen) marks queue
+  begin_none i k seen marks queue none was = marking_with marks queue 0 (IsLeftBut i seen) (IsLeftBut i (k ∷ seen)) was
       (λ e d off step on left. elim (cases_eq e k) [
-        | inl same ↦ absurd (none (subst (IsOff n) same off) d (subst (λ x. IsLevelStep n levels x d) same step) (subst (λ x. is_marked marks (place_by n x d) ≡ true) same on) (subst (λ x. is_rim n (place_by n x d) ≡ true) same left.1))
-        | inr other ↦ let le = left.0 in inr (omega arith, left.1)
+        | inl same ↦ absurd (none d (subst (λ x. IsLevelStep n levels x d) same step) (subst (λ x. is_marked marks (place_by n x d) ≡ true) same on))
+        | inr other ↦ inr (unseen_other i k seen e other left.0, left.1)
       ])
 
-  pub begin_one : (k : ℕ) (marks : List Bool) (queue : List ℕ) → IsMarkingTo n levels k marks queue → IsOff n k → (d : Dir) → IsLevelStep n levels k d → is_marked marks (place_by n k d) ≡ true
-      → IsMarkingTo n levels (k + 1) (set marks k true) (queue ++ k ∷ [])
-  begin_one k marks queue was off d step on = marking_one marks queue 0 (λ e d. (k ≤ e) × (is_rim n (place_by n e d) ≡ true)) (λ e d. (k + 1 ≤ e) × (is_rim n (place_by n e d) ≡ true)) k was off
+  pub begin_one : (i k : ℕ) (seen : List ℕ) (marks : List Bool) (queue : List ℕ) → IsOff n k → (d : Dir) → IsLevelStep n levels k d → is_marked marks (place_by n k d) ≡ true → IsMarkingBut n levels i seen marks queue
+      → IsMarkingBut n levels i (k ∷ seen) (set marks k true) (queue ++ k ∷ [])
+  begin_one i k seen marks queue off d step on was = marking_one marks queue 0 (IsLeftBut i seen) (IsLeftBut i (k ∷ seen)) k was off
       (leads_on k d off step (was.reached (place_by n k d) on)) (omega arith)
-      (λ e d off other left. let le = left.0 in (omega arith, left.1))
+      (λ e d off other left. (unseen_other i k seen e other left.0, left.1))
 
-  pub begun : (k : ℕ) (marks : List Bool) (queue : List ℕ) → n * n ≤ k → IsMarkingTo n levels k marks queue → IsMarkingFrom n levels 0 marks queue
-  begun k marks queue all was = marking_with marks queue 0 (λ e d. (k ≤ e) × (is_rim n (place_by n e d) ≡ true)) (λ e d. ⊥) was
-      (λ e d off step on left. absurd (let le = left.0 in let small = off.within in omega arith))
+  module _ (marks : List Bool) (queue : List ℕ) (i : ℕ) where
+    -- those of all four edges are seen
+    pub begin_more : (a b c d : ℕ) → a ≡ n + i → b ≡ n * n - 2 * n + i → c ≡ i * n + 1 → d ≡ i * n + n - 2 → 3 ≤ n → IsMarkingBut n levels i (d ∷ c ∷ b ∷ a ∷ []) marks queue → IsMarkingBut n levels (i + 1) [] marks queue
+    begin_more a b c d is_a is_b is_c is_d side was = marking_with marks queue 0 (IsLeftBut i (d ∷ c ∷ b ∷ a ∷ [])) (IsLeftBut (i + 1) []) was
+        (λ e f off step on left.
+        let at = row_and_column n e in
+        let un = left.0 in
+        let inner = off_inner n e side off in
+        inr (
+          record {
+            other = tt;
+            north = λ row. elim (cases_eq (e % n) i) [
+              | inl same ↦ absurd (un.other.1.1.1.0 (let rows = ap (λ q. q * n) row in omega arith))
+              | inr other ↦ let le = un.north row in omega arith
+            ];
+            south = λ row. elim (cases_eq (e % n) i) [
+              | inl same ↦ absurd (un.other.1.1.0 (let rows = ap (λ q. q * n) row in omega arith))
+              | inr other ↦ let le = un.south row in omega arith
+            ];
+            west = λ column. elim (cases_eq (e / n) i) [
+              | inl same ↦ absurd (un.other.1.0 (let rows = ap (λ q. q * n) same in omega arith))
+              | inr other ↦ let le = un.west column in omega arith
+            ];
+            east = λ column. elim (cases_eq (e / n) i) [
+              | inl same ↦ absurd (un.other.0 (let rows = ap (λ q. q * n) same in omega arith))
+              | inr other ↦ let le = un.east column in omega arith
+            ];
+          },
+          left.1,
+        ))
+
+    -- none is left
+    pub begun : 3 ≤ n → n ≤ i + 1 → IsMarkingBut n levels i [] marks queue → IsMarkingFrom n levels 0 marks queue
+    begun side all was = marking_with marks queue 0 (IsLeftBut i []) (λ e d. ⊥) was
+        (λ e d off step on left. absurd (
+        let un = left.0 in
+        let inner = off_inner n e side off in
+        let above : 2 ≤ e / n = elim (cases_eq (e / n) 1) [ inl same ↦ absurd (let le = un.north same in let after = inner.after in omega arith) | inr other ↦ let low = inner.above in omega arith ] in
+        let below : e / n + 3 ≤ n = elim (cases_eq (e / n + 2) n) [ inl same ↦ absurd (let le = un.south same in let after = inner.after in omega arith) | inr other ↦ let high = inner.below in omega arith ] in
+        let before : 2 ≤ e % n = elim (cases_eq (e % n) 1) [ inl same ↦ absurd (let le = un.west same in let high = inner.below in omega arith) | inr other ↦ let low = inner.before in omega arith ] in
+        let after : e % n + 3 ≤ n = elim (cases_eq (e % n + 2) n) [ inl same ↦ absurd (let le = un.east same in let high = inner.below in omega arith) | inr other ↦ let high = inner.after in omega arith ] in
+        true≢false (sym left.1 ∙ around_off n e (deep_if n e above below before after) d)
+        ))
 
   module _ (head from : ℕ) (side : 3 ≤ n) where
     abbrev IsLeftFrom : ℕ → ℕ → Dir → Type 0

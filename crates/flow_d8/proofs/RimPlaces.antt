@@ -16,8 +16,11 @@ use Rattle.flow_d8.proofs.Beside.{deep_says}
 use Rattle.flow_d8.proofs.InTiles.{deep_by_place}
 use Rattle.flow_d8.proofs.TileShown.{alone}
 
-row_and_column : (n e : ℕ) → e ≡ e / n * n + e % n
+pub row_and_column : (n e : ℕ) → e ≡ e / n * n + e % n
 row_and_column n e = grind (arith, rows)
+
+pub deep_if : (n e : ℕ) → 2 ≤ e / n → e / n + 3 ≤ n → 2 ≤ e % n → e % n + 3 ≤ n → is_deep n e ≡ true
+deep_if n e above below before after = grind (arith, nat_tests)
 
 -- a sample in the rows and columns between
 none_of : (n i j : ℕ) → 0 < i → i + 1 < n → 0 < j → j + 1 < n → (nat_eq i 0 || nat_eq (i + 1) n || nat_eq j 0 || nat_eq (j + 1) n) ≡ false
@@ -33,6 +36,26 @@ off_at n i j above below before after =
 
 off_there : (n i j e : ℕ) → e ≡ i * n + j → 0 < i → i + 1 < n → 0 < j → j + 1 < n → is_rim n e ≡ false
 off_there n i j e is above below before after = ap (is_rim n) is ∙ off_at n i j above below before after
+
+-- so is one beside the i-th of an edge, where that isn't a corner
+off_of : (n i j e : ℕ) → e ≡ i * n + j → 0 < i → i + 1 < n → 0 < j → j + 1 < n → IsOff n e
+off_of n i j e is above below before after =
+    let rows : (i + 1) * n ≤ n * n = mul-le-mul_right n (omega arith) in
+    record { within = omega arith; off = off_there n i j e is above below before after }
+
+module _ (n i m : ℕ) (same : m ≡ n) (some : 1 ≤ i) (small : i + 1 < n) where
+  pub off_north : IsOff n (m + i)
+  off_north = off_of n 1 i (m + i) (omega arith) (omega arith) (omega arith) (omega arith) (omega arith)
+
+  pub off_south : (count : ℕ) → count ≡ n * n → IsOff n (count - 2 * m + i)
+  off_south count all =
+      let k = n - 2 in
+      let is : n ≡ k + 2 = omega arith in
+      let rows : n * n ≡ k * n + 2 * n = ap (λ v. v * n) is ∙ omega arith in
+      off_of n (n - 2) i (count - 2 * m + i) (omega arith) (omega arith) (omega arith) (omega arith) (omega arith)
+
+  pub off_east : IsOff n (i * m + m - 2)
+  off_east = off_of n i (n - 2) (i * m + m - 2) (let rows = ap (λ v. i * v) same in omega arith) (omega arith) (omega arith) (omega arith) (omega arith)
 
 module _ (n e : ℕ) where
   -- a deep sample isn't on the rim

@@ -1,5 +1,5 @@
 -- Which samples of a tile are reached from its rim over samples of one level (this product's own profile).
-use Rattle.std.specs.Prelude.{◌≡◌, ℕ, zero, suc, ◌+◌, ◌*◌, ◌<◌, ◌≤◌, ◌⊎◌, ℤ, Bool, true, false, List, [], ◌∷◌, ◌++◌, length, slice_index_or, slice_set}
+use Rattle.std.specs.Prelude.{◌≡◌, ℕ, zero, suc, ◌+◌, ◌*◌, ◌/◌, ◌%◌, ◌<◌, ◌≤◌, ◌⊎◌, ℤ, Bool, true, false, List, [], ◌∷◌, ◌++◌, length, slice_index_or, slice_set}
 use Rattle.lattice.specs.Block.{is_rim}
 use Rattle.lattice.specs.Mosaic.{void}
 use Rattle.lattice.specs.Steps.{order_of}
@@ -14,6 +14,19 @@ is_marked marks e = slice_index_or marks e false
 pub record IsOff (n e : ℕ) : Type 0 where
   pub within : e < n * n
   pub off : is_rim n e ≡ false
+
+-- the sample is none of these
+abbrev pub IsApart : List ℕ → ℕ → Type 0
+IsApart [] e = Unit
+IsApart (k ∷ rest) e = (e ≡ k → ⊥) × IsApart rest e
+
+-- it isn't seen yet, where of the samples beside the rim the first i of each edge are seen, and these are
+pub record IsUnseen (n i : ℕ) (seen : List ℕ) (e : ℕ) : Type 0 where
+  pub other : IsApart seen e
+  pub north : e / n ≡ 1 → i ≤ e % n
+  pub south : e / n + 2 ≡ n → i ≤ e % n
+  pub west : e % n ≡ 1 → i ≤ e / n
+  pub east : e % n + 2 ≡ n → i ≤ e / n
 
 -- of n by n samples with these levels
 module _ (n : ℕ) (levels : List ℤ) where
@@ -42,9 +55,9 @@ module _ (n : ℕ) (levels : List ℤ) where
     pub all : (e : ℕ) (d : Dir) → IsOff n e → IsLevelStep e d → is_marked marks (place_by n e d) ≡ true
         → (is_marked marks e ≡ true) ⊎ (IsWaiting queue head (place_by n e d) ⊎ IsLeft e d)
 
-  -- left are the steps to the rim from samples with numbers of at least k
-  abbrev pub IsMarkingTo : ℕ → List Bool → List ℕ → Type 0
-  IsMarkingTo k marks queue = IsMarking marks queue 0 (λ e d. (k ≤ e) × (is_rim n (place_by n e d) ≡ true))
+  -- left are the steps to the rim, but those from samples that are seen
+  abbrev pub IsMarkingBut : ℕ → List ℕ → List Bool → List ℕ → Type 0
+  IsMarkingBut i seen marks queue = IsMarking marks queue 0 (λ e d. IsUnseen n i seen e × (is_rim n (place_by n e d) ≡ true))
 
   -- nothing is left
   abbrev pub IsMarkingFrom : ℕ → List Bool → List ℕ → Type 0

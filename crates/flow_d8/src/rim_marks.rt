@@ -1,14 +1,13 @@
 //! Which samples of a tile are reached from its rim over samples of one level.
-ghost use Rattle.std.specs.Prelude.{◌≡◌, ℕ, ◌+◌, ◌*◌, ◌<◌, ◌↔◌, ◌&&◌, not, true, IsTrue, IfOk, OnOk, length, slice_index_or};
+ghost use Rattle.std.specs.Prelude.{◌≡◌, ℕ, ◌+◌, ◌*◌, ◌<◌, ◌↔◌, true, IsTrue, IfOk, OnOk, List, [], ◌∷◌, length, slice_index_or};
 ghost use Rattle.lattice.specs.Block.{is_rim};
 ghost use Rattle.lattice.specs.Mosaic.{void};
 ghost use Rattle.lattice.specs.declared.direction.Dir.{Dir};
-ghost use Rattle.flow_d8.specs.Filled.{is_deep};
 ghost use Rattle.flow_d8.specs.Places.{place_by};
-ghost use Rattle.flow_d8.specs.RimMarks.{is_marked, IsOff, IsLevelStep, AreRimMarks, IsMarkingTo, IsMarkingFrom, IsMarkStep};
+ghost use Rattle.flow_d8.specs.RimMarks.{is_marked, IsOff, IsLevelStep, AreRimMarks, IsMarkingBut, IsMarkingFrom, IsMarkStep};
 
 use crate::slopes::at;
-use crate::tile_place::{TilePlace, places_around};
+use crate::tile_place::places_around;
 use lattice::Side;
 use std::alloc::{AllocError, Global};
 
@@ -33,12 +32,14 @@ fn mark_rim(alloc: Global, side: Side) -> Result<Vec<bool>, AllocError>
     ensures whole { IfOk result (λ marks. length marks.items ≡ side * side) }
     ensures rim { IfOk result (λ marks. (e : ℕ) → e < side * side → is_marked marks.items e ≡ is_rim side e) }
 {
+    let n = side.samples() as usize;
     let area = side.area() as usize;
-    let mut marks = Vec::with_capacity(alloc, area)?;
-    let mut place = TilePlace::first();
-    for _ in 0..area {
-        marks.push(place.is_on_rim(side))?;
-        place = place.next(side);
+    let mut marks = vec![in alloc; false; area]?;
+    for i in 0..n {
+        marks[i] = true;
+        marks[area - n + i] = true;
+        marks[i * n] = true;
+        marks[i * n + n - 1] = true;
     }
     Ok(marks)
 }
@@ -51,41 +52,34 @@ fn begin(
     queue: &mut Vec<u32>,
 ) -> Result<(), AllocError>
     requires whole { length levels.now ≡ side * side }
-    requires marking { IsMarkingTo side levels.now 0 marks.old queue.old.items }
+    requires marking { IsMarkingBut side levels.now 1 [] marks.old queue.old.items }
     ensures { OnOk result (IsMarkingFrom side levels.now 0 marks.new queue.new.items) }
 {
-    let mut place = TilePlace::first();
-    for number in 0..levels.len() {
-        begin_at(
-            levels,
-            side,
-            number,
-            place.is_beside_rim(side),
-            marks,
-            queue,
-        )?;
-        place = place.next(side);
+    let n = side.samples() as usize;
+    for i in 1..n - 1 {
+        begin_at(levels, side, n + i, marks, queue)?;
+        begin_at(levels, side, levels.len() - 2 * n + i, marks, queue)?;
+        begin_at(levels, side, i * n + 1, marks, queue)?;
+        begin_at(levels, side, i * n + n - 2, marks, queue)?;
     }
     Ok(())
 }
 
-// The same for the sample with this number, which lies beside the rim, or doesn't.
-#[inline(always)]
+// The same for the sample with this number.
 fn begin_at(
     levels: &[i16],
     side: Side,
     number: usize,
-    beside: bool,
     marks: &mut [bool],
     queue: &mut Vec<u32>,
 ) -> Result<(), AllocError>
     requires whole { length levels.now ≡ side * side }
-    requires number { number < side * side }
-    requires beside { beside ≡ (not (is_rim side number) && not (is_deep side number)) }
-    requires marking { IsMarkingTo side levels.now number marks.old queue.old.items }
-    ensures { OnOk result (IsMarkingTo side levels.now (number + 1) marks.new queue.new.items) }
+    requires same { length marks.old ≡ side * side }
+    requires off { IsOff side number }
+    ensures whole { length marks.new ≡ length marks.old }
+    ensures marking { OnOk result ((i : ℕ) (seen : List ℕ) → IsMarkingBut side levels.now i seen marks.old queue.old.items → IsMarkingBut side levels.now i (number ∷ seen) marks.new queue.new.items) }
 {
-    if !beside || !touches_mark(levels, side, number, marks) {
+    if !touches_mark(levels, side, number, marks) {
         return Ok(());
     }
     queue.push(number as u32)?;

@@ -1,5 +1,5 @@
 //! Rows and columns of samples, as they are numbered tile after tile.
-ghost use Rattle.std.specs.Prelude.{◌≡◌, ℕ, ◌+◌, ◌^◌, ◌<◌, ◌≤◌, ◌&&◌, not, map};
+ghost use Rattle.std.specs.Prelude.{◌≡◌, ℕ, ◌+◌, ◌^◌, ◌<◌, ◌≤◌, map};
 ghost use Rattle.lattice.specs.Steps.{directions};
 ghost use Rattle.flow_d8.specs.Places.{place_by};
 
@@ -64,16 +64,6 @@ impl TilePlace {
     {
         let n = side.samples();
         self.row == 0 || self.row + 1 == n || self.column == 0 || self.column + 1 == n
-    }
-
-    /// Whether the sample lies one sample from an edge of its tile.
-    #[inline(always)]
-    pub(crate) fn is_beside_rim(self, side: Side) -> bool
-        requires row { self.row < side }
-        requires column { self.column < side }
-        ensures { result ≡ (not (is_rim_place side self) && not (is_deep_place side self)) }
-    {
-        !self.is_on_rim(side) && !self.is_deep(side)
     }
 }
 
