@@ -1,4 +1,4 @@
-//! Where the points inside a tile drain, by the levels of that tile alone.
+//! Where the points inside a tile drain, by the levels of that tile alone, but those inside flats. It takes no memory.
 ghost use Rattle.std.specs.Prelude.{◌≡◌, ◌<◌, ◌*◌, ◌%◌, true, length};
 ghost use Rattle.lattice.specs.Corners.{Corner};
 ghost use Rattle.lattice.specs.Lattice.{IsIndexOf};
