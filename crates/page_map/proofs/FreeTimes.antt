@@ -1,5 +1,5 @@
 -- Free pages counted by their numbers.
-use Rattle.std.proofs.Common.{◌≡◌, ◌≢◌, ℕ, ◌≤◌, ◌<◌, Bool, List, [], ◌∷◌, ◌++◌, true, false, cond, eqb, inl, inr, refl, sym, subst, ap, ap₂, ◌∙◌, arith}
+use Rattle.std.proofs.Common.{◌≡◌, ◌≢◌, ℕ, ◌+◌, ◌≤◌, ◌<◌, Bool, List, [], ◌∷◌, ◌++◌, true, false, cond, eqb, inl, inr, refl, sym, subst, ap, ap₂, ◌∙◌, arith}
 use Rattle.std.specs.BTreeMap.{is_at}
 use Rattle.std.specs.BTreeSet as tree
 use Rattle.std.specs.Prelude.{not, ◌&&◌, ◌||◌, nat_le, nat_lt}
@@ -12,6 +12,7 @@ use Rattle.std.specs.BTreeSet.{BTreeSet}
 use Rattle.page_alloc.specs.Pages.{PageSet, IsPage, IsFree, with_page, without_page}
 use Rattle.page_alloc.proofs.PageLemmas.{contains-with, contains-without}
 use Rattle.page_map.specs.FreePages.{FreePages, PageRange, free_times, page_times, AreBalanced, AreTaken, AreGiven, AreInUse}
+use Rattle.page_map.specs.Locations.{times}
 use Rattle.page_map.proofs.Times.{one-other, one-self, times-append}
 
 -- a page of the window
@@ -41,23 +42,14 @@ page_le range p = elim (nat_le 4 p && nat_lt p range.sectors) as (λ b. cond b 1
 
 -- ---- one page changes
 module _ (old new : FreePages) (same : new.range ≡ old.range) (k : ℕ) (others : (p : ℕ) → p ≢ k → free_times new p ≡ free_times old p) where
+  one_changed : (xs ys : List ℕ) → ((p : ℕ) → p ≢ k → times p xs ≡ times p ys) → times k ys + free_times new k ≡ times k xs + free_times old k → AreBalanced xs ys old new
+  one_changed xs ys apart at = record { same_range = same; each = λ p. elim (cases_eq p k) [ inl here ↦ rw here at | inr other ↦ omega (arith, others p other, apart p other) ] }
+
   one_taken : free_times old k ≡ 1 → free_times new k ≡ 0 → AreTaken (k ∷ []) old new
-  one_taken was is = record {
-    same_range = same;
-    each = λ p. elim (cases_eq p k) [
-      | inl here ↦ rw here (omega (arith, was, is, one-self k))
-      | inr other ↦ omega (arith, others p other, one-other p k other)
-    ];
-  }
+  one_taken was is = one_changed [] (k ∷ []) (λ p other. omega (arith, one-other p k other)) (omega (arith, was, is, one-self k))
 
   one_given : free_times old k ≡ 0 → free_times new k ≡ 1 → AreGiven (k ∷ []) old new
-  one_given was is = record {
-    same_range = same;
-    each = λ p. elim (cases_eq p k) [
-      | inl here ↦ rw here (omega (arith, was, is, one-self k))
-      | inr other ↦ omega (arith, others p other, one-other p k other)
-    ];
-  }
+  one_given was is = one_changed (k ∷ []) [] (λ p other. omega (arith, one-other p k other)) (omega (arith, was, is, one-self k))
 
 -- the free pages of a disk of so many sectors, by those of its window and those in use behind it
 abbrev pub pages_by : ℕ → PageSet → BTreeSet ℕ → FreePages
@@ -114,28 +106,6 @@ near_in_use sectors near far k inside in_use free =
     absurd (omega arith)
 
 -- ---- lists of pages
-pub taken_none : (pages : FreePages) → AreTaken [] pages pages
-taken_none pages = record { same_range = refl; each = λ p. omega arith }
-
-pub given_none : (pages : FreePages) → AreGiven [] pages pages
-given_none pages = record { same_range = refl; each = λ p. omega arith }
-
-module _ (xs ys : List ℕ) (a b c : FreePages) where
-  pub taken-append : AreTaken xs a b → AreTaken ys b c → AreTaken (xs ++ ys) a c
-  taken-append first second = record {
-    same_range = second.same_range ∙ first.same_range;
-    each = λ p. omega (arith, times-append p xs ys, first.each p, second.each p);
-  }
-
-  pub given-append : AreGiven xs a b → AreGiven ys b c → AreGiven (xs ++ ys) a c
-  given-append first second = record {
-    same_range = second.same_range ∙ first.same_range;
-    each = λ p. omega (arith, times-append p xs ys, first.each p, second.each p);
-  }
-
-  pub in_use-rest : AreInUse (xs ++ ys) a → AreGiven xs a b → AreInUse ys b
-  in_use-rest in_use given p = let same = ap (λ r. page_times r p) given.same_range in omega (arith, same, times-append p xs ys, in_use p, given.each p)
-
 pub in_use-first : (xs ys : List ℕ) (a : FreePages) → AreInUse (xs ++ ys) a → AreInUse xs a
 in_use-first xs ys a in_use p = omega (arith, times-append p xs ys, in_use p)
 
@@ -150,6 +120,13 @@ in_use-head x xs a in_use p = omega (arith, in_use p)
 pub balanced_same : (xs : List ℕ) (a : FreePages) → AreBalanced xs xs a a
 balanced_same xs a = record { same_range = refl; each = λ p. refl }
 
+-- .. by other lists that differ in the same pages
+pub balanced_as : {xs ys new_xs new_ys : List ℕ} {a b : FreePages} → AreBalanced xs ys a b → ((p : ℕ) → times p new_ys + times p xs ≡ times p new_xs + times p ys) → AreBalanced new_xs new_ys a b
+balanced_as balanced same = record { same_range = balanced.same_range; each = λ p. omega (arith, same p, balanced.each p) }
+
+pub balanced_on : (xs ys zs : List ℕ) (a b c : FreePages) → AreBalanced xs ys a b → AreBalanced ys zs b c → AreBalanced xs zs a c
+balanced_on xs ys zs a b c first second = record { same_range = second.same_range ∙ first.same_range; each = λ p. second.each p ∙ first.each p }
+
 module _ (xs new_xs ys : List ℕ) (a b : FreePages) (first : AreBalanced xs new_xs a b) where
   pub balanced-append : (new_ys : List ℕ) (c : FreePages) → AreBalanced ys new_ys b c → AreBalanced (xs ++ ys) (new_xs ++ new_ys) a c
   balanced-append new_ys c second = record {
@@ -159,3 +136,10 @@ module _ (xs new_xs ys : List ℕ) (a b : FreePages) (first : AreBalanced xs new
 
   pub rest_in_use_still : AreInUse (xs ++ ys) a → AreInUse ys b
   rest_in_use_still in_use p = let same = ap (λ r. page_times r p) first.same_range in omega (arith, same, times-append p xs ys, in_use p, first.each p)
+
+-- taken, or given, one after another
+pub taken-append : (xs ys : List ℕ) (a b c : FreePages) → AreTaken xs a b → AreTaken ys b c → AreTaken (xs ++ ys) a c
+taken-append xs ys a b c first second = balanced-append [] xs [] a b first ys c second
+
+pub given-append : (xs ys : List ℕ) (a b c : FreePages) → AreGiven xs a b → AreGiven ys b c → AreGiven (xs ++ ys) a c
+given-append xs ys a b c first second = balanced-append xs [] ys a b first [] c second

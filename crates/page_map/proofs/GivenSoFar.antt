@@ -1,25 +1,21 @@
 -- How far loops over lists of pages have come.
-use Rattle.std.proofs.Common.{◌≡◌, ◌≢◌, ℕ, zero, suc, ◌+◌, ◌<◌, ◌≤◌, ◌⊎◌, inl, inr, List, [], ◌∷◌, ◌++◌, length, drop, take, get_or, set, sym, ap, ◌∙◌, arith, add-one}
+use Rattle.std.proofs.Common.{◌≡◌, ◌≢◌, ℕ, zero, suc, ◌+◌, ◌<◌, ◌≤◌, ◌⊎◌, inl, inr, List, [], ◌∷◌, ◌++◌, length, drop, take, get_or, set, sym, ap, subst, ◌∙◌, arith, add-one}
 use Rattle.std.specs.Prelude.{Result, Ok, Err, OnOk, IfErr}
 use Rattle.std.proofs.lemmas.List.{take_more, take_more_set, take_all, drop_all}
 use Rattle.lattice.specs.declared.refusal.Refusal.{Refusal}
 use Rattle.lattice.specs.declared.refusal.Refusal.TheVariants.{Damaged, NoMemory}
 use Rattle.page_map.specs.Locations.{times}
-use Rattle.page_map.specs.FreePages.{FreePages, free_times, page_times, differing, AreTaken, AreGiven, AreInUse, IsUnmarked}
+use Rattle.page_map.specs.FreePages.{FreePages, free_times, page_times, differing, AreBalanced, AreTaken, AreGiven, AreInUse, IsUnmarked}
 use Rattle.page_map.proofs.Times.{one, one-self, times-append, differing_same, differing_more}
-use Rattle.page_map.proofs.FreeTimes.{taken-append}
+use Rattle.page_map.proofs.FreeTimes.{balanced_as, taken-append}
 
 -- of the pages that differ, those from an index on are still to be given back
-pub record IsGivenTo (pages others : List ℕ) (i : ℕ) (old now : FreePages) : Type 0 where
-  pub same_range : now.range ≡ old.range
-  pub each : (p : ℕ) → times p (differing (drop i pages) (drop i others)) + free_times now p ≡ times p (differing pages others) + free_times old p
+abbrev pub IsGivenTo : List ℕ → List ℕ → ℕ → FreePages → FreePages → Type 0
+IsGivenTo pages others i old now = AreBalanced (differing pages others) (differing (drop i pages) (drop i others)) old now
 
 module _ (pages others : List ℕ) (i : ℕ) (old now : FreePages) (so_far : IsGivenTo pages others i old now) (below : i < length pages) where
   pub given_same : i < length others → get_or others i 0 ≡ get_or pages i 0 → IsGivenTo pages others (i + 1) old now
-  given_same within same = rw add-one (record {
-    same_range = so_far.same_range;
-    each = λ p. omega (arith, differing_same p pages others i below within (sym same), so_far.each p);
-  })
+  given_same within same = rw add-one (balanced_as so_far (λ p. omega (arith, differing_same p pages others i below within (sym same))))
 
   module _ (in_use : AreInUse (differing pages others) old) (apart : i < length others → get_or pages i 0 ≢ get_or others i 0) where
     abbrev page : ℕ
@@ -37,10 +33,7 @@ module _ (pages others : List ℕ) (i : ℕ) (old now : FreePages) (so_far : IsG
     })
 
 pub given_all : (pages others : List ℕ) (i : ℕ) (old now : FreePages) → length pages ≤ i → IsGivenTo pages others i old now → AreGiven (differing pages others) old now
-given_all pages others i old now done so_far = record {
-  same_range = so_far.same_range;
-  each = λ p. let left : times p (differing (drop i pages) (drop i others)) ≡ 0 = ap (λ (l : List ℕ). times p (differing l (drop i others))) (drop_all i pages done) in omega (arith, left, so_far.each p);
-}
+given_all pages others i old now done so_far = subst (λ (l : List ℕ). AreBalanced (differing pages others) (differing l (drop i others)) old now) (drop_all i pages done) so_far
 
 -- a page that is no longer free, or never was, and all before it that were taken out
 pub taken_more : (pages : List ℕ) (i : ℕ) (old now new : FreePages) → i < length pages → AreTaken (take i pages) old now → AreTaken (get_or pages i 0 ∷ []) now new

@@ -24,6 +24,7 @@ use Rattle.page_map.proofs.PlaneChanges.{used_split}
 use Rattle.page_map.proofs.Refused.{done_or_not}
 use Rattle.page_map.proofs.Room.{fresh_lengths, plane_few}
 use Rattle.page_map.proofs.Clean.{none_kept_at}
+use Rattle.page_map.proofs.FreeTimes.{balanced_as}
 use Rattle.page_map.proofs.EntryLists.{fresh_parts, used_parts}
 use Rattle.page_map.proofs.EntryChanges.{entry_fresh, kept_change, kept_unchanged, made_kept, made_page_map, no_more_kept, page_map_changed, same_committed_tiles, staged_without}
 use Rattle.page_map.proofs.AtEntry.{at_page_map, heights_present, kept_as_put, kept_there, present, put_is, rising_there, same_page_map, sound, split}
@@ -129,10 +130,9 @@ module _ (format : Format) (entries : List Entry) (free : FreePages) (kept : IsK
 
   module _ (put : List Entry) (puts : put ≡ with_planes c bare entries) (given : AreGiven (fresh_kept s) free now) where
     bare_balanced : AreBalanced (used_pages s) (used_pages bare) free now
-    bare_balanced = record {
-      same_range = given.same_range;
-      each = λ p. omega (arith, given.each p, times-append p (fresh_in s.levels) (fresh_in s.labels), used_parts p s, used_parts p bare, used_split p s.levels, used_split p s.labels, used_split p bare.levels, used_split p bare.labels);
-    }
+    bare_balanced =
+        balanced_as given
+        (λ p. omega (arith, times-append p (fresh_in s.levels) (fresh_in s.labels), used_parts p s, used_parts p bare, used_split p s.levels, used_split p s.labels, used_split p bare.levels, used_split p bare.labels))
 
     pub kept_bared : IsKept format put now
     kept_bared =
@@ -206,10 +206,9 @@ module _ (format : Format) (entries : List Entry) (free : FreePages) (kept : IsK
 
   module _ (put : List Entry) (puts : put ≡ with_planes c without entries) (given : AreGiven (fresh_pages s) free now) where
     without_balanced : AreBalanced (used_pages s) (used_pages without) free now
-    without_balanced = record {
-      same_range = given.same_range;
-      each = λ p. omega (arith, given.each p, fresh_parts p s, used_parts p s, used_parts p without, used_split p s.heights, used_split p s.levels, used_split p s.labels, used_split p without.heights, used_split p without.levels, used_split p without.labels);
-    }
+    without_balanced =
+        balanced_as given
+        (λ p. omega (arith, fresh_parts p s, used_parts p s, used_parts p without, used_split p s.heights, used_split p s.levels, used_split p s.labels, used_split p without.heights, used_split p without.levels, used_split p without.labels))
 
     removed_tiles : staged_tiles (before ++ (c, without) ∷ after) ≡ without_location c (staged_tiles (before ++ (c, s) ∷ after))
     removed_tiles = staged_without before (c, s) after (rising_there format entries free kept c s found) tile.0 tile.1 (c, without) refl

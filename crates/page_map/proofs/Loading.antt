@@ -22,7 +22,7 @@ use Rattle.page_map.specs.TileLocations.{TileLocation, KeepsPageRule, reached, p
 use Rattle.page_map.specs.PageMaps.{PageMapValue, AreWholeKept, IsWholeTile, IsAdded, IsLocated, tile_at}
 use Rattle.page_map.specs.TileEntries.{committed_tile, committed_tiles, fresh_by, kept_of, labels_of, levels_of, loaded_planes, page_map_of, planes_at, staged_tile, staged_tiles, used_pages, with_planes, AreTogether, Entry, IsKept}
 use Rattle.page_map.proofs.Times.{times-append, member_of_times}
-use Rattle.page_map.proofs.FreeTimes.{page_one}
+use Rattle.page_map.proofs.FreeTimes.{balanced_as, page_one}
 use Rattle.page_map.proofs.PlaneChanges.{used_settled}
 use Rattle.page_map.proofs.EntryLists.{committed_own, corner_of, counted_tiles, pages_of_location, rising_after, staged_own, times-split, used_parts, used_tile}
 use Rattle.page_map.proofs.EntryChanges.{kept_change, no_more_kept}
@@ -156,7 +156,7 @@ module _ (format : Format) (entries : List Entry) (free : FreePages) (kept : IsK
             staged = loaded_together planes.heights planes.kept;
           })
           (rw now_committed (omega (arith, room, long))) (rw now_staged (omega (arith, room, long))) (omega (arith, was_kept.kept_room, no_more_kept before (c, s) (c, loaded) after (omega arith)))
-          (record { same_range = taken.same_range; each = λ p. omega (arith, taken.each p, used_none p, loaded_pages p planes) }))
+          (balanced_as taken (λ p. omega (arith, used_none p, loaded_pages p planes))))
 
       pub page_map_loaded : page_map_of format put now ≡ record (page_map_of format entries free) { committed = tiles ++ tile_at c planes ∷ []; staged = tiles ++ tile_at c planes ∷ [] }
       page_map_loaded =

@@ -7,17 +7,18 @@ use Rattle.std.proofs.lemmas.List.{length-set, set_past, set-append_left, set-ap
 use Rattle.page_map.specs.FreePages.{FreePages}
 use Rattle.page_map.specs.Locations.{PlaneLocation, pages_behind, IsMovedBehind, times}
 use Rattle.page_map.specs.FreePages.{free_times, differing, AreTaken, IsOwned, IsOwnedPage}
+use Rattle.page_map.proofs.FreeTimes.{balanced_as, balanced_on, balanced_same}
 use Rattle.page_map.proofs.Times.{one, one-self, differing-has, differing-set, length-differing-set, has_at}
 
 pub owned_already : (committed pages : List ℕ) (i : ℕ) (free : FreePages) → i < length pages → (i < length committed → get_or pages i 0 ≢ get_or committed i 0)
     → IsOwned committed (get_or pages i 0) pages pages free free
-owned_already committed pages i free below apart = record { fresh = differing-has pages committed i below apart; same_range = refl; fewer = λ p. omega arith; each = λ p. refl }
+owned_already committed pages i free below apart = record { fresh = differing-has pages committed i below apart; fewer = λ p. omega arith; balanced = balanced_same (differing pages committed) free }
 
 -- a page that was free isn't one of the committed plane's
 pub not_committed : (committed : List ℕ) (i page : ℕ) (was now : FreePages) → i < length committed → ((p : ℕ) → times p committed + free_times was p ≤ 1) → AreTaken (page ∷ []) was now
     → page ≢ get_or committed i 0
 not_committed committed i page was now within apart taken e =
-    let free : one page page + 0 + free_times now page ≡ free_times was page = taken.each page in
+    let free = taken.each page in
     let has : 1 ≤ times (get_or committed i 0) committed = has_at committed i 0 within in
     let has_page : 1 ≤ times page committed = rw e has in
     omega (arith, apart page, free, one-self page)
@@ -37,9 +38,8 @@ owned_now committed pages i page was now below within same apart taken =
     let other : page ≢ get_or committed i 0 = not_committed committed i page was now within apart taken in
     record {
       fresh = omega (arith, differing-set page pages committed i page below within same other, one-self page);
-      same_range = taken.same_range;
       fewer = λ p. omega (arith, taken.each p);
-      each = λ p. omega (arith, differing-set p pages committed i page below within same other, taken.each p);
+      balanced = balanced_as taken (λ p. omega (arith, differing-set p pages committed i page below within same other));
     }
 
 -- ---- a plane by its parts
@@ -74,8 +74,7 @@ owned_alone committed i page old new was now none moved owned = record {
   moved = page_moved old new i page moved ∙ ap (λ l. record { record_page = old.record_page; index_pages = l; pages = set old.pages i page }) (sym (set_past old.index_pages (i / 1024) 0 none));
   fresh_page = owned.fresh;
   fresh_index = λ below. absurd (omega arith);
-  same_range = owned.same_range;
-  each = owned.each;
+  balanced = owned.balanced;
 }
 
 pub owned_listed : (committed : List ℕ) (i index_page page : ℕ) (old mid new : PlaneLocation) (was half now : FreePages) → i / 1024 < length old.index_pages
@@ -90,7 +89,6 @@ owned_listed committed i index_page page old mid new was half now below first fi
       index_page = index_page;
       moved = page_moved mid new i page second_there ∙ ap (λ (m : PlaneLocation). record { record_page = m.record_page; index_pages = m.index_pages; pages = set m.pages i page }) mid_is;
       fresh_page = second_owned.fresh;
-      fresh_index = λ _. omega (arith, first_owned.fresh, second_owned.each index_page, second_owned.fewer index_page);
-      same_range = second_owned.same_range ∙ first_owned.same_range;
-      each = λ p. omega (arith, first_owned.each p, second_owned.each p);
+      fresh_index = λ _. omega (arith, first_owned.fresh, second_owned.balanced.each index_page, second_owned.fewer index_page);
+      balanced = balanced_on (differing (pages_behind old) committed) (differing (pages_behind mid) committed) (differing (pages_behind new) committed) was half now first_owned.balanced second_owned.balanced;
     }

@@ -9,7 +9,7 @@ use Rattle.page_map.specs.FreePages.{FreePages, differing, AreBalanced, AreGiven
 use Rattle.page_map.specs.Locations.{PlaneLocation, moved_plane, pages_behind, pages_of_plane, times}
 use Rattle.page_map.specs.PlaneEntries.{behind_at, fresh_as, fresh_in, pages_at, replaced, settled_plane, staged_as, staged_plane, used_in, HasRoom, IsPageRestaged, IsRecordRestaged}
 use Rattle.page_map.proofs.Times.{one, one-self, times-append, differing-apart, differing-le, differing-nil, differing-self, differing-swap}
-use Rattle.page_map.proofs.FreeTimes.{page_le}
+use Rattle.page_map.proofs.FreeTimes.{balanced_as, page_le}
 
 pub nil_parts : (xs ys : List ℕ) → xs ++ ys ≡ [] → (xs ≡ []) × (ys ≡ [])
 nil_parts [] ys none = (refl, none)
@@ -52,10 +52,7 @@ fresh_le p e = by e.committed e.staged
 
 -- where the fresh pages change alone
 pub used_balanced : (old new : PlaneEntry) (was now : FreePages) → new.committed ≡ old.committed → AreBalanced (fresh_in old) (fresh_in new) was now → AreBalanced (used_in old) (used_in new) was now
-used_balanced old new was now same balanced = record {
-  same_range = balanced.same_range;
-  each = λ p. let committed = ap (λ (o : Option PlaneLocation). times p (pages_at o)) same in omega (arith, committed, used_split p old, used_split p new, balanced.each p);
-}
+used_balanced old new was now same balanced = balanced_as balanced (λ p. (let committed = ap (λ (o : Option PlaneLocation). times p (pages_at o)) same in omega (arith, committed, used_split p old, used_split p new)))
 
 -- ---- a record on a page of its own
 pub already_fresh : (e : PlaneEntry) (location : PlaneLocation) → e.staged ≡ Fresh location → IsRecordRestaged e e
@@ -84,13 +81,11 @@ module _ (e : PlaneEntry) (was : PlaneLocation) (is : e.staged ≡ AsCommitted) 
     record_restaged = record { location = was; record_page = copy.record_page; had = ap (staged_as e.committed) is ∙ some; has = ap Fresh same }
 
     pub record_balanced : AreBalanced (fresh_in e) (fresh_in (record e { staged = Fresh copy })) free now
-    record_balanced = record {
-      same_range = taken.same_range;
-      each = λ p.
-          let none : times p (differing (pages_behind copy) (behind_at e.committed)) ≡ 0 = ap (λ l. times p (differing l (behind_at e.committed))) behind ∙ ap (times p) (differing-self (behind_at e.committed)) in
-          let before : times p (fresh_in e) ≡ 0 = ap (λ g. times p (fresh_as e.committed g)) is in
-          omega (arith, none, before, taken.each p);
-    }
+    record_balanced =
+        balanced_as taken (λ p. (
+        let none : times p (differing (pages_behind copy) (behind_at e.committed)) ≡ 0 = ap (λ l. times p (differing l (behind_at e.committed))) behind ∙ ap (times p) (differing-self (behind_at e.committed)) in
+        let before : times p (fresh_in e) ≡ 0 = ap (λ g. times p (fresh_as e.committed g)) is in
+        omega (arith, none, before)))
 
     pub record_room : HasRoom e (len free.free) → len now.free + 1 ≡ len free.free → HasRoom (record e { staged = Fresh copy }) (len now.free)
     record_room room left =
@@ -125,32 +120,24 @@ module _ (e mid : PlaneEntry) (location : PlaneLocation) (prepared : IsRecordRes
 
     pub page_balanced : (was : FreePages) → AreBalanced (fresh_in e) (fresh_in mid) was half → AreBalanced (fresh_in e) (fresh_in (record mid { staged = Fresh after })) was now
     page_balanced was first = record {
-      same_range = owned.same_range ∙ first.same_range;
+      same_range = owned.balanced.same_range ∙ first.same_range;
       each = λ p.
           let before : times p (fresh_in mid) ≡ times p (replaced (Some location) mid.committed) = ap (λ (g : Staged). times p (fresh_as mid.committed g)) is in
           let same : one p after.record_page ≡ one p location.record_page = ap (λ (l : PlaneLocation). one p l.record_page) owned.moved in
-          omega (arith, before, same, first.each p, owned.each p);
+          omega (arith, before, same, first.each p, owned.balanced.each p);
     }
 
 -- ---- staged otherwise, without fresh pages or with none but these
 pub given_balanced : (e : PlaneEntry) (g : Staged) (was now : FreePages) → fresh_as e.committed g ≡ [] → AreGiven (fresh_in e) was now → AreBalanced (used_in e) (used_in (record e { staged = g })) was now
-given_balanced e g was now none given = record {
-  same_range = given.same_range;
-  each = λ p. let nothing = ap (times p) none in omega (arith, nothing, given.each p, used_split p e, used_split p (record e { staged = g }));
-}
+given_balanced e g was now none given = balanced_as given (λ p. (let nothing = ap (times p) none in omega (arith, nothing, used_split p e, used_split p (record e { staged = g }))))
 
 module _ (e : PlaneEntry) (location : PlaneLocation) (was now : FreePages) (in_use : AreInUse (used_in e) was) (taken : AreTaken (pages_of_plane location) was now) where
   pub taken_fresh : replaced (Some location) e.committed ≡ pages_of_plane location
   taken_fresh = ap (λ l. location.record_page ∷ l) (differing-apart (pages_behind location) (behind_at e.committed) (λ p. omega (arith, behind_le p e.committed, used_split p e, in_use p, taken.each p, page_le was.range p)))
 
   pub taken_balanced : fresh_in e ≡ [] → AreBalanced (used_in e) (used_in (record e { staged = Fresh location })) was now
-  taken_balanced none = record {
-    same_range = taken.same_range;
-    each = λ p.
-        let nothing = ap (times p) none in
-        let all = ap (times p) taken_fresh in
-        omega (arith, nothing, all, taken.each p, used_split p e, used_split p (record e { staged = Fresh location }));
-  }
+  taken_balanced none =
+      balanced_as taken (λ p. (let nothing = ap (times p) none in let all = ap (times p) taken_fresh in omega (arith, nothing, all, used_split p e, used_split p (record e { staged = Fresh location }))))
 
 -- ---- ended
 module _ (e : PlaneEntry) (location : Option PlaneLocation) (fresh : fresh_in e ≡ replaced location e.committed) (was : FreePages) where
@@ -158,7 +145,4 @@ module _ (e : PlaneEntry) (location : Option PlaneLocation) (fresh : fresh_in e 
   replaced_in_use in_use p = let own = ap (times p) fresh in omega (arith, own, in_use p, used_split p e, replaced_swap p location e.committed)
 
   pub settled_balanced : (now : FreePages) → AreGiven (replaced e.committed location) was now → AreBalanced (used_in e) (used_in (settled_plane location)) was now
-  settled_balanced now given = record {
-    same_range = given.same_range;
-    each = λ p. let own = ap (times p) fresh in omega (arith, own, given.each p, used_split p e, used_settled p location, replaced_swap p location e.committed);
-  }
+  settled_balanced now given = balanced_as given (λ p. (let own = ap (times p) fresh in omega (arith, own, used_split p e, used_settled p location, replaced_swap p location e.committed)))

@@ -22,7 +22,7 @@ use Rattle.page_map.specs.PageMaps.{IsFresh, tile_at}
 use Rattle.page_map.specs.TileEntries.{committed_tile, committed_tiles, fresh_by, page_map_of, staged_tiles, tile_of, tile_planes, Entry, IsKept}
 use Rattle.page_map.specs.Upgraded.{KeptData, TileData, data_of, data_of_kept, listing_of_kept, listing_of_tile, listings}
 use Rattle.page_map.proofs.Times.{times-append, all_numbers, times_of_member}
-use Rattle.page_map.proofs.FreeTimes.{page_at, page_le}
+use Rattle.page_map.proofs.FreeTimes.{balanced_as, page_at, page_le, taken-append}
 use Rattle.page_map.proofs.EntryLists.{committed_own, corner_of, counted_tiles, rising_before, rising_map, rising_tiles}
 use Rattle.page_map.proofs.PageMapRules.{page_rule}
 use Rattle.page_map.proofs.Clean.{none_fresh}
@@ -148,10 +148,9 @@ module _ (format : Format) (entries : List Entry) (free : FreePages) (kept : IsK
 
         module _ (now after : FreePages) (before : AreTaken (listings made) free now) (taken : AreTaken (listing_of new.heights ++ listing_of_kept new.kept) now after) where
           pub taken_more : AreTaken (listings (made ++ tile ∷ [])) free after
-          taken_more = record {
-            same_range = taken.same_range ∙ before.same_range;
-            each = λ p. omega (arith, before.each p, taken.each p, listings-append p made (tile ∷ []), times-append p (listing_of_tile tile) []);
-          }
+          taken_more =
+              balanced_as (taken-append (listings made) (listing_of_tile tile) free now after before taken)
+              (λ p. omega (arith, times-append p (listings made) (listing_of_tile tile), listings-append p made (tile ∷ []), times-append p (listing_of_tile tile) []))
 
           pub rule : KeepsPageRule free.range.sectors (made ++ tile ∷ [])
           rule = page_rule free.range (made ++ tile ∷ []) (λ p.
@@ -163,11 +162,7 @@ module _ (format : Format) (entries : List Entry) (free : FreePages) (kept : IsK
 module _ (listing new : PlaneLocation) (pages : List ℕ) (empty : length listing.pages ≡ 0) (more : new ≡ record listing { pages = listing.pages ++ pages }) where
   pub listing_taken : (old now : FreePages) → AreTaken (pages_of_plane listing) old now → AreTaken (listing_of new) old now
   listing_taken old now taken =
-      rw more
-      (record {
-        same_range = taken.same_range;
-        each = λ p. (let none = ap (times p) (nil_from_length listing.pages empty) in omega (arith, taken.each p, plane_split p listing, none));
-      })
+      rw more (balanced_as taken (λ p. (let none = ap (times p) (nil_from_length listing.pages empty) in omega (arith, plane_split p listing, none))))
 
   pub pages_behind_listing : new.pages ≡ pages
   pages_behind_listing = ap (λ (l : PlaneLocation). l.pages) more ∙ ap (λ (l : List ℕ). l ++ pages) (nil_from_length listing.pages empty)

@@ -39,24 +39,22 @@ free_times pages p = if is_free pages p then 1 else 0
 abbrev pub page_times : PageRange → ℕ → ℕ
 page_times range p = if nat_le 4 p && nat_lt p range.sectors then 1 else 0
 
--- the listed pages were free, each of them once, and are free no longer
-pub record AreTaken (listed : List ℕ) (old new : FreePages) : Type 0 where
-  pub same_range : new.range ≡ old.range
-  pub each : (p : ℕ) → times p listed + free_times new p ≡ free_times old p
-
--- the listed pages weren't all free, or not all distinct, or there is no memory to mark them
-abbrev pub IsUnmarked : FreePages → List ℕ → Refusal → Type 0
-IsUnmarked pages listed refusal = (refusal ≡ NoMemory) ⊎ ((refusal ≡ Damaged) × ((p : ℕ) × (free_times pages p < times p listed)))
-
--- the listed pages are free now
-pub record AreGiven (listed : List ℕ) (old new : FreePages) : Type 0 where
-  pub same_range : new.range ≡ old.range
-  pub each : (p : ℕ) → free_times new p ≡ times p listed + free_times old p
-
 -- the free pages make up for it that these pages are used in place of those
 pub record AreBalanced (old_pages new_pages : List ℕ) (old new : FreePages) : Type 0 where
   pub same_range : new.range ≡ old.range
   pub each : (p : ℕ) → times p new_pages + free_times new p ≡ times p old_pages + free_times old p
+
+-- the listed pages were free, each of them once, and are free no longer
+abbrev pub AreTaken : List ℕ → FreePages → FreePages → Type 0
+AreTaken listed old new = AreBalanced [] listed old new
+
+-- the listed pages are free now
+abbrev pub AreGiven : List ℕ → FreePages → FreePages → Type 0
+AreGiven listed old new = AreBalanced listed [] old new
+
+-- the listed pages weren't all free, or not all distinct, or there is no memory to mark them
+abbrev pub IsUnmarked : FreePages → List ℕ → Refusal → Type 0
+IsUnmarked pages listed refusal = (refusal ≡ NoMemory) ⊎ ((refusal ≡ Damaged) × ((p : ℕ) × (free_times pages p < times p listed)))
 
 -- the listed numbers are those of pages in use, each once
 abbrev pub AreInUse : List ℕ → FreePages → Type 0
@@ -75,9 +73,8 @@ pages_of_planes planes = pages_of_plane planes.heights ++ pages_of_kept planes.k
 -- a page of a plane is this page now, which the committed plane doesn't have, and the free pages make up for it
 pub record IsOwned (committed : List ℕ) (page : ℕ) (old new : List ℕ) (was now : FreePages) : Type 0 where
   pub fresh : 1 ≤ times page (differing new committed)
-  pub same_range : now.range ≡ was.range
   pub fewer : (p : ℕ) → free_times now p ≤ free_times was p
-  pub each : (p : ℕ) → times p (differing new committed) + free_times now p ≡ times p (differing old committed) + free_times was p
+  pub balanced : AreBalanced (differing old committed) (differing new committed) was now
 
 -- page i of a plane is this page now, and it and the index page that lists it are pages that the committed plane doesn't
 -- have; the free pages make up for them
@@ -86,5 +83,4 @@ pub record IsOwnedPage (committed : List ℕ) (i page : ℕ) (old new : PlaneLoc
   pub moved : new ≡ moved_plane i page index_page old.record_page old
   pub fresh_page : 1 ≤ times page (differing (pages_behind new) committed)
   pub fresh_index : i / 1024 < length old.index_pages → 1 ≤ times index_page (differing (pages_behind new) committed)
-  pub same_range : now.range ≡ was.range
-  pub each : (p : ℕ) → times p (differing (pages_behind new) committed) + free_times now p ≡ times p (differing (pages_behind old) committed) + free_times was p
+  pub balanced : AreBalanced (differing (pages_behind old) committed) (differing (pages_behind new) committed) was now

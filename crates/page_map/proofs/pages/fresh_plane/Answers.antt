@@ -1,11 +1,11 @@
-use Rattle.std.proofs.Common.{arith, ◌∙◌}
+use Rattle.std.proofs.Common.{[], arith, ◌∙◌}
 use Rattle.std.proofs.lemmas.List.{length-set, with_items_is, take-append-drop}
-use Rattle.page_map.proofs.FreeTimes.{taken_none}
+use Rattle.page_map.proofs.FreeTimes.{balanced_same}
 use Rattle.page_map.proofs.GivenSoFar.{taken_set, taken_plane}
 use Rattle.page_map.proofs.pages.fresh_plane.Goals as goal
 
 pub loop-page-init : goal.loop-page-init
-loop-page-init c = (taken_none _, omega arith, c.deref_mut-page-items.ensures.len ∙ c.in_ok-behind.ensures.len)
+loop-page-init c = (balanced_same [] _, omega arith, c.deref_mut-page-items.ensures.len ∙ c.in_ok-behind.ensures.len)
 
 pub loop-page-preserved : goal.loop-page-preserved
 loop-page-preserved c = (

@@ -1,7 +1,7 @@
 use Rattle.std.proofs.Common.{[], ◌∷◌}
 use Rattle.page_map.specs.Locations.{pages_behind}
 use Rattle.page_map.specs.FreePages.{differing, AreGiven}
-use Rattle.page_map.proofs.FreeTimes.{in_use-head, in_use-rest, given-append}
+use Rattle.page_map.proofs.FreeTimes.{in_use-head, rest_in_use_still, given-append}
 use Rattle.page_map.proofs.pages.give_replaced.Goals as goal
 use Rattle.page_map.proofs.pages.give_replaced.Goals.{After-give}
 
@@ -13,7 +13,7 @@ record_given c = rw c.record_page.ensures at c.give.ensures
 
 pub give_differing-requires : goal.give_differing-requires
 give_differing-requires c =
-    let rest = in_use-rest (c.args.plane.now.record_page ∷ []) (differing (pages_behind c.args.plane.now) c.args.others.now) _ _ c.args.free.now c.requires (record_given (goal.at.give_differing-requires c).After-give) in
+    let rest = rest_in_use_still (c.args.plane.now.record_page ∷ []) [] (differing (pages_behind c.args.plane.now) c.args.others.now) _ _ (record_given (goal.at.give_differing-requires c).After-give) c.requires in
     rw c.behind.ensures rest
 
 pub returns : goal.returns

@@ -1,14 +1,14 @@
-use Rattle.std.proofs.Common.{refl}
+use Rattle.std.proofs.Common.{[], refl}
 use Rattle.page_map.specs.PlaneEntries.{fresh_in}
 use Rattle.page_map.specs.TileEntries.{fresh_kept}
-use Rattle.page_map.proofs.FreeTimes.{in_use-first, in_use-rest, given-append}
+use Rattle.page_map.proofs.FreeTimes.{in_use-first, rest_in_use_still, given-append}
 use Rattle.page_map.proofs.tile_entry.TileEntry.remove.Goals as goal
 
 pub restage-requires : goal.restage-requires
 restage-requires c = in_use-first (fresh_in c.args.self.now.heights) (fresh_kept c.args.self.now) c.args.free.now c.requires
 
 pub drop_kept-requires : goal.drop_kept-requires
-drop_kept-requires c = in_use-rest (fresh_in c.args.self.now.heights) (fresh_kept c.args.self.now) c.args.free.now c.restage.new.free c.args.free.now c.requires c.restage.ensures.given
+drop_kept-requires c = rest_in_use_still (fresh_in c.args.self.now.heights) [] (fresh_kept c.args.self.now) c.args.free.now c.restage.new.free c.restage.ensures.given c.requires
 
 pub returns-clause-removed : goal.returns-clause-removed
 returns-clause-removed c = rw (c.drop_kept.ensures.dropped, c.restage.ensures.staged) refl
