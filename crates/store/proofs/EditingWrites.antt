@@ -96,8 +96,8 @@ module _ {D T : Type 0} (g : Ghosts D) (version : Version) (side : ℕ) (old mid
   staged_written (Patch from to h) made form few = tt
   staged_written (Burn depth points) (edit.Heights heights) form few = for_points heights.items points.items form few
   staged_written (Wall h points) (edit.Heights heights) form few = for_points heights.items points.items form few
-  staged_written (Sink p) (edit.Sink q h) form few = sink_written g old mid new staged none few.0 few.2 commits unwritten
-  staged_written (Unsink p) (edit.Unsink q h) form few = sink_written g old mid new staged none few.0 few.2 commits unwritten
+  staged_written (Sink p) (edit.Sink q h) form few = sink_written g old mid new staged none few.0.disk few.1 commits unwritten
+  staged_written (Unsink p) (edit.Unsink q h) form few = sink_written g old mid new staged none few.0.disk few.1 commits unwritten
   staged_written (Burn depth points) _ form few = absurd form
   staged_written (Wall h points) _ form few = absurd form
   staged_written (Sink p) _ form few = absurd form

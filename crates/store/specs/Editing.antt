@@ -16,7 +16,7 @@ use Rattle.edits.specs.Edits.{edit_made}
 use Rattle.cow_tree.specs.Stored.{IsPage, StoredTile, mosaic_of_tiles}
 use Rattle.cow_tree.specs.Trees.{disk_of, root_of, has_begun, has_failed, corners_of, sinks_of, records_due, HasStaged, staged_in}
 use Rattle.cow_tree.specs.declared.tree.Tree.{Tree}
-use Rattle.cow_tree.specs.Uncommitted.{CommitsNothing}
+use Rattle.cow_tree.specs.Uncommitted.{CommitsNothing, MakesNoCall}
 
 -- the stored tile has whole pages enough for its heights
 pub record IsFilled (n : ℕ) (t : StoredTile) : Type 0 where
@@ -78,8 +78,8 @@ StagesFew g (edit.Add c bytes) old new result = Unit {0}
 StagesFew g (edit.Drop c) old new result = Unit {0}
 StagesFew g (edit.Heights heights) old new result = StagesPages g (4 * length heights.items) (4 * length heights.items) old new result
 StagesFew g (edit.Voids from to h tiles) old new result = Unit {0}
-StagesFew g (edit.Sink p h) old new result = (disk_of new ≡ disk_of old) × (has_begun new ≡ has_begun old) × (records_due new ≡ records_due old)
-StagesFew g (edit.Unsink p h) old new result = (disk_of new ≡ disk_of old) × (has_begun new ≡ has_begun old) × (records_due new ≡ records_due old)
+StagesFew g (edit.Sink p h) old new result = MakesNoCall old new × (records_due new ≡ records_due old)
+StagesFew g (edit.Unsink p h) old new result = MakesNoCall old new × (records_due new ≡ records_due old)
 
 -- as an edit can be given: a corner is that of a tile, and a byte has eight bits
 abbrev pub IsGiven : Edit → Type 0
