@@ -28,9 +28,9 @@ use Rattle.drainage.specs.declared.drainage_cache.DrainageCache.{DrainageCache}
 use Rattle.drainage.proofs.Answered.{told}
 use Rattle.store.specs.Labelling.{IsSure}
 use Rattle.store.specs.Queried.{IsQueried}
-use Rattle.store.specs.Water.{IsHolding}
+use Rattle.store.specs.Water.{IsHolding, IsAskedOf}
 use Rattle.store.proofs.Labelled.{still_sure}
-use Rattle.store.proofs.Querying.{valid_at, stays_at, queried, fails_so}
+use Rattle.store.proofs.Querying.{valid_at, stays_at, queried, fails_so, still_clean}
 use Rattle.store.proofs.QueryingDrainage.{right_here, of_here, held_here, read_answered}
 
 -- what is said of every function that gives the filled levels is an answer
@@ -72,3 +72,10 @@ module _ {D S T : Type 0} (g : Ghosts D) (old new : Tree D g) (works : has_faile
         (of_here g old new works keeps honest s here (λ (m : Mosaic). IfOk result (Says m)) (found is_honest))
         (held_here g old new works keeps honest s here (IsErrOf result Outside) point outside)
         (of_here g old new works keeps honest s here (λ (m : Mosaic). IsErrOf result Void → height_of m point ≡ height.Void) (void is_honest)) may))
+
+    pub asked_of : (premise : Type 0) → (premise → IsSure g new → h.is_honest b) → IsAskedOf g premise old new before held result Answers
+    asked_of premise sure = record {
+      reads = asked_queried;
+      clean = λ still clean. still_clean g old new works are.keeps (λ _. clean) still;
+      outcome = λ holds honest s at. asked_outcome (sure holds) honest s at;
+    }

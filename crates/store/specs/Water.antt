@@ -1,9 +1,15 @@
--- The state that a store is in, by its tree and by what it holds of the water (this product's own profile).
+-- The state that a store is in, by its tree and by what it holds of the water, and what a question about water leaves of
+-- both (this product's own profile).
+use Rattle.std.specs.Prelude.{◌≡◌, false, Result}
 use Rattle.disk.specs.declared.disk.Disk.{Ghosts}
+use Rattle.lattice.specs.declared.refusal.Refusal.{Refusal}
 use Rattle.engine.specs.State.{State}
+use Rattle.cow_tree.specs.Trees.{disk_of, has_failed}
 use Rattle.cow_tree.specs.declared.tree.Tree.{Tree}
+use Rattle.derived.specs.Clean.{IsClean}
 use Rattle.drainage.specs.Between.{IsHeldOf}
 use Rattle.drainage.specs.declared.drainage_cache.DrainageCache.{DrainageCache}
+use Rattle.store.specs.Queried.{IsQueried}
 use Rattle.store.specs.TreeStates.{IsInState}
 
 -- a store with this tree, which holds this, is in this state
@@ -11,3 +17,9 @@ pub record IsHolding {D : Type 0} (g : Ghosts D) (tree : Tree D g) (held : Drain
   pub in_state : IsInState g tree s
   -- what is held is right for the mosaic
   pub right : IsHeldOf s.contents.mosaic held
+
+-- the tree was read for a question and nothing else was done; where the premise holds, the answer on an honest disk is so
+pub record IsAskedOf {D T : Type 0} (g : Ghosts D) (premise : Type 0) (old new : Tree D g) (before held : DrainageCache) (result : Result T Refusal) (Answers : State → Result T Refusal → State → Type 0) : Type 0 where
+  pub reads : IsQueried g old new result
+  pub clean : has_failed new ≡ false → IsClean old → IsClean new
+  pub outcome : premise → g.honest (disk_of new) → (s : State) → IsHolding g old before s → (t : State) × (IsHolding g new held t × Answers s result t)

@@ -5,15 +5,12 @@ ghost use Rattle.std.specs.Prelude.{◌≡◌, ◌≤◌, length, false, IsTrue,
 ghost use Rattle.lattice.specs.Limits.{most_tiles};
 ghost use Rattle.engine.specs.Engines.{items_in};
 ghost use Rattle.engine.specs.Outcomes.{Fills, Directs, Traces, Sheds};
-ghost use Rattle.engine.specs.State.{State};
 ghost use Rattle.engine.specs.Told.{may_refuse};
 ghost use Rattle.engine.specs.declared.event.Event.TheVariants as ask;
 ghost use Rattle.cow_tree.specs.Reading.{mosaic_of};
-ghost use Rattle.cow_tree.specs.Trees.{disk_of, has_failed, corners_of};
+ghost use Rattle.cow_tree.specs.Trees.{has_failed, corners_of};
 ghost use Rattle.drainage.specs.Between.{IsHeldOf};
-ghost use Rattle.store.specs.Queried.{IsQueried};
-ghost use Rattle.derived.specs.Clean.{IsClean};
-ghost use Rattle.store.specs.Water.{IsHolding};
+ghost use Rattle.store.specs.Water.{IsAskedOf};
 
 use crate::labelling::{Asked, Premise};
 use cow_tree::Tree;
@@ -33,11 +30,8 @@ pub(crate) fn ask_fill<D: Disk, P: Premise>(
 ) -> Result<i16, Refusal>
     requires works { has_failed tree.old ≡ false }
     requires right { P.holds → IsHeldOf (mosaic_of D.Disk tree.old) held.old }
-    ensures reads { IsQueried D.Disk tree.old tree.new result }
-    ensures clean { has_failed tree.new ≡ false → IsClean tree.old → IsClean tree.new }
     ensures causes { IfErr result (λ r. IsTrue (may_refuse (ask.Fill point) r)) }
-    ensures outcome { P.holds → D.honest (disk_of tree.new) → (s : State) → IsHolding D.Disk tree.old held.old s
-        → (t : State) × (IsHolding D.Disk tree.new held.new t × Fills s point result t) }
+    ensures asked { IsAskedOf D.Disk P.holds tree.old tree.new held.old held.new result (λ s r t. Fills s point r t) }
 {
     let mut asked = Asked::<D, P> {
         tree,
@@ -56,11 +50,8 @@ pub(crate) fn ask_direction<D: Disk, P: Premise>(
     requires works { has_failed tree.old ≡ false }
     requires few { length (corners_of tree.old) ≤ most_tiles }
     requires right { P.holds → IsHeldOf (mosaic_of D.Disk tree.old) held.old }
-    ensures reads { IsQueried D.Disk tree.old tree.new result }
-    ensures clean { has_failed tree.new ≡ false → IsClean tree.old → IsClean tree.new }
     ensures causes { IfErr result (λ r. IsTrue (may_refuse (ask.Direction point) r)) }
-    ensures outcome { P.holds → D.honest (disk_of tree.new) → (s : State) → IsHolding D.Disk tree.old held.old s
-        → (t : State) × (IsHolding D.Disk tree.new held.new t × Directs s point result t) }
+    ensures asked { IsAskedOf D.Disk P.holds tree.old tree.new held.old held.new result (λ s r t. Directs s point r t) }
 {
     let mut asked = Asked::<D, P> {
         tree,
@@ -79,11 +70,8 @@ pub(crate) fn ask_trace<D: Disk, P: Premise>(
     requires works { has_failed tree.old ≡ false }
     requires few { length (corners_of tree.old) ≤ most_tiles }
     requires right { P.holds → IsHeldOf (mosaic_of D.Disk tree.old) held.old }
-    ensures reads { IsQueried D.Disk tree.old tree.new result }
-    ensures clean { has_failed tree.new ≡ false → IsClean tree.old → IsClean tree.new }
     ensures causes { IfErr result (λ r. IsTrue (may_refuse (ask.Trace point) r)) }
-    ensures outcome { P.holds → D.honest (disk_of tree.new) → (s : State) → IsHolding D.Disk tree.old held.old s
-        → (t : State) × (IsHolding D.Disk tree.new held.new t × Traces s point (items_in result) t) }
+    ensures asked { IsAskedOf D.Disk P.holds tree.old tree.new held.old held.new result (λ s r t. Traces s point (items_in r) t) }
 {
     let mut asked = Asked::<D, P> {
         tree,
@@ -102,11 +90,8 @@ pub(crate) fn ask_watershed<D: Disk, P: Premise>(
     requires works { has_failed tree.old ≡ false }
     requires few { length (corners_of tree.old) ≤ most_tiles }
     requires right { P.holds → IsHeldOf (mosaic_of D.Disk tree.old) held.old }
-    ensures reads { IsQueried D.Disk tree.old tree.new result }
-    ensures clean { has_failed tree.new ≡ false → IsClean tree.old → IsClean tree.new }
     ensures causes { IfErr result (λ r. IsTrue (may_refuse (ask.Watershed point) r)) }
-    ensures outcome { P.holds → D.honest (disk_of tree.new) → (s : State) → IsHolding D.Disk tree.old held.old s
-        → (t : State) × (IsHolding D.Disk tree.new held.new t × Sheds s point (items_in result) t) }
+    ensures asked { IsAskedOf D.Disk P.holds tree.old tree.new held.old held.new result (λ s r t. Sheds s point (items_in r) t) }
 {
     let mut asked = Asked::<D, P> {
         tree,

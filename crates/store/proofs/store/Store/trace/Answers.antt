@@ -12,5 +12,5 @@ pub returns-clause-call : goal.returns-clause-call
 returns-clause-call g c =
     let old = c.args.self.now in
     let is = c.ask_trace.ensures in
-    asked g.D.Disk old _ (trace_asked c.args.point) c.ask_trace.result is.causes is.reads
-    (λ honest s at. is.outcome (right_at g.D.Disk old.tree c.in_ok-check_working.ensures.works s at.in_state old.held at.right) honest s at)
+    asked g.D.Disk old _ (trace_asked c.args.point) c.ask_trace.result is.causes is.asked.reads
+    (λ honest s at. is.asked.outcome (right_at g.D.Disk old.tree c.in_ok-check_working.ensures.works s at.in_state old.held at.right) honest s at)
