@@ -1,46 +1,41 @@
-use Rattle.std.proofs.Common.{arith, ◌≡◌, ℕ, List, ◌++◌, take, drop, length, sym, subst, ap, ◌∙◌}
+use Rattle.std.proofs.Common.{arith, ◌≡◌, ℕ, ℤ, List, ◌++◌, take, drop, length, sym, subst, ap, ◌∙◌}
 use Rattle.std.proofs.lemmas.Grind.{common_steps}
 use Rattle.std.proofs.Math.Seq.{take-append_seam}
+use Rattle.lattice.specs.Block.{Block}
+use Rattle.tile_flood.specs.declared.cells.Cell.{Cell}
 use Rattle.tile_flood.specs.Blocks.{block_of}
 use Rattle.tile_flood.specs.Carried.{AreCarried}
 use Rattle.tile_flood.specs.Cells.{levels_of, labels_of}
 use Rattle.tile_flood.specs.Labelling.{IsLabelling}
 use Rattle.tile_flood.proofs.flood.Flood.run.Goals as goal
+use Rattle.tile_flood.proofs.flood.Flood.run.Goals.{After-of_flood}
 
 -- what was written of the whole list is all of it
 all_written : {X : Type 0} (k : ℕ) (xs ys : List X) → k ≡ length xs → take k (xs ++ ys) ≡ xs
 all_written k xs ys is = ap (λ m. take m (xs ++ ys)) is ∙ take-append_seam xs ys
 
+-- what is so of the cells that were flooded is so of the answer
+module _ (c : After-of_flood) where
+  abbrev cells : List Cell
+  cells = c.flood_cells.new.cells
+
+  answered : (P : Block → List ℤ → List ℕ → Type 0) → P (block_of c.samples-n.result c.heights-heights.result.now c.sinks.result.now) (levels_of cells) (labels_of cells) → P c.args.block.now c.of_flood.result.levels c.of_flood.result.labels
+  answered P flooded =
+      let b = c.args.block.now in
+      let side : c.samples-n.result ≡ b.side = c.samples-n.ensures.value ∙ c.side-side.ensures in
+      let long : c.in_ok-cells.cells.len ≡ length cells = grind (arith, common_steps) in
+      let back = all_written c.in_ok-cells.cells.len cells (drop (length cells) c.in_ok-cells.cells.items) long in
+      let levels : c.in_ok-levels.levels.items ≡ levels_of cells = c.in_ok-levels.ensures ∙ ap levels_of (c.deref.ensures.value ∙ back) in
+      let labels : c.in_ok-labels.labels.items ≡ labels_of cells = c.in_ok-labels.ensures ∙ ap labels_of (c.deref-2.ensures.value ∙ back) in
+      rw c.of_flood.ensures
+      (subst (λ ls. P b ls c.in_ok-labels.labels.items) (sym levels)
+      (subst (λ bs. P b (levels_of cells) bs) (sym labels)
+      (subst (λ n. P (block_of n b.heights b.sinks) (levels_of cells) (labels_of cells)) side
+      (subst (λ hs. P (block_of c.samples-n.result hs b.sinks) (levels_of cells) (labels_of cells)) c.heights-heights.ensures.value
+      (subst (λ ss. P (block_of c.samples-n.result c.heights-heights.result.now ss) (levels_of cells) (labels_of cells)) c.sinks.ensures flooded)))))
+
 pub returns-clause-labelling : goal.returns-clause-labelling
-returns-clause-labelling c =
-    let b = c.args.block.now in
-    let side : c.samples-n.result ≡ b.side = c.samples-n.ensures.value ∙ c.side-side.ensures in
-    let cells = c.flood_cells.new.cells in
-    let long : c.in_ok-cells.cells.len ≡ length cells = grind (arith, common_steps) in
-    let back = all_written c.in_ok-cells.cells.len cells (drop (length cells) c.in_ok-cells.cells.items) long in
-    let levels : c.in_ok-levels.levels.items ≡ levels_of cells = c.in_ok-levels.ensures ∙ ap levels_of (c.deref.ensures.value ∙ back) in
-    let labels : c.in_ok-labels.labels.items ≡ labels_of cells = c.in_ok-labels.ensures ∙ ap labels_of (c.deref-2.ensures.value ∙ back) in
-    rw c.of_flood.ensures
-    (subst (λ ls. IsLabelling b ls c.in_ok-labels.labels.items) (sym levels)
-    (subst (λ bs. IsLabelling b (levels_of cells) bs) (sym labels)
-    (subst (λ n. IsLabelling (block_of n b.heights b.sinks) (levels_of cells) (labels_of cells)) side
-    (subst (λ hs. IsLabelling (block_of c.samples-n.result hs b.sinks) (levels_of cells) (labels_of cells)) c.heights-heights.ensures.value
-    (subst (λ ss. IsLabelling (block_of c.samples-n.result c.heights-heights.result.now ss) (levels_of cells) (labels_of cells)) c.sinks.ensures
-    c.in_ok-flood_cells.ensures.labelling)))))
+returns-clause-labelling c = answered (goal.at.returns-clause-labelling c).After-of_flood IsLabelling c.in_ok-flood_cells.ensures.labelling
 
 pub returns-clause-carried : goal.returns-clause-carried
-returns-clause-carried c =
-    let b = c.args.block.now in
-    let side : c.samples-n.result ≡ b.side = c.samples-n.ensures.value ∙ c.side-side.ensures in
-    let cells = c.flood_cells.new.cells in
-    let long : c.in_ok-cells.cells.len ≡ length cells = grind (arith, common_steps) in
-    let back = all_written c.in_ok-cells.cells.len cells (drop (length cells) c.in_ok-cells.cells.items) long in
-    let levels : c.in_ok-levels.levels.items ≡ levels_of cells = c.in_ok-levels.ensures ∙ ap levels_of (c.deref.ensures.value ∙ back) in
-    let labels : c.in_ok-labels.labels.items ≡ labels_of cells = c.in_ok-labels.ensures ∙ ap labels_of (c.deref-2.ensures.value ∙ back) in
-    rw c.of_flood.ensures
-    (subst (λ ls. AreCarried b ls c.in_ok-labels.labels.items) (sym levels)
-    (subst (λ bs. AreCarried b (levels_of cells) bs) (sym labels)
-    (subst (λ n. AreCarried (block_of n b.heights b.sinks) (levels_of cells) (labels_of cells)) side
-    (subst (λ hs. AreCarried (block_of c.samples-n.result hs b.sinks) (levels_of cells) (labels_of cells)) c.heights-heights.ensures.value
-    (subst (λ ss. AreCarried (block_of c.samples-n.result c.heights-heights.result.now ss) (levels_of cells) (labels_of cells)) c.sinks.ensures
-    c.in_ok-flood_cells.ensures.carried)))))
+returns-clause-carried c = answered (goal.at.returns-clause-carried c).After-of_flood AreCarried c.in_ok-flood_cells.ensures.carried
