@@ -5,6 +5,7 @@ use Rattle.std.specs.List.{list_any}
 use Rattle.std.proofs.lemmas.Bool.{cases_Bool, cases_eq, cases_lt, cond-true, cond-false, and_parts, and_from, or_left, or_right, lt-ltb, ltb-true}
 use Rattle.std.proofs.lemmas.List.{get_or_past}
 use Rattle.std.proofs.lemmas.Map.Steps.{le-length_from_below}
+use Rattle.std.proofs.lemmas.Option.{none-some, same_Some}
 use Rattle.lattice.specs.declared.point.Point.{Point}
 use Rattle.flow_d8.specs.declared.local_flow.LocalFlow.{LocalFlow}
 use Rattle.flow_d8.specs.declared.local_flow.LocalFlow.TheVariants.{NoGround}
@@ -43,12 +44,6 @@ module _ (f : Filled) (flows : List LocalFlow) (are : AreLocalFlows f flows) whe
     abbrev distance : Point → Option ℕ
     distance p = if is_known p then Some (dist p) else None
 
-    some_same : {a b : ℕ} → Some a ≡ Some b → a ≡ b
-    some_same e = cc
-
-    no_some : {a : ℕ} → ◌≡◌ {A = Option ℕ} None (Some a) → ⊥
-    no_some e = cc
-
     record IsKnownAs (p : Point) (d : ℕ) : Type 0 where
       level : IsTrue (has_level f p)
       at : dist p ≡ d
@@ -58,9 +53,9 @@ module _ (f : Filled) (flows : List LocalFlow) (are : AreLocalFlows f flows) whe
     some_is p d is = elim (cases_Bool (is_known p)) [
       | inl on ↦
           let parts = and_parts (has_level f p) (nat_lt (dist p) unknown) on in
-          let at : dist p ≡ d = some_same (sym (cond-true (is_known p) (Some (dist p)) None on) ∙ is) in
+          let at : dist p ≡ d = same_Some _ _ (sym (cond-true (is_known p) (Some (dist p)) None on) ∙ is) in
           record { level = parts.0; at = at; small = subst (λ v. v < unknown) at (ltb-true (dist p) unknown parts.1) }
-      | inr off ↦ absurd (no_some (sym (cond-false (is_known p) (Some (dist p)) None off) ∙ is))
+      | inr off ↦ absurd (none-some _ (sym (cond-false (is_known p) (Some (dist p)) None off) ∙ is))
     ]
 
     some_from : (p : Point) → IsTrue (has_level f p) → dist p < unknown → distance p ≡ Some (dist p)

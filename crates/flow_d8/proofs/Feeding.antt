@@ -7,6 +7,7 @@ use Rattle.std.proofs.lemmas.Bool.{cases_Bool, cases_eq, cond-true, cond-false, 
 use Rattle.std.proofs.lemmas.Bool.Decides.{nat_tests}
 use Rattle.std.proofs.lemmas.List.{get_or_append_left, get_or_push, length_push, length-map, get_or-map}
 use Rattle.std.proofs.lemmas.List.Elements.{All-append, All-nil, All-cons, Contains-append_left, Contains-append_right}
+use Rattle.std.proofs.lemmas.Option.{none-some, same_Some}
 use Rattle.lattice.specs.declared.point.Point.{Point}
 use Rattle.lattice.specs.declared.direction.Dir.{Dir}
 use Rattle.lattice.specs.declared.direction.Dir.TheVariants.{East, SouthEast, South, SouthWest, West, NorthWest, North, NorthEast}
@@ -96,12 +97,6 @@ lt_said a b h = grind (arith, nat_tests)
 lt_from : (a b : ℕ) → a < b → nat_lt a b ≡ true
 lt_from a b h = grind (arith, nat_tests)
 
-pub none_some : {A : Type 0} (a : A) → ◌≡◌ {A = Option A} None (Some a) → ⊥
-none_some a e = cc
-
-some_same : {A : Type 0} (a b : A) → ◌≡◌ {A = Option A} (Some a) (Some b) → a ≡ b
-some_same a b e = cc
-
 module _ (d : Directions) (whole : AreWhole d) where
   held_fit : (q : Point) → IsTrue (is_held d.side d.corners q) → IsTrue (fits_point q)
   held_fit q held = let seat = seat_of d.side d.corners q held in held_fits d.side seat.corner q whole.side_low whole.side_high seat.held
@@ -122,14 +117,14 @@ module _ (d : Directions) (whole : AreWhole d) where
   beside_is p e g is = elim (cases_Bool (fits_point (step e p) && is_held d.side d.corners (step e p))) [
     | inl on ↦
         let both = and_parts (fits_point (step e p)) (is_held d.side d.corners (step e p)) on in
-        let numbered : g ≡ number_of d.side d.corners (step e p) = some_same g (number_of d.side d.corners (step e p)) (sym is ∙ beside_held p e both.1) in
+        let numbered : g ≡ number_of d.side d.corners (step e p) = same_Some g (number_of d.side d.corners (step e p)) (sym is ∙ beside_held p e both.1) in
         let below = number_below d.side d.corners (step e p) whole.side_low both.1 in
         record { fits = both.0; held = both.1; numbered = numbered; in_drains = omega (arith, numbered, below, whole.drains); in_distances = omega (arith, numbered, below, whole.distances) }
-    | inr off ↦ absurd (none_some g (sym (cond-false (fits_point (step e p) && is_held d.side d.corners (step e p)) (Some (number_of d.side d.corners (step e p))) None off) ∙ is))
+    | inr off ↦ absurd (none-some g (sym (cond-false (fits_point (step e p) && is_held d.side d.corners (step e p)) (Some (number_of d.side d.corners (step e p))) None off) ∙ is))
   ]
 
   pub beside_not : (p : Point) (e : Dir) → number_beside d p e ≡ None → direction_in d (step e p) ≡ None
-  beside_not p e is = direction_unknown d (step e p) (unheld_unknown d (step e p) whole (λ held. none_some (number_of d.side d.corners (step e p)) (sym is ∙ beside_held p e held)))
+  beside_not p e is = direction_unknown d (step e p) (unheld_unknown d (step e p) whole (λ held. none-some (number_of d.side d.corners (step e p)) (sym is ∙ beside_held p e held)))
 
   -- what is read at that number
   pub direction_there : (p : Point) (e : Dir) (g : ℕ) → IsBeside p e g → distance_at d.distances g < unknown → direction_in d (step e p) ≡ slice_index_or d.drains g None
@@ -175,7 +170,7 @@ module _ (d : Directions) (whole : AreWhole d) where
   pub drains_said : (p : Point) (e : Dir) (g : ℕ) → IsBeside p e g → (way : Dir) → direction_in d (step e p) ≡ Some way → slice_index_or d.drains g None ≡ Some way
   drains_said p e g b way is = elim (cases_Bool (nat_lt (distance_at d.distances g) unknown)) [
     | inl known ↦ sym (direction_there p e g b (lt_said (distance_at d.distances g) unknown known)) ∙ is
-    | inr hidden ↦ absurd (none_some way (sym (direction_hidden p e g b (λ lt. true≢false (sym (lt_from (distance_at d.distances g) unknown lt) ∙ hidden))) ∙ is))
+    | inr hidden ↦ absurd (none-some way (sym (direction_hidden p e g b (λ lt. true≢false (sym (lt_from (distance_at d.distances g) unknown lt) ∙ hidden))) ∙ is))
   ]
 
 -- an answer that is there
@@ -246,7 +241,7 @@ module _ (m : Mosaic) (level : Point → ℤ) (d : Directions) (are : AreDirecti
   drains_ground : (x : Point) (e : Dir) → direction_in d x ≡ Some e → IsTrue (is_ground m x)
   drains_ground x e at = elim (cases_Bool (is_ground m x)) [
     | inl solid ↦ solid
-    | inr off ↦ absurd (none_some e (sym ((are.elsewhere x off).0) ∙ at))
+    | inr off ↦ absurd (none-some e (sym ((are.elsewhere x off).0) ∙ at))
   ]
 
   pub drains_are_feeders : (x y : Point) → DrainsTo d x y ↔ IsFeeder (terrain m) level x y

@@ -3,6 +3,7 @@ use Rattle.std.proofs.Common.{◌≡◌, ℕ, ◌<◌, ℤ, true, false, not, Is
 use Rattle.std.specs.Prelude.{is_some}
 use Rattle.std.proofs.lemmas.Bool.{cases_Bool, cond-true, cond-false}
 use Rattle.std.proofs.lemmas.List.{same_lists, get_or_default}
+use Rattle.std.proofs.lemmas.Option.{none-some, same_Some}
 use Rattle.lattice.specs.declared.point.Point.{Point}
 use Rattle.lattice.specs.declared.direction.Dir.{Dir}
 use Rattle.lattice.specs.declared.direction.Dir.TheVariants.{East, SouthEast, South, SouthWest, West, NorthWest, North, NorthEast}
@@ -32,15 +33,9 @@ module _ (t : Terrain Point) (level : Point → ℤ) (p : Point) where
 
   pub beside_some : (d : Dir) (v : ℤ) → beside_of t level p d ≡ Some v → IsTrue (t.is_adjacent p (step d p)) × (v ≡ level (step d p))
   beside_some d v is = elim (cases_Bool (t.is_adjacent p (step d p))) [
-    | inl on ↦ (on, some_same (sym is ∙ beside_there d on))
-    | inr off ↦ absurd (no_some (sym is ∙ beside_none d off))
+    | inl on ↦ (on, same_Some _ _ (sym is ∙ beside_there d on))
+    | inr off ↦ absurd (none-some v (sym (beside_none d off) ∙ is))
   ]
-    where
-      some_same : {a b : ℤ} → Some a ≡ Some b → a ≡ b
-      some_same e = cc
-
-      no_some : {a : ℤ} → ◌≡◌ {A = Option ℤ} (Some a) None → ⊥
-      no_some e = cc
 
   -- what stands at a direction's place
   pub in_place : (d : Dir) → get_or (around_of t level p) (order_of d) None ≡ beside_of t level p d

@@ -4,6 +4,7 @@ use Rattle.std.specs.Prelude.{IfSome, MatchOption, nat_lt, if◌then◌else◌, 
 use Rattle.std.proofs.lemmas.Int.{ints}
 use Rattle.std.proofs.lemmas.List.{get_or_append_left, get_or-append-add}
 use Rattle.std.proofs.lemmas.Bool.{cases_Bool, cases_eq, cond-true, cond-false}
+use Rattle.std.proofs.lemmas.Option.{none-some, same_Some}
 use Rattle.lattice.specs.declared.point.Point.{Point}
 use Rattle.lattice.specs.declared.direction.Dir.{Dir}
 use Rattle.lattice.specs.Steps.{step, directions}
@@ -59,25 +60,16 @@ module _ (f : Filled) where
     pub shown_beside : (d : Dir) (g : ℕ) → beside_of f p d ≡ Some g → slice_index_or f.levels g void ≡ level_beside (surface f) (level_at f) p d
     shown_beside d g is = elim (cases_Bool (adjoins f p (step d p))) [
       | inl on ↦
-          let at : number_in f (step d p) ≡ g = some_same (sym (beside_there f p d on) ∙ is) in
+          let at : number_in f (step d p) ≡ g = same_Some _ _ (sym (beside_there f p d on) ∙ is) in
           ap (λ k. slice_index_or f.levels k void) (sym at) ∙ at_level f (step d p) ∙ sym (cond-true (adjoins f p (step d p)) (level_at f (step d p)) void on)
-      | inr off ↦ absurd (no_some (sym is ∙ beside_none f p d off))
+      | inr off ↦ absurd (none-some g (sym (beside_none f p d off) ∙ is))
     ]
-      where
-        some_same : {a b : ℕ} → Some a ≡ Some b → a ≡ b
-        some_same e = cc
-
-        no_some : {a : ℕ} → ◌≡◌ {A = Option ℕ} (Some a) None → ⊥
-        no_some e = cc
 
     pub void_beside : (d : Dir) → beside_of f p d ≡ None → void ≡ level_beside (surface f) (level_at f) p d
     void_beside d is = elim (cases_Bool (adjoins f p (step d p))) [
-      | inl on ↦ absurd (no_none (sym is ∙ beside_there f p d on))
+      | inl on ↦ absurd (none-some _ (sym is ∙ beside_there f p d on))
       | inr off ↦ sym (cond-false (adjoins f p (step d p)) (level_at f (step d p)) void off)
     ]
-      where
-        no_none : {a : ℕ} → ◌≡◌ {A = Option ℕ} None (Some a) → ⊥
-        no_none e = cc
 
     -- as a number that may be void
     maybe_beside : (d : Dir) (g : ℕ) → (if not (is_void (slice_index_or f.levels g void)) then Some g else None) ≡ beside_of f p d

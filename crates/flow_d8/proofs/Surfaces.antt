@@ -1,5 +1,5 @@
 -- The ground that levels tell of is a grid: adjacency goes both ways and over one step, between points that tiles hold.
-use Rattle.std.proofs.Common.{◌≡◌, ℕ, ◌<◌, ◌≤◌, ℤ, pos, negsuc, ◌+ℤ◌, ◌-ℤ◌, Bool, true, false, IsTrue, IsFalse, ◌&&◌, ◌||◌, not, List, [], ◌∷◌, Option, Some, None, length, refl, sym, ap, ap₂, ◌∙◌, arith, inl, inr, ⊎_elim, nat_abs, true≢false}
+use Rattle.std.proofs.Common.{◌≡◌, ℕ, ◌<◌, ◌≤◌, ℤ, pos, negsuc, ◌+ℤ◌, ◌-ℤ◌, Bool, true, false, IsTrue, IsFalse, ◌&&◌, ◌||◌, not, List, [], ◌∷◌, Some, None, length, refl, sym, ap, ap₂, ◌∙◌, arith, inl, inr, ⊎_elim, nat_abs, true≢false}
 use Rattle.std.specs.Prelude.{nat_lt, slice_index_or}
 use Rattle.std.specs.Ordering.{int_eq}
 use Rattle.std.specs.List.{list_any}
@@ -7,6 +7,7 @@ use Rattle.std.proofs.lemmas.Int.{ints}
 use Rattle.std.proofs.lemmas.List.{get_or_past}
 use Rattle.std.proofs.lemmas.Bool.{cases_Bool, cond-true, cond-false, not-true, and_parts, and_from, or_cases, or_left, or_right}
 use Rattle.std.proofs.Math.Bool.{and_comm}
+use Rattle.std.proofs.lemmas.Option.{none-some, same_Some}
 use Rattle.lattice.specs.declared.point.Point.{Point}
 use Rattle.lattice.specs.declared.direction.Dir.{Dir}
 use Rattle.lattice.specs.declared.direction.Dir.TheVariants.{East, SouthEast, South, SouthWest, West, NorthWest, North, NorthEast}
@@ -164,21 +165,12 @@ module _ (f : Filled) where
 
   pub beside_some : (p : Point) (d : Dir) (g : ℕ) → beside_of f p d ≡ Some g → IsTrue (adjoins f p (step d p)) × (g ≡ number_in f (step d p))
   beside_some p d g is = elim (cases_Bool (adjoins f p (step d p))) [
-    | inl on ↦ (on, some_same (sym is ∙ beside_there p d on))
-    | inr off ↦ absurd (no_some (sym is ∙ beside_none p d off))
+    | inl on ↦ (on, same_Some _ _ (sym is ∙ beside_there p d on))
+    | inr off ↦ absurd (none-some g (sym (beside_none p d off) ∙ is))
   ]
-    where
-      some_same : {a b : ℕ} → Some a ≡ Some b → a ≡ b
-      some_same e = cc
-
-      no_some : {a : ℕ} → ◌≡◌ {A = Option ℕ} (Some a) None → ⊥
-      no_some e = cc
 
   pub beside_not : (p : Point) (d : Dir) → beside_of f p d ≡ None → IsTrue (adjoins f p (step d p)) → ⊥
-  beside_not p d is on = no_none (sym is ∙ beside_there p d on)
-    where
-      no_none : {a : ℕ} → ◌≡◌ {A = Option ℕ} None (Some a) → ⊥
-      no_none e = cc
+  beside_not p d is on = none-some _ (sym is ∙ beside_there p d on)
 
   pub not_adjoins : (p q : Point) → (IsTrue (has_level f q) → IsTrue (is_shared f p q) → ⊥) → IsFalse (adjoins f p q)
   not_adjoins p q none = elim (cases_Bool (adjoins f p q)) [

@@ -3,6 +3,7 @@ use Rattle.std.proofs.Common.{◌≡◌, ℕ, ◌<◌, ℤ, ◌↔◌, inl, inr,
 use Rattle.std.specs.Prelude.{slice_index_or}
 use Rattle.std.proofs.lemmas.List.{get_or_default, get_or-map}
 use Rattle.std.proofs.lemmas.Bool.{cases_Bool}
+use Rattle.std.proofs.lemmas.Option.{none-some}
 use Rattle.lattice.specs.Ground.{is_ground, terrain}
 use Rattle.lattice.specs.Lattice.{IsIndexOf}
 use Rattle.lattice.specs.Mosaic.{Mosaic}
@@ -21,7 +22,7 @@ use Rattle.flow_d8.specs.declared.flow.Flow.{Flow}
 use Rattle.flow_d8.specs.declared.flow.Flow.TheVariants.{Unknown}
 use Rattle.flow_d8.specs.declared.tile_flows.TileFlows.{TileFlows}
 use Rattle.flow_d8.proofs.Beside.{beside}
-use Rattle.flow_d8.proofs.Feeding.{none_some, step_back}
+use Rattle.flow_d8.proofs.Feeding.{step_back}
 use Rattle.flow_d8.proofs.Unique.{one_direction}
 
 -- the byte at this place is known
@@ -29,7 +30,7 @@ abbrev pub IsKnownAt : TileFlows → ℕ → Type 0
 IsKnownAt tile place = (way : Option Dir) × (way_of (slice_index_or tile.flows.items place Unknown) ≡ Some way)
 
 some_way : (told : Option (Option Dir)) (e : Dir) → or_none told ≡ Some e → told ≡ Some (Some e)
-some_way None e is = absurd (none_some e is)
+some_way None e is = absurd (none-some e is)
 some_way (Some way) e is = ap Some is
 
 -- what is read at the place of a point
@@ -67,7 +68,7 @@ module _ (m : Mosaic) (level : Point → ℤ) (filled : AreFilledLevels (terrain
       let way = are x (place_by tile.side e (back_of d)) (Some d) at (some_way _ d (sym (way_at tile x (place_by tile.side e (back_of d)) at) ∙ leads.1.0)) in
       elim (cases_Bool (is_ground m x)) [
         | inl on ↦ record { on_ground = on; drains = (d, (way.drains on level filled, leads.1.1)) }
-        | inr off ↦ absurd (none_some d (sym (way.elsewhere off)))
+        | inr off ↦ absurd (none-some d (sym (way.elsewhere off)))
       ]
 
   feeds_leads : (x : Point) → IsFeeder (terrain m) level x p → LeadsBy (way_in tile) x p

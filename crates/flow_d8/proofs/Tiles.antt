@@ -13,7 +13,7 @@ use Rattle.std.proofs.lemmas.Int.{ints}
 use Rattle.std.proofs.lemmas.Bool.{cases_Bool, cases_order, cases_eq, and_from, and_parts, or_cases}
 use Rattle.std.proofs.lemmas.List.{get_or_default}
 use Rattle.std.proofs.lemmas.List.Sorted.{searchable_from_sorted}
-use Rattle.std.proofs.lemmas.Option.{slice_get_read, get_or_from_slice_get}
+use Rattle.std.proofs.lemmas.Option.{none-some, slice_get_read, get_or_from_slice_get}
 use Rattle.lattice.specs.declared.point.Point.{Point}
 use Rattle.lattice.specs.Corners.{Corner}
 use Rattle.lattice.specs.Lattice.{IsBefore, Holds, IsIndexOf, index_of}
@@ -90,10 +90,7 @@ told_tile corners c (Err k) order bound position = λ has.
 -- the first tile that holds a point is the first of its holders that is among the corners
 number_first : (n : ℕ) (corners : List Corner) (p : Point) (k : ℕ) (c : Corner) → slice_get corners k ≡ Some c → is_holder n c p ≡ true → ((j : ℕ) → j < k → is_holder n (get_or corners j c) p ≡ false)
     → number_of n corners p ≡ k * (n * n) + index_of n c p
-number_first n [] p k c at on before = absurd (no_some c at)
-  where
-    no_some : (c : Corner) → ◌≡◌ {A = Option Corner} None (Some c) → ⊥
-    no_some c e = cc
+number_first n [] p k c at on before = absurd (none-some c at)
 number_first n (d ∷ rest) p zero c at on before =
     let same : d ≡ c = some_same at in
     number-here n d rest p (subst (λ (e : Corner). is_holder n e p ≡ true) (sym same) on) ∙ ap (λ (e : Corner). index_of n e p) same ∙ omega arith

@@ -4,6 +4,7 @@ use Rattle.std.specs.Prelude.{nat_lt}
 use Rattle.std.proofs.lemmas.Bool.{cases_Bool, cond-true, cond-false, lt-ltb}
 use Rattle.std.proofs.lemmas.Bool.Decides.{nat_tests}
 use Rattle.std.proofs.lemmas.List.{get_or_past, get_or_default, append-nil}
+use Rattle.std.proofs.lemmas.Option.{none-some}
 use Rattle.lattice.specs.declared.point.Point.{Point}
 use Rattle.lattice.specs.declared.direction.Dir.{Dir}
 use Rattle.lattice.specs.Steps.{step}
@@ -42,13 +43,10 @@ module _ (d : Directions) (p : Point) where
         absurd (omega (arith, get_or_past d.distances (number_of d.side d.corners p) unknown past))
   ]
 
-no_some : {A : Type 0} (a : A) → ◌≡◌ {A = Option A} None (Some a) → ⊥
-no_some a e = cc
-
 module _ (m : Mosaic) (level : Point → ℤ) (d : Directions) (is : IsMosaic m) (are : AreDirectionsOf m level d) where
   -- a ground point has a known distance
   pub ground_known : (p : Point) → IsTrue (is_ground m p) → (IsKnown d p → ⊥) → ⊥
-  ground_known p solid none = let dist = are.distance p solid in no_some dist.0 (sym (distance_unknown d p none) ∙ dist.1.0)
+  ground_known p solid none = let dist = are.distance p solid in none-some dist.0 (sym (distance_unknown d p none) ∙ dist.1.0)
 
   -- the point that a ground point drains to is ground
   pub drains_to_ground : (p : Point) (e : Dir) → IsTrue (is_ground m p) → direction_in d p ≡ Some e → IsDirection (terrain m) level p (Some e) × IsTrue (is_ground m (step e p))

@@ -3,6 +3,7 @@ use Rattle.std.proofs.Common.{Ok, Err, ◌≡◌, ℕ, ◌+◌, ◌<◌, ◌≤�
 use Rattle.std.specs.Prelude.{Contains, ◌↔◌, length, is_some, Result, IfOk, IfSome}
 use Rattle.std.proofs.lemmas.Bool.{cases_Bool, cases_eq}
 use Rattle.std.proofs.lemmas.List.Elements.{Contains-append_left, Contains-push, Contains-push_cases}
+use Rattle.std.proofs.lemmas.Option.{none-some}
 use Rattle.lattice.specs.declared.point.Point.{Point}
 use Rattle.lattice.specs.declared.direction.Dir.{Dir}
 use Rattle.lattice.specs.Steps.{step, order_of}
@@ -65,13 +66,10 @@ module _ (t : Terrain Point) (grid : IsGrid t void) (level : Point → ℤ) wher
     abbrev pub Leads : Type 0
     Leads = (d : Dir) × ((way ≡ Some d) × (IsTrue (fits_point (step d x)) × (step d x ≡ p)))
 
-    no_some : (d : Dir) → ◌≡◌ {A = Option Dir} None (Some d) → ⊥
-    no_some d e = cc
-
     pub leads_feeds : Leads → IsFeeder t level x p
     leads_feeds leads = elim (cases_Bool (t.is_ground x)) [
       | inl solid ↦ record { on_ground = solid; drains = (leads.0, (subst (IsDirection t level x) leads.1.0 (is solid), leads.1.1.1)) }
-      | inr off ↦ absurd (no_some leads.0 (sym (elsewhere off) ∙ leads.1.0))
+      | inr off ↦ absurd (none-some leads.0 (sym (elsewhere off) ∙ leads.1.0))
     ]
 
     pub feeds_leads : IsFeeder t level x p → Leads

@@ -1,10 +1,11 @@
 use Rattle.std.proofs.Common.{◌≡◌, Some, IsTrue, sym, ◌∙◌, ap, subst, true≢false}
 use Rattle.std.specs.Prelude.{MatchOption}
+use Rattle.std.proofs.lemmas.Option.{none-some}
 use Rattle.lattice.specs.Steps.{step}
 use Rattle.lattice.specs.Stepping.{fits_point}
 use Rattle.flow_d8.specs.Directions.{direction_in}
 use Rattle.flow_d8.specs.Places.{back_of}
-use Rattle.flow_d8.proofs.Feeding.{beside_is, beside_not, direction_there, direction_hidden, drains_said, answered, none_some}
+use Rattle.flow_d8.proofs.Feeding.{beside_is, beside_not, direction_there, direction_hidden, drains_said, answered}
 use Rattle.flow_d8.proofs.directions.Directions.feeder.Goals as goal
 use Rattle.flow_d8.proofs.directions.Directions.feeder.Goals.{else-drains_by-via-then-drains_by+else-is_known, else-drains_by-via-else-drains_by}
 
@@ -14,7 +15,7 @@ returns-in_err-number c =
     let p = c.args.point in
     let e = c.args.direction in
     subst (λ r. MatchOption r (direction_in d (step e p) ≡ Some (back_of e) → ⊥) (λ q. (q ≡ step e p) × (direction_in d (step e p) ≡ Some (back_of e)))) (sym c.from_residual.ensures)
-    (λ drains. none_some (back_of e) (sym (beside_not d c.drains-drains.ensures.valid p e (sym c.requires ∙ c.in_err-number.was)) ∙ drains))
+    (λ drains. none-some (back_of e) (sym (beside_not d c.drains-drains.ensures.valid p e (sym c.requires ∙ c.in_err-number.was)) ∙ drains))
 
 pub drains_by-requires : goal.drains_by-requires
 drains_by-requires c = (beside_is c.args.self.now c.drains-drains.ensures.valid c.args.point c.args.direction c.in_ok-number.number (sym c.requires ∙ c.in_ok-number.was)).in_drains
@@ -41,7 +42,7 @@ returns-else-drains_by c =
     let b = beside_is d c.drains-drains.ensures.valid p e g (sym c.requires ∙ c.in_ok-number.was) in
     elim c.else-drains_by.branch [
       | else-drains_by-via-then-drains_by+else-is_known w ↦ λ drains.
-          none_some (back_of e) (sym (direction_hidden d c.drains-drains.ensures.valid p e g b (λ known. true≢false (sym (w.is_known.ensures.1 known) ∙ w.if-is_known.false))) ∙ drains)
+          none-some (back_of e) (sym (direction_hidden d c.drains-drains.ensures.valid p e g b (λ known. true≢false (sym (w.is_known.ensures.1 known) ∙ w.if-is_known.false))) ∙ drains)
       | else-drains_by-via-else-drains_by w ↦ λ drains.
           true≢false (sym (c.drains_by.ensures.1 (drains_said d c.drains-drains.ensures.valid p e g b (back_of e) drains ∙ ap Some (sym c.opposite.ensures))) ∙ w.if-drains_by.false)
     ]
