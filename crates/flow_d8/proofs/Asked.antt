@@ -30,6 +30,19 @@ module _ {L S : Type 0} (g : Ghosts L S) where
   out_of_memory s s' a b (Ok x) asks fits kept refuses is = record { asks = asks; fits = fits; keeps = kept; refusal = tt }
   out_of_memory s s' a b (Err e) asks fits kept refuses is = refused s s' a b e asks fits (subst (g.refuses s a s' b) (sym is) refuses)
 
+  -- one question more, that was refused
+  pub refused_then : {T U : Type 0} (refuses_on : (s s' s'' : L) (a b c : S) (r : Refusal) → g.keeps s a s' b → g.refuses s' b s'' c r → g.refuses s a s'' c r) (s s' s'' : L) (a b c : S) (e r : Refusal) → e ≡ r
+      → Asks g s a s' b → g.keeps s a s' b → IsAsked {T = U} g s' b s'' c (Err r) → IsAsked {T = T} g s a s'' c (Err e)
+  refused_then refuses_on s s' s'' a b c e r same asks kept last =
+      refused s s'' a c e (asks_on s s' s'' a b c asks last.asks) last.fits (subst (g.refuses s a s'' c) (sym same) (refuses_on s s' s'' a b c r kept last.refusal))
+
+  -- one that was answered, after which memory ran out
+  pub out_of_memory_then : {T U : Type 0} (keeps_on : (s s' s'' : L) (a b c : S) → g.keeps s a s' b → g.keeps s' b s'' c → g.keeps s a s'' c) (runs_out : (s s' : L) (a b : S) → g.keeps s a s' b → g.refuses s a s' b NoMemory)
+      (s s' s'' : L) (a b c : S) (x : U) (r : Result T Refusal) → Asks g s a s' b → g.keeps s a s' b → IsAsked g s' b s'' c (Ok x) → IfErr r (λ e. e ≡ NoMemory) → IsAsked g s a s'' c r
+  out_of_memory_then keeps_on runs_out s s' s'' a b c x r asks kept last is =
+      let all = keeps_on s s' s'' a b c kept last.keeps in
+      out_of_memory s s'' a c r (asks_on s s' s'' a b c asks last.asks) last.fits all (runs_out s s'' a c all) is
+
   -- what was found of flats before a call is right after it
   pub flats_on : (s s' : L) (a b : S) (held : Flats) → Asks g s a s' b → AreFlatsOf g s a held → AreFlatsOf g s' b held
   flats_on s s' a b held asks are honest = subst (λ (m : Mosaic). OnLevels m (λ level. AreMeasured (terrain m) level held)) (sym (asks.mosaic honest)) (are (asks.honest honest))

@@ -12,7 +12,7 @@ use Rattle.flow_d8.specs.declared.flat_search.Node.{Node}
 use Rattle.flow_d8.specs.LevelsAround.{OnLevels}
 use Rattle.flow_d8.specs.FlowSteps.{FlowsBy}
 use Rattle.flow_d8.specs.FlatSearch.{AreVisited, AreLinked, IsSearched, AreDrained, node_at}
-use Rattle.flow_d8.proofs.Asked.{asks_nothing, asks_on, refused, out_of_memory}
+use Rattle.flow_d8.proofs.Asked.{asks_nothing, asks_on, refused, refused_then, out_of_memory_then}
 use Rattle.flow_d8.proofs.Reaching.{searched_first}
 use Rattle.flow_d8.proofs.Shortest.{are_drained}
 use Rattle.flow_d8.proofs.Ends.{level_function, some_left}
@@ -42,11 +42,7 @@ nodes-init g c = record {
 pub returns-in_err-expand-clause-asked : goal.returns-in_err-expand-clause-asked
 returns-in_err-expand-clause-asked g c =
     let p = err_from_is_err_and c.from_residual-in_err-expand.result c.from_residual-in_err-expand.ensures.1 in
-    rw p.1 (refused g.L.FilledLevels c.args.levels.now c.expand.new.levels c.args.source.now c.expand.new.source p.0
-    (asks_on g.L.FilledLevels c.args.levels.now c.nodes.levels c.expand.new.levels c.args.source.now c.nodes.source c.expand.new.source c.nodes.invariant.asks c.in_err-expand.ensures.asked.asks)
-    c.in_err-expand.ensures.asked.fits
-    (subst (g.L.FilledLevels.refuses c.args.levels.now c.args.source.now c.expand.new.levels c.expand.new.source) (sym p.2)
-    (g.met.L.FilledLevels.refuses_on c.args.levels.now c.nodes.levels c.expand.new.levels c.args.source.now c.nodes.source c.expand.new.source c.in_err-expand.field-0.0 c.nodes.invariant.keeps c.in_err-expand.ensures.asked.refusal)))
+    rw p.1 (refused_then g.L.FilledLevels g.met.L.FilledLevels.refuses_on c.args.levels.now c.nodes.levels c.expand.new.levels c.args.source.now c.nodes.source c.expand.new.source p.0 c.in_err-expand.field-0.0 p.2 c.nodes.invariant.asks c.nodes.invariant.keeps c.in_err-expand.ensures.asked)
 
 pub steps_to-requires-clause-head : goal.steps_to-requires-clause-head
 steps_to-requires-clause-head g c =
@@ -84,10 +80,8 @@ returns-then-branch-clause-way g c honest level filled =
 
 pub returns-in_err-steps_to-clause-asked : goal.returns-in_err-steps_to-clause-asked
 returns-in_err-steps_to-clause-asked g c =
-    let kept = g.met.L.FilledLevels.keeps_on c.args.levels.now c.nodes.levels c.expand.new.levels c.args.source.now c.nodes.source c.expand.new.source c.nodes.invariant.keeps c.in_ok-expand.ensures.asked.keeps in
-    out_of_memory g.L.FilledLevels c.args.levels.now c.expand.new.levels c.args.source.now c.expand.new.source c.from_residual-in_err-steps_to.result
-    (asks_on g.L.FilledLevels c.args.levels.now c.nodes.levels c.expand.new.levels c.args.source.now c.nodes.source c.expand.new.source c.nodes.invariant.asks c.in_ok-expand.ensures.asked.asks)
-    c.in_ok-expand.ensures.asked.fits kept (g.met.L.FilledLevels.runs_out c.args.levels.now c.expand.new.levels c.args.source.now c.expand.new.source kept) (search rules)
+    out_of_memory_then g.L.FilledLevels g.met.L.FilledLevels.keeps_on g.met.L.FilledLevels.runs_out c.args.levels.now c.nodes.levels c.expand.new.levels c.args.source.now c.nodes.source c.expand.new.source c.in_ok-expand.field-0 c.from_residual-in_err-steps_to.result
+    c.nodes.invariant.asks c.nodes.invariant.keeps c.in_ok-expand.ensures.asked (search rules)
 
 pub returns-then-branch-clause-asked : goal.returns-then-branch-clause-asked
 returns-then-branch-clause-asked g c = record {

@@ -10,7 +10,7 @@ use Rattle.flow_d8.specs.FlatSearch.{node_at}
 use Rattle.flow_d8.specs.Flats.{IsSet, IsExpanded, IsFinding}
 use Rattle.flow_d8.proofs.MosaicGrid.{mosaic_is_grid}
 use Rattle.flow_d8.specs.LevelsAround.{OnLevels}
-use Rattle.flow_d8.proofs.Asked.{asks_nothing, asks_on, refused, out_of_memory}
+use Rattle.flow_d8.proofs.Asked.{asks_nothing, asks_on, refused_then, out_of_memory_then}
 use Rattle.flow_d8.proofs.FlatsSearched.{finding_begun, end_found, inside_found, all_found}
 use Rattle.flow_d8.proofs.flats.find.Goals as goal
 use Rattle.flow_d8.proofs.flats.find.Goals.{then-branch+in_ok-lengthen, else-branch+in_ok-set}
@@ -31,25 +31,17 @@ nodes-init g c = record {
 pub returns-in_err-expand-clause-asked : goal.returns-in_err-expand-clause-asked
 returns-in_err-expand-clause-asked g c =
     let p = err_from_is_err_and c.from_residual-in_err-expand.result c.from_residual-in_err-expand.ensures.1 in
-    rw p.1 (refused g.L.FilledLevels c.args.levels.now c.expand.new.levels c.args.source.now c.expand.new.source p.0
-    (asks_on g.L.FilledLevels c.args.levels.now c.nodes.levels c.expand.new.levels c.args.source.now c.nodes.source c.expand.new.source c.nodes.invariant.asks c.in_err-expand.ensures.asked.asks)
-    c.in_err-expand.ensures.asked.fits
-    (subst (g.L.FilledLevels.refuses c.args.levels.now c.args.source.now c.expand.new.levels c.expand.new.source) (sym p.2)
-    (g.met.L.FilledLevels.refuses_on c.args.levels.now c.nodes.levels c.expand.new.levels c.args.source.now c.nodes.source c.expand.new.source c.in_err-expand.field-0.0 c.nodes.invariant.keeps c.in_err-expand.ensures.asked.refusal)))
+    rw p.1 (refused_then g.L.FilledLevels g.met.L.FilledLevels.refuses_on c.args.levels.now c.nodes.levels c.expand.new.levels c.args.source.now c.nodes.source c.expand.new.source p.0 c.in_err-expand.field-0.0 p.2 c.nodes.invariant.asks c.nodes.invariant.keeps c.in_err-expand.ensures.asked)
 
 pub returns-in_err-lengthen-clause-asked : goal.returns-in_err-lengthen-clause-asked
 returns-in_err-lengthen-clause-asked g c =
-    let kept = g.met.L.FilledLevels.keeps_on c.args.levels.now c.nodes.levels c.expand.new.levels c.args.source.now c.nodes.source c.expand.new.source c.nodes.invariant.keeps c.in_ok-expand.ensures.asked.keeps in
-    out_of_memory g.L.FilledLevels c.args.levels.now c.expand.new.levels c.args.source.now c.expand.new.source c.from_residual-in_err-lengthen.result
-    (asks_on g.L.FilledLevels c.args.levels.now c.nodes.levels c.expand.new.levels c.args.source.now c.nodes.source c.expand.new.source c.nodes.invariant.asks c.in_ok-expand.ensures.asked.asks)
-    c.in_ok-expand.ensures.asked.fits kept (g.met.L.FilledLevels.runs_out c.args.levels.now c.expand.new.levels c.args.source.now c.expand.new.source kept) (search rules)
+    out_of_memory_then g.L.FilledLevels g.met.L.FilledLevels.keeps_on g.met.L.FilledLevels.runs_out c.args.levels.now c.nodes.levels c.expand.new.levels c.args.source.now c.nodes.source c.expand.new.source c.in_ok-expand.field-0 c.from_residual-in_err-lengthen.result
+    c.nodes.invariant.asks c.nodes.invariant.keeps c.in_ok-expand.ensures.asked (search rules)
 
 pub returns-in_err-set-clause-asked : goal.returns-in_err-set-clause-asked
 returns-in_err-set-clause-asked g c =
-    let kept = g.met.L.FilledLevels.keeps_on c.args.levels.now c.nodes.levels c.expand.new.levels c.args.source.now c.nodes.source c.expand.new.source c.nodes.invariant.keeps c.in_ok-expand.ensures.asked.keeps in
-    out_of_memory g.L.FilledLevels c.args.levels.now c.expand.new.levels c.args.source.now c.expand.new.source c.from_residual-in_err-set.result
-    (asks_on g.L.FilledLevels c.args.levels.now c.nodes.levels c.expand.new.levels c.args.source.now c.nodes.source c.expand.new.source c.nodes.invariant.asks c.in_ok-expand.ensures.asked.asks)
-    c.in_ok-expand.ensures.asked.fits kept (g.met.L.FilledLevels.runs_out c.args.levels.now c.expand.new.levels c.args.source.now c.expand.new.source kept) (search rules)
+    out_of_memory_then g.L.FilledLevels g.met.L.FilledLevels.keeps_on g.met.L.FilledLevels.runs_out c.args.levels.now c.nodes.levels c.expand.new.levels c.args.source.now c.nodes.source c.expand.new.source c.in_ok-expand.field-0 c.from_residual-in_err-set.result
+    c.nodes.invariant.asks c.nodes.invariant.keeps c.in_ok-expand.ensures.asked (search rules)
 
 pub nodes-preserved : goal.nodes-preserved
 nodes-preserved g c =
