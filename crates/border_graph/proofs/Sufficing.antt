@@ -1,8 +1,6 @@
 -- The spills that a spanning forest keeps suffice.
-use Rattle.std.proofs.Common.{◌≡◌, ◌≢◌, ◌⊎◌, inl, inr, ℕ, zero, suc, ◌+◌, ◌<◌, ◌≤◌, ℤ, List, [], ◌∷◌, ◌++◌, length, get_or, map, Contains, true, false, true≢false, refl, sym, ap, ap₂, ◌∙◌, subst, arith}
-use Rattle.std.specs.Prelude.{nat_eq}
+use Rattle.std.proofs.Common.{◌≡◌, ◌⊎◌, inl, inr, ℕ, zero, suc, ◌+◌, ◌<◌, ℤ, List, [], ◌∷◌, ◌++◌, length, get_or, map, Contains, refl, sym, ap, ap₂, ◌∙◌, subst, arith}
 use Rattle.std.proofs.lemmas.Bool.{cases_lt, cases_eq}
-use Rattle.std.proofs.lemmas.List.{get_or_default}
 use Rattle.std.proofs.lemmas.List.Elements.{Contains-append_left, Contains-push, Contains-push_cases}
 use Rattle.lattice.specs.Corners.{Corner}
 use Rattle.lattice.specs.Mosaic.{Mosaic}
@@ -12,7 +10,7 @@ use Rattle.tile_flood.specs.Labelling.{OUT}
 use Rattle.border_graph.specs.declared.summary.RimPoint.{RimPoint}
 use Rattle.border_graph.specs.Joining.{IsSummaryOf, Summarizes}
 use Rattle.border_graph.specs.Links.{IsWayBelow}
-use Rattle.border_graph.specs.Passes.{IsPass, AreJoined, SpanAll}
+use Rattle.border_graph.specs.Passes.{IsPass, SpanAll}
 use Rattle.border_graph.specs.Summaries.{Summary}
 use Rattle.border_graph.specs.Reduced.{IsCrossing, IsLabelOf, Suffice, label_of, spill_of, IsPassListed, ArePassesOf}
 use Rattle.border_graph.specs.declared.pass.Pass.{Pass}

@@ -42,6 +42,11 @@ pub record AreSoFar (n : ℕ) (summaries : List Summary) (links : List (List Lin
       (t : ℕ) × (k : ℕ) × (to : Node) × ((x ≡ node_number n (Rim t k)) × ((y ≡ node_number n to) × IsLink n summaries (Rim t k) to level))
   pub heights : (x y : ℕ) (level : ℤ) → IsListed links x y level → (void ≤ℤ level) × (level ≢ void)
 
+-- links of the graph were added, and none was taken away
+pub record HaveGrown (n : ℕ) (summaries : List Summary) (old new : List (List Link)) : Type 0 where
+  pub so_far : AreSoFar n summaries new
+  pub still : AreListedStill old new
+
 -- the links from a rim point to the outlet node are listed
 abbrev pub AreOutletsListed : ℕ → List Summary → List (List Link) → ℕ → ℕ → Type 0
 AreOutletsListed n summaries links t k = (level : ℤ) → IsThere n summaries t k → IsOutletLink n summaries t k level ⊎ IsLabelLink n summaries t k OUT level → IsListed links (node_number n (Rim t k)) 0 level

@@ -1,5 +1,5 @@
 -- Fewer spills of a tile, over which water gets as low (this product's own profile).
-use Rattle.std.specs.Prelude.{◌≡◌, ◌≢◌, ℕ, ◌+◌, ◌<◌, ◌⊎◌, ◌++◌, ◌∷◌, [], ℤ, List, Contains, nat_eq, if◌then◌else◌, length, slice_index_or}
+use Rattle.std.specs.Prelude.{◌≡◌, ◌≢◌, ℕ, ◌+◌, ◌<◌, ◌⊎◌, ◌++◌, ◌∷◌, [], ℤ, List, Contains, nat_eq, if◌then◌else◌, slice_index_or}
 use Rattle.tile_flood.specs.declared.passing.Spill.{Spill}
 use Rattle.tile_flood.specs.Labelling.{OUT}
 use Rattle.border_graph.specs.Links.{IsWayBelow}

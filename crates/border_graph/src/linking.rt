@@ -5,7 +5,7 @@ ghost use Rattle.border_graph.specs.Joining.{IsThere, Rim, summary_at};
 ghost use Rattle.border_graph.specs.RimLookup.{IsThereAt};
 ghost use Rattle.lattice.specs.declared.refusal.Refusal.TheVariants.{NoMemory};
 ghost use Rattle.border_graph.specs.Sharing.{AreInOrder, IsPointListed, IsTileListed};
-ghost use Rattle.border_graph.specs.Linking.{AreLinked, IsAddedTo, AreAddedBetween, AreSoFar, AreSpillsListed, IsSpillListed, AreListedStill, AreOutletsListed, AreLabelsListed, node_number};
+ghost use Rattle.border_graph.specs.Linking.{AreLinked, IsAddedTo, AreAddedBetween, AreSoFar, AreSpillsListed, IsSpillListed, HaveGrown, AreOutletsListed, AreLabelsListed, node_number};
 
 use crate::link::Link;
 use crate::sharing::link_shared;
@@ -76,8 +76,7 @@ fn link_outlet(
     requires side { IsSide n }
     requires t { t < length summaries.now }
     requires so_far { AreSoFar n summaries.now (map (λ v. v.items) links.old.items) }
-    ensures so_far { OnOk result (AreSoFar n summaries.now (map (λ v. v.items) links.new.items)) }
-    ensures still { OnOk result (AreListedStill (map (λ v. v.items) links.old.items) (map (λ v. v.items) links.new.items)) }
+    ensures grown { OnOk result (HaveGrown n summaries.now (map (λ v. v.items) links.old.items) (map (λ v. v.items) links.new.items)) }
     ensures listed { OnOk result (AreOutletsListed n summaries.now (map (λ v. v.items) links.new.items) t k) }
 {
     let Some(point) = ground_rim_point(n, summaries, t, k) else {
@@ -104,8 +103,7 @@ fn link_label(
     requires side { IsSide n }
     requires t { t < length summaries.now }
     requires so_far { AreSoFar n summaries.now (map (λ v. v.items) links.old.items) }
-    ensures so_far { OnOk result (AreSoFar n summaries.now (map (λ v. v.items) links.new.items)) }
-    ensures still { OnOk result (AreListedStill (map (λ v. v.items) links.old.items) (map (λ v. v.items) links.new.items)) }
+    ensures grown { OnOk result (HaveGrown n summaries.now (map (λ v. v.items) links.old.items) (map (λ v. v.items) links.new.items)) }
     ensures listed { OnOk result (AreLabelsListed n summaries.now (map (λ v. v.items) links.new.items) t k) }
 {
     let Some(point) = ground_rim_point(n, summaries, t, k) else {
@@ -134,8 +132,7 @@ fn link_spill(
     requires t { t < length summaries.now }
     requires spill { Contains (summary_at summaries.now t).spills spill }
     requires so_far { AreSoFar n summaries.now (map (λ v. v.items) links.old.items) }
-    ensures so_far { OnOk result (AreSoFar n summaries.now (map (λ v. v.items) links.new.items)) }
-    ensures still { OnOk result (AreListedStill (map (λ v. v.items) links.old.items) (map (λ v. v.items) links.new.items)) }
+    ensures grown { OnOk result (HaveGrown n summaries.now (map (λ v. v.items) links.old.items) (map (λ v. v.items) links.new.items)) }
     ensures listed { OnOk result (IsSpillListed n summaries.now (map (λ v. v.items) links.new.items) t spill) }
 {
     let a = spill.a as usize;
@@ -171,8 +168,7 @@ fn link_spills(
     requires side { IsSide n }
     requires t { t < length summaries.now }
     requires so_far { AreSoFar n summaries.now (map (λ v. v.items) links.old.items) }
-    ensures so_far { OnOk result (AreSoFar n summaries.now (map (λ v. v.items) links.new.items)) }
-    ensures still { OnOk result (AreListedStill (map (λ v. v.items) links.old.items) (map (λ v. v.items) links.new.items)) }
+    ensures grown { OnOk result (HaveGrown n summaries.now (map (λ v. v.items) links.old.items) (map (λ v. v.items) links.new.items)) }
     ensures listed { OnOk result (AreSpillsListed n summaries.now (map (λ v. v.items) links.new.items) t (length (summary_at summaries.now t).spills)) }
 {
     let spills = spills_of(summaries, t);
@@ -200,8 +196,7 @@ fn link_point(
     requires t { t < length summaries.now }
     requires k { k < 4 * (side - 1) }
     requires so_far { AreSoFar side summaries.now (map (λ v. v.items) links.old.items) }
-    ensures so_far { OnOk result (AreSoFar side summaries.now (map (λ v. v.items) links.new.items)) }
-    ensures still { OnOk result (AreListedStill (map (λ v. v.items) links.old.items) (map (λ v. v.items) links.new.items)) }
+    ensures grown { OnOk result (HaveGrown side summaries.now (map (λ v. v.items) links.old.items) (map (λ v. v.items) links.new.items)) }
     ensures listed { OnOk result (IsPointListed side summaries.now (map (λ v. v.items) links.new.items) t k) }
 {
     let n = side.samples() as usize;
@@ -220,8 +215,7 @@ fn link_tile(
 ) -> Result<(), AllocError>
     requires t { t < length summaries.now }
     requires so_far { AreSoFar side summaries.now (map (λ v. v.items) links.old.items) }
-    ensures so_far { OnOk result (AreSoFar side summaries.now (map (λ v. v.items) links.new.items)) }
-    ensures still { OnOk result (AreListedStill (map (λ v. v.items) links.old.items) (map (λ v. v.items) links.new.items)) }
+    ensures grown { OnOk result (HaveGrown side summaries.now (map (λ v. v.items) links.old.items) (map (λ v. v.items) links.new.items)) }
     ensures listed { OnOk result (IsTileListed side summaries.now (map (λ v. v.items) links.new.items) t) }
 {
     let size = 4 * side.edge() as usize;

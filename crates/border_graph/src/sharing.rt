@@ -4,7 +4,7 @@ ghost use Rattle.lattice.specs.Corners.{is_before};
 ghost use Rattle.lattice.specs.Lattice.{Holds, IsIndexOf};
 ghost use Rattle.lattice.specs.Block.{rim_number as number_of};
 ghost use Rattle.border_graph.specs.Joining.{summary_at};
-ghost use Rattle.border_graph.specs.Linking.{AreSoFar, AreListedStill};
+ghost use Rattle.border_graph.specs.Linking.{AreSoFar, HaveGrown};
 ghost use Rattle.border_graph.specs.Sharing.{AreInOrder, IsOfRim, IsSharedListed, AreSharedListed};
 
 use crate::link::Link;
@@ -24,8 +24,7 @@ pub(crate) fn link_shared(
     requires t { t < length summaries.now }
     requires k { k < 4 * (side - 1) }
     requires so_far { AreSoFar side summaries.now (map (λ v. v.items) links.old.items) }
-    ensures so_far { OnOk result (AreSoFar side summaries.now (map (λ v. v.items) links.new.items)) }
-    ensures still { OnOk result (AreListedStill (map (λ v. v.items) links.old.items) (map (λ v. v.items) links.new.items)) }
+    ensures grown { OnOk result (HaveGrown side summaries.now (map (λ v. v.items) links.old.items) (map (λ v. v.items) links.new.items)) }
     ensures listed { OnOk result (AreInOrder summaries.now → AreSharedListed side summaries.now (map (λ v. v.items) links.new.items) t k) }
 {
     let point = point_on_rim(side, summaries, t, k);
@@ -67,8 +66,7 @@ fn link_to_tile(
     requires t { t < length summaries.now }
     requires point { IsOfRim side (summary_at summaries.now t).corner k point }
     requires so_far { AreSoFar side summaries.now (map (λ v. v.items) links.old.items) }
-    ensures so_far { OnOk result (AreSoFar side summaries.now (map (λ v. v.items) links.new.items)) }
-    ensures still { OnOk result (AreListedStill (map (λ v. v.items) links.old.items) (map (λ v. v.items) links.new.items)) }
+    ensures grown { OnOk result (HaveGrown side summaries.now (map (λ v. v.items) links.old.items) (map (λ v. v.items) links.new.items)) }
     ensures listed { OnOk result (AreInOrder summaries.now → IsSharedListed side summaries.now (map (λ v. v.items) links.new.items) t k corner) }
 {
     let n = side.samples() as usize;

@@ -14,7 +14,6 @@ use Rattle.border_graph.specs.Frontier.{is_among, IsNext, NoneLeft}
 use Rattle.border_graph.specs.declared.edge_source.Edge.{Edge}
 use Rattle.border_graph.specs.Crests.{crest, LeadsOut}
 use Rattle.border_graph.proofs.RisingSteps.{way_up}
-use Rattle.border_graph.specs.declared.frontier.Entry.{Entry}
 use Rattle.border_graph.specs.declared.bottleneck.Settled.{Settled}
 use Rattle.border_graph.specs.Bottleneck.{IsEnd, IsExpanded, IsSettledBy, HasLevel}
 use Rattle.border_graph.proofs.Crested.{below_crest, least_crest}

@@ -26,8 +26,11 @@ module _ (c : After-add_between) where
       (subst (λ to. IsAddedTo old added.half to (record { level = level; from = here })) c.node_number-there.ensures added.there)
       (subst (λ to. IsAddedTo added.half new to (record { level = level; from = there })) c.node_number-here.ensures added.back)
 
-pub returns-clause-so_far : goal.returns-clause-so_far
-returns-clause-so_far c = (both (goal.at.returns-clause-so_far c).After-add_between c.in_ok-add_between.ensures).0
+pub returns-clause-grown : goal.returns-clause-grown
+returns-clause-grown c = record {
+  so_far = (both (goal.at.returns-clause-grown c).After-add_between c.in_ok-add_between.ensures).0;
+  still = λ x y level has. c.in_ok-add_between.ensures.back.others x y level (c.in_ok-add_between.ensures.there.others x y level has);
+}
 
 pub returns-clause-listed : goal.returns-clause-listed
 returns-clause-listed c = (both (goal.at.returns-clause-listed c).After-add_between c.in_ok-add_between.ensures).1
@@ -59,6 +62,3 @@ add_between-requires c =
     let there : c.node_number-there.result < length (map (λ v. v.items) c.args.links.now.items) = subst (λ v. v < length (map (λ v. v.items) c.args.links.now.items)) (sym c.node_number-there.ensures) (node_number_below c.args.n c.args.summaries.now (map (λ v. v.items) c.args.links.now.items) c.args.t c.in-Some.point.label c.requires.so_far c.requires.t c.in-Some-ground_rim_point.ensures.some.there.number) in
     let many = length-map c.args.links.now.items (λ v. v.items) in
     (omega (arith, c.args.links.now.ok.0), omega (arith, c.args.links.now.ok.0))
-
-pub returns-clause-still : goal.returns-clause-still
-returns-clause-still c x y level has = c.in_ok-add_between.ensures.back.others x y level (c.in_ok-add_between.ensures.there.others x y level has)

@@ -8,14 +8,15 @@ use Rattle.border_graph.proofs.Building.{node_number_below, first_below, outlets
 use Rattle.border_graph.proofs.linking.link_outlet.Goals as goal
 use Rattle.border_graph.proofs.linking.link_outlet.Goals.{else-not-point-via-then-not-point+else-point, else-not-point-via-else-not-point}
 
-pub returns-clause-so_far : goal.returns-clause-so_far
-returns-clause-so_far c =
+pub returns-clause-grown : goal.returns-clause-grown
+returns-clause-grown c =
     let fits : SFits w16 c.in-Some.point.height = search rules in
-    outlets_so_far c.args.n c.args.summaries.now (map (λ v. v.items) c.args.links.now.items) (map (λ v. v.items) c.add.new.links.items) c.args.t c.args.k c.in-Some.point (record { level = to_z w16 (of_z w16 c.in-Some.point.height); from = c.node_number-from.result }) c.in-Some.ensures.some c.requires.so_far
+    let added = outlets_so_far c.args.n c.args.summaries.now (map (λ v. v.items) c.args.links.now.items) (map (λ v. v.items) c.add.new.links.items) c.args.t c.args.k c.in-Some.point (record { level = to_z w16 (of_z w16 c.in-Some.point.height); from = c.node_number-from.result }) c.in-Some.ensures.some c.requires.so_far
     (elim c.else-not-point.branch [
       | else-not-point-via-then-not-point+else-point w ↦ inr w.if-point.false
       | else-not-point-via-else-not-point w ↦ inl (not-false _ w.if-not-point.false)
-    ]) c.node_number-from.ensures (to_z-of_z w16 c.in-Some.point.height fits) fits c.in_ok-add.ensures
+    ]) c.node_number-from.ensures (to_z-of_z w16 c.in-Some.point.height fits) fits c.in_ok-add.ensures in
+    record { so_far = added; still = c.in_ok-add.ensures.others }
 
 pub returns-in_default-clause-listed : goal.returns-in_default-clause-listed
 returns-in_default-clause-listed c level there why = absurd (c.in_default.ensures.none there)
@@ -32,9 +33,6 @@ add-requires c =
     let some = first_below c.args.n c.args.summaries.now (map (λ v. v.items) c.args.links.now.items) c.requires.so_far in
     let many = length-map c.args.links.now.items (λ v. v.items) in
     omega (arith, c.args.links.now.ok.0)
-
-pub returns-clause-still : goal.returns-clause-still
-returns-clause-still c = c.in_ok-add.ensures.others
 
 pub returns-clause-listed : goal.returns-clause-listed
 returns-clause-listed c level there why =

@@ -9,15 +9,18 @@ use Rattle.border_graph.proofs.Building.{node_number_below, first_below, spill_o
 use Rattle.border_graph.proofs.linking.link_spill.Goals as goal
 use Rattle.border_graph.proofs.linking.link_spill.Goals.{After-add_between}
 
-pub returns-then-spill-eq-OUT-clause-so_far : goal.returns-then-spill-eq-OUT-clause-so_far
-returns-then-spill-eq-OUT-clause-so_far c =
+pub returns-then-spill-eq-OUT-clause-grown : goal.returns-then-spill-eq-OUT-clause-grown
+returns-then-spill-eq-OUT-clause-grown c =
     let fits : SFits w16 c.args.spill.level = search rules in
     let same = to_z-of_z w16 c.args.spill.level fits in
     let level = to_z w16 (of_z w16 c.args.spill.level) in
     let full = λ (e : c.args.spill.level ≡ void). c.if-spill-eq32768.false (ap (of_z w16) e) in
     let old = map (λ v. v.items) c.args.links.now.items in
-    spill_out_so_far c.args.n c.args.summaries.now old old (map (λ v. v.items) c.add.new.links.items) c.args.t c.args.spill c.requires.spill c.in-Some.ensures.some.there c.requires.so_far full
-    (record { level = level; from = c.node_number-first.result }) c.if-spill-eq-OUT.true c.node_number-first.ensures same fits c.in_ok-add.ensures
+    record {
+      so_far = spill_out_so_far c.args.n c.args.summaries.now old old (map (λ v. v.items) c.add.new.links.items) c.args.t c.args.spill c.requires.spill c.in-Some.ensures.some.there c.requires.so_far full
+          (record { level = level; from = c.node_number-first.result }) c.if-spill-eq-OUT.true c.node_number-first.ensures same fits c.in_ok-add.ensures;
+      still = c.in_ok-add.ensures.others;
+    }
 
 -- the two links that are added
 module _ (c : After-add_between) where
@@ -39,8 +42,11 @@ module _ (c : After-add_between) where
       (subst (λ to. IsAddedTo old added.half to (record { level = level; from = first })) c.node_number-second.ensures added.there)
       (subst (λ to. IsAddedTo added.half new to (record { level = level; from = second })) c.node_number-first.ensures added.back)
 
-pub returns-clause-so_far : goal.returns-clause-so_far
-returns-clause-so_far c = (both (goal.at.returns-clause-so_far c).After-add_between c.in_ok-add_between.ensures).0
+pub returns-clause-grown : goal.returns-clause-grown
+returns-clause-grown c = record {
+  so_far = (both (goal.at.returns-clause-grown c).After-add_between c.in_ok-add_between.ensures).0;
+  still = λ x y level has. c.in_ok-add_between.ensures.back.others x y level (c.in_ok-add_between.ensures.there.others x y level has);
+}
 
 pub returns-clause-listed : goal.returns-clause-listed
 returns-clause-listed c = (both (goal.at.returns-clause-listed c).After-add_between c.in_ok-add_between.ensures).1 c.if-spill-eq-OUT.false
@@ -66,9 +72,6 @@ add-requires c =
     let some = first_below c.args.n c.args.summaries.now (map (λ v. v.items) c.args.links.now.items) c.requires.so_far in
     let many = length-map c.args.links.now.items (λ v. v.items) in
     omega (arith, c.args.links.now.ok.0)
-
-pub returns-then-spill-eq-OUT-clause-still : goal.returns-then-spill-eq-OUT-clause-still
-returns-then-spill-eq-OUT-clause-still c = c.in_ok-add.ensures.others
 
 pub returns-then-spill-eq-OUT-clause-listed : goal.returns-then-spill-eq-OUT-clause-listed
 returns-then-spill-eq-OUT-clause-listed c =
@@ -98,6 +101,3 @@ add_between-requires c =
     let second : c.node_number-second.result < length (map (λ v. v.items) c.args.links.now.items) = subst (λ v. v < length (map (λ v. v.items) c.args.links.now.items)) (sym c.node_number-second.ensures) (node_number_below c.args.n c.args.summaries.now (map (λ v. v.items) c.args.links.now.items) c.args.t c.args.spill.b c.requires.so_far c.requires.t c.in-Some-ground_rim_point.ensures.some.there.number) in
     let many = length-map c.args.links.now.items (λ v. v.items) in
     (omega (arith, c.args.links.now.ok.0), omega (arith, c.args.links.now.ok.0))
-
-pub returns-clause-still : goal.returns-clause-still
-returns-clause-still c x y level has = c.in_ok-add_between.ensures.back.others x y level (c.in_ok-add_between.ensures.there.others x y level has)

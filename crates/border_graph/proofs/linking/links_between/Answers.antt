@@ -4,8 +4,8 @@ use Rattle.border_graph.proofs.linking.links_between.Goals as goal
 
 pub loop-t-preserved : goal.loop-t-preserved
 loop-t-preserved c = record {
-  so_far = c.in_ok-link_tile.ensures.so_far;
-  listed = tiles_more c.args.side c.args.summaries.now (map (λ v. v.items) c.loop-t.links.items) (map (λ v. v.items) c.link_tile.new.links.items) c.loop-t.t c.in_ok-link_tile.ensures.still c.loop-t.invariant.listed c.in_ok-link_tile.ensures.listed;
+  so_far = c.in_ok-link_tile.ensures.grown.so_far;
+  listed = tiles_more c.args.side c.args.summaries.now (map (λ v. v.items) c.loop-t.links.items) (map (λ v. v.items) c.link_tile.new.links.items) c.loop-t.t c.in_ok-link_tile.ensures.grown.still c.loop-t.invariant.listed c.in_ok-link_tile.ensures.listed;
 }
 
 pub returns-clause-linked : goal.returns-clause-linked

@@ -5,10 +5,10 @@ use Rattle.border_graph.proofs.sharing.link_shared.Goals as goal
 
 pub loop-corner-preserved : goal.loop-corner-preserved
 loop-corner-preserved c = record {
-  so_far = c.in_ok-link_to_tile.ensures.so_far;
-  still = λ x y level has. c.in_ok-link_to_tile.ensures.still x y level (c.loop-corner.invariant.still x y level has);
+  so_far = c.in_ok-link_to_tile.ensures.grown.so_far;
+  still = λ x y level has. c.in_ok-link_to_tile.ensures.grown.still x y level (c.loop-corner.invariant.still x y level has);
   listed = shared_more c.args.side c.args.summaries.now (map (λ v. v.items) c.loop-corner.links.items) (map (λ v. v.items) c.link_to_tile.new.links.items) c.args.t c.args.k c.as_slice-corner-items.result.now c.loop-corner.corner-index c.corner-item.result
-      c.loop-corner-test.true c.corner-item.is c.in_ok-link_to_tile.ensures.still c.loop-corner.invariant.listed c.in_ok-link_to_tile.ensures.listed;
+      c.loop-corner-test.true c.corner-item.is c.in_ok-link_to_tile.ensures.grown.still c.loop-corner.invariant.listed c.in_ok-link_to_tile.ensures.listed;
 }
 
 pub returns-clause-listed : goal.returns-clause-listed

@@ -81,8 +81,8 @@ module _ (c : After-add) where
       c.if-u-t.false (subst (λ n. c.node_number-from.result ≡ node_number n (Rim c.args.t c.args.k)) n_is c.node_number-from.ensures) (to_z-of_z w16 c.in-Some.here.height fits) fits
       (subst (λ to. IsAddedTo old new to link) to_is added)
 
-pub returns-clause-so_far : goal.returns-clause-so_far
-returns-clause-so_far c = (both (goal.at.returns-clause-so_far c).After-add c.in_ok-add.ensures).0
+pub returns-clause-grown : goal.returns-clause-grown
+returns-clause-grown c = record { so_far = (both (goal.at.returns-clause-grown c).After-add c.in_ok-add.ensures).0; still = c.in_ok-add.ensures.others }
 
 pub returns-clause-listed : goal.returns-clause-listed
 returns-clause-listed c = (both (goal.at.returns-clause-listed c).After-add c.in_ok-add.ensures).1
@@ -92,6 +92,3 @@ returns-in_default-clause-listed c order u l level at here there shared = absurd
 
 pub returns-in_default-tile_at-clause-listed : goal.returns-in_default-tile_at-clause-listed
 returns-in_default-tile_at-clause-listed c order u l level at here there shared = absurd (c.in_default-tile_at.ensures.none order u there.tile at)
-
-pub returns-clause-still : goal.returns-clause-still
-returns-clause-still c = c.in_ok-add.ensures.others
