@@ -33,7 +33,7 @@ AreFewTiles n tiles = 9 < tiles → tiles * (n * n) ≤ 134217728
 
 -- of a mosaic of so many samples at most it is held where all points drain: while that is found, each takes ten bytes
 abbrev pub most_samples : ℕ
-most_samples = 27262976
+most_samples = 54525952
 
 abbrev pub AreFewSamples : Directions → Type 0
 AreFewSamples directions = length directions.drains ≤ most_samples

@@ -18,7 +18,7 @@ use std::alloc::Global;
 use tile_labellings::Labellings;
 
 // So many samples at most: while their directions are found, each takes ten bytes.
-const MOST_SAMPLES: usize = 26 << 20;
+const MOST_SAMPLES: usize = 52 << 20;
 
 // A search may reach a point for so many samples: by then it has taken a third of the time that all directions take, which
 // serve all questions until a change.
