@@ -25,7 +25,9 @@ use Rattle.flow_d8.specs.DeepFlows.{IsTileOf}
 use Rattle.flow_d8.specs.Filled.{IsFilledOf}
 use Rattle.flow_d8.proofs.Nearby.{level_ground}
 use Rattle.tile_flood.specs.Raising.{AreRimLevels, AreTileLevels}
-use Rattle.drainage.proofs.Questioned.{answered, wanting}
+use Rattle.catalogue.proofs.Asking.{asked_on, asked_passed}
+use Rattle.catalogue.proofs.Reading.{reads_on}
+use Rattle.drainage.proofs.Questioned.{asked_reads, answered, refused_by, wanting}
 use Rattle.drainage.specs.Everywhere.{IsLevelOrVoid, AreRimLevelsTo, AreLevelsOf}
 
 pub level_or_void_is : (m : Mosaic) (p : Point) (found : Option ℤ) (level : ℤ) → MatchOption found (level ≡ void) (λ l. level ≡ l) → MatchOption found (IsFalse (is_ground m p)) (λ l. IsFilledLevel (terrain m) p l) → IsLevelOrVoid m p level
@@ -146,3 +148,13 @@ tile_of m c t n corners levels sinks are side only low here declared = record {
 pub short_of_memory : {S T : Type 0} (g : Ghosts S) (a b : S) (result : Result T Refusal) → OnlyReads {T = Unit {0}} g a b (Ok tt) → IfErr result (λ r. r ≡ NoMemory) → Asked g a b result
 short_of_memory {S} {T} g a b (Ok x) reads none = answered g a b x reads
 short_of_memory {S} {T} g a b (Err r) reads none = subst (λ (x : Refusal). Asked {T = T} g a b (Err x)) (sym none) (wanting g a b reads)
+
+-- the same after one question more, which was answered
+pub short_after : {S T U : Type 0} (g : Ghosts S) (keeps_on : (a b c : S) → g.keeps a b → g.keeps b c → g.keeps a c) (a b c : S) (x : U) (result : Result T Refusal) → OnlyReads {T = Unit {0}} g a b (Ok tt) → Asked g b c (Ok x)
+    → IfErr result (λ r. r ≡ NoMemory) → Asked g a c result
+short_after g keeps_on a b c x result reads last none = short_of_memory g a c result (reads_on g keeps_on a b c tt (Ok tt) reads (asked_reads g b c x last)) none
+
+-- .. which was refused
+pub refused_after : {S T U : Type 0} (g : Ghosts S) (keeps_on : (a b c : S) → g.keeps a b → g.keeps b c → g.keeps a c) (a b c : S) (result : Result T Refusal) (was r : Refusal) → result ≡ Err was → was ≡ r
+    → OnlyReads {T = Unit {0}} g a b (Ok tt) → Asked {T = U} g b c (Err r) → Asked g a c result
+refused_after g keeps_on a b c result was r is same reads last = refused_by g a c result was r is same (asked_passed g a c r (asked_on g keeps_on a b c (tt {0}) (Err r) reads last))

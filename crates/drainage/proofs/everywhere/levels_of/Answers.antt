@@ -1,16 +1,15 @@
-use Rattle.std.proofs.Common.{rules, ◌≡◌, ◌++◌, ℤ, List, Ok, Err, length, sym, ap, ◌∙◌, subst, arith}
+use Rattle.std.proofs.Common.{rules, ◌≡◌, ◌++◌, ℤ, List, Ok, length, sym, ap, ◌∙◌, subst, arith}
 use Rattle.std.specs.Prelude.{IfErr}
 use Rattle.std.proofs.lemmas.Result.{err_from_is_err_and}
 use Rattle.lattice.specs.Corners.{Corner}
 use Rattle.lattice.specs.Mosaic.{Mosaic}
 use Rattle.lattice.specs.declared.refusal.Refusal.TheVariants.{NoMemory}
 use Rattle.border_graph.specs.Others.{corner_at}
-use Rattle.catalogue.proofs.Asking.{asked_on, asked_passed}
 use Rattle.catalogue.proofs.Reading.{reads_nothing, reads_on}
 use Rattle.tile_flood.specs.Raising.{AreTileLevels}
 use Rattle.drainage.specs.Everywhere.{AreLevelsOf}
-use Rattle.drainage.proofs.AllLevels.{no_tiles, tile_more, short_of_memory}
-use Rattle.drainage.proofs.Questioned.{asked_reads, answered, refused_by}
+use Rattle.drainage.proofs.AllLevels.{no_tiles, tile_more, short_of_memory, short_after, refused_after}
+use Rattle.drainage.proofs.Questioned.{asked_reads, answered}
 use Rattle.drainage.proofs.everywhere.levels_of.Goals as goal
 
 pub loop-t-init : goal.loop-t-init
@@ -48,21 +47,12 @@ returns-in_err-levels-clause-asked g c =
 
 pub returns-in_err-tile-clause-asked : goal.returns-in_err-tile-clause-asked
 returns-in_err-tile-clause-asked g c =
-    let a = c.args.samples.now in
-    let b = c.loop-t.samples in
-    let d = c.levels_at.new.samples in
-    let r = c.in_err-tile.field-0.0 in
     let p = err_from_is_err_and c.from_residual-in_err-tile.result c.from_residual-in_err-tile.ensures.1 in
-    refused_by g.S.Samples a d c.from_residual-in_err-tile.result p.0 r p.1 p.2
-    (asked_passed g.S.Samples a d r (asked_on g.S.Samples g.met.S.Samples.keeps_on a b d (tt {0}) (Err r) c.loop-t.invariant.reads c.in_err-tile.ensures.asked))
+    refused_after g.S.Samples g.met.S.Samples.keeps_on c.args.samples.now c.loop-t.samples c.levels_at.new.samples c.from_residual-in_err-tile.result p.0 c.in_err-tile.field-0.0 p.1 p.2 c.loop-t.invariant.reads c.in_err-tile.ensures.asked
 
 pub returns-in_err-append-clause-asked : goal.returns-in_err-append-clause-asked
 returns-in_err-append-clause-asked g c =
-    let a = c.args.samples.now in
-    let d = c.levels_at.new.samples in
-    let memory : IfErr c.from_residual-in_err-append.result (λ r. r ≡ NoMemory) = search rules in
-    short_of_memory g.S.Samples a d c.from_residual-in_err-append.result
-    (reads_on g.S.Samples g.met.S.Samples.keeps_on a c.loop-t.samples d tt (Ok tt) c.loop-t.invariant.reads (asked_reads g.S.Samples c.loop-t.samples d _ c.in_ok-tile.ensures.asked)) memory
+    short_after g.S.Samples g.met.S.Samples.keeps_on c.args.samples.now c.loop-t.samples c.levels_at.new.samples _ c.from_residual-in_err-append.result c.loop-t.invariant.reads c.in_ok-tile.ensures.asked (search rules)
 
 pub returns-clause-levels : goal.returns-clause-levels
 returns-clause-levels g c honest =

@@ -1,4 +1,4 @@
-use Rattle.std.proofs.Common.{rules, SFits, w16, to_z, of_z, ◌≡◌, ◌*◌, ◌-◌, ℤ, List, Ok, Err, sym, ap, ◌∙◌, subst, arith}
+use Rattle.std.proofs.Common.{rules, SFits, w16, to_z, of_z, ◌≡◌, ◌*◌, ◌-◌, ℤ, List, Ok, sym, ap, ◌∙◌, subst, arith}
 use Rattle.std.specs.Prelude.{IfErr}
 use Rattle.std.proofs.lemmas.Int.{to_z-of_z}
 use Rattle.std.proofs.lemmas.Result.{err_from_is_err_and}
@@ -6,11 +6,10 @@ use Rattle.lattice.specs.Lattice.{point_of}
 use Rattle.lattice.specs.Mosaic.{Mosaic}
 use Rattle.lattice.specs.RimPoints.{IsRimPoint}
 use Rattle.lattice.specs.declared.refusal.Refusal.TheVariants.{NoMemory}
-use Rattle.catalogue.proofs.Asking.{asked_on, asked_passed}
 use Rattle.catalogue.proofs.Reading.{reads_nothing, reads_on}
 use Rattle.drainage.specs.Everywhere.{AreRimLevelsTo, IsLevelOrVoid}
-use Rattle.drainage.proofs.AllLevels.{no_rim, rim_more, rim_whole, short_of_memory}
-use Rattle.drainage.proofs.Questioned.{asked_reads, answered, refused_by}
+use Rattle.drainage.proofs.AllLevels.{no_rim, rim_more, rim_whole, short_of_memory, short_after, refused_after}
+use Rattle.drainage.proofs.Questioned.{asked_reads, answered}
 use Rattle.drainage.proofs.tile_levels.rim_levels.Goals as goal
 
 pub loop-number-init : goal.loop-number-init
@@ -53,21 +52,12 @@ returns-in_err-rim-clause-asked g c =
 
 pub returns-in_err-level-clause-asked : goal.returns-in_err-level-clause-asked
 returns-in_err-level-clause-asked g c =
-    let a = c.args.samples.now in
-    let b = c.loop-number.samples in
-    let d = c.level_of.new.samples in
-    let r = c.in_err-level.field-0.0 in
     let p = err_from_is_err_and c.from_residual-in_err-level.result c.from_residual-in_err-level.ensures.1 in
-    refused_by g.S.Samples a d c.from_residual-in_err-level.result p.0 r p.1 p.2
-    (asked_passed g.S.Samples a d r (asked_on g.S.Samples g.met.S.Samples.keeps_on a b d (tt {0}) (Err r) c.loop-number.invariant.reads c.in_err-level.ensures.asked))
+    refused_after g.S.Samples g.met.S.Samples.keeps_on c.args.samples.now c.loop-number.samples c.level_of.new.samples c.from_residual-in_err-level.result p.0 c.in_err-level.field-0.0 p.1 p.2 c.loop-number.invariant.reads c.in_err-level.ensures.asked
 
 pub returns-in_err-push-clause-asked : goal.returns-in_err-push-clause-asked
 returns-in_err-push-clause-asked g c =
-    let a = c.args.samples.now in
-    let d = c.level_of.new.samples in
-    let memory : IfErr c.from_residual-in_err-push.result (λ r. r ≡ NoMemory) = search rules in
-    short_of_memory g.S.Samples a d c.from_residual-in_err-push.result
-    (reads_on g.S.Samples g.met.S.Samples.keeps_on a c.loop-number.samples d tt (Ok tt) c.loop-number.invariant.reads (asked_reads g.S.Samples c.loop-number.samples d _ c.in_ok-level.ensures.asked)) memory
+    short_after g.S.Samples g.met.S.Samples.keeps_on c.args.samples.now c.loop-number.samples c.level_of.new.samples _ c.from_residual-in_err-push.result c.loop-number.invariant.reads c.in_ok-level.ensures.asked (search rules)
 
 pub returns-clause-levels : goal.returns-clause-levels
 returns-clause-levels g c honest =
