@@ -94,7 +94,7 @@ fn listing_page(format: Format, plane: &PagedPlane, i: usize) -> [u8; 4096]
     }
 }
 
-// The number of such a page, where it is written; the plane is this one of the corner's staged tile.
+// Which page of the disk the listing page `i` is written to, of this plane of the corner's staged tile; None where it isn't due.
 fn page_due(
     page_map: &PageMap,
     which: Listings,
