@@ -136,6 +136,14 @@ impl DrainageCache {
         flows.way(point)
     }
 
+    // How many tiles the mosaic has. The samples may have to count them.
+    pub(crate) fn count_tiles<S: Samples>(&self, samples: &S) -> usize {
+        match &self.tile_cache {
+            Some(tile_cache) => tile_cache.rim_graph.corners.len(),
+            None => samples.count(),
+        }
+    }
+
     // Where all points drain, where that was learnt.
     pub(crate) fn all_directions(&self) -> Option<&Directions>
         ensures { (m : Mosaic) → IsHeldOf m self.now → IfSome result (λ directions. OnLevels m (λ level. AreDirectionsOf m level directions.now)) }

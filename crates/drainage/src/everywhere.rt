@@ -27,10 +27,8 @@ const SAMPLES_A_POINT: usize = 16;
 // A search that reaches fewer points is never far.
 const NEAR: usize = 1 << 16;
 
-/// How many points a search may reach, before it pays to find where all points drain.
-pub(crate) fn far<S: Labellings>(samples: &S) -> usize {
-    let side = samples.side();
-    let tiles = samples.count();
+/// How many points a search may reach in so many tiles, before it pays to find where all points drain.
+pub(crate) fn far(side: Side, tiles: usize) -> usize {
     if !are_few(side, tiles) {
         return usize::MAX;
     }

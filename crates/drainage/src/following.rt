@@ -118,7 +118,7 @@ impl<S: Labellings> FilledLevels<S> for DrainageCache {
     }
 
     fn far(&self, source: &S) -> usize {
-        far(source)
+        far(source.side(), self.count_tiles(source))
     }
 
     fn learn_all(&mut self, alloc: Global, source: &mut S) -> Result<(), Refusal> {
