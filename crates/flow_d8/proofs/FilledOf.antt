@@ -45,7 +45,7 @@ pub above_void : (height level : ℤ) → is_void height ≡ false → void ≤�
 above_void height level some low le = grind (arith, ints)
 
 -- the corners of tiles hold what the tiles hold
-any_corner : (P Q : Corner → Bool) (n : ℕ) (tiles : List Tile) → All (IsTile n) tiles → ((c : Corner) → IsTrue (is_corner c) → P c ≡ Q c)
+pub any_corner : (P Q : Corner → Bool) (n : ℕ) (tiles : List Tile) → All (IsTile n) tiles → ((c : Corner) → IsTrue (is_corner c) → P c ≡ Q c)
     → list_any P (map (λ (t : Tile). t.corner) tiles) ≡ list_any (λ t. Q t.corner) tiles
 any_corner P Q n [] whole same = refl
 any_corner P Q n (t ∷ rest) whole same = ap₂ ◌||◌ (same t.corner (whole 0 t (omega arith)).corner) (any_corner P Q n rest (λ k d lt. whole (suc k) d (omega arith)) same)

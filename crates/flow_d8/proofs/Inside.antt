@@ -153,7 +153,7 @@ pub deep_number : (f : Filled) → AreLevels f → (p : Point) (k e : ℕ) (c : 
 deep_number f whole p k e c listed in_range index test =
     inside_place f whole p k c e (record { listed = listed; at = λ d. get_or_from_slice_get f.corners k c d listed; in_range = in_range; index = index; inner = deep_inner f.side e test })
 
-tile_and_index : (a number : ℕ) → number / a * a + number % a ≡ number
+pub tile_and_index : (a number : ℕ) → number / a * a + number % a ≡ number
 tile_and_index a number = grind (arith, rows)
 
 -- the same for a point that was read from the number

@@ -45,3 +45,6 @@ pub mod RimMarking
 pub mod RimDrawn
 pub mod TileSurface
 pub mod InsideTold
+pub mod OutsideMarking
+pub mod WindowSurface
+pub mod WindowTold

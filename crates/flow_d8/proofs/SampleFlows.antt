@@ -22,7 +22,7 @@ use Rattle.flow_d8.proofs.Surfaces.{surface_lawful, surface_steps, beside_there,
 use Rattle.flow_d8.proofs.Numbers.{number_past, point_at_number}
 use Rattle.flow_d8.proofs.Inside.{Beside, deep_of, beside_deep}
 
-void_is : (v : ℤ) → not (is_void v) ≡ false → v ≡ void
+pub void_is : (v : ℤ) → not (is_void v) ≡ false → v ≡ void
 void_is v h = grind (arith, ints)
 
 none_there : (t : Terrain Point) (level : Point → ℤ) (p : Point) (flow : LocalFlow) → IsFalse (t.is_ground p) → IsLocalFlow t level p flow → flow ≡ NoGround
@@ -185,15 +185,15 @@ no_flow f number none = record { right = λ p level at. none p level at; site = 
     ground_flat e = cc
 
 -- one more flow
-pub flows_more : (f : Filled) (old new : List LocalFlow) (k : ℕ) (flow : LocalFlow) → length old ≡ k → new ≡ old ++ (flow ∷ []) → ((g : ℕ) → g < k → IsSampleFlow f g (slice_index_or old g NoGround)) → IsSampleFlow f k flow
-    → (g : ℕ) → g < k + 1 → IsSampleFlow f g (slice_index_or new g NoGround)
-flows_more f old new k flow whole is was this g below = elim (cases_eq g k) [
+pub each_more : {A : Type 0} (P : ℕ → A → Type 0) (none : A) (old new : List A) (k : ℕ) (a : A) → length old ≡ k → new ≡ old ++ (a ∷ []) → ((g : ℕ) → g < k → P g (slice_index_or old g none)) → P k a
+    → (g : ℕ) → g < k + 1 → P g (slice_index_or new g none)
+each_more P none old new k a whole is was this g below = elim (cases_eq g k) [
   | inl same ↦
-      let read : slice_index_or new k NoGround ≡ flow = ap (λ l. slice_index_or l k NoGround) is ∙ ap (λ i. slice_index_or (old ++ (flow ∷ [])) i NoGround) (at_end k (length old) whole) ∙ get_or-append-add old (flow ∷ []) 0 NoGround in
-      subst (λ n. IsSampleFlow f n (slice_index_or new n NoGround)) (sym same) (subst (IsSampleFlow f k) (sym read) this)
+      let read : slice_index_or new k none ≡ a = ap (λ l. slice_index_or l k none) is ∙ ap (λ i. slice_index_or (old ++ (a ∷ [])) i none) (at_end k (length old) whole) ∙ get_or-append-add old (a ∷ []) 0 none in
+      subst (λ n. P n (slice_index_or new n none)) (sym same) (subst (P k) (sym read) this)
   | inr other ↦
-      let read : slice_index_or new g NoGround ≡ slice_index_or old g NoGround = ap (λ l. slice_index_or l g NoGround) is ∙ get_or_append_left old (flow ∷ []) NoGround g (omega arith) in
-      subst (IsSampleFlow f g) (sym read) (was g (omega arith))
+      let read : slice_index_or new g none ≡ slice_index_or old g none = ap (λ l. slice_index_or l g none) is ∙ get_or_append_left old (a ∷ []) none g (omega arith) in
+      subst (P g) (sym read) (was g (omega arith))
 ]
   where
     at_end : (k n : ℕ) → n ≡ k → k ≡ n + 0

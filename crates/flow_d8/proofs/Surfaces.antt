@@ -84,15 +84,15 @@ module _ (f : Filled) where
   unfolding adjoins
   adjoins_parts p q h = five_parts (has_level f p) (has_level f q) (not (same_point p q)) (is_near p q) (is_shared f p q) h
 
-  adjoins_from : (p q : Point) → AllFive (has_level f p) (has_level f q) (not (same_point p q)) (is_near p q) (is_shared f p q) → IsTrue (adjoins f p q)
+  pub adjoins_from : (p q : Point) → AllFive (has_level f p) (has_level f q) (not (same_point p q)) (is_near p q) (is_shared f p q) → IsTrue (adjoins f p q)
   unfolding adjoins
   adjoins_from p q h = five_from (has_level f p) (has_level f q) (not (same_point p q)) (is_near p q) (is_shared f p q) h
 
-  shared_both : (p q : Point) → is_shared f p q ≡ is_shared f q p
+  pub shared_both : (p q : Point) → is_shared f p q ≡ is_shared f q p
   unfolding is_shared
   shared_both p q = shared-swap f.side f.corners p q
 
-  shared_held : (p q : Point) → IsTrue (is_shared f p q) → IsTrue (is_held f.side f.corners p)
+  pub shared_held : (p q : Point) → IsTrue (is_shared f p q) → IsTrue (is_held f.side f.corners p)
   unfolding is_shared
   shared_held p q h = both_held f.side f.corners p q h
 

@@ -19,6 +19,7 @@ use Rattle.lattice.specs.Corners.{Corner}
 use Rattle.lattice.specs.Lattice.{IsBefore, Holds, IsIndexOf, index_of}
 use Rattle.lattice.proofs.Samples.{index_is, held_at}
 use Rattle.flow_d8.specs.Filled.{is_holder, is_held, number_of}
+use Rattle.flow_d8.specs.Windows.{IsHeldOutside}
 use Rattle.flow_d8.proofs.Numbers.{seat_of, number-here, number-later, holder_holds, holds_holder}
 use Rattle.lattice.proofs.CornerOrder.{Below, before_says, before_apart, before_not_back}
 use Rattle.lattice.proofs.Rising.{rising_from, rises_at}
@@ -166,7 +167,7 @@ shared_by n corners around p q i k c side exactly small is on at =
     any_at (λ d. is_holder n d p && is_holder n d q) corners k c at (and_from (is_holder n c p) (is_holder n c q) (holds_holder n c p side ((exactly c).0 (i, small, sym is))) on)
 
 -- some corner of the list passes the test
-any_of : (P : Corner → Bool) (corners : List Corner) → IsTrue (list_any P corners) → (c : Corner) × (Contains corners c × (P c ≡ true))
+pub any_of : (P : Corner → Bool) (corners : List Corner) → IsTrue (list_any P corners) → (c : Corner) × (Contains corners c × (P c ≡ true))
 any_of P [] h = absurd (true≢false (sym h))
 any_of P (d ∷ rest) h = elim (cases_Bool (P d)) [
   | inl on ↦ (d, ((0, omega arith, refl), on))
@@ -187,6 +188,26 @@ not_shared n corners around p q i side exactly all passed = elim (cases_Bool (li
       absurd (passed has.0 c (omega (arith, has.1)) (subst (λ (e : Corner). is_holder n e q ≡ true) (sym has.2) both.1) (subst (λ (e : Corner). Contains corners e) (sym has.2) some.1.0))
 ]
 
+-- of the first i holders each that is among the present corners is among the others
+abbrev pub AreWithin : List Corner → List Corner → List Corner → ℕ → Type 0
+AreWithin corners present around i = (j : ℕ) (d : Corner) → j < i → Contains present (get_or around j d) → (Contains corners (get_or around j d) → ⊥) → ⊥
+
+pub within_more : (corners present around : List Corner) (i : ℕ) (c : Corner) → i < length around → c ≡ get_or around i c → (Contains present c → (Contains corners c → ⊥) → ⊥) → AreWithin corners present around i
+    → AreWithin corners present around (i + 1)
+within_more corners present around i c small is here so_far j d lt = elim (cases_eq j i) [
+  | inl last ↦
+      let same : get_or around j d ≡ c = ap (λ k. get_or around k d) last ∙ get_or_default around i d c small ∙ sym is in
+      λ has out. here (subst (λ (e : Corner). Contains present e) same has) (λ listed. out (subst (λ (e : Corner). Contains corners e) (sym same) listed))
+  | inr other ↦ so_far j d (omega arith)
+]
+
+pub none_outside : (n : ℕ) (corners present around : List Corner) (p : Point) → 3 ≤ n → ((d : Corner) → Contains around d ↔ Holds n d p) → (i : ℕ) → length around ≤ i → AreWithin corners present around i
+    → IsHeldOutside n corners present p → ⊥
+none_outside n corners present around p side exactly i all passed held =
+    let c = held.0 in
+    let has = (exactly c).1 (holder_holds n c p side held.1.1.0) in
+    passed has.0 c (omega (arith, has.1)) (subst (λ (e : Corner). Contains present e) (sym has.2) held.1.0) (λ listed. held.1.1.1 (subst (λ (e : Corner). Contains corners e) has.2 listed))
+
 pub some_tile : (N : Type 0) (P : ℕ → Type 0) (r : Option ℕ) → MatchOption r N P → is_some r ≡ true → (k : ℕ) × P k
 some_tile N P None h e = absurd (true≢false (sym e))
 some_tile N P (Some k) h e = (k, h)
@@ -194,3 +215,16 @@ some_tile N P (Some k) h e = (k, h)
 pub no_tile : (N : Type 0) (P : ℕ → Type 0) (r : Option ℕ) → MatchOption r N P → is_some r ≡ false → N
 no_tile N P None h e = h
 no_tile N P (Some k) h e = absurd (true≢false e)
+
+pub listed_tile : (corners : List Corner) (c : Corner) (r : Option ℕ) → MatchOption r (Contains corners c → ⊥) (λ k. slice_get corners k ≡ Some c) → is_some r ≡ true → Contains corners c
+listed_tile corners c r told e =
+    let tile = some_tile (Contains corners c → ⊥) (λ k. slice_get corners k ≡ Some c) r told e in
+    at_place corners tile.0 tile.1
+  where
+    at_place : (cs : List Corner) (k : ℕ) → slice_get cs k ≡ Some c → Contains cs c
+    at_place [] k at = absurd (none-some c at)
+    at_place (d ∷ rest) zero at = (0, omega arith, same at)
+      where
+        same : ◌≡◌ {A = Option Corner} (Some d) (Some c) → d ≡ c
+        same e = cc
+    at_place (d ∷ rest) (suc k) at = let later = at_place rest k at in (suc later.0, omega (arith, later.1), later.2)

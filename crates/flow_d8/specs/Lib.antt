@@ -27,3 +27,5 @@ pub mod Feeders
 pub mod DeepFlows
 pub mod RimMarks
 pub mod TileFlows
+pub mod Windows
+pub mod OutsideMarks

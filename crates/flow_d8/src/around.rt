@@ -1,9 +1,8 @@
-//! The numbers of the samples around a point on a flat.
+//! The numbers of the samples around a point.
 ghost use Rattle.std.specs.Prelude.{◌≡◌, ◌<◌, ◌*◌, ◌%◌, Some, true, IsTrue, map, length};
 ghost use Rattle.lattice.specs.declared.point.Point.{Point};
 ghost use Rattle.lattice.specs.Steps.{directions};
-ghost use Rattle.flow_d8.specs.Propagation.{IsOnFlat};
-ghost use Rattle.flow_d8.specs.Crossing.{AreLocalFlows, AreAround};
+ghost use Rattle.flow_d8.specs.Crossing.{AreLocalFlows, AreAround, HasSite};
 ghost use Rattle.flow_d8.specs.Filled.{is_deep};
 ghost use Rattle.flow_d8.specs.Places.{place_by};
 ghost use Rattle.flow_d8.specs.Surface.{number_in, has_level};
@@ -21,7 +20,7 @@ pub(crate) fn numbers_around(
 ) -> [Option<usize>; 8]
     requires flows { AreLocalFlows filled.now flows.now }
     requires number { number < length flows.now }
-    requires flat { IsOnFlat flows.now number }
+    requires site { HasSite filled.now number }
     ensures { (p : Point) → IsTrue (has_level filled.now p) → number_in filled.now p ≡ number → AreAround filled.now p result }
 {
     let _levels = filled.levels();

@@ -23,6 +23,9 @@
 //! nearest first, until one of them drains. A flow path goes on to that point by the way that this search found.
 //! `direction_over` is for many questions: it searches each flat whole, once, and holds the distances of its points
 //! (`Flats`). A search that goes far has the directions of all points learnt, where these are few enough.
+//!
+//! `Filled::window_flows` finds, from the filled levels of some of a mosaic's tiles, where those of their points drain of which
+//! these levels alone tell it. `TileFlows` holds it tile by tile.
 #![tactic(auto)]
 
 mod around;
@@ -44,6 +47,7 @@ mod local_flow;
 mod nearer;
 mod numbering;
 mod one_direction;
+mod outside_marks;
 mod point_flow;
 mod point_square;
 mod point_table;
@@ -54,6 +58,7 @@ mod seen;
 mod slopes;
 mod tile_flows;
 mod tile_place;
+mod window_flows;
 
 pub use directions::Directions;
 pub use filled::Filled;

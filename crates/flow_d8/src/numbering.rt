@@ -1,9 +1,10 @@
 //! Where in a list of samples, tile after tile, a point lies.
-ghost use Rattle.std.specs.Prelude.{◌≡◌, ◌≤◌, ◌*◌, ◌<◌, ◌&&◌, IsTrue, SomeIff, MatchOption, IfSome, Some, Contains, length, slice_get};
+ghost use Rattle.std.specs.Prelude.{◌≡◌, ◌↔◌, ◌≤◌, ◌*◌, ◌<◌, ◌&&◌, IsTrue, SomeIff, MatchOption, IfSome, Some, Contains, length, slice_get};
 ghost use Rattle.std.specs.List.{AllAdjacentBelow, list_any};
 ghost use Rattle.lattice.specs.Limits.{most_tiles};
 ghost use Rattle.lattice.specs.Lattice.{IsBefore};
 ghost use Rattle.flow_d8.specs.Filled.{is_held, is_holder, number_of};
+ghost use Rattle.flow_d8.specs.Windows.{IsHeldOutside};
 
 use lattice::{Corner, Point, Side, holders, index_in};
 
@@ -39,6 +40,35 @@ pub(crate) fn share_tile(side: Side, corners: &[Corner], point: Point, other: Po
     false
 }
 
+/// Whether a tile with one of the present corners holds the point that has none of the other corners. Both are in the order of
+/// tiles.
+pub(crate) fn is_held_outside(
+    side: Side,
+    corners: &[Corner],
+    present: &[Corner],
+    point: Point,
+) -> bool
+    requires corners { AllAdjacentBelow IsBefore corners.now (length corners.now) }
+    requires present { AllAdjacentBelow IsBefore present.now (length present.now) }
+    ensures { IsTrue result ↔ IsHeldOutside side corners.now present.now point }
+{
+    let _low = side.edge();
+    let around = holders(side, point);
+    for corner in around.as_slice() {
+        if !is_listed(corners, *corner) && is_listed(present, *corner) {
+            return true;
+        }
+    }
+    false
+}
+
+fn is_listed(corners: &[Corner], corner: Corner) -> bool
+    requires { AllAdjacentBelow IsBefore corners.now (length corners.now) }
+    ensures { IsTrue result ↔ Contains corners.now corner }
+{
+    tile_of(corners, corner).is_some()
+}
+
 fn holds_point(side: Side, corner: Corner, point: Point) -> bool
     ensures { result ≡ is_holder side corner point }
 {
@@ -46,8 +76,8 @@ fn holds_point(side: Side, corner: Corner, point: Point) -> bool
     index_in(side, corner, point).is_some()
 }
 
-// Where among the corners this one stands.
-fn tile_of(corners: &[Corner], corner: Corner) -> Option<usize>
+/// Where among the corners this one stands.
+pub(crate) fn tile_of(corners: &[Corner], corner: Corner) -> Option<usize>
     requires { AllAdjacentBelow IsBefore corners.now (length corners.now) }
     ensures found { MatchOption result (Contains corners.now corner → ⊥) (λ k. slice_get corners.now k ≡ Some corner) }
     ensures within { IfSome result (λ k. k < length corners.now) }

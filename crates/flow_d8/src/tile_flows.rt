@@ -1,5 +1,6 @@
 //! Where the points of one tile drain, in a byte each.
-ghost use Rattle.std.specs.Prelude.{◌≡◌, ◌+◌, ◌*◌, ◌^◌, ◌<◌, ◌≤◌, IsTrue, IfOk, OnOk, IfSome, MatchOption, Option, Some, length, map, slice_index_or};
+ghost use Rattle.std.specs.Prelude.{◌≡◌, ◌+◌, ◌*◌, ◌^◌, ◌<◌, ◌≤◌, IsTrue, IfOk, OnOk, IfSome, MatchOption, Option, Some, List, length, map, slice_index_or};
+ghost use Rattle.lattice.specs.Corners.{Corner};
 ghost use Rattle.lattice.specs.Lattice.{IsIndexOf};
 ghost use Rattle.lattice.specs.Mosaic.{Mosaic, IsMosaic};
 ghost use Rattle.lattice.specs.Ground.{terrain};
@@ -12,6 +13,7 @@ ghost use Rattle.flow_d8.specs.Flow.{way_of};
 ghost use Rattle.flow_d8.specs.LevelsAround.{OnLevels};
 ghost use Rattle.flow_d8.specs.Places.{back_of};
 ghost use Rattle.flow_d8.specs.Way.{IsWay};
+ghost use Rattle.flow_d8.specs.Windows.{AreWindowFlows, HasWindow};
 ghost use Rattle.flow_d8.specs.declared.flow.Flow.TheVariants.{Unknown};
 
 use crate::deep_flows::learn_deep;
@@ -20,6 +22,7 @@ use crate::filled::Filled;
 use crate::flow::Flow;
 use crate::inside_flows::learn_inside;
 use crate::tile_place::places_around;
+use crate::window_flows::take_told;
 use arrayvec::ArrayVec;
 use lattice::{Corner, DIRECTIONS, Dir, Point, Side, index_in, neighbour};
 use std::alloc::{AllocError, Global};
@@ -93,6 +96,19 @@ impl TileFlows {
             learn_tile(alloc, filled, &mut self.flows)
         } else {
             Ok(())
+        }
+    }
+
+    /// Learns what the bytes of a window's samples tell of this tile's points, where the tile is one of that window's.
+    pub fn learn_window(&mut self, window: &Filled, flows: &[Flow])
+        ensures side { self.new.side ≡ self.old.side }
+        ensures corner { self.new.corner ≡ self.old.corner }
+        ensures flows { (present : List Corner) (m : Mosaic) → AreWindowFlows present window.now flows.now → HasWindow present window.now m → AreFlowsIn m self.old → AreFlowsIn m self.new }
+    {
+        if self.side == window.side() && flows.len() == window.levels().len() {
+            if let Some(first) = window.first_of(self.corner) {
+                take_told(flows, first, &mut self.flows);
+            }
         }
     }
 

@@ -2,7 +2,7 @@ use Rattle.std.proofs.Common.{IsTrue, sym, ap, ◌∙◌, subst, arith}
 use Rattle.flow_d8.specs.Surface.{has_level, around_of}
 use Rattle.flow_d8.specs.Crossing.{AreAround}
 use Rattle.flow_d8.proofs.Surfaces.{level_held}
-use Rattle.flow_d8.proofs.Spreading.{flat_site, around_inside, around_edges}
+use Rattle.flow_d8.proofs.Spreading.{around_inside, around_edges}
 use Rattle.flow_d8.proofs.around.numbers_around.Goals as goal
 
 pub numbers_inside-requires-clause-deep : goal.numbers_inside-requires-clause-deep
@@ -11,7 +11,7 @@ numbers_inside-requires-clause-deep c = (c.requires.flows.each c.args.number (om
 pub around-requires : goal.around-requires
 around-requires c =
     let f = c.args.filled.now in
-    let s = flat_site f c.args.flows.now c.requires.flows c.args.number c.requires.flat in
+    let s = c.requires.site in
     subst (λ p. IsTrue (has_level f p)) (sym (c.point.ensures.first s.0 (level_held f c.requires.flows.valid s.0 s.1.0) s.1.1)) s.1.0
 
 pub returns-then-is_flat : goal.returns-then-is_flat

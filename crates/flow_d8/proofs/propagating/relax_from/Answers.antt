@@ -63,8 +63,8 @@ overflow_add-far c =
 pub numbers_around-around-requires-clause-number : goal.numbers_around-around-requires-clause-number
 numbers_around-around-requires-clause-number c = on_flat_within c.args.filled.now c.args.flows.now c.requires.flows _ (taken c.args.filled.now c.args.flows.now c.requires.flows c.args.distances.now c.args.queue.now c.args.next.now.items c.args.head c.requires.head c.requires.propagating).flat
 
-pub numbers_around-around-requires-clause-flat : goal.numbers_around-around-requires-clause-flat
-numbers_around-around-requires-clause-flat c = (taken c.args.filled.now c.args.flows.now c.requires.flows c.args.distances.now c.args.queue.now c.args.next.now.items c.args.head c.requires.head c.requires.propagating).flat
+pub numbers_around-around-requires-clause-site : goal.numbers_around-around-requires-clause-site
+numbers_around-around-requires-clause-site c = flat_site c.args.filled.now c.args.flows.now c.requires.flows _ (taken c.args.filled.now c.args.flows.now c.requires.flows c.args.distances.now c.args.queue.now c.args.next.now.items c.args.head c.requires.head c.requires.propagating).flat
 
 pub loop-i-init : goal.loop-i-init
 loop-i-init c =
