@@ -1,6 +1,6 @@
 -- The filled levels of all tiles, found one after another.
 use Rattle.std.proofs.Common.{◌≡◌, ℕ, ◌+◌, ◌*◌, ◌-◌, ◌<◌, ℤ, pos, IsTrue, IsFalse, Option, Some, None, List, [], ◌∷◌, ◌++◌, length, get_or, inl, inr, refl, sym, ap, ◌∙◌, subst, arith, true≢false}
-use Rattle.std.specs.Prelude.{Result, Ok, Err, IfErr, MatchOption, slice_index_or, slice_get}
+use Rattle.std.specs.Prelude.{Contains, Result, Ok, Err, IfErr, MatchOption, slice_index_or, slice_get}
 use Rattle.std.proofs.lemmas.Bool.{cases_eq}
 use Rattle.std.proofs.lemmas.Grind.{rows}
 use Rattle.std.proofs.lemmas.List.{get_or-append-add, get_or_append_left, get_or_default, length-append}
@@ -23,12 +23,13 @@ use Rattle.catalogue.specs.Tiles.{corners_of}
 use Rattle.catalogue.specs.declared.samples.Samples.{Ghosts}
 use Rattle.flow_d8.specs.DeepFlows.{IsTileOf}
 use Rattle.flow_d8.specs.Filled.{IsFilledOf}
+use Rattle.flow_d8.specs.Windows.{HasWindow}
 use Rattle.flow_d8.proofs.Nearby.{level_ground}
 use Rattle.tile_flood.specs.Raising.{AreRimLevels, AreTileLevels}
 use Rattle.catalogue.proofs.Asking.{asked_on, asked_passed}
 use Rattle.catalogue.proofs.Reading.{reads_on}
 use Rattle.drainage.proofs.Questioned.{asked_reads, answered, refused_by, wanting}
-use Rattle.drainage.specs.Everywhere.{IsLevelOrVoid, AreRimLevelsTo, AreLevelsOf}
+use Rattle.drainage.specs.Everywhere.{IsLevelOrVoid, AreRimLevelsTo, AreLevelsAt, AreLevelsOf, ArePresent}
 
 pub level_or_void_is : (m : Mosaic) (p : Point) (found : Option ℤ) (level : ℤ) → MatchOption found (level ≡ void) (λ l. level ≡ l) → MatchOption found (IsFalse (is_ground m p)) (λ l. IsFilledLevel (terrain m) p l) → IsLevelOrVoid m p level
 level_or_void_is m p (Some l) level same filled = record {
@@ -88,28 +89,28 @@ one_tile : (t a : ℕ) → t * a + a ≡ (t + 1) * a
 one_tile t a = grind (arith, rows)
 
 module _ (m : Mosaic) where
-  pub no_tiles : AreLevelsOf m 0 []
-  no_tiles = record { whole = none (m.side * m.side); each = λ t e below. absurd (omega arith) }
+  pub no_tiles : (corners : List Corner) → AreLevelsAt m corners 0 []
+  no_tiles corners = record { whole = none (m.side * m.side); each = λ t e below. absurd (omega arith) }
     where
       none : (a : ℕ) → 0 ≡ 0 * a
       none a = omega arith
 
   -- one more tile
-  pub tile_more : (old tile new : List ℤ) (t : ℕ) → new ≡ old ++ tile → AreTileLevels m (corner_at (corners_of m) t) tile → AreLevelsOf m t old → AreLevelsOf m (t + 1) new
-  tile_more old tile new t grown here are = record {
+  pub tile_more : (corners : List Corner) (old tile new : List ℤ) (t : ℕ) → new ≡ old ++ tile → AreTileLevels m (corner_at corners t) tile → AreLevelsAt m corners t old → AreLevelsAt m corners (t + 1) new
+  tile_more corners old tile new t grown here are = record {
     whole = ap (λ (l : List ℤ). length l) grown ∙ (length-append old tile ∙ (ap (λ i. i + length tile) are.whole ∙ (ap (λ i. t * (m.side * m.side) + i) here.whole ∙ one_tile t (m.side * m.side))));
     each = λ u e below inside. elim (cases_eq u t) [
       | inl same ↦
           let read : slice_index_or new (t * (m.side * m.side) + e) void ≡ slice_index_or tile e void =
           ap (λ (l : List ℤ). get_or l (t * (m.side * m.side) + e) void) grown
           ∙ (ap (λ i. get_or (old ++ tile) (i + e) void) (sym are.whole) ∙ get_or-append-add old tile e void) in
-          let this : IsLevelOrVoid m (point_of m.side (corner_at (corners_of m) t) e) (slice_index_or tile e void) =
+          let this : IsLevelOrVoid m (point_of m.side (corner_at corners t) e) (slice_index_or tile e void) =
           record { on_ground = here.filled e inside; elsewhere = here.void_points e inside } in
-          subst (λ i. IsLevelOrVoid m (point_of m.side (corner_at (corners_of m) i) e) (slice_index_or new (i * (m.side * m.side) + e) void)) (sym same)
-          (subst (IsLevelOrVoid m (point_of m.side (corner_at (corners_of m) t) e)) (sym read) this)
+          subst (λ i. IsLevelOrVoid m (point_of m.side (corner_at corners i) e) (slice_index_or new (i * (m.side * m.side) + e) void)) (sym same)
+          (subst (IsLevelOrVoid m (point_of m.side (corner_at corners t) e)) (sym read) this)
       | inr other ↦
           let before : u < t = omega arith in
-          subst (IsLevelOrVoid m (point_of m.side (corner_at (corners_of m) u) e))
+          subst (IsLevelOrVoid m (point_of m.side (corner_at corners u) e))
           (sym (earlier_of old tile new (t * (m.side * m.side)) (u * (m.side * m.side) + e) grown are.whole (within u e t (m.side * m.side) before inside))) (are.each u e before inside)
     ];
   }
@@ -131,6 +132,28 @@ module _ (m : Mosaic) where
       elsewhere = λ k e c there below off. (at k e c there below).elsewhere off;
       sinks = declared;
     }
+
+-- so the levels of present tiles are those of a window
+pub are_window : (m : Mosaic) → IsMosaic m → (n : ℕ) (present corners : List Corner) (levels : List ℤ) (sinks : List Point) → AreLevelsAt m corners (length corners) levels → ArePresent present corners (length corners) → n ≡ m.side
+    → present ≡ corners_of m → sinks ≡ m.sinks → HasWindow present (record { side = n; corners = corners; levels = levels; sinks = sinks }) m
+are_window m is n present corners levels sinks are there side all declared = record {
+  mosaic = is;
+  window = record {
+    side = side;
+    present = λ c has. subst (λ (cs : List Corner). Contains cs c) all (subst (λ (d : Corner). Contains present d) (get_or_default corners has.0 (record { lat = pos 0; lon = pos 0 }) c has.1 ∙ has.2) (there has.0 has.1));
+    on_ground = λ k e c listed below solid. (at k e c listed below).on_ground solid;
+    elsewhere = λ k e c listed below off. (at k e c listed below).elsewhere off;
+    sinks = declared;
+  };
+  corners = sym all;
+}
+  where
+    at : (k e : ℕ) (c : Corner) → slice_get corners k ≡ Some c → e < n * n → IsLevelOrVoid m (point_of n c e) (slice_index_or levels (k * (n * n) + e) void)
+    at k e c listed below =
+        let corner : corner_at corners k ≡ c = get_or_from_slice_get corners k c _ listed in
+        subst (λ (d : Corner). IsLevelOrVoid m (point_of n d e) (slice_index_or levels (k * (n * n) + e) void)) corner
+        (subst (λ s. IsLevelOrVoid m (point_of s (corner_at corners k) e) (slice_index_or levels (k * (s * s) + e) void)) (sym side)
+        (are.each k e (slice_get_within corners k c listed) (subst (λ s. e < s * s) side below)))
 
 -- the levels of one tile are those of the mosaic's tile alone
 pub tile_of : (m : Mosaic) (c : Corner) (t n : ℕ) (corners : List Corner) (levels : List ℤ) (sinks : List Point) → AreTileLevels m c levels → n ≡ m.side → corners ≡ c ∷ [] → t < length (corners_of m) → corner_at (corners_of m) t ≡ c → sinks ≡ m.sinks

@@ -1,5 +1,5 @@
 -- The filled levels of all tiles, one after another.
-use Rattle.std.specs.Prelude.{◌≡◌, ℕ, ◌+◌, ◌*◌, ◌<◌, ℤ, IsTrue, IsFalse, List, length, slice_index_or}
+use Rattle.std.specs.Prelude.{◌≡◌, ℕ, ◌+◌, ◌*◌, ◌<◌, ℤ, IsTrue, IsFalse, List, Contains, length, slice_index_or}
 use Rattle.lattice.specs.Corners.{Corner}
 use Rattle.lattice.specs.Lattice.{point_of}
 use Rattle.lattice.specs.Ground.{is_ground, terrain}
@@ -20,7 +20,15 @@ pub record AreRimLevelsTo (m : Mosaic) (c : Corner) (count : ℕ) (levels : List
   pub whole : length levels ≡ count
   pub each : (k e : ℕ) → k < count → IsRimPoint m.side k e → IsLevelOrVoid m (point_of m.side c e) (slice_index_or levels k void)
 
--- those of the first tiles, tile after tile
-pub record AreLevelsOf (m : Mosaic) (tiles : ℕ) (levels : List ℤ) : Type 0 where
+-- those of the first tiles with these corners, tile after tile
+pub record AreLevelsAt (m : Mosaic) (corners : List Corner) (tiles : ℕ) (levels : List ℤ) : Type 0 where
   pub whole : length levels ≡ tiles * (m.side * m.side)
-  pub each : (t e : ℕ) → t < tiles → e < m.side * m.side → IsLevelOrVoid m (point_of m.side (corner_at (corners_of m) t) e) (slice_index_or levels (t * (m.side * m.side) + e) void)
+  pub each : (t e : ℕ) → t < tiles → e < m.side * m.side → IsLevelOrVoid m (point_of m.side (corner_at corners t) e) (slice_index_or levels (t * (m.side * m.side) + e) void)
+
+-- those of the first present tiles
+abbrev pub AreLevelsOf : Mosaic → ℕ → List ℤ → Type 0
+AreLevelsOf m tiles levels = AreLevelsAt m (corners_of m) tiles levels
+
+-- each of these tiles is present
+abbrev pub ArePresent : List Corner → List Corner → ℕ → Type 0
+ArePresent present corners tiles = (t : ℕ) → t < tiles → Contains present (corner_at corners t)

@@ -1,5 +1,5 @@
 //! What is found of a mosaic's water, held between two questions.
-ghost use Rattle.std.specs.Prelude.{◌≡◌, None, IfOk, IfErr, IfSome, IfNone};
+ghost use Rattle.std.specs.Prelude.{◌≡◌, None, List, IfOk, IfErr, IfSome, IfNone};
 ghost use Rattle.std.specs.Option.{ForSome};
 ghost use Rattle.lattice.specs.Height.{height_of};
 ghost use Rattle.lattice.specs.Mosaic.{Mosaic, IsMosaic};
@@ -11,6 +11,8 @@ ghost use Rattle.flow_d8.specs.DeepFlows.{IsTileOf};
 ghost use Rattle.flow_d8.specs.Feeders.{AreFeedersOf};
 ghost use Rattle.flow_d8.specs.LevelsAround.{IsNear, OnLevels};
 ghost use Rattle.flow_d8.specs.Way.{IsWay};
+ghost use Rattle.flow_d8.specs.Windows.{AreWindowFlows, HasWindow};
+ghost use Rattle.lattice.specs.Corners.{Corner};
 ghost use Rattle.flow_d8.specs.Directions.{AreDirectionsOf};
 ghost use Rattle.lattice.specs.declared.refusal.Refusal.TheVariants.{NoMemory};
 ghost use Rattle.drainage.specs.Holding.{IsRight};
@@ -18,12 +20,12 @@ ghost use Rattle.drainage.specs.Reaching.{DifferAt, DifferBetween};
 ghost use Rattle.drainage.specs.Room.{AreFewSamples};
 ghost use Rattle.drainage.specs.Spared.{AreLevelsStill, IsNoHigher, IsSetTo};
 
-use crate::flows::Flows;
+use crate::flows::{Flows, present_holder};
 use crate::nearby::near;
 use crate::tile_cache::TileCache;
 use arrayvec::ArrayVec;
 use catalogue::Samples;
-use flow_d8::{Directions, Filled, Near};
+use flow_d8::{Directions, Filled, Flow, Near};
 use lattice::{Corner, Dir, Point, Refusal, Side};
 use std::alloc::Global;
 use tile_flood::Labelled;
@@ -218,6 +220,39 @@ impl DrainageCache {
         };
         flows.learn_tile(alloc, corner, filled);
         self.flows = Some(flows);
+    }
+
+    // Learns where the points of the tiles with these corners drain, as the bytes of a window tell it.
+    pub(crate) fn learn_window(
+        &mut self,
+        alloc: Global,
+        corners: &[Corner],
+        window: &Filled,
+        flows: &[Flow],
+    )
+        ensures { (present : List Corner) (m : Mosaic) → AreWindowFlows present window.now flows.now → HasWindow present window.now m → IsHeldOf m self.old → IsHeldOf m self.new }
+    {
+        let Some(mut known) = self.flows.take() else {
+            return;
+        };
+        known.learn_window(alloc, corners, window, flows);
+        self.flows = Some(known);
+    }
+
+    // The corner of a present tile that holds the point, the first time that a wide flat is to be learnt that comes to it.
+    pub(crate) fn first_wide<S: Samples>(
+        &mut self,
+        alloc: Global,
+        samples: &S,
+        point: Point,
+    ) -> Option<Corner>
+        ensures { (m : Mosaic) → IsHeldOf m self.old → IsHeldOf m self.new }
+    {
+        let corner = present_holder(samples, samples.side(), point)?;
+        let mut flows = self.take_flows(alloc, samples.side());
+        let first = flows.is_first_wide(alloc, corner);
+        self.flows = Some(flows);
+        if first { Some(corner) } else { None }
     }
 
     // Hands out what is held of levels, or that nothing is found yet. None is held then. NoMemory is the only refusal.

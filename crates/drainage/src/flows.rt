@@ -1,5 +1,5 @@
 //! Where the points of tiles drain, as far as questions found it.
-ghost use Rattle.std.specs.Prelude.{◌≡◌, ◌≤◌, ◌<◌, ℕ, IsTrue, IfOk, IfSome, length};
+ghost use Rattle.std.specs.Prelude.{◌≡◌, ◌≤◌, ◌<◌, ℕ, IsTrue, IfOk, IfSome, List, length};
 ghost use Rattle.lattice.specs.Mosaic.{Mosaic, IsMosaic};
 ghost use Rattle.lattice.specs.Ground.{terrain};
 ghost use Rattle.flow_d8.specs.DeepFlows.{IsTileOf};
@@ -7,11 +7,13 @@ ghost use Rattle.flow_d8.specs.Feeders.{AreFeedersOf};
 ghost use Rattle.flow_d8.specs.LevelsAround.{OnLevels};
 ghost use Rattle.flow_d8.specs.TileFlows.{AreFlowsIn};
 ghost use Rattle.flow_d8.specs.Way.{IsWay};
+ghost use Rattle.flow_d8.specs.Windows.{AreWindowFlows, HasWindow};
+ghost use Rattle.lattice.specs.Corners.{Corner};
 ghost use Rattle.drainage.specs.Room.{AreFewTiles};
 
 use arrayvec::ArrayVec;
 use catalogue::Samples;
-use flow_d8::{Filled, TileFlows};
+use flow_d8::{Filled, Flow, TileFlows};
 use lattice::{Corner, Dir, Point, Side, holders};
 use std::alloc::{AllocError, Global};
 
@@ -35,6 +37,8 @@ struct AskedTile {
     alone: u32,
     // Whether all were to be learnt at once.
     tried: bool,
+    // Whether those of a wide flat were, over several tiles.
+    tried_wide: bool,
 }
 
 impl AskedTile {
@@ -46,6 +50,7 @@ impl AskedTile {
             flows: TileFlows::new(alloc, side, corner)?,
             alone: 0,
             tried: false,
+            tried_wide: false,
         })
     }
 
@@ -65,6 +70,19 @@ impl AskedTile {
         ensures { self.new.flows ≡ self.old.flows }
     {
         self.tried = true;
+    }
+
+    fn note_tried_wide(&mut self)
+        ensures { self.new.flows ≡ self.old.flows }
+    {
+        self.tried_wide = true;
+    }
+
+    // Learns what the bytes of a window tell of this tile.
+    fn learn_window(&mut self, window: &Filled, flows: &[Flow])
+        ensures { (present : List Corner) (m : Mosaic) → AreWindowFlows present window.now flows.now → HasWindow present window.now m → AreFlowsIn m self.old.flows → AreFlowsIn m self.new.flows }
+    {
+        self.flows.learn_window(window, flows);
     }
 
     // Learns what the filled levels of the corner's tile tell, where that is this one, as far as there is memory for it.
@@ -202,6 +220,53 @@ impl Flows {
         }
     }
 
+    /// Learns where the points of the tiles with these corners drain, as the bytes of a window tell it, as far as there is
+    /// memory for it.
+    pub(crate) fn learn_window(
+        &mut self,
+        alloc: Global,
+        corners: &[Corner],
+        window: &Filled,
+        flows: &[Flow],
+    )
+        ensures { (present : List Corner) (m : Mosaic) → AreWindowFlows present window.now flows.now → HasWindow present window.now m → AreFlows m self.old → AreFlows m self.new }
+    {
+        for corner in corners {
+            self.learn_of(alloc, *corner, window, flows);
+        }
+    }
+
+    // .. of the corner's tile.
+    fn learn_of(&mut self, alloc: Global, corner: Corner, window: &Filled, flows: &[Flow])
+        ensures { (present : List Corner) (m : Mosaic) → AreWindowFlows present window.now flows.now → HasWindow present window.now m → AreFlows m self.old → AreFlows m self.new }
+    {
+        if let Some(t) = self.place_of(corner) {
+            self.tiles[t].learn_window(window, flows);
+            return;
+        }
+        if let Ok(mut tile) = AskedTile::new(alloc, self.side, corner) {
+            tile.learn_window(window, flows);
+            self.hold(alloc, corner, tile);
+        }
+    }
+
+    /// Whether it is the first time that a wide flat is to be learnt that comes to the corner's tile. It is so once.
+    pub(crate) fn is_first_wide(&mut self, alloc: Global, corner: Corner) -> bool
+        ensures { (m : Mosaic) → AreFlows m self.old → AreFlows m self.new }
+    {
+        if let Some(t) = self.place_of(corner) {
+            let first = !self.tiles[t].tried_wide;
+            self.tiles[t].note_tried_wide();
+            return first;
+        }
+        if let Ok(mut tile) = AskedTile::new(alloc, self.side, corner) {
+            tile.note_tried_wide();
+            self.hold(alloc, corner, tile);
+            return true;
+        }
+        false
+    }
+
     // Holds this of the corner's tile, in place of the tile that was begun the longest ago where there is no room.
     fn hold(&mut self, alloc: Global, corner: Corner, tile: AskedTile)
         ensures { (m : Mosaic) → AreFlowsIn m tile.flows → AreFlows m self.old → AreFlows m self.new }
@@ -299,8 +364,8 @@ fn slot_of(corner: Corner) -> usize {
     lat % 16 * 16 + lon % 16
 }
 
-// The first of the present tiles that hold the point.
-fn present_holder<S: Samples>(samples: &S, side: Side, point: Point) -> Option<Corner> {
+/// The first of the present tiles that hold the point.
+pub(crate) fn present_holder<S: Samples>(samples: &S, side: Side, point: Point) -> Option<Corner> {
     let corners = holders(side, point);
     for corner in corners.as_slice() {
         if samples.present(*corner) {

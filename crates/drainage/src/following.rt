@@ -15,9 +15,10 @@ ghost use Rattle.drainage.specs.Between.{IsHeldFor};
 
 use crate::asking::check_ground;
 use crate::drainage_cache::DrainageCache;
-use crate::everywhere::{far, learn_all};
+use crate::everywhere::{far, far_across, learn_all};
 use crate::filling::level;
 use crate::learning::learn_tile;
+use crate::windows::learn_flat;
 use arrayvec::ArrayVec;
 use catalogue::share_tile;
 use flow_d8::{Directions, FilledLevels, Near, direction_at};
@@ -123,6 +124,14 @@ impl<S: Labellings> FilledLevels<S> for DrainageCache {
 
     fn learn_all(&mut self, alloc: Global, source: &mut S) -> Result<(), Refusal> {
         learn_all(alloc, source, self)
+    }
+
+    fn far_across(&self, source: &S) -> usize {
+        far_across(source.side(), self.count_tiles(source))
+    }
+
+    fn learn_flat(&mut self, alloc: Global, source: &mut S, point: Point) -> Result<(), Refusal> {
+        learn_flat(alloc, source, self, point)
     }
 
     fn feeders(&self, _source: &S, point: Point) -> Option<ArrayVec<Point, 8>> {

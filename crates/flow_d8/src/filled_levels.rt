@@ -83,6 +83,19 @@ pub trait FilledLevels<S> {
         ensures mosaic { is_honest self.new source.new → mosaic self.new source.new ≡ mosaic self.old source.old }
         ensures keeps { OnOk result (keeps self.old source.old self.new source.new) };
 
+    /// How many points of a flat a search may reach, before it pays to learn at once where the points of that flat drain.
+    fn far_across(&self, source: &S) -> usize;
+
+    /// Learns where the points of a wide flat drain, of which this is one: where all points do, if these are few enough, else
+    /// where those of the tiles do over which the flat goes, as far as these are few enough.
+    fn learn_flat(&mut self, alloc: Global, source: &mut S, point: Point) -> Result<(), Refusal>
+        requires { fits self.old source.old }
+        ensures fits { fits self.new source.new }
+        ensures refusal { IfErr result (refuses self.old source.old self.new source.new) }
+        ensures honest { is_honest self.new source.new → is_honest self.old source.old }
+        ensures mosaic { is_honest self.new source.new → mosaic self.new source.new ≡ mosaic self.old source.old }
+        ensures keeps { OnOk result (keeps self.old source.old self.new source.new) };
+
     /// The points that drain straight to this one, each once, where that is at hand. None says nothing.
     fn feeders(&self, source: &S, point: Point) -> Option<ArrayVec<Point, 8>>
         requires { fits self.now source.now }

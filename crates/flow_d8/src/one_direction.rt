@@ -48,7 +48,7 @@ pub fn direction_over<S, L: FilledLevels<S>>(
     if let Some(way) = known_way(alloc, levels, source, point)? {
         return Ok(way);
     }
-    let far = levels.far(source);
+    let far = levels.far_across(source);
     if let Some(way) = find_direction(alloc, levels, source, flats, point, far)? {
         levels.learn(alloc, source, point, way);
         return Ok(way);
@@ -90,7 +90,7 @@ fn far_direction<S, L: FilledLevels<S>>(
     ensures flats { OnOk result (AreFlatsOf L.FilledLevels levels.new source.new flats.new) }
     ensures asked { IsAsked L.FilledLevels levels.old source.old levels.new source.new result }
 {
-    levels.learn_all(alloc, source)?;
+    levels.learn_flat(alloc, source, point)?;
     if let Some(way) = levels.way(source, point) {
         return Ok(way);
     }
@@ -151,7 +151,7 @@ pub(crate) fn steps_on<S, L: FilledLevels<S>>(
     if let Some(way) = known_way(alloc, levels, source, point)? {
         return Ok(one_or_none(alloc, way)?);
     }
-    let far = levels.far(source);
+    let far = levels.far_across(source);
     if let Some(steps) = find_steps(alloc, levels, source, point, far)? {
         learn_along(alloc, levels, source, point, &steps);
         return Ok(steps);
@@ -170,7 +170,7 @@ fn far_steps<S, L: FilledLevels<S>>(
     ensures steps { L.is_honest levels.new source.new → IfOk result (λ steps. AreNext (L.mosaic levels.old source.old) point steps.items) }
     ensures asked { IsAsked L.FilledLevels levels.old source.old levels.new source.new result }
 {
-    levels.learn_all(alloc, source)?;
+    levels.learn_flat(alloc, source, point)?;
     if let Some(way) = levels.way(source, point) {
         return Ok(one_or_none(alloc, way)?);
     }

@@ -5,6 +5,7 @@ use Rattle.lattice.specs.Corners.{Corner}
 use Rattle.lattice.specs.Mosaic.{Mosaic}
 use Rattle.lattice.specs.declared.refusal.Refusal.TheVariants.{NoMemory}
 use Rattle.border_graph.specs.Others.{corner_at}
+use Rattle.catalogue.specs.Tiles.{corners_of}
 use Rattle.catalogue.proofs.Reading.{reads_nothing, reads_on}
 use Rattle.tile_flood.specs.Raising.{AreTileLevels}
 use Rattle.drainage.specs.Everywhere.{AreLevelsOf}
@@ -16,7 +17,7 @@ pub loop-t-init : goal.loop-t-init
 loop-t-init g c = record {
   reads = reads_nothing g.S.Samples g.met.S.Samples.keeps_itself c.args.samples.now (tt {0});
   held = c.requires.held;
-  levels = λ honest. subst (λ (l : List ℤ). AreLevelsOf (g.S.Samples.mosaic c.args.samples.now) 0 l) (sym c.in_ok-levels.ensures.items) (no_tiles (g.S.Samples.mosaic c.args.samples.now));
+  levels = λ honest. subst (λ (l : List ℤ). AreLevelsOf (g.S.Samples.mosaic c.args.samples.now) 0 l) (sym c.in_ok-levels.ensures.items) (no_tiles (g.S.Samples.mosaic c.args.samples.now) (corners_of (g.S.Samples.mosaic c.args.samples.now)));
 }
 
 pub loop-t-preserved : goal.loop-t-preserved
@@ -34,7 +35,7 @@ loop-t-preserved g c =
           let m = g.S.Samples.mosaic now in
           let here = subst (λ (k : Mosaic). AreTileLevels k (corner_at (g.S.Samples.corners c.loop-t.samples) c.loop-t.t) c.in_ok-tile.tile.items) (so.reads.mosaic mid) (told.levels honest) in
           let corners = so.reads.corners ∙ sym (g.met.S.Samples.same_corners now first) in
-          tile_more m c.loop-t.levels.items c.in_ok-tile.tile.items c.append.new.levels.items c.loop-t.t
+          tile_more m (corners_of m) c.loop-t.levels.items c.in_ok-tile.tile.items c.append.new.levels.items c.loop-t.t
           (c.in_ok-append.ensures.appended ∙ ap (λ l. c.loop-t.levels.items ++ l) c.deref.ensures.value)
           (subst (λ (cs : List Corner). AreTileLevels m (corner_at cs c.loop-t.t) c.in_ok-tile.tile.items) corners here) (so.levels mid);
     }

@@ -3,10 +3,10 @@ use Rattle.flow_d8.proofs.one_direction.far_direction.Goals as goal
 
 pub returns-in-Some-clause-flats : goal.returns-in-Some-clause-flats
 returns-in-Some-clause-flats g c =
-    let told = c.in_ok-learn_all.ensures in
-    flats_on g.L.FilledLevels c.args.levels.now c.learn_all.new.self c.args.source.now c.learn_all.new.source c.args.flats.now (record { honest = told.honest; mosaic = told.mosaic }) c.requires.flats
+    let told = c.in_ok-learn_flat.ensures in
+    flats_on g.L.FilledLevels c.args.levels.now c.learn_flat.new.self c.args.source.now c.learn_flat.new.source c.args.flats.now (record { honest = told.honest; mosaic = told.mosaic }) c.requires.flats
 
 pub find_direction-requires-clause-flats : goal.find_direction-requires-clause-flats
 find_direction-requires-clause-flats g c =
-    let told = c.in_ok-learn_all.ensures in
-    flats_on g.L.FilledLevels c.args.levels.now c.learn_all.new.self c.args.source.now c.learn_all.new.source c.args.flats.now (record { honest = told.honest; mosaic = told.mosaic }) c.requires.flats
+    let told = c.in_ok-learn_flat.ensures in
+    flats_on g.L.FilledLevels c.args.levels.now c.learn_flat.new.self c.args.source.now c.learn_flat.new.source c.args.flats.now (record { honest = told.honest; mosaic = told.mosaic }) c.requires.flats
