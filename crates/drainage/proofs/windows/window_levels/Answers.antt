@@ -1,4 +1,4 @@
-use Rattle.std.proofs.Common.{rules, ◌≡◌, ◌+◌, ◌<◌, ◌++◌, ℤ, ℕ, pos, List, Ok, Err, inl, inr, length, get_or, sym, ap, ◌∙◌, subst, arith}
+use Rattle.std.proofs.Common.{rules, ◌≡◌, ◌++◌, ℤ, pos, List, Ok, Err, inl, inr, get_or, sym, ap, ◌∙◌, subst, arith}
 use Rattle.std.specs.Prelude.{IfErr, Contains}
 use Rattle.std.proofs.lemmas.Bool.{cases_eq}
 use Rattle.std.proofs.lemmas.List.{get_or_default}
@@ -7,11 +7,10 @@ use Rattle.lattice.specs.Corners.{Corner}
 use Rattle.lattice.specs.Mosaic.{Mosaic}
 use Rattle.lattice.specs.declared.refusal.Refusal.TheVariants.{NoMemory}
 use Rattle.border_graph.specs.Others.{corner_at}
-use Rattle.catalogue.specs.Tiles.{corners_of}
 use Rattle.catalogue.proofs.Asking.{asked_on, asked_passed}
 use Rattle.catalogue.proofs.Reading.{reads_nothing, reads_on}
 use Rattle.tile_flood.specs.Raising.{AreTileLevels}
-use Rattle.drainage.specs.Everywhere.{AreLevelsAt, ArePresent}
+use Rattle.drainage.specs.Everywhere.{AreLevelsAt}
 use Rattle.drainage.proofs.AllLevels.{no_tiles, tile_more, short_of_memory}
 use Rattle.drainage.proofs.Questioned.{asked_reads, answered, refused_by}
 use Rattle.drainage.proofs.windows.window_levels.Goals as goal
