@@ -14,7 +14,7 @@ use crate::everywhere::{append, are_few, learn_all};
 use crate::learning::levels_at;
 use border_graph::place_of;
 use flow_d8::Filled;
-use lattice::{Corner, Point, Refusal, Side, VOID, index_in, point_at};
+use lattice::{Corner, Point, Refusal, Side, VOID, index_in, point_at, rim_index};
 use std::alloc::{AllocError, Global};
 use tile_labellings::Labellings;
 
@@ -189,25 +189,33 @@ impl<'a> Tile<'a> {
         Ok(())
     }
 
-    // Whether the corner's tile holds a point of this tile with this level.
+    // Whether the corner's tile holds a point of this tile with this level: such a point lies on the rim.
     fn goes_on(&self, corner: Corner, height: i16) -> bool {
         if !are_beside(self.corner, corner) {
             return false;
         }
-        for index in 0..self.levels.len() {
-            if self.levels[index] == height && self.is_in(corner, index) {
+        for number in 0..self.side.rim() {
+            let index = rim_index(self.side, number);
+            if self.has_level(index, height) && self.is_in(corner, index) {
                 return true;
             }
         }
         false
     }
 
+    fn has_level(&self, index: u32, height: i16) -> bool {
+        match self.levels.get(index as usize) {
+            Some(level) => *level == height,
+            None => false,
+        }
+    }
+
     // Whether the corner's tile holds the point of the sample.
-    fn is_in(&self, corner: Corner, index: usize) -> bool {
-        if index >= self.side.area() as usize {
+    fn is_in(&self, corner: Corner, index: u32) -> bool {
+        if index >= self.side.area() {
             return false;
         }
-        let point = point_at(self.side, self.corner, index as u32);
+        let point = point_at(self.side, self.corner, index);
         index_in(self.side, corner, point).is_some()
     }
 }
