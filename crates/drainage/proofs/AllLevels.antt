@@ -1,6 +1,6 @@
 -- The filled levels of all tiles, found one after another.
 use Rattle.std.proofs.Common.{◌≡◌, ℕ, ◌+◌, ◌*◌, ◌-◌, ◌<◌, ℤ, pos, IsTrue, IsFalse, Option, Some, None, List, [], ◌∷◌, ◌++◌, length, get_or, inl, inr, refl, sym, ap, ◌∙◌, subst, arith, true≢false}
-use Rattle.std.specs.Prelude.{Contains, Result, Ok, Err, IfErr, MatchOption, slice_index_or, slice_get}
+use Rattle.std.specs.Prelude.{Result, Ok, Err, IfErr, MatchOption, slice_index_or, slice_get}
 use Rattle.std.proofs.lemmas.Bool.{cases_eq}
 use Rattle.std.proofs.lemmas.Grind.{rows}
 use Rattle.std.proofs.lemmas.List.{get_or-append-add, get_or_append_left, get_or_default, length-append}
@@ -23,13 +23,12 @@ use Rattle.catalogue.specs.Tiles.{corners_of}
 use Rattle.catalogue.specs.declared.samples.Samples.{Ghosts}
 use Rattle.flow_d8.specs.DeepFlows.{IsTileOf}
 use Rattle.flow_d8.specs.Filled.{IsFilledOf}
-use Rattle.flow_d8.specs.Windows.{HasWindow}
 use Rattle.flow_d8.proofs.Nearby.{level_ground}
 use Rattle.tile_flood.specs.Raising.{AreRimLevels, AreTileLevels}
 use Rattle.catalogue.proofs.Asking.{asked_on, asked_passed}
 use Rattle.catalogue.proofs.Reading.{reads_on}
 use Rattle.drainage.proofs.Questioned.{asked_reads, answered, refused_by, wanting}
-use Rattle.drainage.specs.Everywhere.{IsLevelOrVoid, AreRimLevelsTo, AreLevelsAt, AreLevelsOf, ArePresent}
+use Rattle.drainage.specs.Everywhere.{IsLevelOrVoid, AreRimLevelsTo, AreLevelsAt, AreLevelsOf}
 
 pub level_or_void_is : (m : Mosaic) (p : Point) (found : Option ℤ) (level : ℤ) → MatchOption found (level ≡ void) (λ l. level ≡ l) → MatchOption found (IsFalse (is_ground m p)) (λ l. IsFilledLevel (terrain m) p l) → IsLevelOrVoid m p level
 level_or_void_is m p (Some l) level same filled = record {
@@ -132,28 +131,6 @@ module _ (m : Mosaic) where
       elsewhere = λ k e c there below off. (at k e c there below).elsewhere off;
       sinks = declared;
     }
-
--- so the levels of present tiles are those of a window
-pub are_window : (m : Mosaic) → IsMosaic m → (n : ℕ) (present corners : List Corner) (levels : List ℤ) (sinks : List Point) → AreLevelsAt m corners (length corners) levels → ArePresent present corners (length corners) → n ≡ m.side
-    → present ≡ corners_of m → sinks ≡ m.sinks → HasWindow present (record { side = n; corners = corners; levels = levels; sinks = sinks }) m
-are_window m is n present corners levels sinks are there side all declared = record {
-  mosaic = is;
-  window = record {
-    side = side;
-    present = λ c has. subst (λ (cs : List Corner). Contains cs c) all (subst (λ (d : Corner). Contains present d) (get_or_default corners has.0 (record { lat = pos 0; lon = pos 0 }) c has.1 ∙ has.2) (there has.0 has.1));
-    on_ground = λ k e c listed below solid. (at k e c listed below).on_ground solid;
-    elsewhere = λ k e c listed below off. (at k e c listed below).elsewhere off;
-    sinks = declared;
-  };
-  corners = sym all;
-}
-  where
-    at : (k e : ℕ) (c : Corner) → slice_get corners k ≡ Some c → e < n * n → IsLevelOrVoid m (point_of n c e) (slice_index_or levels (k * (n * n) + e) void)
-    at k e c listed below =
-        let corner : corner_at corners k ≡ c = get_or_from_slice_get corners k c _ listed in
-        subst (λ (d : Corner). IsLevelOrVoid m (point_of n d e) (slice_index_or levels (k * (n * n) + e) void)) corner
-        (subst (λ s. IsLevelOrVoid m (point_of s (corner_at corners k) e) (slice_index_or levels (k * (s * s) + e) void)) (sym side)
-        (are.each k e (slice_get_within corners k c listed) (subst (λ s. e < s * s) side below)))
 
 -- the levels of one tile are those of the mosaic's tile alone
 pub tile_of : (m : Mosaic) (c : Corner) (t n : ℕ) (corners : List Corner) (levels : List ℤ) (sinks : List Point) → AreTileLevels m c levels → n ≡ m.side → corners ≡ c ∷ [] → t < length (corners_of m) → corner_at (corners_of m) t ≡ c → sinks ≡ m.sinks

@@ -1,5 +1,5 @@
 -- The filled levels of all tiles, one after another.
-use Rattle.std.specs.Prelude.{◌≡◌, ℕ, ◌+◌, ◌*◌, ◌<◌, ℤ, IsTrue, IsFalse, List, Contains, length, slice_index_or}
+use Rattle.std.specs.Prelude.{◌≡◌, ℕ, ◌+◌, ◌*◌, ◌<◌, ℤ, IsTrue, IsFalse, List, length, slice_index_or}
 use Rattle.lattice.specs.Corners.{Corner}
 use Rattle.lattice.specs.Lattice.{point_of}
 use Rattle.lattice.specs.Ground.{is_ground, terrain}
@@ -28,7 +28,3 @@ pub record AreLevelsAt (m : Mosaic) (corners : List Corner) (tiles : ℕ) (level
 -- those of the first present tiles
 abbrev pub AreLevelsOf : Mosaic → ℕ → List ℤ → Type 0
 AreLevelsOf m tiles levels = AreLevelsAt m (corners_of m) tiles levels
-
--- each of these tiles is present
-abbrev pub ArePresent : List Corner → List Corner → ℕ → Type 0
-ArePresent present corners tiles = (t : ℕ) → t < tiles → Contains present (corner_at corners t)

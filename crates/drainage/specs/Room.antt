@@ -27,9 +27,9 @@ pub record AreFew (n : ℕ) (held : List HeldLabelling) : Type 0 where
   pub sides : All (HasSide n) held
 
 -- where the tiles of whose points it is held where they drain are more than nine of this side, they have no more samples than
--- 128 MB have bytes
+-- 256 MiB have bytes
 abbrev pub AreFewTiles : ℕ → ℕ → Type 0
-AreFewTiles n tiles = 9 < tiles → tiles * (n * n) ≤ 134217728
+AreFewTiles n tiles = 9 < tiles → tiles * (n * n) ≤ 268435456
 
 -- of a mosaic of so many samples at most it is held where all points drain: while that is found, each takes ten bytes
 abbrev pub most_samples : ℕ

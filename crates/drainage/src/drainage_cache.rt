@@ -1,5 +1,5 @@
 //! What is found of a mosaic's water, held between two questions.
-ghost use Rattle.std.specs.Prelude.{◌≡◌, None, List, IfOk, IfErr, IfSome, IfNone};
+ghost use Rattle.std.specs.Prelude.{◌≡◌, None, IfOk, IfErr, IfSome, IfNone};
 ghost use Rattle.std.specs.Option.{ForSome};
 ghost use Rattle.lattice.specs.Height.{height_of};
 ghost use Rattle.lattice.specs.Mosaic.{Mosaic, IsMosaic};
@@ -7,12 +7,10 @@ ghost use Rattle.lattice.specs.declared.height.Height.TheVariants.{At};
 ghost use Rattle.tile_flood.specs.Blocks.{LabelledGround};
 ghost use Rattle.tile_labellings.specs.Labellings.{IsFlooded};
 ghost use Rattle.lattice.specs.Ground.{terrain};
-ghost use Rattle.flow_d8.specs.DeepFlows.{IsTileOf};
+ghost use Rattle.flow_d8.specs.DeepFlows.{IsTileOf, AreFlowsOf};
 ghost use Rattle.flow_d8.specs.Feeders.{AreFeedersOf};
 ghost use Rattle.flow_d8.specs.LevelsAround.{IsNear, OnLevels};
 ghost use Rattle.flow_d8.specs.Way.{IsWay};
-ghost use Rattle.flow_d8.specs.Windows.{AreWindowFlows, HasWindow};
-ghost use Rattle.lattice.specs.Corners.{Corner};
 ghost use Rattle.flow_d8.specs.Directions.{AreDirectionsOf};
 ghost use Rattle.lattice.specs.declared.refusal.Refusal.TheVariants.{NoMemory};
 ghost use Rattle.drainage.specs.Holding.{IsRight};
@@ -20,7 +18,7 @@ ghost use Rattle.drainage.specs.Reaching.{DifferAt, DifferBetween};
 ghost use Rattle.drainage.specs.Room.{AreFewSamples};
 ghost use Rattle.drainage.specs.Spared.{AreLevelsStill, IsNoHigher, IsSetTo};
 
-use crate::flows::{Flows, present_holder};
+use crate::flows::{Flows, far_across};
 use crate::nearby::near;
 use crate::tile_cache::TileCache;
 use arrayvec::ArrayVec;
@@ -173,6 +171,25 @@ impl DrainageCache {
         }
     }
 
+    // How many points of a flat a search may reach, before it pays to learn where the points of its tiles drain.
+    pub(crate) fn far_across_flat(&self, side: Side) -> usize {
+        match &self.flows {
+            Some(flows) => flows.far_across(),
+            None => far_across(side, 0),
+        }
+    }
+
+    // Notes that a search over a flat has reached so many points.
+    pub(crate) fn note_flat_searched(&mut self, reached: usize)
+        ensures { (m : Mosaic) → IsHeldOf m self.old → IsHeldOf m self.new }
+    {
+        let Some(mut flows) = self.flows.take() else {
+            return;
+        };
+        flows.note_searched(reached);
+        self.flows = Some(flows);
+    }
+
     // Learns where the point drains, if there is memory for it.
     pub(crate) fn learn_way<S: Samples>(
         &mut self,
@@ -222,37 +239,19 @@ impl DrainageCache {
         self.flows = Some(flows);
     }
 
-    // Learns where the points of the tiles with these corners drain, as the bytes of a window tell it.
-    pub(crate) fn learn_window(
+    // Learns what these bytes tell of the samples of the corner's tile with this side, if there is memory for it.
+    pub(crate) fn learn_flows_in(
         &mut self,
         alloc: Global,
-        corners: &[Corner],
-        window: &Filled,
+        side: Side,
+        corner: Corner,
         flows: &[Flow],
     )
-        ensures { (present : List Corner) (m : Mosaic) → AreWindowFlows present window.now flows.now → HasWindow present window.now m → IsHeldOf m self.old → IsHeldOf m self.new }
+        ensures { (m : Mosaic) → AreFlowsOf m side corner flows.now → IsHeldOf m self.old → IsHeldOf m self.new }
     {
-        let Some(mut known) = self.flows.take() else {
-            return;
-        };
-        known.learn_window(alloc, corners, window, flows);
+        let mut known = self.take_flows(alloc, side);
+        known.learn_flows(alloc, side, corner, flows);
         self.flows = Some(known);
-    }
-
-    // The corner of a present tile that holds the point, the first time that a wide flat is to be learnt that comes to it.
-    pub(crate) fn first_wide<S: Samples>(
-        &mut self,
-        alloc: Global,
-        samples: &S,
-        point: Point,
-    ) -> Option<Corner>
-        ensures { (m : Mosaic) → IsHeldOf m self.old → IsHeldOf m self.new }
-    {
-        let corner = present_holder(samples, samples.side(), point)?;
-        let mut flows = self.take_flows(alloc, samples.side());
-        let first = flows.is_first_wide(alloc, corner);
-        self.flows = Some(flows);
-        if first { Some(corner) } else { None }
     }
 
     // Hands out what is held of levels, or that nothing is found yet. None is held then. NoMemory is the only refusal.

@@ -35,12 +35,6 @@ pub(crate) fn far(side: Side, tiles: usize) -> usize {
     NEAR.max(tiles * side.area() as usize / SAMPLES_A_POINT)
 }
 
-/// How many points of a flat a search may reach in so many tiles, before it pays to find where all points of some tiles drain.
-pub(crate) fn far_across(side: Side, tiles: usize) -> usize {
-    let samples = tiles.saturating_mul(side.area() as usize);
-    NEAR.max(samples.min(MOST_SAMPLES) / SAMPLES_A_POINT)
-}
-
 /// Finds where all points drain, and holds that, where the mosaic has so few points that the memory for it is bounded.
 ///
 /// It is refused as a level is.
@@ -67,8 +61,8 @@ pub(crate) fn learn_all<S: Labellings>(
     Ok(())
 }
 
-/// Whether so many tiles have so few samples.
-pub(crate) fn are_few(side: Side, tiles: usize) -> bool
+// Whether so many tiles have so few samples.
+fn are_few(side: Side, tiles: usize) -> bool
     ensures tiles { IsTrue result → tiles ≤ most_tiles }
     ensures samples { IsTrue result → tiles * (side * side) ≤ most_samples }
 {
@@ -97,8 +91,8 @@ fn levels_of<S: Labellings>(
     Ok(levels)
 }
 
-/// Appends the levels of one tile.
-pub(crate) fn append(levels: &mut Vec<i16>, tile: &[i16]) -> Result<(), Refusal>
+// Appends the levels of one tile.
+fn append(levels: &mut Vec<i16>, tile: &[i16]) -> Result<(), Refusal>
     ensures appended { OnOk result (levels.new.items ≡ levels.old.items ++ tile.now) }
     ensures refusal { IfErr result (λ r. r ≡ NoMemory) }
 {

@@ -1,14 +1,12 @@
 //! Where the points of tiles drain, as far as questions found it.
-ghost use Rattle.std.specs.Prelude.{◌≡◌, ◌≤◌, ◌<◌, ℕ, IsTrue, IfOk, IfSome, List, length};
+ghost use Rattle.std.specs.Prelude.{◌≡◌, ◌≤◌, ◌<◌, ℕ, IsTrue, IfOk, IfSome, length};
 ghost use Rattle.lattice.specs.Mosaic.{Mosaic, IsMosaic};
 ghost use Rattle.lattice.specs.Ground.{terrain};
-ghost use Rattle.flow_d8.specs.DeepFlows.{IsTileOf};
+ghost use Rattle.flow_d8.specs.DeepFlows.{IsTileOf, AreFlowsOf};
 ghost use Rattle.flow_d8.specs.Feeders.{AreFeedersOf};
 ghost use Rattle.flow_d8.specs.LevelsAround.{OnLevels};
 ghost use Rattle.flow_d8.specs.TileFlows.{AreFlowsIn};
 ghost use Rattle.flow_d8.specs.Way.{IsWay};
-ghost use Rattle.flow_d8.specs.Windows.{AreWindowFlows, HasWindow};
-ghost use Rattle.lattice.specs.Corners.{Corner};
 ghost use Rattle.drainage.specs.Room.{AreFewTiles};
 
 use arrayvec::ArrayVec;
@@ -18,7 +16,7 @@ use lattice::{Corner, Dir, Point, Side, holders};
 use std::alloc::{AllocError, Global};
 
 // As many bytes are held, one a point, but those of a few tiles at any side.
-const MOST_BYTES: usize = 128 << 20;
+const MOST_BYTES: usize = 256 << 20;
 
 const FEWEST_TILES: usize = 9;
 
@@ -37,8 +35,6 @@ struct AskedTile {
     alone: u32,
     // Whether all were to be learnt at once.
     tried: bool,
-    // Whether those of a wide flat were, over several tiles.
-    tried_wide: bool,
 }
 
 impl AskedTile {
@@ -50,7 +46,6 @@ impl AskedTile {
             flows: TileFlows::new(alloc, side, corner)?,
             alone: 0,
             tried: false,
-            tried_wide: false,
         })
     }
 
@@ -72,17 +67,11 @@ impl AskedTile {
         self.tried = true;
     }
 
-    fn note_tried_wide(&mut self)
-        ensures { self.new.flows ≡ self.old.flows }
+    // Learns what these bytes tell of the samples of the corner's tile with this side, where that is this one.
+    fn learn_flows(&mut self, side: Side, corner: Corner, flows: &[Flow])
+        ensures { (m : Mosaic) → AreFlowsOf m side corner flows.now → AreFlowsIn m self.old.flows → AreFlowsIn m self.new.flows }
     {
-        self.tried_wide = true;
-    }
-
-    // Learns what the bytes of a window tell of this tile.
-    fn learn_window(&mut self, window: &Filled, flows: &[Flow])
-        ensures { (present : List Corner) (m : Mosaic) → AreWindowFlows present window.now flows.now → HasWindow present window.now m → AreFlowsIn m self.old.flows → AreFlowsIn m self.new.flows }
-    {
-        self.flows.learn_window(window, flows);
+        self.flows.learn_flows(side, corner, flows);
     }
 
     // Learns what the filled levels of the corner's tile tell, where that is this one, as far as there is memory for it.
@@ -103,6 +92,8 @@ pub(crate) struct Flows {
     tiles: Vec<AskedTile>,
     // The place of the tile that is given up next.
     oldest: usize,
+    // How many points the longer searches over flats have reached since the last flat was learnt.
+    searched: usize,
     slots: Slots,
     ghost few: { AreFewTiles side (length tiles.items) },
 }
@@ -118,6 +109,7 @@ impl Flows {
             side,
             tiles: Vec::new(alloc),
             oldest: 0,
+            searched: 0,
             slots: Slots::new(alloc),
         }
     }
@@ -220,51 +212,33 @@ impl Flows {
         }
     }
 
-    /// Learns where the points of the tiles with these corners drain, as the bytes of a window tell it, as far as there is
-    /// memory for it.
-    pub(crate) fn learn_window(
-        &mut self,
-        alloc: Global,
-        corners: &[Corner],
-        window: &Filled,
-        flows: &[Flow],
-    )
-        ensures { (present : List Corner) (m : Mosaic) → AreWindowFlows present window.now flows.now → HasWindow present window.now m → AreFlows m self.old → AreFlows m self.new }
+    /// How many points a search over a flat may reach, before it pays to learn where the points of its tiles drain.
+    pub(crate) fn far_across(&self) -> usize {
+        far_across(self.side, self.searched)
+    }
+
+    /// Notes that a search over a flat has reached so many points.
+    pub(crate) fn note_searched(&mut self, reached: usize)
+        ensures { (m : Mosaic) → AreFlows m self.old → AreFlows m self.new }
     {
-        for corner in corners {
-            self.learn_of(alloc, *corner, window, flows);
+        if reached > short_search(self.side) {
+            self.searched = self.searched.saturating_add(reached);
         }
     }
 
-    // .. of the corner's tile.
-    fn learn_of(&mut self, alloc: Global, corner: Corner, window: &Filled, flows: &[Flow])
-        ensures { (present : List Corner) (m : Mosaic) → AreWindowFlows present window.now flows.now → HasWindow present window.now m → AreFlows m self.old → AreFlows m self.new }
+    /// Learns what these bytes tell of the samples of the corner's tile with this side, if there is memory for it.
+    pub(crate) fn learn_flows(&mut self, alloc: Global, side: Side, corner: Corner, flows: &[Flow])
+        ensures { (m : Mosaic) → AreFlowsOf m side corner flows.now → AreFlows m self.old → AreFlows m self.new }
     {
+        self.searched = 0;
         if let Some(t) = self.place_of(corner) {
-            self.tiles[t].learn_window(window, flows);
+            self.tiles[t].learn_flows(side, corner, flows);
             return;
         }
         if let Ok(mut tile) = AskedTile::new(alloc, self.side, corner) {
-            tile.learn_window(window, flows);
+            tile.learn_flows(side, corner, flows);
             self.hold(alloc, corner, tile);
         }
-    }
-
-    /// Whether it is the first time that a wide flat is to be learnt that comes to the corner's tile. It is so once.
-    pub(crate) fn is_first_wide(&mut self, alloc: Global, corner: Corner) -> bool
-        ensures { (m : Mosaic) → AreFlows m self.old → AreFlows m self.new }
-    {
-        if let Some(t) = self.place_of(corner) {
-            let first = !self.tiles[t].tried_wide;
-            self.tiles[t].note_tried_wide();
-            return first;
-        }
-        if let Ok(mut tile) = AskedTile::new(alloc, self.side, corner) {
-            tile.note_tried_wide();
-            self.hold(alloc, corner, tile);
-            return true;
-        }
-        false
     }
 
     // Holds this of the corner's tile, in place of the tile that was begun the longest ago where there is no room.
@@ -364,8 +338,8 @@ fn slot_of(corner: Corner) -> usize {
     lat % 16 * 16 + lon % 16
 }
 
-/// The first of the present tiles that hold the point.
-pub(crate) fn present_holder<S: Samples>(samples: &S, side: Side, point: Point) -> Option<Corner> {
+// The first of the present tiles that hold the point.
+fn present_holder<S: Samples>(samples: &S, side: Side, point: Point) -> Option<Corner> {
     let corners = holders(side, point);
     for corner in corners.as_slice() {
         if samples.present(*corner) {
@@ -375,8 +349,21 @@ pub(crate) fn present_holder<S: Samples>(samples: &S, side: Side, point: Point) 
     None
 }
 
-// Of how many tiles of this side the flows are held.
-fn most_tiles(side: Side) -> usize
+// How many points a search over a flat may reach where others have reached so many. To reach all points of a tile takes two or
+// three times as long as to learn where they drain.
+pub(crate) fn far_across(side: Side, searched: usize) -> usize {
+    let area = side.area() as usize;
+    let left = area.saturating_sub(searched).min(area / 4);
+    left.max(short_search(side))
+}
+
+// A search over a flat that reaches no more points is short: it doesn't count.
+fn short_search(side: Side) -> usize {
+    side.area() as usize / 1024
+}
+
+/// Of how many tiles of this side the flows are held.
+pub(crate) fn most_tiles(side: Side) -> usize
     ensures { (count : ℕ) → count ≤ result → AreFewTiles side count }
 {
     let most = MOST_BYTES / side.area() as usize;

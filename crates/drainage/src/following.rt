@@ -15,14 +15,14 @@ ghost use Rattle.drainage.specs.Between.{IsHeldFor};
 
 use crate::asking::check_ground;
 use crate::drainage_cache::DrainageCache;
-use crate::everywhere::{far, far_across, learn_all};
+use crate::everywhere::{far, learn_all};
 use crate::filling::level;
-use crate::learning::learn_tile;
-use crate::windows::learn_flat;
+use crate::flows::most_tiles;
+use crate::learning::{filled_tile, learn_tile};
 use arrayvec::ArrayVec;
 use catalogue::share_tile;
-use flow_d8::{Directions, FilledLevels, Near, direction_at};
-use lattice::{Dir, Point, Refusal};
+use flow_d8::{Directions, Filled, FilledLevels, Flow, Near, direction_at};
+use lattice::{Corner, Dir, Point, Refusal, Side};
 use std::alloc::Global;
 use tile_labellings::Labellings;
 
@@ -127,11 +127,36 @@ impl<S: Labellings> FilledLevels<S> for DrainageCache {
     }
 
     fn far_across(&self, source: &S) -> usize {
-        far_across(source.side(), self.count_tiles(source))
+        self.far_across_flat(source.side())
     }
 
-    fn learn_flat(&mut self, alloc: Global, source: &mut S, point: Point) -> Result<(), Refusal> {
-        learn_flat(alloc, source, self, point)
+    fn note_searched(&mut self, _source: &S, reached: usize) {
+        self.note_flat_searched(reached);
+    }
+
+    fn side(&self, source: &S) -> Side {
+        source.side()
+    }
+
+    fn present(&mut self, source: &mut S) -> Result<Vec<Corner>, Refusal> {
+        source.present_corners()
+    }
+
+    fn tile(
+        &mut self,
+        alloc: Global,
+        source: &mut S,
+        corner: Corner,
+    ) -> Result<Option<Filled>, Refusal> {
+        filled_tile(alloc, source, self, corner)
+    }
+
+    fn most_tiles(&self, source: &S) -> usize {
+        most_tiles(source.side())
+    }
+
+    fn learn_flows(&mut self, alloc: Global, source: &S, corner: Corner, flows: &[Flow]) {
+        self.learn_flows_in(alloc, source.side(), corner, flows);
     }
 
     fn feeders(&self, _source: &S, point: Point) -> Option<ArrayVec<Point, 8>> {

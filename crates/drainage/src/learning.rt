@@ -1,8 +1,9 @@
 //! Where the points of a tile drain, learnt at once.
-ghost use Rattle.std.specs.Prelude.{◌≡◌, ◌<◌, IsTrue, IfOk, IfErr, length};
+ghost use Rattle.std.specs.Prelude.{◌≡◌, ◌*◌, ◌<◌, IsTrue, IfOk, IfSome, IfErr, length};
 ghost use Rattle.catalogue.specs.Asked.{Asked};
 ghost use Rattle.catalogue.specs.Endings.{ends_any};
 ghost use Rattle.border_graph.specs.Others.{corner_at};
+ghost use Rattle.flow_d8.specs.DeepFlows.{IsTileOf};
 ghost use Rattle.tile_flood.specs.Raising.{AreTileLevels};
 ghost use Rattle.drainage.specs.Between.{IsHeldFor};
 
@@ -32,24 +33,49 @@ pub(crate) fn learn_tile<S: Labellings>(
     let Some(corner) = held.due_tile(point) else {
         return Ok(false);
     };
-    let corners = samples.present_corners()?;
-    let Some(t) = place_of(&corners, corner) else {
+    let Some(filled) = filled_tile(alloc, samples, held, corner)? else {
         return Ok(false);
     };
-    learn_at(alloc, samples, held, t, corner)
+    held.learn_tile(alloc, corner, &filled);
+    Ok(true)
 }
 
-// Learns where the points of the tile with this place and corner drain, if there is memory for it.
-fn learn_at<S: Labellings>(
+/// The filled levels of the corner's tile alone; None where it isn't present. What is found is held then.
+///
+/// It is refused as a level is.
+pub(crate) fn filled_tile<S: Labellings>(
+    alloc: Global,
+    samples: &mut S,
+    held: &mut DrainageCache,
+    corner: Corner,
+) -> Result<Option<Filled>, Refusal>
+    requires held { IsHeldFor S.Samples samples.old held.old }
+    ensures tile { S.is_honest samples.new → IfOk result (λ found. IfSome found (IsTileOf (S.mosaic samples.old) corner)) }
+    ensures one { IfOk result (λ found. IfSome found (λ filled. length filled.levels ≡ filled.side * filled.side)) }
+    ensures held { IsHeldFor S.Samples samples.new held.new }
+    ensures causes { IfErr result (λ r. IsTrue (ends_any r)) }
+    ensures asked { Asked S.Samples samples.old samples.new result }
+{
+    let corners = samples.present_corners()?;
+    let Some(t) = place_of(&corners, corner) else {
+        return Ok(None);
+    };
+    filled_at(alloc, samples, held, t, corner)
+}
+
+// The filled levels of the tile with this place and corner.
+fn filled_at<S: Labellings>(
     alloc: Global,
     samples: &mut S,
     held: &mut DrainageCache,
     t: usize,
     corner: Corner,
-) -> Result<bool, Refusal>
+) -> Result<Option<Filled>, Refusal>
     requires held { IsHeldFor S.Samples samples.old held.old }
     requires place { t < length (S.corners samples.old) }
     requires corner { corner_at (S.corners samples.old) t ≡ corner }
+    ensures tile { S.is_honest samples.new → IfOk result (λ found. IfSome found (IsTileOf (S.mosaic samples.old) corner)) }
+    ensures one { IfOk result (λ found. IfSome found (λ filled. length filled.levels ≡ filled.side * filled.side)) }
     ensures held { IsHeldFor S.Samples samples.new held.new }
     ensures causes { IfErr result (λ r. IsTrue (ends_any r)) }
     ensures asked { Asked S.Samples samples.old samples.new result }
@@ -57,11 +83,7 @@ fn learn_at<S: Labellings>(
     let levels = levels_at(alloc, samples, held, t)?;
     let sinks = Vec::from_slice(alloc, samples.sinks())?;
     let corners = Vec::from_slice(alloc, &[corner])?;
-    let Some(filled) = Filled::new(samples.side(), corners, levels, sinks) else {
-        return Ok(false);
-    };
-    held.learn_tile(alloc, corner, &filled);
-    Ok(true)
+    Ok(Filled::new(samples.side(), corners, levels, sinks))
 }
 
 /// The filled levels of the tile with this place, row by row from the north; void where a point isn't ground. What is found

@@ -35,7 +35,6 @@ mod ring;
 mod summing;
 mod tile_cache;
 mod tile_levels;
-mod windows;
 
 pub use drainage_cache::DrainageCache;
 pub use draining::watershed;

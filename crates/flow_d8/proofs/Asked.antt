@@ -2,14 +2,9 @@
 use Rattle.std.proofs.Common.{◌∙◌, refl, sym, subst, Ok, Err}
 use Rattle.std.specs.Prelude.{◌≡◌, Option, Some, None, Result, IfOk, IfErr, IfSome}
 use Rattle.flow_d8.specs.declared.filled_levels.FilledLevels.{Ghosts}
-use Rattle.lattice.specs.Mosaic.{Mosaic}
-use Rattle.lattice.specs.Ground.{terrain}
-use Rattle.flow_d8.specs.LevelsAround.{OnLevels}
 use Rattle.flow_d8.specs.Asking.{Asks, IsAsked}
 use Rattle.lattice.specs.declared.refusal.Refusal.{Refusal}
 use Rattle.lattice.specs.declared.refusal.Refusal.TheVariants.{NoMemory}
-use Rattle.flow_d8.specs.declared.flats.Flats.{Flats}
-use Rattle.flow_d8.specs.Flats.{AreMeasured, AreFlatsOf}
 
 module _ {L S : Type 0} (g : Ghosts L S) where
   pub asks_nothing : (s : L) (a : S) → Asks g s a s a
@@ -43,9 +38,17 @@ module _ {L S : Type 0} (g : Ghosts L S) where
       let all = keeps_on s s' s'' a b c kept last.keeps in
       out_of_memory s s'' a c r (asks_on s s' s'' a b c asks last.asks) last.fits all (runs_out s s'' a c all) is
 
-  -- what was found of flats before a call is right after it
-  pub flats_on : (s s' : L) (a b : S) (held : Flats) → Asks g s a s' b → AreFlatsOf g s a held → AreFlatsOf g s' b held
-  flats_on s s' a b held asks are honest = subst (λ (m : Mosaic). OnLevels m (λ level. AreMeasured (terrain m) level held)) (sym (asks.mosaic honest)) (are (asks.honest honest))
+  -- one question more, however it was answered
+  pub asked_then : {T : Type 0} (keeps_on : (s s' s'' : L) (a b c : S) → g.keeps s a s' b → g.keeps s' b s'' c → g.keeps s a s'' c)
+      (refuses_on : (s s' s'' : L) (a b c : S) (r : Refusal) → g.keeps s a s' b → g.refuses s' b s'' c r → g.refuses s a s'' c r)
+      (s s' s'' : L) (a b c : S) (r : Result T Refusal) → Asks g s a s' b → g.keeps s a s' b → IsAsked g s' b s'' c r → IsAsked g s a s'' c r
+  asked_then keeps_on refuses_on s s' s'' a b c (Ok x) asks kept last = record {
+    asks = asks_on s s' s'' a b c asks last.asks;
+    fits = last.fits;
+    keeps = keeps_on s s' s'' a b c kept last.keeps;
+    refusal = tt;
+  }
+  asked_then keeps_on refuses_on s s' s'' a b c (Err e) asks kept last = refused s s'' a c e (asks_on s s' s'' a b c asks last.asks) last.fits (refuses_on s s' s'' a b c e kept last.refusal)
 
 pub on_ok : {T E : Type 0} (P Q : T → Type 0) (r : Result T E) → ((x : T) → P x → Q x) → IfOk r P → IfOk r Q
 on_ok P Q (Ok x) f h = f x h

@@ -1,5 +1,5 @@
 -- Bytes that tell where points drain.
-use Rattle.std.proofs.Common.{◌≡◌, ℕ, ◌+◌, ◌*◌, ◌%◌, ◌<◌, Bool, true, not, Option, Some, None, List, length, inl, inr, get_or, set, replicate, refl, sym, ap, ◌∙◌, subst, arith, get_or-set_other, get_or-set_same}
+use Rattle.std.proofs.Common.{◌≡◌, ℕ, ◌+◌, ◌*◌, ◌%◌, ◌<◌, Bool, true, not, Option, Some, None, List, ◌⊎◌, length, inl, inr, get_or, set, replicate, refl, sym, ap, ◌∙◌, subst, arith, get_or-set_other, get_or-set_same}
 use Rattle.std.proofs.lemmas.List.{get_or-replicate, length-set}
 use Rattle.std.proofs.lemmas.Bool.{cases_eq}
 use Rattle.std.specs.Prelude.{IfSome, slice_index_or}
@@ -11,7 +11,7 @@ use Rattle.lattice.specs.declared.direction.Dir.{Dir}
 use Rattle.lattice.proofs.Samples.{index_below, point_at_index}
 use Rattle.flow_d8.specs.DeepFlows.{IsTileOf, IsInsideFlat, IsInRimFlat, is_off_rim, IsToldFlow, AreFlowsOf, IsLearntAt, AreLearntTo}
 use Rattle.flow_d8.specs.Filled.{Filled, is_deep}
-use Rattle.flow_d8.specs.Flow.{way_of}
+use Rattle.flow_d8.specs.Flow.{way_of, AreTaken}
 use Rattle.flow_d8.specs.Way.{IsWay}
 use Rattle.flow_d8.specs.declared.flow.Flow.{Flow}
 use Rattle.flow_d8.specs.declared.flow.Flow.TheVariants.{Unknown}
@@ -96,3 +96,24 @@ inside_deep f k old new learnt = record {
   right = learnt.right;
   told = λ m c is of p e below index deep none. (learnt.told m c is of p e below index (ap not (deep_off f.side e deep)) none).inside;
 }
+
+-- one more byte is taken over
+pub taken_more : (from old mid new : List Flow) (e : ℕ) (flow : Flow) → e < length mid → flow ≡ slice_index_or from e Unknown → (new ≡ mid) ⊎ (new ≡ set mid e flow) → AreTaken from old mid → AreTaken from old new
+taken_more from old mid new e flow within read (inl kept) was = subst (λ (l : List Flow). AreTaken from old l) (sym kept) was
+taken_more from old mid new e flow within read (inr written) was = subst (λ (l : List Flow). AreTaken from old l) (sym written) (record {
+  whole = length-set mid e flow ∙ was.whole;
+  each = λ g. elim (cases_eq g e) [
+    | inl same ↦ inr (ap (λ i. slice_index_or (set mid e flow) i Unknown) same ∙ get_or-set_same mid e flow Unknown within ∙ read ∙ ap (λ i. slice_index_or from i Unknown) (sym same))
+    | inr other ↦ elim (was.each g) [
+      | inl before ↦ inl (get_or-set_other mid e g flow Unknown other ∙ before)
+      | inr taken ↦ inr (get_or-set_other mid e g flow Unknown other ∙ taken)
+    ]
+  ];
+})
+
+-- right bytes that take over some of others that are right
+pub taken_right : (m : Mosaic) (n : ℕ) (c : Corner) (from old new : List Flow) → AreTaken from old new → AreFlowsOf m n c from → AreFlowsOf m n c old → AreFlowsOf m n c new
+taken_right m n c from old new taken are was p e way index tells = elim (taken.each e) [
+  | inl kept ↦ was p e way index (ap way_of (sym kept) ∙ tells)
+  | inr told ↦ are p e way index (ap way_of (sym told) ∙ tells)
+]

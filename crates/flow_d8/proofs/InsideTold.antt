@@ -1,27 +1,26 @@
--- What the local flows of one tile, its flat distances and the marks from its rim tell of points off the rim.
-use Rattle.std.proofs.Common.{◌≡◌, ℕ, zero, suc, ◌*◌, ◌<◌, ℤ, Bool, true, false, IsTrue, inl, inr, Option, Some, None, List, length, refl, sym, ap, ◌∙◌, subst, arith, true≢false}
-use Rattle.std.specs.Prelude.{if◌then◌else◌, slice_index_or}
-use Rattle.std.proofs.lemmas.Bool.{cases_Bool, cond-true, cond-false}
+-- What the local flows of one tile, its flat distances and the distances from its rim tell of points off the rim.
+use Rattle.std.proofs.Common.{◌≡◌, ℕ, zero, suc, ◌*◌, ◌<◌, ◌≤◌, ℤ, true, IsTrue, inl, inr, ⊎_elim, Option, Some, None, List, length, refl, sym, ◌∙◌, subst, arith, true≢false}
+use Rattle.std.specs.Prelude.{slice_index_or}
+use Rattle.std.proofs.lemmas.Bool.{cases_Bool, cases_lt}
 use Rattle.lattice.specs.Block.{is_rim}
 use Rattle.lattice.specs.Corners.{Corner}
 use Rattle.lattice.specs.Ground.{is_ground, terrain}
-use Rattle.lattice.specs.Lattice.{IsIndexOf}
+use Rattle.lattice.specs.Lattice.{IsIndexOf, index_of}
 use Rattle.lattice.specs.Mosaic.{Mosaic, IsMosaic, void}
-use Rattle.lattice.specs.Steps.{step}
 use Rattle.lattice.specs.declared.point.Point.{Point}
 use Rattle.lattice.specs.declared.direction.Dir.{Dir}
-use Rattle.lattice.proofs.Samples.{index_below}
+use Rattle.lattice.proofs.Samples.{index_below, index_is}
 use Rattle.flow_d8.specs.Crossing.{Crosses, AreLocalFlows, AreDistances, IsDrainOf}
 use Rattle.flow_d8.specs.DeepFlows as deep
-use Rattle.flow_d8.specs.DeepFlows.{IsTileOf, IsInsideFlat, IsInRimFlat, IsToldFlow}
+use Rattle.flow_d8.specs.DeepFlows.{IsTileOf, IsInsideFlat, IsInRimFlat, IsRimSample, IsToldFlow}
 use Rattle.flow_d8.specs.Drainage.{AreFilledLevels}
 use Rattle.flow_d8.specs.Filled.{Filled}
 use Rattle.flow_d8.specs.Flow.{way_of}
 use Rattle.flow_d8.specs.LevelsAround.{OnLevels}
-use Rattle.flow_d8.specs.Places.{place_by, IsGroundFlow}
+use Rattle.flow_d8.specs.Places.{IsGroundFlow}
 use Rattle.flow_d8.specs.Propagation.{unknown, distance_at, IsOnFlat}
-use Rattle.flow_d8.specs.RimMarks.{is_marked, IsOff, LeadsToRim, AreRimMarks}
-use Rattle.flow_d8.specs.Surface.{level_at, has_level, surface}
+use Rattle.flow_d8.specs.Spread.{LeadsTo, AreLeastSteps}
+use Rattle.flow_d8.specs.Surface.{number_in, level_at, has_level, surface}
 use Rattle.flow_d8.specs.Way.{IsWay}
 use Rattle.flow_d8.specs.declared.flow.Flow.{Flow}
 use Rattle.flow_d8.specs.declared.flow.Flow.TheVariants.{Unknown}
@@ -30,22 +29,22 @@ use Rattle.flow_d8.specs.declared.local_flow.LocalFlow.TheVariants.{NoGround, Ed
 use Rattle.flow_d8.proofs.Ends.{level_function}
 use Rattle.flow_d8.proofs.Exists.{distance_exists}
 use Rattle.flow_d8.proofs.MosaicGrid.{mosaic_is_grid}
-use Rattle.flow_d8.proofs.Nearby.{never_void, one_step}
-use Rattle.flow_d8.proofs.Surfaces.{surface_steps, at_level, level_from}
-use Rattle.flow_d8.proofs.TileShown.{numbered, share, level_there, inside_flat, flat_ground, told_nothing}
-use Rattle.flow_d8.proofs.TileSurface.{IsOffRim, next_index, ground_same, alike}
+use Rattle.flow_d8.proofs.RimPlaces.{IsOff}
+use Rattle.flow_d8.proofs.Surfaces.{surface_lawful, level_from}
+use Rattle.flow_d8.proofs.TileShown.{numbered, inside_flat, flat_ground, told_nothing}
+use Rattle.flow_d8.proofs.TileSurface.{IsOffRim, level_index, ground_same, across_out, alike}
 use Rattle.flow_d8.proofs.Transport.{Alike, IsClosed, other_way, closed_too, flow_too, crosses_too, direction_too}
 
-edge_none : ◌≡◌ {A = LocalFlow} Edge NoGround → ⊥
+pub edge_none : ◌≡◌ {A = LocalFlow} Edge NoGround → ⊥
 edge_none e = cc
 
-flat_none : ◌≡◌ {A = LocalFlow} Flat NoGround → ⊥
+pub flat_none : ◌≡◌ {A = LocalFlow} Flat NoGround → ⊥
 flat_none e = cc
 
-seam_none : ◌≡◌ {A = LocalFlow} Seam NoGround → ⊥
+pub seam_none : ◌≡◌ {A = LocalFlow} Seam NoGround → ⊥
 seam_none e = cc
 
-drains_none : (d : Dir) → ◌≡◌ {A = LocalFlow} (Drains d) NoGround → ⊥
+pub drains_none : (d : Dir) → ◌≡◌ {A = LocalFlow} (Drains d) NoGround → ⊥
 drains_none d e = cc
 
 no_ground : (flow : LocalFlow) → ((flow ≡ NoGround → ⊥) → ⊥) → flow ≡ NoGround
@@ -83,66 +82,72 @@ module _ (m : Mosaic) (is : IsMosaic m) (c : Corner) (f : Filled) (of : IsTileOf
     elsewhere = λ none. no_ground (flow_at local e) (λ some. true≢false (sym (sym (ground_same m is c f of level filled p e index) ∙ has_at p e index some) ∙ none));
   }
 
-  module _ (marks : List Bool) (marked : AreRimMarks f.side f.levels marks) where
-    -- a chain of samples of one level to the rim is one of points
-    chain : (level : Point → ℤ) → AreFilledLevels (terrain m) level → (k : ℕ) (p : Point) (e : ℕ) → IsIndexOf f.side c p e → IsTrue (is_ground m p) → LeadsToRim f.side f.levels e k → deep.LeadsToRim m level c p k
-    chain level filled zero p e index solid rim = (e, (subst (λ n. IsIndexOf n c p e) of.side index, subst (λ n. is_rim n e ≡ true) of.side rim))
-    chain level filled (suc k) p e index solid leads =
-        let d = leads.1.0 in
-        let off : IsOff f.side e = record { within = index_below f.side c p e index; off = leads.0 } in
-        let q = step d p in
-        let g = place_by f.side e d in
-        let there = next_index m is c f of p e index off d in
-        let here_is : slice_index_or f.levels e void ≡ level p = level_there m is c f of level filled p e index ∙ cond-true (is_ground m p) (level p) void solid in
-        let there_is : slice_index_or f.levels g void ≡ (if is_ground m q then level q else void) = level_there m is c f of level filled q g there in
-        let q_solid : IsTrue (is_ground m q) = elim (cases_Bool (is_ground m q)) [
-          | inl on ↦ on
-          | inr none ↦ absurd (never_void m is level filled p solid (sym here_is ∙ sym leads.1.1.0 ∙ there_is ∙ cond-false (is_ground m q) (level q) void none))
-        ] in
-        let same : level q ≡ level p = sym (there_is ∙ cond-true (is_ground m q) (level q) void q_solid) ∙ leads.1.1.0 ∙ here_is in
-        let beside = one_step m p d solid q_solid (share m is c f of p q e g index there) in
-        (q, (record { beside = beside; same_level = same }, chain level filled k q g there q_solid leads.1.1.1))
+  -- the distances of the points of the tile from its rim are known where steps across within it lead there
+  module _ (rim_distances : List ℕ) (rim : AreLeastSteps f (IsRimSample f) rim_distances) where
+    abbrev from_rim : Point → ℕ
+    from_rim x = distance_at rim_distances (number_in f x)
+
+    -- these steps lead there on the mosaic
+    to_rim : (level : Point → ℤ) → AreFilledLevels (terrain m) level → (k : ℕ) (p : Point) → IsTrue (has_level f p) → LeadsTo f (IsRimSample f) p k → deep.LeadsToRim m level c p k
+    to_rim level filled zero p here on =
+        let e = index_of f.side c p in
+        let index = level_index m is c f of are.valid p here in
+        (e, (subst (λ n. IsIndexOf n c p e) of.side index, subst (λ n. is_rim n e ≡ true) of.side (subst (λ g. is_rim f.side g ≡ true) (numbered m is c f of p e index) on)))
+    to_rim level filled (suc k) p here leads =
+        let q = leads.0 in
+        let there = (surface_lawful f).to_ground p q leads.1.0.beside in
+        let at = level_index m is c f of are.valid in
+        (q, (across_out m is c f of level filled p q (index_of f.side c p) (index_of f.side c q) (at p here) (at q there) leads.1.0, to_rim level filled k q there leads.1.1))
 
     module _ (p : Point) (e : ℕ) (index : IsIndexOf f.side c p e) (on : IsOnFlat local e) where
+      here : IsTrue (has_level f p)
+      here = has_at p e index (λ none. ⊎_elim (λ flat. flat_none (sym flat ∙ none)) (λ seam. seam_none (sym seam ∙ none)) on)
+
+      number : number_in f p ≡ e
+      number = numbered m is c f of p e index
+
       -- nothing is told of a point on a flat that reaches the rim
-      pub told_marked : IsOff f.side e → is_marked marks e ≡ true → IsToldFlow m p (IsInRimFlat m c p) Unknown
-      told_marked off mark =
+      pub told_reached : IsOff f.side e → distance_at rim_distances e < unknown → IsToldFlow m p (IsInRimFlat m c p) Unknown
+      told_reached off known =
           let seen = seen_inside p e index off in
           told_nothing m is p (flow_at local e) seen (IsInRimFlat m c p) (record {
             inside = inside_flat m is p (flow_at local e) seen on;
-            leads = λ level filled. let way = marked.reached e mark in (way.0, chain level filled way.0 p e index (flat_ground m is p (flow_at local e) seen on) way.1);
+            leads = λ level filled. (from_rim p, to_rim level filled (from_rim p) p here (rim.walked p here (subst (λ g. distance_at rim_distances g < unknown) (sym number) known)));
           })
 
       -- and all is told of others: their flats lie off the rim
-      module _ (enclosed : is_marked marks e ≡ false) (distances : List ℕ) (far : AreDistances f distances) where
+      module _ (enclosed : unknown ≤ distance_at rim_distances e) (distances : List ℕ) (far : AreDistances f distances) where
+        -- no steps lead from the point to the rim
         record IsEnclosed (x : Point) : Type 0 where
-          number : ℕ
-          sample : IsIndexOf f.side c x number
-          unmarked : is_marked marks number ≡ false
+          level : IsTrue (has_level f x)
+          unreached : unknown ≤ from_rim x
 
-        off_at : (x : Point) (g : ℕ) → IsIndexOf f.side c x g → is_marked marks g ≡ false → IsOff f.side g
-        off_at x g sample unmarked = let small = index_below f.side c x g sample in record { within = small; off = marked.rim g small unmarked }
-
-        off_rim : (x : Point) → IsEnclosed x → IsOffRim f c x
-        off_rim x here = record { e = here.number; index = here.sample; off = off_at x here.number here.sample here.unmarked }
-
-        closed : IsClosed IsEnclosed (surface f) (level_at f)
-        closed x y here over =
-            let s = surface_steps f x y over.beside in
-            let off = off_at x here.number here.sample here.unmarked in
-            let g = place_by f.side here.number s.0 in
-            let there = next_index m is c f of x here.number here.sample off s.0 in
-            let level_here : slice_index_or f.levels here.number void ≡ level_at f x = ap (λ k. slice_index_or f.levels k void) (sym (numbered m is c f of x here.number here.sample)) ∙ at_level f x in
-            let level_next : slice_index_or f.levels g void ≡ level_at f (step s.0 x) = ap (λ k. slice_index_or f.levels k void) (sym (numbered m is c f of (step s.0 x) g there)) ∙ at_level f (step s.0 x) in
-            let step_is : slice_index_or f.levels g void ≡ slice_index_or f.levels here.number void = level_next ∙ ap (level_at f) (sym s.1) ∙ over.same_level ∙ sym level_here in
-            subst IsEnclosed (sym s.1) (record {
-              number = g;
-              sample = there;
-              unmarked = elim (cases_Bool (is_marked marks g)) [
-                | inl mark ↦ absurd (true≢false (sym (marked.all here.number s.0 off step_is mark) ∙ here.unmarked))
+        -- so it lies off the rim, as do those across
+        off_at : (x : Point) → IsEnclosed x → IsOff f.side (index_of f.side c x)
+        off_at x is_in =
+            let g = index_of f.side c x in
+            let sample = level_index m is c f of are.valid x is_in.level in
+            record {
+              within = index_below f.side c x g sample;
+              off = elim (cases_Bool (is_rim f.side g)) [
+                | inl edge ↦ absurd (omega (arith, is_in.unreached, (rim.least 0 x is_in.level (subst (λ k. is_rim f.side k ≡ true) (sym (numbered m is c f of x g sample)) edge)).0))
                 | inr none ↦ none
               ];
-            })
+            }
+
+        off_rim : (x : Point) → IsEnclosed x → IsOffRim f c x
+        off_rim x is_in = record { e = index_of f.side c x; index = level_index m is c f of are.valid x is_in.level; off = off_at x is_in }
+
+        closed : IsClosed IsEnclosed (surface f) (level_at f)
+        closed x y is_in over =
+            let there = (surface_lawful f).to_ground x y over.beside in
+            record {
+              level = there;
+              unreached = elim (cases_lt (from_rim y) unknown) [
+                | inl known ↦ absurd (omega (arith, is_in.unreached, (rim.least (suc (from_rim y)) x is_in.level (y, (over, rim.walked y there known))).0))
+                | inr none ↦ none
+              ];
+            }
 
         alike_enclosed : (level : Point → ℤ) → AreFilledLevels (terrain m) level → Alike IsEnclosed (surface f) (terrain m) (level_at f) level
         alike_enclosed level filled =
@@ -150,10 +155,10 @@ module _ (m : Mosaic) (is : IsMosaic m) (c : Corner) (f : Filled) (of : IsTileOf
             record { beside = λ x y here. same.beside x y (off_rim x here); outlet = λ x here. same.outlet x (off_rim x here); level = λ x y here. same.level x y (off_rim x here) }
 
         p_here : IsEnclosed p
-        p_here = record { number = e; sample = index; unmarked = enclosed }
+        p_here = record { level = here; unreached = subst (λ g. unknown ≤ distance_at rim_distances g) (sym number) enclosed }
 
         seen_here : OnLevels m (λ level. IsGroundFlow (terrain m) level p (flow_at local e))
-        seen_here = seen_inside p e index (off_at p e index enclosed)
+        seen_here = seen_inside p e index (subst (IsOff f.side) (index_is f.side c p e index) (off_at p p_here))
 
         solid_here : IsTrue (is_ground m p)
         solid_here = flat_ground m is p (flow_at local e) seen_here on

@@ -1,24 +1,27 @@
--- Distances propagated over the flats of all tiles, from sample to sample.
-use Rattle.std.proofs.Common.{◌≡◌, ℕ, suc, ◌+◌, ◌-◌, ◌*◌, ◌%◌, true, map, ◌<◌, ◌≤◌, ◌⊎◌, IsTrue, Option, Some, None, List, [], ◌∷◌, ◌++◌, length, get_or, set, inl, inr, ⊎_elim, refl, sym, ap, ◌∙◌, subst, arith, get_or-set_other, get_or-set_same, length-set}
+-- Distances propagated over points of one level, from sample to sample.
+use Rattle.std.proofs.Common.{◌≡◌, ℕ, zero, suc, ◌+◌, ◌-◌, ◌*◌, ◌%◌, true, map, ◌<◌, ◌≤◌, ◌⊎◌, IsTrue, Option, Some, None, List, [], ◌∷◌, ◌++◌, length, get_or, set, inl, inr, ⊎_elim, refl, sym, ap, ◌∙◌, subst, arith, get_or-set_other, get_or-set_same, length-set}
 use Rattle.std.specs.Prelude.{IfSome, slice_index_or}
+use Rattle.std.specs.List.Sorted.{IsPermutation}
 use Rattle.std.proofs.lemmas.Bool.{cases_eq, cases_lt}
 use Rattle.std.proofs.lemmas.List.{get_or_past, length-append, get_or_append_left, get_or-append-add}
+use Rattle.std.proofs.lemmas.List.Elements.{Contains-push, Contains-push_cases, Contains-append_left, Contains-append_right, Contains-append_cases}
+use Rattle.std.proofs.lemmas.List.Sorted.{Contains-permutation, IsPermutation-sym}
 use Rattle.lattice.specs.declared.point.Point.{Point}
 use Rattle.lattice.specs.declared.direction.Dir.{Dir}
 use Rattle.lattice.specs.declared.direction.Dir.TheVariants.{East, SouthEast, South, SouthWest, West, NorthWest, North, NorthEast}
 use Rattle.lattice.specs.Mosaic.{void}
 use Rattle.lattice.specs.Steps.{step, order_of, directions}
 use Rattle.flow_d8.specs.declared.local_flow.LocalFlow.{LocalFlow}
-use Rattle.flow_d8.specs.declared.local_flow.LocalFlow.TheVariants.{NoGround, Edge, Flat, Seam, Drains}
+use Rattle.flow_d8.specs.declared.local_flow.LocalFlow.TheVariants.{NoGround, Flat, Seam}
 use Rattle.flow_d8.specs.Filled.{Filled, AreLevels, is_deep}
 use Rattle.flow_d8.specs.Places.{place_by}
 use Rattle.flow_d8.specs.Surface.{number_in, level_at, has_level, surface, beside_of, around_of}
 use Rattle.flow_d8.specs.Propagation.{unknown, distance_at, IsOnFlat, IsEnd, DrainsAtOnce, IsWaiting, IsKept, IsRelaxStep}
-use Rattle.flow_d8.specs.Crossing.{Crosses, DrainsLike, sample_point, HasSite, AreLocalFlows, AreBounds, IsAcross, AreAround, IsStepAcross, AreRelaxed, AreWaiting, IsSeeding, IsPropagating, IsRelaxing, IsToCome}
+use Rattle.flow_d8.specs.Crossing.{DrainsLike, HasSite, AreLocalFlows, IsAcross, AreAround, IsStepAcross, IsRelaxed}
+use Rattle.flow_d8.specs.Spread.{Reaches, AreStarts, AreSpread, AreBounds, IsLater, AreWaiting, IsSeeding, IsPropagating, IsAdvance, IsRelaxing, IsToCome}
+use Rattle.flow_d8.specs.declared.propagating.Start.{Start}
 use Rattle.flow_d8.proofs.Compass.{same_order, order_below, dir_at, order_of-dir_at}
-use Rattle.flow_d8.proofs.SampleFlows.{sample_is, deep_beside, deep_adjoins}
-use Rattle.flow_d8.proofs.PointFlows.{crosses_end}
-use Rattle.flow_d8.proofs.Crossed.{like_at}
+use Rattle.flow_d8.proofs.SampleFlows.{deep_beside, deep_adjoins}
 use Rattle.flow_d8.proofs.Surfaces.{surface_lawful, surface_steps, same_site, at_level, level_within, beside_there, beside_some}
 
 flat_none : ◌≡◌ {A = LocalFlow} Flat NoGround → ⊥
@@ -33,34 +36,27 @@ flat_no_end flows g on end = ⊎_elim (λ flat. subst DrainsAtOnce flat end) (λ
 flat_ground : (flows : List LocalFlow) (g : ℕ) → IsOnFlat flows g → slice_index_or flows g NoGround ≡ NoGround → ⊥
 flat_ground flows g on none = ⊎_elim (λ flat. flat_none (sym flat ∙ none)) (λ seam. seam_none (sym seam ∙ none)) on
 
-pub decided : (flow : LocalFlow) → DrainsAtOnce flow ⊎ (DrainsAtOnce flow → ⊥)
-decided NoGround = inr (λ e. e)
-decided Flat = inr (λ e. e)
-decided Seam = inr (λ e. e)
-decided Edge = inl tt
-decided (Drains d) = inl tt
-
 -- a queue with one more
 module _ (queue : List ℕ) (v : ℕ) where
-  abbrev longer : List ℕ
-  longer = queue ++ (v ∷ [])
+  abbrev one_longer : List ℕ
+  one_longer = queue ++ (v ∷ [])
 
-  pub longer_by : length longer ≡ length queue + 1
+  pub longer_by : length one_longer ≡ length queue + 1
   longer_by = length-append queue (v ∷ [])
 
-  pub earlier : (i : ℕ) → i < length queue → get_or longer i 0 ≡ get_or queue i 0
+  pub earlier : (i : ℕ) → i < length queue → get_or one_longer i 0 ≡ get_or queue i 0
   earlier i small = get_or_append_left queue (v ∷ []) 0 i small
 
-  pub last : get_or longer (length queue) 0 ≡ v
-  last = ap (λ i. get_or longer i 0) (no_more (length queue)) ∙ get_or-append-add queue (v ∷ []) 0 0
+  pub last : get_or one_longer (length queue) 0 ≡ v
+  last = ap (λ i. get_or one_longer i 0) (no_more (length queue)) ∙ get_or-append-add queue (v ∷ []) 0 0
     where
       no_more : (n : ℕ) → n ≡ n + 0
       no_more n = omega arith
 
-  pub waits_still : (head k : ℕ) → IsWaiting queue head k → IsWaiting longer head k
+  pub waits_still : (head k : ℕ) → IsWaiting queue head k → IsWaiting one_longer head k
   waits_still head k w = record { index = w.index; after = w.after; within = omega (arith, w.within, longer_by); here = earlier w.index w.within ∙ w.here }
 
-  pub waits_last : (head : ℕ) → head ≤ length queue → IsWaiting longer head v
+  pub waits_last : (head : ℕ) → head ≤ length queue → IsWaiting one_longer head v
   waits_last head le = record { index = length queue; after = le; within = omega (arith, longer_by); here = last }
 
 -- the numbers around a point
@@ -108,195 +104,263 @@ module _ (f : Filled) (whole : AreLevels f) (p : Point) (level : IsTrue (has_lev
         };
   }
 
-module _ (f : Filled) (flows : List LocalFlow) (are : AreLocalFlows f flows) where
-  pub on_flat_within : (g : ℕ) → IsOnFlat flows g → g < length flows
-  on_flat_within g on = elim (cases_lt g (length flows)) [ inl small ↦ small | inr past ↦ absurd (flat_ground flows g on (get_or_past flows g NoGround past)) ]
+-- the point of a flat
+pub flat_site : (f : Filled) (flows : List LocalFlow) → AreLocalFlows f flows → (g : ℕ) → IsOnFlat flows g → HasSite f g
+flat_site f flows are g on = elim (cases_lt g (length flows)) [
+  | inl small ↦ (are.each g (omega (arith, are.whole))).site (flat_ground flows g on)
+  | inr past ↦ absurd (flat_ground flows g on (get_or_past flows g NoGround past))
+]
 
-  pub flat_site : (g : ℕ) → IsOnFlat flows g → HasSite f g
-  flat_site g on = (are.each g (let small = on_flat_within g on in omega (arith, are.whole))).site (flat_ground flows g on)
+-- a sample that has no point is no point's
+pub site_ground : (f : Filled) (flows : List LocalFlow) → AreLocalFlows f flows → (g : ℕ) → g < length f.levels → HasSite f g → slice_index_or flows g NoGround ≡ NoGround → ⊥
+site_ground f flows are g small s none = subst (DrainsLike f s.0) none ((are.each g small).right s.0 s.1.0 s.1.1)
 
-  -- a point with a level that doesn't drain at once lies on a flat
-  pub on_flat : (p : Point) → IsTrue (has_level f p) → (IsEnd flows (number_in f p) → ⊥) → IsOnFlat flows (number_in f p)
-  on_flat p level no_end = by (slice_index_or flows (number_in f p) NoGround) refl (like_at f flows are p level)
-    where
-      by : (flow : LocalFlow) → slice_index_or flows (number_in f p) NoGround ≡ flow → DrainsLike f p flow → IsOnFlat flows (number_in f p)
-      by NoGround is like = absurd like
-      by Edge is like = absurd (no_end (subst DrainsAtOnce (sym is) tt))
-      by Flat is like = inl is
-      by Seam is like = inr is
-      by (Drains d) is like = absurd (no_end (subst DrainsAtOnce (sym is) tt))
+module _ (f : Filled) (starts : List ℕ) where
+  -- a start is walked from itself
+  reaches_start : (p : Point) (k : ℕ) → distance_at starts (number_in f p) ≡ k → Reaches f starts p k
+  reaches_start p zero is = is
+  reaches_start p (suc k) is = inl is
 
-  module _ (distances : List ℕ) (bounds : AreBounds f flows distances) where
-    -- a distance, lowered to one more than one across
-    module _ (g : ℕ) (on : IsOnFlat flows g) (p q : Point) (level : IsTrue (has_level f p)) (at : number_in f p ≡ g) (least : ℕ) (known : least < unknown)
-        (across : IsAcross f p q) (far : distance_at distances (number_in f q) ≡ least) where
-      abbrev new : List ℕ
-      new = set distances g (least + 1)
+  pub bounds_same : AreStarts f starts → AreBounds f starts starts
+  bounds_same are = record { whole = are.0; low = λ g. omega arith; sites = are.1; walked = λ p level known. reaches_start p (distance_at starts (number_in f p)) refl }
 
-      crosses : Crosses f p (least + 1)
-      crosses =
-          let q_level = (surface_lawful f).to_ground p q across.beside in
-          let there : Crosses f q least = subst (Crosses f q) far (subst (λ x. Crosses f x (distance_at distances (number_in f q))) (sample_is f are.valid q q_level) (bounds.walked (number_in f q) (omega (arith, far)))) in
-          subst (Crosses f p) (one_more least) (q, (across.beside, across.same_level, there))
-        where
-          one_more : (n : ℕ) → suc n ≡ n + 1
-          one_more n = omega arith
+  -- what was walked from distances that were walked themselves
+  module _ (middle : List ℕ) (first : AreBounds f starts middle) where
+    reaches_over : (k : ℕ) (p : Point) → IsTrue (has_level f p) → k < unknown → Reaches f middle p k → Reaches f starts p k
+    reaches_over zero p level small here = subst (Reaches f starts p) here (first.walked p level (omega (arith, here)))
+    reaches_over (suc k) p level small is = ⊎_elim
+        (λ here. subst (Reaches f starts p) here (first.walked p level (omega (arith, here))))
+        (λ next. inr (next.0, (next.1.0, reaches_over k next.0 ((surface_lawful f).to_ground p next.0 next.1.0.beside) (omega arith) next.1.1)))
+        is
 
-      pub lowered : AreBounds f flows (set distances g (least + 1))
-      lowered = record {
-        whole = length-set distances g (least + 1) ∙ bounds.whole;
-        ends = λ k end. elim (cases_eq k g) [
-          | inl same ↦ absurd (flat_no_end flows g on (subst (IsEnd flows) same end))
-          | inr other ↦ get_or-set_other distances g k (least + 1) unknown other ∙ bounds.ends k end
-        ];
-        nowhere = λ k none. elim (cases_eq k g) [
-          | inl same ↦ absurd (flat_ground flows g on (ap (λ n. slice_index_or flows n NoGround) (sym same) ∙ none))
-          | inr other ↦ get_or-set_other distances g k (least + 1) unknown other ∙ bounds.nowhere k none
-        ];
-        walked = λ k small_k. elim (cases_eq k g) [
-          | inl same ↦
-              let small = on_flat_within g on in
-              let is : distance_at new k ≡ least + 1 = ap (distance_at new) same ∙ get_or-set_same distances g (least + 1) unknown (omega (arith, bounds.whole, are.whole)) in
-              let here : sample_point f k ≡ p = ap (sample_point f) (same ∙ sym at) ∙ sample_is f are.valid p level in
-              subst (Crosses f (sample_point f k)) (sym is) (subst (λ x. Crosses f x (least + 1)) (sym here) crosses)
-          | inr other ↦
-              let is : distance_at new k ≡ distance_at distances k = get_or-set_other distances g k (least + 1) unknown other in
-              subst (Crosses f (sample_point f k)) (sym is) (bounds.walked k (omega (arith, is)))
+    pub bounds_over : (new : List ℕ) → AreBounds f middle new → AreBounds f starts new
+    bounds_over new second = record {
+      whole = second.whole;
+      low = λ g. omega (arith, first.low g, second.low g);
+      sites = second.sites;
+      walked = λ p level known. reaches_over (distance_at new (number_in f p)) p level known (second.walked p level known);
+    }
+
+    pub spread_over : (new : List ℕ) → AreSpread f middle new → AreSpread f starts new
+    spread_over new is =
+        let over = bounds_over new (record { whole = is.whole; low = is.low; sites = is.sites; walked = is.walked }) in
+        record { valid = is.valid; whole = is.whole; low = over.low; sites = is.sites; walked = over.walked; relaxed = is.relaxed }
+
+module _ (f : Filled) (distances queue : List ℕ) where
+  -- less distances are known still
+  wait_on : (new : List ℕ) → ((k : ℕ) → distance_at new k ≤ distance_at distances k) → AreWaiting f distances queue → AreWaiting f new queue
+  wait_on new low waiting i small = let was = waiting i small in (was.0, omega (arith, low (get_or queue i 0), was.1))
+
+  -- one more waits
+  wait_push : (g : ℕ) → AreWaiting f distances queue → HasSite f g → distance_at distances g < unknown → AreWaiting f distances (queue ++ (g ∷ []))
+  wait_push g waiting site known i small = elim (cases_eq i (length queue)) [
+    | inl end ↦
+        let is : get_or (queue ++ (g ∷ [])) i 0 ≡ g = ap (λ j. get_or (queue ++ (g ∷ [])) j 0) end ∙ last queue g in
+        subst (λ k. HasSite f k × (distance_at distances k < unknown)) (sym is) (site, known)
+    | inr other ↦
+        let before : i < length queue = omega (arith, longer_by queue g) in
+        subst (λ k. HasSite f k × (distance_at distances k < unknown)) (sym (earlier queue g i before)) (waiting i before)
+  ]
+
+  -- what waits later is the first start, or comes after it
+  first_or_rest : (s : Start) (rest : List Start) (k : ℕ) → IsLater (s ∷ rest) k → (s.number ≡ k) ⊎ IsLater rest k
+  first_or_rest s rest k one = ⊎_elim
+      (λ first. ⊎_elim (λ none. absurd (omega (arith, none.1))) (λ same. inl (ap (λ x. x.number) same ∙ one.1.1)) (Contains-push_cases [] s one.0 first))
+      (λ later. inr (one.0, (later, one.1.1)))
+      (Contains-append_cases (s ∷ []) rest one.0 one.1.0)
+
+  -- a start waits in the queue
+  pub joins : (s : Start) (rest : List Start) → IsPropagating f distances queue (s ∷ rest) → IsPropagating f distances (queue ++ (s.number ∷ [])) rest
+  joins s rest is =
+      let here = is.listed s.number (s, (Contains-append_left (s ∷ []) rest s (Contains-push [] s), refl)) in
+      record {
+        starts = is.starts;
+        waiting = wait_push s.number is.waiting here.0 here.1;
+        listed = λ k one. is.listed k (one.0, (Contains-append_right (s ∷ []) rest one.0 one.1.0, one.1.1));
+        relaxed = λ g k step. ⊎_elim (λ relaxed. inl relaxed)
+            (λ waits. inr (⊎_elim (λ queued. inl (waits_still queue s.number 0 k queued))
+            (λ one. ⊎_elim (λ now. inl (subst (IsWaiting (queue ++ (s.number ∷ [])) 0) now (waits_last queue s.number 0 (omega arith)))) (λ later. inr later) (first_or_rest s rest k one)) waits))
+            (is.relaxed g k step);
+      }
+
+module _ (f : Filled) (valid : AreLevels f) where
+  -- the number of a point with a level is that of a sample
+  pub site_within : (g : ℕ) → HasSite f g → g < length f.levels
+  site_within g s = subst (λ n. n < length f.levels) s.1.1 (level_within f valid s.0 s.1.0)
+
+  -- one distance, set
+  set_here : (distances : List ℕ) (g far : ℕ) → length distances ≡ length f.levels → HasSite f g → distance_at (set distances g far) g ≡ far
+  set_here distances g far whole site = let small = site_within g site in get_or-set_same distances g far unknown (omega (arith, whole))
+
+  set_elsewhere : (distances : List ℕ) (g far k : ℕ) → (k ≡ g → ⊥) → distance_at (set distances g far) k ≡ distance_at distances k
+  set_elsewhere distances g far k other = get_or-set_other distances g k far unknown other
+
+  -- a distance, lowered to one more than one across
+  module _ (distances : List ℕ) (starts : AreStarts f distances) (g : ℕ) (p q : Point) (level : IsTrue (has_level f p)) (at : number_in f p ≡ g) (far : ℕ) (across : IsAcross f p q)
+      (far_is : far ≡ distance_at distances (number_in f q) + 1) (less : far < distance_at distances g) where
+    abbrev new : List ℕ
+    new = set distances g far
+
+    here : distance_at new g ≡ far
+    here = set_here distances g far starts.0 (p, (level, at))
+
+    elsewhere : (k : ℕ) → (k ≡ g → ⊥) → distance_at new k ≡ distance_at distances k
+    elsewhere k other = set_elsewhere distances g far k other
+
+    reaches : Reaches f distances p far
+    reaches =
+        let least = distance_at distances (number_in f q) in
+        subst (Reaches f distances p) (one_more least ∙ sym far_is) (inr (q, (across, reaches_start f distances q least refl)))
+      where
+        one_more : (n : ℕ) → suc n ≡ n + 1
+        one_more n = omega arith
+
+    lowered : AreBounds f distances (set distances g far)
+    lowered = record {
+      whole = length-set distances g far ∙ starts.0;
+      low = λ k. elim (cases_eq k g) [
+        | inl same ↦ subst (λ j. distance_at new j ≤ distance_at distances j) (sym same) (omega (arith, here, less))
+        | inr other ↦ omega (arith, elsewhere k other)
+      ];
+      sites = λ k small. elim (cases_eq k g) [
+        | inl same ↦ (p, (level, at ∙ sym same))
+        | inr other ↦ starts.1 k (omega (arith, elsewhere k other))
+      ];
+      walked = λ x x_level small. elim (cases_eq (number_in f x) g) [
+        | inl same ↦
+            let one : x ≡ p = same_site f valid x p x_level level (same ∙ sym at) in
+            subst (Reaches f distances x) (sym (ap (distance_at new) same ∙ here)) (subst (λ y. Reaches f distances y far) (sym one) reaches)
+        | inr other ↦ reaches_start f distances x (distance_at new (number_in f x)) (sym (elsewhere (number_in f x) other))
+      ];
+    }
+
+  -- at first no sample is looked at
+  pub seeding_first : (distances : List ℕ) → AreStarts f distances → IsSeeding f distances [] [] 0
+  seeding_first distances starts = record {
+    starts = starts;
+    waiting = λ i small. absurd (omega arith);
+    listed = λ k is. absurd (omega (arith, is.1.0.1));
+    near = λ g e small. absurd (omega arith);
+    known = λ g small. absurd (omega arith);
+  }
+
+  -- the next sample is looked at
+  module _ (distances queue : List ℕ) (later : List Start) (k : ℕ) (is : IsSeeding f distances queue later k) where
+    module _ (none : (e : ℕ) → IsStepAcross f k e → distance_at distances e ≡ 0 → distance_at distances k ≤ 1) where
+      near_still : (g e : ℕ) → g < k + 1 → IsStepAcross f g e → distance_at distances e ≡ 0 → distance_at distances g ≤ 1
+      near_still g e small step end = elim (cases_eq g k) [
+        | inl same ↦ subst (λ n. distance_at distances n ≤ 1) (sym same) (none e (subst (λ n. IsStepAcross f n e) same step) end)
+        | inr other ↦ is.near g e (omega arith) step end
+      ]
+
+      -- it doesn't start, or with 0
+      pub seed_none : (distance_at distances k < unknown → distance_at distances k ≡ 0) → IsSeeding f distances queue later (k + 1)
+      seed_none at_end = record {
+        starts = is.starts;
+        waiting = is.waiting;
+        listed = is.listed;
+        near = near_still;
+        known = λ g small known. elim (cases_eq g k) [
+          | inl same ↦ inl (ap (distance_at distances) same ∙ at_end (subst (λ n. distance_at distances n < unknown) same known))
+          | inr other ↦ is.known g (omega arith) known
         ];
       }
 
-    -- one distance, set to one that is known, and one more waits
-    module _ (queue : List ℕ) (waiting : AreWaiting f flows distances queue) (g far : ℕ) (on : IsOnFlat flows g) (known : far < unknown) where
-      set_here : distance_at (set distances g far) g ≡ far
-      set_here = let small = on_flat_within g on in get_or-set_same distances g far unknown (omega (arith, bounds.whole, are.whole))
+      -- it starts, and waits later
+      module _ (d : ℕ) (start_known : distance_at distances k < unknown) where
+        abbrev start : Start
+        start = record { distance = d; number = k }
 
-      set_elsewhere : (k : ℕ) → (k ≡ g → ⊥) → distance_at (set distances g far) k ≡ distance_at distances k
-      set_elsewhere k other = get_or-set_other distances g k far unknown other
+        later_still : (g : ℕ) → IsLater later g → IsLater (later ++ (start ∷ [])) g
+        later_still g one = (one.0, (Contains-append_left later (start ∷ []) one.0 one.1.0, one.1.1))
 
-      known_still : (k : ℕ) → distance_at distances k < unknown → distance_at (set distances g far) k < unknown
-      known_still k was = elim (cases_eq k g) [
-        | inl same ↦ subst (λ n. distance_at (set distances g far) n < unknown) (sym same) (omega (arith, set_here))
-        | inr other ↦ omega (arith, set_elsewhere k other)
-      ]
+        pub seed_later : IsSeeding f distances queue (later ++ (record { distance = d; number = k } ∷ [])) (k + 1)
+        seed_later = record {
+          starts = is.starts;
+          waiting = is.waiting;
+          listed = λ g one. ⊎_elim (λ old. is.listed g (one.0, (old, one.1.1)))
+              (λ now. subst (λ n. HasSite f n × (distance_at distances n < unknown)) (ap (λ s. s.number) now ∙ one.1.1) (is.starts.1 k start_known, start_known))
+              (Contains-push_cases later start one.0 one.1.0);
+          near = near_still;
+          known = λ g small known. elim (cases_eq g k) [
+            | inl same ↦ inr (inr (start, (Contains-push later start, sym same)))
+            | inr other ↦ ⊎_elim (λ end. inl end) (λ waits. inr (⊎_elim (λ now. inl now) (λ old. inr (later_still g old)) waits)) (is.known g (omega arith) known)
+          ];
+        }
 
-      wait_more : AreWaiting f flows (set distances g far) (queue ++ (g ∷ []))
-      wait_more i small = elim (cases_eq i (length queue)) [
-        | inl end ↦
-            let is : get_or (queue ++ (g ∷ [])) i 0 ≡ g = ap (λ j. get_or (queue ++ (g ∷ [])) j 0) end ∙ last queue g in
-            subst (λ k. IsOnFlat flows k × (distance_at (set distances g far) k < unknown)) (sym is) (on, omega (arith, set_here))
-        | inr other ↦
-            let before : i < length queue = omega (arith, longer_by queue g) in
-            let was = waiting i before in
-            subst (λ k. IsOnFlat flows k × (distance_at (set distances g far) k < unknown)) (sym (earlier queue g i before)) (was.0, known_still (get_or queue i 0) was.1)
-      ]
+    -- a step across leads from it to one with the distance 0
+    module _ (more : 1 < distance_at distances k) (e : ℕ) (step : IsStepAcross f k e) (end : distance_at distances e ≡ 0) where
+      from_level : IsTrue (has_level f step.from)
+      from_level = (surface_lawful f).from_ground step.from step.to step.across.beside
 
-  -- at first only what drains at once has a distance
-  module _ (distances : List ℕ) (whole : length distances ≡ length flows) (ends : (g : ℕ) → IsEnd flows g → distance_at distances g ≡ 0) (others : (g : ℕ) → (IsEnd flows g → ⊥) → distance_at distances g ≡ unknown) where
-    pub bounds_first : AreBounds f flows distances
-    bounds_first = record {
-      whole = whole ∙ are.whole;
-      ends = ends;
-      nowhere = λ g none. others g (λ end. subst DrainsAtOnce none end);
-      walked = λ g known. ⊎_elim
-          (λ end.
-          let small : g < length flows = elim (cases_lt g (length flows)) [ inl small ↦ small | inr past ↦ absurd (subst DrainsAtOnce (get_or_past flows g NoGround past) end) ] in
-          let s = (are.each g (omega (arith, are.whole))).site (λ none. subst DrainsAtOnce none end) in
-          let is : sample_point f g ≡ s.0 = ap (sample_point f) (sym s.1.1) ∙ sample_is f are.valid s.0 s.1.0 in
-          let like = (are.each g (omega (arith, are.whole))).right s.0 s.1.0 s.1.1 in
-          subst (Crosses f (sample_point f g)) (sym (ends g end)) (subst (λ p. Crosses f p 0) (sym is) (crosses_end (surface f) (level_at f) s.0 (slice_index_or flows g NoGround) like end)))
-          (λ no_end. absurd (omega (arith, others g no_end)))
-          (decided (slice_index_or flows g NoGround));
-    }
+      k_here : distance_at (set distances k 1) k ≡ 1
+      k_here = set_here distances k 1 is.starts.0 (step.from, (from_level, step.start))
 
-    pub seeding_first : IsSeeding f flows distances [] 0
-    seeding_first = record {
-      bounds = bounds_first;
-      waiting = λ i small. absurd (omega arith);
-      near = λ g e small. absurd (omega arith);
-      known = λ g known. ⊎_elim (λ end. inl end) (λ no_end. absurd (omega (arith, others g no_end))) (decided (slice_index_or flows g NoGround));
-    }
+      pub seed_bounds : AreBounds f distances (set distances k 1)
+      seed_bounds = lowered distances is.starts k step.from step.to from_level step.start 1 step.across (omega (arith, ap (distance_at distances) step.end, end)) more
 
-  -- the next sample is looked at
-  module _ (distances queue : List ℕ) (k : ℕ) (is : IsSeeding f flows distances queue k) where
-    pub seed_none : ((e : ℕ) → IsOnFlat flows k → IsStepAcross f k e → IsEnd flows e → ⊥) → IsSeeding f flows distances queue (k + 1)
-    seed_none none = record {
-      bounds = is.bounds;
-      waiting = is.waiting;
-      near = λ g e small step end. elim (cases_eq g k) [
-        | inl same ↦ ⊎_elim
-            (λ here. omega (arith, is.bounds.ends g here))
-            (λ no_end. absurd (none e (subst (IsOnFlat flows) (step.start ∙ same) (on_flat step.from ((surface_lawful f).from_ground step.from step.to step.across.beside) (λ h. no_end (subst (IsEnd flows) step.start h))))
-            (subst (λ n. IsStepAcross f n e) same step) end))
-            (decided (slice_index_or flows g NoGround))
-        | inr other ↦ is.near g e (omega arith) step end
-      ];
-      known = is.known;
-    }
+      pub seed_one : IsSeeding f (set distances k 1) (queue ++ (k ∷ [])) later (k + 1)
+      seed_one = record {
+        starts = (seed_bounds.whole, seed_bounds.sites);
+        waiting = wait_push f (set distances k 1) queue k (wait_on f distances queue (set distances k 1) seed_bounds.low is.waiting) (step.from, (from_level, step.start)) (omega (arith, k_here));
+        listed = λ g one. let was = is.listed g one in (was.0, omega (arith, seed_bounds.low g, was.1));
+        near = λ g x small away out. elim (cases_eq g k) [
+          | inl same ↦ omega (arith, ap (distance_at (set distances k 1)) same, k_here)
+          | inr other ↦ elim (cases_eq x k) [
+            | inl there ↦ absurd (omega (arith, ap (distance_at (set distances k 1)) there, k_here))
+            | inr apart ↦ omega (arith, set_elsewhere distances k 1 g other, is.near g x (omega arith) away (sym (set_elsewhere distances k 1 x apart) ∙ out))
+          ]
+        ];
+        known = λ g small known. elim (cases_eq g k) [
+          | inl same ↦ inr (inl (subst (IsWaiting (queue ++ (k ∷ [])) 0) (sym same) (waits_last queue k 0 (omega arith))))
+          | inr other ↦ ⊎_elim (λ zero_there. inl (set_elsewhere distances k 1 g other ∙ zero_there)) (λ waits. inr (⊎_elim (λ now. inl (waits_still queue k 0 g now)) (λ old. inr old) waits))
+              (is.known g (omega arith) (omega (arith, set_elsewhere distances k 1 g other)))
+        ];
+      }
 
-    module _ (on : IsOnFlat flows k) (e : ℕ) (step : IsStepAcross f k e) (end : IsEnd flows e) where
-      pub seed_one : IsSeeding f flows (set distances k 1) (queue ++ (k ∷ [])) (k + 1)
-      seed_one =
-          let far : distance_at distances (number_in f step.to) ≡ 0 = ap (distance_at distances) step.end ∙ is.bounds.ends e end in
-          record {
-            bounds = lowered distances is.bounds k on step.from step.to ((surface_lawful f).from_ground step.from step.to step.across.beside) step.start 0 (omega arith) step.across far;
-            waiting = wait_more distances is.bounds queue is.waiting k 1 on (omega arith);
-            near = λ g x small away out. elim (cases_eq g k) [
-              | inl same ↦ omega (arith, ap (distance_at (set distances k 1)) same, set_here distances is.bounds queue is.waiting k 1 on (omega arith))
-              | inr other ↦ omega (arith, set_elsewhere distances is.bounds queue is.waiting k 1 on (omega arith) g other, is.near g x (omega arith) away out)
-            ];
-            known = λ g known. elim (cases_eq g k) [
-              | inl same ↦ inr (subst (IsWaiting (queue ++ (k ∷ [])) 0) (sym same) (waits_last queue k 0 (omega arith)))
-              | inr other ↦ ⊎_elim (λ end. inl end) (λ waits. inr (waits_still queue k 0 g waits)) (is.known g (omega (arith, set_elsewhere distances is.bounds queue is.waiting k 1 on (omega arith) g other)))
-            ];
-          }
-
-    pub seeded : length flows ≤ k → IsPropagating f flows distances queue 0
+    pub seeded : length f.levels ≤ k → IsPropagating f distances queue later
     seeded all = record {
-      bounds = is.bounds;
+      starts = is.starts;
       waiting = is.waiting;
+      listed = is.listed;
       relaxed = λ g e step. elim (cases_lt (distance_at distances e) unknown) [
-        | inl known ↦ ⊎_elim
-            (λ end.
-            let small = level_within f are.valid step.from ((surface_lawful f).from_ground step.from step.to step.across.beside) in
-            inl (λ _. omega (arith, is.bounds.ends e end, is.near g e (omega (arith, small, step.start, are.whole)) step end)))
-            (λ waits. inr waits) (is.known e known)
+        | inl known ↦
+            let from = level_within f valid step.from ((surface_lawful f).from_ground step.from step.to step.across.beside) in
+            let to = level_within f valid step.to ((surface_lawful f).to_ground step.from step.to step.across.beside) in
+            ⊎_elim (λ end. inl (λ _. omega (arith, end, is.near g e (omega (arith, from, step.start)) step end))) (λ waits. inr waits) (is.known e (omega (arith, to, step.end)) known)
         | inr past ↦ inl (λ known. absurd (omega arith))
       ];
     }
 
-  -- the sample at the head is taken
-  module _ (distances queue : List ℕ) (head : ℕ) (is : IsPropagating f flows distances queue head) where
-    pub begun : (p : Point) → head < length queue → get_or queue head 0 ≡ number_in f p → IsTrue (has_level f p) → IsRelaxing f flows distances queue head p 0
-    begun p taken here level = record {
-      bounds = is.bounds;
-      waiting = is.waiting;
-      taken = taken;
-      relaxed = λ g k step. ⊎_elim (λ relaxed. inl (inl relaxed))
-          (λ w. elim (cases_eq w.index head) [
-            | inl same ↦
-                let k_is : number_in f p ≡ k = sym here ∙ ap (λ i. get_or queue i 0) (sym same) ∙ w.here in
-                let to_level = (surface_lawful f).to_ground step.from step.to step.across.beside in
-                let one : step.to ≡ p = same_site f are.valid step.to p to_level level (step.end ∙ sym k_is) in
-                let back = (surface_lawful f).both_ways step.from step.to step.across.beside in
-                let away = surface_steps f p step.from (subst (λ q. IsTrue ((surface f).is_adjacent q step.from)) one back) in
-                let across : IsAcross f p step.from = record { beside = subst (λ q. IsTrue ((surface f).is_adjacent q step.from)) one back; same_level = sym step.across.same_level ∙ ap (level_at f) one } in
-                inr (sym k_is, (away.0, (omega arith, (subst (IsAcross f p) away.1 across, ap (number_in f) (sym away.1) ∙ step.start))))
-            | inr other ↦ inl (inr (record { index = w.index; after = omega (arith, w.after); within = w.within; here = w.here }))
-          ])
-          (is.relaxed g k step);
-    }
+  -- starts wait in any order
+  pub in_order : (distances queue : List ℕ) (later sorted : List Start) → IsPermutation later sorted → IsPropagating f distances queue later → IsPropagating f distances queue sorted
+  in_order distances queue later sorted same is = record {
+    starts = is.starts;
+    waiting = is.waiting;
+    listed = λ k one. is.listed k (one.0, (Contains-permutation sorted later one.0 (IsPermutation-sym later sorted same) one.1.0, one.1.1));
+    relaxed = λ g k step. ⊎_elim (λ relaxed. inl relaxed) (λ waits. inr (⊎_elim (λ now. inl now) (λ one. inr (one.0, (Contains-permutation later sorted one.0 same one.1.0, one.1.1))) waits)) (is.relaxed g k step);
+  }
 
-    pub relaxed_all : length queue ≤ head → AreRelaxed f distances
-    relaxed_all past g k step = ⊎_elim (λ relaxed. relaxed) (λ w. absurd (omega (arith, w.after, w.within))) (is.relaxed g k step)
+  -- nothing is done yet
+  pub stays : (distances queue : List ℕ) (head : ℕ) → AreStarts f distances → AreWaiting f distances queue → IsAdvance f distances queue head distances queue head
+  stays distances queue head starts waiting = record { bounds = bounds_same f distances starts; waiting = waiting; relaxed = λ g k step was. was }
+
+  -- one advance after another
+  pub advanced : (old queue : List ℕ) (head : ℕ) (middle longer : List ℕ) (next : ℕ) (new longest : List ℕ) (end : ℕ) → IsAdvance f old queue head middle longer next → IsAdvance f middle longer next new longest end → IsAdvance f old queue head new longest end
+  advanced old queue head middle longer next new longest end first second = record {
+    bounds = bounds_over f old middle first.bounds new second.bounds;
+    waiting = second.waiting;
+    relaxed = λ g k step was. second.relaxed g k step (first.relaxed g k step was);
+  }
 
   -- what stands in the queue is taken, and what waits after it is next
-  pub next_wave : (distances queue next : List ℕ) (head : ℕ) → length queue ≤ head → IsPropagating f flows distances (queue ++ next) head → IsPropagating f flows distances next 0
-  next_wave distances queue next head past is = record {
+  pub next_wave : (old new queue next : List ℕ) (head : ℕ) → length queue ≤ head → IsAdvance f old queue 0 new (queue ++ next) head → IsAdvance f old queue 0 new next 0
+  next_wave old new queue next head past is = record {
     bounds = is.bounds;
     waiting = λ i small.
         let at = get_or-append-add queue next i 0 in
-        subst (λ g. IsOnFlat flows g × (distance_at distances g < unknown)) at (is.waiting (length queue + i) (let long = length-append queue next in omega arith));
-    relaxed = λ g k step. ⊎_elim (λ relaxed. inl relaxed)
+        subst (λ g. HasSite f g × (distance_at new g < unknown)) at (is.waiting (length queue + i) (let long = length-append queue next in omega arith));
+    relaxed = λ g k step was. ⊎_elim (λ relaxed. inl relaxed)
         (λ w.
         let j = w.index - length queue in
         let index : w.index ≡ length queue + j = let after = w.after in omega arith in
@@ -306,19 +370,63 @@ module _ (f : Filled) (flows : List LocalFlow) (are : AreLocalFlows f flows) whe
           within = let long = length-append queue next in let within = w.within in omega arith;
           here = sym (get_or-append-add queue next j 0) ∙ ap (λ i. get_or (queue ++ next) i 0) (sym index) ∙ w.here;
         }))
-        (is.relaxed g k step);
+        (is.relaxed g k step was);
   }
 
-  module _ (distances queue : List ℕ) (head : ℕ) (p : Point) (level : IsTrue (has_level f p)) where
-    pub passed : (i : ℕ) → 8 ≤ i → IsRelaxing f flows distances queue head p i → IsPropagating f flows distances queue (head + 1)
+  -- the queue is taken whole, and starts still wait
+  pub propagated : (old queue new next : List ℕ) (later : List Start) → IsPropagating f old queue later → IsAdvance f old queue 0 new next 0 → IsPropagating f new next later
+  propagated old queue new next later is by = record {
+    starts = (by.bounds.whole, by.bounds.sites);
+    waiting = by.waiting;
+    listed = λ k one. let was = is.listed k one in (was.0, omega (arith, by.bounds.low k, was.1));
+    relaxed = λ g k step.
+        let now : IsRelaxed f old g k ⊎ IsWaiting queue 0 k → IsRelaxed f new g k ⊎ (IsWaiting next 0 k ⊎ IsLater later k) = λ was. ⊎_elim (λ relaxed. inl relaxed) (λ waits. inr (inl waits)) (by.relaxed g k step was) in
+        ⊎_elim (λ relaxed. now (inl relaxed)) (λ waits. ⊎_elim (λ queued. now (inr queued)) (λ one. inr (inr one)) waits) (is.relaxed g k step);
+  }
+
+  -- nothing waits
+  pub all_spread : (starts distances queue : List ℕ) (later : List Start) → AreBounds f starts distances → IsPropagating f distances queue later → length queue ≡ 0 → length later ≡ 0 → AreSpread f starts distances
+  all_spread starts distances queue later bounds is empty none = record {
+    valid = valid;
+    whole = bounds.whole;
+    low = bounds.low;
+    sites = bounds.sites;
+    walked = bounds.walked;
+    relaxed = λ p q across known. ⊎_elim (λ relaxed. relaxed known) (λ waits. absurd (⊎_elim (λ w. omega (arith, w.within)) (λ one. omega (arith, one.1.0.1)) waits))
+        (is.relaxed (number_in f p) (number_in f q) (record { from = p; to = q; across = across; start = refl; end = refl }));
+  }
+
+  -- the sample at the head is taken
+  pub begun : (distances queue : List ℕ) (head : ℕ) → AreStarts f distances → AreWaiting f distances queue → (p : Point) → head < length queue → get_or queue head 0 ≡ number_in f p → IsTrue (has_level f p) → IsRelaxing f distances queue head distances queue p 0
+  begun distances queue head starts waiting p taken here level = record {
+    bounds = bounds_same f distances starts;
+    waiting = waiting;
+    taken = taken;
+    relaxed = λ g k step was. ⊎_elim (λ relaxed. inl (inl relaxed))
+        (λ w. elim (cases_eq w.index head) [
+          | inl same ↦
+              let k_is : number_in f p ≡ k = sym here ∙ ap (λ i. get_or queue i 0) (sym same) ∙ w.here in
+              let to_level = (surface_lawful f).to_ground step.from step.to step.across.beside in
+              let one : step.to ≡ p = same_site f valid step.to p to_level level (step.end ∙ sym k_is) in
+              let back = (surface_lawful f).both_ways step.from step.to step.across.beside in
+              let away = surface_steps f p step.from (subst (λ q. IsTrue ((surface f).is_adjacent q step.from)) one back) in
+              let across : IsAcross f p step.from = record { beside = subst (λ q. IsTrue ((surface f).is_adjacent q step.from)) one back; same_level = sym step.across.same_level ∙ ap (level_at f) one } in
+              inr (sym k_is, (away.0, (omega arith, (subst (IsAcross f p) away.1 across, ap (number_in f) (sym away.1) ∙ step.start))))
+          | inr other ↦ inl (inr (record { index = w.index; after = omega (arith, w.after); within = w.within; here = w.here }))
+        ])
+        was;
+  }
+
+  module _ (old queue : List ℕ) (head : ℕ) (distances longer : List ℕ) (p : Point) (level : IsTrue (has_level f p)) where
+    pub passed : (i : ℕ) → 8 ≤ i → IsRelaxing f old queue head distances longer p i → IsAdvance f old queue head distances longer (head + 1)
     passed i all is = record {
       bounds = is.bounds;
       waiting = is.waiting;
-      relaxed = λ g k step. ⊎_elim (λ old. old) (λ next. absurd (omega (arith, next.1.1.0, order_below next.1.0))) (is.relaxed g k step);
+      relaxed = λ g k step was. ⊎_elim (λ now. now) (λ next. absurd (omega (arith, next.1.1.0, order_below next.1.0))) (is.relaxed g k step was);
     }
 
     -- one direction more
-    module _ (d : Dir) (is : IsRelaxing f flows distances queue head p (order_of d)) (from far : ℕ) (at : number_in f p ≡ from) (far_is : far ≡ distance_at distances from + 1) (from_known : distance_at distances from < unknown)
+    module _ (d : Dir) (is : IsRelaxing f old queue head distances longer p (order_of d)) (from far : ℕ) (at : number_in f p ≡ from) (far_is : far ≡ distance_at distances from + 1)
         (around : List (Option ℕ)) (are_around : AreAround f p around) (to : Option ℕ) (to_is : to ≡ slice_index_or around (order_of d) None) where
       level_here : slice_index_or f.levels from void ≡ level_at f p
       level_here = ap (λ n. slice_index_or f.levels n void) (sym at) ∙ at_level f p
@@ -332,12 +440,12 @@ module _ (f : Filled) (flows : List LocalFlow) (are : AreLocalFlows f flows) whe
         | inr other ↦ inr (next.0, (next.1.0, (omega (arith, next.1.1.0), (next.1.1.1.0, next.1.1.1.1))))
       ]
 
-      kept : IsKept f.levels distances queue from far to distances queue → IsRelaxing f flows distances queue head p (order_of d + 1)
+      kept : IsKept f.levels distances longer from far to distances longer → IsRelaxing f old queue head distances longer p (order_of d + 1)
       kept none = record {
         bounds = is.bounds;
         waiting = is.waiting;
         taken = is.taken;
-        relaxed = λ g k step_to. ⊎_elim (λ old. inl old)
+        relaxed = λ g k step_to was. ⊎_elim (λ now. inl now)
             (λ next. ⊎_elim
             (λ here.
             let there = are_around.all d here.1.0 in
@@ -348,7 +456,7 @@ module _ (f : Filled) (flows : List LocalFlow) (are : AreLocalFlows f flows) whe
             inl (inl (λ known. omega (arith, near, far_is, ap (distance_at distances) (here.0 ∙ at)))))
             (λ later. inr later)
             (next_or_later g k next))
-            (is.relaxed g k step_to);
+            (is.relaxed g k step_to was);
       }
 
       module _ (n : ℕ) (n_is : to ≡ Some n) (n_level : slice_index_or f.levels n void ≡ slice_index_or f.levels from void) (less : far < distance_at distances n) (far_known : far < unknown) where
@@ -361,92 +469,82 @@ module _ (f : Filled) (flows : List LocalFlow) (are : AreLocalFlows f flows) whe
         there_level : IsTrue (has_level f (step d p))
         there_level = (surface_lawful f).to_ground p (step d p) across_there.beside
 
-        on : IsOnFlat flows n
-        on = subst (IsOnFlat flows) n_number (on_flat (step d p) there_level (λ end. absurd (let zero_there = is.bounds.ends n (subst (IsEnd flows) n_number end) in omega arith)))
-
         abbrev after : List ℕ
         after = set distances n far
-
-        here_is : distance_at after n ≡ far
-        here_is = set_here distances is.bounds queue is.waiting n far on far_known
-
-        elsewhere : (k : ℕ) → (k ≡ n → ⊥) → distance_at after k ≡ distance_at distances k
-        elsewhere k other = set_elsewhere distances is.bounds queue is.waiting n far on far_known k other
-
-        less_all : (k : ℕ) → distance_at after k ≤ distance_at distances k
-        less_all k = elim (cases_eq k n) [
-          | inl same ↦ subst (λ j. distance_at after j ≤ distance_at distances j) (sym same) (omega (arith, here_is))
-          | inr other ↦ omega (arith, elsewhere k other)
-        ]
 
         back : IsAcross f (step d p) p
         back = record { beside = (surface_lawful f).both_ways p (step d p) across_there.beside; same_level = sym across_there.same_level }
 
-        saved : IsRelaxing f flows (set distances n far) (queue ++ (n ∷ [])) head p (order_of d + 1)
+        lower : AreBounds f distances after
+        lower = lowered distances (is.bounds.whole, is.bounds.sites) n (step d p) p there_level n_number far back (far_is ∙ ap (λ g. distance_at distances g + 1) (sym at)) less
+
+        here_is : distance_at after n ≡ far
+        here_is = set_here distances n far is.bounds.whole (step d p, (there_level, n_number))
+
+        saved : IsRelaxing f old queue head (set distances n far) (longer ++ (n ∷ [])) p (order_of d + 1)
         saved = record {
-          bounds = subst (λ v. AreBounds f flows (set distances n v)) (sym far_is)
-              (lowered distances is.bounds n on (step d p) p there_level n_number (distance_at distances from) from_known back (ap (distance_at distances) at));
-          waiting = wait_more distances is.bounds queue is.waiting n far on far_known;
-          taken = omega (arith, is.taken, longer_by queue n);
-          relaxed = λ g k step_to. elim (cases_eq k n) [
-            | inl same ↦ inl (inr (subst (IsWaiting (queue ++ (n ∷ [])) (head + 1)) (sym same) (waits_last queue n (head + 1) (omega (arith, is.taken)))))
+          bounds = bounds_over f old distances is.bounds after lower;
+          waiting = wait_push f after longer n (wait_on f distances longer after lower.low is.waiting) (step d p, (there_level, n_number)) (omega (arith, here_is));
+          taken = omega (arith, is.taken, longer_by longer n);
+          relaxed = λ g k step_to was. elim (cases_eq k n) [
+            | inl same ↦ inl (inr (subst (IsWaiting (longer ++ (n ∷ [])) (head + 1)) (sym same) (waits_last longer n (head + 1) (omega (arith, is.taken)))))
             | inr other ↦ ⊎_elim
-                (λ old. inl (⊎_elim
+                (λ now. inl (⊎_elim
                 (λ relaxed. inl (λ known.
-                let was = relaxed (omega (arith, elsewhere k other)) in
-                omega (arith, elsewhere k other, less_all g)))
-                (λ waits. inr (waits_still queue n (head + 1) k waits)) old))
+                let before = relaxed (omega (arith, set_elsewhere distances n far k other)) in
+                omega (arith, set_elsewhere distances n far k other, lower.low g)))
+                (λ waits. inr (waits_still longer n (head + 1) k waits)) now))
                 (λ next. ⊎_elim
                 (λ here.
                 let g_is : g ≡ n = sym here.1.1 ∙ n_number in
-                inl (inl (λ known. omega (arith, ap (distance_at after) g_is, here_is, far_is, ap (distance_at distances) (here.0 ∙ at), elsewhere k other))))
+                inl (inl (λ known. omega (arith, ap (distance_at after) g_is, here_is, far_is, ap (distance_at distances) (here.0 ∙ at), set_elsewhere distances n far k other))))
                 (λ later. inr later)
                 (next_or_later g k next))
-                (is.relaxed g k step_to)
+                (is.relaxed g k step_to was)
           ];
         }
 
-      pub relaxed_more : (now more : List ℕ) → IsRelaxStep f.levels distances queue from far to now more → IsRelaxing f flows now more head p (order_of d + 1)
+      pub relaxed_more : (now more : List ℕ) → IsRelaxStep f.levels distances longer from far to now more → IsRelaxing f old queue head now more p (order_of d + 1)
       relaxed_more now more taken = ⊎_elim
-          (λ none. subst (λ ds. IsRelaxing f flows ds more head p (order_of d + 1)) (sym none.unchanged)
-          (subst (λ ks. IsRelaxing f flows distances ks head p (order_of d + 1)) (sym none.as_long) (kept (record { unchanged = refl; as_long = refl; near = none.near }))))
-          (λ one. subst (λ ds. IsRelaxing f flows ds more head p (order_of d + 1)) (sym one.lowered)
-          (subst (λ ks. IsRelaxing f flows (set distances one.number far) ks head p (order_of d + 1)) (sym one.waits) (saved one.number one.is one.level one.less one.known)))
+          (λ none. subst (λ ds. IsRelaxing f old queue head ds more p (order_of d + 1)) (sym none.unchanged)
+          (subst (λ ks. IsRelaxing f old queue head distances ks p (order_of d + 1)) (sym none.as_long) (kept (record { unchanged = refl; as_long = refl; near = none.near }))))
+          (λ one. subst (λ ds. IsRelaxing f old queue head ds more p (order_of d + 1)) (sym one.lowered)
+          (subst (λ ks. IsRelaxing f old queue head (set distances one.number far) ks p (order_of d + 1)) (sym one.waits) (saved one.number one.is one.level one.less one.known)))
           taken
 
       -- and the distance of the sample at the head stays
-      pub same_far : (now more : List ℕ) → IsRelaxStep f.levels distances queue from far to now more → distance_at now from ≡ distance_at distances from
+      pub same_far : (now more : List ℕ) → IsRelaxStep f.levels distances longer from far to now more → distance_at now from ≡ distance_at distances from
       same_far now more taken = ⊎_elim
           (λ none. ap (λ ds. distance_at ds from) none.unchanged)
           (λ one. ap (λ ds. distance_at ds from) one.lowered ∙ get_or-set_other distances one.number from far unknown (λ same. absurd (omega (arith, one.less, ap (distance_at distances) same, far_is))))
           taken
 
--- steps from a point to what drains at once
-module _ (f : Filled) (flows : List LocalFlow) (are : AreLocalFlows f flows) (p : Point) (level : IsTrue (has_level f p)) (around : List (Option ℕ)) (are_around : AreAround f p around) where
+-- steps from a point to one with the distance 0
+module _ (f : Filled) (valid : AreLevels f) (distances : List ℕ) (p : Point) (level : IsTrue (has_level f p)) (around : List (Option ℕ)) (are_around : AreAround f p around) where
   level_number : (number : ℕ) → number_in f p ≡ number → slice_index_or f.levels number void ≡ level_at f p
   level_number number at = ap (λ n. slice_index_or f.levels n void) (sym at) ∙ at_level f p
 
-  pub end_step : (number : ℕ) → number_in f p ≡ number → (d : Dir) (g : ℕ) → get_or around (order_of d) None ≡ Some g → slice_index_or f.levels g void ≡ slice_index_or f.levels number void → IsStepAcross f number g
-  end_step number at d g is same =
+  pub step_there : (number : ℕ) → number_in f p ≡ number → (d : Dir) (g : ℕ) → get_or around (order_of d) None ≡ Some g → slice_index_or f.levels g void ≡ slice_index_or f.levels number void → IsStepAcross f number g
+  step_there number at d g is same =
       let there = are_around.each d g is in
       record { from = p; to = step d p; across = there.across (same ∙ level_number number at); start = at; end = there.numbered (same ∙ level_number number at) }
 
   abbrev HasNone : Dir → Type 0
-  HasNone d = IsAcross f p (step d p) → IsEnd flows (number_in f (step d p)) → ⊥
+  HasNone d = IsAcross f p (step d p) → distance_at distances (number_in f (step d p)) ≡ 0 → ⊥
 
-  pub no_end_there : (number : ℕ) → number_in f p ≡ number → (d : Dir) → ((g : ℕ) × ((get_or around (order_of d) None ≡ Some g) × ((slice_index_or f.levels g void ≡ slice_index_or f.levels number void) × IsEnd flows g)) → ⊥) → HasNone d
-  no_end_there number at d none across end = none (
+  pub no_zero_there : (number : ℕ) → number_in f p ≡ number → (d : Dir) → ((g : ℕ) × ((get_or around (order_of d) None ≡ Some g) × ((slice_index_or f.levels g void ≡ slice_index_or f.levels number void) × (distance_at distances g ≡ 0))) → ⊥) → HasNone d
+  no_zero_there number at d none across end = none (
     number_in f (step d p),
     (are_around.all d across, (at_level f (step d p) ∙ across.same_level ∙ sym (level_number number at), end)),
   )
 
-  pub no_end_at_all : (number : ℕ) → number_in f p ≡ number → ((d : Dir) → HasNone d) → (k : ℕ) → IsStepAcross f number k → IsEnd flows k → ⊥
-  no_end_at_all number at none k away end =
+  pub no_zero_at_all : (number : ℕ) → number_in f p ≡ number → ((d : Dir) → HasNone d) → (k : ℕ) → IsStepAcross f number k → distance_at distances k ≡ 0 → ⊥
+  no_zero_at_all number at none k away end =
       let from_level = (surface_lawful f).from_ground away.from away.to away.across.beside in
-      let one : away.from ≡ p = same_site f are.valid away.from p from_level level (away.start ∙ sym at) in
+      let one : away.from ≡ p = same_site f valid away.from p from_level level (away.start ∙ sym at) in
       let across : IsAcross f p away.to = subst (λ q. IsAcross f q away.to) one away.across in
       let by = surface_steps f p away.to across.beside in
-      none by.0 (subst (IsAcross f p) by.1 across) (subst (IsEnd flows) (sym away.end ∙ ap (number_in f) by.1) end)
+      none by.0 (subst (IsAcross f p) by.1 across) (ap (distance_at distances) (sym (ap (number_in f) by.1) ∙ away.end) ∙ end)
 
 module _ (f : Filled) (p : Point) (around : List (Option ℕ)) (are : AreAround f p around) (i n : ℕ) (small : i < 8) (whole : length f.levels ≡ n) where
   pub around_each : (g : ℕ) → get_or around i None ≡ Some g → g < n

@@ -19,7 +19,6 @@ use Rattle.lattice.specs.Corners.{Corner}
 use Rattle.lattice.specs.Lattice.{IsBefore, Holds, IsIndexOf, index_of}
 use Rattle.lattice.proofs.Samples.{index_is, held_at}
 use Rattle.flow_d8.specs.Filled.{is_holder, is_held, number_of}
-use Rattle.flow_d8.specs.Windows.{IsHeldOutside}
 use Rattle.flow_d8.proofs.Numbers.{seat_of, number-here, number-later, holder_holds, holds_holder}
 use Rattle.lattice.proofs.CornerOrder.{Below, before_says, before_apart, before_not_back}
 use Rattle.lattice.proofs.Rising.{rising_from, rises_at}
@@ -187,26 +186,6 @@ not_shared n corners around p q i side exactly all passed = elim (cases_Bool (li
       let has = (exactly c).1 (holder_holds n c p side both.0) in
       absurd (passed has.0 c (omega (arith, has.1)) (subst (λ (e : Corner). is_holder n e q ≡ true) (sym has.2) both.1) (subst (λ (e : Corner). Contains corners e) (sym has.2) some.1.0))
 ]
-
--- of the first i holders each that is among the present corners is among the others
-abbrev pub AreWithin : List Corner → List Corner → List Corner → ℕ → Type 0
-AreWithin corners present around i = (j : ℕ) (d : Corner) → j < i → Contains present (get_or around j d) → (Contains corners (get_or around j d) → ⊥) → ⊥
-
-pub within_more : (corners present around : List Corner) (i : ℕ) (c : Corner) → i < length around → c ≡ get_or around i c → (Contains present c → (Contains corners c → ⊥) → ⊥) → AreWithin corners present around i
-    → AreWithin corners present around (i + 1)
-within_more corners present around i c small is here so_far j d lt = elim (cases_eq j i) [
-  | inl last ↦
-      let same : get_or around j d ≡ c = ap (λ k. get_or around k d) last ∙ get_or_default around i d c small ∙ sym is in
-      λ has out. here (subst (λ (e : Corner). Contains present e) same has) (λ listed. out (subst (λ (e : Corner). Contains corners e) (sym same) listed))
-  | inr other ↦ so_far j d (omega arith)
-]
-
-pub none_outside : (n : ℕ) (corners present around : List Corner) (p : Point) → 3 ≤ n → ((d : Corner) → Contains around d ↔ Holds n d p) → (i : ℕ) → length around ≤ i → AreWithin corners present around i
-    → IsHeldOutside n corners present p → ⊥
-none_outside n corners present around p side exactly i all passed held =
-    let c = held.0 in
-    let has = (exactly c).1 (holder_holds n c p side held.1.1.0) in
-    passed has.0 c (omega (arith, has.1)) (subst (λ (e : Corner). Contains present e) (sym has.2) held.1.0) (λ listed. held.1.1.1 (subst (λ (e : Corner). Contains corners e) has.2 listed))
 
 pub some_tile : (N : Type 0) (P : ℕ → Type 0) (r : Option ℕ) → MatchOption r N P → is_some r ≡ true → (k : ℕ) × P k
 some_tile N P None h e = absurd (true≢false (sym e))

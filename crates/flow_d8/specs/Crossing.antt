@@ -1,5 +1,5 @@
 -- What is known of the samples of filled levels: where each point drains, and how far it is across its flat.
-use Rattle.std.specs.Prelude.{◌≡◌, ℕ, ◌+◌, ◌*◌, ◌/◌, ◌%◌, ◌<◌, ◌≤◌, ◌⊎◌, ℤ, pos, true, ◌&&◌, ◌||◌, nat_lt, IsTrue, Option, Some, None, List, length, count_by, slice_index_or}
+use Rattle.std.specs.Prelude.{◌≡◌, ℕ, ◌+◌, ◌*◌, ◌/◌, ◌%◌, ◌<◌, ◌≤◌, ℤ, pos, true, ◌&&◌, ◌||◌, nat_lt, IsTrue, Option, Some, None, List, length, count_by, slice_index_or}
 use Rattle.lattice.specs.declared.point.Point.{Point}
 use Rattle.lattice.specs.declared.direction.Dir.{Dir}
 use Rattle.lattice.specs.Steps.{step, order_of, directions}
@@ -13,7 +13,7 @@ use Rattle.flow_d8.specs.FlatCertificate as certificate
 use Rattle.flow_d8.specs.Filled.{Filled, AreLevels, is_deep, is_held}
 use Rattle.flow_d8.specs.LevelGrid.{IsLevelGrid}
 use Rattle.flow_d8.specs.Places.{IsShown, IsFlowOf, IsGroundFlow}
-use Rattle.flow_d8.specs.Propagation.{unknown, distance_at, IsEnd, IsOnFlat, IsWaiting}
+use Rattle.flow_d8.specs.Propagation.{unknown, distance_at}
 use Rattle.flow_d8.specs.Surface.{number_in, level_at, has_level, is_declared, surface}
 
 module _ (f : Filled) where
@@ -78,47 +78,6 @@ module _ (f : Filled) where
   -- it saves at most one
   abbrev pub IsRelaxed : List ℕ → ℕ → ℕ → Type 0
   IsRelaxed distances g k = distance_at distances k < unknown → distance_at distances g ≤ distance_at distances k + 1
-
-  abbrev pub AreRelaxed : List ℕ → Type 0
-  AreRelaxed distances = (g k : ℕ) → IsStepAcross g k → IsRelaxed distances g k
-
-  -- each known distance was walked
-  abbrev pub AreWalkedOver : List ℕ → Type 0
-  AreWalkedOver distances = (g : ℕ) → distance_at distances g < unknown → Crosses (sample_point g) (distance_at distances g)
-
-  -- a known distance is a point's, and was walked; what drains at once has the distance 0
-  pub record AreBounds (flows : List LocalFlow) (distances : List ℕ) : Type 0 where
-    pub whole : length distances ≡ length f.levels
-    pub ends : (g : ℕ) → IsEnd flows g → distance_at distances g ≡ 0
-    pub nowhere : (g : ℕ) → slice_index_or flows g NoGround ≡ NoGround → distance_at distances g ≡ unknown
-    pub walked : AreWalkedOver distances
-
-  -- what waits lies on a flat, and has a distance
-  abbrev pub AreWaiting : List LocalFlow → List ℕ → List ℕ → Type 0
-  AreWaiting flows distances queue = (i : ℕ) → i < length queue → IsOnFlat flows (slice_index_or queue i 0) × (distance_at distances (slice_index_or queue i 0) < unknown)
-
-  -- the points with numbers below k have the distances that those that drain at once give them, and wait
-  pub record IsSeeding (flows : List LocalFlow) (distances queue : List ℕ) (k : ℕ) : Type 0 where
-    pub bounds : AreBounds flows distances
-    pub waiting : AreWaiting flows distances queue
-    pub near : (g e : ℕ) → g < k → IsStepAcross g e → IsEnd flows e → distance_at distances g ≤ 1
-    pub known : (g : ℕ) → distance_at distances g < unknown → IsEnd flows g ⊎ IsWaiting queue 0 g
-
-  -- no step saves more than one, but for steps to what waits from the head on
-  pub record IsPropagating (flows : List LocalFlow) (distances queue : List ℕ) (head : ℕ) : Type 0 where
-    pub bounds : AreBounds flows distances
-    pub waiting : AreWaiting flows distances queue
-    pub relaxed : (g k : ℕ) → IsStepAcross g k → IsRelaxed distances g k ⊎ IsWaiting queue head k
-
-  -- .. and for the steps to the point from the one beside it in the i-th direction and the later ones
-  abbrev pub IsToCome : Point → ℕ → ℕ → ℕ → Type 0
-  IsToCome p i g k = (k ≡ number_in f p) × ((d : Dir) × ((i ≤ order_of d) × (IsAcross p (step d p) × (number_in f (step d p) ≡ g))))
-
-  pub record IsRelaxing (flows : List LocalFlow) (distances queue : List ℕ) (head : ℕ) (p : Point) (i : ℕ) : Type 0 where
-    pub bounds : AreBounds flows distances
-    pub waiting : AreWaiting flows distances queue
-    pub taken : head < length queue
-    pub relaxed : (g k : ℕ) → IsStepAcross g k → (IsRelaxed distances g k ⊎ IsWaiting queue (head + 1) k) ⊎ IsToCome p i g k
 
   -- a point with a level has this number, and this flat distance
   pub record IsNumberOf (g distance : ℕ) : Type 0 where

@@ -13,6 +13,7 @@ use Rattle.flow_d8.specs.Filled.{Filled}
 use Rattle.flow_d8.specs.FlatCertificate.{IsAcross}
 use Rattle.flow_d8.specs.Flow.{way_of}
 use Rattle.flow_d8.specs.LevelsAround.{OnLevels}
+use Rattle.flow_d8.specs.Surface.{number_in}
 use Rattle.flow_d8.specs.Way.{IsWay}
 use Rattle.flow_d8.specs.declared.flow.Flow.{Flow}
 use Rattle.flow_d8.specs.declared.flow.Flow.TheVariants.{Unknown}
@@ -42,6 +43,10 @@ LeadsToRim m level c p (suc k) = (q : Point) × (IsAcross (terrain m) level p q 
 pub record IsInRimFlat (m : Mosaic) (c : Corner) (p : Point) : Type 0 where
   pub inside : IsInsideFlat m p
   pub leads : OnLevels m (λ level. (k : ℕ) × LeadsToRim m level c p k)
+
+-- the point's sample lies on an edge of the one tile
+abbrev pub IsRimSample : Filled → Point → Type 0
+IsRimSample f p = is_rim f.side (number_in f p) ≡ true
 
 -- the sample lies on no edge of its tile
 abbrev pub is_off_rim : ℕ → ℕ → Bool

@@ -1,5 +1,5 @@
--- What a byte tells of where a point drains.
-use Rattle.std.specs.Prelude.{Option, Some, None}
+-- What bytes tell of where points drain.
+use Rattle.std.specs.Prelude.{◌≡◌, ℕ, ◌⊎◌, Option, Some, None, List, length, slice_index_or}
 use Rattle.lattice.specs.declared.direction.Dir.{Dir}
 use Rattle.lattice.specs.declared.direction.Dir.TheVariants as to
 use Rattle.flow_d8.specs.declared.flow.Flow.{Flow}
@@ -17,3 +17,8 @@ way_of West = Some (Some to.West)
 way_of NorthWest = Some (Some to.NorthWest)
 way_of North = Some (Some to.North)
 way_of NorthEast = Some (Some to.NorthEast)
+
+-- each byte is the one before, or that of the other list
+pub record AreTaken (from old new : List Flow) : Type 0 where
+  pub whole : length new ≡ length old
+  pub each : (e : ℕ) → (slice_index_or new e Unknown ≡ slice_index_or old e Unknown) ⊎ (slice_index_or new e Unknown ≡ slice_index_or from e Unknown)

@@ -1,16 +1,73 @@
-//! Flats, crossed the shortest way: how far each point lies from those of its flat that drain downhill or off the mosaic.
-ghost use Rattle.std.specs.Prelude.{◌≡◌, ℕ, ◌<◌, IfOk, length};
+//! Least distances over points of one level: from starts that are given, from the rim of a tile, and over flats, from what
+//! drains downhill or off the mosaic.
+ghost use Rattle.std.specs.Prelude.{◌≡◌, ℕ, ◌*◌, ◌<◌, ◌⊎◌, IsTrue, IfOk, length, slice_index_or};
 ghost use Rattle.flow_d8.specs.Propagation.{unknown, distance_at, IsEnd};
 ghost use Rattle.flow_d8.specs.Crossing.{AreLocalFlows, AreDistances};
+ghost use Rattle.flow_d8.specs.DeepFlows.{IsRimSample};
+ghost use Rattle.flow_d8.specs.Spread.{AreSpread, AreStarts, AreKnownBelow, AreLeastSteps};
+ghost use Rattle.flow_d8.specs.declared.local_flow.LocalFlow.TheVariants.{NoGround};
 
 use crate::filled::Filled;
-use crate::local_flow::{LocalFlow, is_end};
+use crate::local_flow::{LocalFlow, is_end, is_site};
 use crate::propagating::{UNKNOWN, propagate};
 use crate::seeding::seed;
+use crate::tile_place::TilePlace;
 use std::alloc::{AllocError, Global};
 
+/// The least distances over points of one level from these starts. UNKNOWN where no start is reached.
+pub(crate) fn spread(
+    alloc: Global,
+    filled: &Filled,
+    local: &[LocalFlow],
+    starts: Vec<u32>,
+) -> Result<Vec<u32>, AllocError>
+    requires local { AreLocalFlows filled.now local.now }
+    requires starts { AreStarts filled.now starts.items }
+    ensures { IfOk result (λ distances. AreSpread filled.now starts.items distances.items) }
+{
+    let mut distances = starts;
+    let mut queue = Vec::new(alloc);
+    let mut later = Vec::new(alloc);
+    seed(filled, local, &mut distances, &mut queue, &mut later)?;
+    // The nearest first, so that each sample waits about once.
+    later.sort()?;
+    propagate(alloc, filled, local, &mut distances, queue, &later)?;
+    Ok(distances)
+}
+
+// The same, where few samples start: no others are looked at but those around what is reached.
+fn spread_from_few(
+    alloc: Global,
+    filled: &Filled,
+    local: &[LocalFlow],
+    starts: Vec<u32>,
+) -> Result<Vec<u32>, AllocError>
+    requires local { AreLocalFlows filled.now local.now }
+    requires starts { AreStarts filled.now starts.items }
+    ensures { IfOk result (λ distances. AreSpread filled.now starts.items distances.items) }
+{
+    let mut distances = starts;
+    let queue = known_numbers(alloc, &distances)?;
+    propagate(alloc, filled, local, &mut distances, queue, &[])?;
+    Ok(distances)
+}
+
+// The numbers of the samples with known distances.
+fn known_numbers(alloc: Global, distances: &[u32]) -> Result<Vec<u32>, AllocError>
+    requires { length distances.now < unknown }
+    ensures { IfOk result (λ numbers. AreKnownBelow (length distances.now) distances.now numbers.items) }
+{
+    let mut numbers = Vec::new(alloc);
+    for number in 0..distances.len() {
+        if distances[number] < UNKNOWN {
+            numbers.push(number as u32)?;
+        }
+    }
+    Ok(numbers)
+}
+
 /// The flat distance of each point: 0 of those that drain at once, UNKNOWN where a sample has no point or nothing leads
-/// away from its flat. Each sample waits once: what waits earlier has the lesser distance.
+/// away from its flat.
 pub(crate) fn flat_distances(
     alloc: Global,
     filled: &Filled,
@@ -19,15 +76,12 @@ pub(crate) fn flat_distances(
     requires { AreLocalFlows filled.now flows.now }
     ensures { IfOk result (λ distances. AreDistances filled.now distances.items) }
 {
-    let mut distances = starts(alloc, flows)?;
-    let mut queue = Vec::new(alloc);
-    seed(filled, flows, &mut distances, &mut queue)?;
-    propagate(alloc, filled, flows, &mut distances, queue)?;
-    Ok(distances)
+    let starts = starts(alloc, flows)?;
+    spread(alloc, filled, flows, starts)
 }
 
-// 0 where a point drains at once.
-fn starts(alloc: Global, flows: &[LocalFlow]) -> Result<Vec<u32>, AllocError>
+/// 0 where a point drains at once, UNKNOWN elsewhere.
+pub(crate) fn starts(alloc: Global, flows: &[LocalFlow]) -> Result<Vec<u32>, AllocError>
     ensures whole { IfOk result (λ distances. length distances.items ≡ length flows.now) }
     ensures ends { IfOk result (λ distances. (g : ℕ) → IsEnd flows.now g → distance_at distances.items g ≡ 0) }
     ensures others { IfOk result (λ distances. (g : ℕ) → (IsEnd flows.now g → ⊥) → distance_at distances.items g ≡ unknown) }
@@ -46,4 +100,38 @@ fn start_of(flows: &[LocalFlow], number: usize) -> u32
     ensures other { (IsEnd flows.now number → ⊥) → result ≡ unknown }
 {
     if is_end(flows, number) { 0 } else { UNKNOWN }
+}
+
+/// The least number of steps over points of one level from each point of one tile to one on its rim. UNKNOWN where a sample
+/// has no point, or none leads there.
+pub(crate) fn rim_distances(
+    alloc: Global,
+    filled: &Filled,
+    flows: &[LocalFlow],
+) -> Result<Vec<u32>, AllocError>
+    requires flows { AreLocalFlows filled.now flows.now }
+    requires one { length filled.now.levels ≡ filled.now.side * filled.now.side }
+    ensures { IfOk result (λ distances. AreLeastSteps filled.now (IsRimSample filled.now) distances.items) }
+{
+    let side = filled.side();
+    let mut distances = Vec::with_capacity(alloc, flows.len())?;
+    let mut place = TilePlace::first();
+    for number in 0..flows.len() {
+        distances.push(rim_start(flows, number, place.is_on_rim(side)))?;
+        place = place.next(side);
+    }
+    spread_from_few(alloc, filled, flows, distances)
+}
+
+// 0 where the sample lies on the rim and has a point, else UNKNOWN.
+#[inline(always)]
+fn rim_start(flows: &[LocalFlow], number: usize, on_rim: bool) -> u32
+    requires { number < length flows.now }
+    ensures { ((result ≡ 0) × (IsTrue on_rim × (slice_index_or flows.now number NoGround ≡ NoGround → ⊥))) ⊎ ((result ≡ unknown) × (IsTrue on_rim → slice_index_or flows.now number NoGround ≡ NoGround)) }
+{
+    if on_rim && is_site(flows, number) {
+        0
+    } else {
+        UNKNOWN
+    }
 }

@@ -1,5 +1,5 @@
 //! The filled levels of a mosaic.
-ghost use Rattle.std.specs.Prelude.{◌≡◌, ◌≤◌, ◌<◌, ◌*◌, IsTrue, MatchOption, IfSome, SomeIff, ℕ, Some, slice_get, IsFalse, [], length, ◌↔◌, ◌&&◌, not, if◌then◌else◌, true, slice_index_or, ◌%◌, ◌+◌};
+ghost use Rattle.std.specs.Prelude.{◌≡◌, ◌≤◌, ◌<◌, ◌*◌, IsTrue, MatchOption, SomeIff, IsFalse, [], length, ◌↔◌, not, true, slice_index_or, ◌%◌};
 ghost use Rattle.std.specs.List.{AllAdjacentBelow};
 ghost use Rattle.lattice.specs.Corners.{is_before};
 ghost use Rattle.lattice.specs.Lattice.{IsBefore};
@@ -10,7 +10,7 @@ ghost use Rattle.flow_d8.specs.Crossing.{sample_point};
 ghost use Rattle.flow_d8.specs.Places.{IsInner};
 ghost use Rattle.flow_d8.specs.Surface.{number_in, has_level, is_declared, beside_of, around_of};
 
-use crate::numbering::{number_of, share_tile, tile_of};
+use crate::numbering::{number_of, share_tile};
 use lattice::{Corner, Dir, MOST_TILES, Point, Side, VOID, is_before, neighbour, point_at};
 use std::alloc::Global;
 use std::marker::Model;
@@ -132,15 +132,6 @@ impl Filled {
         let area = self.side().area() as usize;
         let corners = self.corners();
         point_at(self.side(), corners[number / area], (number % area) as u32)
-    }
-
-    /// The number of the first sample of the corner's tile, if that is one of these.
-    pub(crate) fn first_of(&self, corner: Corner) -> Option<usize>
-        ensures { IfSome result (λ first. (k : ℕ) × ((slice_get self.now.corners k ≡ Some corner) × ((first ≡ k * (self.now.side * self.now.side)) × (first + self.now.side * self.now.side ≤ length self.now.levels)))) }
-    {
-        let _levels = self.levels();
-        let place = tile_of(self.corners(), corner)?;
-        Some(place * self.side().area() as usize)
     }
 
     /// The samples of a row. As many lie before a sample deep in its tile, and after it, and one more; and where the

@@ -1,18 +1,24 @@
 //! Where filled levels come from.
-ghost use Rattle.std.specs.Prelude.{◌≡◌, IfOk, IfErr, OnOk, IfSome};
+ghost use Rattle.std.specs.Prelude.{◌≡◌, ◌*◌, IfOk, IfErr, OnOk, IfSome, length};
+ghost use Rattle.std.specs.List.{AllAdjacentBelow};
+ghost use Rattle.lattice.specs.Lattice.{IsBefore};
 ghost use Rattle.lattice.specs.declared.refusal.Refusal.{Refusal};
 ghost use Rattle.lattice.specs.declared.refusal.Refusal.TheVariants.{NoMemory, Damaged};
 ghost use Rattle.lattice.specs.Mosaic.{Mosaic, IsMosaic};
 ghost use Rattle.lattice.specs.Ground.{terrain, share_tile as shared, is_sink as is_declared};
+ghost use Rattle.flow_d8.specs.DeepFlows.{IsTileOf, AreFlowsOf};
 ghost use Rattle.flow_d8.specs.LevelsAround.{IsLevelAt, IsNear, OnLevels};
 ghost use Rattle.flow_d8.specs.Way.{IsWay};
 ghost use Rattle.flow_d8.specs.Feeders.{AreFeedersOf};
 ghost use Rattle.flow_d8.specs.Directions.{AreDirectionsOf};
+ghost use Rattle.flow_d8.specs.PresentTiles.{corners_of};
 
 use crate::directions::Directions;
+use crate::filled::Filled;
+use crate::flow::Flow;
 use crate::levels_around::Near;
 use arrayvec::ArrayVec;
-use lattice::{Dir, Point, Refusal};
+use lattice::{Corner, Dir, Point, Refusal, Side};
 use std::alloc::Global;
 
 /// The filled levels of a mosaic, asked for point by point: held in memory, or found as they are asked for.
@@ -83,18 +89,61 @@ pub trait FilledLevels<S> {
         ensures mosaic { is_honest self.new source.new → mosaic self.new source.new ≡ mosaic self.old source.old }
         ensures keeps { OnOk result (keeps self.old source.old self.new source.new) };
 
-    /// How many points of a flat a search may reach, before it pays to learn at once where the points of that flat drain.
+    /// How many points of a flat a search may reach, before it pays to learn where the points of all tiles drain over which that
+    /// flat goes.
     fn far_across(&self, source: &S) -> usize;
 
-    /// Learns where the points of a wide flat drain, of which this is one: where all points do, if these are few enough, else
-    /// where those of the tiles do over which the flat goes, as far as these are few enough.
-    fn learn_flat(&mut self, alloc: Global, source: &mut S, point: Point) -> Result<(), Refusal>
+    /// Notes that a search over a flat has reached so many points.
+    fn note_searched(&mut self, source: &S, reached: usize)
+        requires { fits self.old source.now }
+        ensures fits { fits self.new source.now }
+        ensures honest { is_honest self.new source.now → is_honest self.old source.now }
+        ensures mosaic { is_honest self.new source.now → mosaic self.new source.now ≡ mosaic self.old source.now }
+        ensures keeps { keeps self.old source.now self.new source.now };
+
+    /// The side of each tile.
+    fn side(&self, source: &S) -> Side
+        ensures { is_honest self.now source.now → result ≡ (mosaic self.now source.now).side };
+
+    /// The corners of all present tiles, in order.
+    fn present(&mut self, source: &mut S) -> Result<Vec<Corner>, Refusal>
         requires { fits self.old source.old }
         ensures fits { fits self.new source.new }
+        ensures present { is_honest self.new source.new → IfOk result (λ corners. corners.items ≡ corners_of (mosaic self.old source.old)) }
+        ensures in_order { IfOk result (λ corners. AllAdjacentBelow IsBefore corners.items (length corners.items)) }
         ensures refusal { IfErr result (refuses self.old source.old self.new source.new) }
         ensures honest { is_honest self.new source.new → is_honest self.old source.old }
         ensures mosaic { is_honest self.new source.new → mosaic self.new source.new ≡ mosaic self.old source.old }
         ensures keeps { OnOk result (keeps self.old source.old self.new source.new) };
+
+    /// The filled levels of the corner's tile alone; None where it isn't present.
+    fn tile(
+        &mut self,
+        alloc: Global,
+        source: &mut S,
+        corner: Corner,
+    ) -> Result<Option<Filled>, Refusal>
+        requires { fits self.old source.old }
+        ensures fits { fits self.new source.new }
+        ensures tile { is_honest self.new source.new → IfOk result (λ found. IfSome found (IsTileOf (mosaic self.old source.old) corner)) }
+        ensures one { IfOk result (λ found. IfSome found (λ filled. length filled.levels ≡ filled.side * filled.side)) }
+        ensures refusal { IfErr result (refuses self.old source.old self.new source.new) }
+        ensures honest { is_honest self.new source.new → is_honest self.old source.old }
+        ensures mosaic { is_honest self.new source.new → mosaic self.new source.new ≡ mosaic self.old source.old }
+        ensures keeps { OnOk result (keeps self.old source.old self.new source.new) };
+
+    /// Of how many tiles it can be held at once where all their points drain.
+    fn most_tiles(&self, source: &S) -> usize;
+
+    /// Learns where points of the corner's tile drain, a byte for each of its samples, if there is memory for it. A byte that
+    /// tells nothing leaves what is known.
+    fn learn_flows(&mut self, alloc: Global, source: &S, corner: Corner, flows: &[Flow])
+        requires fits { fits self.old source.now }
+        requires flows { is_honest self.old source.now → AreFlowsOf (mosaic self.old source.now) (mosaic self.old source.now).side corner flows.now }
+        ensures fits { fits self.new source.now }
+        ensures honest { is_honest self.new source.now → is_honest self.old source.now }
+        ensures mosaic { is_honest self.new source.now → mosaic self.new source.now ≡ mosaic self.old source.now }
+        ensures keeps { keeps self.old source.now self.new source.now };
 
     /// The points that drain straight to this one, each once, where that is at hand. None says nothing.
     fn feeders(&self, source: &S, point: Point) -> Option<ArrayVec<Point, 8>>

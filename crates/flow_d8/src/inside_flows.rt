@@ -1,22 +1,22 @@
 //! Where the points off the rim of a tile drain, those inside its flats as well, by the levels of that tile alone.
-ghost use Rattle.std.specs.Prelude.{◌≡◌, ◌<◌, ◌*◌, false, IfErr, OnOk, length};
+ghost use Rattle.std.specs.Prelude.{◌≡◌, ◌<◌, ◌≤◌, ◌*◌, false, IfErr, OnOk, length};
 ghost use Rattle.lattice.specs.Block.{is_rim};
 ghost use Rattle.lattice.specs.Corners.{Corner};
 ghost use Rattle.lattice.specs.Lattice.{IsIndexOf};
 ghost use Rattle.lattice.specs.Mosaic.{Mosaic, IsMosaic};
 ghost use Rattle.lattice.specs.declared.point.Point.{Point};
 ghost use Rattle.flow_d8.specs.Crossing.{AreLocalFlows, AreDistances};
-ghost use Rattle.flow_d8.specs.DeepFlows.{IsTileOf, IsToldFlow, IsLearntAt, AreLearntTo, IsInRimFlat, is_off_rim};
-ghost use Rattle.flow_d8.specs.Propagation.{IsOnFlat};
-ghost use Rattle.flow_d8.specs.RimMarks.{is_marked, AreRimMarks};
+ghost use Rattle.flow_d8.specs.DeepFlows.{IsTileOf, IsToldFlow, IsLearntAt, AreLearntTo, IsInRimFlat, IsRimSample, is_off_rim};
+ghost use Rattle.flow_d8.specs.Propagation.{IsOnFlat, unknown, distance_at};
+ghost use Rattle.flow_d8.specs.Spread.{AreLeastSteps};
 
-use crate::crossing::flat_distances;
+use crate::crossing::{flat_distances, rim_distances};
 use crate::filled::Filled;
 use crate::finding::drain_across;
 use crate::flow::Flow;
 use crate::flows::local_flows;
 use crate::local_flow::LocalFlow;
-use crate::rim_marks::rim_marks;
+use crate::propagating::UNKNOWN;
 use crate::tile_place::TilePlace;
 use std::alloc::{AllocError, Global};
 
@@ -34,8 +34,8 @@ pub(crate) fn learn_inside(
 {
     let local = local_flows(alloc, filled)?;
     let distances = flat_distances(alloc, filled, &local)?;
-    let marks = rim_marks(alloc, filled.levels(), filled.side())?;
-    learn_each(filled, &local, &distances, &marks, flows);
+    let rim_distances = rim_distances(alloc, filled, &local)?;
+    learn_each(filled, &local, &distances, &rim_distances, flows);
     Ok(())
 }
 
@@ -43,12 +43,12 @@ fn learn_each(
     filled: &Filled,
     local: &[LocalFlow],
     distances: &[u32],
-    marks: &[bool],
+    rim_distances: &[u32],
     flows: &mut [Flow],
 )
     requires local { AreLocalFlows filled.now local.now }
     requires distances { AreDistances filled.now distances.now }
-    requires marks { AreRimMarks filled.now.side filled.now.levels marks.now }
+    requires rim { AreLeastSteps filled.now (IsRimSample filled.now) rim_distances.now }
     requires whole { length flows.old ≡ length filled.now.levels }
     requires one { length filled.now.levels ≡ filled.now.side * filled.now.side }
     ensures { AreLearntTo is_off_rim IsInRimFlat filled.now (length filled.now.levels) flows.old flows.new }
@@ -60,7 +60,7 @@ fn learn_each(
             filled,
             local,
             distances,
-            marks,
+            rim_distances,
             number,
             place.is_on_rim(side),
             flows,
@@ -75,14 +75,14 @@ fn learn_at(
     filled: &Filled,
     local: &[LocalFlow],
     distances: &[u32],
-    marks: &[bool],
+    rim_distances: &[u32],
     number: usize,
     on_rim: bool,
     flows: &mut [Flow],
 )
     requires local { AreLocalFlows filled.now local.now }
     requires distances { AreDistances filled.now distances.now }
-    requires marks { AreRimMarks filled.now.side filled.now.levels marks.now }
+    requires rim { AreLeastSteps filled.now (IsRimSample filled.now) rim_distances.now }
     requires number { number < length filled.now.levels }
     requires whole { length flows.old ≡ length filled.now.levels }
     requires one { length filled.now.levels ≡ filled.now.side * filled.now.side }
@@ -92,7 +92,7 @@ fn learn_at(
     if on_rim {
         return;
     }
-    match inside_flow(filled, local, distances, marks, number) {
+    match inside_flow(filled, local, distances, rim_distances, number) {
         Flow::Unknown => {}
         flow => flows[number] = flow,
     }
@@ -104,12 +104,12 @@ fn inside_flow(
     filled: &Filled,
     local: &[LocalFlow],
     distances: &[u32],
-    marks: &[bool],
+    rim_distances: &[u32],
     number: usize,
 ) -> Flow
     requires local { AreLocalFlows filled.now local.now }
     requires distances { AreDistances filled.now distances.now }
-    requires marks { AreRimMarks filled.now.side filled.now.levels marks.now }
+    requires rim { AreLeastSteps filled.now (IsRimSample filled.now) rim_distances.now }
     requires number { number < length filled.now.levels }
     requires one { length filled.now.levels ≡ filled.now.side * filled.now.side }
     requires off { is_rim filled.now.side number ≡ false }
@@ -119,10 +119,10 @@ fn inside_flow(
         LocalFlow::NoGround | LocalFlow::Edge => Flow::Off,
         LocalFlow::Drains(direction) => Flow::by(Some(direction)),
         LocalFlow::Flat | LocalFlow::Seam => {
-            if marks[number] {
+            if rim_distances[number] < UNKNOWN {
                 return Flow::Unknown;
             }
-            flow_across(filled, local, distances, marks, number)
+            flow_across(filled, local, distances, rim_distances, number)
         }
     }
 }
@@ -132,16 +132,16 @@ fn flow_across(
     filled: &Filled,
     local: &[LocalFlow],
     distances: &[u32],
-    marks: &[bool],
+    rim_distances: &[u32],
     number: usize,
 ) -> Flow
     requires local { AreLocalFlows filled.now local.now }
     requires distances { AreDistances filled.now distances.now }
-    requires marks { AreRimMarks filled.now.side filled.now.levels marks.now }
+    requires rim { AreLeastSteps filled.now (IsRimSample filled.now) rim_distances.now }
     requires number { number < length filled.now.levels }
     requires one { length filled.now.levels ≡ filled.now.side * filled.now.side }
     requires flat { IsOnFlat local.now number }
-    requires enclosed { is_marked marks.now number ≡ false }
+    requires enclosed { unknown ≤ distance_at rim_distances.now number }
     ensures { (m : Mosaic) (c : Corner) (p : Point) → IsMosaic m → IsTileOf m c filled.now → IsIndexOf filled.now.side c p number → IsToldFlow m p (IsInRimFlat m c p) result }
 {
     match drain_across(filled, local, distances, number) {

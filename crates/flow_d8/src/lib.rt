@@ -20,12 +20,9 @@
 //! ```
 //!
 //! A direction looks at the levels around the point and, where that lies on a flat, around the points of the flat, the
-//! nearest first, until one of them drains. A flow path goes on to that point by the way that this search found.
-//! `direction_over` is for many questions: it searches each flat whole, once, and holds the distances of its points
-//! (`Flats`). A search that goes far has the directions of all points learnt, where these are few enough.
-//!
-//! `Filled::window_flows` finds, from the filled levels of some of a mosaic's tiles, where those of their points drain of which
-//! these levels alone tell it. `TileFlows` holds it tile by tile.
+//! nearest first, until one of them drains. A flow path goes on to that point by the way that this search found. Once searches
+//! over flats have gone far, the flat's distances are found a tile at a time, and of each tile those on its rim are held, until
+//! where the flat's points drain is known of all its tiles. `TileFlows` holds where the points of one tile drain.
 #![tactic(auto)]
 
 mod around;
@@ -35,8 +32,9 @@ mod directions;
 mod filled;
 mod filled_levels;
 mod finding;
+mod first_steps;
+mod flat_rims;
 mod flat_search;
-mod flats;
 mod flow;
 mod flow_path;
 mod flows;
@@ -47,23 +45,24 @@ mod local_flow;
 mod nearer;
 mod numbering;
 mod one_direction;
-mod outside_marks;
+mod passing;
 mod point_flow;
 mod point_square;
 mod point_table;
 mod propagating;
-mod rim_marks;
+mod rim_tile;
 mod seeding;
 mod seen;
+mod settling;
 mod slopes;
+mod telling;
 mod tile_flows;
 mod tile_place;
-mod window_flows;
+mod wide_flats;
 
 pub use directions::Directions;
 pub use filled::Filled;
 pub use filled_levels::FilledLevels;
-pub use flats::Flats;
 pub use flow::Flow;
 pub use flow_path::trace;
 pub use laws::{
@@ -71,6 +70,6 @@ pub use laws::{
     flow_paths_are_unique, measured_distances_are_flat_distances, watersheds_follow_flow_paths,
 };
 pub use levels_around::Near;
-pub use one_direction::{direction_at, direction_over};
+pub use one_direction::direction_at;
 pub use point_table::PointTable;
 pub use tile_flows::TileFlows;

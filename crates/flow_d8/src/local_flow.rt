@@ -1,9 +1,10 @@
 //! Where a point drains, as far as the levels around it show.
-ghost use Rattle.std.specs.Prelude.{◌≡◌, ℕ, ◌+◌, ◌<◌, ◌≤◌, ◌↔◌, IsTrue, MatchOption, length, slice_index_or};
+ghost use Rattle.std.specs.Prelude.{◌≡◌, ℕ, ◌+◌, ◌<◌, ◌≤◌, ◌↔◌, IsTrue, IsFalse, MatchOption, length, slice_index_or};
 ghost use Rattle.lattice.specs.declared.direction.Dir.{Dir};
 ghost use Rattle.lattice.specs.Mosaic.{void};
+ghost use Rattle.flow_d8.specs.declared.local_flow.LocalFlow.TheVariants.{NoGround};
 ghost use Rattle.flow_d8.specs.Places.{place_by, IsInner, IsFlowAt, IsBestAt};
-ghost use Rattle.flow_d8.specs.Propagation.{IsFlat, IsOnFlat, DrainsAtOnce, IsEnd};
+ghost use Rattle.flow_d8.specs.Propagation.{IsFlat, DrainsAtOnce, IsEnd};
 
 use crate::slopes::{Best, at, better};
 use lattice::{Dir, VOID};
@@ -32,13 +33,13 @@ pub(crate) fn is_flat(flows: &[LocalFlow], number: usize) -> bool
     matches!(flows[number], LocalFlow::Flat)
 }
 
-/// Whether the sample lies on a flat.
+/// Whether the sample has a point.
 #[inline(always)]
-pub(crate) fn is_on_flat(flows: &[LocalFlow], number: usize) -> bool
+pub(crate) fn is_site(flows: &[LocalFlow], number: usize) -> bool
     requires { number < length flows.now }
-    ensures { IsTrue result ↔ IsOnFlat flows.now number }
+    ensures { IsFalse result ↔ (slice_index_or flows.now number NoGround ≡ NoGround) }
 {
-    matches!(flows[number], LocalFlow::Flat | LocalFlow::Seam)
+    !matches!(flows[number], LocalFlow::NoGround)
 }
 
 /// Whether the sample's point drains at once: downhill or off the mosaic.

@@ -4,7 +4,6 @@ ghost use Rattle.std.specs.List.{AllAdjacentBelow, list_any};
 ghost use Rattle.lattice.specs.Limits.{most_tiles};
 ghost use Rattle.lattice.specs.Lattice.{IsBefore};
 ghost use Rattle.flow_d8.specs.Filled.{is_held, is_holder, number_of};
-ghost use Rattle.flow_d8.specs.Windows.{IsHeldOutside};
 
 use lattice::{Corner, Point, Side, holders, index_in};
 
@@ -40,29 +39,8 @@ pub(crate) fn share_tile(side: Side, corners: &[Corner], point: Point, other: Po
     false
 }
 
-/// Whether a tile with one of the present corners holds the point that has none of the other corners. Both are in the order of
-/// tiles.
-pub(crate) fn is_held_outside(
-    side: Side,
-    corners: &[Corner],
-    present: &[Corner],
-    point: Point,
-) -> bool
-    requires corners { AllAdjacentBelow IsBefore corners.now (length corners.now) }
-    requires present { AllAdjacentBelow IsBefore present.now (length present.now) }
-    ensures { IsTrue result ↔ IsHeldOutside side corners.now present.now point }
-{
-    let _low = side.edge();
-    let around = holders(side, point);
-    for corner in around.as_slice() {
-        if !is_listed(corners, *corner) && is_listed(present, *corner) {
-            return true;
-        }
-    }
-    false
-}
-
-fn is_listed(corners: &[Corner], corner: Corner) -> bool
+/// Whether the corner is one of these, which are in the order of tiles.
+pub(crate) fn is_listed(corners: &[Corner], corner: Corner) -> bool
     requires { AllAdjacentBelow IsBefore corners.now (length corners.now) }
     ensures { IsTrue result ↔ Contains corners.now corner }
 {

@@ -1,28 +1,35 @@
-//! The first distances of flats: 1 beside what drains at once.
-ghost use Rattle.std.specs.Prelude.{◌≡◌, ℕ, ◌+◌, ◌<◌, OnOk, IsTrue, IsFalse, IfSome, Some, ◌↔◌, length, slice_index_or};
+//! Where distances start: 1 beside a distance of 0; and what starts farther off.
+ghost use Rattle.std.specs.Prelude.{◌≡◌, ℕ, ◌+◌, ◌<◌, ◌≤◌, OnOk, IsTrue, IsFalse, IfSome, Some, ◌↔◌, [], length, slice_index_or};
 ghost use Rattle.lattice.specs.Mosaic.{void};
-ghost use Rattle.flow_d8.specs.Propagation.{IsEnd, IsOnFlat};
-ghost use Rattle.flow_d8.specs.Crossing.{AreLocalFlows, IsStepAcross, IsSeeding, IsPropagating};
+ghost use Rattle.flow_d8.specs.Crossing.{AreLocalFlows, IsStepAcross, HasSite};
+ghost use Rattle.flow_d8.specs.Propagation.{distance_at};
+ghost use Rattle.flow_d8.specs.Spread.{AreStarts, AreBounds, IsSeeding, IsPropagating};
 
 use crate::around::numbers_around;
 use crate::filled::Filled;
-use crate::local_flow::{LocalFlow, is_end, is_on_flat};
+use crate::local_flow::{LocalFlow, is_site};
+use crate::propagating::{Start, UNKNOWN};
 use crate::slopes::at;
 use std::alloc::AllocError;
 
-/// Gives the points of flats beside which a point of the same level drains at once their distance. They wait in the queue.
+/// Gives the points beside which one of the same level has the distance 0 their distance: they wait in the queue. The others
+/// with a distance are starts that wait later.
 pub(crate) fn seed(
     filled: &Filled,
     flows: &[LocalFlow],
     distances: &mut [u32],
     queue: &mut Vec<u32>,
+    later: &mut Vec<Start>,
 ) -> Result<(), AllocError>
     requires flows { AreLocalFlows filled.now flows.now }
-    requires seeding { IsSeeding filled.now flows.now distances.old queue.old.items 0 }
-    ensures { OnOk result (IsPropagating filled.now flows.now distances.new queue.new.items 0) }
+    requires starts { AreStarts filled.now distances.old }
+    requires queue { queue.old.items ≡ [] }
+    requires later { later.old.items ≡ [] }
+    ensures bounds { OnOk result (AreBounds filled.now distances.old distances.new) }
+    ensures propagating { OnOk result (IsPropagating filled.now distances.new queue.new.items later.new.items) }
 {
     for number in 0..flows.len() {
-        seed_at(filled, flows, distances, queue, number)?;
+        seed_at(filled, flows, distances, queue, later, number)?;
     }
     Ok(())
 }
@@ -34,60 +41,74 @@ fn seed_at(
     flows: &[LocalFlow],
     distances: &mut [u32],
     queue: &mut Vec<u32>,
+    later: &mut Vec<Start>,
     number: usize,
 ) -> Result<(), AllocError>
     requires flows { AreLocalFlows filled.now flows.now }
     requires number { number < length flows.now }
-    requires seeding { IsSeeding filled.now flows.now distances.old queue.old.items number }
-    ensures { OnOk result (IsSeeding filled.now flows.now distances.new queue.new.items (number + 1)) }
+    requires seeding { IsSeeding filled.now distances.old queue.old.items later.old.items number }
+    ensures bounds { OnOk result (AreBounds filled.now distances.old distances.new) }
+    ensures seeding { OnOk result (IsSeeding filled.now distances.new queue.new.items later.new.items (number + 1)) }
 {
     let _levels = filled.levels();
-    if !touches_end(filled, flows, number) {
+    let distance = distances[number];
+    if distance == 0 {
         return Ok(());
     }
-    queue.push(number as u32)?;
-    distances[number] = 1;
+    if touches_zero(filled, flows, distances, number) {
+        queue.push(number as u32)?;
+        distances[number] = 1;
+    } else if distance < UNKNOWN {
+        later.push(Start {
+            distance,
+            number: number as u32,
+        })?;
+    }
     Ok(())
 }
 
-// Whether the point with this number lies on a flat, and a step across leads from it to one that drains at once.
+// Whether the point with this number has a distance greater than 1, and a step across leads from it to one with 0.
 #[inline(always)]
-fn touches_end(filled: &Filled, flows: &[LocalFlow], number: usize) -> bool
+fn touches_zero(filled: &Filled, flows: &[LocalFlow], distances: &[u32], number: usize) -> bool
     requires flows { AreLocalFlows filled.now flows.now }
     requires number { number < length flows.now }
-    ensures flat { IsTrue result → IsOnFlat flows.now number }
-    ensures end { IsTrue result → (k : ℕ) × (IsStepAcross filled.now number k × IsEnd flows.now k) }
-    ensures none { IsFalse result → IsOnFlat flows.now number → (k : ℕ) → IsStepAcross filled.now number k → IsEnd flows.now k → ⊥ }
+    requires whole { length distances.now ≡ length flows.now }
+    ensures far { IsTrue result → 1 < distance_at distances.now number }
+    ensures zero { IsTrue result → (k : ℕ) × (IsStepAcross filled.now number k × (distance_at distances.now k ≡ 0)) }
+    ensures none { IsFalse result → (k : ℕ) → IsStepAcross filled.now number k → distance_at distances.now k ≡ 0 → distance_at distances.now number ≤ 1 }
 {
-    is_on_flat(flows, number) && has_end_across(filled, flows, number)
+    distances[number] > 1
+        && is_site(flows, number)
+        && has_zero_across(filled, flows, distances, number)
 }
 
-fn has_end_across(filled: &Filled, flows: &[LocalFlow], number: usize) -> bool
+fn has_zero_across(filled: &Filled, flows: &[LocalFlow], distances: &[u32], number: usize) -> bool
     requires flows { AreLocalFlows filled.now flows.now }
     requires number { number < length flows.now }
-    requires flat { IsOnFlat flows.now number }
-    ensures { IsTrue result ↔ ((k : ℕ) × (IsStepAcross filled.now number k × IsEnd flows.now k)) }
+    requires whole { length distances.now ≡ length flows.now }
+    requires site { HasSite filled.now number }
+    ensures { IsTrue result ↔ ((k : ℕ) × (IsStepAcross filled.now number k × (distance_at distances.now k ≡ 0))) }
 {
     let levels = filled.levels();
     let around = numbers_around(filled, flows, number);
     for i in 0..8 {
-        if is_end_across(levels, flows, number, around[i]) {
+        if is_zero_across(levels, distances, number, around[i]) {
             return true;
         }
     }
     false
 }
 
-// Whether there is a second sample, of the level of the first, and it drains at once.
+// Whether there is a second sample, of the level of the first, and it has the distance 0.
 #[inline(always)]
-fn is_end_across(levels: &[i16], flows: &[LocalFlow], number: usize, to: Option<usize>) -> bool
-    requires same { length levels.now ≡ length flows.now }
-    requires number { number < length flows.now }
-    requires to { IfSome to (λ g. g < length flows.now) }
-    ensures { IsTrue result ↔ ((g : ℕ) × ((to ≡ Some g) × ((slice_index_or levels.now g void ≡ slice_index_or levels.now number void) × IsEnd flows.now g))) }
+fn is_zero_across(levels: &[i16], distances: &[u32], number: usize, to: Option<usize>) -> bool
+    requires same { length levels.now ≡ length distances.now }
+    requires number { number < length distances.now }
+    requires to { IfSome to (λ g. g < length distances.now) }
+    ensures { IsTrue result ↔ ((g : ℕ) × ((to ≡ Some g) × ((slice_index_or levels.now g void ≡ slice_index_or levels.now number void) × (distance_at distances.now g ≡ 0)))) }
 {
     match to {
-        Some(to) => is_end(flows, to) && at(levels, to) == at(levels, number),
+        Some(to) => distances[to] == 0 && at(levels, to) == at(levels, number),
         None => false,
     }
 }

@@ -1,5 +1,5 @@
 //! Where the points of one tile drain, in a byte each.
-ghost use Rattle.std.specs.Prelude.{◌≡◌, ◌+◌, ◌*◌, ◌^◌, ◌<◌, ◌≤◌, IsTrue, IfOk, OnOk, IfSome, MatchOption, Option, Some, List, length, map, slice_index_or};
+ghost use Rattle.std.specs.Prelude.{◌≡◌, ◌*◌, ◌<◌, ◌⊎◌, IsTrue, IfOk, OnOk, IfSome, MatchOption, Option, Some, length, slice_index_or, slice_set};
 ghost use Rattle.lattice.specs.Corners.{Corner};
 ghost use Rattle.lattice.specs.Lattice.{IsIndexOf};
 ghost use Rattle.lattice.specs.Mosaic.{Mosaic, IsMosaic};
@@ -9,11 +9,10 @@ ghost use Rattle.lattice.specs.declared.direction.Dir.{Dir};
 ghost use Rattle.lattice.proofs.Interior.{IsInner as IsOffRim};
 ghost use Rattle.flow_d8.specs.DeepFlows.{IsInsideFlat, IsInRimFlat, is_off_rim, AreLearntTo};
 ghost use Rattle.flow_d8.specs.Filled.{is_deep};
-ghost use Rattle.flow_d8.specs.Flow.{way_of};
+ghost use Rattle.flow_d8.specs.Flow.{way_of, AreTaken};
 ghost use Rattle.flow_d8.specs.LevelsAround.{OnLevels};
 ghost use Rattle.flow_d8.specs.Places.{back_of};
 ghost use Rattle.flow_d8.specs.Way.{IsWay};
-ghost use Rattle.flow_d8.specs.Windows.{AreWindowFlows, HasWindow};
 ghost use Rattle.flow_d8.specs.declared.flow.Flow.TheVariants.{Unknown};
 
 use crate::deep_flows::learn_deep;
@@ -22,7 +21,6 @@ use crate::filled::Filled;
 use crate::flow::Flow;
 use crate::inside_flows::learn_inside;
 use crate::tile_place::places_around;
-use crate::window_flows::take_told;
 use arrayvec::ArrayVec;
 use lattice::{Corner, DIRECTIONS, Dir, Point, Side, index_in, neighbour};
 use std::alloc::{AllocError, Global};
@@ -38,7 +36,7 @@ pub struct TileFlows {
 
 impl TileFlows {
     ghost use Rattle.flow_d8.specs.Feeders.{AreFeedersOf};
-    ghost use Rattle.flow_d8.specs.DeepFlows.{IsTileOf};
+    ghost use Rattle.flow_d8.specs.DeepFlows.{IsTileOf, AreFlowsOf};
     ghost use Rattle.flow_d8.specs.TileFlows.{AreFlowsIn, AreToldIn, AreToldInside, way_in};
 
     /// Nothing is known of the points of the corner's tile.
@@ -99,16 +97,15 @@ impl TileFlows {
         }
     }
 
-    /// Learns what the bytes of a window's samples tell of this tile's points, where the tile is one of that window's.
-    pub fn learn_window(&mut self, window: &Filled, flows: &[Flow])
+    /// Learns what these bytes tell of the samples of the corner's tile with this side, where that is this tile. A byte that tells
+    /// nothing leaves what is known.
+    pub fn learn_flows(&mut self, side: Side, corner: Corner, flows: &[Flow])
         ensures side { self.new.side ≡ self.old.side }
         ensures corner { self.new.corner ≡ self.old.corner }
-        ensures flows { (present : List Corner) (m : Mosaic) → AreWindowFlows present window.now flows.now → HasWindow present window.now m → AreFlowsIn m self.old → AreFlowsIn m self.new }
+        ensures flows { (m : Mosaic) → AreFlowsOf m side corner flows.now → AreFlowsIn m self.old → AreFlowsIn m self.new }
     {
-        if self.side == window.side() && flows.len() == window.levels().len() {
-            if let Some(first) = window.first_of(self.corner) {
-                take_told(flows, first, &mut self.flows);
-            }
+        if self.side == side && self.corner == corner && flows.len() == self.flows.len() {
+            take_told(flows, &mut self.flows);
         }
     }
 
@@ -178,5 +175,25 @@ fn learn_tile(alloc: Global, filled: &Filled, flows: &mut [Flow]) -> Result<(), 
             learn_deep(filled, flows);
             Err(error)
         }
+    }
+}
+
+// Takes over the bytes that tell something.
+fn take_told(from: &[Flow], flows: &mut [Flow])
+    requires { length from.now ≡ length flows.old }
+    ensures { AreTaken from.now flows.old flows.new }
+{
+    for index in 0..flows.len() {
+        take_at(from[index], index, flows);
+    }
+}
+
+#[inline(always)]
+fn take_at(told: Flow, index: usize, flows: &mut [Flow])
+    requires { index < length flows.old }
+    ensures { (flows.new ≡ flows.old) ⊎ (flows.new ≡ slice_set flows.old index told) }
+{
+    if told != Flow::Unknown {
+        flows[index] = told;
     }
 }

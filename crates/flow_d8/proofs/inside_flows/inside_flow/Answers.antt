@@ -1,7 +1,9 @@
-use Rattle.std.proofs.Common.{arith}
+use Rattle.std.proofs.Common.{◌<◌, subst, arith}
+use Rattle.std.proofs.lemmas.List.{get_or_default}
 use Rattle.flow_d8.specs.DeepFlows.{IsInRimFlat}
-use Rattle.flow_d8.specs.RimMarks.{IsOff}
-use Rattle.flow_d8.proofs.InsideTold.{flow_at, seen_inside, told_marked}
+use Rattle.flow_d8.specs.Propagation.{unknown, distance_at}
+use Rattle.flow_d8.proofs.InsideTold.{flow_at, seen_inside, told_reached}
+use Rattle.flow_d8.proofs.RimPlaces.{IsOff}
 use Rattle.flow_d8.proofs.TileShown.{told_off, told_down}
 use Rattle.flow_d8.proofs.inside_flows.inside_flow.Goals as goal
 
@@ -21,9 +23,11 @@ returns-in-Drains c m d p is of index =
     let seen = seen_inside m is d f of c.requires.one c.args.local.now c.requires.local p g index off in
     told_down m is p (flow_at c.args.local.now g) seen (IsInRimFlat m d p) c.in-Drains.direction c.in-Drains.is c.by.result c.by.ensures
 
-pub returns-then-marks-number : goal.returns-then-marks-number
-returns-then-marks-number c m d p is of index =
+pub returns-then-rim_distances-number-lt-UNKNOWN : goal.returns-then-rim_distances-number-lt-UNKNOWN
+returns-then-rim_distances-number-lt-UNKNOWN c m d p is of index =
     let f = c.args.filled.now in
     let g = c.args.number in
+    let xs = c.args.rim_distances.now in
     let off : IsOff f.side g = record { within = omega (arith, c.requires.number, c.requires.one); off = c.requires.off } in
-    told_marked m is d f of c.requires.one c.args.local.now c.requires.local c.args.marks.now c.requires.marks p g index c.in-Flat.is off c.if-marks-number.true
+    let known : distance_at xs g < unknown = subst (λ k. k < unknown) (get_or_default xs g 0 unknown (omega (arith, c.requires.number, c.requires.rim.whole))) c.if-rim_distances-number-lt-UNKNOWN.true in
+    told_reached m is d f of c.requires.one c.args.local.now c.requires.local xs c.requires.rim p g index c.in-Flat.is off known

@@ -11,7 +11,7 @@ learn_at-requires-clause-on_rim c =
     let k = c.loop-number.number in
     let is = c.loop-number.invariant.place in
     let low : k < n * n = omega (arith, c.loop-number-test.true, c.loop-number.auto.flows, c.requires.whole, c.requires.one) in
-    c.is_on_rim.ensures ∙ ap (λ n. is_rim_place n c.loop-number.place) c.side-side.ensures ∙ rim_at_place n k c.loop-number.place.row c.loop-number.place.column low is.index is.column
+    c.is_on_rim.ensures ∙ ap (λ n. is_rim_place n c.loop-number.place) c.side-side.ensures ∙ rim_at_place n k c.loop-number.place low is
 
 pub loop-number-preserved : goal.loop-number-preserved
 loop-number-preserved c =

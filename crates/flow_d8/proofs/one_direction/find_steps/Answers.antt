@@ -18,7 +18,7 @@ some_not_none (d ∷ steps) some none = absurd (cc)
 pub returns-in_ok-one_or_none-in-Drains-clause-steps : goal.returns-in_ok-one_or_none-in-Drains-clause-steps
 returns-in_ok-one_or_none-in-Drains-clause-steps g c honest =
     let m = g.L.FilledLevels.mosaic c.args.levels.now c.args.source.now in
-    subst (AreNext m c.args.point) (sym c.in_ok-one_or_none-in-Drains.ensures) (next_by m c.args.point c.in-Drains.direction (subst (IsPointFlow m c.args.point) c.in-Drains.is (c.in_ok-direction.ensures.flow honest)))
+    subst (AreNext m c.args.point) (sym c.in_ok-one_or_none-in-Drains.ensures) (next_by m c.args.point c.in-Drains.direction (subst (IsPointFlow m c.args.point) c.in-Drains.is (c.in_ok-direction.ensures.flow honest)).direction)
 
 pub returns-in-Inside-clause-steps : goal.returns-in-Inside-clause-steps
 returns-in-Inside-clause-steps g c honest =

@@ -1,0 +1,12 @@
+use Rattle.std.proofs.Common.{◌<◌, length, get_or, refl, arith}
+use Rattle.flow_d8.specs.declared.flow.Flow.TheVariants.{Unknown}
+use Rattle.flow_d8.proofs.FlowBytes.{taken_more}
+use Rattle.flow_d8.proofs.tile_flows.take_told.Goals as goal
+
+pub loop-index-preserved : goal.loop-index-preserved
+loop-index-preserved c =
+    let mid = c.loop-index.flows in
+    let e = c.loop-index.index in
+    let from = c.args.from.now in
+    let within : e < length mid = omega (arith, c.loop-index-test.true, c.loop-index.auto.flows) in
+    taken_more from c.args.flows.now mid c.take_at.new.flows e (get_or from e Unknown) within refl c.take_at.ensures c.loop-index.invariant

@@ -1,0 +1,8 @@
+-- The present tiles of a mosaic.
+use Rattle.std.specs.Prelude.{List, map}
+use Rattle.lattice.specs.Corners.{Corner}
+use Rattle.lattice.specs.Mosaic.{Mosaic, Tile}
+
+-- the corners of the present tiles, in order
+abbrev pub corners_of : Mosaic → List Corner
+corners_of m = map (λ (t : Tile). t.corner) m.tiles
