@@ -18,7 +18,7 @@ ghost use Rattle.drainage.specs.Reaching.{DifferAt, DifferBetween};
 ghost use Rattle.drainage.specs.Room.{AreFewSamples};
 ghost use Rattle.drainage.specs.Spared.{AreLevelsStill, IsNoHigher, IsSetTo};
 
-use crate::flows::{Flows, far_across};
+use crate::flows::Flows;
 use crate::nearby::near;
 use crate::tile_cache::TileCache;
 use arrayvec::ArrayVec;
@@ -169,25 +169,6 @@ impl DrainageCache {
             Some(flows) => flows,
             None => Flows::new(alloc, side),
         }
-    }
-
-    // How many points of a flat a search may reach, before it pays to learn where the points of its tiles drain.
-    pub(crate) fn far_across_flat(&self, side: Side) -> usize {
-        match &self.flows {
-            Some(flows) => flows.far_across(),
-            None => far_across(side, 0),
-        }
-    }
-
-    // Notes that a search over a flat has reached so many points.
-    pub(crate) fn note_flat_searched(&mut self, reached: usize)
-        ensures { (m : Mosaic) → IsHeldOf m self.old → IsHeldOf m self.new }
-    {
-        let Some(mut flows) = self.flows.take() else {
-            return;
-        };
-        flows.note_searched(reached);
-        self.flows = Some(flows);
     }
 
     // Learns where the point drains, if there is memory for it.

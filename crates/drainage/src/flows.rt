@@ -92,8 +92,6 @@ pub(crate) struct Flows {
     tiles: Vec<AskedTile>,
     // The place of the tile that is given up next.
     oldest: usize,
-    // How many points the longer searches over flats have reached since the last flat was learnt.
-    searched: usize,
     slots: Slots,
     ghost few: { AreFewTiles side (length tiles.items) },
 }
@@ -109,7 +107,6 @@ impl Flows {
             side,
             tiles: Vec::new(alloc),
             oldest: 0,
-            searched: 0,
             slots: Slots::new(alloc),
         }
     }
@@ -212,25 +209,10 @@ impl Flows {
         }
     }
 
-    /// How many points a search over a flat may reach, before it pays to learn where the points of its tiles drain.
-    pub(crate) fn far_across(&self) -> usize {
-        far_across(self.side, self.searched)
-    }
-
-    /// Notes that a search over a flat has reached so many points.
-    pub(crate) fn note_searched(&mut self, reached: usize)
-        ensures { (m : Mosaic) → AreFlows m self.old → AreFlows m self.new }
-    {
-        if reached > short_search(self.side) {
-            self.searched = self.searched.saturating_add(reached);
-        }
-    }
-
     /// Learns what these bytes tell of the samples of the corner's tile with this side, if there is memory for it.
     pub(crate) fn learn_flows(&mut self, alloc: Global, side: Side, corner: Corner, flows: &[Flow])
         ensures { (m : Mosaic) → AreFlowsOf m side corner flows.now → AreFlows m self.old → AreFlows m self.new }
     {
-        self.searched = 0;
         if let Some(t) = self.place_of(corner) {
             self.tiles[t].learn_flows(side, corner, flows);
             return;
@@ -349,17 +331,10 @@ fn present_holder<S: Samples>(samples: &S, side: Side, point: Point) -> Option<C
     None
 }
 
-// How many points a search over a flat may reach where others have reached so many. To reach all points of a tile takes two or
-// three times as long as to learn where they drain.
-pub(crate) fn far_across(side: Side, searched: usize) -> usize {
-    let area = side.area() as usize;
-    let left = area.saturating_sub(searched).min(area / 4);
-    left.max(short_search(side))
-}
-
-// A search over a flat that reaches no more points is short: it doesn't count.
-fn short_search(side: Side) -> usize {
-    side.area() as usize / 1024
+/// How many points of a flat a search may reach, before it pays to learn where the points of its tiles drain: a search of so many
+/// takes about as long as to learn those of one tile.
+pub(crate) fn far_across(side: Side) -> usize {
+    side.area() as usize / 4
 }
 
 /// Of how many tiles of this side the flows are held.

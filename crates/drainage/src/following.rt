@@ -17,7 +17,7 @@ use crate::asking::check_ground;
 use crate::drainage_cache::DrainageCache;
 use crate::everywhere::{far, learn_all};
 use crate::filling::level;
-use crate::flows::most_tiles;
+use crate::flows::{far_across, most_tiles};
 use crate::learning::{filled_tile, learn_tile};
 use arrayvec::ArrayVec;
 use catalogue::share_tile;
@@ -127,11 +127,7 @@ impl<S: Labellings> FilledLevels<S> for DrainageCache {
     }
 
     fn far_across(&self, source: &S) -> usize {
-        self.far_across_flat(source.side())
-    }
-
-    fn note_searched(&mut self, _source: &S, reached: usize) {
-        self.note_flat_searched(reached);
+        far_across(source.side())
     }
 
     fn side(&self, source: &S) -> Side {

@@ -2,9 +2,14 @@
 use Rattle.std.proofs.Common.{◌∙◌, refl, sym, subst, Ok, Err}
 use Rattle.std.specs.Prelude.{◌≡◌, Option, Some, None, Result, IfOk, IfErr, IfSome}
 use Rattle.flow_d8.specs.declared.filled_levels.FilledLevels.{Ghosts}
+use Rattle.lattice.specs.Mosaic.{Mosaic}
+use Rattle.lattice.specs.Ground.{terrain}
+use Rattle.flow_d8.specs.LevelsAround.{OnLevels}
 use Rattle.flow_d8.specs.Asking.{Asks, IsAsked}
 use Rattle.lattice.specs.declared.refusal.Refusal.{Refusal}
 use Rattle.lattice.specs.declared.refusal.Refusal.TheVariants.{NoMemory}
+use Rattle.flow_d8.specs.declared.flats.Flats.{Flats}
+use Rattle.flow_d8.specs.Flats.{AreMeasured, AreFlatsOf}
 
 module _ {L S : Type 0} (g : Ghosts L S) where
   pub asks_nothing : (s : L) (a : S) → Asks g s a s a
@@ -49,6 +54,10 @@ module _ {L S : Type 0} (g : Ghosts L S) where
     refusal = tt;
   }
   asked_then keeps_on refuses_on s s' s'' a b c (Err e) asks kept last = refused s s'' a c e (asks_on s s' s'' a b c asks last.asks) last.fits (refuses_on s s' s'' a b c e kept last.refusal)
+
+  -- what was found of flats before a call is right after it
+  pub flats_on : (s s' : L) (a b : S) (held : Flats) → Asks g s a s' b → AreFlatsOf g s a held → AreFlatsOf g s' b held
+  flats_on s s' a b held asks are honest = subst (λ (m : Mosaic). OnLevels m (λ level. AreMeasured (terrain m) level held)) (sym (asks.mosaic honest)) (are (asks.honest honest))
 
 pub on_ok : {T E : Type 0} (P Q : T → Type 0) (r : Result T E) → ((x : T) → P x → Q x) → IfOk r P → IfOk r Q
 on_ok P Q (Ok x) f h = f x h

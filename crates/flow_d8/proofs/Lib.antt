@@ -34,6 +34,8 @@ pub mod Reaching
 pub mod Shortest
 pub mod Ends
 pub mod Following
+pub mod FlatsSearched
+pub mod FlatsMeasured
 pub mod Learning
 pub mod Beside
 pub mod TileShown

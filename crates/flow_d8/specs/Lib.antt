@@ -20,6 +20,7 @@ pub mod Asking
 pub mod Seen
 pub mod FlatSearch
 pub mod PointFlow
+pub mod Flats
 pub mod FlowSteps
 pub mod TilePlaces
 pub mod Feeders

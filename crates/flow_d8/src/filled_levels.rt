@@ -93,14 +93,6 @@ pub trait FilledLevels<S> {
     /// flat goes.
     fn far_across(&self, source: &S) -> usize;
 
-    /// Notes that a search over a flat has reached so many points.
-    fn note_searched(&mut self, source: &S, reached: usize)
-        requires { fits self.old source.now }
-        ensures fits { fits self.new source.now }
-        ensures honest { is_honest self.new source.now → is_honest self.old source.now }
-        ensures mosaic { is_honest self.new source.now → mosaic self.new source.now ≡ mosaic self.old source.now }
-        ensures keeps { keeps self.old source.now self.new source.now };
-
     /// The side of each tile.
     fn side(&self, source: &S) -> Side
         ensures { is_honest self.now source.now → result ≡ (mosaic self.now source.now).side };

@@ -8,6 +8,7 @@ ghost use Rattle.flow_d8.specs.LevelsAround.{OnLevels};
 ghost use Rattle.flow_d8.specs.Asking.{IsAsked};
 ghost use Rattle.flow_d8.specs.Seen.{has_seen};
 ghost use Rattle.flow_d8.specs.FlowSteps.{FlowsBy, FlowsOn};
+ghost use Rattle.flow_d8.specs.Flats.{IsExpanded};
 ghost use Rattle.flow_d8.specs.FlatSearch.{AreReached, AreLinked, IsVisited, AreVisited, IsOnFlat, IsSearched, AreDrained, node_at};
 
 use crate::FilledLevels;
@@ -58,7 +59,6 @@ pub(crate) fn path_across_flat<S, L: FilledLevels<S>>(
             return Ok(None);
         }
         if expand(alloc, levels, source, height, head, &mut seen, &mut nodes)? {
-            levels.note_searched(source, nodes.len());
             return Ok(Some(steps_to(alloc, &nodes, head)?));
         }
         head += 1;
@@ -101,6 +101,8 @@ pub(crate) fn expand<S, L: FilledLevels<S>>(
         → IsSearched (terrain (L.mosaic levels.old source.old)) level x nodes.old.items head → CrossesFlat (terrain (L.mosaic levels.old source.old)) level (node_at nodes.old.items head).point 0)) }
     ensures on { L.is_honest levels.new source.new → IfOk result (λ end. IsFalse end → OnLevels (L.mosaic levels.old source.old) (λ level. (x : Point) → level x ≡ height
         → IsSearched (terrain (L.mosaic levels.old source.old)) level x nodes.old.items head → IsSearched (terrain (L.mosaic levels.old source.old)) level x nodes.new.items (head + 1))) }
+    ensures expanded { L.is_honest levels.new source.new → IfOk result (λ end. IsTrue (is_ground (L.mosaic levels.old source.old) (node_at nodes.old.items head).point) → OnLevels (L.mosaic levels.old source.old) (λ level. level (node_at nodes.old.items head).point ≡ height
+        → IsExpanded (terrain (L.mosaic levels.old source.old)) level (node_at nodes.old.items head).point nodes.old.items nodes.new.items end)) }
     ensures asked { IsAsked L.FilledLevels levels.old source.old levels.new source.new result }
 {
     let node = nodes[head];

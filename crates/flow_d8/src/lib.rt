@@ -20,8 +20,9 @@
 //! ```
 //!
 //! A direction looks at the levels around the point and, where that lies on a flat, around the points of the flat, the
-//! nearest first, until one of them drains. A flow path goes on to that point by the way that this search found. Once searches
-//! over flats have gone far, the flat's distances are found a tile at a time, and of each tile those on its rim are held, until
+//! nearest first, until one of them drains. A flow path goes on to that point by the way that this search found.
+//! `direction_over` is for many questions: it searches each flat whole, once, and holds the distances of its points
+//! (`Flats`). Once a search over a flat has gone far, the flat's distances are found a tile at a time, and of each tile those on its rim are held, until
 //! where the flat's points drain is known of all its tiles. `TileFlows` holds where the points of one tile drain.
 #![tactic(auto)]
 
@@ -35,6 +36,7 @@ mod finding;
 mod first_steps;
 mod flat_rims;
 mod flat_search;
+mod flats;
 mod flow;
 mod flow_path;
 mod flows;
@@ -63,6 +65,7 @@ mod wide_flats;
 pub use directions::Directions;
 pub use filled::Filled;
 pub use filled_levels::FilledLevels;
+pub use flats::Flats;
 pub use flow::Flow;
 pub use flow_path::trace;
 pub use laws::{
@@ -70,6 +73,6 @@ pub use laws::{
     flow_paths_are_unique, measured_distances_are_flat_distances, watersheds_follow_flow_paths,
 };
 pub use levels_around::Near;
-pub use one_direction::direction_at;
+pub use one_direction::{direction_at, direction_over};
 pub use point_table::PointTable;
 pub use tile_flows::TileFlows;

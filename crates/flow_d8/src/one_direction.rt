@@ -2,11 +2,13 @@
 ghost use Rattle.std.specs.Option.{option_to_list};
 ghost use Rattle.std.specs.Prelude.{◌≡◌, Some, None, MatchOption, IfOk, IfSome, OnOk};
 ghost use Rattle.flow_d8.specs.Asking.{Asks, IsAsked};
+ghost use Rattle.flow_d8.specs.Flats.{AreFlatsOf};
 ghost use Rattle.flow_d8.specs.FlowSteps.{AreNext};
 ghost use Rattle.flow_d8.specs.Way.{IsWay};
 
 use crate::FilledLevels;
 use crate::flat_search::path_across_flat;
+use crate::flats::{Flats, first_nearer};
 use crate::point_flow::{PointFlow, point_flow};
 use crate::wide_flats::learn_wide_flat;
 use lattice::{Dir, Point, Refusal, neighbour};
@@ -25,11 +27,34 @@ pub fn direction_at<S, L: FilledLevels<S>>(
     ensures way { L.is_honest levels.new source.new → IfOk result (IsWay (L.mosaic levels.old source.old) point) }
     ensures asked { IsAsked L.FilledLevels levels.old source.old levels.new source.new result }
 {
+    let mut steps = steps_on(alloc, levels, source, point)?;
+    Ok(steps.pop())
+}
+
+/// Where the point drains, as `direction_at` answers it. What was found of its flat serves, and what is found is held for
+/// the questions to come. So many questions search each flat once.
+pub fn direction_over<S, L: FilledLevels<S>>(
+    alloc: Global,
+    levels: &mut L,
+    source: &mut S,
+    flats: &mut Flats,
+    point: Point,
+) -> Result<Option<Dir>, Refusal>
+    requires fits { L.fits levels.old source.old }
+    requires flats { AreFlatsOf L.FilledLevels levels.old source.old flats.old }
+    ensures way { L.is_honest levels.new source.new → IfOk result (IsWay (L.mosaic levels.old source.old) point) }
+    ensures flats { OnOk result (AreFlatsOf L.FilledLevels levels.new source.new flats.new) }
+    ensures asked { IsAsked L.FilledLevels levels.old source.old levels.new source.new result }
+{
     if let Some(way) = known_way(alloc, levels, source, point)? {
         return Ok(way);
     }
-    let mut steps = new_steps(alloc, levels, source, point)?;
-    Ok(steps.pop())
+    let far = levels.far_across(source);
+    if let Some(way) = find_direction(alloc, levels, source, flats, point, far)? {
+        levels.learn(alloc, source, point, way);
+        return Ok(way);
+    }
+    far_direction(alloc, levels, source, flats, point)
 }
 
 // Where the point drains, where that was learnt, or is now with the points around it.
@@ -52,6 +77,64 @@ fn known_way<S, L: FilledLevels<S>>(
     Ok(None)
 }
 
+// Where a point drains that lies inside a wide flat.
+fn far_direction<S, L: FilledLevels<S>>(
+    alloc: Global,
+    levels: &mut L,
+    source: &mut S,
+    flats: &mut Flats,
+    point: Point,
+) -> Result<Option<Dir>, Refusal>
+    requires fits { L.fits levels.old source.old }
+    requires flats { AreFlatsOf L.FilledLevels levels.old source.old flats.old }
+    ensures way { L.is_honest levels.new source.new → IfOk result (IsWay (L.mosaic levels.old source.old) point) }
+    ensures flats { OnOk result (AreFlatsOf L.FilledLevels levels.new source.new flats.new) }
+    ensures asked { IsAsked L.FilledLevels levels.old source.old levels.new source.new result }
+{
+    learn_wide_flat(alloc, levels, source, point)?;
+    if let Some(way) = levels.way(source, point) {
+        return Ok(way);
+    }
+    match find_direction(alloc, levels, source, flats, point, usize::MAX)? {
+        Some(way) => Ok(way),
+        None => Err(Refusal::NoMemory),
+    }
+}
+
+// Where the point drains, which wasn't learnt; None where its flat has more than some `most` points.
+fn find_direction<S, L: FilledLevels<S>>(
+    alloc: Global,
+    levels: &mut L,
+    source: &mut S,
+    flats: &mut Flats,
+    point: Point,
+    most: usize,
+) -> Result<Option<Option<Dir>>, Refusal>
+    requires fits { L.fits levels.old source.old }
+    requires flats { AreFlatsOf L.FilledLevels levels.old source.old flats.old }
+    ensures way { L.is_honest levels.new source.new → IfOk result (λ found. IfSome found (IsWay (L.mosaic levels.old source.old) point)) }
+    ensures flats { OnOk result (AreFlatsOf L.FilledLevels levels.new source.new flats.new) }
+    ensures asked { IsAsked L.FilledLevels levels.old source.old levels.new source.new result }
+{
+    match point_flow(alloc, levels, source, point)? {
+        PointFlow::Drains(direction) => Ok(Some(direction)),
+        PointFlow::Inside { height, around } => {
+            let step = first_nearer(alloc, levels, source, flats, point, height, &around, most)?;
+            Ok(way_by(step))
+        }
+    }
+}
+
+// That it is known, where a step is.
+fn way_by(step: Option<Dir>) -> Option<Option<Dir>>
+    ensures { MatchOption step (result ≡ None) (λ d. result ≡ Some (Some d)) }
+{
+    match step {
+        Some(direction) => Some(Some(direction)),
+        None => None,
+    }
+}
+
 /// The next steps on the point's flow path, the last one first: one step down, or those across its flat. None where it
 /// drains off the mosaic, and where it isn't ground.
 ///
@@ -69,20 +152,6 @@ pub(crate) fn steps_on<S, L: FilledLevels<S>>(
     if let Some(way) = known_way(alloc, levels, source, point)? {
         return Ok(one_or_none(alloc, way)?);
     }
-    new_steps(alloc, levels, source, point)
-}
-
-// The next steps on the flow path of a point whose direction wasn't learnt. It is learnt then.
-fn new_steps<S, L: FilledLevels<S>>(
-    alloc: Global,
-    levels: &mut L,
-    source: &mut S,
-    point: Point,
-) -> Result<Vec<Dir>, Refusal>
-    requires { L.fits levels.old source.old }
-    ensures steps { L.is_honest levels.new source.new → IfOk result (λ steps. AreNext (L.mosaic levels.old source.old) point steps.items) }
-    ensures asked { IsAsked L.FilledLevels levels.old source.old levels.new source.new result }
-{
     let far = levels.far_across(source);
     if let Some(steps) = find_steps(alloc, levels, source, point, far)? {
         learn_along(alloc, levels, source, point, &steps);

@@ -12,6 +12,7 @@ ghost use Rattle.flow_d8.specs.Drainage.{AreFilledLevels};
 ghost use Rattle.flow_d8.specs.FlowPath.{IsInWatershed};
 ghost use Rattle.flow_d8.specs.LevelsAround.{OnLevels};
 ghost use Rattle.flow_d8.specs.Asking.{Asks, IsAsked};
+ghost use Rattle.flow_d8.specs.Flats.{AreFlatsOf};
 ghost use Rattle.watershed.specs.Runs.{AreRuns};
 ghost use Rattle.flow_d8.specs.Feeders.{IsFeeder};
 ghost use Rattle.watershed.specs.Feeding.{IsFeederAdded};
@@ -20,7 +21,7 @@ use crate::feeders::Feeders;
 use crate::runs::Run;
 use crate::search::{search, watershed};
 use arrayvec::ArrayVec;
-use flow_d8::{FilledLevels, direction_at};
+use flow_d8::{FilledLevels, Flats, direction_over};
 use lattice::{DIRECTIONS, Dir, Point, Refusal, neighbour};
 use std::alloc::Global;
 
@@ -85,21 +86,27 @@ fn by_points<S, L: FilledLevels<S>>(
     ensures elsewhere { L.is_honest levels.new source.new → IfOk result (λ found. IfSome found (λ runs. IsFalse (is_ground (L.mosaic levels.old source.old) point) → runs.items ≡ [])) }
     ensures asked { IsAsked L.FilledLevels levels.old source.old levels.new source.new result }
 {
-    let mut asked = Asked { levels, source };
+    let mut flats = Flats::new(alloc);
+    let mut asked = Asked {
+        levels,
+        source,
+        flats: &mut flats,
+    };
     search(alloc, &mut asked, point, most)
 }
 
 // Filled levels, asked which points drain straight to a point.
 #[derive(Drop)]
-struct Asked<'a, 'b, S, L: FilledLevels<S>> {
+struct Asked<'a, 'b, 'c, S, L: FilledLevels<S>> {
     levels: &'a mut L,
     source: &'b mut S,
+    flats: &'c mut Flats,
 }
 
-impl<'a, 'b, S, L: FilledLevels<S>> Feeders for Asked<'a, 'b, S, L> {
+impl<'a, 'b, 'c, S, L: FilledLevels<S>> Feeders for Asked<'a, 'b, 'c, S, L> {
     ghost tells = { λ asked m level. L.is_honest asked.levels.now asked.source.now × ((m ≡ L.mosaic asked.levels.now asked.source.now) × AreFilledLevels (terrain m) level) };
 
-    ghost is_ready = { λ asked. L.fits asked.levels.now asked.source.now };
+    ghost is_ready = { λ asked. L.fits asked.levels.now asked.source.now × AreFlatsOf L.FilledLevels asked.levels.now asked.source.now asked.flats.now };
 
     // They are the same levels, and right for their source.
     ghost follows = { λ old new. (new.levels.ghost_name ≡ old.levels.ghost_name) × (new.source.ghost_name ≡ old.source.ghost_name) × Asks L.FilledLevels old.levels.now old.source.now new.levels.now new.source.now × L.fits new.levels.now new.source.now };
@@ -114,7 +121,7 @@ impl<'a, 'b, S, L: FilledLevels<S>> Feeders for Asked<'a, 'b, S, L> {
     }
 
     fn feeders(&mut self, alloc: Global, point: Point) -> Result<ArrayVec<Point, 8>, Refusal> {
-        feeders(alloc, self.levels, self.source, point)
+        feeders(alloc, self.levels, self.source, self.flats, point)
     }
 
     ghost told_before = { λ a b m level follows told. (follows.2.honest told.0, (told.1.0 ∙ follows.2.mosaic told.0, told.1.1)) };
@@ -133,16 +140,19 @@ fn feeders<S, L: FilledLevels<S>>(
     alloc: Global,
     levels: &mut L,
     source: &mut S,
+    flats: &mut Flats,
     point: Point,
 ) -> Result<ArrayVec<Point, 8>, Refusal>
-    requires { L.fits levels.old source.old }
+    requires fits { L.fits levels.old source.old }
+    requires flats { AreFlatsOf L.FilledLevels levels.old source.old flats.old }
     ensures feeders { L.is_honest levels.new source.new → IfOk result (λ found. OnLevels (L.mosaic levels.old source.old) (λ level. (x : Point) → Contains found.items x ↔ IsFeeder (terrain (L.mosaic levels.old source.old)) level x point)) }
+    ensures flats { OnOk result (AreFlatsOf L.FilledLevels levels.new source.new flats.new) }
     ensures asked { IsAsked L.FilledLevels levels.old source.old levels.new source.new result }
 {
     if let Some(found) = levels.feeders(source, point) {
         return Ok(found);
     }
-    feeders_around(alloc, levels, source, point)
+    feeders_around(alloc, levels, source, flats, point)
 }
 
 // The points around the point that drain straight to it, each of them asked.
@@ -150,15 +160,26 @@ fn feeders_around<S, L: FilledLevels<S>>(
     alloc: Global,
     levels: &mut L,
     source: &mut S,
+    flats: &mut Flats,
     point: Point,
 ) -> Result<ArrayVec<Point, 8>, Refusal>
-    requires { L.fits levels.old source.old }
+    requires fits { L.fits levels.old source.old }
+    requires flats { AreFlatsOf L.FilledLevels levels.old source.old flats.old }
     ensures feeders { L.is_honest levels.new source.new → IfOk result (λ found. OnLevels (L.mosaic levels.old source.old) (λ level. (x : Point) → Contains found.items x ↔ IsFeeder (terrain (L.mosaic levels.old source.old)) level x point)) }
+    ensures flats { OnOk result (AreFlatsOf L.FilledLevels levels.new source.new flats.new) }
     ensures asked { IsAsked L.FilledLevels levels.old source.old levels.new source.new result }
 {
     let mut found = ArrayVec::new();
     for i in 0..8 {
-        add_feeder(alloc, levels, source, point, DIRECTIONS[i], &mut found)?;
+        add_feeder(
+            alloc,
+            levels,
+            source,
+            flats,
+            point,
+            DIRECTIONS[i],
+            &mut found,
+        )?;
     }
     Ok(found)
 }
@@ -168,20 +189,23 @@ fn add_feeder<S, L: FilledLevels<S>>(
     alloc: Global,
     levels: &mut L,
     source: &mut S,
+    flats: &mut Flats,
     point: Point,
     direction: Dir,
     found: &mut ArrayVec<Point, 8>,
 ) -> Result<(), Refusal>
     requires fits { L.fits levels.old source.old }
+    requires flats { AreFlatsOf L.FilledLevels levels.old source.old flats.old }
     requires room { array_vec_len found.old < 8 }
     ensures feeder { L.is_honest levels.new source.new → OnOk result (OnLevels (L.mosaic levels.old source.old) (λ level. IsFeederAdded (IsFeeder (terrain (L.mosaic levels.old source.old)) level) point direction found.old.items found.new.items)) }
     ensures room { array_vec_len found.new ≤ array_vec_len found.old + 1 }
+    ensures flats { OnOk result (AreFlatsOf L.FilledLevels levels.new source.new flats.new) }
     ensures asked { IsAsked L.FilledLevels levels.old source.old levels.new source.new result }
 {
     let Some(from) = neighbour(point, direction) else {
         return Ok(());
     };
-    let way = direction_at(alloc, levels, source, from)?;
+    let way = direction_over(alloc, levels, source, flats, from)?;
     if leads_to(from, way, point) {
         found.push(from);
         return Ok(());

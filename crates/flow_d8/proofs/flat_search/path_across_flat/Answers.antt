@@ -12,7 +12,7 @@ use Rattle.flow_d8.specs.declared.flat_search.Node.{Node}
 use Rattle.flow_d8.specs.LevelsAround.{OnLevels}
 use Rattle.flow_d8.specs.FlowSteps.{FlowsBy}
 use Rattle.flow_d8.specs.FlatSearch.{AreVisited, AreLinked, IsSearched, AreDrained, node_at}
-use Rattle.flow_d8.proofs.Asked.{asks_nothing, asks_on, refused, refused_then, out_of_memory}
+use Rattle.flow_d8.proofs.Asked.{asks_nothing, asks_on, refused, refused_then, out_of_memory_then}
 use Rattle.flow_d8.proofs.Reaching.{searched_first}
 use Rattle.flow_d8.proofs.Shortest.{are_drained}
 use Rattle.flow_d8.proofs.Ends.{level_function, some_left}
@@ -58,8 +58,7 @@ returns-then-branch-clause-way g c honest level filled =
     let at = c.args.source.now in
     let m = g.L.FilledLevels.mosaic now at in
     let inv = c.nodes.invariant in
-    let ended = c.note_searched.ensures.honest honest in
-    let before = c.in_ok-expand.ensures.asked.asks.honest ended in
+    let before = c.in_ok-expand.ensures.asked.asks.honest honest in
     let same = inv.asks.mosaic before in
     let flat = c.requires.flat (inv.asks.honest before) in
     let old = c.nodes.nodes.items in
@@ -70,7 +69,7 @@ returns-then-branch-clause-way g c honest level filled =
     let fits : SFits w16 c.args.height = search rules in
     let here : level c.args.point ≡ height = flat.here level filled ∙ sym (to_z-of_z w16 c.args.height fits) in
     let end = subst (λ (n : Mosaic). OnLevels n (λ level. (x : Point) → level x ≡ height → IsSearched (terrain n) level x old head → CrossesFlat (terrain n) level (node_at old head).point 0)) same
-    (c.in_ok-expand.ensures.end ended c.if-branch.true) level filled c.args.point here s in
+    (c.in_ok-expand.ensures.end honest c.if-branch.true) level filled c.args.point here s in
     let kept = c.deref.ensures.value ∙ c.in_ok-expand.ensures.kept c.if-branch.true in
     let steps = c.in_ok-steps_to.field-0 in
     let drained = are_drained (terrain m) level c.args.point old head s within end in
@@ -81,31 +80,16 @@ returns-then-branch-clause-way g c honest level filled =
 
 pub returns-in_err-steps_to-clause-asked : goal.returns-in_err-steps_to-clause-asked
 returns-in_err-steps_to-clause-asked g c =
-    let now = c.args.levels.now in
-    let at = c.args.source.now in
-    let here = c.expand.new.source in
-    let inv = c.nodes.invariant in
-    let last = c.in_ok-expand.ensures.asked in
-    let noted = c.note_searched.ensures in
-    let kept = g.met.L.FilledLevels.keeps_on now c.expand.new.levels c.note_searched.new.self at here here (g.met.L.FilledLevels.keeps_on now c.nodes.levels c.expand.new.levels at c.nodes.source here inv.keeps last.keeps) noted.keeps in
-    out_of_memory g.L.FilledLevels now c.note_searched.new.self at here c.from_residual-in_err-steps_to.result
-    (asks_on g.L.FilledLevels now c.expand.new.levels c.note_searched.new.self at here here (asks_on g.L.FilledLevels now c.nodes.levels c.expand.new.levels at c.nodes.source here inv.asks last.asks) (record { honest = noted.honest; mosaic = noted.mosaic }))
-    noted.fits kept (g.met.L.FilledLevels.runs_out now c.note_searched.new.self at here kept) (search rules)
+    out_of_memory_then g.L.FilledLevels g.met.L.FilledLevels.keeps_on g.met.L.FilledLevels.runs_out c.args.levels.now c.nodes.levels c.expand.new.levels c.args.source.now c.nodes.source c.expand.new.source c.in_ok-expand.field-0 c.from_residual-in_err-steps_to.result
+    c.nodes.invariant.asks c.nodes.invariant.keeps c.in_ok-expand.ensures.asked (search rules)
 
 pub returns-then-branch-clause-asked : goal.returns-then-branch-clause-asked
-returns-then-branch-clause-asked g c =
-    let now = c.args.levels.now in
-    let at = c.args.source.now in
-    let here = c.expand.new.source in
-    let inv = c.nodes.invariant in
-    let last = c.in_ok-expand.ensures.asked in
-    let noted = c.note_searched.ensures in
-    record {
-      asks = asks_on g.L.FilledLevels now c.expand.new.levels c.note_searched.new.self at here here (asks_on g.L.FilledLevels now c.nodes.levels c.expand.new.levels at c.nodes.source here inv.asks last.asks) (record { honest = noted.honest; mosaic = noted.mosaic });
-      fits = noted.fits;
-      keeps = g.met.L.FilledLevels.keeps_on now c.expand.new.levels c.note_searched.new.self at here here (g.met.L.FilledLevels.keeps_on now c.nodes.levels c.expand.new.levels at c.nodes.source here inv.keeps last.keeps) noted.keeps;
-      refusal = tt;
-    }
+returns-then-branch-clause-asked g c = record {
+  asks = asks_on g.L.FilledLevels c.args.levels.now c.nodes.levels c.expand.new.levels c.args.source.now c.nodes.source c.expand.new.source c.nodes.invariant.asks c.in_ok-expand.ensures.asked.asks;
+  fits = c.in_ok-expand.ensures.asked.fits;
+  keeps = g.met.L.FilledLevels.keeps_on c.args.levels.now c.nodes.levels c.expand.new.levels c.args.source.now c.nodes.source c.expand.new.source c.nodes.invariant.keeps c.in_ok-expand.ensures.asked.keeps;
+  refusal = tt;
+}
 
 pub nodes-preserved : goal.nodes-preserved
 nodes-preserved g c =

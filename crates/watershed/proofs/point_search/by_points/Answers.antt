@@ -10,6 +10,9 @@ use Rattle.watershed.proofs.Upstream.{no_watershed}
 use Rattle.watershed.proofs.Feeding.{found_weaker}
 use Rattle.watershed.proofs.point_search.by_points.Goals as goal
 
+pub search-requires : goal.search-requires
+search-requires g c = (c.requires, λ honest level filled. c.new-flats.ensures (terrain (g.L.FilledLevels.mosaic c.args.levels.now c.args.source.now)) level)
+
 pub returns-clause-runs : goal.returns-clause-runs
 returns-clause-runs g c =
     let m = g.L.FilledLevels.mosaic c.args.levels.now c.args.source.now in

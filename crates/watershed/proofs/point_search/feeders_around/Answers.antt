@@ -16,7 +16,8 @@ pub loop-i-init : goal.loop-i-init
 loop-i-init g c = record {
   asks = asks_nothing g.L.FilledLevels c.args.levels.now c.args.source.now;
   keeps = g.met.L.FilledLevels.keeps_itself c.args.levels.now c.args.source.now;
-  fits = c.requires;
+  fits = c.requires.fits;
+  flats = c.requires.flats;
   room = omega (arith, ap length c.new-found.ensures);
   feeders = λ honest level filled. none_yet (IsFeeder (terrain (g.L.FilledLevels.mosaic c.args.levels.now c.args.source.now)) level) c.args.point c.new-found.result.items c.new-found.ensures;
 }
@@ -34,6 +35,7 @@ loop-i-preserved g c =
       asks = asks_on g.L.FilledLevels now c.loop-i.levels c.add_feeder.new.levels at c.loop-i.source c.add_feeder.new.source inv.asks told.asked.asks;
       keeps = g.met.L.FilledLevels.keeps_on now c.loop-i.levels c.add_feeder.new.levels at c.loop-i.source c.add_feeder.new.source inv.keeps told.asked.keeps;
       fits = told.asked.fits;
+      flats = told.flats;
       room = omega (arith, told.room, inv.room);
       feeders = λ honest level filled.
           let before = told.asked.asks.honest honest in
