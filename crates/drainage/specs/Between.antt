@@ -12,11 +12,13 @@ use Rattle.drainage.specs.Flows.{AreFlows}
 use Rattle.drainage.specs.Invalidating.{IsLeftOf, IsNotedOf}
 use Rattle.drainage.specs.Holding.{IsRight, IsCurrentIn}
 use Rattle.drainage.specs.Reaching.{is_reached}
-use Rattle.drainage.specs.Room.{AreFew, AreFewTiles, AreFewSamples}
+use Rattle.drainage.specs.Room.{AreFew, AreFewTiles, AreFewSamples, AreFewRims}
 use Rattle.drainage.specs.TileCaches.{known_of}
+use Rattle.drainage.specs.WideFlats.{AreWideFlats, AnyIsOver}
 use Rattle.drainage.specs.declared.flows.Flows.{Flows}
 use Rattle.drainage.specs.declared.drainage_cache.DrainageCache.{DrainageCache}
 use Rattle.drainage.specs.declared.tile_cache.TileCache.{TileCache}
+use Rattle.drainage.specs.declared.wide_flats.WideFlats.{WideFlats}
 
 abbrev pub are_right : Mosaic → Option TileCache → Type 0
 are_right m None = Unit {0}
@@ -30,11 +32,16 @@ abbrev pub directions_right : Mosaic → Option Directions → Type 0
 directions_right m None = Unit {0}
 directions_right m (Some directions) = OnLevels m (λ level. AreDirectionsOf m level directions)
 
+abbrev pub flats_right : Mosaic → Option WideFlats → Type 0
+flats_right m None = Unit {0}
+flats_right m (Some flats) = AreWideFlats m flats
+
 -- what is held is right for the mosaic, or nothing is
 pub record IsHeldOf (m : Mosaic) (held : DrainageCache) : Type 0 where
   pub tile_cache : are_right m held.tile_cache
   pub flows : drain_right m held.flows
   pub directions : directions_right m held.directions
+  pub wide_flats : flats_right m held.wide_flats
 
 -- the labellings of few tiles are held, or none is
 abbrev pub are_few : Option TileCache → Type 0
@@ -46,11 +53,22 @@ abbrev pub of_few_tiles : Option Flows → Type 0
 of_few_tiles None = Unit {0}
 of_few_tiles (Some flows) = AreFewTiles flows.side (length flows.tiles.items)
 
+-- the rims of few tiles are held, or none is
+abbrev pub of_few_rims : Option WideFlats → Type 0
+of_few_rims None = Unit {0}
+of_few_rims (Some flats) = AreFewRims flats.flats.items
+
 -- no more is held than there is room for
 pub record HoldsFew (held : DrainageCache) : Type 0 where
   pub labellings : are_few held.tile_cache
   pub flows : of_few_tiles held.flows
   pub directions : ForSome held.directions AreFewSamples
+  pub wide_flats : of_few_rims held.wide_flats
+
+-- what was learnt is held of a wide flat with this level that goes over a tile that holds the point
+abbrev pub any_is_over : Option WideFlats → ℤ → Point → Type 0
+any_is_over None level p = ⊥
+any_is_over (Some flats) level p = AnyIsOver flats level p
 
 -- these are the levels and labels that are held of the corner's tile, and no height may have changed since
 abbrev pub is_current_in : Option TileCache → Corner → LabelledGround → Type 0

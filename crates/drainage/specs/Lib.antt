@@ -14,5 +14,6 @@ pub mod Nearby
 pub mod Ring
 pub mod Beyond
 pub mod Flows
+pub mod WideFlats
 pub mod Spared
 pub mod Everywhere

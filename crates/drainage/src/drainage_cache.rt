@@ -1,5 +1,5 @@
 //! What is found of a mosaic's water, held between two questions.
-ghost use Rattle.std.specs.Prelude.{◌≡◌, None, IfOk, IfErr, IfSome, IfNone};
+ghost use Rattle.std.specs.Prelude.{◌≡◌, ◌↔◌, None, IsTrue, IfOk, IfErr, IfSome, IfNone};
 ghost use Rattle.std.specs.Option.{ForSome};
 ghost use Rattle.lattice.specs.Height.{height_of};
 ghost use Rattle.lattice.specs.Mosaic.{Mosaic, IsMosaic};
@@ -12,6 +12,7 @@ ghost use Rattle.flow_d8.specs.Feeders.{AreFeedersOf};
 ghost use Rattle.flow_d8.specs.LevelsAround.{IsNear, OnLevels};
 ghost use Rattle.flow_d8.specs.Way.{IsWay};
 ghost use Rattle.flow_d8.specs.Directions.{AreDirectionsOf};
+ghost use Rattle.flow_d8.specs.WideFlat.{IsLearntFlat, IsOver};
 ghost use Rattle.lattice.specs.declared.refusal.Refusal.TheVariants.{NoMemory};
 ghost use Rattle.drainage.specs.Holding.{IsRight};
 ghost use Rattle.drainage.specs.Reaching.{DifferAt, DifferBetween};
@@ -21,29 +22,32 @@ ghost use Rattle.drainage.specs.Spared.{AreLevelsStill, IsNoHigher, IsSetTo};
 use crate::flows::Flows;
 use crate::nearby::near;
 use crate::tile_cache::TileCache;
+use crate::wide_flats::WideFlats;
 use arrayvec::ArrayVec;
 use catalogue::Samples;
-use flow_d8::{Directions, Filled, Flow, Near};
+use flow_d8::{Directions, Filled, Flow, Near, WideFlat};
 use lattice::{Corner, Dir, Point, Refusal, Side};
 use std::alloc::Global;
 use tile_flood::Labelled;
 
 /// What questions about the water of one mosaic found, so that a later question doesn't find it again: the ways of the
 /// tiles that water came to, the labellings of those that were asked, as many as there is room for, the levels of rim
-/// points, and where points drain.
+/// points, where points drain, and what tells where those of wide flats do.
 #[derive(Drop)]
 pub struct DrainageCache {
     tile_cache: Option<TileCache>,
     flows: Option<Flows>,
     // Of all points, once a search went far.
     directions: Option<Directions>,
+    wide_flats: Option<WideFlats>,
     ghost few: { ForSome directions AreFewSamples },
 }
 
 impl DrainageCache {
-    ghost use Rattle.drainage.specs.Between.{IsHeldOf, IsLeftHeld, IsNotedHeld, IsCurrentOf};
+    ghost use Rattle.drainage.specs.Between.{IsHeldOf, IsLeftHeld, IsNotedHeld, IsCurrentOf, any_is_over};
     ghost use Rattle.drainage.specs.Flows.{AreFlows};
     ghost use Rattle.drainage.specs.TileCaches.{known_of};
+    ghost use Rattle.drainage.specs.WideFlats.{AreWideFlats};
 
     /// Nothing is held. Takes no memory.
     pub fn new() -> DrainageCache
@@ -53,6 +57,7 @@ impl DrainageCache {
             tile_cache: None,
             flows: None,
             directions: None,
+            wide_flats: None,
         }
     }
 
@@ -112,9 +117,11 @@ impl DrainageCache {
         ensures tile_cache { self.new.tile_cache ≡ self.old.tile_cache }
         ensures flows { self.new.flows ≡ None }
         ensures directions { self.new.directions ≡ None }
+        ensures wide_flats { self.new.wide_flats ≡ None }
     {
         self.flows = None;
         self.directions = None;
+        self.wide_flats = None;
     }
 
     // The levels at the point and around it, where what is held tells them.
@@ -233,6 +240,51 @@ impl DrainageCache {
         let mut known = self.take_flows(alloc, side);
         known.learn_flows(alloc, side, corner, flows);
         self.flows = Some(known);
+    }
+
+    // Whether what was learnt is held of a wide flat with this level, in metres, that goes over a tile that holds the point.
+    pub(crate) fn has_wide_flat(&self, point: Point, height: i16) -> bool
+        ensures { IsTrue result ↔ any_is_over self.now.wide_flats height point }
+    {
+        match &self.wide_flats {
+            Some(flats) => flats.has(point, height),
+            None => false,
+        }
+    }
+
+    // What was learnt of such a flat, handed out. None where nothing is held.
+    pub(crate) fn take_wide_flat(&mut self, point: Point, height: i16) -> Option<WideFlat>
+        ensures flat { (m : Mosaic) → IsHeldOf m self.old → IfSome result (IsLearntFlat m) }
+        ensures over { IfSome result (λ flat. IsOver flat height point) }
+        ensures none { IfNone result (any_is_over self.old.wide_flats height point → ⊥) }
+        ensures left { (m : Mosaic) → IsHeldOf m self.old → IsHeldOf m self.new }
+    {
+        let Some(mut flats) = self.wide_flats.take() else {
+            return None;
+        };
+        let flat = flats.take(point, height);
+        self.wide_flats = Some(flats);
+        flat
+    }
+
+    // Holds what was learnt of a wide flat, if there is room for it.
+    pub(crate) fn hold_wide_flat(&mut self, alloc: Global, flat: WideFlat)
+        ensures { (m : Mosaic) → IsLearntFlat m flat → IsHeldOf m self.old → IsHeldOf m self.new }
+    {
+        let mut flats = self.take_wide_flats(alloc);
+        flats.hold(flat);
+        self.wide_flats = Some(flats);
+    }
+
+    // Hands out what was learnt of all wide flats. Nothing is held of them then.
+    fn take_wide_flats(&mut self, alloc: Global) -> WideFlats
+        ensures flats { (m : Mosaic) → IsHeldOf m self.old → AreWideFlats m result }
+        ensures left { (m : Mosaic) → IsHeldOf m self.old → IsHeldOf m self.new }
+    {
+        match self.wide_flats.take() {
+            Some(flats) => flats,
+            None => WideFlats::new(alloc),
+        }
     }
 
     // Hands out what is held of levels, or that nothing is found yet. None is held then. NoMemory is the only refusal.

@@ -137,12 +137,7 @@ impl Flows {
     pub(crate) fn feeders(&self, point: Point) -> Option<ArrayVec<Point, 8>>
         ensures { (m : Mosaic) → IsMosaic m → AreFlows m self.now → IfSome result (λ found. OnLevels m (λ level. AreFeedersOf (terrain m) level point found.items)) }
     {
-        let corners = holders(self.side, point);
-        let corners = corners.as_slice();
-        if corners.len() != 1 {
-            return None;
-        }
-        let t = self.place_of(corners[0])?;
+        let t = self.place_of(corner_below(self.side, point)?)?;
         self.tiles[t].flows.feeders(point)
     }
 
@@ -320,6 +315,15 @@ fn slot_of(corner: Corner) -> usize {
     lat % 16 * 16 + lon % 16
 }
 
+// The corner of the tile that the point lies inside; of one that it lies beside, where it lies on rims. That takes less time
+// than to find all tiles that hold the point.
+fn corner_below(side: Side, point: Point) -> Option<Corner> {
+    let edge = side.edge() as i32;
+    let lat = i16::try_from(point.y.div_euclid(edge)).ok()?;
+    let lon = i16::try_from(point.x.div_euclid(edge)).ok()?;
+    Corner::new(lat, lon)
+}
+
 // The first of the present tiles that hold the point.
 fn present_holder<S: Samples>(samples: &S, side: Side, point: Point) -> Option<Corner> {
     let corners = holders(side, point);
@@ -331,14 +335,14 @@ fn present_holder<S: Samples>(samples: &S, side: Side, point: Point) -> Option<C
     None
 }
 
-/// How many points of a flat a search may reach, before it pays to learn where the points of its tiles drain: a search of so many
-/// takes about as long as to learn those of one tile.
+/// How many points of a flat a search may reach, before it pays to learn the flat a tile at a time: a search of so many takes
+/// about as long as to settle a few tiles.
 pub(crate) fn far_across(side: Side) -> usize {
     side.area() as usize / 4
 }
 
-/// Of how many tiles of this side the flows are held.
-pub(crate) fn most_tiles(side: Side) -> usize
+// Of how many tiles of this side the flows are held.
+fn most_tiles(side: Side) -> usize
     ensures { (count : ℕ) → count ≤ result → AreFewTiles side count }
 {
     let most = MOST_BYTES / side.area() as usize;

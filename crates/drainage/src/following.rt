@@ -17,11 +17,11 @@ use crate::asking::check_ground;
 use crate::drainage_cache::DrainageCache;
 use crate::everywhere::{far, learn_all};
 use crate::filling::level;
-use crate::flows::{far_across, most_tiles};
+use crate::flows::far_across;
 use crate::learning::{filled_tile, learn_tile};
 use arrayvec::ArrayVec;
 use catalogue::share_tile;
-use flow_d8::{Directions, Filled, FilledLevels, Flow, Near, direction_at};
+use flow_d8::{Directions, Filled, FilledLevels, Flow, Near, WideFlat, direction_at};
 use lattice::{Corner, Dir, Point, Refusal, Side};
 use std::alloc::Global;
 use tile_labellings::Labellings;
@@ -147,8 +147,16 @@ impl<S: Labellings> FilledLevels<S> for DrainageCache {
         filled_tile(alloc, source, self, corner)
     }
 
-    fn most_tiles(&self, source: &S) -> usize {
-        most_tiles(source.side())
+    fn has_wide_flat(&self, _source: &S, point: Point, height: i16) -> bool {
+        self.has_wide_flat(point, height)
+    }
+
+    fn take_wide_flat(&mut self, _source: &S, point: Point, height: i16) -> Option<WideFlat> {
+        self.take_wide_flat(point, height)
+    }
+
+    fn hold_wide_flat(&mut self, alloc: Global, _source: &S, flat: WideFlat) {
+        self.hold_wide_flat(alloc, flat);
     }
 
     fn learn_flows(&mut self, alloc: Global, source: &S, corner: Corner, flows: &[Flow]) {

@@ -35,6 +35,7 @@ mod ring;
 mod summing;
 mod tile_cache;
 mod tile_levels;
+mod wide_flats;
 
 pub use drainage_cache::DrainageCache;
 pub use draining::watershed;

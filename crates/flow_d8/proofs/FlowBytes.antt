@@ -1,7 +1,7 @@
 -- Bytes that tell where points drain.
-use Rattle.std.proofs.Common.{◌≡◌, ℕ, ◌+◌, ◌*◌, ◌%◌, ◌<◌, Bool, true, not, Option, Some, None, List, ◌⊎◌, length, inl, inr, get_or, set, replicate, refl, sym, ap, ◌∙◌, subst, arith, get_or-set_other, get_or-set_same}
+use Rattle.std.proofs.Common.{◌≡◌, ℕ, ◌+◌, ◌*◌, ◌%◌, ◌<◌, Bool, true, not, Option, Some, None, List, length, inl, inr, get_or, set, replicate, refl, sym, ap, ◌∙◌, subst, arith, get_or-set_other, get_or-set_same}
 use Rattle.std.proofs.lemmas.List.{get_or-replicate, length-set}
-use Rattle.std.proofs.lemmas.Bool.{cases_eq}
+use Rattle.std.proofs.lemmas.Bool.{cases_eq, cases_lt}
 use Rattle.std.specs.Prelude.{IfSome, slice_index_or}
 use Rattle.lattice.specs.Corners.{Corner}
 use Rattle.lattice.specs.Lattice.{IsIndexOf}
@@ -11,7 +11,7 @@ use Rattle.lattice.specs.declared.direction.Dir.{Dir}
 use Rattle.lattice.proofs.Samples.{index_below, point_at_index}
 use Rattle.flow_d8.specs.DeepFlows.{IsTileOf, IsInsideFlat, IsInRimFlat, is_off_rim, IsToldFlow, AreFlowsOf, IsLearntAt, AreLearntTo}
 use Rattle.flow_d8.specs.Filled.{Filled, is_deep}
-use Rattle.flow_d8.specs.Flow.{way_of, AreTaken}
+use Rattle.flow_d8.specs.Flow.{way_of, AreTakenTo}
 use Rattle.flow_d8.specs.Way.{IsWay}
 use Rattle.flow_d8.specs.declared.flow.Flow.{Flow}
 use Rattle.flow_d8.specs.declared.flow.Flow.TheVariants.{Unknown}
@@ -97,23 +97,45 @@ inside_deep f k old new learnt = record {
   told = λ m c is of p e below index deep none. (learnt.told m c is of p e below index (ap not (deep_off f.side e deep)) none).inside;
 }
 
--- one more byte is taken over
-pub taken_more : (from old mid new : List Flow) (e : ℕ) (flow : Flow) → e < length mid → flow ≡ slice_index_or from e Unknown → (new ≡ mid) ⊎ (new ≡ set mid e flow) → AreTaken from old mid → AreTaken from old new
-taken_more from old mid new e flow within read (inl kept) was = subst (λ (l : List Flow). AreTaken from old l) (sym kept) was
-taken_more from old mid new e flow within read (inr written) was = subst (λ (l : List Flow). AreTaken from old l) (sym written) (record {
-  whole = length-set mid e flow ∙ was.whole;
-  each = λ g. elim (cases_eq g e) [
-    | inl same ↦ inr (ap (λ i. slice_index_or (set mid e flow) i Unknown) same ∙ get_or-set_same mid e flow Unknown within ∙ read ∙ ap (λ i. slice_index_or from i Unknown) (sym same))
-    | inr other ↦ elim (was.each g) [
-      | inl before ↦ inl (get_or-set_other mid e g flow Unknown other ∙ before)
-      | inr taken ↦ inr (get_or-set_other mid e g flow Unknown other ∙ taken)
-    ]
-  ];
-})
+-- no byte is taken over yet
+pub none_taken : (from old : List Flow) → AreTakenTo 0 from old old
+none_taken from old = record { whole = refl; told = λ e way below. absurd (omega (arith, below)); silent = λ e below. absurd (omega (arith, below)); others = λ e past. refl }
 
--- right bytes that take over some of others that are right
-pub taken_right : (m : Mosaic) (n : ℕ) (c : Corner) (from old new : List Flow) → AreTaken from old new → AreFlowsOf m n c from → AreFlowsOf m n c old → AreFlowsOf m n c new
-taken_right m n c from old new taken are was p e way index tells = elim (taken.each e) [
-  | inl kept ↦ was p e way index (ap way_of (sym kept) ∙ tells)
-  | inr told ↦ are p e way index (ap way_of (sym told) ∙ tells)
+module _ (from old mid new : List Flow) (e : ℕ) (flow : Flow) (within : e < length mid) (read : flow ≡ slice_index_or from e Unknown)
+    (told : (way : Option Dir) → way_of flow ≡ Some way → new ≡ set mid e flow) (silent : way_of flow ≡ None → new ≡ mid) where
+  -- the bytes then: another one is left, and this one is taken over where it tells something
+  others_left : (found : Option (Option Dir)) → way_of flow ≡ found → (length new ≡ length mid) × ((g : ℕ) → (g ≡ e → ⊥) → slice_index_or new g Unknown ≡ slice_index_or mid g Unknown)
+  others_left None is = (ap length (silent is), λ g other. ap (λ (l : List Flow). slice_index_or l g Unknown) (silent is))
+  others_left (Some way) is = (ap length (told way is) ∙ length-set mid e flow, λ g other. ap (λ (l : List Flow). slice_index_or l g Unknown) (told way is) ∙ get_or-set_other mid e g flow Unknown other)
+
+  -- one more byte is taken over
+  pub taken_more : AreTakenTo e from old mid → AreTakenTo (e + 1) from old new
+  taken_more was =
+      let rest = others_left (way_of flow) refl in
+      record {
+        whole = rest.0 ∙ was.whole;
+        told = λ g way below tells. elim (cases_eq g e) [
+          | inl same ↦
+              let here : way_of flow ≡ Some way = ap way_of (read ∙ ap (λ i. slice_index_or from i Unknown) (sym same)) ∙ tells in
+              ap (λ i. slice_index_or new i Unknown) same ∙ ap (λ (l : List Flow). slice_index_or l e Unknown) (told way here) ∙ get_or-set_same mid e flow Unknown within ∙ read ∙ ap (λ i. slice_index_or from i Unknown) (sym same)
+          | inr other ↦ rest.1 g other ∙ was.told g way (omega arith) tells
+        ];
+        silent = λ g below tells. elim (cases_eq g e) [
+          | inl same ↦
+              let here : way_of flow ≡ None = ap way_of (read ∙ ap (λ i. slice_index_or from i Unknown) (sym same)) ∙ tells in
+              ap (λ (l : List Flow). slice_index_or l g Unknown) (silent here) ∙ was.others g (omega arith)
+          | inr other ↦ rest.1 g other ∙ was.silent g (omega arith) tells
+        ];
+        others = λ g past. rest.1 g (λ same. omega arith) ∙ was.others g (omega arith);
+      }
+
+-- right bytes that take over what others tell that are right
+pub taken_right : (m : Mosaic) (n : ℕ) (c : Corner) (k : ℕ) (from old new : List Flow) → AreTakenTo k from old new → AreFlowsOf m n c from → AreFlowsOf m n c old → AreFlowsOf m n c new
+taken_right m n c k from old new taken are was p e way index tells = elim (cases_lt e k) [
+  | inr past ↦ was p e way index (ap way_of (sym (taken.others e past)) ∙ tells)
+  | inl below ↦ byte (way_of (slice_index_or from e Unknown)) refl below
 ]
+  where
+    byte : (found : Option (Option Dir)) → way_of (slice_index_or from e Unknown) ≡ found → e < k → IsWay m p way
+    byte None is below = was p e way index (ap way_of (sym (taken.silent e below is)) ∙ tells)
+    byte (Some w) is below = are p e way index (ap way_of (sym (taken.told e w below is)) ∙ tells)

@@ -61,3 +61,4 @@ pub mod ToldFlats
 pub mod ToldRims
 pub mod InnerBytes
 pub mod RimBytes
+pub mod FlatTiles

@@ -6,16 +6,17 @@ use Rattle.std.proofs.lemmas.List.{get_or_past, get_or-replicate, length-replica
 use Rattle.std.proofs.lemmas.Option.{none-some}
 use Rattle.lattice.specs.Block.{is_rim, rim_number}
 use Rattle.lattice.specs.RimPoints.{IsRimPoint}
-use Rattle.flow_d8.specs.FirstSteps.{IsRimByte, AreRimBytes}
+use Rattle.lattice.specs.declared.point.Point.{Point}
+use Rattle.flow_d8.specs.FirstSteps.{IsReadyByte, AreRimBytes}
 use Rattle.flow_d8.specs.Flow.{way_of}
 use Rattle.flow_d8.specs.declared.flow.Flow.{Flow}
 use Rattle.flow_d8.specs.declared.flow.Flow.TheVariants.{Unknown}
 use Rattle.flow_d8.specs.declared.rim_tile.RimTile.{RimTile}
 
-module _ (tile : RimTile) where
+module _ (tile : RimTile) (IsReady : Point → Type 0) where
   -- nothing is told
-  pub no_bytes : (count : ℕ) (flows : List Flow) → flows ≡ replicate count Unknown → AreRimBytes tile flows
-  no_bytes count flows all = record { rim = λ e way tells. absurd (none-some way (sym (ap way_of (nothing e)) ∙ tells)); each = λ e way tells. absurd (none-some way (sym (ap way_of (nothing e)) ∙ tells)) }
+  pub no_bytes : (count : ℕ) (flows : List Flow) → flows ≡ replicate count Unknown → AreRimBytes tile IsReady flows
+  no_bytes count flows all = record { rim = λ e way tells. absurd (none-some way (sym (ap way_of (nothing e)) ∙ tells)); each = λ e. record { byte = λ way tells. absurd (none-some way (sym (ap way_of (nothing e)) ∙ tells)); ready = λ way p g tells here rim same. absurd (none-some way (sym (ap way_of (nothing e)) ∙ tells)) } }
     where
       nothing : (e : ℕ) → slice_index_or flows e Unknown ≡ Unknown
       nothing e = ap (λ (l : List Flow). slice_index_or l e Unknown) all ∙ (elim (cases_lt e count) [
@@ -24,7 +25,7 @@ module _ (tile : RimTile) where
       ])
 
   -- another byte, of a rim point
-  module _ (k e : ℕ) (point : IsRimPoint tile.side k e) (flows : List Flow) (byte : Flow) (right : IsRimByte tile k byte) (was : AreRimBytes tile flows) where
+  module _ (k e : ℕ) (point : IsRimPoint tile.side k e) (flows : List Flow) (byte : Flow) (right : IsReadyByte tile IsReady k byte) (was : AreRimBytes tile IsReady flows) where
     -- the byte of a sample then
     now : (g : ℕ) → (slice_index_or (set flows e byte) g Unknown ≡ slice_index_or flows g Unknown) ⊎ ((g ≡ e) × (slice_index_or (set flows e byte) g Unknown ≡ byte))
     now g = elim (cases_lt e (length flows)) [
@@ -36,14 +37,14 @@ module _ (tile : RimTile) where
     ]
 
     -- what bytes tell stays right
-    pub byte_at : AreRimBytes tile (set flows e byte)
+    pub byte_at : AreRimBytes tile IsReady (set flows e byte)
     byte_at = record {
       rim = λ g way tells. elim (now g) [
         | inl before ↦ was.rim g way (sym (ap way_of before) ∙ tells)
         | inr here ↦ ap (is_rim tile.side) here.0 ∙ point.rim
       ];
-      each = λ g way tells. elim (now g) [
-        | inl before ↦ was.each g way (sym (ap way_of before) ∙ tells)
-        | inr here ↦ subst (λ r. IsRimByte tile r byte) (sym point.number ∙ ap (rim_number tile.side) (sym here.0)) right way (sym (ap way_of here.1) ∙ tells)
+      each = λ g. elim (now g) [
+        | inl before ↦ subst (IsReadyByte tile IsReady (rim_number tile.side g)) (sym before) (was.each g)
+        | inr here ↦ subst (IsReadyByte tile IsReady (rim_number tile.side g)) (sym here.1) (subst (λ r. IsReadyByte tile IsReady r byte) (sym point.number ∙ ap (rim_number tile.side) (sym here.0)) right)
       ];
     }

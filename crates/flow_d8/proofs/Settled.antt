@@ -121,7 +121,7 @@ module _ (m : Mosaic) (is : IsMosaic m) where
       sym (point_at_index m.side c q g index) ∙ ap (point_of m.side c) one ∙ point_at_index m.side c p on.index on.is
 
 module _ (m : Mosaic) (is : IsMosaic m) (level : Point → ℤ) (filled : AreFilledLevels (terrain m) level) (height : ℤ) (tile : RimTile) (f : Filled) (of : IsTileOf m tile.corner f) (side : tile.side ≡ m.side)
-    (local : List LocalFlow) (are : AreLocalFlows f local) (starts : List ℕ) (begun : AreStartsOf tile f local starts) (distances : List ℕ) (spread : AreSpread f starts distances) (rims : AreRimsOf m level height tile.corner tile.distances.items)
+    (local : List LocalFlow) (are : AreLocalFlows f local) (starts : List ℕ) (begun : AreStartsOf height tile f local starts) (distances : List ℕ) (spread : AreSpread f starts distances) (rims : AreRimsOf m level height tile.corner tile.distances.items)
     (found : List PointDistance) (all : AreRimDistancesTo m.side tile.corner height f.levels distances (4 * (m.side - 1)) found) where
   -- the distance that was found of a point of the tile
   abbrev dist : Point → ℕ

@@ -1,13 +1,16 @@
 -- Distances that are spread within one tile, from those on its rim, are steps over the level's points of the mosaic.
-use Rattle.std.proofs.Common.{◌≡◌, ℕ, zero, suc, ◌+◌, ◌*◌, ◌<◌, ◌≤◌, ℤ, true, false, IsTrue, List, ◌⊎◌, inl, inr, length, refl, sym, ap, ◌∙◌, subst, arith}
-use Rattle.std.proofs.lemmas.Bool.{cases_Bool}
+use Rattle.std.proofs.Common.{◌≡◌, ℕ, zero, suc, ◌+◌, ◌*◌, ◌<◌, ◌≤◌, ℤ, true, false, IsTrue, List, ◌⊎◌, inl, inr, length, refl, sym, ap, ◌∙◌, subst, arith, true≢false}
+use Rattle.std.specs.Ordering.{int_eq}
+use Rattle.std.specs.Prelude.{slice_index_or}
+use Rattle.std.proofs.lemmas.Bool.{cases_Bool, cond-true}
 use Rattle.lattice.specs.Block.{is_rim, rim_number}
 use Rattle.lattice.specs.Corners.{Corner}
 use Rattle.lattice.specs.Ground.{is_ground, is_adjacent, terrain}
 use Rattle.lattice.specs.Lattice.{IsIndexOf, index_of}
-use Rattle.lattice.specs.Mosaic.{Mosaic, IsMosaic}
+use Rattle.lattice.specs.Mosaic.{Mosaic, IsMosaic, void}
 use Rattle.lattice.specs.Steps.{step}
 use Rattle.lattice.specs.declared.point.Point.{Point}
+use Rattle.lattice.proofs.IntTests.{eq_true, eq_from}
 use Rattle.lattice.proofs.Samples.{index_below, index_is}
 use Rattle.flow_d8.specs.Crossing.{DrainsLike, AreLocalFlows}
 use Rattle.flow_d8.specs.DeepFlows.{IsTileOf}
@@ -28,7 +31,7 @@ use Rattle.flow_d8.proofs.MosaicGrid.{mosaic_is_grid}
 use Rattle.flow_d8.proofs.PointFlows.{end_of, crosses_end}
 use Rattle.flow_d8.proofs.RimPlaces.{IsOff}
 use Rattle.flow_d8.proofs.Surfaces.{surface_lawful}
-use Rattle.flow_d8.proofs.TileShown.{numbered}
+use Rattle.flow_d8.proofs.TileShown.{numbered, level_there}
 use Rattle.flow_d8.proofs.TileSurface.{next_index, ground_same, level_index, across_in, across_out}
 
 -- there is ground, or there isn't
@@ -47,7 +50,7 @@ module _ (m : Mosaic) (is : IsMosaic m) (level : Point → ℤ) (filled : AreFil
   side_out p e index = subst (λ n. IsIndexOf n c p e) of.side index
 
 module _ (m : Mosaic) (is : IsMosaic m) (level : Point → ℤ) (filled : AreFilledLevels (terrain m) level) (height : ℤ) (tile : RimTile) (f : Filled) (of : IsTileOf m tile.corner f) (side : tile.side ≡ m.side)
-    (local : List LocalFlow) (are : AreLocalFlows f local) (starts : List ℕ) (begun : AreStartsOf tile f local starts) where
+    (local : List LocalFlow) (are : AreLocalFlows f local) (starts : List ℕ) (begun : AreStartsOf height tile f local starts) where
   one : length f.levels ≡ f.side * f.side
   one = are.valid.whole ∙ ap (λ (cs : List Corner). length cs * (f.side * f.side)) of.corners ∙ omega arith
 
@@ -81,14 +84,18 @@ module _ (m : Mosaic) (is : IsMosaic m) (level : Point → ℤ) (filled : AreFil
       drains_on : IsFlowOf (terrain m) level p (flow_at local e)
       drains_on = (seen_inside m is tile.corner f of one local are p e there (record { within = index_below f.side tile.corner p e there; off = off_rim }) level filled).on_ground solid
 
-      -- and starts with 0 where it drains at once
-      end_start : CrossesFlat (terrain m) level p 0 → distance_at starts e ≡ 0
-      end_start crosses = begun.ends e off_rim (end_of (terrain m) level p (flow_at local e) drains_on crosses)
+      -- and starts with 0 where it has the level and drains at once
+      end_start : level p ≡ height → CrossesFlat (terrain m) level p 0 → distance_at starts e ≡ 0
+      end_start same crosses =
+          begun.ends e off_rim (level_there m is tile.corner f of level filled p e there ∙ cond-true (is_ground m p) (level p) void solid ∙ same, end_of (terrain m) level p (flow_at local e) drains_on crosses)
 
       known_end : distance_at starts e < unknown → (distance_at starts e ≡ 0) × CrossesFlat (terrain m) level p 0
       known_end known = elim (decided (flow_at local e)) [
-        | inl end ↦ (begun.ends e off_rim end, crosses_end (terrain m) level p (flow_at local e) drains_on end)
-        | inr other ↦ absurd (omega (arith, begun.inside e off_rim other))
+        | inl end ↦ elim (cases_Bool (int_eq (slice_index_or f.levels e void) height)) [
+          | inl same ↦ (begun.ends e off_rim (eq_true (slice_index_or f.levels e void) height same, end), crosses_end (terrain m) level p (flow_at local e) drains_on end)
+          | inr apart ↦ absurd (omega (arith, begun.inside e off_rim (λ at. true≢false (sym (eq_from (slice_index_or f.levels e void) height at.0) ∙ apart))))
+        ]
+        | inr other ↦ absurd (omega (arith, begun.inside e off_rim (λ at. other at.1)))
       ]
 
   -- a start is that of a point that was walked from
@@ -132,7 +139,7 @@ module _ (m : Mosaic) (is : IsMosaic m) (level : Point → ℤ) (filled : AreFil
         let most = at_most_start p e index here.solid in
         let none : distance_at starts e ≡ 0 = elim (cases_Bool (is_rim m.side e)) [
           | inl rim ↦ rim_start p e index here.solid rim ∙ rims.ends p (record { index = e; is = index; rim = rim }) here crosses
-          | inr off ↦ end_start p e index here.solid off crosses
+          | inr off ↦ end_start p e index here.solid off here.same crosses
         ] in
         omega arith
 
@@ -163,7 +170,7 @@ module _ (m : Mosaic) (is : IsMosaic m) (level : Point → ℤ) (filled : AreFil
       at_most : (j : ℕ) → j < unknown → (p : Point) (e : ℕ) → IsIndexOf m.side tile.corner p e → IsAtLevel m level height p → CrossesFlat (terrain m) level p j → dist p ≤ j
       at_most zero low p e index here crosses = elim (cases_Bool (is_rim m.side e)) [
         | inl rim ↦ on_rim p 0 low (record { index = e; is = index; rim = rim }) here crosses
-        | inr off ↦ let most = at_most_start p e index here.solid in let none = end_start p e index here.solid off crosses in omega arith
+        | inr off ↦ let most = at_most_start p e index here.solid in let none = end_start p e index here.solid off here.same crosses in omega arith
       ]
       at_most (suc i) low p e index here crosses = elim (cases_Bool (is_rim m.side e)) [
         | inl rim ↦ on_rim p (suc i) low (record { index = e; is = index; rim = rim }) here crosses

@@ -1,5 +1,5 @@
 -- Where the distances in one tile start, on its rim and inside.
-use Rattle.std.proofs.Common.{◌≡◌, ◌≢◌, ℕ, ◌+◌, ◌-◌, ◌*◌, ◌<◌, ◌≤◌, true, false, inl, inr, List, length, set, refl, sym, ap, ◌∙◌, subst, arith, true≢false, get_or-set_other, get_or-set_same}
+use Rattle.std.proofs.Common.{◌≡◌, ◌≢◌, ℕ, ℤ, ◌+◌, ◌-◌, ◌*◌, ◌<◌, ◌≤◌, true, false, inl, inr, List, length, set, refl, sym, ap, ◌∙◌, subst, arith, true≢false, get_or-set_other, get_or-set_same}
 use Rattle.std.specs.Prelude.{slice_index_or}
 use Rattle.std.proofs.lemmas.Bool.{cases_Bool, cases_eq, cases_lt}
 use Rattle.std.proofs.lemmas.List.{get_or_past, length-set}
@@ -8,7 +8,7 @@ use Rattle.lattice.specs.RimPoints.{IsRimPoint}
 use Rattle.lattice.proofs.RimNumbers.{one_rim_point, number_below}
 use Rattle.flow_d8.specs.Crossing.{AreLocalFlows}
 use Rattle.flow_d8.specs.Filled.{Filled}
-use Rattle.flow_d8.specs.FlatRims.{AreStartsOf}
+use Rattle.flow_d8.specs.FlatRims.{IsEndAt, AreStartsOf}
 use Rattle.flow_d8.specs.Propagation.{unknown, distance_at, DrainsAtOnce, IsEnd}
 use Rattle.flow_d8.specs.Spread.{AreStarts}
 use Rattle.flow_d8.specs.declared.local_flow.LocalFlow.{LocalFlow}
@@ -20,22 +20,27 @@ pub record IsRimStart (tile : RimTile) (local : List LocalFlow) (number g start 
   pub none : slice_index_or local g NoGround ≡ NoGround → start ≡ unknown
   pub some : (slice_index_or local g NoGround ≡ NoGround → ⊥) → start ≡ distance_at tile.distances.items number
 
+-- 0 where a point of the level drains at once
+pub record IsLevelStart (height : ℤ) (levels : List ℤ) (local : List LocalFlow) (g start : ℕ) : Type 0 where
+  pub end : IsEndAt height levels local g → start ≡ 0
+  pub other : (IsEndAt height levels local g → ⊥) → start ≡ unknown
+
 -- a rim sample with a number below k
 pub record IsRimBelow (n k g : ℕ) : Type 0 where
   pub small : g < n * n
   pub rim : is_rim n g ≡ true
   pub below : rim_number n g < k
 
--- rim points with numbers below k start with what is held, others with 0 where they drain at once
-pub record AreStartsTo (n : ℕ) (tile : RimTile) (local : List LocalFlow) (k : ℕ) (starts : List ℕ) : Type 0 where
+-- rim points with numbers below k start with what is held, others of the level with 0 where they drain at once
+pub record AreStartsTo (n : ℕ) (height : ℤ) (levels : List ℤ) (tile : RimTile) (local : List LocalFlow) (k : ℕ) (starts : List ℕ) : Type 0 where
   pub whole : length starts ≡ n * n
   pub rim : (g : ℕ) → IsRimBelow n k g → IsRimStart tile local (rim_number n g) g (distance_at starts g)
-  pub ends : (g : ℕ) → (IsRimBelow n k g → ⊥) → IsEnd local g → distance_at starts g ≡ 0
-  pub others : (g : ℕ) → (IsRimBelow n k g → ⊥) → (IsEnd local g → ⊥) → distance_at starts g ≡ unknown
+  pub ends : (g : ℕ) → (IsRimBelow n k g → ⊥) → IsEndAt height levels local g → distance_at starts g ≡ 0
+  pub others : (g : ℕ) → (IsRimBelow n k g → ⊥) → (IsEndAt height levels local g → ⊥) → distance_at starts g ≡ unknown
 
-module _ (n : ℕ) (tile : RimTile) (local : List LocalFlow) where
+module _ (n : ℕ) (height : ℤ) (levels : List ℤ) (tile : RimTile) (local : List LocalFlow) where
   -- none is of the rim so far
-  pub starts_begun : (starts : List ℕ) → length starts ≡ n * n → ((g : ℕ) → IsEnd local g → distance_at starts g ≡ 0) → ((g : ℕ) → (IsEnd local g → ⊥) → distance_at starts g ≡ unknown) → AreStartsTo n tile local 0 starts
+  pub starts_begun : (starts : List ℕ) → length starts ≡ n * n → ((g : ℕ) → IsEndAt height levels local g → distance_at starts g ≡ 0) → ((g : ℕ) → (IsEndAt height levels local g → ⊥) → distance_at starts g ≡ unknown) → AreStartsTo n height levels tile local 0 starts
   starts_begun starts whole ends others = record {
     whole = whole;
     rim = λ g below. absurd (omega (arith, below.below));
@@ -44,7 +49,7 @@ module _ (n : ℕ) (tile : RimTile) (local : List LocalFlow) where
   }
 
   -- one more rim point
-  pub starts_more : 3 ≤ n → (k e start : ℕ) (starts : List ℕ) → IsRimPoint n k e → IsRimStart tile local k e start → AreStartsTo n tile local k starts → AreStartsTo n tile local (k + 1) (set starts e start)
+  pub starts_more : 3 ≤ n → (k e start : ℕ) (starts : List ℕ) → IsRimPoint n k e → IsRimStart tile local k e start → AreStartsTo n height levels tile local k starts → AreStartsTo n height levels tile local (k + 1) (set starts e start)
   starts_more side k e start starts point held was = record {
     whole = length-set starts e start ∙ was.whole;
     rim = λ g below. elim (cases_eq g e) [
@@ -77,15 +82,15 @@ module _ (n : ℕ) (tile : RimTile) (local : List LocalFlow) where
 no_end : (local : List LocalFlow) (g : ℕ) → slice_index_or local g NoGround ≡ NoGround → IsEnd local g → ⊥
 no_end local g none end = subst DrainsAtOnce none end
 
-module _ (tile : RimTile) (f : Filled) (local : List LocalFlow) (are : AreLocalFlows f local) (starts : List ℕ) where
+module _ (height : ℤ) (tile : RimTile) (f : Filled) (local : List LocalFlow) (are : AreLocalFlows f local) (starts : List ℕ) where
   -- all of the rim
-  pub starts_done : length f.levels ≡ f.side * f.side → (k : ℕ) → 4 * (f.side - 1) ≤ k → AreStartsTo f.side tile local k starts → AreStartsOf tile f local starts
+  pub starts_done : length f.levels ≡ f.side * f.side → (k : ℕ) → 4 * (f.side - 1) ≤ k → AreStartsTo f.side height f.levels tile local k starts → AreStartsOf height tile f local starts
   starts_done one k all was = record {
     whole = omega (arith, was.whole, one);
     none = λ g none. elim (cases_lt g (f.side * f.side)) [
       | inl small ↦ elim (cases_Bool (is_rim f.side g)) [
         | inl rim ↦ (was.rim g (on_rim g small rim)).none none
-        | inr off ↦ was.others g (off_rim g off) (no_end local g none)
+        | inr off ↦ was.others g (off_rim g off) (λ end. no_end local g none end.1)
       ]
       | inr past ↦ get_or_past starts g unknown (omega (arith, past, was.whole))
     ];
@@ -104,7 +109,7 @@ module _ (tile : RimTile) (f : Filled) (local : List LocalFlow) (are : AreLocalF
       off_rim g off below = true≢false (sym below.rim ∙ off)
 
   -- a known start is that of a point with a level
-  pub known_starts : AreStartsOf tile f local starts → AreStarts f starts
+  pub known_starts : AreStartsOf height tile f local starts → AreStarts f starts
   known_starts begun = (
     begun.whole,
     λ g known. elim (cases_lt g (length f.levels)) [

@@ -59,6 +59,17 @@ module _ (t : Terrain Point) (level : Point → ℤ) (p : Point) where
     pub beside_level : (d : Dir) → (level_beside t level p d ≡ void → ⊥) → IsTrue (t.is_adjacent p (step d p))
     beside_level d some = elim (cases_Bool (t.is_adjacent p (step d p))) [ inl on ↦ on | inr off ↦ absurd (some (beside_none d off)) ]
 
+    module _ (high : (d : Dir) → level p ≤ℤ level_beside t level p d) where
+      pub none_lower : HasLower t level p → ⊥
+      none_lower low =
+          let away = levelled.steps p low.0 low.1.beside in
+          let down : LeadsDown t level p away.0 = subst (λ y. IsLower t level p y) away.1 low.1 in
+          let less = subst (λ v. level p ≤ℤ v) (beside_there away.0 down.beside) (high away.0) in
+          omega (arith, ints, down.below, less)
+
+      pub all_beside : void <ℤ level p → (d : Dir) → IsTrue (t.is_adjacent p (step d p))
+      all_beside some d = beside_level d (λ none. let less = subst (λ v. level p ≤ℤ v) none (high d) in omega (arith, ints, some, less))
+
     module _ (d : Dir) (beside height : ℤ) (shown : beside ≡ level_beside t level p d) (here : level p ≡ height) (slope : ℕ)
         (none : (beside ≡ void) ⊎ (height ≤ℤ beside) → slope ≡ 0) (some : (beside ≡ void → ⊥) → beside <ℤ height → slope ≡ slope_of d (nat_abs (height -ℤ beside))) where
       slope_down : LeadsDown t level p d → slope ≡ slope_in t level p d

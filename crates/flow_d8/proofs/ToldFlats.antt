@@ -75,7 +75,7 @@ inside_nearer m level p k far some = ((λ low. absurd (omega (arith, far.least 0
     inner false out = refl
 
 module _ (m : Mosaic) (is : IsMosaic m) (level : Point → ℤ) (filled : AreFilledLevels (terrain m) level) (height : ℤ) (tile : RimTile) (f : Filled) (of : IsTileOf m tile.corner f) (side : tile.side ≡ m.side)
-    (local : List LocalFlow) (are : AreLocalFlows f local) (starts : List ℕ) (begun : AreStartsOf tile f local starts) (distances : List ℕ) (spread : AreSpread f starts distances)
+    (local : List LocalFlow) (are : AreLocalFlows f local) (starts : List ℕ) (begun : AreStartsOf height tile f local starts) (distances : List ℕ) (spread : AreSpread f starts distances)
     (rims : AreRimsOf m level height tile.corner tile.distances.items) (exact : AreExactRims m level height tile) where
   abbrev c : Corner
   c = tile.corner

@@ -1,5 +1,5 @@
 -- First steps that are held for rims: what they are on the mosaic, and what bytes tell by them.
-use Rattle.std.proofs.Common.{◌≡◌, ℕ, suc, ◌+◌, ◌-◌, ◌*◌, ◌<◌, ◌≤◌, ℤ, true, inl, inr, Option, Some, None, List, length, refl, sym, ap, ◌∙◌, subst, arith, true≢false}
+use Rattle.std.proofs.Common.{◌≡◌, ℕ, suc, ◌+◌, ◌-◌, ◌*◌, ◌<◌, ◌≤◌, ℤ, true, false, inl, inr, Option, Some, None, Bool, List, length, set, get_or-set_other, refl, sym, ap, ◌∙◌, subst, arith, true≢false}
 use Rattle.std.specs.Prelude.{slice_index_or, slice_get}
 use Rattle.std.proofs.lemmas.Bool.{cases_eq}
 use Rattle.std.proofs.lemmas.Option.{same_Some, slice_get_cases, slice_get_within}
@@ -18,7 +18,7 @@ use Rattle.flow_d8.specs.DeepFlows.{IsTileOf, AreFlowsOf}
 use Rattle.flow_d8.specs.Drainage.{AreFilledLevels, IsNearer, IsDirection}
 use Rattle.flow_d8.specs.Filled.{Filled}
 use Rattle.flow_d8.specs.FirstSteps.{IsFirstStep, IsRimStep, DrainsSo, AreInnerBytes, order_at, IsHeld, AreHeld, AreRimBytes}
-use Rattle.flow_d8.specs.FlatRims.{IsOnRim, rim_place, rim_distance, rim_order, IsAtLevel, AreRimsOf, IsSettled, AreFlatRims, AreExactRims, AreFirstSteps, AreNoneWaiting, AreStartsOf}
+use Rattle.flow_d8.specs.FlatRims.{IsOnRim, rim_place, rim_distance, rim_order, is_told, IsAtLevel, AreRimsOf, IsSettled, AreFlatRims, AreExactRims, AreFirstSteps, AreNoneWaiting, AreStartsOf}
 use Rattle.flow_d8.specs.Flow.{way_of}
 use Rattle.flow_d8.specs.Propagation.{unknown, distance_at}
 use Rattle.flow_d8.specs.Spread.{AreSpread}
@@ -89,7 +89,7 @@ module _ (IsStep : Point → ℕ → Type 0) (tile after : RimTile) (held : IsHe
 
 module _ (m : Mosaic) (is : IsMosaic m) (level : Point → ℤ) (filled : AreFilledLevels (terrain m) level) (height : ℤ) (old : List RimTile) (rims : AreFlatRims m level height old) (none : AreNoneWaiting old)
     (t : ℕ) (tile : RimTile) (at : slice_get old t ≡ Some tile) (f : Filled) (of : IsTileOf m tile.corner f)
-    (local : List LocalFlow) (are : AreLocalFlows f local) (starts : List ℕ) (begun : AreStartsOf tile f local starts) (distances : List ℕ) (spread : AreSpread f starts distances) where
+    (local : List LocalFlow) (are : AreLocalFlows f local) (starts : List ℕ) (begun : AreStartsOf height tile f local starts) (distances : List ℕ) (spread : AreSpread f starts distances) where
   side : tile.side ≡ m.side
   side = rims.sides t tile at
 
@@ -215,9 +215,9 @@ module _ (m : Mosaic) (is : IsMosaic m) (level : Point → ℤ) (filled : AreFil
           let low = comes_first in
           omega arith
 
-    -- as it does for the tiles before
-    pub more_first : AreFirstSteps m level height old t → AreFirstSteps m level height new (t + 1)
-    more_first so_far s j from to p d e below at_s at_j on_from on_to here known index near =
+    -- as it does for the tiles that were told
+    pub more_first : (told : List Bool) → AreFirstSteps m level height old told → AreFirstSteps m level height new (set told t true)
+    more_first told so_far s j from to p d e is_so at_s at_j on_from on_to here known index near =
         let x = before IsStep old new held s from at_s in
         let y = before IsStep old new held j to at_j in
         let on_x = on_before IsStep x.0 from x.1.1 m.side p on_from in
@@ -226,7 +226,7 @@ module _ (m : Mosaic) (is : IsMosaic m) (level : Point → ℤ) (filled : AreFil
         let index_x : IsIndexOf m.side x.0.corner (step d p) e = subst (λ (c : Corner). IsIndexOf m.side c (step d p) e) x.1.1.corner index in
         elim (cases_eq s t) [
           | inr other ↦
-              let was = so_far s j x.0 y.0 p d e (omega arith) x.1.0 y.1.0 on_x on_y here known_x index_x near in
+              let was = so_far s j x.0 y.0 p d e (sym (get_or-set_other told t s true false other) ∙ is_so) x.1.0 y.1.0 on_x on_y here known_x index_x near in
               let low = y.1.1.low (rim_place y.0.side y.0.corner p) in
               let read : rim_order to p ≡ order_at to (rim_place y.0.side y.0.corner p) = ap (order_at to) (same_place IsStep y.0 to y.1.1 p) in
               omega arith
@@ -238,8 +238,9 @@ module _ (m : Mosaic) (is : IsMosaic m) (level : Point → ℤ) (filled : AreFil
 
 -- by the first steps of all tiles the points on a rim drain
 module _ (m : Mosaic) (is : IsMosaic m) (level : Point → ℤ) (filled : AreFilledLevels (terrain m) level) (height : ℤ) (tiles : List RimTile) (rims : AreFlatRims m level height tiles) (none : AreNoneWaiting tiles)
-    (firsts : AreFirstSteps m level height tiles (length tiles)) (t : ℕ) (tile : RimTile) (at : slice_get tiles t ≡ Some tile) where
-  module _ (p : Point) (d : Dir) (on : IsOnRim m.side tile.corner p) (order : rim_order tile p ≡ order_of d) (known : rim_distance tile p + 1 < unknown) where
+    (told : List Bool) (firsts : AreFirstSteps m level height tiles told) (t : ℕ) (tile : RimTile) (at : slice_get tiles t ≡ Some tile) where
+  module _ (p : Point) (d : Dir) (on : IsOnRim m.side tile.corner p) (order : rim_order tile p ≡ order_of d) (known : rim_distance tile p + 1 < unknown)
+      (ready : (k : ℕ) (other : RimTile) → slice_get tiles k ≡ Some other → Holds m.side other.corner p → is_told told k ≡ true) where
     -- the step leads to a nearer point
     near : IsAtLevel m level height p × IsNearer (terrain m) level p (step d p)
     near = rims.nearer t tile p d at on order
@@ -257,7 +258,7 @@ module _ (m : Mosaic) (is : IsMosaic m) (level : Point → ℤ) (filled : AreFil
         let passed = given.1.1 in
         let here = subst (λ (c : Corner). Holds m.side c p) (sym listed.corner) both.one in
         let there = subst (λ (c : Corner). Holds m.side c q) (sym listed.corner) both.other in
-        let low = firsts listed.place t from tile p b (index_of m.side from.corner q) (slice_get_within tiles listed.place from listed.listed) listed.listed at (rim_of_each m.side tile.corner from.corner p is.side_low on here) on near.0
+        let low = firsts listed.place t from tile p b (index_of m.side from.corner q) (ready listed.place from listed.listed here) listed.listed at (rim_of_each m.side tile.corner from.corner p is.side_low on here) on near.0
         (omega (arith, known, least, passed)) (index_of_held m.side from.corner q there) other in
         omega (arith, low, order)
 
@@ -272,11 +273,14 @@ module _ (m : Mosaic) (is : IsMosaic m) (level : Point → ℤ) (filled : AreFil
         }
 
   -- the bytes of points on the rim are right
-  pub rim_told : (flows : List Flow) → AreRimBytes tile flows → AreFlowsOf m m.side tile.corner flows
-  rim_told flows bytes p e way index tells =
+  pub rim_told : (IsReady : Point → Type 0) → ((p : Point) → IsReady p → (k : ℕ) (other : RimTile) → slice_get tiles k ≡ Some other → Holds m.side other.corner p → is_told told k ≡ true)
+      → (flows : List Flow) → AreRimBytes tile IsReady flows → AreFlowsOf m m.side tile.corner flows
+  rim_told IsReady all flows bytes p e way index tells =
       let tile_side = rims.sides t tile at in
       let here : IsIndexOf tile.side tile.corner p e = subst (λ n. IsIndexOf n tile.corner p e) (sym tile_side) index in
       let on : IsOnRim m.side tile.corner p = record { index = e; is = index; rim = subst (λ n. is_rim n e ≡ true) tile_side (bytes.rim e way tells) } in
-      let told = bytes.each e way tells in
+      let byte = bytes.each e in
+      let step = byte.byte way tells in
+      let ready = byte.ready way p e tells here (bytes.rim e way tells) refl in
       let place = place_at tile.side tile.corner p e here in
-      subst (IsWay m p) (sym told.1.0) (held_way p told.0 on (ap (order_at tile) place ∙ told.1.1.order) (subst (λ r. distance_at tile.distances.items r + 1 < unknown) (sym place) told.1.1.known))
+      subst (IsWay m p) (sym step.1.0) (held_way p step.0 on (ap (order_at tile) place ∙ step.1.1.order) (subst (λ r. distance_at tile.distances.items r + 1 < unknown) (sym place) step.1.1.known) (all p ready))

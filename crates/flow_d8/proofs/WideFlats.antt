@@ -1,6 +1,6 @@
 -- What is known of the rims over which a wide flat goes, from call to call.
 use Rattle.std.proofs.Common.{◌≡◌, ℕ, ◌+◌, ◌-◌, ◌*◌, ◌<◌, ℤ, Option, Some, None, List, [], ◌∷◌, ◌++◌, length, inl, inr, ⊎_elim, refl, sym, ap, ◌∙◌, subst, arith, true≢false}
-use Rattle.std.specs.Prelude.{Contains, slice_get}
+use Rattle.std.specs.Prelude.{Contains, IfSome, slice_get}
 use Rattle.std.proofs.lemmas.Bool.{cases_eq}
 use Rattle.std.proofs.lemmas.List.{get_or-append-add, get_or_append_left}
 use Rattle.std.proofs.lemmas.Option.{slice_get_cases, slice_get_within}
@@ -16,17 +16,21 @@ use Rattle.lattice.proofs.Levels.{level_is_unique}
 use Rattle.lattice.proofs.RimNumbers.{one_index, number_below}
 use Rattle.lattice.proofs.Samples.{index_is, index_below, point_at_index}
 use Rattle.flow_d8.specs.Asking.{Asks}
+use Rattle.flow_d8.specs.DeepFlows.{IsTileOf}
 use Rattle.flow_d8.specs.Drainage.{AreFilledLevels}
+use Rattle.flow_d8.specs.Filled.{Filled}
 use Rattle.flow_d8.specs.FlatRims.{IsOnRim, rim_place, IsAtLevel, AreRimsOf, AreFlatRims}
 use Rattle.flow_d8.specs.FlatSearch.{IsOnFlat}
 use Rattle.flow_d8.specs.LevelsAround.{IsLevelAt}
 use Rattle.flow_d8.specs.PointFlow.{DrainsSo}
 use Rattle.flow_d8.specs.Propagation.{unknown, distance_at}
 use Rattle.flow_d8.specs.PresentTiles.{corners_of}
-use Rattle.flow_d8.specs.WideFlats.{WhereHonest, AreRims, IsStart, AreStartsOnRim}
+use Rattle.flow_d8.specs.WideFlats.{WhereHonest, IsStart, AreStartsOnRim}
+use Rattle.flow_d8.specs.WideFlat.{AreRims, IsLearntFlat}
 use Rattle.flow_d8.specs.declared.filled_levels.FilledLevels.{Ghosts}
 use Rattle.flow_d8.specs.declared.flat_rims.FlatRims.{FlatRims}
 use Rattle.flow_d8.specs.declared.rim_tile.RimTile.{RimTile}
+use Rattle.flow_d8.specs.declared.wide_flat.WideFlat.{WideFlat}
 
 -- what is so of the mosaic is so after a question
 pub still_so : {L S : Type 0} (g : Ghosts L S) (s s' : L) (a b : S) (Says : Mosaic → Type 0) → Asks g s a s' b → WhereHonest g s a Says → WhereHonest g s' b Says
@@ -129,3 +133,10 @@ no_rims m rims side none = record {
     nearer = λ k tile _ _ there _ _. absurd (no_tile k tile there);
   });
 }
+
+-- of a flat that was learnt, and of the levels that are given of its tile with this place, what is so after these were asked for
+pub tile_given : {L S : Type 0} (g : Ghosts L S) (s s' : L) (a b : S) (flat : WideFlat) (c : Corner) (found : Option Filled) (filled : Filled) → Asks g s a s' b → WhereHonest g s a (λ m. IsLearntFlat m flat)
+    → (g.is_honest s' b → IfSome found (IsTileOf (g.mosaic s a) c)) → found ≡ Some filled → (tile : RimTile) → tile.corner ≡ c → WhereHonest g s' b (λ m. IsTileOf m tile.corner filled × IsLearntFlat m flat)
+tile_given g s s' a b flat c found filled asks learnt given is tile corner honest =
+    let of = so_now g s s' a b (λ m. IsTileOf m c filled) asks (λ h. subst (λ f. IfSome f (IsTileOf (g.mosaic s a) c)) is (given h)) honest in
+    (subst (λ (d : Corner). IsTileOf (g.mosaic s' b) d filled) (sym corner) of, still_so g s s' a b (λ m. IsLearntFlat m flat) asks learnt honest)

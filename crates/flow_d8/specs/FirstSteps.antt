@@ -96,7 +96,13 @@ module _ (tile : RimTile) where
   abbrev pub IsRimByte : ℕ → Flow → Type 0
   IsRimByte r flow = (way : Option Dir) → way_of flow ≡ Some way → (d : Dir) × ((way ≡ Some d) × IsHeldStep r d)
 
-  -- .. of samples on the rim, and no other byte tells anything
-  pub record AreRimBytes (flows : List Flow) : Type 0 where
-    pub rim : (e : ℕ) (way : Option Dir) → way_of (slice_index_or flows e Unknown) ≡ Some way → is_rim tile.side e ≡ true
-    pub each : (e : ℕ) → IsRimByte (rim_number tile.side e) (slice_index_or flows e Unknown)
+  module _ (IsReady : Point → Type 0) where
+    -- .. and it tells something of ready points alone
+    pub record IsReadyByte (r : ℕ) (flow : Flow) : Type 0 where
+      pub byte : IsRimByte r flow
+      pub ready : (way : Option Dir) (p : Point) (e : ℕ) → way_of flow ≡ Some way → IsIndexOf tile.side tile.corner p e → is_rim tile.side e ≡ true → rim_number tile.side e ≡ r → IsReady p
+
+    -- .. of samples on the rim, and no other byte tells anything
+    pub record AreRimBytes (flows : List Flow) : Type 0 where
+      pub rim : (e : ℕ) (way : Option Dir) → way_of (slice_index_or flows e Unknown) ≡ Some way → is_rim tile.side e ≡ true
+      pub each : (e : ℕ) → IsReadyByte (rim_number tile.side e) (slice_index_or flows e Unknown)

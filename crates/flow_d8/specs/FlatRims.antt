@@ -1,11 +1,11 @@
 -- Flat distances of one level over many tiles, found a tile at a time (this product's own profile): what is held of the
 -- rims of these tiles, and when it is the mosaic's.
-use Rattle.std.specs.Prelude.{◌≡◌, ℕ, ◌+◌, ◌<◌, ◌≤◌, ℤ, false, true, IsTrue, Some, List, Contains, length, slice_index_or, slice_get}
+use Rattle.std.specs.Prelude.{◌≡◌, ℕ, ◌+◌, ◌<◌, ◌≤◌, ℤ, Bool, false, true, IsTrue, Some, List, Contains, length, slice_index_or, slice_get}
 use Rattle.lattice.specs.Block.{is_rim, rim_number}
 use Rattle.lattice.specs.Corners.{Corner}
 use Rattle.lattice.specs.Ground.{is_ground, terrain}
 use Rattle.lattice.specs.Lattice.{IsIndexOf, index_of}
-use Rattle.lattice.specs.Mosaic.{Mosaic, IsMosaic}
+use Rattle.lattice.specs.Mosaic.{Mosaic, IsMosaic, void}
 use Rattle.lattice.specs.Steps.{step, order_of}
 use Rattle.lattice.specs.declared.point.Point.{Point}
 use Rattle.lattice.specs.declared.direction.Dir.{Dir}
@@ -42,6 +42,10 @@ pub record IsListed (tiles : List RimTile) (c : Corner) (tile : RimTile) : Type 
   pub place : ℕ
   pub listed : slice_get tiles place ≡ Some tile
   pub corner : tile.corner ≡ c
+
+-- whether the tile with this place is told: the first steps within it from the points on its rim are noted
+abbrev pub is_told : List Bool → ℕ → Bool
+is_told told t = slice_index_or told t false
 
 module _ (m : Mosaic) (level : Point → ℤ) (height : ℤ) where
   -- the point is ground of this level
@@ -84,9 +88,9 @@ module _ (m : Mosaic) (level : Point → ℤ) (height : ℤ) where
     pub least : (p : Point) (j : ℕ) → IsOnRim m.side tile.corner p → IsAtLevel p → CrossesFlat (terrain m) level p j → j < unknown → rim_distance tile p ≤ j
     pub walked : (p : Point) → IsOnRim m.side tile.corner p → IsTrue (is_ground m p) → rim_distance tile p < unknown → CrossesFlat (terrain m) level p (rim_distance tile p)
 
-  -- of the first k tiles no nearer step within one comes before the one that is held
-  abbrev pub AreFirstSteps : List RimTile → ℕ → Type 0
-  AreFirstSteps tiles k = (s t : ℕ) (from tile : RimTile) (p : Point) (d : Dir) (e : ℕ) → s < k → slice_get tiles s ≡ Some from → slice_get tiles t ≡ Some tile → IsOnRim m.side from.corner p → IsOnRim m.side tile.corner p
+  -- within a tile that is told no nearer step comes before the one that is held
+  abbrev pub AreFirstSteps : List RimTile → List Bool → Type 0
+  AreFirstSteps tiles told = (s t : ℕ) (from tile : RimTile) (p : Point) (d : Dir) (e : ℕ) → is_told told s ≡ true → slice_get tiles s ≡ Some from → slice_get tiles t ≡ Some tile → IsOnRim m.side from.corner p → IsOnRim m.side tile.corner p
       → IsAtLevel p → rim_distance from p + 1 < unknown → IsIndexOf m.side from.corner (step d p) e → IsNearer (terrain m) level p (step d p) → rim_order tile p ≤ order_of d
 
 -- no tile waits
@@ -102,10 +106,15 @@ abbrev pub IsSurrounded : List Corner → ℤ → List RimTile → Corner → Fi
 IsSurrounded present height tiles c f = OnMosaics present (λ m level. IsTileOf m c f → (p : Point) (b : Corner) → IsOnRim m.side c p → IsAtLevel m level height p → Contains (corners_of m) b → IsOnRim m.side b p
     → (other : RimTile) × IsListed tiles b other)
 
--- where the distances in one tile start: on its rim with those that are held, elsewhere where a point drains at once
-pub record AreStartsOf (tile : RimTile) (f : Filled) (local : List LocalFlow) (starts : List ℕ) : Type 0 where
+-- the sample has this level, and drains at once
+abbrev pub IsEndAt : ℤ → List ℤ → List LocalFlow → ℕ → Type 0
+IsEndAt height levels local g = (slice_index_or levels g void ≡ height) × IsEnd local g
+
+-- where the distances in one tile start: on its rim with those that are held, elsewhere where a point of the level drains at
+-- once
+pub record AreStartsOf (height : ℤ) (tile : RimTile) (f : Filled) (local : List LocalFlow) (starts : List ℕ) : Type 0 where
   pub whole : length starts ≡ length f.levels
   pub none : (g : ℕ) → slice_index_or local g NoGround ≡ NoGround → distance_at starts g ≡ unknown
   pub rim : (g : ℕ) → (slice_index_or local g NoGround ≡ NoGround → ⊥) → is_rim f.side g ≡ true → distance_at starts g ≡ distance_at tile.distances.items (rim_number f.side g)
-  pub ends : (g : ℕ) → is_rim f.side g ≡ false → IsEnd local g → distance_at starts g ≡ 0
-  pub inside : (g : ℕ) → is_rim f.side g ≡ false → (IsEnd local g → ⊥) → distance_at starts g ≡ unknown
+  pub ends : (g : ℕ) → is_rim f.side g ≡ false → IsEndAt height f.levels local g → distance_at starts g ≡ 0
+  pub inside : (g : ℕ) → is_rim f.side g ≡ false → (IsEndAt height f.levels local g → ⊥) → distance_at starts g ≡ unknown

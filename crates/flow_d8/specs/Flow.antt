@@ -1,5 +1,5 @@
 -- What bytes tell of where points drain.
-use Rattle.std.specs.Prelude.{◌≡◌, ℕ, ◌⊎◌, Option, Some, None, List, length, slice_index_or}
+use Rattle.std.specs.Prelude.{◌≡◌, ℕ, ◌<◌, ◌≤◌, Option, Some, None, List, length, slice_index_or}
 use Rattle.lattice.specs.declared.direction.Dir.{Dir}
 use Rattle.lattice.specs.declared.direction.Dir.TheVariants as to
 use Rattle.flow_d8.specs.declared.flow.Flow.{Flow}
@@ -18,7 +18,9 @@ way_of NorthWest = Some (Some to.NorthWest)
 way_of North = Some (Some to.North)
 way_of NorthEast = Some (Some to.NorthEast)
 
--- each byte is the one before, or that of the other list
-pub record AreTaken (from old new : List Flow) : Type 0 where
+-- of the first k bytes each is that of the other list where that tells something; each other byte is the one before
+pub record AreTakenTo (k : ℕ) (from old new : List Flow) : Type 0 where
   pub whole : length new ≡ length old
-  pub each : (e : ℕ) → (slice_index_or new e Unknown ≡ slice_index_or old e Unknown) ⊎ (slice_index_or new e Unknown ≡ slice_index_or from e Unknown)
+  pub told : (e : ℕ) (way : Option Dir) → e < k → way_of (slice_index_or from e Unknown) ≡ Some way → slice_index_or new e Unknown ≡ slice_index_or from e Unknown
+  pub silent : (e : ℕ) → e < k → way_of (slice_index_or from e Unknown) ≡ None → slice_index_or new e Unknown ≡ slice_index_or old e Unknown
+  pub others : (e : ℕ) → k ≤ e → slice_index_or new e Unknown ≡ slice_index_or old e Unknown

@@ -30,5 +30,6 @@ pub mod PresentTiles
 pub mod Spread
 pub mod FlatRims
 pub mod Passing
+pub mod WideFlat
 pub mod WideFlats
 pub mod FirstSteps

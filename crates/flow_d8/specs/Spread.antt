@@ -58,14 +58,14 @@ module _ (f : Filled) (IsSource : Point → Type 0) where
     pub walked : (p : Point) → IsTrue (has_level f p) → distance_at distances (number_in f p) < unknown → LeadsTo p (distance_at distances (number_in f p))
     pub least : (k : ℕ) (p : Point) → IsTrue (has_level f p) → LeadsTo p k → (distance_at distances (number_in f p) < unknown) × (distance_at distances (number_in f p) ≤ k)
 
--- these are the numbers below k with known distances
-pub record AreKnownBelow (k : ℕ) (distances queue : List ℕ) : Type 0 where
-  pub known : (i : ℕ) → i < length queue → distance_at distances (slice_index_or queue i 0) < unknown
-  pub all : (g : ℕ) → g < k → distance_at distances g < unknown → IsWaiting queue 0 g
-
 -- the point with this number is among the starts that are to wait later
 abbrev pub IsLater : List Start → ℕ → Type 0
 IsLater later k = (s : Start) × (Contains later s × (s.number ≡ k))
+
+-- of the samples with numbers below k those with known distances start, and no others
+pub record AreKnownBelow (k : ℕ) (distances : List ℕ) (later : List Start) : Type 0 where
+  pub known : (g : ℕ) → IsLater later g → distance_at distances g < unknown
+  pub all : (g : ℕ) → g < k → distance_at distances g < unknown → IsLater later g
 
 module _ (f : Filled) where
   -- what waits is a point with a level, and has a distance

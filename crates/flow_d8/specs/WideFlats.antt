@@ -7,24 +7,14 @@ use Rattle.lattice.specs.Mosaic.{Mosaic}
 use Rattle.lattice.specs.RimPoints.{IsRimPoint}
 use Rattle.lattice.specs.declared.point.Point.{Point}
 use Rattle.flow_d8.specs.Drainage.{CrossesFlat}
-use Rattle.flow_d8.specs.FlatRims.{IsAtLevel, AreFlatRims, AreFirstSteps}
+use Rattle.flow_d8.specs.FlatRims.{IsAtLevel}
 use Rattle.flow_d8.specs.LevelsAround.{OnLevels}
 use Rattle.flow_d8.specs.Propagation.{unknown, distance_at}
 use Rattle.flow_d8.specs.declared.filled_levels.FilledLevels.{Ghosts}
-use Rattle.flow_d8.specs.declared.flat_rims.FlatRims.{FlatRims}
 
 -- it is so of the filled levels' mosaic
 abbrev pub WhereHonest : {L S : Type 0} → Ghosts L S → L → S → (Mosaic → Type 0) → Type 0
 WhereHonest g s a Says = g.is_honest s a → Says (g.mosaic s a)
-
--- what is held of rims is the mosaic's
-pub record AreRims (m : Mosaic) (rims : FlatRims) : Type 0 where
-  pub side : m.side ≡ rims.side
-  pub right : OnLevels m (λ level. AreFlatRims m level rims.height rims.tiles.items)
-
--- of the first k tiles no nearer step within one comes before the one that is held
-abbrev pub AreOrdersTo : Mosaic → FlatRims → ℕ → Type 0
-AreOrdersTo m rims k = OnLevels m (λ level. AreFirstSteps m level rims.height rims.tiles.items k)
 
 -- where it is known the point has this flat distance or a greater one, and 0 where it has the level and drains at once
 pub record IsStart (m : Mosaic) (height : ℤ) (p : Point) (distance : ℕ) : Type 0 where

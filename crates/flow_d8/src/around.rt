@@ -5,7 +5,7 @@ ghost use Rattle.lattice.specs.Steps.{directions};
 ghost use Rattle.flow_d8.specs.Crossing.{AreLocalFlows, AreAround, HasSite};
 ghost use Rattle.flow_d8.specs.Filled.{is_deep};
 ghost use Rattle.flow_d8.specs.Places.{place_by};
-ghost use Rattle.flow_d8.specs.Surface.{number_in, has_level};
+ghost use Rattle.flow_d8.specs.Surface.{number_in, has_level, around_of};
 
 use crate::filled::Filled;
 use crate::local_flow::{LocalFlow, is_flat};
@@ -27,8 +27,19 @@ pub(crate) fn numbers_around(
     if is_flat(flows, number) {
         numbers_inside(filled, number)
     } else {
-        filled.around(filled.point(number))
+        numbers_over_edges(filled, number)
     }
+}
+
+// The same by the point, over all tiles. Not inlined: its divisions would be done ahead of the test of `numbers_around`.
+#[inline(never)]
+fn numbers_over_edges(filled: &Filled, number: usize) -> [Option<usize>; 8]
+    requires number { number < length filled.now.levels }
+    requires site { HasSite filled.now number }
+    ensures { (p : Point) → IsTrue (has_level filled.now p) → number_in filled.now p ≡ number → result ≡ around_of filled.now p }
+{
+    let _levels = filled.levels();
+    filled.around(filled.point(number))
 }
 
 // All lie inside the sample's tile.

@@ -4,12 +4,12 @@ ghost use Rattle.std.specs.Prelude.{◌≡◌, ℕ, ◌*◌, ◌<◌, ◌⊎◌,
 ghost use Rattle.flow_d8.specs.Propagation.{unknown, distance_at, IsEnd};
 ghost use Rattle.flow_d8.specs.Crossing.{AreLocalFlows, AreDistances};
 ghost use Rattle.flow_d8.specs.DeepFlows.{IsRimSample};
-ghost use Rattle.flow_d8.specs.Spread.{AreSpread, AreStarts, AreKnownBelow, AreLeastSteps};
+ghost use Rattle.flow_d8.specs.Spread.{AreSpread, AreStarts, IsPropagating, AreKnownBelow, AreLeastSteps};
 ghost use Rattle.flow_d8.specs.declared.local_flow.LocalFlow.TheVariants.{NoGround};
 
 use crate::filled::Filled;
 use crate::local_flow::{LocalFlow, is_end, is_site};
-use crate::propagating::{UNKNOWN, propagate};
+use crate::propagating::{Start, UNKNOWN, propagate};
 use crate::seeding::seed;
 use crate::tile_place::TilePlace;
 use std::alloc::{AllocError, Global};
@@ -29,14 +29,11 @@ pub(crate) fn spread(
     let mut queue = Vec::new(alloc);
     let mut later = Vec::new(alloc);
     seed(filled, local, &mut distances, &mut queue, &mut later)?;
-    // The nearest first, so that each sample waits about once.
-    later.sort()?;
-    propagate(alloc, filled, local, &mut distances, queue, &later)?;
-    Ok(distances)
+    spread_later(alloc, filled, local, distances, queue, later)
 }
 
-// The same, where few samples start: no others are looked at but those around what is reached.
-fn spread_from_few(
+/// The same, where few samples start: no others are looked at but those around what is reached.
+pub(crate) fn spread_from_few(
     alloc: Global,
     filled: &Filled,
     local: &[LocalFlow],
@@ -46,24 +43,47 @@ fn spread_from_few(
     requires starts { AreStarts filled.now starts.items }
     ensures { IfOk result (λ distances. AreSpread filled.now starts.items distances.items) }
 {
-    let mut distances = starts;
-    let queue = known_numbers(alloc, &distances)?;
-    propagate(alloc, filled, local, &mut distances, queue, &[])?;
+    let later = known_starts(alloc, &starts)?;
+    spread_later(alloc, filled, local, starts, Vec::new(alloc), later)
+}
+
+// Spreads distances from the points in the queue, and from the starts that wait later, in any order.
+fn spread_later(
+    alloc: Global,
+    filled: &Filled,
+    local: &[LocalFlow],
+    first: Vec<u32>,
+    queue: Vec<u32>,
+    starts: Vec<Start>,
+) -> Result<Vec<u32>, AllocError>
+    requires local { AreLocalFlows filled.now local.now }
+    requires propagating { IsPropagating filled.now first.items queue.items starts.items }
+    ensures { IfOk result (λ distances. AreSpread filled.now first.items distances.items) }
+{
+    let mut distances = first;
+    let mut later = starts;
+    // The nearest first, so that each sample waits about once.
+    later.sort()?;
+    propagate(alloc, filled, local, &mut distances, queue, &later)?;
     Ok(distances)
 }
 
-// The numbers of the samples with known distances.
-fn known_numbers(alloc: Global, distances: &[u32]) -> Result<Vec<u32>, AllocError>
+// The starts of the samples with known distances.
+fn known_starts(alloc: Global, distances: &[u32]) -> Result<Vec<Start>, AllocError>
     requires { length distances.now < unknown }
-    ensures { IfOk result (λ numbers. AreKnownBelow (length distances.now) distances.now numbers.items) }
+    ensures { IfOk result (λ starts. AreKnownBelow (length distances.now) distances.now starts.items) }
 {
-    let mut numbers = Vec::new(alloc);
+    let mut starts = Vec::new(alloc);
     for number in 0..distances.len() {
-        if distances[number] < UNKNOWN {
-            numbers.push(number as u32)?;
+        let distance = distances[number];
+        if distance < UNKNOWN {
+            starts.push(Start {
+                distance,
+                number: number as u32,
+            })?;
         }
     }
-    Ok(numbers)
+    Ok(starts)
 }
 
 /// The flat distance of each point: 0 of those that drain at once, UNKNOWN where a sample has no point or nothing leads
@@ -80,8 +100,8 @@ pub(crate) fn flat_distances(
     spread(alloc, filled, flows, starts)
 }
 
-/// 0 where a point drains at once, UNKNOWN elsewhere.
-pub(crate) fn starts(alloc: Global, flows: &[LocalFlow]) -> Result<Vec<u32>, AllocError>
+// 0 where a point drains at once, UNKNOWN elsewhere.
+fn starts(alloc: Global, flows: &[LocalFlow]) -> Result<Vec<u32>, AllocError>
     ensures whole { IfOk result (λ distances. length distances.items ≡ length flows.now) }
     ensures ends { IfOk result (λ distances. (g : ℕ) → IsEnd flows.now g → distance_at distances.items g ≡ 0) }
     ensures others { IfOk result (λ distances. (g : ℕ) → (IsEnd flows.now g → ⊥) → distance_at distances.items g ≡ unknown) }

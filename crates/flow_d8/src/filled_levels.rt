@@ -12,11 +12,13 @@ ghost use Rattle.flow_d8.specs.Way.{IsWay};
 ghost use Rattle.flow_d8.specs.Feeders.{AreFeedersOf};
 ghost use Rattle.flow_d8.specs.Directions.{AreDirectionsOf};
 ghost use Rattle.flow_d8.specs.PresentTiles.{corners_of};
+ghost use Rattle.flow_d8.specs.WideFlat.{IsLearntFlat};
 
 use crate::directions::Directions;
 use crate::filled::Filled;
 use crate::flow::Flow;
 use crate::levels_around::Near;
+use crate::wide_flat::WideFlat;
 use arrayvec::ArrayVec;
 use lattice::{Corner, Dir, Point, Refusal, Side};
 use std::alloc::Global;
@@ -124,8 +126,26 @@ pub trait FilledLevels<S> {
         ensures mosaic { is_honest self.new source.new → mosaic self.new source.new ≡ mosaic self.old source.old }
         ensures keeps { OnOk result (keeps self.old source.old self.new source.new) };
 
-    /// Of how many tiles it can be held at once where all their points drain.
-    fn most_tiles(&self, source: &S) -> usize;
+    /// Whether what was learnt is held of a wide flat with this level, in metres, that goes over a tile that holds the point.
+    fn has_wide_flat(&self, source: &S, point: Point, height: i16) -> bool;
+
+    /// What was learnt of such a flat, handed out. None where nothing is held.
+    fn take_wide_flat(&mut self, source: &S, point: Point, height: i16) -> Option<WideFlat>
+        requires { fits self.old source.now }
+        ensures fits { fits self.new source.now }
+        ensures flat { is_honest self.new source.now → IfSome result (IsLearntFlat (mosaic self.old source.now)) }
+        ensures honest { is_honest self.new source.now → is_honest self.old source.now }
+        ensures mosaic { is_honest self.new source.now → mosaic self.new source.now ≡ mosaic self.old source.now }
+        ensures keeps { keeps self.old source.now self.new source.now };
+
+    /// Holds what was learnt of a wide flat for questions to come, if there is room for it.
+    fn hold_wide_flat(&mut self, alloc: Global, source: &S, flat: WideFlat)
+        requires fits { fits self.old source.now }
+        requires flat { is_honest self.old source.now → IsLearntFlat (mosaic self.old source.now) flat }
+        ensures fits { fits self.new source.now }
+        ensures honest { is_honest self.new source.now → is_honest self.old source.now }
+        ensures mosaic { is_honest self.new source.now → mosaic self.new source.now ≡ mosaic self.old source.now }
+        ensures keeps { keeps self.old source.now self.new source.now };
 
     /// Learns where points of the corner's tile drain, a byte for each of its samples, if there is memory for it. A byte that
     /// tells nothing leaves what is known.

@@ -81,11 +81,20 @@ fn flat_or_sink(filled: &Filled, number: usize) -> LocalFlow
     ensures { (p : Point) → number_in filled.now p ≡ number → IsTrue (is_held filled.now.side filled.now.corners p) → result ≡ (if is_declared filled.now p then Edge else Flat) }
 {
     // A sample's point takes divisions to find: where no sink is declared, none is looked for.
-    if filled.has_sinks() && filled.is_sink(filled.point(number)) {
+    if filled.has_sinks() && is_sink_at(filled, number) {
         LocalFlow::Edge
     } else {
         LocalFlow::Flat
     }
+}
+
+// Whether the sample's point is declared a sink. Not inlined: the divisions would be done ahead of the test of `flat_or_sink`.
+#[inline(never)]
+fn is_sink_at(filled: &Filled, number: usize) -> bool
+    requires { number < length filled.now.levels }
+    ensures { (p : Point) → IsTrue (is_held filled.now.side filled.now.corners p) → number_in filled.now p ≡ number → result ≡ is_declared filled.now p }
+{
+    filled.is_sink(filled.point(number))
 }
 
 fn seam_or_sink(filled: &Filled, point: Point) -> LocalFlow

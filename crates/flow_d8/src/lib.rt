@@ -22,8 +22,9 @@
 //! A direction looks at the levels around the point and, where that lies on a flat, around the points of the flat, the
 //! nearest first, until one of them drains. A flow path goes on to that point by the way that this search found.
 //! `direction_over` is for many questions: it searches each flat whole, once, and holds the distances of its points
-//! (`Flats`). Once a search over a flat has gone far, the flat's distances are found a tile at a time, and of each tile those on its rim are held, until
-//! where the flat's points drain is known of all its tiles. `TileFlows` holds where the points of one tile drain.
+//! (`Flats`). Once a search over a flat has gone far, the flat's distances are found a tile at a time, and those on the rims
+//! of its tiles are held (`WideFlat`): from them it is told where the points of a tile drain, as questions come to it.
+//! `TileFlows` holds where the points of one tile drain.
 #![tactic(auto)]
 
 mod around;
@@ -42,6 +43,7 @@ mod flow_path;
 mod flows;
 mod inside_flows;
 mod laws;
+mod learning_flats;
 mod levels_around;
 mod local_flow;
 mod nearer;
@@ -58,9 +60,11 @@ mod seen;
 mod settling;
 mod slopes;
 mod telling;
+mod telling_flats;
 mod tile_flows;
 mod tile_place;
-mod wide_flats;
+mod told_flats;
+mod wide_flat;
 
 pub use directions::Directions;
 pub use filled::Filled;
@@ -76,3 +80,4 @@ pub use levels_around::Near;
 pub use one_direction::{direction_at, direction_over};
 pub use point_table::PointTable;
 pub use tile_flows::TileFlows;
+pub use wide_flat::WideFlat;

@@ -1,5 +1,5 @@
 //! Where a point drains, as far as the levels around it show.
-ghost use Rattle.std.specs.Prelude.{◌≡◌, ℕ, ◌+◌, ◌<◌, ◌≤◌, ◌↔◌, IsTrue, IsFalse, MatchOption, length, slice_index_or};
+ghost use Rattle.std.specs.Prelude.{◌≡◌, ℕ, ◌+◌, ◌<◌, ◌≤◌, ◌↔◌, ◌≤ℤ◌, IsTrue, IsFalse, MatchOption, length, slice_index_or};
 ghost use Rattle.lattice.specs.declared.direction.Dir.{Dir};
 ghost use Rattle.lattice.specs.Mosaic.{void};
 ghost use Rattle.flow_d8.specs.declared.local_flow.LocalFlow.TheVariants.{NoGround};
@@ -71,6 +71,10 @@ pub(crate) fn local_flow_at(levels: &[i16], width: usize, k: usize) -> LocalFlow
     if is_void(levels, k) {
         return LocalFlow::NoGround;
     }
+    // Nor is there a gap then: no level is below the void.
+    if is_none_below(levels, width, k, at(levels, k)) {
+        return LocalFlow::Flat;
+    }
     let best = steepest_at(levels, width, k);
     if best.slope > 0 {
         return LocalFlow::Drains(best.direction);
@@ -79,6 +83,22 @@ pub(crate) fn local_flow_at(levels: &[i16], width: usize, k: usize) -> LocalFlow
         Some(_) => LocalFlow::Edge,
         None => LocalFlow::Flat,
     }
+}
+
+// Whether no level around the place is below the height. The straight steps come first: down most slopes one of them leads.
+#[inline(always)]
+fn is_none_below(levels: &[i16], width: usize, k: usize, height: i16) -> bool
+    requires { IsInner width (length levels.now) k }
+    ensures { IsTrue result → (d : Dir) → height ≤ℤ slice_index_or levels.now (place_by width k d) void }
+{
+    height <= at(levels, k - width)
+        && height <= at(levels, k + width)
+        && height <= at(levels, k - 1)
+        && height <= at(levels, k + 1)
+        && height <= at(levels, k - width - 1)
+        && height <= at(levels, k - width + 1)
+        && height <= at(levels, k + width - 1)
+        && height <= at(levels, k + width + 1)
 }
 
 #[inline(always)]

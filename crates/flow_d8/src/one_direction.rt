@@ -9,8 +9,9 @@ ghost use Rattle.flow_d8.specs.Way.{IsWay};
 use crate::FilledLevels;
 use crate::flat_search::path_across_flat;
 use crate::flats::{Flats, first_nearer};
+use crate::learning_flats::learn_wide_flat;
 use crate::point_flow::{PointFlow, point_flow};
-use crate::wide_flats::learn_wide_flat;
+use crate::telling_flats::tell_wide_flat;
 use lattice::{Dir, Point, Refusal, neighbour};
 use std::alloc::{AllocError, Global};
 
@@ -77,6 +78,24 @@ fn known_way<S, L: FilledLevels<S>>(
     Ok(None)
 }
 
+// Where a point inside a flat of this level drains, if what is held of the flat tells it.
+fn told_way<S, L: FilledLevels<S>>(
+    alloc: Global,
+    levels: &mut L,
+    source: &mut S,
+    point: Point,
+    height: i16,
+) -> Result<Option<Option<Dir>>, Refusal>
+    requires { L.fits levels.old source.old }
+    ensures way { L.is_honest levels.new source.new → IfOk result (λ found. IfSome found (IsWay (L.mosaic levels.old source.old) point)) }
+    ensures asked { IsAsked L.FilledLevels levels.old source.old levels.new source.new result }
+{
+    if tell_wide_flat(alloc, levels, source, point, height)? {
+        return Ok(levels.way(source, point));
+    }
+    Ok(None)
+}
+
 // Where a point drains that lies inside a wide flat.
 fn far_direction<S, L: FilledLevels<S>>(
     alloc: Global,
@@ -92,9 +111,6 @@ fn far_direction<S, L: FilledLevels<S>>(
     ensures asked { IsAsked L.FilledLevels levels.old source.old levels.new source.new result }
 {
     learn_wide_flat(alloc, levels, source, point)?;
-    if let Some(way) = levels.way(source, point) {
-        return Ok(way);
-    }
     match find_direction(alloc, levels, source, flats, point, usize::MAX)? {
         Some(way) => Ok(way),
         None => Err(Refusal::NoMemory),
@@ -119,6 +135,9 @@ fn find_direction<S, L: FilledLevels<S>>(
     match point_flow(alloc, levels, source, point)? {
         PointFlow::Drains(direction) => Ok(Some(direction)),
         PointFlow::Inside { height, around } => {
+            if let Some(way) = told_way(alloc, levels, source, point, height)? {
+                return Ok(Some(way));
+            }
             let step = first_nearer(alloc, levels, source, flats, point, height, &around, most)?;
             Ok(way_by(step))
         }
@@ -172,9 +191,6 @@ fn far_steps<S, L: FilledLevels<S>>(
     ensures asked { IsAsked L.FilledLevels levels.old source.old levels.new source.new result }
 {
     learn_wide_flat(alloc, levels, source, point)?;
-    if let Some(way) = levels.way(source, point) {
-        return Ok(one_or_none(alloc, way)?);
-    }
     match find_steps(alloc, levels, source, point, usize::MAX)? {
         Some(steps) => Ok(steps),
         None => Err(Refusal::NoMemory),
@@ -197,6 +213,9 @@ fn find_steps<S, L: FilledLevels<S>>(
     match point_flow(alloc, levels, source, point)? {
         PointFlow::Drains(direction) => Ok(Some(one_or_none(alloc, direction)?)),
         PointFlow::Inside { height, around } => {
+            if let Some(way) = told_way(alloc, levels, source, point, height)? {
+                return Ok(Some(one_or_none(alloc, way)?));
+            }
             path_across_flat(alloc, levels, source, point, height, &around, most)
         }
     }

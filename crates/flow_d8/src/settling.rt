@@ -1,22 +1,22 @@
 //! Flat distances over the rims of tiles, settled a tile at a time.
-ghost use Rattle.std.specs.Prelude.{◌≡◌, ℤ, ◌*◌, ◌<◌, Some, OnOk, false, IfOk, IfSome, IfNone, Contains, List, length, slice_get, slice_index_or};
+ghost use Rattle.std.specs.Prelude.{◌≡◌, ℕ, ℤ, ◌*◌, ◌<◌, Some, OnOk, false, IfOk, IfSome, IfNone, Contains, List, length, slice_get, slice_index_or};
 ghost use Rattle.std.specs.List.{AllAdjacentBelow};
 ghost use Rattle.lattice.specs.Lattice.{Holds, IsBefore};
 ghost use Rattle.lattice.specs.Mosaic.{Mosaic};
 ghost use Rattle.lattice.specs.declared.point.Point.{Point};
 ghost use Rattle.flow_d8.specs.Crossing.{AreLocalFlows};
 ghost use Rattle.flow_d8.specs.DeepFlows.{IsTileOf};
-ghost use Rattle.flow_d8.specs.FlatRims.{AreStartsOf, AreFlatRims, IsListed, OnMosaics, IsSurrounded};
+ghost use Rattle.flow_d8.specs.FlatRims.{IsEndAt, AreStartsOf, AreFlatRims, IsListed, OnMosaics, IsSurrounded};
 ghost use Rattle.flow_d8.specs.Passing.{AreHoldersListed, HoldsOfRim};
 ghost use Rattle.flow_d8.specs.Propagation.{unknown, distance_at};
 ghost use Rattle.flow_d8.specs.declared.local_flow.LocalFlow.TheVariants.{NoGround};
 ghost use Rattle.flow_d8.specs.declared.rim_tile.RimTile.{RimTile};
 
-use crate::crossing::{spread, starts};
+use crate::crossing::spread_from_few;
 use crate::filled::Filled;
 use crate::flat_rims::{FlatRims, has_corner};
 use crate::flows::local_flows;
-use crate::local_flow::LocalFlow;
+use crate::local_flow::{LocalFlow, is_end};
 use crate::numbering::is_listed;
 use crate::passing::{give_all, rim_distances};
 use crate::propagating::UNKNOWN;
@@ -94,8 +94,8 @@ impl FlatRims {
             return Ok(());
         }
         let local = local_flows(alloc, filled)?;
-        let starts = starts_of(alloc, &self.tiles[t], filled, &local)?;
-        let distances = spread(alloc, filled, &local, starts)?;
+        let starts = starts_of(alloc, self.height, &self.tiles[t], filled, &local)?;
+        let distances = spread_from_few(alloc, filled, &local, starts)?;
         let found = rim_distances(
             alloc,
             side,
@@ -111,9 +111,11 @@ impl FlatRims {
     }
 }
 
-/// Where the distances in this tile start: on its rim with those that are held, elsewhere with 0 where a point drains at once.
+/// Where the distances in this tile start: on its rim with those that are held, elsewhere with 0 where a point of the level
+/// drains at once.
 pub(crate) fn starts_of(
     alloc: Global,
+    height: i16,
     tile: &RimTile,
     filled: &Filled,
     local: &[LocalFlow],
@@ -121,15 +123,49 @@ pub(crate) fn starts_of(
     requires side { tile.now.side ≡ filled.now.side }
     requires one { length filled.now.levels ≡ filled.now.side * filled.now.side }
     requires local { AreLocalFlows filled.now local.now }
-    ensures { IfOk result (λ starts. AreStartsOf tile.now filled.now local.now starts.items) }
+    ensures { IfOk result (λ starts. AreStartsOf height tile.now filled.now local.now starts.items) }
 {
     let side = filled.side();
-    let mut found = starts(alloc, local)?;
+    let mut found = starts_at(alloc, height, filled, local)?;
     for number in 0..side.rim() {
         let index = rim_index(side, number) as usize;
         found[index] = rim_start(tile, local, number as usize, index);
     }
     Ok(found)
+}
+
+// 0 where a point of the level drains at once, UNKNOWN elsewhere.
+fn starts_at(
+    alloc: Global,
+    height: i16,
+    filled: &Filled,
+    local: &[LocalFlow],
+) -> Result<Vec<u32>, AllocError>
+    requires { AreLocalFlows filled.now local.now }
+    ensures whole { IfOk result (λ starts. length starts.items ≡ length local.now) }
+    ensures ends { IfOk result (λ starts. (g : ℕ) → IsEndAt height filled.now.levels local.now g → distance_at starts.items g ≡ 0) }
+    ensures others { IfOk result (λ starts. (g : ℕ) → (IsEndAt height filled.now.levels local.now g → ⊥) → distance_at starts.items g ≡ unknown) }
+{
+    let levels = filled.levels();
+    let mut starts = Vec::with_capacity(alloc, local.len())?;
+    for number in 0..local.len() {
+        starts.push(start_at(height, levels, local, number))?;
+    }
+    Ok(starts)
+}
+
+#[inline(always)]
+fn start_at(height: i16, levels: &[i16], local: &[LocalFlow], number: usize) -> u32
+    requires level { number < length levels.now }
+    requires number { number < length local.now }
+    ensures end { IsEndAt height levels.now local.now number → result ≡ 0 }
+    ensures other { (IsEndAt height levels.now local.now number → ⊥) → result ≡ unknown }
+{
+    if at(levels, number) == height && is_end(local, number) {
+        0
+    } else {
+        UNKNOWN
+    }
 }
 
 // What is held of the rim point with this number, if there is one at this index.

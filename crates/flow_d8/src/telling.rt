@@ -1,5 +1,5 @@
 //! Where the points of tiles drain, as settled flat distances tell it.
-ghost use Rattle.std.specs.Prelude.{◌≡◌, ℕ, ℤ, ◌+◌, ◌-◌, ◌*◌, ◌<◌, false, Some, IfOk, OnOk, List, length, slice_get};
+ghost use Rattle.std.specs.Prelude.{◌≡◌, ℕ, ℤ, ◌-◌, ◌*◌, ◌<◌, Bool, true, false, Some, IfOk, IfErr, OnOk, List, length, slice_get, slice_set};
 ghost use Rattle.lattice.specs.Block.{is_rim};
 ghost use Rattle.lattice.specs.Mosaic.{Mosaic, IsMosaic};
 ghost use Rattle.lattice.specs.Ground.{terrain};
@@ -9,10 +9,10 @@ ghost use Rattle.flow_d8.specs.Crossing.{AreLocalFlows};
 ghost use Rattle.flow_d8.specs.Spread.{AreSpread};
 ghost use Rattle.flow_d8.specs.FirstSteps.{AreInnerBytes, IsInnerByte, IsRimByte};
 ghost use Rattle.flow_d8.specs.DeepFlows.{IsTileOf, AreFlowsOf};
-ghost use Rattle.flow_d8.specs.FlatRims.{AreFlatRims, AreNoneWaiting, AreFirstSteps, OnMosaics};
+ghost use Rattle.flow_d8.specs.FlatRims.{AreFlatRims, AreNoneWaiting, AreFirstSteps};
 ghost use Rattle.flow_d8.specs.declared.rim_tile.RimTile.{RimTile};
 
-use crate::crossing::spread;
+use crate::crossing::spread_from_few;
 use crate::filled::Filled;
 use crate::first_steps::{first_step, hold_steps};
 use crate::flat_rims::FlatRims;
@@ -23,7 +23,7 @@ use crate::propagating::UNKNOWN;
 use crate::rim_tile::RimTile;
 use crate::settling::starts_of;
 use crate::tile_place::TilePlace;
-use lattice::{DIRECTIONS, rim_index};
+use lattice::DIRECTIONS;
 use std::alloc::{AllocError, Global};
 
 impl FlatRims {
@@ -48,8 +48,9 @@ impl FlatRims {
             → AreFlatRims m level self.old.height self.old.tiles.items → AreFlowsOf m m.side tile.corner flows.items) }
         ensures rims { (tile : RimTile) (m : Mosaic) (level : Point → ℤ) → slice_get self.old.tiles.items t ≡ Some tile → IsMosaic m → AreFilledLevels (terrain m) level → IsTileOf m tile.corner filled.now
             → AreFlatRims m level self.old.height self.old.tiles.items → AreFlatRims m level self.new.height self.new.tiles.items }
-        ensures orders { OnOk result ((tile : RimTile) (m : Mosaic) (level : Point → ℤ) → slice_get self.old.tiles.items t ≡ Some tile → IsMosaic m → AreFilledLevels (terrain m) level → IsTileOf m tile.corner filled.now
-            → AreFlatRims m level self.old.height self.old.tiles.items → AreFirstSteps m level self.old.height self.old.tiles.items t → AreFirstSteps m level self.new.height self.new.tiles.items (t + 1)) }
+        ensures orders { OnOk result ((tile : RimTile) (m : Mosaic) (level : Point → ℤ) (told : List Bool) → slice_get self.old.tiles.items t ≡ Some tile → IsMosaic m → AreFilledLevels (terrain m) level → IsTileOf m tile.corner filled.now
+            → AreFlatRims m level self.old.height self.old.tiles.items → AreFirstSteps m level self.old.height self.old.tiles.items told → AreFirstSteps m level self.new.height self.new.tiles.items (slice_set told t true)) }
+        ensures kept { IfErr result (λ _. self.new ≡ self.old) }
     {
         let mut flows = vec![in alloc; Flow::Unknown; filled.levels().len()]?;
         let tile = &self.tiles[t];
@@ -59,8 +60,8 @@ impl FlatRims {
         }
         let corner = tile.corner;
         let local = local_flows(alloc, filled)?;
-        let starts = starts_of(alloc, tile, filled, &local)?;
-        let distances = spread(alloc, filled, &local, starts)?;
+        let starts = starts_of(alloc, self.height, tile, filled, &local)?;
+        let distances = spread_from_few(alloc, filled, &local, starts)?;
         tell_inside(self.height, filled, &local, &distances, &mut flows);
         hold_steps(
             self.height,
@@ -72,28 +73,11 @@ impl FlatRims {
         );
         Ok(flows)
     }
-
-    /// Where the points on the rim of the tile with this place drain that lie on flats of the level, a byte for each sample of
-    /// the tile.
-    pub(crate) fn tell_rim(&self, alloc: Global, t: usize) -> Result<Vec<Flow>, AllocError>
-        requires place { t < length self.now.tiles.items }
-        requires settled { AreNoneWaiting self.now.tiles.items }
-        ensures { IfOk result (λ flows. (tile : RimTile) (m : Mosaic) (level : Point → ℤ) → slice_get self.now.tiles.items t ≡ Some tile → IsMosaic m → AreFilledLevels (terrain m) level
-            → AreFlatRims m level self.now.height self.now.tiles.items → AreFirstSteps m level self.now.height self.now.tiles.items (length self.now.tiles.items) → AreFlowsOf m m.side tile.corner flows.items) }
-    {
-        let tile = &self.tiles[t];
-        let side = tile.side;
-        let mut flows = vec![in alloc; Flow::Unknown; side.area() as usize]?;
-        for number in 0..side.rim() {
-            flows[rim_index(side, number) as usize] = rim_flow(tile, number as usize);
-        }
-        Ok(flows)
-    }
 }
 
-// Where the point on the tile's rim with this number drains, by the first step that is held. Unknown where there is none, and
-// where its distance, or one more, isn't known.
-fn rim_flow(tile: &RimTile, number: usize) -> Flow
+/// Where the point on the tile's rim with this number drains, by the first step that is held. Unknown where there is none, and
+/// where its distance, or one more, isn't known.
+pub(crate) fn rim_flow(tile: &RimTile, number: usize) -> Flow
     requires { number < 4 * (tile.now.side - 1) }
     ensures { IsRimByte tile.now number result }
 {

@@ -1,5 +1,5 @@
 //! Where the points of one tile drain, in a byte each.
-ghost use Rattle.std.specs.Prelude.{◌≡◌, ◌*◌, ◌<◌, ◌⊎◌, IsTrue, IfOk, OnOk, IfSome, MatchOption, Option, Some, length, slice_index_or, slice_set};
+ghost use Rattle.std.specs.Prelude.{◌≡◌, ◌*◌, ◌<◌, IsTrue, IfOk, OnOk, IfSome, MatchOption, Option, Some, None, length, slice_index_or, slice_set};
 ghost use Rattle.lattice.specs.Corners.{Corner};
 ghost use Rattle.lattice.specs.Lattice.{IsIndexOf};
 ghost use Rattle.lattice.specs.Mosaic.{Mosaic, IsMosaic};
@@ -9,7 +9,7 @@ ghost use Rattle.lattice.specs.declared.direction.Dir.{Dir};
 ghost use Rattle.lattice.proofs.Interior.{IsInner as IsOffRim};
 ghost use Rattle.flow_d8.specs.DeepFlows.{IsInsideFlat, IsInRimFlat, is_off_rim, AreLearntTo};
 ghost use Rattle.flow_d8.specs.Filled.{is_deep};
-ghost use Rattle.flow_d8.specs.Flow.{way_of, AreTaken};
+ghost use Rattle.flow_d8.specs.Flow.{way_of, AreTakenTo};
 ghost use Rattle.flow_d8.specs.LevelsAround.{OnLevels};
 ghost use Rattle.flow_d8.specs.Places.{back_of};
 ghost use Rattle.flow_d8.specs.Way.{IsWay};
@@ -103,6 +103,7 @@ impl TileFlows {
         ensures side { self.new.side ≡ self.old.side }
         ensures corner { self.new.corner ≡ self.old.corner }
         ensures flows { (m : Mosaic) → AreFlowsOf m side corner flows.now → AreFlowsIn m self.old → AreFlowsIn m self.new }
+        ensures taken { self.old.side ≡ side → self.old.corner ≡ corner → length flows.now ≡ side * side → AreTakenTo (side * side) flows.now self.old.flows.items self.new.flows.items }
     {
         if self.side == side && self.corner == corner && flows.len() == self.flows.len() {
             take_told(flows, &mut self.flows);
@@ -181,7 +182,7 @@ fn learn_tile(alloc: Global, filled: &Filled, flows: &mut [Flow]) -> Result<(), 
 // Takes over the bytes that tell something.
 fn take_told(from: &[Flow], flows: &mut [Flow])
     requires { length from.now ≡ length flows.old }
-    ensures { AreTaken from.now flows.old flows.new }
+    ensures { AreTakenTo (length from.now) from.now flows.old flows.new }
 {
     for index in 0..flows.len() {
         take_at(from[index], index, flows);
@@ -191,7 +192,8 @@ fn take_told(from: &[Flow], flows: &mut [Flow])
 #[inline(always)]
 fn take_at(told: Flow, index: usize, flows: &mut [Flow])
     requires { index < length flows.old }
-    ensures { (flows.new ≡ flows.old) ⊎ (flows.new ≡ slice_set flows.old index told) }
+    ensures told { (way : Option Dir) → way_of told ≡ Some way → flows.new ≡ slice_set flows.old index told }
+    ensures silent { way_of told ≡ None → flows.new ≡ flows.old }
 {
     if told != Flow::Unknown {
         flows[index] = told;

@@ -1,11 +1,14 @@
-use Rattle.std.proofs.Common.{◌≡◌, ◌↔◌, ℤ, Bool, false, IsTrue, IsFalse, inl, inr, sym, ◌∙◌, arith, true≢false}
+use Rattle.std.proofs.Common.{◌≡◌, ◌↔◌, ◌<◌, ℤ, ◌≤ℤ◌, ◌<ℤ◌, Bool, false, IsTrue, IsFalse, inl, inr, sym, ◌∙◌, arith, true≢false, subst, w16, to_z, of_z}
+use Rattle.std.specs.Int.Signed.{mag}
 use Rattle.std.specs.Prelude.{slice_index_or, if◌then◌else◌}
 use Rattle.std.proofs.lemmas.Bool.{cases_Bool, cond-true, cond-false}
+use Rattle.std.proofs.lemmas.Int.{ints, to_z-of_z}
 use Rattle.lattice.specs.declared.point.Point.{Point}
+use Rattle.lattice.specs.declared.direction.Dir.{Dir}
 use Rattle.lattice.specs.Terrain.{Terrain}
 use Rattle.lattice.specs.Mosaic.{void}
-use Rattle.flow_d8.specs.LevelGrid.{IsLevelGrid}
-use Rattle.flow_d8.proofs.SteepestStep.{beside_void, beside_level, steepest_of_all, none_of_all}
+use Rattle.flow_d8.specs.LevelGrid.{level_beside, IsLevelGrid}
+use Rattle.flow_d8.proofs.SteepestStep.{none_lower, all_beside, beside_void, beside_level, steepest_of_all, none_of_all}
 use Rattle.flow_d8.proofs.local_flow.local_flow_at.Goals as goal
 
 module _ (t : Terrain Point) (level : Point → ℤ) (p : Point) where
@@ -21,8 +24,20 @@ module _ (t : Terrain Point) (level : Point → ℤ) (p : Point) where
     | inr apart ↦ apart
   ]
 
+above_void : (a : ℤ) → mag a < 32768 → (a ≡ void → ⊥) → void <ℤ a
+above_void a fits some = grind (arith, ints)
+
 pub returns-then-is_void : goal.returns-then-is_void
 returns-then-is_void c t level p levelled shown = void_of t level p (slice_index_or c.args.levels.now c.args.k void) levelled shown.here (c.is_void.ensures.0 c.if-is_void.true)
+
+pub returns-then-is_none_below : goal.returns-then-is_none_below
+returns-then-is_none_below c t level p levelled shown =
+    let here = ground_of t level p (slice_index_or c.args.levels.now c.args.k void) shown.here c.is_void.result c.is_void.ensures c.if-is_void.false in
+    let is : to_z w16 (of_z w16 c.at.result) ≡ level p = to_z-of_z w16 c.at.result (record { sfits = c.at.type_inv }) ∙ c.at.ensures ∙ sym here.1 in
+    let high : (d : Dir) → level p ≤ℤ level_beside t level p d = λ d.
+    subst (λ v. v ≤ℤ level_beside t level p d) is (subst (λ v. to_z w16 (of_z w16 c.at.result) ≤ℤ v) (shown.around here.0 d) (c.is_none_below.ensures c.if-is_none_below.true d)) in
+    let some : void <ℤ level p = subst (λ v. void <ℤ v) (c.at.ensures ∙ sym here.1) (above_void c.at.result c.at.type_inv (λ none. levelled.some p here.0 (sym (c.at.ensures ∙ sym here.1) ∙ none))) in
+    (here.0, none_lower t level p levelled high, all_beside t level p levelled high some)
 
 pub returns-then-best-gt0 : goal.returns-then-best-gt0
 returns-then-best-gt0 c t level p levelled shown =

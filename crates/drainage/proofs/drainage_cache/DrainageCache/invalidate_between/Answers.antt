@@ -1,6 +1,6 @@
 use Rattle.std.proofs.Common.{◌≡◌, refl, sym, ◌∙◌, subst}
 use Rattle.std.specs.Prelude.{Option, Some}
-use Rattle.drainage.specs.Between.{are_left, are_right, drain_right, directions_right}
+use Rattle.drainage.specs.Between.{are_left, are_right, drain_right, directions_right, flats_right}
 use Rattle.drainage.specs.Spared.{IsNoHigher}
 use Rattle.drainage.specs.declared.tile_cache.TileCache.{TileCache}
 use Rattle.drainage.proofs.drainage_cache.DrainageCache.invalidate_between.Goals as goal
@@ -17,4 +17,5 @@ returns-clause-right c m new differ still right =
       tile_cache = c.invalidate_between.ensures.right m new differ still (subst (are_right m) (sym held) right.tile_cache);
       flows = subst (drain_right new) (sym c.invalidate_ways.ensures.flows) tt;
       directions = subst (directions_right new) (sym c.invalidate_ways.ensures.directions) tt;
+      wide_flats = subst (flats_right new) (sym c.invalidate_ways.ensures.wide_flats) tt;
     }

@@ -4,7 +4,7 @@ use Rattle.lattice.specs.declared.height.Height.TheVariants.{At}
 use Rattle.lattice.specs.Height.{height_of}
 use Rattle.drainage.specs.Spared.{IsSetTo}
 use Rattle.std.specs.Prelude.{Option, Some}
-use Rattle.drainage.specs.Between.{are_noted, are_right, drain_right, directions_right}
+use Rattle.drainage.specs.Between.{are_noted, are_right, drain_right, directions_right, flats_right}
 use Rattle.drainage.specs.declared.tile_cache.TileCache.{TileCache}
 use Rattle.drainage.proofs.drainage_cache.DrainageCache.note_changed.Goals as goal
 
@@ -28,6 +28,7 @@ returns-clause-right c m new differ was set right =
       tile_cache = c.note_changed.ensures.right m new differ before to (subst (are_right m) (sym held) right.tile_cache);
       flows = subst (drain_right new) (sym c.invalidate_ways.ensures.flows) tt;
       directions = subst (directions_right new) (sym c.invalidate_ways.ensures.directions) tt;
+      wide_flats = subst (flats_right new) (sym c.invalidate_ways.ensures.wide_flats) tt;
     }
 
 pub returns-clause-still : goal.returns-clause-still
@@ -37,4 +38,5 @@ returns-clause-still c m right =
       tile_cache = c.note_changed.ensures.still m (subst (are_right m) (sym held) right.tile_cache);
       flows = subst (drain_right m) (sym c.invalidate_ways.ensures.flows) tt;
       directions = subst (directions_right m) (sym c.invalidate_ways.ensures.directions) tt;
+      wide_flats = subst (flats_right m) (sym c.invalidate_ways.ensures.wide_flats) tt;
     }

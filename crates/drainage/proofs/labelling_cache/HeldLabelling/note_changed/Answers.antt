@@ -1,4 +1,4 @@
-use Rattle.std.proofs.Common.{◌≡◌, true, false, refl, sym, ap, subst, rules}
+use Rattle.std.proofs.Common.{◌≡◌, true, false, refl, sym, subst, rules}
 use Rattle.std.proofs.lemmas.Bool.{both_ways}
 use Rattle.lattice.specs.Corners.{Corner}
 use Rattle.lattice.specs.Lattice.{IsIndexOf, holds}

@@ -1,4 +1,4 @@
-use Rattle.std.proofs.Common.{rules, w16, ◌≡◌, ◌-◌, ◌*◌, ℕ, ℤ, List, refl, sym, ap, ◌∙◌, subst, arith}
+use Rattle.std.proofs.Common.{rules, w16, to_z, of_z, ◌≡◌, ◌-◌, ◌*◌, ℕ, ℤ, List, refl, sym, ap, ◌∙◌, subst, arith}
 use Rattle.std.specs.Vec.{with_items}
 use Rattle.std.proofs.lemmas.Int.{to_z-of_z}
 use Rattle.std.proofs.lemmas.List.{with_items_is}
@@ -23,8 +23,8 @@ same_found n n' c c' h h' ls ls' ds ds' found n_is c_is h_is ls_is ds_is was =
     subst (λ x. AreRimDistancesTo x c' h' ls' ds' (4 * (x - 1)) found) n_is (subst (λ x. AreRimDistancesTo n x h' ls' ds' (4 * (n - 1)) found) c_is (subst (λ x. AreRimDistancesTo n c x ls' ds' (4 * (n - 1)) found) h_is
     (subst (λ (x : List ℤ). AreRimDistancesTo n c h x ds' (4 * (n - 1)) found) ls_is (subst (λ (x : List ℕ). AreRimDistancesTo n c h ls x (4 * (n - 1)) found) ds_is was))))
 
-pub spread-requires-clause-starts : goal.spread-requires-clause-starts
-spread-requires-clause-starts c = known_starts c.index-3.result.now c.args.filled.now c.deref.result.now (subst (AreLocalFlows c.args.filled.now) (sym c.deref.ensures.value) c.in_ok-local.ensures) c.in_ok-starts.starts.items c.in_ok-starts.ensures
+pub spread_from_few-requires-clause-starts : goal.spread_from_few-requires-clause-starts
+spread_from_few-requires-clause-starts c = known_starts _ c.index-3.result.now c.args.filled.now c.deref.result.now (subst (AreLocalFlows c.args.filled.now) (sym c.deref.ensures.value) c.in_ok-local.ensures) c.in_ok-starts.starts.items c.in_ok-starts.ensures
 
 pub returns-clause-rims : goal.returns-clause-rims
 returns-clause-rims c tile listed m level is filled there of was =
@@ -39,8 +39,8 @@ returns-clause-rims c tile listed m level is filled there of was =
     let found = c.in_ok-found.found.items in
     let first : c.index.result.now ≡ tile = c.index.ensures ∙ get_or_from_slice_get old t tile c.index.result.now listed in
     let third : c.index-3.result.now ≡ tile = c.index-3.ensures ∙ get_or_from_slice_get old t tile c.index-3.result.now listed in
-    let begun : AreStartsOf tile f local starts =
-    subst (λ (o : RimTile). AreStartsOf o f local starts) third (subst (λ (ls : List LocalFlow). AreStartsOf c.index-3.result.now f ls starts) c.deref.ensures.value c.in_ok-starts.ensures) in
+    let begun : AreStartsOf height tile f local starts =
+    subst (λ (o : RimTile). AreStartsOf height o f local starts) third (subst (λ h. AreStartsOf h c.index-3.result.now f local starts) (to_z-of_z w16 height (search rules)) (subst (λ (ls : List LocalFlow). AreStartsOf (to_z w16 (of_z w16 height)) c.index-3.result.now f ls starts) c.deref.ensures.value c.in_ok-starts.ensures)) in
     let all : AreRimDistancesTo m.side tile.corner height f.levels distances (4 * (m.side - 1)) found =
     same_found c.side-side.result m.side c.index.result.now.corner tile.corner _ height c.levels.result.now f.levels c.deref-3.result.now distances found (c.side-side.ensures ∙ of.side) (ap (λ (o : RimTile). o.corner) first)
     (to_z-of_z w16 height (search rules)) c.levels.ensures.value c.deref-3.ensures.value c.in_ok-found.ensures in

@@ -23,14 +23,14 @@ returns-then-ne-clause-flows c tile m level at is filled of rims =
     absurd (true≢false (sym c.if-ne.true ∙ c.ne.ensures ∙ ap not (eq-eqb c.index-tile.result.now.side c.side.result same)))
 
 pub returns-then-ne-clause-orders : goal.returns-then-ne-clause-orders
-returns-then-ne-clause-orders c tile m level at is filled of rims =
+returns-then-ne-clause-orders c tile m level told at is filled of rims =
     let tile_is : c.index-tile.result.now ≡ tile = c.index-tile.ensures ∙ get_or_from_slice_get c.args.self.now.tiles.items c.args.t tile c.index-tile.result.now at in
     let same : c.index-tile.result.now.side ≡ c.side.result = ap (λ (u : RimTile). u.side) tile_is ∙ rims.sides c.args.t tile at ∙ sym of.side ∙ sym c.side.ensures in
     absurd (true≢false (sym c.if-ne.true ∙ c.ne.ensures ∙ ap not (eq-eqb c.index-tile.result.now.side c.side.result same)))
 
-pub spread-requires-clause-starts : goal.spread-requires-clause-starts
-spread-requires-clause-starts c =
-    known_starts c.index-tile.result.now c.args.filled.now c.deref.result.now (subst (AreLocalFlows c.args.filled.now) (sym c.deref.ensures.value) c.in_ok-local.ensures) c.in_ok-starts.starts.items c.in_ok-starts.ensures
+pub spread_from_few-requires-clause-starts : goal.spread_from_few-requires-clause-starts
+spread_from_few-requires-clause-starts c =
+    known_starts _ c.index-tile.result.now c.args.filled.now c.deref.result.now (subst (AreLocalFlows c.args.filled.now) (sym c.deref.ensures.value) c.in_ok-local.ensures) c.in_ok-starts.starts.items c.in_ok-starts.ensures
 
 -- the level is read as it is
 height_is : (c : goal.After-drop-local-2) → to_z w16 (of_z w16 c.args.self.now.height) ≡ c.args.self.now.height
@@ -53,8 +53,8 @@ module _ (c : goal.After-drop-local-2) where
   abbrev IsStep : Point → ℕ → Type 0
   IsStep = IsRimStep f distances c.args.self.now.height tile_now.corner (4 * (f.side - 1))
 
-  begun : AreStartsOf tile_now f local c.in_ok-starts.starts.items
-  begun = subst (λ xs. AreStartsOf tile_now f xs c.in_ok-starts.starts.items) c.deref.ensures.value c.in_ok-starts.ensures
+  begun : AreStartsOf c.args.self.now.height tile_now f local c.in_ok-starts.starts.items
+  begun = subst (λ h. AreStartsOf h tile_now f local c.in_ok-starts.starts.items) (height_is c) (subst (λ xs. AreStartsOf (to_z w16 (of_z w16 c.args.self.now.height)) tile_now f xs c.in_ok-starts.starts.items) c.deref.ensures.value c.in_ok-starts.ensures)
 
   bytes : AreInnerBytes f distances local c.args.self.now.height (with_items c.in_ok-flows.flows c.tell_inside.new.flows).items
   bytes =
@@ -85,18 +85,18 @@ pub returns-clause-flows : goal.returns-clause-flows
 returns-clause-flows c tile m level at is filled of rims =
     let tile_is : tile_now c ≡ tile = c.index-tile.ensures ∙ get_or_from_slice_get c.args.self.now.tiles.items c.args.t tile (tile_now c) at in
     inner_told m is level filled c.args.self.now.height c.args.self.now.tiles.items rims c.requires.settled c.args.t tile at (f c) of (local c) c.in_ok-local.ensures c.in_ok-starts.starts.items
-    (subst (λ (u : RimTile). AreStartsOf u (f c) (local c) c.in_ok-starts.starts.items) tile_is (begun c)) (distances c) c.in_ok-distances.ensures c.requires.one (with_items c.in_ok-flows.flows c.tell_inside.new.flows).items (bytes c)
+    (subst (λ (u : RimTile). AreStartsOf c.args.self.now.height u (f c) (local c) c.in_ok-starts.starts.items) tile_is (begun c)) (distances c) c.in_ok-distances.ensures c.requires.one (with_items c.in_ok-flows.flows c.tell_inside.new.flows).items (bytes c)
 
 pub returns-clause-rims : goal.returns-clause-rims
 returns-clause-rims c tile m level at is filled of rims =
     let tile_is : tile_now c ≡ tile = c.index-tile.ensures ∙ get_or_from_slice_get c.args.self.now.tiles.items c.args.t tile (tile_now c) at in
     still_flat m is level filled c.args.self.now.height c.args.self.now.tiles.items rims c.requires.settled c.args.t tile at (f c) of (local c) c.in_ok-local.ensures c.in_ok-starts.starts.items
-    (subst (λ (u : RimTile). AreStartsOf u (f c) (local c) c.in_ok-starts.starts.items) tile_is (begun c)) (distances c) c.in_ok-distances.ensures (with_items c.args.self.now.tiles c.hold_steps.new.tiles).items
+    (subst (λ (u : RimTile). AreStartsOf c.args.self.now.height u (f c) (local c) c.in_ok-starts.starts.items) tile_is (begun c)) (distances c) c.in_ok-distances.ensures (with_items c.args.self.now.tiles c.hold_steps.new.tiles).items
     (subst (λ (u : RimTile). AreHeld (IsRimStep (f c) (distances c) c.args.self.now.height u.corner (4 * ((f c).side - 1))) c.args.self.now.tiles.items (with_items c.args.self.now.tiles c.hold_steps.new.tiles).items) tile_is (held c))
 
 pub returns-clause-orders : goal.returns-clause-orders
-returns-clause-orders c tile m level at is filled of rims firsts =
+returns-clause-orders c tile m level told at is filled of rims firsts =
     let tile_is : tile_now c ≡ tile = c.index-tile.ensures ∙ get_or_from_slice_get c.args.self.now.tiles.items c.args.t tile (tile_now c) at in
     more_first m is level filled c.args.self.now.height c.args.self.now.tiles.items rims c.requires.settled c.args.t tile at (f c) of (local c) c.in_ok-local.ensures c.in_ok-starts.starts.items
-    (subst (λ (u : RimTile). AreStartsOf u (f c) (local c) c.in_ok-starts.starts.items) tile_is (begun c)) (distances c) c.in_ok-distances.ensures (with_items c.args.self.now.tiles c.hold_steps.new.tiles).items
-    (subst (λ (u : RimTile). AreHeld (IsRimStep (f c) (distances c) c.args.self.now.height u.corner (4 * ((f c).side - 1))) c.args.self.now.tiles.items (with_items c.args.self.now.tiles c.hold_steps.new.tiles).items) tile_is (held c)) firsts
+    (subst (λ (u : RimTile). AreStartsOf c.args.self.now.height u (f c) (local c) c.in_ok-starts.starts.items) tile_is (begun c)) (distances c) c.in_ok-distances.ensures (with_items c.args.self.now.tiles c.hold_steps.new.tiles).items
+    (subst (λ (u : RimTile). AreHeld (IsRimStep (f c) (distances c) c.args.self.now.height u.corner (4 * ((f c).side - 1))) c.args.self.now.tiles.items (with_items c.args.self.now.tiles c.hold_steps.new.tiles).items) tile_is (held c)) told firsts

@@ -1,4 +1,4 @@
-use Rattle.std.proofs.Common.{rules, ◌≡◌, List, sym, ◌∙◌, subst}
+use Rattle.std.proofs.Common.{rules, ◌≡◌, List, length, sym, ◌∙◌, subst}
 use Rattle.std.proofs.lemmas.List.{with_items_is}
 use Rattle.lattice.specs.Corners.{Corner}
 use Rattle.flow_d8.specs.DeepFlows.{AreFlowsOf}
@@ -15,4 +15,4 @@ returns-then-flows-len-clause-flows c m are was =
     let right = subst (λ (b : Corner). AreFlowsOf m tile.side b from) (sym corner) (subst (λ n. AreFlowsOf m n c.args.corner from) (sym side) are) in
     let before = subst (λ (l : List Flow). AreFlowsOf m tile.side tile.corner l) (sym c.deref_mut.ensures.value) was in
     let written = with_items_is tile.flows c.take_told.new.flows (c.take_told.ensures.whole ∙ c.deref_mut.ensures.len) in
-    subst (λ (l : List Flow). AreFlowsOf m tile.side tile.corner l) (sym written) (taken_right m tile.side tile.corner from c.deref_mut.result.now c.take_told.new.flows c.take_told.ensures right before)
+    subst (λ (l : List Flow). AreFlowsOf m tile.side tile.corner l) (sym written) (taken_right m tile.side tile.corner (length from) from c.deref_mut.result.now c.take_told.new.flows c.take_told.ensures right before)
