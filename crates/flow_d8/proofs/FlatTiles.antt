@@ -46,6 +46,6 @@ module _ (flat : WideFlat) (c : Corner) (k : ℕ) where
       let below = slice_get_within flat.rims.tiles.items untold.place untold.tile untold.listed in
       true≢false (sym (was untold.place untold.tile (omega (arith, all, below)) untold.listed untold.corner) ∙ untold.untold)
 
--- a tile is told where its place is read so
-pub told_as_read : (told : List Bool) (t : ℕ) (v : Bool) → t < length told → v ≡ get_or told t v → v ≡ true → is_told told t ≡ true
-told_as_read told t v within read so = sym (get_or_default told t v false within) ∙ sym read ∙ so
+-- whether a tile is told is what is read at its place
+pub told_as_read : (told : List Bool) (t : ℕ) (v b : Bool) → t < length told → v ≡ get_or told t v → v ≡ b → is_told told t ≡ b
+told_as_read told t v b within read so = sym (get_or_default told t v false within) ∙ sym read ∙ so

@@ -7,7 +7,9 @@ ghost use Rattle.flow_d8.specs.Drainage.{AreFilledLevels};
 ghost use Rattle.lattice.specs.declared.point.Point.{Point};
 ghost use Rattle.flow_d8.specs.Crossing.{AreLocalFlows};
 ghost use Rattle.flow_d8.specs.Spread.{AreSpread};
-ghost use Rattle.flow_d8.specs.FirstSteps.{AreInnerBytes, IsInnerByte, IsRimByte};
+ghost use Rattle.flow_d8.specs.FirstSteps.{AreInnerBytes, IsInnerByte, IsRimByte, IsHeldStep};
+ghost use Rattle.flow_d8.specs.Flow.{way_of};
+ghost use Rattle.lattice.specs.declared.direction.Dir.{Dir};
 ghost use Rattle.flow_d8.specs.DeepFlows.{IsTileOf, AreFlowsOf};
 ghost use Rattle.flow_d8.specs.FlatRims.{AreFlatRims, AreNoneWaiting, AreFirstSteps};
 ghost use Rattle.flow_d8.specs.declared.rim_tile.RimTile.{RimTile};
@@ -50,6 +52,7 @@ impl FlatRims {
             → AreFlatRims m level self.old.height self.old.tiles.items → AreFlatRims m level self.new.height self.new.tiles.items }
         ensures orders { OnOk result ((tile : RimTile) (m : Mosaic) (level : Point → ℤ) (told : List Bool) → slice_get self.old.tiles.items t ≡ Some tile → IsMosaic m → AreFilledLevels (terrain m) level → IsTileOf m tile.corner filled.now
             → AreFlatRims m level self.old.height self.old.tiles.items → AreFirstSteps m level self.old.height self.old.tiles.items told → AreFirstSteps m level self.new.height self.new.tiles.items (slice_set told t true)) }
+        ensures whole { IfOk result (λ flows. length flows.items ≡ length filled.now.levels) }
         ensures kept { IfErr result (λ _. self.new ≡ self.old) }
     {
         let mut flows = vec![in alloc; Flow::Unknown; filled.levels().len()]?;
@@ -79,7 +82,8 @@ impl FlatRims {
 /// where its distance, or one more, isn't known.
 pub(crate) fn rim_flow(tile: &RimTile, number: usize) -> Flow
     requires { number < 4 * (tile.now.side - 1) }
-    ensures { IsRimByte tile.now number result }
+    ensures byte { IsRimByte tile.now number result }
+    ensures told { (d : Dir) → IsHeldStep tile.now number d → way_of result ≡ Some (Some d) }
 {
     let order = tile.orders[number];
     if order >= 8 || tile.distances[number] >= UNKNOWN - 1 {

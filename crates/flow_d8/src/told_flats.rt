@@ -1,9 +1,13 @@
 //! What was learnt of a wide flat: over which tiles it goes, and where the points of one of them drain.
-ghost use Rattle.std.specs.Prelude.{◌≡◌, ◌<◌, ◌*◌, ◌-◌, ◌↔◌, IsTrue, IsFalse, IfOk, IfErr, IfSome, IfNone, Some, length, slice_get};
-ghost use Rattle.lattice.specs.Lattice.{Holds};
+ghost use Rattle.std.specs.Prelude.{◌≡◌, ℕ, true, ◌<◌, ◌*◌, ◌-◌, ◌↔◌, IsTrue, IfOk, IfErr, IfSome, IfNone, Some, length, slice_get};
+ghost use Rattle.lattice.specs.Block.{is_rim, rim_number};
+ghost use Rattle.lattice.specs.Lattice.{Holds, IsIndexOf};
 ghost use Rattle.lattice.specs.Mosaic.{Mosaic, IsMosaic};
+ghost use Rattle.lattice.specs.declared.direction.Dir.{Dir};
+ghost use Rattle.lattice.specs.declared.point.Point.{Point};
+ghost use Rattle.flow_d8.specs.Flow.{way_of};
 ghost use Rattle.flow_d8.specs.DeepFlows.{IsTileOf, AreFlowsOf};
-ghost use Rattle.flow_d8.specs.FirstSteps.{IsReadyByte};
+ghost use Rattle.flow_d8.specs.FirstSteps.{IsReadyByte, IsHeldStep};
 ghost use Rattle.flow_d8.specs.FlatRims.{IsListed, AreNoneWaiting, is_told};
 ghost use Rattle.flow_d8.specs.WideFlat.{AreRims, IsOver, IsUntold, AreToldAround};
 ghost use Rattle.flow_d8.specs.declared.rim_tile.RimTile.{RimTile};
@@ -80,7 +84,7 @@ impl WideFlat {
 
     /// Whether all of its tiles that hold the point are told.
     pub(crate) fn are_told_around(&self, side: Side, point: Point) -> bool
-        ensures { IsTrue result → AreToldAround self.now side point }
+        ensures { IsTrue result ↔ AreToldAround self.now side point }
     {
         let corners = holders(side, point);
         for corner in corners.as_slice() {
@@ -93,7 +97,7 @@ impl WideFlat {
 
     // Whether the flat goes over the corner's tile, and that isn't told.
     fn is_untold(&self, corner: Corner) -> bool
-        ensures { IsFalse result → IsUntold self.now corner → ⊥ }
+        ensures { IsTrue result ↔ IsUntold self.now corner }
     {
         for t in 0..self.told.len() {
             if self.rims.tiles[t].corner == corner && !self.told[t] {
@@ -115,6 +119,7 @@ impl WideFlat {
         requires one { length filled.now.levels ≡ filled.now.side * filled.now.side }
         ensures flat { (m : Mosaic) (tile : RimTile) → slice_get self.old.rims.tiles.items t ≡ Some tile → IsMosaic m → IsTileOf m tile.corner filled.now → IsLearntFlat m self.old → IsLearntFlat m self.new }
         ensures flows { IfOk result (λ flows. (m : Mosaic) (tile : RimTile) → slice_get self.old.rims.tiles.items t ≡ Some tile → IsMosaic m → IsTileOf m tile.corner filled.now → IsLearntFlat m self.old → AreFlowsOf m m.side tile.corner flows.items) }
+        ensures whole { IfOk result (λ flows. length flows.items ≡ length filled.now.levels) }
         ensures kept { IfErr result (λ _. self.new ≡ self.old) }
     {
         let flows = self.rims.tell(alloc, t, filled)?;
@@ -126,7 +131,8 @@ impl WideFlat {
     /// the tile: of those that told tiles alone hold.
     pub(crate) fn tell_rim(&self, alloc: Global, t: usize) -> Result<Vec<Flow>, AllocError>
         requires place { t < length self.now.rims.tiles.items }
-        ensures { IfOk result (λ flows. (m : Mosaic) (tile : RimTile) → slice_get self.now.rims.tiles.items t ≡ Some tile → IsMosaic m → IsLearntFlat m self.now → AreFlowsOf m m.side tile.corner flows.items) }
+        ensures flows { IfOk result (λ flows. (m : Mosaic) (tile : RimTile) → slice_get self.now.rims.tiles.items t ≡ Some tile → IsMosaic m → IsLearntFlat m self.now → AreFlowsOf m m.side tile.corner flows.items) }
+        ensures whole { IfOk result (λ flows. (tile : RimTile) → slice_get self.now.rims.tiles.items t ≡ Some tile → length flows.items ≡ tile.side * tile.side) }
     {
         let tile = &self.rims.tiles[t];
         let side = tile.side;
@@ -140,7 +146,9 @@ impl WideFlat {
     // Where the point on the tile's rim with this number drains. Unknown where a tile that holds it isn't told.
     fn ready_flow(&self, tile: &RimTile, number: u32) -> Flow
         requires { number < 4 * (tile.now.side - 1) }
-        ensures { IsReadyByte tile.now (AreToldAround self.now tile.now.side) number result }
+        ensures byte { IsReadyByte tile.now (AreToldAround self.now tile.now.side) number result }
+        ensures told { (p : Point) (e : ℕ) (d : Dir) → IsIndexOf tile.now.side tile.now.corner p e → is_rim tile.now.side e ≡ true → rim_number tile.now.side e ≡ number → AreToldAround self.now tile.now.side p
+            → IsHeldStep tile.now number d → way_of result ≡ Some (Some d) }
     {
         let side = tile.side;
         let _low = side.edge();

@@ -11,4 +11,4 @@ learn_flows-requires-clause-flows g c honest =
     let is = g.met.L.FilledLevels.is_mosaic c.args.levels.now c.args.source.now honest in
     let got = tile_there c.args.flat.now.rims.tiles.items c.in-Some.t c.in-Some.ensures.some in
     subst (λ (l : List Flow). AreFlowsOf m m.side c.args.corner l) (sym c.deref.ensures.value)
-    (subst (λ (b : Corner). AreFlowsOf m m.side b c.in_ok-flows.flows.items) (c.in-Some.ensures.tile got.0 got.1) (c.in_ok-flows.ensures m got.0 got.1 is (c.requires.flat honest)))
+    (subst (λ (b : Corner). AreFlowsOf m m.side b c.in_ok-flows.flows.items) (c.in-Some.ensures.tile got.0 got.1) (c.in_ok-flows.ensures.flows m got.0 got.1 is (c.requires.flat honest)))

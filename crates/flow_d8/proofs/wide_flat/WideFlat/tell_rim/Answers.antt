@@ -13,10 +13,10 @@ pub loop-number-init : goal.loop-number-init
 loop-number-init c = no_bytes c.index-tile.result.now (AreToldAround c.args.self.now c.index-tile.result.now.side) c.area.result c.in_ok-flows.flows.items (c.in_ok-flows.ensures.items_if_clones_equal (λ y same. same))
 
 pub loop-number-preserved : goal.loop-number-preserved
-loop-number-preserved c = byte_at c.index-tile.result.now (AreToldAround c.args.self.now c.index-tile.result.now.side) c.loop-number.number c.rim_index.result c.rim_index.ensures c.loop-number.flows.items c.ready_flow.result c.ready_flow.ensures c.loop-number.invariant
+loop-number-preserved c = byte_at c.index-tile.result.now (AreToldAround c.args.self.now c.index-tile.result.now.side) c.loop-number.number c.rim_index.result c.rim_index.ensures c.loop-number.flows.items c.ready_flow.result c.ready_flow.ensures.byte c.loop-number.invariant
 
-pub returns : goal.returns
-returns c m tile at is flat =
+pub returns-clause-flows : goal.returns-clause-flows
+returns-clause-flows c m tile at is flat =
     let self = c.args.self.now in
     let tiles = self.rims.tiles.items in
     let tile_is : c.index-tile.result.now ≡ tile = c.index-tile.ensures ∙ get_or_from_slice_get tiles c.args.t tile c.index-tile.result.now at in
