@@ -102,6 +102,11 @@ module _ (tile : RimTile) where
       pub byte : IsRimByte r flow
       pub ready : (way : Option Dir) (p : Point) (e : ℕ) → way_of flow ≡ Some way → IsIndexOf tile.side tile.corner p e → is_rim tile.side e ≡ true → rim_number tile.side e ≡ r → IsReady p
 
+    -- of the ready points on the rim with numbers below k, for which a step is held, the bytes tell it
+    abbrev pub AreRimsToldTo : ℕ → List Flow → Type 0
+    AreRimsToldTo k flows = (p : Point) (e : ℕ) (d : Dir) → rim_number tile.side e < k → IsIndexOf tile.side tile.corner p e → is_rim tile.side e ≡ true → IsReady p → IsHeldStep (rim_number tile.side e) d
+        → way_of (slice_index_or flows e Unknown) ≡ Some (Some d)
+
     -- .. of samples on the rim, and no other byte tells anything
     pub record AreRimBytes (flows : List Flow) : Type 0 where
       pub rim : (e : ℕ) (way : Option Dir) → way_of (slice_index_or flows e Unknown) ≡ Some way → is_rim tile.side e ≡ true

@@ -7,7 +7,7 @@ ghost use Rattle.lattice.specs.declared.direction.Dir.{Dir};
 ghost use Rattle.lattice.specs.declared.point.Point.{Point};
 ghost use Rattle.flow_d8.specs.Flow.{way_of};
 ghost use Rattle.flow_d8.specs.DeepFlows.{IsTileOf, AreFlowsOf};
-ghost use Rattle.flow_d8.specs.FirstSteps.{IsReadyByte, IsHeldStep};
+ghost use Rattle.flow_d8.specs.FirstSteps.{IsReadyByte, IsHeldStep, AreRimsToldTo};
 ghost use Rattle.flow_d8.specs.FlatRims.{IsListed, AreNoneWaiting, is_told};
 ghost use Rattle.flow_d8.specs.WideFlat.{AreRims, IsOver, IsUntold, AreToldAround};
 ghost use Rattle.flow_d8.specs.declared.rim_tile.RimTile.{RimTile};
@@ -133,6 +133,7 @@ impl WideFlat {
         requires place { t < length self.now.rims.tiles.items }
         ensures flows { IfOk result (λ flows. (m : Mosaic) (tile : RimTile) → slice_get self.now.rims.tiles.items t ≡ Some tile → IsMosaic m → IsLearntFlat m self.now → AreFlowsOf m m.side tile.corner flows.items) }
         ensures whole { IfOk result (λ flows. (tile : RimTile) → slice_get self.now.rims.tiles.items t ≡ Some tile → length flows.items ≡ tile.side * tile.side) }
+        ensures told { IfOk result (λ flows. (tile : RimTile) → slice_get self.now.rims.tiles.items t ≡ Some tile → AreRimsToldTo tile (AreToldAround self.now tile.side) (4 * (tile.side - 1)) flows.items) }
     {
         let tile = &self.rims.tiles[t];
         let side = tile.side;
