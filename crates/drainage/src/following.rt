@@ -1,5 +1,6 @@
 //! Where water goes from a point, by the levels on its way alone.
-ghost use Rattle.std.specs.Prelude.{◌≡◌, ◌≤◌, ◌↔◌, ℤ, IsTrue, IsOk, IfOk, IfErr, IsErrOf, length};
+ghost use Rattle.std.specs.Prelude.{◌≡◌, ◌≢◌, ◌*◌, ◌≤◌, ◌↔◌, ℤ, IsTrue, IsOk, IfOk, IfErr, IsErrOf, length};
+ghost use Rattle.std.specs.List.{AllPairs};
 ghost use Rattle.lattice.specs.Limits.{most_tiles};
 ghost use Rattle.lattice.specs.declared.point.Point.{Point};
 ghost use Rattle.lattice.specs.Height.{height_of};
@@ -56,6 +57,9 @@ pub fn direction<S: Labellings>(
 
 /// The flow path of the point: the point, then the one that its direction leads to, and so on, to one where water
 /// leaves the mosaic. What was held for the samples serves, and it is refused, as a direction is.
+///
+/// Whatever was read, it has no point twice, and no more points than the present tiles have samples: where it would, what
+/// was read is no mosaic's.
 pub fn trace<S: Labellings>(
     alloc: Global,
     samples: &mut S,
@@ -66,6 +70,8 @@ pub fn trace<S: Labellings>(
     requires few { length (S.corners samples.old) ≤ most_tiles }
     ensures path { S.is_honest samples.new → IfOk result (λ path. (level : Point → ℤ) → AreFilledLevels (terrain (S.mosaic samples.old)) level
         → IsFlowPath (terrain (S.mosaic samples.old)) level point path.items) }
+    ensures once { IfOk result (λ path. AllPairs (λ p q. p ≢ q) path.items) }
+    ensures short { IfOk result (λ path. length path.items ≤ length (S.corners samples.old) * (S.side_of samples.old * S.side_of samples.old)) }
     ensures on_ground { S.is_honest samples.new → IsOk result → IsTrue (is_ground (S.mosaic samples.old) point) }
     ensures outside { IsErrOf result Outside ↔ IsHeldByNone (S.side_of samples.old) (S.corners samples.old) point }
     ensures void { S.is_honest samples.new → IsErrOf result Void → height_of (S.mosaic samples.old) point ≡ height_is.Void }
@@ -73,8 +79,9 @@ pub fn trace<S: Labellings>(
     ensures asked { Asked S.Samples samples.old samples.new result }
     ensures held { IsHeldFor S.Samples samples.new held.new }
 {
+    let most = samples.count() * samples.side().area() as usize;
     check_ground(samples, point)?;
-    flow_d8::trace(alloc, held, samples, point)
+    flow_d8::trace(alloc, held, samples, point, most)
 }
 
 impl<S: Labellings> FilledLevels<S> for DrainageCache {

@@ -1,13 +1,13 @@
 -- Calls one after another.
-use Rattle.std.proofs.Common.{◌∙◌, refl, sym, subst, Ok, Err}
-use Rattle.std.specs.Prelude.{◌≡◌, Option, Some, None, Result, IfOk, IfErr, IfSome}
+use Rattle.std.proofs.Common.{◌∙◌, refl, sym, subst, Ok, Err, ⊎_elim}
+use Rattle.std.specs.Prelude.{◌≡◌, ◌⊎◌, Option, Some, None, Result, IfOk, IfErr, IfSome}
 use Rattle.flow_d8.specs.declared.filled_levels.FilledLevels.{Ghosts}
 use Rattle.lattice.specs.Mosaic.{Mosaic}
 use Rattle.lattice.specs.Ground.{terrain}
 use Rattle.flow_d8.specs.LevelsAround.{OnLevels}
 use Rattle.flow_d8.specs.Asking.{Asks, IsAsked}
 use Rattle.lattice.specs.declared.refusal.Refusal.{Refusal}
-use Rattle.lattice.specs.declared.refusal.Refusal.TheVariants.{NoMemory}
+use Rattle.lattice.specs.declared.refusal.Refusal.TheVariants.{NoMemory, Damaged}
 use Rattle.flow_d8.specs.declared.flats.Flats.{Flats}
 use Rattle.flow_d8.specs.Flats.{AreMeasured, AreFlatsOf}
 
@@ -29,6 +29,12 @@ module _ {L S : Type 0} (g : Ghosts L S) where
   pub out_of_memory : {T : Type 0} (s s' : L) (a b : S) (r : Result T Refusal) → Asks g s a s' b → g.fits s' b → g.keeps s a s' b → g.refuses s a s' b NoMemory → IfErr r (λ e. e ≡ NoMemory) → IsAsked g s a s' b r
   out_of_memory s s' a b (Ok x) asks fits kept refuses is = record { asks = asks; fits = fits; keeps = kept; refusal = tt }
   out_of_memory s s' a b (Err e) asks fits kept refuses is = refused s s' a b e asks fits (subst (g.refuses s a s' b) (sym is) refuses)
+
+  -- memory ran out after questions that were answered, or they can't be those of a mosaic
+  pub stopped : {T : Type 0} (Q : Type 0) (s s' : L) (a b : S) (e r : Refusal) → e ≡ r → Asks g s a s' b → g.fits s' b → g.refuses s a s' b NoMemory → (Q → g.refuses s a s' b Damaged) → (r ≡ NoMemory) ⊎ ((r ≡ Damaged) × Q) → IsAsked {T = T} g s a s' b (Err e)
+  stopped Q s s' a b e r same asks fits full wrong why =
+      refused s s' a b e asks fits (subst (g.refuses s a s' b) (sym same)
+      (⊎_elim (λ is. subst (g.refuses s a s' b) (sym is) full) (λ is. subst (g.refuses s a s' b) (sym is.0) (wrong is.1)) why))
 
   -- one question more, that was refused
   pub refused_then : {T U : Type 0} (refuses_on : (s s' s'' : L) (a b c : S) (r : Refusal) → g.keeps s a s' b → g.refuses s' b s'' c r → g.refuses s a s'' c r) (s s' s'' : L) (a b c : S) (e r : Refusal) → e ≡ r

@@ -2,6 +2,7 @@ pub mod Compass
 pub mod Unique
 pub mod Exists
 pub mod FlowPaths
+pub mod OnePath
 pub mod FlatCertificate
 pub mod SteepestStep
 pub mod Spreading

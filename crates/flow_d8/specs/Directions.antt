@@ -8,9 +8,9 @@ use Rattle.lattice.specs.Stepping.{fits_point}
 use Rattle.std.specs.List.{AllAdjacentBelow}
 use Rattle.lattice.specs.Corners.{Corner}
 use Rattle.lattice.specs.Lattice.{IsBefore}
-use Rattle.lattice.specs.Mosaic.{Mosaic}
+use Rattle.lattice.specs.Mosaic.{Mosaic, IsMosaic}
 use Rattle.lattice.specs.Ground.{is_ground, terrain}
-use Rattle.flow_d8.specs.Drainage.{IsFlatDistance, IsDirection}
+use Rattle.flow_d8.specs.Drainage.{AreFilledLevels, IsFlatDistance, IsDirection}
 use Rattle.flow_d8.specs.Feeders.{LeadsBy}
 use Rattle.flow_d8.specs.Filled.{is_held, number_of}
 use Rattle.flow_d8.specs.Propagation.{unknown, distance_at}
@@ -55,3 +55,7 @@ pub record AreDirectionsOf (m : Mosaic) (level : Point → ℤ) (d : Directions)
   pub direction : (p : Point) → IsTrue (is_ground m p) → IsDirection (terrain m) level p (direction_in d p)
   pub distance : (p : Point) → IsTrue (is_ground m p) → (k : ℕ) × ((distance_in d p ≡ Some k) × IsFlatDistance (terrain m) level p k)
   pub elsewhere : (p : Point) → IsFalse (is_ground m p) → (direction_in d p ≡ None) × (distance_in d p ≡ None)
+
+-- no mosaic has these directions
+abbrev pub AreOfNoMosaic : Directions → Type 0
+AreOfNoMosaic d = (m : Mosaic) (level : Point → ℤ) → IsMosaic m → AreFilledLevels (terrain m) level → AreDirectionsOf m level d → ⊥

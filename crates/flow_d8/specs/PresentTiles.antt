@@ -1,8 +1,12 @@
 -- The present tiles of a mosaic.
-use Rattle.std.specs.Prelude.{List, map}
+use Rattle.std.specs.Prelude.{ℕ, ◌*◌, List, length, map}
 use Rattle.lattice.specs.Corners.{Corner}
 use Rattle.lattice.specs.Mosaic.{Mosaic, Tile}
 
 -- the corners of the present tiles, in order
 abbrev pub corners_of : Mosaic → List Corner
 corners_of m = map (λ (t : Tile). t.corner) m.tiles
+
+-- how many samples they have
+abbrev pub sample_count : Mosaic → ℕ
+sample_count m = length (corners_of m) * (m.side * m.side)

@@ -1,25 +1,28 @@
 //! Where each point drains.
-ghost use Rattle.std.specs.Prelude.{◌≡◌, ℕ, ℤ, ◌+◌, ◌*◌, ◌%◌, ◌<◌, ◌≤◌, ◌↔◌, [], Some, None, true, IsTrue, IsFalse, IfOk, IfErr, IfSome, IfNone, SomeIff, MatchOption, Contains, length, map, slice_index_or};
+ghost use Rattle.std.specs.Prelude.{◌≡◌, ◌≢◌, ◌⊎◌, ℕ, ℤ, ◌+◌, ◌*◌, ◌%◌, ◌<◌, ◌≤◌, ◌↔◌, [], Some, None, true, IsTrue, IsFalse, IfOk, IfErr, IfSome, IfNone, SomeIff, MatchOption, Contains, length, map, slice_index_or};
+ghost use Rattle.std.specs.List.{AllPairs};
 ghost use Rattle.lattice.specs.declared.point.Point.{Point};
 ghost use Rattle.lattice.specs.declared.direction.Dir.{Dir};
 ghost use Rattle.lattice.specs.Steps.{step, directions as lattice_directions};
 ghost use Rattle.lattice.specs.Stepping.{fits_point};
-ghost use Rattle.lattice.specs.declared.refusal.Refusal.TheVariants.{NoMemory};
+ghost use Rattle.lattice.specs.declared.refusal.Refusal.TheVariants.{NoMemory, Damaged};
 ghost use Rattle.lattice.specs.Mosaic.{Mosaic, IsMosaic};
 ghost use Rattle.lattice.specs.Ground.{is_ground, terrain};
 ghost use Rattle.flow_d8.specs.Feeders.{AreFeedersOf};
 ghost use Rattle.flow_d8.specs.FlowPath.{IsFlowPath};
 ghost use Rattle.flow_d8.specs.Filled.{is_held, is_deep, number_of};
 ghost use Rattle.flow_d8.specs.Propagation.{unknown, distance_at};
-ghost use Rattle.flow_d8.specs.Directions.{AreDirectionsOf, AreWhole, DrainsTo, IsKnown, direction_in, distance_in, number_beside};
+ghost use Rattle.flow_d8.specs.Directions.{AreDirectionsOf, AreOfNoMosaic, AreWhole, DrainsTo, IsKnown, direction_in, distance_in, number_beside};
 ghost use Rattle.flow_d8.specs.Places.{back_of};
 
 use crate::filled::lies_deep;
+use crate::flow_path::add;
 use crate::numbering::number_of;
 use crate::propagating::UNKNOWN;
+use crate::seen::Seen;
 use arrayvec::ArrayVec;
 use lattice::{Corner, DIRECTIONS, Dir, Point, Refusal, Side, neighbour};
-use std::alloc::{AllocError, Global};
+use std::alloc::Global;
 use std::marker::Model;
 
 /// Where each ground point of a mosaic drains, and how far it lies from the way out of its flat.
@@ -239,28 +242,35 @@ impl Directions {
     }
 
     /// The point's flow path: the point, then the one that it drains to, and so on, to one that drains off the mosaic.
-    /// Empty where the point isn't ground. NoMemory is the only refusal.
+    /// Empty where the point isn't ground. It is refused for want of memory, or with Damaged where these are no mosaic's
+    /// directions. Whatever they are, it has no point twice.
     pub fn trace(&self, point: Point) -> Result<Vec<Point>, Refusal>
         ensures path { IfOk result (λ path. (m : Mosaic) (level : Point → ℤ) → IsMosaic m → AreDirectionsOf m level self.now → IsTrue (is_ground m point) → IsFlowPath (terrain m) level point path.items) }
         ensures elsewhere { IfOk result (λ path. (m : Mosaic) (level : Point → ℤ) → AreDirectionsOf m level self.now → IsFalse (is_ground m point) → path.items ≡ []) }
-        ensures refusal { IfErr result (λ r. r ≡ NoMemory) }
+        ensures once { IfOk result (λ path. AllPairs (λ p q. p ≢ q) path.items) }
+        ensures refusal { IfErr result (λ r. (r ≡ NoMemory) ⊎ ((r ≡ Damaged) × AreOfNoMosaic self.now)) }
     {
         let alloc = *self.distances.allocator();
         if self.known_number(point).is_none() {
             return Ok(Vec::new(alloc));
         }
-        Ok(self.follow(alloc, point)?)
+        self.follow(alloc, point)
     }
 
     // The point, the one that it drains to, and so on.
-    fn follow(&self, alloc: Global, point: Point) -> Result<Vec<Point>, AllocError>
-        ensures { IfOk result (λ path. (m : Mosaic) (level : Point → ℤ) → IsMosaic m → AreDirectionsOf m level self.now → IsTrue (is_ground m point) → IsFlowPath (terrain m) level point path.items) }
+    fn follow(&self, alloc: Global, point: Point) -> Result<Vec<Point>, Refusal>
+        requires { IsKnown self.now point }
+        ensures path { IfOk result (λ path. (m : Mosaic) (level : Point → ℤ) → IsMosaic m → AreDirectionsOf m level self.now → IsTrue (is_ground m point) → IsFlowPath (terrain m) level point path.items) }
+        ensures once { IfOk result (λ path. AllPairs (λ p q. p ≢ q) path.items) }
+        ensures refusal { IfErr result (λ r. (r ≡ NoMemory) ⊎ ((r ≡ Damaged) × AreOfNoMosaic self.now)) }
     {
+        let most = self.drains().len();
         let mut path = Vec::new(alloc);
-        path.push(point)?;
+        let mut seen = Seen::new(alloc);
+        add(&mut path, &mut seen, point, most)?;
         let mut last = point;
         'steps: while let Some(to) = self.next(last) {
-            path.push(to)?;
+            add(&mut path, &mut seen, to, most)?;
             last = to;
         }
         Ok(path)

@@ -54,6 +54,7 @@ pub(crate) fn path_across_flat<S, L: FilledLevels<S>>(
     start(point, &mut seen, &mut nodes)?;
     spread(point, 0, height, around, &mut seen, &mut nodes)?;
     let mut head = 1;
+    // A point is reached once, and has a level: so there are no more nodes than samples, whatever the levels are.
     'nodes: while head < nodes.len() {
         if nodes.len() > most {
             return Ok(None);

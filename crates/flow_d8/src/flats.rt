@@ -153,6 +153,7 @@ fn find<S, L: FilledLevels<S>>(
     let mut ends = Vec::new(alloc);
     start(point, &mut seen, &mut nodes)?;
     let mut head = 0;
+    // A point is reached once, and has a level: so there are no more nodes than samples, whatever the levels are.
     'nodes: while head < nodes.len() {
         if nodes.len() > most {
             return Ok(None);
@@ -180,6 +181,7 @@ fn measure<S, L: FilledLevels<S>>(
 {
     let mut queue = ends;
     let mut head = 0;
+    // A point joins the queue as its distance is found, which is open then and never again.
     'queue: while head < queue.len() {
         reach_around(levels, source, flats, head, &mut queue)?;
         head += 1;

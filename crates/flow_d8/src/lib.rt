@@ -16,7 +16,7 @@
 //!
 //! ```
 //! let way = direction_at(alloc, &mut levels, &mut source, point)?;  // None where water leaves the mosaic
-//! let path = trace(alloc, &mut levels, &mut source, point)?;
+//! let path = trace(alloc, &mut levels, &mut source, point, most)?;       // Damaged where it would have more points
 //! ```
 //!
 //! A direction looks at the levels around the point and, where that lies on a flat, around the points of the flat, the

@@ -27,6 +27,8 @@ impl Seen {
     pub(crate) fn see(&mut self, point: Point) -> Result<bool, AllocError>
         ensures fresh { IfOk result (λ fresh. fresh ≡ not (has_seen self.old point)) }
         ensures seen { OnOk result ((p : Point) → IsTrue (has_seen self.new p) → (p ≡ point) ⊎ IsTrue (has_seen self.old p)) }
+        ensures here { OnOk result (IsTrue (has_seen self.new point)) }
+        ensures kept { OnOk result ((p : Point) → IsTrue (has_seen self.old p) → IsTrue (has_seen self.new p)) }
     {
         if self.points.get(point).is_some() {
             return Ok(false);

@@ -51,9 +51,10 @@ module _ (t : Terrain Point) (level : Point → ℤ) (p : Point) where
     })
   ]
 
-  -- the last that waits is marked, and what feeds it waits
+  -- the last that waits is marked, and what feeds it waits, where that isn't found yet
   module _ (Marked Marked' : Point → Type 0) (rest more : List Point) (at : Point)
-      (mark : (x : Point) → Marked' x ↔ (Marked x ⊎ (x ≡ at))) (exactly : (x : Point) → Contains more x ↔ IsFeeder t level x at) (so_far : IsSearching Marked (rest ++ at ∷ [])) where
+      (mark : (x : Point) → Marked' x ↔ (Marked x ⊎ (x ≡ at))) (feed : (x : Point) → Contains more x → IsFeeder t level x at)
+      (all : (x : Point) → IsFeeder t level x at → (Marked x ⊎ Contains (rest ++ at ∷ []) x) ⊎ Contains more x) (so_far : IsSearching Marked (rest ++ at ∷ [])) where
     kept : (x : Point) → Marked x ⊎ Contains (rest ++ at ∷ []) x → Marked' x ⊎ Contains (rest ++ more) x
     kept x (inl marked) = inl ((mark x).1 (inl marked))
     kept x (inr has) = ⊎_elim (λ before. inr (Contains-append_left rest more x before)) (λ this. inl ((mark x).1 (inr (sym this)))) (Contains-push_cases rest at x has)
@@ -61,7 +62,7 @@ module _ (t : Terrain Point) (level : Point → ℤ) (p : Point) where
     -- what is found now was found before, or feeds the point
     was : (x : Point) → Marked' x ⊎ Contains (rest ++ more) x → (Marked x ⊎ Contains (rest ++ at ∷ []) x) ⊎ IsFeeder t level x at
     was x (inl marked) = inl (⊎_elim (λ old. inl old) (λ this. inr (subst (Contains (rest ++ at ∷ [])) (sym this) (Contains-push rest at))) ((mark x).0 marked))
-    was x (inr has) = ⊎_elim (λ before. inl (inr (Contains-append_left rest (at ∷ []) x before))) (λ new. inr ((exactly x).0 new)) (Contains-append_cases rest more x has)
+    was x (inr has) = ⊎_elim (λ before. inl (inr (Contains-append_left rest (at ∷ []) x before))) (λ new. inr (feed x new)) (Contains-append_cases rest more x has)
 
     waited : Marked at ⊎ Contains (rest ++ at ∷ []) at
     waited = inr (Contains-push rest at)
@@ -73,7 +74,7 @@ module _ (t : Terrain Point) (level : Point → ℤ) (p : Point) where
       elsewhere = λ x found. so_far.elsewhere at waited;
       closed = λ q x marked feeds. ⊎_elim
           (λ old. kept x (so_far.closed q x old feeds))
-          (λ this. inr (Contains-append_right rest more x ((exactly x).1 (subst (IsFeeder t level x) this feeds))))
+          (λ this. ⊎_elim (kept x) (λ new. inr (Contains-append_right rest more x new)) (all x (subst (IsFeeder t level x) this feeds)))
           ((mark q).0 marked);
     }
 

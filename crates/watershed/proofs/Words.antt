@@ -4,6 +4,7 @@ use Rattle.std.specs.Prelude.{nat_abs, unwrap_or, Contains}
 use Rattle.std.specs.Int.{int_div_euclid, int_rem_euclid, bit_at}
 use Rattle.std.proofs.lemmas.Int.{ints}
 use Rattle.std.proofs.lemmas.Bool.{cases_Bool, cases_eq}
+use Rattle.std.proofs.lemmas.Bool.Decides.{eqb_tells}
 use Rattle.std.proofs.lemmas.Nat.Bits.{bit_at-zero}
 use Rattle.lattice.specs.declared.point.Point.{Point}
 use Rattle.lattice.specs.Ground.{same_point}
@@ -49,6 +50,9 @@ same_or_other p q = elim (cases_Bool (same_point p q)) [
   | inl same ↦ inl (same_point_says p q same)
   | inr other ↦ inr (λ same. true≢false (sym (same_point_from p q same) ∙ other))
 ]
+
+pub marked_or_not : (marks : Marks) (p : Point) → IsMarked marks p ⊎ (IsMarked marks p → ⊥)
+marked_or_not marks p = ⊎_elim (λ is. inl is.1) (λ other. inr other.1) (eqb_tells (bit_at (bits_of marks (word_of p)) (bit_of p)) 1)
 
 -- the point with this bit is set in its word
 module _ (old new : Marks) (point : Point) (bits : ℕ) (set : IsSet old.words new.words (word_of point) bits) where

@@ -49,6 +49,11 @@ pub(crate) trait Feeders {
     /// What is told after calls was told before them.
     ghost told_before: { (a b : Self) (m : Mosaic) (level : Point → ℤ) → follows a b → tells b m level → tells a m level };
 
+    /// To do nothing follows, and keeps it.
+    ghost follows_itself: { (a : Self) → is_ready a → follows a a };
+
+    ghost keeps_itself: { (a : Self) → keeps a a };
+
     /// Calls after one another follow.
     ghost follows_on: { (a b c : Self) → follows a b → follows b c → follows a c };
 

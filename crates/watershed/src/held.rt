@@ -38,6 +38,10 @@ impl<'a> Feeders for Held<'a> {
 
     ghost told_before = { λ a b m level same told. (told.0, subst (AreDirectionsOf m level) same told.1) };
 
+    ghost follows_itself = { λ a ready. refl };
+
+    ghost keeps_itself = { λ a. refl };
+
     ghost follows_on = { λ a b c first then. then ∙ first };
 
     ghost keeps_on = { λ a b c first then. then ∙ first };

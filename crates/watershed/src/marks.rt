@@ -34,6 +34,13 @@ impl Marks {
         }
     }
 
+    /// Whether the point is marked.
+    pub(crate) fn has(&self, point: Point) -> bool
+        ensures { IsTrue result ↔ IsMarked self.now point }
+    {
+        has_bit(self.bits(word_of(point)), bit_of(point))
+    }
+
     /// The point is marked from then on.
     pub(crate) fn mark(&mut self, point: Point) -> Result<(), AllocError>
         requires { AreListed self.old }

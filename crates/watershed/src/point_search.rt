@@ -1,7 +1,7 @@
 //! The search up the flow paths over filled levels that are asked for point by point: from the point to those whose
 //! direction leads to one that is found.
 ghost use Rattle.std.specs.Prelude.{◌≡◌, ◌↔◌, ◌+◌, ◌<◌, ◌≤◌, ◌++◌, [], ◌∷◌, Some, None, IsTrue, IsFalse, IfOk, IfSome, OnOk, Contains};
-ghost use Rattle.std.proofs.Common.{◌∙◌};
+ghost use Rattle.std.proofs.Common.{◌∙◌, refl};
 ghost use Rattle.arrayvec.specs.ArrayVec.{array_vec_len};
 ghost use Rattle.lattice.specs.declared.point.Point.{Point};
 ghost use Rattle.lattice.specs.declared.direction.Dir.{Dir};
@@ -125,6 +125,10 @@ impl<'a, 'b, 'c, S, L: FilledLevels<S>> Feeders for Asked<'a, 'b, 'c, S, L> {
     }
 
     ghost told_before = { λ a b m level follows told. (follows.2.honest told.0, (told.1.0 ∙ follows.2.mosaic told.0, told.1.1)) };
+
+    ghost follows_itself = { λ a ready. (refl, refl, record { honest = λ honest. honest; mosaic = λ honest. refl }, ready.0) };
+
+    ghost keeps_itself = { λ a. L.keeps_itself a.levels.now a.source.now };
 
     ghost follows_on = { λ a b c first then. (then.0 ∙ first.0, then.1 ∙ first.1, record { honest = λ honest. first.2.honest (then.2.honest honest); mosaic = λ honest. then.2.mosaic honest ∙ first.2.mosaic (then.2.honest honest) }, then.3) };
 

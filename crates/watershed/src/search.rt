@@ -1,11 +1,12 @@
 //! The search up the flow paths: from a point to those that drain straight to it, and so on.
-ghost use Rattle.std.specs.Prelude.{◌≡◌, ℤ, [], ◌∷◌, if◌then◌else◌, IsFalse, IfOk, IfErr, IfSome, OnOk};
+ghost use Rattle.std.specs.Prelude.{◌≡◌, ◌⊎◌, ◌↔◌, ℤ, [], ◌∷◌, if◌then◌else◌, IsFalse, IfOk, IfErr, IfSome, OnOk, Contains};
 ghost use Rattle.lattice.specs.declared.point.Point.{Point};
 ghost use Rattle.lattice.specs.declared.refusal.Refusal.TheVariants.{NoMemory};
 ghost use Rattle.lattice.specs.Mosaic.{Mosaic, IsMosaic};
 ghost use Rattle.lattice.specs.Ground.{is_ground, terrain};
 ghost use Rattle.flow_d8.specs.FlowPath.{IsInWatershed};
 ghost use Rattle.flow_d8.specs.Directions.{AreDirectionsOf};
+ghost use Rattle.flow_d8.specs.Feeders.{IsFeeder};
 ghost use Rattle.watershed.specs.Runs.{AreRuns};
 ghost use Rattle.watershed.specs.Search.{AreUpstream};
 ghost use Rattle.watershed.specs.Marks.{IsMarked, AreListed};
@@ -14,6 +15,7 @@ use crate::feeders::Feeders;
 use crate::held::Held;
 use crate::marks::Marks;
 use crate::runs::Run;
+use arrayvec::ArrayVec;
 use flow_d8::Directions;
 use lattice::{Point, Refusal};
 use std::alloc::Global;
@@ -52,7 +54,7 @@ pub(crate) fn search<F: Feeders>(
 }
 
 // The points whose flow path contains the point; None where they are more than `most`. Each drains to one alone, so that
-// none is found twice.
+// none is found twice. Where what is asked tells otherwise, the search goes on from each point once all the same, and ends.
 fn upstream<F: Feeders>(
     alloc: Global,
     asked: &mut F,
@@ -74,11 +76,35 @@ fn upstream<F: Feeders>(
             return Ok(None);
         }
         left -= 1;
-        marks.mark(at)?;
-        let feeders = asked.feeders(alloc, at)?;
+        let feeders = visit(alloc, asked, &mut marks, at)?;
         waiting.extend_from_slice(feeders.as_slice())?;
     }
     Ok(Some(marks))
+}
+
+// Marks the point. The points that drain straight to it; none where it was marked already.
+fn visit<F: Feeders>(
+    alloc: Global,
+    asked: &mut F,
+    marks: &mut Marks,
+    point: Point,
+) -> Result<ArrayVec<Point, 8>, Refusal>
+    requires ready { F.is_ready asked.old }
+    requires listed { AreListed marks.old }
+    ensures again { IfOk result (λ found. IsMarked marks.old point → found.items ≡ []) }
+    ensures feeders { IfOk result (λ found. (IsMarked marks.old point → ⊥) → (m : Mosaic) (level : Point → ℤ) → F.tells asked.new m level → (x : Point) → Contains found.items x ↔ IsFeeder (terrain m) level x point) }
+    ensures marked { OnOk result ((p : Point) → IsMarked marks.new p ↔ (IsMarked marks.old p ⊎ (p ≡ point))) }
+    ensures listed { OnOk result (AreListed marks.new) }
+    ensures ready { OnOk result (F.is_ready asked.new) }
+    ensures follows { F.follows asked.old asked.new }
+    ensures keeps { OnOk result (F.keeps asked.old asked.new) }
+    ensures refusal { IfErr result (F.refuses asked.old asked.new) }
+{
+    if marks.has(point) {
+        return Ok(ArrayVec::new());
+    }
+    marks.mark(point)?;
+    asked.feeders(alloc, point)
 }
 
 // The point, where it is ground.

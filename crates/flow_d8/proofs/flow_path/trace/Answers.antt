@@ -8,10 +8,17 @@ use Rattle.flow_d8.proofs.Asked.{on_ok}
 use Rattle.flow_d8.proofs.Nearby.{found_ground}
 use Rattle.flow_d8.proofs.flow_path.trace.Goals as goal
 
+pub follow-requires-clause-ground : goal.follow-requires-clause-ground
+follow-requires-clause-ground g c honest =
+    let some : is_some c.in_ok-level.field-0 ≡ true = c.is_none.ensures ∙ ap not c.if-is_none.false in
+    subst (λ (n : Mosaic). IsTrue (is_ground n c.args.point)) (sym (c.level.ensures.mosaic honest))
+    (found_ground (g.L.FilledLevels.mosaic c.args.levels.now c.args.source.now) c.args.point c.in_ok-level.field-0 some (c.in_ok-level.ensures.level honest))
+
 pub returns-clause-path : goal.returns-clause-path
 returns-clause-path g c honest =
-    subst (λ (n : Mosaic). IfOk c.follow.result (λ path. IsTrue (is_ground n c.args.point) → OnLevels n (λ level. IsFlowPath (terrain n) level c.args.point path.items)))
-    (c.level.ensures.mosaic (c.follow.ensures.asked.asks.honest honest)) (c.follow.ensures.path honest)
+    let m = g.L.FilledLevels.mosaic c.args.levels.now c.args.source.now in
+    on_ok _ (λ path. IsTrue (is_ground m c.args.point) → OnLevels m (λ level. IsFlowPath (terrain m) level c.args.point path.items)) c.follow.result (λ path is solid. is)
+    (subst (λ (n : Mosaic). IfOk c.follow.result (λ path. OnLevels n (λ level. IsFlowPath (terrain n) level c.args.point path.items))) (c.level.ensures.mosaic (c.follow.ensures.asked.asks.honest honest)) (c.follow.ensures.path honest))
 
 pub returns-clause-elsewhere : goal.returns-clause-elsewhere
 returns-clause-elsewhere g c honest =

@@ -1,10 +1,11 @@
-use Rattle.std.proofs.Common.{◌≡◌, ◌+◌, List, [], ◌∷◌, ◌++◌, Option, length, vec_len, refl, sym, ap, ◌∙◌, subst, arith}
-use Rattle.std.specs.Prelude.{MatchOption}
+use Rattle.std.proofs.Common.{rules, ◌≡◌, ◌+◌, List, [], ◌∷◌, ◌++◌, inl, inr, ⊎_elim, Option, length, vec_len, refl, sym, ap, ◌∙◌, subst, arith}
+use Rattle.std.specs.Prelude.{MatchOption, Contains}
 use Rattle.std.specs.Option.{option_to_list}
 use Rattle.lattice.specs.declared.point.Point.{Point}
 use Rattle.lattice.specs.Ground.{terrain}
 use Rattle.watershed.specs.Marks.{IsMarked}
 use Rattle.watershed.proofs.Upstream.{IsSearching, begun, search_on, search_done}
+use Rattle.watershed.proofs.Words.{marked_or_not}
 use Rattle.watershed.proofs.search.upstream.Goals as goal
 
 pub search-init : goal.search-init
@@ -18,6 +19,10 @@ search-init g c =
       searching = λ m level tells. begun (terrain m) level c.args.point (IsMarked c.new-marks.result) c.in_ok-waiting.waiting.items c.new-marks.ensures.none (told.found m level tells);
     }
 
+none_in : (x : Point) (xs : List Point) → xs ≡ [] → Contains xs x → ⊥
+none_in x [] e has = absurd (omega (arith, has.1))
+none_in x (y ∷ xs) e has = absurd (omega (arith, ap length e))
+
 pub search-preserved : goal.search-preserved
 search-preserved g c =
     let laws = g.met.F.Feeders in
@@ -25,24 +30,34 @@ search-preserved g c =
     let told = c.in_ok-feeders.ensures in
     let first = c.args.asked.now in
     let old = c.search.asked in
-    let new = c.feeders.new.self in
+    let new = c.visit.new.asked in
     let p = c.args.point in
     let rest = c.pop.new.self.items in
     let more = c.in_ok-feeders.feeders.items in
     let at = c.in-Some.at in
+    let known = marked_or_not c.search.marks at in
     let was : c.search.waiting.items ≡ rest ++ at ∷ [] = c.pop.ensures.items ∙ ap (λ (o : Option Point). rest ++ option_to_list o) c.in-Some.is in
     let is : c.extend_from_slice.new.self.items ≡ rest ++ more = c.in_ok-extend_from_slice.ensures.items ∙ ap (λ (l : List Point). rest ++ l) c.as_slice.ensures.value in
     record {
       ready = told.ready;
       follows = laws.follows_on first old new inv.follows told.follows;
       keeps = laws.keeps_on first old new inv.keeps told.keeps;
-      listed = c.in_ok-mark.ensures.listed;
+      listed = told.listed;
       searching = λ m level tells.
           let before = laws.told_before old new m level told.follows tells in
-          subst (IsSearching (terrain m) level p (IsMarked c.mark.new.self)) (sym is)
-          (search_on (terrain m) level p (IsMarked c.search.marks) (IsMarked c.mark.new.self) rest more at c.in_ok-mark.ensures.marked (told.feeders m level tells)
-          (subst (IsSearching (terrain m) level p (IsMarked c.search.marks)) was (inv.searching m level before)));
+          let so_far = subst (IsSearching (terrain m) level p (IsMarked c.search.marks)) was (inv.searching m level before) in
+          subst (IsSearching (terrain m) level p (IsMarked c.visit.new.marks)) (sym is)
+          (search_on (terrain m) level p (IsMarked c.search.marks) (IsMarked c.visit.new.marks) rest more at told.marked
+          (λ x has. ⊎_elim (λ again. absurd (none_in x more (told.again again) has)) (λ first. (told.feeders first m level tells x).0 has) known)
+          (λ x feeds. ⊎_elim (λ again. inl (so_far.closed at x again feeds)) (λ first. inr ((told.feeders first m level tells x).1 feeds)) known)
+          so_far);
     }
+
+pub returns-in_err-extend_from_slice-clause-refusal : goal.returns-in_err-extend_from_slice-clause-refusal
+returns-in_err-extend_from_slice-clause-refusal g c =
+    let keeps = g.met.F.Feeders.keeps_on c.args.asked.now c.search.asked c.visit.new.asked c.search.invariant.keeps c.in_ok-feeders.ensures.keeps in
+    let out = g.met.F.Feeders.runs_out c.args.asked.now c.visit.new.asked keeps in
+    search rules
 
 none_left : (xs : List Point) → length xs ≡ 0 → xs ≡ []
 none_left [] e = refl
