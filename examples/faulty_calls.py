@@ -67,7 +67,7 @@ enum { SECTOR = 4096, SECTORS = 64 };
 enum state { ABSENT, CLEAN, DIRTY };
 
 struct cache {
-    unsigned char state[SECTORS];
+    unsigned char state[SECTORS], stuck[SECTORS];
     unsigned char bytes[SECTORS][SECTOR];
 };
 
@@ -90,14 +90,22 @@ static int is_kept(int file) {
     return !fstat(file, &is) && S_ISREG(is.st_mode) && is.st_size;
 }
 
+/* Whether the drive has never taken this sector. */
+static int is_hole(int file, int sector) {
+    unsigned char bytes[SECTOR], zeros[SECTOR] = {0};
+    return syscall(SYS_pread64, file, bytes, SECTOR, (off_t)sector * SECTOR) == SECTOR && !memcmp(bytes, zeros, SECTOR);
+}
+
 static int synced(int file) {
     static long made = 0;
     int ends = is_due("ENDING_SYNC", ++made), fails = ends || is_due("FAILING_SYNC", made);
+    fails = fails || (getenv("FAILING_FROM") && atol(getenv("FAILING_FROM")) <= made);
     if (is_due("UNMADE_SYNC", made)) _exit(0);
     for (int sector = 0; sector < SECTORS; sector++) {
         if (kept()->state[sector] != DIRTY) continue;
-        if (!fails) syscall(SYS_pwrite64, file, kept()->bytes[sector], SECTOR, (off_t)sector * SECTOR);
         kept()->state[sector] = CLEAN;
+        if (fails) kept()->stuck[sector] |= getenv("HOLES_STAY") && is_hole(file, sector);
+        else if (!kept()->stuck[sector]) syscall(SYS_pwrite64, file, kept()->bytes[sector], SECTOR, (off_t)sector * SECTOR);
     }
     if (ends || is_due("LAST_SYNC", made)) _exit(0);
     if (fails) errno = EIO;
@@ -127,7 +135,7 @@ ssize_t pwrite(int file, const void *bytes, size_t count, off_t at) {
 static int dropped(int file, int advice) {
     if (advice != POSIX_FADV_DONTNEED || !is_kept(file) || getenv("PAGES_STAY")) return 0;
     for (int sector = 0; sector < SECTORS; sector++)
-        if (kept()->state[sector] == CLEAN) kept()->state[sector] = ABSENT;
+        if (kept()->state[sector] == CLEAN) kept()->state[sector] = ABSENT, kept()->stuck[sector] = 0;
     return 0;
 }
 
@@ -212,8 +220,10 @@ class CachedCalls(Calls):
     def run(self, words, given, **added):
         """Runs the words. FAILING_SYNC is the number of a sync that fails, and leaves what it should have written as written;
         ENDING_SYNC that of one in which the program is killed, once it has failed so; LAST_SYNC of one behind which the program
-        ends, UNMADE_SYNC of one before which it does. With PAGES_STAY the system doesn't let go of the file when it is asked.
-        With SAME_BYTES_STAY_CLEAN a write of the bytes that are there already is none."""
+        ends, UNMADE_SYNC of one before which it does. From FAILING_FROM on each sync fails. With HOLES_STAY a sector that the
+        drive never took before a failed sync isn't written by later ones, until the system lets go of it, as on ext4. With
+        PAGES_STAY the system doesn't let go of the file when it is asked. With SAME_BYTES_STAY_CLEAN a write of the bytes
+        that are there already is none."""
         return self.run_with(words, given, {"CACHE": self.cache, **added})
 
     def cut_power(self):

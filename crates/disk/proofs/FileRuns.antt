@@ -3,7 +3,7 @@ use Rattle.std.proofs.Common.{◌≡◌, ◌≢◌, ℕ, suc, ◌≤◌, if◌th
 use Rattle.std.proofs.lemmas.Bool.Decides.{nat_tests}
 use Rattle.disk.specs.Disk.{Image}
 use Rattle.disk.specs.Memory.{State, put}
-use Rattle.disk.specs.FileCalls.{Answered, read, written, synced, after_answer, IsRight, state_after, IsHonest}
+use Rattle.disk.specs.FileCalls.{Answered, read, written, synced, forgotten, aside, after_answer, IsRight, state_after, IsHonest}
 use Rattle.disk.specs.FileLaws.{Step, reads, read_fails, writes, write_fails, syncs, sync_fails, next, answer, state_of_run, answers, shown, IsRecordOf, FalseReadsShow, LostWritesShow}
 
 put_same : (s : ℕ) (bytes : List ℕ) (image : Image) → put s bytes image s ≡ bytes
@@ -102,6 +102,8 @@ false_read images earlier s bytes differs honest = differs (honest.0.0 refl ∙ 
     here (read k ok given ∷ more) = refl
     here (written k ok given ∷ more) = refl
     here (synced ok ∷ more) = refl
+    here (forgotten ok ∷ more) = refl
+    here (aside kind ∷ more) = refl
 
 pub lost_write : LostWritesShow
 lost_write images earlier s given found differs honest = differs (honest.0.0 refl ∙ honest.1.0.0 refl)

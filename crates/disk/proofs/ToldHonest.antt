@@ -4,7 +4,7 @@ use Rattle.std.proofs.lemmas.Bool.{cases_eq, cases_lt}
 use Rattle.std.proofs.lemmas.Bool.Decides.{nat_tests}
 use Rattle.disk.specs.Disk.{Image, NoneNew, TornAt, Only}
 use Rattle.disk.specs.Memory.{State, MayLeave}
-use Rattle.disk.specs.FileCalls.{Answered, read, written, synced, after_answer, IsRight, state_after, LeftSince}
+use Rattle.disk.specs.FileCalls.{Answered, read, written, synced, forgotten, aside, after_answer, IsRight, state_after, LeftSince}
 use Rattle.disk.specs.FileLaws.{Tells, AreTold, IsTrueRecord}
 use Rattle.disk.specs.declared.disk.Disk.{Ghosts}
 
@@ -25,6 +25,8 @@ shown_is images [] = refl
 shown_is images (read s ok bytes ∷ earlier) = refl
 shown_is images (written s ok bytes ∷ earlier) = refl
 shown_is images (synced ok ∷ earlier) = refl
+shown_is images (forgotten ok ∷ earlier) = refl
+shown_is images (aside call ∷ earlier) = refl
 
 module _ {D : Type 0} (g : Ghosts D) (seen_may : (disk : D) → g.honest disk → g.may disk (g.seen disk))
     (only_now : (disk : D) (c : Image) → g.honest disk → g.since disk (g.moment disk) c → g.may disk c)
@@ -38,17 +40,23 @@ module _ {D : Type 0} (g : Ghosts D) (seen_may : (disk : D) → g.honest disk �
     is_right (written s ok bytes) told = (told.0, λ k other. ap (λ (i : Image). i k) here ∙ told.1 k other)
     is_right (synced true) told = let same = told.0 refl (g.seen new) now ∙ sym here in (λ yes. same, λ k shut. sym (ap (λ (i : Image). i k) same))
     is_right (synced false) told = (λ yes. absurd (cc yes), λ k shut. ap (λ (i : Image). i k) here ∙ held (g.seen old) was k shut ∙ sym (held (g.seen new) (told.1 (g.seen new) now) k shut))
+    is_right (forgotten ok) told = absurd told
+    is_right (aside call) told = absurd told
 
     holds : (call : Answered) → Tells g call old new → NoneNew (MayLeave (after_answer call (g.seen new) st)) (g.may new)
     holds (read s ok bytes) told c left k shut = held c (told.2 c left) k shut
     holds (written s ok bytes) told c left k shut = let torn = told.2 c left in torn_left st s ok bytes (g.seen new) c (torn.0, held torn.0 torn.1, torn.2) k shut
     holds (synced true) told c left k shut = ap (λ (i : Image). i k) (told.0 refl c left ∙ sym here)
     holds (synced false) told c left k shut = held c (told.1 c left) k shut
+    holds (forgotten ok) told c left k shut = absurd told
+    holds (aside call) told c left k shut = absurd told
 
     later : (call : Answered) → Tells g call old new → g.moment old ≤ g.moment new
     later (read s ok bytes) told = told.3.later
     later (written s ok bytes) told = told.3.later
     later (synced ok) told = told.2.later
+    later (forgotten ok) told = absurd told
+    later (aside call) told = absurd told
 
     -- what a stop since an earlier moment might have left
     gained : (call : Answered) → Tells g call old new → (t : ℕ) (c : Image) → t ≤ g.moment old → g.since new t c → g.since old t c ⊎ MayLeave (after_answer call (g.seen new) st) c
@@ -56,6 +64,8 @@ module _ {D : Type 0} (g : Ghosts D) (seen_may : (disk : D) → g.honest disk �
     gained (written s ok bytes) told t c le left =
         ⊎_elim (λ past. inl past) (λ torn. inr (torn_left st s ok bytes (g.seen new) c (torn.0, held torn.0 torn.1, torn.2))) (told.3.nothing_else t c le left)
     gained (synced ok) told t c le left = ⊎_elim (λ past. inl past) (λ none. absurd none) (told.2.nothing_else t c le left)
+    gained (forgotten ok) told t c le left = absurd told
+    gained (aside call) told t c le left = absurd told
 
   module _ (call : Answered) (earlier : List Answered) (tells : Tells g call (at (length earlier)) (at (length (call ∷ earlier)))) (was : IsTrueRecord g at earlier)
       (rises : (n : ℕ) → n ≤ length earlier → g.moment (at n) ≤ g.moment (at (length earlier))) where

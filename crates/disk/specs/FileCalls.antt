@@ -3,6 +3,17 @@ use Rattle.std.specs.Prelude.{◌≡◌, ◌⊎◌, ℕ, ◌≤◌, List, [], �
 use Rattle.disk.specs.Disk.{Image, SameBut}
 use Rattle.disk.specs.Memory.{State, MayLeave}
 
+-- a call that leaves each sector as it is
+pub data Aside : Type 0 where
+  -- the file was to be made so many sectors long, of which those that it had stay; it answered so
+  resized : ℕ → Bool → Aside
+  -- its length was synced; it answered so
+  length_synced : Bool → Aside
+  -- it was noted beside the file that this sector is about to be written
+  noted : ℕ → Aside
+  -- the note was to be taken away; it is gone, or it stays
+  cleared : Bool → Aside
+
 -- one call on a file, with whether it succeeded
 pub data Answered : Type 0 where
   -- of this sector; these bytes came
@@ -10,20 +21,27 @@ pub data Answered : Type 0 where
   -- of this sector; these bytes were given
   written : ℕ → Bool → List ℕ → Answered
   synced : Bool → Answered
+  -- the system was asked to let go of what it holds of the file
+  forgotten : Bool → Answered
+  aside : Aside → Answered
 
 -- the state after a call, where reads then give this image
 abbrev pub after_answer : Answered → Image → State → State
 after_answer (read s ok bytes) image st = record { seen = image; settled = st.settled; unsettled = st.unsettled }
 after_answer (written s ok bytes) image st = record { seen = image; settled = st.settled; unsettled = λ k. if k == s then true else st.unsettled k }
 after_answer (synced ok) image st = record { seen = image; settled = if ok then st.seen else st.settled; unsettled = λ k. if ok then false else st.unsettled k }
+after_answer (forgotten ok) image st = record { seen = image; settled = st.settled; unsettled = st.unsettled }
+after_answer (aside call) image st = record { seen = image; settled = st.settled; unsettled = st.unsettled }
 
 -- One answer of an honest file: the state before the call, and what reads give after it. A read, or a sync that succeeds,
--- changes nothing. After a write that fails its sector may read as any bytes, and after a sync that fails each unsettled
--- sector may.
+-- changes nothing. After a write that fails its sector may read as any bytes, and after a sync that fails, and once the system
+-- has let go of the file, each unsettled sector may.
 abbrev pub IsRight : Answered → State → Image → Type 0
 IsRight (read s ok bytes) st image = (ok ≡ true → bytes ≡ st.seen s) × (image ≡ st.seen)
 IsRight (written s ok bytes) st image = (ok ≡ true → image s ≡ bytes) × SameBut s st.seen image
 IsRight (synced ok) st image = (ok ≡ true → image ≡ st.seen) × ((k : ℕ) → st.unsettled k ≡ false → st.seen k ≡ image k)
+IsRight (forgotten ok) st image = (k : ℕ) → st.unsettled k ≡ false → st.seen k ≡ image k
+IsRight (aside call) st image = image ≡ st.seen
 
 -- The calls stand with the newest first. Reads give the image of number n after n calls.
 module _ (images : ℕ → Image) where

@@ -2,24 +2,25 @@
 use Rattle.std.specs.Prelude.{ℕ, List, length}
 use Rattle.disk.specs.Disk.{Image}
 use Rattle.disk.specs.Memory.{MayLeave}
-use Rattle.disk.specs.FileCalls.{Answered, read, written, synced, state_after, IsHonest, LeftSince}
-use Rattle.disk.specs.declared.transcript.FileCall.{FileCall}
-use Rattle.disk.specs.declared.transcript.FileCall.TheVariants as told
-use Rattle.disk.specs.declared.recorded_file.RecordedFile.{RecordedFile}
+use Rattle.disk.specs.FileCalls.{Answered, state_after, IsHonest, LeftSince}
+use Rattle.disk.specs.FileSteps.{recorded}
+use Rattle.disk.specs.declared.sector_file.SectorFile.{SectorFile}
 use Rattle.disk.specs.declared.file.FileDisk.{FileDisk}
 
-abbrev pub answered : FileCall → Answered
-answered (told.Read s ok bytes) = read s ok bytes.now
-answered (told.Written s ok bytes) = written s ok bytes.now
-answered (told.Synced ok) = synced ok
+abbrev pub calls_in : SectorFile → List Answered
+calls_in file = recorded file.calls
 
-abbrev pub recorded : RecordedFile → List Answered
-recorded file = file.transcript.calls
+abbrev pub opening_in : SectorFile → List Answered
+opening_in file = file.opening.calls
 
 module _ {W : Type 0} where
   -- each call so far with its answer, the newest first
   abbrev pub calls_of : FileDisk W → List Answered
-  calls_of disk = recorded disk.file
+  calls_of disk = calls_in disk.file
+
+  -- the calls before these, while it was made or opened
+  abbrev pub opening_of : FileDisk W → List Answered
+  opening_of disk = opening_in disk.file
 
   abbrev pub moment_of : FileDisk W → ℕ
   moment_of disk = length (calls_of disk)

@@ -3,7 +3,7 @@
 use Rattle.std.specs.Prelude.{◌≡◌, ◌≢◌, ℕ, ◌≤◌, nat_le, List, [], ◌∷◌, length, true, false, if◌then◌else◌}
 use Rattle.disk.specs.Disk.{Image, SameBut, TornAt, NoneNew, Only, Elapses, Nothing}
 use Rattle.disk.specs.Memory.{State, MayLeave, after_write, after_sync}
-use Rattle.disk.specs.FileCalls.{Answered, read, written, synced, state_after, IsHonest, LeftSince}
+use Rattle.disk.specs.FileCalls.{Answered, read, written, synced, forgotten, aside, state_after, IsHonest, LeftSince}
 use Rattle.disk.specs.declared.disk.Disk.{Ghosts}
 
 -- a call on an honest disk, with what the disk chose where it fails
@@ -66,6 +66,9 @@ module _ {D : Type 0} (g : Ghosts D) where
       × Elapses (g.moment old) (g.moment new) (g.since old) (g.since new) (TornAt s (g.may old))
   Tells (synced ok) old new = (ok ≡ true → Only (g.seen old) (g.may new)) × NoneNew (g.may old) (g.may new)
       × Elapses (g.moment old) (g.moment new) (g.since old) (g.since new) Nothing
+  -- no disk has the other calls of a file
+  Tells (forgotten ok) old new = ⊥
+  Tells (aside call) old new = ⊥
 
   -- a disk, settled at first, that is in state number n after n of these calls, of which the newest comes first
   abbrev pub AreTold : (ℕ → D) → List Answered → Type 0

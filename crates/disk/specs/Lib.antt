@@ -3,6 +3,7 @@ pub mod FileCalls
 pub mod FileDisk
 pub mod FileLaws
 pub mod FileMembers
+pub mod FileSteps
 pub mod FileWorlds
 pub mod Faults
 pub mod Faulty
@@ -10,3 +11,4 @@ pub mod MemDisk
 pub mod Memory
 pub mod Record
 pub mod Stops
+pub mod Unsynced

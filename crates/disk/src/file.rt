@@ -1,10 +1,14 @@
 //! A disk over a file.
-ghost use Rattle.std.specs.Prelude.{◌≡◌, ◌<◌, ◌≤◌, [], ◌∷◌, is_ok, IfOk, OnOk, OnErr, max, min, ◌/◌};
+ghost use Rattle.std.specs.Prelude.{◌≡◌, ◌<◌, ◌≤◌, [], ◌∷◌, is_ok, IfOk, OnOk, OnErr, max, min, ◌/◌, ℕ, Option, true};
 ghost use Rattle.disk.specs.Disk.{SameBut, TornAt, NoneNew, Only, counted, CountsFault, Elapses, Nothing};
-ghost use Rattle.disk.specs.FileCalls.{read, written, synced};
+ghost use Rattle.disk.specs.FileCalls.{read};
 ghost use Rattle.disk.specs.FileMembers.{seen_left, now_left, only_left};
+ghost use Rattle.disk.specs.FileSteps.{recorded, writing, Syncs, HasLengthened, making, IsOpening};
 
+use crate::limit::FileLimit;
+use crate::note::Note;
 use crate::recorded_file::{RecordedFile, SECTOR_BYTES};
+use crate::sector_file::SectorFile;
 use crate::system_cache::SystemCache;
 use crate::{Disk, Fault, World};
 use std::fs::{self, File, Metadata, OpenOptions};
@@ -22,7 +26,7 @@ use std::path::Path;
 /// doesn't ask for it isn't kept away.
 #[derive(Drop)]
 pub struct FileDisk<W> {
-    file: RecordedFile,
+    file: SectorFile,
     count: u32,
     failures: u64,
     writes: u64,
@@ -30,7 +34,7 @@ pub struct FileDisk<W> {
 }
 
 impl<W: World> FileDisk<W> {
-    ghost use Rattle.disk.specs.FileDisk.{calls_of, recorded, sectors_of, failures_of, writes_of};
+    ghost use Rattle.disk.specs.FileDisk.{calls_in, opening_in, calls_of, opening_of, sectors_of, failures_of, writes_of};
 
     /// Makes a file of so many sectors of zeros, all of them settled.
     ///
@@ -38,6 +42,9 @@ impl<W: World> FileDisk<W> {
     /// file stays as far as it was made.
     pub fn create(rt: &HostRuntime, path: &str, sectors: u32) -> io::Result<FileDisk<W>>
         ensures calls { IfOk result (λ disk. calls_of disk ≡ []) }
+
+        // The file was made this long and synced, and nothing was written to it.
+        ensures opening { IfOk result (λ disk. opening_of disk ≡ making sectors) }
         ensures sectors { IfOk result (λ disk. sectors_of disk ≡ sectors) }
         ensures failures { IfOk result (λ disk. failures_of disk ≡ 0) }
         ensures writes { IfOk result (λ disk. writes_of disk ≡ 0) }
@@ -48,9 +55,10 @@ impl<W: World> FileDisk<W> {
             .create_new(true)
             .open(rt, path)?;
         let file = lock(file)?;
-        file.set_len(u64::from(sectors) * SECTOR_BYTES)?;
         sync_folder(rt, path)?;
-        let file = RecordedFile::settled(file, SystemCache::at(rt, path))?;
+        let mut note = Note::beside(rt, path, &file);
+        let _ = note.take_over();
+        let file = SectorFile::made(with_record(rt, path, file, note), sectors)?;
         Ok(FileDisk::over(file, sectors))
     }
 
@@ -58,24 +66,30 @@ impl<W: World> FileDisk<W> {
     /// the bytes after the last of them are neither read nor written. What is no regular file is refused as
     /// `ErrorKind::InvalidInput`, and a file that is open as a disk already as `ErrorKind::WouldBlock`.
     ///
-    /// Where a sync failed before, of whatever process, some systems call written what the drive never took. So the system
-    /// is asked to let go of the file, and what is read first is what the drive has. For that an empty file `PATH-wal` lies
+    /// Where a sync failed before, of whatever process, some systems call written what the drive never took. So while
+    /// anything is written and not synced a link `PATH-unsynced` tells it. An opening that finds one writes the sector that it
+    /// names again, as it is read, syncs, and has the system let go of the file, for which an empty file `PATH-wal` lies
     /// beside it for a moment.
     pub fn open(rt: &HostRuntime, path: &str) -> io::Result<FileDisk<W>>
         ensures calls { IfOk result (λ disk. calls_of disk ≡ []) }
+
+        // At most one sector was written before, with the bytes that it had.
+        ensures opening { IfOk result (λ disk. (found : Option ℕ) × IsOpening found (opening_of disk)) }
         ensures failures { IfOk result (λ disk. failures_of disk ≡ 0) }
         ensures writes { IfOk result (λ disk. writes_of disk ≡ 0) }
     {
         let file = open_locked(rt, path)?;
         let sectors = whole_sectors(file.metadata()?.len());
-        let file = RecordedFile::reread(file, SystemCache::at(rt, path))?;
+        let mut note = Note::beside(rt, path, &file);
+        let found = note.take_over().filter(|s| *s < sectors);
+        let file = SectorFile::opened(with_record(rt, path, file, note), found)?;
         Ok(FileDisk::over(file, sectors))
     }
 
     /// Opens a file as [`FileDisk::open`] does, and makes it longer where it has fewer sectors than so many. Where that
     /// fails the error is `ErrorKind::Other`.
     pub fn grow(rt: &HostRuntime, path: &str, sectors: u32) -> io::Result<FileDisk<W>>
-        ensures calls { IfOk result (λ disk. calls_of disk ≡ []) }
+        ensures calls { IfOk result (λ disk. (has : ℕ) × HasLengthened has sectors [] (calls_of disk) true) }
         ensures sectors { IfOk result (λ disk. sectors ≤ sectors_of disk) }
         ensures failures { IfOk result (λ disk. failures_of disk ≡ 0) }
         ensures writes { IfOk result (λ disk. writes_of disk ≡ 0) }
@@ -92,7 +106,7 @@ impl<W: World> FileDisk<W> {
     ///
     /// A call of the file that fails is a fault. Then the disk has the sectors that it had, and the file may be longer.
     pub fn lengthen(&mut self, sectors: u32) -> Result<(), Fault>
-        ensures calls { calls_of self.new ≡ calls_of self.old }
+        ensures calls { HasLengthened (sectors_of self.old) sectors (calls_of self.old) (calls_of self.new) (is_ok result) }
         ensures sectors { OnOk result (sectors_of self.new ≡ max (sectors_of self.old) sectors) }
         ensures as_before { OnErr result (sectors_of self.new ≡ sectors_of self.old) }
         ensures failures { CountsFault (failures_of self.old) (failures_of self.new) result }
@@ -107,8 +121,9 @@ impl<W: World> FileDisk<W> {
         Ok(())
     }
 
-    fn over(file: RecordedFile, sectors: u32) -> FileDisk<W>
-        ensures calls { calls_of result ≡ recorded file }
+    fn over(file: SectorFile, sectors: u32) -> FileDisk<W>
+        ensures calls { calls_of result ≡ calls_in file }
+        ensures opening { opening_of result ≡ opening_in file }
         ensures sectors { sectors_of result ≡ sectors }
         ensures failures { failures_of result ≡ 0 }
         ensures writes { writes_of result ≡ 0 }
@@ -152,6 +167,18 @@ fn ask_regular(found: &Metadata) -> io::Result<()> {
     } else {
         Err(io::Error::from(ErrorKind::InvalidInput))
     }
+}
+
+// A file that was opened, before any call of it.
+fn with_record(rt: &HostRuntime, path: &str, file: File, note: Note) -> RecordedFile
+    ensures { recorded result ≡ [] }
+{
+    RecordedFile::over(
+        file,
+        note,
+        SystemCache::at(rt, path),
+        FileLimit::of_process(rt),
+    )
 }
 
 // Takes a file's lock, which is held until the file is closed. Where a standard stream is closed the file was opened under
@@ -224,7 +251,7 @@ impl<W: World> Disk for FileDisk<W> {
         // The record gains this call with its own answer, and no other.
         ensures recorded { calls_of self.new ≡ read s (is_ok result) into.new ∷ calls_of self.old }
     {
-        let answer = self.file.read_sector(s, into);
+        let answer = self.file.read(s, into);
         self.tally(answer)
     }
 
@@ -243,11 +270,11 @@ impl<W: World> Disk for FileDisk<W> {
             → Elapses (moment_of self.old) (moment_of self.new)
             (LeftSinceFor W.image self.old) (LeftSinceFor W.image self.new) (TornAt s (LeftFor W.image self.old)) }
 
-        // The record gains this call with its own answer, and no other.
-        ensures recorded { calls_of self.new ≡ written s (is_ok result) from.now ∷ calls_of self.old }
+        // The record gains this call with its own answer, behind that which notes the sector, and no other.
+        ensures recorded { calls_of self.new ≡ writing s (is_ok result) from.now (calls_of self.old) }
     {
         self.writes = self.writes.saturating_add(1);
-        let answer = self.file.write_sector(s, from);
+        let answer = self.file.write(s, from);
         self.tally(answer)
     }
 
@@ -263,8 +290,8 @@ impl<W: World> Disk for FileDisk<W> {
             → Elapses (moment_of self.old) (moment_of self.new)
             (LeftSinceFor W.image self.old) (LeftSinceFor W.image self.new) Nothing }
 
-        // The record gains this call with its own answer, and no other.
-        ensures recorded { calls_of self.new ≡ synced (is_ok result) ∷ calls_of self.old }
+        // The record gains this call, and what is done after it.
+        ensures recorded { Syncs (calls_of self.old) (calls_of self.new) (is_ok result) }
     {
         let answer = self.file.sync();
         self.tally(answer)

@@ -18,14 +18,18 @@ mod faulty;
 mod file;
 mod file_laws;
 mod fuse;
+mod limit;
 mod memory;
+mod note;
 mod recorded_file;
 mod sector;
+mod sector_file;
 mod settled;
 mod system_cache;
 mod tally;
 mod torn;
 mod transcript;
+mod unsynced;
 mod world;
 
 pub use disk::{Disk, Fault};

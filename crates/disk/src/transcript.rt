@@ -16,16 +16,22 @@ impl Model for Transcript {
     ghost also_owns = { λ _. ftrue };
 }
 
-// One call on a file: its sector, whether it succeeded, and the bytes that came or were given.
+// One call on a file, and whether it succeeded: with its sector, and the bytes that came or were given; or with how many
+// sectors the file was to have.
 #[derive(Clone, Copy)]
 pub(crate) enum FileCall<'a> {
     Read(u32, bool, &'a [u8; 4096]),
     Written(u32, bool, &'a [u8; 4096]),
     Synced(bool),
+    Forgotten(bool),
+    Resized(u32, bool),
+    LengthSynced(bool),
+    Noted(u32),
+    Cleared(bool),
 }
 
 impl Transcript {
-    ghost use Rattle.disk.specs.FileDisk.{answered};
+    ghost use Rattle.disk.specs.FileSteps.{answered};
 
     pub(crate) fn new() -> Transcript
         ensures { result.calls ≡ [] }

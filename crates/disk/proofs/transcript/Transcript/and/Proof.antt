@@ -15,7 +15,7 @@ use denote.Shadow.{pure_i}
 use denote.Signature.{plain, types_at, named_lft}
 use denote.Triple.Entry.{alive}
 use denote.Triple.Walked.{says, Stays, stay_none_ref, Goes-none_ref, ends_at}
-use Rattle.disk.specs.FileDisk.{answered}
+use Rattle.disk.specs.FileSteps.{answered}
 use Rattle.disk.specs.contracts.transcript.Transcript.{the_row as R}
 use Rattle.disk.specs.contracts.transcript.FileCall as call
 use Rattle.disk.specs.declared.transcript.Transcript.{Transcript}

@@ -1,0 +1,39 @@
+//! How long the system lets files grow.
+use std::fs;
+use std::io::{self, ErrorKind};
+
+/// How many bytes a file may have that this process writes (`ulimit -f`).
+///
+/// A call that needs more ends the process by a signal, which std has no way to turn off. So such a call is refused here. Where
+/// the system doesn't tell the limit, none is kept.
+#[derive(Clone, Copy)]
+pub(crate) struct FileLimit {
+    bytes: u64,
+}
+
+impl FileLimit {
+    pub(crate) fn of_process(rt: &HostRuntime) -> FileLimit {
+        FileLimit {
+            bytes: told_limit(rt).unwrap_or(u64::MAX),
+        }
+    }
+
+    /// Refuses a call that needs so many bytes where they are too many.
+    pub(crate) fn ask(self, bytes: u64) -> io::Result<()> {
+        if bytes <= self.bytes {
+            Ok(())
+        } else {
+            Err(io::Error::from(ErrorKind::FileTooLarge))
+        }
+    }
+}
+
+// The line has a name of three words, and then the limit; where there is none it is no number.
+fn told_limit(rt: &HostRuntime) -> Option<u64> {
+    let limits = fs::read_to_string(rt, "/proc/self/limits").ok()?;
+    let line = limits
+        .as_str()
+        .lines()
+        .find(|line| line.starts_with("Max file size"))?;
+    line.split_whitespace().nth(3)?.parse().ok()
+}
