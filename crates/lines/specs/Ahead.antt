@@ -31,6 +31,10 @@ to_come ahead remaining = prepend_known ahead.bytes remaining
 abbrev pub Taken : Lookahead → Option (List ℕ) → Lookahead → Option (List ℕ) → List ℕ → Type 0
 Taken old old_remaining new new_remaining bytes = Consumes (to_come old old_remaining) (to_come new new_remaining) bytes
 
+-- less was read than one read gives, as where a byte of the last one was taken
+abbrev pub IsNear : List ℕ → Type 0
+IsNear bytes = length bytes < CHUNK
+
 -- each read and each byte that is taken lowers it
 abbrev pub weight : Lookahead → ℕ
 weight ahead = (CHUNK + 1) * ahead.reads + length ahead.bytes

@@ -4,7 +4,7 @@
 //! the reader had at first. A read gives any number of bytes, so neither a line nor a payload ends where a read ends.
 ghost use Rattle.std.specs.Prelude.{◌≡◌, ◌+◌, ◌-◌, ◌<◌, ◌≤◌, ℕ, List, [], ◌++◌, drop, length, OnOk, OnErr, IfOk, IfSome, Ok, Option, Some, None, MatchOption, take, vec_len, vec_capacity, if◌then◌else◌, IsTrue, ◌↔◌};
 ghost use Rattle.std.specs.Io.KnownBytes.{IsAtEnd};
-ghost use Rattle.lines.specs.Ahead.{Lookahead, lookahead_code, bytes_of, is_usable, Taken, weight};
+ghost use Rattle.lines.specs.Ahead.{IsNear, Lookahead, lookahead_code, bytes_of, is_usable, Taken, weight};
 ghost use Rattle.lines.specs.Lines.{IsLine, kept, line_code, line_feed, Reaches};
 
 use crate::bytes::place_of;
@@ -86,7 +86,8 @@ impl Ahead {
 
     /// The bytes that are ahead.
     fn bytes(&self) -> &[u8]
-        ensures { result.now ≡ self.now.bytes }
+        ensures value { result.now ≡ self.now.bytes }
+        ensures chunk { length result.now ≤ CHUNK }
     {
         match &self.room {
             Room::Heap(bytes) => &bytes[self.start..self.end],
@@ -209,7 +210,8 @@ impl Line {
     }
 }
 
-/// Reads a line. Where it is cut and empty, there was none. After a fault a part of it was taken and nothing is ahead.
+/// Reads a line. Where it is cut and empty, there was none. After a fault a part of it was taken and nothing is ahead. No read
+/// is made once its LF has come.
 pub fn read_line<R: Read>(
     ahead: &mut Ahead,
     reader: &mut R,
@@ -218,6 +220,7 @@ pub fn read_line<R: Read>(
     ensures ok { IfOk result (λ extent. (text : List ℕ) × IsLine text × (line.new ≡ kept text)
         × Taken ahead.old (R.remaining reader.old) ahead.new (R.remaining reader.new) (text ++ line_feed extent)) }
     ensures cut { result ≡ Ok Extent.Cut → (ahead.new.bytes ≡ []) × IsAtEnd (R.remaining reader.new) }
+    ensures near { result ≡ Ok Extent.Whole → IsNear ahead.new.bytes }
     ensures spent { OnOk result (weight ahead.new < weight ahead.old) }
     ensures err { OnErr result ((text : List ℕ) × IsLine text
         × Taken ahead.old (R.remaining reader.old) ahead.new (R.remaining reader.new) text) }

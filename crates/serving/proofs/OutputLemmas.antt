@@ -1,11 +1,11 @@
 -- What was put to an output.
-use Rattle.std.proofs.Common.{◌≡◌, ◌<◌, inl, inr, ⊎_elim, ℕ, zero, suc, List, ◌++◌, Option, Result, Ok, Err, refl, take, length, arith, sym, ◌∙◌, subst}
+use Rattle.std.proofs.Common.{◌≡◌, ◌<◌, inl, inr, ⊎_elim, ℕ, zero, suc, List, ◌++◌, Option, Result, Ok, Err, refl, take, length, arith, sym, ◌∙◌, ap, subst}
 use Rattle.std.specs.Io.KnownBytes.{Appends}
 use Rattle.std.proofs.KnownBytes.{Appends-kept, Appends-trans}
 use Rattle.std.proofs.lemmas.List.{take_all}
 use Rattle.catalogue.specs.Reading.{HasRisen}
 use Rattle.lines.proofs.WriteLemmas.{Appends-first, Appends-second}
-use Rattle.serving.specs.Outputs.{Begins, Breaks, Fails, Flushes, HasFailed, Leaves, Puts, Stream}
+use Rattle.serving.specs.Outputs.{Begins, Breaks, Fails, Flushes, HasFailed, HasLeft, Leaves, Puts, Stream}
 use Rattle.serving.specs.Writing.{WritesAll}
 
 -- what was written whole was begun
@@ -71,3 +71,9 @@ none_failed a none = by a.failures none
     by : (n : ℕ) → (0 < n → ⊥) → n ≡ 0
     by zero none = refl
     by (suc n) none = absurd (none (omega arith))
+
+-- what has left goes on so
+pub still_left : (a b c : Stream) → HasLeft a b → HasLeft b c → HasLeft a c
+still_left a b c before (inr flushed) = inr flushed
+still_left a b c (inl same) (inl none) = inl (none ∙ same)
+still_left a b c (inr flushed) (inl none) = inr (ap (λ (s : Stream). s.is_flushed) none ∙ flushed)

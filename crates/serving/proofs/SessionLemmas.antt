@@ -19,8 +19,9 @@ use Rattle.lines.specs.Lines.{IsLine, line_feed, kept, Reaches}
 use Rattle.lines.specs.Requests.{asked, IsRequestOf}
 use Rattle.serving.specs.Items.{Item, spelled, AsksFor, payload_len, Came, IsItem, GoesOn}
 use Rattle.engine.specs.Runs.{last_of}
-use Rattle.serving.specs.Served.{Replies, Ends, AreItemsOf, Outcome}
-use Rattle.serving.specs.Session.{Stored, Holds, Steps, SoFar}
+use Rattle.lines.specs.Ahead.{IsNear}
+use Rattle.serving.specs.Served.{Replies, Ends, AreItemsOf, Outcome, ReadsNoFurther}
+use Rattle.serving.specs.Session.{Stored, Holds, Steps, SoFar, EndsReading}
 use Rattle.lines.proofs.WriteLemmas.{Appends-second}
 
 -- what a request asks for is what its line asks for
@@ -120,6 +121,41 @@ ends_last old ahead r i Whole o c same item end (inr quit) = ends_quit old (prep
 pub goes_on : (i : Item) (e : Extent) (o : Option Asked) → o ≡ i.asked → IsItem e i → ((e ≡ Cut) ⊎ (o ≡ Some AskQuit) → ⊥) → GoesOn i
 goes_on i Cut o same item not_last = absurd (not_last (inl refl))
 goes_on i Whole o same item not_last = record { whole = item; on = (λ quit. not_last (inr (same ∙ quit))) }
+
+-- a whole item has a whole line
+whole_fed : (i : Item) → IsItem Whole i → i.fed ≡ Whole
+whole_fed i item = by i.fed refl
+  where
+    by : (fed : Extent) → i.fed ≡ fed → i.fed ≡ Whole
+    by Whole same = same
+    by Cut same = let came = subst (λ (fed : Extent). Came fed Whole (length i.payload) (payload_len i.asked)) same item.came in absurd (let cut = came.0 in cc)
+
+-- a last item ends the reading
+pub ends_reading : (before : Option (List ℕ)) (ahead : List ℕ) (after : Option (List ℕ)) (i : Item) (e : Extent) (o : Option Asked) → Consumes before (prepend_known ahead after) (spelled i)
+    → o ≡ i.asked → IsItem e i → (e ≡ Cut → (ahead ≡ []) × IsAtEnd after) → (i.fed ≡ Whole → o ≡ Some AskQuit → IsNear ahead) → (e ≡ Cut) ⊎ (o ≡ Some AskQuit) → EndsReading before ahead after
+ends_reading before ahead after i Cut o c same item end near last = inl (end refl)
+ends_reading before ahead after i Whole o c same item end near (inl cut) = absurd (cc)
+ends_reading before ahead after i Whole o c same item end near (inr quit) = inr (i, item, sym same ∙ quit, near (whole_fed i item) quit, c)
+
+ahead_taken : (ahead : List ℕ) (r : Option (List ℕ)) → Consumes (prepend_known ahead r) r ahead
+ahead_taken ahead None = tt
+ahead_taken ahead (Some xs) = refl
+
+-- .. after the items so far
+pub reads_no_further : {X : Type 0} (IsRight : X → Item → List ℕ → X → Type 0) (before mid w v : Option (List ℕ)) (ahead : List ℕ) (after : Option (List ℕ)) (s : X) (us : List X)
+    → SoFar IsRight before mid w v s us → EndsReading mid ahead after → ReadsNoFurther before after
+reads_no_further IsRight before mid w v ahead after s us so_far (inl end) = inl end.1
+reads_no_further IsRight before mid w v ahead after s us (items, text, each, taken, appended, replied) (inr (quit, item, asks, near, last)) =
+    inr (
+      items,
+      quit,
+      ahead,
+      each,
+      item,
+      asks,
+      near,
+      Consumes-trans before (prepend_known ahead after) after (flat_map spelled items ++ spelled quit) ahead (Consumes-trans before mid (prepend_known ahead after) (flat_map spelled items) (spelled quit) taken last) (ahead_taken ahead after),
+    )
 
 -- the items so far, and then the end
 items_end : (before after : Option (List ℕ)) (items last : List Item) → All GoesOn items → Consumes before after (flat_map spelled items)

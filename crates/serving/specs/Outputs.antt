@@ -47,6 +47,10 @@ pub record Leaves (old new : Stream) (text : List ℕ) : Type 0 where
 abbrev pub Puts : Stream → Stream → List ℕ → Type 0
 Puts old new text = Leaves old new text ⊎ Breaks old new text
 
+-- nothing was written, or all that was written has left
+abbrev pub HasLeft : Stream → Stream → Type 0
+HasLeft old new = (new ≡ old) ⊎ (new.is_flushed ≡ true)
+
 -- A fault of the output is answered where a write or a flush failed, and nowhere else.
 pub record TellsFailure {T : Type 0} (old new : Stream) (result : Result T ServeFault) : Type 0 where
   pub told : (new.failures ≡ old.failures) ⊎ (result ≡ Err Output)

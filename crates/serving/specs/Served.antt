@@ -1,6 +1,7 @@
 -- What is written for what is read (this product's own profile).
 use Rattle.std.specs.Prelude.{◌≡◌, ◌⊎◌, ℕ, List, [], ◌∷◌, ◌++◌, take, flat_map, All, Option, Some, IfSome, Result, Ok, Err}
-use Rattle.std.specs.Io.KnownBytes.{Consumes, Appends}
+use Rattle.std.specs.Io.KnownBytes.{Consumes, Appends, IsAtEnd}
+use Rattle.lines.specs.Ahead.{IsNear}
 use Rattle.lines.specs.Grammar.{AskQuit}
 use Rattle.serving.specs.Items.{Item, spelled, IsItem, GoesOn, IsBegun}
 use Rattle.lines.specs.declared.source.Extent.{Extent}
@@ -37,3 +38,10 @@ Outcome IsRight before after written new s states (Err Input) = (items : List It
 -- a beginning of the replies to the items that were read
 Outcome IsRight before after written new s states (Err Output) = (items : List Item) × (i : Item) × (extent : Extent) × (text : List ℕ) × (n : ℕ) × (left : Option (List ℕ))
     × All GoesOn items × IsItem extent i × Consumes before left (flat_map spelled items ++ spelled i) × Replies IsRight s (items ++ i ∷ []) text states × Appends written new (take n text)
+
+-- Nothing is read once the end is known: the reader is at its end; or items and then `quit` were read, and behind that no more
+-- than what the read that brought its LF gave with it, which is less than one read gives.
+abbrev pub ReadsNoFurther : Option (List ℕ) → Option (List ℕ) → Type 0
+ReadsNoFurther before after = IsAtEnd after
+    ⊎ ((items : List Item) × (quit : Item) × (ahead : List ℕ) × All GoesOn items × IsItem Whole quit × (quit.asked ≡ Some AskQuit) × IsNear ahead
+    × Consumes before after (flat_map spelled items ++ spelled quit ++ ahead))

@@ -1,10 +1,13 @@
 -- An item as the server keeps it, and one step of a session.
-use Rattle.std.specs.Prelude.{◌≡◌, ℕ, List, [], ◌∷◌, take, flat_map, All, Option, Some, None, option_map, IfSome, Result, Ok, Err, Vec}
-use Rattle.std.specs.Io.KnownBytes.{Consumes, Appends}
+use Rattle.std.specs.Prelude.{◌≡◌, ◌⊎◌, ℕ, List, [], ◌∷◌, take, flat_map, All, Option, Some, None, option_map, IfSome, Result, Ok, Err, Vec}
+use Rattle.std.specs.Io.KnownBytes.{Consumes, Appends, IsAtEnd, prepend_known}
+use Rattle.lines.specs.Ahead.{IsNear}
+use Rattle.lines.specs.Grammar.{AskQuit}
 use Rattle.serving.specs.Items.{Item, spelled, IsItem, GoesOn, IsBegun}
 use Rattle.lines.specs.Requests.{asked}
 use Rattle.serving.specs.Served.{Replies, Ends}
 use Rattle.lines.specs.declared.source.Extent.{Extent}
+use Rattle.lines.specs.declared.source.Extent.TheVariants.{Whole}
 use Rattle.serving.specs.declared.reading.KeptItem.{KeptItem}
 use Rattle.serving.specs.declared.session.Next.{Next}
 use Rattle.serving.specs.declared.session.Next.TheVariants.{More, End}
@@ -33,6 +36,12 @@ Steps IsRight before after written new s states (Err Input) =
 Steps IsRight before after written new s states (Err Output) =
     (i : Item) × (extent : Extent) × (text : List ℕ) × (n : ℕ) × IsItem extent i × Consumes before after (spelled i) × Appends written new (take n text)
     × Replies IsRight s (i ∷ []) text states
+
+-- The last step ends the reading: the input is at its end, or what was to come began with `quit`, and less than one read gives
+-- is ahead behind it.
+abbrev pub EndsReading : Option (List ℕ) → (ahead : List ℕ) → Option (List ℕ) → Type 0
+EndsReading before ahead after = ((ahead ≡ []) × IsAtEnd after)
+    ⊎ ((quit : Item) × IsItem Whole quit × (quit.asked ≡ Some AskQuit) × IsNear ahead × Consumes before (prepend_known ahead after) (spelled quit))
 
 -- the items so far with their replies
 abbrev pub SoFar : {X : Type 0} → (X → Item → List ℕ → X → Type 0) → Option (List ℕ) → Option (List ℕ) → Option (List ℕ) → Option (List ℕ) → X → List X → Type 0

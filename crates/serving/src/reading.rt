@@ -53,7 +53,13 @@ fn read_or_skip_payload<R: Read>(
     ensures err { OnErr result ((bytes : List ℕ) × (length bytes < len)
         × Taken ahead.old (R.remaining reader.old) ahead.new (R.remaining reader.new) bytes) }
     ensures none_ahead { OnErr result (ahead.new.bytes ≡ []) }
+
+    // Where none follows nothing is read.
+    ensures none { len ≡ 0 → (ahead.new ≡ ahead.old) × (reader.new ≡ reader.old) }
 {
+    if len == 0 {
+        return Ok((None, Extent::Whole));
+    }
     if len == tile_len {
         if let Ok(mut payload) = Vec::with_capacity(alloc, len as usize) {
             let extent = read_payload(ahead, reader, len as usize, &mut payload)?;
@@ -83,6 +89,7 @@ pub(crate) fn read_item<'a, R: Read>(
         → (bytes : List ℕ) × (a : Option Asked) × AsksFor text a × (length bytes < payload_len a)
         × Taken ahead.old (R.remaining reader.old) ahead.new (R.remaining reader.new) bytes)) }
     ensures none_ahead { OnErr result (ahead.new.bytes ≡ []) }
+    ensures quit { IfOk result (λ item. fed ≡ Extent.Whole → option_map asked item.request ≡ Some AskQuit → (ahead.new ≡ ahead.old) × (reader.new ≡ reader.old)) }
 {
     let request = request_in(line);
     let (payload, extent) = match fed {

@@ -1,10 +1,11 @@
 //! Serves items, one after another: each is read, answered, and its reply written.
-ghost use Rattle.std.specs.Prelude.{◌≡◌, ◌<◌, List, [], Ok, Err};
+ghost use Rattle.std.specs.Prelude.{◌≡◌, ◌<◌, List, [], Ok, Err, OnOk};
 ghost use Rattle.engine.specs.Runs.{last_of};
 ghost use Rattle.lines.specs.Ahead.{to_come, weight};
-ghost use Rattle.serving.specs.Outputs.{TellsFailure};
+ghost use Rattle.serving.specs.Outputs.{HasLeft, TellsFailure};
 ghost use Rattle.serving.specs.Promises.{Answers, Serves};
-ghost use Rattle.serving.specs.Session.{Steps};
+ghost use Rattle.serving.specs.Served.{ReadsNoFurther};
+ghost use Rattle.serving.specs.Session.{EndsReading, Steps};
 
 use crate::answering::answer;
 use crate::output::Output;
@@ -46,6 +47,8 @@ fn step<R: Read, O: Output, E: Engine>(
         × Steps (Answers E.Engine) (to_come ahead.old (R.remaining reader.old)) (to_come ahead.new (R.remaining reader.new))
         (O.stream writer.old).contents (O.stream writer.new).contents engine.old engines result) }
     ensures output { TellsFailure (O.stream writer.old) (O.stream writer.new) result }
+    ensures left { OnOk result (HasLeft (O.stream writer.old) (O.stream writer.new)) }
+    ensures end { result ≡ Ok Next.End → EndsReading (to_come ahead.old (R.remaining reader.old)) ahead.new.bytes (R.remaining reader.new) }
     ensures spent { result ≡ Ok Next.More → weight ahead.new < weight ahead.old }
     ensures none_ahead { result ≡ Err ServeFault.Input → ahead.new.bytes ≡ [] }
 {
@@ -72,7 +75,8 @@ fn step<R: Read, O: Output, E: Engine>(
     Ok(next)
 }
 
-/// Answers the items that the reader gives, one after another, to the end of its bytes or to `quit`.
+/// Answers the items that the reader gives, one after another, to the end of its bytes or to `quit`. Nothing is read once the
+/// line `quit` has come.
 ///
 /// How the reader cuts the bytes makes no difference. A fault leaves the accepted commands accepted. After `Input` the
 /// replies to all items read whole are written; after `Output` a beginning of the replies.
@@ -85,7 +89,8 @@ fn step<R: Read, O: Output, E: Engine>(
 /// fault of the disk is told as `ERR 20 Device`. From then on what asks the engine for more is answered with
 /// `ERR 22 Failed`.
 ///
-/// `Output` is answered exactly where a write or a flush of the output has failed.
+/// `Output` is answered exactly where a write or a flush of the output has failed. Otherwise each reply has left before the next
+/// item is read, and all have at the end.
 pub fn serve<R: Read, O: Output, E: Engine>(
     alloc: Global,
     reader: &mut R,
@@ -94,11 +99,13 @@ pub fn serve<R: Read, O: Output, E: Engine>(
 ) -> Result<(), ServeFault>
     ensures calls { (engines : List E) × ((last_of engine.old engines ≡ engine.new)
         × Serves E.Engine (R.remaining reader.old) (R.remaining reader.new) (O.stream writer.old).contents (O.stream writer.new).contents engine.old engines result) }
+    ensures end { OnOk result (ReadsNoFurther (R.remaining reader.old) (R.remaining reader.new)) }
     ensures output { TellsFailure (O.stream writer.old) (O.stream writer.new) result }
+    ensures left { OnOk result (HasLeft (O.stream writer.old) (O.stream writer.new)) }
 {
     let mut ahead = Ahead::new(alloc);
     let mut line = Line::new();
-    loop {
+    'items: loop {
         match step(alloc, &mut ahead, &mut line, reader, writer, engine) {
             Ok(Next::More) => {}
             Ok(Next::End) => return Ok(()),

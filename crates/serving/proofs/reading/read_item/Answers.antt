@@ -1,7 +1,8 @@
-use Rattle.std.proofs.Common.{rules, ◌≡◌, [], refl, sym}
+use Rattle.std.proofs.Common.{rules, ◌≡◌, [], refl, sym, ap, ◌∙◌}
 use Rattle.std.specs.Prelude.{option_map}
 use Rattle.lines.specs.declared.source.Extent.TheVariants.{Whole, Cut}
 use Rattle.lines.specs.Requests.{asked}
+use Rattle.serving.specs.Items.{payload_len}
 use Rattle.serving.proofs.SessionLemmas.{holds_whole, holds_cut, nothing_taken}
 use Rattle.serving.proofs.reading.read_item.Goals as goal
 use Rattle.serving.proofs.reading.read_item.Goals.{in-Whole+in_ok-read_or_skip_payload-in-Whole, in-Cut}
@@ -20,4 +21,13 @@ returns-clause-ok g c = λ text is line some.
           let fed : c.args.fed ≡ Cut = search rules in
           rw (w.payload-is, w.ahead-is, w.reader-is)
           (record { line = text; fed = Cut; asked = option_map asked request; payload = [] }, holds_cut text request line (some fed) right, refl, sym fed, nothing_taken _ _)
+    ]
+
+pub returns-clause-quit : goal.returns-clause-quit
+returns-clause-quit g c = λ whole quit.
+    elim c.match-fed.branch [
+      | in-Whole+in_ok-read_or_skip_payload-in-Whole w ↦
+          let none = w.read_or_skip_payload.ensures.none (w.payload_len.ensures ∙ ap payload_len quit) in
+          (w.ahead-is ∙ none.0, w.reader-is ∙ none.1)
+      | in-Cut w ↦ absurd (cc)
     ]

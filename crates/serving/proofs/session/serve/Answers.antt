@@ -4,19 +4,20 @@ use Rattle.engine.specs.Runs.{last_of}
 use Rattle.lines.specs.Ahead.{to_come}
 use Rattle.serving.specs.Promises.{Answers}
 use Rattle.serving.specs.declared.session.Next.TheVariants.{More, End}
+use Rattle.serving.proofs.OutputLemmas.{still_left}
 use Rattle.serving.proofs.Runs.{serves}
-use Rattle.serving.proofs.SessionLemmas.{so_far_none, so_far_more, so_far_end, so_far_fault, last_of-append}
+use Rattle.serving.proofs.SessionLemmas.{so_far_none, so_far_more, so_far_end, so_far_fault, reads_no_further, last_of-append}
 use Rattle.serving.proofs.session.serve.Goals as goal
 
-pub loop-ahead-init : goal.loop-ahead-init
-loop-ahead-init g c = (refl, ([], (refl, so_far_none (Answers g.E.Engine) c.new-ahead.result.bytes _ _ c.args.engine.now c.new-ahead.ensures.bytes)))
+pub items-init : goal.items-init
+items-init g c = (refl, ([], (refl, so_far_none (Answers g.E.Engine) c.new-ahead.result.bytes _ _ c.args.engine.now c.new-ahead.ensures.bytes)), inl refl)
 
-pub loop-ahead-preserved : goal.loop-ahead-preserved
-loop-ahead-preserved g c =
-    let before = c.loop-ahead.invariant.1 in
+pub items-preserved : goal.items-preserved
+items-preserved g c =
+    let before = c.items.invariant.1 in
     let next = c.in-Ok-More.ensures.calls in
     let more : c.in-Ok-More.field-0 ≡ More = search rules in (
-      ⊎_elim (λ none. none ∙ c.loop-ahead.invariant.0) (λ told. absurd (cc)) c.in-Ok-More.ensures.output.told,
+      ⊎_elim (λ none. none ∙ c.items.invariant.0) (λ told. absurd (cc)) c.in-Ok-More.ensures.output.told,
       (
         before.0 ++ next.0,
         (
@@ -24,11 +25,12 @@ loop-ahead-preserved g c =
           so_far_more (Answers g.E.Engine) _ _ _ _ _ _ c.args.engine.now _ before.0 next.0 before.1.0 before.1.1 (rw more at next.1.1),
         ),
       ),
+      still_left (g.O.Output.stream c.args.writer.now) _ _ c.items.invariant.2 c.in-Ok-More.ensures.left,
     )
 
 pub returns-in-Ok-End-clause-calls : goal.returns-in-Ok-End-clause-calls
 returns-in-Ok-End-clause-calls g c =
-    let before = c.loop-ahead.invariant.1 in
+    let before = c.items.invariant.1 in
     let next = c.in-Ok-End.ensures.calls in
     let end : c.in-Ok-End.field-0 ≡ End = search rules in
     let outcome = so_far_end (Answers g.E.Engine) _ _ (to_come c.step.new.ahead (g.R.Read.remaining c.step.new.reader)) (g.R.Read.remaining c.step.new.reader) _ _ _ c.args.engine.now _ before.0 next.0 before.1.0 before.1.1 (rw end at next.1.1) in (
@@ -46,7 +48,7 @@ returns-in-Ok-End-clause-calls g c =
 
 pub returns-in-Err-clause-calls : goal.returns-in-Err-clause-calls
 returns-in-Err-clause-calls g c =
-    let before = c.loop-ahead.invariant.1 in
+    let before = c.items.invariant.1 in
     let next = c.in-Err.ensures in
     let calls = next.calls in
     let outcome = so_far_fault (Answers g.E.Engine) _ _ _ _ _ c.step.new.ahead.bytes (g.R.Read.remaining c.step.new.reader) c.args.engine.now _ before.0 calls.0 c.in-Err.fault before.1.0 before.1.1 next.none_ahead calls.1.1 in (
@@ -66,7 +68,7 @@ pub returns-in-Ok-End-clause-output : goal.returns-in-Ok-End-clause-output
 returns-in-Ok-End-clause-output g c =
     let step = c.in-Ok-End.ensures.output in
     record {
-      told = ⊎_elim (λ none. inl (none ∙ c.loop-ahead.invariant.0)) (λ told. absurd (cc)) step.told;
+      told = ⊎_elim (λ none. inl (none ∙ c.items.invariant.0)) (λ told. absurd (cc)) step.told;
       caused = λ told. absurd (cc);
     }
 
@@ -74,6 +76,15 @@ pub returns-in-Err-clause-output : goal.returns-in-Err-clause-output
 returns-in-Err-clause-output g c =
     let step = c.in-Err.ensures.output in
     record {
-      told = ⊎_elim (λ none. inl (none ∙ c.loop-ahead.invariant.0)) (λ told. inr (cc)) step.told;
+      told = ⊎_elim (λ none. inl (none ∙ c.items.invariant.0)) (λ told. inr (cc)) step.told;
       caused = λ told. step.caused (cc);
     }
+
+pub returns-in-Ok-End-clause-left : goal.returns-in-Ok-End-clause-left
+returns-in-Ok-End-clause-left g c = still_left (g.O.Output.stream c.args.writer.now) _ _ c.items.invariant.2 c.in-Ok-End.ensures.left
+
+pub returns-in-Ok-End-clause-end : goal.returns-in-Ok-End-clause-end
+returns-in-Ok-End-clause-end g c =
+    let before = c.items.invariant.1 in
+    let end : c.in-Ok-End.field-0 ≡ End = search rules in
+    reads_no_further (Answers g.E.Engine) _ _ _ _ c.step.new.ahead.bytes (g.R.Read.remaining c.step.new.reader) c.args.engine.now before.0 before.1.1 (c.in-Ok-End.ensures.end (cc))

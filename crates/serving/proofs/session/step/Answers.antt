@@ -1,11 +1,15 @@
-use Rattle.std.proofs.Common.{rules, ◌≡◌, ◌≢◌, [], ◌∷◌, ◌++◌, inl, inr, refl}
+use Rattle.std.proofs.Common.{rules, ◌≡◌, ◌≢◌, [], ◌∷◌, ◌++◌, Some, inl, inr, refl, sym, ◌∙◌, subst}
+use Rattle.std.specs.Prelude.{option_map}
 use Rattle.std.specs.Io.KnownBytes.{IsAtEnd}
 use Rattle.std.proofs.KnownBytes.{Appends-nil}
 use Rattle.std.proofs.lemmas.Bool.{both_ways}
-use Rattle.lines.specs.declared.source.Extent.TheVariants.{Cut}
+use Rattle.lines.specs.declared.source.Extent.TheVariants.{Whole, Cut}
+use Rattle.lines.specs.Ahead.{IsNear, Lookahead}
+use Rattle.lines.specs.Grammar.{AskQuit}
+use Rattle.lines.specs.Requests.{asked}
 use Rattle.serving.specs.Promises.{Answers}
 use Rattle.serving.proofs.OutputLemmas.{begun, put_whole}
-use Rattle.serving.proofs.SessionLemmas.{item_taken, begun_taken, ends_none, ends_last, goes_on, one_reply}
+use Rattle.serving.proofs.SessionLemmas.{item_taken, begun_taken, ends_none, ends_last, ends_reading, goes_on, one_reply}
 use Rattle.serving.proofs.Turns.{answers}
 use Rattle.serving.proofs.session.step.Goals as goal
 use Rattle.serving.proofs.session.step.Goals.{then-is_last, else-is_last}
@@ -86,3 +90,32 @@ returns-clause-output g c =
     let left = put_whole (g.O.Output.stream c.args.writer.now) (g.O.Output.stream c.put_reply.new.self) c.answer-reply.result c.put_reply.ensures
     (λ failed. both_ways c.has_failed.result c.if-has_failed.false (c.has_failed.ensures.1 failed)) in
     record { told = inl left.none; caused = λ told. absurd (cc) }
+
+pub returns-clause-left : goal.returns-clause-left
+returns-clause-left g c =
+    let left = put_whole (g.O.Output.stream c.args.writer.now) (g.O.Output.stream c.put_reply.new.self) c.answer-reply.result c.put_reply.ensures
+    (λ failed. both_ways c.has_failed.result c.if-has_failed.false (c.has_failed.ensures.1 failed)) in
+    inr left.flushed
+
+pub returns-then-is_over-clause-end : goal.returns-then-is_over-clause-end
+returns-then-is_over-clause-end g c ended =
+    let line = c.in-Ok.ensures.ok in
+    let over = (c.is_over.ensures line.0 line.2).0 c.if-is_over.true in
+    let none : c.read_line.new.ahead.bytes ≡ [] = search rules in
+    let end : IsAtEnd (g.R.Read.remaining c.read_line.new.reader) = search rules in
+    inl (none, end)
+
+pub returns-clause-end : goal.returns-clause-end
+returns-clause-end g c ended =
+    let line = c.in-Ok.ensures.ok in
+    let some : c.in-Ok.fed ≡ Cut → line.0 ≢ [] = λ cut empty. both_ways c.is_over.result c.if-is_over.false ((c.is_over.ensures line.0 line.2).1 (cut, empty)) in
+    let found = c.in-Ok-read_item.ensures.ok line.0 line.2 line.1 some in
+    let i = found.0 in
+    let taken = item_taken _ _ _ i line.0 c.in-Ok.fed found.2 found.3 line.3 found.4 in
+    let near : i.fed ≡ Whole → option_map asked c.in-Ok-read_item.item.request ≡ Some AskQuit → IsNear c.read_item.new.ahead.bytes = λ whole quit.
+    let fed : c.in-Ok.fed ≡ Whole = sym found.3 ∙ whole in
+    subst (λ (a : Lookahead). IsNear a.bytes) (sym (c.in-Ok-read_item.ensures.quit fed quit).0) (c.in-Ok.ensures.near (cc)) in
+    elim c.if-is_last.branch [
+      | then-is_last w ↦ ends_reading _ _ _ i _ _ taken found.1.asked found.1.item c.in-Ok-read_item.ensures.cut near (c.is_last.ensures.0 w.if-is_last.true)
+      | else-is_last w ↦ absurd (let more = w.next-is in cc)
+    ]
