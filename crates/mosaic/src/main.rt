@@ -1,18 +1,20 @@
-//! The program `mosaic`: it hands its words and its streams to the server.
+//! The program `mosaic`: it hands its words, its streams and the system's files to the server.
 #![tactic(auto)]
 
 #[cfg(test)]
 mod tests;
 
-use server::CheckedWriter;
+use server::{CheckedWriter, FilePlaces};
+use std::marker::Brand;
 use std::process::ExitCode;
 use std::{env, io};
 
 fn main(rt: HostRuntime) -> ExitCode {
     let mut reader = rt.reader();
     let mut writer = CheckedWriter::new(io::writer(&rt));
+    let mut places = FilePlaces::<Brand>::new(&rt);
     let status = match words(&rt) {
-        Ok(words) => server::program(&rt, &words, &mut reader, &mut writer),
+        Ok(words) => server::program(rt.alloc(), &mut places, &words, &mut reader, &mut writer),
         Err(_) => server::no_room(&mut writer),
     };
     ExitCode::from(status)

@@ -5,7 +5,7 @@ mod places;
 mod sessions;
 
 use disk::FileDisk;
-use server::{CheckedWriter, program};
+use server::{CheckedWriter, FilePlaces, program};
 use sessions::serves;
 use std::alloc::{AllocError, Global};
 use std::fs;
@@ -33,7 +33,8 @@ fn owned(alloc: Global, words: &[&str]) -> Result<Vec<String>, AllocError> {
 fn run_words(rt: &HostRuntime, words: &[String], input: &[u8]) -> (u8, Vec<u8>) {
     let mut reader = input;
     let mut writer = CheckedWriter::new(Vec::new(rt.alloc()));
-    let status = program(rt, words, &mut reader, &mut writer);
+    let mut places = FilePlaces::<Brand>::new(rt);
+    let status = program(rt.alloc(), &mut places, words, &mut reader, &mut writer);
     (status, writer.into_inner())
 }
 

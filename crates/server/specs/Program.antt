@@ -1,11 +1,7 @@
 -- What the program does with its words: which files it asks for, what it does on a store's, what it writes, and its exit
 -- status (this product's own profile).
-use Rattle.std.specs.Prelude.{◌≡◌, ◌⊎◌, ◌<◌, ◌≤◌, ℕ, List, [], ◌∷◌, ◌++◌, codes, All, Option, Some, None, Result, Ok, Err}
-use Rattle.std.specs.declared.marker.Brand.{Brand}
-use Rattle.disk.specs.Disk.{Image}
-use Rattle.disk.specs.FileWorlds.{giving}
+use Rattle.std.specs.Prelude.{◌≡◌, ◌⊎◌, ◌<◌, ◌≤◌, ℕ, List, [], ◌∷◌, ◌++◌, codes, Option, Some, None, Result, Ok, Err}
 use Rattle.disk.specs.declared.disk.Disk.{Ghosts}
-use Rattle.disk.specs.declared.file.FileDisk.{FileDisk}
 use Rattle.lattice.specs.Corners.{Corner}
 use Rattle.lattice.specs.Limits.{largest_side, most_tiles}
 use Rattle.lattice.specs.declared.refusal.Refusal.{Refusal}
@@ -21,7 +17,6 @@ use Rattle.serving.specs.declared.session.ServeFault.{ServeFault}
 use Rattle.store.specs.Formatted.{format_2}
 use Rattle.server.specs.CommandLine.{AskedBy, AskNothing}
 use Rattle.server.specs.Endings.{EndsSession, Tells, TellsRefusal, bad_words}
-use Rattle.server.specs.Files.{GivesUntouched}
 use Rattle.server.specs.OnDisks.{ServesLines, ImportsTile, MakesStore, ChecksStore, GrowsAndUpgrades}
 use Rattle.serving.specs.Outputs.{Puts, Stream}
 use Rattle.server.specs.Places.{Access, Makes, Opens}
@@ -114,11 +109,6 @@ module _ {D : Type 0} (g : Ghosts D) where
       ⊎ ((accesses ≡ []) × (disk ≡ None) × (after ≡ before) × TellsRefusal NoMemory written new status)
       ⊎ ((a : Arguments) × AskedBy words a × RunsAs a accesses before after written new disk status)
 
--- The same on the system's files, whose reads give these images as time goes on: each disk that is given is untouched.
-abbrev pub RunsOnFiles : {V : Type 0} → (images : ℕ → Image) → (words : List (List ℕ)) → (before after : Option (List ℕ)) → Stream → Stream → Option (FileDisk V) → ℕ → Type 0
-RunsOnFiles {V} images words before after written new disk status =
-    (accesses : List (Access (FileDisk V))) × All GivesUntouched accesses × CarriesOut (giving images) words accesses before after written new disk status
-
--- .. where the disk is closed
-abbrev pub Runs : (images : ℕ → Image) → (words : List (List ℕ)) → (before after : Option (List ℕ)) → Stream → Stream → ℕ → Type 0
-Runs images words before after written new status = (disk : Option (FileDisk Brand)) × RunsOnFiles images words before after written new disk status
+  -- .. where the disk is closed
+  abbrev pub Runs : (words : List (List ℕ)) → List (Access D) → (before after : Option (List ℕ)) → Stream → Stream → ℕ → Type 0
+  Runs words accesses before after written new status = (disk : Option D) × CarriesOut words accesses before after written new disk status

@@ -1,18 +1,15 @@
 //! The program `mosaic`.
-ghost use Rattle.std.specs.Prelude.{◌≡◌, ◌≤◌, ℕ, IfErr, IfOk, map};
-ghost use Rattle.disk.specs.Disk.{Image};
+ghost use Rattle.std.specs.Prelude.{◌≡◌, ◌≤◌, IfErr, IfOk, map};
 ghost use Rattle.store.specs.Formatted.{format_2};
 ghost use Rattle.server.specs.Endings.{TellsRefusal};
 ghost use Rattle.server.specs.Places.{Accessing};
-ghost use Rattle.server.specs.Program.{CarriesOut, EndsServing, Runs, RunsAs, RunsCheck, RunsFormat, RunsImport, RunsOnFiles, RunsServe, RunsTable, RunsUpgrade, TellsFault};
+ghost use Rattle.server.specs.Program.{CarriesOut, EndsServing, Runs, RunsAs, RunsCheck, RunsFormat, RunsImport, RunsServe, RunsTable, RunsUpgrade, TellsFault};
 ghost use Rattle.server.specs.Sizes.{IsRefusedFor, IsTaken};
 
 use crate::disks::{check_store, grow_and_upgrade, import_tile, make_store, serve_store};
 use crate::exit::{BAD_WORDS, end_session, end_with, refuse, write_message};
-use crate::files::FilePlaces;
 use crate::places::{MakeFault, Places};
 use crate::{ArgumentFault, Arguments};
-use disk::{FileDisk, World};
 use hgt::file_name;
 use lattice::{MOST_TILES, Refusal, Side};
 use page_codec::{Format, Version};
@@ -20,7 +17,6 @@ use serving::{Output, serve};
 use std::alloc::Global;
 use std::convert::AsStr;
 use std::io::Read;
-use std::marker::Brand;
 use table_engine::TableEngine;
 
 /// What came of the program's words.
@@ -40,31 +36,18 @@ pub struct Exit<D> {
 /// refused or which file or stream failed, status 2 with the line `mosaic: bad arguments`. It is 0 exactly where all was
 /// done, and no write or flush has failed.
 ///
-/// It calls [`carry_out`] on the system's files, and closes the disk that this hands back. So here it can only be said that
-/// there are such files and such a disk, on which all this was done; there it is said of those that were asked for.
-pub fn program<S: AsStr, R: Read, O: Output>(
-    rt: &HostRuntime,
+/// It does so on the files that these places have, which the caller picks: it calls [`carry_out`], and closes the disk that
+/// this hands back.
+pub fn program<P: Places, S: AsStr, R: Read, O: Output>(
+    alloc: Global,
+    places: &mut P,
     words: &[S],
     reader: &mut R,
     writer: &mut O,
 ) -> u8
-    ghost images: { ℕ → Image }
-    ensures { Runs images (map S.text words.now) (R.remaining reader.old) (R.remaining reader.new) (O.stream writer.old) (O.stream writer.new) result }
+    ensures { Accessing P.accessed places.old places.new (λ accesses. Runs P.File.Disk (map S.text words.now) accesses (R.remaining reader.old) (R.remaining reader.new) (O.stream writer.old) (O.stream writer.new) result) }
 {
-    on_files::<Brand, S, R, O>(rt, words, reader, writer).status
-}
-
-// Over any world the files are places like any others; the caller at `Brand` picks the images.
-fn on_files<V: World, S: AsStr, R: Read, O: Output>(
-    rt: &HostRuntime,
-    words: &[S],
-    reader: &mut R,
-    writer: &mut O,
-) -> Exit<FileDisk<V>>
-    ensures { RunsOnFiles V.image (map S.text words.now) (R.remaining reader.old) (R.remaining reader.new) (O.stream writer.old) (O.stream writer.new) result.disk result.status }
-{
-    let mut places = FilePlaces::<V>::new(rt);
-    carry_out(rt.alloc(), &mut places, words, reader, writer)
+    carry_out(alloc, places, words, reader, writer).status
 }
 
 /// Does what the words after the program's own name ask for, as [`program`] does, on the files that these places have, and

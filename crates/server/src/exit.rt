@@ -1,8 +1,8 @@
 //! How the program ends: what it writes, and its exit status.
-ghost use Rattle.std.specs.Prelude.{◌≡◌, ◌++◌, Err, IfOk};
+ghost use Rattle.std.specs.Prelude.{◌≡◌, ◌++◌, Err, IfOk, map};
 ghost use Rattle.engine.specs.Engines.{items_in};
 ghost use Rattle.lines.specs.Replies.{line_of};
-ghost use Rattle.server.specs.Endings.{EndsAnswering, EndsReplying, EndsSession, Tells, TellsRefusal, count_line, fault_line};
+ghost use Rattle.server.specs.Endings.{EndsAnswering, EndsReplying, EndsSession, Tells, TellsRefusal, count_line, fault_line, printable};
 ghost use Rattle.serving.specs.Outputs.{HasFailed, Puts};
 
 use lattice::Refusal;
@@ -123,10 +123,20 @@ pub(crate) fn write_message<O: Output>(
 }
 
 fn line_about(alloc: Global, words: &[u8], about: &[u8]) -> Result<Vec<u8>, AllocError>
-    ensures { IfOk result (λ line. line.items ≡ line_of (words.now ++ about.now)) }
+    ensures { IfOk result (λ line. line.items ≡ line_of (map printable (words.now ++ about.now))) }
 {
-    let mut line = Vec::from_slice(alloc, words)?;
-    line.extend_from_slice(about)?;
+    let mut line: Vec<u8> = words
+        .iter()
+        .chain(about.iter())
+        .map(|byte| printable(*byte))
+        .collect(alloc)?;
     line.push(b'\n')?;
     Ok(line)
+}
+
+/// A byte of a message. A path may have a line end in it, or what a terminal takes as a command.
+fn printable(byte: u8) -> u8
+    ensures { result ≡ printable byte }
+{
+    if byte < b' ' { b'?' } else { byte }
 }

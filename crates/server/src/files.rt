@@ -9,8 +9,8 @@ ghost use Rattle.server.specs.Files.{GivesUntouched};
 use crate::places::{Lengthen, MakeFault, Places, TileFault};
 use disk::{Disk, Fault, FileDisk, World};
 use std::alloc::Global;
-use std::fs::File;
-use std::io::{ErrorKind, Read};
+use std::fs::{self, File};
+use std::io::{self, ErrorKind, Read};
 use std::marker::PhantomData;
 
 impl<V: World> Lengthen for FileDisk<V> {
@@ -54,10 +54,19 @@ impl<V: World> Places for FilePlaces<'_, V> {
     }
 
     fn read(&mut self, path: &str, most: u32) -> Result<Vec<u8>, TileFault> {
-        match File::open(self.rt, path) {
+        match open_regular(self.rt, path) {
             Ok(file) => read_at_most(self.rt.alloc(), file, most),
             Err(_) => Err(TileFault::Unreadable),
         }
+    }
+}
+
+// What is at the path is asked before: to open a pipe waits for a writer, and to open a device may do something to it.
+fn open_regular(rt: &HostRuntime, path: &str) -> io::Result<File> {
+    if fs::metadata(rt, path)?.is_file() {
+        File::open(rt, path)
+    } else {
+        Err(io::Error::from(ErrorKind::InvalidInput))
     }
 }
 

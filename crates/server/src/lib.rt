@@ -7,7 +7,8 @@
 //! It hands out what serves any engine, too: `serve`, `Engine` and `TableEngine`.
 //!
 //! ```
-//! let status = program(&rt, &words, &mut reader, &mut writer);
+//! let mut places = FilePlaces::<Brand>::new(&rt);
+//! let status = program(rt.alloc(), &mut places, &words, &mut reader, &mut writer);
 //! ```
 #![tactic(auto)]
 

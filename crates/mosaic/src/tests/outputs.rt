@@ -1,7 +1,8 @@
 //! What the program answers and writes where one call of its output fails.
 use super::owned;
-use server::{CheckedWriter, program};
+use server::{CheckedWriter, FilePlaces, program};
 use std::io::{self, ErrorKind, Write};
+use std::marker::Brand;
 use std::test::Fail;
 
 /// A writer of which one call fails, by its number from 0.
@@ -120,7 +121,8 @@ fn outputs_that_fail(rt: HostRuntime) -> Result<(), Fail> {
             calls: 0,
             fault: row.fault,
         });
-        let status = program(&rt, &words, &mut reader, &mut writer);
+        let mut places = FilePlaces::<Brand>::new(&rt);
+        let status = program(rt.alloc(), &mut places, &words, &mut reader, &mut writer);
         let written = writer.into_inner().taken;
         assert_eq!(rt; status, row.status);
         assert!(rt; written.as_slice() == row.written);
