@@ -14,7 +14,7 @@ use Rattle.edits.specs.Effect.{effect, unless_refused}
 use Rattle.edits.specs.Plans.{is_own, may_end}
 use Rattle.edits.specs.declared.command.Command.{Command}
 use Rattle.engine.specs.Outcomes.{AppliesNot}
-use Rattle.engine.specs.State.{Contents, State, last_number, made_by, in_doubt, working}
+use Rattle.engine.specs.State.{Contents, State, last_number, made_by, in_doubt}
 use Rattle.engine.specs.Told.{may_refuse_command}
 use Rattle.cow_tree.specs.Layout.{Stands}
 use Rattle.cow_tree.specs.Stored.{Stored, next_commit}

@@ -10,7 +10,7 @@ use Rattle.hgt.proofs.BytesLemmas.{samples_are_samples_in, AreHgtBytes-samples_i
 use Rattle.catalogue.specs.Tiles.{corners_of, added, without}
 use Rattle.catalogue.specs.Tiles as mosaics
 use Rattle.catalogue.proofs.Mosaics.{corner_of}
-use Rattle.cow_tree.specs.Stored.{IsPage, StoredTile, AreWhole, plane_bytes, pages_of_bytes, samples_of_plane, mosaic_of_tiles, without_tile, with_tile, stale_tile, corners_of_stored}
+use Rattle.cow_tree.specs.Stored.{StoredTile, AreWhole, plane_bytes, pages_of_bytes, samples_of_plane, without_tile, with_tile, stale_tile, corners_of_stored}
 use Rattle.cow_tree.proofs.Planes.{plane_read_back, length-pages_of_bytes, whole_pages}
 pub use Rattle.store.specs.Editing.{IsFilled, AreTilesOf}
 use Rattle.store.specs.Standing.{HoldsTile}

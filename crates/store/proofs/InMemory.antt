@@ -1,32 +1,22 @@
 -- The commands of whole tiles in a state, by what the tree holds in memory.
-use Rattle.std.proofs.Common.{◌≡◌, ◌≢◌, ℕ, ◌+◌, ◌<◌, ◌^◌, false, List, [], ◌∷◌, map, All, refl, sym, ap, ◌∙◌, subst, arith}
-use Rattle.std.specs.Prelude.{IsTrue, Ok, Err}
-use Rattle.std.proofs.lemmas.Bool.{both_ways}
+use Rattle.std.proofs.Common.{◌≡◌, ℕ, ◌+◌, ◌<◌, ◌^◌, false, List, [], ◌∷◌, map, refl, sym, ap, ◌∙◌, arith}
+use Rattle.std.specs.Prelude.{Ok, Err}
 use Rattle.disk.specs.Disk.{Image}
 use Rattle.disk.specs.declared.disk.Disk.{Ghosts}
-use Rattle.lattice.specs.Corners.{Corner, is_corner}
+use Rattle.lattice.specs.Corners.{Corner}
 use Rattle.lattice.specs.Mosaic.{Mosaic}
 use Rattle.lattice.specs.declared.refusal.Refusal.{Refusal}
-use Rattle.lattice.specs.declared.refusal.Refusal.TheVariants.{BadLength, TileThere, Full, NoTile, Device, Failed}
-use Rattle.hgt.specs.Bytes.{samples_in}
-use Rattle.catalogue.specs.Tiles.{corners_of, added, without}
-use Rattle.page_codec.specs.Sizes.{pages_of}
+use Rattle.catalogue.specs.Tiles.{corners_of}
 use Rattle.edits.specs.declared.command.Command.{Command}
-use Rattle.edits.specs.declared.command.Command.TheVariants.{Import, Remove}
 use Rattle.edits.specs.Effect.{effect}
-use Rattle.edits.specs.Plans.{is_own}
-use Rattle.edits.specs.Touched.{are_neighbours}
-use Rattle.engine.specs.Outcomes.{AppliesNot, Refuses, IsWorn}
-use Rattle.engine.specs.State.{State, last_number, made_by}
-use Rattle.edits.specs.EffectLaws.{CommandsMakeMosaics}
+use Rattle.engine.specs.Outcomes.{Refuses, IsWorn}
+use Rattle.engine.specs.State.{State, last_number}
 use Rattle.page_map.specs.TileLocations.{TileLocation}
 use Rattle.cow_tree.specs.Layout.{tile_in}
 use Rattle.page_map.specs.PageMaps.{corners_of_locations}
-use Rattle.cow_tree.specs.Stored.{Stored, next_commit, corners_of_stored, pages_of_bytes, stale_tile, with_tile, without_tile}
+use Rattle.cow_tree.specs.Stored.{Stored, corners_of_stored}
 use Rattle.cow_tree.specs.Trees.{disk_of, root_of, has_failed, sinks_of, staged_in, corners_of as corners_under, IsAt as IsTreeAt}
 use Rattle.cow_tree.specs.declared.tree.Tree.{Tree}
-use Rattle.store.specs.Staling.{staled}
-use Rattle.store.specs.Standing.{Holds}
 use Rattle.store.specs.States.{IsSound}
 use Rattle.store.specs.TreeStates.{IsInState}
 use Rattle.store.proofs.HeldTiles.{corners_held}

@@ -19,6 +19,7 @@ pub mod Opened
 pub mod Openings
 pub mod PageRows
 pub mod Pages
+pub mod PagesMet
 pub mod Patched
 pub mod Querying
 pub mod QueryingDrainage

@@ -1,6 +1,6 @@
 -- What an edit makes of the mosaic, once it is staged.
-use Rattle.std.proofs.Common.{◌≡◌, inl, inr, ⊎_elim, ℕ, ◌+◌, ◌*◌, ◌<◌, true, false, List, All, length, not, refl, sym, ap, ◌∙◌, subst}
-use Rattle.std.specs.Prelude.{Option, Some, None, Ok}
+use Rattle.std.proofs.Common.{◌≡◌, inl, inr, ⊎_elim, ℕ, true, false, List, not, refl, sym, ap, ◌∙◌, subst}
+use Rattle.std.specs.Prelude.{None, Ok}
 use Rattle.disk.specs.declared.disk.Disk.{Ghosts}
 use Rattle.lattice.specs.Corners.{Corner, same_corner}
 use Rattle.lattice.specs.Mosaic.{Mosaic, IsMosaic}
@@ -12,7 +12,7 @@ use Rattle.edits.specs.Edits.{edit_made}
 use Rattle.edits.specs.Effect.{effect}
 use Rattle.edits.specs.Touched.{goes_stale}
 use Rattle.engine.specs.State.{State}
-use Rattle.cow_tree.specs.Stored.{KeptPlanes, StoredTile, pages_of_bytes, stale_tile, with_tile, without_tile}
+use Rattle.cow_tree.specs.Stored.{StoredTile, with_tile, without_tile}
 use Rattle.cow_tree.specs.Trees.{root_of, has_failed, sinks_of, staged_in}
 use Rattle.cow_tree.specs.declared.tree.Tree.{Tree}
 use Rattle.store.specs.Editing.{ComesIn, IsMade, KeepsBut, AreTilesOf}

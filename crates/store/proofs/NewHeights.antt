@@ -1,26 +1,36 @@
 -- New heights of points: what they make of samples, page by page and all together.
-use Rattle.std.proofs.Common.{◌≡◌, ◌≢◌, ◌⊎◌, inl, inr, ⊎_elim, ℕ, suc, ◌+◌, ◌*◌, ◌/◌, ◌<◌, ◌≤◌, ℤ, pos, Bool, true, false, cond, List, [], ◌∷◌, ◌++◌, length, get_or, set, take, take_all, Contains, refl, sym, ap, ◌∙◌, subst, arith}
-use Rattle.std.specs.Prelude.{All, IsTrue}
-use Rattle.std.proofs.lemmas.Bool.{false_from_ne_true}
-use Rattle.std.proofs.lemmas.List.{get_or_default, length-set, take_more}
-use Rattle.std.proofs.lemmas.List.Elements.{All-contains, All-more, All-weaker}
+use Rattle.std.proofs.Common.{◌≡◌, ◌≢◌, ◌⊎◌, inl, inr, ⊎_elim, ℕ, suc, ◌+◌, ◌*◌, ◌/◌, ◌<◌, ◌≤◌, ℤ, Bool, true, false, cond, List, [], ◌∷◌, ◌++◌, length, get_or, set, take, take_all, Contains, nat_eq, zero, refl, sym, ap, ◌∙◌, subst, arith}
+use Rattle.std.specs.Prelude.{◌&&◌, ◌||◌, IsTrue}
+use Rattle.std.proofs.lemmas.Bool.{and_from, false_from_ne_true}
+use Rattle.std.proofs.lemmas.Cmp.{nat_eq_equiv}
+use Rattle.std.proofs.lemmas.List.{length-set, take_more}
 use Rattle.hgt.specs.Bytes.{high_byte, low_byte}
 use Rattle.lattice.specs.Corners.{Corner, is_corner}
 use Rattle.lattice.specs.Ground.{same_point}
-use Rattle.lattice.specs.Lattice.{IsIndexOf, point_of}
+use Rattle.lattice.specs.Lattice.{Holds, IsIndexOf, holds, index_of, point_of}
 use Rattle.lattice.specs.Mosaic.{Mosaic, IsSample}
 use Rattle.lattice.specs.declared.point.Point.{Point}
 use Rattle.lattice.proofs.SamePoints.{same_point_says, same_point_from}
-use Rattle.lattice.proofs.Samples.{index_of_point, index_unique, point_at_index}
+use Rattle.lattice.proofs.Samples.{held_at, holds_is, index_is, index_of_point, index_of_point_is, index_unique, point_at_index, point_of_held}
 use Rattle.lattice.proofs.Multiples.{some_side}
 use Rattle.edits.specs.declared.edit.NewHeight.{NewHeight}
-use Rattle.edits.specs.Edits.{with_height, with_heights}
+use Rattle.edits.specs.Edits.{points_of, with_height, with_heights}
 use Rattle.edits.specs.Effect.{edited}
 use Rattle.edits.proofs.Edited.{edited_none, edited_twice}
-use Rattle.cow_tree.specs.Stored.{IsPage, StoredTile}
-use Rattle.store.specs.Underway.{page_sample, heightened, stored_sample, IsEdited, IsPointSettled, IsSettled, Advances}
+use Rattle.cow_tree.specs.Stored.{IsPage}
+use Rattle.store.specs.PagesMet.{is_in_page, has_point}
+use Rattle.store.specs.Underway.{page_sample, heightened, IsEdited, LeavesPage}
 use Rattle.store.proofs.Pages.{with_bytes, page_with_bytes}
+use Rattle.store.proofs.PagesMet.{or_true}
 use Rattle.store.proofs.VoidPages.{sample_put, sample_beside}
+
+or_none : (b : Bool) → (b || false) ≡ b
+or_none true = refl
+or_none false = refl
+
+or_joined : (a b c : Bool) → (a || (b || c)) ≡ ((a || b) || c)
+or_joined true b c = refl
+or_joined false b c = refl
 
 -- ---- one edit after another
 
@@ -106,6 +116,21 @@ module _ (n : ℕ) (heights : List NewHeight) (c : Corner) (corner : IsTrue (is_
           let no : true ≡ false = sym same ∙ other in cc in
           sample_beside now at h.metres j apart ∙ so.samples j small inside
 
+  -- .. and has the height already
+  pub height_there : (at : ℕ) → at < 2048 → IsIndexOf n c h.point (2048 * i + at) → page_sample now at ≡ h.metres → IsSetTo n heights c i (k + 1) was now
+  height_there at below index value = record {
+    page = so.page;
+    long = so.long;
+    samples = λ j small inside. step j (page_sample now j) (same_point (point j) h.point) refl (by j small inside (same_point (point j) h.point) refl);
+  }
+    where
+      by : (j : ℕ) → j < 2048 → 2048 * i + j < n * n → (b : Bool) → same_point (point j) h.point ≡ b → page_sample now j ≡ cond b h.metres (heightened (take k heights) (point j) (page_sample was j))
+      by j small inside true same =
+          let one : 2048 * i + j ≡ 2048 * i + at = index_unique n c h.point (2048 * i + j) (2048 * i + at) (named j inside same) index in
+          let there : j ≡ at = omega (arith, one) in
+          ap (page_sample now) there ∙ value
+      by j small inside false other = so.samples j small inside
+
   -- .. or doesn't
   pub height_passed : ((e : ℕ) → IsIndexOf n c h.point e → e / 2048 ≢ i) → IsSetTo n heights c i (k + 1) was now
   height_passed none = record {
@@ -127,29 +152,40 @@ all_set n heights c i k was now all so = record {
   samples = λ j small inside. so.samples j small inside ∙ ap (λ (l : List NewHeight). heightened l (point_of n c (2048 * i + j)) (page_sample was j)) (take_all k heights all);
 }
 
--- ---- all pages
+-- ---- the pages that points lie in
 
--- where the pages of all points are settled, every page is
-pub heights_settled : (n : ℕ) (heights : List NewHeight) (tiles : List StoredTile) → ((t : StoredTile) → Contains tiles t → IsTrue (is_corner t.corner))
-    → All (λ h. IsPointSettled n (heightened heights) tiles h.point) heights → (c : Corner) (i : ℕ) → IsSettled n (heightened heights) tiles c i
-heights_settled n heights tiles corners settled c i t there corner e inside here =
-    ⊎_elim
-    (λ named.
-    let index : IsIndexOf n c named.0.point e =
-    subst (λ (p : Point). IsIndexOf n c p e) (sym named.1.1) (index_of_point n c e (some_side n e inside) (subst (λ (d : Corner). IsTrue (is_corner d)) corner (corners t there)) inside) in
-    All-contains (λ h. IsPointSettled n (heightened heights) tiles h.point) heights named.0 settled named.1.0 c e index t there corner e inside refl)
-    (λ left. left (stored_sample n t e))
-    (named_or_left heights (point_of n c e))
+module _ (n : ℕ) (c : Corner) (i : ℕ) where
+  one_point : (heights : List NewHeight) (h : NewHeight) → Contains heights h → is_in_page n c i h.point ≡ true → has_point n (points_of heights) c i ≡ true
+  one_point [] h (k, below, here) is = absurd (omega (arith, below))
+  one_point (x ∷ xs) h (zero, below, here) is = ap (λ b. b || has_point n (points_of xs) c i) (ap (λ (y : NewHeight). is_in_page n c i y.point) here ∙ is)
+  one_point (x ∷ xs) h (suc k, below, here) is = or_true (is_in_page n c i x.point) (has_point n (points_of xs) c i) (one_point xs h (k, omega (arith, below), here) is)
 
--- one point more is settled
-pub points_still : (n : ℕ) (edit : Point → ℤ → ℤ) (m : Mosaic) (was now : List StoredTile) → Advances n edit m was now → (heights : List NewHeight) (k : ℕ) → k < length heights
-    → All (λ h. IsPointSettled n edit was h.point) (take k heights) → ((h : NewHeight) → h ≡ get_or heights k h → IsPointSettled n edit now h.point) → All (λ h. IsPointSettled n edit now h.point) (take (k + 1) heights)
-points_still n edit m was now more heights k within settled here =
-    let h : NewHeight = get_or heights k (record { point = record { y = pos 0; x = pos 0 }; was = pos 0; metres = pos 0 }) in
-    let is : h ≡ get_or heights k h = get_or_default heights k (record { point = record { y = pos 0; x = pos 0 }; was = pos 0; metres = pos 0 }) h within in
-    All-more (λ x. IsPointSettled n edit now x.point) heights k h within
-    (All-weaker (λ x. IsPointSettled n edit was x.point) (λ x. IsPointSettled n edit now x.point) (λ x so c e index. more.settled c (e / 2048) (so c e index)) (take k heights) settled)
-    (subst (λ (x : NewHeight). IsPointSettled n edit now x.point) is (here h is))
+  -- one point more
+  pub more_points : (xs : List NewHeight) (h : NewHeight) → has_point n (points_of (xs ++ h ∷ [])) c i ≡ (has_point n (points_of xs) c i || is_in_page n c i h.point)
+  more_points [] h = or_none (is_in_page n c i h.point)
+  more_points (x ∷ xs) h = ap (λ b. is_in_page n c i x.point || b) (more_points xs h) ∙ or_joined (is_in_page n c i x.point) (has_point n (points_of xs) c i) (is_in_page n c i h.point)
+
+  -- a page in which none lies is left
+  pub points_left : (heights : List NewHeight) → 3 ≤ n → IsTrue (is_corner c) → has_point n (points_of heights) c i ≡ false → LeavesPage n (heightened heights) c i
+  points_left heights side corner none e inside here s =
+      ⊎_elim
+      (λ named.
+      let some = some_side n e inside in
+      let p : Point = point_of n c e in
+      let held : holds n c p ≡ true = (holds_is n c p side corner).1 (point_of_held n c e some corner inside) in
+      let at : nat_eq (index_of n c p / 2048) i ≡ true = ap (λ (k : ℕ). nat_eq (k / 2048) i) (index_of_point_is n c e some corner inside) ∙ ap (λ (k : ℕ). nat_eq k i) here ∙ nat_eq_equiv.refl i in
+      let lies : is_in_page n c i named.0.point ≡ true = ap (is_in_page n c i) named.1.1 ∙ and_from (holds n c p) (nat_eq (index_of n c p / 2048) i) held at in
+      absurd (let no : true ≡ false = sym (one_point heights named.0 named.1.0 lies) ∙ none in cc))
+      (λ left. left s)
+      (named_or_left heights (point_of n c e))
+
+-- a point that the tile doesn't hold lies in no page of it, and one that it holds in the page of its index
+pub in_no_page : (n : ℕ) (c : Corner) (p : Point) → 3 ≤ n → IsTrue (is_corner c) → (Holds n c p → ⊥) → (i : ℕ) → is_in_page n c i p ≡ false
+in_no_page n c p side corner out i = ap (λ b. b && nat_eq (index_of n c p / 2048) i) (false_from_ne_true (holds n c p) (λ held. out ((holds_is n c p side corner).0 held)))
+
+pub in_own_page : (n : ℕ) (c : Corner) (p : Point) (e : ℕ) → 3 ≤ n → IsIndexOf n c p e → (i : ℕ) → is_in_page n c i p ≡ nat_eq (e / 2048) i
+in_own_page n c p e side at i =
+    ap (λ b. b && nat_eq (index_of n c p / 2048) i) ((holds_is n c p side at.corner).1 (held_at n c p e at)) ∙ ap (λ (k : ℕ). nat_eq (k / 2048) i) (index_is n c p e at)
 
 -- new heights leave the sinks
 pub sinks_kept : (heights : List NewHeight) (m : Mosaic) → (with_heights heights m).sinks ≡ m.sinks

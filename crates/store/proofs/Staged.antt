@@ -1,5 +1,5 @@
 -- Nothing is staged where no record is due.
-use Rattle.std.proofs.Common.{◌≡◌, ℕ, arith}
+use Rattle.std.proofs.Common.{◌≡◌, arith}
 use Rattle.disk.specs.declared.disk.Disk.{Ghosts}
 use Rattle.lattice.specs.Corners.{Corner}
 use Rattle.cow_tree.specs.Trees.{HasStaged, records_due}

@@ -1,24 +1,25 @@
 -- Pages staged one after another, and what has the memory for them.
-use Rattle.std.proofs.Common.{◌≡◌, ◌⊎◌, ⊎_elim, inl, inr, ◌≤◌, ◌+◌, ℕ, Bool, List, get_or, Contains, if◌then◌else◌, false, Result, Ok, Err, OnOk, IfErr, IsErrOf, refl, sym, ap, ap₂, ◌∙◌, subst, arith}
+use Rattle.std.proofs.Common.{◌≡◌, ◌⊎◌, ⊎_elim, inr, ◌<◌, ◌≤◌, ◌+◌, ℕ, Bool, length, if◌then◌else◌, false, Result, Ok, Err, IfErr, IsErrOf, refl, sym, ap, ap₂, ◌∙◌, subst, arith}
 use Rattle.disk.specs.Disk.{Image}
 use Rattle.disk.specs.declared.disk.Disk.{Ghosts}
 use Rattle.page_codec.specs.declared.version.Version.{Version}
 use Rattle.page_codec.specs.declared.version.Version.TheVariants.{One, Two}
 use Rattle.lattice.specs.Corners.{Corner}
-use Rattle.lattice.specs.Lattice.{Holds}
-use Rattle.lattice.specs.declared.point.Point.{Point}
 use Rattle.lattice.specs.declared.refusal.Refusal.{Refusal}
 use Rattle.lattice.specs.declared.refusal.Refusal.TheVariants.{Device, NoMemory}
 use Rattle.page_codec.specs.Roots.{RootValue}
-use Rattle.edits.specs.declared.edit.NewHeight.{NewHeight}
-use Rattle.cow_tree.specs.Staged.{index_page_by}
+use Rattle.page_codec.specs.Sizes.{pages_of}
+use Rattle.page_map.specs.PageMaps.{PageMapValue}
+use Rattle.cow_tree.specs.Reading.{Reads}
+use Rattle.cow_tree.specs.Staged.{index_page_by, pages_due}
 use Rattle.cow_tree.specs.Stored.{Stored}
 use Rattle.cow_tree.specs.Trees.{disk_of, root_of, corners_of, sinks_of, has_begun, has_failed, records_due, staged_in, HasStaged, IsAt}
 use Rattle.cow_tree.specs.Uncommitted.{MakesNoCall}
 use Rattle.cow_tree.specs.declared.tree.Tree.{Tree}
 use Rattle.cow_tree.proofs.ReadOnly.{never_refused}
 use Rattle.cow_tree.proofs.Steps.{on_ok}
-use Rattle.store.specs.Editing.{StagesOnly, ArePrepared, IsRefusedEarly, IsPreparedAt, Prepares, StagesPages, index_pages_due, writes_begun}
+use Rattle.store.specs.Editing.{StagesOnly, IsPrepared, IsRefusedEarly, Prepares, StagesPages, index_pages_due, writes_begun}
+use Rattle.store.proofs.EditingReads.{page_read}
 use Rattle.store.proofs.EditingSteps.{always, in_memory, refusal_is, stages_on}
 
 -- index pages of so many pages and so many more
@@ -129,12 +130,42 @@ module _ {D : Type 0} (g : Ghosts D) where
   }
 
   -- what is prepared stays so
-  pub prepared_still : {T : Type 0} {r : ℕ} (old new : Tree D g) (result : Result T Refusal) → Prepares g r old new result → (p : Point) → IsPreparedAt old p → IsPreparedAt new p
-  prepared_still old new result done p was c there holds =
-      done.stages.still_staged c
-      (was c (subst (λ (cs : List Corner). Contains cs c) done.stages.corners there) (subst (λ (root : RootValue). Holds root.side c p) done.stages.uncommitted.root holds))
+  pub still_prepared : {T : Type 0} {result : Result T Refusal} (meets : Corner → ℕ → Bool) (old new : Tree D g) → StagesOnly g old new result → (c : Corner) → IsPrepared meets old c → IsPrepared meets new c
+  still_prepared meets old new stages c prepared i below met = stages.still_staged c (prepared i (subst (λ (root : RootValue). i < pages_of root.side) stages.uncommitted.root below) met)
 
-  pub still_prepared : {T : Type 0} {result : Result T Refusal} (old new : Tree D g) → StagesOnly g old new result → (heights : List NewHeight) → ArePrepared old heights → ArePrepared new heights
-  still_prepared old new stages heights prepared k h within c there holds =
-      stages.still_staged c
-      (prepared k h within c (subst (λ (cs : List Corner). Contains cs c) stages.corners there) (subst (λ (root : RootValue). Holds root.side c (get_or heights k h).point) stages.uncommitted.root holds))
+  -- a page that was read, or not, is none staged
+  pub read_pages : {T : Type 0} (p : ℕ) (old new : Tree D g) (result : Result T Refusal) → Reads g old new result → StagesPages g p 0 old new result
+  read_pages p old new result reads =
+      let writes = reads.keeps.writes in
+      let same = same_begun old new reads.keeps.writes reads.keeps.begun in
+      let due : records_due new ≡ records_due old = ap (λ (page_map : PageMapValue). length (pages_due page_map)) reads.keeps.page_map in
+      record {
+        stages = page_read g old new result reads;
+        writes = omega (arith, writes);
+        begun = always result (omega (arith, same));
+        due = always result (omega (arith, due));
+      }
+
+  -- nothing at all
+  module _ (only_now : (disk : D) (image : Image) → g.honest disk → g.since disk (g.moment disk) image → g.may disk image) (tree : Tree D g) (works : has_failed tree ≡ false) where
+    abbrev pub nothing : Result (Unit {0}) Refusal
+    nothing = Ok tt
+
+    pub none_prepared : Prepares g 0 tree tree nothing
+    none_prepared = record {
+      stages = record {
+        uncommitted = in_memory g tree tree nothing only_now (record { disk = refl; root = refl; failed = refl; begun = refl }) works (λ _ s is. is) (λ is. never_refused tt Device is);
+        corners = refl;
+        sinks = refl;
+        still_staged = λ c was. was;
+      };
+      refused = tt;
+      works = works;
+      writes = refl;
+      begun = refl;
+      due = omega arith;
+      staged = refl;
+    }
+
+    pub none_staged : StagesPages g 0 0 tree tree nothing
+    none_staged = prepared_pages 0 tree tree nothing none_prepared

@@ -6,7 +6,7 @@ use Rattle.std.proofs.lemmas.Bool.{eqb-true, eqb-false}
 use Rattle.std.proofs.lemmas.List.{same_lists, length-set, get_or-set_same, get_or-set_other, get_or_default}
 use Rattle.std.proofs.lemmas.List.Elements.{All-nil, All-cons, All-head, All-tail, All-set, All-contains}
 use Rattle.std.proofs.lemmas.Option.{get_or_from_slice_get, slice_get_within}
-use Rattle.lattice.specs.Corners.{Corner, same_corner, is_before, is_corner}
+use Rattle.lattice.specs.Corners.{Corner, same_corner, is_before}
 use Rattle.lattice.specs.Lattice.{point_of}
 use Rattle.lattice.specs.Mosaic.{Tile, Mosaic, IsTile, IsMosaic}
 use Rattle.lattice.specs.declared.point.Point.{Point}
@@ -15,11 +15,12 @@ use Rattle.lattice.proofs.Rising.{AllAfter, Rising}
 use Rattle.catalogue.proofs.Mosaics.{corner_of, rising_tiles}
 use Rattle.edits.specs.Effect.{changed_from, edited}
 use Rattle.edits.proofs.Placing.{get-changed_from, length-changed_from}
+use Rattle.page_codec.specs.Sizes.{pages_of}
 use Rattle.page_map.specs.declared.plane.Plane.TheVariants.{Heights}
 use Rattle.cow_tree.specs.Planes.{HasPage}
 use Rattle.cow_tree.specs.Stored.{AreWhole, IsPage, PlanePages, KeptPlanes, StoredTile, samples_of_plane, mosaic_of_tiles, with_page_in, with_page}
 use Rattle.store.specs.Staling.{keeper, keepers}
-use Rattle.store.specs.Underway.{page_sample, IsEdited, stored_sample, IsPartly, IsUnderway, IsSettled, IsPageOf, Advances, Settles}
+use Rattle.store.specs.Underway.{page_sample, IsEdited, stored_sample, IsPartly, IsUnderway, IsSettled, IsPageOf, LeavesPage, Advances, Settles}
 use Rattle.store.proofs.Finding.{stored_corner}
 use Rattle.store.proofs.HeldTiles.{IsFilled, AreTilesOf, as_tile}
 use Rattle.store.proofs.Pages.{length_samples, sample_in_page}
@@ -282,12 +283,11 @@ module _ (n : ℕ) (edit : Point → ℤ → ℤ) (m : Mosaic) (tiles : List Sto
         ∙ sym sample;
   }
 
-  -- so is one of whose points the edit changes none
-  pub page_passed : (c : Corner) (i : ℕ) → ((e : ℕ) → e < n * n → e / 2048 ≡ i → (s : ℤ) → edit (point_of n c e) s ≡ s) → Settles n edit m tiles tiles c i
-  page_passed c i leaves = record {
-    advances = record { underway = is; kept = refl; settled = λ d k so. so };
-    here = λ t there corner e inside at. leaves e inside at (stored_sample n t e);
-  }
+  -- so is one of which the edit changes no sample, in the mosaic's tile
+  pub page_passed : (c : Corner) (i : ℕ) → ((t : Tile) → Contains m.tiles t → t.corner ≡ c → LeavesPage n edit c i) → IsSettled n edit tiles c i
+  page_passed c i leaves t there corner e inside at =
+      let found = tile_of n edit m.tiles tiles t is.tiles there in
+      leaves found.0 found.1.0 (sym found.1.1.corner ∙ corner) e inside at (stored_sample n t e)
 
   -- nothing more was staged
   pub advances_none : Advances n edit m tiles tiles
@@ -349,6 +349,10 @@ underway_first n edit m tiles valid are = record {
   tiles = subst (λ (x : Mosaic). AllZip (IsPartly n edit) x.tiles tiles) (sym are.mosaic) (partly_itself n edit tiles are.filled);
 }
 
+-- behind the last page there is no sample
+pub page_beyond : (n : ℕ) (edit : Point → ℤ → ℤ) (tiles : List StoredTile) (c : Corner) (i : ℕ) → pages_of n ≤ i → IsSettled n edit tiles c i
+page_beyond n edit tiles c i past t there corner e inside at = absurd (omega (arith, past, inside, at))
+
 -- ---- one after another
 
 pub advances_on : (n : ℕ) (edit : Point → ℤ → ℤ) (m : Mosaic) (a b c : List StoredTile) → Advances n edit m a b → Advances n edit m b c → Advances n edit m a c
@@ -357,9 +361,3 @@ advances_on n edit m a b c first second = record { underway = second.underway; k
 -- each page is a whole page
 pub whole_pages : (n : ℕ) (edit : Point → ℤ → ℤ) (m : Mosaic) (tiles : List StoredTile) → IsUnderway n edit m tiles → AreWhole tiles
 whole_pages n edit m tiles is k t below = (partly_filled n edit m.tiles tiles is.tiles k t below).pages
-
--- each stored tile is one of a corner where tiles can lie
-pub partly_corner : (n : ℕ) (edit : Point → ℤ → ℤ) (m : Mosaic) (tiles : List StoredTile) → IsUnderway n edit m tiles → (t : StoredTile) → Contains tiles t → IsTrue (is_corner t.corner)
-partly_corner n edit m tiles is t there =
-    let found = tile_of n edit m.tiles tiles t is.tiles there in
-    subst (λ (d : Corner). IsTrue (is_corner d)) (sym found.1.1.corner) (All-contains (IsTile m.side) m.tiles found.0 is.valid.tiles found.1.0).corner

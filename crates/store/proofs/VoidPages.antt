@@ -1,6 +1,6 @@
 -- A page whose voids are filled.
-use Rattle.std.proofs.Common.{◌≡◌, ◌≢◌, ◌⊎◌, inl, inr, ℕ, zero, suc, ◌+◌, ◌*◌, ◌<◌, ◌≤◌, ℤ, pos, negsuc, Bool, true, false, cond, not, List, length, get_or, set, Contains, nat_eq, refl, sym, ap, ap₂, ◌∙◌, subst, arith}
-use Rattle.std.specs.Prelude.{◌&&◌, ◌||◌, nat_lt, IsTrue, FitsSigned}
+use Rattle.std.proofs.Common.{◌≡◌, ◌≢◌, ◌⊎◌, inl, inr, ℕ, ◌+◌, ◌*◌, ◌<◌, ◌≤◌, ℤ, pos, negsuc, Bool, true, false, cond, not, List, length, get_or, set, Contains, nat_eq, refl, sym, ap, ap₂, ◌∙◌, subst, arith}
+use Rattle.std.specs.Prelude.{◌&&◌, ◌||◌, nat_lt, FitsSigned}
 use Rattle.std.proofs.lemmas.Int.{to_z-of_z, ints}
 use mir.Syntax.{w16}
 use mir.Val.{to_z, of_z}
@@ -21,7 +21,7 @@ use Rattle.store.specs.Underway.{page_sample, filled, is_void_by_rim, is_due, Ar
 use Rattle.store.specs.declared.rims.RimVoids.{RimVoids}
 use Rattle.store.specs.declared.voids.Patch.{Patch}
 use Rattle.store.proofs.Pages.{with_bytes, page_with_bytes}
-use Rattle.store.proofs.VoidPoints.{own_ground, inner_void, not_void_is}
+use Rattle.store.proofs.VoidPoints.{own_ground, inner_void}
 
 -- ---- a sample that a call is passed arrives as it was
 

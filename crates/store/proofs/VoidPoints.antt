@@ -1,16 +1,16 @@
 -- Void points, by what the tiles that hold them say.
-use Rattle.std.proofs.Common.{◌≡◌, ◌≢◌, ℕ, zero, suc, ◌+◌, ◌*◌, ◌<◌, ℤ, Bool, true, false, cond, List, [], ◌∷◌, length, get_or, map, Contains, refl, sym, ap, ◌∙◌, subst, arith}
-use Rattle.std.specs.Prelude.{All, IsTrue}
+use Rattle.std.proofs.Common.{◌≡◌, ◌≢◌, ℕ, zero, suc, ◌*◌, ◌<◌, ℤ, Bool, true, false, cond, List, [], ◌∷◌, get_or, map, Contains, refl, sym, ap, ◌∙◌, arith}
+use Rattle.std.specs.Prelude.{IsTrue}
 use Rattle.std.specs.List.{filter}
 use Rattle.std.proofs.lemmas.Bool.{false_from_ne_true}
 use Rattle.std.proofs.lemmas.Bool.Decides.{Decides-int_eq}
 use Rattle.std.proofs.lemmas.List.{get_or_default}
 use Rattle.std.proofs.lemmas.List.Elements.{All-contains}
 use Rattle.lattice.specs.Block.{is_rim}
-use Rattle.lattice.specs.Corners.{Corner, is_corner}
-use Rattle.lattice.specs.Lattice.{Holds, IsIndexOf, holds, index_of, point_of}
+use Rattle.lattice.specs.Corners.{is_corner}
+use Rattle.lattice.specs.Lattice.{IsIndexOf, holds, point_of}
 use Rattle.lattice.specs.Mosaic.{Tile, Mosaic, IsTile, IsMosaic, void, is_void}
-use Rattle.lattice.specs.Height.{sample_at, samples_at, first_height, by_seam_rule, height_of}
+use Rattle.lattice.specs.Height.{sample_at, samples_at, first_height, by_seam_rule}
 use Rattle.lattice.specs.declared.height.Height.TheVariants.{At}
 use Rattle.lattice.specs.declared.point.Point.{Point}
 use Rattle.lattice.proofs.Interior.{inner_only}

@@ -15,7 +15,7 @@ use Rattle.cow_tree.specs.Trees.{disk_of, root_of}
 use Rattle.cow_tree.specs.declared.tree.Tree.{Tree}
 use Rattle.drainage.specs.Between.{IsHeldOf}
 use Rattle.drainage.specs.declared.drainage_cache.DrainageCache.{DrainageCache}
-use Rattle.store.specs.Ended.{Ending, EndsAt, HasEnded, IsApplied, IsStepped, command_ending, step_ending}
+use Rattle.store.specs.Ended.{Ending, EndsAt, HasEnded, IsApplied, command_ending, step_ending}
 use Rattle.store.specs.TreeStates.{IsInState}
 use Rattle.store.specs.Upgraded.{IsUpgraded, upgrade_ending}
 use Rattle.store.specs.Water.{IsHolding}

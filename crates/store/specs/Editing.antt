@@ -1,22 +1,21 @@
 -- What an edit makes of a tree before its commit (this product's own profile).
-use Rattle.std.specs.Prelude.{◌≡◌, ◌⊎◌, ◌≤◌, ◌<◌, ◌+◌, ◌*◌, ℕ, IsTrue, List, length, All, Contains, Result, OnOk, IfErr, false, None, if◌then◌else◌}
+use Rattle.std.specs.Prelude.{◌≡◌, ◌⊎◌, ◌≤◌, ◌<◌, ◌+◌, ◌*◌, ℕ, Bool, true, IsTrue, List, length, All, Contains, Result, OnOk, IfErr, false, None, if◌then◌else◌}
 use Rattle.disk.specs.declared.disk.Disk.{Ghosts}
+use Rattle.page_codec.specs.Sizes.{pages_of}
 use Rattle.page_codec.specs.declared.version.Version.{Version}
 use Rattle.page_codec.specs.declared.version.Version.TheVariants.{One, Two}
 use Rattle.lattice.specs.Corners.{Corner, is_corner}
-use Rattle.lattice.specs.Lattice.{Holds}
 use Rattle.lattice.specs.Mosaic.{Mosaic}
-use Rattle.lattice.specs.declared.point.Point.{Point}
 use Rattle.lattice.specs.declared.refusal.Refusal.{Refusal}
 use Rattle.lattice.specs.declared.refusal.Refusal.TheVariants.{Device, NoMemory}
 use Rattle.edits.specs.declared.edit.Edit.{Edit}
 use Rattle.edits.specs.declared.edit.Edit.TheVariants as edit
-use Rattle.edits.specs.declared.edit.NewHeight.{NewHeight}
-use Rattle.edits.specs.Edits.{edit_made}
+use Rattle.edits.specs.Edits.{edit_made, points_of}
 use Rattle.cow_tree.specs.Stored.{IsPage, StoredTile, mosaic_of_tiles}
 use Rattle.cow_tree.specs.Trees.{disk_of, root_of, has_begun, has_failed, corners_of, sinks_of, records_due, HasStaged, staged_in}
 use Rattle.cow_tree.specs.declared.tree.Tree.{Tree}
 use Rattle.cow_tree.specs.Uncommitted.{CommitsNothing, MakesNoCall}
+use Rattle.store.specs.PagesMet.{pages_with}
 
 -- the stored tile has whole pages enough for its heights
 pub record IsFilled (n : ℕ) (t : StoredTile) : Type 0 where
@@ -54,12 +53,9 @@ pub record Prepares {D T : Type 0} (g : Ghosts D) (records : ℕ) (old new : Tre
   pub due : records_due new ≤ records_due old + records
   pub staged : staged_in g new ≡ staged_in g old
 
--- pages of the tiles that hold the point can be staged without more memory
-abbrev pub IsPreparedAt : {D : Type 0} {g : Ghosts D} → Tree D g → Point → Type 0
-IsPreparedAt tree p = (c : Corner) → Contains (corners_of tree) c → Holds (root_of tree).side c p → HasStaged tree c
-
-abbrev pub ArePrepared : {D : Type 0} {g : Ghosts D} → Tree D g → List NewHeight → Type 0
-ArePrepared tree heights = All (λ h. IsPreparedAt tree h.point) heights
+-- pages of the corner's tile can be staged without more memory, where the edit meets one
+abbrev pub IsPrepared : {D : Type 0} {g : Ghosts D} → (Corner → ℕ → Bool) → Tree D g → Corner → Type 0
+IsPrepared meets tree c = (i : ℕ) → i < pages_of (root_of tree).side → meets c i ≡ true → HasStaged tree c
 
 -- it staged so many pages at most, where memory was had, with so many records
 pub record StagesPages {D T : Type 0} (g : Ghosts D) (pages records : ℕ) (old new : Tree D g) (result : Result T Refusal) : Type 0 where
@@ -72,11 +68,13 @@ pub record StagesPages {D T : Type 0} (g : Ghosts D) (pages records : ℕ) (old 
 abbrev pub IsRefusedEarly : {D T : Type 0} (g : Ghosts D) → Tree D g → Tree D g → Result T Refusal → Type 0
 IsRefusedEarly g old new result = IfErr result (λ r. (r ≡ Device) ⊎ ((r ≡ NoMemory) × (has_failed new ≡ false) × (g.writes (disk_of new) ≡ g.writes (disk_of old))))
 
--- how much staging an edit writes: new heights at most four pages and four records a point, a removal and a sink nothing
+-- how much staging an edit writes: new heights at most each page that holds one of the points, and its tile's record, a removal
+-- and a sink nothing
 abbrev pub StagesFew : {D T : Type 0} (g : Ghosts D) → Edit → Tree D g → Tree D g → Result T Refusal → Type 0
 StagesFew g (edit.Add c bytes) old new result = Unit {0}
 StagesFew g (edit.Drop c) old new result = Unit {0}
-StagesFew g (edit.Heights heights) old new result = StagesPages g (4 * length heights.items) (4 * length heights.items) old new result
+StagesFew g (edit.Heights heights) old new result =
+    let pages : ℕ = pages_with (root_of old).side (corners_of old) (points_of heights.items) in StagesPages g pages pages old new result × (pages ≤ 4 * length heights.items)
 StagesFew g (edit.Voids from to h tiles) old new result = Unit {0}
 StagesFew g (edit.Sink p h) old new result = MakesNoCall old new × (records_due new ≡ records_due old)
 StagesFew g (edit.Unsink p h) old new result = MakesNoCall old new × (records_due new ≡ records_due old)

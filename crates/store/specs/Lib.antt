@@ -6,6 +6,7 @@ pub mod Formatted
 pub mod Fresh
 pub mod KeptRight
 pub mod Labelling
+pub mod PagesMet
 pub mod Queried
 pub mod Sessions
 pub mod Staging

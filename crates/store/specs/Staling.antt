@@ -1,13 +1,10 @@
 -- Kept planes that are given up in memory, before a commit (this product's own profile).
-use Rattle.std.specs.Prelude.{◌≡◌, ◌≤◌, ℕ, Bool, ◌&&◌, true, false, if◌then◌else◌, List, map, Contains, Option, None}
-use Rattle.std.specs.List.{list_any}
+use Rattle.std.specs.Prelude.{◌≡◌, ◌≤◌, Bool, true, false, if◌then◌else◌, List, map, Contains, Option, None}
 use Rattle.disk.specs.declared.disk.Disk.{Ghosts}
 use Rattle.lattice.specs.Corners.{Corner}
-use Rattle.lattice.specs.declared.point.Point.{Point}
-use Rattle.lattice.specs.Lattice.{holds}
 use Rattle.lattice.specs.Mosaic.{Mosaic}
 use Rattle.edits.specs.declared.command.Command.{Command}
-use Rattle.edits.specs.Touched.{are_neighbours, goes_stale}
+use Rattle.edits.specs.Touched.{goes_stale}
 use Rattle.cow_tree.specs.Stored.{KeptPlanes, StoredTile, Stored, stale_tile}
 use Rattle.cow_tree.specs.Trees.{corners_of, sinks_of, records_due, staged_in, IsAt}
 use Rattle.cow_tree.specs.Uncommitted.{MakesNoCall}
@@ -19,10 +16,6 @@ staled_in test t = if test t.corner then stale_tile t.corner t.heights else t
 
 abbrev pub staled : (Corner → Bool) → List StoredTile → List StoredTile
 staled test tiles = map (staled_in test) tiles
-
--- some of the corners' tiles holds the point and is this corner's, or a neighbour of it
-abbrev pub near_holders : ℕ → List Corner → Point → Corner → Bool
-near_holders n corners q p = list_any (λ c. holds n c q && are_neighbours c p) corners
 
 -- the tiles whose corners pass the test will keep nothing, and nothing else has changed
 pub record Stales {D : Type 0} (g : Ghosts D) (test : Corner → Bool) (old new : Tree D g) : Type 0 where

@@ -1,10 +1,10 @@
 -- Heights that are staged page by page for an edit that sets samples (this product's own profile).
-use Rattle.std.specs.Prelude.{◌≡◌, ◌⊎◌, ℕ, ◌+◌, ◌*◌, ◌/◌, ◌<◌, ◌≤◌, ℤ, pos, Bool, false, ◌&&◌, ◌||◌, not, nat_lt, if◌then◌else◌, IsTrue, List, [], ◌∷◌, length, All, Contains, slice_index, slice_index_or}
+use Rattle.std.specs.Prelude.{◌≡◌, ◌⊎◌, ℕ, ◌+◌, ◌-◌, ◌*◌, ◌/◌, ◌<◌, ◌≤◌, ℤ, pos, int_le, Bool, false, ◌&&◌, ◌||◌, not, nat_lt, if◌then◌else◌, IsTrue, List, [], ◌∷◌, length, All, Contains, slice_index, slice_index_or}
 use Rattle.std.specs.List.{AllZip}
 use Rattle.lattice.specs.Block.{is_rim, rim_number}
 use Rattle.lattice.specs.Corners.{Corner}
 use Rattle.lattice.specs.Ground.{same_point}
-use Rattle.lattice.specs.Lattice.{IsIndexOf, point_of}
+use Rattle.lattice.specs.Lattice.{point_of}
 use Rattle.lattice.specs.Mosaic.{Tile, Mosaic, IsMosaic, is_void}
 use Rattle.lattice.specs.declared.point.Point.{Point}
 use Rattle.hgt.specs.Bytes.{sample_of}
@@ -47,6 +47,10 @@ abbrev pub IsSettled : (n : ℕ) (edit : Point → ℤ → ℤ) (tiles : List St
 IsSettled n edit tiles c i = (t : StoredTile) → Contains tiles t → t.corner ≡ c → (e : ℕ) → e < n * n → e / 2048 ≡ i
     → edit (point_of n c e) (stored_sample n t e) ≡ stored_sample n t e
 
+-- the edit changes no sample in page i of the corner's heights
+abbrev pub LeavesPage : ℕ → (Point → ℤ → ℤ) → Corner → ℕ → Type 0
+LeavesPage n edit c i = (e : ℕ) → e < n * n → e / 2048 ≡ i → (s : ℤ) → edit (point_of n c e) s ≡ s
+
 -- more of the edit is made, and what tiles keep stays
 pub record Advances (n : ℕ) (edit : Point → ℤ → ℤ) (m : Mosaic) (was now : List StoredTile) : Type 0 where
   pub underway : IsUnderway n edit m now
@@ -65,15 +69,19 @@ abbrev pub heightened : List NewHeight → Point → ℤ → ℤ
 heightened [] p s = s
 heightened (h ∷ later) p s = heightened later p (if same_point p h.point then h.metres else s)
 
--- the page of the point's sample is settled in each tile that holds it
-abbrev pub IsPointSettled : (n : ℕ) (edit : Point → ℤ → ℤ) (tiles : List StoredTile) → Point → Type 0
-IsPointSettled n edit tiles p = (c : Corner) (e : ℕ) → IsIndexOf n c p e → IsSettled n edit tiles c (e / 2048)
-
 -- ---- voids of a box
 
 -- what becomes of a sample by a patch
 abbrev pub filled : Mosaic → Patch → Point → ℤ → ℤ
 filled m patch p s = if is_in_box patch.from patch.to p && is_void_at m p then patch.height else s
+
+-- the index of the last sample in page i of a tile's heights
+abbrev pub last_in_page : ℕ → ℕ → ℕ
+last_in_page n i = if nat_lt (2048 * (i + 1)) (n * n) then 2048 * (i + 1) - 1 else n * n - 1
+
+-- no row of page i of the corner's heights lies south of the box, and none north of it: else it has no point of the box
+abbrev pub has_rows : ℕ → Corner → ℕ → Patch → Bool
+has_rows n c i patch = int_le patch.from.y (point_of n c (2048 * i)).y && int_le (point_of n c (last_in_page n i)).y patch.to.y
 
 -- these are the points of the box on the rim of the corner's tile that are void, by rim number
 pub record AreRimVoids (m : Mosaic) (patch : Patch) (rim : RimVoids) : Type 0 where

@@ -1,9 +1,10 @@
 //! The commands of a store.
-ghost use Rattle.std.specs.Prelude.{◌≡◌, true, OnErr};
+ghost use Rattle.std.specs.Prelude.{◌≡◌, ◌≤◌, ◌+◌, true, false, map, IfSome, OnErr};
 ghost use Rattle.engine.specs.Engines.{IsCall, answered};
 ghost use Rattle.engine.specs.declared.event.Event.TheVariants as ask;
 ghost use Rattle.engine.specs.declared.event.Reply.TheVariants as reply;
 ghost use Rattle.store.specs.StoreState.{members};
+ghost use Rattle.store.specs.PagesMet.{named_by, page_writes, pages_with};
 ghost use Rattle.store.specs.Stores.{disk_of, root_of, has_failed};
 
 use crate::Store;
@@ -25,6 +26,10 @@ impl<D: Disk> Store<D> {
     pub fn apply(&mut self, command: &Command) -> Result<u64, Refusal>
         ensures call { IsCall (members D.Disk) self.old (ask.Do command.now) (answered reply.Done result) self.new }
         ensures last_known { OnErr result (root_of self.new ≡ root_of self.old) }
+
+        // Of the heights a burn or a wall writes each page that holds one of its points, and no page twice.
+        ensures pages { has_failed self.old ≡ false → IfSome (named_by command.now) (λ points. D.writes (disk_of self.new)
+            ≤ D.writes (disk_of self.old) + page_writes (root_of self.old).version (pages_with (root_of self.old).side (map (λ e. e.corner) (root_of self.old).entries) points)) }
 
         // A store that failed makes no call of the disk.
         ensures failed { has_failed self.old ≡ true → disk_of self.new ≡ disk_of self.old }

@@ -8,7 +8,8 @@ ghost use Rattle.cow_tree.specs.Trees.{disk_of, root_of, has_failed, corners_of,
 ghost use Rattle.store.specs.Editing.{IsGiven, IsMade, IsRefusedEarly, StagesFew, AreTilesOf};
 ghost use Rattle.cow_tree.specs.Uncommitted.{CommitsNothing};
 
-use crate::heights::stage_heights;
+use crate::heights::PointHeights;
+use crate::staging_pages::stage_pages;
 use crate::voids::{Patch, stage_voids};
 use cow_tree::{Plane, Tree};
 use disk::Disk;
@@ -47,7 +48,12 @@ pub(crate) fn stage<D: Disk>(
             tree.drop_plane(*corner, Plane::Heights);
             Ok(())
         }
-        Edit::Heights { heights } => stage_heights(tree, heights.as_slice()),
+        Edit::Heights { heights } => {
+            let edit = PointHeights {
+                heights: heights.as_slice(),
+            };
+            stage_pages(tree, &edit)
+        }
         Edit::Voids {
             from,
             to,

@@ -1,19 +1,21 @@
-//! Heights staged where a patch fills voids.
-ghost use Rattle.std.specs.Prelude.{◌≡◌, ◌<◌, ◌≤◌, ◌+◌, ◌*◌, ◌-◌, ◌/◌, ◌^◌, ◌&&◌, int_le, ℕ, false, All, Contains, IfErr, OnOk, length, vec_len};
-ghost use Rattle.lattice.specs.Lattice.{point_of};
+//! A patch, as an edit of pages: what it fills.
+ghost use Rattle.std.specs.Prelude.{◌≡◌, ◌<◌, ◌≤◌, ◌+◌, ◌*◌, ◌-◌, ◌^◌, ◌&&◌, int_le, ℕ, true, false, All, Contains, IfSome, IfNone, OnOk, map, vec_len};
 ghost use Rattle.lattice.specs.Mosaic.{Mosaic, IsMosaic, IsSample, is_void};
-ghost use Rattle.lattice.specs.declared.refusal.Refusal.TheVariants.{Device};
 ghost use Rattle.page_codec.specs.Sizes.{pages_of};
+ghost use Rattle.catalogue.specs.Tiles.{is_listed};
+ghost use Rattle.edits.specs.Edits.{AreVoidTiles};
 ghost use Rattle.edits.specs.Effect.{is_in_box};
 ghost use Rattle.cow_tree.specs.Reading.{mosaic_of};
 ghost use Rattle.cow_tree.specs.Stored.{Stored};
-ghost use Rattle.cow_tree.specs.Trees.{disk_of, root_of, has_failed, corners_of, staged_in, HasStaged, IsAt};
-ghost use Rattle.store.specs.Editing.{StagesOnly, Prepares, IsRefusedEarly};
-ghost use Rattle.store.specs.Underway.{filled, is_due, page_sample, AreRimVoids, IsEdited, IsPageOf, IsSettled, IsUnderway, Advances, Settles};
+ghost use Rattle.cow_tree.specs.Trees.{disk_of, root_of, has_failed, corners_of, staged_in, IsAt};
+ghost use Rattle.store.specs.Editing.{StagesOnly, IsRefusedEarly};
+ghost use Rattle.store.specs.Underway.{filled, has_rows, is_due, last_in_page, page_sample, AreRimVoids, IsEdited, IsPageOf, IsSettled, IsUnderway, Advances};
 
+use crate::page_edit::PageEdit;
 use crate::rims::{RimVoids, read_rims};
 use crate::staging::SAMPLES_IN_PAGE;
-use cow_tree::{Plane, Tree};
+use crate::staging_pages::stage_pages;
+use cow_tree::Tree;
 use disk::Disk;
 use hgt::{put_sample, sample};
 use lattice::{Corner, Point, Refusal, Side, VOID, point_at};
@@ -28,9 +30,9 @@ pub(crate) struct Patch {
     pub(crate) height: i16,
 }
 
-/// Stages the height at the void points of the box in these tiles, each page that has one read and written once. Which
-/// points on their rims are void is found before the first page is written, and memory for all of it is had: refused with
-/// NoMemory, and then nothing was written, or with Device.
+/// Stages the height at the void points of the box, in these tiles, which are those that have one. Which points on their rims
+/// are void is found before the first page is written, and memory for all of it is had: refused with NoMemory, and then
+/// nothing was written, or with Device.
 pub(crate) fn stage_voids<D: Disk>(
     alloc: Global,
     tree: &mut Tree<D>,
@@ -38,119 +40,88 @@ pub(crate) fn stage_voids<D: Disk>(
     patch: Patch,
 ) -> Result<(), Refusal>
     requires works { has_failed tree.old ≡ false }
-    requires present { All (Contains (corners_of tree.old)) tiles.now }
     ensures stages { StagesOnly D.Disk tree.old tree.new result }
     ensures refused { IsRefusedEarly D.Disk tree.old tree.new result }
     ensures set { D.honest (disk_of tree.new) → (s : Stored) (m : Mosaic) → IsAt D.Disk tree.old s → mosaic_of D.Disk tree.old ≡ m
-        → IsUnderway (root_of tree.old).side (filled m patch) m (staged_in D.Disk tree.old)
+        → AreVoidTiles m patch.from patch.to tiles.now → IsUnderway (root_of tree.old).side (filled m patch) m (staged_in D.Disk tree.old)
         → OnOk result (Advances (root_of tree.old).side (filled m patch) m (staged_in D.Disk tree.old) (staged_in D.Disk tree.new)
-        × All (λ c. (i : ℕ) → IsSettled (root_of tree.old).side (filled m patch) (staged_in D.Disk tree.new) c i) tiles.now) }
+        × All (λ c. (i : ℕ) → IsSettled (root_of tree.old).side (filled m patch) (staged_in D.Disk tree.new) c i) (corners_of tree.old)) }
 {
     let rims = read_rims(alloc, tree, tiles, patch)?;
-    prepare_tiles(tree, tiles)?;
-    fill_tiles(tree, &rims, patch)
+    let fills = VoidFills { rims: &rims, patch };
+    stage_pages(tree, &fills)
 }
 
-// Has the memory to stage pages of each of the tiles.
-fn prepare_tiles<D: Disk>(tree: &mut Tree<D>, tiles: &[Corner]) -> Result<(), Refusal>
-    requires works { has_failed tree.old ≡ false }
-    requires present { All (Contains (corners_of tree.old)) tiles.now }
-    ensures prepares { Prepares D.Disk (length tiles.now) tree.old tree.new result }
-    ensures prepared { OnOk result (All (HasStaged tree.new) tiles.now) }
-{
-    for corner in tiles {
-        tree.prepare(*corner)?;
+/// What a patch fills: of the tiles that it changes, which points of the box on the rim are void.
+#[derive(Clone, Copy)]
+pub(crate) struct VoidFills<'a> {
+    pub(crate) rims: &'a [RimVoids],
+    pub(crate) patch: Patch,
+}
+
+impl<'a> PageEdit for VoidFills<'a> {
+    ghost use Rattle.std.specs.Prelude.{◌≡◌, ◌-◌, ◌*◌, ◌&&◌, All, map, vec_len};
+    ghost use Rattle.catalogue.specs.Tiles.{is_listed};
+    ghost use Rattle.edits.specs.Edits.{AreVoidTiles};
+    ghost use Rattle.store.specs.Underway.{filled, AreRimVoids, has_rows};
+
+    ghost made = { λ edit m. filled m edit.patch };
+
+    // The rims are right, and those of all tiles with a void in the box.
+    ghost fits = { λ edit m. All (AreRimVoids m edit.patch) edit.rims.now × AreVoidTiles m edit.patch.from edit.patch.to (map (λ rim. rim.corner) edit.rims.now) };
+
+    ghost is_for = { λ edit n. All (λ rim. vec_len rim.voids ≡ 4 * (n - 1)) edit.rims.now };
+
+    ghost meets = { λ edit n c i. is_listed c (map (λ rim. rim.corner) edit.rims.now) && has_rows n c i edit.patch };
+
+    fn next_page(&self, side: Side, corner: Corner, from: u32) -> Option<u32> {
+        rim_of(self.rims, corner)?;
+        for index in from..pages_in_plane(side) {
+            if has_rows(side, corner, self.patch, index) {
+                return Some(index);
+            }
+        }
+        None
     }
-    Ok(())
+
+    fn edit_page(&self, side: Side, corner: Corner, index: u32, page: &mut [u8; 4096]) -> bool {
+        match rim_of(self.rims, corner) {
+            Some(rim) => fill_samples(side, rim, self.patch, index, page),
+            None => false,
+        }
+    }
 }
 
-// Stages the height at the void points of the box in each of the tiles, which are prepared.
-fn fill_tiles<D: Disk>(tree: &mut Tree<D>, rims: &[RimVoids], patch: Patch) -> Result<(), Refusal>
-    requires works { has_failed tree.old ≡ false }
-    requires present { All (λ rim. Contains (corners_of tree.old) rim.corner) rims.now }
-    requires prepared { All (λ rim. HasStaged tree.old rim.corner) rims.now }
-    requires whole { All (λ rim. vec_len rim.voids ≡ 4 * ((root_of tree.old).side - 1)) rims.now }
-    ensures stages { StagesOnly D.Disk tree.old tree.new result }
-    ensures refused { IfErr result (λ r. r ≡ Device) }
-    ensures set { D.honest (disk_of tree.new) → (s : Stored) (m : Mosaic) → IsAt D.Disk tree.old s → All (AreRimVoids m patch) rims.now
-        → IsUnderway (root_of tree.old).side (filled m patch) m (staged_in D.Disk tree.old)
-        → OnOk result (Advances (root_of tree.old).side (filled m patch) m (staged_in D.Disk tree.old) (staged_in D.Disk tree.new)
-        × All (λ rim. (i : ℕ) → IsSettled (root_of tree.old).side (filled m patch) (staged_in D.Disk tree.new) rim.corner i) rims.now) }
+// What is known of the rim of the corner's tile.
+fn rim_of(rims: &[RimVoids], corner: Corner) -> Option<&RimVoids>
+    ensures some { IfSome result (λ rim. Contains rims.now rim.now × (rim.now.corner ≡ corner) × (is_listed corner (map (λ r. r.corner) rims.now) ≡ true)) }
+    ensures none { IfNone result (is_listed corner (map (λ r. r.corner) rims.now) ≡ false) }
 {
     for rim in rims {
-        fill_tile(tree, rim, patch)?;
+        if rim.corner == corner {
+            return Some(rim);
+        }
     }
-    Ok(())
-}
-
-// Stages it in one tile, page by page.
-fn fill_tile<D: Disk>(tree: &mut Tree<D>, rim: &RimVoids, patch: Patch) -> Result<(), Refusal>
-    requires works { has_failed tree.old ≡ false }
-    requires present { Contains (corners_of tree.old) rim.now.corner }
-    requires prepared { HasStaged tree.old rim.now.corner }
-    requires whole { vec_len rim.now.voids ≡ 4 * ((root_of tree.old).side - 1) }
-    ensures stages { StagesOnly D.Disk tree.old tree.new result }
-    ensures refused { IfErr result (λ r. r ≡ Device) }
-    ensures set { D.honest (disk_of tree.new) → (s : Stored) (m : Mosaic) → IsAt D.Disk tree.old s → AreRimVoids m patch rim.now
-        → IsUnderway (root_of tree.old).side (filled m patch) m (staged_in D.Disk tree.old)
-        → OnOk result (Advances (root_of tree.old).side (filled m patch) m (staged_in D.Disk tree.old) (staged_in D.Disk tree.new)
-        × ((i : ℕ) → IsSettled (root_of tree.old).side (filled m patch) (staged_in D.Disk tree.new) rim.now.corner i)) }
-{
-    for index in 0..pages_in_plane(tree.current().side()) {
-        fill_page(tree, rim, patch, index)?;
-    }
-    Ok(())
-}
-
-// Stages one page of it, where that has such a point.
-fn fill_page<D: Disk>(
-    tree: &mut Tree<D>,
-    rim: &RimVoids,
-    patch: Patch,
-    index: u32,
-) -> Result<(), Refusal>
-    requires works { has_failed tree.old ≡ false }
-    requires present { Contains (corners_of tree.old) rim.now.corner }
-    requires prepared { HasStaged tree.old rim.now.corner }
-    requires whole { vec_len rim.now.voids ≡ 4 * ((root_of tree.old).side - 1) }
-    requires index { index < pages_of (root_of tree.old).side }
-    ensures stages { StagesOnly D.Disk tree.old tree.new result }
-    ensures refused { IfErr result (λ r. r ≡ Device) }
-    ensures set { D.honest (disk_of tree.new) → (s : Stored) (m : Mosaic) → IsAt D.Disk tree.old s → AreRimVoids m patch rim.now
-        → IsUnderway (root_of tree.old).side (filled m patch) m (staged_in D.Disk tree.old)
-        → OnOk result (Settles (root_of tree.old).side (filled m patch) m (staged_in D.Disk tree.old) (staged_in D.Disk tree.new) rim.now.corner index) }
-{
-    let side = tree.current().side();
-    if !meets(side, rim.corner, patch, index) {
-        return Ok(());
-    }
-    let mut page = [0; 4096];
-    tree.scan_page(rim.corner, Plane::Heights, index, &mut page)?;
-    if !fill_samples(side, rim, patch, index, &mut page) {
-        return Ok(());
-    }
-    tree.stage(rim.corner, Plane::Heights, index, &page)
+    None
 }
 
 // Whether the page of the corner's heights has a sample in a row of the box.
-fn meets(side: Side, corner: Corner, patch: Patch, index: u32) -> bool
+fn has_rows(side: Side, corner: Corner, patch: Patch, index: u32) -> bool
     requires { index < pages_of side }
-    ensures { result ≡ false → (e : ℕ) → e < side * side → e / 2048 ≡ index → is_in_box patch.from patch.to (point_of side corner e) ≡ false }
+    ensures { result ≡ has_rows side corner index patch }
 {
-    let first = SAMPLES_IN_PAGE * index;
-    let last = last_of_page(side, first);
-    let north = point_at(side, corner, first);
-    let south = point_at(side, corner, last);
+    let north = point_at(side, corner, SAMPLES_IN_PAGE * index);
+    let south = point_at(side, corner, last_in_page(side, index));
     meets_rows(patch, north, south)
 }
 
-// The index of the last sample in the page that begins with this one.
-fn last_of_page(side: Side, first: u32) -> u32
-    requires { first < side * side }
+// The index of the last sample in the page.
+fn last_in_page(side: Side, index: u32) -> u32
+    requires { index < pages_of side }
+    ensures value { result ≡ last_in_page side index }
     ensures within { result < side * side }
-    ensures last { (e : ℕ) → e < side * side → e < first + 2048 → e ≤ result }
 {
-    let next = first + SAMPLES_IN_PAGE;
+    let next = SAMPLES_IN_PAGE * (index + 1);
     if next < side.area() {
         return next - 1;
     }

@@ -1,7 +1,11 @@
+use Rattle.std.proofs.Common.{◌≡◌, false}
 use Rattle.std.specs.Prelude.{IsTrue}
 use Rattle.lattice.specs.Corners.{is_corner}
 use Rattle.store.proofs.NewHeights.{IsSetTo}
 use Rattle.store.proofs.heights.set_heights.Given as goal
 
 abbrev pub invariant-loop-k : goal.invariant-loop-k
-invariant-loop-k l = IsTrue (is_corner l.corner) → IsSetTo l.side l.heights l.corner l.page_index l.k l.fn.page l.page
+invariant-loop-k l = record {
+  set : IsTrue (is_corner l.corner) → IsSetTo l.side l.heights l.corner l.page_index l.k l.fn.page l.page;
+  left : l.is_set ≡ false → l.page ≡ l.fn.page;
+}

@@ -1,4 +1,4 @@
-use Rattle.std.proofs.Common.{◌≡◌, ◌+◌, ◌*◌, ◌/◌, ◌%◌, List, Result, Ok, Err}
+use Rattle.std.proofs.Common.{◌/◌, Result, Ok, Err}
 use Rattle.std.specs.Prelude.{OnOk}
 use Rattle.lattice.specs.declared.refusal.Refusal.{Refusal}
 use Rattle.cow_tree.specs.Trees.{staged_in}

@@ -1,41 +1,55 @@
-use Rattle.std.proofs.Common.{true, List, sym, ap, ◌∙◌, subst}
+use Rattle.std.proofs.Common.{rules, ◌≡◌, ◌+◌, ◌<◌, ◌≤◌, List, length, take, get_or, Contains, true, false, refl, sym, ap₂, ◌∙◌, subst}
 use Rattle.lattice.specs.Corners.{Corner}
-use Rattle.edits.specs.declared.edit.Edit.{Edit}
-use Rattle.edits.specs.declared.edit.NewHeight.{NewHeight}
-use Rattle.edits.specs.Edits.{goes_stale_by, holds_any}
+use Rattle.edits.specs.Edits.{goes_stale_by}
 use Rattle.cow_tree.specs.Trees.{root_of, corners_of}
+use Rattle.cow_tree.specs.declared.tree.Tree.{Tree}
+use Rattle.page_codec.specs.Roots.{RootValue}
 use Rattle.store.specs.Staling.{Stales}
-use Rattle.store.proofs.Nearby.{near_tested}
+use Rattle.store.proofs.Nearby.{passes_first, first_more, first_same, first_all}
+use Rattle.store.proofs.Staled.{stales_none}
 use Rattle.store.proofs.marking_stale.mark_stale.Goals as goal
+use Rattle.store.proofs.marking_stale.mark_stale.Goals.{then-is_stale, else-is_stale}
 
-pub returns-in-Add : goal.returns-in-Add
-returns-in-Add g c =
-    let old = c.args.tree.now in
-    subst (λ (e : Edit). Stales g.D.Disk (goes_stale_by (root_of old).side (corners_of old) e) old c.mark_stale_near.new.tree) (sym c.in-Add.is) c.mark_stale_near.ensures
+pub loop-corner-init : goal.loop-corner-init
+loop-corner-init g c = stales_none g.D.Disk c.args.tree.now
 
-pub returns-in-Drop : goal.returns-in-Drop
-returns-in-Drop g c =
-    let old = c.args.tree.now in
-    subst (λ (e : Edit). Stales g.D.Disk (goes_stale_by (root_of old).side (corners_of old) e) old c.mark_stale_near-in-Drop.new.tree) (sym c.in-Drop.is) c.mark_stale_near-in-Drop.ensures
+pub drop_kept-requires : goal.drop_kept-requires
+drop_kept-requires g c =
+    let listed = c.as_slice-corner-items.ensures.value ∙ c.corners-corners.ensures.corners in
+    subst (λ (cs : List Corner). Contains cs c.corner-item.result) (listed ∙ sym c.loop-corner.invariant.corners) (c.loop-corner.corner-index, c.loop-corner-test.true, sym c.corner-item.is)
 
-pub returns-in-Heights : goal.returns-in-Heights
-returns-in-Heights g c =
+pub loop-corner-preserved : goal.loop-corner-preserved
+loop-corner-preserved g c =
+    let d = g.D.Disk in
     let old = c.args.tree.now in
-    subst (λ (e : Edit). Stales g.D.Disk (goes_stale_by (root_of old).side (corners_of old) e) old c.mark_stale_near_points.new.tree) (sym c.in-Heights.is)
-    (subst (λ (heights : List NewHeight). Stales g.D.Disk (near_tested (holds_any (root_of old).side heights) (corners_of old)) old c.mark_stale_near_points.new.tree) c.as_slice.ensures.value c.mark_stale_near_points.ensures)
+    let mid = c.loop-corner.tree in
+    let edit = c.args.edit.now in
+    let corners = corners_of old in
+    let test = goes_stale_by (root_of old).side corners edit in
+    let listed : c.as_slice-corner-items.result.now ≡ corners = c.as_slice-corner-items.ensures.value ∙ c.corners-corners.ensures.corners in
+    let i = c.loop-corner.corner-index in
+    let here : Corner = c.corner-item.result in
+    let within : i < length corners = subst (λ (cs : List Corner). i < length cs) listed c.loop-corner-test.true in
+    let is : here ≡ get_or corners i here = subst (λ (cs : List Corner). here ≡ get_or cs i here) listed c.corner-item.is in
+    let so = c.loop-corner.invariant in
+    let same : goes_stale_by (root_of mid).side (corners_of mid) edit here ≡ test here =
+    ap₂ (λ (r : RootValue) (cs : List Corner). goes_stale_by r.side cs edit here) so.no_call.root so.corners in
+    elim c.if-is_stale.branch [
+      | then-is_stale w ↦
+          let stale : goes_stale_by (root_of mid).side (corners_of mid) edit here ≡ true = search rules in
+          let dropped = w.drop_kept.ensures in
+          subst (λ (t : Tree _ d). Stales d (passes_first test (take (i + 1) corners)) old t) (sym w.tree-is)
+          (first_more d test corners i here within is old mid so w.drop_kept.new.self (sym same ∙ stale)
+          (record { no_call = dropped.no_call; corners = dropped.corners; sinks = dropped.sinks; due = dropped.due; staged = dropped.staged; at = dropped.at }))
+      | else-is_stale w ↦
+          let fresh : goes_stale_by (root_of mid).side (corners_of mid) edit here ≡ false = search rules in
+          subst (λ (t : Tree _ d). Stales d (passes_first test (take (i + 1) corners)) old t) (sym w.tree-is)
+          (first_same d test corners i here within is old mid so (sym same ∙ fresh))
+    ]
 
-pub returns-in-Voids : goal.returns-in-Voids
-returns-in-Voids g c =
+pub returns : goal.returns
+returns g c =
     let old = c.args.tree.now in
-    subst (λ (e : Edit). Stales g.D.Disk (goes_stale_by (root_of old).side (corners_of old) e) old c.mark_stale_near_tiles.new.tree) (sym c.in-Voids.is)
-    (subst (λ (tiles : List Corner). Stales g.D.Disk (near_tested (λ d. true) tiles) old c.mark_stale_near_tiles.new.tree) c.as_slice-in-Voids.ensures.value c.mark_stale_near_tiles.ensures)
-
-pub returns-in-Sink : goal.returns-in-Sink
-returns-in-Sink g c =
-    let old = c.args.tree.now in
-    subst (λ (e : Edit). Stales g.D.Disk (goes_stale_by (root_of old).side (corners_of old) e) old c.mark_stale_near_holders.new.tree) (sym c.in-Sink.is) c.mark_stale_near_holders.ensures
-
-pub returns-in-Unsink : goal.returns-in-Unsink
-returns-in-Unsink g c =
-    let old = c.args.tree.now in
-    subst (λ (e : Edit). Stales g.D.Disk (goes_stale_by (root_of old).side (corners_of old) e) old c.mark_stale_near_holders-in-Unsink.new.tree) (sym c.in-Unsink.is) c.mark_stale_near_holders-in-Unsink.ensures
+    let listed : c.as_slice-corner-items.result.now ≡ corners_of old = c.as_slice-corner-items.ensures.value ∙ c.corners-corners.ensures.corners in
+    first_all g.D.Disk old c.loop-corner.tree (goes_stale_by (root_of old).side (corners_of old) c.args.edit.now) (corners_of old) c.loop-corner.corner-index refl
+    (subst (λ (cs : List Corner). length cs ≤ c.loop-corner.corner-index) listed c.loop-corner-test.false) c.loop-corner.invariant

@@ -1,7 +1,5 @@
-use Rattle.std.proofs.Common.{◌≡◌, ◌⊎◌, ⊎_elim, ◌-◌, ◌*◌, ◌<◌, inl, inr, ℕ, All, Contains, List, length, map, get_or, Result, Ok, Err, IfErr, OnOk, vec_len, refl, sym, ap, ap₂, ◌∙◌, subst}
+use Rattle.std.proofs.Common.{◌≡◌, ◌⊎◌, ⊎_elim, ◌-◌, ◌*◌, inl, inr, ℕ, All, List, map, Result, Ok, Err, IfErr, OnOk, vec_len, refl, sym, ap, ap₂, ◌∙◌, subst}
 use Rattle.std.specs.Prelude.{IsTrue}
-use Rattle.std.proofs.lemmas.List.{length-map, get_or-map}
-use Rattle.std.proofs.lemmas.List.Elements.{All-map}
 use Rattle.std.proofs.lemmas.Result.{IfErr-weaker}
 use Rattle.disk.specs.declared.disk.Disk.{Ghosts}
 use Rattle.lattice.specs.Corners.{Corner}
@@ -14,16 +12,17 @@ use Rattle.catalogue.specs.Readers.{reads_of}
 use Rattle.page_map.specs.PageMaps.{PageMapValue, HasFreshHeights}
 use Rattle.cow_tree.specs.Reading.{HasOnlyRead, IsReadable, mosaic_of}
 use Rattle.cow_tree.specs.Stored.{StoredTile, AreWhole, mosaic_of_tiles}
-use Rattle.cow_tree.specs.Trees.{root_of, has_failed, corners_of, sinks_of, staged_in, HasStaged}
+use Rattle.cow_tree.specs.Trees.{root_of, has_failed, corners_of, sinks_of, staged_in}
 use Rattle.cow_tree.specs.declared.tree.Tree.{Tree}
 use Rattle.cow_tree.proofs.ReadOnly.{never_refused}
 use Rattle.cow_tree.proofs.Steps.{on_ok}
+use Rattle.edits.specs.Edits.{AreVoidTiles}
 use Rattle.store.specs.Editing.{StagesOnly, IsRefusedEarly}
 use Rattle.cow_tree.specs.Uncommitted.{CommitsNothing}
 use Rattle.store.specs.Underway.{filled, AreRimVoids, IsSettled, IsUnderway, Advances}
 use Rattle.store.specs.declared.rims.RimVoids.{RimVoids}
 use Rattle.store.proofs.EditingReads.{reading, risen_read, fails_read, works_read}
-use Rattle.store.proofs.EditingSteps.{refused_as, stages_on, stages_refused}
+use Rattle.store.proofs.EditingSteps.{refused_as, stages_on}
 use Rattle.store.proofs.Querying.{true_where}
 use Rattle.store.proofs.Underway.{whole_pages}
 use Rattle.store.proofs.voids.stage_voids.Goals as goal
@@ -43,12 +42,6 @@ ended NoMemory cause only works = inr (refl, works)
 ended Failed cause only works = absurd (let e : Failed ≡ Device = only in cc)
 ended Damaged cause only works = absurd (let e : Damaged ≡ Device = only in cc)
 ended _ cause only works = absurd (cc)
-
--- of the rims what of the tiles
-of_rims : (P : Corner → Type 0) (rims : List RimVoids) (tiles : List Corner) → map (λ r. r.corner) rims ≡ tiles → All P tiles → All (λ r. P r.corner) rims
-of_rims P rims tiles same each k r below =
-    subst P (ap (λ (l : List Corner). get_or l k r.corner) (sym same) ∙ get_or-map (λ x. x.corner) rims k r r.corner below)
-    (each k r.corner (subst (λ (n : ℕ). k < n) (sym (length-map rims (λ x. x.corner)) ∙ ap length same) below))
 
 pub returns-in_err-rims-clause-stages : goal.returns-in_err-rims-clause-stages
 returns-in_err-rims-clause-stages g c =
@@ -73,98 +66,55 @@ returns-in_err-rims-clause-refused g c =
     subst (λ (result : Result (Unit {0}) Refusal). IsRefusedEarly d old new result) (sym (refused_as c.from_residual.result r c.from_residual.ensures.1))
     (⊎_elim (λ device. inl device) (λ memory. inr (memory.0, memory.1, is.reads.keeps.writes)) (ended r is.causes (is.reads.only_device c.requires.works) (is.reads.ready c.requires.works)))
 
-pub prepare_tiles-requires-clause-present : goal.prepare_tiles-requires-clause-present
-prepare_tiles-requires-clause-present g c =
-    subst (λ (cs : List Corner). All (Contains cs) c.args.tiles.now) (sym c.in_ok-rims.ensures.reads.keeps.corners) c.requires.present
-
-pub returns-in_err-prepare_tiles-clause-stages : goal.returns-in_err-prepare_tiles-clause-stages
-returns-in_err-prepare_tiles-clause-stages g c =
-    let d = g.D.Disk in
-    let old = c.args.tree.now in
-    let mid = c.read_rims.new.samples in
-    let new = c.prepare_tiles.new.tree in
-    let reads = c.in_ok-rims.ensures.reads in
-    let ok : Result (Unit {0}) Refusal = Ok tt in
-    let first = only_read d old mid ok reads.keeps (reading d old mid reads.keeps ok (λ is. never_refused tt Device is) (λ is. absurd (never_refused tt Device is)) (reads.ready c.requires.works)) in
-    stages_refused d old mid new tt c.from_residual-in_err-prepare_tiles.result c.in_err-prepare_tiles.field-0.0 c.from_residual-in_err-prepare_tiles.ensures.1 first c.in_err-prepare_tiles.ensures.prepares.stages
-
-pub returns-in_err-prepare_tiles-clause-refused : goal.returns-in_err-prepare_tiles-clause-refused
-returns-in_err-prepare_tiles-clause-refused g c =
-    let d = g.D.Disk in
-    let old = c.args.tree.now in
-    let new = c.prepare_tiles.new.tree in
-    let r : Refusal = c.in_err-prepare_tiles.field-0.0 in
-    let done = c.in_err-prepare_tiles.ensures.prepares in
-    subst (λ (result : Result (Unit {0}) Refusal). IsRefusedEarly d old new result) (sym (refused_as c.from_residual-in_err-prepare_tiles.result r c.from_residual-in_err-prepare_tiles.ensures.1))
-    (inr (done.refused, done.works, done.writes ∙ c.in_ok-rims.ensures.reads.keeps.writes))
-
-pub fill_tiles-requires-clause-present : goal.fill_tiles-requires-clause-present
-fill_tiles-requires-clause-present g c =
-    let mid = c.prepare_tiles.new.tree in
-    subst (λ (rims : List RimVoids). All (λ r. Contains (corners_of mid) r.corner) rims) (sym c.deref.ensures.value)
-    (of_rims (Contains (corners_of mid)) c.in_ok-rims.rims.items c.args.tiles.now c.in_ok-rims.ensures.corners
-    (subst (λ (cs : List Corner). All (Contains cs) c.args.tiles.now) (sym (c.in_ok-prepare_tiles.ensures.prepares.stages.corners ∙ c.in_ok-rims.ensures.reads.keeps.corners)) c.requires.present))
-
-pub fill_tiles-requires-clause-prepared : goal.fill_tiles-requires-clause-prepared
-fill_tiles-requires-clause-prepared g c =
-    let mid = c.prepare_tiles.new.tree in
-    subst (λ (rims : List RimVoids). All (λ r. HasStaged mid r.corner) rims) (sym c.deref.ensures.value)
-    (of_rims (HasStaged mid) c.in_ok-rims.rims.items c.args.tiles.now c.in_ok-rims.ensures.corners c.in_ok-prepare_tiles.ensures.prepared)
-
-pub fill_tiles-requires-clause-whole : goal.fill_tiles-requires-clause-whole
-fill_tiles-requires-clause-whole g c =
-    let mid = c.prepare_tiles.new.tree in
-    subst (λ (rims : List RimVoids). All (λ r. vec_len r.voids ≡ 4 * ((root_of mid).side - 1)) rims) (sym c.deref.ensures.value)
-    (subst (λ (root : RootValue). All (λ r. vec_len r.voids ≡ 4 * (root.side - 1)) c.in_ok-rims.rims.items) (sym (c.in_ok-prepare_tiles.ensures.prepares.stages.uncommitted.root ∙ c.in_ok-rims.ensures.reads.keeps.root)) c.in_ok-rims.ensures.whole)
+pub stage_pages-requires-clause-made_for : goal.stage_pages-requires-clause-made_for
+stage_pages-requires-clause-made_for g c =
+    subst (λ (rims : List RimVoids). All (λ r. vec_len r.voids ≡ 4 * ((root_of c.read_rims.new.samples).side - 1)) rims) (sym c.deref.ensures.value)
+    (subst (λ (root : RootValue). All (λ r. vec_len r.voids ≡ 4 * (root.side - 1)) c.in_ok-rims.rims.items) (sym c.in_ok-rims.ensures.reads.keeps.root) c.in_ok-rims.ensures.whole)
 
 pub returns-clause-stages : goal.returns-clause-stages
 returns-clause-stages g c =
     let d = g.D.Disk in
     let old = c.args.tree.now in
-    let read = c.read_rims.new.samples in
-    let mid = c.prepare_tiles.new.tree in
-    let new = c.fill_tiles.new.tree in
+    let mid = c.read_rims.new.samples in
     let reads = c.in_ok-rims.ensures.reads in
     let ok : Result (Unit {0}) Refusal = Ok tt in
-    let first = only_read d old read ok reads.keeps (reading d old read reads.keeps ok (λ is. never_refused tt Device is) (λ is. absurd (never_refused tt Device is)) (reads.ready c.requires.works)) in
-    stages_on d old mid new tt c.fill_tiles.result (stages_on d old read mid tt ok first c.in_ok-prepare_tiles.ensures.prepares.stages) c.fill_tiles.ensures.stages
+    let first = only_read d old mid ok reads.keeps (reading d old mid reads.keeps ok (λ is. never_refused tt Device is) (λ is. absurd (never_refused tt Device is)) (reads.ready c.requires.works)) in
+    stages_on d old mid c.stage_pages.new.tree tt c.stage_pages.result first c.stage_pages.ensures.pages.stages
 
 pub returns-clause-refused : goal.returns-clause-refused
-returns-clause-refused g c = IfErr-weaker c.fill_tiles.result _ _ (λ r device. inl device) c.fill_tiles.ensures.refused
+returns-clause-refused g c =
+    IfErr-weaker c.stage_pages.result _ _ (λ r. ⊎_elim (λ device. inl device) (λ memory. inr (memory.0, memory.1, memory.2 ∙ c.in_ok-rims.ensures.reads.keeps.writes))) c.stage_pages.ensures.refused
 
 pub returns-clause-set : goal.returns-clause-set
-returns-clause-set g c honest s m at same under =
+returns-clause-set g c honest s m at same finds under =
     let d = g.D.Disk in
     let old = c.args.tree.now in
     let read = c.read_rims.new.samples in
-    let mid = c.prepare_tiles.new.tree in
-    let new = c.fill_tiles.new.tree in
+    let new = c.stage_pages.new.tree in
     let n : ℕ = (root_of old).side in
     let edit = filled m c.args.patch in
     let keeps = c.in_ok-rims.ensures.reads.keeps in
-    let done = c.in_ok-prepare_tiles.ensures.prepares in
-    let mid_honest = c.fill_tiles.ensures.stages.uncommitted.honest honest in
-    let read_honest = done.stages.uncommitted.honest mid_honest in
-    let side : (root_of mid).side ≡ n = ap (λ (r : RootValue). r.side) (done.stages.uncommitted.root ∙ keeps.root) in
-    let staged : staged_in d mid ≡ staged_in d old = done.staged ∙ keeps.staged read_honest in
-    let mid_at = done.stages.uncommitted.at mid_honest s (keeps.at read_honest s at (c.in_ok-rims.ensures.reads.ready c.requires.works)) done.works in
+    let read_honest = c.stage_pages.ensures.pages.stages.uncommitted.honest honest in
+    let side : (root_of read).side ≡ n = ap (λ (r : RootValue). r.side) keeps.root in
+    let staged : staged_in d read ≡ staged_in d old = keeps.staged read_honest in
+    let read_at = keeps.at read_honest s at (c.in_ok-rims.ensures.reads.ready c.requires.works) in
     let same_read : mosaic_of d read ≡ m =
     ap₂ (λ (r : RootValue) sinks. mosaic_of_tiles r.side sinks (staged_in d read)) keeps.root keeps.sinks
-    ∙ ap (mosaic_of_tiles n (sinks_of old)) (keeps.staged read_honest) ∙ same in
+    ∙ ap (mosaic_of_tiles n (sinks_of old)) staged ∙ same in
     let sure : IsReadable d read = record {
       honest = read_honest;
-      pages = subst AreWhole (sym (keeps.staged read_honest)) (whole_pages n edit m (staged_in d old) under);
+      pages = subst AreWhole (sym staged) (whole_pages n edit m (staged_in d old) under);
       valid = subst IsMosaic (sym same_read) under.valid;
     } in
     let known : All (AreRimVoids m c.args.patch) c.in_ok-rims.rims.items = subst (λ (x : Mosaic). All (AreRimVoids x c.args.patch) c.in_ok-rims.rims.items) same (c.in_ok-rims.ensures.voids sure) in
-    let corners = c.in_ok-rims.ensures.corners in
-    on_ok c.fill_tiles.result
+    let fits : All (AreRimVoids m c.args.patch) c.deref.result.now × AreVoidTiles m c.args.patch.from c.args.patch.to (map (λ (r : RimVoids). r.corner) c.deref.result.now) =
+    subst (λ (rims : List RimVoids). All (AreRimVoids m c.args.patch) rims × AreVoidTiles m c.args.patch.from c.args.patch.to (map (λ (r : RimVoids). r.corner) rims)) (sym c.deref.ensures.value)
+    (known, subst (λ (cs : List Corner). AreVoidTiles m c.args.patch.from c.args.patch.to cs) (sym c.in_ok-rims.ensures.corners) finds) in
+    let moved = c.stage_pages.ensures.set honest s m read_at fits (subst (λ (k : ℕ). IsUnderway k edit m (staged_in d read)) (sym side) (subst (λ (ts : List StoredTile). IsUnderway n edit m ts) (sym staged) under)) in
+    on_ok c.stage_pages.result
     (λ so.
-    let moved : Advances n edit m (staged_in d old) (staged_in d new) =
-    subst (λ (ts : List StoredTile). Advances n edit m ts (staged_in d new)) staged (subst (λ (k : ℕ). Advances k edit m (staged_in d mid) (staged_in d new)) side so.0) in
-    let each : All (λ r. (i : ℕ) → IsSettled n edit (staged_in d new) r.corner i) c.in_ok-rims.rims.items =
-    subst (λ (rims : List RimVoids). All (λ r. (i : ℕ) → IsSettled n edit (staged_in d new) r.corner i) rims) c.deref.ensures.value
-    (subst (λ (k : ℕ). All (λ r. (i : ℕ) → IsSettled k edit (staged_in d new) r.corner i) c.deref.result.now) side so.1) in
-    (moved, subst (λ (cs : List Corner). All (λ e. (i : ℕ) → IsSettled n edit (staged_in d new) e i) cs) corners (All-map (λ e. (i : ℕ) → IsSettled n edit (staged_in d new) e i) (λ r. r.corner) c.in_ok-rims.rims.items each)))
-    (c.fill_tiles.ensures.set honest s m mid_at (subst (λ (rims : List RimVoids). All (AreRimVoids m c.args.patch) rims) (sym c.deref.ensures.value) known)
-    (subst (λ (k : ℕ). IsUnderway k edit m (staged_in d mid)) (sym side) (subst (λ (ts : List StoredTile). IsUnderway n edit m ts) (sym staged) under)))
+    let all : Advances n edit m (staged_in d old) (staged_in d new) × All (λ e. (i : ℕ) → IsSettled n edit (staged_in d new) e i) (corners_of read) =
+    subst (λ (ts : List StoredTile). Advances n edit m ts (staged_in d new) × All (λ e. (i : ℕ) → IsSettled n edit (staged_in d new) e i) (corners_of read)) staged
+    (subst (λ (k : ℕ). Advances k edit m (staged_in d read) (staged_in d new) × All (λ e. (i : ℕ) → IsSettled k edit (staged_in d new) e i) (corners_of read)) side so) in
+    (all.0, subst (λ (cs : List Corner). All (λ e. (i : ℕ) → IsSettled n edit (staged_in d new) e i) cs) keeps.corners all.1))
+    moved

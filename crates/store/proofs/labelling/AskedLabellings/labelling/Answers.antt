@@ -1,9 +1,5 @@
-use Rattle.std.proofs.Common.{Ok, Err, refl, ap, sym, subst}
-use Rattle.std.proofs.lemmas.Result.{err_from_is_err_and}
-use Rattle.lattice.specs.declared.refusal.Refusal.{Refusal}
-use Rattle.catalogue.specs.Asked.{Asked}
-use Rattle.catalogue.proofs.Asking.{asked, asked_answer, asked_passed}
-use Rattle.tile_flood.specs.Blocks.{LabelledGround}
+use Rattle.std.proofs.Common.{Ok, refl, ap}
+use Rattle.catalogue.proofs.Asking.{asked, asked_answer}
 use Rattle.page_codec.specs.Roots.{RootValue}
 use Rattle.cow_tree.proofs.TreeReads.{same_mosaic}
 use Rattle.store.proofs.Labelled.{was_sure, may_refuse, not_ready}

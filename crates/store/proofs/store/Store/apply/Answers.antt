@@ -1,11 +1,12 @@
-use Rattle.std.proofs.Common.{◌≡◌, ⊎_elim, inl, inr, ℕ, ◌<◌, false, true, List, All, refl, sym, ap, ap₂, ◌∙◌, subst, arith}
-use Rattle.std.specs.Prelude.{Result, Ok, Err, IsTrue}
+use Rattle.std.proofs.Common.{◌≡◌, ⊎_elim, inl, inr, ℕ, ◌+◌, ◌<◌, ◌≤◌, false, true, List, All, map, refl, sym, ap, ap₂, ◌∙◌, subst, arith}
+use Rattle.std.specs.Prelude.{Result, Ok, Err, IfSome, IsTrue}
 use Rattle.std.proofs.lemmas.Bool.{both_ways}
 use Rattle.std.proofs.lemmas.Result.{IfErr-weaker}
 use Rattle.lattice.specs.Corners.{Corner, is_corner}
 use Rattle.lattice.specs.Mosaic.{Mosaic, IsMosaic}
 use Rattle.lattice.specs.declared.refusal.Refusal.{Refusal}
 use Rattle.lattice.specs.declared.refusal.Refusal.TheVariants.{Device, Failed, Worn}
+use Rattle.page_codec.specs.Entries.{EntryValue}
 use Rattle.page_codec.specs.Formats.{number_of}
 use Rattle.page_codec.specs.Roots.{RootValue}
 use Rattle.engine.specs.Told.{WritesFew}
@@ -29,11 +30,12 @@ use Rattle.cow_tree.proofs.Steps.{on_ok}
 use Rattle.store.specs.Ended.{IsApplied}
 use Rattle.store.specs.Editing.{ComesIn, IsGiven, AreTilesOf}
 use Rattle.cow_tree.specs.Uncommitted.{CommitsNothing}
+use Rattle.store.specs.PagesMet.{named_by, page_writes, pages_with}
 use Rattle.store.specs.Staling.{staled}
 use Rattle.store.proofs.Committed.{fails_before, failed_first, quiet, may_end_it}
 use Rattle.store.proofs.EditingReads.{reading, mosaic_is, readable, refused_so, risen_read, works_read, fails_read, quiet_read}
 use Rattle.store.proofs.EditingSteps.{in_memory, uncommitted_on, refused_as}
-use Rattle.store.proofs.EditingWrites.{none_written, staged_written}
+use Rattle.store.proofs.EditingWrites.{named_written, none_named, none_written, staged_written}
 use Rattle.store.proofs.Holding.{held}
 use Rattle.store.proofs.InMemory.{is_working, worn_at}
 use Rattle.store.proofs.Keeping.{staled_held}
@@ -54,6 +56,39 @@ returns-then-has_failed-clause-call g c =
     let had : has_failed tree ≡ true = sym c.has_failed.ensures ∙ c.if-has_failed.true in
     commanded d g.met.D.Disk.only_now store store command (Err Failed) (unchanged_holding d tree tree store.held command (Err Failed) refl (failed_first d tree command had))
     (none_written (number_of (root_of tree).version) (root_of tree).side command (d.writes (disk_of tree)) (d.writes (disk_of tree)) refl) (λ _. (refl, (refl, had)))
+
+-- ---- the pages that a burn or a wall writes
+
+pub returns-in_err-edit-clause-pages : goal.returns-in_err-edit-clause-pages
+returns-in_err-edit-clause-pages g c works =
+    let d = g.D.Disk in
+    let old = c.args.self.now.tree in
+    none_named c.args.command.now (root_of old).version (root_of old).side (map (λ (e : EntryValue). e.corner) (root_of old).entries) (d.writes (disk_of old)) (d.writes (disk_of c.edit_of.new.samples)) c.in_err-edit.ensures.reads.keeps.writes
+
+pub returns-then-number-clause-pages : goal.returns-then-number-clause-pages
+returns-then-number-clause-pages g c works =
+    let d = g.D.Disk in
+    let old = c.args.self.now.tree in
+    none_named c.args.command.now (root_of old).version (root_of old).side (map (λ (e : EntryValue). e.corner) (root_of old).entries) (d.writes (disk_of old)) (d.writes (disk_of c.edit_of.new.samples)) c.in_ok-edit.ensures.reads.keeps.writes
+
+pub returns-clause-pages : goal.returns-clause-pages
+returns-clause-pages g c works =
+    let d = g.D.Disk in
+    let old = c.args.self.now.tree in
+    let planned = c.edit_of.new.samples in
+    let marked = c.mark_stale.new.tree in
+    let new = c.commit_staged.new.tree in
+    let keeps = c.in_ok-edit.ensures.reads.keeps in
+    let marks = c.mark_stale.ensures in
+    let version = (root_of old).version in
+    let root : root_of marked ≡ root_of old = marks.no_call.root ∙ keeps.root in
+    let clean = still_clean d old planned works keeps c.args.self.now.clean (c.in_ok-edit.ensures.reads.ready works) in
+    let few =
+    named_written d version (root_of old).side marked c.stage-staged.new.tree new c.stage-staged.result (ap (λ (r : RootValue). r.version) root) (let due = marks.due in omega (arith, due, clean.none_due))
+    c.commit_staged.ensures.writes c.commit_staged.ensures.unwritten c.args.command.now c.in_ok-edit.edit c.in_ok-edit.ensures.form c.stage-staged.ensures.few in
+    subst (λ (n : ℕ). IfSome (named_by c.args.command.now) (λ points. d.writes (disk_of new) ≤ n + page_writes version (pages_with (root_of old).side (map (λ (e : EntryValue). e.corner) (root_of old).entries) points))) (ap d.writes marks.no_call.disk ∙ keeps.writes)
+    (subst (λ (cs : List Corner). IfSome (named_by c.args.command.now) (λ points. d.writes (disk_of new) ≤ d.writes (disk_of marked) + page_writes version (pages_with (root_of old).side cs points))) (marks.corners ∙ keeps.corners ∙ (c.args.self.now.clean works).corners)
+    (subst (λ (r : RootValue). IfSome (named_by c.args.command.now) (λ points. d.writes (disk_of new) ≤ d.writes (disk_of marked) + page_writes version (pages_with r.side (corners_of marked) points))) root few))
 
 -- ---- a refusal of the command's own tests, or of a read
 

@@ -1,0 +1,6 @@
+use Rattle.std.proofs.Common.{◌≡◌, ℕ, ◌<◌, ◌≤◌, false}
+use Rattle.store.specs.Underway.{has_rows}
+use Rattle.store.proofs.voids.VoidFillsPageEdit.next_page.Given as goal
+
+abbrev pub invariant-loop-index : goal.invariant-loop-index
+invariant-loop-index l = (i : ℕ) → l.from ≤ i → i < l.index → has_rows l.side l.corner i l.self.patch ≡ false
