@@ -2,7 +2,7 @@
 use Rattle.std.proofs.Common.{◌≡◌, ◌≢◌, ℕ, zero, suc, ◌+◌, ◌<◌, ◌≤◌, ℤ, pos, ◌+ℤ◌, ◌-ℤ◌, ◌≤ℤ◌, ◌<ℤ◌, nat_abs, sum_by, List, [], ◌∷◌, ◌++◌, length, map, get_or, set, ◌⊎◌, inl, inr, Contains, refl, sym, ap, ap₂, ◌∙◌, ◌-◌, subst, arith, length-set, get_or-set_same, get_or-set_other, length-append}
 use Rattle.std.proofs.lemmas.Bool.{cases_eq, cases_lt}
 use Rattle.std.proofs.lemmas.Int.{ints}
-use Rattle.std.proofs.lemmas.List.{get_or_past, get_or_append_left, get_or-append-add, get_or-append_right, map-append}
+use Rattle.std.proofs.lemmas.List.{get_or_default, get_or_past, get_or_append_left, get_or-append-add, get_or-append_right, map-append}
 use Rattle.std.proofs.lemmas.List.Sums.{sum_by-set, sum_by-cons, sum_by-append}
 use Rattle.std.proofs.lemmas.List.Elements.{Contains-append_cases, Contains-append_left, Contains-append_right}
 use Rattle.tile_flood.specs.Waiting.{Queue, bucket, Waits, HasBucket, waiting, AreEmpty, AreEmptyBelow, IsExtended, IsJoined, IsTaken}
@@ -247,6 +247,13 @@ module _ {V : Type 0} (items : V → List ℕ) where
       (subst (λ bs. IsExtended (from_level least (map items xs)) (from_level least' bs) × HasBucket (from_level least' bs) level) (sym parts)
       (subst (λ l. IsExtended (from_level least (map items xs)) (from_level l ((map items pre ++ map items xs) ++ map items post)) × HasBucket (from_level l ((map items pre ++ map items xs) ++ map items post)) level) (sym from)
       (extends least (map items pre) (map items xs) (map items post) none_before none_after, has_bucket least (map items pre) (map items xs) (map items post) none_before none_after level low high)))
+
+  -- somebody waits at the level of a bucket in use
+  pub somebody : (least : ℤ) (xs ys : List V) (k : ℕ) (queue : Queue) (level : ℤ) → from_level least (map items ys) ≡ queue → xs ≡ ys → level ≡ least +ℤ pos k → 0 < length (bucket (map items xs) k) → (e : ℕ) × Waits queue level e
+  somebody least xs ys k queue level same alike at some =
+      let e = get_or (bucket (map items xs) k) 0 0 in
+      subst (λ q. (e : ℕ) × Waits q level e) same
+      (subst (λ zs. (e : ℕ) × Waits (from_level least (map items zs)) level e) alike (e, (k, (at, (0, some, get_or_default (bucket (map items xs) k) 0 e 0 some)))))
 
   -- what a push into bucket k does, and what a pop out of it does
   module _ (least : ℤ) (xs : List V) (k e : ℕ) (old v : V) (queue : Queue) (level : ℤ) (inside : k < length xs)

@@ -1,14 +1,13 @@
 pub mod Buckets
 pub mod Squares
 pub mod Spreading
-pub mod Joining
 pub mod InCells
 pub mod Runs
 pub mod PlainRows
 pub mod Dependence
-pub mod Seeds
-pub mod Relaxation
-pub mod ChangedHeights
+pub mod BelowLevel
+pub mod Held
+pub mod Steps
 pub mod ListedChanges
 pub mod SameSpills
 pub mod Passages

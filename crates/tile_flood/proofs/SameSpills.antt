@@ -1,5 +1,5 @@
 -- Where all that a mending affected lies off the borders between labels, the spills are those of before.
-use Rattle.std.proofs.Common.{◌≡◌, ◌≢◌, ℕ, ℤ, true, false, cond, int_lt, IsTrue, List, [], ◌∷◌, length, get_or, slice_index, ◌⊎◌, inl, inr, sym, ap, ap₂, ◌∙◌, subst, arith}
+use Rattle.std.proofs.Common.{◌≡◌, ◌≢◌, ℕ, ℤ, true, false, cond, int_lt, IsTrue, List, [], ◌∷◌, length, get_or, slice_index, ◌⊎◌, inl, inr, sym, ap₂, ◌∙◌, subst, arith}
 use Rattle.std.specs.Int.{int_max}
 use Rattle.std.proofs.lemmas.Bool.{cases_Bool}
 use Rattle.lattice.specs.Mosaic.{void}
@@ -10,22 +10,11 @@ use Rattle.tile_flood.specs.Blocks.{block_of, bare_block}
 use Rattle.tile_flood.specs.Labelling.{IsLabelling}
 use Rattle.tile_flood.specs.Carried.{IsCarriedBy, AreCarried}
 use Rattle.tile_flood.specs.Flooding.{is_marked}
-use Rattle.tile_flood.specs.Affected.{IsAffected, AreKept, AreChangesListed, AreOffBorders}
+use Rattle.tile_flood.specs.Affected.{IsListed, AreChangesListed, AreOffBorders}
 use Rattle.tile_flood.specs.Spills.{Meets, AreSpills}
-use Rattle.tile_flood.proofs.Squares.{linked_parts, linked_from, solid_height, solid_below, solid_if, test_if, apart_of, beside_if}
+use Rattle.tile_flood.proofs.Squares.{linked_parts, linked_from, solid_height, solid_below, solid_if, test_if}
+use Rattle.tile_flood.proofs.Dependence.{beside_itself, beside_back}
 use Rattle.tile_flood.proofs.Passages.{not_void}
-
-beside_itself : (n e : ℕ) → IsTrue (is_beside n e e)
-beside_itself n e = beside_if n e e (record { north = omega arith; south = omega arith; west = omega arith; east = omega arith })
-
-beside_back : (n e f : ℕ) → IsTrue (is_beside n e f) → IsTrue (is_beside n f e)
-beside_back n e f beside =
-    let a = apart_of n e f beside in
-    let north = a.north in
-    let south = a.south in
-    let west = a.west in
-    let east = a.east in
-    beside_if n f e (record { north = omega arith; south = omega arith; west = omega arith; east = omega arith })
 
 -- a point with a level is ground
 ground_if : (n : ℕ) (heights : List ℤ) (sinks : List ℕ) (levels : List ℤ) (labels : List ℕ) → IsLabelling (block_of n heights sinks) levels labels → (e : ℕ) → IsTrue (is_solid (bare_block n levels) e) → IsTrue (is_solid (bare_block n heights) e)
@@ -42,13 +31,11 @@ has_level : (n : ℕ) (heights : List ℤ) (sinks : List ℕ) (levels : List ℤ
 has_level n heights sinks levels labels e [] solid by = subst (λ l. l ≢ void) (sym by.level) (solid_height n heights e solid)
 has_level n heights sinks levels labels e (f ∷ rest) solid by = subst (λ l. l ≢ void) (sym by.0.level) (max_other (get_or heights e void) (get_or levels f void) void (solid_height n heights e solid) by.0.full)
 
--- levels and labels before a mending; those that were left once all was cleared that may depend on what changed; and those
--- after it
-module _ (n : ℕ) (heights₀ heights : List ℤ) (sinks : List ℕ) (levels₀ levels₁ levels : List ℤ) (labels₀ labels₁ labels : List ℕ) (affected : List Affected)
+-- levels and labels before a mending and after it
+module _ (n : ℕ) (heights₀ heights : List ℤ) (sinks : List ℕ) (levels₀ levels : List ℤ) (labels₀ labels : List ℕ) (affected : List Affected)
     (before : IsLabelling (block_of n heights₀ sinks) levels₀ labels₀) (now : IsLabelling (block_of n heights sinks) levels labels)
     (same_ground : (e : ℕ) → is_solid (block_of n heights₀ sinks) e ≡ is_solid (block_of n heights sinks) e) (carried : AreCarried (block_of n heights sinks) levels labels)
-    (listed : AreChangesListed levels₀ labels₀ levels₁ labels₁ affected) (cleared : (e : ℕ) → IsTrue (is_solid (block_of n heights sinks) e) → is_marked levels₁ e ≡ false → IsAffected affected e)
-    (left : AreKept levels labels levels₁ labels₁) (off_borders : AreOffBorders n levels labels affected (length affected)) where
+    (listed : AreChangesListed n heights levels₀ labels₀ levels labels affected) (off_borders : AreOffBorders n levels labels affected (length affected)) where
   marked_if : (e : ℕ) → IsTrue (is_solid (bare_block n levels) e) → IsTrue (is_marked levels e)
   marked_if e on = test_if (get_or levels e void) (solid_height n levels e on)
 
@@ -57,22 +44,16 @@ module _ (n : ℕ) (heights₀ heights : List ℤ) (sinks : List ℕ) (levels₀
       let ground = sym (same_ground e) ∙ ground_if n heights₀ sinks levels₀ labels₀ before e on in
       solid_if n levels e (solid_below n levels₀ e on) (not_void (get_or levels e void) (has_level n heights sinks levels labels e (carried e ground).0 ground (carried e ground).1))
 
-  -- what isn't affected has the level and the label that it had
-  same_or_affected : (e : ℕ) → IsTrue (is_solid (bare_block n levels) e) → ((get_or levels e void ≡ get_or levels₀ e void) × (slice_index labels e ≡ slice_index labels₀ e)) ⊎ IsAffected affected e
-  same_or_affected e on = elim (cases_Bool (is_marked levels₁ e)) [
-    | inl on₁ ↦ let k = left e on₁ in elim (listed.others e) [
-      | inl same ↦ inl (sym k.1.0 ∙ same.0, sym k.1.1 ∙ same.1)
-      | inr a ↦ inr a
-    ]
-    | inr off ↦ inr (cleared e (ground_if n heights sinks levels labels now e on) off)
-  ]
+  -- what isn't listed has the level and the label that it had
+  same_or_affected : (e : ℕ) → IsTrue (is_solid (bare_block n levels) e) → ((get_or levels e void ≡ get_or levels₀ e void) × (slice_index labels e ≡ slice_index labels₀ e)) ⊎ IsListed affected e (slice_index labels₀ e)
+  same_or_affected e on = listed.others e
 
   -- around an affected point all labels are the one that it had
-  label_around : (e z : ℕ) → IsAffected affected e → IsTrue (is_solid (bare_block n levels) z) → IsTrue (is_beside n e z) → slice_index labels z ≡ slice_index labels₀ e
+  label_around : (e z : ℕ) → IsListed affected e (slice_index labels₀ e) → IsTrue (is_solid (bare_block n levels) z) → IsTrue (is_beside n e z) → slice_index labels z ≡ slice_index labels₀ e
   label_around e z a on beside =
-      let d : Affected = record { point = 0; level = void; label = 0 } in
-      off_borders a.0 d z a.1.0 (solid_below n levels z on) (subst (λ x. IsTrue (is_beside n x z)) (sym (a.1.1 d)) beside) (marked_if z on)
-      ∙ (listed.entries a.0 d a.1.0 ∙ ap (slice_index labels₀) (a.1.1 d))
+      let d : Affected = record { point = 0; label = 0 } in
+      off_borders a.0 d z a.1.0 (solid_below n levels z on) (subst (λ x. IsTrue (is_beside n x z)) (sym (a.1.1 d).0) beside) (marked_if z on)
+      ∙ (a.1.1 d).1
 
   same_label : (e : ℕ) → IsTrue (is_solid (bare_block n levels) e) → slice_index labels e ≡ slice_index labels₀ e
   same_label e on = elim (same_or_affected e on) [

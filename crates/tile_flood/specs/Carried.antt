@@ -1,5 +1,5 @@
 -- Labels that are carried from point to point: what a flood leaves, and what a change of some heights can be mended in.
-use Rattle.std.specs.Prelude.{◌≡◌, ◌≢◌, ℕ, ℤ, IsTrue, IsFalse, List, [], ◌∷◌, slice_index, slice_index_or}
+use Rattle.std.specs.Prelude.{◌≡◌, ◌≢◌, ℕ, ℤ, ◌≤ℤ◌, IsTrue, IsFalse, List, [], ◌∷◌, slice_index, slice_index_or}
 use Rattle.std.specs.Int.{int_max}
 use Rattle.lattice.specs.Mosaic.{void}
 use Rattle.lattice.specs.Block.{Block, is_solid, is_linked, is_exit, is_inner_outlet}
@@ -32,3 +32,8 @@ module _ (b : Block) (levels : List ℤ) (labels : List ℕ) where
   -- each ground point's level and label are carried to it
   abbrev pub AreCarried : Type 0
   AreCarried = (e : ℕ) → IsTrue (is_solid b e) → IsCarried e
+
+-- no level is above what its height and the levels beside it allow
+pub record AreRelaxed (b : Block) (levels : List ℤ) : Type 0 where
+  pub exits : (e : ℕ) → IsTrue (is_exit b e) → slice_index_or levels e void ≤ℤ slice_index_or b.heights e void
+  pub links : (x y : ℕ) → IsTrue (is_linked b x y) → slice_index_or levels y void ≤ℤ int_max (slice_index_or b.heights y void) (slice_index_or levels x void)

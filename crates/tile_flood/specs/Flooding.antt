@@ -8,7 +8,7 @@ use Rattle.lattice.specs.Block.{Block, block_terrain, is_solid, is_linked, is_ex
 use Rattle.tile_flood.specs.Blocks.{bare_block}
 use Rattle.tile_flood.specs.Labelling.{IsLabelAt, Names, OUT, NO_LABEL}
 use Rattle.tile_flood.specs.Carried.{IsCarried}
-use Rattle.tile_flood.specs.Waiting.{Queue, Waits, WaitStill}
+use Rattle.tile_flood.specs.Waiting.{Queue, Waits}
 
 -- the point has its level
 abbrev pub is_marked : List ℤ → ℕ → Bool
@@ -23,11 +23,6 @@ unmarked levels = sum_by lack levels
 
 abbrev pub AreMarkedStill : List ℤ → List ℤ → Type 0
 AreMarkedStill old new = (e : ℕ) → IsTrue (is_marked old e) → IsTrue (is_marked new e)
-
--- what waited still waits, and of the others only marked points do, at their levels
-pub record HaveJoined (levels : List ℤ) (old new : Queue) : Type 0 where
-  pub still : WaitStill old new
-  pub only : (l : ℤ) (e : ℕ) → Waits new l e → Waits old l e ⊎ (IsTrue (is_marked levels e) × (slice_index_or levels e void ≡ l))
 
 -- on the rim, or at most one row and one column away
 abbrev pub IsNear : ℕ → ℕ → ℕ → Type 0

@@ -10,7 +10,5 @@ pub mod Flooding
 pub mod Cells
 pub mod Mending
 pub mod Affected
-pub mod Clearing
-pub mod Reseeding
-pub mod Lowering
+pub mod Suspects
 pub mod Kept

@@ -1,5 +1,5 @@
 -- What waits in the queue of a flood: a bucket of points for each level from the least on.
-use Rattle.std.specs.Prelude.{◌≡◌, ℕ, ◌*◌, ◌<◌, ℤ, pos, ◌+ℤ◌, ◌≤ℤ◌, ◌⊎◌, List, [], length, Contains, sum_by}
+use Rattle.std.specs.Prelude.{◌≡◌, ℕ, ◌<◌, ℤ, pos, ◌+ℤ◌, ◌≤ℤ◌, ◌⊎◌, List, [], length, Contains, sum_by}
 use Rattle.std.proofs.Common.{get_or}
 
 -- the level of the first bucket, and what each bucket holds
@@ -23,10 +23,6 @@ Waits queue level e = (b : ℕ) × ((level ≡ queue.least +ℤ pos b) × Contai
 -- what waits still waits
 abbrev pub WaitStill : Queue → Queue → Type 0
 WaitStill old new = (l : ℤ) (e : ℕ) → Waits old l e → Waits new l e
-
--- only points of the block wait
-abbrev pub WaitInside : ℕ → Queue → Type 0
-WaitInside n queue = (l : ℤ) (e : ℕ) → Waits queue l e → e < n * n
 
 abbrev pub AreEmpty : List (List ℕ) → Type 0
 AreEmpty buckets = (b : ℕ) → bucket buckets b ≡ []

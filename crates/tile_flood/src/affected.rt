@@ -3,11 +3,10 @@ ghost use Rattle.std.specs.Prelude.{◌≡◌, ◌*◌, ◌<◌, ℕ, IfSome, If
 ghost use Rattle.lattice.specs.Limits.{IsSide};
 ghost use Rattle.tile_flood.specs.Affected.{IsInWindow};
 
-// An affected point, and the level and the label that it had.
+// An affected point, and the label that it had.
 #[derive(Clone, Copy)]
 pub(crate) struct Affected {
     pub(crate) point: u32,
-    pub(crate) level: i16,
     pub(crate) label: u16,
 }
 

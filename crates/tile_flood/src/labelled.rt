@@ -61,15 +61,17 @@ impl Labelled {
         }
     }
 
-    pub(crate) fn into_flood(self, queue: Queue) -> Flood
+    pub(crate) fn into_flood(self, queue: Queue, suspects: Queue) -> Flood
         ensures levels { result.levels.items ≡ self.levels }
         ensures labels { result.labels.items ≡ self.labels }
         ensures queue { result.queue ≡ queue }
+        ensures suspects { result.suspects ≡ suspects }
     {
         Flood {
             levels: self.levels,
             labels: self.labels,
             queue,
+            suspects,
         }
     }
 

@@ -1,17 +1,28 @@
 //! Mending: the labelling of a block after heights of its ground points changed.
-ghost use Rattle.std.specs.Prelude.{◌≡◌, IfOk, IfErr, IsTrue};
+ghost use Rattle.std.specs.Prelude.{◌≡◌, ◌<◌, ◌+◌, ℕ, ℤ, IfOk, IfErr, OnOk, IsTrue, length, slice_index, slice_index_or};
+ghost use Rattle.lattice.specs.Mosaic.{void};
 ghost use Rattle.lattice.specs.declared.refusal.Refusal.TheVariants.{NoMemory};
 ghost use Rattle.tile_flood.specs.Labelling.{IsLabelling};
 ghost use Rattle.tile_flood.specs.Carried.{AreCarried};
 ghost use Rattle.tile_flood.specs.Mending.{IsLabelledBefore};
 ghost use Rattle.tile_flood.specs.Spills.{HaveSameSpills};
+ghost use Rattle.tile_flood.specs.Blocks.{block_of, AreHeights};
+ghost use Rattle.tile_flood.specs.Waiting.{Waits};
+ghost use Rattle.tile_flood.specs.Affected.{StayListed};
+ghost use Rattle.tile_flood.specs.Suspects.{AreMending, IsBeginning};
 
+use crate::affected::Affected;
 use crate::block::Block;
 use crate::flood::Flood;
-use crate::labelled::Labelled;
+use crate::labelled::{Labelled, NO_LABEL};
+use crate::outlets::own_label;
 use crate::queue::Queue;
-use lattice::Refusal;
-use std::alloc::Global;
+use crate::values::at;
+use lattice::{Refusal, VOID};
+use std::alloc::{AllocError, Global};
+
+// To take so many points takes no time that counts.
+const FEW: usize = 1_000;
 
 /// A labelling that was mended, and whether it was seen that its spills are those of the labelling before: that no border
 /// between labels changed, nor a level beside one.
@@ -43,25 +54,91 @@ pub fn mend(
     let n = side.samples() as usize;
     let heights = block.heights();
     let sinks = block.sinks();
-    let mut flood = labelled.into_flood(Queue::new(alloc));
+    let least = first_level(&labelled, points);
+    let mut flood = labelled.into_flood(Queue::new(alloc, least), Queue::new(alloc, least));
     let mut affected = Vec::new(alloc);
-    flood.lower_changed(n, heights, sinks, points, &mut affected)?;
-    flood.lower_levels(n, heights, sinks, &mut affected)?;
-    flood.clear_listed(&affected);
-    // Of a wide flat most points may hang on a changed one: then to flood anew takes less.
-    let most = heights.len() / 8;
-    if !flood.clear_dependents(n, heights, sinks, &mut affected, most)? {
+    flood.begin(n, heights, sinks, points, &mut affected)?;
+    // Where a large part of the block changes, to flood anew takes less.
+    let most = heights.len() / 4 + FEW;
+    if !flood.settle_changes(n, heights, sinks, &mut affected, most)? {
         let labelled = Flood::run(alloc, block)?;
         return Ok(Mended {
             labelled,
             same_spills: false,
         });
     }
-    flood.reseed(n, heights, sinks, &affected)?;
-    flood.settle(n, heights, sinks)?;
     let same_spills = flood.are_off_borders(n, &affected);
     Ok(Mended {
         labelled: Labelled::of_flood(side, flood.levels, flood.labels),
         same_spills,
     })
+}
+
+// The level of the first of the points.
+fn first_level(labelled: &Labelled, points: &[u32]) -> i16
+    ensures { 0 < length points.now → result ≡ slice_index_or labelled.now.levels (slice_index points.now 0) void }
+{
+    if points.is_empty() {
+        return VOID;
+    }
+    let level = labelled.levels().get(points[0] as usize);
+    level.copied().unwrap_or(VOID)
+}
+
+impl Flood {
+    // Resets each of the points that is above its level now, or is a way out with another height; all beside the others wait.
+    fn begin(
+        &mut self,
+        n: usize,
+        heights: &[i16],
+        sinks: &[u32],
+        points: &[u32],
+        affected: &mut Vec<Affected>,
+    ) -> Result<(), AllocError>
+        requires heights { AreHeights n heights.now }
+        requires before { IsLabelledBefore (block_of n heights.now sinks.now) points.now self.old.levels.items self.old.labels.items }
+        requires nobody { (l : ℤ) (e : ℕ) → Waits self.old.queue l e → ⊥ }
+        requires no_suspect { (l : ℤ) (e : ℕ) → Waits self.old.suspects l e → ⊥ }
+        ensures state { OnOk result (AreMending n heights.now sinks.now self.new.levels.items self.new.labels.items self.new.queue self.new.suspects) }
+        ensures listed { OnOk result (StayListed n heights.now self.old.levels.items self.old.labels.items affected.old.items self.new.levels.items self.new.labels.items affected.new.items) }
+    {
+        for k in 0..points.len() {
+            self.begin_at(n, heights, sinks, points, k, affected)?;
+        }
+        Ok(())
+    }
+
+    // The same for the point with this number in the list, if it is ground and wasn't reset before.
+    fn begin_at(
+        &mut self,
+        n: usize,
+        heights: &[i16],
+        sinks: &[u32],
+        points: &[u32],
+        k: usize,
+        affected: &mut Vec<Affected>,
+    ) -> Result<(), AllocError>
+        requires heights { AreHeights n heights.now }
+        requires k { k < length points.now }
+        requires state { IsBeginning n heights.now sinks.now points.now self.old.levels.items self.old.labels.items self.old.queue self.old.suspects k }
+        ensures state { OnOk result (IsBeginning n heights.now sinks.now points.now self.new.levels.items self.new.labels.items self.new.queue self.new.suspects (k + 1)) }
+        ensures listed { OnOk result (StayListed n heights.now self.old.levels.items self.old.labels.items affected.old.items self.new.levels.items self.new.labels.items affected.new.items) }
+    {
+        let e = points[k] as usize;
+        if !self.is_marked(e) {
+            return Ok(());
+        }
+        let height = at(heights, e);
+        let level = at(&self.levels, e);
+        if let Some(label) = own_label(n, heights, sinks, e / n, e % n) {
+            self.reset(n, e, height, label, affected)?;
+            return Ok(());
+        }
+        if level < height {
+            self.reset(n, e, i16::MIN, NO_LABEL, affected)?;
+            return Ok(());
+        }
+        self.wait_beside(n, e)?;
+        Ok(())
+    }
 }

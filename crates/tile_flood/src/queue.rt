@@ -36,13 +36,13 @@ impl Model for Queue {
 }
 
 impl Queue {
-    /// A queue where no point waits.
-    pub(crate) fn new(alloc: Global) -> Queue
+    /// A queue where no point waits; its buckets will lie about this level.
+    pub(crate) fn new(alloc: Global, least: i16) -> Queue
         ensures { (level : ℤ) (e : ℕ) → Waits result level e → ⊥ }
     {
         Queue {
             alloc,
-            least: 0,
+            least,
             buckets: Vec::new(alloc),
             lowest: 0,
         }
@@ -97,6 +97,20 @@ impl Queue {
         self.lowest = self.lowest.min(number);
         self.buckets[number].push(point)?;
         Ok(())
+    }
+
+    /// The lowest level at which a point waits.
+    pub(crate) fn lowest_level(&mut self) -> Option<i16>
+        ensures found { MatchOption result ((level : ℤ) (e : ℕ) → Waits self.old level e → ⊥) (λ level. (e : ℕ) × Waits self.old level e) }
+        ensures same { self.new ≡ self.old }
+    {
+        let Some(lowest) = first_in_use(&self.buckets, self.lowest) else {
+            // So that the next look doesn't go over them again.
+            self.lowest = self.buckets.len();
+            return None;
+        };
+        self.lowest = lowest;
+        Some(level_of(self.least, lowest))
     }
 
     /// Takes a point of the lowest level that waits.

@@ -1,20 +1,21 @@
 -- A block whose labelling is mended: its heights are read anew one by one, and then it is that of its tile.
-use Rattle.std.proofs.Common.{◌≡◌, ◌≢◌, ℕ, ◌+◌, ◌*◌, ◌<◌, ◌≤◌, ◌⊎◌, inl, inr, ℤ, not, ◌&&◌, IsTrue, List, [], ◌∷◌, length, get_or, set, refl, sym, ap, ◌∙◌, subst, arith, nat_lt, lt-ltb, get_or-set_same, get_or-set_other}
+use Rattle.std.proofs.Common.{◌≡◌, ◌≢◌, ℕ, ◌+◌, ◌*◌, ◌<◌, ◌≤◌, ◌⊎◌, inl, inr, ℤ, ◌≤ℤ◌, ◌<ℤ◌, ◌++◌, IsTrue, List, [], ◌∷◌, length, get_or, set, refl, sym, ap, ◌∙◌, subst, arith, get_or-set_same, get_or-set_other}
 use Rattle.std.specs.Prelude.{Contains}
-use Rattle.std.proofs.lemmas.Bool.{cases_eq, and_from}
+use Rattle.std.proofs.lemmas.Bool.{cases_eq}
 use Rattle.std.proofs.lemmas.List.{length-set, get_or_default}
+use Rattle.std.proofs.lemmas.List.Elements.{Contains-append_left, Contains-append_right}
 use Rattle.lattice.specs.Block.{Block, IsBlockOf, is_solid, is_sink_at}
 use Rattle.lattice.specs.Corners.{Corner}
 use Rattle.lattice.specs.Ground.{metres, is_sink}
 use Rattle.lattice.specs.Height.{height_of}
 use Rattle.lattice.specs.Lattice.{point_of}
-use Rattle.lattice.specs.Mosaic.{Mosaic, void, is_void}
+use Rattle.lattice.specs.Mosaic.{Mosaic, void}
 use Rattle.tile_flood.specs.Blocks.{LabelledGround, block_of}
-use Rattle.tile_flood.specs.Flooding.{is_marked}
 use Rattle.tile_flood.specs.Mending.{IsLabelledBefore}
-use Rattle.tile_flood.proofs.Squares.{solid_below, test_if}
+use Rattle.tile_flood.proofs.BelowLevel.{carried_still, labelling_still}
+use Rattle.tile_flood.proofs.Dependence.{same_ground, solid_inside}
 use Rattle.tile_labellings.specs.Labellings.{IsFlooded, IsFloodOf, IsBlockBut}
-use Rattle.tile_labellings.specs.Updating.{IsUpdated}
+use Rattle.tile_labellings.specs.Updating.{IsUpdated, IsListedUnlessBelow}
 
 -- ---- what was flooded is labelled before any changes
 
@@ -22,17 +23,11 @@ pub labelled_now : (b : Block) (labelled : LabelledGround) (changed : List ℕ) 
 labelled_now b labelled changed is = record { heights = b.heights; labelling = is.labelling; carried = is.carried; ground = λ e. refl; others = λ e solid. inl refl }
 
 module _ (n : ℕ) (heights : List ℤ) (sinks : List ℕ) (e : ℕ) (h : ℤ) (inside : e < length heights) (ground : IsTrue (is_solid (block_of n heights sinks) e)) (full : h ≢ void) where
-  height_now : get_or (set heights e h) e void ≡ h
-  height_now = get_or-set_same heights e h void inside
+  now_at : get_or (set heights e h) e void ≡ h
+  now_at = get_or-set_same heights e h void inside
 
-  still_ground : IsTrue (is_solid (block_of n (set heights e h) sinks) e)
-  still_ground = and_from (nat_lt e (n * n)) (is_marked (set heights e h) e) (lt-ltb e (n * n) (solid_below n heights e ground)) (test_if (get_or (set heights e h) e void) (subst (λ v. v ≢ void) (sym height_now) full))
-
-  same_ground : (z : ℕ) → is_solid (block_of n heights sinks) z ≡ is_solid (block_of n (set heights e h) sinks) z
-  same_ground z = elim (cases_eq z e) [
-    | inl same ↦ subst (λ x. is_solid (block_of n heights sinks) x ≡ is_solid (block_of n (set heights e h) sinks) x) (sym same) (ground ∙ sym still_ground)
-    | inr other ↦ ap (λ v. nat_lt z (n * n) && not (is_void v)) (sym (get_or-set_other heights e z h void other))
-  ]
+  same_now : (z : ℕ) → is_solid (block_of n heights sinks) z ≡ is_solid (block_of n (set heights e h) sinks) z
+  same_now = same_ground n heights sinks e h inside ground full
 
   -- one of the points has another height
   pub labelled_still : (points : List ℕ) (levels : List ℤ) (labels : List ℕ) → Contains points e → IsLabelledBefore (block_of n heights sinks) points levels labels → IsLabelledBefore (block_of n (set heights e h) sinks) points levels labels
@@ -40,19 +35,68 @@ module _ (n : ℕ) (heights : List ℤ) (sinks : List ℕ) (e : ℕ) (h : ℤ) (
     heights = before.heights;
     labelling = before.labelling;
     carried = before.carried;
-    ground = λ z. before.ground z ∙ same_ground z;
+    ground = λ z. before.ground z ∙ same_now z;
     others = λ z solid. elim (cases_eq z e) [
       | inl same ↦ inr (subst (Contains points) (sym same) has)
-      | inr other ↦ elim (before.others z (same_ground z ∙ solid)) [
+      | inr other ↦ elim (before.others z (same_now z ∙ solid)) [
         | inl alike ↦ inl (alike ∙ sym (get_or-set_other heights e z h void other))
         | inr among ↦ inr among
       ]
     ];
   }
 
-pub updated_before : (b new : Block) (e : ℕ) (h : ℤ) (points : List ℕ) (levels : List ℤ) (labels : List ℕ) → IsUpdated b e h new → Contains points e → IsLabelledBefore b points levels labels → IsLabelledBefore new points levels labels
-updated_before b new e h points levels labels is has before =
-    subst (λ (x : Block). IsLabelledBefore x points levels labels) (sym is.is) (labelled_still b.side b.heights b.sinks e h is.inside is.ground is.full points levels labels has before)
+  -- it lay below its level, and doesn't rise above it
+  pub labelled_beside : (points : List ℕ) (levels : List ℤ) (labels : List ℕ) → get_or heights e void <ℤ get_or levels e void → h ≤ℤ get_or levels e void → IsLabelledBefore (block_of n heights sinks) points levels labels →
+      IsLabelledBefore (block_of n (set heights e h) sinks) points levels labels
+  labelled_beside points levels labels below low before = elim (before.others e ground) [
+    | inr has ↦ labelled_still points levels labels has before
+    | inl alike ↦
+        let was = before.heights in
+        let ground_was : IsTrue (is_solid (block_of n was sinks) e) = before.ground e ∙ ground in
+        let inside_was : e < length was = solid_inside n was sinks e ground_was in
+        let same = same_ground n was sinks e h inside_was ground_was full in
+        let below_was : get_or was e void <ℤ get_or levels e void = subst (λ v. v <ℤ get_or levels e void) (sym alike) below in
+        record {
+          heights = set was e h;
+          labelling = labelling_still n was sinks levels labels before.labelling before.carried e h inside_was same below_was low ground_was;
+          carried = carried_still n was sinks levels labels before.labelling before.carried e h inside_was same below_was low ground_was;
+          ground = λ z. sym (same z) ∙ (before.ground z ∙ same_now z);
+          others = λ z solid. elim (cases_eq z e) [
+            | inl is ↦ inl (subst (λ x. get_or (set was e h) x void ≡ get_or (set heights e h) x void) (sym is) (get_or-set_same was e h void inside_was ∙ sym now_at))
+            | inr other ↦ elim (before.others z (same_now z ∙ solid)) [
+              | inl equal ↦ inl (get_or-set_other was e z h void other ∙ (equal ∙ sym (get_or-set_other heights e z h void other)))
+              | inr among ↦ inr among
+            ]
+          ];
+        }
+  ]
+
+  pub labelled_listed : (points points' : List ℕ) (levels : List ℤ) (labels : List ℕ) → IsListedUnlessBelow levels (set heights e h) e (get_or heights e void) points points' → IsLabelledBefore (block_of n heights sinks) points levels labels →
+      IsLabelledBefore (block_of n (set heights e h) sinks) points' levels labels
+  labelled_listed points points' levels labels listed before = elim listed [
+    | inl passed ↦
+        subst (λ (xs : List ℕ). IsLabelledBefore (block_of n (set heights e h) sinks) xs levels labels) (sym passed.0)
+        (labelled_beside points levels labels passed.1.0 (subst (λ v. v ≤ℤ get_or levels e void) now_at passed.1.1) before)
+    | inr added ↦
+        subst (λ (xs : List ℕ). IsLabelledBefore (block_of n (set heights e h) sinks) xs levels labels) (sym added)
+        (labelled_still (points ++ e ∷ []) levels labels (Contains-append_right points (e ∷ []) e (0, omega arith, refl)) (more points (points ++ e ∷ []) levels labels (Contains-append_left points (e ∷ [])) before))
+  ]
+    where
+      more : (points points' : List ℕ) (levels : List ℤ) (labels : List ℕ) → ((z : ℕ) → Contains points z → Contains points' z) → IsLabelledBefore (block_of n heights sinks) points levels labels → IsLabelledBefore (block_of n heights sinks) points' levels labels
+      more points points' levels labels still before = record {
+        heights = before.heights;
+        labelling = before.labelling;
+        carried = before.carried;
+        ground = before.ground;
+        others = λ z solid. elim (before.others z solid) [ inl alike ↦ inl alike | inr has ↦ inr (still z has) ];
+      }
+
+pub updated_before : (b new : Block) (e : ℕ) (was h : ℤ) (points points' : List ℕ) (levels : List ℤ) (labels : List ℕ) → was ≡ get_or b.heights e void → IsUpdated b e h new → IsListedUnlessBelow levels new.heights e was points points' → IsLabelledBefore b points levels labels →
+    IsLabelledBefore new points' levels labels
+updated_before b new e was h points points' levels labels at is listed before =
+    subst (λ (x : Block). IsLabelledBefore x points' levels labels) (sym is.is)
+    (labelled_listed b.side b.heights b.sinks e h is.inside is.ground is.full points points' levels labels
+    (subst (λ v. IsListedUnlessBelow levels (set b.heights e h) e v points points') at (subst (λ (x : Block). IsListedUnlessBelow levels x.heights e was points points') is.is listed)) before)
 
 -- ---- heights that are read anew
 

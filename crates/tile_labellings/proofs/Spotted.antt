@@ -1,9 +1,9 @@
 -- Two bytes of a plane say what stands in it at an index; and the marks of a valid labelling fit at each.
-use Rattle.std.proofs.Common.{◌≡◌, ◌≢◌, inl, inr, ℕ, zero, suc, ◌+◌, ◌-◌, ◌*◌, ◌<◌, ◌≤◌, ◌⊎◌, ◌↔◌, ℤ, ◌≤ℤ◌, IsTrue, List, [], ◌∷◌, length, take, drop, get_or, map, slice_index, refl, sym, ap, ◌∙◌, subst, arith}
+use Rattle.std.proofs.Common.{◌≡◌, ◌≢◌, inl, inr, ℕ, zero, suc, ◌+◌, ◌-◌, ◌*◌, ◌<◌, ◌≤◌, ◌⊎◌, ℤ, ◌≤ℤ◌, IsTrue, List, [], ◌∷◌, take, drop, get_or, map, slice_index, refl, sym, ap, ◌∙◌, arith}
 use Rattle.std.proofs.lemmas.Bool.{cases_Bool}
 use Rattle.std.proofs.lemmas.List.{drop-map, take-map, get_or-take, get_or-drop}
 use Rattle.std.proofs.Math.Seq.{drop-nil}
-use Rattle.lattice.specs.Block.{block_terrain, is_solid, is_rim, rim_number}
+use Rattle.lattice.specs.Block.{block_terrain, is_solid, rim_number}
 use Rattle.lattice.specs.Mosaic.{void}
 use Rattle.lattice.specs.Terrain.{end_of}
 use Rattle.lattice.proofs.Lawful.{block_is_lawful}

@@ -1,11 +1,11 @@
 //! Blocks that were flooded, whose labellings are mended where heights change.
-ghost use Rattle.std.specs.Prelude.{◌≡◌, ◌<◌, ◌≤◌, ◌⊎◌, ℕ, ℤ, [], true, false, Contains, IfOk, IfErr, IfSome, IsTrue, IsFalse, length, slice_set};
+ghost use Rattle.std.specs.Prelude.{◌≡◌, ◌<◌, ◌≤◌, ◌⊎◌, ℕ, ℤ, [], true, false, Contains, IfOk, IfErr, IfSome, IsTrue, IsFalse, length, slice_set, slice_index_or};
 ghost use Rattle.lattice.specs.Block.{Block, is_solid};
 ghost use Rattle.lattice.specs.Corners.{Corner};
 ghost use Rattle.lattice.specs.Ground.{metres};
 ghost use Rattle.lattice.specs.Height.{height_of};
 ghost use Rattle.lattice.specs.Lattice.{point_of};
-ghost use Rattle.lattice.specs.Mosaic.{Mosaic};
+ghost use Rattle.lattice.specs.Mosaic.{Mosaic, void};
 ghost use Rattle.lattice.specs.declared.refusal.Refusal.TheVariants.{NoMemory};
 ghost use Rattle.catalogue.specs.Readers.{OnlyReads, reads_of};
 ghost use Rattle.catalogue.specs.Reading.{MayRefuse};
@@ -14,7 +14,7 @@ ghost use Rattle.tile_flood.specs.Mending.{IsLabelledBefore};
 ghost use Rattle.tile_flood.specs.Spills.{AreSpills, HaveSameSpills};
 ghost use Rattle.tile_labellings.specs.Labellings.{AreHeldSpills, IsFlooded, IsBlockBut};
 ghost use Rattle.tile_labellings.specs.TileLabellings.{most_changed};
-ghost use Rattle.tile_labellings.specs.Updating.{IsUpdated};
+ghost use Rattle.tile_labellings.specs.Updating.{IsUpdated, IsListedUnlessBelow};
 
 use arrayvec::ArrayVec;
 use catalogue::{Samples, height};
@@ -138,10 +138,18 @@ impl FloodedBlock {
         let mut block = self.block;
         let labelled = self.labelled;
         let changed = self.changed;
-        if !read_changed(samples, corner, &labelled, changed.as_slice(), &mut block)? {
+        let mut points = ArrayVec::new();
+        if !read_changed(
+            samples,
+            corner,
+            &labelled,
+            changed.as_slice(),
+            &mut block,
+            &mut points,
+        )? {
             return Ok(None);
         }
-        let mended = mend(alloc, &block, labelled, changed.as_slice())?;
+        let mended = mend(alloc, &block, labelled, points.as_slice())?;
         Ok(Some(FloodedBlock {
             block,
             labelled: mended.labelled,
@@ -161,50 +169,82 @@ fn still_held(spills: Option<Vec<Spill>>, are_same: bool) -> Option<Vec<Spill>>
     None
 }
 
-// Gives the changed points of the block the heights that they have now; whether each was ground and is.
+// Gives the changed points of the block the heights that they have now, and lists those that may change a level or a label;
+// whether each was ground and is.
 fn read_changed<S: Samples>(
     samples: &mut S,
     corner: Corner,
     labelled: &Labelled,
     changed: &[u32],
     block: &mut Block,
+    points: &mut ArrayVec<u32, MOST_CHANGED>,
 ) -> Result<bool, Refusal>
-    requires before { IsLabelledBefore block.old changed.now labelled.now.levels labelled.now.labels }
-    ensures before { IfOk result (λ done. IsTrue done → IsLabelledBefore block.new changed.now labelled.now.levels labelled.now.labels) }
+    requires before { IsLabelledBefore block.old points.old.items labelled.now.levels labelled.now.labels }
+    ensures before { IfOk result (λ done. IsTrue done → IsLabelledBefore block.new points.new.items labelled.now.levels labelled.now.labels) }
     ensures side { IfOk result (λ done. IsTrue done → block.new.side ≡ block.old.side) }
     ensures right { S.is_honest samples.new → IsBlockBut (S.mosaic samples.old) corner changed.now block.old
         → IfOk result (λ done. IsTrue done → IsBlockBut (S.mosaic samples.old) corner [] block.new) }
     ensures reads { OnlyReads S.Samples samples.old samples.new result }
 {
     for k in 0..changed.len() {
-        if !read_height(samples, corner, changed[k], block)? {
+        let Some(was) = read_height(samples, corner, changed[k], block)? else {
+            return Ok(false);
+        };
+        if !list_unless_below(labelled, block, changed[k], was, points) {
             return Ok(false);
         }
     }
     Ok(true)
 }
 
-// Gives the point of the block with this index the height that it has now; whether it was ground and is.
+// Gives the point of the block with this index the height that it has now; the height that it had, where it was ground and
+// is.
 fn read_height<S: Samples>(
     samples: &mut S,
     corner: Corner,
     index: u32,
     block: &mut Block,
-) -> Result<bool, Refusal>
-    ensures updated { IfOk result (λ done. IsTrue done → (h : ℤ) × (IsUpdated block.old index h block.new × (S.is_honest samples.new → h ≡ metres (height_of (S.mosaic samples.old) (point_of block.old.side corner index))))) }
+) -> Result<Option<i16>, Refusal>
+    ensures updated { IfOk result (λ found. IfSome found (λ was. (was ≡ slice_index_or block.old.heights index void) × ((h : ℤ) × (IsUpdated block.old index h block.new × (S.is_honest samples.new → h ≡ metres (height_of (S.mosaic samples.old) (point_of block.old.side corner index))))))) }
     ensures reads { OnlyReads S.Samples samples.old samples.new result }
 {
     let side = block.side();
     if index >= side.area() {
-        return Ok(false);
+        return Ok(None);
     }
     let Height::At(metres) = height(samples, point_at(side, corner, index))? else {
-        return Ok(false);
+        return Ok(None);
     };
     let was = block.heights()[index as usize];
     if was == VOID || metres == VOID {
-        return Ok(false);
+        return Ok(None);
     }
     block.set_height(index as usize, metres);
-    Ok(true)
+    Ok(Some(was))
+}
+
+// Lists the point, which had this height, unless it lay below its level and doesn't rise above it: then no level and no
+// label changes. False where there is no room.
+fn list_unless_below(
+    labelled: &Labelled,
+    block: &Block,
+    index: u32,
+    was: i16,
+    points: &mut ArrayVec<u32, MOST_CHANGED>,
+) -> bool
+    ensures { IsTrue result → IsListedUnlessBelow labelled.now.levels block.now.heights index was points.old.items points.new.items }
+{
+    let e = index as usize;
+    let level = level_or_void(labelled.levels(), e);
+    if was < level && level_or_void(block.heights(), e) <= level {
+        return true;
+    }
+    points.try_push(index).is_ok()
+}
+
+// The height or level of this point, -32768 where there is none.
+fn level_or_void(levels: &[i16], e: usize) -> i16
+    ensures { result ≡ slice_index_or levels.now e void }
+{
+    levels.get(e).copied().unwrap_or(VOID)
 }

@@ -1,4 +1,4 @@
-use Rattle.std.proofs.Common.{ℕ, ℤ, List, Ok, IsTrue, IsOk, length, get_or, slice_index, true≢false, refl, sym, ap, ◌∙◌, subst, rules, SFits, w16}
+use Rattle.std.proofs.Common.{ℕ, ℤ, get_or, true≢false, sym, ◌∙◌, subst, rules, SFits, w16}
 use Rattle.std.proofs.lemmas.Int.{to_z-of_z}
 use Rattle.tile_flood.specs.Blocks.{block_of}
 use Rattle.tile_flood.specs.Kept.{labels_in, levels_in}

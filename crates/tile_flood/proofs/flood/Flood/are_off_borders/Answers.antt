@@ -1,4 +1,4 @@
-use Rattle.std.proofs.Common.{◌≡◌, pos, arith, ap, sym, subst, ◌∙◌, IsTrue, inl, inr, slice_index_or}
+use Rattle.std.proofs.Common.{◌≡◌, arith, ap, sym, subst, ◌∙◌, IsTrue, inl, inr, slice_index_or}
 use Rattle.std.proofs.lemmas.Bool.{cases_lt}
 use Rattle.std.proofs.lemmas.List.{get_or_default}
 use Rattle.lattice.specs.Block.{is_beside}
@@ -6,7 +6,7 @@ use Rattle.tile_flood.specs.declared.affected.Affected.{Affected}
 use Rattle.tile_flood.proofs.flood.Flood.are_off_borders.Goals as goal
 
 abbrev none : Affected
-none = record { point = 0; level = pos 0; label = 0 }
+none = record { point = 0; label = 0 }
 
 pub loop-k-preserved : goal.loop-k-preserved
 loop-k-preserved c j d z less small beside on =

@@ -1,39 +1,79 @@
-use Rattle.std.proofs.Common.{arith, rules, ◌≡◌, false, not, IsTrue, slice_index_or, ap, sym, ◌∙◌, SFits, w16, to_z, of_z}
+use Rattle.std.proofs.Common.{◌≡◌, ◌≤ℤ◌, ◌<ℤ◌, not, refl, sym, ap, ◌∙◌, subst, rules, true≢false, slice_index_or, SFits, w16, to_z, of_z}
+use Rattle.std.proofs.lemmas.Int.{to_z-of_z}
 use Rattle.lattice.specs.Mosaic.{void}
-use Rattle.lattice.specs.Block.{is_solid}
-use Rattle.tile_flood.specs.Flooding.{is_marked}
-use Rattle.tile_flood.proofs.Spreading.{IsVisited, visited_as, passed_max, near_linked}
-use Rattle.tile_flood.specs.Blocks.{bare_block}
-use Rattle.tile_flood.proofs.ListedChanges.{left_marked}
+use Rattle.lattice.proofs.IntTests.{le_true, le_false}
+use Rattle.tile_flood.specs.Waiting.{Waits}
+use Rattle.tile_flood.proofs.Spreading.{passed_max}
+use Rattle.tile_flood.proofs.Steps.{IsReached, mark_on, at_most_same}
+use Rattle.tile_flood.proofs.ListedChanges.{marked_listed}
 use Rattle.tile_flood.proofs.flood.Flood.visit.Goals as goal
+use Rattle.tile_flood.proofs.flood.Flood.visit.Goals.{In_ok-mark}
 
-after : (c : goal.In_ok-mark) → IsVisited c.args.n c.args.heights.now c.args.sinks.now c.args.self.now.levels.items c.mark.new.self.levels.items c.mark.new.self.labels.items c.mark.new.self.queue
-    c.args.front.point c.args.front.level c.args.front.label c.args.e
-after c =
+pub returns-then-not-is_ground-clause-at_most : goal.returns-then-not-is_ground-clause-at_most
+returns-then-not-is_ground-clause-at_most c = at_most_same c.args.self.now.levels.items
+
+pub returns-then-not-is_ground-clause-reached : goal.returns-then-not-is_ground-clause-reached
+returns-then-not-is_ground-clause-reached c solid = absurd (true≢false (sym solid ∙ (sym c.is_ground.ensures ∙ c.if-not-is_ground.true)))
+
+marked : (c : In_ok-mark) → IsReached c.args.n c.args.heights.now c.args.sinks.now c.args.self.now.levels.items c.mark.new.self.levels.items c.mark.new.self.labels.items c.mark.new.self.queue c.mark.new.self.suspects c.args.front.point c.args.front.level c.args.front.label c.args.e
+marked c =
+    let s = c.args.self.now in
     let fits_height : SFits w16 c.at.result = search rules in
     let fits_low : SFits w16 c.args.front.level = search rules in
     let fits_new : SFits w16 c.higher-level.result = search rules in
-    let solid : IsTrue (is_solid (bare_block c.args.n c.args.heights.now) c.args.e) = sym c.is_ground.ensures ∙ c.if-is_ground.true in
-    let off : is_marked c.args.self.now.levels.items c.args.e ≡ false = ap not (sym c.is_unmarked.ensures ∙ c.if-is_unmarked.true) in
-    visited_as c.args.n c.args.heights.now c.args.sinks.now c.args.self.now.levels.items c.mark.new.self.levels.items c.args.self.now.labels.items c.mark.new.self.labels.items
-    c.args.self.now.queue c.mark.new.self.queue c.args.front.point c.args.front.level c.args.e (to_z w16 (of_z w16 c.higher-level.result)) c.args.front.label
-    c.requires.state (near_linked c.args.n c.args.heights.now c.args.sinks.now c.args.self.now.levels.items c.args.self.now.labels.items c.args.self.now.queue c.args.front.point c.args.front.level c.args.front.label c.args.e c.requires.state c.requires.near solid off) off
+    let a = c.in_ok-mark.ensures in
+    mark_on c.args.n c.args.heights.now c.args.sinks.now s.levels.items s.labels.items s.queue c.mark.new.self.queue s.suspects c.mark.new.self.suspects c.args.front.point c.args.front.level c.args.front.label c.args.e (to_z w16 (of_z w16 c.higher-level.result)) c.args.front.label
+    c.requires.state (sym c.is_ground.ensures ∙ c.if-not-is_ground.false) c.requires.beside
     (passed_max c.higher-level.result c.at.result c.args.front.level (slice_index_or c.args.heights.now c.args.e void) fits_new fits_height fits_low c.higher-level.ensures c.at.ensures)
-    c.in_ok-mark.ensures.levels c.in_ok-mark.ensures.labels c.in_ok-mark.ensures.joined
+    a.joined.waits a.joined.others (λ l f w. subst (λ q. Waits q l f) (sym a.suspects) w) c.mark.new.self.levels.items c.mark.new.self.labels.items (ap not (sym c.is_unmarked.ensures ∙ c.if-is_unmarked.true)) refl a.levels a.labels
 
-pub returns-in_ok-mark-clause-state : goal.returns-in_ok-mark-clause-state
-returns-in_ok-mark-clause-state c = (after c).state
+pub returns-then-is_unmarked-clause-state : goal.returns-then-is_unmarked-clause-state
+returns-then-is_unmarked-clause-state c = (marked c).state
 
-pub returns-in_ok-mark-clause-marked : goal.returns-in_ok-mark-clause-marked
-returns-in_ok-mark-clause-marked c = λ _. (after c).marked
+pub returns-then-is_unmarked-clause-at_most : goal.returns-then-is_unmarked-clause-at_most
+returns-then-is_unmarked-clause-at_most c = (marked c).at_most
 
-pub returns-in_ok-mark-clause-still : goal.returns-in_ok-mark-clause-still
-returns-in_ok-mark-clause-still c = (after c).still
+pub returns-then-is_unmarked-clause-reached : goal.returns-then-is_unmarked-clause-reached
+returns-then-is_unmarked-clause-reached c _ = (marked c).reached
 
-pub returns-in_ok-mark-clause-count : goal.returns-in_ok-mark-clause-count
-returns-in_ok-mark-clause-count c = let fewer = (after c).count in let more = c.in_ok-mark.ensures.count in omega arith
+pub returns-then-is_unmarked-clause-listed : goal.returns-then-is_unmarked-clause-listed
+returns-then-is_unmarked-clause-listed c =
+    let s = c.args.self.now in
+    let a = c.in_ok-mark.ensures in
+    marked_listed c.args.n c.args.heights.now s.levels.items c.mark.new.self.levels.items s.labels.items c.mark.new.self.labels.items c.args.affected.now.items c.args.e (to_z w16 (of_z w16 c.higher-level.result)) c.args.front.label
+    (sym c.is_ground.ensures ∙ c.if-not-is_ground.false) (ap not (sym c.is_unmarked.ensures ∙ c.if-is_unmarked.true)) a.levels a.labels
 
-pub returns-in_ok-mark-clause-left : goal.returns-in_ok-mark-clause-left
-returns-in_ok-mark-clause-left c =
-    left_marked c.args.self.now.levels.items c.mark.new.self.levels.items c.args.self.now.labels.items c.mark.new.self.labels.items c.args.e (to_z w16 (of_z w16 c.higher-level.result)) c.args.front.label
-    (ap not (sym c.is_unmarked.ensures ∙ c.if-is_unmarked.true)) c.in_ok-mark.ensures.levels c.in_ok-mark.ensures.labels
+pub returns-then-level-at-clause-at_most : goal.returns-then-level-at-clause-at_most
+returns-then-level-at-clause-at_most c = at_most_same c.args.self.now.levels.items
+
+pub returns-then-level-at-clause-reached : goal.returns-then-level-at-clause-reached
+returns-then-level-at-clause-reached c _ =
+    let levels = c.args.self.now.levels.items in
+    let e = c.args.e in
+    let fits_height : SFits w16 c.at.result = search rules in
+    let fits_low : SFits w16 c.args.front.level = search rules in
+    let fits_new : SFits w16 c.higher-level.result = search rules in
+    let fits_at : SFits w16 c.at-2.result = search rules in
+    let new = passed_max c.higher-level.result c.at.result c.args.front.level (slice_index_or c.args.heights.now e void) fits_new fits_height fits_low c.higher-level.ensures c.at.ensures in
+    let old : to_z w16 (of_z w16 c.at-2.result) ≡ slice_index_or levels e void = to_z-of_z w16 c.at-2.result fits_at ∙ (c.at-2.ensures ∙ ap (λ ls. slice_index_or ls e void) c.deref.ensures.value) in (
+      ap not (sym c.is_unmarked.ensures ∙ c.if-is_unmarked.false),
+      subst (λ v. slice_index_or levels e void ≤ℤ v) new (subst (λ l. l ≤ℤ to_z w16 (of_z w16 c.higher-level.result)) old (le_true (to_z w16 (of_z w16 c.at-2.result)) (to_z w16 (of_z w16 c.higher-level.result)) c.if-level-at.true)),
+    )
+
+pub lower-requires-clause-marked : goal.lower-requires-clause-marked
+lower-requires-clause-marked c = ap not (sym c.is_unmarked.ensures ∙ c.if-is_unmarked.false)
+
+pub lower-requires-clause-level : goal.lower-requires-clause-level
+lower-requires-clause-level c =
+    let fits_height : SFits w16 c.at.result = search rules in
+    let fits_low : SFits w16 c.args.front.level = search rules in
+    let fits_new : SFits w16 c.higher-level.result = search rules in
+    passed_max c.higher-level.result c.at.result c.args.front.level (slice_index_or c.args.heights.now c.args.e void) fits_new fits_height fits_low c.higher-level.ensures c.at.ensures
+
+pub lower-requires-clause-lower : goal.lower-requires-clause-lower
+lower-requires-clause-lower c =
+    let levels = c.args.self.now.levels.items in
+    let e = c.args.e in
+    let fits_at : SFits w16 c.at-2.result = search rules in
+    let old : to_z w16 (of_z w16 c.at-2.result) ≡ slice_index_or levels e void = to_z-of_z w16 c.at-2.result fits_at ∙ (c.at-2.ensures ∙ ap (λ ls. slice_index_or ls e void) c.deref.ensures.value) in
+    subst (λ l. to_z w16 (of_z w16 c.higher-level.result) <ℤ l) old (le_false (to_z w16 (of_z w16 c.at-2.result)) (to_z w16 (of_z w16 c.higher-level.result)) c.if-level-at.false)

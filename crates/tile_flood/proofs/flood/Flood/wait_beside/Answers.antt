@@ -1,11 +1,10 @@
-use Rattle.std.proofs.Common.{◌≡◌, false, arith, refl, sym, ◌∙◌, subst, IsTrue, inl, inr, slice_index_or}
+use Rattle.std.proofs.Common.{◌≡◌, arith, refl, sym, ◌∙◌, subst, IsTrue, inl, inr, slice_index_or}
 use Rattle.std.proofs.lemmas.Bool.{cases_lt}
 use Rattle.lattice.specs.Mosaic.{void}
-use Rattle.tile_flood.specs.Waiting.{Waits, IsJoined}
 use Rattle.tile_flood.specs.Flooding.{is_marked}
 use Rattle.tile_flood.specs.Affected.{IsInWindow}
+use Rattle.tile_flood.specs.Suspects.{IsIn}
 use Rattle.tile_flood.proofs.Dependence.{one_window_point, window_point_of}
-use Rattle.tile_flood.proofs.Joining.{joined_none, has_waited}
 use Rattle.tile_flood.proofs.flood.Flood.wait_beside.Goals as goal
 use Rattle.tile_flood.proofs.flood.Flood.wait_beside.Goals.{in-Some+in_ok-wait, in_default}
 
@@ -13,7 +12,8 @@ pub loop-d-init : goal.loop-d-init
 loop-d-init c = record {
   levels = refl;
   labels = refl;
-  joined = joined_none c.args.self.now.levels.items c.args.self.now.queue;
+  suspects = refl;
+  still = λ l e w. w;
   waits = λ j y less small spot on. absurd (omega arith);
 }
 
@@ -27,25 +27,25 @@ loop-d-preserved c =
       | in-Some+in_ok-wait w ↦
           let a = w.in_ok-wait.ensures in
           let e = w.in-Some.e in
-          let q = c.loop-d.self.queue in
           let q' = w.wait.new.self.queue in
-          let s = has_waited levels c.args.self.now.queue q q' e i.joined (subst (λ ls. IsTrue (is_marked ls e) → IsJoined q q' (slice_index_or ls e void) e) i.levels a.joined) (subst (λ ls. is_marked ls e ≡ false → q' ≡ q) i.levels a.passed) in
           rw w.self-is (record {
             levels = a.levels ∙ i.levels;
             labels = a.labels ∙ i.labels;
-            joined = s.joined;
+            suspects = a.suspects ∙ i.suspects;
+            still = λ l f waited. a.still l f (i.still l f waited);
             waits = λ j y less small spot on. elim (cases_lt j d) [
-              | inl before ↦ s.still (slice_index_or levels y void) y (i.waits j y before small spot on)
+              | inl before ↦ a.still (slice_index_or levels y void) y (i.waits j y before small spot on)
               | inr ge ↦
                   let same : j ≡ d = omega arith in
                   let is : y ≡ e = one_window_point n c.args.point d y e (subst (λ k. IsInWindow n c.args.point k y) same spot) w.in-Some.ensures.some in
-                  subst (λ z. Waits q' (slice_index_or levels z void) z) (sym is) (s.waits (subst (λ z. IsTrue (is_marked levels z)) is on))
+                  subst (IsIn q' levels) (sym is) (subst (λ ls. IsTrue (is_marked ls e) → IsIn q' ls e) i.levels a.waits (subst (λ z. IsTrue (is_marked levels z)) is on))
             ];
           })
       | in_default w ↦ rw w.self-is (record {
         levels = i.levels;
         labels = i.labels;
-        joined = i.joined;
+        suspects = i.suspects;
+        still = i.still;
         waits = λ j y less small spot on. elim (cases_lt j d) [
           | inl before ↦ i.waits j y before small spot on
           | inr ge ↦ let same : j ≡ d = omega arith in absurd (w.in_default.ensures.none y small (subst (λ k. IsInWindow n c.args.point k y) same spot))

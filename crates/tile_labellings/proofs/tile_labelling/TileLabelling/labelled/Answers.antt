@@ -1,6 +1,6 @@
-use Rattle.std.proofs.Common.{◌≡◌, sym, subst}
+use Rattle.std.proofs.Common.{sym, subst}
 use Rattle.tile_labellings.specs.Labellings.{IsFlooded}
-use Rattle.tile_labellings.specs.TileLabellings.{labelled_of, IsCurrent, IsTileLabelling}
+use Rattle.tile_labellings.specs.TileLabellings.{IsCurrent, IsTileLabelling}
 use Rattle.tile_labellings.specs.declared.tile_labelling.TileLabelling.{TileLabelling}
 use Rattle.tile_labellings.proofs.tile_labelling.TileLabelling.labelled.Goals as goal
 

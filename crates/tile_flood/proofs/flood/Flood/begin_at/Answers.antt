@@ -1,0 +1,80 @@
+use Rattle.std.proofs.Common.{◌≡◌, ◌+◌, ◌<◌, ◌*◌, ◌/◌, ◌%◌, ◌≤ℤ◌, IsTrue, refl, sym, ap, ◌∙◌, subst, inl, inr, rules, slice_index, slice_index_or, SFits, w16, to_z, of_z}
+use Rattle.std.proofs.lemmas.Int.{to_z-of_z}
+use Rattle.std.proofs.lemmas.List.{get_or_default}
+use Rattle.lattice.specs.Mosaic.{void}
+use Rattle.lattice.specs.Block.{is_exit}
+use Rattle.lattice.proofs.IntTests.{lt_false}
+use Rattle.tile_flood.specs.Blocks.{block_of}
+use Rattle.tile_flood.specs.Flooding.{IsOwnLabel}
+use Rattle.tile_flood.proofs.Squares.{cell_of}
+use Rattle.tile_flood.proofs.Steps.{begin_passed, begin_reset, begin_waits}
+use Rattle.tile_flood.proofs.ListedChanges.{listed_as}
+use Rattle.tile_flood.proofs.flood.Flood.begin_at.Goals as goal
+
+pub returns-then-not-is_marked-clause-state : goal.returns-then-not-is_marked-clause-state
+returns-then-not-is_marked-clause-state c =
+    let s = c.args.self.now in
+    begin_passed c.args.n c.args.heights.now c.args.sinks.now c.args.points.now s.levels.items s.labels.items s.queue s.suspects c.args.k (slice_index c.args.points.now c.args.k) c.requires.state
+    (λ d. get_or_default c.args.points.now c.args.k d 0 c.requires.k) (sym c.is_marked.ensures.value ∙ c.if-not-is_marked.true)
+
+pub returns-in-Some-clause-state : goal.returns-in-Some-clause-state
+returns-in-Some-clause-state c =
+    let s = c.args.self.now in
+    let n = c.args.n in
+    let b = block_of n c.args.heights.now c.args.sinks.now in
+    let e = slice_index c.args.points.now c.args.k in
+    let cell : e ≡ (e / n) * n + e % n = cell_of n e in
+    let a = c.in_ok-reset.ensures in
+    let fits : SFits w16 c.at-height.result = search rules in
+    begin_reset n c.args.heights.now c.args.sinks.now c.args.points.now s.levels.items s.labels.items s.queue s.suspects c.args.k e c.requires.state
+    (λ d. get_or_default c.args.points.now c.args.k d 0 c.requires.k) (sym c.is_marked.ensures.value ∙ c.if-not-is_marked.false)
+    c.reset.new.self.levels.items c.reset.new.self.labels.items (to_z w16 (of_z w16 c.at-height.result)) c.in-Some.label c.reset.new.self.queue c.reset.new.self.suspects a.levels a.labels
+    (inr (subst (λ z. IsTrue (is_exit b z)) (sym cell) c.in-Some.ensures.outlet, (to_z-of_z w16 c.at-height.result fits ∙ c.at-height.ensures, subst (λ z. IsOwnLabel b z c.in-Some.label) (sym cell) c.in-Some.ensures.label)))
+    a.waiting a.suspect a.suspected a.others
+
+pub returns-in-Some-clause-listed : goal.returns-in-Some-clause-listed
+returns-in-Some-clause-listed c =
+    let s = c.args.self.now in
+    let a = c.in_ok-reset.ensures in
+    listed_as c.args.n c.args.heights.now s.levels.items c.reset.new.self.levels.items s.labels.items c.reset.new.self.labels.items c.args.affected.now.items c.reset.new.affected.items (slice_index c.args.points.now c.args.k)
+    (to_z w16 (of_z w16 c.at-height.result)) c.in-Some.label (subst (λ m. slice_index c.args.points.now c.args.k < m) c.requires.state.state.levels_whole (c.is_marked.ensures.inside c.if-not-is_marked.false)) a.levels a.labels a.affected
+
+pub returns-then-level-height-clause-state : goal.returns-then-level-height-clause-state
+returns-then-level-height-clause-state c =
+    let s = c.args.self.now in
+    let n = c.args.n in
+    let b = block_of n c.args.heights.now c.args.sinks.now in
+    let e = slice_index c.args.points.now c.args.k in
+    let cell : e ≡ (e / n) * n + e % n = cell_of n e in
+    let a = c.in_ok-reset-2.ensures in
+    begin_reset n c.args.heights.now c.args.sinks.now c.args.points.now s.levels.items s.labels.items s.queue s.suspects c.args.k e c.requires.state
+    (λ d. get_or_default c.args.points.now c.args.k d 0 c.requires.k) (sym c.is_marked.ensures.value ∙ c.if-not-is_marked.false)
+    c.reset-then-level-height.new.self.levels.items c.reset-then-level-height.new.self.labels.items void _ c.reset-then-level-height.new.self.queue c.reset-then-level-height.new.self.suspects a.levels a.labels
+    (inl (refl, (refl, ap (is_exit b) cell ∙ c.in_default.ensures.none)))
+    a.waiting a.suspect a.suspected a.others
+
+pub returns-then-level-height-clause-listed : goal.returns-then-level-height-clause-listed
+returns-then-level-height-clause-listed c =
+    let s = c.args.self.now in
+    let a = c.in_ok-reset-2.ensures in
+    listed_as c.args.n c.args.heights.now s.levels.items c.reset-then-level-height.new.self.levels.items s.labels.items c.reset-then-level-height.new.self.labels.items c.args.affected.now.items c.reset-then-level-height.new.affected.items (slice_index c.args.points.now c.args.k)
+    void _ (subst (λ m. slice_index c.args.points.now c.args.k < m) c.requires.state.state.levels_whole (c.is_marked.ensures.inside c.if-not-is_marked.false)) a.levels a.labels a.affected
+
+pub returns-clause-state : goal.returns-clause-state
+returns-clause-state c =
+    let s = c.args.self.now in
+    let n = c.args.n in
+    let b = block_of n c.args.heights.now c.args.sinks.now in
+    let e = slice_index c.args.points.now c.args.k in
+    let cell : e ≡ (e / n) * n + e % n = cell_of n e in
+    let a = c.in_ok-wait_beside.ensures in
+    let fits : SFits w16 c.at-height.result = search rules in
+    let fits_level : SFits w16 c.at-level.result = search rules in
+    let height : to_z w16 (of_z w16 c.at-height.result) ≡ slice_index_or c.args.heights.now e void = to_z-of_z w16 c.at-height.result fits ∙ c.at-height.ensures in
+    let level : to_z w16 (of_z w16 c.at-level.result) ≡ slice_index_or s.levels.items e void = to_z-of_z w16 c.at-level.result fits_level ∙ (c.at-level.ensures ∙ ap (λ ls. slice_index_or ls e void) c.deref.ensures.value) in
+    rw (a.levels, a.labels, a.suspects)
+    (begin_waits n c.args.heights.now c.args.sinks.now c.args.points.now s.levels.items s.labels.items s.queue s.suspects c.args.k e c.requires.state
+    (λ d. get_or_default c.args.points.now c.args.k d 0 c.requires.k) (sym c.is_marked.ensures.value ∙ c.if-not-is_marked.false)
+    c.wait_beside.new.self.queue (ap (is_exit b) cell ∙ c.in_default.ensures.none)
+    (subst (λ h. h ≤ℤ slice_index_or s.levels.items e void) height (subst (λ l. to_z w16 (of_z w16 c.at-height.result) ≤ℤ l) level (lt_false (to_z w16 (of_z w16 c.at-level.result)) (to_z w16 (of_z w16 c.at-height.result)) c.if-level-height.false)))
+    a.still a.waits)

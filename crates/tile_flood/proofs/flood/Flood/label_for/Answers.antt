@@ -1,0 +1,28 @@
+use Rattle.std.proofs.Common.{◌≤ℤ◌, sym, subst, rules, slice_index_or, SFits, w16}
+use Rattle.std.proofs.lemmas.Int.{to_z-of_z}
+use Rattle.lattice.specs.Mosaic.{void}
+use Rattle.tile_flood.specs.Suspects.{IsBesideWith}
+use Rattle.tile_flood.proofs.Squares.{solid_below}
+use Rattle.tile_flood.proofs.Dependence.{beside_back}
+use Rattle.tile_flood.proofs.Steps.{max_second}
+use Rattle.tile_flood.proofs.flood.Flood.label_for.Goals as goal
+
+pub returns-then-has_beside : goal.returns-then-has_beside
+returns-then-has_beside c =
+    let s = c.args.self.now in
+    let fits : SFits w16 c.args.level = search rules in
+    subst (λ l. IsBesideWith c.args.n s.levels.items s.labels.items c.args.e c.label_at-own.result l) (to_z-of_z w16 c.args.level fits) (c.has_beside.ensures c.if-has_beside.true)
+
+pub returns : goal.returns
+returns c =
+    let s = c.requires.state in
+    let front = c.args.front.point in (
+      front,
+      (
+        solid_below c.args.n c.args.heights.now front (s.state.ground front s.marked),
+        (
+          beside_back c.args.n front c.args.e c.requires.beside,
+          (s.marked, (s.named, subst (λ l. l ≤ℤ c.args.level) (sym s.level) (max_second (slice_index_or c.args.heights.now c.args.e void) c.args.front.level c.args.level c.requires.level))),
+        ),
+      ),
+    )

@@ -1,0 +1,12 @@
+use Rattle.std.proofs.Common.{◌*◌, ◌<◌, ◌⊎◌, ℕ, IsTrue, refl, sym, subst}
+use Rattle.lattice.specs.Block.{is_beside}
+use Rattle.tile_flood.specs.Flooding.{is_marked}
+use Rattle.tile_flood.specs.Suspects.{IsIn}
+use Rattle.tile_flood.proofs.flood.Flood.reset.Goals as goal
+
+pub returns-clause-others : goal.returns-clause-others
+returns-clause-others c =
+    let n = c.args.n in
+    let q = c.suspect_beside.new.self.queue in
+    let s = c.suspect_beside.new.self.suspects in
+    subst (λ ls. (y : ℕ) → y < n * n → IsTrue (is_beside n c.args.e y) → IsTrue (is_marked ls y) → IsIn q ls y ⊎ IsIn s ls y) (sym c.in_ok-suspect_beside.ensures.levels) (c.in_ok-suspect_beside.ensures.others refl)

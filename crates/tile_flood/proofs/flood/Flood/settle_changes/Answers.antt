@@ -1,0 +1,87 @@
+use Rattle.std.proofs.Common.{ℕ, ℤ, List, arith, sym, subst, inl, slice_index_or}
+use Rattle.lattice.specs.Mosaic.{void}
+use Rattle.tile_flood.specs.Waiting.{Waits, IsTaken}
+use Rattle.tile_flood.specs.declared.affected.Affected.{Affected}
+use Rattle.tile_flood.specs.Affected.{StayListed}
+use Rattle.tile_flood.specs.Suspects.{IsIn, IsInOr}
+use Rattle.tile_flood.proofs.Steps.{mended_labelling, mended_carried, mending_as, taken_in}
+use Rattle.tile_flood.proofs.ListedChanges.{listed_same, listed_twice}
+use Rattle.tile_flood.proofs.flood.Flood.settle_changes.Goals as goal
+use Rattle.tile_flood.proofs.flood.Flood.settle_changes.Goals.{In_default-pop, in-Some+in_ok-examine, in_default+in-Some-pop+in_ok-pass_on}
+
+pub examine-requires-clause-state : goal.examine-requires-clause-state
+examine-requires-clause-state c =
+    let s = c.loop.self in
+    let a = c.take_suspect.ensures in
+    let levels = s.levels.items in
+    let q' = c.take_suspect.new.self.suspects in
+    let seat = c.in-Some.seat in
+    rw (a.levels, a.labels, a.queue)
+    (mending_as c.args.n c.args.heights.now c.args.sinks.now levels s.labels.items (IsIn s.queue levels) (IsIn s.suspects levels) (IsIn s.queue levels) (IsInOr q' levels seat.point seat.level) c.loop.invariant.state
+    (λ e on is. taken_in levels s.suspects q' seat.point seat.level c.in-Some.ensures.taken e is) (λ x y on link w. inl w))
+
+pub loop-init : goal.loop-init
+loop-init c = record { state = c.requires.state; listed = listed_same c.args.n c.args.heights.now c.args.self.now.levels.items c.args.self.now.labels.items c.args.affected.now.items }
+
+pub pass_on-requires-clause-state : goal.pass_on-requires-clause-state
+pass_on-requires-clause-state c =
+    let s = c.loop.self in
+    let a = c.in_default.ensures in
+    let levels = s.levels.items in
+    let q' = c.pop.new.self in
+    let seat = c.in-Some-pop.seat in
+    rw (a.levels, a.labels, a.same)
+    (mending_as c.args.n c.args.heights.now c.args.sinks.now levels s.labels.items (IsIn s.queue levels) (IsIn s.suspects levels) (IsInOr q' levels seat.point seat.level) (IsIn s.suspects levels) c.loop.invariant.state
+    (λ e on is. is) (λ x y on link w. inl (taken_in levels s.queue q' seat.point seat.level (subst (λ q. IsTaken q q' seat.level seat.point) a.queue c.in-Some-pop.ensures.taken) x w)))
+
+-- nobody waits any more, and none is suspect
+nobody : (c : In_default-pop) (l : ℤ) (e : ℕ) → Waits c.loop.self.queue l e → ⊥
+nobody c l e w = c.in_default-pop.ensures.taken l e (subst (λ q. Waits q l e) (sym c.in_default.ensures.queue) w)
+
+pub returns-in_default-pop-clause-labelling : goal.returns-in_default-pop-clause-labelling
+returns-in_default-pop-clause-labelling c done =
+    let s = c.loop.self in
+    let a = c.in_default.ensures in
+    let levels = s.levels.items in
+    let none = a.none (nobody (goal.at.returns-in_default-pop-clause-labelling c).In_default-pop) in
+    let least = c.requires.heights.side.0 in
+    rw (a.levels, a.labels)
+    (mended_labelling c.args.n c.args.heights.now c.args.sinks.now levels s.labels.items (IsIn s.queue levels) (IsIn s.suspects levels) (IsIn s.queue levels) (IsIn s.suspects levels) c.loop.invariant.state (omega arith)
+    (λ e w. nobody (goal.at.returns-in_default-pop-clause-labelling c).In_default-pop (slice_index_or levels e void) e w) (λ e is. none (slice_index_or levels e void) e is))
+
+pub returns-in_default-pop-clause-carried : goal.returns-in_default-pop-clause-carried
+returns-in_default-pop-clause-carried c done =
+    let s = c.loop.self in
+    let a = c.in_default.ensures in
+    let levels = s.levels.items in
+    let none = a.none (nobody (goal.at.returns-in_default-pop-clause-carried c).In_default-pop) in
+    let least = c.requires.heights.side.0 in
+    rw (a.levels, a.labels)
+    (mended_carried c.args.n c.args.heights.now c.args.sinks.now levels s.labels.items (IsIn s.queue levels) (IsIn s.suspects levels) (IsIn s.queue levels) (IsIn s.suspects levels) c.loop.invariant.state (omega arith)
+    (λ e w. nobody (goal.at.returns-in_default-pop-clause-carried c).In_default-pop (slice_index_or levels e void) e w) (λ e is. none (slice_index_or levels e void) e is))
+
+pub returns-in_default-pop-clause-listed : goal.returns-in_default-pop-clause-listed
+returns-in_default-pop-clause-listed c =
+    let s = c.args.self.now in
+    subst (λ ls. StayListed c.args.n c.args.heights.now s.levels.items s.labels.items c.args.affected.now.items ls c.take_suspect.new.self.labels.items c.loop.affected.items) (sym c.in_default.ensures.levels)
+    (subst (λ bs. StayListed c.args.n c.args.heights.now s.levels.items s.labels.items c.args.affected.now.items c.loop.self.levels.items bs c.loop.affected.items) (sym c.in_default.ensures.labels) c.loop.invariant.listed)
+
+pub loop-preserved : goal.loop-preserved
+loop-preserved c =
+    let n = c.args.n in
+    let heights = c.args.heights.now in
+    let first = c.args.self.now in
+    let s = c.loop.self in
+    let t = c.take_suspect.new.self in
+    let same = c.take_suspect.ensures in
+    let at : (levels : List ℤ) (labels : List ℕ) (affected : List Affected) → StayListed n heights t.levels.items t.labels.items c.loop.affected.items levels labels affected → StayListed n heights first.levels.items first.labels.items c.args.affected.now.items levels labels affected =
+    λ levels labels affected more. listed_twice n heights first.levels.items s.levels.items levels first.labels.items s.labels.items labels c.args.affected.now.items c.loop.affected.items affected c.loop.invariant.listed
+    (subst (λ ls. StayListed n heights ls s.labels.items c.loop.affected.items levels labels affected) same.levels (subst (λ bs. StayListed n heights t.levels.items bs c.loop.affected.items levels labels affected) same.labels more)) in
+    elim c.match-take_suspect.branch [
+      | in-Some+in_ok-examine w ↦
+          let a = w.in_ok-examine.ensures in
+          rw (w.self-is, w.affected-is) (record { state = a.state; listed = at w.examine.new.self.levels.items w.examine.new.self.labels.items w.examine.new.affected.items a.listed })
+      | in_default+in-Some-pop+in_ok-pass_on w ↦
+          let a = w.in_ok-pass_on.ensures in
+          rw (w.self-is, w.affected-is) (record { state = a.state; listed = at w.pass_on.new.self.levels.items w.pass_on.new.self.labels.items w.pass_on.new.affected.items a.listed })
+    ]

@@ -1,0 +1,17 @@
+use Rattle.std.proofs.Common.{ℕ, ◌*◌, ◌<◌, ◌≤ℤ◌, ◌≡◌, ◌⊎◌, IsTrue, slice_index, slice_index_or}
+use Rattle.lattice.specs.Mosaic.{void}
+use Rattle.tile_flood.specs.Waiting.{WaitStill}
+use Rattle.tile_flood.specs.Flooding.{is_marked}
+use Rattle.tile_flood.specs.Affected.{IsInWindow}
+use Rattle.tile_flood.specs.Suspects.{IsIn}
+use Rattle.tile_flood.proofs.flood.Flood.suspect_beside.Given as goal
+
+abbrev pub invariant-loop-d : goal.invariant-loop-d
+invariant-loop-d l = record {
+  levels : l.self.levels.items ≡ l.fn.self.levels.items;
+  labels : l.self.labels.items ≡ l.fn.self.labels.items;
+  waiting : WaitStill l.fn.self.queue l.self.queue;
+  suspect : WaitStill l.fn.self.suspects l.self.suspects;
+  suspected : (i y : ℕ) → i < l.d → y < l.n * l.n → IsInWindow l.n l.point i y → IsTrue (is_marked l.fn.self.levels.items y) → slice_index l.fn.self.labels.items y ≡ l.label → l.level ≤ℤ slice_index_or l.fn.self.levels.items y void → IsIn l.self.suspects l.fn.self.levels.items y;
+  others : IsTrue l.others_wait → (i y : ℕ) → i < l.d → y < l.n * l.n → IsInWindow l.n l.point i y → IsTrue (is_marked l.fn.self.levels.items y) → IsIn l.self.queue l.fn.self.levels.items y ⊎ IsIn l.self.suspects l.fn.self.levels.items y;
+}

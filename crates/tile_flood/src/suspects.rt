@@ -1,0 +1,175 @@
+//! Points whose levels and labels may not stand any more: they do where a lower point beside them holds them.
+ghost use Rattle.std.specs.Prelude.{◌≡◌, ◌<◌, ◌≤ℤ◌, ◌<ℤ◌, ◌*◌, ◌⊎◌, ◌++◌, ◌∷◌, [], ℕ, ℤ, false, OnOk, IfSome, IfNone, IsTrue, length, slice_set, slice_index, slice_index_or};
+ghost use Rattle.lattice.specs.Limits.{IsSide};
+ghost use Rattle.lattice.specs.Mosaic.{void};
+ghost use Rattle.lattice.specs.Block.{is_solid, is_exit, is_beside};
+ghost use Rattle.tile_flood.specs.Blocks.{block_of, AreHeights};
+ghost use Rattle.tile_flood.specs.Flooding.{is_marked};
+ghost use Rattle.tile_flood.specs.Waiting.{Waits, WaitStill, IsTaken};
+ghost use Rattle.tile_flood.specs.Affected.{StayListed};
+ghost use Rattle.tile_flood.specs.Suspects.{IsHeldUp, IsMending, AreMending, IsIn, IsInOr, IsBesideWith};
+
+use crate::affected::{Affected, window_point};
+use crate::flood::Flood;
+use crate::labelled::NO_LABEL;
+use crate::outlets::own_label;
+use crate::queue::Seat;
+use crate::values::{at, label_at};
+use std::alloc::AllocError;
+
+impl Flood {
+    // Takes a suspect of the lowest level, unless a point waits below it.
+    pub(crate) fn take_suspect(&mut self) -> Option<Seat>
+        ensures levels { self.new.levels.items ≡ self.old.levels.items }
+        ensures labels { self.new.labels.items ≡ self.old.labels.items }
+        ensures queue { self.new.queue ≡ self.old.queue }
+        ensures taken { IfSome result (λ seat. IsTaken self.old.suspects self.new.suspects seat.level seat.point) }
+        ensures same { IfNone result (self.new.suspects ≡ self.old.suspects) }
+        ensures none { IfNone result (((l : ℤ) (e : ℕ) → Waits self.old.queue l e → ⊥) → (l : ℤ) (e : ℕ) → Waits self.old.suspects l e → ⊥) }
+    {
+        let suspect = self.suspects.lowest_level()?;
+        if let Some(waiting) = self.queue.lowest_level() {
+            if waiting < suspect {
+                return None;
+            }
+        }
+        let Some(seat) = self.suspects.pop() else {
+            return None;
+        };
+        Some(seat)
+    }
+
+    // Lets a point wait that was suspect at this level, where it is held there; else takes its level and its label.
+    pub(crate) fn examine(
+        &mut self,
+        n: usize,
+        heights: &[i16],
+        sinks: &[u32],
+        seat: Seat,
+        affected: &mut Vec<Affected>,
+    ) -> Result<(), AllocError>
+        requires heights { AreHeights n heights.now }
+        requires state { IsMending n heights.now sinks.now self.old.levels.items self.old.labels.items (IsIn self.old.queue self.old.levels.items) (IsInOr self.old.suspects self.old.levels.items seat.point seat.level) }
+        ensures state { OnOk result (AreMending n heights.now sinks.now self.new.levels.items self.new.labels.items self.new.queue self.new.suspects) }
+        ensures listed { OnOk result (StayListed n heights.now self.old.levels.items self.old.labels.items affected.old.items self.new.levels.items self.new.labels.items affected.new.items) }
+    {
+        if !self.is_current(seat) {
+            return Ok(());
+        }
+        let e = seat.point as usize;
+        if self.is_held(n, heights, sinks, e) {
+            self.queue.push(seat.level, seat.point)?;
+            return Ok(());
+        }
+        self.reset(n, e, i16::MIN, NO_LABEL, affected)?;
+        Ok(())
+    }
+
+    // Whether the point has a level still, that one.
+    pub(crate) fn is_current(&self, seat: Seat) -> bool
+        ensures current { IsTrue result → IsTrue (is_marked self.now.levels.items seat.point) }
+        ensures level { IsTrue result → slice_index_or self.now.levels.items seat.point void ≡ seat.level }
+        ensures inside { IsTrue result → seat.point < length self.now.levels.items }
+        ensures stale { result ≡ false → IsTrue (is_marked self.now.levels.items seat.point) → slice_index_or self.now.levels.items seat.point void ≡ seat.level → ⊥ }
+    {
+        let e = seat.point as usize;
+        if !self.is_marked(e) {
+            return false;
+        }
+        at(&self.levels, e) == seat.level
+    }
+
+    // Whether the point is a way out, or its level and its label stand by a lower point beside it. At an equal level two
+    // points could hold each other.
+    fn is_held(&self, n: usize, heights: &[i16], sinks: &[u32], e: usize) -> bool
+        requires heights { AreHeights n heights.now }
+        requires levels { length self.now.levels.items ≡ n * n }
+        requires labels { length self.now.labels.items ≡ n * n }
+        requires ground { (z : ℕ) → IsTrue (is_marked self.now.levels.items z) → IsTrue (is_solid (block_of n heights.now sinks.now) z) }
+        requires marked { IsTrue (is_marked self.now.levels.items e) }
+        requires e { e < n * n }
+        ensures held { IsTrue result → IsTrue (is_exit (block_of n heights.now sinks.now) e) ⊎ ((z : ℕ) × (IsHeldUp n heights.now sinks.now self.now.levels.items self.now.labels.items e z × (slice_index_or self.now.levels.items z void <ℤ slice_index_or self.now.levels.items e void))) }
+        ensures inner { result ≡ false → is_exit (block_of n heights.now sinks.now) e ≡ false }
+    {
+        let level = at(&self.levels, e);
+        match own_label(n, heights, sinks, e / n, e % n) {
+            Some(_) => true,
+            None => {
+                at(heights, e) <= level
+                    && self.has_beside(n, e, label_at(&self.labels, e), level - 1)
+            }
+        }
+    }
+
+    // Whether a point with this label and at most this level lies beside the point.
+    pub(crate) fn has_beside(&self, n: usize, point: usize, label: u16, most: i16) -> bool
+        requires side { IsSide n }
+        requires small { n * n < 4294967296 }
+        requires levels { length self.now.levels.items ≡ n * n }
+        requires labels { length self.now.labels.items ≡ n * n }
+        requires point { point < n * n }
+        ensures { IsTrue result → IsBesideWith n self.now.levels.items self.now.labels.items point label most }
+    {
+        for d in 0..9 {
+            if let Some(e) = window_point(n, point, d) {
+                if !self.is_unmarked(e)
+                    && label_at(&self.labels, e) == label
+                    && at(&self.levels, e) <= most
+                {
+                    return true;
+                }
+            }
+        }
+        false
+    }
+
+    // Gives the point this level and this label, or none, and lists it with the label that it had. What may hang on what it
+    // had is suspect from now on, and all else beside it waits.
+    pub(crate) fn reset(
+        &mut self,
+        n: usize,
+        e: usize,
+        level: i16,
+        label: u16,
+        affected: &mut Vec<Affected>,
+    ) -> Result<(), AllocError>
+        requires side { IsSide n }
+        requires small { n * n < 4294967296 }
+        requires levels { length self.old.levels.items ≡ n * n }
+        requires labels { length self.old.labels.items ≡ n * n }
+        requires e { e < n * n }
+        ensures levels { OnOk result (self.new.levels.items ≡ slice_set self.old.levels.items e level) }
+        ensures labels { OnOk result (self.new.labels.items ≡ slice_set self.old.labels.items e label) }
+        ensures affected { OnOk result (affected.new.items ≡ affected.old.items ++ record { point = e; label = slice_index self.old.labels.items e } ∷ []) }
+        ensures waiting { OnOk result (WaitStill self.old.queue self.new.queue) }
+        ensures suspect { OnOk result (WaitStill self.old.suspects self.new.suspects) }
+        ensures suspected { OnOk result ((y : ℕ) → y < n * n → IsTrue (is_beside n e y) → IsTrue (is_marked self.new.levels.items y) → slice_index self.new.labels.items y ≡ slice_index self.old.labels.items e
+            → slice_index_or self.old.levels.items e void ≤ℤ slice_index_or self.new.levels.items y void → IsIn self.new.suspects self.new.levels.items y) }
+        ensures others { OnOk result ((y : ℕ) → y < n * n → IsTrue (is_beside n e y) → IsTrue (is_marked self.new.levels.items y) → IsIn self.new.queue self.new.levels.items y ⊎ IsIn self.new.suspects self.new.levels.items y) }
+    {
+        let was = at(&self.levels, e);
+        let own = label_at(&self.labels, e);
+        self.list_affected(e, affected)?;
+        self.levels[e] = level;
+        self.labels[e] = label;
+        self.suspect_beside(n, e, was, own, true)?;
+        Ok(())
+    }
+
+    // Lists the point, with its label.
+    pub(crate) fn list_affected(
+        &self,
+        e: usize,
+        affected: &mut Vec<Affected>,
+    ) -> Result<(), AllocError>
+        requires small { e < 4294967296 }
+        requires labels { e < length self.now.labels.items }
+        ensures { OnOk result (affected.new.items ≡ affected.old.items ++ record { point = e; label = slice_index self.now.labels.items e } ∷ []) }
+    {
+        affected.push(Affected {
+            point: e as u32,
+            label: label_at(&self.labels, e),
+        })?;
+        Ok(())
+    }
+}
