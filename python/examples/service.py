@@ -3,18 +3,29 @@
 
 usage: service.py STORE [--port PORT] [--program PROGRAM]
 
-    GET  /fill?y=183&x=411        also /elevation, /direction, /trace, /watershed, /count     {"answer": ..}
+    GET  /fill?y=183&x=411        also /elevation, /direction, /trace, /watershed             {"answer": ..}
     GET  /fill?latitude=0.1525&longitude=0.3425                                               the same, by degrees
+    GET  /tiles                   also /sinks, /count                                         {"answer": ..}
+    GET  /export?tile=N00E000                                                                 the tile's HGT bytes
+    GET  /health                  503 where the program can't be begun                        {"answer": count}
     POST /wall                    {"height": 1193, "points": [[183, 411]]}                    {"answer": k}
     POST /burn                    {"depth": 15, "points": [[183, 411]]}                       {"answer": k}
+    POST /patch                   {"y0": 3, "x0": 4, "y1": 9, "x1": 9, "height": 250}         {"answer": k}
+    POST /sink, /unsink           {"y": 183, "x": 411}                                        {"answer": k}
+    POST /import?tile=N00E000     HGT bytes, as application/octet-stream                      {"answer": k}
+    POST /remove                  {"tile": "N00E000"}                                         {"answer": k}
+    POST /step                    {}                                                          {"answer": name or null}
 
 Questions that wait at the same moment are asked together. A command that was answered is on the drive: where the program
 is killed, the service begins it anew and asks again only what doesn't stand; where the service is killed, start it again.
-A refusal is status 404 where the point has no answer, else 409, with its number and word; what can't be read is 400.
+A refusal is status 404 where the point has no answer, 503 where the store failed, else 409, with its number and word; what
+can't be read is 400, what is asked of another name than this machine's own is 403, and who sends nothing for a minute is let
+go. Each of these is a line on standard error.
 """
 
 import argparse
 import asyncio
+import contextlib
 import json
 import pathlib
 import signal
@@ -23,7 +34,7 @@ import urllib.parse
 
 sys.path.insert(0, str(pathlib.Path(__file__).resolve().parents[1]))  # this package, also where it isn't installed
 
-from mosaic_store import Command, MosaicError, Refusal, SessionDied, open_store, questions
+from mosaic_store import Command, MosaicError, Refusal, open_store, questions
 
 QUESTIONS = {
     "/elevation": questions.Elevation,
@@ -32,9 +43,21 @@ QUESTIONS = {
     "/trace": questions.Trace,
     "/watershed": questions.WatershedOf,
 }
-COMMANDS = {"/wall": (questions.Wall, "height"), "/burn": (questions.Burn, "depth")}
-LONGEST_HEAD, LONGEST_BODY = 16_384, 65_536
-OUTSIDE, VOID = 7, 8
+OF_THE_STORE = {"/count": questions.Count, "/health": questions.Count, "/tiles": questions.Tiles, "/sinks": questions.Sinks}
+COMMANDS = {
+    "/wall": (questions.Wall, ("height", "points")),
+    "/burn": (questions.Burn, ("depth", "points")),
+    "/patch": (questions.Patch, ("y0", "x0", "y1", "x1", "height")),
+    "/sink": (questions.Sink, ("y", "x")),
+    "/unsink": (questions.Unsink, ("y", "x")),
+    "/remove": (questions.Remove, ("tile",)),
+    "/step": (questions.Step, ()),
+}
+LONGEST_HEAD, LONGEST_BODY, LONGEST_TILE = 16_384, 65_536, 25_934_402
+SECONDS_TO_SEND = 60
+OWN_NAMES = ("127.0.0.1", "localhost", "[::1]")
+OUTSIDE, VOID, DEVICE, FAILED = 7, 8, 20, 22
+REFUSED = {OUTSIDE: 404, VOID: 404, DEVICE: 503, FAILED: 503}
 
 
 class BadRequest(Exception):
@@ -83,21 +106,28 @@ class Service:
     async def serve(self, reader, writer):
         """Serves one client until it leaves."""
         try:
-            while request := await read_request(reader):
+            while request := await asyncio.wait_for(read_request(reader, writer), SECONDS_TO_SEND):
                 status, answer = await self.reply(*request)
-                body = json.dumps(answer).encode()
-                head = f"HTTP/1.1 {status} -\r\nContent-Type: application/json\r\nContent-Length: {len(body)}\r\n\r\n"
-                writer.write(head.encode() + body)
-                await writer.drain()
-        except (BadRequest, asyncio.IncompleteReadError, asyncio.LimitOverrunError, ConnectionError):
-            pass  # what it sent is no HTTP, or it left
+                if status != 200:
+                    log(status, f"{request[0]} {request[1]}", answer["error"])
+                await send(writer, status, answer)
+        except (BadRequest, asyncio.LimitOverrunError) as error:
+            # Where its next request would begin can't be told, so the connection ends with this answer.
+            log(400, "a request", error)
+            with contextlib.suppress(ConnectionError):
+                await send(writer, 400, {"error": str(error)}, last=True)
+        except (asyncio.IncompleteReadError, asyncio.TimeoutError, ConnectionError):
+            pass  # it left, or sent nothing for too long
         finally:
             writer.close()
 
     async def reply(self, method, target, headers, body):
+        # A page of another site may have its own name lead here: what asks by that name isn't answered.
+        if headers.get("host", "").rsplit(":", 1)[0] not in OWN_NAMES:
+            return 403, {"error": "this service answers to 127.0.0.1 and localhost alone"}
         try:
             question = self.question(method, target, headers, body)
-        except (BadRequest, ValueError) as error:
+        except (BadRequest, ValueError, RecursionError) as error:
             return 400, {"error": str(error)}
         future = asyncio.get_running_loop().create_future()
         self.waiting.put_nowait((question, future))
@@ -106,13 +136,18 @@ class Service:
     def question(self, method, target, headers, body):
         """What a request asks. BadRequest, or a ValueError that tells why, where it asks nothing."""
         url = urllib.parse.urlsplit(target)
-        if method == "GET" and url.path == "/count":
-            return questions.Count()
+        given = {name: values[-1] for name, values in urllib.parse.parse_qs(url.query).items()}
+        if method == "GET" and url.path in OF_THE_STORE:
+            return OF_THE_STORE[url.path]()
         if method == "GET" and url.path in QUESTIONS:
-            given = {name: values[-1] for name, values in urllib.parse.parse_qs(url.query).items()}
             return checked(QUESTIONS[url.path](*self.point(given)))
+        if method == "GET" and url.path == "/export":
+            return checked(questions.Export(given.get("tile", "")))
+        if method == "POST" and url.path == "/import":
+            sent_as(headers, "application/octet-stream")
+            return checked(questions.Import(given.get("tile", ""), body))
         if method == "POST" and url.path in COMMANDS:
-            return edit(url.path, headers, body)
+            return command(url.path, headers, body)
         raise BadRequest(f"{method} {url.path} asks nothing: see this service's first lines")
 
     def point(self, given):
@@ -123,15 +158,24 @@ class Service:
         raise BadRequest("a point is needed: y and x, or latitude and longitude")
 
 
-def edit(path, headers, body):
-    # Another site's page can't send this type without being allowed to.
-    if headers.get("content-type", "").split(";")[0].strip() != "application/json":
-        raise BadRequest("a command is sent as application/json")
-    kind, number = COMMANDS[path]
+def command(path, headers, body):
+    sent_as(headers, "application/json")
+    kind, names = COMMANDS[path]
     given = json.loads(body)
-    if not isinstance(given, dict) or not isinstance(given.get("points"), list) or number not in given:
-        raise BadRequest(f"a command is an object with {number} and points")
-    return checked(kind(given[number], given["points"]))
+    if not isinstance(given, dict) or set(given) != set(names) or not isinstance(given.get("points", []), list):
+        raise BadRequest(f"this command is an object with {' and '.join(names) or 'nothing in it'}")
+    return checked(kind(*(given[name] for name in names)))
+
+
+def sent_as(headers, kind):
+    # Another site's page can't send these types without being allowed to.
+    if headers.get("content-type", "").split(";")[0].strip() != kind:
+        raise BadRequest(f"this command is sent as {kind}")
+
+
+def log(status, asked, error):
+    """One line of printed ASCII on standard error, whatever was sent."""
+    print("service:", status, ascii(asked[:200])[1:-1], ascii(str(error)[:500])[1:-1], file=sys.stderr, flush=True)
 
 
 def checked(question):
@@ -140,7 +184,7 @@ def checked(question):
     return question
 
 
-async def read_request(reader):
+async def read_request(reader, writer):
     """The method, target, headers and body of the next request; None at the end."""
     try:
         head = await reader.readuntil(b"\r\n\r\n")
@@ -152,20 +196,34 @@ async def read_request(reader):
     words = first.split(" ")
     headers = {name.strip().lower(): value.strip() for name, _, value in (line.partition(":") for line in rest if line)}
     length = headers.get("content-length", "0")
-    if len(words) != 3 or not length.isdecimal() or int(length) > LONGEST_BODY:
-        raise BadRequest("no request")
+    if len(words) != 3:
+        raise BadRequest("this is no request of HTTP")
+    longest = LONGEST_TILE if words[1].startswith("/import?") else LONGEST_BODY
+    if not (length.isascii() and length.isdecimal() and len(length) < 10 and int(length) <= longest):
+        raise BadRequest(f"a request's body has at most {longest} bytes")
+    if headers.get("expect", "").lower() == "100-continue":
+        writer.write(b"HTTP/1.1 100 Continue\r\n\r\n")
     return words[0], words[1], headers, await reader.readexactly(int(length))
+
+
+async def send(writer, status, answer, last=False):
+    """Sends a reply; `last` where the connection ends with it."""
+    body, kind = (answer, "octet-stream") if isinstance(answer, bytes) else (json.dumps(answer).encode(), "json")
+    ending = "Connection: close\r\n" if last else ""
+    head = f"HTTP/1.1 {status} -\r\nContent-Type: application/{kind}\r\nContent-Length: {len(body)}\r\n{ending}\r\n"
+    writer.write(head.encode() + body)
+    await writer.drain()
 
 
 def told(answer):
     """A status and what is said."""
     if isinstance(answer, Refusal):
-        status = 404 if answer.number in (OUTSIDE, VOID) else 409
+        status = REFUSED.get(answer.number, 409)
         return status, {"error": str(answer), "number": answer.number, "word": answer.word, "cure": answer.cure}
-    if isinstance(answer, SessionDied):
-        return 503, {"error": str(answer)}
     if isinstance(answer, Exception):
-        return 500, {"error": str(answer)}
+        return 503, {"error": str(answer)}
+    if isinstance(answer, bytes):
+        return 200, answer
     if hasattr(answer, "runs"):
         return 200, {"answer": {"cells": answer.cells, "runs": answer.runs}}
     return 200, {"answer": answer}

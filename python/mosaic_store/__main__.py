@@ -1,13 +1,16 @@
-"""Runs a command of the package: python -m mosaic_store load|geojson|raster|draw|view .."""
+"""Runs a command of the package: python -m mosaic_store load|info|backup|geojson|raster|draw|hydrology|view .."""
 
 import importlib
 import sys
 
 COMMANDS = {
     "load": "mosaic_store.commands.load",
+    "info": "mosaic_store.commands.info",
+    "backup": "mosaic_store.commands.backup",
     "geojson": "mosaic_store.commands.geojson",
     "raster": "mosaic_store.commands.raster",
     "draw": "mosaic_store.commands.draw",
+    "hydrology": "mosaic_store.commands.hydrology",
     "view": "mosaic_store.view.__main__",
 }
 

@@ -20,6 +20,8 @@ from .lattice import Corner, corner_of
 
 _NAMED = re.compile(r"(?<![A-Z0-9])[NS]\d\d[EW]\d\d\d(?![A-Z0-9])", re.IGNORECASE | re.ASCII)
 
+_PLAIN = re.compile(r"[NS]\d\d[EW]\d\d\d\.", re.IGNORECASE | re.ASCII)
+
 
 class Unreadable(MosaicError):
     """A file, or what an archive holds, can't be read."""
@@ -47,6 +49,12 @@ class Source:
         name = (self.member or self.path.name).rsplit("/", 1)[-1]
         corners = {corner_of(found) for found in _NAMED.findall(name)}
         return corners.pop() if len(corners) == 1 else None
+
+    @property
+    def is_plain(self) -> bool:
+        """Whether its name is the tile's, and no copy's, as `N30W109 (1).hgt` is one's."""
+        name = (self.member or self.path.name).rsplit("/", 1)[-1]
+        return _PLAIN.match(name) is not None
 
     def read(self, most: int) -> bytes:
         """Its bytes, unpacked; the first `most` + 1 of a longer one. Unreadable where it can't be read."""
@@ -78,8 +86,20 @@ def files_below(paths: Iterable[str]) -> list[pathlib.Path]:
     for path in map(pathlib.Path, paths):
         if not path.exists():
             raise MosaicError(f"{path}: no such file or folder: check the path")
-        found += sorted(below for below in path.rglob("*") if below.is_file()) if path.is_dir() else [path]
+        found += sorted(_below(path)) if path.is_dir() else [path]
     return list(dict.fromkeys(found))
+
+
+def _below(folder: pathlib.Path) -> Iterator[pathlib.Path]:
+    """The files below a folder, through links to folders too, each folder once."""
+    seen: set[tuple[int, int]] = set()
+    for place, folders, names in os.walk(folder, followlinks=True):
+        at = os.stat(place)
+        if (at.st_dev, at.st_ino) in seen:
+            folders.clear()
+            continue
+        seen.add((at.st_dev, at.st_ino))
+        yield from (path for path in (pathlib.Path(place, name) for name in names) if path.is_file() and not _is_shadow(path.name))
 
 
 def sources_of(path: pathlib.Path) -> Iterator[Source | Trouble]:
@@ -98,7 +118,7 @@ def sources_of(path: pathlib.Path) -> Iterator[Source | Trouble]:
 def _members(path: pathlib.Path) -> Iterator[Source | Trouble]:
     try:
         with zipfile.ZipFile(path) as archive:
-            held = [entry for entry in archive.infolist() if _is(entry.filename, ".hgt")]
+            held = [entry for entry in archive.infolist() if _is(entry.filename, ".hgt") and not _is_shadow(entry.filename)]
     except (OSError, zipfile.BadZipFile, NotImplementedError, ValueError) as fault:
         yield Trouble(str(path), f"not read as a zip: {_reason(fault)}", "fetch it again")
         return
@@ -106,6 +126,11 @@ def _members(path: pathlib.Path) -> Iterator[Source | Trouble]:
         yield Source(path, entry.filename, entry.file_size)
     if not held:
         yield Trouble(str(path), "a zip without an HGT file", "")
+
+
+def _is_shadow(name: str) -> bool:
+    """Whether a Mac wrote it beside a file, under its name, with what it knows of it."""
+    return name.rsplit("/", 1)[-1].startswith("._")
 
 
 def _is(name: str, ending: str) -> bool:

@@ -10,23 +10,19 @@ from collections.abc import Sequence
 from dataclasses import dataclass, field
 from typing import TYPE_CHECKING, Any
 
+from . import shading
 from .errors import BadArgument
 from .lattice import METRES_A_DEGREE, Point, degrees_of
 from .questions import Watershed
 from .rasters import Heights
 from .samples import needed_numpy
+from .shading import DEEP, NO_DATA, TINTS, WATERSHED
 
 if TYPE_CHECKING:
     import numpy
 
     Array = numpy.ndarray[Any, Any]
 
-# Colours by height, from the lowest point of the window to the highest.
-TINTS = [(98, 142, 88), (158, 176, 110), (212, 200, 142), (184, 150, 108), (150, 118, 96), (236, 232, 228)]
-NO_DATA = (40, 40, 40)
-WATERSHED = (214, 60, 44)
-SHALLOW = (120, 180, 235)
-DEEP = (16, 60, 150)
 ROAD = "#202020"
 PATH = "#1050c0"
 
@@ -92,17 +88,15 @@ def colours_of(scene: Scene) -> Array:
     numpy = needed_numpy()
     heights = scene.heights
     low, high = range_of(heights)
-    share = (heights.samples.astype(float) - low) / max(1, high - low) * (len(TINTS) - 1)
-    bands = [numpy.interp(share, range(len(TINTS)), [tint[band] for tint in TINTS]) for band in range(3)]
-    colours = numpy.stack(bands, axis=-1) * _brightness(scene)[..., None]
-    colours[~heights.ground] = NO_DATA
+    metres = METRES_A_DEGREE / (heights.side - 1) * heights.every
+    ringed = numpy.pad(heights.samples, 1, mode="edge")
+    colours = shading.relief(ringed, low, high, metres * scene.narrowing, metres)
     if scene.watershed is not None:
         covered = cover_of(scene.watershed, heights) & heights.ground
         colours[covered] = colours[covered] * (1 - _WATERSHED_SHARE) + numpy.array(WATERSHED) * _WATERSHED_SHARE
     if scene.depths is not None and scene.depths.max() > 0:
         wet = scene.depths > 0
-        depth = numpy.sqrt(scene.depths[wet] / scene.depths.max())[:, None]
-        colours[wet] = numpy.array(SHALLOW) * (1 - depth) + numpy.array(DEEP) * depth
+        colours[wet] = shading.water(scene.depths[wet], scene.depths.max())
     clear = numpy.where(heights.held, 255, 0)[..., None]
     return numpy.concatenate([colours.round().clip(0, 255), clear], axis=-1).astype(numpy.uint8)
 
@@ -139,21 +133,6 @@ def needed_matplotlib() -> Any:
             "matplotlib isn't installed, and pictures need it: apt-get install python3-matplotlib"
         ) from None
     return matplotlib.pyplot
-
-
-def _brightness(scene: Scene) -> Array:
-    """How bright each slope is under a light from the north-west: 1 where it is level."""
-    numpy = needed_numpy()
-    heights = scene.heights
-    known = numpy.where(heights.ground, heights.samples.astype(float), numpy.nan)
-    metres = METRES_A_DEGREE / (heights.side - 1) * heights.every
-    padded = numpy.pad(known, 1, mode="edge")
-    sides = [padded[1:-1, :-2], padded[1:-1, 2:], padded[2:, 1:-1], padded[:-2, 1:-1]]
-    west, east, south, north = (numpy.where(numpy.isnan(side), known, side) for side in sides)
-    eastward, northward = (east - west) / (2 * metres * scene.narrowing), (north - south) / (2 * metres)
-    facing = ((eastward - northward) * 0.5 + math.sqrt(0.5)) / math.sqrt(0.5)
-    bright = facing / numpy.sqrt(1 + eastward**2 + northward**2)
-    return numpy.nan_to_num(bright, nan=1.0).clip(0.25, 1.45)
 
 
 def _draw_lines(axes: Any, scene: Scene) -> None:

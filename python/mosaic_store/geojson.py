@@ -9,7 +9,7 @@ from __future__ import annotations
 from collections.abc import Sequence
 from typing import Any
 
-from .lattice import Corner, Point, degrees_of
+from .lattice import Corner, Point, Run, degrees_of
 from .polygons import Ring, polygons_of
 from .questions import Watershed
 
@@ -20,16 +20,23 @@ _DECIMALS = 9  # a tenth of a millimetre
 
 def watershed_feature(watershed: Watershed, outlet: Point, side: int) -> Feature:
     """A watershed as a MultiPolygon. Its property `cells` is its number of points, which is its area in cells."""
-    polygons = polygons_of(watershed.runs)
-    coordinates = [[_degrees_of_ring(ring, side) for ring in polygon.rings] for polygon in polygons]
-    properties = {"what": "watershed", "cells": watershed.cells, **_place(outlet, side)}
+    return points_feature(watershed.runs, side, {"what": "watershed", "cells": watershed.cells, **_place(outlet, side)})
+
+
+def points_feature(runs: Sequence[Run], side: int, properties: dict[str, Any]) -> Feature:
+    """Points, given as maximal runs, as a MultiPolygon around their cells."""
+    coordinates = [[_degrees_of_ring(ring, side) for ring in polygon.rings] for polygon in polygons_of(runs)]
     return _feature("MultiPolygon", coordinates, properties)
 
 
 def trace_feature(path: Sequence[Point], side: int) -> Feature:
     """A flow path as a LineString, or as a Point where it has one point."""
-    line = [_degrees(point.x, point.y, side) for point in path]
-    properties = {"what": "trace", "points": len(path), **_place(path[0], side)}
+    return line_feature(path, side, {"what": "trace", "points": len(path), **_place(path[0], side)})
+
+
+def line_feature(points: Sequence[Point], side: int, properties: dict[str, Any]) -> Feature:
+    """A line through points as a LineString, or as a Point where there is one point."""
+    line = [_degrees(point.x, point.y, side) for point in points]
     return _feature("LineString", line, properties) if len(line) > 1 else _feature("Point", line[0], properties)
 
 

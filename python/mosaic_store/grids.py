@@ -45,9 +45,13 @@ def _write_geotiff(
     north_west = rasterio.transform.from_origin((window.x0 - 0.5) * cell, (window.y1 + 0.5) * cell, cell, cell)
     form = {"driver": "GTiff", "dtype": array.dtype.name, "count": 1, "nodata": no_data, "compress": "deflate"}
     size = {"height": array.shape[0], "width": array.shape[1]}
-    with rasterio.open(path, "w", crs="EPSG:4326", transform=north_west, **form, **size) as file:
-        file.write(array, 1)
-        file.set_band_description(1, what)
+    # In memory first: where a drive is full, GDAL closes a file that it couldn't write without an error.
+    with rasterio.io.MemoryFile() as memory:
+        with memory.open(crs="EPSG:4326", transform=north_west, **form, **size) as file:
+            file.write(array, 1)
+            file.set_band_description(1, what)
+        with open(path, "wb") as written:
+            written.write(memory.read())
 
 
 def _write_ascii(path: str, array: numpy.ndarray[Any, Any], window: Window, side: int, no_data: int) -> None:
@@ -68,9 +72,11 @@ def _write_ascii(path: str, array: numpy.ndarray[Any, Any], window: Window, side
 def _rasterio() -> Any:
     try:
         import rasterio
+        import rasterio.io
         import rasterio.transform
-    except ImportError:
+    except ImportError as fault:
         raise BadArgument(
-            "rasterio isn't installed, and GeoTIFF needs it: apt-get install python3-rasterio, or write a file .asc"
+            f"GeoTIFF needs rasterio ({fault}): apt-get install python3-rasterio, or pip install rasterio in an "
+            "environment of your own, or write a file .asc"
         ) from None
     return rasterio

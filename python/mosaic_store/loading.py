@@ -10,7 +10,7 @@ from dataclasses import dataclass
 
 from .archives import Source, Trouble, Unreadable, files_below, sources_of
 from .errors import Device, Failed, Full, MosaicError, Refusal
-from .lattice import GREATEST_SIDE, MOST_TILES, side_of
+from .lattice import GREATEST_SIDE, MOST_TILES, VOID_SAMPLE, Corner, side_of
 from .session import Session
 from .stores import Shape
 
@@ -48,7 +48,7 @@ class Found:
     troubles: list[Trouble]
 
     def shape(self, side: int | None = None, capacity: int | None = None) -> Shape:
-        """The side that most of them have, and room for every tile of it: for a store to be made of them."""
+        """The side that most of them have, and room for twice as many tiles: for a store to be made of them."""
         sides = collections.Counter(filter(None, (side_of(source.length or 0) for source in self._named())))
         if side is None and not sides:
             lengths = (source for source in self._named() if source.length is None)
@@ -60,7 +60,10 @@ class Found:
             raise MosaicError(
                 f"{len(corners)} tiles, and a store takes at most {MOST_TILES}: load a basin at a time, to a store each"
             )
-        return Shape(side or max(sides, key=lambda at: (sides[at], at)), capacity or max(1, len(corners)))
+        if side is None:
+            side = max(sides, key=lambda at: (sides[at], at))
+        # The file of a store takes as much of the drive as its tiles do, so there is room for more of them.
+        return Shape(side, min(MOST_TILES, max(4, 2 * len(corners))) if capacity is None else capacity)
 
     def _named(self) -> Iterator[Source]:
         return (source for source in self.sources if source.corner is not None)
@@ -70,7 +73,8 @@ def find(paths: Iterable[str]) -> Found:
     """What lies in folders and files. MosaicError where a path leads nowhere."""
     files = files_below(paths)
     parts = [part for path in files for part in sources_of(path)]
-    sources = [part for part in parts if isinstance(part, Source)]
+    # Where several files are one tile's, that whose name is the tile's goes before its copies.
+    sources = sorted((part for part in parts if isinstance(part, Source)), key=lambda source: not source.is_plain)
     return Found(len(files), sources, [part for part in parts if isinstance(part, Trouble)])
 
 
@@ -82,10 +86,9 @@ def load(session: Session, found: Found) -> Iterator[Outcome]:
     for trouble in found.troubles:
         kind = Kind.FAILED if trouble.cure else Kind.PASSED_BY
         yield Outcome(trouble.shown, kind, trouble.cause, trouble.cure)
-    present = set(session.tiles())
-    taken: dict[str, tuple[Source, bytes]] = {}
+    loader = _Loader(session, set(session.tiles()), collections.Counter(source.corner for source in found.sources))
     for source in found.sources:
-        yield _loaded(session, source, present, taken)
+        yield loader.load(source)
 
 
 def copy(session: Session, other: Session) -> Iterator[Outcome]:
@@ -117,37 +120,53 @@ def _declared(session: Session, y: int, x: int) -> Outcome:
     return Outcome(f"sink {y} {x}", Kind.IMPORTED)
 
 
-def _loaded(session: Session, source: Source, present: set[str], taken: dict[str, tuple[Source, bytes]]) -> Outcome:
-    corner = source.corner
-    if corner is None:
-        return _failed(source, "its name tells no tile", "rename it after its south-west corner, as N37W105.hgt")
-    name = corner.name
-    if name in present:
-        return Outcome(source.shown, Kind.THERE, name)
-    wanted = 2 * session.side**2
-    if source.length not in (None, wanted):
-        return _failed(source, *_misfit(source.length or 0, session.side))
-    try:
-        data = source.read(wanted)
-    except Unreadable as fault:
-        return _failed(source, str(fault).removeprefix(f"{source.shown}: "), "fetch it again")
-    digest = hashlib.sha256(data).digest()
-    if name in taken:
-        return _again(source, digest, *taken[name])
-    if len(data) != wanted:
-        return _failed(source, *_misfit(len(data), session.side))
-    try:
-        session.import_tile(name, data)
-    except Full as full:
-        return _failed(source, full.cause, full.cure)
-    taken[name] = source, digest
-    return Outcome(source.shown, Kind.IMPORTED, name)
+class _Loader:
+    """Imports one file after another, and knows which tiles several files hold."""
 
+    def __init__(self, session: Session, present: set[str], files_of: collections.Counter[Corner | None]) -> None:
+        self._session, self._present, self._files_of = session, present, files_of
+        self._first: dict[Corner, tuple[Source, bytes]] = {}
+        """Of each tile the first file that was read, and a digest of its bytes."""
 
-def _again(source: Source, digest: bytes, first: Source, known: bytes) -> Outcome:
-    if digest == known:
-        return Outcome(source.shown, Kind.THERE, f"the same as {first.shown}")
-    return _failed(source, f"the same tile as {first.shown}, with other samples", "keep the one that is right")
+    def load(self, source: Source) -> Outcome:
+        """Imports the file's tile; its outcome."""
+        corner = source.corner
+        if corner is None:
+            return _failed(source, "its name tells no tile", "rename it after its south-west corner, as N37W105.hgt")
+        is_there = corner.name in self._present
+        if is_there and self._files_of[corner] == 1:
+            return Outcome(source.shown, Kind.THERE, corner.name)
+        wanted = 2 * self._session.side**2
+        if source.length not in (None, wanted):
+            return _failed(source, *_misfit(source.length or 0, self._session.side))
+        try:
+            data = source.read(wanted)
+        except Unreadable as fault:
+            return _failed(source, str(fault).removeprefix(f"{source.shown}: "), "fetch it again")
+        if len(data) != wanted:
+            return _failed(source, *_misfit(len(data), self._session.side))
+        return self._again(source, corner, data) or self._imported(source, corner, data, is_there)
+
+    def _again(self, source: Source, corner: Corner, data: bytes) -> Outcome | None:
+        """What becomes of a file whose tile an earlier one had, also in a run before this one; None of the first."""
+        digest = hashlib.sha256(data).digest()
+        first, known = self._first.setdefault(corner, (source, digest))
+        if first is source:
+            return None
+        if digest == known:
+            return Outcome(source.shown, Kind.THERE, f"the same as {first.shown}")
+        return _failed(source, f"the same tile as {first.shown}, with other samples", "keep the one that is right")
+
+    def _imported(self, source: Source, corner: Corner, data: bytes, is_there: bool) -> Outcome:
+        if is_there:
+            return Outcome(source.shown, Kind.THERE, corner.name)
+        try:
+            self._session.import_tile(corner.name, data)
+        except Full as full:
+            return _failed(source, full.cause, full.cure)
+        if data == VOID_SAMPLE * (len(data) // 2):
+            return Outcome(source.shown, Kind.IMPORTED, f"{corner.name} is void throughout", "water leaves the mosaic there")
+        return Outcome(source.shown, Kind.IMPORTED, corner.name)
 
 
 def _failed(source: Source, cause: str, cure: str) -> Outcome:

@@ -1,17 +1,18 @@
-"""Windows of a store as numpy arrays: heights, filled levels, standing water, directions.
+"""Windows of a store as numpy arrays: heights, filled levels, standing water.
 
 Arrays have the north row first and the western column first. They need numpy.
 """
 
 from __future__ import annotations
 
+import functools
 from collections.abc import Callable, Sequence
 from dataclasses import dataclass
 from typing import TYPE_CHECKING, Any
 
 from .errors import BadReply, Refusal
 from .lattice import VOID, Corner, Window, corner_of
-from .questions import Fill, FlowDirection, Question
+from .questions import Fill, Question
 from .samples import needed_numpy
 from .session import Session
 
@@ -23,7 +24,9 @@ if TYPE_CHECKING:
 NO_DIRECTION = 255
 """Stands for no direction, where a point isn't ground."""
 
-_STEPS = ((0, 1), (-1, 1), (-1, 0), (-1, -1), (0, -1), (1, -1), (1, 0), (1, 1))
+STEPS = ((0, 1), (-1, 1), (-1, 0), (-1, -1), (0, -1), (1, -1), (1, 0), (1, 1))
+"""The eight steps in y and x, in the order of directions from the east clockwise."""
+
 _ASKED_AT_ONCE = 2048
 
 Told = Callable[[int, int], None]
@@ -57,23 +60,32 @@ class Heights:
 def heights_of(session: Session, window: Window, every: int = 1) -> Heights:
     """The heights of a window, by an export of each tile that reaches into it."""
     numpy = needed_numpy()
-    side, reach = session.side, session.side - 1
+    side = session.side
     ys = numpy.arange(window.y1, window.y0 - 1, -every)
     xs = numpy.arange(window.x0, window.x1 + 1, every)
     samples = numpy.full((len(ys), len(xs)), VOID, numpy.int16)
     held = numpy.zeros(samples.shape, bool)
     corners = tuple(filter(None, map(corner_of, session.tiles())))
     for corner in corners:
-        rows = numpy.flatnonzero((corner.latitude * reach <= ys) & (ys <= (corner.latitude + 1) * reach))
-        columns = numpy.flatnonzero((corner.longitude * reach <= xs) & (xs <= (corner.longitude + 1) * reach))
-        if not len(rows) or not len(columns):
-            continue
-        tile = session.tile(corner.name)
-        own = tile[numpy.ix_((corner.latitude + 1) * reach - ys[rows], xs[columns] - corner.longitude * reach)]
-        place = numpy.ix_(rows, columns)
-        samples[place] = numpy.where(samples[place] == VOID, own, samples[place])
-        held[place] = True
+        lay(functools.partial(session.tile, corner.name), corner.window(side), ys, xs, samples, held)
     return Heights(window, side, every, ys, xs, samples, held, corners)
+
+
+def lay(tile: Callable[[], Array], window: Window, ys: Array, xs: Array, samples: Array, held: Array, every: int = 1) -> None:
+    """Lays a tile on rows and columns of points, the tiles in their order: a height that one before has laid stays.
+
+    `tile` answers each `every`-th of the samples each way, and is asked where some of the points lie in its window.
+    """
+    numpy = needed_numpy()
+    rows, columns = window.y1 - ys, xs - window.x0
+    in_rows = numpy.flatnonzero((rows >= 0) & (ys >= window.y0))
+    in_columns = numpy.flatnonzero((columns >= 0) & (xs <= window.x1))
+    if not in_rows.size or not in_columns.size:
+        return
+    own = tile()[numpy.ix_(rows[in_rows] // every, columns[in_columns] // every)]
+    place = numpy.ix_(in_rows, in_columns)
+    samples[place] = numpy.where(samples[place] == VOID, own, samples[place])
+    held[place] = True
 
 
 def levels_of(session: Session, heights: Heights, told: Told | None = None) -> Array:
@@ -86,8 +98,8 @@ def levels_of(session: Session, heights: Heights, told: Told | None = None) -> A
     pits = _pits(heights)
     ground = heights.ground.ravel()
     asked, place = numpy.unique(pits[ground], return_inverse=True)
-    points = _points(heights, asked)
-    answers = numpy.array(_asked(session, [Fill(y, x) for y, x in points], told), numpy.int32).reshape(-1)
+    points = points_of(heights, asked)
+    answers = numpy.array(asked_of(session, [Fill(y, x) for y, x in points], told), numpy.int32).reshape(-1)
     levels = numpy.full(ground.shape, VOID, numpy.int32)
     levels[ground] = numpy.maximum(answers[place], heights.samples.ravel()[ground])
     return levels.reshape(heights.samples.shape)
@@ -99,23 +111,14 @@ def depths_of(heights: Heights, levels: Array) -> Array:
     return numpy.where(heights.ground, levels - heights.samples.astype(numpy.int32), VOID)
 
 
-def directions_of(session: Session, heights: Heights, told: Told | None = None) -> Array:
-    """The direction code of each ground point, uint8 of the heights' shape; 255 elsewhere. One question for each."""
-    numpy = needed_numpy()
-    ground = numpy.flatnonzero(heights.ground.ravel())
-    answers = _asked(session, [FlowDirection(y, x) for y, x in _points(heights, ground)], told)
-    codes = numpy.full(heights.samples.size, NO_DIRECTION, numpy.uint8)
-    codes[ground] = numpy.array([int(answer) for answer in answers], numpy.uint8)
-    return codes.reshape(heights.samples.shape)
-
-
-def _points(heights: Heights, cells: Array) -> list[tuple[int, int]]:
+def points_of(heights: Heights, cells: Array) -> list[tuple[int, int]]:
     """The points of cells, which are numbered by rows."""
     rows, columns = divmod(cells, len(heights.xs))
     return list(zip(heights.ys[rows].tolist(), heights.xs[columns].tolist()))
 
 
-def _asked(session: Session, asked: Sequence[Question[int]], told: Told | None) -> list[int]:
+def asked_of(session: Session, asked: Sequence[Question[int]], told: Told | None) -> list[int]:
+    """The answers to questions, some thousand at a time; a refusal is raised."""
     answers: list[int] = []
     for at in range(0, len(asked), _ASKED_AT_ONCE):
         for answer in session.ask_many(asked[at : at + _ASKED_AT_ONCE]):
@@ -136,9 +139,9 @@ def _pits(heights: Heights) -> Array:
     size = heights.samples.size
     order = heights.samples.astype(numpy.int64) * size + numpy.arange(size).reshape(shape)
     lowest = order.copy()
-    for step in _STEPS:
-        here, there = _shifted(shape, step)
-        joined = _adjacent(heights, here, step) & heights.ground[here] & heights.ground[there]
+    for step in STEPS:
+        here, there = shifted(shape, step)
+        joined = adjacent(heights, here, step) & heights.ground[here] & heights.ground[there]
         lowest[here] = numpy.where(joined & (order[there] < lowest[here]), order[there], lowest[here])
     ahead = (lowest % size).ravel()
     while not numpy.array_equal(further := ahead[ahead], ahead):
@@ -146,7 +149,7 @@ def _pits(heights: Heights) -> Array:
     return ahead
 
 
-def _shifted(shape: tuple[int, ...], step: tuple[int, int]) -> tuple[tuple[slice, slice], tuple[slice, slice]]:
+def shifted(shape: tuple[int, ...], step: tuple[int, int]) -> tuple[tuple[slice, slice], tuple[slice, slice]]:
     """The cells that have a neighbour in the window by a step in y and x, and these neighbours."""
     (height, width), (north, east) = shape, step
     rows = slice(max(0, north), height + min(0, north))
@@ -155,7 +158,7 @@ def _shifted(shape: tuple[int, ...], step: tuple[int, int]) -> tuple[tuple[slice
     return (rows, columns), there
 
 
-def _adjacent(heights: Heights, here: tuple[slice, slice], step: tuple[int, int]) -> Array:
+def adjacent(heights: Heights, here: tuple[slice, slice], step: tuple[int, int]) -> Array:
     """Whether some one tile holds a cell and its neighbour by a step."""
     numpy = needed_numpy()
     reach = heights.side - 1

@@ -18,6 +18,7 @@ from types import TracebackType
 from typing import TYPE_CHECKING, Any, TypeVar, Union, cast
 
 from . import questions
+from .backups import copy_file
 from .channel import Channel, Word
 from .errors import BadArgument, BadReply, Device, Refusal, SessionDied, StoreBusy, StoreChanged, refusal_of
 from .lattice import Direction, Place, Point, degrees_of, point_of
@@ -183,6 +184,18 @@ class Session:
         """How many commands were accepted since the store was formatted."""
         return self.ask(questions.Count())
 
+    def backup(self, path: PathLike) -> int:
+        """Copies the store's file to another, whole, between two commands; the count that the copy has.
+
+        Other threads wait until it is done. StoreExists where a file of that name is there.
+        """
+        with self._lock:
+            if self._path is None:
+                raise BadArgument("a table in memory has no file to copy")
+            count = self.count()
+            copy_file(os.fsdecode(self._path), os.fsdecode(path))
+            return count
+
     def ask(self, question: Question[Answer]) -> Answer:
         """The answer to any question or command of `questions`.
 
@@ -335,7 +348,7 @@ class Session:
 
     def _asked(self, question: Question[Answer], line: str) -> Answer:
         channel = self._living()
-        command = question if isinstance(question, Command) else None
+        command: Command | None = question if isinstance(question, Command) else None
         earlier = self._in_doubt
         self._in_doubt = command or earlier
         try:

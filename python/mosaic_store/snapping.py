@@ -7,6 +7,9 @@ from .lattice import Direction, Point
 from .questions import FlowDirection, WatershedOf
 from .session import Session
 
+FARTHEST = 50
+"""The most steps that an outlet is moved."""
+
 
 def snapped(session: Session, point: Point, reach: int) -> Point:
     """Of the points within `reach` steps of a point, the one that most points drain to; the nearest among equals.

@@ -1,21 +1,28 @@
 """Trials: edits that are taken back exactly.
 
-Before an edit reaches a tile, its own HGT bytes are exported. They are put back by remove and import, which gives each
-tile its very samples, also where tiles disagree on a seam.
+Before an edit reaches a tile, its own HGT bytes are exported. Where all tiles that hold a changed point had one height for
+it, a burn or a wall gives it back, which costs no more than the edit did. Elsewhere whole tiles are put back by remove and
+import, which gives each its very samples, also where tiles disagree on a seam or a void was patched.
 """
 
 from __future__ import annotations
 
 import itertools
-from collections.abc import Callable, Iterator
+import math
+import struct
+from collections import defaultdict
+from collections.abc import Callable, Iterator, Mapping
 from typing import TYPE_CHECKING
 
 from .errors import BadArgument
-from .lattice import VOID_SAMPLE, Corner, Point, corner_of, corners_of
+from .lattice import GREATEST_HEIGHT, MOST_POINTS, VOID, Corner, Point, corner_of, corners_of
 from .questions import Burn, Command, Import, Patch, Remove, Unsink, Wall
 
 if TYPE_CHECKING:
     from .session import Session
+
+_MOST_BY_POINTS = 64 * MOST_POINTS
+"""The most points that are given their heights back by edits: beyond them whole tiles cost less."""
 
 
 class Trial:
@@ -51,7 +58,8 @@ class Trial:
             try:
                 if session.pid is None:
                     session.reopen()
-                self._restore_tiles()
+                for command in self.inverse():
+                    session.ask(command)
                 self._restore_sinks()
             except BaseException:
                 session._trial = self
@@ -95,29 +103,50 @@ class Trial:
 
     def _is_lost(self, sink: Point) -> bool:
         """Whether a point was a sink before the trial, and no ground."""
-        reach = self._session.side - 1
-        samples = []
-        for corner in corners_of(sink, reach + 1):
-            index = ((corner.latitude + 1) * reach - sink.y) * (reach + 1) + sink.x - corner.longitude * reach
-            data = self._before[corner.name] or VOID_SAMPLE * (index + 1)
-            samples.append(data[2 * index : 2 * index + 2])
-        return sink in self._sinks and all(sample == VOID_SAMPLE for sample in samples)
+        held = [(corner, self._before[corner.name]) for corner in corners_of(sink, self._session.side)]
+        samples = [VOID if data is None else _sample(data, corner, sink) for corner, data in held]
+        return sink in self._sinks and all(sample == VOID for sample in samples)
 
-    def _restore_tiles(self) -> None:
+    def inverse(self) -> list[Command]:
+        """What gives every touched tile its samples back, as the tiles are now; sinks aside."""
         session = self._session
         present = set(session.tiles())
-        changed = [
-            name
-            for name, data in self._before.items()
-            if (name in present) != (data is not None) or (data is not None and session.export(name) != data)
-        ]
-        for name in changed:
-            if name in present:
-                session.remove(name)
-        for name in changed:
-            data = self._before[name]
+        now = {name: session.export(name) if name in present else None for name in self._before}
+        changed = [name for name, data in self._before.items() if now[name] != data]
+        edits = self._by_points({name: now[name] for name in changed})
+        if edits is not None:
+            return edits
+        removed: list[Command] = [Remove(name) for name in changed if name in present]
+        return removed + [Import(name, data) for name in changed if (data := self._before[name]) is not None]
+
+    def _by_points(self, changed: Mapping[str, bytes | None]) -> list[Command] | None:
+        """The burns and walls that give changed tiles their samples back; None where these can't, or are too many."""
+        parts: defaultdict[tuple[type[Burn] | type[Wall], int], list[Point]] = defaultdict(list)
+        heights: dict[Point, tuple[int, int]] = {}
+        for name, now in changed.items():
+            before = self._before[name]
+            if now is None or before is None:
+                return None
+            for point, height in _differing(name, before, now):
+                was = self._height_before(point)
+                if was is None or height - was > GREATEST_HEIGHT or heights.setdefault(point, (was, height)) != (was, height):
+                    return None
+                if len(heights) > _MOST_BY_POINTS:
+                    return None
+        for point, (was, height) in heights.items():
+            kind: type[Burn] | type[Wall] = Wall if height < was else Burn
+            parts[kind, was if height < was else height - was].append(point)
+        return [kind(amount, tuple(part)) for (kind, amount), points in parts.items() for part in _batches(points)]
+
+    def _height_before(self, point: Point) -> int | None:
+        """The one height that all tiles held for a point before the trial; None where there was a void, or several."""
+        samples = set()
+        for corner in corners_of(point, self._session.side):
+            data = self._before.get(corner.name)
             if data is not None:
-                session.import_tile(name, data)
+                samples.add(_sample(data, corner, point))
+        height = samples.pop() if len(samples) == 1 else VOID
+        return None if height == VOID else height
 
     def _restore_sinks(self) -> None:
         session = self._session
@@ -127,3 +156,31 @@ class Trial:
         for sink in sorted(before - now):
             session.sink(*sink)
 
+
+def _differing(name: str, before: bytes, now: bytes) -> Iterator[tuple[Point, int]]:
+    """The points of a tile whose samples differ, each with its sample now."""
+    corner, side = corner_of(name), _side_of(before)
+    if corner is None or len(now) != len(before):
+        return
+    for row in range(side):
+        start, end = 2 * side * row, 2 * side * (row + 1)
+        if before[start:end] == now[start:end]:
+            continue
+        pairs = zip(struct.unpack(f">{side}h", before[start:end]), struct.unpack(f">{side}h", now[start:end]))
+        north, west = (corner.latitude + 1) * (side - 1), corner.longitude * (side - 1)
+        yield from ((Point(north - row, west + column), height) for column, (was, height) in enumerate(pairs) if was != height)
+
+
+def _sample(data: bytes, corner: Corner, point: Point) -> int:
+    """A point's own sample in a tile that holds it."""
+    side = _side_of(data)
+    index = ((corner.latitude + 1) * (side - 1) - point.y) * side + point.x - corner.longitude * (side - 1)
+    return int.from_bytes(data[2 * index : 2 * index + 2], "big", signed=True)
+
+
+def _side_of(data: bytes) -> int:
+    return math.isqrt(len(data) // 2)
+
+
+def _batches(points: list[Point]) -> Iterator[list[Point]]:
+    return (points[first : first + MOST_POINTS] for first in range(0, len(points), MOST_POINTS))

@@ -75,7 +75,7 @@ class Drawing(InFolder):
         self.refused(self.draw("none", "x.png"), "no such file")
         self.refused(self.draw(path, "x.gif"), ".png, .svg, .pdf")
         self.refused(self.draw(path, "x.png", "--window", "50", "50", "51", "51"), "off the tiles")
-        self.refused(self.draw(path, "x.png", "--watershed", "50", "50"), "7 Outside")
+        self.refused(self.draw(path, "x.png", "--watershed", "50", "50"), "no tile holds 50 N 50 E")
         self.refused(self.draw(path, "x.png", "--road", "1", "1"), "two places", status=2)
         self.refused(self.draw(path, "no/x.png"), "make it first")
         self.assertEqual([file.name for file in self.folder.iterdir()], ["store"])

@@ -5,6 +5,7 @@ import json
 import os
 import re
 import signal
+import socket
 import subprocess
 import sys
 import threading
@@ -25,6 +26,7 @@ class Service(InFolder):
         process = subprocess.Popen(
             [sys.executable, PYTHON / "examples" / "service.py", path, "--port", "0", "--program", PROGRAM],
             stdout=subprocess.PIPE,
+            stderr=self.log_file(),
             text=True,
         )
         self.addCleanup(self.end, process)
@@ -33,17 +35,25 @@ class Service(InFolder):
         self.assertTrue(found, line)
         return process, int(found[1]), int(found[2])
 
+    def log_file(self):
+        """Where a service writes its lines; what they are is `logged`."""
+        self.log = self.folder / "service.log"
+        file = self.log.open("ab")
+        self.addCleanup(file.close)
+        return file
+
     def end(self, process):
         process.kill()
         process.wait()
         process.stdout.close()
 
-    def ask(self, port, method, target, body=None, headers=JSON):
+    def ask(self, port, method, target, body=None, headers=JSON, raw=False):
         connection = http.client.HTTPConnection("127.0.0.1", port, timeout=60)
         try:
             connection.request(method, target, body, headers)
             reply = connection.getresponse()
-            return reply.status, json.loads(reply.read())
+            told = reply.read()
+            return reply.status, told if raw else json.loads(told)
         finally:
             connection.close()
 
@@ -57,7 +67,13 @@ class Service(InFolder):
         self.assertEqual(self.ask(port, "POST", "/wall", wall), (200, {"answer": 5}))
         self.assertEqual(self.ask(port, "GET", "/elevation?y=5&x=5"), (200, {"answer": 900}))
         self.assertEqual(self.ask(port, "GET", "/watershed?y=5&x=5")[1]["answer"]["cells"], 1)
+        self.assertEqual(self.log.read_text(), "service: 404 GET /fill?y=99&x=0 7 Outside: no tile of the store holds the point (fill 99 0)\n")
         bad = [
+            ("GET", "/export", None, {}),
+            ("POST", "/import?tile=N05E005", "1234", JSON),
+            ("POST", "/sink", json.dumps({"y": 1}), JSON),
+            ("POST", "/remove", json.dumps({"tile": 5}), JSON),
+            ("POST", "/step", json.dumps({"y": 5}), JSON),
             ("GET", "/fill", None, {}),
             ("GET", "/fill?y=1&x=a", None, {}),
             ("GET", "/fill?y=1e9&x=9999999999", None, {}),
@@ -69,11 +85,55 @@ class Service(InFolder):
             ("POST", "/wall", json.dumps({"height": 1, "points": []}), JSON),
             ("POST", "/wall", json.dumps({"height": "x", "points": [[1, 1]]}), JSON),
         ]
+        bad.append(("POST", "/wall", "[" * 60000, JSON))
         for request in bad:
             with self.subTest(request):
                 self.assertEqual(self.ask(port, *request)[0], 400)
+        for sent in (b"no request\r\n\r\n", b"POST /wall HTTP/1.1\r\nHost: localhost\r\nContent-Length: 99999\r\n\r\n", b"x" * 20000):
+            with self.subTest(sent[:20]), socket.create_connection(("127.0.0.1", port), timeout=60) as connection:
+                connection.sendall(sent)
+                self.assertIn(b" 400 ", connection.recv(100))
+        another = {"Host": f"evil.example:{port}", **JSON}
+        self.assertEqual(self.ask(port, "POST", "/wall", wall, another)[0], 403)
         self.assertEqual(self.ask(port, "POST", "/burn", json.dumps({"depth": 0, "points": [[5, 5]]}))[0], 409)
         self.assertEqual(self.ask(port, "GET", "/count"), (200, {"answer": 5}))
+
+    def test_every_word(self):
+        """A tile that is taken out and put back, with a sink, a patch and a step between; by one client."""
+        _, port, _ = self.start(self.store(11))
+        status, tile = self.ask(port, "GET", "/export?tile=N00E000", raw=True)
+        self.assertEqual((status, len(tile)), (200, 242))
+        octets = {"Content-Type": "application/octet-stream"}
+        middle = 2 * (11 * 5 + 5)
+        void, patched = (tile[:middle] + sample + tile[middle + 2 :] for sample in (b"\x80\x00", b"\x01\x41"))
+        rows = [
+            ("POST", "/sink", {"y": 5, "x": 5}, JSON, 5),
+            ("GET", "/sinks", None, {}, [[5, 5]]),
+            ("POST", "/unsink", {"y": 5, "x": 5}, JSON, 6),
+            ("POST", "/remove", {"tile": "N00E000"}, JSON, 7),
+            ("GET", "/tiles", None, {}, ["N00E001", "N01E000", "N01E001"]),
+            ("POST", "/import?tile=N00E000", void, octets, 8),
+            ("POST", "/patch", {"y0": 5, "x0": 5, "y1": 5, "x1": 5, "height": 321}, JSON, 9),
+            ("GET", "/health", None, {}, 9),
+        ]
+        for method, target, body, headers, answer in rows:
+            with self.subTest(target):
+                sent = body if body is None or isinstance(body, bytes) else json.dumps(body)
+                self.assertEqual(self.ask(port, method, target, sent, headers), (200, {"answer": answer}))
+        self.assertIn(self.ask(port, "POST", "/step", "{}")[1]["answer"], ("N00E000", "N00E001", "N01E000", "N01E001", None))
+        self.assertEqual(self.ask(port, "GET", "/export?tile=N00E000", raw=True)[1], patched)
+
+    def test_health_of_a_store_that_is_gone(self):
+        """Where the program can't be begun anew /health says so, and is well again once it can."""
+        path = self.store(11)
+        _, port, program = self.start(path)
+        hidden = f"{path}.hidden"
+        os.rename(path, hidden)
+        os.kill(program, signal.SIGKILL)
+        self.assertEqual(self.ask(port, "GET", "/health")[0], 503)
+        os.rename(hidden, path)
+        self.assertEqual(self.ask(port, "GET", "/health"), (200, {"answer": 4}))
+        self.assertRegex(self.log.read_text(), r"^service: 503 GET /health .*\n$")
 
     def test_questions_a_second(self):
         """A client that asks one after another, and four at a time: the rate is told, not asserted."""

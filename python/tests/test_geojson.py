@@ -135,7 +135,9 @@ class Features(InFolder):
             return self.command("geojson", *words)
 
         self.refused(geojson("none", "tiles"), "no such file", "mosaic-load")
-        self.refused(geojson(path, "trace", "5", "5"), "7 Outside", "choose a point of a tile")
+        self.refused(geojson(path, "trace", "5", "5"), "no tile holds 5 N 5 E", "from 0 N 0 E to 2 N 2 E")
+        self.refused(geojson(path, "trace", "1.5", "-0.5"), "the west is negative?")
+        self.refused(geojson(path, "watershed", "--points", "500", "500"), "7 Outside", "choose a point of a tile")
         self.refused(geojson(path, "trace", "3", "2", "--points"), "8 Void")
         self.refused(geojson(path, "trace", "95", "5"), "from -90 to 90")
         self.refused(geojson(path, "trace", "0.5", "5", "--points"), "whole numbers")
@@ -145,7 +147,7 @@ class Features(InFolder):
         self.refused(geojson(path, "tiles", "-o", "."), "is a folder")
         with open_store(path, PROGRAM):
             self.refused(geojson(path, "tiles"), "another program has it open")
-        self.refused(geojson(path, "watershed", "5", "5", "-o", "w.geojson"), "7 Outside")
+        self.refused(geojson(path, "watershed", "5", "5", "-o", "w.geojson"), "no tile holds")
         self.assertFalse((self.folder / "w.geojson").exists())
 
 

@@ -100,6 +100,26 @@ class Loading(InFolder):
         with open_store(store, PROGRAM) as session:
             self.assertEqual(session.elevation(6, 1), 5000)  # what was edited stays
 
+    def test_files_of_one_tile(self):
+        """The file with the tile's own name goes in, whatever its copies are called, and each run tells those that differ."""
+        files, store = self.folder / "files", str(self.folder / "store")
+        (files / "__MACOSX").mkdir(parents=True)
+        (self.folder / "elsewhere").mkdir()
+        one, other = hills(SIDE, 1, 2).values()
+        (files / "N30W109 (1).hgt").write_bytes(other)
+        (files / "N30W109.hgt").write_bytes(one)
+        (files / "__MACOSX" / "._N30W109.hgt").write_bytes(b"what a Mac knows of it")
+        (self.folder / "elsewhere" / "N30W110.hgt").write_bytes(b"\x80\0" * SIDE**2)
+        (files / "more").symlink_to(self.folder / "elsewhere")
+        (self.folder / "elsewhere" / "round").symlink_to(files)
+        for counts in ("2 imported, 1 failed", "2 there already, 1 failed"):
+            done = self.load(store, str(files))
+            self.assertEqual((done.returncode, counts in done.stdout), (1, True), done.stdout)
+            self.assertIn("N30W109 (1).hgt: failed: the same tile as", done.stderr)
+            self.assertEqual("void throughout" in done.stderr, "imported" in counts)
+        self.assertEqual(self.exports(store)["N30W109"], one)
+        self.assertEqual(shape_of(store).capacity, 4)
+
     def test_troubles_of_their_own(self):
         files, store = self.folder / "files", str(self.folder / "store")
         files.mkdir()
@@ -180,6 +200,7 @@ class Loading(InFolder):
         self.refused(self.load(there, str(empty), "--side", "7"), "its side is 5, not 7")
         self.refused(self.load(str(empty), str(empty)), "no regular file")
         self.refused(self.load(store, str(empty), "--side", "2", "--capacity", "1"), "32 BadSide", "from 3 to 3601")
+        self.refused(self.load(store, str(empty), "--side", "5", "--capacity", "0"), "33 BadCapacity")
         self.assertFalse(pathlib.Path(store).exists())
         with open_store(there, PROGRAM) as session:
             self.refused(self.load(there, str(empty)), "another program has it open")

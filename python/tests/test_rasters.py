@@ -24,7 +24,8 @@ class Arrays(unittest.TestCase):
                 self.compare(table, Window(8, 3, 12, 14))
 
     def compare(self, table, window):
-        from mosaic_store.rasters import NO_DIRECTION, depths_of, directions_of, heights_of, levels_of
+        from mosaic_store.directions import directions_of
+        from mosaic_store.rasters import NO_DIRECTION, depths_of, heights_of, levels_of
 
         heights = heights_of(table, window)
         self.assertEqual(heights.samples.shape, (window.height, window.width))

@@ -5,6 +5,7 @@ import signal
 import struct
 import threading
 import unittest
+import unittest.mock
 
 from mosaic_store import BadArgument, SessionDied, errors, open_store
 
@@ -61,6 +62,16 @@ class Trials(InFolder):
             session.wall(3000, [(y, 10) for y in range(11)] + [(10, x) for x in range(11, 20)])
         self.assertEqual(self.image(), before)
         self.assertEqual(session.export("N00E001"), own)
+
+    def test_heights_are_given_back_by_edits(self):
+        """Where the tiles agree and had heights, no tile leaves the store to be imported again."""
+        session = self.session
+        with unittest.mock.patch.object(session, "remove", side_effect=AssertionError("a tile was removed")):
+            with session.trial():
+                session.wall(2000, [(10, x) for x in range(21)])
+                session.burn(3, [(5, 5), (6, 5), (10, 0)])
+                session.burn(30000, [(5, 5)])
+        self.assertEqual(self.image(), self.before)
 
     def test_kept(self):
         with self.session.trial() as trial:

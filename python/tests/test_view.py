@@ -2,6 +2,7 @@
 
 from __future__ import annotations
 
+import contextlib
 import http.client
 import json
 import os
@@ -25,7 +26,7 @@ try:
     from mosaic_store.view import pictures
     from mosaic_store.view.region import Grid, Region
     from mosaic_store.view.server import MapServer
-    from mosaic_store.view.workbench import Workbench
+    from mosaic_store.view.workbench import Workbench, edit_in
 except ImportError:
     np = None  # type: ignore[assignment]
 
@@ -151,8 +152,13 @@ class Served(unittest.TestCase):
             Request("POST", "/TOKEN/try", {"kind": "wall", "amount": 9, "line": [[0, 0], [0, 99999]]}, 400, "points"),
             Request("POST", "/TOKEN/try", {"kind": "wall", "amount": 9, "line": [[0, 0], [0, 99]]}, 400, "leaves the tiles"),
             Request("POST", "/TOKEN/keep", {}, 400, "no trial"),
+            Request("POST", "/TOKEN/undo", {}, 400, "no edit"),
+            Request("POST", "/TOKEN/watershed", {"y": 20, "x": 80, "snap": 51}, 400, "0 to 50"),
+            Request("POST", "/TOKEN/geojson", {"y": 20, "x": 80, "what": "store"}, 400, "watershed"),
+            Request("POST", "/TOKEN/geojson", {"y": 2, "x": 2, "what": "path"}, 409, "no height"),
             Request("POST", "/TOKEN/nothing", {}, 404, "nothing"),
             Request("GET", "/TOKEN/relief/99/0/0.png", None, 400, "no picture"),
+            Request("GET", "/TOKEN/favicon.ico", None, 204, ""),
         ]
         for row in rows:
             with self.subTest(row=row):
@@ -182,22 +188,72 @@ class Served(unittest.TestCase):
         told = self.post("watershed", {"y": 20, "x": 80})
         self.assertEqual((told["cells"], told["box"]["left"]), (self.session.watershed(20, 80).cells, 0))
 
+    def test_an_outlet_is_moved_to_the_stream(self) -> None:
+        """The valley's stream runs along y = 20: of the points within 3 steps of (22, 60) most drain to (20, 63)."""
+        told = self.post("watershed", {"y": 22, "x": 60, "snap": 3})
+        self.assertEqual((told["y"], told["x"], told["cells"]), (20, 63, self.session.watershed(20, 63).cells))
+
+    def test_a_watershed_and_a_path_are_saved(self) -> None:
+        area = self.post("geojson", {"y": 20, "x": 80, "what": "watershed"})["features"][0]
+        self.assertEqual((area["geometry"]["type"], area["properties"]["cells"]), ("MultiPolygon", self.session.watershed(20, 80).cells))
+        path = self.post("geojson", {"y": 25, "x": 10, "what": "path"})["features"][0]
+        self.assertEqual((path["geometry"]["coordinates"][0], path["geometry"]["coordinates"][-1]), ([0.25, 0.625], [2.0, 0.5]))
+
+    def test_kept_edits_are_undone_the_last_first(self) -> None:
+        edits = [
+            {"kind": "wall", "amount": 190, "line": [[10, 40], [30, 40]]},
+            {"kind": "burn", "amount": 5, "line": [[20, 30], [20, 60]]},
+            {"kind": "wall", "amount": 150, "line": [[20, 70]]},
+        ]
+        images = []
+        for edit in edits:
+            images.append([self.session.export(name) for name in self.session.tiles()])
+            self.post("try", edit)
+            self.post("keep", {})
+        self.assertEqual(json.loads(self.request("GET", "/TOKEN/region")[1])["edits"], edits)
+        self.post("try", edits[0])
+        self.assertEqual(self.request("POST", "/TOKEN/undo", {})[0], 400)  # a trial is under way
+        self.post("discard", {})
+        for image in reversed(images):
+            self.post("undo", {})
+            self.assertEqual([self.session.export(name) for name in self.session.tiles()], image)
+        self.assertEqual(self.post("try", edits[0])["before"]["level"], 160)  # the copy had them undone too
+        self.assertEqual(json.loads(self.request("GET", "/TOKEN/region")[1])["edits"], [])
+
     def test_a_trial_reaches_the_store_only_when_it_is_kept(self) -> None:
         road = {"kind": "wall", "amount": 190, "line": [[10, 40], [30, 40]]}
         told = self.post("try", road)
         self.assertEqual((told["before"]["points"], told["before"]["level"], told["after"]["level"]), (0, 160, 190))
         self.assertGreater(told["after"]["points"], 100)
         self.assertEqual((self.session.count(), self.session.fill(20, 39)), (2, 161))
+        self.assertEqual(self.request("POST", "/TOKEN/try", road)[0], 400)
+        region = json.loads(self.request("GET", "/TOKEN/region")[1])  # what a page that is loaded anew is told
+        self.assertEqual((region["trial"]["line"], region["trial"]["after"]["level"]), ([[10, 40], [30, 40]], 190))
         self.post("discard", {})
+        self.assertIsNone(json.loads(self.request("GET", "/TOKEN/region")[1])["trial"])
         self.assertEqual(self.post("try", road)["after"]["level"], 190)
         self.assertEqual(self.post("keep", {})["count"], 3)
         self.assertEqual(self.session.fill(20, 39), 190)
+
+    def test_an_edit_on_a_seam_that_disagrees_is_undone(self) -> None:
+        """Each tile gets its own sample back, also where no wall or burn could give both; the copy follows."""
+        self.session.remove("N00E001")
+        self.session.import_tile("N00E001", bytes(2 * SIDE * SIDE))
+        edit = edit_in({"kind": "wall", "amount": 300, "line": [[20, SIDE - 1]]})
+        before = [self.session.export(name) for name in self.session.tiles()]
+        with contextlib.closing(Workbench("valley", self.session, lambda: memory_table(SIDE, 4))) as bench:
+            for _ in range(2):
+                bench.try_edit(edit)
+                bench.keep()
+                self.assertNotEqual([self.session.export(name) for name in self.session.tiles()], before)
+                bench.undo()
+                self.assertEqual([self.session.export(name) for name in self.session.tiles()], before)
 
     @unittest.skipUnless(shutil.which("chromium"), "chromium isn't installed: apt-get install chromium")
     def test_a_browser_draws_the_map_and_a_trial(self) -> None:
         link = f"{self.server.url}#at=20,40,0.1&ask=25,10&watershed&wall=190;10,40;30,40"
         with tempfile.TemporaryDirectory() as folder:
-            words = ["chromium", "--headless", "--no-sandbox", "--disable-gpu", "--virtual-time-budget=10000", "--dump-dom", link]
+            words = ["chromium", "--headless", "--no-sandbox", "--disable-gpu", "--virtual-time-budget=30000", "--dump-dom", link]
             environment = os.environ | {"HOME": folder}
             done = subprocess.run(words, stdout=subprocess.PIPE, stderr=subprocess.DEVNULL, env=environment, timeout=120)
         page = done.stdout.decode()

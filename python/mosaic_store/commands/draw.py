@@ -36,7 +36,7 @@ if TYPE_CHECKING:
     Array = numpy.ndarray[Any, Any]
 
 NAME = "mosaic-draw"
-MOST_POINTS = 1200
+MOST_POINTS = 1201  # a whole tile of 3 arc seconds
 FORMS = (".png", ".svg", ".pdf")
 DESCRIPTION = f"""Draws a window of a store: shaded heights with degrees, a scale and a legend, on them what is asked for.
 
@@ -65,7 +65,7 @@ def _parsed(arguments: Sequence[str] | None) -> argparse.Namespace:
     made.add_argument("--title", help="what stands above; the store's name without it")
     add_places(made)
     add_snap(made)
-    options = made.parse_args(arguments)
+    options = made.options_of(arguments)
     if len(options.road) % 2 or len(options.road) == 2:
         made.error("a road takes two places or more, two numbers each")
     return options

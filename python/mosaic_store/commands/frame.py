@@ -19,13 +19,12 @@ from typing import NoReturn
 from ..errors import MosaicError, Refusal, SessionDied
 from ..lattice import Place, Point, Window, corner_of, degrees_of
 from ..session import Session, open_store
-from ..snapping import snapped
+from ..snapping import FARTHEST, snapped
 from ..version import VERSION
 
 DONE, FAILED, BAD_ARGUMENTS, INTERRUPTED = 0, 1, 2, 130
 
 _SECONDS_BETWEEN_LINES = 10.0
-_FARTHEST_SNAP = 50
 
 
 class CommandError(MosaicError):
@@ -37,6 +36,10 @@ class Parser(argparse.ArgumentParser):
 
     def error(self, message: str) -> NoReturn:
         self.exit(BAD_ARGUMENTS, f"{self.prog}: {message}; see {self.prog} --help\n")
+
+    def options_of(self, arguments: Sequence[str] | None) -> argparse.Namespace:
+        """The options that arguments tell, which may stand before, between and behind the places."""
+        return self.parse_intermixed_args(arguments)
 
 
 def parser(name: str, description: str) -> Parser:
@@ -68,8 +71,8 @@ def add_snap(made: argparse.ArgumentParser) -> None:
 def outlet_given(numbers: Sequence[float], session: Session, options: argparse.Namespace) -> Point:
     """The outlet that two numbers tell, moved to the stream as far as `--snap` allows."""
     point = point_given(numbers, session, options.points)
-    if not 0 <= options.snap <= _FARTHEST_SNAP:
-        raise CommandError(f"an outlet moves by 0 to {_FARTHEST_SNAP} steps, not {options.snap}")
+    if not 0 <= options.snap <= FARTHEST:
+        raise CommandError(f"an outlet moves by 0 to {FARTHEST} steps, not {options.snap}")
     return snapped(session, point, options.snap) if options.snap else point
 
 
@@ -123,7 +126,14 @@ def opened(path: str, program: str | None) -> Iterator[Session]:
 
 
 def point_given(numbers: Sequence[float], session: Session, as_points: bool) -> Point:
-    """The point that two numbers tell, by degrees or as they are."""
+    """The point that two numbers tell, by degrees or as they are. A CommandError where no tile holds a place in degrees."""
+    point = _point_told(numbers, session, as_points)
+    if not as_points:
+        _check_held(numbers, point, session)
+    return point
+
+
+def _point_told(numbers: Sequence[float], session: Session, as_points: bool) -> Point:
     if not as_points:
         try:
             return session.point_of(*numbers)
@@ -135,13 +145,38 @@ def point_given(numbers: Sequence[float], session: Session, as_points: bool) -> 
     return Point(*map(int, numbers))
 
 
+def _check_held(numbers: Sequence[float], point: Point, session: Session) -> None:
+    """A CommandError in the words of the place that was given, where no tile holds it."""
+    windows = list(tile_windows(session))
+    if any(_holds(window, point) for window in windows):
+        return
+    latitude, longitude = numbers
+    tiles = shown_window(extent_of(session), session.side)
+    others = {"latitude and longitude are exchanged": (longitude, latitude), "the west is negative": (latitude, -longitude)}
+    hints = [hint for hint, other in others.items() if _is_held(other, windows, session)]
+    hint = f"; is it that {hints[0]}?" if hints else ""
+    raise CommandError(f"no tile holds {shown_place(Place(latitude, longitude))}: the tiles lie {tiles}{hint}")
+
+
+def _is_held(numbers: tuple[float, float], windows: Sequence[Window], session: Session) -> bool:
+    try:
+        point = session.point_of(*numbers)
+    except ValueError:
+        return False
+    return any(_holds(window, point) for window in windows)
+
+
+def _holds(window: Window, point: Point) -> bool:
+    return window.y0 <= point.y <= window.y1 and window.x0 <= point.x <= window.x1
+
+
 def window_given(numbers: Sequence[float] | None, session: Session, as_points: bool) -> Window:
     """The window that four numbers tell; without them the least that has all tiles."""
     extent = extent_of(session)
     if numbers is None:
         return extent
-    south_west = point_given(numbers[:2], session, as_points)
-    north_east = point_given(numbers[2:], session, as_points)
+    south_west = _point_told(numbers[:2], session, as_points)
+    north_east = _point_told(numbers[2:], session, as_points)
     window = Window(*south_west, *north_east)
     if window.width < 1 or window.height < 1:
         raise CommandError("the window is out of order: give its south-west end first, then its north-east end")
@@ -187,10 +222,15 @@ def written_whole(path: str) -> Iterator[str]:
         raise CommandError(f"{path}: is a folder: give the name of a file in it")
     if not target.parent.is_dir():
         raise CommandError(f"{path}: there is no folder {target.parent}: make it first")
-    with tempfile.TemporaryDirectory(dir=target.parent, prefix=f".{target.name}.") as folder:
-        made = os.path.join(folder, target.name)
-        yield made
-        os.replace(made, path)
+    try:
+        with tempfile.TemporaryDirectory(dir=target.parent, prefix=f".{target.name}.") as folder:
+            made = os.path.join(folder, target.name)
+            yield made
+            os.replace(made, path)
+    except BrokenPipeError:
+        raise
+    except OSError as fault:
+        raise CommandError(f"{path}: not written: {fault.strerror or fault}") from None
 
 
 class Progress:

@@ -37,7 +37,7 @@ def _parsed(arguments: Sequence[str] | None) -> argparse.Namespace:
     made.add_argument("-o", "--output", help="the file to write; standard output without it")
     add_places(made)
     add_snap(made)
-    options = made.parse_args(arguments)
+    options = made.options_of(arguments)
     if options.what == "tiles" and options.places:
         made.error("tiles takes no place")
     if options.what != "tiles" and (not options.places or len(options.places) % 2):

@@ -37,8 +37,8 @@ def _parsed(arguments: Sequence[str] | None) -> argparse.Namespace:
     made.add_argument("paths", nargs="*", metavar="FOLDER", help="folders and files")
     made.add_argument("--from", dest="origin", metavar="STORE", help="takes tiles and sinks from another store")
     made.add_argument("--side", type=int, help="of a store that is made: what most files have, without it")
-    made.add_argument("--capacity", type=int, help="of a store that is made: as many as there are tiles, without it")
-    options = made.parse_args(arguments)
+    made.add_argument("--capacity", type=int, help="of a store that is made: twice as many as there are tiles, without it")
+    options = made.options_of(arguments)
     if bool(options.paths) == bool(options.origin):
         made.error("folders and files are needed, or --from a store")
     return options
@@ -66,7 +66,7 @@ def _from_store(options: argparse.Namespace) -> int:
             raise CommandError(f"{options.origin} holds {len(other.tiles())} tiles: give no smaller --capacity")
         if options.side not in (None, other.side):
             raise CommandError(f"{options.origin} has the side {other.side}, and tiles keep theirs: leave --side out")
-        _make_where_none(options, lambda _, capacity: Shape(shape.side, capacity or shape.capacity))
+        _make_where_none(options, lambda _, capacity: Shape(shape.side, shape.capacity if capacity is None else capacity))
         with open_store(options.store, options.program) as session:
             total = len(other.tiles()) + len(other.sinks())
             return _summed_up(copy(session, other), total, f"{total} tiles and sinks", session)
@@ -98,7 +98,7 @@ def _summed_up(outcomes: Iterable[Outcome], total: int, what: str, session: Sess
     try:
         for outcome in outcomes:
             tally[outcome.kind] += 1
-            if outcome.kind is Kind.FAILED or (outcome.kind is Kind.PASSED_BY and outcome.cause):
+            if outcome.cure or (outcome.kind is Kind.PASSED_BY and outcome.cause):
                 progress.clear()
                 print(outcome, file=sys.stderr, flush=True)
             progress.tell(sum(tally.values()))

@@ -8,9 +8,10 @@ import sys
 from collections.abc import Callable, Sequence
 from typing import TYPE_CHECKING, Any
 
+from ..directions import directions_of
 from ..grids import check_format, write_grid
 from ..lattice import VOID, Window
-from ..rasters import NO_DIRECTION, Heights, Told, depths_of, directions_of, heights_of, levels_of
+from ..rasters import NO_DIRECTION, Heights, Told, depths_of, heights_of, levels_of
 from ..samples import needed_numpy
 from ..session import Session
 from .frame import (
@@ -57,7 +58,7 @@ def _parsed(arguments: Sequence[str] | None) -> argparse.Namespace:
     made.add_argument("output", help="the file to write: .tif or .asc")
     add_window(made)
     add_places(made)
-    return made.parse_args(arguments)
+    return made.options_of(arguments)
 
 
 def _write(options: argparse.Namespace) -> int:

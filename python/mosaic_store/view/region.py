@@ -2,6 +2,7 @@
 
 from __future__ import annotations
 
+import functools
 import math
 import threading
 from collections import OrderedDict
@@ -12,6 +13,7 @@ import numpy as np
 from numpy.typing import NDArray
 
 from ..lattice import VOID, Corner, Point, Window, corner_of, corners_of
+from ..rasters import lay
 from ..samples import array_of
 
 Samples = NDArray[np.int16]
@@ -100,23 +102,11 @@ class Region:
         heights = np.full((grid.rows, grid.columns), VOID, np.int16)
         held = np.zeros((grid.rows, grid.columns), np.bool_)
         ys, xs = grid.ys(), grid.xs()
+        coarse = OVERVIEW_STEP if grid.step >= OVERVIEW_STEP else 1
+        source = self.overview if coarse > 1 else self.tile
         for corner in sorted(self.corners):
-            self._lay(corner, grid.step, ys, xs, heights, held)
+            lay(functools.partial(source, corner), corner.window(self.side), ys, xs, heights, held, coarse)
         return heights, held
-
-    def _lay(self, corner: Corner, step: int, ys: NDArray[np.int64], xs: NDArray[np.int64], heights: Samples, held: NDArray[np.bool_]) -> None:
-        reach = self.side - 1
-        window = corner.window(self.side)
-        rows, columns = window.y1 - ys, xs - window.x0
-        in_rows, in_columns = np.flatnonzero((rows >= 0) & (rows <= reach)), np.flatnonzero((columns >= 0) & (columns <= reach))
-        if not in_rows.size or not in_columns.size:
-            return
-        coarse = OVERVIEW_STEP if step >= OVERVIEW_STEP else 1
-        source = self.overview(corner) if coarse > 1 else self.tile(corner)
-        part = source[np.ix_(rows[in_rows] // coarse, columns[in_columns] // coarse)]
-        place = np.ix_(in_rows, in_columns)
-        heights[place] = np.where(heights[place] == VOID, part, heights[place])
-        held[place] = True
 
     def holders(self, points: Iterable[Point]) -> set[Corner]:
         """The present tiles that hold any of some points."""

@@ -7,9 +7,11 @@ name can be pointed at it, and what changes something has to come as JSON with a
 
 from __future__ import annotations
 
+import functools
 import json
 import re
 import secrets
+import sys
 from collections.abc import Callable, Mapping
 from http import HTTPStatus
 from http.server import BaseHTTPRequestHandler, ThreadingHTTPServer
@@ -42,6 +44,12 @@ class MapServer(ThreadingHTTPServer):
         self.workbench = workbench
         self.token = secrets.token_urlsafe(18)
 
+    def handle_error(self, request: Any, client_address: Any) -> None:
+        """A page that went away while it was answered is no fault of anybody's; what else may come is told in a line."""
+        fault = sys.exc_info()[1]
+        if not isinstance(fault, (ConnectionError, TimeoutError)):
+            print(f"mosaic-view: {type(fault).__name__}: {fault}", file=sys.stderr)
+
     @property
     def url(self) -> str:
         return f"http://127.0.0.1:{self.server_port}/{self.token}/"
@@ -61,6 +69,9 @@ class _Handler(BaseHTTPRequestHandler):
     def do_GET(self) -> None:
         path = self._path()
         if path is None:
+            return
+        if path == "favicon.ico":
+            self._send(HTTPStatus.NO_CONTENT, b"", "image/x-icon")
             return
         if path in PAGE_FILES:
             name, kind = PAGE_FILES[path]
@@ -88,7 +99,7 @@ class _Handler(BaseHTTPRequestHandler):
             return
         words = self._words()
         if words is not None:
-            self._answer(lambda: act(words))
+            self._answer(functools.partial(act, words))
 
     def _path(self) -> str | None:
         """What follows the token in the path asked for; None where the request was refused already."""

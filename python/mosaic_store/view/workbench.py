@@ -15,8 +15,13 @@ from typing import Any
 
 import numpy as np
 
+from ..errors import MosaicError
+from ..geojson import Feature, collection, trace_feature, watershed_feature
 from ..lattice import METRES_A_DEGREE, VOID, Point
+from ..questions import Command
 from ..session import Session
+from ..shading import WATERSHED
+from ..snapping import FARTHEST, snapped
 from ..trials import Trial
 from . import lines, pictures
 from .region import Grid, Region, Samples
@@ -42,7 +47,8 @@ AROUND = 160
 MOST_AROUND = 512
 """The most points each way of that box."""
 
-WATERSHED_COLOUR = (214, 60, 44)
+MOST_KEPT = 100
+"""How many of the edits that were kept can be undone: the newest."""
 
 
 class BadRequest(Exception):
@@ -55,12 +61,35 @@ class Edit:
 
     kind: str
     amount: int
+    corners: Sequence[Point]
     points: Sequence[Point]
+    """Every point of the line through the corners."""
 
     def make(self, session: Session) -> None:
         act = session.wall if self.kind == "wall" else session.burn
         for part in lines.commands(self.points):
             act(self.amount, part)
+
+    def described(self) -> dict[str, Any]:
+        return {"kind": self.kind, "amount": self.amount, "line": [list(corner) for corner in self.corners]}
+
+
+@dataclass(frozen=True)
+class UnderWay:
+    """A trial that is neither kept nor taken back yet."""
+
+    edit: Edit
+    trial: Trial
+    effects: dict[str, Any]
+    """What the page was told of it, so that a page that is loaded anew shows it again."""
+
+
+@dataclass(frozen=True)
+class Kept:
+    """An edit in the store, and the commands that are still to be made to take it back."""
+
+    edit: Edit
+    undo: list[Command]
 
 
 class Workbench:
@@ -73,7 +102,8 @@ class Workbench:
         self._copy = copy
         self._lock = threading.RLock()
         self._copied: Session | None = None
-        self._trial: tuple[Edit, Trial] | None = None
+        self._trial: UnderWay | None = None
+        self._kept: list[Kept] = []
         self._pictures: OrderedDict[tuple[str, int, int, int], bytes] = OrderedDict()
         names = session.tiles()
         if not names:
@@ -90,10 +120,12 @@ class Workbench:
         """What a request may ask for, by its path."""
         return {
             "ask": lambda words: self.ask(point_in(words)),
-            "watershed": lambda words: self.watershed(point_in(words)),
+            "watershed": lambda words: self.watershed(point_in(words), snap_in(words)),
+            "geojson": lambda words: self.geojson(point_in(words), words.get("what")),
             "try": lambda words: self.try_edit(edit_in(words)),
             "keep": lambda words: self.keep(),
             "discard": lambda words: self.discard(),
+            "undo": lambda words: self.undo(),
         }
 
     def describe(self) -> dict[str, Any]:
@@ -107,7 +139,23 @@ class Workbench:
             "sinks": [list(point) for point in self._store.sinks()],
             "lowest": self.lowest,
             "highest": self.highest,
+            "deepest": pictures.DEEPEST_SHADE,
+            "trial": self._described_trial(),
+            "edits": self._described_edits(),
         }
+
+    def _described_trial(self) -> dict[str, Any] | None:
+        """The trial under way, as its page was told it; None without one."""
+        with self._lock:
+            under_way = self._trial
+        if under_way is None:
+            return None
+        return {**under_way.edit.described(), **under_way.effects}
+
+    def _described_edits(self) -> list[dict[str, Any]]:
+        """The edits kept since the map was begun, the oldest first: the last one can be undone."""
+        with self._lock:
+            return [kept.edit.described() for kept in self._kept]
 
     # Pictures
 
@@ -138,7 +186,7 @@ class Workbench:
     def _standing(self, grid: Grid) -> pictures.Colours:
         heights, _ = self.region.heights(grid)
         found = standing_water(self._store, grid, heights)
-        return pictures.water(found.depths, max(20, found.deepest))
+        return pictures.water(found.depths)
 
     def _metres(self, step: int) -> float:
         return METRES_A_DEGREE / (self.region.side - 1) * step
@@ -166,9 +214,11 @@ class Workbench:
             "path": told,
         }
 
-    def watershed(self, point: Point) -> dict[str, Any]:
-        """The watershed of a point: how many points it has, and a picture of them with its box."""
+    def watershed(self, point: Point, snap: int = 0) -> dict[str, Any]:
+        """The watershed of a point, moved to the stream within some steps: how many points it has, and a picture with its box."""
         y, x = self._inside(point)
+        if snap:
+            y, x = snapped(self._store, point, snap)
         found = self._store.watershed(y, x)
         runs = np.array(found.runs, np.int64).reshape(-1, 3)
         top, bottom, left, right = runs[:, 0].max(), runs[:, 0].min(), runs[:, 1].min(), runs[:, 2].max()
@@ -177,7 +227,16 @@ class Workbench:
         for row, first, last in zip((top - runs[:, 0]) // step, (runs[:, 1] - left) // step, (runs[:, 2] - left) // step):
             marked[row, first : last + 1] = True
         box = {"top": int(top), "left": int(left), "rows": marked.shape[0] * step, "columns": marked.shape[1] * step}
-        return {"cells": found.cells, "box": box, "picture": as_url(pictures.mask(marked, WATERSHED_COLOUR, 120))}
+        return {"y": y, "x": x, "cells": found.cells, "box": box, "picture": as_url(pictures.mask(marked, WATERSHED, 120))}
+
+    def geojson(self, point: Point, what: object) -> Feature:
+        """The "watershed" or the flow "path" of a point, as a file holds it."""
+        y, x = self._inside(point)
+        if what == "watershed":
+            return collection([watershed_feature(self._store.watershed(y, x), point, self.region.side)])
+        if what == "path":
+            return collection([trace_feature(self._store.trace(y, x), self.region.side)])
+        raise BadRequest('what is saved is a "watershed" or a "path"')
 
     def _inside(self, point: Point) -> Point:
         if not self.region.holders([point]):
@@ -202,7 +261,7 @@ class Workbench:
             except BaseException:
                 trial.take_back()
                 raise
-            self._trial = edit, trial
+            self._trial = UnderWay(edit, trial, answer)
             return answer
 
     def _water_around(self, edit: Edit, copy: Session) -> dict[str, Any]:
@@ -211,34 +270,62 @@ class Workbench:
         heights, _ = self.region.heights(grid)
         before = standing_water(self._store, grid, heights)
         after = standing_water(copy, grid, heights_after(copy, grid, heights, edit.points))
-        deepest = max(20, before.deepest, after.deepest)
         middle = edit.points[len(edit.points) // 2]
         return {
             "box": {"top": grid.top, "left": grid.left, "rows": grid.rows, "columns": grid.columns},
-            "before": told(before, deepest, self._store.fill(*middle)),
-            "after": told(after, deepest, copy.fill(*middle)),
+            "before": told(before, self._store.fill(*middle)),
+            "after": told(after, copy.fill(*middle)),
         }
 
     def keep(self) -> dict[str, Any]:
         """Makes the trial's edit in the store."""
         with self._lock:
-            edit, trial = self._under_way()
-            edit.make(self._store)
-            trial.keep()
+            under_way = self._under_way()
+            self._kept.append(Kept(under_way.edit, made_in(self._store, under_way.edit)))
+            del self._kept[:-MOST_KEPT]
+            under_way.trial.keep()
             self._trial = None
-            self.region.forget(self.region.holders(edit.points))
-            self._pictures.clear()
+            self._forget(under_way.edit)
             return {"count": self._store.count()}
+
+    def undo(self) -> dict[str, Any]:
+        """Takes back the edit that was kept last: the store's heights are those before it, byte for byte."""
+        with self._lock:
+            if self._trial is not None:
+                raise BadRequest("a trial is under way: keep it or take it back first")
+            if not self._kept:
+                raise BadRequest("no edit was kept that could be undone")
+            kept = self._kept[-1]
+            while kept.undo:
+                self._store.ask(kept.undo[0])
+                self._ask_copy(kept.undo.pop(0))
+            self._kept.pop()
+            self._forget(kept.edit)
+            return {"count": self._store.count()}
+
+    def _ask_copy(self, command: Command) -> None:
+        """Makes a command of the store in the copy too; a copy that can't is made anew when it is needed."""
+        if self._copied is None:
+            return
+        try:
+            self._copied.ask(command)
+        except MosaicError:
+            self._copied.close()
+            self._copied = None
+
+    def _forget(self, edit: Edit) -> None:
+        """Lets go of what was drawn of terrain that an edit changed."""
+        self.region.forget(self.region.holders(edit.points))
+        self._pictures.clear()
 
     def discard(self) -> dict[str, Any]:
         """Takes the trial's edit back from the copy; the store never had it."""
         with self._lock:
-            _, trial = self._under_way()
-            trial.take_back()
+            self._under_way().trial.take_back()
             self._trial = None
             return {"count": self._store.count()}
 
-    def _under_way(self) -> tuple[Edit, Trial]:
+    def _under_way(self) -> UnderWay:
         if self._trial is None:
             raise BadRequest("no trial is under way")
         return self._trial
@@ -263,6 +350,20 @@ class Workbench:
         return Grid(top, left, top - bottom + 1, right - left + 1, 1)
 
 
+def made_in(store: Session, edit: Edit) -> list[Command]:
+    """Makes an edit in a store; the commands that take it back. An edit that fails midway is taken back."""
+    trial = store.begin_trial()
+    try:
+        edit.make(store)
+        return trial.inverse()
+    except BaseException:
+        trial.take_back()
+        raise
+    finally:
+        if trial.is_open:
+            trial.keep()
+
+
 def clipped(low: int, high: int, lowest: int, highest: int) -> tuple[int, int]:
     """A range within bounds, and cut around its middle to the greatest size of a box."""
     low, high = max(low, lowest), min(high, highest)
@@ -281,9 +382,9 @@ def heights_after(session: Session, grid: Grid, heights: Samples, points: Sequen
     return changed
 
 
-def told(water: Water, deepest: int, level: int) -> dict[str, Any]:
+def told(water: Water, level: int) -> dict[str, Any]:
     """Water as the page shows it, with the filled level at the middle of the edit's line."""
-    picture = as_url(pictures.water(water.depths, deepest))
+    picture = as_url(pictures.water(water.depths))
     return {"points": water.points, "deepest": water.deepest, "volume": water.volume, "level": level, "picture": picture}
 
 
@@ -293,6 +394,13 @@ def as_url(colours: pictures.Colours) -> str:
 
 def point_in(words: Mapping[str, Any]) -> Point:
     return Point(coordinate(words.get("y")), coordinate(words.get("x")))
+
+
+def snap_in(words: Mapping[str, Any]) -> int:
+    snap = words.get("snap", 0)
+    if type(snap) is not int or not 0 <= snap <= FARTHEST:
+        raise BadRequest(f"an outlet moves by 0 to {FARTHEST} steps")
+    return snap
 
 
 def coordinate(value: Any) -> int:
@@ -317,4 +425,4 @@ def edit_in(words: Mapping[str, Any]) -> Edit:
     length = sum(abs(a.y - b.y) + abs(a.x - b.x) for a, b in zip(places, places[1:]))
     if length > MOST_POINTS:
         raise BadRequest(f"a line has at most {MOST_POINTS} points, and this one has {length}")
-    return Edit(kind, amount, lines.points_along(places))
+    return Edit(kind, amount, places, lines.points_along(places))

@@ -4,6 +4,7 @@
 
 const PIXELS = 256;
 const MOST_ZOOM = 16;
+const PLACE = /^\s*([-+]?\d+(?:\.\d+)?)\s*°?\s*([NS]?)[\s,]+([-+]?\d+(?:\.\d+)?)\s*°?\s*([EW]?)\s*$/;
 const token = location.pathname.split("/")[1];
 const byId = (id) => document.getElementById(id);
 const canvas = byId("map");
@@ -32,11 +33,11 @@ async function request(path, words) {
   return told;
 }
 
+// Tells what is done, then what came of it: the words that the act answers.
 async function working(text, act) {
   say(text);
   try {
-    await act();
-    say("");
+    say(await act() || "");
   } catch (fault) {
     say(fault.message, true);
   }
@@ -50,13 +51,19 @@ function say(text, isFault = false) {
 
 // ---- Places
 
-const left = () => view.x - (canvas.clientWidth / 2) * view.pointsPerPixel;
+// How wide a point is for its height, at the middle of the map: a degree of longitude is the narrower the nearer the pole.
+const narrow = () => Math.max(0.01, Math.cos((view.y / (region.side - 1) * Math.PI) / 180));
+const eastPerPixel = () => view.pointsPerPixel / narrow();
+const left = () => view.x - (canvas.clientWidth / 2) * eastPerPixel();
 const top_ = () => view.y + (canvas.clientHeight / 2) * view.pointsPerPixel;
-const pixelOf = ({ y, x }) => [(x + 0.5 - left()) / view.pointsPerPixel, (top_() - y + 0.5) / view.pointsPerPixel];
+const acrossOf = (x) => (x - left()) / eastPerPixel();
+const downOf = (y) => (top_() - y) / view.pointsPerPixel;
+const pixelOf = ({ y, x }) => [acrossOf(x + 0.5), downOf(y - 0.5)];
 const pointAt = (across, down) => ({
   y: Math.ceil(top_() - down * view.pointsPerPixel),
-  x: Math.floor(left() + across * view.pointsPerPixel),
+  x: Math.floor(left() + across * eastPerPixel()),
 });
+const middle = () => pointAt(canvas.clientWidth / 2, canvas.clientHeight / 2);
 const degrees = (value, positive, negative) => `${Math.abs(value).toFixed(5)}° ${value < 0 ? negative : positive}`;
 
 // ---- Pictures
@@ -79,26 +86,38 @@ function picture(layer, zoom, row, column) {
   return image.complete && image.naturalWidth > 0 ? image : null;
 }
 
-function drawLayer(layer, zoom) {
+// Draws the pictures of a layer; none of it within a box of points where one is left out.
+function drawLayer(layer, zoom, leftOut = null) {
+  pen.save();
+  if (leftOut) {
+    pen.beginPath();
+    pen.rect(0, 0, canvas.clientWidth, canvas.clientHeight);
+    pen.rect(...pixelsOf(leftOut));
+    pen.clip("evenodd");
+  }
   const span = PIXELS * 2 ** zoom;
   const [south, west, north, east] = region.bounds;
   const lowRow = Math.floor(Math.max(south, top_() - canvas.clientHeight * view.pointsPerPixel) / span);
   const highRow = Math.floor(Math.min(north, top_()) / span);
   const lowColumn = Math.floor(Math.max(west, left()) / span);
-  const highColumn = Math.floor(Math.min(east, left() + canvas.clientWidth * view.pointsPerPixel) / span);
+  const highColumn = Math.floor(Math.min(east, left() + canvas.clientWidth * eastPerPixel()) / span);
   for (let row = lowRow; row <= highRow; row++) {
     for (let column = lowColumn; column <= highColumn; column++) {
       const image = picture(layer, zoom, row, column);
       if (image) drawBox(image, { top: row * span + span - 2 ** zoom, left: column * span, size: span });
     }
   }
+  pen.restore();
 }
 
-// Draws an image over a box of points, of which the north-west point is told.
-function drawBox(image, { top, left: west, size, rows = size, columns = size }) {
-  const across = (west - left()) / view.pointsPerPixel;
-  const down = (top_() - top) / view.pointsPerPixel;
-  pen.drawImage(image, across, down, columns / view.pointsPerPixel, rows / view.pointsPerPixel);
+// A box of points, of which the north-west point is told, in whole pixels, so that boxes side by side leave no gap.
+function pixelsOf({ top, left: west, size, rows = size, columns = size }) {
+  const [across, down] = [Math.round(acrossOf(west)), Math.round(downOf(top))];
+  return [across, down, Math.round(acrossOf(west + columns)) - across, Math.round(downOf(top - rows)) - down];
+}
+
+function drawBox(image, box) {
+  pen.drawImage(image, ...pixelsOf(box));
 }
 
 function draw() {
@@ -109,7 +128,9 @@ function draw() {
   pen.imageSmoothingEnabled = false;
   if (!region) return;
   drawLayer("relief", zoomOfView());
-  if (byId("standing").checked && view.pointsPerPixel <= 1) drawLayer("standing", 0);
+  const hasWater = byId("standing").checked && view.pointsPerPixel <= 1;
+  if (hasWater) drawLayer("standing", 0, trial && trial.box);
+  byId("depths").hidden = !hasWater && !trial;
   if (watershed) drawBox(watershed.image, watershed.box);
   if (trial) drawBox(trial.images[shown()], trial.box);
   drawSinks();
@@ -147,8 +168,7 @@ function drawSinks() {
 }
 
 function drawScale() {
-  const latitude = view.y / (region.side - 1);
-  const metresAPixel = view.pointsPerPixel * region.metres * Math.cos((latitude * Math.PI) / 180);
+  const metresAPixel = view.pointsPerPixel * region.metres;
   const power = 10 ** Math.floor(Math.log10(metresAPixel * 150));
   const length = [5, 2, 1].map((digit) => digit * power).find((metres) => metres <= metresAPixel * 150);
   byId("scale-bar").style.width = `${length / metresAPixel}px`;
@@ -161,6 +181,21 @@ async function ask(point) {
   asked = await request("ask", point);
   watershed = null;
   showPoint();
+  return asked.height === null ? "A void: no height is known" : `Height ${asked.height} m, water at ${asked.level} m, a path of ${asked.steps} points`;
+}
+
+// Shows a place that was typed: two numbers, or numbers with N, S, E or W behind them.
+async function goTo(text) {
+  const words = text.toUpperCase().match(PLACE);
+  if (!words) throw new Error("A place is two numbers, as 37.5 -105.25 or 37.5 N 105.25 W");
+  const latitude = Number(words[1]) * (words[2] === "S" ? -1 : 1);
+  const longitude = Number(words[3]) * (words[4] === "W" ? -1 : 1);
+  const point = { y: Math.round(latitude * (region.side - 1)), x: Math.round(longitude * (region.side - 1)) };
+  const told = await ask(point);
+  [view.y, view.x] = [point.y, point.x];
+  view.pointsPerPixel = Math.min(view.pointsPerPixel, 1);
+  rememberPlace();
+  return told;
 }
 
 function showPoint() {
@@ -174,9 +209,19 @@ function showPoint() {
     rows.push(["Filled level", `${asked.level} m`], ["Standing water", `${asked.level - asked.height} m`]);
     rows.push(["Flows", flowsTo(asked.direction)], ["Flow path", `${asked.steps} points`]);
   }
-  if (watershed) rows.push(["Watershed", `${watershed.cells.toLocaleString("en")} points`]);
+  if (watershed) rows.push(["Watershed", `${watershed.cells.toLocaleString("en")} points, ${squareKilometres(watershed.cells, asked.y)} km²`]);
   byId("point").replaceChildren(...rows.flatMap(([name, value]) => [term("dt", name), term("dd", value)]));
-  byId("watershed").disabled = asked.height === null;
+  byId("watershed").disabled = byId("save-path").disabled = asked.height === null;
+  byId("save-watershed").disabled = watershed === null;
+}
+
+// The square metres that a point of a latitude stands for.
+function squareMetres(y) {
+  return region.metres ** 2 * Math.cos((y / (region.side - 1) * Math.PI) / 180);
+}
+
+function squareKilometres(points, y) {
+  return Number((points * squareMetres(y) / 1e6).toPrecision(3)).toLocaleString("en");
 }
 
 function flowsTo(direction) {
@@ -189,10 +234,27 @@ function term(kind, text) {
   return element;
 }
 
-async function askWatershed() {
-  const told = await request("watershed", { y: asked.y, x: asked.x });
+async function askWatershed(snap) {
+  const from = asked;
+  const told = await request("watershed", { y: from.y, x: from.x, snap });
+  const steps = Math.max(Math.abs(told.y - from.y), Math.abs(told.x - from.x));
+  if (steps) await ask({ y: told.y, x: told.x });
+  rememberPlace();
   watershed = { ...told, image: await imageOf(told.picture) };
   showPoint();
+  const moved = steps ? `; its outlet was moved ${steps} step${steps > 1 ? "s" : ""} to where most drains to` : "";
+  return `Watershed of ${told.cells.toLocaleString("en")} points, ${squareKilometres(told.cells, asked.y)} km²${moved}`;
+}
+
+// Has the browser save the watershed or the path that is shown.
+async function save(what) {
+  const told = await request("geojson", { what, y: asked.y, x: asked.x });
+  const link = document.createElement("a");
+  link.href = URL.createObjectURL(new Blob([JSON.stringify(told)], { type: "application/geo+json" }));
+  link.download = `${what}-${asked.y}-${asked.x}.geojson`;
+  link.click();
+  URL.revokeObjectURL(link.href);
+  return `Saved as ${link.download}`;
 }
 
 async function imageOf(source) {
@@ -236,25 +298,51 @@ async function addCorner(point) {
 
 async function tryLine() {
   const words = { kind: tool(), amount: Number(byId("amount").value), line: line.map(({ y, x }) => [y, x]) };
-  const told = await request("try", words);
+  await takeTrial(await request("try", words));
+  return "Tried: keep it, or take it back";
+}
+
+async function takeTrial(told) {
   trial = { ...told, images: { store: await imageOf(told.before.picture), trial: await imageOf(told.after.picture) } };
   showTrial();
 }
 
+// Shows the trial that the store's program still has, as after the page was loaded anew.
+async function resumeTrial(told) {
+  takeLine(told.kind, told.amount, told.line);
+  await takeTrial(told);
+}
+
+function takeLine(kind, amount, corners) {
+  document.querySelector(`input[name=tool][value=${kind}]`).checked = true;
+  chooseTool();
+  byId("amount").value = amount;
+  line = corners.map(([y, x]) => ({ y, x }));
+}
+
 function showTrial() {
   byId("trial").hidden = trial === null;
+  byId("undo").disabled = trial !== null;
   showLine();
   if (!trial) return;
-  const rows = [["Points under water", "points"], ["Deepest, m", "deepest"], ["Volume, m × points", "volume"], ["Level at the line, m", "level"]];
-  byId("effects").replaceChildren(...rows.map(([name, key]) => {
+  byId("trial").scrollIntoView({ block: "nearest" });
+  const cubicMetres = (water) => Math.round(water.volume * squareMetres(trial.box.top));
+  const rows = [
+    ["Points under water", (water) => water.points],
+    ["Deepest, m", (water) => water.deepest],
+    ["Volume, m³", cubicMetres],
+    ["Level at the line, m", (water) => water.level],
+  ];
+  byId("effects").replaceChildren(...rows.map(([name, told]) => {
     const row = document.createElement("tr");
-    row.append(term("th", name), term("td", trial.before[key].toLocaleString("en")), term("td", trial.after[key].toLocaleString("en")));
+    row.append(term("th", name), ...[trial.before, trial.after].map((water) => term("td", told(water).toLocaleString("en"))));
     return row;
   }));
 }
 
-async function endTrial(path) {
-  await request(path, {});
+// Ends a trial by "keep" or "discard", or takes the last edit back by "undo".
+async function change(path) {
+  const { count } = await request(path, {});
   trial = null;
   line = [];
   version += 1;
@@ -262,52 +350,115 @@ async function endTrial(path) {
   region = await request("region");
   if (asked) await ask({ y: asked.y, x: asked.x });
   showTrial();
+  showEdits();
+  const told = { keep: "Kept in the store", discard: "Taken back: the store is as it was", undo: "The last edit was undone" };
+  return `${told[path]}; it counts ${count} commands`;
 }
 
-// ---- The mouse and the keys
+function showEdits() {
+  byId("edits").hidden = !region.edits.length;
+  byId("undo").disabled = trial !== null;
+  byId("kept").replaceChildren(...region.edits.map(({ kind, amount, line: corners }) => {
+    const [[y, x]] = corners;
+    const place = `${degrees(y / (region.side - 1), "N", "S")} ${degrees(x / (region.side - 1), "E", "W")}`;
+    return term("li", `${kind === "wall" ? `raised to ${amount} m` : `lowered by ${amount} m`}, from ${place}`);
+  }));
+}
 
+// ---- The mouse, fingers and the keys
+
+const fingers = new Map();
 let drag = null;
+let pinched = 0;
+
+const isPinch = () => fingers.size === 2;
+
+function spread() {
+  const [one, other] = [...fingers.values()];
+  return { length: Math.hypot(one.across - other.across, one.down - other.down), across: (one.across + other.across) / 2, down: (one.down + other.down) / 2 };
+}
+
 canvas.addEventListener("pointerdown", (event) => {
-  drag = { across: event.offsetX, down: event.offsetY, y: view.y, x: view.x, moved: false };
+  fingers.set(event.pointerId, { across: event.offsetX, down: event.offsetY });
+  drag = { across: event.offsetX, down: event.offsetY, y: view.y, x: view.x, moved: isPinch() };
+  if (isPinch()) pinched = spread().length;
   canvas.setPointerCapture(event.pointerId);
 });
 canvas.addEventListener("pointermove", (event) => {
-  if (!drag) return;
+  if (!drag || !fingers.has(event.pointerId)) return;
+  fingers.set(event.pointerId, { across: event.offsetX, down: event.offsetY });
+  if (isPinch()) {
+    const { length, across, down } = spread();
+    zoomBy(pinched / Math.max(1, length), across, down);
+    pinched = length;
+    return;
+  }
   const across = event.offsetX - drag.across, down = event.offsetY - drag.down;
   drag.moved ||= Math.hypot(across, down) > 4;
-  if (!drag.moved) return;
-  view.x = drag.x - across * view.pointsPerPixel;
+  if (!drag.moved || fingers.size !== 1) return;
+  view.x = drag.x - across * eastPerPixel();
   view.y = drag.y + down * view.pointsPerPixel;
   draw();
 });
 canvas.addEventListener("pointerup", (event) => {
-  const moved = drag && drag.moved;
+  const moved = !drag || drag.moved;
+  fingers.delete(event.pointerId);
+  if (fingers.size) {
+    const [{ across, down }] = fingers.values();
+    drag = { across, down, y: view.y, x: view.x, moved: true };
+    return;
+  }
   drag = null;
   if (moved) return rememberPlace();
-  const point = pointAt(event.offsetX, event.offsetY);
-  if (tool() === "ask") working("Asking …", () => ask(point)).then(rememberPlace);
-  else working("", () => addCorner(point));
+  choose(pointAt(event.offsetX, event.offsetY));
 });
+canvas.addEventListener("pointercancel", (event) => { fingers.delete(event.pointerId); drag = null; });
 canvas.addEventListener("wheel", (event) => {
   event.preventDefault();
   zoomBy(event.deltaY < 0 ? 0.5 : 2, event.offsetX, event.offsetY);
 }, { passive: false });
+
+const KEYS = {
+  "+": () => zoomBy(0.5),
+  "=": () => zoomBy(0.5),
+  "-": () => zoomBy(2),
+  ArrowLeft: () => pan(0, -1),
+  ArrowRight: () => pan(0, 1),
+  ArrowUp: () => pan(1, 0),
+  ArrowDown: () => pan(-1, 0),
+  Enter: () => choose(middle()),
+};
 canvas.addEventListener("keydown", (event) => {
-  if (event.key === "+" || event.key === "=") zoomBy(0.5);
-  if (event.key === "-") zoomBy(2);
+  if (!(event.key in KEYS) || event.ctrlKey || event.altKey || event.metaKey) return;
+  event.preventDefault();
+  KEYS[event.key]();
 });
+
+// A point was chosen: it is asked, or is the next corner of the line.
+function choose(point) {
+  if (tool() === "ask") working("Asking …", () => ask(point)).then(rememberPlace);
+  else working("", () => addCorner(point));
+}
+
+// Moves the map by eighths of itself.
+function pan(north, east) {
+  view.y += (north * canvas.clientHeight * view.pointsPerPixel) / 8;
+  view.x += (east * canvas.clientWidth * eastPerPixel()) / 8;
+  draw();
+  rememberPlace();
+}
 
 function zoomBy(factor, across = canvas.clientWidth / 2, down = canvas.clientHeight / 2) {
   const scale = Math.min(2 ** MOST_ZOOM, Math.max(1 / 16, view.pointsPerPixel * factor));
   const moved = view.pointsPerPixel - scale;
-  view.x += (across - canvas.clientWidth / 2) * moved;
+  view.x += ((across - canvas.clientWidth / 2) * moved) / narrow();
   view.y -= (down - canvas.clientHeight / 2) * moved;
   view.pointsPerPixel = scale;
   draw();
   rememberPlace();
 }
 
-// ---- Links: #at=y,x,points-per-pixel & ask=y,x & watershed & wall=height;y,x;y,x (or burn=..)
+// ---- Links: #at=y,x,points-per-pixel & ask=y,x & watershed & snap=steps & wall=height;y,x;y,x (or burn=..)
 
 function rememberPlace() {
   const parts = [`at=${Math.round(view.y)},${Math.round(view.x)},${view.pointsPerPixel}`];
@@ -324,15 +475,13 @@ async function followLink() {
   if (parts.has("ask")) {
     const [y, x] = numbers(parts.get("ask"));
     await ask({ y, x });
-    if (parts.has("watershed")) await askWatershed();
+    if (parts.has("watershed")) await askWatershed(Number(parts.get("snap")));
   }
+  if (region.trial) return resumeTrial(region.trial);
   const kind = ["wall", "burn"].find((word) => parts.has(word));
   if (!kind) return;
   const [amount, ...corners] = parts.get(kind).split(";");
-  document.querySelector(`input[name=tool][value=${kind}]`).checked = true;
-  chooseTool();
-  byId("amount").value = amount;
-  line = corners.map((corner) => numbers(corner)).map(([y, x]) => ({ y, x }));
+  takeLine(kind, amount, corners.map(numbers));
   await tryLine();
 }
 
@@ -341,7 +490,7 @@ async function followLink() {
 function showAll() {
   const [south, west, north, east] = region.bounds;
   [view.y, view.x] = [(south + north) / 2, (west + east) / 2];
-  view.pointsPerPixel = Math.max((north - south) / canvas.clientHeight, (east - west) / canvas.clientWidth) * 1.05;
+  view.pointsPerPixel = Math.max((north - south) / canvas.clientHeight, ((east - west) * narrow()) / canvas.clientWidth) * 1.05;
 }
 
 async function start() {
@@ -349,18 +498,24 @@ async function start() {
   byId("store").textContent = `${region.name}: ${region.tiles.length} tiles of ${region.side} × ${region.side} samples`;
   byId("legend-low").textContent = `${region.lowest} m`;
   byId("legend-high").textContent = `${region.highest} m`;
+  byId("depth-high").textContent = `${region.deepest} m and more`;
   showAll();
+  showEdits();
   await followLink();
 }
 
-byId("watershed").addEventListener("click", () => working("Searching the watershed …", askWatershed));
+byId("watershed").addEventListener("click", () => working("Searching the watershed …", () => askWatershed(Number(byId("snap").value))));
+byId("save-watershed").addEventListener("click", () => working("Saving …", () => save("watershed")));
+byId("save-path").addEventListener("click", () => working("Saving …", () => save("path")));
+byId("go").addEventListener("submit", (event) => { event.preventDefault(); working("Going there …", () => goTo(byId("place").value)); });
 byId("try").addEventListener("click", () => working("Trying …", tryLine));
-byId("keep").addEventListener("click", () => working("Keeping …", () => endTrial("keep")));
-byId("discard").addEventListener("click", () => working("Taking back …", () => endTrial("discard")));
+byId("keep").addEventListener("click", () => working("Keeping …", () => change("keep")));
+byId("discard").addEventListener("click", () => working("Taking back …", () => change("discard")));
+byId("undo").addEventListener("click", () => working("Undoing …", () => change("undo")));
 byId("clear").addEventListener("click", () => { line = []; showLine(); });
 byId("amount").addEventListener("input", showLine);
 byId("standing").addEventListener("change", draw);
-for (const choice of document.querySelectorAll("input[name=tool]")) choice.addEventListener("change", chooseTool);
+for (const choice of document.querySelectorAll("input[name=tool]")) choice.addEventListener("change", () => { say(""); chooseTool(); });
 for (const choice of document.querySelectorAll("input[name=shown]")) choice.addEventListener("change", draw);
 window.addEventListener("resize", draw);
 working("Loading the tiles …", start);

@@ -1,0 +1,308 @@
+"""mosaic-hydrology: accumulation, streams, catchments, reservoirs, floods and paths of a window, as files for others."""
+
+from __future__ import annotations
+
+import argparse
+import csv
+import functools
+import io
+import json
+import pathlib
+import sys
+from collections.abc import Callable, Iterator, Sequence
+from typing import TYPE_CHECKING, Any
+
+from ..geojson import Feature, collection, line_feature, points_feature
+from ..grids import check_format, write_grid
+from ..lattice import Point, Window
+from ..samples import needed_numpy
+from ..session import Session
+from .frame import (
+    DONE,
+    CommandError,
+    Progress,
+    add_places,
+    add_window,
+    opened,
+    parser,
+    point_given,
+    run,
+    window_given,
+    written_whole,
+)
+
+if TYPE_CHECKING:
+    from ..network import Network
+
+NAME = "mosaic-hydrology"
+DESCRIPTION = """What drains where in a window of a store. It needs numpy.
+
+  mosaic-hydrology STORE accumulation points.tif       how many points drain through each, as a raster (.tif, .asc)
+  mosaic-hydrology STORE above hand.tif --threshold 1000
+                                                       metres above the nearest stream on each point's flow path
+  mosaic-hydrology STORE streams streams.geojson --threshold 1000
+                                                       reaches with order (Strahler), length, drained points and km2
+  mosaic-hydrology STORE catchments areas.geojson --outlets culverts.csv --reach 5
+                                                       nested catchments; columns latitude and longitude (or y and x), or a
+                                                       GeoJSON of points; all other columns are carried on
+  mosaic-hydrology STORE flooded floods.geojson --depths 1 2 5
+                                                       standing water as polygons by depth in metres
+  mosaic-hydrology STORE path path.geojson --at 37.5 -105.25
+                                                       the longest flow path to a place: slope, time of concentration
+  mosaic-hydrology STORE reservoir stages.csv --dam 37.5 -105.25 37.52 -105.25 --crest 2100 --before 37.51 -105.26
+                                                       level, area and volume behind a dam that is built for a moment
+  mosaic-hydrology STORE edit roads.geojson --wall 1200 --width 3
+                                                       raises (--wall) or lowers (--burn) the lines of a GeoJSON in the store
+
+Numbers are degrees north and east; with --points they are points y x of the lattice."""
+
+NO_ACCUMULATION = 0
+
+
+def main(arguments: Sequence[str] | None = None) -> int:
+    """Runs the command; its status."""
+    return run(NAME, functools.partial(_run, _parsed(arguments)))
+
+
+def _parsed(arguments: Sequence[str] | None) -> argparse.Namespace:
+    made = parser(NAME, DESCRIPTION)
+    made.add_argument("store")
+    made.add_argument("what", choices=list(WORKS))
+    made.add_argument("file", help="the file to write; for edit, the lines to read")
+    add_window(made)
+    add_places(made)
+    made.add_argument("--threshold", type=int, default=1000, metavar="POINTS", help="a stream is what so many points drain through; 1000")
+    made.add_argument("--outlets", metavar="FILE", help="the outlets of catchments: .csv or .geojson")
+    made.add_argument("--reach", type=int, default=0, metavar="STEPS", help="moves each outlet to the nearest stream within so many steps")
+    made.add_argument("--depths", type=int, nargs="+", default=[1], metavar="METRES", help="the least depths of the bands of a flood")
+    made.add_argument("--at", type=float, nargs=2, metavar=("LATITUDE", "LONGITUDE"), help="the end of a path")
+    made.add_argument("--dam", type=float, nargs="+", default=[], metavar="PLACE", help="the corners of a dam, two numbers each")
+    made.add_argument("--crest", type=int, metavar="METRES", help="the height of a dam's crest")
+    made.add_argument("--before", type=float, nargs=2, metavar=("LATITUDE", "LONGITUDE"), help="a place before the dam, under water")
+    made.add_argument("--wall", type=int, metavar="METRES", help="raises lines to this height, or to a feature's property `height`")
+    made.add_argument("--burn", type=int, metavar="METRES", help="lowers lines by this depth, or by a feature's property `depth`")
+    made.add_argument("--width", type=int, default=1, metavar="POINTS", help="how many points wide edited lines are: odd")
+    return made.options_of(arguments)
+
+
+def _run(options: argparse.Namespace) -> int:
+    needed_numpy()
+    with opened(options.store, options.program) as session:
+        print(f"{options.file}: {WORKS[options.what](session, options)}")
+    return DONE
+
+
+def _network(session: Session, options: argparse.Namespace) -> Network:
+    from ..network import network_of
+
+    window = window_given(options.window, session, options.points)
+    progress = Progress(NAME, 0, "questions")
+    try:
+        return network_of(session, window, progress.tell_of)
+    finally:
+        progress.clear()
+
+
+def _accumulation(session: Session, options: argparse.Namespace) -> str:
+    numpy = needed_numpy()
+    check_format(options.file)
+    network = _network(session, options)
+    counts = network.counts
+    with written_whole(options.file) as path:
+        write_grid(path, counts.astype(numpy.int32), network.window, session.side, NO_ACCUMULATION, "points that drain through")
+    return f"at most {int(counts.max())} points drain through one"
+
+
+def _above(session: Session, options: argparse.Namespace) -> str:
+    from ..hydrology import heights_above_stream
+
+    check_format(options.file)
+    network = _network(session, options)
+    above = heights_above_stream(network, options.threshold)
+    with written_whole(options.file) as path:
+        write_grid(path, above, network.window, session.side, -1, "metres above the nearest stream")
+    return f"{int((above >= 0).sum())} points lie above a stream of the window"
+
+
+def _streams(session: Session, options: argparse.Namespace) -> str:
+    from ..network import streams
+
+    network = _network(session, options)
+    areas = network.drained_area.ravel()
+    reaches = streams(network, options.threshold)
+    features = [
+        line_feature(
+            reach.points,
+            session.side,
+            {
+                "what": "stream",
+                "order": reach.order,
+                "length_m": round(reach.length, 1),
+                "points": reach.drained,
+                "km2": round(float(areas[network.cell(reach.points[max(0, len(reach.points) - 2)])]), 4),
+            },
+        )
+        for reach in reaches
+    ]
+    _write_json(options.file, features)
+    return f"{len(reaches)} reaches, {sum(reach.length for reach in reaches) / 1000:.1f} km, of order {max((reach.order for reach in reaches), default=0)} at most"
+
+
+def _catchments(session: Session, options: argparse.Namespace) -> str:
+    from ..hydrology import runs_of
+
+    if options.outlets is None:
+        raise CommandError("catchments take --outlets, a .csv or a .geojson of places")
+    network = _network(session, options)
+    outlets = list(_outlets(session, options, network))
+    labels = network.catchments([outlet for outlet, _ in outlets])
+    counts, areas = network.counts.ravel(), network.drained_area.ravel()
+    features = []
+    for number, (outlet, carried) in enumerate(outlets):
+        runs = runs_of(labels == number, network.window)
+        cell = network.cell(outlet)
+        own = {"what": "catchment", "cells": sum(run.last - run.first + 1 for run in runs)}
+        drained = {"drained_points": int(counts[cell]), "drained_km2": round(float(areas[cell]), 4)}
+        features.append(points_feature(runs, session.side, {**carried, **own, **drained, "y": outlet.y, "x": outlet.x}))
+    _write_json(options.file, features)
+    return f"{len(features)} catchments"
+
+
+def _outlets(session: Session, options: argparse.Namespace, network: Network) -> Iterator[tuple[Point, dict[str, Any]]]:
+    for numbers, as_points, carried in _places(options.outlets):
+        point = point_given(numbers, session, as_points)
+        yield (network.snapped(point, options.reach, options.threshold) if options.reach else point), carried
+
+
+def _places(path: str) -> Iterator[tuple[tuple[float, float], bool, dict[str, Any]]]:
+    """The places of a file, whether they are points of the lattice, and what else stands with each."""
+    text = pathlib.Path(path).read_text(encoding="utf-8-sig")
+    if path.lower().endswith((".geojson", ".json")):
+        for feature in _features(path, text):
+            geometry = feature.get("geometry") or {}
+            if geometry.get("type") == "Point":
+                longitude, latitude = geometry["coordinates"][:2]
+                yield (latitude, longitude), False, dict(feature.get("properties") or {})
+        return
+    for number, row in enumerate(csv.DictReader(io.StringIO(text)), 2):
+        words = {name.strip().lower(): name for name in row if name}
+        for pair in (("latitude", "longitude"), ("lat", "lon"), ("y", "x")):
+            if all(word in words for word in pair):
+                try:
+                    numbers = float(row[words[pair[0]]]), float(row[words[pair[1]]])
+                except (TypeError, ValueError):
+                    raise CommandError(f"{path}: line {number} tells no place: {pair[0]} and {pair[1]} are numbers") from None
+                yield numbers, pair == ("y", "x"), {name: value for name, value in row.items() if name not in (words[pair[0]], words[pair[1]])}
+                break
+        else:
+            raise CommandError(f"{path}: it has no columns latitude and longitude, nor y and x")
+
+
+def _features(path: str, text: str) -> list[dict[str, Any]]:
+    try:
+        found = json.loads(text)
+    except (ValueError, RecursionError):
+        raise CommandError(f"{path}: not read as GeoJSON") from None
+    features = found.get("features", [found]) if isinstance(found, dict) else []
+    return [feature for feature in features if isinstance(feature, dict)]
+
+
+def _flooded(session: Session, options: argparse.Namespace) -> str:
+    from ..hydrology import runs_of
+    from ..rasters import depths_of, heights_of, levels_of
+
+    window = window_given(options.window, session, options.points)
+    heights = heights_of(session, window)
+    progress = Progress(NAME, 0, "questions")
+    depths = depths_of(heights, levels_of(session, heights, progress.tell_of))
+    progress.clear()
+    bounds = sorted(set(options.depths))
+    if bounds[0] < 1:
+        raise CommandError("depths are 1 metre and more")
+    features = []
+    for least, next_one in zip(bounds, [*bounds[1:], 1 << 17]):
+        runs = runs_of((least <= depths) & (depths < next_one), window)
+        cells = sum(run.last - run.first + 1 for run in runs)
+        to = None if next_one > 65535 else next_one - 1
+        features.append(points_feature(runs, session.side, {"what": "standing water", "from_m": least, "to_m": to, "cells": cells}))
+    _write_json(options.file, features)
+    return f"{int((depths >= bounds[0]).sum())} points under {bounds[0]} m of water and more"
+
+
+def _path(session: Session, options: argparse.Namespace) -> str:
+    from ..hydrology import longest_path
+
+    if options.at is None:
+        raise CommandError("a path takes --at, the place where it ends")
+    end = point_given(options.at, session, options.points)
+    figures = longest_path(_network(session, options), end)
+    told = {"length_m": round(figures.length, 1), "fall_m": figures.fall, "slope": round(figures.slope, 6)}
+    minutes = round(figures.minutes, 1) if figures.fall > 0 else None
+    _write_json(options.file, [line_feature(figures.points, session.side, {"what": "longest path", **told, "minutes": minutes})])
+    return f"{figures.length / 1000:.2f} km, {figures.fall} m of fall, time of concentration {minutes} minutes (Kirpich)"
+
+
+def _reservoir(session: Session, options: argparse.Namespace) -> str:
+    from ..hydrology import reservoir
+
+    if len(options.dam) < 4 or len(options.dam) % 2 or options.crest is None or options.before is None:
+        raise CommandError("a reservoir takes --dam with two places and more, --crest and --before")
+    corners = [point_given(pair, session, options.points) for pair in zip(options.dam[::2], options.dam[1::2])]
+    before = point_given(options.before, session, options.points)
+    found = reservoir(session, _network(session, options), corners, options.crest, before)
+    with written_whole(options.file) as path, open(path, "w", newline="", encoding="ascii") as file:
+        rows = csv.writer(file)
+        rows.writerow(["level_m", "area_km2", "volume_m3"])
+        rows.writerows((stage.level, f"{stage.area / 1e6:.6f}", f"{stage.volume:.0f}") for stage in found.stages)
+    full = found.stages[-1]
+    return f"it spills at {found.spills_at} m, with {full.area / 1e6:.3f} km2 and {full.volume / 1e6:.3f} million m3"
+
+
+def _edit(session: Session, options: argparse.Namespace) -> str:
+    from ..hydrology import widened
+    from ..view import lines
+
+    if (options.wall is None) == (options.burn is None):
+        raise CommandError("lines are edited by --wall or by --burn")
+    kind, given = ("height", options.wall) if options.burn is None else ("depth", options.burn)
+    act: Callable[[int, Sequence[Point]], int] = session.wall if options.burn is None else session.burn
+    count = 0
+    for feature in _features(options.file, pathlib.Path(options.file).read_text(encoding="utf-8-sig")):
+        amount = (feature.get("properties") or {}).get(kind, given)
+        if type(amount) is not int:
+            raise CommandError(f"{options.file}: {kind} is a whole number of metres, not {amount}")
+        for line in _lines(feature):
+            points = lines.points_along([point_given((latitude, longitude), session, False) for longitude, latitude, *_ in line])
+            for part in lines.commands(widened(points, options.width)):
+                act(amount, part)
+                count += len(part)
+    return f"{count} points were edited"
+
+
+def _lines(feature: dict[str, Any]) -> list[Any]:
+    geometry = feature.get("geometry") or {}
+    coordinates: Any = geometry.get("coordinates")
+    lines: dict[str | None, list[Any]] = {"Point": [[coordinates]], "LineString": [coordinates], "MultiLineString": coordinates}
+    return lines.get(geometry.get("type"), [])
+
+
+def _write_json(name: str, features: Sequence[Feature]) -> None:
+    text = json.dumps(collection(features), separators=(",", ":")) + "\n"
+    with written_whole(name) as path, open(path, "w", encoding="ascii") as file:
+        file.write(text)
+
+
+WORKS: dict[str, Callable[[Session, argparse.Namespace], str]] = {
+    "accumulation": _accumulation,
+    "above": _above,
+    "streams": _streams,
+    "catchments": _catchments,
+    "flooded": _flooded,
+    "path": _path,
+    "reservoir": _reservoir,
+    "edit": _edit,
+}
+
+
+if __name__ == "__main__":
+    sys.exit(main())

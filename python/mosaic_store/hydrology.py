@@ -1,0 +1,239 @@
+"""What planners of culverts, reservoirs and floods ask of a window: storage behind a dam, depths, heights above streams.
+
+Heights and levels are metres, areas square metres, volumes cubic metres; cells are as wide as their latitude makes them.
+They need numpy.
+"""
+
+from __future__ import annotations
+
+import heapq
+from collections.abc import Sequence
+from dataclasses import dataclass
+from typing import TYPE_CHECKING, Any
+
+from .errors import BadArgument
+from .lattice import VOID, Point, Run, Window
+from .network import Network
+from .rasters import STEPS, heights_of
+from .samples import needed_numpy
+from .session import Session
+from .view import lines
+
+if TYPE_CHECKING:
+    import numpy
+
+    Array = numpy.ndarray[Any, Any]
+
+
+@dataclass(frozen=True)
+class Stage:
+    """A reservoir that is filled to a level."""
+
+    level: int
+    """In metres."""
+    area: float
+    """Of its surface, in square metres."""
+    volume: float
+    """In cubic metres."""
+
+
+@dataclass(frozen=True)
+class Reservoir:
+    """What a dam holds back."""
+
+    stages: list[Stage]
+    """From the lowest point before the dam, a metre at a time, to the level at which it spills."""
+    spills_at: int
+    """The filled level before the dam, in metres: as high as water can stand there."""
+    depths: Array
+    """Of each point of the window the depth of the full reservoir in metres, int32; 0 outside it."""
+
+
+def reservoir(session: Session, network: Network, dam: Sequence[Point], crest: int, before: Point) -> Reservoir:
+    """What a dam along a line of corners holds back, with its crest at a height in metres, at a point before it.
+
+    The dam is built in a trial, so that the store is afterwards as it was. The reservoir has to lie in the window.
+    """
+    line = lines.points_along(dam)
+    with session.trial():
+        for part in lines.commands(line):
+            session.wall(crest, part)
+        spills_at = session.fill(*before)
+        heights = heights_of(session, network.window)
+    # What is reached at the level of the sill alone lies beyond it, and is no part of the reservoir.
+    reached = _reached(heights.samples, network.cell(before), spills_at - 1)
+    inside = reached < spills_at
+    if inside[[0, -1]].any() or inside[:, [0, -1]].any():
+        raise BadArgument("the reservoir reaches the window's edge: take a larger window")
+    numpy = needed_numpy()
+    depths = numpy.where(inside, spills_at - heights.samples.astype(numpy.int32), 0)
+    return Reservoir(_stages(network, heights.samples, reached, spills_at), spills_at, depths)
+
+
+_FAR = 1 << 20
+
+
+def _reached(samples: Array, start: int, most: int) -> Array:
+    """Of each point the level at which water from a point comes to it: the least crest on the way, where that is at most
+    `most`; more elsewhere. By the lowest first, as Priority-Flood (Barnes, Lehman and Mulla 2014)."""
+    numpy = needed_numpy()
+    width = samples.shape[1] + 2
+    heights = numpy.pad(numpy.where(samples == VOID, _FAR, samples.astype(numpy.int64)), 1, constant_values=_FAR).ravel()
+    reached = numpy.full(heights.size, _FAR, numpy.int64)
+    row, column = divmod(start, samples.shape[1])
+    first = (row + 1) * width + column + 1
+    reached[first] = heights[first]
+    waiting = [(int(heights[first]), first)]
+    steps = [east - north * width for north, east in STEPS]
+    while waiting:
+        level, at = heapq.heappop(waiting)
+        for step in steps:
+            onward = max(level, int(heights[at + step]))
+            if onward <= most and onward < reached[at + step]:
+                reached[at + step] = onward
+                heapq.heappush(waiting, (onward, at + step))
+    return reached.reshape(-1, width)[1:-1, 1:-1]
+
+
+def _stages(network: Network, samples: Array, reached: Array, spills_at: int) -> list[Stage]:
+    numpy = needed_numpy()
+    inside = reached < spills_at
+    areas = numpy.broadcast_to(network.cell_areas(), samples.shape)[inside]
+    levels, heights = reached[inside], samples[inside].astype(numpy.int64)
+    lowest = int(heights.min(initial=spills_at))
+    stages = []
+    for level in range(lowest, spills_at + 1):
+        wet = levels <= level
+        depths = numpy.maximum(level - heights[wet], 0)
+        stages.append(Stage(level, float(areas[wet][depths > 0].sum()), float((depths * areas[wet]).sum())))
+    return stages
+
+
+def heights_above_stream(network: Network, threshold: int) -> Array:
+    """Of each ground point how far its filled level lies above that of the first stream on its flow path, in metres: int32.
+
+    A stream is what `threshold` points and more drain through; -1 where a path leaves the window before one. The height
+    above the nearest drainage (Nobre and others 2011): where it is small, a flood of the stream comes first.
+    """
+    numpy = needed_numpy()
+    nearest = network.nearest_stream(threshold)
+    levels = network.levels.ravel()
+    return numpy.where(nearest >= 0, network.levels - levels[numpy.maximum(nearest, 0)], -1).astype(numpy.int32)
+
+
+@dataclass(frozen=True)
+class PathFigures:
+    """The longest flow path to an outlet, and how fast a storm comes down it."""
+
+    points: list[Point]
+    length: float
+    """In metres."""
+    fall: int
+    """From its head to the outlet, by heights, in metres."""
+    minutes: float
+    """The time of concentration after Kirpich (1940); infinite where the path doesn't fall."""
+
+    @property
+    def slope(self) -> float:
+        """Metres of fall a metre of length."""
+        return self.fall / self.length if self.length else 0.0
+
+
+def longest_path(network: Network, outlet: Point) -> PathFigures:
+    """The longest flow path in the window that ends at an outlet, with its slope and its time of concentration."""
+    points = network.longest_path(outlet)
+    length = float(network.longest_lengths.ravel()[network.cell(outlet)])
+    samples = network.heights.samples.ravel()
+    fall = int(samples[network.cell(points[0])]) - int(samples[network.cell(outlet)])
+    minutes = 0.0195 * length**0.77 * (fall / length) ** -0.385 if length and fall > 0 else float("inf") if length else 0.0
+    return PathFigures(points, length, fall, minutes)
+
+
+@dataclass(frozen=True)
+class Earthwork:
+    """What an edit digs and heaps."""
+
+    cut: float
+    """Cubic metres that are taken away."""
+    fill: float
+    """Cubic metres that are heaped up."""
+
+
+def earthwork(network: Network, session: Session) -> Earthwork:
+    """The cut and the fill between a network's heights and those of the store now, in its window."""
+    numpy = needed_numpy()
+    now = heights_of(session, network.window)
+    both = network.heights.ground & now.ground
+    change = numpy.where(both, now.samples.astype(numpy.int64) - network.heights.samples, 0) * network.cell_areas()
+    return Earthwork(float(-change[change < 0].sum()), float(change[change > 0].sum()))
+
+
+def runs_of(mask: Array, window: Window) -> list[Run]:
+    """The points of a mask of a window as maximal runs, from the north, then from the west."""
+    numpy = needed_numpy()
+    padded = numpy.pad(mask.astype(numpy.int8), ((0, 0), (1, 1)))
+    rows, firsts = numpy.nonzero(numpy.diff(padded, axis=1) == 1)
+    _, ends = numpy.nonzero(numpy.diff(padded, axis=1) == -1)
+    ys, xs = window.y1 - rows, window.x0 + firsts
+    return [Run(y, first, first + last - at - 1) for y, first, at, last in zip(ys.tolist(), xs.tolist(), firsts.tolist(), ends.tolist())]
+
+
+def widened(points: Sequence[Point], width: int) -> list[Point]:
+    """The points of a line, and those at most (width - 1) // 2 steps from them each way, each once."""
+    if width < 1 or width % 2 == 0:
+        raise BadArgument("a width is an odd number of points")
+    reach = range(-(width // 2), width // 2 + 1)
+    return list(dict.fromkeys(Point(y + north, x + east) for y, x in points for north in reach for east in reach))
+
+
+def filled_voids(session: Session, window: Window, most: int = 10_000) -> int:
+    """Gives each void of a window the mean of the heights on its rim, by how near these are, and answers how many it gave.
+
+    Of each part of voids that hangs together; one that reaches the window's edge, or has more than `most` points, is left.
+    """
+    heights = heights_of(session, window)
+    numpy = needed_numpy()
+    void = heights.held & (heights.samples == VOID)
+    done = 0
+    for part in _parts(void):
+        rows, columns = numpy.divmod(part, window.width)
+        at_edge = ((rows == 0) | (rows == window.height - 1) | (columns == 0) | (columns == window.width - 1)).any()
+        if at_edge or len(part) > most:
+            continue
+        for row, column, height in zip(rows.tolist(), columns.tolist(), _interpolated(heights.samples, rows, columns)):
+            y, x = window.y1 - row, window.x0 + column
+            session.patch(y, x, y, x, height)
+            done += 1
+    return done
+
+
+def _parts(mask: Array) -> list[Array]:
+    """The cells of a mask, part by part as they hang together, diagonals included."""
+    numpy = needed_numpy()
+    width = mask.shape[1]
+    left = set(numpy.flatnonzero(mask).tolist())
+    parts = []
+    while left:
+        part = [left.pop()]
+        for cell in part:
+            column = cell % width
+            for north, east in STEPS:
+                beside = cell - north * width + east
+                if 0 <= column + east < width and beside in left:
+                    left.discard(beside)
+                    part.append(beside)
+        parts.append(numpy.array(part))
+    return parts
+
+
+def _interpolated(samples: Array, rows: Array, columns: Array) -> list[int]:
+    """Heights for voids: of the ground around them, weighted by the inverse square of the distance."""
+    numpy = needed_numpy()
+    near = {(r + north, c + east) for r, c in zip(rows.tolist(), columns.tolist()) for north, east in STEPS}
+    rim = [(r, c) for r, c in sorted(near) if samples[r, c] != VOID]
+    if not rim:
+        return []
+    rim_rows, rim_columns = numpy.array(rim).T
+    values = samples[rim_rows, rim_columns].astype(float)
+    distances = (rows[:, None] - rim_rows) ** 2 + (columns[:, None] - rim_columns) ** 2
+    return [round(height) for height in ((values / distances).sum(1) / (1 / distances).sum(1)).tolist()]

@@ -1,0 +1,312 @@
+"""The drainage network of a window: how many points drain through each, streams with their order, catchments.
+
+Arrays have the window's shape, the north row first. A cell is a point's; it is as wide as its latitude makes it, so areas
+are in square kilometres of the sphere. They need numpy.
+"""
+
+from __future__ import annotations
+
+import functools
+from collections.abc import Iterator, Mapping, Sequence
+from dataclasses import dataclass
+from typing import TYPE_CHECKING, Any
+
+from .directions import directions_of
+from .errors import BadArgument
+from .lattice import METRES_A_DEGREE, Direction, Point, Window
+from .questions import FlowDirection, WatershedOf
+from .rasters import STEPS, Heights, Told, heights_of, levels_of
+from .samples import needed_numpy
+from .session import Session
+
+if TYPE_CHECKING:
+    import numpy
+
+    Array = numpy.ndarray[Any, Any]
+
+NOWHERE = -1
+"""Stands for no cell: water leaves the window, or there is no ground."""
+
+
+@dataclass(frozen=True)
+class Network:
+    """Where water goes in a window. Cells are numbered by rows from the north-west."""
+
+    heights: Heights
+    levels: Array
+    """Filled levels in metres, int32; -32768 where there is no ground."""
+    codes: Array
+    """Direction codes, uint8; 255 where there is no ground."""
+    receivers: Array
+    """Of each cell the one that it drains to, int64 of shape (cells,); -1 where water leaves the window."""
+    ranks: tuple[Array, ...]
+    """All ground cells, such that each comes in an earlier part than the cell that it drains to."""
+    entering: Mapping[int, int]
+    """How many points from outside the window drain into a cell at once, by cell; only cells with any."""
+
+    @property
+    def window(self) -> Window:
+        return self.heights.window
+
+    @property
+    def shape(self) -> tuple[int, int]:
+        """Rows and columns."""
+        return self.window.height, self.window.width
+
+    def cell(self, point: Point) -> int:
+        """The cell of a point. BadArgument where the window doesn't hold it."""
+        window = self.window
+        if not (window.y0 <= point[0] <= window.y1 and window.x0 <= point[1] <= window.x1):
+            raise BadArgument(f"the point {point[0]} {point[1]} lies off the window")
+        return (window.y1 - point[0]) * window.width + point[1] - window.x0
+
+    def point(self, cell: int) -> Point:
+        """The point of a cell."""
+        row, column = divmod(int(cell), self.window.width)
+        return Point(self.window.y1 - row, self.window.x0 + column)
+
+    def cell_areas(self) -> Array:
+        """The area of each cell in square metres, float64 of shape (rows, 1)."""
+        numpy = needed_numpy()
+        length = METRES_A_DEGREE / (self.heights.side - 1)
+        latitudes = numpy.radians(self.heights.ys / (self.heights.side - 1))
+        return (length * length * numpy.cos(latitudes))[:, None]
+
+    def step_lengths(self) -> Array:
+        """How long the step out of each cell is in metres, float64; 0 where water leaves the mosaic there."""
+        numpy = needed_numpy()
+        length = METRES_A_DEGREE / (self.heights.side - 1)
+        widths = (length * numpy.cos(numpy.radians(self.heights.ys / (self.heights.side - 1))))[:, None]
+        lengths = numpy.zeros(self.shape)
+        for number, (north, east) in enumerate(STEPS):
+            step = numpy.hypot(north * length, east * widths)
+            lengths = numpy.where(self.codes == 1 << number, step, lengths)
+        return lengths
+
+    @functools.cached_property
+    def counts(self) -> Array:
+        """Of each point how many points drain through it, itself among them: int64; 0 where there is no ground.
+
+        It is the number of cells of the point's watershed, also where that reaches beyond the window.
+        """
+        numpy = needed_numpy()
+        counts = self.heights.ground.astype(numpy.int64).ravel()
+        for cell, count in self.entering.items():
+            counts[cell] += count
+        return self._summed(counts).reshape(self.shape)
+
+    @functools.cached_property
+    def drained_area(self) -> Array:
+        """Of each point the area that drains through it, in km², float64.
+
+        What enters from outside the window counts with the area of the cell where it enters.
+        """
+        numpy = needed_numpy()
+        areas = numpy.where(self.heights.ground, self.cell_areas(), 0.0).ravel()
+        widest = numpy.broadcast_to(self.cell_areas(), self.shape).ravel()
+        for cell, count in self.entering.items():
+            areas[cell] += count * widest[cell]
+        return self._summed(areas).reshape(self.shape) / 1e6
+
+    def catchments(self, outlets: Sequence[Point]) -> Array:
+        """Of each point the first of some outlets that its flow path comes to, by number: int32; -1 where it comes to none.
+
+        So catchments are nested, and no point is in two.
+        """
+        numpy = needed_numpy()
+        labels = numpy.full(self.receivers.size + 1, NOWHERE, numpy.int32)
+        own = numpy.full(self.receivers.size, NOWHERE, numpy.int32)
+        for number, outlet in reversed(list(enumerate(outlets))):
+            own[self.cell(outlet)] = number
+        for part in reversed(self.ranks):
+            labels[part] = numpy.where(own[part] != NOWHERE, own[part], labels[self.receivers[part]])
+        return labels[:-1].reshape(self.shape)
+
+    def snapped(self, point: Point, reach: int, threshold: int) -> Point:
+        """Of the points within `reach` steps of a point that `threshold` points and more drain through, the nearest.
+
+        Of several the one that most drain through; the point itself where there is none.
+        """
+        counts = self.counts.ravel()
+        row, column = divmod(self.cell(point), self.window.width)
+        rows = range(max(0, row - reach), min(self.window.height, row + reach + 1))
+        columns = range(max(0, column - reach), min(self.window.width, column + reach + 1))
+        near = [(max(abs(r - row), abs(c - column)), -counts[r * self.window.width + c], r * self.window.width + c) for r in rows for c in columns]
+        found = min((place for place in near if -place[1] >= threshold), default=None)
+        return point if found is None else self.point(found[2])
+
+    @functools.cached_property
+    def longest_lengths(self) -> Array:
+        """Of each point the length of the longest flow path in the window that ends there, in metres: float64."""
+        numpy = needed_numpy()
+        steps = self.step_lengths().ravel()
+        lengths = numpy.zeros(self.receivers.size)
+        for part in self.ranks:
+            onward = part[self.receivers[part] != NOWHERE]
+            numpy.maximum.at(lengths, self.receivers[onward], lengths[onward] + steps[onward])
+        return lengths.reshape(self.shape)
+
+    def longest_path(self, outlet: Point) -> list[Point]:
+        """The longest flow path in the window that ends at a point, from its head."""
+        numpy = needed_numpy()
+        lengths, steps = self.longest_lengths.ravel(), self.step_lengths().ravel()
+        donors = numpy.argsort(self.receivers, kind="stable")
+        first = numpy.searchsorted(self.receivers[donors], numpy.arange(self.receivers.size + 1))
+        cell = self.cell(outlet)
+        path = [cell]
+        while (above := donors[first[cell] : first[cell + 1]]).size:
+            cell = int(above[numpy.argmax(lengths[above] + steps[above])])
+            path.append(cell)
+        return [self.point(cell) for cell in reversed(path)]
+
+    def nearest_stream(self, threshold: int) -> Array:
+        """Of each ground point the cell of the first point on its flow path that `threshold` points drain through: int64.
+
+        -1 where its path leaves the window before one.
+        """
+        numpy = needed_numpy()
+        is_stream = (self.counts >= threshold).ravel()
+        nearest = numpy.full(self.receivers.size + 1, NOWHERE, numpy.int64)
+        for part in reversed(self.ranks):
+            nearest[part] = numpy.where(is_stream[part], part, nearest[self.receivers[part]])
+        return nearest[:-1].reshape(self.shape)
+
+    def _summed(self, values: Array) -> Array:
+        """The sums of values over all that drains through each cell."""
+        numpy = needed_numpy()
+        sums = values.copy()
+        for part in self.ranks:
+            onward = part[self.receivers[part] != NOWHERE]
+            numpy.add.at(sums, self.receivers[onward], sums[onward])
+        return sums
+
+
+def network_of(session: Session, window: Window, told: Told | None = None) -> Network:
+    """The network of a window of a store. What drains into the window from outside is asked for where it enters."""
+    heights = heights_of(session, window)
+    levels = levels_of(session, heights, told)
+    codes = directions_of(session, heights, told)
+    receivers = _receivers(codes)
+    return Network(heights, levels, codes, receivers, tuple(_ranks(receivers, heights.ground)), _entering(session, window))
+
+
+def _receivers(codes: Array) -> Array:
+    numpy = needed_numpy()
+    rows, columns = codes.shape
+    receivers = numpy.full(codes.shape, NOWHERE, numpy.int64)
+    for number, (north, east) in enumerate(STEPS):
+        row, column = numpy.nonzero(codes == 1 << number)
+        to_row, to_column = row - north, column + east
+        inside = (0 <= to_row) & (to_row < rows) & (0 <= to_column) & (to_column < columns)
+        receivers[row[inside], column[inside]] = to_row[inside] * columns + to_column[inside]
+    return receivers.ravel()
+
+
+def _ranks(receivers: Array, ground: Array) -> Iterator[Array]:
+    numpy = needed_numpy()
+    onward = receivers[receivers != NOWHERE]
+    donors = numpy.bincount(onward, minlength=receivers.size)
+    part = numpy.flatnonzero(ground.ravel() & (donors == 0))
+    while part.size:
+        yield part
+        reached, counts = numpy.unique(receivers[part][receivers[part] != NOWHERE], return_counts=True)
+        donors[reached] -= counts
+        part = reached[donors[reached] == 0]
+
+
+def _entering(session: Session, window: Window) -> dict[int, int]:
+    """How many points drain into each cell of a window from points outside that lie beside it."""
+    ring = list(_around(window))
+    found = session.ask_many(FlowDirection(*point) for point in ring)
+    inward = [(point, at) for point, at in zip(ring, map(_led, ring, found)) if at is not None and _is_in(window, at)]
+    sheds = session.ask_many(WatershedOf(*point) for point, _ in inward)
+    counts: dict[int, int] = {}
+    for (_, at), shed in zip(inward, sheds):
+        if isinstance(shed, Exception):
+            raise shed
+        cell = (window.y1 - at.y) * window.width + at.x - window.x0
+        counts[cell] = counts.get(cell, 0) + shed.cells
+    return counts
+
+
+def _around(window: Window) -> Iterator[Point]:
+    """The points around a window."""
+    for x in range(window.x0 - 1, window.x1 + 2):
+        yield Point(window.y1 + 1, x)
+        yield Point(window.y0 - 1, x)
+    for y in range(window.y0, window.y1 + 1):
+        yield Point(y, window.x0 - 1)
+        yield Point(y, window.x1 + 1)
+
+
+def _led(point: Point, found: object) -> Point | None:
+    """The point that a direction leads to; None where there is none."""
+    if not isinstance(found, Direction) or found is Direction.OFF:
+        return None
+    north, east = found.step
+    return Point(point.y + north, point.x + east)
+
+
+def _is_in(window: Window, point: Point) -> bool:
+    return window.y0 <= point.y <= window.y1 and window.x0 <= point.x <= window.x1
+
+
+@dataclass(frozen=True)
+class Reach:
+    """A part of a stream, from its source or a confluence to the next confluence or its end."""
+
+    points: list[Point]
+    """From above; the last is the confluence or the end."""
+    order: int
+    """Its order after Strahler: 1 from a source, one more where two of the same order meet."""
+    length: float
+    """In metres."""
+    drained: int
+    """How many points drain through its last own point."""
+
+
+def streams(network: Network, threshold: int) -> list[Reach]:
+    """The streams of a window: the points that `threshold` points and more drain through, reach by reach, from above."""
+    numpy = needed_numpy()
+    if threshold < 1:
+        raise BadArgument("a stream begins where 1 point and more drains through")
+    counts = network.counts.ravel()
+    is_stream = counts >= threshold
+    receivers, lengths = network.receivers, network.step_lengths().ravel()
+    ordered = numpy.concatenate([part[is_stream[part]] for part in network.ranks] or [numpy.empty(0, numpy.int64)]).tolist()
+    above: dict[int, list[_Open]] = {}
+    reaches: list[Reach] = []
+    for cell in ordered:
+        met = above.pop(cell, [])
+        stream = met[0] if len(met) == 1 else _Open.at(cell, met)
+        if len(met) > 1:
+            reaches += [part.ended(network, cell, int(counts[part.cells[-1]])) for part in met]
+        if len(met) == 1:
+            stream.cells.append(cell)
+        to = int(receivers[cell])
+        stream.length += float(lengths[cell])
+        if to == NOWHERE:
+            reaches.append(stream.ended(network, None, int(counts[cell])))
+        else:
+            above.setdefault(to, []).append(stream)
+    return reaches
+
+
+@dataclass
+class _Open:
+    """A reach whose end isn't found yet."""
+
+    cells: list[int]
+    order: int
+    length: float
+
+    @staticmethod
+    def at(cell: int, met: Sequence[_Open]) -> _Open:
+        """The reach that begins at a source, or where others met."""
+        orders = sorted((stream.order for stream in met), reverse=True)
+        order = 1 if not orders else orders[0] + (len(orders) > 1 and orders[0] == orders[1])
+        return _Open([cell], order, 0.0)
+
+    def ended(self, network: Network, confluence: int | None, drained: int) -> Reach:
+        cells = self.cells if confluence is None else [*self.cells, confluence]
+        return Reach([network.point(cell) for cell in cells], self.order, self.length, drained)

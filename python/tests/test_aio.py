@@ -1,0 +1,106 @@
+"""The session for asyncio: the same answers, many readers, and an event loop that goes on meanwhile."""
+
+import asyncio
+import time
+import unittest
+
+from mosaic_store import BadArgument, aio, errors, open_store, questions
+
+from .support import PROGRAM, InFolder
+
+POINTS = [(y, x) for y in range(21) for x in range(21)]
+
+
+class Awaited(InFolder, unittest.IsolatedAsyncioTestCase):
+    def setUp(self):
+        super().setUp()
+        self.path = self.store(11)
+        with open_store(self.path, PROGRAM) as store:
+            asked = [questions.Fill(*point) for point in POINTS]
+            self.wanted = [str(answer) for answer in store.ask_many(asked)]
+
+    async def test_every_method_answers_as_the_other_session_does(self):
+        async with aio.open_store(self.path, PROGRAM) as store:
+            y, x = store.point_of(0.5, 0.5)
+            self.assertEqual(store.degrees_of(y, x), (0.5, 0.5))
+            answers = [
+                await store.elevation(y, x),
+                await store.fill(y, x),
+                await store.direction(y, x),
+                await store.trace(y, x),
+                await store.watershed(y, x),
+                await store.tiles(),
+                await store.export("N00E000"),
+            ]
+            counts = [
+                await store.wall(900, [(y, x)]),
+                await store.burn(3, [(y, x)]),
+                await store.sink(y, x),
+                await store.unsink(y, x),
+                await store.remove("N00E000"),
+                await store.import_tile("N00E000", answers[-1]),
+                await store.count(),
+            ]
+            self.assertEqual(counts, [5, 6, 7, 8, 9, 10, 10])
+            self.assertEqual(await store.sinks(), [])
+            self.assertEqual(await store.backup(self.folder / "copy"), 10)
+            with self.assertRaises(errors.Outside):
+                await store.fill(99, 99)
+        with open_store(self.folder / "copy", PROGRAM) as store:
+            names = ("elevation", "fill", "direction", "trace", "watershed")
+            same = [*(getattr(store, name)(y, x) for name in names), store.tiles(), store.export("N00E000")]
+            self.assertEqual(sorted(map(str, answers)), sorted(map(str, same)))
+
+    async def test_many_readers_get_each_its_own_answer(self):
+        async with aio.open_store(self.path, PROGRAM) as store, store.readers() as readers:
+            asked = [readers.ask(questions.Fill(*point)) for point in POINTS]
+            answers = await asyncio.gather(*asked, return_exceptions=True)
+            self.assertEqual([str(answer) for answer in answers], self.wanted)
+            with self.assertRaises(BadArgument):
+                await readers.ask(questions.Sink(1, 1))
+            with self.assertRaises(BadArgument):
+                await readers.ask(questions.Fill(10**12, 1))
+            cancelled = asyncio.create_task(readers.ask(questions.Fill(1, 1)))
+            await asyncio.sleep(0)
+            cancelled.cancel()
+            self.assertEqual(str(await readers.ask(questions.Fill(*POINTS[0]))), self.wanted[0])
+
+    async def test_a_trial_is_taken_back(self):
+        async with aio.open_store(self.path, PROGRAM) as store:
+            before = [await store.export(name) for name in await store.tiles()]
+            async with store.trial():
+                await store.wall(900, [(5, 5), (10, 10)])
+                self.assertEqual(await store.elevation(10, 10), 900)
+            self.assertEqual([await store.export(name) for name in await store.tiles()], before)
+
+    async def test_the_loop_goes_on_while_the_program_works(self):
+        slow = self.script("sys.stdin.readline(); print('OK 0', flush=True)\nsys.stdin.readline(); time.sleep(1); print('OK 7', flush=True)")
+        async with aio.open_store(self.path, slow) as store:
+            begun, ticks = time.monotonic(), 0
+            answer = asyncio.create_task(store.fill(1, 1))
+            while not answer.done():
+                await asyncio.sleep(0.02)
+                ticks += 1
+            self.assertEqual((await answer, ticks > 5, time.monotonic() - begun > 0.9), (7, True, True))
+
+    async def test_a_store_whose_opening_is_given_up_is_free_again(self):
+        slow = self.script("open('begun', 'w').close(); time.sleep(0.5); sys.stdin.readline(); print('OK 0', flush=True); sys.stdin.read(); open('ended', 'w').close()")
+        slow_here = self.script(f"os.chdir({str(self.folder)!r}); os.execv({slow!r}, [{slow!r}])")
+        with self.assertRaises(asyncio.TimeoutError):
+            async with asyncio.timeout(0.2):
+                await aio.open_store(self.path, slow_here).__aenter__()
+        until = time.monotonic() + 30
+        while not (self.folder / "ended").exists():
+            self.assertLess(time.monotonic(), until)
+            await asyncio.sleep(0.05)
+
+    async def test_what_cannot_be_opened(self):
+        with self.assertRaises(errors.CannotOpen):
+            async with aio.open_store(self.folder / "none", PROGRAM):
+                pass
+        with self.assertRaises(BadArgument):
+            await aio.open_store(self.path, PROGRAM).count()
+
+
+if __name__ == "__main__":
+    unittest.main()

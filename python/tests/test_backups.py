@@ -1,0 +1,42 @@
+"""mosaic-backup and mosaic-info: a store's copy is the store; what it holds is told in lines."""
+
+import os
+import unittest
+
+from mosaic_store import BadArgument, StoreExists, memory_table, open_store
+
+from .support import PROGRAM, InFolder
+
+SIDE = 11
+
+
+class Backups(InFolder):
+    def test_a_copy_is_the_store(self) -> None:
+        path, copy = self.store(SIDE), str(self.folder / "copy")
+        with open_store(path, PROGRAM) as session:
+            session.sink(7, 7)
+            self.assertEqual(session.backup(copy), session.count())
+            session.wall(900, [(5, 5)])
+            with self.assertRaises(StoreExists):
+                session.backup(copy)
+        with open_store(path, PROGRAM) as one, open_store(copy, PROGRAM) as other:
+            self.assertEqual((one.tiles(), one.sinks(), one.count() - 1), (other.tiles(), other.sinks(), other.count()))
+            self.assertEqual((one.elevation(5, 5), one.export("N01E001")), (900, other.export("N01E001")))
+        self.assertEqual(os.stat(path).st_size, os.stat(copy).st_size)
+        with memory_table(SIDE, 1, PROGRAM) as table, self.assertRaises(BadArgument):
+            table.backup(str(self.folder / "table"))
+
+    def test_commands(self) -> None:
+        path = self.store(SIDE)
+        done = self.command("backup", path, "copy")
+        self.assertEqual((done.returncode, done.stderr), (0, ""))
+        self.assertIn("4 tiles, count 4", done.stdout)
+        self.refused(self.command("backup", path, "copy"), "is there already")
+        self.refused(self.command("backup", "none", "other"), "no such file")
+        told = self.command("info", "copy").stdout
+        for line in ("side 11 samples", "tiles 4 of 4: 0 fresh, 4 stale", "count 4, ", "bounds 0 0 to 2 2 degrees"):
+            self.assertIn(line, told)
+
+
+if __name__ == "__main__":
+    unittest.main()

@@ -1,0 +1,174 @@
+"""Networks of windows, beside the program's own watersheds; reservoirs, heights above streams and voids, worked by hand."""
+
+import json
+import struct
+import unittest
+
+from mosaic_store import Point, Window, memory_table, open_store
+
+from .support import PROGRAM, InFolder, needs
+
+SIDE = 11
+
+
+def valley(side: int) -> bytes:
+    """Ground that falls to the east, two metres a point, and rises by five metres a point from the middle row."""
+    middle = side // 2
+    rows = [200 - 2 * x + 5 * abs(row - middle) for row in range(side) for x in range(side)]
+    return struct.pack(f">{side * side}h", *rows)
+
+
+@needs("numpy")
+class Networks(InFolder):
+    def setUp(self) -> None:
+        super().setUp()
+        self.session = open_store(self.store(SIDE), PROGRAM)
+        self.addCleanup(self.session.close)
+        self.session.sink(7, 7)
+
+    def test_each_point_counts_its_watershed(self) -> None:
+        """Also what comes into a window from outside, and what leaves it and comes back."""
+        from mosaic_store.network import network_of
+
+        for window in (Window(0, 0, 20, 20), Window(3, 4, 17, 15), Window(9, 9, 12, 12)):
+            network = network_of(self.session, window)
+            found = network.counts
+            for row in range(window.height):
+                for column in range(window.width):
+                    y, x = window.y1 - row, window.x0 + column
+                    height = self.session.elevation(y, x)
+                    wanted = 0 if height is None else self.session.watershed(y, x).cells
+                    self.assertEqual(found[row, column], wanted, (window, y, x))
+
+    def test_catchments_are_nested(self) -> None:
+        from mosaic_store.network import network_of
+
+        network = network_of(self.session, Window(0, 0, 20, 20))
+        path = self.session.trace(*network.point(int(network.counts.argmax())))
+        upstream = self.session.trace(*network.longest_path(path[0])[0])
+        outlets = [path[0], upstream[len(upstream) // 2]]
+        labels = network.catchments(outlets)
+        inner = set(self.session.watershed(*outlets[1]).points())
+        whole = set(self.session.watershed(*outlets[0]).points())
+        found = [{network.point(cell) for cell in (labels.ravel() == number).nonzero()[0]} for number in (0, 1)]
+        self.assertEqual(found, [whole - inner, inner])
+
+    def test_streams_meet_where_they_should(self) -> None:
+        """Each point of a stream is in one reach; a reach's order is one more than that of two equal ones above it."""
+        from mosaic_store.network import network_of, streams
+
+        network = network_of(self.session, Window(0, 0, 20, 20))
+        reaches = streams(network, 5)
+        own = [point for reach in reaches for point in reach.points[: -1 if self.goes_on(network, reach) else None]]
+        self.assertEqual(len(own), len(set(own)))
+        self.assertEqual(set(own), {network.point(cell) for cell in (network.counts.ravel() >= 5).nonzero()[0]})
+        for reach in reaches:
+            above = sorted((other.order for other in reaches if other.points[-1] == reach.points[0] and other is not reach), reverse=True)
+            wanted = 1 if not above else above[0] + (above[0] == above[1])
+            self.assertEqual(reach.order, wanted)
+
+    @staticmethod
+    def goes_on(network, reach) -> bool:
+        """Whether the last point of a reach is a confluence, the next reach's first."""
+        return bool(network.receivers[network.cell(reach.points[-1])] != -1)
+
+
+@needs("numpy")
+class Commands(InFolder):
+    """Each work writes a file that others read, and tells what it found in a line."""
+
+    def hydrology(self, *words: str):
+        done = self.command("hydrology", *words)
+        self.assertEqual((done.returncode, done.stderr), (0, ""))
+        return done.stdout
+
+    def features(self, name: str):
+        return json.loads((self.folder / name).read_text())["features"]
+
+    def test_files_of_each_work(self) -> None:
+        path = self.store(SIDE)
+        self.assertIn("drain through one", self.hydrology(path, "accumulation", "points.asc"))
+        self.assertEqual(len((self.folder / "points.asc").read_text().splitlines()), 6 + 21)
+        self.assertIn("above a stream", self.hydrology("--threshold", "20", path, "above", "hand.asc"))
+        self.assertIn("reaches", self.hydrology(path, "streams", "streams.geojson", "--threshold", "20"))
+        orders = {feature["properties"]["order"] for feature in self.features("streams.geojson")}
+        self.assertLessEqual(orders, {1, 2, 3})
+        (self.folder / "outlets.csv").write_text("name,y,x\nford,5,5\nculvert,7,12\n")
+        self.hydrology(path, "catchments", "areas.geojson", "--outlets", "outlets.csv")
+        with open_store(path, PROGRAM) as store:
+            for feature, outlet in zip(self.features("areas.geojson"), ((5, 5), (7, 12))):
+                self.assertEqual(feature["properties"]["drained_points"], store.watershed(*outlet).cells)
+        self.assertEqual([feature["properties"]["name"] for feature in self.features("areas.geojson")], ["ford", "culvert"])
+        self.hydrology(path, "flooded", "floods.geojson", "--depths", "1", "5")
+        self.hydrology(path, "path", "path.geojson", "--points", "--at", "5", "5")
+        self.assertEqual(self.features("path.geojson")[0]["properties"]["what"], "longest path")
+
+    def test_edits_of_lines(self) -> None:
+        path = self.store(SIDE)
+        road = {"type": "Feature", "properties": {}, "geometry": {"type": "LineString", "coordinates": [[0.2, 0.5], [0.8, 0.5]]}}
+        (self.folder / "road.geojson").write_text(json.dumps({"type": "FeatureCollection", "features": [road]}))
+        self.assertIn("27 points", self.hydrology(path, "edit", "road.geojson", "--wall", "900", "--width", "3"))
+        with open_store(path, PROGRAM) as store:
+            self.assertEqual({store.elevation(y, x) for y in (4, 5, 6) for x in range(1, 10)}, {900})
+
+    def test_bad_input(self) -> None:
+        path = self.store(SIDE)
+        (self.folder / "bad.csv").write_text("name,y\nford,5\n")
+        for words, told in (
+            (("catchments", "x.geojson"), "--outlets"),
+            (("catchments", "x.geojson", "--outlets", "bad.csv"), "no columns"),
+            (("reservoir", "x.csv", "--dam", "1", "1"), "--dam with two places"),
+            (("path", "x.geojson"), "--at"),
+            (("edit", "bad.csv", "--wall", "5"), "not read as GeoJSON"),
+            (("edit", "bad.csv"), "--wall or by --burn"),
+            (("streams", "x.geojson", "--threshold", "0"), "1 point and more"),
+            (("accumulation", "x.png"), ".tif (GeoTIFF) or .asc"),
+        ):
+            with self.subTest(words):
+                self.refused(self.command("hydrology", path, *words), told)
+
+
+@needs("numpy")
+class Planning(unittest.TestCase):
+    def test_a_reservoir_in_a_valley(self) -> None:
+        from mosaic_store.hydrology import reservoir
+        from mosaic_store.network import network_of
+
+        with memory_table(41, 1, PROGRAM) as table:
+            table.import_tile("N00E000", valley(41))
+            network = network_of(table, Window(0, 0, 40, 40))
+            found = reservoir(table, network, [Point(5, 30), Point(35, 30)], 160, Point(20, 29))
+            self.assertEqual(table.elevation(20, 30), 140)
+            areas = network.cell_areas().ravel()
+            height = {(y, x): 200 - 2 * x + 5 * abs(y - 20) for y in range(41) for x in range(30)}
+            for stage in found.stages:
+                wet = {point: stage.level - metres for point, metres in height.items() if metres < stage.level}
+                self.assertAlmostEqual(stage.area, sum(areas[40 - y] for y, _ in wet), delta=1)
+                self.assertAlmostEqual(stage.volume, sum(areas[40 - y] * depth for (y, _), depth in wet.items()), delta=1)
+            self.assertEqual((found.spills_at, found.stages[-1].level, found.depths.max()), (160, 160, 18))
+
+    def test_heights_above_a_stream(self) -> None:
+        from mosaic_store.hydrology import heights_above_stream, longest_path
+        from mosaic_store.network import network_of
+
+        with memory_table(41, 1, PROGRAM) as table:
+            table.import_tile("N00E000", valley(41))
+            network = network_of(table, Window(0, 0, 40, 40))
+            above = heights_above_stream(network, 100)
+            self.assertEqual([above[20 - up, 30] for up in range(4)], [0, 5, 10, 15])
+            figures = longest_path(network, Point(20, 40))
+            self.assertEqual((figures.points[-1], figures.fall), (Point(20, 40), 180))
+
+    def test_voids_are_filled_from_their_rim(self) -> None:
+        from mosaic_store.hydrology import filled_voids
+
+        with memory_table(SIDE, 1, PROGRAM) as table:
+            samples = [50] * SIDE**2
+            samples[3 * SIDE + 3] = samples[3 * SIDE + 4] = samples[0] = -32768
+            table.import_tile("N00E000", struct.pack(f">{SIDE**2}h", *samples))
+            self.assertEqual(filled_voids(table, Window(0, 0, 10, 10)), 2)
+            self.assertEqual([table.elevation(7, 3), table.elevation(7, 4), table.elevation(10, 0)], [50, 50, None])
+
+
+if __name__ == "__main__":
+    unittest.main()
