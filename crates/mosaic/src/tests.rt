@@ -38,10 +38,21 @@ fn run_words(rt: &HostRuntime, words: &[String], input: &[u8]) -> (u8, Vec<u8>) 
     (status, writer.into_inner())
 }
 
-/// Whether the program ends so with these words.
+/// Whether the program ends so with these words. Where it doesn't, standard error says how it ended.
 fn ends(rt: &HostRuntime, words: &[&str], input: &[u8], status: u8, wanted: &[u8]) -> bool {
     let (ended, output) = run(rt, words, input);
-    ended == status && output.as_slice() == wanted
+    let holds = ended == status && output.as_slice() == wanted;
+    if !holds {
+        let text = lossy(rt.alloc(), &output);
+        let _ = eprintln!(rt; "{words:?} ended with status {ended} and wrote {text:?}");
+    }
+    holds
+}
+
+/// The first bytes as text, enough of them to tell what was answered; none where memory is short.
+fn lossy(alloc: Global, bytes: &[u8]) -> String {
+    let count = bytes.len().min(400);
+    String::from_utf8_lossy(alloc, &bytes[..count]).unwrap_or(String::new(alloc))
 }
 
 /// Ends the test where one of these doesn't hold, and says which.
@@ -299,9 +310,7 @@ fn programs(rt: HostRuntime) {
         &["format", "m", "3", "x"],
         &["check", "m", "m"],
     ] {
-        let (status, output) = run(&rt, words, b"");
-        assert_eq!(rt; status, 2);
-        assert!(rt; output.as_slice() == b"mosaic: bad arguments\n".as_slice());
+        assert!(rt; ends(&rt, words, b"", 2, b"mosaic: bad arguments\n"));
     }
 }
 

@@ -1,5 +1,5 @@
 //! What the program answers and writes where one call of its output fails.
-use super::owned;
+use super::{lossy, owned};
 use server::{CheckedWriter, FilePlaces, program};
 use std::io::{self, ErrorKind, Write};
 use std::marker::Brand;
@@ -113,7 +113,7 @@ const ROWS: [Row; 9] = [
 
 #[test]
 fn outputs_that_fail(rt: HostRuntime) -> Result<(), Fail> {
-    for row in &ROWS {
+    for (number, row) in ROWS.iter().enumerate() {
         let words = owned(rt.alloc(), row.words)?;
         let mut reader = row.input;
         let mut writer = CheckedWriter::new(FaultOnceWriter {
@@ -124,8 +124,12 @@ fn outputs_that_fail(rt: HostRuntime) -> Result<(), Fail> {
         let mut places = FilePlaces::<Brand>::new(&rt);
         let status = program(rt.alloc(), &mut places, &words, &mut reader, &mut writer);
         let written = writer.into_inner().taken;
-        assert_eq!(rt; status, row.status);
-        assert!(rt; written.as_slice() == row.written);
+        let holds = status == row.status && written.as_slice() == row.written;
+        assert!(rt;
+            holds,
+            "row {number}: status {status}, {:?}",
+            lossy(rt.alloc(), &written)
+        );
     }
     Ok(())
 }

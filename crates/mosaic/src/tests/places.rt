@@ -2,7 +2,7 @@
 ghost use Rattle.std.specs.Prelude.{◌≡◌, ◌≤◌, [], IfOk};
 ghost use Rattle.disk.specs.Disk.{CountsFault, counted};
 
-use super::owned;
+use super::{lossy, owned};
 use disk::{Disk, Fault};
 use server::{CheckedWriter, Exit, Lengthen, MakeFault, Places, TileFault, carry_out};
 use std::alloc::{AllocError, Global};
@@ -357,10 +357,15 @@ fn subcommands_in_memory(rt: HostRuntime) -> Result<(), Fail> {
         }
         let (status, written) = run_on(rt.alloc(), &mut places, row.words, row.input)?;
         let holds = status == row.status && written.as_slice() == row.written;
-        assert!(rt; holds, "row {number}");
+        assert!(rt;
+            holds,
+            "row {number}: status {status}, {:?}",
+            lossy(rt.alloc(), &written)
+        );
         assert!(rt;
             places.accesses.as_slice() == row.accesses,
-            "accesses of row {number}"
+            "accesses of row {number}: {:?}",
+            lossy(rt.alloc(), &places.accesses)
         );
     }
     Ok(())
@@ -382,7 +387,11 @@ fn faults_of_an_upgrade(rt: HostRuntime) -> Result<(), Fail> {
         } else {
             status == 1 && written.as_slice() == b"ERR 20 Device\n".as_slice()
         };
-        assert!(rt; told, "call {fault}");
+        assert!(rt;
+            told,
+            "call {fault}: status {status}, {:?}",
+            lossy(rt.alloc(), &written)
+        );
     }
     Ok(())
 }
