@@ -67,6 +67,10 @@ impl<D: Disk> Tree<D> {
     ghost use Rattle.cow_tree.specs.Uncommitted.{CommitsNothing, MakesNoCall};
 
     /// Makes an empty store of this format on a disk. A fault before the Ok may leave anything.
+    //
+    // Out of line, since its frame is large: where a caller tests its arguments before it makes room for such a frame, clang
+    // may keep a value of these tests in the register by which it touches the frame's pages.
+    #[inline(never)]
     pub fn format(disk: &mut D, format: Format) -> Result<(), Refusal>
         requires known { IsKnown format.version }
         requires room { sectors_asked format ≤ D.size disk.old }
