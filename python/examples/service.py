@@ -19,8 +19,8 @@ usage: service.py STORE [--port PORT] [--program PROGRAM]
 Questions that wait at the same moment are asked together. A command that was answered is on the drive: where the program
 is killed, the service begins it anew and asks again only what doesn't stand; where the service is killed, start it again.
 A refusal is status 404 where the point has no answer, 503 where the store failed, else 409, with its number and word; what
-can't be read is 400, what is asked of another name than this machine's own is 403, and who sends nothing for a minute is let
-go. Each of these is a line on standard error.
+can't be read is 400, what is asked of another name than this machine's own, or by a page of another site, is 403, and who
+takes longer than a minute for a request is let go. Each of these is a line on standard error.
 """
 
 import argparse
@@ -122,9 +122,11 @@ class Service:
             writer.close()
 
     async def reply(self, method, target, headers, body):
-        # A page of another site may have its own name lead here: what asks by that name isn't answered.
+        # A page of another site may have its own name lead here: what asks by that name isn't answered, nor such a page.
         if headers.get("host", "").rsplit(":", 1)[0] not in OWN_NAMES:
             return 403, {"error": "this service answers to 127.0.0.1 and localhost alone"}
+        if headers.get("origin", f"http://{headers['host']}") != f"http://{headers['host']}":
+            return 403, {"error": "this request comes from a page of another site"}
         try:
             question = self.question(method, target, headers, body)
         except (BadRequest, ValueError, RecursionError) as error:
@@ -194,10 +196,13 @@ async def read_request(reader, writer):
         raise
     first, *rest = head.decode("latin-1").split("\r\n")
     words = first.split(" ")
-    headers = {name.strip().lower(): value.strip() for name, _, value in (line.partition(":") for line in rest if line)}
+    named = [(name.strip().lower(), value.strip()) for name, _, value in (line.partition(":") for line in rest if line)]
+    headers = dict(named)
     length = headers.get("content-length", "0")
-    if len(words) != 3:
+    if len(words) != 3 or not words[2].startswith("HTTP/1."):
         raise BadRequest("this is no request of HTTP")
+    if "transfer-encoding" in headers or [name for name, _ in named].count("content-length") > 1:
+        raise BadRequest("a request tells its length, once")
     longest = LONGEST_TILE if words[1].startswith("/import?") else LONGEST_BODY
     if not (length.isascii() and length.isdecimal() and len(length) < 10 and int(length) <= longest):
         raise BadRequest(f"a request's body has at most {longest} bytes")

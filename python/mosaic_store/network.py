@@ -13,6 +13,7 @@ from typing import TYPE_CHECKING, Any
 
 from .directions import directions_of
 from .errors import BadArgument
+from .geojson import Feature, line_feature
 from .lattice import METRES_A_DEGREE, Direction, Point, Window
 from .questions import FlowDirection, WatershedOf
 from .rasters import STEPS, Heights, Told, heights_of, levels_of
@@ -65,13 +66,6 @@ class Network:
         row, column = divmod(int(cell), self.window.width)
         return Point(self.window.y1 - row, self.window.x0 + column)
 
-    def cell_areas(self) -> Array:
-        """The area of each cell in square metres, float64 of shape (rows, 1)."""
-        numpy = needed_numpy()
-        length = METRES_A_DEGREE / (self.heights.side - 1)
-        latitudes = numpy.radians(self.heights.ys / (self.heights.side - 1))
-        return (length * length * numpy.cos(latitudes))[:, None]
-
     def step_lengths(self) -> Array:
         """How long the step out of each cell is in metres, float64; 0 where water leaves the mosaic there."""
         numpy = needed_numpy()
@@ -102,8 +96,8 @@ class Network:
         What enters from outside the window counts with the area of the cell where it enters.
         """
         numpy = needed_numpy()
-        areas = numpy.where(self.heights.ground, self.cell_areas(), 0.0).ravel()
-        widest = numpy.broadcast_to(self.cell_areas(), self.shape).ravel()
+        areas = numpy.where(self.heights.ground, self.heights.cell_areas(), 0.0).ravel()
+        widest = numpy.broadcast_to(self.heights.cell_areas(), self.shape).ravel()
         for cell, count in self.entering.items():
             areas[cell] += count * widest[cell]
         return self._summed(areas).reshape(self.shape) / 1e6
@@ -290,6 +284,25 @@ def streams(network: Network, threshold: int) -> list[Reach]:
         else:
             above.setdefault(to, []).append(stream)
     return reaches
+
+
+def stream_features(network: Network, threshold: int) -> list[Feature]:
+    """The streams of a window as features, each with its order, its length, and how much drains through its last own point."""
+    areas = network.drained_area.ravel()
+    return [
+        line_feature(
+            reach.points,
+            network.heights.side,
+            {
+                "what": "stream",
+                "order": reach.order,
+                "length_m": round(reach.length, 1),
+                "points": reach.drained,
+                "km2": round(float(areas[network.cell(reach.points[max(0, len(reach.points) - 2)])]), 4),
+            },
+        )
+        for reach in streams(network, threshold)
+    ]
 
 
 @dataclass

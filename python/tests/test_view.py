@@ -4,13 +4,16 @@ from __future__ import annotations
 
 import contextlib
 import http.client
+import importlib.util
 import json
 import os
 import shutil
+import signal
 import subprocess
 import tempfile
 import threading
 import unittest
+import unittest.mock
 import zlib
 from typing import Any, NamedTuple
 
@@ -128,6 +131,11 @@ class Served(unittest.TestCase):
         connection.close()
         return status, told
 
+    def copy(self) -> None:
+        """Has the store copied, as the page does before a trial."""
+        while (told := self.post("copy", {}))["done"] < told["total"]:
+            pass
+
     def post(self, path: str, words: Any) -> dict[str, Any]:
         status, told = self.request("POST", f"/TOKEN/{path}", words)
         self.assertEqual(status, 200, told)
@@ -156,6 +164,10 @@ class Served(unittest.TestCase):
             Request("POST", "/TOKEN/watershed", {"y": 20, "x": 80, "snap": 51}, 400, "0 to 50"),
             Request("POST", "/TOKEN/geojson", {"y": 20, "x": 80, "what": "store"}, 400, "watershed"),
             Request("POST", "/TOKEN/geojson", {"y": 2, "x": 2, "what": "path"}, 409, "no height"),
+            Request("POST", "/TOKEN/streams", {"window": [0, 0, 9, 9], "threshold": 0}, 400, "1 point"),
+            Request("POST", "/TOKEN/streams", {"window": [0, 0, 9], "threshold": 9}, 400, "a window"),
+            Request("POST", "/TOKEN/streams", {"window": [900, 900, 999, 999], "threshold": 9}, 400, "no tile"),
+            Request("POST", "/TOKEN/raster", {"window": [0, 0, 9, 9], "what": "store"}, 400, "a raster holds"),
             Request("POST", "/TOKEN/nothing", {}, 404, "nothing"),
             Request("GET", "/TOKEN/relief/99/0/0.png", None, 400, "no picture"),
             Request("GET", "/TOKEN/favicon.ico", None, 204, ""),
@@ -200,6 +212,7 @@ class Served(unittest.TestCase):
         self.assertEqual((path["geometry"]["coordinates"][0], path["geometry"]["coordinates"][-1]), ([0.25, 0.625], [2.0, 0.5]))
 
     def test_kept_edits_are_undone_the_last_first(self) -> None:
+        self.copy()
         edits = [
             {"kind": "wall", "amount": 190, "line": [[10, 40], [30, 40]]},
             {"kind": "burn", "amount": 5, "line": [[20, 30], [20, 60]]},
@@ -221,6 +234,7 @@ class Served(unittest.TestCase):
         self.assertEqual(json.loads(self.request("GET", "/TOKEN/region")[1])["edits"], [])
 
     def test_a_trial_reaches_the_store_only_when_it_is_kept(self) -> None:
+        self.copy()
         road = {"kind": "wall", "amount": 190, "line": [[10, 40], [30, 40]]}
         told = self.post("try", road)
         self.assertEqual((told["before"]["points"], told["before"]["level"], told["after"]["level"]), (0, 160, 190))
@@ -243,11 +257,50 @@ class Served(unittest.TestCase):
         before = [self.session.export(name) for name in self.session.tiles()]
         with contextlib.closing(Workbench("valley", self.session, lambda: memory_table(SIDE, 4))) as bench:
             for _ in range(2):
+                bench.copy()
                 bench.try_edit(edit)
                 bench.keep()
                 self.assertNotEqual([self.session.export(name) for name in self.session.tiles()], before)
                 bench.undo()
                 self.assertEqual([self.session.export(name) for name in self.session.tiles()], before)
+
+    def test_the_store_is_copied_before_a_trial(self) -> None:
+        """A tile after another, so that others are answered; given up, the copy is gone; where its program ends, it is made anew."""
+        wall = {"kind": "wall", "amount": 190, "line": [[10, 40], [30, 40]]}
+        size = 2 * 2 * SIDE * SIDE
+        self.assertEqual(json.loads(self.request("GET", "/TOKEN/region")[1])["copy"], {"done": 0, "total": 2, "bytes": size})
+        status, told = self.request("POST", "/TOKEN/try", wall)
+        self.assertEqual((status, b"isn't copied" in told), (400, True))
+        with unittest.mock.patch("mosaic_store.view.workbench.SECONDS_AT_ONCE", 1e-9):
+            for done in (1, 2):
+                self.assertEqual(self.post("copy", {}), {"done": done, "total": 2, "bytes": size})
+                self.assertEqual(self.request("POST", "/TOKEN/try", wall)[0], 200 if done == 2 else 400)
+        self.assertEqual(self.request("POST", "/TOKEN/drop", {})[0], 400)  # a trial is under way
+        os.kill(self.bench._copied.pid, signal.SIGKILL)
+        self.post("discard", {})
+        self.assertEqual(self.post("drop", {})["done"], 0)
+        self.copy()
+        os.kill(self.bench._copied.pid, signal.SIGKILL)
+        status, told = self.request("POST", "/TOKEN/try", wall)
+        self.assertEqual((status, b"try again" in told), (400, True))
+        self.copy()
+        self.assertEqual(self.post("try", wall)["after"]["level"], 190)
+
+    def test_the_streams_of_a_window_are_told(self) -> None:
+        features = self.post("streams", {"window": [-9, -9, 999, 999], "threshold": 1000})["features"]
+        last = max(features, key=lambda feature: feature["properties"]["points"])
+        self.assertEqual(last["geometry"]["coordinates"][-1], [2.0, 0.5])
+        self.assertEqual(last["properties"]["points"], self.session.watershed(20, 80).cells)
+
+    @unittest.skipIf(importlib.util.find_spec("rasterio") is None, "rasterio isn't installed")
+    def test_a_window_is_saved_as_a_raster(self) -> None:
+        import rasterio.io
+
+        status, told = self.request("POST", "/TOKEN/raster", {"window": [10, 30, 29, 59], "what": "levels"})
+        self.assertEqual(status, 200, told)
+        with rasterio.io.MemoryFile(told) as memory, memory.open() as file:
+            levels = file.read(1)
+        self.assertEqual((levels.shape, levels[9, 15]), ((20, 30), self.session.fill(20, 45)))
 
     @unittest.skipUnless(shutil.which("chromium"), "chromium isn't installed: apt-get install chromium")
     def test_a_browser_draws_the_map_and_a_trial(self) -> None:
@@ -263,6 +316,7 @@ class Served(unittest.TestCase):
         self.assertEqual(self.session.count(), 2)
 
     def test_a_trial_that_is_refused_leaves_nothing(self) -> None:
+        self.copy()
         line = [[2, x] for x in (70, 2)]
         status, told = self.request("POST", "/TOKEN/try", {"kind": "burn", "amount": 5, "line": line})
         self.assertEqual((status, b"no height" in told), (409, True), told)

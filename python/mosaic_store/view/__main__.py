@@ -9,6 +9,7 @@ import sys
 import webbrowser
 
 from ..commands.frame import DONE, CommandError, Parser, parser, run
+from ..samples import cure_for
 from ..session import memory_table, open_store
 
 NAME = "mosaic-view"
@@ -37,7 +38,7 @@ def _serve(options: argparse.Namespace) -> int:
         from .server import MapServer
         from .workbench import BadRequest, Workbench
     except ImportError as missing:
-        raise CommandError(f"pictures need numpy ({missing}): apt-get install python3-numpy") from None
+        raise CommandError(f"pictures need numpy ({missing}): {cure_for('numpy')}") from None
     with open_store(options.store, options.program, wait=1, restart=True) as session:
         name = pathlib.Path(options.store).name
         try:

@@ -13,7 +13,7 @@ import numpy as np
 from numpy.typing import NDArray
 
 from ..lattice import VOID, Corner, Point, Window, corner_of, corners_of
-from ..rasters import lay
+from ..rasters import Heights, lay
 from ..samples import array_of
 
 Samples = NDArray[np.int16]
@@ -107,6 +107,12 @@ class Region:
         for corner in sorted(self.corners):
             lay(functools.partial(source, corner), corner.window(self.side), ys, xs, heights, held, coarse)
         return heights, held
+
+    def window_of(self, grid: Grid) -> Heights:
+        """The heights on a grid of single points, as questions of a whole window take them."""
+        window = Window(grid.top - grid.rows + 1, grid.left, grid.top, grid.left + grid.columns - 1)
+        samples, held = self.heights(grid)
+        return Heights(window, self.side, 1, grid.ys(), grid.xs(), samples, held, tuple(sorted(self.corners)))
 
     def holders(self, points: Iterable[Point]) -> set[Corner]:
         """The present tiles that hold any of some points."""

@@ -2,16 +2,20 @@
 
 Every path begins with a token that is drawn at each start and told to nobody but whoever started the program, so that no
 page of another site can guess one. Besides, the name that a browser asked for has to be the loopback's, so that no other
-name can be pointed at it, and what changes something has to come as JSON with a header that only this page sends.
+name can be pointed at it, a page's origin has to be this server, and what changes something has to come as JSON with a header
+that only this page sends. Whoever takes longer than a minute for a request is let go.
 """
 
 from __future__ import annotations
 
+import contextlib
 import functools
 import json
 import re
 import secrets
+import socket
 import sys
+import threading
 from collections.abc import Callable, Mapping
 from http import HTTPStatus
 from http.server import BaseHTTPRequestHandler, ThreadingHTTPServer
@@ -19,7 +23,7 @@ from importlib.resources import files
 from typing import Any
 from urllib.parse import urlsplit
 
-from ..errors import Refusal
+from ..errors import BadArgument, Refusal
 from .workbench import BadRequest, Workbench
 
 MOST_BYTES = 1 << 16
@@ -58,6 +62,10 @@ class MapServer(ThreadingHTTPServer):
         """What a browser on this machine may call this server."""
         return {f"{name}:{self.server_port}" for name in ("127.0.0.1", "localhost")}
 
+    def origins(self) -> set[str]:
+        """Where a page of this server comes from."""
+        return {f"http://{name}" for name in self.names()}
+
 
 class _Handler(BaseHTTPRequestHandler):
     server: MapServer
@@ -66,9 +74,27 @@ class _Handler(BaseHTTPRequestHandler):
     sys_version = ""
     timeout = 60
 
+    def handle_one_request(self) -> None:
+        """One request, which has to be there within the timeout as a whole: else who sends a byte now and then stays for ever."""
+        self._late = threading.Timer(self.timeout, self._let_go)
+        self._late.daemon = True
+        self._late.start()
+        try:
+            super().handle_one_request()
+        finally:
+            self._late.cancel()
+
+    def _let_go(self) -> None:
+        with contextlib.suppress(OSError):
+            self.connection.shutdown(socket.SHUT_RD)
+
     def do_GET(self) -> None:
         path = self._path()
+        self._late.cancel()
         if path is None:
+            return
+        if "Content-Length" in self.headers:
+            self._fail(HTTPStatus.BAD_REQUEST, "what is got has no body")
             return
         if path == "favicon.ico":
             self._send(HTTPStatus.NO_CONTENT, b"", "image/x-icon")
@@ -106,6 +132,12 @@ class _Handler(BaseHTTPRequestHandler):
         if self.headers.get("Host") not in self.server.names():
             self._fail(HTTPStatus.FORBIDDEN, "this server answers to 127.0.0.1 alone")
             return None
+        if not set(self.headers.get_all("Origin", [])) <= self.server.origins():
+            self._fail(HTTPStatus.FORBIDDEN, "this request comes from a page of another site")
+            return None
+        if "Transfer-Encoding" in self.headers or len(self.headers.get_all("Content-Length", [])) > 1:
+            self._fail(HTTPStatus.BAD_REQUEST, "a request tells its length, once")
+            return None
         token, slash, rest = urlsplit(self.path).path.removeprefix("/").partition("/")
         if not slash or not secrets.compare_digest(token.encode(), self.server.token.encode()):
             self._fail(HTTPStatus.NOT_FOUND, "there is nothing at this path; open the address that mosaic-view printed")
@@ -118,8 +150,10 @@ class _Handler(BaseHTTPRequestHandler):
         if self.headers.get_content_type() != "application/json" or not length.isascii() or not length.isdigit() or int(length) > MOST_BYTES:
             self._fail(HTTPStatus.BAD_REQUEST, f"a request is JSON of at most {MOST_BYTES} bytes")
             return None
+        body = self.rfile.read(int(length))
+        self._late.cancel()
         try:
-            words = json.loads(self.rfile.read(int(length)))
+            words = json.loads(body)
         except (ValueError, RecursionError):
             words = None
         if not isinstance(words, dict):
@@ -127,10 +161,10 @@ class _Handler(BaseHTTPRequestHandler):
             return None
         return words
 
-    def _answer(self, act: Callable[[], Any], kind: str = "application/json") -> None:
+    def _answer(self, act: Callable[[], Any], kind: str = "application/octet-stream") -> None:
         try:
             answer = act()
-        except BadRequest as bad:
+        except (BadRequest, BadArgument) as bad:
             self._fail(HTTPStatus.BAD_REQUEST, str(bad))
             return
         except Refusal as refusal:
@@ -139,7 +173,10 @@ class _Handler(BaseHTTPRequestHandler):
         except Exception as fault:  # the page has to be told, whatever it was
             self._fail(HTTPStatus.SERVICE_UNAVAILABLE, f"{type(fault).__name__}: {fault}")
             return
-        self._send(HTTPStatus.OK, answer if isinstance(answer, bytes) else json.dumps(answer).encode(), kind)
+        if isinstance(answer, bytes):
+            self._send(HTTPStatus.OK, answer, kind)
+        else:
+            self._send(HTTPStatus.OK, json.dumps(answer).encode(), "application/json")
 
     def _fail(self, status: HTTPStatus, why: str) -> None:
         # What the body holds isn't read, so the connection ends with this answer.

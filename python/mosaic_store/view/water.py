@@ -1,4 +1,4 @@
-"""Standing water on a grid: the filled level less the height."""
+"""Standing water on a window: the filled level less the height."""
 
 from __future__ import annotations
 
@@ -7,16 +7,13 @@ from dataclasses import dataclass
 import numpy as np
 from numpy.typing import NDArray
 
-from ..errors import Refusal
-from ..lattice import VOID
-from ..questions import Fill
+from ..rasters import Heights, depths_of, levels_of
 from ..session import Session
-from .region import Grid
 
 
 @dataclass(frozen=True)
 class Water:
-    """Depths of standing water in metres, one for each point of a grid."""
+    """Depths of standing water in metres, one for each point of a window."""
 
     depths: NDArray[np.int32]
 
@@ -36,18 +33,6 @@ class Water:
         return int(self.depths.sum())
 
 
-def standing_water(session: Session, grid: Grid, heights: NDArray[np.int16]) -> Water:
-    """The water on a grid of single points, of which the heights are told; none where there is no ground."""
-    rows, columns = np.nonzero(heights != VOID)
-    questions = map(Fill, (grid.top - rows).tolist(), (grid.left + columns).tolist())
-    depths = np.zeros(heights.shape, np.int32)
-    levels = np.fromiter(map(answered, session.pipeline(questions)), np.int32, len(rows))
-    depths[rows, columns] = levels - heights[rows, columns]
-    return Water(depths)
-
-
-def answered(answer: int | Refusal) -> int:
-    """An answer of many; a refusal is raised."""
-    if isinstance(answer, Refusal):
-        raise answer
-    return answer
+def standing_water(session: Session, heights: Heights) -> Water:
+    """The water on a window; none where there is no ground."""
+    return Water(np.maximum(depths_of(heights, levels_of(session, heights)), 0))

@@ -1,13 +1,18 @@
 """What the map's page asks of a store: pictures, points, watersheds, and trials of edits that are kept or taken back.
 
 A trial is made on a copy of the store in memory. Nothing of it reaches the store until it is kept, so that nothing is
-left of it wherever the program is stopped.
+left of it wherever the program is stopped. The copy is made tile after tile before the first trial, so that other requests
+are answered in between, and it can be given up.
 """
 
 from __future__ import annotations
 
 import base64
+import dataclasses
+import pathlib
+import tempfile
 import threading
+import time
 from collections import OrderedDict
 from collections.abc import Callable, Mapping, Sequence
 from dataclasses import dataclass
@@ -15,16 +20,20 @@ from typing import Any
 
 import numpy as np
 
-from ..errors import MosaicError
+from ..commands.raster import LAYERS
+from ..errors import MosaicError, SessionDied
 from ..geojson import Feature, collection, trace_feature, watershed_feature
-from ..lattice import METRES_A_DEGREE, VOID, Point
+from ..grids import write_grid
+from ..lattice import METRES_A_DEGREE, VOID, Point, Window
+from ..network import network_of, stream_features
 from ..questions import Command
+from ..rasters import Heights
 from ..session import Session
 from ..shading import WATERSHED
 from ..snapping import FARTHEST, snapped
 from ..trials import Trial
 from . import lines, pictures
-from .region import Grid, Region, Samples
+from .region import Grid, Region
 from .water import Water, standing_water
 
 PIXELS = 256
@@ -49,6 +58,12 @@ MOST_AROUND = 512
 
 MOST_KEPT = 100
 """How many of the edits that were kept can be undone: the newest."""
+
+MOST_SHOWN = 4_000_000
+"""The most points of a window whose streams or raster are asked for."""
+
+SECONDS_AT_ONCE = 0.3
+"""How long tiles are copied within one request."""
 
 
 class BadRequest(Exception):
@@ -102,6 +117,8 @@ class Workbench:
         self._copy = copy
         self._lock = threading.RLock()
         self._copied: Session | None = None
+        self._uncopied: list[str] = []
+        """The tiles that the copy doesn't have yet, where there is one."""
         self._trial: UnderWay | None = None
         self._kept: list[Kept] = []
         self._pictures: OrderedDict[tuple[str, int, int, int], bytes] = OrderedDict()
@@ -113,8 +130,7 @@ class Workbench:
 
     def close(self) -> None:
         with self._lock:
-            if self._copied is not None:
-                self._copied.close()
+            self._drop_copy()
 
     def acts(self) -> Mapping[str, Callable[[Mapping[str, Any]], Any]]:
         """What a request may ask for, by its path."""
@@ -122,6 +138,10 @@ class Workbench:
             "ask": lambda words: self.ask(point_in(words)),
             "watershed": lambda words: self.watershed(point_in(words), snap_in(words)),
             "geojson": lambda words: self.geojson(point_in(words), words.get("what")),
+            "streams": lambda words: self.streams(window_in(words), threshold_in(words)),
+            "raster": lambda words: self.raster(window_in(words), words.get("what")),
+            "copy": lambda words: self.copy(),
+            "drop": lambda words: self.drop(),
             "try": lambda words: self.try_edit(edit_in(words)),
             "keep": lambda words: self.keep(),
             "discard": lambda words: self.discard(),
@@ -140,6 +160,7 @@ class Workbench:
             "lowest": self.lowest,
             "highest": self.highest,
             "deepest": pictures.DEEPEST_SHADE,
+            "copy": self._described_copy(),
             "trial": self._described_trial(),
             "edits": self._described_edits(),
         }
@@ -184,9 +205,7 @@ class Workbench:
         return pictures.relief(heights, held, self._metres(grid.step), self.lowest, self.highest)
 
     def _standing(self, grid: Grid) -> pictures.Colours:
-        heights, _ = self.region.heights(grid)
-        found = standing_water(self._store, grid, heights)
-        return pictures.water(found.depths)
+        return pictures.water(standing_water(self._store, self.region.window_of(grid)).depths)
 
     def _metres(self, step: int) -> float:
         return METRES_A_DEGREE / (self.region.side - 1) * step
@@ -238,6 +257,32 @@ class Workbench:
             return collection([trace_feature(self._store.trace(y, x), self.region.side)])
         raise BadRequest('what is saved is a "watershed" or a "path"')
 
+    def streams(self, window: Window, threshold: int) -> Feature:
+        """The streams of a window, as a file holds them: what `threshold` points and more drain through."""
+        return collection(stream_features(network_of(self._store, self._met(window)), threshold))
+
+    def raster(self, window: Window, what: object) -> bytes:
+        """The "heights", "levels", "water" or "directions" of a window as a GeoTIFF."""
+        if not isinstance(what, str) or what not in LAYERS:
+            raise BadRequest(f"a raster holds {', '.join(LAYERS)}")
+        window = self._met(window)
+        grid = Grid(window.y1, window.x0, window.height, window.width, 1)
+        array, no_data = LAYERS[what](self._store, self.region.window_of(grid), lambda done, total: None)
+        with tempfile.TemporaryDirectory() as folder:
+            path = pathlib.Path(folder) / "raster.tif"
+            write_grid(str(path), array, window, self.region.side, no_data, what)
+            return path.read_bytes()
+
+    def _met(self, window: Window) -> Window:
+        """A window within the bounds of the tiles."""
+        south, west, north, east = self.region.bounds()
+        met = Window(max(window.y0, south), max(window.x0, west), min(window.y1, north), min(window.x1, east))
+        if met.height < 1 or met.width < 1:
+            raise BadRequest("no tile is there")
+        if met.height * met.width > MOST_SHOWN:
+            raise BadRequest(f"this takes at most {MOST_SHOWN:,} points, and {met.height * met.width:,} are shown: zoom in")
+        return met
+
     def _inside(self, point: Point) -> Point:
         if not self.region.holders([point]):
             raise BadRequest("no tile is there")
@@ -253,23 +298,30 @@ class Workbench:
         with self._lock:
             if self._trial is not None:
                 raise BadRequest("a trial is under way: keep it or take it back first")
-            copy = self._copy_of_store()
+            copy = self._whole_copy()
             trial = copy.begin_trial()
             try:
                 edit.make(copy)
                 answer = self._water_around(edit, copy)
             except BaseException:
-                trial.take_back()
+                self._take_back(trial)
                 raise
             self._trial = UnderWay(edit, trial, answer)
             return answer
 
+    def _take_back(self, trial: Trial) -> None:
+        """Takes a trial back from the copy, which is given up where that fails: the store never had it."""
+        try:
+            trial.take_back()
+        except MosaicError:
+            self._drop_copy()
+
     def _water_around(self, edit: Edit, copy: Session) -> dict[str, Any]:
         """The water around an edit: in the store, and in the copy where it was made."""
         grid = self._around(edit.points)
-        heights, _ = self.region.heights(grid)
-        before = standing_water(self._store, grid, heights)
-        after = standing_water(copy, grid, heights_after(copy, grid, heights, edit.points))
+        heights = self.region.window_of(grid)
+        before = standing_water(self._store, heights)
+        after = standing_water(copy, heights_after(copy, heights, edit.points))
         middle = edit.points[len(edit.points) // 2]
         return {
             "box": {"top": grid.top, "left": grid.left, "rows": grid.rows, "columns": grid.columns},
@@ -305,13 +357,11 @@ class Workbench:
 
     def _ask_copy(self, command: Command) -> None:
         """Makes a command of the store in the copy too; a copy that can't is made anew when it is needed."""
-        if self._copied is None:
-            return
         try:
-            self._copied.ask(command)
+            if self._copied is not None:
+                self._copied.ask(command)
         except MosaicError:
-            self._copied.close()
-            self._copied = None
+            self._drop_copy()
 
     def _forget(self, edit: Edit) -> None:
         """Lets go of what was drawn of terrain that an edit changed."""
@@ -321,7 +371,7 @@ class Workbench:
     def discard(self) -> dict[str, Any]:
         """Takes the trial's edit back from the copy; the store never had it."""
         with self._lock:
-            self._under_way().trial.take_back()
+            self._take_back(self._under_way().trial)
             self._trial = None
             return {"count": self._store.count()}
 
@@ -330,15 +380,56 @@ class Workbench:
             raise BadRequest("no trial is under way")
         return self._trial
 
-    def _copy_of_store(self) -> Session:
-        """The copy in memory, made at the first trial."""
-        if self._copied is None:
-            copy = self._copy()
-            for name in self._store.tiles():
-                copy.import_tile(name, self._store.export(name))
-            for y, x in self._store.sinks():
-                copy.sink(y, x)
-            self._copied = copy
+    # The copy that trials are made on
+
+    def copy(self) -> dict[str, Any]:
+        """Copies tiles for a moment; how many of how many are copied. To be asked until all are, before a trial."""
+        with self._lock:
+            if self._copied is None:
+                self._copied, self._uncopied = self._copy(), self._store.tiles()
+            until = time.monotonic() + SECONDS_AT_ONCE
+            try:
+                while self._uncopied:
+                    self._copied.import_tile(self._uncopied[0], self._store.export(self._uncopied[0]))
+                    del self._uncopied[0]
+                    if time.monotonic() >= until:
+                        break
+                if not self._uncopied:
+                    for y, x in set(self._store.sinks()) - set(self._copied.sinks()):
+                        self._copied.sink(y, x)
+            except BaseException:
+                self._drop_copy()
+                raise
+            return self._described_copy()
+
+    def drop(self) -> dict[str, Any]:
+        """Gives the copy up, with the memory that it takes."""
+        with self._lock:
+            if self._trial is not None:
+                raise BadRequest("a trial is under way: keep it or take it back first")
+            self._drop_copy()
+            return self._described_copy()
+
+    def _drop_copy(self) -> None:
+        if self._copied is not None:
+            self._copied.close()
+        self._copied, self._uncopied = None, []
+
+    def _described_copy(self) -> dict[str, Any]:
+        """How many tiles are copied, of how many, and the bytes of all of them."""
+        with self._lock:
+            total = len(self.region.corners)
+            done = 0 if self._copied is None else total - len(self._uncopied)
+            return {"done": done, "total": total, "bytes": total * 2 * self.region.side**2}
+
+    def _whole_copy(self) -> Session:
+        if self._copied is None or self._uncopied:
+            raise BadRequest("a trial is made on a copy, and the store isn't copied yet")
+        try:
+            self._copied.count()
+        except SessionDied:
+            self._drop_copy()
+            raise BadRequest("the copy's program has ended: try again") from None
         return self._copied
 
     def _around(self, points: Sequence[Point]) -> Grid:
@@ -371,15 +462,15 @@ def clipped(low: int, high: int, lowest: int, highest: int) -> tuple[int, int]:
     return low + excess // 2, high - (excess - excess // 2)
 
 
-def heights_after(session: Session, grid: Grid, heights: Samples, points: Sequence[Point]) -> Samples:
-    """The heights on a grid of single points once some of them were edited."""
-    changed = heights.copy()
+def heights_after(session: Session, heights: Heights, points: Sequence[Point]) -> Heights:
+    """The heights of a window once some of its points were edited."""
+    changed = heights.samples.copy()
+    window = heights.window
     for y, x in points:
-        row, column = grid.top - y, x - grid.left
-        if 0 <= row < grid.rows and 0 <= column < grid.columns:
+        if window.y0 <= y <= window.y1 and window.x0 <= x <= window.x1:
             height = session.elevation(y, x)
-            changed[row, column] = VOID if height is None else height
-    return changed
+            changed[window.y1 - y, x - window.x0] = VOID if height is None else height
+    return dataclasses.replace(heights, samples=changed)
 
 
 def told(water: Water, level: int) -> dict[str, Any]:
@@ -401,6 +492,20 @@ def snap_in(words: Mapping[str, Any]) -> int:
     if type(snap) is not int or not 0 <= snap <= FARTHEST:
         raise BadRequest(f"an outlet moves by 0 to {FARTHEST} steps")
     return snap
+
+
+def window_in(words: Mapping[str, Any]) -> Window:
+    ends = words.get("window")
+    if not isinstance(ends, list) or len(ends) != 4:
+        raise BadRequest("a window is a list of its south, west, north and east ends")
+    return Window(*map(coordinate, ends))
+
+
+def threshold_in(words: Mapping[str, Any]) -> int:
+    threshold = words.get("threshold")
+    if type(threshold) is not int or threshold < 1:
+        raise BadRequest("a stream begins where 1 point and more drains through")
+    return threshold
 
 
 def coordinate(value: Any) -> int:

@@ -15,6 +15,8 @@ let region = null;
 let asked = null;
 let watershed = null;
 let trial = null;
+let streams = null;
+let isCancelled = false;
 let line = [];
 let version = 0;
 const pictures = new Map();
@@ -28,7 +30,8 @@ async function request(path, words) {
     body: JSON.stringify(words),
   };
   const answer = await fetch(path, options);
-  const told = await answer.json();
+  const isJson = answer.headers.get("Content-Type") === "application/json";
+  const told = await (isJson ? answer.json() : answer.blob());
   if (!answer.ok) throw new Error(told.error);
   return told;
 }
@@ -132,6 +135,7 @@ function draw() {
   if (hasWater) drawLayer("standing", 0, trial && trial.box);
   byId("depths").hidden = !hasWater && !trial;
   if (watershed) drawBox(watershed.image, watershed.box);
+  if (streams) drawStreams();
   if (trial) drawBox(trial.images[shown()], trial.box);
   drawSinks();
   if (asked && asked.path) drawPath(asked.path.map(([y, x]) => ({ y, x })), "#0b3d91", 2.5);
@@ -151,6 +155,21 @@ function drawPath(points, colour, width, corners = false) {
   pen.stroke();
   if (!corners) return;
   for (const point of points) drawMark(point, colour, 3.5);
+}
+
+// Streams, the wider the higher their order.
+function drawStreams() {
+  pen.strokeStyle = "#1f6fb2";
+  pen.lineJoin = pen.lineCap = "round";
+  for (const { geometry, properties } of streams.features) {
+    if (geometry.type !== "LineString") continue;
+    pen.beginPath();
+    for (const [longitude, latitude] of geometry.coordinates) {
+      pen.lineTo(...pixelOf({ y: latitude * (region.side - 1), x: longitude * (region.side - 1) }));
+    }
+    pen.lineWidth = 0.6 + 0.8 * properties.order;
+    pen.stroke();
+  }
 }
 
 function drawMark(point, colour = "#0b3d91", radius = 5) {
@@ -249,12 +268,42 @@ async function askWatershed(snap) {
 // Has the browser save the watershed or the path that is shown.
 async function save(what) {
   const told = await request("geojson", { what, y: asked.y, x: asked.x });
+  return saveAs(`${what}-${asked.y}-${asked.x}.geojson`, asGeoJson(told));
+}
+
+const asGeoJson = (told) => new Blob([JSON.stringify(told)], { type: "application/geo+json" });
+
+function saveAs(name, blob) {
   const link = document.createElement("a");
-  link.href = URL.createObjectURL(new Blob([JSON.stringify(told)], { type: "application/geo+json" }));
-  link.download = `${what}-${asked.y}-${asked.x}.geojson`;
+  link.href = URL.createObjectURL(blob);
+  link.download = name;
   link.click();
-  URL.revokeObjectURL(link.href);
-  return `Saved as ${link.download}`;
+  setTimeout(() => URL.revokeObjectURL(link.href), 10000);
+  return `Saved as ${name}`;
+}
+
+// The points that are shown, by their south, west, north and east ends.
+function shownWindow() {
+  const north_west = pointAt(0, 0), south_east = pointAt(canvas.clientWidth, canvas.clientHeight);
+  return [south_east.y, north_west.x, north_west.y, south_east.x];
+}
+
+async function askStreams() {
+  const threshold = Number(byId("threshold").value);
+  takeStreams(await request("streams", { window: shownWindow(), threshold }));
+  const orders = streams.features.map(({ properties }) => properties.order);
+  return `${orders.length} reaches of order ${Math.max(0, ...orders)} at most, where ${threshold} points and more drain through`;
+}
+
+function takeStreams(told) {
+  streams = told;
+  byId("save-streams").disabled = byId("clear-streams").disabled = streams === null;
+  draw();
+}
+
+async function saveRaster() {
+  const what = byId("raster").value;
+  return saveAs(`${what}.tif`, await request("raster", { window: shownWindow(), what }));
 }
 
 async function imageOf(source) {
@@ -296,7 +345,35 @@ async function addCorner(point) {
   showLine();
 }
 
+// Says what the first trial costs, until the copy is there.
+function showCopy() {
+  const { done, total, bytes } = region.copy;
+  byId("copy-told").hidden = done === total;
+  byId("copy-told").textContent = `The first trial copies ${total === 1 ? "the tile" : `all ${total} tiles`}, ${Math.ceil(bytes / 1e6)} MB, into memory; the store isn't touched.`;
+  byId("copied").max = total;
+  byId("copied").value = done;
+}
+
+// Copies the store, some tiles a request, so that the map answers meanwhile; it can be given up.
+async function copyStore() {
+  isCancelled = false;
+  byId("try").disabled = true;
+  byId("copying").hidden = region.copy.done === region.copy.total;
+  try {
+    do {
+      region.copy = await request(isCancelled ? "drop" : "copy", {});
+      showCopy();
+      if (isCancelled) throw new Error("Cancelled: nothing was tried, and the copy is gone");
+      say(`Copied ${region.copy.done} of ${region.copy.total} tiles`);
+    } while (region.copy.done < region.copy.total);
+  } finally {
+    byId("copying").hidden = true;
+    showLine();
+  }
+}
+
 async function tryLine() {
+  await copyStore();
   const words = { kind: tool(), amount: Number(byId("amount").value), line: line.map(({ y, x }) => [y, x]) };
   await takeTrial(await request("try", words));
   return "Tried: keep it, or take it back";
@@ -345,12 +422,14 @@ async function change(path) {
   const { count } = await request(path, {});
   trial = null;
   line = [];
+  if (path !== "discard") takeStreams(null);
   version += 1;
   pictures.clear();
   region = await request("region");
   if (asked) await ask({ y: asked.y, x: asked.x });
   showTrial();
   showEdits();
+  showCopy();
   const told = { keep: "Kept in the store", discard: "Taken back: the store is as it was", undo: "The last edit was undone" };
   return `${told[path]}; it counts ${count} commands`;
 }
@@ -458,7 +537,7 @@ function zoomBy(factor, across = canvas.clientWidth / 2, down = canvas.clientHei
   rememberPlace();
 }
 
-// ---- Links: #at=y,x,points-per-pixel & ask=y,x & watershed & snap=steps & wall=height;y,x;y,x (or burn=..)
+// ---- Links: #at=y,x,points-per-pixel & ask=y,x & watershed & snap=steps & streams=points & wall=height;y,x;y,x (or burn=..)
 
 function rememberPlace() {
   const parts = [`at=${Math.round(view.y)},${Math.round(view.x)},${view.pointsPerPixel}`];
@@ -472,6 +551,10 @@ async function followLink() {
   const parts = new URLSearchParams(location.hash.slice(1));
   if (parts.has("at")) [view.y, view.x, view.pointsPerPixel] = numbers(parts.get("at"));
   if (parts.has("standing")) byId("standing").checked = true;
+  if (parts.has("streams")) {
+    byId("threshold").value = parts.get("streams");
+    await askStreams();
+  }
   if (parts.has("ask")) {
     const [y, x] = numbers(parts.get("ask"));
     await ask({ y, x });
@@ -501,12 +584,18 @@ async function start() {
   byId("depth-high").textContent = `${region.deepest} m and more`;
   showAll();
   showEdits();
+  showCopy();
   await followLink();
 }
 
 byId("watershed").addEventListener("click", () => working("Searching the watershed …", () => askWatershed(Number(byId("snap").value))));
 byId("save-watershed").addEventListener("click", () => working("Saving …", () => save("watershed")));
 byId("save-path").addEventListener("click", () => working("Saving …", () => save("path")));
+byId("streams").addEventListener("click", () => working("Finding streams …", askStreams));
+byId("save-streams").addEventListener("click", () => working("", async () => saveAs("streams.geojson", asGeoJson(streams))));
+byId("clear-streams").addEventListener("click", () => takeStreams(null));
+byId("save-raster").addEventListener("click", () => working("Asking …", saveRaster));
+byId("cancel").addEventListener("click", () => { isCancelled = true; });
 byId("go").addEventListener("submit", (event) => { event.preventDefault(); working("Going there …", () => goTo(byId("place").value)); });
 byId("try").addEventListener("click", () => working("Trying …", tryLine));
 byId("keep").addEventListener("click", () => working("Keeping …", () => change("keep")));
