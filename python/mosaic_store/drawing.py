@@ -15,13 +15,16 @@ from .errors import BadArgument
 from .lattice import METRES_A_DEGREE, Point, degrees_of
 from .questions import Watershed
 from .rasters import Heights
-from .samples import needed_numpy
+from .samples import cure_for, needed_numpy
 from .shading import DEEP, NO_DATA, TINTS, WATERSHED
 
 if TYPE_CHECKING:
     import numpy
 
     Array = numpy.ndarray[Any, Any]
+
+FORMS = (".png", ".svg", ".pdf")
+"""The endings of the names of pictures."""
 
 ROAD = "#202020"
 PATH = "#1050c0"
@@ -128,10 +131,8 @@ def needed_matplotlib() -> Any:
 
         matplotlib.use("Agg")
         import matplotlib.pyplot
-    except ImportError:
-        raise BadArgument(
-            "matplotlib isn't installed, and pictures need it: apt-get install python3-matplotlib"
-        ) from None
+    except ImportError as fault:
+        raise BadArgument(f"pictures need matplotlib ({fault}): {cure_for('matplotlib')}") from None
     return matplotlib.pyplot
 
 

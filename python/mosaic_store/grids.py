@@ -9,6 +9,7 @@ from typing import TYPE_CHECKING, Any
 
 from .errors import BadArgument
 from .lattice import Window
+from .samples import cure_for
 
 if TYPE_CHECKING:
     import numpy
@@ -75,8 +76,5 @@ def _rasterio() -> Any:
         import rasterio.io
         import rasterio.transform
     except ImportError as fault:
-        raise BadArgument(
-            f"GeoTIFF needs rasterio ({fault}): apt-get install python3-rasterio, or pip install rasterio in an "
-            "environment of your own, or write a file .asc"
-        ) from None
+        raise BadArgument(f"GeoTIFF needs rasterio ({fault}): {cure_for('rasterio')}, or write a file .asc") from None
     return rasterio

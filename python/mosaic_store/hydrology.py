@@ -14,7 +14,7 @@ from typing import TYPE_CHECKING, Any
 from .errors import BadArgument
 from .lattice import VOID, Point, Run, Window
 from .network import Network
-from .rasters import STEPS, heights_of
+from .rasters import STEPS, Heights, heights_of
 from .samples import needed_numpy
 from .session import Session
 from .view import lines
@@ -71,6 +71,8 @@ def reservoir(session: Session, network: Network, dam: Sequence[Point], crest: i
 
 
 _FAR = 1 << 20
+_DISTANCES_AT_ONCE = 256
+"""Of how many voids the distances to the whole rim are held at once."""
 
 
 def _reached(samples: Array, start: int, most: int) -> Array:
@@ -98,7 +100,7 @@ def _reached(samples: Array, start: int, most: int) -> Array:
 def _stages(network: Network, samples: Array, reached: Array, spills_at: int) -> list[Stage]:
     numpy = needed_numpy()
     inside = reached < spills_at
-    areas = numpy.broadcast_to(network.cell_areas(), samples.shape)[inside]
+    areas = numpy.broadcast_to(network.heights.cell_areas(), samples.shape)[inside]
     levels, heights = reached[inside], samples[inside].astype(numpy.int64)
     lowest = int(heights.min(initial=spills_at))
     stages = []
@@ -159,12 +161,11 @@ class Earthwork:
     """Cubic metres that are heaped up."""
 
 
-def earthwork(network: Network, session: Session) -> Earthwork:
-    """The cut and the fill between a network's heights and those of the store now, in its window."""
+def earthwork(before: Heights, after: Heights) -> Earthwork:
+    """The cut and the fill between two terrains of one window; points that are void in one of them count in neither."""
     numpy = needed_numpy()
-    now = heights_of(session, network.window)
-    both = network.heights.ground & now.ground
-    change = numpy.where(both, now.samples.astype(numpy.int64) - network.heights.samples, 0) * network.cell_areas()
+    both = before.ground & after.ground
+    change = numpy.where(both, after.samples.astype(numpy.int64) - before.samples, 0) * before.cell_areas()
     return Earthwork(float(-change[change < 0].sum()), float(change[change > 0].sum()))
 
 
@@ -186,25 +187,44 @@ def widened(points: Sequence[Point], width: int) -> list[Point]:
     return list(dict.fromkeys(Point(y + north, x + east) for y, x in points for north in reach for east in reach))
 
 
-def filled_voids(session: Session, window: Window, most: int = 10_000) -> int:
-    """Gives each void of a window the mean of the heights on its rim, by how near these are, and answers how many it gave.
+def filled_voids(session: Session, window: Window, most: int = 10_000) -> list[Run]:
+    """Gives each void of a window the mean of the heights on its rim, by how near these are; the voids that it gave one.
 
     Of each part of voids that hangs together; one that reaches the window's edge, or has more than `most` points, is left.
+    Heights of the rim are those before it, so that the parts' order makes no difference.
     """
-    heights = heights_of(session, window)
     numpy = needed_numpy()
+    heights = heights_of(session, window)
     void = heights.held & (heights.samples == VOID)
-    done = 0
-    for part in _parts(void):
-        rows, columns = numpy.divmod(part, window.width)
-        at_edge = ((rows == 0) | (rows == window.height - 1) | (columns == 0) | (columns == window.width - 1)).any()
-        if at_edge or len(part) > most:
-            continue
-        for row, column, height in zip(rows.tolist(), columns.tolist(), _interpolated(heights.samples, rows, columns)):
-            y, x = window.y1 - row, window.x0 + column
-            session.patch(y, x, y, x, height)
-            done += 1
-    return done
+    given = heights.samples.copy()
+    for part in _parts(void & ~_hanging_on_edge(void)):
+        if len(part) <= most:
+            rows, columns = numpy.divmod(part, window.width)
+            given[rows, columns] = _interpolated(heights.samples, rows, columns)
+    filled = runs_of(void & (given != VOID), window)
+    for y, first, last in filled:
+        row = given[window.y1 - y, first - window.x0 : last - window.x0 + 1]
+        ends = numpy.flatnonzero(numpy.diff(row, append=VOID)) + 1
+        for start, end in zip([0, *ends[:-1].tolist()], ends.tolist()):
+            session.patch(y, first + start, y, first + end - 1, int(row[start]))
+    return filled
+
+
+def _hanging_on_edge(mask: Array) -> Array:
+    """The cells of a mask that hang together with one at the edge of it, diagonals included."""
+    numpy = needed_numpy()
+    left = numpy.pad(mask, 1).ravel()
+    width = mask.shape[1] + 2
+    steps = [east - north * width for north, east in STEPS]
+    edge = mask.copy()
+    edge[1:-1, 1:-1] = False
+    front = numpy.flatnonzero(numpy.pad(edge, 1))
+    left[front] = False
+    while front.size:
+        front = numpy.unique(numpy.concatenate([front + step for step in steps]))
+        front = front[left[front]]
+        left[front] = False
+    return mask & ~left.reshape(-1, width)[1:-1, 1:-1]
 
 
 def _parts(mask: Array) -> list[Array]:
@@ -226,14 +246,17 @@ def _parts(mask: Array) -> list[Array]:
     return parts
 
 
-def _interpolated(samples: Array, rows: Array, columns: Array) -> list[int]:
+def _interpolated(samples: Array, rows: Array, columns: Array) -> Array:
     """Heights for voids: of the ground around them, weighted by the inverse square of the distance."""
     numpy = needed_numpy()
     near = {(r + north, c + east) for r, c in zip(rows.tolist(), columns.tolist()) for north, east in STEPS}
-    rim = [(r, c) for r, c in sorted(near) if samples[r, c] != VOID]
-    if not rim:
-        return []
-    rim_rows, rim_columns = numpy.array(rim).T
-    values = samples[rim_rows, rim_columns].astype(float)
-    distances = (rows[:, None] - rim_rows) ** 2 + (columns[:, None] - rim_columns) ** 2
-    return [round(height) for height in ((values / distances).sum(1) / (1 / distances).sum(1)).tolist()]
+    rim = numpy.array([(r, c) for r, c in sorted(near) if samples[r, c] != VOID]).reshape(-1, 2)
+    if not rim.size:
+        return numpy.full(rows.shape, VOID, samples.dtype)
+    values = samples[rim[:, 0], rim[:, 1]].astype(float)
+    found = numpy.empty(rows.shape, samples.dtype)
+    for at in range(0, len(rows), _DISTANCES_AT_ONCE):
+        own = slice(at, at + _DISTANCES_AT_ONCE)
+        near_by = 1 / ((rows[own, None] - rim[:, 0]) ** 2 + (columns[own, None] - rim[:, 1]) ** 2)
+        found[own] = ((values * near_by).sum(1) / near_by.sum(1)).round()
+    return found

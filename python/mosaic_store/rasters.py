@@ -11,7 +11,7 @@ from dataclasses import dataclass
 from typing import TYPE_CHECKING, Any
 
 from .errors import BadReply, Refusal
-from .lattice import VOID, Corner, Window, corner_of
+from .lattice import METRES_A_DEGREE, VOID, Corner, Window, corner_of
 from .questions import Fill, Question
 from .samples import needed_numpy
 from .session import Session
@@ -55,6 +55,12 @@ class Heights:
     def ground(self) -> Array:
         """Whether the point has a height: bool of that shape."""
         return self.samples != VOID
+
+    def cell_areas(self) -> Array:
+        """The area of each cell in square metres by its latitude: float64 of shape (rows, 1)."""
+        numpy = needed_numpy()
+        length = METRES_A_DEGREE / (self.side - 1) * self.every
+        return (length * length * numpy.cos(numpy.radians(self.ys / (self.side - 1))))[:, None]
 
 
 def heights_of(session: Session, window: Window, every: int = 1) -> Heights:

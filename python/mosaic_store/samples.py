@@ -3,6 +3,7 @@
 from __future__ import annotations
 
 import math
+import sys
 from typing import TYPE_CHECKING, Any
 
 from .errors import BadArgument
@@ -37,6 +38,13 @@ def needed_numpy() -> Any:
     """The module numpy, or one line that says how to come by it."""
     try:
         import numpy
-    except ImportError:
-        raise BadArgument("numpy isn't installed, and arrays need it: apt-get install python3-numpy") from None
+    except ImportError as fault:
+        raise BadArgument(f"arrays need numpy ({fault}): {cure_for('numpy')}") from None
     return numpy
+
+
+def cure_for(module: str) -> str:
+    """How to come by a module: a virtual environment doesn't see Debian's, unless it was made so."""
+    if sys.prefix != sys.base_prefix:
+        return f"pip install {module}, or make the environment with --system-site-packages"
+    return f"apt-get install python3-{module}"

@@ -110,6 +110,44 @@ class Commands(InFolder):
         self.assertIn("27 points", self.hydrology(path, "edit", "road.geojson", "--wall", "900", "--width", "3"))
         with open_store(path, PROGRAM) as store:
             self.assertEqual({store.elevation(y, x) for y in (4, 5, 6) for x in range(1, 10)}, {900})
+        # Where two lines cross the deeper one counts, once; what is dug is told.
+        self.lines([[0.2, 0.5], [0.4, 0.5]], [[0.3, 0.4], [0.3, 0.6]], depth=7)
+        told = self.hydrology(path, "edit", "lines.geojson", "--burn", "5")
+        with open_store(path, PROGRAM) as store:
+            self.assertEqual([store.elevation(5, x) for x in (2, 3, 4)], [895, 893, 895])
+        cells = (2 * 5 + 3 * 7) * (111_195 / 10) ** 2
+        self.assertAlmostEqual(float(told.split()[-6]) / cells, 1, delta=0.02)
+        # A line that leaves the tiles has none of them made.
+        self.lines([[0.2, 0.5], [0.4, 0.5]], [[1.9, 0.5], [2.9, 0.5]])
+        with open_store(path, PROGRAM) as store:
+            images = [store.export(name) for name in store.tiles()]
+        self.refused(self.command("hydrology", path, "edit", "lines.geojson", "--burn", "5"), "no tile holds")
+        with open_store(path, PROGRAM) as store:
+            self.assertEqual([store.export(name) for name in store.tiles()], images)
+
+    def lines(self, first, second, **properties) -> None:
+        """A file of two lines; the second has properties."""
+        features = [
+            {"type": "Feature", "properties": own, "geometry": {"type": "LineString", "coordinates": line}}
+            for line, own in ((first, {}), (second, properties))
+        ]
+        (self.folder / "lines.geojson").write_text(json.dumps({"type": "FeatureCollection", "features": features}))
+
+    def test_voids_and_a_reservoir(self) -> None:
+        path = self.store(SIDE)
+        self.assertIn("1 voids", self.hydrology(path, "voids", "voids.geojson"))
+        with open_store(path, PROGRAM) as store:
+            around = [store.elevation(3 + north, 2 + east) for north in (-1, 0, 1) for east in (-1, 0, 1) if north or east]
+            self.assertTrue(min(around) <= store.elevation(3, 2) <= max(around))
+        self.assertEqual(self.features("voids.geojson")[0]["properties"], {"what": "filled voids", "cells": 1})
+        self.assertIn("0 voids", self.hydrology(path, "voids", "voids.geojson"))
+        with open_store(path, PROGRAM) as store:
+            images = [store.export(name) for name in store.tiles()]
+        dam = ["--dam", "12", "12", "12", "18", "--crest", "420", "--before", "13", "15", "--points"]
+        done = self.command("hydrology", path, "reservoir", "stages.csv", *dam)
+        self.assertIn(done.returncode, (0, 1))  # what it holds back depends on the hills; the store is as it was
+        with open_store(path, PROGRAM) as store:
+            self.assertEqual([store.export(name) for name in store.tiles()], images)
 
     def test_bad_input(self) -> None:
         path = self.store(SIDE)
@@ -122,6 +160,7 @@ class Commands(InFolder):
             (("edit", "bad.csv", "--wall", "5"), "not read as GeoJSON"),
             (("edit", "bad.csv"), "--wall or by --burn"),
             (("streams", "x.geojson", "--threshold", "0"), "1 point and more"),
+            (("reservoir", "x.csv", "--dam", "1", "1", "1", "2", "--crest", "9", "--before", "1", "1", "--picture", "x.doc"), "ends in"),
             (("accumulation", "x.png"), ".tif (GeoTIFF) or .asc"),
         ):
             with self.subTest(words):
@@ -139,7 +178,7 @@ class Planning(unittest.TestCase):
             network = network_of(table, Window(0, 0, 40, 40))
             found = reservoir(table, network, [Point(5, 30), Point(35, 30)], 160, Point(20, 29))
             self.assertEqual(table.elevation(20, 30), 140)
-            areas = network.cell_areas().ravel()
+            areas = network.heights.cell_areas().ravel()
             height = {(y, x): 200 - 2 * x + 5 * abs(y - 20) for y in range(41) for x in range(30)}
             for stage in found.stages:
                 wet = {point: stage.level - metres for point, metres in height.items() if metres < stage.level}
@@ -166,8 +205,28 @@ class Planning(unittest.TestCase):
             samples = [50] * SIDE**2
             samples[3 * SIDE + 3] = samples[3 * SIDE + 4] = samples[0] = -32768
             table.import_tile("N00E000", struct.pack(f">{SIDE**2}h", *samples))
-            self.assertEqual(filled_voids(table, Window(0, 0, 10, 10)), 2)
+            self.assertEqual(filled_voids(table, Window(0, 0, 10, 10)), [(7, 3, 4)])
             self.assertEqual([table.elevation(7, 3), table.elevation(7, 4), table.elevation(10, 0)], [50, 50, None])
+
+    def test_voids_of_two_heights_on_a_seam(self) -> None:
+        """Voids that lie in both of two tiles are given one height in both; each between those of its rim, by how near they are."""
+        from mosaic_store.hydrology import filled_voids
+
+        with memory_table(SIDE, 2, PROGRAM) as table:
+            for west in (0, 1):
+                # Ground that rises to the north, 10 m a point, and a void of 3 x 3 points on the seam.
+                ground = [10 * (SIDE - row) for row in range(SIDE) for _ in range(SIDE)]
+                for row in (4, 5, 6):
+                    for x in (9, 10, 11):
+                        if 0 <= x - 10 * west < SIDE:
+                            ground[row * SIDE + x - 10 * west] = -32768
+                table.import_tile(f"N00E00{west}", struct.pack(f">{SIDE**2}h", *ground))
+            self.assertEqual(filled_voids(table, Window(0, 0, 10, 20)), [(6, 9, 11), (5, 9, 11), (4, 9, 11)])
+            found = [[table.elevation(y, x) for x in (9, 10, 11)] for y in (6, 5, 4)]
+            self.assertEqual([row[::-1] for row in found], found)
+            self.assertTrue(80 > found[0][1] > found[1][1] == 60 > found[2][1] > 40, found)
+            samples = [struct.unpack(f">{SIDE**2}h", table.export(name)) for name in ("N00E000", "N00E001")]
+            self.assertEqual([samples[0][row * SIDE + 10] for row in range(SIDE)], [samples[1][row * SIDE] for row in range(SIDE)])
 
 
 if __name__ == "__main__":

@@ -9,8 +9,9 @@ import sys
 from collections.abc import Sequence
 from typing import TYPE_CHECKING, Any
 
-from ..drawing import Scene, draw, needed_matplotlib, range_of
-from ..lattice import degrees_of
+from ..drawing import Scene, draw, range_of
+from ..lattice import Point, Window, degrees_of
+from ..questions import Watershed
 from ..rasters import Heights, depths_of, heights_of, levels_of
 from ..session import Session
 from .frame import (
@@ -20,6 +21,7 @@ from .frame import (
     add_places,
     add_snap,
     add_window,
+    check_picture,
     opened,
     outlet_given,
     parser,
@@ -37,14 +39,14 @@ if TYPE_CHECKING:
 
 NAME = "mosaic-draw"
 MOST_POINTS = 1201  # a whole tile of 3 arc seconds
-FORMS = (".png", ".svg", ".pdf")
+_LEAST_MARGIN = 20
 DESCRIPTION = f"""Draws a window of a store: shaded heights with degrees, a scale and a legend, on them what is asked for.
 
   mosaic-draw STORE river.png --watershed 37.5 -105.25
   mosaic-draw STORE pond.png --window 0.12 0.32 0.17 0.37 --water --road 0.1525 0.3275 0.1525 0.3525
 
-A window of more than {MOST_POINTS} points one way is thinned. Standing water takes a question for each pit of the window,
-and isn't drawn in thinned ones."""
+Without --window it is the one around what is asked for, or all tiles. One of more than {MOST_POINTS} points one way is thinned.
+Standing water takes a question for each pit of the window, and isn't drawn in thinned ones."""
 
 
 def main(arguments: Sequence[str] | None = None) -> int:
@@ -72,9 +74,7 @@ def _parsed(arguments: Sequence[str] | None) -> argparse.Namespace:
 
 
 def _draw(options: argparse.Namespace) -> int:
-    needed_matplotlib()
-    if pathlib.Path(options.picture).suffix.lower() not in FORMS:
-        raise CommandError(f"{options.picture}: the name of a picture ends in {', '.join(FORMS)}")
+    check_picture(options.picture)
     with opened(options.store, options.program) as session, written_whole(options.picture) as path:
         scene = _scene(session, options)
         draw(scene, path)
@@ -83,24 +83,39 @@ def _draw(options: argparse.Namespace) -> int:
 
 
 def _scene(session: Session, options: argparse.Namespace) -> Scene:
+    pairs = zip(options.road[::2], options.road[1::2])
+    road = [point_given(pair, session, options.points) for pair in pairs]
+    outlet = None if options.watershed is None else outlet_given(options.watershed, session, options)
+    watershed = None if outlet is None else session.watershed(*outlet)
+    path = [] if options.trace is None else session.trace(*point_given(options.trace, session, options.points))
     window = window_given(options.window, session, options.points)
+    if options.window is None:
+        window = _around(window, [*road, *path, *_ends(watershed)])
     every = -(-max(window.height, window.width) // MOST_POINTS)
     if options.water and every > 1:
         raise CommandError(
             f"standing water is drawn in windows of at most {MOST_POINTS} points each way, and this one has "
             f"{window.width} x {window.height}: give a smaller --window"
         )
-    pairs = zip(options.road[::2], options.road[1::2])
-    road = [point_given(pair, session, options.points) for pair in pairs]
-    scene = Scene(heights_of(session, window, every), options.title or pathlib.Path(options.store).name, road=road)
-    if options.watershed is not None:
-        scene.outlet = outlet_given(options.watershed, session, options)
-        scene.watershed = session.watershed(*scene.outlet)
-    if options.trace is not None:
-        scene.path = session.trace(*point_given(options.trace, session, options.points))
+    title = options.title or pathlib.Path(options.store).name
+    scene = Scene(heights_of(session, window, every), title, watershed, outlet, path=path, road=road)
     if options.water:
         scene.depths = depths_of(scene.heights, _levels(session, scene.heights))
     return scene
+
+
+def _ends(watershed: Watershed | None) -> list[Point]:
+    return [] if watershed is None else [Point(y, x) for y, first, last in watershed.runs for x in (first, last)]
+
+
+def _around(whole: Window, points: Sequence[Point]) -> Window:
+    """The window around what is drawn, a tenth wider on each side; the whole one where nothing is."""
+    if not points:
+        return whole
+    ys, xs = zip(*points)
+    margin = max(_LEAST_MARGIN, (max(ys) - min(ys)) // 10, (max(xs) - min(xs)) // 10)
+    south, west = max(whole.y0, min(ys) - margin), max(whole.x0, min(xs) - margin)
+    return Window(south, west, min(whole.y1, max(ys) + margin), min(whole.x1, max(xs) + margin))
 
 
 def _levels(session: Session, heights: Heights) -> Array:

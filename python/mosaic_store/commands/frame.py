@@ -22,6 +22,8 @@ from ..session import Session, open_store
 from ..snapping import FARTHEST, snapped
 from ..version import VERSION
 
+EPILOG = "The program itself, which takes no --help: man mosaic."
+
 DONE, FAILED, BAD_ARGUMENTS, INTERRUPTED = 0, 1, 2, 130
 
 _SECONDS_BETWEEN_LINES = 10.0
@@ -44,7 +46,7 @@ class Parser(argparse.ArgumentParser):
 
 def parser(name: str, description: str) -> Parser:
     """The arguments that each command takes."""
-    made = Parser(prog=name, description=description, formatter_class=argparse.RawDescriptionHelpFormatter)
+    made = Parser(prog=name, description=description, epilog=EPILOG, formatter_class=argparse.RawDescriptionHelpFormatter)
     made.add_argument("--version", action="version", version=f"%(prog)s {VERSION}")
     made.add_argument("--program", help="the program `mosaic`; otherwise what MOSAIC names, or the one on PATH")
     return made
@@ -212,6 +214,15 @@ def shown_place(place: Place) -> str:
 
 def _meet(one: Window, other: Window) -> bool:
     return one.y0 <= other.y1 and other.y0 <= one.y1 and one.x0 <= other.x1 and other.x0 <= one.x1
+
+
+def check_picture(name: str) -> None:
+    """A CommandError where no picture of this name can be drawn."""
+    from ..drawing import FORMS, needed_matplotlib
+
+    needed_matplotlib()
+    if pathlib.Path(name).suffix.lower() not in FORMS:
+        raise CommandError(f"{name}: the name of a picture ends in {', '.join(FORMS)}")
 
 
 @contextlib.contextmanager

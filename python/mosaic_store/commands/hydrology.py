@@ -23,6 +23,7 @@ from .frame import (
     Progress,
     add_places,
     add_window,
+    check_picture,
     opened,
     parser,
     point_given,
@@ -50,9 +51,14 @@ DESCRIPTION = """What drains where in a window of a store. It needs numpy.
   mosaic-hydrology STORE path path.geojson --at 37.5 -105.25
                                                        the longest flow path to a place: slope, time of concentration
   mosaic-hydrology STORE reservoir stages.csv --dam 37.5 -105.25 37.52 -105.25 --crest 2100 --before 37.51 -105.26
-                                                       level, area and volume behind a dam that is built for a moment
+                                                       level, area and volume behind a dam, which stands in the store for
+                                                       a moment; --picture dam.png draws the full reservoir
   mosaic-hydrology STORE edit roads.geojson --wall 1200 --width 3
-                                                       raises (--wall) or lowers (--burn) the lines of a GeoJSON in the store
+                                                       raises (--wall) or lowers (--burn) the lines of a GeoJSON in the store:
+                                                       all of them, or none where one is refused
+  mosaic-hydrology STORE voids filled.geojson --most 10000
+                                                       gives voids heights from their rim, in the store, and tells which;
+                                                       those that reach the window's edge are left
 
 Numbers are degrees north and east; with --points they are points y x of the lattice."""
 
@@ -79,6 +85,8 @@ def _parsed(arguments: Sequence[str] | None) -> argparse.Namespace:
     made.add_argument("--dam", type=float, nargs="+", default=[], metavar="PLACE", help="the corners of a dam, two numbers each")
     made.add_argument("--crest", type=int, metavar="METRES", help="the height of a dam's crest")
     made.add_argument("--before", type=float, nargs=2, metavar=("LATITUDE", "LONGITUDE"), help="a place before the dam, under water")
+    made.add_argument("--picture", metavar="FILE", help="a picture of the full reservoir: .png, .svg or .pdf")
+    made.add_argument("--most", type=int, default=10_000, metavar="POINTS", help="a void of more points is left; 10000")
     made.add_argument("--wall", type=int, metavar="METRES", help="raises lines to this height, or to a feature's property `height`")
     made.add_argument("--burn", type=int, metavar="METRES", help="lowers lines by this depth, or by a feature's property `depth`")
     made.add_argument("--width", type=int, default=1, metavar="POINTS", help="how many points wide edited lines are: odd")
@@ -125,27 +133,12 @@ def _above(session: Session, options: argparse.Namespace) -> str:
 
 
 def _streams(session: Session, options: argparse.Namespace) -> str:
-    from ..network import streams
+    from ..network import stream_features
 
-    network = _network(session, options)
-    areas = network.drained_area.ravel()
-    reaches = streams(network, options.threshold)
-    features = [
-        line_feature(
-            reach.points,
-            session.side,
-            {
-                "what": "stream",
-                "order": reach.order,
-                "length_m": round(reach.length, 1),
-                "points": reach.drained,
-                "km2": round(float(areas[network.cell(reach.points[max(0, len(reach.points) - 2)])]), 4),
-            },
-        )
-        for reach in reaches
-    ]
+    features = stream_features(_network(session, options), options.threshold)
     _write_json(options.file, features)
-    return f"{len(reaches)} reaches, {sum(reach.length for reach in reaches) / 1000:.1f} km, of order {max((reach.order for reach in reaches), default=0)} at most"
+    lengths, orders = ([feature["properties"][name] for feature in features] for name in ("length_m", "order"))
+    return f"{len(features)} reaches, {sum(lengths) / 1000:.1f} km, of order {max(orders, default=0)} at most"
 
 
 def _catchments(session: Session, options: argparse.Namespace) -> str:
@@ -243,40 +236,72 @@ def _path(session: Session, options: argparse.Namespace) -> str:
 
 
 def _reservoir(session: Session, options: argparse.Namespace) -> str:
+    from ..drawing import Scene, draw
     from ..hydrology import reservoir
 
     if len(options.dam) < 4 or len(options.dam) % 2 or options.crest is None or options.before is None:
         raise CommandError("a reservoir takes --dam with two places and more, --crest and --before")
     corners = [point_given(pair, session, options.points) for pair in zip(options.dam[::2], options.dam[1::2])]
     before = point_given(options.before, session, options.points)
-    found = reservoir(session, _network(session, options), corners, options.crest, before)
+    if options.picture is not None:
+        check_picture(options.picture)
+    network = _network(session, options)
+    found = reservoir(session, network, corners, options.crest, before)
     with written_whole(options.file) as path, open(path, "w", newline="", encoding="ascii") as file:
         rows = csv.writer(file)
         rows.writerow(["level_m", "area_km2", "volume_m3"])
         rows.writerows((stage.level, f"{stage.area / 1e6:.6f}", f"{stage.volume:.0f}") for stage in found.stages)
+    if options.picture is not None:
+        scene = Scene(network.heights, f"full at {found.spills_at} m", depths=found.depths, road=corners)
+        with written_whole(options.picture) as path:
+            draw(scene, path)
     full = found.stages[-1]
     return f"it spills at {found.spills_at} m, with {full.area / 1e6:.3f} km2 and {full.volume / 1e6:.3f} million m3"
 
 
 def _edit(session: Session, options: argparse.Namespace) -> str:
-    from ..hydrology import widened
+    from ..hydrology import earthwork
+    from ..rasters import heights_of
     from ..view import lines
 
     if (options.wall is None) == (options.burn is None):
         raise CommandError("lines are edited by --wall or by --burn")
-    kind, given = ("height", options.wall) if options.burn is None else ("depth", options.burn)
     act: Callable[[int, Sequence[Point]], int] = session.wall if options.burn is None else session.burn
-    count = 0
+    amounts, others = _amounts(session, options)
+    if not amounts:
+        raise CommandError(f"{options.file}: it has no point and no line")
+    ys, xs = zip(*amounts)
+    window = Window(min(ys), min(xs), max(ys), max(xs))
+    before = heights_of(session, window)
+    with session.trial() as trial:
+        for amount in sorted(set(amounts.values())):
+            for part in lines.commands([point for point, own in amounts.items() if own == amount]):
+                act(amount, part)
+        trial.keep()
+    moved = earthwork(before, heights_of(session, window))
+    passed_by = f"; {others} features are neither points nor lines, and were passed by" if others else ""
+    return f"{len(amounts)} points were edited, {moved.cut:.0f} m3 cut, {moved.fill:.0f} m3 filled{passed_by}"
+
+
+def _amounts(session: Session, options: argparse.Namespace) -> tuple[dict[Point, int], int]:
+    """The points of a file's lines, each with the most that a line over it asks for; how many features are no lines."""
+    from ..hydrology import widened
+    from ..view import lines
+
+    kind, given = ("height", options.wall) if options.burn is None else ("depth", options.burn)
+    amounts: dict[Point, int] = {}
+    others = 0
     for feature in _features(options.file, pathlib.Path(options.file).read_text(encoding="utf-8-sig")):
         amount = (feature.get("properties") or {}).get(kind, given)
         if type(amount) is not int:
             raise CommandError(f"{options.file}: {kind} is a whole number of metres, not {amount}")
-        for line in _lines(feature):
+        found = _lines(feature)
+        others += not found
+        for line in found:
             points = lines.points_along([point_given((latitude, longitude), session, False) for longitude, latitude, *_ in line])
-            for part in lines.commands(widened(points, options.width)):
-                act(amount, part)
-                count += len(part)
-    return f"{count} points were edited"
+            for point in widened(points, options.width):
+                amounts[point] = max(amount, amounts.get(point, amount))
+    return amounts, others
 
 
 def _lines(feature: dict[str, Any]) -> list[Any]:
@@ -286,10 +311,27 @@ def _lines(feature: dict[str, Any]) -> list[Any]:
     return lines.get(geometry.get("type"), [])
 
 
+def _voids(session: Session, options: argparse.Namespace) -> str:
+    from ..hydrology import filled_voids
+
+    window = window_given(options.window, session, options.points)
+    with written_whole(options.file) as path:
+        with session.trial() as trial:
+            runs = filled_voids(session, window, options.most)
+            count = sum(run.last - run.first + 1 for run in runs)
+            _dump_json(path, [points_feature(runs, session.side, {"what": "filled voids", "cells": count})])
+            trial.keep()
+    return f"{count} voids were given heights from their rim"
+
+
 def _write_json(name: str, features: Sequence[Feature]) -> None:
-    text = json.dumps(collection(features), separators=(",", ":")) + "\n"
-    with written_whole(name) as path, open(path, "w", encoding="ascii") as file:
-        file.write(text)
+    with written_whole(name) as path:
+        _dump_json(path, features)
+
+
+def _dump_json(path: str, features: Sequence[Feature]) -> None:
+    with open(path, "w", encoding="ascii") as file:
+        file.write(json.dumps(collection(features), separators=(",", ":")) + "\n")
 
 
 WORKS: dict[str, Callable[[Session, argparse.Namespace], str]] = {
@@ -301,6 +343,7 @@ WORKS: dict[str, Callable[[Session, argparse.Namespace], str]] = {
     "path": _path,
     "reservoir": _reservoir,
     "edit": _edit,
+    "voids": _voids,
 }
 
 
