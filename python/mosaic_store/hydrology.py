@@ -105,9 +105,8 @@ def _stages(network: Network, samples: Array, reached: Array, spills_at: int) ->
     lowest = int(heights.min(initial=spills_at))
     stages = []
     for level in range(lowest, spills_at + 1):
-        wet = levels <= level
-        depths = numpy.maximum(level - heights[wet], 0)
-        stages.append(Stage(level, float(areas[wet][depths > 0].sum()), float((depths * areas[wet]).sum())))
+        wet = levels < level  # what lies behind a sill of this very level isn't reached
+        stages.append(Stage(level, float(areas[wet].sum()), float(((level - heights[wet]) * areas[wet]).sum())))
     return stages
 
 
