@@ -170,7 +170,6 @@ class Served(unittest.TestCase):
             Request("POST", "/TOKEN/raster", {"window": [0, 0, 9, 9], "what": "store"}, 400, "a raster holds"),
             Request("POST", "/TOKEN/nothing", {}, 404, "nothing"),
             Request("GET", "/TOKEN/relief/99/0/0.png", None, 400, "no picture"),
-            Request("GET", "/TOKEN/favicon.ico", None, 204, ""),
         ]
         for row in rows:
             with self.subTest(row=row):

@@ -96,9 +96,6 @@ class _Handler(BaseHTTPRequestHandler):
         if "Content-Length" in self.headers:
             self._fail(HTTPStatus.BAD_REQUEST, "what is got has no body")
             return
-        if path == "favicon.ico":
-            self._send(HTTPStatus.NO_CONTENT, b"", "image/x-icon")
-            return
         if path in PAGE_FILES:
             name, kind = PAGE_FILES[path]
             self._send(HTTPStatus.OK, (files(__package__) / "page" / name).read_bytes(), kind)

@@ -565,7 +565,7 @@ async function followLink() {
   if (!kind) return;
   const [amount, ...corners] = parts.get(kind).split(";");
   takeLine(kind, amount, corners.map(numbers));
-  await tryLine();
+  return tryLine();
 }
 
 // ---- The start
@@ -578,14 +578,14 @@ function showAll() {
 
 async function start() {
   region = await request("region");
-  byId("store").textContent = `${region.name}: ${region.tiles.length} tiles of ${region.side} × ${region.side} samples`;
+  byId("store").textContent = `${region.name}: ${region.tiles.length} tile${region.tiles.length === 1 ? "" : "s"} of ${region.side} × ${region.side} samples`;
   byId("legend-low").textContent = `${region.lowest} m`;
   byId("legend-high").textContent = `${region.highest} m`;
   byId("depth-high").textContent = `${region.deepest} m and more`;
   showAll();
   showEdits();
   showCopy();
-  await followLink();
+  return followLink();
 }
 
 byId("watershed").addEventListener("click", () => working("Searching the watershed …", () => askWatershed(Number(byId("snap").value))));
