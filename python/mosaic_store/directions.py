@@ -24,6 +24,11 @@ if TYPE_CHECKING:
 
 def directions_of(session: Session, heights: Heights, told: Told | None = None) -> Array:
     """The direction code of each ground point, uint8 of the heights' shape; 255 elsewhere."""
+    return levels_and_directions(session, heights, told)[1]
+
+
+def levels_and_directions(session: Session, heights: Heights, told: Told | None = None) -> tuple[Array, Array]:
+    """What `levels_of` and `directions_of` answer, with the levels found once."""
     numpy = needed_numpy()
     around = heights_of(session, _grown(heights.window))
     levels = levels_of(session, around, told)
@@ -35,7 +40,7 @@ def directions_of(session: Session, heights: Heights, told: Told | None = None) 
     asked = numpy.flatnonzero((members & unknown)[inner].ravel())
     answers = asked_of(session, [FlowDirection(y, x) for y, x in points_of(heights, asked)], told)
     found.ravel()[asked] = numpy.array([int(answer) for answer in answers], numpy.uint8)
-    return found
+    return levels[inner].copy(), found
 
 
 def _grown(window: Window) -> Window:

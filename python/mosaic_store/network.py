@@ -11,12 +11,12 @@ from collections.abc import Iterator, Mapping, Sequence
 from dataclasses import dataclass
 from typing import TYPE_CHECKING, Any
 
-from .directions import directions_of
+from .directions import levels_and_directions
 from .errors import BadArgument
 from .geojson import Feature, line_feature
 from .lattice import METRES_A_DEGREE, Direction, Point, Window
 from .questions import FlowDirection, WatershedOf
-from .rasters import STEPS, Heights, Told, heights_of, levels_of
+from .rasters import STEPS, Heights, Told, heights_of
 from .samples import needed_numpy
 from .session import Session
 
@@ -178,8 +178,7 @@ class Network:
 def network_of(session: Session, window: Window, told: Told | None = None) -> Network:
     """The network of a window of a store. What drains into the window from outside is asked for where it enters."""
     heights = heights_of(session, window)
-    levels = levels_of(session, heights, told)
-    codes = directions_of(session, heights, told)
+    levels, codes = levels_and_directions(session, heights, told)
     receivers = _receivers(codes)
     return Network(heights, levels, codes, receivers, tuple(_ranks(receivers, heights.ground)), _entering(session, window))
 
