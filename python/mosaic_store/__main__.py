@@ -1,10 +1,11 @@
-"""Runs a command of the package: python -m mosaic_store load|info|backup|geojson|raster|draw|hydrology|view .."""
+"""Runs a command of the package: python -m mosaic_store load|split|info|backup|geojson|raster|draw|hydrology|view .."""
 
 import importlib
 import sys
 
 COMMANDS = {
     "load": "mosaic_store.commands.load",
+    "split": "mosaic_store.commands.split",
     "info": "mosaic_store.commands.info",
     "backup": "mosaic_store.commands.backup",
     "geojson": "mosaic_store.commands.geojson",

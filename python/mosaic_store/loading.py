@@ -47,6 +47,22 @@ class Found:
     sources: list[Source]
     troubles: list[Trouble]
 
+    @property
+    def corners(self) -> set[Corner]:
+        """The corners that the names of its files tell."""
+        return {source.corner for source in self.sources if source.corner is not None}
+
+    def of(self, names: Iterable[str]) -> Found:
+        """What of it is a tile of some names, by a file's name."""
+        wanted = set(names)
+        sources = [source for source in self._named() if source.corner is not None and source.corner.name in wanted]
+        return Found(len(sources), sources, [])
+
+    def without_tiles(self) -> Found:
+        """What of it is no tile, by its name."""
+        sources = [source for source in self.sources if source.corner is None]
+        return Found(len(sources) + len(self.troubles), sources, self.troubles)
+
     def shape(self, side: int | None = None, capacity: int | None = None) -> Shape:
         """The side that most of them have, and room for twice as many tiles: for a store to be made of them."""
         sides = collections.Counter(filter(None, (side_of(source.length or 0) for source in self._named())))
@@ -55,15 +71,12 @@ class Found:
             sides.update(filter(None, (side_of(_length(source)) for source in lengths)))
         if side is None and not sides:
             raise MosaicError("no file is a tile by its name and length (2 * side * side bytes): nothing to make a store of")
-        corners = {source.corner for source in self._named()}
-        if capacity is None and len(corners) > MOST_TILES:
-            raise MosaicError(
-                f"{len(corners)} tiles, and a store takes at most {MOST_TILES}: load a basin at a time, to a store each"
-            )
+        if capacity is None and len(self.corners) > MOST_TILES:
+            raise MosaicError(f"{len(self.corners)} tiles, and a store takes at most {MOST_TILES}: cut them by mosaic-split")
         if side is None:
             side = max(sides, key=lambda at: (sides[at], at))
         # The file of a store takes as much of the drive as its tiles do, so there is room for more of them.
-        return Shape(side, min(MOST_TILES, max(4, 2 * len(corners))) if capacity is None else capacity)
+        return Shape(side, min(MOST_TILES, max(4, 2 * len(self.corners))) if capacity is None else capacity)
 
     def _named(self) -> Iterator[Source]:
         return (source for source in self.sources if source.corner is not None)

@@ -5,13 +5,16 @@ from __future__ import annotations
 import argparse
 import collections
 import functools
+import itertools
 import os
 import sys
 import time
 from collections.abc import Callable, Iterable, Sequence
 
+from ..lattice import MOST_TILES, corner_of
 from ..loading import Found, Kind, Outcome, copy, find, load
 from ..session import Session, open_store
+from ..splitting import FILE, is_split, read_split
 from ..stores import Shape, format_store, shape_of
 from .frame import DONE, FAILED, CommandError, Progress, parser, run
 
@@ -21,6 +24,7 @@ DESCRIPTION = """Imports HGT files and archives of them (.hgt, .zip, .hgt.gz, na
   mosaic-load STORE FOLDER..          makes the store where there is none, with the side and the tiles that it finds
   mosaic-load NEW --from OLD --capacity 200
                                       the tiles and sinks of a store into one of another capacity; OLD stays
+  mosaic-load STORES FOLDER..         more than 240 tiles: makes a folder of stores as mosaic-split says, or fills its stores
 
 Run it again to go on after an interruption: tiles that are there are passed by. Each failure is told with its cause and
 cure, and the status is 1 then."""
@@ -52,9 +56,52 @@ def _from_files(options: argparse.Namespace) -> int:
     found = find(options.paths)
     if not found.sources:
         raise CommandError(f"no HGT file and no archive of one in {', '.join(options.paths)}: nothing to load")
+    if is_split(options.store):
+        return _into_stores(options, found)
+    if len(found.corners) > MOST_TILES and options.capacity is None and not os.path.lexists(options.store):
+        _plan(options, found)
+        return _into_stores(options, found)
     _make_where_none(options, found.shape)
     with open_store(options.store, options.program) as session:
         return _summed_up(load(session, found), len(found.sources) + len(found.troubles), _files(found), session)
+
+
+def _plan(options: argparse.Namespace, found: Found) -> None:
+    """Cuts more tiles than a store takes into several stores, in a folder."""
+    from ..regions import plan, shown_plan
+
+    split = plan(found, options.side, program=options.program)
+    os.mkdir(options.store)
+    split.write(options.store)
+    print(f"{options.store}: " + "\n".join(shown_plan(split)), flush=True)
+
+
+def _into_stores(options: argparse.Namespace, found: Found) -> int:
+    """Loads each store of a folder, as its split says, and finds for which points each answers."""
+    from ..regions import grow, shown_areas
+
+    split = read_split(options.store)
+    statuses, untold = [DONE], [found.without_tiles()]
+
+    def add(name: str, tiles: Iterable[str]) -> None:
+        parts, path = [*untold, found.of(tiles)], os.path.join(options.store, name)
+        untold.clear()
+        if not os.path.lexists(path):
+            format_store(path, split.side, split.most, options.program)
+        with open_store(path, options.program) as session:
+            outcomes = itertools.chain.from_iterable(load(session, part) for part in parts)
+            total = sum(len(part.sources) + len(part.troubles) for part in parts)
+            files = sum(part.files for part in parts)
+            statuses.append(_summed_up(outcomes, total, f"{path}: {files} file{'' if files == 1 else 's'}", session))
+
+    for name, tiles in split.stores.items():
+        add(name, tiles)
+    split = grow(options.store, split, add, options.program)
+    in_none = found.corners - set(filter(None, map(corner_of, itertools.chain(*split.stores.values()))))
+    if in_none:
+        print(f"{NAME}: {len(in_none)} tiles are in no store: {options.store}/{FILE} says of which basins", file=sys.stderr)
+    print("\n".join(shown_areas(split)))
+    return FAILED if in_none else max(statuses)
 
 
 def _from_store(options: argparse.Namespace) -> int:

@@ -1,0 +1,279 @@
+"""For which points a store of a part of a region answers as one store of the whole region would.
+
+Where a flow path in the store ends at a point of which the region's tiles are all there, and doesn't come to the cut before,
+water leaves the region there: levels, directions and the path are then those of the region. (The store's levels are never
+higher, as water also leaves it at the cut; and along such a path they are never lower, as it is a path of the region. So no
+neighbour is steeper in the region, and no flat nearer to its end.) So the basins of a region's outlets, found in a store, are
+parts of the region's. Of several stores that which has most of a basin answers for it. A basin is whole where no point
+beside it is left over, whose water may yet come to it; then its watersheds are right, too.
+"""
+
+from __future__ import annotations
+
+import collections
+import dataclasses
+from collections.abc import Iterable, Iterator, Mapping, Sequence
+from dataclasses import dataclass
+from typing import TYPE_CHECKING, Any
+
+from .errors import Refusal, Void
+from .geojson import Feature, points_feature
+from .hydrology import runs_of
+from .lattice import VOID, Corner, Direction, Point, Run, Window, corner_of, corners_of
+from .questions import FlowDirection, WatershedOf
+from .rasters import STEPS
+from .samples import needed_numpy
+from .session import Session
+from .splitting import AREA, PLANNED, TOO_LARGE, Cells, Split
+
+if TYPE_CHECKING:
+    import numpy
+
+    Array = numpy.ndarray[Any, Any]
+
+
+@dataclass(frozen=True)
+class Drained:
+    """Where the water of a store goes."""
+
+    window: Window
+    """The least that has its tiles."""
+    outlets: list[Point]
+    """Where it leaves the region."""
+    runs: Array
+    """Of each of them the points that drain to it and not along the cut: rows of y, first x, last x and its number."""
+    is_clean: Array
+    """Of each outlet whether nothing drains to it along the cut: bool."""
+    leaving: Array
+    """The points whose water comes to the cut, some several times: rows of y, first x, last x and their end's number."""
+    ends: list[Point]
+    """Where these leave the store: points of the cut."""
+    is_edited: bool
+    """Whether the store had other commands than the imports of its tiles."""
+
+    @property
+    def cells(self) -> Array:
+        """How many points each outlet has."""
+        return _summed(self.runs, self.runs[:, 2] - self.runs[:, 1] + 1, len(self.outlets))
+
+
+def drained(session: Session, region: Iterable[str]) -> Drained:
+    """Where the water of a store goes that has some tiles of a region, which are named."""
+    numpy = needed_numpy()
+    side = session.side
+    tiles = set(_corners(session.tiles()))
+    cut = _cut(tiles, set(_corners(region)) - tiles, side)
+    directions = _directions(session, sorted(cut | _possible_outlets(session)))
+    last_of_cut = [point for point in cut if point in directions and _beyond(point, directions[point]) not in cut]
+    leaving = _rows(shed.runs for shed in _sheds(session, last_of_cut))
+    outlets = [point for point, direction in directions.items() if direction is Direction.OFF and point not in cut]
+    runs = _rows(shed.runs for shed in _sheds(session, outlets))
+    window = _extent(tiles, side)
+    left = _mask([leaving], window)
+    is_clean = _summed(runs, _counted(runs, left, window), len(outlets)) == 0
+    if not is_clean.all():
+        runs = numpy.concatenate([runs[is_clean[runs[:, 3]]], _without(runs[~is_clean[runs[:, 3]]], left, window)])
+    return Drained(window, outlets, runs, is_clean, leaving, last_of_cut, session.count() != len(tiles))
+
+
+def with_areas(split: Split, found: Mapping[str, Drained]) -> Split:
+    """A split with the points for which each store answers, from where the water of each goes."""
+    answering = _answering(found)
+    features = [feature for feature in split.features if feature["properties"]["what"] == TOO_LARGE]
+    for feature in (feature for feature in split.features if feature["properties"]["what"] == PLANNED):
+        name = feature["properties"]["store"]
+        left_over = _left_over(found[name], answering) if name in found else None
+        unanswered = {} if left_over is None else {"unanswered": int(left_over.sum())}
+        features.append({**feature, "properties": {**feature["properties"], **unanswered}})
+        if left_over is not None:
+            features += _areas(name, found[name], answering[name], left_over, split.side)
+    return dataclasses.replace(split, features=features)
+
+
+def lacking(split: Split, found: Mapping[str, Drained]) -> dict[str, list[str]]:
+    """Of each store the tiles beside it to which water goes from points that it was planned for and no store answers for.
+
+    The most wanted ones, as far as it takes more tiles. None where a store was edited, as these tiles may have been, too.
+    """
+    if any(own.is_edited for own in found.values()):
+        return {}
+    answering, more = _answering(found), {}
+    for feature in split.features:
+        name = feature["properties"].get("store")
+        if feature["properties"]["what"] == PLANNED and name in found:
+            own = found[name]
+            left_over = _left_over(own, answering) & _mask([_fine(split.coarse_cells(feature), split.every)], own.window)
+            counts = _summed(own.leaving, _counted(own.leaving, left_over, own.window), len(own.ends))
+            wanted: collections.Counter[str] = collections.Counter()
+            for end, count in zip(own.ends, counts.tolist()):
+                wanted.update({corner.name: count for corner in corners_of(end, split.side) if count})
+            missing = [tile for tile, _ in wanted.most_common() if tile in split.tiles and tile not in split.stores[name]]
+            more[name] = missing[: split.most - len(split.stores[name])]
+    return {name: tiles for name, tiles in more.items() if tiles}
+
+
+def _fine(cells: Cells, every: int) -> Array:
+    """The points for which those of a coarse mosaic stand, as rows of y, first x, last x."""
+    numpy = needed_numpy()
+    runs = numpy.array(list(cells.runs()), numpy.int64).reshape(-1, 3) * every - every // 2
+    rows = numpy.repeat(runs, every, axis=0)
+    rows[:, 0] += numpy.tile(numpy.arange(every), len(runs))
+    rows[:, 2] += every - 1
+    return rows
+
+
+def _answering(found: Mapping[str, Drained]) -> dict[str, Array]:
+    """The runs of each store's outlets for which it answers."""
+    chosen = _chosen(found)
+    return {name: store.runs[chosen[name][store.runs[:, 3]]] for name, store in found.items()}
+
+
+def _left_over(own: Drained, answering: Mapping[str, Array]) -> Array:
+    """The points of a store's window that it holds and no store answers for."""
+    return _mask([own.runs, own.leaving], own.window) & ~_mask(answering.values(), own.window)
+
+
+def _areas(name: str, own: Drained, mine: Array, left_over: Array, side: int) -> Iterator[Feature]:
+    """What a store answers for: the basins that are whole, and the others."""
+    numpy = needed_numpy()
+    beside = _grown(left_over)
+    is_whole = own.is_clean & (_summed(mine, _counted(mine, beside, own.window), len(own.outlets)) == 0)
+    for has_watersheds in (True, False):
+        part = mine[is_whole[mine[:, 3]] == has_watersheds]
+        cells = int((part[:, 2] - part[:, 1] + 1).sum())
+        basins = len(numpy.unique(part[:, 3]))
+        about = {"what": AREA, "store": name, "watersheds": has_watersheds, "basins": basins, "cells": cells}
+        if cells:
+            yield points_feature(runs_of(_mask([part], own.window), own.window), side, about)
+
+
+def _chosen(found: Mapping[str, Drained]) -> dict[str, Array]:
+    """Of each store which of its outlets it answers for: those of which no other has more points, of equals a clean one."""
+    numpy = needed_numpy()
+    best: dict[Point, tuple[tuple[int, bool], str]] = {}
+    for name in sorted(found):
+        for outlet, *rank in zip(found[name].outlets, found[name].cells.tolist(), found[name].is_clean.tolist()):
+            if outlet not in best or tuple(rank) > best[outlet][0]:
+                best[outlet] = (rank[0], rank[1]), name
+    return {name: numpy.array([best[outlet][1] == name for outlet in store.outlets], bool) for name, store in found.items()}
+
+
+def _corners(names: Iterable[str]) -> Iterator[Corner]:
+    return (corner for corner in map(corner_of, names) if corner is not None)
+
+
+def _cut(tiles: set[Corner], absent: set[Corner], side: int) -> set[Point]:
+    """The points of some tiles that an absent tile of the region holds, too."""
+    found = set()
+    for corner in tiles:
+        for north, east in STEPS:
+            other = Corner(corner.latitude + north, corner.longitude + east)
+            if other in absent:
+                (y0, x0, y1, x1), (v0, u0, v1, u1) = corner.window(side), other.window(side)
+                rows, columns = range(max(y0, v0), min(y1, v1) + 1), range(max(x0, u0), min(x1, u1) + 1)
+                found |= {Point(y, x) for y in rows for x in columns}
+    return found
+
+
+def _possible_outlets(session: Session) -> set[Point]:
+    """All points on edges of tiles and beside voids of a tile, and the sinks: water leaves at no others."""
+    numpy = needed_numpy()
+    found = set(session.sinks())
+    for corner in _corners(session.tiles()):
+        window = corner.window(session.side)
+        void = session.tile(corner.name) == VOID
+        edge = numpy.ones(void.shape, bool)
+        edge[1:-1, 1:-1] = False
+        rows, columns = numpy.nonzero((_grown(void) | edge) & ~void)
+        found |= {Point(window.y1 - row, window.x0 + column) for row, column in zip(rows.tolist(), columns.tolist())}
+    return found
+
+
+def _directions(session: Session, points: Sequence[Point]) -> dict[Point, Direction]:
+    """The direction of each point that is ground."""
+    found = {}
+    for point, direction in zip(points, session.pipeline(FlowDirection(*point) for point in points)):
+        if isinstance(direction, Direction):
+            found[point] = direction
+        elif not isinstance(direction, Void):
+            raise direction
+    return found
+
+
+def _beyond(point: Point, direction: Direction) -> Point | None:
+    """The point that a direction leads to; None off the mosaic."""
+    north, east = direction.step
+    return None if direction is Direction.OFF else Point(point.y + north, point.x + east)
+
+
+def _sheds(session: Session, points: Sequence[Point]) -> Iterator[Any]:
+    for shed in session.pipeline(WatershedOf(*point) for point in points):
+        if isinstance(shed, Refusal):
+            raise shed
+        yield shed
+
+
+def _rows(sheds: Iterable[Sequence[Run]]) -> Array:
+    """Runs as rows of y, first x, last x and the number of their set."""
+    numpy = needed_numpy()
+    parts = [numpy.empty((0, 4), numpy.int64)]
+    for number, runs in enumerate(sheds):
+        part = numpy.full((len(runs), 4), number, numpy.int64)
+        part[:, :3] = runs
+        parts.append(part)
+    return numpy.concatenate(parts)
+
+
+def _extent(tiles: Iterable[Corner], side: int) -> Window:
+    south, west, north, east = zip(*(corner.window(side) for corner in tiles))
+    return Window(min(south), min(west), max(north), max(east))
+
+
+def _mask(parts: Iterable[Array], window: Window) -> Array:
+    """Which points of a window some runs have, as far as they lie in it: bool, the north row first."""
+    numpy = needed_numpy()
+    steps = numpy.zeros((window.height, window.width + 1), numpy.int32)
+    for runs in parts:
+        first, last = numpy.maximum(runs[:, 1], window.x0), numpy.minimum(runs[:, 2], window.x1)
+        inside = (runs[:, 0] >= window.y0) & (runs[:, 0] <= window.y1) & (first <= last)
+        rows = window.y1 - runs[inside, 0]
+        numpy.add.at(steps, (rows, first[inside] - window.x0), 1)
+        numpy.add.at(steps, (rows, last[inside] - window.x0 + 1), -1)
+    return numpy.cumsum(steps, axis=1, out=steps)[:, :-1] > 0
+
+
+def _counted(runs: Array, mask: Array, window: Window) -> Array:
+    """How many points of each run a mask of a window has."""
+    numpy = needed_numpy()
+    sums = numpy.zeros((mask.shape[0], mask.shape[1] + 1), numpy.int32)
+    numpy.cumsum(mask, axis=1, out=sums[:, 1:])
+    rows = window.y1 - runs[:, 0]
+    return sums[rows, runs[:, 2] - window.x0 + 1] - sums[rows, runs[:, 1] - window.x0]
+
+
+def _summed(runs: Array, values: Array, count: int) -> Array:
+    """The sums of values of runs by the number of their set."""
+    numpy = needed_numpy()
+    return numpy.bincount(runs[:, 3], weights=values, minlength=count).astype(numpy.int64)
+
+
+def _without(runs: Array, mask: Array, window: Window) -> Array:
+    """Runs without the points of a mask."""
+    numpy = needed_numpy()
+    parts = [numpy.empty((0, 4), numpy.int64)]
+    for y, first, last, number in runs.tolist():
+        row = ~mask[window.y1 - y : window.y1 - y + 1, first - window.x0 : last - window.x0 + 1]
+        left = runs_of(row, Window(y, first, y, last))
+        parts.append(numpy.array([(*run, number) for run in left], numpy.int64).reshape(-1, 4))
+    return numpy.concatenate(parts)
+
+
+def _grown(mask: Array) -> Array:
+    """A mask with the eight neighbours of each of its points."""
+    numpy = needed_numpy()
+    height, width = mask.shape
+    padded = numpy.pad(mask, 1)
+    found = mask.copy()
+    for north, east in STEPS:
+        found |= padded[1 - north : 1 - north + height, 1 + east : 1 + east + width]
+    return found
