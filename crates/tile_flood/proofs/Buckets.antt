@@ -105,6 +105,13 @@ nobody least bs k low high l f w = elim (cases_lt w.0 k) [
   | inr above ↦ none_in f (bucket bs w.0) (high w.0 above) w.1.1
 ]
 
+-- a level below that of the first bucket in use is below all that waits
+pub all_above : (least : ℤ) (bs : List (List ℕ)) (k : ℕ) (level : ℤ) → AreEmptyBelow bs k → level <ℤ (least +ℤ pos k) → (l : ℤ) (f : ℕ) → Waits (from_level least bs) l f → level <ℤ l
+all_above least bs k level low under l f w = elim (cases_lt w.0 k) [
+  | inl below ↦ absurd (none_in f (bucket bs w.0) (low w.0 below) w.1.1)
+  | inr above ↦ let at = w.1.0 in omega (arith, ints)
+]
+
 pub none_left : {X : Type 0} (xs : List X) → length xs ≡ 0 → xs ≡ []
 none_left [] none = refl
 none_left (x ∷ xs) none = absurd (omega arith)
@@ -247,6 +254,12 @@ module _ {V : Type 0} (items : V → List ℕ) where
       (subst (λ bs. IsExtended (from_level least (map items xs)) (from_level least' bs) × HasBucket (from_level least' bs) level) (sym parts)
       (subst (λ l. IsExtended (from_level least (map items xs)) (from_level l ((map items pre ++ map items xs) ++ map items post)) × HasBucket (from_level l ((map items pre ++ map items xs) ++ map items post)) level) (sym from)
       (extends least (map items pre) (map items xs) (map items post) none_before none_after, has_bucket least (map items pre) (map items xs) (map items post) none_before none_after level low high)))
+
+  -- all that waits is above a level below the first bucket in use
+  pub above_level : (least : ℤ) (xs ys : List V) (start k : ℕ) (queue : Queue) (level : ℤ) → from_level least (map items ys) ≡ queue → xs ≡ ys → AreEmptyBelow (map items ys) start →
+      ((b : ℕ) → start ≤ b → b < k → bucket (map items xs) b ≡ []) → level <ℤ (least +ℤ pos k) → (l : ℤ) (f : ℕ) → Waits queue l f → level <ℤ l
+  above_level least xs ys start k queue level same alike empty next under =
+      subst (λ q. (l : ℤ) (f : ℕ) → Waits q l f → level <ℤ l) same (all_above least (map items ys) k level (empty_below ys start k empty (empty_between xs ys start k alike next)) under)
 
   -- somebody waits at the level of a bucket in use
   pub somebody : (least : ℤ) (xs ys : List V) (k : ℕ) (queue : Queue) (level : ℤ) → from_level least (map items ys) ≡ queue → xs ≡ ys → level ≡ least +ℤ pos k → 0 < length (bucket (map items xs) k) → (e : ℕ) × Waits queue level e

@@ -1,7 +1,7 @@
 -- Labels that are carried but for suspects, while a labelling is mended.
-use Rattle.std.proofs.Common.{◌≡◌, ◌≢◌, ℕ, ◌<◌, ℤ, ◌≤ℤ◌, ◌<ℤ◌, ◌⊎◌, IsTrue, IsFalse, List, [], ◌∷◌, length, get_or, set, get_or-set_other, get_or-set_same, slice_index, inl, inr, refl, sym, ap, ◌∙◌, subst, arith}
+use Rattle.std.proofs.Common.{◌≡◌, ◌≢◌, ℕ, ◌<◌, ℤ, ◌≤ℤ◌, ◌<ℤ◌, ◌⊎◌, not, nat_eq, IsTrue, IsFalse, List, [], ◌∷◌, length, get_or, set, get_or-set_other, get_or-set_same, slice_index, inl, inr, refl, sym, ap, ◌∙◌, subst, arith, true≢false}
 use Rattle.std.specs.Int.{int_max}
-use Rattle.std.proofs.lemmas.Bool.{cases_eq}
+use Rattle.std.proofs.lemmas.Bool.{cases_Bool, cases_eq, eqb-false}
 use Rattle.std.proofs.lemmas.Int.{ints, clamps}
 use Rattle.lattice.specs.Mosaic.{void}
 use Rattle.lattice.specs.Block.{is_solid, is_linked, is_exit}
@@ -17,8 +17,14 @@ abbrev pub Passes : ℕ → ℕ → List ℕ → Type 0
 Passes y e [] = e ≡ y
 Passes y e (f ∷ rest) = (e ≡ y) ⊎ Passes y f rest
 
-below_max : (h l m : ℤ) → int_max h l ≤ℤ m → l ≤ℤ m
+pub below_max : (h l m : ℤ) → int_max h l ≤ℤ m → l ≤ℤ m
 below_max h l m le = omega (arith, ints, clamps)
+
+pub first_below : (h l m : ℤ) → int_max h l ≤ℤ m → h ≤ℤ m
+first_below h l m le = omega (arith, ints, clamps)
+
+pub apart_if : (z y : ℕ) → IsTrue (not (nat_eq z y)) → z ≡ y → ⊥
+apart_if z y apart is = elim (cases_Bool (nat_eq z y)) [ inl is_so ↦ true≢false (sym apart ∙ ap not is_so) | inr isnt ↦ eqb-false z y isnt is ]
 
 on_to : (a b c : ℤ) → a ≤ℤ b → b ≤ℤ c → a ≤ℤ c
 on_to a b c one two = omega (arith, ints)
@@ -83,13 +89,22 @@ module _ (n : ℕ) (heights heights' : List ℤ) (sinks : List ℕ) (levels : Li
     level = rw (get_or-set_other levels y z l void z_else) (rw (get_or-set_other levels y f l void f_else) (rw (others z z_else) up.level));
   }
 
-  -- where all that hung on it is suspect, all else is held
-  pub held_reset : ((e : ℕ) → e ≢ y → Suspect e → Suspect' e) → ((e : ℕ) → IsHeldUp n heights sinks levels labels e y → Suspect' e) → (z : ℕ) (rest : List ℕ) → z ≢ y → IsHeldBy n heights sinks levels labels Suspect z rest →
-      (after : List ℕ) × IsHeldBy n heights' sinks (set levels y l) (set labels y a) Suspect' z after
-  held_reset still suspects z [] other by = elim by [ inl suspect ↦ ([], inl (still z other suspect)) | inr seed ↦ ([], inr (seed_anew z other seed)) ]
-  held_reset still suspects z (f ∷ more) other by = elim (cases_eq f y) [
-    | inl at ↦ ([], inl (suspects z (subst (λ e. IsHeldUp n heights sinks levels labels z e) at by.0)))
-    | inr f_other ↦ let on = held_reset still suspects f more f_other by.1 in (f ∷ on.0, (step_anew z f other f_other by.0, on.1))
+  -- what passes y by stays as it is
+  pub beside_anew : ((e : ℕ) → e ≢ y → Suspect e → Suspect' e) → (z : ℕ) (rest : List ℕ) → IsHeldBy n heights sinks levels labels Suspect z rest → (Passes y z rest → ⊥) → IsHeldBy n heights' sinks (set levels y l) (set labels y a) Suspect' z rest
+  beside_anew still z [] by off = elim by [ inl suspect ↦ inl (still z (λ is. off is) suspect) | inr seed ↦ inr (seed_anew z (λ is. off is) seed) ]
+  beside_anew still z (f ∷ rest) by off = (step_anew z f (λ is. off (inl is)) (first_else rest off) by.0, beside_anew still f rest by.1 (λ passes. off (inr passes)))
+    where
+      first_else : (rest : List ℕ) → (Passes y z (f ∷ rest) → ⊥) → f ≢ y
+      first_else [] off is = off (inr is)
+      first_else (g ∷ more) off is = off (inr (inl is))
+
+  -- where all that hung on it is held, all else is
+  pub held_reset : ((e : ℕ) → e ≢ y → Suspect e → Suspect' e) → ((e : ℕ) → IsHeldUp n heights sinks levels labels e y → (after : List ℕ) × IsHeldBy n heights' sinks (set levels y l) (set labels y a) Suspect' e after) →
+      (z : ℕ) (rest : List ℕ) → z ≢ y → IsHeldBy n heights sinks levels labels Suspect z rest → (after : List ℕ) × IsHeldBy n heights' sinks (set levels y l) (set labels y a) Suspect' z after
+  held_reset still hung z [] other by = elim by [ inl suspect ↦ ([], inl (still z other suspect)) | inr seed ↦ ([], inr (seed_anew z other seed)) ]
+  held_reset still hung z (f ∷ more) other by = elim (cases_eq f y) [
+    | inl at ↦ hung z (subst (λ e. IsHeldUp n heights sinks levels labels z e) at by.0)
+    | inr f_other ↦ let on = held_reset still hung f more f_other by.1 in (f ∷ on.0, (step_anew z f other f_other by.0, on.1))
   ]
 
 -- the point y gets another level and another label
@@ -120,12 +135,7 @@ module _ (n : ℕ) (heights : List ℤ) (sinks : List ℕ) (levels : List ℤ) (
 
   -- what passes y by stays as it is
   beside_it : ((e : ℕ) → e ≢ y → Suspect e → Suspect' e) → (z : ℕ) (rest : List ℕ) → IsHeldBy n heights sinks levels labels Suspect z rest → (Passes y z rest → ⊥) → IsHeldBy n heights sinks new_levels new_labels Suspect' z rest
-  beside_it still z [] by off = elim by [ inl suspect ↦ inl (still z (λ is. off is) suspect) | inr seed ↦ inr (seed_still z (λ is. off is) seed) ]
-  beside_it still z (f ∷ rest) by off = (step_still z f (λ is. off (inl is)) (first_else rest off) by.0, beside_it still f rest by.1 (λ passes. off (inr passes)))
-    where
-      first_else : (rest : List ℕ) → (Passes y z (f ∷ rest) → ⊥) → f ≢ y
-      first_else [] off is = off (inr is)
-      first_else (g ∷ more) off is = off (inr (inl is))
+  beside_it = beside_anew n heights heights sinks levels labels Suspect Suspect' y l a (λ e. refl) (λ e other. refl)
 
   -- an open point holds nothing
   open_off : get_or levels y void ≡ void → (Suspect₀ : ℕ → Type 0) (z : ℕ) (rest : List ℕ) → z ≢ y → IsHeldBy n heights sinks levels labels Suspect₀ z rest → Passes y z rest → ⊥

@@ -7,6 +7,8 @@ pub mod PlainRows
 pub mod Dependence
 pub mod BelowLevel
 pub mod Held
+pub mod Spared
+pub mod OneRun
 pub mod Steps
 pub mod ListedChanges
 pub mod SameSpills

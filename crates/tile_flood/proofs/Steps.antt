@@ -1,13 +1,14 @@
 -- The steps by which a labelling is mended.
-use Rattle.std.proofs.Common.{◌≡◌, ◌≢◌, ℕ, ◌+◌, ◌*◌, ◌/◌, ◌<◌, ℤ, ◌≤ℤ◌, ◌<ℤ◌, ◌⊎◌, false, not, IsTrue, IsFalse, List, [], ◌∷◌, length, length-set, Contains, get_or, set, nat_eq, get_or-set_other, get_or-set_same, slice_index, inl, inr, refl, sym, ap, ◌∙◌, subst, arith, true≢false}
+use Rattle.std.proofs.Common.{◌≡◌, ◌≢◌, ℕ, ◌+◌, ◌*◌, ◌/◌, ◌<◌, ℤ, ◌≤ℤ◌, ◌<ℤ◌, ◌⊎◌, false, not, IsTrue, IsFalse, List, [], ◌∷◌, length, length-set, Contains, get_or, set, get_or-set_other, get_or-set_same, slice_index, inl, inr, refl, sym, ap, ◌∙◌, subst, arith, true≢false}
 use Rattle.std.specs.Int.{int_max}
 use Rattle.std.specs.Ordering.{int_eq}
-use Rattle.std.proofs.lemmas.Bool.{cases_Bool, cases_eq, eqb-false, ne_eqb}
+use Rattle.std.proofs.lemmas.Bool.{cases_Bool, cases_eq, ne_eqb}
 use Rattle.std.proofs.lemmas.Bool.Decides.{Decides-int_eq}
 use Rattle.std.proofs.lemmas.Int.{ints, clamps}
 use Rattle.lattice.specs.Mosaic.{void}
 use Rattle.lattice.specs.Block.{block_terrain, is_solid, is_linked, is_exit, is_beside}
 use Rattle.lattice.proofs.Levels.{all_marked, max_one_of}
+use Rattle.lattice.proofs.IntTests.{le_or_above}
 use Rattle.lattice.proofs.Lawful.{block_is_lawful}
 use Rattle.tile_flood.specs.Blocks.{block_of}
 use Rattle.tile_flood.specs.Labelling.{IsLabelling, Names, NO_LABEL}
@@ -17,9 +18,11 @@ use Rattle.tile_flood.specs.Flooding.{is_marked, IsOwnLabel}
 use Rattle.tile_flood.specs.Mending.{IsLabelledBefore}
 use Rattle.tile_flood.specs.Affected.{IsAmong}
 use Rattle.tile_flood.specs.Suspects.{IsHeldUp, IsHeldBy, IsMending, IsIn, IsInOr, AreMending, IsPassingOn, IsBesideWith, AreAtMost, IsBeginning}
+use Rattle.tile_flood.specs.Sparing.{HangTogether, IsFirstSuspect}
 use Rattle.tile_flood.proofs.Squares.{not_void_if, test_if, linked_parts, linked_from, solid_height, solid_below, leads}
 use Rattle.tile_flood.proofs.Dependence.{same_exit, same_inner, same_link, same_names, full_at, solid_at, filled_if, label_at, relaxed_least, labelling_relaxed, same_ground, solid_inside, beside_itself, beside_back}
-use Rattle.tile_flood.proofs.Held.{held_lowered, held_marked, held_kept, held_reset, seed_anew, carried_end}
+use Rattle.tile_flood.proofs.Held.{held_lowered, held_marked, held_kept, held_reset, seed_anew, carried_end, first_below, below_max, apart_if, beside_anew}
+use Rattle.tile_flood.proofs.Spared.{held_off}
 
 at_most_it : (l : ℤ) → l ≤ℤ l
 at_most_it l = omega (arith, ints)
@@ -32,12 +35,6 @@ max_as h l m same = omega (arith, ints)
 
 not_lower : (l m h : ℤ) → l <ℤ m → m ≡ h → h ≤ℤ l → ⊥
 not_lower l m h lt same le = absurd (omega (arith, ints))
-
-first_below : (h l m : ℤ) → int_max h l ≤ℤ m → h ≤ℤ m
-first_below h l m le = omega (arith, ints, clamps)
-
-second_below : (h l m : ℤ) → int_max h l ≤ℤ m → l ≤ℤ m
-second_below h l m le = omega (arith, ints, clamps)
 
 max_first : (h l v : ℤ) → v ≡ int_max h l → h ≤ℤ v
 max_first h l v same = omega (arith, ints, clamps)
@@ -72,9 +69,6 @@ unmarked_void levels e off = elim (cases_Bool (int_eq (get_or levels e void) voi
     int_is : (v : ℤ) → IsTrue (int_eq v void) → v ≡ void
     int_is v is = (Decides-int_eq v void).0 is
 
-apart_if : (z y : ℕ) → IsTrue (not (nat_eq z y)) → z ≡ y → ⊥
-apart_if z y apart is = elim (cases_Bool (nat_eq z y)) [ inl is_so ↦ true≢false (sym apart ∙ ap not is_so) | inr isnt ↦ eqb-false z y isnt is ]
-
 -- at other points a list is as it was
 module _ (levels : List ℤ) (labels : List ℕ) (y : ℕ) (l : ℤ) (a : ℕ) where
   pub level_else : (z : ℕ) → z ≢ y → get_or (set levels y l) z void ≡ get_or levels z void
@@ -94,7 +88,7 @@ pub hung_suspect : (n : ℕ) (heights : List ℤ) (sinks : List ℕ) (levels : L
     (e < n * n → IsTrue (is_beside n y e) → IsTrue (is_marked (set levels y l) e) → slice_index (set labels y a) e ≡ slice_index labels y → get_or levels y void ≤ℤ get_or (set levels y l) e void → Suspect) → Suspect
 hung_suspect n heights sinks levels labels y l a e other up suspected =
     let back = linked_parts n heights y e ((block_is_lawful (block_of n heights sinks)).both_ways e y up.link) in
-    let high = second_below (get_or heights e void) (get_or levels y void) (get_or levels e void) up.level in
+    let high = below_max (get_or heights e void) (get_or levels y void) (get_or levels e void) up.level in
     suspected (solid_below n heights e back.to) back.beside (marked_else levels labels y l a e other ∙ test_if (get_or levels e void) up.own)
     (label_else levels labels y l a e other ∙ up.label) (subst (λ v. get_or levels y void ≤ℤ v) (sym (level_else levels labels y l a e other)) high)
 
@@ -166,7 +160,7 @@ module _ (n : ℕ) (heights heights' : List ℤ) (sinks : List ℕ) (levels : Li
 
   -- the point is opened, or it is a way out that gets its height and its label
   pub reset_state : ((l ≡ void) × ((a ≡ NO_LABEL) × IsFalse (is_exit (block_of n heights' sinks) y))) ⊎ (IsTrue (is_exit (block_of n heights' sinks) y) × ((l ≡ get_or heights' y void) × IsOwnLabel (block_of n heights' sinks) y a)) →
-      ((e : ℕ) → e ≢ y → Suspect e → Suspect' e) → ((e : ℕ) → e ≢ y → Waiting e → Waiting' e) → ((e : ℕ) → e ≢ y → IsHeldUp n heights sinks levels labels e y → Suspect' e) →
+      ((e : ℕ) → e ≢ y → Suspect e → Suspect' e) → ((e : ℕ) → e ≢ y → Waiting e → Waiting' e) → ((e : ℕ) → e ≢ y → IsHeldUp n heights sinks levels labels e y → (after : List ℕ) × IsHeldBy n heights' sinks (set levels y l) (set labels y a) Suspect' e after) →
       ((e : ℕ) → e < n * n → IsTrue (is_beside n y e) → IsTrue (is_marked (set levels y l) e) → Waiting' e ⊎ Suspect' e) → IsTrue (is_beside n y y) →
       IsMending n heights' sinks (set levels y l) (set labels y a) Waiting' Suspect'
   reset_state outcome suspect waiting hung beside by_itself =
@@ -200,27 +194,41 @@ module _ (n : ℕ) (heights heights' : List ℤ) (sinks : List ℕ) (levels : Li
         inner_outlet = λ out. label_here ∙ way.1.1.inner_outlet out;
       }
 
--- beside y all that has its label, and at least its level, is suspect
-abbrev pub AreSuspectBeside : (n : ℕ) (levels : List ℤ) (labels : List ℕ) (levels' : List ℤ) (labels' : List ℕ) (suspects' : Queue) (y : ℕ) → Type 0
-AreSuspectBeside n levels labels levels' labels' suspects' y =
-    (e : ℕ) → e < n * n → IsTrue (is_beside n y e) → IsTrue (is_marked levels' e) → slice_index labels' e ≡ slice_index labels y → get_or levels y void ≤ℤ get_or levels' e void → IsIn suspects' levels' e
+-- beside y all that has its label, from this level on, is suspect
+abbrev pub AreSuspectBeside : (n : ℕ) (labels : List ℕ) (levels' : List ℤ) (labels' : List ℕ) (suspects' : Queue) (y : ℕ) (from : ℤ) → Type 0
+AreSuspectBeside n labels levels' labels' suspects' y from =
+    (e : ℕ) → e < n * n → IsTrue (is_beside n y e) → IsTrue (is_marked levels' e) → slice_index labels' e ≡ slice_index labels y → from ≤ℤ get_or levels' e void → IsIn suspects' levels' e
 
 -- beside y all marked points wait or are suspect
 abbrev pub AreAwaitedBeside : (n : ℕ) (levels' : List ℤ) (queue' suspects' : Queue) (y : ℕ) → Type 0
 AreAwaitedBeside n levels' queue' suspects' y = (e : ℕ) → e < n * n → IsTrue (is_beside n y e) → IsTrue (is_marked levels' e) → IsIn queue' levels' e ⊎ IsIn suspects' levels' e
 
 -- the same as the code does it: a point in a queue is there still where its level is as it was
-pub reset_in : (n : ℕ) (heights heights' : List ℤ) (sinks : List ℕ) (levels levels' : List ℤ) (labels labels' : List ℕ) (queue queue' suspects suspects' : Queue) (Suspect : ℕ → Type 0) (y : ℕ) (l : ℤ) (a : ℕ) → levels' ≡ set levels y l → labels' ≡ set labels y a → IsMending n heights sinks levels labels (IsIn queue levels) Suspect → ((e : ℕ) → e ≢ y → Suspect e → IsIn suspects levels e) →
+pub reset_in : (n : ℕ) (heights heights' : List ℤ) (sinks : List ℕ) (levels levels' : List ℤ) (labels labels' : List ℕ) (queue queue' suspects suspects' : Queue) (Suspect : ℕ → Type 0) (y : ℕ) (l : ℤ) (a : ℕ) (from : ℤ) → levels' ≡ set levels y l → labels' ≡ set labels y a → IsMending n heights sinks levels labels (IsIn queue levels) Suspect → ((e : ℕ) → e ≢ y → Suspect e → IsIn suspects levels e) →
     ((e : ℕ) → is_solid (block_of n heights sinks) e ≡ is_solid (block_of n heights' sinks) e) → ((e : ℕ) → e ≢ y → get_or heights' e void ≡ get_or heights e void) → IsTrue (is_marked levels y) →
     ((l ≡ void) × ((a ≡ NO_LABEL) × IsFalse (is_exit (block_of n heights' sinks) y))) ⊎ (IsTrue (is_exit (block_of n heights' sinks) y) × ((l ≡ get_or heights' y void) × IsOwnLabel (block_of n heights' sinks) y a)) → WaitStill queue queue' → WaitStill suspects suspects' →
-    AreSuspectBeside n levels labels levels' labels' suspects' y → AreAwaitedBeside n levels' queue' suspects' y → AreMending n heights' sinks levels' labels' queue' suspects'
-reset_in n heights heights' sinks levels levels' labels labels' queue queue' suspects suspects' Suspect y l a at_levels at_labels s was same others on outcome waiting suspect =
-    subst (λ ls. AreSuspectBeside n levels labels ls labels' suspects' y → AreAwaitedBeside n ls queue' suspects' y → AreMending n heights' sinks ls labels' queue' suspects') (sym at_levels)
-    (subst (λ bs. AreSuspectBeside n levels labels (set levels y l) bs suspects' y → AreAwaitedBeside n (set levels y l) queue' suspects' y → AreMending n heights' sinks (set levels y l) bs queue' suspects') (sym at_labels)
+    (from ≤ℤ get_or levels y void) ⊎ (((v : ℤ) → get_or levels y void <ℤ v → from ≤ℤ v) × (HangTogether n levels labels y × (IsFalse (is_exit (block_of n heights sinks) y) × (Suspect y → ⊥)))) →
+    AreSuspectBeside n labels levels' labels' suspects' y from → AreAwaitedBeside n levels' queue' suspects' y → AreMending n heights' sinks levels' labels' queue' suspects'
+reset_in n heights heights' sinks levels levels' labels labels' queue queue' suspects suspects' Suspect y l a from at_levels at_labels s was same others on outcome waiting suspect spared =
+    subst (λ ls. AreSuspectBeside n labels ls labels' suspects' y from → AreAwaitedBeside n ls queue' suspects' y → AreMending n heights' sinks ls labels' queue' suspects') (sym at_levels)
+    (subst (λ bs. AreSuspectBeside n labels (set levels y l) bs suspects' y from → AreAwaitedBeside n (set levels y l) queue' suspects' y → AreMending n heights' sinks (set levels y l) bs queue' suspects') (sym at_labels)
     (λ suspected beside.
     reset_state n heights heights' sinks levels labels (IsIn queue levels) Suspect (IsIn queue' (set levels y l)) (IsIn suspects' (set levels y l)) y l a s same others (s.ground y on) outcome
-    (λ e other is. in_still levels labels y l a suspects suspects' suspect e other (was e other is)) (λ e other w. in_still levels labels y l a queue queue' waiting e other w)
-    (λ e other up. hung_suspect n heights sinks levels labels y l a e other up (suspected e)) beside (beside_itself n y)))
+    still (λ e other w. in_still levels labels y l a queue queue' waiting e other w) (hung suspected) beside (beside_itself n y)))
+  where
+    still : (e : ℕ) → e ≢ y → Suspect e → IsIn suspects' (set levels y l) e
+    still e other is = in_still levels labels y l a suspects suspects' suspect e other (was e other is)
+
+    hung : AreSuspectBeside n labels (set levels y l) (set labels y a) suspects' y from → (e : ℕ) → e ≢ y → IsHeldUp n heights sinks levels labels e y → (after : List ℕ) × IsHeldBy n heights' sinks (set levels y l) (set labels y a) (IsIn suspects' (set levels y l)) e after
+    hung suspected e other up = elim spared [
+      | inl low ↦ ([], inl (hung_suspect n heights sinks levels labels y l a e other up (λ small beside marked named high. suspected e small beside marked named (at_most_both from (get_or levels y void) (get_or (set levels y l) e void) low high))))
+      | inr spares ↦ elim (le_or_above (get_or levels e void) (get_or levels y void)) [
+        | inl level ↦
+            let off = held_off n heights sinks levels labels (IsIn queue levels) Suspect s y spares.1.1.0 spares.1.1.1 on spares.1.0 e up level in
+            (off.0, beside_anew n heights heights' sinks levels labels Suspect (IsIn suspects' (set levels y l)) y l a same others still e off.0 off.1.0 off.1.1)
+        | inr above ↦ ([], inl (hung_suspect n heights sinks levels labels y l a e other up (λ small beside marked named high. suspected e small beside marked named (subst (λ v. from ≤ℤ v) (sym (level_else levels labels y l a e other)) (spares.0 (get_or levels e void) above)))))
+      ]
+    ]
 
 -- ---- heights stay
 
@@ -496,7 +504,7 @@ module _ (n : ℕ) (heights : List ℤ) (sinks : List ℕ) (levels : List ℤ) (
 
   -- a marked point is lowered
   pub lower_on : (levels' : List ℤ) (labels' : List ℕ) → IsTrue (is_marked levels y) → v <ℤ get_or levels y void → IsBesideWith n levels labels y a v → levels' ≡ set levels y v → labels' ≡ set labels y a →
-      (slice_index labels y ≡ a) ⊎ AreSuspectBeside n levels labels levels' labels' suspects' y → IsReached n heights sinks levels levels' labels' queue' suspects' c low label y
+      (slice_index labels y ≡ a) ⊎ AreSuspectBeside n labels levels' labels' suspects' y (get_or levels y void) → IsReached n heights sinks levels levels' labels' queue' suspects' c low label y
   lower_on levels' labels' on less giver at_levels at_labels hung =
       let z = giver.0 in
       let z_low = giver.1.1.1.1.1 in
@@ -510,7 +518,7 @@ module _ (n : ℕ) (heights : List ℤ) (sinks : List ℕ) (levels : List ℤ) (
             (elim hung [
               | inl same ↦ inl same
               | inr all ↦ inr (λ e up. hung_suspect n heights sinks levels labels y v a e (not_itself e up) up
-                  (subst (λ ls. AreSuspectBeside n levels labels ls (set labels y a) suspects' y) at_levels (subst (λ bs. AreSuspectBeside n levels labels levels' bs suspects' y) at_labels all) e))
+                  (subst (λ ls. AreSuspectBeside n labels ls (set labels y a) suspects' y (get_or levels y void)) at_levels (subst (λ bs. AreSuspectBeside n labels levels' bs suspects' y (get_or levels y void)) at_labels all) e))
             ])
             suspects_on waiting_on y_waits));
         at_most = at_most_on levels' at_levels (λ _. less_weak v (get_or levels y void) less);
@@ -574,7 +582,7 @@ heights_state n heights heights' sinks levels labels Waiting Suspect Waiting' s 
         label = by.0.label;
         level = max_both (get_or heights' e void) (get_or levels f void) (get_or levels e void)
             (low e (sym (same e) ∙ (linked_parts n heights e f by.0.link).from) (first_below (get_or heights e void) (get_or levels f void) (get_or levels e void) by.0.level))
-            (second_below (get_or heights e void) (get_or levels f void) (get_or levels e void) by.0.level);
+            (below_max (get_or heights e void) (get_or levels f void) (get_or levels e void) by.0.level);
       },
       held_still f rest by.1,
     )
@@ -697,15 +705,19 @@ module _ (n : ℕ) (heights : List ℤ) (sinks : List ℕ) (points : List ℕ) (
       others = done levels (λ e other on_e. on_e);
     }
 
-    pub begin_reset : (levels' : List ℤ) (labels' : List ℕ) (l : ℤ) (a : ℕ) (queue' suspects' : Queue) → levels' ≡ set levels p l → labels' ≡ set labels p a →
+    pub begin_reset : (levels' : List ℤ) (labels' : List ℕ) (l : ℤ) (a : ℕ) (from : ℤ) (queue' suspects' : Queue) → levels' ≡ set levels p l → labels' ≡ set labels p a →
         ((l ≡ void) × ((a ≡ NO_LABEL) × IsFalse (is_exit (block_of n heights sinks) p))) ⊎ (IsTrue (is_exit (block_of n heights sinks) p) × ((l ≡ get_or heights p void) × IsOwnLabel (block_of n heights sinks) p a)) → WaitStill queue queue' → WaitStill suspects suspects' →
-        AreSuspectBeside n levels labels levels' labels' suspects' p → AreAwaitedBeside n levels' queue' suspects' p → IsBeginning n heights sinks points levels' labels' queue' suspects' (k + 1)
-    begin_reset levels' labels' l a queue' suspects' at_levels at_labels outcome waiting suspect suspected beside = record {
+        (from ≤ℤ get_or levels p void) ⊎ (IsFalse (is_exit (block_of n heights sinks) p) × IsFirstSuspect n levels labels suspects p from) →
+        AreSuspectBeside n labels levels' labels' suspects' p from → AreAwaitedBeside n levels' queue' suspects' p → IsBeginning n heights sinks points levels' labels' queue' suspects' (k + 1)
+    begin_reset levels' labels' l a from queue' suspects' at_levels at_labels outcome waiting suspect spared suspected beside = record {
       heights₀ = heights₁;
-      state = reset_in n s.heights₀ heights₁ sinks levels levels' labels labels' queue queue' suspects suspects' (IsIn suspects levels) p l a at_levels at_labels s.state (λ e other is. is) same₁ others₁ on (elim outcome [
+      state = reset_in n s.heights₀ heights₁ sinks levels levels' labels labels' queue queue' suspects suspects' (IsIn suspects levels) p l a from at_levels at_labels s.state (λ e other is. is) same₁ others₁ on (elim outcome [
         | inl opened ↦ inl (opened.0, (opened.1.0, exit₁ p ∙ opened.1.1))
         | inr way ↦ inr (exit₁ p ∙ way.0, (way.1.0 ∙ sym at_p, record { names = same_names n heights heights₁ sinks (λ e. sym (ground₁ e)) a p way.1.1.names; inner_outlet = λ out. way.1.1.inner_outlet (sym (same_inner n heights₁ heights sinks ground₁ p) ∙ out) }))
-      ]) waiting suspect suspected beside;
+      ]) waiting suspect (elim spared [
+        | inl low ↦ inl low
+        | inr first ↦ elim first.1 [ inl low ↦ inl low | inr spares ↦ inr (spares.0, (spares.1.0, (same_exit n s.heights₀ heights sinks s.ground p ∙ first.0, spares.1.1))) ]
+      ]) suspected beside;
       ground = ground₁;
       others = done levels' (λ e other on_e. ap (λ ls. is_marked ls e) at_levels ∙ (marked_else levels labels p l a e other ∙ on_e));
     }

@@ -11,4 +11,5 @@ pub mod Cells
 pub mod Mending
 pub mod Affected
 pub mod Suspects
+pub mod Sparing
 pub mod Kept

@@ -28,6 +28,7 @@ mod queue;
 mod raising;
 mod seeding;
 mod settling;
+mod sparing;
 mod suspects;
 mod values;
 mod waiting;

@@ -131,11 +131,12 @@ impl Flood {
         let height = at(heights, e);
         let level = at(&self.levels, e);
         if let Some(label) = own_label(n, heights, sinks, e / n, e % n) {
-            self.reset(n, e, height, label, affected)?;
+            self.reset(n, e, height, label, level, affected)?;
             return Ok(());
         }
         if level < height {
-            self.reset(n, e, i16::MIN, NO_LABEL, affected)?;
+            let from = self.first_suspect(n, e);
+            self.reset(n, e, i16::MIN, NO_LABEL, from, affected)?;
             return Ok(());
         }
         self.wait_beside(n, e)?;

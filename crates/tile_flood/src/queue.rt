@@ -99,6 +99,16 @@ impl Queue {
         Ok(())
     }
 
+    /// Whether no point waits at this level or below it.
+    pub(crate) fn is_above(&self, level: i16) -> bool
+        ensures { IsTrue result → (l : ℤ) (e : ℕ) → Waits self.now l e → level <ℤ l }
+    {
+        match first_in_use(&self.buckets, self.lowest) {
+            Some(lowest) => level < level_of(self.least, lowest),
+            None => true,
+        }
+    }
+
     /// The lowest level at which a point waits.
     pub(crate) fn lowest_level(&mut self) -> Option<i16>
         ensures found { MatchOption result ((level : ℤ) (e : ℕ) → Waits self.old level e → ⊥) (λ level. (e : ℕ) × Waits self.old level e) }

@@ -61,7 +61,7 @@ impl Flood {
             self.queue.push(seat.level, seat.point)?;
             return Ok(());
         }
-        self.reset(n, e, i16::MIN, NO_LABEL, affected)?;
+        self.reset(n, e, i16::MIN, NO_LABEL, seat.level, affected)?;
         Ok(())
     }
 
@@ -123,14 +123,15 @@ impl Flood {
         false
     }
 
-    // Gives the point this level and this label, or none, and lists it with the label that it had. What may hang on what it
-    // had is suspect from now on, and all else beside it waits.
+    // Gives the point this level and this label, or none, and lists it with the label that it had. What has that label beside
+    // it, from the level `from` on, is suspect from now on, and all else beside it waits.
     pub(crate) fn reset(
         &mut self,
         n: usize,
         e: usize,
         level: i16,
         label: u16,
+        from: i16,
         affected: &mut Vec<Affected>,
     ) -> Result<(), AllocError>
         requires side { IsSide n }
@@ -144,15 +145,14 @@ impl Flood {
         ensures waiting { OnOk result (WaitStill self.old.queue self.new.queue) }
         ensures suspect { OnOk result (WaitStill self.old.suspects self.new.suspects) }
         ensures suspected { OnOk result ((y : ℕ) → y < n * n → IsTrue (is_beside n e y) → IsTrue (is_marked self.new.levels.items y) → slice_index self.new.labels.items y ≡ slice_index self.old.labels.items e
-            → slice_index_or self.old.levels.items e void ≤ℤ slice_index_or self.new.levels.items y void → IsIn self.new.suspects self.new.levels.items y) }
+            → from ≤ℤ slice_index_or self.new.levels.items y void → IsIn self.new.suspects self.new.levels.items y) }
         ensures others { OnOk result ((y : ℕ) → y < n * n → IsTrue (is_beside n e y) → IsTrue (is_marked self.new.levels.items y) → IsIn self.new.queue self.new.levels.items y ⊎ IsIn self.new.suspects self.new.levels.items y) }
     {
-        let was = at(&self.levels, e);
         let own = label_at(&self.labels, e);
         self.list_affected(e, affected)?;
         self.levels[e] = level;
         self.labels[e] = label;
-        self.suspect_beside(n, e, was, own, true)?;
+        self.suspect_beside(n, e, from, own, true)?;
         Ok(())
     }
 

@@ -1,6 +1,7 @@
-use Rattle.std.proofs.Common.{◌<◌, IsTrue, refl, sym, ap, ◌∙◌, subst, inl, inr, rules, slice_index_or, SFits, w16}
+use Rattle.std.proofs.Common.{◌<◌, ◌≤ℤ◌, IsTrue, to_z, of_z, refl, sym, ap, ◌∙◌, subst, inl, inr, rules, slice_index_or, SFits, w16}
 use Rattle.std.proofs.lemmas.Int.{to_z-of_z}
 use Rattle.lattice.specs.Mosaic.{void}
+use Rattle.lattice.proofs.Levels.{≤ℤ_same}
 use Rattle.tile_flood.specs.Flooding.{is_marked}
 use Rattle.tile_flood.specs.Waiting.{Waits}
 use Rattle.tile_flood.specs.Suspects.{IsIn, IsInOr}
@@ -36,10 +37,12 @@ returns-clause-state c =
     let e = c.args.seat.point in
     let a = c.in_ok-reset.ensures in
     let heights = c.args.heights.now in
+    let fits : SFits w16 c.args.seat.level = search rules in
     reset_in c.args.n heights heights c.args.sinks.now s.levels.items c.reset.new.self.levels.items s.labels.items c.reset.new.self.labels.items s.queue c.reset.new.self.queue s.suspects c.reset.new.self.suspects
-    (IsInOr s.suspects s.levels.items e c.args.seat.level) e void _ a.levels a.labels c.requires.state
+    (IsInOr s.suspects s.levels.items e c.args.seat.level) e void _ (to_z w16 (of_z w16 c.args.seat.level)) a.levels a.labels c.requires.state
     (λ z other is. elim is [ inl in_still ↦ in_still | inr taken ↦ absurd (other taken.0) ])
-    (λ z. refl) (λ z other. refl) (c.is_current.ensures.current c.if-not-is_current.false) (inl (refl, (refl, c.is_held.ensures.inner c.if-is_held.false))) a.waiting a.suspect a.suspected a.others
+    (λ z. refl) (λ z other. refl) (c.is_current.ensures.current c.if-not-is_current.false) (inl (refl, (refl, c.is_held.ensures.inner c.if-is_held.false))) a.waiting a.suspect
+    (inl (subst (λ l. l ≤ℤ slice_index_or s.levels.items e void) (sym (to_z-of_z w16 c.args.seat.level fits)) (subst (λ l. c.args.seat.level ≤ℤ l) (sym (c.is_current.ensures.level c.if-not-is_current.false)) (≤ℤ_same c.args.seat.level)))) a.suspected a.others
 
 pub returns-clause-listed : goal.returns-clause-listed
 returns-clause-listed c =

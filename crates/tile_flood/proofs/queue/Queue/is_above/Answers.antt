@@ -1,0 +1,23 @@
+use Rattle.std.proofs.Common.{ℕ, ◌≡◌, ◌≤◌, ◌+ℤ◌, ◌<ℤ◌, pos, [], rules, ap, map, ◌∙◌, sym, subst, SFits, w16, to_z, of_z}
+use Rattle.std.proofs.lemmas.Int.{to_z-of_z}
+use Rattle.lattice.proofs.IntTests.{lt_true}
+use Rattle.tile_flood.specs.Waiting.{Waits, bucket}
+use Rattle.tile_flood.proofs.Buckets.{nobody, above_level}
+use Rattle.tile_flood.proofs.queue.Queue.is_above.Goals as goal
+
+pub returns-in-Some : goal.returns-in-Some
+returns-in-Some c less =
+    let q = c.self.inside in
+    let k = c.in-Some.lowest in
+    let fits : SFits w16 c.level_of.result = search rules in
+    let fits_least : SFits w16 q.least = search rules in
+    let fits_level : SFits w16 c.args.level = search rules in
+    let at : to_z w16 (of_z w16 c.level_of.result) ≡ q.least +ℤ pos k = to_z-of_z w16 c.level_of.result fits ∙ c.level_of.ensures ∙ ap (λ l. l +ℤ pos k) (to_z-of_z w16 q.least fits_least) in
+    above_level (λ b. b.items) q.least c.deref.result.now q.buckets.items q.lowest k c.args.self.now c.args.level c.self.view_is c.deref.ensures.value c.self.invariant.1 c.in-Some.ensures.first
+    (subst (λ l. c.args.level <ℤ l) at (subst (λ l. l <ℤ to_z w16 (of_z w16 c.level_of.result)) (to_z-of_z w16 c.args.level fits_level) (lt_true (to_z w16 (of_z w16 c.args.level)) (to_z w16 (of_z w16 c.level_of.result)) less)))
+
+pub returns-in-None : goal.returns-in-None
+returns-in-None c always l e w =
+    let q = c.self.inside in
+    absurd (nobody q.least (map (λ b. b.items) q.buckets.items) q.lowest c.self.invariant.1 (subst (λ xs. (b : ℕ) → q.lowest ≤ b → bucket (map (λ v. v.items) xs) b ≡ []) c.deref.ensures.value c.in-None.ensures.none)
+    l e (subst (λ s. Waits s l e) (sym c.self.view_is) w))
