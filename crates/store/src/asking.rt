@@ -1,7 +1,8 @@
 //! Questions about water, asked of a store's tree with what the store holds.
 //!
 //! Each is asked over any premise. `Store` asks at `Brand`, and picks as the premise that what it holds then is right.
-ghost use Rattle.std.specs.Prelude.{◌≡◌, ◌≤◌, length, false, IsTrue, IfErr};
+ghost use Rattle.std.specs.Prelude.{◌≡◌, ◌≢◌, ◌≤◌, length, false, IsTrue, IfOk, IfErr};
+ghost use Rattle.std.specs.List.{AllPairs};
 ghost use Rattle.lattice.specs.Limits.{most_tiles};
 ghost use Rattle.engine.specs.Engines.{items_in};
 ghost use Rattle.engine.specs.Outcomes.{Fills, Directs, Traces, Sheds};
@@ -71,6 +72,7 @@ pub(crate) fn ask_trace<D: Disk, P: Premise>(
     requires few { length (corners_of tree.old) ≤ most_tiles }
     requires right { P.holds → IsHeldOf (mosaic_of D.Disk tree.old) held.old }
     ensures causes { IfErr result (λ r. IsTrue (may_refuse (ask.Trace point) r)) }
+    ensures once { IfOk result (λ path. AllPairs (λ p q. p ≢ q) path.items) }
     ensures asked { IsAskedOf D.Disk P.holds tree.old tree.new held.old held.new result (λ s r t. Traces s point (items_in r) t) }
 {
     let mut asked = Asked::<D, P> {

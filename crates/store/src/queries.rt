@@ -1,5 +1,6 @@
 //! The queries of a store: they only read.
-ghost use Rattle.std.specs.Prelude.{◌≡◌, ◌≢◌, ◌≤◌, ◌*◌, length, false, true, Some, Err, OnOk, IfErr, vec_len, vec_capacity};
+ghost use Rattle.std.specs.Prelude.{◌≡◌, ◌≢◌, ◌≤◌, ◌*◌, length, false, true, Some, Err, OnOk, IfOk, IfErr, vec_len, vec_capacity};
+ghost use Rattle.std.specs.List.{AllPairs};
 ghost use Rattle.lattice.specs.Limits.{most_tiles};
 ghost use Rattle.lattice.specs.declared.refusal.Refusal.TheVariants.{NoMemory, Failed};
 ghost use Rattle.engine.specs.Engines.{IsCall, answered};
@@ -67,9 +68,10 @@ impl<D: Disk> Store<D> {
     }
 
     /// The flow path of a point: the point, then the one that its direction leads to, and so on, to one where water leaves
-    /// the mosaic. Refused as `fill` is, Damaged included.
+    /// the mosaic. It has no point twice, whatever is on the disk. Refused as `fill` is, Damaged included.
     pub fn trace(&mut self, point: Point) -> Result<Vec<Point>, Refusal>
         ensures call { IsCall (members D.Disk) self.old (ask.Trace point) (answered reply.Trace result) self.new }
+        ensures once { IfOk result (λ path. AllPairs (λ p q. p ≢ q) path.items) }
         ensures reads { OnlyReads D.Disk self.old self.new }
     {
         self.check_working()?;
