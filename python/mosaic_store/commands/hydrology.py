@@ -158,7 +158,8 @@ def _catchments(session: Session, options: argparse.Namespace) -> str:
         drained = {"drained_points": int(counts[cell]), "drained_km2": round(float(areas[cell]), 4)}
         features.append(points_feature(runs, session.side, {**carried, **own, **drained, "y": outlet.y, "x": outlet.x}))
     _write_json(options.file, features)
-    return f"{len(features)} catchments"
+    dry = sum(counts[network.cell(outlet)] < options.threshold for outlet, _ in outlets) if options.reach else 0
+    return f"{len(features)} catchments" + (f"; {dry} outlets have no stream within {options.reach} steps, and stay" if dry else "")
 
 
 def _outlets(session: Session, options: argparse.Namespace, network: Network) -> Iterator[tuple[Point, dict[str, Any]]]:
