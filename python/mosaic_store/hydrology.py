@@ -195,33 +195,18 @@ def filled_voids(session: Session, window: Window, most: int = 10_000) -> list[R
     numpy = needed_numpy()
     heights = heights_of(session, window)
     void = heights.held & (heights.samples == VOID)
-    filled = numpy.zeros(void.shape, bool)
+    given = heights.samples.copy()
     for part in _parts(void & ~_hanging_on_edge(void)):
-        rows, columns = numpy.divmod(part, window.width)
-        given = _interpolated(heights.samples, rows, columns) if len(part) <= most else None
-        if given is not None:
-            _raise_voids(session, window.y1 - rows, window.x0 + columns, given)
-            filled[rows, columns] = True
-    return runs_of(filled, window)
-
-
-def _raise_voids(session: Session, ys: Array, xs: Array, given: Array) -> None:
-    """Gives voids that hang together their heights: the least to all of them by patches, and the others by walls.
-
-    That takes far fewer commands than a patch for each, and each of these costs a write to the drive.
-    """
-    numpy = needed_numpy()
-    least, side = int(given.min()), session.side
-    box = Window(int(ys.min()), int(xs.min()), int(ys.max()), int(xs.max()))
-    mask = numpy.zeros((box.height, box.width), bool)
-    mask[box.y1 - ys, xs - box.x0] = True
-    for y, first, last in runs_of(mask, box):
-        for start in range(first, last + 1, side):
-            session.patch(y, start, y, min(last, start + side - 1), least)
-    for height in numpy.unique(given[given > least]).tolist():
-        own = given == height
-        for some in lines.commands([Point(*point) for point in zip(ys[own].tolist(), xs[own].tolist())]):
-            session.wall(height, some)
+        if len(part) <= most:
+            rows, columns = numpy.divmod(part, window.width)
+            given[rows, columns] = _interpolated(heights.samples, rows, columns)
+    filled = runs_of(void & (given != VOID), window)
+    for y, first, last in filled:
+        row = given[window.y1 - y, first - window.x0 : last - window.x0 + 1]
+        ends = numpy.flatnonzero(numpy.diff(row, append=VOID)) + 1
+        for start, end in zip([0, *ends[:-1].tolist()], ends.tolist()):
+            session.patch(y, first + start, y, first + end - 1, int(row[start]))
+    return filled
 
 
 def _hanging_on_edge(mask: Array) -> Array:
@@ -260,13 +245,13 @@ def _parts(mask: Array) -> list[Array]:
     return parts
 
 
-def _interpolated(samples: Array, rows: Array, columns: Array) -> Array | None:
-    """Heights for voids: of the ground around them, weighted by the inverse square of the distance; None where there is none."""
+def _interpolated(samples: Array, rows: Array, columns: Array) -> Array:
+    """Heights for voids: of the ground around them, weighted by the inverse square of the distance."""
     numpy = needed_numpy()
     near = {(r + north, c + east) for r, c in zip(rows.tolist(), columns.tolist()) for north, east in STEPS}
-    rim = numpy.array([(r, c) for r, c in sorted(near) if samples[r, c] != VOID])
+    rim = numpy.array([(r, c) for r, c in sorted(near) if samples[r, c] != VOID]).reshape(-1, 2)
     if not rim.size:
-        return None
+        return numpy.full(rows.shape, VOID, samples.dtype)
     values = samples[rim[:, 0], rim[:, 1]].astype(float)
     found = numpy.empty(rows.shape, samples.dtype)
     for at in range(0, len(rows), _DISTANCES_AT_ONCE):
