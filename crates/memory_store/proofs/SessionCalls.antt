@@ -1,7 +1,6 @@
 -- The calls of a session, and two sessions with a cut after each.
-use Rattle.std.proofs.Common.{◌≡◌, inl, ℕ, ◌≤◌, List, [], ◌∷◌, ◌++◌, refl, sym, ap, ap₂, ◌∙◌, subst, arith}
-use Rattle.std.specs.Prelude.{Result, IfOk, IfErr}
-use Rattle.std.proofs.lemmas.List.{append-nil}
+use Rattle.std.proofs.Common.{◌≡◌, inl, ℕ, ◌≤◌, List, [], ◌∷◌, ◌++◌, map, refl, sym, ap, ◌∙◌, subst, arith}
+use Rattle.std.specs.Prelude.{Result, Ok, Err, IfOk}
 use Rattle.disk.specs.Disk.{Image}
 use Rattle.disk.specs.Faulty.{inner_of}
 use Rattle.disk.specs.MemDisk.{state_of, sectors_of}
@@ -9,20 +8,27 @@ use Rattle.disk.specs.Memory.{MayLeave as MayBeLeft}
 use Rattle.disk.specs.declared.disk.Disk.{Ghosts}
 use Rattle.disk.specs.declared.memory.MemDisk.{MemDisk}
 use Rattle.disk.specs.declared.torn.Torn.{Torn}
+use Rattle.edits.specs.declared.command.Command.{Command}
 use Rattle.engine.specs.Engines.{IsCall}
 use Rattle.engine.specs.Runs.{last_of, Through}
 use Rattle.engine.specs.declared.event.Event.{Event}
+use Rattle.engine.specs.declared.event.Event.TheVariants as ask
 use Rattle.engine.specs.declared.event.Reply.{Reply}
-use Rattle.store.specs.Fates.{Fate}
-use Rattle.store.specs.Sessions.{Made, Asked, AreMade, IsOpening, IsRefusedWithCause, Session, Unopened, Ended, Stopped, IsSession, first_disk, last_disk, last_store, MayLeave, TakesOver, HasAccepted, fates_of, fates_of_calls, fates_of_session}
+use Rattle.engine.specs.declared.event.Reply.TheVariants as reply
+use Rattle.store.specs.Accepted.{Since, none_asked}
+use Rattle.store.specs.Sessions.{Call, Made, Asked, known_by, known_without, AreMade, IsRefusedWithCause, Session, Unopened, Ended, Stopped, IsSession, first_disk, last_disk, last_store, MayLeave, TakesOver, FindsBy, EachFindsIn, EachFinds}
 use Rattle.store.specs.Standing.{StandsFor}
 use Rattle.store.specs.StoreState.{members}
-use Rattle.store.specs.Stores.{disk_after}
 use Rattle.store.proofs.SessionsInTurn.{sessions_compose}
 use Rattle.store.specs.declared.store.Store.{Store}
 use Rattle.roots.specs.declared.roots.NotOpened.{NotOpened}
 use Rattle.engine.specs.State.{Contents}
-use Rattle.memory_store.specs.TwoSessions.{CutDisk, HoldsOnly, AreCallsOf, AsksEvents, fates_told, WasCutOff}
+use Rattle.memory_store.specs.TwoSessions.{CutDisk, HoldsOnly, AreCallsOf, AsksEvents, WasCutOff}
+
+-- what holds of a value holds more weakly
+pub if_ok : {T E : Type 0} (result : Result T E) (P Q : T → Type 0) → ((x : T) → P x → Q x) → IfOk result P → IfOk result Q
+if_ok (Ok x) P Q weaker is = weaker x is
+if_ok (Err e) P Q weaker is = tt
 
 module _ (g : Ghosts CutDisk) where
   -- a run's events as calls
@@ -47,24 +53,6 @@ module _ (g : Ghosts CutDisk) where
   calls_of_run old [] (answer ∷ answers) stores run = absurd run
   calls_of_run old (event ∷ events) [] stores run = absurd run
   calls_of_run old (event ∷ events) (answer ∷ answers) [] run = absurd run
-
-  -- what is known of the commands
-  fates_of_asked : (calls : List (Made g)) (events : List Event) (answers : List Reply) → AreCallsOf g calls events answers → fates_of_calls g calls ≡ fates_told events answers
-  fates_of_asked [] [] [] asks = refl
-  fates_of_asked (made ∷ more) (event ∷ events) (answer ∷ answers) (is, asks) = rw (is, fates_of_asked more events answers asks) refl
-  fates_of_asked [] [] (answer ∷ answers) asks = absurd asks
-  fates_of_asked [] (event ∷ events) answers asks = absurd asks
-  fates_of_asked (made ∷ more) [] answers asks = absurd asks
-  fates_of_asked (made ∷ more) (event ∷ events) [] asks = absurd asks
-
-  none_told : (events : List Event) → fates_told events [] ≡ []
-  none_told [] = refl
-  none_told (event ∷ events) = refl
-
-  pub fates_are : (session : Session g) (events : List Event) (answers : List Reply) → AsksEvents g session events answers → fates_of_session g session ≡ fates_told events answers
-  fates_are (Unopened disk opened) events answers (refused, none) = sym (ap (fates_told events) none ∙ none_told events)
-  fates_are (Ended disk store calls) events answers asks = fates_of_asked calls events answers asks
-  fates_are (Stopped disk store calls last) events answers asks = absurd asks
 
   -- what a cut leaves of the last disk is among what the session may leave
   pub left_by_session : ((disk : CutDisk) (t : ℕ) (c : Image) → g.honest disk → t ≤ g.moment disk → g.may disk c → g.since disk t c) → (session : Session g) → IsSession g session → g.honest (last_disk g session)
@@ -97,37 +85,55 @@ module _ (g : Ghosts CutDisk) (over : IsOverMemory g) where
       same : g.size (last_disk g was.session) ≡ g.size next
       same = over.size (last_disk g was.session) ∙ sym was.cut.sectors ∙ sym (ap sectors_of is) ∙ sym (over.size next)
 
-  -- after two sessions
-  pub two_in_turn : (disk between after : MemDisk) (passes later_passes : ℕ) (events later_events : List Event) (torn later_torn : Torn) (early late : List Reply)
+  -- after two sessions, and in one more
+  after_two : (disk between after : MemDisk) (passes later_passes : ℕ) (events later_events : List Event) (torn later_torn : Torn) (early late : List Reply)
       (first : WasCutOff g disk passes events torn early between) (second : WasCutOff g between later_passes later_events later_torn late after)
       (side capacity : ℕ) (was : Contents) → HoldsOnly disk side capacity was
-      → (next : CutDisk) → inner_of next ≡ after → (opened : Result (Store CutDisk g) (NotOpened CutDisk)) → IsOpening g next opened
-      → IfOk opened (λ store. HasAccepted g side capacity was (fates_told events early ++ fates_told later_events late) store) × IfErr opened (λ e. IsRefusedWithCause g next e)
-  two_in_turn disk between after passes later_passes events later_events torn later_torn early late first second side capacity was holds next is opened opening =
+      → (last : Session g) → inner_of (first_disk g last) ≡ after → IsSession g last
+      → EachFinds (λ (one : Unit {0}). g) side capacity was [] none_asked ((tt, first.session) ∷ (tt, second.session) ∷ (tt, last) ∷ [])
+  after_two disk between after passes later_passes events later_events torn later_torn early late first second side capacity was holds last began is =
       let start = first_disk g first.session in
-      let found = sessions_compose g over.only_now side capacity was start (first.session ∷ second.session ∷ []) next opened
-      (λ image may. inl (subst (λ (n : ℕ). StandsFor n side capacity image was) (ap sectors_of (sym first.began) ∙ sym (over.size start))
-      (holds image (subst (λ (d : MemDisk). MayBeLeft (state_of d) image) first.began (over.may start image may))))) (
+      sessions_compose (λ (one : Unit {0}). g) (λ one. over.only_now) side capacity was tt start ((tt, first.session) ∷ (tt, second.session) ∷ (tt, last) ∷ [])
+      (λ image may. subst (λ (n : ℕ). StandsFor n side capacity image was) (ap sectors_of (sym first.began) ∙ sym (over.size start))
+      (holds image (subst (λ (d : MemDisk). MayBeLeft (state_of d) image) first.began (over.may start image may))))
+      (first.is, (second.is, (is, tt))) (
         takes_all g (g.size start) (λ image. g.may start image) start (omega arith) (λ image may. may),
-        first.is,
         over.honest (last_disk g first.session),
         (
           after_cut disk between passes events torn early first (first_disk g second.session) second.began,
-          second.is,
           over.honest (last_disk g second.session),
-          after_cut between after later_passes later_events later_torn late second next is,
+          (after_cut between after later_passes later_events later_torn late second (first_disk g last) began, over.honest (last_disk g last), tt),
         ),
       )
-      opening (over.honest (disk_after opened)) in
-      subst (λ (fates : List Fate). IfOk opened (λ store. HasAccepted g side capacity was fates store) × IfErr opened (λ e. IsRefusedWithCause g next e)) same found
-    where
-      same : fates_of g (first.session ∷ second.session ∷ []) ≡ fates_told events early ++ fates_told later_events late
-      same = ap₂ (λ (a b : List Fate). a ++ b) (fates_are g first.session events early first.asks) (append-nil (fates_of_session g second.session) ∙ fates_are g second.session later_events late second.asks)
 
-pub two_sessions : {g : Ghosts CutDisk} {disk between after : MemDisk} {passes later_passes : ℕ} {events later_events : List Event} {torn later_torn : Torn} {early late : List Reply}
+pub in_turn : {g : Ghosts CutDisk} {disk between after : MemDisk} {passes later_passes : ℕ} {events later_events : List Event} {torn later_torn : Torn} {early late : List Reply}
     (first : WasCutOff g disk passes events torn early between) (second : WasCutOff g between later_passes later_events later_torn late after) → IsOverMemory g
-    → (side capacity : ℕ) (was : Contents) → HoldsOnly disk side capacity was
-    → (next : CutDisk) → inner_of next ≡ after → (opened : Result (Store CutDisk g) (NotOpened CutDisk)) → IsOpening g next opened
-    → IfOk opened (λ store. HasAccepted g side capacity was (fates_told events early ++ fates_told later_events late) store) × IfErr opened (λ e. IsRefusedWithCause g next e)
-two_sessions {g} {disk} {between} {after} {passes} {later_passes} {events} {later_events} {torn} {later_torn} {early} {late} first second over =
-    two_in_turn g over disk between after passes later_passes events later_events torn later_torn early late first second
+    → (side capacity : ℕ) (was : Contents) → HoldsOnly disk side capacity was → (last : Session g) → inner_of (first_disk g last) ≡ after → IsSession g last
+    → EachFinds (λ (one : Unit {0}). g) side capacity was [] none_asked ((tt, first.session) ∷ (tt, second.session) ∷ (tt, last) ∷ [])
+in_turn {g} {disk} {between} {after} {passes} {later_passes} {events} {later_events} {torn} {later_torn} {early} {late} first second over =
+    after_two g over disk between after passes later_passes events later_events torn later_torn early late first second
+
+-- why the last opening was refused
+module _ (g : Ghosts CutDisk) (side capacity : ℕ) (was : Contents) where
+  by_call : (call : Call) (store : Store CutDisk g) (found : List Command) (since : Since) (Then : List Command → Since → Type 0) → FindsBy (λ (one : Unit {0}). g) side capacity was tt call store found since Then
+      → (now : List Command) × ((known : Since) × Then now known)
+  by_call (Asked ask.Reopen reply.Reopened) store found since Then (late, accepted, after, is) = (found ++ late, (none_asked, is))
+  by_call call store found since Then is = (found, (known_by since call, is))
+
+  by_calls : (calls : List (Made g)) (found : List Command) (since : Since) (Then : List Command → Since → Type 0) → EachFindsIn (λ (one : Unit {0}). g) side capacity was tt calls found since Then
+      → (now : List Command) × ((known : Since) × Then now known)
+  by_calls [] found since Then is = (found, (since, is))
+  by_calls (made ∷ more) found since Then is =
+      let (now, (known, rest)) = by_call made.call made.store found since (λ now known. EachFindsIn (λ (one : Unit {0}). g) side capacity was tt more now known Then) is in
+      by_calls more now known Then rest
+
+  pub refused_last : (found : List Command) (since : Since) (sessions : List (Session g)) (next : CutDisk) (e : NotOpened CutDisk)
+      → EachFinds (λ (one : Unit {0}). g) side capacity was found since (map (λ (session : Session g). (tt, session)) sessions ++ (tt, Unopened next (Err e)) ∷ []) → IsRefusedWithCause g next e
+  refused_last found since [] next e (cause, none) = cause
+  refused_last found since (Unopened disk opened ∷ more) next e (cause, finds) = refused_last found since more next e finds
+  refused_last found since (Ended disk store calls ∷ more) next e (late, accepted, after, finds) =
+      let (now, (known, rest)) = by_calls calls (found ++ late) none_asked _ finds in
+      refused_last now known more next e rest
+  refused_last found since (Stopped disk store calls last ∷ more) next e (late, accepted, after, finds) =
+      let (now, (known, rest)) = by_calls calls (found ++ late) none_asked _ finds in
+      refused_last now (known_without known last.call) more next e rest

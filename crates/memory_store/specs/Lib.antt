@@ -1,2 +1,1 @@
-pub mod PowerCuts
 pub mod TwoSessions

@@ -3,10 +3,10 @@ use Rattle.std.specs.Prelude.{◌≡◌, ◌≢◌, ℕ, List, [], ◌∷◌, �
 use Rattle.engine.specs.State.{Contents}
 use Rattle.engine.specs.declared.event.Event.{Event}
 use Rattle.engine.specs.declared.event.Reply.{Reply}
-use Rattle.disk.specs.Disk.{Image}
+use Rattle.disk.specs.Disk.{Image, NoneNew, Only}
 use Rattle.disk.specs.Faulty.{inner_of, faults_of}
 use Rattle.disk.specs.MemDisk.{state_of, sectors_of}
-use Rattle.disk.specs.Memory.{MayLeave}
+use Rattle.disk.specs.Memory.{MayLeave, left_by}
 use Rattle.disk.specs.declared.disk.Disk.{Ghosts}
 use Rattle.disk.specs.declared.faulty.FaultyDisk.{FaultyDisk}
 use Rattle.disk.specs.declared.fuse.Fuse.{Fuse}
@@ -14,12 +14,11 @@ use Rattle.disk.specs.declared.memory.MemDisk.{MemDisk}
 use Rattle.disk.specs.declared.torn.Torn.{Torn}
 use Rattle.lattice.specs.declared.refusal.Refusal.TheVariants.{NoMemory}
 use Rattle.roots.specs.declared.roots.NotOpened.{NotOpened}
-use Rattle.store.specs.Fates.{Fate, known_by}
-use Rattle.store.specs.Sessions.{Made, Asked, Session, Unopened, Ended, Stopped, IsSession, HasAccepted, first_disk, last_disk}
+use Rattle.store.specs.Accepted.{none_asked}
+use Rattle.store.specs.Sessions.{Made, Asked, Session, Unopened, Ended, Stopped, IsSession, EachFinds, first_disk, last_disk}
 use Rattle.store.specs.Standing.{StandsFor}
 use Rattle.store.specs.Stores.{disk_of}
 use Rattle.store.specs.declared.store.Store.{Store}
-use Rattle.memory_store.specs.PowerCuts.{IsCut}
 
 -- a disk in memory of which each call fails from some call on
 abbrev pub CutDisk : Type 0
@@ -29,10 +28,12 @@ CutDisk = FaultyDisk MemDisk Fuse
 abbrev pub HoldsOnly : MemDisk → (side capacity : ℕ) → Contents → Type 0
 HoldsOnly disk side capacity c = (image : Image) → MayLeave (state_of disk) image → StandsFor (sectors_of disk) side capacity image c
 
--- what is known of the commands of a run by its answers
-abbrev pub fates_told : List Event → List Reply → List Fate
-fates_told (event ∷ events) (answer ∷ answers) = known_by event answer ++ fates_told events answers
-fates_told events answers = []
+-- the power was cut: each unsettled sector was left as said, and all is settled then
+pub record IsCut (torn : Torn) (old new : MemDisk) : Type 0 where
+  pub torn_so : (state_of new).seen ≡ left_by torn (state_of old)
+  pub settled : Only (state_of new).seen (MayLeave (state_of new))
+  pub none_new : NoneNew (MayLeave (state_of old)) (MayLeave (state_of new))
+  pub sectors : sectors_of new ≡ sectors_of old
 
 module _ (g : Ghosts CutDisk) where
   -- the calls are these events, answered so
@@ -62,8 +63,11 @@ module _ (g : Ghosts CutDisk) where
     pub asks : AsksEvents session events answers
     pub cut : IsCut torn (inner_of (last_disk g session)) left
 
-  -- What was left was opened as this store. It is at the mosaic after the commands that were accepted, if the disk held a
+  -- What the two sessions left was opened as this store. Each of the openings finds what was accepted, if the disk held a
   -- store at first.
-  pub record FindsAccepted (disk left : MemDisk) (fates : List Fate) (opened : Store CutDisk g) : Type 0 where
+  pub record FindsAccepted (disk left : MemDisk) (first second : Session g) (opened : Store CutDisk g) : Type 0 where
     pub read : (state_of (inner_of (disk_of opened))).seen ≡ (state_of left).seen
-    pub accepted : (side capacity : ℕ) (was : Contents) → HoldsOnly disk side capacity was → HasAccepted g side capacity was fates opened
+    pub next : CutDisk
+    pub is : inner_of next ≡ left
+    pub finds : (side capacity : ℕ) (was : Contents) → HoldsOnly disk side capacity was
+        → EachFinds (λ (one : Unit {0}). g) side capacity was [] none_asked ((tt, first) ∷ (tt, second) ∷ (tt, Ended next opened []) ∷ [])

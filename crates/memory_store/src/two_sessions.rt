@@ -4,15 +4,14 @@ ghost use Rattle.engine.specs.State.{Contents};
 ghost use Rattle.engine.specs.declared.event.Reply.{Reply};
 ghost use Rattle.disk.specs.declared.memory.MemDisk.{MemDisk};
 ghost use Rattle.lattice.specs.declared.refusal.Refusal.TheVariants.{Device, NoMemory};
-ghost use Rattle.memory_store.specs.TwoSessions.{AsksEvents, FindsAccepted, HoldsOnly, WasCutOff, fates_told};
+ghost use Rattle.memory_store.specs.TwoSessions.{AsksEvents, FindsAccepted, HoldsOnly, IsCut, WasCutOff};
 ghost use Rattle.store.specs.Sessions.{IsSession, Session, first_disk, last_disk};
 
-use crate::power_cut::cut;
 use disk::{Disk, FuseDisk, MemDisk, Torn};
 use engine::{Event, Reply};
 use lattice::Refusal;
 use std::alloc::Global;
-use store::Store;
+use store::{Store, open_session};
 
 /// What a session is asked, and how the power is cut at its end.
 #[derive(Clone, Copy)]
@@ -27,9 +26,10 @@ pub struct CutSession<'a> {
 /// Runs two sessions on a disk that holds a store, cuts the power after each, also in the middle of a command or of an
 /// opening, and opens what is left. The answers are added behind what `out` holds.
 ///
-/// The store is then at the mosaic after the commands that were accepted in the two: every one that was answered Done, and
-/// of those that were answered Device some, in order, each of them whole. A session whose opening meets a fault has no
-/// answers. Refused only for want of memory, or where the last opening meets a fault.
+/// Each of the three openings that succeeds finds the mosaic after the commands that were accepted before it: every one
+/// that was answered Done, and of those that were answered Device at most the first after each opening, each of them whole.
+/// A session whose opening meets a fault has no answers. Refused only for want of memory, or where the last opening meets a
+/// fault.
 pub fn run_two_sessions(
     alloc: Global,
     disk: MemDisk,
@@ -37,11 +37,12 @@ pub fn run_two_sessions(
     second: CutSession<'_>,
     out: &mut Vec<Reply>,
 ) -> Result<Store<FuseDisk<MemDisk>>, Refusal>
-    // Each session asked its events, and was cut off as said; then what was left was opened.
+    // Each session asked its events, and was cut off as said; then what was left was opened. What each of the three openings
+    // finds is as [`store::sessions_compose`] says.
     ensures accepted { IfOk result (λ opened. (early late : List Reply) × (between after : MemDisk) × (out.new.items ≡ out.old.items ++ early ++ late)
-        × WasCutOff ⟦<FuseDisk<MemDisk> as Disk>⟧ disk first.entry.passes first.entry.events.now first.entry.torn early between
-        × WasCutOff ⟦<FuseDisk<MemDisk> as Disk>⟧ between second.entry.passes second.entry.events.now second.entry.torn late after
-        × FindsAccepted ⟦<FuseDisk<MemDisk> as Disk>⟧ disk after (fates_told first.entry.events.now early ++ fates_told second.entry.events.now late) opened) }
+        × (one : WasCutOff ⟦<FuseDisk<MemDisk> as Disk>⟧ disk first.entry.passes first.entry.events.now first.entry.torn early between)
+        × (other : WasCutOff ⟦<FuseDisk<MemDisk> as Disk>⟧ between second.entry.passes second.entry.events.now second.entry.torn late after)
+        × FindsAccepted ⟦<FuseDisk<MemDisk> as Disk>⟧ disk after one.session other.session opened) }
 
     // It is refused only for the disk or for memory.
     ensures sure { (side capacity : ℕ) (was : Contents) → HoldsOnly disk side capacity was
@@ -49,7 +50,7 @@ pub fn run_two_sessions(
 {
     let between = run_cut_session(alloc, disk, first, out)?;
     let after = run_cut_session(alloc, between, second, out)?;
-    match Store::open(alloc, FuseDisk::new(after, u64::MAX)) {
+    match open_session(alloc, FuseDisk::new(after, u64::MAX)) {
         Ok(opened) => Ok(opened),
         Err(not_opened) => Err(not_opened.refusal),
     }
@@ -89,7 +90,7 @@ fn run_session(
         × AsksEvents ⟦<FuseDisk<MemDisk> as Disk>⟧ session events.now answers)) }
     ensures refused { IfErr result (λ r. r ≡ NoMemory) }
 {
-    match Store::open(alloc, disk) {
+    match open_session(alloc, disk) {
         Ok(opened) => {
             let mut store = opened;
             store.run(events, out)?;
@@ -99,5 +100,17 @@ fn run_session(
             Refusal::NoMemory => Err(Refusal::NoMemory),
             _ => Ok(not_opened.disk),
         },
+    }
+}
+
+// The disk as a power cut leaves it, which leaves each unsettled sector as `torn` says. Refused for want of memory.
+fn cut(disk: MemDisk, torn: Torn) -> Result<MemDisk, Refusal>
+    ensures cut { IfOk result (IsCut torn disk) }
+    ensures refused { IfErr result (λ r. r ≡ NoMemory) }
+{
+    let mut disk = disk;
+    match disk.stop(torn) {
+        Ok(()) => Ok(disk),
+        Err(_) => Err(Refusal::NoMemory),
     }
 }

@@ -1,6 +1,5 @@
+pub mod FileRuns
 pub mod Longer
-pub mod OnStores
 pub mod ProgramLemmas
-pub mod ServedSessions
-pub mod Sessions
+pub mod Replies
 pub mod CommandLineLemmas

@@ -1,13 +1,11 @@
 pub mod CommandLine
 pub mod Endings
+pub mod FileRuns
 pub mod Files
-pub mod Following
 pub mod OnDisks
-pub mod Openings
 pub mod Places
 pub mod Program
+pub mod Replies
 pub mod Report
-pub mod ServedSessions
-pub mod Sessions
 pub mod Sizes
 pub mod Subcommands

@@ -15,6 +15,7 @@ use Rattle.serving.specs.Promises.{side_in}
 use Rattle.serving.specs.Served.{Outcome}
 use Rattle.serving.specs.declared.session.ServeFault.{ServeFault}
 use Rattle.store.specs.Formatted.{format_2}
+use Rattle.store.specs.Sessions.{Session}
 use Rattle.server.specs.CommandLine.{AskedBy, AskNothing}
 use Rattle.server.specs.Endings.{EndsSession, Tells, TellsRefusal, bad_words}
 use Rattle.server.specs.OnDisks.{ServesLines, ImportsTile, MakesStore, ChecksStore, GrowsAndUpgrades}
@@ -62,53 +63,57 @@ module _ {D : Type 0} (g : Ghosts D) where
       ⊎ ((given : Result D MakeFault) × (accesses ≡ Makes path (sectors_asked (format_2 side capacity)) given ∷ []) × IsTaken side capacity × EndsMaking path side capacity given written new disk status)
 
   -- the store's file can't be opened, which a line tells
-  abbrev pub TellsNone : (path : List ℕ) → List (Access D) → Stream → Stream → Option D → ℕ → Type 0
-  TellsNone path accesses written new disk status = (accesses ≡ Opens path None ∷ []) × (disk ≡ None) × TellsFault path Closed written new status
+  abbrev pub TellsNone : (path : List ℕ) → List (Access D) → Stream → Stream → Option D → List (Session g) → ℕ → Type 0
+  TellsNone path accesses written new disk sessions status = (accesses ≡ Opens path None ∷ []) × (disk ≡ None) × (sessions ≡ []) × TellsFault path Closed written new status
 
   -- the store's file was opened, and this was done on its disk, which is the one that is handed back
   abbrev pub OnStore : (path : List ℕ) → List (Access D) → Option D → (D → D → Type 0) → Type 0
   OnStore path accesses disk Did = (old left : D) × (accesses ≡ Opens path (Some old) ∷ []) × (disk ≡ Some left) × Did old left
 
   -- the name of the tile's file is tested first; then the store's file is opened, and the store in it; then the tile's is read
-  abbrev pub RunsImport : (path tile : List ℕ) → List (Access D) → Stream → Stream → Option D → ℕ → Type 0
-  RunsImport path tile accesses written new disk status =
-      ((accesses ≡ []) × (disk ≡ None) × ((c : Corner) → ¬ IsFileName tile c) × TellsRefusal BadName written new status)
+  abbrev pub RunsImport : (path tile : List ℕ) → List (Access D) → Stream → Stream → Option D → List (Session g) → ℕ → Type 0
+  RunsImport path tile accesses written new disk sessions status =
+      ((accesses ≡ []) × (disk ≡ None) × (sessions ≡ []) × ((c : Corner) → ¬ IsFileName tile c) × TellsRefusal BadName written new status)
       ⊎ ((c : Corner) × IsFileName tile c × (
-      TellsNone path accesses written new disk status
-      ⊎ ((old left : D) × (more : List (Access D)) × (accesses ≡ Opens path (Some old) ∷ more) × (disk ≡ Some left) × ImportsTile g c tile more old left written new status)))
+      TellsNone path accesses written new disk sessions status
+      ⊎ ((old left : D) × (more : List (Access D)) × (accesses ≡ Opens path (Some old) ∷ more) × (disk ≡ Some left) × ImportsTile g c tile more old left sessions written new status)))
 
-  abbrev pub RunsServe : (path : List ℕ) → List (Access D) → (before after : Option (List ℕ)) → Stream → Stream → Option D → ℕ → Type 0
-  RunsServe path accesses before after written new disk status =
-      ((after ≡ before) × TellsNone path accesses written new disk status)
-      ⊎ OnStore path accesses disk (λ old left. ServesLines g old left before after written new status)
+  abbrev pub RunsServe : (path : List ℕ) → List (Access D) → (before after : Option (List ℕ)) → Stream → Stream → Option D → List (Session g) → ℕ → Type 0
+  RunsServe path accesses before after written new disk sessions status =
+      ((after ≡ before) × TellsNone path accesses written new disk sessions status)
+      ⊎ OnStore path accesses disk (λ old left. ServesLines g old left sessions before after written new status)
 
-  abbrev pub RunsCheck : (path : List ℕ) → List (Access D) → Stream → Stream → Option D → ℕ → Type 0
-  RunsCheck path accesses written new disk status =
-      TellsNone path accesses written new disk status ⊎ OnStore path accesses disk (λ old left. ChecksStore g old left written new status)
+  abbrev pub RunsCheck : (path : List ℕ) → List (Access D) → Stream → Stream → Option D → List (Session g) → ℕ → Type 0
+  RunsCheck path accesses written new disk sessions status =
+      TellsNone path accesses written new disk sessions status ⊎ OnStore path accesses disk (λ old left. ChecksStore g old left sessions written new status)
 
-  abbrev pub RunsUpgrade : (path : List ℕ) → List (Access D) → Stream → Stream → Option D → ℕ → Type 0
-  RunsUpgrade path accesses written new disk status =
-      TellsNone path accesses written new disk status ⊎ OnStore path accesses disk (λ old left. GrowsAndUpgrades g old left written new status)
+  abbrev pub RunsUpgrade : (path : List ℕ) → List (Access D) → Stream → Stream → Option D → List (Session g) → ℕ → Type 0
+  RunsUpgrade path accesses written new disk sessions status =
+      TellsNone path accesses written new disk sessions status ⊎ OnStore path accesses disk (λ old left. GrowsAndUpgrades g old left sessions written new status)
 
   -- ---- by its words
 
-  abbrev pub RunsAs : Arguments → List (Access D) → (before after : Option (List ℕ)) → Stream → Stream → Option D → ℕ → Type 0
-  RunsAs (Format path side capacity) accesses before after written new disk status = (after ≡ before) × RunsFormat path.now side capacity accesses written new disk status
-  RunsAs (Import path tile) accesses before after written new disk status = (after ≡ before) × RunsImport path.now tile.now accesses written new disk status
-  RunsAs (Serve path) accesses before after written new disk status = RunsServe path.now accesses before after written new disk status
-  RunsAs (Table side capacity) accesses before after written new disk status = (accesses ≡ []) × (disk ≡ None) × RunsTable side capacity before after written new status
-  RunsAs (Upgrade path) accesses before after written new disk status = (after ≡ before) × RunsUpgrade path.now accesses written new disk status
-  RunsAs (Check path) accesses before after written new disk status = (after ≡ before) × RunsCheck path.now accesses written new disk status
+  -- .. with the sessions that it makes of a store
+  abbrev pub RunsAs : Arguments → List (Access D) → (before after : Option (List ℕ)) → Stream → Stream → Option D → List (Session g) → ℕ → Type 0
+  RunsAs (Format path side capacity) accesses before after written new disk sessions status =
+      (after ≡ before) × (sessions ≡ []) × RunsFormat path.now side capacity accesses written new disk status
+  RunsAs (Import path tile) accesses before after written new disk sessions status = (after ≡ before) × RunsImport path.now tile.now accesses written new disk sessions status
+  RunsAs (Serve path) accesses before after written new disk sessions status = RunsServe path.now accesses before after written new disk sessions status
+  RunsAs (Table side capacity) accesses before after written new disk sessions status =
+      (accesses ≡ []) × (disk ≡ None) × (sessions ≡ []) × RunsTable side capacity before after written new status
+  RunsAs (Upgrade path) accesses before after written new disk sessions status = (after ≡ before) × RunsUpgrade path.now accesses written new disk sessions status
+  RunsAs (Check path) accesses before after written new disk sessions status = (after ≡ before) × RunsCheck path.now accesses written new disk sessions status
 
   -- What the program with these words makes of the files that it asks for, of what the reader and the writer had before and
-  -- have after, the disk that it hands back, and its exit status: other words than it takes are told, and so is want of
-  -- memory for them; else it does what they ask for.
-  abbrev pub CarriesOut : (words : List (List ℕ)) → List (Access D) → (before after : Option (List ℕ)) → Stream → Stream → Option D → ℕ → Type 0
-  CarriesOut words accesses before after written new disk status =
-      ((accesses ≡ []) × (disk ≡ None) × (after ≡ before) × AskNothing words × Puts written new bad_words × (status ≡ 2))
-      ⊎ ((accesses ≡ []) × (disk ≡ None) × (after ≡ before) × TellsRefusal NoMemory written new status)
-      ⊎ ((a : Arguments) × AskedBy words a × RunsAs a accesses before after written new disk status)
+  -- have after, the disk that it hands back, the sessions that it made of a store, and its exit status: other words than it
+  -- takes are told, and so is want of memory for them; else it does what they ask for.
+  abbrev pub CarriesOut : (words : List (List ℕ)) → List (Access D) → (before after : Option (List ℕ)) → Stream → Stream → Option D → List (Session g) → ℕ → Type 0
+  CarriesOut words accesses before after written new disk sessions status =
+      ((accesses ≡ []) × (disk ≡ None) × (sessions ≡ []) × (after ≡ before) × AskNothing words × Puts written new bad_words × (status ≡ 2))
+      ⊎ ((accesses ≡ []) × (disk ≡ None) × (sessions ≡ []) × (after ≡ before) × TellsRefusal NoMemory written new status)
+      ⊎ ((a : Arguments) × AskedBy words a × RunsAs a accesses before after written new disk sessions status)
 
   -- .. where the disk is closed
   abbrev pub Runs : (words : List (List ℕ)) → List (Access D) → (before after : Option (List ℕ)) → Stream → Stream → ℕ → Type 0
-  Runs words accesses before after written new status = (disk : Option D) × CarriesOut words accesses before after written new disk status
+  Runs words accesses before after written new status =
+      (disk : Option D) × ((sessions : List (Session g)) × CarriesOut words accesses before after written new disk sessions status)

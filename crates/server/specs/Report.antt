@@ -1,14 +1,15 @@
 -- The report on a store (this product's own profile).
-use Rattle.std.specs.Prelude.{◌≡◌, ℕ, List, ◌++◌, codes, decimal, flat_map, if◌then◌else◌, None, Result, Ok, Err}
+use Rattle.std.specs.Prelude.{◌≡◌, ℕ, List, ◌++◌, codes, decimal, flat_map, if◌then◌else◌, Result, Err, OnOk, IfOk, IfErr}
+use Rattle.disk.specs.declared.disk.Disk.{Ghosts}
 use Rattle.lattice.specs.Corners.{Corner}
 use Rattle.lattice.specs.declared.refusal.Refusal.{Refusal}
-use Rattle.lattice.specs.declared.refusal.Refusal.TheVariants.{Device, NoMemory, Failed}
+use Rattle.lattice.specs.declared.refusal.Refusal.TheVariants.{NoMemory}
 use Rattle.hgt.specs.Names.{name_bytes}
-use Rattle.catalogue.specs.Seams.{IsSeamCount}
 use Rattle.catalogue.specs.Tiles.{corners_of, is_listed}
-use Rattle.engine.specs.Outcomes.{Stays, StaysFailed, Fails}
 use Rattle.engine.specs.State.{Contents, State}
 use Rattle.lines.specs.Replies.{line_of}
+use Rattle.store.specs.Stores.{disk_of, IsAt}
+use Rattle.store.specs.declared.store.Store.{Store}
 
 -- how many commands were accepted, and how many commits were made
 abbrev pub counts_line : ℕ → ℕ → List ℕ
@@ -30,16 +31,12 @@ abbrev pub IsReportText : List ℕ → Type 0
 IsReportText text = (count commits seams : ℕ) × (stale tiles : List Corner) × (text ≡ report_text count commits stale tiles seams)
 
 -- the text is the report on these contents
-abbrev pub IsReport : Contents → List ℕ → Type 0
-IsReport c text = (seams : ℕ) × IsSeamCount c.mosaic seams × (text ≡ report_text c.count c.number c.stale (corners_of c.mosaic) seams)
+abbrev pub IsReport : Contents → (seams : ℕ) → List ℕ → Type 0
+IsReport c seams text = text ≡ report_text c.count c.number c.stale (corners_of c.mosaic) seams
 
-abbrev pub ReportsNot : State → Refusal → State → Type 0
-ReportsNot s Failed t = StaysFailed s t
-ReportsNot s Device t = Fails s None t
-ReportsNot s NoMemory t = Stays s t
-ReportsNot s r t = ⊥
-
--- in the state s this may be reported, and the state t left
-abbrev pub Reports : State → Result (List ℕ) Refusal → State → Type 0
-Reports s (Ok text) t = Stays s t × IsReport s.contents text
-Reports s (Err r) t = ReportsNot s r t
+-- the report on a store by the count of its seams, or why there is none
+pub record IsReported {D : Type 0} (g : Ghosts D) (store : Store D g) (seams : Result ℕ Refusal) (result : Result (List ℕ) Refusal) : Type 0 where
+  pub refused : IfErr seams (λ r. result ≡ Err r)
+  pub memory : OnOk seams (IfErr result (λ r. r ≡ NoMemory))
+  pub lines : IfOk result IsReportText
+  pub report : g.honest (disk_of store) → (s : State) → IsAt g store s → IfOk seams (λ count. IfOk result (IsReport s.contents count))

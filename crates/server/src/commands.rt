@@ -1,6 +1,7 @@
 //! The program `mosaic`.
-ghost use Rattle.std.specs.Prelude.{◌≡◌, ◌≤◌, IfErr, IfOk, map};
+ghost use Rattle.std.specs.Prelude.{◌≡◌, ◌≤◌, IfErr, IfOk, List, map};
 ghost use Rattle.store.specs.Formatted.{format_2};
+ghost use Rattle.store.specs.Sessions.{Session};
 ghost use Rattle.server.specs.Endings.{TellsRefusal};
 ghost use Rattle.server.specs.Places.{Accessing};
 ghost use Rattle.server.specs.Program.{CarriesOut, EndsServing, Runs, RunsAs, RunsCheck, RunsFormat, RunsImport, RunsServe, RunsTable, RunsUpgrade, TellsFault};
@@ -64,7 +65,8 @@ pub fn carry_out<P: Places, S: AsStr, R: Read, O: Output>(
     reader: &mut R,
     writer: &mut O,
 ) -> Exit<P::File>
-    ensures { Accessing P.accessed places.old places.new (λ accesses. CarriesOut P.File.Disk (map S.text words.now) accesses (R.remaining reader.old) (R.remaining reader.new) (O.stream writer.old) (O.stream writer.new) result.disk result.status) }
+    ensures { Accessing P.accessed places.old places.new (λ accesses. (sessions : List (Session P.File.Disk))
+        × CarriesOut P.File.Disk (map S.text words.now) accesses (R.remaining reader.old) (R.remaining reader.new) (O.stream writer.old) (O.stream writer.new) result.disk sessions result.status) }
 {
     match Arguments::parse(alloc, words) {
         Ok(arguments) => run(alloc, places, arguments, reader, writer),
@@ -87,7 +89,8 @@ fn run<P: Places, R: Read, O: Output>(
     reader: &mut R,
     writer: &mut O,
 ) -> Exit<P::File>
-    ensures { Accessing P.accessed places.old places.new (λ accesses. RunsAs P.File.Disk arguments.entry accesses (R.remaining reader.old) (R.remaining reader.new) (O.stream writer.old) (O.stream writer.new) result.disk result.status) }
+    ensures { Accessing P.accessed places.old places.new (λ accesses. (sessions : List (Session P.File.Disk))
+        × RunsAs P.File.Disk arguments.entry accesses (R.remaining reader.old) (R.remaining reader.new) (O.stream writer.old) (O.stream writer.new) result.disk sessions result.status) }
 {
     match arguments {
         Arguments::Format {
@@ -151,7 +154,8 @@ fn import<P: Places, O: Output>(
     tile: &str,
     writer: &mut O,
 ) -> Exit<P::File>
-    ensures { Accessing P.accessed places.old places.new (λ accesses. RunsImport P.File.Disk path.now tile.now accesses (O.stream writer.old) (O.stream writer.new) result.disk result.status) }
+    ensures { Accessing P.accessed places.old places.new (λ accesses. (sessions : List (Session P.File.Disk))
+        × RunsImport P.File.Disk path.now tile.now accesses (O.stream writer.old) (O.stream writer.new) result.disk sessions result.status) }
 {
     let Ok(corner) = file_name(tile.as_bytes()) else {
         return Exit {
@@ -173,7 +177,8 @@ fn serve_file<P: Places, R: Read, O: Output>(
     reader: &mut R,
     writer: &mut O,
 ) -> Exit<P::File>
-    ensures { Accessing P.accessed places.old places.new (λ accesses. RunsServe P.File.Disk path.now accesses (R.remaining reader.old) (R.remaining reader.new) (O.stream writer.old) (O.stream writer.new) result.disk result.status) }
+    ensures { Accessing P.accessed places.old places.new (λ accesses. (sessions : List (Session P.File.Disk))
+        × RunsServe P.File.Disk path.now accesses (R.remaining reader.old) (R.remaining reader.new) (O.stream writer.old) (O.stream writer.new) result.disk sessions result.status) }
 {
     match places.open(path) {
         Some(disk) => exit_on(serve_store(alloc, disk, reader, writer)),
@@ -188,7 +193,8 @@ fn check<P: Places, O: Output>(
     path: &str,
     writer: &mut O,
 ) -> Exit<P::File>
-    ensures { Accessing P.accessed places.old places.new (λ accesses. RunsCheck P.File.Disk path.now accesses (O.stream writer.old) (O.stream writer.new) result.disk result.status) }
+    ensures { Accessing P.accessed places.old places.new (λ accesses. (sessions : List (Session P.File.Disk))
+        × RunsCheck P.File.Disk path.now accesses (O.stream writer.old) (O.stream writer.new) result.disk sessions result.status) }
 {
     match places.open(path) {
         Some(disk) => exit_on(check_store(alloc, disk, writer)),
@@ -204,7 +210,8 @@ fn upgrade<P: Places, O: Output>(
     path: &str,
     writer: &mut O,
 ) -> Exit<P::File>
-    ensures { Accessing P.accessed places.old places.new (λ accesses. RunsUpgrade P.File.Disk path.now accesses (O.stream writer.old) (O.stream writer.new) result.disk result.status) }
+    ensures { Accessing P.accessed places.old places.new (λ accesses. (sessions : List (Session P.File.Disk))
+        × RunsUpgrade P.File.Disk path.now accesses (O.stream writer.old) (O.stream writer.new) result.disk sessions result.status) }
 {
     match places.open(path) {
         Some(disk) => exit_on(grow_and_upgrade(alloc, disk, writer)),

@@ -1,15 +1,17 @@
 //! The subcommands on the disk of a store, whatever disk it is.
-ghost use Rattle.std.specs.Prelude.{◌≡◌, IfErr, IfOk};
-ghost use Rattle.store.specs.Stores.{root_of};
-ghost use Rattle.store.specs.Upgraded.{HasUpgraded as Upgraded};
-ghost use Rattle.server.specs.OnDisks.{ChecksStore, GrowsAndUpgrades, HasMeasured, ImportsTile, IsClosed, MakesStore, RunsGrown, ServesLines, UpgradesStore, done_of};
-ghost use Rattle.server.specs.Openings.{IsOpened};
+//!
+//! Each but the making of a store is one session of it, or two: an opening, and the calls that are made then. Its contract
+//! names the session, and what is told of the calls' answers.
+ghost use Rattle.std.specs.Prelude.{◌≡◌, true, List, IfOk};
+ghost use Rattle.store.specs.Sessions.{Session};
+ghost use Rattle.store.specs.Stores.{disk_of, root_of, has_failed};
+ghost use Rattle.store.specs.Upgraded.{HasUpgraded};
+ghost use Rattle.server.specs.OnDisks.{ChecksStore, GrowsAndUpgrades, ImportsTile, MakesStore, RunsGrown, ServesLines, UpgradesStore, done_of};
 ghost use Rattle.server.specs.Places.{Accessing};
 
 use crate::exit::{end_command, end_format, end_report, end_session, refuse, write_message};
 use crate::places::{Lengthen, Places, TileFault};
 use crate::reporting::report;
-use cow_tree::NotOpened;
 use disk::Disk;
 use edits::{Bytes, Command};
 use engine::Engine;
@@ -17,15 +19,7 @@ use lattice::{Corner, Refusal};
 use serving::{Output, serve};
 use std::alloc::Global;
 use std::io::Read;
-use store::Store;
-
-// Opens the store on a disk, or hands the disk back with the refusal.
-fn open_store<D: Disk>(alloc: Global, disk: D) -> Result<Store<D>, NotOpened<D>>
-    ensures opened { IfOk result (IsOpened D.Disk disk) }
-    ensures refused { IfErr result (λ refused. IsClosed D.Disk disk refused.disk refused.refusal) }
-{
-    Store::open(alloc, disk)
-}
+use store::{Store, open_session};
 
 /// Makes a disk a store without tiles. It hands the disk back, with the exit status.
 pub fn make_store<D: Disk, O: Output>(disk: D, side: u32, capacity: u32, writer: &mut O) -> (D, u8)
@@ -46,9 +40,10 @@ pub fn import_tile<P: Places, O: Output>(
     tile: &str,
     writer: &mut O,
 ) -> (P::File, u8)
-    ensures { Accessing P.accessed places.old places.new (λ accesses. ImportsTile P.File.Disk corner tile.now accesses disk result.0 (O.stream writer.old) (O.stream writer.new) result.1) }
+    ensures { Accessing P.accessed places.old places.new (λ accesses. (sessions : List (Session P.File.Disk))
+        × ImportsTile P.File.Disk corner tile.now accesses disk result.0 sessions (O.stream writer.old) (O.stream writer.new) result.1) }
 {
-    let mut store = match open_store(alloc, disk) {
+    let mut store = match open_session(alloc, disk) {
         Ok(store) => store,
         Err(refused) => return (refused.disk, refuse(writer, refused.refusal)),
     };
@@ -77,28 +72,14 @@ pub fn serve_store<D: Disk, R: Read, O: Output>(
     reader: &mut R,
     writer: &mut O,
 ) -> (D, u8)
-    ensures { ServesLines D.Disk disk result.0 (R.remaining reader.old) (R.remaining reader.new) (O.stream writer.old) (O.stream writer.new) result.1 }
+    ensures { (sessions : List (Session D.Disk)) × ServesLines D.Disk disk result.0 sessions (R.remaining reader.old) (R.remaining reader.new) (O.stream writer.old) (O.stream writer.new) result.1 }
 {
-    let mut store = match open_store(alloc, disk) {
+    let mut store = match open_session(alloc, disk) {
         Ok(store) => store,
         Err(refused) => return (refused.disk, refuse(writer, refused.refusal)),
     };
     let served = serve(alloc, reader, writer, &mut store);
     (store.into_disk(), end_session(writer, served))
-}
-
-/// How many sectors the second version asks of the store on a disk. It hands the disk back. Refused as the opening is.
-pub fn measure_store<D: Disk>(alloc: Global, disk: D) -> (D, Result<u32, Refusal>)
-    ensures measured { IfOk result.1 (HasMeasured D.Disk disk result.0) }
-    ensures refused { IfErr result.1 (IsClosed D.Disk disk result.0) }
-{
-    match open_store(alloc, disk) {
-        Ok(store) => {
-            let sectors = store.sectors_to_upgrade();
-            (store.into_disk(), Ok(sectors))
-        }
-        Err(refused) => (refused.disk, Err(refused.refusal)),
-    }
 }
 
 /// Makes a disk as long as the second version asks of the store on it, and the store one of that version. It hands the disk
@@ -108,13 +89,14 @@ pub fn grow_and_upgrade<D: Disk + Lengthen, O: Output>(
     disk: D,
     writer: &mut O,
 ) -> (D, u8)
-    ensures { GrowsAndUpgrades D.Disk disk result.0 (O.stream writer.old) (O.stream writer.new) result.1 }
+    ensures { (sessions : List (Session D.Disk)) × GrowsAndUpgrades D.Disk disk result.0 sessions (O.stream writer.old) (O.stream writer.new) result.1 }
 {
-    let (disk, measured) = measure_store(alloc, disk);
-    match measured {
-        Ok(sectors) => upgrade_grown(alloc, disk, sectors, writer),
-        Err(refusal) => (disk, refuse(writer, refusal)),
-    }
+    let store = match open_session(alloc, disk) {
+        Ok(store) => store,
+        Err(refused) => return (refused.disk, refuse(writer, refused.refusal)),
+    };
+    let sectors = store.sectors_to_upgrade();
+    upgrade_grown(alloc, store.into_disk(), sectors, writer)
 }
 
 // Makes the disk of a store as long as so many sectors, and the store on it one of the second version.
@@ -124,7 +106,7 @@ fn upgrade_grown<D: Disk + Lengthen, O: Output>(
     sectors: u32,
     writer: &mut O,
 ) -> (D, u8)
-    ensures { RunsGrown D.Disk sectors disk result.0 (O.stream writer.old) (O.stream writer.new) result.1 }
+    ensures { (sessions : List (Session D.Disk)) × RunsGrown D.Disk sectors disk result.0 sessions (O.stream writer.old) (O.stream writer.new) result.1 }
 {
     if disk.lengthen(sectors).is_err() {
         return (disk, refuse(writer, Refusal::Device));
@@ -134,9 +116,9 @@ fn upgrade_grown<D: Disk + Lengthen, O: Output>(
 
 /// Makes the store on a disk one of the second version. It hands the disk back, with the exit status.
 pub fn upgrade_store<D: Disk, O: Output>(alloc: Global, disk: D, writer: &mut O) -> (D, u8)
-    ensures { UpgradesStore D.Disk disk result.0 (O.stream writer.old) (O.stream writer.new) result.1 }
+    ensures { (sessions : List (Session D.Disk)) × UpgradesStore D.Disk disk result.0 sessions (O.stream writer.old) (O.stream writer.new) result.1 }
 {
-    let mut store = match open_store(alloc, disk) {
+    let mut store = match open_session(alloc, disk) {
         Ok(store) => store,
         Err(refused) => return (refused.disk, refuse(writer, refused.refusal)),
     };
@@ -146,7 +128,8 @@ pub fn upgrade_store<D: Disk, O: Output>(alloc: Global, disk: D, writer: &mut O)
 
 // Upgrades a store, and answers how many commands it has accepted.
 fn upgrade_counted<D: Disk>(store: &mut Store<D>) -> Result<u64, Refusal>
-    ensures upgraded { Upgraded D.Disk store.old store.new (done_of result) }
+    ensures upgraded { HasUpgraded D.Disk store.old store.new (done_of result) }
+    ensures untouched { has_failed store.old ≡ true → disk_of store.new ≡ disk_of store.old }
     ensures count { IfOk result (λ k. k ≡ (root_of store.new).count) }
 {
     store.upgrade()?;
@@ -156,12 +139,13 @@ fn upgrade_counted<D: Disk>(store: &mut Store<D>) -> Result<u64, Refusal>
 /// Reports on the store on a disk: how many commands it accepted and commits it made, its tiles, and how many points of
 /// seams disagree. It hands the disk back, with the exit status.
 pub fn check_store<D: Disk, O: Output>(alloc: Global, disk: D, writer: &mut O) -> (D, u8)
-    ensures { ChecksStore D.Disk disk result.0 (O.stream writer.old) (O.stream writer.new) result.1 }
+    ensures { (sessions : List (Session D.Disk)) × ChecksStore D.Disk disk result.0 sessions (O.stream writer.old) (O.stream writer.new) result.1 }
 {
-    let mut store = match open_store(alloc, disk) {
+    let mut store = match open_session(alloc, disk) {
         Ok(store) => store,
         Err(refused) => return (refused.disk, refuse(writer, refused.refusal)),
     };
-    let reported = report(alloc, &mut store);
+    let seams = store.seams();
+    let reported = report(alloc, &store, seams);
     (store.into_disk(), end_report(writer, reported))
 }

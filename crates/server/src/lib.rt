@@ -16,21 +16,19 @@ mod arguments;
 mod commands;
 mod disks;
 mod exit;
+mod file_runs;
 mod files;
-mod following;
 mod places;
 mod reporting;
 
 pub use arguments::{ArgumentFault, Arguments};
 pub use commands::{Exit, carry_out, no_room, program};
 pub use disks::{
-    check_store, grow_and_upgrade, import_tile, make_store, measure_store, serve_store,
-    upgrade_store,
+    check_store, grow_and_upgrade, import_tile, make_store, serve_store, upgrade_store,
 };
 pub use engine::Engine;
+pub use file_runs::runs_compose;
 pub use files::FilePlaces;
-pub use following::{longer_disks_hold, serving_is_a_session, sessions_follow};
 pub use places::{Lengthen, MakeFault, Places, TileFault};
-pub use reporting::report;
 pub use serving::{CheckedWriter, Output, OutputFault, ServeFault, serve};
 pub use table_engine::TableEngine;

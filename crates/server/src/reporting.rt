@@ -1,11 +1,11 @@
 //! What there is to report on a store.
-ghost use Rattle.std.specs.Prelude.{◌≡◌, ◌++◌, IfOk, OnOk, codes, decimal, flat_map, if◌then◌else◌};
+ghost use Rattle.std.specs.Prelude.{◌≡◌, ◌++◌, false, Err, IfErr, IfOk, OnOk, codes, decimal, flat_map, if◌then◌else◌};
+ghost use Rattle.lattice.specs.declared.refusal.Refusal.TheVariants.{NoMemory};
+ghost use Rattle.engine.specs.Engines.{items_in};
 ghost use Rattle.engine.specs.State.{State};
 ghost use Rattle.derived.specs.Kept.{stale_in};
-ghost use Rattle.store.specs.Queried.{Queries};
-ghost use Rattle.engine.specs.Engines.{items_in};
-ghost use Rattle.store.specs.Stores.{disk_of, root_of, IsAt};
-ghost use Rattle.server.specs.Report.{IsReportText, Reports, report_text, tile_line};
+ghost use Rattle.store.specs.Stores.{disk_of, root_of, has_failed, IsAt};
+ghost use Rattle.server.specs.Report.{IsReport, IsReportText, report_text, tile_line};
 
 use disk::Disk;
 use hgt::name_text;
@@ -14,16 +14,22 @@ use lattice::{Corner, Refusal};
 use std::alloc::{AllocError, Global};
 use store::Store;
 
-/// The report on a store, as lines: how many commands it accepted and commits it made, its tiles in order, each with
-/// whether levels and labels are kept of it, and how many points of seams disagree. It only reads. Refused with Failed,
-/// Device or NoMemory.
-pub fn report<D: Disk>(alloc: Global, store: &mut Store<D>) -> Result<Vec<u8>, Refusal>
-    ensures reads { Queries D.Disk store.old store.new result }
-    ensures lines { IfOk result (λ text. IsReportText text.items) }
-    ensures outcome { D.honest (disk_of store.new) → (s : State) → IsAt D.Disk store.old s
-        → (t : State) × (IsAt D.Disk store.new t × Reports s (items_in result) t) }
+/// The report on a store of which so many points of seams disagree, as lines: how many commands it accepted and commits it
+/// made, its tiles in order, each with whether levels and labels are kept of it, and the seams. Refused as their count was,
+/// or with NoMemory.
+pub(crate) fn report<D: Disk>(
+    alloc: Global,
+    store: &Store<D>,
+    seams: Result<u64, Refusal>,
+) -> Result<Vec<u8>, Refusal>
+    requires works { OnOk seams (has_failed store.now ≡ false) }
+    ensures refused { IfErr seams (λ r. items_in result ≡ Err r) }
+    ensures memory { OnOk seams (IfErr (items_in result) (λ r. r ≡ NoMemory)) }
+    ensures lines { IfOk (items_in result) IsReportText }
+    ensures report { D.honest (disk_of store.now) → (s : State) → IsAt D.Disk store.now s
+        → IfOk seams (λ count. IfOk (items_in result) (IsReport s.contents count)) }
 {
-    let seams = store.seams()?;
+    let seams = seams?;
     let corners = store.tiles()?;
     let text = lines(alloc, store, corners.as_slice(), seams)?;
     Ok(text)

@@ -1,10 +1,10 @@
+pub mod AcceptedInTurn
 pub mod AskedTrees
 pub mod Committed
 pub mod EditingReads
 pub mod EditingSteps
 pub mod EditingWrites
 pub mod Ended
-pub mod FatesInTurn
 pub mod Finding
 pub mod HeldTiles
 pub mod Holding

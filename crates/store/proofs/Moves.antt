@@ -1,5 +1,5 @@
 -- What a call of a store leaves of what was accepted: a stop inside it finds the contents before it or after it.
-use Rattle.std.proofs.Common.{◌≡◌, ◌⊎◌, inl, inr, ⊎_elim, ℕ, Bool, true, false, true≢false, List, [], ◌∷◌, refl, sym, ap, ◌∙◌, subst}
+use Rattle.std.proofs.Common.{◌≡◌, ◌⊎◌, inl, inr, ⊎_elim, ℕ, Bool, true, false, true≢false, [], ◌∷◌, ◌++◌, refl, sym, ap, ◌∙◌, subst}
 use Rattle.std.specs.Prelude.{Result, Ok, Err, Some, None, Option, unwrap_or, nat_lt, if◌then◌else◌, IsFalse}
 use Rattle.lattice.specs.Corners.{Corner}
 use Rattle.lattice.specs.Mosaic.{Mosaic}
@@ -16,16 +16,14 @@ use Rattle.engine.specs.declared.event.Event.{Event}
 use Rattle.engine.specs.declared.event.Event.TheVariants as ask
 use Rattle.engine.specs.declared.event.Reply.{Reply}
 use Rattle.engine.specs.declared.event.Reply.TheVariants as reply
-use Rattle.store.specs.Fates.{Fate, Acknowledged, InDoubt, AreAccepted, IsMadeOf, known_by, doubted_of}
-use Rattle.store.proofs.FatesInTurn.{by_none, acknowledged_made, doubted_made}
+use Rattle.store.specs.Queried.{CountsSeams}
+use Rattle.store.specs.Accepted.{Since, none_asked, done_too, doubted_too, ComesBy, IsMadeOf}
+use Rattle.store.specs.Sessions.{Call, Asked, known_by, known_without}
+use Rattle.store.proofs.AcceptedInTurn.{by_none, as_well, one_more, still_doubted}
 
 -- the contents are those of the state, or of its commit in doubt
 abbrev pub MayHold : State → Contents → Type 0
 MayHold s c = (c ≡ s.contents) ⊎ (s.doubt ≡ Some c)
-
--- a commit is in doubt only once the disk failed
-abbrev pub IsSober : State → Type 0
-IsSober s = s.failed ≡ false → s.doubt ≡ None
 
 abbrev pub second_of : State → Contents
 second_of s = unwrap_or s.doubt s.contents
@@ -46,96 +44,110 @@ pub not_some : (c : Contents) → ◌≡◌ {A = Option Contents} None (Some c) 
 not_some c is = cc is
 
 module _ (capacity : ℕ) where
-  -- the contents are made of what the state may hold
-  abbrev pub IsMadeFrom : State → List Fate → Contents → Type 0
-  IsMadeFrom s fates c = (was : Contents) × MayHold s was × IsMadeOf capacity was fates c
+  -- What is known of a state, since an opening found these contents: what it knows comes by what was done, what is in doubt
+  -- is made of what was accepted, and neither is in doubt until the disk failed.
+  pub record Knows (found : Contents) (since : Since) (s : State) : Type 0 where
+    pub known : ComesBy capacity found since.done s.contents
+    pub doubted : (d : Contents) → s.doubt ≡ Some d → IsMadeOf capacity found since d
+    pub sober : s.failed ≡ false → (s.doubt ≡ None) × (since.doubt ≡ None)
 
-  -- From the one state to the other: what is held then is made of what was held, by what is known; and what a stop inside
-  -- the call finds is one of two contents, each made of what was held, by what is known without an answer.
-  pub record Moves (known doubted : List Fate) (s t : State) : Type 0 where
-    pub sober : IsSober t
-    pub made : (c : Contents) → MayHold t c → IsMadeFrom s known c
+  -- the disk was opened again
+  abbrev pub IsFoundAgain : Contents → Since → State → Type 0
+  IsFoundAgain found since t = (e : Contents) × IsMadeOf capacity found since e × (t ≡ working e)
+
+  -- From the one state to the other, of which this is known then; and what a stop inside the call finds is one of two
+  -- contents, each made of what was accepted, as is known without an answer.
+  pub record Moves (found : Contents) (without : Since) (Then : State → Type 0) (s t : State) : Type 0 where
+    pub next : Then t
     pub one : Contents
     pub other : Contents
     pub either : (c : Contents) → MayHold s c ⊎ MayHold t c → (c ≡ one) ⊎ (c ≡ other)
-    pub one_made : IsMadeFrom s doubted one
-    pub other_made : IsMadeFrom s doubted other
+    pub one_made : IsMadeOf capacity found without one
+    pub other_made : IsMadeOf capacity found without other
 
-  pub unchanged : (fates : List Fate) → AreAccepted fates [] → (a b : Contents) → b.mosaic ≡ a.mosaic → b.count ≡ a.count → IsMadeOf capacity a fates b
-  unchanged fates none a b mosaic count = ([], none, by_none capacity a b mosaic count)
+  -- what a state may hold is made of what was accepted
+  pub held_made : (found : Contents) (since : Since) (s : State) → Knows found since s → (c : Contents) → MayHold s c → IsMadeOf capacity found since c
+  held_made found since s knows c (inl same) = subst (λ (x : Contents). IsMadeOf capacity found since x) (sym same) (since.done, inl refl, knows.known)
+  held_made found since s knows c (inr is) = knows.doubted c is
 
-  module _ (known doubted : List Fate) (nothing_known : AreAccepted known []) (nothing_doubted : AreAccepted doubted []) (s : State) (sober : IsSober s) where
-    held_on : (fates : List Fate) → AreAccepted fates [] → (c : Contents) → MayHold s c → IsMadeFrom s fates c
-    held_on fates none c held = (c, held, unchanged fates none c c refl refl)
+  -- as an opening finds it
+  pub known_first : (e : Contents) → Knows e none_asked (working e)
+  known_first e = record { known = by_none capacity e; doubted = λ d is. absurd (not_some d is); sober = λ works. (refl, refl) }
 
-    at_most : (t : State) → IsSober t → ((c : Contents) → MayHold t c → MayHold s c) → Moves known doubted s t
-    at_most t sober_then held = record {
-      sober = sober_then;
-      made = λ c may. held_on known nothing_known c (held c may);
+  module _ (found : Contents) (since without : Since) (s : State) (knows : Knows found since s) (more : (c : Contents) → IsMadeOf capacity found since c → IsMadeOf capacity found without c) where
+    -- what is held then was held before
+    at_most : (Then : State → Type 0) (t : State) → Then t → ((c : Contents) → MayHold t c → MayHold s c) → Moves found without Then s t
+    at_most Then t is held = record {
+      next = is;
       one = s.contents;
       other = second_of s;
       either = λ c. ⊎_elim (λ before. one_of_two s c before) (λ after. one_of_two s c (held c after));
-      one_made = held_on doubted nothing_doubted s.contents (inl refl);
-      other_made = held_on doubted nothing_doubted (second_of s) (second_held s);
+      one_made = more s.contents (held_made found since s knows s.contents (inl refl));
+      other_made = more (second_of s) (held_made found since s knows (second_of s) (second_held s));
     }
 
-    pub stays : (t : State) → t ≡ s → Moves known doubted s t
-    stays t same = subst (λ (u : State). Moves known doubted s u) (sym same) (at_most s sober (λ c may. may))
+    pub stays : (t : State) → t ≡ s → Moves found without (Knows found since) s t
+    stays t same = subst (λ (u : State). Moves found without (Knows found since) s u) (sym same) (at_most (Knows found since) s knows (λ c may. may))
 
-    pub opened_again : (t : State) (e : Contents) → MayHold s e → t ≡ working e → Moves known doubted s t
-    opened_again t e held is = subst (λ (u : State). Moves known doubted s u) (sym is)
-        (at_most (working e) (λ failed. refl) (λ c. ⊎_elim (λ same. subst (λ (x : Contents). MayHold s x) (sym same) held) (λ doubt. absurd (not_some c doubt))))
+    pub opened_again : (t : State) (e : Contents) → MayHold s e → t ≡ working e → Moves found without (IsFoundAgain found since) s t
+    opened_again t e held is = subst (λ (u : State). Moves found without (IsFoundAgain found since) s u) (sym is)
+        (at_most (IsFoundAgain found since) (working e) (e, held_made found since s knows e held, refl)
+        (λ c. ⊎_elim (λ same. subst (λ (x : Contents). MayHold s x) (sym same) held) (λ doubt. absurd (not_some c doubt))))
 
-    pub not_opened : (t : State) → t ≡ record s { failed = true } → Moves known doubted s t
-    not_opened t is = subst (λ (u : State). Moves known doubted s u) (sym is)
-        (at_most (record s { failed = true }) (λ failed. absurd (true≢false failed)) (λ c may. may))
+    pub not_opened : (t : State) → t ≡ record s { failed = true } → Moves found without (Knows found since) s t
+    not_opened t is = subst (λ (u : State). Moves found without (Knows found since) s u) (sym is)
+        (at_most (Knows found since) (record s { failed = true }) (record { known = knows.known; doubted = knows.doubted; sober = λ failed. absurd (true≢false failed) }) (λ c may. may))
 
-  no_doubt : (s : State) → IsSober s → IsFalse s.failed → (c : Contents) → MayHold s c → c ≡ s.contents
-  no_doubt s sober works c (inl same) = same
-  no_doubt s sober works c (inr doubt) = absurd (not_some c (sym (sober works) ∙ doubt))
+    -- ---- a commit was made, or is in doubt
 
-  -- a commit was made, or is in doubt
-  module _ (known doubted : List Fate) (nothing_known : AreAccepted known []) (nothing_doubted : AreAccepted doubted []) (s : State) (sober : IsSober s) (works : IsFalse s.failed) where
-    pub fails : (t : State) (doubt : Option Contents) → t ≡ failing s doubt
-        → ((c : Contents) → doubt ≡ Some c → IsMadeOf capacity s.contents known c × IsMadeOf capacity s.contents doubted c) → Moves known doubted s t
-    fails t doubt is made = subst (λ (u : State). Moves known doubted s u) (sym is) (by doubt made)
-      where
-        by : (doubt : Option Contents) → ((c : Contents) → doubt ≡ Some c → IsMadeOf capacity s.contents known c × IsMadeOf capacity s.contents doubted c) → Moves known doubted s (failing s doubt)
-        by None made = record {
-          sober = λ failed. refl;
-          made = λ c. ⊎_elim (λ same. (s.contents, inl refl, unchanged known nothing_known s.contents c (ap (λ (x : Contents). x.mosaic) same) (ap (λ (x : Contents). x.count) same))) (λ none. absurd (not_some c none));
-          one = s.contents;
-          other = s.contents;
-          either = λ c. ⊎_elim (λ before. inl (no_doubt s sober works c before)) (λ after. inl (⊎_elim (λ same. same) (λ none. absurd (not_some c none)) after));
-          one_made = (s.contents, inl refl, unchanged doubted nothing_doubted s.contents s.contents refl refl);
-          other_made = (s.contents, inl refl, unchanged doubted nothing_doubted s.contents s.contents refl refl);
-        }
-        by (Some d) made = record {
-          sober = λ failed. absurd (true≢false failed);
-          made = λ c. ⊎_elim (λ same. (s.contents, inl refl, unchanged known nothing_known s.contents c (ap (λ (x : Contents). x.mosaic) same) (ap (λ (x : Contents). x.count) same)))
-              (λ some. (s.contents, inl refl, (made c some).0));
-          one = s.contents;
-          other = d;
-          either = λ c. ⊎_elim (λ before. inl (no_doubt s sober works c before)) (λ after. ⊎_elim (λ same. inl same) (λ some. inr (let same : d ≡ c = cc some in sym same)) after);
-          one_made = (s.contents, inl refl, unchanged doubted nothing_doubted s.contents s.contents refl refl);
-          other_made = (s.contents, inl refl, (made d refl).1);
-        }
+    module _ (works : IsFalse s.failed) where
+      no_doubt : (c : Contents) → MayHold s c → c ≡ s.contents
+      no_doubt c (inl same) = same
+      no_doubt c (inr doubt) = absurd (not_some c (sym (knows.sober works).0 ∙ doubt))
 
-  pub commits : (known doubted : List Fate) → AreAccepted doubted [] → (s : State) → IsSober s → IsFalse s.failed → (t : State) (c : Contents) → t ≡ record s { contents = c }
-      → IsMadeOf capacity s.contents known c → IsMadeOf capacity s.contents doubted c → Moves known doubted s t
-  commits known doubted nothing_doubted s sober works t c is by_known by_doubted = subst (λ (u : State). Moves known doubted s u) (sym is) (record {
-    sober = sober;
-    made = λ d may. (s.contents, inl refl, subst (λ (x : Contents). IsMadeOf capacity s.contents known x) (sym (only d may)) by_known);
-    one = s.contents;
-    other = c;
-    either = λ d. ⊎_elim (λ before. inl (no_doubt s sober works d before)) (λ after. inr (only d after));
-    one_made = (s.contents, inl refl, unchanged doubted nothing_doubted s.contents s.contents refl refl);
-    other_made = (s.contents, inl refl, by_doubted);
-  })
-    where
-      only : (d : Contents) → MayHold (record s { contents = c }) d → d ≡ c
-      only d (inl same) = same
-      only d (inr doubt) = absurd (not_some d (sym (sober works) ∙ doubt))
+      now_made : IsMadeOf capacity found without s.contents
+      now_made = more s.contents (held_made found since s knows s.contents (inl refl))
+
+      pub fails : (after : Since) → ComesBy capacity found after.done s.contents → (t : State) (doubt : Option Contents) → t ≡ failing s doubt
+          → ((c : Contents) → doubt ≡ Some c → IsMadeOf capacity found after c × IsMadeOf capacity found without c) → Moves found without (Knows found after) s t
+      fails after comes t doubt is made = subst (λ (u : State). Moves found without (Knows found after) s u) (sym is) (by doubt made)
+        where
+          next : (doubt : Option Contents) → ((c : Contents) → doubt ≡ Some c → IsMadeOf capacity found after c × IsMadeOf capacity found without c) → Knows found after (failing s doubt)
+          next doubt made = record { known = comes; doubted = λ d some. (made d some).0; sober = λ failed. absurd (true≢false failed) }
+
+          by : (doubt : Option Contents) → ((c : Contents) → doubt ≡ Some c → IsMadeOf capacity found after c × IsMadeOf capacity found without c) → Moves found without (Knows found after) s (failing s doubt)
+          by None made = record {
+            next = next None made;
+            one = s.contents;
+            other = s.contents;
+            either = λ c. ⊎_elim (λ before. inl (no_doubt c before)) (λ after. inl (⊎_elim (λ same. same) (λ none. absurd (not_some c none)) after));
+            one_made = now_made;
+            other_made = now_made;
+          }
+          by (Some d) made = record {
+            next = next (Some d) made;
+            one = s.contents;
+            other = d;
+            either = λ c. ⊎_elim (λ before. inl (no_doubt c before)) (λ after. ⊎_elim (λ same. inl same) (λ some. inr (let same : d ≡ c = cc some in sym same)) after);
+            one_made = now_made;
+            other_made = (made d refl).1;
+          }
+
+      pub commits : (after : Since) (t : State) (c : Contents) → t ≡ record s { contents = c } → ComesBy capacity found after.done c → after.doubt ≡ since.doubt → IsMadeOf capacity found without c
+          → Moves found without (Knows found after) s t
+      commits after t c is comes same_doubt made = subst (λ (u : State). Moves found without (Knows found after) s u) (sym is) (record {
+        next = record { known = comes; doubted = λ d some. absurd (not_some d (sym (knows.sober works).0 ∙ some)); sober = λ failed. ((knows.sober failed).0, same_doubt ∙ (knows.sober failed).1) };
+        one = s.contents;
+        other = c;
+        either = λ d. ⊎_elim (λ before. inl (no_doubt d before)) (λ after. inr (⊎_elim (λ same. same) (λ doubt. absurd (not_some d (sym (knows.sober works).0 ∙ doubt))) after));
+        one_made = now_made;
+        other_made = made;
+      })
+
+  -- what is known after a call
+  abbrev pub IsKnownBy : Contents → Since → Call → State → Type 0
+  IsKnownBy found since (Asked ask.Reopen reply.Reopened) t = IsFoundAgain found since t
+  IsKnownBy found since call t = Knows found (known_by since call) t
 
   -- ---- by what was asked
 
@@ -150,56 +162,80 @@ module _ (capacity : ℕ) where
       by_room true some = by_effect (effect capacity was.mosaic c) refl some
       by_room false some = absurd (not_some made some)
 
-  module _ (s t : State) (sober : IsSober s) where
-    refused : (c : Command) (r : Refusal) → AppliesNot capacity s c r t → Moves (known_by (ask.Do c) (reply.Refused r)) (doubted_of (ask.Do c)) s t
-    refused c Failed is = stays [] (InDoubt c ∷ []) refl (inl refl) s sober t is.same
-    refused c Device is = fails (InDoubt c ∷ []) (InDoubt c ∷ []) (inl refl) (inl refl) s sober is.working t (in_doubt capacity s.contents c) is.fails
-        (λ made some. let (new, (makes, same)) = doubt_makes s.contents c made some in (doubted_made capacity s.contents made c new makes same, doubted_made capacity s.contents made c new makes same))
-    refused c NoMemory is = stays [] (InDoubt c ∷ []) refl (inl refl) s sober t is.same
-    refused c Worn is = stays [] (InDoubt c ∷ []) refl (inl refl) s sober t is.stays.same
-    refused c r is = stays [] (InDoubt c ∷ []) refl (inl refl) s sober t is.stays.same
+  module _ (found : Contents) (since : Since) (s t : State) (knows : Knows found since s) where
+    abbrev Still : Type 0
+    Still = Moves found since (Knows found since) s t
 
-    commanded : (c : Command) (answer : Reply) → Happens capacity s (ask.Do c) answer t → Moves (known_by (ask.Do c) answer) (doubted_of (ask.Do c)) s t
-    commanded c (reply.Done k) is =
-        let new = is.effect_is.0 in
-        let makes = is.effect_is.1.0 in
-        commits (Acknowledged c ∷ []) (InDoubt c ∷ []) (inl refl) s sober is.working t (made_by s.contents c new) is.effect_is.1.1
-        (acknowledged_made capacity s.contents (made_by s.contents c new) c new makes refl) (doubted_made capacity s.contents (made_by s.contents c new) c new makes refl)
-    commanded c (reply.Refused r) is = refused c r is
-    commanded c answer is = absurd is
+    module _ (c : Command) where
+      more : (made : Contents) → IsMadeOf capacity found since made → IsMadeOf capacity found (doubted_too since c) made
+      more made is = still_doubted capacity found since c made is
 
-    read : t ≡ s → Moves [] [] s t
-    read same = stays [] [] refl refl s sober t same
+      same_as : t ≡ s → Moves found (doubted_too since c) (Knows found since) s t
+      same_as same = stays found since (doubted_too since c) s knows more t same
+
+      -- it is the first in doubt
+      doubted_made : IsFalse s.failed → (made : Contents) (new : Mosaic) → effect capacity s.contents.mosaic c ≡ Ok new → made ≡ made_by s.contents c new → IsMadeOf capacity found (doubted_too since c) made
+      doubted_made works made new makes is = (
+        since.done ++ c ∷ [],
+        inr (c, ap (λ (d : Option Command). Some (unwrap_or d c)) (knows.sober works).1, refl),
+        one_more capacity found s.contents made since.done c new knows.known makes is,
+      )
+
+      refused : (r : Refusal) → AppliesNot capacity s c r t → Moves found (doubted_too since c) (Knows found (known_by since (Asked (ask.Do c) (reply.Refused r)))) s t
+      refused Failed is = same_as is.same
+      refused Device is = fails found since (doubted_too since c) s knows more is.working (doubted_too since c) knows.known t (in_doubt capacity s.contents c) is.fails
+          (λ made some. let (new, (makes, same)) = doubt_makes s.contents c made some in (doubted_made is.working made new makes same, doubted_made is.working made new makes same))
+      refused NoMemory is = same_as is.same
+      refused Worn is = same_as is.stays.same
+      refused r is = same_as is.stays.same
+
+      commanded : (answer : Reply) → Happens capacity s (ask.Do c) answer t → Moves found (doubted_too since c) (Knows found (known_by since (Asked (ask.Do c) answer))) s t
+      commanded (reply.Done k) is =
+          let new = is.effect_is.0 in
+          let makes = is.effect_is.1.0 in
+          let made = made_by s.contents c new in
+          commits found since (doubted_too since c) s knows more is.working (done_too since c) t made is.effect_is.1.1
+          (one_more capacity found s.contents made since.done c new knows.known makes refl) refl (doubted_made is.working made new makes refl)
+      commanded (reply.Refused r) is = refused r is
+      commanded answer is = absurd is
+
+    read : t ≡ s → Still
+    read same = stays found since since s knows (λ c made. made) t same
+
+    -- what it made is of the same terrain and count
+    of_same : (c : Contents) → c.mosaic ≡ s.contents.mosaic → c.count ≡ s.contents.count → ComesBy capacity found since.done c
+    of_same c mosaic count = as_well capacity found s.contents c since.done knows.known mosaic count
 
     -- nothing is in doubt, or a commit of the same terrain
-    failed_read : (doubt : Option Contents) → Fails s doubt t → ((c : Contents) → doubt ≡ Some c → (c.mosaic ≡ s.contents.mosaic) × (c.count ≡ s.contents.count)) → Moves [] [] s t
-    failed_read doubt is same = fails [] [] refl refl s sober is.working t doubt is.fails
-        (λ c some. (unchanged [] refl s.contents c (same c some).0 (same c some).1, unchanged [] refl s.contents c (same c some).0 (same c some).1))
+    failed_read : (doubt : Option Contents) → Fails s doubt t → ((c : Contents) → doubt ≡ Some c → (c.mosaic ≡ s.contents.mosaic) × (c.count ≡ s.contents.count)) → Still
+    failed_read doubt is same = fails found since since s knows (λ c made. made) is.working since knows.known t doubt is.fails
+        (λ c some. let made : IsMadeOf capacity found since c = (since.done, inl refl, of_same c (same c some).0 (same c some).1) in (made, made))
 
-    failed_asking : Fails s None t → Moves [] [] s t
+    failed_asking : Fails s None t → Still
     failed_asking is = failed_read None is (λ c none. absurd (not_some c none))
 
-    committed : (c : Contents) → Commits s c t → c.mosaic ≡ s.contents.mosaic → c.count ≡ s.contents.count → Moves [] [] s t
-    committed c is mosaic count = commits [] [] refl s sober is.working t c is.made_is (unchanged [] refl s.contents c mosaic count) (unchanged [] refl s.contents c mosaic count)
+    committed : (c : Contents) → Commits s c t → c.mosaic ≡ s.contents.mosaic → c.count ≡ s.contents.count → Still
+    committed c is mosaic count =
+        commits found since since s knows (λ c made. made) is.working since t c is.made_is (of_same c mosaic count) refl (since.done, inl refl, of_same c mosaic count)
 
-    elevates_not : (r : Refusal) → ElevatesNot s r t → Moves [] [] s t
+    elevates_not : (r : Refusal) → ElevatesNot s r t → Still
     elevates_not Failed is = read is.same
     elevates_not Device is = failed_asking is
     elevates_not r is = absurd is
 
-    exports_not : (c : Corner) (r : Refusal) → ExportsNot s c r t → Moves [] [] s t
+    exports_not : (c : Corner) (r : Refusal) → ExportsNot s c r t → Still
     exports_not c Failed is = read is.same
     exports_not c Device is = failed_asking is
     exports_not c NoMemory is = read is.same
     exports_not c NoTile is = read is.0.same
     exports_not c r is = absurd is
 
-    lists_not : (r : Refusal) → ListsNot s r t → Moves [] [] s t
+    lists_not : (r : Refusal) → ListsNot s r t → Still
     lists_not Failed is = read is.same
     lists_not NoMemory is = read is.same
     lists_not r is = absurd is
 
-    answers_not : (p : Point) (r : Refusal) → AnswersNot s p r t → Moves [] [] s t
+    answers_not : (p : Point) (r : Refusal) → AnswersNot s p r t → Still
     answers_not p Outside is = read is.0.same
     answers_not p Void is = read is.0.same
     answers_not p NoMemory is = read is.same
@@ -215,28 +251,28 @@ module _ (capacity : ℕ) where
         by false is = absurd (not_some c is)
     step_doubted None c some = absurd (not_some c some)
 
-    steps_not : (r : Refusal) → StepsNot s r t → Moves [] [] s t
+    steps_not : (r : Refusal) → StepsNot s r t → Still
     steps_not Failed is = read is.same
     steps_not Device (tile, (step, is)) = failed_read (step_in_doubt s.contents tile) is (step_doubted tile)
     steps_not NoMemory is = read is.same
     steps_not Worn is = read is.0.stays.same
     steps_not r is = absurd is
 
-    steps : (result : Result (Option Corner) Refusal) → Steps s result t → Moves [] [] s t
+    steps : (result : Result (Option Corner) Refusal) → Steps s result t → Still
     steps (Ok None) is = read is.0.same
     steps (Ok (Some c)) is = committed (stepped c s.contents) is.1 refl refl
     steps (Err r) is = steps_not r is
 
-    reopens_not : (r : Refusal) → ReopensNot s r t → Moves [] [] s t
-    reopens_not Device is = not_opened [] [] refl refl s sober t is
-    reopens_not NoMemory is = not_opened [] [] refl refl s sober t is
+    reopens_not : (r : Refusal) → ReopensNot s r t → Still
+    reopens_not Device is = not_opened found since since s knows (λ c made. made) t is
+    reopens_not NoMemory is = not_opened found since since s knows (λ c made. made) t is
     reopens_not r is = absurd is
 
-    reopens : Reopens s t → Moves [] [] s t
-    reopens (inl is) = opened_again [] [] refl refl s sober t s.contents (inl refl) is
-    reopens (inr (d, doubt, is)) = opened_again [] [] refl refl s sober t d (inr doubt) is
+    reopens : Reopens s t → Moves found since (IsFoundAgain found since) s t
+    reopens (inl is) = opened_again found since since s knows (λ c made. made) t s.contents (inl refl) is
+    reopens (inr (d, doubt, is)) = opened_again found since since s knows (λ c made. made) t d (inr doubt) is
 
-    pub happened : (event : Event) (answer : Reply) → Happens capacity s event answer t → Moves (known_by event answer) (doubted_of event) s t
+    pub happened : (event : Event) (answer : Reply) → Happens capacity s event answer t → Moves found (known_without since (Asked event answer)) (IsKnownBy found since (Asked event answer)) s t
     happened (ask.Do c) answer is = commanded c answer is
     happened (ask.Elevation p) (reply.Elevation h) is = read is.0.same
     happened (ask.Elevation p) (reply.Refused r) is = elevates_not r is
@@ -268,7 +304,7 @@ module _ (capacity : ℕ) where
         by true is = let same : upgraded s.contents ≡ c = cc is in (ap (λ (x : Contents). x.mosaic) (sym same), ap (λ (x : Contents). x.count) (sym same))
         by false is = absurd (not_some c is)
 
-    upgrades_not : (has_room : Bool) (r : Refusal) → UpgradesNot has_room s r t → Moves [] [] s t
+    upgrades_not : (has_room : Bool) (r : Refusal) → UpgradesNot has_room s r t → Still
     upgrades_not has_room Failed is = read is.same
     upgrades_not has_room NotOld is = read is.0.same
     upgrades_not has_room TooSmall is = read is.0.same
@@ -277,6 +313,10 @@ module _ (capacity : ℕ) where
     upgrades_not has_room NoMemory is = read is.same
     upgrades_not has_room r is = absurd is
 
-    pub made_newer : (has_room : Bool) (result : Result (Unit {0}) Refusal) → Upgrades has_room s result t → Moves [] [] s t
+    pub made_newer : (has_room : Bool) (result : Result (Unit {0}) Refusal) → Upgrades has_room s result t → Still
     made_newer has_room (Ok u) is = committed (upgraded s.contents) is.1 refl refl
     made_newer has_room (Err r) is = upgrades_not has_room r is
+
+    pub counted_seams : (result : Result ℕ Refusal) → CountsSeams s result t → Still
+    counted_seams (Ok count) is = read is.0.same
+    counted_seams (Err r) is = elevates_not r is

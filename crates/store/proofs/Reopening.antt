@@ -87,18 +87,18 @@ module _ {D : Type 0} (g : Ghosts D) (old new : Store D g) where
     writes = record { few = writes; refused = λ r is other. writes };
     known = known_then result last_known;
     honest = λ h. (nothing h).honest;
-    takes = λ h s was. takes h s was.at;
+    takes = λ h s was. takes h s was;
     happens = λ h s was.
-        let step = reopens result s (at h s was.at) (stays h s was.at) (sure h s was.at) in
+        let step = reopens result s (at h s was) (stays h s was) (sure h s was) in
         let t : State = step.0 in (
           t,
           (
-            record { at = step.1.0; same_side = step.1.0.in_state.side_is },
+            step.1.0,
             step.1.1,
             record {
               size = size;
-              side = (takes h s was.at).0;
-              capacity = (takes h s was.at).1;
+              side = (takes h s was).0;
+              capacity = (takes h s was).1;
               run = weaker g (disk_of old) (disk_of new) (g.may (disk_of old)) (StandsForOne (g.size (disk_of old)) (side_of old) (capacity_of old) (s ∷ t ∷ [])) (allowed old s (t ∷ []) was) (nothing h).run;
             },
           ),

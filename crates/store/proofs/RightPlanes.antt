@@ -12,8 +12,8 @@ use Rattle.cow_tree.specs.Stored.{StoredTile, corners_of_stored}
 use Rattle.store.specs.KeptRight.{KeepsPlanesOf, KeepsPlanes, PlanesStayRight}
 use Rattle.store.specs.Standing.{HoldsTile, StandsFor}
 use Rattle.store.specs.States.{StandsForState}
-use Rattle.store.specs.StoreState.{IsStoreAt, members}
-use Rattle.store.specs.Stores.{disk_of}
+use Rattle.store.specs.StoreState.{members}
+use Rattle.store.specs.Stores.{disk_of, IsAt}
 use Rattle.store.specs.declared.store.Store.{Store}
 
 -- the last engine is at the last state
@@ -40,6 +40,6 @@ keeps_in sectors side capacity image s (inr (doubted, is, stands)) = inr (doubte
 pub planes_stay_right : {D : Type 0} (g : Ghosts D) → PlanesStayRight g
 planes_stay_right g old new events answers s (stores, (is, run)) honest at =
     let ended = subst (λ (store : Store _ g). g.honest (disk_of store)) (sym is) honest in
-    let (states, through) = run.states ended s (record { at = at; same_side = at.in_state.side_is }) in
-    let last = subst (λ (store : Store _ g). IsStoreAt g store (last_of s states)) is (at_last (members g) old stores s states through.at) in
-    (states, through.run, last.at, λ image may. keeps_in _ _ _ image (last_of s states) (last.at.in_state.images image may))
+    let (states, through) = run.states ended s at in
+    let last = subst (λ (store : Store _ g). IsAt g store (last_of s states)) is (at_last (members g) old stores s states through.at) in
+    (states, through.run, last, λ image may. keeps_in _ _ _ image (last_of s states) (last.in_state.images image may))

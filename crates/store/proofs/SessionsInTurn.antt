@@ -1,27 +1,29 @@
--- Sessions, one after another: by what each of them leaves.
-use Rattle.std.proofs.Common.{◌≡◌, ◌⊎◌, inl, inr, ⊎_elim, ℕ, ◌≤◌, Bool, true, false, List, [], ◌∷◌, ◌++◌, refl, sym, ◌∙◌, subst, arith}
+-- Sessions, one after another: by what each of them leaves, and what each opening finds of it.
+use Rattle.std.proofs.Common.{◌≡◌, ◌⊎◌, inl, inr, ⊎_elim, ℕ, ◌≤◌, List, [], ◌∷◌, ◌++◌, refl, sym, ap, ◌∙◌, subst, arith}
 use Rattle.std.specs.Prelude.{Result, Ok, Err, IfOk, IfErr}
 use Rattle.std.proofs.lemmas.List.Elements.{Contains-push_cases}
-use Rattle.disk.specs.Disk.{Image, HasRisen}
-use Rattle.disk.specs.Stops.{LeavesOnly}
+use Rattle.disk.specs.Disk.{Image}
 use Rattle.disk.specs.declared.disk.Disk.{Ghosts}
-use Rattle.lattice.specs.declared.refusal.Refusal.TheVariants.{Device, NoMemory}
+use Rattle.edits.specs.declared.command.Command.{Command}
+use Rattle.page_codec.specs.Roots.{RootValue}
 use Rattle.engine.specs.State.{Contents, State, working}
 use Rattle.engine.specs.Events.{Happens}
+use Rattle.engine.specs.declared.event.Event.TheVariants as ask
+use Rattle.engine.specs.declared.event.Reply.TheVariants as reply
 use Rattle.cow_tree.specs.Longer.{AgreesBelow}
 use Rattle.cow_tree.proofs.LongerDisks.{stands_where_longer}
 use Rattle.roots.specs.declared.roots.NotOpened.{NotOpened}
-use Rattle.store.specs.Ended.{LeavesOr}
-use Rattle.store.specs.Fates.{Fate, IsMadeOf}
-use Rattle.store.specs.Sessions.{Call, Asked, Upgraded, HoldsEither, IsOpening, IsRefusedWithCause, IsMade, Made, AreMade, last_store, Session, Unopened, Ended, Stopped, IsSession, first_disk, last_disk, MayLeave, fates_of_call, doubts_of_call, fates_of_calls, fates_of_session, fates_of, TakesOver, InTurn, HasAccepted, SessionsCompose}
+use Rattle.store.specs.Accepted.{Since, none_asked, ComesBy, IsMadeOf}
+use Rattle.store.specs.Sessions.{Call, Asked, Upgraded, CountedSeams, known_by, known_without, HoldsEither, IsOpening, IsRefusedWithCause, IsMade, Made, AreMade, last_store, Session, Unopened, Ended, Stopped, IsSession, MayLeave, TakesOver, Visit, AreSessions, InTurn, FindsMore, FindsBy, EachFindsIn, EachFinds, SessionsCompose}
 use Rattle.store.specs.Standing.{StandsFor}
 use Rattle.store.specs.States.{StandsForState}
-use Rattle.store.specs.StoreState.{IsStoreAt, StandsForOne}
+use Rattle.store.specs.StoreState.{StandsForOne}
 use Rattle.store.specs.Upgraded.{has_room}
 use Rattle.store.specs.Stores.{disk_of, root_of, side_of, capacity_of, disk_after, IsAt}
 use Rattle.store.specs.declared.store.Store.{Store}
-use Rattle.store.proofs.FatesInTurn.{both_made}
-use Rattle.store.proofs.Moves.{not_some, MayHold, IsSober, IsMadeFrom, Moves, happened, made_newer, one_of_two, second_held, second_of, unchanged}
+use Rattle.store.proofs.AcceptedInTurn.{by_none, comes_by_both}
+use Rattle.store.proofs.StoreCalls.{ended_leaves}
+use Rattle.store.proofs.Moves.{MayHold, Moves, Knows, IsKnownBy, known_first, held_made, happened, made_newer, counted_seams, one_of_two, second_held, second_of}
 
 -- on a longer disk whose first sectors are the same
 longer_stands : (sectors more side capacity : ℕ) (image longer : Image) (c : Contents) → sectors ≤ more → AgreesBelow sectors image longer → StandsFor sectors side capacity image c → StandsFor more side capacity longer c
@@ -62,14 +64,6 @@ same_size : (n m side capacity : ℕ) → n ≡ m → (image : Image) (a b : Con
 same_size n m side capacity is image a b stands = subst (λ (k : ℕ). StandsFor k side capacity image a ⊎ StandsFor k side capacity image b) is stands
 
 module _ {D : Type 0} (g : Ghosts D) (only_now : (disk : D) (image : Image) → g.honest disk → g.since disk (g.moment disk) image → g.may disk image) (side capacity : ℕ) where
-  -- the contents are made, by these fates, of one of two
-  abbrev FromEither : Contents → Contents → List Fate → Contents → Type 0
-  FromEither a b fates c = IsMadeOf capacity a fates c ⊎ IsMadeOf capacity b fates c
-
-  from_both : (a b x y c : Contents) (first more : List Fate) → FromEither a b first x → FromEither a b first y → FromEither x y more c → FromEither a b (first ++ more) c
-  from_both a b x y c first more of_x of_y (inl made) = ⊎_elim (λ from. inl (both_made capacity a x c first more from made)) (λ from. inr (both_made capacity b x c first more from made)) of_x
-  from_both a b x y c first more of_x of_y (inr made) = ⊎_elim (λ from. inl (both_made capacity a y c first more from made)) (λ from. inr (both_made capacity b y c first more from made)) of_y
-
   -- the disk that is taken over holds one of the two
   taken : (sectors : ℕ) (Left : Image → Type 0) (disk : D) (a b : Contents) → TakesOver g sectors Left disk → EachEither sectors side capacity Left a b → HoldsEither g disk side capacity a b
   taken sectors Left disk a b takes each image may =
@@ -82,7 +76,6 @@ module _ {D : Type 0} (g : Ghosts D) (only_now : (disk : D) (image : Image) → 
   -- where a store is
   record Found (store : Store D g) (size : ℕ) (s : State) : Type 0 where
     at : IsAt g store s
-    sober : IsSober s
     same_side : side_of store ≡ side
     same_capacity : capacity_of store ≡ capacity
     same_size : g.size (disk_of store) ≡ size
@@ -90,16 +83,17 @@ module _ {D : Type 0} (g : Ghosts D) (only_now : (disk : D) (image : Image) → 
   honest_before : (old new : Store D g) (call : Call) → IsMade g old call new → g.honest (disk_of new) → g.honest (disk_of old)
   honest_before old new (Asked event answer) made honest = made.honest honest
   honest_before old new (Upgraded result) made honest = made.0.honest honest
+  honest_before old new (CountedSeams result) made honest = (made.0.nothing honest).honest
 
   honest_first : (store : Store D g) (calls : List (Made g)) → AreMade g store calls → g.honest (disk_of (last_store g store calls)) → g.honest (disk_of store)
   honest_first store [] made honest = honest
   honest_first store (m ∷ more) (made, rest) honest = honest_before store m.store m.call made (honest_first m.store more rest honest)
 
   -- what one call comes to
-  record CallLeaves (old new : Store D g) (call : Call) (size : ℕ) (s : State) : Type 0 where
+  record CallLeaves (old new : Store D g) (call : Call) (size : ℕ) (e : Contents) (since : Since) (s : State) : Type 0 where
     after : State
     found : Found new size after
-    moves : Moves capacity (fates_of_call g call) (doubts_of_call g call) s after
+    moves : Moves capacity e (known_without since call) (IsKnownBy capacity e since call) s after
     leaves : (image : Image) → g.since (disk_of new) (g.moment (disk_of old)) image → (c : Contents) × ((MayHold s c ⊎ MayHold after c) × StandsFor size side capacity image c)
 
   -- a state that a stop may leave on the disk now
@@ -107,63 +101,42 @@ module _ {D : Type 0} (g : Ghosts D) (only_now : (disk : D) (image : Image) → 
   held_now store size s found image may = stands_held size side capacity image s
       (same_state (g.size (disk_of store)) (side_of store) (capacity_of store) size side capacity found.same_size found.same_side found.same_capacity s image (found.at.in_state.images image may))
 
-  one_call : (old new : Store D g) (call : Call) → IsMade g old call new → g.honest (disk_of new) → (size : ℕ) (s : State) → Found old size s → CallLeaves old new call size s
-  one_call old new (Asked event answer) made honest size s found =
-      let here : IsStoreAt g old s = record { at = found.at; same_side = found.at.in_state.side_is } in
-      let (t, (at, happens, leaves)) = made.happens honest s here in
-      let takes = made.takes honest s here in
-      let moves = happened capacity s t found.sober event answer (subst (λ (n : ℕ). Happens n s event answer t) found.same_capacity happens) in
+  one_call : (old new : Store D g) (call : Call) → IsMade g old call new → g.honest (disk_of new) → (size : ℕ) (e : Contents) (since : Since) (s : State) → Knows capacity e since s → Found old size s → CallLeaves old new call size e since s
+  one_call old new (Asked event answer) made honest size e since s knows found =
+      let (t, (at, happens, leaves)) = made.happens honest s found.at in
+      let takes = made.takes honest s found.at in
+      let moves = happened capacity e since s t knows event answer (subst (λ (n : ℕ). Happens n s event answer t) found.same_capacity happens) in
       record {
         after = t;
-        found = record { at = at.at; sober = moves.sober; same_side = takes.0 ∙ found.same_side; same_capacity = takes.1 ∙ found.same_capacity; same_size = leaves.size ∙ found.same_size };
+        found = record { at = at; same_side = takes.0 ∙ found.same_side; same_capacity = takes.1 ∙ found.same_capacity; same_size = leaves.size ∙ found.same_size };
         moves = moves;
         leaves = λ image left. one_stands size side capacity image s t
             (same_one (g.size (disk_of old)) (side_of old) (capacity_of old) size side capacity found.same_size found.same_side found.same_capacity (s ∷ t ∷ []) image (leaves.run.each image left));
       }
-  one_call old new (Upgraded result) (made, untouched) honest size s found =
+  one_call old new (Upgraded result) (made, untouched) honest size e since s knows found =
       let (t, (at, happens, leaves)) = made.outcome honest s found.at in
-      let moves = made_newer capacity s t found.sober (has_room (g.size (disk_of old)) (root_of old)) result happens in
+      let moves = made_newer capacity e since s t knows (has_room (g.size (disk_of old)) (root_of old)) result happens in
       record {
         after = t;
-        found = record { at = at; sober = moves.sober; same_side = made.side ∙ found.same_side; same_capacity = made.capacity ∙ found.same_capacity; same_size = made.size ∙ found.same_size };
+        found = record { at = at; same_side = made.side ∙ found.same_side; same_capacity = made.capacity ∙ found.same_capacity; same_size = made.size ∙ found.same_size };
         moves = moves;
-        leaves = by t leaves s.failed refl;
+        leaves = λ image left. one_stands size side capacity image s t
+            (same_one (g.size (disk_of old)) (side_of old) (capacity_of old) size side capacity found.same_size found.same_side found.same_capacity (s ∷ t ∷ []) image
+            ((ended_leaves g only_now old new untouched s t (made.honest honest) leaves found.at).each image left));
       }
-    where
-      by : (t : State) → (s.failed ≡ false → LeavesOnly g (disk_of old) (disk_of new) (LeavesOr g old.tree s t)) → (failed : Bool) → s.failed ≡ failed
-          → (image : Image) → g.since (disk_of new) (g.moment (disk_of old)) image → (c : Contents) × ((MayHold s c ⊎ MayHold t c) × StandsFor size side capacity image c)
-      by t leaves true failed image left =
-          let same = untouched (found.at.in_state.failed_is ∙ failed) in
-          let now : g.may (disk_of old) image = only_now (disk_of old) image (honest_before old new (Upgraded result) (made, untouched) honest) (subst (λ (disk : D). g.since disk (g.moment (disk_of old)) image) same left) in
-          let (c, (held, stands)) = held_now old size s found image now in
-          (c, (inl held, stands))
-      by t leaves false works image left = ⊎_elim
-          (λ was. let (c, (held, stands)) = here s (inl was) in (c, (inl held, stands)))
-          (λ is. let (c, (held, stands)) = here t is in (c, (inr held, stands))) ((leaves works).each image left)
-        where
-          here : (u : State) → StandsForState (g.size (disk_of old)) (side_of old) (capacity_of old) image u → (c : Contents) × (MayHold u c × StandsFor size side capacity image c)
-          here u stands = stands_held size side capacity image u
-              (same_state (g.size (disk_of old)) (side_of old) (capacity_of old) size side capacity found.same_size found.same_side found.same_capacity u image stands)
-
-  -- what the calls come to, one after another
-  record CallsCome (store last : Store D g) (fates : List Fate) (size : ℕ) (s : State) : Type 0 where
-    after : State
-    found : Found last size after
-    made : (c : Contents) → MayHold after c → IsMadeFrom capacity s fates c
-
-  all_calls : (store : Store D g) (calls : List (Made g)) → AreMade g store calls → g.honest (disk_of (last_store g store calls)) → (size : ℕ) (s : State) → Found store size s
-      → CallsCome store (last_store g store calls) (fates_of_calls g calls) size s
-  all_calls store [] made honest size s found = record { after = s; found = found; made = λ c held. (c, held, unchanged capacity [] refl c c refl refl) }
-  all_calls store (m ∷ more) (made, rest) honest size s found =
-      let one = one_call store m.store m.call made (honest_first m.store more rest honest) size s found in
-      let others = all_calls m.store more rest honest size one.after one.found in
+  one_call old new (CountedSeams result) (reads, outcome) honest size e since s knows found =
+      let (t, (at, counts)) = outcome honest s found.at in
+      let moves = counted_seams capacity e since s t knows result counts in
       record {
-        after = others.after;
-        found = others.found;
-        made = λ c held.
-            let (was, then, late) = others.made c held in
-            let (first, before, early) = one.moves.made was then in
-            (first, before, both_made capacity first was c (fates_of_call g m.call) (fates_of_calls g more) early late);
+        after = t;
+        found = record {
+          at = at;
+          same_side = ap (λ (root : RootValue). root.side) reads.root ∙ found.same_side;
+          same_capacity = ap (λ (root : RootValue). root.capacity) reads.root ∙ found.same_capacity;
+          same_size = reads.size ∙ found.same_size;
+        };
+        moves = moves;
+        leaves = λ image left. let (c, (held, stands)) = held_now old size s found image ((reads.nothing honest).run.each image left) in (c, (inl held, stands));
       }
 
   -- ---- a session
@@ -176,44 +149,22 @@ module _ {D : Type 0} (g : Ghosts D) (only_now : (disk : D) (image : Image) → 
     one_comes : Comes one
     other_comes : Comes other
 
-  comes_so : (sectors : ℕ) (Left : Image → Type 0) (P Q : Contents → Type 0) → ((c : Contents) → P c → Q c) → LeavesTwo sectors Left P → LeavesTwo sectors Left Q
-  comes_so sectors Left P Q weaker leaves = record {
-    one = leaves.one;
-    other = leaves.other;
-    each = leaves.each;
-    one_comes = weaker leaves.one leaves.one_comes;
-    other_comes = weaker leaves.other leaves.other_comes;
+  ended : (store : Store D g) (size : ℕ) (e : Contents) (since : Since) (s : State) → Knows capacity e since s → Found store size s
+      → LeavesTwo (g.size (disk_of store)) (λ image. g.may (disk_of store) image) (IsMadeOf capacity e since)
+  ended store size e since s knows found = record {
+    one = s.contents;
+    other = second_of s;
+    each = λ image may.
+        let (c, (held, stands)) = held_now store size s found image may in
+        same_size size (g.size (disk_of store)) side capacity (sym found.same_size) image s.contents (second_of s) (either_of size side capacity image c s.contents (second_of s) (one_of_two s c held) stands);
+    one_comes = held_made capacity e since s knows s.contents (inl refl);
+    other_comes = held_made capacity e since s knows (second_of s) (second_held s);
   }
 
-  only_known : (e c : Contents) → MayHold (working e) c → c ≡ e
-  only_known e c (inl same) = same
-  only_known e c (inr doubt) = absurd (not_some c doubt)
-
-  from_known : (e : Contents) (fates : List Fate) (c : Contents) → IsMadeFrom capacity (working e) fates c → IsMadeOf capacity e fates c
-  from_known e fates c (was, held, made) = subst (λ (x : Contents). IsMadeOf capacity x fates c) (only_known e was held) made
-
-  ended : (store : Store D g) (calls : List (Made g)) → AreMade g store calls → g.honest (disk_of (last_store g store calls)) → (size : ℕ) (e : Contents) → Found store size (working e)
-      → LeavesTwo (g.size (disk_of (last_store g store calls))) (λ image. g.may (disk_of (last_store g store calls)) image) (IsMadeOf capacity e (fates_of_calls g calls))
-  ended store calls made honest size e found =
-      let come = all_calls store calls made honest size (working e) found in
-      record {
-        one = come.after.contents;
-        other = second_of come.after;
-        each = λ image may.
-            let (c, (held, stands)) = held_now (last_store g store calls) size come.after come.found image may in
-            same_size size (g.size (disk_of (last_store g store calls))) side capacity (sym come.found.same_size) image come.after.contents (second_of come.after)
-            (either_of size side capacity image c come.after.contents (second_of come.after) (one_of_two come.after c held) stands);
-        one_comes = from_known e (fates_of_calls g calls) come.after.contents (come.made come.after.contents (inl refl));
-        other_comes = from_known e (fates_of_calls g calls) (second_of come.after) (come.made (second_of come.after) (second_held come.after));
-      }
-
-  stopped : (store : Store D g) (calls : List (Made g)) (last : Made g) → AreMade g store calls → IsMade g (last_store g store calls) last.call last.store → g.honest (disk_of last.store) → (size : ℕ) (e : Contents)
-      → Found store size (working e)
-      → LeavesTwo (g.size (disk_of last.store)) (λ image. g.since (disk_of last.store) (g.moment (disk_of (last_store g store calls))) image) (IsMadeOf capacity e (fates_of_calls g calls ++ doubts_of_call g last.call))
-  stopped store calls last made more honest size e found =
-      let before = last_store g store calls in
-      let come = all_calls store calls made (honest_before before last.store last.call more honest) size (working e) found in
-      let call = one_call before last.store last.call more honest size come.after come.found in
+  stopped : (old : Store D g) (last : Made g) → IsMade g old last.call last.store → g.honest (disk_of last.store) → (size : ℕ) (e : Contents) (since : Since) (s : State) → Knows capacity e since s → Found old size s
+      → LeavesTwo (g.size (disk_of last.store)) (λ image. g.since (disk_of last.store) (g.moment (disk_of old)) image) (IsMadeOf capacity e (known_without since last.call))
+  stopped old last made honest size e since s knows found =
+      let call = one_call old last.store last.call made honest size e since s knows found in
       record {
         one = call.moves.one;
         other = call.moves.other;
@@ -221,13 +172,9 @@ module _ {D : Type 0} (g : Ghosts D) (only_now : (disk : D) (image : Image) → 
             let (c, (held, stands)) = call.leaves image left in
             same_size size (g.size (disk_of last.store)) side capacity (sym call.found.same_size) image call.moves.one call.moves.other
             (either_of size side capacity image c call.moves.one call.moves.other (call.moves.either c held) stands);
-        one_comes = comes come.after come.made call.moves.one call.moves.one_made;
-        other_comes = comes come.after come.made call.moves.other call.moves.other_made;
+        one_comes = call.moves.one_made;
+        other_comes = call.moves.other_made;
       }
-    where
-      comes : (after : State) → ((c : Contents) → MayHold after c → IsMadeFrom capacity (working e) (fates_of_calls g calls) c) → (c : Contents) → IsMadeFrom capacity after (doubts_of_call g last.call) c
-          → IsMadeOf capacity e (fates_of_calls g calls ++ doubts_of_call g last.call) c
-      comes after made c (was, held, late) = both_made capacity e was c (fates_of_calls g calls) (doubts_of_call g last.call) (from_known e (fates_of_calls g calls) was (made was held)) late
 
   -- where the opening found the store
   opened_at : (disk : D) (store : Store D g) → IsOpening g disk (Ok store) → g.honest (disk_of store) → (a b : Contents) → HoldsEither g disk side capacity a b
@@ -235,89 +182,80 @@ module _ {D : Type 0} (g : Ghosts D) (only_now : (disk : D) (image : Image) → 
   opened_at disk store opening honest a b holds =
       let (same_side, (same_capacity, at)) = opening.at honest side capacity a b holds in
       ⊎_elim
-      (λ known. inl (record { at = known; sober = λ failed. refl; same_side = same_side; same_capacity = same_capacity; same_size = opening.size }))
-      (λ known. inr (record { at = known; sober = λ failed. refl; same_side = same_side; same_capacity = same_capacity; same_size = opening.size })) at
+      (λ known. inl (record { at = known; same_side = same_side; same_capacity = same_capacity; same_size = opening.size }))
+      (λ known. inr (record { at = known; same_side = same_side; same_capacity = same_capacity; same_size = opening.size })) at
 
-  left_by : (session : Session g) → IsSession g session → g.honest (last_disk g session) → (a b : Contents) → HoldsEither g (first_disk g session) side capacity a b
-      → LeavesTwo (g.size (last_disk g session)) (MayLeave g session) (FromEither a b (fates_of_session g session))
-  left_by (Unopened disk opened) opening honest a b holds = record {
-    one = a;
-    other = b;
-    each = λ image left. same_size (g.size disk) (g.size (disk_after opened)) side capacity (sym opening.size) image a b (holds image ((opening.nothing honest).run.each image left));
-    one_comes = inl (unchanged capacity [] refl a a refl refl);
-    other_comes = inr (unchanged capacity [] refl b b refl refl);
-  }
-  left_by (Ended disk store calls) (opening, made) honest a b holds = ⊎_elim
-      (λ found. comes_so _ _ _ (FromEither a b (fates_of_calls g calls)) (λ c by. inl by) (ended store calls made honest (g.size disk) a found))
-      (λ found. comes_so _ _ _ (FromEither a b (fates_of_calls g calls)) (λ c by. inr by) (ended store calls made honest (g.size disk) b found))
-      (opened_at disk store opening (honest_first store calls made honest) a b holds)
-  left_by (Stopped disk store calls last) (opening, made, more) honest a b holds = ⊎_elim
-      (λ found. comes_so _ _ _ (FromEither a b (fates_of_calls g calls ++ doubts_of_call g last.call)) (λ c by. inl by) (stopped store calls last made more honest (g.size disk) a found))
-      (λ found. comes_so _ _ _ (FromEither a b (fates_of_calls g calls ++ doubts_of_call g last.call)) (λ c by. inr by) (stopped store calls last made more honest (g.size disk) b found))
-      (opened_at disk store opening (honest_first store calls made (honest_before (last_store g store calls) last.store last.call more honest)) a b holds)
+  -- why an opening was refused
+  cause : (disk : D) (opened : Result (Store D g) (NotOpened D)) → IsOpening g disk opened → g.honest (disk_after opened) → (a b : Contents) → HoldsEither g disk side capacity a b → IfErr opened (λ e. IsRefusedWithCause g disk e)
+  cause disk (Ok store) opening honest a b holds = tt
+  cause disk (Err e) opening honest a b holds = ⊎_elim (λ fault. inl (fault, opening.device fault)) (λ memory. inr memory) (opening.sure honest side capacity a b holds)
 
-  -- ---- the last opening
+-- ---- the sessions, of which each is seen in its own way
 
-  record Finds (a b : Contents) (fates : List Fate) (store : Store D g) : Type 0 where
-    contents : Contents
-    from : FromEither a b fates contents
-    at : IsAt g store (working contents)
-    same_side : side_of store ≡ side
-    same_capacity : capacity_of store ≡ capacity
+module _ {I D : Type 0} (gs : I → Ghosts D) (only_now : (i : I) (disk : D) (image : Image) → (gs i).honest disk → (gs i).since disk ((gs i).moment disk) image → (gs i).may disk image) (side capacity : ℕ) (was : Contents) where
+  abbrev IsFound : (i : I) → Store D (gs i) → ℕ → State → Type 0
+  IsFound i store size s = Found (gs i) (only_now i) side capacity store size s
 
-  abbrev IsSure : Result (Store D g) (NotOpened D) → Type 0
-  IsSure opened = IfErr opened (λ e. (e.refusal ≡ Device) ⊎ (e.refusal ≡ NoMemory))
+  -- an opening found the store at what was accepted
+  found_more : (i : I) (store : Store D (gs i)) (size : ℕ) (found : List Command) (c : Contents) → ComesBy capacity was found c → (since : Since) (e : Contents) → IsMadeOf capacity c since e → IsFound i store size (working e)
+      → (Then : List Command → Type 0) → ((now : List Command) → ComesBy capacity was now e → Then now) → FindsMore gs side capacity was found since i store Then
+  found_more i store size found c comes since e (late, accepted, makes) is Then go_on =
+      let both = comes_by_both capacity was c e found late comes makes in
+      (late, accepted, record { contents = e; comes_by = both; at = is.at; same_side = is.same_side; same_capacity = is.same_capacity }, go_on (found ++ late) both)
 
-  abbrev FindsOrRefuses : Contents → Contents → List Fate → Result (Store D g) (NotOpened D) → Type 0
-  FindsOrRefuses a b fates opened = IfOk opened (λ store. Finds a b fates store) × IsSure opened
+  found_by : (i : I) (call : Call) (store : Store D (gs i)) (size : ℕ) (found : List Command) (c : Contents) → ComesBy capacity was found c → (since : Since) (t : State) → IsKnownBy capacity c since call t → IsFound i store size t
+      → (Then : List Command → Since → Type 0) → ((now : List Command) (e : Contents) (later : Since) → ComesBy capacity was now e → Knows capacity e later t → Then now later) → FindsBy gs side capacity was i call store found since Then
+  found_by i (Asked ask.Reopen reply.Reopened) store size found c comes since t (e, made, is) at Then go_on =
+      found_more i store size found c comes since e made (subst (λ (u : State). IsFound i store size u) is at) (λ now. Then now none_asked)
+      (λ now comes_now. go_on now e none_asked comes_now (subst (λ (u : State). Knows capacity e none_asked u) (sym is) (known_first capacity e)))
+  found_by i call store size found c comes since t knows at Then go_on = go_on found c (known_by since call) comes knows
 
-  last_opened : (next : D) (opened : Result (Store D g) (NotOpened D)) → IsOpening g next opened → g.honest (disk_after opened) → (a b : Contents) → HoldsEither g next side capacity a b → FindsOrRefuses a b [] opened
-  last_opened next (Ok store) opening honest a b holds = (
-    ⊎_elim
-        (λ found. record { contents = a; from = inl (unchanged capacity [] refl a a refl refl); at = found.at; same_side = found.same_side; same_capacity = found.same_capacity })
-        (λ found. record { contents = b; from = inr (unchanged capacity [] refl b b refl refl); at = found.at; same_side = found.same_side; same_capacity = found.same_capacity })
-        (opened_at next store opening honest a b holds),
-    tt,
-  )
-  last_opened next (Err e) opening honest a b holds = (tt, opening.sure honest side capacity a b holds)
+  -- what the calls come to, one after another
+  found_in : (i : I) (store : Store D (gs i)) (calls : List (Made (gs i))) → AreMade (gs i) store calls → (gs i).honest (disk_of (last_store (gs i) store calls)) → (size : ℕ) (found : List Command) (c : Contents) → ComesBy capacity was found c
+      → (since : Since) (s : State) → Knows capacity c since s → IsFound i store size s → (Then : List Command → Since → Type 0)
+      → ((now : List Command) (e : Contents) (later : Since) (t : State) → ComesBy capacity was now e → Knows capacity e later t → IsFound i (last_store (gs i) store calls) size t → Then now later)
+      → EachFindsIn gs side capacity was i calls found since Then
+  found_in i store [] made honest size found c comes since s knows at Then go_on = go_on found c since s comes knows at
+  found_in i store (call ∷ more) (one, made) honest size found c comes since s knows at Then go_on =
+      let by = one_call (gs i) (only_now i) side capacity store call.store call.call one (honest_first (gs i) (only_now i) side capacity call.store more made honest) size c since s knows at in
+      found_by i call.call call.store size found c comes since by.after by.moves.next by.found (λ now known. EachFindsIn gs side capacity was i more now known Then)
+      (λ now e later comes_now knows_now. found_in i call.store more made honest size now e comes_now later by.after knows_now by.found Then go_on)
 
-  finds_more : (a b : Contents) (fates more : List Fate) (opened : Result (Store D g) (NotOpened D)) (one other : Contents) → FromEither a b fates one → FromEither a b fates other
-      → FindsOrRefuses one other more opened → FindsOrRefuses a b (fates ++ more) opened
-  finds_more a b fates more (Ok store) one other one_comes other_comes (finds, sure) = (
-    record {
-      contents = finds.contents;
-      from = from_both a b one other finds.contents fates more one_comes other_comes finds.from;
-      at = finds.at;
-      same_side = finds.same_side;
-      same_capacity = finds.same_capacity;
-    },
-    tt,
-  )
-  finds_more a b fates more (Err e) one other one_comes other_comes (none, sure) = (tt, sure)
+  -- one of the two was found, and the calls were made
+  found_in_session : (i : I) (disk : D) (store : Store D (gs i)) (calls : List (Made (gs i))) → IsOpening (gs i) disk (Ok store) → AreMade (gs i) store calls → (gs i).honest (disk_of (last_store (gs i) store calls))
+      → (found : List Command) (c : Contents) → ComesBy capacity was found c → (since : Since) (a b : Contents) → IsMadeOf capacity c since a → IsMadeOf capacity c since b → HoldsEither (gs i) disk side capacity a b
+      → (Then : List Command → Since → Type 0)
+      → ((now : List Command) (e : Contents) (later : Since) (t : State) → ComesBy capacity was now e → Knows capacity e later t → IsFound i (last_store (gs i) store calls) ((gs i).size disk) t → Then now later)
+      → FindsMore gs side capacity was found since i store (λ now. EachFindsIn gs side capacity was i calls now none_asked Then)
+  found_in_session i disk store calls opening made honest found c comes since a b of_a of_b holds Then go_on =
+      ⊎_elim (λ at. by a of_a at) (λ at. by b of_b at) (opened_at (gs i) (only_now i) side capacity disk store opening (honest_first (gs i) (only_now i) side capacity store calls made honest) a b holds)
+    where
+      by : (e : Contents) → IsMadeOf capacity c since e → IsFound i store ((gs i).size disk) (working e) → FindsMore gs side capacity was found since i store (λ now. EachFindsIn gs side capacity was i calls now none_asked Then)
+      by e of_e at = found_more i store ((gs i).size disk) found c comes since e of_e at (λ now. EachFindsIn gs side capacity was i calls now none_asked Then)
+          (λ now comes_now. found_in i store calls made honest ((gs i).size disk) now e comes_now none_asked (working e) (known_first capacity e) at Then go_on)
 
-  all_sessions : (sectors : ℕ) (Left : Image → Type 0) (sessions : List (Session g)) (next : D) (opened : Result (Store D g) (NotOpened D)) → InTurn g sectors Left sessions next
-      → IsOpening g next opened → g.honest (disk_after opened) → (a b : Contents) → EachEither sectors side capacity Left a b → FindsOrRefuses a b (fates_of g sessions) opened
-  all_sessions sectors Left [] next opened takes opening honest a b each = last_opened next opened opening honest a b (taken sectors Left next a b takes each)
-  all_sessions sectors Left (session ∷ more) next opened (takes, is, met, rest) opening honest a b each =
-      let left = left_by session is met a b (taken sectors Left (first_disk g session) a b takes each) in
-      finds_more a b (fates_of_session g session) (fates_of g more) opened left.one left.other left.one_comes left.other_comes
-      (all_sessions (g.size (last_disk g session)) (MayLeave g session) more next opened rest opening honest left.one left.other left.each)
-
-  accepted_by : (was : Contents) (fates : List Fate) (opened : Result (Store D g) (NotOpened D)) → FindsOrRefuses was was fates opened → IfOk opened (HasAccepted g side capacity was fates) × IsSure opened
-  accepted_by was fates (Ok store) (finds, sure) =
-      let (commands, accepted, comes_by) = ⊎_elim (λ made. made) (λ made. made) finds.from in (
-        record { commands = commands; accepted = accepted; contents = finds.contents; comes_by = comes_by; at = finds.at; same_side = finds.same_side; same_capacity = finds.same_capacity },
-        tt,
+  each_finds : (sectors : ℕ) (Left : Image → Type 0) (sessions : List (Visit gs)) → AreSessions gs sessions → InTurn gs sectors Left sessions → (found : List Command) (c : Contents) → ComesBy capacity was found c
+      → (since : Since) (a b : Contents) → IsMadeOf capacity c since a → IsMadeOf capacity c since b → EachEither sectors side capacity Left a b → EachFinds gs side capacity was found since sessions
+  each_finds sectors Left [] are turns found c comes since a b of_a of_b each = tt
+  each_finds sectors Left ((i, Unopened disk opened) ∷ more) (opening, are) (takes, honest, turns) found c comes since a b of_a of_b each =
+      let holds = taken (gs i) (only_now i) side capacity sectors Left disk a b takes each in (
+        cause (gs i) (only_now i) side capacity disk opened opening honest a b holds,
+        each_finds ((gs i).size (disk_after opened)) (MayLeave (gs i) (Unopened disk opened)) more are turns found c comes since a b of_a of_b
+            (λ image left. same_size ((gs i).size disk) ((gs i).size (disk_after opened)) side capacity (sym opening.size) image a b (holds image ((opening.nothing honest).run.each image left))),
       )
-  accepted_by was fates (Err e) (none, sure) = (tt, sure)
+  each_finds sectors Left ((i, Ended disk store calls) ∷ more) ((opening, made), are) (takes, honest, turns) found c comes since a b of_a of_b each =
+      found_in_session i disk store calls opening made honest found c comes since a b of_a of_b (taken (gs i) (only_now i) side capacity sectors Left disk a b takes each) (λ last known. EachFinds gs side capacity was last known more)
+      (λ now e later t comes_now knows at.
+      let left = ended (gs i) (only_now i) side capacity (last_store (gs i) store calls) ((gs i).size disk) e later t knows at in
+      each_finds ((gs i).size (disk_of (last_store (gs i) store calls))) (MayLeave (gs i) (Ended disk store calls)) more are turns now e comes_now later left.one left.other left.one_comes left.other_comes left.each)
+  each_finds sectors Left ((i, Stopped disk store calls last) ∷ more) ((opening, made, stop), are) (takes, honest, turns) found c comes since a b of_a of_b each =
+      found_in_session i disk store calls opening made (honest_before (gs i) (only_now i) side capacity (last_store (gs i) store calls) last.store last.call stop honest) found c comes since a b of_a of_b
+      (taken (gs i) (only_now i) side capacity sectors Left disk a b takes each) (λ now known. EachFinds gs side capacity was now (known_without known last.call) more)
+      (λ now e later t comes_now knows at.
+      let left = stopped (gs i) (only_now i) side capacity (last_store (gs i) store calls) last stop honest ((gs i).size disk) e later t knows at in
+      each_finds ((gs i).size (disk_of last.store)) (MayLeave (gs i) (Stopped disk store calls last)) more are turns now e comes_now (known_without later last.call) left.one left.other left.one_comes left.other_comes left.each)
 
-with_cause : {D : Type 0} (g : Ghosts D) (next : D) (opened : Result (Store D g) (NotOpened D)) → IfErr opened (λ e. (e.refusal ≡ Device) ⊎ (e.refusal ≡ NoMemory))
-    → IfErr opened (λ e. e.refusal ≡ Device → HasRisen (g.failures next) (g.failures e.disk)) → IfErr opened (λ e. IsRefusedWithCause g next e)
-with_cause g next (Ok store) sure device = tt
-with_cause g next (Err e) sure device = ⊎_elim (λ fault. inl (fault, device fault)) (λ memory. inr memory) sure
-
-pub sessions_compose : {D : Type 0} (g : Ghosts D) → ((disk : D) (image : Image) → g.honest disk → g.since disk (g.moment disk) image → g.may disk image) → SessionsCompose g
-sessions_compose g only_now side capacity was start sessions next opened holds turns opening honest =
-    let (accepted, sure) = accepted_by g only_now side capacity was (fates_of g sessions) opened
-    (all_sessions g only_now side capacity (g.size start) (λ image. g.may start image) sessions next opened turns opening honest was was holds) in
-    (accepted, with_cause g next opened sure opening.device)
+pub sessions_compose : {I D : Type 0} (gs : I → Ghosts D) → ((i : I) (disk : D) (image : Image) → (gs i).honest disk → (gs i).since disk ((gs i).moment disk) image → (gs i).may disk image) → SessionsCompose gs
+sessions_compose gs only_now side capacity was i start sessions holds are turns =
+    each_finds gs only_now side capacity was ((gs i).size start) (λ image. (gs i).may start image) sessions are turns [] was (by_none capacity was) none_asked was was
+    ([], inl refl, by_none capacity was) ([], inl refl, by_none capacity was) (λ image may. inl (holds image may))

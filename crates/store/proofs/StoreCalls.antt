@@ -25,11 +25,11 @@ use Rattle.engine.specs.declared.event.Reply.TheVariants as reply
 use Rattle.edits.specs.declared.command.Command.{Command}
 use Rattle.engine.proofs.Questions.{IsAnswered, IsQuestion, answers_so, command_answered, knows_as, knows_refused, right_as, few_as, told, counted_so, written_so}
 use Rattle.store.specs.Ended.{HasEndedAt, LeavesOr, command_ending, event_ending}
-use Rattle.store.specs.Queried.{Queries, OnlyReads}
+use Rattle.store.specs.Queried.{Queries}
 use Rattle.store.specs.Stores.{IsAt, disk_of, root_of, side_of, capacity_of, has_failed}
 use Rattle.store.specs.declared.store.Store.{Store}
 use Rattle.store.specs.StoreRuns.{allowed, nothing_done}
-use Rattle.store.specs.StoreState.{IsStoreAt, StandsForOne, LeavesStates, known_by, members}
+use Rattle.store.specs.StoreState.{StandsForOne, LeavesStates, known_by, members}
 use Rattle.store.proofs.EditingSteps.{refused_as}
 use Rattle.store.proofs.Ended.{IsNoFault, no_fault, other_refusal}
 use Rattle.store.proofs.Querying.{stays_failed_at}
@@ -41,11 +41,8 @@ HasOnlyNow g = (disk : _) (image : Image) → g.honest disk → g.since disk (g.
 -- ---- questions
 
 module _ {D : Type 0} (g : Ghosts D) (old new : Store D g) {T : Type 0} where
-  pub only_read : (result : Result T Refusal) → Queries g old new result → OnlyReads g old new
-  only_read result reads = record { root = reads.root; failed = λ had. (reads.failed had).1; nothing = reads.nothing }
-
   -- a question leaves what the state before it allows
-  question_leaves : (result : Result T Refusal) (s t : State) → Queries g old new result → g.honest (disk_of new) → IsStoreAt g old s → LeavesStates g old new (s ∷ t ∷ [])
+  question_leaves : (result : Result T Refusal) (s t : State) → Queries g old new result → g.honest (disk_of new) → IsAt g old s → LeavesStates g old new (s ∷ t ∷ [])
   question_leaves result s t reads honest is = record {
     size = reads.size;
     side = ap (λ (root : RootValue). root.side) reads.root;
@@ -72,9 +69,9 @@ module _ {D : Type 0} (g : Ghosts D) (old new : Store D g) {T : Type 0} where
           honest = λ h. (reads.nothing h).honest;
           takes = λ h s at. (ap (λ (root : RootValue). root.side) reads.root, ap (λ (root : RootValue). root.capacity) reads.root);
           happens = λ h s at.
-              let step = outcome h s at.at in (
+              let step = outcome h s at in (
                 step.0,
-                (record { at = step.1.0; same_side = step.1.0.in_state.side_is }, right_as event tell Answers is (capacity_of old) s step.0 result step.1.1, question_leaves result s step.0 reads h at),
+                (step.1.0, right_as event tell Answers is (capacity_of old) s step.0 result step.1.1, question_leaves result s step.0 reads h at),
               );
         }
       where
@@ -139,17 +136,14 @@ counts g only_now store k known = record {
   known = (known, refl);
   honest = λ h. h;
   takes = λ h s at. (refl, refl);
-  happens = λ h s at. (s, (at, (known ∙ at.at.in_state.count, refl), nothing_done store s (s ∷ []) (λ image. only_now (disk_of store) image) h at));
+  happens = λ h s at. (s, (at, (known ∙ at.in_state.count, refl), nothing_done store s (s ∷ []) (λ image. only_now (disk_of store) image) h at));
 }
 
 -- ---- what may commit
 
-module _ {D : Type 0} (g : Ghosts D) (only_now : HasOnlyNow g) (old new : Store D g) {T : Type 0} (event : Event) (tell : T → Reply) (so : IsAnswered event tell) (is_idle : T → Bool) (result : Result T Refusal)
-    (is : HasEndedAt g (event_ending (capacity_of old) event tell is_idle) result old new)
-    (few : WritesFew (number_of (root_of old).version) (side_of old) event (g.writes (disk_of old)) (g.writes (disk_of new)))
-    (failed : has_failed old ≡ true → (result ≡ Err Failed) × ((disk_of new ≡ disk_of old) × (has_failed new ≡ true))) where
+module _ {D : Type 0} (g : Ghosts D) (only_now : HasOnlyNow g) (old new : Store D g) (untouched : has_failed old ≡ true → disk_of new ≡ disk_of old) where
   -- it leaves the state before it or the one after it
-  ended_leaves : (s t : State) → g.honest (disk_of old) → (s.failed ≡ false → LeavesOnly g (disk_of old) (disk_of new) (LeavesOr g old.tree s t)) → IsStoreAt g old s
+  pub ended_leaves : (s t : State) → g.honest (disk_of old) → (s.failed ≡ false → LeavesOnly g (disk_of old) (disk_of new) (LeavesOr g old.tree s t)) → IsAt g old s
       → LeavesOnly g (disk_of old) (disk_of new) (StandsForOne (g.size (disk_of old)) (side_of old) (capacity_of old) (s ∷ t ∷ []))
   ended_leaves s t honest any at = by s.failed refl
     where
@@ -159,9 +153,13 @@ module _ {D : Type 0} (g : Ghosts D) (only_now : HasOnlyNow g) (old new : Store 
       by : (b : Bool) → s.failed ≡ b → LeavesOnly g (disk_of old) (disk_of new) Allowed
       by false works = weaker_on g (disk_of old) (disk_of new) (LeavesOr g old.tree s t) Allowed (λ image. ⊎_elim (λ was. (s, (0, omega arith, refl), inl was)) (λ later. (t, (1, omega arith, refl), later))) (any works)
       by true gone =
-          subst (λ (disk : _). LeavesOnly g (disk_of old) disk Allowed) (sym (failed (at.at.in_state.failed_is ∙ gone)).1.0)
+          subst (λ (disk : _). LeavesOnly g (disk_of old) disk Allowed) (sym (untouched (at.in_state.failed_is ∙ gone)))
           (weaker_on g (disk_of old) (disk_of old) (g.may (disk_of old)) Allowed (allowed old s (t ∷ []) at) (nothing_done_on g (disk_of old) (only_now (disk_of old)) honest).run)
 
+module _ {D : Type 0} (g : Ghosts D) (only_now : HasOnlyNow g) (old new : Store D g) {T : Type 0} (event : Event) (tell : T → Reply) (so : IsAnswered event tell) (is_idle : T → Bool) (result : Result T Refusal)
+    (is : HasEndedAt g (event_ending (capacity_of old) event tell is_idle) result old new)
+    (few : WritesFew (number_of (root_of old).version) (side_of old) event (g.writes (disk_of old)) (g.writes (disk_of new)))
+    (failed : has_failed old ≡ true → (result ≡ Err Failed) × ((disk_of new ≡ disk_of old) × (has_failed new ≡ true))) where
   knows : (answer : Result T Refusal) → IfOk answer (λ x. Knows (known_by (root_of old)) event (tell x) (known_by (root_of new))) → OnErr answer (root_of new ≡ root_of old)
       → Knows (known_by (root_of old)) event (answered tell answer) (known_by (root_of new))
   knows (Ok x) on last = on
@@ -179,13 +177,13 @@ module _ {D : Type 0} (g : Ghosts D) (only_now : HasOnlyNow g) (old new : Store 
     honest = is.honest;
     takes = λ h s at. (is.side, is.capacity);
     happens = λ h s at.
-        let step = is.outcome h s at.at in
+        let step = is.outcome h s at in
         let t : State = step.0 in (
           t,
           (
-            record { at = step.1.0; same_side = step.1.0.in_state.side_is },
+            step.1.0,
             step.1.1,
-            record { size = is.size; side = is.side; capacity = is.capacity; run = ended_leaves s t (is.honest h) step.1.2 at },
+            record { size = is.size; side = is.side; capacity = is.capacity; run = ended_leaves g only_now old new (λ had. (failed had).1.0) s t (is.honest h) step.1.2 at },
           ),
         );
   }
@@ -215,5 +213,5 @@ module _ {D : Type 0} (g : Ghosts D) (store : Store D g) (works : has_failed sto
 
   pub tiles_at : g.honest (disk_of store) → (s : State) → IsAt g store s → IfOk result (λ corners. corners.items ≡ corners_of s.contents.mosaic)
   tiles_at honest s at =
-      let step = call.happens honest s (record { at = at; same_side = at.in_state.side_is }) in
+      let step = call.happens honest s at in
       tiles_listed (capacity_of store) s step.0 result (sym at.in_state.failed_is ∙ works) step.1.1

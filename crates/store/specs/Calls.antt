@@ -6,8 +6,8 @@ use Rattle.engine.specs.Runs.{last_of, Through}
 use Rattle.engine.specs.State.{State}
 use Rattle.engine.specs.declared.event.Event.{Event}
 use Rattle.engine.specs.declared.event.Reply.{Reply}
-use Rattle.store.specs.Stores.{disk_of}
-use Rattle.store.specs.StoreState.{IsStoreAt, members}
+use Rattle.store.specs.Stores.{disk_of, IsAt}
+use Rattle.store.specs.StoreState.{members}
 use Rattle.store.specs.declared.store.Store.{Store}
 
 -- The store answered the events so, and was one of these stores after each: what is known on any disk, and then on an
@@ -20,7 +20,7 @@ pub record HasRun {D : Type 0} (g : Ghosts D) (old : Store D g) (events : List E
   pub keeps : Keeps (members g) old answers (last_of old stores)
   -- the answers are right in each state that the store may have been in, and a stop since an event leaves the state after
   -- it or a later one
-  pub states : g.honest (disk_of (last_of old stores)) → (s : State) → IsStoreAt g old s → (states : List State) × IsRunOf (members g) old events answers stores s states
+  pub states : g.honest (disk_of (last_of old stores)) → (s : State) → IsAt g old s → (states : List State) × IsRunOf (members g) old events answers stores s states
 
 -- .. from the old store to the new one
 abbrev pub Runs : {D : Type 0} (g : Ghosts D) → Store D g → Store D g → List Event → List Reply → Type 0

@@ -1,7 +1,7 @@
+pub mod Accepted
 pub mod Calls
 pub mod Editing
 pub mod Ended
-pub mod Fates
 pub mod Formatted
 pub mod Fresh
 pub mod KeptRight

@@ -1,6 +1,6 @@
--- Sessions of a store, one after another: each is begun by an opening, and each is ended, stopped (a power cut) or upgraded
--- as it may be (this product's own profile).
-use Rattle.std.specs.Prelude.{◌≡◌, ◌⊎◌, ◌≤◌, ℕ, true, List, [], ◌∷◌, ◌++◌, Result, Ok, IfOk, IfErr}
+-- Sessions of a store, one after another: each is begun by an opening, and ends, is refused, or is stopped (a power cut) at
+-- any moment (this product's own profile).
+use Rattle.std.specs.Prelude.{◌≡◌, ◌⊎◌, ◌≤◌, ℕ, true, false, List, [], ◌∷◌, ◌++◌, Result, Ok, IfOk, IfErr}
 use Rattle.disk.specs.Disk.{Image, HasRisen}
 use Rattle.disk.specs.Stops.{AddsNothing}
 use Rattle.disk.specs.declared.disk.Disk.{Ghosts}
@@ -8,37 +8,61 @@ use Rattle.lattice.specs.declared.refusal.Refusal.{Refusal}
 use Rattle.lattice.specs.declared.refusal.Refusal.TheVariants.{Device, NoMemory}
 use Rattle.edits.specs.declared.command.Command.{Command}
 use Rattle.engine.specs.Engines.{IsCall}
-use Rattle.engine.specs.State.{Contents, working}
+use Rattle.engine.specs.State.{Contents, State, working}
 use Rattle.engine.specs.declared.event.Event.{Event}
+use Rattle.engine.specs.declared.event.Event.TheVariants as ask
 use Rattle.engine.specs.declared.event.Reply.{Reply}
+use Rattle.engine.specs.declared.event.Reply.TheVariants as reply
 use Rattle.cow_tree.specs.Longer.{AgreesBelow}
+use Rattle.cow_tree.specs.Trees.{MayRefuse}
 use Rattle.roots.specs.declared.roots.NotOpened.{NotOpened}
-use Rattle.store.specs.Fates.{Fate, AreAccepted, ComesBy, known_by, doubted_of}
+use Rattle.store.specs.Accepted.{Since, none_asked, done_too, doubted_too, AreAccepted, ComesBy}
+use Rattle.store.specs.Queried.{CountsSeams, Queries}
 use Rattle.store.specs.Standing.{StandsFor}
 use Rattle.store.specs.StoreState.{members}
 use Rattle.store.specs.Stores.{disk_of, side_of, capacity_of, has_failed, disk_after, IsAt}
 use Rattle.store.specs.Upgraded.{HasUpgraded}
 use Rattle.store.specs.declared.store.Store.{Store}
 
--- A call of a store, with its answer: an event, or the upgrade to the second version.
+-- A call of a store, with its answer: an event, the upgrade to the second version, or the count of seams.
 pub data Call : Type 0 where
   Asked : (event : Event) → (answer : Reply) → Call
   Upgraded : (result : Result (Unit {0}) Refusal) → Call
+  CountedSeams : (result : Result ℕ Refusal) → Call
+
+-- what those who made the call know then
+abbrev pub known_by : Since → Call → Since
+known_by since (Asked (ask.Do c) (reply.Done k)) = done_too since c
+known_by since (Asked (ask.Do c) (reply.Refused Device)) = doubted_too since c
+known_by since call = since
+
+-- .. and without its answer
+abbrev pub known_without : Since → Call → Since
+known_without since (Asked (ask.Do c) answer) = doubted_too since c
+known_without since call = since
 
 module _ {D : Type 0} (g : Ghosts D) where
-  -- each image that the disk may hold stands for one of two contents
+  -- each image that the disk may hold stands for these contents
+  abbrev pub HoldsOnly : D → (side capacity : ℕ) → Contents → Type 0
+  HoldsOnly disk side capacity c = (image : Image) → g.may disk image → StandsFor (g.size disk) side capacity image c
+
+  -- .. for one of two
   abbrev pub HoldsEither : D → (side capacity : ℕ) → (a b : Contents) → Type 0
   HoldsEither disk side capacity a b = (image : Image) → g.may disk image → StandsFor (g.size disk) side capacity image a ⊎ StandsFor (g.size disk) side capacity image b
 
   -- What an opening promises, refused or not.
   pub record IsOpening (old : D) (opened : Result (Store D g) (NotOpened D)) : Type 0 where
     pub size : g.size (disk_after opened) ≡ g.size old
+    pub writes : g.writes (disk_after opened) ≡ g.writes old
+    pub later : g.failures old ≤ g.failures (disk_after opened)
+    pub device : IfErr opened (λ e. e.refusal ≡ Device → HasRisen (g.failures old) (g.failures e.disk))
     pub nothing : g.honest (disk_after opened) → AddsNothing g old (disk_after opened)
+    pub works : IfOk opened (λ store. has_failed store ≡ false)
     pub at : g.honest (disk_after opened) → (side capacity : ℕ) (a b : Contents) → HoldsEither old side capacity a b
         → IfOk opened (λ store. (side_of store ≡ side) × ((capacity_of store ≡ capacity) × (IsAt g store (working a) ⊎ IsAt g store (working b))))
     pub sure : g.honest (disk_after opened) → (side capacity : ℕ) (a b : Contents) → HoldsEither old side capacity a b
         → IfErr opened (λ e. (e.refusal ≡ Device) ⊎ (e.refusal ≡ NoMemory))
-    pub device : IfErr opened (λ e. e.refusal ≡ Device → HasRisen (g.failures old) (g.failures e.disk))
+    pub refused : g.honest (disk_after opened) → IfErr opened (λ e. MayRefuse (g.size old) (g.seen old) e.refusal)
 
   -- it was refused as a call of the disk failed, or for memory
   abbrev pub IsRefusedWithCause : D → NotOpened D → Type 0
@@ -48,6 +72,8 @@ module _ {D : Type 0} (g : Ghosts D) where
   abbrev pub IsMade : Store D g → Call → Store D g → Type 0
   IsMade old (Asked event answer) new = IsCall (members g) old event answer new
   IsMade old (Upgraded result) new = HasUpgraded g old new result × (has_failed old ≡ true → disk_of new ≡ disk_of old)
+  IsMade old (CountedSeams result) new =
+      Queries g old new result × (g.honest (disk_of new) → (s : State) → IsAt g old s → (t : State) × (IsAt g new t × CountsSeams s result t))
 
   -- a call, and the store after it
   pub record Made : Type 0 where
@@ -95,55 +121,64 @@ module _ {D : Type 0} (g : Ghosts D) where
   MayLeave (Ended disk store calls) image = g.may (disk_of (last_store store calls)) image
   MayLeave (Stopped disk store calls last) image = g.since (disk_of last.store) (g.moment (disk_of (last_store store calls))) image
 
-  -- what those who asked for commands know of them
-  abbrev pub fates_of_call : Call → List Fate
-  fates_of_call (Asked event answer) = known_by event answer
-  fates_of_call (Upgraded result) = []
-
-  abbrev pub doubts_of_call : Call → List Fate
-  doubts_of_call (Asked event answer) = doubted_of event
-  doubts_of_call (Upgraded result) = []
-
-  abbrev pub fates_of_calls : List Made → List Fate
-  fates_of_calls [] = []
-  fates_of_calls (made ∷ more) = fates_of_call made.call ++ fates_of_calls more
-
-  abbrev pub fates_of_session : Session → List Fate
-  fates_of_session (Unopened disk opened) = []
-  fates_of_session (Ended disk store calls) = fates_of_calls calls
-  fates_of_session (Stopped disk store calls last) = fates_of_calls calls ++ doubts_of_call last.call
-
-  abbrev pub fates_of : List Session → List Fate
-  fates_of [] = []
-  fates_of (session ∷ more) = fates_of_session session ++ fates_of more
-
   -- the disk has at least so many sectors, and the first of them hold what was left
   pub record TakesOver (sectors : ℕ) (Left : Image → Type 0) (disk : D) : Type 0 where
     pub longer : sectors ≤ g.size disk
     pub holds : (image : Image) → g.may disk image → (left : Image) × Left left × AgreesBelow sectors left image
 
-  -- The sessions came one after another, each on an honest disk that holds what the one before it left, and then that disk
-  -- was to be opened.
-  abbrev pub InTurn : (sectors : ℕ) → (Image → Type 0) → List Session → D → Type 0
-  InTurn sectors Left [] next = TakesOver sectors Left next
-  InTurn sectors Left (session ∷ more) next =
-      TakesOver sectors Left (first_disk session) × IsSession session × g.honest (last_disk session) × InTurn (g.size (last_disk session)) (MayLeave session) more next
-
-  -- The store is at the mosaic after commands that were accepted: every acknowledged one, and some of those in doubt, in
-  -- the order in which they were asked for, each of them whole.
-  pub record HasAccepted (side capacity : ℕ) (was : Contents) (fates : List Fate) (store : Store D g) : Type 0 where
-    pub commands : List Command
-    pub accepted : AreAccepted fates commands
+  -- the store is at the mosaic after these commands, none of them refused and each of them whole
+  pub record IsAfter (side capacity : ℕ) (was : Contents) (commands : List Command) (store : Store D g) : Type 0 where
     pub contents : Contents
     pub comes_by : ComesBy capacity was commands contents
     pub at : IsAt g store (working contents)
     pub same_side : side_of store ≡ side
     pub same_capacity : capacity_of store ≡ capacity
 
-  -- After any number of sessions on a disk that held these contents, an opening finds the store at the mosaic after the
-  -- commands that were accepted, or is refused as a call of the disk failed, or for memory.
+-- Sessions on disks of one type, of which each is seen in its own way, as a file is each time that it is opened.
+module _ {I D : Type 0} (gs : I → Ghosts D) where
+  -- how the disk is seen in a session, and the session
+  abbrev pub Visit : Type 0
+  Visit = (i : I) × Session (gs i)
+
+  abbrev pub AreSessions : List Visit → Type 0
+  AreSessions [] = Unit {0}
+  AreSessions ((i, session) ∷ more) = IsSession (gs i) session × AreSessions more
+
+  -- they came one after another, each on an honest disk that holds what the one before it left
+  abbrev pub InTurn : (sectors : ℕ) → (Image → Type 0) → List Visit → Type 0
+  InTurn sectors Left [] = Unit {0}
+  InTurn sectors Left ((i, session) ∷ more) =
+      TakesOver (gs i) sectors Left (first_disk (gs i) session) × (gs i).honest (last_disk (gs i) session)
+      × InTurn ((gs i).size (last_disk (gs i) session)) (MayLeave (gs i) session) more
+
+  module _ (side capacity : ℕ) (was : Contents) where
+    -- An opening finds all that was found before it, and then what was accepted since. So much is found then.
+    abbrev pub FindsMore : (found : List Command) → Since → (i : I) → Store D (gs i) → (List Command → Type 0) → Type 0
+    FindsMore found since i store Then =
+        (late : List Command) × AreAccepted since late × IsAfter (gs i) side capacity was (found ++ late) store × Then (found ++ late)
+
+    -- a call that opens the disk again is an opening, too
+    abbrev pub FindsBy : (i : I) → Call → Store D (gs i) → (found : List Command) → Since → (List Command → Since → Type 0) → Type 0
+    FindsBy i (Asked ask.Reopen reply.Reopened) store found since Then = FindsMore found since i store (λ now. Then now none_asked)
+    FindsBy i call store found since Then = Then found (known_by since call)
+
+    abbrev pub EachFindsIn : (i : I) → List (Made (gs i)) → (found : List Command) → Since → (List Command → Since → Type 0) → Type 0
+    EachFindsIn i [] found since Then = Then found since
+    EachFindsIn i (made ∷ more) found since Then = FindsBy i made.call made.store found since (λ now known. EachFindsIn i more now known Then)
+
+    -- each opening finds more, or is refused as a call of the disk failed, or for memory
+    abbrev pub EachFinds : (found : List Command) → Since → List Visit → Type 0
+    EachFinds found since [] = Unit {0}
+    EachFinds found since ((i, Unopened disk opened) ∷ more) = IfErr opened (IsRefusedWithCause (gs i) disk) × EachFinds found since more
+    EachFinds found since ((i, Ended disk store calls) ∷ more) =
+        FindsMore found since i store (λ now. EachFindsIn i calls now none_asked (λ found known. EachFinds found known more))
+    EachFinds found since ((i, Stopped disk store calls last) ∷ more) =
+        FindsMore found since i store (λ now. EachFindsIn i calls now none_asked (λ found known. EachFinds found (known_without known last.call) more))
+
+  -- After any number of sessions on a disk that held these contents, each opening finds the store at the mosaic after the
+  -- commands that were accepted. What it finds stays the beginning of what later ones find, and what it doesn't find doesn't
+  -- come back.
   abbrev pub SessionsCompose : Type 0
-  SessionsCompose = (side capacity : ℕ) (was : Contents) (start : D) (sessions : List Session) (next : D) (opened : Result (Store D g) (NotOpened D))
-      → HoldsEither start side capacity was was → InTurn (g.size start) (g.may start) sessions next
-      → IsOpening next opened → g.honest (disk_after opened)
-      → IfOk opened (HasAccepted side capacity was (fates_of sessions)) × IfErr opened (IsRefusedWithCause next)
+  SessionsCompose = (side capacity : ℕ) (was : Contents) (i : I) (start : D) (sessions : List Visit)
+      → HoldsOnly (gs i) start side capacity was → AreSessions sessions → InTurn ((gs i).size start) ((gs i).may start) sessions
+      → EachFinds side capacity was [] none_asked sessions

@@ -7,9 +7,9 @@ use Rattle.disk.specs.Stops.{in_turn, weaker, nothing_done as no_call}
 use Rattle.disk.specs.declared.disk.Disk.{Ghosts}
 use Rattle.engine.specs.State.{State}
 use Rattle.store.specs.States.{StandsForState}
-use Rattle.store.specs.Stores.{disk_of, side_of, capacity_of}
+use Rattle.store.specs.Stores.{disk_of, side_of, capacity_of, IsAt}
 use Rattle.store.specs.declared.store.Store.{Store}
-use Rattle.store.specs.StoreState.{IsStoreAt, StandsForOne, LeavesStates}
+use Rattle.store.specs.StoreState.{StandsForOne, LeavesStates}
 
 first_contained : (s : State) (others : List State) → Contains (s ∷ others) s
 first_contained s others = (0, omega arith, refl)
@@ -20,14 +20,14 @@ same_stands a b c d e f size side capacity image s stands = rw (← size, ← si
 
 module _ {D : Type 0} {g : Ghosts D} where
   -- an image that the state allows
-  pub allowed : (store : Store D g) (s : State) (others : List State) → IsStoreAt g store s → (image : Image) → g.may (disk_of store) image
+  pub allowed : (store : Store D g) (s : State) (others : List State) → IsAt g store s → (image : Image) → g.may (disk_of store) image
       → StandsForOne (g.size (disk_of store)) (side_of store) (capacity_of store) (s ∷ others) image
-  allowed store s others is image may = (s, first_contained s others, is.at.in_state.images image may)
+  allowed store s others is image may = (s, first_contained s others, is.in_state.images image may)
 
   -- nothing was done, on a disk whose law says that since the present moment there is no other image
   pub nothing_done : (store : Store D g) (s : State) (others : List State)
       → ((image : Image) → g.honest (disk_of store) → g.since (disk_of store) (g.moment (disk_of store)) image → g.may (disk_of store) image)
-      → g.honest (disk_of store) → IsStoreAt g store s → LeavesStates g store store (s ∷ others)
+      → g.honest (disk_of store) → IsAt g store s → LeavesStates g store store (s ∷ others)
   nothing_done store s others only_now honest is = record {
     size = refl;
     side = refl;

@@ -13,11 +13,6 @@ use Rattle.store.specs.States.{StandsForState}
 use Rattle.store.specs.Stores.{IsAt, disk_of, root_of, side_of, capacity_of, has_failed}
 use Rattle.store.specs.declared.store.Store.{Store}
 
--- the store is in this state, whose tiles have its side
-pub record IsStoreAt {D : Type 0} (g : Ghosts D) (store : Store D g) (s : State) : Type 0 where
-  pub at : IsAt g store s
-  pub same_side : s.contents.mosaic.side ≡ side_of store
-
 -- the image stands for the contents of one of the states, or for those of its commit in doubt
 abbrev pub StandsForOne : (sectors side capacity : ℕ) → List State → Image → Type 0
 StandsForOne sectors side capacity states image = (s : State) × Contains states s × StandsForState sectors side capacity image s
@@ -38,7 +33,7 @@ known_by root = record { version = number_of root.version; count = root.count; n
 abbrev pub members : {D : Type 0} (g : Ghosts D) → Members (Store D g)
 members g = record {
   is_honest = λ store. g.honest (disk_of store);
-  is_at = λ store s. IsStoreAt g store s;
+  is_at = λ store s. IsAt g store s;
   leaves_only = λ first last states. LeavesStates g first last states;
   side_of = λ store. side_of store;
   capacity_of = λ store. capacity_of store;

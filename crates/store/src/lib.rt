@@ -39,5 +39,5 @@ mod voids;
 pub use engine::{Event, Reply};
 pub use kept_right::planes_stay_right;
 pub use laws::{images_stand_for_one_contents, pages_are_written_once};
-pub use sessions::sessions_compose;
+pub use sessions::{open_session, sessions_compose};
 pub use store::Store;

@@ -1,11 +1,32 @@
-//! The law of sessions that follow one another. The function says it in its contract, and does nothing.
-ghost use Rattle.store.specs.Sessions.{SessionsCompose};
+//! Sessions of a store, and the law of those that follow one another.
+ghost use Rattle.std.specs.Prelude.{ℕ};
+ghost use Rattle.std.specs.declared.marker.Brand.{Brand};
+ghost use Rattle.disk.specs.Disk.{Image};
+ghost use Rattle.disk.specs.FileWorlds.{giving};
+ghost use Rattle.disk.specs.declared.file.FileDisk.{FileDisk};
+ghost use Rattle.store.specs.Sessions.{IsOpening, SessionsCompose};
 
+use crate::Store;
+use cow_tree::NotOpened;
 use disk::Disk;
+use std::alloc::Global;
 
-/// Whatever sessions there were, each begun by an opening on what the one before it left, and ended or stopped at any
-/// moment, the next opening that succeeds finds the mosaic after the commands that were accepted: every one that was
-/// answered Done, and of those in doubt some. None is there in part, and none out of its order.
+/// Begins a session: [`Store::open`], by all that is promised of an opening in one.
+pub fn open_session<D: Disk>(alloc: Global, disk: D) -> Result<Store<D>, NotOpened<D>>
+    ensures { IsOpening D.Disk disk result }
+{
+    Store::open(alloc, disk)
+}
+
+/// The law, which the function says in its contract; it does nothing.
+///
+/// Whatever sessions there were, each begun by an opening on what the one before it left, and ended, refused or stopped at
+/// any moment, each opening that succeeds finds the mosaic after the commands that were accepted: those that the opening
+/// before it found, every one that was answered Done since, and then at most the one in doubt. None is there in part, and none
+/// out of its order. What an opening finds stays, and what it doesn't find doesn't come back.
 pub fn sessions_compose<D: Disk>()
-    ensures { SessionsCompose D.Disk }
+    ensures any { SessionsCompose (λ (one : Unit {0}). D.Disk) }
+
+    // Also of a file that is opened anew for each session, where its reads give images of their own each time.
+    ensures file { SessionsCompose {D = FileDisk Brand} (λ (images : ℕ → Image). giving images) }
 {}

@@ -15,15 +15,15 @@ use watershed::Run;
 
 impl<D: Disk> Engine for Store<D> {
     ghost use Rattle.engine.specs.Engines.{IsCall};
-    ghost use Rattle.store.specs.Stores.{disk_of, side_of, capacity_of, root_of, has_failed};
-    ghost use Rattle.store.specs.StoreState.{IsStoreAt, LeavesStates, known_by, members};
+    ghost use Rattle.store.specs.Stores.{disk_of, side_of, capacity_of, root_of, has_failed, IsAt};
+    ghost use Rattle.store.specs.StoreState.{LeavesStates, known_by, members};
     ghost use Rattle.store.specs.StoreRuns.{nothing_done, one_by_one, among_more};
 
     ghost called = { IsCall (members D.Disk) };
 
     ghost is_honest = { λ e. D.honest (disk_of e) };
 
-    ghost is_at = { λ e s. IsStoreAt D.Disk e s };
+    ghost is_at = { λ e s. IsAt D.Disk e s };
 
     // Each image that a stop leaves on the disk stands for the contents of one of the states, or for those of its commit in
     // doubt.
@@ -51,7 +51,7 @@ impl<D: Disk> Engine for Store<D> {
 
     ghost weaker = { λ first last states more among before. among_more first last states more among before };
 
-    ghost same_side = { λ e s at. at.same_side };
+    ghost same_side = { λ e s at. at.in_state.side_is };
 
     fn side(&self) -> Side {
         self.tile_side()

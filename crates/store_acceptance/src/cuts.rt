@@ -1,9 +1,9 @@
 //! Sessions of a store with power cuts between them.
 use super::asserting::assert_row;
-use super::fixtures::{EAST, HERE, import, opened, store_of};
-use disk::{FuseDisk, Torn};
+use super::fixtures::{EAST, HERE, import, store_of};
+use disk::Torn;
 use edits::Command;
-use memory_store::run_through_power_cut;
+use memory_store::{CutSession, run_two_sessions};
 use std::alloc::Global;
 use std::process::Abort;
 use std::test::Fail;
@@ -37,8 +37,18 @@ fn done_and_found(alloc: Global, torn: Torn, calls: u64) -> Result<(u64, u64), F
     ];
     let mut replies = Vec::new(alloc);
     let disk = store_of(alloc, 2, &[(HERE, A)])?.into_disk();
-    let fuse = FuseDisk::new(disk, CALLS_TO_OPEN.saturating_add(calls));
-    let found = run_through_power_cut(alloc, opened(alloc, fuse)?, &events, torn, &mut replies)?;
+    let first = CutSession {
+        passes: CALLS_TO_OPEN.saturating_add(calls),
+        events: &events,
+        torn,
+    };
+    // The second opens and asks nothing.
+    let second = CutSession {
+        passes: u64::MAX,
+        events: &[],
+        torn,
+    };
+    let found = run_two_sessions(alloc, disk, first, second, &mut replies)?;
     Ok((count_done(&replies), found.count().saturating_sub(1)))
 }
 

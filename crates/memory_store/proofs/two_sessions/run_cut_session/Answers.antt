@@ -1,9 +1,8 @@
 use Rattle.std.proofs.Common.{ap, sym, ◌∙◌, subst}
 use Rattle.disk.specs.Faulty.{inner_of, faults_of}
 use Rattle.disk.specs.declared.memory.MemDisk.{MemDisk}
-use Rattle.memory_store.specs.PowerCuts.{IsCut}
-use Rattle.memory_store.specs.TwoSessions.{CutDisk}
-use Rattle.memory_store.proofs.Cuts.{if_ok}
+use Rattle.memory_store.specs.TwoSessions.{CutDisk, IsCut}
+use Rattle.memory_store.proofs.SessionCalls.{if_ok}
 use Rattle.memory_store.proofs.two_sessions.run_cut_session.Goals as goal
 
 pub returns-clause-cut_off : goal.returns-clause-cut_off

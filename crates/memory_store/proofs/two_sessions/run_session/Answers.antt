@@ -14,7 +14,7 @@ returns-in_ok-run-in-Ok-clause-session c =
       ran.1,
       (
         Ended c.args.disk c.in-Ok.opened calls.calls,
-        (record { size = c.in-Ok.ensures.size; nothing = c.in-Ok.ensures.nothing; at = c.in-Ok.ensures.at; sure = λ h side capacity a b holds. tt; device = tt }, calls.made),
+        (c.in-Ok.ensures, calls.made),
         refl,
         ap disk_of (calls.ends ∙ run.1.0) ∙ sym c.into_disk.ensures,
         calls.asks,
@@ -27,7 +27,7 @@ returns-in_default-clause-session c = (
   sym (append-nil c.args.out.now.items),
   (
     Unopened c.args.disk (Err c.in-Err.not_opened),
-    record { size = c.in-Err.ensures.size; nothing = c.in-Err.ensures.nothing; at = λ h side capacity a b holds. tt; sure = c.in-Err.ensures.sure; device = c.in-Err.ensures.device },
+    c.in-Err.ensures,
     refl,
     refl,
     (c.in_default.not-NoMemory, refl),

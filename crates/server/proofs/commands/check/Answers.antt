@@ -3,11 +3,12 @@ use Rattle.server.specs.Places.{Opens}
 use Rattle.server.proofs.commands.check.Goals as goal
 
 pub returns-in-Some : goal.returns-in-Some
-returns-in-Some g c = (
-  Opens c.args.path.now (Some c.in-Some.disk) ∷ [],
-  (c.open.new.self, c.in-Some.ensures, refl),
-  inr (c.in-Some.disk, c.check_store.result.0, refl, c.exit_on.ensures.disk, rw c.exit_on.ensures.status c.check_store.ensures),
-)
+returns-in-Some g c =
+    let (sessions, checks) = c.check_store.ensures in (
+      Opens c.args.path.now (Some c.in-Some.disk) ∷ [],
+      (c.open.new.self, c.in-Some.ensures, refl),
+      (sessions, inr (c.in-Some.disk, c.check_store.result.0, refl, c.exit_on.ensures.disk, rw c.exit_on.ensures.status checks)),
+    )
 
 pub returns-in-None : goal.returns-in-None
-returns-in-None g c = (Opens c.args.path.now None ∷ [], (c.open.new.self, c.in-None.ensures, refl), inl (refl, c.not_opened.ensures.none, c.not_opened.ensures.told))
+returns-in-None g c = (Opens c.args.path.now None ∷ [], (c.open.new.self, c.in-None.ensures, refl), ([], inl (refl, c.not_opened.ensures.none, refl, c.not_opened.ensures.told)))

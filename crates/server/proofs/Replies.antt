@@ -1,5 +1,5 @@
--- The calls that a session's items come to.
-use Rattle.std.proofs.Common.{◌≡◌, ℕ, List, [], ◌∷◌, ◌++◌, Result, Ok, Err, refl, sym, ap, ◌∙◌, subst}
+-- The calls that the items of a session come to.
+use Rattle.std.proofs.Common.{◌≡◌, ℕ, List, [], ◌∷◌, ◌++◌, Option, Result, Ok, Err, refl, sym, ap, ◌∙◌, subst}
 use Rattle.disk.specs.declared.disk.Disk.{Ghosts}
 use Rattle.engine.specs.Runs.{last_of}
 use Rattle.engine.specs.Engines.{IsCall}
@@ -10,10 +10,9 @@ use Rattle.serving.specs.declared.session.ServeFault.{ServeFault}
 use Rattle.serving.specs.declared.session.ServeFault.TheVariants.{Input, Output}
 use Rattle.store.specs.Sessions.{Asked, Made, AreMade, IsMade, last_store}
 use Rattle.store.specs.StoreState.{members}
-use Rattle.store.specs.Stores.{disk_of, side_of}
+use Rattle.store.specs.Stores.{side_of}
 use Rattle.store.specs.declared.store.Store.{Store}
-use Rattle.server.specs.ServedSessions.{GoesOnBy, IsServedSession, ServingIsASession}
-use Rattle.server.specs.Sessions.{TellsCall}
+use Rattle.server.specs.Replies.{GoesOnBy, IsReplied}
 
 module _ {D : Type 0} (g : Ghosts D) where
   -- one call more
@@ -25,7 +24,8 @@ module _ {D : Type 0} (g : Ghosts D) where
   made_more store [] made are one = (one, tt)
   made_more store (c ∷ calls) made (first, are) one = (first, made_more c.store calls made are one)
 
-  module _ (store : Store D g) where
+  module _ (store : Store D g) (IsAnswered : Store D g → Item → List ℕ → Store D g → Type 0)
+      (is_replied : (old : Store D g) (i : Item) (text : List ℕ) (new : Store D g) → IsAnswered old i text new → Replied (IsCall (members g)) (λ e. side_of e) old i text new) where
     abbrev side_then : List (Made g) → ℕ
     side_then so_far = side_of (last_store g store so_far)
 
@@ -60,12 +60,12 @@ module _ {D : Type 0} (g : Ghosts D) where
         by End comes (says, same) = record { more = so_far; replied = (End, comes, (says, refl)); made = made; ends = is ∙ sym same }
 
     by_calls : (so_far : List (Made g)) (old : Store D g) (items : List Item) (text : List ℕ) (stores : List (Store D g)) → AreMade g store so_far → last_store g store so_far ≡ old
-        → Replies (TellsCall g) old items text stores → ByCalls so_far items text (last_of old stores)
+        → Replies IsAnswered old items text stores → ByCalls so_far items text (last_of old stores)
     by_calls so_far old [] text [] made is right = record { through = []; replies = right; made = made; ends = is }
     by_calls so_far old [] text (new ∷ stores) made is right = absurd right
     by_calls so_far old (i ∷ items) text [] made is right = absurd right
     by_calls so_far old (i ∷ items) text (new ∷ stores) made is (reply, more, parts, told, rest) =
-        let one = one_item so_far old new i reply made is told.replied in
+        let one = one_item so_far old new i reply made is (is_replied old i reply new told) in
         let others = by_calls one.more new items more stores one.made one.ends rest in
         record {
           through = one.more ∷ others.through;
@@ -74,40 +74,26 @@ module _ {D : Type 0} (g : Ghosts D) where
           ends = others.ends;
         }
 
-pub serving_is_a_session : {D : Type 0} (g : Ghosts D) → ServingIsASession g
-serving_is_a_session {D} g old new before after written now result served = by result served.answers
-  where
-    by : (result : Result (Unit {0}) ServeFault) → Outcome (TellsCall g) before after written now served.store served.stores result → IsServedSession g old new before after written now result
-    by (Ok u) (items, text, are, appends, right) =
-        let calls = by_calls g served.store [] served.store items text served.stores tt refl right in
+    -- the calls of a session, and the replies to its items
+    pub record Served (stores : List (Store D g)) (before after written now : Option (List ℕ)) (result : Result (Unit {0}) ServeFault) : Type 0 where
+      pub calls : List (Made g)
+      pub made : AreMade g store calls
+      pub ends : last_store g store calls ≡ last_of store stores
+      pub told : IsReplied g store calls before after written now result
+
+    pub served : (stores : List (Store D g)) (before after written now : Option (List ℕ)) (result : Result (Unit {0}) ServeFault) → Outcome IsAnswered before after written now store stores result
+        → Served stores before after written now result
+    served stores before after written now (Ok u) (items, text, are, appends, right) =
+        let by = by_calls [] store items text stores tt refl right in
+        record { calls = last_of [] by.through; made = by.made; ends = by.ends; told = record { through = by.through; replies = (items, text, are, appends, by.replies); all = refl } }
+    served stores before after written now (Err Input) (items, rest, text, each, begun, taken, appends, right) =
+        let by = by_calls [] store items text stores tt refl right in
+        record { calls = last_of [] by.through; made = by.made; ends = by.ends; told = record { through = by.through; replies = (items, rest, text, each, begun, taken, appends, by.replies); all = refl } }
+    served stores before after written now (Err Output) (items, i, extent, text, n, left, each, item, taken, right, appends) =
+        let by = by_calls [] store (items ++ i ∷ []) text stores tt refl right in
         record {
-          store = served.store;
-          calls = last_of [] calls.through;
-          session = (served.opening, calls.made);
-          left = ap (λ (e : Store D g). disk_of e) calls.ends ∙ served.left;
-          through = calls.through;
-          replies = (items, text, are, appends, calls.replies);
-          all = refl;
-        }
-    by (Err Input) (items, rest, text, each, begun, taken, appends, right) =
-        let calls = by_calls g served.store [] served.store items text served.stores tt refl right in
-        record {
-          store = served.store;
-          calls = last_of [] calls.through;
-          session = (served.opening, calls.made);
-          left = ap (λ (e : Store D g). disk_of e) calls.ends ∙ served.left;
-          through = calls.through;
-          replies = (items, rest, text, each, begun, taken, appends, calls.replies);
-          all = refl;
-        }
-    by (Err Output) (items, i, extent, text, n, left, each, item, taken, right, appends) =
-        let calls = by_calls g served.store [] served.store (items ++ i ∷ []) text served.stores tt refl right in
-        record {
-          store = served.store;
-          calls = last_of [] calls.through;
-          session = (served.opening, calls.made);
-          left = ap (λ (e : Store D g). disk_of e) calls.ends ∙ served.left;
-          through = calls.through;
-          replies = (items, i, extent, text, n, left, each, item, taken, calls.replies, appends);
-          all = refl;
+          calls = last_of [] by.through;
+          made = by.made;
+          ends = by.ends;
+          told = record { through = by.through; replies = (items, i, extent, text, n, left, each, item, taken, by.replies, appends); all = refl };
         }

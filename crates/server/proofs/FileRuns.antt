@@ -1,0 +1,113 @@
+-- Runs of the program on one file: the sessions that they make, as far as they came.
+use Rattle.std.proofs.Common.{◌≡◌, inl, inr, ⊎_elim, ℕ, List, [], ◌∷◌, ◌++◌, map, Result, Ok, Err, sym, subst}
+use Rattle.std.specs.Prelude.{Option, Some, None}
+use Rattle.disk.specs.Disk.{Image}
+use Rattle.disk.specs.declared.disk.Disk.{Ghosts}
+use Rattle.lattice.specs.declared.refusal.Refusal.{Refusal}
+use Rattle.engine.specs.State.{fresh}
+use Rattle.serving.specs.Outputs.{Stream}
+use Rattle.store.specs.Sessions.{HoldsOnly, Made, AreMade, last_store, Session, Unopened, Ended, Stopped, IsSession, Visit, AreSessions}
+use Rattle.store.specs.declared.store.Store.{Store}
+use Rattle.store.proofs.SessionsInTurn.{sessions_compose}
+use Rattle.server.specs.Endings.{EndsAnswering, count_line}
+use Rattle.server.specs.FileRuns.{IsPartOf, ArePartsOf, Run, visits_of, RunsCompose}
+use Rattle.server.specs.OnDisks.{HasFormatted, GrowsAndUpgrades, RunsGrown}
+use Rattle.server.specs.Places.{Access}
+use Rattle.server.specs.Program.{CarriesOut, EndsMaking, RunsAs, RunsFormat}
+use Rattle.server.specs.declared.arguments.Arguments.{Arguments}
+use Rattle.server.specs.declared.arguments.Arguments.TheVariants.{Format, Import, Serve, Table, Check, Upgrade}
+use Rattle.server.specs.declared.places.MakeFault.{MakeFault}
+
+module _ {D : Type 0} (g : Ghosts D) where
+  -- all are sessions
+  abbrev AllSessions : List (Session g) → Type 0
+  AllSessions [] = Unit {0}
+  AllSessions (session ∷ more) = IsSession g session × AllSessions more
+
+  same : (xs ys : List (Session g)) → xs ≡ ys → AllSessions ys → AllSessions xs
+  same xs ys is all = subst AllSessions (sym is) all
+
+  grown : (sectors : ℕ) (measured left : D) (sessions : List (Session g)) (written now : Stream) (status : ℕ) → RunsGrown g sectors measured left sessions written now status → AllSessions sessions
+  grown sectors measured left sessions written now status (inl short) = same sessions [] short.0 tt
+  grown sectors measured left sessions written now status (inr (longer, has, upgrades)) = ⊎_elim (λ closed. same sessions _ closed.1 (closed.2, tt)) (λ did. same sessions _ did.2 ((did.3, did.4), tt)) upgrades
+
+  upgraded : (old left : D) (sessions : List (Session g)) (written now : Stream) (status : ℕ) → GrowsAndUpgrades g old left sessions written now status → AllSessions sessions
+  upgraded old left sessions written now status (inl closed) = same sessions _ closed.1 (closed.2, tt)
+  upgraded old left sessions written now status (inr (store, more, is, opening, runs)) = same sessions _ is ((opening, tt), grown _ _ left more written now status runs)
+
+  asked : (a : Arguments) (accesses : List (Access D)) (before after : Option (List ℕ)) (written new : Stream) (disk : Option D) (sessions : List (Session g)) (status : ℕ)
+      → RunsAs g a accesses before after written new disk sessions status → AllSessions sessions
+  asked (Format path side capacity) accesses before after written new disk sessions status (read, none, runs) = same sessions [] none tt
+  asked (Import path tile) accesses before after written new disk sessions status (read, inl none) = same sessions [] none.2 tt
+  asked (Import path tile) accesses before after written new disk sessions status (read, inr (c, named, inl none)) = same sessions [] none.2 tt
+  asked (Import path tile) accesses before after written new disk sessions status (read, inr (c, named, inr (old, left, more, opens, is, imports))) = ⊎_elim (λ closed. same sessions _ closed.1 (closed.2, tt)) (λ did. same sessions _ did.2 ((did.3, did.4), tt)) imports
+  asked (Serve path) accesses before after written new disk sessions status (inl none) = same sessions [] none.1.2 tt
+  asked (Serve path) accesses before after written new disk sessions status (inr (old, left, opens, is, serves)) = ⊎_elim (λ closed. same sessions _ closed.1 (closed.2, tt)) (λ did. same sessions _ did.2 ((did.3, did.4), tt)) serves
+  asked (Table side capacity) accesses before after written new disk sessions status none = same sessions [] none.2 tt
+  asked (Upgrade path) accesses before after written new disk sessions status (read, inl none) = same sessions [] none.2 tt
+  asked (Upgrade path) accesses before after written new disk sessions status (read, inr (old, left, opens, is, upgrades)) = upgraded old left sessions written new status upgrades
+  asked (Check path) accesses before after written new disk sessions status (read, inl none) = same sessions [] none.2 tt
+  asked (Check path) accesses before after written new disk sessions status (read, inr (old, left, opens, is, checks)) = ⊎_elim (λ closed. same sessions _ closed.1 (closed.2, tt)) (λ did. same sessions _ did.2 ((did.3, did.4), tt)) checks
+
+  carried : (words : List (List ℕ)) (accesses : List (Access D)) (before after : Option (List ℕ)) (written new : Stream) (disk : Option D) (sessions : List (Session g)) (status : ℕ)
+      → CarriesOut g words accesses before after written new disk sessions status → AllSessions sessions
+  carried words accesses before after written new disk sessions status (inl none) = same sessions [] none.2 tt
+  carried words accesses before after written new disk sessions status (inr (inl none)) = same sessions [] none.2 tt
+  carried words accesses before after written new disk sessions status (inr (inr (a, by, runs))) = asked a accesses before after written new disk sessions status runs
+
+  -- ---- how far a session came
+
+  made_first : (store : Store D g) (calls more : List (Made g)) → AreMade g store (calls ++ more) → AreMade g store calls × AreMade g (last_store g store calls) more
+  made_first store [] more made = (tt, made)
+  made_first store (call ∷ calls) more (one, made) = let (first, rest) = made_first call.store calls more made in ((one, first), rest)
+
+  part_is : (part whole : Session g) → IsPartOf g part whole → IsSession g whole → IsSession g part
+  part_is (Unopened disk opened) whole (inl is) session = subst (λ (s : Session g). IsSession g s) is session
+  part_is (Unopened disk opened) whole (inr (store, calls, opens, is)) session = rw opens (subst (λ (s : Session g). IsSession g s) is session).0
+  part_is (Ended disk store calls) whole (more, is) session =
+      let (opening, made) = subst (λ (s : Session g). IsSession g s) is session in
+      (opening, (made_first store calls more made).0)
+  part_is (Stopped disk store calls last) whole (more, is) session =
+      let (opening, made) = subst (λ (s : Session g). IsSession g s) is session in
+      let (first, rest) = made_first store calls (last ∷ more) made in
+      (opening, first, rest.0)
+
+  parts_are : (parts sessions : List (Session g)) → ArePartsOf g parts sessions → AllSessions sessions → AllSessions parts
+  parts_are [] sessions are all = tt
+  parts_are (part ∷ parts) [] are all = absurd are
+  parts_are (part ∷ parts) (session ∷ sessions) (is, are) (first, all) = (part_is part session is first, parts_are parts sessions are all)
+
+  -- ---- a store was made
+
+  made_it : (side capacity : ℕ) (old start : D) (result : Result (Unit {0}) Refusal) (written new : Stream) → HasFormatted g old start side capacity result → EndsAnswering (λ _. count_line 0) result written new 0 → g.honest start
+      → HoldsOnly g start side capacity (fresh side)
+  made_it side capacity old start (Ok u) written new formatted ends honest = formatted.formatted honest
+  made_it side capacity old start (Err r) written new formatted ends honest = absurd (let one = ends.1 in cc)
+
+  there_is : (start : D) → ◌≡◌ {A = Option D} (Some start) None → ⊥
+  there_is start none = cc
+
+  making : (side capacity : ℕ) (path : List ℕ) (given : Result D MakeFault) (written new : Stream) (start : D) → EndsMaking g path side capacity given written new (Some start) 0 → g.honest start → HoldsOnly g start side capacity (fresh side)
+  making side capacity path (Ok old) written new start (left, there, size, (result, has, ends)) honest =
+      let is_left : start ≡ left = cc there in
+      made_it side capacity old start result written new (subst (λ (d : D). HasFormatted g old d side capacity result) (sym is_left) has) ends honest
+  making side capacity path (Err fault) written new start none honest = absurd (there_is start none.0)
+
+  formatted : (side capacity : ℕ) (path : List ℕ) (accesses : List (Access D)) (written new : Stream) (start : D) → RunsFormat g path side capacity accesses written new (Some start) 0 → g.honest start → HoldsOnly g start side capacity (fresh side)
+  formatted side capacity path accesses written new start (inl refused) honest = absurd (there_is start refused.2)
+  formatted side capacity path accesses written new start (inr (given, is, taken, ends)) honest = making side capacity path given written new start ends honest
+
+module _ {I D : Type 0} (gs : I → Ghosts D) where
+  seen_by : (i : I) (sessions : List (Session (gs i))) (more : List (Visit gs)) → AllSessions (gs i) sessions → AreSessions gs more → AreSessions gs (map (λ (session : Session (gs i)). (i, session)) sessions ++ more)
+  seen_by i [] more all are = are
+  seen_by i (session ∷ sessions) more (one, all) are = (one, seen_by i sessions more all are)
+
+  runs_are : (runs : List (Run gs)) → AreSessions gs (visits_of gs runs)
+  runs_are [] = tt
+  runs_are (run ∷ more) =
+      seen_by run.by run.came (visits_of gs more)
+      (parts_are (gs run.by) run.came run.sessions run.parts (carried (gs run.by) run.words run.accesses run.before run.after run.written run.new run.disk run.sessions run.status run.carries)) (runs_are more)
+
+pub runs_compose : {I D : Type 0} (gs : I → Ghosts D) → ((i : I) (disk : D) (image : Image) → (gs i).honest disk → (gs i).since disk ((gs i).moment disk) image → (gs i).may disk image) → RunsCompose gs
+runs_compose gs only_now side capacity i path accesses written new start runs makes honest turns =
+    sessions_compose gs only_now side capacity (fresh side) i start (visits_of gs runs) (formatted (gs i) side capacity path accesses written new start makes honest) (runs_are gs runs) turns

@@ -1,0 +1,54 @@
+-- Runs of the program on one file, one after another (this product's own profile).
+use Rattle.std.specs.Prelude.{◌≡◌, ◌⊎◌, ℕ, List, [], ◌∷◌, ◌++◌, map, Option, Some, Ok}
+use Rattle.disk.specs.declared.disk.Disk.{Ghosts}
+use Rattle.engine.specs.State.{fresh}
+use Rattle.serving.specs.Outputs.{Stream}
+use Rattle.store.specs.Accepted.{none_asked}
+use Rattle.store.specs.Sessions.{Made, Session, Unopened, Ended, Stopped, Visit, InTurn, EachFinds}
+use Rattle.store.specs.declared.store.Store.{Store}
+use Rattle.server.specs.Places.{Access}
+use Rattle.server.specs.Program.{CarriesOut, RunsFormat}
+
+module _ {D : Type 0} (g : Ghosts D) where
+  -- the first is the second, or how far that came: it was stopped inside its opening, between two calls or inside one
+  abbrev pub IsPartOf : Session g → Session g → Type 0
+  IsPartOf (Unopened disk opened) whole = (whole ≡ Unopened disk opened) ⊎ ((store : Store D g) × (calls : List (Made g)) × (opened ≡ Ok store) × (whole ≡ Ended disk store calls))
+  IsPartOf (Ended disk store calls) whole = (more : List (Made g)) × (whole ≡ Ended disk store (calls ++ more))
+  IsPartOf (Stopped disk store calls last) whole = (more : List (Made g)) × (whole ≡ Ended disk store (calls ++ last ∷ more))
+
+  -- these are the first of those, as far as they came
+  abbrev pub ArePartsOf : List (Session g) → List (Session g) → Type 0
+  ArePartsOf [] sessions = Unit {0}
+  ArePartsOf (part ∷ parts) [] = ⊥
+  ArePartsOf (part ∷ parts) (session ∷ sessions) = IsPartOf part session × ArePartsOf parts sessions
+
+module _ {I D : Type 0} (gs : I → Ghosts D) where
+  -- A run of the program, whole or stopped at any moment.
+  pub record Run : Type 0 where
+    -- how the disk of the file is seen
+    pub by : I
+    -- all that the run does, if it isn't stopped
+    pub words : List (List ℕ)
+    pub accesses : List (Access D)
+    pub before : Option (List ℕ)
+    pub after : Option (List ℕ)
+    pub written : Stream
+    pub new : Stream
+    pub disk : Option D
+    pub sessions : List (Session (gs by))
+    pub status : ℕ
+    pub carries : CarriesOut (gs by) words accesses before after written new disk sessions status
+    -- the sessions as far as it came
+    pub came : List (Session (gs by))
+    pub parts : ArePartsOf (gs by) came sessions
+
+  abbrev pub visits_of : List Run → List (Visit gs)
+  visits_of [] = []
+  visits_of (run ∷ more) = map (λ (session : Session (gs run.by)). (run.by, session)) run.came ++ visits_of more
+
+  -- `format` made a store of the file and ended with status 0. Then whatever runs of the program there were, each on what the
+  -- one before it left, ended or stopped at any moment, each opening finds the mosaic after the commands that were accepted.
+  abbrev pub RunsCompose : Type 0
+  RunsCompose = (side capacity : ℕ) (i : I) (path : List ℕ) (accesses : List (Access D)) (written new : Stream) (start : D) (runs : List Run)
+      → RunsFormat (gs i) path side capacity accesses written new (Some start) 0 → (gs i).honest start
+      → InTurn gs ((gs i).size start) ((gs i).may start) (visits_of runs) → EachFinds gs side capacity (fresh side) [] none_asked (visits_of runs)

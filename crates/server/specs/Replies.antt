@@ -1,0 +1,25 @@
+-- The replies to the lines of a session, as what its calls were answered (this product's own profile).
+use Rattle.std.specs.Prelude.{◌≡◌, ℕ, List, [], ◌∷◌, ◌++◌, Option, Result}
+use Rattle.disk.specs.declared.disk.Disk.{Ghosts}
+use Rattle.engine.specs.Runs.{last_of}
+use Rattle.engine.specs.declared.event.Event.{Event}
+use Rattle.engine.specs.declared.event.Reply.{Reply}
+use Rattle.serving.specs.Answers.{Replied}
+use Rattle.serving.specs.Served.{Outcome}
+use Rattle.serving.specs.declared.session.ServeFault.{ServeFault}
+use Rattle.store.specs.Sessions.{Asked, Made, last_store}
+use Rattle.store.specs.Stores.{side_of}
+use Rattle.store.specs.declared.store.Store.{Store}
+
+module _ {D : Type 0} (g : Ghosts D) where
+  -- one call more was made: of this event, answered so
+  abbrev pub GoesOnBy : List (Made g) → Event → Reply → List (Made g) → Type 0
+  GoesOnBy calls event answer more = (made : Made g) × (made.call ≡ Asked event answer) × (more ≡ calls ++ made ∷ [])
+
+  -- The replies are those to the items that were read: an item that comes to an event is one call more, whose answer its
+  -- reply tells, and each other item is none.
+  pub record IsReplied (store : Store D g) (calls : List (Made g)) (before after written now : Option (List ℕ)) (result : Result (Unit {0}) ServeFault) : Type 0 where
+    -- the calls so far, after each item
+    pub through : List (List (Made g))
+    pub replies : Outcome (Replied GoesOnBy (λ so_far. side_of (last_store g store so_far))) before after written now [] through result
+    pub all : last_of [] through ≡ calls
