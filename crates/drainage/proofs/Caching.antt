@@ -8,10 +8,10 @@ use Rattle.std.proofs.lemmas.List.Sums.{sum_by-cons}
 use Rattle.lattice.specs.Corners.{Corner}
 use Rattle.lattice.specs.Lattice.{holds}
 use Rattle.lattice.specs.Mosaic.{Mosaic}
-use Rattle.lattice.specs.declared.point.Point.{Point}
 use Rattle.border_graph.specs.Others.{corner_at}
+use Rattle.edits.specs.declared.edit.NewHeight.{NewHeight}
 use Rattle.tile_flood.specs.Blocks.{LabelledGround}
-use Rattle.tile_labellings.specs.TileLabellings.{labelled_of, is_flooded, can_note, IsTileLabelling}
+use Rattle.tile_labellings.specs.TileLabellings.{labelled_of, is_flooded, can_note, IsSetFrom, IsTileLabelling}
 use Rattle.tile_labellings.specs.declared.tile_labelling.TileLabelling.{TileLabelling}
 use Rattle.drainage.specs.Holding.{IsHeldAt, IsEntered}
 use Rattle.drainage.specs.Invalidating.{IsNoted, IsHeldStill}
@@ -143,51 +143,51 @@ left_unreached gone xs t l = (
 
 -- ---- a change noted of one after another
 
-module _ (side : ℕ) (corners : List Corner) (p : Point) where
+module _ (side : ℕ) (corners : List Corner) (h : NewHeight) where
   -- those stay of which it is noted
   abbrev pub AreNoted : List HeldLabelling → List HeldLabelling → Type 0
   AreNoted [] ys = ys ≡ []
-  AreNoted (x ∷ xs) ys = (b : Bool) × (y : HeldLabelling) × IsNoted side corners p x b y × (zs : List HeldLabelling) × AreNoted xs zs × (ys ≡ cond b (y ∷ zs) zs)
+  AreNoted (x ∷ xs) ys = (b : Bool) × (y : HeldLabelling) × IsNoted side corners h x b y × (zs : List HeldLabelling) × AreNoted xs zs × (ys ≡ cond b (y ∷ zs) zs)
 
-  pub noted_in_turn : {F : Type 0} (R : F → HeldLabelling → Bool → F → HeldLabelling → Type 0) (f : F) → ((x : HeldLabelling) (b : Bool) (f' : F) (y : HeldLabelling) → R f x b f' y → IsNoted side corners p x b y × (f' ≡ f))
+  pub noted_in_turn : {F : Type 0} (R : F → HeldLabelling → Bool → F → HeldLabelling → Type 0) (f : F) → ((x : HeldLabelling) (b : Bool) (f' : F) (y : HeldLabelling) → R f x b f' y → IsNoted side corners h x b y × (f' ≡ f))
       → (xs ys : List HeldLabelling) → RetainsInTurn R f xs ys → AreNoted xs ys
   noted_in_turn R f says [] ys is = is
   noted_in_turn {F} R f says (x ∷ xs) ys (b, f', y, call, zs, rest, is) =
       let one = says x b f' y call in
       (b, y, one.0, zs, noted_in_turn R f says xs zs (subst (λ (s : F). RetainsInTurn R s xs zs) one.1 rest), is)
 
-  module _ (m new : Mosaic) (differ : DifferAt m new p) (same : m.side ≡ side) (t : ℕ) where
+  module _ (m new : Mosaic) (differ : DifferAt m new h.point) (set_from : IsSetFrom m new h.point h.was h.metres) (same : m.side ≡ side) (t : ℕ) where
     pub noted_right : (xs ys : List HeldLabelling) → AreNoted xs ys → IsEntered m (corner_at corners t) xs t → IsEntered new (corner_at corners t) ys t
     noted_right [] ys is entered l at = absurd (nothing_there (record { place = t; labelling = l }) (subst (λ (ws : List HeldLabelling). IsHeldAt ws t l) is at))
     noted_right (x ∷ xs) ys (b, y, noted, zs, rest, is) entered l at =
         by (noted_right xs zs rest (λ k at. entered k (behind x xs (record { place = t; labelling = k }) at)) l) b noted (subst (λ (ws : List HeldLabelling). IsHeldAt ws t l) is at)
       where
-        here : IsNoted side corners p x true y → y ≡ record { place = t; labelling = l } → IsTileLabelling new (corner_at corners t) l
+        here : IsNoted side corners h x true y → y ≡ record { place = t; labelling = l } → IsTileLabelling new (corner_at corners t) l
         here noted is =
             let place : x.place ≡ t = sym noted.same_place ∙ ap (λ (h : HeldLabelling). h.place) is in
             let was = subst (λ v. IsTileLabelling m (corner_at corners v) x.labelling) (sym place) (entered x.labelling (subst (Contains (x ∷ xs)) (same_held x t x.labelling place refl) (first x xs))) in
             subst (λ v. IsTileLabelling new (corner_at corners v) l) place
-            (subst (IsTileLabelling new (corner_at corners x.place)) (ap (λ (h : HeldLabelling). h.labelling) is) (noted.right refl m new differ same was))
+            (subst (IsTileLabelling new (corner_at corners x.place)) (ap (λ (h : HeldLabelling). h.labelling) is) (noted.right refl m new differ set_from same was))
 
-        by : (IsHeldAt zs t l → IsTileLabelling new (corner_at corners t) l) → (b : Bool) → IsNoted side corners p x b y → IsHeldAt (cond b (y ∷ zs) zs) t l → IsTileLabelling new (corner_at corners t) l
+        by : (IsHeldAt zs t l → IsTileLabelling new (corner_at corners t) l) → (b : Bool) → IsNoted side corners h x b y → IsHeldAt (cond b (y ∷ zs) zs) t l → IsTileLabelling new (corner_at corners t) l
         by later true noted at = elim (first_or_behind y zs (record { place = t; labelling = l }) at) [
           | inl is ↦ here noted is
           | inr there ↦ later there
         ]
         by later false noted at = later at
 
-  module _ (t : ℕ) (below : t < length corners) (out : holds side (corner_at corners t) p ≡ false) (l : TileLabelling) where
+  module _ (t : ℕ) (below : t < length corners) (out : holds side (corner_at corners t) h.point ≡ false) (l : TileLabelling) where
     abbrev one : HeldLabelling
     one = record { place = t; labelling = l }
 
-    kept_there : (x : HeldLabelling) (b : Bool) (y : HeldLabelling) → IsNoted side corners p x b y → x.place ≡ t → IsTrue b × (y.labelling ≡ x.labelling)
-    kept_there x b y noted place = noted.kept (subst (λ v. v < length corners) (sym place) below) (subst (λ v. holds side (corner_at corners v) p ≡ false) (sym place) out)
+    kept_there : (x : HeldLabelling) (b : Bool) (y : HeldLabelling) → IsNoted side corners h x b y → x.place ≡ t → IsTrue b × (y.labelling ≡ x.labelling)
+    kept_there x b y noted place = noted.kept (subst (λ v. v < length corners) (sym place) below) (subst (λ v. holds side (corner_at corners v) h.point ≡ false) (sym place) out)
 
     pub noted_kept : (xs ys : List HeldLabelling) → AreNoted xs ys → IsHeldAt ys t l ↔ IsHeldAt xs t l
     noted_kept [] ys is = subst (λ (ws : List HeldLabelling). IsHeldAt ws t l ↔ IsHeldAt [] t l) (sym is) ((λ at. at), (λ at. at))
     noted_kept (x ∷ xs) ys (b, y, noted, zs, rest, is) = subst (λ (ws : List HeldLabelling). IsHeldAt ws t l ↔ IsHeldAt (x ∷ xs) t l) (sym is) (by (noted_kept xs zs rest) b noted)
       where
-        by : IsHeldAt zs t l ↔ IsHeldAt xs t l → (b : Bool) → IsNoted side corners p x b y → IsHeldAt (cond b (y ∷ zs) zs) t l ↔ IsHeldAt (x ∷ xs) t l
+        by : IsHeldAt zs t l ↔ IsHeldAt xs t l → (b : Bool) → IsNoted side corners h x b y → IsHeldAt (cond b (y ∷ zs) zs) t l ↔ IsHeldAt (x ∷ xs) t l
         by later true noted = (
           λ at. elim (first_or_behind y zs one at) [
             | inl is ↦
@@ -224,7 +224,7 @@ module _ (side : ℕ) (corners : List Corner) (p : Point) where
         later true still = record { noted = still.noted; held = behind y zs (record { place = t; labelling = still.noted }) still.held; same = still.same; flooded = still.flooded }
         later false still = still
 
-        taken : (b : Bool) → IsNoted side corners p x b y → x.place ≡ t → x.labelling ≡ l → IsHeldStill (cond b (y ∷ zs) zs) t l
+        taken : (b : Bool) → IsNoted side corners h x b y → x.place ≡ t → x.labelling ≡ l → IsHeldStill (cond b (y ∷ zs) zs) t l
         taken true noted place labelling = record {
           noted = y.labelling;
           held = subst (Contains (y ∷ zs)) (same_held y t y.labelling (noted.same_place ∙ place) refl) (first y zs);
@@ -237,7 +237,7 @@ module _ (side : ℕ) (corners : List Corner) (p : Point) where
   noted_sides n [] ys is all = subst (All (HasSide n)) (sym is) all
   noted_sides n (x ∷ xs) ys (b, y, noted, zs, rest, is) all = subst (All (HasSide n)) (sym is) (by (noted_sides n xs zs rest (All-tail (HasSide n) x xs all)) b noted)
     where
-      by : All (HasSide n) zs → (b : Bool) → IsNoted side corners p x b y → All (HasSide n) (cond b (y ∷ zs) zs)
+      by : All (HasSide n) zs → (b : Bool) → IsNoted side corners h x b y → All (HasSide n) (cond b (y ∷ zs) zs)
       by later true noted = All-cons (HasSide n) y zs (ap (λ (g : LabelledGround). g.side) (noted.same_labelled refl) ∙ All-head (HasSide n) x xs all) later
       by later false noted = later
 

@@ -1,5 +1,5 @@
 -- A tile whose labelling is held, where the height of one point may change.
-use Rattle.std.proofs.Common.{◌≡◌, ℕ, ◌<◌, ◌≤◌, true, false, IsTrue, refl, sym, ◌∙◌, ap}
+use Rattle.std.proofs.Common.{◌≡◌, ℕ, ℤ, ◌<◌, ◌≤◌, true, false, IsTrue, refl, sym, ◌∙◌, ap, subst}
 use Rattle.std.specs.Prelude.{Option, Some, None, IsSome, IfSome, IfNone}
 use Rattle.std.proofs.lemmas.Bool.{false_from_ne_true, false≢true}
 use Rattle.lattice.specs.Corners.{Corner, is_corner}
@@ -8,7 +8,7 @@ use Rattle.lattice.specs.Lattice.{Holds, IsIndexOf, holds, index_of, point_of}
 use Rattle.lattice.specs.Mosaic.{Mosaic}
 use Rattle.lattice.proofs.Samples.{index_of_point_is, holds_is}
 use Rattle.lattice.proofs.Multiples.{some_side}
-use Rattle.tile_labellings.specs.TileLabellings.{IsTileLabelling, DifferAt as DifferAtIndex}
+use Rattle.tile_labellings.specs.TileLabellings.{IsTileLabelling, IsSetFrom, DifferAt as DifferAtIndex}
 use Rattle.tile_labellings.specs.declared.tile_labelling.TileLabelling.{TileLabelling}
 use Rattle.drainage.specs.Reaching.{is_between, DifferAt}
 use Rattle.drainage.proofs.Asked.{is_at}
@@ -36,6 +36,9 @@ module _ (m new : Mosaic) (p : Point) (differ : DifferAt m new p) (c : Corner) w
             other (sym (index_of_point_is m.side c z some index.corner small) ∙ (ap (index_of m.side c) (sym (between_itself p (point_of m.side c z) within) ∙ sym at.point) ∙ index_of_point_is m.side c e some index.corner at.below))));
         sinks = λ z small. differ.all_sinks (point_of m.side c z);
       }
+
+  pub set_at_index : (n e : ℕ) (was is : ℤ) → n ≡ m.side → IsIndexOf n c p e → IsSetFrom m new p was is → IsSetFrom m new (point_of m.side c e) was is
+  set_at_index n e was is same index = subst (λ q. IsSetFrom m new q was is) (sym (is_at m c n p e same index).point)
 
   -- or it isn't
   pub labelling_elsewhere : (n : ℕ) → n ≡ m.side → holds n c p ≡ false → (labelling : TileLabelling) → IsTileLabelling m c labelling → IsTileLabelling new c labelling

@@ -6,7 +6,8 @@ use Rattle.lattice.specs.Mosaic.{Mosaic}
 use Rattle.lattice.specs.declared.point.Point.{Point}
 use Rattle.border_graph.specs.Others.{corner_at}
 use Rattle.border_graph.specs.TileGraph.{TileGraph}
-use Rattle.tile_labellings.specs.TileLabellings.{labelled_of, is_flooded, can_note, IsTileLabelling}
+use Rattle.edits.specs.declared.edit.NewHeight.{NewHeight}
+use Rattle.tile_labellings.specs.TileLabellings.{labelled_of, is_flooded, can_note, IsSetFrom, IsTileLabelling}
 use Rattle.tile_labellings.specs.declared.tile_labelling.TileLabelling.{TileLabelling}
 use Rattle.drainage.specs.Holding.{Known, IsHeldAt, level_of}
 use Rattle.drainage.specs.Reaching.{DifferAt}
@@ -42,12 +43,12 @@ pub record IsNotedOf (gone : ℕ → Bool) (p : Point) (was is : ℤ) (known kno
   pub mended : (t : ℕ) → t < length known.corners → (labelling : TileLabelling) → IsHeldAt known.labellings t labelling → can_note labelling ≡ true → IsHeldStill known'.labellings t labelling
   pub levels : (x : ℕ) (level : ℤ) → level_of known'.levels x ≡ Some level ↔ ((level_of known.levels x ≡ Some level) × IsSpared was is level)
 
--- The height of the point may change from then on: this is noted of a labelling that is held, as far as its tile holds the
+-- The point may have this height from then on: this is noted of a labelling that is held, as far as its tile holds the
 -- point, or it isn't, and then the labelling is to be given up.
-pub record IsNoted (side : ℕ) (corners : List Corner) (p : Point) (held : HeldLabelling) (noted : Bool) (held' : HeldLabelling) : Type 0 where
+pub record IsNoted (side : ℕ) (corners : List Corner) (h : NewHeight) (held : HeldLabelling) (noted : Bool) (held' : HeldLabelling) : Type 0 where
   pub same_place : held'.place ≡ held.place
   pub same_block : has_block held' ≡ has_block held
-  pub right : IsTrue noted → (m new : Mosaic) → DifferAt m new p → m.side ≡ side → IsTileLabelling m (corner_at corners held.place) held.labelling → IsTileLabelling new (corner_at corners held.place) held'.labelling
-  pub kept : held.place < length corners → holds side (corner_at corners held.place) p ≡ false → IsTrue noted × (held'.labelling ≡ held.labelling)
+  pub right : IsTrue noted → (m new : Mosaic) → DifferAt m new h.point → IsSetFrom m new h.point h.was h.metres → m.side ≡ side → IsTileLabelling m (corner_at corners held.place) held.labelling → IsTileLabelling new (corner_at corners held.place) held'.labelling
+  pub kept : held.place < length corners → holds side (corner_at corners held.place) h.point ≡ false → IsTrue noted × (held'.labelling ≡ held.labelling)
   pub mended : held.place < length corners → can_note held.labelling ≡ true → IsTrue noted
   pub same_labelled : IsTrue noted → labelled_of held'.labelling ≡ labelled_of held.labelling

@@ -25,6 +25,7 @@ use crate::tile_cache::TileCache;
 use crate::wide_flats::WideFlats;
 use arrayvec::ArrayVec;
 use catalogue::Samples;
+use edits::NewHeight;
 use flow_d8::{Directions, Filled, Flow, Near, WideFlat};
 use lattice::{Corner, Dir, Point, Refusal, Side};
 use std::alloc::Global;
@@ -85,20 +86,20 @@ impl DrainageCache {
         self.tile_cache = Some(tile_cache);
     }
 
-    /// The height of the ground point may change from then on, from the one to the other, in metres, but no sink comes or goes:
-    /// the labellings of the tiles that hold it are mended when they are asked for; the ways of tiles that hold it or a point
-    /// beside it are given up, and where points drain; and of the levels of rim points those that aren't below both heights of
-    /// the point, nor above both. What is held serves on, for the mosaic as it was and as it becomes.
-    pub fn note_changed(&mut self, point: Point, was: i16, to: i16)
-        ensures left { IsNotedHeld point was to self.old self.new }
+    /// The ground point may have this height from then on, but no sink comes or goes: the labellings of the tiles that hold it
+    /// are mended when they are asked for, but kept ones where it lay below its level and stays there; the ways of tiles that
+    /// hold it or a point beside it are given up, and where points drain; and of the levels of rim points those that aren't
+    /// below both heights of the point, nor above both. What is held serves on, for the mosaic as it was and as it becomes.
+    pub fn note_changed(&mut self, height: &NewHeight)
+        ensures left { IsNotedHeld height.now.point height.now.was height.now.metres self.old self.new }
         ensures still { (m : Mosaic) → IsHeldOf m self.old → IsHeldOf m self.new }
-        ensures right { (m new : Mosaic) → DifferAt m new point → height_of m point ≡ At was → IsSetTo m new point to → IsHeldOf m self.old → IsHeldOf new self.new }
+        ensures right { (m new : Mosaic) → DifferAt m new height.now.point → height_of m height.now.point ≡ At height.now.was → IsSetTo m new height.now.point height.now.metres → IsHeldOf m self.old → IsHeldOf new self.new }
     {
         self.invalidate_ways();
         let Some(mut tile_cache) = self.tile_cache.take() else {
             return;
         };
-        tile_cache.note_changed(point, was, to);
+        tile_cache.note_changed(height);
         self.tile_cache = Some(tile_cache);
     }
 

@@ -47,7 +47,7 @@ fn invalidate_heights(held: &mut DrainageCache, heights: &[NewHeight])
     ensures levels { AreLevelsKept heights.now held.old held.new }
 {
     for height in heights {
-        held.note_changed(height.point, height.was, height.metres);
+        held.note_changed(height);
     }
 }
 

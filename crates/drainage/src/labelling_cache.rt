@@ -7,7 +7,7 @@ ghost use Rattle.lattice.specs.declared.refusal.Refusal.TheVariants.{NoMemory};
 ghost use Rattle.border_graph.specs.Others.{corner_at};
 ghost use Rattle.tile_labellings.specs.Labellings.{IsFlooded};
 ghost use Rattle.tile_labellings.specs.Spots.{IsLabelledAt};
-ghost use Rattle.tile_labellings.specs.TileLabellings.{labelled_of, can_note, IsCurrent, IsTileLabelling};
+ghost use Rattle.tile_labellings.specs.TileLabellings.{labelled_of, can_note, IsCurrent, IsSetFrom, IsTileLabelling};
 ghost use Rattle.tile_labellings.specs.declared.tile_labelling.TileLabelling.{TileLabelling};
 ghost use Rattle.drainage.specs.Holding.{IsHeldAt, IsEntered};
 ghost use Rattle.drainage.specs.Invalidating.{IsNoted, IsHeldStill};
@@ -16,6 +16,7 @@ ghost use Rattle.drainage.specs.Room.{most_labellings, most_blocks, HasSide, has
 
 use crate::filling::spot_of;
 use crate::reaching::is_reached;
+use edits::NewHeight;
 use lattice::{Corner, Point, Refusal, Side, index_in};
 use std::alloc::Global;
 use tile_flood::Labelled;
@@ -43,16 +44,17 @@ pub(crate) struct HeldLabelling {
 }
 
 impl HeldLabelling {
-    // The height of the point may change from then on. False where this can't be noted: then the labelling is to be given
-    // up.
-    fn note_changed(&mut self, side: Side, corners: &[Corner], point: Point) -> bool
-        ensures { IsNoted side corners.now point self.old result self.new }
+    // The point may have this height from then on. False where this can't be noted: then the labelling is to be given up.
+    fn note_changed(&mut self, side: Side, corners: &[Corner], height: &NewHeight) -> bool
+        ensures { IsNoted side corners.now height.now self.old result self.new }
     {
         let Some(corner) = corners.get(self.place) else {
             return false;
         };
-        match index_held(side, *corner, point) {
-            Some(index) => self.labelling.note_changed(index),
+        match index_held(side, *corner, height.point) {
+            Some(index) => self
+                .labelling
+                .note_changed(index, height.was, height.metres),
             None => true,
         }
     }
@@ -207,15 +209,15 @@ impl LabellingCache {
         retain_unreached(&mut self.held, side, corners, from, to);
     }
 
-    /// The height of the point may change from then on: of each tile that holds it this is noted, to mend its labelling once
-    /// that is asked for, or the labelling is given up.
-    pub(crate) fn note_changed(&mut self, side: Side, corners: &[Corner], point: Point)
-        ensures noted { (m new : Mosaic) (t : ℕ) → DifferAt m new point → m.side ≡ side → IsEntered m (corner_at corners.now t) self.old.held.items t → IsEntered new (corner_at corners.now t) self.new.held.items t }
-        ensures kept { (t : ℕ) → t < length corners.now → holds side (corner_at corners.now t) point ≡ false → (l : TileLabelling) → IsHeldAt self.new.held.items t l ↔ IsHeldAt self.old.held.items t l }
+    /// The point may have this height from then on: of each tile that holds it this is noted, to mend its labelling once that
+    /// is asked for, or the labelling is given up, unless a kept one stays as it is.
+    pub(crate) fn note_changed(&mut self, side: Side, corners: &[Corner], height: &NewHeight)
+        ensures noted { (m new : Mosaic) (t : ℕ) → DifferAt m new height.now.point → IsSetFrom m new height.now.point height.now.was height.now.metres → m.side ≡ side → IsEntered m (corner_at corners.now t) self.old.held.items t → IsEntered new (corner_at corners.now t) self.new.held.items t }
+        ensures kept { (t : ℕ) → t < length corners.now → holds side (corner_at corners.now t) height.now.point ≡ false → (l : TileLabelling) → IsHeldAt self.new.held.items t l ↔ IsHeldAt self.old.held.items t l }
         ensures mended { (t : ℕ) → t < length corners.now → (l : TileLabelling) → IsHeldAt self.old.held.items t l → can_note l ≡ true → IsHeldStill self.new.held.items t l }
         ensures side { self.new.side ≡ self.old.side }
     {
-        retain_noted(&mut self.held, side, corners, point);
+        retain_noted(&mut self.held, side, corners, height);
     }
 
     // The tile with this place is the one that was used last, where it is held.
@@ -298,16 +300,16 @@ fn retain_unreached(
     held.retain(|one| !is_reached(side, corners, from, to, one.place));
 }
 
-// The height of the point may change from then on: keeps those of which this is noted, where their tiles hold it.
-fn retain_noted(held: &mut Vec<HeldLabelling>, side: Side, corners: &[Corner], point: Point)
-    ensures noted { (m new : Mosaic) (t : ℕ) → DifferAt m new point → m.side ≡ side → IsEntered m (corner_at corners.now t) held.old.items t → IsEntered new (corner_at corners.now t) held.new.items t }
-    ensures kept { (t : ℕ) → t < length corners.now → holds side (corner_at corners.now t) point ≡ false → (l : TileLabelling) → IsHeldAt held.new.items t l ↔ IsHeldAt held.old.items t l }
+// The point may have this height from then on: keeps those of which this is noted, where their tiles hold it.
+fn retain_noted(held: &mut Vec<HeldLabelling>, side: Side, corners: &[Corner], height: &NewHeight)
+    ensures noted { (m new : Mosaic) (t : ℕ) → DifferAt m new height.now.point → IsSetFrom m new height.now.point height.now.was height.now.metres → m.side ≡ side → IsEntered m (corner_at corners.now t) held.old.items t → IsEntered new (corner_at corners.now t) held.new.items t }
+    ensures kept { (t : ℕ) → t < length corners.now → holds side (corner_at corners.now t) height.now.point ≡ false → (l : TileLabelling) → IsHeldAt held.new.items t l ↔ IsHeldAt held.old.items t l }
     ensures mended { (t : ℕ) → t < length corners.now → (l : TileLabelling) → IsHeldAt held.old.items t l → can_note l ≡ true → IsHeldStill held.new.items t l }
     ensures sides { (n : ℕ) → All (HasSide n) held.old.items → All (HasSide n) held.new.items }
     ensures count { length held.new.items ≤ length held.old.items }
     ensures blocks { count_by has_block held.new.items ≤ count_by has_block held.old.items }
 {
-    held.retain_mut(|one| one.note_changed(side, corners, point));
+    held.retain_mut(|one| one.note_changed(side, corners, height));
 }
 
 // The index of the point in the corner's tile, where that holds it.

@@ -26,6 +26,7 @@ use crate::rims::RimLevels;
 use crate::summing::summarize;
 use border_graph::{Edge, EdgeSource, place_of};
 use catalogue::Samples;
+use edits::NewHeight;
 use lattice::{Corner, Point, Refusal};
 use std::alloc::Global;
 use tile_flood::Labelled;
@@ -71,19 +72,20 @@ impl TileCache {
         self.rim_graph.invalidate_between(from, to);
     }
 
-    /// The height of the ground point may change from then on, from the one to the other, in metres, and no sink: this is noted
-    /// of the labellings of the tiles that hold it, to be mended; of the levels of rim points those are given up that may change.
-    /// Else as `invalidate_between` does.
-    pub(crate) fn note_changed(&mut self, point: Point, was: i16, to: i16)
-        ensures left { IsNotedOf (is_reached self.old.rim_graph.side self.old.rim_graph.corners.items point point) point was to (known_of self.old) (known_of self.new) }
+    /// The ground point may have this height from then on, and no sink changes: this is noted of the labellings of the tiles
+    /// that hold it, to be mended; of the levels of rim points those are given up that may change. Else as
+    /// `invalidate_between` does.
+    pub(crate) fn note_changed(&mut self, height: &NewHeight)
+        ensures left { IsNotedOf (is_reached self.old.rim_graph.side self.old.rim_graph.corners.items height.now.point height.now.point) height.now.point height.now.was height.now.metres (known_of self.old) (known_of self.new) }
         ensures still { (m : Mosaic) → IsRight m (known_of self.old) → IsRight m (known_of self.new) }
-        ensures right { (m new : Mosaic) → DifferAt m new point → height_of m point ≡ At was → IsSetTo m new point to → IsRight m (known_of self.old) → IsRight new (known_of self.new) }
+        ensures right { (m new : Mosaic) → DifferAt m new height.now.point → height_of m height.now.point ≡ At height.now.was → IsSetTo m new height.now.point height.now.metres → IsRight m (known_of self.old) → IsRight new (known_of self.new) }
     {
-        self.levels.invalidate_reached(was, to);
+        self.levels.invalidate_reached(height.was, height.metres);
         let side = self.rim_graph.side;
         self.labellings
-            .note_changed(side, &self.rim_graph.corners, point);
-        self.rim_graph.invalidate_between(point, point);
+            .note_changed(side, &self.rim_graph.corners, height);
+        self.rim_graph
+            .invalidate_between(height.point, height.point);
     }
 
     /// The labelling of the corner's tile, where it is held and none of its heights may have changed since.

@@ -2,3 +2,4 @@ mod LittleBytes
 mod Spotted
 mod Fitting
 mod Mended
+mod KeptStill

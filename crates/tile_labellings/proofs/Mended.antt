@@ -58,8 +58,8 @@ module _ (n : ℕ) (heights : List ℤ) (sinks : List ℕ) (e : ℕ) (h : ℤ) (
         let below_was : get_or was e void <ℤ get_or levels e void = subst (λ v. v <ℤ get_or levels e void) (sym alike) below in
         record {
           heights = set was e h;
-          labelling = labelling_still n was sinks levels labels before.labelling before.carried e h inside_was same below_was low ground_was;
-          carried = carried_still n was sinks levels labels before.labelling before.carried e h inside_was same below_was low ground_was;
+          labelling = labelling_still n was sinks levels labels before.labelling e h inside_was same below_was low;
+          carried = carried_still n was sinks levels labels before.labelling e h inside_was same below_was low before.carried ground_was;
           ground = λ z. sym (same z) ∙ (before.ground z ∙ same_now z);
           others = λ z solid. elim (cases_eq z e) [
             | inl is ↦ inl (subst (λ x. get_or (set was e h) x void ≡ get_or (set heights e h) x void) (sym is) (get_or-set_same was e h void inside_was ∙ sym now_at))

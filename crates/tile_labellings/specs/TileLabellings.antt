@@ -1,10 +1,12 @@
 -- What is held of a tile's labelling.
-use Rattle.std.specs.Prelude.{◌≡◌, ◌≢◌, ℕ, ◌*◌, ◌<◌, Bool, true, false, [], length, nat_lt}
+use Rattle.std.specs.Prelude.{◌≡◌, ◌≢◌, ◌⊎◌, ℕ, ℤ, ◌*◌, ◌<◌, Bool, true, false, [], length, nat_lt}
 use Rattle.lattice.specs.Corners.{Corner}
 use Rattle.lattice.specs.Ground.{is_sink}
 use Rattle.lattice.specs.Height.{height_of}
 use Rattle.lattice.specs.Lattice.{point_of}
-use Rattle.lattice.specs.Mosaic.{Mosaic}
+use Rattle.lattice.specs.Mosaic.{Mosaic, void}
+use Rattle.lattice.specs.declared.height.Height.TheVariants.{At}
+use Rattle.lattice.specs.declared.point.Point.{Point}
 use Rattle.tile_flood.specs.Blocks.{LabelledGround}
 use Rattle.tile_labellings.specs.Labellings.{IsFlooded, IsBlockBut}
 use Rattle.tile_labellings.specs.declared.tile_labelling.TileLabelling.{TileLabelling}
@@ -42,3 +44,7 @@ pub record DifferAt (c : Corner) (e : ℕ) (m new : Mosaic) : Type 0 where
   pub side : new.side ≡ m.side
   pub heights : (z : ℕ) → z < m.side * m.side → z ≢ e → height_of new (point_of m.side c z) ≡ height_of m (point_of m.side c z)
   pub sinks : (z : ℕ) → z < m.side * m.side → is_sink new (point_of m.side c z) ≡ is_sink m (point_of m.side c z)
+
+-- the point has the height that it had, or it had the one and has the other
+abbrev pub IsSetFrom : Mosaic → Mosaic → Point → ℤ → ℤ → Type 0
+IsSetFrom m new p was is = (height_of new p ≡ height_of m p) ⊎ ((height_of m p ≡ At was) × (is ≢ void → height_of new p ≡ At is))

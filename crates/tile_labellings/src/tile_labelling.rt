@@ -1,7 +1,8 @@
 //! What is held of a tile's labelling.
-ghost use Rattle.std.specs.Prelude.{◌≡◌, ◌⊎◌, ◌↔◌, true, false, IfErr, IfOk, IfSome, IsTrue};
+ghost use Rattle.std.specs.Prelude.{◌≡◌, ◌≢◌, ◌<◌, ◌<ℤ◌, ◌≤ℤ◌, ◌⊎◌, ◌↔◌, true, false, IfErr, IfOk, IfSome, IsTrue, length, slice_index_or};
 ghost use Rattle.lattice.specs.Corners.{Corner};
-ghost use Rattle.lattice.specs.Mosaic.{Mosaic};
+ghost use Rattle.lattice.specs.Lattice.{point_of};
+ghost use Rattle.lattice.specs.Mosaic.{Mosaic, void};
 ghost use Rattle.lattice.specs.declared.refusal.Refusal.TheVariants.{NoMemory};
 ghost use Rattle.catalogue.specs.Readers.{OnlyReads, reads_of};
 ghost use Rattle.catalogue.specs.Reading.{MayRefuse};
@@ -10,7 +11,7 @@ ghost use Rattle.tile_labellings.specs.Labellings.{IsFlooded};
 
 use crate::flooded_block::FloodedBlock;
 use catalogue::Samples;
-use lattice::{Corner, Refusal};
+use lattice::{Corner, Refusal, VOID};
 use std::alloc::Global;
 use tile_flood::{Labelled, Spill, spills};
 
@@ -22,7 +23,7 @@ pub enum TileLabelling {
 }
 
 impl TileLabelling {
-    ghost use Rattle.tile_labellings.specs.TileLabellings.{labelled_of, is_flooded, can_note, DifferAt, IsCurrent, IsTileLabelling};
+    ghost use Rattle.tile_labellings.specs.TileLabellings.{labelled_of, is_flooded, can_note, DifferAt, IsCurrent, IsSetFrom, IsTileLabelling};
 
     /// The levels and labels; those of the tile where no height may have changed since they were made.
     pub fn labelled(&self) -> &Labelled
@@ -67,16 +68,17 @@ impl TileLabelling {
         }
     }
 
-    /// The height of the tile's point with this index may change from then on. False where that can't be noted: then the
-    /// labelling is to be given up. A flooded block has room for 64 such points. Takes no memory.
-    pub fn note_changed(&mut self, index: u32) -> bool
-        ensures noted { IsTrue result → (m new : Mosaic) (c : Corner) → DifferAt c index m new → IsTileLabelling m c self.old → IsTileLabelling new c self.new }
+    /// The height of the tile's point with this index may change from then on, from the one to the other, in metres. False
+    /// where that can't be noted: then the labelling is to be given up. A flooded block has room for 64 such points; a kept
+    /// labelling stays valid where the point lay below its level and doesn't rise above it. Takes no memory.
+    pub fn note_changed(&mut self, index: u32, was: i16, to: i16) -> bool
+        ensures noted { IsTrue result → (m new : Mosaic) (c : Corner) → DifferAt c index m new → IsSetFrom m new (point_of m.side c index) was to → IsTileLabelling m c self.old → IsTileLabelling new c self.new }
         ensures labelled { IsTrue result → labelled_of self.new ≡ labelled_of self.old }
         ensures flooded { is_flooded self.new ≡ is_flooded self.old }
         ensures room { can_note self.old ≡ true → IsTrue result }
     {
         match self {
-            TileLabelling::Kept(_) => false,
+            TileLabelling::Kept(labelled) => stays_below(labelled, index, was, to),
             TileLabelling::Flooded(flooded) => flooded.note_changed(index),
         }
     }
@@ -123,5 +125,17 @@ impl TileLabelling {
             TileLabelling::Kept(labelled) => Some(TileLabelling::Kept(labelled)),
             TileLabelling::Flooded(flooded) => Some(TileLabelling::Kept(flooded.into_labelled())),
         }
+    }
+}
+
+// Whether the point with this index lay below its level, and doesn't rise above it.
+fn stays_below(labelled: &Labelled, index: u32, was: i16, to: i16) -> bool
+    ensures inside { IsTrue result → index < length labelled.now.levels }
+    ensures below { IsTrue result → was <ℤ slice_index_or labelled.now.levels index void }
+    ensures low { IsTrue result → (to ≢ void) × (to ≤ℤ slice_index_or labelled.now.levels index void) }
+{
+    match labelled.levels().get(index as usize) {
+        Some(level) => was < *level && to != VOID && to <= *level,
+        None => false,
     }
 }

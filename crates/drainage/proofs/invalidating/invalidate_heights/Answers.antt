@@ -1,14 +1,10 @@
-use Rattle.std.proofs.lemmas.Int.{to_z-of_z}
-use Rattle.drainage.specs.Spared.{IsSetTo}
-use Rattle.std.proofs.Common.{rules, SFits, w16, to_z, of_z, ℤ, sym, ◌≡◌, inr, ◌+◌, List, get_or, take, pos, refl, subst}
+use Rattle.std.proofs.Common.{inr, ◌+◌, List, get_or, take, pos, refl, subst}
 use Rattle.std.specs.Prelude.{Some}
 use Rattle.std.proofs.lemmas.List.{take_all}
-use Rattle.lattice.specs.declared.height.Height.TheVariants.{At}
-use Rattle.lattice.specs.Height.{height_of}
 use Rattle.edits.specs.declared.edit.NewHeight.{NewHeight}
 use Rattle.edits.specs.Edits.{with_heights}
 use Rattle.edits.proofs.EditStale.{read_within}
-use Rattle.drainage.specs.Between.{IsHeldOf, are_noted}
+use Rattle.drainage.specs.Between.{IsHeldOf}
 use Rattle.drainage.proofs.Beyond.{all_kept, all_levels_kept, kept_by_noted, one_kept, one_levels_kept}
 use Rattle.drainage.proofs.EditedBox.{differ_more, earlier_at, set_more}
 use Rattle.drainage.proofs.invalidating.invalidate_heights.Goals as goal
@@ -29,22 +25,15 @@ loop-height-preserved c =
     let heights = c.args.heights.now in
     let i = c.loop-height.height-index in
     let h = get_or heights i none in
-    let fits : SFits w16 (get_or c.args.heights.now c.loop-height.height-index none).metres = search rules in
-    let had : SFits w16 (get_or c.args.heights.now c.loop-height.height-index none).was = search rules in
-    let noted : are_noted h.point h.was h.metres c.loop-height.held.tile_cache c.note_changed.new.self.tile_cache =
-    subst (λ (u : ℤ). are_noted h.point u h.metres c.loop-height.held.tile_cache c.note_changed.new.self.tile_cache) (to_z-of_z w16 h.was had)
-    (subst (λ (v : ℤ). are_noted h.point (to_z w16 (of_z w16 h.was)) v c.loop-height.held.tile_cache c.note_changed.new.self.tile_cache) (to_z-of_z w16 h.metres fits) c.note_changed.ensures.left) in
     record {
       still = λ m valid right. c.note_changed.ensures.still m (c.loop-height.invariant.still m valid right);
       changed = λ m valid earlier right. c.note_changed.ensures.right (with_heights (take i heights) m) (with_heights (take (i + 1) heights) m)
           (differ_more heights i h m valid c.loop-height-test.true (read_within heights i none h c.loop-height-test.true))
-          (subst (λ (v : ℤ). height_of (with_heights (take i heights) m) h.point ≡ At v) (sym (to_z-of_z w16 h.was had))
-          (earlier_at heights i h m c.loop-height-test.true (read_within heights i none h c.loop-height-test.true) earlier))
-          (subst (λ (v : ℤ). IsSetTo (with_heights (take i heights) m) (with_heights (take (i + 1) heights) m) h.point v) (sym (to_z-of_z w16 h.metres fits))
-          (inr (set_more heights i h m valid c.loop-height-test.true (read_within heights i none h c.loop-height-test.true)))) (c.loop-height.invariant.changed m valid earlier right);
+          (earlier_at heights i h m c.loop-height-test.true (read_within heights i none h c.loop-height-test.true) earlier)
+          (inr (set_more heights i h m valid c.loop-height-test.true (read_within heights i none h c.loop-height-test.true))) (c.loop-height.invariant.changed m valid earlier right);
       kept = one_kept (λ (x : NewHeight). Some x.point) heights i h h.point c.args.held.now.tile_cache c.loop-height.held.tile_cache c.note_changed.new.self.tile_cache c.loop-height-test.true (read_within heights i none h c.loop-height-test.true) refl
-          (kept_by_noted h.point h.was h.metres c.loop-height.held.tile_cache c.note_changed.new.self.tile_cache noted) c.loop-height.invariant.kept;
-      levels = one_levels_kept heights i h c.args.held.now.tile_cache c.loop-height.held.tile_cache c.note_changed.new.self.tile_cache c.loop-height-test.true (read_within heights i none h c.loop-height-test.true) noted c.loop-height.invariant.levels;
+          (kept_by_noted h.point h.was h.metres c.loop-height.held.tile_cache c.note_changed.new.self.tile_cache c.note_changed.ensures.left) c.loop-height.invariant.kept;
+      levels = one_levels_kept heights i h c.args.held.now.tile_cache c.loop-height.held.tile_cache c.note_changed.new.self.tile_cache c.loop-height-test.true (read_within heights i none h c.loop-height-test.true) c.note_changed.ensures.left c.loop-height.invariant.levels;
     }
 
 pub returns-clause-changed : goal.returns-clause-changed

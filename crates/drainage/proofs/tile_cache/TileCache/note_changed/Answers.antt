@@ -1,10 +1,11 @@
 use Rattle.std.proofs.lemmas.Int.{to_z-of_z}
-use Rattle.std.proofs.Common.{rules, SFits, w16, to_z, of_z, ℤ, ◌≡◌, ◌<◌, ℕ, true, false, List, length, refl, sym, subst}
+use Rattle.std.proofs.Common.{rules, SFits, w16, to_z, of_z, ℤ, ◌≡◌, ◌<◌, ℕ, true, false, List, length, inl, inr, refl, sym, ap, subst}
 use Rattle.std.specs.Prelude.{◌↔◌}
 use Rattle.lattice.specs.Corners.{Corner}
+use Rattle.lattice.specs.Ground.{is_height}
 use Rattle.lattice.specs.Lattice.{holds}
 use Rattle.border_graph.specs.Others.{corner_at}
-use Rattle.tile_labellings.specs.TileLabellings.{can_note}
+use Rattle.tile_labellings.specs.TileLabellings.{can_note, IsSetFrom}
 use Rattle.tile_labellings.specs.declared.tile_labelling.TileLabelling.{TileLabelling}
 use Rattle.drainage.specs.Holding.{IsEntered, IsHeldAt, IsRimLevel}
 use Rattle.drainage.specs.Invalidating.{IsHeldStill}
@@ -30,32 +31,34 @@ pub returns-clause-left : goal.returns-clause-left
 returns-clause-left c =
     let was = c.args.self.now in
     let rim_graph = c.invalidate_between.ensures in
-    let had : SFits w16 c.args.was = search rules in
-    let fits : SFits w16 c.args.to = search rules in
+    let h = c.args.height.now in
+    let had : SFits w16 h.was = search rules in
+    let fits : SFits w16 h.metres = search rules in
     let seen = c.invalidate_reached.ensures in
     record {
       same_side = rim_graph.side;
       same_corners = rim_graph.corners;
       whole = rim_graph.whole;
       loaded = rim_graph.loaded;
-      labellings = subst (λ (cs : List Corner). (t : ℕ) → t < length cs → holds was.rim_graph.side (corner_at cs t) c.args.point ≡ false → (l : TileLabelling) → IsHeldAt c.note_changed.new.self.held.items t l ↔ IsHeldAt was.labellings.held.items t l)
+      labellings = subst (λ (cs : List Corner). (t : ℕ) → t < length cs → holds was.rim_graph.side (corner_at cs t) h.point ≡ false → (l : TileLabelling) → IsHeldAt c.note_changed.new.self.held.items t l ↔ IsHeldAt was.labellings.held.items t l)
           c.deref.ensures.value c.note_changed.ensures.kept;
       mended = subst (λ (cs : List Corner). (t : ℕ) → t < length cs → (l : TileLabelling) → IsHeldAt was.labellings.held.items t l → can_note l ≡ true → IsHeldStill c.note_changed.new.self.held.items t l)
           c.deref.ensures.value c.note_changed.ensures.mended;
       levels = λ x level. (
-        (λ at. ((seen.left x level at).0, spared_as c.args.was c.args.to level had fits (seen.left x level at).1)),
-        (λ had_spared. seen.kept x level had_spared.0 (passed_on_as c.args.was c.args.to level had fits had_spared.1)),
+        (λ at. ((seen.left x level at).0, spared_as h.was h.metres level had fits (seen.left x level at).1)),
+        (λ had_spared. seen.kept x level had_spared.0 (passed_on_as h.was h.metres level had fits had_spared.1)),
       );
     }
 
 pub returns-clause-still : goal.returns-clause-still
 returns-clause-still c m right =
     let was = c.args.self.now in
-    let same : DifferAt m m c.args.point = record { around = unmoved m c.args.point c.args.point; all_sinks = λ q. refl } in
-    noted_right m m c.args.point c.args.was c.args.to (known_of was) (known_by c.invalidate_between.new.self c.note_changed.new.self c.invalidate_reached.new.self) same
+    let h = c.args.height.now in
+    let same : DifferAt m m h.point = record { around = unmoved m h.point h.point; all_sinks = λ q. refl } in
+    noted_right m m h.point h.was h.metres (known_of was) (known_by c.invalidate_between.new.self c.note_changed.new.self c.invalidate_reached.new.self) same
     (returns-clause-left c)
     (λ t. subst (λ (cs : List Corner). IsEntered m (corner_at cs t) was.labellings.held.items t → IsEntered m (corner_at cs t) c.note_changed.new.self.held.items t) c.deref.ensures.value
-    (c.note_changed.ensures.noted m m t same (sym right.ready.same_side)))
+    (c.note_changed.ensures.noted m m t same (inl refl) (sym right.ready.same_side)))
     (λ x level at.
     let seen = c.invalidate_reached.ensures.left x level at in
     subst (λ (cs : List Corner). IsRimLevel m cs x level) (sym c.invalidate_between.ensures.corners) (right.levels x level seen.0))
@@ -64,16 +67,18 @@ returns-clause-still c m right =
 pub returns-clause-right : goal.returns-clause-right
 returns-clause-right c m new differ before set right =
     let was = c.args.self.now in
-    let had : SFits w16 c.args.was = search rules in
-    let fits : SFits w16 c.args.to = search rules in
+    let h = c.args.height.now in
+    let had : SFits w16 h.was = search rules in
+    let fits : SFits w16 h.metres = search rules in
     let corners = was.rim_graph.corners.items in
-    noted_right m new c.args.point c.args.was c.args.to (known_of was) (known_by c.invalidate_between.new.self c.note_changed.new.self c.invalidate_reached.new.self) differ
+    let set_from : IsSetFrom m new h.point h.was h.metres = elim set [ inl same ↦ inl same | inr to ↦ inr (before, λ full. to full (ap is_height before)) ] in
+    noted_right m new h.point h.was h.metres (known_of was) (known_by c.invalidate_between.new.self c.note_changed.new.self c.invalidate_reached.new.self) differ
     (returns-clause-left c)
     (λ t. subst (λ (cs : List Corner). IsEntered m (corner_at cs t) was.labellings.held.items t → IsEntered new (corner_at cs t) c.note_changed.new.self.held.items t) c.deref.ensures.value
-    (c.note_changed.ensures.noted m new t differ (sym right.ready.same_side)))
+    (c.note_changed.ensures.noted m new t differ set_from (sym right.ready.same_side)))
     (λ x level at.
     let seen = c.invalidate_reached.ensures.left x level at in
-    let spared = spared_as c.args.was c.args.to level had fits seen.1 in
+    let spared = spared_as h.was h.metres level had fits seen.1 in
     subst (λ (cs : List Corner). IsRimLevel new cs x level) (sym c.invalidate_between.ensures.corners)
-    (spared_level m new c.args.point differ c.args.was c.args.to before set corners x level spared (right.levels x level seen.0)))
+    (spared_level m new h.point differ h.was h.metres before set corners x level spared (right.levels x level seen.0)))
     right

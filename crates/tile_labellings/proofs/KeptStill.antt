@@ -1,0 +1,89 @@
+-- A kept labelling stays that of its tile where a point changes its height below its level.
+use Rattle.std.proofs.Common.{◌≡◌, ◌≢◌, ℕ, ◌*◌, ◌<◌, ℤ, ◌≤ℤ◌, ◌<ℤ◌, IsTrue, List, length, set, get_or, inl, inr, sym, ap, ◌∙◌, subst, arith, nat_lt, lt-ltb, true≢false, get_or-set_same, get_or-set_other}
+use Rattle.std.proofs.lemmas.Bool.{cases_Bool, cases_eq, and_from}
+use Rattle.std.proofs.lemmas.Int.{ints}
+use Rattle.std.proofs.lemmas.List.{length-set}
+use Rattle.lattice.specs.Block.{Block, IsBlockOf, is_solid, is_sink_at}
+use Rattle.lattice.specs.Corners.{Corner}
+use Rattle.lattice.specs.Ground.{metres, is_sink}
+use Rattle.lattice.specs.Height.{height_of}
+use Rattle.lattice.specs.Lattice.{point_of}
+use Rattle.lattice.specs.Mosaic.{Mosaic, void}
+use Rattle.lattice.proofs.IntTests.{eq_or_not}
+use Rattle.tile_flood.specs.Blocks.{LabelledGround, block_of}
+use Rattle.tile_flood.specs.Flooding.{is_marked}
+use Rattle.tile_flood.specs.Labelling.{IsLabelling}
+use Rattle.tile_flood.proofs.BelowLevel.{labelling_still}
+use Rattle.tile_flood.proofs.Dependence.{same_ground}
+use Rattle.tile_flood.proofs.Squares.{test_if}
+use Rattle.tile_labellings.specs.Labellings.{IsFlooded}
+use Rattle.tile_labellings.specs.TileLabellings.{DifferAt, IsSetFrom}
+
+no_level : (was level : ℤ) → was <ℤ level → was ≡ void → level ≡ void → ⊥
+no_level was level less is none = absurd (omega (arith, ints))
+
+-- a point below its level is ground
+below_is_ground : (b : Block) (labelled : LabelledGround) (e : ℕ) → IsLabelling b labelled.levels labelled.labels → e < b.side * b.side → get_or b.heights e void <ℤ get_or labelled.levels e void → IsTrue (is_solid b e)
+below_is_ground b labelled e labelling small below = elim (cases_Bool (is_solid b e)) [
+  | inl solid ↦ solid
+  | inr gap ↦ absurd (elim (eq_or_not (get_or b.heights e void) void) [
+    | inl none ↦ no_level (get_or b.heights e void) (get_or labelled.levels e void) below none (labelling.void_points e small gap).0
+    | inr some ↦ true≢false (sym (and_from (nat_lt e (b.side * b.side)) (is_marked b.heights e) (lt-ltb e (b.side * b.side) small) (test_if (get_or b.heights e void) some)) ∙ gap)
+  ])
+]
+
+module _ (m new : Mosaic) (c : Corner) (e : ℕ) (differ : DifferAt c e m new) (labelled : LabelledGround) (is : IsFlooded m c labelled) where
+  abbrev b : Block
+  b = is.valid.0
+
+  of_tile : IsBlockOf m c b
+  of_tile = is.valid.1.0
+
+  abbrev heights_of : (heights : List ℤ) → Type 0
+  heights_of heights = (z : ℕ) → z < m.side * m.side → get_or heights z void ≡ metres (height_of new (point_of m.side c z))
+
+  block_of_new : (heights : List ℤ) → length heights ≡ m.side * m.side → heights_of heights → IsBlockOf new c (block_of b.side heights b.sinks)
+  block_of_new heights whole values = record {
+    side = of_tile.side ∙ sym differ.side;
+    heights = record {
+      whole = whole ∙ ap (λ n. n * n) (sym differ.side);
+      values = subst (λ n. (z : ℕ) → z < n * n → get_or heights z void ≡ metres (height_of new (point_of n c z))) (sym differ.side) values;
+    };
+    sinks = subst (λ n. (z : ℕ) → z < n * n → is_sink_at b z ≡ is_sink new (point_of n c z)) (sym differ.side) (λ z small. of_tile.sinks z small ∙ sym (differ.sinks z small));
+  }
+
+  pub kept_still : (was to : ℤ) → IsSetFrom m new (point_of m.side c e) was to → e < length labelled.levels → was <ℤ get_or labelled.levels e void → to ≢ void → to ≤ℤ get_or labelled.levels e void → IsFlooded new c labelled
+  kept_still was to set_from inside below full low = elim set_from [
+    | inl same ↦ record {
+      side = is.side ∙ sym differ.side;
+      valid = (
+        b,
+        (
+          block_of_new b.heights of_tile.heights.whole (λ z small. elim (cases_eq z e) [
+            | inl at ↦ of_tile.heights.values z small ∙ ap metres (subst (λ x. height_of m (point_of m.side c x) ≡ height_of new (point_of m.side c x)) (sym at) (sym same))
+            | inr other ↦ of_tile.heights.values z small ∙ ap metres (sym (differ.heights z small other))
+          ]),
+          is.valid.1.1,
+        ),
+      );
+    }
+    | inr set_to ↦
+        let small : e < m.side * m.side = subst (λ k. e < k) (is.valid.1.1.levels_whole ∙ ap (λ n. n * n) of_tile.side) inside in
+        let in_heights : e < length b.heights = subst (λ k. e < k) (sym of_tile.heights.whole) small in
+        let had : get_or b.heights e void ≡ was = of_tile.heights.values e small ∙ ap metres set_to.0 in
+        let under : get_or b.heights e void <ℤ get_or labelled.levels e void = subst (λ v. v <ℤ get_or labelled.levels e void) (sym had) below in
+        let ground = below_is_ground b labelled e is.valid.1.1 (subst (λ k. e < k) is.valid.1.1.levels_whole inside) under in
+        record {
+          side = is.side ∙ sym differ.side;
+          valid = (
+            block_of b.side (set b.heights e to) b.sinks,
+            (
+              block_of_new (set b.heights e to) (length-set b.heights e to ∙ of_tile.heights.whole) (λ z z_small. elim (cases_eq z e) [
+                | inl at ↦ subst (λ x. get_or (set b.heights e to) x void ≡ metres (height_of new (point_of m.side c x))) (sym at) (get_or-set_same b.heights e to void in_heights ∙ sym (ap metres (set_to.1 full)))
+                | inr other ↦ get_or-set_other b.heights e z to void other ∙ (of_tile.heights.values z z_small ∙ ap metres (sym (differ.heights z z_small other)))
+              ]),
+              labelling_still b.side b.heights b.sinks labelled.levels labelled.labels is.valid.1.1 e to in_heights (same_ground b.side b.heights b.sinks e to in_heights ground full) under low,
+            ),
+          );
+        }
+  ]
