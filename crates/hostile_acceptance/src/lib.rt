@@ -21,6 +21,8 @@ mod image;
 #[cfg(test)]
 mod image_rows;
 #[cfg(test)]
+mod kept_planes;
+#[cfg(test)]
 mod line_rows;
 #[cfg(test)]
 mod mutations;
