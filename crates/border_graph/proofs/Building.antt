@@ -1,19 +1,19 @@
 -- The list of links as it grows.
-use Rattle.std.proofs.Common.{◌≡◌, ◌≢◌, ℕ, ◌+◌, ◌*◌, ◌-◌, ◌<◌, ◌≤◌, ◌⊎◌, inl, inr, ℤ, ◌≤ℤ◌, List, length, get_or, refl, sym, ap, ◌∙◌, subst, arith, true, Contains, SFits, w16}
+use Rattle.std.proofs.Common.{◌≡◌, ◌≢◌, ℕ, ◌+◌, ◌*◌, ◌-◌, ◌<◌, ◌≤◌, inl, inr, ℤ, ◌≤ℤ◌, List, length, get_or, sym, ap, ◌∙◌, subst, arith, SFits, w16}
 use Rattle.std.proofs.lemmas.Int.{ints}
 use Rattle.std.proofs.lemmas.Bool.{cases_lt}
 use Rattle.std.proofs.lemmas.List.{get_or_default}
-use Rattle.tile_flood.specs.Labelling.{OUT}
-use Rattle.tile_flood.specs.declared.passing.Spill.{Spill}
 use Rattle.std.proofs.Math.Nat.{mul-le-mul_right}
 use Rattle.lattice.specs.Mosaic.{void}
 use Rattle.border_graph.specs.declared.link.Link.{Link}
 use Rattle.border_graph.specs.declared.summary.RimPoint.{RimPoint}
 use Rattle.border_graph.specs.Summaries.{Summary}
-use Rattle.border_graph.specs.Joining.{Node, Outlet, Rim, IsThere, IsLink, IsOutletLink, IsLabelLink, IsSpillLink, rim_point, summary_at}
+use Rattle.border_graph.specs.Joining.{Node, Outlet, Rim, IsThere, IsLink, rim_point, summary_at}
 use Rattle.border_graph.specs.RimLookup.{IsThereAt}
 use Rattle.border_graph.specs.Rising.{IsListed, AreLinks}
-use Rattle.border_graph.specs.Linking.{node_number, AreListedStill, IsAddedTo, AreSoFar, AreLabelsListed, IsSpillListed, AreSpillsListed}
+use Rattle.border_graph.specs.Linking.{node_number, AreListedStill, IsAddedTo, AreSoFar}
+use Rattle.border_graph.specs.Sharing.{IsInside, IsEdgeListed}
+use Rattle.border_graph.specs.declared.edge_source.Edge.{Edge}
 use Rattle.border_graph.proofs.Listed.{is_there}
 
 -- numbers of nodes are below the number of nodes
@@ -74,97 +74,47 @@ height_at n summaries t k point h = ap (λ (p : RimPoint). p.height) h.is
 fits_above : (v : ℤ) → SFits w16 v → void ≤ℤ v
 fits_above v fits = omega (arith, ints)
 
--- an outlet, or a point that is labelled OUT
-pub outlets_so_far : (n : ℕ) (summaries : List Summary) (old new : List (List Link)) (t k : ℕ) (point : RimPoint) (link : Link) → IsThereAt n summaries t k point → AreSoFar n summaries old →
-    (point.outlet ≡ true) ⊎ (point.label ≡ OUT) → link.from ≡ node_number n (Rim t k) → link.level ≡ point.height → SFits w16 point.height → IsAddedTo old new 0 link → AreSoFar n summaries new
-outlets_so_far n summaries old new t k point link h s why from level fits a = so_far_more n summaries old new 0 link t k Outlet s a from refl (h.there, way why)
-    (subst (λ v. void ≤ℤ v) (sym level) (fits_above point.height fits), λ same. h.there.solid (height_at n summaries t k point h ∙ (sym level ∙ same)))
-  where
-    at : (rim_point (summary_at summaries t) k).height ≡ link.level
-    at = height_at n summaries t k point h ∙ sym level
+-- the link of an edge inside a tile is listed
+module _ (n : ℕ) (summaries : List Summary) (old new : List (List Link)) (t k to : ℕ) (way : Edge) (link : Link) (s : AreSoFar n summaries old) (inside : IsInside n summaries t k way) (from : link.from ≡ node_number n (Rim t k)) (level : link.level ≡ way.level)
+    (full : way.level ≢ void) (fits : SFits w16 way.level) (out : way.to ≡ 0 → to ≡ 0) (across : (l : ℕ) → way.to ≡ 1 + l → to ≡ node_number n (Rim t l)) (a : IsAddedTo old new to link) where
+  pub edge_so_far : AreSoFar n summaries new
+  edge_so_far = elim inside [
+    | inl (at, is) ↦ so_far_more n summaries old new to link t k Outlet s a from (out at) (subst (IsLink n summaries (Rim t k) Outlet) (sym level) is) height
+    | inr (l, (at, is)) ↦ so_far_more n summaries old new to link t k (Rim t l) s a from (across l at) (subst (IsLink n summaries (Rim t k) (Rim t l)) (sym level) is) height
+  ]
+    where
+      height : (void ≤ℤ link.level) × (link.level ≢ void)
+      height = (subst (λ v. void ≤ℤ v) (sym level) (fits_above way.level fits), λ same. full (sym level ∙ same))
 
-    way : (point.outlet ≡ true) ⊎ (point.label ≡ OUT) → IsOutletLink n summaries t k link.level ⊎ (IsLabelLink n summaries t k OUT link.level ⊎ IsSpillLink n summaries t k OUT link.level)
-    way (inl outlet) = inl (record { outlet = ap (λ (p : RimPoint). p.outlet) h.is ∙ outlet; height = at })
-    way (inr label) = inr (inl (record { names = ap (λ (p : RimPoint). p.label) h.is ∙ label; height = at }))
+  pub edge_listed : IsEdgeListed n new t k way
+  edge_listed = record { out = λ at. here 0 (out at); across = λ l at. here (node_number n (Rim t l)) (across l at) }
+    where
+      here : (y : ℕ) → to ≡ y → IsListed new (node_number n (Rim t k)) y way.level
+      here y is = subst (λ v. IsListed new (node_number n (Rim t k)) y v) level (subst (λ x. IsListed new x y link.level) from (subst (λ z. IsListed new link.from z link.level) is a.listed))
 
--- a point and the one that its label names
-module _ (n : ℕ) (summaries : List Summary) (old mid new : List (List Link)) (t k : ℕ) (point : RimPoint) (first second : Link) (h : IsThereAt n summaries t k point) (named : IsThere n summaries t point.label)
-    (s : AreSoFar n summaries old) (first_from : first.from ≡ node_number n (Rim t k)) (second_from : second.from ≡ node_number n (Rim t point.label)) (first_level : first.level ≡ point.height) (second_level : second.level ≡ point.height)
-    (fits : SFits w16 point.height) (one : IsAddedTo old mid (node_number n (Rim t point.label)) first) (two : IsAddedTo mid new (node_number n (Rim t k)) second) where
-  full : (v : ℤ) → v ≡ point.height → v ≢ void
-  full v is same = h.there.solid (height_at n summaries t k point h ∙ (sym is ∙ same))
+-- where an edge inside a tile starts and ends there are rim points
+pub start_there : (n : ℕ) (summaries : List Summary) (t k : ℕ) (way : Edge) → IsInside n summaries t k way → IsThere n summaries t k
+start_there n summaries t k way (inl (at, is)) = is.0
+start_there n summaries t k way (inr (l, (at, is))) = is.0
 
-  label_link : (v : ℤ) → v ≡ point.height → IsLabelLink n summaries t k point.label v
-  label_link v is = record { names = ap (λ (p : RimPoint). p.label) h.is; height = height_at n summaries t k point h ∙ sym is }
+pub end_there : (n : ℕ) (summaries : List Summary) (t k : ℕ) (way : Edge) → IsInside n summaries t k way → (l : ℕ) → way.to ≡ 1 + l → IsThere n summaries t l
+end_there n summaries t k way (inl (at, is)) l to = absurd (omega arith)
+end_there n summaries t k way (inr (j, (at, is))) l to = let same : j ≡ l = omega arith in subst (IsThere n summaries t) same is.1.0
 
-  labels_so_far : AreSoFar n summaries new
-  labels_so_far =
-      so_far_more n summaries mid new (node_number n (Rim t k)) second t point.label (Rim t k)
-      (so_far_more n summaries old mid (node_number n (Rim t point.label)) first t k (Rim t point.label) s one first_from refl (h.there, (named, inl (refl, inl (label_link first.level first_level)))) (subst (λ v. void ≤ℤ v) (sym first_level) (fits_above point.height fits), full first.level first_level))
-      two second_from refl (named, (h.there, inl (refl, inr (inl (label_link second.level second_level)))))
-      (subst (λ v. void ≤ℤ v) (sym second_level) (fits_above point.height fits), full second.level second_level)
-
-  labels_listed : AreLabelsListed n summaries new t k
-  labels_listed l level here there label =
-      let name : point.label ≡ l = sym (ap (λ (p : RimPoint). p.label) h.is) ∙ label.names in
-      let at : point.height ≡ level = sym (height_at n summaries t k point h) ∙ label.height in
-      subst (λ j. IsListed new (node_number n (Rim t k)) (node_number n (Rim t j)) level × IsListed new (node_number n (Rim t j)) (node_number n (Rim t k)) level) name (
-        subst (λ v. IsListed new (node_number n (Rim t k)) (node_number n (Rim t point.label)) v) (first_level ∙ at)
-            (subst (λ x. IsListed new x (node_number n (Rim t point.label)) first.level) first_from (two.others first.from (node_number n (Rim t point.label)) first.level one.listed)),
-        subst (λ v. IsListed new (node_number n (Rim t point.label)) (node_number n (Rim t k)) v) (second_level ∙ at)
-            (subst (λ x. IsListed new x (node_number n (Rim t k)) second.level) second_from two.listed),
-      )
-
-  pub labels_linked : AreSoFar n summaries new × AreLabelsListed n summaries new t k
-  labels_linked = (labels_so_far, labels_listed)
-
--- a spill
-module _ (n : ℕ) (summaries : List Summary) (old mid new : List (List Link)) (t : ℕ) (spill : Spill) (has : Contains (summary_at summaries t).spills spill) (there_a : IsThere n summaries t spill.a) (s : AreSoFar n summaries old) (full : spill.level ≢ void) where
-  spill_at : (v : ℤ) → v ≡ spill.level → Contains (summary_at summaries t).spills (record { a = spill.a; b = spill.b; level = v })
-  spill_at v is = subst (λ l. Contains (summary_at summaries t).spills (record { a = spill.a; b = spill.b; level = l })) (sym is) has
-
-  pub spill_out_so_far : (link : Link) → spill.b ≡ OUT → link.from ≡ node_number n (Rim t spill.a) → link.level ≡ spill.level → SFits w16 spill.level → IsAddedTo old new 0 link → AreSoFar n summaries new
-  spill_out_so_far link out from level fits a = so_far_more n summaries old new 0 link t spill.a Outlet s a from refl
-      (there_a, inr (inr (subst (λ b. Contains (summary_at summaries t).spills (record { a = spill.a; b = b; level = link.level })) out (spill_at link.level level))))
-      (subst (λ v. void ≤ℤ v) (sym level) (fits_above spill.level fits), λ same. full (sym level ∙ same))
-
-  module _ (there_b : IsThere n summaries t spill.b) (first second : Link) (first_from : first.from ≡ node_number n (Rim t spill.a)) (second_from : second.from ≡ node_number n (Rim t spill.b)) (first_level : first.level ≡ spill.level) (second_level : second.level ≡ spill.level)
-      (fits : SFits w16 spill.level) (one : IsAddedTo old mid (node_number n (Rim t spill.b)) first) (two : IsAddedTo mid new (node_number n (Rim t spill.a)) second) where
-    spill_so_far : AreSoFar n summaries new
-    spill_so_far =
-        so_far_more n summaries mid new (node_number n (Rim t spill.a)) second t spill.b (Rim t spill.a)
-        (so_far_more n summaries old mid (node_number n (Rim t spill.b)) first t spill.a (Rim t spill.b) s one first_from refl (there_a, (there_b, inl (refl, inr (inr (inl (spill_at first.level first_level)))))) (subst (λ v. void ≤ℤ v) (sym first_level) (fits_above spill.level fits), λ same. full (sym first_level ∙ same)))
-        two second_from refl (there_b, (there_a, inl (refl, inr (inr (inr (spill_at second.level second_level))))))
-        (subst (λ v. void ≤ℤ v) (sym second_level) (fits_above spill.level fits), λ same. full (sym second_level ∙ same))
-
-    spill_listed : spill.b ≢ OUT → IsSpillListed n summaries new t spill
-    spill_listed inner = record {
-      out = λ _ out _. absurd (inner out);
-      inner = λ _ _ _. (
-        subst (λ v. IsListed new (node_number n (Rim t spill.a)) (node_number n (Rim t spill.b)) v) first_level
-            (subst (λ x. IsListed new x (node_number n (Rim t spill.b)) first.level) first_from (two.others first.from (node_number n (Rim t spill.b)) first.level one.listed)),
-        subst (λ v. IsListed new (node_number n (Rim t spill.b)) (node_number n (Rim t spill.a)) v) second_level
-            (subst (λ x. IsListed new x (node_number n (Rim t spill.a)) second.level) second_from two.listed),
-      );
-    }
-
-    pub spill_linked : AreSoFar n summaries new × (spill.b ≢ OUT → IsSpillListed n summaries new t spill)
-    spill_linked = (spill_so_far, spill_listed)
-
-pub spill_still : (n : ℕ) (summaries : List Summary) (old new : List (List Link)) (t : ℕ) (spill : Spill) → AreListedStill old new → IsSpillListed n summaries old t spill → IsSpillListed n summaries new t spill
-spill_still n summaries old new t spill still was = record {
-  out = λ full out there. still (node_number n (Rim t spill.a)) 0 spill.level (was.out full out there);
-  inner = λ full a b. let both = was.inner full a b in
-      (still (node_number n (Rim t spill.a)) (node_number n (Rim t spill.b)) spill.level both.0, still (node_number n (Rim t spill.b)) (node_number n (Rim t spill.a)) spill.level both.1);
+pub edge_still : (n : ℕ) (old new : List (List Link)) (t k : ℕ) (way : Edge) → AreListedStill old new → IsEdgeListed n old t k way → IsEdgeListed n new t k way
+edge_still n old new t k way still was = record {
+  out = λ at. still (node_number n (Rim t k)) 0 way.level (was.out at);
+  across = λ l at. still (node_number n (Rim t k)) (node_number n (Rim t l)) way.level (was.across l at);
 }
 
--- one spill more
-pub spills_more : (n : ℕ) (summaries : List Summary) (old new : List (List Link)) (t j : ℕ) (spills : List Spill) (d : Spill) → spills ≡ (summary_at summaries t).spills → j < length spills → AreListedStill old new →
-    AreSpillsListed n summaries old t j → IsSpillListed n summaries new t (get_or spills j d) → AreSpillsListed n summaries new t (j + 1)
-spills_more n summaries old new t j spills d same small still was now i e less = elim (cases_lt i j) [
-  | inl earlier ↦ spill_still n summaries old new t (get_or (summary_at summaries t).spills i e) still (was i e earlier)
+-- one edge more
+pub edges_more : (n : ℕ) (old new : List (List Link)) (t k i : ℕ) (edges : List Edge) (d : Edge) → i < length edges → AreListedStill old new
+    → ((j : ℕ) (e : Edge) → j < i → (get_or edges j e).level ≢ void → IsEdgeListed n old t k (get_or edges j e)) → ((get_or edges i d).level ≢ void → IsEdgeListed n new t k (get_or edges i d))
+    → (j : ℕ) (e : Edge) → j < i + 1 → (get_or edges j e).level ≢ void → IsEdgeListed n new t k (get_or edges j e)
+edges_more n old new t k i edges d small still was now j e less = elim (cases_lt j i) [
+  | inl earlier ↦ λ full. edge_still n old new t k (get_or edges j e) still (was j e earlier full)
   | inr later ↦
-      let here : j ≡ i = omega arith in
-      let at : get_or spills j d ≡ get_or (summary_at summaries t).spills i e = get_or_default spills j d e small ∙ (ap (λ (l : List Spill). get_or l j e) same ∙ ap (λ k. get_or (summary_at summaries t).spills k e) here) in
-      subst (IsSpillListed n summaries new t) at now
+      let here : i ≡ j = omega arith in
+      let at : get_or edges i d ≡ get_or edges j e = get_or_default edges i d e small ∙ ap (λ x. get_or edges x e) here in
+      subst (λ (w : Edge). w.level ≢ void → IsEdgeListed n new t k w) at now
 ]

@@ -2,6 +2,7 @@ pub mod Added
 pub mod Building
 pub mod Heaps
 pub mod Joined
+pub mod Inside
 pub mod Linked
 pub mod Parts
 pub mod Listed
@@ -20,7 +21,7 @@ pub mod Crested
 pub mod Listing
 pub mod Told
 pub mod Others
-pub mod RowsTogether
+pub mod RowSteps
 pub mod Connected
 pub mod Roots
 pub mod Kruskal

@@ -2,6 +2,7 @@
 use Rattle.std.proofs.Common.{◌≡◌, ◌⊎◌, inl, inr, ℕ, zero, suc, ◌+◌, ◌<◌, ℤ, List, [], ◌∷◌, ◌++◌, length, get_or, map, Contains, refl, sym, ap, ap₂, ◌∙◌, subst, arith}
 use Rattle.std.proofs.lemmas.Bool.{cases_lt, cases_eq}
 use Rattle.std.proofs.lemmas.List.Elements.{Contains-append_left, Contains-push, Contains-push_cases}
+use Rattle.std.proofs.lemmas.List.Sorted.{Contains-permutation, IsPermutation-sym}
 use Rattle.lattice.specs.Corners.{Corner}
 use Rattle.lattice.specs.Mosaic.{Mosaic}
 use Rattle.lattice.proofs.Levels.{≤ℤ_same}
@@ -12,6 +13,7 @@ use Rattle.border_graph.specs.Joining.{IsSummaryOf, Summarizes}
 use Rattle.border_graph.specs.Links.{IsWayBelow}
 use Rattle.border_graph.specs.Passes.{IsPass, SpanAll}
 use Rattle.border_graph.specs.Summaries.{Summary}
+use Rattle.border_graph.specs.Reordered.{IsReordered}
 use Rattle.border_graph.specs.Reduced.{IsCrossing, IsLabelOf, Suffice, label_of, spill_of, IsPassListed, ArePassesOf}
 use Rattle.border_graph.specs.declared.pass.Pass.{Pass}
 
@@ -136,3 +138,25 @@ summarizes_less m b less corner rim suffice is = record {
   of = subst (IsSummaryOf m) (ap₂ (λ (c : Corner) (r : List RimPoint). record { corner = c; rim = r; spills = b.spills }) (sym corner) (sym rim)) is;
   kept = subst (λ (r : List RimPoint). Suffice (length r) b.spills less.spills) (sym rim) suffice;
 }
+
+-- .. and of the same in another order
+pub summarizes_reordered : (m : Mosaic) (b b' : Summary) → IsReordered b b' → Summarizes m b → Summarizes m b'
+summarizes_reordered m b b' moved is = record {
+  all = is.all;
+  of = subst (IsSummaryOf m) (ap₂ (λ (c : Corner) (r : List RimPoint). record { corner = c; rim = r; spills = is.all }) (sym moved.corner) (sym moved.rim)) is.of;
+  kept = record {
+    only = λ s has. is.kept.only s (Contains-permutation b'.spills b.spills s (IsPermutation-sym b.spills b'.spills moved.spills) has);
+    crossed = λ x y level here there crossing. elim (is.kept.crossed x y level (subst (λ (r : List RimPoint). IsLabelOf (length r) x) moved.rim here) (subst (λ (r : List RimPoint). IsLabelOf (length r) y) moved.rim there) crossing) [
+      | inl way ↦ inl (way.0, along y level x way.0 way.1)
+      | inr way ↦ inr (way.0, along OUT level x way.0 way.1)
+    ];
+  };
+}
+  where
+    hop : (x y : ℕ) (level : ℤ) → IsCrossing b.spills x y level → IsCrossing b'.spills x y level
+    hop x y level (other, inl has) = (other, inl (Contains-permutation b.spills b'.spills (record { a = x; b = y; level = level }) moved.spills has))
+    hop x y level (other, inr has) = (other, inr (Contains-permutation b.spills b'.spills (record { a = y; b = x; level = level }) moved.spills has))
+
+    along : (out : ℕ) (level : ℤ) (x : ℕ) (rest : List ℕ) → IsWayBelow (IsCrossing b.spills) out level x rest → IsWayBelow (IsCrossing b'.spills) out level x rest
+    along out level x [] way = way
+    along out level x (y ∷ rest) way = ((way.0.0, (hop x y way.0.0 way.0.1.0, way.0.1.1)), along out level y rest way.1)

@@ -1,44 +1,17 @@
--- The edges inside a tile, from its links as they are listed.
-use Rattle.std.proofs.Common.{◌≡◌, ◌≢◌, ℕ, ◌+◌, ◌*◌, ◌-◌, ◌^◌, ◌<◌, ◌≤◌, inl, inr, ℤ, List, [], ◌∷◌, length, map, get_or, refl, sym, ap, ◌∙◌, subst, arith, Contains, Vec, Global}
-use Rattle.std.proofs.lemmas.List.{get_or_default, length-map}
-use Rattle.std.proofs.Math.ListN.{get_or-map}
-use Rattle.lattice.specs.Limits.{largest_side}
-use Rattle.lattice.specs.Mosaic.{void}
-use Rattle.border_graph.specs.declared.link.Link.{Link}
+-- The edges inside a tile, as they are listed of the rows of its rim points.
+use Rattle.std.proofs.Common.{◌≡◌, ℕ, zero, suc, ◌+◌, inl, inr, ℤ, List, [], ◌∷◌, length, refl, sym, ap, ◌∙◌, subst, arith, Contains, IsTrue, IsFalse, true, false, true≢false}
+use Rattle.std.specs.Prelude.{◌↔◌, ◌⊎◌, Option, Some, None, IfSome, IfNone}
+use Rattle.std.specs.Option.{is_some}
+use Rattle.std.proofs.lemmas.Bool.{cases_Bool, cases_eq}
+use Rattle.tile_flood.specs.Labelling.{OUT}
+use Rattle.tile_flood.specs.declared.passing.Spill.{Spill}
 use Rattle.border_graph.specs.Summaries.{Summary}
-use Rattle.border_graph.specs.Joining.{Node, Outlet, Rim, IsLink, IsInnerLink}
-use Rattle.border_graph.specs.Linking.{node_number, AreSoFar}
-use Rattle.border_graph.specs.Rising.{IsListed}
-use Rattle.border_graph.specs.Sharing.{AreInOrder}
+use Rattle.border_graph.specs.declared.summary.RimPoint.{RimPoint}
+use Rattle.border_graph.specs.Joining.{Rim, IsThere, IsOutletLink, IsLabelLink, IsSpillLink, IsInnerLink, IsLink, rim_point}
+use Rattle.border_graph.specs.Rows.{turned}
 use Rattle.border_graph.specs.declared.edge_source.Edge.{Edge}
-use Rattle.border_graph.specs.declared.link_rows.ShortLink.{ShortLink}
-use Rattle.border_graph.specs.LinkRows.{short}
-use Rattle.border_graph.specs.TileGraph.{AreTileLinks, AreReversed, AreOut, AreEdgesOut, AreEdgesAcross, reversed, out_at}
-
--- a row of a list of lists
-pub row_is : (rows : List (Vec Link Global)) (x : ℕ) (v : Vec Link Global) → x < length rows → v ≡ get_or rows x v → v.items ≡ get_or (map (λ (v : Vec Link Global). v.items) rows) x []
-row_is rows x v small is =
-    let f : Vec Link Global → List Link = λ v. v.items in
-    ap f is ∙ (sym (get_or-map f rows x v) ∙ get_or_default (map f rows) x (f v) [] (subst (λ n. x < n) (sym (length-map rows f)) small))
-
-abbrev wide : ShortLink → Link
-wide link = record { level = link.level; from = link.from }
-
--- what is in a row, and what is in it as it was
-module _ (row : List ShortLink) (links : List Link) (at : row ≡ map short links) where
-  short_has : (link : Link) → Contains links link → Contains row (short link)
-  short_has link (k, less, is) = (
-    k,
-    subst (λ n. k < n) (sym (ap length at ∙ length-map links short)) less,
-    ap (λ (l : List ShortLink). get_or l k (short link)) at ∙ (get_or-map short links k link ∙ ap short is),
-  )
-
-  wide_has : (link : ShortLink) → Contains row link → Contains links (wide link)
-  wide_has link (k, less, is) = (
-    k,
-    subst (λ n. k < n) (ap length at ∙ length-map links short) less,
-    ap wide (sym (get_or-map short links k (wide link)) ∙ (sym (ap (λ (l : List ShortLink). get_or l k link) at) ∙ is)),
-  )
+use Rattle.border_graph.specs.TileGraph.{AreTileRows, AreListed, AreEdgesOut, AreEdgesAcross, out_at, across}
+use Rattle.border_graph.proofs.Listing.{listed_all}
 
 pub inner_turned : (n : ℕ) (bs : List Summary) (t k l : ℕ) (level : ℤ) → IsInnerLink n bs t k l level → IsInnerLink n bs t l k level
 inner_turned n bs t k l level (inl label) = inr (inl label)
@@ -46,132 +19,132 @@ inner_turned n bs t k l level (inr (inl label)) = inl label
 inner_turned n bs t k l level (inr (inr (inl spill))) = inr (inr (inr spill))
 inner_turned n bs t k l level (inr (inr (inr spill))) = inr (inr (inl spill))
 
-only_tile : (t : ℕ) (b : Summary) → t < length (b ∷ []) → t ≡ 0
-only_tile t b small = omega arith
+-- what is told of a rim point that is found, or isn't
+pub there_if : (There : Type 0) (IsIt : RimPoint → Type 0) (found : Option RimPoint) → IfSome found (λ point. There × IsIt point) → is_some found ≡ true → There
+there_if There IsIt (Some point) told on = told.0
+there_if There IsIt None told on = absurd (true≢false (sym on))
 
--- the links of a tile start from few nodes
-pub short_links : (n : ℕ) (b : Summary) (links : List (List Link)) → n ≤ largest_side → AreSoFar n (b ∷ []) links → (row : List Link) (link : Link) → Contains links row → Contains row link → link.from < 65536
-short_links n b links side so row link there has =
-    let at : get_or links there.0 [] ≡ row = get_or_default links there.0 [] row there.1 ∙ there.2 in
-    let found = so.each link.from there.0 link.level (subst (λ (l : List Link). Contains l link) (sym at) has) in
-    by found.0 found.1 found.2 found.3.0 found.3.1.1
-  where
-    few : (t k size : ℕ) → t ≡ 0 → k < size → size ≤ 14400 → 1 + t * size + k < 65536
-    few t k size none small most = let e : 1 + t * size + k ≡ 1 + k = ap (λ u. 1 + u * size + k) none ∙ plain size k in omega arith
+pub not_there_if : (There : Type 0) (found : Option RimPoint) → IfNone found (There → ⊥) → is_some found ≡ false → There → ⊥
+not_there_if There (Some point) told off = absurd (true≢false off)
+not_there_if There None told off = told
+
+-- a spill by its labels and its level
+spill_is : (s : Spill) (x y : ℕ) (l : ℤ) → s.a ≡ x → s.b ≡ y → s.level ≡ l → s ≡ record { a = x; b = y; level = l }
+spill_is s x y l a b level = subst (λ v. s ≡ record { a = v; b = y; level = l }) a (subst (λ v. s ≡ record { a = s.a; b = v; level = l }) b (subst (λ v. s ≡ record { a = s.a; b = s.b; level = v }) level refl))
+
+only_one : (x s : Spill) → Contains (x ∷ []) s → s ≡ x
+only_one x s (zero, small, is) = sym is
+only_one x s (suc k, small, is) = absurd (omega arith)
+
+module _ (n : ℕ) (b : Summary) (k : ℕ) where
+  -- those of the spills that lead from the rim point
+  abbrev IsRow : List Spill → List Spill → Type 0
+  IsRow row spills = (s : Spill) → Contains row s ↔ (Contains spills s × (s.a ≡ k))
+
+  -- none leads from what isn't ground
+  pub none_out : (into : List Edge) → (IsThere n (b ∷ []) 0 k → ⊥) → AreEdgesOut n b k into into
+  none_out into off = record { still = λ way has. has; only = λ way has. inl has; all = λ level link. absurd (off link.0) }
+
+  pub none_across : (first : ℕ) (into : List Edge) → (IsThere n (b ∷ []) 0 k → ⊥) → AreEdgesAcross n b k first into into
+  none_across first into off = record { still = λ way has. has; only = λ way has. inl has; all = λ l level link. absurd (off link.0) }
+
+  module _ (there : IsThere n (b ∷ []) 0 k) (point : RimPoint) (is : rim_point b k ≡ point) (own : Spill) (height : own.level ≡ point.height) where
+    at_height : (level : ℤ) → level ≡ own.level → (rim_point b k).height ≡ level
+    at_height level at = ap (λ (p : RimPoint). p.height) is ∙ (sym height ∙ sym at)
+
+    -- .. to the outlet node
+    pub edges_out : (IsTrue point.outlet → own.b ≡ OUT) → (IsFalse point.outlet → own.b ≡ point.label) → (row : List Spill) → IsRow row b.spills → (old mid new : List Edge)
+        → AreListed (λ s. s.b ≡ OUT) out_at (own ∷ []) 1 old mid → AreListed (λ s. s.b ≡ OUT) out_at row (length row) mid new → AreEdgesOut n b k old new
+    edges_out outlet label row row_is old mid new one more = record {
+      still = λ way has. more.still way (one.still way has);
+      only = λ way has. elim (more.only way has) [
+        | inr (s, (in_row, (out, at))) ↦
+            let from = (row_is s).0 in_row in
+            inr (ap (λ (w : Edge). w.to) at, (there, inr (inr (subst (Contains b.spills) (spill_is s k OUT way.level from.1 out (sym (ap (λ (w : Edge). w.level) at))) from.0))))
+        | inl before ↦ elim (one.only way before) [
+          | inl first ↦ inl first
+          | inr (s, (in_one, (out, at))) ↦
+              let same = only_one own s in_one in
+              let level : way.level ≡ own.level = ap (λ (w : Edge). w.level) at ∙ ap (λ (x : Spill). x.level) same in
+              let leads : own.b ≡ OUT = sym (ap (λ (x : Spill). x.b) same) ∙ out in
+              inr (
+                ap (λ (w : Edge). w.to) at,
+                (
+                  there,
+                  elim (cases_Bool point.outlet) [
+                    | inl on ↦ inl (record { outlet = ap (λ (p : RimPoint). p.outlet) is ∙ on; height = at_height way.level level })
+                    | inr off ↦ inr (inl (record { names = ap (λ (p : RimPoint). p.label) is ∙ (sym (label off) ∙ leads); height = at_height way.level level }))
+                  ],
+                ),
+              )
+        ]
+      ];
+      all = λ level link. listed level link.1;
+    }
       where
-        plain : (size k : ℕ) → 1 + 0 * size + k ≡ 1 + k
-        plain size k = omega arith
+        own_listed : (level : ℤ) → (rim_point b k).height ≡ level → own.b ≡ OUT → Contains new (record { level = level; to = 0 })
+        own_listed level at out = more.still (record { level = level; to = 0 }) (subst (λ v. Contains mid (record { level = v; to = 0 })) (height ∙ (sym (ap (λ (p : RimPoint). p.height) is) ∙ at)) (listed_all (λ s. s.b ≡ OUT) out_at (own ∷ []) old mid one own (0, omega arith, refl) out))
 
-    by : (t k : ℕ) (to : Node) → link.from ≡ node_number n (Rim t k) → IsLink n (b ∷ []) (Rim t k) to link.level → link.from < 65536
-    by t k Outlet from on = let number = on.0.number in let tile = only_tile t b on.0.tile in subst (λ x. x < 65536) (sym from) (few t k (4 * (n - 1)) tile number (omega arith))
-    by t k (Rim u j) from on = let number = on.0.number in let tile = only_tile t b on.0.tile in subst (λ x. x < 65536) (sym from) (few t k (4 * (n - 1)) tile number (omega arith))
+        listed : (level : ℤ) → IsOutletLink n (b ∷ []) 0 k level ⊎ (IsLabelLink n (b ∷ []) 0 k OUT level ⊎ IsSpillLink n (b ∷ []) 0 k OUT level) → Contains new (record { level = level; to = 0 })
+        listed level (inl o) = own_listed level o.height (outlet (sym (ap (λ (p : RimPoint). p.outlet) is) ∙ o.outlet))
+        listed level (inr (inl l)) = own_listed level l.height (elim (cases_Bool point.outlet) [ inl on ↦ outlet on | inr off ↦ label off ∙ (sym (ap (λ (p : RimPoint). p.label) is) ∙ l.names) ])
+        listed level (inr (inr spill)) = listed_all (λ s. s.b ≡ OUT) out_at row mid new more (record { a = k; b = OUT; level = level }) ((row_is (record { a = k; b = OUT; level = level })).1 (spill, refl)) refl
 
-module _ (n : ℕ) (b : Summary) (links : List (List Link)) (is : AreTileLinks n b links) (k : ℕ) (small : k < 4 * (n - 1)) where
-  number_of : (t l : ℕ) → t ≡ 0 → 1 + t * (4 * (n - 1)) + l ≡ 1 + l
-  number_of t l tile = ap (λ u. 1 + u * (4 * (n - 1)) + l) tile ∙ plain l (4 * (n - 1))
-    where
-      plain : (l size : ℕ) → 1 + 0 * size + l ≡ 1 + l
-      plain l size = omega arith
+    -- .. to the others of its tile
+    module _ (back : List Spill) (rows : AreTileRows n b back) (first : ℕ) (label : own.b ≡ point.label) (row row' : List Spill) (row_is : IsRow row b.spills) (row_is' : IsRow row' back) (old mid mid' new : List Edge)
+        (one : AreListed (λ s. IsThere n (b ∷ []) 0 s.b) (across first) (own ∷ []) 1 old mid) (more : AreListed (λ s. IsThere n (b ∷ []) 0 s.b) (across first) row (length row) mid mid')
+        (rest : AreListed (λ s. IsThere n (b ∷ []) 0 s.b) (across first) row' (length row') mid' new) where
+      -- an edge to where a spill leads, if that is a link from here
+      edge_is : (s : Spill) (way : Edge) → IsThere n (b ∷ []) 0 s.b → way ≡ across first s → IsInnerLink n (b ∷ []) 0 k s.b s.level → (l : ℕ) × ((way.to ≡ first + (1 + l)) × IsLink n (b ∷ []) (Rim 0 k) (Rim 0 l) way.level)
+      edge_is s way on at inner = (s.b, (ap (λ (w : Edge). w.to) at, (there, (on, inl (refl, subst (IsInnerLink n (b ∷ []) 0 k s.b) (sym (ap (λ (w : Edge). w.level) at)) inner)))))
 
-  -- a link that is listed with the outlet node
-  leads_out : (link : Link) → Contains (get_or links 0 []) link → link.from ≡ 1 + k → IsLink n (b ∷ []) (Rim 0 k) Outlet link.level
-  leads_out link has from =
-      let found = is.so_far.each link.from 0 link.level has in
-      by found.0 found.1 found.2 found.3.0 found.3.1.0 found.3.1.1
-    where
-      by : (t l : ℕ) (to : Node) → link.from ≡ node_number n (Rim t l) → 0 ≡ node_number n to → IsLink n (b ∷ []) (Rim t l) to link.level → IsLink n (b ∷ []) (Rim 0 k) Outlet link.level
-      by t l Outlet at zero on =
-          let tile = only_tile t b on.0.tile in
-          let number : l ≡ k = same l (sym (number_of t l tile) ∙ (sym at ∙ from)) in
-          subst (λ u. IsLink n (b ∷ []) (Rim u k) Outlet link.level) tile (subst (λ j. IsLink n (b ∷ []) (Rim t j) Outlet link.level) number on)
+      from_back : (s : Spill) → Contains back s → s.a ≡ k → IsInnerLink n (b ∷ []) 0 k s.b s.level
+      from_back s has from = elim (rows.turned.each s has) [
+        | inl spill ↦ inr (inr (inr (subst (Contains b.spills) (spill_is (turned s) s.b k s.level refl from refl) spill)))
+        | inr name ↦ inr (inl (record { names = name.label.names ∙ from; height = name.label.height }))
+      ]
+
+      from_own : (s : Spill) → s ≡ own → IsInnerLink n (b ∷ []) 0 k s.b s.level
+      from_own s same = inl (record {
+        names = ap (λ (p : RimPoint). p.label) is ∙ (sym label ∙ sym (ap (λ (x : Spill). x.b) same));
+        height = at_height s.level (ap (λ (x : Spill). x.level) same);
+      })
+
+      own_listed : (l : ℕ) (level : ℤ) → IsThere n (b ∷ []) 0 l → (rim_point b k).label ≡ l → (rim_point b k).height ≡ level → Contains new (record { level = level; to = first + (1 + l) })
+      own_listed l level on names at =
+          let same : own ≡ record { a = own.a; b = l; level = level } = spill_is own own.a l level refl (label ∙ (sym (ap (λ (p : RimPoint). p.label) is) ∙ names)) (height ∙ (sym (ap (λ (p : RimPoint). p.height) is) ∙ at)) in
+          let has = listed_all (λ s. IsThere n (b ∷ []) 0 s.b) (across first) (own ∷ []) old mid one own (0, omega arith, refl) (subst (λ (s : Spill). IsThere n (b ∷ []) 0 s.b) (sym same) on) in
+          rest.still (record { level = level; to = first + (1 + l) }) (more.still (record { level = level; to = first + (1 + l) }) (subst (λ (s : Spill). Contains mid (across first s)) same has))
+
+      back_listed : (l : ℕ) (level : ℤ) → IsThere n (b ∷ []) 0 l → Contains back (record { a = k; b = l; level = level }) → Contains new (record { level = level; to = first + (1 + l) })
+      back_listed l level on has = listed_all (λ s. IsThere n (b ∷ []) 0 s.b) (across first) row' mid' new rest (record { a = k; b = l; level = level }) ((row_is' (record { a = k; b = l; level = level })).1 (has, refl)) on
+
+      inner_listed : (l : ℕ) (level : ℤ) → IsThere n (b ∷ []) 0 l → IsInnerLink n (b ∷ []) 0 k l level → Contains new (record { level = level; to = first + (1 + l) })
+      inner_listed l level on (inl name) = own_listed l level on name.names name.height
+      inner_listed l level on (inr (inl name)) = elim (cases_eq k l) [
+        | inl same ↦ own_listed l level on (ap (λ j. (rim_point b j).label) same ∙ (name.names ∙ same)) (ap (λ j. (rim_point b j).height) same ∙ name.height)
+        | inr other ↦ back_listed l level on (rows.turned.labels (record { a = k; b = l; level = level }) (record { there = on; apart = other; label = record { names = name.names; height = name.height } }))
+      ]
+      inner_listed l level on (inr (inr (inl spill))) =
+          rest.still (record { level = level; to = first + (1 + l) }) (listed_all (λ s. IsThere n (b ∷ []) 0 s.b) (across first) row mid mid' more (record { a = k; b = l; level = level }) ((row_is (record { a = k; b = l; level = level })).1 (spill, refl)) on)
+      inner_listed l level on (inr (inr (inr spill))) = back_listed l level on (rows.turned.spills (record { a = l; b = k; level = level }) spill)
+
+      pub edges_across : AreEdgesAcross n b k first old new
+      edges_across = record {
+        still = λ way has. rest.still way (more.still way (one.still way has));
+        only = λ way has. elim (rest.only way has) [
+          | inr (s, (in_row, (on, at))) ↦ let from = (row_is' s).0 in_row in inr (edge_is s way on at (from_back s from.0 from.1))
+          | inl before ↦ elim (more.only way before) [
+            | inr (s, (in_row, (on, at))) ↦ let from = (row_is s).0 in_row in inr (edge_is s way on at (inr (inr (inl (subst (Contains b.spills) (spill_is s k s.b s.level from.1 refl refl) from.0)))))
+            | inl earlier ↦ elim (one.only way earlier) [
+              | inl first ↦ inl first
+              | inr (s, (in_one, (on, at))) ↦ inr (edge_is s way on at (from_own s (only_one own s in_one)))
+            ]
+          ]
+        ];
+        all = λ l level link. among l level link;
+      }
         where
-          same : (l : ℕ) → 1 + l ≡ 1 + k → l ≡ k
-          same l h = omega arith
-      by t l (Rim u j) at zero on = absurd (above (u * (4 * (n - 1))) j zero)
-        where
-          above : (a j : ℕ) → 0 ≡ 1 + a + j → ⊥
-          above a j h = absurd (omega arith)
-
-  record Across (link : Link) : Type 0 where
-    l : ℕ
-    from : link.from ≡ 1 + l
-    on : IsLink n (b ∷ []) (Rim 0 k) (Rim 0 l) link.level
-
-  -- a link that is listed with the rim point
-  leads_across : (link : Link) → Contains (get_or links (1 + k) []) link → Across link
-  leads_across link has =
-      let found = is.so_far.each link.from (1 + k) link.level has in
-      by found.0 found.1 found.2 found.3.0 found.3.1.0 found.3.1.1
-    where
-      by : (t l : ℕ) (to : Node) → link.from ≡ node_number n (Rim t l) → 1 + k ≡ node_number n to → IsLink n (b ∷ []) (Rim t l) to link.level → Across link
-      by t l Outlet at zero on = absurd (above k zero)
-        where
-          above : (a : ℕ) → 1 + a ≡ 0 → ⊥
-          above a h = absurd (omega arith)
-      by t l (Rim u j) at number on =
-          let tile = only_tile t b on.0.tile in
-          let other = only_tile u b on.1.0.tile in
-          let same : j ≡ k = equal j (sym (number_of u j other) ∙ sym number) in
-          record {
-            l = l;
-            from = at ∙ number_of t l tile;
-            on = turn (subst (λ v. IsLink n (b ∷ []) (Rim 0 l) (Rim 0 v) link.level) same (subst (λ v. IsLink n (b ∷ []) (Rim 0 l) (Rim v j) link.level) other (subst (λ v. IsLink n (b ∷ []) (Rim v l) (Rim u j) link.level) tile on)));
-          }
-        where
-          equal : (j : ℕ) → 1 + j ≡ 1 + k → j ≡ k
-          equal j h = omega arith
-
-          turn : IsLink n (b ∷ []) (Rim 0 l) (Rim 0 k) link.level → IsLink n (b ∷ []) (Rim 0 k) (Rim 0 l) link.level
-          turn (here, (there, inl inner)) = (there, (here, inl (refl, inner_turned n (b ∷ []) 0 l k link.level inner.1)))
-          turn (here, (there, inr shared)) = absurd (shared.apart refl)
-
-  node_is : 1 + 0 * (4 * (n - 1)) + k ≡ 1 + k
-  node_is = number_of 0 k refl
-
-  pub edges_out : (row : List ShortLink) (old new : List Edge) → row ≡ map short (get_or links 0 []) → AreOut row (length row) (1 + k) old new → AreEdgesOut n b k old new
-  edges_out row old new at r = record {
-    still = r.still;
-    only = λ way has. elim (r.only way has) [
-      | inl before ↦ inl before
-      | inr by ↦ inr (ap (λ (w : Edge). w.to) by.1.1.1, subst (λ v. IsLink n (b ∷ []) (Rim 0 k) Outlet v) (sym (ap (λ (w : Edge). w.level) by.1.1.1)) (leads_out (wide by.0) (wide_has row (get_or links 0 []) at by.0 by.1.0) by.1.1.0))
-    ];
-    all = λ order level link full.
-        let has : Contains row (record { level = level; from = node_number n (Rim 0 k) }) = short_has row (get_or links 0 []) at (record { level = level; from = node_number n (Rim 0 k) }) ((is.linked order).all (Rim 0 k) Outlet level link full) in
-        subst (λ (l : ShortLink). Contains new (out_at l)) has.2 (r.listed has.0 (record { level = level; from = node_number n (Rim 0 k) }) has.1 (ap (λ (l : ShortLink). l.from) has.2 ∙ node_is));
-  }
-
-  pub edges_across : (row : List ShortLink) (first : ℕ) (old new : List Edge) → row ≡ map short (get_or links (1 + k) []) → AreReversed row (length row) first old new → AreEdgesAcross n b k first old new
-  edges_across row first old new at r = record {
-    still = r.still;
-    only = λ way has. elim (r.only way has) [
-      | inl before ↦ inl before
-      | inr by ↦
-          let found = leads_across (wide by.0) (wide_has row (get_or links (1 + k) []) at by.0 by.1.0) in
-          inr (found.l, (ap (λ (w : Edge). w.to) by.1.1 ∙ ap (λ x. first + x) found.from, subst (λ v. IsLink n (b ∷ []) (Rim 0 k) (Rim 0 found.l) v) (sym (ap (λ (w : Edge). w.level) by.1.1)) found.on))
-    ];
-    all = λ order l level link full. across l level (listed order l level link full);
-  }
-    where
-      listed : AreInOrder (b ∷ []) → (l : ℕ) (level : ℤ) → IsLink n (b ∷ []) (Rim 0 k) (Rim 0 l) level → level ≢ void → Contains row (record { level = level; from = node_number n (Rim 0 l) })
-      listed order l level (here, (there, inr shared)) full = absurd (shared.apart refl)
-      listed order l level (here, (there, inl inner)) full = short_has row (get_or links (1 + k) []) at (record { level = level; from = node_number n (Rim 0 l) })
-          (subst (λ y. IsListed links (node_number n (Rim 0 l)) y level) node_is ((is.linked order).all (Rim 0 l) (Rim 0 k) level (there, (here, inl (refl, inner_turned n (b ∷ []) 0 k l level inner.1))) full))
-
-      across : (l : ℕ) (level : ℤ) → Contains row (record { level = level; from = node_number n (Rim 0 l) }) → Contains new (record { level = level; to = first + (1 + l) })
-      across l level has =
-          let on : Contains new (reversed first (record { level = level; from = node_number n (Rim 0 l) })) = subst (λ (x : ShortLink). Contains new (reversed first x)) has.2 (r.listed has.0 (record { level = level; from = node_number n (Rim 0 l) }) has.1) in
-          subst (λ x. Contains new (record { level = level; to = first + x })) (number_of 0 l refl) on
-
-  -- numbers of a row's links are small
-  pub row_below : (row : List ShortLink) → row ≡ map short (get_or links (1 + k) []) → (first : ℕ) → first + 4 * (n - 1) < 2 ^ 32 → (link : ShortLink) → Contains row link → first + link.from < 2 ^ 32
-  row_below row at first room link has =
-      let found = leads_across (wide link) (wide_has row (get_or links (1 + k) []) at link has) in
-      let below = found.on.1.0.number in
-      let from = found.from in
-      omega arith
-
-  pub rows_there : 1 + k < length links
-  rows_there = let whole = is.so_far.whole in there (4 * (n - 1)) whole small
-    where
-      there : (size : ℕ) → length links ≡ 1 + 1 * size → k < size → 1 + k < length links
-      there size whole h = omega arith
+          among : (l : ℕ) (level : ℤ) → IsLink n (b ∷ []) (Rim 0 k) (Rim 0 l) level → Contains new (record { level = level; to = first + (1 + l) })
+          among l level (here, (on, inl inner)) = inner_listed l level on inner.1
+          among l level (here, (on, inr shared)) = absurd (shared.apart refl)

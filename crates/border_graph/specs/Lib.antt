@@ -14,7 +14,8 @@ pub mod Crests
 pub mod Placed
 pub mod TileGraph
 pub mod Others
-pub mod LinkRows
+pub mod Rows
+pub mod Reordered
 pub mod Passes
 pub mod UnionFind
 pub mod Forest

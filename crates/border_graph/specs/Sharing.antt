@@ -1,15 +1,17 @@
 -- Rim points that several tiles share, and all links of a rim point and of a tile, as they are listed.
-use Rattle.std.specs.Prelude.{◌≡◌, ℕ, ◌-◌, ◌*◌, ◌<◌, ℤ, IsTrue, List, length}
+use Rattle.std.specs.Prelude.{◌≡◌, ◌≢◌, ℕ, ◌+◌, ◌<◌, ◌⊎◌, ℤ, IsTrue, List, length}
 use Rattle.std.specs.List.{AllAdjacentBelow}
 use Rattle.lattice.specs.declared.point.Point.{Point}
 use Rattle.lattice.specs.Corners.{Corner, is_corner}
 use Rattle.lattice.specs.Lattice.{IsBefore, IsIndexOf}
+use Rattle.lattice.specs.Mosaic.{void}
 use Rattle.lattice.specs.Block.{is_rim, rim_number}
 use Rattle.border_graph.specs.declared.link.Link.{Link}
 use Rattle.border_graph.specs.Summaries.{Summary}
-use Rattle.border_graph.specs.Joining.{Rim, summary_at, IsThere, IsSharedLink}
+use Rattle.border_graph.specs.Joining.{Outlet, Rim, summary_at, IsThere, IsSharedLink, IsLink}
+use Rattle.border_graph.specs.declared.edge_source.Edge.{Edge}
 use Rattle.border_graph.specs.Rising.{IsListed}
-use Rattle.border_graph.specs.Linking.{node_number, AreOutletsListed, AreLabelsListed, AreSpillsListed}
+use Rattle.border_graph.specs.Linking.{node_number}
 
 -- tiles in the order of their corners, no corner twice
 pub record AreInOrder (summaries : List Summary) : Type 0 where
@@ -33,13 +35,21 @@ abbrev pub IsSharedListed : ℕ → List Summary → List (List Link) → ℕ �
 IsSharedListed n summaries links t k c = (u l : ℕ) (level : ℤ) → (summary_at summaries u).corner ≡ c → IsThere n summaries t k → IsThere n summaries u l → IsSharedLink n summaries t k u l level →
     IsListed links (node_number n (Rim t k)) (node_number n (Rim u l)) level
 
--- the links of a rim point, but for spills
+-- an edge from a rim point inside its tile, whose rim points are numbered from 1 on, is a link
+abbrev pub IsInside : ℕ → List Summary → ℕ → ℕ → Edge → Type 0
+IsInside n summaries t k way = ((way.to ≡ 0) × IsLink n summaries (Rim t k) Outlet way.level) ⊎ ((l : ℕ) × ((way.to ≡ 1 + l) × IsLink n summaries (Rim t k) (Rim t l) way.level))
+
+-- that link is listed
+pub record IsEdgeListed (n : ℕ) (links : List (List Link)) (t k : ℕ) (way : Edge) : Type 0 where
+  pub out : way.to ≡ 0 → IsListed links (node_number n (Rim t k)) 0 way.level
+  pub across : (l : ℕ) → way.to ≡ 1 + l → IsListed links (node_number n (Rim t k)) (node_number n (Rim t l)) way.level
+
+-- the links of a rim point
 pub record IsPointListed (n : ℕ) (summaries : List Summary) (links : List (List Link)) (t k : ℕ) : Type 0 where
-  pub outlets : AreOutletsListed n summaries links t k
-  pub labels : AreLabelsListed n summaries links t k
+  pub out : (level : ℤ) → IsLink n summaries (Rim t k) Outlet level → level ≢ void → IsListed links (node_number n (Rim t k)) 0 level
+  pub across : (l : ℕ) (level : ℤ) → IsLink n summaries (Rim t k) (Rim t l) level → level ≢ void → IsListed links (node_number n (Rim t k)) (node_number n (Rim t l)) level
   pub shared : AreInOrder summaries → AreSharedListed n summaries links t k
 
--- the links of a tile
-pub record IsTileListed (n : ℕ) (summaries : List Summary) (links : List (List Link)) (t : ℕ) : Type 0 where
-  pub points : (k : ℕ) → k < 4 * (n - 1) → IsPointListed n summaries links t k
-  pub spills : AreSpillsListed n summaries links t (length (summary_at summaries t).spills)
+-- the links of a tile's first rim points
+abbrev pub ArePointsListed : ℕ → List Summary → List (List Link) → ℕ → ℕ → Type 0
+ArePointsListed n summaries links t count = (k : ℕ) → k < count → IsPointListed n summaries links t k

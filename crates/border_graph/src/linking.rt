@@ -1,18 +1,22 @@
 //! The links between the rim points of all tiles.
-ghost use Rattle.std.specs.Prelude.{◌≡◌, Contains, ◌+◌, ◌*◌, ◌-◌, ◌<◌, ℕ, [], IfSome, IfNone, IfOk, IfErr, OnOk, length, map, vec_len, slice_index_or};
+ghost use Rattle.std.specs.Prelude.{◌≡◌, ◌≢◌, Contains, ◌+◌, ◌*◌, ◌-◌, ◌<◌, ℕ, [], IfSome, IfNone, IfOk, IfErr, OnOk, length, map, vec_len, slice_index_or};
 ghost use Rattle.lattice.specs.Limits.{IsSide};
+ghost use Rattle.lattice.specs.Mosaic.{void};
 ghost use Rattle.border_graph.specs.Joining.{IsThere, Rim, summary_at};
 ghost use Rattle.border_graph.specs.RimLookup.{IsThereAt};
 ghost use Rattle.lattice.specs.declared.refusal.Refusal.TheVariants.{NoMemory};
-ghost use Rattle.border_graph.specs.Sharing.{AreInOrder, IsPointListed, IsTileListed};
-ghost use Rattle.border_graph.specs.Linking.{AreLinked, IsAddedTo, AreAddedBetween, AreSoFar, AreSpillsListed, IsSpillListed, HaveGrown, AreOutletsListed, AreLabelsListed, node_number};
+ghost use Rattle.border_graph.specs.declared.edge_source.Edge.{Edge as EdgeOf};
+ghost use Rattle.border_graph.specs.Reordered.{IsReordered};
+ghost use Rattle.border_graph.specs.Sharing.{AreInOrder, IsInside, IsEdgeListed, IsPointListed, ArePointsListed};
+ghost use Rattle.border_graph.specs.Linking.{AreLinked, IsAddedTo, AreSoFar, HaveGrown, node_number};
 
+use crate::Edge;
 use crate::link::Link;
 use crate::sharing::link_shared;
 use crate::summary::{RimPoint, Summary};
-use lattice::{Refusal, Side};
+use crate::tile_graph::TileGraph;
+use lattice::{Refusal, Side, VOID};
 use std::alloc::{AllocError, Global};
-use tile_flood::{OUT, Spill};
 
 // The rim point with this number in a tile of side n, where it is ground.
 pub(crate) fn ground_rim_point(
@@ -30,7 +34,7 @@ pub(crate) fn ground_rim_point(
         return None;
     }
     let point = *summaries[t].rim().get(k)?;
-    if point.height == i16::MIN {
+    if point.height == VOID {
         None
     } else {
         Some(point)
@@ -46,16 +50,6 @@ pub(crate) fn add(links: &mut Vec<Vec<Link>>, to: usize, link: Link) -> Result<(
     Ok(())
 }
 
-// Lists the links between the two nodes, one each way.
-fn add_between(links: &mut Vec<Vec<Link>>, a: usize, b: usize, level: i16) -> Result<(), AllocError>
-    requires { (a < vec_len links.old) × (b < vec_len links.old) }
-    ensures { OnOk result (AreAddedBetween (map (λ v. v.items) links.old.items) (map (λ v. v.items) links.new.items) a b level) }
-{
-    add(links, b, Link { level, from: a })?;
-    add(links, a, Link { level, from: b })?;
-    Ok(())
-}
-
 // The number of a rim point in the list of all nodes.
 pub(crate) fn node_number(n: usize, nodes: usize, t: usize, k: usize) -> usize
     requires side { IsSide n }
@@ -65,164 +59,132 @@ pub(crate) fn node_number(n: usize, nodes: usize, t: usize, k: usize) -> usize
     1 + t * (4 * (n - 1)) + k
 }
 
-// Lists the links from a rim point to the outlet node.
-fn link_outlet(
-    n: usize,
-    summaries: &[Summary],
-    t: usize,
-    k: usize,
-    links: &mut Vec<Vec<Link>>,
-) -> Result<(), AllocError>
+// The number of the node that an edge inside a tile leads to, whose rim points are numbered from 1 on.
+fn end_of(n: usize, nodes: usize, t: usize, to: u32) -> usize
     requires side { IsSide n }
-    requires t { t < length summaries.now }
-    requires so_far { AreSoFar n summaries.now (map (λ v. v.items) links.old.items) }
-    ensures grown { OnOk result (HaveGrown n summaries.now (map (λ v. v.items) links.old.items) (map (λ v. v.items) links.new.items)) }
-    ensures listed { OnOk result (AreOutletsListed n summaries.now (map (λ v. v.items) links.new.items) t k) }
+    requires room { (l : ℕ) → to ≡ 1 + l → 1 + t * (4 * (n - 1)) + l < nodes }
+    ensures out { to ≡ 0 → result ≡ 0 }
+    ensures across { (l : ℕ) → to ≡ 1 + l → result ≡ node_number n (Rim t l) }
 {
-    let Some(point) = ground_rim_point(n, summaries, t, k) else {
-        return Ok(());
-    };
-    if !point.outlet && point.label != OUT {
-        return Ok(());
+    if to == 0 {
+        0
+    } else {
+        node_number(n, nodes, t, to as usize - 1)
     }
-    let nodes = links.len();
-    let from = node_number(n, nodes, t, k);
-    let level = point.height;
-    add(links, 0, Link { level, from })?;
-    Ok(())
 }
 
-// Lists the links between a rim point and what its label names.
-fn link_label(
-    n: usize,
-    summaries: &[Summary],
-    t: usize,
-    k: usize,
-    links: &mut Vec<Vec<Link>>,
-) -> Result<(), AllocError>
-    requires side { IsSide n }
-    requires t { t < length summaries.now }
-    requires so_far { AreSoFar n summaries.now (map (λ v. v.items) links.old.items) }
-    ensures grown { OnOk result (HaveGrown n summaries.now (map (λ v. v.items) links.old.items) (map (λ v. v.items) links.new.items)) }
-    ensures listed { OnOk result (AreLabelsListed n summaries.now (map (λ v. v.items) links.new.items) t k) }
-{
-    let Some(point) = ground_rim_point(n, summaries, t, k) else {
-        return Ok(());
-    };
-    let named = point.label as usize;
-    let Some(_) = ground_rim_point(n, summaries, t, named) else {
-        return Ok(());
-    };
-    let nodes = links.len();
-    let here = node_number(n, nodes, t, k);
-    let there = node_number(n, nodes, t, named);
-    add_between(links, here, there, point.height)?;
-    Ok(())
-}
-
-// Lists the links between the rim points that a spill names, or from one to the outlet node.
-fn link_spill(
-    n: usize,
-    summaries: &[Summary],
-    t: usize,
-    spill: Spill,
-    links: &mut Vec<Vec<Link>>,
-) -> Result<(), AllocError>
-    requires side { IsSide n }
-    requires t { t < length summaries.now }
-    requires spill { Contains (summary_at summaries.now t).spills spill }
-    requires so_far { AreSoFar n summaries.now (map (λ v. v.items) links.old.items) }
-    ensures grown { OnOk result (HaveGrown n summaries.now (map (λ v. v.items) links.old.items) (map (λ v. v.items) links.new.items)) }
-    ensures listed { OnOk result (IsSpillListed n summaries.now (map (λ v. v.items) links.new.items) t spill) }
-{
-    let a = spill.a as usize;
-    let b = spill.b as usize;
-    let Some(_) = ground_rim_point(n, summaries, t, a) else {
-        return Ok(());
-    };
-    if spill.level == i16::MIN {
-        return Ok(());
-    }
-    let nodes = links.len();
-    let first = node_number(n, nodes, t, a);
-    let level = spill.level;
-    if spill.b == OUT {
-        add(links, 0, Link { level, from: first })?;
-        return Ok(());
-    }
-    let Some(_) = ground_rim_point(n, summaries, t, b) else {
-        return Ok(());
-    };
-    let second = node_number(n, nodes, t, b);
-    add_between(links, first, second, level)?;
-    Ok(())
-}
-
-// Lists the links between the rim points of a tile that its spills name.
-fn link_spills(
-    n: usize,
-    summaries: &[Summary],
-    t: usize,
-    links: &mut Vec<Vec<Link>>,
-) -> Result<(), AllocError>
-    requires side { IsSide n }
-    requires t { t < length summaries.now }
-    requires so_far { AreSoFar n summaries.now (map (λ v. v.items) links.old.items) }
-    ensures grown { OnOk result (HaveGrown n summaries.now (map (λ v. v.items) links.old.items) (map (λ v. v.items) links.new.items)) }
-    ensures listed { OnOk result (AreSpillsListed n summaries.now (map (λ v. v.items) links.new.items) t (length (summary_at summaries.now t).spills)) }
-{
-    let spills = spills_of(summaries, t);
-    for j in 0..spills.len() {
-        link_spill(n, summaries, t, spills[j], links)?;
-    }
-    Ok(())
-}
-
-fn spills_of(summaries: &[Summary], t: usize) -> &[Spill]
-    requires { t < length summaries.now }
-    ensures { result.now ≡ (summary_at summaries.now t).spills }
-{
-    summaries[t].spills()
-}
-
-// Lists the links of a rim point, but for spills.
-fn link_point(
+// Lists the link of an edge from a rim point inside its tile, but for one at the level of a void.
+fn link_edge(
     side: Side,
     summaries: &[Summary],
+    t: usize,
+    k: usize,
+    edge: Edge,
+    links: &mut Vec<Vec<Link>>,
+) -> Result<(), AllocError>
+    requires t { t < length summaries.now }
+    requires inside { IsInside side summaries.now t k edge }
+    requires so_far { AreSoFar side summaries.now (map (λ v. v.items) links.old.items) }
+    ensures grown { OnOk result (HaveGrown side summaries.now (map (λ v. v.items) links.old.items) (map (λ v. v.items) links.new.items)) }
+    ensures listed { OnOk result (edge.level ≢ void → IsEdgeListed side (map (λ v. v.items) links.new.items) t k edge) }
+{
+    let level = edge.level;
+    if level == VOID {
+        return Ok(());
+    }
+    let n = side.samples() as usize;
+    let nodes = links.len();
+    let from = node_number(n, nodes, t, k);
+    let to = end_of(n, nodes, t, edge.to);
+    add(links, to, Link { level, from })?;
+    Ok(())
+}
+
+// Lists the links of edges from a rim point inside its tile.
+fn link_edges(
+    side: Side,
+    summaries: &[Summary],
+    t: usize,
+    k: usize,
+    edges: &[Edge],
+    links: &mut Vec<Vec<Link>>,
+) -> Result<(), AllocError>
+    requires t { t < length summaries.now }
+    requires inside { (edge : EdgeOf) → Contains edges.now edge → IsInside side summaries.now t k edge }
+    requires so_far { AreSoFar side summaries.now (map (λ v. v.items) links.old.items) }
+    ensures grown { OnOk result (HaveGrown side summaries.now (map (λ v. v.items) links.old.items) (map (λ v. v.items) links.new.items)) }
+    ensures listed { OnOk result ((edge : EdgeOf) → Contains edges.now edge → edge.level ≢ void → IsEdgeListed side (map (λ v. v.items) links.new.items) t k edge) }
+{
+    for edge in edges {
+        link_edge(side, summaries, t, k, *edge, links)?;
+    }
+    Ok(())
+}
+
+// Lists the links of a rim point, of which those inside its tile are in the tile's graph.
+fn link_point(
+    alloc: Global,
+    side: Side,
+    summaries: &[Summary],
+    graph: &TileGraph,
     t: usize,
     k: usize,
     links: &mut Vec<Vec<Link>>,
 ) -> Result<(), AllocError>
     requires t { t < length summaries.now }
     requires k { k < 4 * (side - 1) }
+    requires graph { (graph.now.side ≡ side) × IsReordered (summary_at summaries.now t) graph.now.summary }
     requires so_far { AreSoFar side summaries.now (map (λ v. v.items) links.old.items) }
     ensures grown { OnOk result (HaveGrown side summaries.now (map (λ v. v.items) links.old.items) (map (λ v. v.items) links.new.items)) }
     ensures listed { OnOk result (IsPointListed side summaries.now (map (λ v. v.items) links.new.items) t k) }
 {
-    let n = side.samples() as usize;
-    link_outlet(n, summaries, t, k, links)?;
-    link_label(n, summaries, t, k, links)?;
+    // The side is known to be in range once it was read.
+    let _edge = side.edge();
+    let mut edges = Vec::new(alloc);
+    graph.edges_out(k as u32, &mut edges)?;
+    graph.edges_across(0, k as u32, &mut edges)?;
+    link_edges(side, summaries, t, k, &edges, links)?;
     link_shared(side, summaries, t, k, links)?;
     Ok(())
 }
 
+// The graph of the tile with this summary.
+fn graph_of(alloc: Global, side: Side, summary: &Summary) -> Result<TileGraph, Refusal>
+    ensures side { IfOk result (λ graph. graph.side ≡ side) }
+    ensures summary { IfOk result (λ graph. IsReordered summary.now graph.summary) }
+    ensures refusal { IfErr result (λ r. r ≡ NoMemory) }
+{
+    let rim = Vec::from_slice(alloc, summary.rim())?;
+    let spills = Vec::from_slice(alloc, summary.spills())?;
+    let graph = TileGraph::new(alloc, side, Summary::new(summary.corner(), rim, spills))?;
+    Ok(graph)
+}
+
+fn summary_at(summaries: &[Summary], t: usize) -> &Summary
+    requires { t < length summaries.now }
+    ensures { result.now ≡ summary_at summaries.now t }
+{
+    &summaries[t]
+}
+
 // Lists the links of a tile.
 fn link_tile(
+    alloc: Global,
     side: Side,
     summaries: &[Summary],
     t: usize,
     links: &mut Vec<Vec<Link>>,
-) -> Result<(), AllocError>
+) -> Result<(), Refusal>
     requires t { t < length summaries.now }
     requires so_far { AreSoFar side summaries.now (map (λ v. v.items) links.old.items) }
     ensures grown { OnOk result (HaveGrown side summaries.now (map (λ v. v.items) links.old.items) (map (λ v. v.items) links.new.items)) }
-    ensures listed { OnOk result (IsTileListed side summaries.now (map (λ v. v.items) links.new.items) t) }
+    ensures listed { OnOk result (ArePointsListed side summaries.now (map (λ v. v.items) links.new.items) t (4 * (side - 1))) }
+    ensures refusal { IfErr result (λ r. r ≡ NoMemory) }
 {
-    let size = 4 * side.edge() as usize;
-    for k in 0..size {
-        link_point(side, summaries, t, k, links)?;
+    let graph = graph_of(alloc, side, summary_at(summaries, t))?;
+    for k in 0..4 * side.edge() as usize {
+        link_point(alloc, side, summaries, &graph, t, k, links)?;
     }
-    link_spills(side.samples() as usize, summaries, t, links)?;
     Ok(())
 }
 
@@ -267,7 +229,7 @@ pub fn links_between(
     let size = 4 * side.edge() as usize;
     let mut links = no_links(alloc, summaries.len(), size)?;
     for t in 0..summaries.len() {
-        link_tile(side, summaries, t, &mut links)?;
+        link_tile(alloc, side, summaries, t, &mut links)?;
     }
     Ok(links)
 }

@@ -1,7 +1,8 @@
 //! What the tiles around need to know of a tile.
-ghost use Rattle.std.specs.Prelude.{◌≡◌};
+ghost use Rattle.std.specs.Prelude.{◌≡◌, IfOk};
 
 use lattice::Corner;
+use std::alloc::AllocError;
 use std::marker::Model;
 use tile_flood::Spill;
 
@@ -31,6 +32,10 @@ impl Model for Summary {
 }
 
 impl Summary {
+    ghost use Rattle.std.specs.List.Sorted.{IsNonDecreasingBy};
+    ghost use Rattle.tile_flood.specs.declared.passing.Spill.{Spill as SpillOf};
+    ghost use Rattle.border_graph.specs.Reordered.{IsReordered};
+
     /// What the tile at this corner tells: its rim points, by number, and the spills between its labels.
     pub fn new(corner: Corner, rim: Vec<RimPoint>, spills: Vec<Spill>) -> Summary
         ensures { result ≡ record { corner = corner; rim = rim.items; spills = spills.items } }
@@ -51,6 +56,20 @@ impl Summary {
             rim: self.rim,
             spills,
         }
+    }
+
+    // The same with its spills in the order of their first labels.
+    pub(crate) fn in_order(self) -> Result<Summary, AllocError>
+        ensures same { IfOk result (IsReordered self) }
+        ensures in_order { IfOk result (λ summary. IsNonDecreasingBy (λ (s : SpillOf). s.a) summary.spills) }
+    {
+        let mut spills = self.spills;
+        spills.sort_by_key(|spill| spill.a)?;
+        Ok(Summary {
+            corner: self.corner,
+            rim: self.rim,
+            spills,
+        })
     }
 
     /// The corner of its tile.

@@ -1,25 +1,27 @@
 //! The edges inside one tile.
-ghost use Rattle.std.specs.Prelude.{◌≡◌, ◌+◌, ◌-◌, ◌*◌, ◌^◌, ◌<◌, IfOk, IfErr, OnOk, Contains, length};
+ghost use Rattle.std.specs.Prelude.{◌≡◌, ◌+◌, ◌-◌, ◌*◌, ◌^◌, ◌<◌, [], ◌∷◌, IfOk, IfErr, OnOk, IsTrue, IsFalse, length};
 ghost use Rattle.lattice.specs.declared.refusal.Refusal.TheVariants.{NoMemory};
-ghost use Rattle.border_graph.specs.Joining.{rim_point};
-ghost use Rattle.border_graph.specs.declared.link_rows.ShortLink.{ShortLink as LinkOf};
-ghost use Rattle.border_graph.specs.TileGraph.{reversed, out_at, AreReversed, AreOut, AreEdgesOut, AreEdgesAcross};
+ghost use Rattle.tile_flood.specs.Labelling.{OUT as OUT_LABEL};
+ghost use Rattle.border_graph.specs.Joining.{IsThere, rim_point};
+ghost use Rattle.border_graph.specs.Reordered.{IsReordered};
+ghost use Rattle.border_graph.specs.TileGraph.{out_at, across, AreListed, AreTileRows, AreEdgesOut, AreEdgesAcross};
 
 use crate::Edge;
-use crate::link_rows::{LinkRows, ShortLink, rows_together};
-use crate::linking::links_between;
-use crate::summary::Summary;
+use crate::rows::{ground_rim_point, row, turned_spills};
+use crate::summary::{RimPoint, Summary};
 use lattice::{Refusal, Side, VOID};
 use std::alloc::{AllocError, Global};
 use std::marker::Model;
-use std::slice::from_ref;
+use tile_flood::{OUT, Spill};
 
-/// A tile's summary, with the links between the points of its rim, and from them to the outlet node.
+/// A tile's summary, with the edges between the points of its rim, and from them to the outlet node: what leads from a
+/// label stands together, and beside the summary at most six bytes are held for each spill and each rim point that isn't
+/// its own label.
 #[derive(Drop)]
 pub struct TileGraph {
     side: Side,
     summary: Summary,
-    rows: LinkRows,
+    back: Vec<Spill>,
 }
 
 impl Model for TileGraph {
@@ -29,23 +31,24 @@ impl Model for TileGraph {
 
     ghost view = { λ t. record { side = t.side; summary = t.summary } };
 
-    ghost invariant = { λ t. AreTileRows t.side t.summary t.rows.starts.items t.rows.links.items };
+    ghost invariant = { λ t. AreTileRows t.side t.summary t.back.items };
 }
 
 impl TileGraph {
-    /// The graph of the tile with this summary. NoMemory is the only refusal.
+    /// The graph of the tile with this summary, whose spills it puts in an order of its own. NoMemory is the only refusal.
     pub fn new(alloc: Global, side: Side, summary: Summary) -> Result<TileGraph, Refusal>
-        ensures value { IfOk result (λ graph. graph ≡ record { side = side; summary = summary }) }
+        ensures side { IfOk result (λ graph. graph.side ≡ side) }
+        ensures summary { IfOk result (λ graph. IsReordered summary graph.summary) }
         ensures refusal { IfErr result (λ r. r ≡ NoMemory) }
     {
         // The side is known to be in range once it was read.
         let _edge = side.edge();
-        let links = links_between(alloc, side, from_ref(&summary))?;
-        let rows = rows_together(alloc, &links)?;
+        let summary = summary.in_order()?;
+        let back = turned_spills(alloc, side, &summary)?;
         Ok(TileGraph {
             side,
             summary,
-            rows,
+            back,
         })
     }
 
@@ -71,8 +74,7 @@ impl TileGraph {
         requires { k < 4 * (self.now.side - 1) }
         ensures { OnOk result (AreEdgesOut self.now.side self.now.summary k into.old.items into.new.items) }
     {
-        push_out(self.rows.row(0), 1 + k as usize, into)?;
-        Ok(())
+        list_out(self.side, &self.summary, &self.back, k, into)
     }
 
     /// Lists the edges from the rim point with this number to the others of its tile, whose nodes are numbered from
@@ -82,51 +84,119 @@ impl TileGraph {
         requires room { first + 4 * (self.now.side - 1) < 2 ^ 32 }
         ensures { OnOk result (AreEdgesAcross self.now.side self.now.summary k first into.old.items into.new.items) }
     {
-        push_reversed(self.rows.row(1 + k as usize), first, into)?;
-        Ok(())
+        list_across(self.side, &self.summary, &self.back, first, k, into)
     }
 }
 
-// Lists an edge to the outlet node for each link of the row that leads from the node.
-fn push_out(row: &[ShortLink], from: usize, into: &mut Vec<Edge>) -> Result<(), AllocError>
-    ensures { OnOk result (AreOut row.now (length row.now) from into.old.items into.new.items) }
+// Lists the edges from a rim point to the outlet node.
+fn list_out(
+    side: Side,
+    summary: &Summary,
+    back: &[Spill],
+    k: u32,
+    into: &mut Vec<Edge>,
+) -> Result<(), AllocError>
+    requires number { k < 4 * (side - 1) }
+    requires rows { AreTileRows side summary.now back.now }
+    ensures { OnOk result (AreEdgesOut side summary.now k into.old.items into.new.items) }
 {
-    for link in row {
-        if link.from as usize == from {
-            into.push(out_at(*link))?;
+    let Some(point) = ground_rim_point(side, summary, k) else {
+        return Ok(());
+    };
+    let own = Spill {
+        a: k as u16,
+        b: exit_of(point),
+        level: point.height,
+    };
+    push_out(&[own], into)?;
+    push_out(row(summary.spills(), k as u16), into)?;
+    Ok(())
+}
+
+// OUT for an outlet of the mosaic, else the point's label.
+fn exit_of(point: RimPoint) -> u16
+    ensures outlet { IsTrue point.outlet → result ≡ OUT_LABEL }
+    ensures label { IsFalse point.outlet → result ≡ point.label }
+{
+    if point.outlet { OUT } else { point.label }
+}
+
+// Lists an edge to the outlet node for each spill of the row that leads out.
+fn push_out(row: &[Spill], into: &mut Vec<Edge>) -> Result<(), AllocError>
+    ensures { OnOk result (AreListed (λ s. s.b ≡ OUT_LABEL) out_at row.now (length row.now) into.old.items into.new.items) }
+{
+    for spill in row {
+        if spill.b == OUT {
+            into.push(out_at(*spill))?;
         }
     }
     Ok(())
 }
 
-// Lists an edge to the start of each link of the row.
-fn push_reversed(row: &[ShortLink], first: u32, into: &mut Vec<Edge>) -> Result<(), AllocError>
-    requires { (link : LinkOf) → Contains row.now link → first + link.from < 2 ^ 32 }
-    ensures { OnOk result (AreReversed row.now (length row.now) first into.old.items into.new.items) }
-{
-    for link in row {
-        into.push(reversed(first, *link))?;
-    }
-    Ok(())
-}
-
-// The edge to the outlet node at the level of the link.
-fn out_at(link: ShortLink) -> Edge
-    ensures { result ≡ out_at link }
+// The edge to the outlet node at the level of the spill.
+fn out_at(spill: Spill) -> Edge
+    ensures { result ≡ out_at spill }
 {
     Edge {
-        level: link.level,
+        level: spill.level,
         to: 0,
     }
 }
 
-// The edge to the start of the link.
-fn reversed(first: u32, link: ShortLink) -> Edge
-    requires { first + link.from < 2 ^ 32 }
-    ensures { result ≡ reversed first link }
+// Lists the edges from a rim point to the others of its tile.
+fn list_across(
+    side: Side,
+    summary: &Summary,
+    back: &[Spill],
+    first: u32,
+    k: u32,
+    into: &mut Vec<Edge>,
+) -> Result<(), AllocError>
+    requires number { k < 4 * (side - 1) }
+    requires room { first + 4 * (side - 1) < 2 ^ 32 }
+    requires rows { AreTileRows side summary.now back.now }
+    ensures { OnOk result (AreEdgesAcross side summary.now k first into.old.items into.new.items) }
+{
+    let Some(point) = ground_rim_point(side, summary, k) else {
+        return Ok(());
+    };
+    let label = Spill {
+        a: k as u16,
+        b: point.label,
+        level: point.height,
+    };
+    push_across(side, summary, first, &[label], into)?;
+    push_across(side, summary, first, row(summary.spills(), k as u16), into)?;
+    push_across(side, summary, first, row(back, k as u16), into)?;
+    Ok(())
+}
+
+// Lists an edge to each ground rim point that a spill of the row leads to.
+fn push_across(
+    side: Side,
+    summary: &Summary,
+    first: u32,
+    row: &[Spill],
+    into: &mut Vec<Edge>,
+) -> Result<(), AllocError>
+    requires { first + 4 * (side - 1) < 2 ^ 32 }
+    ensures { OnOk result (AreListed (λ s. IsThere side (summary.now ∷ []) 0 s.b) (across first) row.now (length row.now) into.old.items into.new.items) }
+{
+    for spill in row {
+        if ground_rim_point(side, summary, u32::from(spill.b)).is_some() {
+            into.push(across(first, *spill))?;
+        }
+    }
+    Ok(())
+}
+
+// The edge to the rim point that the spill leads to.
+fn across(first: u32, spill: Spill) -> Edge
+    requires { first + (1 + spill.b) < 2 ^ 32 }
+    ensures { result ≡ across first spill }
 {
     Edge {
-        level: link.level,
-        to: first + u32::from(link.from),
+        level: spill.level,
+        to: first + (1 + u32::from(spill.b)),
     }
 }

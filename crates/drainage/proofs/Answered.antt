@@ -12,10 +12,20 @@ use Rattle.lattice.specs.Height.{height_of}
 use Rattle.lattice.specs.Ground.{is_ground, terrain}
 use Rattle.catalogue.specs.Tiles.{corners_of}
 use Rattle.catalogue.specs.Asked.{IsOwnRefusal}
+use Rattle.catalogue.specs.Endings.{ends_any}
 use Rattle.flow_d8.specs.Drainage.{AreFilledLevels}
 use Rattle.watershed.specs.Questions.{IsAnswered, IsUnanswered}
 use Rattle.drainage.specs.Asking.{IsHeldByNone, may_refuse}
 use Rattle.drainage.proofs.Holders.{outside_from}
+
+-- .. of a question that has no refusal of its own
+pub told_or_short : {T : Type 0} (Says : T → Type 0) (result : Result T Refusal) → IfErr result IsOwnRefusal → result ≢ Err Damaged → IfOk result Says → IfErr result (λ r. IsTrue (ends_any r)) → MatchResult result Says (λ r. r ≡ NoMemory)
+told_or_short Says (Ok x) own sound found may = found
+told_or_short Says (Err NoMemory) own sound found may = refl
+told_or_short Says (Err Damaged) own sound found may = absurd (sound refl)
+told_or_short Says (Err Device) own sound found may = absurd own
+told_or_short Says (Err Failed) own sound found may = absurd own
+told_or_short Says (Err _) own sound found may = absurd (false≢true may)
 
 module _ (m : Mosaic) (is : IsMosaic m) (p : Point) where
   unanswered : (r : Refusal) → IsTrue (may_refuse r) → IsOwnRefusal r → (r ≢ Damaged) → (r ≡ Outside → IsHeldByNone m.side (corners_of m) p) → (r ≡ Void → height_of m p ≡ height.Void) → IsUnanswered m p r

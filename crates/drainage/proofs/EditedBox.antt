@@ -1,10 +1,10 @@
 -- What an edit of points of a box leaves as it was.
-use Rattle.std.proofs.Common.{◌≡◌, ◌≢◌, ℕ, zero, suc, ◌+◌, ◌<◌, ◌≤◌, ℤ, true, false, ◌&&◌, List, [], ◌∷◌, length, get_or, take, refl, sym, ap, subst, arith}
+use Rattle.std.proofs.Common.{◌≡◌, ◌≢◌, ℕ, zero, suc, ◌+◌, ◌<◌, ◌≤◌, ℤ, Bool, true, false, ◌&&◌, List, [], ◌∷◌, length, get_or, take, refl, sym, ap, subst, arith}
 use Rattle.std.specs.Prelude.{if◌then◌else◌}
 use Rattle.std.proofs.lemmas.Bool.{and_left}
 use Rattle.lattice.specs.declared.point.Point.{Point}
 use Rattle.lattice.specs.Ground.{same_point}
-use Rattle.lattice.specs.Mosaic.{Mosaic, IsMosaic, void}
+use Rattle.lattice.specs.Mosaic.{Mosaic, IsMosaic, IsSample, void}
 use Rattle.catalogue.specs.Tiles.{corners_of}
 use Rattle.catalogue.specs.Tables.{AreCorners}
 use Rattle.catalogue.proofs.OneTile.{corners_are}
@@ -12,6 +12,7 @@ use Rattle.edits.specs.declared.edit.NewHeight.{NewHeight}
 use Rattle.edits.specs.Edits.{AreEarlier, with_height, with_heights}
 use Rattle.edits.specs.Effect.{edited, is_in_box, is_void_at, patched}
 use Rattle.edits.proofs.Edited.{heights_corners, heights_next, heights_side}
+use Rattle.edits.proofs.NewMosaics.{edited_is_mosaic}
 use Rattle.edits.proofs.EditedHeights.{edited_corners, height_stays}
 use Rattle.drainage.specs.Reaching.{is_between, DifferAt, DifferBetween}
 use Rattle.drainage.proofs.Reached.{apart_points, other_point}
@@ -57,3 +58,13 @@ pub earlier_at : (hs : List NewHeight) (i : ℕ) (h : NewHeight) (m : Mosaic) �
 earlier_at [] i h m below is earlier = absurd (omega arith)
 earlier_at (k ∷ hs) zero h m below is earlier = subst (λ (x : NewHeight). height_of m x.point ≡ At x.was) (sym is) earlier.0
 earlier_at (k ∷ hs) (suc i) h m below is earlier = earlier_at hs i h (with_height k.point k.metres m) (omega arith) is earlier.1
+
+-- .. and it is a mosaic
+pub valid_more : (hs : List NewHeight) (i : ℕ) (h : NewHeight) (m : Mosaic) → IsMosaic (with_heights (take i hs) m) → i < length hs → h ≡ get_or hs i h → IsSample h.metres → IsMosaic (with_heights (take (i + 1) hs) m)
+valid_more hs i h m valid below is sample =
+    let mid : Mosaic = with_heights (take i hs) m in
+    subst IsMosaic (sym (heights_next hs i h m below is)) (edited_is_mosaic mid (λ q s. if same_point q h.point then h.metres else s) (λ q s old. set_sample (same_point q h.point) s old) valid)
+  where
+    set_sample : (b : Bool) (s : ℤ) → IsSample s → IsSample (if b then h.metres else s)
+    set_sample true s old = sample
+    set_sample false s old = old

@@ -28,9 +28,16 @@ mod Noted
 mod Renewed
 mod Beyond
 mod EditedBox
-pub mod Learnt
 mod SparedLevels
 mod HeightSet
 mod FewTiles
-pub mod AllLevels
+mod RimLevels
 mod TileLevels
+pub mod Apart
+pub mod GroundAtHand
+pub mod PaddedLevels
+mod Told
+mod WholeTiles
+mod OutsideRange
+mod PastStill
+mod Unchanged

@@ -1,8 +1,9 @@
 -- The ways from a rim point, as they are listed of its tile and of the others that hold the point, are all its links.
-use Rattle.std.proofs.Common.{◌≡◌, ◌≢◌, ℕ, ◌+◌, ◌*◌, ◌-◌, ◌<◌, inl, inr, ℤ, pos, IsTrue, false, true≢false, ◌≤◌, List, [], ◌∷◌, length, map, refl, sym, ap, ◌∙◌, subst, arith, Contains}
+use Rattle.std.proofs.Common.{◌≡◌, ◌≢◌, ℕ, ◌+◌, ◌*◌, ◌-◌, ◌<◌, inl, inr, ℤ, pos, IsTrue, false, true≢false, ◌≤◌, List, [], length, map, refl, sym, ap, ◌∙◌, subst, arith, Contains}
 use Rattle.std.proofs.lemmas.Bool.{cases_Bool}
 use Rattle.std.proofs.lemmas.Bool.Decides.{Decides-int_eq}
 use Rattle.std.proofs.lemmas.List.{length-map}
+use Rattle.std.proofs.lemmas.List.Sorted.{IsPermutation-refl}
 use Rattle.std.proofs.Math.ListN.{get_or-map}
 use Rattle.std.specs.Ordering.{int_eq}
 use Rattle.lattice.specs.declared.point.Point.{Point}
@@ -13,14 +14,14 @@ use Rattle.lattice.specs.Ground.{is_ground}
 use Rattle.lattice.specs.Block.{rim_number}
 use Rattle.lattice.proofs.Samples.{index_below, index_of_point, point_at_index}
 use Rattle.lattice.proofs.RimNumbers.{one_rim_point}
-use Rattle.tile_flood.specs.Labelling.{OUT}
 use Rattle.border_graph.specs.Summaries.{Summary}
-use Rattle.border_graph.specs.Joining.{Node, Outlet, Rim, summary_at, rim_point, AreSummaries, IsThere, IsInnerLink, IsLabelLink, IsSharedLink, IsLink, IsRimNumberOf}
+use Rattle.border_graph.specs.Joining.{Node, Outlet, Rim, summary_at, rim_point, AreSummaries, IsThere, IsSharedLink, IsLink, IsRimNumberOf}
 use Rattle.border_graph.specs.Linking.{node_number}
-use Rattle.border_graph.specs.Sharing.{AreInOrder, IsOfRim}
+use Rattle.border_graph.specs.Reordered.{IsReordered}
+use Rattle.border_graph.specs.Sharing.{IsOfRim}
 use Rattle.border_graph.proofs.Joined.{at_node, ground_at, solid_at, there_at, are_in_order}
 use Rattle.border_graph.proofs.Listed.{one_tile, one_number}
-use Rattle.border_graph.proofs.Rims.{link_is_full}
+use Rattle.border_graph.proofs.Inside.{out_up, out_down, across_up, across_down}
 use Rattle.border_graph.proofs.Shared.{rim_of_other, one_point, one_tile_at}
 use Rattle.border_graph.specs.Edges.{AreEdges}
 use Rattle.border_graph.specs.Placed.{IsPlacedLink}
@@ -28,49 +29,6 @@ use Rattle.border_graph.specs.Others.{corner_at, AreApart, IsToOther}
 use Rattle.border_graph.specs.TileGraph.{TileGraph}
 use Rattle.border_graph.specs.declared.edge_source.Edge.{Edge}
 use Rattle.drainage.specs.RimGraphs.{AreTileEdges}
-
-abbrev none : Summary
-none = record { corner = record { lat = pos 0; lon = pos 0 }; rim = []; spills = [] }
-
--- a link inside a tile, by itself and among all
-module _ (n : ℕ) (summaries : List Summary) (t : ℕ) (small : t < length summaries) where
-  there_up : (k : ℕ) → IsThere n (summary_at summaries t ∷ []) 0 k → IsThere n summaries t k
-  there_up k there = record { tile = small; number = there.number; solid = there.solid }
-
-  there_down : (k : ℕ) → IsThere n summaries t k → IsThere n (summary_at summaries t ∷ []) 0 k
-  there_down k there = record { tile = omega arith; number = there.number; solid = there.solid }
-
-  label_up : (k l : ℕ) (level : ℤ) → IsLabelLink n (summary_at summaries t ∷ []) 0 k l level → IsLabelLink n summaries t k l level
-  label_up k l level link = record { names = link.names; height = link.height }
-
-  label_down : (k l : ℕ) (level : ℤ) → IsLabelLink n summaries t k l level → IsLabelLink n (summary_at summaries t ∷ []) 0 k l level
-  label_down k l level link = record { names = link.names; height = link.height }
-
-  inner_up : (k l : ℕ) (level : ℤ) → IsInnerLink n (summary_at summaries t ∷ []) 0 k l level → IsInnerLink n summaries t k l level
-  inner_up k l level (inl label) = inl (label_up k l level label)
-  inner_up k l level (inr (inl label)) = inr (inl (label_up l k level label))
-  inner_up k l level (inr (inr (inl spill))) = inr (inr (inl spill))
-  inner_up k l level (inr (inr (inr spill))) = inr (inr (inr spill))
-
-  inner_down : (k l : ℕ) (level : ℤ) → IsInnerLink n summaries t k l level → IsInnerLink n (summary_at summaries t ∷ []) 0 k l level
-  inner_down k l level (inl label) = inl (label_down k l level label)
-  inner_down k l level (inr (inl label)) = inr (inl (label_down l k level label))
-  inner_down k l level (inr (inr (inl spill))) = inr (inr (inl spill))
-  inner_down k l level (inr (inr (inr spill))) = inr (inr (inr spill))
-
-  out_up : (k : ℕ) (level : ℤ) → IsLink n (summary_at summaries t ∷ []) (Rim 0 k) Outlet level → IsLink n summaries (Rim t k) Outlet level
-  out_up k level (there, inl outlet) = (there_up k there, inl (record { outlet = outlet.outlet; height = outlet.height }))
-  out_up k level (there, inr (inl label)) = (there_up k there, inr (inl (label_up k OUT level label)))
-  out_up k level (there, inr (inr spill)) = (there_up k there, inr (inr spill))
-
-  out_down : (k : ℕ) (level : ℤ) → IsLink n summaries (Rim t k) Outlet level → IsLink n (summary_at summaries t ∷ []) (Rim 0 k) Outlet level
-  out_down k level (there, inl outlet) = (there_down k there, inl (record { outlet = outlet.outlet; height = outlet.height }))
-  out_down k level (there, inr (inl label)) = (there_down k there, inr (inl (label_down k OUT level label)))
-  out_down k level (there, inr (inr spill)) = (there_down k there, inr (inr spill))
-
-  across_up : (k l : ℕ) (level : ℤ) → IsLink n (summary_at summaries t ∷ []) (Rim 0 k) (Rim 0 l) level → IsLink n summaries (Rim t k) (Rim t l) level
-  across_up k l level (here, (there, inl inner)) = (there_up k here, (there_up l there, inl (refl, inner_up k l level inner.1)))
-  across_up k l level (here, (there, inr shared)) = absurd (shared.apart refl)
 
 module _ (m : Mosaic) (is : IsMosaic m) (summaries : List Summary) (all : AreSummaries m summaries) (corners : List Corner) (same : map (λ (b : Summary). b.corner) summaries ≡ corners) where
   corner_is : (t : ℕ) → corner_at corners t ≡ (summary_at summaries t).corner
@@ -162,11 +120,9 @@ module _ (m : Mosaic) (is : IsMosaic m) (summaries : List Summary) (all : AreSum
             );
           }
 
-    by_itself : AreInOrder (ways.summary ∷ [])
-    by_itself = record {
-      corners = λ u below. let first : 0 ≡ u = omega arith in subst (λ v. IsTrue (is_corner (summary_at (ways.summary ∷ []) v).corner)) first (subst (λ (b : Summary). IsTrue (is_corner b.corner)) is_told (is_corner_at t small));
-      rising = λ i d below. absurd (omega arith);
-    }
+    -- the summary that is told, as one of all
+    told : IsReordered (summary_at summaries t) ways.summary
+    told = subst (IsReordered (summary_at summaries t)) is_told (record { corner = refl; rim = refl; spills = IsPermutation-refl (summary_at summaries t).spills })
 
     not_gap : int_eq (rim_point ways.summary k).height void ≡ false → (rim_point ways.summary k).height ≢ void
     not_gap full same = true≢false (sym ((Decides-int_eq (rim_point ways.summary k).height void).1 same) ∙ full)
@@ -185,7 +141,7 @@ module _ (m : Mosaic) (is : IsMosaic m) (summaries : List Summary) (all : AreSum
         to = Rim t by.0;
         starts = refl;
         ends = by.1.0 ∙ order (t * (4 * (m.side - 1))) by.0;
-        link = across_up m.side summaries t small k by.0 way.level (subst (λ (b : Summary). IsLink m.side (b ∷ []) (Rim 0 k) (Rim 0 by.0) way.level) (sym is_told) by.1.1);
+        link = across_up m.side summaries t small ways.summary told k by.0 way.level by.1.1;
       }
       | inl first ↦ elim (listed.out.only way first) [
         | inl old ↦ let h = old.1 in absurd (omega arith)
@@ -195,7 +151,7 @@ module _ (m : Mosaic) (is : IsMosaic m) (summaries : List Summary) (all : AreSum
           to = Outlet;
           starts = refl;
           ends = by.0;
-          link = out_up m.side summaries t small k way.level (subst (λ (b : Summary). IsLink m.side (b ∷ []) (Rim 0 k) Outlet way.level) (sym is_told) by.1);
+          link = out_up m.side summaries t small ways.summary told k way.level by.1;
         }
       ]
     ]
@@ -213,14 +169,11 @@ module _ (m : Mosaic) (is : IsMosaic m) (summaries : List Summary) (all : AreSum
     ]
 
     out_listed : (level : ℤ) → IsLink m.side summaries (Rim t k) Outlet level → Contains new (record { level = level; to = 0 })
-    out_listed level link = before_others (record { level = level; to = 0 }) (listed.across.still (record { level = level; to = 0 }) (listed.out.all by_itself level
-        (subst (λ (b : Summary). IsLink m.side (b ∷ []) (Rim 0 k) Outlet level) is_told (out_down m.side summaries t small k level link)) (link_is_full m is summaries all (Rim t k) Outlet level link)))
+    out_listed level link = before_others (record { level = level; to = 0 }) (listed.across.still (record { level = level; to = 0 }) (listed.out.all level (out_down m.side summaries t small ways.summary told k level link)))
 
-    inner_listed : (l : ℕ) (level : ℤ) → IsThere m.side summaries t k → IsThere m.side summaries t l → IsInnerLink m.side summaries t k l level → level ≢ void → Contains new (record { level = level; to = node_number m.side (Rim t l) })
-    inner_listed l level on there inner full =
-        let link : IsLink m.side (summary_at summaries t ∷ []) (Rim 0 k) (Rim 0 l) level = (there_down m.side summaries t small k on, (there_down m.side summaries t small l there, inl (refl, inner_down m.side summaries t small k l level inner))) in
-        let has = listed.across.all by_itself l level (subst (λ (b : Summary). IsLink m.side (b ∷ []) (Rim 0 k) (Rim 0 l) level) is_told link) full in
-        before_others (record { level = level; to = node_number m.side (Rim t l) }) (subst (λ x. Contains listed.second (record { level = level; to = x })) (order (t * (4 * (m.side - 1))) l) has)
+    inner_listed : (l : ℕ) (level : ℤ) → IsLink m.side summaries (Rim t k) (Rim t l) level → Contains new (record { level = level; to = node_number m.side (Rim t l) })
+    inner_listed l level link = before_others (record { level = level; to = node_number m.side (Rim t l) })
+        (subst (λ x. Contains listed.second (record { level = level; to = x })) (order (t * (4 * (m.side - 1))) l) (listed.across.all l level (across_down m.side summaries t small ways.summary told k l level link)))
       where
         order : (a l : ℕ) → a + (1 + l) ≡ 1 + a + l
         order a l = omega arith
@@ -237,7 +190,7 @@ module _ (m : Mosaic) (is : IsMosaic m) (summaries : List Summary) (all : AreSum
     link_listed : (to : Node) (level : ℤ) → IsLink m.side summaries (Rim t k) to level → Contains new (record { level = level; to = node_number m.side to })
     link_listed Outlet level link = out_listed level link
     link_listed (Rim u l) level (on, (there, inl inner)) = subst (λ v. Contains new (record { level = level; to = node_number m.side (Rim v l) })) inner.0
-        (inner_listed l level on (subst (λ v. IsThere m.side summaries v l) (sym inner.0) there) inner.1 (link_is_full m is summaries all (Rim t k) (Rim u l) level (on, (there, inl inner))))
+        (inner_listed l level (subst (λ v. IsLink m.side summaries (Rim t k) (Rim v l) level) (sym inner.0) (on, (there, inl inner))))
     link_listed (Rim u l) level (on, (there, inr shared)) = shared_listed u l level on there shared
 
     all_listed : (y : ℕ) (level : ℤ) → IsPlacedLink m.side summaries (node_number m.side (Rim t k)) y level → Contains new (record { level = level; to = y })

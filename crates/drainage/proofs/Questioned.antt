@@ -1,12 +1,13 @@
 -- Questions one after another, and what their refusals are.
-use Rattle.std.proofs.Common.{◌≡◌, ◌⊎◌, inl, inr, Result, Ok, Err, refl, sym, ap, ◌∙◌, subst}
+use Rattle.std.proofs.Common.{◌≡◌, ◌⊎◌, inl, inr, IsTrue, Result, Ok, Err, refl, sym, ap, ◌∙◌, subst}
 use Rattle.std.specs.Prelude.{IfErr}
 use Rattle.lattice.specs.declared.refusal.Refusal.{Refusal}
 use Rattle.lattice.specs.declared.refusal.Refusal.TheVariants.{NoMemory, Damaged}
 use Rattle.catalogue.specs.Asked.{Asked}
+use Rattle.catalogue.specs.Endings.{ends_any}
 use Rattle.catalogue.specs.Readers.{OnlyReads}
 use Rattle.catalogue.specs.declared.samples.Samples.{Ghosts}
-use Rattle.catalogue.proofs.Reading.{reads_as}
+use Rattle.catalogue.proofs.Reading.{reads_as, reads_on}
 use Rattle.catalogue.proofs.Asking.{asked, asked_on, asked_passed}
 use Rattle.drainage.specs.Holding.{Known, IsRight, IsGrown, IsRefused}
 
@@ -49,3 +50,27 @@ module _ {S : Type 0} (g : Ghosts S) (a b : S) (known known' : Known) where
       (record { grown = grown; cause = refl; asked = λ _. asked g a b tt (Err NoMemory) reads tt (λ _ _ e. absurd (cc)) })
   own_refused r Q grown reads (inr (damaged, q)) never = subst (IsRefused g a b known known') (sym damaged)
       (record { grown = grown; cause = refl; asked = λ right. asked g a b tt (Err Damaged) reads tt (λ honest _ _. never honest (right honest) q) })
+
+-- a question ended after reads for want of memory, or as what was read can't be a mosaic's
+pub own_ended : {S T : Type 0} (g : Ghosts S) (a b : S) (r : Refusal) (Q : Type 0) → OnlyReads {T = Unit {0}} g a b (Ok tt) → (r ≡ NoMemory) ⊎ ((r ≡ Damaged) × Q) → (g.is_honest b → Q → ⊥) → Asked {T = T} g a b (Err r)
+own_ended {S} {T} g a b r Q reads (inl memory) never = subst (λ (x : Refusal). Asked {T = T} g a b (Err x)) (sym memory) (wanting g a b reads)
+own_ended {S} {T} g a b r Q reads (inr (damaged, q)) never = subst (λ (x : Refusal). Asked {T = T} g a b (Err x)) (sym damaged) (stopped g a b reads (λ honest. never honest q))
+
+pub own_cause : (r : Refusal) (Q : Type 0) → (r ≡ NoMemory) ⊎ ((r ≡ Damaged) × Q) → IsTrue (ends_any r)
+own_cause r Q (inl memory) = subst (λ (x : Refusal). IsTrue (ends_any x)) (sym memory) refl
+own_cause r Q (inr (damaged, q)) = subst (λ (x : Refusal). IsTrue (ends_any x)) (sym damaged) refl
+
+-- a question ended after reads, if not with an answer then for want of memory
+pub short_of_memory : {S T : Type 0} (g : Ghosts S) (a b : S) (result : Result T Refusal) → OnlyReads {T = Unit {0}} g a b (Ok tt) → IfErr result (λ r. r ≡ NoMemory) → Asked g a b result
+short_of_memory {S} {T} g a b (Ok x) reads none = answered g a b x reads
+short_of_memory {S} {T} g a b (Err r) reads none = subst (λ (x : Refusal). Asked {T = T} g a b (Err x)) (sym none) (wanting g a b reads)
+
+-- the same after one question more, which was answered
+pub short_after : {S T U : Type 0} (g : Ghosts S) (keeps_on : (a b c : S) → g.keeps a b → g.keeps b c → g.keeps a c) (a b c : S) (x : U) (result : Result T Refusal) → OnlyReads {T = Unit {0}} g a b (Ok tt) → Asked g b c (Ok x)
+    → IfErr result (λ r. r ≡ NoMemory) → Asked g a c result
+short_after g keeps_on a b c x result reads last none = short_of_memory g a c result (reads_on g keeps_on a b c tt (Ok tt) reads (asked_reads g b c x last)) none
+
+-- .. which was refused
+pub refused_after : {S T U : Type 0} (g : Ghosts S) (keeps_on : (a b c : S) → g.keeps a b → g.keeps b c → g.keeps a c) (a b c : S) (result : Result T Refusal) (was r : Refusal) → result ≡ Err was → was ≡ r
+    → OnlyReads {T = Unit {0}} g a b (Ok tt) → Asked {T = U} g b c (Err r) → Asked g a c result
+refused_after g keeps_on a b c result was r is same reads last = refused_by g a c result was r is same (asked_passed g a c r (asked_on g keeps_on a b c (tt {0}) (Err r) reads last))

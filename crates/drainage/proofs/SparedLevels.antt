@@ -27,7 +27,7 @@ use Rattle.border_graph.specs.Linking.{node_number}
 use Rattle.border_graph.specs.Others.{corner_at}
 use Rattle.drainage.specs.Holding.{IsRimLevel, level_of}
 use Rattle.drainage.specs.Reaching.{is_between, DifferAt, DifferBetween}
-use Rattle.drainage.specs.Spared.{IsNoHigher, AreLevelsStill, IsSpared, IsSetTo}
+use Rattle.drainage.specs.Spared.{IsNoHigher, AreLevelsStill, LiesApart, IsSpared, IsSetTo}
 use Rattle.drainage.proofs.Reached.{between_itself, differ_with, differ_without, own_with}
 use Rattle.drainage.proofs.Unreached.{shared_still}
 
@@ -115,13 +115,18 @@ module _ {P : Type 0} (t u : Terrain P) (ground : (x : P) → u.is_ground x ≡ 
 -- ---- over two mosaics of the same ground
 
 module _ (m new : Mosaic) (p : Point) (differ : DifferBetween m new p p) (ground : (q : Point) → is_ground new q ≡ is_ground m q) where
-  adjacent_still : (q r : Point) → is_adjacent new q r ≡ is_adjacent m q r
+  pub adjacent_still : (q r : Point) → is_adjacent new q r ≡ is_adjacent m q r
   adjacent_still q r =
       ap₂ (λ (a b : Bool). a && b && not (same_point q r) && is_near q r && share_tile new q r) (ground q) (ground r)
       ∙ ap (λ b. is_ground m q && is_ground m r && not (same_point q r) && is_near q r && b) (shared_still m new p p differ q r)
 
-  degree_still : (q : Point) → degree_of new q ≡ degree_of m q
+  pub degree_still : (q : Point) → degree_of new q ≡ degree_of m q
   degree_still q = ap (λ (f : Dir → Bool). count_by f directions) (fun_ext (λ d. adjacent_still q (step d q)))
+
+pub outlet_still : (m new : Mosaic) (p : Point) (differ : DifferAt m new p) (ground : (q : Point) → is_ground new q ≡ is_ground m q) (q : Point) → is_outlet new q ≡ is_outlet m q
+outlet_still m new p differ ground q =
+    ap₂ (λ (a : Bool) (k : ℕ). a && (nat_lt k 8 || is_sink new q)) (ground q) (degree_still m new p differ.around ground q)
+    ∙ ap (λ b. is_ground m q && (nat_lt (degree_of m q) 8 || b)) (differ.all_sinks q)
 
 -- where each sink of the one is one of the other, so is each outlet
 or_more : (a b c : Bool) → (b ≡ true → c ≡ true) → (a || b) ≡ true → (a || c) ≡ true
@@ -136,7 +141,7 @@ more_outlets m new q ground degree more out =
 
 -- ---- over two mosaics that differ in the height of one ground point
 
-module _ (m new : Mosaic) (p : Point) (differ : DifferAt m new p) (was is : ℤ) (before : height_of m p ≡ At was) (after : height_of new p ≡ At is) (v : ℤ) (spared : ((v <ℤ was) × (v <ℤ is)) ⊎ ((was <ℤ v) × (is <ℤ v))) where
+module _ (m new : Mosaic) (p : Point) (differ : DifferAt m new p) (was is : ℤ) (before : height_of m p ≡ At was) (after : height_of new p ≡ At is) where
   -- a point is this one, or has the height that it had
   this_or_same : (q : Point) → (p ≡ q) ⊎ (height_of new q ≡ height_of m q)
   this_or_same q = elim (cases_Bool (is_between p p q)) [
@@ -156,30 +161,31 @@ module _ (m new : Mosaic) (p : Point) (differ : DifferAt m new p) (was is : ℤ)
   metres_after : (q : Point) → p ≡ q → metres (height_of new q) ≡ is
   metres_after q here = ap metres (ap (height_of new) (sym here) ∙ after)
 
-  low_still : (q : Point) → metres (height_of m q) ≤ℤ v → metres (height_of new q) ≤ℤ v
-  low_still q low = elim (this_or_same q) [
-    | inl here ↦ subst (λ w. w ≤ℤ v) (sym (metres_after q here)) (low_here (subst (λ w. w ≤ℤ v) (metres_before q here) low) spared)
-    | inr same ↦ subst (λ (h : Height). metres h ≤ℤ v) (sym same) low
-  ]
-    where
-      low_here : was ≤ℤ v → ((v <ℤ was) × (v <ℤ is)) ⊎ ((was <ℤ v) × (is <ℤ v)) → is ≤ℤ v
-      low_here low (inl below) = let b = below.0 in absurd (omega (arith, ints))
-      low_here low (inr above) = let b = above.1 in omega (arith, ints)
+  module _ (v : ℤ) (spared : LiesApart was is v) where
+    low_still : (q : Point) → metres (height_of m q) ≤ℤ v → metres (height_of new q) ≤ℤ v
+    low_still q low = elim (this_or_same q) [
+      | inl here ↦ subst (λ w. w ≤ℤ v) (sym (metres_after q here)) (low_here (subst (λ w. w ≤ℤ v) (metres_before q here) low) spared)
+      | inr same ↦ subst (λ (h : Height). metres h ≤ℤ v) (sym same) low
+    ]
+      where
+        low_here : was ≤ℤ v → LiesApart was is v → is ≤ℤ v
+        low_here low (inl below) = let b = below.0 in absurd (omega (arith, ints))
+        low_here low (inr above) = let b = above.1 in omega (arith, ints)
 
-  under_still : (q : Point) → metres (height_of new q) <ℤ v → metres (height_of m q) <ℤ v
-  under_still q low = elim (this_or_same q) [
-    | inl here ↦ subst (λ w. w <ℤ v) (sym (metres_before q here)) (under_here (subst (λ w. w <ℤ v) (metres_after q here) low) spared)
-    | inr same ↦ subst (λ (h : Height). metres h <ℤ v) same low
-  ]
-    where
-      under_here : is <ℤ v → ((v <ℤ was) × (v <ℤ is)) ⊎ ((was <ℤ v) × (is <ℤ v)) → was <ℤ v
-      under_here low (inl below) = let b = below.1 in absurd (omega (arith, ints))
-      under_here low (inr above) = above.0
+    under_still : (q : Point) → metres (height_of new q) <ℤ v → metres (height_of m q) <ℤ v
+    under_still q low = elim (this_or_same q) [
+      | inl here ↦ subst (λ w. w <ℤ v) (sym (metres_before q here)) (under_here (subst (λ w. w <ℤ v) (metres_after q here) low) spared)
+      | inr same ↦ subst (λ (h : Height). metres h <ℤ v) same low
+    ]
+      where
+        under_here : is <ℤ v → LiesApart was is v → was <ℤ v
+        under_here low (inl below) = let b = below.1 in absurd (omega (arith, ints))
+        under_here low (inr above) = above.0
 
-  pub filled_still : (q : Point) → IsFilledLevel (terrain m) q v → IsFilledLevel (terrain new) q v
-  filled_still = level_stays (terrain m) (terrain new) ground_still (adjacent_still m new p differ.around ground_still) v low_still under_still
-      (λ q _. more_outlets m new q (ground_still q) (degree_still m new p differ.around ground_still q) (λ on. differ.all_sinks q ∙ on))
-      (λ q _. more_outlets new m q (sym (ground_still q)) (sym (degree_still m new p differ.around ground_still q)) (λ on. sym (differ.all_sinks q) ∙ on))
+    pub filled_still : (q : Point) → IsFilledLevel (terrain m) q v → IsFilledLevel (terrain new) q v
+    filled_still = level_stays (terrain m) (terrain new) ground_still (adjacent_still m new p differ.around ground_still) v low_still under_still
+        (λ q _. more_outlets m new q (ground_still q) (degree_still m new p differ.around ground_still q) (λ on. differ.all_sinks q ∙ on))
+        (λ q _. more_outlets new m q (sym (ground_still q)) (sym (degree_still m new p differ.around ground_still q)) (λ on. sym (differ.all_sinks q) ∙ on))
 
 -- ---- over two mosaics that differ in one sink: no level below its ground changes, and as it comes, none as high
 
@@ -259,7 +265,7 @@ rim_level_still m new same_side corners x v still r =
 -- the level of a rim point that is known, and spared
 module _ (m new : Mosaic) (p : Point) (differ : DifferAt m new p) where
   -- the same height twice, or another
-  spared_twice : (was is v : ℤ) → ((v <ℤ was) × (v <ℤ is)) ⊎ ((was <ℤ v) × (is <ℤ v)) → ((v <ℤ was) × (v <ℤ was)) ⊎ ((was <ℤ v) × (was <ℤ v))
+  pub spared_twice : (was is v : ℤ) → LiesApart was is v → LiesApart was was v
   spared_twice was is v (inl below) = inl (below.0, below.0)
   spared_twice was is v (inr above) = inr (above.0, above.0)
 

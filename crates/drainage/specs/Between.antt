@@ -1,74 +1,52 @@
 -- What is held between two questions.
-use Rattle.std.specs.Prelude.{◌≡◌, ℤ, Option, Some, None, length}
+use Rattle.std.specs.Prelude.{◌≡◌, ◌+◌, ℤ, Option, Some, None, length}
 use Rattle.std.specs.Option.{ForSome}
 use Rattle.lattice.specs.Corners.{Corner}
 use Rattle.lattice.specs.Mosaic.{Mosaic}
 use Rattle.lattice.specs.declared.point.Point.{Point}
 use Rattle.catalogue.specs.declared.samples.Samples.{Ghosts}
 use Rattle.tile_flood.specs.Blocks.{LabelledGround}
-use Rattle.flow_d8.specs.Directions.{Directions, AreDirectionsOf}
-use Rattle.flow_d8.specs.LevelsAround.{OnLevels}
-use Rattle.drainage.specs.Flows.{AreFlows}
+use Rattle.flow_d8.specs.FlowCaches.{IsCacheOf, IsPastOf}
+use Rattle.flow_d8.specs.FlowGrids.{AreFewTiles}
+use Rattle.flow_d8.specs.declared.flow_cache.FlowCache.{FlowCache}
+use Rattle.flow_d8.specs.declared.past_flows.PastFlows.{PastFlows}
 use Rattle.drainage.specs.Invalidating.{IsLeftOf, IsNotedOf}
 use Rattle.drainage.specs.Holding.{IsRight, IsCurrentIn}
+use Rattle.drainage.specs.PastFlows.{past_tiles, IsPastTaken, are_spared}
 use Rattle.drainage.specs.Reaching.{is_reached}
-use Rattle.drainage.specs.Room.{AreFew, AreFewTiles, AreFewSamples, AreFewRims}
+use Rattle.drainage.specs.Room.{AreFew}
 use Rattle.drainage.specs.TileCaches.{known_of}
-use Rattle.drainage.specs.WideFlats.{AreWideFlats, AnyIsOver}
-use Rattle.drainage.specs.declared.flows.Flows.{Flows}
 use Rattle.drainage.specs.declared.drainage_cache.DrainageCache.{DrainageCache}
 use Rattle.drainage.specs.declared.tile_cache.TileCache.{TileCache}
-use Rattle.drainage.specs.declared.wide_flats.WideFlats.{WideFlats}
 
 abbrev pub are_right : Mosaic → Option TileCache → Type 0
 are_right m None = Unit {0}
 are_right m (Some tile_cache) = IsRight m (known_of tile_cache)
 
-abbrev pub drain_right : Mosaic → Option Flows → Type 0
-drain_right m None = Unit {0}
-drain_right m (Some flows) = AreFlows m flows
+abbrev pub flow_cache_right : Mosaic → Option FlowCache → Type 0
+flow_cache_right m None = Unit {0}
+flow_cache_right m (Some cache) = IsCacheOf m cache
 
-abbrev pub directions_right : Mosaic → Option Directions → Type 0
-directions_right m None = Unit {0}
-directions_right m (Some directions) = OnLevels m (λ level. AreDirectionsOf m level directions)
-
-abbrev pub flats_right : Mosaic → Option WideFlats → Type 0
-flats_right m None = Unit {0}
-flats_right m (Some flats) = AreWideFlats m flats
+abbrev pub past_right : Mosaic → Option PastFlows → Type 0
+past_right m None = Unit {0}
+past_right m (Some past) = IsPastOf m past
 
 -- what is held is right for the mosaic, or nothing is
 pub record IsHeldOf (m : Mosaic) (held : DrainageCache) : Type 0 where
   pub tile_cache : are_right m held.tile_cache
-  pub flows : drain_right m held.flows
-  pub directions : directions_right m held.directions
-  pub wide_flats : flats_right m held.wide_flats
+  pub flow_cache : flow_cache_right m held.flow_cache
+  pub past_flows : past_right m held.past_flows
 
 -- the labellings of few tiles are held, or none is
 abbrev pub are_few : Option TileCache → Type 0
 are_few None = Unit {0}
 are_few (Some tile_cache) = AreFew tile_cache.rim_graph.side tile_cache.labellings.held.items
 
--- of few tiles it is held where their points drain, or of none
-abbrev pub of_few_tiles : Option Flows → Type 0
-of_few_tiles None = Unit {0}
-of_few_tiles (Some flows) = AreFewTiles flows.side (length flows.tiles.items)
-
--- the rims of few tiles are held, or none is
-abbrev pub of_few_rims : Option WideFlats → Type 0
-of_few_rims None = Unit {0}
-of_few_rims (Some flats) = AreFewRims flats.flats.items
-
 -- no more is held than there is room for
 pub record HoldsFew (held : DrainageCache) : Type 0 where
   pub labellings : are_few held.tile_cache
-  pub flows : of_few_tiles held.flows
-  pub directions : ForSome held.directions AreFewSamples
-  pub wide_flats : of_few_rims held.wide_flats
-
--- what was learnt is held of a wide flat with this level that goes over a tile that holds the point
-abbrev pub any_is_over : Option WideFlats → ℤ → Point → Type 0
-any_is_over None level p = ⊥
-any_is_over (Some flats) level p = AnyIsOver flats level p
+  pub flow_cache : ForSome held.flow_cache (λ cache. AreFewTiles cache.grid.tiles.side (length cache.grid.tiles.corners + past_tiles held.past_flows))
+  pub past_flows : ForSome held.past_flows (λ past. AreFewTiles past.grid.tiles.side (length past.grid.tiles.corners))
 
 -- these are the levels and labels that are held of the corner's tile, and no height may have changed since
 abbrev pub is_current_in : Option TileCache → Corner → LabelledGround → Type 0
@@ -97,6 +75,14 @@ are_noted p was is (Some tile_cache) left =
 abbrev pub IsNotedHeld : Point → ℤ → ℤ → DrainageCache → DrainageCache → Type 0
 IsNotedHeld p was is held left = are_noted p was is held.tile_cache left.tile_cache
 
+-- what was known of where points drain is left where the change of a height from the one to the other spares it
+abbrev pub AreFlowsLeft : ℤ → ℤ → DrainageCache → DrainageCache → Type 0
+AreFlowsLeft was is held left = (past : Option PastFlows) × (IsPastTaken held.flow_cache held.past_flows past × are_spared was is past left.past_flows)
+
 -- what is held is right for the mosaic that the samples stand for, where they are honest
 abbrev pub IsHeldFor : {S : Type 0} (g : Ghosts S) → S → DrainageCache → Type 0
 IsHeldFor g samples held = g.is_honest samples → IsHeldOf (g.mosaic samples) held
+
+-- what is known of tiles' flows is right for it
+abbrev pub AreFlowsFor : {S : Type 0} (g : Ghosts S) → S → FlowCache → Type 0
+AreFlowsFor g samples cache = g.is_honest samples → IsCacheOf (g.mosaic samples) cache

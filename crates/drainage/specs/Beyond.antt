@@ -50,10 +50,14 @@ are_levels_kept heights (Some tile_cache) left =
 abbrev pub AreLevelsKept : List NewHeight → DrainageCache → DrainageCache → Type 0
 AreLevelsKept heights held left = are_levels_kept heights held.tile_cache left.tile_cache
 
+-- where each point gets the height that it has, all that is held is kept
+abbrev pub IsKeptUnchanged : List NewHeight → DrainageCache → DrainageCache → Type 0
+IsKeptUnchanged heights held left = All (λ h. h.was ≡ h.metres) heights → left ≡ held
+
 -- what is held of tiles that the edit doesn't reach is kept, where no tile comes or goes; as a sink comes, levels no higher
 -- than its ground are kept too, and as one goes, levels below it
 abbrev pub IsKeptBeyondEdit : Edit → DrainageCache → DrainageCache → Type 0
-IsKeptBeyondEdit (Heights heights) held left = IsKeptBeyondHeights heights.items held left × AreLevelsKept heights.items held left
+IsKeptBeyondEdit (Heights heights) held left = IsKeptBeyondHeights heights.items held left × AreLevelsKept heights.items held left × IsKeptUnchanged heights.items held left
 IsKeptBeyondEdit (Voids from to h tiles) held left = IsLeftHeld from to (IsNoHigher None) held left
 IsKeptBeyondEdit (Sink p h) held left = IsLeftHeld p p (IsNoHigher (Some h)) held left
 IsKeptBeyondEdit (Unsink p h) held left = IsLeftHeld p p (IsNoHigher (one_lower h)) held left

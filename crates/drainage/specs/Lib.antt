@@ -13,7 +13,9 @@ pub mod Invalidating
 pub mod Nearby
 pub mod Ring
 pub mod Beyond
-pub mod Flows
-pub mod WideFlats
 pub mod Spared
-pub mod Everywhere
+pub mod FlowPaths
+pub mod Padded
+pub mod TileLevels
+pub mod WholeTiles
+pub mod PastFlows

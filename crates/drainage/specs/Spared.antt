@@ -7,9 +7,13 @@ use Rattle.lattice.specs.Height.{height_of}
 use Rattle.lattice.specs.Mosaic.{Mosaic, void}
 use Rattle.lattice.specs.Terrain.{IsFilledLevel}
 
--- as a ground point gets another height, a level below both heights stays, and one above both
+-- a level lies below both heights, or above both
+abbrev pub LiesApart : ℤ → ℤ → ℤ → Type 0
+LiesApart was is level = ((level <ℤ was) × (level <ℤ is)) ⊎ ((was <ℤ level) × (is <ℤ level))
+
+-- .. and so it stays as a ground point of the one height gets the other
 abbrev pub IsSpared : ℤ → ℤ → ℤ → Type 0
-IsSpared was is level = (is ≢ void) × (((level <ℤ was) × (level <ℤ is)) ⊎ ((was <ℤ level) × (is <ℤ level)))
+IsSpared was is level = (is ≢ void) × LiesApart was is level
 
 -- a level no higher than this one, where there is one
 abbrev pub IsNoHigher : Option ℤ → ℤ → Type 0

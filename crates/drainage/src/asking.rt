@@ -1,14 +1,15 @@
 //! Whether there is ground at the point that is asked for.
-ghost use Rattle.std.specs.Prelude.{◌≡◌, ◌↔◌, IsTrue, IsOk, IfErr, IsErrOf};
+ghost use Rattle.std.specs.Prelude.{◌≡◌, ◌↔◌, IsTrue, IsOk, IfErr, IfSome, IfNone, IsErrOf, Contains};
 ghost use Rattle.lattice.specs.Height.{height_of};
 ghost use Rattle.lattice.specs.Ground.{is_ground};
+ghost use Rattle.lattice.specs.Lattice.{Holds};
 ghost use Rattle.lattice.specs.declared.height.Height.TheVariants as height_is;
 ghost use Rattle.lattice.specs.declared.refusal.Refusal.TheVariants.{Outside, Void};
 ghost use Rattle.catalogue.specs.Asked.{Asked};
 ghost use Rattle.drainage.specs.Asking.{IsHeldByNone, may_refuse};
 
 use catalogue::{Samples, height};
-use lattice::{Height, Point, Refusal, holders};
+use lattice::{Corner, Height, Point, Refusal, holders};
 
 /// Refused where the point isn't ground, as the questions about water are. It reads the point alone.
 pub(crate) fn check_ground<S: Samples>(samples: &mut S, point: Point) -> Result<(), Refusal>
@@ -32,11 +33,22 @@ fn is_held<S: Samples>(samples: &S, point: Point) -> bool
     ensures held { IsTrue result → IsHeldByNone (S.side_of samples.now) (S.corners samples.now) point → ⊥ }
     ensures none { (IsTrue result → ⊥) → IsHeldByNone (S.side_of samples.now) (S.corners samples.now) point }
 {
+    match present_holder(samples, point) {
+        Some(_) => true,
+        None => false,
+    }
+}
+
+/// The first of the present tiles that hold the point.
+pub(crate) fn present_holder<S: Samples>(samples: &S, point: Point) -> Option<Corner>
+    ensures none { IfNone result (IsHeldByNone (S.side_of samples.now) (S.corners samples.now) point) }
+    ensures some { IfSome result (λ corner. Contains (S.corners samples.now) corner × Holds (S.side_of samples.now) corner point) }
+{
     let corners = holders(samples.side(), point);
     for corner in corners.as_slice() {
         if samples.present(*corner) {
-            return true;
+            return Some(*corner);
         }
     }
-    false
+    None
 }

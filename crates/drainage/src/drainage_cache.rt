@@ -1,5 +1,5 @@
 //! What is found of a mosaic's water, held between two questions.
-ghost use Rattle.std.specs.Prelude.{◌≡◌, ◌↔◌, None, IsTrue, IfOk, IfErr, IfSome, IfNone};
+ghost use Rattle.std.specs.Prelude.{◌≡◌, ◌↔◌, ◌⊎◌, ◌+◌, None, IsTrue, IfOk, IfErr, IfSome, IfNone, length};
 ghost use Rattle.std.specs.Option.{ForSome};
 ghost use Rattle.lattice.specs.Height.{height_of};
 ghost use Rattle.lattice.specs.Mosaic.{Mosaic, IsMosaic};
@@ -7,48 +7,43 @@ ghost use Rattle.lattice.specs.declared.height.Height.TheVariants.{At};
 ghost use Rattle.tile_flood.specs.Blocks.{LabelledGround};
 ghost use Rattle.tile_labellings.specs.Labellings.{IsFlooded};
 ghost use Rattle.lattice.specs.Ground.{terrain};
-ghost use Rattle.flow_d8.specs.DeepFlows.{IsTileOf, AreFlowsOf};
-ghost use Rattle.flow_d8.specs.Feeders.{AreFeedersOf};
 ghost use Rattle.flow_d8.specs.LevelsAround.{IsNear, OnLevels};
-ghost use Rattle.flow_d8.specs.Way.{IsWay};
-ghost use Rattle.flow_d8.specs.Directions.{AreDirectionsOf};
-ghost use Rattle.flow_d8.specs.WideFlat.{IsLearntFlat, IsOver};
 ghost use Rattle.lattice.specs.declared.refusal.Refusal.TheVariants.{NoMemory};
 ghost use Rattle.drainage.specs.Holding.{IsRight};
+ghost use Rattle.drainage.specs.PastFlows.{past_tiles, IsPastTaken, IsOfMore};
 ghost use Rattle.drainage.specs.Reaching.{DifferAt, DifferBetween};
-ghost use Rattle.drainage.specs.Room.{AreFewSamples};
+ghost use Rattle.flow_d8.specs.Flows.{IsFlow};
+ghost use Rattle.flow_d8.specs.FlowCaches.{IsCacheOf};
+ghost use Rattle.flow_d8.specs.FlowGrids.{AreFewTiles};
+ghost use Rattle.flow_d8.specs.FlowsAround.{AreTellingAround};
 ghost use Rattle.drainage.specs.Spared.{AreLevelsStill, IsNoHigher, IsSetTo};
 
-use crate::flows::Flows;
 use crate::nearby::near;
 use crate::tile_cache::TileCache;
-use crate::wide_flats::WideFlats;
-use arrayvec::ArrayVec;
 use catalogue::Samples;
 use edits::NewHeight;
-use flow_d8::{Directions, Filled, Flow, Near, WideFlat};
-use lattice::{Corner, Dir, Point, Refusal, Side};
+use flow_d8::{Flow, FlowCache, Near, PastFlows};
+use lattice::{Corner, Point, Refusal, Side};
 use std::alloc::Global;
 use tile_flood::Labelled;
 
 /// What questions about the water of one mosaic found, so that a later question doesn't find it again: the ways of the
 /// tiles that water came to, the labellings of those that were asked, as many as there is room for, the levels of rim
-/// points, where points drain, and what tells where those of wide flats do.
+/// points, and where points drain.
 #[derive(Drop)]
 pub struct DrainageCache {
     tile_cache: Option<TileCache>,
-    flows: Option<Flows>,
-    // Of all points, once a search went far.
-    directions: Option<Directions>,
-    wide_flats: Option<WideFlats>,
-    ghost few: { ForSome directions AreFewSamples },
+    flow_cache: Option<FlowCache>,
+    // What is left of where points drained before heights changed.
+    past_flows: Option<PastFlows>,
+    ghost few: { ForSome flow_cache (λ cache. AreFewTiles cache.grid.tiles.side (length cache.grid.tiles.corners)) },
+    ghost few_both: { ForSome flow_cache (λ cache. AreFewTiles cache.grid.tiles.side (length cache.grid.tiles.corners + past_tiles past_flows)) },
+    ghost few_past: { ForSome past_flows (λ past. AreFewTiles past.grid.tiles.side (length past.grid.tiles.corners)) },
 }
 
 impl DrainageCache {
-    ghost use Rattle.drainage.specs.Between.{IsHeldOf, IsLeftHeld, IsNotedHeld, IsCurrentOf, any_is_over};
-    ghost use Rattle.drainage.specs.Flows.{AreFlows};
+    ghost use Rattle.drainage.specs.Between.{IsHeldOf, IsLeftHeld, IsNotedHeld, IsCurrentOf, AreFlowsLeft};
     ghost use Rattle.drainage.specs.TileCaches.{known_of};
-    ghost use Rattle.drainage.specs.WideFlats.{AreWideFlats};
 
     /// Nothing is held. Takes no memory.
     pub fn new() -> DrainageCache
@@ -56,9 +51,8 @@ impl DrainageCache {
     {
         DrainageCache {
             tile_cache: None,
-            flows: None,
-            directions: None,
-            wide_flats: None,
+            flow_cache: None,
+            past_flows: None,
         }
     }
 
@@ -67,7 +61,7 @@ impl DrainageCache {
         ensures { (m : Mosaic) → IsHeldOf m self.new }
     {
         self.tile_cache = None;
-        self.invalidate_ways();
+        self.invalidate_flows();
     }
 
     /// Gives up what changes of points from the one to the other, ends included, may make wrong: the ways and the labellings
@@ -78,7 +72,7 @@ impl DrainageCache {
         ensures left { IsLeftHeld from to (IsNoHigher most) self.old self.new }
         ensures right { (m new : Mosaic) → DifferBetween m new from to → AreLevelsStill (IsNoHigher most) m new → IsHeldOf m self.old → IsHeldOf new self.new }
     {
-        self.invalidate_ways();
+        self.invalidate_flows();
         let Some(mut tile_cache) = self.tile_cache.take() else {
             return;
         };
@@ -88,14 +82,16 @@ impl DrainageCache {
 
     /// The ground point may have this height from then on, but no sink comes or goes: the labellings of the tiles that hold it
     /// are mended when they are asked for, but kept ones where it lay below its level and stays there; the ways of tiles that
-    /// hold it or a point beside it are given up, and where points drain; and of the levels of rim points those that aren't
-    /// below both heights of the point, nor above both. What is held serves on, for the mosaic as it was and as it becomes.
+    /// hold it or a point beside it are given up, and those levels of rim points that aren't below both heights of the point,
+    /// nor above both; and where points drain, near such levels. What is held serves on, for the mosaic as it was and as it
+    /// becomes.
     pub fn note_changed(&mut self, height: &NewHeight)
         ensures left { IsNotedHeld height.now.point height.now.was height.now.metres self.old self.new }
         ensures still { (m : Mosaic) → IsHeldOf m self.old → IsHeldOf m self.new }
-        ensures right { (m new : Mosaic) → DifferAt m new height.now.point → height_of m height.now.point ≡ At height.now.was → IsSetTo m new height.now.point height.now.metres → IsHeldOf m self.old → IsHeldOf new self.new }
+        ensures right { (m new : Mosaic) → IsMosaic m → DifferAt m new height.now.point → height_of m height.now.point ≡ At height.now.was → IsSetTo m new height.now.point height.now.metres → IsHeldOf m self.old → IsHeldOf new self.new }
+        ensures flows { AreFlowsLeft height.now.was height.now.metres self.old self.new }
     {
-        self.invalidate_ways();
+        self.retain_spared_flows(height.was, height.metres);
         let Some(mut tile_cache) = self.tile_cache.take() else {
             return;
         };
@@ -114,15 +110,119 @@ impl DrainageCache {
     }
 
     // Nothing is known of where points drain from then on: that depends on levels all over the mosaic.
-    fn invalidate_ways(&mut self)
+    fn invalidate_flows(&mut self)
         ensures tile_cache { self.new.tile_cache ≡ self.old.tile_cache }
-        ensures flows { self.new.flows ≡ None }
-        ensures directions { self.new.directions ≡ None }
-        ensures wide_flats { self.new.wide_flats ≡ None }
+        ensures flow_cache { self.new.flow_cache ≡ None }
+        ensures past_flows { self.new.past_flows ≡ None }
     {
-        self.flows = None;
-        self.directions = None;
-        self.wide_flats = None;
+        self.flow_cache = None;
+        self.past_flows = None;
+    }
+
+    // Of where points drain that is known from then on which no change of a ground point's height from the one to the other
+    // can move.
+    fn retain_spared_flows(&mut self, was: i16, is: i16)
+        ensures tile_cache { self.new.tile_cache ≡ self.old.tile_cache }
+        ensures flow_cache { self.new.flow_cache ≡ None }
+        ensures left { AreFlowsLeft was is self.old self.new }
+    {
+        let Some(mut past) = self.take_past() else {
+            return;
+        };
+        past.retain_spared(was, is);
+        self.past_flows = Some(past);
+    }
+
+    // Hands out where points drain, as of before heights change. None is held then.
+    fn take_past(&mut self) -> Option<PastFlows>
+        ensures tile_cache { self.new.tile_cache ≡ self.old.tile_cache }
+        ensures flow_cache { self.new.flow_cache ≡ None }
+        ensures past_flows { self.new.past_flows ≡ None }
+        ensures few { ForSome result (λ past. AreFewTiles past.grid.tiles.side (length past.grid.tiles.corners)) }
+        ensures taken { IsPastTaken self.old.flow_cache self.old.past_flows result }
+    {
+        let past = self.past_flows.take();
+        let Some(flow_cache) = self.flow_cache.take() else {
+            return past;
+        };
+        Some(of_more_tiles(flow_cache, past))
+    }
+
+    // What is known of where the point drains.
+    pub(crate) fn flow(&mut self, point: Point) -> Flow
+        ensures left { (m : Mosaic) → IsHeldOf m self.old → IsHeldOf m self.new }
+        ensures flow { (m : Mosaic) → IsHeldOf m self.old → OnLevels m (λ level. IsFlow (terrain m) level point result) }
+    {
+        let flow = self.flow_at_hand(point);
+        if matches!(flow, Flow::Unknown) {
+            return self.past_flow(point);
+        }
+        flow
+    }
+
+    fn flow_at_hand(&mut self, point: Point) -> Flow
+        ensures left { (m : Mosaic) → IsHeldOf m self.old → IsHeldOf m self.new }
+        ensures flow { (m : Mosaic) → IsHeldOf m self.old → OnLevels m (λ level. IsFlow (terrain m) level point result) }
+    {
+        let Some(mut flow_cache) = self.flow_cache.take() else {
+            return Flow::Unknown;
+        };
+        let flow = flow_cache.flow(point);
+        self.flow_cache = Some(flow_cache);
+        flow
+    }
+
+    // Where the points around this one drain, in the order of the directions, where the tile that was asked for last tells it of
+    // all of them.
+    pub(crate) fn flows_around(&self, point: Point) -> Option<[Flow; 8]>
+        ensures { (m : Mosaic) → IsHeldOf m self.now → IfSome result (λ around. OnLevels m (λ level. AreTellingAround (terrain m) level point around)) }
+    {
+        let flow_cache = self.flow_cache.as_ref()?;
+        flow_cache.flows_around(point)
+    }
+
+    // .. as it drained before heights changed.
+    fn past_flow(&mut self, point: Point) -> Flow
+        ensures left { (m : Mosaic) → IsHeldOf m self.old → IsHeldOf m self.new }
+        ensures flow { (m : Mosaic) → IsHeldOf m self.old → OnLevels m (λ level. IsFlow (terrain m) level point result) }
+    {
+        let Some(mut past) = self.past_flows.take() else {
+            return Flow::Unknown;
+        };
+        let flow = past.flow(point);
+        self.past_flows = Some(past);
+        flow
+    }
+
+    // Whether it pays to prepare the corner's tile: once so many of its points were asked for.
+    pub(crate) fn is_due(&mut self, alloc: Global, side: Side, corner: Corner) -> bool
+        ensures { (m : Mosaic) → side ≡ m.side → IsHeldOf m self.old → IsHeldOf m self.new }
+    {
+        let mut flow_cache = self.take_flow_cache(alloc, side);
+        let due = flow_cache.is_due(corner);
+        self.put_flow_cache(flow_cache);
+        due
+    }
+
+    // Hands out what is held of tiles' flows. None is held then.
+    pub(crate) fn take_flow_cache(&mut self, alloc: Global, side: Side) -> FlowCache
+        ensures flows { (m : Mosaic) → side ≡ m.side → IsHeldOf m self.old → IsCacheOf m result }
+        ensures left { (m : Mosaic) → IsHeldOf m self.old → IsHeldOf m self.new }
+    {
+        match self.flow_cache.take() {
+            Some(flow_cache) => flow_cache,
+            None => FlowCache::new(alloc, side),
+        }
+    }
+
+    // Holds this of tiles' flows, as far as there is room for it.
+    pub(crate) fn put_flow_cache(&mut self, flow_cache: FlowCache)
+        ensures { (m : Mosaic) → IsCacheOf m flow_cache → IsHeldOf m self.old → IsHeldOf m self.new }
+    {
+        let mut kept = flow_cache;
+        kept.trim();
+        self.past_flows = past_beside(&kept, self.past_flows.take());
+        self.flow_cache = Some(kept);
     }
 
     // The levels at the point and around it, where what is held tells them.
@@ -131,161 +231,6 @@ impl DrainageCache {
     {
         let tile_cache = self.tile_cache.as_ref()?;
         near(tile_cache, point)
-    }
-
-    // Where the point drains, where that was learnt.
-    pub(crate) fn way_of(&self, point: Point) -> Option<Option<Dir>>
-        ensures { (m : Mosaic) → IsMosaic m → IsHeldOf m self.now → IfSome result (IsWay m point) }
-    {
-        if let Some(directions) = self.all_directions() {
-            return Some(directions.direction(point));
-        }
-        let flows = self.flows.as_ref()?;
-        flows.way(point)
-    }
-
-    // How many tiles the mosaic has. The samples may have to count them.
-    pub(crate) fn count_tiles<S: Samples>(&self, samples: &S) -> usize {
-        match &self.tile_cache {
-            Some(tile_cache) => tile_cache.rim_graph.corners.len(),
-            None => samples.count(),
-        }
-    }
-
-    // Where all points drain, where that was learnt.
-    pub(crate) fn all_directions(&self) -> Option<&Directions>
-        ensures { (m : Mosaic) → IsHeldOf m self.now → IfSome result (λ directions. OnLevels m (λ level. AreDirectionsOf m level directions.now)) }
-    {
-        self.directions.as_ref()
-    }
-
-    // Learns where all points drain.
-    pub(crate) fn learn_directions(&mut self, directions: Directions)
-        requires few { AreFewSamples directions }
-        ensures { (m : Mosaic) → OnLevels m (λ level. AreDirectionsOf m level directions) → IsHeldOf m self.old → IsHeldOf m self.new }
-    {
-        self.invalidate_ways();
-        self.directions = Some(directions);
-    }
-
-    // Hands out what is known of where points drain. Nothing is then.
-    fn take_flows(&mut self, alloc: Global, side: Side) -> Flows
-        ensures flows { (m : Mosaic) → IsHeldOf m self.old → AreFlows m result }
-        ensures left { (m : Mosaic) → IsHeldOf m self.old → IsHeldOf m self.new }
-    {
-        match self.flows.take() {
-            Some(flows) => flows,
-            None => Flows::new(alloc, side),
-        }
-    }
-
-    // Learns where the point drains, if there is memory for it.
-    pub(crate) fn learn_way<S: Samples>(
-        &mut self,
-        alloc: Global,
-        samples: &S,
-        point: Point,
-        way: Option<Dir>,
-    )
-        ensures { (m : Mosaic) → IsWay m point way → IsHeldOf m self.old → IsHeldOf m self.new }
-    {
-        let mut flows = self.take_flows(alloc, samples.side());
-        flows.learn(alloc, samples, point, way);
-        self.flows = Some(flows);
-    }
-
-    // The points that drain straight to this one, each once, where what was learnt tells them.
-    pub(crate) fn feeders_of(&self, point: Point) -> Option<ArrayVec<Point, 8>>
-        ensures { (m : Mosaic) → IsMosaic m → IsHeldOf m self.now → IfSome result (λ found. OnLevels m (λ level. AreFeedersOf (terrain m) level point found.items)) }
-    {
-        if let Some(directions) = self.all_directions() {
-            return Some(directions.feeders(point));
-        }
-        let flows = self.flows.as_ref()?;
-        flows.feeders(point)
-    }
-
-    // The corner of a tile that holds the point, where it pays to learn of all its points at once where they drain.
-    pub(crate) fn due_tile(&mut self, point: Point) -> Option<Corner>
-        ensures { (m : Mosaic) → IsHeldOf m self.old → IsHeldOf m self.new }
-    {
-        let Some(mut flows) = self.flows.take() else {
-            return None;
-        };
-        let due = flows.due(point);
-        self.flows = Some(flows);
-        due
-    }
-
-    // Learns where the points of the corner's tile drain, as its filled levels tell it, as far as there is memory for it.
-    pub(crate) fn learn_tile(&mut self, alloc: Global, corner: Corner, filled: &Filled)
-        ensures { (m : Mosaic) → IsMosaic m → IsTileOf m corner filled.now → IsHeldOf m self.old → IsHeldOf m self.new }
-    {
-        let Some(mut flows) = self.flows.take() else {
-            return;
-        };
-        flows.learn_tile(alloc, corner, filled);
-        self.flows = Some(flows);
-    }
-
-    // Learns what these bytes tell of the samples of the corner's tile with this side, if there is memory for it.
-    pub(crate) fn learn_flows_in(
-        &mut self,
-        alloc: Global,
-        side: Side,
-        corner: Corner,
-        flows: &[Flow],
-    )
-        ensures { (m : Mosaic) → AreFlowsOf m side corner flows.now → IsHeldOf m self.old → IsHeldOf m self.new }
-    {
-        let mut known = self.take_flows(alloc, side);
-        known.learn_flows(alloc, side, corner, flows);
-        self.flows = Some(known);
-    }
-
-    // Whether what was learnt is held of a wide flat with this level, in metres, that goes over a tile that holds the point.
-    pub(crate) fn has_wide_flat(&self, point: Point, height: i16) -> bool
-        ensures { IsTrue result ↔ any_is_over self.now.wide_flats height point }
-    {
-        match &self.wide_flats {
-            Some(flats) => flats.has(point, height),
-            None => false,
-        }
-    }
-
-    // What was learnt of such a flat, handed out. None where nothing is held.
-    pub(crate) fn take_wide_flat(&mut self, point: Point, height: i16) -> Option<WideFlat>
-        ensures flat { (m : Mosaic) → IsHeldOf m self.old → IfSome result (IsLearntFlat m) }
-        ensures over { IfSome result (λ flat. IsOver flat height point) }
-        ensures none { IfNone result (any_is_over self.old.wide_flats height point → ⊥) }
-        ensures left { (m : Mosaic) → IsHeldOf m self.old → IsHeldOf m self.new }
-    {
-        let Some(mut flats) = self.wide_flats.take() else {
-            return None;
-        };
-        let flat = flats.take(point, height);
-        self.wide_flats = Some(flats);
-        flat
-    }
-
-    // Holds what was learnt of a wide flat, if there is room for it.
-    pub(crate) fn hold_wide_flat(&mut self, alloc: Global, flat: WideFlat)
-        ensures { (m : Mosaic) → IsLearntFlat m flat → IsHeldOf m self.old → IsHeldOf m self.new }
-    {
-        let mut flats = self.take_wide_flats(alloc);
-        flats.hold(flat);
-        self.wide_flats = Some(flats);
-    }
-
-    // Hands out what was learnt of all wide flats. Nothing is held of them then.
-    fn take_wide_flats(&mut self, alloc: Global) -> WideFlats
-        ensures flats { (m : Mosaic) → IsHeldOf m self.old → AreWideFlats m result }
-        ensures left { (m : Mosaic) → IsHeldOf m self.old → IsHeldOf m self.new }
-    {
-        match self.wide_flats.take() {
-            Some(flats) => flats,
-            None => WideFlats::new(alloc),
-        }
     }
 
     // Hands out what is held of levels, or that nothing is found yet. None is held then. NoMemory is the only refusal.
@@ -309,5 +254,37 @@ impl DrainageCache {
         ensures { (m : Mosaic) → IsRight m (known_of tile_cache) → IsHeldOf m self.old → IsHeldOf m self.new }
     {
         self.tile_cache = Some(tile_cache);
+    }
+}
+
+// What is known of the tiles at hand, or what was left of the past, if that is of more tiles.
+fn of_more_tiles(flow_cache: FlowCache, past: Option<PastFlows>) -> PastFlows
+    requires few { AreFewTiles flow_cache.grid.tiles.side (length flow_cache.grid.tiles.corners) }
+    requires few_past { ForSome past (λ past. AreFewTiles past.grid.tiles.side (length past.grid.tiles.corners)) }
+    ensures few { AreFewTiles result.grid.tiles.side (length result.grid.tiles.corners) }
+    ensures taken { IsOfMore flow_cache past result }
+{
+    let Some(past) = past else {
+        return flow_cache.into_past();
+    };
+    if flow_cache.count() < past.count() {
+        past
+    } else {
+        flow_cache.into_past()
+    }
+}
+
+// What is left of the past, where there is room for it beside the tiles at hand.
+fn past_beside(flow_cache: &FlowCache, past: Option<PastFlows>) -> Option<PastFlows>
+    requires { AreFewTiles flow_cache.now.grid.tiles.side (length flow_cache.now.grid.tiles.corners) }
+    ensures few { AreFewTiles flow_cache.now.grid.tiles.side (length flow_cache.now.grid.tiles.corners + past_tiles result) }
+    ensures left { (result ≡ None) ⊎ (result ≡ past) }
+    ensures few_past { ForSome past (λ past. AreFewTiles past.grid.tiles.side (length past.grid.tiles.corners)) → ForSome result (λ past. AreFewTiles past.grid.tiles.side (length past.grid.tiles.corners)) }
+{
+    let past = past?;
+    if flow_cache.has_room_beside(&past) {
+        Some(past)
+    } else {
+        None
     }
 }

@@ -8,17 +8,20 @@ ghost use Rattle.lattice.specs.declared.height.Height.TheVariants as height_is;
 ghost use Rattle.lattice.specs.declared.refusal.Refusal.TheVariants.{Outside, Void};
 ghost use Rattle.catalogue.specs.Asked.{Asked};
 ghost use Rattle.flow_d8.specs.Drainage.{AreFilledLevels};
+ghost use Rattle.catalogue.specs.Endings.{ends_any};
 ghost use Rattle.flow_d8.specs.FlowPath.{IsInWatershed};
+ghost use Rattle.flow_d8.specs.LevelsAround.{OnLevels};
 ghost use Rattle.watershed.specs.Runs.{AreRuns};
 ghost use Rattle.drainage.specs.Asking.{IsHeldByNone, may_refuse};
 ghost use Rattle.drainage.specs.Between.{IsHeldFor};
 
 use crate::asking::check_ground;
 use crate::drainage_cache::DrainageCache;
+use crate::prepared_flows::PreparedFlows;
 use lattice::{Point, Refusal};
 use std::alloc::Global;
 use tile_labellings::Labellings;
-use watershed::Run;
+use watershed::{Run, watershed_over};
 
 /// The watershed of the point: the ground points whose flow path contains it, as maximal runs, north first, west first.
 /// Only the tiles on the water's ways out from its points and from those around them, and around those of their flats, are
@@ -41,5 +44,24 @@ pub fn watershed<S: Labellings>(
     ensures held { IsHeldFor S.Samples samples.new held.new }
 {
     check_ground(samples, point)?;
-    watershed::watershed_at(alloc, held, samples, point)
+    watershed_by(alloc, samples, held, point)
+}
+
+// The watershed of the point, by flows that are prepared as the search comes to their tiles. Empty where it isn't ground.
+fn watershed_by<S: Labellings>(
+    alloc: Global,
+    samples: &mut S,
+    held: &mut DrainageCache,
+    point: Point,
+) -> Result<Vec<Run>, Refusal>
+    requires held { IsHeldFor S.Samples samples.old held.old }
+    requires few { length (S.corners samples.old) ≤ most_tiles }
+    ensures runs { S.is_honest samples.new → IfOk result (λ runs. OnLevels (S.mosaic samples.old)
+        (λ level. AreRuns (IsInWatershed (terrain (S.mosaic samples.old)) level point) runs.items)) }
+    ensures causes { IfErr result (λ r. IsTrue (ends_any r)) }
+    ensures asked { Asked S.Samples samples.old samples.new result }
+    ensures held { IsHeldFor S.Samples samples.new held.new }
+{
+    let mut flows = PreparedFlows { samples, held };
+    watershed_over(alloc, &mut flows, point)
 }

@@ -11,8 +11,7 @@ pub fn level_functions_exist()
 
 /// At any time the labellings of at most so many tiles are held as take 256 MiB, but of nine tiles at any side; and with them
 /// at most so many blocks as take 32 MiB, but four. They are all of tiles with the mosaic's side. A byte for each sample
-/// tells where its point drains, of at most so many tiles as take 256 MiB, but nine; or six bytes of all samples, where these
-/// are at most 52 x 2^20. And of wide flats the rims of at most 960 tiles are held, of each flat those that it goes over.
+/// tells where its point drains, of at most so many tiles as take 256 MiB, but nine.
 pub fn what_is_held_is_bounded()
     ensures { (held : DrainageCache) → HoldsFew held }
 {}

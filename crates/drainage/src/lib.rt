@@ -14,19 +14,21 @@
 #![tactic(auto)]
 
 mod asking;
+mod downstream;
 mod drainage_cache;
 mod draining;
-mod everywhere;
 mod filling;
-mod flows;
+mod flow_paths;
 mod following;
 mod heights;
 mod invalidating;
 mod labelling_cache;
 mod laws;
-mod learning;
+mod levels_near;
 mod nearby;
 mod outlets;
+mod prepared_flows;
+mod preparing;
 mod reaching;
 mod renewing;
 mod rim_graph;
@@ -35,7 +37,7 @@ mod ring;
 mod summing;
 mod tile_cache;
 mod tile_levels;
-mod wide_flats;
+mod whole_tiles;
 
 pub use drainage_cache::DrainageCache;
 pub use draining::watershed;
@@ -43,3 +45,4 @@ pub use filling::{fill, level};
 pub use following::{direction, trace};
 pub use invalidating::invalidate_edit;
 pub use laws::{level_functions_exist, what_is_held_is_bounded};
+pub use whole_tiles::{directions, levels};

@@ -1,8 +1,8 @@
 //! The levels of rim points, as they were found.
-ghost use Rattle.std.specs.Prelude.{◌≡◌, ◌==◌, ◌⊎◌, ◌↔◌, ◌<◌, ◌<ℤ◌, ℕ, ℤ, length, slice_set, Some, None, Contains, cond, IsTrue, IsFalse, IfSome, OnOk, IfErr};
+ghost use Rattle.std.specs.Prelude.{◌≡◌, ◌==◌, ◌⊎◌, ◌↔◌, ◌<◌, ℕ, ℤ, length, slice_set, Some, None, Contains, cond, IsTrue, IsFalse, IfSome, OnOk, IfErr};
 ghost use Rattle.lattice.specs.declared.refusal.Refusal.TheVariants.{NoMemory};
 ghost use Rattle.drainage.specs.Holding.{level_of};
-ghost use Rattle.drainage.specs.Spared.{IsNoHigher, IsSpared};
+ghost use Rattle.drainage.specs.Spared.{IsNoHigher, LiesApart, IsSpared};
 
 use lattice::{Refusal, VOID};
 use std::alloc::Global;
@@ -134,7 +134,7 @@ fn may_change(was: i16, is: i16, level: Option<i16>) -> bool
 
 // Whether the level is below both heights, or above both.
 fn lies_apart(level: i16, was: i16, is: i16) -> bool
-    ensures { IsTrue result ↔ (((level <ℤ was) × (level <ℤ is)) ⊎ ((was <ℤ level) × (is <ℤ level))) }
+    ensures { IsTrue result ↔ LiesApart was is level }
 {
     level < was && level < is || was < level && is < level
 }

@@ -1,21 +1,37 @@
 //! The filled levels of a whole tile, from its labelling and those of its rim.
-ghost use Rattle.std.specs.Prelude.{◌≡◌, ◌<◌, IsTrue, IfOk, IfErr, MatchOption, length};
+ghost use Rattle.std.specs.Prelude.{◌≡◌, ◌<◌, IsTrue, IfOk, IfErr, MatchOption, Contains, length};
 ghost use Rattle.lattice.specs.Mosaic.{void};
+ghost use Rattle.lattice.specs.declared.refusal.Refusal.TheVariants.{NoMemory};
 ghost use Rattle.catalogue.specs.Asked.{Asked};
 ghost use Rattle.catalogue.specs.Endings.{ends_any};
 ghost use Rattle.border_graph.specs.Others.{corner_at};
 ghost use Rattle.tile_flood.specs.Raising.{AreRimLevels, AreTileLevels};
 ghost use Rattle.drainage.specs.Holding.{IsRight};
 ghost use Rattle.drainage.specs.TileCaches.{known_of};
-ghost use Rattle.drainage.specs.Everywhere.{IsLevelOrVoid};
+ghost use Rattle.drainage.specs.TileLevels.{IsLevelOrVoid};
 
 use crate::filling::level_in;
 use crate::renewing::current_labelling;
 use crate::tile_cache::TileCache;
+use border_graph::place_of;
+use catalogue::Samples;
 use lattice::{Corner, Point, Refusal, VOID, point_at, push, rim_index};
 use std::alloc::Global;
 use tile_flood::raise;
 use tile_labellings::Labellings;
+
+/// The place of the corner among the present ones. NoMemory is the only refusal.
+pub(crate) fn present_place<S: Samples>(samples: &S, corner: Corner) -> Result<usize, Refusal>
+    requires present { Contains (S.corners samples.now) corner }
+    ensures place { IfOk result (λ t. (t < length (S.corners samples.now)) × (corner_at (S.corners samples.now) t ≡ corner)) }
+    ensures refusal { IfErr result (λ r. r ≡ NoMemory) }
+{
+    let corners = samples.present_corners()?;
+    match place_of(&corners, corner) {
+        Some(t) => Ok(t),
+        None => Err(Refusal::Damaged),
+    }
+}
 
 /// The filled levels of all points of the tile with this place, row by row from the north; void where a point isn't ground.
 /// Its rim points are asked one by one; the levels of the others follow from the tile's labelling in one pass.
@@ -64,8 +80,10 @@ fn rim_levels<S: Labellings>(
     Ok(rim)
 }
 
-// The filled level of the point; void where it isn't ground.
-fn level_of<S: Labellings>(
+/// The filled level of the point; void where it isn't ground.
+///
+/// It is refused as a level is.
+pub(crate) fn level_of<S: Labellings>(
     alloc: Global,
     samples: &mut S,
     tile_cache: &mut TileCache,

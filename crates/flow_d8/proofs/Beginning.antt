@@ -1,29 +1,44 @@
--- Eight tests counted.
-use Rattle.std.proofs.Common.{◌≡◌, ℕ, ◌+◌, Bool, true, false, cond, not, ◌&&◌, refl, arith}
-use Rattle.std.specs.Prelude.{nat_lt}
-use Rattle.std.proofs.lemmas.Bool.Decides.{nat_tests}
+-- From a flat that is collected to its first wave.
+use Rattle.std.proofs.Common.{◌≡◌, ℕ, zero, suc, ◌⊎◌, List, length, inl, inr, ⊎_elim, ◌∙◌, subst, arith, slice_index_or}
+use Rattle.flow_d8.specs.Prelude.{Dir, Flow, Unknown}
+use Rattle.flow_d8.specs.Flows.{IsOfFlat}
+use Rattle.flow_d8.specs.Marks.{mark_at, IsMember, IsSettled, AreCollected, IsFirstWave, IsBack}
+use Rattle.flow_d8.specs.Component.{Connects}
+use Rattle.flow_d8.specs.Rounds.{AreMarked, AreBegun}
+use Rattle.flow_d8.proofs.Sayings.{decide_beside, is_known}
 
--- eight tests, of which fewer than eight hold where not all do
-one : Bool → ℕ
-one b = cond b 1 0
+module _ (flows : List Flow) (by : ℕ → Dir → ℕ) (marks members : List ℕ) (seed : ℕ) (new wave : List ℕ) (is : AreCollected flows by marks members seed) (first : IsFirstWave flows marks new wave) where
+  pub was_member : (k : ℕ) → IsMember new k → IsMember marks k
+  was_member k member out = member (first.outside k out)
 
-pub counted : (a b c d e f g h : Bool) → nat_lt (0 + cond a 1 0 + cond b 1 0 + cond c 1 0 + cond d 1 0 + cond e 1 0 + cond f 1 0 + cond g 1 0 + cond h 1 0) 8 ≡ not (a && (b && (c && (d && (e && (f && (g && (h && true))))))))
-counted true true true true true true true true = refl
-counted true true true true true true true false = refl
-counted true true true true true true false h = short1 h
-  where
-    short1 : (h : Bool) → nat_lt (0 + 1 + 1 + 1 + 1 + 1 + 1 + 0 + cond h 1 0) 8 ≡ true
-    short1 true = refl
-    short1 false = refl
-counted true true true true true false g h = few g h
-  where
-    few : (g h : Bool) → nat_lt (0 + 1 + 1 + 1 + 1 + 1 + 0 + cond g 1 0 + cond h 1 0) 8 ≡ true
-    few true true = refl
-    few true false = refl
-    few false true = refl
-    few false false = refl
-counted true true true true false f g h = grind (arith, nat_tests)
-counted true true true false e f g h = grind (arith, nat_tests)
-counted true true false d e f g h = grind (arith, nat_tests)
-counted true false c d e f g h = grind (arith, nat_tests)
-counted false b c d e f g h = grind (arith, nat_tests)
+  two_ways : (k : ℕ) → IsMember marks k → (mark_at new k ≡ 0) ⊎ (mark_at new k ≡ 2)
+  two_ways k member = ⊎_elim (λ yes. inl (first.beside k member yes)) (λ no. inr (first.others k member no)) (decide_beside (slice_index_or flows k Unknown))
+
+  still_member : (k : ℕ) → IsMember marks k → IsMember new k
+  still_member k member out = ⊎_elim (λ at_zero. absurd (omega arith)) (λ two. absurd (omega arith)) (two_ways k member)
+
+  pub seed_member : IsMember new seed
+  seed_member = still_member seed is.begun
+
+  pub marked : AreMarked flows by new
+  marked = record {
+    whole = first.whole ∙ is.whole;
+    back = λ k member. let at = is.listing.listed k (was_member k member) in subst (λ n. IsBack by (length flows) n) at.1.1 (is.listing.back at.0 at.1.0);
+    flat = λ k member. let at = is.listing.listed k (was_member k member) in subst (λ n. IsOfFlat (slice_index_or flows n Unknown)) at.1.1 (is.listing.flat at.0 at.1.0);
+    closed = λ k d member. let around = is.closed k d (was_member k member) in record { known = around.known; member = λ flat. still_member (by k d) (around.member flat) };
+  }
+
+  pub begun : AreBegun flows new
+  begun = record {
+    beside = λ k member yes. first.beside k (was_member k member) yes;
+    only = λ k at_zero.
+        let member : IsMember new k = λ out. absurd (omega arith) in
+        ⊎_elim (λ yes. yes) (λ no. absurd (omega (arith, first.others k (was_member k member) no))) (decide_beside (slice_index_or flows k Unknown));
+  }
+
+-- of what steps over the flat of a member lead to something is known, and it is a member where it lies inside a flat
+pub connected : (flows : List Flow) (by : ℕ → Dir → ℕ) (marks : List ℕ) → AreMarked flows by marks → (seed : ℕ) → IsMember marks seed → (n k : ℕ) → Connects flows by seed n k → IsSettled flows marks k
+connected flows by marks is seed member zero k joins = subst (IsSettled flows marks) joins (record { known = is_known (slice_index_or flows seed Unknown) (is.flat seed member); member = λ flat. member })
+connected flows by marks is seed member (suc n) k joins =
+    let before = connected flows by marks is seed member n joins.0 joins.2.0 in
+    subst (IsSettled flows marks) joins.2.1.1 (is.closed joins.0 joins.1 (before.member joins.2.1.0))

@@ -1,16 +1,10 @@
 -- Around a point off the rim of a tile lie points of that tile, at the places around its own, and no other tile holds it.
-use Rattle.std.proofs.Common.{◌≡◌, ℕ, ◌+◌, ◌-◌, ◌*◌, ◌/◌, ◌%◌, ◌<◌, ◌≤◌, pos, ◌+ℤ◌, ◌-ℤ◌, ◌*ℤ◌, ◌≤ℤ◌, true, ◌&&◌, ◌∙◌, ap, sym, subst, arith}
-use Rattle.std.specs.Prelude.{nat_le}
+use Rattle.std.proofs.Common.{◌≡◌, ℕ, ◌+◌, ◌-◌, ◌*◌, ◌/◌, ◌%◌, ◌<◌, ◌≤◌, pos, ◌+ℤ◌, ◌-ℤ◌, ◌*ℤ◌, ◌≤ℤ◌, true, ◌&&◌, ◌∙◌, ap, sym, subst, arith, nat_le}
 use Rattle.std.proofs.lemmas.Bool.{and_parts}
 use Rattle.std.proofs.lemmas.Bool.Decides.{nat_tests}
 use Rattle.std.proofs.lemmas.Int.{ints}
 use Rattle.std.proofs.lemmas.Nat.{div-mul-add, mod-mul-add}
-use Rattle.lattice.specs.declared.point.Point.{Point}
-use Rattle.lattice.specs.declared.direction.Dir.{Dir}
-use Rattle.lattice.specs.declared.direction.Dir.TheVariants.{East, SouthEast, South, SouthWest, West, NorthWest, North, NorthEast}
-use Rattle.lattice.specs.Corners.{Corner}
-use Rattle.lattice.specs.Lattice.{Holds, IsIndexOf}
-use Rattle.lattice.specs.Steps.{step, north_of, east_of}
+use Rattle.flow_d8.specs.Prelude.{Point, Dir, East, SouthEast, South, SouthWest, West, NorthWest, North, NorthEast, Corner, Holds, IsIndexOf, step, north_of, east_of}
 use Rattle.lattice.proofs.Interior.{IsInner, inner_holder}
 use Rattle.flow_d8.specs.Filled.{is_deep}
 use Rattle.flow_d8.specs.Places.{place_by}
@@ -43,24 +37,12 @@ inner_at n e i j is above below before after =
 -- a step leads at most one row and one column away
 near : (d : Dir) → (pos 0 ≤ℤ (north_of d +ℤ pos 1)) × (north_of d ≤ℤ pos 1) × (pos 0 ≤ℤ (east_of d +ℤ pos 1)) × (east_of d ≤ℤ pos 1)
 near East = (omega (arith, ints), omega (arith, ints), omega (arith, ints), omega (arith, ints))
-near SouthEast = (omega (arith, ints), omega (arith, ints), omega (arith, ints), omega (arith, ints))
-near South = (omega (arith, ints), omega (arith, ints), omega (arith, ints), omega (arith, ints))
-near SouthWest = (omega (arith, ints), omega (arith, ints), omega (arith, ints), omega (arith, ints))
-near West = (omega (arith, ints), omega (arith, ints), omega (arith, ints), omega (arith, ints))
-near NorthWest = (omega (arith, ints), omega (arith, ints), omega (arith, ints), omega (arith, ints))
-near North = (omega (arith, ints), omega (arith, ints), omega (arith, ints), omega (arith, ints))
-near NorthEast = (omega (arith, ints), omega (arith, ints), omega (arith, ints), omega (arith, ints))
+near _ = (omega (arith, ints), omega (arith, ints), omega (arith, ints), omega (arith, ints))
 
 -- places by number, where the tile's samples have the numbers from k on
 pub place_from : (n k e : ℕ) → n + 1 ≤ e → (d : Dir) → place_by n (k + e) d ≡ k + place_by n e d
 place_from n k e room East = omega arith
-place_from n k e room SouthEast = omega arith
-place_from n k e room South = omega arith
-place_from n k e room SouthWest = omega arith
-place_from n k e room West = omega arith
-place_from n k e room NorthWest = omega arith
-place_from n k e room North = omega arith
-place_from n k e room NorthEast = omega arith
+place_from n k e room _ = omega arith
 
 module _ (n : ℕ) (c : Corner) (p : Point) (e : ℕ) (index : IsIndexOf n c p e) (inner : IsInner n e) where
   abbrev row : ℕ

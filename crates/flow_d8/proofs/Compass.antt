@@ -1,9 +1,7 @@
 -- The eight directions by their rank in code order, and the first of them with a property.
 use Rattle.std.proofs.Common.{◌≡◌, ℕ, zero, suc, ◌+◌, ◌<◌, ◌≤◌, ◌⊎◌, inl, inr, ⊎_elim, refl, sym, ap, ◌∙◌, subst, arith, get_or}
 use Rattle.std.proofs.lemmas.Bool.{cases_eq}
-use Rattle.lattice.specs.declared.direction.Dir.{Dir}
-use Rattle.lattice.specs.declared.direction.Dir.TheVariants.{East, SouthEast, South, SouthWest, West, NorthWest, North, NorthEast}
-use Rattle.lattice.specs.Steps.{order_of, directions}
+use Rattle.flow_d8.specs.Prelude.{Dir, East, SouthEast, South, SouthWest, West, NorthWest, North, NorthEast, order_of, directions}
 
 pub dir_at : ℕ → Dir
 dir_at zero = East
@@ -18,38 +16,19 @@ dir_at _ = NorthEast
 pub dir_at-order_of : (d : Dir) → dir_at (order_of d) ≡ d
 unfolding dir_at
 dir_at-order_of East = refl
-dir_at-order_of SouthEast = refl
-dir_at-order_of South = refl
-dir_at-order_of SouthWest = refl
-dir_at-order_of West = refl
-dir_at-order_of NorthWest = refl
-dir_at-order_of North = refl
-dir_at-order_of NorthEast = refl
+dir_at-order_of _ = refl
 
 pub order_below : (d : Dir) → order_of d < 8
 order_below East = omega arith
-order_below SouthEast = omega arith
-order_below South = omega arith
-order_below SouthWest = omega arith
-order_below West = omega arith
-order_below NorthWest = omega arith
-order_below North = omega arith
-order_below NorthEast = omega arith
+order_below _ = omega arith
 
 pub same_order : (d e : Dir) → order_of d ≡ order_of e → d ≡ e
 same_order d e h = sym (dir_at-order_of d) ∙ ap dir_at h ∙ dir_at-order_of e
 
 pub order_of-dir_at : (k : ℕ) → k < 8 → order_of (dir_at k) ≡ k
 unfolding dir_at
-order_of-dir_at zero h = refl
-order_of-dir_at (suc zero) h = refl
-order_of-dir_at (suc (suc zero)) h = refl
-order_of-dir_at (suc (suc (suc zero))) h = refl
-order_of-dir_at (suc (suc (suc (suc zero)))) h = refl
-order_of-dir_at (suc (suc (suc (suc (suc zero))))) h = refl
-order_of-dir_at (suc (suc (suc (suc (suc (suc zero)))))) h = refl
-order_of-dir_at (suc (suc (suc (suc (suc (suc (suc zero))))))) h = refl
 order_of-dir_at (suc (suc (suc (suc (suc (suc (suc (suc k)))))))) h = absurd (omega arith)
+order_of-dir_at _ h = refl
 
 -- the direction at this rank or one of a later rank
 pub at_or_later : (k : ℕ) (e : Dir) → k < 8 → k ≤ order_of e → (e ≡ dir_at k) ⊎ (suc k ≤ order_of e)
@@ -91,13 +70,7 @@ module _ (Q : Dir → Type 0) (decide : (d : Dir) → Q d ⊎ (Q d → ⊥)) whe
 -- the direction at its rank in the list of directions
 pub dir_listed : (d x : Dir) → get_or directions (order_of d) x ≡ d
 dir_listed East x = refl
-dir_listed SouthEast x = refl
-dir_listed South x = refl
-dir_listed SouthWest x = refl
-dir_listed West x = refl
-dir_listed NorthWest x = refl
-dir_listed North x = refl
-dir_listed NorthEast x = refl
+dir_listed _ x = refl
 
 pub dir_at_place : (d x : Dir) (i : ℕ) → order_of d ≡ i → get_or directions i x ≡ d
 dir_at_place d x i is = subst (λ k. get_or directions k x ≡ d) is (dir_listed d x)

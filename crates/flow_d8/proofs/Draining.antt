@@ -1,81 +1,93 @@
--- Where the points of samples drain, by their flows and flat distances.
-use Rattle.std.proofs.Common.{◌≡◌, ℕ, ◌+◌, ◌<◌, ◌≤◌, IsTrue, Option, Some, None, List, length, get_or, set, inl, inr, sym, ap, ◌∙◌, subst, arith, get_or-set_other, get_or-set_same, length-set}
-use Rattle.std.specs.Prelude.{MatchOption, slice_index_or}
-use Rattle.std.proofs.lemmas.Bool.{cases_eq}
-use Rattle.lattice.specs.declared.point.Point.{Point}
-use Rattle.lattice.specs.declared.direction.Dir.{Dir}
-use Rattle.flow_d8.specs.declared.local_flow.LocalFlow.{LocalFlow}
-use Rattle.flow_d8.specs.declared.local_flow.LocalFlow.TheVariants.{NoGround, Edge, Drains}
-use Rattle.flow_d8.specs.Drainage.{IsFirstNearer, IsDirection}
-use Rattle.flow_d8.specs.Filled.{Filled, AreLevels, IsOfNoMosaic}
-use Rattle.flow_d8.specs.Surface.{number_in, level_at, has_level, surface}
-use Rattle.flow_d8.specs.Propagation.{unknown, distance_at, DrainsAtOnce, IsEnd}
-use Rattle.flow_d8.specs.Crossing.{Crosses, DrainsLike, AreLocalFlows, AreDistances, IsDrainOf, AreDrainedTo, AreDrained}
-use Rattle.flow_d8.proofs.Surfaces.{level_within, same_site}
-use Rattle.flow_d8.proofs.Nearest.{known_is, across_flat}
-use Rattle.flow_d8.proofs.PointFlows.{end_of, crosses_end}
-use Rattle.flow_d8.proofs.Crossed.{like_at}
-use Rattle.flow_d8.proofs.Found.{nowhere_in_no_mosaic}
+-- What a flow that tells where its point drains says, and that it does so once a flat is resolved.
+use Rattle.std.proofs.Common.{◌≡◌, ℕ, ◌<◌, ℤ, IsTrue, IsFalse, None, List, length, get_or, inl, ⊎_elim, refl, sym, ◌∙◌, subst, true≢false, slice_index_or}
+use Rattle.flow_d8.specs.Prelude.{terrain, is_ground, Mosaic, IsMosaic, step, Terrain, Point, Dir, Flow, Unknown, NoGround, Outlet, To, Beside, Flat, FlatTo}
+use Rattle.lattice.proofs.Lawful.{terrain_is_lawful}
+use Rattle.flow_d8.specs.Drainage.{CrossesFlat, IsDirection}
+use Rattle.flow_d8.specs.Filled.{number_of}
+use Rattle.flow_d8.specs.Flows.{IsOfFlat, IsFull, Names, IsFlow, IsFlowNear, IsTellingAll, AreFlows, Drains, direction_of}
+use Rattle.flow_d8.specs.FlowGrids.{AreKnown}
+use Rattle.flow_d8.specs.Tiles.{Tiles, AreTiles, IsSampleOf, count_of, place_of}
+use Rattle.flow_d8.specs.Rounds.{Tells}
+use Rattle.flow_d8.specs.Resolution.{AreResolved}
+use Rattle.flow_d8.proofs.TilePlaces.{place_number}
+use Rattle.flow_d8.proofs.TwinFlows.{decide_flat}
 
-module _ (f : Filled) (flows : List LocalFlow) (are : AreLocalFlows f flows) (distances : List ℕ) (is : AreDistances f distances) where
-  -- the flow of a point's sample, which is this one
-  pub like_of : (p : Point) (g : ℕ) (flow : LocalFlow) → IsTrue (has_level f p) → number_in f p ≡ g → slice_index_or flows g NoGround ≡ flow → DrainsLike f p flow
-  like_of p g flow level at same = subst (DrainsLike f p) (ap (λ n. slice_index_or flows n NoGround) at ∙ same) (like_at f flows are p level)
+-- the flow names the point's direction
+pub flow_direction : (t : Terrain Point) (level : Point → ℤ) (p : Point) (f : Flow) → IsFlow t level p f → Drains f → IsDirection t level p (direction_of f)
+flow_direction t level p Outlet is drains = is
+flow_direction t level p (To d) is drains = inl is
+flow_direction t level p (Beside d) is drains = is.1.1
+flow_direction t level p (FlatTo d) is drains = is.1.1
+flow_direction t level p _ is drains = absurd drains
 
-  -- what drains at once
-  pub known_end : (p : Point) (g : ℕ) (flow : LocalFlow) → IsTrue (has_level f p) → number_in f p ≡ g → slice_index_or flows g NoGround ≡ flow → DrainsAtOnce flow → distance_at distances g < unknown
-  known_end p g flow level at same end = subst (λ n. distance_at distances n < unknown) at (is.all p 0 level (crosses_end (surface f) (level_at f) p flow (like_of p g flow level at same) end))
+-- a flow that tells all names the direction of a ground point
+pub telling_direction : (t : Terrain Point) (level : Point → ℤ) (p : Point) (f : Flow) → IsFlow t level p f → IsTellingAll f → IsTrue (t.is_ground p) → IsDirection t level p (direction_of f)
+telling_direction t level p NoGround is all ground = absurd (true≢false (sym ground ∙ is))
+telling_direction t level p Outlet is all ground = is
+telling_direction t level p (To d) is all ground = inl is
+telling_direction t level p (Beside d) is all ground = is.1.1
+telling_direction t level p (FlatTo d) is all ground = is.1.1
+telling_direction t level p _ is all ground = absurd all
 
-  pub edge_drains : (g : ℕ) → slice_index_or flows g NoGround ≡ Edge → IsDrainOf f g None
-  edge_drains g same p level at = like_of p g Edge level at same
+-- .. and where it says that there is none, alone, there is none
+pub telling_ground : (m : Mosaic) (level : Point → ℤ) (p : Point) (f : Flow) → IsFlow (terrain m) level p f → IsTellingAll f → (f ≡ NoGround → ⊥) → IsTrue (is_ground m p)
+telling_ground m level p NoGround so all some = absurd (some refl)
+telling_ground m level p Outlet so all some = (terrain_is_lawful m).outlet_ground p so.1
+telling_ground m level p (To d) so all some = (terrain_is_lawful m).from_ground p (step d p) so.lower.beside
+telling_ground m level p (Beside d) so all some = so.0.ground
+telling_ground m level p (FlatTo d) so all some = so.0.ground
+telling_ground m level p _ so all some = absurd all
 
-  pub ground_drains : (g : ℕ) → slice_index_or flows g NoGround ≡ NoGround → IsDrainOf f g None
-  ground_drains g same p level at = absurd (like_of p g NoGround level at same)
+-- .. and no direction where there is none
+pub telling_none : (m : Mosaic) → IsMosaic m → (level : Point → ℤ) (p : Point) (f : Flow) → IsFlow (terrain m) level p f → IsTellingAll f → IsFalse (is_ground m p) → direction_of f ≡ None
+telling_none m is level p NoGround so all off = refl
+telling_none m is level p Outlet so all off = refl
+telling_none m is level p (To d) so all off = absurd (true≢false (sym ((terrain_is_lawful m).from_ground p (step d p) so.lower.beside) ∙ off))
+telling_none m is level p (Beside d) so all off = absurd (true≢false (sym so.0.ground ∙ off))
+telling_none m is level p (FlatTo d) so all off = absurd (true≢false (sym so.0.ground ∙ off))
+telling_none m is level p _ so all off = absurd all
 
-  pub down_drains : (g : ℕ) (d : Dir) → slice_index_or flows g NoGround ≡ Drains d → IsDrainOf f g (Some d)
-  down_drains g d same p level at = inl (like_of p g (Drains d) level at same)
+-- what the levels around a point tell of it is so
+pub near_flow : (t : Terrain Point) (level : Point → ℤ) (p : Point) (f : Flow) → IsFlowNear t level p f → IsFlow t level p f
+near_flow t level p Unknown is = tt
+near_flow t level p Outlet is = is
+near_flow t level p (To d) is = is
+near_flow t level p _ is = absurd is
 
-  -- a point on a flat
-  module _ (p : Point) (g : ℕ) (level : IsTrue (has_level f p)) (at : number_in f p ≡ g) (no_end : IsEnd flows g → ⊥) where
-    pub some_way : distance_at distances g < unknown → 0 < distance_at distances g
-    some_way known = elim (cases_eq (distance_at distances g) 0) [
-      | inl none ↦
-          let here : distance_at distances (number_in f p) ≡ 0 = ap (distance_at distances) at ∙ none in
-          let exact = known_is f is.valid distances is p level (omega arith) in
-          absurd (no_end (subst (IsEnd flows) at (end_of (surface f) (level_at f) p (slice_index_or flows (number_in f p) NoGround) (like_at f flows are p level) (subst (Crosses f p) here exact.crosses))))
-      | inr some ↦ omega arith
-    ]
+-- known of a ground point, and not left on a flat, it tells where the point drains
+drains_unless : (t : Terrain Point) (level : Point → ℤ) (p : Point) (f : Flow) → IsFlow t level p f → IsTrue (t.is_ground p) → (f ≡ Unknown → ⊥) → (f ≡ Flat → ⊥) → Drains f
+drains_unless t level p Unknown is ground known left = absurd (known refl)
+drains_unless t level p NoGround is ground known left = absurd (true≢false (sym ground ∙ is))
+drains_unless t level p Flat is ground known left = absurd (left refl)
+drains_unless t level p _ is ground known left = tt
 
-    pub across : (d : Option Dir) → distance_at distances g < unknown → MatchOption d ⊥ (λ d. IsFirstNearer (surface f) (level_at f) p d) → IsDrainOf f g d
-    across None known first q q_level q_at = absurd first
-    across (Some d) known first q q_level q_at =
-        let one : p ≡ q = same_site f is.valid p q level q_level (at ∙ sym q_at) in
-        subst (λ x. IsDirection (surface f) (level_at f) x (Some d)) one
-        (across_flat f is.valid distances is p (distance_at distances g) level (ap (distance_at distances) at) known d (some_way known) first)
+-- what was known is known still
+pub known_still : (old new : List Flow) → AreKnown old → Tells old new → AreKnown new
+known_still old new known tells k small unknown = ⊎_elim
+    (λ on. subst IsOfFlat unknown (tells.flat k on))
+    (λ off. known k (subst (λ n. k < n) tells.whole small) (sym (tells.kept k off) ∙ unknown))
+    (decide_flat (get_or old k Unknown))
 
-    pub nowhere : distance_at distances g ≡ unknown → IsOfNoMosaic f
-    nowhere none = nowhere_in_no_mosaic f is.valid (p, (level, λ j crosses. let known = is.all p j level crosses in absurd (omega (arith, ap (distance_at distances) at))))
+module _ (tiles : Tiles) (valid : AreTiles tiles) (p : Point) (old new : List Flow) where
+  abbrev seed : ℕ
+  seed = number_of tiles.side tiles.corners p
 
-module _ (f : Filled) (drains : List (Option Dir)) (distances : List ℕ) (k : ℕ) where
-  pub drain_more : (d : Option Dir) → k < length f.levels → IsDrainOf f k d → ((p : Point) → IsTrue (has_level f p) → number_in f p ≡ k → distance_at distances k < unknown)
-      → AreDrainedTo f k drains distances → AreDrainedTo f (k + 1) (set drains k d) distances
-  drain_more d small is known was = record {
-    whole = length-set drains k d ∙ was.whole;
-    drained = λ p level below. elim (cases_eq (number_in f p) k) [
-      | inl same ↦
-          let at : get_or (set drains k d) (number_in f p) None ≡ d = ap (λ g. get_or (set drains k d) g None) same ∙ get_or-set_same drains k d None (omega (arith, was.whole)) in
-          subst (IsDirection (surface f) (level_at f) p) (sym at) (is p level same)
-      | inr other ↦ subst (IsDirection (surface f) (level_at f) p) (sym (get_or-set_other drains k (number_in f p) d None other)) (was.drained p level (omega arith))
-    ];
-    known = λ p level below. elim (cases_eq (number_in f p) k) [
-      | inl same ↦ subst (λ g. distance_at distances g < unknown) (sym same) (known p level same)
-      | inr other ↦ was.known p level (omega arith)
-    ];
-  }
+  -- each sample of the point tells where it drains, once its flat was resolved, or where none was asked for
+  pub drains_at : (k : ℕ) → IsSampleOf tiles p k → length new ≡ count_of tiles → AreKnown new
+      → ((e : ℕ) → (IsOfFlat (slice_index_or old e Unknown) → ⊥) → slice_index_or new e Unknown ≡ slice_index_or old e Unknown)
+      → (t : Terrain Point) (level : Point → ℤ) → AreFlows t level (place_of tiles) new → IsTrue (t.is_ground p)
+      → (IsOfFlat (slice_index_or old k Unknown) → (d : Dir) × Names (slice_index_or new k Unknown) d) → Drains (slice_index_or new k Unknown)
+  drains_at k at whole known kept t level are ground named =
+      drains_unless t level p (get_or new k Unknown) (subst (λ q. IsFlow t level q (get_or new k Unknown)) at.here (are k)) ground
+      (known k (subst (λ n. k < n) (sym whole) at.small))
+      (λ left. ⊎_elim
+      (λ flat. let name = named flat in subst (λ f. Names f name.0) left name.1)
+      (λ off. off (subst IsOfFlat (sym left ∙ kept k off) tt))
+      (decide_flat (get_or old k Unknown)))
 
-  module _ (whole : AreLevels f) (all : length f.levels ≤ k) (is : AreDrainedTo f k drains distances) where
-    pub drained_all : AreDrained f drains
-    drained_all = record { whole = is.whole; drained = λ p level. is.drained p level (omega (arith, level_within f whole p level)) }
-
-    pub known_all : (p : Point) → IsTrue (has_level f p) → distance_at distances (number_in f p) < unknown
-    known_all p level = is.known p level (omega (arith, level_within f whole p level))
+  pub resolved_sample : AreResolved tiles seed old new → seed < count_of tiles → (k : ℕ) → IsSampleOf tiles p k → (t : Terrain Point) (level : Point → ℤ) → IsFull t → AreFlows t level (place_of tiles) old → (j : ℕ) → CrossesFlat t level p j
+      → IsOfFlat (slice_index_or old k Unknown) → (d : Dir) × Names (slice_index_or new k Unknown) d
+  resolved_sample resolved small k at t level full are j crosses flat =
+      let place : place_of tiles seed ≡ p = place_number tiles valid p small in
+      let r = resolved 0 seed k refl (record { small = at.small; here = at.here ∙ sym place }) flat t level full are j (subst (λ q. CrossesFlat t level q j) (sym place) crosses) in
+      (r.0, r.1.0)

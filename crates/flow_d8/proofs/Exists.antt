@@ -1,13 +1,9 @@
 -- Each ground point has a flat distance and a direction.
-use Rattle.std.proofs.Common.{◌≡◌, ℕ, zero, suc, ◌+◌, ◌<◌, ◌≤◌, ℤ, ◌≤ℤ◌, ◌⊎◌, inl, inr, ⊎_elim, true, false, IsTrue, IsFalse, Option, Some, None, List, [], ◌∷◌, refl, sym, ap, ◌∙◌, subst, arith, true≢false}
-use Rattle.std.specs.Prelude.{int_lt, nat_lt}
+use Rattle.std.proofs.Common.{◌≡◌, ℕ, zero, suc, ◌+◌, ◌<◌, ◌≤◌, ℤ, ◌≤ℤ◌, ◌⊎◌, inl, inr, ⊎_elim, true, false, IsTrue, IsFalse, Option, Some, None, List, [], ◌∷◌, refl, sym, ap, ◌∙◌, subst, arith, true≢false, int_lt, nat_lt}
 use Rattle.std.proofs.lemmas.Bool.{cases_Bool, cases_eq, cases_order}
 use Rattle.std.proofs.lemmas.Bool.Decides.{nat_tests}
 use Rattle.std.proofs.lemmas.Int.{ints}
-use Rattle.lattice.specs.declared.point.Point.{Point}
-use Rattle.lattice.specs.declared.direction.Dir.{Dir}
-use Rattle.lattice.specs.Steps.{step, order_of, slope_of}
-use Rattle.lattice.specs.Terrain.{Terrain, LeadsOut, crest}
+use Rattle.flow_d8.specs.Prelude.{Point, Dir, step, order_of, slope_of, Terrain, LeadsOut, crest}
 use Rattle.lattice.proofs.Levels.{le-max_right, ≤ℤ_trans, ≤ℤ_same, ≤ℤ_antisym}
 use Rattle.lattice.proofs.IntTests.{lt_true, lt_false, eq_or_not}
 use Rattle.flow_d8.specs.Drainage.{AreFilledLevels, IsLower, HasLower, drop_by, IsSteepest, CrossesFlat, IsFlatDistance, IsNearer, IsFirstNearer, IsDirection}

@@ -1,31 +1,18 @@
 -- Where levels are the filled levels of a mosaic, they tell of its ground.
-use Rattle.std.proofs.Common.{◌||◌, ◌≡◌, ℕ, suc, ◌+◌, ◌*◌, ℤ, ◌≤ℤ◌, Bool, true, false, cond, not, ◌&&◌, ◌||◌, IsTrue, IsFalse, List, [], ◌∷◌, map, refl, sym, ap, ap₂, ◌∙◌, subst, arith, inl, inr, true≢false}
-use Rattle.std.specs.Prelude.{All, nat_lt, count_by, slice_index_or, if◌then◌else◌}
+use Rattle.std.proofs.Common.{◌||◌, ◌≡◌, ℕ, suc, ◌+◌, ◌*◌, ℤ, ◌≤ℤ◌, Bool, true, false, not, ◌&&◌, ◌||◌, IsTrue, IsFalse, List, [], ◌∷◌, map, refl, sym, ap, ap₂, ◌∙◌, subst, arith, inl, inr, true≢false, All, slice_index_or, if◌then◌else◌}
 use Rattle.std.specs.List.{list_any}
 use Rattle.std.proofs.lemmas.Int.{ints}
 use Rattle.std.proofs.lemmas.Bool.{cases_Bool}
-use Rattle.lattice.specs.declared.point.Point.{Point}
-use Rattle.lattice.specs.declared.direction.Dir.{Dir}
-use Rattle.lattice.specs.declared.direction.Dir.TheVariants.{East, SouthEast, South, SouthWest, West, NorthWest, North, NorthEast}
-use Rattle.lattice.specs.declared.height.Height.TheVariants.{At}
-use Rattle.lattice.specs.Corners.{Corner, is_corner}
-use Rattle.lattice.specs.Steps.{step, directions}
-use Rattle.lattice.specs.Lattice.{holds, index_of, point_of}
-use Rattle.lattice.specs.Terrain.{IsFilledLevel}
-use Rattle.lattice.specs.Mosaic.{Mosaic, Tile, IsMosaic, IsTile, void, is_void}
-use Rattle.lattice.specs.Height.{samples_at, first_height, by_seam_rule, height_of}
-use Rattle.lattice.specs.Ground.{is_ground, is_height, metres, same_point, is_near, share_tile, is_adjacent, degree_of, is_outlet, terrain}
+use Rattle.flow_d8.specs.Prelude.{Point, At, Corner, is_corner, holds, index_of, point_of, IsFilledLevel, Mosaic, Tile, IsMosaic, IsTile, void, is_void, samples_at, first_height, by_seam_rule, height_of, is_ground, is_height, metres, terrain}
 use Rattle.lattice.proofs.Samples.{point_of_index}
 use Rattle.lattice.proofs.WaysOut.{held}
-use Rattle.lattice.proofs.Levels.{height-le_level, level_is_unique}
+use Rattle.lattice.proofs.Levels.{height-le_level}
 use Rattle.lattice.proofs.BoolTests.{same_tests}
-use Rattle.flow_d8.specs.Drainage.{AreFilledLevels}
 use Rattle.flow_d8.specs.Filled.{Filled, AreLevels, IsFilledOf, is_holder, is_held}
-use Rattle.flow_d8.specs.Surface.{level_at, has_level, is_shared, adjoins, is_declared, leads_off, surface}
+use Rattle.flow_d8.specs.Surface.{level_at, has_level}
 use Rattle.flow_d8.proofs.Numbers.{seat_of, holder_holds, index_small}
 use Rattle.flow_d8.proofs.Surfaces.{level_held, at_level}
 use Rattle.flow_d8.proofs.MosaicGrid.{mosaic_is_grid}
-use Rattle.flow_d8.proofs.Transport.{Alike, Anywhere}
 
 -- a height isn't void
 some_sample : (s : ℤ) (later : List ℤ) (b : Bool) → is_void s ≡ b → (IsTrue (is_height (first_height later)) → is_void (metres (first_height later)) ≡ false)
@@ -50,21 +37,10 @@ pub any_corner : (P Q : Corner → Bool) (n : ℕ) (tiles : List Tile) → All (
 any_corner P Q n [] whole same = refl
 any_corner P Q n (t ∷ rest) whole same = ap₂ ◌||◌ (same t.corner (whole 0 t (omega arith)).corner) (any_corner P Q n rest (λ k d lt. whole (suc k) d (omega arith)) same)
 
-pub all_eight : (a b c d e g h i a' b' c' d' e' g' h' i' : Bool) → a ≡ a' → b ≡ b' → c ≡ c' → d ≡ d' → e ≡ e' → g ≡ g' → h ≡ h' → i ≡ i' →
-    0 + cond a 1 0 + cond b 1 0 + cond c 1 0 + cond d 1 0 + cond e 1 0 + cond g 1 0 + cond h 1 0 + cond i 1 0
-    ≡ 0 + cond a' 1 0 + cond b' 1 0 + cond c' 1 0 + cond d' 1 0 + cond e' 1 0 + cond g' 1 0 + cond h' 1 0 + cond i' 1 0
-all_eight a b c d e g h i a' b' c' d' e' g' h' i' sa sb sc sd se sg sh si = cc
-
 module _ (m : Mosaic) (f : Filled) (is : IsMosaic m) (whole : AreLevels f) (of : IsFilledOf m f) where
   held_same : (p : Point) → is_held f.side f.corners p ≡ list_any (λ t. holds m.side t.corner p) m.tiles
   held_same p = ap₂ (λ n cs. is_held n cs p) of.side of.corners
       ∙ any_corner (λ c. is_holder m.side c p) (λ c. holds m.side c p) m.side m.tiles is.tiles (λ c corner. ap (λ b. b && holds m.side c p) corner)
-
-  shared_same : (p q : Point) → is_shared f p q ≡ share_tile m p q
-  unfolding is_shared
-  shared_same p q = ap₂ (λ n cs. list_any (λ c. is_holder n c p && is_holder n c q) cs) of.side of.corners
-      ∙ any_corner (λ c. is_holder m.side c p && is_holder m.side c q) (λ c. holds m.side c p && holds m.side c q) m.side m.tiles is.tiles
-      (λ c corner. ap₂ (λ a b. (a && holds m.side c p) && (b && holds m.side c q)) corner corner)
 
   -- the level of a held point
   record Said (p : Point) : Type 0 where
@@ -110,36 +86,3 @@ module _ (m : Mosaic) (f : Filled) (is : IsMosaic m) (whole : AreLevels f) (of :
 
   pub ground_same : (p : Point) → has_level f p ≡ is_ground m p
   ground_same p = same_tests (has_level f p) (is_ground m p) (level_ground p) (ground_level p)
-
-  pub adjacent_same : (p q : Point) → adjoins f p q ≡ is_adjacent m p q
-  unfolding adjoins
-  adjacent_same p q =
-      ap₂ (λ a b. a && b && not (same_point p q) && is_near p q && is_shared f p q) (ground_same p) (ground_same q)
-      ∙ ap (λ s. is_ground m p && is_ground m q && not (same_point p q) && is_near p q && s) (shared_same p q)
-
-  counts : (p : Point) → count_by (λ d. adjoins f p (step d p)) directions ≡ count_by (λ d. is_adjacent m p (step d p)) directions
-  counts p = all_eight _ _ _ _ _ _ _ _ _ _ _ _ _ _ _ _ (same East) (same SouthEast) (same South) (same SouthWest) (same West) (same NorthWest) (same North) (same NorthEast)
-    where
-      same : (d : Dir) → adjoins f p (step d p) ≡ is_adjacent m p (step d p)
-      same d = adjacent_same p (step d p)
-
-  pub outlet_same : (p : Point) → leads_off f p ≡ is_outlet m p
-  unfolding leads_off
-  outlet_same p = ap₂ (λ a c. a && (nat_lt c 8 || is_declared f p)) (ground_same p) (counts p)
-      ∙ ap (λ (ss : List Point). is_ground m p && (nat_lt (degree_of m p) 8 || list_any (λ s. same_point s p) ss)) of.sinks
-
-  pub alike : (level : Point → ℤ) → AreFilledLevels (terrain m) level → Alike Anywhere (surface f) (terrain m) (level_at f) level
-  alike level filled = record {
-    beside = λ x y _. adjacent_same x y;
-    outlet = λ x _. outlet_same x;
-    level = λ x y _ on. (same_level x (left x y on), same_level y (right x y on));
-  }
-    where
-      same_level : (x : Point) → IsTrue (is_ground m x) → level_at f x ≡ level x
-      same_level x solid = level_is_unique (terrain m) x (level_at f x) (level x) (filled_at x solid) (filled x solid)
-
-      left : (x y : Point) → IsTrue (adjoins f x y) → IsTrue (is_ground m x)
-      left x y on = (mosaic_is_grid m is).lawful.from_ground x y (sym (adjacent_same x y) ∙ on)
-
-      right : (x y : Point) → IsTrue (adjoins f x y) → IsTrue (is_ground m y)
-      right x y on = (mosaic_is_grid m is).lawful.to_ground x y (sym (adjacent_same x y) ∙ on)

@@ -1,15 +1,8 @@
 -- The coordinates of a mosaic's ground points are numbers of 32 bits.
-use Rattle.std.proofs.Common.{ℕ, suc, ◌≤◌, IsTrue, List, [], ◌∷◌, sym, arith, ⊎_elim, true≢false}
-use Rattle.std.specs.Prelude.{All}
+use Rattle.std.proofs.Common.{ℕ, suc, ◌≤◌, IsTrue, List, [], ◌∷◌, sym, arith, ⊎_elim, true≢false, All}
 use Rattle.std.specs.List.{list_any}
 use Rattle.std.proofs.lemmas.Bool.{and_from, or_cases}
-use Rattle.lattice.specs.declared.point.Point.{Point}
-use Rattle.lattice.specs.Corners.{is_corner}
-use Rattle.lattice.specs.Lattice.{holds}
-use Rattle.lattice.specs.Stepping.{fits_point}
-use Rattle.lattice.specs.Mosaic.{Mosaic, IsMosaic, Tile, IsTile}
-use Rattle.lattice.specs.Ground.{is_ground}
-use Rattle.lattice.specs.Limits.{largest_side}
+use Rattle.flow_d8.specs.Prelude.{Point, is_corner, holds, fits_point, Mosaic, IsMosaic, Tile, IsTile, is_ground, largest_side}
 use Rattle.lattice.proofs.WaysOut.{held}
 use Rattle.flow_d8.proofs.Numbers.{held_fits}
 

@@ -1,10 +1,7 @@
 -- Each ground point has a flow path, and only one: the level falls, or it stays and the flat distance falls.
 use Rattle.std.proofs.Common.{◌≡◌, ℕ, zero, suc, ℤ, pos, ◌-ℤ◌, ◌≤ℤ◌, ◌<ℤ◌, ⊎_elim, IsTrue, Option, Some, None, List, [], ◌∷◌, length, get_or, Contains, ◌<◌, refl, sym, ap, ◌∙◌, subst, arith, nat_abs}
 use Rattle.std.proofs.lemmas.Int.{ints}
-use Rattle.lattice.specs.declared.point.Point.{Point}
-use Rattle.lattice.specs.declared.direction.Dir.{Dir}
-use Rattle.lattice.specs.Steps.{step}
-use Rattle.lattice.specs.Terrain.{Terrain}
+use Rattle.flow_d8.specs.Prelude.{Point, Dir, step, Terrain}
 use Rattle.lattice.proofs.Levels.{height-le_level, ≤ℤ_trans}
 use Rattle.flow_d8.specs.Drainage.{AreFilledLevels, IsFlatDistance, IsDirection}
 use Rattle.flow_d8.specs.FlowPath.{IsFlowPath, FlowsTo}

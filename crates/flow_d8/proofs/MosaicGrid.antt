@@ -1,19 +1,10 @@
 -- The terrain of a mosaic is a grid: adjacent points are a step apart, and no ground is as low as the void.
-use Rattle.std.proofs.Common.{◌≡◌, ℕ, suc, ◌<◌, ℤ, pos, negsuc, ◌+ℤ◌, ◌-ℤ◌, ◌≤ℤ◌, ◌⊎◌, inl, inr, ⊎_elim, true, false, not, List, [], ◌∷◌, sym, ap₂, ◌∙◌, subst, arith, nat_abs, true≢false}
-use Rattle.std.specs.Prelude.{nat_lt, int_lt, All, filter, slice_index_or, if◌then◌else◌, cond, map, length}
+use Rattle.std.proofs.Common.{◌≡◌, ℕ, suc, ◌<◌, ℤ, pos, negsuc, ◌+ℤ◌, ◌-ℤ◌, ◌≤ℤ◌, ◌⊎◌, inl, inr, ⊎_elim, true, false, not, List, [], ◌∷◌, sym, ap₂, ◌∙◌, subst, arith, nat_abs, true≢false, nat_lt, int_lt, All, filter, slice_index_or, if◌then◌else◌, cond, map, length}
 use Rattle.std.specs.Ordering.{int_eq}
 use Rattle.std.proofs.lemmas.Bool.{ltb-true, not-true, cases_Bool, cases_lt, and_parts, and_from}
 use Rattle.std.proofs.lemmas.Int.{ints}
 use Rattle.std.proofs.lemmas.List.{get_or_past}
-use Rattle.lattice.specs.declared.point.Point.{Point}
-use Rattle.lattice.specs.declared.direction.Dir.{Dir}
-use Rattle.lattice.specs.declared.direction.Dir.TheVariants.{East, SouthEast, South, SouthWest, West, NorthWest, North, NorthEast}
-use Rattle.lattice.specs.Steps.{step}
-use Rattle.lattice.specs.declared.height.Height.TheVariants.{At}
-use Rattle.lattice.specs.Lattice.{holds, index_of}
-use Rattle.lattice.specs.Mosaic.{Mosaic, Tile, IsMosaic, IsTile, IsSample, void, is_void}
-use Rattle.lattice.specs.Height.{sample_at, samples_at, first_height, by_seam_rule}
-use Rattle.lattice.specs.Ground.{is_ground, same_point, is_near, share_tile, terrain, metres}
+use Rattle.flow_d8.specs.Prelude.{Point, Dir, East, SouthEast, South, SouthWest, West, NorthWest, North, NorthEast, step, At, holds, index_of, Mosaic, Tile, IsMosaic, IsTile, IsSample, void, is_void, sample_at, samples_at, first_height, by_seam_rule, is_ground, same_point, is_near, share_tile, terrain, metres}
 use Rattle.lattice.proofs.Levels.{≤ℤ_same}
 use Rattle.flow_d8.specs.Grid.{IsGrid}
 use Rattle.lattice.proofs.Lawful.{five_parts, terrain_is_lawful}

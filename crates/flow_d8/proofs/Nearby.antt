@@ -1,23 +1,13 @@
 -- What lies around a point of a mosaic.
-use Rattle.std.proofs.Common.{◌≡◌, ℕ, ◌<◌, ℤ, true, false, not, IsTrue, IsFalse, Option, Some, None, List, [], ◌∷◌, length, get_or, inl, inr, refl, sym, ap, ◌∙◌, arith, true≢false}
-use Rattle.std.specs.Prelude.{is_some}
+use Rattle.std.proofs.Common.{◌≡◌, ℤ, false, not, IsTrue, IsFalse, Option, Some, None, List, [], ◌∷◌, length, get_or, inl, inr, refl, sym, ap, ◌∙◌, arith, true≢false}
 use Rattle.std.proofs.lemmas.Bool.{cases_Bool, cond-true, cond-false}
 use Rattle.std.proofs.lemmas.List.{same_lists, get_or_default}
-use Rattle.std.proofs.lemmas.Option.{none-some, same_Some}
-use Rattle.lattice.specs.declared.point.Point.{Point}
-use Rattle.lattice.specs.declared.direction.Dir.{Dir}
-use Rattle.lattice.specs.declared.direction.Dir.TheVariants.{East, SouthEast, South, SouthWest, West, NorthWest, North, NorthEast}
-use Rattle.lattice.specs.Steps.{step, order_of, directions}
-use Rattle.lattice.specs.Stepping.{fits_point}
-use Rattle.lattice.specs.Terrain.{Terrain, IsPath, IsFilledLevel}
-use Rattle.lattice.specs.Mosaic.{Mosaic, IsMosaic, void, is_void}
-use Rattle.lattice.specs.Height.{samples_at, height_of}
-use Rattle.lattice.specs.Ground.{is_ground, same_point, is_near, share_tile, is_adjacent, terrain, metres}
+use Rattle.flow_d8.specs.Prelude.{Point, Dir, East, step, order_of, fits_point, Terrain, IsPath, IsFilledLevel, Mosaic, IsMosaic, void, is_void, samples_at, height_of, is_ground, same_point, is_near, share_tile, is_adjacent, terrain, metres}
 use Rattle.lattice.proofs.Lawful.{five_parts, five_from, terrain_is_lawful}
 use Rattle.lattice.proofs.Levels.{level_is_unique, height-le_level}
 use Rattle.flow_d8.specs.Drainage.{AreFilledLevels}
 use Rattle.flow_d8.specs.LevelGrid.{IsLevelGrid}
-use Rattle.flow_d8.proofs.Compass.{dir_at, order_of-dir_at, order_at}
+use Rattle.flow_d8.proofs.Compass.{dir_at, order_of-dir_at}
 use Rattle.flow_d8.proofs.Surfaces.{step_near, step_other}
 use Rattle.flow_d8.proofs.Fitting.{ground_fits}
 use Rattle.flow_d8.proofs.FilledOf.{ground_not_void, above_void}
@@ -31,27 +21,10 @@ module _ (t : Terrain Point) (level : Point → ℤ) (p : Point) where
   pub beside_none : (d : Dir) → IsFalse (t.is_adjacent p (step d p)) → beside_of t level p d ≡ None
   beside_none d off = cond-false (t.is_adjacent p (step d p)) (Some (level (step d p))) None off
 
-  pub beside_some : (d : Dir) (v : ℤ) → beside_of t level p d ≡ Some v → IsTrue (t.is_adjacent p (step d p)) × (v ≡ level (step d p))
-  beside_some d v is = elim (cases_Bool (t.is_adjacent p (step d p))) [
-    | inl on ↦ (on, same_Some _ _ (sym is ∙ beside_there d on))
-    | inr off ↦ absurd (none-some v (sym (beside_none d off) ∙ is))
-  ]
-
   -- what stands at a direction's place
   pub in_place : (d : Dir) → get_or (around_of t level p) (order_of d) None ≡ beside_of t level p d
   in_place East = refl
-  in_place SouthEast = refl
-  in_place South = refl
-  in_place SouthWest = refl
-  in_place West = refl
-  in_place NorthWest = refl
-  in_place North = refl
-  in_place NorthEast = refl
-
-  pub found_at : (around : List (Option ℤ)) → around ≡ around_of t level p → (k : ℕ) (e : Option ℤ) (x : Dir) → k < 8 → get_or around k e ≡ beside_of t level p (get_or directions k x)
-  found_at around are k e x small =
-      get_or_default around k e None (omega (arith, ap length are)) ∙ ap (λ xs. get_or xs k None) are
-      ∙ ap (λ i. get_or (around_of t level p) i None) (sym (order_at k x small)) ∙ in_place (get_or directions k x)
+  in_place _ = refl
 
   -- eight that are right at each direction's place are all
   pub all_around : (around : List (Option ℤ)) → length around ≡ 8 → ((d : Dir) → get_or around (order_of d) None ≡ beside_of t level p d) → around ≡ around_of t level p
@@ -69,10 +42,6 @@ level_ground m p v filled = from filled.reached.0 filled.reached.1.0.path
     from : (rest : List Point) → IsPath (terrain m) p rest → IsTrue (is_ground m p)
     from [] path = path
     from (y ∷ rest) path = (terrain_is_lawful m).from_ground p y path.0
-
-pub found_ground : (m : Mosaic) (p : Point) (found : Option ℤ) → is_some found ≡ true → IsLevelAt m p found → IsTrue (is_ground m p)
-found_ground m p None is none = absurd (true≢false (sym is))
-found_ground m p (Some v) is there = level_ground m p v there
 
 -- ground one step away is adjacent where some tile holds both points
 pub one_step : (m : Mosaic) (p : Point) (d : Dir) → IsTrue (is_ground m p) → IsTrue (is_ground m (step d p)) → IsTrue (share_tile m p (step d p)) → IsTrue (is_adjacent m p (step d p))

@@ -1,16 +1,11 @@
 -- Points and their numbers among the samples of tiles, tile after tile: no two points have one number.
-use Rattle.std.proofs.Common.{◌≡◌, ℕ, suc, ◌+◌, ◌-◌, ◌*◌, ◌/◌, ◌%◌, ◌<◌, ◌≤◌, ℤ, pos, negsuc, ◌*ℤ◌, ◌≤ℤ◌, Bool, true, false, IsTrue, ◌&&◌, List, [], ◌∷◌, Some, length, get_or, refl, sym, ap, ◌∙◌, arith, inl, inr, ⊎_elim, true≢false}
-use Rattle.std.specs.Prelude.{slice_get, int_le}
+use Rattle.std.proofs.Common.{◌≡◌, ℕ, suc, ◌+◌, ◌-◌, ◌*◌, ◌/◌, ◌%◌, ◌<◌, ◌≤◌, ℤ, pos, negsuc, ◌*ℤ◌, ◌≤ℤ◌, true, false, IsTrue, ◌&&◌, List, [], ◌∷◌, Some, length, get_or, refl, sym, ap, ◌∙◌, arith, inl, inr, ⊎_elim, true≢false, slice_get, int_le}
 use Rattle.std.proofs.lemmas.Int.{ints}
 use Rattle.std.proofs.lemmas.Bool.{cases_Bool, cond-true, cond-false, and_parts, and_from, or_cases, or_left, or_right}
 use Rattle.std.proofs.lemmas.Grind.{rows}
 use Rattle.std.proofs.Math.Nat.{mul-le-mul_right}
 use Rattle.std.proofs.lemmas.Nat.{div-mul-add, mod-mul-add}
-use Rattle.lattice.specs.declared.point.Point.{Point}
-use Rattle.lattice.specs.Corners.{Corner, is_corner}
-use Rattle.lattice.specs.Lattice.{Holds, holds, index_of, point_of, is_along}
-use Rattle.lattice.specs.Stepping.{fits_number, fits_point}
-use Rattle.lattice.specs.Limits.{largest_side, most_tiles}
+use Rattle.flow_d8.specs.Prelude.{Point, Corner, is_corner, Holds, holds, index_of, point_of, is_along, fits_number, fits_point, largest_side, most_tiles}
 use Rattle.lattice.proofs.Samples.{holds_is, index_of_below, point_of_index}
 use Rattle.lattice.proofs.Along.{parts}
 use Rattle.lattice.proofs.IntTests.{le_true, le_from}
@@ -154,11 +149,6 @@ held_fits n c p side most both =
   where
     fits : (v : ℤ) → negsuc 2147483647 ≤ℤ v → v ≤ℤ pos 2147483647 → IsTrue (fits_number v)
     fits v low high = and_from (int_le (negsuc 2147483647) v) (int_le v (pos 2147483647)) (le_from (negsuc 2147483647) v low) (le_from v (pos 2147483647) high)
-
--- a test that tells holders
-pub same_test : (n : ℕ) (c : Corner) (p : Point) (answer : Bool) → 3 ≤ n → (IsTrue answer → Holds n c p) → (Holds n c p → IsTrue answer) → answer ≡ is_holder n c p
-same_test n c p true side from to = sym (holds_holder n c p side (from refl))
-same_test n c p false side from to = elim (cases_Bool (is_holder n c p)) [ inl on ↦ absurd (true≢false (sym (to (holder_holds n c p side on)))) | inr off ↦ sym off ]
 
 pub tile_below : (a count number : ℕ) → 0 < a → number < count * a → number / a < count
 tile_below a count number some small = grind (arith, rows)

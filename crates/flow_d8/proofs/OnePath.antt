@@ -1,21 +1,14 @@
 -- A flow path has no point twice, and no more points than the present tiles have samples.
-use Rattle.std.proofs.Common.{◌≡◌, ◌≢◌, ◌⊎◌, ⊎_elim, ℕ, zero, suc, ◌+◌, ◌*◌, ◌<◌, ◌≤◌, ℤ, pos, ◌&&◌, IsTrue, Some, List, [], ◌∷◌, ◌++◌, length, map, get_or, Contains, eqb, refl, sym, ap, ◌∙◌, subst, arith, true, true≢false, length-append}
+use Rattle.std.proofs.Common.{◌≡◌, ◌≢◌, ◌⊎◌, ⊎_elim, ℕ, zero, suc, ◌+◌, ◌*◌, ◌<◌, ◌≤◌, ℤ, pos, ◌&&◌, IsTrue, List, [], ◌∷◌, ◌++◌, length, map, get_or, Contains, eqb, refl, sym, ap, ◌∙◌, subst, arith, true, true≢false, length-append}
 use Rattle.std.specs.List.{AllPairs, list_any}
 use Rattle.std.proofs.lemmas.Bool.Decides.{Decides-eqb, eqb_tells}
 use Rattle.std.proofs.lemmas.List.{get_or-map, length-map, get_or_append_left, get_or_at}
 use Rattle.std.proofs.lemmas.Map.Made.{IsDistinct-from_AllPairs}
 use Rattle.std.proofs.lemmas.Map.Steps.{length-le_from_distinct_below}
 use Rattle.std.proofs.lemmas.Map.Views.{Contains-from_any}
-use Rattle.lattice.specs.declared.point.Point.{Point}
-use Rattle.lattice.specs.declared.direction.Dir.{Dir}
-use Rattle.lattice.specs.Steps.{step}
-use Rattle.lattice.specs.Corners.{Corner}
-use Rattle.lattice.specs.Lattice.{holds}
-use Rattle.lattice.specs.Terrain.{Terrain}
-use Rattle.lattice.specs.Mosaic.{Mosaic, IsMosaic, void}
-use Rattle.lattice.specs.Ground.{is_ground, terrain}
+use Rattle.flow_d8.specs.Prelude.{Point, step, Corner, holds, Terrain, Mosaic, IsMosaic, void, is_ground, terrain}
 use Rattle.lattice.proofs.WaysOut.{held}
-use Rattle.flow_d8.specs.Drainage.{AreFilledLevels, IsDirection}
+use Rattle.flow_d8.specs.Drainage.{AreFilledLevels}
 use Rattle.flow_d8.specs.Filled.{is_holder, is_held, number_of}
 use Rattle.flow_d8.specs.FlowPath.{IsFlowPath}
 use Rattle.flow_d8.specs.FlowSteps.{IsFollowed}
@@ -50,7 +43,7 @@ module _ (t : Terrain Point) (level : Point → ℤ) where
   begins x (y ∷ z ∷ rest) is = (z ∷ rest, ap (λ q. q ∷ z ∷ rest) is.0)
 
 module _ (t : Terrain Point) (grid : IsGrid t void) (level : Point → ℤ) where
-  ground_along : (x : Point) (path : List Point) → IsTrue (t.is_ground x) → IsFlowPath t level x path → (k : ℕ) (d : Point) → k < length path → IsTrue (t.is_ground (get_or path k d))
+  pub ground_along : (x : Point) (path : List Point) → IsTrue (t.is_ground x) → IsFlowPath t level x path → (k : ℕ) (d : Point) → k < length path → IsTrue (t.is_ground (get_or path k d))
   ground_along x [] solid is k d small = absurd is
   ground_along x (y ∷ []) solid is zero d small = subst (λ q. IsTrue (t.is_ground q)) (sym is.0) solid
   ground_along x (y ∷ []) solid is (suc k) d small = absurd (omega arith)

@@ -1,18 +1,30 @@
--- What a kernel over levels says of a ground point, where it is known which points are sinks.
-use Rattle.std.proofs.Common.{◌≡◌, ℤ, Bool, true, false, not, ◌&&◌, ◌||◌, IsTrue, IsFalse, inl, inr, ⊎_elim, refl, sym, ap, ◌∙◌, subst, true≢false}
-use Rattle.std.specs.Prelude.{nat_lt, count_by, if◌then◌else◌}
-use Rattle.std.proofs.lemmas.Bool.{cases_Bool, cond-true, cond-false, and_from}
-use Rattle.lattice.specs.declared.point.Point.{Point}
-use Rattle.lattice.specs.declared.direction.Dir.{Dir}
-use Rattle.lattice.specs.declared.direction.Dir.TheVariants.{East, SouthEast, South, SouthWest, West, NorthWest, North, NorthEast}
-use Rattle.lattice.specs.Steps.{step, directions}
-use Rattle.lattice.specs.Terrain.{Terrain}
-use Rattle.flow_d8.specs.declared.local_flow.LocalFlow.{LocalFlow}
-use Rattle.flow_d8.specs.declared.local_flow.LocalFlow.TheVariants.{NoGround, Edge, Flat, Seam, Drains}
-use Rattle.flow_d8.specs.Drainage.{CrossesFlat}
-use Rattle.flow_d8.specs.Places.{IsLocalFlow, IsFlowOf}
-use Rattle.flow_d8.specs.Propagation.{DrainsAtOnce}
-use Rattle.flow_d8.proofs.Beginning.{counted}
+-- Which ground points are outlets: those with fewer than eight adjacent points, and sinks.
+use Rattle.std.proofs.Common.{◌≡◌, ◌+◌, ℤ, Bool, cond, arith, true, false, not, ◌&&◌, ◌||◌, IsTrue, IsFalse, refl, ap, ◌∙◌, nat_lt, count_by}
+use Rattle.std.proofs.lemmas.Bool.{and_from}
+use Rattle.std.proofs.lemmas.Bool.Decides.{nat_tests}
+use Rattle.flow_d8.specs.Prelude.{Point, Dir, East, SouthEast, South, SouthWest, West, NorthWest, North, NorthEast, step, directions, Terrain}
+
+-- eight tests, of which fewer than eight hold where not all do
+counted : (a b c d e f g h : Bool) → nat_lt (0 + cond a 1 0 + cond b 1 0 + cond c 1 0 + cond d 1 0 + cond e 1 0 + cond f 1 0 + cond g 1 0 + cond h 1 0) 8 ≡ not (a && (b && (c && (d && (e && (f && (g && (h && true))))))))
+counted true true true true true true true true = refl
+counted true true true true true true true false = refl
+counted true true true true true true false h = short1 h
+  where
+    short1 : (h : Bool) → nat_lt (0 + 1 + 1 + 1 + 1 + 1 + 1 + 0 + cond h 1 0) 8 ≡ true
+    short1 true = refl
+    short1 false = refl
+counted true true true true true false g h = few g h
+  where
+    few : (g h : Bool) → nat_lt (0 + 1 + 1 + 1 + 1 + 1 + 0 + cond g 1 0 + cond h 1 0) 8 ≡ true
+    few true true = refl
+    few true false = refl
+    few false true = refl
+    few false false = refl
+counted true true true true false f g h = grind (arith, nat_tests)
+counted true true true false e f g h = grind (arith, nat_tests)
+counted true true false d e f g h = grind (arith, nat_tests)
+counted true false c d e f g h = grind (arith, nat_tests)
+counted false b c d e f g h = grind (arith, nat_tests)
 
 module _ (adjacent : Point → Point → Bool) (p : Point) where
   abbrev beside : Dir → Bool
@@ -50,44 +62,8 @@ module _ (t : Terrain Point) (level : Point → ℤ) (p : Point) where
     outlet_is : t.is_outlet p ≡ (not (all_there t.is_adjacent p) || sink)
     outlet_is = rule ∙ ap (λ b. b && (nat_lt (count_by (λ d. t.is_adjacent p (step d p)) directions) 8 || sink)) solid ∙ ap (λ b. b || sink) (counted _ _ _ _ _ _ _ _)
 
-    edge_off : (d : Dir) → IsFalse (t.is_adjacent p (step d p)) → IsTrue (t.is_outlet p)
+    pub edge_off : (d : Dir) → IsFalse (t.is_adjacent p (step d p)) → IsTrue (t.is_outlet p)
     edge_off d gap = outlet_is ∙ ap (λ b. not b || sink) (some_out t.is_adjacent p d gap)
 
-    inner_is : ((d : Dir) → IsTrue (t.is_adjacent p (step d p))) → t.is_outlet p ≡ sink
+    pub inner_is : ((d : Dir) → IsTrue (t.is_adjacent p (step d p))) → t.is_outlet p ≡ sink
     inner_is all = outlet_is ∙ ap (λ b. not b || sink) (none_out t.is_adjacent p all)
-
-    -- but on flats the kernel tells all
-    pub flow_is : (flow : LocalFlow) → (flow ≡ Flat → ⊥) → IsLocalFlow t level p flow → IsFlowOf t level p flow
-    flow_is NoGround other is = absurd (true≢false (sym solid ∙ is))
-    flow_is Edge other is = (is.1, edge_off is.2.0 is.2.1)
-    flow_is Flat other is = absurd (other refl)
-    flow_is Seam other is = absurd is
-    flow_is (Drains d) other is = is.1
-
-    pub flat_or_edge : IsLocalFlow t level p Flat → IsFlowOf t level p (if sink then Edge else Flat)
-    flat_or_edge is = elim (cases_Bool sink) [
-      | inl on ↦ subst (IsFlowOf t level p) (sym (cond-true sink Edge Flat on)) (is.1, inner_is is.2 ∙ on)
-      | inr off ↦ subst (IsFlowOf t level p) (sym (cond-false sink Edge Flat off)) (is.1, inner_is is.2 ∙ off)
-    ]
-
-    pub seam_or_edge : IsLocalFlow t level p Flat → IsFlowOf t level p (if sink then Edge else Seam)
-    seam_or_edge is = elim (cases_Bool sink) [
-      | inl on ↦ subst (IsFlowOf t level p) (sym (cond-true sink Edge Seam on)) (is.1, inner_is is.2 ∙ on)
-      | inr off ↦ subst (IsFlowOf t level p) (sym (cond-false sink Edge Seam off)) (is.1, inner_is is.2 ∙ off)
-    ]
-
-  -- a point that drains at once is an end
-  pub end_of : (flow : LocalFlow) → IsFlowOf t level p flow → CrossesFlat t level p 0 → DrainsAtOnce flow
-  end_of NoGround is crosses = is
-  end_of Edge is crosses = tt
-  end_of Flat is crosses = ⊎_elim (λ low. absurd (is.0 low)) (λ out. absurd (true≢false (sym out ∙ is.1))) crosses
-  end_of Seam is crosses = ⊎_elim (λ low. absurd (is.0 low)) (λ out. absurd (true≢false (sym out ∙ is.1))) crosses
-  end_of (Drains d) is crosses = tt
-
-  -- and an end's point drains at once
-  pub crosses_end : (flow : LocalFlow) → IsFlowOf t level p flow → DrainsAtOnce flow → CrossesFlat t level p 0
-  crosses_end NoGround is end = absurd is
-  crosses_end Edge is end = inr is.1
-  crosses_end Flat is end = absurd end
-  crosses_end Seam is end = absurd end
-  crosses_end (Drains d) is end = inl (step d p, is.lower)

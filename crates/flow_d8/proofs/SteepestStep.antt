@@ -2,12 +2,7 @@
 use Rattle.std.proofs.Common.{◌≡◌, ℕ, zero, suc, ◌+◌, ◌*◌, ◌<◌, ◌≤◌, ℤ, ◌-ℤ◌, ◌≤ℤ◌, ◌<ℤ◌, IsTrue, IsFalse, ◌⊎◌, inl, inr, ⊎_elim, sym, ap, ◌∙◌, subst, arith, nat_abs}
 use Rattle.std.proofs.lemmas.Bool.{cases_eq, cases_Bool, cond-true, cond-false, lt-ltb, le-ltb}
 use Rattle.std.proofs.lemmas.Int.{ints}
-use Rattle.lattice.specs.declared.point.Point.{Point}
-use Rattle.lattice.specs.declared.direction.Dir.{Dir}
-use Rattle.lattice.specs.declared.direction.Dir.TheVariants.{East, SouthEast, South, SouthWest, West, NorthWest, North, NorthEast}
-use Rattle.lattice.specs.Steps.{step, order_of, slope_of}
-use Rattle.lattice.specs.Terrain.{Terrain}
-use Rattle.lattice.specs.Mosaic.{void}
+use Rattle.flow_d8.specs.Prelude.{Point, Dir, SouthEast, SouthWest, NorthWest, NorthEast, step, order_of, slope_of, Terrain, void}
 use Rattle.lattice.proofs.IntTests.{le_or_above}
 use Rattle.flow_d8.specs.Drainage.{IsLower, HasLower, IsSteepest, drop_by}
 use Rattle.flow_d8.proofs.Compass.{same_order, order_below}
@@ -23,14 +18,11 @@ twice_some : (n : ℕ) → 0 < n → 0 < 2 * n
 twice_some n some = omega arith
 
 slope_some : (d : Dir) (n : ℕ) → 0 < n → 0 < slope_of d n
-slope_some East n some = twice_some (n * n) (square_some n some)
 slope_some SouthEast n some = square_some n some
-slope_some South n some = twice_some (n * n) (square_some n some)
 slope_some SouthWest n some = square_some n some
-slope_some West n some = twice_some (n * n) (square_some n some)
 slope_some NorthWest n some = square_some n some
-slope_some North n some = twice_some (n * n) (square_some n some)
 slope_some NorthEast n some = square_some n some
+slope_some _ n some = twice_some (n * n) (square_some n some)
 
 gap_some : (a b : ℤ) → b <ℤ a → 0 < nat_abs (a -ℤ b)
 gap_some a b h = omega (arith, ints)

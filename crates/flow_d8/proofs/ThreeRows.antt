@@ -1,13 +1,7 @@
 -- Nine levels in three rows, of which each is a point's or that of the point beside it.
-use Rattle.std.proofs.Common.{◌≡◌, ℤ, Option, [], ◌∷◌, inl, inr, sym, ◌∙◌, subst}
-use Rattle.std.specs.Prelude.{MatchOption, if◌then◌else◌, slice_index_or}
+use Rattle.std.proofs.Common.{◌≡◌, ℤ, Option, [], ◌∷◌, inl, inr, sym, ◌∙◌, subst, MatchOption, if◌then◌else◌, slice_index_or}
 use Rattle.std.proofs.lemmas.Bool.{cases_Bool, cond-true, cond-false}
-use Rattle.lattice.specs.declared.point.Point.{Point}
-use Rattle.lattice.specs.declared.direction.Dir.{Dir}
-use Rattle.lattice.specs.declared.direction.Dir.TheVariants.{East, SouthEast, South, SouthWest, West, NorthWest, North, NorthEast}
-use Rattle.lattice.specs.Steps.{step}
-use Rattle.lattice.specs.Terrain.{Terrain}
-use Rattle.lattice.specs.Mosaic.{void}
+use Rattle.flow_d8.specs.Prelude.{Point, Dir, East, SouthEast, South, SouthWest, West, NorthWest, North, NorthEast, step, Terrain, void}
 use Rattle.flow_d8.specs.LevelGrid.{level_beside}
 use Rattle.flow_d8.specs.LevelsAround.{beside_of}
 use Rattle.flow_d8.specs.Places.{place_by, IsShown}

@@ -1,57 +1,85 @@
 -- A trace on its way: what leads from its first point to the last one so far.
-use Rattle.std.proofs.Common.{◌≡◌, ℕ, ◌<◌, ◌≤◌, ℤ, false, IsTrue, Option, Some, None, List, [], ◌∷◌, ◌++◌, length, get_or, refl, sym, ◌∙◌, subst, arith, inl, inr, ⊎_elim, true≢false}
-use Rattle.std.specs.Prelude.{nat_lt}
-use Rattle.std.proofs.lemmas.Bool.{cases_Bool, cond-true, cond-false, lt-ltb}
-use Rattle.std.proofs.lemmas.Bool.Decides.{nat_tests}
-use Rattle.std.proofs.lemmas.List.{get_or_past, get_or_default}
+use Rattle.std.proofs.Common.{◌≡◌, ◌↔◌, ℕ, zero, suc, ◌<◌, ℤ, IsTrue, IsFalse, Option, Some, None, List, [], ◌∷◌, ◌++◌, length, inl, inr, refl, sym, ◌∙◌, subst, arith, ⊎_elim}
+use Rattle.std.proofs.lemmas.Bool.{cases_Bool, cases_lt}
+use Rattle.std.proofs.lemmas.List.{get_or_past}
 use Rattle.std.proofs.lemmas.Option.{none-some}
-use Rattle.lattice.specs.declared.point.Point.{Point}
-use Rattle.lattice.specs.declared.direction.Dir.{Dir}
-use Rattle.lattice.specs.Steps.{step}
-use Rattle.lattice.specs.Stepping.{fits_point}
-use Rattle.lattice.specs.Mosaic.{Mosaic, IsMosaic}
-use Rattle.lattice.specs.Ground.{is_ground, terrain}
+use Rattle.flow_d8.specs.Prelude.{Point, Dir, step, fits_point, Mosaic, IsMosaic, is_ground, terrain, Flow, Unknown, NoGround, Outlet, To, Beside, Flat, FlatTo}
 use Rattle.flow_d8.specs.Drainage.{IsDirection}
 use Rattle.flow_d8.specs.FlowPath.{IsFlowPath}
 use Rattle.flow_d8.specs.FlowSteps.{IsFollowed}
-use Rattle.flow_d8.specs.Filled.{is_held, number_of}
-use Rattle.flow_d8.specs.Propagation.{unknown, distance_at}
-use Rattle.flow_d8.specs.Directions.{Directions, AreWhole, AreDirectionsOf, IsKnown, direction_in, distance_in}
+use Rattle.flow_d8.specs.Filled.{is_held}
 use Rattle.flow_d8.proofs.Following.{followed_more, followed_end}
 use Rattle.flow_d8.proofs.Numbers.{number_past}
 use Rattle.flow_d8.proofs.MosaicGrid.{mosaic_is_grid}
 use Rattle.flow_d8.proofs.Fitting.{ground_fits}
+use Rattle.flow_d8.specs.Directions.{Directions, AreWhole, AreDirectionsOf, number_in, flow_at, flow_in, direction_in, distance_in, walk}
+use Rattle.flow_d8.specs.Flows.{IsTellingAll, direction_of}
+use Rattle.flow_d8.specs.Tiles.{count_of}
+use Rattle.flow_d8.proofs.Crossing.{told_in, walk_is, walk_nowhere}
 
-lt-not : (a b : ℕ) → (a < b → ⊥) → nat_lt a b ≡ false
-lt-not a b h = grind (arith, nat_tests)
+-- there is a sample of which something is told
+pub some_sample : (d : Directions) → (k : ℕ) → (flow_at d k ≡ NoGround → ⊥) → k < length d.drains
+some_sample d k told = elim (cases_lt k (length d.drains)) [
+  | inl within ↦ within
+  | inr past ↦ absurd (told (get_or_past d.drains k NoGround past))
+]
 
-module _ (d : Directions) (p : Point) where
-  pub direction_known : IsKnown d p → direction_in d p ≡ get_or d.drains (number_of d.side d.corners p) None
-  direction_known known = cond-true (nat_lt (distance_at d.distances (number_of d.side d.corners p)) unknown) (get_or d.drains (number_of d.side d.corners p) None) None (lt-ltb _ _ known)
+-- what names no direction and no distance isn't ground
+walk_some : (d : Directions) (n k : ℕ) → 0 < n → flow_at d k ≡ Outlet → walk d n k ≡ Some 0
+walk_some d zero k some at = absurd (omega arith)
+walk_some d (suc n) k some at = walk_is d n k Outlet at
 
-  pub direction_unknown : (IsKnown d p → ⊥) → direction_in d p ≡ None
-  direction_unknown none = cond-false (nat_lt (distance_at d.distances (number_of d.side d.corners p)) unknown) (get_or d.drains (number_of d.side d.corners p) None) None (lt-not _ _ none)
+neither : (d : Directions) (whole : AreWhole d) (p : Point) → direction_in d p ≡ None → distance_in d p ≡ None → flow_in d p ≡ NoGround
+neither d whole p direction distance = by (flow_in d p) refl
+  where
+    by : (f : Flow) → flow_in d p ≡ f → flow_in d p ≡ NoGround
+    by Unknown at = absurd (subst IsTellingAll at (told_in d whole p))
+    by NoGround at = at
+    by Outlet at =
+        let low : number_in d p < length d.drains = some_sample d (number_in d p) (λ none. no (sym at ∙ none)) in
+        absurd (none-some 0 (sym distance ∙ walk_some d (count_of d.tiles) (number_in d p) (omega (arith, low, whole.whole)) at))
+      where
+        no : Outlet ≡ NoGround → ⊥
+        no same = cc
+    by (To e) at = absurd (none-some e (sym direction ∙ ap_direction at))
+      where
+        ap_direction : flow_in d p ≡ To e → direction_in d p ≡ Some e
+        ap_direction same = subst (λ f. direction_of f ≡ Some e) (sym same) refl
+    by (Beside e) at = absurd (none-some e (sym direction ∙ subst (λ f. direction_of f ≡ Some e) (sym at) refl))
+    by Flat at = absurd (subst IsTellingAll at (told_in d whole p))
+    by (FlatTo e) at = absurd (none-some e (sym direction ∙ subst (λ f. direction_of f ≡ Some e) (sym at) refl))
 
-  pub distance_unknown : (IsKnown d p → ⊥) → distance_in d p ≡ None
-  distance_unknown none = cond-false (nat_lt (distance_at d.distances (number_of d.side d.corners p)) unknown) (Some (distance_at d.distances (number_of d.side d.corners p))) None (lt-not _ _ none)
+module _ (m : Mosaic) (level : Point → ℤ) (d : Directions) (are : AreDirectionsOf m level d) where
+  -- a ground point is told
+  pub ground_told : (p : Point) → IsTrue (is_ground m p) → flow_in d p ≡ NoGround → ⊥
+  ground_told p solid none = let dist = are.distance p solid in none-some dist.0 (sym (walk_nowhere d (count_of d.tiles) (number_in d p) none) ∙ dist.1.0)
 
-  distance_known : IsKnown d p → distance_in d p ≡ Some (distance_at d.distances (number_of d.side d.corners p))
-  distance_known known = cond-true (nat_lt (distance_at d.distances (number_of d.side d.corners p)) unknown) (Some (distance_at d.distances (number_of d.side d.corners p))) None (lt-ltb _ _ known)
+  pub off_none : AreWhole d → (p : Point) → IsFalse (is_ground m p) → flow_in d p ≡ NoGround
+  off_none whole p off = let e = are.elsewhere p off in neither d whole p e.0 e.1
 
-  -- a point that no tile holds has no known distance
-  pub unheld_unknown : AreWhole d → (IsTrue (is_held d.side d.corners p) → ⊥) → IsKnown d p → ⊥
-  unheld_unknown whole out known = elim (cases_Bool (is_held d.side d.corners p)) [
-    | inl held ↦ out held
+  pub none_is_off : AreWhole d → (p : Point) → (flow_in d p ≡ NoGround) ↔ IsFalse (is_ground m p)
+  none_is_off whole p = (
+    λ none. elim (cases_Bool (is_ground m p)) [ inl solid ↦ absurd (ground_told p solid none) | inr off ↦ off ],
+    off_none whole p,
+  )
+
+  -- .. and one that is told is ground
+  pub told_ground : AreWhole d → (p : Point) → (flow_in d p ≡ NoGround → ⊥) → IsTrue (is_ground m p)
+  told_ground whole p told = elim (cases_Bool (is_ground m p)) [
+    | inl solid ↦ solid
+    | inr off ↦ absurd (told (off_none whole p off))
+  ]
+
+  -- tiles hold each ground point
+  pub ground_held : AreWhole d → (p : Point) → IsTrue (is_ground m p) → IsTrue (is_held d.tiles.side d.tiles.corners p)
+  ground_held whole p solid = elim (cases_Bool (is_held d.tiles.side d.tiles.corners p)) [
+    | inl held ↦ held
     | inr off ↦
-        let past : length d.distances ≤ number_of d.side d.corners p = omega (arith, number_past d.side d.corners p off, whole.distances) in
-        absurd (omega (arith, get_or_past d.distances (number_of d.side d.corners p) unknown past))
+        let low = some_sample d (number_in d p) (ground_told p solid) in
+        absurd (omega (arith, low, whole.whole, number_past d.tiles.side d.tiles.corners p off))
   ]
 
 module _ (m : Mosaic) (level : Point → ℤ) (d : Directions) (is : IsMosaic m) (are : AreDirectionsOf m level d) where
-  -- a ground point has a known distance
-  pub ground_known : (p : Point) → IsTrue (is_ground m p) → (IsKnown d p → ⊥) → ⊥
-  ground_known p solid none = let dist = are.distance p solid in none-some dist.0 (sym (distance_unknown d p none) ∙ dist.1.0)
-
   -- the point that a ground point drains to is ground
   pub drains_to_ground : (p : Point) (e : Dir) → IsTrue (is_ground m p) → direction_in d p ≡ Some e → IsDirection (terrain m) level p (Some e) × IsTrue (is_ground m (step e p))
   drains_to_ground p e solid at =
@@ -67,24 +95,3 @@ module _ (m : Mosaic) (level : Point → ℤ) (d : Directions) (is : IsMosaic m)
       ended : (o : Option Dir) → direction_in d last ≡ o → IsDirection (terrain m) level last None
       ended None at = subst (IsDirection (terrain m) level last) at (are.direction last so_far.solid)
       ended (Some e) at = absurd (off e at (ground_fits m is (step e last) (drains_to_ground last e so_far.solid at).1))
-
-  -- tiles hold each ground point
-  pub ground_held : AreWhole d → (p : Point) → IsTrue (is_ground m p) → IsTrue (is_held d.side d.corners p)
-  ground_held whole p solid = elim (cases_Bool (is_held d.side d.corners p)) [
-    | inl held ↦ held
-    | inr off ↦ absurd (ground_known p solid (unheld_unknown d p whole (λ held. true≢false (sym held ∙ off))))
-  ]
-
-  -- a point with a known distance is ground
-  pub known_ground : (p : Point) → IsKnown d p → IsTrue (is_ground m p)
-  known_ground p known = elim (cases_Bool (is_ground m p)) [
-    | inl solid ↦ solid
-    | inr off ↦ absurd (none-some _ (sym ((are.elsewhere p off).1) ∙ distance_known d p known))
-  ]
-
--- what is read of a list says whether the distance there is known
-pub read_known : (xs : List ℕ) (g v : ℕ) → g < length xs → v ≡ get_or xs g v → v < unknown → distance_at xs g < unknown
-read_known xs g v within is lt = subst (λ w. w < unknown) (is ∙ get_or_default xs g v unknown within) lt
-
-pub read_unknown : (xs : List ℕ) (g v : ℕ) → g < length xs → v ≡ get_or xs g v → unknown ≤ v → distance_at xs g < unknown → ⊥
-read_unknown xs g v within is ge lt = let same = is ∙ get_or_default xs g v unknown within in omega arith

@@ -1,10 +1,7 @@
 -- A point has at most one flat distance and at most one direction.
 use Rattle.std.proofs.Common.{◌≡◌, ℕ, ◌<◌, ℤ, inl, inr, ⊎_elim, Option, Some, None, refl, sym, ap, ◌∙◌, arith, true≢false}
 use Rattle.std.proofs.lemmas.Bool.{cases_order}
-use Rattle.lattice.specs.declared.point.Point.{Point}
-use Rattle.lattice.specs.declared.direction.Dir.{Dir}
-use Rattle.lattice.specs.Steps.{step, order_of}
-use Rattle.lattice.specs.Terrain.{Terrain}
+use Rattle.flow_d8.specs.Prelude.{Point, Dir, step, order_of, Terrain}
 use Rattle.flow_d8.specs.Drainage.{IsSteepest, IsFlatDistance, IsFirstNearer, IsDirection}
 use Rattle.flow_d8.proofs.Compass.{same_order}
 

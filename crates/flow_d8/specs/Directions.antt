@@ -1,54 +1,62 @@
 -- Where each point of a mosaic drains, kept by the numbers of samples.
-use Rattle.std.specs.Prelude.{◌≡◌, ℕ, ◌*◌, ◌<◌, ◌≤◌, ℤ, ◌&&◌, IsTrue, IsFalse, Option, Some, None, List, length, nat_lt, if◌then◌else◌, slice_index_or}
-use Rattle.lattice.specs.Limits.{largest_side, most_tiles}
-use Rattle.lattice.specs.declared.point.Point.{Point}
-use Rattle.lattice.specs.declared.direction.Dir.{Dir}
-use Rattle.lattice.specs.Steps.{step}
-use Rattle.lattice.specs.Stepping.{fits_point}
-use Rattle.std.specs.List.{AllAdjacentBelow}
-use Rattle.lattice.specs.Corners.{Corner}
-use Rattle.lattice.specs.Lattice.{IsBefore}
-use Rattle.lattice.specs.Mosaic.{Mosaic, IsMosaic}
-use Rattle.lattice.specs.Ground.{is_ground, terrain}
+use Rattle.std.specs.Prelude.{◌≡◌, ◌<◌, ◌+◌, ℕ, zero, suc, ℤ, IsTrue, IsFalse, Option, Some, None, List, length, slice_index_or}
+use Rattle.flow_d8.specs.Prelude.{Point, Dir, step, fits_point, Mosaic, IsMosaic, is_ground, terrain, Flow, NoGround, Outlet, To, Beside, FlatTo}
 use Rattle.flow_d8.specs.Drainage.{AreFilledLevels, IsFlatDistance, IsDirection}
-use Rattle.flow_d8.specs.Feeders.{LeadsBy}
-use Rattle.flow_d8.specs.Filled.{is_held, number_of}
-use Rattle.flow_d8.specs.Propagation.{unknown, distance_at}
+use Rattle.flow_d8.specs.Filled.{number_of}
+use Rattle.flow_d8.specs.Flows.{direction_of}
+use Rattle.flow_d8.specs.FlowGrids.{AreTold}
+use Rattle.flow_d8.specs.Tiles.{Tiles, AreTiles, count_of, by_of}
 
--- the corners of the tiles, and for each of their samples a direction and a flat distance
+-- the tiles, and for each of their samples where it drains
 pub record Directions : Type 0 where
-  pub side : ℕ
-  pub corners : List Corner
-  pub drains : List (Option Dir)
-  pub distances : List ℕ
+  pub tiles : Tiles
+  pub drains : List Flow
 
 pub record AreWhole (d : Directions) : Type 0 where
-  pub side_low : 3 ≤ d.side
-  pub side_high : d.side ≤ largest_side
-  pub few : length d.corners ≤ most_tiles
-  pub in_order : AllAdjacentBelow IsBefore d.corners (length d.corners)
-  pub drains : length d.drains ≡ length d.corners * (d.side * d.side)
-  pub distances : length d.distances ≡ length d.corners * (d.side * d.side)
+  pub valid : AreTiles d.tiles
+  pub whole : length d.drains ≡ count_of d.tiles
+  pub told : AreTold d.drains
 
--- the point has a known distance
-abbrev pub IsKnown : Directions → Point → Type 0
-IsKnown d p = distance_at d.distances (number_of d.side d.corners p) < unknown
+abbrev pub number_in : Directions → Point → ℕ
+number_in d p = number_of d.tiles.side d.tiles.corners p
 
--- the point's direction; none off the mosaic, and where no distance is known
+-- what is told of a sample; no ground past all samples
+abbrev pub flow_at : Directions → ℕ → Flow
+flow_at d k = slice_index_or d.drains k NoGround
+
+-- .. of a point, by the first tile that holds it
+abbrev pub flow_in : Directions → Point → Flow
+flow_in d p = flow_at d (number_in d p)
+
+-- the point's direction; none off the mosaic, and where there is no ground
 abbrev pub direction_in : Directions → Point → Option Dir
-direction_in d p = if nat_lt (distance_at d.distances (number_of d.side d.corners p)) unknown then slice_index_or d.drains (number_of d.side d.corners p) None else None
+direction_in d p = direction_of (flow_in d p)
 
--- the point's flat distance, where it is known
+abbrev pub one_more : Option ℕ → Option ℕ
+one_more None = None
+one_more (Some k) = Some (suc k)
+
+-- the sample that this leads to
+abbrev pub after : Directions → ℕ → Flow → ℕ
+after d k (FlatTo e) = by_of d.tiles k e
+after d k _ = k
+
+-- so many steps lead across the flat from a sample of which this is told, if so many do from the one after it
+abbrev pub across : Flow → Option ℕ → Option ℕ
+across Outlet rest = Some 0
+across (To e) rest = Some 0
+across (Beside e) rest = Some 1
+across (FlatTo e) rest = one_more rest
+across _ rest = None
+
+-- how many steps lead from a sample across its flat, where they are fewer than so many
+unfoldable pub walk : Directions → ℕ → ℕ → Option ℕ
+walk d zero k = None
+walk d (suc n) k = across (flow_at d k) (walk d n (after d k (flow_at d k)))
+
+-- the point's flat distance, where it is ground
 abbrev pub distance_in : Directions → Point → Option ℕ
-distance_in d p = if nat_lt (distance_at d.distances (number_of d.side d.corners p)) unknown then Some (distance_at d.distances (number_of d.side d.corners p)) else None
-
--- the number of the point one step away, where some tile holds it and its coordinates are numbers of 32 bits
-abbrev pub number_beside : Directions → Point → Dir → Option ℕ
-number_beside d p e = if fits_point (step e p) && is_held d.side d.corners (step e p) then Some (number_of d.side d.corners (step e p)) else None
-
--- x drains straight to p
-abbrev pub DrainsTo : Directions → Point → Point → Type 0
-DrainsTo d x p = LeadsBy (direction_in d) x p
+distance_in d p = walk d (count_of d.tiles) (number_in d p)
 
 -- each ground point's direction and flat distance; a point that isn't ground has neither
 pub record AreDirectionsOf (m : Mosaic) (level : Point → ℤ) (d : Directions) : Type 0 where
@@ -59,3 +67,11 @@ pub record AreDirectionsOf (m : Mosaic) (level : Point → ℤ) (d : Directions)
 -- no mosaic has these directions
 abbrev pub AreOfNoMosaic : Directions → Type 0
 AreOfNoMosaic d = (m : Mosaic) (level : Point → ℤ) → IsMosaic m → AreFilledLevels (terrain m) level → AreDirectionsOf m level d → ⊥
+
+-- the direction of p leads to q, a point that can be named
+abbrev pub LeadsTo : Directions → Point → Point → Type 0
+LeadsTo d p q = (e : Dir) × ((direction_in d p ≡ Some e) × ((q ≡ step e p) × IsTrue (fits_point (step e p))))
+
+-- from each point of the path but the last its direction leads to the next
+abbrev pub IsChain : Directions → List Point → Type 0
+IsChain d path = (i : ℕ) (x : Point) → i + 1 < length path → LeadsTo d (slice_index_or path i x) (slice_index_or path (i + 1) x)

@@ -1,10 +1,7 @@
 -- Where each ground point drains (D-8 of O'Callaghan and Mark 1984 on filled levels; the order of ties and the rule on
 -- flats are this product's own profile).
 use Rattle.std.specs.Prelude.{◌≡◌, ℕ, zero, suc, ◌<◌, ◌≤◌, ℤ, ◌-ℤ◌, ◌<ℤ◌, nat_abs, IsTrue, IsFalse, Option, Some, None, ◌⊎◌}
-use Rattle.lattice.specs.declared.point.Point.{Point}
-use Rattle.lattice.specs.declared.direction.Dir.{Dir}
-use Rattle.lattice.specs.Steps.{step, order_of, is_steeper}
-use Rattle.lattice.specs.Terrain.{Terrain, IsFilledLevel}
+use Rattle.flow_d8.specs.Prelude.{Point, Dir, step, order_of, is_steeper, Terrain, IsFilledLevel}
 
 -- the levels of ground points are their filled levels
 abbrev pub AreFilledLevels : Terrain Point → (Point → ℤ) → Type 0

@@ -1,10 +1,7 @@
 -- Laws of drainage: on every mosaic with its filled levels each ground point has exactly one flat distance, one
 -- direction and one flow path, which ends off the mosaic, and lies in the watersheds of the points on that path alone.
 use Rattle.std.specs.Prelude.{◌≡◌, ℕ, ℤ, IsTrue, Option, List, Contains, ◌↔◌}
-use Rattle.lattice.specs.declared.point.Point.{Point}
-use Rattle.lattice.specs.declared.direction.Dir.{Dir}
-use Rattle.lattice.specs.Mosaic.{Mosaic, IsMosaic}
-use Rattle.lattice.specs.Ground.{is_ground, terrain}
+use Rattle.flow_d8.specs.Prelude.{Point, Dir, Mosaic, IsMosaic, is_ground, terrain}
 use Rattle.flow_d8.specs.Drainage.{AreFilledLevels, IsFlatDistance, IsDirection}
 use Rattle.flow_d8.specs.FlowPath.{IsFlowPath, IsInWatershed}
 

@@ -1,13 +1,7 @@
 -- Filled of many tiles, tile after tile in one list, and where in it a point lies.
 use Rattle.std.specs.Prelude.{◌≡◌, ℕ, ◌+◌, ◌*◌, ◌/◌, ◌%◌, nat_le, ◌<◌, ◌≤◌, ℤ, Bool, IsTrue, IsFalse, ◌&&◌, if◌then◌else◌, List, [], ◌∷◌, length, map, slice_index_or, slice_get, Some}
 use Rattle.std.specs.List.{list_any, AllAdjacentBelow}
-use Rattle.lattice.specs.Limits.{largest_side, most_tiles}
-use Rattle.lattice.specs.declared.point.Point.{Point}
-use Rattle.lattice.specs.Corners.{Corner, is_corner}
-use Rattle.lattice.specs.Lattice.{IsBefore, holds, index_of, point_of}
-use Rattle.lattice.specs.Terrain.{IsFilledLevel}
-use Rattle.lattice.specs.Mosaic.{Mosaic, IsMosaic, void}
-use Rattle.lattice.specs.Ground.{is_ground, terrain}
+use Rattle.flow_d8.specs.Prelude.{largest_side, most_tiles, Point, Corner, is_corner, IsBefore, holds, index_of, point_of, IsFilledLevel, Mosaic, IsMosaic, void, is_ground, terrain}
 
 -- the corners of the tiles, and of each tile in turn the levels row by row from the north, in a row from the west; and
 -- the declared sinks

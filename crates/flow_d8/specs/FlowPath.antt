@@ -1,9 +1,6 @@
 -- The flow path of a point, and the points that drain through a point: its watershed (O'Callaghan and Mark 1984).
 use Rattle.std.specs.Prelude.{◌≡◌, ℕ, zero, suc, ℤ, IsTrue, Some, None, List, [], ◌∷◌}
-use Rattle.lattice.specs.declared.point.Point.{Point}
-use Rattle.lattice.specs.declared.direction.Dir.{Dir}
-use Rattle.lattice.specs.Steps.{step}
-use Rattle.lattice.specs.Terrain.{Terrain}
+use Rattle.flow_d8.specs.Prelude.{Point, Dir, step, Terrain}
 use Rattle.flow_d8.specs.Drainage.{IsDirection}
 
 module _ (t : Terrain Point) (level : Point → ℤ) where

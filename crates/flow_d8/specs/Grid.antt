@@ -1,9 +1,6 @@
 -- What of a terrain over points the laws of drainage rest on.
 use Rattle.std.specs.Prelude.{◌≡◌, ℤ, ◌≤ℤ◌, IsTrue}
-use Rattle.lattice.specs.declared.point.Point.{Point}
-use Rattle.lattice.specs.declared.direction.Dir.{Dir}
-use Rattle.lattice.specs.Steps.{step}
-use Rattle.lattice.specs.Terrain.{Terrain, IsLawful}
+use Rattle.flow_d8.specs.Prelude.{Point, Dir, step, Terrain, IsLawful}
 
 -- adjacent points are a step apart, and no ground is lower than the void
 pub record IsGrid (t : Terrain Point) (bottom : ℤ) : Type 0 where

@@ -1,10 +1,6 @@
 -- What kernels over levels ask of a terrain.
 use Rattle.std.specs.Prelude.{◌≡◌, ℤ, IsTrue, if◌then◌else◌}
-use Rattle.lattice.specs.declared.point.Point.{Point}
-use Rattle.lattice.specs.declared.direction.Dir.{Dir}
-use Rattle.lattice.specs.Steps.{step}
-use Rattle.lattice.specs.Terrain.{Terrain, IsLawful}
-use Rattle.lattice.specs.Mosaic.{void}
+use Rattle.flow_d8.specs.Prelude.{Point, Dir, step, Terrain, IsLawful, void}
 
 -- the level of the adjacent point in the direction; void if there is none
 abbrev pub level_beside : Terrain Point → (Point → ℤ) → Point → Dir → ℤ

@@ -1,11 +1,6 @@
 -- What is answered of the levels at a point and around it.
 use Rattle.std.specs.Prelude.{◌≡◌, ℤ, IsTrue, IsFalse, if◌then◌else◌, List, Option, Some, None, MatchOption, map}
-use Rattle.lattice.specs.declared.point.Point.{Point}
-use Rattle.lattice.specs.declared.direction.Dir.{Dir}
-use Rattle.lattice.specs.Steps.{step, directions}
-use Rattle.lattice.specs.Terrain.{Terrain, IsFilledLevel}
-use Rattle.lattice.specs.Mosaic.{Mosaic}
-use Rattle.lattice.specs.Ground.{is_ground, terrain}
+use Rattle.flow_d8.specs.Prelude.{Point, Dir, step, directions, Terrain, IsFilledLevel, Mosaic, is_ground, terrain}
 use Rattle.flow_d8.specs.declared.levels_around.Near.{Near}
 use Rattle.flow_d8.specs.Drainage.{AreFilledLevels}
 

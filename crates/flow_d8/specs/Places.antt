@@ -1,14 +1,7 @@
 -- Levels row by row, and what those at a place and around it show of a terrain.
 use Rattle.std.specs.Prelude.{◌≡◌, ℕ, ◌+◌, ◌-◌, ◌<◌, ◌≤◌, ℤ, IsTrue, IsFalse, if◌then◌else◌, List, slice_index_or}
-use Rattle.lattice.specs.declared.point.Point.{Point}
-use Rattle.lattice.specs.declared.direction.Dir.{Dir}
-use Rattle.lattice.specs.declared.direction.Dir.TheVariants.{East, SouthEast, South, SouthWest, West, NorthWest, North, NorthEast}
-use Rattle.lattice.specs.Steps.{step}
-use Rattle.lattice.specs.Terrain.{Terrain}
-use Rattle.lattice.specs.Mosaic.{void}
+use Rattle.flow_d8.specs.Prelude.{Point, Dir, East, SouthEast, South, SouthWest, West, NorthWest, North, NorthEast, step, Terrain, void}
 use Rattle.flow_d8.specs.Drainage.{HasLower, IsSteepest}
-use Rattle.flow_d8.specs.declared.local_flow.LocalFlow.{LocalFlow}
-use Rattle.flow_d8.specs.declared.local_flow.LocalFlow.TheVariants.{NoGround, Edge, Flat, Seam, Drains}
 use Rattle.flow_d8.specs.declared.slopes.Best.{Best}
 use Rattle.flow_d8.specs.SteepestStep.{IsSteepestOf}
 use Rattle.flow_d8.specs.LevelGrid.{level_beside, IsLevelGrid}
@@ -44,31 +37,6 @@ pub record IsInner (width count k : ℕ) : Type 0 where
 pub record IsShown (t : Terrain Point) (level : Point → ℤ) (levels : List ℤ) (width : ℕ) (p : Point) (k : ℕ) : Type 0 where
   pub here : slice_index_or levels k void ≡ (if t.is_ground p then level p else void)
   pub around : IsTrue (t.is_ground p) → (d : Dir) → slice_index_or levels (place_by width k d) void ≡ level_beside t level p d
-
--- what is said of the point is so
-abbrev pub IsLocalFlow : Terrain Point → (Point → ℤ) → Point → LocalFlow → Type 0
-IsLocalFlow t level p NoGround = IsFalse (t.is_ground p)
-IsLocalFlow t level p Edge = IsTrue (t.is_ground p) × (HasLower t level p → ⊥) × ((d : Dir) × IsFalse (t.is_adjacent p (step d p)))
-IsLocalFlow t level p Flat = IsTrue (t.is_ground p) × (HasLower t level p → ⊥) × ((d : Dir) → IsTrue (t.is_adjacent p (step d p)))
-IsLocalFlow t level p Seam = ⊥
-IsLocalFlow t level p (Drains d) = IsTrue (t.is_ground p) × IsSteepest t level p d
-
--- .. where it is told too which points lead off
-abbrev pub IsFlowOf : Terrain Point → (Point → ℤ) → Point → LocalFlow → Type 0
-IsFlowOf t level p NoGround = ⊥
-IsFlowOf t level p Edge = (HasLower t level p → ⊥) × IsTrue (t.is_outlet p)
-IsFlowOf t level p Flat = (HasLower t level p → ⊥) × IsFalse (t.is_outlet p)
-IsFlowOf t level p Seam = (HasLower t level p → ⊥) × IsFalse (t.is_outlet p)
-IsFlowOf t level p (Drains d) = IsSteepest t level p d
-
--- a ground point drains so, and no ground is said where there is none
-pub record IsGroundFlow (t : Terrain Point) (level : Point → ℤ) (p : Point) (flow : LocalFlow) : Type 0 where
-  pub on_ground : IsTrue (t.is_ground p) → IsFlowOf t level p flow
-  pub elsewhere : IsFalse (t.is_ground p) → flow ≡ NoGround
-
--- it is so of each terrain that the levels show
-abbrev pub IsFlowAt : List ℤ → ℕ → ℕ → LocalFlow → Type 0
-IsFlowAt levels width k flow = (t : Terrain Point) (level : Point → ℤ) (p : Point) → IsLevelGrid t level → IsShown t level levels width p k → IsLocalFlow t level p flow
 
 abbrev pub IsBestAt : List ℤ → ℕ → ℕ → Best → Type 0
 IsBestAt levels width k best = (t : Terrain Point) (level : Point → ℤ) (p : Point) → IsLevelGrid t level → level p ≡ slice_index_or levels k void

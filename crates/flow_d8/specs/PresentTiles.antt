@@ -1,7 +1,6 @@
 -- The present tiles of a mosaic.
 use Rattle.std.specs.Prelude.{ℕ, ◌*◌, List, length, map}
-use Rattle.lattice.specs.Corners.{Corner}
-use Rattle.lattice.specs.Mosaic.{Mosaic, Tile}
+use Rattle.flow_d8.specs.Prelude.{Corner, Mosaic, Tile}
 
 -- the corners of the present tiles, in order
 abbrev pub corners_of : Mosaic → List Corner

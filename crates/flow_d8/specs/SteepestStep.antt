@@ -1,9 +1,6 @@
 -- The steepest way down among the first directions in the order of codes.
 use Rattle.std.specs.Prelude.{◌≡◌, ℕ, ◌<◌, ◌≤◌, ℤ}
-use Rattle.lattice.specs.declared.point.Point.{Point}
-use Rattle.lattice.specs.declared.direction.Dir.{Dir}
-use Rattle.lattice.specs.Steps.{step, order_of, slope_of}
-use Rattle.lattice.specs.Terrain.{Terrain}
+use Rattle.flow_d8.specs.Prelude.{Point, Dir, step, order_of, slope_of, Terrain}
 use Rattle.flow_d8.specs.Drainage.{IsLower, drop_by}
 use Rattle.flow_d8.specs.declared.slopes.Best.{Best}
 

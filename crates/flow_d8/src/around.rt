@@ -1,64 +1,42 @@
-//! The numbers of the samples around a point.
-ghost use Rattle.std.specs.Prelude.{◌≡◌, ◌<◌, ◌*◌, ◌%◌, Some, true, IsTrue, map, length};
+//! Where the points around one drain, by the tile that holds them all.
+ghost use Rattle.std.specs.Prelude.{◌≡◌, ◌<◌, ℤ, IfSome, length, slice_index_or};
+ghost use Rattle.lattice.specs.Terrain.{Terrain};
 ghost use Rattle.lattice.specs.declared.point.Point.{Point};
-ghost use Rattle.lattice.specs.Steps.{directions};
-ghost use Rattle.flow_d8.specs.Crossing.{AreLocalFlows, AreAround, HasSite};
-ghost use Rattle.flow_d8.specs.Filled.{is_deep};
-ghost use Rattle.flow_d8.specs.Places.{place_by};
-ghost use Rattle.flow_d8.specs.Surface.{number_in, has_level, around_of};
+ghost use Rattle.flow_d8.specs.declared.flow.Flow.TheVariants.{Unknown};
+ghost use Rattle.flow_d8.specs.Flows.{IsTellingAll, AreFlows};
+ghost use Rattle.flow_d8.specs.FlowsAround.{AreTellingAround};
+ghost use Rattle.flow_d8.specs.Tiles.{count_of, place_of};
 
-use crate::filled::Filled;
-use crate::local_flow::{LocalFlow, is_flat};
+use crate::flow::Flow;
+use crate::flow_byte::FlowByte;
+use crate::tiles::Tiles;
+use lattice::DIRECTIONS;
 
-/// The numbers of the samples around the point with this number, by direction in the order of codes; none where no point is
-/// adjacent.
-#[inline(always)]
-pub(crate) fn numbers_around(
-    filled: &Filled,
-    flows: &[LocalFlow],
-    number: usize,
-) -> [Option<usize>; 8]
-    requires flows { AreLocalFlows filled.now flows.now }
-    requires number { number < length flows.now }
-    requires site { HasSite filled.now number }
-    ensures { (p : Point) → IsTrue (has_level filled.now p) → number_in filled.now p ≡ number → AreAround filled.now p result }
+/// Where the points around the sample's drain, in the order of the directions. None where it lies less than two samples from an
+/// edge of its tile, or where some flow doesn't tell all.
+pub(crate) fn flows_around(tiles: &Tiles, flows: &[FlowByte], k: usize) -> Option<[Flow; 8]>
+    requires k { k < count_of tiles.now }
+    requires whole { length flows.now ≡ count_of tiles.now }
+    ensures { IfSome result (λ around. (t : Terrain Point) (level : Point → ℤ) → AreFlows t level (place_of tiles.now) flows.now → AreTellingAround t level (place_of tiles.now k) around) }
 {
-    let _levels = filled.levels();
-    if is_flat(flows, number) {
-        numbers_inside(filled, number)
-    } else {
-        numbers_over_edges(filled, number)
+    let _valid = tiles.tiles();
+    if !tiles.is_deep(k) {
+        return None;
     }
+    let mut around = [Flow::NoGround; 8];
+    for i in 0..8 {
+        around[i] = told_at(flows, tiles.step(k, DIRECTIONS[i], true))?;
+    }
+    Some(around)
 }
 
-// The same by the point, over all tiles. Not inlined: its divisions would be done ahead of the test of `numbers_around`.
-#[inline(never)]
-fn numbers_over_edges(filled: &Filled, number: usize) -> [Option<usize>; 8]
-    requires number { number < length filled.now.levels }
-    requires site { HasSite filled.now number }
-    ensures { (p : Point) → IsTrue (has_level filled.now p) → number_in filled.now p ≡ number → result ≡ around_of filled.now p }
-{
-    let _levels = filled.levels();
-    filled.around(filled.point(number))
-}
-
-// All lie inside the sample's tile.
+// The flow of the sample, where it tells all.
 #[inline(always)]
-fn numbers_inside(filled: &Filled, number: usize) -> [Option<usize>; 8]
-    requires number { number < length filled.now.levels }
-    requires deep { is_deep filled.now.side (number % (filled.now.side * filled.now.side)) ≡ true }
-    ensures { result ≡ map (λ d. Some (place_by filled.now.side number d)) directions }
+fn told_at(flows: &[FlowByte], k: usize) -> Option<Flow>
+    ensures small { IfSome result (λ _. k < length flows.now) }
+    ensures value { IfSome result (λ flow. flow ≡ slice_index_or flows.now k Unknown) }
+    ensures all { IfSome result IsTellingAll }
 {
-    let n = filled.row_length(number);
-    let _levels = filled.levels();
-    [
-        Some(number + 1),
-        Some(number + n + 1),
-        Some(number + n),
-        Some(number + n - 1),
-        Some(number - 1),
-        Some(number - n - 1),
-        Some(number - n),
-        Some(number - n + 1),
-    ]
+    let flow = flows.get(k)?.flow();
+    if flow.tells_all() { Some(flow) } else { None }
 }

@@ -1,68 +1,106 @@
-//! Where a point drains, in one byte.
-ghost use Rattle.std.specs.Prelude.{◌≡◌, ◌↔◌, IsTrue, Option, Some, None, MatchOption};
-ghost use Rattle.lattice.specs.declared.direction.Dir.{Dir};
-ghost use Rattle.flow_d8.specs.Flow.{way_of};
+//! What is known of where a sample's point drains.
+ghost use Rattle.std.specs.Prelude.{◌≡◌, ◌↔◌, ◌<◌, ℕ, IsTrue, length, slice_index_or};
+ghost use Rattle.flow_d8.specs.declared.flow.Flow.TheVariants.{Unknown};
+ghost use Rattle.flow_d8.specs.Flows.{IsOfFlat, IsBeside, IsTold, Drains, IsTellingAll, direction_of};
 
+use crate::flow_byte::FlowByte;
 use lattice::Dir;
 
-/// What is known of where a point drains.
+/// What is known of where a sample's point drains.
 #[derive(Clone, Copy, PartialEq, Eq, Debug)]
 pub enum Flow {
     /// Nothing.
     Unknown,
-    /// Water leaves the mosaic there, or there is no ground.
-    Off,
-    East,
-    SouthEast,
-    South,
-    SouthWest,
-    West,
-    NorthWest,
-    North,
-    NorthEast,
+    /// It isn't ground.
+    NoGround,
+    /// Water leaves the mosaic there.
+    Outlet,
+    /// This step is the steepest down.
+    To(Dir),
+    /// It lies inside a flat, beside an end of its level, and this is the first step to one.
+    Beside(Dir),
+    /// It lies inside a flat, beside no end.
+    Flat,
+    /// So, and this is the first step that crosses the flat the shortest way.
+    FlatTo(Dir),
 }
 
 impl Flow {
-    /// The point drains in this direction, or off the mosaic where there is none.
-    pub fn by(direction: Option<Dir>) -> Flow
-        ensures { way_of result ≡ Some direction }
+    /// Whether it tells where the point drains.
+    #[inline(always)]
+    pub fn drains(self) -> bool
+        ensures { IsTrue result ↔ Drains self }
     {
-        match direction {
-            None => Flow::Off,
-            Some(Dir::East) => Flow::East,
-            Some(Dir::SouthEast) => Flow::SouthEast,
-            Some(Dir::South) => Flow::South,
-            Some(Dir::SouthWest) => Flow::SouthWest,
-            Some(Dir::West) => Flow::West,
-            Some(Dir::NorthWest) => Flow::NorthWest,
-            Some(Dir::North) => Flow::North,
-            Some(Dir::NorthEast) => Flow::NorthEast,
-        }
+        matches!(
+            self,
+            Flow::Outlet | Flow::To(_) | Flow::Beside(_) | Flow::FlatTo(_)
+        )
     }
 
-    /// Whether the point drains in this direction, where that is known.
-    pub(crate) fn leads(self, direction: Dir) -> Option<bool>
-        ensures { MatchOption result (way_of self ≡ None) (λ leads. (way : Option Dir) × ((way_of self ≡ Some way) × (IsTrue leads ↔ (way ≡ Some direction)))) }
+    /// Whether it tells where the point drains, or that it isn't ground.
+    #[inline(always)]
+    pub fn tells_all(self) -> bool
+        ensures { IsTrue result ↔ IsTellingAll self }
     {
-        let way = self.way()?;
-        Some(way == Some(direction))
+        !matches!(self, Flow::Unknown | Flow::Flat)
     }
 
-    /// The direction in which the point drains, where that is known.
-    pub fn way(self) -> Option<Option<Dir>>
-        ensures { result ≡ way_of self }
+    /// The direction that it names, if it names one.
+    #[inline(always)]
+    pub fn direction(self) -> Option<Dir>
+        ensures { result ≡ direction_of self }
     {
         match self {
-            Flow::Unknown => None,
-            Flow::Off => Some(None),
-            Flow::East => Some(Some(Dir::East)),
-            Flow::SouthEast => Some(Some(Dir::SouthEast)),
-            Flow::South => Some(Some(Dir::South)),
-            Flow::SouthWest => Some(Some(Dir::SouthWest)),
-            Flow::West => Some(Some(Dir::West)),
-            Flow::NorthWest => Some(Some(Dir::NorthWest)),
-            Flow::North => Some(Some(Dir::North)),
-            Flow::NorthEast => Some(Some(Dir::NorthEast)),
+            Flow::To(direction) | Flow::Beside(direction) | Flow::FlatTo(direction) => Some(
+                direction,
+            ),
+            Flow::Unknown | Flow::NoGround | Flow::Outlet | Flow::Flat => None,
         }
     }
+}
+
+/// Whether nothing is known of the sample.
+#[inline(always)]
+pub(crate) fn is_unknown(flows: &[FlowByte], k: usize) -> bool
+    requires { k < length flows.now }
+    ensures { IsTrue result ↔ (slice_index_or flows.now k Unknown ≡ Unknown) }
+{
+    matches!(flows[k].flow(), Flow::Unknown)
+}
+
+/// Whether the sample lies inside a flat.
+#[inline(always)]
+pub(crate) fn is_of_flat(flows: &[FlowByte], k: usize) -> bool
+    requires { k < length flows.now }
+    ensures { IsTrue result ↔ IsOfFlat (slice_index_or flows.now k Unknown) }
+{
+    flow_of_flat(flows[k].flow())
+}
+
+fn flow_of_flat(flow: Flow) -> bool
+    ensures { IsTrue result ↔ IsOfFlat flow }
+{
+    matches!(flow, Flow::Beside(_) | Flow::Flat | Flow::FlatTo(_))
+}
+
+/// Whether it lies inside a flat, and its direction is known.
+pub(crate) fn is_told(flow: Flow) -> bool
+    ensures { IsTrue result ↔ IsTold flow }
+{
+    matches!(flow, Flow::Beside(_) | Flow::FlatTo(_))
+}
+
+/// Whether the sample lies inside a flat, beside an end.
+#[inline(always)]
+pub(crate) fn is_beside(flows: &[FlowByte], k: usize) -> bool
+    requires { k < length flows.now }
+    ensures { IsTrue result ↔ IsBeside (slice_index_or flows.now k Unknown) }
+{
+    flow_beside(flows[k].flow())
+}
+
+fn flow_beside(flow: Flow) -> bool
+    ensures { IsTrue result ↔ IsBeside flow }
+{
+    matches!(flow, Flow::Beside(_))
 }

@@ -1,5 +1,4 @@
 //! Laws of drainage. Each function does nothing: its contract is the law.
-ghost use Rattle.flow_d8.specs.FlatCertificate.{MeasuredAreExact, CertifiedAreExact};
 ghost use Rattle.flow_d8.specs.DrainageLaws.{DistancesAreUnique, DirectionsAreUnique, FlowPathsAreUnique, WatershedsFollowFlowPaths};
 
 /// Each ground point has exactly one flat distance.
@@ -20,14 +19,4 @@ pub fn flow_paths_are_unique()
 /// A point is in a watershed exactly where it is ground and its flow path contains the point whose watershed it is.
 pub fn watersheds_follow_flow_paths()
     ensures { WatershedsFollowFlowPaths }
-{}
-
-/// Distances that were walked, and that no step shortens, are the flat distances.
-pub fn measured_distances_are_flat_distances()
-    ensures { MeasuredAreExact }
-{}
-
-/// Distances that are 0 where a point drains, and elsewhere one more than the least across, are the flat distances.
-pub fn certified_distances_are_flat_distances()
-    ensures { CertifiedAreExact }
 {}

@@ -1,87 +1,42 @@
 //! Where a point drains, as far as the levels around it show.
-ghost use Rattle.std.specs.Prelude.{◌≡◌, ℕ, ◌+◌, ◌<◌, ◌≤◌, ◌↔◌, ◌≤ℤ◌, IsTrue, IsFalse, MatchOption, length, slice_index_or};
+ghost use Rattle.std.specs.Prelude.{◌≡◌, ℕ, ℤ, ◌+◌, ◌<◌, ◌≤◌, ◌↔◌, ◌≤ℤ◌, IsTrue, MatchOption, length, slice_index_or};
 ghost use Rattle.lattice.specs.declared.direction.Dir.{Dir};
 ghost use Rattle.lattice.specs.Mosaic.{void};
-ghost use Rattle.flow_d8.specs.declared.local_flow.LocalFlow.TheVariants.{NoGround};
-ghost use Rattle.flow_d8.specs.Places.{place_by, IsInner, IsFlowAt, IsBestAt};
-ghost use Rattle.flow_d8.specs.Propagation.{IsFlat, DrainsAtOnce, IsEnd};
+ghost use Rattle.lattice.specs.declared.point.Point.{Point};
+ghost use Rattle.lattice.specs.Terrain.{Terrain};
+ghost use Rattle.flow_d8.specs.declared.flow.Flow.TheVariants.{NoGround, Flat};
+ghost use Rattle.flow_d8.specs.LevelGrid.{IsLevelGrid};
+ghost use Rattle.flow_d8.specs.Places.{place_by, IsInner, IsShown, IsBestAt};
+ghost use Rattle.flow_d8.specs.Preparing.{IsLocal, IsPlain, level_in};
 
+use crate::flow::Flow;
 use crate::slopes::{Best, at, better};
 use lattice::{Dir, VOID};
 
-/// What the levels around a point show of it.
-#[derive(Clone, Copy, PartialEq, Eq, Debug)]
-pub(crate) enum LocalFlow {
-    /// It isn't ground.
-    NoGround,
-    /// No lower point is beside it, and water leaves the mosaic there.
-    Edge,
-    /// No lower point is beside it: it drains across its flat. All around it lies in its own tile.
-    Flat,
-    /// As Flat, at the edge of its tile, over which its flat may go on.
-    Seam,
-    /// This step is the steepest down.
-    Drains(Dir),
-}
-
-/// Whether the sample with this number lies on a flat, all around it in its own tile.
+/// Where the point at this place drains, by the levels at it and around it in rows of this width: To; Outlet where no level is lower
+/// and some direction has none; Flat where all eight have one; NoGround.
 #[inline(always)]
-pub(crate) fn is_flat(flows: &[LocalFlow], number: usize) -> bool
-    requires { number < length flows.now }
-    ensures { IsTrue result ↔ IsFlat flows.now number }
-{
-    matches!(flows[number], LocalFlow::Flat)
-}
-
-/// Whether the sample has a point.
-#[inline(always)]
-pub(crate) fn is_site(flows: &[LocalFlow], number: usize) -> bool
-    requires { number < length flows.now }
-    ensures { IsFalse result ↔ (slice_index_or flows.now number NoGround ≡ NoGround) }
-{
-    !matches!(flows[number], LocalFlow::NoGround)
-}
-
-/// Whether the sample's point drains at once: downhill or off the mosaic.
-#[inline(always)]
-pub(crate) fn is_end(flows: &[LocalFlow], number: usize) -> bool
-    requires { number < length flows.now }
-    ensures { IsTrue result ↔ IsEnd flows.now number }
-{
-    drains_at_once(flows[number])
-}
-
-/// Whether a point with this flow drains at once.
-#[inline(always)]
-pub(crate) fn drains_at_once(flow: LocalFlow) -> bool
-    ensures { IsTrue result ↔ DrainsAtOnce flow }
-{
-    match flow {
-        LocalFlow::Edge | LocalFlow::Drains(_) => true,
-        LocalFlow::NoGround | LocalFlow::Flat | LocalFlow::Seam => false,
-    }
-}
-
-/// Where the point at this place drains, over levels in rows of this width. Edge where some direction has no level.
-#[inline(always)]
-pub(crate) fn local_flow_at(levels: &[i16], width: usize, k: usize) -> LocalFlow
+pub(crate) fn local_flow_at(levels: &[i16], width: usize, k: usize) -> Flow
     requires { IsInner width (length levels.now) k }
-    ensures { IsFlowAt levels.now width k result }
+    ensures so { (t : Terrain Point) (level : Point → ℤ) (p : Point) → IsLevelGrid t level → IsShown t level levels.now width p k → IsLocal t level p result }
+    ensures none { result ≡ NoGround → level_in levels.now k ≡ void }
+    ensures full { result ≡ Flat → (d : Dir) → level_in levels.now (place_by width k d) ≡ void → ⊥ }
+    ensures plain { IsPlain result }
 {
     if is_void(levels, k) {
-        return LocalFlow::NoGround;
+        return Flow::NoGround;
     }
     // Nor is there a gap then: no level is below the void.
     if is_none_below(levels, width, k, at(levels, k)) {
-        return LocalFlow::Flat;
+        return Flow::Flat;
     }
     let best = steepest_at(levels, width, k);
     if best.slope > 0 {
-        return LocalFlow::Drains(best.direction);
+        return Flow::To(best.direction);
     }
     match gap(levels, width, k) {
-        Some(_) => LocalFlow::Edge,
-        None => LocalFlow::Flat,
+        Some(_) => Flow::Outlet,
+        None => Flow::Flat,
     }
 }
 

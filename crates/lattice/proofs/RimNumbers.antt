@@ -7,12 +7,6 @@ use Rattle.std.proofs.lemmas.Nat.{div-mul-add, mod-mul-add, mul-add-lt}
 use Rattle.lattice.proofs.Samples.{row_below}
 
 module _ (n e : ℕ) where
-  last : ℕ
-  last = n + 2 * (n - 2) + e % n
-
-  middle : ℕ
-  middle = n + 2 * (e / n - 1) + cond (nat_eq (e % n) 0) 0 1
-
   top_number : e / n ≡ 0 → rim_number n e ≡ e
   top_number first = cond-true (nat_eq (e / n) 0) _ _ (eq-eqb (e / n) 0 first)
 

@@ -6,10 +6,10 @@
 //! order of tiles, and a point's index in a tile is known exactly where that tile holds it.
 //!
 //! ```
-//! let side = Side::new(3)?;
+//! let side = Side::new(3).ok_or(Refusal::BadSide)?;
 //! let point = Point { y: 1, x: 2 };                      // on the edge between N00E000 and N00E001
-//! let corners = holders(side, point);                    // these two, in this order
-//! let index = index_in(side, corners[1], point);         // Some(3): the first sample of the second row
+//! for corner in holders(side, point) {                   // these two, in this order
+//!     let index = index_in(side, corner, point);         // Some(5), then Some(3): which sample of the tile it is
 //! ```
 #![tactic(auto)]
 

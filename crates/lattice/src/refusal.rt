@@ -2,6 +2,7 @@
 ghost use Rattle.std.specs.Prelude.{◌≡◌};
 
 use std::alloc::AllocError;
+use std::error::Error;
 use std::fmt;
 
 /// The one list of refusals, with the number and the word that a reply gives.
@@ -151,6 +152,8 @@ impl fmt::Display for Refusal {
         f.write_str(self.word())
     }
 }
+
+impl Error for Refusal {}
 
 impl From<AllocError> for Refusal {
     ghost use Rattle.std.specs.Prelude.{◌≡◌};

@@ -1,30 +1,18 @@
 -- The tests of commands, step by step.
-use Rattle.std.proofs.Common.{◌≡◌, ◌∙◌, ℕ, suc, ◌+◌, ◌*◌, ◌/◌, ◌<◌, ◌≤◌, ℤ, pos, negsuc, Bool, true, false, cond, not, ◌&&◌, ◌||◌, List, [], ◌∷◌, ◌++◌, length, get_or, drop, Option, Some, None, Err, refl, sym, ap, ap₂, subst, append_assoc, to_z, w16, SFits, arith, length-drop}
+use Rattle.std.proofs.Common.{◌≡◌, ◌∙◌, ℕ, suc, ◌+◌, ◌*◌, ◌/◌, ◌<◌, ◌≤◌, ℤ, pos, negsuc, Bool, true, false, cond, not, ◌&&◌, ◌||◌, List, [], ◌∷◌, ◌++◌, length, get_or, drop, refl, sym, ap, ap₂, subst, append_assoc, to_z, w16, SFits, arith, length-drop}
 use Rattle.std.proofs.lemmas.List.{at_drop_more, at_drop_all}
 use Rattle.std.proofs.lemmas.Grind.{common_steps}
 use Rattle.std.proofs.lemmas.Int.{ints}
 use Rattle.std.specs.List.{position_or_len, insert}
 use Rattle.lattice.specs.Corners.{Corner, is_before}
 use Rattle.lattice.specs.declared.point.Point.{Point}
-use Rattle.lattice.specs.declared.refusal.Refusal.{Refusal}
-use Rattle.lattice.specs.declared.refusal.Refusal.TheVariants.{Repeated}
 use Rattle.lattice.specs.Lattice.{point_of}
 use Rattle.lattice.specs.Mosaic.{Tile, Mosaic, IsSample}
 use Rattle.hgt.specs.Bytes.{sample_of, samples_in}
 use Rattle.catalogue.specs.Tiles.{with_tile}
 use Rattle.lattice.specs.Points.{is_point_before}
 use Rattle.edits.specs.Sinks.{with_point}
-use Rattle.edits.specs.Effect.{changed_from, is_in_box, is_void_at, has_void_from, unless_fault}
-use Rattle.reference.specs.Answers.{refusal_of}
-
--- where the depth or the height passed, the points decide
-pub refusal-unless_fault : (o : Option Refusal) (m : Mosaic) → refusal_of (unless_fault o m) ≡ o
-refusal-unless_fault None m = refl
-refusal-unless_fault (Some r) m = refl
-
-pub refusal-points : (repeated : Bool) (o : Option Refusal) (m : Mosaic) → refusal_of (cond repeated (Err Repeated) (unless_fault o m)) ≡ cond repeated (Some Repeated) o
-refusal-points true o m = refl
-refusal-points false o m = refusal-unless_fault o m
+use Rattle.edits.specs.Effect.{changed_from, is_in_box, is_void_at, has_void_from}
 
 pub has_void_more : (m : Mosaic) (from to : Point) (c : Corner) (e : ℕ) (samples : List ℤ) → e < length samples →
     has_void_from m from to c e (drop e samples) ≡

@@ -188,9 +188,6 @@ module _ (m : Mosaic) (w : IsMosaic m) (cells : List Cell) (p : Point) where
   lower_fits : (d : Dir) → Lower d → fits_point (step d p) ≡ true
   lower_fits d low = adjacent_fits m p (step d p) w low.beside
 
-  rival : (d e : Dir) → Bool
-  rival d e = not (is_lower m cells p (step e p)) || outranks cells p (step_at p d) (step_at p e)
-
   steepest_is : (d : Dir) → is_steepest m cells p (reach_of p directions) (step_at p d) ≡ true → IsSteepest (terrain m) (level_of cells) p d
   steepest_is d h = record { lower = lower_is m cells p (step d p) both.0; steepest = λ e low. (outrank e low).0; first = λ e low before. (outrank e low).1 before }
     where

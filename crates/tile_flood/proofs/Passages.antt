@@ -24,7 +24,7 @@ use Rattle.tile_flood.specs.declared.passing.Spill.{Spill}
 use Rattle.tile_flood.specs.Flooding.{is_marked}
 use Rattle.tile_flood.specs.Labelling.{IsLabelling}
 use Rattle.tile_flood.specs.Spills.{Meets, AreSpills, HaveSameLabels}
-use Rattle.tile_flood.specs.Passing.{IsPassage, IsNoPassage, IsMetBy, IsListed, AreFoundStill, AreBeside, IsSquare, IsOneLabel, IsSquareFound, ArePassages, IsFound, AreFoundBelow, IsInOrder, AreFirsts, AreFirstsBelow, HasLowerLabels}
+use Rattle.tile_flood.specs.Passing.{IsPassage, IsNoPassage, IsMetBy, IsListed, AreFoundStill, AreBeside, IsOneLabel, IsSquareFound, ArePassages, IsFound, AreFoundBelow, IsInOrder, AreFirsts, AreFirstsBelow, HasLowerLabels}
 use Rattle.tile_flood.specs.Blocks.{block_of, bare_block}
 use Rattle.tile_flood.proofs.Squares.{linked_parts, linked_from, linked_apart, beside_if, solid_below, solid_if, row_of_cell, column_of_cell, cell_of, row_below, test_if, solid_height}
 
@@ -88,11 +88,6 @@ one_beside n i j i' j' e f at_e at_f row row' small small' apart north south wes
       apart = apart;
     }
 
-pub square_below : (n e : ℕ) → IsSquare n e → e + n + 1 < n * n
-square_below n e s =
-    let row = s.row in let column = s.column in let above = s.above in let left = s.left in let at = s.at in
-    let room = last_row n (row + 1) above in omega arith
-
 -- the pairs of points of a square
 module _ (n i j e : ℕ) (above : i + 1 < n) (left : j + 1 < n) (at : e ≡ i * n + j) where
   pub square_east : AreBeside n e (e + 1) 1
@@ -116,10 +111,6 @@ met_still old new p still (q, (has, (same, low))) =
     let on = still q has in
     (on.0, (on.1.0, (record { same_a = on.1.1.0.same_a ∙ same.same_a; same_b = on.1.1.0.same_b ∙ same.same_b }, ≤ℤ_trans on.0.level q.level p.level on.1.1.1 low)))
 
--- nothing is lost
-pub nothing_lost : (found : List Spill) → AreFoundStill found found
-nothing_lost found p has = (p, (has, (record { same_a = refl; same_b = refl }, ≤ℤ_same p.level)))
-
 -- one more at the end
 pub listed_last : (found found' : List Spill) (p : Spill) → found' ≡ found ++ p ∷ [] → IsListed found found' p
 listed_last found found' p is = subst (λ l. IsListed found l p) (sym is) (record {
@@ -130,13 +121,6 @@ listed_last found found' p is = subst (λ l. IsListed found l p) (sym is) (recor
 
 -- in the place of a higher one between the same labels
 module _ (found : List Spill) (k : ℕ) (p : Spill) (small : k < length found) (same : (d : Spill) → HaveSameLabels (get_or found k d) p) where
-  pub listed_before : (get_or found k p).level ≤ℤ p.level → IsListed found found p
-  listed_before low = record {
-    only = λ q has. inl has;
-    still = nothing_lost found;
-    listed = (get_or found k p, (Contains-get_or found k p small, (same p, low)));
-  }
-
   there : Contains (set found k p) p
   there = (k, subst (λ n. k < n) (sym (length-set found k p)) small, get_or-set_same found k p p small)
 

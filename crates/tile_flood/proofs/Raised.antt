@@ -117,9 +117,6 @@ module _ (m : Mosaic) (is : IsMosaic m) (c : Corner) (present : IsTrue (is_prese
   least_height : (e : ℕ) → void ≤ℤ get_or heights e void
   least_height e = lowest_height m is c heights of.heights e
 
-  level_at : ℕ → ℤ
-  level_at e = get_or levels e void
-
   record IsRaised (e : ℕ) : Type 0 where
     level : ℤ
     raised : raised_level rim (get_or levels e void) (slice_index labels e) ≡ Some level

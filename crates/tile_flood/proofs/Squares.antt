@@ -126,10 +126,6 @@ module _ (n : ℕ) (heights : List ℤ) (sinks : List ℕ) (e : ℕ) where
   pub rim_is_exit : IsTrue (is_solid (bare_block n heights) e) → IsTrue (is_rim n e) → IsTrue (is_exit (block_of n heights sinks) e)
   rim_is_exit solid rim = or_left (is_solid (bare_block n heights) e && is_rim n e) (is_inner_outlet (block_of n heights sinks) e) (and_from (is_solid (bare_block n heights) e) (is_rim n e) solid rim)
 
-  inner_off_rim : IsTrue (is_inner_outlet (block_of n heights sinks) e) → IsTrue (not (is_rim n e))
-  inner_off_rim inner = (and_parts (is_solid (bare_block n heights) e) (not (is_rim n e))
-      (and_parts (is_solid (bare_block n heights) e && not (is_rim n e)) (not (list_all (is_solid (bare_block n heights)) (around n e)) || is_sink_at (block_of n heights sinks) e) inner).0).1
-
   -- off the rim, beside a void or a sink itself
   pub inner_at : IsTrue (is_solid (bare_block n heights) e) → is_rim n e ≡ false →
       IsTrue (not (list_all (is_solid (bare_block n heights)) (around n e)) || is_sink_at (block_of n heights sinks) e) → IsTrue (is_inner_outlet (block_of n heights sinks) e)

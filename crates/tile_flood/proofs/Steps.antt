@@ -418,12 +418,6 @@ taken_in levels queue queue' c low taken e w = elim (taken.others (get_or levels
 pub at_most_same : (levels : List ℤ) → AreAtMost levels levels
 at_most_same levels e on = (on, at_most_it (get_or levels e void))
 
-pub at_most_twice : (one two three : List ℤ) → AreAtMost one two → AreAtMost two three → AreAtMost one three
-at_most_twice one two three first second e on =
-    let a = first e on in
-    let b = second e a.0 in
-    (b.0, at_most_both (get_or three e void) (get_or two e void) (get_or one e void) b.1 a.1)
-
 -- what a point beside the front has afterwards
 pub record IsReached (n : ℕ) (heights : List ℤ) (sinks : List ℕ) (levels levels' : List ℤ) (labels' : List ℕ) (queue' suspects' : Queue) (c : ℕ) (low : ℤ) (label y : ℕ) : Type 0 where
   pub state : IsPassingOn n heights sinks levels' labels' queue' suspects' c low label

@@ -8,6 +8,7 @@ ghost use Rattle.tile_flood.specs.Cells.{OPEN as open_label, levels_of, labels_o
 use crate::full_queue::FullQueue;
 use crate::labelled::NO_LABEL;
 use crate::values::{at, has_level};
+use lattice::VOID;
 use std::alloc::{AllocError, Global};
 
 // The label of a ground point that has none yet.
@@ -27,7 +28,7 @@ pub(crate) fn unlabelled(alloc: Global, heights: &[i16]) -> Result<Vec<Cell>, Al
     ensures no_label { IfOk result (λ cells. (e : ℕ) → e < length heights.now → slice_index (labels_of cells.items) e ≡ no_label) }
 {
     let none = Cell {
-        level: i16::MIN,
+        level: VOID,
         label: NO_LABEL,
     };
     let mut cells = vec![in alloc; none; heights.len()]?;
@@ -41,7 +42,7 @@ pub(crate) fn unlabelled(alloc: Global, heights: &[i16]) -> Result<Vec<Cell>, Al
 pub(crate) fn levels_in(alloc: Global, cells: &[Cell]) -> Result<Vec<i16>, AllocError>
     ensures { IfOk result (λ levels. levels.items ≡ levels_of cells.now) }
 {
-    let mut levels = vec![in alloc; i16::MIN; cells.len()]?;
+    let mut levels = vec![in alloc; VOID; cells.len()]?;
     for e in 0..cells.len() {
         levels[e] = level_in(cell_at(cells, e));
     }
@@ -136,9 +137,5 @@ fn label_in(cell: Cell) -> u16
 fn level_in(cell: Cell) -> i16
     ensures { result ≡ level_of cell }
 {
-    if cell.label == OPEN {
-        i16::MIN
-    } else {
-        cell.level
-    }
+    if cell.label == OPEN { VOID } else { cell.level }
 }

@@ -18,7 +18,7 @@ use crate::queue::Queue;
 use crate::seeding::seed;
 use crate::settling::settle;
 use crate::values::has_level;
-use lattice::Refusal;
+use lattice::{Refusal, VOID};
 use std::alloc::{AllocError, Global};
 
 /// A flood of a block: water rises from its outlets inwards, over the lowest points first. Its state while a labelling
@@ -55,7 +55,7 @@ impl Flood {
         requires { e < length self.now.levels.items }
         ensures { result ≡ int_eq (slice_index_or self.now.levels.items e void) void }
     {
-        self.levels[e] == i16::MIN
+        self.levels[e] == VOID
     }
 
     pub(crate) fn is_marked(&self, e: usize) -> bool

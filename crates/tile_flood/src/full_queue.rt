@@ -3,7 +3,7 @@ ghost use Rattle.std.specs.Prelude.{◌≡◌, ◌<◌, ℕ, ℤ, pos, ◌+◌, 
 ghost use Rattle.lattice.specs.Mosaic.{void};
 ghost use Rattle.tile_flood.specs.Waiting.{Waits, waiting, IsJoined, IsTaken};
 
-use crate::queue::{Seat, empty_buckets, first_in_use};
+use crate::queue::{QueueEntry, empty_buckets, first_in_use};
 use std::alloc::{AllocError, Global};
 use std::marker::Model;
 
@@ -52,14 +52,14 @@ impl FullQueue {
     }
 
     /// Takes a point of the lowest level that waits.
-    pub(crate) fn pop(&mut self) -> Option<Seat>
-        ensures taken { MatchOption result ((level : ℤ) (e : ℕ) → Waits self.old level e → ⊥) (λ seat. IsTaken self.old self.new seat.level seat.point) }
+    pub(crate) fn pop(&mut self) -> Option<QueueEntry>
+        ensures taken { MatchOption result ((level : ℤ) (e : ℕ) → Waits self.old level e → ⊥) (λ entry. IsTaken self.old self.new entry.level entry.point) }
         ensures count { IfSome result (λ _. waiting self.old ≡ waiting self.new + 1) }
     {
         let lowest = first_in_use(&self.buckets, self.lowest)?;
         self.lowest = lowest;
         let point = self.buckets[lowest].pop()?;
-        Some(Seat {
+        Some(QueueEntry {
             level: level_of(lowest),
             point,
         })

@@ -7,7 +7,7 @@
 //! other heights of some points, in the time that the levels and labels need which may change.
 //!
 //! ```
-//! let block = Block::new(side, heights, sinks)?;         // None unless there is a height for each point
+//! let block = Block::new(side, heights, sinks).ok_or(Refusal::BadLength)?;   // unless there is a height for each point
 //! let labelled = Flood::run(alloc, &block)?;
 //! let spills = spills(alloc, &labelled)?;                // the least pass between each two labels that meet
 //! ```

@@ -136,7 +136,7 @@ impl Flood {
         }
         if level < height {
             let from = self.first_suspect(n, e);
-            self.reset(n, e, i16::MIN, NO_LABEL, from, affected)?;
+            self.reset(n, e, VOID, NO_LABEL, from, affected)?;
             return Ok(());
         }
         self.wait_beside(n, e)?;

@@ -7,6 +7,7 @@ ghost use Rattle.tile_flood.specs.Blocks.{block_of, bare_block, AreHeights};
 ghost use Rattle.tile_flood.specs.Flooding.{IsOwnLabel};
 
 use crate::labelled::OUT;
+use lattice::VOID;
 
 // The label that an outlet of the block starts with, where the point in row i and column j is one.
 pub(crate) fn own_label(n: usize, heights: &[i16], sinks: &[u32], i: usize, j: usize) -> Option<u16>
@@ -35,7 +36,7 @@ pub(crate) fn is_ground(n: usize, heights: &[i16], e: usize) -> bool
     requires e { e < n * n }
     ensures { result ≡ is_solid (bare_block n heights.now) e }
 {
-    heights[e] != i16::MIN
+    heights[e] != VOID
 }
 
 fn is_on_rim(n: usize, i: usize, j: usize) -> bool

@@ -13,7 +13,7 @@ ghost use Rattle.tile_flood.specs.Suspects.{IsMending, AreMending, IsPassingOn, 
 use crate::affected::{Affected, window_point};
 use crate::flood::Flood;
 use crate::outlets::is_ground;
-use crate::queue::Seat;
+use crate::queue::QueueEntry;
 use crate::values::{at, higher, label_at};
 use std::alloc::AllocError;
 
@@ -43,10 +43,10 @@ impl Flood {
         ensures listed { OnOk result (StayListed n heights.now self.old.levels.items self.old.labels.items affected.old.items self.new.levels.items self.new.labels.items affected.new.items) }
     {
         for _ in 0..most {
-            if let Some(seat) = self.take_suspect() {
-                self.examine(n, heights, sinks, seat, affected)?;
-            } else if let Some(seat) = self.queue.pop() {
-                self.pass_on(n, heights, sinks, seat, affected)?;
+            if let Some(entry) = self.take_suspect() {
+                self.examine(n, heights, sinks, entry, affected)?;
+            } else if let Some(entry) = self.queue.pop() {
+                self.pass_on(n, heights, sinks, entry, affected)?;
             } else {
                 return Ok(true);
             }
@@ -60,21 +60,21 @@ impl Flood {
         n: usize,
         heights: &[i16],
         sinks: &[u32],
-        seat: Seat,
+        entry: QueueEntry,
         affected: &mut Vec<Affected>,
     ) -> Result<(), AllocError>
         requires heights { AreHeights n heights.now }
-        requires state { IsMending n heights.now sinks.now self.old.levels.items self.old.labels.items (IsInOr self.old.queue self.old.levels.items seat.point seat.level) (IsIn self.old.suspects self.old.levels.items) }
+        requires state { IsMending n heights.now sinks.now self.old.levels.items self.old.labels.items (IsInOr self.old.queue self.old.levels.items entry.point entry.level) (IsIn self.old.suspects self.old.levels.items) }
         ensures state { OnOk result (AreMending n heights.now sinks.now self.new.levels.items self.new.labels.items self.new.queue self.new.suspects) }
         ensures listed { OnOk result (StayListed n heights.now self.old.levels.items self.old.labels.items affected.old.items self.new.levels.items self.new.labels.items affected.new.items) }
     {
-        if !self.is_current(seat) {
+        if !self.is_current(entry) {
             return Ok(());
         }
-        let point = seat.point as usize;
+        let point = entry.point as usize;
         let front = Front {
             point,
-            level: seat.level,
+            level: entry.level,
             label: label_at(&self.labels, point),
         };
         for d in 0..9 {

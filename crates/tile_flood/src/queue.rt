@@ -7,7 +7,7 @@ use std::marker::Model;
 
 /// A point that waits at its level.
 #[derive(Clone, Copy)]
-pub(crate) struct Seat {
+pub(crate) struct QueueEntry {
     pub(crate) level: i16,
     pub(crate) point: u32,
 }
@@ -124,15 +124,15 @@ impl Queue {
     }
 
     /// Takes a point of the lowest level that waits.
-    pub(crate) fn pop(&mut self) -> Option<Seat>
-        ensures taken { MatchOption result ((level : ℤ) (e : ℕ) → Waits self.old level e → ⊥) (λ seat. IsTaken self.old self.new seat.level seat.point) }
+    pub(crate) fn pop(&mut self) -> Option<QueueEntry>
+        ensures taken { MatchOption result ((level : ℤ) (e : ℕ) → Waits self.old level e → ⊥) (λ entry. IsTaken self.old self.new entry.level entry.point) }
         ensures count { IfSome result (λ _. waiting self.old ≡ waiting self.new + 1) }
         ensures same { IfNone result (self.new ≡ self.old) }
     {
         let lowest = first_in_use(&self.buckets, self.lowest)?;
         self.lowest = lowest;
         let point = self.buckets[lowest].pop()?;
-        Some(Seat {
+        Some(QueueEntry {
             level: level_of(self.least, lowest),
             point,
         })

@@ -10,7 +10,7 @@ ghost use Rattle.tile_flood.specs.Raising.{IsRimFilled, AreTileLevels, AreRaised
 
 use crate::labelled::{Labelled, NO_LABEL, OUT};
 use crate::values::at;
-use lattice::Refusal;
+use lattice::{Refusal, VOID};
 use std::alloc::{AllocError, Global};
 
 /// The filled level of each point of a block, in metres, row by row from the north-west, -32768 where it is void: the
@@ -65,9 +65,9 @@ fn raised(rim: &[i16], levels: &[i16], labels: &[u16], e: usize) -> Option<i16>
 {
     let level = at(levels, e);
     let label = labels[e];
-    let is_void = level == i16::MIN;
+    let is_void = level == VOID;
     if label == NO_LABEL {
-        return if is_void { Some(i16::MIN) } else { None };
+        return if is_void { Some(VOID) } else { None };
     }
     if is_void {
         return None;
@@ -75,8 +75,8 @@ fn raised(rim: &[i16], levels: &[i16], labels: &[u16], e: usize) -> Option<i16>
     if label == OUT {
         return Some(level);
     }
-    let over = rim.get(label as usize).copied().unwrap_or(i16::MIN);
-    if over == i16::MIN {
+    let over = rim.get(label as usize).copied().unwrap_or(VOID);
+    if over == VOID {
         None
     } else {
         Some(level.max(over))

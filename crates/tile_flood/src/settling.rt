@@ -35,11 +35,11 @@ pub(crate) fn settle(
     ensures labelling { OnOk result (IsLabelling (block_of n heights.now sinks.now) (levels_of cells.new) (labels_of cells.new)) }
     ensures carried { OnOk result (AreCarried (block_of n heights.now sinks.now) (levels_of cells.new) (labels_of cells.new)) }
 {
-    while let Some(seat) = queue.pop() {
-        let point = seat.point as usize;
+    while let Some(entry) = queue.pop() {
+        let point = entry.point as usize;
         let front = Front {
             point,
-            level: seat.level,
+            level: entry.level,
             label: cell_at(cells, point).label,
         };
         spread(n, heights, sinks, cells, queue, front)?;

@@ -13,17 +13,18 @@ use crate::affected::{Affected, window_point};
 use crate::flood::Flood;
 use crate::labelled::NO_LABEL;
 use crate::outlets::own_label;
-use crate::queue::Seat;
+use crate::queue::QueueEntry;
 use crate::values::{at, label_at};
+use lattice::VOID;
 use std::alloc::AllocError;
 
 impl Flood {
     // Takes a suspect of the lowest level, unless a point waits below it.
-    pub(crate) fn take_suspect(&mut self) -> Option<Seat>
+    pub(crate) fn take_suspect(&mut self) -> Option<QueueEntry>
         ensures levels { self.new.levels.items ≡ self.old.levels.items }
         ensures labels { self.new.labels.items ≡ self.old.labels.items }
         ensures queue { self.new.queue ≡ self.old.queue }
-        ensures taken { IfSome result (λ seat. IsTaken self.old.suspects self.new.suspects seat.level seat.point) }
+        ensures taken { IfSome result (λ entry. IsTaken self.old.suspects self.new.suspects entry.level entry.point) }
         ensures same { IfNone result (self.new.suspects ≡ self.old.suspects) }
         ensures none { IfNone result (((l : ℤ) (e : ℕ) → Waits self.old.queue l e → ⊥) → (l : ℤ) (e : ℕ) → Waits self.old.suspects l e → ⊥) }
     {
@@ -33,10 +34,10 @@ impl Flood {
                 return None;
             }
         }
-        let Some(seat) = self.suspects.pop() else {
+        let Some(entry) = self.suspects.pop() else {
             return None;
         };
-        Some(seat)
+        Some(entry)
     }
 
     // Lets a point wait that was suspect at this level, where it is held there; else takes its level and its label.
@@ -45,38 +46,38 @@ impl Flood {
         n: usize,
         heights: &[i16],
         sinks: &[u32],
-        seat: Seat,
+        entry: QueueEntry,
         affected: &mut Vec<Affected>,
     ) -> Result<(), AllocError>
         requires heights { AreHeights n heights.now }
-        requires state { IsMending n heights.now sinks.now self.old.levels.items self.old.labels.items (IsIn self.old.queue self.old.levels.items) (IsInOr self.old.suspects self.old.levels.items seat.point seat.level) }
+        requires state { IsMending n heights.now sinks.now self.old.levels.items self.old.labels.items (IsIn self.old.queue self.old.levels.items) (IsInOr self.old.suspects self.old.levels.items entry.point entry.level) }
         ensures state { OnOk result (AreMending n heights.now sinks.now self.new.levels.items self.new.labels.items self.new.queue self.new.suspects) }
         ensures listed { OnOk result (StayListed n heights.now self.old.levels.items self.old.labels.items affected.old.items self.new.levels.items self.new.labels.items affected.new.items) }
     {
-        if !self.is_current(seat) {
+        if !self.is_current(entry) {
             return Ok(());
         }
-        let e = seat.point as usize;
+        let e = entry.point as usize;
         if self.is_held(n, heights, sinks, e) {
-            self.queue.push(seat.level, seat.point)?;
+            self.queue.push(entry.level, entry.point)?;
             return Ok(());
         }
-        self.reset(n, e, i16::MIN, NO_LABEL, seat.level, affected)?;
+        self.reset(n, e, VOID, NO_LABEL, entry.level, affected)?;
         Ok(())
     }
 
     // Whether the point has a level still, that one.
-    pub(crate) fn is_current(&self, seat: Seat) -> bool
-        ensures current { IsTrue result → IsTrue (is_marked self.now.levels.items seat.point) }
-        ensures level { IsTrue result → slice_index_or self.now.levels.items seat.point void ≡ seat.level }
-        ensures inside { IsTrue result → seat.point < length self.now.levels.items }
-        ensures stale { result ≡ false → IsTrue (is_marked self.now.levels.items seat.point) → slice_index_or self.now.levels.items seat.point void ≡ seat.level → ⊥ }
+    pub(crate) fn is_current(&self, entry: QueueEntry) -> bool
+        ensures current { IsTrue result → IsTrue (is_marked self.now.levels.items entry.point) }
+        ensures level { IsTrue result → slice_index_or self.now.levels.items entry.point void ≡ entry.level }
+        ensures inside { IsTrue result → entry.point < length self.now.levels.items }
+        ensures stale { result ≡ false → IsTrue (is_marked self.now.levels.items entry.point) → slice_index_or self.now.levels.items entry.point void ≡ entry.level → ⊥ }
     {
-        let e = seat.point as usize;
+        let e = entry.point as usize;
         if !self.is_marked(e) {
             return false;
         }
-        at(&self.levels, e) == seat.level
+        at(&self.levels, e) == entry.level
     }
 
     // Whether the point is a way out, or its level and its label stand by a lower point beside it. At an equal level two

@@ -4,6 +4,8 @@ ghost use Rattle.std.specs.Int.{int_max};
 ghost use Rattle.lattice.specs.Mosaic.{void};
 ghost use Rattle.tile_flood.specs.Flooding.{is_marked};
 
+use lattice::VOID;
+
 // The value at e.
 pub(crate) fn at(values: &[i16], e: usize) -> i16
     requires { e < length values.now }
@@ -30,7 +32,7 @@ pub(crate) fn has_level(levels: &[i16], e: usize) -> bool
     requires { e < length levels.now }
     ensures { result ≡ is_marked levels.now e }
 {
-    levels[e] != i16::MIN
+    levels[e] != VOID
 }
 
 // The greater of the values at e and f.

@@ -1,5 +1,5 @@
 -- The marks of a valid labelling fit each other.
-use Rattle.std.proofs.Common.{◌≡◌, ◌≢◌, inl, inr, ℕ, ◌+◌, ◌-◌, ◌*◌, ◌<◌, ◌≤◌, ℤ, ◌≤ℤ◌, IsTrue, List, [], ◌∷◌, ◌++◌, length, length-append, get_or, slice_index, Some, None, refl, sym, ap, ◌∙◌, subst, arith}
+use Rattle.std.proofs.Common.{◌≡◌, ◌≢◌, inl, inr, ℕ, ◌+◌, ◌-◌, ◌*◌, ◌<◌, ◌≤◌, ℤ, ◌≤ℤ◌, IsTrue, List, [], ◌∷◌, ◌++◌, length, length-append, get_or, slice_index, Some, None, sym, ap, ◌∙◌, subst, arith}
 use Rattle.std.proofs.lemmas.Bool.{cases_Bool, cases_lt}
 use Rattle.std.proofs.lemmas.List.{get_or_append_left}
 use Rattle.std.proofs.Math.Seq.{get_or-append_seam}
@@ -67,10 +67,4 @@ one_more_level n levels rim count e level low here is done = record {
         let same : e ≡ f = one_index n count e f low here (subst (λ j. IsRimPoint n j f) last point) in
         ap (λ j. get_or (rim ++ level ∷ []) j void) (last ∙ sym done.whole) ∙ (get_or-append_seam rim level [] void ∙ (is ∙ ap (λ i. get_or levels i void) same))
   ];
-}
-
-pub all_of_rim : (n : ℕ) (levels rim : List ℤ) → 3 ≤ n → AreFirstOfRim n levels rim (4 * (n - 1)) → AreLevelsOfRim n levels rim
-all_of_rim n levels rim low all = record {
-  whole = all.whole;
-  each = λ e small on. all.each (rim_number n e) e (rim_number_below n e low small) (record { small = small; rim = on; number = refl });
 }

@@ -4,7 +4,7 @@ use Rattle.std.specs.Prelude.{Contains}
 use Rattle.std.proofs.lemmas.Bool.{cases_eq}
 use Rattle.std.proofs.lemmas.List.{length-set, get_or_default}
 use Rattle.std.proofs.lemmas.List.Elements.{Contains-append_left, Contains-append_right}
-use Rattle.lattice.specs.Block.{Block, IsBlockOf, is_solid, is_sink_at}
+use Rattle.lattice.specs.Block.{Block, is_solid, is_sink_at}
 use Rattle.lattice.specs.Corners.{Corner}
 use Rattle.lattice.specs.Ground.{metres, is_sink}
 use Rattle.lattice.specs.Height.{height_of}
@@ -14,7 +14,7 @@ use Rattle.tile_flood.specs.Blocks.{LabelledGround, block_of}
 use Rattle.tile_flood.specs.Mending.{IsLabelledBefore}
 use Rattle.tile_flood.proofs.BelowLevel.{carried_still, labelling_still}
 use Rattle.tile_flood.proofs.Dependence.{same_ground, solid_inside}
-use Rattle.tile_labellings.specs.Labellings.{IsFlooded, IsFloodOf, IsBlockBut}
+use Rattle.tile_labellings.specs.Labellings.{IsFloodOf, IsBlockBut}
 use Rattle.tile_labellings.specs.Updating.{IsUpdated, IsListedUnlessBelow}
 
 -- ---- what was flooded is labelled before any changes
@@ -111,17 +111,6 @@ pub record AreRead (m : Mosaic) (c : Corner) (changed : List ℕ) (k : ℕ) (b :
   pub heights : (e : ℕ) → e < m.side * m.side → (get_or b.heights e void ≡ metres (height_of m (point_of m.side c e))) ⊎ IsUnread changed k e
   pub sinks : (e : ℕ) → e < m.side * m.side → is_sink_at b e ≡ is_sink m (point_of m.side c e)
 
-pub none_read : (m : Mosaic) (c : Corner) (changed : List ℕ) (b : Block) → IsBlockBut m c changed b → AreRead m c changed 0 b
-none_read m c changed b is = record {
-  side = is.side;
-  whole = is.whole;
-  heights = λ e small. elim (is.heights e small) [
-    | inl right ↦ inl right
-    | inr has ↦ inr (has.0, omega arith, has.1, has.2)
-  ];
-  sinks = is.sinks;
-}
-
 pub one_read : (m : Mosaic) (c : Corner) (changed : List ℕ) (k : ℕ) (b new : Block) (e : ℕ) (h : ℤ) → (d : ℕ) → k < length changed → get_or changed k d ≡ e → IsUpdated b e h new
     → h ≡ metres (height_of m (point_of b.side c e)) → AreRead m c changed k b → AreRead m c changed (k + 1) new
 one_read m c changed k b new e h d below at is value so =
@@ -157,25 +146,3 @@ all_read m c changed k b end so = record {
 }
 
 -- ---- a block none of whose heights may have changed
-
-pub block_now : (m : Mosaic) (c : Corner) (b : Block) → IsBlockBut m c [] b → IsBlockOf m c b
-block_now m c b is = record {
-  side = is.side;
-  heights = record {
-    whole = is.whole;
-    values = λ e small. elim (is.heights e small) [
-      | inl right ↦ right
-      | inr has ↦ (let below = has.1 in absurd (omega arith))
-    ];
-  };
-  sinks = is.sinks;
-}
-
-pub block_but : (m : Mosaic) (c : Corner) (changed : List ℕ) (b : Block) → IsBlockOf m c b → IsBlockBut m c changed b
-block_but m c changed b is = record { side = is.side; whole = is.heights.whole; heights = λ e small. inl (is.heights.values e small); sinks = is.sinks }
-
-pub flooded_now : (m : Mosaic) (c : Corner) (b : Block) (labelled : LabelledGround) (changed : List ℕ) → IsFloodOf b labelled → changed ≡ [] → IsBlockBut m c changed b → IsFlooded m c labelled
-flooded_now m c b labelled changed flood none is = record {
-  side = flood.side ∙ is.side;
-  valid = (b, (block_now m c b (subst (λ (xs : List ℕ). IsBlockBut m c xs b) none is), flood.labelling));
-}

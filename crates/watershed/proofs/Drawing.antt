@@ -1,5 +1,5 @@
 -- Runs on their way: those of the parts so far, the last of them still growing.
-use Rattle.std.proofs.Common.{◌≡◌, ℕ, zero, suc, ◌+◌, ◌<◌, ◌≤◌, pos, ◌+ℤ◌, ◌≤ℤ◌, ◌<ℤ◌, ◌⊎◌, ◌↔◌, inl, inr, ⊎_elim, List, [], ◌∷◌, ◌++◌, length, get_or, take, refl, sym, ap, ◌∙◌, subst, arith, ◌-◌}
+use Rattle.std.proofs.Common.{◌≡◌, ℕ, zero, suc, ◌+◌, ◌<◌, ◌≤◌, pos, ◌+ℤ◌, ◌≤ℤ◌, ◌<ℤ◌, ◌⊎◌, ◌↔◌, inl, inr, ⊎_elim, List, [], ◌∷◌, ◌++◌, length, get_or, take, sym, ap, ◌∙◌, subst, arith, ◌-◌}
 use Rattle.std.specs.Prelude.{All, slice_index_or}
 use Rattle.std.specs.List.{AllAdjacentBelow}
 use Rattle.std.proofs.lemmas.Int.{ints}
@@ -86,9 +86,6 @@ take_more (q ∷ rest) (suc k) p lt is =
     let tail : take (suc k) rest ≡ take k rest ++ p ∷ [] = subst (λ j. take j rest ≡ take k rest ++ p ∷ []) one (take_more rest k p (omega arith) is) in
     subst (λ j. take j (q ∷ rest) ≡ take (suc k) (q ∷ rest) ++ p ∷ []) two (ap (λ l. q ∷ l) tail)
 
-drawn_first : (part : Run) → part.first ≤ℤ part.last → AreDrawn (part ∷ []) [] part
-drawn_first part full = record { chain = full; covers = λ q. ((λ has. has), (λ has. has)) }
-
 -- the part begins in the run's row, at most one past its end
 module _ (r part new : Run) (joined : IsJoined r part new) (row : part.y ≡ r.y) (west : r.first ≤ℤ part.first) (near : part.first ≤ℤ (r.last +ℤ pos 1)) where
   in_joined : (q : Point) → IsInRun new q → IsInRun r q ⊎ IsInRun part q
@@ -145,15 +142,6 @@ pub record AreDrawnTo (parts : List Run) (k : ℕ) (runs : List Run) (run : Run)
   pub drawn : AreDrawn (take k parts) runs run
   pub row : (d : Run) → (slice_index_or parts (k - 1) d).y ≡ run.y
   pub west : (d : Run) → run.first ≤ℤ (slice_index_or parts (k - 1) d).first
-
--- the first part is a run so far
-pub drawn_one : (parts : List Run) (run : Run) → 0 < length parts → run ≡ get_or parts 0 run → AreFull parts → AreDrawnTo parts 1 [] run
-drawn_one [] run some is full = absurd (omega arith)
-drawn_one (part ∷ rest) run some is full = subst (AreDrawnTo (part ∷ rest) 1 []) (sym is) (record {
-  drawn = drawn_first part (full 0 part (omega arith));
-  row = λ d. refl;
-  west = λ d. ≤ℤ_same part.first;
-})
 
 module _ (parts : List Run) (k : ℕ) (part : Run) (start : 1 ≤ k) (lt : k < length parts) (is : part ≡ get_or parts k part) (runs : List Run) (run : Run) (full : AreFull parts) (order : AllAdjacentBelow ComesBy parts (length parts)) (so_far : AreDrawnTo parts k runs run) where
   here : (d : Run) → slice_index_or parts (k + 1 - 1) d ≡ part

@@ -1,17 +1,14 @@
 -- The search up the flow paths: what is found after each step, and that in the end it is the watershed.
 use Rattle.std.proofs.Common.{◌≡◌, ℕ, zero, suc, ℤ, IsTrue, IsFalse, Some, List, [], ◌∷◌, ◌++◌, ◌⊎◌, ◌↔◌, inl, inr, ⊎_elim, refl, sym, ap, ◌∙◌, subst, arith, true≢false}
-use Rattle.std.specs.Prelude.{Contains, is_some, if◌then◌else◌}
+use Rattle.std.specs.Prelude.{Contains, if◌then◌else◌}
 use Rattle.std.proofs.lemmas.Bool.{cases_Bool}
 use Rattle.std.proofs.lemmas.List.Elements.{Contains-append_left, Contains-append_right, Contains-append_cases, Contains-push, Contains-push_cases}
 use Rattle.lattice.specs.declared.point.Point.{Point}
 use Rattle.lattice.specs.declared.direction.Dir.{Dir}
 use Rattle.lattice.specs.Steps.{step}
 use Rattle.lattice.specs.Terrain.{Terrain, IsLawful}
-use Rattle.lattice.specs.Mosaic.{Mosaic}
-use Rattle.lattice.specs.Ground.{is_ground}
 use Rattle.flow_d8.specs.Drainage.{IsDirection}
 use Rattle.flow_d8.specs.FlowPath.{FlowsTo, IsInWatershed}
-use Rattle.flow_d8.specs.Directions.{Directions, AreDirectionsOf, distance_in}
 use Rattle.watershed.specs.Runs.{AreRuns}
 use Rattle.watershed.specs.declared.runs.Run.{Run}
 use Rattle.flow_d8.specs.Feeders.{IsFeeder}
@@ -125,10 +122,3 @@ module _ (t : Terrain Point) (level : Point → ℤ) (lawful : IsLawful t) (p : 
       (λ found. let leads = up.lead x found in flows x leads.0 (up.elsewhere x found) leads.1),
       (λ within. met x within.flows.0 within.on_ground within.flows.1),
     )
-
--- the distances that are held say which points are ground
-pub known_on_ground : (m : Mosaic) (level : Point → ℤ) (d : Directions) → AreDirectionsOf m level d → (p : Point) → is_some (distance_in d p) ≡ is_ground m p
-known_on_ground m level d are p = elim (cases_Bool (is_ground m p)) [
-  | inl solid ↦ ap is_some ((are.distance p solid).1.0) ∙ sym solid
-  | inr off ↦ ap is_some ((are.elsewhere p off).1) ∙ sym off
-]

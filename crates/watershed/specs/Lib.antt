@@ -5,3 +5,4 @@ pub mod Search
 pub mod Questions
 pub mod Feeding
 pub mod Marks
+pub mod FlowSource

@@ -1,5 +1,7 @@
 -- What the questions about the water at a point are answered with, on a mosaic (this product's own profile).
-use Rattle.std.specs.Prelude.{◌≡◌, ℕ, ℤ, IsTrue, Option, Some, None}
+use Rattle.std.specs.Prelude.{◌≡◌, ℕ, ◌*◌, ◌<◌, ℤ, IsTrue, IsFalse, Option, Some, None, List, length, slice_index}
+use Rattle.lattice.specs.Corners.{Corner}
+use Rattle.lattice.specs.Lattice.{point_of}
 use Rattle.lattice.specs.declared.point.Point.{Point}
 use Rattle.lattice.specs.declared.direction.Dir.{Dir}
 use Rattle.lattice.specs.declared.height.Height.TheVariants as height
@@ -32,3 +34,17 @@ IsUnanswered m p Outside = height_of m p ≡ height.Outside
 IsUnanswered m p Void = height_of m p ≡ height.Void
 IsUnanswered m p NoMemory = Unit {0}
 IsUnanswered m p r = ⊥
+
+-- the code of the point's direction, 255 where it isn't ground
+pub record IsCodeOrNone (m : Mosaic) (p : Point) (code : ℕ) : Type 0 where
+  pub on_ground : IsTrue (is_ground m p) → (level : Point → ℤ) → AreFilledLevels (terrain m) level → DrainsBy (terrain m) level p code
+  pub elsewhere : IsFalse (is_ground m p) → code ≡ 255
+
+-- those of the first samples of the corner's tile, row by row from the north, west first
+pub record AreCodesTo (m : Mosaic) (c : Corner) (count : ℕ) (codes : List ℕ) : Type 0 where
+  pub whole : length codes ≡ count
+  pub each : (e : ℕ) → e < count → IsCodeOrNone m (point_of m.side c e) (slice_index codes e)
+
+-- .. and of all of them
+abbrev pub AreTileDirections : Mosaic → Corner → List ℕ → Type 0
+AreTileDirections m c codes = AreCodesTo m c (m.side * m.side) codes

@@ -1,13 +1,15 @@
-//! Directions that are held, asked which points drain straight to a point.
-ghost use Rattle.std.specs.Prelude.{◌≡◌};
-ghost use Rattle.lattice.specs.Mosaic.{IsMosaic};
+//! Directions of all points, asked where one drains.
+ghost use Rattle.std.specs.Prelude.{◌≡◌, ℤ};
+ghost use Rattle.std.proofs.Common.{refl, sym, subst, ◌∙◌};
+ghost use Rattle.lattice.specs.Ground.{terrain};
+ghost use Rattle.lattice.specs.Mosaic.{Mosaic, IsMosaic};
+ghost use Rattle.lattice.specs.declared.point.Point.{Point};
 ghost use Rattle.lattice.specs.declared.refusal.Refusal.TheVariants.{NoMemory};
 ghost use Rattle.flow_d8.specs.Directions.{AreDirectionsOf};
-ghost use Rattle.std.proofs.Common.{refl, sym, subst, ◌∙◌};
+ghost use Rattle.watershed.specs.FlowSource.{IsToldOf};
 
-use crate::feeders::Feeders;
-use arrayvec::ArrayVec;
-use flow_d8::Directions;
+use crate::flow_source::FlowSource;
+use flow_d8::{Directions, Flow};
 use lattice::{Point, Refusal};
 use std::alloc::Global;
 
@@ -17,7 +19,7 @@ pub(crate) struct Held<'a> {
     pub(crate) directions: &'a Directions,
 }
 
-impl<'a> Feeders for Held<'a> {
+impl<'a> FlowSource for Held<'a> {
     ghost tells = { λ held m level. IsMosaic m × AreDirectionsOf m level held.directions.now };
 
     ghost is_ready = { λ _. Unit {0} };
@@ -28,13 +30,15 @@ impl<'a> Feeders for Held<'a> {
 
     ghost refuses = { λ _ _ r. r ≡ NoMemory };
 
-    fn is_ground(&mut self, _alloc: Global, point: Point) -> Result<bool, Refusal> {
-        Ok(self.directions.flat_distance(point).is_some())
+    fn flow(&mut self, _alloc: Global, point: Point) -> Result<Flow, Refusal> {
+        Ok(flow_of(self.directions, point))
     }
 
-    fn feeders(&mut self, _alloc: Global, point: Point) -> Result<ArrayVec<Point, 8>, Refusal> {
-        Ok(self.directions.feeders(point))
+    fn flows_around(&self, _point: Point) -> Option<[Flow; 8]> {
+        None
     }
+
+    ghost is_mosaic = { λ a m level told. told.0 };
 
     ghost told_before = { λ a b m level same told. (told.0, subst (AreDirectionsOf m level) same told.1) };
 
@@ -49,4 +53,12 @@ impl<'a> Feeders for Held<'a> {
     ghost refuses_on = { λ a b c r kept refused. refused };
 
     ghost runs_out = { λ a b kept. refl };
+}
+
+// Where the point drains, as directions of all points have it.
+fn flow_of(directions: &Directions, point: Point) -> Flow
+    ensures { (m : Mosaic) (level : Point → ℤ) → AreDirectionsOf m level directions.now
+        → IsToldOf (terrain m) level point result }
+{
+    directions.flow(point)
 }

@@ -15,7 +15,7 @@ const POINTS_IN_WORD: i32 = 64;
 
 /// The points that are marked.
 #[derive(Drop)]
-pub(crate) struct Marks {
+pub struct Marks {
     // The bits of each word, by its row and its number in the row.
     words: PointTable<u64>,
     // A point of each word that has bits.
@@ -24,7 +24,7 @@ pub(crate) struct Marks {
 
 impl Marks {
     /// No point is marked. Takes no memory.
-    pub(crate) fn new(alloc: Global) -> Marks
+    pub fn new(alloc: Global) -> Marks
         ensures none { (p : Point) → IsMarked result p → ⊥ }
         ensures listed { AreListed result }
     {
@@ -35,14 +35,14 @@ impl Marks {
     }
 
     /// Whether the point is marked.
-    pub(crate) fn has(&self, point: Point) -> bool
+    pub fn has(&self, point: Point) -> bool
         ensures { IsTrue result ↔ IsMarked self.now point }
     {
         has_bit(self.bits(word_of(point)), bit_of(point))
     }
 
     /// The point is marked from then on.
-    pub(crate) fn mark(&mut self, point: Point) -> Result<(), AllocError>
+    pub fn mark(&mut self, point: Point) -> Result<(), AllocError>
         requires { AreListed self.old }
         ensures marked { OnOk result ((p : Point) → IsMarked self.new p ↔ (IsMarked self.old p ⊎ (p ≡ point))) }
         ensures listed { OnOk result (AreListed self.new) }

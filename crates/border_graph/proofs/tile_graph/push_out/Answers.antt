@@ -1,10 +1,13 @@
-use Rattle.std.proofs.Common.{pos, refl}
-use Rattle.border_graph.proofs.Listing.{out_more, out_less}
+use Rattle.std.proofs.Common.{◌≡◌, pos, refl}
+use Rattle.tile_flood.specs.Labelling.{OUT}
+use Rattle.border_graph.specs.TileGraph.{out_at}
+use Rattle.border_graph.proofs.Listing.{listed_more, listed_less}
 use Rattle.border_graph.proofs.tile_graph.push_out.Goals as goal
-use Rattle.border_graph.proofs.tile_graph.push_out.Goals.{then-link-from+in_ok-push, else-link-from}
+use Rattle.border_graph.proofs.tile_graph.push_out.Goals.{then-spill+in_ok-push, else-spill}
 
-pub loop-link-preserved : goal.loop-link-preserved
-loop-link-preserved c = elim c.if-link-from.branch [
-  | then-link-from+in_ok-push w ↦ rw w.into-is (out_more c.args.row.now c.loop-link.link-index _ (record { level = pos 0; from = 0 }) c.loop-link-test.true refl c.args.from c.args.into.now.items c.loop-link.into.items c.loop-link.invariant w.push.new.self.items w.out_at.result w.if-link-from.true w.out_at.ensures w.in_ok-push.ensures.items)
-  | else-link-from w ↦ rw w.into-is (out_less c.args.row.now c.loop-link.link-index _ (record { level = pos 0; from = 0 }) c.loop-link-test.true refl c.args.from c.args.into.now.items c.loop-link.into.items c.loop-link.invariant w.if-link-from.false)
+pub loop-spill-preserved : goal.loop-spill-preserved
+loop-spill-preserved c = elim c.if-spill.branch [
+  | then-spill+in_ok-push w ↦ rw w.into-is (listed_more (λ s. s.b ≡ OUT) out_at c.args.row.now c.loop-spill.spill-index _ (record { a = 0; b = 0; level = pos 0 }) c.loop-spill-test.true refl c.args.into.now.items c.loop-spill.into.items c.loop-spill.invariant
+      w.push.new.self.items w.out_at.result w.if-spill.true w.out_at.ensures w.in_ok-push.ensures.items)
+  | else-spill w ↦ rw w.into-is (listed_less (λ s. s.b ≡ OUT) out_at c.args.row.now c.loop-spill.spill-index _ (record { a = 0; b = 0; level = pos 0 }) c.loop-spill-test.true refl c.args.into.now.items c.loop-spill.into.items c.loop-spill.invariant w.if-spill.false)
 ]

@@ -1,5 +1,7 @@
-use Rattle.border_graph.specs.TileGraph.{AreOut}
+use Rattle.std.proofs.Common.{◌≡◌}
+use Rattle.tile_flood.specs.Labelling.{OUT}
+use Rattle.border_graph.specs.TileGraph.{AreListed, out_at}
 use Rattle.border_graph.proofs.tile_graph.push_out.Given as goal
 
-abbrev pub invariant-loop-link : goal.invariant-loop-link
-invariant-loop-link l = AreOut l.row l.link-index l.from l.fn.into.items l.into.items
+abbrev pub invariant-loop-spill : goal.invariant-loop-spill
+invariant-loop-spill l = AreListed (λ s. s.b ≡ OUT) out_at l.row l.spill-index l.fn.into.items l.into.items

@@ -12,7 +12,7 @@ use Rattle.edits.specs.declared.edit.NewHeight.{NewHeight}
 use Rattle.edits.specs.Edits.{AreEarlier, TellsHeights, edit_made, with_heights}
 use Rattle.edits.specs.Effect.{patched}
 use Rattle.drainage.specs.Between.{IsHeldOf}
-use Rattle.drainage.specs.Beyond.{AreLevelsKept, IsKeptBeyondEdit, IsKeptBeyondHeights}
+use Rattle.drainage.specs.Beyond.{AreLevelsKept, IsKeptBeyondEdit, IsKeptBeyondHeights, IsKeptUnchanged}
 use Rattle.drainage.specs.Spared.{one_lower}
 use Rattle.drainage.proofs.EditedBox.{differ_patched}
 use Rattle.drainage.proofs.Reached.{unmoved}
@@ -65,5 +65,5 @@ returns-in-Unsink-clause-changed c m valid tells right =
 pub returns-in-Heights-clause-kept : goal.returns-in-Heights-clause-kept
 returns-in-Heights-clause-kept c =
     subst (λ (e : Edit). IsKeptBeyondEdit e c.args.held.now c.invalidate_heights.new.held) (sym c.in-Heights.is)
-    (subst (λ (l : List NewHeight). IsKeptBeyondHeights l c.args.held.now c.invalidate_heights.new.held × AreLevelsKept l c.args.held.now c.invalidate_heights.new.held) c.as_slice.ensures.value
-    (c.invalidate_heights.ensures.kept, c.invalidate_heights.ensures.levels))
+    (subst (λ (l : List NewHeight). IsKeptBeyondHeights l c.args.held.now c.invalidate_heights.new.held × AreLevelsKept l c.args.held.now c.invalidate_heights.new.held × IsKeptUnchanged l c.args.held.now c.invalidate_heights.new.held)
+    c.as_slice.ensures.value (c.invalidate_heights.ensures.kept, c.invalidate_heights.ensures.levels, c.invalidate_heights.ensures.unchanged))

@@ -1,16 +1,39 @@
-use Rattle.std.proofs.Common.{inr, ◌+◌, List, get_or, take, pos, refl, subst}
+use Rattle.std.proofs.lemmas.Int.{ints, to_z-of_z}
+use Rattle.std.proofs.Common.{rules, SFits, w16, to_z, of_z, inr, ◌≡◌, ◌≢◌, ◌+◌, ◌<◌, ℕ, ℤ, List, length, get_or, take, pos, refl, sym, ap, ◌∙◌, subst, arith}
 use Rattle.std.specs.Prelude.{Some}
 use Rattle.std.proofs.lemmas.List.{take_all}
+use Rattle.std.proofs.lemmas.List.Elements.{All-get_or}
+use Rattle.lattice.specs.declared.height.Height.TheVariants.{At}
+use Rattle.lattice.specs.Ground.{is_height}
+use Rattle.lattice.specs.Mosaic.{Mosaic, IsMosaic, IsSample, void}
 use Rattle.edits.specs.declared.edit.NewHeight.{NewHeight}
-use Rattle.edits.specs.Edits.{with_heights}
+use Rattle.edits.specs.Edits.{AreEarlier, with_heights}
 use Rattle.edits.proofs.EditStale.{read_within}
 use Rattle.drainage.specs.Between.{IsHeldOf}
+use Rattle.drainage.specs.Beyond.{AreLevelsKept, IsKeptBeyondHeights, IsKeptUnchanged}
+use Rattle.drainage.specs.declared.drainage_cache.DrainageCache.{DrainageCache}
 use Rattle.drainage.proofs.Beyond.{all_kept, all_levels_kept, kept_by_noted, one_kept, one_levels_kept}
-use Rattle.drainage.proofs.EditedBox.{differ_more, earlier_at, set_more}
+use Rattle.drainage.proofs.EditedBox.{differ_more, earlier_at, set_more, valid_more}
+use Rattle.drainage.proofs.Unchanged.{held_unchanged, not_void_at}
 use Rattle.drainage.proofs.invalidating.invalidate_heights.Goals as goal
+use Rattle.drainage.proofs.invalidating.invalidate_heights.Goals.{then-height, else-height}
 
 abbrev none : NewHeight
 none = record { point = record { y = pos 0; x = pos 0 }; was = pos 0; metres = pos 0 }
+
+-- what is so once the first k are noted
+abbrev IsSoFar : DrainageCache → List NewHeight → ℕ → DrainageCache → Type 0
+IsSoFar before heights k held = record {
+  still : (m : Mosaic) → IsMosaic m → IsHeldOf m before → IsHeldOf m held;
+  changed : (m : Mosaic) → IsMosaic m → AreEarlier heights m → IsHeldOf m before → IsHeldOf (with_heights (take k heights) m) held;
+  kept : IsKeptBeyondHeights heights before held;
+  levels : AreLevelsKept heights before held;
+  unchanged : IsKeptUnchanged heights before held;
+  valid : (m : Mosaic) → IsMosaic m → IsMosaic (with_heights (take k heights) m);
+}
+
+sample : (h : ℤ) → SFits w16 h → IsSample h
+sample h fits = (omega (arith, ints), omega (arith, ints))
 
 pub loop-height-init : goal.loop-height-init
 loop-height-init c = record {
@@ -18,6 +41,8 @@ loop-height-init c = record {
   changed = λ m valid earlier right. right;
   kept = all_kept (λ (x : NewHeight). Some x.point) c.args.heights.now c.args.held.now.tile_cache;
   levels = all_levels_kept c.args.heights.now c.args.held.now.tile_cache;
+  unchanged = λ all. refl;
+  valid = λ m valid. valid;
 }
 
 pub loop-height-preserved : goal.loop-height-preserved
@@ -25,16 +50,40 @@ loop-height-preserved c =
     let heights = c.args.heights.now in
     let i = c.loop-height.height-index in
     let h = get_or heights i none in
-    record {
-      still = λ m valid right. c.note_changed.ensures.still m (c.loop-height.invariant.still m valid right);
-      changed = λ m valid earlier right. c.note_changed.ensures.right (with_heights (take i heights) m) (with_heights (take (i + 1) heights) m)
-          (differ_more heights i h m valid c.loop-height-test.true (read_within heights i none h c.loop-height-test.true))
-          (earlier_at heights i h m c.loop-height-test.true (read_within heights i none h c.loop-height-test.true) earlier)
-          (inr (set_more heights i h m valid c.loop-height-test.true (read_within heights i none h c.loop-height-test.true))) (c.loop-height.invariant.changed m valid earlier right);
-      kept = one_kept (λ (x : NewHeight). Some x.point) heights i h h.point c.args.held.now.tile_cache c.loop-height.held.tile_cache c.note_changed.new.self.tile_cache c.loop-height-test.true (read_within heights i none h c.loop-height-test.true) refl
-          (kept_by_noted h.point h.was h.metres c.loop-height.held.tile_cache c.note_changed.new.self.tile_cache c.note_changed.ensures.left) c.loop-height.invariant.kept;
-      levels = one_levels_kept heights i h c.args.held.now.tile_cache c.loop-height.held.tile_cache c.note_changed.new.self.tile_cache c.loop-height-test.true (read_within heights i none h c.loop-height-test.true) c.note_changed.ensures.left c.loop-height.invariant.levels;
-    }
+    let inside : i < length heights = c.loop-height-test.true in
+    let read = read_within heights i none h inside in
+    let so = c.loop-height.invariant in
+    let fits : SFits w16 (get_or c.args.heights.now c.loop-height.height-index none).metres = search rules in
+    elim c.if-height.branch [
+      | then-height w ↦
+          let noted = w.note_changed.ensures in
+          subst (IsSoFar c.args.held.now heights (i + 1)) (sym w.held-is) (record {
+            still = λ m valid right. noted.still m (so.still m valid right);
+            changed = λ m valid earlier right. noted.right (with_heights (take i heights) m) (with_heights (take (i + 1) heights) m) (so.valid m valid)
+                (differ_more heights i h m valid inside read) (earlier_at heights i h m inside read earlier) (inr (set_more heights i h m valid inside read)) (so.changed m valid earlier right);
+            kept = one_kept (λ (x : NewHeight). Some x.point) heights i h h.point c.args.held.now.tile_cache c.loop-height.held.tile_cache w.note_changed.new.self.tile_cache inside read refl
+                (kept_by_noted h.point h.was h.metres c.loop-height.held.tile_cache w.note_changed.new.self.tile_cache noted.left) so.kept;
+            levels = one_levels_kept heights i h c.args.held.now.tile_cache c.loop-height.held.tile_cache w.note_changed.new.self.tile_cache inside read noted.left so.levels;
+            unchanged = λ all. absurd (w.if-height.true (ap (of_z w16) (All-get_or (λ (x : NewHeight). x.was ≡ x.metres) heights i none inside all)));
+            valid = λ m valid. valid_more heights i h m (so.valid m valid) inside read (sample h.metres fits);
+          })
+      | else-height w ↦
+          let had : SFits w16 (get_or c.args.heights.now c.loop-height.height-index none).was = search rules in
+          let same : h.was ≡ h.metres = sym (to_z-of_z w16 h.was had) ∙ (ap (to_z w16) w.if-height.false ∙ to_z-of_z w16 h.metres fits) in
+          subst (IsSoFar c.args.held.now heights (i + 1)) (sym w.held-is) (record {
+            still = so.still;
+            changed = λ m valid earlier right.
+                let mid = with_heights (take i heights) m in
+                let before = earlier_at heights i h m inside read earlier in
+                let full : h.metres ≢ void = subst (λ v. v ≢ void) same (not_void_at mid h.point h.was before) in
+                let after = set_more heights i h m valid inside read full (ap is_height before) in
+                held_unchanged mid (with_heights (take (i + 1) heights) m) h.point (differ_more heights i h m valid inside read) (after ∙ (ap At (sym same) ∙ sym before)) c.loop-height.held (so.changed m valid earlier right);
+            kept = so.kept;
+            levels = so.levels;
+            unchanged = so.unchanged;
+            valid = λ m valid. valid_more heights i h m (so.valid m valid) inside read (sample h.metres fits);
+          })
+    ]
 
 pub returns-clause-changed : goal.returns-clause-changed
 returns-clause-changed c m valid earlier right =

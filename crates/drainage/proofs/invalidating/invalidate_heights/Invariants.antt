@@ -2,7 +2,7 @@ use Rattle.std.proofs.Common.{take}
 use Rattle.lattice.specs.Mosaic.{Mosaic, IsMosaic}
 use Rattle.edits.specs.Edits.{AreEarlier, with_heights}
 use Rattle.drainage.specs.Between.{IsHeldOf}
-use Rattle.drainage.specs.Beyond.{AreLevelsKept, IsKeptBeyondHeights}
+use Rattle.drainage.specs.Beyond.{AreLevelsKept, IsKeptBeyondHeights, IsKeptUnchanged}
 use Rattle.drainage.proofs.invalidating.invalidate_heights.Given as goal
 
 abbrev pub invariant-loop-height : goal.invariant-loop-height
@@ -11,4 +11,6 @@ invariant-loop-height l = record {
   changed : (m : Mosaic) → IsMosaic m → AreEarlier l.heights m → IsHeldOf m l.fn.held → IsHeldOf (with_heights (take l.height-index l.heights) m) l.held;
   kept : IsKeptBeyondHeights l.heights l.fn.held l.held;
   levels : AreLevelsKept l.heights l.fn.held l.held;
+  unchanged : IsKeptUnchanged l.heights l.fn.held l.held;
+  valid : (m : Mosaic) → IsMosaic m → IsMosaic (with_heights (take l.height-index l.heights) m);
 }

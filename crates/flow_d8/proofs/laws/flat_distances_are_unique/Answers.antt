@@ -1,5 +1,4 @@
-use Rattle.lattice.specs.Ground.{terrain}
-use Rattle.lattice.specs.Mosaic.{void}
+use Rattle.flow_d8.specs.Prelude.{terrain, void}
 use Rattle.flow_d8.proofs.MosaicGrid.{mosaic_is_grid}
 use Rattle.flow_d8.proofs.Exists.{distance_exists}
 use Rattle.flow_d8.proofs.Unique.{one_distance}

@@ -1,5 +1,4 @@
-use Rattle.lattice.specs.Ground.{terrain}
-use Rattle.lattice.specs.Mosaic.{void}
+use Rattle.flow_d8.specs.Prelude.{terrain, void}
 use Rattle.flow_d8.proofs.MosaicGrid.{mosaic_is_grid}
 use Rattle.flow_d8.proofs.FlowPaths.{flow_path_exists, on_path, from_path}
 use Rattle.flow_d8.proofs.laws.watersheds_follow_flow_paths.Goals as goal

@@ -1,8 +1,5 @@
-use Rattle.std.proofs.Common.{◌≡◌, ◌↔◌, Bool, false, IsTrue, sym, ◌∙◌, true≢false}
-use Rattle.std.specs.Prelude.{slice_index_or}
-use Rattle.lattice.specs.declared.direction.Dir.{Dir}
-use Rattle.lattice.specs.declared.direction.Dir.TheVariants.{East, SouthEast, South, SouthWest, West, NorthWest, North, NorthEast}
-use Rattle.lattice.specs.Mosaic.{void}
+use Rattle.std.proofs.Common.{◌≡◌, ◌↔◌, Bool, false, IsTrue, sym, ◌∙◌, true≢false, slice_index_or}
+use Rattle.flow_d8.specs.Prelude.{Dir, East, SouthEast, South, SouthWest, West, NorthWest, North, NorthEast, void}
 use Rattle.flow_d8.specs.Places.{place_by}
 use Rattle.flow_d8.proofs.local_flow.gap.Goals as goal
 

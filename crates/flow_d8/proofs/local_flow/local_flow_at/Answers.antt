@@ -1,12 +1,8 @@
-use Rattle.std.proofs.Common.{◌≡◌, ◌↔◌, ◌<◌, ℤ, ◌≤ℤ◌, ◌<ℤ◌, Bool, false, IsTrue, IsFalse, inl, inr, sym, ◌∙◌, arith, true≢false, subst, w16, to_z, of_z}
+use Rattle.std.proofs.Common.{◌≡◌, ◌↔◌, ◌<◌, ℤ, ◌≤ℤ◌, ◌<ℤ◌, Bool, false, IsTrue, IsFalse, inl, inr, sym, ◌∙◌, arith, true≢false, subst, w16, to_z, of_z, slice_index_or, if◌then◌else◌}
 use Rattle.std.specs.Int.Signed.{mag}
-use Rattle.std.specs.Prelude.{slice_index_or, if◌then◌else◌}
 use Rattle.std.proofs.lemmas.Bool.{cases_Bool, cond-true, cond-false}
 use Rattle.std.proofs.lemmas.Int.{ints, to_z-of_z}
-use Rattle.lattice.specs.declared.point.Point.{Point}
-use Rattle.lattice.specs.declared.direction.Dir.{Dir}
-use Rattle.lattice.specs.Terrain.{Terrain}
-use Rattle.lattice.specs.Mosaic.{void}
+use Rattle.flow_d8.specs.Prelude.{Point, Dir, Terrain, void}
 use Rattle.flow_d8.specs.LevelGrid.{level_beside, IsLevelGrid}
 use Rattle.flow_d8.proofs.SteepestStep.{none_lower, all_beside, beside_void, beside_level, steepest_of_all, none_of_all}
 use Rattle.flow_d8.proofs.local_flow.local_flow_at.Goals as goal
@@ -27,11 +23,11 @@ module _ (t : Terrain Point) (level : Point → ℤ) (p : Point) where
 above_void : (a : ℤ) → mag a < 32768 → (a ≡ void → ⊥) → void <ℤ a
 above_void a fits some = grind (arith, ints)
 
-pub returns-then-is_void : goal.returns-then-is_void
-returns-then-is_void c t level p levelled shown = void_of t level p (slice_index_or c.args.levels.now c.args.k void) levelled shown.here (c.is_void.ensures.0 c.if-is_void.true)
+pub returns-then-is_void-clause-so : goal.returns-then-is_void-clause-so
+returns-then-is_void-clause-so c t level p levelled shown = void_of t level p (slice_index_or c.args.levels.now c.args.k void) levelled shown.here (c.is_void.ensures.0 c.if-is_void.true)
 
-pub returns-then-is_none_below : goal.returns-then-is_none_below
-returns-then-is_none_below c t level p levelled shown =
+pub returns-then-is_none_below-clause-so : goal.returns-then-is_none_below-clause-so
+returns-then-is_none_below-clause-so c t level p levelled shown =
     let here = ground_of t level p (slice_index_or c.args.levels.now c.args.k void) shown.here c.is_void.result c.is_void.ensures c.if-is_void.false in
     let is : to_z w16 (of_z w16 c.at.result) ≡ level p = to_z-of_z w16 c.at.result (record { sfits = c.at.type_inv }) ∙ c.at.ensures ∙ sym here.1 in
     let high : (d : Dir) → level p ≤ℤ level_beside t level p d = λ d.
@@ -39,20 +35,20 @@ returns-then-is_none_below c t level p levelled shown =
     let some : void <ℤ level p = subst (λ v. void <ℤ v) (c.at.ensures ∙ sym here.1) (above_void c.at.result c.at.type_inv (λ none. levelled.some p here.0 (sym (c.at.ensures ∙ sym here.1) ∙ none))) in
     (here.0, none_lower t level p levelled high, all_beside t level p levelled high some)
 
-pub returns-then-best-gt0 : goal.returns-then-best-gt0
-returns-then-best-gt0 c t level p levelled shown =
+pub returns-then-best-gt0-clause-so : goal.returns-then-best-gt0-clause-so
+returns-then-best-gt0-clause-so c t level p levelled shown =
     let here = ground_of t level p (slice_index_or c.args.levels.now c.args.k void) shown.here c.is_void.result c.is_void.ensures c.if-is_void.false in
     let best = c.steepest_at-best.ensures t level p levelled here.1 (shown.around here.0) in
     (here.0, steepest_of_all t level p levelled c.steepest_at-best.result best c.if-best-gt0.true)
 
-pub returns-in-Some : goal.returns-in-Some
-returns-in-Some c t level p levelled shown =
+pub returns-in-Some-clause-so : goal.returns-in-Some-clause-so
+returns-in-Some-clause-so c t level p levelled shown =
     let here = ground_of t level p (slice_index_or c.args.levels.now c.args.k void) shown.here c.is_void.result c.is_void.ensures c.if-is_void.false in
     let best = c.steepest_at-best.ensures t level p levelled here.1 (shown.around here.0) in
     (here.0, none_of_all t level p levelled c.steepest_at-best.result best (omega arith), (c.in-Some.field-0, beside_void t level p levelled c.in-Some.field-0 (sym (shown.around here.0 c.in-Some.field-0) ∙ c.in-Some.ensures)))
 
-pub returns-in-None : goal.returns-in-None
-returns-in-None c t level p levelled shown =
+pub returns-in-None-clause-so : goal.returns-in-None-clause-so
+returns-in-None-clause-so c t level p levelled shown =
     let here = ground_of t level p (slice_index_or c.args.levels.now c.args.k void) shown.here c.is_void.result c.is_void.ensures c.if-is_void.false in
     let best = c.steepest_at-best.ensures t level p levelled here.1 (shown.around here.0) in
     (here.0, none_of_all t level p levelled c.steepest_at-best.result best (omega arith), (λ d. beside_level t level p levelled d (λ none. c.in-None.ensures d (shown.around here.0 d ∙ none))))

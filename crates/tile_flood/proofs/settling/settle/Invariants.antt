@@ -5,11 +5,11 @@ use Rattle.tile_flood.specs.Blocks.{block_of}
 use Rattle.tile_flood.specs.Cells.{levels_of, labels_of, AreCells}
 use Rattle.tile_flood.proofs.settling.settle.Given as goal
 
-abbrev pub invariant-loop-seat : goal.invariant-loop-seat
-invariant-loop-seat l = record {
+abbrev pub invariant-loop-entry : goal.invariant-loop-entry
+invariant-loop-entry l = record {
   cells : AreCells l.heights l.cells;
   state : IsFlooding (block_of l.n l.heights l.sinks) (levels_of l.cells) (labels_of l.cells) l.queue;
 }
 
-abbrev pub decreases-loop-seat : goal.decreases-loop-seat
-decreases-loop-seat l = unmarked (levels_of l.cells) + waiting l.queue
+abbrev pub decreases-loop-entry : goal.decreases-loop-entry
+decreases-loop-entry l = unmarked (levels_of l.cells) + waiting l.queue

@@ -25,15 +25,15 @@ none_in x (y ∷ xs) e has = absurd (omega (arith, ap length e))
 
 pub search-preserved : goal.search-preserved
 search-preserved g c =
-    let laws = g.met.F.Feeders in
+    let laws = g.met.F.FlowSource in
     let inv = c.search.invariant in
-    let told = c.in_ok-feeders.ensures in
-    let first = c.args.asked.now in
-    let old = c.search.asked in
-    let new = c.visit.new.asked in
+    let told = c.in_ok-found.ensures in
+    let first = c.args.flows.now in
+    let old = c.search.flows in
+    let new = c.visit.new.flows in
     let p = c.args.point in
     let rest = c.pop.new.self.items in
-    let more = c.in_ok-feeders.feeders.items in
+    let more = c.in_ok-found.found.items in
     let at = c.in-Some.at in
     let known = marked_or_not c.search.marks at in
     let was : c.search.waiting.items ≡ rest ++ at ∷ [] = c.pop.ensures.items ∙ ap (λ (o : Option Point). rest ++ option_to_list o) c.in-Some.is in
@@ -48,15 +48,15 @@ search-preserved g c =
           let so_far = subst (IsSearching (terrain m) level p (IsMarked c.search.marks)) was (inv.searching m level before) in
           subst (IsSearching (terrain m) level p (IsMarked c.visit.new.marks)) (sym is)
           (search_on (terrain m) level p (IsMarked c.search.marks) (IsMarked c.visit.new.marks) rest more at told.marked
-          (λ x has. ⊎_elim (λ again. absurd (none_in x more (told.again again) has)) (λ first. (told.feeders first m level tells x).0 has) known)
-          (λ x feeds. ⊎_elim (λ again. inl (so_far.closed at x again feeds)) (λ first. inr ((told.feeders first m level tells x).1 feeds)) known)
+          (λ x has. ⊎_elim (λ again. absurd (none_in x more (told.again again) has)) (λ first. (told.donors first m level tells x).0 has) known)
+          (λ x feeds. ⊎_elim (λ again. inl (so_far.closed at x again feeds)) (λ first. inr ((told.donors first m level tells x).1 feeds)) known)
           so_far);
     }
 
 pub returns-in_err-extend_from_slice-clause-refusal : goal.returns-in_err-extend_from_slice-clause-refusal
 returns-in_err-extend_from_slice-clause-refusal g c =
-    let keeps = g.met.F.Feeders.keeps_on c.args.asked.now c.search.asked c.visit.new.asked c.search.invariant.keeps c.in_ok-feeders.ensures.keeps in
-    let out = g.met.F.Feeders.runs_out c.args.asked.now c.visit.new.asked keeps in
+    let keeps = g.met.F.FlowSource.keeps_on c.args.flows.now c.search.flows c.visit.new.flows c.search.invariant.keeps c.in_ok-found.ensures.keeps in
+    let out = g.met.F.FlowSource.runs_out c.args.flows.now c.visit.new.flows keeps in
     search rules
 
 none_left : (xs : List Point) → length xs ≡ 0 → xs ≡ []

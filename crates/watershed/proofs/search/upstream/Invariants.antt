@@ -8,11 +8,11 @@ use Rattle.watershed.proofs.search.upstream.Given as goal
 
 abbrev pub invariant-search : goal.invariant-search
 invariant-search g l = record {
-  ready : g.F.Feeders.is_ready l.asked;
-  follows : g.F.Feeders.follows l.fn.asked l.asked;
-  keeps : g.F.Feeders.keeps l.fn.asked l.asked;
+  ready : g.F.FlowSource.is_ready l.flows;
+  follows : g.F.FlowSource.follows l.fn.flows l.flows;
+  keeps : g.F.FlowSource.keeps l.fn.flows l.flows;
   listed : AreListed l.marks;
-  searching : (m : Mosaic) (level : Point → ℤ) → g.F.Feeders.tells l.asked m level → IsSearching (terrain m) level l.fn.point (IsMarked l.marks) l.waiting.items;
+  searching : (m : Mosaic) (level : Point → ℤ) → g.F.FlowSource.tells l.flows m level → IsSearching (terrain m) level l.fn.point (IsMarked l.marks) l.waiting.items;
 }
 
 abbrev pub decreases-search : goal.decreases-search

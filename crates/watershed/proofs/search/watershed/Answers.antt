@@ -1,19 +1,13 @@
-use Rattle.std.proofs.Common.{ℤ, sym, subst}
-use Rattle.std.specs.Prelude.{IfSome}
-use Rattle.lattice.specs.declared.point.Point.{Point}
-use Rattle.lattice.specs.Mosaic.{Mosaic, IsMosaic}
+use Rattle.std.proofs.Common.{sym, subst}
+use Rattle.std.proofs.lemmas.Result.{IfOk-weaker}
 use Rattle.lattice.specs.Ground.{terrain}
 use Rattle.lattice.proofs.Lawful.{terrain_is_lawful}
-use Rattle.flow_d8.specs.FlowPath.{IsInWatershed}
 use Rattle.flow_d8.specs.Directions.{AreDirectionsOf}
-use Rattle.watershed.specs.Runs.{AreRuns}
 use Rattle.watershed.proofs.Upstream.{no_watershed}
 use Rattle.watershed.proofs.search.watershed.Goals as goal
 
-pub returns-in-Some-clause-runs : goal.returns-in-Some-clause-runs
-returns-in-Some-clause-runs c m level is are =
-    subst (λ found. IfSome found (λ runs. (m : Mosaic) (level : Point → ℤ) → IsMosaic m × AreDirectionsOf m level c.search.new.asked.directions.now → AreRuns (IsInWatershed (terrain m) level c.args.point) runs.items)) c.in-Some.is c.in_ok-runs.ensures.runs
-    m level (is, subst (AreDirectionsOf m level) (sym c.in_ok-runs.ensures.follows) are)
+pub returns-clause-runs : goal.returns-clause-runs
+returns-clause-runs c = IfOk-weaker c.watershed_over.result _ _ (λ runs said m level is are. said m level (is, subst (AreDirectionsOf m level) (sym c.watershed_over.ensures.follows) are)) c.watershed_over.ensures.runs
 
-pub returns-in-Some-clause-elsewhere : goal.returns-in-Some-clause-elsewhere
-returns-in-Some-clause-elsewhere c m level is are off = no_watershed (terrain m) level (terrain_is_lawful m) c.args.point c.in-Some.runs.items (returns-in-Some-clause-runs c m level is are) off
+pub returns-clause-elsewhere : goal.returns-clause-elsewhere
+returns-clause-elsewhere c = IfOk-weaker c.watershed_over.result _ _ (λ runs said m level is are off. no_watershed (terrain m) level (terrain_is_lawful m) c.args.point runs.items (said m level is are) off) (returns-clause-runs c)

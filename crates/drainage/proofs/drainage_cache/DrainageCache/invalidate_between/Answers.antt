@@ -1,6 +1,6 @@
 use Rattle.std.proofs.Common.{◌≡◌, refl, sym, ◌∙◌, subst}
 use Rattle.std.specs.Prelude.{Option, Some}
-use Rattle.drainage.specs.Between.{are_left, are_right, drain_right, directions_right, flats_right}
+use Rattle.drainage.specs.Between.{are_left, are_right, flow_cache_right, past_right}
 use Rattle.drainage.specs.Spared.{IsNoHigher}
 use Rattle.drainage.specs.declared.tile_cache.TileCache.{TileCache}
 use Rattle.drainage.proofs.drainage_cache.DrainageCache.invalidate_between.Goals as goal
@@ -8,14 +8,13 @@ use Rattle.drainage.proofs.drainage_cache.DrainageCache.invalidate_between.Goals
 pub returns-clause-left : goal.returns-clause-left
 returns-clause-left c =
     let left = c.invalidate_between.new.self in
-    subst (λ (held : Option TileCache). are_left c.args.from c.args.to (IsNoHigher c.args.most) held (Some left)) (c.in-Some.ensures.value ∙ c.invalidate_ways.ensures.tile_cache) (left, refl, c.invalidate_between.ensures.left)
+    subst (λ (held : Option TileCache). are_left c.args.from c.args.to (IsNoHigher c.args.most) held (Some left)) (c.in-Some.ensures.value ∙ c.invalidate_flows.ensures.tile_cache) (left, refl, c.invalidate_between.ensures.left)
 
 pub returns-clause-right : goal.returns-clause-right
 returns-clause-right c m new differ still right =
-    let held : Some c.in-Some.tile_cache ≡ c.args.self.now.tile_cache = c.in-Some.ensures.value ∙ c.invalidate_ways.ensures.tile_cache in
+    let held : Some c.in-Some.tile_cache ≡ c.args.self.now.tile_cache = c.in-Some.ensures.value ∙ c.invalidate_flows.ensures.tile_cache in
     record {
       tile_cache = c.invalidate_between.ensures.right m new differ still (subst (are_right m) (sym held) right.tile_cache);
-      flows = subst (drain_right new) (sym c.invalidate_ways.ensures.flows) tt;
-      directions = subst (directions_right new) (sym c.invalidate_ways.ensures.directions) tt;
-      wide_flats = subst (flats_right new) (sym c.invalidate_ways.ensures.wide_flats) tt;
+      flow_cache = subst (flow_cache_right new) (sym c.invalidate_flows.ensures.flow_cache) tt;
+      past_flows = subst (past_right new) (sym c.invalidate_flows.ensures.past_flows) tt;
     }

@@ -1,31 +1,67 @@
-use Rattle.std.proofs.Common.{◌≡◌, refl, sym, ◌∙◌, subst}
+use Rattle.std.proofs.Common.{rules, SFits, w16, to_z, of_z, ◌≡◌, ℤ, refl, sym, ◌∙◌, subst}
 use Rattle.std.specs.Prelude.{Option, Some}
-use Rattle.drainage.specs.Between.{are_noted, are_right, drain_right, directions_right, flats_right}
+use Rattle.std.proofs.lemmas.Int.{to_z-of_z}
+use Rattle.drainage.specs.Between.{are_noted, are_right, flow_cache_right, AreFlowsLeft}
+use Rattle.drainage.specs.declared.drainage_cache.DrainageCache.{DrainageCache}
 use Rattle.drainage.specs.declared.tile_cache.TileCache.{TileCache}
+use Rattle.drainage.proofs.PastStill.{flows_left, flows_set}
 use Rattle.drainage.proofs.drainage_cache.DrainageCache.note_changed.Goals as goal
+
+-- the heights as they are passed on
+flows_as : (was is : ℤ) (held left : DrainageCache) → SFits w16 was → SFits w16 is → AreFlowsLeft (to_z w16 (of_z w16 was)) (to_z w16 (of_z w16 is)) held left → AreFlowsLeft was is held left
+flows_as was is held left had fits are =
+    subst (λ (u : ℤ). AreFlowsLeft u is held left) (to_z-of_z w16 was had) (subst (λ (v : ℤ). AreFlowsLeft (to_z w16 (of_z w16 was)) v held left) (to_z-of_z w16 is fits) are)
+
+pub returns-in_default-clause-flows : goal.returns-in_default-clause-flows
+returns-in_default-clause-flows c =
+    let h = c.args.height.now in
+    flows_as h.was h.metres c.args.self.now c.retain_spared_flows.new.self (search rules) (search rules) c.retain_spared_flows.ensures.left
+
+pub returns-clause-flows : goal.returns-clause-flows
+returns-clause-flows c =
+    let h = c.args.height.now in
+    flows_as h.was h.metres c.args.self.now c.retain_spared_flows.new.self (search rules) (search rules) c.retain_spared_flows.ensures.left
+
+pub returns-in_default-clause-right : goal.returns-in_default-clause-right
+returns-in_default-clause-right c m new valid differ was set right =
+    let h = c.args.height.now in
+    record {
+      tile_cache = subst (are_right new) (sym c.take.ensures.after) tt;
+      flow_cache = subst (flow_cache_right new) (sym c.retain_spared_flows.ensures.flow_cache) tt;
+      past_flows = flows_set m new h.point valid differ h.was h.metres was set c.args.self.now c.retain_spared_flows.new.self (flows_as h.was h.metres c.args.self.now c.retain_spared_flows.new.self (search rules) (search rules) c.retain_spared_flows.ensures.left) right;
+    }
+
+pub returns-in_default-clause-still : goal.returns-in_default-clause-still
+returns-in_default-clause-still c m right =
+    let h = c.args.height.now in
+    record {
+      tile_cache = subst (are_right m) (sym c.take.ensures.after) tt;
+      flow_cache = subst (flow_cache_right m) (sym c.retain_spared_flows.ensures.flow_cache) tt;
+      past_flows = flows_left m h.was h.metres c.args.self.now c.retain_spared_flows.new.self (flows_as h.was h.metres c.args.self.now c.retain_spared_flows.new.self (search rules) (search rules) c.retain_spared_flows.ensures.left) right;
+    }
 
 pub returns-clause-left : goal.returns-clause-left
 returns-clause-left c =
     let h = c.args.height.now in
     let left = c.note_changed.new.self in
-    subst (λ (held : Option TileCache). are_noted h.point h.was h.metres held (Some left)) (c.in-Some.ensures.value ∙ c.invalidate_ways.ensures.tile_cache) (left, refl, c.note_changed.ensures.left)
+    subst (λ (held : Option TileCache). are_noted h.point h.was h.metres held (Some left)) (c.in-Some.ensures.value ∙ c.retain_spared_flows.ensures.tile_cache) (left, refl, c.note_changed.ensures.left)
 
 pub returns-clause-right : goal.returns-clause-right
-returns-clause-right c m new differ was set right =
-    let held : Some c.in-Some.tile_cache ≡ c.args.self.now.tile_cache = c.in-Some.ensures.value ∙ c.invalidate_ways.ensures.tile_cache in
+returns-clause-right c m new valid differ was set right =
+    let h = c.args.height.now in
+    let held : Some c.in-Some.tile_cache ≡ c.args.self.now.tile_cache = c.in-Some.ensures.value ∙ c.retain_spared_flows.ensures.tile_cache in
     record {
       tile_cache = c.note_changed.ensures.right m new differ was set (subst (are_right m) (sym held) right.tile_cache);
-      flows = subst (drain_right new) (sym c.invalidate_ways.ensures.flows) tt;
-      directions = subst (directions_right new) (sym c.invalidate_ways.ensures.directions) tt;
-      wide_flats = subst (flats_right new) (sym c.invalidate_ways.ensures.wide_flats) tt;
+      flow_cache = subst (flow_cache_right new) (sym c.retain_spared_flows.ensures.flow_cache) tt;
+      past_flows = flows_set m new h.point valid differ h.was h.metres was set c.args.self.now c.retain_spared_flows.new.self (flows_as h.was h.metres c.args.self.now c.retain_spared_flows.new.self (search rules) (search rules) c.retain_spared_flows.ensures.left) right;
     }
 
 pub returns-clause-still : goal.returns-clause-still
 returns-clause-still c m right =
-    let held : Some c.in-Some.tile_cache ≡ c.args.self.now.tile_cache = c.in-Some.ensures.value ∙ c.invalidate_ways.ensures.tile_cache in
+    let h = c.args.height.now in
+    let held : Some c.in-Some.tile_cache ≡ c.args.self.now.tile_cache = c.in-Some.ensures.value ∙ c.retain_spared_flows.ensures.tile_cache in
     record {
       tile_cache = c.note_changed.ensures.still m (subst (are_right m) (sym held) right.tile_cache);
-      flows = subst (drain_right m) (sym c.invalidate_ways.ensures.flows) tt;
-      directions = subst (directions_right m) (sym c.invalidate_ways.ensures.directions) tt;
-      wide_flats = subst (flats_right m) (sym c.invalidate_ways.ensures.wide_flats) tt;
+      flow_cache = subst (flow_cache_right m) (sym c.retain_spared_flows.ensures.flow_cache) tt;
+      past_flows = flows_left m h.was h.metres c.args.self.now c.retain_spared_flows.new.self (flows_as h.was h.metres c.args.self.now c.retain_spared_flows.new.self (search rules) (search rules) c.retain_spared_flows.ensures.left) right;
     }

@@ -1,6 +1,5 @@
-use Rattle.std.proofs.Common.{◌∙◌, sym, ap, subst}
-use Rattle.border_graph.specs.Joining.{Summarizes}
-use Rattle.border_graph.specs.TileGraph.{TileGraph}
+use Rattle.std.proofs.Common.{◌∙◌, sym}
+use Rattle.border_graph.proofs.Sufficing.{summarizes_reordered}
 use Rattle.drainage.proofs.LoadingTiles.{some_there, none_there, still_told, only_told, told_more}
 use Rattle.drainage.proofs.rim_graph.RimGraph.learn.Goals as goal
 
@@ -18,6 +17,6 @@ returns-clause-still c u w is =
 pub returns-clause-right : goal.returns-clause-right
 returns-clause-right c m place summary loaded =
     let none = none_there c.args.self.now.loaded.items c.args.t c.index.result.now c.requires.inside c.index.ensures (sym c.is_some.ensures ∙ c.if-is_some.false) in
-    let value = c.in_ok-ways.ensures.value in
+    let moved = c.in_ok-ways.ensures.summary in
     told_more c.args.self.now.side c.args.self.now.corners.items c.args.self.now.loaded.items c.args.t c.args.summary.corner c.in_ok-ways.ways c.requires.inside none m place
-    (ap (λ (w : TileGraph). w.side) value) (ap (λ (w : TileGraph). w.summary.corner) value ∙ c.in_ok-less.ensures.corner) (subst (λ (w : TileGraph). Summarizes m w.summary) (sym value) (c.in_ok-less.ensures.right m summary)) loaded
+    c.in_ok-ways.ensures.side (moved.corner ∙ c.in_ok-less.ensures.corner) (summarizes_reordered m c.in_ok-less.less c.in_ok-ways.ways.summary moved (c.in_ok-less.ensures.right m summary)) loaded

@@ -1,28 +1,54 @@
-use Rattle.std.proofs.Common.{◌≡◌, ◌<◌, ℕ, IsTrue, List, ◌++◌, length, take, drop, ap₂, refl, sym, ◌∙◌, subst, arith}
-use Rattle.std.proofs.Math.Seq.{take-append_seam}
-use Rattle.lattice.specs.declared.point.Point.{Point}
-use Rattle.flow_d8.specs.Surface.{number_in, has_level}
-use Rattle.flow_d8.specs.Propagation.{unknown, distance_at}
-use Rattle.flow_d8.specs.Directions.{AreDirectionsOf}
-use Rattle.flow_d8.proofs.Found.{directions_found}
+use Rattle.std.proofs.Common.{◌≡◌, ℤ, List, inr, refl, sym, ap, ap₂, ◌∙◌, subst}
+use Rattle.flow_d8.specs.Prelude.{terrain, void, Point}
+use Rattle.flow_d8.specs.Drainage.{AreFilledLevels}
+use Rattle.flow_d8.specs.Filled.{Filled, AreLevels, IsFilledOf}
+use Rattle.flow_d8.specs.Surface.{level_at}
+use Rattle.flow_d8.proofs.Exists.{distance_exists}
+use Rattle.flow_d8.proofs.FilledOf.{filled_at}
+use Rattle.flow_d8.proofs.MosaicGrid.{mosaic_is_grid}
+use Rattle.flow_d8.specs.Directions.{Directions, AreDirectionsOf}
+use Rattle.flow_d8.specs.FlowGrids.{IsAtHand, AreCrossed}
+use Rattle.flow_d8.specs.Levels.{filled_of}
+use Rattle.flow_d8.specs.Tiles.{Tiles}
+use Rattle.flow_d8.proofs.Crossing.{are_directions}
+use Rattle.flow_d8.proofs.FullTerrain.{mosaic_is_full}
+use Rattle.flow_d8.proofs.LevelsOf.{hand_in, crossed_in}
 use Rattle.flow_d8.proofs.filled.Filled.directions.Goals as goal
 
--- a list whose whole part was written
-written : {A : Type 0} → (n : ℕ) (new rest : List A) → length new ≡ n → take n (new ++ rest) ≡ new
-written n new rest is = subst (λ k. take k (new ++ rest) ≡ new) is (take-append_seam new rest)
+-- levels by their parts
+as_one : (f : Filled) (t : Tiles) (levels : List ℤ) (sinks : List Point) → t ≡ record { side = f.side; corners = f.corners } → levels ≡ f.levels → sinks ≡ f.sinks → filled_of t levels sinks ≡ f
+as_one f t levels sinks tiles_are levels_are sinks_are =
+    ap (λ (s : Tiles). filled_of s levels sinks) tiles_are ∙ ap₂ (λ (l : List ℤ) (s : List Point). filled_of (record { side = f.side; corners = f.corners }) l s) levels_are sinks_are
+
+pub returns-then-not-branch-clause-refusal : goal.returns-then-not-branch-clause-refusal
+returns-then-not-branch-clause-refusal c = inr (
+  refl,
+  λ m is of.
+      let t = c.tiles-tiles.result.now in
+      let levels = c.levels.result.now in
+      let sinks = c.sinks.result.now in
+      let f = filled_of t levels sinks in
+      let same = as_one c.args.self.now t levels sinks c.tiles-tiles.ensures.value c.levels.ensures c.sinks.ensures in
+      let here = subst (IsFilledOf m) (sym same) of in
+      let whole = subst AreLevels (sym same) c.tiles-tiles.ensures.valid in
+      let level : Point → ℤ = level_at f in
+      let filled : AreFilledLevels (terrain m) level = λ x solid. filled_at m f is whole here x solid in
+      let told = (c.in_ok-prepare_all.ensures.told m is here).told level filled in
+      c.in_ok-resolve_all.ensures.failed c.if-not-branch.true (terrain m) level (mosaic_is_full m is) told
+      (subst (λ (s : Tiles). AreCrossed s (terrain m) level) (sym c.in_ok-prepare_all.ensures.tiles) (crossed_in t c.side.ensures.valid levels sinks m is whole here level filled)),
+)
 
 pub returns-clause-found : goal.returns-clause-found
-returns-clause-found c = λ m level is filled of.
-    let f = c.args.self.now in
-    let drains = c.drain.new.drains in
-    let distances = c.in_ok-distances.distances.items in
-    let drained = c.in_ok-drain.ensures.drained in
-    let drains_len : length drains ≡ c.in_ok-drains.drains.len = omega (arith, drained.whole, c.in_ok-flows.ensures.whole, c.in_ok-drains.ensures.len, c.len.ensures) in
-    let known = subst (λ ds. (p : Point) → IsTrue (has_level f p) → distance_at ds (number_in f p) < unknown) c.deref-3.ensures.value c.in_ok-drain.ensures.known in
-    subst (AreDirectionsOf m level)
-    (sym (c.new.ensures
-    ∙ ap₂ (λ ds es. record { side = c.side.result; corners = c.in_ok-corners.corners.items; drains = ds; distances = es })
-    (written c.in_ok-drains.drains.len drains (drop (length drains) c.in_ok-drains.drains.items) drains_len)
-    refl
-    ∙ ap₂ (λ n cs. record { side = n; corners = cs; drains = drains; distances = distances }) c.side.ensures (c.in_ok-corners.ensures.items ∙ c.corners.ensures.value)))
-    (directions_found f drains distances drained c.in_ok-distances.ensures known m is of level filled)
+returns-clause-found c m level is filled of =
+    let t = c.tiles-tiles.result.now in
+    let levels = c.levels.result.now in
+    let sinks = c.sinks.result.now in
+    let same = as_one c.args.self.now t levels sinks c.tiles-tiles.ensures.value c.levels.ensures c.sinks.ensures in
+    let here = subst (IsFilledOf m) (sym same) of in
+    let whole = subst AreLevels (sym same) c.tiles-tiles.ensures.valid in
+    let told = (c.in_ok-prepare_all.ensures.told m is here).told level filled in
+    let d : Directions = record { tiles = c.resolve_all.new.self.tiles; drains = c.resolve_all.new.self.flows.items } in
+    subst (AreDirectionsOf m level) (sym c.new.ensures.value)
+    (are_directions d c.new.ensures.whole m is level filled (c.in_ok-resolve_all.ensures.flows (terrain m) level (mosaic_is_full m is) told)
+    (λ p solid. subst (λ (s : Tiles). IsAtHand s p) (sym (c.in_ok-resolve_all.ensures.tiles ∙ c.in_ok-prepare_all.ensures.tiles)) (hand_in t c.side.ensures.valid levels sinks m is whole here p solid))
+    (λ p solid. distance_exists (terrain m) void (mosaic_is_grid m is) level filled p solid))

@@ -1,5 +1,5 @@
-use Rattle.std.proofs.Common.{◌≡◌, ℤ, List, [], ◌∷◌, ◌++◌, Some, None, length, vec_len, inl, inr, true, sym, ap, ◌∙◌, subst, arith}
-use Rattle.std.specs.Prelude.{slice_get}
+use Rattle.std.proofs.Common.{◌≡◌, ℤ, List, [], ◌∷◌, ◌++◌, Some, None, length, vec_len, inl, inr, true, sym, ap, ◌∙◌, subst, arith, slice_get}
+use Rattle.std.specs.Map.{lookup}
 use Rattle.std.proofs.lemmas.Bool.{cases_Bool, cond-true, cond-false, true≢false}
 use Rattle.flow_d8.specs.declared.point_square.Square.{Square}
 use Rattle.flow_d8.specs.PointSquares.{square_of, cell_of, is_number}
@@ -30,7 +30,7 @@ returns-clause-same g c p =
     let k = cell_of p in
     let number : s.number ≡ n = c.in_ok-square.ensures.number in
     let told = c.in_ok-insert.ensures.updates.0 q in
-    ap (λ (items : List (Square g.row.T.Denot)). value_at items (place_of (record { alloc = old.alloc; places = c.insert.new.self; squares = c.push.new.self }) q) q k) c.in_ok-push.ensures.items
+    ap (λ (items : List (Square g.row.T.Denot)). value_at items (lookup (is_number q) c.insert.new.self.entries) q k) c.in_ok-push.ensures.items
     ∙ ap (λ o. value_at (xs ++ s ∷ []) o q k) told
     ∙ (elim (cases_Bool (is_number n q)) [
       | inl is ↦

@@ -17,7 +17,7 @@ use Rattle.tile_flood.proofs.flood.Flood.pass_on.Goals.{in-Some+in_ok-visit, in_
 pub returns-then-not-is_current-clause-state : goal.returns-then-not-is_current-clause-state
 returns-then-not-is_current-clause-state c =
     let s = c.args.self.now in
-    mending_as c.args.n c.args.heights.now c.args.sinks.now s.levels.items s.labels.items (IsInOr s.queue s.levels.items c.args.seat.point c.args.seat.level) (IsIn s.suspects s.levels.items) (IsIn s.queue s.levels.items) (IsIn s.suspects s.levels.items) c.requires.state
+    mending_as c.args.n c.args.heights.now c.args.sinks.now s.levels.items s.labels.items (IsInOr s.queue s.levels.items c.args.entry.point c.args.entry.level) (IsIn s.suspects s.levels.items) (IsIn s.queue s.levels.items) (IsIn s.suspects s.levels.items) c.requires.state
     (λ e on is. is)
     (λ x y on link w. elim w [
       | inl waits ↦ inl waits
@@ -25,19 +25,19 @@ returns-then-not-is_current-clause-state c =
     ])
 
 pub visit-requires-clause-beside : goal.visit-requires-clause-beside
-visit-requires-clause-beside c = window_beside c.args.n c.args.seat.point c.loop-d.d c.in-Some.e (omega arith) c.in-Some.ensures.some
+visit-requires-clause-beside c = window_beside c.args.n c.args.entry.point c.loop-d.d c.in-Some.e (omega arith) c.in-Some.ensures.some
 
 pub loop-d-init : goal.loop-d-init
 loop-d-init c =
     let s = c.args.self.now in
-    let fits : SFits w16 c.args.seat.level = search rules in
-    let level = to_z-of_z w16 c.args.seat.level fits in
+    let fits : SFits w16 c.args.entry.level = search rules in
+    let level = to_z-of_z w16 c.args.entry.level fits in
     record {
       state = record {
-        state = subst (λ v. IsMending c.args.n c.args.heights.now c.args.sinks.now s.levels.items s.labels.items (IsInOr s.queue s.levels.items c.args.seat.point v) (IsIn s.suspects s.levels.items)) (sym level) c.requires.state;
+        state = subst (λ v. IsMending c.args.n c.args.heights.now c.args.sinks.now s.levels.items s.labels.items (IsInOr s.queue s.levels.items c.args.entry.point v) (IsIn s.suspects s.levels.items)) (sym level) c.requires.state;
         marked = c.is_current.ensures.current c.if-not-is_current.false;
         level = c.is_current.ensures.level c.if-not-is_current.false ∙ sym level;
-        named = sym (c.label_at.ensures ∙ ap (λ bs. slice_index bs c.args.seat.point) c.deref.ensures.value);
+        named = sym (c.label_at.ensures ∙ ap (λ bs. slice_index bs c.args.entry.point) c.deref.ensures.value);
       };
       listed = listed_same c.args.n c.args.heights.now s.levels.items s.labels.items c.args.affected.now.items;
       reached = λ k z less small spot solid. absurd (omega arith);
@@ -48,10 +48,10 @@ loop-d-preserved c =
     let n = c.args.n in
     let i = c.loop-d.invariant in
     let d = c.loop-d.d in
-    let point = c.args.seat.point in
+    let point = c.args.entry.point in
     let b = bare_block n c.args.heights.now in
     let s = c.args.self.now in
-    let low = to_z w16 (of_z w16 c.args.seat.level) in
+    let low = to_z w16 (of_z w16 c.args.entry.level) in
     elim c.match-window_point.branch [
       | in-Some+in_ok-visit w ↦
           let a = w.in_ok-visit.ensures in
@@ -85,7 +85,7 @@ loop-d-preserved c =
 pub returns-clause-state : goal.returns-clause-state
 returns-clause-state c =
     let n = c.args.n in
-    let point = c.args.seat.point in
+    let point = c.args.entry.point in
     let i = c.loop-d.invariant in
     passed_on n c.args.heights.now c.args.sinks.now c.loop-d.self.levels.items c.loop-d.self.labels.items c.loop-d.self.queue c.loop-d.self.suspects point _ _ i.state
     (λ z small beside solid. let spot = window_point_of n point z beside in let low = spot.1.0 in i.reached spot.0 z (omega arith) small spot.1.1 solid)

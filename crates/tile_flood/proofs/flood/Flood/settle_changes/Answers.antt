@@ -15,10 +15,10 @@ examine-requires-clause-state c =
     let a = c.take_suspect.ensures in
     let levels = s.levels.items in
     let q' = c.take_suspect.new.self.suspects in
-    let seat = c.in-Some.seat in
+    let entry = c.in-Some.entry in
     rw (a.levels, a.labels, a.queue)
-    (mending_as c.args.n c.args.heights.now c.args.sinks.now levels s.labels.items (IsIn s.queue levels) (IsIn s.suspects levels) (IsIn s.queue levels) (IsInOr q' levels seat.point seat.level) c.loop.invariant.state
-    (λ e on is. taken_in levels s.suspects q' seat.point seat.level c.in-Some.ensures.taken e is) (λ x y on link w. inl w))
+    (mending_as c.args.n c.args.heights.now c.args.sinks.now levels s.labels.items (IsIn s.queue levels) (IsIn s.suspects levels) (IsIn s.queue levels) (IsInOr q' levels entry.point entry.level) c.loop.invariant.state
+    (λ e on is. taken_in levels s.suspects q' entry.point entry.level c.in-Some.ensures.taken e is) (λ x y on link w. inl w))
 
 pub loop-init : goal.loop-init
 loop-init c = record { state = c.requires.state; listed = listed_same c.args.n c.args.heights.now c.args.self.now.levels.items c.args.self.now.labels.items c.args.affected.now.items }
@@ -29,10 +29,10 @@ pass_on-requires-clause-state c =
     let a = c.in_default.ensures in
     let levels = s.levels.items in
     let q' = c.pop.new.self in
-    let seat = c.in-Some-pop.seat in
+    let entry = c.in-Some-pop.entry in
     rw (a.levels, a.labels, a.same)
-    (mending_as c.args.n c.args.heights.now c.args.sinks.now levels s.labels.items (IsIn s.queue levels) (IsIn s.suspects levels) (IsInOr q' levels seat.point seat.level) (IsIn s.suspects levels) c.loop.invariant.state
-    (λ e on is. is) (λ x y on link w. inl (taken_in levels s.queue q' seat.point seat.level (subst (λ q. IsTaken q q' seat.level seat.point) a.queue c.in-Some-pop.ensures.taken) x w)))
+    (mending_as c.args.n c.args.heights.now c.args.sinks.now levels s.labels.items (IsIn s.queue levels) (IsIn s.suspects levels) (IsInOr q' levels entry.point entry.level) (IsIn s.suspects levels) c.loop.invariant.state
+    (λ e on is. is) (λ x y on link w. inl (taken_in levels s.queue q' entry.point entry.level (subst (λ q. IsTaken q q' entry.level entry.point) a.queue c.in-Some-pop.ensures.taken) x w)))
 
 -- nobody waits any more, and none is suspect
 nobody : (c : In_default-pop) (l : ℤ) (e : ℕ) → Waits c.loop.self.queue l e → ⊥

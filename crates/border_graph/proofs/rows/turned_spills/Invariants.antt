@@ -1,0 +1,6 @@
+use Rattle.std.proofs.Common.{◌≡◌, map, take}
+use Rattle.border_graph.specs.Rows.{turned}
+use Rattle.border_graph.proofs.rows.turned_spills.Given as goal
+
+abbrev pub invariant-loop-spill : goal.invariant-loop-spill
+invariant-loop-spill l = l.back.items ≡ map turned (take l.spill-index l.spills)

@@ -1,0 +1,27 @@
+-- The spills of a tile, either way, by the labels that they lead from.
+use Rattle.std.specs.Prelude.{◌≢◌, ℕ, ◌<◌, ◌⊎◌, List, [], ◌∷◌, Contains}
+use Rattle.tile_flood.specs.declared.passing.Spill.{Spill}
+use Rattle.border_graph.specs.Summaries.{Summary}
+use Rattle.border_graph.specs.Joining.{IsThere, IsLabelLink}
+
+abbrev pub turned : Spill → Spill
+turned spill = record { a = spill.b; b = spill.a; level = spill.level }
+
+module _ (n : ℕ) (b : Summary) where
+  -- from the label of a ground rim point, which is another one's number, to that rim point at its height
+  pub record IsFromLabel (link : Spill) : Type 0 where
+    pub there : IsThere n (b ∷ []) 0 link.b
+    pub apart : link.a ≢ link.b
+    pub label : IsLabelLink n (b ∷ []) 0 link.b link.a link.level
+
+  -- these are the spills turned, and the links from labels
+  pub record AreTurned (links : List Spill) : Type 0 where
+    pub each : (link : Spill) → Contains links link → Contains b.spills (turned link) ⊎ IsFromLabel link
+    pub spills : (spill : Spill) → Contains b.spills spill → Contains links (turned spill)
+    pub labels : (link : Spill) → IsFromLabel link → Contains links link
+
+  -- the links from labels to the first rim points are listed from now on
+  pub record AreLabelsTurned (count : ℕ) (old new : List Spill) : Type 0 where
+    pub still : (link : Spill) → Contains old link → Contains new link
+    pub each : (link : Spill) → Contains new link → Contains old link ⊎ IsFromLabel link
+    pub labels : (link : Spill) → link.b < count → IsFromLabel link → Contains new link

@@ -1,7 +1,0 @@
-use Rattle.std.proofs.Common.{ℕ, ◌<◌, get_or}
-use Rattle.std.specs.Prelude.{Contains}
-use Rattle.lattice.specs.Corners.{Corner}
-use Rattle.drainage.proofs.asking.is_held.Given as goal
-
-abbrev pub invariant-loop-corner : goal.invariant-loop-corner
-invariant-loop-corner g l = (k : ℕ) (d : Corner) → k < l.corner-index → Contains (g.S.Samples.corners l.samples) (get_or l.corner-items k d) → ⊥

@@ -1,0 +1,80 @@
+use Rattle.std.proofs.Common.{◌≡◌, ◌<◌, List, length, sym, ◌∙◌, subst, arith, true≢false}
+use Rattle.std.specs.Prelude.{Contains}
+use Rattle.lattice.specs.Corners.{Corner}
+use Rattle.lattice.specs.Limits.{most_tiles}
+use Rattle.lattice.specs.Mosaic.{Mosaic}
+use Rattle.catalogue.proofs.Reading.{reads_nothing}
+use Rattle.flow_d8.specs.Tiles.{Tiles}
+use Rattle.flow_d8.specs.declared.flow.Flow.{Flow}
+use Rattle.flow_d8.specs.declared.flow_cache.Slot.{Slot}
+use Rattle.flow_d8.specs.FlowCaches.{AreSlotsOf, IsCacheOf}
+use Rattle.flow_d8.specs.FlowGrids.{AreTileFlows, IsGridOf}
+use Rattle.flow_d8.specs.LevelRanges.{AreRangesOf}
+use Rattle.flow_d8.proofs.FlowCaches.{slots_push}
+use Rattle.flow_d8.proofs.GridFacts.{grid_push}
+use Rattle.drainage.proofs.GroundAtHand.{some_holds, not_all}
+use Rattle.drainage.proofs.Questioned.{answered, stopped}
+use Rattle.drainage.proofs.downstream.have_tile.Goals as goal
+
+pub returns-then-holds-clause-asked : goal.returns-then-holds-clause-asked
+returns-then-holds-clause-asked g c = let a = c.args.samples.now in answered g.S.Samples a a (tt {0}) (reads_nothing g.S.Samples g.met.S.Samples.keeps_itself a (tt {0}))
+
+pub returns-in_default-clause-asked : goal.returns-in_default-clause-asked
+returns-in_default-clause-asked g c =
+    let a = c.args.samples.now in
+    let laws = g.met.S.Samples in
+    stopped g.S.Samples a a (reads_nothing g.S.Samples laws.keeps_itself a (tt {0}))
+    (λ honest. some_holds (g.S.Samples.mosaic a) (laws.is_mosaic a honest) (g.S.Samples.side_of a) (laws.same_side a honest) (g.S.Samples.corners a) (laws.same_corners a honest) c.args.point
+    (c.requires.ground honest) c.in_default.ensures.none)
+
+pub returns-then-samples-clause-asked : goal.returns-then-samples-clause-asked
+returns-then-samples-clause-asked g c =
+    let a = c.args.samples.now in
+    let laws = g.met.S.Samples in
+    stopped g.S.Samples a a (reads_nothing g.S.Samples laws.keeps_itself a (tt {0}))
+    (λ honest. c.if-samples.true (c.samples.ensures.value ∙ c.side-side.ensures.value ∙ (c.requires.right honest).grid.same_side ∙ laws.same_side a honest ∙ sym c.side.ensures ∙ sym c.samples-2.ensures.value))
+
+pub returns-then-is_full-clause-asked : goal.returns-then-is_full-clause-asked
+returns-then-is_full-clause-asked g c =
+    let a = c.args.samples.now in
+    let laws = g.met.S.Samples in
+    let grid = c.args.flows.now.grid in
+    stopped g.S.Samples a a (reads_nothing g.S.Samples laws.keeps_itself a (tt {0}))
+    (λ honest.
+    let less : length grid.tiles.corners < most_tiles =
+    not_all (g.S.Samples.mosaic a) (laws.is_mosaic a honest) (g.S.Samples.side_of a) (laws.same_side a honest) (g.S.Samples.corners a) (laws.same_corners a honest) c.args.point
+    grid.tiles grid.flows.items (c.requires.right honest).grid c.side-side.ensures.valid.distinct c.in-Some.corner c.in-Some.ensures.some.0 c.in-Some.ensures.some.1
+    (λ at. true≢false (sym (c.holds.ensures.1 at) ∙ c.if-holds.false)) c.requires.few in
+    omega (arith, less, c.is_full.ensures.0 c.if-is_full.true))
+
+pub returns-in_err-push-clause-right : goal.returns-in_err-push-clause-right
+returns-in_err-push-clause-right g c honest =
+    let read = c.in_ok-prepared.ensures.asked.reads in
+    let so = c.requires.right (read.honest honest) in
+    let old = c.args.flows.now in
+    let new = c.push.new.self in
+    let failed = c.in_err-push.ensures.failed in
+    subst (λ (n : Mosaic). IsCacheOf n new) (sym (read.mosaic honest)) (record {
+      grid = subst (λ (l : List Flow). IsGridOf (g.S.Samples.mosaic c.args.samples.now) new.grid.tiles l) (sym failed.1) (subst (λ (t : Tiles). IsGridOf (g.S.Samples.mosaic c.args.samples.now) t old.grid.flows.items) (sym failed.0) so.grid);
+      slots = subst (λ (l : List Slot). AreSlotsOf (g.S.Samples.mosaic c.args.samples.now) new.grid.tiles l) (sym failed.2) (subst (λ (t : Tiles). AreSlotsOf (g.S.Samples.mosaic c.args.samples.now) t old.slots.items) (sym failed.0) so.slots);
+    })
+
+pub returns-clause-right : goal.returns-clause-right
+returns-clause-right g c honest =
+    let a = c.args.samples.now in
+    let laws = g.met.S.Samples in
+    let m = g.S.Samples.mosaic a in
+    let read = c.in_ok-prepared.ensures.asked.reads in
+    let before = read.honest honest in
+    let so = c.requires.right before in
+    let old = c.args.flows.now.grid in
+    let new = c.push.new.self.grid in
+    let told = subst (λ (l : List Flow). AreTileFlows m c.in-Some.corner l) (sym c.deref.ensures.value) (c.in_ok-prepared.ensures.flows honest) in
+    let present = subst (λ (cs : List Corner). Contains cs c.in-Some.corner) (sym (laws.same_corners a before)) c.in-Some.ensures.some.0 in
+    let side : g.S.Samples.side_of a ≡ old.tiles.side = sym (so.grid.same_side ∙ laws.same_side a before) in
+    let ranges = subst (λ n. AreRangesOf n m c.in-Some.corner c.in_ok-prepared.prepared.ranges.items) side (c.in_ok-prepared.ensures.ranges honest) in
+    subst (λ (n : Mosaic). IsCacheOf n c.push.new.self) (sym (read.mosaic honest)) (record {
+      grid = grid_push m old.tiles new.tiles old.flows.items c.deref.result.now new.flows.items c.in-Some.corner c.in_ok-push.ensures.side c.in_ok-push.ensures.corners present told c.in_ok-push.ensures.flows so.grid;
+      slots = slots_push m old.tiles new.tiles c.args.flows.now.slots.items c.push.new.self.slots.items c.in-Some.corner c.in_ok-prepared.prepared.ranges.items c.in_ok-push.ensures.side c.in_ok-push.ensures.corners
+          c.in_ok-push.ensures.slots.0 c.in_ok-push.ensures.slots.1 ranges so.slots;
+    })

@@ -1,0 +1,6 @@
+use Rattle.std.proofs.Common.{sym, subst}
+use Rattle.drainage.specs.Between.{flow_cache_right}
+use Rattle.drainage.proofs.drainage_cache.DrainageCache.take_flow_cache.Goals as goal
+
+pub returns-in-Some-clause-flows : goal.returns-in-Some-clause-flows
+returns-in-Some-clause-flows c m side held = subst (flow_cache_right m) (sym c.in-Some.ensures.value) held.flow_cache

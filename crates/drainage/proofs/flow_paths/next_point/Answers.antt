@@ -1,0 +1,26 @@
+use Rattle.std.proofs.Common.{Option, sym, ◌∙◌, subst}
+use Rattle.lattice.specs.declared.direction.Dir.{Dir}
+use Rattle.lattice.specs.Ground.{terrain}
+use Rattle.flow_d8.specs.Drainage.{IsDirection}
+use Rattle.flow_d8.proofs.Fitting.{ground_fits}
+use Rattle.flow_d8.proofs.Following.{next_is}
+use Rattle.flow_d8.proofs.MosaicGrid.{mosaic_is_grid}
+use Rattle.flow_d8.proofs.Draining.{flow_direction}
+use Rattle.drainage.proofs.flow_paths.next_point.Goals as goal
+
+pub returns-in_default-clause-next : goal.returns-in_default-clause-next
+returns-in_default-clause-next g c honest level filled =
+    let e = c.in_ok-flow.ensures in
+    let p = c.args.point in
+    let t = terrain (g.S.Samples.mosaic c.args.samples.now) in
+    subst (λ (o : Option Dir). IsDirection t level p o) (sym c.direction.ensures ∙ c.in_default.is) (flow_direction t level p c.in_ok-flow.flow (e.flow honest level filled) e.drains)
+
+pub returns-clause-next : goal.returns-clause-next
+returns-clause-next g c honest level filled =
+    let a = c.args.samples.now in
+    let e = c.in_ok-flow.ensures in
+    let p = c.args.point in
+    let m = g.S.Samples.mosaic a in
+    let is = g.met.S.Samples.is_mosaic a (e.asked.reads.honest honest) in
+    let drains = subst (λ (o : Option Dir). IsDirection (terrain m) level p o) (sym c.direction.ensures ∙ c.in-Some.is) (flow_direction (terrain m) level p c.in_ok-flow.flow (e.flow honest level filled) e.drains) in
+    next_is (terrain m) (mosaic_is_grid m is) level (ground_fits m is) p c.in-Some.direction drains c.neighbour.result c.neighbour.ensures

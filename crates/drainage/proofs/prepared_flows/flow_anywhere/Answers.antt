@@ -1,0 +1,77 @@
+use Rattle.std.proofs.Common.{◌≤◌, IsTrue, List, length, sym, ◌∙◌, subst}
+use Rattle.std.proofs.lemmas.Result.{err_from_is_err_and}
+use Rattle.std.specs.Prelude.{IfOk}
+use Rattle.lattice.specs.Corners.{Corner}
+use Rattle.lattice.specs.Ground.{is_ground, terrain}
+use Rattle.lattice.specs.Limits.{most_tiles}
+use Rattle.lattice.specs.Mosaic.{Mosaic}
+use Rattle.catalogue.proofs.Asking.{asked_on, asked_refused}
+use Rattle.catalogue.proofs.Reading.{reads_as, reads_nothing}
+use Rattle.flow_d8.specs.LevelsAround.{OnLevels}
+use Rattle.watershed.specs.FlowSource.{IsToldOf}
+use Rattle.drainage.proofs.Followed.{held_still}
+use Rattle.drainage.proofs.Questioned.{answered, refused_by}
+use Rattle.drainage.proofs.Told.{told_of, no_ground, drained_told, draining_tells}
+use Rattle.drainage.proofs.prepared_flows.flow_anywhere.Goals as goal
+
+pub returns-then-drains-clause-flow : goal.returns-then-drains-clause-flow
+returns-then-drains-clause-flow g c honest level filled =
+    let m = g.S.Samples.mosaic c.args.samples.now in
+    told_of m level c.args.point c.flow-flow.result (c.flow-flow.ensures.flow m (c.requires.held honest) level filled) (draining_tells c.flow-flow.result (c.drains.ensures.0 c.if-drains.true))
+
+pub returns-then-drains-clause-held : goal.returns-then-drains-clause-held
+returns-then-drains-clause-held g c honest = c.flow-flow.ensures.left (g.S.Samples.mosaic c.args.samples.now) (c.requires.held honest)
+
+pub returns-then-drains-clause-asked : goal.returns-then-drains-clause-asked
+returns-then-drains-clause-asked g c = let a = c.args.samples.now in answered g.S.Samples a a _ (reads_nothing g.S.Samples g.met.S.Samples.keeps_itself a (tt {0}))
+
+pub returns-in_err-is_ground-clause-held : goal.returns-in_err-is_ground-clause-held
+returns-in_err-is_ground-clause-held g c =
+    let a = c.args.samples.now in
+    held_still g.S.Samples a c.is_ground.new.samples _ c.flow-flow.new.self c.in_err-is_ground.ensures.reads (λ honest. c.flow-flow.ensures.left (g.S.Samples.mosaic a) (c.requires.held honest))
+
+pub returns-in_err-is_ground-clause-asked : goal.returns-in_err-is_ground-clause-asked
+returns-in_err-is_ground-clause-asked g c =
+    let a = c.args.samples.now in
+    let b = c.is_ground.new.samples in
+    let r = c.in_err-is_ground.field-0.0 in
+    let p = err_from_is_err_and c.from_residual.result c.from_residual.ensures.1 in
+    refused_by g.S.Samples a b c.from_residual.result p.0 r p.1 p.2 (asked_refused g.S.Samples a b r c.in_err-is_ground.ensures.reads)
+
+pub returns-then-not-branch-clause-flow : goal.returns-then-not-branch-clause-flow
+returns-then-not-branch-clause-flow g c honest level filled =
+    let m = g.S.Samples.mosaic c.args.samples.now in
+    no_ground m level c.args.point (sym (c.in_ok-is_ground.ensures.value honest) ∙ c.if-not-branch.true)
+
+pub returns-then-not-branch-clause-held : goal.returns-then-not-branch-clause-held
+returns-then-not-branch-clause-held g c =
+    let a = c.args.samples.now in
+    held_still g.S.Samples a c.is_ground.new.samples _ c.flow-flow.new.self c.in_ok-is_ground.ensures.reads (λ honest. c.flow-flow.ensures.left (g.S.Samples.mosaic a) (c.requires.held honest))
+
+pub returns-then-not-branch-clause-asked : goal.returns-then-not-branch-clause-asked
+returns-then-not-branch-clause-asked g c =
+    let a = c.args.samples.now in
+    let b = c.is_ground.new.samples in
+    answered g.S.Samples a b _ (reads_as g.S.Samples a b c.in_ok-is_ground.field-0 (tt {0}) c.in_ok-is_ground.ensures.reads)
+
+pub flow_by_tiles-requires : goal.flow_by_tiles-requires
+flow_by_tiles-requires g c =
+    let a = c.args.samples.now in
+    let b = c.is_ground.new.samples in
+    let e = c.in_ok-is_ground.ensures in
+    record {
+      held = held_still g.S.Samples a b _ c.flow-flow.new.self e.reads (λ honest. c.flow-flow.ensures.left (g.S.Samples.mosaic a) (c.requires.held honest));
+      few = subst (λ (cs : List Corner). length cs ≤ most_tiles) (sym e.reads.corners) c.requires.few;
+      ground = λ honest. subst (λ (m : Mosaic). IsTrue (is_ground m c.args.point)) (sym (e.reads.mosaic honest)) (sym (e.value honest) ∙ c.if-not-branch.false);
+    }
+
+pub returns-clause-flow : goal.returns-clause-flow
+returns-clause-flow g c honest =
+    let e = c.in_ok-is_ground.ensures in
+    let mid = c.flow_by_tiles.ensures.asked.reads.honest honest in
+    subst (λ (m : Mosaic). IfOk c.flow_by_tiles.result (λ flow. OnLevels m (λ level. IsToldOf (terrain m) level c.args.point flow))) (e.reads.mosaic mid)
+    (drained_told (g.S.Samples.mosaic c.is_ground.new.samples) c.args.point c.flow_by_tiles.result (c.flow_by_tiles.ensures.flow honest) c.flow_by_tiles.ensures.drains)
+
+pub returns-clause-asked : goal.returns-clause-asked
+returns-clause-asked g c =
+    asked_on g.S.Samples g.met.S.Samples.keeps_on c.args.samples.now c.is_ground.new.samples c.flow_by_tiles.new.samples c.in_ok-is_ground.field-0 c.flow_by_tiles.result c.in_ok-is_ground.ensures.reads c.flow_by_tiles.ensures.asked

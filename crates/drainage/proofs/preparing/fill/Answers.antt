@@ -1,0 +1,68 @@
+use Rattle.std.proofs.Common.{SFits, w16, to_z, of_z, rules, ◌≡◌, ℕ, ◌+◌, ◌*◌, ◌/◌, ◌%◌, length, Ok, refl, sym, ap, ◌∙◌, subst}
+use Rattle.std.specs.Prelude.{slice_set}
+use Rattle.std.proofs.lemmas.Int.{to_z-of_z}
+use Rattle.std.proofs.lemmas.List.{length-set}
+use Rattle.std.proofs.lemmas.Result.{err_from_is_err_and}
+use Rattle.lattice.specs.declared.point.Point.{Point}
+use Rattle.flow_d8.specs.Padded.{padded_point}
+use Rattle.drainage.specs.TileLevels.{IsLevelOrVoid}
+use Rattle.lattice.specs.Mosaic.{Mosaic}
+use Rattle.catalogue.proofs.Reading.{reads_nothing, reads_on}
+use Rattle.drainage.specs.Padded.{AreFilledTo, IsStrip}
+use Rattle.drainage.proofs.PaddedLevels.{fill_none, fill_more}
+use Rattle.drainage.proofs.Questioned.{answered, asked_reads, refused_after}
+use Rattle.drainage.proofs.preparing.fill.Goals as goal
+
+pub loop-number-init : goal.loop-number-init
+loop-number-init g c = record {
+  reads = reads_nothing g.S.Samples g.met.S.Samples.keeps_itself c.args.samples.now (tt {0});
+  right = c.requires.right;
+  whole = refl;
+  filled = λ honest.
+      let a = c.args.samples.now in
+      let m = g.S.Samples.mosaic a in
+      fill_none m c.args.corner c.args.strip (subst (λ n. IsStrip n c.args.strip) (sym (g.met.S.Samples.same_side a honest)) c.requires.strip) c.args.levels.now;
+}
+
+pub loop-number-preserved : goal.loop-number-preserved
+loop-number-preserved g c =
+    let a = c.args.samples.now in
+    let laws = g.met.S.Samples in
+    let so = c.loop-number.invariant in
+    let told = c.in_ok-level.ensures in
+    let read = asked_reads g.S.Samples c.loop-number.samples c.level_of.new.samples _ told.asked in
+    let now = c.loop-number.levels in
+    let strip = c.args.strip in
+    let k = c.loop-number.number in
+    let v = to_z w16 (of_z w16 c.in_ok-level.level) in
+    let fits : SFits w16 c.in_ok-level.level = search rules in
+    let at : c.padded_place.result ≡ (strip.row + k / strip.columns) * (g.S.Samples.side_of a + 4) + (strip.column + k % strip.columns) =
+    c.padded_place.ensures.value ∙ ap (λ n. (strip.row + k / strip.columns) * (n + 4) + (strip.column + k % strip.columns)) c.side-side.ensures in
+    let i : ℕ = strip.row + k / strip.columns in
+    let j : ℕ = strip.column + k % strip.columns in
+    record {
+      reads = reads_on g.S.Samples laws.keeps_on a c.loop-number.samples c.level_of.new.samples tt (Ok tt) so.reads read;
+      right = told.right;
+      whole = length-set now c.padded_place.result v ∙ so.whole;
+      filled = λ honest.
+          let mid = read.honest honest in
+          let first = so.reads.honest mid in
+          let m = g.S.Samples.mosaic a in
+          let side : g.S.Samples.side_of a ≡ m.side = sym (laws.same_side a first) in
+          let is = subst (λ n. IsStrip n strip) side c.requires.strip in
+          let point = c.padded_point-point.result in
+          let here = subst (λ n. IsLevelOrVoid m (padded_point n c.args.corner i j) v) (c.side-side.ensures ∙ side)
+          (subst (λ (q : Point). IsLevelOrVoid m q v) c.padded_point-point.ensures
+          (subst (IsLevelOrVoid m point) (sym (to_z-of_z w16 c.in_ok-level.level fits)) (subst (λ (n : Mosaic). IsLevelOrVoid n point c.in_ok-level.level) (so.reads.mosaic mid) (told.level honest)))) in
+          let size = subst (λ n. length c.args.levels.now ≡ (n + 4) * (n + 4)) side c.requires.levels in
+          subst (λ e. AreFilledTo m c.args.corner strip (k + 1) c.args.levels.now (slice_set now e v)) (ap (λ n. i * (n + 4) + j) (sym side) ∙ sym at)
+          (fill_more m c.args.corner strip is c.args.levels.now now k v c.loop-number-test.true size here (so.filled mid));
+    }
+
+pub returns-clause-asked : goal.returns-clause-asked
+returns-clause-asked g c = answered g.S.Samples c.args.samples.now c.loop-number.samples _ c.loop-number.invariant.reads
+
+pub returns-in_err-level-clause-asked : goal.returns-in_err-level-clause-asked
+returns-in_err-level-clause-asked g c =
+    let p = err_from_is_err_and c.from_residual.result c.from_residual.ensures.1 in
+    refused_after g.S.Samples g.met.S.Samples.keeps_on c.args.samples.now c.loop-number.samples c.level_of.new.samples c.from_residual.result p.0 c.in_err-level.field-0.0 p.1 p.2 c.loop-number.invariant.reads c.in_err-level.ensures.asked

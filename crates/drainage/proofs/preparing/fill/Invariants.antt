@@ -1,0 +1,14 @@
+use Rattle.std.specs.Prelude.{◌≡◌, Ok, length}
+use Rattle.catalogue.specs.Readers.{OnlyReads}
+use Rattle.drainage.specs.Holding.{IsRight}
+use Rattle.drainage.specs.Padded.{AreFilledTo}
+use Rattle.drainage.specs.TileCaches.{known_of}
+use Rattle.drainage.proofs.preparing.fill.Given as goal
+
+abbrev pub invariant-loop-number : goal.invariant-loop-number
+invariant-loop-number g l = record {
+  reads : OnlyReads {T = Unit {0}} g.S.Samples l.fn.samples l.samples (Ok tt);
+  right : g.S.Samples.is_honest l.samples → IsRight (g.S.Samples.mosaic l.samples) (known_of l.tile_cache);
+  whole : length l.levels ≡ length l.fn.levels;
+  filled : g.S.Samples.is_honest l.samples → AreFilledTo (g.S.Samples.mosaic l.fn.samples) l.corner l.strip l.number l.fn.levels l.levels;
+}

@@ -1,0 +1,69 @@
+use Rattle.std.proofs.Common.{◌≡◌, ◌+◌, ◌*◌, Ok, refl, sym, ap, ◌∙◌, subst, arith}
+use Rattle.std.proofs.lemmas.Result.{err_from_is_err_and}
+use Rattle.lattice.specs.Mosaic.{Mosaic}
+use Rattle.catalogue.proofs.Reading.{reads_nothing, reads_on}
+use Rattle.drainage.specs.Padded.{AreFilledTo, IsStrip, strip_of}
+use Rattle.drainage.specs.declared.preparing.Strip.{Strip}
+use Rattle.drainage.proofs.PaddedLevels.{AreStripsTo, strips_none, strips_more, around_all}
+use Rattle.drainage.proofs.Questioned.{answered, asked_reads, refused_after}
+use Rattle.drainage.proofs.preparing.fill_around.Goals as goal
+
+pub loop-number-init : goal.loop-number-init
+loop-number-init g c = record {
+  reads = reads_nothing g.S.Samples g.met.S.Samples.keeps_itself c.args.samples.now (tt {0});
+  right = c.requires.right;
+  whole = refl;
+  filled = λ honest. strips_none (g.S.Samples.mosaic c.args.samples.now) c.args.corner c.args.levels.now;
+}
+
+pub fill-requires : goal.fill-requires
+fill-requires g c =
+    let so = c.loop-number.invariant in
+    record {
+      right = so.right;
+      levels = so.whole ∙ c.requires.levels ∙ ap (λ n. (n + 4) * (n + 4)) (sym so.reads.side);
+      strip = subst (λ n. IsStrip n c.strip_at-strip.result) c.side.ensures c.strip_at-strip.ensures.fits;
+    }
+
+pub loop-number-preserved : goal.loop-number-preserved
+loop-number-preserved g c =
+    let a = c.args.samples.now in
+    let laws = g.met.S.Samples in
+    let so = c.loop-number.invariant in
+    let told = c.in_ok-fill.ensures in
+    let read = asked_reads g.S.Samples c.loop-number.samples c.fill.new.samples _ told.asked in
+    let now = c.loop-number.levels in
+    let new = c.fill.new.levels in
+    let k = c.loop-number.number in
+    record {
+      reads = reads_on g.S.Samples laws.keeps_on a c.loop-number.samples c.fill.new.samples tt (Ok tt) so.reads read;
+      right = told.right;
+      whole = told.whole ∙ so.whole;
+      filled = λ honest.
+          let mid = read.honest honest in
+          let first = so.reads.honest mid in
+          let m = g.S.Samples.mosaic a in
+          let side : c.side.result ≡ m.side = c.side.ensures ∙ so.reads.side ∙ sym (laws.same_side a first) in
+          let strip : c.strip_at-strip.result ≡ strip_of m.side k = c.strip_at-strip.ensures.value ∙ ap (λ n. strip_of n k) side in
+          let more = subst (λ (n : Mosaic). AreFilledTo n c.args.corner c.strip_at-strip.result (c.strip_at-strip.result.rows * c.strip_at-strip.result.columns) now new) (so.reads.mosaic mid) (told.filled honest) in
+          strips_more m c.args.corner (laws.is_mosaic a first).side_low c.args.levels.now now new k (so.filled mid)
+          (subst (λ (s : Strip). AreFilledTo m c.args.corner s (s.rows * s.columns) now new) strip more);
+    }
+
+pub returns-in_err-fill-clause-asked : goal.returns-in_err-fill-clause-asked
+returns-in_err-fill-clause-asked g c =
+    let p = err_from_is_err_and c.from_residual.result c.from_residual.ensures.1 in
+    refused_after g.S.Samples g.met.S.Samples.keeps_on c.args.samples.now c.loop-number.samples c.fill.new.samples c.from_residual.result p.0 c.in_err-fill.field-0.0 p.1 p.2 c.loop-number.invariant.reads c.in_err-fill.ensures.asked
+
+pub returns-clause-filled : goal.returns-clause-filled
+returns-clause-filled g c honest =
+    let a = c.args.samples.now in
+    let so = c.loop-number.invariant in
+    let first = so.reads.honest honest in
+    let m = g.S.Samples.mosaic a in
+    let last : c.loop-number.number ≡ 4 = omega (arith, c.loop-number-test.false, c.loop-number.auto.number-end) in
+    around_all m c.args.corner (g.met.S.Samples.is_mosaic a first).side_low c.args.levels.now c.loop-number.levels
+    (subst (λ k. AreStripsTo m c.args.corner k c.args.levels.now c.loop-number.levels) last (so.filled honest))
+
+pub returns-clause-asked : goal.returns-clause-asked
+returns-clause-asked g c = answered g.S.Samples c.args.samples.now c.loop-number.samples _ c.loop-number.invariant.reads

@@ -1,0 +1,53 @@
+use Rattle.std.proofs.Common.{rules, ◌≡◌, ◌+◌, ◌*◌, ◌++◌, ℤ, Ok, List, length, take, drop, sym, ap, ◌∙◌, subst}
+use Rattle.std.proofs.lemmas.Result.{err_from_is_err_and}
+use Rattle.lattice.specs.Corners.{Corner}
+use Rattle.lattice.specs.Mosaic.{Mosaic}
+use Rattle.catalogue.proofs.Reading.{reads_on}
+use Rattle.tile_flood.specs.Raising.{AreTileLevels}
+use Rattle.flow_d8.specs.Padded.{ArePadded}
+use Rattle.drainage.specs.Padded.{IsTileCopied, IsFilledAround}
+use Rattle.drainage.proofs.PaddedLevels.{all_padded, vec_back}
+use Rattle.drainage.proofs.Questioned.{answered, asked_reads, refused_after}
+use Rattle.drainage.proofs.preparing.padded_levels.Goals as goal
+
+pub returns-in_err-fill_around-clause-asked : goal.returns-in_err-fill_around-clause-asked
+returns-in_err-fill_around-clause-asked g c =
+    let a = c.args.samples.now in
+    let b = c.tile_levels.new.samples in
+    let r = c.from_residual-in_err-fill_around in
+    let p = err_from_is_err_and r.result r.ensures.1 in
+    refused_after g.S.Samples g.met.S.Samples.keeps_on a b c.fill_around.new.samples r.result p.0 c.in_err-fill_around.field-0.0 p.1 p.2 (asked_reads g.S.Samples a b _ c.in_ok-tile.ensures.asked) c.in_err-fill_around.ensures.asked
+
+pub returns-clause-asked : goal.returns-clause-asked
+returns-clause-asked g c =
+    let a = c.args.samples.now in
+    let b = c.tile_levels.new.samples in
+    let d = c.fill_around.new.samples in
+    answered g.S.Samples a d _ (reads_on g.S.Samples g.met.S.Samples.keeps_on a b d tt (Ok tt) (asked_reads g.S.Samples a b _ c.in_ok-tile.ensures.asked) (asked_reads g.S.Samples b d _ c.in_ok-fill_around.ensures.asked))
+
+pub returns-clause-levels : goal.returns-clause-levels
+returns-clause-levels g c honest =
+    let a = c.args.samples.now in
+    let m = g.S.Samples.mosaic a in
+    let laws = g.met.S.Samples in
+    let told = c.in_ok-tile.ensures in
+    let filled = c.in_ok-fill_around.ensures in
+    let mid = filled.asked.reads.honest honest in
+    let before = told.asked.reads.honest mid in
+    let all = c.in_ok-levels.levels in
+    let first = c.deref_mut.result.now in
+    let copied = c.copy_tile.new.levels in
+    let new = c.fill_around.new.levels in
+    let len : all.len ≡ length all.items = search rules in
+    let whole : length copied ≡ length all.items = c.copy_tile.ensures.whole ∙ ap (λ (l : List ℤ). length l) c.deref_mut.ensures.value in
+    let inner = take all.len (copied ++ drop (length copied) all.items) in
+    let back : inner ≡ copied = vec_back all.len copied all.items whole len in
+    let new_whole : length new ≡ length inner = c.fill_around.ensures.whole ∙ ap (λ (l : List ℤ). length l) c.deref_mut-2.ensures.value in
+    let out = vec_back all.len new inner new_whole (len ∙ sym whole ∙ sym (ap (λ (l : List ℤ). length l) back)) in
+    let side : c.side-side.result ≡ m.side = c.side-side.ensures ∙ told.asked.reads.side ∙ sym (laws.same_side a before) in
+    let count : length first ≡ (c.side-side.result + 4) * (c.side-side.result + 4) = search rules in
+    let size = subst (λ n. length first ≡ (n + 4) * (n + 4)) side count in
+    let tile = subst (AreTileLevels m c.args.corner) (sym c.deref.ensures.value) (subst (λ (d : Corner). AreTileLevels m d c.in_ok-tile.tile.items) c.requires.corner (told.levels mid)) in
+    let copy = subst (λ n. IsTileCopied n n c.deref.result.now first copied) side c.copy_tile.ensures in
+    let around = subst (λ (l : List ℤ). IsFilledAround m c.args.corner l new) (c.deref_mut-2.ensures.value ∙ back) (subst (λ (n : Mosaic). IsFilledAround n c.args.corner c.deref_mut-2.result.now new) (told.asked.reads.mosaic mid) (filled.filled honest)) in
+    subst (ArePadded m c.args.corner) (sym out) (all_padded m c.args.corner (laws.is_mosaic a before).side_low c.deref.result.now first copied new size tile copy around)

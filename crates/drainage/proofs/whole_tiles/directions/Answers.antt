@@ -1,0 +1,78 @@
+use Rattle.std.proofs.Common.{rules, ◌≡◌, ◌*◌, ◌≤◌, ℕ, List, Ok, length, sym, ap, ◌∙◌, subst, arith}
+use Rattle.std.specs.Prelude.{IfErr}
+use Rattle.std.proofs.lemmas.Result.{err_from_is_err_and}
+use Rattle.lattice.specs.Corners.{Corner}
+use Rattle.lattice.specs.Ground.{terrain}
+use Rattle.lattice.specs.Lattice.{point_of}
+use Rattle.lattice.specs.Limits.{most_tiles}
+use Rattle.lattice.specs.Mosaic.{Mosaic}
+use Rattle.lattice.specs.declared.refusal.Refusal.TheVariants.{NoMemory}
+use Rattle.catalogue.proofs.Reading.{reads_nothing, reads_on}
+use Rattle.flow_d8.specs.LevelsAround.{OnLevels}
+use Rattle.watershed.specs.FlowSource.{IsToldOf}
+use Rattle.watershed.specs.Questions.{IsCodeOrNone, AreCodesTo}
+use Rattle.drainage.proofs.Questioned.{asked_reads, answered, refused_after, short_after, short_of_memory}
+use Rattle.drainage.proofs.WholeTiles.{code_more, no_codes, told_code}
+use Rattle.drainage.proofs.whole_tiles.directions.Goals as goal
+
+pub returns-in_err-codes-clause-asked : goal.returns-in_err-codes-clause-asked
+returns-in_err-codes-clause-asked g c =
+    let a = c.args.samples.now in
+    let memory : IfErr c.from_residual.result (λ r. r ≡ NoMemory) = search rules in
+    short_of_memory g.S.Samples a a c.from_residual.result (reads_nothing g.S.Samples g.met.S.Samples.keeps_itself a (tt {0})) memory
+
+pub loop-index-init : goal.loop-index-init
+loop-index-init g c = record {
+  reads = reads_nothing g.S.Samples g.met.S.Samples.keeps_itself c.args.samples.now (tt {0});
+  held = c.requires.held;
+  codes = λ honest.
+      let m = g.S.Samples.mosaic c.args.samples.now in
+      subst (λ (l : List ℕ). AreCodesTo m c.args.corner 0 l) (sym c.in_ok-codes.ensures.items) (no_codes m (g.met.S.Samples.is_mosaic c.args.samples.now honest) c.args.corner);
+}
+
+pub flow_anywhere-requires-clause-few : goal.flow_anywhere-requires-clause-few
+flow_anywhere-requires-clause-few g c = subst (λ (cs : List Corner). length cs ≤ most_tiles) (sym c.loop-index.invariant.reads.corners) c.requires.few
+
+pub loop-index-preserved : goal.loop-index-preserved
+loop-index-preserved g c =
+    let now = c.args.samples.now in
+    let so = c.loop-index.invariant in
+    let told = c.in_ok-flow.ensures in
+    let read = asked_reads g.S.Samples c.loop-index.samples c.flow_anywhere.new.samples _ told.asked in
+    record {
+      reads = reads_on g.S.Samples g.met.S.Samples.keeps_on now c.loop-index.samples c.flow_anywhere.new.samples tt (Ok tt) so.reads read;
+      held = told.held;
+      codes = λ honest.
+          let mid = read.honest honest in
+          let first = so.reads.honest mid in
+          let m = g.S.Samples.mosaic now in
+          let is = g.met.S.Samples.is_mosaic now first in
+          let side : c.side-side.result ≡ m.side = c.side-side.ensures ∙ sym (g.met.S.Samples.same_side now first) in
+          let there = subst (λ n. c.point_at-point.result ≡ point_of n c.args.corner c.loop-index.index) side c.point_at-point.ensures.value in
+          let flow = subst (λ (k : Mosaic). OnLevels k (λ level. IsToldOf (terrain k) level c.point_at-point.result c.in_ok-flow.flow)) (so.reads.mosaic mid) (told.flow honest) in
+          let code = subst (λ (k : ℕ). IsCodeOrNone m c.point_at-point.result k) (sym c.code_told.ensures) (told_code m is c.point_at-point.result c.in_ok-flow.flow flow) in
+          code_more m is c.args.corner c.loop-index.codes.items c.push.new.items.items c.loop-index.index c.code_told.result c.in_ok-push.ensures.pushed
+          (subst (λ p. IsCodeOrNone m p c.code_told.result) there code) (so.codes mid);
+    }
+
+pub returns-in_err-flow-clause-asked : goal.returns-in_err-flow-clause-asked
+returns-in_err-flow-clause-asked g c =
+    let p = err_from_is_err_and c.from_residual-in_err-flow.result c.from_residual-in_err-flow.ensures.1 in
+    refused_after g.S.Samples g.met.S.Samples.keeps_on c.args.samples.now c.loop-index.samples c.flow_anywhere.new.samples c.from_residual-in_err-flow.result p.0 c.in_err-flow.field-0.0 p.1 p.2 c.loop-index.invariant.reads c.in_err-flow.ensures.asked
+
+pub returns-in_err-push-clause-asked : goal.returns-in_err-push-clause-asked
+returns-in_err-push-clause-asked g c =
+    short_after g.S.Samples g.met.S.Samples.keeps_on c.args.samples.now c.loop-index.samples c.flow_anywhere.new.samples _ c.from_residual-in_err-push.result c.loop-index.invariant.reads c.in_ok-flow.ensures.asked (search rules)
+
+pub returns-clause-directions : goal.returns-clause-directions
+returns-clause-directions g c honest =
+    let now = c.args.samples.now in
+    let first = c.loop-index.invariant.reads.honest honest in
+    let m = g.S.Samples.mosaic now in
+    let last : c.loop-index.index ≡ c.area-index-end.result = omega (arith, c.loop-index-test.false, c.loop-index.auto.index-end) in
+    let side : c.side-side.result ≡ m.side = c.side-side.ensures ∙ sym (g.met.S.Samples.same_side now first) in
+    let count : c.area-index-end.result ≡ m.side * m.side = c.area-index-end.ensures.value ∙ ap (λ n. n * n) side in
+    subst (λ k. AreCodesTo m c.args.corner k c.loop-index.codes.items) (last ∙ count) (c.loop-index.invariant.codes honest)
+
+pub returns-clause-asked : goal.returns-clause-asked
+returns-clause-asked g c = answered g.S.Samples c.args.samples.now c.loop-index.samples _ c.loop-index.invariant.reads

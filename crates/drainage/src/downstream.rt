@@ -1,0 +1,209 @@
+//! Where the water of one point goes, by the flows of the tiles at hand.
+ghost use Rattle.std.specs.Prelude.{◌≡◌, ◌≤◌, ◌<◌, IsTrue, IfOk, IfErr, OnOk, length};
+ghost use Rattle.lattice.specs.Limits.{most_tiles};
+ghost use Rattle.lattice.specs.Ground.{is_ground, terrain};
+ghost use Rattle.catalogue.specs.Asked.{Asked};
+ghost use Rattle.catalogue.specs.Endings.{ends_any};
+ghost use Rattle.flow_d8.specs.LevelsAround.{OnLevels};
+ghost use Rattle.flow_d8.specs.Flows.{IsFlow, Drains};
+ghost use Rattle.flow_d8.specs.FlowGrids.{IsAtHand};
+ghost use Rattle.lattice.specs.declared.point.Point.{Point};
+ghost use Rattle.drainage.specs.Between.{AreFlowsFor, IsHeldFor};
+
+use crate::asking::present_holder;
+use crate::drainage_cache::DrainageCache;
+use crate::levels_near::near_levels;
+use crate::preparing::prepare;
+use catalogue::is_sink;
+use flow_d8::{Flow, FlowCache, flow_near};
+use lattice::{Point, Refusal};
+use std::alloc::Global;
+use tile_labellings::Labellings;
+
+/// Where the ground point drains: To, Beside, FlatTo or Outlet. Where that isn't held, its tile is prepared, and those over which
+/// its flat goes.
+///
+/// It is refused as a level is.
+pub(crate) fn flow_at<S: Labellings>(
+    alloc: Global,
+    samples: &mut S,
+    held: &mut DrainageCache,
+    point: Point,
+) -> Result<Flow, Refusal>
+    requires held { IsHeldFor S.Samples samples.old held.old }
+    requires few { length (S.corners samples.old) ≤ most_tiles }
+    requires ground { S.is_honest samples.old → IsTrue (is_ground (S.mosaic samples.old) point) }
+    ensures flow { S.is_honest samples.new → IfOk result (λ flow. OnLevels (S.mosaic samples.old) (λ level. IsFlow (terrain (S.mosaic samples.old)) level point flow)) }
+    ensures drains { IfOk result Drains }
+    ensures held { IsHeldFor S.Samples samples.new held.new }
+    ensures causes { IfErr result (λ r. IsTrue (ends_any r)) }
+    ensures asked { Asked S.Samples samples.old samples.new result }
+{
+    let flow = held.flow(point);
+    if flow.drains() {
+        return Ok(flow);
+    }
+    let flow = flow_by_levels(alloc, samples, held, point, flow)?;
+    if flow.drains() {
+        return Ok(flow);
+    }
+    flow_by_tiles(alloc, samples, held, point)
+}
+
+// Where the ground point drains as the levels at it and around it tell it, where no tile at hand tells more, and its tile isn't
+// due to be prepared; else what is known.
+fn flow_by_levels<S: Labellings>(
+    alloc: Global,
+    samples: &mut S,
+    held: &mut DrainageCache,
+    point: Point,
+    known: Flow,
+) -> Result<Flow, Refusal>
+    requires held { IsHeldFor S.Samples samples.old held.old }
+    requires ground { S.is_honest samples.old → IsTrue (is_ground (S.mosaic samples.old) point) }
+    requires known { S.is_honest samples.old → OnLevels (S.mosaic samples.old) (λ level. IsFlow (terrain (S.mosaic samples.old)) level point known) }
+    ensures flow { S.is_honest samples.new → IfOk result (λ flow. OnLevels (S.mosaic samples.old) (λ level. IsFlow (terrain (S.mosaic samples.old)) level point flow)) }
+    ensures held { IsHeldFor S.Samples samples.new held.new }
+    ensures causes { IfErr result (λ r. IsTrue (ends_any r)) }
+    ensures asked { Asked S.Samples samples.old samples.new result }
+{
+    if !matches!(known, Flow::Unknown) {
+        return Ok(known);
+    }
+    let Some(corner) = present_holder(samples, point) else {
+        return Ok(known);
+    };
+    if held.is_due(alloc, samples.side(), corner) {
+        return Ok(known);
+    }
+    let near = near_levels(alloc, samples, held, point)?;
+    Ok(flow_near(&near, is_sink(samples, point)))
+}
+
+/// Where the ground point drains, as the flows of its tile tell it, and of those over which its flat goes. These are prepared
+/// where they aren't at hand.
+pub(crate) fn flow_by_tiles<S: Labellings>(
+    alloc: Global,
+    samples: &mut S,
+    held: &mut DrainageCache,
+    point: Point,
+) -> Result<Flow, Refusal>
+    requires held { IsHeldFor S.Samples samples.old held.old }
+    requires few { length (S.corners samples.old) ≤ most_tiles }
+    requires ground { S.is_honest samples.old → IsTrue (is_ground (S.mosaic samples.old) point) }
+    ensures flow { S.is_honest samples.new → IfOk result (λ flow. OnLevels (S.mosaic samples.old) (λ level. IsFlow (terrain (S.mosaic samples.old)) level point flow)) }
+    ensures drains { IfOk result Drains }
+    ensures held { IsHeldFor S.Samples samples.new held.new }
+    ensures causes { IfErr result (λ r. IsTrue (ends_any r)) }
+    ensures asked { Asked S.Samples samples.old samples.new result }
+{
+    let mut flows = held.take_flow_cache(alloc, samples.side());
+    flows.make_room();
+    let found = prepared_flow(alloc, samples, held, &mut flows, point);
+    held.put_flow_cache(flows);
+    found
+}
+
+// Where the ground point drains, once its tile is at hand, and those over which its flat goes.
+fn prepared_flow<S: Labellings>(
+    alloc: Global,
+    samples: &mut S,
+    held: &mut DrainageCache,
+    flows: &mut FlowCache,
+    point: Point,
+) -> Result<Flow, Refusal>
+    requires held { IsHeldFor S.Samples samples.old held.old }
+    requires few { length (S.corners samples.old) ≤ most_tiles }
+    requires ground { S.is_honest samples.old → IsTrue (is_ground (S.mosaic samples.old) point) }
+    requires right { AreFlowsFor S.Samples samples.old flows.old }
+    ensures flow { S.is_honest samples.new → IfOk result (λ flow. OnLevels (S.mosaic samples.old) (λ level. IsFlow (terrain (S.mosaic samples.old)) level point flow)) }
+    ensures drains { IfOk result Drains }
+    ensures right { AreFlowsFor S.Samples samples.new flows.new }
+    ensures held { IsHeldFor S.Samples samples.new held.new }
+    ensures causes { IfErr result (λ r. IsTrue (ends_any r)) }
+    ensures asked { Asked S.Samples samples.old samples.new result }
+{
+    have_tile(alloc, samples, held, flows, point)?;
+    'tiles: while let Some(met) = flows.resolve(point)? {
+        have_flat(alloc, samples, held, flows, met)?;
+        let resolved = flows.known(point);
+        if resolved.drains() {
+            return Ok(resolved);
+        }
+    }
+    let flow = flows.known(point);
+    if !flow.drains() {
+        return Err(Refusal::Damaged);
+    }
+    Ok(flow)
+}
+
+// A tile that holds the ground point is at hand from then on, and those over which its flat goes from there. Each search begins
+// at the point that the last one met, so it ends near there, and goes over the whole flat once no tile of it is missing.
+fn have_flat<S: Labellings>(
+    alloc: Global,
+    samples: &mut S,
+    held: &mut DrainageCache,
+    flows: &mut FlowCache,
+    point: Point,
+) -> Result<(), Refusal>
+    requires held { IsHeldFor S.Samples samples.old held.old }
+    requires few { length (S.corners samples.old) ≤ most_tiles }
+    requires ground { S.is_honest samples.old → IsTrue (is_ground (S.mosaic samples.old) point) }
+    requires right { AreFlowsFor S.Samples samples.old flows.old }
+    ensures kept { (p : Point) → IsAtHand flows.old.grid.tiles p → IsAtHand flows.new.grid.tiles p }
+    ensures more { OnOk result ((IsAtHand flows.old.grid.tiles point → ⊥) → length flows.old.grid.tiles.corners < length flows.new.grid.tiles.corners) }
+    ensures bounded { length flows.new.grid.tiles.corners ≤ most_tiles }
+    ensures right { AreFlowsFor S.Samples samples.new flows.new }
+    ensures held { IsHeldFor S.Samples samples.new held.new }
+    ensures causes { IfErr result (λ r. IsTrue (ends_any r)) }
+    ensures asked { Asked S.Samples samples.old samples.new result }
+{
+    have_tile(alloc, samples, held, flows, point)?;
+    let mut last = point;
+    'tiles: while let Some(met) = flows.resolve(last)? {
+        have_tile(alloc, samples, held, flows, met)?;
+        last = met;
+    }
+    Ok(())
+}
+
+// A tile that holds the ground point is at hand from then on: where none was, one is prepared.
+fn have_tile<S: Labellings>(
+    alloc: Global,
+    samples: &mut S,
+    held: &mut DrainageCache,
+    flows: &mut FlowCache,
+    point: Point,
+) -> Result<(), Refusal>
+    requires held { IsHeldFor S.Samples samples.old held.old }
+    requires few { length (S.corners samples.old) ≤ most_tiles }
+    requires ground { S.is_honest samples.old → IsTrue (is_ground (S.mosaic samples.old) point) }
+    requires right { AreFlowsFor S.Samples samples.old flows.old }
+    ensures at_hand { OnOk result (IsAtHand flows.new.grid.tiles point) }
+    ensures kept { (p : Point) → IsAtHand flows.old.grid.tiles p → IsAtHand flows.new.grid.tiles p }
+    ensures more { OnOk result ((IsAtHand flows.old.grid.tiles point → ⊥) → length flows.old.grid.tiles.corners < length flows.new.grid.tiles.corners) }
+    ensures bounded { length flows.new.grid.tiles.corners ≤ most_tiles }
+    ensures right { AreFlowsFor S.Samples samples.new flows.new }
+    ensures held { IsHeldFor S.Samples samples.new held.new }
+    ensures causes { IfErr result (λ r. IsTrue (ends_any r)) }
+    ensures asked { Asked S.Samples samples.old samples.new result }
+{
+    let side = flows.side();
+    if flows.holds(point) {
+        return Ok(());
+    }
+    let Some(corner) = present_holder(samples, point) else {
+        return Err(Refusal::Damaged);
+    };
+    if side.samples() != samples.side().samples() {
+        return Err(Refusal::Damaged);
+    }
+    if flows.is_full() {
+        return Err(Refusal::Damaged);
+    }
+    let prepared = prepare(alloc, samples, held, corner)?;
+    let ranges = prepared.ranges;
+    flows.push(corner, &prepared.flows, ranges)?;
+    Ok(())
+}

@@ -1,0 +1,108 @@
+//! Flows that are prepared as a search comes to them.
+ghost use Rattle.std.specs.Prelude.{◌≡◌, ◌≤◌, ◌↔◌, IsTrue, IfOk, IfErr, length};
+ghost use Rattle.std.proofs.Common.{refl, ◌∙◌, subst, sym};
+ghost use Rattle.lattice.specs.Limits.{most_tiles};
+ghost use Rattle.lattice.specs.Ground.{terrain};
+ghost use Rattle.lattice.specs.Mosaic.{Mosaic, IsMosaic};
+ghost use Rattle.catalogue.specs.Asked.{Asked};
+ghost use Rattle.catalogue.specs.Endings.{ends_any};
+ghost use Rattle.flow_d8.specs.Drainage.{AreFilledLevels};
+ghost use Rattle.flow_d8.specs.LevelsAround.{OnLevels};
+ghost use Rattle.watershed.specs.FlowSource.{IsToldOf};
+ghost use Rattle.drainage.specs.Between.{IsHeldFor};
+ghost use Rattle.drainage.specs.Following.{AreRead, IsStopped, ran_out, stopped_on};
+ghost use Rattle.catalogue.proofs.Reading.{reads_nothing, reads_on};
+ghost use Rattle.std.specs.Prelude.{Ok};
+
+use crate::downstream::flow_by_tiles;
+use crate::drainage_cache::DrainageCache;
+use catalogue::is_ground;
+use flow_d8::Flow;
+use lattice::{Point, Refusal};
+use std::alloc::Global;
+use tile_labellings::Labellings;
+use watershed::FlowSource;
+
+/// The flows of samples, of which tiles are prepared where they aren't held.
+#[derive(Drop)]
+pub(crate) struct PreparedFlows<'a, 'b, S: Labellings> {
+    pub(crate) samples: &'a mut S,
+    pub(crate) held: &'b mut DrainageCache,
+}
+
+impl<'a, 'b, S: Labellings> FlowSource for PreparedFlows<'a, 'b, S> {
+    ghost tells = { λ flows m level. S.is_honest flows.samples.now × ((m ≡ S.mosaic flows.samples.now) × AreFilledLevels (terrain m) level) };
+
+    ghost is_ready = { λ flows. IsHeldFor S.Samples flows.samples.now flows.held.now × (length (S.corners flows.samples.now) ≤ most_tiles) };
+
+    // They are the same samples, and what is held is right for them.
+    ghost follows = { λ old new. (new.samples.ghost_name ≡ old.samples.ghost_name) × (new.held.ghost_name ≡ old.held.ghost_name) × (S.is_honest new.samples.now → S.is_honest old.samples.now) × (S.is_honest new.samples.now → S.mosaic new.samples.now ≡ S.mosaic old.samples.now) × IsHeldFor S.Samples new.samples.now new.held.now };
+
+    ghost keeps = { λ old new. AreRead S.Samples old.samples.now new.samples.now };
+
+    ghost refuses = { λ old new r. IsStopped S.Samples old.samples.now new.samples.now r };
+
+    fn flow(&mut self, alloc: Global, point: Point) -> Result<Flow, Refusal> {
+        flow_anywhere(alloc, self.samples, self.held, point)
+    }
+
+    fn flows_around(&self, point: Point) -> Option<[Flow; 8]> {
+        let around = self.held.flows_around(point)?;
+        if all_drain(&around) {
+            return Some(around);
+        }
+        None
+    }
+
+    ghost is_mosaic = { λ a m level told. subst IsMosaic (sym told.1.0) (S.is_mosaic a.samples.now told.0) };
+
+    ghost told_before = { λ a b m level follows told. (follows.2 told.0, (told.1.0 ∙ follows.3 told.0, told.1.1)) };
+
+    ghost follows_itself = { λ a ready. (refl, refl, (λ honest. honest), (λ _. refl), ready.0) };
+
+    ghost follows_on = { λ a b c first then. (then.0 ∙ first.0, then.1 ∙ first.1, (λ honest. first.2 (then.2 honest)), (λ honest. then.3 honest ∙ first.3 (then.2 honest)), then.4) };
+
+    ghost keeps_itself = { λ a. reads_nothing _ S.keeps_itself a.samples.now tt };
+
+    ghost keeps_on = { λ a b c first then. reads_on _ S.keeps_on a.samples.now b.samples.now c.samples.now tt (Ok tt) first then };
+
+    ghost refuses_on = { λ a b c r kept refused. stopped_on _ S.keeps_on a.samples.now b.samples.now c.samples.now r kept refused };
+
+    ghost runs_out = { λ a b kept. ran_out _ a.samples.now b.samples.now kept };
+}
+
+/// Where the point drains; NoGround where it isn't ground. That a point is none is told by its height alone, whatever is kept of
+/// its level.
+pub(crate) fn flow_anywhere<S: Labellings>(
+    alloc: Global,
+    samples: &mut S,
+    held: &mut DrainageCache,
+    point: Point,
+) -> Result<Flow, Refusal>
+    requires held { IsHeldFor S.Samples samples.old held.old }
+    requires few { length (S.corners samples.old) ≤ most_tiles }
+    ensures flow { S.is_honest samples.new → IfOk result (λ flow. OnLevels (S.mosaic samples.old)
+        (λ level. IsToldOf (terrain (S.mosaic samples.old)) level point flow)) }
+    ensures held { IsHeldFor S.Samples samples.new held.new }
+    ensures causes { IfErr result (λ r. IsTrue (ends_any r)) }
+    ensures asked { Asked S.Samples samples.old samples.new result }
+{
+    let flow = held.flow(point);
+    if flow.drains() {
+        return Ok(flow);
+    }
+    if !is_ground(samples, point)? {
+        return Ok(Flow::NoGround);
+    }
+    flow_by_tiles(alloc, samples, held, point)
+}
+
+// Whether each of them tells where its point drains.
+fn all_drain(around: &[Flow; 8]) -> bool {
+    for i in 0..8 {
+        if !around[i].drains() {
+            return false;
+        }
+    }
+    true
+}

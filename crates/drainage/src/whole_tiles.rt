@@ -1,0 +1,84 @@
+//! What is asked of all samples of a tile at once.
+ghost use Rattle.std.specs.Prelude.{◌≡◌, ◌≤◌, IsTrue, IfOk, IfErr, Contains, length};
+ghost use Rattle.lattice.specs.Limits.{most_tiles};
+ghost use Rattle.catalogue.specs.Asked.{Asked};
+ghost use Rattle.catalogue.specs.Endings.{ends_any};
+ghost use Rattle.tile_flood.specs.Raising.{AreTileLevels};
+ghost use Rattle.watershed.specs.Questions.{AreTileDirections};
+ghost use Rattle.drainage.specs.Between.{IsHeldFor};
+ghost use Rattle.drainage.specs.WholeTiles.{code_told};
+
+use crate::drainage_cache::DrainageCache;
+use crate::following::code;
+use crate::prepared_flows::flow_anywhere;
+use crate::tile_levels::{present_place, tile_levels};
+use flow_d8::Flow;
+use lattice::{Corner, Refusal, point_at, push};
+use std::alloc::Global;
+use tile_labellings::Labellings;
+
+// The code of a sample whose point isn't ground.
+const NO_GROUND: u8 = 255;
+
+/// The filled levels of all samples of the corner's tile, which is present, in metres: row by row from the north, west first;
+/// void where a sample's point isn't ground. Each is that of its point on the whole mosaic, as [`crate::fill`] answers it.
+/// What was held for the samples serves, and what is found is held then.
+///
+/// It is refused for want of memory, as a read or a labelling may be, or with Damaged where what was read is no mosaic's.
+pub fn levels<S: Labellings>(
+    alloc: Global,
+    samples: &mut S,
+    held: &mut DrainageCache,
+    corner: Corner,
+) -> Result<Vec<i16>, Refusal>
+    requires held { IsHeldFor S.Samples samples.old held.old }
+    requires present { Contains (S.corners samples.old) corner }
+    ensures levels { S.is_honest samples.new → IfOk result (λ levels. AreTileLevels (S.mosaic samples.old) corner levels.items) }
+    ensures causes { IfErr result (λ r. IsTrue (ends_any r)) }
+    ensures asked { Asked S.Samples samples.old samples.new result }
+    ensures held { IsHeldFor S.Samples samples.new held.new }
+{
+    let t = present_place(samples, corner)?;
+    let mut tile_cache = held.take(alloc, samples)?;
+    let levels = tile_levels(alloc, samples, &mut tile_cache, t);
+    held.put(tile_cache);
+    levels
+}
+
+/// The codes of the directions of all samples of the corner's tile, row by row from the north, west first, as
+/// [`crate::direction`] answers them; 255 where a sample's point isn't ground. What was held for the samples serves, and what
+/// is found is held then: the tile is prepared once, and each of its flats resolved once.
+///
+/// It is refused as the levels are.
+pub fn directions<S: Labellings>(
+    alloc: Global,
+    samples: &mut S,
+    held: &mut DrainageCache,
+    corner: Corner,
+) -> Result<Vec<u8>, Refusal>
+    requires held { IsHeldFor S.Samples samples.old held.old }
+    requires few { length (S.corners samples.old) ≤ most_tiles }
+    ensures directions { S.is_honest samples.new → IfOk result (λ codes. AreTileDirections (S.mosaic samples.old) corner codes.items) }
+    ensures causes { IfErr result (λ r. IsTrue (ends_any r)) }
+    ensures asked { Asked S.Samples samples.old samples.new result }
+    ensures held { IsHeldFor S.Samples samples.new held.new }
+{
+    let side = samples.side();
+    let mut codes = Vec::with_capacity(alloc, side.area() as usize)?;
+    for index in 0..side.area() {
+        let point = point_at(side, corner, index);
+        let flow = flow_anywhere(alloc, samples, held, point)?;
+        push(&mut codes, code_told(flow))?;
+    }
+    Ok(codes)
+}
+
+// The code of what is told of a sample's point.
+fn code_told(flow: Flow) -> u8
+    ensures { result ≡ code_told flow }
+{
+    match flow {
+        Flow::NoGround => NO_GROUND,
+        _ => code(flow.direction()),
+    }
+}

@@ -1,0 +1,20 @@
+-- Samples on closed edges, told one after another.
+use Rattle.std.proofs.Common.{◌≡◌, ◌∙◌, ℕ, ◌++◌, ℤ, List, length, take, drop, inl, inr, ⊎_elim, sym, ap, subst}
+use Rattle.std.proofs.Math.Seq.{take-append_seam}
+use Rattle.flow_d8.specs.declared.flow.Flow.{Flow}
+use Rattle.flow_d8.specs.declared.preparing.Sides.{Sides}
+use Rattle.flow_d8.specs.Preparing.{flow_in, IsClosedFlow, IsClosing}
+
+module _ (n : ℕ) (levels : List ℤ) (sides : Sides) where
+  pub closed_still : (old new : List Flow) → IsClosing n levels sides old new → (e : ℕ) → IsClosedFlow n levels sides e (flow_in old e) → IsClosedFlow n levels sides e (flow_in new e)
+  closed_still old new closing e at = ⊎_elim (λ same. subst (IsClosedFlow n levels sides e) (sym same) at) (λ told. told) (closing.each e)
+
+  pub closing_on : (first old new : List Flow) → IsClosing n levels sides first old → IsClosing n levels sides old new → IsClosing n levels sides first new
+  closing_on first old new was more = record {
+    whole = more.whole ∙ was.whole;
+    each = λ e. ⊎_elim (λ same. ⊎_elim (λ before. inl (same ∙ before)) (λ at. inr (closed_still old new more e at)) (was.each e)) (λ told. inr told) (more.each e);
+  }
+
+-- what is written through a slice of a whole list is the list
+pub vec_back : (len : ℕ) (new items : List Flow) → length new ≡ length items → len ≡ length items → take len (new ++ drop (length new) items) ≡ new
+vec_back len new items same is = ap (λ k. take k (new ++ drop (length new) items)) (is ∙ sym same) ∙ take-append_seam new (drop (length new) items)

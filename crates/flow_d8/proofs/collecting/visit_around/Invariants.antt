@@ -1,0 +1,11 @@
+use Rattle.std.proofs.Common.{◌<◌}
+use Rattle.flow_d8.specs.Prelude.{Dir, order_of}
+use Rattle.flow_d8.specs.Tiles.{by_of}
+use Rattle.flow_d8.specs.Marks.{IsSettled, Grows}
+use Rattle.flow_d8.proofs.collecting.visit_around.Given as goal
+
+abbrev pub invariant-loop-i : goal.invariant-loop-i
+invariant-loop-i l = record {
+  grows : Grows (by_of l.tiles) l.flows l.fn.marks l.fn.queue.items l.marks l.queue.items;
+  settled : (d : Dir) → order_of d < l.i → IsSettled l.flows l.marks (by_of l.tiles l.from d);
+}

@@ -1,7 +1,0 @@
-use Rattle.std.proofs.Common.{◌+◌, ◌<◌, ℕ, get_or}
-use Rattle.lattice.specs.Corners.{Corner}
-use Rattle.lattice.specs.Lattice.{IsBefore}
-use Rattle.flow_d8.proofs.filled.are_rising.Given as goal
-
-abbrev pub invariant-loop-i : goal.invariant-loop-i
-invariant-loop-i l = (k : ℕ) (d : Corner) → k + 1 < l.i → IsBefore (get_or l.corners k d) (get_or l.corners (k + 1) d)

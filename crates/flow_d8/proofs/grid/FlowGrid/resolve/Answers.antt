@@ -1,0 +1,47 @@
+use Rattle.std.proofs.Common.{◌≡◌, ℕ, get_or, List, ◌++◌, length, take, drop, sym, ◌∙◌, subst, IsTrue, IfOk, IfSome, IfNone}
+use Rattle.std.proofs.lemmas.List.{with_items_is}
+use Rattle.flow_d8.specs.Drainage.{CrossesFlat}
+use Rattle.flow_d8.specs.Prelude.{Flow, Unknown}
+use Rattle.flow_d8.specs.Flows.{AreFlows, Drains}
+use Rattle.flow_d8.specs.FlowGrids.{IsAtHand, flow_of}
+use Rattle.flow_d8.specs.Rounds.{Tells}
+use Rattle.flow_d8.specs.Tiles.{OnGround, IsSampleOf, place_of}
+use Rattle.flow_d8.proofs.grid.FlowGrid.resolve.Goals as goal
+
+pub returns-clause-flows : goal.returns-clause-flows
+returns-clause-flows c t level full are =
+    let s = c.args.self.now in
+    let ws = c.resolve_known.new.flows in
+    let same : take s.flows.len (ws ++ drop (length ws) s.flows.items) ≡ ws = with_items_is s.flows ws (c.resolve_known.ensures.whole ∙ c.deref_mut.ensures.len) in
+    subst (λ (l : List Flow). AreFlows t level (place_of s.tiles) l) (sym same)
+    (c.resolve_known.ensures.flows t level full (subst (λ (l : List Flow). AreFlows t level (place_of s.tiles) l) (sym c.deref_mut.ensures.value) are))
+
+pub returns-clause-met : goal.returns-clause-met
+returns-clause-met c =
+    let s = c.args.self.now in
+    subst (λ (l : List Flow). IfOk c.resolve_known.result (λ met. IfSome met (λ p. (IsAtHand s.tiles p → ⊥) × OnGround s.tiles l (λ t level. IsTrue (t.is_ground p))))) c.deref_mut.ensures.value c.resolve_known.ensures.met
+
+pub returns-clause-drains : goal.returns-clause-drains
+returns-clause-drains c =
+    let s = c.args.self.now in
+    let p = c.args.point in
+    let ws = c.resolve_known.new.flows in
+    let same : take s.flows.len (ws ++ drop (length ws) s.flows.items) ≡ ws = with_items_is s.flows ws (c.resolve_known.ensures.whole ∙ c.deref_mut.ensures.len) in
+    subst (λ (n : List Flow). IfOk c.resolve_known.result (λ met. IfNone met (IsAtHand s.tiles p → OnGround s.tiles s.flows.items (λ t level. IsTrue (t.is_ground p) → (j : ℕ) → CrossesFlat t level p j → Drains (flow_of s.tiles n p))))) (sym same)
+    (subst (λ (l : List Flow). IfOk c.resolve_known.result (λ met. IfNone met (IsAtHand s.tiles p → OnGround s.tiles l (λ t level. IsTrue (t.is_ground p) → (j : ℕ) → CrossesFlat t level p j → Drains (flow_of s.tiles ws p))))) c.deref_mut.ensures.value c.resolve_known.ensures.drains)
+
+pub returns-clause-samples : goal.returns-clause-samples
+returns-clause-samples c =
+    let s = c.args.self.now in
+    let p = c.args.point in
+    let ws = c.resolve_known.new.flows in
+    let same : take s.flows.len (ws ++ drop (length ws) s.flows.items) ≡ ws = with_items_is s.flows ws (c.resolve_known.ensures.whole ∙ c.deref_mut.ensures.len) in
+    subst (λ (n : List Flow). IfOk c.resolve_known.result (λ met. IfNone met ((k : ℕ) → IsSampleOf s.tiles p k → OnGround s.tiles s.flows.items (λ t level. IsTrue (t.is_ground p) → (j : ℕ) → CrossesFlat t level p j → Drains (get_or n k Unknown))))) (sym same)
+    (subst (λ (l : List Flow). IfOk c.resolve_known.result (λ met. IfNone met ((k : ℕ) → IsSampleOf s.tiles p k → OnGround s.tiles l (λ t level. IsTrue (t.is_ground p) → (j : ℕ) → CrossesFlat t level p j → Drains (get_or ws k Unknown))))) c.deref_mut.ensures.value c.resolve_known.ensures.samples)
+
+pub returns-clause-tells : goal.returns-clause-tells
+returns-clause-tells c =
+    let s = c.args.self.now in
+    let ws = c.resolve_known.new.flows in
+    let same : take s.flows.len (ws ++ drop (length ws) s.flows.items) ≡ ws = with_items_is s.flows ws (c.resolve_known.ensures.whole ∙ c.deref_mut.ensures.len) in
+    subst (λ (n : List Flow). Tells s.flows.items n) (sym same) (subst (λ (l : List Flow). Tells l ws) c.deref_mut.ensures.value c.resolve_known.ensures.tells)

@@ -1,0 +1,10 @@
+use Rattle.std.proofs.Common.{ℕ, ◌+◌, ◌*◌, ◌<◌}
+use Rattle.lattice.specs.declared.direction.Dir.{Dir}
+use Rattle.flow_d8.specs.Preparing.{flow_in, IsClosing, IsClosedAt, along_of, IsClosedFlow}
+use Rattle.flow_d8.proofs.preparing.close_sides.Given as goal
+
+abbrev pub invariant-loop-i : goal.invariant-loop-i
+invariant-loop-i l = record {
+  closing : IsClosing l.side l.levels l.sides l.fn.flows l.flows;
+  told : (d : Dir) (r s : ℕ) → IsClosedAt l.side l.sides d r s → along_of d r s < l.i → IsClosedFlow l.side l.levels l.sides (r * l.side + s) (flow_in l.flows (r * l.side + s));
+}

@@ -1,0 +1,9 @@
+use Rattle.std.proofs.Common.{◌≡◌, ◌+◌, ◌*◌, length}
+use Rattle.flow_d8.specs.Preparing.{AreEnded}
+use Rattle.flow_d8.proofs.preparing.tell_row.Given as goal
+
+abbrev pub invariant-loop-column : goal.invariant-loop-column
+invariant-loop-column l = record {
+  whole : length l.flows.items ≡ l.row * l.fn.side + l.column;
+  ended : AreEnded l.fn.side l.levels l.around (l.row * l.fn.side + l.column) l.flows.items;
+}

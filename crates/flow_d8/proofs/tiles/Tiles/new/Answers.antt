@@ -1,0 +1,18 @@
+use Rattle.std.proofs.Common.{ℕ, ◌<◌, IsTrue, List, length, get_or, subst, arith}
+use Rattle.std.specs.List.{AllAdjacentBelow}
+use Rattle.flow_d8.specs.Prelude.{Corner, is_corner, IsBefore}
+use Rattle.flow_d8.specs.Tiles.{no_corner}
+use Rattle.flow_d8.proofs.Slots.{distinct_from_rising}
+use Rattle.flow_d8.proofs.tiles.Tiles.new.Goals as goal
+
+pub invariant_of-result : goal.invariant_of-result
+invariant_of-result c =
+    let rising = subst (λ (l : List Corner). AllAdjacentBelow IsBefore l (length l)) c.deref-then-len.ensures.value (c.are_rising.ensures.0 c.if-are_rising.true) in
+    let valid = subst (λ (l : List Corner). (i : ℕ) → i < length l → IsTrue (is_corner (get_or l i no_corner))) c.deref.ensures.value c.see_corners.ensures in
+    record {
+      side_low = c.samples-low.ensures.low;
+      side_high = c.samples-low.ensures.high;
+      few = omega (arith, c.if-len.true, c.len.ensures, c.args.corners.ok.0);
+      distinct = distinct_from_rising c.args.corners.items rising;
+      corners = valid;
+    }

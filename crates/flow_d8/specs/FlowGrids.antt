@@ -1,0 +1,57 @@
+-- Tiles at hand, and what is known of the points of their samples.
+use Rattle.std.specs.Prelude.{◌≡◌, ◌≢◌, IsTrue, ℕ, ◌+◌, ◌*◌, ◌/◌, ◌<◌, ◌≤◌, ℤ, List, Contains, length, slice_index_or}
+use Rattle.flow_d8.specs.Prelude.{Corner, Holds, point_of, terrain, Mosaic, Terrain, Point, Flow, Unknown}
+use Rattle.flow_d8.specs.Filled.{number_of}
+use Rattle.flow_d8.specs.LevelsAround.{OnLevels}
+use Rattle.flow_d8.specs.PresentTiles.{corners_of}
+use Rattle.flow_d8.specs.Drainage.{CrossesFlat}
+use Rattle.flow_d8.specs.Flows.{IsFlow, IsTellingAll, AreFlows}
+use Rattle.flow_d8.specs.Tiles.{Tiles, no_corner, place_of}
+
+-- something is known of each
+abbrev pub AreKnown : List Flow → Type 0
+AreKnown flows = (k : ℕ) → k < length flows → slice_index_or flows k Unknown ≡ Unknown → ⊥
+
+-- each flow of the corner's tile is so
+abbrev pub AreFlowsIn : Terrain Point → (Point → ℤ) → ℕ → Corner → List Flow → Type 0
+AreFlowsIn t level n c flows = (e : ℕ) → e < n * n → IsFlow t level (point_of n c e) (slice_index_or flows e Unknown)
+
+-- .. on the mosaic
+abbrev pub AreTileFlows : Mosaic → Corner → List Flow → Type 0
+AreTileFlows m c flows = OnLevels m (λ level. AreFlowsIn (terrain m) level m.side c flows)
+
+-- what is right of a ground before is so after
+abbrev pub StayFlows : Tiles → List Flow → Tiles → List Flow → Type 0
+StayFlows tiles flows new_tiles new_flows = (t : Terrain Point) (level : Point → ℤ) → AreFlows t level (place_of tiles) flows → AreFlows t level (place_of new_tiles) new_flows
+
+-- what is known of the point: of its first sample at hand, or nothing where no tile at hand holds it
+abbrev pub flow_of : Tiles → List Flow → Point → Flow
+flow_of tiles flows p = slice_index_or flows (number_of tiles.side tiles.corners p) Unknown
+
+-- the tiles at hand are present, and what is known of their samples is so
+pub record IsGridOf (m : Mosaic) (tiles : Tiles) (flows : List Flow) : Type 0 where
+  pub same_side : tiles.side ≡ m.side
+  pub present : (i : ℕ) → i < length tiles.corners → Contains (corners_of m) (slice_index_or tiles.corners i no_corner)
+  pub told : OnLevels m (λ level. AreFlows (terrain m) level (place_of tiles) flows)
+
+-- some tile at hand holds the point
+abbrev pub IsAtHand : Tiles → Point → Type 0
+IsAtHand tiles p = (i : ℕ) × ((i < length tiles.corners) × Holds tiles.side (slice_index_or tiles.corners i no_corner) p)
+
+-- the flows of one slot are set to those that another had, so many a slot
+pub record AreMoved (area from to : ℕ) (old new : List Flow) : Type 0 where
+  pub whole : length new ≡ length old
+  pub moved : (e : ℕ) → e < area → slice_index_or new (to * area + e) Unknown ≡ slice_index_or old (from * area + e) Unknown
+  pub others : (k : ℕ) → k / area ≢ to → slice_index_or new k Unknown ≡ slice_index_or old k Unknown
+
+-- where the tiles at hand are more than nine of this side, they have no more samples than 256 MiB have bytes
+abbrev pub AreFewTiles : ℕ → ℕ → Type 0
+AreFewTiles n tiles = 9 < tiles → tiles * (n * n) ≤ 268435456
+
+-- each tells where its sample's point drains, or that it isn't ground
+abbrev pub AreTold : List Flow → Type 0
+AreTold flows = (k : ℕ) → k < length flows → IsTellingAll (slice_index_or flows k Unknown)
+
+-- each ground point is at hand, and some number of steps crosses its flat
+abbrev pub AreCrossed : Tiles → Terrain Point → (Point → ℤ) → Type 0
+AreCrossed tiles t level = (p : Point) → IsTrue (t.is_ground p) → IsAtHand tiles p × ((j : ℕ) × CrossesFlat t level p j)

@@ -1,0 +1,20 @@
+-- Steps between adjacent points, and those across a flat that lead out of it.
+use Rattle.std.specs.Prelude.{◌≡◌, ℤ, IsTrue}
+use Rattle.flow_d8.specs.Prelude.{Point, Dir, step, Terrain, IsLawful}
+use Rattle.flow_d8.specs.Drainage.{CrossesFlat}
+
+-- adjacency is between ground points and goes both ways, and adjacent points are a step apart
+pub record IsStepped (t : Terrain Point) : Type 0 where
+  pub lawful : IsLawful t
+  pub steps : (x y : Point) → IsTrue (t.is_adjacent x y) → (d : Dir) × (y ≡ step d x)
+
+module _ (t : Terrain Point) (level : Point → ℤ) where
+  -- y is adjacent to x and has its level
+  pub record IsAcross (x y : Point) : Type 0 where
+    pub beside : IsTrue (t.is_adjacent x y)
+    pub same_level : level y ≡ level x
+
+  -- a step across the flat to a point with a lower one beside it, or to an outlet
+  pub record LeadsToEnd (x : Point) (d : Dir) : Type 0 where
+    pub across : IsAcross x (step d x)
+    pub end : CrossesFlat t level (step d x) 0

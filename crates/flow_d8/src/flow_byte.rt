@@ -1,0 +1,89 @@
+//! A flow in one byte.
+ghost use Rattle.std.specs.Prelude.{◌≡◌};
+
+use crate::flow::Flow;
+use lattice::Dir;
+use std::marker::Model;
+
+/// A flow in one byte.
+#[derive(Clone, Copy)]
+pub struct FlowByte {
+    byte: u8,
+}
+
+impl Model for FlowByte {
+    ghost use Rattle.std.specs.Prelude.{◌<◌};
+    ghost use Rattle.std.proofs.Common.{ap};
+    ghost use Rattle.flow_d8.specs.declared.flow.Flow.{Flow};
+
+    ghost Value = { Flow };
+
+    ghost use Rattle.flow_d8.specs.FlowBytes.{flow_at, byte_of, byte_of_flow_at};
+
+    ghost view = { λ a. flow_at a.byte };
+
+    ghost invariant = { λ a. a.byte < 28 };
+
+    ghost inverse = { λ flow. record { byte = byte_of flow } };
+
+    ghost inverse_ok = { λ a small. ap (λ byte. record { byte = byte }) (byte_of_flow_at a.byte small) };
+}
+
+// The flows, by their bytes.
+const FLOWS: [Flow; 28] = [
+    Flow::Unknown,
+    Flow::NoGround,
+    Flow::Outlet,
+    Flow::Flat,
+    Flow::To(Dir::East),
+    Flow::To(Dir::SouthEast),
+    Flow::To(Dir::South),
+    Flow::To(Dir::SouthWest),
+    Flow::To(Dir::West),
+    Flow::To(Dir::NorthWest),
+    Flow::To(Dir::North),
+    Flow::To(Dir::NorthEast),
+    Flow::Beside(Dir::East),
+    Flow::Beside(Dir::SouthEast),
+    Flow::Beside(Dir::South),
+    Flow::Beside(Dir::SouthWest),
+    Flow::Beside(Dir::West),
+    Flow::Beside(Dir::NorthWest),
+    Flow::Beside(Dir::North),
+    Flow::Beside(Dir::NorthEast),
+    Flow::FlatTo(Dir::East),
+    Flow::FlatTo(Dir::SouthEast),
+    Flow::FlatTo(Dir::South),
+    Flow::FlatTo(Dir::SouthWest),
+    Flow::FlatTo(Dir::West),
+    Flow::FlatTo(Dir::NorthWest),
+    Flow::FlatTo(Dir::North),
+    Flow::FlatTo(Dir::NorthEast),
+];
+
+impl FlowByte {
+    /// The flow's byte.
+    #[inline(always)]
+    pub fn of(flow: Flow) -> FlowByte
+        ensures { result ≡ flow }
+    {
+        let byte = match flow {
+            Flow::Unknown => 0,
+            Flow::NoGround => 1,
+            Flow::Outlet => 2,
+            Flow::Flat => 3,
+            Flow::To(direction) => 4 + direction as u8,
+            Flow::Beside(direction) => 12 + direction as u8,
+            Flow::FlatTo(direction) => 20 + direction as u8,
+        };
+        FlowByte { byte }
+    }
+
+    /// The flow.
+    #[inline(always)]
+    pub fn flow(self) -> Flow
+        ensures { result ≡ self }
+    {
+        FLOWS[self.byte as usize]
+    }
+}

@@ -1,0 +1,335 @@
+//! Tiles at hand, and where the points of their samples drain.
+ghost use Rattle.std.specs.Prelude.{◌≡◌, ◌≢◌, ◌<◌, ◌≤◌, ◌*◌, ◌/◌, ◌+◌, ◌↔◌, ◌++◌, [], ◌∷◌, ℕ, ℤ, IsTrue, IsFalse, IfOk, IfSome, IfNone, OnOk, OnErr, length, slice_index_or, slice_set};
+ghost use Rattle.lattice.specs.Lattice.{Holds};
+ghost use Rattle.lattice.specs.Limits.{most_tiles};
+ghost use Rattle.lattice.specs.Terrain.{Terrain};
+ghost use Rattle.lattice.specs.declared.point.Point.{Point};
+ghost use Rattle.flow_d8.specs.Drainage.{CrossesFlat};
+ghost use Rattle.flow_d8.specs.Filled.{number_of};
+ghost use Rattle.flow_d8.specs.declared.flow.Flow.TheVariants.{Unknown, NoGround};
+ghost use Rattle.flow_d8.specs.Flows.{IsOfFlat, IsFlow, IsTellingAll, AreFlows, Drains};
+ghost use Rattle.flow_d8.specs.Rounds.{Tells};
+ghost use Rattle.flow_d8.specs.Tiles.{AreTiles, count_of, place_of, by_of, no_corner, IsInTile, IsSampleOf, OnGround};
+ghost use Rattle.flow_d8.specs.FlowGrids.{AreKnown, AreFlowsIn, AreMoved, AreTold, AreCrossed, StayFlows, flow_of, IsAtHand};
+ghost use Rattle.flow_d8.specs.FlowsAround.{AreTellingAround};
+
+use crate::around::flows_around;
+use crate::flow::Flow;
+use crate::flow_byte::FlowByte;
+use crate::marks::Marks;
+use crate::resolving::{Resolution, resolve};
+use crate::tiles::Tiles;
+use lattice::{Corner, Dir, Point, Side};
+use std::alloc::{AllocError, Global};
+
+/// Tiles at hand, each in a slot, and of each of their samples what is known of where its point drains.
+#[derive(Drop)]
+pub struct FlowGrid {
+    tiles: Tiles,
+    // Slot after slot.
+    flows: Vec<FlowByte>,
+    marks: Marks,
+    ghost whole: { length flows.items ≡ count_of tiles },
+    ghost known: { AreKnown flows.items },
+}
+
+impl FlowGrid {
+    /// No tile is at hand. Takes no memory.
+    pub fn new(alloc: Global, side: Side) -> FlowGrid
+        ensures side { result.tiles.side ≡ side }
+        ensures none { result.tiles.corners ≡ [] }
+    {
+        FlowGrid {
+            tiles: Tiles::none(alloc, side),
+            flows: Vec::new(alloc),
+            marks: Marks::new(alloc),
+        }
+    }
+
+    /// The side of its tiles.
+    pub fn side(&self) -> Side
+        ensures { result ≡ self.now.tiles.side }
+    {
+        self.tiles.side()
+    }
+
+    /// How many tiles are at hand.
+    pub fn count(&self) -> usize
+        ensures value { result ≡ length self.now.tiles.corners }
+        ensures valid { AreTiles self.now.tiles }
+    {
+        self.tiles.tiles()
+    }
+
+    /// What is known of the point; Unknown where no tile at hand holds it.
+    pub fn flow(&self, point: Point) -> Flow
+        ensures value { result ≡ flow_of self.now.tiles self.now.flows.items point }
+        ensures says { (t : Terrain Point) (level : Point → ℤ) → AreFlows t level (place_of self.now.tiles) self.now.flows.items → IsFlow t level point result }
+    {
+        let _valid = self.tiles.tiles();
+        let number = self.tiles.number(point);
+        if number < self.flows.len() {
+            flow_at(&self.flows, number)
+        } else {
+            Flow::Unknown
+        }
+    }
+
+    /// What is known of the sample; NoGround past all samples.
+    pub(crate) fn sample_flow(&self, k: usize) -> Flow
+        ensures { result ≡ slice_index_or self.now.flows.items k NoGround }
+    {
+        if k < self.flows.len() {
+            flow_at(&self.flows, k)
+        } else {
+            Flow::NoGround
+        }
+    }
+
+    /// The first sample of the point; past all samples where no tile at hand holds it.
+    pub(crate) fn number(&self, point: Point) -> usize
+        ensures { result ≡ number_of self.now.tiles.side self.now.tiles.corners point }
+    {
+        self.tiles.number(point)
+    }
+
+    /// The first sample of the point one step away; past all samples where no tile at hand holds it.
+    pub(crate) fn beside(&self, k: usize, direction: Dir) -> usize
+        requires { k < length self.now.flows.items }
+        ensures { result ≡ by_of self.now.tiles k direction }
+    {
+        self.tiles.beside(k, direction)
+    }
+
+    /// How many samples are at hand.
+    pub(crate) fn samples(&self) -> usize
+        ensures { result ≡ length self.now.flows.items }
+    {
+        self.flows.len()
+    }
+
+    /// Where its memory is from.
+    pub(crate) fn allocator(&self) -> Global {
+        *self.flows.allocator()
+    }
+
+    /// Whether a tile at hand holds the point.
+    pub fn holds(&self, point: Point) -> bool
+        ensures { IsTrue result ↔ IsAtHand self.now.tiles point }
+    {
+        let _valid = self.tiles.tiles();
+        self.tiles.number(point) < self.flows.len()
+    }
+
+    /// What is known of the point in the tile of this slot, if there is one that holds it.
+    pub fn flow_in(&self, slot: usize, point: Point) -> Option<Flow>
+        ensures { IfSome result (λ flow. (t : Terrain Point) (level : Point → ℤ) → AreFlows t level (place_of self.now.tiles) self.now.flows.items → IsFlow t level point flow) }
+    {
+        let number = self.sample_in(slot, point)?;
+        Some(flow_at(&self.flows, number))
+    }
+
+    /// The sample of the point in the tile of this slot, if there is one that holds it.
+    pub(crate) fn sample_in(&self, slot: usize, point: Point) -> Option<usize>
+        ensures some { IfSome result (λ k. IsSampleOf self.now.tiles point k × ((e : ℕ) → IsInTile self.now.tiles slot e → IsSampleOf self.now.tiles point e → e ≡ k)) }
+        ensures none { slot < length self.now.tiles.corners → IfNone result ((k : ℕ) → IsInTile self.now.tiles slot k → IsSampleOf self.now.tiles point k → ⊥) }
+    {
+        if slot >= self.tiles.tiles() {
+            return None;
+        }
+        self.tiles.sample_in(slot, point)
+    }
+
+    /// Where the points around this one drain, or that they aren't ground, in the order of the directions. None where the tile of
+    /// this slot doesn't tell it of all of them, or holds the point less than two samples from an edge.
+    pub fn flows_around(&self, slot: usize, point: Point) -> Option<[Flow; 8]>
+        ensures { IfSome result (λ around. (t : Terrain Point) (level : Point → ℤ) → AreFlows t level (place_of self.now.tiles) self.now.flows.items → AreTellingAround t level point around) }
+    {
+        if slot >= self.tiles.tiles() {
+            return None;
+        }
+        let number = self.tiles.sample_in(slot, point)?;
+        flows_around(&self.tiles, &self.flows, number)
+    }
+
+    /// Resolves the flat that the point lies on. None where that is done, or the point lies on none. Else a point that the flat
+    /// reaches: no tile at hand holds it.
+    pub fn resolve(&mut self, point: Point) -> Result<Option<Point>, AllocError>
+        ensures tiles { self.new.tiles ≡ self.old.tiles }
+        ensures flows { OnGround self.old.tiles self.old.flows.items (λ t level. AreFlows t level (place_of self.new.tiles) self.new.flows.items) }
+        ensures met { IfOk result (λ met. IfSome met (λ p. (IsAtHand self.old.tiles p → ⊥) × OnGround self.old.tiles self.old.flows.items (λ t level. IsTrue (t.is_ground p)))) }
+        ensures drains { IfOk result (λ met. IfNone met (IsAtHand self.old.tiles point → OnGround self.old.tiles self.old.flows.items (λ t level. IsTrue (t.is_ground point)
+            → (j : ℕ) → CrossesFlat t level point j → Drains (flow_of self.new.tiles self.new.flows.items point)))) }
+        ensures samples { IfOk result (λ met. IfNone met ((k : ℕ) → IsSampleOf self.old.tiles point k → OnGround self.old.tiles self.old.flows.items (λ t level. IsTrue (t.is_ground point)
+            → (j : ℕ) → CrossesFlat t level point j → Drains (slice_index_or self.new.flows.items k Unknown)))) }
+        ensures tells { Tells self.old.flows.items self.new.flows.items }
+    {
+        resolve_known(&mut self.flows, &self.tiles, &mut self.marks, point)
+    }
+
+    /// Resolves each flat, so that each sample tells where its point drains. Whether that could be done: not where this is the
+    /// grid of no ground whose points are all at hand.
+    pub fn resolve_all(&mut self) -> Result<bool, AllocError>
+        ensures tiles { self.new.tiles ≡ self.old.tiles }
+        ensures flows { OnGround self.old.tiles self.old.flows.items (λ t level. AreFlows t level (place_of self.new.tiles) self.new.flows.items) }
+        ensures told { IfOk result (λ done. IsTrue done → AreTold self.new.flows.items) }
+        ensures failed { IfOk result (λ done. IsFalse done → OnGround self.old.tiles self.old.flows.items (λ t level. AreCrossed self.old.tiles t level → ⊥)) }
+    {
+        for k in 0..self.flows.len() {
+            if !self.resolve_at(k)? {
+                return Ok(false);
+            }
+        }
+        Ok(true)
+    }
+
+    // Resolves the flat of the sample's point, where the sample doesn't tell all yet. Whether it does then.
+    fn resolve_at(&mut self, k: usize) -> Result<bool, AllocError>
+        requires { k < length self.old.flows.items }
+        ensures tiles { self.new.tiles ≡ self.old.tiles }
+        ensures flows { OnGround self.old.tiles self.old.flows.items (λ t level. AreFlows t level (place_of self.new.tiles) self.new.flows.items) }
+        ensures tells { Tells self.old.flows.items self.new.flows.items }
+        ensures told { IfOk result (λ told. IsTrue told → IsTellingAll (slice_index_or self.new.flows.items k Unknown)) }
+        ensures failed { IfOk result (λ told. IsFalse told → OnGround self.old.tiles self.old.flows.items (λ t level. AreCrossed self.old.tiles t level → ⊥)) }
+    {
+        if self.tells_all_at(k) {
+            return Ok(true);
+        }
+        let point = self.tiles.point(k);
+        match self.resolve(point)? {
+            Some(_) => Ok(false),
+            None => Ok(self.tells_all_at(k)),
+        }
+    }
+
+    fn tells_all_at(&self, k: usize) -> bool
+        requires { k < length self.now.flows.items }
+        ensures { IsTrue result ↔ IsTellingAll (slice_index_or self.now.flows.items k Unknown) }
+    {
+        flow_at(&self.flows, k).tells_all()
+    }
+
+    /// The corner's tile comes to hand, in the last slot, with what is known of its samples. Nothing changes where there is no
+    /// memory for it.
+    pub fn push(&mut self, corner: Corner, flows: &[FlowByte]) -> Result<(), AllocError>
+        requires few { length self.old.tiles.corners < most_tiles }
+        requires other { (i : ℕ) → i < length self.old.tiles.corners → slice_index_or self.old.tiles.corners i no_corner ≡ corner → ⊥ }
+        requires whole { length flows.now ≡ self.old.tiles.side * self.old.tiles.side }
+        requires known { AreKnown flows.now }
+        ensures side { self.new.tiles.side ≡ self.old.tiles.side }
+        ensures corners { OnOk result (self.new.tiles.corners ≡ self.old.tiles.corners ++ corner ∷ []) }
+        ensures kept { (p : Point) → IsAtHand self.old.tiles p → IsAtHand self.new.tiles p }
+        ensures here { OnOk result ((p : Point) → Holds self.old.tiles.side corner p → IsAtHand self.new.tiles p) }
+        ensures flows { OnOk result ((t : Terrain Point) (level : Point → ℤ) → AreFlowsIn t level self.old.tiles.side corner flows.now
+            → AreFlows t level (place_of self.old.tiles) self.old.flows.items → AreFlows t level (place_of self.new.tiles) self.new.flows.items) }
+        ensures failed { OnErr result ((self.new.tiles ≡ self.old.tiles) × (self.new.flows.items ≡ self.old.flows.items)) }
+    {
+        let _valid = self.tiles.tiles();
+        let count = self.flows.len();
+        self.flows.extend_from_slice(flows)?;
+        match self.tiles.push(corner) {
+            Ok(()) => Ok(()),
+            Err(refused) => {
+                self.flows.truncate(count);
+                Err(refused)
+            }
+        }
+    }
+
+    /// Gives up the tile in this slot: the last one comes into its place.
+    pub fn swap_remove(&mut self, slot: usize)
+        requires { slot < length self.old.tiles.corners }
+        ensures side { self.new.tiles.side ≡ self.old.tiles.side }
+        ensures count { length self.new.tiles.corners + 1 ≡ length self.old.tiles.corners }
+        ensures moved { slot < length self.new.tiles.corners → slice_index_or self.new.tiles.corners slot no_corner ≡ slice_index_or self.old.tiles.corners (length self.new.tiles.corners) no_corner }
+        ensures kept { (i : ℕ) → i ≢ slot → i < length self.new.tiles.corners → slice_index_or self.new.tiles.corners i no_corner ≡ slice_index_or self.old.tiles.corners i no_corner }
+        ensures flows { StayFlows self.old.tiles self.old.flows.items self.new.tiles self.new.flows.items }
+    {
+        let area = self.tiles.side().area() as usize;
+        let last = self.tiles.tiles() - 1;
+        cut(&mut self.flows, area, last, slot);
+        self.tiles.swap_remove(slot);
+    }
+}
+
+// Resolves the flat that the point lies on. None where that is done, or the point lies on none; else a point that the flat
+// reaches, and that no tile at hand holds.
+fn resolve_known(
+    flows: &mut [FlowByte],
+    tiles: &Tiles,
+    marks: &mut Marks,
+    point: Point,
+) -> Result<Option<Point>, AllocError>
+    requires whole { length flows.old ≡ count_of tiles.now }
+    requires known { AreKnown flows.old }
+    ensures whole { length flows.new ≡ length flows.old }
+    ensures known { AreKnown flows.new }
+    ensures flows { OnGround tiles.now flows.old (λ t level. AreFlows t level (place_of tiles.now) flows.new) }
+    ensures met { IfOk result (λ met. IfSome met (λ p. (IsAtHand tiles.now p → ⊥) × OnGround tiles.now flows.old (λ t level. IsTrue (t.is_ground p)))) }
+    ensures drains { IfOk result (λ met. IfNone met (IsAtHand tiles.now point → OnGround tiles.now flows.old (λ t level. IsTrue (t.is_ground point)
+        → (j : ℕ) → CrossesFlat t level point j → Drains (flow_of tiles.now flows.new point)))) }
+    ensures samples { IfOk result (λ met. IfNone met ((k : ℕ) → IsSampleOf tiles.now point k → OnGround tiles.now flows.old (λ t level. IsTrue (t.is_ground point)
+        → (j : ℕ) → CrossesFlat t level point j → Drains (slice_index_or flows.new k Unknown)))) }
+    ensures tells { Tells flows.old flows.new }
+{
+    let _valid = tiles.tiles();
+    match resolve(flows, tiles, marks, point)? {
+        Resolution::Meets(met) => Ok(Some(met)),
+        Resolution::Resolved | Resolution::NotFlat => Ok(None),
+    }
+}
+
+#[inline(always)]
+fn flow_at(flows: &[FlowByte], k: usize) -> Flow
+    requires { k < length flows.now }
+    ensures { result ≡ slice_index_or flows.now k Unknown }
+{
+    flows[k].flow()
+}
+
+#[inline(always)]
+fn set_flow(flows: &mut [FlowByte], k: usize, flow: Flow)
+    requires { k < length flows.old }
+    ensures { flows.new ≡ slice_set flows.old k flow }
+{
+    flows[k] = FlowByte::of(flow);
+}
+
+// The flows of the last slot take the place of those of this one, so many a slot.
+fn cut(flows: &mut Vec<FlowByte>, area: usize, last: usize, slot: usize)
+    requires some { 0 < area }
+    requires whole { length flows.old.items ≡ last * area + area }
+    requires slot { slot ≤ last }
+    ensures whole { length flows.new.items ≡ last * area }
+    ensures moved { slot < last → (e : ℕ) → e < area → slice_index_or flows.new.items (slot * area + e) Unknown ≡ slice_index_or flows.old.items (last * area + e) Unknown }
+    ensures others { (k : ℕ) → k < last * area → k / area ≢ slot → slice_index_or flows.new.items k Unknown ≡ slice_index_or flows.old.items k Unknown }
+{
+    move_tile(flows, area, last, slot);
+    flows.truncate(last * area);
+}
+
+// The flows of one slot are set to those of another, so many a slot.
+fn move_tile(flows: &mut [FlowByte], area: usize, from: usize, to: usize)
+    requires some { 0 < area }
+    requires from { from * area + area ≤ length flows.old }
+    requires to { to * area + area ≤ length flows.old }
+    ensures { AreMoved area from to flows.old flows.new }
+{
+    if from != to {
+        copy_tile(flows, area, from, to);
+    }
+}
+
+// .. where it isn't the same.
+fn copy_tile(flows: &mut [FlowByte], area: usize, from: usize, to: usize)
+    requires some { 0 < area }
+    requires apart { from ≢ to }
+    requires from { from * area + area ≤ length flows.old }
+    requires to { to * area + area ≤ length flows.old }
+    ensures { AreMoved area from to flows.old flows.new }
+{
+    for i in 0..area {
+        let flow = flow_at(flows, from * area + i);
+        set_flow(flows, to * area + i, flow);
+    }
+}

@@ -1,0 +1,383 @@
+//! The flows of a tile's samples by the filled levels of the tile and of the points around it: all but the directions of
+//! points inside flats that lie beside no end.
+ghost use Rattle.std.specs.Prelude.{◌≡◌, ◌↔◌, ◌⊎◌, ℕ, ◌+◌, ◌*◌, ◌^◌, ◌<◌, ◌≤◌, false, Bool, IsTrue, IfOk, MatchOption, ℤ, pos, negsuc, ◌+ℤ◌, ◌-ℤ◌, ◌≤ℤ◌, length, slice_index_or, if◌then◌else◌};
+ghost use Rattle.lattice.specs.Mosaic.{Mosaic, IsMosaic, void};
+ghost use Rattle.lattice.specs.Terrain.{Terrain};
+ghost use Rattle.lattice.specs.declared.point.Point.{Point};
+ghost use Rattle.lattice.specs.declared.direction.Dir.{Dir};
+ghost use Rattle.lattice.specs.declared.direction.Dir.TheVariants.{North, East, South, West};
+ghost use Rattle.flow_d8.specs.Places.{place_by, IsInner};
+ghost use Rattle.flow_d8.specs.declared.flow.Flow.TheVariants.{Unknown, Outlet, Flat, Beside};
+ghost use Rattle.flow_d8.specs.FlowGrids.{AreKnown, AreTileFlows};
+ghost use Rattle.flow_d8.specs.Padded.{IsPaddedTile, padded_point as point_in};
+ghost use Rattle.flow_d8.specs.Preparing.{flow_in, IsLocal, IsPlain, IsEnd, IsPlaceFlow, IsSinkPlace, IsDrainedAt, AreDrained, AreSunkFlows, IsEndBeside, IsFirstEndBeside, IsEnded, AreEnded, place_in, leads_over, IsFlowWithout, IsClosedAt, along_of, IsClosedFlow, IsClosing};
+
+use crate::flow::Flow;
+use crate::flow_byte::FlowByte;
+use crate::local_flow::local_flow_at;
+use lattice::{Corner, DIRECTIONS, Dir, Point, Side, VOID, point_at};
+use std::alloc::{AllocError, Global};
+
+/// Whether the tiles across the edges of a tile are present.
+#[derive(Clone, Copy, Debug, PartialEq, Eq)]
+pub struct Sides {
+    pub north: bool,
+    pub east: bool,
+    pub south: bool,
+    pub west: bool,
+}
+
+/// The flows of the tile's samples, by the filled levels of the tile and of two rows and columns around it (void where a
+/// point isn't ground), its sides and the declared sinks. Of points inside flats it is told whether an end of their level
+/// lies beside them, and the first step to one.
+pub fn prepare(
+    alloc: Global,
+    side: Side,
+    corner: Corner,
+    levels: &[i16],
+    sides: &Sides,
+    sinks: &[Point],
+) -> Result<Vec<FlowByte>, AllocError>
+    requires { length levels.now ≡ (side + 4) * (side + 4) }
+    ensures whole { IfOk result (λ flows. length flows.items ≡ side * side) }
+    ensures known { IfOk result (λ flows. AreKnown flows.items) }
+    ensures flows { IfOk result (λ flows. (m : Mosaic) → IsMosaic m → m.side ≡ side → IsPaddedTile m corner levels.now sides.now sinks.now → AreTileFlows m corner flows.items) }
+{
+    let mut around = vec![in alloc; FlowByte::of(Flow::Unknown); levels.len()]?;
+    tell_around(side, corner, levels, sinks, &mut around);
+    let mut flows = told_samples(alloc, side, levels, &around)?;
+    close_sides(side, levels, sides, &mut flows);
+    Ok(flows)
+}
+
+// The flows of the tile's places and those one around it.
+fn tell_around(side: Side, corner: Corner, levels: &[i16], sinks: &[Point], flows: &mut [FlowByte])
+    requires levels { length levels.now ≡ (side + 4) * (side + 4) }
+    requires flows { length flows.old ≡ length levels.now }
+    ensures whole { length flows.new ≡ length flows.old }
+    ensures told { AreSunkFlows side corner levels.now sinks.now flows.new }
+{
+    tell_places(side, levels, flows);
+    drain_sinks(side, corner, sinks, flows);
+}
+
+fn tell_places(side: Side, levels: &[i16], flows: &mut [FlowByte])
+    requires levels { length levels.now ≡ (side + 4) * (side + 4) }
+    requires flows { length flows.old ≡ length levels.now }
+    ensures whole { length flows.new ≡ length flows.old }
+    ensures told { (k : ℕ) → IsInner (side + 4) (length levels.now) k → IsPlaceFlow levels.now (side + 4) k (flow_in flows.new k) }
+{
+    let width = width(side);
+    for k in width + 1..levels.len() - (width + 1) {
+        flows[k] = FlowByte::of(local_flow_at(levels, width, k));
+    }
+}
+
+// Water leaves at the sinks among the places inside flats.
+fn drain_sinks(side: Side, corner: Corner, sinks: &[Point], flows: &mut [FlowByte])
+    requires { length flows.old ≡ (side + 4) * (side + 4) }
+    ensures { AreDrained side corner sinks.now flows.old flows.new }
+{
+    for i in 0..sinks.len() {
+        drain(side, corner, sinks[i], flows);
+    }
+}
+
+fn drain(side: Side, corner: Corner, sink: Point, flows: &mut [FlowByte])
+    requires { length flows.old ≡ (side + 4) * (side + 4) }
+    ensures { IsDrainedAt side corner sink flows.old flows.new }
+{
+    let Some(place) = place_of(side, corner, sink) else {
+        return;
+    };
+    if is_flat(flows, place) {
+        flows[place] = FlowByte::of(Flow::Outlet);
+    }
+}
+
+fn is_flat(flows: &[FlowByte], k: usize) -> bool
+    requires { k < length flows.now }
+    ensures { IsTrue result ↔ (flow_in flows.now k ≡ Flat) }
+{
+    matches!(flows[k].flow(), Flow::Flat)
+}
+
+// The place of the point, in the tile or one around it.
+fn place_of(side: Side, corner: Corner, point: Point) -> Option<usize>
+    ensures { MatchOption result ((k : ℕ) → IsSinkPlace side corner point k → ⊥) (λ k. IsSinkPlace side corner point k × ((j : ℕ) → IsSinkPlace side corner point j → j ≡ k)) }
+{
+    let _small = side.samples();
+    let first = point_at(side, corner, 0);
+    let row = inner_place(side, place_along(point.y, first.y))?;
+    let column = inner_place(side, place_along(first.x, point.x))?;
+    Some(row * width(side) + column)
+}
+
+// How far the one value lies from the other, from two places before on.
+fn place_along(from: i32, to: i32) -> i64
+    ensures { result ≡ (to -ℤ from) +ℤ pos 2 }
+{
+    i64::from(to) - i64::from(from) + 2
+}
+
+// The row or column, where it isn't the first or the last.
+fn inner_place(side: Side, place: i64) -> Option<usize>
+    ensures { MatchOption result ((k : ℕ) → 1 ≤ k → k < side + 3 → place ≡ pos k → ⊥) (λ k. (1 ≤ k) × (k < side + 3) × (place ≡ pos k)) }
+{
+    if place < 1 {
+        return None;
+    }
+    if place >= i64::from(side.samples()) + 3 {
+        return None;
+    }
+    Some(place as usize)
+}
+
+/// The point of the place in this row and column of a tile's levels and those around it.
+pub fn padded_point(side: Side, corner: Corner, row: usize, column: usize) -> Point
+    requires row { row < side + 4 }
+    requires column { column < side + 4 }
+    ensures { result ≡ point_in side corner row column }
+{
+    let _small = side.samples();
+    let first = point_at(side, corner, 0);
+    let y = moved(first.y, 2 - row as i64);
+    let x = moved(first.x, column as i64 - 2);
+    Point { y, x }
+}
+
+// The value so much greater.
+fn moved(value: i32, by: i64) -> i32
+    requires low { negsuc 1000000 ≤ℤ value }
+    requires high { value ≤ℤ pos 1000000 }
+    requires by_low { negsuc 10000 ≤ℤ by }
+    requires by_high { by ≤ℤ pos 10000 }
+    ensures { result ≡ value +ℤ by }
+{
+    (i64::from(value) + by) as i32
+}
+
+// How many places a row has.
+fn width(side: Side) -> usize
+    ensures value { result ≡ side + 4 }
+    ensures low { 7 ≤ result }
+    ensures high { result ≤ 3605 }
+{
+    side.samples() as usize + 4
+}
+
+// The flows of the tile's samples, by those of its places and the places around it.
+fn told_samples(
+    alloc: Global,
+    side: Side,
+    levels: &[i16],
+    around: &[FlowByte],
+) -> Result<Vec<FlowByte>, AllocError>
+    requires levels { length levels.now ≡ (side + 4) * (side + 4) }
+    requires around { length around.now ≡ length levels.now }
+    ensures whole { IfOk result (λ flows. length flows.items ≡ side * side) }
+    ensures ended { IfOk result (λ flows. AreEnded side levels.now around.now (side * side) flows.items) }
+{
+    let mut flows = Vec::with_capacity(alloc, side.area() as usize)?;
+    for row in 0..side.samples() as usize {
+        tell_row(side, levels, around, row, &mut flows)?;
+    }
+    Ok(flows)
+}
+
+fn tell_row(
+    side: Side,
+    levels: &[i16],
+    around: &[FlowByte],
+    row: usize,
+    flows: &mut Vec<FlowByte>,
+) -> Result<(), AllocError>
+    requires levels { length levels.now ≡ (side + 4) * (side + 4) }
+    requires around { length around.now ≡ length levels.now }
+    requires row { row < side }
+    requires before { length flows.old.items ≡ row * side }
+    requires ended { AreEnded side levels.now around.now (row * side) flows.old.items }
+    ensures whole { IfOk result (λ done. length flows.new.items ≡ (row + 1) * side) }
+    ensures ended { IfOk result (λ done. AreEnded side levels.now around.now ((row + 1) * side) flows.new.items) }
+{
+    let n = side.samples() as usize;
+    let width = width(side);
+    let first = (row + 2) * width + 2;
+    for column in 0..n {
+        let flow = ended_flow(levels, around, width, first + column);
+        flows.push(FlowByte::of(flow))?;
+    }
+    Ok(())
+}
+
+// The flow of a place; where it lies inside a flat, whether an end of its level lies beside it.
+#[inline(always)]
+fn ended_flow(levels: &[i16], around: &[FlowByte], width: usize, k: usize) -> Flow
+    requires inner { IsInner width (length levels.now) k }
+    requires around { length around.now ≡ length levels.now }
+    ensures { IsEnded levels.now around.now width k result }
+{
+    if is_flat(around, k) {
+        flat_flow(levels, around, width, k)
+    } else {
+        around[k].flow()
+    }
+}
+
+fn flat_flow(levels: &[i16], around: &[FlowByte], width: usize, k: usize) -> Flow
+    requires inner { IsInner width (length levels.now) k }
+    requires around { length around.now ≡ length levels.now }
+    ensures { ((result ≡ Flat) × ((d : Dir) → IsEndBeside levels.now around.now width k d → ⊥)) ⊎ ((d : Dir) × ((result ≡ Beside d) × IsFirstEndBeside levels.now around.now width k d)) }
+{
+    for i in 0..8 {
+        if leads_to_end(levels, around, k, place_beside(width, k, DIRECTIONS[i])) {
+            return Flow::Beside(DIRECTIONS[i]);
+        }
+    }
+    Flow::Flat
+}
+
+#[inline(always)]
+fn place_beside(width: usize, k: usize, direction: Dir) -> usize
+    requires before { width + 1 ≤ k }
+    requires after { k + width + 1 < 2 ^ 64 }
+    ensures { result ≡ place_by width k direction }
+{
+    match direction {
+        Dir::East => k + 1,
+        Dir::SouthEast => k + width + 1,
+        Dir::South => k + width,
+        Dir::SouthWest => k + width - 1,
+        Dir::West => k - 1,
+        Dir::NorthWest => k - width - 1,
+        Dir::North => k - width,
+        Dir::NorthEast => k - width + 1,
+    }
+}
+
+#[inline(always)]
+fn leads_to_end(levels: &[i16], around: &[FlowByte], k: usize, to: usize) -> bool
+    requires k { k < length levels.now }
+    requires to { to < length levels.now }
+    requires around { length around.now ≡ length levels.now }
+    ensures { IsTrue result ↔ ((slice_index_or levels.now to void ≡ slice_index_or levels.now k void) × IsEnd (flow_in around.now to)) }
+{
+    is_end(around[to].flow()) && levels[to] == levels[k]
+}
+
+fn is_end(flow: Flow) -> bool
+    ensures { IsTrue result ↔ IsEnd flow }
+{
+    match flow {
+        Flow::Outlet | Flow::To(_) => true,
+        Flow::Unknown | Flow::NoGround | Flow::Beside(_) | Flow::Flat | Flow::FlatTo(_) => false,
+    }
+}
+
+// Tells the samples on edges over which no tile is present without the levels over these: there a point of the tile around
+// the corner may lie beside one that it isn't adjacent to.
+fn close_sides(side: Side, levels: &[i16], sides: &Sides, flows: &mut [FlowByte])
+    requires levels { length levels.now ≡ (side + 4) * (side + 4) }
+    requires flows { length flows.old ≡ side * side }
+    ensures closing { IsClosing side levels.now sides.now flows.old flows.new }
+    ensures told { (d : Dir) (r s : ℕ) → IsClosedAt side sides.now d r s → IsClosedFlow side levels.now sides.now (r * side + s) (flow_in flows.new (r * side + s)) }
+{
+    let n = side.samples() as usize;
+    for i in 1..n - 1 {
+        close_along(side, levels, sides, i, flows);
+    }
+}
+
+// Tells the samples so far along the edges.
+fn close_along(side: Side, levels: &[i16], sides: &Sides, i: usize, flows: &mut [FlowByte])
+    requires levels { length levels.now ≡ (side + 4) * (side + 4) }
+    requires flows { length flows.old ≡ side * side }
+    requires some { 0 < i }
+    requires inside { i + 1 < side }
+    ensures closing { IsClosing side levels.now sides.now flows.old flows.new }
+    ensures told { (d : Dir) (r s : ℕ) → IsClosedAt side sides.now d r s → along_of d r s ≡ i → IsClosedFlow side levels.now sides.now (r * side + s) (flow_in flows.new (r * side + s)) }
+{
+    let last = side.samples() as usize - 1;
+    close_unless(sides.north, side, levels, sides, Dir::North, 0, i, flows);
+    close_unless(sides.east, side, levels, sides, Dir::East, i, last, flows);
+    close_unless(sides.south, side, levels, sides, Dir::South, last, i, flows);
+    close_unless(sides.west, side, levels, sides, Dir::West, i, 0, flows);
+}
+
+fn close_unless(
+    is_open: bool,
+    side: Side,
+    levels: &[i16],
+    sides: &Sides,
+    over: Dir,
+    row: usize,
+    column: usize,
+    flows: &mut [FlowByte],
+)
+    requires levels { length levels.now ≡ (side + 4) * (side + 4) }
+    requires flows { length flows.old ≡ side * side }
+    requires row { row < side }
+    requires column { column < side }
+    requires closed { is_open ≡ false → IsClosedAt side sides.now over row column }
+    ensures closing { IsClosing side levels.now sides.now flows.old flows.new }
+    ensures told { is_open ≡ false → IsClosedFlow side levels.now sides.now (row * side + column) (flow_in flows.new (row * side + column)) }
+{
+    if is_open {
+        return;
+    }
+    let n = side.samples() as usize;
+    let width = width(side);
+    let flow = flow_without(levels, width, over, (row + 2) * width + (column + 2));
+    flows[row * n + column] = FlowByte::of(flow);
+}
+
+// The flow of a place, by the levels around it but those over an edge.
+fn flow_without(levels: &[i16], width: usize, over: Dir, k: usize) -> Flow
+    requires { IsInner width (length levels.now) k }
+    ensures { IsFlowWithout levels.now width over k result }
+{
+    local_flow_at(&levels_without(levels, width, over, k), 3, 4)
+}
+
+// The levels at the place and around it in three rows; void over the edge.
+fn levels_without(levels: &[i16], width: usize, over: Dir, k: usize) -> [i16; 9]
+    requires { IsInner width (length levels.now) k }
+    ensures whole { length result ≡ 9 }
+    ensures here { slice_index_or result 4 void ≡ slice_index_or levels.now k void }
+    ensures around { (d : Dir) → slice_index_or result (place_by 3 4 d) void ≡ (if leads_over over d then void else slice_index_or levels.now (place_by width k d) void) }
+{
+    [
+        level_without(levels, width, over, k, Dir::NorthWest),
+        level_without(levels, width, over, k, Dir::North),
+        level_without(levels, width, over, k, Dir::NorthEast),
+        level_without(levels, width, over, k, Dir::West),
+        levels[k],
+        level_without(levels, width, over, k, Dir::East),
+        level_without(levels, width, over, k, Dir::SouthWest),
+        level_without(levels, width, over, k, Dir::South),
+        level_without(levels, width, over, k, Dir::SouthEast),
+    ]
+}
+
+fn level_without(levels: &[i16], width: usize, over: Dir, k: usize, direction: Dir) -> i16
+    requires { IsInner width (length levels.now) k }
+    ensures { result ≡ (if leads_over over direction then void else slice_index_or levels.now (place_by width k direction) void) }
+{
+    if is_over(over, direction) {
+        VOID
+    } else {
+        levels[place_beside(width, k, direction)]
+    }
+}
+
+fn is_over(over: Dir, direction: Dir) -> bool
+    ensures { result ≡ leads_over over direction }
+{
+    match over {
+        Dir::North => matches!(direction, Dir::NorthWest | Dir::North | Dir::NorthEast),
+        Dir::East => matches!(direction, Dir::NorthEast | Dir::East | Dir::SouthEast),
+        Dir::South => matches!(direction, Dir::SouthEast | Dir::South | Dir::SouthWest),
+        Dir::West => matches!(direction, Dir::SouthWest | Dir::West | Dir::NorthWest),
+        _ => false,
+    }
+}

@@ -1,0 +1,308 @@
+//! Samples of several tiles in one array, tile after tile.
+ghost use Rattle.std.specs.Prelude.{◌≡◌, ◌≢◌, ◌<◌, ◌≤◌, ◌*◌, ◌%◌, ◌↔◌, ◌++◌, [], ◌∷◌, true, ℕ, SomeIff, OnOk, OnErr, ◌+◌, IsTrue, MatchOption, length, slice_index_or};
+ghost use Rattle.lattice.specs.Limits.{most_tiles};
+ghost use Rattle.lattice.specs.Corners.{is_corner, same_corner};
+ghost use Rattle.lattice.specs.Lattice.{Holds, IsIndexOf};
+ghost use Rattle.std.specs.List.{AllAdjacentBelow, list_any};
+ghost use Rattle.lattice.specs.Lattice.{IsBefore};
+ghost use Rattle.flow_d8.specs.Places.{IsInner, place_by};
+ghost use Rattle.flow_d8.specs.Filled.{number_of, is_deep};
+ghost use Rattle.flow_d8.specs.Marks.{IsBack};
+ghost use Rattle.flow_d8.specs.Tiles.{AreTiles, count_of, place_of, by_of, IsInTile, IsSampleOf, no_corner};
+
+use crate::division::{divide, reciprocal};
+use lattice::{Corner, Dir, MOST_TILES, Point, Side, index_in, is_before, neighbour, point_at};
+use std::alloc::{AllocError, Global};
+use std::marker::Model;
+
+/// Tiles whose samples stand in one array, tile after tile, in any order.
+#[derive(Drop)]
+pub struct Tiles {
+    side: Side,
+    corners: Vec<Corner>,
+    // The reciprocals of a row's samples and of a tile's.
+    per_row: usize,
+    per_tile: usize,
+}
+
+impl Model for Tiles {
+    ghost use Rattle.flow_d8.specs.Tiles.{Tiles, AreTiles};
+
+    ghost Value = { Tiles };
+
+    ghost view = { λ t. record { side = t.side; corners = t.corners.items } };
+
+    ghost invariant = { λ t. AreTiles (record { side = t.side; corners = t.corners.items }) };
+}
+
+impl Tiles {
+    /// The tiles at these corners, at most 240, in the order of tiles.
+    pub fn new(side: Side, corners: Vec<Corner>) -> Option<Tiles>
+        ensures { SomeIff result ((length corners.items ≤ most_tiles) × AllAdjacentBelow IsBefore corners.items (length corners.items)) (record { side = side; corners = corners.items }) }
+    {
+        let _low = side.samples();
+        see_corners(&corners);
+        if corners.len() <= MOST_TILES as usize && are_rising(&corners) {
+            Some(Tiles {
+                side,
+                corners,
+                per_row: reciprocal(side.samples()),
+                per_tile: reciprocal(side.area()),
+            })
+        } else {
+            None
+        }
+    }
+
+    /// No tile. Takes no memory.
+    pub fn none(alloc: Global, side: Side) -> Tiles
+        ensures { result ≡ record { side = side; corners = [] } }
+    {
+        let _low = side.samples();
+        Tiles {
+            side,
+            corners: Vec::new(alloc),
+            per_row: reciprocal(side.samples()),
+            per_tile: reciprocal(side.area()),
+        }
+    }
+
+    /// The corner's tile comes after the others.
+    pub(crate) fn push(&mut self, corner: Corner) -> Result<(), AllocError>
+        requires few { length self.old.corners < most_tiles }
+        requires other { (i : ℕ) → i < length self.old.corners → slice_index_or self.old.corners i no_corner ≡ corner → ⊥ }
+        ensures side { self.new.side ≡ self.old.side }
+        ensures pushed { OnOk result (self.new.corners ≡ self.old.corners ++ corner ∷ []) }
+        ensures failed { OnErr result (self.new ≡ self.old) }
+    {
+        let _latitude = latitude(corner);
+        self.corners.push(corner)?;
+        Ok(())
+    }
+
+    /// The tile in this slot is given up, and the last one comes into its place.
+    pub(crate) fn swap_remove(&mut self, slot: usize)
+        requires { slot < length self.old.corners }
+        ensures side { self.new.side ≡ self.old.side }
+        ensures count { length self.new.corners + 1 ≡ length self.old.corners }
+        ensures moved { slot < length self.new.corners → slice_index_or self.new.corners slot no_corner ≡ slice_index_or self.old.corners (length self.new.corners) no_corner }
+        ensures kept { (i : ℕ) → i ≢ slot → i < length self.new.corners → slice_index_or self.new.corners i no_corner ≡ slice_index_or self.old.corners i no_corner }
+    {
+        let _given_up = self.corners.swap_remove(slot);
+    }
+
+    pub(crate) fn side(&self) -> Side
+        ensures value { result ≡ self.now.side }
+        ensures valid { AreTiles self.now }
+    {
+        self.side
+    }
+
+    fn corners(&self) -> &[Corner]
+        ensures { result.now ≡ self.now.corners }
+    {
+        &self.corners
+    }
+
+    /// How many samples they have.
+    pub fn count(&self) -> usize
+        ensures { result ≡ count_of self.now }
+    {
+        count(self.side(), self.corners())
+    }
+
+    /// The point of a sample.
+    pub fn point(&self, k: usize) -> Point
+        requires { k < count_of self.now }
+        ensures { result ≡ place_of self.now k }
+    {
+        sample_point(self.side(), self.corners(), k)
+    }
+
+    /// How many tiles there are.
+    pub(crate) fn tiles(&self) -> usize
+        ensures value { result ≡ length self.now.corners }
+        ensures valid { AreTiles self.now }
+    {
+        let _valid = self.side();
+        self.corners.len()
+    }
+
+    /// The sample of the point in this one of the tiles, if that holds it.
+    pub(crate) fn sample_in(&self, tile: usize, point: Point) -> Option<usize>
+        requires { tile < length self.now.corners }
+        ensures { MatchOption result ((e : ℕ) → IsInTile self.now tile e → IsSampleOf self.now point e → ⊥) (λ k. IsSampleOf self.now point k × ((e : ℕ) → IsInTile self.now tile e → IsSampleOf self.now point e → e ≡ k)) }
+    {
+        sample_of(self.side(), self.corners(), tile, point)
+    }
+
+    /// The corner of the tile in this slot.
+    pub(crate) fn corner(&self, tile: usize) -> Corner
+        requires { tile < length self.now.corners }
+        ensures { result ≡ slice_index_or self.now.corners tile no_corner }
+    {
+        self.corners()[tile]
+    }
+
+    /// Whether the corner's tile is one of them.
+    pub(crate) fn has(&self, corner: Corner) -> bool
+        ensures { result ≡ list_any (λ c. same_corner c corner) self.now.corners }
+    {
+        has_corner(self.corners(), corner)
+    }
+
+    /// The first sample of the point; past all samples where no tile holds it.
+    pub fn number(&self, point: Point) -> usize
+        ensures value { result ≡ number_of self.now.side self.now.corners point }
+        ensures back { result < count_of self.now → IsBack (by_of self.now) (count_of self.now) result }
+    {
+        number(self.side(), self.corners(), point)
+    }
+
+    /// Whether the sample lies at least two samples from the edges of its tile.
+    #[inline(always)]
+    pub fn is_deep(&self, k: usize) -> bool
+        ensures { result ≡ is_deep self.now.side (k % (self.now.side * self.now.side)) }
+    {
+        let side = self.side();
+        let n = side.samples() as usize;
+        let index = divide(k, side.area(), self.per_tile).remainder;
+        let place = divide(index, side.samples(), self.per_row);
+        2 <= place.quotient
+            && place.quotient + 3 <= n
+            && 2 <= place.remainder
+            && place.remainder + 3 <= n
+    }
+
+    /// The first sample of the point one step away; past all samples where no tile holds it. By an addition where the sample is
+    /// said to lie deep in its tile.
+    #[inline(always)]
+    pub fn step(&self, k: usize, direction: Dir, deep: bool) -> usize
+        requires k { k < count_of self.now }
+        requires deep { IsTrue deep → is_deep self.now.side (k % (self.now.side * self.now.side)) ≡ true }
+        ensures value { result ≡ by_of self.now k direction }
+        ensures back { result < count_of self.now → IsBack (by_of self.now) (count_of self.now) result }
+    {
+        if deep {
+            return self.deep_step(k, direction);
+        }
+        self.beside(k, direction)
+    }
+
+    #[inline(always)]
+    fn deep_step(&self, k: usize, direction: Dir) -> usize
+        requires k { k < count_of self.now }
+        requires deep { is_deep self.now.side (k % (self.now.side * self.now.side)) ≡ true }
+        ensures value { result ≡ by_of self.now k direction }
+        ensures back { result < count_of self.now → IsBack (by_of self.now) (count_of self.now) result }
+    {
+        let side = self.side();
+        let count = self.count();
+        place(side.samples() as usize, k, direction, count)
+    }
+
+    /// The first sample of the point one step away; past all samples where no tile holds it.
+    pub fn beside(&self, k: usize, direction: Dir) -> usize
+        requires { k < count_of self.now }
+        ensures value { result ≡ by_of self.now k direction }
+        ensures back { result < count_of self.now → IsBack (by_of self.now) (count_of self.now) result }
+    {
+        let _valid = self.side();
+        match neighbour(self.point(k), direction) {
+            Some(to) => self.number(to),
+            None => self.count(),
+        }
+    }
+}
+
+fn count(side: Side, corners: &[Corner]) -> usize
+    requires { length corners.now ≤ most_tiles }
+    ensures { result ≡ length corners.now * (side * side) }
+{
+    corners.len() * side.area() as usize
+}
+
+fn sample_point(side: Side, corners: &[Corner], k: usize) -> Point
+    requires { k < length corners.now * (side * side) }
+    ensures { result ≡ place_of (record { side = side; corners = corners.now }) k }
+{
+    let area = side.area() as usize;
+    point_at(side, corners[k / area], (k % area) as u32)
+}
+
+fn number(side: Side, corners: &[Corner], point: Point) -> usize
+    requires { length corners.now ≤ most_tiles }
+    ensures { result ≡ number_of side corners.now point }
+{
+    let area = side.area() as usize;
+    for i in 0..corners.len() {
+        if let Some(index) = index_in(side, corners[i], point) {
+            return i * area + index as usize;
+        }
+    }
+    corners.len() * area
+}
+
+fn sample_of(side: Side, corners: &[Corner], tile: usize, point: Point) -> Option<usize>
+    requires few { length corners.now ≤ most_tiles }
+    requires tile { tile < length corners.now }
+    ensures corner { IsTrue (is_corner (slice_index_or corners.now tile no_corner)) }
+    ensures sample { MatchOption result (Holds side (slice_index_or corners.now tile no_corner) point → ⊥) (λ k. (e : ℕ) × (IsIndexOf side (slice_index_or corners.now tile no_corner) point e × (k ≡ tile * (side * side) + e))) }
+{
+    let area = side.area() as usize;
+    let corner = corners[tile];
+    let _latitude = latitude(corner);
+    match index_in(side, corner, point) {
+        Some(index) => Some(tile * area + index as usize),
+        None => None,
+    }
+}
+
+fn has_corner(corners: &[Corner], corner: Corner) -> bool
+    ensures { result ≡ list_any (λ c. same_corner c corner) corners.now }
+{
+    corners.contains(&corner)
+}
+
+fn latitude(corner: Corner) -> i16
+    ensures { IsTrue (is_corner corner) }
+{
+    corner.lat
+}
+
+// Where a step leads.
+#[inline(always)]
+fn place(width: usize, k: usize, direction: Dir, count: usize) -> usize
+    requires { IsInner width count k }
+    ensures { result ≡ place_by width k direction }
+{
+    match direction {
+        Dir::East => k + 1,
+        Dir::SouthEast => k + width + 1,
+        Dir::South => k + width,
+        Dir::SouthWest => k + width - 1,
+        Dir::West => k - 1,
+        Dir::NorthWest => k - width - 1,
+        Dir::North => k - width,
+        Dir::NorthEast => k - width + 1,
+    }
+}
+
+fn are_rising(corners: &[Corner]) -> bool
+    ensures { IsTrue result ↔ AllAdjacentBelow IsBefore corners.now (length corners.now) }
+{
+    for i in 1..corners.len() {
+        if !is_before(corners[i - 1], corners[i]) {
+            return false;
+        }
+    }
+    true
+}
+
+fn see_corners(corners: &[Corner])
+    ensures { (i : ℕ) → i < length corners.now → IsTrue (is_corner (slice_index_or corners.now i no_corner)) }
+{
+    for i in 0..corners.len() {
+        let _latitude = latitude(corners[i]);
+    }
+}

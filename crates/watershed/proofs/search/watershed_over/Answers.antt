@@ -1,0 +1,17 @@
+use Rattle.lattice.specs.Ground.{terrain}
+use Rattle.lattice.proofs.Lawful.{terrain_is_lawful}
+use Rattle.flow_d8.specs.FlowPath.{IsInWatershed}
+use Rattle.watershed.specs.Marks.{IsMarked}
+use Rattle.watershed.proofs.Upstream.{found_is_watershed}
+use Rattle.watershed.proofs.Found.{runs_alike}
+use Rattle.watershed.proofs.search.watershed_over.Goals as goal
+
+pub runs-requires : goal.runs-requires
+runs-requires g c = c.in_ok-marks.ensures.listed
+
+pub returns-clause-runs : goal.returns-clause-runs
+returns-clause-runs g c m level tells =
+    let p = c.args.point in
+    let marks = c.in_ok-marks.marks in
+    runs_alike (IsMarked marks) (IsInWatershed (terrain m) level p) c.in_ok-runs.field-0.items
+    (found_is_watershed (terrain m) level (terrain_is_lawful m) p (IsMarked marks) (c.in_ok-marks.ensures.found m level tells)) c.in_ok-runs.ensures
