@@ -4,7 +4,6 @@ pub mod Degrees
 pub mod Differing
 pub mod Elsewhere
 pub mod Entries
-pub mod Filling
 pub mod Holders
 pub mod InnerPoints
 pub mod Mosaics

@@ -6,10 +6,9 @@ use Rattle.std.proofs.lemmas.List.{length-set}
 use Rattle.std.proofs.lemmas.List.Elements.{All-nil, All-cons, All-head, All-tail, All-filter, All-set}
 use Rattle.std.proofs.lemmas.Bool.{or_parts}
 use Rattle.lattice.specs.Corners.{Corner, is_before, same_corner}
-use Rattle.lattice.specs.Mosaic.{Tile, Mosaic, IsSample, IsTile, IsMosaic, AreSinks, is_present}
-use Rattle.catalogue.specs.Tiles.{with_tile, added, without, with_sinks}
+use Rattle.lattice.specs.Mosaic.{Tile, Mosaic, IsSample, IsTile, IsMosaic, is_present}
+use Rattle.catalogue.specs.Tiles.{with_tile, added, without}
 use Rattle.catalogue.specs.Tables.{with_sample_in, with_sample}
-use Rattle.lattice.specs.declared.point.Point.{Point}
 use Rattle.lattice.proofs.CornerOrder.{after_from, same_comm}
 use Rattle.lattice.proofs.Rising.{AllAfter, Rising, rising_from, adjacent_from, rising-filter, after_later}
 
@@ -98,12 +97,3 @@ module _ (c : Corner) (i : ℕ) (s : ℤ) where
     in_order = adjacent_from corner_of (map (with_sample_in c i s) m.tiles) (rising-with_sample m.tiles (rising_tiles m valid));
     sinks = valid.sinks;
   }
-
-pub mosaic-with_sinks : (sinks : List Point) (m : Mosaic) → IsMosaic m → AreSinks m.side sinks → IsMosaic (with_sinks sinks m)
-mosaic-with_sinks sinks m valid are = record {
-  side_low = valid.side_low;
-  side_high = valid.side_high;
-  tiles = valid.tiles;
-  in_order = valid.in_order;
-  sinks = are;
-}

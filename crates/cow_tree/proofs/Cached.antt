@@ -10,7 +10,7 @@ use Rattle.std.proofs.lemmas.Map.{lookup-remove_entry, none_passes_from_lookup}
 use Rattle.lru.specs.LruCache.{LruCache, put_entries}
 use Rattle.lru.proofs.CallerLemmas.{Contains-lookup, Contains-put_entries}
 use Rattle.disk.specs.Disk.{Image}
-use Rattle.roots.specs.Slots.{SamePagesBut}
+use Rattle.roots.specs.Slots.{SamePages, SamePagesBut}
 use Rattle.cow_tree.specs.Caches.{entries_of, IsHeld, Agrees}
 use Rattle.cow_tree.specs.declared.cache.PageCache.{PageCache}
 
@@ -61,3 +61,9 @@ pub written_agrees : (old new : PageCache) (before after : Image) (number : ℕ)
 written_agrees old new before after number kept gone same agrees page bytes has =
     let was = agrees page bytes (kept page bytes has) in
     (was.0, sym (same page was.0 (λ e. gone bytes (subst (λ (k : ℕ). IsHeld new k bytes) e has))) ∙ was.1)
+
+-- .. nor of an image with the same pages
+pub same_agrees : (cache : PageCache) (before after : Image) → SamePages before after → Agrees cache before → Agrees cache after
+same_agrees cache before after same agrees page bytes has =
+    let was = agrees page bytes has in
+    (was.0, sym (same page was.0) ∙ was.1)

@@ -7,7 +7,7 @@
 //! one list of tiles. `specs/Stored.antt` says what a disk stores, `specs/Layout.antt` when an image stands for it.
 //!
 //! ```
-//! tree.stage_plane(corner, Plane::Heights, &bytes)?;     // read from now on, but not committed
+//! tree.stage_plane(corner, Plane::Heights, bytes)?;      // read from now on, but not committed
 //! tree.commit(count)?;                                   // or `abandon`
 //! ```
 #![tactic(auto)]

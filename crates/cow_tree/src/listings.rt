@@ -1,14 +1,16 @@
 //! What lists the pages of planes: records, and index pages.
-ghost use Rattle.std.specs.Prelude.{◌≡◌, ◌≤◌, ◌<◌, ◌*◌, false, Contains, length, slice_index};
+ghost use Rattle.std.specs.Prelude.{◌≡◌, ◌≤◌, ◌<◌, ◌*◌, false, Contains, OnOk, length, slice_index};
 ghost use Rattle.page_codec.specs.Records.{part_of, record_bytes};
 ghost use Rattle.page_map.specs.PageMaps.{IsLocated, is_unreached, page_if};
 ghost use Rattle.page_map.specs.Locations.{IsWholePlane, listing_of};
 ghost use Rattle.page_map.specs.Planes.{HasPlaneAt};
 ghost use Rattle.page_map.specs.TileLocations.{TileLocation};
+ghost use Rattle.cow_tree.specs.Caches.{Agrees};
 ghost use Rattle.cow_tree.specs.Layout.{listed_by};
 ghost use Rattle.cow_tree.specs.Listings.{WritesListing, due_among, listing_bytes, named_listing, tile_listing, tiles_listing, written_before};
 ghost use Rattle.roots.specs.Roots.{disk_of, has_failed};
 
+use crate::cache::PageCache;
 use arrayvec::ArrayVec;
 use disk::Disk;
 use lattice::{Corner, Refusal};
@@ -116,6 +118,7 @@ fn page_due(
 // Writes what lists the pages of one plane of the corner's staged tile, if it has it.
 fn write_listing<D: Disk>(
     roots: &mut Roots<D>,
+    cache: &mut PageCache,
     page_map: &PageMap,
     which: Listings,
     corner: Corner,
@@ -123,8 +126,9 @@ fn write_listing<D: Disk>(
 ) -> Result<(), Refusal>
     requires not_failed { has_failed roots.old ≡ false }
     requires sectors { page_map.now.sectors ≡ D.size (disk_of roots.old) }
-    ensures { (t : TileLocation) → Contains page_map.now.staged t → t.corner ≡ corner
+    ensures listed { (t : TileLocation) → Contains page_map.now.staged t → t.corner ≡ corner
         → WritesListing D.Disk (due_among (written_before which page_map.now) (named_listing page_map.now.format name t)) roots.old roots.new result }
+    ensures cached { D.honest (disk_of roots.new) → Agrees cache.old (D.seen (disk_of roots.old)) → OnOk result (Agrees cache.new (D.seen (disk_of roots.new))) }
 {
     page_map.rules();
     let Some(plane) = page_map.plane(corner, name) else {
@@ -133,6 +137,7 @@ fn write_listing<D: Disk>(
     for i in 0..plane.listing_len() {
         if let Some(page) = page_due(page_map, which, corner, name, plane, i) {
             roots.write(page, &listing_page(page_map.format(), plane, i))?;
+            cache.forget(page);
         }
     }
     Ok(())
@@ -141,6 +146,7 @@ fn write_listing<D: Disk>(
 // Writes what lists the pages of the corner's staged tile.
 fn write_tile_listings<D: Disk>(
     roots: &mut Roots<D>,
+    cache: &mut PageCache,
     page_map: &PageMap,
     which: Listings,
     corner: Corner,
@@ -148,29 +154,32 @@ fn write_tile_listings<D: Disk>(
     requires not_failed { has_failed roots.old ≡ false }
     requires sectors { page_map.now.sectors ≡ D.size (disk_of roots.old) }
     requires present { IsLocated corner page_map.now.staged }
-    ensures { (t : TileLocation) → Contains page_map.now.staged t → t.corner ≡ corner
+    ensures listed { (t : TileLocation) → Contains page_map.now.staged t → t.corner ≡ corner
         → WritesListing D.Disk (due_among (written_before which page_map.now) (tile_listing page_map.now.format t)) roots.old roots.new result }
+    ensures cached { D.honest (disk_of roots.new) → Agrees cache.old (D.seen (disk_of roots.old)) → OnOk result (Agrees cache.new (D.seen (disk_of roots.new))) }
 {
     page_map.rules();
-    write_listing(roots, page_map, which, corner, Plane::Heights)?;
-    write_listing(roots, page_map, which, corner, Plane::Levels)?;
-    write_listing(roots, page_map, which, corner, Plane::Labels)
+    write_listing(roots, cache, page_map, which, corner, Plane::Heights)?;
+    write_listing(roots, cache, page_map, which, corner, Plane::Levels)?;
+    write_listing(roots, cache, page_map, which, corner, Plane::Labels)
 }
 
-/// Writes what lists the pages of the staged tiles: records, and index pages.
+/// Writes what lists the pages of the staged tiles: records, and index pages. None of them is held by the cache then.
 pub(crate) fn write_listings<D: Disk>(
     roots: &mut Roots<D>,
+    cache: &mut PageCache,
     page_map: &PageMap,
     which: Listings,
 ) -> Result<(), Refusal>
     requires not_failed { has_failed roots.old ≡ false }
     requires sectors { page_map.now.sectors ≡ D.size (disk_of roots.old) }
-    ensures { WritesListing D.Disk (due_among (written_before which page_map.now) (tiles_listing page_map.now.format page_map.now.staged)) roots.old roots.new result }
+    ensures listed { WritesListing D.Disk (due_among (written_before which page_map.now) (tiles_listing page_map.now.format page_map.now.staged)) roots.old roots.new result }
+    ensures cached { D.honest (disk_of roots.new) → Agrees cache.old (D.seen (disk_of roots.old)) → OnOk result (Agrees cache.new (D.seen (disk_of roots.new))) }
 {
     page_map.rules();
     let corners = page_map.corners();
     for corner in corners.as_slice() {
-        write_tile_listings(roots, page_map, which, *corner)?;
+        write_tile_listings(roots, cache, page_map, which, *corner)?;
     }
     Ok(())
 }

@@ -539,15 +539,18 @@ impl<D: Disk> Tree<D> {
             → LeavesOnly D.Disk (disk_of self.old) (disk_of self.new)
             (λ image. Stands (D.size (disk_of self.old)) image s ⊎ Stands (D.size (disk_of self.old)) image (next_commit s (sinks_of self.old) (staged_in D.Disk self.old) count)) }
     {
-        // What it gives up may hold something else from here on, and so do the pages that get its records.
-        self.cache.clear();
         self.page_map.rules();
         let entries = staged_entries(&self.page_map);
         let root = self
             .root
             .next(count, entries)
             .with_sinks(self.sinks.points());
-        write_listings(&mut self.roots, &self.page_map, Listings::Due)?;
+        write_listings(
+            &mut self.roots,
+            &mut self.cache,
+            &self.page_map,
+            Listings::Due,
+        )?;
         self.roots.commit(&root)?;
         self.root = root;
         self.page_map.settle();
@@ -600,10 +603,9 @@ impl<D: Disk> Tree<D> {
     {
         self.allow_upgrade()?;
         let page_map = self.page_map.upgraded()?;
-        self.cache.clear();
         let entries = staged_entries(&page_map);
         let root = self.root.upgraded(entries);
-        write_listings(&mut self.roots, &page_map, Listings::All)?;
+        write_listings(&mut self.roots, &mut self.cache, &page_map, Listings::All)?;
         self.roots.commit(&root)?;
         self.root = root;
         self.page_map = page_map;

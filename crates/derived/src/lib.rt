@@ -4,8 +4,8 @@
 //! is so after a step, whatever the step answers and whenever it is stopped; and a present tile that isn't stale keeps one.
 //!
 //! ```
-//! while let Some(corner) = step(alloc, &mut tree)? {}    // floods a stale tile and keeps that, until none is stale
-//! let fresh = !stale(&tree, corner);                     // of each present tile then
+//! let stepped = step(alloc, &mut tree)?;                 // floods the least stale tile, and keeps that; None where none is
+//! let fresh = !stale(&tree, corner);
 //! ```
 #![tactic(auto)]
 

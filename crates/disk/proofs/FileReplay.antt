@@ -1,5 +1,5 @@
 -- What the calls on a file change, one by one and in a row.
-use Rattle.std.proofs.Common.{◌≡◌, ◌⊎◌, inl, inr, ⊎_elim, ℕ, ◌≤◌, if◌then◌else◌, ◌==◌, List, [], ◌∷◌, length, Bool, true, false, Result, Ok, Err, OnOk, is_ok, refl, sym, ◌∙◌, ap, subst, arith}
+use Rattle.std.proofs.Common.{◌≡◌, ◌⊎◌, inl, inr, ⊎_elim, ℕ, if◌then◌else◌, ◌==◌, List, [], ◌∷◌, length, Bool, true, false, Result, Ok, Err, OnOk, is_ok, refl, sym, ◌∙◌, ap, subst, arith}
 use Rattle.std.proofs.lemmas.Bool.{cases_eq}
 use Rattle.std.proofs.lemmas.Bool.Decides.{nat_tests}
 use Rattle.disk.specs.Disk.{Image, SameBut, TornAt, NoneNew, Only, Elapses, Nothing}

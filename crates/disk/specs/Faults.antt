@@ -1,8 +1,8 @@
 -- Which calls of a disk fail: all from some call on, one alone, or none.
 use Rattle.std.specs.Prelude.{ℕ, zero, suc, Option, Some, None, Bool, true, false}
 use Rattle.disk.specs.Disk.{counted}
-use Rattle.disk.specs.declared.faulty.Asked.{Asked}
-use Rattle.disk.specs.declared.faulty.Asked.TheVariants.{Read, Write, Sync}
+use Rattle.disk.specs.declared.faulty.CallKind.{CallKind}
+use Rattle.disk.specs.declared.faulty.CallKind.TheVariants.{Read, Write, Sync}
 use Rattle.disk.specs.declared.tally.Tally.{Tally}
 
 -- so many calls pass, and none after them
@@ -23,7 +23,7 @@ one_call_on (Some (suc calls)) = Some calls
 one_call_on None = None
 
 -- writes and syncs are counted
-abbrev pub tallied : Tally → Asked → Tally
+abbrev pub tallied : Tally → CallKind → Tally
 tallied tally Read = tally
 tallied tally Write = record tally { writes = counted tally.writes }
 tallied tally Sync = record tally { syncs = counted tally.syncs }

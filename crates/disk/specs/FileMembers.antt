@@ -1,12 +1,12 @@
 -- The laws of a disk, over the calls of a file.
-use Rattle.std.specs.Prelude.{◌≡◌, ◌⊎◌, ℕ, ◌≤◌, List, [], ◌∷◌, length, Bool, true, false, if◌then◌else◌, ◌==◌}
+use Rattle.std.specs.Prelude.{◌≡◌, ℕ, ◌≤◌, List, [], ◌∷◌, length, Bool, true, false, if◌then◌else◌, ◌==◌}
 use Rattle.std.proofs.Common.{refl, sym, ◌∙◌, ap, inl, inr, ⊎_elim, arith}
 use Rattle.std.proofs.lemmas.Bool.{cases_eq}
 use Rattle.std.proofs.lemmas.Bool.Decides.{nat_tests}
 use Rattle.disk.specs.Disk.{Image}
 use Rattle.disk.specs.Memory.{State, MayLeave}
 use Rattle.disk.specs.FileCalls.{Answered, read, written, synced, forgotten, aside, Aside, resized, length_synced, after_answer, IsRight, state_after, IsHonest, LeftSince}
-use Rattle.disk.specs.FileSteps.{with_asides, Lengthens, HasLengthened}
+use Rattle.disk.specs.FileSteps.{with_asides, HasLengthened}
 
 still_left : (call : Answered) (st : State) (image : Image) → IsRight call st image → MayLeave st st.seen → MayLeave (after_answer call image st) image
 still_left (read s ok bytes) st image right held k shut = ap (λ (i : Image). i k) right.1 ∙ held k shut

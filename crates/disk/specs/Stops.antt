@@ -1,7 +1,7 @@
 -- What a stop leaves during a call, and over a run of calls: the words of the layers above.
 use Rattle.std.specs.Prelude.{◌⊎◌, ℕ, ◌≤◌, Result, IsErr}
 use Rattle.std.proofs.Common.{inl, inr, ⊎_elim, arith}
-use Rattle.disk.specs.Disk.{Image, HasRisen, NoneNew, Elapses, Nothing}
+use Rattle.disk.specs.Disk.{Image, HasRisen, Elapses}
 use Rattle.disk.specs.declared.disk.Disk.{Ghosts}
 
 -- A stop at any moment of the run from old to new leaves an image with P.
@@ -64,8 +64,3 @@ module _ {D : Type 0} (g : Ghosts D) where
     honest = first.honest;
     run = in_turn old mid new (g.may old) first.run (weaker mid new (g.may mid) (g.may old) first.run.now second.run);
   }
-
-  -- one call that adds nothing
-  pub nothing_added : (old new : D) → g.honest old → ((c : Image) → g.since old (g.moment old) c → g.may old c) → NoneNew (g.may old) (g.may new)
-      → Elapses (g.moment old) (g.moment new) (g.since old) (g.since new) Nothing → AddsNothing g old new
-  nothing_added old new honest only_now may time = record { honest = honest; run = by_call old new (g.may old) Nothing only_now (λ c none. absurd none) may time }

@@ -3,7 +3,7 @@ ghost use Rattle.std.specs.Prelude.{◌≡◌, Some};
 ghost use Rattle.disk.specs.Disk.{saturated};
 ghost use Rattle.disk.specs.Faults.{is_due, one_call_on};
 
-use crate::faulty::Asked;
+use crate::faulty::CallKind;
 use crate::{Disk, Faults, FaultyDisk};
 
 /// How many calls pass before the one that fails; none once that call is over.
@@ -17,7 +17,7 @@ impl Faults for OneFault {
 
     ghost later = { λ fault call. record { ahead = one_call_on fault.ahead } };
 
-    fn falls_on(&mut self, _call: Asked) -> bool {
+    fn falls_on(&mut self, _call: CallKind) -> bool {
         let is_due = self.ahead == Some(0);
         self.ahead = self.ahead.and_then(|calls| calls.checked_sub(1));
         is_due

@@ -1,14 +1,14 @@
 //! A disk of which some calls fail.
 ghost use Rattle.std.specs.Prelude.{◌≡◌, ◌<◌, Bool, true, false, OnOk, IsErr};
 ghost use Rattle.disk.specs.Disk.{SameBut, TornAt, NoneNew, Only, saturated, counted, CountsFault, Elapses, Nothing};
-ghost use Rattle.disk.specs.declared.faulty.Asked.{Asked};
-ghost use Rattle.disk.specs.declared.faulty.Asked.TheVariants.{Read, Write, Sync};
+ghost use Rattle.disk.specs.declared.faulty.CallKind.{CallKind};
+ghost use Rattle.disk.specs.declared.faulty.CallKind.TheVariants.{Read, Write, Sync};
 
 use crate::{Disk, Fault};
 
 /// What is asked of a disk.
 #[derive(Clone, Copy)]
-pub enum Asked {
+pub enum CallKind {
     Read,
     Write,
     Sync,
@@ -17,13 +17,13 @@ pub enum Asked {
 /// Which calls of a disk fail.
 pub trait Faults: Drop {
     /// Whether the next call fails, if it is this one.
-    ghost is_due: { Self → Asked → Bool };
+    ghost is_due: { Self → CallKind → Bool };
 
     /// What is to come after this call.
-    ghost later: { Self → Asked → Self };
+    ghost later: { Self → CallKind → Self };
 
     /// Lets one call go by, and says whether it fails.
-    fn falls_on(&mut self, call: Asked) -> bool
+    fn falls_on(&mut self, call: CallKind) -> bool
         ensures due { result ≡ is_due self.old call }
         ensures later { self.new ≡ later self.old call };
 }
@@ -73,7 +73,7 @@ impl<D: Disk, F: Faults> FaultyDisk<D, F> {
     }
 
     // Whether this call fails; then it is counted.
-    fn is_refused(&mut self, call: Asked) -> bool
+    fn is_refused(&mut self, call: CallKind) -> bool
         ensures due { result ≡ F.is_due (faults_of self.old) call }
         ensures later { faults_of self.new ≡ F.later (faults_of self.old) call }
         ensures inner { inner_of self.new ≡ inner_of self.old }
@@ -139,7 +139,7 @@ impl<D: Disk, F: Faults> Disk for FaultyDisk<D, F> {
         ensures fault { F.is_due (faults_of self.old) Read ≡ true → IsErr result }
         ensures untouched { F.is_due (faults_of self.old) Read ≡ true → inner_of self.new ≡ inner_of self.old }
     {
-        if self.is_refused(Asked::Read) {
+        if self.is_refused(CallKind::Read) {
             return Err(Fault);
         }
         self.inner.read(s, into)
@@ -169,7 +169,7 @@ impl<D: Disk, F: Faults> Disk for FaultyDisk<D, F> {
         ensures fault { F.is_due (faults_of self.old) Write ≡ true → IsErr result }
         ensures untouched { F.is_due (faults_of self.old) Write ≡ true → inner_of self.new ≡ inner_of self.old }
     {
-        if self.is_refused(Asked::Write) {
+        if self.is_refused(CallKind::Write) {
             self.refused_writes = self.refused_writes.saturating_add(1);
             return Err(Fault);
         }
@@ -196,7 +196,7 @@ impl<D: Disk, F: Faults> Disk for FaultyDisk<D, F> {
         ensures fault { F.is_due (faults_of self.old) Sync ≡ true → IsErr result }
         ensures untouched { F.is_due (faults_of self.old) Sync ≡ true → inner_of self.new ≡ inner_of self.old }
     {
-        if self.is_refused(Asked::Sync) {
+        if self.is_refused(CallKind::Sync) {
             return Err(Fault);
         }
         self.inner.sync()

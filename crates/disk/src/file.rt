@@ -86,21 +86,6 @@ impl<W: World> FileDisk<W> {
         Ok(FileDisk::over(file, sectors))
     }
 
-    /// Opens a file as [`FileDisk::open`] does, and makes it longer where it has fewer sectors than so many. Where that
-    /// fails the error is `ErrorKind::Other`.
-    pub fn grow(rt: &HostRuntime, path: &str, sectors: u32) -> io::Result<FileDisk<W>>
-        ensures calls { IfOk result (λ disk. (has : ℕ) × HasLengthened has sectors [] (calls_of disk) true) }
-        ensures sectors { IfOk result (λ disk. sectors ≤ sectors_of disk) }
-        ensures failures { IfOk result (λ disk. failures_of disk ≡ 0) }
-        ensures writes { IfOk result (λ disk. writes_of disk ≡ 0) }
-    {
-        let mut disk = FileDisk::open(rt, path)?;
-        match disk.lengthen(sectors) {
-            Ok(()) => Ok(disk),
-            Err(Fault) => Err(io::Error::from(ErrorKind::Other)),
-        }
-    }
-
     /// Appends sectors of zeros where there are fewer than so many, and syncs the file. A disk that has as many stays as it
     /// is. Bytes after the last whole sector give way to the new ones. The file stays open and locked throughout.
     ///

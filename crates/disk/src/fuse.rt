@@ -3,7 +3,7 @@ ghost use Rattle.std.specs.Prelude.{◌≡◌, ◌-◌};
 ghost use Rattle.disk.specs.Disk.{saturated};
 ghost use Rattle.disk.specs.Faults.{is_blown};
 
-use crate::faulty::Asked;
+use crate::faulty::CallKind;
 use crate::{Disk, Faults, FaultyDisk};
 
 /// A number of calls that pass. Each later one fails.
@@ -17,7 +17,7 @@ impl Faults for Fuse {
 
     ghost later = { λ fuse call. record { left = fuse.left - 1 } };
 
-    fn falls_on(&mut self, _call: Asked) -> bool {
+    fn falls_on(&mut self, _call: CallKind) -> bool {
         let is_blown = self.left == 0;
         self.left = self.left.saturating_sub(1);
         is_blown

@@ -34,7 +34,7 @@ mod world;
 
 pub use disk::{Disk, Fault};
 pub use fault_once::{FaultOnceDisk, OneFault};
-pub use faulty::{Asked, Faults, FaultyDisk};
+pub use faulty::{CallKind, Faults, FaultyDisk};
 pub use file::FileDisk;
 pub use file_laws::{
     disks_have_honest_records, false_reads_show, lost_writes_show, runs_have_honest_records,

@@ -3,7 +3,7 @@ ghost use Rattle.std.specs.Prelude.{◌≡◌, false};
 ghost use Rattle.disk.specs.Disk.{saturated};
 ghost use Rattle.disk.specs.Faults.{tallied};
 
-use crate::faulty::Asked;
+use crate::faulty::CallKind;
 use crate::{Disk, Faults, FaultyDisk};
 
 /// How many writes and syncs were asked for. No call fails.
@@ -18,11 +18,11 @@ impl Faults for Tally {
 
     ghost later = { tallied };
 
-    fn falls_on(&mut self, call: Asked) -> bool {
+    fn falls_on(&mut self, call: CallKind) -> bool {
         match call {
-            Asked::Read => {}
-            Asked::Write => self.writes = self.writes.saturating_add(1),
-            Asked::Sync => self.syncs = self.syncs.saturating_add(1),
+            CallKind::Read => {}
+            CallKind::Write => self.writes = self.writes.saturating_add(1),
+            CallKind::Sync => self.syncs = self.syncs.saturating_add(1),
         }
         false
     }

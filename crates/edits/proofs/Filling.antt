@@ -10,7 +10,7 @@ use Rattle.catalogue.proofs.OneTile.{corners_are}
 use Rattle.edits.specs.Boxes.{filled}
 use Rattle.edits.specs.Edits.{with_height}
 use Rattle.edits.specs.Effect.{is_void_at, is_void_height}
-use Rattle.edits.proofs.BoxRows.{void_is}
+use Rattle.edits.proofs.BoxPlaces.{void_is}
 use Rattle.edits.proofs.Edited.{edited_none, edited_twice, edited_alike}
 use Rattle.edits.proofs.EditedHeights.{height_stays}
 

@@ -1,6 +1,6 @@
 mod Accepted
 pub mod AllStale
-mod BoxRows
+mod BoxPlaces
 mod EarlierHeights
 pub mod EditStale
 pub mod Edited

@@ -1,6 +1,6 @@
 -- Which tiles have a void point in a box, tile by tile.
 use Rattle.std.proofs.Common.{◌≡◌, ℕ, ◌<◌, ◌≤◌, ◌⊎◌, inl, inr, ℤ, pos, Bool, true, false, ◌&&◌, ◌||◌, List, [], ◌∷◌, ◌++◌, length, get_or, refl, ap, sym, ◌∙◌, subst, length-append, arith}
-use Rattle.std.specs.Prelude.{Result, Ok, Err, IfOk, IsFalse, not}
+use Rattle.std.specs.Prelude.{Ok, Err, IsFalse, not}
 use Rattle.std.specs.List.{All, Contains}
 use Rattle.std.proofs.lemmas.Bool.{and_parts, and_from, false_from_ne_true, both_ways, false≢true}
 use Rattle.std.proofs.lemmas.List.Elements.{All-contains, All-push, Contains-get_or}
@@ -25,13 +25,12 @@ use Rattle.edits.specs.Effect.{effect, has_void, has_void_from, is_box, is_heigh
 use Rattle.edits.proofs.TouchedTiles.{void_says, void_from, some_edge}
 use Rattle.edits.proofs.Voids.{any_says, any_from, tile_at, is_void_within}
 
-pub if_ok_weaker : {T E : Type 0} {P Q : T → Type 0} (r : Result T E) → ((x : T) → P x → Q x) → IfOk r P → IfOk r Q
-if_ok_weaker (Ok x) more so = more x so
-if_ok_weaker (Err e) more so = tt
-
 -- what is said of the points of the box that a tile holds is said of the tile
-module _ (m : Mosaic) (valid : IsMosaic m) (from to : Point) (corner : Corner) (test : Point → Bool) (tests : (p : Point) → test p ≡ (is_in_box from to p && holds m.side corner p)) where
-  pub tile_void : (b : Bool) → IsSomewhere (λ p. test p && is_void_at m p) b → (t : Tile) → Contains m.tiles t → t.corner ≡ corner → b ≡ has_void_from m from to t.corner 0 t.samples
+module _ (m : Mosaic) (valid : IsMosaic m) (from to : Point) (corner : Corner) where
+  abbrev is_void_here : Point → Bool
+  is_void_here p = is_in_box from to p && (holds m.side corner p && is_void_at m p)
+
+  pub tile_void : (b : Bool) → IsSomewhere is_void_here b → (t : Tile) → Contains m.tiles t → t.corner ≡ corner → b ≡ has_void_from m from to t.corner 0 t.samples
   tile_void b somewhere t there same = by b somewhere
     where
       tile : IsTile m.side t
@@ -40,20 +39,20 @@ module _ (m : Mosaic) (valid : IsMosaic m) (from to : Point) (corner : Corner) (
       held_is : (p : Point) → holds m.side corner p ≡ holds m.side t.corner p
       held_is p = ap (λ (c : Corner). holds m.side c p) (sym same)
 
-      by : (b : Bool) → IsSomewhere (λ p. test p && is_void_at m p) b → b ≡ has_void_from m from to t.corner 0 t.samples
+      by : (b : Bool) → IsSomewhere is_void_here b → b ≡ has_void_from m from to t.corner 0 t.samples
       by true (p, found) =
-          let parts = and_parts (test p) (is_void_at m p) found in
-          let inside = and_parts (is_in_box from to p) (holds m.side corner p) (sym (tests p) ∙ parts.0) in
-          let held : Holds m.side t.corner p = (holds_is m.side t.corner p valid.side_low tile.corner).0 (sym (held_is p) ∙ inside.1) in
-          let void : is_void_within m from to p ≡ true = and_from (is_in_box from to p) (is_void_at m p) inside.0 parts.1 in
+          let parts = and_parts (is_in_box from to p) (holds m.side corner p && is_void_at m p) found in
+          let inside = and_parts (holds m.side corner p) (is_void_at m p) parts.1 in
+          let held : Holds m.side t.corner p = (holds_is m.side t.corner p valid.side_low tile.corner).0 (sym (held_is p) ∙ inside.0) in
+          let void : is_void_within m from to p ≡ true = and_from (is_in_box from to p) (is_void_at m p) parts.0 inside.1 in
           sym (void_from m valid from to t tile (index_of m.side t.corner p, (index_of_below m.side t.corner p held, ap (is_void_within m from to) (point_of_index m.side t.corner p held) ∙ void)))
       by false none = sym (false_from_ne_true (has_void_from m from to t.corner 0 t.samples) (λ some.
           let one = void_says m valid from to t tile some in
           let p = point_of m.side t.corner one.0 in
           let parts = and_parts (is_in_box from to p) (is_void_at m p) one.1.1 in
           let held : Holds m.side t.corner p = point_of_held m.side t.corner one.0 (some_edge m.side valid.side_low) tile.corner one.1.0 in
-          let inside : test p ≡ true = tests p ∙ and_from (is_in_box from to p) (holds m.side corner p) parts.0 (held_is p ∙ (holds_is m.side t.corner p valid.side_low tile.corner).1 held) in
-          both_ways (test p && is_void_at m p) (none p) (and_from (test p) (is_void_at m p) inside parts.1)))
+          let inside = held_is p ∙ (holds_is m.side t.corner p valid.side_low tile.corner).1 held in
+          both_ways (is_void_here p) (none p) (and_from (is_in_box from to p) (holds m.side corner p && is_void_at m p) parts.0 (and_from (holds m.side corner p) (is_void_at m p) inside parts.1))))
 
 -- of these tiles, those that were looked at and have a void point in the box were found
 pub record FindsTiles {S : Type 0} (g : Ghosts S) (from to : Point) (looked : List Corner) (old now : S) (tiles : List Corner) : Type 0 where

@@ -14,7 +14,6 @@ use Rattle.lattice.specs.declared.refusal.Refusal.TheVariants.{BadBox}
 use Rattle.catalogue.specs.Tiles.{corners_of}
 use Rattle.edits.specs.declared.command.Command.TheVariants.{Patch}
 use Rattle.edits.specs.Effect.{effect, is_height, is_box, is_in_box, is_void_at, has_void_from}
-use Rattle.edits.proofs.BoxRows.{box_is}
 
 pub any_says : {X : Type 0} (f : X → Bool) (xs : List X) → list_any f xs ≡ true → (x : X) × (Contains xs x × (f x ≡ true))
 any_says f [] e = absurd (false≢true e)
@@ -69,7 +68,12 @@ is_span n first last = int_le first last && int_lt (last -ℤ first) (pos n)
 
 module _ (n : ℕ) (from to : Point) where
   spans : (is_span n from.y to.y && is_span n from.x to.x) ≡ is_box n from to
-  spans = box_is (int_le from.y to.y) (int_lt (to.y -ℤ from.y) (pos n)) (int_le from.x to.x) (int_lt (to.x -ℤ from.x) (pos n))
+  spans = regroup (int_le from.y to.y) (int_lt (to.y -ℤ from.y) (pos n)) (int_le from.x to.x) (int_lt (to.x -ℤ from.x) (pos n))
+    where
+      regroup : (a b c d : Bool) → ((a && b) && (c && d)) ≡ (((a && c) && b) && d)
+      regroup true true c d = elim c as (λ x. (x && d) ≡ ((x && true) && d)) [ true ↦ refl | false ↦ refl ]
+      regroup true false c d = elim c as (λ x. false ≡ ((x && false) && d)) [ true ↦ refl | false ↦ refl ]
+      regroup false b c d = refl
 
   pub box_from : is_span n from.y to.y ≡ true → is_span n from.x to.x ≡ true → is_box n from to ≡ true
   box_from rows columns = sym spans ∙ and_from (is_span n from.y to.y) (is_span n from.x to.x) rows columns

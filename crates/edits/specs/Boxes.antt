@@ -1,27 +1,30 @@
--- Boxes row by row.
-use Rattle.std.specs.Prelude.{◌≡◌, ℕ, ℤ, pos, ◌+ℤ◌, int_le, int_lt, Bool, true, false, ◌&&◌, if◌then◌else◌}
-use Rattle.std.specs.Ordering.{int_eq}
+-- Boxes point by point.
+use Rattle.std.specs.Prelude.{◌≡◌, ℕ, ◌+◌, ◌*◌, ◌/◌, ◌%◌, ℤ, pos, ◌+ℤ◌, ◌-ℤ◌, nat_abs, nat_lt, Bool, true, false, ◌&&◌, if◌then◌else◌}
 use Rattle.lattice.specs.declared.point.Point.{Point}
 use Rattle.lattice.specs.Mosaic.{Mosaic}
-use Rattle.edits.specs.Effect.{edited, is_void_at}
+use Rattle.edits.specs.Effect.{edited, is_in_box, is_void_at}
+use Rattle.edits.specs.declared.boxes.BoxPoints.{BoxPoints}
 
--- of so many points from this one on eastwards
-abbrev pub is_in_row : Point → ℕ → Point → Bool
-is_in_row start columns p = int_eq p.y start.y && (int_le start.x p.x && int_lt p.x (start.x +ℤ pos columns))
+-- the point of this number in a box so many columns wide, row by row northwards from the first
+abbrev pub box_point : Point → ℕ → ℕ → Point
+box_point from columns k = record { y = from.y +ℤ pos (k / columns); x = from.x +ℤ pos (k % columns) }
 
--- of so many such rows, northwards
-abbrev pub is_in_rows : Point → ℕ → ℕ → Point → Bool
-is_in_rows start rows columns p = (int_le start.y p.y && int_lt p.y (start.y +ℤ pos rows)) && (int_le start.x p.x && int_lt p.x (start.x +ℤ pos columns))
+-- the number of a point of it
+abbrev pub box_place : Point → ℕ → Point → ℕ
+box_place from columns p = nat_abs (p.y -ℤ from.y) * columns + nat_abs (p.x -ℤ from.x)
 
-abbrev pub is_void_in_row : Mosaic → Point → ℕ → Point → Bool
-is_void_in_row m start columns p = is_in_row start columns p && is_void_at m p
+-- the points are those of the box
+pub record ArePointsOf (from to : Point) (points : BoxPoints) : Type 0 where
+  pub first : points.from ≡ from
+  pub rows : to.y +ℤ pos 1 ≡ from.y +ℤ pos points.rows
+  pub columns : to.x +ℤ pos 1 ≡ from.x +ℤ pos points.columns
 
-abbrev pub is_void_in_rows : Mosaic → Point → ℕ → ℕ → Point → Bool
-is_void_in_rows m start rows columns p = is_in_rows start rows columns p && is_void_at m p
+-- the point is among so many first ones of the box
+abbrev pub is_among : Point → Point → (columns k : ℕ) → Point → Bool
+is_among from to columns k p = is_in_box from to p && nat_lt (box_place from columns p) k
 
--- the value lies in both stretches, ends included
-abbrev pub is_overlap : ℤ → ℤ → ℤ → ℤ → ℤ → Bool
-is_overlap first last low high v = (int_le first v && int_le v last) && (int_le low v && int_le v high)
+abbrev pub is_void_among : Mosaic → Point → Point → (columns k : ℕ) → Point → Bool
+is_void_among m from to columns k p = is_among from to columns k p && is_void_at m p
 
 -- whether the test passes at some point
 abbrev pub IsSomewhere : (Point → Bool) → Bool → Type 0

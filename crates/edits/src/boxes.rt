@@ -1,56 +1,73 @@
-//! Boxes of points: how many each way, and steps from point to point.
-ghost use Rattle.std.specs.Prelude.{◌≡◌, true, false, ◌&&◌, ◌^◌, ◌+ℤ◌, ◌-ℤ◌, ◌<ℤ◌, int_le, int_lt, pos, IfSome, IfNone};
-ghost use Rattle.edits.specs.Effect.{is_box};
+//! Boxes of points, point by point.
+ghost use Rattle.std.specs.Prelude.{◌≡◌, true, false, ◌&&◌, ◌*◌, ◌<◌, ◌≤ℤ◌, ◌<ℤ◌, ◌+ℤ◌, ◌-ℤ◌, ◌^◌, int_le, int_lt, pos, IfSome, IfNone};
 
 use lattice::{Point, Side};
 
-/// How many points a box has each way.
+/// The points of a box, row by row northwards.
 #[derive(Clone, Copy)]
-pub(crate) struct BoxSize {
-    pub rows: u32,
-    pub columns: u32,
+pub(crate) struct BoxPoints {
+    from: Point,
+    rows: u32,
+    columns: u32,
+    ghost north: { (from.y +ℤ pos rows) ≤ℤ pos (2 ^ 31) },
+    ghost east: { (from.x +ℤ pos columns) ≤ℤ pos (2 ^ 31) },
+    ghost some: { 0 < columns },
 }
 
-/// The size of the box, where its corners are in order and at most a side's points apart each way.
-pub(crate) fn size_of_box(side: Side, from: Point, to: Point) -> Option<BoxSize>
-    ensures none { IfNone result (is_box side from to ≡ false) }
-    ensures some { IfSome result (λ size. (is_box side from to ≡ true) × (to.y +ℤ pos 1 ≡ from.y +ℤ pos size.rows) × (to.x +ℤ pos 1 ≡ from.x +ℤ pos size.columns)) }
+impl BoxPoints {
+    ghost use Rattle.edits.specs.Boxes.{ArePointsOf, box_point};
+    ghost use Rattle.edits.specs.Effect.{is_box};
+
+    /// Those of the box, where its corners are in order and fewer than a side's points apart each way.
+    pub(crate) fn new(side: Side, from: Point, to: Point) -> Option<BoxPoints>
+        ensures none { IfNone result (is_box side from to ≡ false) }
+        ensures some { IfSome result (λ points. (is_box side from to ≡ true) × ArePointsOf from to points) }
+    {
+        let rows = span(side, from.y, to.y)?;
+        let columns = span(side, from.x, to.x)?;
+        Some(BoxPoints {
+            from,
+            rows,
+            columns,
+        })
+    }
+
+    /// How many they are.
+    pub(crate) fn len(&self) -> u64
+        ensures { result ≡ self.now.rows * self.now.columns }
+    {
+        u64::from(self.rows) * u64::from(self.columns)
+    }
+
+    /// The one of this number.
+    pub(crate) fn point(&self, k: u64) -> Point
+        requires { k < self.now.rows * self.now.columns }
+        ensures { result ≡ box_point self.now.from self.now.columns k }
+    {
+        let columns = u64::from(self.columns);
+        Point {
+            y: along(self.from.y, k / columns),
+            x: along(self.from.x, k % columns),
+        }
+    }
+}
+
+// The value so many steps on.
+fn along(first: i32, steps: u64) -> i32
+    requires { (first +ℤ pos steps) <ℤ pos (2 ^ 31) }
+    ensures { result ≡ first +ℤ pos steps }
 {
-    let rows = span(side, from.y, to.y)?;
-    let columns = span(side, from.x, to.x)?;
-    Some(BoxSize { rows, columns })
+    (i64::from(first) + steps as i64) as i32
 }
 
-/// How many samples there are from the one to the other, ends included, if they are in order and at most a side.
-pub(crate) fn span(side: Side, first: i32, last: i32) -> Option<u32>
+// How many samples there are from the one to the other, ends included, if they are in order and at most a side.
+fn span(side: Side, first: i32, last: i32) -> Option<u32>
     ensures none { IfNone result ((int_le first last && int_lt (last -ℤ first) (pos side)) ≡ false) }
-    ensures some { IfSome result (λ k. ((int_le first last && int_lt (last -ℤ first) (pos side)) ≡ true) × (last +ℤ pos 1 ≡ first +ℤ pos k)) }
+    ensures some { IfSome result (λ k. ((int_le first last && int_lt (last -ℤ first) (pos side)) ≡ true) × (last +ℤ pos 1 ≡ first +ℤ pos k) × (0 < k)) }
 {
     let apart = i64::from(last) - i64::from(first);
     if apart < 0 || i64::from(side.samples()) <= apart {
         return None;
     }
     Some(apart as u32 + 1)
-}
-
-/// The point so many samples north.
-pub(crate) fn north_of(point: Point, rows: u32) -> Point
-    requires { (point.y +ℤ pos rows) <ℤ pos (2 ^ 31) }
-    ensures { result ≡ record { y = point.y +ℤ pos rows; x = point.x } }
-{
-    Point {
-        y: (i64::from(point.y) + i64::from(rows)) as i32,
-        x: point.x,
-    }
-}
-
-/// The point so many samples east.
-pub(crate) fn east_of(point: Point, columns: u32) -> Point
-    requires { (point.x +ℤ pos columns) <ℤ pos (2 ^ 31) }
-    ensures { result ≡ record { y = point.y; x = point.x +ℤ pos columns } }
-{
-    Point {
-        y: point.y,
-        x: (i64::from(point.x) + i64::from(columns)) as i32,
-    }
 }

@@ -1,13 +1,12 @@
 //! Carrying out an edit in memory.
-ghost use Rattle.std.specs.Prelude.{◌≡◌, ◌≤ℤ◌, ◌+ℤ◌, ◌^◌, pos, IsTrue, IsOk, IfErr, OnOk, OnErr};
+ghost use Rattle.std.specs.Prelude.{◌≡◌, IsTrue, IsOk, IfErr, OnOk, OnErr};
 ghost use Rattle.lattice.specs.Mosaic.{IsMosaic};
 ghost use Rattle.lattice.specs.declared.refusal.Refusal.TheVariants.{NoMemory};
 ghost use Rattle.catalogue.specs.Tiles.{corners_of};
-ghost use Rattle.edits.specs.Boxes.{filled, is_void_in_row, is_void_in_rows};
 ghost use Rattle.edits.specs.Edits.{AddsNone, FitsIn, edit_made, with_height, with_heights};
 ghost use Rattle.edits.specs.Effect.{is_box, is_void_at, patched};
 
-use crate::boxes::{east_of, north_of, size_of_box};
+use crate::boxes::BoxPoints;
 use crate::places::places_of;
 use crate::sinks::{with_point, without_point};
 use crate::{Edit, NewHeight};
@@ -76,40 +75,18 @@ fn set_at(table: &mut Table, point: Point, sample: i16)
     }
 }
 
-// Puts the sample at the void points of the box.
+// Puts the sample at the void points of the box. A point that was set isn't read again.
 fn fill_voids(table: &mut Table, from: Point, to: Point, sample: i16)
     requires valid { IsMosaic table.old }
     requires size { IsTrue (is_box table.old.side from to) }
     ensures filled { table.new ≡ patched from to sample table.old }
     ensures valid { IsMosaic table.new }
 {
-    if let Some(size) = size_of_box(table.side(), from, to) {
-        fill_rows(table, from, size.rows, size.columns, sample);
-    }
-}
-
-// Puts the sample at the void points of so many rows, northwards from this point.
-fn fill_rows(table: &mut Table, from: Point, rows: u32, columns: u32, sample: i16)
-    requires valid { IsMosaic table.old }
-    requires north { (from.y +ℤ pos rows) ≤ℤ pos (2 ^ 31) }
-    requires east { (from.x +ℤ pos columns) ≤ℤ pos (2 ^ 31) }
-    ensures filled { table.new ≡ filled (is_void_in_rows table.old from rows columns) sample table.old }
-    ensures valid { IsMosaic table.new }
-{
-    for row in 0..rows {
-        fill_row(table, north_of(from, row), columns, sample);
-    }
-}
-
-// Puts the sample at the void points of a row. A point that was set isn't read again.
-fn fill_row(table: &mut Table, start: Point, columns: u32, sample: i16)
-    requires valid { IsMosaic table.old }
-    requires east { (start.x +ℤ pos columns) ≤ℤ pos (2 ^ 31) }
-    ensures filled { table.new ≡ filled (is_void_in_row table.old start columns) sample table.old }
-    ensures valid { IsMosaic table.new }
-{
-    for column in 0..columns {
-        let point = east_of(start, column);
+    let Some(points) = BoxPoints::new(table.side(), from, to) else {
+        return;
+    };
+    for k in 0..points.len() {
+        let point = points.point(k);
         if is_void(table, point) {
             set_at(table, point, sample);
         }

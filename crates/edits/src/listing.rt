@@ -1,16 +1,15 @@
 //! The changes that an edit comes to.
-ghost use Rattle.std.specs.Prelude.{◌≡◌, ◌≤◌, ◌+◌, ◌*◌, ◌^◌, ◌≤ℤ◌, ◌+ℤ◌, pos, false, [], ◌∷◌, All, IsTrue, IfOk, IfErr, OnOk, length, vec_len, ◌&&◌};
+ghost use Rattle.std.specs.Prelude.{◌≡◌, ◌≤◌, ◌+◌, ◌*◌, false, [], ◌∷◌, All, IsTrue, IfOk, IfErr, OnOk, length, vec_len, ◌&&◌};
 ghost use Rattle.lattice.specs.Ground.{same_point};
 ghost use Rattle.lattice.specs.declared.refusal.Refusal.TheVariants.{NoMemory};
 ghost use Rattle.catalogue.specs.Endings.{ends_any};
 ghost use Rattle.catalogue.specs.Readers.{OnlyReads, reads_of};
-ghost use Rattle.edits.specs.Boxes.{is_void_in_row, is_void_in_rows};
 ghost use Rattle.edits.specs.Changes.{CanBeMade, CanBeSet, SetOnce, Sets, all_changed};
 ghost use Rattle.edits.specs.Edits.{FitsIn, edit_made, points_of, with_heights};
 ghost use Rattle.edits.specs.Effect.{is_box, is_in_box, is_named, is_repeated, is_void_at};
 ghost use Rattle.edits.specs.Plans.{AreFewOf, AreSetOnce};
 
-use crate::boxes::{east_of, north_of, size_of_box};
+use crate::boxes::BoxPoints;
 use crate::places::places_of;
 use crate::{Change, Edit, NewHeight, TileSamples};
 use catalogue::{Samples, height};
@@ -100,55 +99,14 @@ fn put_in_voids<S: Samples>(
     ensures fits { IfOk result (λ changes. All (CanBeSet (S.side_of samples.old) (S.corners samples.old)) changes.items) }
     ensures reads { OnlyReads S.Samples samples.old samples.new (reads_of result) }
 {
-    let Some(size) = size_of_box(samples.side(), from, to) else {
-        return Ok(Vec::new(alloc));
-    };
-    put_in_rows(alloc, samples, from, size.rows, size.columns, sample)
-}
-
-// Those that put the sample at the void points of so many rows, northwards from this point.
-fn put_in_rows<S: Samples>(
-    alloc: Global,
-    samples: &mut S,
-    from: Point,
-    rows: u32,
-    columns: u32,
-    sample: i16,
-) -> Result<Vec<Change>, Refusal>
-    requires north { (from.y +ℤ pos rows) ≤ℤ pos (2 ^ 31) }
-    requires east { (from.x +ℤ pos columns) ≤ℤ pos (2 ^ 31) }
-    ensures sets { S.is_honest samples.new → IfOk result (λ changes. Sets (S.side_of samples.old) (S.corners samples.old) (is_void_in_rows (S.mosaic samples.old) from rows columns) sample [] changes.items) }
-    ensures causes { IfErr result (λ r. IsTrue (ends_any r)) }
-    ensures fits { IfOk result (λ changes. All (CanBeSet (S.side_of samples.old) (S.corners samples.old)) changes.items) }
-    ensures reads { OnlyReads S.Samples samples.old samples.new (reads_of result) }
-{
     let mut changes = Vec::new(alloc);
-    for row in 0..rows {
-        let start = north_of(from, row);
-        put_in_row(samples, start, columns, sample, &mut changes)?;
+    let Some(points) = BoxPoints::new(samples.side(), from, to) else {
+        return Ok(changes);
+    };
+    for k in 0..points.len() {
+        put_if_void(samples, points.point(k), sample, &mut changes)?;
     }
     Ok(changes)
-}
-
-// Adds those that put the sample at the void points of a row.
-fn put_in_row<S: Samples>(
-    samples: &mut S,
-    start: Point,
-    columns: u32,
-    sample: i16,
-    changes: &mut Vec<Change>,
-) -> Result<(), Refusal>
-    requires { (start.x +ℤ pos columns) ≤ℤ pos (2 ^ 31) }
-    ensures sets { S.is_honest samples.new → OnOk result (Sets (S.side_of samples.old) (S.corners samples.old) (is_void_in_row (S.mosaic samples.old) start columns) sample changes.old.items changes.new.items) }
-    ensures causes { IfErr result (λ r. IsTrue (ends_any r)) }
-    ensures fits { OnOk result (All (CanBeSet (S.side_of samples.old) (S.corners samples.old)) changes.old.items → All (CanBeSet (S.side_of samples.old) (S.corners samples.old)) changes.new.items) }
-    ensures reads { OnlyReads S.Samples samples.old samples.new (reads_of result) }
-{
-    for column in 0..columns {
-        let point = east_of(start, column);
-        put_if_void(samples, point, sample, changes)?;
-    }
-    Ok(())
 }
 
 // Adds those that put the sample at the point, if that is void.

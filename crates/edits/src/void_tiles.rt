@@ -1,5 +1,5 @@
 //! The tiles that a patch changes: those with a void point in its box.
-ghost use Rattle.std.specs.Prelude.{◌≡◌, ◌≢◌, ◌≤◌, ◌+◌, ◌^◌, ◌≤ℤ◌, ◌<ℤ◌, ◌+ℤ◌, ◌-ℤ◌, ◌&&◌, ℤ, ℕ, Ok, Err, false, int_le, int_lt, pos, length, Contains, IsTrue, IfOk, IfErr, IfSome, IfNone, OnOk};
+ghost use Rattle.std.specs.Prelude.{◌≡◌, ◌≢◌, ◌≤◌, ◌+◌, ◌&&◌, ℕ, Ok, Err, Contains, IsTrue, IfOk, IfErr, OnOk};
 ghost use Rattle.lattice.specs.Corners.{Corner};
 ghost use Rattle.lattice.specs.Lattice.{Holds, holds};
 ghost use Rattle.lattice.specs.Mosaic.{Tile};
@@ -8,32 +8,16 @@ ghost use Rattle.lattice.specs.declared.refusal.Refusal.TheVariants.{NoMemory};
 ghost use Rattle.arrayvec.specs.ArrayVec.{array_vec_len};
 ghost use Rattle.catalogue.specs.Endings.{ends_any};
 ghost use Rattle.catalogue.specs.Readers.{OnlyReads, reads_of};
-ghost use Rattle.edits.specs.Boxes.{IsSomewhere, is_in_rows, is_overlap, is_void_in_row, is_void_in_rows};
 ghost use Rattle.edits.specs.Edits.{ArePresent, AreTiles, AreVoidTiles};
-ghost use Rattle.edits.specs.Effect.{effect, has_void_from, is_box, is_height, is_in_box, patched};
+ghost use Rattle.edits.specs.Effect.{effect, has_void_from, is_box, is_height, is_in_box, is_void_at, patched};
 ghost use Rattle.edits.specs.Plans.{is_own, may_end};
 ghost use Rattle.edits.specs.declared.command.Command.TheVariants.{Patch};
 
-use crate::boxes::{east_of, north_of, size_of_box, span};
+use crate::boxes::BoxPoints;
 use crate::point_edit::{HIGHEST, LOWEST};
 use arrayvec::ArrayVec;
 use catalogue::{Samples, height};
-use lattice::{Corner, Height, Point, Refusal, Side, holders, point_at};
-
-// So many rows of points northwards from the first one, each of so many points eastwards.
-#[derive(Clone, Copy)]
-struct Rows {
-    from: Point,
-    rows: u32,
-    columns: u32,
-}
-
-// So many values upwards from the first one.
-#[derive(Clone, Copy)]
-struct Stretch {
-    first: i32,
-    count: u32,
-}
+use lattice::{Corner, Height, Point, Refusal, Side, corner_in_range, holders, index_in};
 
 /// The present tiles with a void point in the box of a patch.
 pub(crate) fn tiles_to_patch<S: Samples>(
@@ -55,7 +39,7 @@ pub(crate) fn tiles_to_patch<S: Samples>(
     if height < LOWEST || HIGHEST < height {
         return Err(Refusal::BadHeight);
     }
-    let Some(_size) = size_of_box(samples.side(), from, to) else {
+    let Some(_points) = BoxPoints::new(samples.side(), from, to) else {
         return Err(Refusal::BadBox);
     };
     let tiles = tiles_of_box(samples, from, to)?;
@@ -131,78 +115,43 @@ fn has_void<S: Samples>(
     ensures memory { IfErr result (λ r. r ≢ NoMemory) }
     ensures reads { OnlyReads S.Samples samples.old samples.new (reads_of result) }
 {
-    match rows_within(samples.side(), corner, from, to) {
-        Some(part) => has_void_in_rows(samples, part),
+    let Some(points) = BoxPoints::new(samples.side(), from, to) else {
+        return Ok(false);
+    };
+    for k in 0..points.len() {
+        if is_void_in(samples, corner, points.point(k))? {
+            return Ok(true);
+        }
+    }
+    Ok(false)
+}
+
+// Whether the corner's tile holds the point, and its height is void. Of other points nothing is read.
+fn is_void_in<S: Samples>(samples: &mut S, corner: Corner, point: Point) -> Result<bool, Refusal>
+    ensures void { S.is_honest samples.new → IfOk result (λ b. b ≡ (holds (S.side_of samples.old) corner point && is_void_at (S.mosaic samples.old) point)) }
+    ensures causes { IfErr result (λ r. IsTrue (ends_any r)) }
+    ensures memory { IfErr result (λ r. r ≢ NoMemory) }
+    ensures reads { OnlyReads S.Samples samples.old samples.new (reads_of result) }
+{
+    let side = samples.side();
+    // That a side is at least 3 is told by its methods.
+    let _edge = side.edge();
+    corner_in_range(corner);
+    match index_in(side, corner, point) {
+        Some(_) => is_void(samples, point),
         None => Ok(false),
     }
 }
 
-// The points of the box that the corner's tile holds.
-fn rows_within(side: Side, corner: Corner, from: Point, to: Point) -> Option<Rows>
-    requires { IsTrue (is_box side from to) }
-    ensures some { IfSome result (λ part. (p : Point) → is_in_rows part.from part.rows part.columns p ≡ (is_in_box from to p && holds side corner p)) }
-    ensures north { IfSome result (λ part. (part.from.y +ℤ pos part.rows) ≤ℤ pos (2 ^ 31)) }
-    ensures east { IfSome result (λ part. (part.from.x +ℤ pos part.columns) ≤ℤ pos (2 ^ 31)) }
-    ensures none { IfNone result ((p : Point) → (is_in_box from to p && holds side corner p) ≡ false) }
-{
-    let north_west = point_at(side, corner, 0);
-    let south_east = point_at(side, corner, side.area() - 1);
-    let rows = overlap(side, from.y, to.y, south_east.y, north_west.y)?;
-    let columns = overlap(side, from.x, to.x, north_west.x, south_east.x)?;
-    Some(Rows {
-        from: Point {
-            y: rows.first,
-            x: columns.first,
-        },
-        rows: rows.count,
-        columns: columns.count,
-    })
-}
-
-// The values from `first` to `last`, fewer than a side apart, that also lie from `low` to `high`, ends included.
-fn overlap(side: Side, first: i32, last: i32, low: i32, high: i32) -> Option<Stretch>
-    requires { IsTrue (int_lt (last -ℤ first) (pos side)) }
-    ensures some { IfSome result (λ s. (v : ℤ) → (int_le s.first v && int_lt v (s.first +ℤ pos s.count)) ≡ is_overlap first last low high v) }
-    ensures end { IfSome result (λ s. (s.first +ℤ pos s.count) ≤ℤ pos (2 ^ 31)) }
-    ensures none { IfNone result ((v : ℤ) → is_overlap first last low high v ≡ false) }
-{
-    let first = first.max(low);
-    let last = last.min(high);
-    let count = span(side, first, last)?;
-    Some(Stretch { first, count })
-}
-
-// Whether some point of the rows is void.
-fn has_void_in_rows<S: Samples>(samples: &mut S, part: Rows) -> Result<bool, Refusal>
-    requires north { (part.from.y +ℤ pos part.rows) ≤ℤ pos (2 ^ 31) }
-    requires east { (part.from.x +ℤ pos part.columns) ≤ℤ pos (2 ^ 31) }
-    ensures void { S.is_honest samples.new → IfOk result (IsSomewhere (is_void_in_rows (S.mosaic samples.old) part.from part.rows part.columns)) }
+// Whether the height of the point is void.
+fn is_void<S: Samples>(samples: &mut S, point: Point) -> Result<bool, Refusal>
+    ensures void { S.is_honest samples.new → IfOk result (λ b. b ≡ is_void_at (S.mosaic samples.old) point) }
     ensures causes { IfErr result (λ r. IsTrue (ends_any r)) }
     ensures memory { IfErr result (λ r. r ≢ NoMemory) }
     ensures reads { OnlyReads S.Samples samples.old samples.new (reads_of result) }
 {
-    for row in 0..part.rows {
-        let start = north_of(part.from, row);
-        if has_void_in_row(samples, start, part.columns)? {
-            return Ok(true);
-        }
+    match height(samples, point)? {
+        Height::Void => Ok(true),
+        Height::Outside | Height::At(_) => Ok(false),
     }
-    Ok(false)
-}
-
-// Whether some point of the row is void.
-fn has_void_in_row<S: Samples>(samples: &mut S, start: Point, columns: u32) -> Result<bool, Refusal>
-    requires { (start.x +ℤ pos columns) ≤ℤ pos (2 ^ 31) }
-    ensures void { S.is_honest samples.new → IfOk result (IsSomewhere (is_void_in_row (S.mosaic samples.old) start columns)) }
-    ensures causes { IfErr result (λ r. IsTrue (ends_any r)) }
-    ensures memory { IfErr result (λ r. r ≢ NoMemory) }
-    ensures reads { OnlyReads S.Samples samples.old samples.new (reads_of result) }
-{
-    for column in 0..columns {
-        let point = east_of(start, column);
-        if let Height::Void = height(samples, point)? {
-            return Ok(true);
-        }
-    }
-    Ok(false)
 }

@@ -5,10 +5,10 @@
 //! page comes only where none is free.
 //!
 //! ```
-//! let mut pages = Pages::new(alloc, 16)?;                // pages 4 to 15
+//! let mut pages = Pages::new(alloc, 16).ok_or(Refusal::NoMemory)?;   // pages 4 to 15
 //! let was_free = pages.mark(4);                          // true
-//! let page = pages.take()?;                              // one of 5 to 15
-//! pages.give(page);
+//! pages.give(4);
+//! let page = pages.take().ok_or(Refusal::Full)?;         // one of 4 to 15
 //! ```
 #![tactic(auto)]
 

@@ -41,9 +41,3 @@ sectors_asked f = 4 + (4 * f.capacity + 2) * plane_pages_of f
 -- by the first version
 abbrev pub sectors_of : (side capacity : ℕ) → ℕ
 sectors_of side capacity = 4 + (4 * capacity + 2) * (1 + pages_of side)
-
--- The most writes of a command that changes so many points, each in four tiles at the most: in each tile a page, its
--- index page in the second version, and the record; then a root and two gates.
-abbrev pub most_writes : Version → ℕ → ℕ
-most_writes One points = 8 * points + 3
-most_writes Two points = 12 * points + 3

@@ -4,8 +4,8 @@ ghost use Rattle.lattice.specs.declared.refusal.Refusal.TheVariants.{BadSide, Ba
 ghost use Rattle.page_codec.specs.Formats.{Format, IsFormat, format_1, largest_side_of, upgraded};
 ghost use Rattle.page_codec.specs.Sizes.{pages_of, index_pages_of, listed_in, AreLeastPages, sectors_asked};
 
-use crate::size::{FIXED_SECTORS, pages_in_plane};
-use crate::{MAX_CAPACITY, RECORD_PAGES, Version};
+use crate::size::pages_in_plane;
+use crate::{FIXED_SECTORS, MAX_CAPACITY, RECORD_PAGES, Version};
 use lattice::{Refusal, Side};
 use std::marker::Model;
 

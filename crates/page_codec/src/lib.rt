@@ -41,6 +41,12 @@ pub use version::Version;
 /// Bytes of a sector and of a page.
 pub const PAGE_BYTES: usize = 4096;
 
+/// Samples, levels or labels of a page, at two bytes each.
+pub const VALUES_IN_PAGE: u32 = 2048;
+
+/// Sectors of the gates and the roots, before the pages.
+pub const FIXED_SECTORS: u32 = 4;
+
 /// How many page numbers a record or an index page has room for.
 pub const RECORD_PAGES: usize = 1024;
 

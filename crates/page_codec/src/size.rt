@@ -8,9 +8,6 @@ use lattice::Side;
 // Bytes of a point in a plane.
 const POINT_BYTES: u32 = 2;
 
-// Sectors of the gates and the roots.
-pub(crate) const FIXED_SECTORS: u32 = 4;
-
 /// How many pages the plane of a tile fills, at two bytes a point.
 pub fn pages_in_plane(side: Side) -> u32
     ensures value { result ≡ pages_of side }

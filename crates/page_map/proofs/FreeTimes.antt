@@ -1,12 +1,10 @@
 -- Free pages counted by their numbers.
 use Rattle.std.proofs.Common.{◌≡◌, ◌≢◌, ℕ, ◌+◌, ◌≤◌, ◌<◌, Bool, List, [], ◌∷◌, ◌++◌, true, false, cond, eqb, inl, inr, refl, sym, subst, ap, ap₂, ◌∙◌, arith}
-use Rattle.std.specs.BTreeMap.{is_at}
 use Rattle.std.specs.BTreeSet as tree
 use Rattle.std.specs.Prelude.{not, ◌&&◌, ◌||◌, nat_le, nat_lt}
 use Rattle.std.specs.Ordering.{nat_cmp}
-use Rattle.std.specs.Cmp.{unsigned_tied}
 use Rattle.std.specs.FinSet.{contains}
-use Rattle.std.proofs.lemmas.Bool.{false_from_ne_true, cases_eq, eq-eqb, ne_eqb, le-leb, le-ltb, lt-ltb}
+use Rattle.std.proofs.lemmas.Bool.{false_from_ne_true, cases_eq, eq-eqb, ne_eqb, le-leb, lt-ltb}
 use Rattle.std.proofs.lemmas.Bool.Decides.{nat_tests}
 use Rattle.std.specs.BTreeSet.{BTreeSet}
 use Rattle.page_alloc.specs.Pages.{PageSet, IsPage, IsFree, with_page, without_page}
@@ -22,14 +20,6 @@ module _ (pages : FreePages) (p : ℕ) (near : p < pages.range.window) where
 
   pub near_times : (is : Bool) → contains pages.free p ≡ is → free_times pages p ≡ cond is 1 0
   near_times is same = free_near ∙ ap (λ (b : Bool). cond b 1 0) same
-
--- a page behind it
-module _ (pages : FreePages) (p : ℕ) (behind : pages.range.window ≤ p) (inside : p < pages.range.sectors) where
-  pub far_free : tree.contains nat_cmp pages.far p ≡ false → free_times pages p ≡ 1
-  far_free is = rw (le-ltb p pages.range.window behind, lt-ltb p pages.range.sectors inside, is) refl
-
-  pub far_used : tree.contains nat_cmp pages.far p ≡ true → free_times pages p ≡ 0
-  far_used is = rw (le-ltb p pages.range.window behind, lt-ltb p pages.range.sectors inside, is) refl
 
 pub page_at : (range : PageRange) (p : ℕ) → 1 ≤ page_times range p → IsPage range.sectors p
 page_at range p some = grind (arith, nat_tests)
@@ -77,19 +67,6 @@ module _ (sectors : ℕ) (near new : PageSet) (far : BTreeSet ℕ) (k : ℕ) (in
 
   pub not_near : ¬ IsFree near k → free_times (pages_by sectors near far) k ≡ 0
   not_near used = near_times (pages_by sectors near far) k inside false (false_from_ne_true (contains near.free k) used)
-
-module _ (sectors : ℕ) (near : PageSet) (far new : BTreeSet ℕ) (k : ℕ) (behind : near.total ≤ k) (inside : k < sectors) where
-  others_far : ((q : ℕ) → is_at (nat_cmp k) q ≡ false → tree.contains nat_cmp new q ≡ tree.contains nat_cmp far q) → (p : ℕ) → p ≢ k → free_times (pages_by sectors near new) p ≡ free_times (pages_by sectors near far) p
-  others_far alike p other =
-      ap (λ (b : Bool). cond (cond (nat_lt p near.total) (contains near.free p) (nat_lt p sectors && not b)) 1 0) (alike p (unsigned_tied k p ∙ ne_eqb k p (λ e. other (sym e))))
-
-  pub far_marked : tree.contains nat_cmp far k ≡ false → tree.Updates nat_cmp far new k true → AreTaken (k ∷ []) (pages_by sectors near far) (pages_by sectors near new)
-  far_marked was (each, here, others, kept) =
-      one_taken (pages_by sectors near far) (pages_by sectors near new) refl k (others_far others) (far_free (pages_by sectors near far) k behind inside was) (far_used (pages_by sectors near new) k behind inside here)
-
-  pub far_back : tree.contains nat_cmp far k ≡ true → tree.Updates nat_cmp far new k false → AreGiven (k ∷ []) (pages_by sectors near far) (pages_by sectors near new)
-  far_back was (each, here, others, kept) =
-      one_given (pages_by sectors near far) (pages_by sectors near new) refl k (others_far others) (far_used (pages_by sectors near far) k behind inside was) (far_free (pages_by sectors near new) k behind inside here)
 
 -- a page that can be given back is one of the disk, and isn't free
 pub one_in_use : (pages : FreePages) (k : ℕ) → AreInUse (k ∷ []) pages → IsPage pages.range.sectors k × (free_times pages k ≡ 0)

@@ -8,7 +8,7 @@ use Rattle.page_map.specs.FreePages.{FreePages}
 use Rattle.page_map.specs.Locations.{PlaneLocation, pages_behind, IsMovedBehind, times}
 use Rattle.page_map.specs.FreePages.{free_times, differing, AreTaken, IsOwned, IsOwnedPage}
 use Rattle.page_map.proofs.FreeTimes.{balanced_as, balanced_on, balanced_same}
-use Rattle.page_map.proofs.Times.{one, one-self, differing-has, differing-set, length-differing-set, has_at}
+use Rattle.page_map.proofs.Times.{one-self, differing-has, differing-set, length-differing-set, has_at}
 
 pub owned_already : (committed pages : List ℕ) (i : ℕ) (free : FreePages) → i < length pages → (i < length committed → get_or pages i 0 ≢ get_or committed i 0)
     → IsOwned committed (get_or pages i 0) pages pages free free

@@ -1,18 +1,12 @@
 -- What a `?` answers where the call before it was refused.
-use Rattle.std.proofs.Common.{◌≡◌, Result, Ok, Err, true, false, refl, sym, ap}
-use Rattle.std.specs.Prelude.{IfOk, OnErr, is_ok, is_err}
+use Rattle.std.proofs.Common.{◌≡◌, Result, Ok, Err, ap}
+use Rattle.std.specs.Prelude.{IfOk, OnErr}
 use Rattle.std.specs.Result.{IsErrAnd}
-use Rattle.std.proofs.lemmas.Bool.{false≢true}
 use Rattle.lattice.specs.declared.refusal.Refusal.{Refusal}
 
 pub ended_with : {A : Type 0} (r : Result A Refusal) (why : Refusal) → IsErrAnd r (λ e. e ≡ why) → r ≡ Err why
 ended_with (Ok x) why is = absurd is
 ended_with (Err e) why is = ap (λ (x : Refusal). Err x) is
-
--- what isn't refused is done
-pub ok_from : {T E : Type 0} (r : Result T E) → is_err r ≡ false → is_ok r ≡ true
-ok_from (Ok x) none = refl
-ok_from (Err e) none = absurd (false≢true (sym none))
 
 -- what holds where a call was done, and where it was refused
 pub done_or_not : {T E : Type 0} {P : T → Type 0} {Q R : Type 0} (r : Result T E) → ((x : T) → P x → R) → (Q → R) → IfOk r P → OnErr r Q → R

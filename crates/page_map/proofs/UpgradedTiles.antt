@@ -4,7 +4,7 @@ use Rattle.std.specs.Prelude.{Option, Some, None, All}
 use Rattle.std.specs.List.{flat_map, cons_option}
 use Rattle.std.proofs.Math.Nat.{mul-add, mul-le-mul_left}
 use Rattle.std.specs.FinSet.{len}
-use Rattle.std.proofs.lemmas.List.{get_or-map, length-append, length-map, map-append, nil_from_length}
+use Rattle.std.proofs.lemmas.List.{get_or-map, length-append, length-map, map-append}
 use Rattle.std.proofs.lemmas.List.Elements.{All-from_recursion}
 use Rattle.std.proofs.lemmas.Grind.{flat_map-append}
 use Rattle.lattice.specs.Corners.{Corner}
@@ -19,13 +19,12 @@ use Rattle.page_map.specs.Locations.{PlaneLocation, times, listing_of, pages_of_
 use Rattle.page_map.specs.FreePages.{AreTaken}
 use Rattle.page_map.specs.TileLocations.{TileLocation, KeepsPageRule, reached, pages_of_tile, pages_of_kept}
 use Rattle.page_map.specs.PageMaps.{IsFresh, tile_at}
-use Rattle.page_map.specs.TileEntries.{committed_tile, committed_tiles, fresh_by, page_map_of, staged_tiles, tile_of, tile_planes, Entry, IsKept}
+use Rattle.page_map.specs.TileEntries.{committed_tile, committed_tiles, page_map_of, staged_tiles, tile_of, tile_planes, Entry, IsKept}
 use Rattle.page_map.specs.Upgraded.{KeptData, TileData, data_of, data_of_kept, listing_of_kept, listing_of_tile, listings}
 use Rattle.page_map.proofs.Times.{times-append, all_numbers, times_of_member}
 use Rattle.page_map.proofs.FreeTimes.{balanced_as, page_at, page_le, taken-append}
 use Rattle.page_map.proofs.EntryLists.{committed_own, corner_of, counted_tiles, rising_before, rising_map, rising_tiles}
 use Rattle.page_map.proofs.PageMapRules.{page_rule}
-use Rattle.page_map.proofs.Clean.{none_fresh}
 
 -- ---- pages, and what lists them
 abbrev pub kept_data : Option KeptData → List ℕ
@@ -82,9 +81,6 @@ unmapped P f xs all k d lt = subst P (get_or-map f xs k d (f d) lt) (all k (f d)
 
 -- ---- one tile after another
 module _ (format : Format) (entries : List Entry) (free : FreePages) (kept : IsKept format entries free) (clean : staged_tiles entries ≡ committed_tiles entries) where
-  none_staged : (p : ℕ) → times p (flat_map fresh_by entries) ≡ 0
-  none_staged p = ap (times p) (none_fresh format entries free kept clean)
-
   -- pages that were free are fresh
   pub fresh_listings : (tiles : List TileLocation) (now : FreePages) → AreTaken (listings tiles) free now → All (IsFresh (page_map_of format entries free)) (listings tiles)
   fresh_listings tiles now taken =
@@ -156,16 +152,3 @@ module _ (format : Format) (entries : List Entry) (free : FreePages) (kept : IsK
           rule = page_rule free.range (made ++ tile ∷ []) (λ p.
               let joined = ap (λ (l : List TileData). times p (all_data l)) (sym data_more) ∙ data-append p (map data_of (made ++ tile ∷ [])) (map data_of (committed_tiles rest)) in
               omega (arith, tiles_split p (made ++ tile ∷ []), tiles_split p (committed_tiles entries), joined, taken_more.each p, counted_tiles format entries free kept p))
-
--- ---- one plane
--- a plane of index pages alone, with pages behind it
-module _ (listing new : PlaneLocation) (pages : List ℕ) (empty : length listing.pages ≡ 0) (more : new ≡ record listing { pages = listing.pages ++ pages }) where
-  pub listing_taken : (old now : FreePages) → AreTaken (pages_of_plane listing) old now → AreTaken (listing_of new) old now
-  listing_taken old now taken =
-      rw more (balanced_as taken (λ p. (let none = ap (times p) (nil_from_length listing.pages empty) in omega (arith, plane_split p listing, none))))
-
-  pub pages_behind_listing : new.pages ≡ pages
-  pages_behind_listing = ap (λ (l : PlaneLocation). l.pages) more ∙ ap (λ (l : List ℕ). l ++ pages) (nil_from_length listing.pages empty)
-
-  pub index_behind_listing : new.index_pages ≡ listing.index_pages
-  index_behind_listing = ap (λ (l : PlaneLocation). l.index_pages) more

@@ -6,8 +6,9 @@
 //! them.
 //!
 //! ```
-//! let page = page_map.page_for_writing(corner, 0)?;         // for new content of the tile's first page
-//! page_map.settle();                                        // what was staged is committed
+//! page_map.tile_for_writing(corner)?;
+//! let page = page_map.page_for_writing(corner, 0)?;      // for new content of the tile's first page
+//! page_map.settle();                                     // what was staged is committed
 //! ```
 #![tactic(auto)]
 

@@ -110,7 +110,3 @@ pages_gate B d c but k le = but k (omega (arith, le))
 pub beside_slot : (s : Slot) (d c : Image) → ((k : ℕ) → k ≢ gate (other s) → k ≢ root_sector (other s) → d k ≡ c k) → d (root_sector s) ≡ c (root_sector s)
 beside_slot A d c but = but 1 (omega arith) (omega arith)
 beside_slot B d c but = but 3 (omega arith) (omega arith)
-
-pub pages_slot : (s : Slot) (d c : Image) → ((k : ℕ) → k ≢ gate s → k ≢ root_sector s → d k ≡ c k) → SamePages d c
-pages_slot A d c but k le = but k (omega (arith, le)) (omega (arith, le))
-pages_slot B d c but k le = but k (omega (arith, le)) (omega (arith, le))

@@ -14,10 +14,7 @@ use crate::faults::device;
 use crate::slot::{Slot, is_open_gate};
 use disk::{Disk, Fault};
 use lattice::Refusal;
-use page_codec::{Damaged, Root};
-
-// The sectors of the gates and the roots.
-const SLOT_SECTORS: u32 = 4;
+use page_codec::{Damaged, FIXED_SECTORS, Root};
 
 // The current root, and where it stands.
 #[derive(Drop)]
@@ -177,7 +174,7 @@ pub(crate) fn scan<D: Disk>(disk: &mut D) -> Result<Found, Refusal>
         → IsErrOf result Device ⊎ OpensAs (D.size disk.old) (D.seen disk.old) (found_as result) }
 {
     device(disk.sync())?;
-    if disk.sectors() < SLOT_SECTORS {
+    if disk.sectors() < FIXED_SECTORS {
         return Err(Refusal::NotAStore);
     }
     let (first, second) = device(read_slots(disk))?;

@@ -15,6 +15,8 @@ use crate::writing::{fill_slot, write_only};
 use disk::{Disk, settle};
 use lattice::Refusal;
 use page_codec::Root;
+use std::error::Error;
+use std::fmt;
 
 /// A disk with its current root, as opening found it or the last commit left it.
 ///
@@ -39,6 +41,34 @@ pub struct Roots<D: Disk> {
 pub struct NotOpened<D: Disk> {
     pub disk: D,
     pub refusal: Refusal,
+}
+
+impl<D: Disk> fmt::Debug for NotOpened<D> {
+    fn fmt<W: fmt::Write>(&self, f: &mut fmt::Formatter<W>) -> fmt::Result {
+        fmt::Debug::fmt(&self.refusal, f)
+    }
+}
+
+impl<D: Disk> fmt::Display for NotOpened<D> {
+    ghost use Rattle.std.specs.Prelude.{Some};
+    ghost use Rattle.lattice.specs.Refusals.{word_of};
+
+    ghost output = { λ n. Some (word_of n.refusal) };
+
+    fn fmt<W: fmt::Write>(&self, f: &mut fmt::Formatter<W>) -> fmt::Result {
+        fmt::Display::fmt(&self.refusal, f)
+    }
+}
+
+impl<D: Disk + Drop> Error for NotOpened<D> {}
+
+/// So `?` ends a call that answers a Refusal, and lets the disk go.
+impl<D: Disk + Drop> From<NotOpened<D>> for Refusal {
+    ghost from_gives = { λ n r. r ≡ n.refusal };
+
+    fn from(not_opened: NotOpened<D>) -> Refusal {
+        not_opened.refusal
+    }
 }
 
 impl<D: Disk> Roots<D> {

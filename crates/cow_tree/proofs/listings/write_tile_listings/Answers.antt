@@ -9,41 +9,48 @@ use Rattle.cow_tree.proofs.listings.write_tile_listings.Goals as goal
 pub write_listing-requires-2-clause-not_failed : goal.write_listing-requires-2-clause-not_failed
 write_listing-requires-2-clause-not_failed g c =
     let t = located_tile c.args.corner c.args.page_map.now.staged c.requires.present in
-    (c.in_ok-write_listing.ensures t.0 t.1.0 t.1.1).pages.works
+    (c.in_ok-write_listing.ensures.listed t.0 t.1.0 t.1.1).pages.works
 
 pub write_listing-requires-2-clause-sectors : goal.write_listing-requires-2-clause-sectors
 write_listing-requires-2-clause-sectors g c =
     let t = located_tile c.args.corner c.args.page_map.now.staged c.requires.present in
-    c.requires.sectors ∙ sym (c.in_ok-write_listing.ensures t.0 t.1.0 t.1.1).pages.size
+    c.requires.sectors ∙ sym (c.in_ok-write_listing.ensures.listed t.0 t.1.0 t.1.1).pages.size
 
 pub write_listing-requires-3-clause-not_failed : goal.write_listing-requires-3-clause-not_failed
 write_listing-requires-3-clause-not_failed g c =
     let t = located_tile c.args.corner c.args.page_map.now.staged c.requires.present in
-    (c.in_ok-write_listing-2.ensures t.0 t.1.0 t.1.1).pages.works
+    (c.in_ok-write_listing-2.ensures.listed t.0 t.1.0 t.1.1).pages.works
 
 pub write_listing-requires-3-clause-sectors : goal.write_listing-requires-3-clause-sectors
 write_listing-requires-3-clause-sectors g c =
     let t = located_tile c.args.corner c.args.page_map.now.staged c.requires.present in
-    c.requires.sectors ∙ sym (c.in_ok-write_listing.ensures t.0 t.1.0 t.1.1).pages.size ∙ sym (c.in_ok-write_listing-2.ensures t.0 t.1.0 t.1.1).pages.size
+    c.requires.sectors ∙ sym (c.in_ok-write_listing.ensures.listed t.0 t.1.0 t.1.1).pages.size ∙ sym (c.in_ok-write_listing-2.ensures.listed t.0 t.1.0 t.1.1).pages.size
 
-pub returns-in_err-write_listing : goal.returns-in_err-write_listing
-returns-in_err-write_listing g c t among at =
+pub returns-in_err-write_listing-clause-listed : goal.returns-in_err-write_listing-clause-listed
+returns-in_err-write_listing-clause-listed g c t among at =
     let page_map = c.args.page_map.now in
     let why : Refusal = c.in_err-write_listing.field-0.0 in
     let ended : c.from_residual.result ≡ Err why = ended_with c.from_residual.result why c.from_residual.ensures.1 in
     subst (λ (r : Result (Unit {0}) Refusal). WritesListing g.D.Disk (due_among (written_before c.args.which page_map) (tile_listing page_map.format t)) c.args.roots.now c.write_listing.new.roots r) (sym ended)
-    (first_refused g.D.Disk page_map c.rules.ensures (written_before c.args.which page_map) t among c.args.roots.now c.write_listing.new.roots why (c.in_err-write_listing.ensures t among at))
+    (first_refused g.D.Disk page_map c.rules.ensures (written_before c.args.which page_map) t among c.args.roots.now c.write_listing.new.roots why (c.in_err-write_listing.ensures.listed t among at))
 
-pub returns-in_err-write_listing-2 : goal.returns-in_err-write_listing-2
-returns-in_err-write_listing-2 g c t among at =
+pub returns-in_err-write_listing-2-clause-listed : goal.returns-in_err-write_listing-2-clause-listed
+returns-in_err-write_listing-2-clause-listed g c t among at =
     let page_map = c.args.page_map.now in
     let why : Refusal = c.in_err-write_listing-2.field-0.0 in
     let ended : c.from_residual-in_err-write_listing-2.result ≡ Err why = ended_with c.from_residual-in_err-write_listing-2.result why c.from_residual-in_err-write_listing-2.ensures.1 in
     subst (λ (r : Result (Unit {0}) Refusal). WritesListing g.D.Disk (due_among (written_before c.args.which page_map) (tile_listing page_map.format t)) c.args.roots.now c.write_listing-2.new.roots r) (sym ended)
-    (second_refused g.D.Disk page_map c.rules.ensures (written_before c.args.which page_map) t among c.args.roots.now c.write_listing.new.roots c.write_listing-2.new.roots why (c.in_ok-write_listing.ensures t among at) (c.in_err-write_listing-2.ensures t among at))
+    (second_refused g.D.Disk page_map c.rules.ensures (written_before c.args.which page_map) t among c.args.roots.now c.write_listing.new.roots c.write_listing-2.new.roots why (c.in_ok-write_listing.ensures.listed t among at) (c.in_err-write_listing-2.ensures.listed t among at))
 
-pub returns : goal.returns
-returns g c t among at =
+pub returns-clause-listed : goal.returns-clause-listed
+returns-clause-listed g c t among at =
     let page_map = c.args.page_map.now in
     tile_written g.D.Disk page_map c.rules.ensures (written_before c.args.which page_map) t among c.args.roots.now c.write_listing.new.roots c.write_listing-2.new.roots c.write_listing-3.new.roots c.write_listing-3.result
-    (c.in_ok-write_listing.ensures t among at) (c.in_ok-write_listing-2.ensures t among at) (c.write_listing-3.ensures t among at)
+    (c.in_ok-write_listing.ensures.listed t among at) (c.in_ok-write_listing-2.ensures.listed t among at) (c.write_listing-3.ensures.listed t among at)
+
+pub returns-clause-cached : goal.returns-clause-cached
+returns-clause-cached g c honest agrees =
+    let t = located_tile c.args.corner c.args.page_map.now.staged c.requires.present in
+    let second = (c.write_listing-3.ensures.listed t.0 t.1.0 t.1.1).pages.honest honest in
+    let first = (c.in_ok-write_listing-2.ensures.listed t.0 t.1.0 t.1.1).pages.honest second in
+    c.write_listing-3.ensures.cached honest (c.in_ok-write_listing-2.ensures.cached second (c.in_ok-write_listing.ensures.cached first agrees))

@@ -1,27 +1,67 @@
-use Rattle.std.proofs.Common.{◌&&◌, ◌∙◌, false, refl, ap, sym}
-use Rattle.std.proofs.lemmas.Bool.{and_left}
+use Rattle.std.proofs.Common.{◌≡◌, ◌+◌, ◌*◌, ◌<◌, Bool, ◌&&◌, true, false, sym, ◌∙◌, ap, ap₂, subst, refl, arith}
+use Rattle.std.proofs.lemmas.Bool.{and_from, and_right, both_ways}
+use Rattle.lattice.specs.Ground.{same_point}
 use Rattle.lattice.specs.Lattice.{holds}
+use Rattle.lattice.specs.Mosaic.{Mosaic}
 use Rattle.lattice.specs.declared.point.Point.{Point}
-use Rattle.edits.specs.Boxes.{is_in_rows}
-use Rattle.edits.specs.Effect.{is_in_box, is_void_at}
-use Rattle.edits.proofs.TilesFound.{tile_void, if_ok_weaker}
+use Rattle.edits.specs.Boxes.{is_among}
+use Rattle.edits.specs.Effect.{is_box, is_in_box, is_void_at}
+use Rattle.edits.proofs.BoxPlaces.{alone, among_all, among_none, among_with, inside_at}
+use Rattle.edits.proofs.Searching.{none_on, none_start}
+use Rattle.edits.proofs.TilesFound.{tile_void}
 use Rattle.edits.proofs.void_tiles.has_void.Goals as goal
 
-pub returns-in-Some-clause-void : goal.returns-in-Some-clause-void
-returns-in-Some-clause-void g c = λ honest.
+pub loop-k-init : goal.loop-k-init
+loop-k-init g c =
+    let from = c.args.from in
+    let to = c.args.to in
+    let box = c.in-Some.points in
     let old = c.args.samples.now in
-    let m = g.S.Samples.mosaic old in
-    let was = c.has_void_in_rows.ensures.reads.honest (honest) in
-    let part = c.in-Some.part in
-    if_ok_weaker c.has_void_in_rows.result
-    (λ b some. tile_void m (g.met.S.Samples.is_mosaic old was) c.args.from c.args.to c.args.corner (is_in_rows part.from part.rows part.columns)
-    (λ p. c.in-Some.ensures.some p ∙ ap (λ n. is_in_box c.args.from c.args.to p && holds n c.args.corner p) (c.side.ensures ∙ sym (g.met.S.Samples.same_side old was))) b some)
-    (c.has_void_in_rows.ensures.void honest)
+    let test : Mosaic → Point → Bool = λ m q. holds (g.S.Samples.side_of old) c.args.corner q && is_void_at m q in
+    none_start g.S.Samples g.met.S.Samples.keeps_itself (λ m q. is_among from to box.columns 0 q && test m q) (λ m q. ap (λ b. b && test m q) (among_none from to box c.in-Some.ensures.some.1 q)) old
 
-pub returns-in-None-clause-void : goal.returns-in-None-clause-void
-returns-in-None-clause-void g c = λ honest.
+pub loop-k-preserved : goal.loop-k-preserved
+loop-k-preserved g c =
+    let from = c.args.from in
+    let to = c.args.to in
+    let box = c.in-Some.points in
+    let k = c.loop-k.k in
+    let p = c.point.result in
+    let n = g.S.Samples.side_of c.args.samples.now in
+    let test : Mosaic → Point → Bool = λ m q. holds n c.args.corner q && is_void_at m q in
+    let mid = g.S.Samples.mosaic c.loop-k.samples in
+    let below : k < box.rows * box.columns = omega (arith, c.loop-k-test.true, c.len-k-end.ensures) in
+    none_on g.S.Samples g.met.S.Samples.keeps_on (λ m q. is_among from to box.columns k q && test m q) (λ m q. same_point q p && test m q) (λ m q. is_among from to box.columns (k + 1) q && test m q)
+    (λ m q. among_with from to box c.in-Some.ensures.some.1 p k below c.point.ensures (test m) q)
+    c.args.samples.now c.loop-k.samples c.is_void_in.new.samples c.loop-k.invariant c.in_ok-is_void_in.ensures.reads
+    (λ honest q. alone (test mid) p false (ap (λ n. holds n c.args.corner p && is_void_at mid p) (sym c.loop-k.invariant.reads.side) ∙ sym (c.in_ok-is_void_in.ensures.void honest) ∙ c.if-branch.false) q ∙ and_right (same_point q p) false refl)
+
+pub returns-in_default-clause-void : goal.returns-in_default-clause-void
+returns-in_default-clause-void g c honest t there same =
+    absurd (both_ways (is_box (g.S.Samples.side_of c.args.samples.now) c.args.from c.args.to) (subst (λ n. is_box n c.args.from c.args.to ≡ false) c.side.ensures c.in_default.ensures.none) c.requires.size)
+
+pub returns-then-branch-clause-void : goal.returns-then-branch-clause-void
+returns-then-branch-clause-void g c honest t there same =
     let old = c.args.samples.now in
     let m = g.S.Samples.mosaic old in
-    let none = λ (p : Point). ap (λ n. is_in_box c.args.from c.args.to p && holds n c.args.corner p) (g.met.S.Samples.same_side old honest ∙ sym c.side.ensures) ∙ c.in-None.ensures.none p in
-    tile_void m (g.met.S.Samples.is_mosaic old honest) c.args.from c.args.to c.args.corner (λ p. is_in_box c.args.from c.args.to p && holds m.side c.args.corner p) (λ p. refl) false
-    (λ p. and_left (is_in_box c.args.from c.args.to p && holds m.side c.args.corner p) (is_void_at m p) (none p))
+    let p = c.point.result in
+    let was = c.in_ok-is_void_in.ensures.reads.honest honest in
+    let first = c.loop-k.invariant.reads.honest was in
+    let side = c.loop-k.invariant.reads.side ∙ sym (g.met.S.Samples.same_side old first) in
+    let below : c.loop-k.k < c.in-Some.points.rows * c.in-Some.points.columns = omega (arith, c.loop-k-test.true, c.len-k-end.ensures) in
+    let here : is_in_box c.args.from c.args.to p ≡ true = inside_at c.args.from c.args.to c.in-Some.points c.in-Some.ensures.some.1 p c.loop-k.k below c.point.ensures in
+    let void : (holds m.side c.args.corner p && is_void_at m p) ≡ true =
+    sym (ap₂ (λ n (x : Mosaic). holds n c.args.corner p && is_void_at x p) side (c.loop-k.invariant.reads.mosaic was)) ∙ sym (c.in_ok-is_void_in.ensures.void honest) ∙ c.if-branch.true in
+    tile_void m (g.met.S.Samples.is_mosaic old first) c.args.from c.args.to c.args.corner true (p, and_from (is_in_box c.args.from c.args.to p) (holds m.side c.args.corner p && is_void_at m p) here void) t there same
+
+pub returns-clause-void : goal.returns-clause-void
+returns-clause-void g c honest t there same =
+    let old = c.args.samples.now in
+    let m = g.S.Samples.mosaic old in
+    let box = c.in-Some.points in
+    let was = c.loop-k.invariant.reads.honest honest in
+    let all : c.loop-k.k ≡ box.rows * box.columns = omega arith in
+    let test : Point → Bool = λ p. holds (g.S.Samples.side_of old) c.args.corner p && is_void_at m p in
+    tile_void m (g.met.S.Samples.is_mosaic old was) c.args.from c.args.to c.args.corner false
+    (λ p. ap (λ n. is_in_box c.args.from c.args.to p && (holds n c.args.corner p && is_void_at m p)) (g.met.S.Samples.same_side old was)
+    ∙ sym (ap (λ b. b && test p) (ap (λ k. is_among c.args.from c.args.to box.columns k p) all ∙ among_all c.args.from c.args.to box c.in-Some.ensures.some.1 p)) ∙ c.loop-k.invariant.none honest p) t there same

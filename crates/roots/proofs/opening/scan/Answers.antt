@@ -33,7 +33,7 @@ returns-clause-opens g c honest =
     let first : Holds A seen c.in_ok-first.first = if_ok c.read_slots.result _ (λ held. Holds A seen held.0) c.in_ok-first.ensures (c.read_slots.ensures.first honest) in
     let second : Holds B seen c.in_ok-first.second = if_ok c.read_slots.result _ (λ held. Holds B seen held.1) c.in_ok-first.ensures (c.read_slots.ensures.second honest) in
     let size : c.sectors-2.result ≡ d.size c.args.disk.now = c.sectors-2.ensures ∙ reads.size ∙ c.sync.ensures.size in
-    let large : 4 ≤ d.size c.args.disk.now = omega (arith, c.if-sectors-lt-SLOT_SECTORS.false, c.sectors.ensures, c.sync.ensures.size) in
+    let large : 4 ≤ d.size c.args.disk.now = omega (arith, c.if-sectors-lt-FIXED_SECTORS.false, c.sectors.ensures, c.sync.ensures.size) in
     inr (inr (
       large,
       (

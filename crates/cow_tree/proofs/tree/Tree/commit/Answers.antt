@@ -1,4 +1,4 @@
-use Rattle.std.proofs.Common.{◌≡◌, ◌≤◌, ◌⊎◌, inl, ℕ, List, length, map, refl, sym, ap, ap₂, ◌∙◌, subst, arith}
+use Rattle.std.proofs.Common.{rules, ◌≡◌, ◌≤◌, ◌⊎◌, inl, ℕ, List, length, map, refl, sym, ap, ap₂, ◌∙◌, subst, arith}
 use Rattle.disk.specs.Disk.{Image}
 use Rattle.disk.specs.Stops.{LeavesOnly, weaker}
 use Rattle.lattice.specs.declared.point.Point.{Point}
@@ -16,6 +16,7 @@ use Rattle.cow_tree.specs.Listings.{due_among, numbers_of, tiles_listing}
 use Rattle.cow_tree.specs.Staged.{AreStaged, pages_due}
 use Rattle.cow_tree.specs.Stored.{Stored, next_commit}
 use Rattle.cow_tree.specs.Trees.{IsAt}
+use Rattle.cow_tree.proofs.Cached.{same_agrees}
 use Rattle.cow_tree.proofs.Commits.{next_root, few_in_all, few_in_part, lands, same_tiles, nothing_staged, committing}
 use Rattle.cow_tree.proofs.Dropping.{corners_of_entries, clean_is_committed}
 use Rattle.cow_tree.proofs.Due.{none_due}
@@ -39,15 +40,15 @@ module _ (g : _) (c : After-write_listings g) where
 
 pub returns-in_err-write_listings-clause-writes : goal.returns-in_err-write_listings-clause-writes
 returns-in_err-write_listings-clause-writes g c =
-    few_in_part _ _ _ _ c.write_listings.ensures.pages.few (count g (goal.at.returns-in_err-write_listings-clause-writes g c).After-write_listings)
+    few_in_part _ _ _ _ c.write_listings.ensures.listed.pages.few (count g (goal.at.returns-in_err-write_listings-clause-writes g c).After-write_listings)
 
 pub returns-in_err-commit-clause-writes : goal.returns-in_err-commit-clause-writes
 returns-in_err-commit-clause-writes g c =
-    few_in_all _ _ _ _ _ _ c.in_ok-write_listings.ensures.pages.writes c.commit.ensures.writes (count g (goal.at.returns-in_err-commit-clause-writes g c).After-write_listings)
+    few_in_all _ _ _ _ _ _ c.in_ok-write_listings.ensures.listed.pages.writes c.commit.ensures.writes (count g (goal.at.returns-in_err-commit-clause-writes g c).After-write_listings)
 
 pub returns-clause-writes : goal.returns-clause-writes
 returns-clause-writes g c =
-    few_in_all _ _ _ _ _ _ c.in_ok-write_listings.ensures.pages.writes c.commit.ensures.writes (count g (goal.at.returns-clause-writes g c).After-write_listings)
+    few_in_all _ _ _ _ _ _ c.in_ok-write_listings.ensures.listed.pages.writes c.commit.ensures.writes (count g (goal.at.returns-clause-writes g c).After-write_listings)
 
 pub returns-in_err-write_listings-clause-any_moment : goal.returns-in_err-write_listings-clause-any_moment
 returns-in_err-write_listings-clause-any_moment g c honest s is =
@@ -57,7 +58,7 @@ returns-in_err-write_listings-clause-any_moment g c honest s is =
     let target : Stored = next_commit s old.sinks.points (map (tile_in (d.seen old.roots.disk)) old.page_map.staged) c.args.count in
     weaker d old.roots.disk c.write_listings.new.roots.disk (StoresAt size old.roots.root old.page_map.committed s) (λ image. Stands size image s ⊎ Stands size image target)
     (λ image stores. inl (stands size old.roots.root old.page_map.committed s image stores))
-    (c.write_listings.ensures.pages.any_moment honest is.ready old.page_map.committed s (due_unreached old.page_map.committed (tiles_listing old.page_map.format old.page_map.staged)) is.each)
+    (c.write_listings.ensures.listed.pages.any_moment honest is.ready old.page_map.committed s (due_unreached old.page_map.committed (tiles_listing old.page_map.format old.page_map.staged)) is.each)
 
 -- what lists the planes is written
 module _ (g : _) (c : After-commit g) (honest : g.D.Disk.honest c.commit.new.self.disk) (s : Stored) (is : IsAt g.D.Disk c.args.self.now s) where
@@ -75,7 +76,7 @@ module _ (g : _) (c : After-commit g) (honest : g.D.Disk.honest c.commit.new.sel
 
   stored : s ≡ stored_in seen c.args.self.now.root page_map.committed
   stored =
-      (is.each seen (g.met.D.Disk.seen_may c.args.self.now.roots.disk (c.write_listings.ensures.pages.honest mid_honest))).stands
+      (is.each seen (g.met.D.Disk.seen_may c.args.self.now.roots.disk (c.write_listings.ensures.listed.pages.honest mid_honest))).stands
       ∙ ap (λ (r : RootValue). stored_in seen r page_map.committed) (c.args.self.now.known c.requires.not_failed)
 
   abbrev target : Stored
@@ -93,12 +94,12 @@ module _ (g : _) (c : After-commit g) (honest : g.D.Disk.honest c.commit.new.sel
   land : (image : Image) → HasMoved c.with_sinks-root.result (g.D.Disk.seen c.write_listings.new.roots.disk) image → StoresAt size c.with_sinks-root.result page_map.staged target image
   land =
       subst (λ (r : RootValue). (image : Image) → HasMoved r (g.D.Disk.seen c.write_listings.new.roots.disk) image → StoresAt size r page_map.staged target image) (sym is_next)
-      (lands page_map c.rules.ensures page_map.committed seen (g.D.Disk.seen c.write_listings.new.roots.disk) staged (c.in_ok-write_listings.ensures.written mid_honest) (c.in_ok-write_listings.ensures.pages.others mid_honest)
+      (lands page_map c.rules.ensures page_map.committed seen (g.D.Disk.seen c.write_listings.new.roots.disk) staged (c.in_ok-write_listings.ensures.listed.written mid_honest) (c.in_ok-write_listings.ensures.listed.pages.others mid_honest)
       size (next_root c.args.self.now.root c.args.count c.args.self.now.sinks.points (map entry_of page_map.staged)) page_map.staged target c.args.self.now.sectors c.args.self.now.fits c.args.self.now.format refl refl
       (ap (λ (x : Stored). next_commit x c.args.self.now.sinks.points (map (tile_in seen) page_map.staged) c.args.count) stored))
 
   ready : IsReady g.D.Disk c.write_listings.new.roots
-  ready = c.in_ok-write_listings.ensures.pages.ready mid_honest is.ready
+  ready = c.in_ok-write_listings.ensures.listed.pages.ready mid_honest is.ready
 
   leaves : LeavesOnly g.D.Disk c.args.self.now.roots.disk c.commit.new.self.disk (λ image. Stands size image s ⊎ Stands size image target)
   leaves =
@@ -106,9 +107,9 @@ module _ (g : _) (c : After-commit g) (honest : g.D.Disk.honest c.commit.new.sel
       let old = c.args.self.now in
       let mid = c.write_listings.new.roots in
       committing d old.roots.disk mid.disk c.commit.new.self.disk size old.roots.root c.with_sinks-root.result page_map.committed page_map.staged s target
-      (c.write_listings.ensures.pages.any_moment mid_honest is.ready page_map.committed s (due_unreached page_map.committed (tiles_listing page_map.format page_map.staged)) is.each) land
+      (c.write_listings.ensures.listed.pages.any_moment mid_honest is.ready page_map.committed s (due_unreached page_map.committed (tiles_listing page_map.format page_map.staged)) is.each) land
       (subst (λ (r : RootValue). LeavesOnly d mid.disk c.commit.new.self.disk (λ image. KeepsAll r (d.may mid.disk) image ⊎ HasMoved c.with_sinks-root.result (d.seen mid.disk) image))
-      c.write_listings.ensures.pages.root (c.commit.ensures.any_moment honest ready))
+      c.write_listings.ensures.listed.pages.root (c.commit.ensures.any_moment honest ready))
 
 pub returns-in_err-commit-clause-any_moment : goal.returns-in_err-commit-clause-any_moment
 returns-in_err-commit-clause-any_moment g c honest s is = leaves g (goal.at.returns-in_err-commit-clause-any_moment g c).After-commit honest s is
@@ -133,7 +134,7 @@ returns-clause-at g c honest s is =
     record {
       ready = ready_now;
       each = λ image may. stores_along n (d.size new.disk) c.with_sinks-root.result new.root page_map.staged c.settle.new.self.committed (target g after honest s is) image
-          (c.commit.ensures.size ∙ c.write_listings.ensures.pages.size) c.in_ok-commit.ensures.root (ap (λ (x : PageMapValue). x.committed) settled) (each image may);
+          (c.commit.ensures.size ∙ c.write_listings.ensures.listed.pages.size) c.in_ok-commit.ensures.root (ap (λ (x : PageMapValue). x.committed) settled) (each image may);
       staged = subst (λ (x : PageMapValue). AreStaged (format_of c.with_sinks-root.result) x.committed x.staged (d.seen new.disk)) (sym settled)
           (nothing_staged n c.with_sinks-root.result page_map.staged (target g after honest s is) (d.seen new.disk) (each (d.seen new.disk) (g.met.D.Disk.seen_may new.disk honest)));
     }
@@ -145,7 +146,7 @@ returns-clause-staged g c honest s is =
     let old = c.args.self.now in
     ap (λ (x : PageMapValue). map (tile_in (d.seen c.commit.new.self.disk)) x.staged) c.settle.ensures.settled
     ∙ sym (same_tiles old.page_map c.rules.ensures old.page_map.committed (d.seen old.roots.disk) (d.seen c.write_listings.new.roots.disk) (staged g after honest s is)
-    (c.in_ok-write_listings.ensures.written (mid_honest g after honest s is)) (c.in_ok-write_listings.ensures.pages.others (mid_honest g after honest s is)) (d.seen c.commit.new.self.disk) (c.in_ok-commit.ensures.pages honest) old.page_map.staged refl)
+    (c.in_ok-write_listings.ensures.listed.written (mid_honest g after honest s is)) (c.in_ok-write_listings.ensures.listed.pages.others (mid_honest g after honest s is)) (d.seen c.commit.new.self.disk) (c.in_ok-commit.ensures.pages honest) old.page_map.staged refl)
 
 pub returns-clause-none_staged : goal.returns-clause-none_staged
 returns-clause-none_staged g c =
@@ -162,3 +163,21 @@ returns-clause-entries g c =
 
 pub returns-clause-unstaged : goal.returns-clause-unstaged
 returns-clause-unstaged g c = ap (λ (x : PageMapValue). x.staged) c.settle.ensures.settled ∙ sym (ap (λ (x : PageMapValue). x.committed) c.settle.ensures.settled)
+
+pub invariant_of-self-2 : goal.invariant_of-self-2
+invariant_of-self-2 g c =
+    let seen = g.D.Disk.seen in
+    let mid = c.write_listings.new.roots.disk in
+    let had = c.args.self.now in
+    record {
+      sectors = search rules;
+      fits = search rules;
+      format = search rules;
+      entries = search rules;
+      known = search rules;
+      declared = search rules;
+      cached = λ honest _.
+          let mid_honest = c.commit.ensures.honest honest in
+          same_agrees c.write_listings.new.cache (seen mid) (seen c.commit.new.self.disk) (c.in_ok-commit.ensures.pages honest)
+          (c.in_ok-write_listings.ensures.cached mid_honest (had.cached (c.in_ok-write_listings.ensures.listed.pages.honest mid_honest) c.requires.not_failed));
+    }

@@ -1,4 +1,4 @@
-use Rattle.std.proofs.Common.{◌≡◌, ◌≤◌, ◌<◌, ◌+◌, ◌*◌, ◌^◌, ◌⊎◌, inl, ℕ, List, [], All, Contains, length, map, refl, sym, ap, ◌∙◌, subst, arith}
+use Rattle.std.proofs.Common.{rules, ◌≡◌, ◌≤◌, ◌<◌, ◌+◌, ◌*◌, ◌^◌, ◌⊎◌, inl, ℕ, List, [], All, Contains, length, map, refl, sym, ap, ◌∙◌, subst, arith}
 use Rattle.disk.specs.Disk.{Image}
 use Rattle.disk.specs.Stops.{LeavesOnly, weaker}
 use Rattle.page_codec.specs.Formats.{upgraded}
@@ -20,6 +20,7 @@ use Rattle.cow_tree.specs.Staged.{AreStaged}
 use Rattle.cow_tree.specs.Stored.{Stored}
 use Rattle.cow_tree.specs.Trees.{IsAt}
 use Rattle.cow_tree.specs.Upgrades.{upgraded_store}
+use Rattle.cow_tree.proofs.Cached.{same_agrees}
 use Rattle.cow_tree.proofs.Commits.{lands, same_tiles, few_in_all, few_in_part, none_before, nothing_staged, committing}
 use Rattle.cow_tree.proofs.Dropping.{corners_of_entries, clean_is_committed}
 use Rattle.cow_tree.proofs.Counting.{all_of_fewer}
@@ -52,7 +53,7 @@ module _ (g : _) (c : After-write_listings g) where
 
 pub returns-in_err-write_listings-clause-writes : goal.returns-in_err-write_listings-clause-writes
 returns-in_err-write_listings-clause-writes g c =
-    three_more _ _ _ _ (few_in_part _ _ _ _ c.write_listings.ensures.pages.few (few g (goal.at.returns-in_err-write_listings-clause-writes g c).After-write_listings))
+    three_more _ _ _ _ (few_in_part _ _ _ _ c.write_listings.ensures.listed.pages.few (few g (goal.at.returns-in_err-write_listings-clause-writes g c).After-write_listings))
 
 pub returns-in_err-write_listings-clause-any_moment : goal.returns-in_err-write_listings-clause-any_moment
 returns-in_err-write_listings-clause-any_moment g c honest s is =
@@ -60,7 +61,7 @@ returns-in_err-write_listings-clause-any_moment g c honest s is =
     let old = c.args.self.now in
     let size = d.size old.roots.disk in
     weaker d old.roots.disk c.write_listings.new.roots.disk (StoresAt size old.roots.root old.page_map.committed s) (λ image. Stands size image s ⊎ Stands size image (upgraded_store s))
-    (λ image stores. inl (stands size old.roots.root old.page_map.committed s image stores)) (c.write_listings.ensures.pages.any_moment honest is.ready old.page_map.committed s (fresh g (goal.at.returns-in_err-write_listings-clause-any_moment g c).After-write_listings) is.each)
+    (λ image stores. inl (stands size old.roots.root old.page_map.committed s image stores)) (c.write_listings.ensures.listed.pages.any_moment honest is.ready old.page_map.committed s (fresh g (goal.at.returns-in_err-write_listings-clause-any_moment g c).After-write_listings) is.each)
 
 -- what lists the planes is written
 module _ (g : _) (c : After-commit g) (honest : g.D.Disk.honest c.commit.new.self.disk) (s : Stored) (is : IsAt g.D.Disk c.args.self.now s) where
@@ -84,7 +85,7 @@ module _ (g : _) (c : After-commit g) (honest : g.D.Disk.honest c.commit.new.sel
 
   stored : s ≡ stored_in seen c.args.self.now.root c.args.self.now.page_map.committed
   stored =
-      (is.each seen (g.met.D.Disk.seen_may c.args.self.now.roots.disk (c.write_listings.ensures.pages.honest mid_honest))).stands
+      (is.each seen (g.met.D.Disk.seen_may c.args.self.now.roots.disk (c.write_listings.ensures.listed.pages.honest mid_honest))).stands
       ∙ ap (λ (r : RootValue). stored_in seen r c.args.self.now.page_map.committed) (c.args.self.now.known c.requires.not_failed)
 
   is_next : c.upgraded-root.result ≡ upgraded_root c.args.self.now.root (map entry_of tiles)
@@ -106,11 +107,11 @@ module _ (g : _) (c : After-commit g) (honest : g.D.Disk.honest c.commit.new.sel
   land =
       let old = c.args.self.now in
       subst (λ (r : RootValue). (image : Image) → HasMoved r between image → StoresAt size r tiles (upgraded_store s) image) (sym is_next)
-      (lands page_map c.in_ok-page_map.ensures.rules [] seen between (none_before page_map.format page_map.staged seen) (c.in_ok-write_listings.ensures.written mid_honest) (c.in_ok-write_listings.ensures.pages.others mid_honest)
+      (lands page_map c.in_ok-page_map.ensures.rules [] seen between (none_before page_map.format page_map.staged seen) (c.in_ok-write_listings.ensures.listed.written mid_honest) (c.in_ok-write_listings.ensures.listed.pages.others mid_honest)
       size (upgraded_root old.root (map entry_of tiles)) old.page_map.committed (upgraded_store s) on_disk small by_two refl stays (ap upgraded_store stored))
 
   ready : IsReady g.D.Disk c.write_listings.new.roots
-  ready = c.in_ok-write_listings.ensures.pages.ready mid_honest is.ready
+  ready = c.in_ok-write_listings.ensures.listed.pages.ready mid_honest is.ready
 
   leaves : All (λ q. ¬ Contains (reached c.args.self.now.page_map.committed) q) (numbers_of (due_among [] (tiles_listing page_map.format page_map.staged))) → LeavesOnly g.D.Disk c.args.self.now.roots.disk c.commit.new.self.disk (λ image. Stands size image s ⊎ Stands size image (upgraded_store s))
   leaves none =
@@ -118,20 +119,20 @@ module _ (g : _) (c : After-commit g) (honest : g.D.Disk.honest c.commit.new.sel
       let old = c.args.self.now in
       let mid = c.write_listings.new.roots in
       committing d old.roots.disk mid.disk c.commit.new.self.disk size old.roots.root c.upgraded-root.result old.page_map.committed tiles s (upgraded_store s)
-      (c.write_listings.ensures.pages.any_moment mid_honest is.ready old.page_map.committed s none is.each) land
+      (c.write_listings.ensures.listed.pages.any_moment mid_honest is.ready old.page_map.committed s none is.each) land
       (subst (λ (r : RootValue). LeavesOnly d mid.disk c.commit.new.self.disk (λ image. KeepsAll r (d.may mid.disk) image ⊎ HasMoved c.upgraded-root.result between image))
-      c.write_listings.ensures.pages.root (c.commit.ensures.any_moment honest ready))
+      c.write_listings.ensures.listed.pages.root (c.commit.ensures.any_moment honest ready))
 
 pub returns-in_err-commit-clause-writes : goal.returns-in_err-commit-clause-writes
 returns-in_err-commit-clause-writes g c =
-    three_more _ _ _ _ (few_in_all _ _ _ _ _ _ c.in_ok-write_listings.ensures.pages.writes c.commit.ensures.writes (few g (goal.at.returns-in_err-commit-clause-writes g c).After-write_listings))
+    three_more _ _ _ _ (few_in_all _ _ _ _ _ _ c.in_ok-write_listings.ensures.listed.pages.writes c.commit.ensures.writes (few g (goal.at.returns-in_err-commit-clause-writes g c).After-write_listings))
 
 pub returns-in_err-commit-clause-any_moment : goal.returns-in_err-commit-clause-any_moment
 returns-in_err-commit-clause-any_moment g c honest s is = leaves g (goal.at.returns-in_err-commit-clause-any_moment g c).After-commit honest s is (fresh g (goal.at.returns-in_err-commit-clause-any_moment g c).After-write_listings)
 
 pub returns-clause-writes : goal.returns-clause-writes
 returns-clause-writes g c =
-    three_more _ _ _ _ (few_in_all _ _ _ _ _ _ c.in_ok-write_listings.ensures.pages.writes c.commit.ensures.writes (few g (goal.at.returns-clause-writes g c).After-write_listings))
+    three_more _ _ _ _ (few_in_all _ _ _ _ _ _ c.in_ok-write_listings.ensures.listed.pages.writes c.commit.ensures.writes (few g (goal.at.returns-clause-writes g c).After-write_listings))
 
 pub returns-clause-any_moment : goal.returns-clause-any_moment
 returns-clause-any_moment g c honest s is = leaves g (goal.at.returns-clause-any_moment g c).After-commit honest s is (fresh g (goal.at.returns-clause-any_moment g c).After-write_listings)
@@ -166,7 +167,7 @@ returns-clause-at g c honest s is =
     land g after honest s is image (current, pages) in
     record {
       ready = ready_now;
-      each = λ image may. stores_along n (d.size new.disk) root new.root page_map.staged page_map.committed (upgraded_store s) image (c.commit.ensures.size ∙ c.write_listings.ensures.pages.size) c.in_ok-commit.ensures.root (sym c.in_ok-page_map.ensures.upgraded.clean) (each image may);
+      each = λ image may. stores_along n (d.size new.disk) root new.root page_map.staged page_map.committed (upgraded_store s) image (c.commit.ensures.size ∙ c.write_listings.ensures.listed.pages.size) c.in_ok-commit.ensures.root (sym c.in_ok-page_map.ensures.upgraded.clean) (each image may);
       staged = subst (λ (ts : List TileLocation). AreStaged (format_of root) ts page_map.staged (d.seen new.disk)) c.in_ok-page_map.ensures.upgraded.clean
           (nothing_staged n root page_map.staged (upgraded_store s) (d.seen new.disk) (each (d.seen new.disk) (g.met.D.Disk.seen_may new.disk honest)));
     }
@@ -180,4 +181,22 @@ returns-clause-staged g c honest s is =
     let a = d.seen old.roots.disk in
     sym (ap (λ (x : Stored). x.tiles) (stored g after honest s is)
     ∙ same_tiles page_map c.in_ok-page_map.ensures.rules [] a (d.seen c.write_listings.new.roots.disk) (none_before page_map.format page_map.staged a)
-    (c.in_ok-write_listings.ensures.written (mid_honest g after honest s is)) (c.in_ok-write_listings.ensures.pages.others (mid_honest g after honest s is)) (d.seen c.commit.new.self.disk) (c.in_ok-commit.ensures.pages honest) old.page_map.committed (stays g after honest s is))
+    (c.in_ok-write_listings.ensures.listed.written (mid_honest g after honest s is)) (c.in_ok-write_listings.ensures.listed.pages.others (mid_honest g after honest s is)) (d.seen c.commit.new.self.disk) (c.in_ok-commit.ensures.pages honest) old.page_map.committed (stays g after honest s is))
+
+pub invariant_of-self-2 : goal.invariant_of-self-2
+invariant_of-self-2 g c =
+    let seen = g.D.Disk.seen in
+    let mid = c.write_listings.new.roots.disk in
+    let had = c.args.self.now in
+    record {
+      sectors = search rules;
+      fits = search rules;
+      format = search rules;
+      entries = search rules;
+      known = search rules;
+      declared = search rules;
+      cached = λ honest _.
+          let mid_honest = c.commit.ensures.honest honest in
+          same_agrees c.write_listings.new.cache (seen mid) (seen c.commit.new.self.disk) (c.in_ok-commit.ensures.pages honest)
+          (c.in_ok-write_listings.ensures.cached mid_honest (had.cached (c.in_ok-write_listings.ensures.listed.pages.honest mid_honest) c.requires.not_failed));
+    }

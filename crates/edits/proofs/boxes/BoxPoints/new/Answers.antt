@@ -3,7 +3,7 @@ use Rattle.std.proofs.lemmas.Int.{to_z-of_z}
 use mir.Syntax.{w32}
 use mir.Val.{SFits}
 use Rattle.edits.proofs.Voids.{is_span, span_at, count_at, box_from, no_rows, no_columns}
-use Rattle.edits.proofs.boxes.size_of_box.Goals as goal
+use Rattle.edits.proofs.boxes.BoxPoints.new.Goals as goal
 
 pub returns-in_err-rows-clause-none : goal.returns-in_err-rows-clause-none
 returns-in_err-rows-clause-none c =
@@ -40,6 +40,9 @@ returns-clause-some c =
     let columns : is_span c.args.side from.x to.x ≡ true =
     span_at c.args.side c.args.side from.x (to_z w32 (of_z w32 from.x)) to.x (to_z w32 (of_z w32 to.x)) true wx ex refl c.in_ok-columns.ensures.some.0 in (
       box_from c.args.side from to rows columns,
-      count_at from.y (to_z w32 (of_z w32 from.y)) to.y (to_z w32 (of_z w32 to.y)) c.in_ok-rows.rows sy ny c.in_ok-rows.ensures.some.1,
-      count_at from.x (to_z w32 (of_z w32 from.x)) to.x (to_z w32 (of_z w32 to.x)) c.in_ok-columns.columns wx ex c.in_ok-columns.ensures.some.1,
+      record {
+        first = refl;
+        rows = count_at from.y (to_z w32 (of_z w32 from.y)) to.y (to_z w32 (of_z w32 to.y)) c.in_ok-rows.rows sy ny c.in_ok-rows.ensures.some.1;
+        columns = count_at from.x (to_z w32 (of_z w32 from.x)) to.x (to_z w32 (of_z w32 to.x)) c.in_ok-columns.columns wx ex c.in_ok-columns.ensures.some.1;
+      },
     )
