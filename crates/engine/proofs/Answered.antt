@@ -1,19 +1,36 @@
 -- What is right to answer on a mosaic is right to answer in a state with that mosaic, which stays.
-use Rattle.std.proofs.Common.{ℕ, ℤ, Result, Ok, Err}
-use Rattle.std.specs.Prelude.{MatchResult}
+use Rattle.std.proofs.Common.{◌≡◌, ℕ, ℤ, List, IsTrue, Result, Ok, Err, refl, sym, subst}
+use Rattle.std.specs.Prelude.{MatchResult, Contains, Option, Some, None, is_some}
 use Rattle.std.specs.Global.{Vec}
 use Rattle.lattice.specs.declared.point.Point.{Point}
 use Rattle.lattice.specs.declared.refusal.Refusal.{Refusal}
 use Rattle.lattice.specs.declared.refusal.Refusal.TheVariants.{Outside, Void, NoMemory}
 use Rattle.lattice.specs.Terrain.{IsFilledLevel}
-use Rattle.lattice.specs.Mosaic.{Mosaic}
+use Rattle.lattice.specs.Corners.{Corner}
+use Rattle.lattice.specs.Mosaic.{Mosaic, is_present, samples_of}
 use Rattle.lattice.specs.Ground.{terrain}
+use Rattle.catalogue.specs.Tiles.{corners_of}
+use Rattle.catalogue.proofs.Presence.{present_iff, some-samples}
 use Rattle.flow_d8.specs.FlowPath.{IsFlowPath, IsInWatershed}
 use Rattle.watershed.specs.declared.runs.Run.{Run}
 use Rattle.watershed.specs.Runs.{AreRuns}
 use Rattle.watershed.specs.Questions.{DrainsBy, IsAnswered, IsUnanswered}
 use Rattle.engine.specs.State.{State}
-use Rattle.engine.specs.Outcomes.{Stays, AnswersNot, Fills, Directs, Traces, Sheds}
+use Rattle.engine.specs.Engines.{items_in}
+use Rattle.engine.specs.Outcomes.{Stays, AnswersNot, TellsTile, Fills, Directs, Traces, Sheds}
+
+pub no_samples : (m : Mosaic) (c : Corner) → ¬ Contains (corners_of m) c → samples_of m c ≡ None
+no_samples m c absent = by (samples_of m c) (some-samples c m.tiles)
+  where
+    by : (o : Option (List ℤ)) → is_some o ≡ is_present m c → o ≡ None
+    by None e = refl
+    by (Some samples) e = absurd (absent ((present_iff m c).0 (sym e)))
+
+-- .. of all samples of a present tile
+pub tells : {X : Type 0} (Says : Mosaic → Corner → List X → Type 0) (s t : State) → Stays s t → (c : Corner) → IsTrue (is_present s.contents.mosaic c)
+    → (result : Result (Vec X) Refusal) → MatchResult result (λ values. Says s.contents.mosaic c values.items) (λ r. r ≡ NoMemory) → TellsTile Says s c (items_in result) t
+tells Says s t stays c present (Ok values) is = (stays, (present, is))
+tells Says s t stays c present (Err r) is = subst (λ (why : Refusal). TellsTile Says s c (Err why) t) (sym is) stays
 
 module _ (s t : State) (stays : Stays s t) (p : Point) where
   abbrev here : Mosaic

@@ -1,5 +1,5 @@
 -- What a command may answer in a state.
-use Rattle.std.proofs.Common.{◌≡◌, ◌⊎◌, inl, inr, ℕ, ◌+◌, ◌<◌, Bool, true, false, IsTrue, IsFalse, refl, ap, ◌∙◌}
+use Rattle.std.proofs.Common.{◌≡◌, ◌⊎◌, inl, inr, ℕ, ◌<◌, Bool, true, false, IsTrue, IsFalse, refl, ap, ◌∙◌}
 use Rattle.std.specs.Prelude.{Ok, Err, Some, None, if◌then◌else◌}
 use Rattle.std.proofs.lemmas.Bool.{or_cases, both_ways, lt-ltb}
 use Rattle.lattice.specs.Mosaic.{Mosaic}
@@ -12,7 +12,7 @@ use Rattle.catalogue.specs.Readers.{reads_of}
 use Rattle.catalogue.specs.Endings.{ends_any}
 use Rattle.edits.specs.Plans.{is_own, may_end}
 use Rattle.engine.specs.State.{Contents, State, last_number, made_by, would_make, in_doubt, failing}
-use Rattle.engine.specs.Outcomes.{Accepts, IsWorn, AppliesNot}
+use Rattle.engine.specs.Outcomes.{AppliesNot}
 
 not_worn : (c : Command) → IsTrue (may_end c Worn) → ⊥
 not_worn (Import c bytes) e = both_ways false refl e
@@ -42,13 +42,6 @@ plan_refused capacity s c r working may read refused =
     record { stays = record { working = working; same = refl }; refused = refused (own_from c r refl may) }
 
 module _ (capacity : ℕ) (s : State) (c : Command) (working : IsFalse s.failed) where
-  pub accepts : (new : Mosaic) (k : ℕ) → effect capacity s.contents.mosaic c ≡ Ok new → k ≡ s.contents.count + 1 → s.contents.number < last_number
-      → Accepts capacity s c k (record s { contents = made_by s.contents c new })
-  accepts new k makes counted room = record { working = working; effect_is = (new, (makes, refl)); counted = counted; room = room }
-
-  pub is_worn : (new : Mosaic) → effect capacity s.contents.mosaic c ≡ Ok new → s.contents.number ≡ last_number → IsWorn capacity s c s
-  is_worn new makes worn = record { stays = record { working = working; same = refl }; accepted = (new, makes); worn = worn }
-
   pub no_memory : AppliesNot capacity s c NoMemory s
   no_memory = record { working = working; same = refl }
 

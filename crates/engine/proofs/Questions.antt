@@ -12,7 +12,9 @@ use Rattle.edits.specs.declared.command.Command.{Command}
 use Rattle.watershed.specs.declared.runs.Run.{Run}
 use Rattle.engine.specs.Engines.{answered, items_in}
 use Rattle.engine.specs.Events.{SaysFailed, fails_after, Happens}
-use Rattle.engine.specs.Outcomes.{Elevates, Exports, Lists, ListsSinks, Fills, Directs, Traces, Sheds}
+use Rattle.tile_flood.specs.Raising.{AreTileLevels}
+use Rattle.watershed.specs.Questions.{AreTileDirections}
+use Rattle.engine.specs.Outcomes.{Elevates, Exports, TellsTile, Lists, ListsSinks, Fills, Directs, Traces, Sheds}
 use Rattle.engine.specs.State.{State}
 use Rattle.engine.specs.Told.{Matches, may_refuse, IsTold, IsCounted, WritesFew, IsWritten, Known, Knows}
 use Rattle.engine.specs.declared.event.Event.{Event}
@@ -181,6 +183,12 @@ watershed_asked p = record { asks_it = refl; matches = λ x. tt; goes_on = λ b 
 
 pub export_asked : (c : Corner) → IsQuestion (ask.Export c) reply.Export (λ (s : State) (r : Result (Vec ℕ) Refusal) (t : State). Exports s c (items_in r) t)
 export_asked c = record { asks_it = refl; matches = λ x. tt; goes_on = λ b x. refl; no_refusal = λ x r e. cc; knows = λ before after x same. same; right = λ capacity s t x is. is; refused = λ capacity s t r is. is }
+
+pub levels_asked : (c : Corner) → IsQuestion (ask.Levels c) reply.Levels (λ (s : State) (r : Result (Vec ℤ) Refusal) (t : State). TellsTile AreTileLevels s c (items_in r) t)
+levels_asked c = record { asks_it = refl; matches = λ x. tt; goes_on = λ b x. refl; no_refusal = λ x r e. cc; knows = λ before after x same. same; right = λ capacity s t x is. is; refused = λ capacity s t r is. is }
+
+pub directions_asked : (c : Corner) → IsQuestion (ask.Directions c) reply.Directions (λ (s : State) (r : Result (Vec ℕ) Refusal) (t : State). TellsTile AreTileDirections s c (items_in r) t)
+directions_asked c = record { asks_it = refl; matches = λ x. tt; goes_on = λ b x. refl; no_refusal = λ x r e. cc; knows = λ before after x same. same; right = λ capacity s t x is. is; refused = λ capacity s t r is. is }
 
 pub tiles_asked : IsQuestion ask.Tiles reply.Tiles (λ (s : State) (r : Result (Vec Corner) Refusal) (t : State). Lists s (items_in r) t)
 tiles_asked = record { asks_it = refl; matches = λ x. tt; goes_on = λ b x. refl; no_refusal = λ x r e. cc; knows = λ before after x same. same; right = λ capacity s t x is. is; refused = λ capacity s t r is. is }

@@ -2,7 +2,9 @@
 use Rattle.std.specs.Prelude.{◌≡◌, ◌⊎◌, ℕ, Bool, true, false, Some, Ok, Err}
 use Rattle.lattice.specs.declared.refusal.Refusal.{Refusal}
 use Rattle.lattice.specs.declared.refusal.Refusal.TheVariants.{Device, NoMemory, Failed}
-use Rattle.engine.specs.Outcomes.{Applies, Elevates, Exports, Lists, ListsSinks, Fills, Directs, Traces, Sheds}
+use Rattle.tile_flood.specs.Raising.{AreTileLevels}
+use Rattle.watershed.specs.Questions.{AreTileDirections}
+use Rattle.engine.specs.Outcomes.{Applies, Elevates, Exports, TellsTile, Lists, ListsSinks, Fills, Directs, Traces, Sheds}
 use Rattle.engine.specs.State.{Contents, State, working}
 use Rattle.engine.specs.Steps.{Steps}
 use Rattle.engine.specs.declared.event.Event.{Event}
@@ -36,6 +38,10 @@ Happens capacity s (ask.Watershed p) (reply.Watershed runs) t = Sheds s p (Ok ru
 Happens capacity s (ask.Watershed p) (reply.Refused r) t = Sheds s p (Err r) t
 Happens capacity s (ask.Export c) (reply.Export bytes) t = Exports s c (Ok bytes.items) t
 Happens capacity s (ask.Export c) (reply.Refused r) t = Exports s c (Err r) t
+Happens capacity s (ask.Levels c) (reply.Levels levels) t = TellsTile AreTileLevels s c (Ok levels.items) t
+Happens capacity s (ask.Levels c) (reply.Refused r) t = TellsTile AreTileLevels s c (Err r) t
+Happens capacity s (ask.Directions c) (reply.Directions codes) t = TellsTile AreTileDirections s c (Ok codes.items) t
+Happens capacity s (ask.Directions c) (reply.Refused r) t = TellsTile AreTileDirections s c (Err r) t
 Happens capacity s ask.Tiles (reply.Tiles corners) t = Lists s (Ok corners.items) t
 Happens capacity s ask.Tiles (reply.Refused r) t = Lists s (Err r) t
 Happens capacity s ask.Sinks (reply.Sinks points) t = ListsSinks s (Ok points.items) t

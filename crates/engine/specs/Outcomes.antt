@@ -7,7 +7,7 @@ use Rattle.lattice.specs.declared.height.Height.{Height}
 use Rattle.lattice.specs.declared.height.Height.TheVariants as height
 use Rattle.lattice.specs.declared.refusal.Refusal.{Refusal}
 use Rattle.lattice.specs.declared.refusal.Refusal.TheVariants.{NoTile, Outside, Void, Device, NoMemory, Failed, Worn}
-use Rattle.lattice.specs.Mosaic.{Mosaic, samples_of}
+use Rattle.lattice.specs.Mosaic.{Mosaic, is_present, samples_of}
 use Rattle.lattice.specs.Height.{height_of}
 use Rattle.lattice.specs.Ground.{terrain}
 use Rattle.lattice.specs.Terrain.{IsFilledLevel}
@@ -86,6 +86,11 @@ ExportsNot s c r t = ⊥
 abbrev pub Exports : State → Corner → Result (List ℕ) Refusal → State → Type 0
 Exports s c (Ok bytes) t = Stays s t × ((samples : List _) × ((samples_of s.contents.mosaic c ≡ Some samples) × (bytes ≡ hgt_bytes samples)))
 Exports s c (Err r) t = ExportsNot s c r t
+
+-- what is said of all samples of a present tile
+abbrev pub TellsTile : {X : Type 0} → (Mosaic → Corner → List X → Type 0) → State → Corner → Result (List X) Refusal → State → Type 0
+TellsTile Says s c (Ok values) t = Stays s t × (IsTrue (is_present s.contents.mosaic c) × Says s.contents.mosaic c values)
+TellsTile Says s c (Err r) t = ExportsNot s c r t
 
 abbrev pub ListsNot : State → Refusal → State → Type 0
 ListsNot s Failed t = StaysFailed s t

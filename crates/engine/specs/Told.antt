@@ -33,10 +33,11 @@ may_refuse_question Void = true
 may_refuse_question NoMemory = true
 may_refuse_question r = is_of_read r
 
-abbrev pub may_refuse_export : Refusal → Bool
-may_refuse_export NoTile = true
-may_refuse_export NoMemory = true
-may_refuse_export r = is_of_read r
+-- a question about a tile
+abbrev pub may_refuse_tile : Refusal → Bool
+may_refuse_tile NoTile = true
+may_refuse_tile NoMemory = true
+may_refuse_tile r = is_of_read r
 
 -- what is held in memory is listed
 abbrev pub may_refuse_list : Refusal → Bool
@@ -66,7 +67,9 @@ may_refuse (ask.Fill p) r = may_refuse_question r
 may_refuse (ask.Direction p) r = may_refuse_question r
 may_refuse (ask.Trace p) r = may_refuse_question r
 may_refuse (ask.Watershed p) r = may_refuse_question r
-may_refuse (ask.Export c) r = may_refuse_export r
+may_refuse (ask.Export c) r = may_refuse_tile r
+may_refuse (ask.Levels c) r = may_refuse_tile r
+may_refuse (ask.Directions c) r = may_refuse_tile r
 may_refuse ask.Tiles r = may_refuse_list r
 may_refuse ask.Sinks r = may_refuse_list r
 may_refuse ask.Step r = may_refuse_step r
@@ -83,6 +86,8 @@ Matches (ask.Direction p) (reply.Direction code) = Unit {0}
 Matches (ask.Trace p) (reply.Trace path) = Unit {0}
 Matches (ask.Watershed p) (reply.Watershed runs) = Unit {0}
 Matches (ask.Export c) (reply.Export bytes) = Unit {0}
+Matches (ask.Levels c) (reply.Levels levels) = Unit {0}
+Matches (ask.Directions c) (reply.Directions codes) = Unit {0}
 Matches ask.Tiles (reply.Tiles corners) = Unit {0}
 Matches ask.Sinks (reply.Sinks points) = Unit {0}
 Matches ask.Step (reply.Stepped tile) = Unit {0}

@@ -86,6 +86,14 @@ pub trait Engine {
     fn export(&mut self, corner: Corner) -> Result<Vec<u8>, Refusal>
         ensures { called self.old (ask.Export corner) (answered reply.Export result) self.new };
 
+    /// The filled levels of all samples of a tile, in metres; void where there is no ground.
+    fn levels(&mut self, corner: Corner) -> Result<Vec<i16>, Refusal>
+        ensures { called self.old (ask.Levels corner) (answered reply.Levels result) self.new };
+
+    /// The codes of the directions of all samples of a tile; 255 where there is no ground.
+    fn directions(&mut self, corner: Corner) -> Result<Vec<u8>, Refusal>
+        ensures { called self.old (ask.Directions corner) (answered reply.Directions result) self.new };
+
     /// The corners of the present tiles, in order. They are held in memory, so that no disk refuses.
     fn tiles(&self) -> Result<Vec<Corner>, Refusal>
         ensures { called self.now ask.Tiles (answered reply.Tiles result) self.now };
@@ -126,6 +134,12 @@ pub trait Engine {
             Event::Export(corner) => self
                 .export(*corner)
                 .map_or_else(Reply::Refused, Reply::Export),
+            Event::Levels(corner) => self
+                .levels(*corner)
+                .map_or_else(Reply::Refused, Reply::Levels),
+            Event::Directions(corner) => self
+                .directions(*corner)
+                .map_or_else(Reply::Refused, Reply::Directions),
             Event::Tiles => self.tiles().map_or_else(Reply::Refused, Reply::Tiles),
             Event::Sinks => self.sinks().map_or_else(Reply::Refused, Reply::Sinks),
             Event::Step => self.step().map_or_else(Reply::Refused, Reply::Stepped),

@@ -21,6 +21,10 @@ pub enum Event {
     Watershed(Point),
     /// The bytes of a tile's HGT file.
     Export(Corner),
+    /// The filled levels of all samples of a tile.
+    Levels(Corner),
+    /// The directions of all samples of a tile.
+    Directions(Corner),
     /// The corners of the present tiles.
     Tiles,
     /// The declared sinks.
@@ -50,6 +54,10 @@ pub enum Reply {
     Watershed(Vec<Run>),
     /// Two bytes a sample.
     Export(Vec<u8>),
+    /// In metres; void where there is no ground.
+    Levels(Vec<i16>),
+    /// Their codes; 255 where there is no ground.
+    Directions(Vec<u8>),
     /// In order.
     Tiles(Vec<Corner>),
     /// In the order of points.

@@ -1,5 +1,5 @@
 -- A text asks for one thing at most.
-use Rattle.std.proofs.Common.{arith, refl, ◌≡◌, ℕ, ℤ, pos, neg_ℤ, List, [], ◌∷◌, sym, ap, ◌∙◌, subst, inl, inr}
+use Rattle.std.proofs.Common.{arith, refl, ◌≡◌, ℕ, ℤ, pos, neg_ℤ, List, [], ◌∷◌, ◌≤◌, length, sym, ap, ◌∙◌, subst, inl, inr}
 use Rattle.std.proofs.lemmas.Str.Parse.{digit_from_value}
 use Rattle.lattice.specs.declared.point.Point.{Point}
 use Rattle.std.specs.Prelude.{Option, Some, None, IfSome, ◌⊎◌}
@@ -7,11 +7,15 @@ use Rattle.lattice.specs.Corners.{Corner}
 use Rattle.lattice.proofs.SamePoints.{same_place}
 use Rattle.hgt.specs.Names.{IsName}
 use Rattle.hgt.proofs.NameLemmas.{IsName-same}
+use Rattle.edits.specs.declared.command.Command.TheVariants as command
 use Rattle.engine.specs.declared.event.Event.{Event}
 use Rattle.engine.specs.declared.event.Event.TheVariants as ask
 use Rattle.lines.specs.declared.keyword.Keyword.{Keyword}
-use Rattle.lines.specs.declared.keyword.Keyword.TheVariants.{Import, Remove, Patch, Burn, Wall, Sink, Unsink, Elev, Fill, Dir, Trace, Watershed, Export, Tiles, Sinks, Step, Count, Quit}
-use Rattle.lines.specs.Grammar.{Asked, AskImport, AskEvent, AskNoTile, NamesNone, AsksImport, AsksOf, AsksBox, AsksAlong, AsksAt, AsksAlone, Takes, AreInts, IsNat, IsInt, coordinates, spelling, LineAsks}
+use Rattle.lines.specs.declared.keyword.Keyword.TheVariants.{Import, Remove, Patch, Burn, Wall, Sink, Unsink, Elev, Fill, Dir, Trace, Watershed, Export, Levels, Directions, Tiles, Sinks, Step, Count, Quit}
+use Rattle.lines.specs.Grammar.{Asked, AskImport, AskEvent, AskNoTile, NamesNone, AsksImport, AsksOf, AsksBox, AsksAlong, AsksAt, AsksAlone, Takes, IsIn, IsTextOf, AreInts, IsNat, IsInt, coordinates, spaced, spelling, LineAsks}
+use Rattle.lines.specs.declared.language.Language.{Language}
+use Rattle.lines.specs.declared.language.Language.TheVariants as language
+use Rattle.lines.specs.Languages.{PlainIsAPart, TextAsksTile}
 use Rattle.lines.specs.declared.request.Request.{Request}
 use Rattle.lines.specs.Requests.{asked, IsRequestOf}
 use Rattle.lines.specs.Words.{cut}
@@ -128,6 +132,8 @@ same_asked Dir = same_at _
 same_asked Trace = same_at _
 same_asked Watershed = same_at _
 same_asked Export = same_of _
+same_asked Levels = same_of _
+same_asked Directions = same_of _
 same_asked Tiles = same_alone _
 same_asked Sinks = same_alone _
 same_asked Step = same_alone _
@@ -135,37 +141,88 @@ same_asked Count = same_alone _
 same_asked Quit = same_alone _
 
 -- a line asks for one thing
-pub only_one : (line : List ℕ) (o : Option Request) → IsRequestOf line o → IfSome o (λ r. (a : Asked) → LineAsks line a → a ≡ asked r)
-only_one line None h = tt
-only_one line (Some r) (short, text, is_text, (keyword, args, e, takes)) = λ a asks.
+pub only_one : (language : Language) (line : List ℕ) (o : Option Request) → IsRequestOf language line o → IfSome o (λ r. (a : Asked) → LineAsks language line a → a ≡ asked r)
+only_one language line None h = tt
+only_one language line (Some r) (short, text, is_text, (keyword, args, e, takes, is_in)) = λ a asks.
     let words = ap cut e ∙ cut-spaced (spelling keyword) args (spelling-free keyword) (takes_free keyword args (asked r) takes) in
-    let parts = asks_words line text (spelling keyword) args a is_text words asks in
-    same_asked keyword args a (asked r) (subst (λ (k : Keyword). Takes k args a) (same_keyword parts.0 keyword parts.1.0) parts.1.1) takes
+    let parts = asks_words language line text (spelling keyword) args a is_text words asks in
+    same_asked keyword args a (asked r) (subst (λ (k : Keyword). Takes k args a) (same_keyword parts.0 keyword parts.1.0) parts.1.1.0) takes
 
--- ---- no line asks that the disk be opened again
+-- ---- an event is asked for by one command, and by no line that the disk be opened again
 
-not_reopened : (keyword : Keyword) (args : List (List ℕ)) → Takes keyword args (AskEvent ask.Reopen) → ⊥
-not_reopened Import args (name, ds, len, e, word, nat, is) = cc
-not_reopened Remove args (name, e, word, inl (none, is)) = cc
-not_reopened Remove args (name, e, word, inr (c, named, is)) = cc
-not_reopened Patch args (from, to, height, ints, is) = cc
-not_reopened Burn args (depth, points, ints, few, is) = cc
-not_reopened Wall args (height, points, ints, few, is) = cc
-not_reopened Sink args (p, ints, is) = cc
-not_reopened Unsink args (p, ints, is) = cc
-not_reopened Elev args (p, ints, is) = cc
-not_reopened Fill args (p, ints, is) = cc
-not_reopened Dir args (p, ints, is) = cc
-not_reopened Trace args (p, ints, is) = cc
-not_reopened Watershed args (p, ints, is) = cc
-not_reopened Export args (name, e, word, inl (none, is)) = cc
-not_reopened Export args (name, e, word, inr (c, named, is)) = cc
-not_reopened Tiles args (e, is) = cc
-not_reopened Sinks args (e, is) = cc
-not_reopened Step args (e, is) = cc
-not_reopened Count args (e, is) = cc
-not_reopened Quit args (e, is) = cc
+abbrev keyword_for : Event → Option Keyword
+keyword_for (ask.Do (command.Import c bytes)) = Some Import
+keyword_for (ask.Do (command.Remove c)) = Some Remove
+keyword_for (ask.Do (command.Patch from to height)) = Some Patch
+keyword_for (ask.Do (command.Burn depth points)) = Some Burn
+keyword_for (ask.Do (command.Wall height points)) = Some Wall
+keyword_for (ask.Do (command.Sink p)) = Some Sink
+keyword_for (ask.Do (command.Unsink p)) = Some Unsink
+keyword_for (ask.Elevation p) = Some Elev
+keyword_for (ask.Fill p) = Some Fill
+keyword_for (ask.Direction p) = Some Dir
+keyword_for (ask.Trace p) = Some Trace
+keyword_for (ask.Watershed p) = Some Watershed
+keyword_for (ask.Export c) = Some Export
+keyword_for (ask.Levels c) = Some Levels
+keyword_for (ask.Directions c) = Some Directions
+keyword_for ask.Tiles = Some Tiles
+keyword_for ask.Sinks = Some Sinks
+keyword_for ask.Step = Some Step
+keyword_for ask.Count = Some Count
+keyword_for ask.Reopen = None
 
-pub never_reopens : (line : List ℕ) (event : Event) → LineAsks line (AskEvent event) → event ≡ ask.Reopen → ⊥
-never_reopens line event (short, text, is_text, (keyword, args, e, takes)) is =
-    not_reopened keyword args (subst (λ (x : Event). Takes keyword args (AskEvent x)) is takes)
+by_event : (event other : Event) → AskEvent event ≡ AskEvent other → keyword_for event ≡ keyword_for other
+by_event event other is = let same : event ≡ other = cc in ap keyword_for same
+
+by_corner : (keyword : Keyword) (of : Corner → Event) → ((c : Corner) → keyword_for (of c) ≡ Some keyword) → (args : List (List ℕ)) (event : Event) → AsksOf of args (AskEvent event) → keyword_for event ≡ Some keyword
+by_corner keyword of so args event (name, e, word, inl (none, is)) = cc
+by_corner keyword of so args event (name, e, word, inr (c, named, is)) = by_event event (of c) is ∙ so c
+
+asked_by : (keyword : Keyword) (args : List (List ℕ)) (event : Event) → Takes keyword args (AskEvent event) → keyword_for event ≡ Some keyword
+asked_by Import args event (name, ds, len, e, word, nat, is) = cc
+asked_by Remove args event takes = by_corner Remove _ (λ c. refl) args event takes
+asked_by Patch args event (from, to, height, ints, is) = by_event event _ is
+asked_by Burn args event (depth, points, ints, few, is) = by_event event _ is
+asked_by Wall args event (height, points, ints, few, is) = by_event event _ is
+asked_by Sink args event (p, ints, is) = by_event event _ is
+asked_by Unsink args event (p, ints, is) = by_event event _ is
+asked_by Elev args event (p, ints, is) = by_event event _ is
+asked_by Fill args event (p, ints, is) = by_event event _ is
+asked_by Dir args event (p, ints, is) = by_event event _ is
+asked_by Trace args event (p, ints, is) = by_event event _ is
+asked_by Watershed args event (p, ints, is) = by_event event _ is
+asked_by Export args event takes = by_corner Export _ (λ c. refl) args event takes
+asked_by Levels args event takes = by_corner Levels _ (λ c. refl) args event takes
+asked_by Directions args event takes = by_corner Directions _ (λ c. refl) args event takes
+asked_by Tiles args event (e, is) = by_event event _ is
+asked_by Sinks args event (e, is) = by_event event _ is
+asked_by Step args event (e, is) = by_event event _ is
+asked_by Count args event (e, is) = by_event event _ is
+asked_by Quit args event (e, is) = cc
+
+pub never_reopens : (language : Language) (line : List ℕ) (event : Event) → LineAsks language line (AskEvent event) → event ≡ ask.Reopen → ⊥
+never_reopens language line event (short, text, is_text, (keyword, args, e, takes, is_in)) is =
+    let by : None ≡ Some keyword = sym (ap keyword_for is) ∙ asked_by keyword args event takes in cc
+
+-- ---- what the plain language has is a part of what the other one has
+
+out_of_plain : (keyword tile : Keyword) → (IsIn language.Plain tile → ⊥) → IsIn language.Plain keyword → Some tile ≡ Some keyword → ⊥
+out_of_plain keyword tile out is_in same = let one : keyword ≡ tile = cc in out (subst (IsIn language.Plain) one is_in)
+
+kept : (line : List ℕ) (a : Asked) → LineAsks language.Plain line a → LineAsks language.Tiles line a
+kept line a (short, text, is_text, (keyword, args, e, takes, is_in)) = (short, text, is_text, (keyword, args, e, takes, tt))
+
+besides : (line : List ℕ) (a : Asked) → LineAsks language.Tiles line a → LineAsks language.Plain line a ⊎ ((text : List ℕ) × (IsTextOf line text × TextAsksTile text a))
+besides line a (short, text, is_text, (Levels, args, e, takes, is_in)) = inr (text, (is_text, (args, inl (e, takes))))
+besides line a (short, text, is_text, (Directions, args, e, takes, is_in)) = inr (text, (is_text, (args, inr (e, takes))))
+besides line a (short, text, is_text, (keyword, args, e, takes, is_in)) = inl (short, text, is_text, (keyword, args, e, takes, tt))
+
+no_levels : (line : List ℕ) (c : Corner) → LineAsks language.Plain line (AskEvent (ask.Levels c)) → ⊥
+no_levels line c (short, text, is_text, (keyword, args, e, takes, is_in)) = out_of_plain keyword Levels (λ is. is) is_in (asked_by keyword args (ask.Levels c) takes)
+
+no_directions : (line : List ℕ) (c : Corner) → LineAsks language.Plain line (AskEvent (ask.Directions c)) → ⊥
+no_directions line c (short, text, is_text, (keyword, args, e, takes, is_in)) = out_of_plain keyword Directions (λ is. is) is_in (asked_by keyword args (ask.Directions c) takes)
+
+pub plain_is_a_part : PlainIsAPart
+plain_is_a_part = record { kept = kept; besides = besides; no_levels = no_levels; no_directions = no_directions }

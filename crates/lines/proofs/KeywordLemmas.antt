@@ -6,11 +6,11 @@ use Rattle.std.proofs.lemmas.List.Sums.{AllPass-from_list_all}
 use Rattle.lines.specs.Grammar.{spelling}
 use Rattle.lines.specs.Words.{HasNoSpace}
 use Rattle.lines.specs.declared.keyword.Keyword.{Keyword}
-use Rattle.lines.specs.declared.keyword.Keyword.TheVariants.{Import, Remove, Patch, Burn, Wall, Sink, Unsink, Elev, Fill, Dir, Trace, Watershed, Export, Tiles, Sinks, Step, Count, Quit}
+use Rattle.lines.specs.declared.keyword.Keyword.TheVariants.{Import, Remove, Patch, Burn, Wall, Sink, Unsink, Elev, Fill, Dir, Trace, Watershed, Export, Levels, Directions, Tiles, Sinks, Step, Count, Quit}
 use Rattle.lines.specs.declared.keyword.TheConstants.{KEYWORDS}
 
 -- what holds of each keyword of the list holds of every keyword
-pub each_keyword : (P : Keyword → Type 0) → ((j : ℕ) → j < 18 → P (get_or KEYWORDS j Quit)) → (k : Keyword) → P k
+pub each_keyword : (P : Keyword → Type 0) → ((j : ℕ) → j < 20 → P (get_or KEYWORDS j Quit)) → (k : Keyword) → P k
 each_keyword P h Import = h 0 (lit< tt)
 each_keyword P h Remove = h 1 (lit< tt)
 each_keyword P h Patch = h 2 (lit< tt)
@@ -24,11 +24,13 @@ each_keyword P h Dir = h 9 (lit< tt)
 each_keyword P h Trace = h 10 (lit< tt)
 each_keyword P h Watershed = h 11 (lit< tt)
 each_keyword P h Export = h 12 (lit< tt)
-each_keyword P h Tiles = h 13 (lit< tt)
-each_keyword P h Sinks = h 14 (lit< tt)
-each_keyword P h Step = h 15 (lit< tt)
-each_keyword P h Count = h 16 (lit< tt)
-each_keyword P h Quit = h 17 (lit< tt)
+each_keyword P h Levels = h 13 (lit< tt)
+each_keyword P h Directions = h 14 (lit< tt)
+each_keyword P h Tiles = h 15 (lit< tt)
+each_keyword P h Sinks = h 16 (lit< tt)
+each_keyword P h Step = h 17 (lit< tt)
+each_keyword P h Count = h 18 (lit< tt)
+each_keyword P h Quit = h 19 (lit< tt)
 
 -- the keyword that a word spells
 abbrev keyword_at : List ℕ → Keyword
@@ -46,6 +48,8 @@ keyword_at word =
     if bytes_eq word (spelling Trace) then Trace else
     if bytes_eq word (spelling Watershed) then Watershed else
     if bytes_eq word (spelling Export) then Export else
+    if bytes_eq word (spelling Levels) then Levels else
+    if bytes_eq word (spelling Directions) then Directions else
     if bytes_eq word (spelling Tiles) then Tiles else
     if bytes_eq word (spelling Sinks) then Sinks else
     if bytes_eq word (spelling Step) then Step else
@@ -66,6 +70,8 @@ keyword_at-spelling Dir = refl
 keyword_at-spelling Trace = refl
 keyword_at-spelling Watershed = refl
 keyword_at-spelling Export = refl
+keyword_at-spelling Levels = refl
+keyword_at-spelling Directions = refl
 keyword_at-spelling Tiles = refl
 keyword_at-spelling Sinks = refl
 keyword_at-spelling Step = refl
@@ -99,6 +105,8 @@ spelling-free Dir = no_space (spelling Dir) refl
 spelling-free Trace = no_space (spelling Trace) refl
 spelling-free Watershed = no_space (spelling Watershed) refl
 spelling-free Export = no_space (spelling Export) refl
+spelling-free Levels = no_space (spelling Levels) refl
+spelling-free Directions = no_space (spelling Directions) refl
 spelling-free Tiles = no_space (spelling Tiles) refl
 spelling-free Sinks = no_space (spelling Sinks) refl
 spelling-free Step = no_space (spelling Step) refl

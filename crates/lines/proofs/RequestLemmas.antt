@@ -5,11 +5,12 @@ use Rattle.std.proofs.lemmas.Str.Parse.{digit_from_value}
 use Rattle.std.specs.Str.Parse.{AllDigits}
 use Rattle.lattice.specs.declared.point.Point.{Point}
 use Rattle.lines.specs.declared.keyword.Keyword.{Keyword}
-use Rattle.lines.specs.declared.keyword.Keyword.TheVariants.{Import, Remove, Patch, Burn, Wall, Sink, Unsink, Elev, Fill, Dir, Trace, Watershed, Export, Tiles, Sinks, Step, Count, Quit}
+use Rattle.lines.specs.declared.keyword.Keyword.TheVariants.{Import, Remove, Patch, Burn, Wall, Sink, Unsink, Elev, Fill, Dir, Trace, Watershed, Export, Levels, Directions, Tiles, Sinks, Step, Count, Quit}
+use Rattle.lines.specs.declared.language.Language.{Language}
 use Rattle.lines.specs.declared.request.Request.{Request}
 use Rattle.lattice.specs.Corners.{Corner}
 use Rattle.engine.specs.declared.event.Event.{Event}
-use Rattle.lines.specs.Grammar.{Asked, AsksImport, AsksOf, AsksBox, AsksAlong, AsksAt, AsksAlone, Takes, AreInts, IsNat, IsInt, IsWord, spelling, IsTextOf, LineAsks, coordinates, spaced}
+use Rattle.lines.specs.Grammar.{Asked, AsksImport, AsksOf, AsksBox, AsksAlong, AsksAt, AsksAlone, Takes, IsIn, AreInts, IsNat, IsInt, IsWord, spelling, IsTextOf, LineAsks, coordinates, spaced}
 use Rattle.lines.specs.Requests.{IsRequest, IsRequestOf}
 use Rattle.lines.specs.Words.{cut, HasNoSpace}
 use Rattle.lines.proofs.KeywordLemmas.{spelling-free, same_keyword}
@@ -71,6 +72,8 @@ takes_free Dir = at_free _
 takes_free Trace = at_free _
 takes_free Watershed = at_free _
 takes_free Export = of_free _
+takes_free Levels = of_free _
+takes_free Directions = of_free _
 takes_free Tiles = alone_free _
 takes_free Sinks = alone_free _
 takes_free Step = alone_free _
@@ -85,27 +88,33 @@ same_text line t u (inl e) (inr f) = absurd (f.1 t e)
 same_text line t u (inr e) (inl f) = absurd (e.1 u f)
 same_text line t u (inr e) (inr f) = sym e.0 ∙ f.0
 
--- what a line asks for is asked for by the words of its text
-pub asks_words : (line text word : List ℕ) (rest : List (List ℕ)) (a : Asked) → IsTextOf line text → cut text ≡ word ∷ rest → LineAsks line a
-    → (keyword : Keyword) × ((spelling keyword ≡ word) × Takes keyword rest a)
-asks_words line text word rest a is_text words (short, t, is_t, (keyword, args, e, takes)) =
-    let same : spelling keyword ∷ args ≡ word ∷ rest =
-    sym (cut-spaced (spelling keyword) args (spelling-free keyword) (takes_free keyword args a takes))
-    ∙ ap cut (sym e ∙ same_text line t text is_t is_text) ∙ words in
-    let first : spelling keyword ≡ word = cc in
-    let others : args ≡ rest = cc in
-    (keyword, (first, subst (λ l. Takes keyword l a) others takes))
+module _ (language : Language) where
+  -- what a line asks for is asked for by the words of its text
+  pub asks_words : (line text word : List ℕ) (rest : List (List ℕ)) (a : Asked) → IsTextOf line text → cut text ≡ word ∷ rest → LineAsks language line a
+      → (keyword : Keyword) × ((spelling keyword ≡ word) × (Takes keyword rest a × IsIn language keyword))
+  asks_words line text word rest a is_text words (short, t, is_t, (keyword, args, e, takes, is_in)) =
+      let same : spelling keyword ∷ args ≡ word ∷ rest =
+      sym (cut-spaced (spelling keyword) args (spelling-free keyword) (takes_free keyword args a takes))
+      ∙ ap cut (sym e ∙ same_text line t text is_t is_text) ∙ words in
+      let first : spelling keyword ≡ word = cc in
+      let others : args ≡ rest = cc in
+      (keyword, (first, (subst (λ l. Takes keyword l a) others takes, is_in)))
 
--- no command has this word
-pub no_command : (line text word : List ℕ) (rest : List (List ℕ)) → IsTextOf line text → cut text ≡ word ∷ rest → ((k : Keyword) → spelling k ≡ word → ⊥)
-    → (a : Asked) → LineAsks line a → ⊥
-no_command line text word rest is_text words none a h = let parts = asks_words line text word rest a is_text words h in none parts.0 parts.1.0
+  -- no command has this word
+  pub no_command : (line text word : List ℕ) (rest : List (List ℕ)) → IsTextOf line text → cut text ≡ word ∷ rest → ((k : Keyword) → spelling k ≡ word → IsIn language k → ⊥)
+      → (a : Asked) → LineAsks language line a → ⊥
+  no_command line text word rest is_text words none a h = let parts = asks_words line text word rest a is_text words h in none parts.0 parts.1.0 parts.1.1.1
 
--- the command with this word makes of its arguments what the line asks for
-pub parsed : (line text word : List ℕ) (rest : List (List ℕ)) (k : Keyword) (o : Option Request) → length line ≤ 2048 → IsTextOf line text → cut text ≡ word ∷ rest
-    → spelling k ≡ word → IsRequest k rest o → IsRequestOf line o
-parsed line text word rest k None short is_text words is h = λ a asks.
-    let parts = asks_words line text word rest a is_text words asks in
-    h a (subst (λ (j : Keyword). Takes j rest a) (same_keyword parts.0 k (parts.1.0 ∙ sym is)) parts.1.1)
-parsed line text word rest k (Some r) short is_text words is takes =
-    (short, text, is_text, (k, rest, subst (λ w. text ≡ spaced w rest) (sym is) (spaced-cut text word rest words), takes))
+  -- the command with this word isn't of the language
+  pub no_such : (line text word : List ℕ) (rest : List (List ℕ)) (k : Keyword) → IsTextOf line text → cut text ≡ word ∷ rest → spelling k ≡ word → (IsIn language k → ⊥) → (a : Asked) → LineAsks language line a → ⊥
+  no_such line text word rest k is_text words is not =
+      no_command line text word rest is_text words (λ other spelt has. not (subst (IsIn language) (same_keyword other k (spelt ∙ sym is)) has))
+
+  -- the command with this word makes of its arguments what the line asks for
+  pub parsed : (line text word : List ℕ) (rest : List (List ℕ)) (k : Keyword) (o : Option Request) → length line ≤ 2048 → IsTextOf line text → cut text ≡ word ∷ rest
+      → spelling k ≡ word → IsIn language k → IsRequest k rest o → IsRequestOf language line o
+  parsed line text word rest k None short is_text words is is_in h = λ a asks.
+      let parts = asks_words line text word rest a is_text words asks in
+      h a (subst (λ (j : Keyword). Takes j rest a) (same_keyword parts.0 k (parts.1.0 ∙ sym is)) parts.1.1.0)
+  parsed line text word rest k (Some r) short is_text words is is_in takes =
+      (short, text, is_text, (k, rest, subst (λ w. text ≡ spaced w rest) (sym is) (spaced-cut text word rest words), takes, is_in))

@@ -9,7 +9,9 @@ use Rattle.edits.specs.declared.command.Command.TheVariants as command
 use Rattle.engine.specs.declared.event.Event.{Event}
 use Rattle.engine.specs.declared.event.Event.TheVariants as ask
 use Rattle.lines.specs.declared.keyword.Keyword.{Keyword}
-use Rattle.lines.specs.declared.keyword.Keyword.TheVariants.{Import, Remove, Patch, Burn, Wall, Sink, Unsink, Elev, Fill, Dir, Trace, Watershed, Export, Tiles, Sinks, Step, Count, Quit}
+use Rattle.lines.specs.declared.language.Language.{Language}
+use Rattle.lines.specs.declared.language.Language.TheVariants.{Plain}
+use Rattle.lines.specs.declared.keyword.Keyword.TheVariants.{Import, Remove, Patch, Burn, Wall, Sink, Unsink, Elev, Fill, Dir, Trace, Watershed, Export, Levels, Directions, Tiles, Sinks, Step, Count, Quit}
 
 -- WORD: one or more bytes from 0x21 to 0x7E
 abbrev pub IsWord : List ℕ → Type 0
@@ -60,6 +62,8 @@ spelling Dir = codes "dir"
 spelling Trace = codes "trace"
 spelling Watershed = codes "watershed"
 spelling Export = codes "export"
+spelling Levels = codes "levels"
+spelling Directions = codes "directions"
 spelling Tiles = codes "tiles"
 spelling Sinks = codes "sinks"
 spelling Step = codes "step"
@@ -114,6 +118,8 @@ Takes Dir args asked = AsksAt ask.Direction args asked
 Takes Trace args asked = AsksAt ask.Trace args asked
 Takes Watershed args asked = AsksAt ask.Watershed args asked
 Takes Export args asked = AsksOf ask.Export args asked
+Takes Levels args asked = AsksOf ask.Levels args asked
+Takes Directions args asked = AsksOf ask.Directions args asked
 Takes Tiles args asked = AsksAlone (AskEvent ask.Tiles) args asked
 Takes Sinks args asked = AsksAlone (AskEvent ask.Sinks) args asked
 Takes Step args asked = AsksAlone (AskEvent ask.Step) args asked
@@ -125,14 +131,20 @@ abbrev pub spaced : List ℕ → List (List ℕ) → List ℕ
 spaced word [] = word
 spaced word (w ∷ ws) = word ++ 32 ∷ spaced w ws
 
+-- the command is of the language: the plain one has no question about all samples of a tile
+abbrev pub IsIn : Language → Keyword → Type 0
+IsIn Plain Levels = ⊥
+IsIn Plain Directions = ⊥
+IsIn language keyword = Unit {0}
+
 -- the text of a line asks for this
-abbrev pub Asks : List ℕ → Asked → Type 0
-Asks text a = (keyword : Keyword) × (args : List (List ℕ)) × (text ≡ spaced (spelling keyword) args) × Takes keyword args a
+abbrev pub Asks : Language → List ℕ → Asked → Type 0
+Asks language text a = (keyword : Keyword) × (args : List (List ℕ)) × (text ≡ spaced (spelling keyword) args) × Takes keyword args a × IsIn language keyword
 
 -- the text of a line: what stands before the CR at its end, or all of it where no CR is at its end
 abbrev pub IsTextOf : List ℕ → List ℕ → Type 0
 IsTextOf line text = (line ≡ text ++ 13 ∷ []) ⊎ ((line ≡ text) × ((front : List ℕ) → line ≡ front ++ 13 ∷ [] → ⊥))
 
 -- the line, which is without its LF, asks for this
-abbrev pub LineAsks : List ℕ → Asked → Type 0
-LineAsks line a = (length line ≤ 2048) × (text : List ℕ) × IsTextOf line text × Asks text a
+abbrev pub LineAsks : Language → List ℕ → Asked → Type 0
+LineAsks language line a = (length line ≤ 2048) × (text : List ℕ) × IsTextOf line text × Asks language text a

@@ -1,6 +1,7 @@
 pub mod Ahead
 pub mod Grammar
 pub mod Held
+pub mod Languages
 pub mod Lines
 pub mod Replies
 pub mod Requests

@@ -1,6 +1,7 @@
 -- The request that a line's text asks for, and what each command makes of its arguments.
 use Rattle.std.specs.Prelude.{ℕ, List, Option, Some, None}
 use Rattle.lines.specs.declared.keyword.Keyword.{Keyword}
+use Rattle.lines.specs.declared.language.Language.{Language}
 use Rattle.lines.specs.declared.request.Request.{Request}
 use Rattle.lines.specs.declared.request.Request.TheVariants.{Import, Ask, BadName, Quit}
 use Rattle.lines.specs.Grammar.{Asked, AskImport, AskEvent, AskNoTile, AskQuit, Takes, LineAsks}
@@ -17,6 +18,6 @@ IsRequest keyword args (Some r) = Takes keyword args (asked r)
 IsRequest keyword args None = (a : Asked) → Takes keyword args a → ⊥
 
 -- what the line asks for, or that it is not in the grammar
-abbrev pub IsRequestOf : List ℕ → Option Request → Type 0
-IsRequestOf line (Some r) = LineAsks line (asked r)
-IsRequestOf line None = (a : Asked) → LineAsks line a → ⊥
+abbrev pub IsRequestOf : Language → List ℕ → Option Request → Type 0
+IsRequestOf language line (Some r) = LineAsks language line (asked r)
+IsRequestOf language line None = (a : Asked) → LineAsks language line a → ⊥

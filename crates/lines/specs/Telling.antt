@@ -3,10 +3,15 @@ use Rattle.std.specs.Prelude.{◌≡◌, ◌⊎◌, ℕ, Bool, true, false, IsTr
 use Rattle.std.specs.Fmt.{signed_decimal}
 use Rattle.lattice.specs.declared.height.Height.TheVariants as height
 use Rattle.lattice.specs.declared.refusal.Refusal.TheVariants as refusal
+use Rattle.hgt.specs.Bytes.{hgt_bytes}
 use Rattle.hgt.specs.Names.{name_bytes}
 use Rattle.engine.specs.declared.event.Reply.{Reply}
 use Rattle.engine.specs.declared.event.Reply.TheVariants as reply
 use Rattle.lines.specs.Replies.{ok_line, done_text, names_line, path_text, runs_text, refusal_text}
+
+-- `OK`, how many bytes there are, and the bytes
+abbrev pub bytes_text : List ℕ → List ℕ
+bytes_text bytes = ok_line (decimal (length bytes)) ++ bytes
 
 -- what is written for an answer: metres or `void` for a height, which outside is a refusal; the tile that a step named, or
 -- `none`
@@ -19,7 +24,9 @@ text_of (reply.Fill level) = ok_line (signed_decimal level)
 text_of (reply.Direction code) = ok_line (decimal code)
 text_of (reply.Trace path) = path_text path.items
 text_of (reply.Watershed runs) = runs_text runs.items
-text_of (reply.Export bytes) = ok_line (decimal (length bytes.items)) ++ bytes.items
+text_of (reply.Export bytes) = bytes_text bytes.items
+text_of (reply.Levels levels) = bytes_text (hgt_bytes levels.items)
+text_of (reply.Directions codes) = bytes_text codes.items
 text_of (reply.Tiles corners) = names_line corners.items
 text_of (reply.Sinks points) = path_text points.items
 text_of (reply.Stepped (Some c)) = ok_line (name_bytes c)
@@ -32,6 +39,7 @@ text_of (reply.Refused r) = refusal_text r
 abbrev pub takes_memory : Reply → Bool
 takes_memory (reply.Trace path) = true
 takes_memory (reply.Watershed runs) = true
+takes_memory (reply.Levels levels) = true
 takes_memory (reply.Tiles corners) = true
 takes_memory (reply.Sinks points) = true
 takes_memory answer = false

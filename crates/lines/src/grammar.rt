@@ -8,6 +8,7 @@ ghost use Rattle.lines.specs.Grammar.{IsWord, NamesNone, AreInts, IsPointCount, 
 ghost use Rattle.lines.specs.Requests.{IsRequest, IsRequestOf, asked};
 
 use crate::keyword::Keyword;
+use crate::language::Language;
 use crate::number::{integers, natural};
 use crate::request::{MOST_POINTS, Request};
 use crate::words::{Words, first_word};
@@ -17,14 +18,18 @@ use engine::Event;
 use hgt::name_of;
 use lattice::{Corner, Point};
 
-/// What a line asks for, if the grammar has it.
-pub fn request_of(line: &[u8]) -> Option<Request<'_>>
+/// What a line asks for, if the language has it.
+pub fn request_of(language: Language, line: &[u8]) -> Option<Request<'_>>
     requires { length line.now ≤ 2048 }
-    ensures exact { IsRequestOf line.now result }
-    ensures only { IfSome result (λ r. (a : Asked) → LineAsks line.now a → a ≡ asked r) }
+    ensures exact { IsRequestOf language line.now result }
+    ensures only { IfSome result (λ r. (a : Asked) → LineAsks language line.now a → a ≡ asked r) }
 {
-    let (command, arguments) = first_word(text_of(line));
-    with_arguments(Keyword::of(command)?, arguments)
+    let (word, arguments) = first_word(text_of(line));
+    let command = Keyword::of(word)?;
+    if !language.has(command) {
+        return None;
+    }
+    with_arguments(command, arguments)
 }
 
 /// The line without the CR that may end it.
@@ -49,6 +54,14 @@ fn with_arguments<'a>(command: Keyword, arguments: Words<'a>) -> Option<Request<
         },
         Keyword::Export => match tile(arguments)? {
             Some(corner) => Event::Export(corner),
+            None => return Some(Request::BadName),
+        },
+        Keyword::Levels => match tile(arguments)? {
+            Some(corner) => Event::Levels(corner),
+            None => return Some(Request::BadName),
+        },
+        Keyword::Directions => match tile(arguments)? {
+            Some(corner) => Event::Directions(corner),
             None => return Some(Request::BadName),
         },
         Keyword::Patch => patch(arguments)?,

@@ -18,6 +18,8 @@ pub enum Keyword {
     Trace,
     Watershed,
     Export,
+    Levels,
+    Directions,
     Tiles,
     Sinks,
     Step,
@@ -25,7 +27,7 @@ pub enum Keyword {
     Quit,
 }
 
-const KEYWORDS: [Keyword; 18] = [
+const KEYWORDS: [Keyword; 20] = [
     Keyword::Import,
     Keyword::Remove,
     Keyword::Patch,
@@ -39,6 +41,8 @@ const KEYWORDS: [Keyword; 18] = [
     Keyword::Trace,
     Keyword::Watershed,
     Keyword::Export,
+    Keyword::Levels,
+    Keyword::Directions,
     Keyword::Tiles,
     Keyword::Sinks,
     Keyword::Step,
@@ -76,6 +80,8 @@ impl Keyword {
             Keyword::Trace => b"trace",
             Keyword::Watershed => b"watershed",
             Keyword::Export => b"export",
+            Keyword::Levels => b"levels",
+            Keyword::Directions => b"directions",
             Keyword::Tiles => b"tiles",
             Keyword::Sinks => b"sinks",
             Keyword::Step => b"step",

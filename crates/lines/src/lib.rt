@@ -5,7 +5,7 @@
 //! exactly where the grammar (`specs/Grammar.antt`) has it.
 //!
 //! ```
-//! let request = request_of(b"fill 1 1");                 // Some: the event to fill y = 1, x = 1
+//! let request = request_of(Language::Plain, b"fill 1 1"); // Some: the event to fill y = 1, x = 1
 //! let text = format_reply(alloc, reply);                 // "OK 5" and an LF
 //! text.write(&mut writer)?;
 //! ```
@@ -14,6 +14,7 @@
 mod bytes;
 mod grammar;
 mod keyword;
+mod language;
 mod lists;
 mod number;
 mod replying;
@@ -23,6 +24,7 @@ mod text;
 mod words;
 
 pub use grammar::request_of;
+pub use language::{Language, plain_lines_ask_for_no_tile_at_once};
 pub use number::natural;
 pub use replying::format_reply;
 pub use request::{MOST_POINTS, Request};

@@ -2,12 +2,13 @@
 //! reply ends in an LF.
 ghost use Rattle.std.specs.Prelude.{◌≡◌, ◌+◌, ◌≤◌, ℕ, List, ◌++◌, length, IfOk, OnOk, OnErr, take, codes, decimal};
 ghost use Rattle.std.specs.Io.KnownBytes.{Appends};
+ghost use Rattle.hgt.specs.Bytes.{hgt_bytes};
 ghost use Rattle.hgt.specs.Names.{name_bytes};
 ghost use Rattle.lines.specs.Replies.{ok_line, done_text, names_line, path_text, refusal_text, runs_text};
 
 use crate::lists::{extend_names, extend_points, extend_runs, point_count};
 use arrayvec::ArrayVec;
-use hgt::name_text;
+use hgt::{bytes_of, name_text};
 use itoa::{Buffer, Integer};
 use lattice::{Corner, Point, Refusal};
 use std::alloc::{AllocError, Global};
@@ -20,8 +21,8 @@ const LONGEST_LINE: usize = 64;
 
 /// The text of a reply, made whole before any of it is written.
 ///
-/// One line of a bounded length needs no memory, nor do the bytes of a tile, which are held as they came; `names`, `path`
-/// and `runs` do.
+/// One line of a bounded length needs no memory, nor do the bytes of a tile, which are held as they came; `samples`, `names`,
+/// `path` and `runs` do.
 #[derive(Drop)]
 pub struct Text {
     held: Held,
@@ -108,6 +109,13 @@ impl Text {
         Text {
             held: Held::Tile(head, bytes),
         }
+    }
+
+    /// The same of the samples' HGT bytes.
+    pub fn samples(alloc: Global, samples: &[i16]) -> Result<Text, AllocError>
+        ensures { IfOk result (λ r. r ≡ ok_line (decimal (length (hgt_bytes samples.now))) ++ hgt_bytes samples.now) }
+    {
+        Ok(Text::bytes(bytes_of(alloc, samples)?))
     }
 
     /// `OK`, the number of tiles, and their names.

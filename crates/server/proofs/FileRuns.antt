@@ -5,6 +5,7 @@ use Rattle.disk.specs.Disk.{Image}
 use Rattle.disk.specs.declared.disk.Disk.{Ghosts}
 use Rattle.lattice.specs.declared.refusal.Refusal.{Refusal}
 use Rattle.engine.specs.State.{fresh}
+use Rattle.lines.specs.declared.language.Language.{Language}
 use Rattle.serving.specs.Outputs.{Stream}
 use Rattle.store.specs.Sessions.{HoldsOnly, Made, AreMade, last_store, Session, Unopened, Ended, Stopped, IsSession, Visit, AreSessions}
 use Rattle.store.specs.declared.store.Store.{Store}
@@ -35,25 +36,25 @@ module _ {D : Type 0} (g : Ghosts D) where
   upgraded old left sessions written now status (inl closed) = same sessions _ closed.1 (closed.2, tt)
   upgraded old left sessions written now status (inr (store, more, is, opening, runs)) = same sessions _ is ((opening, tt), grown _ _ left more written now status runs)
 
-  asked : (a : Arguments) (accesses : List (Access D)) (before after : Option (List ℕ)) (written new : Stream) (disk : Option D) (sessions : List (Session g)) (status : ℕ)
-      → RunsAs g a accesses before after written new disk sessions status → AllSessions sessions
-  asked (Format path side capacity) accesses before after written new disk sessions status (read, none, runs) = same sessions [] none tt
-  asked (Import path tile) accesses before after written new disk sessions status (read, inl none) = same sessions [] none.2 tt
-  asked (Import path tile) accesses before after written new disk sessions status (read, inr (c, named, inl none)) = same sessions [] none.2 tt
-  asked (Import path tile) accesses before after written new disk sessions status (read, inr (c, named, inr (old, left, more, opens, is, imports))) = ⊎_elim (λ closed. same sessions _ closed.1 (closed.2, tt)) (λ did. same sessions _ did.2 ((did.3, did.4), tt)) imports
-  asked (Serve path) accesses before after written new disk sessions status (inl none) = same sessions [] none.1.2 tt
-  asked (Serve path) accesses before after written new disk sessions status (inr (old, left, opens, is, serves)) = ⊎_elim (λ closed. same sessions _ closed.1 (closed.2, tt)) (λ did. same sessions _ did.2 ((did.3, did.4), tt)) serves
-  asked (Table side capacity) accesses before after written new disk sessions status none = same sessions [] none.2 tt
-  asked (Upgrade path) accesses before after written new disk sessions status (read, inl none) = same sessions [] none.2 tt
-  asked (Upgrade path) accesses before after written new disk sessions status (read, inr (old, left, opens, is, upgrades)) = upgraded old left sessions written new status upgrades
-  asked (Check path) accesses before after written new disk sessions status (read, inl none) = same sessions [] none.2 tt
-  asked (Check path) accesses before after written new disk sessions status (read, inr (old, left, opens, is, checks)) = ⊎_elim (λ closed. same sessions _ closed.1 (closed.2, tt)) (λ did. same sessions _ did.2 ((did.3, did.4), tt)) checks
+  asked : (language : Language) (a : Arguments) (accesses : List (Access D)) (before after : Option (List ℕ)) (written new : Stream) (disk : Option D) (sessions : List (Session g)) (status : ℕ)
+      → RunsAs g language a accesses before after written new disk sessions status → AllSessions sessions
+  asked language (Format path side capacity) accesses before after written new disk sessions status (read, none, runs) = same sessions [] none tt
+  asked language (Import path tile) accesses before after written new disk sessions status (read, inl none) = same sessions [] none.2 tt
+  asked language (Import path tile) accesses before after written new disk sessions status (read, inr (c, named, inl none)) = same sessions [] none.2 tt
+  asked language (Import path tile) accesses before after written new disk sessions status (read, inr (c, named, inr (old, left, more, opens, is, imports))) = ⊎_elim (λ closed. same sessions _ closed.1 (closed.2, tt)) (λ did. same sessions _ did.2 ((did.3, did.4), tt)) imports
+  asked language (Serve path) accesses before after written new disk sessions status (inl none) = same sessions [] none.1.2 tt
+  asked language (Serve path) accesses before after written new disk sessions status (inr (old, left, opens, is, serves)) = ⊎_elim (λ closed. same sessions _ closed.1 (closed.2, tt)) (λ did. same sessions _ did.2 ((did.3, did.4), tt)) serves
+  asked language (Table side capacity) accesses before after written new disk sessions status none = same sessions [] none.2 tt
+  asked language (Upgrade path) accesses before after written new disk sessions status (read, inl none) = same sessions [] none.2 tt
+  asked language (Upgrade path) accesses before after written new disk sessions status (read, inr (old, left, opens, is, upgrades)) = upgraded old left sessions written new status upgrades
+  asked language (Check path) accesses before after written new disk sessions status (read, inl none) = same sessions [] none.2 tt
+  asked language (Check path) accesses before after written new disk sessions status (read, inr (old, left, opens, is, checks)) = ⊎_elim (λ closed. same sessions _ closed.1 (closed.2, tt)) (λ did. same sessions _ did.2 ((did.3, did.4), tt)) checks
 
-  carried : (words : List (List ℕ)) (accesses : List (Access D)) (before after : Option (List ℕ)) (written new : Stream) (disk : Option D) (sessions : List (Session g)) (status : ℕ)
-      → CarriesOut g words accesses before after written new disk sessions status → AllSessions sessions
-  carried words accesses before after written new disk sessions status (inl none) = same sessions [] none.2 tt
-  carried words accesses before after written new disk sessions status (inr (inl none)) = same sessions [] none.2 tt
-  carried words accesses before after written new disk sessions status (inr (inr (a, by, runs))) = asked a accesses before after written new disk sessions status runs
+  carried : (language : Language) (words : List (List ℕ)) (accesses : List (Access D)) (before after : Option (List ℕ)) (written new : Stream) (disk : Option D) (sessions : List (Session g)) (status : ℕ)
+      → CarriesOut g language words accesses before after written new disk sessions status → AllSessions sessions
+  carried language words accesses before after written new disk sessions status (inl none) = same sessions [] none.2 tt
+  carried language words accesses before after written new disk sessions status (inr (inl none)) = same sessions [] none.2 tt
+  carried language words accesses before after written new disk sessions status (inr (inr (a, by, runs))) = asked language a accesses before after written new disk sessions status runs
 
   -- ---- how far a session came
 
@@ -106,7 +107,7 @@ module _ {I D : Type 0} (gs : I → Ghosts D) where
   runs_are [] = tt
   runs_are (run ∷ more) =
       seen_by run.by run.came (visits_of gs more)
-      (parts_are (gs run.by) run.came run.sessions run.parts (carried (gs run.by) run.words run.accesses run.before run.after run.written run.new run.disk run.sessions run.status run.carries)) (runs_are more)
+      (parts_are (gs run.by) run.came run.sessions run.parts (carried (gs run.by) run.language run.words run.accesses run.before run.after run.written run.new run.disk run.sessions run.status run.carries)) (runs_are more)
 
 pub runs_compose : {I D : Type 0} (gs : I → Ghosts D) → ((i : I) (disk : D) (image : Image) → (gs i).honest disk → (gs i).since disk ((gs i).moment disk) image → (gs i).may disk image) → RunsCompose gs
 runs_compose gs only_now side capacity i path accesses written new start runs makes honest turns =

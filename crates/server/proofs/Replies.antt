@@ -3,6 +3,7 @@ use Rattle.std.proofs.Common.{◌≡◌, ℕ, List, [], ◌∷◌, ◌++◌, Opt
 use Rattle.disk.specs.declared.disk.Disk.{Ghosts}
 use Rattle.engine.specs.Runs.{last_of}
 use Rattle.engine.specs.Engines.{IsCall}
+use Rattle.lines.specs.declared.language.Language.{Language}
 use Rattle.serving.specs.Answers.{Replied, Turn, Ask, Refuse, End, ComesTo, Turns}
 use Rattle.serving.specs.Items.{Item}
 use Rattle.serving.specs.Served.{Outcome, Replies}
@@ -75,21 +76,21 @@ module _ {D : Type 0} (g : Ghosts D) where
         }
 
     -- the calls of a session, and the replies to its items
-    pub record Served (stores : List (Store D g)) (before after written now : Option (List ℕ)) (result : Result (Unit {0}) ServeFault) : Type 0 where
+    pub record Served (language : Language) (stores : List (Store D g)) (before after written now : Option (List ℕ)) (result : Result (Unit {0}) ServeFault) : Type 0 where
       pub calls : List (Made g)
       pub made : AreMade g store calls
       pub ends : last_store g store calls ≡ last_of store stores
-      pub told : IsReplied g store calls before after written now result
+      pub told : IsReplied g language store calls before after written now result
 
-    pub served : (stores : List (Store D g)) (before after written now : Option (List ℕ)) (result : Result (Unit {0}) ServeFault) → Outcome IsAnswered before after written now store stores result
-        → Served stores before after written now result
-    served stores before after written now (Ok u) (items, text, are, appends, right) =
+    pub served : (language : Language) (stores : List (Store D g)) (before after written now : Option (List ℕ)) (result : Result (Unit {0}) ServeFault) → Outcome language IsAnswered before after written now store stores result
+        → Served language stores before after written now result
+    served language stores before after written now (Ok u) (items, text, are, appends, right) =
         let by = by_calls [] store items text stores tt refl right in
         record { calls = last_of [] by.through; made = by.made; ends = by.ends; told = record { through = by.through; replies = (items, text, are, appends, by.replies); all = refl } }
-    served stores before after written now (Err Input) (items, rest, text, each, begun, taken, appends, right) =
+    served language stores before after written now (Err Input) (items, rest, text, each, begun, taken, appends, right) =
         let by = by_calls [] store items text stores tt refl right in
         record { calls = last_of [] by.through; made = by.made; ends = by.ends; told = record { through = by.through; replies = (items, rest, text, each, begun, taken, appends, by.replies); all = refl } }
-    served stores before after written now (Err Output) (items, i, extent, text, n, left, each, item, taken, right, appends) =
+    served language stores before after written now (Err Output) (items, i, extent, text, n, left, each, item, taken, right, appends) =
         let by = by_calls [] store (items ++ i ∷ []) text stores tt refl right in
         record {
           calls = last_of [] by.through;

@@ -2,6 +2,7 @@
 use Rattle.std.specs.Prelude.{◌≡◌, ◌⊎◌, ℕ, List, [], ◌∷◌, ◌++◌, map, Option, Some, Ok}
 use Rattle.disk.specs.declared.disk.Disk.{Ghosts}
 use Rattle.engine.specs.State.{fresh}
+use Rattle.lines.specs.declared.language.Language.{Language}
 use Rattle.serving.specs.Outputs.{Stream}
 use Rattle.store.specs.Accepted.{none_asked}
 use Rattle.store.specs.Sessions.{Made, Session, Unopened, Ended, Stopped, Visit, InTurn, EachFinds}
@@ -28,6 +29,7 @@ module _ {I D : Type 0} (gs : I → Ghosts D) where
     -- how the disk of the file is seen
     pub by : I
     -- all that the run does, if it isn't stopped
+    pub language : Language
     pub words : List (List ℕ)
     pub accesses : List (Access D)
     pub before : Option (List ℕ)
@@ -37,7 +39,7 @@ module _ {I D : Type 0} (gs : I → Ghosts D) where
     pub disk : Option D
     pub sessions : List (Session (gs by))
     pub status : ℕ
-    pub carries : CarriesOut (gs by) words accesses before after written new disk sessions status
+    pub carries : CarriesOut (gs by) language words accesses before after written new disk sessions status
     -- the sessions as far as it came
     pub came : List (Session (gs by))
     pub parts : ArePartsOf (gs by) came sessions

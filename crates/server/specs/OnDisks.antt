@@ -11,6 +11,7 @@ use Rattle.engine.specs.Engines.{answered}
 use Rattle.engine.specs.State.{fresh}
 use Rattle.engine.specs.declared.event.Event.TheVariants as ask
 use Rattle.engine.specs.declared.event.Reply.TheVariants as reply
+use Rattle.lines.specs.declared.language.Language.{Language}
 use Rattle.page_codec.specs.Sizes.{sectors_asked}
 use Rattle.roots.specs.declared.roots.NotOpened.{NotOpened}
 use Rattle.serving.specs.Outputs.{Stream}
@@ -55,10 +56,10 @@ module _ {D : Type 0} (g : Ghosts D) where
       × Did store calls)
 
   -- lines are served on the disk's store
-  abbrev pub ServesLines : (old left : D) → List (Session g) → (before after : Option (List ℕ)) → Stream → Stream → ℕ → Type 0
-  ServesLines old left sessions before after written now status =
+  abbrev pub ServesLines : Language → (old left : D) → List (Session g) → (before after : Option (List ℕ)) → Stream → Stream → ℕ → Type 0
+  ServesLines language old left sessions before after written now status =
       InSession old left sessions (λ r. (after ≡ before) × TellsRefusal r written now status)
-      (λ store calls. (result : Result (Unit {0}) ServeFault) × (mid : Stream) × IsReplied g store calls before after written.contents mid.contents result × EndsSession result mid now status)
+      (λ store calls. (result : Result (Unit {0}) ServeFault) × (mid : Stream) × IsReplied g language store calls before after written.contents mid.contents result × EndsSession result mid now status)
 
   -- what was given of the tile's file is imported, or why nothing was given is told
   abbrev pub EndsImport : Corner → (tile : List ℕ) → Result (List ℕ) TileFault → List (Made g) → Stream → Stream → ℕ → Type 0

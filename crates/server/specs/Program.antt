@@ -10,6 +10,7 @@ use Rattle.hgt.specs.Names.{IsFileName}
 use Rattle.page_codec.specs.Sizes.{sectors_asked}
 use Rattle.engine.specs.Events.{Happens}
 use Rattle.engine.specs.State.{State, fresh, working}
+use Rattle.lines.specs.declared.language.Language.{Language}
 use Rattle.serving.specs.Answers.{Replied}
 use Rattle.serving.specs.Promises.{side_in}
 use Rattle.serving.specs.Served.{Outcome}
@@ -30,17 +31,17 @@ use Rattle.server.specs.declared.places.MakeFault.TheVariants.{Exists, Closed}
 -- ---- on an empty table
 
 -- an empty table of this side is served: all was served and has left, or a stream failed and a line tells which
-abbrev pub EndsServing : (side capacity : ℕ) → (before after : Option (List ℕ)) → Stream → Stream → ℕ → Type 0
-EndsServing side capacity before after written new status =
+abbrev pub EndsServing : Language → (side capacity : ℕ) → (before after : Option (List ℕ)) → Stream → Stream → ℕ → Type 0
+EndsServing language side capacity before after written new status =
     (states : List State) × (mid : Stream) × (result : Result (Unit {0}) ServeFault)
-    × Outcome (Replied (Happens capacity) side_in) before after written.contents mid.contents (working (fresh side)) states result × EndsSession result mid new status
+    × Outcome language (Replied (Happens capacity) side_in) before after written.contents mid.contents (working (fresh side)) states result × EndsSession result mid new status
 
 -- the side is tested first, then the capacity
-abbrev pub RunsTable : (side capacity : ℕ) → (before after : Option (List ℕ)) → Stream → Stream → ℕ → Type 0
-RunsTable side capacity before after written new status =
+abbrev pub RunsTable : Language → (side capacity : ℕ) → (before after : Option (List ℕ)) → Stream → Stream → ℕ → Type 0
+RunsTable language side capacity before after written new status =
     (((side < 3) ⊎ (largest_side < side)) × (after ≡ before) × TellsRefusal BadSide written new status)
     ⊎ ((3 ≤ side) × (side ≤ largest_side) × ((capacity < 1) ⊎ (most_tiles < capacity)) × (after ≡ before) × TellsRefusal BadCapacity written new status)
-    ⊎ (IsTaken side capacity × EndsServing side capacity before after written new status)
+    ⊎ (IsTaken side capacity × EndsServing language side capacity before after written new status)
 
 -- ---- on files: those that were asked for are listed in their order, each with what was given
 
@@ -78,10 +79,10 @@ module _ {D : Type 0} (g : Ghosts D) where
       TellsNone path accesses written new disk sessions status
       ⊎ ((old left : D) × (more : List (Access D)) × (accesses ≡ Opens path (Some old) ∷ more) × (disk ≡ Some left) × ImportsTile g c tile more old left sessions written new status)))
 
-  abbrev pub RunsServe : (path : List ℕ) → List (Access D) → (before after : Option (List ℕ)) → Stream → Stream → Option D → List (Session g) → ℕ → Type 0
-  RunsServe path accesses before after written new disk sessions status =
+  abbrev pub RunsServe : Language → (path : List ℕ) → List (Access D) → (before after : Option (List ℕ)) → Stream → Stream → Option D → List (Session g) → ℕ → Type 0
+  RunsServe language path accesses before after written new disk sessions status =
       ((after ≡ before) × TellsNone path accesses written new disk sessions status)
-      ⊎ OnStore path accesses disk (λ old left. ServesLines g old left sessions before after written new status)
+      ⊎ OnStore path accesses disk (λ old left. ServesLines g language old left sessions before after written new status)
 
   abbrev pub RunsCheck : (path : List ℕ) → List (Access D) → Stream → Stream → Option D → List (Session g) → ℕ → Type 0
   RunsCheck path accesses written new disk sessions status =
@@ -94,26 +95,26 @@ module _ {D : Type 0} (g : Ghosts D) where
   -- ---- by its words
 
   -- .. with the sessions that it makes of a store
-  abbrev pub RunsAs : Arguments → List (Access D) → (before after : Option (List ℕ)) → Stream → Stream → Option D → List (Session g) → ℕ → Type 0
-  RunsAs (Format path side capacity) accesses before after written new disk sessions status =
+  abbrev pub RunsAs : Language → Arguments → List (Access D) → (before after : Option (List ℕ)) → Stream → Stream → Option D → List (Session g) → ℕ → Type 0
+  RunsAs language (Format path side capacity) accesses before after written new disk sessions status =
       (after ≡ before) × (sessions ≡ []) × RunsFormat path.now side capacity accesses written new disk status
-  RunsAs (Import path tile) accesses before after written new disk sessions status = (after ≡ before) × RunsImport path.now tile.now accesses written new disk sessions status
-  RunsAs (Serve path) accesses before after written new disk sessions status = RunsServe path.now accesses before after written new disk sessions status
-  RunsAs (Table side capacity) accesses before after written new disk sessions status =
-      (accesses ≡ []) × (disk ≡ None) × (sessions ≡ []) × RunsTable side capacity before after written new status
-  RunsAs (Upgrade path) accesses before after written new disk sessions status = (after ≡ before) × RunsUpgrade path.now accesses written new disk sessions status
-  RunsAs (Check path) accesses before after written new disk sessions status = (after ≡ before) × RunsCheck path.now accesses written new disk sessions status
+  RunsAs language (Import path tile) accesses before after written new disk sessions status = (after ≡ before) × RunsImport path.now tile.now accesses written new disk sessions status
+  RunsAs language (Serve path) accesses before after written new disk sessions status = RunsServe language path.now accesses before after written new disk sessions status
+  RunsAs language (Table side capacity) accesses before after written new disk sessions status =
+      (accesses ≡ []) × (disk ≡ None) × (sessions ≡ []) × RunsTable language side capacity before after written new status
+  RunsAs language (Upgrade path) accesses before after written new disk sessions status = (after ≡ before) × RunsUpgrade path.now accesses written new disk sessions status
+  RunsAs language (Check path) accesses before after written new disk sessions status = (after ≡ before) × RunsCheck path.now accesses written new disk sessions status
 
-  -- What the program with these words makes of the files that it asks for, of what the reader and the writer had before and
+  -- What the program with these words, over lines of this language, makes of the files that it asks for, of what the reader and the writer had before and
   -- have after, the disk that it hands back, the sessions that it made of a store, and its exit status: other words than it
   -- takes are told, and so is want of memory for them; else it does what they ask for.
-  abbrev pub CarriesOut : (words : List (List ℕ)) → List (Access D) → (before after : Option (List ℕ)) → Stream → Stream → Option D → List (Session g) → ℕ → Type 0
-  CarriesOut words accesses before after written new disk sessions status =
+  abbrev pub CarriesOut : Language → (words : List (List ℕ)) → List (Access D) → (before after : Option (List ℕ)) → Stream → Stream → Option D → List (Session g) → ℕ → Type 0
+  CarriesOut language words accesses before after written new disk sessions status =
       ((accesses ≡ []) × (disk ≡ None) × (sessions ≡ []) × (after ≡ before) × AskNothing words × Puts written new bad_words × (status ≡ 2))
       ⊎ ((accesses ≡ []) × (disk ≡ None) × (sessions ≡ []) × (after ≡ before) × TellsRefusal NoMemory written new status)
-      ⊎ ((a : Arguments) × AskedBy words a × RunsAs a accesses before after written new disk sessions status)
+      ⊎ ((a : Arguments) × AskedBy words a × RunsAs language a accesses before after written new disk sessions status)
 
   -- .. where the disk is closed
-  abbrev pub Runs : (words : List (List ℕ)) → List (Access D) → (before after : Option (List ℕ)) → Stream → Stream → ℕ → Type 0
-  Runs words accesses before after written new status =
-      (disk : Option D) × ((sessions : List (Session g)) × CarriesOut words accesses before after written new disk sessions status)
+  abbrev pub Runs : Language → (words : List (List ℕ)) → List (Access D) → (before after : Option (List ℕ)) → Stream → Stream → ℕ → Type 0
+  Runs language words accesses before after written new status =
+      (disk : Option D) × ((sessions : List (Session g)) × CarriesOut language words accesses before after written new disk sessions status)

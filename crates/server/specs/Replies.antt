@@ -4,6 +4,7 @@ use Rattle.disk.specs.declared.disk.Disk.{Ghosts}
 use Rattle.engine.specs.Runs.{last_of}
 use Rattle.engine.specs.declared.event.Event.{Event}
 use Rattle.engine.specs.declared.event.Reply.{Reply}
+use Rattle.lines.specs.declared.language.Language.{Language}
 use Rattle.serving.specs.Answers.{Replied}
 use Rattle.serving.specs.Served.{Outcome}
 use Rattle.serving.specs.declared.session.ServeFault.{ServeFault}
@@ -18,8 +19,8 @@ module _ {D : Type 0} (g : Ghosts D) where
 
   -- The replies are those to the items that were read: an item that comes to an event is one call more, whose answer its
   -- reply tells, and each other item is none.
-  pub record IsReplied (store : Store D g) (calls : List (Made g)) (before after written now : Option (List ℕ)) (result : Result (Unit {0}) ServeFault) : Type 0 where
+  pub record IsReplied (language : Language) (store : Store D g) (calls : List (Made g)) (before after written now : Option (List ℕ)) (result : Result (Unit {0}) ServeFault) : Type 0 where
     -- the calls so far, after each item
     pub through : List (List (Made g))
-    pub replies : Outcome (Replied GoesOnBy (λ so_far. side_of (last_store g store so_far))) before after written now [] through result
+    pub replies : Outcome language (Replied GoesOnBy (λ so_far. side_of (last_store g store so_far))) before after written now [] through result
     pub all : last_of [] through ≡ calls

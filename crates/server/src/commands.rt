@@ -1,5 +1,6 @@
 //! The program `mosaic`.
 ghost use Rattle.std.specs.Prelude.{◌≡◌, ◌≤◌, IfErr, IfOk, List, map};
+ghost use Rattle.lines.specs.declared.language.Language.TheVariants.{Plain};
 ghost use Rattle.store.specs.Formatted.{format_2};
 ghost use Rattle.store.specs.Sessions.{Session};
 ghost use Rattle.server.specs.Endings.{TellsRefusal};
@@ -13,8 +14,9 @@ use crate::places::{MakeFault, Places};
 use crate::{ArgumentFault, Arguments};
 use hgt::file_name;
 use lattice::{MOST_TILES, Refusal, Side};
+use lines::Language;
 use page_codec::{Format, Version};
-use serving::{Output, serve};
+use serving::{Output, serve_lines};
 use std::alloc::Global;
 use std::convert::AsStr;
 use std::io::Read;
@@ -46,13 +48,13 @@ pub fn program<P: Places, S: AsStr, R: Read, O: Output>(
     reader: &mut R,
     writer: &mut O,
 ) -> u8
-    ensures { Accessing P.accessed places.old places.new (λ accesses. Runs P.File.Disk (map S.text words.now) accesses (R.remaining reader.old) (R.remaining reader.new) (O.stream writer.old) (O.stream writer.new) result) }
+    ensures { Accessing P.accessed places.old places.new (λ accesses. Runs P.File.Disk Plain (map S.text words.now) accesses (R.remaining reader.old) (R.remaining reader.new) (O.stream writer.old) (O.stream writer.new) result) }
 {
-    carry_out(alloc, places, words, reader, writer).status
+    carry_out(alloc, Language::Plain, places, words, reader, writer).status
 }
 
-/// Does what the words after the program's own name ask for, as [`program`] does, on the files that these places have, and
-/// hands back the disk that it worked on.
+/// Does what the words after the program's own name ask for, as [`program`] does, over lines of this language, on the files
+/// that these places have, and hands back the disk that it worked on.
 ///
 /// It asks for the files that the words name, in this order, each at most once, and for no others. What it does on a
 /// store's file is said of the disk that its path gave, and that disk is handed back; the bytes of a tile are those that its
@@ -60,16 +62,17 @@ pub fn program<P: Places, S: AsStr, R: Read, O: Output>(
 /// or opened.
 pub fn carry_out<P: Places, S: AsStr, R: Read, O: Output>(
     alloc: Global,
+    language: Language,
     places: &mut P,
     words: &[S],
     reader: &mut R,
     writer: &mut O,
 ) -> Exit<P::File>
     ensures { Accessing P.accessed places.old places.new (λ accesses. (sessions : List (Session P.File.Disk))
-        × CarriesOut P.File.Disk (map S.text words.now) accesses (R.remaining reader.old) (R.remaining reader.new) (O.stream writer.old) (O.stream writer.new) result.disk sessions result.status) }
+        × CarriesOut P.File.Disk language (map S.text words.now) accesses (R.remaining reader.old) (R.remaining reader.new) (O.stream writer.old) (O.stream writer.new) result.disk sessions result.status) }
 {
     match Arguments::parse(alloc, words) {
-        Ok(arguments) => run(alloc, places, arguments, reader, writer),
+        Ok(arguments) => run(alloc, language, places, arguments, reader, writer),
         Err(ArgumentFault::Bad) => Exit {
             status: end_with(writer, b"mosaic: bad arguments\n", BAD_WORDS),
             disk: None,
@@ -84,13 +87,14 @@ pub fn carry_out<P: Places, S: AsStr, R: Read, O: Output>(
 /// Does what is asked for.
 fn run<P: Places, R: Read, O: Output>(
     alloc: Global,
+    language: Language,
     places: &mut P,
     arguments: Arguments<'_>,
     reader: &mut R,
     writer: &mut O,
 ) -> Exit<P::File>
     ensures { Accessing P.accessed places.old places.new (λ accesses. (sessions : List (Session P.File.Disk))
-        × RunsAs P.File.Disk arguments.entry accesses (R.remaining reader.old) (R.remaining reader.new) (O.stream writer.old) (O.stream writer.new) result.disk sessions result.status) }
+        × RunsAs P.File.Disk language arguments.entry accesses (R.remaining reader.old) (R.remaining reader.new) (O.stream writer.old) (O.stream writer.new) result.disk sessions result.status) }
 {
     match arguments {
         Arguments::Format {
@@ -99,9 +103,9 @@ fn run<P: Places, R: Read, O: Output>(
             capacity,
         } => format(alloc, places, path, side, capacity, writer),
         Arguments::Import { path, tile } => import(alloc, places, path, tile, writer),
-        Arguments::Serve { path } => serve_file(alloc, places, path, reader, writer),
+        Arguments::Serve { path } => serve_file(alloc, language, places, path, reader, writer),
         Arguments::Table { side, capacity } => Exit {
-            status: table(alloc, side, capacity, reader, writer),
+            status: table(alloc, language, side, capacity, reader, writer),
             disk: None,
         },
         Arguments::Check { path } => check(alloc, places, path, writer),
@@ -172,16 +176,17 @@ fn import<P: Places, O: Output>(
 /// Serves lines on the store in a file.
 fn serve_file<P: Places, R: Read, O: Output>(
     alloc: Global,
+    language: Language,
     places: &mut P,
     path: &str,
     reader: &mut R,
     writer: &mut O,
 ) -> Exit<P::File>
     ensures { Accessing P.accessed places.old places.new (λ accesses. (sessions : List (Session P.File.Disk))
-        × RunsServe P.File.Disk path.now accesses (R.remaining reader.old) (R.remaining reader.new) (O.stream writer.old) (O.stream writer.new) result.disk sessions result.status) }
+        × RunsServe P.File.Disk language path.now accesses (R.remaining reader.old) (R.remaining reader.new) (O.stream writer.old) (O.stream writer.new) result.disk sessions result.status) }
 {
     match places.open(path) {
-        Some(disk) => exit_on(serve_store(alloc, disk, reader, writer)),
+        Some(disk) => exit_on(serve_store(alloc, language, disk, reader, writer)),
         None => not_opened(alloc, path, writer),
     }
 }
@@ -263,12 +268,13 @@ pub fn no_room<O: Output>(writer: &mut O) -> u8
 /// Serves lines on an empty mosaic held in memory, where there is one of this side and capacity.
 fn table<R: Read, O: Output>(
     alloc: Global,
+    language: Language,
     side: u32,
     capacity: u32,
     reader: &mut R,
     writer: &mut O,
 ) -> u8
-    ensures { RunsTable side capacity (R.remaining reader.old) (R.remaining reader.new) (O.stream writer.old) (O.stream writer.new) result }
+    ensures { RunsTable language side capacity (R.remaining reader.old) (R.remaining reader.new) (O.stream writer.old) (O.stream writer.new) result }
 {
     let Some(side) = Side::new(side) else {
         return refuse(writer, Refusal::BadSide);
@@ -276,21 +282,22 @@ fn table<R: Read, O: Output>(
     if capacity < 1 || capacity > MOST_TILES {
         return refuse(writer, Refusal::BadCapacity);
     }
-    serve_table(alloc, side, capacity, reader, writer)
+    serve_table(alloc, language, side, capacity, reader, writer)
 }
 
 /// Serves lines on an empty mosaic held in memory.
 fn serve_table<R: Read, O: Output>(
     alloc: Global,
+    language: Language,
     side: Side,
     capacity: u32,
     reader: &mut R,
     writer: &mut O,
 ) -> u8
     requires { capacity ≤ MOST_TILES }
-    ensures { EndsServing side capacity (R.remaining reader.old) (R.remaining reader.new) (O.stream writer.old) (O.stream writer.new) result }
+    ensures { EndsServing language side capacity (R.remaining reader.old) (R.remaining reader.new) (O.stream writer.old) (O.stream writer.new) result }
 {
     let mut engine = TableEngine::new(alloc, side, capacity);
-    let served = serve(alloc, reader, writer, &mut engine);
+    let served = serve_lines(alloc, language, reader, writer, &mut engine);
     end_session(writer, served)
 }

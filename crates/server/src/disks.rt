@@ -16,7 +16,8 @@ use disk::Disk;
 use edits::{Bytes, Command};
 use engine::Engine;
 use lattice::{Corner, Refusal};
-use serving::{Output, serve};
+use lines::Language;
+use serving::{Output, serve_lines};
 use std::alloc::Global;
 use std::io::Read;
 use store::{Store, open_session};
@@ -62,23 +63,24 @@ pub fn import_tile<P: Places, O: Output>(
     (store.into_disk(), end_command(writer, applied))
 }
 
-/// Serves lines on the store on a disk. It hands the disk back, with the exit status.
+/// Serves lines of this language on the store on a disk. It hands the disk back, with the exit status.
 ///
 /// What was told stays through a stop (a power cut): at any moment since the reply to an item it leaves the contents that
 /// the store had after it or after a later one, or the commit that was then in doubt.
 pub fn serve_store<D: Disk, R: Read, O: Output>(
     alloc: Global,
+    language: Language,
     disk: D,
     reader: &mut R,
     writer: &mut O,
 ) -> (D, u8)
-    ensures { (sessions : List (Session D.Disk)) × ServesLines D.Disk disk result.0 sessions (R.remaining reader.old) (R.remaining reader.new) (O.stream writer.old) (O.stream writer.new) result.1 }
+    ensures { (sessions : List (Session D.Disk)) × ServesLines D.Disk language disk result.0 sessions (R.remaining reader.old) (R.remaining reader.new) (O.stream writer.old) (O.stream writer.new) result.1 }
 {
     let mut store = match open_session(alloc, disk) {
         Ok(store) => store,
         Err(refused) => return (refused.disk, refuse(writer, refused.refusal)),
     };
-    let served = serve(alloc, reader, writer, &mut store);
+    let served = serve_lines(alloc, language, reader, writer, &mut store);
     (store.into_disk(), end_session(writer, served))
 }
 

@@ -9,6 +9,7 @@ ghost use Rattle.server.specs.Files.{GivesUntouched};
 use crate::places::{Lengthen, MakeFault, Places, TileFault};
 use disk::{Disk, Fault, FileDisk, World};
 use std::alloc::Global;
+use std::env;
 use std::fs::{self, File};
 use std::io::{self, ErrorKind, Read};
 use std::marker::PhantomData;
@@ -82,4 +83,20 @@ fn read_at_most<R: Read + Drop>(alloc: Global, reader: R, most: u32) -> Result<V
         Err(error) if error.kind() == ErrorKind::OutOfMemory => Err(TileFault::NoMemory),
         Err(_) => Err(TileFault::Unreadable),
     }
+}
+
+/// The words after the program's own name, where there is room for them. Words that aren't UTF-8 ask for nothing, as no
+/// words do.
+pub fn words(rt: &HostRuntime) -> io::Result<Vec<String>> {
+    let mut words = Vec::new(rt.alloc());
+    match env::args(rt) {
+        Ok(args) => {
+            for word in args.skip(1) {
+                words.push(word)?;
+            }
+        }
+        Err(error) if error.kind() == io::ErrorKind::InvalidData => {}
+        Err(error) => return Err(error),
+    }
+    Ok(words)
 }

@@ -28,7 +28,8 @@ pub use disks::{
 };
 pub use engine::Engine;
 pub use file_runs::runs_compose;
-pub use files::FilePlaces;
+pub use files::{FilePlaces, words};
+pub use lines::Language;
 pub use places::{Lengthen, MakeFault, Places, TileFault};
-pub use serving::{CheckedWriter, Output, OutputFault, ServeFault, serve};
+pub use serving::{CheckedWriter, Output, OutputFault, ServeFault, serve, serve_lines};
 pub use table_engine::TableEngine;

@@ -59,11 +59,6 @@ pub put_whole : (a b : Stream) (text : List ℕ) → Puts a b text → (HasFaile
 put_whole a b text (inl left) none = left
 put_whole a b text (inr (part, risen)) none = absurd (none (risen_some a.failures b.failures risen))
 
--- what has failed stays so
-pub stays_failed : (a b : Stream) (text : List ℕ) → Puts a b text → HasFailed a → HasFailed b
-stays_failed a b text (inl left) failed = subst (λ (n : ℕ). 0 < n) (sym left.none) failed
-stays_failed a b text (inr (part, risen)) failed = risen_some a.failures b.failures risen
-
 -- no call has failed
 pub none_failed : (a : Stream) → (HasFailed a → ⊥) → a.failures ≡ 0
 none_failed a none = by a.failures none

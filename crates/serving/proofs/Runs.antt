@@ -8,6 +8,7 @@ use Rattle.engine.specs.State.{State}
 use Rattle.engine.specs.Told.{IsTold}
 use Rattle.engine.specs.Members.{IsEngine, members}
 use Rattle.engine.specs.declared.engine.Engine.{Ghosts}
+use Rattle.lines.specs.declared.language.Language.{Language}
 use Rattle.serving.specs.declared.session.ServeFault.{ServeFault}
 use Rattle.serving.specs.declared.session.ServeFault.TheVariants.{Input, Output}
 use Rattle.serving.specs.Answers.{Replied}
@@ -64,12 +65,12 @@ module _ {E : Type 0} (g : Ghosts E) (is : IsEngine g) where
         (is.laws.weaker old last ((s ∷ t ∷ []) ++ (t ∷ states)) (s ∷ t ∷ states) (run_joined s (t ∷ []) states) (is.laws.in_turn old next last (s ∷ t ∷ []) (t ∷ states) left.3 later.3.0), later.3),
       )
 
-  module _ (before after written new : Option (List ℕ)) (old : E) (engines : List E) where
+  module _ (language : Language) (before after written new : Option (List ℕ)) (old : E) (engines : List E) where
     abbrev Through : Result (Unit {0}) ServeFault → Type 0
-    Through result = Outcome (Answers g) before after written new old engines result
+    Through result = Outcome language (Answers g) before after written new old engines result
 
     abbrev StatesOf : Result (Unit {0}) ServeFault → State → Type 0
-    StatesOf result s = (states : List State) × GoesThrough g before after written new old engines result s states
+    StatesOf result s = (states : List State) × GoesThrough g language before after written new old engines result s states
 
     states_of : (result : Result (Unit {0}) ServeFault) → Through result → g.is_honest (last_of old engines) → (s : State) → g.is_at old s → StatesOf result s
     states_of (Ok u) (items, text, input, appends, replies) honest s at =
@@ -82,7 +83,7 @@ module _ {E : Type 0} (g : Ghosts E) (is : IsEngine g) where
         let run = runs (g.capacity_of old) (items ++ i ∷ []) old text engines refl replies honest s at in
         (run.0, record { outcome = (items, i, extent, text, n, left, on, item, input, run.1, appends); at = run.2; later = run.3 })
 
-    flags_of : (result : Result (Unit {0}) ServeFault) → Through result → Outcome (Replied IsTold (λ _. g.side_of old)) before after written new (g.has_failed old) (map g.has_failed engines) result
+    flags_of : (result : Result (Unit {0}) ServeFault) → Through result → Outcome language (Replied IsTold (λ _. g.side_of old)) before after written new (g.has_failed old) (map g.has_failed engines) result
     flags_of (Ok u) (items, text, input, appends, replies) = (items, text, input, appends, flags (g.side_of old) items old text engines refl replies)
     flags_of (Err Input) (items, rest, text, on, begun, input, appends, replies) =
         (items, rest, text, on, begun, input, appends, flags (g.side_of old) items old text engines refl replies)
@@ -95,7 +96,7 @@ module _ {E : Type 0} (g : Ghosts E) (is : IsEngine g) where
     stays_of (Err Output) (items, i, extent, text, n, left, on, item, input, replies, appends) = stays (items ++ i ∷ []) old text engines replies
 
     -- all that follows from the calls
-    pub serves : (result : Result (Unit {0}) ServeFault) → Through result → Serves g before after written new old engines result
+    pub serves : (result : Result (Unit {0}) ServeFault) → Through result → Serves g language before after written new old engines result
     serves result through =
         let kept = stays_of result through in
         record {

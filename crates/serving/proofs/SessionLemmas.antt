@@ -16,6 +16,7 @@ use Rattle.lines.specs.declared.source.Extent.{Extent}
 use Rattle.lines.specs.declared.source.Extent.TheVariants.{Whole, Cut}
 use Rattle.lines.specs.Grammar.{Asked, AskQuit}
 use Rattle.lines.specs.Lines.{IsLine, line_feed, kept, Reaches}
+use Rattle.lines.specs.declared.language.Language.{Language}
 use Rattle.lines.specs.Requests.{asked, IsRequestOf}
 use Rattle.serving.specs.Items.{Item, spelled, AsksFor, payload_len, Came, IsItem, GoesOn}
 use Rattle.engine.specs.Runs.{last_of}
@@ -24,11 +25,6 @@ use Rattle.serving.specs.Served.{Replies, Ends, AreItemsOf, Outcome, ReadsNoFurt
 use Rattle.serving.specs.Session.{Stored, Holds, Steps, SoFar, EndsReading}
 use Rattle.lines.proofs.WriteLemmas.{Appends-second}
 
--- what a request asks for is what its line asks for
-pub asks_for : (line : List ℕ) (o : Option Request) → IsRequestOf line o → AsksFor line (option_map asked o)
-asks_for line (Some r) h = h
-asks_for line None h = h
-
 -- a line that is kept whole
 pub kept_some : (text bytes : List ℕ) (line : Option (List ℕ)) → line ≡ Some bytes → line ≡ kept text → bytes ≡ text
 kept_some text bytes line some is = by (nat_le (length text) 2048) (sym some ∙ is)
@@ -36,19 +32,6 @@ kept_some text bytes line some is = by (nat_le (length text) 2048) (sym some ∙
     by : (b : Bool) → Some bytes ≡ (if b then Some text else None) → bytes ≡ text
     by true e = cc
     by false e = absurd (cc)
-
--- an item whose line an LF ended
-pub holds_whole : (text : List ℕ) (q : Option Request) (p : Option (Vec ℕ Global)) (e : Extent) (bytes : List ℕ) → IsLine text → (Whole ≡ Cut → text ≢ []) → AsksFor text (option_map asked q)
-    → Stored p bytes → Reaches e (length bytes) (payload_len (option_map asked q))
-    → Holds (record { request = q; payload = p; extent = e }) (record { line = text; fed = Whole; asked = option_map asked q; payload = bytes })
-holds_whole text q p e bytes line some right stored came =
-    record { asked = refl; payload = stored; item = record { line = line; some = some; asked = right; came = came } }
-
--- an item whose line the end of the input ended
-pub holds_cut : (text : List ℕ) (q : Option Request) → IsLine text → text ≢ [] → AsksFor text (option_map asked q)
-    → Holds (record { request = q; payload = None; extent = Cut }) (record { line = text; fed = Cut; asked = option_map asked q; payload = [] })
-holds_cut text q line some right =
-    record { asked = refl; payload = tt; item = record { line = line; some = (λ _. some); asked = right; came = (refl, refl) } }
 
 -- an item's payload came whole, or was cut short
 pub came_whole : (fed extent : Extent) (count len : ℕ) → Came fed extent count len → extent ≡ Whole → count ≡ len
@@ -90,79 +73,9 @@ module _ {X : Type 0} (IsRight : X → Item → List ℕ → X → Type 0) where
   replies_append s (i ∷ is) more text reply (t ∷ us) vs (first, rest, e, p, r) q =
       (first, rest ++ reply, ap (λ l. l ++ reply) e ∙ append_assoc first rest reply, p, replies_append t is more rest reply us vs r q)
 
--- nothing is to come
-pub ends_none : (ahead : List ℕ) (r old : Option (List ℕ)) → Consumes old (prepend_known ahead r) [] → ahead ≡ [] → IsAtEnd r → IfSome old (λ input. Ends input [])
-ends_none ahead r None c e end = tt
-ends_none ahead None (Some xs) c e end = absurd c
-ends_none ahead (Some ys) (Some xs) c e end = c ∙ rw (e, end) refl
-
--- the last item, which the end of the input cuts short
-ends_cut : (old : Option (List ℕ)) (ahead : List ℕ) (r : Option (List ℕ)) (i : Item) → Consumes old (prepend_known ahead r) (spelled i)
-    → ahead ≡ [] → IsAtEnd r → IsItem Cut i → IfSome old (λ input. Ends input (i ∷ []))
-ends_cut None ahead r i c e end item = tt
-ends_cut (Some xs) ahead None i c e end item = absurd c
-ends_cut (Some xs) ahead (Some ys) i c e end item =
-    let nothing : ahead ++ ys ≡ [] = rw (e, end) refl in
-    inl (item, c ∙ ap (λ l. spelled i ++ l) nothing ∙ append-nil (spelled i))
-
--- quit, and whatever follows it
-ends_quit : (before after : Option (List ℕ)) (i : Item) → Consumes before after (spelled i) → IsItem Whole i → i.asked ≡ Some AskQuit → IfSome before (λ input. Ends input (i ∷ []))
-ends_quit None after i c item e = tt
-ends_quit (Some xs) None i c item e = absurd c
-ends_quit (Some xs) (Some ys) i c item e = inr (ys, item, e, c)
-
--- the last item: the end of the input cuts it short, or it is quit
-pub ends_last : (old : Option (List ℕ)) (ahead : List ℕ) (r : Option (List ℕ)) (i : Item) (e : Extent) (o : Option Asked) → Consumes old (prepend_known ahead r) (spelled i)
-    → o ≡ i.asked → IsItem e i → (e ≡ Cut → (ahead ≡ []) × IsAtEnd r) → (e ≡ Cut) ⊎ (o ≡ Some AskQuit) → IfSome old (λ input. Ends input (i ∷ []))
-ends_last old ahead r i Cut o c same item end last = let none = end refl in ends_cut old ahead r i c none.0 none.1 item
-ends_last old ahead r i Whole o c same item end (inl cut) = absurd (cc)
-ends_last old ahead r i Whole o c same item end (inr quit) = ends_quit old (prepend_known ahead r) i c item (sym same ∙ quit)
-
-pub goes_on : (i : Item) (e : Extent) (o : Option Asked) → o ≡ i.asked → IsItem e i → ((e ≡ Cut) ⊎ (o ≡ Some AskQuit) → ⊥) → GoesOn i
-goes_on i Cut o same item not_last = absurd (not_last (inl refl))
-goes_on i Whole o same item not_last = record { whole = item; on = (λ quit. not_last (inr (same ∙ quit))) }
-
--- a whole item has a whole line
-whole_fed : (i : Item) → IsItem Whole i → i.fed ≡ Whole
-whole_fed i item = by i.fed refl
-  where
-    by : (fed : Extent) → i.fed ≡ fed → i.fed ≡ Whole
-    by Whole same = same
-    by Cut same = let came = subst (λ (fed : Extent). Came fed Whole (length i.payload) (payload_len i.asked)) same item.came in absurd (let cut = came.0 in cc)
-
--- a last item ends the reading
-pub ends_reading : (before : Option (List ℕ)) (ahead : List ℕ) (after : Option (List ℕ)) (i : Item) (e : Extent) (o : Option Asked) → Consumes before (prepend_known ahead after) (spelled i)
-    → o ≡ i.asked → IsItem e i → (e ≡ Cut → (ahead ≡ []) × IsAtEnd after) → (i.fed ≡ Whole → o ≡ Some AskQuit → IsNear ahead) → (e ≡ Cut) ⊎ (o ≡ Some AskQuit) → EndsReading before ahead after
-ends_reading before ahead after i Cut o c same item end near last = inl (end refl)
-ends_reading before ahead after i Whole o c same item end near (inl cut) = absurd (cc)
-ends_reading before ahead after i Whole o c same item end near (inr quit) = inr (i, item, sym same ∙ quit, near (whole_fed i item) quit, c)
-
 ahead_taken : (ahead : List ℕ) (r : Option (List ℕ)) → Consumes (prepend_known ahead r) r ahead
 ahead_taken ahead None = tt
 ahead_taken ahead (Some xs) = refl
-
--- .. after the items so far
-pub reads_no_further : {X : Type 0} (IsRight : X → Item → List ℕ → X → Type 0) (before mid w v : Option (List ℕ)) (ahead : List ℕ) (after : Option (List ℕ)) (s : X) (us : List X)
-    → SoFar IsRight before mid w v s us → EndsReading mid ahead after → ReadsNoFurther before after
-reads_no_further IsRight before mid w v ahead after s us so_far (inl end) = inl end.1
-reads_no_further IsRight before mid w v ahead after s us (items, text, each, taken, appended, replied) (inr (quit, item, asks, near, last)) =
-    inr (
-      items,
-      quit,
-      ahead,
-      each,
-      item,
-      asks,
-      near,
-      Consumes-trans before (prepend_known ahead after) after (flat_map spelled items ++ spelled quit) ahead (Consumes-trans before mid (prepend_known ahead after) (flat_map spelled items) (spelled quit) taken last) (ahead_taken ahead after),
-    )
-
--- the items so far, and then the end
-items_end : (before after : Option (List ℕ)) (items last : List Item) → All GoesOn items → Consumes before after (flat_map spelled items)
-    → IfSome after (λ input. Ends input last) → IfSome before (λ input. AreItemsOf input (items ++ last))
-items_end None after items last each c e = tt
-items_end (Some xs) None items last each c e = absurd c
-items_end (Some xs) (Some ys) items last each c e = (items, last, ys, each, e, refl, c)
 
 one_spelled : (items : List Item) (i : Item) → flat_map spelled (items ++ i ∷ []) ≡ flat_map spelled items ++ spelled i
 one_spelled items i = flat_map-append spelled items (i ∷ []) ∙ ap (λ l. flat_map spelled items ++ l) (append-nil (spelled i))
@@ -180,52 +93,6 @@ module _ {X : Type 0} (IsRight : X → Item → List ℕ → X → Type 0) where
   then_on : (s x : X) (items more : List Item) (text reply : List ℕ) (us vs : List X) → last_of s us ≡ x → Replies IsRight s items text us → Replies IsRight x more reply vs
       → Replies IsRight s (items ++ more) (text ++ reply) (us ++ vs)
   then_on s x items more text reply us vs is r p = replies_append IsRight s items more text reply us vs r (subst (λ (y : X). Replies IsRight y more reply vs) (sym is) p)
-
-  pub so_far_none : (ahead : List ℕ) (r w : Option (List ℕ)) (s : X) → ahead ≡ [] → SoFar IsRight r (prepend_known ahead r) w w s []
-  so_far_none ahead r w s e =
-      ([], [], All-nil GoesOn, subst (λ l. Consumes r l []) (sym (none_ahead ahead r e)) (Consumes-nil r), Appends-nil w, refl)
-
-  pub so_far_more : (b a c w m v : Option (List ℕ)) (s x : X) (us vs : List X) → last_of s us ≡ x → SoFar IsRight b a w m s us → Steps IsRight a c m v x vs (Ok More) → SoFar IsRight b c w v s (us ++ vs)
-  so_far_more b a c w m v s x us vs is (items, text, each, k, y, r) (i, reply, on, k2, y2, p) = (
-    items ++ i ∷ [],
-    text ++ reply,
-    All-push GoesOn items i each on,
-    subst (Consumes b c) (sym (one_spelled items i)) (Consumes-trans b a c _ _ k k2),
-    Appends-trans w m v _ _ y y2,
-    then_on s x items (i ∷ []) text reply us vs is r p,
-  )
-
-  pub so_far_end : (b a c d w m v : Option (List ℕ)) (s x : X) (us vs : List X) → last_of s us ≡ x → SoFar IsRight b a w m s us → Steps IsRight a c m v x vs (Ok End)
-      → Outcome IsRight b d w v s (us ++ vs) (Ok tt)
-  so_far_end b a c d w m v s x us vs is (items, text, each, k, y, r) (last, reply, e, y2, p) =
-      (items ++ last, text ++ reply, items_end b a items last each k e, Appends-trans w m v text reply y y2, then_on s x items last text reply us vs is r p)
-
-  pub so_far_fault : (b a w m v : Option (List ℕ)) (ahead : List ℕ) (d : Option (List ℕ)) (s x : X) (us vs : List X) (e : ServeFault) → last_of s us ≡ x
-      → SoFar IsRight b a w m s us → (fault_of e ≡ fault_of Input → ahead ≡ []) → Steps IsRight a (prepend_known ahead d) m v x vs (Err e) → Outcome IsRight b d w v s (us ++ vs) (Err e)
-  so_far_fault b a w m v ahead d s x us vs Input is (items, text, each, k, y, r) none (rest, begun, k2, y2, e) = (
-    items,
-    rest,
-    text,
-    each,
-    begun,
-    subst (λ l. Consumes b l (flat_map spelled items ++ rest)) (none_ahead ahead d (none refl)) (Consumes-trans b a (prepend_known ahead d) _ _ k k2),
-    subst (Appends w v) (append-nil text) (Appends-trans w m v text [] y y2),
-    subst (λ (states : List X). Replies IsRight s items text states) (sym (ap (λ l. us ++ l) e ∙ append-nil us)) r,
-  )
-  so_far_fault b a w m v ahead d s x us vs Output is (items, text, each, k, y, r) none (i, extent, reply, j, item, k2, y2, p) =
-      let more = Appends-second w m v text reply j y y2 in (
-        items,
-        i,
-        extent,
-        text ++ reply,
-        more.0,
-        prepend_known ahead d,
-        each,
-        item,
-        Consumes-trans b a (prepend_known ahead d) _ _ k k2,
-        then_on s x items (i ∷ []) text reply us vs is r p,
-        more.1,
-      )
 
 module _ {X : Type 0} where
   -- the state that a run and then another ends in
@@ -255,3 +122,139 @@ module _ {X : Type 0} where
       by : Contains (s ∷ us) x ⊎ Contains (last_of s us ∷ vs) x → Contains (s ∷ (us ++ vs)) x
       by (inl before) = Contains-append_left (s ∷ us) vs x before
       by (inr after) = later (Contains-append_cases (last_of s us ∷ []) vs x after)
+
+module _ (language : Language) where
+  -- what a request asks for is what its line asks for
+  pub asks_for : (line : List ℕ) (o : Option Request) → IsRequestOf language line o → AsksFor language line (option_map asked o)
+  asks_for line (Some r) h = h
+  asks_for line None h = h
+
+  -- an item whose line an LF ended
+  pub holds_whole : (text : List ℕ) (q : Option Request) (p : Option (Vec ℕ Global)) (e : Extent) (bytes : List ℕ) → IsLine text → (Whole ≡ Cut → text ≢ []) → AsksFor language text (option_map asked q)
+      → Stored p bytes → Reaches e (length bytes) (payload_len (option_map asked q))
+      → Holds language (record { request = q; payload = p; extent = e }) (record { line = text; fed = Whole; asked = option_map asked q; payload = bytes })
+  holds_whole text q p e bytes line some right stored came =
+      record { asked = refl; payload = stored; item = record { line = line; some = some; asked = right; came = came } }
+
+  -- an item whose line the end of the input ended
+  pub holds_cut : (text : List ℕ) (q : Option Request) → IsLine text → text ≢ [] → AsksFor language text (option_map asked q)
+      → Holds language (record { request = q; payload = None; extent = Cut }) (record { line = text; fed = Cut; asked = option_map asked q; payload = [] })
+  holds_cut text q line some right =
+      record { asked = refl; payload = tt; item = record { line = line; some = (λ _. some); asked = right; came = (refl, refl) } }
+
+  -- nothing is to come
+  pub ends_none : (ahead : List ℕ) (r old : Option (List ℕ)) → Consumes old (prepend_known ahead r) [] → ahead ≡ [] → IsAtEnd r → IfSome old (λ input. Ends language input [])
+  ends_none ahead r None c e end = tt
+  ends_none ahead None (Some xs) c e end = absurd c
+  ends_none ahead (Some ys) (Some xs) c e end = c ∙ rw (e, end) refl
+
+  -- the last item, which the end of the input cuts short
+  ends_cut : (old : Option (List ℕ)) (ahead : List ℕ) (r : Option (List ℕ)) (i : Item) → Consumes old (prepend_known ahead r) (spelled i)
+      → ahead ≡ [] → IsAtEnd r → IsItem language Cut i → IfSome old (λ input. Ends language input (i ∷ []))
+  ends_cut None ahead r i c e end item = tt
+  ends_cut (Some xs) ahead None i c e end item = absurd c
+  ends_cut (Some xs) ahead (Some ys) i c e end item =
+      let nothing : ahead ++ ys ≡ [] = rw (e, end) refl in
+      inl (item, c ∙ ap (λ l. spelled i ++ l) nothing ∙ append-nil (spelled i))
+
+  -- quit, and whatever follows it
+  ends_quit : (before after : Option (List ℕ)) (i : Item) → Consumes before after (spelled i) → IsItem language Whole i → i.asked ≡ Some AskQuit → IfSome before (λ input. Ends language input (i ∷ []))
+  ends_quit None after i c item e = tt
+  ends_quit (Some xs) None i c item e = absurd c
+  ends_quit (Some xs) (Some ys) i c item e = inr (ys, item, e, c)
+
+  -- the last item: the end of the input cuts it short, or it is quit
+  pub ends_last : (old : Option (List ℕ)) (ahead : List ℕ) (r : Option (List ℕ)) (i : Item) (e : Extent) (o : Option Asked) → Consumes old (prepend_known ahead r) (spelled i)
+      → o ≡ i.asked → IsItem language e i → (e ≡ Cut → (ahead ≡ []) × IsAtEnd r) → (e ≡ Cut) ⊎ (o ≡ Some AskQuit) → IfSome old (λ input. Ends language input (i ∷ []))
+  ends_last old ahead r i Cut o c same item end last = let none = end refl in ends_cut old ahead r i c none.0 none.1 item
+  ends_last old ahead r i Whole o c same item end (inl cut) = absurd (cc)
+  ends_last old ahead r i Whole o c same item end (inr quit) = ends_quit old (prepend_known ahead r) i c item (sym same ∙ quit)
+
+  pub goes_on : (i : Item) (e : Extent) (o : Option Asked) → o ≡ i.asked → IsItem language e i → ((e ≡ Cut) ⊎ (o ≡ Some AskQuit) → ⊥) → GoesOn language i
+  goes_on i Cut o same item not_last = absurd (not_last (inl refl))
+  goes_on i Whole o same item not_last = record { whole = item; on = (λ quit. not_last (inr (same ∙ quit))) }
+
+  -- a whole item has a whole line
+  whole_fed : (i : Item) → IsItem language Whole i → i.fed ≡ Whole
+  whole_fed i item = by i.fed refl
+    where
+      by : (fed : Extent) → i.fed ≡ fed → i.fed ≡ Whole
+      by Whole same = same
+      by Cut same = let came = subst (λ (fed : Extent). Came fed Whole (length i.payload) (payload_len i.asked)) same item.came in absurd (let cut = came.0 in cc)
+
+  -- a last item ends the reading
+  pub ends_reading : (before : Option (List ℕ)) (ahead : List ℕ) (after : Option (List ℕ)) (i : Item) (e : Extent) (o : Option Asked) → Consumes before (prepend_known ahead after) (spelled i)
+      → o ≡ i.asked → IsItem language e i → (e ≡ Cut → (ahead ≡ []) × IsAtEnd after) → (i.fed ≡ Whole → o ≡ Some AskQuit → IsNear ahead) → (e ≡ Cut) ⊎ (o ≡ Some AskQuit) → EndsReading language before ahead after
+  ends_reading before ahead after i Cut o c same item end near last = inl (end refl)
+  ends_reading before ahead after i Whole o c same item end near (inl cut) = absurd (cc)
+  ends_reading before ahead after i Whole o c same item end near (inr quit) = inr (i, item, sym same ∙ quit, near (whole_fed i item) quit, c)
+
+  -- .. after the items so far
+  pub reads_no_further : {X : Type 0} (IsRight : X → Item → List ℕ → X → Type 0) (before mid w v : Option (List ℕ)) (ahead : List ℕ) (after : Option (List ℕ)) (s : X) (us : List X)
+      → SoFar language IsRight before mid w v s us → EndsReading language mid ahead after → ReadsNoFurther language before after
+  reads_no_further IsRight before mid w v ahead after s us so_far (inl end) = inl end.1
+  reads_no_further IsRight before mid w v ahead after s us (items, text, each, taken, appended, replied) (inr (quit, item, asks, near, last)) =
+      inr (
+        items,
+        quit,
+        ahead,
+        each,
+        item,
+        asks,
+        near,
+        Consumes-trans before (prepend_known ahead after) after (flat_map spelled items ++ spelled quit) ahead (Consumes-trans before mid (prepend_known ahead after) (flat_map spelled items) (spelled quit) taken last) (ahead_taken ahead after),
+      )
+
+  -- the items so far, and then the end
+  items_end : (before after : Option (List ℕ)) (items last : List Item) → All (GoesOn language) items → Consumes before after (flat_map spelled items)
+      → IfSome after (λ input. Ends language input last) → IfSome before (λ input. AreItemsOf language input (items ++ last))
+  items_end None after items last each c e = tt
+  items_end (Some xs) None items last each c e = absurd c
+  items_end (Some xs) (Some ys) items last each c e = (items, last, ys, each, e, refl, c)
+
+  module _ {X : Type 0} (IsRight : X → Item → List ℕ → X → Type 0) where
+    pub so_far_none : (ahead : List ℕ) (r w : Option (List ℕ)) (s : X) → ahead ≡ [] → SoFar language IsRight r (prepend_known ahead r) w w s []
+    so_far_none ahead r w s e =
+        ([], [], All-nil (GoesOn language), subst (λ l. Consumes r l []) (sym (none_ahead ahead r e)) (Consumes-nil r), Appends-nil w, refl)
+
+    pub so_far_more : (b a c w m v : Option (List ℕ)) (s x : X) (us vs : List X) → last_of s us ≡ x → SoFar language IsRight b a w m s us → Steps language IsRight a c m v x vs (Ok More) → SoFar language IsRight b c w v s (us ++ vs)
+    so_far_more b a c w m v s x us vs is (items, text, each, k, y, r) (i, reply, on, k2, y2, p) = (
+      items ++ i ∷ [],
+      text ++ reply,
+      All-push (GoesOn language) items i each on,
+      subst (Consumes b c) (sym (one_spelled items i)) (Consumes-trans b a c _ _ k k2),
+      Appends-trans w m v _ _ y y2,
+      then_on IsRight s x items (i ∷ []) text reply us vs is r p,
+    )
+
+    pub so_far_end : (b a c d w m v : Option (List ℕ)) (s x : X) (us vs : List X) → last_of s us ≡ x → SoFar language IsRight b a w m s us → Steps language IsRight a c m v x vs (Ok End)
+        → Outcome language IsRight b d w v s (us ++ vs) (Ok tt)
+    so_far_end b a c d w m v s x us vs is (items, text, each, k, y, r) (last, reply, e, y2, p) =
+        (items ++ last, text ++ reply, items_end b a items last each k e, Appends-trans w m v text reply y y2, then_on IsRight s x items last text reply us vs is r p)
+
+    pub so_far_fault : (b a w m v : Option (List ℕ)) (ahead : List ℕ) (d : Option (List ℕ)) (s x : X) (us vs : List X) (e : ServeFault) → last_of s us ≡ x
+        → SoFar language IsRight b a w m s us → (fault_of e ≡ fault_of Input → ahead ≡ []) → Steps language IsRight a (prepend_known ahead d) m v x vs (Err e) → Outcome language IsRight b d w v s (us ++ vs) (Err e)
+    so_far_fault b a w m v ahead d s x us vs Input is (items, text, each, k, y, r) none (rest, begun, k2, y2, e) = (
+      items,
+      rest,
+      text,
+      each,
+      begun,
+      subst (λ l. Consumes b l (flat_map spelled items ++ rest)) (none_ahead ahead d (none refl)) (Consumes-trans b a (prepend_known ahead d) _ _ k k2),
+      subst (Appends w v) (append-nil text) (Appends-trans w m v text [] y y2),
+      subst (λ (states : List X). Replies IsRight s items text states) (sym (ap (λ l. us ++ l) e ∙ append-nil us)) r,
+    )
+    so_far_fault b a w m v ahead d s x us vs Output is (items, text, each, k, y, r) none (i, extent, reply, j, item, k2, y2, p) =
+        let more = Appends-second w m v text reply j y y2 in (
+          items,
+          i,
+          extent,
+          text ++ reply,
+          more.0,
+          prepend_known ahead d,
+          each,
+          item,
+          Consumes-trans b a (prepend_known ahead d) _ _ k k2,
+          then_on IsRight s x items (i ∷ []) text reply us vs is r p,
+          more.1,
+        )

@@ -1,14 +1,14 @@
 -- What the text of a reply tells of the answer.
 use Rattle.std.proofs.Common.{◌≡◌, ℕ, get_or, Bool, true, false, true≢false, List, refl, sym, ap, ◌∙◌, arith, inl, inr}
 use Rattle.std.specs.Fmt.{digits}
-use Rattle.std.specs.Prelude.{◌==◌, ◌&&◌, Some, None, Result, Ok, Err, MatchResult}
+use Rattle.std.specs.Prelude.{◌==◌, ◌&&◌, Some, None}
 use Rattle.lattice.specs.declared.height.Height.TheVariants as height
 use Rattle.lattice.specs.declared.refusal.Refusal.{Refusal}
-use Rattle.lattice.specs.declared.refusal.Refusal.TheVariants.{Device, NoMemory}
+use Rattle.lattice.specs.declared.refusal.Refusal.TheVariants.{Device}
 use Rattle.engine.specs.declared.event.Reply.{Reply}
 use Rattle.engine.specs.declared.event.Reply.TheVariants as reply
 use Rattle.lines.specs.Replies.{done_text, refusal_text}
-use Rattle.lines.specs.Telling.{Tells, text_of, takes_memory}
+use Rattle.lines.specs.Telling.{Tells}
 use Rattle.serving.specs.Promises.{IsOkText}
 
 pub not_ok : (r : Refusal) (text : List ℕ) → text ≡ refusal_text r → IsOkText text → ⊥
@@ -52,9 +52,3 @@ blames answer text (inl is) e = absurd (another text _ is refl e)
 pub refusal_told : (r : Refusal) (text : List ℕ) → Tells (reply.Refused r) text → text ≡ refusal_text r
 refusal_told r text (inl is) = is
 refusal_told r text (inr (memory, is)) = absurd (true≢false (sym memory))
-
--- a text, or want of memory for it
-pub told : {E : Type 0} (answer : Reply) (r : Result (List ℕ) E) (text : List ℕ) → takes_memory answer ≡ true → MatchResult r (λ made. made ≡ text_of answer) (λ _. Unit {0})
-    → MatchResult r (λ made. text ≡ made) (λ _. text ≡ refusal_text NoMemory) → Tells answer text
-told answer (Ok made) text memory is given = inl (given ∙ is)
-told answer (Err e) text memory is given = inr (memory, given)

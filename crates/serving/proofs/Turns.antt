@@ -17,6 +17,7 @@ use Rattle.engine.specs.Told.{Matches, IsTold}
 use Rattle.engine.specs.Members.{IsEngine, members}
 use Rattle.engine.specs.declared.engine.Engine.{Ghosts}
 use Rattle.lines.specs.Grammar.{Asked, AskImport, AskEvent, AskNoTile, AskQuit}
+use Rattle.lines.specs.declared.language.Language.{Language}
 use Rattle.catalogue.specs.Reading.{HasRisen}
 use Rattle.lines.specs.Replies.{refusal_text}
 use Rattle.lines.specs.Telling.{Tells}
@@ -35,19 +36,19 @@ Fits a End = asks_command a ≡ false
 by_is : (a : Option Asked) (turn known : Turn) → turn ≡ known → Fits a known → Fits a turn
 by_is a turn known is fits = subst (Fits a) (sym is) fits
 
-fits : (side : ℕ) (line : List ℕ) (a : Option Asked) (payload : List ℕ) (turn : Turn) → AsksFor line a → ComesTo side a payload turn → Fits a turn
-fits side line None payload turn asks is = by_is None turn _ is (λ e. absurd (cc))
-fits side line (Some (AskImport name len)) payload turn asks (inl (none, is)) = by_is (Some (AskImport name len)) turn _ is (λ e. absurd (cc))
-fits side line (Some (AskImport name len)) payload turn asks (inr (c, named, inl (wrong, is))) = by_is (Some (AskImport name len)) turn _ is (λ e. absurd (cc))
-fits side line (Some (AskImport name len)) payload turn asks (inr (c, named, inr (len_is, came, inl is))) = by_is (Some (AskImport name len)) turn _ is (λ e. absurd (cc))
-fits side line (Some (AskImport name len)) payload turn asks (inr (c, named, inr (len_is, came, inr is))) = by_is (Some (AskImport name len)) turn _ is ((λ e. absurd (cc)), λ e. (_, refl))
-fits side line (Some (AskEvent event)) payload turn asks is = by_is (Some (AskEvent event)) turn _ is (never_reopens line event asks, to_command event)
+fits : (language : Language) (side : ℕ) (line : List ℕ) (a : Option Asked) (payload : List ℕ) (turn : Turn) → AsksFor language line a → ComesTo side a payload turn → Fits a turn
+fits language side line None payload turn asks is = by_is None turn _ is (λ e. absurd (cc))
+fits language side line (Some (AskImport name len)) payload turn asks (inl (none, is)) = by_is (Some (AskImport name len)) turn _ is (λ e. absurd (cc))
+fits language side line (Some (AskImport name len)) payload turn asks (inr (c, named, inl (wrong, is))) = by_is (Some (AskImport name len)) turn _ is (λ e. absurd (cc))
+fits language side line (Some (AskImport name len)) payload turn asks (inr (c, named, inr (len_is, came, inl is))) = by_is (Some (AskImport name len)) turn _ is (λ e. absurd (cc))
+fits language side line (Some (AskImport name len)) payload turn asks (inr (c, named, inr (len_is, came, inr is))) = by_is (Some (AskImport name len)) turn _ is ((λ e. absurd (cc)), λ e. (_, refl))
+fits language side line (Some (AskEvent event)) payload turn asks is = by_is (Some (AskEvent event)) turn _ is (never_reopens language line event asks, to_command event)
   where
     to_command : (event : Event) → asks_command (Some (AskEvent event)) ≡ true → (c : Command) × (event ≡ ask.Do c)
     to_command (ask.Do c) e = (c, refl)
     to_command other e = absurd (true≢false (sym e))
-fits side line (Some AskNoTile) payload turn asks is = by_is (Some AskNoTile) turn _ is (λ e. absurd (cc))
-fits side line (Some AskQuit) payload turn asks is = by_is (Some AskQuit) turn _ is refl
+fits language side line (Some AskNoTile) payload turn asks is = by_is (Some AskNoTile) turn _ is (λ e. absurd (cc))
+fits language side line (Some AskQuit) payload turn asks is = by_is (Some AskQuit) turn _ is refl
 
 -- an engine that hasn't failed fails only where it blames the disk
 newly : (event : Event) (answer : Reply) → (event ≡ ask.Reopen → ⊥) → fails_after false event answer ≡ true → answer ≡ reply.Refused Device
@@ -99,9 +100,9 @@ module _ {E : Type 0} (g : Ghosts E) (is : IsEngine g) where
     turn_blames End fit (told, same) e = absurd (done_is_no_fault text told e)
 
   -- the reply to an item
-  pub answers : (old new : E) (i : Item) (text : List ℕ) → AsksFor i.line i.asked → Replied g.called g.side_of old i text new → Answers g old i text new
-  answers old new i text asks (turn, comes, turns) =
-      let fit = fits (g.side_of old) i.line i.asked i.payload turn asks comes in
+  pub answers : (language : Language) (old new : E) (i : Item) (text : List ℕ) → AsksFor language i.line i.asked → Replied g.called g.side_of old i text new → Answers g old i text new
+  answers language old new i text asks (turn, comes, turns) =
+      let fit = fits language (g.side_of old) i.line i.asked i.payload turn asks comes in
       record {
         replied = (turn, comes, turns);
         done = turn_done old new i.asked text turn fit turns;

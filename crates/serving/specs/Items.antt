@@ -1,6 +1,7 @@
 -- The items of an input: a line, or an import line with its payload (this product's own profile).
 use Rattle.std.specs.Prelude.{◌≡◌, ◌≢◌, ℕ, ◌<◌, List, [], ◌∷◌, ◌++◌, length, Option, Some, None, ◌⊎◌}
 use Rattle.lines.specs.Grammar.{Asked, AskImport, AskQuit, LineAsks}
+use Rattle.lines.specs.declared.language.Language.{Language}
 use Rattle.lines.specs.Lines.{IsLine, line_feed, Reaches}
 use Rattle.lines.specs.declared.source.Extent.{Extent}
 use Rattle.lines.specs.declared.source.Extent.TheVariants.{Whole, Cut}
@@ -15,11 +16,6 @@ pub record Item : Type 0 where
 abbrev pub spelled : Item → List ℕ
 spelled i = i.line ++ (line_feed i.fed ++ i.payload)
 
--- the line asks for this, or it isn't in the grammar
-abbrev pub AsksFor : List ℕ → Option Asked → Type 0
-AsksFor line (Some a) = LineAsks line a
-AsksFor line None = (a : Asked) → LineAsks line a → ⊥
-
 -- how many bytes of payload follow the line
 abbrev pub payload_len : Option Asked → ℕ
 payload_len (Some (AskImport name len)) = len
@@ -30,19 +26,25 @@ abbrev pub Came : Extent → Extent → ℕ → ℕ → Type 0
 Came Whole extent count len = Reaches extent count len
 Came Cut extent count len = (extent ≡ Cut) × (count ≡ 0)
 
--- the item is whole, or the end of the input cuts it short
-pub record IsItem (extent : Extent) (i : Item) : Type 0 where
-  pub line : IsLine i.line
-  pub some : i.fed ≡ Cut → i.line ≢ []
-  pub asked : AsksFor i.line i.asked
-  pub came : Came i.fed extent (length i.payload) (payload_len i.asked)
+module _ (language : Language) where
+  -- the line asks for this, or it isn't in the language
+  abbrev pub AsksFor : List ℕ → Option Asked → Type 0
+  AsksFor line (Some a) = LineAsks language line a
+  AsksFor line None = (a : Asked) → LineAsks language line a → ⊥
 
--- a whole item that isn't quit
-pub record GoesOn (i : Item) : Type 0 where
-  pub whole : IsItem Whole i
-  pub on : i.asked ≢ Some AskQuit
+  -- the item is whole, or the end of the input cuts it short
+  pub record IsItem (extent : Extent) (i : Item) : Type 0 where
+    pub line : IsLine i.line
+    pub some : i.fed ≡ Cut → i.line ≢ []
+    pub asked : AsksFor i.line i.asked
+    pub came : Came i.fed extent (length i.payload) (payload_len i.asked)
 
--- a beginning of an item that isn't whole
-abbrev pub IsBegun : List ℕ → Type 0
-IsBegun rest = IsLine rest
-    ⊎ ((line bytes : List ℕ) × (a : Option Asked) × IsLine line × AsksFor line a × (length bytes < payload_len a) × (rest ≡ line ++ (10 ∷ bytes)))
+  -- a whole item that isn't quit
+  pub record GoesOn (i : Item) : Type 0 where
+    pub whole : IsItem Whole i
+    pub on : i.asked ≢ Some AskQuit
+
+  -- a beginning of an item that isn't whole
+  abbrev pub IsBegun : List ℕ → Type 0
+  IsBegun rest = IsLine rest
+      ⊎ ((line bytes : List ℕ) × (a : Option Asked) × IsLine line × AsksFor line a × (length bytes < payload_len a) × (rest ≡ line ++ (10 ∷ bytes)))

@@ -13,6 +13,7 @@ use Rattle.engine.specs.Told.{IsTold}
 use Rattle.engine.specs.Members.{members}
 use Rattle.engine.specs.declared.engine.Engine.{Ghosts}
 use Rattle.lines.specs.Grammar.{Asked, AskImport, AskEvent}
+use Rattle.lines.specs.declared.language.Language.{Language}
 use Rattle.lines.specs.Replies.{ok_line, refusal_text}
 use Rattle.serving.specs.Answers.{Replied}
 use Rattle.serving.specs.Items.{Item}
@@ -56,20 +57,20 @@ module _ {E : Type 0} (g : Ghosts E) where
     pub blamed : text ≡ refusal_text Device → HasRisen (g.failures old) (g.failures new)
 
   -- the states that the engines are in, one after each item
-  pub record GoesThrough (before after written new : Option (List ℕ)) (old : E) (engines : List E) (result : Result (Unit {0}) ServeFault) (s : State) (states : List State) : Type 0 where
-    pub outcome : Outcome (Replied (Happens (g.capacity_of old)) side_in) before after written new s states result
+  pub record GoesThrough (language : Language) (before after written new : Option (List ℕ)) (old : E) (engines : List E) (result : Result (Unit {0}) ServeFault) (s : State) (states : List State) : Type 0 where
+    pub outcome : Outcome language (Replied (Happens (g.capacity_of old)) side_in) before after written new s states result
     pub at : AreAt (members g) (old ∷ engines) (s ∷ states)
     -- since the engine after an item a stop leaves the state after it or a later one
     pub later : LeaveLater (members g) (old ∷ engines) (last_of old engines) (s ∷ states)
 
   -- All that is known of what serve makes of an engine, one engine after each item.
-  pub record Serves (before after written new : Option (List ℕ)) (old : E) (engines : List E) (result : Result (Unit {0}) ServeFault) : Type 0 where
+  pub record Serves (language : Language) (before after written new : Option (List ℕ)) (old : E) (engines : List E) (result : Result (Unit {0}) ServeFault) : Type 0 where
     -- the calls, and what the replies tell of them
-    pub answers : Outcome Answers before after written new old engines result
+    pub answers : Outcome language Answers before after written new old engines result
     -- on an honest disk: the run of states
-    pub states : g.is_honest (last_of old engines) → (s : State) → g.is_at old s → (states : List State) × GoesThrough before after written new old engines result s states
+    pub states : g.is_honest (last_of old engines) → (s : State) → g.is_at old s → (states : List State) × GoesThrough language before after written new old engines result s states
     -- on any disk, honest or not: what the replies tell of whether the engine has failed
-    pub told : Outcome (Replied IsTold (λ _. g.side_of old)) before after written new (g.has_failed old) (map g.has_failed engines) result
+    pub told : Outcome language (Replied IsTold (λ _. g.side_of old)) before after written new (g.has_failed old) (map g.has_failed engines) result
     pub side : g.side_of (last_of old engines) ≡ g.side_of old
     pub capacity : g.capacity_of (last_of old engines) ≡ g.capacity_of old
     pub honest : g.is_honest (last_of old engines) → g.is_honest old

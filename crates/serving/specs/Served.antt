@@ -3,6 +3,7 @@ use Rattle.std.specs.Prelude.{◌≡◌, ◌⊎◌, ℕ, List, [], ◌∷◌, �
 use Rattle.std.specs.Io.KnownBytes.{Consumes, Appends, IsAtEnd}
 use Rattle.lines.specs.Ahead.{IsNear}
 use Rattle.lines.specs.Grammar.{AskQuit}
+use Rattle.lines.specs.declared.language.Language.{Language}
 use Rattle.serving.specs.Items.{Item, spelled, IsItem, GoesOn, IsBegun}
 use Rattle.lines.specs.declared.source.Extent.{Extent}
 use Rattle.lines.specs.declared.source.Extent.TheVariants.{Whole, Cut}
@@ -16,32 +17,33 @@ Replies IsRight s [] text [] = text ≡ []
 Replies IsRight s (i ∷ is) text (t ∷ states) = (reply more : List ℕ) × (text ≡ reply ++ more) × IsRight s i reply t × Replies IsRight t is more states
 Replies IsRight s _ text _ = ⊥
 
--- how an input ends: with nothing more, with an item that its end cuts short, or with quit and anything
-abbrev pub Ends : List ℕ → List Item → Type 0
-Ends end [] = end ≡ []
-Ends end (i ∷ []) = (IsItem Cut i × (end ≡ spelled i)) ⊎ ((rest : List ℕ) × IsItem Whole i × (i.asked ≡ Some AskQuit) × (end ≡ spelled i ++ rest))
-Ends end _ = ⊥
+module _ (language : Language) where
+  -- how an input ends: with nothing more, with an item that its end cuts short, or with quit and anything
+  abbrev pub Ends : List ℕ → List Item → Type 0
+  Ends end [] = end ≡ []
+  Ends end (i ∷ []) = (IsItem language Cut i × (end ≡ spelled i)) ⊎ ((rest : List ℕ) × IsItem language Whole i × (i.asked ≡ Some AskQuit) × (end ≡ spelled i ++ rest))
+  Ends end _ = ⊥
 
--- the items of an input
-abbrev pub AreItemsOf : List ℕ → List Item → Type 0
-AreItemsOf input items = (first last : List Item) × (end : List ℕ) × All GoesOn first × Ends end last × (items ≡ first ++ last) × (input ≡ flat_map spelled first ++ end)
+  -- the items of an input
+  abbrev pub AreItemsOf : List ℕ → List Item → Type 0
+  AreItemsOf input items = (first last : List Item) × (end : List ℕ) × All (GoesOn language) first × Ends end last × (items ≡ first ++ last) × (input ≡ flat_map spelled first ++ end)
 
--- what serve answers for what the reader and the writer had before and have after, and the states from s that it leads
--- through, one after each item
-abbrev pub Outcome : {X : Type 0} → (X → Item → List ℕ → X → Type 0) → Option (List ℕ) → Option (List ℕ) → Option (List ℕ) → Option (List ℕ) → X → List X → Result (Unit {0}) ServeFault → Type 0
--- the replies to the items of the input
-Outcome IsRight before after written new s states (Ok u) = (items : List Item) × (text : List ℕ)
-    × IfSome before (λ input. AreItemsOf input items) × Appends written new text × Replies IsRight s items text states
--- the replies to all items that were read whole; of the next a beginning was read, and nothing else
-Outcome IsRight before after written new s states (Err Input) = (items : List Item) × (rest text : List ℕ) × All GoesOn items × IsBegun rest
-    × Consumes before after (flat_map spelled items ++ rest) × Appends written new text × Replies IsRight s items text states
--- a beginning of the replies to the items that were read
-Outcome IsRight before after written new s states (Err Output) = (items : List Item) × (i : Item) × (extent : Extent) × (text : List ℕ) × (n : ℕ) × (left : Option (List ℕ))
-    × All GoesOn items × IsItem extent i × Consumes before left (flat_map spelled items ++ spelled i) × Replies IsRight s (items ++ i ∷ []) text states × Appends written new (take n text)
+  -- what serve answers for what the reader and the writer had before and have after, and the states from s that it leads
+  -- through, one after each item
+  abbrev pub Outcome : {X : Type 0} → (X → Item → List ℕ → X → Type 0) → Option (List ℕ) → Option (List ℕ) → Option (List ℕ) → Option (List ℕ) → X → List X → Result (Unit {0}) ServeFault → Type 0
+  -- the replies to the items of the input
+  Outcome IsRight before after written new s states (Ok u) = (items : List Item) × (text : List ℕ)
+      × IfSome before (λ input. AreItemsOf input items) × Appends written new text × Replies IsRight s items text states
+  -- the replies to all items that were read whole; of the next a beginning was read, and nothing else
+  Outcome IsRight before after written new s states (Err Input) = (items : List Item) × (rest text : List ℕ) × All (GoesOn language) items × IsBegun language rest
+      × Consumes before after (flat_map spelled items ++ rest) × Appends written new text × Replies IsRight s items text states
+  -- a beginning of the replies to the items that were read
+  Outcome IsRight before after written new s states (Err Output) = (items : List Item) × (i : Item) × (extent : Extent) × (text : List ℕ) × (n : ℕ) × (left : Option (List ℕ))
+      × All (GoesOn language) items × IsItem language extent i × Consumes before left (flat_map spelled items ++ spelled i) × Replies IsRight s (items ++ i ∷ []) text states × Appends written new (take n text)
 
--- Nothing is read once the end is known: the reader is at its end; or items and then `quit` were read, and behind that no more
--- than what the read that brought its LF gave with it, which is less than one read gives.
-abbrev pub ReadsNoFurther : Option (List ℕ) → Option (List ℕ) → Type 0
-ReadsNoFurther before after = IsAtEnd after
-    ⊎ ((items : List Item) × (quit : Item) × (ahead : List ℕ) × All GoesOn items × IsItem Whole quit × (quit.asked ≡ Some AskQuit) × IsNear ahead
-    × Consumes before after (flat_map spelled items ++ spelled quit ++ ahead))
+  -- Nothing is read once the end is known: the reader is at its end; or items and then `quit` were read, and behind that no more
+  -- than what the read that brought its LF gave with it, which is less than one read gives.
+  abbrev pub ReadsNoFurther : Option (List ℕ) → Option (List ℕ) → Type 0
+  ReadsNoFurther before after = IsAtEnd after
+      ⊎ ((items : List Item) × (quit : Item) × (ahead : List ℕ) × All (GoesOn language) items × IsItem language Whole quit × (quit.asked ≡ Some AskQuit) × IsNear ahead
+      × Consumes before after (flat_map spelled items ++ spelled quit ++ ahead))

@@ -3,6 +3,7 @@ use Rattle.std.specs.Prelude.{◌≡◌, ◌⊎◌, ℕ, List, [], ◌∷◌, ta
 use Rattle.std.specs.Io.KnownBytes.{Consumes, Appends, IsAtEnd, prepend_known}
 use Rattle.lines.specs.Ahead.{IsNear}
 use Rattle.lines.specs.Grammar.{AskQuit}
+use Rattle.lines.specs.declared.language.Language.{Language}
 use Rattle.serving.specs.Items.{Item, spelled, IsItem, GoesOn, IsBegun}
 use Rattle.lines.specs.Requests.{asked}
 use Rattle.serving.specs.Served.{Replies, Ends}
@@ -19,31 +20,32 @@ abbrev pub Stored : {A : Type 0} → Option (Vec ℕ A) → List ℕ → Type 0
 Stored None bytes = Unit {0}
 Stored (Some v) bytes = v.items ≡ bytes
 
--- the item that is kept is this one that was read
-pub record Holds (kept : KeptItem) (i : Item) : Type 0 where
-  pub asked : option_map asked kept.request ≡ i.asked
-  pub payload : Stored kept.payload i.payload
-  pub item : IsItem kept.extent i
+module _ (language : Language) where
+  -- the item that is kept is this one that was read
+  pub record Holds (kept : KeptItem) (i : Item) : Type 0 where
+    pub asked : option_map asked kept.request ≡ i.asked
+    pub payload : Stored kept.payload i.payload
+    pub item : IsItem language kept.extent i
 
--- one step, from what was to come and what was written before it to both after it
-abbrev pub Steps : {X : Type 0} → (X → Item → List ℕ → X → Type 0) → Option (List ℕ) → Option (List ℕ) → Option (List ℕ) → Option (List ℕ) → X → List X → Result Next ServeFault → Type 0
-Steps IsRight before after written new s states (Ok More) =
-    (i : Item) × (text : List ℕ) × GoesOn i × Consumes before after (spelled i) × Appends written new text × Replies IsRight s (i ∷ []) text states
-Steps IsRight before after written new s states (Ok End) =
-    (last : List Item) × (text : List ℕ) × IfSome before (λ input. Ends input last) × Appends written new text × Replies IsRight s last text states
-Steps IsRight before after written new s states (Err Input) =
-    (rest : List ℕ) × IsBegun rest × Consumes before after rest × Appends written new [] × (states ≡ [])
-Steps IsRight before after written new s states (Err Output) =
-    (i : Item) × (extent : Extent) × (text : List ℕ) × (n : ℕ) × IsItem extent i × Consumes before after (spelled i) × Appends written new (take n text)
-    × Replies IsRight s (i ∷ []) text states
+  -- one step, from what was to come and what was written before it to both after it
+  abbrev pub Steps : {X : Type 0} → (X → Item → List ℕ → X → Type 0) → Option (List ℕ) → Option (List ℕ) → Option (List ℕ) → Option (List ℕ) → X → List X → Result Next ServeFault → Type 0
+  Steps IsRight before after written new s states (Ok More) =
+      (i : Item) × (text : List ℕ) × GoesOn language i × Consumes before after (spelled i) × Appends written new text × Replies IsRight s (i ∷ []) text states
+  Steps IsRight before after written new s states (Ok End) =
+      (last : List Item) × (text : List ℕ) × IfSome before (λ input. Ends language input last) × Appends written new text × Replies IsRight s last text states
+  Steps IsRight before after written new s states (Err Input) =
+      (rest : List ℕ) × IsBegun language rest × Consumes before after rest × Appends written new [] × (states ≡ [])
+  Steps IsRight before after written new s states (Err Output) =
+      (i : Item) × (extent : Extent) × (text : List ℕ) × (n : ℕ) × IsItem language extent i × Consumes before after (spelled i) × Appends written new (take n text)
+      × Replies IsRight s (i ∷ []) text states
 
--- The last step ends the reading: the input is at its end, or what was to come began with `quit`, and less than one read gives
--- is ahead behind it.
-abbrev pub EndsReading : Option (List ℕ) → (ahead : List ℕ) → Option (List ℕ) → Type 0
-EndsReading before ahead after = ((ahead ≡ []) × IsAtEnd after)
-    ⊎ ((quit : Item) × IsItem Whole quit × (quit.asked ≡ Some AskQuit) × IsNear ahead × Consumes before (prepend_known ahead after) (spelled quit))
+  -- The last step ends the reading: the input is at its end, or what was to come began with `quit`, and less than one read gives
+  -- is ahead behind it.
+  abbrev pub EndsReading : Option (List ℕ) → (ahead : List ℕ) → Option (List ℕ) → Type 0
+  EndsReading before ahead after = ((ahead ≡ []) × IsAtEnd after)
+      ⊎ ((quit : Item) × IsItem language Whole quit × (quit.asked ≡ Some AskQuit) × IsNear ahead × Consumes before (prepend_known ahead after) (spelled quit))
 
--- the items so far with their replies
-abbrev pub SoFar : {X : Type 0} → (X → Item → List ℕ → X → Type 0) → Option (List ℕ) → Option (List ℕ) → Option (List ℕ) → Option (List ℕ) → X → List X → Type 0
-SoFar IsRight before after written new s states = (items : List Item) × (text : List ℕ) × All GoesOn items
-    × Consumes before after (flat_map spelled items) × Appends written new text × Replies IsRight s items text states
+  -- the items so far with their replies
+  abbrev pub SoFar : {X : Type 0} → (X → Item → List ℕ → X → Type 0) → Option (List ℕ) → Option (List ℕ) → Option (List ℕ) → Option (List ℕ) → X → List X → Type 0
+  SoFar IsRight before after written new s states = (items : List Item) × (text : List ℕ) × All (GoesOn language) items
+      × Consumes before after (flat_map spelled items) × Appends written new text × Replies IsRight s items text states

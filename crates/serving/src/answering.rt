@@ -1,5 +1,6 @@
 //! Answers items over an engine.
 ghost use Rattle.std.specs.Prelude.{◌≡◌, ◌<◌, ◌⊎◌, ℕ, List, length};
+ghost use Rattle.lines.specs.declared.language.Language.{Language};
 ghost use Rattle.serving.specs.Answers.{ImportComesTo, Replied, Turn, Turns};
 ghost use Rattle.serving.specs.Items.{Item};
 ghost use Rattle.serving.specs.Session.{Holds, Stored};
@@ -41,8 +42,8 @@ fn answer_import<E: Engine>(
 
 /// Answers an item.
 pub(crate) fn answer<E: Engine>(alloc: Global, engine: &mut E, item: KeptItem<'_>) -> Text
-    requires { (i : Item) × Holds item i }
-    ensures { (i : Item) → Holds item.entry i → Replied E.called E.side_of engine.old i result engine.new }
+    requires { (language : Language) × (i : Item) × Holds language item i }
+    ensures { (language : Language) (i : Item) → Holds language item.entry i → Replied E.called E.side_of engine.old i result engine.new }
 {
     let KeptItem {
         request,

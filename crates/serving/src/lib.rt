@@ -21,4 +21,4 @@ mod session;
 
 pub use checked_writer::CheckedWriter;
 pub use output::{Output, OutputFault};
-pub use session::{ServeFault, serve};
+pub use session::{ServeFault, serve, serve_lines};

@@ -8,7 +8,9 @@ ghost use Rattle.lines.specs.Lines.{IsLine, kept, Reaches};
 ghost use Rattle.lines.specs.Requests.{asked};
 ghost use Rattle.serving.specs.Session.{Stored, Holds};
 
-use lines::{Ahead, Extent, Line, ReadFault, Request, read_payload, request_of, skip_payload};
+use lines::{
+    Ahead, Extent, Language, Line, ReadFault, Request, read_payload, request_of, skip_payload,
+};
 use std::alloc::Global;
 use std::io::Read;
 
@@ -21,11 +23,11 @@ pub struct KeptItem<'a> {
     pub extent: Extent,
 }
 
-/// What the line asks for, if it is in the grammar and not too long.
-fn request_in(line: &Line) -> Option<Request<'_>>
-    ensures { (text : List ℕ) → line.now ≡ kept text → AsksFor text (option_map asked result) }
+/// What the line asks for, if it is in the language and not too long.
+fn request_in(language: Language, line: &Line) -> Option<Request<'_>>
+    ensures { (text : List ℕ) → line.now ≡ kept text → AsksFor language text (option_map asked result) }
 {
-    request_of(line.bytes()?)
+    request_of(language, line.bytes()?)
 }
 
 /// How many bytes of payload follow the line.
@@ -73,6 +75,7 @@ fn read_or_skip_payload<R: Read>(
 /// The item that begins with this line, which an LF ended or the end of the input.
 pub(crate) fn read_item<'a, R: Read>(
     alloc: Global,
+    language: Language,
     tile_len: u32,
     fed: Extent,
     line: &'a Line,
@@ -81,17 +84,17 @@ pub(crate) fn read_item<'a, R: Read>(
 ) -> Result<KeptItem<'a>, ReadFault>
     requires { fed ≡ Extent.Cut → (ahead.old.bytes ≡ []) × IsAtEnd (R.remaining reader.old) }
     ensures ok { IfOk result (λ item. (text : List ℕ) → line.now ≡ kept text → IsLine text → (fed ≡ Extent.Cut → text ≢ [])
-        → (i : Item) × Holds item i × (i.line ≡ text) × (i.fed ≡ fed)
+        → (i : Item) × Holds language item i × (i.line ≡ text) × (i.fed ≡ fed)
         × Taken ahead.old (R.remaining reader.old) ahead.new (R.remaining reader.new) i.payload) }
     ensures cut { IfOk result (λ item. item.extent ≡ Extent.Cut → (ahead.new.bytes ≡ []) × IsAtEnd (R.remaining reader.new)) }
     ensures spent { OnOk result (weight ahead.new ≤ weight ahead.old) }
     ensures err { OnErr result ((fed ≡ Extent.Whole) × ((text : List ℕ) → line.now ≡ kept text
-        → (bytes : List ℕ) × (a : Option Asked) × AsksFor text a × (length bytes < payload_len a)
+        → (bytes : List ℕ) × (a : Option Asked) × AsksFor language text a × (length bytes < payload_len a)
         × Taken ahead.old (R.remaining reader.old) ahead.new (R.remaining reader.new) bytes)) }
     ensures none_ahead { OnErr result (ahead.new.bytes ≡ []) }
     ensures quit { IfOk result (λ item. fed ≡ Extent.Whole → option_map asked item.request ≡ Some AskQuit → (ahead.new ≡ ahead.old) × (reader.new ≡ reader.old)) }
 {
-    let request = request_in(line);
+    let request = request_in(language, line);
     let (payload, extent) = match fed {
         Extent::Whole => read_or_skip_payload(
             alloc,

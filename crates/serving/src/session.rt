@@ -2,6 +2,7 @@
 ghost use Rattle.std.specs.Prelude.{◌≡◌, ◌<◌, List, [], Ok, Err, OnOk};
 ghost use Rattle.engine.specs.Runs.{last_of};
 ghost use Rattle.lines.specs.Ahead.{to_come, weight};
+ghost use Rattle.lines.specs.declared.language.Language.TheVariants.{Plain};
 ghost use Rattle.serving.specs.Outputs.{HasLeft, TellsFailure};
 ghost use Rattle.serving.specs.Promises.{Answers, Serves};
 ghost use Rattle.serving.specs.Served.{ReadsNoFurther};
@@ -11,7 +12,7 @@ use crate::answering::answer;
 use crate::output::Output;
 use crate::reading::{is_last, is_over, read_item};
 use engine::Engine;
-use lines::{Ahead, Line, read_line};
+use lines::{Ahead, Language, Line, read_line};
 use std::alloc::Global;
 use std::io::Read;
 use thiserror::Error;
@@ -37,6 +38,7 @@ enum Next {
 /// Reads an item, answers it and writes the reply.
 fn step<R: Read, O: Output, E: Engine>(
     alloc: Global,
+    language: Language,
     ahead: &mut Ahead,
     line: &mut Line,
     reader: &mut R,
@@ -44,11 +46,11 @@ fn step<R: Read, O: Output, E: Engine>(
     engine: &mut E,
 ) -> Result<Next, ServeFault>
     ensures calls { (engines : List E) × ((last_of engine.old engines ≡ engine.new)
-        × Steps (Answers E.Engine) (to_come ahead.old (R.remaining reader.old)) (to_come ahead.new (R.remaining reader.new))
+        × Steps language (Answers E.Engine) (to_come ahead.old (R.remaining reader.old)) (to_come ahead.new (R.remaining reader.new))
         (O.stream writer.old).contents (O.stream writer.new).contents engine.old engines result) }
     ensures output { TellsFailure (O.stream writer.old) (O.stream writer.new) result }
     ensures left { OnOk result (HasLeft (O.stream writer.old) (O.stream writer.new)) }
-    ensures end { result ≡ Ok Next.End → EndsReading (to_come ahead.old (R.remaining reader.old)) ahead.new.bytes (R.remaining reader.new) }
+    ensures end { result ≡ Ok Next.End → EndsReading language (to_come ahead.old (R.remaining reader.old)) ahead.new.bytes (R.remaining reader.new) }
     ensures spent { result ≡ Ok Next.More → weight ahead.new < weight ahead.old }
     ensures none_ahead { result ≡ Err ServeFault.Input → ahead.new.bytes ≡ [] }
 {
@@ -59,7 +61,7 @@ fn step<R: Read, O: Output, E: Engine>(
     if is_over(fed, line) {
         return Ok(Next::End);
     }
-    let Ok(item) = read_item(alloc, tile_len, fed, line, ahead, reader) else {
+    let Ok(item) = read_item(alloc, language, tile_len, fed, line, ahead, reader) else {
         return Err(ServeFault::Input);
     };
     let next = if is_last(&item) {
@@ -98,15 +100,34 @@ pub fn serve<R: Read, O: Output, E: Engine>(
     engine: &mut E,
 ) -> Result<(), ServeFault>
     ensures calls { (engines : List E) × ((last_of engine.old engines ≡ engine.new)
-        × Serves E.Engine (R.remaining reader.old) (R.remaining reader.new) (O.stream writer.old).contents (O.stream writer.new).contents engine.old engines result) }
-    ensures end { OnOk result (ReadsNoFurther (R.remaining reader.old) (R.remaining reader.new)) }
+        × Serves E.Engine Plain (R.remaining reader.old) (R.remaining reader.new) (O.stream writer.old).contents (O.stream writer.new).contents engine.old engines result) }
+    ensures end { OnOk result (ReadsNoFurther Plain (R.remaining reader.old) (R.remaining reader.new)) }
+    ensures output { TellsFailure (O.stream writer.old) (O.stream writer.new) result }
+    ensures left { OnOk result (HasLeft (O.stream writer.old) (O.stream writer.new)) }
+{
+    serve_lines(alloc, Language::Plain, reader, writer, engine)
+}
+
+/// Answers items of this language, as [`serve`] does those of the plain one.
+pub fn serve_lines<R: Read, O: Output, E: Engine>(
+    alloc: Global,
+    language: Language,
+    reader: &mut R,
+    writer: &mut O,
+    engine: &mut E,
+) -> Result<(), ServeFault>
+    ensures calls { (engines : List E) × ((last_of engine.old engines ≡ engine.new)
+        × Serves E.Engine language (R.remaining reader.old) (R.remaining reader.new) (O.stream writer.old).contents (O.stream writer.new).contents engine.old engines result) }
+    ensures end { OnOk result (ReadsNoFurther language (R.remaining reader.old) (R.remaining reader.new)) }
     ensures output { TellsFailure (O.stream writer.old) (O.stream writer.new) result }
     ensures left { OnOk result (HasLeft (O.stream writer.old) (O.stream writer.new)) }
 {
     let mut ahead = Ahead::new(alloc);
     let mut line = Line::new();
     'items: loop {
-        match step(alloc, &mut ahead, &mut line, reader, writer, engine) {
+        match step(
+            alloc, language, &mut ahead, &mut line, reader, writer, engine,
+        ) {
             Ok(Next::More) => {}
             Ok(Next::End) => return Ok(()),
             Err(fault) => return Err(fault),

@@ -1,4 +1,5 @@
 pub mod AcceptedInTurn
+pub mod AskedTiles
 pub mod AskedTrees
 pub mod Committed
 pub mod EditingReads

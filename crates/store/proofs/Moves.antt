@@ -286,6 +286,10 @@ module _ (capacity : ℕ) where
     happened (ask.Watershed p) (reply.Refused r) is = answers_not p r is
     happened (ask.Export c) (reply.Export bytes) is = read is.0.same
     happened (ask.Export c) (reply.Refused r) is = exports_not c r is
+    happened (ask.Levels c) (reply.Levels levels) is = read is.0.same
+    happened (ask.Levels c) (reply.Refused r) is = exports_not c r is
+    happened (ask.Directions c) (reply.Directions codes) is = read is.0.same
+    happened (ask.Directions c) (reply.Refused r) is = exports_not c r is
     happened ask.Tiles (reply.Tiles corners) is = read is.0.same
     happened ask.Tiles (reply.Refused r) is = lists_not r is
     happened ask.Sinks (reply.Sinks points) is = read is.0.same

@@ -1,6 +1,6 @@
 -- The bytes of a tile's plane, read page by page.
-use Rattle.std.proofs.Common.{◌≡◌, ⊎_elim, ℕ, zero, suc, ◌+◌, ◌-◌, ◌*◌, ◌<◌, ◌≤◌, ℤ, true, false, Option, Some, None, List, [], ◌∷◌, ◌++◌, length, take, drop, min, Contains, refl, sym, ap, ◌∙◌, subst, arith}
-use Rattle.std.specs.Prelude.{option_and_then, slice_get, is_some}
+use Rattle.std.proofs.Common.{◌≡◌, ⊎_elim, ℕ, zero, suc, ◌+◌, ◌-◌, ◌*◌, ◌<◌, ◌≤◌, ℤ, true, false, Some, None, List, [], ◌∷◌, ◌++◌, length, take, drop, min, Contains, refl, sym, ap, ◌∙◌, subst, arith}
+use Rattle.std.specs.Prelude.{option_and_then, slice_get}
 use Rattle.std.specs.List.{concat}
 use Rattle.std.proofs.Math.Seq.{take-append-add}
 use Rattle.std.proofs.lemmas.Bool.{cases_lt, false≢true}
@@ -8,12 +8,10 @@ use Rattle.std.proofs.lemmas.List.{append-nil, length-append, length-take, take_
 use Rattle.std.proofs.lemmas.List.Folds.{concat-append}
 use Rattle.disk.specs.declared.disk.Disk.{Ghosts}
 use Rattle.lattice.specs.Corners.{Corner, is_before}
-use Rattle.lattice.specs.Mosaic.{Mosaic, is_present, samples_of}
+use Rattle.lattice.specs.Mosaic.{samples_of}
 use Rattle.page_codec.specs.Sizes.{pages_of}
 use Rattle.hgt.specs.Bytes.{hgt_bytes}
-use Rattle.catalogue.specs.Tiles.{corners_of}
 use Rattle.lattice.proofs.CornerOrder.{before_not_same, same_from}
-use Rattle.catalogue.proofs.Presence.{present_iff, some-samples}
 use Rattle.lattice.proofs.Rising.{Rising}
 use Rattle.page_map.specs.TileLocations.{TileLocation}
 use Rattle.cow_tree.specs.Layout.{tile_in}
@@ -24,6 +22,7 @@ use Rattle.cow_tree.specs.Trees.{root_of, has_failed, corners_of as corners_unde
 use Rattle.cow_tree.specs.declared.tree.Tree.{Tree}
 use Rattle.cow_tree.proofs.Adding.{contains-map}
 use Rattle.cow_tree.proofs.Due.{located_tile}
+use Rattle.engine.proofs.Answered.{no_samples}
 use Rattle.engine.specs.State.{State}
 use Rattle.store.specs.Queried.{IsTileOf}
 use Rattle.store.specs.TreeStates.{IsInState}
@@ -105,13 +104,6 @@ one_tile (x ∷ rest) t u rising (suc k, below, here) (zero, under, there) same 
     let after : is_before x.corner t.corner ≡ true = after_contained x.corner rest t rising.0 (k, omega (arith, below), here) in
     absurd (not_before t.corner (subst (λ (d : Corner). is_before d t.corner ≡ true) (ap stored_corner there ∙ same) after))
 one_tile (x ∷ rest) t u rising (suc k, below, here) (suc j, under, there) same = one_tile rest t u rising.1 (k, omega (arith, below), here) (j, omega (arith, under), there) same
-
-no_samples : (m : Mosaic) (c : Corner) → ¬ Contains (corners_of m) c → samples_of m c ≡ None
-no_samples m c absent = by (samples_of m c) (some-samples c m.tiles)
-  where
-    by : (o : Option (List ℤ)) → is_some o ≡ is_present m c → o ≡ None
-    by None e = refl
-    by (Some samples) e = absurd (absent ((present_iff m c).0 (sym e)))
 
 module _ {D : Type 0} (g : Ghosts D) (tree : Tree D g) (works : has_failed tree ≡ false) (s : State) (at : IsInState g tree s) (c : Corner) where
   pub no_tile_of : ¬ Contains (corners_under tree) c → samples_of s.contents.mosaic c ≡ None

@@ -1,11 +1,13 @@
 //! Questions about water, asked of a store's tree with what the store holds.
 //!
 //! Each is asked over any premise. `Store` asks at `Brand`, and picks as the premise that what it holds then is right.
-ghost use Rattle.std.specs.Prelude.{◌≡◌, ◌≢◌, ◌≤◌, length, false, IsTrue, IfOk, IfErr};
+ghost use Rattle.std.specs.Prelude.{◌≡◌, ◌≢◌, ◌≤◌, length, false, IsTrue, IfOk, IfErr, Contains};
 ghost use Rattle.std.specs.List.{AllPairs};
 ghost use Rattle.lattice.specs.Limits.{most_tiles};
 ghost use Rattle.engine.specs.Engines.{items_in};
-ghost use Rattle.engine.specs.Outcomes.{Fills, Directs, Traces, Sheds};
+ghost use Rattle.tile_flood.specs.Raising.{AreTileLevels};
+ghost use Rattle.watershed.specs.Questions.{AreTileDirections};
+ghost use Rattle.engine.specs.Outcomes.{Fills, Directs, TellsTile, Traces, Sheds};
 ghost use Rattle.engine.specs.Told.{may_refuse};
 ghost use Rattle.engine.specs.declared.event.Event.TheVariants as ask;
 ghost use Rattle.cow_tree.specs.Reading.{mosaic_of};
@@ -17,7 +19,7 @@ use crate::labelling::{Asked, Premise};
 use cow_tree::Tree;
 use disk::Disk;
 use drainage::DrainageCache;
-use lattice::{Point, Refusal};
+use lattice::{Corner, Point, Refusal};
 use std::alloc::Global;
 use std::marker::PhantomData;
 use watershed::Run;
@@ -100,4 +102,45 @@ pub(crate) fn ask_watershed<D: Disk, P: Premise>(
         premise: PhantomData,
     };
     drainage::watershed(alloc, &mut asked, held, point)
+}
+
+// The filled levels of all samples of the corner's tile.
+pub(crate) fn ask_levels<D: Disk, P: Premise>(
+    alloc: Global,
+    tree: &mut Tree<D>,
+    held: &mut DrainageCache,
+    corner: Corner,
+) -> Result<Vec<i16>, Refusal>
+    requires works { has_failed tree.old ≡ false }
+    requires present { Contains (corners_of tree.old) corner }
+    requires right { P.holds → IsHeldOf (mosaic_of D.Disk tree.old) held.old }
+    ensures causes { IfErr result (λ r. IsTrue (may_refuse (ask.Levels corner) r)) }
+    ensures asked { IsAskedOf D.Disk P.holds tree.old tree.new held.old held.new result (λ s r t. TellsTile AreTileLevels s corner (items_in r) t) }
+{
+    let mut asked = Asked::<D, P> {
+        tree,
+        premise: PhantomData,
+    };
+    drainage::levels(alloc, &mut asked, held, corner)
+}
+
+// The codes of their directions.
+pub(crate) fn ask_directions<D: Disk, P: Premise>(
+    alloc: Global,
+    tree: &mut Tree<D>,
+    held: &mut DrainageCache,
+    corner: Corner,
+) -> Result<Vec<u8>, Refusal>
+    requires works { has_failed tree.old ≡ false }
+    requires few { length (corners_of tree.old) ≤ most_tiles }
+    requires present { Contains (corners_of tree.old) corner }
+    requires right { P.holds → IsHeldOf (mosaic_of D.Disk tree.old) held.old }
+    ensures causes { IfErr result (λ r. IsTrue (may_refuse (ask.Directions corner) r)) }
+    ensures asked { IsAskedOf D.Disk P.holds tree.old tree.new held.old held.new result (λ s r t. TellsTile AreTileDirections s corner (items_in r) t) }
+{
+    let mut asked = Asked::<D, P> {
+        tree,
+        premise: PhantomData,
+    };
+    drainage::directions(alloc, &mut asked, held, corner)
 }

@@ -1,8 +1,8 @@
 //! The queries of a store: they only read.
-ghost use Rattle.std.specs.Prelude.{◌≡◌, ◌≢◌, ◌≤◌, ◌*◌, length, false, true, Some, Err, OnOk, IfOk, IfErr, vec_len, vec_capacity};
+ghost use Rattle.std.specs.Prelude.{◌≡◌, ◌≢◌, ◌≤◌, ◌*◌, length, false, true, Some, Err, OnOk, IfOk, IfErr, Contains, vec_len, vec_capacity};
 ghost use Rattle.std.specs.List.{AllPairs};
 ghost use Rattle.lattice.specs.Limits.{most_tiles};
-ghost use Rattle.lattice.specs.declared.refusal.Refusal.TheVariants.{NoMemory, Failed};
+ghost use Rattle.lattice.specs.declared.refusal.Refusal.TheVariants.{NoMemory, NoTile, Failed};
 ghost use Rattle.engine.specs.Engines.{IsCall, answered};
 ghost use Rattle.engine.specs.State.{State};
 ghost use Rattle.engine.specs.declared.event.Event.TheVariants as ask;
@@ -16,7 +16,9 @@ ghost use Rattle.store.specs.StoreState.{members};
 ghost use Rattle.store.specs.Stores.{disk_of, has_failed, IsAt};
 
 use crate::Store;
-use crate::asking::{ask_direction, ask_fill, ask_trace, ask_watershed};
+use crate::asking::{
+    ask_direction, ask_directions, ask_fill, ask_levels, ask_trace, ask_watershed,
+};
 use cow_tree::{Plane, Tree};
 use disk::Disk;
 use lattice::{Corner, Height, Point, Refusal};
@@ -95,15 +97,36 @@ impl<D: Disk> Store<D> {
         ensures reads { OnlyReads D.Disk self.old self.new }
     {
         self.check_working()?;
-        if !self.tree.present(corner) {
-            return Err(Refusal::NoTile);
-        }
+        self.check_present(corner)?;
         let len = self.tree.current().side().file_bytes() as usize;
         let Ok(mut bytes) = Vec::with_capacity(self.alloc, len) else {
             return Err(Refusal::NoMemory);
         };
         read_plane(&mut self.tree, corner, Plane::Heights, &mut bytes)?;
         Ok(bytes)
+    }
+
+    /// The filled levels of all samples of a tile, in metres: row by row from the north, west first; void where a sample's point
+    /// isn't ground. Each is what `fill` answers of its point. Refused with Failed, NoTile, NoMemory or Device, or with Damaged
+    /// as `fill` is.
+    pub fn levels(&mut self, corner: Corner) -> Result<Vec<i16>, Refusal>
+        ensures call { IsCall (members D.Disk) self.old (ask.Levels corner) (answered reply.Levels result) self.new }
+        ensures reads { OnlyReads D.Disk self.old self.new }
+    {
+        self.check_working()?;
+        self.check_present(corner)?;
+        ask_levels::<D, Brand>(self.alloc, &mut self.tree, &mut self.held, corner)
+    }
+
+    /// The codes of the directions of all samples of a tile, row by row from the north, west first, as `direction` answers
+    /// them; 255 where a sample's point isn't ground. Refused as `levels` is.
+    pub fn directions(&mut self, corner: Corner) -> Result<Vec<u8>, Refusal>
+        ensures call { IsCall (members D.Disk) self.old (ask.Directions corner) (answered reply.Directions result) self.new }
+        ensures reads { OnlyReads D.Disk self.old self.new }
+    {
+        self.check_working()?;
+        self.check_present(corner)?;
+        ask_directions::<D, Brand>(self.alloc, &mut self.tree, &mut self.held, corner)
     }
 
     /// The corners of the present tiles, in order. They are held in memory, so that no disk refuses.
@@ -126,6 +149,18 @@ impl<D: Disk> Store<D> {
     {
         self.check_working()?;
         Ok(Vec::from_slice(self.alloc, self.tree.sinks())?)
+    }
+
+    // Refused where the corner's tile isn't there.
+    fn check_present(&self, corner: Corner) -> Result<(), Refusal>
+        ensures present { OnOk result (Contains (corners_of self.now.tree) corner) }
+        ensures refused { IfErr result (λ r. (r ≡ NoTile) × (Contains (corners_of self.now.tree) corner → ⊥)) }
+    {
+        if self.tree.present(corner) {
+            Ok(())
+        } else {
+            Err(Refusal::NoTile)
+        }
     }
 
     // Refused where the store has failed. One that works has no more tiles than a root has room for.

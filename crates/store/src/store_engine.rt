@@ -85,6 +85,14 @@ impl<D: Disk> Engine for Store<D> {
         Store::export(self, corner)
     }
 
+    fn levels(&mut self, corner: Corner) -> Result<Vec<i16>, Refusal> {
+        Store::levels(self, corner)
+    }
+
+    fn directions(&mut self, corner: Corner) -> Result<Vec<u8>, Refusal> {
+        Store::directions(self, corner)
+    }
+
     fn tiles(&self) -> Result<Vec<Corner>, Refusal> {
         Store::tiles(self)
     }

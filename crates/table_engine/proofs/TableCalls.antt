@@ -6,7 +6,7 @@ use Rattle.lattice.specs.Corners.{Corner}
 use Rattle.lattice.specs.Height.{height_of}
 use Rattle.lattice.specs.Ground.{terrain}
 use Rattle.lattice.specs.Terrain.{IsFilledLevel}
-use Rattle.lattice.specs.Mosaic.{Mosaic, samples_of}
+use Rattle.lattice.specs.Mosaic.{Mosaic, is_present, samples_of}
 use Rattle.lattice.specs.declared.height.Height.{Height}
 use Rattle.lattice.specs.declared.point.Point.{Point}
 use Rattle.lattice.specs.declared.refusal.Refusal.{Refusal}
@@ -26,13 +26,15 @@ use Rattle.engine.specs.declared.event.Event.{Event}
 use Rattle.engine.specs.declared.event.Event.TheVariants as ask
 use Rattle.engine.specs.declared.event.Reply.{Reply}
 use Rattle.engine.specs.declared.event.Reply.TheVariants as reply
-use Rattle.engine.specs.Engines.{IsCall, answered}
+use Rattle.engine.specs.Engines.{IsCall, answered, items_in}
 use Rattle.engine.specs.Events.{Happens, fails_after}
-use Rattle.engine.specs.Outcomes.{Stays, AnswersNot, Accepts, Applies, AppliesNot}
+use Rattle.engine.specs.Outcomes.{Stays, AnswersNot, Accepts, Applies, AppliesNot, TellsTile}
 use Rattle.engine.specs.State.{State, last_number, working}
 use Rattle.engine.specs.Steps.{Commits, Steps, stepped}
-use Rattle.engine.specs.Told.{Matches, Knows, WritesFew, may_refuse, may_refuse_question}
+use Rattle.engine.specs.Told.{Matches, Knows, WritesFew, may_refuse, may_refuse_question, may_refuse_tile}
+use Rattle.engine.proofs.Answered.{no_samples}
 use Rattle.engine.proofs.Applying.{plan_refused}
+use Rattle.engine.proofs.Questions.{IsQuestion, answers_so, few_as, knows_refused}
 use Rattle.edits.specs.Touched.{stale_after}
 use Rattle.table_engine.specs.TableState.{TableState, held_of, contents_of, stale_among, table}
 use Rattle.table_engine.proofs.FreshTiles.{one_less}
@@ -124,6 +126,30 @@ module _ (held : TableState) where
 
   pub no_room_to_export : (c : Corner) → Same (ask.Export c) (reply.Refused NoMemory)
   no_room_to_export c = same (ask.Export c) (reply.Refused NoMemory) refl (λ e. absurd (cc)) (λ e. absurd (cc)) refl refl refl stays
+
+  -- a question about all samples of a tile
+  module _ {X : Type 0} (c : Corner) (Says : Mosaic → Corner → List X → Type 0) {event : Event} {tell : Vec X → Reply}
+      (is : IsQuestion event tell (λ (s : State) (r : Result (Vec X) Refusal) (t : State). TellsTile Says s c (items_in r) t)) (may : (r : Refusal) → IsTrue (may_refuse_tile r) → IsTrue (may_refuse event r)) where
+    abbrev answers : State → Result (Vec X) Refusal → State → Type 0
+    answers s r t = TellsTile Says s c (items_in r) t
+
+    refused_tile : (r : Refusal) → IsTrue (may_refuse_tile r) → (r ≡ Failed → ⊥) → (r ≡ Device → ⊥) → answers now (Err r) now → Same event (reply.Refused r)
+    refused_tile r of_tile not_failed not_device so =
+        same event (reply.Refused r) (may r of_tile) (λ e. not_failed (refusal_of e)) (λ e. not_device (refusal_of e)) (sym ((answers_so event tell answers is).passes false r not_device))
+        (few_as event tell answers is 2 here.side 0 0 refl) (knows_refused (table.known held) (table.known held) event r refl) (is.refused held.capacity now now r so)
+      where
+        refusal_of : {q : Refusal} → reply.Refused r ≡ reply.Refused q → r ≡ q
+        refusal_of e = cc
+
+    pub no_tile_at : ¬ Contains (corners_of here) c → Same event (reply.Refused NoTile)
+    no_tile_at none = refused_tile NoTile refl (λ e. absurd (cc)) (λ e. absurd (cc)) (stays, no_samples here c none)
+
+    pub told_tile : IsTrue (is_present here c) → (result : Result (Vec X) Refusal) → MatchResult result (λ values. Says here c values.items) (λ r. r ≡ NoMemory) → Same event (answered tell result)
+    told_tile present (Ok values) so =
+        same event (tell values) (is.matches values) (is.no_refusal values Failed) (is.no_refusal values Device) (sym (is.goes_on false values))
+        (few_as event tell answers is 2 here.side 0 0 refl) (is.knows (table.known held) (table.known held) values refl) (is.right held.capacity now now values (stays, (present, so)))
+    told_tile present (Err r) memory =
+        subst (λ (why : Refusal). Same event (reply.Refused why)) (sym memory) (refused_tile NoMemory refl (λ e. absurd (cc)) (λ e. absurd (cc)) stays)
 
   pub reopened : Same ask.Reopen reply.Reopened
   reopened = same ask.Reopen reply.Reopened tt (λ e. absurd (cc)) (λ e. absurd (cc)) refl refl tt (inl refl)

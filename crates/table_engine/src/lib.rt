@@ -10,4 +10,8 @@
 
 mod table_engine;
 
+pub use edits::{Bytes, Command};
+pub use engine::{Engine, Event, Reply};
+pub use lattice::{Corner, Height, Point, Refusal, Side};
 pub use table_engine::TableEngine;
+pub use watershed::Run;

@@ -143,6 +143,20 @@ impl Engine for TableEngine {
         }
     }
 
+    fn levels(&mut self, corner: Corner) -> Result<Vec<i16>, Refusal> {
+        if !self.table.present(corner) {
+            return Err(Refusal::NoTile);
+        }
+        drainage::levels(self.alloc, &mut self.table, &mut self.held, corner)
+    }
+
+    fn directions(&mut self, corner: Corner) -> Result<Vec<u8>, Refusal> {
+        if !self.table.present(corner) {
+            return Err(Refusal::NoTile);
+        }
+        drainage::directions(self.alloc, &mut self.table, &mut self.held, corner)
+    }
+
     fn tiles(&self) -> Result<Vec<Corner>, Refusal> {
         self.table.corners()
     }

@@ -4,7 +4,7 @@ ghost use Rattle.disk.specs.Disk.{CountsFault, counted};
 
 use super::{lossy, owned};
 use disk::{Disk, Fault};
-use server::{CheckedWriter, Exit, Lengthen, MakeFault, Places, TileFault, carry_out};
+use server::{CheckedWriter, Exit, Language, Lengthen, MakeFault, Places, TileFault, carry_out};
 use std::alloc::{AllocError, Global};
 use std::test::Fail;
 use store::Store;
@@ -342,7 +342,14 @@ fn run_on(
     let mut reader = input;
     let mut writer = CheckedWriter::new(Vec::new(alloc));
     places.accesses.clear();
-    let Exit { status, disk } = carry_out(alloc, places, &words, &mut reader, &mut writer);
+    let Exit { status, disk } = carry_out(
+        alloc,
+        Language::Plain,
+        places,
+        &words,
+        &mut reader,
+        &mut writer,
+    );
     let left = places.store.take();
     places.store = disk.or(left);
     Ok((status, writer.into_inner()))

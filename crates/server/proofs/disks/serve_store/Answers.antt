@@ -10,9 +10,9 @@ returns-in-Err g c = (Unopened c.args.disk (Err c.in-Err.refused) ∷ [], inl (c
 pub returns : goal.returns
 returns g c =
     let store = c.in-Ok.store in
-    let (stores, (last, serves)) = c.serve-served.ensures.calls in
-    let by = served g.D.Disk store _ (λ old i text new told. told.replied) stores (g.R.Read.remaining c.args.reader.now) (g.R.Read.remaining c.serve-served.new.reader) (g.O.Output.stream c.args.writer.now).contents
-    (g.O.Output.stream c.serve-served.new.writer).contents c.serve-served.result serves.answers in (
+    let (stores, (last, serves)) = c.serve_lines-served.ensures.calls in
+    let by = served g.D.Disk store _ (λ old i text new told. told.replied) c.args.language stores (g.R.Read.remaining c.args.reader.now) (g.R.Read.remaining c.serve_lines-served.new.reader) (g.O.Output.stream c.args.writer.now).contents
+    (g.O.Output.stream c.serve_lines-served.new.writer).contents c.serve_lines-served.result serves.answers in (
       Ended c.args.disk store by.calls ∷ [],
       inr (
         store,
@@ -21,6 +21,6 @@ returns g c =
         c.in-Ok.ensures,
         by.made,
         ap disk_of (by.ends ∙ last) ∙ sym c.into_disk.ensures,
-        (c.serve-served.result, g.O.Output.stream c.serve-served.new.writer, by.told, c.end_session.ensures c.serve-served.ensures.output.caused),
+        (c.serve_lines-served.result, g.O.Output.stream c.serve_lines-served.new.writer, by.told, c.end_session.ensures c.serve_lines-served.ensures.output.caused),
       ),
     )

@@ -16,11 +16,11 @@ returns-clause-ok g c = λ text is line some.
           let came = w.in_ok-read_or_skip_payload-in-Whole.ensures.ok in
           let fed : c.args.fed ≡ Whole = search rules in
           rw (w.payload-is, w.ahead-is, w.reader-is)
-          (record { line = text; fed = Whole; asked = option_map asked request; payload = came.0 }, holds_whole text request _ _ came.0 line (rw fed at some) right came.1 (rw w.payload_len.ensures at came.2), refl, sym fed, came.3)
+          (record { line = text; fed = Whole; asked = option_map asked request; payload = came.0 }, holds_whole c.args.language text request _ _ came.0 line (rw fed at some) right came.1 (rw w.payload_len.ensures at came.2), refl, sym fed, came.3)
       | in-Cut w ↦
           let fed : c.args.fed ≡ Cut = search rules in
           rw (w.payload-is, w.ahead-is, w.reader-is)
-          (record { line = text; fed = Cut; asked = option_map asked request; payload = [] }, holds_cut text request line (some fed) right, refl, sym fed, nothing_taken _ _)
+          (record { line = text; fed = Cut; asked = option_map asked request; payload = [] }, holds_cut c.args.language text request line (some fed) right, refl, sym fed, nothing_taken _ _)
     ]
 
 pub returns-clause-quit : goal.returns-clause-quit

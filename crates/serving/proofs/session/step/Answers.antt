@@ -20,7 +20,7 @@ returns-then-is_over-clause-calls g c =
     let over = (c.is_over.ensures line.0 line.2).0 c.if-is_over.true in
     let none : c.read_line.new.ahead.bytes ≡ [] = search rules in
     let end : IsAtEnd (g.R.Read.remaining c.read_line.new.reader) = search rules in
-    ([], (refl, ([], [], ends_none c.read_line.new.ahead.bytes _ _ (rw (over.1, over.0) at line.3) none end, Appends-nil _, refl)))
+    ([], (refl, ([], [], ends_none c.args.language c.read_line.new.ahead.bytes _ _ (rw (over.1, over.0) at line.3) none end, Appends-nil _, refl)))
 
 pub returns-in_default-read_item-clause-calls : goal.returns-in_default-read_item-clause-calls
 returns-in_default-read_item-clause-calls g c =
@@ -34,7 +34,7 @@ answer-reply-requires g c =
     let line = c.in-Ok.ensures.ok in
     let some : c.in-Ok.fed ≡ Cut → line.0 ≢ [] = λ cut empty. both_ways c.is_over.result c.if-is_over.false ((c.is_over.ensures line.0 line.2).1 (cut, empty)) in
     let found = c.in-Ok-read_item.ensures.ok line.0 line.2 line.1 some in
-    (found.0, found.1)
+    (c.args.language, found.0, found.1)
 
 pub returns-then-has_failed-clause-calls : goal.returns-then-has_failed-clause-calls
 returns-then-has_failed-clause-calls g c =
@@ -49,7 +49,7 @@ returns-then-has_failed-clause-calls g c =
       laws = record { is_call = g.met.E.Engine.is_call; stays = g.met.E.Engine.stays; in_turn = g.met.E.Engine.in_turn; weaker = g.met.E.Engine.weaker };
       same_side = g.met.E.Engine.same_side;
     })
-    c.args.engine.now engine i c.answer-reply.result found.1.item.asked (c.answer-reply.ensures i found.1) in
+    c.args.language c.args.engine.now engine i c.answer-reply.result found.1.item.asked (c.answer-reply.ensures c.args.language i found.1) in
     let wrote = begun (g.O.Output.stream c.args.writer.now) (g.O.Output.stream c.put_reply.new.self) c.answer-reply.result c.put_reply.ensures in (
       engine ∷ [],
       (refl, (i, c.in-Ok-read_item.item.extent, c.answer-reply.result, wrote.0, found.1.item, taken, wrote.1, one_reply (Answers g.E.Engine) c.args.engine.now i c.answer-reply.result engine answered)),
@@ -68,7 +68,7 @@ returns-clause-calls g c =
       laws = record { is_call = g.met.E.Engine.is_call; stays = g.met.E.Engine.stays; in_turn = g.met.E.Engine.in_turn; weaker = g.met.E.Engine.weaker };
       same_side = g.met.E.Engine.same_side;
     })
-    c.args.engine.now engine i c.answer-reply.result found.1.item.asked (c.answer-reply.ensures i found.1) in
+    c.args.language c.args.engine.now engine i c.answer-reply.result found.1.item.asked (c.answer-reply.ensures c.args.language i found.1) in
     let replied = one_reply (Answers g.E.Engine) c.args.engine.now i c.answer-reply.result engine answered in
     let wrote = (put_whole (g.O.Output.stream c.args.writer.now) (g.O.Output.stream c.put_reply.new.self) c.answer-reply.result c.put_reply.ensures
     (λ failed. both_ways c.has_failed.result c.if-has_failed.false (c.has_failed.ensures.1 failed))).whole in (
@@ -76,8 +76,8 @@ returns-clause-calls g c =
       (
         refl,
         elim c.if-is_last.branch [
-          | then-is_last w ↦ rw w.next-is (i ∷ [], c.answer-reply.result, ends_last _ _ _ i _ _ taken found.1.asked found.1.item c.in-Ok-read_item.ensures.cut (c.is_last.ensures.0 w.if-is_last.true), wrote, replied)
-          | else-is_last w ↦ rw w.next-is (i, c.answer-reply.result, goes_on i _ _ found.1.asked found.1.item (λ last. both_ways c.is_last.result w.if-is_last.false (c.is_last.ensures.1 last)), taken, wrote, replied)
+          | then-is_last w ↦ rw w.next-is (i ∷ [], c.answer-reply.result, ends_last c.args.language _ _ _ i _ _ taken found.1.asked found.1.item c.in-Ok-read_item.ensures.cut (c.is_last.ensures.0 w.if-is_last.true), wrote, replied)
+          | else-is_last w ↦ rw w.next-is (i, c.answer-reply.result, goes_on c.args.language i _ _ found.1.asked found.1.item (λ last. both_ways c.is_last.result w.if-is_last.false (c.is_last.ensures.1 last)), taken, wrote, replied)
         ],
       ),
     )
@@ -116,6 +116,6 @@ returns-clause-end g c ended =
     let fed : c.in-Ok.fed ≡ Whole = sym found.3 ∙ whole in
     subst (λ (a : Lookahead). IsNear a.bytes) (sym (c.in-Ok-read_item.ensures.quit fed quit).0) (c.in-Ok.ensures.near (cc)) in
     elim c.if-is_last.branch [
-      | then-is_last w ↦ ends_reading _ _ _ i _ _ taken found.1.asked found.1.item c.in-Ok-read_item.ensures.cut near (c.is_last.ensures.0 w.if-is_last.true)
+      | then-is_last w ↦ ends_reading c.args.language _ _ _ i _ _ taken found.1.asked found.1.item c.in-Ok-read_item.ensures.cut near (c.is_last.ensures.0 w.if-is_last.true)
       | else-is_last w ↦ absurd (let more = w.next-is in cc)
     ]

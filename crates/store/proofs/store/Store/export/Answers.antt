@@ -1,10 +1,9 @@
 use Rattle.std.proofs.Common.{ℕ, Result, true≢false, refl, sym, ap, ◌∙◌, ◌≡◌}
 use Rattle.std.specs.Prelude.{None, Ok, Err}
 use Rattle.std.specs.Global.{Vec}
-use Rattle.std.proofs.lemmas.Bool.{both_ways}
 use Rattle.disk.specs.Disk.{HasRisen}
 use Rattle.lattice.specs.declared.refusal.Refusal.{Refusal}
-use Rattle.lattice.specs.declared.refusal.Refusal.TheVariants.{Device, NoMemory, NoTile}
+use Rattle.lattice.specs.declared.refusal.Refusal.TheVariants.{Device, NoMemory}
 use Rattle.engine.specs.State.{failing}
 use Rattle.engine.proofs.Questions.{export_asked}
 use Rattle.page_map.proofs.Lookup.{tile_at_corner}
@@ -12,7 +11,8 @@ use Rattle.cow_tree.proofs.ReadOnly.{never_refused}
 use Rattle.store.specs.Queried.{IsQueried}
 use Rattle.store.proofs.EditingSteps.{refused_as}
 use Rattle.store.proofs.Querying.{queried_by_disk, stays_at, still_clean, still_at, failing_at, fails_so}
-use Rattle.store.proofs.QueryingPages.{no_tile_of, tile, tile_of, exported}
+use Rattle.store.proofs.AskedTiles.{no_tile}
+use Rattle.store.proofs.QueryingPages.{tile, tile_of, exported}
 use Rattle.store.proofs.StoreCalls.{asked, asked_in_vain, denied, refused_it}
 use Rattle.store.proofs.store.Store.export.Goals as goal
 
@@ -20,14 +20,10 @@ pub returns-in_err-check_working-clause-call : goal.returns-in_err-check_working
 returns-in_err-check_working-clause-call g c =
     denied g.D.Disk g.met.D.Disk.only_now c.args.self.now (export_asked c.args.corner) refl (λ s is. is) c.from_residual.result c.in_err-check_working.field-0.0 c.from_residual.ensures.1 c.in_err-check_working.ensures.failed
 
-pub returns-then-not-present-clause-call : goal.returns-then-not-present-clause-call
-returns-then-not-present-clause-call g c =
-    let d = g.D.Disk in
-    let store = c.args.self.now in
-    let works = c.in_ok-check_working.ensures.works in
-    refused_it d g.met.D.Disk.only_now store (export_asked c.args.corner) works NoTile (λ e. cc) (λ e. cc) refl
-    (λ honest s at.
-    (stays_at d store.tree works s at.in_state, no_tile_of d store.tree works s at.in_state c.args.corner (λ has. both_ways c.present.result c.if-not-present.true (c.present.ensures.answer.1 has))))
+pub returns-in_err-check_present-clause-call : goal.returns-in_err-check_present-clause-call
+returns-in_err-check_present-clause-call g c =
+    no_tile g.D.Disk g.met.D.Disk.only_now c.args.self.now (export_asked c.args.corner) refl c.args.corner c.in_ok-check_working.ensures.works (λ s is. is)
+    c.from_residual-in_err-check_present.result c.in_err-check_present.field-0.0 c.from_residual-in_err-check_present.ensures.1 c.in_err-check_present.ensures.refused
 
 pub returns-in_default-clause-call : goal.returns-in_default-clause-call
 returns-in_default-clause-call g c =
@@ -45,7 +41,7 @@ invariant_of-self g c =
     record { clean = still_clean d old.tree new c.in_ok-check_working.ensures.works keeps old.clean }
 
 pub read_plane-requires-clause-held : goal.read_plane-requires-clause-held
-read_plane-requires-clause-held g c = tile_at_corner c.args.corner c.args.self.now.tree.page_map.staged (c.present.ensures.answer.0 c.if-not-present.false)
+read_plane-requires-clause-held g c = tile_at_corner c.args.corner c.args.self.now.tree.page_map.staged c.in_ok-check_present.ensures.present
 
 pub returns-in_err-read_plane-clause-call : goal.returns-in_err-read_plane-clause-call
 returns-in_err-read_plane-clause-call g c =
@@ -71,7 +67,7 @@ returns-clause-call g c =
     let old = c.args.self.now.tree in
     let new = c.read_plane.new.tree in
     let works = c.in_ok-check_working.ensures.works in
-    let present = c.present.ensures.answer.0 c.if-not-present.false in
+    let present = c.in_ok-check_present.ensures.present in
     let reads = c.in_ok-read_plane.ensures.reads in
     let bytes : Vec ℕ = c.read_plane.new.bytes in
     let is : IsQueried {T = Vec ℕ} d old new (Ok bytes) = queried_by_disk d old new works reads.keeps (Ok bytes) (λ is. absurd (never_refused bytes Device is)) reads.not_failed tt tt in

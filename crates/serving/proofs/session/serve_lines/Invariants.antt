@@ -4,13 +4,13 @@ use Rattle.lines.specs.Ahead.{to_come, weight}
 use Rattle.serving.specs.Outputs.{HasLeft}
 use Rattle.serving.specs.Promises.{Answers}
 use Rattle.serving.specs.Session.{SoFar}
-use Rattle.serving.proofs.session.serve.Given as goal
+use Rattle.serving.proofs.session.serve_lines.Given as goal
 
 -- what was answered so far, without a failure of the output, and all of it has left
 abbrev pub invariant-items : goal.invariant-items
 invariant-items g l = ((g.O.Output.stream l.writer).failures ≡ (g.O.Output.stream l.fn.writer).failures)
     × ((engines : List _) × ((last_of l.fn.engine engines ≡ l.engine)
-    × SoFar (Answers g.E.Engine) (g.R.Read.remaining l.fn.reader) (to_come l.ahead (g.R.Read.remaining l.reader)) (g.O.Output.stream l.fn.writer).contents (g.O.Output.stream l.writer).contents l.fn.engine engines))
+    × SoFar l.fn.language (Answers g.E.Engine) (g.R.Read.remaining l.fn.reader) (to_come l.ahead (g.R.Read.remaining l.reader)) (g.O.Output.stream l.fn.writer).contents (g.O.Output.stream l.writer).contents l.fn.engine engines))
     × HasLeft (g.O.Output.stream l.fn.writer) (g.O.Output.stream l.writer)
 
 abbrev pub decreases-items : goal.decreases-items

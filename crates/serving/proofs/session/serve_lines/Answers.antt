@@ -7,10 +7,10 @@ use Rattle.serving.specs.declared.session.Next.TheVariants.{More, End}
 use Rattle.serving.proofs.OutputLemmas.{still_left}
 use Rattle.serving.proofs.Runs.{serves}
 use Rattle.serving.proofs.SessionLemmas.{so_far_none, so_far_more, so_far_end, so_far_fault, reads_no_further, last_of-append}
-use Rattle.serving.proofs.session.serve.Goals as goal
+use Rattle.serving.proofs.session.serve_lines.Goals as goal
 
 pub items-init : goal.items-init
-items-init g c = (refl, ([], (refl, so_far_none (Answers g.E.Engine) c.new-ahead.result.bytes _ _ c.args.engine.now c.new-ahead.ensures.bytes)), inl refl)
+items-init g c = (refl, ([], (refl, so_far_none c.args.language (Answers g.E.Engine) c.new-ahead.result.bytes _ _ c.args.engine.now c.new-ahead.ensures.bytes)), inl refl)
 
 pub items-preserved : goal.items-preserved
 items-preserved g c =
@@ -22,7 +22,7 @@ items-preserved g c =
         before.0 ++ next.0,
         (
           last_of-append _ before.0 next.0 ∙ ap (λ e. last_of e next.0) before.1.0 ∙ next.1.0,
-          so_far_more (Answers g.E.Engine) _ _ _ _ _ _ c.args.engine.now _ before.0 next.0 before.1.0 before.1.1 (rw more at next.1.1),
+          so_far_more c.args.language (Answers g.E.Engine) _ _ _ _ _ _ c.args.engine.now _ before.0 next.0 before.1.0 before.1.1 (rw more at next.1.1),
         ),
       ),
       still_left (g.O.Output.stream c.args.writer.now) _ _ c.items.invariant.2 c.in-Ok-More.ensures.left,
@@ -33,7 +33,7 @@ returns-in-Ok-End-clause-calls g c =
     let before = c.items.invariant.1 in
     let next = c.in-Ok-End.ensures.calls in
     let end : c.in-Ok-End.field-0 ≡ End = search rules in
-    let outcome = so_far_end (Answers g.E.Engine) _ _ (to_come c.step.new.ahead (g.R.Read.remaining c.step.new.reader)) (g.R.Read.remaining c.step.new.reader) _ _ _ c.args.engine.now _ before.0 next.0 before.1.0 before.1.1 (rw end at next.1.1) in (
+    let outcome = so_far_end c.args.language (Answers g.E.Engine) _ _ (to_come c.step.new.ahead (g.R.Read.remaining c.step.new.reader)) (g.R.Read.remaining c.step.new.reader) _ _ _ c.args.engine.now _ before.0 next.0 before.1.0 before.1.1 (rw end at next.1.1) in (
       before.0 ++ next.0,
       (
         last_of-append _ before.0 next.0 ∙ ap (λ e. last_of e next.0) before.1.0 ∙ next.1.0,
@@ -42,7 +42,7 @@ returns-in-Ok-End-clause-calls g c =
               laws = record { is_call = g.met.E.Engine.is_call; stays = g.met.E.Engine.stays; in_turn = g.met.E.Engine.in_turn; weaker = g.met.E.Engine.weaker };
               same_side = g.met.E.Engine.same_side;
             })
-            _ _ _ _ c.args.engine.now (before.0 ++ next.0) (Ok tt) outcome,
+            c.args.language _ _ _ _ c.args.engine.now (before.0 ++ next.0) (Ok tt) outcome,
       ),
     )
 
@@ -51,7 +51,7 @@ returns-in-Err-clause-calls g c =
     let before = c.items.invariant.1 in
     let next = c.in-Err.ensures in
     let calls = next.calls in
-    let outcome = so_far_fault (Answers g.E.Engine) _ _ _ _ _ c.step.new.ahead.bytes (g.R.Read.remaining c.step.new.reader) c.args.engine.now _ before.0 calls.0 c.in-Err.fault before.1.0 before.1.1 next.none_ahead calls.1.1 in (
+    let outcome = so_far_fault c.args.language (Answers g.E.Engine) _ _ _ _ _ c.step.new.ahead.bytes (g.R.Read.remaining c.step.new.reader) c.args.engine.now _ before.0 calls.0 c.in-Err.fault before.1.0 before.1.1 next.none_ahead calls.1.1 in (
       before.0 ++ calls.0,
       (
         last_of-append _ before.0 calls.0 ∙ ap (λ e. last_of e calls.0) before.1.0 ∙ calls.1.0,
@@ -60,7 +60,7 @@ returns-in-Err-clause-calls g c =
               laws = record { is_call = g.met.E.Engine.is_call; stays = g.met.E.Engine.stays; in_turn = g.met.E.Engine.in_turn; weaker = g.met.E.Engine.weaker };
               same_side = g.met.E.Engine.same_side;
             })
-            _ _ _ _ c.args.engine.now (before.0 ++ calls.0) (Err c.in-Err.fault) outcome,
+            c.args.language _ _ _ _ c.args.engine.now (before.0 ++ calls.0) (Err c.in-Err.fault) outcome,
       ),
     )
 
@@ -87,4 +87,4 @@ pub returns-in-Ok-End-clause-end : goal.returns-in-Ok-End-clause-end
 returns-in-Ok-End-clause-end g c =
     let before = c.items.invariant.1 in
     let end : c.in-Ok-End.field-0 ≡ End = search rules in
-    reads_no_further (Answers g.E.Engine) _ _ _ _ c.step.new.ahead.bytes (g.R.Read.remaining c.step.new.reader) c.args.engine.now before.0 before.1.1 (c.in-Ok-End.ensures.end (cc))
+    reads_no_further c.args.language (Answers g.E.Engine) _ _ _ _ c.step.new.ahead.bytes (g.R.Read.remaining c.step.new.reader) c.args.engine.now before.0 before.1.1 (c.in-Ok-End.ensures.end (cc))

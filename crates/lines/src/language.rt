@@ -1,0 +1,35 @@
+//! The languages that lines are written in.
+ghost use Rattle.std.specs.Prelude.{◌↔◌, IsTrue};
+ghost use Rattle.lines.specs.Grammar.{IsIn};
+ghost use Rattle.lines.specs.Languages.{PlainIsAPart};
+
+use crate::keyword::Keyword;
+
+/// Which words lines may begin with.
+#[derive(Clone, Copy, Debug, PartialEq, Eq)]
+pub enum Language {
+    /// Those of the program `mosaic`.
+    Plain,
+    /// Those too that ask about all samples of a tile at once.
+    Tiles,
+}
+
+impl Language {
+    /// Whether it has the command.
+    pub(crate) fn has(self, command: Keyword) -> bool
+        ensures { IsTrue result ↔ IsIn self command }
+    {
+        match command {
+            Keyword::Levels | Keyword::Directions => self == Language::Tiles,
+            _ => true,
+        }
+    }
+}
+
+/// Each line of the plain language asks for the same in the other one, and never for all samples of a tile; and each line that
+/// the other one has besides begins with a word for these.
+///
+/// The function does nothing: its contract is the law.
+pub fn plain_lines_ask_for_no_tile_at_once()
+    ensures { PlainIsAPart }
+{}

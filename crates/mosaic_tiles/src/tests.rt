@@ -1,0 +1,188 @@
+//! What the program replies of all samples of a tile, and the files that it makes.
+use crate::run;
+use engine::Engine;
+use lattice::{Refusal, VOID, point_at};
+use memory_store::store_in_memory;
+use server::{CheckedWriter, FilePlaces, Language, TableEngine, program, serve_lines};
+use std::alloc::{AllocError, Global};
+use std::fs;
+use std::marker::Brand;
+use std::process::Abort;
+use std::test::Fail;
+use test_tiles::lines_of;
+
+fn owned(alloc: Global, words: &[&str]) -> Result<Vec<String>, AllocError> {
+    let mut list = Vec::new(alloc);
+    for word in words {
+        list.push(String::from_str(alloc, word)?)?;
+    }
+    Ok(list)
+}
+
+/// Whether the program ends so with these words, of which the input and what it writes are lines.
+fn ends(
+    rt: &HostRuntime,
+    words: &[&str],
+    input: &[&str],
+    status: u8,
+    wanted: &[&str],
+) -> Result<bool, Fail> {
+    let words = owned(rt.alloc(), words)?;
+    let input = lines_of(rt.alloc(), input)?;
+    let mut reader = input.as_slice();
+    let mut writer = CheckedWriter::new(Vec::new(rt.alloc()));
+    let found = run(rt, &words, &mut reader, &mut writer);
+    let written = lines_of(rt.alloc(), wanted)?;
+    Ok(found == status && writer.into_inner() == written)
+}
+
+// A `$` at the end of a text: no LF ends it. Each point of a lone tile of side 3 but the middle is an outlet: of A, 9 9 9 /
+// 9 1 9 / 9 9 5, the middle is filled to 5, and of H, 9 9 9 / 8 9 9 / 9 9 9, all that touch the notch drain to it.
+#[test]
+fn tiles_by_lines(rt: HostRuntime) -> Result<(), Fail> {
+    let lines = [
+        "levels N00E000",
+        "import N00E000 $A",
+        "levels n00e000",
+        "import N45E045 $H",
+        "directions N45E045",
+        "levels N0",
+        "directions S45E045",
+        "levels",
+        "directions  N00E000",
+        "count",
+    ];
+    let wanted = [
+        "ERR 5 NoTile",
+        "OK 1",
+        "OK 18\n\0\x09\0\x09\0\x09\0\x09\0\x05\0\x09\0\x09\0\x09\0\x05$",
+        "OK 2",
+        "OK 9\n\x04\x08\0\0\x10\0\x40\x20\0$",
+        "ERR 2 BadName",
+        "ERR 5 NoTile",
+        "ERR 1 BadLine",
+        "ERR 1 BadLine",
+        "OK 2",
+    ];
+    assert!(rt; ends(&rt, &["table", "3", "4"], &lines, 0, &wanted)?);
+    Ok(())
+}
+
+#[test]
+fn mosaic_has_no_such_words(rt: HostRuntime) -> Result<(), Fail> {
+    let words = owned(rt.alloc(), &["table", "3", "4"])?;
+    let mut reader: &[u8] = b"levels N00E000\ndirections x\ncount\n";
+    let mut writer = CheckedWriter::new(Vec::new(rt.alloc()));
+    let mut places = FilePlaces::<Brand>::new(&rt);
+    let _ = program(rt.alloc(), &mut places, &words, &mut reader, &mut writer);
+    let wanted: &[u8] = b"ERR 1 BadLine\nERR 1 BadLine\nOK 0\n";
+    assert_eq!(rt; writer.into_inner().as_slice(), wanted);
+    Ok(())
+}
+
+/// Whether what the engine answers of each tile is what it answers of its points.
+fn tells_points<E: Engine>(engine: &mut E) -> Result<bool, Refusal> {
+    let side = engine.side();
+    let mut holds = true;
+    for corner in engine.tiles()? {
+        let levels = engine.levels(corner)?;
+        let codes = engine.directions(corner)?;
+        for index in 0..side.area() {
+            let point = point_at(side, corner, index);
+            let level = engine.fill(point).unwrap_or(VOID);
+            let code = engine.direction(point).unwrap_or(255);
+            let at = index as usize;
+            holds = holds && levels.get(at) == Some(&level) && codes.get(at) == Some(&code);
+        }
+    }
+    Ok(holds)
+}
+
+/// Imports tiles that share edges, with voids and flats, and a sink, and asks.
+fn check_points<E: Engine>(rt: &impl Abort, alloc: Global, engine: &mut E) -> Result<(), Fail> {
+    let lines = [
+        "import N00E000 $L",
+        "import N00E001 $D",
+        "import S01E000 $I",
+        "import S01E001 $F",
+        "sink 0 2",
+    ];
+    let input = lines_of(alloc, &lines)?;
+    let mut reader = input.as_slice();
+    let mut writer = CheckedWriter::new(Vec::new(alloc));
+    serve_lines(alloc, Language::Tiles, &mut reader, &mut writer, engine)?;
+    assert_eq!(rt; engine.count(), 5);
+    assert!(rt; tells_points(engine)?);
+    Ok(())
+}
+
+#[test]
+fn samples_as_their_points(rt: HostRuntime) -> Result<(), Fail> {
+    let alloc = rt.alloc();
+    let mut store = store_in_memory(alloc, 60, 3, 4)?;
+    let mut table = TableEngine::new(alloc, store.tile_side(), 4);
+    check_points(&rt, alloc, &mut store)?;
+    check_points(&rt, alloc, &mut table)
+}
+
+#[test]
+fn files_of_tiles(rt: HostRuntime) -> Result<(), Fail> {
+    let store = "mosaic_tiles_test";
+    let files = ["./N00E000.hgt", "./N00E000.dir", store];
+    for file in files {
+        let _ = fs::remove_file(&rt, file);
+    }
+    let lines = ["import N00E000 $V"];
+    let all = [
+        ends(&rt, &["format", store, "3", "2"], &[], 0, &["OK 0"])?,
+        ends(&rt, &["serve", store], &lines, 0, &["OK 1"])?,
+        ends(
+            &rt,
+            &["write", store, "levels", "all", "."],
+            &[],
+            0,
+            &["OK 1"],
+        )?,
+        ends(
+            &rt,
+            &["write", store, "directions", "n00e000", "."],
+            &[],
+            0,
+            &["OK 1"],
+        )?,
+        ends(
+            &rt,
+            &["write", store, "levels", "all", "."],
+            &[],
+            1,
+            &["mosaic: cannot open ./N00E000.hgt"],
+        )?,
+        ends(
+            &rt,
+            &["write", store, "directions", "N01E000", "."],
+            &[],
+            1,
+            &["ERR 5 NoTile"],
+        )?,
+        ends(
+            &rt,
+            &["write", store, "heights", "all", "."],
+            &[],
+            2,
+            &["mosaic: bad arguments"],
+        )?,
+    ];
+    for (row, holds) in all.iter().enumerate() {
+        assert!(rt; *holds, "files of tiles, {row}");
+    }
+    assert_eq!(rt;
+        fs::read(&rt, files[0])?.as_slice(),
+        test_tiles::V.as_slice()
+    );
+    let codes: &[u8] = &[0, 0, 0, 0, 255, 0, 0, 0, 0];
+    assert_eq!(rt; fs::read(&rt, files[1])?.as_slice(), codes);
+    for file in files {
+        fs::remove_file(&rt, file)?;
+    }
+    Ok(())
+}

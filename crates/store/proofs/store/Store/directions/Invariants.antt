@@ -1,0 +1,7 @@
+use Rattle.cow_tree.specs.Reading.{mosaic_of}
+use Rattle.drainage.specs.Between.{IsHeldOf}
+use Rattle.store.proofs.store.Store.directions.Given as goal
+
+-- what is held now is right
+abbrev pub ghosts-ask_directions : goal.ghosts-ask_directions
+ghosts-ask_directions g a = record { holds = IsHeldOf (mosaic_of g.D.Disk a.tree.now) a.held.now }

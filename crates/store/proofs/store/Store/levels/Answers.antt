@@ -1,0 +1,22 @@
+use Rattle.std.proofs.Common.{refl}
+use Rattle.engine.proofs.Questions.{levels_asked}
+use Rattle.store.proofs.AskedTiles.{no_tile}
+use Rattle.store.proofs.Querying.{right_at}
+use Rattle.store.proofs.StoreCalls.{asked, denied}
+use Rattle.store.proofs.store.Store.levels.Goals as goal
+
+pub returns-in_err-check_working-clause-call : goal.returns-in_err-check_working-clause-call
+returns-in_err-check_working-clause-call g c =
+    denied g.D.Disk g.met.D.Disk.only_now c.args.self.now (levels_asked c.args.corner) refl (λ s is. is) c.from_residual.result c.in_err-check_working.field-0.0 c.from_residual.ensures.1 c.in_err-check_working.ensures.failed
+
+pub returns-in_err-check_present-clause-call : goal.returns-in_err-check_present-clause-call
+returns-in_err-check_present-clause-call g c =
+    no_tile g.D.Disk g.met.D.Disk.only_now c.args.self.now (levels_asked c.args.corner) refl c.args.corner c.in_ok-check_working.ensures.works (λ s is. is)
+    c.from_residual-in_err-check_present.result c.in_err-check_present.field-0.0 c.from_residual-in_err-check_present.ensures.1 c.in_err-check_present.ensures.refused
+
+pub returns-clause-call : goal.returns-clause-call
+returns-clause-call g c =
+    let old = c.args.self.now in
+    let is = c.ask_levels.ensures in
+    asked g.D.Disk old _ (levels_asked c.args.corner) c.ask_levels.result is.causes is.asked.reads
+    (λ honest s at. is.asked.outcome (right_at g.D.Disk old.tree c.in_ok-check_working.ensures.works s at.in_state old.held at.right) honest s at)

@@ -1,0 +1,7 @@
+use Rattle.cow_tree.specs.Reading.{mosaic_of}
+use Rattle.drainage.specs.Between.{IsHeldOf}
+use Rattle.store.proofs.store.Store.levels.Given as goal
+
+-- what is held now is right
+abbrev pub ghosts-ask_levels : goal.ghosts-ask_levels
+ghosts-ask_levels g a = record { holds = IsHeldOf (mosaic_of g.D.Disk a.tree.now) a.held.now }
