@@ -18,6 +18,8 @@ mod commands;
 #[cfg(test)]
 mod counting;
 #[cfg(test)]
+mod examples;
+#[cfg(test)]
 mod line_tests;
 #[cfg(test)]
 mod region;

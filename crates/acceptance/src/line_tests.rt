@@ -5,7 +5,7 @@ use edits::Command;
 use engine::Event;
 use lattice::{Corner, Point, Refusal};
 use lines::{
-    Ahead, Extent, Line, Request, Text, read_line, read_payload, request_of, skip_payload,
+    Ahead, Extent, Language, Line, Request, Text, read_line, read_payload, request_of, skip_payload,
 };
 use std::alloc::{AllocError, Global};
 use std::io::{self, Read};
@@ -44,7 +44,7 @@ fn asked(line: &[u8]) -> Option<Request<'_>> {
     if line.len() > 2048 {
         return None;
     }
-    request_of(line)
+    request_of(Language::Plain, line)
 }
 
 /// The point of an elevation or of a sink.

@@ -243,8 +243,6 @@ fn a_file_is_one_disk_at_a_time(rt: HostRuntime) -> Result<(), Fail> {
     let made = FileDisk::<Brand>::create(&rt, path, 2)?;
     let second = kind_of(FileDisk::<Brand>::open(&rt, path));
     assert!(rt; second == Some(ErrorKind::WouldBlock));
-    let grown = kind_of(FileDisk::<Brand>::grow(&rt, path, 3));
-    assert!(rt; grown == Some(ErrorKind::WouldBlock));
     drop(made);
     let opened = FileDisk::<Brand>::open(&rt, path)?;
     assert!(rt; opened.sectors() == 2);
@@ -259,7 +257,8 @@ fn a_file_is_one_disk_at_a_time(rt: HostRuntime) -> Result<(), Fail> {
 fn a_file_grows_by_sectors_of_zeros(rt: HostRuntime) -> Result<(), Fail> {
     let path = "disk_test_grow";
     fs::write(&rt, path, [5; 4097].as_slice())?;
-    let disk = FileDisk::<Brand>::grow(&rt, path, 3)?;
+    let mut disk = FileDisk::<Brand>::open(&rt, path)?;
+    disk.lengthen(3)?;
     assert_eq!(rt; disk.sectors(), 3);
     drop(disk);
     let bytes = fs::read(&rt, path)?;
@@ -270,9 +269,9 @@ fn a_file_grows_by_sectors_of_zeros(rt: HostRuntime) -> Result<(), Fail> {
     ];
     assert_all(&rt, &all, "a file that grew");
     fs::write(&rt, path, [5; 8195].as_slice())?;
-    FileDisk::<Brand>::grow(&rt, path, 2)?;
+    FileDisk::<Brand>::open(&rt, path)?.lengthen(2)?;
     assert!(rt; fs::metadata(&rt, path)?.len() == 8195);
-    let missing = kind_of(FileDisk::<Brand>::grow(&rt, "disk_test_none", 2));
+    let missing = kind_of(FileDisk::<Brand>::open(&rt, "disk_test_none"));
     assert!(rt; missing == Some(ErrorKind::NotFound));
     fs::remove_file(&rt, path)?;
     Ok(())

@@ -12,6 +12,8 @@ mod asserting;
 #[cfg(test)]
 mod disks;
 #[cfg(test)]
+mod examples;
+#[cfg(test)]
 mod free_pages;
 #[cfg(test)]
 mod root_slots;

@@ -12,7 +12,7 @@ use page_codec::Format;
 use std::alloc::Global;
 use std::process::Abort;
 use std::test::Fail;
-use test_tiles::{A as FIRST, B as SECOND};
+use test_tiles::{A as FIRST, A_SAMPLES as FIRST_SAMPLES, B as SECOND};
 
 // Room for two tiles of side 3, each plane of which takes one page.
 const SECTORS: u32 = 24;
@@ -20,9 +20,7 @@ const SECTORS: u32 = 24;
 // As much by the second version, where each plane takes an index page too.
 const SECTORS_UPGRADED: u32 = 34;
 
-// The samples of the two tiles.
-const FIRST_SAMPLES: [i16; 9] = [9, 9, 9, 9, 1, 9, 9, 9, 5];
-
+// The samples of the second tile.
 const SECOND_SAMPLES: [i16; 9] = [9, 9, 9, 9, 1, 1, 9, 9, 9];
 
 fn corner(lon: i16) -> Result<Corner, Fail> {
@@ -53,7 +51,7 @@ fn opened<D: Disk + Drop>(alloc: Global, disk: D) -> Result<Tree<D>, Fail>
 }
 
 // Adds a tile in a commit of its own.
-fn add_tile<D: Disk>(tree: &mut Tree<D>, c: Corner, bytes: &[u8]) -> Result<(), Refusal>
+fn add_tile<D: Disk>(tree: &mut Tree<D>, corner: Corner, bytes: &[u8]) -> Result<(), Refusal>
     requires { corners_of tree.old ≡ map (λ e. e.corner) (root_of tree.old).entries }
     ensures { OnOk result (corners_of tree.new ≡ map (λ e. e.corner) (root_of tree.new).entries) }
 {
@@ -65,11 +63,12 @@ fn add_tile<D: Disk>(tree: &mut Tree<D>, c: Corner, bytes: &[u8]) -> Result<(), 
     if !has_room || number == u64::MAX || number < count || bytes.len() != 2 * side * side {
         return Err(Refusal::Full);
     }
-    if tree.has_failed() || tree.present(c) {
+    if tree.has_failed() || tree.present(corner) {
         return Err(Refusal::TileThere);
     }
-    tree.stage_plane(c, Plane::Heights, bytes)?;
-    tree.commit(count)
+    tree.stage_plane(corner, Plane::Heights, bytes)?;
+    tree.commit(count)?;
+    Ok(())
 }
 
 // Opens the disk and adds two tiles, up to the first call that is refused.

@@ -15,6 +15,8 @@ mod change;
 #[cfg(test)]
 mod cuts;
 #[cfg(test)]
+mod examples;
+#[cfg(test)]
 mod fixtures;
 #[cfg(test)]
 mod real_tiles;

@@ -2,10 +2,11 @@
 use super::asserting::assert_found;
 use super::fixtures::{EAST, HERE, at, exports, import, opened};
 use super::writes::make_counted;
-use disk::MemDisk;
+use disk::{Disk, MemDisk};
 use lattice::{Corner, Height};
 use memory_store::store_in_memory;
 use std::alloc::Global;
+use std::ops::Range;
 use std::test::Fail;
 use store::Store;
 
@@ -58,13 +59,43 @@ fn import_counted(alloc: Global, disk: MemDisk, bytes: &[u8]) -> Result<(MemDisk
     Ok((disk, writes))
 }
 
+// How many of these sectors hold so many bytes, those at the end of the tile, and zeros behind them.
+fn last_pages(
+    disk: &mut MemDisk,
+    sectors: Range<u32>,
+    tile: &[u8],
+    used: usize,
+) -> Result<u32, Fail> {
+    let end = tile.get(tile.len().saturating_sub(used)..).unwrap_or(&[]);
+    let mut page = [0; 4096];
+    for (byte, given) in page.iter_mut().zip(end) {
+        *byte = *given;
+    }
+    let mut count = 0u32;
+    let mut found = [0; 4096];
+    for sector in sectors {
+        if sector < disk.sectors() {
+            disk.read(sector, &mut found)?;
+        }
+        count = count.saturating_add(u32::from(found == page));
+    }
+    Ok(count)
+}
+
 #[test]
 fn a_tile_of_the_first_version_is_written_once(rt: HostRuntime) -> Result<(), Fail> {
     let alloc = rt.alloc();
     let mut disk = MemDisk::new(alloc, 4240)?;
     Store::format_1(&mut disk, 1201, 1)?;
-    let (disk, writes) = import_counted(alloc, disk, &tile(alloc, 0)?)?;
+    let bytes = tile(alloc, 0)?;
+    let (mut disk, writes) = import_counted(alloc, disk, &bytes)?;
     assert_found(&rt, &"an import", &writes, &708);
+    assert_found(
+        &rt,
+        &"last pages",
+        &last_pages(&mut disk, 0..4240, &bytes, 1218)?,
+        &1,
+    );
     make_counted(&rt, alloc, disk, &[("burn 1 600 600", 5)])?;
     Ok(())
 }
@@ -95,8 +126,14 @@ fn the_largest_tile_comes_back_is_burnt_and_kept_filled(rt: HostRuntime) -> Resu
     let alloc = rt.alloc();
     let disk = store_in_memory(alloc, LARGEST_SECTORS, LARGEST_SIDE, 1)?.into_disk();
     let bytes = slope(alloc, 0)?;
-    let (disk, writes) = import_counted(alloc, disk, &bytes)?;
+    let (mut disk, writes) = import_counted(alloc, disk, &bytes)?;
     assert_found(&rt, &"an import", &writes, &6342);
+    assert_found(
+        &rt,
+        &"last pages",
+        &last_pages(&mut disk, 6300..6400, &bytes, 2626)?,
+        &1,
+    );
     let mut store = opened(alloc, disk)?;
     // The last sample is in the last page.
     let is_back = exports(&mut store, HERE, &bytes)?

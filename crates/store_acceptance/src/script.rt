@@ -7,17 +7,14 @@ use edits::{Bytes, Command};
 use engine::{Event, Reply};
 use hgt::name_of;
 use lattice::Corner;
-use lines::{Request, format_reply, request_of};
+use lines::{Language, Request, format_reply, request_of};
 use serving::{CheckedWriter, serve};
 use std::alloc::Global;
 use std::process::Abort;
 use std::str::from_utf8;
 use std::test::Fail;
 use store::Store;
-use test_tiles::{expand, lines_of, split_payload};
-
-/// A text and its answer.
-pub(crate) type Said<'a> = (&'a str, &'a str);
+use test_tiles::{Said, expand, lines_of, split_payload};
 
 /// What a session of tiles of side 3 shows, how many there is room for, and its texts with their answers.
 pub(crate) struct Session<'a> {
@@ -113,7 +110,7 @@ pub(crate) fn command(alloc: Global, line: &str) -> Result<Command, Fail> {
     if line.len() > 2048 {
         return Err("no command".into());
     }
-    match request_of(line) {
+    match request_of(Language::Plain, line) {
         Some(Request::Ask(Event::Do(command))) => Ok(command),
         Some(Request::Import { name, .. }) => {
             let corner = name_of(name)?;

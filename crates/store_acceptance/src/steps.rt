@@ -1,49 +1,27 @@
 //! Steps, and which tiles commands leave stale.
 use super::change::{Row, prepared_disk};
 use super::fixtures::opened;
-use super::script::{Said, Session, are_answered, check_sessions};
+use super::script::{Session, are_answered, check_sessions};
 use super::stops::{MANY_CALLS, STOPS, make_with, stopped};
 use disk::MemDisk;
 use lattice::Refusal;
 use std::alloc::Global;
 use std::test::Fail;
+use test_tiles::Said;
 
-const STEPS: [Session; 3] = [
+const STEPS: [Session; 2] = [
     Session {
-        shows: "each stale tile is named once",
+        shows: "a tile beside another makes that stale",
         capacity: 4,
         said: &[
             ("import N00E000 $G", "OK 1"),
             ("step", "OK N00E000"),
-            ("step", "OK none"),
             ("import N00E001 $H", "OK 2"),
             ("stale", "OK 2 N00E000 N00E001"),
             ("step", "OK N00E000"),
             ("step", "OK N00E001"),
-            ("step", "OK none"),
             ("stale", "OK 0"),
-            ("count", "OK 2"),
             ("commits", "OK 6"),
-        ],
-    },
-    Session {
-        shows: "a wall leaves far tiles fresh",
-        capacity: 4,
-        said: &[
-            ("import N00E000 $B", "OK 1"),
-            ("import N00E001 $D", "OK 2"),
-            ("import N00E002 $D", "OK 3"),
-            ("import N00E003 $C", "OK 4"),
-            ("step", "OK N00E000"),
-            ("step", "OK N00E001"),
-            ("step", "OK N00E002"),
-            ("step", "OK N00E003"),
-            ("step", "OK none"),
-            ("fill 1 1", "OK 3"),
-            ("wall 5 1 8", "OK 5"),
-            ("stale", "OK 2 N00E002 N00E003"),
-            ("elev 1 8", "OK 5"),
-            ("fill 1 1", "OK 5"),
         ],
     },
     Session {

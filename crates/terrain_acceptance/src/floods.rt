@@ -5,6 +5,7 @@ use lattice::{Refusal, Side, VOID};
 use std::alloc::Global;
 use std::process::Abort;
 use std::test::Fail;
+use test_tiles::A_SAMPLES;
 use tile_flood::{Block, Flood, Labelled, NO_LABEL, OUT, Spill, raise, spills};
 
 fn block(alloc: Global, side: u32, heights: &[i16], sinks: &[u32]) -> Result<Block, Refusal> {
@@ -40,7 +41,7 @@ const FLOODS: [FloodRow; 4] = [
     FloodRow {
         shows: "a pit drains over the lowest rim point",
         side: 3,
-        heights: &[9, 9, 9, 9, 1, 9, 9, 9, 5],
+        heights: &A_SAMPLES,
         sinks: &[],
         levels: &[9, 9, 9, 9, 5, 9, 9, 9, 5],
         labels: &[(4, 7), (8, 7)],
@@ -48,9 +49,9 @@ const FLOODS: [FloodRow; 4] = [
     FloodRow {
         shows: "water leaves at a sink",
         side: 3,
-        heights: &[9, 9, 9, 9, 1, 9, 9, 9, 5],
+        heights: &A_SAMPLES,
         sinks: &[4],
-        levels: &[9, 9, 9, 9, 1, 9, 9, 9, 5],
+        levels: &A_SAMPLES,
         labels: &[(4, OUT), (8, 7)],
     },
     FloodRow {

@@ -1,11 +1,12 @@
 //! Directions over filled levels, by rows worked by hand: levels row by row from the north, tile after tile.
 use crate::asserting::{assert_found, assert_row};
 use crate::written::{are_points, at};
-use flow_d8::{Directions, Filled, TileFlows};
+use flow_d8::{Directions, Filled};
 use lattice::{Corner, Dir, Point, Refusal, Side, VOID};
 use std::alloc::Global;
 use std::process::Abort;
 use std::test::Fail;
+use test_tiles::A_SAMPLES;
 
 fn tiles(alloc: Global, corners: &[(i16, i16)]) -> Option<Vec<Corner>> {
     let mut tiles = Vec::new(alloc);
@@ -117,7 +118,7 @@ const WAYS_OUT: [Row; 3] = [
         shows: "water leaves at a sink with no lower neighbour",
         side: 3,
         corners: &[(0, 0)],
-        levels: &[9, 9, 9, 9, 1, 9, 9, 9, 5],
+        levels: &A_SAMPLES,
         sinks: &[Point { y: 1, x: 1 }],
         leads: &[
             (1, 1, None),
@@ -239,8 +240,7 @@ fn flats_drain_to_their_nearest_way_out(rt: HostRuntime) -> Result<(), Fail> {
 
 #[test]
 fn levels_that_lead_nowhere_are_damaged(rt: HostRuntime) {
-    let pit = [9, 9, 9, 9, 1, 9, 9, 9, 5];
-    let found = found(rt.alloc(), 3, &[(0, 0)], &pit, &[]);
+    let found = found(rt.alloc(), 3, &[(0, 0)], &A_SAMPLES, &[]);
     assert!(rt; found.err() == Some(Refusal::Damaged));
 }
 
@@ -248,31 +248,4 @@ fn levels_that_lead_nowhere_are_damaged(rt: HostRuntime) {
 fn levels_belong_to_tiles_in_order(rt: HostRuntime) {
     assert!(rt; filled(rt.alloc(), 3, &[(0, 1), (0, 0)], &[1; 18], &[]).is_none());
     assert!(rt; filled(rt.alloc(), 3, &[(0, 0)], &[1; 8], &[]).is_none());
-}
-
-#[test]
-fn flats_off_the_rim_of_a_tile_are_learnt_at_once(rt: HostRuntime) -> Result<(), Fail> {
-    let levels = [
-        [9, 9, 9, 9, 9, 9, 9],
-        [9, 5, 5, 5, 5, 5, 9],
-        [9, 5, 5, 5, 5, 5, 3],
-        [9, 5, 5, 5, 5, 5, 9],
-        [9, 9, 9, 9, 9, 9, 9],
-        [9, 7, 7, 7, 7, 7, 7],
-        [9, 9, 9, 9, 9, 9, 9],
-    ];
-    let side = Side::new(7).ok_or(Refusal::BadLength)?;
-    let corner = Corner::new(0, 0).ok_or(Refusal::BadLength)?;
-    let filled = filled(rt.alloc(), 7, &[(0, 0)], levels.as_flattened(), &[]).ok_or(
-        Refusal::BadLength,
-    )?;
-    let mut tile = TileFlows::new(rt.alloc(), side, corner)?;
-    tile.learn_all(rt.alloc(), &filled)?;
-    let downhill = tile.way(at(4, 5));
-    let across = tile.way(at(4, 1));
-    let to_the_rim = tile.way(at(1, 3));
-    assert!(rt; downhill == Some(Some(Dir::East)));
-    assert!(rt; across == Some(Some(Dir::East)));
-    assert!(rt; to_the_rim == None);
-    Ok(())
 }

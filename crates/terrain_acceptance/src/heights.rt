@@ -7,7 +7,7 @@ use lattice::{Corner, Refusal, Side};
 use std::alloc::Global;
 use std::process::Abort;
 use std::test::Fail;
-use test_tiles::{A, F, G, H, K, O, V};
+use test_tiles::{A, A_SAMPLES, F, G, H, K, O, V};
 
 const N00E000: Corner = Corner { lat: 0, lon: 0 };
 
@@ -155,7 +155,7 @@ fn a_table_takes_samples_and_lets_tiles_go(rt: HostRuntime) -> Result<(), Fail> 
     let mut table = table(rt.alloc(), &[(N00E001, H), (S01W001, A), (N00E000, G)])?;
     put(&mut table, N00E000, 4, -3);
     assert!(rt; has_tile(&table, N00E000, &[9, 9, 9, 9, -3, 7, 9, 9, 9]));
-    assert!(rt; removes(&mut table, S01W001, &[9, 9, 9, 9, 1, 9, 9, 9, 5]));
+    assert!(rt; removes(&mut table, S01W001, &A_SAMPLES));
     assert!(rt; table.remove(S01W001).is_none());
     assert!(rt; !table.present(S01W001));
     Ok(())

@@ -87,8 +87,9 @@ fn check(rt: &impl Abort, row: &Row, levels: &[Vec<i16>]) {
 fn tiles_raise_each_other_along_their_rims(rt: HostRuntime) -> Result<(), Fail> {
     let alloc = rt.alloc();
     for row in ROWS.iter() {
-        let pair = pair(alloc, row.west, row.east).ok_or("no memory")?;
-        check(&rt, row, &join(alloc, &pair)?);
+        let summaries = pair(alloc, row.west, row.east).ok_or("no memory")?;
+        let levels = join(alloc, &summaries)?;
+        check(&rt, row, &levels);
     }
     Ok(())
 }

@@ -11,6 +11,8 @@
 #[cfg(test)]
 mod asserting;
 #[cfg(test)]
+mod examples;
+#[cfg(test)]
 mod floods;
 #[cfg(test)]
 mod flow;

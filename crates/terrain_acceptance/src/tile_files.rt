@@ -3,16 +3,14 @@ use crate::asserting::assert_found;
 use hgt::*;
 use lattice::{Corner, Refusal, Side, VOID};
 use std::test::Fail;
-use test_tiles::A;
-
-const PIT: [i16; 9] = [9, 9, 9, 9, 1, 9, 9, 9, 5];
+use test_tiles::{A, A_SAMPLES};
 
 #[test]
 fn reads_and_writes_samples(rt: HostRuntime) -> Result<(), Fail> {
     let side = Side::new(3).ok_or("no side")?;
     let read = samples(rt.alloc(), &A, side)?;
-    assert!(rt; read.as_slice() == PIT.as_slice());
-    let written = bytes_of(rt.alloc(), &PIT)?;
+    assert!(rt; read.as_slice() == A_SAMPLES.as_slice());
+    let written = bytes_of(rt.alloc(), &A_SAMPLES)?;
     assert!(rt; written.as_slice() == A.as_slice());
     Ok(())
 }
@@ -39,10 +37,10 @@ fn refuses_other_lengths(rt: HostRuntime) {
 fn answers_without_memory(rt: HostRuntime) {
     let side = Side::new(3).expect(&rt, "3 is a side");
     match samples(rt.alloc(), &A, side) {
-        Ok(read) => assert!(rt; read.as_slice() == PIT.as_slice()),
+        Ok(read) => assert!(rt; read.as_slice() == A_SAMPLES.as_slice()),
         Err(refusal) => assert!(rt; refusal == Refusal::NoMemory),
     }
-    match bytes_of(rt.alloc(), &PIT) {
+    match bytes_of(rt.alloc(), &A_SAMPLES) {
         Ok(written) => assert!(rt; written.as_slice() == A.as_slice()),
         Err(refused) => assert!(rt; Refusal::from(refused) == Refusal::NoMemory),
     }

@@ -12,6 +12,9 @@ use std::alloc::{AllocError, Global};
 /// A pit that drains to the south-eastern corner: 9 9 9 / 9 1 9 / 9 9 5.
 pub const A: [u8; 18] = [0, 9, 0, 9, 0, 9, 0, 9, 0, 1, 0, 9, 0, 9, 0, 9, 0, 5];
 
+/// Its samples.
+pub const A_SAMPLES: [i16; 9] = [9, 9, 9, 9, 1, 9, 9, 9, 5];
+
 /// A valley that opens to the east: 9 9 9 / 9 1 1 / 9 9 9.
 pub const B: [u8; 18] = [0, 9, 0, 9, 0, 9, 0, 9, 0, 1, 0, 1, 0, 9, 0, 9, 0, 9];
 
@@ -172,6 +175,27 @@ pub fn lines_of(alloc: Global, texts: &[&str]) -> Result<Vec<u8>, AllocError> {
     let mut bytes = Vec::new(alloc);
     for text in texts {
         push_line(&mut bytes, text)?;
+    }
+    Ok(bytes)
+}
+
+/// A line and its reply.
+pub type Said<'a> = (&'a str, &'a str);
+
+/// The bytes of the lines.
+pub fn input_of(alloc: Global, said: &[Said]) -> Result<Vec<u8>, AllocError> {
+    let mut bytes = Vec::new(alloc);
+    for (line, _) in said {
+        push_line(&mut bytes, line)?;
+    }
+    Ok(bytes)
+}
+
+/// The bytes of the replies.
+pub fn output_of(alloc: Global, said: &[Said]) -> Result<Vec<u8>, AllocError> {
+    let mut bytes = Vec::new(alloc);
+    for (_, reply) in said {
+        push_line(&mut bytes, reply)?;
     }
     Ok(bytes)
 }

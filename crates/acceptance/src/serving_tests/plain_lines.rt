@@ -4,7 +4,7 @@ use edits::{Bytes, Command};
 use engine::{Event, Reply};
 use hgt::name_of;
 use lattice::{Corner, Point, Refusal, Side};
-use lines::{Request, format_reply, request_of};
+use lines::{Language, Request, format_reply, request_of};
 use reference::Plain;
 use std::alloc::{AllocError, Global};
 use std::test::Fail;
@@ -44,7 +44,7 @@ impl PlainLines {
         if line.len() > 2048 {
             return Ok(Reply::Refused(Refusal::BadLine));
         }
-        match request_of(line) {
+        match request_of(Language::Plain, line) {
             Some(Request::Ask(event)) => self.answer(&event),
             Some(Request::Import { name, .. }) => self.import(name, payload),
             Some(Request::BadName) => Ok(Reply::Refused(Refusal::BadName)),
@@ -72,6 +72,8 @@ impl PlainLines {
             | Event::Trace(point)
             | Event::Watershed(point) => Ok(told(event, self.answers(*point)?)),
             Event::Export(corner) => self.export(*corner),
+            // No line of the plain language asks for these.
+            Event::Levels(_) | Event::Directions(_) => Ok(Reply::Refused(Refusal::BadLine)),
             Event::Tiles => self.tiles(),
             Event::Sinks => Ok(Reply::Sinks(Vec::from_slice(self.alloc, self.mosaic.sinks())?)),
             Event::Step => Ok(Reply::Stepped(None)),

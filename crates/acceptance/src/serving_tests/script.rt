@@ -6,17 +6,14 @@ use engine::Engine;
 use lattice::Side;
 use memory_store::store_in_memory;
 use serving::{CheckedWriter, serve};
-use std::alloc::{AllocError, Global};
+use std::alloc::Global;
 use std::fmt::Debug;
 use std::process::Abort;
 use std::str::from_utf8;
 use std::test::Fail;
 use store::Store;
 use table_engine::TableEngine;
-use test_tiles::{expand, lines_of, push_line};
-
-/// A line and its reply.
-pub(crate) type Said<'a> = (&'a str, &'a str);
+use test_tiles::{Said, expand, input_of, lines_of};
 
 /// What a session shows, the side of its tiles, how many there is room for, and its lines with their replies.
 pub(crate) struct Row<'a> {
@@ -88,24 +85,6 @@ fn plain_replies(alloc: Global, row: &Row) -> Result<Vec<u8>, Fail> {
         plain.write_reply(&expand(alloc, line)?, &mut output)?;
     }
     Ok(output)
-}
-
-/// The bytes of the lines.
-pub(crate) fn input_of(alloc: Global, said: &[Said]) -> Result<Vec<u8>, AllocError> {
-    let mut bytes = Vec::new(alloc);
-    for (line, _) in said {
-        push_line(&mut bytes, line)?;
-    }
-    Ok(bytes)
-}
-
-/// The bytes of the replies.
-pub(crate) fn output_of(alloc: Global, said: &[Said]) -> Result<Vec<u8>, AllocError> {
-    let mut bytes = Vec::new(alloc);
-    for (_, reply) in said {
-        push_line(&mut bytes, reply)?;
-    }
-    Ok(bytes)
 }
 
 /// What the engine replies to these bytes.

@@ -1,11 +1,12 @@
 //! Sessions by readers and writers of many kinds.
-use super::script::{ENGINES, Row, Said, check_replies, check_rows, input_of, output_of, table};
+use super::script::{ENGINES, Row, check_replies, check_rows, table};
 use crate::asserting::{assert_found, assert_row};
 use crate::counting::Counting;
 use serving::{CheckedWriter, ServeFault, serve};
 use std::alloc::Global;
 use std::io::{self, Read};
 use std::test::Fail;
+use test_tiles::{Said, input_of, output_of};
 
 /// Gives the bytes in two reads, the first of `cut` bytes.
 #[derive(Drop)]

@@ -1,10 +1,11 @@
 //! Sessions over a store on a disk in memory of which a call fails.
-use super::script::{Said, check_replies, input_of, opened, replies, store, store_of_version_1};
+use super::script::{check_replies, opened, replies, store, store_of_version_1};
 use disk::{FaultOnceDisk, MemDisk};
 use std::alloc::Global;
 use std::process::Abort;
 use std::test::Fail;
 use store::Store;
+use test_tiles::{Said, input_of};
 
 /// Lines to a store that was opened anew after others, and of the first one each call fails in turn.
 #[derive(Clone, Copy)]
