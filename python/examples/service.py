@@ -8,6 +8,7 @@ usage: service.py STORE [--port PORT] [--program PROGRAM]
     GET  /tiles                   also /sinks, /count                                         {"answer": ..}
     GET  /export?tile=N00E000                                                                 the tile's HGT bytes
     GET  /health                  503 where the program can't be begun                        {"answer": count}
+    GET  /info                    what it is and holds, and whether each tile is fresh        {"answer": {..}}
     POST /wall                    {"height": 1193, "points": [[183, 411]]}                    {"answer": k}
     POST /burn                    {"depth": 15, "points": [[183, 411]]}                       {"answer": k}
     POST /patch                   {"y0": 3, "x0": 4, "y1": 9, "x1": 9, "height": 250}         {"answer": k}
@@ -16,6 +17,7 @@ usage: service.py STORE [--port PORT] [--program PROGRAM]
     POST /remove                  {"tile": "N00E000"}                                         {"answer": k}
     POST /step                    {}                                                          {"answer": name or null}
 
+/info is told of a copy of the store, which is made beside it and taken away.
 Questions that wait at the same moment are asked together. A command that was answered is on the drive: where the program
 is killed, the service begins it anew and asks again only what doesn't stand; where the service is killed, start it again.
 A refusal is status 404 where the point has no answer, 503 where the store failed, else 409, with its number and word; what
@@ -26,6 +28,7 @@ takes longer than a minute for a request is let go. Each of these is a line on s
 import argparse
 import asyncio
 import contextlib
+import dataclasses
 import json
 import pathlib
 import signal
@@ -34,7 +37,7 @@ import urllib.parse
 
 sys.path.insert(0, str(pathlib.Path(__file__).resolve().parents[1]))  # this package, also where it isn't installed
 
-from mosaic_store import Command, MosaicError, Refusal, open_store, questions
+from mosaic_store import Command, MosaicError, Refusal, open_store, questions, shape_of
 
 QUESTIONS = {
     "/elevation": questions.Elevation,
@@ -67,8 +70,8 @@ class BadRequest(Exception):
 class Service:
     """Takes requests, and has one task ask the store."""
 
-    def __init__(self, session):
-        self.session = session
+    def __init__(self, session, store):
+        self.session, self.store = session, store
         self.waiting = asyncio.Queue()
 
     async def answers(self):
@@ -127,6 +130,8 @@ class Service:
             return 403, {"error": "this service answers to 127.0.0.1 and localhost alone"}
         if headers.get("origin", f"http://{headers['host']}") != f"http://{headers['host']}":
             return 403, {"error": "this request comes from a page of another site"}
+        if (method, target) == ("GET", "/info"):
+            return await asyncio.to_thread(self.info)
         try:
             question = self.question(method, target, headers, body)
         except (BadRequest, ValueError, RecursionError) as error:
@@ -134,6 +139,13 @@ class Service:
         future = asyncio.get_running_loop().create_future()
         self.waiting.put_nowait((question, future))
         return told(await future)
+
+    def info(self):
+        try:
+            report = self.session.report()
+        except (MosaicError, OSError) as error:
+            return told(error)
+        return 200, {"answer": dataclasses.asdict(shape_of(self.store)) | dataclasses.asdict(report)}
 
     def question(self, method, target, headers, body):
         """What a request asks. BadRequest, or a ValueError that tells why, where it asks nothing."""
@@ -236,7 +248,7 @@ def told(answer):
 
 async def run(options):
     with open_store(options.store, options.program, wait=10, restart=True) as session:
-        service = Service(session)
+        service = Service(session, options.store)
         asking = asyncio.create_task(service.answers())
         server = await asyncio.start_server(service.serve, "127.0.0.1", options.port, limit=LONGEST_HEAD)
         port = server.sockets[0].getsockname()[1]

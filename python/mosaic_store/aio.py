@@ -20,7 +20,7 @@ from . import session as sessions
 from .errors import BadArgument, Refusal
 from .lattice import Direction, Place, Point
 from .questions import Command, Question, Watershed
-from .stores import PathLike
+from .stores import PathLike, Report
 from .trials import Trial
 
 Answer = TypeVar("Answer")
@@ -143,6 +143,9 @@ class Session:
 
     async def backup(self, path: PathLike) -> int:
         return await self._call(self.blocking.backup, path)
+
+    async def report(self) -> Report:
+        return await self._call(self.blocking.report)
 
     async def reopen(self) -> sessions.Recovery:
         return await self._call(self.blocking.reopen)

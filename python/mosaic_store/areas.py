@@ -4,8 +4,11 @@ Where a flow path in the store ends at a point of which the region's tiles are a
 water leaves the region there: levels, directions and the path are then those of the region. (The store's levels are never
 higher, as water also leaves it at the cut; and along such a path they are never lower, as it is a path of the region. So no
 neighbour is steeper in the region, and no flat nearer to its end.) So the basins of a region's outlets, found in a store, are
-parts of the region's. Of several stores that which has most of a basin answers for it. A basin is whole where no point
-beside it is left over, whose water may yet come to it; then its watersheds are right, too.
+parts of the region's. Of several stores that which has most of a basin answers for it.
+
+Other water may come to such a basin at its inlets: the points beside one that no store answers for, and those to which water
+goes that came along the cut. Watersheds are right at all points but those downstream of an inlet, as TauDEM's contributing
+areas are but for those that are contaminated from the edge of its grid (Tarboton).
 """
 
 from __future__ import annotations
@@ -14,13 +17,13 @@ import collections
 import dataclasses
 from collections.abc import Iterable, Iterator, Mapping, Sequence
 from dataclasses import dataclass
-from typing import TYPE_CHECKING, Any
+from typing import TYPE_CHECKING, Any, TypeVar
 
 from .errors import Refusal, Void
 from .geojson import Feature, points_feature
 from .hydrology import runs_of
 from .lattice import VOID, Corner, Direction, Point, Run, Window, corner_of, corners_of
-from .questions import FlowDirection, WatershedOf
+from .questions import FlowDirection, Question, Trace, WatershedOf
 from .rasters import STEPS
 from .samples import needed_numpy
 from .session import Session
@@ -30,6 +33,12 @@ if TYPE_CHECKING:
     import numpy
 
     Array = numpy.ndarray[Any, Any]
+
+
+Answer = TypeVar("Answer")
+
+_FEW = 64
+"""Of how many points the flow paths are asked as they are."""
 
 
 @dataclass(frozen=True)
@@ -48,6 +57,8 @@ class Drained:
     """The points whose water comes to the cut, some several times: rows of y, first x, last x and their end's number."""
     ends: list[Point]
     """Where these leave the store: points of the cut."""
+    beyond: Array
+    """Where water of these goes on within the store: rows of y, x, x."""
     is_edited: bool
     """Whether the store had other commands than the imports of its tiles."""
 
@@ -64,20 +75,50 @@ def drained(session: Session, region: Iterable[str]) -> Drained:
     tiles = set(_corners(session.tiles()))
     cut = _cut(tiles, set(_corners(region)) - tiles, side)
     directions = _directions(session, sorted(cut | _possible_outlets(session)))
-    last_of_cut = [point for point in cut if point in directions and _beyond(point, directions[point]) not in cut]
-    leaving = _rows(shed.runs for shed in _sheds(session, last_of_cut))
+    next_of_cut = {point: _next(point, directions[point]) for point in cut if point in directions}
+    last_of_cut = [point for point, after in next_of_cut.items() if after not in cut]
+    leaving = _rows(_sheds(session, last_of_cut))
     outlets = [point for point, direction in directions.items() if direction is Direction.OFF and point not in cut]
-    runs = _rows(shed.runs for shed in _sheds(session, outlets))
+    runs = _rows(_sheds(session, outlets))
     window = _extent(tiles, side)
     left = _mask([leaving], window)
     is_clean = _summed(runs, _counted(runs, left, window), len(outlets)) == 0
     if not is_clean.all():
         runs = numpy.concatenate([runs[is_clean[runs[:, 3]]], _without(runs[~is_clean[runs[:, 3]]], left, window)])
-    return Drained(window, outlets, runs, is_clean, leaving, last_of_cut, session.count() != len(tiles))
+    beyond = _as_runs(after for point in last_of_cut if (after := next_of_cut[point]) is not None)
+    return Drained(window, outlets, runs, is_clean, leaving, last_of_cut, beyond, session.count() != len(tiles))
 
 
-def with_areas(split: Split, found: Mapping[str, Drained]) -> Split:
-    """A split with the points for which each store answers, from where the water of each goes."""
+def inlets(found: Mapping[str, Drained]) -> dict[str, list[Point]]:
+    """Of each store the points that it answers for, and to which water may come that it doesn't know of."""
+    answering, entries = _answering(found), {}
+    for name, own in found.items():
+        entered = _grown(_left_over(own, answering)) | _mask([own.beyond], own.window)
+        runs = runs_of(_mask([answering[name]], own.window) & entered, own.window)
+        entries[name] = [Point(y, x) for y, first, last in runs for x in range(first, last + 1)]
+    return entries
+
+
+def downstream(session: Session, points: Iterable[Point]) -> Array:
+    """The points on the flow paths of some, these among them: rows of y, x, x.
+
+    Where many go on, each point is asked for its direction once; they soon come together, and few are traced to their end.
+    """
+    found: set[Point] = set()
+    front = set(points)
+    while len(front) > _FEW:
+        found |= front
+        directions = _directions(session, sorted(front))
+        front = {after for point, direction in directions.items() if (after := _next(point, direction)) is not None} - found
+    found.update(*_answers(session, (Trace(*point) for point in sorted(front))))
+    return _as_runs(sorted(found))
+
+
+def with_areas(split: Split, found: Mapping[str, Drained], contaminated: Mapping[str, Array]) -> Split:
+    """A split with the points for which each store answers, from where the water of each goes.
+
+    `contaminated` are of each store the points downstream of its `inlets`.
+    """
     answering = _answering(found)
     features = [feature for feature in split.features if feature["properties"]["what"] == TOO_LARGE]
     for feature in (feature for feature in split.features if feature["properties"]["what"] == PLANNED):
@@ -86,7 +127,7 @@ def with_areas(split: Split, found: Mapping[str, Drained]) -> Split:
         unanswered = {} if left_over is None else {"unanswered": int(left_over.sum())}
         features.append({**feature, "properties": {**feature["properties"], **unanswered}})
         if left_over is not None:
-            features += _areas(name, found[name], answering[name], left_over, split.side)
+            features += _areas(name, found[name], answering[name], contaminated[name], split.side)
     return dataclasses.replace(split, features=features)
 
 
@@ -133,18 +174,14 @@ def _left_over(own: Drained, answering: Mapping[str, Array]) -> Array:
     return _mask([own.runs, own.leaving], own.window) & ~_mask(answering.values(), own.window)
 
 
-def _areas(name: str, own: Drained, mine: Array, left_over: Array, side: int) -> Iterator[Feature]:
-    """What a store answers for: the basins that are whole, and the others."""
-    numpy = needed_numpy()
-    beside = _grown(left_over)
-    is_whole = own.is_clean & (_summed(mine, _counted(mine, beside, own.window), len(own.outlets)) == 0)
-    for has_watersheds in (True, False):
-        part = mine[is_whole[mine[:, 3]] == has_watersheds]
-        cells = int((part[:, 2] - part[:, 1] + 1).sum())
-        basins = len(numpy.unique(part[:, 3]))
-        about = {"what": AREA, "store": name, "watersheds": has_watersheds, "basins": basins, "cells": cells}
-        if cells:
-            yield points_feature(runs_of(_mask([part], own.window), own.window), side, about)
+def _areas(name: str, own: Drained, mine: Array, contaminated: Array, side: int) -> Iterator[Feature]:
+    """What a store answers for: with watersheds, and without."""
+    answered, without = _mask([mine], own.window), _mask([contaminated], own.window)
+    for has_watersheds, part in ((True, answered & ~without), (False, answered & without)):
+        basins = int((_summed(mine, _counted(mine, part, own.window), len(own.outlets)) > 0).sum())
+        about = {"what": AREA, "store": name, "watersheds": has_watersheds, "basins": basins, "cells": int(part.sum())}
+        if basins:
+            yield points_feature(runs_of(part, own.window), side, about)
 
 
 def _chosen(found: Mapping[str, Drained]) -> dict[str, Array]:
@@ -200,17 +237,23 @@ def _directions(session: Session, points: Sequence[Point]) -> dict[Point, Direct
     return found
 
 
-def _beyond(point: Point, direction: Direction) -> Point | None:
+def _next(point: Point, direction: Direction) -> Point | None:
     """The point that a direction leads to; None off the mosaic."""
     north, east = direction.step
     return None if direction is Direction.OFF else Point(point.y + north, point.x + east)
 
 
-def _sheds(session: Session, points: Sequence[Point]) -> Iterator[Any]:
-    for shed in session.pipeline(WatershedOf(*point) for point in points):
-        if isinstance(shed, Refusal):
-            raise shed
-        yield shed
+def _sheds(session: Session, points: Sequence[Point]) -> Iterator[Sequence[Run]]:
+    """The runs of the watershed of each point."""
+    return (shed.runs for shed in _answers(session, (WatershedOf(*point) for point in points)))
+
+
+def _answers(session: Session, asked: Iterable[Question[Answer]]) -> Iterator[Answer]:
+    """The answers to questions of points that are ground."""
+    for answer in session.pipeline(asked):
+        if isinstance(answer, Refusal):
+            raise answer
+        yield answer
 
 
 def _rows(sheds: Iterable[Sequence[Run]]) -> Array:
@@ -222,6 +265,12 @@ def _rows(sheds: Iterable[Sequence[Run]]) -> Array:
         part[:, :3] = runs
         parts.append(part)
     return numpy.concatenate(parts)
+
+
+def _as_runs(points: Iterable[Point]) -> Array:
+    """Points as rows of y, x, x."""
+    numpy = needed_numpy()
+    return numpy.array([(y, x, x) for y, x in points], numpy.int64).reshape(-1, 3)
 
 
 def _extent(tiles: Iterable[Corner], side: int) -> Window:

@@ -7,7 +7,7 @@ They need numpy.
 from __future__ import annotations
 
 import heapq
-from collections.abc import Sequence
+from collections.abc import Callable, Sequence
 from dataclasses import dataclass
 from typing import TYPE_CHECKING, Any
 
@@ -15,7 +15,7 @@ from .errors import BadArgument
 from .lattice import VOID, Point, Run, Window
 from .network import Network
 from .rasters import STEPS, Heights, heights_of
-from .samples import needed_numpy
+from .samples import array_of, bytes_of, needed_numpy
 from .session import Session
 from .view import lines
 
@@ -60,6 +60,10 @@ def reservoir(session: Session, network: Network, dam: Sequence[Point], crest: i
             session.wall(crest, part)
         spills_at = session.fill(*before)
         heights = heights_of(session, network.window)
+    ground = int(heights.samples.ravel()[network.cell(before)])
+    if ground == spills_at:
+        place = f"{before.y} {before.x}, where the ground is {ground} m high"
+        raise BadArgument(f"no water stands before the dam at {place}: take a lower point")
     # What is reached at the level of the sill alone lies beyond it, and is no part of the reservoir.
     reached = _reached(heights.samples, network.cell(before), spills_at - 1)
     inside = reached < spills_at
@@ -165,7 +169,7 @@ def earthwork(before: Heights, after: Heights) -> Earthwork:
     numpy = needed_numpy()
     both = before.ground & after.ground
     change = numpy.where(both, after.samples.astype(numpy.int64) - before.samples, 0) * before.cell_areas()
-    return Earthwork(float(-change[change < 0].sum()), float(change[change > 0].sum()))
+    return Earthwork(abs(float(change[change < 0].sum())), float(change[change > 0].sum()))
 
 
 def runs_of(mask: Array, window: Window) -> list[Run]:
@@ -186,22 +190,44 @@ def widened(points: Sequence[Point], width: int) -> list[Point]:
     return list(dict.fromkeys(Point(y + north, x + east) for y, x in points for north in reach for east in reach))
 
 
-def filled_voids(session: Session, window: Window, most: int = 10_000) -> list[Run]:
-    """Gives each void of a window the mean of the heights on its rim, by how near these are; the voids that it gave one.
+def without_voids(samples: Array, void: Array, most: int) -> Array:
+    """Samples in which each void has the mean of the heights on its rim, by the inverse square of the distance.
 
-    Of each part of voids that hangs together; one that reaches the window's edge, or has more than `most` points, is left.
+    Of each part of voids that hangs together; one that reaches the samples' edge, or has more than `most` points, is left.
     Heights of the rim are those before it, so that the parts' order makes no difference.
+    """
+    numpy = needed_numpy()
+    given = samples.copy()
+    for part in _parts(void & ~_hanging_on_edge(void)):
+        if len(part) <= most:
+            rows, columns = numpy.divmod(part, samples.shape[1])
+            given[rows, columns] = _interpolated(samples, rows, columns)
+    return given
+
+
+def tile_without_voids(data: bytes, most: int) -> tuple[bytes, int]:
+    """The HGT bytes of a tile `without_voids`, and how many voids have got a height."""
+    samples = array_of(data)
+    void = samples == VOID
+    given = without_voids(samples, void, most)
+    return bytes_of(given), int((void & (given != VOID)).sum())
+
+
+def filled_voids(
+    session: Session, window: Window, most: int = 10_000, told: Callable[[int, int], None] = lambda done, total: None
+) -> list[Run]:
+    """Gives the voids of a window heights as `without_voids` does; those that got one. `told` is how many runs of how many.
+
+    Each void has its height by one command, so that where this is ended midway there are voids left, and no wrong heights.
+    Thousands are filled faster while their tiles are imported, by `tile_without_voids`.
     """
     numpy = needed_numpy()
     heights = heights_of(session, window)
     void = heights.held & (heights.samples == VOID)
-    given = heights.samples.copy()
-    for part in _parts(void & ~_hanging_on_edge(void)):
-        if len(part) <= most:
-            rows, columns = numpy.divmod(part, window.width)
-            given[rows, columns] = _interpolated(heights.samples, rows, columns)
+    given = without_voids(heights.samples, void, most)
     filled = runs_of(void & (given != VOID), window)
-    for y, first, last in filled:
+    for number, (y, first, last) in enumerate(filled):
+        told(number, len(filled))
         row = given[window.y1 - y, first - window.x0 : last - window.x0 + 1]
         ends = numpy.flatnonzero(numpy.diff(row, append=VOID)) + 1
         for start, end in zip([0, *ends[:-1].tolist()], ends.tolist()):

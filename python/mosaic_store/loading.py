@@ -5,7 +5,7 @@ from __future__ import annotations
 import collections
 import enum
 import hashlib
-from collections.abc import Iterable, Iterator
+from collections.abc import Callable, Iterable, Iterator
 from dataclasses import dataclass
 
 from .archives import Source, Trouble, Unreadable, files_below, sources_of
@@ -33,6 +33,8 @@ class Outcome:
     kind: Kind
     cause: str = ""
     cure: str = ""
+    filled: int = 0
+    """How many voids of the tile got a height."""
 
     def __str__(self) -> str:
         return ": ".join(part for part in (self.shown, self.kind.value, self.cause, self.cure) if part)
@@ -91,7 +93,16 @@ def find(paths: Iterable[str]) -> Found:
     return Found(len(files), sources, [part for part in parts if isinstance(part, Trouble)])
 
 
-def load(session: Session, found: Found) -> Iterator[Outcome]:
+Change = Callable[[bytes], "tuple[bytes, int]"]
+"""What is made of a tile's bytes, and how many voids got a height by it."""
+
+
+def unchanged(data: bytes) -> tuple[bytes, int]:
+    """A tile as it is."""
+    return data, 0
+
+
+def load(session: Session, found: Found, change: Change = unchanged) -> Iterator[Outcome]:
     """Imports what was found, a tile after another; the outcome of each. Tiles that are there are left as they are.
 
     What stops all that follows, as a drive that fails, is raised.
@@ -99,21 +110,22 @@ def load(session: Session, found: Found) -> Iterator[Outcome]:
     for trouble in found.troubles:
         kind = Kind.FAILED if trouble.cure else Kind.PASSED_BY
         yield Outcome(trouble.shown, kind, trouble.cause, trouble.cure)
-    loader = _Loader(session, set(session.tiles()), collections.Counter(source.corner for source in found.sources))
+    loader = _Loader(session, set(session.tiles()), collections.Counter(source.corner for source in found.sources), change)
     for source in found.sources:
         yield loader.load(source)
 
 
-def copy(session: Session, other: Session) -> Iterator[Outcome]:
+def copy(session: Session, other: Session, change: Change = unchanged) -> Iterator[Outcome]:
     """Imports every tile of another store, and declares its sinks; the outcome of each."""
     if session.side != other.side:
         raise MosaicError(f"sides {session.side} and {other.side}: tiles move between stores of one side")
     present = set(session.tiles())
     for name in other.tiles():
+        data, filled = change(other.export(name))
         if name not in present:
-            session.import_tile(name, other.export(name))
-            yield Outcome(name, Kind.IMPORTED)
-        elif session.export(name) == other.export(name):
+            session.import_tile(name, data)
+            yield Outcome(name, Kind.IMPORTED, filled=filled)
+        elif session.export(name) == data:
             yield Outcome(name, Kind.THERE)
         else:
             yield Outcome(name, Kind.FAILED, "the tile is there with other samples", "remove one of them first")
@@ -136,8 +148,8 @@ def _declared(session: Session, y: int, x: int) -> Outcome:
 class _Loader:
     """Imports one file after another, and knows which tiles several files hold."""
 
-    def __init__(self, session: Session, present: set[str], files_of: collections.Counter[Corner | None]) -> None:
-        self._session, self._present, self._files_of = session, present, files_of
+    def __init__(self, session: Session, present: set[str], files_of: collections.Counter[Corner | None], change: Change) -> None:
+        self._session, self._present, self._files_of, self._change = session, present, files_of, change
         self._first: dict[Corner, tuple[Source, bytes]] = {}
         """Of each tile the first file that was read, and a digest of its bytes."""
 
@@ -173,13 +185,14 @@ class _Loader:
     def _imported(self, source: Source, corner: Corner, data: bytes, is_there: bool) -> Outcome:
         if is_there:
             return Outcome(source.shown, Kind.THERE, corner.name)
+        changed, filled = self._change(data)
         try:
-            self._session.import_tile(corner.name, data)
+            self._session.import_tile(corner.name, changed)
         except Full as full:
             return _failed(source, full.cause, full.cure)
         if data == VOID_SAMPLE * (len(data) // 2):
             return Outcome(source.shown, Kind.IMPORTED, f"{corner.name} is void throughout", "water leaves the mosaic there")
-        return Outcome(source.shown, Kind.IMPORTED, corner.name)
+        return Outcome(source.shown, Kind.IMPORTED, corner.name, filled=filled)
 
 
 def _failed(source: Source, cause: str, cure: str) -> Outcome:

@@ -8,7 +8,7 @@ from collections.abc import Callable, Iterable, Iterator
 from typing import TYPE_CHECKING, Any
 
 from .archives import Unreadable
-from .areas import Drained, drained, lacking, with_areas
+from .areas import Drained, downstream, drained, inlets, lacking, with_areas
 from .lattice import MOST_TILES, Corner, Point, degrees_of
 from .loading import Found
 from .samples import array_of
@@ -44,9 +44,7 @@ def find_areas(
     folder: PathLike, split: Split, program: PathLike | None = None, told: Callable[[int], None] | None = None
 ) -> Split:
     """Asks each store of a folder for which points it answers, and writes that down; `told` is how many are done."""
-    split = with_areas(split, _drained(folder, split, split.stores, program, told))
-    split.write(folder)
-    return split
+    return _with_areas(folder, split, _drained(folder, split, split.stores, program, told), program)
 
 
 def grow(folder: PathLike, split: Split, add: Callable[[str, list[str]], None], program: PathLike | None = None) -> Split:
@@ -61,7 +59,15 @@ def grow(folder: PathLike, split: Split, add: Callable[[str, list[str]], None], 
         for name, tiles in more.items():
             add(name, tiles)
         found |= _drained(folder, split, more, program)
-    split = with_areas(split, found)
+    return _with_areas(folder, split, found, program)
+
+
+def _with_areas(folder: PathLike, split: Split, found: dict[str, Drained], program: PathLike | None) -> Split:
+    contaminated = {}
+    for name, points in inlets(found).items():
+        with open_store(pathlib.Path(os.fsdecode(folder)) / name, program) as session:
+            contaminated[name] = downstream(session, points)
+    split = with_areas(split, found, contaminated)
     split.write(folder)
     return split
 

@@ -10,6 +10,7 @@ from __future__ import annotations
 import contextlib
 import itertools
 import os
+import tempfile
 import threading
 import time
 from collections.abc import Callable, Iterable, Iterator, Sequence
@@ -24,8 +25,8 @@ from .errors import BadArgument, BadReply, Device, Refusal, SessionDied, StoreBu
 from .lattice import Direction, Place, Point, degrees_of, point_of
 from .questions import Command, Question, Watershed
 from .samples import array_of, bytes_of
-from .stores import PathLike, Shape, cannot_open, find_program, shape_of
-from .trials import Trial
+from .stores import PathLike, Report, Shape, cannot_open, check_store, find_program, shape_of
+from .trials import Tiles, Trial
 
 if TYPE_CHECKING:
     import numpy
@@ -75,6 +76,8 @@ class Session:
         self._acknowledged = 0
         self._in_doubt: Command | None = None
         self._trial: Trial | None = None
+        self._tiles_known: tuple[int, Tiles] = 0, {}
+        """Some tiles as they were at a count: those of the last trial that was taken back."""
         self._is_closed = False
 
     # ---- the store ----
@@ -196,6 +199,14 @@ class Session:
             copy_file(os.fsdecode(self._path), os.fsdecode(path))
             return count
 
+    def report(self) -> Report:
+        """What `check_store` tells, fresh and stale tiles too: of a copy, made beside the store for it and taken away."""
+        beside = os.path.dirname(os.fsdecode(self._path or "")) or "."
+        with tempfile.TemporaryDirectory(dir=beside) as folder:
+            copy = os.path.join(folder, "copy")
+            self.backup(copy)
+            return check_store(copy, self._words[0])
+
     def ask(self, question: Question[Answer]) -> Answer:
         """The answer to any question or command of `questions`.
 
@@ -252,7 +263,8 @@ class Session:
         with self._lock:
             if self._trial is not None:
                 raise BadArgument("a trial is in progress: keep it or take it back first")
-            self._trial = Trial(self, self.sinks(), self._end_trial)
+            count, tiles = self._tiles_known
+            self._trial = Trial(self, self.sinks(), tiles if count == self._acknowledged else {}, self._end_trial)
             return self._trial
 
     def _end_trial(self) -> None:

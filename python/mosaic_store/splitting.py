@@ -157,7 +157,7 @@ class Split:
         if area is None:
             raise NotAnswered(f"{shown}: {self._unanswered(point)}")
         if watershed and not area.has_watersheds:
-            raise NotAnswered(f"{shown}: {area.store} answers for it, but not for its watershed: its basin may have more points")
+            raise NotAnswered(f"{shown}: {area.store} answers for it, but not for its watershed: water may come to it that {area.store} doesn't know of")
         if store not in (None, area.store):
             raise NotAnswered(f"{shown} lies outside of what {store} answers for: ask {area.store}", area.store)
         return area.store

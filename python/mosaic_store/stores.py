@@ -18,18 +18,21 @@ from .lattice import GREATEST_SIDE, LEAST_SIDE, MOST_TILES
 PathLike = Union[str, bytes, "os.PathLike[str]", "os.PathLike[bytes]"]
 
 _SECTOR = 4096
-_ROOTS = (1, 3)
+_SLOTS = (0, 2)
+_OPEN_GATE = 0xA7
 _MAGIC = b"MOSAICST"
 
 
 @dataclass(frozen=True)
 class Shape:
-    """What a store was formatted with."""
+    """What a store is."""
 
     side: int
     """The side of each tile, in samples."""
     capacity: int
     """The greatest number of tiles."""
+    version: int = 2
+    """Of its file's layout, 1 or 2."""
 
 
 @dataclass(frozen=True)
@@ -88,22 +91,23 @@ def upgrade_store(path: PathLike, program: PathLike | None = None) -> int:
 
 
 def shape_of(path: PathLike) -> Shape | None:
-    """The side and capacity of a store, from its first sectors; None where the file is no store.
+    """The side, capacity and version of a store, from its first sectors; None where the file is no store.
 
-    They never change once a store is formatted, so that this needs no lock.
+    Side and capacity never change once a store is formatted, and the version by an upgrade alone: this needs no lock.
     """
     try:
         with open(path, "rb") as file:
             head = file.read(4 * _SECTOR)
     except OSError as fault:
         raise cannot_open(path, fault) from None
-    for sector in _ROOTS:
-        root = head[sector * _SECTOR : sector * _SECTOR + 20]
-        if root.startswith(_MAGIC) and len(root) == 20:
-            side, capacity = struct.unpack("<II", root[12:])
+    found = []
+    for slot in _SLOTS:
+        gate, root = head[slot * _SECTOR :], head[(slot + 1) * _SECTOR :]
+        if len(root) >= 20 and gate[0] == _OPEN_GATE and root.startswith(_MAGIC):
+            version, side, capacity = struct.unpack_from("<III", root, 8)
             if LEAST_SIDE <= side <= GREATEST_SIDE and 1 <= capacity <= MOST_TILES:
-                return Shape(side, capacity)
-    return None
+                found.append(Shape(side, capacity, version))
+    return max(found, key=lambda shape: shape.version) if found else None
 
 
 def cannot_open(path: PathLike, fault: OSError | None = None) -> CannotOpen:

@@ -1,25 +1,28 @@
 """Trials: edits that are taken back exactly.
 
-Before an edit reaches a tile, its own HGT bytes are exported. Where all tiles that hold a changed point had one height for
-it, a burn or a wall gives it back, which costs no more than the edit did. Elsewhere whole tiles are put back by remove and
-import, which gives each its very samples, also where tiles disagree on a seam or a void was patched.
+Before an edit reaches a tile, its own HGT bytes are exported. Where burns and walls alone were made, and all tiles that hold a
+changed point had one height for it, a burn or a wall gives it back, which costs no more than the edit did. Else whole tiles
+are put back by remove and import, which gives each its very samples, also where tiles disagree on a seam or a void was
+patched.
 """
 
 from __future__ import annotations
 
 import itertools
 import math
-import struct
 from collections import defaultdict
 from collections.abc import Callable, Iterator, Mapping
 from typing import TYPE_CHECKING
 
 from .errors import BadArgument
 from .lattice import GREATEST_HEIGHT, MOST_POINTS, VOID, Corner, Point, corner_of, corners_of
-from .questions import Burn, Command, Import, Patch, Remove, Unsink, Wall
+from .questions import Burn, Command, Elevation, Import, Patch, Remove, Unsink, Wall
 
 if TYPE_CHECKING:
     from .session import Session
+
+Tiles = Mapping[str, "bytes | None"]
+"""Tiles by their names: HGT bytes, or None of one that isn't there."""
 
 _MOST_BY_POINTS = 64 * MOST_POINTS
 """The most points that are given their heights back by edits: beyond them whole tiles cost less."""
@@ -28,10 +31,14 @@ _MOST_BY_POINTS = 64 * MOST_POINTS
 class Trial:
     """Edits of a session that are kept or taken back together. Made by `Session.trial` or `Session.begin_trial`."""
 
-    def __init__(self, session: Session, sinks: list[Point], end: Callable[[], None]) -> None:
+    def __init__(self, session: Session, sinks: list[Point], known: Tiles, end: Callable[[], None]) -> None:
+        """`known` are some tiles as they are now."""
         self._session = session
         self._sinks = sinks
+        self._known = known
         self._before: dict[str, bytes | None] = {}
+        self._points: set[Point] | None = set()
+        """What its burns and walls name; None where it has other edits of tiles, too."""
         self._end = end
         self.is_open = True
         """Whether it was neither kept nor taken back."""
@@ -64,15 +71,19 @@ class Trial:
             except BaseException:
                 session._trial = self
                 raise
+            session._tiles_known = session.acknowledged, self._before
             self._close()
 
     def prepare(self, command: Command) -> None:
         """Exports what a command is about to touch. A command that couldn't be taken back is a BadArgument."""
         untouched = [name for name in dict.fromkeys(self._reached(command)) if name not in self._before]
-        if untouched:
-            present = set(self._session.tiles())
-            for name in untouched:
-                self._before[name] = self._session.export(name) if name in present else None
+        present = set() if all(name in self._known for name in untouched) else set(self._session.tiles())
+        for name in untouched:
+            self._before[name] = self._session.export(name) if name in present else self._known.get(name)
+        if isinstance(command, (Import, Remove, Patch)):
+            self._points = None
+        elif isinstance(command, (Burn, Wall)) and self._points is not None:
+            self._points.update(Point(*point) for point in command.points)
         if isinstance(command, Unsink) and self._is_lost(Point(command.y, command.x)):
             raise BadArgument(f"the sink {command.y} {command.x} lay on no ground: it couldn't be declared again")
 
@@ -109,44 +120,36 @@ class Trial:
 
     def inverse(self) -> list[Command]:
         """What gives every touched tile its samples back, as the tiles are now; sinks aside."""
+        edits = self._by_points()
+        if edits is not None:
+            return edits
+        self._points = None  # where this ends midway a tile may be away, which points don't tell
         session = self._session
         present = set(session.tiles())
         now = {name: session.export(name) if name in present else None for name in self._before}
         changed = [name for name, data in self._before.items() if now[name] != data]
-        edits = self._by_points({name: now[name] for name in changed})
-        if edits is not None:
-            return edits
         removed: list[Command] = [Remove(name) for name in changed if name in present]
         return removed + [Import(name, data) for name in changed if (data := self._before[name]) is not None]
 
-    def _by_points(self, changed: Mapping[str, bytes | None]) -> list[Command] | None:
-        """The burns and walls that give changed tiles their samples back; None where these can't, or are too many."""
+    def _by_points(self) -> list[Command] | None:
+        """The burns and walls that give points their heights back; None where these can't, or are too many."""
+        if self._points is None or len(self._points) > _MOST_BY_POINTS:
+            return None
+        samples = {point: held for point in sorted(self._points) if (held := self._samples_before(point))}
         parts: defaultdict[tuple[type[Burn] | type[Wall], int], list[Point]] = defaultdict(list)
-        heights: dict[Point, tuple[int, int]] = {}
-        for name, now in changed.items():
-            before = self._before[name]
-            if now is None or before is None:
+        for point, now in zip(samples, self._session.ask_many(Elevation(*point) for point in samples)):
+            height, was = now if isinstance(now, int) else VOID, samples[point].pop()
+            if samples[point] or height - was > GREATEST_HEIGHT or (height != was and VOID in (height, was)):
                 return None
-            for point, height in _differing(name, before, now):
-                was = self._height_before(point)
-                if was is None or height - was > GREATEST_HEIGHT or heights.setdefault(point, (was, height)) != (was, height):
-                    return None
-                if len(heights) > _MOST_BY_POINTS:
-                    return None
-        for point, (was, height) in heights.items():
             kind: type[Burn] | type[Wall] = Wall if height < was else Burn
-            parts[kind, was if height < was else height - was].append(point)
+            if height != was:
+                parts[kind, was if height < was else height - was].append(point)
         return [kind(amount, tuple(part)) for (kind, amount), points in parts.items() for part in _batches(points)]
 
-    def _height_before(self, point: Point) -> int | None:
-        """The one height that all tiles held for a point before the trial; None where there was a void, or several."""
-        samples = set()
-        for corner in corners_of(point, self._session.side):
-            data = self._before.get(corner.name)
-            if data is not None:
-                samples.add(_sample(data, corner, point))
-        height = samples.pop() if len(samples) == 1 else VOID
-        return None if height == VOID else height
+    def _samples_before(self, point: Point) -> set[int]:
+        """The different samples of a point in the tiles that held it before the trial."""
+        held = ((corner, self._before.get(corner.name)) for corner in corners_of(point, self._session.side))
+        return {_sample(data, corner, point) for corner, data in held if data is not None}
 
     def _restore_sinks(self) -> None:
         session = self._session
@@ -155,20 +158,6 @@ class Trial:
             session.unsink(*sink)
         for sink in sorted(before - now):
             session.sink(*sink)
-
-
-def _differing(name: str, before: bytes, now: bytes) -> Iterator[tuple[Point, int]]:
-    """The points of a tile whose samples differ, each with its sample now."""
-    corner, side = corner_of(name), _side_of(before)
-    if corner is None or len(now) != len(before):
-        return
-    for row in range(side):
-        start, end = 2 * side * row, 2 * side * (row + 1)
-        if before[start:end] == now[start:end]:
-            continue
-        pairs = zip(struct.unpack(f">{side}h", before[start:end]), struct.unpack(f">{side}h", now[start:end]))
-        north, west = (corner.latitude + 1) * (side - 1), corner.longitude * (side - 1)
-        yield from ((Point(north - row, west + column), height) for column, (was, height) in enumerate(pairs) if was != height)
 
 
 def _sample(data: bytes, corner: Corner, point: Point) -> int:

@@ -10,6 +10,7 @@ import struct
 import subprocess
 import sys
 import tempfile
+import time
 import unittest
 
 from mosaic_store import Corner, ProgramNotFound, find_program, format_store, open_store
@@ -29,6 +30,9 @@ def _chosen() -> str:
     print(f"tests: they talk to {found}", file=sys.stderr)
     return found
 
+
+A_WHILE = 600
+"""Seconds after which a test gives up what hangs. Far more than anything takes on a loaded machine: no outcome rests on it."""
 
 PROGRAM = _chosen()
 IS_REAL = PROGRAM != FAKE
@@ -87,6 +91,13 @@ class InFolder(unittest.TestCase):
         path.chmod(0o755)
         return str(path)
 
+    def wait_for(self, path: pathlib.Path) -> None:
+        """Waits until another program has made a file."""
+        end = time.monotonic() + A_WHILE
+        while not path.exists():
+            self.assertLess(time.monotonic(), end, f"{path} was never made")
+            time.sleep(0.01)
+
     def command(self, name: str, *words: str) -> subprocess.CompletedProcess[str]:
         """Runs a command of the package."""
         return subprocess.run(
@@ -96,7 +107,7 @@ class InFolder(unittest.TestCase):
             stdin=subprocess.DEVNULL,
             capture_output=True,
             text=True,
-            timeout=300,
+            timeout=A_WHILE,
             check=False,
         )
 

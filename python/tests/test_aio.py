@@ -1,12 +1,11 @@
 """The session for asyncio: the same answers, many readers, and an event loop that goes on meanwhile."""
 
 import asyncio
-import time
 import unittest
 
 from mosaic_store import BadArgument, aio, errors, open_store, questions
 
-from .support import PROGRAM, InFolder
+from .support import A_WHILE, PROGRAM, InFolder
 
 POINTS = [(y, x) for y in range(21) for x in range(21)]
 
@@ -18,6 +17,9 @@ class Awaited(InFolder, unittest.IsolatedAsyncioTestCase):
         with open_store(self.path, PROGRAM) as store:
             asked = [questions.Fill(*point) for point in POINTS]
             self.wanted = [str(answer) for answer in store.ask_many(asked)]
+
+    async def asyncSetUp(self):
+        asyncio.get_running_loop().slow_callback_duration = A_WHILE  # tells nothing of a loaded machine
 
     async def test_every_method_answers_as_the_other_session_does(self):
         async with aio.open_store(self.path, PROGRAM) as store:
@@ -74,25 +76,37 @@ class Awaited(InFolder, unittest.IsolatedAsyncioTestCase):
             self.assertEqual([await store.export(name) for name in await store.tiles()], before)
 
     async def test_the_loop_goes_on_while_the_program_works(self):
-        slow = self.script("sys.stdin.readline(); print('OK 0', flush=True)\nsys.stdin.readline(); time.sleep(1); print('OK 7', flush=True)")
-        async with aio.open_store(self.path, slow) as store:
-            begun, ticks = time.monotonic(), 0
+        """The program answers once the loop has let it."""
+        go = self.folder / "go"
+        waiting = self.script(
+            "sys.stdin.readline(), print('OK 0', flush=True), sys.stdin.readline()\n"
+            f"while not os.path.exists({str(go)!r}): time.sleep(0.01)\n"
+            "print('OK 7', flush=True)"
+        )
+        async with aio.open_store(self.path, waiting) as store:
             answer = asyncio.create_task(store.fill(1, 1))
-            while not answer.done():
-                await asyncio.sleep(0.02)
-                ticks += 1
-            self.assertEqual((await answer, ticks > 5, time.monotonic() - begun > 0.9), (7, True, True))
+            for _ in range(5):
+                await asyncio.sleep(0)
+            self.assertFalse(answer.done())
+            go.touch()
+            self.assertEqual(await answer, 7)
 
     async def test_a_store_whose_opening_is_given_up_is_free_again(self):
-        slow = self.script("open('begun', 'w').close(); time.sleep(0.5); sys.stdin.readline(); print('OK 0', flush=True); sys.stdin.read(); open('ended', 'w').close()")
-        slow_here = self.script(f"os.chdir({str(self.folder)!r}); os.execv({slow!r}, [{slow!r}])")
-        with self.assertRaises(asyncio.TimeoutError):
-            async with asyncio.timeout(0.2):
-                await aio.open_store(self.path, slow_here).__aenter__()
-        until = time.monotonic() + 30
-        while not (self.folder / "ended").exists():
-            self.assertLess(time.monotonic(), until)
-            await asyncio.sleep(0.05)
+        """The program is begun, and answers once its opening was given up; then it is ended by the end of its input."""
+        begun, go, ended = (self.folder / name for name in ("begun", "go", "ended"))
+        waiting = self.script(
+            f"open({str(begun)!r}, 'w').close()\n"
+            f"while not os.path.exists({str(go)!r}): time.sleep(0.01)\n"
+            "sys.stdin.readline(), print('OK 0', flush=True), sys.stdin.read()\n"
+            f"open({str(ended)!r}, 'w').close()"
+        )
+        opening = asyncio.create_task(aio.open_store(self.path, waiting).__aenter__())
+        await asyncio.to_thread(self.wait_for, begun)
+        opening.cancel()
+        with self.assertRaises(asyncio.CancelledError):
+            await opening
+        go.touch()
+        await asyncio.to_thread(self.wait_for, ended)
 
     async def test_what_cannot_be_opened(self):
         with self.assertRaises(errors.CannotOpen):

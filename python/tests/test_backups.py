@@ -3,7 +3,7 @@
 import os
 import unittest
 
-from mosaic_store import BadArgument, StoreExists, memory_table, open_store
+from mosaic_store import BadArgument, StoreExists, check_store, memory_table, open_store
 
 from .support import PROGRAM, InFolder
 
@@ -34,8 +34,20 @@ class Backups(InFolder):
         self.refused(self.command("backup", path, "copy"), "is there already")
         self.refused(self.command("backup", "none", "other"), "no such file")
         told = self.command("info", "copy").stdout
-        for line in ("side 11 samples", "tiles 4 of 4: 0 fresh, 4 stale", "count 4, ", "bounds 0 0 to 2 2 degrees"):
+        for line in ("version 2, side 11 samples", "at most 4 tiles", "tiles 4: 0 fresh, 4 stale", "count 4, ", "bounds 0 0 to 2 2 degrees"):
             self.assertIn(line, told)
+
+    def test_what_a_served_store_holds(self) -> None:
+        path = self.store(SIDE)
+        with open_store(path, PROGRAM) as session:
+            session.step()
+            report = session.report()
+            self.assertEqual((session.count(), os.listdir(self.folder)), (4, ["store"]))
+            self.refused(self.command("info", path), "another program serves it")
+        self.assertEqual(report, check_store(path, PROGRAM))
+        self.assertEqual(sorted(report.tiles.values()), [False, False, False, True])
+        with memory_table(SIDE, 1, PROGRAM) as table, self.assertRaises(BadArgument):
+            table.report()
 
 
 if __name__ == "__main__":

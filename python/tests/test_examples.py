@@ -14,7 +14,7 @@ import unittest
 
 from mosaic_store import check_store, open_store
 
-from .support import PROGRAM, PYTHON, InFolder
+from .support import A_WHILE, PROGRAM, PYTHON, InFolder
 
 BEGUN = re.compile(r"service: .* at http://127\.0\.0\.1:(\d+), program (\d+)")
 JSON = {"Content-Type": "application/json"}
@@ -48,7 +48,7 @@ class Service(InFolder):
         process.stdout.close()
 
     def ask(self, port, method, target, body=None, headers=JSON, raw=False):
-        connection = http.client.HTTPConnection("127.0.0.1", port, timeout=60)
+        connection = http.client.HTTPConnection("127.0.0.1", port, timeout=A_WHILE)
         try:
             connection.request(method, target, body, headers)
             reply = connection.getresponse()
@@ -90,7 +90,7 @@ class Service(InFolder):
             with self.subTest(request):
                 self.assertEqual(self.ask(port, *request)[0], 400)
         for sent in (b"no request\r\n\r\n", b"POST /wall HTTP/1.1\r\nHost: localhost\r\nContent-Length: 99999\r\n\r\n", b"x" * 20000):
-            with self.subTest(sent[:20]), socket.create_connection(("127.0.0.1", port), timeout=60) as connection:
+            with self.subTest(sent[:20]), socket.create_connection(("127.0.0.1", port), timeout=A_WHILE) as connection:
                 connection.sendall(sent)
                 self.assertIn(b" 400 ", connection.recv(100))
         another = {"Host": f"evil.example:{port}", **JSON}
@@ -122,6 +122,8 @@ class Service(InFolder):
                 self.assertEqual(self.ask(port, method, target, sent, headers), (200, {"answer": answer}))
         self.assertIn(self.ask(port, "POST", "/step", "{}")[1]["answer"], ("N00E000", "N00E001", "N01E000", "N01E001", None))
         self.assertEqual(self.ask(port, "GET", "/export?tile=N00E000", raw=True)[1], patched)
+        info = self.ask(port, "GET", "/info")[1]["answer"]
+        self.assertEqual((info["version"], info["side"], info["count"], sum(info["tiles"].values())), (2, 11, 9, 1))
 
     def test_health_of_a_store_that_is_gone(self):
         """Where the program can't be begun anew /health says so, and is well again once it can."""
@@ -151,7 +153,7 @@ class Service(InFolder):
         print(f"service: {rates[1]} questions a second from one client, {rates[4]} from four", file=sys.stderr)
 
     def repeat(self, port, count):
-        connection = http.client.HTTPConnection("127.0.0.1", port, timeout=60)
+        connection = http.client.HTTPConnection("127.0.0.1", port, timeout=A_WHILE)
         for _ in range(count):
             connection.request("GET", "/fill?y=5&x=5")
             reply = connection.getresponse()
@@ -183,8 +185,8 @@ class Service(InFolder):
         for client in clients:
             client.join()
         service.send_signal(signal.SIGTERM)
-        service.wait(30)
-        with open_store(path, PROGRAM, wait=10) as store:
+        service.wait(A_WHILE)
+        with open_store(path, PROGRAM, wait=A_WHILE) as store:
             for heights in acknowledged:
                 for point, height in heights.items():
                     self.assertGreaterEqual(store.elevation(*point), height)
@@ -206,7 +208,7 @@ class Service(InFolder):
 
     def wait_for_more(self, acknowledged):
         wanted = sum(max(heights.values(), default=5000) for heights in acknowledged) + 20
-        until = time.monotonic() + 60
+        until = time.monotonic() + A_WHILE
         while sum(max(heights.values(), default=5000) for heights in acknowledged) < wanted:
             self.assertLess(time.monotonic(), until)
             time.sleep(0.01)
@@ -217,7 +219,7 @@ class Variants(InFolder):
         path = self.store(21)
         before = self.image(path)
         words = [sys.executable, PYTHON / "examples" / "variants.py", path, "0.5", "0.6", "0.9", "--program", PROGRAM]
-        done = subprocess.run(words, capture_output=True, text=True, timeout=600, check=False)
+        done = subprocess.run(words, capture_output=True, text=True, timeout=A_WHILE, check=False)
         self.assertEqual((done.returncode, done.stderr), (0, ""))
         self.assertRegex(done.stdout, r"50 variants in [\d.]+ s\nleast water: \d+ m, with a road of \d+ m")
         self.assertEqual(self.image(path), before)

@@ -4,7 +4,7 @@ import json
 import struct
 import unittest
 
-from mosaic_store import Point, Window, memory_table, open_store
+from mosaic_store import BadArgument, Point, Window, memory_table, open_store
 
 from .support import PROGRAM, InFolder, needs
 
@@ -107,7 +107,7 @@ class Commands(InFolder):
         path = self.store(SIDE)
         road = {"type": "Feature", "properties": {}, "geometry": {"type": "LineString", "coordinates": [[0.2, 0.5], [0.8, 0.5]]}}
         (self.folder / "road.geojson").write_text(json.dumps({"type": "FeatureCollection", "features": [road]}))
-        self.assertIn("27 points", self.hydrology(path, "edit", "road.geojson", "--wall", "900", "--width", "3"))
+        self.assertIn("27 points were edited, 0 m3 cut, ", self.hydrology(path, "edit", "road.geojson", "--wall", "900", "--width", "3"))
         with open_store(path, PROGRAM) as store:
             self.assertEqual({store.elevation(y, x) for y in (4, 5, 6) for x in range(1, 10)}, {900})
         # Where two lines cross the deeper one counts, once; what is dug is told.
@@ -185,6 +185,8 @@ class Planning(unittest.TestCase):
                 self.assertAlmostEqual(stage.area, sum(areas[40 - y] for y, _ in wet), delta=1)
                 self.assertAlmostEqual(stage.volume, sum(areas[40 - y] * depth for (y, _), depth in wet.items()), delta=1)
             self.assertEqual((found.spills_at, found.stages[-1].level, found.depths.max()), (160, 160, 18))
+            with self.assertRaisesRegex(BadArgument, "no water stands before the dam at 35 29"):
+                reservoir(table, network, [Point(5, 30), Point(35, 30)], 160, Point(35, 29))
 
     def test_heights_above_a_stream(self) -> None:
         from mosaic_store.hydrology import heights_above_stream, longest_path

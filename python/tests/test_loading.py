@@ -8,7 +8,7 @@ import zipfile
 
 from mosaic_store import Corner, check_store, format_store, open_store, shape_of
 
-from .support import PROGRAM, InFolder, hills
+from .support import PROGRAM, InFolder, hills, needs
 
 SIDE = 5
 
@@ -178,6 +178,22 @@ class Loading(InFolder):
             with open_store(path, PROGRAM) as session:
                 self.assertEqual(self.image(session), wanted)
         self.assertIn("4 there already", self.load(new, "--from", old).stdout)
+
+    @needs("numpy")
+    def test_voids_are_filled_as_tiles_come(self):
+        """From files and from another store, with the heights that they get in place; run again it finds them there."""
+        files, old = self.folder / "files", self.store(11)
+        files.mkdir()
+        for name, data in hills(11, 2, 2).items():
+            write(files, name, 5, data)
+        for store, words in (("one", ["files"]), ("other", ["--from", old])):
+            for told in ("4 imported; 1 voids filled", "4 there already"):
+                done = self.load(store, *words, "--fill-voids", "9")
+                self.assertEqual((done.returncode, told in done.stdout), (0, True), done)
+        self.assertEqual(self.command("hydrology", old, "voids", "filled.geojson").returncode, 0)
+        wanted = self.exports(old)
+        self.assertEqual([self.exports(self.folder / name) for name in ("one", "other")], [wanted, wanted])
+        self.assertNotEqual(wanted, hills(11, 2, 2))
 
     @staticmethod
     def image(session):

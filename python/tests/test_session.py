@@ -8,8 +8,8 @@ import signal
 import subprocess
 import sys
 import threading
-import time
 import unittest
+import unittest.mock
 
 from mosaic_store import (
     BadArgument,
@@ -18,6 +18,7 @@ from mosaic_store import (
     Direction,
     ProgramNotFound,
     Refusal,
+    Session,
     SessionDied,
     StoreBusy,
     StoreChanged,
@@ -33,7 +34,7 @@ from mosaic_store import (
     shape_of,
 )
 
-from .support import IS_REAL, PROGRAM, PYTHON, THREE, InFolder, hills, needs
+from .support import A_WHILE, IS_REAL, PROGRAM, PYTHON, THREE, InFolder, hills, needs
 
 
 class Words(unittest.TestCase):
@@ -190,7 +191,7 @@ class Many(unittest.TestCase):
 
     def test_more_than_the_pipes_hold(self):
         """Some megabytes each way: neither side waits for the other."""
-        with memory_table(101, 1, PROGRAM, timeout=60) as table:
+        with memory_table(101, 1, PROGRAM, timeout=A_WHILE) as table:
             table.import_tile("N00E000", b"\0\1" * 101**2)
             answers = table.ask_many([questions.Export("N00E000")] * 200 + [questions.Elevation(0, 0)] * 30000)
             self.assertEqual(len(answers), 30200)
@@ -264,9 +265,22 @@ class Stores(InFolder):
                 with self.assertRaises(StoreBusy) as caught:
                     ask()
                 self.assertIn("another program has it open", str(caught.exception))
-            threading.Timer(0.3, store.close).start()
-            with open_store(path, PROGRAM, wait=20) as other:
+            refused = threading.Event()
+
+            def start_once(session):
+                """Notes that the store was busy, once it was."""
+                try:
+                    usual(session)
+                except StoreBusy:
+                    refused.set()
+                    raise
+
+            usual = Session._start_once
+            closing = threading.Thread(target=lambda: refused.wait() and store.close())
+            closing.start()
+            with unittest.mock.patch.object(Session, "_start_once", start_once), open_store(path, PROGRAM, wait=A_WHILE) as other:
                 self.assertEqual(other.count(), 4)
+            closing.join()
 
     def test_bytes_in_paths(self):
         path = self.folder / "st\xe9re of mine"
@@ -314,16 +328,17 @@ class Deaths(InFolder):
             self.assertIsNone(store.reopen().in_doubt)
 
     def test_nothing_is_lost_to_kills(self):
-        """A thread kills the program again and again: every command that was answered stands, and each once."""
+        """A thread kills the program, and again once a command was answered: all that were answered stand, and each once."""
         path = self.store()
         with open_store(path, PROGRAM, restart=True) as store:
             point, burns = (12, 12), 60
             height = store.elevation(*point)
-            ending = threading.Event()
+            ending, answered = threading.Event(), threading.Event()
 
             def kill():
                 chance = random.Random(3)
-                while not ending.wait(chance.uniform(0.005, 0.05)):
+                while answered.wait() and not ending.wait(chance.uniform(0, 0.02)):
+                    answered.clear()
                     try:
                         os.kill(store.pid or 0, signal.SIGKILL) if store.pid else None
                     except ProcessLookupError:
@@ -346,8 +361,10 @@ class Deaths(InFolder):
                         done += recovery.stands
                         continue
                     done += 1
+                    answered.set()
             finally:
                 ending.set()
+                answered.set()
                 killer.join()
             store.reopen()
             self.assertEqual((store.elevation(*point), store.count()), (height - burns, 4 + burns))
@@ -390,22 +407,23 @@ class Deaths(InFolder):
             os.kill(store.pid, signal.SIGKILL)
             with self.assertRaises(SessionDied):
                 store.count()
-            with open_store(path, PROGRAM, wait=5) as other:
+            with open_store(path, PROGRAM, wait=A_WHILE) as other:
                 other.wall(900, [(5, 5)])
                 other.wall(901, [(5, 5)])
             with self.assertRaises(StoreChanged):
                 store.reopen()
 
     def test_timeout(self):
-        silent = self.script("print('OK 0', flush=True)\ntime.sleep(60)")
-        start = time.monotonic()
-        with memory_table(3, 1, silent, timeout=3) as table:
+        silent = self.script("print('OK 0', flush=True)\nsys.stdin.readline(), sys.stdin.readline(), sys.stdin.read()")
+        with memory_table(3, 1, silent, timeout=A_WHILE) as table:
+            channel = table._channel
+            channel._timeout = 300  # ms: once it has answered, so that its beginning may take as long as it likes
             with self.assertRaises(TimedOut) as caught:
                 table.fill(1, 1)
-            self.assertIn("within 3 s", str(caught.exception))
+            self.assertIn("within 0.3 s", str(caught.exception))
+            self.assertEqual(channel.process.returncode, -signal.SIGKILL)
             with self.assertRaises(SessionDied):
                 table.count()
-        self.assertLess(time.monotonic() - start, 30)
 
     def test_nonsense(self):
         for said in ("hello", "OK", "OK x", "ERR 99 Nonsense", "ERR 7 Void", "OK 1 2", "\\x80", ""):
@@ -418,16 +436,18 @@ class Deaths(InFolder):
                 table.trace(1, 1)
 
     def test_interrupted_while_waiting(self):
-        """An exception from outside in the middle of a reply ends the session rather than losing step."""
-        slow = self.script("print('OK 0', flush=True)\ntime.sleep(9)\nprint('OK 5', flush=True)\ntime.sleep(60)")
+        """An exception from outside, once a question was read, ends the session rather than losing step."""
+        interrupting = self.script(
+            "sys.stdin.readline(), print('OK 0', flush=True), sys.stdin.readline()\n"
+            f"os.kill(os.getppid(), {signal.SIGALRM:d})\nsys.stdin.read()"
+        )
 
         def interrupt(*_):
             raise InterruptedError
 
         before = signal.signal(signal.SIGALRM, interrupt)
         self.addCleanup(signal.signal, signal.SIGALRM, before)
-        with memory_table(3, 1, slow) as table:
-            signal.setitimer(signal.ITIMER_REAL, 0.3)
+        with memory_table(3, 1, interrupting) as table:
             with self.assertRaises(InterruptedError):
                 table.fill(1, 1)
             with self.assertRaises(SessionDied):
@@ -438,19 +458,20 @@ class Deaths(InFolder):
 
         What it read is recorded: each line of a wall is whole, and a payload that is cut is the last thing.
         """
-        record = self.folder / "record"
+        record, ended = self.folder / "record", self.folder / "ended"
         recorder = self.script(
             f"sys.stderr, record = open(os.devnull, 'w'), open({str(record)!r}, 'wb', buffering=0)\n"
             "while line := sys.stdin.buffer.readline():\n"
             "    record.write(line)\n"
-            "    print('OK 0', flush=True)\n"
+            "    try: os.write(1, b'OK 0\\n')\n"
+            "    except BrokenPipeError: pass  # the writer is gone; what it had sent is read on\n"
+            f"open({str(ended)!r}, 'w').close()\n"
         )
         writer = (
             "from mosaic_store import memory_table\n"
             f"table = memory_table(3, 1, {recorder!r})\n"
             "points = [(at + 100000, 200000 - at) for at in range(64)]\n"
-            "print('begun', flush=True)\n"
-            "while True: table.wall(12345, points)\n"
+            "while True: print(table.wall(12345, points), flush=True)\n"
         )
         whole = (questions.Wall(12345, [(at + 100000, 200000 - at) for at in range(64)]).line() + "\n").encode()
         chance = random.Random(1)
@@ -458,10 +479,11 @@ class Deaths(InFolder):
             with subprocess.Popen(
                 [sys.executable, "-c", writer], stdout=subprocess.PIPE, env={**os.environ, "PYTHONPATH": str(PYTHON)}
             ) as process:
-                process.stdout.readline()
-                time.sleep(chance.uniform(0.01, 0.2))
+                for _ in range(chance.randrange(1, 500)):
+                    process.stdout.readline()
                 process.kill()
-            time.sleep(0.1)
+            self.wait_for(ended)  # the recorder has read all that came
+            ended.unlink()
             lines = record.read_bytes().splitlines(keepends=True)
             self.assertGreater(len(lines), 1)
             self.assertEqual(set(lines[1:]), {whole})

@@ -89,6 +89,21 @@ class Trials(InFolder):
             1 / 0
         self.assertEqual(self.image(), self.before)
 
+    def test_one_after_another(self):
+        """Each puts back what it found: also where nothing, or an edit of its own kind, came between."""
+        for between in (None, lambda: self.session.burn(2, [(5, 5)])):
+            for _ in range(2):
+                with self.session.trial():
+                    self.session.wall(2000, [(5, 5), (5, 6)])
+                    self.session.burn(7, [(5, 6)])
+                self.assertEqual(self.image(), self.before)
+            if between is not None:
+                between()
+                self.before = self.image()
+        with self.session.trial():
+            self.session.wall(2000, [(5, 5)])
+        self.assertEqual(self.image(), self.before)
+
     def test_refused_edits_leave_nothing(self):
         count = self.session.count()
         with self.session.trial():

@@ -9,8 +9,6 @@ import json
 import os
 import shutil
 import signal
-import subprocess
-import tempfile
 import threading
 import unittest
 import unittest.mock
@@ -23,6 +21,9 @@ from mosaic_store.session import memory_table
 from mosaic_store.stores import find_program
 from mosaic_store.view import lines
 
+from .browser import Browser
+from .support import A_WHILE
+
 try:
     import numpy as np
 
@@ -34,6 +35,7 @@ except ImportError:
     np = None  # type: ignore[assignment]
 
 SIDE = 41
+LINK = "#at=20,40,0.1&ask=25,10&watershed&wall=190;10,40;30,40"
 
 
 def has_program() -> bool:
@@ -122,7 +124,7 @@ class Served(unittest.TestCase):
         self.session.close()
 
     def request(self, method: str, path: str, words: Any = None, headers: dict[str, str] | None = None) -> tuple[int, bytes]:
-        connection = http.client.HTTPConnection("127.0.0.1", self.server.server_port, timeout=30)
+        connection = http.client.HTTPConnection("127.0.0.1", self.server.server_port, timeout=A_WHILE)
         own = {"Content-Type": "application/json", "X-Mosaic": self.server.token, **(headers or {})}
         body = words if words is None or isinstance(words, bytes) else json.dumps(words).encode()
         connection.request(method, path.replace("TOKEN", self.server.token), body, own)
@@ -303,16 +305,30 @@ class Served(unittest.TestCase):
 
     @unittest.skipUnless(shutil.which("chromium"), "chromium isn't installed: apt-get install chromium")
     def test_a_browser_draws_the_map_and_a_trial(self) -> None:
-        link = f"{self.server.url}#at=20,40,0.1&ask=25,10&watershed&wall=190;10,40;30,40"
-        with tempfile.TemporaryDirectory() as folder:
-            words = ["chromium", "--headless", "--no-sandbox", "--disable-gpu", "--virtual-time-budget=30000", "--dump-dom", link]
-            environment = os.environ | {"HOME": folder}
-            done = subprocess.run(words, stdout=subprocess.PIPE, stderr=subprocess.DEVNULL, env=environment, timeout=120)
-        page = done.stdout.decode()
-        for shown in ("valley: 2 tiles of 41", "<dd>215 m</dd>", "<dt>Watershed</dt>", "<th>Level at the line, m</th><td>160</td><td>190</td>"):
-            with self.subTest(shown=shown):
-                self.assertIn(shown, page)
+        with Browser(self.server.url + LINK) as browser:
+            for shown in ("valley: 2 tiles of 41", "215 m", "Watershed\n16 points", "Level at the line, m\t160\t190"):
+                browser.wait_for_text(shown)
         self.assertEqual(self.session.count(), 2)
+
+    @unittest.skipUnless(shutil.which("chromium"), "chromium isn't installed: apt-get install chromium")
+    def test_a_browser_gives_up_the_copy(self) -> None:
+        """Cancel is pressed between two tiles; nothing is left of the copy, and the line can be tried again."""
+        pressed, copy = threading.Event(), self.bench.copy
+
+        def copy_once_pressed() -> dict[str, Any]:
+            if self.bench._copied is not None:
+                pressed.wait()
+            return copy()
+
+        self.bench.copy = copy_once_pressed
+        with unittest.mock.patch("mosaic_store.view.workbench.SECONDS_AT_ONCE", 1e-9), Browser(self.server.url + LINK) as browser:
+            browser.wait_for_text("Copied 1 of 2 tiles")
+            browser.press("cancel")
+            pressed.set()
+            browser.wait_for_text("the copy is gone")
+            self.assertEqual(json.loads(self.request("GET", "/TOKEN/region")[1])["copy"]["done"], 0)
+            browser.press("try")
+            browser.wait_for_text("Level at the line, m\t160\t190")
 
     def test_a_trial_that_is_refused_leaves_nothing(self) -> None:
         self.copy()

@@ -58,7 +58,9 @@ DESCRIPTION = """What drains where in a window of a store. It needs numpy.
                                                        all of them, or none where one is refused
   mosaic-hydrology STORE voids filled.geojson --most 10000
                                                        gives voids heights from their rim, in the store, and tells which;
-                                                       those that reach the window's edge are left
+                                                       those that reach the window's edge are left. A command for nearly
+                                                       each void: where there are thousands take
+                                                       mosaic-load NEW --from STORE --fill-voids 10000
 
 Numbers are degrees north and east; with --points they are points y x of the lattice."""
 
@@ -159,7 +161,7 @@ def _catchments(session: Session, options: argparse.Namespace) -> str:
         features.append(points_feature(runs, session.side, {**carried, **own, **drained, "y": outlet.y, "x": outlet.x}))
     _write_json(options.file, features)
     dry = sum(counts[network.cell(outlet)] < options.threshold for outlet, _ in outlets) if options.reach else 0
-    return f"{len(features)} catchments" + (f"; {dry} outlets have no stream within {options.reach} steps, and stay" if dry else "")
+    return f"{len(features)} catchments" + (f"; {dry} without a stream within {options.reach} steps stay where they are" if dry else "")
 
 
 def _outlets(session: Session, options: argparse.Namespace, network: Network) -> Iterator[tuple[Point, dict[str, Any]]]:
@@ -316,9 +318,13 @@ def _voids(session: Session, options: argparse.Namespace) -> str:
     from ..hydrology import filled_voids
 
     window = window_given(options.window, session, options.points)
+    progress = Progress(NAME, 0, "runs of voids filled")
     with written_whole(options.file) as path:
         with session.trial() as trial:
-            runs = filled_voids(session, window, options.most)
+            try:
+                runs = filled_voids(session, window, options.most, progress.tell_of)
+            finally:
+                progress.clear()
             count = sum(run.last - run.first + 1 for run in runs)
             _dump_json(path, [points_feature(runs, session.side, {"what": "filled voids", "cells": count})])
             trial.keep()

@@ -7,12 +7,15 @@ import functools
 import sys
 from collections.abc import Sequence
 
+from ..errors import StoreBusy
 from ..lattice import corner_of
 from ..stores import check_store, shape_of
 from .frame import DONE, CommandError, parser, run
 
 NAME = "mosaic-info"
-DESCRIPTION = """Tells a store's side, capacity, count of accepted commands, tiles (fresh and stale) and bounds. The store is read whole.
+DESCRIPTION = """Tells a store's version, side, capacity, count of accepted commands, tiles (fresh and stale) and bounds. The store is read
+whole. Where another program serves it the first line is told, and the rest by that one's session: Session.report of the
+package, or GET /info of python/examples/service.py.
 
   mosaic-info STORE"""
 
@@ -29,13 +32,15 @@ def _parsed(arguments: Sequence[str] | None) -> argparse.Namespace:
 
 
 def _tell(options: argparse.Namespace) -> int:
-    report = check_store(options.store, options.program)
     shape = shape_of(options.store)
-    if shape is None:
-        raise CommandError(f"{options.store}: its side can't be read")
+    if shape is not None:
+        print(f"version {shape.version}, side {shape.side} samples, {shape.side - 1} points a degree, at most {shape.capacity} tiles")
+    try:
+        report = check_store(options.store, options.program)
+    except StoreBusy:
+        raise CommandError(f"{options.store}: another program serves it: its Session.report, or GET /info, tells the rest") from None
     fresh = sum(report.tiles.values())
-    print(f"side {shape.side} samples, {shape.side - 1} points a degree")
-    print(f"tiles {len(report.tiles)} of {shape.capacity}: {fresh} fresh, {len(report.tiles) - fresh} stale")
+    print(f"tiles {len(report.tiles)}: {fresh} fresh, {len(report.tiles) - fresh} stale")
     print(f"count {report.count}, commits {report.commits}, points that two tiles hold with different samples {report.seams}")
     corners = [corner for corner in map(corner_of, report.tiles) if corner is not None]
     if corners:

@@ -12,7 +12,7 @@ import time
 from collections.abc import Callable, Iterable, Sequence
 
 from ..lattice import MOST_TILES, corner_of
-from ..loading import Found, Kind, Outcome, copy, find, load
+from ..loading import Change, Found, Kind, Outcome, copy, find, load, unchanged
 from ..session import Session, open_store
 from ..splitting import FILE, is_split, read_split
 from ..stores import Shape, format_store, shape_of
@@ -24,6 +24,9 @@ DESCRIPTION = """Imports HGT files and archives of them (.hgt, .zip, .hgt.gz, na
   mosaic-load STORE FOLDER..          makes the store where there is none, with the side and the tiles that it finds
   mosaic-load NEW --from OLD --capacity 200
                                       the tiles and sinks of a store into one of another capacity; OLD stays
+  mosaic-load NEW --from OLD --fill-voids 10000
+                                      gives voids inside a tile heights from their rim, in parts of at most so many points;
+                                      those that reach the tile's edge are left. With FOLDER.., too. It needs numpy
   mosaic-load STORES FOLDER..         more than 240 tiles: makes a folder of stores as mosaic-split says, or fills its stores
 
 Run it again to go on after an interruption: tiles that are there are passed by. Each failure is told with its cause and
@@ -41,7 +44,8 @@ def _parsed(arguments: Sequence[str] | None) -> argparse.Namespace:
     made.add_argument("paths", nargs="*", metavar="FOLDER", help="folders and files")
     made.add_argument("--from", dest="origin", metavar="STORE", help="takes tiles and sinks from another store")
     made.add_argument("--side", type=int, help="of a store that is made: what most files have, without it")
-    made.add_argument("--capacity", type=int, help="of a store that is made: twice as many as there are tiles, without it")
+    made.add_argument("--capacity", type=int, help="of a store that is made; without it twice as many as there are tiles, or what the other store has")
+    made.add_argument("--fill-voids", type=int, metavar="POINTS", help="gives parts of so many voids at most heights from their rim")
     options = made.options_of(arguments)
     if bool(options.paths) == bool(options.origin):
         made.error("folders and files are needed, or --from a store")
@@ -63,7 +67,16 @@ def _from_files(options: argparse.Namespace) -> int:
         return _into_stores(options, found)
     _make_where_none(options, found.shape)
     with open_store(options.store, options.program) as session:
-        return _summed_up(load(session, found), len(found.sources) + len(found.troubles), _files(found), session)
+        return _summed_up(load(session, found, _change(options)), len(found.sources) + len(found.troubles), _files(found), session)
+
+
+def _change(options: argparse.Namespace) -> Change:
+    """What is made of each tile."""
+    if options.fill_voids is None:
+        return unchanged
+    from ..hydrology import tile_without_voids
+
+    return functools.partial(tile_without_voids, most=options.fill_voids)
 
 
 def _plan(options: argparse.Namespace, found: Found) -> None:
@@ -89,7 +102,7 @@ def _into_stores(options: argparse.Namespace, found: Found) -> int:
         if not os.path.lexists(path):
             format_store(path, split.side, split.most, options.program)
         with open_store(path, options.program) as session:
-            outcomes = itertools.chain.from_iterable(load(session, part) for part in parts)
+            outcomes = itertools.chain.from_iterable(load(session, part, _change(options)) for part in parts)
             total = sum(len(part.sources) + len(part.troubles) for part in parts)
             files = sum(part.files for part in parts)
             statuses.append(_summed_up(outcomes, total, f"{path}: {files} file{'' if files == 1 else 's'}", session))
@@ -108,15 +121,14 @@ def _from_store(options: argparse.Namespace) -> int:
     if os.path.exists(options.store) and os.path.exists(options.origin) and os.path.samefile(options.store, options.origin):
         raise CommandError(f"{options.store}: tiles move to another store: name a new one")
     with open_store(options.origin, options.program) as other:
-        shape = Shape(other.side, max(1, len(other.tiles())))
         if options.capacity is not None and options.capacity < len(other.tiles()):
             raise CommandError(f"{options.origin} holds {len(other.tiles())} tiles: give no smaller --capacity")
         if options.side not in (None, other.side):
             raise CommandError(f"{options.origin} has the side {other.side}, and tiles keep theirs: leave --side out")
-        _make_where_none(options, lambda _, capacity: Shape(shape.side, shape.capacity if capacity is None else capacity))
+        _make_where_none(options, lambda _, capacity: Shape(other.side, other.capacity if capacity is None else capacity))
         with open_store(options.store, options.program) as session:
             total = len(other.tiles()) + len(other.sinks())
-            return _summed_up(copy(session, other), total, f"{total} tiles and sinks", session)
+            return _summed_up(copy(session, other, _change(options)), total, f"{total} tiles and sinks", session)
 
 
 def _make_where_none(options: argparse.Namespace, shape_for: Callable[[int | None, int | None], Shape]) -> None:
@@ -142,9 +154,11 @@ def _summed_up(outcomes: Iterable[Outcome], total: int, what: str, session: Sess
     start = time.monotonic()
     progress = Progress(NAME, total, "done")
     tally: collections.Counter[Kind] = collections.Counter()
+    filled = 0
     try:
         for outcome in outcomes:
             tally[outcome.kind] += 1
+            filled += outcome.filled
             if outcome.cure or (outcome.kind is Kind.PASSED_BY and outcome.cause):
                 progress.clear()
                 print(outcome, file=sys.stderr, flush=True)
@@ -152,7 +166,8 @@ def _summed_up(outcomes: Iterable[Outcome], total: int, what: str, session: Sess
     finally:
         progress.clear()
         counts = ", ".join(f"{tally[kind]} {kind.value}" for kind in Kind if tally[kind]) or "nothing done"
-        print(f"{what} in {time.monotonic() - start:.1f} s: {counts}", flush=True)
+        voids = f"; {filled} voids filled" if filled else ""
+        print(f"{what} in {time.monotonic() - start:.1f} s: {counts}{voids}", flush=True)
     print(f"the store holds {len(session.tiles())} of {session.capacity} tiles")
     return FAILED if tally[Kind.FAILED] else DONE
 

@@ -359,9 +359,11 @@ async function copyStore() {
   isCancelled = false;
   byId("try").disabled = true;
   byId("copying").hidden = region.copy.done === region.copy.total;
+  byId("copying").scrollIntoView({ block: "nearest" });
   try {
     do {
-      region.copy = await request(isCancelled ? "drop" : "copy", {});
+      region.copy = await request("copy", {});
+      if (isCancelled) region.copy = await request("drop", {});
       showCopy();
       if (isCancelled) throw new Error("Cancelled: nothing was tried, and the copy is gone");
       say(`Copied ${region.copy.done} of ${region.copy.total} tiles`);

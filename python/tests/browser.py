@@ -1,0 +1,104 @@
+"""A page in chromium without a window, by the DevTools protocol over two pipes: what it shows is waited for, and pressed by the mouse."""
+
+from __future__ import annotations
+
+import base64
+import contextlib
+import json
+import os
+import select
+import subprocess
+import tempfile
+import time
+from types import TracebackType
+from typing import Any
+
+from .support import A_WHILE
+
+class Browser:
+    """A page of a link."""
+
+    def __init__(self, link: str, width: int = 1280, height: int = 800) -> None:
+        self._folder = tempfile.TemporaryDirectory(ignore_cleanup_errors=True)
+        read, self._commands = os.pipe()
+        self._answers, write = os.pipe()
+        words = ["--headless=new", "--no-sandbox", "--disable-gpu", "--remote-debugging-pipe", f"--window-size={width},{height}"]
+        words += [f"--user-data-dir={self._folder.name}", "about:blank"]
+        # It reads commands from descriptor 3 and writes answers to 4.
+        self._process = subprocess.Popen(
+            ["bash", "-c", f'exec chromium "$@" 3<&{read} 4>&{write}', "chromium", *words],
+            pass_fds=(read, write),
+            stdout=subprocess.DEVNULL,
+            stderr=subprocess.DEVNULL,
+            env=os.environ | {"HOME": self._folder.name},
+        )
+        os.close(read)
+        os.close(write)
+        self._number, self._unread = 0, b""
+        self._page: dict[str, str] = {}
+        target = self._ask("Target.createTarget", url=link)["targetId"]
+        self._page = {"sessionId": self._ask("Target.attachToTarget", targetId=target, flatten=True)["sessionId"]}
+
+    def __enter__(self) -> Browser:
+        return self
+
+    def __exit__(self, kind: type[BaseException] | None, error: BaseException | None, trace: TracebackType | None) -> None:
+        self._page = {}
+        with contextlib.suppress(OSError, EOFError):  # where it has ended by itself
+            self._ask("Browser.close")
+            self._process.wait()
+        self._process.kill()
+        self._process.wait()
+        os.close(self._commands)
+        os.close(self._answers)
+        self._folder.cleanup()
+
+    def value(self, expression: str) -> Any:
+        """What an expression of the page comes to; None where it can't be told yet."""
+        return self._ask("Runtime.evaluate", expression=expression, returnByValue=True).get("result", {}).get("value")
+
+    def wait_for(self, expression: str) -> None:
+        """Waits until an expression of the page is true."""
+        end = time.monotonic() + A_WHILE
+        while not self.value(expression):
+            if time.monotonic() > end:
+                raise TimeoutError(f"{expression}; the page says {self.value('document.body.innerText')}")
+            time.sleep(0.02)
+
+    def wait_for_text(self, text: str) -> None:
+        """Waits until the page shows a text."""
+        self.wait_for(f"document.body.innerText.includes({json.dumps(text)})")
+
+    def press(self, name: str) -> None:
+        """Presses the button of an id with the mouse, once it is there and can be."""
+        button = f"document.getElementById({json.dumps(name)})"
+        self.wait_for(f"{button} && {button}.offsetParent && !{button}.disabled")
+        self.value(f"{button}.scrollIntoView()")
+        box = self.value(f"{button}.getBoundingClientRect().toJSON()")
+        x, y = box["x"] + box["width"] / 2, box["y"] + box["height"] / 2
+        for kind in ("mousePressed", "mouseReleased"):
+            self._ask("Input.dispatchMouseEvent", type=kind, x=x, y=y, button="left", clickCount=1)
+
+    def picture(self) -> bytes:
+        """What it shows, as a PNG."""
+        return base64.b64decode(self._ask("Page.captureScreenshot", format="png")["data"])
+
+    def _ask(self, method: str, **given: Any) -> dict[str, Any]:
+        self._number += 1
+        message = {"id": self._number, "method": method, "params": given, **self._page}
+        os.write(self._commands, json.dumps(message).encode() + b"\0")
+        while True:
+            answer = self._message()
+            if answer.get("id") == self._number:
+                return answer.get("result", {})
+
+    def _message(self) -> dict[str, Any]:
+        while b"\0" not in self._unread:
+            if not select.select([self._answers], [], [], A_WHILE)[0]:
+                raise TimeoutError("chromium answers nothing")
+            part = os.read(self._answers, 1 << 16)
+            if not part:
+                raise EOFError("chromium has ended")
+            self._unread += part
+        message, _, self._unread = self._unread.partition(b"\0")
+        return json.loads(message)
