@@ -43,7 +43,7 @@ from .lattice import (
 )
 from .questions import Command, Question, Watershed
 from .session import Recovery, Session, memory_table, open_store
-from .stores import Report, Shape, check_store, find_program, format_store, shape_of, upgrade_store
+from .stores import Report, Shape, check_store, find_program, find_server, format_store, shape_of, upgrade_store
 from .trials import Trial
 from .version import VERSION as __version__
 
@@ -81,6 +81,7 @@ __all__ = [
     "degrees_of",
     "errors",
     "find_program",
+    "find_server",
     "format_store",
     "memory_table",
     "open_store",

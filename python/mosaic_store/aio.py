@@ -129,6 +129,12 @@ class Session:
     async def export(self, name: str) -> bytes:
         return await self._call(self.blocking.export, name)
 
+    async def levels(self, name: str) -> Any:
+        return await self._call(self.blocking.levels, name)
+
+    async def directions(self, name: str) -> Any:
+        return await self._call(self.blocking.directions, name)
+
     async def tiles(self) -> list[str]:
         return await self._call(self.blocking.tiles)
 

@@ -3,7 +3,7 @@
 A point with a lower neighbour drains to the steepest; otherwise it is an outlet where water leaves the mosaic, and
 otherwise it lies on a flat, and drains to the first neighbour, in the order of directions, that is nearer to an end of the
 flat. Flats are resolved by waves from their ends (Barnes, Lehman and Mulla 2014). Only points of flats that reach beyond
-the window are asked of the program. They need numpy.
+the window are asked of the program. Where whole tiles are told at once they are asked for instead. They need numpy.
 """
 
 from __future__ import annotations
@@ -12,7 +12,20 @@ from typing import TYPE_CHECKING, Any
 
 from .lattice import Window
 from .questions import FlowDirection
-from .rasters import NO_DIRECTION, STEPS, Heights, Told, adjacent, asked_of, heights_of, levels_of, points_of, shifted
+from .rasters import (
+    NO_DIRECTION,
+    STEPS,
+    Heights,
+    Told,
+    adjacent,
+    asked_of,
+    asks_whole_tiles,
+    heights_of,
+    levels_of,
+    points_of,
+    shifted,
+    whole_tiles,
+)
 from .samples import needed_numpy
 from .session import Session
 
@@ -24,12 +37,16 @@ if TYPE_CHECKING:
 
 def directions_of(session: Session, heights: Heights, told: Told | None = None) -> Array:
     """The direction code of each ground point, uint8 of the heights' shape; 255 elsewhere."""
+    if asks_whole_tiles(session, heights):
+        return whole_tiles(session.directions, heights, NO_DIRECTION, "uint8", told)
     return levels_and_directions(session, heights, told)[1]
 
 
 def levels_and_directions(session: Session, heights: Heights, told: Told | None = None) -> tuple[Array, Array]:
     """What `levels_of` and `directions_of` answer, with the levels found once."""
     numpy = needed_numpy()
+    if asks_whole_tiles(session, heights):
+        return levels_of(session, heights), directions_of(session, heights, told)
     around = heights_of(session, _grown(heights.window))
     levels = levels_of(session, around, told)
     codes, members = _local(session, around, levels)

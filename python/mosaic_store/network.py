@@ -16,7 +16,7 @@ from .errors import BadArgument
 from .geojson import Feature, line_feature
 from .lattice import METRES_A_DEGREE, Direction, Point, Window
 from .questions import FlowDirection, WatershedOf
-from .rasters import STEPS, Heights, Told, heights_of
+from .rasters import NO_DIRECTION, STEPS, Heights, Told, heights_of
 from .samples import needed_numpy
 from .session import Session
 
@@ -41,7 +41,7 @@ class Network:
     receivers: Array
     """Of each cell the one that it drains to, int64 of shape (cells,); -1 where water leaves the window."""
     ranks: tuple[Array, ...]
-    """All ground cells, such that each comes in an earlier part than the cell that it drains to."""
+    """All ground cells, such that each comes in an earlier part than the one that it drains to, by which a part is ordered."""
     entering: Mapping[int, int]
     """How many points from outside the window drain into a cell at once, by cell; only cells with any."""
 
@@ -135,9 +135,8 @@ class Network:
         numpy = needed_numpy()
         steps = self.step_lengths().ravel()
         lengths = numpy.zeros(self.receivers.size)
-        for part in self.ranks:
-            onward = part[self.receivers[part] != NOWHERE]
-            numpy.maximum.at(lengths, self.receivers[onward], lengths[onward] + steps[onward])
+        for onward, starts, to in self._onward():
+            lengths[to] = numpy.maximum(lengths[to], numpy.maximum.reduceat(lengths[onward] + steps[onward], starts))
         return lengths.reshape(self.shape)
 
     def longest_path(self, outlet: Point) -> list[Point]:
@@ -169,10 +168,18 @@ class Network:
         """The sums of values over all that drains through each cell."""
         numpy = needed_numpy()
         sums = values.copy()
+        for onward, starts, to in self._onward():
+            sums[to] += numpy.add.reduceat(sums[onward], starts)
+        return sums
+
+    def _onward(self) -> Iterator[tuple[Array, Array, Array]]:
+        """Part by part: the cells that drain to another; at which of them each of these others begins; and these."""
         for part in self.ranks:
             onward = part[self.receivers[part] != NOWHERE]
-            numpy.add.at(sums, self.receivers[onward], sums[onward])
-        return sums
+            if onward.size:
+                to = self.receivers[onward]
+                starts = _starts(to)
+                yield onward, starts, to[starts]
 
 
 def network_of(session: Session, window: Window, told: Told | None = None) -> Network:
@@ -185,26 +192,42 @@ def network_of(session: Session, window: Window, told: Told | None = None) -> Ne
 
 def _receivers(codes: Array) -> Array:
     numpy = needed_numpy()
-    rows, columns = codes.shape
-    receivers = numpy.full(codes.shape, NOWHERE, numpy.int64)
+    columns = codes.shape[1]
+    steps = numpy.zeros(256, numpy.int64)
     for number, (north, east) in enumerate(STEPS):
-        row, column = numpy.nonzero(codes == 1 << number)
-        to_row, to_column = row - north, column + east
-        inside = (0 <= to_row) & (to_row < rows) & (0 <= to_column) & (to_column < columns)
-        receivers[row[inside], column[inside]] = to_row[inside] * columns + to_column[inside]
+        steps[1 << number] = east - north * columns
+    receivers = numpy.arange(codes.size).reshape(codes.shape) + steps[codes]
+    receivers[(codes == Direction.OFF) | (codes == NO_DIRECTION)] = NOWHERE
+    edges = (receivers[0], codes[0]), (receivers[-1], codes[-1]), (receivers[:, 0], codes[:, 0]), (receivers[:, -1], codes[:, -1])
+    for (edge, own), outward in zip(edges, ((32, 64, 128), (2, 4, 8), (8, 16, 32), (128, 1, 2))):
+        edge[numpy.isin(own, outward)] = NOWHERE
     return receivers.ravel()
 
 
 def _ranks(receivers: Array, ground: Array) -> Iterator[Array]:
     numpy = needed_numpy()
-    onward = receivers[receivers != NOWHERE]
-    donors = numpy.bincount(onward, minlength=receivers.size)
-    part = numpy.flatnonzero(ground.ravel() & (donors == 0))
+    # One more at the end for NOWHERE, which is the index of the last.
+    donors = numpy.bincount(receivers[receivers != NOWHERE], minlength=receivers.size + 1)
+    ones = numpy.ones_like(donors)
+    part = numpy.flatnonzero(ground.ravel() & (donors[:-1] == 0))
     while part.size:
-        yield part
-        reached, counts = numpy.unique(receivers[part][receivers[part] != NOWHERE], return_counts=True)
-        donors[reached] -= counts
-        part = reached[donors[reached] == 0]
+        to = receivers[part]
+        order = to.argsort(kind="stable")
+        yield part[order]
+        to = to[order]
+        starts = _starts(to)
+        reached = to[starts]
+        left = donors[reached] - numpy.add.reduceat(ones[: to.size], starts)
+        donors[reached] = left
+        part = reached[(left == 0) & (reached != NOWHERE)]
+
+
+def _starts(ordered: Array) -> Array:
+    """Where each value of an ordered array begins."""
+    numpy = needed_numpy()
+    begins = numpy.ones(ordered.size, bool)
+    numpy.not_equal(ordered[1:], ordered[:-1], out=begins[1:])
+    return begins.nonzero()[0]
 
 
 def _entering(session: Session, window: Window) -> dict[int, int]:
@@ -266,7 +289,8 @@ def streams(network: Network, threshold: int) -> list[Reach]:
     counts = network.counts.ravel()
     is_stream = counts >= threshold
     receivers, lengths = network.receivers, network.step_lengths().ravel()
-    ordered = numpy.concatenate([part[is_stream[part]] for part in network.ranks] or [numpy.empty(0, numpy.int64)]).tolist()
+    parts = [numpy.sort(part[is_stream[part]]) for part in network.ranks]
+    ordered = numpy.concatenate(parts or [numpy.empty(0, numpy.int64)]).tolist()
     above: dict[int, list[_Open]] = {}
     reaches: list[Reach] = []
     for cell in ordered:

@@ -233,17 +233,42 @@ class WatershedOf(_AtPoint[Watershed]):
         return Watershed(cells, runs)
 
 
-@dataclass(frozen=True, slots=True)
-class Export(Question[bytes]):
-    """A tile's own HGT bytes."""
+class _OfTile(Question[bytes]):
+    """A question of a whole tile, answered by a value for each of its samples."""
 
+    __slots__ = ()
     name: str
+    _verb = ""
 
     def line(self) -> str:
-        return _short(f"export {_word(self.name)}")
+        return _short(f"{self._verb} {_word(self.name)}")
 
     def answer(self, words: list[str], replies: Replies) -> bytes:
         return replies.exactly(_number(words))
+
+
+@dataclass(frozen=True, slots=True)
+class Export(_OfTile):
+    """A tile's own HGT bytes."""
+
+    name: str
+    _verb = "export"
+
+
+@dataclass(frozen=True, slots=True)
+class Levels(_OfTile):
+    """The filled levels of a tile's samples as HGT bytes. A line of `mosaic-tiles` alone."""
+
+    name: str
+    _verb = "levels"
+
+
+@dataclass(frozen=True, slots=True)
+class FlowDirections(_OfTile):
+    """The direction codes of a tile's samples, a byte each; 255 where there is no ground. A line of `mosaic-tiles` alone."""
+
+    name: str
+    _verb = "directions"
 
 
 @dataclass(frozen=True, slots=True)

@@ -29,6 +29,9 @@ STEPS = ((0, 1), (-1, 1), (-1, 0), (-1, -1), (0, -1), (1, -1), (1, 0), (1, 1))
 
 _ASKED_AT_ONCE = 2048
 
+_WORTH_A_TILE = 32
+"""By lines a point of a window costs as much as so many samples of a whole tile."""
+
 Told = Callable[[int, int], None]
 """Is told how many of how many questions were answered."""
 
@@ -77,8 +80,26 @@ def heights_of(session: Session, window: Window, every: int = 1) -> Heights:
     return Heights(window, side, every, ys, xs, samples, held, corners)
 
 
-def lay(tile: Callable[[], Array], window: Window, ys: Array, xs: Array, samples: Array, held: Array, every: int = 1) -> None:
-    """Lays a tile on rows and columns of points, the tiles in their order: a height that one before has laid stays.
+def tile_of(session: Session, name: str) -> Heights:
+    """The heights of a tile's window. A refusal of `export` where there is no such tile."""
+    session.export(name)
+    corner = corner_of(name)
+    if corner is None:
+        raise BadReply(f"{name} was exported, and is no tile's name")
+    return heights_of(session, corner.window(session.side))
+
+
+def lay(
+    tile: Callable[[], Array],
+    window: Window,
+    ys: Array,
+    xs: Array,
+    samples: Array,
+    held: Array,
+    every: int = 1,
+    nothing: int = VOID,
+) -> None:
+    """Lays a tile on rows and columns of points, the tiles in their order: what one before has laid stays, but for `nothing`.
 
     `tile` answers each `every`-th of the samples each way, and is asked where some of the points lie in its window.
     """
@@ -90,7 +111,7 @@ def lay(tile: Callable[[], Array], window: Window, ys: Array, xs: Array, samples
         return
     own = tile()[numpy.ix_(rows[in_rows] // every, columns[in_columns] // every)]
     place = numpy.ix_(in_rows, in_columns)
-    samples[place] = numpy.where(samples[place] == VOID, own, samples[place])
+    samples[place] = numpy.where(samples[place] == nothing, own, samples[place])
     held[place] = True
 
 
@@ -98,9 +119,12 @@ def levels_of(session: Session, heights: Heights, told: Told | None = None) -> A
     """The filled level of each ground point in metres, int32 of the heights' shape, -32768 elsewhere.
 
     Few questions do. A point that lies beside one that isn't higher has the greater of its own height and that one's
-    level: water that leaves from one reaches the other first. So only the pits of the window are asked for.
+    level: water that leaves from one reaches the other first. So only the pits of the window are asked for. Where whole tiles
+    are told at once, and the window is a good part of them, these are asked for.
     """
     numpy = needed_numpy()
+    if asks_whole_tiles(session, heights):
+        return whole_tiles(session.levels, heights, VOID, "int32", told)
     pits = _pits(heights)
     ground = heights.ground.ravel()
     asked, place = numpy.unique(pits[ground], return_inverse=True)
@@ -109,6 +133,38 @@ def levels_of(session: Session, heights: Heights, told: Told | None = None) -> A
     levels = numpy.full(ground.shape, VOID, numpy.int32)
     levels[ground] = numpy.maximum(answers[place], heights.samples.ravel()[ground])
     return levels.reshape(heights.samples.shape)
+
+
+def asks_whole_tiles(session: Session, heights: Heights) -> bool:
+    """Whether whole tiles tell sooner of a window than questions of its points do."""
+    if heights.every != 1:
+        raise BadReply("water is asked for in windows that aren't thinned")
+    worth = _WORTH_A_TILE * heights.samples.size >= len(_reached(heights)) * heights.side**2
+    return worth and session.takes_whole_tiles
+
+
+def whole_tiles(ask: Callable[[str], Array], heights: Heights, nothing: int, kind: str, told: Told | None) -> Array:
+    """What `ask` tells of the samples of each tile, on a window, as an array of a kind; `nothing` where no tile is."""
+    numpy = needed_numpy()
+    found = numpy.full(heights.samples.shape, nothing, kind)
+    held = numpy.zeros(found.shape, bool)
+    reached = _reached(heights)
+    for number, corner in enumerate(reached, 1):
+        lay(functools.partial(ask, corner.name), corner.window(heights.side), heights.ys, heights.xs, found, held, nothing=nothing)
+        if told is not None:
+            told(number, len(reached))
+    return found
+
+
+def _reached(heights: Heights) -> list[Corner]:
+    """The tiles that reach into a window."""
+    window = heights.window
+    tiles = [(corner, corner.window(heights.side)) for corner in heights.corners]
+    return [
+        corner
+        for corner, own in tiles
+        if own.y0 <= window.y1 and window.y0 <= own.y1 and own.x0 <= window.x1 and window.x0 <= own.x1
+    ]
 
 
 def depths_of(heights: Heights, levels: Array) -> Array:
@@ -139,8 +195,6 @@ def asked_of(session: Session, asked: Sequence[Question[int]], told: Told | None
 def _pits(heights: Heights) -> Array:
     """Of each cell, by its number, the cell where a walk to ever lower neighbours ends; among equals the first one."""
     numpy = needed_numpy()
-    if heights.every != 1:
-        raise BadReply("water is asked for in windows that aren't thinned")
     shape = heights.samples.shape
     size = heights.samples.size
     order = heights.samples.astype(numpy.int64) * size + numpy.arange(size).reshape(shape)

@@ -19,6 +19,13 @@ def array_of(data: bytes) -> numpy.ndarray[Any, Any]:
     return numpy.frombuffer(data, ">i2").astype(numpy.int16).reshape(side, side)
 
 
+def codes_of(data: bytes) -> numpy.ndarray[Any, Any]:
+    """Direction codes as an array of uint8 of shape (side, side), the north row first."""
+    numpy = needed_numpy()
+    side = math.isqrt(len(data))
+    return numpy.frombuffer(data, numpy.uint8).reshape(side, side)
+
+
 def bytes_of(data: bytes | bytearray | memoryview | numpy.ndarray[Any, Any]) -> bytes:
     """The HGT bytes of a tile: bytes as they are, or an array of whole numbers of shape (side, side)."""
     if isinstance(data, (bytes, bytearray, memoryview)):

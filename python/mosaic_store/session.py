@@ -21,11 +21,11 @@ from typing import TYPE_CHECKING, Any, TypeVar, Union, cast
 from . import questions
 from .backups import copy_file
 from .channel import Channel, Word
-from .errors import BadArgument, BadReply, Device, Refusal, SessionDied, StoreBusy, StoreChanged, refusal_of
+from .errors import BadArgument, BadLine, BadName, BadReply, Device, Refusal, SessionDied, StoreBusy, StoreChanged, refusal_of
 from .lattice import Direction, Place, Point, degrees_of, point_of
 from .questions import Command, Question, Watershed
-from .samples import array_of, bytes_of
-from .stores import PathLike, Report, Shape, cannot_open, check_store, find_program, shape_of
+from .samples import array_of, bytes_of, codes_of
+from .stores import PathLike, Report, Shape, cannot_open, check_store, find_server, shape_of
 from .trials import Tiles, Trial
 
 if TYPE_CHECKING:
@@ -79,6 +79,7 @@ class Session:
         self._tiles_known: tuple[int, Tiles] = 0, {}
         """Some tiles as they were at a count: those of the last trial that was taken back."""
         self._is_closed = False
+        self._takes_whole_tiles: bool | None = None
 
     # ---- the store ----
 
@@ -102,6 +103,16 @@ class Session:
         """The id of the program's process; None where none runs."""
         channel = self._channel
         return None if channel is None else channel.process.pid
+
+    @property
+    def takes_whole_tiles(self) -> bool:
+        """Whether the program tells all samples of a tile by one line, as `mosaic-tiles` does."""
+        if self._takes_whole_tiles is None:
+            try:
+                self.ask(questions.Levels("-"))
+            except (BadLine, BadName) as refusal:
+                self._takes_whole_tiles = isinstance(refusal, BadName)
+        return self._takes_whole_tiles is True
 
     def point_of(self, latitude: float, longitude: float) -> Point:
         """The point that is nearest to a place in degrees, north and east positive."""
@@ -170,6 +181,29 @@ class Session:
     def tile(self, name: str) -> numpy.ndarray[Any, Any]:
         """A tile's own samples in metres, an array of int16 of shape (side, side), the north row first; -32768 is void."""
         return array_of(self.export(name))
+
+    def levels(self, name: str) -> numpy.ndarray[Any, Any]:
+        """The filled levels of a tile's samples in metres, int16 of shape (side, side), the north row first.
+
+        -32768 where the sample's point isn't ground. By one line where the session `takes_whole_tiles`, else by questions.
+        """
+        if self.takes_whole_tiles:
+            return array_of(self.ask(questions.Levels(name)))
+        from .rasters import levels_of, tile_of
+
+        return cast("numpy.ndarray[Any, Any]", levels_of(self, tile_of(self, name)).astype("int16"))
+
+    def directions(self, name: str) -> numpy.ndarray[Any, Any]:
+        """The direction codes of a tile's samples, uint8 of shape (side, side), the north row first.
+
+        0 is an outlet, 255 where the sample's point isn't ground. As `levels`, by one line or by questions.
+        """
+        if self.takes_whole_tiles:
+            return codes_of(self.ask(questions.FlowDirections(name)))
+        from .directions import directions_of
+        from .rasters import tile_of
+
+        return directions_of(self, tile_of(self, name))
 
     def tiles(self) -> list[str]:
         """The names of the present tiles, in order."""
@@ -435,7 +469,7 @@ def open_store(
 ) -> Session:
     """Opens a store by `mosaic serve`: a session, to be used in a `with`.
 
-    `program` is the program's path (see `find_program`). `timeout` is how many seconds may pass while the program
+    `program` is the program's path (see `find_program`); `mosaic-tiles` beside it serves in its place. `timeout` is how many seconds may pass while the program
     neither reads nor writes; it is ended then. `wait` is how many seconds a store that another program has open is
     waited for. With `restart` a session that dies is begun anew within the call, and nothing is asked twice.
 
@@ -464,7 +498,7 @@ def memory_table(
 def _session(
     words: list[Union[str, bytes]], path: PathLike | None, program: PathLike | None, timeout: float | None, restart: bool
 ) -> Session:
-    return Session([find_program(program), *words], path, timeout, restart)
+    return Session([find_server(program), *words], path, timeout, restart)
 
 
 def _end(line: str) -> bytes:

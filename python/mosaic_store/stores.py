@@ -62,6 +62,22 @@ def find_program(program: PathLike | None = None) -> str:
     return found
 
 
+def find_server(program: PathLike | None = None) -> str:
+    """The program that serves sessions: `mosaic-tiles`, which takes whole tiles too, where it lies beside `mosaic`; else that.
+
+    A program of any other name than `mosaic` serves itself.
+    """
+    found = find_program(program)
+    path = pathlib.Path(found if os.path.dirname(found) else shutil.which(found) or found)
+    if path.name != "mosaic":
+        return found
+    real = path.resolve()
+    places = [path.with_name("mosaic-tiles"), real.with_name("mosaic-tiles")]
+    if real.parts[-4:] == ("crates", "mosaic", "out", "mosaic"):
+        places.append(real.parents[2] / "mosaic_tiles" / "out" / "mosaic_tiles")
+    return next((str(place) for place in places if place.is_file() and os.access(place, os.X_OK)), found)
+
+
 def format_store(path: PathLike, side: int, capacity: int, program: PathLike | None = None) -> None:
     """Makes a store for tiles of a side (3 to 3601 samples), at most `capacity` (1 to 240) of them.
 

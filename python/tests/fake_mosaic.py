@@ -4,7 +4,7 @@
 usage: fake_mosaic.py format PATH SIDE CAPACITY | serve PATH | table SIDE CAPACITY | check PATH
 
 It shares no code with the package, so that it is also a second opinion on answers. A store is a file that begins as a
-store's root does and goes on with its state.
+store's root does and goes on with its state. By the name mosaic-tiles it takes the lines of whole tiles, too.
 """
 
 import fcntl
@@ -86,7 +86,7 @@ class Mosaic:
 
     def answer(self, words, payload):
         word, *rest = words
-        if word in ("import", "remove", "export"):
+        if word in ("import", "remove", "export", "levels", "directions"):
             corner = corner_of(rest[0])
             return getattr(self, word + "_tile")(corner, payload)
         if word in ("elev", "fill", "dir", "trace", "watershed"):
@@ -121,6 +121,21 @@ class Mosaic:
             raise Refused(5)
         data = struct.pack(f">{self.side ** 2}h", *self.tiles[corner])
         return f"OK {len(data)}", data
+
+    def levels_tile(self, corner, _):
+        levels = self.samples_of(corner, self.flooded()[0], VOID)
+        return f"OK {2 * len(levels)}", struct.pack(f">{len(levels)}h", *levels)
+
+    def directions_tile(self, corner, _):
+        codes = self.samples_of(corner, self.flooded()[1], 255)
+        return f"OK {len(codes)}", bytes(codes)
+
+    def samples_of(self, corner, told, nothing):
+        """What is told of each sample's point of a tile."""
+        if corner not in self.tiles:
+            raise Refused(5)
+        m, (a, b) = self.side - 1, corner
+        return [told.get((a * m + m - row, b * m + column), nothing) for row in range(m + 1) for column in range(m + 1)]
 
     def patch_points(self, y0, x0, y1, x1, height):
         if not -32767 <= height <= 32767:
@@ -283,6 +298,8 @@ GRAMMAR = re.compile(
     rf"|(sink|unsink|elev|fill|dir|trace|watershed) {INT} {INT}|tiles|sinks|step|count|quit",
     re.ASCII,
 )
+WHOLE = re.compile(rf"(levels|directions) {WORD}", re.ASCII)
+TAKES_WHOLE = os.path.basename(sys.argv[0]) == "mosaic-tiles"
 CHANGES = ("import", "remove", "patch", "burn", "wall", "sink", "unsink", "step")
 
 
@@ -300,7 +317,7 @@ def serve(mosaic, keep, incoming, outgoing):
 def reply(mosaic, keep, text, incoming):
     payload = b""
     try:
-        if len(text) > 2048 or not GRAMMAR.fullmatch(text):
+        if len(text) > 2048 or not (GRAMMAR.fullmatch(text) or TAKES_WHOLE and WHOLE.fullmatch(text)):
             raise Refused(1)
         words = text.split(" ")
         if words[0] == "import":

@@ -13,7 +13,7 @@ import tempfile
 import time
 import unittest
 
-from mosaic_store import Corner, ProgramNotFound, find_program, format_store, open_store
+from mosaic_store import Corner, ProgramNotFound, find_program, find_server, format_store, open_store
 
 TESTS = pathlib.Path(__file__).resolve().parent
 PYTHON = TESTS.parent
@@ -90,6 +90,16 @@ class InFolder(unittest.TestCase):
         path.write_text(f"#!{sys.executable}\nimport os, sys, time\n{text}\n")
         path.chmod(0o755)
         return str(path)
+
+    def ways(self) -> dict[str, str]:
+        """Programs of one language: one that answers by lines alone, and those beside which there is one of whole tiles."""
+        linked = {"lines/plain": PROGRAM, "fake/mosaic": FAKE, "fake/mosaic-tiles": FAKE}
+        for name, program in linked.items():
+            (self.folder / name).parent.mkdir(exist_ok=True)
+            if not (self.folder / name).exists():
+                (self.folder / name).symlink_to(program)
+        ways = {"by lines": str(self.folder / "lines/plain"), "whole tiles": str(self.folder / "fake/mosaic")}
+        return ways | ({"real whole tiles": PROGRAM} if find_server(PROGRAM) != PROGRAM else {})
 
     def wait_for(self, path: pathlib.Path) -> None:
         """Waits until another program has made a file."""
