@@ -2,6 +2,7 @@
 //! tiles as files.
 #![tactic(auto)]
 
+mod layers;
 #[cfg(test)]
 mod tests;
 mod writing;

@@ -1,6 +1,7 @@
 //! Levels and directions of tiles, as files.
 ghost use Rattle.std.specs.Prelude.{◌<◌, length};
 
+use crate::layers::{Layer, layer_of};
 use disk::FileDisk;
 use hgt::{bytes_of, name_of, name_text};
 use lattice::{Corner, Refusal};
@@ -10,15 +11,6 @@ use std::fs::File;
 use std::io::{self, Write};
 use std::marker::Brand;
 use store::Store;
-
-/// What is written of a tile, each sample's value in the order of an HGT file.
-#[derive(Clone, Copy, PartialEq, Eq)]
-enum Layer {
-    /// Filled levels, as an HGT file.
-    Levels,
-    /// Codes of directions, a byte each.
-    Directions,
-}
 
 /// Why not all was written.
 #[derive(Drop)]
@@ -80,14 +72,6 @@ fn write_all(rt: &HostRuntime, words: &[String]) -> Result<u64, Fault>
         let _ = eprintln!(rt; "{} {count} of {}", name_text(*corner), corners.len());
     }
     Ok(count)
-}
-
-fn layer_of(word: &str) -> Option<Layer> {
-    match word {
-        "levels" => Some(Layer::Levels),
-        "directions" => Some(Layer::Directions),
-        _ => None,
-    }
 }
 
 /// The tiles that the words name; `all` names each that is there.
