@@ -2,7 +2,7 @@
 use Rattle.std.specs.Prelude.{◌≢◌, List, Contains}
 use Rattle.std.specs.List.{AllPairs}
 use Rattle.lattice.specs.declared.point.Point.{Point}
-use Rattle.watershed.specs.Marks.{IsMarked, AreListed}
+use Rattle.watershed.specs.Marks.{IsMarked, IsIndexed}
 use Rattle.watershed.specs.declared.marks.Marks.{Marks}
 
 -- the points that are marked are those of the path, which has none of them twice
@@ -10,4 +10,4 @@ pub record IsMarkedOnce (marks : Marks) (path : List Point) : Type 0 where
   pub once : AllPairs (λ p q. p ≢ q) path
   pub on_path : (p : Point) → IsMarked marks p → Contains path p
   pub is_marked : (p : Point) → Contains path p → IsMarked marks p
-  pub listed : AreListed marks
+  pub indexed : IsIndexed marks

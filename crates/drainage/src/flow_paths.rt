@@ -63,10 +63,12 @@ fn add(path: &mut Vec<Point>, marks: &mut Marks, point: Point, most: usize) -> R
     ensures refusal { IfErr result (λ r. (r ≡ NoMemory)
         ⊎ ((r ≡ Damaged) × (Contains path.old.items point ⊎ (most ≤ length path.old.items)))) }
 {
-    if path.len() >= most || marks.has(point) {
+    if path.len() >= most {
         return Err(Refusal::Damaged);
     }
-    marks.mark(point)?;
+    if !marks.mark(point)? {
+        return Err(Refusal::Damaged);
+    }
     lengthen(path, point)?;
     Ok(())
 }

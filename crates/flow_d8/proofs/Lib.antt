@@ -12,8 +12,6 @@ pub mod PointFlows
 pub mod FilledOf
 pub mod Fitting
 pub mod StepBack
-pub mod PointSquares
-pub mod PointTables
 pub mod Nearby
 pub mod ThreeRows
 pub mod Following

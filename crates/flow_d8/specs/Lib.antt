@@ -8,8 +8,6 @@ pub mod SteepestStep
 pub mod Places
 pub mod Filled
 pub mod Surface
-pub mod PointSquares
-pub mod PointTable
 pub mod LevelsAround
 pub mod FlowSteps
 pub mod Feeders

@@ -1,6 +1,6 @@
 -- The points that drain straight to a point, found one direction after another.
 use Rattle.std.proofs.Common.{◌≡◌, ℕ, ◌+◌, ◌<◌, ◌≤◌, ℤ, IsTrue, Some, List, [], ◌∷◌, ◌++◌, inl, inr, ⊎_elim, refl, sym, ap, ◌∙◌, subst, arith}
-use Rattle.std.specs.Prelude.{Contains, ◌↔◌, length}
+use Rattle.std.specs.Prelude.{Contains, ◌↔◌, ◌⊎◌}
 use Rattle.std.proofs.lemmas.Bool.{cases_Bool, cases_eq}
 use Rattle.std.proofs.lemmas.List.Elements.{Contains-append_left, Contains-push, Contains-push_cases}
 use Rattle.std.proofs.lemmas.Option.{none-some}
@@ -20,18 +20,20 @@ use Rattle.flow_d8.proofs.Unique.{one_direction}
 use Rattle.watershed.specs.Feeding.{DrainsBack, IsDonorAdded}
 use Rattle.watershed.specs.FlowSource.{IsToldOf}
 
-module _ (Drains : Dir → Type 0) (p : Point) where
-  -- the donors in the first k directions
+module _ (Drains : Dir → Type 0) (p : Point) (start : List Point) where
+  -- the donors in the first k directions are added
   pub record AreDonorsBy (found : List Point) (k : ℕ) : Type 0 where
-    pub drain : (x : Point) → Contains found x → (d : Dir) × ((step d p ≡ x) × Drains d)
+    pub drain : (x : Point) → Contains found x → Contains start x ⊎ ((d : Dir) × ((step d p ≡ x) × Drains d))
+    pub kept : (x : Point) → Contains start x → Contains found x
     pub all : (d : Dir) → order_of d < k → Drains d → Contains found (step d p)
 
-  pub none_yet : (found : List Point) → found ≡ [] → AreDonorsBy found 0
-  none_yet found none = record { drain = λ x has. absurd (omega (arith, has.1, ap length none)); all = λ d below drains. absurd (omega arith) }
+  pub none_yet : AreDonorsBy start 0
+  none_yet = record { drain = λ x has. inl has; kept = λ x has. has; all = λ d below drains. absurd (omega arith) }
 
   pub one_more : (old new : List Point) (d : Dir) → AreDonorsBy old (order_of d) → IsDonorAdded Drains p d old new → AreDonorsBy new (order_of d + 1)
   one_more old new d by (inl added) = subst (λ l. AreDonorsBy l (order_of d + 1)) (sym added.0) (record {
-    drain = λ x has. ⊎_elim (λ before. by.drain x before) (λ this. (d, (this, added.1))) (Contains-push_cases old (step d p) x has);
+    drain = λ x has. ⊎_elim (λ before. by.drain x before) (λ this. inr (d, (this, added.1))) (Contains-push_cases old (step d p) x has);
+    kept = λ x has. Contains-append_left old (step d p ∷ []) x (by.kept x has);
     all = λ e below drains. elim (cases_eq (order_of e) (order_of d)) [
       | inl this ↦ subst (λ f. Contains (old ++ step d p ∷ []) (step f p)) (sym (same_order e d this)) (Contains-push old (step d p))
       | inr other ↦ Contains-append_left old (step d p ∷ []) (step e p) (by.all e (omega arith) drains)
@@ -39,6 +41,7 @@ module _ (Drains : Dir → Type 0) (p : Point) where
   })
   one_more old new d by (inr left) = subst (λ l. AreDonorsBy l (order_of d + 1)) (sym left.0) (record {
     drain = by.drain;
+    kept = by.kept;
     all = λ e below drains. elim (cases_eq (order_of e) (order_of d)) [
       | inl this ↦ absurd (left.1 (subst Drains (same_order e d this) drains))
       | inr other ↦ by.all e (omega arith) drains
@@ -57,17 +60,15 @@ back_twice NorthEast = refl
 
 module _ (t : Terrain Point) (level : Point → ℤ) (p : Point) where
   -- in the eight directions lie all donors
-  pub all_donors : (found : List Point) (k : ℕ) → 8 ≤ k → AreDonorsBy (DrainsBack t level p) p found k → (x : Point) → Contains found x ↔ IsFeeder t level x p
-  all_donors found k all by x = (
-    (λ has.
-        let at = by.drain x has in
-        subst (λ q. IsFeeder t level q p) at.1.0 (record { on_ground = at.1.1.0; drains = (back_of at.0, (at.1.1.1, step_back at.0 p)) })),
-    (λ (feeds : IsFeeder t level x p).
+  pub all_donors : (start found : List Point) (k : ℕ) → 8 ≤ k → AreDonorsBy (DrainsBack t level p) p start found k → (x : Point) → Contains found x ↔ (Contains start x ⊎ IsFeeder t level x p)
+  all_donors start found k all by x = (
+    (λ has. ⊎_elim (λ before. inl before) (λ at. inr (subst (λ q. IsFeeder t level q p) at.1.0 (record { on_ground = at.1.1.0; drains = (back_of at.0, (at.1.1.1, step_back at.0 p)) }))) (by.drain x has)),
+    (λ has. ⊎_elim (by.kept x) (λ (feeds : IsFeeder t level x p).
         let e = feeds.drains.0 in
         let d : Dir = back_of e in
         let there : step d p ≡ x = ap (step d) (sym feeds.drains.1.1) ∙ step_back e x in
         let leads : IsDirection t level x (Some (back_of d)) = subst (λ (f : Dir). IsDirection t level x (Some f)) (sym (back_twice e)) feeds.drains.1.0 in
-        subst (Contains found) there (by.all d (omega (arith, all, order_below d)) (subst (λ q. IsTrue (t.is_ground q) × IsDirection t level q (Some (back_of d))) (sym there) (feeds.on_ground, leads)))),
+        subst (Contains found) there (by.all d (omega (arith, all, order_below d)) (subst (λ q. IsTrue (t.is_ground q) × IsDirection t level q (Some (back_of d))) (sym there) (feeds.on_ground, leads)))) has),
   )
 
   -- the point in the direction drains back exactly where its flow says so

@@ -2,7 +2,7 @@
 use Rattle.std.proofs.Common.{◌≡◌, ℕ, zero, suc, ℤ, IsTrue, IsFalse, Some, List, [], ◌∷◌, ◌++◌, ◌⊎◌, ◌↔◌, inl, inr, ⊎_elim, refl, sym, ap, ◌∙◌, subst, arith, true≢false}
 use Rattle.std.specs.Prelude.{Contains, if◌then◌else◌}
 use Rattle.std.proofs.lemmas.Bool.{cases_Bool}
-use Rattle.std.proofs.lemmas.List.Elements.{Contains-append_left, Contains-append_right, Contains-append_cases, Contains-push, Contains-push_cases}
+use Rattle.std.proofs.lemmas.List.Elements.{Contains-append_left, Contains-push, Contains-push_cases}
 use Rattle.lattice.specs.declared.point.Point.{Point}
 use Rattle.lattice.specs.declared.direction.Dir.{Dir}
 use Rattle.lattice.specs.Steps.{step}
@@ -49,29 +49,29 @@ module _ (t : Terrain Point) (level : Point → ℤ) (p : Point) where
   ]
 
   -- the last that waits is marked, and what feeds it waits, where that isn't found yet
-  module _ (Marked Marked' : Point → Type 0) (rest more : List Point) (at : Point)
-      (mark : (x : Point) → Marked' x ↔ (Marked x ⊎ (x ≡ at))) (feed : (x : Point) → Contains more x → IsFeeder t level x at)
-      (all : (x : Point) → IsFeeder t level x at → (Marked x ⊎ Contains (rest ++ at ∷ []) x) ⊎ Contains more x) (so_far : IsSearching Marked (rest ++ at ∷ [])) where
-    kept : (x : Point) → Marked x ⊎ Contains (rest ++ at ∷ []) x → Marked' x ⊎ Contains (rest ++ more) x
-    kept x (inl marked) = inl ((mark x).1 (inl marked))
-    kept x (inr has) = ⊎_elim (λ before. inr (Contains-append_left rest more x before)) (λ this. inl ((mark x).1 (inr (sym this)))) (Contains-push_cases rest at x has)
+  module _ (Marked Marked' : Point → Type 0) (rest waiting : List Point) (at : Point)
+      (mark : (x : Point) → Marked' x ↔ (Marked x ⊎ (x ≡ at))) (kept : (x : Point) → Contains rest x → Contains waiting x) (new : (x : Point) → Contains waiting x → Contains rest x ⊎ IsFeeder t level x at)
+      (all : (x : Point) → IsFeeder t level x at → (Marked x ⊎ Contains (rest ++ at ∷ []) x) ⊎ Contains waiting x) (so_far : IsSearching Marked (rest ++ at ∷ [])) where
+    still : (x : Point) → Marked x ⊎ Contains (rest ++ at ∷ []) x → Marked' x ⊎ Contains waiting x
+    still x (inl marked) = inl ((mark x).1 (inl marked))
+    still x (inr has) = ⊎_elim (λ before. inr (kept x before)) (λ this. inl ((mark x).1 (inr (sym this)))) (Contains-push_cases rest at x has)
 
     -- what is found now was found before, or feeds the point
-    was : (x : Point) → Marked' x ⊎ Contains (rest ++ more) x → (Marked x ⊎ Contains (rest ++ at ∷ []) x) ⊎ IsFeeder t level x at
+    was : (x : Point) → Marked' x ⊎ Contains waiting x → (Marked x ⊎ Contains (rest ++ at ∷ []) x) ⊎ IsFeeder t level x at
     was x (inl marked) = inl (⊎_elim (λ old. inl old) (λ this. inr (subst (Contains (rest ++ at ∷ [])) (sym this) (Contains-push rest at))) ((mark x).0 marked))
-    was x (inr has) = ⊎_elim (λ before. inl (inr (Contains-append_left rest (at ∷ []) x before))) (λ new. inr (feed x new)) (Contains-append_cases rest more x has)
+    was x (inr has) = ⊎_elim (λ before. inl (inr (Contains-append_left rest (at ∷ []) x before))) (λ feeds. inr feeds) (new x has)
 
     waited : Marked at ⊎ Contains (rest ++ at ∷ []) at
     waited = inr (Contains-push rest at)
 
-    pub search_on : IsSearching Marked' (rest ++ more)
+    pub search_on : IsSearching Marked' waiting
     search_on = record {
       lead = λ x found. ⊎_elim (λ old. so_far.lead x old) (λ feeds. let on = so_far.lead at waited in (suc on.0, (at, (feeds, on.1)))) (was x found);
-      begins = λ solid. kept p (so_far.begins solid);
+      begins = λ solid. still p (so_far.begins solid);
       elsewhere = λ x found. so_far.elsewhere at waited;
       closed = λ q x marked feeds. ⊎_elim
-          (λ old. kept x (so_far.closed q x old feeds))
-          (λ this. ⊎_elim (kept x) (λ new. inr (Contains-append_right rest more x new)) (all x (subst (IsFeeder t level x) this feeds)))
+          (λ old. still x (so_far.closed q x old feeds))
+          (λ this. ⊎_elim (still x) (λ has. inr has) (all x (subst (IsFeeder t level x) this feeds)))
           ((mark q).0 marked);
     }
 

@@ -1,6 +1,5 @@
 pub mod Runs
 pub mod RunsLaws
-pub mod Order
 pub mod Search
 pub mod Questions
 pub mod Feeding

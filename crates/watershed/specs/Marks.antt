@@ -1,34 +1,45 @@
--- Which points are marked: each has a bit in a word of 64 points of its row (this product's own profile).
-use Rattle.std.specs.Prelude.{◌≡◌, ℕ, pos, nat_abs, Contains, unwrap_or}
-use Rattle.std.specs.Int.{int_div_euclid, int_rem_euclid, bit_at}
+-- Which points are marked: each has a bit in a segment of 4,096 points of its row, in 64 words (this product's own profile).
+use Rattle.std.specs.Prelude.{◌≡◌, ℕ, ◌+◌, ◌*◌, ◌/◌, ◌%◌, ◌<◌, pos, ◌+ℤ◌, ◌^◌, Option, Some, None, List, length, slice_index_or}
+use Rattle.std.specs.Int.{bit_at}
+use Rattle.std.specs.BTreeMap.{get}
+use Rattle.std.specs.Ordering.{nat_cmp}
 use Rattle.lattice.specs.declared.point.Point.{Point}
-use Rattle.flow_d8.specs.PointTable.{value_of}
 use Rattle.watershed.specs.declared.marks.Marks.{Marks}
 
--- the point's word: its row, and how many words from the column 0
-abbrev pub word_of : Point → Point
-word_of p = record { y = p.y; x = int_div_euclid p.x (pos 64) }
+-- so many points come before it, row by row from the north, in a row from the west, of those that numbers of 32 bits name
+pub record IsRank (p : Point) (n : ℕ) : Type 0 where
+  pub row : (pos (n / 4294967296) +ℤ p.y) ≡ pos 2147483647
+  pub column : (p.x +ℤ pos 2147483648) ≡ pos (n % 4294967296)
 
--- which of its word's bits is the point's
-abbrev pub bit_of : Point → ℕ
-bit_of p = nat_abs (int_rem_euclid p.x (pos 64))
+-- where the segment with this number stands
+abbrev pub place_of : Marks → ℕ → Option ℕ
+place_of marks number = get nat_cmp marks.places number
 
--- the bits of the word
-abbrev pub bits_of : Marks → Point → ℕ
-bits_of marks word = unwrap_or (value_of marks.words word) 0
+-- this one of the words of the segment that stands there
+abbrev pub word_in : List ℕ → Option ℕ → ℕ → ℕ
+word_in words None k = 0
+word_in words (Some place) k = slice_index_or words (place * 64 + k) 0
 
-abbrev pub IsMarked : Marks → Point → Type 0
-IsMarked marks p = bit_at (bits_of marks (word_of p)) (bit_of p) ≡ 1
+-- the word of the point with this rank
+abbrev pub word_of : Marks → ℕ → ℕ
+word_of marks n = word_in marks.words.items (place_of marks (n / 4096)) (n / 64 % 64)
 
--- a point of the word is in the list
-abbrev pub IsListed : Marks → Point → Type 0
-IsListed marks word = (q : Point) × (Contains marks.places.items q × (word_of q ≡ word))
+pub record IsMarked (marks : Marks) (p : Point) : Type 0 where
+  pub rank : ℕ
+  pub is : IsRank p rank
+  pub set : bit_at (word_of marks rank) (rank % 64) ≡ 1
 
--- .. of each word that has bits
-abbrev pub AreListed : Marks → Type 0
-AreListed marks = (word : Point) → (bits_of marks word ≡ 0 → ⊥) → IsListed marks word
+-- each segment stands where it is listed
+pub record IsIndexed (marks : Marks) : Type 0 where
+  pub whole : length marks.words.items ≡ length marks.numbers.items * 64
+  pub small : (k : ℕ) → k < length marks.numbers.items → slice_index_or marks.numbers.items k 0 < 2 ^ 52
+  pub listed : (number place : ℕ) → place_of marks number ≡ Some place → (place < length marks.numbers.items) × (slice_index_or marks.numbers.items place 0 ≡ number)
+  pub each : (k : ℕ) → k < length marks.numbers.items → place_of marks (slice_index_or marks.numbers.items k 0) ≡ Some k
 
--- the point's bit among these of the word
-pub record IsInWord (word : Point) (bits : ℕ) (p : Point) : Type 0 where
-  pub word_is : word_of p ≡ word
-  pub set : bit_at bits (bit_of p) ≡ 1
+-- it is one of the first points of the segment with this number, and its bit is set in the words at the place
+pub record IsInSegment (words : List ℕ) (number place count : ℕ) (p : Point) : Type 0 where
+  pub rank : ℕ
+  pub is : IsRank p rank
+  pub segment : rank / 4096 ≡ number
+  pub low : rank % 4096 < count
+  pub set : bit_at (slice_index_or words (place * 64 + rank / 64 % 64) 0) (rank % 64) ≡ 1

@@ -20,13 +20,9 @@ AreFull runs = All (λ r. r.first ≤ℤ r.last) runs
 abbrev pub IsAfter : Run → Run → Type 0
 IsAfter a b = (b.y <ℤ a.y) ⊎ ((a.y ≡ b.y) × ((a.last +ℤ pos 1) <ℤ b.first))
 
--- the run goes from where a begins to where the last of both ends
-pub record IsJoined (a b run : Run) : Type 0 where
-  pub row : run.y ≡ a.y
-  pub first : run.first ≡ a.first
-  pub past_one : a.last ≤ℤ run.last
-  pub past_other : b.last ≤ℤ run.last
-  pub last : (run.last ≡ a.last) ⊎ (run.last ≡ b.last)
+-- the point q lies north of p, or west of it in its row
+abbrev pub IsBefore : Point → Point → Type 0
+IsBefore q p = (p.y <ℤ q.y) ⊎ ((q.y ≡ p.y) × (q.x <ℤ p.x))
 
 -- the runs are the maximal ones of the set, from the north down, in a row from the west
 pub record AreRuns (inside : Point → Type 0) (runs : List Run) : Type 0 where

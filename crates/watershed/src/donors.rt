@@ -1,6 +1,5 @@
 //! The donors of a point: those that drain straight to it.
-ghost use Rattle.std.specs.Prelude.{◌≡◌, ◌↔◌, ◌+◌, ◌<◌, ◌≤◌, ℤ, IsTrue, IfOk, IfErr, IfSome, OnOk, Contains, Some};
-ghost use Rattle.arrayvec.specs.ArrayVec.{array_vec_len};
+ghost use Rattle.std.specs.Prelude.{◌≡◌, ◌↔◌, ◌⊎◌, ◌<◌, ℤ, IsTrue, IfOk, IfErr, IfSome, OnOk, Contains, Some};
 ghost use Rattle.lattice.specs.declared.point.Point.{Point};
 ghost use Rattle.lattice.specs.Ground.{terrain};
 ghost use Rattle.lattice.specs.Mosaic.{Mosaic, IsMosaic};
@@ -13,31 +12,31 @@ ghost use Rattle.watershed.specs.Feeding.{DrainsBack, IsDonorAdded};
 ghost use Rattle.watershed.specs.FlowSource.{IsToldOf, AreToldAround};
 
 use crate::flow_source::FlowSource;
-use arrayvec::ArrayVec;
 use flow_d8::Flow;
 use lattice::{DIRECTIONS, Dir, Point, Refusal, neighbour};
-use std::alloc::Global;
+use std::alloc::{AllocError, Global};
 
-/// The points that drain straight to this one.
-pub(crate) fn donors<F: FlowSource>(
+/// Adds the points that drain straight to this one.
+pub(crate) fn add_donors<F: FlowSource>(
     alloc: Global,
     flows: &mut F,
     point: Point,
-) -> Result<ArrayVec<Point, 8>, Refusal>
+    found: &mut Vec<Point>,
+) -> Result<(), Refusal>
     requires { F.is_ready flows.old }
-    ensures donors { IfOk result (λ found. (m : Mosaic) (level : Point → ℤ) → F.tells flows.new m level → (x : Point) → Contains found.items x ↔ IsFeeder (terrain m) level x point) }
+    ensures donors { OnOk result ((m : Mosaic) (level : Point → ℤ) → F.tells flows.new m level
+        → (x : Point) → Contains found.new.items x ↔ (Contains found.old.items x ⊎ IsFeeder (terrain m) level x point)) }
     ensures ready { OnOk result (F.is_ready flows.new) }
     ensures follows { F.follows flows.old flows.new }
     ensures keeps { OnOk result (F.keeps flows.old flows.new) }
     ensures refusal { IfErr result (F.refuses flows.old flows.new) }
 {
     let around = flows.flows_around(point);
-    let mut found = ArrayVec::new();
     for i in 0..8 {
-        let flow = flow_beside(alloc, flows, point, i, around)?;
-        add_donor(point, DIRECTIONS[i], flow, &mut found);
+        let flow = flow_beside(alloc, flows, point, i, &around)?;
+        add_donor(point, DIRECTIONS[i], flow, found)?;
     }
-    Ok(found)
+    Ok(())
 }
 
 // Where the point in the direction with this number drains; NoGround where there is none.
@@ -46,11 +45,11 @@ fn flow_beside<F: FlowSource>(
     flows: &mut F,
     point: Point,
     i: usize,
-    around: Option<[Flow; 8]>,
+    around: &Option<[Flow; 8]>,
 ) -> Result<Flow, Refusal>
     requires ready { F.is_ready flows.old }
     requires small { i < 8 }
-    requires around { IfSome around (λ around. (m : Mosaic) (level : Point → ℤ) → F.tells flows.old m level → AreToldAround (terrain m) level point around) }
+    requires around { IfSome around.now (λ around. (m : Mosaic) (level : Point → ℤ) → F.tells flows.old m level → AreToldAround (terrain m) level point around) }
     ensures flow { IfOk result (λ flow. (m : Mosaic) (level : Point → ℤ) → F.tells flows.new m level → (d : Dir) → order_of d ≡ i → IsToldOf (terrain m) level (step d point) flow) }
     ensures ready { OnOk result (F.is_ready flows.new) }
     ensures follows { F.follows flows.old flows.new }
@@ -67,18 +66,22 @@ fn flow_beside<F: FlowSource>(
 }
 
 // Adds the point in the direction, where it drains straight back.
-fn add_donor(point: Point, direction: Dir, flow: Flow, found: &mut ArrayVec<Point, 8>)
-    requires { array_vec_len found.old < 8 }
-    ensures donor { (m : Mosaic) (level : Point → ℤ) → IsMosaic m → IsToldOf (terrain m) level (step direction point) flow → IsDonorAdded (DrainsBack (terrain m) level point) point direction found.old.items found.new.items }
-    ensures room { array_vec_len found.new ≤ array_vec_len found.old + 1 }
+fn add_donor(
+    point: Point,
+    direction: Dir,
+    flow: Flow,
+    found: &mut Vec<Point>,
+) -> Result<(), AllocError>
+    ensures { OnOk result ((m : Mosaic) (level : Point → ℤ) → IsMosaic m → IsToldOf (terrain m) level (step direction point) flow → IsDonorAdded (DrainsBack (terrain m) level point) point direction found.old.items found.new.items) }
 {
     if !leads_back(flow, direction) {
-        return;
+        return Ok(());
     }
     let Some(from) = neighbour(point, direction) else {
-        return;
+        return Ok(());
     };
-    found.push(from);
+    found.push(from)?;
+    Ok(())
 }
 
 // Whether the flow's step is the one back from a step in the direction.

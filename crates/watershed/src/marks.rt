@@ -1,167 +1,216 @@
-//! The points that a search has found: a bit for each, in words of 64 points of a row.
-ghost use Rattle.std.specs.Prelude.{◌≡◌, ◌≢◌, ◌↔◌, ◌⊎◌, ◌<◌, ℕ, pos, ◌+ℤ◌, ◌*ℤ◌, IsTrue, IfOk, OnOk, Contains};
-ghost use Rattle.std.specs.Int.{bit_at, int_div_euclid};
+//! The points that a search has found: a bit for each, in segments of rows.
+ghost use Rattle.std.specs.Prelude.{◌≡◌, ◌≢◌, ◌↔◌, ◌⊎◌, ◌<◌, ◌≤◌, ◌+◌, ◌*◌, ◌/◌, ◌%◌, ◌^◌, ℕ, Some, IsTrue, IsFalse, IfOk, IfSome, OnOk, length, slice_index_or};
+ghost use Rattle.std.specs.Int.{bit_at};
 ghost use Rattle.lattice.specs.declared.point.Point.{Point};
-ghost use Rattle.watershed.specs.Marks.{word_of, bit_of, bits_of, IsMarked, AreListed, IsInWord};
-ghost use Rattle.watershed.specs.Runs.{AreRuns, AreFull, Cover};
+ghost use Rattle.watershed.specs.Marks.{IsRank, IsMarked, IsIndexed, IsInSegment, place_of, word_of};
+ghost use Rattle.watershed.specs.Runs.{AreRuns, Cover};
 
-use crate::runs::{Run, maximal_runs};
-use flow_d8::PointTable;
+use crate::runs::{Run, add_point};
 use lattice::Point;
 use std::alloc::{AllocError, Global};
+use std::collections::BTreeMap;
 
-// How many points of a row have their bits in one word.
-const POINTS_IN_WORD: i32 = 64;
+// How many points a row has.
+const ROW: u64 = 4_294_967_296;
+
+// How many points a segment has, and in how many words of 64.
+const SEGMENT: u64 = 4096;
+
+const WORDS: usize = 64;
+
+// For so many segments it is noted where they were found.
+const HINTS: usize = 8192;
 
 /// The points that are marked.
 #[derive(Drop)]
 pub struct Marks {
-    // The bits of each word, by its row and its number in the row.
-    words: PointTable<u64>,
-    // A point of each word that has bits.
-    places: Vec<Point>,
+    // Where each segment with a mark stands, by how many segments come before it in the plane.
+    places: BTreeMap<u64, usize>,
+    // The numbers of the segments, as they stand, and the bits of their points.
+    numbers: Vec<u64>,
+    words: Vec<u64>,
+    // Where segments of some rows were found last. The number that stands there tells whether it is so.
+    hints: Vec<usize>,
 }
 
 impl Marks {
     /// No point is marked. Takes no memory.
     pub fn new(alloc: Global) -> Marks
         ensures none { (p : Point) → IsMarked result p → ⊥ }
-        ensures listed { AreListed result }
+        ensures indexed { IsIndexed result }
     {
         Marks {
-            words: PointTable::new(alloc),
-            places: Vec::new(alloc),
+            places: BTreeMap::new(alloc),
+            numbers: Vec::new(alloc),
+            words: Vec::new(alloc),
+            hints: Vec::new(alloc),
         }
     }
 
-    /// Whether the point is marked.
-    pub fn has(&self, point: Point) -> bool
-        ensures { IsTrue result ↔ IsMarked self.now point }
-    {
-        has_bit(self.bits(word_of(point)), bit_of(point))
-    }
-
-    /// The point is marked from then on.
-    pub fn mark(&mut self, point: Point) -> Result<(), AllocError>
-        requires { AreListed self.old }
+    /// The point is marked from then on. Whether it wasn't before.
+    pub fn mark(&mut self, point: Point) -> Result<bool, AllocError>
+        requires { IsIndexed self.old }
+        ensures again { IfOk result (λ fresh. IsFalse fresh → IsMarked self.old point) }
+        ensures fresh { IfOk result (λ fresh. IsTrue fresh → IsMarked self.old point → ⊥) }
         ensures marked { OnOk result ((p : Point) → IsMarked self.new p ↔ (IsMarked self.old p ⊎ (p ≡ point))) }
-        ensures listed { OnOk result (AreListed self.new) }
+        ensures indexed { OnOk result (IsIndexed self.new) }
     {
-        let word = word_of(point);
-        let bits = self.bits(word);
-        self.list(point, bits)?;
-        self.words.set(word, with_bit(bits, bit_of(point)))?;
-        Ok(())
+        let rank = rank(point);
+        let place = self.place(rank / SEGMENT)?;
+        let _whole = self.words.len();
+        let word = place * WORDS + (rank / 64 % 64) as usize;
+        Ok(set_bit(&mut self.words, word, (rank % 64) as u32))
     }
 
-    fn bits(&self, word: Point) -> u64
-        ensures { result ≡ bits_of self.now word }
+    // Where the segment with this number stands; it is added where there is none.
+    fn place(&mut self, number: u64) -> Result<usize, AllocError>
+        requires indexed { IsIndexed self.old }
+        requires number { number < 2 ^ 52 }
+        ensures there { IfOk result (λ place. place_of self.new number ≡ Some place) }
+        ensures same { OnOk result ((n : ℕ) → word_of self.new n ≡ word_of self.old n) }
+        ensures indexed { OnOk result (IsIndexed self.new) }
     {
-        self.words.get(word).unwrap_or(0)
-    }
-
-    // Lists the point, if its word has no bits yet.
-    fn list(&mut self, point: Point, bits: u64) -> Result<(), AllocError>
-        ensures words { self.new.words ≡ self.old.words }
-        ensures kept { (p : Point) → Contains self.old.places.items p → Contains self.new.places.items p }
-        ensures listed { OnOk result (bits ≡ 0 → Contains self.new.places.items point) }
-    {
-        if bits == 0 {
-            self.places.push(point)?;
+        let hint = hint_of(number);
+        if let Some(place) = self.hinted(hint, number) {
+            return Ok(place);
         }
-        Ok(())
+        let place = self.listed(number)?;
+        note(&mut self.hints, hint, place)?;
+        Ok(place)
+    }
+
+    // Where the segment with this number stands, where that is noted.
+    fn hinted(&self, hint: usize, number: u64) -> Option<usize>
+        ensures { IfSome result (λ place. (place < length self.now.numbers.items) × (slice_index_or self.now.numbers.items place 0 ≡ number)) }
+    {
+        let place = *self.hints.get(hint)?;
+        let found = *self.numbers.get(place)?;
+        if found == number { Some(place) } else { None }
+    }
+
+    // Where the segment with this number stands, as it is listed; it is added where there is none.
+    fn listed(&mut self, number: u64) -> Result<usize, AllocError>
+        requires indexed { IsIndexed self.old }
+        requires number { number < 2 ^ 52 }
+        ensures there { IfOk result (λ place. place_of self.new number ≡ Some place) }
+        ensures same { OnOk result ((n : ℕ) → word_of self.new n ≡ word_of self.old n) }
+        ensures indexed { OnOk result (IsIndexed self.new) }
+    {
+        if let Some(place) = self.places.get(&number) {
+            return Ok(*place);
+        }
+        let place = self.numbers.len();
+        self.words.extend_from_slice(&[0; WORDS])?;
+        self.numbers.push(number)?;
+        self.places.insert(number, place)?;
+        Ok(place)
     }
 
     /// The maximal runs of the marked points, from the north down, in a row from the west.
     pub(crate) fn runs(&self, alloc: Global) -> Result<Vec<Run>, AllocError>
-        requires { AreListed self.now }
+        requires { IsIndexed self.now }
         ensures { IfOk result (λ runs. AreRuns (IsMarked self.now) runs.items) }
     {
         let mut runs = Vec::new(alloc);
-        for i in 0..self.places.len() {
-            let place = self.places[i];
-            add_word(&mut runs, place, self.bits(word_of(place)))?;
+        let _ordered = self.places.len();
+        for (number, place) in &self.places {
+            add_segment(&mut runs, &self.words, *number, *place)?;
         }
-        maximal_runs(alloc, runs)
+        Ok(runs)
     }
 }
 
-// Adds runs of the points of the word that have their bits set.
-fn add_word(runs: &mut Vec<Run>, place: Point, bits: u64) -> Result<(), AllocError>
-    requires { AreFull runs.old.items }
-    ensures full { OnOk result (AreFull runs.new.items) }
-    ensures covers { OnOk result ((p : Point) → Cover runs.new.items p ↔ (Cover runs.old.items p ⊎ IsInWord (word_of place) bits p)) }
+// Adds the marked points of the segment with this number, which stands at this place.
+fn add_segment(
+    runs: &mut Vec<Run>,
+    words: &[u64],
+    number: u64,
+    place: usize,
+) -> Result<(), AllocError>
+    requires number { number < 2 ^ 52 }
+    requires place { place * 64 + 64 ≤ length words.now }
+    requires runs { AreRuns (Cover runs.old.items) runs.old.items }
+    requires past { (q : Point) → Cover runs.old.items q → (n : ℕ) × (IsRank q n × (n < number * 4096)) }
+    ensures { OnOk result (AreRuns (λ q. Cover runs.old.items q ⊎ IsInSegment words.now number place 4096 q) runs.new.items) }
 {
-    for bit in 0..64 {
-        add_bit(runs, place, bits, bit)?;
+    for i in 0..SEGMENT {
+        let bits = word_at(words, place * WORDS + (i / 64) as usize);
+        add_bit(runs, bits, (i % 64) as u32, number * SEGMENT + i)?;
     }
     Ok(())
 }
 
-// Adds the point of the word with this bit, where that is set.
-fn add_bit(runs: &mut Vec<Run>, place: Point, bits: u64, bit: u32) -> Result<(), AllocError>
-    requires full { AreFull runs.old.items }
+// Adds the point with this rank, where its bit is set.
+fn add_bit(runs: &mut Vec<Run>, bits: u64, bit: u32, rank: u64) -> Result<(), AllocError>
     requires bit { bit < 64 }
-    ensures full { OnOk result (AreFull runs.new.items) }
-    ensures covers { OnOk result ((p : Point) → Cover runs.new.items p ↔ (Cover runs.old.items p ⊎ (IsInWord (word_of place) bits p × (bit_of p ≡ bit)))) }
+    requires runs { AreRuns (Cover runs.old.items) runs.old.items }
+    requires past { (q : Point) → Cover runs.old.items q → (n : ℕ) × (IsRank q n × (n < rank)) }
+    ensures { OnOk result (AreRuns (λ q. Cover runs.old.items q ⊎ ((bit_at bits bit ≡ 1) × IsRank q rank)) runs.new.items) }
 {
     if !has_bit(bits, bit) {
         return Ok(());
     }
-    add_point(runs, in_word(place, bit))?;
+    add_point(runs, point_at(rank))?;
     Ok(())
 }
 
-// Adds the point: the last run grows by it where it ends just before it.
-fn add_point(runs: &mut Vec<Run>, point: Point) -> Result<(), AllocError>
-    requires { AreFull runs.old.items }
-    ensures full { OnOk result (AreFull runs.new.items) }
-    ensures covers { OnOk result ((p : Point) → Cover runs.new.items p ↔ (Cover runs.old.items p ⊎ (p ≡ point))) }
+// How many points come before it, row by row from the north, in a row from the west.
+fn rank(point: Point) -> u64
+    ensures { IsRank point result }
 {
-    let count = runs.len();
-    if count > 0 && runs[count - 1].ends_before(point) {
-        runs[count - 1] = runs[count - 1].up_to(point);
-        return Ok(());
-    }
-    runs.push(Run::of(point))?;
-    Ok(())
+    let row = (i64::from(i32::MAX) - i64::from(point.y)) as u64;
+    let column = (i64::from(point.x) - i64::from(i32::MIN)) as u64;
+    row * ROW + column
 }
 
-// The row and the number of the point's word.
-fn word_of(point: Point) -> Point
-    ensures { result ≡ word_of point }
+// The point that so many come before.
+fn point_at(rank: u64) -> Point
+    ensures { IsRank result rank }
 {
+    let row = (rank / ROW) as i64;
+    let column = (rank % ROW) as i64;
     Point {
-        y: point.y,
-        x: point.x.div_euclid(POINTS_IN_WORD),
+        y: (i64::from(i32::MAX) - row) as i32,
+        x: (column + i64::from(i32::MIN)) as i32,
     }
 }
 
-// Which of its word's bits is the point's.
-fn bit_of(point: Point) -> u32
-    ensures value { result ≡ bit_of point }
-    ensures below { result < 64 }
-{
-    point.x.rem_euclid(POINTS_IN_WORD) as u32
+// Which hint is the segment's: those of two segments of each of 4,096 rows don't meet.
+fn hint_of(number: u64) -> usize {
+    (number / (ROW / SEGMENT) % 4096 * 2 + number % 2) as usize
 }
 
-// The point of the same word that has this bit.
-fn in_word(place: Point, bit: u32) -> Point
-    requires { bit < 64 }
-    ensures word { word_of result ≡ word_of place }
-    ensures bit { bit_of result ≡ bit }
-{
-    let x = column(place.x, bit);
-    Point { y: place.y, x }
+// Notes where a segment was found.
+fn note(hints: &mut Vec<usize>, hint: usize, place: usize) -> Result<(), AllocError> {
+    if hints.is_empty() {
+        hints.resize(HINTS, place)?;
+    }
+    if hint < hints.len() {
+        hints[hint] = place;
+    }
+    Ok(())
 }
 
-// The column of this bit in the word of a column.
-fn column(x: i32, bit: u32) -> i32
-    requires { bit < 64 }
-    ensures { result ≡ ((int_div_euclid x (pos 64) *ℤ pos 64) +ℤ pos bit) }
+fn word_at(words: &[u64], k: usize) -> u64
+    requires { k < length words.now }
+    ensures { result ≡ slice_index_or words.now k 0 }
 {
-    let first = i64::from(x.div_euclid(POINTS_IN_WORD)) * i64::from(POINTS_IN_WORD);
-    (first + i64::from(bit)) as i32
+    words[k]
+}
+
+// Sets this bit of a word. Whether it wasn't set before.
+fn set_bit(words: &mut Vec<u64>, k: usize, bit: u32) -> bool
+    requires k { k < length words.old.items }
+    requires bit { bit < 64 }
+    ensures again { IsFalse result ↔ (bit_at (slice_index_or words.old.items k 0) bit ≡ 1) }
+    ensures set { bit_at (slice_index_or words.new.items k 0) bit ≡ 1 }
+    ensures others { (i : ℕ) → i ≢ bit → bit_at (slice_index_or words.new.items k 0) i ≡ bit_at (slice_index_or words.old.items k 0) i }
+    ensures apart { (j : ℕ) → j ≢ k → slice_index_or words.new.items j 0 ≡ slice_index_or words.old.items j 0 }
+    ensures whole { length words.new.items ≡ length words.old.items }
+{
+    let bits = words[k];
+    words[k] = with_bit(bits, bit);
+    !has_bit(bits, bit)
 }
 
 fn with_bit(bits: u64, bit: u32) -> u64

@@ -10,14 +10,13 @@ ghost use Rattle.flow_d8.specs.FlowPath.{IsInWatershed};
 ghost use Rattle.flow_d8.specs.declared.flow.Flow.TheVariants.{NoGround};
 ghost use Rattle.watershed.specs.Runs.{AreRuns};
 ghost use Rattle.watershed.specs.Search.{AreUpstream};
-ghost use Rattle.watershed.specs.Marks.{IsMarked, AreListed};
+ghost use Rattle.watershed.specs.Marks.{IsMarked, IsIndexed};
 
-use crate::donors::donors;
+use crate::donors::add_donors;
 use crate::flow_source::FlowSource;
 use crate::held::Held;
 use crate::marks::Marks;
 use crate::runs::Run;
-use arrayvec::ArrayVec;
 use flow_d8::{Directions, Flow};
 use lattice::{Point, Refusal};
 use std::alloc::Global;
@@ -60,7 +59,7 @@ fn upstream<F: FlowSource>(alloc: Global, flows: &mut F, point: Point) -> Result
     requires { F.is_ready flows.old }
     ensures found { IfOk result (λ marks. (m : Mosaic) (level : Point → ℤ) → F.tells flows.new m level
         → AreUpstream (terrain m) level point (IsMarked marks)) }
-    ensures listed { IfOk result AreListed }
+    ensures indexed { IfOk result IsIndexed }
     ensures follows { F.follows flows.old flows.new }
     ensures keeps { OnOk result (F.keeps flows.old flows.new) }
     ensures refusal { IfErr result (F.refuses flows.old flows.new) }
@@ -73,37 +72,36 @@ fn upstream<F: FlowSource>(alloc: Global, flows: &mut F, point: Point) -> Result
             return Err(Refusal::NoMemory);
         }
         left -= 1;
-        let found = visit(alloc, flows, &mut marks, at)?;
-        waiting.extend_from_slice(found.as_slice())?;
+        visit(alloc, flows, &mut marks, at, &mut waiting)?;
     }
     Ok(marks)
 }
 
-// Marks the point. The points that drain straight to it; none where it was marked already.
+// Marks the point. Those that drain straight to it wait from then on, unless it was marked already.
 fn visit<F: FlowSource>(
     alloc: Global,
     flows: &mut F,
     marks: &mut Marks,
     point: Point,
-) -> Result<ArrayVec<Point, 8>, Refusal>
+    waiting: &mut Vec<Point>,
+) -> Result<(), Refusal>
     requires ready { F.is_ready flows.old }
-    requires listed { AreListed marks.old }
-    ensures again { IfOk result (λ found. IsMarked marks.old point → found.items ≡ []) }
-    ensures donors { IfOk result (λ found. (IsMarked marks.old point → ⊥)
-        → (m : Mosaic) (level : Point → ℤ) → F.tells flows.new m level
-        → (x : Point) → Contains found.items x ↔ IsFeeder (terrain m) level x point) }
+    requires indexed { IsIndexed marks.old }
+    ensures once { OnOk result ((IsMarked marks.old point × (waiting.new.items ≡ waiting.old.items))
+        ⊎ ((IsMarked marks.old point → ⊥) × ((m : Mosaic) (level : Point → ℤ) → F.tells flows.new m level
+        → (x : Point) → Contains waiting.new.items x ↔ (Contains waiting.old.items x ⊎ IsFeeder (terrain m) level x point)))) }
     ensures marked { OnOk result ((p : Point) → IsMarked marks.new p ↔ (IsMarked marks.old p ⊎ (p ≡ point))) }
-    ensures listed { OnOk result (AreListed marks.new) }
+    ensures indexed { OnOk result (IsIndexed marks.new) }
     ensures ready { OnOk result (F.is_ready flows.new) }
     ensures follows { F.follows flows.old flows.new }
     ensures keeps { OnOk result (F.keeps flows.old flows.new) }
     ensures refusal { IfErr result (F.refuses flows.old flows.new) }
 {
-    if marks.has(point) {
-        return Ok(ArrayVec::new());
+    if !marks.mark(point)? {
+        return Ok(());
     }
-    marks.mark(point)?;
-    donors(alloc, flows, point)
+    add_donors(alloc, flows, point, waiting)?;
+    Ok(())
 }
 
 // The point, where it is ground.

@@ -27,7 +27,7 @@ add-requires g c =
       once = λ i j d before within. absurd (omega (arith, nothing, before, within));
       on_path = λ p marked. absurd (c.new-marks.ensures.none p marked);
       is_marked = λ p at. absurd (nowhere p (subst (λ (l : List Point). Contains l p) c.new-path.ensures.items at));
-      listed = c.new-marks.ensures.listed;
+      indexed = c.new-marks.ensures.indexed;
     }
   where
     nowhere : (p : Point) → Contains [] p → ⊥

@@ -1,23 +1,28 @@
-use Rattle.std.proofs.Common.{◌≡◌, inl, inr, ⊎_elim, sym, ap, ◌∙◌, subst, true≢false}
+use Rattle.std.proofs.Common.{◌≡◌, ◌⊎◌, ℕ, inl, inr, ⊎_elim, sym, ◌∙◌, subst, true≢false}
 use Rattle.std.specs.Int.{bit_at}
-use Rattle.watershed.specs.Marks.{word_of, bit_of}
-use Rattle.watershed.proofs.Words.{one_in_word}
+use Rattle.lattice.specs.declared.point.Point.{Point}
+use Rattle.watershed.specs.Marks.{IsRank}
+use Rattle.watershed.specs.Runs.{Cover}
+use Rattle.watershed.proofs.Found.{runs_alike}
+use Rattle.watershed.proofs.Marked.{one_point, rank_before}
 use Rattle.watershed.proofs.marks.add_bit.Goals as goal
 
-pub returns-then-not-has_bit-clause-covers : goal.returns-then-not-has_bit-clause-covers
-returns-then-not-has_bit-clause-covers c q = (
-  (λ old. inl old),
-  (λ has. ⊎_elim (λ old. old) (λ new. absurd (true≢false (sym (c.has_bit.ensures.1 (subst (λ i. bit_at c.args.bits i ≡ 1) new.1 new.0.set)) ∙ c.if-not-has_bit.true))) has),
-)
+pub returns-then-not-has_bit : goal.returns-then-not-has_bit
+returns-then-not-has_bit c =
+    let old = c.args.runs.now.items in
+    runs_alike (Cover old) (λ q. Cover old q ⊎ ((bit_at c.args.bits c.args.bit ≡ 1) × IsRank q c.args.rank)) old
+    (λ q. ((λ has. inl has), (λ told. ⊎_elim (λ has. has) (λ new. absurd (true≢false (sym (c.has_bit.ensures.1 new.0) ∙ c.if-not-has_bit.true))) told))) c.requires.runs
 
-pub returns-clause-covers : goal.returns-clause-covers
-returns-clause-covers c q =
-    let p = c.in_word.result in
-    let told = c.in_ok-add_point.ensures.covers q in
-    let set : bit_at c.args.bits c.args.bit ≡ 1 = c.has_bit.ensures.0 c.if-not-has_bit.false in (
-      (λ any. ⊎_elim (λ old. inl old) (λ same.
-          let word : word_of q ≡ word_of c.args.place = ap word_of same ∙ c.in_word.ensures.word in
-          let bit : bit_of q ≡ c.args.bit = ap bit_of same ∙ c.in_word.ensures.bit in
-          inr (record { word_is = word; set = ap (bit_at c.args.bits) bit ∙ set }, bit)) (told.0 any)),
-      (λ has. told.1 (⊎_elim (λ old. inl old) (λ new. inr (one_in_word q p (new.0.word_is ∙ sym c.in_word.ensures.word) (new.1 ∙ sym c.in_word.ensures.bit))) has)),
-    )
+pub add_point-requires-clause-past : goal.add_point-requires-clause-past
+add_point-requires-clause-past c q has = let before = c.requires.past q has in rank_before q c.point_at.result before.0 c.args.rank before.1.0 c.point_at.ensures before.1.1
+
+pub returns : goal.returns
+returns c =
+    let old = c.args.runs.now.items in
+    let p = c.point_at.result in
+    let r = c.args.rank in
+    runs_alike (λ q. Cover old q ⊎ (q ≡ p)) (λ q. Cover old q ⊎ ((bit_at c.args.bits c.args.bit ≡ 1) × IsRank q r)) c.add_point.new.runs.items
+    (λ q. (
+      (λ has. ⊎_elim (λ before. inl before) (λ same. inr (c.has_bit.ensures.0 c.if-not-has_bit.false, subst (λ (z : Point). IsRank z r) (sym same) c.point_at.ensures)) has),
+      (λ has. ⊎_elim (λ before. inl before) (λ new. inr (one_point q p r new.1 c.point_at.ensures)) has),
+    )) c.in_ok-add_point.ensures

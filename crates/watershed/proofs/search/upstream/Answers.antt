@@ -5,7 +5,6 @@ use Rattle.lattice.specs.declared.point.Point.{Point}
 use Rattle.lattice.specs.Ground.{terrain}
 use Rattle.watershed.specs.Marks.{IsMarked}
 use Rattle.watershed.proofs.Upstream.{IsSearching, begun, search_on, search_done}
-use Rattle.watershed.proofs.Words.{marked_or_not}
 use Rattle.watershed.proofs.search.upstream.Goals as goal
 
 pub search-init : goal.search-init
@@ -15,49 +14,38 @@ search-init g c =
       ready = told.ready;
       follows = told.follows;
       keeps = told.keeps;
-      listed = c.new-marks.ensures.listed;
+      indexed = c.new-marks.ensures.indexed;
       searching = λ m level tells. begun (terrain m) level c.args.point (IsMarked c.new-marks.result) c.in_ok-waiting.waiting.items c.new-marks.ensures.none (told.found m level tells);
     }
-
-none_in : (x : Point) (xs : List Point) → xs ≡ [] → Contains xs x → ⊥
-none_in x [] e has = absurd (omega (arith, has.1))
-none_in x (y ∷ xs) e has = absurd (omega (arith, ap length e))
 
 pub search-preserved : goal.search-preserved
 search-preserved g c =
     let laws = g.met.F.FlowSource in
     let inv = c.search.invariant in
-    let told = c.in_ok-found.ensures in
+    let told = c.in_ok-visit.ensures in
     let first = c.args.flows.now in
     let old = c.search.flows in
     let new = c.visit.new.flows in
     let p = c.args.point in
     let rest = c.pop.new.self.items in
-    let more = c.in_ok-found.found.items in
+    let waiting = c.visit.new.waiting.items in
     let at = c.in-Some.at in
-    let known = marked_or_not c.search.marks at in
+    let known = told.once in
     let was : c.search.waiting.items ≡ rest ++ at ∷ [] = c.pop.ensures.items ∙ ap (λ (o : Option Point). rest ++ option_to_list o) c.in-Some.is in
-    let is : c.extend_from_slice.new.self.items ≡ rest ++ more = c.in_ok-extend_from_slice.ensures.items ∙ ap (λ (l : List Point). rest ++ l) c.as_slice.ensures.value in
     record {
       ready = told.ready;
       follows = laws.follows_on first old new inv.follows told.follows;
       keeps = laws.keeps_on first old new inv.keeps told.keeps;
-      listed = told.listed;
+      indexed = told.indexed;
       searching = λ m level tells.
           let before = laws.told_before old new m level told.follows tells in
           let so_far = subst (IsSearching (terrain m) level p (IsMarked c.search.marks)) was (inv.searching m level before) in
-          subst (IsSearching (terrain m) level p (IsMarked c.visit.new.marks)) (sym is)
-          (search_on (terrain m) level p (IsMarked c.search.marks) (IsMarked c.visit.new.marks) rest more at told.marked
-          (λ x has. ⊎_elim (λ again. absurd (none_in x more (told.again again) has)) (λ first. (told.donors first m level tells x).0 has) known)
-          (λ x feeds. ⊎_elim (λ again. inl (so_far.closed at x again feeds)) (λ first. inr ((told.donors first m level tells x).1 feeds)) known)
-          so_far);
+          search_on (terrain m) level p (IsMarked c.search.marks) (IsMarked c.visit.new.marks) rest waiting at told.marked
+          (λ x has. ⊎_elim (λ again. subst (λ l. Contains l x) (sym again.1) has) (λ first. (first.1 m level tells x).1 (inl has)) known)
+          (λ x has. ⊎_elim (λ again. inl (subst (λ l. Contains l x) again.1 has)) (λ first. (first.1 m level tells x).0 has) known)
+          (λ x feeds. ⊎_elim (λ again. inl (so_far.closed at x again.0 feeds)) (λ first. inr ((first.1 m level tells x).1 (inr feeds))) known)
+          so_far;
     }
-
-pub returns-in_err-extend_from_slice-clause-refusal : goal.returns-in_err-extend_from_slice-clause-refusal
-returns-in_err-extend_from_slice-clause-refusal g c =
-    let keeps = g.met.F.FlowSource.keeps_on c.args.flows.now c.search.flows c.visit.new.flows c.search.invariant.keeps c.in_ok-found.ensures.keeps in
-    let out = g.met.F.FlowSource.runs_out c.args.flows.now c.visit.new.flows keeps in
-    search rules
 
 none_left : (xs : List Point) → length xs ≡ 0 → xs ≡ []
 none_left [] e = refl

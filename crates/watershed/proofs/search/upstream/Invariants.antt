@@ -2,7 +2,7 @@ use Rattle.std.proofs.Common.{ℤ}
 use Rattle.lattice.specs.declared.point.Point.{Point}
 use Rattle.lattice.specs.Mosaic.{Mosaic}
 use Rattle.lattice.specs.Ground.{terrain}
-use Rattle.watershed.specs.Marks.{IsMarked, AreListed}
+use Rattle.watershed.specs.Marks.{IsMarked, IsIndexed}
 use Rattle.watershed.proofs.Upstream.{IsSearching}
 use Rattle.watershed.proofs.search.upstream.Given as goal
 
@@ -11,7 +11,7 @@ invariant-search g l = record {
   ready : g.F.FlowSource.is_ready l.flows;
   follows : g.F.FlowSource.follows l.fn.flows l.flows;
   keeps : g.F.FlowSource.keeps l.fn.flows l.flows;
-  listed : AreListed l.marks;
+  indexed : IsIndexed l.marks;
   searching : (m : Mosaic) (level : Point → ℤ) → g.F.FlowSource.tells l.flows m level → IsSearching (terrain m) level l.fn.point (IsMarked l.marks) l.waiting.items;
 }
 

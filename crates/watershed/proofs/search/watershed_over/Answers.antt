@@ -7,7 +7,7 @@ use Rattle.watershed.proofs.Found.{runs_alike}
 use Rattle.watershed.proofs.search.watershed_over.Goals as goal
 
 pub runs-requires : goal.runs-requires
-runs-requires g c = c.in_ok-marks.ensures.listed
+runs-requires g c = c.in_ok-marks.ensures.indexed
 
 pub returns-clause-runs : goal.returns-clause-runs
 returns-clause-runs g c m level tells =

@@ -1,0 +1,39 @@
+use Rattle.std.proofs.Common.{◌≡◌, ◌≢◌, ℕ, Some, inl, inr, false, sym, ap, ◌∙◌}
+use Rattle.std.specs.Option.{option_copied}
+use Rattle.std.specs.Ordering.{nat_cmp}
+use Rattle.std.specs.BTreeMap.{is_at}
+use Rattle.std.proofs.lemmas.Bool.{cases_Bool}
+use Rattle.watershed.specs.declared.marks.Marks.{Marks}
+use Rattle.watershed.proofs.Marked.{found_at, words_stay, indexed_more}
+use Rattle.watershed.proofs.marks.Marks.listed.Goals as goal
+
+pub returns-in-Some-clause-there : goal.returns-in-Some-clause-there
+returns-in-Some-clause-there c = sym c.get.ensures.value ∙ ap option_copied c.in-Some.is
+
+pub returns-clause-there : goal.returns-clause-there
+returns-clause-there c = c.in_ok-insert.ensures.updates.1
+
+-- another number is kept apart
+apart : (number q : ℕ) → q ≢ number → is_at (nat_cmp number) q ≡ false
+apart number q other = elim (cases_Bool (is_at (nat_cmp number) q)) [
+  | inl this ↦ absurd (other (sym (found_at number q this)))
+  | inr far ↦ far
+]
+
+pub returns-clause-same : goal.returns-clause-same
+returns-clause-same c =
+    let old = c.args.self.now in
+    let number = c.args.number in
+    let updates = c.in_ok-insert.ensures.updates in
+    words_stay old (record { places = c.insert.new.self; numbers = c.push.new.self; words = c.extend_from_slice.new.self; hints = old.hints }) number c.requires.indexed
+    (sym c.get.ensures.value ∙ ap option_copied c.in_default.is) c.requires.number c.in_ok-extend_from_slice.ensures.items c.in_ok-push.ensures.items
+    (updates.1 ∙ ap Some (c.len-place.ensures ∙ old.numbers.ok.0)) (λ q other. updates.2 q (apart number q other))
+
+pub returns-clause-indexed : goal.returns-clause-indexed
+returns-clause-indexed c =
+    let old = c.args.self.now in
+    let number = c.args.number in
+    let updates = c.in_ok-insert.ensures.updates in
+    indexed_more old (record { places = c.insert.new.self; numbers = c.push.new.self; words = c.extend_from_slice.new.self; hints = old.hints }) number c.requires.indexed
+    (sym c.get.ensures.value ∙ ap option_copied c.in_default.is) c.requires.number c.in_ok-extend_from_slice.ensures.items c.in_ok-push.ensures.items
+    (updates.1 ∙ ap Some (c.len-place.ensures ∙ old.numbers.ok.0)) (λ q other. updates.2 q (apart number q other))

@@ -1,0 +1,7 @@
+use Rattle.std.proofs.Common.{◌⊎◌}
+use Rattle.watershed.specs.Marks.{IsInSegment}
+use Rattle.watershed.specs.Runs.{AreRuns, Cover}
+use Rattle.watershed.proofs.marks.add_segment.Given as goal
+
+abbrev pub invariant-loop-i : goal.invariant-loop-i
+invariant-loop-i l = AreRuns (λ q. Cover l.fn.runs.items q ⊎ IsInSegment l.words l.number l.place l.i q) l.runs.items
