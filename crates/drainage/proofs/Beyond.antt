@@ -1,18 +1,23 @@
 -- What is held of a tile that a change doesn't reach is kept, change after change.
-use Rattle.std.proofs.Common.{◌≡◌, ℕ, ℤ, ◌<◌, true, false, List, length, get_or, refl, sym, ap, ◌∙◌, subst}
-use Rattle.std.specs.Prelude.{◌↔◌, Option, Some, None, nat_lt, not}
+use Rattle.std.proofs.Common.{◌≡◌, ℕ, ℤ, ◌<◌, true, false, inl, inr, List, length, get_or, refl, sym, ap, ap₂, ◌∙◌, subst}
+use Rattle.std.specs.Prelude.{◌↔◌, ◌⊎◌, All, Option, Some, None, nat_lt, not}
 use Rattle.std.proofs.lemmas.Bool.{or_parts, false_from_ne_true, both_ways, ltb-true}
-use Rattle.std.proofs.lemmas.List.Elements.{All-get_or}
+use Rattle.std.proofs.lemmas.List.Elements.{All-get_or, All-weaker}
 use Rattle.lattice.specs.Corners.{Corner}
 use Rattle.lattice.specs.Lattice.{holds}
+use Rattle.lattice.specs.Mosaic.{Mosaic}
 use Rattle.lattice.specs.declared.point.Point.{Point}
 use Rattle.edits.specs.declared.edit.NewHeight.{NewHeight}
 use Rattle.border_graph.specs.Others.{corner_at}
-use Rattle.drainage.specs.Between.{are_noted}
-use Rattle.drainage.specs.Beyond.{is_beyond, are_kept_from, are_kept_beyond, are_levels_kept}
-use Rattle.drainage.specs.Holding.{level_of}
+use Rattle.drainage.specs.Between.{are_noted, are_right, are_sparing, levels_pass}
+use Rattle.drainage.specs.Beyond.{are_kept_from, are_kept_beyond, are_levels_kept}
+use Rattle.drainage.specs.Holding.{IsHeldAt, IsRight, level_of}
+use Rattle.drainage.specs.RimGraphs.{loaded_at}
+use Rattle.drainage.specs.declared.labelling_cache.LabellingCache.{LabellingCache}
+use Rattle.drainage.specs.declared.rim_graph.RimGraph.{RimGraph}
+use Rattle.drainage.proofs.Growing.{known_by}
 use Rattle.drainage.specs.Reaching.{is_between, is_reached, reaches}
-use Rattle.drainage.specs.Spared.{IsSpared}
+use Rattle.drainage.specs.Spared.{AreSparing, IsSpared, IsSparedBy, IsUnchanged}
 use Rattle.drainage.specs.declared.tile_cache.TileCache.{TileCache}
 use Rattle.drainage.proofs.Reached.{at_itself}
 use Rattle.drainage.proofs.Unreached.{itself_unreached}
@@ -45,9 +50,9 @@ module _ (n : ℕ) (corners : List Corner) (p : Point) (t : ℕ) (out : is_reach
   not_held = false_from_ne_true (holds n (corner_at corners t) p) (λ held.
       both_ways (is_between p p p) (itself_unreached n (corner_at corners t) p p parts.1 p held) (at_itself p))
 
-pub kept_by_noted : (p : Point) (before after : ℤ) (held left : Option TileCache) → are_noted p before after held left → are_kept_from p held left
-kept_by_noted p before after None left is = tt
-kept_by_noted p before after (Some tile_cache) left (some, at, is) = λ t out. (
+kept_by_noted : (p : Point) (held left : Option TileCache) → are_noted p held left → are_kept_from p held left
+kept_by_noted p None left is = tt
+kept_by_noted p (Some tile_cache) left (some, at, is) = λ t out. (
   some,
   at,
   record {
@@ -58,9 +63,9 @@ kept_by_noted p before after (Some tile_cache) left (some, at, is) = λ t out. (
   },
 )
 
-pub all_kept : {A : Type 0} (point : A → Option Point) (changes : List A) (held : Option TileCache) → are_kept_beyond point changes held held
-all_kept point changes None = tt
-all_kept point changes (Some tile_cache) = λ t beyond. (tile_cache, refl, record { same_side = refl; same_corners = refl; loaded = refl; labellings = λ l. ((λ at. at), (λ at. at)) })
+pub all_kept : (heights : List NewHeight) (held : Option TileCache) → are_kept_beyond heights held held
+all_kept heights None = tt
+all_kept heights (Some tile_cache) = λ t beyond. (tile_cache, refl, record { same_side = refl; same_corners = refl; loaded = refl; labellings = λ l. ((λ at. at), (λ at. at)) })
 
 -- ---- levels that no height can change
 
@@ -68,29 +73,76 @@ pub all_levels_kept : (heights : List NewHeight) (held : Option TileCache) → a
 all_levels_kept heights None = tt
 all_levels_kept heights (Some tile_cache) = λ x level at spared. (tile_cache, refl, at)
 
-level_kept : (p : Point) (before after : ℤ) (held : TileCache) (left : Option TileCache) (x : ℕ) (level : ℤ) → are_noted p before after (Some held) left → level_of held.levels x ≡ Some level → IsSpared before after level
-    → (some : TileCache) × (left ≡ Some some) × (level_of some.levels x ≡ Some level)
-level_kept p before after held left x level (some, at, is) had spared = (some, at, (is.levels x level).1 (had, spared))
+-- the first step: those that some height doesn't spare are given up
+module _ (heights : List NewHeight) where
+  pub levels_spared : (m : Mosaic) (held left : Option TileCache) → are_sparing heights held left → are_right m held → are_right m left
+  levels_spared m None left spared right = subst (are_right m) (sym spared) tt
+  levels_spared m (Some tile_cache) left (some, at, is) right = subst (are_right m) (sym at)
+      (subst (IsRight m) (ap₂ (λ (g : RimGraph) (l : LabellingCache). known_by g l some.levels) (sym is.rim_graph) (sym is.labellings))
+      (record { ready = right.ready; labellings = right.labellings; levels = λ x level had. right.levels x level ((is.levels x level).0 had).0 }))
+
+  pub tiles_kept : (held left : Option TileCache) → are_sparing heights held left → are_kept_beyond heights held left
+  tiles_kept None left spared = tt
+  tiles_kept (Some tile_cache) left (some, at, is) = λ t beyond. (
+    some,
+    at,
+    record {
+      same_side = ap (λ (g : RimGraph). g.side) is.rim_graph;
+      same_corners = ap (λ (g : RimGraph). g.corners.items) is.rim_graph;
+      loaded = ap (λ (g : RimGraph). loaded_at g.loaded.items t) is.rim_graph;
+      labellings = λ l. (subst (λ (c : LabellingCache). IsHeldAt c.held.items t l) is.labellings, subst (λ (c : LabellingCache). IsHeldAt c.held.items t l) (sym is.labellings));
+    },
+  )
+
+  pub levels_kept : (held left : Option TileCache) → are_sparing heights held left → are_levels_kept heights held left
+  levels_kept None left spared = tt
+  levels_kept (Some tile_cache) left (some, at, is) = λ x level had spared. (some, at, (is.levels x level).1 (had, spared))
+
+  pub all_pass : (held left : Option TileCache) → are_sparing heights held left → levels_pass (AreSparing heights) left
+  all_pass None left spared = subst (levels_pass (AreSparing heights)) (sym spared) tt
+  all_pass (Some tile_cache) left (some, at, is) = subst (levels_pass (AreSparing heights)) (sym at) (λ x level had. ((is.levels x level).0 had).1)
+
+  -- where no height changes, they spare each
+  pub all_unchanged : (held : Option TileCache) → All IsUnchanged heights → levels_pass (AreSparing heights) held
+  all_unchanged None all = tt
+  all_unchanged (Some tile_cache) all = λ x level had. All-weaker IsUnchanged (IsSparedBy level) (λ h same. inl same) heights all
+
+  -- .. and each height leaves the others
+  pub pass_still : (p : Point) (held left : Option TileCache) → are_noted p held left → levels_pass (AreSparing heights) held → levels_pass (AreSparing heights) left
+  pass_still p None left noted pass = subst (levels_pass (AreSparing heights)) (sym noted) tt
+  pass_still p (Some tile_cache) left (some, at, is) pass = subst (levels_pass (AreSparing heights)) (sym at) (λ x level had. pass x level (ap (λ (l : List (Option ℤ)). level_of l x) (sym is.same_levels) ∙ had))
+
+  pub levels_kept_still : (p : Point) (first held left : Option TileCache) → are_noted p held left → are_levels_kept heights first held → are_levels_kept heights first left
+  levels_kept_still p None held left noted before = tt
+  levels_kept_still p (Some tile_cache) held left noted before = λ x level at spared.
+      let was = before x level at spared in
+      let now = subst (λ (o : Option TileCache). are_noted p o left) was.1 noted in
+      (now.0, now.1, ap (λ (l : List (Option ℤ)). level_of l x) now.2.same_levels ∙ was.2)
+
+  -- this one spares those that are known
+  pub spared_by : (i : ℕ) (h : NewHeight) (held : Option TileCache) → i < length heights → h ≡ get_or heights i h → (IsUnchanged h → ⊥) → levels_pass (AreSparing heights) held → levels_pass (IsSpared h.was h.metres) held
+  spared_by i h None below is_h changes pass = tt
+  spared_by i h (Some tile_cache) below is_h changes pass = λ x level at.
+      elim (subst (IsSparedBy level) (sym is_h) (All-get_or (IsSparedBy level) heights i h below (pass x level at))) [
+        | inl same ↦ absurd (changes same)
+        | inr spared ↦ spared
+      ]
 
 -- one height more
-pub one_levels_kept : (heights : List NewHeight) (i : ℕ) (h : NewHeight) (first held left : Option TileCache) → i < length heights → h ≡ get_or heights i h
-    → are_noted h.point h.was h.metres held left → are_levels_kept heights first held → are_levels_kept heights first left
-one_levels_kept heights i h None held left below is_h noted before = tt
-one_levels_kept heights i h (Some tile_cache) held left below is_h noted before = λ x level at spared.
-    let was = before x level at spared in
-    level_kept h.point h.was h.metres was.0 left x level (subst (λ (o : Option TileCache). are_noted h.point h.was h.metres o left) was.1 noted) was.2
-    (subst (λ (k : NewHeight). IsSpared k.was k.metres level) (sym is_h) (All-get_or (λ (k : NewHeight). IsSpared k.was k.metres level) heights i h below spared))
-
--- one change more
-pub one_kept : {A : Type 0} (point : A → Option Point) (changes : List A) (i : ℕ) (x : A) (p : Point) (first held left : Option TileCache) → i < length changes → x ≡ get_or changes i x → point x ≡ Some p
-    → are_kept_from p held left → are_kept_beyond point changes first held → are_kept_beyond point changes first left
-one_kept point changes i x p None held left below is_x at kept before = tt
-one_kept point changes i x p (Some tile_cache) held left below is_x at kept before = λ t beyond.
+pub one_kept : (heights : List NewHeight) (i : ℕ) (h : NewHeight) (first held left : Option TileCache) → i < length heights → h ≡ get_or heights i h → (IsUnchanged h → ⊥)
+    → are_noted h.point held left → are_kept_beyond heights first held → are_kept_beyond heights first left
+one_kept heights i h None held left below is_h changes noted before = tt
+one_kept heights i h (Some tile_cache) held left below is_h changes noted before = λ t beyond.
+    let n = tile_cache.rim_graph.side in
+    let corners = tile_cache.rim_graph.corners.items in
     let was = before t beyond in
-    let out : is_reached tile_cache.rim_graph.side tile_cache.rim_graph.corners.items p p t ≡ false =
-    subst (is_beyond tile_cache.rim_graph.side tile_cache.rim_graph.corners.items t) (ap point (sym is_x) ∙ at) (All-get_or (λ change. is_beyond tile_cache.rim_graph.side tile_cache.rim_graph.corners.items t (point change)) changes i x below beyond) in
-    let still = subst (λ (o : Option TileCache). are_kept_from p o left) was.1 kept in
-    let now = still t (ap (λ (s : ℕ). is_reached s was.0.rim_graph.corners.items p p t) was.2.same_side ∙ (ap (λ (cs : List Corner). is_reached tile_cache.rim_graph.side cs p p t) was.2.same_corners ∙ out)) in (
+    let out : is_reached n corners h.point h.point t ≡ false =
+    elim (subst (λ (k : NewHeight). IsUnchanged k ⊎ (is_reached n corners k.point k.point t ≡ false)) (sym is_h) (All-get_or (λ (k : NewHeight). IsUnchanged k ⊎ (is_reached n corners k.point k.point t ≡ false)) heights i h below beyond)) [
+      | inl same ↦ absurd (changes same)
+      | inr out ↦ out
+    ] in
+    let still = subst (λ (o : Option TileCache). are_kept_from h.point o left) was.1 (kept_by_noted h.point held left noted) in
+    let now = still t (ap (λ (s : ℕ). is_reached s was.0.rim_graph.corners.items h.point h.point t) was.2.same_side ∙ (ap (λ (cs : List Corner). is_reached n cs h.point h.point t) was.2.same_corners ∙ out)) in (
       now.0,
       now.1,
       record {

@@ -63,13 +63,13 @@ left_right m new from to spared known known' differ still left right = record {
 }
 
 -- what is left where a height may have changed
-pub noted_right : (m new : Mosaic) (p : Point) (was is : ℤ) (known known' : Known) → DifferAt m new p → IsNotedOf (is_reached known.side known.corners p p) p was is known known'
+pub noted_right : (m new : Mosaic) (p : Point) (known known' : Known) → DifferAt m new p → IsNotedOf (is_reached known.side known.corners p p) p known known'
     → ((t : ℕ) → IsEntered m (corner_at known.corners t) known.labellings t → IsEntered new (corner_at known.corners t) known'.labellings t)
-    → ((x : ℕ) (level : ℤ) → level_of known'.levels x ≡ Some level → IsRimLevel new known'.corners x level) → IsRight m known → IsRight new known'
-noted_right m new p was is known known' differ left labellings levels right = record {
+    → ((x : ℕ) (level : ℤ) → level_of known.levels x ≡ Some level → IsRimLevel new known.corners x level) → IsRight m known → IsRight new known'
+noted_right m new p known known' differ left labellings levels right = record {
   ready = left_ready m new p p known known' differ.around left.same_side left.same_corners left.whole left.loaded right;
   labellings = λ t. subst (λ (cs : List Corner). IsEntered new (corner_at cs t) known'.labellings t) (sym left.same_corners) (labellings t (right.labellings t));
-  levels = levels;
+  levels = λ x level at. subst (λ (cs : List Corner). IsRimLevel new cs x level) (sym left.same_corners) (levels x level (ap (λ (l : List (Option ℤ)). level_of l x) (sym left.same_levels) ∙ at));
 }
 
 -- ---- elements given up one by one

@@ -1,21 +1,22 @@
 -- What is held between two questions.
-use Rattle.std.specs.Prelude.{◌≡◌, ◌+◌, ℤ, Option, Some, None, length}
+use Rattle.std.specs.Prelude.{◌≡◌, ◌+◌, ℕ, ℤ, List, Option, Some, None, length}
 use Rattle.std.specs.Option.{ForSome}
 use Rattle.lattice.specs.Corners.{Corner}
 use Rattle.lattice.specs.Mosaic.{Mosaic}
 use Rattle.lattice.specs.declared.point.Point.{Point}
 use Rattle.catalogue.specs.declared.samples.Samples.{Ghosts}
 use Rattle.tile_flood.specs.Blocks.{LabelledGround}
+use Rattle.edits.specs.declared.edit.NewHeight.{NewHeight}
 use Rattle.flow_d8.specs.FlowCaches.{IsCacheOf, IsPastOf}
 use Rattle.flow_d8.specs.FlowGrids.{AreFewTiles}
 use Rattle.flow_d8.specs.declared.flow_cache.FlowCache.{FlowCache}
 use Rattle.flow_d8.specs.declared.past_flows.PastFlows.{PastFlows}
 use Rattle.drainage.specs.Invalidating.{IsLeftOf, IsNotedOf}
-use Rattle.drainage.specs.Holding.{IsRight, IsCurrentIn}
+use Rattle.drainage.specs.Holding.{IsRight, IsCurrentIn, level_of}
 use Rattle.drainage.specs.PastFlows.{past_tiles, IsPastTaken, are_spared}
 use Rattle.drainage.specs.Reaching.{is_reached}
 use Rattle.drainage.specs.Room.{AreFew}
-use Rattle.drainage.specs.TileCaches.{known_of}
+use Rattle.drainage.specs.TileCaches.{known_of, IsSparedOf}
 use Rattle.drainage.specs.declared.drainage_cache.DrainageCache.{DrainageCache}
 use Rattle.drainage.specs.declared.tile_cache.TileCache.{TileCache}
 
@@ -65,15 +66,29 @@ are_left from to spared (Some tile_cache) left =
 abbrev pub IsLeftHeld : Point → Point → (ℤ → Type 0) → DrainageCache → DrainageCache → Type 0
 IsLeftHeld from to spared held left = are_left from to spared held.tile_cache left.tile_cache
 
--- what was found is left, but for the summaries that the point reaches, the labellings of tiles that hold it, and the levels
--- that may change as it gets another height than it had
-abbrev pub are_noted : Point → ℤ → ℤ → Option TileCache → Option TileCache → Type 0
-are_noted p was is None left = left ≡ None
-are_noted p was is (Some tile_cache) left =
-    (some : TileCache) × (left ≡ Some some) × IsNotedOf (is_reached tile_cache.rim_graph.side tile_cache.rim_graph.corners.items p p) p was is (known_of tile_cache) (known_of some)
+-- what was found is left, but for the levels that some of these heights don't spare
+abbrev pub are_sparing : List NewHeight → Option TileCache → Option TileCache → Type 0
+are_sparing heights None left = left ≡ None
+are_sparing heights (Some tile_cache) left = (some : TileCache) × (left ≡ Some some) × IsSparedOf heights tile_cache some
 
-abbrev pub IsNotedHeld : Point → ℤ → ℤ → DrainageCache → DrainageCache → Type 0
-IsNotedHeld p was is held left = are_noted p was is held.tile_cache left.tile_cache
+pub record IsSparedHeld (heights : List NewHeight) (held left : DrainageCache) : Type 0 where
+  pub tile_cache : are_sparing heights held.tile_cache left.tile_cache
+  pub flow_cache : left.flow_cache ≡ held.flow_cache
+  pub past_flows : left.past_flows ≡ held.past_flows
+
+-- each level that is known passes the test
+abbrev pub levels_pass : (ℤ → Type 0) → Option TileCache → Type 0
+levels_pass spared None = Unit {0}
+levels_pass spared (Some tile_cache) = (x : ℕ) (level : ℤ) → level_of tile_cache.levels x ≡ Some level → spared level
+
+-- what was found is left, but for the summaries that the point reaches, and for the labellings of tiles that hold it
+abbrev pub are_noted : Point → Option TileCache → Option TileCache → Type 0
+are_noted p None left = left ≡ None
+are_noted p (Some tile_cache) left =
+    (some : TileCache) × (left ≡ Some some) × IsNotedOf (is_reached tile_cache.rim_graph.side tile_cache.rim_graph.corners.items p p) p (known_of tile_cache) (known_of some)
+
+abbrev pub IsNotedHeld : Point → DrainageCache → DrainageCache → Type 0
+IsNotedHeld p held left = are_noted p held.tile_cache left.tile_cache
 
 -- what was known of where points drain is left where the change of a height from the one to the other spares it
 abbrev pub AreFlowsLeft : ℤ → ℤ → DrainageCache → DrainageCache → Type 0

@@ -1,6 +1,5 @@
 -- What changes leave of what is held: all that is held of tiles that they don't reach.
-use Rattle.std.specs.Prelude.{◌≡◌, ◌↔◌, ℕ, ℤ, false, List, All, Option, Some, None}
-use Rattle.lattice.specs.Corners.{Corner}
+use Rattle.std.specs.Prelude.{◌≡◌, ◌↔◌, ◌⊎◌, ℕ, ℤ, false, List, All, Option, Some, None}
 use Rattle.lattice.specs.declared.point.Point.{Point}
 use Rattle.tile_labellings.specs.declared.tile_labelling.TileLabelling.{TileLabelling}
 use Rattle.edits.specs.declared.edit.Edit.{Edit}
@@ -10,7 +9,7 @@ use Rattle.drainage.specs.Between.{IsLeftHeld}
 use Rattle.drainage.specs.Holding.{IsHeldAt, level_of}
 use Rattle.drainage.specs.Reaching.{is_reached}
 use Rattle.drainage.specs.RimGraphs.{loaded_at}
-use Rattle.drainage.specs.Spared.{IsNoHigher, IsSpared, one_lower}
+use Rattle.drainage.specs.Spared.{AreSparing, IsNoHigher, IsUnchanged, one_lower}
 use Rattle.drainage.specs.declared.drainage_cache.DrainageCache.{DrainageCache}
 use Rattle.drainage.specs.declared.tile_cache.TileCache.{TileCache}
 
@@ -21,38 +20,32 @@ pub record IsKeptAt (t : ℕ) (tile_cache left : TileCache) : Type 0 where
   pub loaded : loaded_at left.rim_graph.loaded.items t ≡ loaded_at tile_cache.rim_graph.loaded.items t
   pub labellings : (labelling : TileLabelling) → IsHeldAt left.labellings.held.items t labelling ↔ IsHeldAt tile_cache.labellings.held.items t labelling
 
--- the tile with this place neither holds the point nor one beside it
-abbrev pub is_beyond : ℕ → List Corner → ℕ → Option Point → Type 0
-is_beyond n corners t None = ⊥
-is_beyond n corners t (Some p) = is_reached n corners p p t ≡ false
-
 -- what is held of tiles that the point doesn't reach is kept
 abbrev pub are_kept_from : Point → Option TileCache → Option TileCache → Type 0
 are_kept_from p None left = Unit {0}
-are_kept_from p (Some tile_cache) left = (t : ℕ) → is_beyond tile_cache.rim_graph.side tile_cache.rim_graph.corners.items t (Some p) → (some : TileCache) × (left ≡ Some some) × IsKeptAt t tile_cache some
+are_kept_from p (Some tile_cache) left = (t : ℕ) → is_reached tile_cache.rim_graph.side tile_cache.rim_graph.corners.items p p t ≡ false → (some : TileCache) × (left ≡ Some some) × IsKeptAt t tile_cache some
 
--- what is held of tiles that none of these reaches, each at its point, is kept
-abbrev pub are_kept_beyond : {A : Type 0} → (A → Option Point) → List A → Option TileCache → Option TileCache → Type 0
-are_kept_beyond at all None left = Unit {0}
-are_kept_beyond at all (Some tile_cache) left =
-    (t : ℕ) → All (λ x. is_beyond tile_cache.rim_graph.side tile_cache.rim_graph.corners.items t (at x)) all → (some : TileCache) × (left ≡ Some some) × IsKeptAt t tile_cache some
+-- .. that none of the points reaches that get other heights
+abbrev pub are_kept_beyond : List NewHeight → Option TileCache → Option TileCache → Type 0
+are_kept_beyond heights None left = Unit {0}
+are_kept_beyond heights (Some tile_cache) left =
+    (t : ℕ) → All (λ h. IsUnchanged h ⊎ (is_reached tile_cache.rim_graph.side tile_cache.rim_graph.corners.items h.point h.point t ≡ false)) heights → (some : TileCache) × (left ≡ Some some) × IsKeptAt t tile_cache some
 
--- .. none of the points that get new heights
 abbrev pub IsKeptBeyondHeights : List NewHeight → DrainageCache → DrainageCache → Type 0
-IsKeptBeyondHeights heights held left = are_kept_beyond (λ h. Some h.point) heights held.tile_cache left.tile_cache
+IsKeptBeyondHeights heights held left = are_kept_beyond heights held.tile_cache left.tile_cache
 
 -- the levels of rim points that none of these new heights can change are kept
 abbrev pub are_levels_kept : List NewHeight → Option TileCache → Option TileCache → Type 0
 are_levels_kept heights None left = Unit {0}
 are_levels_kept heights (Some tile_cache) left =
-    (x : ℕ) (level : ℤ) → level_of tile_cache.levels x ≡ Some level → All (λ h. IsSpared h.was h.metres level) heights → (some : TileCache) × (left ≡ Some some) × (level_of some.levels x ≡ Some level)
+    (x : ℕ) (level : ℤ) → level_of tile_cache.levels x ≡ Some level → AreSparing heights level → (some : TileCache) × (left ≡ Some some) × (level_of some.levels x ≡ Some level)
 
 abbrev pub AreLevelsKept : List NewHeight → DrainageCache → DrainageCache → Type 0
 AreLevelsKept heights held left = are_levels_kept heights held.tile_cache left.tile_cache
 
 -- where each point gets the height that it has, all that is held is kept
 abbrev pub IsKeptUnchanged : List NewHeight → DrainageCache → DrainageCache → Type 0
-IsKeptUnchanged heights held left = All (λ h. h.was ≡ h.metres) heights → left ≡ held
+IsKeptUnchanged heights held left = All IsUnchanged heights → left ≡ held
 
 -- what is held of tiles that the edit doesn't reach is kept, where no tile comes or goes; as a sink comes, levels no higher
 -- than its ground are kept too, and as one goes, levels below it

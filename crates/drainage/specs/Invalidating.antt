@@ -13,7 +13,6 @@ use Rattle.drainage.specs.Holding.{Known, IsHeldAt, level_of}
 use Rattle.drainage.specs.Reaching.{DifferAt}
 use Rattle.drainage.specs.RimGraphs.{loaded_at}
 use Rattle.drainage.specs.Room.{has_block}
-use Rattle.drainage.specs.Spared.{IsSpared}
 use Rattle.drainage.specs.declared.labelling_cache.HeldLabelling.{HeldLabelling}
 
 -- all that was known, but for the tiles whose places pass the test, and for the levels that aren't spared
@@ -32,16 +31,16 @@ pub record IsHeldStill (labellings : List HeldLabelling) (t : ℕ) (labelling : 
   pub same : labelled_of noted ≡ labelled_of labelling
   pub flooded : is_flooded noted ≡ is_flooded labelling
 
--- all that was known, but for the summaries of the tiles whose places pass the test, for the labellings of those that hold
--- the point, of which those stay that can be mended, and for the levels that may change as this gets another height than it had
-pub record IsNotedOf (gone : ℕ → Bool) (p : Point) (was is : ℤ) (known known' : Known) : Type 0 where
+-- all that was known, but for the summaries of the tiles whose places pass the test, and for the labellings of those that hold
+-- the point, of which those stay that can be mended
+pub record IsNotedOf (gone : ℕ → Bool) (p : Point) (known known' : Known) : Type 0 where
   pub same_side : known'.side ≡ known.side
   pub same_corners : known'.corners ≡ known.corners
   pub whole : length known'.loaded ≡ length known.loaded
   pub loaded : (t : ℕ) (ways : TileGraph) → loaded_at known'.loaded t ≡ Some ways ↔ ((loaded_at known.loaded t ≡ Some ways) × (gone t ≡ false))
   pub labellings : (t : ℕ) → t < length known.corners → holds known.side (corner_at known.corners t) p ≡ false → (labelling : TileLabelling) → IsHeldAt known'.labellings t labelling ↔ IsHeldAt known.labellings t labelling
   pub mended : (t : ℕ) → t < length known.corners → (labelling : TileLabelling) → IsHeldAt known.labellings t labelling → can_note labelling ≡ true → IsHeldStill known'.labellings t labelling
-  pub levels : (x : ℕ) (level : ℤ) → level_of known'.levels x ≡ Some level ↔ ((level_of known.levels x ≡ Some level) × IsSpared was is level)
+  pub same_levels : known'.levels ≡ known.levels
 
 -- The point may have this height from then on: this is noted of a labelling that is held, as far as its tile holds the
 -- point, or it isn't, and then the labelling is to be given up.

@@ -1,11 +1,12 @@
 -- The filled levels that a change of one point can't change (this product's own profile).
-use Rattle.std.specs.Prelude.{◌≡◌, ◌≢◌, ◌⊎◌, ℤ, pos, ◌-ℤ◌, ◌<ℤ◌, ◌≤ℤ◌, Option, Some, None, true}
+use Rattle.std.specs.Prelude.{◌≡◌, ◌≢◌, ◌⊎◌, ℤ, pos, ◌-ℤ◌, ◌<ℤ◌, ◌≤ℤ◌, List, All, Option, Some, None, true}
 use Rattle.lattice.specs.declared.point.Point.{Point}
 use Rattle.lattice.specs.declared.height.Height.TheVariants.{At}
 use Rattle.lattice.specs.Ground.{is_ground, terrain}
 use Rattle.lattice.specs.Height.{height_of}
 use Rattle.lattice.specs.Mosaic.{Mosaic, void}
 use Rattle.lattice.specs.Terrain.{IsFilledLevel}
+use Rattle.edits.specs.declared.edit.NewHeight.{NewHeight}
 
 -- a level lies below both heights, or above both
 abbrev pub LiesApart : ℤ → ℤ → ℤ → Type 0
@@ -14,6 +15,18 @@ LiesApart was is level = ((level <ℤ was) × (level <ℤ is)) ⊎ ((was <ℤ le
 -- .. and so it stays as a ground point of the one height gets the other
 abbrev pub IsSpared : ℤ → ℤ → ℤ → Type 0
 IsSpared was is level = (is ≢ void) × LiesApart was is level
+
+-- a point gets the height that it has
+abbrev pub IsUnchanged : NewHeight → Type 0
+IsUnchanged h = h.was ≡ h.metres
+
+-- .. or one that spares the level
+abbrev pub IsSparedBy : ℤ → NewHeight → Type 0
+IsSparedBy level h = IsUnchanged h ⊎ IsSpared h.was h.metres level
+
+-- each of these heights does so
+abbrev pub AreSparing : List NewHeight → ℤ → Type 0
+AreSparing heights level = All (IsSparedBy level) heights
 
 -- a level no higher than this one, where there is one
 abbrev pub IsNoHigher : Option ℤ → ℤ → Type 0

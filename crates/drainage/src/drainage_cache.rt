@@ -16,7 +16,7 @@ ghost use Rattle.flow_d8.specs.Flows.{IsFlow};
 ghost use Rattle.flow_d8.specs.FlowCaches.{IsCacheOf};
 ghost use Rattle.flow_d8.specs.FlowGrids.{AreFewTiles};
 ghost use Rattle.flow_d8.specs.FlowsAround.{AreTellingAround};
-ghost use Rattle.drainage.specs.Spared.{AreLevelsStill, IsNoHigher, IsSetTo};
+ghost use Rattle.drainage.specs.Spared.{AreLevelsStill, IsNoHigher, IsSetTo, IsSpared};
 
 use crate::nearby::near;
 use crate::tile_cache::TileCache;
@@ -42,7 +42,7 @@ pub struct DrainageCache {
 }
 
 impl DrainageCache {
-    ghost use Rattle.drainage.specs.Between.{IsHeldOf, IsLeftHeld, IsNotedHeld, IsCurrentOf, AreFlowsLeft};
+    ghost use Rattle.drainage.specs.Between.{IsHeldOf, IsLeftHeld, IsNotedHeld, IsSparedHeld, IsCurrentOf, AreFlowsLeft, levels_pass};
     ghost use Rattle.drainage.specs.TileCaches.{known_of};
 
     /// Nothing is held. Takes no memory.
@@ -80,15 +80,27 @@ impl DrainageCache {
         self.tile_cache = Some(tile_cache);
     }
 
+    /// Gives up the levels of rim points that may change as ground points get these heights one after another, in one pass. Takes
+    /// no memory.
+    pub fn retain_spared_levels(&mut self, heights: &[NewHeight])
+        ensures { IsSparedHeld heights.now self.old self.new }
+    {
+        let Some(mut tile_cache) = self.tile_cache.take() else {
+            return;
+        };
+        tile_cache.retain_spared_levels(heights);
+        self.tile_cache = Some(tile_cache);
+    }
+
     /// The ground point may have this height from then on, but no sink comes or goes: the labellings of the tiles that hold it
     /// are mended when they are asked for, but kept ones where it lay below its level and stays there; the ways of tiles that
-    /// hold it or a point beside it are given up, and those levels of rim points that aren't below both heights of the point,
-    /// nor above both; and where points drain, near such levels. What is held serves on, for the mosaic as it was and as it
-    /// becomes.
+    /// hold it or a point beside it are given up, and where points drain, near levels that it may move. What is held serves on,
+    /// for the mosaic as it was, and as it becomes where no level of a rim point is held that may change.
     pub fn note_changed(&mut self, height: &NewHeight)
-        ensures left { IsNotedHeld height.now.point height.now.was height.now.metres self.old self.new }
+        ensures left { IsNotedHeld height.now.point self.old self.new }
         ensures still { (m : Mosaic) → IsHeldOf m self.old → IsHeldOf m self.new }
-        ensures right { (m new : Mosaic) → IsMosaic m → DifferAt m new height.now.point → height_of m height.now.point ≡ At height.now.was → IsSetTo m new height.now.point height.now.metres → IsHeldOf m self.old → IsHeldOf new self.new }
+        ensures right { (m new : Mosaic) → IsMosaic m → DifferAt m new height.now.point → height_of m height.now.point ≡ At height.now.was → IsSetTo m new height.now.point height.now.metres
+            → levels_pass (IsSpared height.now.was height.now.metres) self.old.tile_cache → IsHeldOf m self.old → IsHeldOf new self.new }
         ensures flows { AreFlowsLeft height.now.was height.now.metres self.old self.new }
     {
         self.retain_spared_flows(height.was, height.metres);

@@ -1,5 +1,5 @@
 //! Drops what an edit of a mosaic may make wrong of what is held of its water.
-ghost use Rattle.std.specs.Prelude.{◌≡◌, ◌<ℤ◌, ◌≤ℤ◌, IfSome};
+ghost use Rattle.std.specs.Prelude.{◌≡◌, ◌↔◌, ◌<ℤ◌, ◌≤ℤ◌, All, IfSome, IsFalse};
 ghost use Rattle.lattice.specs.Ground.{metres};
 ghost use Rattle.lattice.specs.Height.{height_of};
 ghost use Rattle.lattice.specs.Mosaic.{Mosaic, IsMosaic};
@@ -8,7 +8,7 @@ ghost use Rattle.edits.specs.Edits.{AreEarlier, TellsHeights, edit_made, with_he
 ghost use Rattle.edits.specs.Sinks.{with_point, without_point};
 ghost use Rattle.drainage.specs.Between.{IsHeldOf, IsLeftHeld};
 ghost use Rattle.drainage.specs.Beyond.{AreLevelsKept, IsKeptBeyondEdit, IsKeptBeyondHeights, IsKeptUnchanged};
-ghost use Rattle.drainage.specs.Spared.{IsNoHigher, one_lower};
+ghost use Rattle.drainage.specs.Spared.{IsNoHigher, IsUnchanged, one_lower};
 
 use crate::drainage_cache::DrainageCache;
 use edits::{Edit, NewHeight};
@@ -48,11 +48,26 @@ fn invalidate_heights(held: &mut DrainageCache, heights: &[NewHeight])
     ensures levels { AreLevelsKept heights.now held.old held.new }
     ensures unchanged { IsKeptUnchanged heights.now held.old held.new }
 {
+    if is_any_changed(heights) {
+        held.retain_spared_levels(heights);
+    }
     for height in heights {
         if height.was != height.metres {
             held.note_changed(height);
         }
     }
+}
+
+// Whether some point gets another height than it has.
+fn is_any_changed(heights: &[NewHeight]) -> bool
+    ensures { IsFalse result ↔ All IsUnchanged heights.now }
+{
+    for one in heights {
+        if one.was != one.metres {
+            return true;
+        }
+    }
+    false
 }
 
 // Gives up what a sink that comes or goes at the point may make wrong. Each way out by it crosses its ground, so that no level

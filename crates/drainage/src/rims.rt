@@ -1,9 +1,13 @@
 //! The levels of rim points, as they were found.
 ghost use Rattle.std.specs.Prelude.{◌≡◌, ◌==◌, ◌⊎◌, ◌↔◌, ◌<◌, ℕ, ℤ, length, slice_set, Some, None, Contains, cond, IsTrue, IsFalse, IfSome, OnOk, IfErr};
+ghost use Rattle.lattice.specs.Mosaic.{IsSample};
 ghost use Rattle.lattice.specs.declared.refusal.Refusal.TheVariants.{NoMemory};
+ghost use Rattle.flow_d8.specs.LevelRanges.{IsIn};
 ghost use Rattle.drainage.specs.Holding.{level_of};
-ghost use Rattle.drainage.specs.Spared.{IsNoHigher, LiesApart, IsSpared};
+ghost use Rattle.drainage.specs.Spared.{IsNoHigher, LiesApart, IsSpared, IsSparedBy, AreSparing};
 
+use edits::NewHeight;
+use flow_d8::LevelRange;
 use lattice::{Refusal, VOID};
 use std::alloc::Global;
 use std::marker::Model;
@@ -53,13 +57,14 @@ impl RimLevels {
         }
     }
 
-    /// Gives up the levels that may change as a ground point gets another height than it had, in metres. Takes no memory.
-    pub(crate) fn invalidate_reached(&mut self, was: i16, is: i16)
-        ensures left { (x : ℕ) (level : ℤ) → level_of self.new x ≡ Some level → (level_of self.old x ≡ Some level) × IsSpared was is level }
-        ensures kept { (x : ℕ) (level : ℤ) → level_of self.old x ≡ Some level → IsSpared was is level → level_of self.new x ≡ Some level }
+    /// Gives up the levels that may change as ground points get other heights than they had, one after another, in one pass.
+    /// Takes no memory.
+    pub(crate) fn invalidate_reached(&mut self, heights: &[NewHeight])
+        ensures { (x : ℕ) (level : ℤ) → level_of self.new x ≡ Some level ↔ ((level_of self.old x ≡ Some level) × AreSparing heights.now level) }
     {
+        let range = reached_range(heights);
         for x in 0..self.levels.len() {
-            if may_change(was, is, self.at(x)) {
+            if may_change(heights, range, self.at(x)) {
                 self.invalidate_at(x);
             }
         }
@@ -121,15 +126,69 @@ fn is_above(most: Option<i32>, level: Option<i16>) -> bool
     most < i32::from(level)
 }
 
-// Whether the level, if there is one, may change as a ground point gets another height.
-fn may_change(was: i16, is: i16, level: Option<i16>) -> bool
-    ensures yes { IsTrue result → IfSome level (λ l. IsSpared was is l → ⊥) }
-    ensures no { IsFalse result → IfSome level (IsSpared was is) }
+// From the least to the greatest of the heights that change, and of those that they become: no level out of it may change.
+fn reached_range(heights: &[NewHeight]) -> LevelRange
+    ensures { (level : ℤ) → IsSample level → (IsIn (Some result) level → ⊥) → AreSparing heights.now level }
+{
+    let mut range = LevelRange {
+        least: i16::MAX,
+        greatest: i16::MIN,
+    };
+    for height in heights {
+        if height.was != height.metres {
+            range = wider(range, height.was, height.metres);
+        }
+    }
+    range
+}
+
+// The range with the levels that may change as a ground point of the one height gets the other.
+fn wider(range: LevelRange, was: i16, is: i16) -> LevelRange
+    ensures before { (level : ℤ) → IsSample level → IsIn (Some range) level → IsIn (Some result) level }
+    ensures more { (level : ℤ) → IsSample level → (IsIn (Some result) level → ⊥) → IsSpared was is level }
+{
+    if is == VOID {
+        return LevelRange {
+            least: i16::MIN,
+            greatest: i16::MAX,
+        };
+    }
+    LevelRange {
+        least: range.least.min(was).min(is),
+        greatest: range.greatest.max(was).max(is),
+    }
+}
+
+// Whether the level, if there is one, may change as the points get their heights, which change no level out of the range.
+fn may_change(heights: &[NewHeight], range: LevelRange, level: Option<i16>) -> bool
+    requires { (level : ℤ) → IsSample level → (IsIn (Some range) level → ⊥) → AreSparing heights.now level }
+    ensures yes { IsTrue result → IfSome level (λ l. AreSparing heights.now l → ⊥) }
+    ensures no { IsFalse result → IfSome level (AreSparing heights.now) }
 {
     let Some(level) = level else {
         return false;
     };
-    is == VOID || !lies_apart(level, was, is)
+    range.least <= level && level <= range.greatest && is_reached(heights, level)
+}
+
+// Whether the level may change as the points get their heights.
+fn is_reached(heights: &[NewHeight], level: i16) -> bool
+    ensures { IsFalse result ↔ AreSparing heights.now level }
+{
+    for height in heights {
+        if !is_spared(level, height) {
+            return true;
+        }
+    }
+    false
+}
+
+// Whether the point gets the height that it has, or none that can change the level.
+fn is_spared(level: i16, height: &NewHeight) -> bool
+    ensures { IsTrue result ↔ IsSparedBy level height.now }
+{
+    height.was == height.metres
+        || height.metres != VOID && lies_apart(level, height.was, height.metres)
 }
 
 // Whether the level is below both heights, or above both.

@@ -1,5 +1,5 @@
 //! What is found of a mosaic's water: ways, labellings and levels, tile by tile as they are asked for.
-ghost use Rattle.std.specs.Prelude.{◌≡◌, ◌≢◌, ◌-◌, ◌*◌, ◌<◌, ℕ, IfOk, IfErr, IfSome, IfNone, OnOk, IsTrue, Ok, Some, length};
+ghost use Rattle.std.specs.Prelude.{◌≡◌, ◌≢◌, ◌-◌, ◌*◌, ◌<◌, ℕ, ℤ, IfOk, IfErr, IfSome, IfNone, OnOk, IsTrue, Ok, Some, length};
 ghost use Rattle.catalogue.specs.Asked.{Asked};
 ghost use Rattle.catalogue.specs.Endings.{ends_any};
 ghost use Rattle.catalogue.specs.Readers.{OnlyReads};
@@ -14,9 +14,9 @@ ghost use Rattle.border_graph.specs.TileGraph.{TileGraph as TileGraphOf};
 ghost use Rattle.border_graph.specs.Others.{corner_at};
 ghost use Rattle.drainage.specs.RimGraphs.{loaded_at};
 ghost use Rattle.drainage.specs.Invalidating.{IsLeftOf, IsNotedOf};
-ghost use Rattle.drainage.specs.Holding.{IsRight, IsGrown, IsCurrentIn};
+ghost use Rattle.drainage.specs.Holding.{IsRight, IsGrown, IsCurrentIn, level_of};
 ghost use Rattle.drainage.specs.Reaching.{DifferAt, DifferBetween, is_reached};
-ghost use Rattle.drainage.specs.Spared.{AreLevelsStill, IsNoHigher, IsSetTo};
+ghost use Rattle.drainage.specs.Spared.{AreLevelsStill, IsNoHigher, IsSetTo, IsSpared};
 
 use crate::filling::spot_of;
 use crate::labelling_cache::LabellingCache;
@@ -42,7 +42,7 @@ pub(crate) struct TileCache {
 }
 
 impl TileCache {
-    ghost use Rattle.drainage.specs.TileCaches.{known_of};
+    ghost use Rattle.drainage.specs.TileCaches.{known_of, IsSparedOf};
 
     /// Nothing is found yet. NoMemory is the only refusal.
     pub(crate) fn new<S: Samples>(alloc: Global, samples: &S) -> Result<TileCache, Refusal>
@@ -72,15 +72,22 @@ impl TileCache {
         self.rim_graph.invalidate_between(from, to);
     }
 
-    /// The ground point may have this height from then on, and no sink changes: this is noted of the labellings of the tiles
-    /// that hold it, to be mended; of the levels of rim points those are given up that may change. Else as
-    /// `invalidate_between` does.
-    pub(crate) fn note_changed(&mut self, height: &NewHeight)
-        ensures left { IsNotedOf (is_reached self.old.rim_graph.side self.old.rim_graph.corners.items height.now.point height.now.point) height.now.point height.now.was height.now.metres (known_of self.old) (known_of self.new) }
-        ensures still { (m : Mosaic) → IsRight m (known_of self.old) → IsRight m (known_of self.new) }
-        ensures right { (m new : Mosaic) → DifferAt m new height.now.point → height_of m height.now.point ≡ At height.now.was → IsSetTo m new height.now.point height.now.metres → IsRight m (known_of self.old) → IsRight new (known_of self.new) }
+    /// Gives up the levels of rim points that may change as ground points get these heights one after another. Takes no memory.
+    pub(crate) fn retain_spared_levels(&mut self, heights: &[NewHeight])
+        ensures { IsSparedOf heights.now self.old self.new }
     {
-        self.levels.invalidate_reached(height.was, height.metres);
+        self.levels.invalidate_reached(heights);
+    }
+
+    /// The ground point may have this height from then on, and no sink changes: this is noted of the labellings of the tiles
+    /// that hold it, to be mended. The ways are given up as by `invalidate_between`; the levels of rim points stay, as this height
+    /// spares each.
+    pub(crate) fn note_changed(&mut self, height: &NewHeight)
+        ensures left { IsNotedOf (is_reached self.old.rim_graph.side self.old.rim_graph.corners.items height.now.point height.now.point) height.now.point (known_of self.old) (known_of self.new) }
+        ensures still { (m : Mosaic) → IsRight m (known_of self.old) → IsRight m (known_of self.new) }
+        ensures right { (m new : Mosaic) → DifferAt m new height.now.point → height_of m height.now.point ≡ At height.now.was → IsSetTo m new height.now.point height.now.metres
+            → ((x : ℕ) (level : ℤ) → level_of self.old.levels x ≡ Some level → IsSpared height.now.was height.now.metres level) → IsRight m (known_of self.old) → IsRight new (known_of self.new) }
+    {
         let side = self.rim_graph.side;
         self.labellings
             .note_changed(side, &self.rim_graph.corners, height);

@@ -1,6 +1,5 @@
 use Rattle.std.proofs.lemmas.Int.{ints, to_z-of_z}
-use Rattle.std.proofs.Common.{rules, SFits, w16, to_z, of_z, inr, ◌≡◌, ◌≢◌, ◌+◌, ◌<◌, ℕ, ℤ, List, length, get_or, take, pos, refl, sym, ap, ◌∙◌, subst, arith}
-use Rattle.std.specs.Prelude.{Some}
+use Rattle.std.proofs.Common.{rules, SFits, w16, to_z, of_z, inr, ◌≡◌, ◌≢◌, ◌+◌, ◌<◌, ℕ, ℤ, List, length, get_or, take, pos, refl, sym, ap, ◌∙◌, subst, arith, true≢false}
 use Rattle.std.proofs.lemmas.List.{take_all}
 use Rattle.std.proofs.lemmas.List.Elements.{All-get_or}
 use Rattle.lattice.specs.declared.height.Height.TheVariants.{At}
@@ -9,14 +8,15 @@ use Rattle.lattice.specs.Mosaic.{Mosaic, IsMosaic, IsSample, void}
 use Rattle.edits.specs.declared.edit.NewHeight.{NewHeight}
 use Rattle.edits.specs.Edits.{AreEarlier, with_heights}
 use Rattle.edits.proofs.EditStale.{read_within}
-use Rattle.drainage.specs.Between.{IsHeldOf}
+use Rattle.drainage.specs.Between.{IsHeldOf, flow_cache_right, levels_pass, past_right}
 use Rattle.drainage.specs.Beyond.{AreLevelsKept, IsKeptBeyondHeights, IsKeptUnchanged}
+use Rattle.drainage.specs.Spared.{AreSparing, IsUnchanged}
 use Rattle.drainage.specs.declared.drainage_cache.DrainageCache.{DrainageCache}
-use Rattle.drainage.proofs.Beyond.{all_kept, all_levels_kept, kept_by_noted, one_kept, one_levels_kept}
+use Rattle.drainage.proofs.Beyond.{all_kept, all_levels_kept, all_pass, all_unchanged, levels_kept, levels_kept_still, levels_spared, one_kept, pass_still, spared_by, tiles_kept}
 use Rattle.drainage.proofs.EditedBox.{differ_more, earlier_at, set_more, valid_more}
 use Rattle.drainage.proofs.Unchanged.{held_unchanged, not_void_at}
 use Rattle.drainage.proofs.invalidating.invalidate_heights.Goals as goal
-use Rattle.drainage.proofs.invalidating.invalidate_heights.Goals.{then-height, else-height}
+use Rattle.drainage.proofs.invalidating.invalidate_heights.Goals.{then-height, else-height, then-is_any_changed, else-is_any_changed}
 
 abbrev none : NewHeight
 none = record { point = record { y = pos 0; x = pos 0 }; was = pos 0; metres = pos 0 }
@@ -29,6 +29,7 @@ IsSoFar before heights k held = record {
   kept : IsKeptBeyondHeights heights before held;
   levels : AreLevelsKept heights before held;
   unchanged : IsKeptUnchanged heights before held;
+  pass : levels_pass (AreSparing heights) held.tile_cache;
   valid : (m : Mosaic) → IsMosaic m → IsMosaic (with_heights (take k heights) m);
 }
 
@@ -36,14 +37,37 @@ sample : (h : ℤ) → SFits w16 h → IsSample h
 sample h fits = (omega (arith, ints), omega (arith, ints))
 
 pub loop-height-init : goal.loop-height-init
-loop-height-init c = record {
-  still = λ m valid right. right;
-  changed = λ m valid earlier right. right;
-  kept = all_kept (λ (x : NewHeight). Some x.point) c.args.heights.now c.args.held.now.tile_cache;
-  levels = all_levels_kept c.args.heights.now c.args.held.now.tile_cache;
-  unchanged = λ all. refl;
-  valid = λ m valid. valid;
-}
+loop-height-init c =
+    let heights = c.args.heights.now in
+    let held = c.args.held.now in
+    elim c.if-is_any_changed.branch [
+      | then-is_any_changed w ↦
+          let left = w.retain_spared_levels.new.self in
+          let spared = w.retain_spared_levels.ensures in
+          let still : (m : Mosaic) → IsHeldOf m held → IsHeldOf m left = λ m right. record {
+            tile_cache = levels_spared heights m held.tile_cache left.tile_cache spared.tile_cache right.tile_cache;
+            flow_cache = subst (flow_cache_right m) (sym spared.flow_cache) right.flow_cache;
+            past_flows = subst (past_right m) (sym spared.past_flows) right.past_flows;
+          } in
+          subst (IsSoFar held heights 0) (sym w.held-is) (record {
+            still = λ m valid. still m;
+            changed = λ m valid earlier. still m;
+            kept = tiles_kept heights held.tile_cache left.tile_cache spared.tile_cache;
+            levels = levels_kept heights held.tile_cache left.tile_cache spared.tile_cache;
+            unchanged = λ all. absurd (true≢false (sym w.if-is_any_changed.true ∙ c.is_any_changed.ensures.1 all));
+            pass = all_pass heights held.tile_cache left.tile_cache spared.tile_cache;
+            valid = λ m valid. valid;
+          })
+      | else-is_any_changed w ↦ subst (IsSoFar held heights 0) (sym w.held-is) (record {
+        still = λ m valid right. right;
+        changed = λ m valid earlier right. right;
+        kept = all_kept heights held.tile_cache;
+        levels = all_levels_kept heights held.tile_cache;
+        unchanged = λ all. refl;
+        pass = all_unchanged heights held.tile_cache (c.is_any_changed.ensures.0 w.if-is_any_changed.false);
+        valid = λ m valid. valid;
+      })
+    ]
 
 pub loop-height-preserved : goal.loop-height-preserved
 loop-height-preserved c =
@@ -57,14 +81,16 @@ loop-height-preserved c =
     elim c.if-height.branch [
       | then-height w ↦
           let noted = w.note_changed.ensures in
+          let changes : IsUnchanged h → ⊥ = λ same. w.if-height.true (ap (of_z w16) same) in
           subst (IsSoFar c.args.held.now heights (i + 1)) (sym w.held-is) (record {
             still = λ m valid right. noted.still m (so.still m valid right);
             changed = λ m valid earlier right. noted.right (with_heights (take i heights) m) (with_heights (take (i + 1) heights) m) (so.valid m valid)
-                (differ_more heights i h m valid inside read) (earlier_at heights i h m inside read earlier) (inr (set_more heights i h m valid inside read)) (so.changed m valid earlier right);
-            kept = one_kept (λ (x : NewHeight). Some x.point) heights i h h.point c.args.held.now.tile_cache c.loop-height.held.tile_cache w.note_changed.new.self.tile_cache inside read refl
-                (kept_by_noted h.point h.was h.metres c.loop-height.held.tile_cache w.note_changed.new.self.tile_cache noted.left) so.kept;
-            levels = one_levels_kept heights i h c.args.held.now.tile_cache c.loop-height.held.tile_cache w.note_changed.new.self.tile_cache inside read noted.left so.levels;
-            unchanged = λ all. absurd (w.if-height.true (ap (of_z w16) (All-get_or (λ (x : NewHeight). x.was ≡ x.metres) heights i none inside all)));
+                (differ_more heights i h m valid inside read) (earlier_at heights i h m inside read earlier) (inr (set_more heights i h m valid inside read))
+                (spared_by heights i h c.loop-height.held.tile_cache inside read changes so.pass) (so.changed m valid earlier right);
+            kept = one_kept heights i h c.args.held.now.tile_cache c.loop-height.held.tile_cache w.note_changed.new.self.tile_cache inside read changes noted.left so.kept;
+            levels = levels_kept_still heights h.point c.args.held.now.tile_cache c.loop-height.held.tile_cache w.note_changed.new.self.tile_cache noted.left so.levels;
+            unchanged = λ all. absurd (changes (All-get_or IsUnchanged heights i none inside all));
+            pass = pass_still heights h.point c.loop-height.held.tile_cache w.note_changed.new.self.tile_cache noted.left so.pass;
             valid = λ m valid. valid_more heights i h m (so.valid m valid) inside read (sample h.metres fits);
           })
       | else-height w ↦
@@ -81,6 +107,7 @@ loop-height-preserved c =
             kept = so.kept;
             levels = so.levels;
             unchanged = so.unchanged;
+            pass = so.pass;
             valid = λ m valid. valid_more heights i h m (so.valid m valid) inside read (sample h.metres fits);
           })
     ]

@@ -1,8 +1,9 @@
 use Rattle.std.proofs.Common.{take}
 use Rattle.lattice.specs.Mosaic.{Mosaic, IsMosaic}
 use Rattle.edits.specs.Edits.{AreEarlier, with_heights}
-use Rattle.drainage.specs.Between.{IsHeldOf}
+use Rattle.drainage.specs.Between.{IsHeldOf, levels_pass}
 use Rattle.drainage.specs.Beyond.{AreLevelsKept, IsKeptBeyondHeights, IsKeptUnchanged}
+use Rattle.drainage.specs.Spared.{AreSparing}
 use Rattle.drainage.proofs.invalidating.invalidate_heights.Given as goal
 
 abbrev pub invariant-loop-height : goal.invariant-loop-height
@@ -12,5 +13,6 @@ invariant-loop-height l = record {
   kept : IsKeptBeyondHeights l.heights l.fn.held l.held;
   levels : AreLevelsKept l.heights l.fn.held l.held;
   unchanged : IsKeptUnchanged l.heights l.fn.held l.held;
+  pass : levels_pass (AreSparing l.heights) l.held.tile_cache;
   valid : (m : Mosaic) → IsMosaic m → IsMosaic (with_heights (take l.height-index l.heights) m);
 }

@@ -1,7 +1,8 @@
 use Rattle.std.proofs.Common.{rules, SFits, w16, to_z, of_z, ◌≡◌, ℤ, refl, sym, ◌∙◌, subst}
 use Rattle.std.specs.Prelude.{Option, Some}
 use Rattle.std.proofs.lemmas.Int.{to_z-of_z}
-use Rattle.drainage.specs.Between.{are_noted, are_right, flow_cache_right, AreFlowsLeft}
+use Rattle.drainage.specs.Between.{are_noted, are_right, flow_cache_right, levels_pass, AreFlowsLeft}
+use Rattle.drainage.specs.Spared.{IsSpared}
 use Rattle.drainage.specs.declared.drainage_cache.DrainageCache.{DrainageCache}
 use Rattle.drainage.specs.declared.tile_cache.TileCache.{TileCache}
 use Rattle.drainage.proofs.PastStill.{flows_left, flows_set}
@@ -23,7 +24,7 @@ returns-clause-flows c =
     flows_as h.was h.metres c.args.self.now c.retain_spared_flows.new.self (search rules) (search rules) c.retain_spared_flows.ensures.left
 
 pub returns-in_default-clause-right : goal.returns-in_default-clause-right
-returns-in_default-clause-right c m new valid differ was set right =
+returns-in_default-clause-right c m new valid differ was set pass right =
     let h = c.args.height.now in
     record {
       tile_cache = subst (are_right new) (sym c.take.ensures.after) tt;
@@ -44,14 +45,14 @@ pub returns-clause-left : goal.returns-clause-left
 returns-clause-left c =
     let h = c.args.height.now in
     let left = c.note_changed.new.self in
-    subst (λ (held : Option TileCache). are_noted h.point h.was h.metres held (Some left)) (c.in-Some.ensures.value ∙ c.retain_spared_flows.ensures.tile_cache) (left, refl, c.note_changed.ensures.left)
+    subst (λ (held : Option TileCache). are_noted h.point held (Some left)) (c.in-Some.ensures.value ∙ c.retain_spared_flows.ensures.tile_cache) (left, refl, c.note_changed.ensures.left)
 
 pub returns-clause-right : goal.returns-clause-right
-returns-clause-right c m new valid differ was set right =
+returns-clause-right c m new valid differ was set pass right =
     let h = c.args.height.now in
     let held : Some c.in-Some.tile_cache ≡ c.args.self.now.tile_cache = c.in-Some.ensures.value ∙ c.retain_spared_flows.ensures.tile_cache in
     record {
-      tile_cache = c.note_changed.ensures.right m new differ was set (subst (are_right m) (sym held) right.tile_cache);
+      tile_cache = c.note_changed.ensures.right m new differ was set (subst (levels_pass (IsSpared h.was h.metres)) (sym held) pass) (subst (are_right m) (sym held) right.tile_cache);
       flow_cache = subst (flow_cache_right new) (sym c.retain_spared_flows.ensures.flow_cache) tt;
       past_flows = flows_set m new h.point valid differ h.was h.metres was set c.args.self.now c.retain_spared_flows.new.self (flows_as h.was h.metres c.args.self.now c.retain_spared_flows.new.self (search rules) (search rules) c.retain_spared_flows.ensures.left) right;
     }

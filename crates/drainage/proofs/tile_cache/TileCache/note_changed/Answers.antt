@@ -1,5 +1,4 @@
-use Rattle.std.proofs.lemmas.Int.{to_z-of_z}
-use Rattle.std.proofs.Common.{rules, SFits, w16, to_z, of_z, ℤ, ◌≡◌, ◌<◌, ℕ, true, false, List, length, inl, inr, refl, sym, ap, subst}
+use Rattle.std.proofs.Common.{◌≡◌, ◌<◌, ℕ, true, false, List, length, inl, inr, refl, sym, ap, subst}
 use Rattle.std.specs.Prelude.{◌↔◌}
 use Rattle.lattice.specs.Corners.{Corner}
 use Rattle.lattice.specs.Ground.{is_height}
@@ -10,7 +9,6 @@ use Rattle.tile_labellings.specs.declared.tile_labelling.TileLabelling.{TileLabe
 use Rattle.drainage.specs.Holding.{IsEntered, IsHeldAt, IsRimLevel}
 use Rattle.drainage.specs.Invalidating.{IsHeldStill}
 use Rattle.drainage.specs.Reaching.{DifferAt}
-use Rattle.drainage.specs.Spared.{IsSpared}
 use Rattle.drainage.specs.TileCaches.{known_of}
 use Rattle.drainage.proofs.Growing.{known_by}
 use Rattle.drainage.proofs.Invalidated.{noted_right}
@@ -18,23 +16,11 @@ use Rattle.drainage.proofs.Reached.{unmoved}
 use Rattle.drainage.proofs.SparedLevels.{spared_level}
 use Rattle.drainage.proofs.tile_cache.TileCache.note_changed.Goals as goal
 
--- the heights as they are passed on
-spared_as : (was is level : ℤ) → SFits w16 was → SFits w16 is → IsSpared (to_z w16 (of_z w16 was)) (to_z w16 (of_z w16 is)) level → IsSpared was is level
-spared_as was is level had fits spared =
-    subst (λ (u : ℤ). IsSpared u is level) (to_z-of_z w16 was had) (subst (λ (v : ℤ). IsSpared (to_z w16 (of_z w16 was)) v level) (to_z-of_z w16 is fits) spared)
-
-passed_on_as : (was is level : ℤ) → SFits w16 was → SFits w16 is → IsSpared was is level → IsSpared (to_z w16 (of_z w16 was)) (to_z w16 (of_z w16 is)) level
-passed_on_as was is level had fits spared =
-    subst (λ (v : ℤ). IsSpared (to_z w16 (of_z w16 was)) v level) (sym (to_z-of_z w16 is fits)) (subst (λ (u : ℤ). IsSpared u is level) (sym (to_z-of_z w16 was had)) spared)
-
 pub returns-clause-left : goal.returns-clause-left
 returns-clause-left c =
     let was = c.args.self.now in
     let rim_graph = c.invalidate_between.ensures in
     let h = c.args.height.now in
-    let had : SFits w16 h.was = search rules in
-    let fits : SFits w16 h.metres = search rules in
-    let seen = c.invalidate_reached.ensures in
     record {
       same_side = rim_graph.side;
       same_corners = rim_graph.corners;
@@ -44,10 +30,7 @@ returns-clause-left c =
           c.deref.ensures.value c.note_changed.ensures.kept;
       mended = subst (λ (cs : List Corner). (t : ℕ) → t < length cs → (l : TileLabelling) → IsHeldAt was.labellings.held.items t l → can_note l ≡ true → IsHeldStill c.note_changed.new.self.held.items t l)
           c.deref.ensures.value c.note_changed.ensures.mended;
-      levels = λ x level. (
-        (λ at. ((seen.left x level at).0, spared_as h.was h.metres level had fits (seen.left x level at).1)),
-        (λ had_spared. seen.kept x level had_spared.0 (passed_on_as h.was h.metres level had fits had_spared.1)),
-      );
+      same_levels = refl;
     }
 
 pub returns-clause-still : goal.returns-clause-still
@@ -55,30 +38,21 @@ returns-clause-still c m right =
     let was = c.args.self.now in
     let h = c.args.height.now in
     let same : DifferAt m m h.point = record { around = unmoved m h.point h.point; all_sinks = λ q. refl } in
-    noted_right m m h.point h.was h.metres (known_of was) (known_by c.invalidate_between.new.self c.note_changed.new.self c.invalidate_reached.new.self) same
+    noted_right m m h.point (known_of was) (known_by c.invalidate_between.new.self c.note_changed.new.self was.levels) same
     (returns-clause-left c)
     (λ t. subst (λ (cs : List Corner). IsEntered m (corner_at cs t) was.labellings.held.items t → IsEntered m (corner_at cs t) c.note_changed.new.self.held.items t) c.deref.ensures.value
     (c.note_changed.ensures.noted m m t same (inl refl) (sym right.ready.same_side)))
-    (λ x level at.
-    let seen = c.invalidate_reached.ensures.left x level at in
-    subst (λ (cs : List Corner). IsRimLevel m cs x level) (sym c.invalidate_between.ensures.corners) (right.levels x level seen.0))
-    right
+    right.levels right
 
 pub returns-clause-right : goal.returns-clause-right
-returns-clause-right c m new differ before set right =
+returns-clause-right c m new differ before set spared right =
     let was = c.args.self.now in
     let h = c.args.height.now in
-    let had : SFits w16 h.was = search rules in
-    let fits : SFits w16 h.metres = search rules in
     let corners = was.rim_graph.corners.items in
     let set_from : IsSetFrom m new h.point h.was h.metres = elim set [ inl same ↦ inl same | inr to ↦ inr (before, λ full. to full (ap is_height before)) ] in
-    noted_right m new h.point h.was h.metres (known_of was) (known_by c.invalidate_between.new.self c.note_changed.new.self c.invalidate_reached.new.self) differ
+    noted_right m new h.point (known_of was) (known_by c.invalidate_between.new.self c.note_changed.new.self was.levels) differ
     (returns-clause-left c)
     (λ t. subst (λ (cs : List Corner). IsEntered m (corner_at cs t) was.labellings.held.items t → IsEntered new (corner_at cs t) c.note_changed.new.self.held.items t) c.deref.ensures.value
     (c.note_changed.ensures.noted m new t differ set_from (sym right.ready.same_side)))
-    (λ x level at.
-    let seen = c.invalidate_reached.ensures.left x level at in
-    let spared = spared_as h.was h.metres level had fits seen.1 in
-    subst (λ (cs : List Corner). IsRimLevel new cs x level) (sym c.invalidate_between.ensures.corners)
-    (spared_level m new h.point differ h.was h.metres before set corners x level spared (right.levels x level seen.0)))
+    (λ x level at. spared_level m new h.point differ h.was h.metres before set corners x level (spared x level at) (right.levels x level at))
     right

@@ -1,0 +1,12 @@
+use Rattle.std.proofs.Common.{refl, subst}
+use Rattle.std.specs.Prelude.{Option, Some}
+use Rattle.drainage.specs.Between.{are_sparing}
+use Rattle.drainage.specs.declared.tile_cache.TileCache.{TileCache}
+use Rattle.drainage.proofs.drainage_cache.DrainageCache.retain_spared_levels.Goals as goal
+
+pub returns : goal.returns
+returns c = record {
+  tile_cache = subst (λ (held : Option TileCache). are_sparing c.args.heights.now held (Some c.retain_spared_levels.new.self)) c.in-Some.ensures.value (c.retain_spared_levels.new.self, refl, c.retain_spared_levels.ensures);
+  flow_cache = refl;
+  past_flows = refl;
+}
