@@ -22,7 +22,7 @@ use Rattle.edits.specs.Sinks.{with_point, without_point}
 use Rattle.edits.specs.Touched.{are_neighbours, goes_stale}
 use Rattle.edits.proofs.Accepted.{IsMade, accepted_is}
 use Rattle.edits.proofs.AllStale.{near_itself}
-use Rattle.edits.proofs.FreshBlocks.{fresh_stays}
+use Rattle.edits.proofs.Untouched.{fresh_stays}
 use Rattle.edits.proofs.NewMosaics.{new_side}
 use Rattle.lattice.proofs.SamePoints.{same_point_says}
 use Rattle.edits.proofs.Voids.{any_from, tile_at}

@@ -6,7 +6,6 @@ pub mod EditStale
 pub mod Edited
 pub mod EditedHeights
 mod Filling
-mod FreshBlocks
 pub mod FreshSinks
 mod NewHeights
 pub mod NewMosaics

@@ -1,8 +1,8 @@
 -- The new heights of the named points, one after another.
-use Rattle.std.proofs.Common.{◌≡◌, ◌≢◌, ℕ, ◌+◌, ◌<◌, ◌≤◌, ℤ, pos, negsuc, ◌-ℤ◌, true, false, IsTrue, List, [], ◌∷◌, ◌++◌, map, length, get_or, take, drop, refl, sym, ◌∙◌, ap, ap₂}
+use Rattle.std.proofs.Common.{◌≡◌, ◌≢◌, ℕ, ◌+◌, ◌<◌, ◌≤◌, ℤ, pos, negsuc, ◌-ℤ◌, true, false, IsTrue, List, [], ◌∷◌, ◌++◌, map, length, get_or, take, drop, sym, ◌∙◌, ap, ap₂}
 use Rattle.std.specs.Prelude.{Option, Some, Result, Ok, Err, IfOk, All, int_lt, if◌then◌else◌}
 use Rattle.std.proofs.lemmas.List.{take_more, take_all, at_drop_more, at_drop_all, map-append}
-use Rattle.std.proofs.lemmas.List.Elements.{All-nil, All-push}
+use Rattle.std.proofs.lemmas.List.Elements.{All-push}
 use Rattle.arrayvec.specs.ArrayVec.{ArrayVec}
 use Rattle.lattice.specs.declared.point.Point.{Point}
 use Rattle.lattice.specs.declared.height.Height.TheVariants as height
@@ -14,7 +14,7 @@ use Rattle.lattice.specs.Ground.{metres}
 use Rattle.catalogue.specs.declared.samples.Samples.{Ghosts}
 use Rattle.catalogue.specs.Readers.{OnlyReads}
 use Rattle.catalogue.proofs.OneTile.{corners_are}
-use Rattle.catalogue.proofs.Reading.{reads_on, reads_nothing}
+use Rattle.catalogue.proofs.Reading.{reads_on}
 use Rattle.edits.specs.declared.command.Command.TheVariants.{Burn, Wall}
 use Rattle.edits.specs.declared.edit.NewHeight.{NewHeight}
 use Rattle.edits.specs.declared.point_edit.PointEdit.{PointEdit}
@@ -42,15 +42,6 @@ pub record HaveHeights {S : Type 0} (g : Ghosts S) (t : PointEdit) (points : Lis
   pub faults : g.is_honest now → first_fault (g.mosaic old) (depth_of t) points ≡ first_fault (g.mosaic old) (depth_of t) (drop i points)
 
 module _ {S : Type 0} (g : Ghosts S) (t : PointEdit) (points : List Point) where
-  pub heights_none : ((s : S) → g.keeps s s) → (s : S) → HaveHeights g t points 0 s s []
-  heights_none keeps_itself s = record {
-    reads = reads_nothing g keeps_itself s tt;
-    named = refl;
-    values = λ _. refl;
-    earlier = λ _. All-nil (λ (h : NewHeight). height_of (g.mosaic s) h.point ≡ height.At h.was);
-    faults = λ _. refl;
-  }
-
   module _ (i : ℕ) (p : Point) (old mid now : S) (heights : List NewHeight) (within : i < length points) (is : p ≡ get_or points i p) (so : HaveHeights g t points i old mid heights) where
     -- the first fault from here on is this point's or a later one's
     fault_from : g.is_honest mid → first_fault (g.mosaic old) (depth_of t) points ≡ fault_at (depth_of t) (height_of (g.mosaic mid) p) (first_fault (g.mosaic old) (depth_of t) (drop (i + 1) points))

@@ -3,7 +3,7 @@ use Rattle.std.proofs.Common.{◌≡◌, ℕ, zero, suc, ◌*◌, ◌<◌, ◌�
 use Rattle.std.specs.Prelude.{IsFalse}
 use Rattle.std.specs.List.{All, AllPairs, Contains}
 use Rattle.std.proofs.lemmas.Bool.{false_from_ne_true}
-use Rattle.std.proofs.lemmas.List.Elements.{All-nil, All-push, All-weaker, Contains-append_left, Contains-push, Contains-push_cases}
+use Rattle.std.proofs.lemmas.List.Elements.{All-push, All-weaker, Contains-append_left, Contains-push, Contains-push_cases}
 use Rattle.std.proofs.lemmas.List.Quantifiers.{all_pairs_push}
 use Rattle.lattice.proofs.CornerOrder.{before_apart, same_says}
 use Rattle.lattice.proofs.Rising.{Rising, after_at}
@@ -31,15 +31,6 @@ not_earlier (h ∷ hs) (suc i) d rising below (zero, small, here) = before_apart
 not_earlier (h ∷ hs) (suc i) d rising below (suc k, small, here) = not_earlier hs i d rising.1 (omega arith) (k, omega arith, here)
 
 module _ (n : ℕ) (cs : List Corner) (p : Point) where
-  pub places_none : PlacesAmong n cs [] p []
-  places_none = record {
-    each = All-nil (IsPlace n cs p);
-    complete = λ c e corner present (k, below, here) within at. absurd (omega arith);
-    once = λ i j d less below. absurd (omega arith);
-    among_them = All-nil (λ (x : Place). Contains [] x.corner);
-    few = omega arith;
-  }
-
   -- a tile that isn't present or doesn't hold the point
   pub places_skip : (hs : List Corner) (c : Corner) (places : List Place) → (Contains cs c → Holds n c p → ⊥) → PlacesAmong n cs hs p places → PlacesAmong n cs (hs ++ c ∷ []) p places
   places_skip hs c places none so = record {

@@ -17,7 +17,6 @@ use Rattle.lattice.proofs.Samples.{holds_is, index_of_below, point_of_index, poi
 use Rattle.catalogue.specs.declared.samples.Samples.{Ghosts}
 use Rattle.catalogue.specs.Readers.{OnlyReads}
 use Rattle.catalogue.specs.Tiles.{corners_of, is_listed}
-use Rattle.catalogue.proofs.Reading.{reads_nothing}
 use Rattle.edits.specs.Boxes.{IsSomewhere}
 use Rattle.edits.specs.declared.command.Command.TheVariants.{Patch}
 use Rattle.edits.specs.Edits.{ArePresent, AreVoidTiles}
@@ -62,14 +61,6 @@ pub record FindsTiles {S : Type 0} (g : Ghosts S) (from to : Point) (looked : Li
   pub few : length tiles ≤ length looked
 
 module _ {S : Type 0} (g : Ghosts S) (from to : Point) where
-  pub finds_none : ((s : S) → g.keeps s s) → (s : S) → FindsTiles g from to [] s s []
-  finds_none keeps_itself s = record {
-    reads = reads_nothing g keeps_itself s tt;
-    present = record { present = λ k d below. absurd (omega arith); once = λ i j d less below. absurd (omega arith) };
-    finds = λ _ t there. refl;
-    few = omega arith;
-  }
-
   module _ (looked : List Corner) (c : Corner) (old mid now : S) (tiles : List Corner) (so : FindsTiles g from to looked old mid tiles) (reads : OnlyReads {T = Unit {0}} g old now (Ok tt)) (still : g.is_honest now → g.is_honest mid) where
     listed_more : (list : List Corner) (p : Corner) → is_listed p (list ++ c ∷ []) ≡ (is_listed p list || same_corner c p)
     listed_more list p = list_any-append (λ d. same_corner d p) list (c ∷ []) ∙ ap (λ (b : Bool). is_listed p list || b) (or-false (same_corner c p))

@@ -1,29 +1,30 @@
--- A tile that a command doesn't touch stays as it is, and each stale tile is present.
-use Rattle.std.proofs.Common.{◌≡◌, ℕ, zero, suc, ◌+◌, ◌<◌, ℤ, Bool, true, false, cond, not, ◌||◌, List, [], ◌∷◌, length, map, refl, sym, ◌∙◌, ap, ap₂, subst, add-zero, zero-add, arith}
-use Rattle.std.specs.Prelude.{Ok, ◌-ℤ◌}
+-- What a command leaves of tiles that it doesn't touch, and of blocks that stay fresh.
+use Rattle.std.proofs.Common.{◌≡◌, ℕ, zero, suc, ◌+◌, ◌<◌, ℤ, Bool, true, false, cond, not, ◌||◌, List, [], ◌∷◌, length, map, refl, sym, ◌∙◌, ap, ap₂, subst, add-zero, zero-add, arith, ◌≤◌, ◌-ℤ◌, nat_abs, ◌&&◌}
+use Rattle.std.specs.Prelude.{Ok, nat_lt}
 use Rattle.std.specs.Int.{int_max}
 use Rattle.std.specs.List.{Contains, filter, list_any, AllAdjacentBelow}
-use Rattle.std.proofs.lemmas.Bool.{false_from_ne_true, both_ways}
+use Rattle.std.proofs.lemmas.Bool.{false_from_ne_true, both_ways, and_from, lt-ltb}
 use Rattle.std.proofs.lemmas.List.Elements.{All-contains}
 use Rattle.lattice.specs.Corners.{Corner, is_before, same_corner}
 use Rattle.lattice.specs.declared.point.Point.{Point}
-use Rattle.lattice.specs.Lattice.{IsBefore, point_of}
-use Rattle.lattice.specs.Height.{height_of}
+use Rattle.lattice.specs.Lattice.{IsBefore, point_of, holds}
+use Rattle.lattice.specs.Height.{height_of, by_seam_rule, sample_at}
 use Rattle.lattice.specs.Ground.{metres}
 use Rattle.lattice.specs.Mosaic.{Tile, Mosaic, IsTile, IsMosaic}
 use Rattle.hgt.specs.Bytes.{samples_in}
 use Rattle.catalogue.specs.Tiles.{corners_of, with_tile, added, without, with_sinks}
-use Rattle.lattice.proofs.CornerOrder.{same_comm}
+use Rattle.lattice.proofs.CornerOrder.{same_comm, same_says}
 use Rattle.catalogue.proofs.Presence.{corners_rise}
 use Rattle.lattice.proofs.Rising.{adjacent_from, rising-filter}
 use Rattle.edits.specs.declared.command.Command.{Command}
 use Rattle.edits.specs.declared.command.Command.TheVariants.{Import, Remove, Patch, Burn, Wall, Sink, Unsink}
 use Rattle.edits.specs.Effect.{effect, changed_from, edited, is_named, has_void_from, patched, burnt, walled}
 use Rattle.edits.specs.Sinks.{with_point, without_point}
-use Rattle.edits.specs.Touched.{holds_one, is_touched, goes_stale, stale_after}
+use Rattle.edits.specs.Touched.{holds_one, is_touched, goes_stale, stale_after, is_near_one, are_neighbours}
 use Rattle.edits.proofs.Accepted.{IsMade, accepted_is}
 use Rattle.edits.proofs.TouchedTiles.{HasOne, named_from, void_from}
-use Rattle.edits.proofs.Voids.{is_void_within}
+use Rattle.edits.proofs.Voids.{is_void_within, any_from}
+use Rattle.catalogue.proofs.Nearby.{holders_near}
 
 kept_with : (new t : Tile) (ts : List Tile) → Contains ts t → Contains (with_tile new ts) t
 kept_with new t [] (k, below, here) = absurd (omega arith)
@@ -117,3 +118,104 @@ pub stale_in_order : (m : Mosaic) (c : Command) (stale : List Corner) (new : Mos
 stale_in_order m c stale new valid =
     let test = λ (p : Corner). list_any (same_corner p) stale || goes_stale m c p in
     adjacent_from (λ (p : Corner). p) (filter test (corners_of new)) (rising-filter (λ (p : Corner). p) test (corners_of new) (corners_rise new valid))
+
+-- ---- tiles that hold one point are neighbours
+
+both_hold : (n : ℕ) (a b : Corner) (q : Point) → 3 ≤ n → holds n a q ≡ true → holds n b q ≡ true → are_neighbours a b ≡ true
+both_hold n a b q side at_a at_b =
+    let near = holders_near n a b q side at_a at_b in
+    and_from (nat_lt (nat_abs (a.lat -ℤ b.lat)) 2) (nat_lt (nat_abs (a.lon -ℤ b.lon)) 2) (lt-ltb _ 2 near.0) (lt-ltb _ 2 near.1)
+
+-- ---- what the tiles say of a point
+
+module _ (n : ℕ) (q : Point) where
+  abbrev pub said : List Tile → List ℤ
+  said ts = map (λ t. sample_at n t q) (filter (λ t. holds n t.corner q) ts)
+
+  -- one tile more that doesn't hold it
+  said_with : (t : Tile) (ts : List Tile) → holds n t.corner q ≡ false → said (with_tile t ts) ≡ said ts
+  said_with t [] out = ap (λ b. map (λ u. sample_at n u q) (cond b (t ∷ []) [])) out
+  said_with t (u ∷ ts) out = elim (is_before t.corner u.corner) as (λ b. said (cond b (t ∷ (u ∷ ts)) (u ∷ with_tile t ts)) ≡ said (u ∷ ts)) [
+    | true ↦ ap (λ b. map (λ v. sample_at n v q) (cond b (t ∷ filter (λ v. holds n v.corner q) (u ∷ ts)) (filter (λ v. holds n v.corner q) (u ∷ ts)))) out
+    | false ↦ later (holds n u.corner q) (said_with t ts out)
+  ]
+    where
+      later : (b : Bool) → said (with_tile t ts) ≡ said ts →
+          map (λ v. sample_at n v q) (cond b (u ∷ filter (λ v. holds n v.corner q) (with_tile t ts)) (filter (λ v. holds n v.corner q) (with_tile t ts)))
+          ≡ map (λ v. sample_at n v q) (cond b (u ∷ filter (λ v. holds n v.corner q) ts) (filter (λ v. holds n v.corner q) ts))
+      later true rest = ap (λ (l : List ℤ). sample_at n u q ∷ l) rest
+      later false rest = rest
+
+  -- one fewer that didn't
+  said_without : (keep : Tile → Bool) (ts : List Tile) → ((t : Tile) → keep t ≡ false → holds n t.corner q ≡ false) → said (filter keep ts) ≡ said ts
+  said_without keep [] out = refl
+  said_without keep (t ∷ ts) out = by (keep t) refl (said_without keep ts out)
+    where
+      kept : (b : Bool) → said (filter keep ts) ≡ said ts →
+          map (λ v. sample_at n v q) (cond b (t ∷ filter (λ v. holds n v.corner q) (filter keep ts)) (filter (λ v. holds n v.corner q) (filter keep ts)))
+          ≡ map (λ v. sample_at n v q) (cond b (t ∷ filter (λ v. holds n v.corner q) ts) (filter (λ v. holds n v.corner q) ts))
+      kept true rest = ap (λ (l : List ℤ). sample_at n t q ∷ l) rest
+      kept false rest = rest
+
+      by : (b : Bool) → keep t ≡ b → said (filter keep ts) ≡ said ts → said (cond b (t ∷ filter keep ts) (filter keep ts)) ≡ said (t ∷ ts)
+      by true _ rest = kept (holds n t.corner q) rest
+      by false gone rest = rest ∙ ap (λ b. map (λ v. sample_at n v q) (cond b (t ∷ filter (λ v. holds n v.corner q) ts) (filter (λ v. holds n v.corner q) ts))) (sym (out t gone))
+
+  -- tiles that are as before where they hold it
+  said_same : (g : Tile → Tile) (ts : List Tile) → ((t : Tile) → (g t).corner ≡ t.corner) → ((t : Tile) → Contains ts t → holds n t.corner q ≡ true → g t ≡ t) → said (map g ts) ≡ said ts
+  said_same g [] corners same = refl
+  said_same g (t ∷ ts) corners same =
+      ap (λ b. map (λ v. sample_at n v q) (cond b (g t ∷ filter (λ v. holds n v.corner q) (map g ts)) (filter (λ v. holds n v.corner q) (map g ts)))) (ap (λ (c : Corner). holds n c q) (corners t))
+      ∙ by (holds n t.corner q) refl (said_same g ts corners (λ u there. same u (suc there.0, omega (arith, there.1), there.2)))
+    where
+      by : (b : Bool) → holds n t.corner q ≡ b → said (map g ts) ≡ said ts →
+          map (λ v. sample_at n v q) (cond b (g t ∷ filter (λ v. holds n v.corner q) (map g ts)) (filter (λ v. holds n v.corner q) (map g ts)))
+          ≡ map (λ v. sample_at n v q) (cond b (t ∷ filter (λ v. holds n v.corner q) ts) (filter (λ v. holds n v.corner q) ts))
+      by true held rest = ap₂ (λ (s : ℤ) (l : List ℤ). s ∷ l) (ap (λ (u : Tile). sample_at n u q) (same t (0, omega arith, refl) held)) rest
+      by false out rest = rest
+
+module _ (m : Mosaic) (p : Corner) (q : Point) (valid : IsMosaic m) (inside : holds m.side p q ≡ true) where
+  -- a tile that is no neighbour doesn't hold it
+  far : (c : Corner) → are_neighbours c p ≡ false → holds m.side c q ≡ false
+  far c apart_ = false_from_ne_true (holds m.side c q) (λ held. both_ways (are_neighbours c p) apart_ (both_hold m.side c p q valid.side_low held inside))
+
+  edit_stays : (test : Point → Bool) (sample : Point → ℤ → ℤ) (touched : Tile → Bool) → ((t : Tile) → IsTile m.side t → HasOne m test t → touched t ≡ true) → is_near_one touched m p ≡ false →
+      height_of (edited (λ r s. cond (test r) (sample r s) s) m) q ≡ height_of m q
+  edit_stays test sample touched from fresh =
+      ap by_seam_rule (said_same m.side q (λ u. record { corner = u.corner; samples = changed_from (λ e s. cond (test (point_of m.side u.corner e)) (sample (point_of m.side u.corner e) s) s) 0 u.samples }) m.tiles (λ t. refl)
+      (λ t there held. edit_same m test sample t (whole t there) (λ one. hit t there held (from t (whole t there) one))))
+    where
+      whole : (t : Tile) → Contains m.tiles t → IsTile m.side t
+      whole t there = All-contains (IsTile m.side) m.tiles t valid.tiles there
+
+      hit : (t : Tile) → Contains m.tiles t → holds m.side t.corner q ≡ true → touched t ≡ true → ⊥
+      hit t there held yes_ = both_ways (is_near_one touched m p) fresh
+          (any_from (λ (u : Tile). touched u && are_neighbours u.corner p) m.tiles t there (and_from (touched t) (are_neighbours t.corner p) yes_ (both_hold m.side t.corner p q valid.side_low held inside)))
+
+pub fresh_stays : (capacity : ℕ) (m : Mosaic) (c : Command) (new : Mosaic) (p : Corner) (q : Point) → IsMosaic m → effect capacity m c ≡ Ok new → goes_stale m c p ≡ false → holds m.side p q ≡ true → height_of new q ≡ height_of m q
+fresh_stays capacity m c new p q valid made fresh inside = by c fresh (accepted_is capacity m c new made)
+  where
+    as_made : (x : Mosaic) → new ≡ x → height_of x q ≡ height_of m q → height_of new q ≡ height_of m q
+    as_made x is same = ap (λ (y : Mosaic). height_of y q) is ∙ same
+
+    by : (d : Command) → goes_stale m d p ≡ false → IsMade capacity m d new → height_of new q ≡ height_of m q
+    by (Import corner bytes) apart_ (whole, absent, room, is) =
+        let t : Tile = record { corner = corner; samples = samples_in bytes } in
+        as_made (added t m) is (ap by_seam_rule (said_with m.side q t m.tiles (far m p q valid inside corner apart_)))
+    by (Remove corner) apart_ is =
+        as_made (without corner m) is (ap by_seam_rule (said_without m.side q (λ t. not (same_corner t.corner corner)) m.tiles (λ t gone. far m p q valid inside t.corner (ap (λ (d : Corner). are_neighbours d p) (gone_is t gone) ∙ apart_))))
+      where
+        gone_is : (t : Tile) → not (same_corner t.corner corner) ≡ false → t.corner ≡ corner
+        gone_is t gone = same_says t.corner corner (out (same_corner t.corner corner) gone)
+          where
+            out : (b : Bool) → not b ≡ false → b ≡ true
+            out true e = refl
+            out false e = sym e
+    by (Patch from to h) fresh_ (in_range, is) =
+        as_made (patched from to h m) is (edit_stays m p q valid inside (is_void_within m from to) (λ _ _. h) (λ t. has_void_from m from to t.corner 0 t.samples) (void_from m valid from to) fresh_)
+    by (Burn depth points) fresh_ (in_range, fine, is) =
+        as_made (burnt depth points.items m) is (edit_stays m p q valid inside (is_named points.items) (λ r _. metres (height_of m r) -ℤ depth) (λ t. holds_one m points.items t.corner) (named_from m valid points.items) fresh_)
+    by (Wall h points) fresh_ (in_range, fine, is) =
+        as_made (walled h points.items m) is (edit_stays m p q valid inside (is_named points.items) (λ r _. int_max (metres (height_of m r)) h) (λ t. holds_one m points.items t.corner) (named_from m valid points.items) fresh_)
+    by (Sink r) fresh_ (sinks, is) = as_made (with_sinks (with_point r m.sinks) m) is refl
+    by (Unsink r) fresh_ (leaves, is) = as_made (with_sinks (without_point r m.sinks) m) is refl

@@ -1,4 +1,4 @@
-use Rattle.edits.proofs.FreshBlocks.{fresh_stays}
+use Rattle.edits.proofs.Untouched.{fresh_stays}
 use Rattle.edits.proofs.FreshSinks.{sinks_stay, block_stays}
 use Rattle.edits.proofs.laws.fresh_blocks_stay.Goals as goal
 
