@@ -3,7 +3,7 @@ use Rattle.std.proofs.Common.{◌≡◌, ◌≢◌, ℕ, ℤ, ◌≤ℤ◌, List
 use Rattle.std.specs.Int.{int_max}
 use Rattle.lattice.proofs.Levels.{≤ℤ_same, ≤ℤ_antisym, le-max_left, le-max_right, max-le}
 use Rattle.border_graph.specs.Links.{IsWayBelow, IsJoinedLevel}
-use Rattle.border_graph.proofs.RisingSteps.{way_up}
+use Rattle.border_graph.proofs.Onward.{way_up}
 use Rattle.border_graph.specs.declared.edge_source.Edge.{Edge}
 use Rattle.border_graph.specs.Crests.{crest, LeadsOut, IsLeastCrest}
 

@@ -1,4 +1,4 @@
--- What is taken first of a heap, links or entries, has the lowest level.
+-- What is taken first of a heap of entries has the lowest crest.
 use Rattle.std.proofs.Common.{◌≡◌, ℤ, ◌≤ℤ◌, List, false, sym, ap, ◌∙◌, arith, true≢false, cond, int_lt, inl, inr}
 use Rattle.std.specs.Ordering.{is_lt, int_cmp, nat_cmp, ordering_then}
 use Rattle.std.specs.declared.cmp.Ordering.{Ordering}
@@ -7,7 +7,6 @@ use Rattle.std.proofs.lemmas.Int.{ints}
 use Rattle.std.proofs.lemmas.Bool.{cases_Bool}
 use Rattle.border_graph.specs.Heaps.{IsTaken}
 use Rattle.border_graph.specs.declared.frontier.Entry.{Entry}
-use Rattle.border_graph.specs.declared.link.Link.{Link}
 
 first_no_lower : (a b : ℤ) (rest : Ordering) → is_lt (ordering_then (int_cmp b a) rest) ≡ false → a ≤ℤ b
 first_no_lower a b rest h = elim (cases_Bool (int_lt b a)) [
@@ -17,12 +16,6 @@ first_no_lower a b rest h = elim (cases_Bool (int_lt b a)) [
 
 taken_by : {X : Type 0} (R S : X → X → Type 0) (old new : List X) (x : X) → ((y : X) → R x y → S x y) → IsTaken R old new x → IsTaken S old new x
 taken_by R S old new x leads t = record { waited = t.waited; lowest = λ l has. leads l (t.lowest l has); others = t.others; only = t.only }
-
-pub lowest_link : (old new : List Link) (x : Link) → IsTaken (λ (a b : Link). is_lt (ordering_then (int_cmp b.level a.level) (nat_cmp b.from a.from)) ≡ false) old new x
-    → IsTaken (λ (a b : Link). a.level ≤ℤ b.level) old new x
-lowest_link old new x t =
-    taken_by (λ (a b : Link). is_lt (ordering_then (int_cmp b.level a.level) (nat_cmp b.from a.from)) ≡ false) (λ (a b : Link). a.level ≤ℤ b.level) old new x
-    (λ y h. first_no_lower x.level y.level (nat_cmp y.from x.from) h) t
 
 pub lowest_entry : (old new : List Entry) (x : Entry) → IsTaken (λ (a b : Entry). is_lt (ordering_then (int_cmp b.crest a.crest) (ordering_then (int_cmp b.level a.level) (nat_cmp b.node a.node))) ≡ false) old new x
     → IsTaken (λ (a b : Entry). a.crest ≤ℤ b.crest) old new x

@@ -29,7 +29,7 @@ use Rattle.border_graph.specs.Summaries.{Summary}
 use Rattle.border_graph.specs.Sharing.{AreInOrder}
 use Rattle.border_graph.specs.Links.{IsLinkBelow, IsWayBelow, IsJoinedLevel}
 use Rattle.border_graph.specs.Reduced.{IsCrossing, IsLabelOf}
-use Rattle.border_graph.proofs.RisingSteps.{way_up}
+use Rattle.border_graph.proofs.Onward.{way_up}
 use Rattle.border_graph.specs.Joining.{AreSummaries, IsSummaryOf, Summarizes, IsRimNumberOf, Node, Outlet, Rim, rim_point, summary_at, IsThere, IsLabelLink, IsOutletLink, IsSpillLink, IsSharedLink, IsInnerLink, IsLink}
 use Rattle.lattice.proofs.RimNumbers.{one_rim_point, rim_point_of}
 use Rattle.border_graph.proofs.Ways.{WayOut, along, back, way_of_level, level_of_ways}

@@ -1,14 +1,7 @@
-pub mod Added
-pub mod Building
 pub mod Heaps
 pub mod Joined
 pub mod Inside
-pub mod Linked
-pub mod Parts
-pub mod Listed
-pub mod Rims
-pub mod Shared
-pub mod RisingSteps
+pub mod Onward
 pub mod Ways
 pub mod Tabulated
 pub mod SpillsExist
@@ -26,3 +19,9 @@ pub mod Connected
 pub mod Roots
 pub mod Kruskal
 pub mod Sufficing
+pub mod Lowest
+pub mod Turned
+pub mod PlacedWays
+pub mod TileEdges
+pub mod JoinedRims
+pub mod MosaicGraphs

@@ -1,6 +1,6 @@
 -- The steps of a bottleneck search from a start over links: what is visited next ends a least path (after the correctness
 -- argument of Barnes, Lehman and Mulla 2014).
-use Rattle.std.proofs.Common.{◌≡◌, ℕ, zero, suc, ◌+◌, ◌*◌, ◌-◌, ◌<◌, ◌≤◌, ◌⊎◌, inl, inr, ℤ, ◌≤ℤ◌, ◌<ℤ◌, true, false, IsTrue, List, [], ◌∷◌, length, get_or, refl, sym, ap, ◌∙◌, subst, arith, true≢false, Contains, int_lt}
+use Rattle.std.proofs.Common.{◌≡◌, ℕ, zero, suc, ◌+◌, ◌-◌, ◌<◌, ◌≤◌, ◌⊎◌, inl, inr, ℤ, ◌≤ℤ◌, ◌<ℤ◌, true, false, IsTrue, List, [], ◌∷◌, length, get_or, refl, sym, ap, ◌∙◌, subst, arith, true≢false, Contains, int_lt}
 use Rattle.std.specs.Int.{int_max}
 use Rattle.std.proofs.lemmas.Bool.{cases_Bool, cases_eq, cases_lt}
 use Rattle.std.proofs.lemmas.Int.{ints, clamps}
@@ -9,13 +9,11 @@ use Rattle.std.proofs.lemmas.List.Elements.{Contains-get_or}
 use Rattle.lattice.specs.Mosaic.{void}
 use Rattle.lattice.proofs.Levels.{≤ℤ_same, ≤ℤ_trans, le-max_left, le-max_right, max-le}
 use Rattle.border_graph.specs.Links.{IsWayBelow, IsJoinedLevel}
-use Rattle.border_graph.proofs.RisingSteps.{way_up, go_on}
+use Rattle.border_graph.proofs.Onward.{way_up, go_on}
 use Rattle.border_graph.specs.declared.edge_source.Edge.{Edge}
 use Rattle.border_graph.specs.declared.bottleneck.Settled.{Settled}
 use Rattle.border_graph.specs.declared.frontier.Entry.{Entry}
-use Rattle.border_graph.specs.Summaries.{Summary}
-use Rattle.border_graph.specs.Edges.{AreEdges, IsReachedBelow}
-use Rattle.border_graph.specs.Placed.{IsPlacedLink}
+use Rattle.border_graph.specs.Edges.{AreAllEdges, AreEdges, IsReachedBelow}
 use Rattle.border_graph.specs.Heaps.{IsAdded}
 use Rattle.border_graph.specs.Frontier.{is_among, IsNext, NoneLeft}
 use Rattle.border_graph.proofs.Next.{taken_still, taken_other}
@@ -25,13 +23,6 @@ use Rattle.border_graph.specs.Bottleneck.{raised, AreRaised, IsSettledBy, WaitsB
 pub record IsTwoWay (L : ℕ → ℕ → ℤ → Type 0) : Type 0 where
   pub back : (x y : ℕ) (level : ℤ) → 0 < y → L x y level → L y x level
   pub last : (y : ℕ) (level : ℤ) → L 0 y level → ⊥
-
--- as the links between rim points do, where those to rim points lead back
-pub two_way : (n : ℕ) (summaries : List Summary) → ((x y : ℕ) (level : ℤ) → 0 < y → IsPlacedLink n summaries x y level → IsPlacedLink n summaries y x level) → IsTwoWay (IsPlacedLink n summaries)
-two_way n summaries turn = record { back = turn; last = λ y level link. none (link.tile * (4 * (n - 1))) link.number link.starts }
-  where
-    none : (a k : ℕ) → 0 ≡ 1 + a + k → ⊥
-    none a k h = absurd (omega arith)
 
 -- so ways do
 pub way_back : (L : ℕ → ℕ → ℤ → Type 0) → IsTwoWay L → (start x : ℕ) (level : ℤ) (rest : List ℕ) → IsWayBelow L x level start rest → 0 < x → (back : List ℕ) × IsWayBelow L start level x back
@@ -82,13 +73,13 @@ alike_at L two start x level joined some first from = record {
     over lower (y ∷ rest) way = ≤ℤ_trans level way.0.0 lower (from y way.0.0 way.0.1.0) way.0.1.1
 
 -- the node of an entry was settled, with all its links
-pub settled_by : (L : ℕ → ℕ → ℤ → Type 0) (start : ℕ) (entry : Entry) (edges : List Edge) (one : Settled) → AreEdges L entry.node edges → IsSettledBy entry edges one → 0 < entry.node → IsReachedBelow L start entry.crest entry.node
+pub settled_by : (L : ℕ → ℕ → ℤ → Type 0) (start : ℕ) (entry : Entry) (edges : List Edge) (one : Settled) → AreAllEdges L entry.node edges → IsSettledBy entry edges one → 0 < entry.node → IsReachedBelow L start entry.crest entry.node
     → (0 < one.node) × (IsReachedBelow L start one.crest one.node × (IsTrue one.has_no_lower → (y : ℕ) (level : ℤ) → L one.node y level → one.crest ≤ℤ level))
 settled_by L start entry edges one all by some reached = (
   subst (λ v. 0 < v) (sym by.node) some,
   (
     subst (λ v. IsReachedBelow L start v one.node) (sym by.crest) (subst (IsReachedBelow L start entry.crest) (sym by.node) reached),
-    λ yes y level link. subst (λ v. v ≤ℤ level) (sym by.crest) (by.no_lower yes (record { level = level; to = y }) (all.all y level (subst (λ v. L v y level) by.node link))),
+    λ yes y level link. subst (λ v. v ≤ℤ level) (sym by.crest) (by.no_lower yes (record { level = level; to = y }) (all y level (subst (λ v. L v y level) by.node link))),
   ),
 )
 
@@ -98,8 +89,8 @@ waits_up frontier x low high le w = record { entry = w.entry; waits = w.waits; n
 max_up : (a b c : ℤ) → a ≤ℤ b → int_max a c ≤ℤ int_max b c
 max_up a b c le = max-le a c (int_max b c) (≤ℤ_trans a b (int_max b c) le (le-max_left b c)) (le-max_right b c)
 
-module _ (L : ℕ → ℕ → ℤ → Type 0) (start : ℕ) where
-  module _ (visited : List ℕ) (frontier : List Entry) (s : IsSearching L start visited frontier) where
+module _ (L : ℕ → ℕ → ℤ → Type 0) (Exact : Type 0) (start : ℕ) where
+  module _ (visited : List ℕ) (frontier : List Entry) (s : IsSearching L start visited frontier Exact) where
     -- an entry waits at a node that isn't visited
     record Enters (level : ℤ) : Type 0 where
       pub node : ℕ
@@ -123,44 +114,50 @@ module _ (L : ℕ → ℕ → ℤ → Type 0) (start : ℕ) where
     ]
 
     -- and so does one from the start
-    onto : (level : ℤ) (rest : List ℕ) → IsWayBelow L 0 level start rest → Enters level
-    onto level rest way = let low = s.below level rest way in enters level low start rest (on_up s.floor level low start s.first) way
+    onto : Exact → (level : ℤ) (rest : List ℕ) → IsWayBelow L 0 level start rest → Enters level
+    onto exact level rest way = let low = s.below exact level rest way in enters level low start rest (on_up s.floor level low start s.first) way
 
-    -- where none waits at such a node there is no way
+    -- where none waits at such a node there is no way: each node of one is visited, and the outlet node isn't
     pub no_way : NoneLeft frontier visited → (level : ℤ) (rest : List ℕ) → IsWayBelow L 0 level start rest → ⊥
-    no_way none level rest way =
-        let e = onto level rest way in
-        true≢false (sym (none e.waits.entry e.waits.waits) ∙ subst (λ x. is_among visited x ≡ false) (sym e.waits.node) e.free)
+    no_way none level rest way = along start rest (seen start s.floor s.first) way
+      where
+        seen : (x : ℕ) (low : ℤ) → IsOn L start visited frontier x low → is_among visited x ≡ true
+        seen x low (inl full) = full
+        seen x low (inr w) = subst (λ y. is_among visited y ≡ true) w.node (none w.entry w.waits)
+
+        along : (x : ℕ) (rest : List ℕ) → is_among visited x ≡ true → IsWayBelow L 0 level x rest → ⊥
+        along x [] full way = true≢false (sym full ∙ (ap (is_among visited) way ∙ s.outlet))
+        along x (y ∷ rest) full way = along y rest (seen y (int_max s.floor way.0.0) (s.border x full y way.0.0 way.0.1.0)) way.1
 
     module _ (frontier' : List Entry) (visited' : List ℕ) (entry : Entry) (n : IsNext frontier visited frontier' visited' entry) where
       -- no way is lower than what is visited next
-      lowest_way : (level : ℤ) (rest : List ℕ) → IsWayBelow L 0 level start rest → entry.crest ≤ℤ level
-      lowest_way level rest way =
-          let e = onto level rest way in
+      lowest_way : Exact → (level : ℤ) (rest : List ℕ) → IsWayBelow L 0 level start rest → entry.crest ≤ℤ level
+      lowest_way exact level rest way =
+          let e = onto exact level rest way in
           ≤ℤ_trans entry.crest e.waits.entry.crest level (n.lowest e.waits.entry e.waits.waits (subst (λ x. is_among visited x ≡ false) (sym e.waits.node) e.free)) e.waits.low
 
       -- what is visited before is reached no higher
-      pub reached_below : (x : ℕ) → is_among visited x ≡ true → IsReachedBelow L start entry.crest x
-      reached_below x full = let way = s.reached x full in (way.0, way_up L x s.floor entry.crest (s.above entry n.waited) start way.0 way.1)
+      pub reached_below : Exact → (x : ℕ) → is_among visited x ≡ true → IsReachedBelow L start entry.crest x
+      reached_below exact x full = let way = s.reached exact x full in (way.0, way_up L x s.floor entry.crest (s.above entry n.waited) start way.0 way.1)
 
       -- the entry's node ends a least way
-      pub ended : IsTwoWay L → (level : ℤ) → IsEnd L entry level → IsJoinedLevel L 0 start level
-      ended two level e = record {
-        reached = let first = s.ways entry n.waited in go_on L entry.node 0 level start first.0 e.reached.0 (way_up L entry.node entry.crest level e.high start first.0 first.1) e.reached.1;
-        least = λ lower rest way. let low = lowest_way lower rest way in let on = from_end lower rest low way in e.least lower on.0 low on.1;
+      pub ended : Exact → IsTwoWay L → (level : ℤ) → IsEnd L entry level → IsJoinedLevel L 0 start level
+      ended exact two level e = record {
+        reached = let first = s.ways exact entry n.waited in go_on L entry.node 0 level start first.0 e.reached.0 (way_up L entry.node entry.crest level e.high start first.0 first.1) e.reached.1;
+        least = λ lower rest way. let low = lowest_way exact lower rest way in let on = from_end lower rest low way in e.least lower on.0 low on.1;
       }
         where
           from_end : (lower : ℤ) (rest : List ℕ) → entry.crest ≤ℤ lower → IsWayBelow L 0 lower start rest → (all : List ℕ) × IsWayBelow L 0 lower entry.node all
           from_end lower rest low way = elim (cases_eq entry.node 0) [
             | inl out ↦ ([], out)
             | inr other ↦
-                let first = s.ways entry n.waited in
+                let first = s.ways exact entry n.waited in
                 let back = way_back L two start entry.node entry.crest first.0 first.1 (let o = other in omega arith) in
                 go_on L start 0 lower entry.node back.0 rest (way_up L start entry.crest lower low entry.node back.0 back.1) way
           ]
 
       -- the node that is visited is followed
-      module _ (frontier'' : List Entry) (f : IsExpanded L visited' frontier' frontier'' entry) where
+      module _ (frontier'' : List Entry) (f : IsExpanded L Exact visited' frontier' frontier'' entry) where
         outlet_free : is_among visited' 0 ≡ false
         outlet_free = taken_other visited visited' entry.node 0 n.takes (λ same. let some = f.inner in absurd (omega arith)) ∙ s.outlet
 
@@ -179,11 +176,12 @@ module _ (L : ℕ → ℕ → ℤ → Type 0) (start : ℕ) where
         higher : s.floor ≤ℤ entry.crest
         higher = s.above entry n.waited
 
-        way_to : (l : Entry) → Contains frontier' l ⊎ ((entry.crest ≤ℤ l.crest) × ((rest : List ℕ) × IsWayBelow L l.node l.crest entry.node rest)) → (rest : List ℕ) × IsWayBelow L l.node l.crest start rest
-        way_to l (inl old) = s.ways l (n.only l old)
-        way_to l (inr more) =
-            let first = s.ways entry n.waited in
-            go_on L entry.node l.node l.crest start first.0 more.1.0 (way_up L entry.node entry.crest l.crest more.0 start first.0 first.1) more.1.1
+        way_to : Exact → (l : Entry) → Contains frontier' l ⊎ ((entry.crest ≤ℤ l.crest) × (Exact → (rest : List ℕ) × IsWayBelow L l.node l.crest entry.node rest)) → (rest : List ℕ) × IsWayBelow L l.node l.crest start rest
+        way_to exact l (inl old) = s.ways exact l (n.only l old)
+        way_to exact l (inr more) =
+            let first = s.ways exact entry n.waited in
+            let on = more.1 exact in
+            go_on L entry.node l.node l.crest start first.0 on.0 (way_up L entry.node entry.crest l.crest more.0 start first.0 first.1) on.1
 
         leads_on : (x : ℕ) → is_among visited' x ≡ true → (y : ℕ) (level : ℤ) → L x y level → IsOn L start visited' frontier'' y (int_max entry.crest level)
         leads_on x full y level link = elim (cases_eq x entry.node) [
@@ -192,44 +190,44 @@ module _ (L : ℕ → ℕ → ℤ → Type 0) (start : ℕ) where
               (s.border x (sym (taken_other visited visited' entry.node x n.takes apart) ∙ full) y level link)
         ]
 
-        reached_on : (x : ℕ) → is_among visited' x ≡ true → IsReachedBelow L start entry.crest x
-        reached_on x full = elim (cases_eq x entry.node) [
-          | inl same ↦ subst (λ v. IsReachedBelow L start entry.crest v) (sym same) (s.ways entry n.waited)
-          | inr apart ↦ reached_below x (sym (taken_other visited visited' entry.node x n.takes apart) ∙ full)
+        reached_on : Exact → (x : ℕ) → is_among visited' x ≡ true → IsReachedBelow L start entry.crest x
+        reached_on exact x full = elim (cases_eq x entry.node) [
+          | inl same ↦ subst (λ v. IsReachedBelow L start entry.crest v) (sym same) (s.ways exact entry n.waited)
+          | inr apart ↦ reached_below exact x (sym (taken_other visited visited' entry.node x n.takes apart) ∙ full)
         ]
 
-        pub risen : IsSearching L start visited' frontier''
+        pub risen : IsSearching L start visited' frontier'' Exact
         risen = record {
           floor = entry.crest;
           first = keep start s.floor entry.crest higher s.first;
           outlet = outlet_free;
           below = lowest_way;
           above = λ l has. elim (f.only l has) [ inl old ↦ n.above l old | inr more ↦ more.0 ];
-          ways = λ l has. way_to l (f.only l has);
+          ways = λ exact l has. way_to exact l (f.only l has);
           reached = reached_on;
           border = leads_on;
         }
 
   -- at first the start alone waits
-  pub rising_first : ((x y : ℕ) (level : ℤ) → L x y level → void ≤ℤ level) → 0 < start → (visited : List ℕ) → ((x : ℕ) → is_among visited x ≡ false) → (frontier : List Entry) (entry : Entry) → IsAdded [] frontier entry →
-      entry.crest ≡ void → entry.node ≡ start → IsSearching L start visited frontier
+  pub rising_first : (Exact → (x y : ℕ) (level : ℤ) → L x y level → void ≤ℤ level) → 0 < start → (visited : List ℕ) → ((x : ℕ) → is_among visited x ≡ false) → (frontier : List Entry) (entry : Entry) → IsAdded [] frontier entry →
+      entry.crest ≡ void → entry.node ≡ start → IsSearching L start visited frontier Exact
   rising_first fit some visited none frontier entry a crest node = record {
     floor = void;
     first = inr (record { entry = entry; waits = a.waits; node = node; low = subst (λ v. v ≤ℤ void) (sym crest) (≤ℤ_same void) });
     outlet = none 0;
     below = over_void;
     above = λ l has. subst (λ (v : Entry). void ≤ℤ v.crest) (sym (alone l has)) (subst (λ v. void ≤ℤ v) (sym crest) (≤ℤ_same void));
-    ways = λ l has. ([], sym (ap (λ (v : Entry). v.node) (alone l has) ∙ node));
-    reached = λ x full. absurd (true≢false (sym full ∙ none x));
+    ways = λ exact l has. ([], sym (ap (λ (v : Entry). v.node) (alone l has) ∙ node));
+    reached = λ exact x full. absurd (true≢false (sym full ∙ none x));
     border = λ x full. absurd (true≢false (sym full ∙ none x));
   }
     where
       alone : (l : Entry) → Contains frontier l → l ≡ entry
       alone l has = elim (a.only l has) [ inl same ↦ same | inr old ↦ let h = old.1 in absurd (omega arith) ]
 
-      over_void : (level : ℤ) (rest : List ℕ) → IsWayBelow L 0 level start rest → void ≤ℤ level
-      over_void level [] way = absurd (omega arith)
-      over_void level (y ∷ rest) way = ≤ℤ_trans void way.0.0 level (fit start y way.0.0 way.0.1.0) way.0.1.1
+      over_void : Exact → (level : ℤ) (rest : List ℕ) → IsWayBelow L 0 level start rest → void ≤ℤ level
+      over_void exact level [] way = absurd (omega arith)
+      over_void exact level (y ∷ rest) way = ≤ℤ_trans void way.0.0 level (fit exact start y way.0.0 way.0.1.0) way.0.1.1
 
 -- the outlet node is an end
 pub end_at_outlet : (L : ℕ → ℕ → ℤ → Type 0) (entry : Entry) → entry.node ≡ 0 → IsEnd L entry entry.crest
@@ -244,16 +242,16 @@ end_at_known L entry level joined = record {
 }
 
 -- what waits once all edges from a node are followed
-pub followed_all : (L : ℕ → ℕ → ℤ → Type 0) (visited : List ℕ) (old new : List Entry) (entry : Entry) (found : List Edge) → 0 < entry.node → AreEdges L entry.node found → AreRaised found (length found) entry visited old new → IsExpanded L visited old new entry
-followed_all L visited old new entry found inner all r = record {
+pub followed_all : (L : ℕ → ℕ → ℤ → Type 0) (Exact : Type 0) (visited : List ℕ) (old new : List Entry) (entry : Entry) (found : List Edge) → 0 < entry.node → AreAllEdges L entry.node found → (Exact → AreEdges L entry.node found) → AreRaised found (length found) entry visited old new → IsExpanded L Exact visited old new entry
+followed_all L Exact visited old new entry found inner all exactly r = record {
   inner = inner;
   others = r.others;
   only = λ l has. elim (r.only l has) [
     | inl before ↦ inl before
-    | inr end ↦ inr (subst (λ (v : Entry). (entry.crest ≤ℤ v.crest) × ((rest : List ℕ) × IsWayBelow L v.node v.crest entry.node rest)) (sym end.1.1)
-        (le-max_left entry.crest end.0.level, (end.0.to ∷ [], ((end.0.level, (all.each end.0 end.1.0, le-max_right entry.crest end.0.level)), refl))))
+    | inr end ↦ inr (subst (λ (v : Entry). (entry.crest ≤ℤ v.crest) × (Exact → (rest : List ℕ) × IsWayBelow L v.node v.crest entry.node rest)) (sym end.1.1)
+        (le-max_left entry.crest end.0.level, λ exact. (end.0.to ∷ [], ((end.0.level, ((exactly exact).each end.0 end.1.0, le-max_right entry.crest end.0.level)), refl))))
   ];
-  left = λ y level link. waits y level (all.all y level link);
+  left = λ y level link. waits y level (all y level link);
 }
   where
     waits : (y : ℕ) (level : ℤ) → Contains found (record { level = level; to = y }) → (is_among visited y ≡ true) ⊎ WaitsBelow new y (int_max entry.crest level)

@@ -44,10 +44,10 @@ module _ (IsLink : ℕ → ℕ → ℤ → Type 0) where
     pub least : (lower : ℤ) (rest : List ℕ) → entry.crest ≤ℤ lower → IsWayBelow IsLink 0 lower entry.node rest → level ≤ℤ lower
 
   -- what waits once the node of an entry is expanded
-  pub record IsExpanded (visited : List ℕ) (old new : List Entry) (entry : Entry) : Type 0 where
+  pub record IsExpanded (Exact : Type 0) (visited : List ℕ) (old new : List Entry) (entry : Entry) : Type 0 where
     pub inner : 0 < entry.node
     pub others : (l : Entry) → Contains old l → Contains new l
-    pub only : (l : Entry) → Contains new l → Contains old l ⊎ ((entry.crest ≤ℤ l.crest) × IsReachedBelow IsLink entry.node l.crest l.node)
+    pub only : (l : Entry) → Contains new l → Contains old l ⊎ ((entry.crest ≤ℤ l.crest) × (Exact → IsReachedBelow IsLink entry.node l.crest l.node))
     pub left : (y : ℕ) (level : ℤ) → IsLink entry.node y level → (is_among visited y ≡ true) ⊎ WaitsBelow new y (int_max entry.crest level)
 
   module _ (start : ℕ) (visited : List ℕ) (frontier : List Entry) where
@@ -55,13 +55,14 @@ module _ (IsLink : ℕ → ℕ → ℤ → Type 0) where
     abbrev pub IsOn : ℕ → ℤ → Type 0
     IsOn x level = (is_among visited x ≡ true) ⊎ WaitsBelow frontier x level
 
-    -- each path from the start that is no higher than the floor has been followed
-    pub record IsSearching : Type 0 where
+    -- each path from the start that is no higher than the floor has been followed; where the edges that are followed are
+    -- exactly the links, each entry is reached by them
+    pub record IsSearching (Exact : Type 0) : Type 0 where
       pub floor : ℤ
       pub first : IsOn start floor
       pub outlet : is_among visited 0 ≡ false
-      pub below : (level : ℤ) (rest : List ℕ) → IsWayBelow IsLink 0 level start rest → floor ≤ℤ level
+      pub below : Exact → (level : ℤ) (rest : List ℕ) → IsWayBelow IsLink 0 level start rest → floor ≤ℤ level
       pub above : (l : Entry) → Contains frontier l → floor ≤ℤ l.crest
-      pub ways : (l : Entry) → Contains frontier l → IsReachedBelow IsLink start l.crest l.node
-      pub reached : (x : ℕ) → is_among visited x ≡ true → IsReachedBelow IsLink start floor x
+      pub ways : Exact → (l : Entry) → Contains frontier l → IsReachedBelow IsLink start l.crest l.node
+      pub reached : Exact → (x : ℕ) → is_among visited x ≡ true → IsReachedBelow IsLink start floor x
       pub border : (x : ℕ) → is_among visited x ≡ true → (y : ℕ) (level : ℤ) → IsLink x y level → IsOn y (int_max floor level)

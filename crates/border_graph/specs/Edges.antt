@@ -5,10 +5,14 @@ use Rattle.border_graph.specs.Joining.{Rim}
 use Rattle.border_graph.specs.Linking.{node_number}
 use Rattle.border_graph.specs.declared.edge_source.Edge.{Edge}
 
+-- all edges from x are among these
+abbrev pub AreAllEdges : (ℕ → ℕ → ℤ → Type 0) → ℕ → List Edge → Type 0
+AreAllEdges IsLink x ways = (y : ℕ) (level : ℤ) → IsLink x y level → Contains ways (record { level = level; to = y })
+
 -- the edges from x, and all of them
 pub record AreEdges (IsLink : ℕ → ℕ → ℤ → Type 0) (x : ℕ) (ways : List Edge) : Type 0 where
   pub each : (way : Edge) → Contains ways way → IsLink x way.to way.level
-  pub all : (y : ℕ) (level : ℤ) → IsLink x y level → Contains ways (record { level = level; to = y })
+  pub all : AreAllEdges IsLink x ways
 
 -- a path from the start to x at no more than the level
 abbrev pub IsReachedBelow : (ℕ → ℕ → ℤ → Type 0) → ℕ → ℤ → ℕ → Type 0

@@ -4,7 +4,7 @@ use Rattle.std.specs.Prelude.{◌≡◌, ◌≢◌, ℕ, ◌*◌, ◌-◌, ◌<�
 use Rattle.lattice.specs.declared.point.Point.{Point}
 use Rattle.lattice.specs.Corners.{Corner}
 use Rattle.lattice.specs.Lattice.{point_of}
-use Rattle.lattice.specs.Mosaic.{Mosaic, void}
+use Rattle.lattice.specs.Mosaic.{Mosaic, IsMosaic, void}
 use Rattle.lattice.specs.Ground.{is_ground, is_outlet}
 use Rattle.lattice.specs.Block.{IsBlockOf, is_rim, rim_number}
 use Rattle.tile_flood.specs.Blocks.{block_of}
@@ -53,6 +53,13 @@ pub record Summarizes (m : Mosaic) (b : Summary) : Type 0 where
 pub record AreSummaries (m : Mosaic) (summaries : List Summary) : Type 0 where
   pub corners : map (λ b. b.corner) summaries ≡ map (λ t. t.corner) m.tiles
   pub each : All (Summarizes m) summaries
+
+-- of each tile of some mosaic of this side
+pub record AreOfMosaic (n : ℕ) (summaries : List Summary) : Type 0 where
+  pub mosaic : Mosaic
+  pub is : IsMosaic mosaic
+  pub all : AreSummaries mosaic summaries
+  pub side : n ≡ mosaic.side
 
 -- the outlet node, and each rim point of each tile: by the tile's index in the list and the rim number
 pub data Node : Type 0 where

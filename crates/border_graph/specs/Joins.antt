@@ -1,12 +1,11 @@
 -- What joining gives.
-use Rattle.std.specs.Prelude.{◌≡◌, ◌≢◌, ◌⊎◌, ℕ, ◌+◌, ◌-◌, ◌*◌, ◌<◌, ℤ, List, [], length, slice_index_or}
+use Rattle.std.specs.Prelude.{◌≡◌, ◌≢◌, ◌⊎◌, ℕ, ◌-◌, ◌*◌, ◌<◌, ℤ, List, [], length, slice_index_or}
 use Rattle.lattice.specs.Limits.{IsSide}
 use Rattle.lattice.specs.Mosaic.{Mosaic, void}
 use Rattle.tile_flood.specs.Raising.{AreRimLevels}
 use Rattle.border_graph.specs.Summaries.{Summary}
 use Rattle.border_graph.specs.Links.{IsWayBelow}
 use Rattle.border_graph.specs.Joining.{Node, Outlet, Rim, summary_at, rim_point, IsThere, IsLink}
-use Rattle.border_graph.specs.Linking.{node_number}
 use Rattle.border_graph.specs.Sharing.{AreInOrder}
 
 -- each rim has as many points as that of a tile with this side
@@ -36,16 +35,3 @@ pub record LeadsNowhere (n : ℕ) (summaries : List Summary) : Type 0 where
 -- no side is that of all tiles, or from some ground rim point nothing leads out
 abbrev pub CannotBeJoined : List Summary → Type 0
 CannotBeJoined summaries = HaveNoSide summaries ⊎ ((n : ℕ) × (IsSideOf n summaries × LeadsNowhere n summaries))
-
--- the levels of a tile's part of the list of all nodes
-pub record IsPart (levels : List ℤ) (size t : ℕ) (rim : List ℤ) : Type 0 where
-  pub whole : length rim ≡ size
-  pub each : (k : ℕ) → k < size → slice_index_or rim k void ≡ slice_index_or levels (1 + t * size + k) void
-
-abbrev pub AreParts : List ℤ → ℕ → List (List ℤ) → ℕ → Type 0
-AreParts levels size rims tiles = (t : ℕ) → t < tiles → IsPart levels size t (slice_index_or rims t [])
-
--- the ground rim point has no level in the list of all nodes
-pub record IsUnlevelled (n : ℕ) (summaries : List Summary) (levels : List ℤ) (t k : ℕ) : Type 0 where
-  pub there : IsThere n summaries t k
-  pub no_level : slice_index_or levels (node_number n (Rim t k)) void ≡ void

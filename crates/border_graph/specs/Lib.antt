@@ -1,10 +1,8 @@
 pub mod Summaries
 pub mod Links
 pub mod Joining
-pub mod RimLookup
 pub mod Joins
 pub mod Heaps
-pub mod Rising
 pub mod Linking
 pub mod Sharing
 pub mod Edges
@@ -20,3 +18,4 @@ pub mod Passes
 pub mod UnionFind
 pub mod Forest
 pub mod Reduced
+pub mod MosaicGraph

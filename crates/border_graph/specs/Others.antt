@@ -1,13 +1,15 @@
--- The edges from a rim point to the same point of other tiles, as they are listed.
+-- The edges from a rim point, in its tile and to the same point of other tiles, as they are listed.
 use Rattle.std.specs.Prelude.{◌≡◌, ◌≢◌, ℕ, ◌+◌, ◌-◌, ◌*◌, ◌^◌, ◌<◌, ◌≤◌, ℤ, pos, ◌⊎◌, List, Contains, length, slice_index_or}
 use Rattle.lattice.specs.declared.point.Point.{Point}
 use Rattle.lattice.specs.Corners.{Corner}
-use Rattle.lattice.specs.Lattice.{IsIndexOf}
+use Rattle.lattice.specs.Lattice.{IsIndexOf, point_of}
+use Rattle.lattice.specs.Mosaic.{void}
+use Rattle.lattice.specs.RimPoints.{IsRimPoint}
 use Rattle.lattice.specs.Block.{rim_number}
-use Rattle.border_graph.specs.Joining.{Rim}
+use Rattle.border_graph.specs.Joining.{Rim, rim_point}
 use Rattle.border_graph.specs.Linking.{node_number}
 use Rattle.border_graph.specs.declared.edge_source.Edge.{Edge}
-use Rattle.border_graph.specs.TileGraph.{AreListedStill}
+use Rattle.border_graph.specs.TileGraph.{TileGraph, AreListedStill, AreEdgesOut, AreEdgesAcross}
 
 abbrev pub corner_at : List Corner → ℕ → Corner
 corner_at corners t = slice_index_or corners t (record { lat = pos 0; lon = pos 0 })
@@ -45,3 +47,15 @@ module _ (n : ℕ) (corners : List Corner) (t : ℕ) (p : Point) (height : ℤ) 
     pub still : AreListedStill old new
     pub only : (way : Edge) → Contains new way → Contains old way ⊎ IsToOther way
     pub listed : AreApart corners → (c : Corner) → IsOtherListed c new
+
+-- the edges from a rim point of a tile, listed one kind after another
+pub record AreTileEdges (n : ℕ) (corners : List Corner) (ways : TileGraph) (t k : ℕ) (old new : List Edge) : Type 0 where
+  pub side : ways.side ≡ n
+  pub first : List Edge
+  pub second : List Edge
+  pub out : AreEdgesOut n ways.summary k old first
+  pub across : AreEdgesAcross n ways.summary k (t * (4 * (n - 1))) first second
+  pub index : ℕ
+  pub rim : IsRimPoint n k index
+  pub nothing : (rim_point ways.summary k).height ≡ void → new ≡ second
+  pub others : (rim_point ways.summary k).height ≢ void → AreOthersTold n corners t (point_of n (corner_at corners t) index) (rim_point ways.summary k).height second new

@@ -2,7 +2,8 @@
 ghost use Rattle.std.specs.Prelude.{◌≡◌, ℕ, ℤ, ◌<◌, ◌⊎◌, List, [], ◌∷◌, ◌++◌, Contains, IfOk, IfErr, OnOk, IfSome, IfNone, IsTrue, IsFalse, length, ◌≤ℤ◌, ◌<ℤ◌, ◌↔◌};
 ghost use Rattle.border_graph.specs.Links.{IsJoinedLevel, IsWayBelow};
 ghost use Rattle.border_graph.specs.Summaries.{Summary};
-ghost use Rattle.border_graph.specs.Edges.{AreEdges, IsTileReached};
+ghost use Rattle.border_graph.specs.Joining.{AreOfMosaic};
+ghost use Rattle.border_graph.specs.Edges.{AreAllEdges, IsTileReached};
 ghost use Rattle.border_graph.specs.Placed.{IsPlacedLink, IsOfTile};
 ghost use Rattle.border_graph.specs.Crests.{LeadsOut, IsLeastCrest};
 ghost use Rattle.border_graph.specs.declared.edge_source.Edge.{Edge as EdgeOf};
@@ -16,8 +17,9 @@ use crate::{Edge, EdgeSource};
 use lattice::Refusal;
 use std::alloc::{AllocError, Global};
 
-/// The least crest of the paths from a node to the outlet node, in metres, over all paths of the whole graph. None exactly
-/// where no path leads there. Both are said of paths edge by edge, and of lists of nodes as where all tiles are joined.
+/// The least crest of the paths from a node to the outlet node, in metres, over all paths of the whole graph, where that is
+/// the graph of a mosaic. None only where no path leads there, whatever graph it is. Both are said of paths edge by edge, and
+/// of lists of nodes as where all tiles are joined.
 ///
 /// Where it answers a level, it asked only for tiles with a rim point that the start reaches at no more than that level.
 /// Then it lists nodes that have the very same level: those that the search settled below it, each of which and the start
@@ -34,17 +36,17 @@ pub fn lowest_pass<S, G: EdgeSource<S>>(
 ) -> Result<Option<i16>, Refusal>
     requires start { 0 < start }
     requires empty { alike.old.items ≡ [] }
-    ensures level { (n : ℕ) (summaries : List Summary) → G.fits graph.new n summaries
+    ensures level { (n : ℕ) (summaries : List Summary) → G.fits graph.new n summaries → AreOfMosaic n summaries
         → IfOk result (λ found. IfSome found (IsLeastCrest (IsPlacedLink n summaries) start)) }
-    ensures joined { (n : ℕ) (summaries : List Summary) → G.fits graph.new n summaries
+    ensures joined { (n : ℕ) (summaries : List Summary) → G.fits graph.new n summaries → AreOfMosaic n summaries
         → IfOk result (λ found. IfSome found (IsJoinedLevel (IsPlacedLink n summaries) 0 start)) }
-    ensures alike { (n : ℕ) (summaries : List Summary) → G.fits graph.new n summaries
+    ensures alike { (n : ℕ) (summaries : List Summary) → G.fits graph.new n summaries → AreOfMosaic n summaries
         → IfOk result (λ found. IfSome found (λ level. (x : ℕ) → Contains alike.new.items x → (0 < x) × IsJoinedLevel (IsPlacedLink n summaries) 0 x level)) }
     ensures none { (n : ℕ) (summaries : List Summary) → G.fits graph.new n summaries
         → IfOk result (λ found. IfNone found ((rest : List EdgeOf) → LeadsOut (IsPlacedLink n summaries) start rest → ⊥)) }
     ensures not_joined { (n : ℕ) (summaries : List Summary) → G.fits graph.new n summaries
         → IfOk result (λ found. IfNone found ((level : ℤ) (rest : List ℕ) → IsWayBelow (IsPlacedLink n summaries) 0 level start rest → ⊥)) }
-    ensures told { (n : ℕ) (summaries : List Summary) → G.fits graph.new n summaries
+    ensures told { (n : ℕ) (summaries : List Summary) → G.fits graph.new n summaries → AreOfMosaic n summaries
         → IfOk result (λ found. IfSome found (λ level. (t : ℕ) → G.told graph.new t → G.told graph.old t ⊎ IsTileReached n (IsPlacedLink n summaries) start level t)) }
     ensures refusal { IfErr result (G.refuses graph.old source.old graph.new source.new) }
     ensures fits { (n : ℕ) (summaries : List Summary) → G.fits graph.new n summaries → G.fits graph.old n summaries }
@@ -158,12 +160,12 @@ fn expand<S, G: EdgeSource<S>>(
     edges: &mut Vec<Edge>,
 ) -> Result<Option<i16>, Refusal>
     requires empty { edges.old.items ≡ [] }
-    ensures ends { (n : ℕ) (summaries : List Summary) → G.fits graph.new n summaries
+    ensures ends { (n : ℕ) (summaries : List Summary) → G.fits graph.new n summaries → AreOfMosaic n summaries
         → IfOk result (λ found. IfSome found (IsEnd (IsPlacedLink n summaries) entry)) }
     ensures followed { (n : ℕ) (summaries : List Summary) → G.fits graph.new n summaries
-        → IfOk result (λ found. IfNone found (IsExpanded (IsPlacedLink n summaries) visited.now frontier.old frontier.new entry)) }
+        → IfOk result (λ found. IfNone found (IsExpanded (IsPlacedLink n summaries) (AreOfMosaic n summaries) visited.now frontier.old frontier.new entry)) }
     ensures listed { (n : ℕ) (summaries : List Summary) → G.fits graph.new n summaries
-        → IfOk result (λ found. IfNone found (AreEdges (IsPlacedLink n summaries) entry.node edges.new.items)) }
+        → IfOk result (λ found. IfNone found (AreAllEdges (IsPlacedLink n summaries) entry.node edges.new.items)) }
     ensures told { (n : ℕ) (summaries : List Summary) → G.fits graph.new n summaries → (t : ℕ) → G.told graph.new t → G.told graph.old t ⊎ IsOfTile n t entry.node }
     ensures refusal { IfErr result (G.refuses graph.old source.old graph.new source.new) }
     ensures fits { (n : ℕ) (summaries : List Summary) → G.fits graph.new n summaries → G.fits graph.old n summaries }

@@ -1,11 +1,11 @@
 //! Where the edges of a graph are asked for, node by node.
-ghost use Rattle.std.specs.Prelude.{◌≡◌, ◌<◌, ◌≤ℤ◌, ◌⊎◌, ℕ, ℤ, List, [], IfOk, IfErr, OnOk, MatchOption};
-ghost use Rattle.lattice.specs.Mosaic.{void};
+ghost use Rattle.std.specs.Prelude.{◌≡◌, ◌<◌, ◌⊎◌, ℕ, List, [], IfOk, IfErr, IfNone, OnOk, MatchOption};
 ghost use Rattle.lattice.specs.declared.refusal.Refusal.{Refusal};
 ghost use Rattle.lattice.specs.declared.refusal.Refusal.TheVariants.{NoMemory};
 ghost use Rattle.border_graph.specs.Links.{IsJoinedLevel};
 ghost use Rattle.border_graph.specs.Summaries.{Summary};
-ghost use Rattle.border_graph.specs.Edges.{AreEdges};
+ghost use Rattle.border_graph.specs.Joining.{AreOfMosaic};
+ghost use Rattle.border_graph.specs.Edges.{AreAllEdges, AreEdges};
 ghost use Rattle.border_graph.specs.Placed.{IsPlacedLink, IsOfTile};
 
 use lattice::Refusal;
@@ -38,8 +38,8 @@ pub trait EdgeSource<S> {
     /// Calls that led from the old and its source to the new may have been refused so.
     ghost refuses: { Self → S → Self → S → Refusal → Type 0 };
 
-    /// All edges from the node, into the empty list, and None. Or, where it is known already, the node's least level over
-    /// the whole graph: the list then means nothing.
+    /// All edges from the node, and where the summaries are those of a mosaic no others, into the empty list, and None. Or,
+    /// where it is known already, the node's least level over the whole graph: the list then means nothing.
     fn edges_from(
         &mut self,
         alloc: Global,
@@ -49,7 +49,9 @@ pub trait EdgeSource<S> {
     ) -> Result<Option<i16>, Refusal>
         requires node { 0 < node }
         requires empty { into.old.items ≡ [] }
-        ensures answer { (n : ℕ) (summaries : List Summary) → fits self.new n summaries
+        ensures all { (n : ℕ) (summaries : List Summary) → fits self.new n summaries
+            → IfOk result (λ known. IfNone known (AreAllEdges (IsPlacedLink n summaries) node into.new.items)) }
+        ensures answer { (n : ℕ) (summaries : List Summary) → fits self.new n summaries → AreOfMosaic n summaries
             → IfOk result (λ known. MatchOption known (AreEdges (IsPlacedLink n summaries) node into.new.items) (IsJoinedLevel (IsPlacedLink n summaries) 0 node)) }
         ensures refusal { IfErr result (refuses self.old source.old self.new source.new) }
         ensures told { (n : ℕ) (summaries : List Summary) → fits self.new n summaries → (t : ℕ) → told self.new t → told self.old t ⊎ IsOfTile n t node }
@@ -57,12 +59,6 @@ pub trait EdgeSource<S> {
         // What agrees with all that is known then agreed with what was known before.
         ensures fits { (n : ℕ) (summaries : List Summary) → fits self.new n summaries → fits self.old n summaries }
         ensures keeps { OnOk result (keeps self.old source.old self.new source.new) };
-
-    /// No level is below the void.
-    ghost levels_fit: { (s : Self) (n : ℕ) (summaries : List Summary) (x y : ℕ) (level : ℤ) → fits s n summaries → IsPlacedLink n summaries x y level → void ≤ℤ level };
-
-    /// A link to a rim point leads back too, at the same level.
-    ghost links_turn: { (s : Self) (n : ℕ) (summaries : List Summary) (x y : ℕ) (level : ℤ) → fits s n summaries → 0 < y → IsPlacedLink n summaries x y level → IsPlacedLink n summaries y x level };
 
     /// To do nothing keeps it.
     ghost keeps_itself: { (s : Self) (a : S) → keeps s a s a };

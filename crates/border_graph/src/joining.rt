@@ -1,16 +1,15 @@
 //! From the summaries of all tiles to the filled levels on their rims.
-ghost use Rattle.std.specs.Prelude.{ℕ, IsTrue, IsFalse, ◌↔◌, ◌≡◌, ◌+◌, ◌*◌, ◌-◌, ◌<◌, ◌≤◌, ◌⊎◌, IfOk, IfErr, IfSome, IfNone, length, map};
-ghost use Rattle.lattice.specs.Limits.{IsSide};
+ghost use Rattle.std.specs.Prelude.{◌≡◌, ◌<◌, ◌≤◌, ◌⊎◌, IfOk, IfErr, IfSome, IfNone, OnOk, length, map};
 ghost use Rattle.lattice.specs.Mosaic.{Mosaic, IsMosaic};
 ghost use Rattle.lattice.specs.declared.refusal.Refusal.TheVariants.{NoMemory, Damaged};
 ghost use Rattle.border_graph.specs.Joining.{AreSummaries, summary_at};
-ghost use Rattle.border_graph.specs.Joins.{IsSideOf, HaveNoSide, CannotBeJoined, AreLevelled, IsUnlevelled, AreJoined, IsPart, AreParts};
+ghost use Rattle.border_graph.specs.Joins.{IsSideOf, HaveNoSide, CannotBeJoined, AreLevelled, AreJoined};
+ghost use Rattle.border_graph.specs.MosaicGraph.{IsRimAt, AreRimsAt, IsCutOff};
 
-use crate::linking::{ground_rim_point, links_between, node_number};
-use crate::rising::rise;
+use crate::mosaic_graph::MosaicGraph;
 use crate::summary::Summary;
-use lattice::{Refusal, Side, VOID};
-use std::alloc::{AllocError, Global};
+use lattice::{Refusal, Side, push};
+use std::alloc::Global;
 
 /// The filled level of each rim point of each tile, in metres, by rim number, -32768 where it is void: where the
 /// summaries are those of valid labellings of the present tiles, in the order of tiles, one each.
@@ -29,90 +28,46 @@ pub fn join(alloc: Global, summaries: &[Summary]) -> Result<Vec<Vec<i16>>, Refus
     let Some(side) = side_of(summaries) else {
         return Err(Refusal::Damaged);
     };
-    let links = links_between(alloc, side, summaries)?;
-    let levels = rise(alloc, &links)?;
-    if !are_levelled(side.samples() as usize, summaries, &levels) {
-        return Err(Refusal::Damaged);
-    }
-    let size = 4 * side.edge() as usize;
-    let joined = rims_of(alloc, &levels, size, summaries.len())?;
+    let mut graph = MosaicGraph::new(alloc, side, summaries)?;
+    let joined = rims_of(alloc, &mut graph, summaries.len())?;
     Ok(joined)
 }
 
-// Whether each ground rim point has a level.
-fn are_levelled(n: usize, summaries: &[Summary], levels: &[i16]) -> bool
-    requires side { IsSide n }
-    requires room { length levels.now ≡ 1 + length summaries.now * (4 * (n - 1)) }
-    ensures all { IsTrue result → (t k : ℕ) → IsUnlevelled n summaries.now levels.now t k → ⊥ }
-    ensures some { IsFalse result → (t : ℕ) × (k : ℕ) × IsUnlevelled n summaries.now levels.now t k }
-{
-    for t in 0..summaries.len() {
-        if !is_levelled(n, summaries, levels, t) {
-            return false;
-        }
-    }
-    true
-}
-
-// Whether each ground rim point of a tile has a level.
-fn is_levelled(n: usize, summaries: &[Summary], levels: &[i16], t: usize) -> bool
-    requires side { IsSide n }
-    requires room { length levels.now ≡ 1 + length summaries.now * (4 * (n - 1)) }
-    requires t { t < length summaries.now }
-    ensures all { IsTrue result → (k : ℕ) → IsUnlevelled n summaries.now levels.now t k → ⊥ }
-    ensures some { IsFalse result → (k : ℕ) × IsUnlevelled n summaries.now levels.now t k }
-{
-    for k in 0..4 * (n - 1) {
-        if is_unlevelled(n, summaries, levels, t, k) {
-            return false;
-        }
-    }
-    true
-}
-
-// Whether this is a ground rim point without a level.
-fn is_unlevelled(n: usize, summaries: &[Summary], levels: &[i16], t: usize, k: usize) -> bool
-    requires side { IsSide n }
-    requires room { length levels.now ≡ 1 + length summaries.now * (4 * (n - 1)) }
-    requires t { t < length summaries.now }
-    requires k { k < 4 * (n - 1) }
-    ensures { IsTrue result ↔ IsUnlevelled n summaries.now levels.now t k }
-{
-    let number = node_number(n, levels.len(), t, k);
-    ground_rim_point(n, summaries, t, k).is_some() && levels[number] == VOID
-}
-
-// The levels of the rim points of so many tiles, from those of all nodes.
-fn rims_of(
-    alloc: Global,
-    levels: &[i16],
-    size: usize,
-    tiles: usize,
-) -> Result<Vec<Vec<i16>>, AllocError>
-    requires room { length levels.now ≡ 1 + tiles * size }
+// The levels of the rims of the first tiles.
+fn rims_of(alloc: Global, graph: &mut MosaicGraph, tiles: usize) -> Result<Vec<Vec<i16>>, Refusal>
+    requires places { tiles ≤ length graph.old.summaries }
     ensures whole { IfOk result (λ rims. length rims.items ≡ tiles) }
-    ensures each { IfOk result (λ rims. AreParts levels.now size (map (λ v. v.items) rims.items) tiles) }
+    ensures rims { IfOk result (λ rims. AreRimsAt graph.old (map (λ v. v.items) rims.items) tiles) }
+    ensures refusal { IfErr result (λ r. (r ≡ NoMemory) ⊎ ((r ≡ Damaged) × IsCutOff graph.old)) }
 {
-    let mut rims = Vec::with_capacity(alloc, tiles)?;
+    let mut rims = Vec::new(alloc);
     for t in 0..tiles {
-        rims.push(rim_of(alloc, levels, size, t)?)?;
+        let rim = rim_of(alloc, graph, t)?;
+        push(&mut rims, rim)?;
     }
     Ok(rims)
 }
 
-// The levels of a tile's rim points, from those of all nodes.
-fn rim_of(alloc: Global, levels: &[i16], size: usize, t: usize) -> Result<Vec<i16>, AllocError>
-    requires room { 1 + t * size + size ≤ length levels.now }
-    ensures { IfOk result (λ rim. IsPart levels.now size t rim.items) }
+// The levels of a tile's rim.
+fn rim_of(alloc: Global, graph: &mut MosaicGraph, t: usize) -> Result<Vec<i16>, Refusal>
+    requires place { t < length graph.old.summaries }
+    ensures same { OnOk result (graph.new ≡ graph.old) }
+    ensures rim { IfOk result (λ rim. IsRimAt graph.old t rim.items) }
+    ensures refusal { IfErr result (λ r. (r ≡ NoMemory) ⊎ ((r ≡ Damaged) × IsCutOff graph.old)) }
 {
-    let first = 1 + t * size;
-    Vec::from_slice(alloc, &levels[first..first + size])
+    let mut rim = Vec::new(alloc);
+    for k in 0..graph.side().rim() {
+        let level = graph.rim_level(alloc, t, k)?;
+        push(&mut rim, level)?;
+    }
+    Ok(rim)
 }
 
 // The side that all tiles have, from the number of their rim points.
 fn side_of(summaries: &[Summary]) -> Option<Side>
     requires some { 0 < length summaries.now }
     ensures some { IfSome result (λ side. IsSideOf side summaries.now) }
+    ensures low { IfSome result (λ side. 3 ≤ side) }
     ensures none { IfNone result (HaveNoSide summaries.now) }
 {
     let size = rim_points(summaries, 0);

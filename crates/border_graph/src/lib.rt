@@ -1,10 +1,10 @@
 //! Joins the tiles of a mosaic at their rims.
 //!
-//! The layers above rest on this: from a summary of each tile's labelling, `join` gives the filled level of each ground
-//! point on the rim of a tile. `lowest_pass` gives that of one rim point, from a source of edges (`EdgeSource`) that is
-//! asked node by node: it asks only for tiles with a rim point that the point's water reaches at no more than that level.
-//! `TileGraph` and `edges_to_others` list the edges for such a source. `reduced` leaves of a summary's spills those that
-//! decide.
+//! The layers above rest on this: `lowest_pass` gives the filled level of a rim point, from a source of edges
+//! (`EdgeSource`) that is asked node by node: it asks only for tiles with a rim point that the point's water reaches at no
+//! more than that level. `join` asks it for each ground point on the rim of a tile, from a summary of each tile's labelling.
+//! `list_edges` lists the edges for such a source, of a tile's by its `TileGraph`. `reduced` leaves of a summary's spills
+//! those that decide.
 //!
 //! ```
 //! let levels = join(alloc, &summaries)?;                 // tile by tile, each by rim numbers
@@ -16,15 +16,12 @@ mod edge_source;
 mod forest;
 mod frontier;
 mod joining;
-mod link;
-mod linking;
 mod lowest_first;
+mod mosaic_graph;
 mod pass;
 mod reducing;
-mod rising;
 mod rows;
 mod seams;
-mod sharing;
 mod summary;
 mod tile_graph;
 mod union_find;
@@ -33,9 +30,7 @@ mod visited;
 pub use bottleneck::lowest_pass;
 pub use edge_source::{Edge, EdgeSource};
 pub use joining::join;
-pub use link::Link;
-pub use linking::links_between;
 pub use reducing::reduced;
-pub use seams::{edges_to_others, node_at, place_of};
+pub use seams::{list_edges, node_at, place_of};
 pub use summary::{RimPoint, Summary};
 pub use tile_graph::TileGraph;

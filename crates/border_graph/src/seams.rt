@@ -1,17 +1,55 @@
-//! The edges to the same point of other tiles, and the numbers of nodes.
-ghost use Rattle.std.specs.Prelude.{◌≡◌, ℕ, ◌+◌, ◌*◌, ◌-◌, ◌^◌, ◌<◌, ◌≤◌, ◌⊎◌, [], ◌∷◌, ◌++◌, IfErr, OnOk, IfSome, IfNone, length};
+//! The edges from a rim point in its tile and to the same point of other tiles, and the numbers of nodes.
+ghost use Rattle.std.specs.Prelude.{◌≡◌, ◌≢◌, ℕ, ◌+◌, ◌*◌, ◌-◌, ◌^◌, ◌<◌, ◌≤◌, ◌⊎◌, [], ◌∷◌, ◌++◌, IfErr, OnOk, IfSome, IfNone, length};
 ghost use Rattle.lattice.specs.declared.refusal.Refusal.TheVariants.{NoMemory, Damaged};
-ghost use Rattle.border_graph.specs.Others.{corner_at, AreTooMany, IsOtherTold, AreOthersTold};
+ghost use Rattle.border_graph.specs.Others.{corner_at, AreTooMany, IsOtherTold, AreOthersTold, AreTileEdges};
 
 use crate::Edge;
-use lattice::{Corner, Point, Refusal, Side, holders, index_in, rim_number};
+use crate::tile_graph::TileGraph;
+use lattice::{
+    Corner, Point, Refusal, Side, VOID, holders, index_in, point_at, rim_index, rim_number,
+};
 use std::alloc::AllocError;
 
-/// Lists the edges from a point of a tile to the same point of the others that hold it, at its height in metres. Tiles go
-/// by their place among the corners.
+/// Lists the edges from the rim point with this number in the tile with this place and graph. Tiles go by their place among
+/// the corners.
 ///
-/// Damaged where there are more rim points than numbers for them. Otherwise NoMemory is the only refusal.
-pub fn edges_to_others(
+/// Damaged where the graph has another side, and where there are more rim points than numbers for them. Otherwise NoMemory
+/// is the only refusal.
+pub fn list_edges(
+    side: Side,
+    corners: &[Corner],
+    graph: &TileGraph,
+    t: usize,
+    k: u32,
+    into: &mut Vec<Edge>,
+) -> Result<(), Refusal>
+    requires number { k < 4 * (side - 1) }
+    requires place { t < length corners.now }
+    ensures edges { OnOk result (AreTileEdges side corners.now graph.now t k into.old.items into.new.items) }
+    ensures refusal { IfErr result (λ r. (r ≡ NoMemory) ⊎ ((r ≡ Damaged) × ((graph.now.side ≢ side) ⊎ AreTooMany side corners.now))) }
+{
+    if graph.side() != side {
+        return Err(Refusal::Damaged);
+    }
+    let Some(last) = node_at(side, t, side.rim()) else {
+        return Err(Refusal::Damaged);
+    };
+    let first = last - 1 - side.rim();
+    graph.edges_out(k, into)?;
+    graph.edges_across(first, k, into)?;
+    let height = graph.height(k);
+    if height == VOID {
+        return Ok(());
+    }
+    let point = point_at(side, corners[t], rim_index(side, k));
+    edges_to_others(side, corners, t, point, height, into)?;
+    Ok(())
+}
+
+// Lists the edges from a point of a tile to the same point of the others that hold it, at its height in metres.
+//
+// Damaged where there are more rim points than numbers for them. Otherwise NoMemory is the only refusal.
+fn edges_to_others(
     side: Side,
     corners: &[Corner],
     t: usize,
@@ -95,4 +133,15 @@ pub fn node_at(side: Side, t: usize, k: u32) -> Option<u32>
     let before = (t as u32).checked_mul(size)?;
     let above = before.checked_add(k)?;
     above.checked_add(1)
+}
+
+/// The place of a node's tile, and the node's rim number in it.
+pub(crate) fn rim_point_at(side: Side, node: u32) -> (usize, u32)
+    requires { 0 < node }
+    ensures low { 3 ≤ side }
+    ensures number { result.1 < 4 * (side - 1) }
+    ensures node { node ≡ 1 + result.0 * (4 * (side - 1)) + result.1 }
+{
+    let size = side.rim();
+    (((node - 1) / size) as usize, (node - 1) % size)
 }

@@ -6,12 +6,8 @@ pub mod LevelFunctions
 pub mod Asked
 pub mod Followed
 pub mod LoadingTiles
-pub mod Lowest
-pub mod Turned
 pub mod Around
-pub mod OnRims
 pub mod Numbered
-pub mod Placed
 pub mod Whole
 pub mod Over
 pub mod Filled

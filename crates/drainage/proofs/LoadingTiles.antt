@@ -1,12 +1,10 @@
 -- What is known of tiles as they are loaded one after another.
-use Rattle.std.proofs.Common.{◌≡◌, ◌≢◌, ℕ, ◌+◌, ◌-◌, ◌<◌, inl, inr, ◌==◌, ℤ, true, false, not, true≢false, List, length, get_or, refl, sym, ap, ◌∙◌, subst, arith, SFits, w16, of_z, to_z}
+use Rattle.std.proofs.Common.{◌≡◌, ◌≢◌, ℕ, ◌-◌, ◌<◌, inl, inr, true, false, true≢false, List, length, get_or, refl, sym, ap, ◌∙◌, subst}
 use Rattle.std.specs.Prelude.{Option, Some, None, is_some, slice_set}
 use Rattle.std.proofs.lemmas.Bool.{cases_eq}
-use Rattle.std.proofs.lemmas.Bool.Decides.{eqb_tells}
-use Rattle.std.proofs.lemmas.Int.{to_z-of_z}
 use Rattle.std.proofs.lemmas.List.{get_or_default, get_or-set_other, get_or-set_same, length-set}
 use Rattle.lattice.specs.Corners.{Corner}
-use Rattle.lattice.specs.Mosaic.{Mosaic, void}
+use Rattle.lattice.specs.Mosaic.{Mosaic}
 use Rattle.catalogue.specs.declared.samples.Samples.{Ghosts}
 use Rattle.border_graph.specs.Summaries.{Summary}
 use Rattle.border_graph.specs.Joining.{Summarizes}
@@ -23,8 +21,6 @@ fits_before g a b side corners loaded side' corners' loaded' n summaries kept fi
   whole = fits.whole;
   same_side = fits.same_side ∙ kept.same_side;
   same_corners = fits.same_corners ∙ kept.same_corners;
-  low = fits.low;
-  turns = fits.turns;
   tells = λ t ways is. fits.tells t ways (kept.still t ways is);
 }
 
@@ -84,19 +80,6 @@ module _ (side : ℕ) (corners : List Corner) (loaded : List (Option TileGraph))
       | inr other ↦ r.summaries u w (sym (get_or-set_other loaded t u (Some ways) None other) ∙ is)
     ];
   }
-
--- numbers and heights as they were computed
-pub same_side : (a b : ℕ) → false ≡ not (a == b) → a ≡ b
-same_side a b h = elim (eqb_tells a b) [
-  | inl same ↦ same.1
-  | inr other ↦ absurd (true≢false (sym (h ∙ ap not other.0)))
-]
-
-pub first_is : (last a r r' s : ℕ) → last ≡ 1 + a + r → r ≡ s → r' ≡ s → (last - 1) - r' ≡ a
-first_is last a r r' s is at at' = omega arith
-
-pub is_gap : (h : ℤ) → SFits w16 h → of_z w16 h ≡ 32768 → h ≡ void
-is_gap h fits is = sym (to_z-of_z w16 h fits) ∙ ap (to_z w16) is
 
 -- no other place is loaded
 pub only_told : (loaded : List (Option TileGraph)) (t : ℕ) (ways : TileGraph) (u : ℕ) (w : TileGraph) → u ≢ t → loaded_at (slice_set loaded t (Some ways)) u ≡ Some w → loaded_at loaded u ≡ Some w

@@ -17,7 +17,7 @@ use Rattle.border_graph.specs.Placed.{IsPlacedLink}
 use Rattle.border_graph.specs.TileGraph.{TileGraph}
 use Rattle.drainage.specs.Holding.{IsRimLevel}
 use Rattle.drainage.specs.RimGraphs.{AreReady}
-use Rattle.drainage.proofs.Placed.{joined_over_links, placed_over_links, to_placed}
+use Rattle.border_graph.proofs.PlacedWays.{joined_over_links, placed_over_links, to_placed}
 use Rattle.drainage.proofs.Whole.{summaries, are_summaries, as_many, corner_of_summary}
 
 module _ (m : Mosaic) (is : IsMosaic m) (side : ℕ) (corners : List Corner) (loaded : List (Option TileGraph)) (ready : AreReady m side corners loaded)

@@ -8,15 +8,13 @@ use Rattle.lattice.specs.Corners.{Corner, is_corner}
 use Rattle.lattice.specs.Mosaic.{Mosaic, Tile, IsMosaic}
 use Rattle.catalogue.specs.Tiles.{corners_of}
 use Rattle.border_graph.specs.Summaries.{Summary}
-use Rattle.border_graph.specs.Joining.{Rim, summary_at, Summarizes, AreSummaries}
+use Rattle.border_graph.specs.Joining.{summary_at, Summarizes, AreSummaries}
 use Rattle.border_graph.proofs.Sufficing.{summarizes_all}
 use Rattle.border_graph.proofs.Tabulated.{tabulated, length-tabulated, at_number}
 use Rattle.border_graph.proofs.SummariesExist.{summary_exists}
 use Rattle.border_graph.specs.Others.{corner_at}
 use Rattle.border_graph.specs.TileGraph.{TileGraph}
 use Rattle.drainage.specs.RimGraphs.{loaded_at, Fits, AreReady}
-use Rattle.drainage.proofs.Lowest.{low_link}
-use Rattle.drainage.proofs.Turned.{placed_turned}
 use Rattle.drainage.proofs.LoadingTiles.{some_is, not_both}
 
 same_list : {X : Type 0} (d : X) (xs ys : List X) → length xs ≡ length ys → ((i : ℕ) → i < length xs → get_or xs i d ≡ get_or ys i d) → xs ≡ ys
@@ -108,8 +106,6 @@ module _ (m : Mosaic) (is : IsMosaic m) (side : ℕ) (corners : List Corner) (lo
     whole = refl;
     same_side = sym ready.same_side;
     same_corners = same_corners;
-    low = λ x y level link. low_link m is summaries are_summaries (Rim link.tile link.number) link.to level link.link;
-    turns = λ x y level some link. placed_turned m is summaries are_summaries x y level some link;
     tells = λ t ways at.
         let below = told_below t ways at in
         (ready.tiles.sides t ways at ∙ ready.same_side, at_place t (record { corner = record { lat = pos 0; lon = pos 0 }; rim = []; spills = [] }) below ∙ (pick_is t below).tells ways at);

@@ -1,18 +1,14 @@
 -- What is known of tiles, of which each is flooded once water comes to its rim (this product's own profile, after the
 -- tiled flooding of Barnes 2016).
-use Rattle.std.specs.Prelude.{◌≡◌, ◌≢◌, ℕ, ◌+◌, ◌-◌, ◌*◌, ◌^◌, ◌<◌, ℤ, ◌≤ℤ◌, List, Option, Some, None, length, map, slice_index_or}
+use Rattle.std.specs.Prelude.{◌≡◌, ℕ, ◌+◌, ◌-◌, ◌*◌, ◌^◌, ◌<◌, List, Option, Some, None, length, map, slice_index_or}
 use Rattle.lattice.specs.Corners.{Corner}
-use Rattle.lattice.specs.Lattice.{point_of}
-use Rattle.lattice.specs.Mosaic.{Mosaic, IsMosaic, void}
-use Rattle.lattice.specs.RimPoints.{IsRimPoint}
+use Rattle.lattice.specs.Mosaic.{Mosaic, IsMosaic}
 use Rattle.catalogue.specs.Tiles.{corners_of}
 use Rattle.catalogue.specs.declared.samples.Samples.{Ghosts}
 use Rattle.border_graph.specs.Summaries.{Summary}
-use Rattle.border_graph.specs.Joining.{summary_at, rim_point, Summarizes, AreSummaries}
-use Rattle.border_graph.specs.Placed.{IsPlacedLink}
-use Rattle.border_graph.specs.TileGraph.{TileGraph, AreEdgesOut, AreEdgesAcross}
-use Rattle.border_graph.specs.Others.{corner_at, AreOthersTold}
-use Rattle.border_graph.specs.declared.edge_source.Edge.{Edge}
+use Rattle.border_graph.specs.Joining.{summary_at, Summarizes, AreSummaries}
+use Rattle.border_graph.specs.TileGraph.{TileGraph}
+use Rattle.border_graph.specs.Others.{corner_at}
 
 -- what is loaded of the tile with this place
 abbrev pub loaded_at : List (Option TileGraph) → ℕ → Option TileGraph
@@ -26,21 +22,7 @@ pub record Fits (side : ℕ) (corners : List Corner) (loaded : List (Option Tile
   pub whole : n ≡ mosaic.side
   pub same_side : n ≡ side
   pub same_corners : map (λ b. b.corner) summaries ≡ corners
-  pub low : (x y : ℕ) (level : ℤ) → IsPlacedLink n summaries x y level → void ≤ℤ level
-  pub turns : (x y : ℕ) (level : ℤ) → 0 < y → IsPlacedLink n summaries x y level → IsPlacedLink n summaries y x level
   pub tells : (t : ℕ) (ways : TileGraph) → loaded_at loaded t ≡ Some ways → (ways.side ≡ n) × (summary_at summaries t ≡ ways.summary)
-
--- the ways from a rim point of a tile, listed one kind after another
-pub record AreTileEdges (n : ℕ) (corners : List Corner) (ways : TileGraph) (t k : ℕ) (old new : List Edge) : Type 0 where
-  pub side : ways.side ≡ n
-  pub first : List Edge
-  pub second : List Edge
-  pub out : AreEdgesOut n ways.summary k old first
-  pub across : AreEdgesAcross n ways.summary k (t * (4 * (n - 1))) first second
-  pub index : ℕ
-  pub rim : IsRimPoint n k index
-  pub nothing : (rim_point ways.summary k).height ≡ void → new ≡ second
-  pub others : (rim_point ways.summary k).height ≢ void → AreOthersTold n corners t (point_of n (corner_at corners t) index) (rim_point ways.summary k).height second new
 
 -- each tile that is loaded has this side, the corner of its place, and a summary of its corner's tile in the mosaic
 pub record AreLoaded (m : Mosaic) (side : ℕ) (corners : List Corner) (loaded : List (Option TileGraph)) : Type 0 where

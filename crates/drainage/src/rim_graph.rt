@@ -1,17 +1,17 @@
 //! The ways between rim points, of tiles whose labellings are asked once water comes to their rims.
-ghost use Rattle.std.specs.Prelude.{◌≡◌, ◌≢◌, ◌+◌, ◌-◌, ◌*◌, ◌<◌, ◌≤◌, ◌⊎◌, ◌↔◌, ℕ, IfOk, IfErr, OnOk, IfSome, IfNone, IsTrue, Ok, Some, None, false, length, slice_set};
+ghost use Rattle.std.specs.Prelude.{◌≡◌, ◌≢◌, ◌-◌, ◌*◌, ◌<◌, ◌≤◌, ◌⊎◌, ◌↔◌, ℕ, IfOk, IfErr, OnOk, IfSome, IfNone, Ok, Some, None, false, length, slice_set};
 ghost use Rattle.border_graph.specs.Joining.{IsSummaryOf};
 ghost use Rattle.lattice.specs.Mosaic.{Mosaic};
 ghost use Rattle.lattice.specs.declared.refusal.Refusal.TheVariants.{NoMemory, Damaged};
 ghost use Rattle.border_graph.specs.TileGraph.{TileGraph as TileGraphOf};
-ghost use Rattle.border_graph.specs.Others.{corner_at, AreTooMany};
+ghost use Rattle.border_graph.specs.Others.{corner_at, AreTooMany, AreTileEdges};
 ghost use Rattle.drainage.specs.Reaching.{is_reached};
-ghost use Rattle.drainage.specs.RimGraphs.{loaded_at, AreTileEdges, AreLoaded, AreReady};
+ghost use Rattle.drainage.specs.RimGraphs.{loaded_at, AreLoaded, AreReady};
 
 use crate::reaching::is_reached;
-use border_graph::{Edge, Summary, TileGraph, edges_to_others, node_at, reduced};
+use border_graph::{Edge, Summary, TileGraph, list_edges, reduced};
 use catalogue::Samples;
-use lattice::{Corner, Point, Refusal, Side, VOID, point_at, push, rim_index};
+use lattice::{Corner, Point, Refusal, Side, push};
 use std::alloc::Global;
 
 /// The corners of a mosaic's tiles, in order, and the ways of those tiles that water has come to.
@@ -115,36 +115,4 @@ impl RimGraph {
         list_edges(self.side, &self.corners, ways, t, k, into)?;
         Ok(())
     }
-}
-
-// Lists the ways from the rim point with this number in the tile with this place.
-fn list_edges(
-    side: Side,
-    corners: &[Corner],
-    ways: &TileGraph,
-    t: usize,
-    k: u32,
-    into: &mut Vec<Edge>,
-) -> Result<(), Refusal>
-    requires number { k < 4 * (side - 1) }
-    requires place { t < length corners.now }
-    ensures ways { OnOk result (AreTileEdges side corners.now ways.now t k into.old.items into.new.items) }
-    ensures refusal { IfErr result (λ r. (r ≡ NoMemory) ⊎ ((r ≡ Damaged) × ((ways.now.side ≢ side) ⊎ AreTooMany side corners.now))) }
-{
-    if ways.side() != side {
-        return Err(Refusal::Damaged);
-    }
-    let Some(last) = node_at(side, t, side.rim()) else {
-        return Err(Refusal::Damaged);
-    };
-    let first = last - 1 - side.rim();
-    ways.edges_out(k, into)?;
-    ways.edges_across(first, k, into)?;
-    let height = ways.height(k);
-    if height == VOID {
-        return Ok(());
-    }
-    let point = point_at(side, corners[t], rim_index(side, k));
-    edges_to_others(side, corners, t, point, height, into)?;
-    Ok(())
 }

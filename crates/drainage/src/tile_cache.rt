@@ -209,10 +209,6 @@ impl<S: Labellings> EdgeSource<S> for TileCache {
 
     ghost refuses = { λ s a s' b r. IsRefused S.Samples a b (known_of s) (known_of s') r };
 
-    ghost levels_fit = { λ s n summaries x y level agrees link. agrees.fits.low x y level link };
-
-    ghost links_turn = { λ s n summaries x y level agrees some link. agrees.fits.turns x y level some link };
-
     ghost keeps_itself = { λ s a. carried_itself _ S.keeps_itself a (known_of s) };
 
     ghost keeps_on = { λ s s' s'' a b c one two. carried_on _ S.keeps_on a b (known_of s) (known_of s') one c (known_of s'') two };

@@ -5,21 +5,23 @@ use Rattle.std.proofs.lemmas.Int.{to_z-of_z}
 use Rattle.std.proofs.lemmas.Result.{err_from_is_err_and}
 use Rattle.lattice.specs.Mosaic.{void}
 use Rattle.border_graph.specs.Links.{IsJoinedLevel}
-use Rattle.border_graph.specs.Joining.{Rim}
+use Rattle.border_graph.specs.Joining.{Rim, AreOfMosaic}
 use Rattle.border_graph.specs.Linking.{node_number}
-use Rattle.border_graph.specs.Edges.{AreEdges, IsReachedBelow}
+use Rattle.border_graph.specs.Edges.{AreAllEdges, IsReachedBelow}
 use Rattle.border_graph.specs.Placed.{IsPlacedLink}
 use Rattle.border_graph.specs.Heaps.{IsAdded}
 use Rattle.border_graph.specs.Frontier.{is_among, IsNext, NoneLeft}
 use Rattle.border_graph.specs.declared.edge_source.Edge.{Edge}
 use Rattle.border_graph.specs.Crests.{crest, LeadsOut}
-use Rattle.border_graph.proofs.RisingSteps.{way_up}
+use Rattle.border_graph.proofs.Onward.{way_up}
 use Rattle.border_graph.specs.declared.bottleneck.Settled.{Settled}
 use Rattle.border_graph.specs.Bottleneck.{IsEnd, IsExpanded, IsSettledBy, HasLevel}
 use Rattle.border_graph.proofs.Crested.{below_crest, least_crest}
 use Rattle.border_graph.proofs.Left.{fewer_left}
+use Rattle.border_graph.proofs.Lowest.{low_placed}
 use Rattle.border_graph.proofs.Next.{taken_now, taken_still, taken_other}
-use Rattle.border_graph.proofs.SearchSteps.{IsTwoWay, two_way, alike, alike_at, settled_by, rising_first, no_way, reached_below, ended, risen}
+use Rattle.border_graph.proofs.SearchSteps.{IsTwoWay, alike, alike_at, settled_by, rising_first, no_way, reached_below, ended, risen}
+use Rattle.border_graph.proofs.Turned.{two_way}
 use Rattle.border_graph.proofs.bottleneck.lowest_pass.Goals as goal
 
 none : {X : Type 0} (x : X) → Contains [] x → ⊥
@@ -31,31 +33,30 @@ rise-init g c = record {
   keeps = g.met.G.EdgeSource.keeps_itself c.args.graph.now c.args.source.now;
   told = λ n summaries fits t told. inl told;
   none = c.requires.empty;
-  settled = λ n summaries fits one has. absurd (none one (subst (λ (l : List Settled). Contains l one) c.new-settled.ensures.items has));
-  rising = λ n summaries fits. rising_first (IsPlacedLink n summaries) c.args.start (λ x y level. g.met.G.EdgeSource.levels_fit c.args.graph.now n summaries x y level fits) c.requires.start c.new-visited.result c.new-visited.ensures c.push.new.self (record { crest = void; level = void; node = c.args.start })
+  settled = λ n summaries fits of one has. absurd (none one (subst (λ (l : List Settled). Contains l one) c.new-settled.ensures.items has));
+  rising = λ n summaries fits. rising_first (IsPlacedLink n summaries) (AreOfMosaic n summaries) c.args.start (low_placed n summaries) c.requires.start c.new-visited.result c.new-visited.ensures c.push.new.self (record { crest = void; level = void; node = c.args.start })
       (subst (λ old. IsAdded old c.push.new.self (record { crest = void; level = void; node = c.args.start })) c.new-frontier.ensures c.in_ok-push.ensures.added) refl refl;
 }
 
 pub returns-in-Some-2-clause-joined : goal.returns-in-Some-2-clause-joined
-returns-in-Some-2-clause-joined g c n summaries fits =
+returns-in-Some-2-clause-joined g c n summaries fits of =
     let in_range : SFits w16 c.in-Some-2.level = search rules in
     let before = c.in_ok-level.ensures.fits n summaries fits in
     let next : IsNext c.rise.frontier c.rise.visited c.pop_unvisited.new.frontier c.pop_unvisited.new.visited c.in-Some.entry =
     subst (λ found. IfSome found (IsNext c.rise.frontier c.rise.visited c.pop_unvisited.new.frontier c.pop_unvisited.new.visited)) c.in-Some.is c.in_ok-entry.ensures.next in
     subst (λ v. IsJoinedLevel (IsPlacedLink n summaries) 0 c.args.start v) (sym (to_z-of_z w16 c.in-Some-2.level in_range))
-    (ended (IsPlacedLink n summaries) c.args.start c.rise.visited c.rise.frontier (c.rise.invariant.rising n summaries before) c.pop_unvisited.new.frontier c.pop_unvisited.new.visited c.in-Some.entry next
-    (two_way n summaries (λ x y level some link. g.met.G.EdgeSource.links_turn c.expand.new.graph n summaries x y level fits some link)) c.in-Some-2.level
-    (subst (λ found. IfSome found (IsEnd (IsPlacedLink n summaries) c.in-Some.entry)) c.in-Some-2.is (c.in_ok-level.ensures.ends n summaries fits)))
+    (ended (IsPlacedLink n summaries) (AreOfMosaic n summaries) c.args.start c.rise.visited c.rise.frontier (c.rise.invariant.rising n summaries before) c.pop_unvisited.new.frontier c.pop_unvisited.new.visited c.in-Some.entry next
+    of (two_way n summaries of) c.in-Some-2.level
+    (subst (λ found. IfSome found (IsEnd (IsPlacedLink n summaries) c.in-Some.entry)) c.in-Some-2.is (c.in_ok-level.ensures.ends n summaries fits of)))
 
 pub returns-in-Some-2-clause-level : goal.returns-in-Some-2-clause-level
-returns-in-Some-2-clause-level g c n summaries fits =
-    least_crest (IsPlacedLink n summaries) c.args.start (to_z w16 (of_z w16 c.in-Some-2.level)) (λ same. let some = c.requires.start in absurd (omega arith)) (returns-in-Some-2-clause-joined g c n summaries fits)
+returns-in-Some-2-clause-level g c n summaries fits of =
+    least_crest (IsPlacedLink n summaries) c.args.start (to_z w16 (of_z w16 c.in-Some-2.level)) (λ same. let some = c.requires.start in absurd (omega arith)) (returns-in-Some-2-clause-joined g c n summaries fits of)
 
 pub returns-in-Some-2-clause-alike : goal.returns-in-Some-2-clause-alike
-returns-in-Some-2-clause-alike g c n summaries fits x has =
+returns-in-Some-2-clause-alike g c n summaries fits of x has =
     let before = c.in_ok-level.ensures.fits n summaries fits in
-    let two = two_way n summaries (λ x y level some link. g.met.G.EdgeSource.links_turn c.expand.new.graph n summaries x y level fits some link) in
-    by (IsPlacedLink n summaries) two (to_z w16 (of_z w16 c.in-Some-2.level)) (returns-in-Some-2-clause-joined g c n summaries fits) (λ one held. c.rise.invariant.settled n summaries before one (subst (λ (l : List Settled). Contains l one) c.deref.ensures.value held))
+    by (IsPlacedLink n summaries) (two_way n summaries of) (to_z w16 (of_z w16 c.in-Some-2.level)) (returns-in-Some-2-clause-joined g c n summaries fits of) (λ one held. c.rise.invariant.settled n summaries before of one (subst (λ (l : List Settled). Contains l one) c.deref.ensures.value held))
     (c.in_ok-list_alike.ensures.only x has)
   where
     by : (L : ℕ → ℕ → ℤ → Type 0) → IsTwoWay L → (level : ℤ) → IsJoinedLevel L 0 c.args.start level
@@ -75,20 +76,20 @@ returns-in-Some-2-clause-alike g c n summaries fits x has =
         )
 
 pub returns-in-Some-2-clause-told : goal.returns-in-Some-2-clause-told
-returns-in-Some-2-clause-told g c n summaries fits t told =
+returns-in-Some-2-clause-told g c n summaries fits of t told =
     let in_range : SFits w16 c.in-Some-2.level = search rules in
     let before = c.in_ok-level.ensures.fits n summaries fits in
     let next : IsNext c.rise.frontier c.rise.visited c.pop_unvisited.new.frontier c.pop_unvisited.new.visited c.in-Some.entry =
     subst (λ found. IfSome found (IsNext c.rise.frontier c.rise.visited c.pop_unvisited.new.frontier c.pop_unvisited.new.visited)) c.in-Some.is c.in_ok-entry.ensures.next in
     let rising = c.rise.invariant.rising n summaries before in
-    let end : IsEnd (IsPlacedLink n summaries) c.in-Some.entry c.in-Some-2.level = subst (λ found. IfSome found (IsEnd (IsPlacedLink n summaries) c.in-Some.entry)) c.in-Some-2.is (c.in_ok-level.ensures.ends n summaries fits) in
+    let end : IsEnd (IsPlacedLink n summaries) c.in-Some.entry c.in-Some-2.level = subst (λ found. IfSome found (IsEnd (IsPlacedLink n summaries) c.in-Some.entry)) c.in-Some-2.is (c.in_ok-level.ensures.ends n summaries fits of) in
     let up : (y : ℕ) → IsReachedBelow (IsPlacedLink n summaries) c.args.start c.in-Some.entry.crest y → IsReachedBelow (IsPlacedLink n summaries) c.args.start (to_z w16 (of_z w16 c.in-Some-2.level)) y =
     λ y way. (way.0, way_up (IsPlacedLink n summaries) y c.in-Some.entry.crest (to_z w16 (of_z w16 c.in-Some-2.level)) (subst (λ v. c.in-Some.entry.crest ≤ℤ v) (sym (to_z-of_z w16 c.in-Some-2.level in_range)) end.high) c.args.start way.0 way.1) in
     elim (c.in_ok-level.ensures.told n summaries fits t told) [
-      | inr here ↦ inr (here.0, up (node_number n (Rim t here.0)) (subst (IsReachedBelow (IsPlacedLink n summaries) c.args.start c.in-Some.entry.crest) here.1 (rising.ways c.in-Some.entry next.waited)))
+      | inr here ↦ inr (here.0, up (node_number n (Rim t here.0)) (subst (IsReachedBelow (IsPlacedLink n summaries) c.args.start c.in-Some.entry.crest) here.1 (rising.ways of c.in-Some.entry next.waited)))
       | inl earlier ↦ elim (c.rise.invariant.told n summaries before t earlier) [
         | inl first ↦ inl first
-        | inr at ↦ inr (at.0, up (node_number n (Rim t at.0)) (reached_below (IsPlacedLink n summaries) c.args.start c.rise.visited c.rise.frontier rising c.pop_unvisited.new.frontier c.pop_unvisited.new.visited c.in-Some.entry next (node_number n (Rim t at.0)) at.1))
+        | inr at ↦ inr (at.0, up (node_number n (Rim t at.0)) (reached_below (IsPlacedLink n summaries) (AreOfMosaic n summaries) c.args.start c.rise.visited c.rise.frontier rising c.pop_unvisited.new.frontier c.pop_unvisited.new.visited c.in-Some.entry next of (node_number n (Rim t at.0)) at.1))
       ]
     ]
 
@@ -115,21 +116,21 @@ rise-preserved g c =
         ]
       ];
       none = c.rise.invariant.none;
-      settled = λ n summaries fits one has.
+      settled = λ n summaries fits of one has.
           let before = c.in_ok-level.ensures.fits n summaries fits in
-          let followed = subst (λ found. IfNone found (IsExpanded (IsPlacedLink n summaries) c.pop_unvisited.new.visited c.pop_unvisited.new.frontier c.expand.new.frontier c.in-Some.entry)) c.in_default-2.is (c.in_ok-level.ensures.followed n summaries fits) in
-          let listed = subst (λ found. IfNone found (AreEdges (IsPlacedLink n summaries) c.in-Some.entry.node c.expand.new.edges.items)) c.in_default-2.is (c.in_ok-level.ensures.listed n summaries fits) in
+          let followed = subst (λ found. IfNone found (IsExpanded (IsPlacedLink n summaries) (AreOfMosaic n summaries) c.pop_unvisited.new.visited c.pop_unvisited.new.frontier c.expand.new.frontier c.in-Some.entry)) c.in_default-2.is (c.in_ok-level.ensures.followed n summaries fits) in
+          let listed = subst (λ found. IfNone found (AreAllEdges (IsPlacedLink n summaries) c.in-Some.entry.node c.expand.new.edges.items)) c.in_default-2.is (c.in_ok-level.ensures.listed n summaries fits) in
           let last = c.in_ok-settle.ensures.1.1 in
           elim (Contains-push_cases c.rise.settled.items c.in_ok-settle.ensures.0 one (subst (λ (l : List Settled). Contains l one) c.in_ok-settle.ensures.1.0 has)) [
-            | inl earlier ↦ c.rise.invariant.settled n summaries before one earlier
+            | inl earlier ↦ c.rise.invariant.settled n summaries before of one earlier
             | inr here ↦ subst (λ (s : Settled). (0 < s.node) × (IsReachedBelow (IsPlacedLink n summaries) c.args.start s.crest s.node × (IsTrue s.has_no_lower → (y : ℕ) (level : ℤ) → IsPlacedLink n summaries s.node y level → s.crest ≤ℤ level))) here
                 (settled_by (IsPlacedLink n summaries) c.args.start c.in-Some.entry c.expand.new.edges.items c.in_ok-settle.ensures.0 listed
-                (subst (λ (l : List Edge). IsSettledBy c.in-Some.entry l c.in_ok-settle.ensures.0) c.deref-in-Some.ensures.value last) followed.inner ((c.rise.invariant.rising n summaries before).ways c.in-Some.entry next.waited))
+                (subst (λ (l : List Edge). IsSettledBy c.in-Some.entry l c.in_ok-settle.ensures.0) c.deref-in-Some.ensures.value last) followed.inner ((c.rise.invariant.rising n summaries before).ways of c.in-Some.entry next.waited))
           ];
       rising = λ n summaries fits.
           let before = c.in_ok-level.ensures.fits n summaries fits in
-          risen (IsPlacedLink n summaries) c.args.start c.rise.visited c.rise.frontier (c.rise.invariant.rising n summaries before) c.pop_unvisited.new.frontier c.pop_unvisited.new.visited c.in-Some.entry next c.expand.new.frontier
-          (subst (λ found. IfNone found (IsExpanded (IsPlacedLink n summaries) c.pop_unvisited.new.visited c.pop_unvisited.new.frontier c.expand.new.frontier c.in-Some.entry)) c.in_default-2.is (c.in_ok-level.ensures.followed n summaries fits));
+          risen (IsPlacedLink n summaries) (AreOfMosaic n summaries) c.args.start c.rise.visited c.rise.frontier (c.rise.invariant.rising n summaries before) c.pop_unvisited.new.frontier c.pop_unvisited.new.visited c.in-Some.entry next c.expand.new.frontier
+          (subst (λ found. IfNone found (IsExpanded (IsPlacedLink n summaries) (AreOfMosaic n summaries) c.pop_unvisited.new.visited c.pop_unvisited.new.frontier c.expand.new.frontier c.in-Some.entry)) c.in_default-2.is (c.in_ok-level.ensures.followed n summaries fits));
     }
 
 pub returns-in_err-level-clause-refusal : goal.returns-in_err-level-clause-refusal
@@ -152,7 +153,7 @@ returns-in_err-settle-clause-refusal g c =
 
 pub returns-clause-not_joined : goal.returns-clause-not_joined
 returns-clause-not_joined g c n summaries fits =
-    no_way (IsPlacedLink n summaries) c.args.start c.rise.visited c.rise.frontier (c.rise.invariant.rising n summaries fits)
+    no_way (IsPlacedLink n summaries) (AreOfMosaic n summaries) c.args.start c.rise.visited c.rise.frontier (c.rise.invariant.rising n summaries fits)
     (subst (λ found. IfNone found (NoneLeft c.rise.frontier c.rise.visited)) c.in_default.is c.in_ok-entry.ensures.none)
 
 pub returns-clause-none : goal.returns-clause-none

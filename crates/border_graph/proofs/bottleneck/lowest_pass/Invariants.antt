@@ -1,6 +1,6 @@
 use Rattle.std.proofs.Common.{◌≡◌, ℕ, ℤ, List, [], ◌<◌, ◌≤ℤ◌, ◌^◌, ◌⊎◌, true, IsTrue, Contains}
 use Rattle.border_graph.specs.Summaries.{Summary}
-use Rattle.border_graph.specs.Joining.{Rim}
+use Rattle.border_graph.specs.Joining.{Rim, AreOfMosaic}
 use Rattle.border_graph.specs.Linking.{node_number}
 use Rattle.border_graph.specs.Edges.{IsReachedBelow}
 use Rattle.border_graph.specs.Placed.{IsPlacedLink}
@@ -16,8 +16,8 @@ invariant-rise g l = record {
   keeps : g.G.EdgeSource.keeps l.fn.graph l.fn.source l.graph l.source;
   told : (n : ℕ) (summaries : List Summary) → g.G.EdgeSource.fits l.graph n summaries → (t : ℕ) → g.G.EdgeSource.told l.graph t → g.G.EdgeSource.told l.fn.graph t ⊎ ((k : ℕ) × (is_among l.visited (node_number n (Rim t k)) ≡ true));
   none : l.alike.items ≡ [];
-  settled : (n : ℕ) (summaries : List Summary) → g.G.EdgeSource.fits l.graph n summaries → (one : Settled) → Contains l.settled.items one → (0 < one.node) × (IsReachedBelow (IsPlacedLink n summaries) l.start one.crest one.node × (IsTrue one.has_no_lower → (y : ℕ) (level : ℤ) → IsPlacedLink n summaries one.node y level → one.crest ≤ℤ level));
-  rising : (n : ℕ) (summaries : List Summary) → g.G.EdgeSource.fits l.graph n summaries → IsSearching (IsPlacedLink n summaries) l.start l.visited l.frontier;
+  settled : (n : ℕ) (summaries : List Summary) → g.G.EdgeSource.fits l.graph n summaries → AreOfMosaic n summaries → (one : Settled) → Contains l.settled.items one → (0 < one.node) × (IsReachedBelow (IsPlacedLink n summaries) l.start one.crest one.node × (IsTrue one.has_no_lower → (y : ℕ) (level : ℤ) → IsPlacedLink n summaries one.node y level → one.crest ≤ℤ level));
+  rising : (n : ℕ) (summaries : List Summary) → g.G.EdgeSource.fits l.graph n summaries → IsSearching (IsPlacedLink n summaries) l.start l.visited l.frontier (AreOfMosaic n summaries);
 }
 
 abbrev pub decreases-rise : goal.decreases-rise

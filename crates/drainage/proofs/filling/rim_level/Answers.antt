@@ -11,6 +11,7 @@ use Rattle.drainage.specs.Kept.{right_still}
 use Rattle.drainage.specs.TileCaches.{known_of}
 use Rattle.drainage.proofs.Growing.{known_by}
 use Rattle.drainage.proofs.Found.{right_more, right_all, reached_later, start_is, found, found_later, never}
+use Rattle.drainage.proofs.Numbered.{of_fits}
 use Rattle.drainage.proofs.Questioned.{answered, stopped}
 use Rattle.drainage.proofs.RimNodes.{node_there}
 use Rattle.drainage.proofs.filling.rim_level.Goals as goal
@@ -63,7 +64,7 @@ returns-clause-level g c honest =
     subst (IsRimLevel m w.corners (node_number m.side (Rim c.args.t c.args.number))) (sym (to_z-of_z w16 c.in-Some-2.level in_range))
     (found g.S.Samples a d (g.met.S.Samples.is_mosaic a before) w (known_of c.lowest_pass.new.graph) carried.grown honest (c.requires.right before) c.args.t c.args.number c.requires.place (c.requires.there before) c.in-Some.start
     (c.in-Some.ensures.some ∙ ap (λ k. 1 + c.args.t * (4 * (w.side - 1)) + k) c.from.ensures) c.in-Some-2.level
-    (λ n all agrees. subst (λ found. IfSome found (IsJoinedLevel (IsPlacedLink n all) 0 c.in-Some.start)) c.in-Some-2.is (c.in_ok-level.ensures.joined n all agrees)))
+    (λ n all agrees. subst (λ found. IfSome found (IsJoinedLevel (IsPlacedLink n all) 0 c.in-Some.start)) c.in-Some-2.is (c.in_ok-level.ensures.joined n all agrees (of_fits agrees.fits))))
 
 -- the levels that are known then, whether or not there was the memory for all of them
 module _ (g : _) (c : After-know_all g) where
@@ -83,12 +84,12 @@ module _ (g : _) (c : After-know_all g) where
       (λ x. subst (λ (v : ℤ). level_of c.know.new.self x ≡ cond (c.in-Some.start == x) (Some v) (level_of known.levels x)) same (c.in_ok-know.ensures.known x))
       (found_later g.S.Samples a d (g.met.S.Samples.is_mosaic a before) w known carried.grown honest (c.requires.right before) c.args.t c.args.number c.requires.place (c.requires.there before) c.in-Some.start
       (c.in-Some.ensures.some ∙ ap (λ k. 1 + c.args.t * (4 * (w.side - 1)) + k) c.from.ensures) c.in-Some-2.level
-      (λ n all agrees. subst (λ found. IfSome found (IsJoinedLevel (IsPlacedLink n all) 0 c.in-Some.start)) c.in-Some-2.is (c.in_ok-level.ensures.joined n all agrees)))
+      (λ n all agrees. subst (λ found. IfSome found (IsJoinedLevel (IsPlacedLink n all) 0 c.in-Some.start)) c.in-Some-2.is (c.in_ok-level.ensures.joined n all agrees (of_fits agrees.fits))))
       (right_still g.S.Samples a d w known carried.grown honest (c.requires.right before)) in
       right_all (g.S.Samples.mosaic d) (record { side = known.side; corners = known.corners; loaded = known.loaded; labellings = known.labellings; levels = c.know.new.self }) c.know_all.new.self c.deref.result.now c.in-Some-2.level
       (λ x found is. subst (λ (v : ℤ). (level_of c.know.new.self x ≡ Some found) ⊎ (Contains c.deref.result.now x × (found ≡ v))) same (c.know_all.ensures.only x found is))
       (λ x has. reached_later g.S.Samples a d (g.met.S.Samples.is_mosaic a before) w known carried.grown honest (c.requires.right before) x c.in-Some-2.level
-      (λ n all agrees. subst (λ found. IfSome found (λ level. (y : ℕ) → Contains c.lowest_pass.new.alike.items y → (0 < y) × IsJoinedLevel (IsPlacedLink n all) 0 y level)) c.in-Some-2.is (c.in_ok-level.ensures.alike n all agrees) x
+      (λ n all agrees. subst (λ found. IfSome found (λ level. (y : ℕ) → Contains c.lowest_pass.new.alike.items y → (0 < y) × IsJoinedLevel (IsPlacedLink n all) 0 y level)) c.in-Some-2.is (c.in_ok-level.ensures.alike n all agrees (of_fits agrees.fits)) x
       (subst (λ (l : List ℕ). Contains l x) c.deref.ensures.value has)))
       started
 

@@ -5,16 +5,16 @@ use Rattle.drainage.specs.Holding.{IsRefused}
 use Rattle.drainage.specs.TileCaches.{known_of}
 use Rattle.drainage.proofs.Growing.{agrees_before}
 use Rattle.drainage.proofs.Questioned.{own_refused}
-use Rattle.drainage.proofs.Numbered.{no_ways, told_ways, told_of}
+use Rattle.drainage.proofs.Numbered.{of_fits, no_ways, told_ways, told_of}
 use Rattle.drainage.proofs.tile_cache.TileCacheEdgeSource.edges_from.Goals as goal
 
 pub returns-in_default-corner-clause-answer : goal.returns-in_default-corner-clause-answer
-returns-in_default-corner-clause-answer g c n summaries agrees =
+returns-in_default-corner-clause-answer g c n summaries agrees _ =
     no_ways c.args.self.now.rim_graph.side c.args.self.now.rim_graph.corners.items c.args.self.now.rim_graph.loaded.items n summaries agrees.fits c.args.node c.rim.result c.rim-2.result c.requires.node
     c.rim.ensures.low c.rim.ensures.value c.rim-2.ensures.value c.in_default-corner.ensures.none c.args.into.now.items c.requires.empty
 
 pub returns-clause-answer : goal.returns-clause-answer
-returns-clause-answer g c n summaries agrees =
+returns-clause-answer g c n summaries agrees _ =
     let loaded = c.in_ok-load_tile.ensures.loaded in
     let at = c.in-Some-corner.ensures.some in
     let kept = c.in_ok-load_tile.ensures.grown.kept in
@@ -22,6 +22,12 @@ returns-clause-answer g c n summaries agrees =
     told_ways c.load_tile.new.self.rim_graph.side c.load_tile.new.self.rim_graph.corners.items c.load_tile.new.self.rim_graph.loaded.items n summaries agrees.fits c.args.node c.rim.result c.rim-2.result c.requires.node
     (subst (λ s. 3 ≤ s) same c.rim.ensures.low) (c.rim.ensures.value ∙ ap (λ s. 4 * (s - 1)) same) (c.rim-2.ensures.value ∙ ap (λ s. 4 * (s - 1)) same)
     loaded.0 loaded.1 (subst (λ (cs : List Corner). (c.args.node - 1) / c.rim.result < length cs) (sym kept.same_corners) at.0) c.args.into.now.items c.list.new.into.items c.requires.empty (c.in_ok-list.ensures.ways loaded.0 loaded.1)
+
+pub returns-in_default-corner-clause-all : goal.returns-in_default-corner-clause-all
+returns-in_default-corner-clause-all g c n summaries agrees = (returns-in_default-corner-clause-answer g c n summaries agrees (of_fits agrees.fits)).all
+
+pub returns-clause-all : goal.returns-clause-all
+returns-clause-all g c n summaries agrees = (returns-clause-answer g c n summaries agrees (of_fits agrees.fits)).all
 
 pub returns-in_err-load_tile-clause-told : goal.returns-in_err-load_tile-clause-told
 returns-in_err-load_tile-clause-told g c n summaries agrees =

@@ -1,8 +1,0 @@
-use Rattle.std.proofs.Common.{ℕ, ◌≡◌, ◌+◌, ◌*◌, [], map, length, get_or}
-use Rattle.border_graph.proofs.linking.no_links.Given as goal
-
-abbrev pub invariant-loop : goal.invariant-loop
-invariant-loop l = record {
-  whole : length l.links.items ≡ 1 + l.counter * l.size;
-  none : (y : ℕ) → get_or (map (λ v. v.items) l.links.items) y [] ≡ [];
-}
