@@ -18,6 +18,10 @@ AreResolved tiles seed flows new_flows = (n k e : ℕ) → Connects flows (by_of
 abbrev pub IsUnknownBeside : Tiles → List Flow → ℕ → Point → Type 0
 IsUnknownBeside tiles flows k q = (d : Dir) × ((q ≡ step d (place_of tiles k)) × (slice_index_or flows (by_of tiles k d) Unknown ≡ Unknown))
 
+-- .. and the sample lies inside a flat
+abbrev pub IsMissing : Tiles → List Flow → Point → Type 0
+IsMissing tiles flows q = (k : ℕ) × (IsOfFlat (slice_index_or flows k Unknown) × IsUnknownBeside tiles flows k q)
+
 -- a step from the seed's flat leads to the point, of which nothing is known: no tile holds it, or nothing is told at its first sample
 pub record IsMet (tiles : Tiles) (flows : List Flow) (seed : ℕ) (q : Point) : Type 0 where
   pub beside : (n : ℕ) × (k : ℕ) × (d : Dir) × (Connects flows (by_of tiles) seed n k × (IsOfFlat (slice_index_or flows k Unknown) × (q ≡ step d (place_of tiles k))))

@@ -151,7 +151,8 @@ fn add(
     Ok(())
 }
 
-fn point_beside(tiles: &Tiles, k: usize, direction: Dir) -> Point
+/// The point one step from the sample.
+pub(crate) fn point_beside(tiles: &Tiles, k: usize, direction: Dir) -> Point
     requires { k < count_of tiles.now }
     ensures { result ≡ step direction (place_of tiles.now k) }
 {

@@ -1,5 +1,6 @@
 //! A flow in one byte.
-ghost use Rattle.std.specs.Prelude.{◌≡◌};
+ghost use Rattle.std.specs.Prelude.{◌≡◌, ◌↔◌, IsTrue};
+ghost use Rattle.flow_d8.specs.declared.flow.Flow.TheVariants.{Flat};
 
 use crate::flow::Flow;
 use lattice::Dir;
@@ -85,5 +86,13 @@ impl FlowByte {
         ensures { result ≡ self }
     {
         FLOWS[self.byte as usize]
+    }
+
+    /// Whether it is that of a flat, told without a look at the others.
+    #[inline(always)]
+    pub(crate) fn is_flat(self) -> bool
+        ensures { IsTrue result ↔ (self ≡ Flat) }
+    {
+        self.byte == 3
     }
 }

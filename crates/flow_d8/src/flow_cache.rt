@@ -12,6 +12,7 @@ ghost use Rattle.flow_d8.specs.FlowsAround.{AreTellingAround};
 ghost use Rattle.flow_d8.specs.Slots.{slot_ranges};
 ghost use Rattle.flow_d8.specs.Tiles.{AreTiles, place_of, no_corner, OnGround};
 
+use crate::flat_search::FlatSearch;
 use crate::flow::Flow;
 use crate::flow_byte::FlowByte;
 use crate::grid::FlowGrid;
@@ -173,6 +174,13 @@ impl FlowCache {
             → (j : ℕ) → CrossesFlat t level point j → Drains (flow_of self.new.grid.tiles self.new.grid.flows.items point)))) }
     {
         self.grid.resolve(point)
+    }
+
+    /// Goes on with a search over a flat, as `FlowGrid` does.
+    pub fn search(&self, search: &mut FlatSearch, from: Point) -> Result<Option<Point>, AllocError>
+        ensures met { IfOk result (λ met. IfSome met (λ p. (IsAtHand self.now.grid.tiles p → ⊥) × OnGround self.now.grid.tiles self.now.grid.flows.items (λ t level. IsTrue (t.is_ground p)))) }
+    {
+        self.grid.search(search, from)
     }
 
     /// The corner's tile comes to hand, with the ranges of its levels and those around it.

@@ -14,6 +14,7 @@ ghost use Rattle.flow_d8.specs.FlowGrids.{AreKnown, AreFlowsIn, AreMoved, AreTol
 ghost use Rattle.flow_d8.specs.FlowsAround.{AreTellingAround};
 
 use crate::around::flows_around;
+use crate::flat_search::{FlatSearch, search_flat};
 use crate::flow::Flow;
 use crate::flow_byte::FlowByte;
 use crate::marks::Marks;
@@ -167,6 +168,14 @@ impl FlowGrid {
         resolve_known(&mut self.flows, &self.tiles, &mut self.marks, point)
     }
 
+    /// Goes on with a search over a flat, from the point too, to a point that the flat reaches: no tile at hand holds it. None where
+    /// it found none; whether there is one `resolve` tells.
+    pub fn search(&self, search: &mut FlatSearch, from: Point) -> Result<Option<Point>, AllocError>
+        ensures met { IfOk result (λ met. IfSome met (λ p. (IsAtHand self.now.tiles p → ⊥) × OnGround self.now.tiles self.now.flows.items (λ t level. IsTrue (t.is_ground p)))) }
+    {
+        search_known(&self.flows, &self.tiles, search, from)
+    }
+
     /// Resolves each flat, so that each sample tells where its point drains. Whether that could be done: not where this is the
     /// grid of no ground whose points are all at hand.
     pub fn resolve_all(&mut self) -> Result<bool, AllocError>
@@ -276,6 +285,24 @@ fn resolve_known(
     match resolve(flows, tiles, marks, point)? {
         Resolution::Meets(met) => Ok(Some(met)),
         Resolution::Resolved | Resolution::NotFlat => Ok(None),
+    }
+}
+
+// Goes on with the search to a point that no tile at hand holds.
+fn search_known(
+    flows: &[FlowByte],
+    tiles: &Tiles,
+    search: &mut FlatSearch,
+    from: Point,
+) -> Result<Option<Point>, AllocError>
+    requires whole { length flows.now ≡ count_of tiles.now }
+    requires known { AreKnown flows.now }
+    ensures met { IfOk result (λ met. IfSome met (λ p. (IsAtHand tiles.now p → ⊥) × OnGround tiles.now flows.now (λ t level. IsTrue (t.is_ground p)))) }
+{
+    let _valid = tiles.tiles();
+    match search_flat(flows, tiles, search, from)? {
+        Some(met) => Ok(Some(met)),
+        None => Ok(None),
     }
 }
 

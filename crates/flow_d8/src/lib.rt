@@ -22,6 +22,7 @@ mod collecting;
 mod directions;
 mod division;
 mod filled;
+mod flat_search;
 mod flow;
 mod flow_byte;
 mod flow_cache;
@@ -43,6 +44,7 @@ mod tiles;
 
 pub use directions::Directions;
 pub use filled::Filled;
+pub use flat_search::FlatSearch;
 pub use flow::Flow;
 pub use flow_byte::FlowByte;
 pub use flow_cache::FlowCache;

@@ -99,7 +99,7 @@ fn is_flat(flows: &[FlowByte], k: usize) -> bool
     requires { k < length flows.now }
     ensures { IsTrue result ↔ (flow_in flows.now k ≡ Flat) }
 {
-    matches!(flows[k].flow(), Flow::Flat)
+    flows[k].is_flat()
 }
 
 // The place of the point, in the tile or one around it.
@@ -262,6 +262,9 @@ fn leads_to_end(levels: &[i16], around: &[FlowByte], k: usize, to: usize) -> boo
     requires around { length around.now ≡ length levels.now }
     ensures { IsTrue result ↔ ((slice_index_or levels.now to void ≡ slice_index_or levels.now k void) × IsEnd (flow_in around.now to)) }
 {
+    if is_flat(around, to) {
+        return false;
+    }
     is_end(around[to].flow()) && levels[to] == levels[k]
 }
 

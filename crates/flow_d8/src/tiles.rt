@@ -174,6 +174,13 @@ impl Tiles {
             && place.remainder + 3 <= n
     }
 
+    /// The first sample of its tile's row.
+    pub(crate) fn row_start(&self, k: usize) -> usize {
+        let side = self.side();
+        let index = divide(k, side.area(), self.per_tile).remainder;
+        k.saturating_sub(divide(index, side.samples(), self.per_row).remainder)
+    }
+
     /// The first sample of the point one step away; past all samples where no tile holds it. By an addition where the sample is
     /// said to lie deep in its tile.
     #[inline(always)]
