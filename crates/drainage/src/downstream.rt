@@ -15,7 +15,7 @@ use crate::drainage_cache::DrainageCache;
 use crate::levels_near::near_levels;
 use crate::preparing::prepare;
 use catalogue::is_sink;
-use flow_d8::{Flow, FlowCache, flow_near};
+use flow_d8::{FlatSearch, Flow, FlowCache, flow_near};
 use lattice::{Point, Refusal};
 use std::alloc::Global;
 use tile_labellings::Labellings;
@@ -126,10 +126,6 @@ fn prepared_flow<S: Labellings>(
     have_tile(alloc, samples, held, flows, point)?;
     'tiles: while let Some(met) = flows.resolve(point)? {
         have_flat(alloc, samples, held, flows, met)?;
-        let resolved = flows.known(point);
-        if resolved.drains() {
-            return Ok(resolved);
-        }
     }
     let flow = flows.known(point);
     if !flow.drains() {
@@ -138,8 +134,8 @@ fn prepared_flow<S: Labellings>(
     Ok(flow)
 }
 
-// A tile that holds the ground point is at hand from then on, and those over which its flat goes from there. Each search begins
-// at the point that the last one met, so it ends near there, and goes over the whole flat once no tile of it is missing.
+// A tile that holds the ground point is at hand from then on, and those over which its flat goes: one search over the flat, that
+// goes on in each tile that comes to hand.
 fn have_flat<S: Labellings>(
     alloc: Global,
     samples: &mut S,
@@ -160,8 +156,9 @@ fn have_flat<S: Labellings>(
     ensures asked { Asked S.Samples samples.old samples.new result }
 {
     have_tile(alloc, samples, held, flows, point)?;
+    let mut search = FlatSearch::new(alloc);
     let mut last = point;
-    'tiles: while let Some(met) = flows.resolve(last)? {
+    'tiles: while let Some(met) = flows.search(&mut search, last)? {
         have_tile(alloc, samples, held, flows, met)?;
         last = met;
     }

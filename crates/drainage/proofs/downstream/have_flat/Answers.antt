@@ -1,19 +1,13 @@
-use Rattle.std.proofs.Common.{IsTrue, Ok, Option, length, sym, ap, ◌∙◌, subst, arith}
-use Rattle.std.specs.Prelude.{IfSome, ℕ, ◌≡◌, ◌<◌}
+use Rattle.std.proofs.Common.{IsTrue, Ok, Option, length, subst, arith}
+use Rattle.std.specs.Prelude.{IfSome, ◌<◌}
 use Rattle.std.proofs.lemmas.Result.{err_from_is_err_and}
-use Rattle.lattice.specs.declared.point.Point.{Point}
 use Rattle.catalogue.proofs.Reading.{reads_on}
+use Rattle.lattice.specs.declared.point.Point.{Point}
 use Rattle.flow_d8.specs.FlowGrids.{IsAtHand}
-use Rattle.flow_d8.specs.Tiles.{Tiles, OnGround}
-use Rattle.flow_d8.proofs.FlowCaches.{cache_resolved}
+use Rattle.flow_d8.specs.Tiles.{OnGround}
 use Rattle.drainage.proofs.Questioned.{refused_after, asked_reads}
 use Rattle.drainage.proofs.GroundAtHand.{met_ground}
 use Rattle.drainage.proofs.downstream.have_flat.Goals as goal
-
-pub returns-in_err-met-clause-right : goal.returns-in_err-met-clause-right
-returns-in_err-met-clause-right g c honest =
-    let b = c.tiles.samples in
-    cache_resolved (g.S.Samples.mosaic b) (g.met.S.Samples.is_mosaic b honest) c.tiles.flows c.resolve.new.self c.resolve.ensures.tiles c.resolve.ensures.flows c.resolve.ensures.slots (c.tiles.invariant.right honest)
 
 pub have_tile-requires-in-Some-clause-ground : goal.have_tile-requires-in-Some-clause-ground
 have_tile-requires-in-Some-clause-ground g c honest =
@@ -22,27 +16,19 @@ have_tile-requires-in-Some-clause-ground g c honest =
     let said = subst (λ (o : Option Point). IfSome o (λ p. (IsAtHand old.tiles p → ⊥) × OnGround old.tiles old.flows.items (λ t level. IsTrue (t.is_ground p)))) c.in-Some.is c.in_ok-met.ensures.met in
     met_ground (g.S.Samples.mosaic b) (g.met.S.Samples.is_mosaic b honest) old.tiles old.flows.items c.in-Some.met (c.tiles.invariant.right honest).grid said.1
 
-pub have_tile-requires-in-Some-clause-right : goal.have_tile-requires-in-Some-clause-right
-have_tile-requires-in-Some-clause-right g c honest =
-    let b = c.tiles.samples in
-    cache_resolved (g.S.Samples.mosaic b) (g.met.S.Samples.is_mosaic b honest) c.tiles.flows c.resolve.new.self c.resolve.ensures.tiles c.resolve.ensures.flows c.resolve.ensures.slots (c.tiles.invariant.right honest)
-
 pub tiles-preserved : goal.tiles-preserved
 tiles-preserved g c =
     let e = c.in_ok-have_tile-2.ensures in
     let so = c.tiles.invariant in
     let old = c.tiles.flows.grid.tiles in
-    let mid = c.resolve.new.self.grid.tiles in
-    let same : mid ≡ old = c.resolve.ensures.tiles in
     let said = subst (λ (o : Option Point). IfSome o (λ p. (IsAtHand old p → ⊥) × OnGround old c.tiles.flows.grid.flows.items (λ t level. IsTrue (t.is_ground p)))) c.in-Some.is c.in_ok-met.ensures.met in
-    let grown : length mid.corners < length c.have_tile-in-Some.new.flows.grid.tiles.corners = e.more (λ at. said.0 (subst (λ (t : Tiles). IsAtHand t c.in-Some.met) same at)) in
-    let count : length mid.corners ≡ length old.corners = ap (λ (t : Tiles). length t.corners) same in
+    let grown : length old.corners < length c.have_tile-in-Some.new.flows.grid.tiles.corners = e.more said.0 in
     record {
       reads = reads_on g.S.Samples g.met.S.Samples.keeps_on c.args.samples.now c.tiles.samples c.have_tile-in-Some.new.samples tt (Ok tt) so.reads (asked_reads g.S.Samples c.tiles.samples c.have_tile-in-Some.new.samples _ e.asked);
       held = e.held;
       right = e.right;
-      kept = λ p at. e.kept p (subst (λ (t : Tiles). IsAtHand t p) (sym same) (so.kept p at));
-      more = λ apart. let before = so.more apart in omega (arith, before, count, grown);
+      kept = λ p at. e.kept p (so.kept p at);
+      more = λ apart. let before = so.more apart in omega (arith, before, grown);
       bounded = e.bounded;
     }
 
@@ -52,16 +38,5 @@ returns-in_err-have_tile-2-clause-asked g c =
     let p = err_from_is_err_and r.result r.ensures.1 in
     refused_after g.S.Samples g.met.S.Samples.keeps_on c.args.samples.now c.tiles.samples c.have_tile-in-Some.new.samples r.result p.0 c.in_err-have_tile-2.field-0.0 p.1 p.2 c.tiles.invariant.reads c.in_err-have_tile-2.ensures.asked
 
-pub returns-clause-right : goal.returns-clause-right
-returns-clause-right g c honest =
-    let b = c.tiles.samples in
-    cache_resolved (g.S.Samples.mosaic b) (g.met.S.Samples.is_mosaic b honest) c.tiles.flows c.resolve.new.self c.resolve.ensures.tiles c.resolve.ensures.flows c.resolve.ensures.slots (c.tiles.invariant.right honest)
-
-pub returns-in_err-met-clause-kept : goal.returns-in_err-met-clause-kept
-returns-in_err-met-clause-kept g c p at = subst (λ (t : Tiles). IsAtHand t p) (sym c.resolve.ensures.tiles) (c.tiles.invariant.kept p at)
-
 pub returns-in_err-have_tile-2-clause-kept : goal.returns-in_err-have_tile-2-clause-kept
-returns-in_err-have_tile-2-clause-kept g c p at = c.in_err-have_tile-2.ensures.kept p (subst (λ (t : Tiles). IsAtHand t p) (sym c.resolve.ensures.tiles) (c.tiles.invariant.kept p at))
-
-pub returns-clause-kept : goal.returns-clause-kept
-returns-clause-kept g c p at = subst (λ (t : Tiles). IsAtHand t p) (sym c.resolve.ensures.tiles) (c.tiles.invariant.kept p at)
+returns-in_err-have_tile-2-clause-kept g c = λ p at. c.in_err-have_tile-2.ensures.kept p (c.tiles.invariant.kept p at)

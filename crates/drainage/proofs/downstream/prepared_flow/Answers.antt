@@ -11,9 +11,8 @@ use Rattle.flow_d8.specs.Flows.{Drains, IsFlow}
 use Rattle.flow_d8.specs.FlowGrids.{IsAtHand, flow_of}
 use Rattle.flow_d8.specs.Tiles.{Tiles, OnGround}
 use Rattle.flow_d8.proofs.FlowCaches.{cache_resolved}
-use Rattle.drainage.proofs.Questioned.{refused_after}
+use Rattle.drainage.proofs.Questioned.{refused_after, asked_reads, stopped}
 use Rattle.drainage.proofs.GroundAtHand.{met_ground, settled}
-use Rattle.drainage.proofs.Questioned.{answered, asked_reads, stopped}
 use Rattle.drainage.proofs.downstream.prepared_flow.Goals as goal
 
 pub returns-in_err-met-clause-right : goal.returns-in_err-met-clause-right
@@ -51,21 +50,6 @@ returns-in_err-have_flat-clause-asked g c =
     let p = err_from_is_err_and r.result r.ensures.1 in
     refused_after g.S.Samples g.met.S.Samples.keeps_on c.args.samples.now c.tiles.samples c.have_flat.new.samples r.result p.0 c.in_err-have_flat.field-0.0 p.1 p.2 c.tiles.invariant.reads c.in_err-have_flat.ensures.asked
 
-pub returns-then-drains-clause-flow : goal.returns-then-drains-clause-flow
-returns-then-drains-clause-flow g c honest level filled =
-    let b = c.have_flat.new.samples in
-    let e = c.in_ok-have_flat.ensures in
-    let reads = reads_on g.S.Samples g.met.S.Samples.keeps_on c.args.samples.now c.tiles.samples b tt (Ok tt) c.tiles.invariant.reads (asked_reads g.S.Samples c.tiles.samples b _ e.asked) in
-    let said : OnLevels (g.S.Samples.mosaic b) (λ level. IsFlow (terrain (g.S.Samples.mosaic b)) level c.args.point c.known-resolved.result) =
-    λ level filled. c.known-resolved.ensures.says (terrain (g.S.Samples.mosaic b)) level ((e.right honest).grid.told level filled) in
-    subst (λ (n : Mosaic). OnLevels n (λ level. IsFlow (terrain n) level c.args.point c.known-resolved.result)) (reads.mosaic honest) said level filled
-
-pub returns-then-drains-clause-asked : goal.returns-then-drains-clause-asked
-returns-then-drains-clause-asked g c =
-    let b = c.have_flat.new.samples in
-    let reads = reads_on g.S.Samples g.met.S.Samples.keeps_on c.args.samples.now c.tiles.samples b tt (Ok tt) c.tiles.invariant.reads (asked_reads g.S.Samples c.tiles.samples b _ c.in_ok-have_flat.ensures.asked) in
-    answered g.S.Samples c.args.samples.now b c.known-resolved.result reads
-
 pub returns-then-not-drains-clause-right : goal.returns-then-not-drains-clause-right
 returns-then-not-drains-clause-right g c honest =
     let b = c.tiles.samples in
@@ -87,7 +71,7 @@ returns-then-not-drains-clause-asked g c =
     let flow = flow_of new.tiles new.flows.items p in
     let said = subst (λ (o : Option Point). IfNone o (IsAtHand old.tiles p → OnGround old.tiles old.flows.items (λ t level. IsTrue (t.is_ground p) → (j : ℕ) → CrossesFlat t level p j → Drains flow))) c.in_default.is c.in_ok-met.ensures.drains in
     let drains : Drains flow = settled m (g.met.S.Samples.is_mosaic b honest) old.tiles old.flows.items p flow (so.right honest).grid ground (said so.at_hand) in
-    true≢false (sym (c.drains-2.ensures.1 (subst Drains (sym c.known-flow.ensures.value) drains)) ∙ c.if-not-drains.true))
+    true≢false (sym (c.drains.ensures.1 (subst Drains (sym c.known-flow.ensures.value) drains)) ∙ c.if-not-drains.true))
 
 pub returns-clause-flow : goal.returns-clause-flow
 returns-clause-flow g c honest level filled =
