@@ -1,6 +1,5 @@
 -- The pages of a plane as its index pages list them, one index page after another.
-use Rattle.std.proofs.Common.{◌≡◌, ◌⊎◌, inl, inr, ⊎_elim, ℕ, ◌+◌, ◌-◌, ◌*◌, ◌/◌, ◌<◌, ◌≤◌, ◌^◌, List, [], ◌++◌, All, length, take, drop, get_or, min, sym, ap, ◌∙◌, subst, arith}
-use Rattle.std.specs.Prelude.{Result, Ok, Err, IfOk}
+use Rattle.std.proofs.Common.{◌≡◌, ◌⊎◌, inl, inr, ⊎_elim, ℕ, ◌+◌, ◌-◌, ◌*◌, ◌/◌, ◌<◌, ◌≤◌, ◌^◌, List, ◌++◌, All, length, take, drop, get_or, min, sym, ap, ◌∙◌, subst, arith, Result, Ok, Err, IfOk}
 use Rattle.std.proofs.Math.Seq.{drop-append_seam}
 use Rattle.std.proofs.Math.Nat.{min-le_left, min-le_right, min-eq_left, min-eq_right, min_comm}
 use Rattle.std.proofs.lemmas.Bool.{cases_lt}
@@ -8,7 +7,7 @@ use Rattle.std.proofs.lemmas.List.{length-append, length-take, length-drop, take
 use Rattle.std.proofs.lemmas.List.Elements.{All-tail, All-append, All-take, All-drop}
 use Rattle.disk.specs.Disk.{Image}
 use Rattle.lattice.specs.declared.refusal.Refusal.{Refusal}
-use Rattle.page_codec.specs.declared.version.Version.TheVariants.{One, Two}
+use Rattle.page_codec.specs.declared.version.Version.TheVariants.{Two}
 use Rattle.page_codec.specs.Formats.{Format}
 use Rattle.page_codec.specs.Records.{IsRecord, part_of, record_bytes}
 use Rattle.page_codec.specs.Sizes.{pages_of, index_pages_by, index_pages_of, listed_in, listed_by as count_listed}
@@ -97,20 +96,6 @@ module _ (index : List ℕ) (count t left : ℕ) (behind : List ℕ) (so_far : A
 
 -- ---- the plane of a record
 module _ (format : Format) (image : Image) (page : ℕ) (listed : List ℕ) (spelt : IsRecord (listed_in format) listed) where
-  pub first_whole : format.version ≡ One → IsWholePlane format (record { record_page = page; index_pages = []; pages = listed })
-  first_whole one = record {
-    index_pages = sym (ap (λ v. index_pages_by v (pages_of format.side)) one);
-    pages = spelt.len ∙ ap (λ v. count_listed v (pages_of format.side)) one;
-  }
-
-  pub first_plane : format.version ≡ One → image page ≡ record_bytes listed → HasRecord format image (record { record_page = page; index_pages = []; pages = listed })
-  first_plane one wrote = record {
-    whole = first_whole one;
-    each = spelt.each;
-    listed = wrote ∙ sym (ap (λ v. record_bytes (listed_by v (record { record_page = page; index_pages = []; pages = listed }))) one);
-    indexed = λ t lt. absurd (omega (arith, lt));
-  }
-
   module _ (two : format.version ≡ Two) (plane : PlaneLocation) (index : plane.index_pages ≡ listed) where
     pub second_whole : length plane.pages ≡ pages_of format.side → IsWholePlane format plane
     second_whole long = record {

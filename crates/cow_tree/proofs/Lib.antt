@@ -22,6 +22,7 @@ pub mod Opened
 pub mod Adding
 pub mod CornerChanges
 pub mod Due
+pub mod Clean
 pub mod Prepared
 pub mod KeptDrops
 pub mod KeptStaging

@@ -62,22 +62,21 @@ clean_staged n root page_map image clean stores =
 
 -- a tree that was just read from the image stands for what the image holds
 pub opened : {D : Type 0} (g : Ghosts D) (tree : Tree D g) (n : ℕ) (image : Image) → IsReady g tree.roots → g.size tree.roots.disk ≡ n → g.seen tree.roots.disk ≡ image → Only image (g.may tree.roots.disk)
-    → g.may tree.roots.disk (g.seen tree.roots.disk) → IsPageMap tree.page_map → IsClean tree.page_map → All (HasRecords (format_of tree.root) image) tree.page_map.committed
+    → g.may tree.roots.disk (g.seen tree.roots.disk) → IsPageMap tree.page_map → IsClean tree.page_map → All (HasRecords (format_of tree.roots.root) image) tree.page_map.committed
     → (s : Stored) × (Stands n image s × (IsAt g tree s × (staged_in g tree ≡ s.tiles)))
 opened g tree n image ready size seen only here rules clean records =
-    let root_is : tree.roots.root ≡ tree.root = tree.known ready.works in
-    let current : IsCurrent tree.root image = subst (λ (i : Image). IsCurrent tree.root i) seen (subst (λ (r : RootValue). IsCurrent r (g.seen tree.roots.disk)) root_is (ready_current g tree.roots (g.seen tree.roots.disk) ready here)) in
-    let s : Stored = stored_in image tree.root tree.page_map.committed in
-    let stores : StoresAt n tree.root tree.page_map.committed s image = opened_stores n tree.root tree.page_map image current rules (tree.sectors ∙ size) tree.format tree.entries records in (
+    let current : IsCurrent tree.roots.root image = subst (λ (i : Image). IsCurrent tree.roots.root i) seen (ready_current g tree.roots (g.seen tree.roots.disk) ready here) in
+    let s : Stored = stored_in image tree.roots.root tree.page_map.committed in
+    let stores : StoresAt n tree.roots.root tree.page_map.committed s image = opened_stores n tree.roots.root tree.page_map image current rules (tree.sectors ∙ size) tree.format tree.entries records in (
       s,
       (
-        (tree.root, tree.page_map.committed, stores),
+        (tree.roots.root, tree.page_map.committed, stores),
         (
           record {
             ready = ready;
-            each = λ i may. stores_along n (g.size tree.roots.disk) tree.root tree.roots.root tree.page_map.committed tree.page_map.committed s i size root_is refl
-                (subst (λ (x : Image). StoresAt n tree.root tree.page_map.committed s x) (sym (only i may)) stores);
-            staged = subst (λ (i : Image). AreStaged (format_of tree.root) tree.page_map.committed tree.page_map.staged i) (sym seen) (clean_staged n tree.root tree.page_map image clean stores);
+            each = λ i may. stores_along n (g.size tree.roots.disk) tree.roots.root tree.roots.root tree.page_map.committed tree.page_map.committed s i size refl refl
+                (subst (λ (x : Image). StoresAt n tree.roots.root tree.page_map.committed s x) (sym (only i may)) stores);
+            staged = subst (λ (i : Image). AreStaged (format_of tree.roots.root) tree.page_map.committed tree.page_map.staged i) (sym seen) (clean_staged n tree.roots.root tree.page_map image clean stores);
           },
           ap (map (tile_in (g.seen tree.roots.disk))) clean ∙ ap (λ (i : Image). map (tile_in i) tree.page_map.committed) seen,
         ),

@@ -1,6 +1,5 @@
 -- The samples that a page of heights holds.
-use Rattle.std.proofs.Common.{◌≡◌, ℕ, ℤ, zero, suc, ◌+◌, ◌-◌, ◌*◌, ◌/◌, ◌%◌, ◌<◌, ◌≤◌, Bool, false, cond, List, [], ◌∷◌, ◌++◌, All, Contains, length, take, drop, get_or, map, Option, Some, refl, sym, ap, ap₂, ◌∙◌, subst, arith}
-use Rattle.std.specs.Prelude.{slice_get, slice_range, IsSomeAnd}
+use Rattle.std.proofs.Common.{◌≡◌, ℕ, ℤ, zero, suc, ◌+◌, ◌-◌, ◌*◌, ◌/◌, ◌%◌, ◌<◌, ◌≤◌, Bool, false, cond, List, [], ◌∷◌, ◌++◌, All, Contains, length, take, drop, get_or, map, Option, Some, refl, sym, ap, ap₂, ◌∙◌, subst, arith, slice_get, slice_range, IsSomeAnd}
 use Rattle.std.specs.List.{concat}
 use Rattle.std.proofs.lemmas.Option.{get_or_from_slice_get, slice_get_within, slice_get_read}
 use Rattle.std.proofs.lemmas.List.{drop-drop, length-append, length-take, length-drop, get_or-take, get_or-drop, get_or_append_left, get_or-append-add, same_lists}

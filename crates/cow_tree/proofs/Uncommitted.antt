@@ -1,6 +1,5 @@
 -- Calls that commit nothing: one, and one after another.
-use Rattle.std.proofs.Common.{◌≡◌, false, true, List, All, Contains, Result, Ok, Err, OnOk, IsErrOf, refl, sym, ap, ◌∙◌, subst, arith, ℕ}
-use Rattle.std.specs.Prelude.{IsErrAnd, is_err}
+use Rattle.std.proofs.Common.{◌≡◌, false, true, List, All, Contains, Result, Ok, Err, OnOk, IsErrOf, refl, sym, ap, ◌∙◌, subst, arith, ℕ, IsErrAnd, is_err}
 use Rattle.disk.specs.Disk.{Image, HasRisen}
 use Rattle.disk.specs.Stops.{LeavesOnly, weaker, in_turn, nothing_done}
 use Rattle.disk.specs.declared.disk.Disk.{Ghosts}
@@ -9,7 +8,7 @@ use Rattle.lattice.specs.declared.refusal.Refusal.TheVariants.{Device, NoMemory}
 use Rattle.page_codec.specs.Roots.{RootValue, format_of}
 use Rattle.page_map.specs.PageMaps.{PageMapValue}
 use Rattle.page_map.specs.TileLocations.{reached}
-use Rattle.roots.specs.Roots.{IsReady, disk_of as disk_under, has_begun as have_begun, has_failed as have_failed}
+use Rattle.roots.specs.Roots.{IsReady, disk_of as disk_under, root_of as root_under, has_begun as have_begun, has_failed as have_failed}
 use Rattle.roots.specs.declared.roots.Roots.{Roots}
 use Rattle.cow_tree.specs.Layout.{Stands, StoresAt}
 use Rattle.cow_tree.specs.OverRoots.{EachStores, WritesPages}
@@ -84,21 +83,6 @@ module _ {D : Type 0} (g : Ghosts D) where
             (second.run h s (first.at (second.honest h) s was first.works)));
       }
 
-  -- the same with another answer
-  pub uncommitted_as : {T U : Type 0} (old new : Tree D g) (was : Result T Refusal) (now : Result U Refusal) → CommitsNothing g old new was → (OnOk was (has_failed new ≡ false) → OnOk now (has_failed new ≡ false))
-      → (IsErrOf now Device → IsErrOf was Device) → CommitsNothing g old new now
-  uncommitted_as old new was now done ok back = record {
-    size = done.size;
-    later = done.later;
-    device = λ is. done.device (back is);
-    failed = λ is. done.failed (back is);
-    works = ok done.works;
-    honest = done.honest;
-    root = done.root;
-    at = done.at;
-    run = done.run;
-  }
-
   -- what was staged is given up
   pub given_up : {T : Type 0} (old mid new : Tree D g) (result : Result T Refusal) → CommitsNothing g old mid result → MakesNoCall mid new → (g.honest (disk_of mid) → (s : Stored) → IsAt g mid s → IsAt g new s)
       → CommitsNothing g old new result
@@ -131,28 +115,27 @@ module _ {D : Type 0} (g : Ghosts D) where
   }
 
   -- a tree with the same roots and the same pages
-  at_same : (old new : Tree D g) → new.roots ≡ old.roots → new.root ≡ old.root → new.page_map ≡ old.page_map → (s : Stored) → IsAt g old s → IsAt g new s
-  at_same old new roots root page_map s is = record {
+  at_same : (old new : Tree D g) → new.roots ≡ old.roots → new.page_map ≡ old.page_map → (s : Stored) → IsAt g old s → IsAt g new s
+  at_same old new roots page_map s is = record {
     ready = subst (IsReady g) (sym roots) is.ready;
     each = subst (λ (r : Roots D g). EachStores g r new.page_map.committed s) (sym roots) (subst (λ (m : PageMapValue). EachStores g old.roots m.committed s) (sym page_map) is.each);
-    staged = subst (λ (r : Roots D g). AreStaged (format_of new.root) new.page_map.committed new.page_map.staged (g.seen (disk_under r))) (sym roots)
-        (subst (λ (v : RootValue). AreStaged (format_of v) new.page_map.committed new.page_map.staged (g.seen (disk_of old))) (sym root)
-        (subst (λ (m : PageMapValue). AreStaged (format_of old.root) m.committed m.staged (g.seen (disk_of old))) (sym page_map) is.staged));
+    staged = subst (λ (r : Roots D g). AreStaged (format_of (root_under r)) new.page_map.committed new.page_map.staged (g.seen (disk_under r))) (sym roots)
+        (subst (λ (m : PageMapValue). AreStaged (format_of old.roots.root) m.committed m.staged (g.seen (disk_of old))) (sym page_map) is.staged);
   }
 
   -- a call that was refused for memory, before any call of the disk
-  pub refused_in_memory : {T : Type 0} (old new : Tree D g) (result : Result T Refusal) (why : Refusal) → OnlyNow → new.roots ≡ old.roots → new.root ≡ old.root → new.page_map ≡ old.page_map → has_failed old ≡ false
+  pub refused_in_memory : {T : Type 0} (old new : Tree D g) (result : Result T Refusal) (why : Refusal) → OnlyNow → new.roots ≡ old.roots → new.page_map ≡ old.page_map → has_failed old ≡ false
       → result ≡ Err why → why ≡ NoMemory → CommitsNothing g old new result
-  refused_in_memory {T} old new result why only_now roots root page_map works ended memory =
+  refused_in_memory {T} old new result why only_now roots page_map works ended memory =
       in_memory old new result only_now
-      (record { disk = ap (λ (r : Roots D g). disk_under r) roots; root = root; failed = ap (λ (r : Roots D g). have_failed r) roots; begun = ap (λ (r : Roots D g). have_begun r) roots }) works
-      (λ _. at_same old new roots root page_map)
+      (record { disk = ap (λ (r : Roots D g). disk_under r) roots; root = ap (λ (r : Roots D g). root_under r) roots; failed = ap (λ (r : Roots D g). have_failed r) roots; begun = ap (λ (r : Roots D g). have_begun r) roots }) works
+      (λ _. at_same old new roots page_map)
       (λ device. (let e : ◌≡◌ {A = Result T Refusal} (Err NoMemory) (Err Device) = sym (ended ∙ ap (λ (x : Refusal). Err x) memory) ∙ device in cc))
 
   -- a call that wrote pages which no committed tile reaches
   module _ {T : Type 0} (old new : Tree D g) (result : Result T Refusal) (pages : List ℕ) (writes : WritesPages g pages old.roots new.roots result)
-      (unreached : All (λ p. ¬ Contains (reached old.page_map.committed) p) pages) (committed : new.page_map.committed ≡ old.page_map.committed) (root : new.root ≡ old.root)
-      (staged : g.honest (disk_of new) → (s : Stored) → IsAt g old s → OnOk result (AreStaged (format_of new.root) new.page_map.committed new.page_map.staged (g.seen (disk_of new)))) where
+      (unreached : All (λ p. ¬ Contains (reached old.page_map.committed) p) pages) (committed : new.page_map.committed ≡ old.page_map.committed)
+      (staged : g.honest (disk_of new) → (s : Stored) → IsAt g old s → OnOk result (AreStaged (format_of old.roots.root) new.page_map.committed new.page_map.staged (g.seen (disk_of new)))) where
     abbrev sectors : ℕ
     sectors = g.size (disk_of old)
 
@@ -164,12 +147,12 @@ module _ {D : Type 0} (g : Ghosts D) where
       failed = failed_where result Device writes.failed;
       works = writes.works;
       honest = writes.honest;
-      root = root;
+      root = writes.root;
       at = λ honest s is works. record {
         ready = ok_where_works result (has_failed new) writes.failed works (writes.ready honest is.ready);
         each = λ image may. stores_along sectors (g.size (disk_of new)) old.roots.root new.roots.root old.page_map.committed new.page_map.committed s image writes.size writes.root committed
             ((writes.any_moment honest is.ready old.page_map.committed s unreached is.each).now image may);
-        staged = ok_where_works result (has_failed new) writes.failed works (staged honest s is);
+        staged = subst (λ (r : RootValue). AreStaged (format_of r) new.page_map.committed new.page_map.staged (g.seen (disk_of new))) (sym writes.root) (ok_where_works result (has_failed new) writes.failed works (staged honest s is));
       };
       run = λ honest s is.
           weaker g (disk_of old) (disk_of new) (StoresAt sectors old.roots.root old.page_map.committed s) (λ image. Stands sectors image s)

@@ -1,4 +1,5 @@
 pub mod Caches
+pub mod Clean
 pub mod Entries
 pub mod Found
 pub mod Kept

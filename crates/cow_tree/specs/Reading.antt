@@ -1,6 +1,5 @@
 -- What reading does to a tree, and when what it reads is a mosaic.
-use Rattle.std.specs.Prelude.{◌≡◌, ◌⊎◌, ℕ, ◌≤◌, true, false, List, [], ◌∷◌, map, Result, OnOk, OnErr, IfErr, IsErrOf}
-use Rattle.std.proofs.Common.{refl, ap, ◌∙◌, arith}
+use Rattle.std.proofs.Common.{refl, ap, ◌∙◌, arith, ◌≡◌, ◌⊎◌, ℕ, ◌≤◌, true, false, List, [], ◌∷◌, map, Result, OnOk, OnErr, IfErr, IsErrOf}
 use Rattle.disk.specs.Disk.{Image, HasRisen}
 use Rattle.disk.specs.Stops.{AddsNothing, nothing_done, nothing_twice}
 use Rattle.disk.specs.declared.disk.Disk.{Ghosts}

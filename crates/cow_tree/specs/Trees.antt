@@ -16,7 +16,7 @@ use Rattle.cow_tree.specs.Layout.{tile_in, IsLaidOut}
 use Rattle.page_map.specs.PageMaps.{PageMapValue, corners_of_locations, IsClean, HasFreshHeights}
 use Rattle.page_map.specs.Planes.{HasPlane}
 use Rattle.cow_tree.specs.Staged.{AreStaged, pages_due}
-use Rattle.roots.specs.Roots.{IsReady, disk_of as disk_under, has_begun as have_begun, has_failed as have_failed}
+use Rattle.roots.specs.Roots.{IsReady, disk_of as disk_under, root_of as root_under, has_begun as have_begun, has_failed as have_failed}
 use Rattle.cow_tree.specs.OverRoots.{EachStores}
 use Rattle.cow_tree.specs.declared.tree.Tree.{Tree}
 
@@ -26,7 +26,7 @@ module _ {D : Type 0} {g : Ghosts D} where
 
   -- the current root, as it was last known
   abbrev pub root_of : Tree D g → RootValue
-  root_of tree = tree.root
+  root_of tree = root_under tree.roots
 
   -- which pages hold which planes, as committed and as staged
   abbrev pub page_map_of : Tree D g → PageMapValue
@@ -78,7 +78,7 @@ staged_in g tree = map (tile_in (g.seen (disk_of tree))) tree.page_map.staged
 pub record IsAt {D : Type 0} (g : Ghosts D) (tree : Tree D g) (s : Stored) : Type 0 where
   pub ready : IsReady g tree.roots
   pub each : EachStores g tree.roots tree.page_map.committed s
-  pub staged : AreStaged (format_of tree.root) tree.page_map.committed tree.page_map.staged (g.seen (disk_of tree))
+  pub staged : AreStaged (format_of (root_of tree)) tree.page_map.committed tree.page_map.staged (g.seen (disk_of tree))
 
 -- an image is refused so by opening where no call fails and memory is had: as roots refuse it, or Damaged where the tiles
 -- of its current root lie nowhere

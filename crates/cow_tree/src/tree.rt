@@ -48,20 +48,19 @@ pub struct Tree<D: Disk> {
     pub(crate) alloc: Global,
     roots: Roots<D>,
     page_map: PageMap,
-    root: Root,
     sinks: Sinks,
     // Pages that were read lately.
     cache: PageCache,
     ghost sectors: { page_map.sectors ≡ D.Disk.size (disk_under roots) },
     ghost fits: { page_map.sectors < 2 ^ 32 },
-    ghost format: { page_map.format ≡ format_of root },
-    ghost entries: { map entry_of page_map.committed ≡ root.entries },
-    ghost known: { have_failed roots ≡ false → root_under roots ≡ root },
-    ghost declared: { sinks.side ≡ root.side },
+    ghost format: { page_map.format ≡ format_of (root_under roots) },
+    ghost entries: { map entry_of page_map.committed ≡ (root_under roots).entries },
+    ghost declared: { sinks.side ≡ (root_under roots).side },
     ghost cached: { D.Disk.honest (disk_under roots) → have_failed roots ≡ false → Agrees cache (D.Disk.seen (disk_under roots)) },
 }
 
 impl<D: Disk> Tree<D> {
+    ghost use Rattle.cow_tree.specs.Clean.{IsClean};
     ghost use Rattle.cow_tree.specs.Reading.{Reads};
     ghost use Rattle.cow_tree.specs.Trees.{disk_of, root_of, page_map_of, has_failed, has_begun, corners_of, sinks_of, Holds, HasStaged, IsUnstaged, records_due, disk_after, staged_in, IsAt, MayRefuse};
     ghost use Rattle.cow_tree.specs.Uncommitted.{CommitsNothing, MakesNoCall};
@@ -107,10 +106,7 @@ impl<D: Disk> Tree<D> {
         ensures durable { D.honest (disk_after result) → OnOk result (Only (D.seen (disk_after result)) (D.may (disk_after result))) }
         ensures not_failed { IfOk result (λ tree. has_failed tree ≡ false) }
         ensures not_begun { IfOk result (λ tree. has_begun tree ≡ false) }
-        ensures clean { IfOk result (λ tree. (c : Corner) → ¬ HasStaged tree c) }
-        ensures unstaged { IfOk result IsUnstaged }
-        ensures none_due { IfOk result (λ tree. records_due tree ≡ 0) }
-        ensures corners { IfOk result (λ tree. corners_of tree ≡ map (λ e. e.corner) (root_of tree).entries) }
+        ensures clean { IfOk result IsClean }
         ensures sinks { IfOk result (λ tree. sinks_of tree ≡ (root_of tree).sinks) }
     {
         let Ok(cache) = PageCache::new(alloc) else {
@@ -127,7 +123,6 @@ impl<D: Disk> Tree<D> {
                 roots,
                 page_map,
                 sinks: Sinks::of(&root),
-                root,
                 cache,
             }),
             Err(refusal) => Err(NotOpened {
@@ -158,24 +153,21 @@ impl<D: Disk> Tree<D> {
         ensures not_begun { OnOk result (has_begun self.new ≡ false) }
         ensures failed { OnErr result (has_failed self.new ≡ true) }
         ensures last_known { OnErr result (root_of self.new ≡ root_of self.old) }
-        ensures clean { OnOk result ((c : Corner) → ¬ HasStaged self.new c) }
-        ensures unstaged { OnOk result (IsUnstaged self.new) }
-        ensures none_due { OnOk result (records_due self.new ≡ 0) }
-        ensures corners { OnOk result (corners_of self.new ≡ map (λ e. e.corner) (root_of self.new).entries) }
+        ensures clean { OnOk result (IsClean self.new) }
         ensures sinks { OnOk result (sinks_of self.new ≡ (root_of self.new).sinks) }
     {
         self.cache.clear();
+        let known = self.roots.current().copy();
         self.roots.reopen()?;
         let root = self.roots.current().copy();
         match read_page_map(self.alloc, &mut self.roots, &root) {
             Ok(page_map) => {
                 self.page_map = page_map;
                 self.sinks = Sinks::of(&root);
-                self.root = root;
                 Ok(())
             }
             Err(refusal) => {
-                self.roots.fail();
+                self.roots.fail(known);
                 Err(refusal)
             }
         }
@@ -185,7 +177,7 @@ impl<D: Disk> Tree<D> {
     pub fn current(&self) -> &Root
         ensures { result.now ≡ root_of self.now }
     {
-        &self.root
+        self.roots.current()
     }
 
     /// Whether the disk refused a call, or a reopening was refused, and no opening succeeded since.
@@ -240,7 +232,7 @@ impl<D: Disk> Tree<D> {
         ensures staged { staged_in D.Disk self.new ≡ staged_in D.Disk self.old }
         ensures at { (s : Stored) → IsAt D.Disk self.old s → IsAt D.Disk self.new s }
     {
-        self.sinks = Sinks::new(self.root.side(), sinks);
+        self.sinks = Sinks::new(self.roots.current().side(), sinks);
     }
 
     /// How many sectors the disk has, at least four.
@@ -524,10 +516,7 @@ impl<D: Disk> Tree<D> {
         ensures side { (root_of self.new).side ≡ (root_of self.old).side }
         ensures capacity { (root_of self.new).capacity ≡ (root_of self.old).capacity }
         ensures not_begun { OnOk result (has_begun self.new ≡ false) }
-        ensures none_staged { OnOk result ((c : Corner) → ¬ HasStaged self.new c) }
-        ensures unstaged { OnOk result (IsUnstaged self.new) }
-        ensures none_due { OnOk result (records_due self.new ≡ 0) }
-        ensures entries { OnOk result (corners_of self.new ≡ map (λ e. e.corner) (root_of self.new).entries) }
+        ensures clean { OnOk result (IsClean self.new) }
         ensures declared { OnOk result ((root_of self.new).sinks ≡ sinks_of self.old) }
         ensures at { D.honest (disk_of self.new) → (s : Stored) → IsAt D.Disk self.old s
             → OnOk result (IsAt D.Disk self.new (next_commit s (sinks_of self.old) (staged_in D.Disk self.old) count)) }
@@ -542,7 +531,8 @@ impl<D: Disk> Tree<D> {
         self.page_map.rules();
         let entries = staged_entries(&self.page_map);
         let root = self
-            .root
+            .roots
+            .current()
             .next(count, entries)
             .with_sinks(self.sinks.points());
         write_listings(
@@ -552,7 +542,6 @@ impl<D: Disk> Tree<D> {
             Listings::Due,
         )?;
         self.roots.commit(&root)?;
-        self.root = root;
         self.page_map.settle();
         Ok(())
     }
@@ -587,10 +576,7 @@ impl<D: Disk> Tree<D> {
         ensures corners { corners_of self.new ≡ corners_of self.old }
         ensures sinks { sinks_of self.new ≡ sinks_of self.old }
         ensures not_begun { OnOk result (has_begun self.new ≡ false) }
-        ensures none_staged { OnOk result ((c : Corner) → ¬ HasStaged self.new c) }
-        ensures unstaged { OnOk result (IsUnstaged self.new) }
-        ensures none_due { OnOk result (records_due self.new ≡ 0) }
-        ensures entries { OnOk result (corners_of self.new ≡ map (λ e. e.corner) (root_of self.new).entries) }
+        ensures clean { OnOk result (IsClean self.new) }
         ensures at { D.honest (disk_of self.new) → (s : Stored) → IsAt D.Disk self.old s
             → OnOk result (IsAt D.Disk self.new (upgraded_store s)) }
         ensures staged { D.honest (disk_of self.new) → (s : Stored) → IsAt D.Disk self.old s
@@ -604,10 +590,9 @@ impl<D: Disk> Tree<D> {
         self.allow_upgrade()?;
         let page_map = self.page_map.upgraded()?;
         let entries = staged_entries(&page_map);
-        let root = self.root.upgraded(entries);
+        let root = self.roots.current().upgraded(entries);
         write_listings(&mut self.roots, &mut self.cache, &page_map, Listings::All)?;
         self.roots.commit(&root)?;
-        self.root = root;
         self.page_map = page_map;
         Ok(())
     }
@@ -618,7 +603,7 @@ impl<D: Disk> Tree<D> {
         ensures no_fault { IfErr result (λ why. why ≢ Device) }
         ensures allowed { OnOk result (MayUpgrade (D.size (disk_of self.now)) (root_of self.now)) }
     {
-        let format = self.root.format();
+        let format = self.roots.current().format();
         match format.version() {
             Version::One => (),
             Version::Two => return Err(Refusal::NotOld),
@@ -626,7 +611,7 @@ impl<D: Disk> Tree<D> {
         if self.sectors() < format.upgraded().sectors() {
             return Err(Refusal::TooSmall);
         }
-        if self.root.number() == u64::MAX {
+        if self.roots.current().number() == u64::MAX {
             return Err(Refusal::Worn);
         }
         Ok(())
@@ -635,18 +620,15 @@ impl<D: Disk> Tree<D> {
     /// Gives up what was staged.
     pub fn abandon(&mut self)
         ensures no_call { MakesNoCall self.old self.new }
-        ensures corners { corners_of self.new ≡ map (λ e. e.corner) (root_of self.new).entries }
+        ensures clean { IsClean self.new }
         ensures sinks { sinks_of self.new ≡ (root_of self.new).sinks }
-        ensures none_staged { (c : Corner) → ¬ HasStaged self.new c }
-        ensures unstaged { IsUnstaged self.new }
-        ensures none_due { records_due self.new ≡ 0 }
         ensures at { D.honest (disk_of self.old) → (s : Stored) → IsAt D.Disk self.old s → IsAt D.Disk self.new s }
         ensures committed { D.honest (disk_of self.old) → (s : Stored) → IsAt D.Disk self.old s → staged_in D.Disk self.new ≡ s.tiles }
         ensures undeclared { D.honest (disk_of self.old) → (s : Stored) → IsAt D.Disk self.old s → sinks_of self.new ≡ s.sinks }
     {
         self.cache.clear();
         self.page_map.undo();
-        self.sinks = Sinks::of(&self.root);
+        self.sinks = Sinks::of(self.roots.current());
     }
 
     /// Takes the corner's tile out, with all its planes; the plane named is heights. Nothing of it was staged since the last

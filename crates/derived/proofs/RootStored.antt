@@ -1,5 +1,5 @@
 -- What is stored, by the root that is known.
-use Rattle.std.proofs.Common.{◌≡◌, ℕ, List, [], ◌∷◌, map, refl, sym, ap, ◌∙◌, subst}
+use Rattle.std.proofs.Common.{◌≡◌, ℕ, List, [], ◌∷◌, map, refl, sym, ap, ◌∙◌}
 use Rattle.std.specs.Prelude.{Option, Some, None}
 use Rattle.disk.specs.Disk.{Image}
 use Rattle.disk.specs.declared.disk.Disk.{Ghosts}
@@ -51,7 +51,7 @@ root_stale sectors root tiles stored image stores =
 -- a tree that is at this
 module _ {D : Type 0} (g : Ghosts D) (tree : Tree D g) (s : Stored) (at : IsAt g tree s) (seen : g.may (disk_of tree) (g.seen (disk_of tree))) where
   pub seen_stores : StoresAt (g.size (disk_of tree)) (root_of tree) tree.page_map.committed s (g.seen (disk_of tree))
-  seen_stores = subst (λ (r : RootValue). StoresAt (g.size (disk_of tree)) r tree.page_map.committed s (g.seen (disk_of tree))) (tree.known at.ready.works) (at.each (g.seen (disk_of tree)) seen)
+  seen_stores = at.each (g.seen (disk_of tree)) seen
 
   pub side_at : s.side ≡ (root_of tree).side
   side_at = root_side (g.size (disk_of tree)) (root_of tree) tree.page_map.committed s (g.seen (disk_of tree)) seen_stores

@@ -1,30 +1,20 @@
 -- Trees in which nothing is staged, and the mosaic that they are at.
-use Rattle.std.proofs.Common.{◌≡◌, List, length, map, sym, ap, ap₂, ◌∙◌, subst}
+use Rattle.std.proofs.Common.{◌≡◌, List, map, sym, ap, ap₂, ◌∙◌, subst}
 use Rattle.disk.specs.declared.disk.Disk.{Ghosts}
 use Rattle.lattice.specs.Mosaic.{IsMosaic}
 use Rattle.lattice.specs.declared.point.Point.{Point}
-use Rattle.page_codec.specs.Roots.{RootValue}
-use Rattle.page_map.specs.PageMaps.{PageMapValue, HasFreshHeights}
+use Rattle.page_map.specs.PageMaps.{PageMapValue}
 use Rattle.page_map.specs.TileLocations.{TileLocation}
 use Rattle.cow_tree.specs.Layout.{tile_in}
-use Rattle.cow_tree.specs.Reading.{mosaic_of, IsReadable, HasOnlyRead}
-use Rattle.cow_tree.specs.Staged.{pages_due}
+use Rattle.cow_tree.specs.Reading.{mosaic_of, IsReadable}
 use Rattle.cow_tree.specs.Stored.{StoredTile, Stored, AreWhole, mosaic_of_tiles}
-use Rattle.cow_tree.specs.Trees.{disk_of, root_of, page_map_of, corners_of, sinks_of, staged_in, IsUnstaged, IsAt}
+use Rattle.cow_tree.specs.Trees.{disk_of, root_of, page_map_of, sinks_of, staged_in, IsUnstaged, IsAt}
 use Rattle.cow_tree.specs.declared.tree.Tree.{Tree}
-use Rattle.derived.specs.Clean.{IsClean, IsSettled}
+use Rattle.derived.specs.Clean.{IsSettled}
 use Rattle.derived.specs.Kept.{KeepsRight, mosaic_stored}
 use Rattle.derived.proofs.RootStored.{seen_stores, side_at, sinks_at}
 
 module _ {D : Type 0} (g : Ghosts D) where
-  -- nothing was staged, and nothing is
-  pub still_clean : (old new : Tree D g) → page_map_of new ≡ page_map_of old → root_of new ≡ root_of old → corners_of new ≡ corners_of old → IsClean old → IsClean new
-  still_clean old new page_map root corners was = record {
-    none_staged = λ c staged. was.none_staged c (subst (λ (x : PageMapValue). HasFreshHeights c x) page_map staged);
-    none_due = ap (λ (x : PageMapValue). length (pages_due x)) page_map ∙ was.none_due;
-    corners = corners ∙ was.corners ∙ ap (λ (r : RootValue). map (λ e. e.corner) r.entries) (sym root);
-  }
-
   -- on the same disk the same tiles are staged
   pub staged_same : (old new : Tree D g) → disk_of new ≡ disk_of old → page_map_of new ≡ page_map_of old → staged_in g new ≡ staged_in g old
   staged_same old new disk page_map = ap₂ (λ (x : D) (y : PageMapValue). map (tile_in (g.seen x)) y.staged) disk page_map
@@ -49,9 +39,3 @@ module _ {D : Type 0} (g : Ghosts D) where
       pages = subst AreWhole (sym settled.tiles) keeps.pages;
       valid = subst IsMosaic (sym mosaic_settled) keeps.valid;
     }
-
-  -- what is read is the same mosaic
-  pub mosaic_read : (old new : Tree D g) → HasOnlyRead g old new → g.honest (disk_of new) → mosaic_of g new ≡ mosaic_of g old
-  mosaic_read old new keeps honest =
-      ap₂ (λ (r : RootValue) (sinks : List Point). mosaic_of_tiles r.side sinks (staged_in g new)) keeps.root keeps.sinks
-      ∙ ap (mosaic_of_tiles (root_of old).side (sinks_of old)) (keeps.staged honest)

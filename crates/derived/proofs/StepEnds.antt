@@ -17,7 +17,7 @@ use Rattle.cow_tree.specs.Stored.{KeptPlanes, StoredTile, Stored, next_commit}
 use Rattle.cow_tree.specs.Trees.{disk_of, root_of, has_failed, sinks_of, staged_in, IsAt}
 use Rattle.cow_tree.specs.declared.tree.Tree.{Tree}
 use Rattle.cow_tree.proofs.ReadOnly.{never_refused}
-use Rattle.derived.specs.Clean.{IsClean}
+use Rattle.cow_tree.specs.Clean.{IsClean}
 use Rattle.derived.specs.Kept.{AreRight, KeepsRight, mosaic_stored, stale_in, stale_corners}
 use Rattle.derived.specs.Steps.{IsStepped, StandsStepped, Stays, MaySteps, EndsStep, StepsOn, HasStepped}
 use Rattle.cow_tree.specs.Uncommitted.{CommitsNothing}

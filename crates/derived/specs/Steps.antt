@@ -14,7 +14,8 @@ use Rattle.cow_tree.specs.Layout.{Stands}
 use Rattle.cow_tree.specs.Stored.{KeptPlanes, Stored, next_commit}
 use Rattle.cow_tree.specs.Trees.{disk_of, root_of, has_failed, IsAt}
 use Rattle.cow_tree.specs.declared.tree.Tree.{Tree}
-use Rattle.derived.specs.Clean.{IsClean, IsSettled}
+use Rattle.cow_tree.specs.Clean.{IsClean}
+use Rattle.derived.specs.Clean.{IsSettled}
 use Rattle.derived.specs.Kept.{AreRight, KeepsRight, mosaic_stored, stale_corners}
 
 -- One commit more, of the same tiles and at the same count, in which a stale tile keeps levels and labels that are right.

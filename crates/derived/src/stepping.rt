@@ -1,5 +1,5 @@
 //! Steps: the levels and labels of one stale tile more are kept.
-ghost use Rattle.std.specs.Prelude.{◌≡◌, ◌≤◌, ◌<◌, ◌+◌, ◌*◌, ◌^◌, ◌⊎◌, false, true, [], Err, All, Contains, IfOk, IfErr, OnOk, IsErrOf, IfSome, Some, MatchOption, length, vec_len};
+ghost use Rattle.std.specs.Prelude.{◌≡◌, ◌≤◌, ◌<◌, ◌+◌, ◌*◌, ◌^◌, ◌⊎◌, false, true, [], Err, Contains, IfOk, IfErr, OnOk, IsErrOf, IfSome, Some, MatchOption, length, vec_len};
 ghost use Rattle.disk.specs.Disk.{HasRisen};
 ghost use Rattle.lattice.specs.declared.refusal.Refusal.TheVariants.{Device, NoMemory, Failed};
 ghost use Rattle.page_codec.specs.Sizes.{plane_pages_of};
@@ -7,9 +7,9 @@ ghost use Rattle.page_codec.specs.Roots.{format_of};
 ghost use Rattle.tile_flood.specs.Kept.{AreKeptOf};
 ghost use Rattle.tile_labellings.specs.Labellings.{IsFlooded};
 ghost use Rattle.cow_tree.specs.Reading.{mosaic_of, HasOnlyRead, IsReadable};
-ghost use Rattle.cow_tree.specs.Trees.{disk_of, root_of, has_failed, corners_of, sinks_of, IsUnstaged};
+ghost use Rattle.cow_tree.specs.Trees.{disk_of, root_of, has_failed, corners_of, sinks_of};
 ghost use Rattle.derived.specs.Kept.{stale_among, stale_in};
-ghost use Rattle.derived.specs.Clean.{IsClean};
+ghost use Rattle.cow_tree.specs.Clean.{IsClean};
 ghost use Rattle.derived.specs.Steps.{HasStepped};
 
 use cow_tree::Tree;
@@ -112,7 +112,6 @@ fn keep_labelled<D: Disk>(
 ) -> Result<Option<Corner>, Refusal>
     requires works { has_failed tree.old ≡ false }
     requires clean { IsClean tree.old }
-    requires unstaged { IsUnstaged tree.old }
     requires declared { sinks_of tree.old ≡ (root_of tree.old).sinks }
     requires stale { Contains (stale_in (root_of tree.old)) corner }
     requires number { (root_of tree.old).number + 1 < 2 ^ 64 }
@@ -132,7 +131,6 @@ fn keep<D: Disk>(
 ) -> Result<Option<Corner>, Refusal>
     requires works { has_failed tree.old ≡ false }
     requires clean { IsClean tree.old }
-    requires unstaged { IsUnstaged tree.old }
     requires declared { sinks_of tree.old ≡ (root_of tree.old).sinks }
     requires stale { Contains (stale_in (root_of tree.old)) corner }
     requires number { (root_of tree.old).number + 1 < 2 ^ 64 }
@@ -173,7 +171,6 @@ fn commit_planes<D: Disk>(
 ) -> Result<Option<Corner>, Refusal>
     requires works { has_failed tree.old ≡ false }
     requires clean { IsClean tree.old }
-    requires unstaged { IsUnstaged tree.old }
     requires declared { sinks_of tree.old ≡ (root_of tree.old).sinks }
     requires stale { Contains (stale_in (root_of tree.old)) corner }
     requires number { (root_of tree.old).number + 1 < 2 ^ 64 }

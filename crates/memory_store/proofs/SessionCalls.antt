@@ -1,6 +1,5 @@
 -- The calls of a session, and two sessions with a cut after each.
-use Rattle.std.proofs.Common.{◌≡◌, inl, ℕ, ◌≤◌, List, [], ◌∷◌, ◌++◌, map, refl, sym, ap, ◌∙◌, subst, arith}
-use Rattle.std.specs.Prelude.{Result, Ok, Err, IfOk}
+use Rattle.std.proofs.Common.{◌≡◌, ℕ, ◌≤◌, List, [], ◌∷◌, ◌++◌, map, refl, sym, ap, ◌∙◌, subst, arith, Result, Ok, Err, IfOk}
 use Rattle.disk.specs.Disk.{Image}
 use Rattle.disk.specs.Faulty.{inner_of}
 use Rattle.disk.specs.MemDisk.{state_of, sectors_of}

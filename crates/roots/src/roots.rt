@@ -202,13 +202,15 @@ impl<D: Disk> Roots<D> {
         self.failed
     }
 
-    /// Only reopening helps from here on, as after a fault. No call of the disk is made.
-    pub fn fail(&mut self)
+    /// Only reopening helps from here on, as after a reopening that was refused: this root is the one that was last known. No
+    /// call of the disk is made.
+    pub fn fail(&mut self, known: Root)
         ensures disk { disk_of self.new ≡ disk_of self.old }
-        ensures root { root_of self.new ≡ root_of self.old }
+        ensures root { root_of self.new ≡ known }
         ensures begun { has_begun self.new ≡ has_begun self.old }
         ensures failed { has_failed self.new ≡ true }
     {
+        self.root = known;
         self.failed = true;
     }
 

@@ -1,37 +1,102 @@
 -- What a question of water over a store's tree leaves and answers: the tree is read as samples, by one call.
-use Rattle.std.proofs.Common.{◌≡◌, ◌≢◌, ◌↔◌, ℤ, false, IsTrue, refl}
-use Rattle.std.specs.Prelude.{None, Result, Ok, Err, IsOk, IfOk, IsErrOf, IfErr, MatchResult}
-use Rattle.std.proofs.lemmas.Result.{on_ok_weaker, on_err_weaker, IfErr-weaker}
-use Rattle.disk.specs.Disk.{HasRisen}
+use Rattle.std.proofs.Common.{◌≡◌, ◌↔◌, ℕ, ◌≤◌, false, List, length, map, refl, sym, ap, ◌∙◌, subst, arith, ◌≢◌, ℤ, IsTrue, Result, Ok, Err, None, IsOk, IfErr, OnOk, OnErr, MatchResult, Vec, Global, IfOk, IsErrOf, IsErrAnd, Contains}
+use Rattle.std.proofs.lemmas.List.{length-map}
 use Rattle.disk.specs.declared.disk.Disk.{Ghosts}
-use Rattle.lattice.specs.Ground.{is_ground, terrain}
-use Rattle.lattice.specs.Height.{height_of}
-use Rattle.lattice.specs.Mosaic.{Mosaic}
-use Rattle.lattice.specs.declared.height.Height.TheVariants as height
+use Rattle.lattice.specs.Corners.{Corner}
+use Rattle.lattice.specs.Limits.{most_tiles}
+use Rattle.lattice.specs.Mosaic.{Mosaic, is_present, samples_of}
 use Rattle.lattice.specs.declared.point.Point.{Point}
 use Rattle.lattice.specs.declared.refusal.Refusal.{Refusal}
-use Rattle.lattice.specs.declared.refusal.Refusal.TheVariants.{Outside, Void, Device, Failed}
+use Rattle.lattice.specs.declared.refusal.Refusal.TheVariants.{Device, Outside, Void, Failed, NoTile}
+use Rattle.page_codec.specs.Entries.{EntryValue}
+use Rattle.page_codec.specs.Roots.{RootValue, IsRoot}
+use Rattle.catalogue.specs.Tiles.{corners_of}
+use Rattle.engine.specs.State.{State, failing}
+use Rattle.cow_tree.specs.Reading.{mosaic_of, HasOnlyRead}
+use Rattle.cow_tree.specs.Trees.{disk_of, root_of, has_failed, corners_of as corners_under}
+use Rattle.cow_tree.specs.declared.tree.Tree.{Tree}
+use Rattle.drainage.specs.Asking.{IsHeldByNone, may_refuse}
+use Rattle.drainage.specs.Between.{IsHeldOf}
+use Rattle.drainage.specs.declared.drainage_cache.DrainageCache.{DrainageCache}
+use Rattle.engine.specs.Engines.{items_in, answered, IsCall}
+use Rattle.store.specs.TreeStates.{IsInState}
+use Rattle.store.proofs.InMemory.{corners_are}
+use Rattle.store.specs.Water.{IsHolding, IsAskedOf}
+use Rattle.cow_tree.proofs.TreeReads.{same_mosaic}
+use Rattle.store.proofs.Querying.{mosaic_at, true_where, still_at, failing_at, valid_at, stays_at, queried, fails_so, still_clean}
+use Rattle.std.proofs.lemmas.Result.{on_ok_weaker, on_err_weaker, IfErr-weaker}
+use Rattle.disk.specs.Disk.{HasRisen}
+use Rattle.lattice.specs.Ground.{is_ground, terrain}
+use Rattle.lattice.specs.Height.{height_of}
+use Rattle.lattice.specs.declared.height.Height.TheVariants as height
 use Rattle.catalogue.specs.Asked.{Asked}
 use Rattle.catalogue.specs.Reading.{MayRefuse}
 use Rattle.catalogue.specs.declared.samples.Samples.{Ghosts as Samples}
 use Rattle.catalogue.proofs.Asking.{asked_risen, asked_works, asked_fails, asked_quiet}
 use Rattle.flow_d8.specs.Drainage.{AreFilledLevels}
 use Rattle.watershed.specs.Questions.{IsAnswered, IsUnanswered}
-use Rattle.engine.specs.Outcomes.{Stays, Fails}
-use Rattle.engine.specs.State.{State, failing}
-use Rattle.cow_tree.specs.Reading.{mosaic_of, HasOnlyRead}
-use Rattle.cow_tree.specs.Trees.{disk_of, root_of, has_failed, corners_of}
-use Rattle.cow_tree.specs.declared.tree.Tree.{Tree}
-use Rattle.drainage.specs.Asking.{IsHeldByNone, may_refuse}
-use Rattle.drainage.specs.Between.{IsHeldOf}
-use Rattle.drainage.specs.declared.drainage_cache.DrainageCache.{DrainageCache}
-use Rattle.drainage.proofs.Answered.{told}
+use Rattle.engine.specs.Told.{may_refuse as event_may_refuse}
+use Rattle.engine.specs.Outcomes.{Stays, Fails, TellsTile}
+use Rattle.drainage.proofs.Answered.{told, told_or_short}
 use Rattle.store.specs.Labelling.{IsSure}
 use Rattle.store.specs.Queried.{IsQueried}
-use Rattle.store.specs.Water.{IsHolding, IsAskedOf}
 use Rattle.store.proofs.Labelled.{still_sure}
-use Rattle.store.proofs.Querying.{valid_at, stays_at, queried, fails_so, still_clean}
-use Rattle.store.proofs.QueryingDrainage.{right_here, of_here, held_here, read_answered}
+use Rattle.catalogue.specs.Endings.{ends_any}
+use Rattle.catalogue.proofs.Presence.{present_iff}
+use Rattle.engine.specs.declared.event.Event.{Event}
+use Rattle.engine.specs.declared.event.Reply.{Reply}
+use Rattle.engine.proofs.Answered.{tells}
+use Rattle.engine.proofs.Questions.{IsQuestion}
+use Rattle.store.specs.StoreState.{members}
+use Rattle.store.specs.declared.store.Store.{Store}
+use Rattle.store.proofs.EditingSteps.{refused_as}
+use Rattle.store.proofs.QueryingPages.{no_tile_of}
+use Rattle.store.proofs.StoreCalls.{HasOnlyNow, refused_it}
+
+-- an answer with a list for the vector that holds it
+pub listed : {X A : Type 0} (Answers : Result (List X) Refusal → Type 0) (result : Result (Vec X A) Refusal) → MatchResult result (λ xs. Answers (Ok xs.items)) (λ r. Answers (Err r)) → Answers (items_in result)
+listed Answers (Ok xs) is = is
+listed Answers (Err r) is = is
+
+-- no more tiles than a root has room for
+pub few_tiles : (cs : List Corner) (root : RootValue) → cs ≡ map (λ e. e.corner) root.entries → IsRoot root → length cs ≤ most_tiles
+few_tiles cs root same rules =
+    let count : length cs ≡ length root.entries = ap length same ∙ length-map root.entries (λ (e : EntryValue). e.corner) in
+    let room = rules.numbers.room in
+    let high = rules.numbers.format.capacity_high in
+    omega (arith, count, room, high)
+
+module _ {D : Type 0} (g : Ghosts D) (old new : Tree D g) (works : has_failed old ≡ false) (keeps : HasOnlyRead g old new) (honest : g.honest (disk_of new)) (s : State) (at : IsInState g old s) where
+  abbrev here : Mosaic
+  here = s.contents.mosaic
+
+  -- what holds of the mosaic that was read holds of the state's
+  pub of_here : (P : Mosaic → Type 0) → P (mosaic_of g old) → P here
+  of_here P = subst P (mosaic_at g old works s at)
+
+  pub held_here : (T : Type 0) (p : Point) → (T ↔ IsHeldByNone (root_of old).side (corners_under old) p) → (T ↔ IsHeldByNone here.side (corners_of here) p)
+  held_here T p is =
+      subst (λ (n : ℕ). T ↔ IsHeldByNone n (corners_of here) p) (sym (at.sound works).holds.side_is)
+      (subst (λ (cs : List Corner). T ↔ IsHeldByNone (root_of old).side cs p) (corners_are g old works s at) is)
+
+  -- what is held then is right for the state's mosaic
+  pub right_here : (held : DrainageCache) → IsHeldOf (mosaic_of g new) held → IsHeldOf here held
+  right_here held = subst (λ (m : Mosaic). IsHeldOf m held) (same_mosaic g old new keeps honest ∙ mosaic_at g old works s at)
+
+  -- the answer of a question whose reads the disk alone refuses
+  pub read_answered : {T : Type 0} (held : DrainageCache) → IsHeldOf here held → (Answers : State → Result T Refusal → State → Type 0) (result : Result T Refusal) (read : Result (Unit {0}) Refusal) → IfErr read (λ r. result ≡ Err r)
+      → OnOk read (has_failed new ≡ false) → OnErr read (¬ (has_failed new ≡ false)) → IfErr read (λ r. r ≡ Device)
+      → Answers s (Err Device) (failing s None) → (IsOk read → Answers s result s)
+      → (t : State) × (IsHolding g new held t × Answers s result t)
+  read_answered held right Answers result (Ok u) passed still fails device refused ok = (s, (record { in_state = still_at g old new works keeps honest s at still; right = right }, ok refl))
+  read_answered {T} held right Answers result (Err r) passed still fails device refused ok =
+      let is : result ≡ Err Device = passed ∙ ap (λ (why : Refusal). Err why) device in (
+        failing s None,
+        (
+          record { in_state = failing_at g old new works keeps honest s at (true_where (has_failed new) fails); right = right },
+          subst (λ (answer : Result T Refusal). Answers s answer (failing s None)) (sym is) refused,
+        ),
+      )
 
 -- what is said of every function that gives the filled levels is an answer
 pub of_levels : {T : Type 0} (m : Mosaic) (p : Point) (Says : T → (Point → ℤ) → Type 0) (result : Result T Refusal) → IfOk result (λ x. (level : Point → ℤ) → AreFilledLevels (terrain m) level → Says x level)
@@ -55,7 +120,7 @@ module _ {D S T : Type 0} (g : Ghosts D) (old new : Tree D g) (works : has_faile
       (asked_quiet h a b result asked are.ready))
 
   -- the answer, by what the call says of the mosaic that was read
-  module _ (point : Point) (Says : Mosaic → T → Type 0) (found : h.is_honest b → IfOk result (Says (mosaic_of g old))) (outside : IsErrOf result Outside ↔ IsHeldByNone (root_of old).side (corners_of old) point)
+  module _ (point : Point) (Says : Mosaic → T → Type 0) (found : h.is_honest b → IfOk result (Says (mosaic_of g old))) (outside : IsErrOf result Outside ↔ IsHeldByNone (root_of old).side (corners_under old) point)
       (void : h.is_honest b → IsErrOf result Void → height_of (mosaic_of g old) point ≡ height.Void) (may : IfErr result (λ r. IsTrue (may_refuse r)))
       (before held : DrainageCache) (right : h.is_honest b → IsHeldOf (mosaic_of g new) held) (Answers : State → Result T Refusal → State → Type 0)
       (refused : (s t : State) → Fails s None t → Answers s (Err Device) t)
@@ -79,3 +144,33 @@ module _ {D S T : Type 0} (g : Ghosts D) (old new : Tree D g) (works : has_faile
       clean = λ still clean. still_clean g old new works are.keeps (λ _. clean) still;
       outcome = λ holds honest s at. asked_outcome (sure holds) honest s at;
     }
+
+module _ {D S X : Type 0} (g : Ghosts D) (old new : Tree D g) (works : has_failed old ≡ false) (h : Samples S) (a b : S) (result : Result (Vec X Global) Refusal) (asked : Asked h a b result) (are : AreOfTree h a b g old new)
+    (c : Corner) (present : Contains (corners_under old) c) (Says : Mosaic → Corner → List X → Type 0) (found : h.is_honest b → IfOk result (λ values. Says (mosaic_of g old) c values.items)) (may : IfErr result (λ r. IsTrue (ends_any r)))
+    (before held : DrainageCache) (right : h.is_honest b → IsHeldOf (mosaic_of g new) held) where
+  outcome : (IsSure g new → h.is_honest b) → g.honest (disk_of new) → (s : State) → IsHolding g old before s → (t : State) × (IsHolding g new held t × TellsTile Says s c (items_in result) t)
+  outcome sure honest s at =
+      let keeps = are.keeps in
+      let here = at.in_state in
+      let is_honest = sure (still_sure g old new works keeps honest s here) in
+      let there : IsTrue (is_present s.contents.mosaic c) = (present_iff s.contents.mosaic c).1 (subst (λ (cs : List Corner). Contains cs c) (corners_are g old works s here) present) in
+      read_answered g old new works keeps honest s here held (right_here g old new works keeps honest s here held (right is_honest)) (λ s r t. TellsTile Says s c (items_in r) t) result asked.read asked.passed
+      (on_ok_weaker asked.read are.works.0 (asked.reads.ready are.ready)) (on_err_weaker asked.read (λ never still. never (are.works.1 still)) asked.reads.unready) (asked.reads.only_device are.ready)
+      (fails_so g old new works keeps honest s here)
+      (λ unread. tells Says s s (stays_at g old works s here) c there result (told_or_short (λ values. Says s.contents.mosaic c values.items) result (asked.own unread) (asked.sound is_honest are.ready)
+      (of_here g old new works keeps honest s here (λ (m : Mosaic). IfOk result (λ values. Says m c values.items)) (found is_honest)) may))
+
+  pub tile_asked_of : (premise : Type 0) → (premise → IsSure g new → h.is_honest b) → IsAskedOf g premise old new before held result (λ s r t. TellsTile Says s c (items_in r) t)
+  tile_asked_of premise sure = record {
+    reads = asked_queried g old new works h a b result asked are;
+    clean = λ still clean. still_clean g old new works are.keeps (λ _. clean) still;
+    outcome = λ holds honest s at. outcome (sure holds) honest s at;
+  }
+
+-- a question about a tile that isn't there
+pub no_tile : {D T : Type 0} (g : Ghosts D) (only_now : HasOnlyNow g) (store : Store D g) {event : Event} {tell : T → Reply} {Answers : State → Result T Refusal → State → Type 0} (is : IsQuestion event tell Answers) → IsTrue (event_may_refuse event NoTile)
+    → (c : Corner) → has_failed store.tree ≡ false → ((s : State) → Stays s s × (samples_of s.contents.mosaic c ≡ None) → Answers s (Err NoTile) s)
+    → (result : Result T Refusal) (r : Refusal) → IsErrAnd result (λ why. why ≡ r) → (r ≡ NoTile) × (Contains (corners_under store.tree) c → ⊥) → IsCall (members g) store event (answered tell result) store
+no_tile {D} {T} g only_now store {event} {tell} is may c works says result r refused (none, absent) =
+    subst (λ (answer : Result T Refusal). IsCall (members g) store event (answered tell answer) store) (sym (refused_as result r refused ∙ ap (λ (why : Refusal). Err why) none))
+    (refused_it g only_now store is works NoTile (λ e. cc) (λ e. cc) may (λ honest s at. says s (stays_at g store.tree works s at.in_state, no_tile_of g store.tree works s at.in_state c absent)))

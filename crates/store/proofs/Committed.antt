@@ -1,8 +1,7 @@
 -- A command by the trees that it goes through: what commits nothing, and the commit of what was staged.
-use Rattle.std.proofs.Common.{◌≡◌, ◌≢◌, ◌⊎◌, inl, inr, ⊎_elim, ℕ, ◌+◌, ◌≤◌, ◌<◌, ◌^◌, true, false, refl, sym, ap, ◌∙◌, subst, arith}
-use Rattle.std.specs.Prelude.{Result, Ok, Err, IfErr, IsErrOf, IsTrue}
+use Rattle.std.proofs.Common.{◌≡◌, ◌≢◌, ◌⊎◌, inl, inr, ⊎_elim, ℕ, ◌+◌, ◌≤◌, ◌<◌, ◌^◌, true, false, refl, sym, ap, ◌∙◌, subst, arith, Result, Ok, Err, IfErr, IsErrOf, IsTrue}
 use Rattle.std.proofs.lemmas.Bool.{or_right}
-use Rattle.disk.specs.Disk.{Image, HasRisen}
+use Rattle.disk.specs.Disk.{HasRisen}
 use Rattle.disk.specs.Stops.{LeavesOnly, weaker, in_turn}
 use Rattle.disk.specs.declared.disk.Disk.{Ghosts}
 use Rattle.lattice.specs.Mosaic.{Mosaic}
@@ -72,14 +71,6 @@ gives_up g old new command works r done why clean =
     (subst (λ (x : Refusal). IsTrue (may_refuse_command command x)) (sym no_room.0) (ends_command command NoMemory refl)) no_room.2
     (λ honest s at. subst (λ (x : Refusal). AppliesNot (root_of old).capacity s command x s) (sym no_room.0) (no_memory (root_of old).capacity s command (is_working g old works s at))))
     why
-
--- a command that is refused before anything is done
-pub refused_first : {D : Type 0} (g : Ghosts D) (tree : Tree D g) (command : Command) → has_failed tree ≡ false → ((disk : D) (image : Image) → g.honest disk → g.since disk (g.moment disk) image → g.may disk image)
-    → (r : Refusal) → (r ≢ Device) × (r ≢ Failed) → IsTrue (may_refuse_command command r) → ((s : State) → IsInState g tree s → AppliesNot (root_of tree).capacity s command r s)
-    → (result : Result ℕ Refusal) → result ≡ Err r → IsApplied g command result tree tree
-refused_first g tree command works only_now r own cause refused result is =
-    subst (λ (x : Result ℕ Refusal). IsApplied g command x tree tree) (sym is)
-    (ended.stays_first g (command_ending (root_of tree).capacity command) tree works only_now (Err r) (ended.other_refusal r own.0) (cause, own.1) tt refused)
 
 -- .. for a store that had failed
 pub failed_first : {D : Type 0} (g : Ghosts D) (tree : Tree D g) (command : Command) → has_failed tree ≡ true → IsApplied g command (Err Failed) tree tree

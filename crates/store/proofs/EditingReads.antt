@@ -1,6 +1,5 @@
 -- A command planned by reading the tree.
-use Rattle.std.proofs.Common.{◌≡◌, ◌≢◌, ℕ, false, true, Result, Ok, Err, OnOk, OnErr, IfErr, IsErrOf, List, refl, sym, ap, ap₂, ◌∙◌, subst}
-use Rattle.std.specs.Prelude.{IsTrue}
+use Rattle.std.proofs.Common.{◌≡◌, ◌≢◌, ℕ, false, true, Result, Ok, Err, OnOk, OnErr, IfErr, IsErrOf, List, refl, sym, ap, ap₂, ◌∙◌, subst, IsTrue}
 use Rattle.disk.specs.Disk.{HasRisen}
 use Rattle.disk.specs.declared.disk.Disk.{Ghosts}
 use Rattle.lattice.specs.Corners.{Corner}
@@ -69,9 +68,6 @@ quiet_read (Err r) P only ready = λ other. ((λ e. cc), ready)
 module _ {D : Type 0} (g : Ghosts D) (old new : Tree D g) (keeps : HasOnlyRead g old new) where
   still_staged_by : (c : Corner) → HasStaged old c → HasStaged new c
   still_staged_by c staged = subst (λ (page_map : PageMapValue). HasFreshHeights c page_map) (sym keeps.page_map) staged
-
-  pub none_staged_by : (c : Corner) → HasStaged new c → HasStaged old c
-  none_staged_by c staged = subst (λ (page_map : PageMapValue). HasFreshHeights c page_map) keeps.page_map staged
 
   -- what is read is the mosaic of the state
   module _ (works : has_failed old ≡ false) (s : State) (at : IsInState g old s) where

@@ -1,6 +1,5 @@
 -- A call that may commit, by the trees that it goes through: what commits nothing, and a commit of other contents.
-use Rattle.std.proofs.Common.{◌≡◌, ◌≢◌, ◌⊎◌, inl, inr, ⊎_elim, ℕ, ◌≤◌, ◌<◌, Bool, true, false, true≢false, refl, sym, ap, ap₂, ◌∙◌, subst, arith}
-use Rattle.std.specs.Prelude.{Option, Some, None, Result, Ok, Err, OnOk, OnErr, IfOk, IfErr, IsTrue, if◌then◌else◌}
+use Rattle.std.proofs.Common.{◌≡◌, ◌≢◌, ◌⊎◌, inl, inr, ⊎_elim, ℕ, ◌≤◌, ◌<◌, Bool, true, false, true≢false, refl, sym, ap, ap₂, ◌∙◌, subst, arith, Option, Some, None, Result, Ok, Err, OnOk, OnErr, IfOk, IfErr, IsTrue, if◌then◌else◌}
 use Rattle.std.proofs.lemmas.Bool.{lt-ltb}
 use Rattle.disk.specs.Disk.{Image, HasRisen}
 use Rattle.disk.specs.Stops.{LeavesOnly, weaker}
@@ -23,7 +22,7 @@ use Rattle.store.specs.Standing.{Holds, StandsFor}
 use Rattle.store.specs.States.{StandsForState, IsStateOf}
 use Rattle.store.specs.StoreState.{known_by}
 use Rattle.store.specs.TreeStates.{IsInState}
-use Rattle.store.proofs.EditingSteps.{in_memory, no_call_yet, refusal_is}
+use Rattle.store.proofs.EditingSteps.{refusal_is}
 use Rattle.store.proofs.InMemory.{is_working}
 use Rattle.store.proofs.Opened.{in_state}
 use Rattle.store.proofs.States.{at_failure}
@@ -249,14 +248,6 @@ module _ {D T : Type 0} (g : Ghosts D) (ending : Ending T) (old new : Tree D g) 
         ),
       );
     }
-
--- what is refused before anything is done, or is idle
-pub stays_first : {D T : Type 0} (g : Ghosts D) (ending : Ending T) (tree : Tree D g) → has_failed tree ≡ false → ((disk : D) (image : Image) → g.honest disk → g.since disk (g.moment disk) image → g.may disk image)
-    → (answer : Result T Refusal) → IsNoFault answer → IfErr answer (λ r. IsTrue (ending.may_refuse r) × (r ≢ Failed)) → IfOk answer (λ x. ending.Knows (root_of tree) x (root_of tree))
-    → ((s : State) → IsInState g tree s → ending.Happens s answer s) → HasEnded g ending answer tree tree
-stays_first g ending tree works only_now answer other own known happens =
-    let nothing : CommitsNothing {T = Unit {0}} g tree tree (Ok tt) = in_memory g tree tree (Ok tt) only_now (no_call_yet g tree) works (λ _ s at. at) (λ device. never_refused tt Device device) in
-    quiet g ending tree tree works (Ok tt) nothing works (λ honest s at. (refl, refl)) answer other own known refl (λ honest s at. happens s at)
 
 -- a store that had failed
 pub had_failed : {D T : Type 0} (g : Ghosts D) (ending : Ending T) (tree : Tree D g) → has_failed tree ≡ true → IsTrue (ending.may_refuse Failed)

@@ -1,19 +1,16 @@
 -- The stored tile of a corner: its samples and its bytes are those of the mosaic's tile.
-use Rattle.std.proofs.Common.{◌≡◌, ℕ, zero, suc, ◌+◌, ◌*◌, ◌<◌, ℤ, pos, Bool, cond, IsTrue, List, [], ◌∷◌, length, get_or, map, Contains, sym, ap, ◌∙◌, subst, arith}
-use Rattle.std.specs.Prelude.{Option, Some, IsSomeAnd, slice_get}
+use Rattle.std.proofs.Common.{◌≡◌, ℕ, zero, suc, ℤ, Bool, cond, IsTrue, List, [], ◌∷◌, map, Contains, sym, ap, ◌∙◌, subst, arith, Some}
 use Rattle.std.proofs.lemmas.List.Elements.{All-contains}
-use Rattle.std.proofs.lemmas.Option.{get_or_from_slice_get, slice_get_within, slice_get-get_or}
 use Rattle.lattice.specs.Corners.{Corner, is_before}
 use Rattle.lattice.specs.Mosaic.{Mosaic, IsMosaic, samples_among, samples_of}
-use Rattle.hgt.specs.Bytes.{sample_of, hgt_bytes}
+use Rattle.hgt.specs.Bytes.{hgt_bytes}
 use Rattle.hgt.proofs.BytesLemmas.{hgt_bytes-samples_in}
-use Rattle.catalogue.specs.Reading.{IsSampleOf}
 use Rattle.catalogue.proofs.Mosaics.{corner_of, rising_tiles}
 use Rattle.lattice.proofs.CornerOrder.{before_not_same, same_from}
 use Rattle.lattice.proofs.Rising.{AllAfter, Rising}
 use Rattle.lattice.specs.declared.point.Point.{Point}
 use Rattle.cow_tree.specs.Stored.{StoredTile, mosaic_of_tiles, plane_bytes, samples_of_plane}
-use Rattle.store.proofs.Pages.{bytes_of_plane, length_plane, length_samples, sample_in_page}
+use Rattle.store.proofs.Pages.{bytes_of_plane, length_plane}
 use Rattle.store.proofs.HeldTiles.{IsFilled, AreTilesOf, as_tile}
 
 abbrev pub stored_corner : StoredTile → Corner
@@ -58,19 +55,6 @@ module _ (n : ℕ) (tiles : List StoredTile) (m : Mosaic) (c : Corner) (t : Stor
 
   filled : IsFilled n t
   filled = All-contains (IsFilled n) tiles t are.filled there
-
-  -- a sample read from its page is the mosaic's
-  pub sample_stored : (i j e : ℕ) (page : List ℕ) → e ≡ 2048 * i + j → j < 2048 → e < n * n → slice_get t.heights i ≡ Some page
-      → IsSampleOf m c e (sample_of (get_or page (2 * j) 0) (get_or page (2 * j + 1) 0))
-  sample_stored i j e page here below inside read =
-      let samples : List ℤ = samples_of_plane n t.heights in
-      let within : e < length samples = omega (arith, inside, length_samples n t.heights filled.pages filled.enough) in
-      let page_is : get_or t.heights i [] ≡ page = get_or_from_slice_get t.heights i page [] read in
-      let value : get_or samples e (pos 0) ≡ sample_of (get_or page (2 * j) 0) (get_or page (2 * j + 1) 0) =
-      sample_in_page t.heights i j e filled.pages (slice_get_within t.heights i page read) here below n (pos 0) inside filled.enough
-      ∙ ap (λ (p : List ℕ). sample_of (get_or p (2 * j) 0) (get_or p (2 * j + 1) 0)) page_is in
-      subst (λ (o : Option (List ℤ)). IsSomeAnd o (λ l. slice_get l e ≡ Some (sample_of (get_or page (2 * j) 0) (get_or page (2 * j + 1) 0)))) (sym samples_stored)
-      (slice_get-get_or samples e (pos 0) within ∙ ap (λ (s : ℤ). Some s) value)
 
   -- the pages joined and cut are the HGT bytes of the tile's own samples
   pub bytes_stored : (samples : List ℤ) × ((samples_of m c ≡ Some samples) × (plane_bytes n t.heights ≡ hgt_bytes samples))

@@ -1,6 +1,5 @@
 -- What a store holds from one commit to the next.
-use Rattle.std.proofs.Common.{◌≡◌, ℕ, ◌+◌, List, All, refl, sym, ap, ap₂, ◌∙◌, subst}
-use Rattle.std.specs.Prelude.{Ok}
+use Rattle.std.proofs.Common.{◌≡◌, ℕ, ◌+◌, List, All, refl, sym, ap, ap₂, ◌∙◌, subst, Ok}
 use Rattle.std.specs.List.{AllZip}
 use Rattle.page_codec.specs.Formats.{number_of}
 use Rattle.lattice.specs.Corners.{Corner}
@@ -55,13 +54,6 @@ holds_with side capacity stored c command new sinks tiles holds makes are_sinks 
     (right_next side capacity c.mosaic new command stored.tiles tiles holds.valid makes (held side capacity stored c holds) are keep holds.kept)
     (ap (λ (l : List Corner). stale_after c.mosaic command l new) holds.stale
     ∙ stale_next side capacity c.mosaic new command stored.tiles tiles holds.valid makes (held side capacity stored c holds) are keep)
-
--- .. and one that leaves them
-pub holds_next : (side capacity : ℕ) (stored : Stored) (c : Contents) (command : Command) (new : Mosaic) (tiles : List StoredTile) → Holds side capacity stored c
-    → effect capacity c.mosaic command ≡ Ok new → new.sinks ≡ c.mosaic.sinks → IsMosaic new → AreTilesOf side tiles new → KeepFresh c.mosaic command stored.tiles tiles
-    → Holds side capacity (next_commit stored stored.sinks tiles (c.count + 1)) (made_by c command new)
-holds_next side capacity stored c command new tiles holds makes sinks valid are keep =
-    holds_with side capacity stored c command new stored.sinks tiles holds makes (holds.sinks ∙ sym sinks) valid are keep
 
 -- ---- an image stands for at most one
 

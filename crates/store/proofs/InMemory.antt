@@ -1,6 +1,5 @@
 -- The commands of whole tiles in a state, by what the tree holds in memory.
-use Rattle.std.proofs.Common.{◌≡◌, ℕ, ◌+◌, ◌<◌, ◌^◌, false, List, [], ◌∷◌, map, refl, sym, ap, ◌∙◌, arith}
-use Rattle.std.specs.Prelude.{Ok, Err}
+use Rattle.std.proofs.Common.{◌≡◌, ℕ, false, List, [], ◌∷◌, map, refl, sym, ap, ◌∙◌, Ok, Err}
 use Rattle.disk.specs.Disk.{Image}
 use Rattle.disk.specs.declared.disk.Disk.{Ghosts}
 use Rattle.lattice.specs.Corners.{Corner}
@@ -56,6 +55,3 @@ module _ {D : Type 0} (g : Ghosts D) (tree : Tree D g) (works : has_failed tree 
     accepted = (made, makes);
     worn = sym at.number ∙ worn;
   }
-
-  pub room_at : (root_of tree).number + 1 < 2 ^ 64 → s.contents.number < last_number
-  room_at less = let same = at.number in omega (arith, less, same)

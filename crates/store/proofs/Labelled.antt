@@ -1,6 +1,5 @@
 -- Labellings that are kept are right where the store's tree is sure; and reads of the tree one after another.
-use Rattle.std.proofs.Common.{◌≡◌, ◌≢◌, ◌⊎◌, inl, inr, ℕ, ℤ, ◌≤ℤ◌, false, true, List, Contains, Option, Some, None, Result, Ok, Err, refl, sym, ap, ◌∙◌, subst, true≢false, arith}
-use Rattle.std.specs.Prelude.{IsOk, IfOk, IfErr, IfSome, IsErrOf, OnErr, option_map, slice_index, slice_index_or}
+use Rattle.std.proofs.Common.{◌≡◌, ◌≢◌, ◌⊎◌, inl, inr, ℕ, ℤ, ◌≤ℤ◌, false, true, List, Contains, Option, Some, None, Result, Ok, Err, refl, sym, ap, ◌∙◌, subst, true≢false, arith, IsOk, IfOk, IfErr, IfSome, IsErrOf, OnErr, option_map, slice_index, slice_index_or}
 use Rattle.std.proofs.lemmas.List.Elements.{All-contains}
 use Rattle.disk.specs.Disk.{Image, HasRisen}
 use Rattle.disk.specs.declared.disk.Disk.{Ghosts}
@@ -33,7 +32,7 @@ use Rattle.store.specs.Labelling.{IsSure}
 use Rattle.store.specs.Queried.{IsTileOf}
 use Rattle.store.specs.TreeStates.{IsInState}
 use Rattle.store.proofs.Finding.{rising_staged}
-use Rattle.store.proofs.Querying.{mosaic_at, readable_at, same_mosaic_read, still_readable}
+use Rattle.store.proofs.Querying.{mosaic_at, readable_at, still_readable}
 use Rattle.store.proofs.QueryingPages.{one_tile}
 
 -- ---- what is sure
@@ -44,7 +43,7 @@ module _ {D : Type 0} (g : Ghosts D) where
   was_sure old new keeps sure = record {
     readable = was_readable g old new keeps sure.readable;
     kept = subst (λ (ts : List StoredTile). KeepRight (mosaic_of g old) ts) (keeps.staged sure.readable.honest)
-        (subst (λ (m : Mosaic). KeepRight m (staged_in g new)) (same_mosaic g old new keeps sure.readable) sure.kept);
+        (subst (λ (m : Mosaic). KeepRight m (staged_in g new)) (same_mosaic g old new keeps sure.readable.honest) sure.kept);
   }
 
   module _ (tree : Tree D g) (works : has_failed tree ≡ false) (s : State) (at : IsInState g tree s) where
@@ -63,7 +62,7 @@ module _ {D : Type 0} (g : Ghosts D) where
       record {
         readable = still_readable g old new works keeps honest s at;
         kept = subst (λ (ts : List StoredTile). KeepRight (mosaic_of g new) ts) (sym (keeps.staged honest))
-            (subst (λ (m : Mosaic). KeepRight m (staged_in g old)) (sym (same_mosaic_read g old new works keeps honest)) was.kept);
+            (subst (λ (m : Mosaic). KeepRight m (staged_in g old)) (sym (same_mosaic g old new keeps honest)) was.kept);
       }
 
 -- ---- the tile whose planes are kept

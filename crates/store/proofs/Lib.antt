@@ -1,6 +1,4 @@
 pub mod AcceptedInTurn
-pub mod AskedTiles
-pub mod AskedTrees
 pub mod Committed
 pub mod EditingReads
 pub mod EditingSteps
@@ -17,13 +15,12 @@ pub mod Moves
 pub mod Nearby
 pub mod NewHeights
 pub mod Opened
-pub mod Openings
 pub mod PageRows
 pub mod Pages
 pub mod PagesMet
 pub mod Patched
 pub mod Querying
-pub mod QueryingDrainage
+pub mod AskedTrees
 pub mod QueryingPages
 pub mod Reopening
 pub mod RightPlanes
@@ -38,7 +35,6 @@ pub mod SteppedTrees
 pub mod StagingSteps
 pub mod StoreCalls
 pub mod Underway
-pub mod UpgradedTrees
 pub mod VoidPages
 pub mod VoidPoints
 pub mod WaterHeld

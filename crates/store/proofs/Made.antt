@@ -1,6 +1,5 @@
 -- What an edit makes of the mosaic, once it is staged.
-use Rattle.std.proofs.Common.{◌≡◌, inl, inr, ⊎_elim, ℕ, true, false, List, not, refl, sym, ap, ◌∙◌, subst}
-use Rattle.std.specs.Prelude.{None, Ok}
+use Rattle.std.proofs.Common.{◌≡◌, inl, inr, ⊎_elim, ℕ, true, false, List, not, refl, sym, ap, ◌∙◌, subst, None, Ok}
 use Rattle.disk.specs.declared.disk.Disk.{Ghosts}
 use Rattle.lattice.specs.Corners.{Corner, same_corner}
 use Rattle.lattice.specs.Mosaic.{Mosaic, IsMosaic}

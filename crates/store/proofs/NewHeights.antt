@@ -1,6 +1,5 @@
 -- New heights of points: what they make of samples, page by page and all together.
-use Rattle.std.proofs.Common.{◌≡◌, ◌≢◌, ◌⊎◌, inl, inr, ⊎_elim, ℕ, suc, ◌+◌, ◌*◌, ◌/◌, ◌<◌, ◌≤◌, ℤ, Bool, true, false, cond, List, [], ◌∷◌, ◌++◌, length, get_or, set, take, take_all, Contains, nat_eq, zero, refl, sym, ap, ◌∙◌, subst, arith}
-use Rattle.std.specs.Prelude.{◌&&◌, ◌||◌, IsTrue}
+use Rattle.std.proofs.Common.{◌≡◌, ◌≢◌, ◌⊎◌, inl, inr, ⊎_elim, ℕ, suc, ◌+◌, ◌*◌, ◌/◌, ◌<◌, ◌≤◌, ℤ, Bool, true, false, cond, List, [], ◌∷◌, ◌++◌, length, get_or, set, take, take_all, Contains, nat_eq, zero, refl, sym, ap, ◌∙◌, subst, arith, ◌&&◌, ◌||◌, IsTrue}
 use Rattle.std.proofs.lemmas.Bool.{and_from, false_from_ne_true}
 use Rattle.std.proofs.lemmas.Cmp.{nat_eq_equiv}
 use Rattle.std.proofs.lemmas.List.{length-set, take_more}
@@ -27,10 +26,6 @@ use Rattle.store.proofs.VoidPages.{sample_put, sample_beside}
 or_none : (b : Bool) → (b || false) ≡ b
 or_none true = refl
 or_none false = refl
-
-or_joined : (a b c : Bool) → (a || (b || c)) ≡ ((a || b) || c)
-or_joined true b c = refl
-or_joined false b c = refl
 
 -- ---- one edit after another
 
@@ -159,11 +154,6 @@ module _ (n : ℕ) (c : Corner) (i : ℕ) where
   one_point [] h (k, below, here) is = absurd (omega (arith, below))
   one_point (x ∷ xs) h (zero, below, here) is = ap (λ b. b || has_point n (points_of xs) c i) (ap (λ (y : NewHeight). is_in_page n c i y.point) here ∙ is)
   one_point (x ∷ xs) h (suc k, below, here) is = or_true (is_in_page n c i x.point) (has_point n (points_of xs) c i) (one_point xs h (k, omega (arith, below), here) is)
-
-  -- one point more
-  pub more_points : (xs : List NewHeight) (h : NewHeight) → has_point n (points_of (xs ++ h ∷ [])) c i ≡ (has_point n (points_of xs) c i || is_in_page n c i h.point)
-  more_points [] h = or_none (is_in_page n c i h.point)
-  more_points (x ∷ xs) h = ap (λ b. is_in_page n c i x.point || b) (more_points xs h) ∙ or_joined (is_in_page n c i x.point) (has_point n (points_of xs) c i) (is_in_page n c i h.point)
 
   -- a page in which none lies is left
   pub points_left : (heights : List NewHeight) → 3 ≤ n → IsTrue (is_corner c) → has_point n (points_of heights) c i ≡ false → LeavesPage n (heightened heights) c i

@@ -1,35 +1,67 @@
--- A tree that was opened, and what its store is then at.
-use Rattle.std.proofs.Common.{◌≡◌, ◌⊎◌, inl, inr, ℕ, false, sym, ◌∙◌, subst}
-use Rattle.std.specs.Prelude.{Some}
+-- When opening doesn't refuse, and what a store of a tree that was opened is at.
+use Rattle.std.proofs.Common.{◌≡◌, ◌⊎◌, inl, inr, ℕ, List, sym, subst, false, ◌∙◌, Result, Ok, Err, Some}
 use Rattle.disk.specs.Disk.{Image}
-use Rattle.disk.specs.declared.disk.Disk.{Ghosts}
+use Rattle.lattice.specs.declared.refusal.Refusal.{Refusal}
+use Rattle.lattice.specs.declared.refusal.Refusal.TheVariants.{Device, NoMemory}
 use Rattle.page_codec.specs.Roots.{RootValue}
+use Rattle.roots.specs.Opening.{OpensAs}
+use Rattle.roots.proofs.OneAnswer.{only_root}
 use Rattle.engine.specs.State.{Contents, State, working}
-use Rattle.cow_tree.specs.Layout.{StoresAt, Stands}
 use Rattle.cow_tree.specs.Stored.{Stored}
-use Rattle.cow_tree.specs.Trees.{disk_of, root_of, has_failed, sinks_of, staged_in, IsAt as IsTreeAt}
+use Rattle.page_map.specs.TileLocations.{TileLocation}
+use Rattle.cow_tree.specs.Layout.{IsLaidOut, Stands, StoresAt}
+use Rattle.cow_tree.specs.Trees.{MayRefuse, disk_of, root_of, has_failed, sinks_of, staged_in, IsAt as IsTreeAt}
+use Rattle.cow_tree.proofs.OneStored.{one_stored}
+use Rattle.store.specs.Standing.{Holds, StandsFor}
+use Rattle.disk.specs.declared.disk.Disk.{Ghosts}
 use Rattle.cow_tree.specs.declared.tree.Tree.{Tree}
-use Rattle.store.specs.Standing.{Holds}
 use Rattle.store.specs.States.{StandsForState}
 use Rattle.store.specs.TreeStates.{IsInState}
-use Rattle.store.proofs.Openings.{found_holds}
 use Rattle.derived.proofs.RootStored.{root_side, root_capacity}
 use Rattle.store.proofs.States.{held_by_root, at_contents}
+
+ok_same : (a b : RootValue) → ◌≡◌ {A = Result RootValue Refusal} (Ok a) (Ok b) → a ≡ b
+ok_same a b e = cc
+
+module _ (sectors : ℕ) (image : Image) where
+  -- the roots don't refuse it
+  pub roots_open : (s : Stored) (why : Refusal) → Stands sectors image s → OpensAs sectors image (Err why) → ⊥
+  roots_open s why stands opens = let same = only_root sectors image stands.0 (Err why) stands.2.laid_out.store opens in cc
+
+  -- and the tiles of the root that they answer lie there
+  pub tiles_lie : (s : Stored) (root : RootValue) → Stands sectors image s → OpensAs sectors image (Ok root) → (tiles : List TileLocation) × IsLaidOut sectors image root tiles
+  tiles_lie s root stands opens =
+      let same : root ≡ stands.0 = ok_same root stands.0 (only_root sectors image stands.0 (Ok root) stands.2.laid_out.store opens) in
+      (stands.1, subst (λ (r : RootValue). IsLaidOut sectors image r stands.1) (sym same) stands.2.laid_out)
+
+  -- so it is refused only for the disk or for memory
+  pub refused_for : (s : Stored) (why : Refusal) → Stands sectors image s → MayRefuse sectors image why → (why ≡ Device) ⊎ (why ≡ NoMemory)
+  refused_for s why stands (inl device) = inl device
+  refused_for s why stands (inr (inl memory)) = inr memory
+  refused_for s why stands (inr (inr (inl opens))) = absurd (roots_open s why stands opens)
+  refused_for s why stands (inr (inr (inr (damaged, (root, (opens, none)))))) = let lie = tiles_lie s root stands opens in absurd (none lie.0 lie.1)
+
+  -- what is found there holds the contents
+  pub found_holds : (side capacity : ℕ) (s : Stored) (c : Contents) → Stands sectors image s → StandsFor sectors side capacity image c → Holds side capacity s c
+  found_holds side capacity s c stands is = subst (λ (x : Stored). Holds side capacity x c) (one_stored sectors image is.0 s is.1 stands) is.2
+
+  -- those of the two that the image stands for
+  pub found_one : (side capacity : ℕ) (s : Stored) (a b : Contents) → Stands sectors image s → StandsFor sectors side capacity image a ⊎ StandsFor sectors side capacity image b
+      → Holds side capacity s a ⊎ Holds side capacity s b
+  found_one side capacity s a b stands (inl is) = inl (found_holds side capacity s a stands is)
+  found_one side capacity s a b stands (inr is) = inr (found_holds side capacity s b stands is)
 
 -- a tree that hasn't failed, with nothing staged, at what holds contents
 module _ {D : Type 0} (g : Ghosts D) (tree : Tree D g) (stored : Stored) (at : IsTreeAt g tree stored) (clean : staged_in g tree ≡ stored.tiles) (seen : g.may (disk_of tree) (g.seen (disk_of tree))) where
   works : has_failed tree ≡ false
   works = at.ready.works
 
-  pub each_stores : (image : Image) → g.may (disk_of tree) image → StoresAt (g.size (disk_of tree)) (root_of tree) tree.page_map.committed stored image
-  each_stores image may = subst (λ (r : RootValue). StoresAt (g.size (disk_of tree)) r tree.page_map.committed stored image) (tree.known works) (at.each image may)
-
   seen_stores : StoresAt (g.size (disk_of tree)) (root_of tree) tree.page_map.committed stored (g.seen (disk_of tree))
-  seen_stores = each_stores (g.seen (disk_of tree)) seen
+  seen_stores = at.each (g.seen (disk_of tree)) seen
 
   pub in_state : sinks_of tree ≡ (root_of tree).sinks → (side capacity : ℕ) (c : Contents) → Holds side capacity stored c → IsInState g tree (working c)
   in_state declared side capacity c holds =
-      at_contents g (disk_of tree) (root_of tree) (has_failed tree) (λ (s : Stored). IsTreeAt g tree s) (staged_in g tree) (sinks_of tree) tree.page_map.committed stored c works each_stores seen at clean declared
+      at_contents g (disk_of tree) (root_of tree) (has_failed tree) (λ (s : Stored). IsTreeAt g tree s) (staged_in g tree) (sinks_of tree) tree.page_map.committed stored c works at.each seen at clean declared
       (held_by_root (g.size (disk_of tree)) (root_of tree) tree.page_map.committed stored (g.seen (disk_of tree)) seen_stores side capacity c holds)
 
   module _ (side capacity : ℕ) where

@@ -1,16 +1,14 @@
 -- Bytes and samples of a plane by its pages.
-use Rattle.std.proofs.Common.{◌≡◌, ℕ, zero, suc, ◌+◌, ◌-◌, ◌*◌, ◌<◌, ◌≤◌, ℤ, List, [], ◌∷◌, ◌++◌, length, take, get_or, set, All, refl, sym, ap, ◌∙◌, subst, arith}
+use Rattle.std.proofs.Common.{◌≡◌, ℕ, zero, suc, ◌+◌, ◌-◌, ◌*◌, ◌<◌, ◌≤◌, ℤ, List, [], ◌∷◌, ◌++◌, length, take, get_or, set, All, refl, sym, ap, ◌∙◌, subst, arith, Some, slice_get}
 use Rattle.std.specs.List.{concat}
-use Rattle.std.specs.Prelude.{Some, slice_get}
 use Rattle.std.proofs.Math.ListN.{get_or-append}
-use Rattle.std.proofs.Math.Seq.{get_or-append_right, take-set-lt}
-use Rattle.std.proofs.lemmas.List.{append-nil, length-append, length-set, length-take, length-take-le, get_or-set_same, get_or-take, set-set, set-append_left, set-append_right, take_more}
+use Rattle.std.proofs.Math.Seq.{get_or-append_right}
+use Rattle.std.proofs.lemmas.List.{append-nil, length-append, length-set, length-take, length-take-le, get_or-take, take_more}
 use Rattle.std.proofs.lemmas.List.Elements.{All-nil, All-head, All-tail, All-append, All-take, All-set}
 use Rattle.std.proofs.lemmas.List.Folds.{concat-append}
 use Rattle.std.proofs.lemmas.Option.{get_or_from_slice_get, slice_get_within}
-use Rattle.lattice.specs.Mosaic.{IsSample}
-use Rattle.hgt.specs.Bytes.{sample_of, samples_in, high_byte, low_byte}
-use Rattle.hgt.proofs.BytesLemmas.{samples_in-set, get_or-samples_in, length-samples_in}
+use Rattle.hgt.specs.Bytes.{sample_of, high_byte, low_byte}
+use Rattle.hgt.proofs.BytesLemmas.{get_or-samples_in, length-samples_in}
 use Rattle.hgt.proofs.Words.{byte-high_byte, byte-low_byte}
 use Rattle.cow_tree.specs.Stored.{IsPage, PlanePages, plane_bytes, samples_of_plane}
 
@@ -54,20 +52,6 @@ byte_joined (page ∷ rest) (suc i) k d all within below =
     ∙ ap (λ j. get_or (concat rest) j d) (let e : 4096 * suc i + k - length page ≡ 4096 * i + k = omega (arith, whole) in e)
     ∙ byte_joined rest i k d (All-tail IsPage page rest all) (omega (arith, within)) below
 
--- so is a byte put into a page
-pub put_joined : (pages : PlanePages) (i k b : ℕ) → All IsPage pages → i < length pages → k < 4096
-    → set (concat pages) (4096 * i + k) b ≡ concat (set pages i (set (get_or pages i []) k b))
-put_joined [] i k b all within below = absurd (omega (arith, within))
-put_joined (page ∷ rest) zero k b all within below =
-    let whole = (All-head IsPage page rest all).whole in
-    ap (λ j. set (page ++ concat rest) j b) (let e : 4096 * 0 + k ≡ k = omega arith in e)
-    ∙ set-append_left page (concat rest) k b (omega (arith, whole, below))
-put_joined (page ∷ rest) (suc i) k b all within below =
-    let whole = (All-head IsPage page rest all).whole in
-    set-append_right page (concat rest) 4096 (4096 * suc i + k) b whole (omega arith)
-    ∙ ap (λ j. page ++ set (concat rest) j b) (let e : 4096 * suc i + k - 4096 ≡ 4096 * i + k = omega arith in e)
-    ∙ ap (λ (l : List ℕ). page ++ l) (put_joined rest i k b (All-tail IsPage page rest all) (omega (arith, within)) below)
-
 -- the page with a sample at its index in the page, most significant byte first
 abbrev pub with_bytes : ℕ → ℤ → List ℕ → List ℕ
 with_bytes j s page = set (set page (2 * j) (high_byte s)) (2 * j + 1) (low_byte s)
@@ -85,37 +69,6 @@ module _ (pages : PlanePages) (i j e : ℕ) (all : All IsPage pages) (within : i
 
   low_at : 4096 * i + (2 * j + 1) ≡ 2 * e + 1
   low_at = omega (arith, here)
-
-  put_both : (s : ℤ) → concat (set pages i (with_bytes j s (get_or pages i []))) ≡ set (set (concat pages) (2 * e) (high_byte s)) (2 * e + 1) (low_byte s)
-  put_both s =
-      let page : List ℕ = get_or pages i [] in
-      let once : List ℕ = set page (2 * j) (high_byte s) in
-      let first : set (concat pages) (2 * e) (high_byte s) ≡ concat (set pages i once) =
-      ap (λ k. set (concat pages) k (high_byte s)) (sym high_at) ∙ put_joined pages i (2 * j) (high_byte s) all within (omega (arith, below)) in
-      let still : All IsPage (set pages i once) = All-set IsPage pages i once (record {
-        whole = length-set page (2 * j) (high_byte s) ∙ (all i [] within).whole;
-        bytes = All-set IsByte page (2 * j) (high_byte s) (byte-high_byte s) (all i [] within).bytes;
-      }) all in
-      let second : set (concat (set pages i once)) (2 * e + 1) (low_byte s) ≡ concat (set (set pages i once) i (set (get_or (set pages i once) i []) (2 * j + 1) (low_byte s))) =
-      ap (λ k. set (concat (set pages i once)) k (low_byte s)) (sym low_at)
-      ∙ put_joined (set pages i once) i (2 * j + 1) (low_byte s) still (subst (λ m. i < m) (sym (length-set pages i once)) within) (omega (arith, below)) in
-      let back : concat (set (set pages i once) i (set (get_or (set pages i once) i []) (2 * j + 1) (low_byte s))) ≡ concat (set pages i (with_bytes j s page)) =
-      ap (λ (p : List ℕ). concat (set (set pages i once) i (set p (2 * j + 1) (low_byte s)))) (get_or-set_same pages i once [] within)
-      ∙ ap concat (set-set pages i once (with_bytes j s page)) in
-      sym back ∙ sym second ∙ ap (λ (l : List ℕ). set l (2 * e + 1) (low_byte s)) (sym first)
-
-  -- a sample put into its page is put into the plane
-  pub put_sample_in_plane : (n : ℕ) (s : ℤ) → IsSample s → e < n * n → 2 * (n * n) ≤ 4096 * length pages
-      → samples_of_plane n (set pages i (with_bytes j s (get_or pages i []))) ≡ set (samples_of_plane n pages) e s
-  put_sample_in_plane n s is inside enough =
-      let size : ℕ = 2 * (n * n) in
-      let low : take size (set (set (concat pages) (2 * e) (high_byte s)) (2 * e + 1) (low_byte s)) ≡ set (take size (set (concat pages) (2 * e) (high_byte s))) (2 * e + 1) (low_byte s) =
-      take-set-lt size (set (concat pages) (2 * e) (high_byte s)) (2 * e + 1) (low_byte s) (omega (arith, inside)) in
-      let high : take size (set (concat pages) (2 * e) (high_byte s)) ≡ set (take size (concat pages)) (2 * e) (high_byte s) =
-      take-set-lt size (concat pages) (2 * e) (high_byte s) (omega (arith, inside)) in
-      ap (λ (l : List ℕ). samples_in (take size l)) (put_both s)
-      ∙ ap samples_in (low ∙ ap (λ (l : List ℕ). set l (2 * e + 1) (low_byte s)) high)
-      ∙ samples_in-set (plane_bytes n pages) e s is (omega (arith, inside, length_plane n pages all enough))
 
   -- a sample read from its page is that of the plane
   pub sample_in_page : (n : ℕ) (d : ℤ) → e < n * n → 2 * (n * n) ≤ 4096 * length pages

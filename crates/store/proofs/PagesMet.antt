@@ -1,6 +1,5 @@
 -- How many pages of heights an edit meets.
-use Rattle.std.proofs.Common.{◌≡◌, ◌⊎◌, inl, inr, ⊎_elim, ℕ, zero, suc, ◌+◌, ◌*◌, ◌/◌, ◌<◌, ◌≤◌, Bool, true, false, cond, List, [], ◌∷◌, ◌++◌, length, take, drop, get_or, filter, All, Contains, nat_eq, refl, sym, ap, ◌∙◌, subst, arith}
-use Rattle.std.specs.Prelude.{◌&&◌, ◌||◌, Option, Some, None, IfSome, IfNone, IsTrue}
+use Rattle.std.proofs.Common.{◌≡◌, ◌⊎◌, inl, inr, ⊎_elim, ℕ, zero, suc, ◌+◌, ◌*◌, ◌/◌, ◌<◌, ◌≤◌, Bool, true, false, cond, List, [], ◌∷◌, ◌++◌, length, take, drop, get_or, filter, All, Contains, nat_eq, refl, sym, ap, ◌∙◌, subst, arith, ◌&&◌, ◌||◌, Option, Some, None, IfSome, IfNone, IsTrue}
 use Rattle.std.specs.Cmp.{IsEquivalence}
 use Rattle.std.specs.List.{AllByRecursion, IsDistinct}
 use Rattle.std.proofs.lemmas.Bool.{cases_lt, eqb-true, false_from_ne_true}
@@ -72,14 +71,6 @@ or_false a b is other = ap (λ x. x || b) is ∙ other
 
 -- one test more, which passes at one page
 module _ (meets more : ℕ → Bool) (from pages : ℕ) where
-  pub first_still : (found : Option ℕ) → ((i : ℕ) → from ≤ i → more i ≡ false) → IsFirst meets from pages found → IsFirst (λ i. meets i || more i) from pages found
-  first_still None out so = record { some = tt; passed = tt; none = λ i le. or_false (meets i) (more i) (so.none i le) (out i le) }
-  first_still (Some k) out so = record {
-    some = (so.some.0, so.some.1, ap (λ b. b || more k) so.some.2);
-    passed = λ i le below. or_false (meets i) (more i) (so.passed i le below) (out i le);
-    none = tt;
-  }
-
   pub first_page : (page : ℕ) → from ≤ page → page < pages → ((i : ℕ) → more i ≡ nat_eq page i) → (found : Option ℕ) → (least : ℕ) → IfNone found (least ≡ page)
       → IfSome found (λ k. (least ≤ k) × (least ≤ page) × ((least ≡ k) ⊎ (least ≡ page))) → IsFirst meets from pages found → IsFirst (λ i. meets i || more i) from pages (Some least)
   first_page page le below is None least same among so = record {
@@ -102,15 +93,6 @@ module _ (meets more : ℕ → Bool) (from pages : ℕ) where
       by : (least ≡ k) ⊎ (least ≡ page) → (from ≤ least) × (least < pages) × ((meets least || more least) ≡ true)
       by (inl one) = subst (λ (j : ℕ). (from ≤ j) × (j < pages) × ((meets j || more j) ≡ true)) (sym one) (so.some.0, so.some.1, ap (λ b. b || more k) so.some.2)
       by (inr one) = subst (λ (j : ℕ). (from ≤ j) × (j < pages) × ((meets j || more j) ≡ true)) (sym one) (le, below, or_true (meets page) (more page) (is page ∙ nat_eq_equiv.refl page))
-
--- the same by a test that says the same
-pub first_as : (meets other : ℕ → Bool) (from pages : ℕ) (found : Option ℕ) → ((i : ℕ) → other i ≡ meets i) → IsFirst meets from pages found → IsFirst other from pages found
-first_as meets other from pages None same so = record { some = tt; passed = tt; none = λ i le. same i ∙ so.none i le }
-first_as meets other from pages (Some k) same so = record {
-  some = (so.some.0, so.some.1, same k ∙ so.some.2);
-  passed = λ i le below. same i ∙ so.passed i le below;
-  none = tt;
-}
 
 -- ---- those of tiles together
 

@@ -1,27 +1,25 @@
 -- What a query leaves, by the tree before and after its reads.
-use Rattle.std.proofs.Common.{◌≡◌, ◌≢◌, ℕ, Bool, true, false, List, length, map, refl, sym, ap, ap₂, ◌∙◌, subst, true≢false}
-use Rattle.std.specs.Prelude.{None, Result, Ok, Err, IsErrOf, IfOk, IfErr, OnOk, OnErr}
+use Rattle.std.proofs.Common.{◌≡◌, ◌≢◌, ℕ, Bool, true, false, List, refl, sym, ap, ◌∙◌, subst, true≢false, None, Result, Ok, Err, IsErrOf, IfOk, IfErr, OnOk, OnErr}
 use Rattle.disk.specs.Disk.{Image, HasRisen}
 use Rattle.disk.specs.declared.disk.Disk.{Ghosts}
 use Rattle.lattice.specs.Mosaic.{Mosaic, IsMosaic}
 use Rattle.lattice.specs.declared.point.Point.{Point}
 use Rattle.lattice.specs.declared.refusal.Refusal.{Refusal}
 use Rattle.lattice.specs.declared.refusal.Refusal.TheVariants.{Device, Failed}
-use Rattle.page_codec.specs.Roots.{RootValue}
 use Rattle.catalogue.specs.Reading.{MayRefuse}
 use Rattle.engine.specs.Outcomes.{Stays, StaysFailed, Fails}
 use Rattle.engine.specs.State.{State, failing}
+use Rattle.cow_tree.proofs.Clean.{still_clean as clean_still}
 use Rattle.cow_tree.proofs.ReadOnly.{never_refused}
+use Rattle.cow_tree.proofs.TreeReads.{still_readable as readable_still}
 use Rattle.cow_tree.specs.Reading.{mosaic_of, IsReadable, HasOnlyRead}
-use Rattle.cow_tree.specs.Stored.{StoredTile, Stored, AreWhole, mosaic_of_tiles}
-use Rattle.page_map.specs.PageMaps.{PageMapValue, HasFreshHeights}
-use Rattle.cow_tree.specs.Staged.{pages_due}
+use Rattle.cow_tree.specs.Stored.{StoredTile, Stored, mosaic_of_tiles}
 use Rattle.cow_tree.specs.Trees.{disk_of, root_of, has_failed, sinks_of, staged_in, IsAt as IsTreeAt}
 use Rattle.cow_tree.specs.declared.tree.Tree.{Tree}
 use Rattle.drainage.specs.Between.{IsHeldOf}
 use Rattle.drainage.specs.declared.drainage_cache.DrainageCache.{DrainageCache}
 use Rattle.store.specs.Queried.{IsQueried}
-use Rattle.derived.specs.Clean.{IsClean}
+use Rattle.cow_tree.specs.Clean.{IsClean}
 use Rattle.store.specs.TreeStates.{IsInState}
 use Rattle.store.specs.Water.{IsHolding}
 use Rattle.store.proofs.EditingSteps.{refusal_is}
@@ -100,17 +98,7 @@ module _ {D : Type 0} (g : Ghosts D) (old new : Tree D g) (works : has_failed ol
 
   -- nothing is staged still
   pub still_clean : (has_failed old ≡ false → IsClean old) → has_failed new ≡ false → IsClean new
-  still_clean clean _ = let was = clean works in record {
-    none_staged = λ c staged. was.none_staged c (subst (λ page_map. HasFreshHeights c page_map) keeps.page_map staged);
-    none_due = ap (λ (page_map : PageMapValue). length (pages_due page_map)) keeps.page_map ∙ was.none_due;
-    corners = keeps.corners ∙ was.corners ∙ ap (λ (r : RootValue). map (λ e. e.corner) r.entries) (sym keeps.root);
-  }
-
-  -- it is the same mosaic
-  pub same_mosaic_read : g.honest (disk_of new) → mosaic_of g new ≡ mosaic_of g old
-  same_mosaic_read honest =
-      ap₂ (λ (r : RootValue) (sinks : List Point). mosaic_of_tiles r.side sinks (staged_in g new)) keeps.root keeps.sinks
-      ∙ ap (mosaic_of_tiles (root_of old).side (sinks_of old)) (keeps.staged honest)
+  still_clean clean _ = clean_still old new keeps.page_map (clean works)
 
   module _ (honest : g.honest (disk_of new)) (s : State) (at : IsInState g old s) where
     none_new : (image : Image) → g.may (disk_of new) image → g.may (disk_of old) image
@@ -132,13 +120,7 @@ module _ {D : Type 0} (g : Ghosts D) (old new : Tree D g) (works : has_failed ol
     fails_so = record { working = is_working g old works s at; fails = refl }
 
     pub still_readable : IsReadable g new
-    still_readable =
-        let was = readable_at g old works s at (keeps.honest honest) in
-        record {
-          honest = honest;
-          pages = subst AreWhole (sym (keeps.staged honest)) was.pages;
-          valid = subst IsMosaic (sym (same_mosaic_read honest)) was.valid;
-        }
+    still_readable = readable_still g old new keeps honest (readable_at g old works s at (keeps.honest honest))
 
     -- the answer of a call that the disk alone refuses, and that leaves what is held
     pub answered : {T : Type 0} (held : DrainageCache) → IsHeldOf s.contents.mosaic held → (Answers : State → Result T Refusal → State → Type 0) (result : Result T Refusal)

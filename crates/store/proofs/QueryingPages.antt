@@ -1,6 +1,5 @@
 -- The bytes of a tile's plane, read page by page.
-use Rattle.std.proofs.Common.{◌≡◌, ⊎_elim, ℕ, zero, suc, ◌+◌, ◌-◌, ◌*◌, ◌<◌, ◌≤◌, ℤ, true, false, Some, None, List, [], ◌∷◌, ◌++◌, length, take, drop, min, Contains, refl, sym, ap, ◌∙◌, subst, arith}
-use Rattle.std.specs.Prelude.{option_and_then, slice_get}
+use Rattle.std.proofs.Common.{◌≡◌, ⊎_elim, ℕ, zero, suc, ◌+◌, ◌-◌, ◌*◌, ◌<◌, ◌≤◌, ℤ, true, false, Some, None, List, [], ◌∷◌, ◌++◌, length, take, drop, min, Contains, refl, sym, ap, ◌∙◌, subst, arith, option_and_then, slice_get}
 use Rattle.std.specs.List.{concat}
 use Rattle.std.proofs.Math.Seq.{take-append-add}
 use Rattle.std.proofs.lemmas.Bool.{cases_lt, false≢true}

@@ -1,6 +1,5 @@
 -- What a reopening is as a call of an engine.
-use Rattle.std.proofs.Common.{◌≡◌, ◌≢◌, ◌⊎◌, inl, inr, ⊎_elim, ◌≤◌, true, false, IsTrue, [], ◌∷◌, refl, sym, ap, subst}
-use Rattle.std.specs.Prelude.{Some, Result, Ok, Err, OnOk, OnErr, IfErr, IsErrOf}
+use Rattle.std.proofs.Common.{◌≡◌, ◌≢◌, ◌⊎◌, inl, inr, ⊎_elim, ◌≤◌, true, false, IsTrue, [], ◌∷◌, refl, sym, ap, subst, Some, Result, Ok, Err, OnOk, OnErr, IfErr, IsErrOf}
 use Rattle.std.proofs.lemmas.Bool.{both_ways}
 use Rattle.disk.specs.Disk.{HasRisen}
 use Rattle.disk.specs.Stops.{AddsNothing, weaker}

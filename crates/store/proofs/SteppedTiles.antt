@@ -1,6 +1,5 @@
 -- What is stored once a step is made holds what the step makes of the contents.
-use Rattle.std.proofs.Common.{◌≡◌, ℕ, ◌+◌, Bool, true, false, cond, not, List, [], ◌∷◌, sym, ap, ap₂, ◌∙◌, subst}
-use Rattle.std.specs.Prelude.{Some, filter}
+use Rattle.std.proofs.Common.{◌≡◌, ℕ, ◌+◌, Bool, true, false, cond, not, List, [], ◌∷◌, sym, ap, ap₂, ◌∙◌, subst, Some, filter}
 use Rattle.std.specs.List.{AllZip}
 use Rattle.lattice.specs.Corners.{Corner, same_corner}
 use Rattle.lattice.specs.Mosaic.{Tile, Mosaic, IsMosaic}

@@ -1,6 +1,5 @@
 -- The calls of a store as calls of an engine: questions, and what may commit.
-use Rattle.std.proofs.Common.{◌≡◌, ◌≢◌, ⊎_elim, ℕ, Bool, true, false, [], ◌∷◌, arith, refl, sym, ◌∙◌, ap, subst, inl}
-use Rattle.std.specs.Prelude.{IsTrue, IsErrAnd, Result, Ok, Err, OnOk, OnErr, IfOk, IfErr}
+use Rattle.std.proofs.Common.{◌≡◌, ◌≢◌, ⊎_elim, ℕ, Bool, true, false, [], ◌∷◌, arith, refl, sym, ◌∙◌, ap, subst, inl, IsTrue, IsErrAnd, Result, Ok, Err, OnOk, OnErr, IfOk, IfErr}
 use Rattle.std.specs.Global.{Vec}
 use Rattle.std.proofs.lemmas.Bool.{both_ways}
 use Rattle.std.proofs.lemmas.Result.{IfErr-weaker}

@@ -1,6 +1,5 @@
 -- A page whose voids are filled.
-use Rattle.std.proofs.Common.{◌≡◌, ◌≢◌, ◌⊎◌, inl, inr, ℕ, ◌+◌, ◌*◌, ◌<◌, ◌≤◌, ℤ, pos, negsuc, Bool, true, false, cond, not, List, length, get_or, set, Contains, nat_eq, refl, sym, ap, ap₂, ◌∙◌, subst, arith}
-use Rattle.std.specs.Prelude.{◌&&◌, ◌||◌, nat_lt, FitsSigned}
+use Rattle.std.proofs.Common.{◌≡◌, ◌≢◌, ◌⊎◌, inl, inr, ℕ, ◌+◌, ◌*◌, ◌<◌, ◌≤◌, ℤ, pos, negsuc, Bool, true, false, cond, not, List, length, get_or, set, Contains, nat_eq, refl, sym, ap, ap₂, ◌∙◌, subst, arith, ◌&&◌, ◌||◌, nat_lt, FitsSigned}
 use Rattle.std.proofs.lemmas.Int.{to_z-of_z, ints}
 use mir.Syntax.{w16}
 use mir.Val.{to_z, of_z}
@@ -123,14 +122,6 @@ module _ (n : ℕ) (m : Mosaic) (patch : Patch) (rim : RimVoids) (valid : IsMosa
           let s_is : s ≡ patch.height = is ∙ ap (λ b. cond b patch.height own) fills in
           either_way (is_due n rim patch e s) patch.height s s_is ∙ sym (ap (λ b. cond b patch.height s) fills)
       by false leaves = own_made s (is_void s) refl (sym (is ∙ ap (λ b. cond b patch.height own) leaves))
-
--- filled twice is filled once
-pub filled_once : (m : Mosaic) (patch : Patch) (p : Point) (s : ℤ) → filled m patch p (filled m patch p s) ≡ filled m patch p s
-filled_once m patch p s = by (is_in_box patch.from patch.to p && is_void_at m p)
-  where
-    by : (b : Bool) → cond b patch.height (cond b patch.height s) ≡ cond b patch.height s
-    by true = refl
-    by false = refl
 
 -- ---- the samples of a page, one after another
 

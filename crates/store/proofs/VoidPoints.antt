@@ -1,6 +1,5 @@
 -- Void points, by what the tiles that hold them say.
-use Rattle.std.proofs.Common.{◌≡◌, ◌≢◌, ℕ, zero, suc, ◌*◌, ◌<◌, ℤ, Bool, true, false, cond, List, [], ◌∷◌, get_or, map, Contains, refl, sym, ap, ◌∙◌, arith}
-use Rattle.std.specs.Prelude.{IsTrue}
+use Rattle.std.proofs.Common.{◌≡◌, ◌≢◌, ℕ, zero, suc, ◌*◌, ◌<◌, ℤ, Bool, true, false, cond, List, [], ◌∷◌, get_or, map, Contains, refl, sym, ap, ◌∙◌, arith, IsTrue}
 use Rattle.std.specs.List.{filter}
 use Rattle.std.proofs.lemmas.Bool.{false_from_ne_true}
 use Rattle.std.proofs.lemmas.Bool.Decides.{Decides-int_eq}

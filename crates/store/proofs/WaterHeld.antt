@@ -1,6 +1,5 @@
 -- What is held of a mosaic's water stays right through the calls of a store.
-use Rattle.std.proofs.Common.{◌≡◌, ◌⊎◌, inl, inr, ℕ, Bool, Option, Some, None, sym, ap, subst}
-use Rattle.std.specs.Prelude.{Result, Ok, Err, OnOk}
+use Rattle.std.proofs.Common.{◌≡◌, ◌⊎◌, inl, inr, ℕ, Bool, Option, Some, None, sym, ap, subst, Result, Ok, Err, OnOk}
 use Rattle.disk.specs.declared.disk.Disk.{Ghosts}
 use Rattle.lattice.specs.Corners.{Corner}
 use Rattle.lattice.specs.Mosaic.{Mosaic}

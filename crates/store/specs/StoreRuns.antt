@@ -1,6 +1,5 @@
 -- Laws of what a stop leaves of a store, over a run of calls.
-use Rattle.std.specs.Prelude.{◌≡◌, ℕ, List, ◌∷◌, ◌++◌, Contains}
-use Rattle.std.proofs.Common.{arith, refl, ◌∙◌}
+use Rattle.std.proofs.Common.{arith, refl, ◌∙◌, ◌≡◌, ℕ, List, ◌∷◌, ◌++◌, Contains}
 use Rattle.std.proofs.lemmas.List.Elements.{Contains-append_left, Contains-append_right}
 use Rattle.disk.specs.Disk.{Image}
 use Rattle.disk.specs.Stops.{in_turn, weaker, nothing_done as no_call}

@@ -6,7 +6,7 @@ use Rattle.lattice.specs.declared.refusal.Refusal.{Refusal}
 use Rattle.engine.specs.State.{State}
 use Rattle.cow_tree.specs.Trees.{disk_of, has_failed}
 use Rattle.cow_tree.specs.declared.tree.Tree.{Tree}
-use Rattle.derived.specs.Clean.{IsClean}
+use Rattle.cow_tree.specs.Clean.{IsClean}
 use Rattle.drainage.specs.Between.{IsHeldOf}
 use Rattle.drainage.specs.declared.drainage_cache.DrainageCache.{DrainageCache}
 use Rattle.store.specs.Queried.{IsQueried}

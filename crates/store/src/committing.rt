@@ -2,7 +2,7 @@
 ghost use Rattle.std.specs.Prelude.{◌≡◌, ◌≤◌, ◌<◌, ◌+◌, ◌^◌, false, OnOk, OnErr, if◌then◌else◌};
 ghost use Rattle.cow_tree.specs.Trees.{disk_of, root_of, has_failed, has_begun, records_due};
 ghost use Rattle.store.specs.Staging.{EndsCommand};
-ghost use Rattle.derived.specs.Clean.{IsClean};
+ghost use Rattle.cow_tree.specs.Clean.{IsClean};
 
 use cow_tree::Tree;
 use disk::Disk;

@@ -4,7 +4,7 @@ ghost use Rattle.lattice.specs.declared.refusal.Refusal.TheVariants.{Failed};
 ghost use Rattle.page_codec.specs.Roots.{format_of};
 ghost use Rattle.page_codec.specs.Sizes.{plane_pages_of};
 ghost use Rattle.cow_tree.specs.Trees.{disk_of as disk_under, root_of as root_under, has_failed as have_failed};
-ghost use Rattle.derived.specs.Clean.{IsClean};
+ghost use Rattle.cow_tree.specs.Clean.{IsClean};
 ghost use Rattle.derived.specs.Steps.{HasStepped};
 ghost use Rattle.drainage.specs.Between.{IsHeldOf};
 ghost use Rattle.engine.specs.Engines.{IsCall, answered};

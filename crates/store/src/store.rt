@@ -18,7 +18,7 @@ ghost use Rattle.cow_tree.specs.Trees.{MayRefuse, has_failed as have_failed};
 ghost use Rattle.store.specs.Formatted.{format_2, format_by};
 ghost use Rattle.derived.specs.Kept.{stale_in};
 ghost use Rattle.store.specs.Standing.{StandsFor};
-ghost use Rattle.derived.specs.Clean.{IsClean};
+ghost use Rattle.cow_tree.specs.Clean.{IsClean};
 
 use cow_tree::{NotOpened, Tree};
 use disk::Disk;

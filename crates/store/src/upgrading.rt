@@ -4,7 +4,7 @@ ghost use Rattle.lattice.specs.declared.refusal.Refusal.TheVariants.{Failed};
 ghost use Rattle.cow_tree.specs.Trees.{disk_of as disk_under, root_of as root_under, has_failed as have_failed};
 ghost use Rattle.cow_tree.specs.Upgrades.{most_upgrade_writes};
 ghost use Rattle.store.specs.Stores.{disk_of, root_of, has_failed};
-ghost use Rattle.derived.specs.Clean.{IsClean};
+ghost use Rattle.cow_tree.specs.Clean.{IsClean};
 ghost use Rattle.store.specs.Upgraded.{HasUpgraded, IsUpgraded};
 
 use crate::Store;
@@ -45,5 +45,6 @@ fn upgrade_tree<D: Disk>(tree: &mut Tree<D>) -> Result<(), Refusal>
 {
     // Between two calls nothing is staged.
     tree.abandon();
-    tree.upgrade()
+    tree.upgrade()?;
+    Ok(())
 }

@@ -1,5 +1,4 @@
-use Rattle.std.proofs.Common.{◌≡◌, ◌≤◌, map, ap, sym, subst, ◌∙◌, length, arith}
-use Rattle.std.specs.Prelude.{All}
+use Rattle.std.proofs.Common.{◌≡◌, ◌≤◌, map, ap, sym, subst, ◌∙◌, length, arith, All}
 use Rattle.std.proofs.lemmas.List.{take_all, length-map}
 use Rattle.page_codec.specs.Entries.{IsEntry}
 use Rattle.page_codec.specs.Roots.{AreInOrder}

@@ -1,5 +1,4 @@
-use Rattle.std.proofs.Common.{◌∙◌, sym, ap}
-use Rattle.std.specs.Prelude.{slice_index}
+use Rattle.std.proofs.Common.{◌∙◌, sym, ap, slice_index}
 use Rattle.std.proofs.lemmas.Option.{slice_get-get_or}
 use Rattle.page_map.specs.PageMaps.{is_unreached, page_if}
 use Rattle.page_map.specs.Locations.{listing_of}

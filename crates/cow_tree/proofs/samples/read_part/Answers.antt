@@ -12,5 +12,5 @@ pub returns-clause-samples : goal.returns-clause-samples
 returns-clause-samples g c readable =
     let old = c.args.tree.now in
     let was = was_readable g.D.Disk old c.scan_page.new.self c.in_ok-scan_page.ensures.reads.keeps readable in
-    part_read old.root.side old.sinks.points (staged_in g.D.Disk old) c.args.c c.args.first (length c.args.into.now) _ c.scan_page.new.into c.read_samples.new.samples was.valid was.pages
+    part_read old.roots.root.side old.sinks.points (staged_in g.D.Disk old) c.args.c c.args.first (length c.args.into.now) _ c.scan_page.new.into c.read_samples.new.samples was.valid was.pages
     (omega arith) c.requires.one_page c.requires.range (omega arith) c.read_samples.ensures (c.in_ok-scan_page.ensures.page readable.honest)

@@ -1,5 +1,4 @@
-use Rattle.std.proofs.Common.{◌≡◌, ◌<◌, ◌≤◌, ◌++◌, ℕ, List, length, map, Result, Err, sym, ap, ap₂, ◌∙◌, subst, arith}
-use Rattle.std.specs.Prelude.{Some}
+use Rattle.std.proofs.Common.{◌≡◌, ◌<◌, ◌≤◌, ◌++◌, ℕ, List, length, map, Result, Err, sym, ap, ap₂, ◌∙◌, subst, arith, Some}
 use Rattle.std.proofs.lemmas.List.{length-append}
 use Rattle.page_map.proofs.Refused.{ended_with}
 use Rattle.lattice.specs.declared.refusal.Refusal.{Refusal}

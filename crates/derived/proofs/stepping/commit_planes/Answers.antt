@@ -14,7 +14,8 @@ use Rattle.derived.specs.Steps.{HasStepped}
 use Rattle.cow_tree.specs.Uncommitted.{CommitsNothing}
 use Rattle.derived.proofs.KeptTiles.{planes_right, stale_present}
 use Rattle.derived.proofs.RootStored.{side_at}
-use Rattle.derived.proofs.Settled.{settled_at, still_clean, staged_same}
+use Rattle.cow_tree.proofs.Clean.{still_clean}
+use Rattle.derived.proofs.Settled.{settled_at, staged_same}
 use Rattle.derived.proofs.StepEnds.{no_memory, fails_before, fails_in_commit, commits_it}
 use Rattle.cow_tree.proofs.Uncommitted.{refused_as}
 use Rattle.derived.proofs.stepping.commit_planes.Goals as goal
@@ -47,8 +48,8 @@ returns-in_err-stage_kept-clause-stepped g c =
     subst (λ (x : Refusal). HasStepped d P old mid (Err x)) (sym memory)
     (no_memory d P seen old mid (Err r) any
     (⊎_elim (λ works. works) (λ device. absurd (let e : Err NoMemory ≡ Err Device = sym is ∙ device in cc)) refused.works)
-    (still_clean d old mid page_map does.uncommitted.root does.corners c.requires.clean) (ap d.writes disk)
-    (λ honest s at. let was = settled_at d old s c.requires.unstaged c.requires.declared at (seen (disk_of old) (does.uncommitted.honest honest)) in (staged_same d old mid disk page_map ∙ was.tiles, does.sinks ∙ was.sinks))))
+    (still_clean old mid page_map c.requires.clean) (ap d.writes disk)
+    (λ honest s at. let was = settled_at d old s c.requires.clean.unstaged c.requires.declared at (seen (disk_of old) (does.uncommitted.honest honest)) in (staged_same d old mid disk page_map ∙ was.tiles, does.sinks ∙ was.sinks))))
     refused.refused)
 
 -- the planes are staged, and nothing is committed yet
@@ -64,7 +65,7 @@ module _ (g : _) (c : After-stage_kept g) where
   settled : g.D.Disk.honest (disk_of c.stage_kept.new.self) → (s : Stored) → IsAt g.D.Disk c.args.tree.now s → (staged_in g.D.Disk c.args.tree.now ≡ s.tiles) × (sinks_of c.stage_kept.new.self ≡ s.sinks)
   settled honest s at =
       let does = c.stage_kept.ensures in
-      let was = settled_at g.D.Disk c.args.tree.now s c.requires.unstaged c.requires.declared at (g.met.D.Disk.seen_may (disk_of c.args.tree.now) (does.uncommitted.honest honest)) in
+      let was = settled_at g.D.Disk c.args.tree.now s c.requires.clean.unstaged c.requires.declared at (g.met.D.Disk.seen_may (disk_of c.args.tree.now) (does.uncommitted.honest honest)) in
       (was.tiles, does.sinks ∙ was.sinks)
 
 pub returns-in_err-commit-clause-stepped : goal.returns-in_err-commit-clause-stepped
@@ -95,6 +96,6 @@ returns-clause-stepped g c =
     c.count-count.result (c.count-count.ensures.value ∙ ap (λ (r : RootValue). r.count) c.current.ensures)
     c.commit.ensures.size c.commit.ensures.cause.later c.commit.ensures.honest c.commit.ensures.any_moment
     c.in_ok-commit.ensures.not_failed
-    (record { none_staged = c.in_ok-commit.ensures.none_staged; none_due = c.in_ok-commit.ensures.none_due; corners = c.in_ok-commit.ensures.entries })
+    c.in_ok-commit.ensures.clean
     c.commit.ensures.version c.commit.ensures.side c.commit.ensures.capacity c.in_ok-commit.ensures.count c.in_ok-commit.ensures.number
     c.in_ok-commit.ensures.at c.in_ok-commit.ensures.staged c.commit.ensures.sinks

@@ -6,7 +6,6 @@ use Rattle.lattice.specs.declared.refusal.Refusal.{Refusal}
 use Rattle.lattice.specs.declared.refusal.Refusal.TheVariants.{Device}
 use Rattle.page_codec.specs.Sizes.{plane_pages_of}
 use Rattle.page_codec.specs.Roots.{RootValue, format_of}
-use Rattle.page_map.specs.PageMaps.{PageMapValue, IsClean as IsCleanPageMap}
 use Rattle.tile_flood.specs.Kept.{AreKeptOf}
 use Rattle.tile_labellings.specs.declared.planes.KeptPlanes.{KeptPlanes}
 use Rattle.cow_tree.specs.Reading.{mosaic_of}
@@ -16,7 +15,9 @@ use Rattle.derived.specs.Kept.{stale_in, mosaic_stored}
 use Rattle.derived.specs.Steps.{HasStepped}
 use Rattle.cow_tree.specs.Uncommitted.{CommitsNothing}
 use Rattle.derived.proofs.KeptTiles.{stale_present}
-use Rattle.derived.proofs.Settled.{settled_at, still_clean, mosaic_settled, readable_settled, mosaic_read}
+use Rattle.cow_tree.proofs.Clean.{still_clean}
+use Rattle.cow_tree.proofs.TreeReads.{same_mosaic}
+use Rattle.derived.proofs.Settled.{settled_at, mosaic_settled, readable_settled}
 use Rattle.derived.proofs.StepEnds.{no_memory, fails_before, premised, stepped_after}
 use Rattle.cow_tree.proofs.Uncommitted.{refused_as, reading}
 use Rattle.derived.proofs.stepping.keep.Goals as goal
@@ -27,11 +28,7 @@ read_planes-requires-clause-present g c =
 
 pub commit_planes-requires-clause-clean : goal.commit_planes-requires-clause-clean
 commit_planes-requires-clause-clean g c =
-    let keeps = c.read_planes.ensures.reads in
-    still_clean g.D.Disk c.args.tree.now c.read_planes.new.tree keeps.page_map keeps.root keeps.corners c.requires.clean
-
-pub commit_planes-requires-clause-unstaged : goal.commit_planes-requires-clause-unstaged
-commit_planes-requires-clause-unstaged g c = subst (λ (page_map : PageMapValue). IsCleanPageMap page_map) (sym c.read_planes.ensures.reads.page_map) c.requires.unstaged
+    still_clean c.args.tree.now c.read_planes.new.tree c.read_planes.ensures.reads.page_map c.requires.clean
 
 pub commit_planes-requires-clause-declared : goal.commit_planes-requires-clause-declared
 commit_planes-requires-clause-declared g c =
@@ -79,8 +76,8 @@ returns-in_err-planes-clause-stepped g c =
     (fails_before d P seen old mid c.args.corner c.requires.stale c.requires.number (subst (λ (x : Refusal). CommitsNothing {T = KeptPlanes} d old mid (Err x)) device any)))
     (λ memory.
     subst (λ (x : Refusal). HasStepped d P old mid (Err x)) (sym memory.0)
-    (no_memory d P seen old mid (Err r) any memory.1 (still_clean d old mid keeps.page_map keeps.root keeps.corners c.requires.clean) keeps.writes
-    (λ honest s at. let was = settled_at d old s c.requires.unstaged c.requires.declared at (seen (disk_of old) (keeps.honest honest)) in (keeps.staged honest ∙ was.tiles, keeps.sinks ∙ was.sinks))))
+    (no_memory d P seen old mid (Err r) any memory.1 (still_clean old mid keeps.page_map c.requires.clean) keeps.writes
+    (λ honest s at. let was = settled_at d old s c.requires.clean.unstaged c.requires.declared at (seen (disk_of old) (keeps.honest honest)) in (keeps.staged honest ∙ was.tiles, keeps.sinks ∙ was.sinks))))
     refused.refusal)
 
 pub returns-clause-stepped : goal.returns-clause-stepped
@@ -95,11 +92,11 @@ returns-clause-stepped g c =
     (premised d (λ m. AreKeptOf m c.args.corner c.deref.result.now c.deref-2.result.now) g.met.D.Disk.seen_may (λ m. Unit {0}) mid c.commit_planes.new.tree c.commit_planes.result
     (λ honest s _ at keeps_right.
     let shown = g.met.D.Disk.seen_may (disk_of mid) honest in
-    let unstaged = subst (λ (page_map : PageMapValue). IsCleanPageMap page_map) (sym keeps.page_map) c.requires.unstaged in
+    let clean = still_clean old mid keeps.page_map c.requires.clean in
     let declared = keeps.sinks ∙ c.requires.declared ∙ ap (λ (r : RootValue). r.sinks) (sym keeps.root) in
-    let settled = settled_at d mid s unstaged declared at shown in
+    let settled = settled_at d mid s clean.unstaged declared at shown in
     let m : Mosaic = mosaic_of d old in
-    let same : mosaic_stored s ≡ m = sym (mosaic_settled d mid s settled shown) ∙ mosaic_read d old mid keeps honest in
+    let same : mosaic_stored s ≡ m = sym (mosaic_settled d mid s settled shown) ∙ same_mosaic d old mid keeps honest in
     subst (λ (x : Mosaic). AreKeptOf x c.args.corner c.deref.result.now c.deref-2.result.now) (sym same)
     (subst (λ (bs : List ℕ). AreKeptOf m c.args.corner bs c.deref-2.result.now) (sym c.deref.ensures.value)
     (subst (λ (bs : List ℕ). AreKeptOf m c.args.corner c.in_ok-planes.planes.levels.items bs) (sym c.deref-2.ensures.value)

@@ -34,7 +34,7 @@ returns-in_err-planes-clause-stepped g c =
     subst (λ (result : Result (Option Corner) Refusal). HasStepped d P old old result) (sym (refused_as c.from_residual.result r c.from_residual.ensures.1))
     (subst (λ (x : Refusal). HasStepped d P old old (Err x)) (sym c.in_err-planes.ensures.refusal)
     (no_memory d P seen old old (Err NoMemory) nothing c.requires.works c.requires.clean refl
-    (λ honest s at. let was = settled_at d old s c.requires.unstaged c.requires.declared at (seen (disk_of old) honest) in (was.tiles, was.sinks))))
+    (λ honest s at. let was = settled_at d old s c.requires.clean.unstaged c.requires.declared at (seen (disk_of old) honest) in (was.tiles, was.sinks))))
 
 pub returns-clause-stepped : goal.returns-clause-stepped
 returns-clause-stepped g c =

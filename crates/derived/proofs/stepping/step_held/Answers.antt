@@ -9,7 +9,6 @@ use Rattle.tile_labellings.specs.Labellings.{IsFlooded}
 use Rattle.cow_tree.specs.Stored.{Stored}
 use Rattle.cow_tree.specs.Trees.{disk_of, root_of, has_failed, sinks_of, staged_in, IsAt}
 use Rattle.cow_tree.proofs.ReadOnly.{never_refused}
-use Rattle.derived.specs.Clean.{IsClean}
 use Rattle.derived.specs.Kept.{stale_among, stale_in, mosaic_stored}
 use Rattle.cow_tree.specs.Uncommitted.{CommitsNothing}
 use Rattle.derived.proofs.StepEnds.{none_is_stale, is_worn, premised, stepped_after}
@@ -31,9 +30,6 @@ module _ (g : _) (c : After-abandon g) where
       let gives = c.abandon.ensures in
       in_memory g.D.Disk c.args.tree.now c.abandon.new.self (Ok tt) g.met.D.Disk.only_now gives.no_call works gives.at (λ refused. never_refused tt Device refused)
 
-  clean : IsClean c.abandon.new.self
-  clean = record { none_staged = c.abandon.ensures.none_staged; none_due = c.abandon.ensures.none_due; corners = c.abandon.ensures.corners }
-
   settled : g.D.Disk.honest (disk_of c.abandon.new.self) → (s : Stored) → IsAt g.D.Disk c.args.tree.now s → (staged_in g.D.Disk c.abandon.new.self ≡ s.tiles) × (sinks_of c.abandon.new.self ≡ s.sinks)
   settled honest s at =
       let gives = c.abandon.ensures in
@@ -46,7 +42,7 @@ returns-in_default-clause-stepped g c works =
     let d = g.D.Disk in
     let gives = c.abandon.ensures in
     let entries = c.entries.ensures.value ∙ ap (λ (r : RootValue). r.entries) (c.current-root.ensures ∙ gives.no_call.root) in
-    none_is_stale d (given g after) g.met.D.Disk.seen_may c.args.tree.now c.abandon.new.self (Ok tt) (nothing_done g after works) (gives.no_call.failed ∙ works) (clean g after) (ap d.writes gives.no_call.disk) (settled g after)
+    none_is_stale d (given g after) g.met.D.Disk.seen_may c.args.tree.now c.abandon.new.self (Ok tt) (nothing_done g after works) (gives.no_call.failed ∙ works) gives.clean (ap d.writes gives.no_call.disk) (settled g after)
     (subst (λ (es : List EntryValue). stale_among es ≡ []) entries c.in_default.ensures)
 
 pub returns-then-number-clause-stepped : goal.returns-then-number-clause-stepped
@@ -56,7 +52,7 @@ returns-then-number-clause-stepped g c works =
     let gives = c.abandon.ensures in
     let root : c.current-root.result.now ≡ root_of c.args.tree.now = c.current-root.ensures ∙ gives.no_call.root in
     let entries = c.entries.ensures.value ∙ ap (λ (r : RootValue). r.entries) root in
-    is_worn d (given g after) g.met.D.Disk.seen_may c.args.tree.now c.abandon.new.self (Ok tt) (nothing_done g after works) (gives.no_call.failed ∙ works) (clean g after) (ap d.writes gives.no_call.disk) (settled g after)
+    is_worn d (given g after) g.met.D.Disk.seen_may c.args.tree.now c.abandon.new.self (Ok tt) (nothing_done g after works) (gives.no_call.failed ∙ works) gives.clean (ap d.writes gives.no_call.disk) (settled g after)
     (ap (λ (r : RootValue). r.number) (sym root) ∙ sym c.number.ensures ∙ c.if-number.true)
     (not_empty (stale_in (root_of c.args.tree.now)) c.in-Some.corner (subst (λ (es : List EntryValue). Contains (stale_among es) c.in-Some.corner) entries c.in-Some.ensures))
 
@@ -82,10 +78,10 @@ returns-in-Some-labelling_of-clause-stepped g c works =
     c.keep_labelled.ensures.stepped)
 
 pub returns-in_default-clause-clean : goal.returns-in_default-clause-clean
-returns-in_default-clause-clean g c works = clean g (goal.at.returns-in_default-clause-clean g c).After-abandon
+returns-in_default-clause-clean g c works = c.abandon.ensures.clean
 
 pub returns-then-number-clause-clean : goal.returns-then-number-clause-clean
-returns-then-number-clause-clean g c works = clean g (goal.at.returns-then-number-clause-clean g c).After-abandon
+returns-then-number-clause-clean g c works = c.abandon.ensures.clean
 
 pub returns-in-None-clause-clean : goal.returns-in-None-clause-clean
 returns-in-None-clause-clean g c works = c.keep.ensures.stepped.clean works

@@ -6,7 +6,7 @@ use Rattle.engine.specs.Engines.{items_in}
 use Rattle.engine.specs.Outcomes.{TellsTile}
 use Rattle.engine.specs.State.{State}
 use Rattle.store.specs.Water.{IsAskedOf}
-use Rattle.store.proofs.AskedTiles.{tile_asked_of}
+use Rattle.store.proofs.AskedTrees.{tile_asked_of}
 use Rattle.store.proofs.asking.ask_directions.Goals as goal
 
 pub returns-clause-asked : goal.returns-clause-asked

@@ -12,8 +12,7 @@ use Rattle.engine.specs.Outcomes.{Traces}
 use Rattle.engine.proofs.Answered.{traces}
 use Rattle.cow_tree.specs.Reading.{mosaic_of}
 use Rattle.store.specs.Water.{IsAskedOf}
-use Rattle.store.proofs.QueryingDrainage.{listed}
-use Rattle.store.proofs.AskedTrees.{of_levels, asked_of}
+use Rattle.store.proofs.AskedTrees.{listed, of_levels, asked_of}
 use Rattle.store.proofs.asking.ask_trace.Goals as goal
 
 pub returns-clause-asked : goal.returns-clause-asked

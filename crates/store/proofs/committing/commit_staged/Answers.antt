@@ -1,5 +1,4 @@
-use Rattle.std.proofs.Common.{inl, inr, ⊎_elim, ℕ, ◌+◌, ◌<◌, ◌^◌, refl, sym, ap, ◌∙◌, subst}
-use Rattle.std.specs.Prelude.{Result, Ok, Err, OnOk}
+use Rattle.std.proofs.Common.{inl, inr, ⊎_elim, ℕ, ◌+◌, ◌<◌, ◌^◌, refl, sym, ap, ◌∙◌, subst, Result, Ok, Err, OnOk}
 use Rattle.lattice.specs.declared.refusal.Refusal.{Refusal}
 use Rattle.page_codec.specs.Roots.{RootValue}
 use Rattle.cow_tree.specs.Trees.{root_of}

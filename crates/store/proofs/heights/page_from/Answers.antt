@@ -1,5 +1,4 @@
-use Rattle.std.proofs.Common.{rules, ◌≡◌, ◌≤◌, ◌<◌, ◌/◌, ℕ, false, nat_eq, ◌∙◌, arith}
-use Rattle.std.specs.Prelude.{Option, Some, None, IfNone, IsTrue}
+use Rattle.std.proofs.Common.{rules, ◌≡◌, ◌≤◌, ◌<◌, ◌/◌, ℕ, false, nat_eq, ◌∙◌, arith, Option, Some, None, IfNone, IsTrue}
 use Rattle.std.proofs.lemmas.Bool.{eqb-true, false_from_ne_true, false≢true}
 use Rattle.lattice.specs.Corners.{is_corner}
 use Rattle.lattice.proofs.Samples.{index_below}

@@ -1,5 +1,4 @@
-use Rattle.std.proofs.Common.{◌≡◌, false}
-use Rattle.std.specs.Prelude.{IsTrue}
+use Rattle.std.proofs.Common.{◌≡◌, false, IsTrue}
 use Rattle.lattice.specs.Corners.{is_corner}
 use Rattle.store.proofs.NewHeights.{IsSetTo}
 use Rattle.store.proofs.heights.set_heights.Given as goal

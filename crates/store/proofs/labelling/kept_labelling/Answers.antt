@@ -1,5 +1,4 @@
-use Rattle.std.proofs.Common.{◌≡◌, ℕ, List, Err, refl, sym, ap, ◌∙◌, subst}
-use Rattle.std.specs.Prelude.{IfOk}
+use Rattle.std.proofs.Common.{◌≡◌, ℕ, List, Err, refl, sym, ap, ◌∙◌, subst, IfOk}
 use Rattle.lattice.specs.declared.refusal.Refusal.TheVariants.{Failed}
 use Rattle.page_codec.specs.Roots.{RootValue}
 use Rattle.tile_flood.specs.Kept.{labels_in, levels_in}

@@ -1,5 +1,4 @@
-use Rattle.std.proofs.Common.{◌≡◌, ◌*◌, ◌<◌, ℕ, Err, refl, sym, ap, ◌∙◌, subst}
-use Rattle.std.specs.Prelude.{option_map}
+use Rattle.std.proofs.Common.{◌≡◌, ◌*◌, ◌<◌, ℕ, Err, refl, sym, ap, ◌∙◌, subst, option_map}
 use Rattle.lattice.specs.declared.refusal.Refusal.TheVariants.{Failed}
 use Rattle.page_codec.specs.Roots.{RootValue}
 use Rattle.cow_tree.specs.Reading.{mosaic_of}

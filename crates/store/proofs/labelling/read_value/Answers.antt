@@ -1,5 +1,4 @@
-use Rattle.std.proofs.Common.{◌/◌, Result, Ok, Err}
-use Rattle.std.specs.Prelude.{OnOk}
+use Rattle.std.proofs.Common.{◌/◌, Result, Ok, Err, OnOk}
 use Rattle.lattice.specs.declared.refusal.Refusal.{Refusal}
 use Rattle.cow_tree.specs.Trees.{staged_in}
 use Rattle.store.proofs.QueryingPages.{page_of_tile}
@@ -14,5 +13,5 @@ pub returns-clause-value : goal.returns-clause-value
 returns-clause-value g c honest =
     on_ok c.read_two.result
     (λ held t pages is has all.
-    two_stand c.args.tree.now.root.side pages c.args.index held.0 all (page_of_tile c.args.plane (staged_in g.D.Disk c.args.tree.now) c.args.corner t pages (c.args.index / 2048) held.0 is has held.1.0) c.requires.index c.read_two.new.into held.1.1)
+    two_stand c.args.tree.now.roots.root.side pages c.args.index held.0 all (page_of_tile c.args.plane (staged_in g.D.Disk c.args.tree.now) c.args.corner t pages (c.args.index / 2048) held.0 is has held.1.0) c.requires.index c.read_two.new.into held.1.1)
     (c.read_two.ensures.two honest)

@@ -52,7 +52,7 @@ loop-i-preserved g c =
 
 pub returns-clause-bytes : goal.returns-clause-bytes
 returns-clause-bytes g c honest t pages is has =
-    let n : ℕ = c.args.tree.now.root.side in
+    let n : ℕ = c.args.tree.now.roots.root.side in
     let bytes = c.loop-i.bytes.items in
     let side : c.side-side.result ≡ n = c.side-side.ensures.value ∙ ap (λ (r : RootValue). r.side) c.current.ensures in
     let len : c.file_bytes-len.result ≡ 2 * (n * n) = c.file_bytes-len.ensures.value ∙ ap (λ (k : ℕ). 2 * (k * k)) side in
@@ -63,7 +63,7 @@ returns-clause-bytes g c honest t pages is has =
 
 pub returns-clause-whole : goal.returns-clause-whole
 returns-clause-whole g c =
-    let n : ℕ = c.args.tree.now.root.side in
+    let n : ℕ = c.args.tree.now.roots.root.side in
     let side : c.side-side.result ≡ n = c.side-side.ensures.value ∙ ap (λ (r : RootValue). r.side) c.current.ensures in
     let len : c.file_bytes-len.result ≡ 2 * (n * n) = c.file_bytes-len.ensures.value ∙ ap (λ (k : ℕ). 2 * (k * k)) side in
     let ended : c.loop-i.i ≡ c.pages_in_plane-i-end.result = omega (arith, c.loop-i-test.false, c.loop-i.auto.i-end) in

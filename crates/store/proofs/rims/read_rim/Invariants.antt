@@ -1,5 +1,4 @@
-use Rattle.std.proofs.Common.{◌≡◌, ◌-◌, ◌*◌, ◌<◌, ℕ, false, vec_len, Ok}
-use Rattle.std.specs.Prelude.{◌&&◌, slice_index_or}
+use Rattle.std.proofs.Common.{◌≡◌, ◌-◌, ◌*◌, ◌<◌, ℕ, false, vec_len, Ok, ◌&&◌, slice_index_or}
 use Rattle.lattice.specs.Lattice.{point_of}
 use Rattle.lattice.specs.RimPoints.{IsRimPoint}
 use Rattle.catalogue.specs.Readers.{OnlyReads}

@@ -1,39 +1,198 @@
-use Rattle.store.proofs.UpgradedTrees.{clean_then, ends}
+use Rattle.std.proofs.Common.{◌≡◌, ◌≢◌, ◌⊎◌, ⊎_elim, ℕ, ◌+◌, ◌≤◌, ◌<◌, ◌^◌, true, true≢false, refl, sym, ap, ◌∙◌, subst, arith, Some, Result, Ok, Err, IsTrue, IsFalse}
+use Rattle.std.proofs.lemmas.Bool.{le-leb}
+use Rattle.std.proofs.lemmas.Bool.Decides.{leb_tells}
+use Rattle.disk.specs.Disk.{HasRisen}
+use Rattle.disk.specs.Stops.{LeavesOnly}
+use Rattle.lattice.specs.declared.refusal.Refusal.{Refusal}
+use Rattle.lattice.specs.declared.refusal.Refusal.TheVariants.{Device, NoMemory, Failed, Worn, TooSmall, NotOld}
+use Rattle.page_codec.specs.Formats.{number_of, upgraded as upgraded_format}
+use Rattle.page_codec.specs.Sizes.{sectors_asked}
+use Rattle.page_codec.specs.declared.version.Version.{Version}
+use Rattle.page_codec.specs.declared.version.Version.TheVariants.{One, Two}
+use Rattle.page_codec.specs.Roots.{RootValue, format_of}
+use Rattle.engine.specs.Outcomes.{Stays}
+use Rattle.engine.specs.State.{Contents, State, last_number, if_numbered}
+use Rattle.engine.specs.Steps.{IsOld, UpgradesNot as AnswersNot, upgraded}
+use Rattle.engine.proofs.Questions.{device_or_not}
+use Rattle.cow_tree.specs.Clean.{IsClean}
+use Rattle.cow_tree.specs.Layout.{Stands}
+use Rattle.cow_tree.specs.Stored.{Stored}
+use Rattle.cow_tree.specs.Trees.{disk_of, root_of, has_failed, IsAt as IsTreeAt}
+use Rattle.cow_tree.specs.Uncommitted.{CommitsNothing}
+use Rattle.cow_tree.specs.Upgrades.{MayUpgrade, UpgradesNot, upgraded_store}
+use Rattle.cow_tree.specs.declared.tree.Tree.{Tree}
+use Rattle.cow_tree.proofs.ReadOnly.{never_refused}
+use Rattle.store.specs.Ended.{Ending}
+use Rattle.store.specs.Standing.{Holds}
+use Rattle.store.specs.TreeStates.{IsInState}
+use Rattle.store.specs.Upgraded.{IsUpgraded, has_room, may_refuse_upgrade, upgrade_ending}
+use Rattle.store.proofs.EditingSteps.{in_memory, refused_as}
+use Rattle.store.proofs.Ended as ended
+use Rattle.store.proofs.InMemory.{is_working}
 use Rattle.store.proofs.upgrading.upgrade_tree.Goals as goal
+use Rattle.store.proofs.upgrading.upgrade_tree.Goals.{After-upgrade}
+
+-- the upgraded store holds the upgraded contents
+upgraded_holds : (side capacity : ℕ) (stored : Stored) (c : Contents) → Holds side capacity stored c → Holds side capacity (upgraded_store stored) (upgraded c)
+upgraded_holds side capacity stored c holds = record {
+  stored_side = holds.stored_side;
+  stored_capacity = holds.stored_capacity;
+  version = refl;
+  number = ap (λ (n : ℕ). n + 1) holds.number;
+  count = holds.count;
+  valid = holds.valid;
+  side_is = holds.side_is;
+  sinks = holds.sinks;
+  tiles = holds.tiles;
+  kept = holds.kept;
+  stale = holds.stale;
+}
+
+-- whether there is room, as it is tested
+room_is : (sectors : ℕ) (root : RootValue) → sectors_asked (upgraded_format (format_of root)) ≤ sectors → IsTrue (has_room sectors root)
+room_is sectors root fits = le-leb (sectors_asked (upgraded_format (format_of root))) sectors fits
+
+no_room_is : (sectors : ℕ) (root : RootValue) → sectors < sectors_asked (upgraded_format (format_of root)) → IsFalse (has_room sectors root)
+no_room_is sectors root less = ⊎_elim (λ told. absurd (omega (arith, told.1, less))) (λ told. told.0) (leb_tells (sectors_asked (upgraded_format (format_of root))) sectors)
+
+-- what was staged is given up, and the tree is upgraded
+module _ (g : _) (c : After-upgrade g) where
+  abbrev old : Tree _ g.D.Disk
+  old = c.args.tree.now
+
+  abbrev mid : Tree _ g.D.Disk
+  mid = c.abandon.new.self
+
+  abbrev new : Tree _ g.D.Disk
+  new = c.upgrade.new.self
+
+  abbrev room : ℕ
+  room = g.D.Disk.size (disk_of c.args.tree.now)
+
+  abbrev ending : Ending (Unit {0})
+  ending = upgrade_ending room (root_of old)
+
+  -- a number that can't grow is the last
+  last_is : g.D.Disk.honest (disk_of old) → (s : State) → IsInState g.D.Disk old s → ¬ ((root_of old).number + 1 < 2 ^ 64) → s.contents.number ≡ last_number
+  last_is honest s at most =
+      let tree = (at.sound c.requires.works).tree in
+      let fits = (tree.each (g.D.Disk.seen (disk_of old)) (g.met.D.Disk.seen_may (disk_of old) honest)).laid_out.store.0.1.here.rules.numbers.fits in
+      omega (arith, fits, most, at.number)
+
+  -- the version that the root says
+  version_at : (v : Version) (s : State) → IsInState g.D.Disk old s → (root_of old).version ≡ v → s.contents.version ≡ number_of v
+  version_at v s at is = sym at.version ∙ ap number_of is
+
+  old_at : (s : State) → IsInState g.D.Disk old s → MayUpgrade room (root_of old) → IsOld s (has_room room (root_of old))
+  old_at s at may = record { version = version_at One s at may.old; fits = room_is room (root_of old) may.room }
+
+  stays_at : (s : State) → IsInState g.D.Disk old s → Stays s s
+  stays_at s at = record { working = is_working g.D.Disk old c.requires.works s at; same = refl }
+
+  -- the refusals but Device
+  answers_not : (r : Refusal) → r ≢ Device → UpgradesNot room (root_of old) r
+      → (IsTrue (may_refuse_upgrade r) × (r ≢ Failed)) × (g.D.Disk.honest (disk_of old) → (s : State) → IsInState g.D.Disk old s → AnswersNot (has_room room (root_of old)) s r s)
+  answers_not NotOld other why = ((refl, λ is. cc), λ h s at. (stays_at s at, version_at Two s at why))
+  answers_not TooSmall other why = ((refl, λ is. cc), λ h s at. (stays_at s at, version_at One s at why.0, no_room_is room (root_of old) why.1))
+  answers_not Worn other why = (
+    (refl, λ is. cc),
+    λ h s at. (record { stays = stays_at s at; worn = last_is h s at why.2 }, record { version = version_at One s at why.0; fits = room_is room (root_of old) why.1 }),
+  )
+  answers_not NoMemory other why = ((refl, λ is. cc), λ h s at. stays_at s at)
+  answers_not Device other why = absurd (other refl)
+  answers_not r other why = absurd why
+
+  -- on the same disk and with the same root
+  as_old : (P : ℕ → RootValue → Type 0) → P (g.D.Disk.size (disk_of mid)) (root_of mid) → P room (root_of old)
+  as_old P is = let gave = c.abandon.ensures.no_call in subst (λ (d : _). P (g.D.Disk.size d) (root_of old)) gave.disk (subst (P (g.D.Disk.size (disk_of mid))) gave.root is)
+
+  -- it is refused, and nothing was done
+  refuses : (r : Refusal) → r ≢ Device → UpgradesNot (g.D.Disk.size (disk_of mid)) (root_of mid) r → new ≡ mid → IsUpgraded g.D.Disk (Err r) old new
+  refuses r other refused same =
+      let gave = c.abandon.ensures in
+      let why = answers_not r other (as_old (λ n root. UpgradesNot n root r) refused) in
+      let nothing : CommitsNothing {T = Unit {0}} g.D.Disk old mid (Ok tt) =
+      in_memory g.D.Disk old mid (Ok tt) g.met.D.Disk.only_now gave.no_call c.requires.works gave.at (λ device. never_refused tt Device device) in
+      subst (λ (tree : Tree _ g.D.Disk). IsUpgraded g.D.Disk (Err r) old tree) (sym same)
+      (ended.quiet g.D.Disk ending old mid c.requires.works (Ok tt) nothing (gave.no_call.failed ∙ c.requires.works)
+      (λ honest s at.
+      let sound = at.sound c.requires.works in
+      let was = subst g.D.Disk.honest gave.no_call.disk honest in
+      (gave.committed was sound.stored sound.tree ∙ sym sound.nothing_staged, gave.undeclared was sound.stored sound.tree ∙ sym sound.none_declared))
+      (Err r) (ended.other_refusal r other) why.0 tt (ap g.D.Disk.writes gave.no_call.disk) (λ honest s at. why.1 (subst g.D.Disk.honest gave.no_call.disk honest) s at))
+
+  -- ---- the commit
+  abbrev target : (s : State) → IsInState g.D.Disk old s → Stored
+  target s at = upgraded_store (at.sound c.requires.works).stored
+
+  size_is : g.D.Disk.size (disk_of new) ≡ room
+  size_is = c.upgrade.ensures.size ∙ ap g.D.Disk.size c.abandon.ensures.no_call.disk
+
+  later_is : g.D.Disk.failures (disk_of old) ≤ g.D.Disk.failures (disk_of new)
+  later_is = subst (λ (d : _). g.D.Disk.failures d ≤ g.D.Disk.failures (disk_of new)) c.abandon.ensures.no_call.disk c.upgrade.ensures.later
+
+  honest_was : g.D.Disk.honest (disk_of new) → g.D.Disk.honest (disk_of old)
+  honest_was h = subst g.D.Disk.honest c.abandon.ensures.no_call.disk (c.upgrade.ensures.honest h)
+
+  mid_at : g.D.Disk.honest (disk_of new) → (s : State) → (at : IsInState g.D.Disk old s) → IsTreeAt g.D.Disk mid (at.sound c.requires.works).stored
+  mid_at h s at = c.abandon.ensures.at (honest_was h) (at.sound c.requires.works).stored (at.sound c.requires.works).tree
+
+  run : g.D.Disk.honest (disk_of new) → (s : State) → (at : IsInState g.D.Disk old s)
+      → LeavesOnly g.D.Disk (disk_of old) (disk_of new) (λ image. Stands room image (at.sound c.requires.works).stored ⊎ Stands room image (target s at))
+  run h s at =
+      subst (λ (d : _). LeavesOnly g.D.Disk d (disk_of new) (λ image. Stands (g.D.Disk.size d) image (at.sound c.requires.works).stored ⊎ Stands (g.D.Disk.size d) image (target s at))) c.abandon.ensures.no_call.disk
+      (c.upgrade.ensures.any_moment h (at.sound c.requires.works).stored (mid_at h s at))
+
+  holds : g.D.Disk.honest (disk_of new) → (s : State) → (at : IsInState g.D.Disk old s) → Holds (root_of old).side (root_of old).capacity (target s at) (upgraded s.contents)
+  holds h s at = upgraded_holds (root_of old).side (root_of old).capacity (at.sound c.requires.works).stored s.contents (at.sound c.requires.works).holds
+
+  number_at : MayUpgrade room (root_of old) → (s : State) → IsInState g.D.Disk old s → s.contents.number < last_number
+  number_at may s at = omega (arith, may.number, at.number)
+
+  -- the disk failed
+  fails : MayUpgrade (g.D.Disk.size (disk_of mid)) (root_of mid) → root_of new ≡ root_of mid → has_failed new ≡ true → HasRisen (g.D.Disk.failures (disk_of mid)) (g.D.Disk.failures (disk_of new)) → IsUpgraded g.D.Disk (Err Device) old new
+  fails allowed last_known failed risen =
+      let may : MayUpgrade room (root_of old) = as_old MayUpgrade allowed in
+      ended.fails_in_commit g.D.Disk ending old new c.requires.works (λ s. upgraded s.contents) target size_is later_is honest_was run holds (λ s. if_numbered s.contents (Some (upgraded s.contents)))
+      (λ h s at. ended.is_doubted s.contents (upgraded s.contents) (number_at may s at)) refl (λ s at. (old_at s at may, record { working = is_working g.D.Disk old c.requires.works s at; fails = refl }))
+      (last_known ∙ c.abandon.ensures.no_call.root) failed (subst (λ (d : _). HasRisen (g.D.Disk.failures d) (g.D.Disk.failures (disk_of new))) c.abandon.ensures.no_call.disk risen)
+
+pub returns-in_err-upgrade-clause-upgraded : goal.returns-in_err-upgrade-clause-upgraded
+returns-in_err-upgrade-clause-upgraded g c =
+    let after = (goal.at.returns-in_err-upgrade-clause-upgraded g c).After-upgrade in
+    let r : Refusal = c.in_err-upgrade.field-0.0 in
+    let does = c.in_err-upgrade.ensures in
+    subst (λ (result : Result (Unit {0}) Refusal). IsUpgraded g.D.Disk result c.args.tree.now c.upgrade.new.self) (sym (refused_as c.from_residual.result r c.from_residual.ensures.1))
+    (⊎_elim
+    (λ device.
+    subst (λ (x : Refusal). IsUpgraded g.D.Disk (Err x) c.args.tree.now c.upgrade.new.self) (sym device)
+    (fails g after (subst (UpgradesNot (g.D.Disk.size (disk_of c.abandon.new.self)) (root_of c.abandon.new.self)) device does.refused) does.last_known (does.device (ap (λ (x : Refusal). Err x) device)) (does.cause (ap (λ (x : Refusal). Err x) device))))
+    (λ other. refuses g after r other does.refused (does.unchanged other))
+    (device_or_not r))
 
 pub returns-clause-upgraded : goal.returns-clause-upgraded
 returns-clause-upgraded g c =
+    let after = (goal.at.returns-clause-upgraded g c).After-upgrade in
+    let d = g.D.Disk in
     let gave = c.abandon.ensures in
-    let does = c.upgrade.ensures in
-    ends g.D.Disk g.met.D.Disk.only_now g.met.D.Disk.seen_may c.args.tree.now c.abandon.new.self c.upgrade.new.self c.requires.works
-    (record { no_call = gave.no_call; sinks = gave.sinks; at = gave.at; committed = gave.committed; undeclared = gave.undeclared })
-    c.upgrade.result
-    (record {
-      size = does.size;
-      later = does.later;
-      cause = does.cause;
-      refused = does.refused;
-      allowed = does.allowed;
-      unchanged = does.unchanged;
-      honest = does.honest;
-      works = does.not_failed;
-      device = does.device;
-      last_known = does.last_known;
-      version = does.version;
-      number = does.number;
-      count = does.count;
-      side = does.side;
-      capacity = does.capacity;
-      declared = does.declared;
-      sinks = does.sinks;
-      at = does.at;
-      staged = does.staged;
-      any_moment = does.any_moment;
-    })
+    let does = c.in_ok-upgrade.ensures in
+    let works = c.requires.works in
+    let tree = c.args.tree.now in
+    let may : MayUpgrade (d.size (disk_of tree)) (root_of tree) = as_old g after MayUpgrade does.allowed in
+    let made = λ (s : State). upgraded s.contents in
+    ended.commits_it d (ending g after) tree c.upgrade.new.self works made (target g after) (size_is g after) (later_is g after) (honest_was g after) (run g after) (holds g after) tt does.not_failed
+    (c.upgrade.ensures.side ∙ ap (λ (r : RootValue). r.side) gave.no_call.root) (c.upgrade.ensures.capacity ∙ ap (λ (r : RootValue). r.capacity) gave.no_call.root)
+    (record { version = does.version; count = c.upgrade.ensures.count ∙ ap (λ (r : RootValue). r.count) gave.no_call.root; number = does.number ∙ ap (λ (r : RootValue). r.number + 1) gave.no_call.root })
+    refl (g.met.D.Disk.seen_may (disk_of c.upgrade.new.self)) (λ h s at. does.at h (at.sound works).stored (mid_at g after h s at)) (λ h s at. does.staged h (at.sound works).stored (mid_at g after h s at))
+    (c.upgrade.ensures.sinks ∙ gave.sinks ∙ sym c.upgrade.ensures.declared)
+    (λ h s at. (
+      old_at g after s at may,
+      ended.commits_made d (ending g after) tree c.upgrade.new.self works made (target g after) (size_is g after) (later_is g after) (honest_was g after) (run g after) (holds g after) s at (number_at g after may s at),
+    ))
 
-pub returns-clause-clean : goal.returns-clause-clean
-returns-clause-clean g c =
-    let gave = c.abandon.ensures in
-    let does = c.upgrade.ensures in
-    clean_then g.D.Disk c.abandon.new.self c.upgrade.new.self c.upgrade.result
-    (record { none_staged = gave.none_staged; none_due = gave.none_due; corners = gave.corners }) does.none_staged does.none_due does.entries does.unchanged does.device
+-- nothing is staged in it then, where it hasn't failed
+pub returns-in_err-upgrade-clause-clean : goal.returns-in_err-upgrade-clause-clean
+returns-in_err-upgrade-clause-clean g c works =
+    let does = c.in_err-upgrade.ensures in
+    ⊎_elim (λ device. absurd (true≢false (sym (does.device (ap (λ (x : Refusal). Err x) device)) ∙ works)))
+    (λ other. subst (λ (tree : Tree _ g.D.Disk). IsClean tree) (sym (does.unchanged other)) c.abandon.ensures.clean) (device_or_not c.in_err-upgrade.field-0.0)

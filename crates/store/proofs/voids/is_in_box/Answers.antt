@@ -1,5 +1,4 @@
-use Rattle.std.proofs.Common.{◌≡◌, Bool, true, false, refl, sym, ap, ◌∙◌}
-use Rattle.std.specs.Prelude.{◌&&◌, int_le}
+use Rattle.std.proofs.Common.{◌≡◌, Bool, true, false, refl, sym, ap, ◌∙◌, ◌&&◌, int_le}
 use Rattle.store.proofs.voids.is_in_box.Goals as goal
 
 and_pairs : (a b c d : Bool) → ((a && b) && (c && d)) ≡ (((a && b) && c) && d)

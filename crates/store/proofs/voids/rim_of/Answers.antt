@@ -1,5 +1,4 @@
-use Rattle.std.proofs.Common.{◌≡◌, zero, suc, true, List, [], ◌∷◌, map, Contains, sym, ap, ◌∙◌, subst, arith}
-use Rattle.std.specs.Prelude.{◌||◌}
+use Rattle.std.proofs.Common.{◌≡◌, zero, suc, true, List, [], ◌∷◌, map, Contains, sym, ap, ◌∙◌, subst, arith, ◌||◌}
 use Rattle.lattice.specs.Corners.{Corner, same_corner}
 use Rattle.lattice.proofs.CornerOrder.{same_from, same_says}
 use Rattle.catalogue.specs.Tiles.{is_listed}

@@ -1,5 +1,4 @@
-use Rattle.std.proofs.Common.{◌≡◌, ◌⊎◌, ⊎_elim, ◌-◌, ◌*◌, inl, inr, ℕ, All, List, map, Result, Ok, Err, IfErr, OnOk, vec_len, refl, sym, ap, ap₂, ◌∙◌, subst}
-use Rattle.std.specs.Prelude.{IsTrue}
+use Rattle.std.proofs.Common.{◌≡◌, ◌⊎◌, ⊎_elim, ◌-◌, ◌*◌, inl, inr, ℕ, All, List, map, Result, Ok, Err, IfErr, OnOk, vec_len, refl, sym, ap, ap₂, ◌∙◌, subst, IsTrue}
 use Rattle.std.proofs.lemmas.Result.{IfErr-weaker}
 use Rattle.disk.specs.declared.disk.Disk.{Ghosts}
 use Rattle.lattice.specs.Corners.{Corner}

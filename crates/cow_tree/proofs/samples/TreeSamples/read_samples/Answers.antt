@@ -1,5 +1,4 @@
-use Rattle.std.proofs.Common.{◌≡◌, ℕ, ℤ, ◌+◌, ◌*◌, ◌≤◌, ◌-◌, List, length, Option, sym, ap, ◌∙◌, subst, arith}
-use Rattle.std.specs.Prelude.{IsSomeAnd, slice_range}
+use Rattle.std.proofs.Common.{◌≡◌, ℕ, ℤ, ◌+◌, ◌*◌, ◌≤◌, ◌-◌, List, length, Option, sym, ap, ◌∙◌, subst, arith, IsSomeAnd, slice_range}
 use Rattle.std.proofs.lemmas.List.{take_all}
 use Rattle.lattice.specs.Mosaic.{Mosaic, samples_of}
 use Rattle.page_codec.specs.Formats.{largest_side_of}
@@ -18,20 +17,20 @@ pub overflow_cast-at : goal.overflow_cast-at
 overflow_cast-at g c =
     let root = c.current.result.now in
     let side : c.side-side.result ≡ root.side = c.side-side.ensures.value in
-    let same : root.side ≡ c.args.self.now.root.side = ap (λ (r : RootValue). r.side) c.current.ensures in
+    let same : root.side ≡ c.args.self.now.roots.root.side = ap (λ (r : RootValue). r.side) c.current.ensures in
     let high : root.side ≤ largest_side_of root.version = subst (λ (n : ℕ). n ≤ largest_side_of root.version) side c.side-side.ensures.high in
     let small : root.side * root.side ≤ 12967201 = samples_small root.version root.side high in
-    let small_here : c.args.self.now.root.side * c.args.self.now.root.side ≤ 12967201 = subst (λ (n : ℕ). n * n ≤ 12967201) same small in
+    let small_here : c.args.self.now.roots.root.side * c.args.self.now.roots.root.side ≤ 12967201 = subst (λ (n : ℕ). n * n ≤ 12967201) same small in
     omega (arith, small_here, c.requires.range)
 
 pub overflow_add-at : goal.overflow_add-at
 overflow_add-at g c =
     let root = c.current.result.now in
     let side : c.side-side.result ≡ root.side = c.side-side.ensures.value in
-    let same : root.side ≡ c.args.self.now.root.side = ap (λ (r : RootValue). r.side) c.current.ensures in
+    let same : root.side ≡ c.args.self.now.roots.root.side = ap (λ (r : RootValue). r.side) c.current.ensures in
     let high : root.side ≤ largest_side_of root.version = subst (λ (n : ℕ). n ≤ largest_side_of root.version) side c.side-side.ensures.high in
     let small : root.side * root.side ≤ 12967201 = samples_small root.version root.side high in
-    let small_here : c.args.self.now.root.side * c.args.self.now.root.side ≤ 12967201 = subst (λ (n : ℕ). n * n ≤ 12967201) same small in
+    let small_here : c.args.self.now.roots.root.side * c.args.self.now.roots.root.side ≤ 12967201 = subst (λ (n : ℕ). n * n ≤ 12967201) same small in
     omega (arith, small_here, c.requires.range)
 
 pub loop-done-preserved : goal.loop-done-preserved
@@ -53,7 +52,7 @@ loop-done-preserved g c =
           let mid_readable = was_readable g.D.Disk mid new kept readable in
           read_further all c.loop-done.into c.read_part.new.into c.args.first c.loop-done.done c.min-end.result le (omega (arith, le, end)) long
           (c.loop-done.invariant.read mid_readable all is)
-          (c.in_ok-read_part.ensures.samples readable all (ap (λ (m : Mosaic). samples_of m c.args.c) (same_mosaic g.D.Disk old mid c.loop-done.invariant.reads mid_readable) ∙ is));
+          (c.in_ok-read_part.ensures.samples readable all (ap (λ (m : Mosaic). samples_of m c.args.c) (same_mosaic g.D.Disk old mid c.loop-done.invariant.reads mid_readable.honest) ∙ is));
     }
 
 pub returns-clause-samples : goal.returns-clause-samples
@@ -64,8 +63,8 @@ returns-clause-samples g c readable =
     let found = located_tile c.args.c old.page_map.staged c.requires.present in
     let among = contains-map (tile_in seen) old.page_map.staged found.0 found.1.0 in
     let t : StoredTile = tile_in seen found.0 in
-    let all = samples_are old.root.side old.sinks.points (staged_in g.D.Disk old) c.args.c t was.valid among found.1.1 in
+    let all = samples_are old.roots.root.side old.sinks.points (staged_in g.D.Disk old) c.args.c t was.valid among found.1.1 in
     let done : c.loop-done.done ≡ length c.loop-done.into = omega arith in
     subst (λ (o : Option (List ℤ)). IsSomeAnd o (λ l. slice_range l c.args.first (c.args.first + length c.loop-done.into) ≡ c.loop-done.into)) (sym all)
-    (subst (λ (n : ℕ). slice_range (samples_of_plane old.root.side t.heights) c.args.first (c.args.first + n) ≡ c.loop-done.into) done
-    (c.loop-done.invariant.read readable (samples_of_plane old.root.side t.heights) all ∙ take_all c.loop-done.done c.loop-done.into (omega arith)))
+    (subst (λ (n : ℕ). slice_range (samples_of_plane old.roots.root.side t.heights) c.args.first (c.args.first + n) ≡ c.loop-done.into) done
+    (c.loop-done.invariant.read readable (samples_of_plane old.roots.root.side t.heights) all ∙ take_all c.loop-done.done c.loop-done.into (omega arith)))

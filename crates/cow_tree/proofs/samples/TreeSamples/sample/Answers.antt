@@ -30,14 +30,14 @@ returns-clause-sample g c readable =
     let found = located_tile c.args.c old.page_map.staged c.requires.present in
     let among = contains-map (tile_in seen) old.page_map.staged found.0 found.1.0 in
     let t : StoredTile = tile_in seen found.0 in
-    let all = samples_are old.root.side old.sinks.points (staged_in g.D.Disk old) c.args.c t was.valid among found.1.1 in
-    let many = as_many old.root.side old.sinks.points (staged_in g.D.Disk old) c.args.c t was.valid among found.1.1 in
+    let all = samples_are old.roots.root.side old.sinks.points (staged_in g.D.Disk old) c.args.c t was.valid among found.1.1 in
+    let many = as_many old.roots.root.side old.sinks.points (staged_in g.D.Disk old) c.args.c t was.valid among found.1.1 in
     let into = c.read_samples.new.samples in
     let held = c.in_ok-read_two.ensures.two readable.honest in
     let s : ℤ = get_or into 0 (pos 0) in
     let fits : SFits w16 s = search rules in
     subst (λ (x : ℤ). IsSampleOf (mosaic_of g.D.Disk old) c.args.c c.args.i x) (sym (to_z-of_z w16 s fits))
-    (one_sample (mosaic_of g.D.Disk old) c.args.c (samples_of_plane old.root.side t.heights) c.args.i into s all (omega (arith, many, c.requires.index)) (omega arith) (first_of into (omega arith))
-    (part_read old.root.side old.sinks.points (staged_in g.D.Disk old) c.args.c c.args.i 1 _ held.0 into was.valid was.pages
+    (one_sample (mosaic_of g.D.Disk old) c.args.c (samples_of_plane old.roots.root.side t.heights) c.args.i into s all (omega (arith, many, c.requires.index)) (omega arith) (first_of into (omega arith))
+    (part_read old.roots.root.side old.sinks.points (staged_in g.D.Disk old) c.args.c c.args.i 1 _ held.0 into was.valid was.pages
     (omega arith) (omega arith) (omega (arith, c.requires.index)) (omega arith) (subst (λ (l : List ℕ). into ≡ samples_in l) (sym held.1.1) c.read_samples.ensures) held.1.0
-    (samples_of_plane old.root.side t.heights) all))
+    (samples_of_plane old.roots.root.side t.heights) all))

@@ -1,4 +1,4 @@
-use Rattle.std.proofs.Common.{rules, ◌≡◌, ◌≤◌, ◌⊎◌, inl, ℕ, List, length, map, refl, sym, ap, ap₂, ◌∙◌, subst, arith}
+use Rattle.std.proofs.Common.{rules, ◌+◌, ◌≡◌, ◌≤◌, ◌⊎◌, inl, ℕ, List, length, map, refl, sym, ap, ap₂, ◌∙◌, subst, arith}
 use Rattle.disk.specs.Disk.{Image}
 use Rattle.disk.specs.Stops.{LeavesOnly, weaker}
 use Rattle.lattice.specs.declared.point.Point.{Point}
@@ -8,8 +8,7 @@ use Rattle.page_codec.specs.Roots.{RootValue, format_of}
 use Rattle.roots.specs.Roots.{IsReady, ready_current}
 use Rattle.roots.specs.Slots.{KeepsAll, SamePages, IsCurrent}
 use Rattle.roots.specs.Found.{HasMoved}
-use Rattle.page_codec.specs.Entries.{EntryValue}
-use Rattle.page_map.specs.PageMaps.{PageMapValue, corners_of_locations}
+use Rattle.page_map.specs.PageMaps.{PageMapValue}
 use Rattle.cow_tree.specs.Entries.{entry_of}
 use Rattle.cow_tree.specs.Layout.{stored_in, tile_in, StoresAt, Stands}
 use Rattle.cow_tree.specs.Listings.{due_among, numbers_of, tiles_listing}
@@ -18,8 +17,7 @@ use Rattle.cow_tree.specs.Stored.{Stored, next_commit}
 use Rattle.cow_tree.specs.Trees.{IsAt}
 use Rattle.cow_tree.proofs.Cached.{same_agrees}
 use Rattle.cow_tree.proofs.Commits.{next_root, few_in_all, few_in_part, lands, same_tiles, nothing_staged, committing}
-use Rattle.cow_tree.proofs.Dropping.{corners_of_entries, clean_is_committed}
-use Rattle.cow_tree.proofs.Due.{none_due}
+use Rattle.cow_tree.proofs.Clean.{is_clean}
 use Rattle.cow_tree.proofs.ListingPages.{due_are, due_unreached}
 use Rattle.cow_tree.proofs.Steps.{stands, stores_along}
 use Rattle.cow_tree.proofs.tree.Tree.commit.Goals as goal
@@ -27,8 +25,8 @@ use Rattle.cow_tree.proofs.tree.Tree.commit.Goals.{After-write_listings, After-c
 
 pub with_sinks-root-requires : goal.with_sinks-root-requires
 with_sinks-root-requires g c =
-    subst (λ (r : RootValue). AreSinks r.side c.points.result.now) (sym c.next.ensures)
-    (subst (AreSinks c.args.self.now.root.side) (sym c.points.ensures.value) (subst (λ (n : ℕ). AreSinks n c.args.self.now.sinks.points) c.args.self.now.declared c.points.ensures.valid))
+    subst (λ (r : RootValue). AreSinks r.side c.points.result.now) (sym (c.next.ensures ∙ ap (λ (r : RootValue). record r { number = r.number + 1; count = c.args.count; entries = c.staged_entries-entries.result.items }) c.current.ensures))
+    (subst (AreSinks c.args.self.now.roots.root.side) (sym c.points.ensures.value) (subst (λ (n : ℕ). AreSinks n c.args.self.now.sinks.points) c.args.self.now.declared c.points.ensures.valid))
 
 -- what a commit writes besides its root
 module _ (g : _) (c : After-write_listings g) where
@@ -74,19 +72,18 @@ module _ (g : _) (c : After-commit g) (honest : g.D.Disk.honest c.commit.new.sel
   mid_honest : g.D.Disk.honest c.write_listings.new.roots.disk
   mid_honest = c.commit.ensures.honest honest
 
-  stored : s ≡ stored_in seen c.args.self.now.root page_map.committed
-  stored =
-      (is.each seen (g.met.D.Disk.seen_may c.args.self.now.roots.disk (c.write_listings.ensures.listed.pages.honest mid_honest))).stands
-      ∙ ap (λ (r : RootValue). stored_in seen r page_map.committed) (c.args.self.now.known c.requires.not_failed)
+  stored : s ≡ stored_in seen c.args.self.now.roots.root page_map.committed
+  stored = (is.each seen (g.met.D.Disk.seen_may c.args.self.now.roots.disk (c.write_listings.ensures.listed.pages.honest mid_honest))).stands
 
   abbrev target : Stored
   target = next_commit s c.args.self.now.sinks.points (map (tile_in seen) page_map.staged) c.args.count
 
-  is_next : c.with_sinks-root.result ≡ next_root c.args.self.now.root c.args.count c.args.self.now.sinks.points (map entry_of page_map.staged)
+  is_next : c.with_sinks-root.result ≡ next_root c.args.self.now.roots.root c.args.count c.args.self.now.sinks.points (map entry_of page_map.staged)
   is_next =
       c.with_sinks-root.ensures
       ∙ ap₂ (λ (r : RootValue) (sinks : List Point). record r { sinks = sinks }) c.next.ensures c.points.ensures.value
-      ∙ ap (next_root c.args.self.now.root c.args.count c.args.self.now.sinks.points) c.staged_entries-entries.ensures.value
+      ∙ ap (next_root c.current.result.now c.args.count c.args.self.now.sinks.points) c.staged_entries-entries.ensures.value
+      ∙ ap (λ (r : RootValue). next_root r c.args.count c.args.self.now.sinks.points (map entry_of page_map.staged)) c.current.ensures
 
   staged : AreStaged page_map.format page_map.committed page_map.staged seen
   staged = subst (λ (f : Format). AreStaged f page_map.committed page_map.staged seen) (sym c.args.self.now.format) is.staged
@@ -95,7 +92,7 @@ module _ (g : _) (c : After-commit g) (honest : g.D.Disk.honest c.commit.new.sel
   land =
       subst (λ (r : RootValue). (image : Image) → HasMoved r (g.D.Disk.seen c.write_listings.new.roots.disk) image → StoresAt size r page_map.staged target image) (sym is_next)
       (lands page_map c.rules.ensures page_map.committed seen (g.D.Disk.seen c.write_listings.new.roots.disk) staged (c.in_ok-write_listings.ensures.listed.written mid_honest) (c.in_ok-write_listings.ensures.listed.pages.others mid_honest)
-      size (next_root c.args.self.now.root c.args.count c.args.self.now.sinks.points (map entry_of page_map.staged)) page_map.staged target c.args.self.now.sectors c.args.self.now.fits c.args.self.now.format refl refl
+      size (next_root c.args.self.now.roots.root c.args.count c.args.self.now.sinks.points (map entry_of page_map.staged)) page_map.staged target c.args.self.now.sectors c.args.self.now.fits c.args.self.now.format refl refl
       (ap (λ (x : Stored). next_commit x c.args.self.now.sinks.points (map (tile_in seen) page_map.staged) c.args.count) stored))
 
   ready : IsReady g.D.Disk c.write_listings.new.roots
@@ -135,8 +132,9 @@ returns-clause-at g c honest s is =
       ready = ready_now;
       each = λ image may. stores_along n (d.size new.disk) c.with_sinks-root.result new.root page_map.staged c.settle.new.self.committed (target g after honest s is) image
           (c.commit.ensures.size ∙ c.write_listings.ensures.listed.pages.size) c.in_ok-commit.ensures.root (ap (λ (x : PageMapValue). x.committed) settled) (each image may);
-      staged = subst (λ (x : PageMapValue). AreStaged (format_of c.with_sinks-root.result) x.committed x.staged (d.seen new.disk)) (sym settled)
-          (nothing_staged n c.with_sinks-root.result page_map.staged (target g after honest s is) (d.seen new.disk) (each (d.seen new.disk) (g.met.D.Disk.seen_may new.disk honest)));
+      staged = subst (λ (r : RootValue). AreStaged (format_of r) c.settle.new.self.committed c.settle.new.self.staged (d.seen new.disk)) (sym c.in_ok-commit.ensures.root)
+          (subst (λ (x : PageMapValue). AreStaged (format_of c.with_sinks-root.result) x.committed x.staged (d.seen new.disk)) (sym settled)
+          (nothing_staged n c.with_sinks-root.result page_map.staged (target g after honest s is) (d.seen new.disk) (each (d.seen new.disk) (g.met.D.Disk.seen_may new.disk honest))));
     }
 
 pub returns-clause-staged : goal.returns-clause-staged
@@ -148,21 +146,8 @@ returns-clause-staged g c honest s is =
     ∙ sym (same_tiles old.page_map c.rules.ensures old.page_map.committed (d.seen old.roots.disk) (d.seen c.write_listings.new.roots.disk) (staged g after honest s is)
     (c.in_ok-write_listings.ensures.listed.written (mid_honest g after honest s is)) (c.in_ok-write_listings.ensures.listed.pages.others (mid_honest g after honest s is)) (d.seen c.commit.new.self.disk) (c.in_ok-commit.ensures.pages honest) old.page_map.staged refl)
 
-pub returns-clause-none_staged : goal.returns-clause-none_staged
-returns-clause-none_staged g c =
-    clean_is_committed c.settle.new.self (ap (λ (x : PageMapValue). x.staged) c.settle.ensures.settled ∙ sym (ap (λ (x : PageMapValue). x.committed) c.settle.ensures.settled))
-
-pub returns-clause-none_due : goal.returns-clause-none_due
-returns-clause-none_due g c =
-    none_due c.settle.new.self (ap (λ (x : PageMapValue). x.staged) c.settle.ensures.settled ∙ sym (ap (λ (x : PageMapValue). x.committed) c.settle.ensures.settled))
-
-pub returns-clause-entries : goal.returns-clause-entries
-returns-clause-entries g c =
-    ap (λ (x : PageMapValue). corners_of_locations x.staged) c.settle.ensures.settled ∙ corners_of_entries c.args.self.now.page_map.staged
-    ∙ ap (map (λ (e : EntryValue). e.corner)) (sym c.staged_entries-entries.ensures.value) ∙ ap (λ (r : RootValue). map (λ (e : EntryValue). e.corner) r.entries) (sym (c.with_sinks-root.ensures ∙ ap (λ (r : RootValue). record r { sinks = c.points.result.now }) c.next.ensures))
-
-pub returns-clause-unstaged : goal.returns-clause-unstaged
-returns-clause-unstaged g c = ap (λ (x : PageMapValue). x.staged) c.settle.ensures.settled ∙ sym (ap (λ (x : PageMapValue). x.committed) c.settle.ensures.settled)
+pub returns-clause-clean : goal.returns-clause-clean
+returns-clause-clean g c = is_clean _ (ap (λ (x : PageMapValue). x.staged) c.settle.ensures.settled ∙ sym (ap (λ (x : PageMapValue). x.committed) c.settle.ensures.settled))
 
 pub invariant_of-self-2 : goal.invariant_of-self-2
 invariant_of-self-2 g c =
@@ -172,10 +157,9 @@ invariant_of-self-2 g c =
     record {
       sectors = search rules;
       fits = search rules;
-      format = search rules;
-      entries = search rules;
-      known = search rules;
-      declared = search rules;
+      format = subst (λ (r : RootValue). c.settle.new.self.format ≡ format_of r) (sym c.in_ok-commit.ensures.root) (search rules);
+      entries = subst (λ (r : RootValue). map entry_of c.settle.new.self.committed ≡ r.entries) (sym c.in_ok-commit.ensures.root) (search rules);
+      declared = subst (λ (r : RootValue). had.sinks.side ≡ r.side) (sym c.in_ok-commit.ensures.root) (search rules);
       cached = λ honest _.
           let mid_honest = c.commit.ensures.honest honest in
           same_agrees c.write_listings.new.cache (seen mid) (seen c.commit.new.self.disk) (c.in_ok-commit.ensures.pages honest)

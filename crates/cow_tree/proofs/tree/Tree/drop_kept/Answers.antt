@@ -30,6 +30,6 @@ returns-clause-at g c s is =
     record {
       ready = is.ready;
       each = λ image may. subst (λ (tiles : List TileLocation). StoresAt (g.D.Disk.size old.roots.disk) old.roots.root tiles s image) (sym (ap (λ (x : PageMapValue). x.committed) dropped)) (is.each image may);
-      staged = subst (λ (x : PageMapValue). AreStaged (format_of old.root) x.committed x.staged seen) (sym dropped)
-          (other_stays c.args.c None (format_of old.root) old.page_map.committed seen tt old.page_map.staged is.staged);
+      staged = subst (λ (x : PageMapValue). AreStaged (format_of old.roots.root) x.committed x.staged seen) (sym dropped)
+          (other_stays c.args.c None (format_of old.roots.root) old.page_map.committed seen tt old.page_map.staged is.staged);
     }

@@ -28,8 +28,8 @@ returns-clause-at g c s is =
     record {
       ready = is.ready;
       each = λ image may. subst (λ (tiles : List TileLocation). StoresAt (g.D.Disk.size old.roots.disk) old.roots.root tiles s image) (sym (ap (λ (x : PageMapValue). x.committed) removed)) (is.each image may);
-      staged = subst (λ (x : PageMapValue). AreStaged (format_of old.root) x.committed x.staged (g.D.Disk.seen old.roots.disk)) (sym removed)
-          (staged_without (format_of old.root) old.page_map.committed old.page_map.staged c.args.c (g.D.Disk.seen old.roots.disk) is.staged);
+      staged = subst (λ (x : PageMapValue). AreStaged (format_of old.roots.root) x.committed x.staged (g.D.Disk.seen old.roots.disk)) (sym removed)
+          (staged_without (format_of old.roots.root) old.page_map.committed old.page_map.staged c.args.c (g.D.Disk.seen old.roots.disk) is.staged);
     }
 
 pub returns-clause-due : goal.returns-clause-due

@@ -1,12 +1,9 @@
-use Rattle.std.proofs.Common.{◌≡◌, All, map, ap, ◌∙◌, subst, sym}
+use Rattle.std.proofs.Common.{◌≡◌, All, ◌∙◌, subst, sym}
 use Rattle.disk.specs.Disk.{Image}
-use Rattle.page_codec.specs.Entries.{EntryValue}
-use Rattle.page_codec.specs.Roots.{format_of}
-use Rattle.page_map.specs.PageMaps.{corners_of_locations}
+use Rattle.page_codec.specs.Roots.{RootValue, format_of}
 use Rattle.cow_tree.specs.Layout.{HasRecords}
 use Rattle.disk.specs.Stops.{AddsNothing, nothing_twice}
-use Rattle.cow_tree.proofs.Dropping.{corners_of_entries, clean_is_committed}
-use Rattle.cow_tree.proofs.Due.{none_due}
+use Rattle.cow_tree.proofs.Clean.{is_clean}
 use Rattle.cow_tree.proofs.Opened.{opened, page_map_refuses, stands_opens}
 use Rattle.cow_tree.proofs.ReadOnly.{works_ok}
 use Rattle.cow_tree.proofs.tree.Tree.open.Goals as goal
@@ -22,13 +19,11 @@ returns-in-Ok-read_page_map-clause-at g c honest =
     opened d _ (d.size c.args.disk) (d.seen c.args.disk) (reads.ready honest (opening.ready opened_honest) (works_ok c.in-Ok-read_page_map.page_map roots.failed reads.works)) (reads.size ∙ opening.size) seen_is
     (λ image may. opening.durable opened_honest image ((reads.nothing honest).run.now image may) ∙ opening.seen opened_honest)
     (g.met.D.Disk.seen_may roots.disk honest) c.in-Ok-read_page_map.ensures.rules c.in-Ok-read_page_map.ensures.clean
-    (subst (λ (i : Image). All (HasRecords (format_of c.copy-root.result) i) c.in-Ok-read_page_map.page_map.committed) (opening.seen opened_honest) (c.in-Ok-read_page_map.ensures.records honest))
+    (subst (λ (r : RootValue). All (HasRecords (format_of r) (d.seen c.args.disk)) c.in-Ok-read_page_map.page_map.committed) (c.copy-root.ensures ∙ c.current.ensures ∙ sym reads.root)
+    (subst (λ (i : Image). All (HasRecords (format_of c.copy-root.result) i) c.in-Ok-read_page_map.page_map.committed) (opening.seen opened_honest) (c.in-Ok-read_page_map.ensures.records honest)))
 
 pub returns-in-Ok-read_page_map-clause-clean : goal.returns-in-Ok-read_page_map-clause-clean
-returns-in-Ok-read_page_map-clause-clean g c = clean_is_committed c.in-Ok-read_page_map.page_map c.in-Ok-read_page_map.ensures.clean
-
-pub returns-in-Ok-read_page_map-clause-corners : goal.returns-in-Ok-read_page_map-clause-corners
-returns-in-Ok-read_page_map-clause-corners g c = ap corners_of_locations c.in-Ok-read_page_map.ensures.clean ∙ corners_of_entries c.in-Ok-read_page_map.page_map.committed ∙ ap (map (λ (e : EntryValue). e.corner)) c.in-Ok-read_page_map.ensures.entries
+returns-in-Ok-read_page_map-clause-clean g c = is_clean _ c.in-Ok-read_page_map.ensures.clean
 
 pub returns-in-Err-clause-refused : goal.returns-in-Err-clause-refused
 returns-in-Err-clause-refused g c honest =
@@ -39,14 +34,8 @@ returns-in-Err-clause-refused g c honest =
     page_map_refuses (d.size c.args.disk) (d.size c.in_ok-roots.roots.disk) (d.seen c.args.disk) (d.seen c.in_ok-roots.roots.disk) c.copy-root.result c.in_ok-roots.roots.root c.in-Err.refusal _
     opening.size (opening.seen opened_honest) (c.copy-root.ensures ∙ c.current.ensures) (λ fault. cc) (opening.opens opened_honest) (c.in-Err.ensures.refused now_honest)
 
-pub returns-in-Ok-read_page_map-clause-none_due : goal.returns-in-Ok-read_page_map-clause-none_due
-returns-in-Ok-read_page_map-clause-none_due g c = none_due c.in-Ok-read_page_map.page_map c.in-Ok-read_page_map.ensures.clean
-
 pub returns-in-Err-clause-sure : goal.returns-in-Err-clause-sure
 returns-in-Err-clause-sure g c honest s is = stands_opens (g.D.Disk.size c.args.disk) (g.D.Disk.seen c.args.disk) s c.in-Err.refusal is (returns-in-Err-clause-refused g c honest)
-
-pub returns-in-Ok-read_page_map-clause-unstaged : goal.returns-in-Ok-read_page_map-clause-unstaged
-returns-in-Ok-read_page_map-clause-unstaged g c = c.in-Ok-read_page_map.ensures.clean
 
 pub returns-in-Ok-read_page_map-clause-nothing : goal.returns-in-Ok-read_page_map-clause-nothing
 returns-in-Ok-read_page_map-clause-nothing g c honest =

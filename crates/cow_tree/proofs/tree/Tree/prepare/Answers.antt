@@ -61,6 +61,6 @@ returns-clause-at g c s is =
       ready = is.ready;
       each = λ image may. subst (λ (tiles : List TileLocation). StoresAt (g.D.Disk.size old.roots.disk) old.roots.root tiles s image) (sym committed) (is.each image may);
       staged = either_way c.prepare.result c.prepare.ensures.prepared c.prepare.ensures.unchanged
-          (λ prepared. still_prepared (format_of old.root) old.page_map c.prepare.new.self c.args.c seen prepared is.staged)
-          (λ same. subst (λ (x : PageMapValue). AreStaged (format_of old.root) x.committed x.staged seen) (sym same) is.staged);
+          (λ prepared. still_prepared (format_of old.roots.root) old.page_map c.prepare.new.self c.args.c seen prepared is.staged)
+          (λ same. subst (λ (x : PageMapValue). AreStaged (format_of old.roots.root) x.committed x.staged seen) (sym same) is.staged);
     }

@@ -1,13 +1,10 @@
-use Rattle.std.proofs.Common.{◌≡◌, All, map, inl, inr, ⊎_elim, sym, ap, ◌∙◌, subst}
+use Rattle.std.proofs.Common.{◌≡◌, All, inl, inr, ⊎_elim, sym, ◌∙◌, subst}
 use Rattle.disk.specs.Disk.{Image}
 use Rattle.disk.specs.Stops.{AddsNothing, nothing_twice}
 use Rattle.lattice.specs.declared.refusal.Refusal.TheVariants.{Device}
-use Rattle.page_codec.specs.Entries.{EntryValue}
-use Rattle.page_codec.specs.Roots.{format_of}
-use Rattle.page_map.specs.PageMaps.{corners_of_locations}
+use Rattle.page_codec.specs.Roots.{RootValue, format_of}
 use Rattle.cow_tree.specs.Layout.{HasRecords}
-use Rattle.cow_tree.proofs.Dropping.{corners_of_entries, clean_is_committed}
-use Rattle.cow_tree.proofs.Due.{none_due}
+use Rattle.cow_tree.proofs.Clean.{is_clean}
 use Rattle.cow_tree.proofs.Opened.{opened, page_map_refuses, stands_opens}
 use Rattle.cow_tree.proofs.ReadOnly.{works_ok, never_refused, handed_on}
 use Rattle.cow_tree.proofs.tree.Tree.reopen.Goals as goal
@@ -24,13 +21,11 @@ returns-in-Ok-clause-at g c honest =
     opened d _ (d.size start.disk) (d.seen start.disk) (reads.ready honest (opening.ready opened_honest) (works_ok c.in-Ok.page_map roots.failed reads.works)) (reads.size ∙ c.reopen.ensures.size) seen_is
     (λ image may. opening.durable opened_honest image ((reads.nothing honest).run.now image may) ∙ opening.seen opened_honest)
     (g.met.D.Disk.seen_may roots.disk honest) c.in-Ok.ensures.rules c.in-Ok.ensures.clean
-    (subst (λ (i : Image). All (HasRecords (format_of c.copy-root.result) i) c.in-Ok.page_map.committed) (opening.seen opened_honest) (c.in-Ok.ensures.records honest))
+    (subst (λ (r : RootValue). All (HasRecords (format_of r) (d.seen start.disk)) c.in-Ok.page_map.committed) (c.copy-root.ensures ∙ c.current-2.ensures ∙ sym reads.root)
+    (subst (λ (i : Image). All (HasRecords (format_of c.copy-root.result) i) c.in-Ok.page_map.committed) (opening.seen opened_honest) (c.in-Ok.ensures.records honest)))
 
 pub returns-in-Ok-clause-clean : goal.returns-in-Ok-clause-clean
-returns-in-Ok-clause-clean g c = clean_is_committed c.in-Ok.page_map c.in-Ok.ensures.clean
-
-pub returns-in-Ok-clause-corners : goal.returns-in-Ok-clause-corners
-returns-in-Ok-clause-corners g c = ap corners_of_locations c.in-Ok.ensures.clean ∙ corners_of_entries c.in-Ok.page_map.committed ∙ ap (map (λ (e : EntryValue). e.corner)) c.in-Ok.ensures.entries
+returns-in-Ok-clause-clean g c = is_clean _ c.in-Ok.ensures.clean
 
 pub returns-in-Err-clause-refused : goal.returns-in-Err-clause-refused
 returns-in-Err-clause-refused g c honest =
@@ -40,18 +35,12 @@ returns-in-Err-clause-refused g c honest =
     let now_honest = subst d.honest c.fail.ensures.disk honest in
     let opened_honest = c.in-Err.ensures.reads.honest now_honest in
     page_map_refuses (d.size start.disk) (d.size c.reopen.new.self.disk) (d.seen start.disk) (d.seen c.reopen.new.self.disk) c.copy-root.result c.reopen.new.self.root c.in-Err.refusal _
-    c.reopen.ensures.size (opening.seen opened_honest) (c.copy-root.ensures ∙ c.current.ensures) (never_refused tt Device) (opening.opens opened_honest) (c.in-Err.ensures.refused now_honest)
-
-pub returns-in-Ok-clause-none_due : goal.returns-in-Ok-clause-none_due
-returns-in-Ok-clause-none_due g c = none_due c.in-Ok.page_map c.in-Ok.ensures.clean
+    c.reopen.ensures.size (opening.seen opened_honest) (c.copy-root.ensures ∙ c.current-2.ensures) (never_refused tt Device) (opening.opens opened_honest) (c.in-Err.ensures.refused now_honest)
 
 pub returns-in-Err-clause-sure : goal.returns-in-Err-clause-sure
 returns-in-Err-clause-sure g c honest s is =
     let start = c.args.self.now.roots in
     stands_opens (g.D.Disk.size start.disk) (g.D.Disk.seen start.disk) s c.in-Err.refusal is (returns-in-Err-clause-refused g c honest)
-
-pub returns-in-Ok-clause-unstaged : goal.returns-in-Ok-clause-unstaged
-returns-in-Ok-clause-unstaged g c = c.in-Ok.ensures.clean
 
 pub returns-in_err-reopen-clause-refusals : goal.returns-in_err-reopen-clause-refusals
 returns-in_err-reopen-clause-refusals g c =

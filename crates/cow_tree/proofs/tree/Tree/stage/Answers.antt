@@ -1,12 +1,11 @@
-use Rattle.std.proofs.Common.{◌<◌, ◌≤◌, ◌+◌, ℕ, length, map, arith, refl, sym, ap, ◌∙◌, subst}
-use Rattle.std.specs.Prelude.{is_err}
+use Rattle.std.proofs.Common.{◌<◌, ◌≤◌, ◌+◌, ℕ, length, map, arith, refl, sym, ap, ◌∙◌, subst, is_err}
 use Rattle.page_codec.specs.Sizes.{pages_of}
 use Rattle.std.proofs.lemmas.Bool.{false≢true}
 use Rattle.page_codec.specs.Formats.{Format}
-use Rattle.page_codec.specs.Roots.{format_of}
+use Rattle.page_codec.specs.Roots.{RootValue, format_of}
 use Rattle.page_map.specs.PageMaps.{PageMapValue, HasFreshHeights, corners_of_locations}
 use Rattle.cow_tree.specs.Entries.{entry_of}
-use Rattle.cow_tree.specs.Staged.{index_page_by, pages_due}
+use Rattle.cow_tree.specs.Staged.{AreStaged, index_page_by, pages_due}
 use Rattle.cow_tree.proofs.Steps.{corners_same, stage_pages, stage_stays, page_unreached, still_stands, each_still, stores_along, ok_where_works, on_ok_both, ok_where, failed_where, only_device}
 use Rattle.cow_tree.proofs.Cached.{written_agrees}
 use Rattle.cow_tree.proofs.Due.{written_due, written_due_same, written_due_before, written_here, written_still}
@@ -45,23 +44,23 @@ returns-clause-uncommitted g c =
       failed = failed_where c.write.result _ failed;
       works = c.write.ensures.not_failed;
       honest = c.write.ensures.honest;
-      root = refl;
+      root = c.write.ensures.root;
       at = λ honest s is works. record {
         ready = ok_where_works c.write.result c.write.new.self.failed failed works (c.write.ensures.ready honest is.ready);
         each = λ image may. stores_along (d.size old.roots.disk) (d.size c.write.new.self.disk) old.roots.root c.write.new.self.root old.page_map.committed new_page_map.committed s image
             c.write.ensures.size c.write.ensures.root (ap (λ (page_map : PageMapValue). page_map.committed) rw.changed)
             (each_still d old.roots.disk c.write.new.self.disk c.in_ok-number.number (d.size old.roots.disk) old.roots.root old.page_map.committed s is.each unreached (c.write.ensures.any_moment honest is.ready) image may);
-        staged = ok_where_works c.write.result c.write.new.self.failed failed works
+        staged = subst (λ (r : RootValue). AreStaged (format_of r) new_page_map.committed new_page_map.staged (d.seen c.write.new.self.disk)) (sym c.write.ensures.root) (ok_where_works c.write.result c.write.new.self.failed failed works
             (on_ok_both c.write.result
-            (λ same written. stage_stays old.page_map new_page_map c.args.c c.args.i c.in_ok-number.number c.args.page.now (d.seen old.roots.disk) (d.seen c.write.new.self.disk) c.rules.ensures c.in_ok-number.ensures.rules rw (format_of old.root) c.requires.present index same written is.staged)
-            (c.write.ensures.others honest) (c.write.ensures.written honest));
+            (λ same written. stage_stays old.page_map new_page_map c.args.c c.args.i c.in_ok-number.number c.args.page.now (d.seen old.roots.disk) (d.seen c.write.new.self.disk) c.rules.ensures c.in_ok-number.ensures.rules rw (format_of old.roots.root) c.requires.present index same written is.staged)
+            (c.write.ensures.others honest) (c.write.ensures.written honest)));
       };
       run = λ honest s is. still_stands d old.roots.disk c.write.new.self.disk c.in_ok-number.number (d.size old.roots.disk) old.roots.root old.page_map.committed s is.each unreached (c.write.ensures.any_moment honest is.ready);
     }
 
 pub returns-in_err-number-clause-uncommitted : goal.returns-in_err-number-clause-uncommitted
 returns-in_err-number-clause-uncommitted g c =
-    refused_in_memory g.D.Disk c.args.self.now _ c.from_residual.result c.in_err-number.field-0.0 g.met.D.Disk.only_now refl refl c.in_err-number.ensures.unchanged c.requires.not_failed
+    refused_in_memory g.D.Disk c.args.self.now _ c.from_residual.result c.in_err-number.field-0.0 g.met.D.Disk.only_now refl c.in_err-number.ensures.unchanged c.requires.not_failed
     (ended_with c.from_residual.result c.in_err-number.field-0.0 c.from_residual.ensures.1) c.in_err-number.ensures.refused
 
 pub returns-in_err-number-clause-sure : goal.returns-in_err-number-clause-sure
@@ -104,7 +103,7 @@ pub returns-clause-still_staged : goal.returns-clause-still_staged
 returns-clause-still_staged g c = written_still c.args.self.now.page_map c.page_for_writing.new.self c.args.c c.args.i c.in_ok-number.number c.rules.ensures c.in_ok-number.ensures.written
 
 pub invariant_of-self-2-clause-entries : goal.invariant_of-self-2-clause-entries
-invariant_of-self-2-clause-entries g c = ap (λ (page_map : PageMapValue). map entry_of page_map.committed) c.in_ok-number.ensures.written.changed ∙ c.args.self.now.entries
+invariant_of-self-2-clause-entries g c = ap (λ (page_map : PageMapValue). map entry_of page_map.committed) c.in_ok-number.ensures.written.changed ∙ c.args.self.now.entries ∙ ap (λ (r : RootValue). r.entries) (sym c.write.ensures.root)
 
 pub invariant_of-self-2-clause-cached : goal.invariant_of-self-2-clause-cached
 invariant_of-self-2-clause-cached g c honest works =

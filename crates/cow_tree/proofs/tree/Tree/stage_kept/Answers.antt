@@ -33,10 +33,10 @@ module _ (g : _) (c : In-Some-plane g) where
   kept_is : anew.locations ≡ record { levels = c.in-Some.levels_at.now; labels = c.in-Some-plane.labels_at.now }
   kept_is = locations_are old new c.args.c c.in_ok-keep.ensures.rules c.rules.ensures anew c.requires.unstaged c.requires.present c.in-Some.levels_at.now c.in-Some-plane.labels_at.now c.in-Some.ensures.found c.in-Some-plane.ensures.found
 
-  whole : AreWholeKept (format_of c.args.self.now.root) (record { levels = c.in-Some.levels_at.now; labels = c.in-Some-plane.labels_at.now })
+  whole : AreWholeKept (format_of c.args.self.now.roots.root) (record { levels = c.in-Some.levels_at.now; labels = c.in-Some-plane.labels_at.now })
   whole = subst (λ (f : Format). AreWholeKept f kept) c.args.self.now.format (whole_planes old new c.args.c c.in_ok-keep.ensures.rules c.rules.ensures anew c.requires.unstaged c.requires.present kept kept_is)
 
-  few : length (c.in-Some.levels_at.now.pages ++ c.in-Some-plane.labels_at.now.pages) ≡ 2 * pages_of c.args.self.now.root.side
+  few : length (c.in-Some.levels_at.now.pages ++ c.in-Some-plane.labels_at.now.pages) ≡ 2 * pages_of c.args.self.now.roots.root.side
   few = omega (arith, length-append c.in-Some.levels_at.now.pages c.in-Some-plane.labels_at.now.pages, whole.levels.pages, whole.labels.pages)
 
 pub write_kept-requires-clause-low : goal.write_kept-requires-clause-low
@@ -95,8 +95,8 @@ returns-clause-staged g c honest s is =
     let b = g.D.Disk.seen c.write_kept.new.roots.disk in
     on_ok_both c.write_kept.result
     (λ others wrote. kept_staged (old g here) (new g here) c.args.c c.in_ok-keep.ensures.rules c.rules.ensures (anew g here) c.requires.unstaged c.requires.present (kept g here) (kept_is g here) a b others
-    (planes_of_bytes before.root.side c.args.levels.now c.args.labels.now) wrote)
-    (c.write_kept.ensures.writes.others honest) (c.write_kept.ensures.written honest before.root.side (whole g here).levels.pages (whole g here).labels.pages)
+    (planes_of_bytes before.roots.root.side c.args.levels.now c.args.labels.now) wrote)
+    (c.write_kept.ensures.writes.others honest) (c.write_kept.ensures.written honest before.roots.root.side (whole g here).levels.pages (whole g here).labels.pages)
 
 pub returns-clause-uncommitted : goal.returns-clause-uncommitted
 returns-clause-uncommitted g c =
@@ -105,14 +105,14 @@ returns-clause-uncommitted g c =
     let before = c.args.self.now in
     wrote d before _ c.write_kept.result _ c.write_kept.ensures.writes
     (pages_unreached (old g here) (new g here) c.args.c c.in_ok-keep.ensures.rules c.rules.ensures (anew g here) c.requires.unstaged c.requires.present (kept g here) (kept_is g here))
-    (ap (λ (x : PageMapValue). x.committed) (anew g here).changed) refl
+    (ap (λ (x : PageMapValue). x.committed) (anew g here).changed)
     (λ honest s is.
     on_ok c.write_kept.result
     (λ others. kept_stays (old g here) (new g here) c.args.c c.in_ok-keep.ensures.rules c.rules.ensures (anew g here) c.requires.unstaged c.requires.present (kept g here) (kept_is g here)
-    (d.seen before.roots.disk) (d.seen c.write_kept.new.roots.disk) others (format_of before.root) is.staged)
+    (d.seen before.roots.disk) (d.seen c.write_kept.new.roots.disk) others (format_of before.roots.root) is.staged)
     (c.write_kept.ensures.writes.others honest))
 
 pub returns-in_err-keep-clause-uncommitted : goal.returns-in_err-keep-clause-uncommitted
 returns-in_err-keep-clause-uncommitted g c =
-    refused_in_memory g.D.Disk c.args.self.now _ c.from_residual.result c.in_err-keep.field-0.0 g.met.D.Disk.only_now refl refl c.in_err-keep.ensures.unchanged c.requires.not_failed
+    refused_in_memory g.D.Disk c.args.self.now _ c.from_residual.result c.in_err-keep.field-0.0 g.met.D.Disk.only_now refl c.in_err-keep.ensures.unchanged c.requires.not_failed
     (ended_with c.from_residual.result c.in_err-keep.field-0.0 c.from_residual.ensures.1) c.in_err-keep.ensures.refused

@@ -66,7 +66,7 @@ returns-clause-staged g c honest s is =
     let b = g.D.Disk.seen c.write_plane.new.roots.disk in
     on_ok_both c.write_plane.result
     (λ wrote others. plane_staged (old g here) (new g here) c.args.c c.in_ok-tile_for_writing.ensures.rules (added g here) c.in-Some.plane.now c.in-Some.ensures.found a b c.args.bytes.now
-    (subst (λ (pages : List ℕ). SameElsewhere pages a b) c.pages.ensures others) before.root.side (ap (λ (f : Format). f.side) before.format)
+    (subst (λ (pages : List ℕ). SameElsewhere pages a b) c.pages.ensures others) before.roots.root.side (ap (λ (f : Format). f.side) before.format)
     (subst (λ (pages : List ℕ). map b pages ≡ pages_of_bytes (length pages) c.args.bytes.now) c.pages.ensures wrote))
     (c.write_plane.ensures.written honest) (c.write_plane.ensures.writes.others honest)
 
@@ -77,16 +77,16 @@ returns-clause-uncommitted g c =
     let before = c.args.self.now in
     let a = d.seen before.roots.disk in
     let b = d.seen c.write_plane.new.roots.disk in
-    wrote d before _ c.write_plane.result c.pages.result.now c.write_plane.ensures.writes (unreached g here) (ap (λ (x : PageMapValue). x.committed) (added g here).changed) refl
+    wrote d before _ c.write_plane.result c.pages.result.now c.write_plane.ensures.writes (unreached g here) (ap (λ (x : PageMapValue). x.committed) (added g here).changed)
     (λ honest s is.
     on_ok c.write_plane.result
     (λ others. plane_stays (old g here) (new g here) c.args.c c.in_ok-tile_for_writing.ensures.rules (added g here) c.in-Some.plane.now c.in-Some.ensures.found a b c.args.bytes.now
-    (subst (λ (pages : List ℕ). SameElsewhere pages a b) c.pages.ensures others) (format_of before.root) is.staged)
+    (subst (λ (pages : List ℕ). SameElsewhere pages a b) c.pages.ensures others) (format_of before.roots.root) is.staged)
     (c.write_plane.ensures.writes.others honest))
 
 pub returns-in_err-tile_for_writing-clause-uncommitted : goal.returns-in_err-tile_for_writing-clause-uncommitted
 returns-in_err-tile_for_writing-clause-uncommitted g c =
-    refused_in_memory g.D.Disk c.args.self.now _ c.from_residual.result c.in_err-tile_for_writing.field-0.0 g.met.D.Disk.only_now refl refl c.in_err-tile_for_writing.ensures.unchanged c.requires.not_failed
+    refused_in_memory g.D.Disk c.args.self.now _ c.from_residual.result c.in_err-tile_for_writing.field-0.0 g.met.D.Disk.only_now refl c.in_err-tile_for_writing.ensures.unchanged c.requires.not_failed
     (ended_with c.from_residual.result c.in_err-tile_for_writing.field-0.0 c.from_residual.ensures.1) c.in_err-tile_for_writing.ensures.refused
 
 pub returns-clause-corners : goal.returns-clause-corners

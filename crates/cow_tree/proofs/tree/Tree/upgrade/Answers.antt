@@ -2,7 +2,6 @@ use Rattle.std.proofs.Common.{rules, ◌≡◌, ◌≤◌, ◌<◌, ◌+◌, ◌
 use Rattle.disk.specs.Disk.{Image}
 use Rattle.disk.specs.Stops.{LeavesOnly, weaker}
 use Rattle.page_codec.specs.Formats.{upgraded}
-use Rattle.page_codec.specs.Entries.{EntryValue}
 use Rattle.page_codec.specs.Roots.{RootValue, format_of}
 use Rattle.page_codec.specs.Sizes.{index_pages_of}
 use Rattle.roots.specs.Roots.{IsReady, ready_current}
@@ -22,9 +21,8 @@ use Rattle.cow_tree.specs.Trees.{IsAt}
 use Rattle.cow_tree.specs.Upgrades.{upgraded_store}
 use Rattle.cow_tree.proofs.Cached.{same_agrees}
 use Rattle.cow_tree.proofs.Commits.{lands, same_tiles, few_in_all, few_in_part, none_before, nothing_staged, committing}
-use Rattle.cow_tree.proofs.Dropping.{corners_of_entries, clean_is_committed}
+use Rattle.cow_tree.proofs.Clean.{is_clean}
 use Rattle.cow_tree.proofs.Counting.{all_of_fewer}
-use Rattle.cow_tree.proofs.Due.{none_due}
 use Rattle.cow_tree.proofs.ListingPages.{due_are, few_due, tiles_numbers}
 use Rattle.cow_tree.proofs.Steps.{stands, stores_along}
 use Rattle.cow_tree.proofs.UpgradeLands.{corners_stay, few_listed, three_more, upgraded_root}
@@ -36,9 +34,9 @@ module _ (g : _) (c : After-write_listings g) where
   abbrev new : PageMapValue
   new = c.in_ok-page_map.page_map
 
-  few : length (numbers_of (due_among [] (tiles_listing new.format new.staged))) ≤ 3 * (1 + index_pages_of (upgraded (format_of c.args.self.now.root))) * length c.args.self.now.root.entries
+  few : length (numbers_of (due_among [] (tiles_listing new.format new.staged))) ≤ 3 * (1 + index_pages_of (upgraded (format_of c.args.self.now.roots.root))) * length c.args.self.now.roots.root.entries
   few =
-      let most = few_listed c.args.self.now.page_map new c.in_ok-page_map.ensures.rules c.in_ok-page_map.ensures.upgraded c.args.self.now.root
+      let most = few_listed c.args.self.now.page_map new c.in_ok-page_map.ensures.rules c.in_ok-page_map.ensures.upgraded c.args.self.now.roots.root
       (c.in_ok-page_map.ensures.upgraded.format ∙ ap upgraded c.args.self.now.format) c.args.self.now.entries in
       let same = ap (λ (l : List ℕ). length l) (due_are [] new.format new.staged) in
       omega (arith, most, same, length-filter-le (is_unreached []) (listings new.staged))
@@ -83,13 +81,11 @@ module _ (g : _) (c : After-commit g) (honest : g.D.Disk.honest c.commit.new.sel
   mid_honest : g.D.Disk.honest c.write_listings.new.roots.disk
   mid_honest = c.commit.ensures.honest honest
 
-  stored : s ≡ stored_in seen c.args.self.now.root c.args.self.now.page_map.committed
-  stored =
-      (is.each seen (g.met.D.Disk.seen_may c.args.self.now.roots.disk (c.write_listings.ensures.listed.pages.honest mid_honest))).stands
-      ∙ ap (λ (r : RootValue). stored_in seen r c.args.self.now.page_map.committed) (c.args.self.now.known c.requires.not_failed)
+  stored : s ≡ stored_in seen c.args.self.now.roots.root c.args.self.now.page_map.committed
+  stored = (is.each seen (g.met.D.Disk.seen_may c.args.self.now.roots.disk (c.write_listings.ensures.listed.pages.honest mid_honest))).stands
 
-  is_next : c.upgraded-root.result ≡ upgraded_root c.args.self.now.root (map entry_of tiles)
-  is_next = c.upgraded-root.ensures ∙ ap (upgraded_root c.args.self.now.root) c.staged_entries-entries.ensures.value
+  is_next : c.upgraded-root.result ≡ upgraded_root c.args.self.now.roots.root (map entry_of tiles)
+  is_next = c.upgraded-root.ensures ∙ ap (upgraded_root c.current.result.now) c.staged_entries-entries.ensures.value ∙ ap (λ (r : RootValue). upgraded_root r (map entry_of tiles)) c.current.ensures
 
   stays : map data_of page_map.staged ≡ map data_of c.args.self.now.page_map.committed
   stays = ap (map data_of) c.in_ok-page_map.ensures.upgraded.clean ∙ c.in_ok-page_map.ensures.upgraded.stays
@@ -100,7 +96,7 @@ module _ (g : _) (c : After-commit g) (honest : g.D.Disk.honest c.commit.new.sel
   small : c.in_ok-page_map.page_map.sectors < 2 ^ 32
   small = subst (λ (n : ℕ). n < 2 ^ 32) (sym c.in_ok-page_map.ensures.upgraded.sectors) c.args.self.now.fits
 
-  by_two : c.in_ok-page_map.page_map.format ≡ upgraded (format_of c.args.self.now.root)
+  by_two : c.in_ok-page_map.page_map.format ≡ upgraded (format_of c.args.self.now.roots.root)
   by_two = c.in_ok-page_map.ensures.upgraded.format ∙ ap upgraded c.args.self.now.format
 
   land : (image : Image) → HasMoved c.upgraded-root.result between image → StoresAt size c.upgraded-root.result tiles (upgraded_store s) image
@@ -108,7 +104,7 @@ module _ (g : _) (c : After-commit g) (honest : g.D.Disk.honest c.commit.new.sel
       let old = c.args.self.now in
       subst (λ (r : RootValue). (image : Image) → HasMoved r between image → StoresAt size r tiles (upgraded_store s) image) (sym is_next)
       (lands page_map c.in_ok-page_map.ensures.rules [] seen between (none_before page_map.format page_map.staged seen) (c.in_ok-write_listings.ensures.listed.written mid_honest) (c.in_ok-write_listings.ensures.listed.pages.others mid_honest)
-      size (upgraded_root old.root (map entry_of tiles)) old.page_map.committed (upgraded_store s) on_disk small by_two refl stays (ap upgraded_store stored))
+      size (upgraded_root old.roots.root (map entry_of tiles)) old.page_map.committed (upgraded_store s) on_disk small by_two refl stays (ap upgraded_store stored))
 
   ready : IsReady g.D.Disk c.write_listings.new.roots
   ready = c.in_ok-write_listings.ensures.listed.pages.ready mid_honest is.ready
@@ -140,16 +136,8 @@ returns-clause-any_moment g c honest s is = leaves g (goal.at.returns-clause-any
 pub returns-clause-corners : goal.returns-clause-corners
 returns-clause-corners g c = corners_stay c.args.self.now.page_map c.in_ok-page_map.page_map c.in_ok-page_map.ensures.rules c.in_ok-page_map.ensures.upgraded c.requires.unstaged
 
-pub returns-clause-none_staged : goal.returns-clause-none_staged
-returns-clause-none_staged g c = clean_is_committed c.in_ok-page_map.page_map c.in_ok-page_map.ensures.upgraded.clean
-
-pub returns-clause-none_due : goal.returns-clause-none_due
-returns-clause-none_due g c = none_due c.in_ok-page_map.page_map c.in_ok-page_map.ensures.upgraded.clean
-
-pub returns-clause-entries : goal.returns-clause-entries
-returns-clause-entries g c =
-    corners_of_entries c.in_ok-page_map.page_map.staged ∙ ap (map (λ (e : EntryValue). e.corner)) (sym c.staged_entries-entries.ensures.value)
-    ∙ ap (λ (r : RootValue). map (λ (e : EntryValue). e.corner) r.entries) (sym c.upgraded-root.ensures)
+pub returns-clause-clean : goal.returns-clause-clean
+returns-clause-clean g c = is_clean _ c.in_ok-page_map.ensures.upgraded.clean
 
 pub returns-clause-at : goal.returns-clause-at
 returns-clause-at g c honest s is =
@@ -168,8 +156,9 @@ returns-clause-at g c honest s is =
     record {
       ready = ready_now;
       each = λ image may. stores_along n (d.size new.disk) root new.root page_map.staged page_map.committed (upgraded_store s) image (c.commit.ensures.size ∙ c.write_listings.ensures.listed.pages.size) c.in_ok-commit.ensures.root (sym c.in_ok-page_map.ensures.upgraded.clean) (each image may);
-      staged = subst (λ (ts : List TileLocation). AreStaged (format_of root) ts page_map.staged (d.seen new.disk)) c.in_ok-page_map.ensures.upgraded.clean
-          (nothing_staged n root page_map.staged (upgraded_store s) (d.seen new.disk) (each (d.seen new.disk) (g.met.D.Disk.seen_may new.disk honest)));
+      staged = subst (λ (r : RootValue). AreStaged (format_of r) page_map.committed page_map.staged (d.seen new.disk)) (sym c.in_ok-commit.ensures.root)
+          (subst (λ (ts : List TileLocation). AreStaged (format_of root) ts page_map.staged (d.seen new.disk)) c.in_ok-page_map.ensures.upgraded.clean
+          (nothing_staged n root page_map.staged (upgraded_store s) (d.seen new.disk) (each (d.seen new.disk) (g.met.D.Disk.seen_may new.disk honest))));
     }
 
 pub returns-clause-staged : goal.returns-clause-staged
@@ -191,10 +180,9 @@ invariant_of-self-2 g c =
     record {
       sectors = search rules;
       fits = search rules;
-      format = search rules;
-      entries = search rules;
-      known = search rules;
-      declared = search rules;
+      format = subst (λ (r : RootValue). c.in_ok-page_map.page_map.format ≡ format_of r) (sym c.in_ok-commit.ensures.root) (search rules);
+      entries = subst (λ (r : RootValue). map entry_of c.in_ok-page_map.page_map.committed ≡ r.entries) (sym c.in_ok-commit.ensures.root) (search rules);
+      declared = subst (λ (r : RootValue). had.sinks.side ≡ r.side) (sym c.in_ok-commit.ensures.root) (search rules);
       cached = λ honest _.
           let mid_honest = c.commit.ensures.honest honest in
           same_agrees c.write_listings.new.cache (seen mid) (seen c.commit.new.self.disk) (c.in_ok-commit.ensures.pages honest)

@@ -28,7 +28,7 @@ returns-in_ok-labelled-clause-asked g c =
         sinks = keeps.sinks;
         failures = keeps.later;
         honest = λ sure. (was_sure d old new keeps sure.0, sure.1);
-        mosaic = λ sure. same_mosaic d old new keeps sure.0.readable;
+        mosaic = λ sure. same_mosaic d old new keeps sure.0.readable.honest;
         keeps = (refl, keeps);
       };
       passed = h.passed;

@@ -1,6 +1,6 @@
 use Rattle.std.proofs.Common.{refl}
 use Rattle.engine.proofs.Questions.{directions_asked}
-use Rattle.store.proofs.AskedTiles.{no_tile}
+use Rattle.store.proofs.AskedTrees.{no_tile}
 use Rattle.store.proofs.Querying.{right_at}
 use Rattle.store.proofs.StoreCalls.{asked, denied}
 use Rattle.store.proofs.store.Store.directions.Goals as goal

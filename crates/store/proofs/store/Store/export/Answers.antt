@@ -1,5 +1,4 @@
-use Rattle.std.proofs.Common.{ℕ, Result, true≢false, refl, sym, ap, ◌∙◌, ◌≡◌}
-use Rattle.std.specs.Prelude.{None, Ok, Err}
+use Rattle.std.proofs.Common.{ℕ, Result, true≢false, refl, sym, ap, ◌∙◌, ◌≡◌, None, Ok, Err}
 use Rattle.std.specs.Global.{Vec}
 use Rattle.disk.specs.Disk.{HasRisen}
 use Rattle.lattice.specs.declared.refusal.Refusal.{Refusal}
@@ -11,7 +10,7 @@ use Rattle.cow_tree.proofs.ReadOnly.{never_refused}
 use Rattle.store.specs.Queried.{IsQueried}
 use Rattle.store.proofs.EditingSteps.{refused_as}
 use Rattle.store.proofs.Querying.{queried_by_disk, stays_at, still_clean, still_at, failing_at, fails_so}
-use Rattle.store.proofs.AskedTiles.{no_tile}
+use Rattle.store.proofs.AskedTrees.{no_tile}
 use Rattle.store.proofs.QueryingPages.{tile, tile_of, exported}
 use Rattle.store.proofs.StoreCalls.{asked, asked_in_vain, denied, refused_it}
 use Rattle.store.proofs.store.Store.export.Goals as goal

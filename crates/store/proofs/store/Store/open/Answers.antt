@@ -1,6 +1,5 @@
 use Rattle.std.proofs.Common.{⊎_elim}
-use Rattle.store.proofs.Opened.{in_one}
-use Rattle.store.proofs.Openings.{refused_for, found_one}
+use Rattle.store.proofs.Opened.{in_one, refused_for, found_one}
 use Rattle.store.proofs.WaterHeld.{one_holding}
 use Rattle.store.proofs.store.Store.open.Goals as goal
 

@@ -1,5 +1,4 @@
-use Rattle.std.proofs.Common.{◌≡◌, true, ⊎_elim, ap}
-use Rattle.std.specs.Prelude.{Result, Ok, Err, OnErr, IfErr}
+use Rattle.std.proofs.Common.{◌≡◌, true, ⊎_elim, ap, Result, Ok, Err, OnErr, IfErr}
 use Rattle.std.proofs.lemmas.Result.{IfErr-weaker}
 use Rattle.lattice.specs.declared.refusal.Refusal.{Refusal}
 use Rattle.page_codec.specs.Roots.{RootValue}
@@ -8,21 +7,14 @@ use Rattle.cow_tree.specs.Stored.{Stored}
 use Rattle.cow_tree.specs.Trees.{disk_of, root_of, has_failed, sinks_of, staged_in, IsAt as IsTreeAt}
 use Rattle.cow_tree.proofs.Steps.{ok_where_works, either_way, on_ok_both}
 use Rattle.store.specs.Stores.{IsAt}
-use Rattle.store.proofs.Opened.{in_known, sized_as_known}
-use Rattle.store.proofs.Openings.{refused_for}
+use Rattle.store.proofs.Opened.{in_known, sized_as_known, refused_for}
 use Rattle.store.proofs.Reopening.{reopened}
 use Rattle.store.proofs.States.{stays_failed}
 use Rattle.store.proofs.WaterHeld.{known_holding}
 use Rattle.store.proofs.store.Store.reopen.Goals as goal
 
 pub invariant_of-self : goal.invariant_of-self
-invariant_of-self g c = record {
-  clean = λ works. record {
-    none_staged = ok_where_works c.reopen.result _ c.reopen.ensures.failed works c.reopen.ensures.clean;
-    none_due = ok_where_works c.reopen.result _ c.reopen.ensures.failed works c.reopen.ensures.none_due;
-    corners = ok_where_works c.reopen.result _ c.reopen.ensures.failed works c.reopen.ensures.corners;
-  };
-}
+invariant_of-self g c = record { clean = λ works. ok_where_works c.reopen.result _ c.reopen.ensures.failed works c.reopen.ensures.clean }
 
 on_err : {T X : Type 0} (result : Result T Refusal) (A B : Type 0) → OnErr result A → OnErr result B → (A → B → X) → IfErr result (λ r. X)
 on_err (Ok x) A B first second both = tt
@@ -42,11 +34,11 @@ returns-clause-call g c =
     reopened d store _ result does.size does.writes does.later does.refusals does.device does.nothing does.not_failed does.failed does.last_known
     (λ honest s at.
     either_way result (does.at honest) does.last_known
-    (λ is. sized_as_known d new is.0 is.1.1.0 is.1.1.1 (g.met.D.Disk.seen_may new.roots.disk honest) old.root.side old.root.capacity n seen s is.1.0 (stood honest s at))
+    (λ is. sized_as_known d new is.0 is.1.1.0 is.1.1.1 (g.met.D.Disk.seen_may new.roots.disk honest) old.roots.root.side old.roots.root.capacity n seen s is.1.0 (stood honest s at))
     (λ same. (ap (λ (r : RootValue). r.side) same, ap (λ (r : RootValue). r.capacity) same)))
     (λ honest s at.
     on_ok_both result
-    (λ is declared. known_holding d new c.invalidate.new.self c.invalidate.ensures s (in_known d new is.0 is.1.1.0 is.1.1.1 (g.met.D.Disk.seen_may new.roots.disk honest) old.root.side old.root.capacity declared n seen s is.1.0 (stood honest s at)))
+    (λ is declared. known_holding d new c.invalidate.new.self c.invalidate.ensures s (in_known d new is.0 is.1.1.0 is.1.1.1 (g.met.D.Disk.seen_may new.roots.disk honest) old.roots.root.side old.roots.root.capacity declared n seen s is.1.0 (stood honest s at)))
     (does.at honest) does.sinks)
     (λ honest s at.
     on_err result (has_failed new ≡ true) (root_of new ≡ root_of old) does.failed does.last_known

@@ -1,5 +1,4 @@
-use Rattle.std.proofs.Common.{List, sym, ap, ◌∙◌, subst}
-use Rattle.std.specs.Prelude.{Contains}
+use Rattle.std.proofs.Common.{List, sym, ap, ◌∙◌, subst, Contains}
 use Rattle.lattice.specs.Corners.{Corner}
 use Rattle.catalogue.specs.Tiles.{is_listed}
 use Rattle.cow_tree.specs.Trees.{root_of}

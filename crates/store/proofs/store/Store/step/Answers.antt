@@ -1,5 +1,4 @@
-use Rattle.std.proofs.Common.{◌≡◌, ◌≤◌, ◌+◌, ◌*◌, if◌then◌else◌, refl, ap, ◌∙◌, subst}
-use Rattle.std.specs.Prelude.{IsTrue, None, Option, Result, Ok, IfOk, nat_eq}
+use Rattle.std.proofs.Common.{◌≡◌, ◌≤◌, ◌+◌, ◌*◌, if◌then◌else◌, refl, ap, ◌∙◌, subst, IsTrue, None, Option, Result, Ok, IfOk, nat_eq}
 use Rattle.std.specs.Option.{is_none}
 use Rattle.lattice.specs.Corners.{Corner}
 use Rattle.lattice.specs.Mosaic.{Mosaic}
