@@ -22,7 +22,7 @@ pub(crate) fn collect(
     flows: &[FlowByte],
     tiles: &Tiles,
     marks: &mut [u8],
-    members: &mut Vec<usize>,
+    members: &mut Vec<u32>,
     seed: usize,
 ) -> Result<Option<Point>, AllocError>
     requires whole { length marks.old ≡ length flows.now }
@@ -39,7 +39,7 @@ pub(crate) fn collect(
     begin(flows, tiles, marks, members, seed)?;
     let mut head = 0;
     'queue: while head < members.len() {
-        let from = members[head];
+        let from = members[head] as usize;
         if let Some(met) = visit_around(flows, tiles, marks, members, from)? {
             return Ok(Some(met));
         }
@@ -52,7 +52,7 @@ fn begin(
     flows: &[FlowByte],
     tiles: &Tiles,
     marks: &mut [u8],
-    queue: &mut Vec<usize>,
+    queue: &mut Vec<u32>,
     seed: usize,
 ) -> Result<(), AllocError>
     requires whole { length marks.old ≡ length flows.now }
@@ -66,7 +66,7 @@ fn begin(
     ensures seed { OnOk result (IsMember marks.new seed) }
     ensures connected { OnOk result (AreConnected flows.now (by_of tiles.now) seed queue.new.items) }
 {
-    queue.push(seed)?;
+    queue.push(tiles.short(seed))?;
     marks[seed] = MEMBER;
     Ok(())
 }
@@ -76,7 +76,7 @@ fn visit_around(
     flows: &[FlowByte],
     tiles: &Tiles,
     marks: &mut [u8],
-    queue: &mut Vec<usize>,
+    queue: &mut Vec<u32>,
     from: usize,
 ) -> Result<Option<Point>, AllocError>
     requires whole { length marks.old ≡ length flows.now }
@@ -103,7 +103,7 @@ fn visit(
     flows: &[FlowByte],
     tiles: &Tiles,
     marks: &mut [u8],
-    queue: &mut Vec<usize>,
+    queue: &mut Vec<u32>,
     from: usize,
     direction: Dir,
     deep: bool,
@@ -135,9 +135,10 @@ fn add(
     flows: &[FlowByte],
     tiles: &Tiles,
     marks: &mut [u8],
-    queue: &mut Vec<usize>,
+    queue: &mut Vec<u32>,
     to: usize,
 ) -> Result<(), AllocError>
+    requires tiles { length marks.old ≡ count_of tiles.now }
     requires back { IsBack (by_of tiles.now) (length flows.now) to }
     requires to { to < length marks.old }
     requires flat { IsOfFlat (slice_index_or flows.now to Unknown) }
@@ -146,7 +147,7 @@ fn add(
     ensures grows { Grows (by_of tiles.now) flows.now marks.old queue.old.items marks.new queue.new.items }
     ensures member { OnOk result (IsMember marks.new to) }
 {
-    queue.push(to)?;
+    queue.push(tiles.short(to))?;
     marks[to] = MEMBER;
     Ok(())
 }

@@ -1,5 +1,5 @@
 //! Points of a flat's tiles that aren't at hand.
-ghost use Rattle.std.specs.Prelude.{◌≡◌, IsTrue, IfOk, IfSome, length, slice_index_or};
+ghost use Rattle.std.specs.Prelude.{◌≡◌, ◌<◌, IsTrue, IfOk, IfSome, length, slice_index_or};
 ghost use Rattle.flow_d8.specs.Flows.{IsOfFlat};
 ghost use Rattle.flow_d8.specs.declared.flow.Flow.TheVariants.{Unknown};
 ghost use Rattle.flow_d8.specs.Tiles.{count_of};
@@ -18,7 +18,7 @@ pub struct FlatSearch {
     // A bit a sample: whether it was gone over.
     found: Vec<u8>,
     // Samples from which it goes on.
-    waiting: Vec<usize>,
+    waiting: Vec<u32>,
 }
 
 impl FlatSearch {
@@ -43,12 +43,12 @@ pub(crate) fn search_flat(
     ensures met { IfOk result (λ met. IfSome met (IsMissing tiles.now flows.now)) }
 {
     search.found.resize(flows.len() / 8 + 1, 0)?;
-    search.waiting.push(tiles.number(from))?;
+    note(flows, tiles, search, tiles.number(from))?;
     for _ in 0..u64::MAX {
         let Some(k) = search.waiting.pop() else {
             return Ok(None);
         };
-        if let Some(met) = search_row(flows, tiles, search, k)? {
+        if let Some(met) = search_row(flows, tiles, search, k as usize)? {
             return Ok(Some(met));
         }
     }
@@ -75,7 +75,7 @@ fn search_row(
             return Ok(None);
         }
         if let Some(met) = look_around(flows, tiles, search, at, at == first)? {
-            search.waiting.push(at)?;
+            note(flows, tiles, search, at)?;
             return Ok(Some(met));
         }
         set_bit(&mut search.found, at);
@@ -110,8 +110,8 @@ fn look_around(
         return look_across(flows, tiles, search, at);
     }
     let side = tiles.side().samples() as usize;
-    note_row(flows, search, at.wrapping_sub(side), is_first)?;
-    note_row(flows, search, at.wrapping_add(side), is_first)?;
+    note_row(flows, tiles, search, at.wrapping_sub(side), is_first)?;
+    note_row(flows, tiles, search, at.wrapping_add(side), is_first)?;
     Ok(None)
 }
 
@@ -130,7 +130,7 @@ fn look_across(
         if to >= flows.len() {
             return Ok(Some(point_beside(tiles, at, DIRECTIONS[i])));
         }
-        note(flows, search, to)?;
+        note(flows, tiles, search, to)?;
     }
     Ok(None)
 }
@@ -138,26 +138,36 @@ fn look_across(
 // Notes the first sample of each row of open ones beside this sample and those around it in its row.
 fn note_row(
     flows: &[FlowByte],
+    tiles: &Tiles,
     search: &mut FlatSearch,
     middle: usize,
     is_first: bool,
-) -> Result<(), AllocError> {
+) -> Result<(), AllocError>
+    requires { length flows.now ≡ count_of tiles.now }
+{
     let before = middle.wrapping_sub(1);
     if is_first {
-        note(flows, search, before)?;
+        note(flows, tiles, search, before)?;
     }
     if is_first && !is_open(flows, &search.found, before) {
-        note(flows, search, middle)?;
+        note(flows, tiles, search, middle)?;
     }
     if !is_open(flows, &search.found, middle) {
-        note(flows, search, middle.wrapping_add(1))?;
+        note(flows, tiles, search, middle.wrapping_add(1))?;
     }
     Ok(())
 }
 
-fn note(flows: &[FlowByte], search: &mut FlatSearch, k: usize) -> Result<(), AllocError> {
+fn note(
+    flows: &[FlowByte],
+    tiles: &Tiles,
+    search: &mut FlatSearch,
+    k: usize,
+) -> Result<(), AllocError>
+    requires { length flows.now ≡ count_of tiles.now }
+{
     if is_open(flows, &search.found, k) {
-        search.waiting.push(k)?;
+        search.waiting.push(tiles.short(k))?;
     }
     Ok(())
 }
@@ -165,7 +175,8 @@ fn note(flows: &[FlowByte], search: &mut FlatSearch, k: usize) -> Result<(), All
 // Whether the sample lies inside a flat and wasn't gone over yet.
 #[inline(always)]
 fn is_open(flows: &[FlowByte], found: &[u8], k: usize) -> bool
-    ensures { IsTrue result → IsOfFlat (slice_index_or flows.now k Unknown) }
+    ensures flat { IsTrue result → IsOfFlat (slice_index_or flows.now k Unknown) }
+    ensures small { IsTrue result → k < length flows.now }
 {
     k < flows.len() && !bit(found, k) && is_of_flat(flows, k)
 }

@@ -47,13 +47,13 @@ pub(crate) fn mark(marks: &[u8], k: usize) -> u8
 }
 
 /// Takes the marks away.
-pub(crate) fn clear(marks: &mut [u8], marked: &[usize])
+pub(crate) fn clear(marks: &mut [u8], marked: &[u32])
     requires listed { (k : ℕ) → IsMember marks.old k → Lists marked.now k }
     requires small { (i : ℕ) → i < length marked.now → slice_index_or marked.now i 0 < length marks.old }
     ensures free { AreFree marks.new }
     ensures whole { length marks.new ≡ length marks.old }
 {
     for i in 0..marked.len() {
-        marks[marked[i]] = FREE;
+        marks[marked[i] as usize] = FREE;
     }
 }

@@ -80,7 +80,7 @@ fn resolve_listing(
     flows: &mut [FlowByte],
     tiles: &Tiles,
     marks: &mut [u8],
-    members: &mut Vec<usize>,
+    members: &mut Vec<u32>,
     seed: usize,
 ) -> Result<Resolution, AllocError>
     requires tiles { length flows.old ≡ count_of tiles.now }
@@ -108,7 +108,7 @@ fn resolve_members(
     tiles: &Tiles,
     marks: &mut [u8],
     seed: usize,
-    members: &[usize],
+    members: &[u32],
 ) -> Result<(), AllocError>
     requires tiles { length flows.old ≡ count_of tiles.now }
     requires collected { AreCollected flows.old (by_of tiles.now) marks.old members.now seed }
@@ -130,7 +130,7 @@ fn spread(
     flows: &mut [FlowByte],
     tiles: &Tiles,
     marks: &mut [u8],
-    first: Vec<usize>,
+    first: Vec<u32>,
 ) -> Result<(), AllocError>
     requires tiles { length flows.old ≡ count_of tiles.now }
     requires members { AreMarked flows.old (by_of tiles.now) marks.old }
@@ -155,8 +155,8 @@ fn advance(
     flows: &mut [FlowByte],
     tiles: &Tiles,
     marks: &mut [u8],
-    wave: &[usize],
-) -> Result<Vec<usize>, AllocError>
+    wave: &[u32],
+) -> Result<Vec<u32>, AllocError>
     requires whole { length marks.old ≡ length flows.old }
     requires reached { (i : ℕ) → i < length wave.now → mark_at marks.old (slice_index_or wave.now i 0) ≡ 0 }
     requires still { (k : ℕ) → mark_at marks.old k ≡ 1 → ⊥ }

@@ -19,8 +19,8 @@ pub(crate) fn first_wave(
     flows: &[FlowByte],
     tiles: &Tiles,
     marks: &mut [u8],
-    members: &[usize],
-) -> Result<Vec<usize>, AllocError>
+    members: &[u32],
+) -> Result<Vec<u32>, AllocError>
     requires whole { length marks.old ≡ length flows.now }
     requires listing { IsListing (by_of tiles.now) flows.now marks.old members.now }
     ensures first { IfOk result (λ wave. IsFirstWave flows.now marks.old marks.new wave.items) }
@@ -36,18 +36,19 @@ pub(crate) fn first_wave(
 fn begin_at(
     flows: &[FlowByte],
     marks: &mut [u8],
-    wave: &mut Vec<usize>,
-    k: usize,
+    wave: &mut Vec<u32>,
+    member: u32,
 ) -> Result<(), AllocError>
     requires whole { length marks.old ≡ length flows.now }
-    requires k { k < length flows.now }
-    ensures begins { OnOk result (BeginsAt flows.now k marks.old wave.old.items marks.new wave.new.items) }
+    requires member { member < length flows.now }
+    ensures begins { OnOk result (BeginsAt flows.now member marks.old wave.old.items marks.new wave.new.items) }
     ensures failed { OnErr result (marks.new ≡ marks.old) }
 {
+    let k = member as usize;
     if !is_beside(flows, k) {
         return Ok(());
     }
-    wave.push(k)?;
+    wave.push(member)?;
     marks[k] = REACHED;
     Ok(())
 }
@@ -56,8 +57,8 @@ fn begin_at(
 pub(crate) fn gather(
     tiles: &Tiles,
     marks: &mut [u8],
-    wave: &[usize],
-    next: &mut Vec<usize>,
+    wave: &[u32],
+    next: &mut Vec<u32>,
 ) -> Result<(), AllocError>
     requires reached { (i : ℕ) → i < length wave.now → mark_at marks.old (slice_index_or wave.now i 0) ≡ 0 }
     requires tiles { length marks.old ≡ count_of tiles.now }
@@ -66,7 +67,7 @@ pub(crate) fn gather(
     ensures passed { OnOk result ((i : ℕ) (d : Dir) → i < length wave.now → mark_at marks.new (by_of tiles.now (slice_index_or wave.now i 0) d) ≡ 2 → ⊥) }
 {
     for i in 0..wave.len() {
-        gather_around(tiles, marks, next, wave[i])?;
+        gather_around(tiles, marks, next, wave[i] as usize)?;
     }
     Ok(())
 }
@@ -74,7 +75,7 @@ pub(crate) fn gather(
 fn gather_around(
     tiles: &Tiles,
     marks: &mut [u8],
-    next: &mut Vec<usize>,
+    next: &mut Vec<u32>,
     from: usize,
 ) -> Result<(), AllocError>
     requires reached { mark_at marks.old from ≡ 0 }
@@ -95,7 +96,7 @@ fn gather_around(
 fn gather_at(
     tiles: &Tiles,
     marks: &mut [u8],
-    next: &mut Vec<usize>,
+    next: &mut Vec<u32>,
     from: usize,
     direction: Dir,
     deep: bool,
@@ -112,13 +113,13 @@ fn gather_at(
     if mark(marks, to) != MEMBER {
         return Ok(());
     }
-    next.push(to)?;
+    next.push(tiles.short(to))?;
     marks[to] = NEXT;
     Ok(())
 }
 
 /// Directs the places of the next wave by the first step to one that is reached.
-pub(crate) fn direct(tiles: &Tiles, marks: &[u8], next: &[usize], flows: &mut [FlowByte])
+pub(crate) fn direct(tiles: &Tiles, marks: &[u8], next: &[u32], flows: &mut [FlowByte])
     requires whole { length marks.now ≡ length flows.old }
     requires next { IsNext (by_of tiles.now) marks.now next.now }
     requires tiles { length marks.now ≡ count_of tiles.now }
@@ -127,7 +128,7 @@ pub(crate) fn direct(tiles: &Tiles, marks: &[u8], next: &[usize], flows: &mut [F
     ensures directed { (k : ℕ) → mark_at marks.now k ≡ 1 → IsDirected (by_of tiles.now) marks.now flows.new k }
 {
     for i in 0..next.len() {
-        direct_place(tiles, marks, next[i], flows);
+        direct_place(tiles, marks, next[i] as usize, flows);
     }
 }
 
@@ -162,12 +163,12 @@ fn first_reached(tiles: &Tiles, marks: &[u8], k: usize) -> Option<Dir>
 }
 
 /// Marks the places of the next wave as reached.
-pub(crate) fn reach(marks: &mut [u8], next: &[usize])
+pub(crate) fn reach(marks: &mut [u8], next: &[u32])
     requires pending { (i : ℕ) → i < length next.now → mark_at marks.old (slice_index_or next.now i 0) ≡ 1 }
     requires listed { (k : ℕ) → mark_at marks.old k ≡ 1 → Lists next.now k }
     ensures { AreReached marks.old marks.new }
 {
     for i in 0..next.len() {
-        marks[next[i]] = REACHED;
+        marks[next[i] as usize] = REACHED;
     }
 }

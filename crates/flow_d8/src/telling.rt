@@ -13,7 +13,7 @@ use crate::tiles::Tiles;
 use lattice::Point;
 
 /// Tells the flows of the members at all samples of their points.
-pub(crate) fn tell(tiles: &Tiles, members: &[usize], flows: &mut [FlowByte])
+pub(crate) fn tell(tiles: &Tiles, members: &[u32], flows: &mut [FlowByte])
     requires tiles { length flows.old ≡ count_of tiles.now }
     requires small { (i : ℕ) → i < length members.now → slice_index_or members.now i 0 < length flows.old }
     ensures tells { Tells flows.old flows.new }
@@ -22,7 +22,7 @@ pub(crate) fn tell(tiles: &Tiles, members: &[usize], flows: &mut [FlowByte])
         → IsOfFlat (slice_index_or flows.old e Unknown) → IsTold (slice_index_or flows.new e Unknown) }
 {
     for i in 0..members.len() {
-        tell_at(tiles, members[i], flows);
+        tell_at(tiles, members[i] as usize, flows);
     }
 }
 

@@ -159,6 +159,16 @@ impl Tiles {
         number(self.side(), self.corners(), point)
     }
 
+    /// The sample's number in four bytes: the most tiles of the longest side have fewer than 2^32 samples.
+    #[inline(always)]
+    pub(crate) fn short(&self, k: usize) -> u32
+        requires { k < count_of self.now }
+        ensures { result ≡ k }
+    {
+        let _valid = self.side();
+        k as u32
+    }
+
     /// Whether the sample lies at least two samples from the edges of its tile.
     #[inline(always)]
     pub fn is_deep(&self, k: usize) -> bool

@@ -23,8 +23,8 @@ queue-preserved c =
     let grows = c.visit_around.ensures.grows in
     let head = c.queue.head in
     let small : head < length queue = omega (arith, c.len.ensures, c.queue-test.true) in
-    let from : c.index-from.result.now ≡ get_or queue head 0 = c.index-from.ensures ∙ get_or_default queue head c.index-from.result.now 0 small in
-    let settled : (d : Dir) → IsSettled flows new (by c.index-from.result.now d) = subst (λ o. IfNone o ((d : Dir) → IsSettled flows new (by c.index-from.result.now d))) c.in_default.is c.in_ok-met.ensures.settled in
+    let from : c.index.result.now ≡ get_or queue head 0 = c.index.ensures ∙ get_or_default queue head c.index.result.now 0 small in
+    let settled : (d : Dir) → IsSettled flows new (by c.index.result.now d) = subst (λ o. IfNone o ((d : Dir) → IsSettled flows new (by c.index.result.now d))) c.in_default.is c.in_ok-met.ensures.settled in
     record {
       whole = grows.whole ∙ was.whole;
       seed = grows.kept c.args.seed was.seed;
@@ -33,7 +33,7 @@ queue-preserved c =
       within = omega (arith, grows.longer);
       done = λ i d less. elim (cases_eq i head) [
         | inl same ↦
-            let at : get_or longer i 0 ≡ c.index-from.result.now = grows.before i (omega arith) ∙ ap (λ n. get_or queue n 0) same ∙ sym from in
+            let at : get_or longer i 0 ≡ c.index.result.now = grows.before i (omega arith) ∙ ap (λ n. get_or queue n 0) same ∙ sym from in
             subst (λ q. IsSettled flows new (by q d)) (sym at) (settled d)
         | inr other ↦
             let before : i < head = omega arith in
@@ -47,7 +47,7 @@ visit_around-requires-clause-flat c =
     let queue = c.queue.members.items in
     let head = c.queue.head in
     let small : head < length queue = omega (arith, c.len.ensures, c.queue-test.true) in
-    let from : c.index-from.result.now ≡ get_or queue head 0 = c.index-from.ensures ∙ get_or_default queue head c.index-from.result.now 0 small in
+    let from : c.index.result.now ≡ get_or queue head 0 = c.index.ensures ∙ get_or_default queue head c.index.result.now 0 small in
     subst (λ n. IsOfFlat (slice_index_or c.args.flows.now n Unknown)) (sym from) (c.queue.invariant.listing.flat head small)
 
 pub visit_around-requires-clause-listed : goal.visit_around-requires-clause-listed
@@ -55,7 +55,7 @@ visit_around-requires-clause-listed c =
     let queue = c.queue.members.items in
     let head = c.queue.head in
     let small : head < length queue = omega (arith, c.len.ensures, c.queue-test.true) in
-    (head, (small, sym (c.index-from.ensures ∙ get_or_default queue head c.index-from.result.now 0 small)))
+    (head, (small, sym (c.index.ensures ∙ get_or_default queue head c.index.result.now 0 small)))
 
 pub returns-in-Some-clause-met : goal.returns-in-Some-clause-met
 unfolding by_of
@@ -65,13 +65,13 @@ returns-in-Some-clause-met c =
     let queue = c.queue.members.items in
     let head = c.queue.head in
     let small : head < length queue = omega (arith, c.len.ensures, c.queue-test.true) in
-    let from : c.index-from.result.now ≡ get_or queue head 0 = c.index-from.ensures ∙ get_or_default queue head c.index-from.result.now 0 small in
-    let met : IsUnknownBeside tiles flows c.index-from.result.now c.in-Some.met = subst (λ o. IfSome o (IsUnknownBeside tiles flows c.index-from.result.now)) c.in-Some.is c.in_ok-met.ensures.met in
+    let from : c.index.result.now ≡ get_or queue head 0 = c.index.ensures ∙ get_or_default queue head c.index.result.now 0 small in
+    let met : IsUnknownBeside tiles flows c.index.result.now c.in-Some.met = subst (λ o. IfSome o (IsUnknownBeside tiles flows c.index.result.now)) c.in-Some.is c.in_ok-met.ensures.met in
     let joined = c.queue.invariant.connected head small in
     record {
       beside = (
         joined.0,
-        c.index-from.result.now,
+        c.index.result.now,
         met.0,
         (
           subst (Connects flows (by_of tiles) c.args.seed joined.0) (sym from) joined.1,

@@ -13,4 +13,4 @@ returns-clause-gathers c =
     let two : mark_at marks (by c.args.from c.args.direction) ≡ 2 = ap (mark_at marks) (sym value) ∙ sym c.mark.ensures ∙ c.if-mark-ne-MEMBER.false in
     subst (λ n. Gathers by marks c.args.next.now.items (set marks n 1) c.push.new.self.items) (sym value)
     (gathered by marks c.args.next.now.items c.push.new.self.items c.args.from c.args.direction (c.requires.back c.args.direction (in_range marks (by c.args.from c.args.direction) 2 two (omega arith))) c.requires.reached two
-    (subst (IsLonger c.args.next.now.items c.push.new.self.items) value (longer_of c.args.next.now.items c.push.new.self.items c.step-to.result c.in_ok-push.ensures.items)))
+    (subst (IsLonger c.args.next.now.items c.push.new.self.items) (c.short.ensures ∙ value) (longer_of c.args.next.now.items c.push.new.self.items c.short.result c.in_ok-push.ensures.items)))
