@@ -1,5 +1,5 @@
 -- Points that lead each to the next, up to one that leads nowhere, are different.
-use Rattle.std.proofs.Common.{◌≡◌, ◌≢◌, ℕ, zero, suc, ◌+◌, ◌-◌, ◌<◌, IsTrue, Some, List, [], ◌∷◌, ◌++◌, length, get_or, inl, inr, sym, ap, ap₂, ◌∙◌, subst, arith, refl, length-append}
+use Rattle.std.proofs.Common.{◌≡◌, ◌≢◌, ℕ, zero, suc, ◌+◌, ◌-◌, ◌<◌, IsTrue, Some, List, [], ◌∷◌, ◌++◌, length, get_or, inl, inr, sym, ap, ap₂, ◌∙◌, subst, arith, length-append}
 use Rattle.std.specs.List.{AllPairs}
 use Rattle.std.proofs.lemmas.Bool.{cases_eq}
 use Rattle.std.proofs.lemmas.List.{get_or_append_left, get_or_at}

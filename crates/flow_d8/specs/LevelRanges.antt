@@ -1,10 +1,10 @@
 -- The levels of a tile and those around it, by blocks of 32 rows and 32 columns, and what of them a change leaves (this
 -- product's own profile).
-use Rattle.std.specs.Prelude.{◌≡◌, ◌≢◌, ◌⊎◌, ℕ, ◌+◌, ◌*◌, ◌/◌, ◌%◌, ◌<◌, ◌≤◌, ℤ, ◌≤ℤ◌, ◌<ℤ◌, int_lt, IsTrue, Bool, ◌&&◌, ◌||◌, not, if◌then◌else◌, List, Option, Some, None, length, slice_index_or}
+use Rattle.std.specs.Prelude.{◌≡◌, ◌≢◌, ℕ, ◌+◌, ◌*◌, ◌/◌, ◌%◌, ◌<◌, ◌≤◌, ℤ, ◌≤ℤ◌, int_lt, IsTrue, Bool, ◌&&◌, ◌||◌, not, if◌then◌else◌, List, Option, Some, None, length, slice_index_or}
 use Rattle.std.specs.Int.{int_max, int_min}
 use Rattle.std.specs.Ordering.{int_eq}
 use Rattle.lattice.specs.Corners.{Corner}
-use Rattle.lattice.specs.Ground.{is_ground, terrain}
+use Rattle.lattice.specs.Ground.{is_ground}
 use Rattle.lattice.specs.Mosaic.{Mosaic, void}
 use Rattle.flow_d8.specs.LevelsAround.{OnLevels}
 use Rattle.flow_d8.specs.Padded.{padded_point}

@@ -1,7 +1,6 @@
 -- Levels row by row, and what those at a place and around it show of a terrain.
-use Rattle.std.specs.Prelude.{◌≡◌, ℕ, ◌+◌, ◌-◌, ◌<◌, ◌≤◌, ℤ, IsTrue, IsFalse, if◌then◌else◌, List, slice_index_or}
-use Rattle.flow_d8.specs.Prelude.{Point, Dir, East, SouthEast, South, SouthWest, West, NorthWest, North, NorthEast, step, Terrain, void}
-use Rattle.flow_d8.specs.Drainage.{HasLower, IsSteepest}
+use Rattle.std.specs.Prelude.{◌≡◌, ℕ, ◌+◌, ◌-◌, ◌<◌, ◌≤◌, ℤ, IsTrue, if◌then◌else◌, List, slice_index_or}
+use Rattle.flow_d8.specs.Prelude.{Point, Dir, East, SouthEast, South, SouthWest, West, NorthWest, North, NorthEast, Terrain, void}
 use Rattle.flow_d8.specs.declared.slopes.Best.{Best}
 use Rattle.flow_d8.specs.SteepestStep.{IsSteepestOf}
 use Rattle.flow_d8.specs.LevelGrid.{level_beside, IsLevelGrid}

@@ -1,4 +1,4 @@
-use Rattle.std.proofs.Common.{rules, SFits, w16, to_z, of_z, ℤ, IsTrue, length, take, pos, refl, subst}
+use Rattle.std.proofs.Common.{rules, SFits, w16, to_z, of_z, ℤ, IsTrue, take, pos, refl, subst}
 use Rattle.std.specs.Prelude.{All}
 use Rattle.std.proofs.lemmas.Int.{to_z-of_z}
 use Rattle.std.proofs.lemmas.List.{take_all}

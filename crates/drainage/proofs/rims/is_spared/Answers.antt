@@ -1,4 +1,4 @@
-use Rattle.std.proofs.Common.{rules, SFits, w16, to_z, of_z, ◌≡◌, ◌≢◌, ℤ, inl, inr, sym, ap, subst}
+use Rattle.std.proofs.Common.{rules, SFits, w16, to_z, of_z, ◌≢◌, ℤ, inl, inr, sym, ap, subst}
 use Rattle.std.proofs.lemmas.Int.{to_z-of_z}
 use Rattle.lattice.specs.Mosaic.{void}
 use Rattle.drainage.specs.Spared.{LiesApart}

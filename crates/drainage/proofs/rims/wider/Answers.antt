@@ -1,5 +1,5 @@
-use Rattle.std.proofs.Common.{rules, SFits, w16, to_z, of_z, ◌≡◌, ◌≢◌, ℤ, ◌≤ℤ◌, inl, inr, arith}
-use Rattle.std.proofs.lemmas.Int.{ints, to_z-of_z}
+use Rattle.std.proofs.Common.{rules, w16, to_z, of_z, ◌≢◌, ◌≤ℤ◌, inl, inr, arith}
+use Rattle.std.proofs.lemmas.Int.{ints}
 use Rattle.lattice.specs.Mosaic.{void}
 use Rattle.lattice.proofs.IntTests.{le_or_above}
 use Rattle.drainage.proofs.rims.wider.Goals as goal

@@ -1,4 +1,4 @@
-use Rattle.std.proofs.Common.{rules, ◌+◌, ◌*◌, ◌<◌, length, arith}
+use Rattle.std.proofs.Common.{rules, ◌<◌, length, arith}
 use Rattle.flow_d8.specs.LevelRanges.{block_of}
 use Rattle.flow_d8.proofs.LevelRanges.{one_more}
 use Rattle.flow_d8.proofs.level_range.widen_row.Goals as goal

@@ -1,4 +1,4 @@
-use Rattle.std.proofs.Common.{◌≡◌, ◌⊎◌, ℕ, inl, inr, ⊎_elim, sym, ◌∙◌, subst, true≢false}
+use Rattle.std.proofs.Common.{◌≡◌, ◌⊎◌, inl, inr, ⊎_elim, sym, ◌∙◌, subst, true≢false}
 use Rattle.std.specs.Int.{bit_at}
 use Rattle.lattice.specs.declared.point.Point.{Point}
 use Rattle.watershed.specs.Marks.{IsRank}

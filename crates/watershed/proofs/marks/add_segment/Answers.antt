@@ -1,6 +1,5 @@
-use Rattle.std.proofs.Common.{◌≡◌, ◌⊎◌, ◌+◌, ◌*◌, ◌/◌, ◌%◌, ◌<◌, ℕ, inl, inr, ⊎_elim, sym, ap, ◌∙◌, arith}
+use Rattle.std.proofs.Common.{◌≡◌, ◌⊎◌, ◌+◌, ◌*◌, ◌%◌, inl, inr, ⊎_elim, sym, ap, ◌∙◌, arith}
 use Rattle.std.specs.Int.{bit_at}
-use Rattle.lattice.specs.declared.point.Point.{Point}
 use Rattle.watershed.specs.Marks.{IsInSegment, IsRank}
 use Rattle.watershed.specs.Runs.{Cover}
 use Rattle.watershed.proofs.Found.{runs_alike}

@@ -1,4 +1,4 @@
-use Rattle.std.proofs.Common.{◌≡◌, ℤ, Option, Some, rules, subst}
+use Rattle.std.proofs.Common.{◌≡◌, ℤ, Some, rules, subst}
 use Rattle.std.specs.Prelude.{IfSome}
 use Rattle.lattice.specs.declared.point.Point.{Point}
 use Rattle.lattice.specs.Ground.{terrain}

@@ -6,7 +6,7 @@ use Rattle.lattice.specs.Lattice.{holds}
 use Rattle.border_graph.specs.Others.{corner_at}
 use Rattle.tile_labellings.specs.TileLabellings.{can_note, IsSetFrom}
 use Rattle.tile_labellings.specs.declared.tile_labelling.TileLabelling.{TileLabelling}
-use Rattle.drainage.specs.Holding.{IsEntered, IsHeldAt, IsRimLevel}
+use Rattle.drainage.specs.Holding.{IsEntered, IsHeldAt}
 use Rattle.drainage.specs.Invalidating.{IsHeldStill}
 use Rattle.drainage.specs.Reaching.{DifferAt}
 use Rattle.drainage.specs.TileCaches.{known_of}

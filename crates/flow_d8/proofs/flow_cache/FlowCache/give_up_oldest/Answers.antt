@@ -1,4 +1,4 @@
-use Rattle.std.proofs.Common.{◌≡◌, ◌<◌, length, sym, ◌∙◌, subst, arith}
+use Rattle.std.proofs.Common.{◌≡◌, ◌<◌, length, sym, subst, arith}
 use Rattle.flow_d8.specs.Slots.{slot_ranges}
 use Rattle.flow_d8.proofs.FlowCaches.{slots_swap}
 use Rattle.flow_d8.proofs.GridFacts.{grid_swap}

@@ -1,4 +1,4 @@
-use Rattle.std.proofs.Common.{◌<◌, List, length, ap, ◌∙◌, arith}
+use Rattle.std.proofs.Common.{List, length, ap, ◌∙◌, arith}
 use Rattle.lattice.specs.Corners.{Corner}
 use Rattle.flow_d8.proofs.GridFacts.{grid_none}
 use Rattle.flow_d8.proofs.flow_cache.FlowCache.new.Goals as goal

@@ -3,7 +3,7 @@ use Rattle.std.proofs.lemmas.List.{get_or_default}
 use Rattle.lattice.specs.Ground.{terrain}
 use Rattle.flow_d8.specs.FlowCaches.{IsLeftAt}
 use Rattle.flow_d8.specs.Flows.{IsFlow}
-use Rattle.flow_d8.specs.Tiles.{count_of, place_of}
+use Rattle.flow_d8.specs.Tiles.{place_of}
 use Rattle.flow_d8.specs.declared.flow.Flow.TheVariants.{Unknown, NoGround}
 use Rattle.flow_d8.proofs.past_flows.PastFlows.flow_in.Goals as goal
 

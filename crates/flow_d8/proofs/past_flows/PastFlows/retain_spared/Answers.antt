@@ -1,4 +1,4 @@
-use Rattle.std.proofs.Common.{rules, SFits, w16, to_z, of_z, ◌≡◌, ℕ, ◌+◌, ◌<◌, ◌≤◌, ℤ, List, [], length, set, inl, inr, refl, sym, ap, ◌∙◌, subst, arith}
+use Rattle.std.proofs.Common.{rules, SFits, w16, to_z, of_z, ◌≡◌, ◌<◌, ℤ, List, [], length, set, inl, inr, refl, sym, ◌∙◌, subst, arith}
 use Rattle.std.specs.Prelude.{Option}
 use Rattle.std.specs.Vec.{with_items}
 use Rattle.std.proofs.lemmas.Bool.{cases_lt, cases_eq}

@@ -3,7 +3,6 @@ use Rattle.std.specs.Option.{option_copied}
 use Rattle.std.specs.Ordering.{nat_cmp}
 use Rattle.std.specs.BTreeMap.{is_at}
 use Rattle.std.proofs.lemmas.Bool.{cases_Bool}
-use Rattle.watershed.specs.declared.marks.Marks.{Marks}
 use Rattle.watershed.proofs.Marked.{found_at, words_stay, indexed_more}
 use Rattle.watershed.proofs.marks.Marks.listed.Goals as goal
 

@@ -1,4 +1,4 @@
-use Rattle.std.proofs.Common.{◌≡◌, ℕ, Some, refl, sym, ap, ◌∙◌, subst}
+use Rattle.std.proofs.Common.{◌≡◌, ℕ, Some, refl, subst}
 use Rattle.watershed.specs.Marks.{place_of}
 use Rattle.watershed.proofs.Marked.{indexed_as}
 use Rattle.watershed.proofs.marks.Marks.place.Goals as goal
