@@ -1,5 +1,5 @@
 -- Tiles at hand, and what is known of the points of their samples.
-use Rattle.std.specs.Prelude.{◌≡◌, ◌≢◌, IsTrue, ℕ, ◌+◌, ◌*◌, ◌/◌, ◌<◌, ◌≤◌, ℤ, List, Contains, length, slice_index_or}
+use Rattle.std.specs.Prelude.{◌≡◌, ◌≢◌, IsTrue, ℕ, ◌+◌, ◌*◌, ◌/◌, ◌<◌, ℤ, List, Contains, length, slice_index_or}
 use Rattle.flow_d8.specs.Prelude.{Corner, Holds, point_of, terrain, Mosaic, Terrain, Point, Flow, Unknown}
 use Rattle.flow_d8.specs.Filled.{number_of}
 use Rattle.flow_d8.specs.LevelsAround.{OnLevels}
@@ -44,9 +44,11 @@ pub record AreMoved (area from to : ℕ) (old new : List Flow) : Type 0 where
   pub moved : (e : ℕ) → e < area → slice_index_or new (to * area + e) Unknown ≡ slice_index_or old (from * area + e) Unknown
   pub others : (k : ℕ) → k / area ≢ to → slice_index_or new k Unknown ≡ slice_index_or old k Unknown
 
--- where the tiles at hand are more than nine of this side, they have no more samples than 256 MiB have bytes
-abbrev pub AreFewTiles : ℕ → ℕ → Type 0
-AreFewTiles n tiles = 9 < tiles → tiles * (n * n) ≤ 268435456
+-- the flows of the last slot take the place of those of this one, so many a slot
+pub record IsCut (area last slot : ℕ) (old new : List Flow) : Type 0 where
+  pub whole : length new ≡ last * area
+  pub moved : slot < last → (e : ℕ) → e < area → slice_index_or new (slot * area + e) Unknown ≡ slice_index_or old (last * area + e) Unknown
+  pub others : (k : ℕ) → k < length new → k / area ≢ slot → slice_index_or new k Unknown ≡ slice_index_or old k Unknown
 
 -- each tells where its sample's point drains, or that it isn't ground
 abbrev pub AreTold : List Flow → Type 0

@@ -10,7 +10,6 @@ pub mod Filled
 pub mod Surface
 pub mod LevelsAround
 pub mod FlowSteps
-pub mod Feeders
 pub mod PresentTiles
 pub mod Waves
 pub mod Flows
@@ -21,11 +20,8 @@ pub mod Rounds
 pub mod Tiles
 pub mod Resolution
 pub mod FlowGrids
-pub mod FlowsAround
+pub mod Donors
 pub mod Padded
 pub mod Preparing
 pub mod Levels
 pub mod Directions
-pub mod LevelRanges
-pub mod FlowCaches
-pub mod Slots

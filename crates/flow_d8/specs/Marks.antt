@@ -1,9 +1,12 @@
--- The marks of a search: 3 of places that aren't of the flat, 2 of those in no wave yet, 1 in the next, 0 in a wave.
-use Rattle.std.specs.Prelude.{◌≡◌, ℕ, ◌+◌, ◌<◌, ◌≤◌, ◌⊎◌, List, length, sum, slice_index_or}
+-- The marks of a search: 3 of places that aren't of the flat, 2 of those in no wave yet, 0 in a wave.
+use Rattle.std.specs.Prelude.{◌≡◌, ℕ, ◌+◌, ◌*◌, ◌%◌, ◌<◌, ◌≤◌, ◌⊎◌, ◌++◌, [], ◌∷◌, Bool, true, false, IsTrue, List, length, sum, slice_index_or}
 use Rattle.flow_d8.specs.Prelude.{Dir, order_of, Flow, Unknown, FlatTo}
+use Rattle.flow_d8.specs.declared.marks.Run.{Run}
 use Rattle.flow_d8.specs.Places.{back_of}
+use Rattle.flow_d8.specs.Filled.{is_deep}
 use Rattle.flow_d8.specs.Flows.{IsOfFlat, IsBeside}
 use Rattle.flow_d8.specs.Component.{Connects}
+use Rattle.flow_d8.specs.Tiles.{Tiles, by_of, IsFirst}
 
 abbrev pub mark_at : List ℕ → ℕ → ℕ
 mark_at marks k = slice_index_or marks k 3
@@ -22,46 +25,96 @@ Lists queue k = (i : ℕ) × ((i < length queue) × (slice_index_or queue i 0 �
 abbrev pub IsBack : (ℕ → Dir → ℕ) → ℕ → ℕ → Type 0
 IsBack by count k = (d : Dir) → by k d < count → by (by k d) (back_of d) ≡ k
 
--- the queue lists the members, which lie inside flats
-pub record IsListing (by : ℕ → Dir → ℕ) (flows : List Flow) (marks queue : List ℕ) : Type 0 where
-  pub listed : (k : ℕ) → IsMember marks k → Lists queue k
-  pub flat : (i : ℕ) → i < length queue → IsOfFlat (slice_index_or flows (slice_index_or queue i 0) Unknown)
-  pub two : (i : ℕ) → i < length queue → mark_at marks (slice_index_or queue i 0) ≡ 2
-  pub back : (i : ℕ) → i < length queue → IsBack by (length flows) (slice_index_or queue i 0)
+-- the sample is one of the run's
+pub record IsIn (r : Run) (k : ℕ) : Type 0 where
+  pub from : r.first ≤ k
+  pub to : k ≤ r.last
+
+abbrev pub no_run : Run
+no_run = record { first = 0; last = 0 }
+
+abbrev pub Covers : List Run → ℕ → Type 0
+Covers runs k = (i : ℕ) × ((i < length runs) × IsIn (slice_index_or runs i no_run) k)
+
+-- samples of one tile's row, each deep in the tile, or one sample
+pub record IsRow (n : ℕ) (r : Run) : Type 0 where
+  pub some : r.first ≤ r.last
+  pub deep : (r.last ≡ r.first) ⊎ ((k : ℕ) → IsIn r k → is_deep n (k % (n * n)) ≡ true)
+
+abbrev pub AreRows : ℕ → List Run → Type 0
+AreRows n runs = (i : ℕ) → i < length runs → IsRow n (slice_index_or runs i no_run)
+
+-- the samples of the run get this mark
+pub record IsRunMarked (r : Run) (mark : ℕ) (marks new_marks : List ℕ) : Type 0 where
+  pub whole : length new_marks ≡ length marks
+  pub here : (k : ℕ) → IsIn r k → mark_at new_marks k ≡ mark
+  pub others : (k : ℕ) → (IsIn r k → ⊥) → mark_at new_marks k ≡ mark_at marks k
+  pub fewer : r.first ≤ r.last → mark < 3 → ((k : ℕ) → IsIn r k → mark_at marks k ≡ 3) → sum new_marks < sum marks
+
+-- the members lie inside flats
+abbrev pub AreFlat : List Flow → List ℕ → Type 0
+AreFlat flows marks = (k : ℕ) → IsMember marks k → IsOfFlat (slice_index_or flows k Unknown)
+
+-- the runs have each member
+pub record AreListed (marks : List ℕ) (runs : List Run) : Type 0 where
+  pub listed : (k : ℕ) → IsMember marks k → Covers runs k
+  pub small : (k : ℕ) → Covers runs k → k < length marks
+
+-- the members lie inside flats, each is the first sample of its point, and the runs have them
+pub record AreFound (tiles : Tiles) (flows : List Flow) (seed : ℕ) (marks : List ℕ) (runs : List Run) : Type 0 where
+  pub whole : length marks ≡ length flows
+  pub two : (k : ℕ) → IsMember marks k → mark_at marks k ≡ 2
+  pub flat : AreFlat flows marks
+  pub first : (k : ℕ) → IsMember marks k → IsFirst tiles k
+  pub joined : (k : ℕ) → IsMember marks k → (n : ℕ) × Connects flows (by_of tiles) seed n k
+  pub listed : (k : ℕ) → IsMember marks k → Covers runs k
+  pub members : (k : ℕ) → Covers runs k → IsMember marks k
+  pub rows : AreRows tiles.side runs
+
+-- the runs that wait are rows of members
+pub record AreWaiting (n : ℕ) (marks : List ℕ) (waiting : List Run) : Type 0 where
+  pub members : (k : ℕ) → Covers waiting k → IsMember marks k
+  pub rows : AreRows n waiting
 
 -- something is known of the place, and if it lies inside a flat it is a member
 pub record IsSettled (flows : List Flow) (marks : List ℕ) (k : ℕ) : Type 0 where
   pub known : slice_index_or flows k Unknown ≡ Unknown → ⊥
   pub member : IsOfFlat (slice_index_or flows k Unknown) → IsMember marks k
 
--- each of the queue belongs to the flat of the seed
-abbrev pub AreConnected : List Flow → (ℕ → Dir → ℕ) → ℕ → List ℕ → Type 0
-AreConnected flows by seed queue = (i : ℕ) → i < length queue → (n : ℕ) × Connects flows by seed n (slice_index_or queue i 0)
+-- a run is added to the members
+pub record IsRunAdded (r : Run) (marks : List ℕ) (runs waiting : List Run) (new_marks : List ℕ) (new_runs new_waiting : List Run) : Type 0 where
+  pub marked : IsRunMarked r 2 marks new_marks
+  pub listed : new_runs ≡ runs ++ r ∷ []
+  pub awaited : new_waiting ≡ waiting ++ r ∷ []
 
--- members are added, and wait at the end of the queue
-pub record Grows (by : ℕ → Dir → ℕ) (flows : List Flow) (marks queue new_marks new_queue : List ℕ) : Type 0 where
+-- members are added, and their runs wait
+pub record Grows (tiles : Tiles) (flows : List Flow) (marks : List ℕ) (runs waiting : List Run) (new_marks : List ℕ) (new_runs new_waiting : List Run) : Type 0 where
   pub whole : length new_marks ≡ length marks
   pub kept : (k : ℕ) → IsMember marks k → IsMember new_marks k
-  pub longer : length queue ≤ length new_queue
-  pub before : (i : ℕ) → i < length queue → slice_index_or new_queue i 0 ≡ slice_index_or queue i 0
-  pub listing : IsListing by flows marks queue → IsListing by flows new_marks new_queue
-  pub connected : (seed : ℕ) → AreConnected flows by seed queue → AreConnected flows by seed new_queue
-  pub fewer : sum new_marks + length new_queue ≤ sum marks + length queue
+  pub fresh : (k : ℕ) → IsMember new_marks k → IsMember marks k ⊎ Covers new_waiting k
+  pub waits : (k : ℕ) → Covers waiting k → Covers new_waiting k
+  pub flats : AreFlat flows marks → AreFlat flows new_marks
+  pub found : (seed : ℕ) → AreFound tiles flows seed marks runs → AreFound tiles flows seed new_marks new_runs
+  pub awaited : AreWaiting tiles.side marks waiting → AreWaiting tiles.side new_marks new_waiting
+  pub fewer : sum new_marks + length new_waiting ≤ sum marks + length waiting
+
+-- around each member what lies inside a flat is a member, but for those that wait
+abbrev pub AreOpen : Tiles → List Flow → List ℕ → List Run → Type 0
+AreOpen tiles flows marks waiting = (k : ℕ) → IsMember marks k → Covers waiting k ⊎ ((d : Dir) → IsSettled flows marks (by_of tiles k d))
 
 -- the members are listed, and around each what lies inside a flat is a member
-pub record AreCollected (flows : List Flow) (by : ℕ → Dir → ℕ) (marks members : List ℕ) (seed : ℕ) : Type 0 where
-  pub whole : length marks ≡ length flows
+pub record AreCollected (tiles : Tiles) (flows : List Flow) (marks : List ℕ) (runs : List Run) (seed : ℕ) : Type 0 where
   pub begun : IsMember marks seed
-  pub listing : IsListing by flows marks members
-  pub closed : (k : ℕ) (d : Dir) → IsMember marks k → IsSettled flows marks (by k d)
+  pub found : AreFound tiles flows seed marks runs
+  pub closed : (k : ℕ) (d : Dir) → IsMember marks k → IsSettled flows marks (by_of tiles k d)
 
--- the place is reached, and comes to the end of the wave, where it lies beside an end
-pub record BeginsAt (flows : List Flow) (k : ℕ) (marks wave new_marks new_wave : List ℕ) : Type 0 where
+-- members beside an end are reached, and come to the end of the wave
+pub record Begins (flows : List Flow) (marks wave new_marks new_wave : List ℕ) : Type 0 where
   pub whole : length new_marks ≡ length marks
-  pub others : (j : ℕ) → (j ≡ k → ⊥) → mark_at new_marks j ≡ mark_at marks j
-  pub here : (IsBeside (slice_index_or flows k Unknown) × (mark_at new_marks k ≡ 0) × Lists new_wave k) ⊎ ((IsBeside (slice_index_or flows k Unknown) → ⊥) × (mark_at new_marks k ≡ mark_at marks k))
-  pub kept : (j : ℕ) → Lists wave j → Lists new_wave j
-  pub only : (j : ℕ) → Lists new_wave j → Lists wave j ⊎ ((j ≡ k) × (mark_at new_marks k ≡ 0))
+  pub changed : (k : ℕ) → (mark_at new_marks k ≡ mark_at marks k) ⊎ (IsBeside (slice_index_or flows k Unknown) × (mark_at new_marks k ≡ 0) × IsMember marks k)
+  pub kept : (k : ℕ) → Lists wave k → Lists new_wave k
+  pub listed : (k : ℕ) → mark_at new_marks k ≡ 0 → (mark_at marks k ≡ 0) ⊎ Lists new_wave k
+  pub only : (k : ℕ) → Lists new_wave k → Lists wave k ⊎ (mark_at new_marks k ≡ 0)
 
 -- those beside an end are the first wave
 pub record IsFirstWave (flows : List Flow) (marks new_marks wave : List ℕ) : Type 0 where
@@ -72,18 +125,20 @@ pub record IsFirstWave (flows : List Flow) (marks new_marks wave : List ℕ) : T
   pub listed : (k : ℕ) → mark_at new_marks k ≡ 0 → Lists wave k
   pub reached : (i : ℕ) → i < length wave → mark_at new_marks (slice_index_or wave i 0) ≡ 0
 
--- the next wave lists the places that are marked so, and each lies beside one that is reached
-pub record IsNext (by : ℕ → Dir → ℕ) (marks next : List ℕ) : Type 0 where
-  pub listed : (k : ℕ) → mark_at marks k ≡ 1 → Lists next k
-  pub pending : (i : ℕ) → i < length next → mark_at marks (slice_index_or next i 0) ≡ 1
-  pub beside : (k : ℕ) → mark_at marks k ≡ 1 → (d : Dir) × (mark_at marks (by k d) ≡ 0)
+-- those of the first of the wave of which it is said lie deep in their tiles
+pub record AreDeep (n : ℕ) (wave : List ℕ) (count : ℕ) (deep : List Bool) : Type 0 where
+  pub whole : length deep ≡ count
+  pub lies : (i : ℕ) → i < count → IsTrue (slice_index_or deep i false) → is_deep n (slice_index_or wave i 0 % (n * n)) ≡ true
 
--- members that were in no wave come into the next
-pub record Gathers (by : ℕ → Dir → ℕ) (marks next new_marks new_next : List ℕ) : Type 0 where
+-- places in no wave whose step in this direction leads to the wave are reached, directed by that step, and come to the end of the next
+pub record Reaches (by : ℕ → Dir → ℕ) (wave : List ℕ) (d : Dir) (marks next : List ℕ) (flows : List Flow) (new_marks new_next : List ℕ) (new_flows : List Flow) : Type 0 where
   pub whole : length new_marks ≡ length marks
-  pub joined : (k : ℕ) → mark_at marks k ≡ 2 → (mark_at new_marks k ≡ 2) ⊎ (mark_at new_marks k ≡ 1)
+  pub flows_whole : length new_flows ≡ length flows
+  pub joined : (k : ℕ) → mark_at marks k ≡ 2 → (mark_at new_marks k ≡ 2) ⊎ ((mark_at new_marks k ≡ 0) × (slice_index_or new_flows k Unknown ≡ FlatTo d) × Lists wave (by k d) × Lists new_next k)
   pub others : (k : ℕ) → (mark_at marks k ≡ 2 → ⊥) → mark_at new_marks k ≡ mark_at marks k
-  pub listing : IsNext by marks next → IsNext by new_marks new_next
+  pub kept : (k : ℕ) → (mark_at marks k ≡ 2 → mark_at new_marks k ≡ 2) → slice_index_or new_flows k Unknown ≡ slice_index_or flows k Unknown
+  pub listed : (k : ℕ) → Lists next k → Lists new_next k
+  pub reached : ((i : ℕ) → i < length next → mark_at marks (slice_index_or next i 0) ≡ 0) → (i : ℕ) → i < length new_next → mark_at new_marks (slice_index_or new_next i 0) ≡ 0
   pub fewer : sum new_marks + length new_next ≤ sum marks + length next
 
 -- the first step, in code order, to a place that is reached
@@ -93,10 +148,3 @@ pub record IsFirstReached (by : ℕ → Dir → ℕ) (marks : List ℕ) (k : ℕ
 
 abbrev pub IsDirected : (ℕ → Dir → ℕ) → List ℕ → List Flow → ℕ → Type 0
 IsDirected by marks flows k = (d : Dir) × ((slice_index_or flows k Unknown ≡ FlatTo d) × IsFirstReached by marks k d)
-
--- what was in the next wave is reached
-pub record AreReached (marks new_marks : List ℕ) : Type 0 where
-  pub whole : length new_marks ≡ length marks
-  pub reached : (k : ℕ) → mark_at marks k ≡ 1 → mark_at new_marks k ≡ 0
-  pub others : (k : ℕ) → (mark_at marks k ≡ 1 → ⊥) → mark_at new_marks k ≡ mark_at marks k
-  pub fewer : sum new_marks ≤ sum marks

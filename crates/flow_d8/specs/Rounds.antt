@@ -1,5 +1,5 @@
 -- What holds between two waves.
-use Rattle.std.specs.Prelude.{◌≡◌, ℕ, suc, ◌<◌, ◌≤◌, ◌⊎◌, ◌↔◌, ℤ, List, length, slice_index_or}
+use Rattle.std.specs.Prelude.{◌≡◌, ℕ, suc, ◌+◌, ◌<◌, ◌≤◌, ◌⊎◌, ◌↔◌, ℤ, List, length, sum, slice_index_or}
 use Rattle.flow_d8.specs.Prelude.{Point, Dir, Terrain, Flow, Unknown}
 use Rattle.flow_d8.specs.Drainage.{CrossesFlat}
 use Rattle.flow_d8.specs.Flows.{IsOfFlat, IsBeside, IsTold, IsFull, AreFlows, AreLaid, Names}
@@ -25,16 +25,19 @@ pub record IsRound (by : ℕ → Dir → ℕ) (members marks wave : List ℕ) : 
   pub reached : (i : ℕ) → i < length wave → mark_at marks (slice_index_or wave i 0) ≡ 0
   pub frontier : (k : ℕ) (d : Dir) → mark_at marks k ≡ 0 → mark_at marks (by k d) ≡ 2 → Lists wave k
 
--- a wave is taken: places in no wave that lie beside one that is reached are directed and reached, and the next wave lists them
-pub record Advances (by : ℕ → Dir → ℕ) (marks wave : List ℕ) (flows : List Flow) (new_marks next : List ℕ) (new_flows : List Flow) : Type 0 where
+-- places in no wave that lie beside one that is reached are directed and reached, and the next wave lists them
+pub record Advances (by : ℕ → Dir → ℕ) (marks : List ℕ) (flows : List Flow) (new_marks next : List ℕ) (new_flows : List Flow) : Type 0 where
   pub whole : length new_marks ≡ length marks
   pub flows_whole : length new_flows ≡ length flows
-  pub old : (k : ℕ) → mark_at marks k ≡ 0 → mark_at new_marks k ≡ 0
-  pub outside : (k : ℕ) → mark_at marks k ≡ 3 → mark_at new_marks k ≡ 3
+  pub others : (k : ℕ) → (mark_at marks k ≡ 2 → ⊥) → mark_at new_marks k ≡ mark_at marks k
   pub joined : (k : ℕ) → mark_at marks k ≡ 2 → (mark_at new_marks k ≡ 2) ⊎ ((mark_at new_marks k ≡ 0) × (IsDirected by marks new_flows k × Lists next k))
   pub kept : (k : ℕ) → (mark_at marks k ≡ 2 → mark_at new_marks k ≡ 2) → slice_index_or new_flows k Unknown ≡ slice_index_or flows k Unknown
-  pub passed : (i : ℕ) (d : Dir) → i < length wave → mark_at new_marks (by (slice_index_or wave i 0) d) ≡ 2 → ⊥
   pub reached : (i : ℕ) → i < length next → mark_at new_marks (slice_index_or next i 0) ≡ 0
+  pub fewer : sum new_marks + length next ≤ sum marks
+
+-- no place in no wave lies beside the wave
+abbrev pub IsPassed : (ℕ → Dir → ℕ) → List ℕ → List ℕ → Type 0
+IsPassed by marks wave = (i : ℕ) (d : Dir) → i < length wave → mark_at marks (by (slice_index_or wave i 0) d) ≡ 2 → ⊥
 
 -- the members that are reached are those of the first waves, and they are directed
 pub record AreWavesOf (t : Terrain Point) (level : Point → ℤ) (place : ℕ → Point) (members marks : List ℕ) (flows : List Flow) : Type 0 where

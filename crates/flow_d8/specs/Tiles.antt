@@ -38,6 +38,10 @@ pub record IsSampleOf (t : Tiles) (p : Point) (k : ℕ) : Type 0 where
   pub small : k < count_of t
   pub here : place_of t k ≡ p
 
+-- it is the first sample of its point
+abbrev pub IsFirst : Tiles → ℕ → Type 0
+IsFirst t k = number_of t.side t.corners (place_of t k) ≡ k
+
 -- it holds of each ground that the flows are so of
 abbrev pub OnGround : Tiles → List Flow → (Terrain Point → (Point → ℤ) → Type 0) → Type 0
 OnGround tiles flows Says = (t : Terrain Point) (level : Point → ℤ) → IsFull t → AreFlows t level (place_of tiles) flows → Says t level

@@ -1,13 +1,13 @@
 //! Points of a flat's tiles that aren't at hand.
-ghost use Rattle.std.specs.Prelude.{◌≡◌, ◌<◌, IsTrue, IfOk, IfSome, length, slice_index_or};
+ghost use Rattle.std.specs.Prelude.{◌≡◌, [], IsTrue, IfOk, IfSome, length, slice_index_or};
 ghost use Rattle.flow_d8.specs.Flows.{IsOfFlat};
 ghost use Rattle.flow_d8.specs.declared.flow.Flow.TheVariants.{Unknown};
 ghost use Rattle.flow_d8.specs.Tiles.{count_of};
-ghost use Rattle.flow_d8.specs.Resolution.{IsMissing, IsUnknownBeside};
+ghost use Rattle.flow_d8.specs.Resolution.{IsMissing};
 
-use crate::collecting::point_beside;
-use crate::flow::is_of_flat;
+use crate::collecting::{free_row, is_free, one_run, point_beside};
 use crate::flow_byte::FlowByte;
+use crate::marks::{FREE, MEMBER, Run};
 use crate::tiles::Tiles;
 use lattice::{DIRECTIONS, Point};
 use std::alloc::{AllocError, Global};
@@ -15,17 +15,20 @@ use std::alloc::{AllocError, Global};
 /// Which samples were found inside a flat. It goes on in tiles that come to hand. Once a tile is given up it is worth nothing.
 #[derive(Drop)]
 pub struct FlatSearch {
-    // A bit a sample: whether it was gone over.
-    found: Vec<u8>,
+    // Which samples were gone over.
+    marks: Vec<u8>,
     // Samples from which it goes on.
     waiting: Vec<u32>,
 }
 
 impl FlatSearch {
-    /// Takes no memory.
-    pub fn new(alloc: Global) -> FlatSearch {
+    /// It goes on from no sample. Takes no memory.
+    pub fn new(alloc: Global) -> FlatSearch
+        ensures gone_over { result.marks.items ≡ [] }
+        ensures waiting { result.waiting.items ≡ [] }
+    {
         FlatSearch {
-            found: Vec::new(alloc),
+            marks: Vec::new(alloc),
             waiting: Vec::new(alloc),
         }
     }
@@ -42,7 +45,7 @@ pub(crate) fn search_flat(
     requires tiles { length flows.now ≡ count_of tiles.now }
     ensures met { IfOk result (λ met. IfSome met (IsMissing tiles.now flows.now)) }
 {
-    search.found.resize(flows.len() / 8 + 1, 0)?;
+    search.marks.resize(flows.len(), FREE)?;
     note(flows, tiles, search, tiles.number(from))?;
     for _ in 0..u64::MAX {
         let Some(k) = search.waiting.pop() else {
@@ -55,7 +58,7 @@ pub(crate) fn search_flat(
     Ok(None)
 }
 
-// Goes over the samples around this one in its row.
+// Goes over the samples around this one in its row that lie deep in its tile, as it does; else over it alone.
 fn search_row(
     flows: &[FlowByte],
     tiles: &Tiles,
@@ -65,56 +68,43 @@ fn search_row(
     requires tiles { length flows.now ≡ count_of tiles.now }
     ensures met { IfOk result (λ met. IfSome met (IsMissing tiles.now flows.now)) }
 {
-    if !is_open(flows, &search.found, k) {
+    if !is_free(flows, &search.marks, k) {
         return Ok(None);
     }
-    let row = tiles.row_start(k);
-    let first = first_open(flows, &search.found, row, k);
-    for at in first..row.saturating_add(tiles.side().samples() as usize) {
-        if !is_open(flows, &search.found, at) {
-            return Ok(None);
-        }
-        if let Some(met) = look_around(flows, tiles, search, at, at == first)? {
-            note(flows, tiles, search, at)?;
-            return Ok(Some(met));
-        }
-        set_bit(&mut search.found, at);
+    if !tiles.is_deep(k) {
+        return look_across(flows, tiles, search, k);
     }
-    Ok(None)
-}
-
-// The first of the samples up to this one, in a row that begins there, from which on all are open.
-fn first_open(flows: &[FlowByte], found: &[u8], row: usize, k: usize) -> usize {
-    for back in 0..k.saturating_sub(row) {
-        if !is_open(flows, found, k - back - 1) {
-            return k - back;
-        }
-    }
-    row
-}
-
-// Notes the samples around this one, which is the first that is gone over in its row, or not. Gives a point beside it of which
-// nothing is known, if there is one.
-fn look_around(
-    flows: &[FlowByte],
-    tiles: &Tiles,
-    search: &mut FlatSearch,
-    at: usize,
-    is_first: bool,
-) -> Result<Option<Point>, AllocError>
-    requires tiles { length flows.now ≡ count_of tiles.now }
-    requires flat { IsOfFlat (slice_index_or flows.now at Unknown) }
-    ensures met { IfOk result (λ met. IfSome met (IsUnknownBeside tiles.now flows.now at)) }
-{
-    if !tiles.is_deep(at) {
-        return look_across(flows, tiles, search, at);
-    }
+    let run = free_row(flows, tiles, &search.marks, k);
     let side = tiles.side().samples() as usize;
-    note_row(flows, tiles, search, at.wrapping_sub(side), is_first)?;
-    note_row(flows, tiles, search, at.wrapping_add(side), is_first)?;
+    let from = (run.first as usize).saturating_sub(1);
+    let to = run.last as usize + 2;
+    go_over(&mut search.marks, run);
+    // What is noted last is gone over first. In this order most tiles come to hand beside those that just did.
+    note_row(flows, tiles, search, from, to)?;
+    note_row(
+        flows,
+        tiles,
+        search,
+        from.saturating_add(side),
+        to.saturating_add(side),
+    )?;
+    note_row(
+        flows,
+        tiles,
+        search,
+        from.saturating_sub(side),
+        to.saturating_sub(side),
+    )?;
     Ok(None)
 }
 
+fn go_over(marks: &mut [u8], run: Run) {
+    for k in run.first as usize..marks.len().min(run.last as usize + 1) {
+        marks[k] = MEMBER;
+    }
+}
+
+// Notes what lies around the sample. Gives a point there of which nothing is known, if there is one; then it is gone over again.
 fn look_across(
     flows: &[FlowByte],
     tiles: &Tiles,
@@ -123,37 +113,37 @@ fn look_across(
 ) -> Result<Option<Point>, AllocError>
     requires tiles { length flows.now ≡ count_of tiles.now }
     requires flat { IsOfFlat (slice_index_or flows.now at Unknown) }
-    ensures met { IfOk result (λ met. IfSome met (IsUnknownBeside tiles.now flows.now at)) }
+    ensures met { IfOk result (λ met. IfSome met (IsMissing tiles.now flows.now)) }
 {
     for i in 0..8 {
         let to = tiles.beside(at, DIRECTIONS[i]);
         if to >= flows.len() {
+            note(flows, tiles, search, at)?;
             return Ok(Some(point_beside(tiles, at, DIRECTIONS[i])));
         }
         note(flows, tiles, search, to)?;
     }
+    go_over(&mut search.marks, one_run(tiles, at));
     Ok(None)
 }
 
-// Notes the first sample of each row of open ones beside this sample and those around it in its row.
+// Notes the first of each free samples one after another.
 fn note_row(
     flows: &[FlowByte],
     tiles: &Tiles,
     search: &mut FlatSearch,
-    middle: usize,
-    is_first: bool,
+    from: usize,
+    to: usize,
 ) -> Result<(), AllocError>
     requires { length flows.now ≡ count_of tiles.now }
 {
-    let before = middle.wrapping_sub(1);
-    if is_first {
-        note(flows, tiles, search, before)?;
-    }
-    if is_first && !is_open(flows, &search.found, before) {
-        note(flows, tiles, search, middle)?;
-    }
-    if !is_open(flows, &search.found, middle) {
-        note(flows, tiles, search, middle.wrapping_add(1))?;
+    let mut was_free = false;
+    for k in from..to {
+        let free = is_free(flows, &search.marks, k);
+        if free && !was_free {
+            note(flows, tiles, search, k)?;
+        }
+        was_free = free;
     }
     Ok(())
 }
@@ -166,29 +156,8 @@ fn note(
 ) -> Result<(), AllocError>
     requires { length flows.now ≡ count_of tiles.now }
 {
-    if is_open(flows, &search.found, k) {
+    if is_free(flows, &search.marks, k) {
         search.waiting.push(tiles.short(k))?;
     }
     Ok(())
-}
-
-// Whether the sample lies inside a flat and wasn't gone over yet.
-#[inline(always)]
-fn is_open(flows: &[FlowByte], found: &[u8], k: usize) -> bool
-    ensures flat { IsTrue result → IsOfFlat (slice_index_or flows.now k Unknown) }
-    ensures small { IsTrue result → k < length flows.now }
-{
-    k < flows.len() && !bit(found, k) && is_of_flat(flows, k)
-}
-
-#[inline(always)]
-fn bit(bits: &[u8], k: usize) -> bool {
-    k / 8 < bits.len() && bits[k / 8] >> (k % 8) & 1 == 1
-}
-
-#[inline(always)]
-fn set_bit(bits: &mut [u8], k: usize) {
-    if k / 8 < bits.len() {
-        bits[k / 8] |= 1 << (k % 8);
-    }
 }

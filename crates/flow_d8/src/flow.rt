@@ -2,6 +2,7 @@
 ghost use Rattle.std.specs.Prelude.{◌≡◌, ◌↔◌, ◌<◌, ℕ, IsTrue, length, slice_index_or};
 ghost use Rattle.flow_d8.specs.declared.flow.Flow.TheVariants.{Unknown};
 ghost use Rattle.flow_d8.specs.Flows.{IsOfFlat, IsBeside, IsTold, Drains, IsTellingAll, direction_of};
+ghost use Rattle.flow_d8.specs.Places.{back_of};
 
 use crate::flow_byte::FlowByte;
 use lattice::Dir;
@@ -57,6 +58,32 @@ impl Flow {
             Flow::Unknown | Flow::NoGround | Flow::Outlet | Flow::Flat => None,
         }
     }
+}
+
+/// The direction of the step back.
+#[inline(always)]
+pub fn back(direction: Dir) -> Dir
+    ensures { result ≡ back_of direction }
+{
+    match direction {
+        Dir::East => Dir::West,
+        Dir::SouthEast => Dir::NorthWest,
+        Dir::South => Dir::North,
+        Dir::SouthWest => Dir::NorthEast,
+        Dir::West => Dir::East,
+        Dir::NorthWest => Dir::SouthEast,
+        Dir::North => Dir::South,
+        Dir::NorthEast => Dir::SouthWest,
+    }
+}
+
+/// What is known of the sample.
+#[inline(always)]
+pub(crate) fn flow_at(flows: &[FlowByte], k: usize) -> Flow
+    requires { k < length flows.now }
+    ensures { result ≡ slice_index_or flows.now k Unknown }
+{
+    flows[k].flow()
 }
 
 /// Whether nothing is known of the sample.

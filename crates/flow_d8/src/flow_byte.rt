@@ -1,6 +1,8 @@
 //! A flow in one byte.
-ghost use Rattle.std.specs.Prelude.{◌≡◌, ◌↔◌, IsTrue};
+ghost use Rattle.std.specs.Prelude.{◌≡◌, ◌↔◌, IsTrue, Some};
 ghost use Rattle.flow_d8.specs.declared.flow.Flow.TheVariants.{Flat};
+ghost use Rattle.flow_d8.specs.Flows.{IsTellingAll, direction_of};
+ghost use Rattle.flow_d8.specs.Places.{back_of};
 
 use crate::flow::Flow;
 use lattice::Dir;
@@ -94,5 +96,24 @@ impl FlowByte {
         ensures { IsTrue result ↔ (self ≡ Flat) }
     {
         self.byte == 3
+    }
+
+    /// Whether it tells where the point drains, or that it isn't ground; so.
+    #[inline(always)]
+    pub(crate) fn tells_all(self) -> bool
+        ensures { IsTrue result ↔ IsTellingAll self }
+    {
+        self.byte != 0 && self.byte != 3
+    }
+
+    /// Whether its step is the one back from a step in the direction; so. The bytes that name a direction have it by eights.
+    #[inline(always)]
+    pub(crate) fn leads_back(self, direction: Dir) -> bool
+        ensures { IsTrue result ↔ (direction_of self ≡ Some (back_of direction)) }
+    {
+        if self.byte < 4 {
+            return false;
+        }
+        self.byte % 8 == direction as u8
     }
 }

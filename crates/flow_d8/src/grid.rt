@@ -1,7 +1,9 @@
 //! Tiles at hand, and where the points of their samples drain.
-ghost use Rattle.std.specs.Prelude.{◌≡◌, ◌≢◌, ◌<◌, ◌≤◌, ◌*◌, ◌/◌, ◌+◌, ◌↔◌, ◌++◌, [], ◌∷◌, ℕ, ℤ, IsTrue, IsFalse, IfOk, IfSome, IfNone, OnOk, OnErr, length, slice_index_or, slice_set};
+ghost use Rattle.std.specs.Prelude.{◌≡◌, ◌≢◌, ◌<◌, ◌≤◌, ◌*◌, ◌+◌, ◌↔◌, ◌++◌, [], ◌∷◌, ℕ, ℤ, IsTrue, IsFalse, IfOk, IfSome, IfNone, OnOk, OnErr, length, slice_index_or, slice_set};
 ghost use Rattle.lattice.specs.Lattice.{Holds};
+ghost use Rattle.lattice.specs.Ground.{terrain};
 ghost use Rattle.lattice.specs.Limits.{most_tiles};
+ghost use Rattle.lattice.specs.Mosaic.{Mosaic};
 ghost use Rattle.lattice.specs.Terrain.{Terrain};
 ghost use Rattle.lattice.specs.declared.point.Point.{Point};
 ghost use Rattle.flow_d8.specs.Drainage.{CrossesFlat};
@@ -10,12 +12,12 @@ ghost use Rattle.flow_d8.specs.declared.flow.Flow.TheVariants.{Unknown, NoGround
 ghost use Rattle.flow_d8.specs.Flows.{IsOfFlat, IsFlow, IsTellingAll, AreFlows, Drains};
 ghost use Rattle.flow_d8.specs.Rounds.{Tells};
 ghost use Rattle.flow_d8.specs.Tiles.{AreTiles, count_of, place_of, by_of, no_corner, IsInTile, IsSampleOf, OnGround};
-ghost use Rattle.flow_d8.specs.FlowGrids.{AreKnown, AreFlowsIn, AreMoved, AreTold, AreCrossed, StayFlows, flow_of, IsAtHand};
-ghost use Rattle.flow_d8.specs.FlowsAround.{AreTellingAround};
+ghost use Rattle.flow_d8.specs.FlowGrids.{AreKnown, AreFlowsIn, AreMoved, IsCut, AreTold, AreCrossed, StayFlows, flow_of, IsAtHand};
+ghost use Rattle.flow_d8.specs.Donors.{AreToldBy, DrainsBack};
 
-use crate::around::flows_around;
+use crate::donors::donors_around;
 use crate::flat_search::{FlatSearch, search_flat};
-use crate::flow::Flow;
+use crate::flow::{Flow, flow_at};
 use crate::flow_byte::FlowByte;
 use crate::marks::Marks;
 use crate::resolving::{Resolution, resolve};
@@ -77,7 +79,7 @@ impl FlowGrid {
     }
 
     /// What is known of the sample; NoGround past all samples.
-    pub(crate) fn sample_flow(&self, k: usize) -> Flow
+    pub fn sample_flow(&self, k: usize) -> Flow
         ensures { result ≡ slice_index_or self.now.flows.items k NoGround }
     {
         if k < self.flows.len() {
@@ -103,7 +105,7 @@ impl FlowGrid {
     }
 
     /// How many samples are at hand.
-    pub(crate) fn samples(&self) -> usize
+    pub fn samples(&self) -> usize
         ensures { result ≡ length self.now.flows.items }
     {
         self.flows.len()
@@ -122,16 +124,8 @@ impl FlowGrid {
         self.tiles.number(point) < self.flows.len()
     }
 
-    /// What is known of the point in the tile of this slot, if there is one that holds it.
-    pub fn flow_in(&self, slot: usize, point: Point) -> Option<Flow>
-        ensures { IfSome result (λ flow. (t : Terrain Point) (level : Point → ℤ) → AreFlows t level (place_of self.now.tiles) self.now.flows.items → IsFlow t level point flow) }
-    {
-        let number = self.sample_in(slot, point)?;
-        Some(flow_at(&self.flows, number))
-    }
-
     /// The sample of the point in the tile of this slot, if there is one that holds it.
-    pub(crate) fn sample_in(&self, slot: usize, point: Point) -> Option<usize>
+    pub fn sample_in(&self, slot: usize, point: Point) -> Option<usize>
         ensures some { IfSome result (λ k. IsSampleOf self.now.tiles point k × ((e : ℕ) → IsInTile self.now.tiles slot e → IsSampleOf self.now.tiles point e → e ≡ k)) }
         ensures none { slot < length self.now.tiles.corners → IfNone result ((k : ℕ) → IsInTile self.now.tiles slot k → IsSampleOf self.now.tiles point k → ⊥) }
     {
@@ -141,16 +135,15 @@ impl FlowGrid {
         self.tiles.sample_in(slot, point)
     }
 
-    /// Where the points around this one drain, or that they aren't ground, in the order of the directions. None where the tile of
-    /// this slot doesn't tell it of all of them, or holds the point less than two samples from an edge.
-    pub fn flows_around(&self, slot: usize, point: Point) -> Option<[Flow; 8]>
-        ensures { IfSome result (λ around. (t : Terrain Point) (level : Point → ℤ) → AreFlows t level (place_of self.now.tiles) self.now.flows.items → AreTellingAround t level point around) }
+    /// Of each direction, in their order, whether the point there drains straight to this one. None where the tile of this slot
+    /// doesn't tell it, or holds the point less than two samples from an edge.
+    pub fn donors_around(&self, slot: usize, point: Point) -> Option<[bool; 8]>
+        ensures { IfSome result (λ donors. (m : Mosaic) (level : Point → ℤ)
+            → AreFlows (terrain m) level (place_of self.now.tiles) self.now.flows.items
+            → AreToldBy (DrainsBack (terrain m) level point) donors 8) }
     {
-        if slot >= self.tiles.tiles() {
-            return None;
-        }
-        let number = self.tiles.sample_in(slot, point)?;
-        flows_around(&self.tiles, &self.flows, number)
+        let number = self.sample_in(slot, point)?;
+        donors_around(&self.tiles, &self.flows, number)
     }
 
     /// Resolves the flat that the point lies on. None where that is done, or the point lies on none. Else a point that the flat
@@ -178,7 +171,7 @@ impl FlowGrid {
 
     /// Resolves each flat, so that each sample tells where its point drains. Whether that could be done: not where this is the
     /// grid of no ground whose points are all at hand.
-    pub fn resolve_all(&mut self) -> Result<bool, AllocError>
+    pub(crate) fn resolve_all(&mut self) -> Result<bool, AllocError>
         ensures tiles { self.new.tiles ≡ self.old.tiles }
         ensures flows { OnGround self.old.tiles self.old.flows.items (λ t level. AreFlows t level (place_of self.new.tiles) self.new.flows.items) }
         ensures told { IfOk result (λ done. IsTrue done → AreTold self.new.flows.items) }
@@ -307,14 +300,6 @@ fn search_known(
 }
 
 #[inline(always)]
-fn flow_at(flows: &[FlowByte], k: usize) -> Flow
-    requires { k < length flows.now }
-    ensures { result ≡ slice_index_or flows.now k Unknown }
-{
-    flows[k].flow()
-}
-
-#[inline(always)]
 fn set_flow(flows: &mut [FlowByte], k: usize, flow: Flow)
     requires { k < length flows.old }
     ensures { flows.new ≡ slice_set flows.old k flow }
@@ -327,9 +312,7 @@ fn cut(flows: &mut Vec<FlowByte>, area: usize, last: usize, slot: usize)
     requires some { 0 < area }
     requires whole { length flows.old.items ≡ last * area + area }
     requires slot { slot ≤ last }
-    ensures whole { length flows.new.items ≡ last * area }
-    ensures moved { slot < last → (e : ℕ) → e < area → slice_index_or flows.new.items (slot * area + e) Unknown ≡ slice_index_or flows.old.items (last * area + e) Unknown }
-    ensures others { (k : ℕ) → k < last * area → k / area ≢ slot → slice_index_or flows.new.items k Unknown ≡ slice_index_or flows.old.items k Unknown }
+    ensures { IsCut area last slot flows.old.items flows.new.items }
 {
     move_tile(flows, area, last, slot);
     flows.truncate(last * area);

@@ -11,7 +11,8 @@ ghost use Rattle.flow_d8.specs.Preparing.{IsLocal, IsPlain, level_in};
 
 use crate::flow::Flow;
 use crate::slopes::{Best, at, better};
-use lattice::{Dir, VOID};
+use crate::tiles::place;
+use lattice::{DIRECTIONS, Dir, VOID};
 
 /// Where the point at this place drains, by the levels at it and around it in rows of this width: To; Outlet where no level is lower
 /// and some direction has none; Flat where all eight have one; NoGround.
@@ -81,29 +82,10 @@ fn gap(levels: &[i16], width: usize, k: usize) -> Option<Dir>
     requires { IsInner width (length levels.now) k }
     ensures { MatchOption result ((d : Dir) → slice_index_or levels.now (place_by width k d) void ≡ void → ⊥) (λ d. slice_index_or levels.now (place_by width k d) void ≡ void) }
 {
-    if is_void(levels, k + 1) {
-        return Some(Dir::East);
-    }
-    if is_void(levels, k + width + 1) {
-        return Some(Dir::SouthEast);
-    }
-    if is_void(levels, k + width) {
-        return Some(Dir::South);
-    }
-    if is_void(levels, k + width - 1) {
-        return Some(Dir::SouthWest);
-    }
-    if is_void(levels, k - 1) {
-        return Some(Dir::West);
-    }
-    if is_void(levels, k - width - 1) {
-        return Some(Dir::NorthWest);
-    }
-    if is_void(levels, k - width) {
-        return Some(Dir::North);
-    }
-    if is_void(levels, k - width + 1) {
-        return Some(Dir::NorthEast);
+    for i in 0..8 {
+        if is_void(levels, place(width, k, DIRECTIONS[i], levels.len())) {
+            return Some(DIRECTIONS[i]);
+        }
     }
     None
 }

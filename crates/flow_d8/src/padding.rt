@@ -1,5 +1,5 @@
 //! The levels that a tile is prepared from: its own, and those of two rows and columns around it.
-ghost use Rattle.std.specs.Prelude.{◌≡◌, ℤ, ◌+◌, ◌*◌, ◌<◌, ◌≤◌, [], IsTrue, IfOk, List, length, slice_index_or};
+ghost use Rattle.std.specs.Prelude.{◌≡◌, ℤ, ◌+◌, ◌*◌, ◌<◌, [], IsTrue, IfOk, List, length, slice_index_or};
 ghost use Rattle.lattice.specs.Corners.{Corner};
 ghost use Rattle.lattice.specs.Mosaic.{Mosaic, IsMosaic, is_present, void};
 ghost use Rattle.lattice.specs.declared.point.Point.{Point};
@@ -42,24 +42,8 @@ fn level_in(tiles: &Tiles, levels: &[i16], tile: usize, row: usize, column: usiz
     requires column { column < tiles.now.side + 4 }
     ensures { (sinks : List Point) → IsLevelIn (filled_of tiles.now levels.now sinks) (point_in tiles.now.side (slice_index_or tiles.now.corners tile no_corner) row column) result }
 {
-    let n = tiles.side().samples() as usize;
-    if 2 <= row && row < n + 2 && 2 <= column && column < n + 2 {
-        return level_inside(tiles, levels, tile, row - 2, column - 2);
-    }
     let point = padded_point(tiles.side(), tiles.corner(tile), row, column);
     level_at(tiles, levels, point)
-}
-
-// The level of the tile's own sample in this row and column.
-fn level_inside(tiles: &Tiles, levels: &[i16], tile: usize, row: usize, column: usize) -> i16
-    requires levels { AreLevels (filled_of tiles.now levels.now []) }
-    requires tile { tile < length tiles.now.corners }
-    requires row { row < tiles.now.side }
-    requires column { column < tiles.now.side }
-    ensures { (sinks : List Point) → IsLevelIn (filled_of tiles.now levels.now sinks) (point_in tiles.now.side (slice_index_or tiles.now.corners tile no_corner) (row + 2) (column + 2)) result }
-{
-    let n = tiles.side().samples() as usize;
-    level(levels, tile * (n * n) + (row * n + column))
 }
 
 // The point's level, by the first tile that holds it.

@@ -1,6 +1,6 @@
 //! The flows of a tile's samples by the filled levels of the tile and of the points around it: all but the directions of
 //! points inside flats that lie beside no end.
-ghost use Rattle.std.specs.Prelude.{◌≡◌, ◌↔◌, ◌⊎◌, ℕ, ◌+◌, ◌*◌, ◌^◌, ◌<◌, ◌≤◌, false, Bool, IsTrue, IfOk, MatchOption, ℤ, pos, negsuc, ◌+ℤ◌, ◌-ℤ◌, ◌≤ℤ◌, length, slice_index_or, if◌then◌else◌};
+ghost use Rattle.std.specs.Prelude.{◌≡◌, ◌↔◌, ◌⊎◌, ℕ, ◌+◌, ◌*◌, ◌<◌, ◌≤◌, false, Bool, IsTrue, IfOk, MatchOption, ℤ, pos, negsuc, ◌+ℤ◌, ◌-ℤ◌, ◌≤ℤ◌, length, slice_index_or, if◌then◌else◌};
 ghost use Rattle.lattice.specs.Mosaic.{Mosaic, IsMosaic, void};
 ghost use Rattle.lattice.specs.Terrain.{Terrain};
 ghost use Rattle.lattice.specs.declared.point.Point.{Point};
@@ -15,6 +15,7 @@ ghost use Rattle.flow_d8.specs.Preparing.{flow_in, IsLocal, IsPlain, IsEnd, IsPl
 use crate::flow::Flow;
 use crate::flow_byte::FlowByte;
 use crate::local_flow::local_flow_at;
+use crate::tiles::place;
 use lattice::{Corner, DIRECTIONS, Dir, Point, Side, VOID, point_at};
 use std::alloc::{AllocError, Global};
 
@@ -230,29 +231,16 @@ fn flat_flow(levels: &[i16], around: &[FlowByte], width: usize, k: usize) -> Flo
     ensures { ((result ≡ Flat) × ((d : Dir) → IsEndBeside levels.now around.now width k d → ⊥)) ⊎ ((d : Dir) × ((result ≡ Beside d) × IsFirstEndBeside levels.now around.now width k d)) }
 {
     for i in 0..8 {
-        if leads_to_end(levels, around, k, place_beside(width, k, DIRECTIONS[i])) {
+        if leads_to_end(
+            levels,
+            around,
+            k,
+            place(width, k, DIRECTIONS[i], levels.len()),
+        ) {
             return Flow::Beside(DIRECTIONS[i]);
         }
     }
     Flow::Flat
-}
-
-#[inline(always)]
-fn place_beside(width: usize, k: usize, direction: Dir) -> usize
-    requires before { width + 1 ≤ k }
-    requires after { k + width + 1 < 2 ^ 64 }
-    ensures { result ≡ place_by width k direction }
-{
-    match direction {
-        Dir::East => k + 1,
-        Dir::SouthEast => k + width + 1,
-        Dir::South => k + width,
-        Dir::SouthWest => k + width - 1,
-        Dir::West => k - 1,
-        Dir::NorthWest => k - width - 1,
-        Dir::North => k - width,
-        Dir::NorthEast => k - width + 1,
-    }
 }
 
 #[inline(always)]
@@ -369,7 +357,7 @@ fn level_without(levels: &[i16], width: usize, over: Dir, k: usize, direction: D
     if is_over(over, direction) {
         VOID
     } else {
-        levels[place_beside(width, k, direction)]
+        levels[place(width, k, direction, levels.len())]
     }
 }
 

@@ -1,26 +1,26 @@
 //! Flats resolved by waves.
-ghost use Rattle.std.specs.Prelude.{◌≡◌, ℕ, ◌+◌, ◌<◌, ◌≤◌, IsTrue, IfOk, OnOk, OnErr, length, sum, slice_index_or};
+ghost use Rattle.std.specs.Prelude.{◌≡◌, ℕ, ◌<◌, IsTrue, IfOk, OnOk, length, slice_index_or};
 ghost use Rattle.lattice.specs.declared.direction.Dir.{Dir};
 ghost use Rattle.flow_d8.specs.Drainage.{CrossesFlat};
 ghost use Rattle.flow_d8.specs.Filled.{number_of};
-ghost use Rattle.flow_d8.specs.Tiles.{count_of, place_of, by_of, OnGround};
+ghost use Rattle.flow_d8.specs.Tiles.{count_of, place_of, by_of, IsFirst, OnGround};
 ghost use Rattle.flow_d8.specs.declared.flow.Flow.TheVariants.{Unknown};
 ghost use Rattle.flow_d8.specs.Flows.{IsOfFlat, AreFlows, Names};
-ghost use Rattle.flow_d8.specs.Marks.{mark_at, AreFree, IsBack, IsMember, Lists, AreCollected};
-ghost use Rattle.flow_d8.specs.Rounds.{AreMarked, AreBegun, IsRound, Advances, OnTerrains, Tells};
+ghost use Rattle.flow_d8.specs.Marks.{mark_at, AreFree, IsBack, IsMember, Lists, AreListed, AreCollected};
+ghost use Rattle.flow_d8.specs.Rounds.{AreMarked, AreBegun, IsRound, Advances, IsPassed, OnTerrains, Tells};
 
-use crate::collecting::collect;
+use crate::collecting::{begin, collect};
 use crate::flow::is_of_flat;
 use crate::flow_byte::FlowByte;
-use crate::marks::{Marks, clear, resize};
-use crate::spreading::{direct, first_wave, gather, reach};
+use crate::marks::{Marks, Run, clear, resize};
+use crate::spreading::{are_deep, first_wave, reach};
 use crate::telling::tell;
 use crate::tiles::Tiles;
-use lattice::Point;
+use lattice::{DIRECTIONS, Point};
 use std::alloc::{AllocError, Global};
 
 /// What came of resolving the flat of a point.
-pub enum Resolution {
+pub(crate) enum Resolution {
     /// Its points have their directions.
     Resolved,
     /// It isn't known that the point lies inside a flat.
@@ -32,7 +32,7 @@ pub enum Resolution {
 ghost use Rattle.flow_d8.specs.Resolution.{AreResolved, IsOutcome, IsMetOnGround};
 
 /// Resolves the flat of the point: gives its samples, in each of the tiles, their directions.
-pub fn resolve(
+pub(crate) fn resolve(
     flows: &mut [FlowByte],
     tiles: &Tiles,
     marks: &mut Marks,
@@ -46,7 +46,11 @@ pub fn resolve(
 {
     let alloc = *marks.marks.allocator();
     resize(&mut marks.marks, flows.len())?;
-    resolve_marking(alloc, flows, tiles, &mut marks.marks, point)
+    let outcome = resolve_marking(alloc, flows, tiles, &mut marks.marks, point);
+    if outcome.is_err() {
+        marks.marks = Vec::new(alloc);
+    }
+    outcome
 }
 
 fn resolve_marking(
@@ -59,7 +63,7 @@ fn resolve_marking(
     requires tiles { length flows.old ≡ count_of tiles.now }
     requires whole { length marks.old ≡ length flows.old }
     requires free { AreFree marks.old }
-    ensures free { AreFree marks.new }
+    ensures free { OnOk result (AreFree marks.new) }
     ensures tells { Tells flows.old flows.new }
     ensures facts { OnGround tiles.now flows.old (λ t level. AreFlows t level (place_of tiles.now) flows.new) }
     ensures outcome { IfOk result (IsOutcome tiles.now (number_of tiles.now.side tiles.now.corners point) flows.old flows.new) }
@@ -68,37 +72,38 @@ fn resolve_marking(
     if seed >= flows.len() || !is_of_flat(flows, seed) {
         return Ok(Resolution::NotFlat);
     }
-    let mut members = Vec::new(alloc);
-    let outcome = resolve_listing(alloc, flows, tiles, marks, &mut members, seed);
-    clear(marks, &members);
-    outcome
+    let mut runs = Vec::new(alloc);
+    let outcome = resolve_listing(alloc, flows, tiles, marks, &mut runs, seed)?;
+    clear(marks, &runs);
+    Ok(outcome)
 }
 
-// The same, where the samples that it leaves marked are listed.
+// The same, where the runs of the samples that it leaves marked are listed.
 fn resolve_listing(
     alloc: Global,
     flows: &mut [FlowByte],
     tiles: &Tiles,
     marks: &mut [u8],
-    members: &mut Vec<u32>,
+    runs: &mut Vec<Run>,
     seed: usize,
 ) -> Result<Resolution, AllocError>
     requires tiles { length flows.old ≡ count_of tiles.now }
     requires whole { length marks.old ≡ length flows.old }
     requires free { AreFree marks.old }
-    requires none { length members.old.items ≡ 0 }
+    requires none { length runs.old.items ≡ 0 }
     requires seed { IsOfFlat (slice_index_or flows.old seed Unknown) }
-    requires back { IsBack (by_of tiles.now) (length flows.old) seed }
-    ensures listed { (k : ℕ) → IsMember marks.new k → Lists members.new.items k }
-    ensures small { (i : ℕ) → i < length members.new.items → slice_index_or members.new.items i 0 < length marks.new }
+    requires first { IsFirst tiles.now seed }
+    ensures listed { OnOk result (AreListed marks.new runs.new.items) }
     ensures tells { Tells flows.old flows.new }
     ensures facts { OnGround tiles.now flows.old (λ t level. AreFlows t level (place_of tiles.now) flows.new) }
     ensures outcome { IfOk result (IsOutcome tiles.now seed flows.old flows.new) }
 {
-    if let Some(met) = collect(flows, tiles, marks, members, seed)? {
+    let mut waiting = Vec::new(alloc);
+    begin(flows, tiles, marks, runs, &mut waiting, seed)?;
+    if let Some(met) = collect(flows, tiles, marks, runs, &mut waiting, seed)? {
         return Ok(Resolution::Meets(met));
     }
-    resolve_members(alloc, flows, tiles, marks, seed, members)?;
+    resolve_members(alloc, flows, tiles, marks, seed, runs)?;
     Ok(Resolution::Resolved)
 }
 
@@ -108,19 +113,20 @@ fn resolve_members(
     tiles: &Tiles,
     marks: &mut [u8],
     seed: usize,
-    members: &[u32],
+    runs: &[Run],
 ) -> Result<(), AllocError>
     requires tiles { length flows.old ≡ count_of tiles.now }
-    requires collected { AreCollected flows.old (by_of tiles.now) marks.old members.now seed }
+    requires collected { AreCollected tiles.now flows.old marks.old runs.now seed }
     ensures outside { (k : ℕ) → mark_at marks.old k ≡ 3 → mark_at marks.new k ≡ 3 }
+    ensures whole { length marks.new ≡ length marks.old }
     ensures tells { Tells flows.old flows.new }
     ensures facts { OnGround tiles.now flows.old (λ t level. AreFlows t level (place_of tiles.now) flows.new) }
     ensures resolved { OnOk result (AreResolved tiles.now seed flows.old flows.new) }
 {
     let _valid = tiles.tiles();
-    let wave = first_wave(alloc, flows, tiles, marks, members)?;
+    let wave = first_wave(alloc, flows, marks, runs)?;
     spread(alloc, flows, tiles, marks, wave)?;
-    tell(tiles, members, flows);
+    tell(tiles, runs, flows);
     Ok(())
 }
 
@@ -144,33 +150,34 @@ fn spread(
 {
     let mut wave = first;
     'waves: while wave.len() > 0 {
-        wave = advance(alloc, flows, tiles, marks, &wave)?;
+        let mut next = Vec::new(alloc);
+        advance(alloc, tiles, &wave, marks, &mut next, flows)?;
+        wave = next;
     }
     Ok(())
 }
 
-// The next wave: its samples are directed and reached.
+// The next wave: its samples are directed and reached. The directions in their order: each gets the first that leads to the wave.
 fn advance(
     alloc: Global,
-    flows: &mut [FlowByte],
     tiles: &Tiles,
-    marks: &mut [u8],
     wave: &[u32],
-) -> Result<Vec<u32>, AllocError>
+    marks: &mut [u8],
+    next: &mut Vec<u32>,
+    flows: &mut [FlowByte],
+) -> Result<(), AllocError>
+    requires tiles { length flows.old ≡ count_of tiles.now }
     requires whole { length marks.old ≡ length flows.old }
     requires reached { (i : ℕ) → i < length wave.now → mark_at marks.old (slice_index_or wave.now i 0) ≡ 0 }
-    requires still { (k : ℕ) → mark_at marks.old k ≡ 1 → ⊥ }
-    requires tiles { length flows.old ≡ count_of tiles.now }
+    requires frontier { (k : ℕ) (d : Dir) → mark_at marks.old k ≡ 0 → mark_at marks.old (by_of tiles.now k d) ≡ 2 → Lists wave.now k }
     requires back { (k : ℕ) → IsMember marks.old k → IsBack (by_of tiles.now) (length marks.old) k }
-    ensures advances { IfOk result (λ next. Advances (by_of tiles.now) marks.old wave.now flows.old marks.new next.items flows.new) }
-    ensures whole { length flows.new ≡ length flows.old }
-    ensures failed { OnErr result (flows.new ≡ flows.old) }
-    ensures outside { (k : ℕ) → mark_at marks.old k ≡ 3 → mark_at marks.new k ≡ 3 }
-    ensures fewer { IfOk result (λ next. sum marks.new + length next.items ≤ sum marks.old) }
+    requires none { length next.old.items ≡ 0 }
+    ensures advances { Advances (by_of tiles.now) marks.old flows.old marks.new next.new.items flows.new }
+    ensures passed { OnOk result (IsPassed (by_of tiles.now) marks.new wave.now) }
 {
-    let mut next = Vec::new(alloc);
-    gather(tiles, marks, wave, &mut next)?;
-    direct(tiles, marks, &next, flows);
-    reach(marks, &next);
-    Ok(next)
+    let deep = are_deep(alloc, tiles, wave)?;
+    for i in 0..8 {
+        reach(tiles, wave, &deep, DIRECTIONS[i], marks, next, flows)?;
+    }
+    Ok(())
 }

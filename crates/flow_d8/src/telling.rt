@@ -4,45 +4,50 @@ ghost use Rattle.lattice.specs.declared.point.Point.{Point};
 ghost use Rattle.lattice.specs.Terrain.{Terrain};
 ghost use Rattle.flow_d8.specs.declared.flow.Flow.TheVariants.{Unknown};
 ghost use Rattle.flow_d8.specs.Flows.{IsOfFlat, IsTold, IsFlow, AreFlows};
+ghost use Rattle.flow_d8.specs.Marks.{IsIn, Covers, IsRow, AreRows};
 ghost use Rattle.flow_d8.specs.Rounds.{Tells};
 ghost use Rattle.flow_d8.specs.Tiles.{count_of, place_of, IsInTile, IsSampleOf};
 
-use crate::flow::{Flow, is_of_flat, is_told};
+use crate::flow::{Flow, flow_at, is_of_flat, is_told};
 use crate::flow_byte::FlowByte;
+use crate::marks::Run;
 use crate::tiles::Tiles;
 use lattice::Point;
 
 /// Tells the flows of the members at all samples of their points.
-pub(crate) fn tell(tiles: &Tiles, members: &[u32], flows: &mut [FlowByte])
+pub(crate) fn tell(tiles: &Tiles, runs: &[Run], flows: &mut [FlowByte])
     requires tiles { length flows.old ≡ count_of tiles.now }
-    requires small { (i : ℕ) → i < length members.now → slice_index_or members.now i 0 < length flows.old }
+    requires rows { AreRows tiles.now.side runs.now }
+    requires small { (k : ℕ) → Covers runs.now k → k < length flows.old }
     ensures tells { Tells flows.old flows.new }
     ensures facts { (t : Terrain Point) (level : Point → ℤ) → AreFlows t level (place_of tiles.now) flows.old → AreFlows t level (place_of tiles.now) flows.new }
-    ensures twins { (i e : ℕ) → i < length members.now → IsTold (slice_index_or flows.old (slice_index_or members.now i 0) Unknown) → IsSampleOf tiles.now (place_of tiles.now (slice_index_or members.now i 0)) e
+    ensures twins { (k e : ℕ) → Covers runs.now k → IsTold (slice_index_or flows.old k Unknown) → IsSampleOf tiles.now (place_of tiles.now k) e
         → IsOfFlat (slice_index_or flows.old e Unknown) → IsTold (slice_index_or flows.new e Unknown) }
 {
-    for i in 0..members.len() {
-        tell_at(tiles, members[i] as usize, flows);
+    for i in 0..runs.len() {
+        tell_run(tiles, runs[i], flows);
     }
 }
 
-fn tell_at(tiles: &Tiles, k: usize, flows: &mut [FlowByte])
+fn tell_run(tiles: &Tiles, run: Run, flows: &mut [FlowByte])
     requires tiles { length flows.old ≡ count_of tiles.now }
-    requires k { k < length flows.old }
+    requires row { IsRow tiles.now.side run }
+    requires small { (k : ℕ) → IsIn run k → k < length flows.old }
     ensures tells { Tells flows.old flows.new }
     ensures facts { (t : Terrain Point) (level : Point → ℤ) → AreFlows t level (place_of tiles.now) flows.old → AreFlows t level (place_of tiles.now) flows.new }
-    ensures twins { IsTold (slice_index_or flows.old k Unknown) → (e : ℕ) → IsSampleOf tiles.now (place_of tiles.now k) e → IsOfFlat (slice_index_or flows.old e Unknown) → IsTold (slice_index_or flows.new e Unknown) }
+    ensures twins { (k e : ℕ) → IsIn run k → IsTold (slice_index_or flows.old k Unknown) → IsSampleOf tiles.now (place_of tiles.now k) e
+        → IsOfFlat (slice_index_or flows.old e Unknown) → IsTold (slice_index_or flows.new e Unknown) }
 {
     let _valid = tiles.tiles();
-    let flow = flow_at(flows, k);
-    if !is_told(flow) {
-        return;
-    }
-    // No other sample has its point.
+    let k = run.first as usize;
+    // No other sample has the points of a deep row.
     if tiles.is_deep(k) {
         return;
     }
-    tell_point(tiles, tiles.point(k), flow, flows);
+    let flow = flow_at(flows, k);
+    if is_told(flow) {
+        tell_point(tiles, tiles.point(k), flow, flows);
+    }
 }
 
 fn tell_point(tiles: &Tiles, point: Point, flow: Flow, flows: &mut [FlowByte])
@@ -81,11 +86,4 @@ fn tell_sample(flows: &mut [FlowByte], e: usize, flow: Flow)
     if is_of_flat(flows, e) {
         flows[e] = FlowByte::of(flow);
     }
-}
-
-fn flow_at(flows: &[FlowByte], k: usize) -> Flow
-    requires { k < length flows.now }
-    ensures { result ≡ slice_index_or flows.now k Unknown }
-{
-    flows[k].flow()
 }

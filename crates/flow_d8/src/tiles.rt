@@ -1,5 +1,5 @@
 //! Samples of several tiles in one array, tile after tile.
-ghost use Rattle.std.specs.Prelude.{◌≡◌, ◌≢◌, ◌<◌, ◌≤◌, ◌*◌, ◌%◌, ◌↔◌, ◌++◌, [], ◌∷◌, true, ℕ, SomeIff, OnOk, OnErr, ◌+◌, IsTrue, MatchOption, length, slice_index_or};
+ghost use Rattle.std.specs.Prelude.{◌≡◌, ◌≢◌, ◌<◌, ◌≤◌, ◌*◌, ◌%◌, ◌↔◌, ◌++◌, [], ◌∷◌, true, ℕ, SomeIff, IfSome, OnOk, OnErr, ◌+◌, IsTrue, MatchOption, length, slice_index_or};
 ghost use Rattle.lattice.specs.Limits.{most_tiles};
 ghost use Rattle.lattice.specs.Corners.{is_corner, same_corner};
 ghost use Rattle.lattice.specs.Lattice.{Holds, IsIndexOf};
@@ -7,8 +7,7 @@ ghost use Rattle.std.specs.List.{AllAdjacentBelow, list_any};
 ghost use Rattle.lattice.specs.Lattice.{IsBefore};
 ghost use Rattle.flow_d8.specs.Places.{IsInner, place_by};
 ghost use Rattle.flow_d8.specs.Filled.{number_of, is_deep};
-ghost use Rattle.flow_d8.specs.Marks.{IsBack};
-ghost use Rattle.flow_d8.specs.Tiles.{AreTiles, count_of, place_of, by_of, IsInTile, IsSampleOf, no_corner};
+ghost use Rattle.flow_d8.specs.Tiles.{AreTiles, count_of, place_of, by_of, IsInTile, IsSampleOf, IsFirst, no_corner};
 
 use crate::division::{divide, reciprocal};
 use lattice::{Corner, Dir, MOST_TILES, Point, Side, index_in, is_before, neighbour, point_at};
@@ -17,7 +16,7 @@ use std::marker::Model;
 
 /// Tiles whose samples stand in one array, tile after tile, in any order.
 #[derive(Drop)]
-pub struct Tiles {
+pub(crate) struct Tiles {
     side: Side,
     corners: Vec<Corner>,
     // The reciprocals of a row's samples and of a tile's.
@@ -37,7 +36,7 @@ impl Model for Tiles {
 
 impl Tiles {
     /// The tiles at these corners, at most 240, in the order of tiles.
-    pub fn new(side: Side, corners: Vec<Corner>) -> Option<Tiles>
+    pub(crate) fn new(side: Side, corners: Vec<Corner>) -> Option<Tiles>
         ensures { SomeIff result ((length corners.items ≤ most_tiles) × AllAdjacentBelow IsBefore corners.items (length corners.items)) (record { side = side; corners = corners.items }) }
     {
         let _low = side.samples();
@@ -55,7 +54,7 @@ impl Tiles {
     }
 
     /// No tile. Takes no memory.
-    pub fn none(alloc: Global, side: Side) -> Tiles
+    pub(crate) fn none(alloc: Global, side: Side) -> Tiles
         ensures { result ≡ record { side = side; corners = [] } }
     {
         let _low = side.samples();
@@ -105,14 +104,14 @@ impl Tiles {
     }
 
     /// How many samples they have.
-    pub fn count(&self) -> usize
+    pub(crate) fn count(&self) -> usize
         ensures { result ≡ count_of self.now }
     {
         count(self.side(), self.corners())
     }
 
     /// The point of a sample.
-    pub fn point(&self, k: usize) -> Point
+    pub(crate) fn point(&self, k: usize) -> Point
         requires { k < count_of self.now }
         ensures { result ≡ place_of self.now k }
     {
@@ -152,9 +151,9 @@ impl Tiles {
     }
 
     /// The first sample of the point; past all samples where no tile holds it.
-    pub fn number(&self, point: Point) -> usize
+    pub(crate) fn number(&self, point: Point) -> usize
         ensures value { result ≡ number_of self.now.side self.now.corners point }
-        ensures back { result < count_of self.now → IsBack (by_of self.now) (count_of self.now) result }
+        ensures first { result < count_of self.now → IsFirst self.now result }
     {
         number(self.side(), self.corners(), point)
     }
@@ -171,7 +170,7 @@ impl Tiles {
 
     /// Whether the sample lies at least two samples from the edges of its tile.
     #[inline(always)]
-    pub fn is_deep(&self, k: usize) -> bool
+    pub(crate) fn is_deep(&self, k: usize) -> bool
         ensures { result ≡ is_deep self.now.side (k % (self.now.side * self.now.side)) }
     {
         let side = self.side();
@@ -184,21 +183,29 @@ impl Tiles {
             && place.remainder + 3 <= n
     }
 
-    /// The first sample of its tile's row.
-    pub(crate) fn row_start(&self, k: usize) -> usize {
+    /// The first and the last of the samples around this one, in its row, that lie deep in its tile, where it does.
+    pub(crate) fn deep_row(&self, k: usize) -> Option<(usize, usize)>
+        requires { k < count_of self.now }
+        ensures { IfSome result (λ row. (row.0 ≤ k) × (k ≤ row.1) × ((j : ℕ) → row.0 ≤ j → j ≤ row.1 → is_deep self.now.side (j % (self.now.side * self.now.side)) ≡ true)) }
+    {
         let side = self.side();
+        let n = side.samples() as usize;
+        if !self.is_deep(k) {
+            return None;
+        }
         let index = divide(k, side.area(), self.per_tile).remainder;
-        k.saturating_sub(divide(index, side.samples(), self.per_row).remainder)
+        let column = divide(index, side.samples(), self.per_row).remainder;
+        Some((k - (column - 2), k + (n - 3 - column)))
     }
 
     /// The first sample of the point one step away; past all samples where no tile holds it. By an addition where the sample is
     /// said to lie deep in its tile.
     #[inline(always)]
-    pub fn step(&self, k: usize, direction: Dir, deep: bool) -> usize
+    pub(crate) fn step(&self, k: usize, direction: Dir, deep: bool) -> usize
         requires k { k < count_of self.now }
         requires deep { IsTrue deep → is_deep self.now.side (k % (self.now.side * self.now.side)) ≡ true }
         ensures value { result ≡ by_of self.now k direction }
-        ensures back { result < count_of self.now → IsBack (by_of self.now) (count_of self.now) result }
+        ensures first { result < count_of self.now → IsFirst self.now result }
     {
         if deep {
             return self.deep_step(k, direction);
@@ -211,7 +218,7 @@ impl Tiles {
         requires k { k < count_of self.now }
         requires deep { is_deep self.now.side (k % (self.now.side * self.now.side)) ≡ true }
         ensures value { result ≡ by_of self.now k direction }
-        ensures back { result < count_of self.now → IsBack (by_of self.now) (count_of self.now) result }
+        ensures first { result < count_of self.now → IsFirst self.now result }
     {
         let side = self.side();
         let count = self.count();
@@ -219,10 +226,10 @@ impl Tiles {
     }
 
     /// The first sample of the point one step away; past all samples where no tile holds it.
-    pub fn beside(&self, k: usize, direction: Dir) -> usize
+    pub(crate) fn beside(&self, k: usize, direction: Dir) -> usize
         requires { k < count_of self.now }
         ensures value { result ≡ by_of self.now k direction }
-        ensures back { result < count_of self.now → IsBack (by_of self.now) (count_of self.now) result }
+        ensures first { result < count_of self.now → IsFirst self.now result }
     {
         let _valid = self.side();
         match neighbour(self.point(k), direction) {
@@ -287,9 +294,9 @@ fn latitude(corner: Corner) -> i16
     corner.lat
 }
 
-// Where a step leads.
+/// Where a step leads, in rows of this width.
 #[inline(always)]
-fn place(width: usize, k: usize, direction: Dir, count: usize) -> usize
+pub(crate) fn place(width: usize, k: usize, direction: Dir, count: usize) -> usize
     requires { IsInner width count k }
     ensures { result ≡ place_by width k direction }
 {

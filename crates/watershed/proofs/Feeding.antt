@@ -1,23 +1,22 @@
 -- The points that drain straight to a point, found one direction after another.
-use Rattle.std.proofs.Common.{◌≡◌, ℕ, ◌+◌, ◌<◌, ◌≤◌, ℤ, IsTrue, Some, List, [], ◌∷◌, ◌++◌, inl, inr, ⊎_elim, refl, sym, ap, ◌∙◌, subst, arith}
+use Rattle.std.proofs.Common.{◌≡◌, ℕ, ◌+◌, ◌<◌, ◌≤◌, ℤ, IsTrue, Some, List, [], ◌∷◌, ◌++◌, inl, inr, ⊎_elim, sym, ap, ◌∙◌, subst, arith}
 use Rattle.std.specs.Prelude.{Contains, ◌↔◌, ◌⊎◌}
 use Rattle.std.proofs.lemmas.Bool.{cases_Bool, cases_eq}
 use Rattle.std.proofs.lemmas.List.Elements.{Contains-append_left, Contains-push, Contains-push_cases}
 use Rattle.std.proofs.lemmas.Option.{none-some}
 use Rattle.lattice.specs.declared.point.Point.{Point}
 use Rattle.lattice.specs.declared.direction.Dir.{Dir}
-use Rattle.lattice.specs.declared.direction.Dir.TheVariants.{East, SouthEast, South, SouthWest, West, NorthWest, North, NorthEast}
 use Rattle.lattice.specs.Steps.{step, order_of}
 use Rattle.lattice.specs.Terrain.{Terrain}
 use Rattle.flow_d8.specs.Drainage.{IsDirection}
-use Rattle.flow_d8.specs.Feeders.{IsFeeder}
 use Rattle.flow_d8.specs.Flows.{direction_of}
 use Rattle.flow_d8.specs.Places.{back_of}
 use Rattle.flow_d8.specs.declared.flow.Flow.{Flow}
-use Rattle.flow_d8.proofs.Compass.{same_order, order_below}
-use Rattle.flow_d8.proofs.StepBack.{step_back}
-use Rattle.flow_d8.proofs.Unique.{one_direction}
-use Rattle.watershed.specs.Feeding.{DrainsBack, IsDonorAdded}
+use Rattle.flow_d8.proofs.Steps.Compass.{same_order, order_below}
+use Rattle.flow_d8.proofs.Steps.StepBack.{back_twice, step_back}
+use Rattle.flow_d8.proofs.Paths.Unique.{one_direction}
+use Rattle.flow_d8.specs.Donors.{DrainsBack, IsDonor}
+use Rattle.watershed.specs.Feeding.{IsDonorAdded}
 use Rattle.watershed.specs.FlowSource.{IsToldOf}
 
 module _ (Drains : Dir → Type 0) (p : Point) (start : List Point) where
@@ -48,22 +47,12 @@ module _ (Drains : Dir → Type 0) (p : Point) (start : List Point) where
     ];
   })
 
-back_twice : (d : Dir) → back_of (back_of d) ≡ d
-back_twice East = refl
-back_twice SouthEast = refl
-back_twice South = refl
-back_twice SouthWest = refl
-back_twice West = refl
-back_twice NorthWest = refl
-back_twice North = refl
-back_twice NorthEast = refl
-
 module _ (t : Terrain Point) (level : Point → ℤ) (p : Point) where
   -- in the eight directions lie all donors
-  pub all_donors : (start found : List Point) (k : ℕ) → 8 ≤ k → AreDonorsBy (DrainsBack t level p) p start found k → (x : Point) → Contains found x ↔ (Contains start x ⊎ IsFeeder t level x p)
+  pub all_donors : (start found : List Point) (k : ℕ) → 8 ≤ k → AreDonorsBy (DrainsBack t level p) p start found k → (x : Point) → Contains found x ↔ (Contains start x ⊎ IsDonor t level x p)
   all_donors start found k all by x = (
-    (λ has. ⊎_elim (λ before. inl before) (λ at. inr (subst (λ q. IsFeeder t level q p) at.1.0 (record { on_ground = at.1.1.0; drains = (back_of at.0, (at.1.1.1, step_back at.0 p)) }))) (by.drain x has)),
-    (λ has. ⊎_elim (by.kept x) (λ (feeds : IsFeeder t level x p).
+    (λ has. ⊎_elim (λ before. inl before) (λ at. inr (subst (λ q. IsDonor t level q p) at.1.0 (record { on_ground = at.1.1.0; drains = (back_of at.0, (at.1.1.1, step_back at.0 p)) }))) (by.drain x has)),
+    (λ has. ⊎_elim (by.kept x) (λ (feeds : IsDonor t level x p).
         let e = feeds.drains.0 in
         let d : Dir = back_of e in
         let there : step d p ≡ x = ap (step d) (sym feeds.drains.1.1) ∙ step_back e x in

@@ -26,11 +26,11 @@ to_any (r ∷ rest) p (inl here) = (0, r, omega arith, refl, here)
 to_any (r ∷ rest) p (inr later) = let any = to_any rest p later in (suc any.0, any.1, omega (arith, any.2), any.3, any.4)
 
 -- each run is full, and the next comes after it
-record Sorted (rs : List Run) : Type 0 where
-  full : All (λ r. r.first ≤ℤ r.last) rs
-  in_order : AllAdjacentBelow IsAfter rs (length rs)
+pub record Sorted (rs : List Run) : Type 0 where
+  pub full : All (λ r. r.first ≤ℤ r.last) rs
+  pub in_order : AllAdjacentBelow IsAfter rs (length rs)
 
-tail_sorted : (r : Run) (rest : List Run) → Sorted (r ∷ rest) → Sorted rest
+pub tail_sorted : (r : Run) (rest : List Run) → Sorted (r ∷ rest) → Sorted rest
 tail_sorted r rest is = record {
   full = λ k d lt. is.full (suc k) d (omega arith);
   in_order = λ k d lt. let up : suc k + 1 ≡ suc (k + 1) = omega arith in
@@ -57,6 +57,15 @@ all_beyond : (r : Run) (rest : List Run) (p : Point) → Sorted (r ∷ rest) →
 all_beyond r [] p is h = absurd h
 all_beyond r (s ∷ rest) p is (inl here) = after_beyond r s p (is.in_order 0 s (omega arith)) here
 all_beyond r (s ∷ rest) p is (inr later) = beyond_later r s p (is.full 1 s (omega arith)) (is.in_order 0 s (omega arith)) (all_beyond s rest p (tail_sorted r (s ∷ rest) is) later)
+
+not_beyond : (r : Run) (p : Point) → IsInRun r p → Beyond r p → ⊥
+unfolding Beyond
+not_beyond r p within (inl south) = let row = within.0 in absurd (omega (arith, ints))
+not_beyond r p within (inr east) = let last = within.1.1 in let gap = east.1 in absurd (omega (arith, ints))
+
+-- no point lies in two runs
+pub apart_from_later : (r : Run) (rest : List Run) → Sorted (r ∷ rest) → (p : Point) → IsInRun r p → InSome rest p → ⊥
+apart_from_later r rest is p here later = not_beyond r p here (all_beyond r rest p is later)
 
 start_of : Run → Point
 start_of r = record { y = r.y; x = r.first }
@@ -108,14 +117,9 @@ ends r s rest rest' is' covers row west = elim (cases_Bool (int_lt s.last r.last
 same_run : (r s : Run) → r.y ≡ s.y → r.first ≡ s.first → r.last ≡ s.last → r ≡ s
 same_run r s hy hf hl = λ i. record { y = hy i; first = hf i; last = hl i }
 
-apart : (r : Run) (p : Point) → IsInRun r p → Beyond r p → ⊥
-unfolding Beyond
-apart r p inside (inl south) = let row = inside.0 in absurd (omega (arith, ints))
-apart r p inside (inr east) = let gap = east.1 in let last = inside.1.1 in absurd (omega (arith, ints))
-
 tails : (r s : Run) (rest rest' : List Run) → r ≡ s → Sorted (r ∷ rest) → ((p : Point) → InSome (r ∷ rest) p → InSome (s ∷ rest') p) → (p : Point) → InSome rest p → InSome rest' p
 tails r s rest rest' same is covers p later = ⊎_elim
-    (λ in_s. absurd (apart r p (subst (λ u. IsInRun u p) (sym same) in_s) (all_beyond r rest p is later)))
+    (λ in_s. absurd (not_beyond r p (subst (λ u. IsInRun u p) (sym same) in_s) (all_beyond r rest p is later)))
     (λ there. there)
     (covers p (inr later))
 

@@ -1,17 +1,16 @@
 -- The search up the flow paths: what is found after each step, and that in the end it is the watershed.
-use Rattle.std.proofs.Common.{◌≡◌, ℕ, zero, suc, ℤ, IsTrue, IsFalse, Some, List, [], ◌∷◌, ◌++◌, ◌⊎◌, ◌↔◌, inl, inr, ⊎_elim, refl, sym, ap, ◌∙◌, subst, arith, true≢false}
+use Rattle.std.proofs.Common.{◌≡◌, ℕ, zero, suc, ℤ, IsTrue, IsFalse, List, [], ◌∷◌, ◌++◌, ◌⊎◌, ◌↔◌, inl, inr, ⊎_elim, refl, sym, ap, ◌∙◌, subst, arith, true≢false}
 use Rattle.std.specs.Prelude.{Contains, if◌then◌else◌}
 use Rattle.std.proofs.lemmas.Bool.{cases_Bool}
 use Rattle.std.proofs.lemmas.List.Elements.{Contains-append_left, Contains-push, Contains-push_cases}
 use Rattle.lattice.specs.declared.point.Point.{Point}
-use Rattle.lattice.specs.declared.direction.Dir.{Dir}
 use Rattle.lattice.specs.Steps.{step}
 use Rattle.lattice.specs.Terrain.{Terrain, IsLawful}
-use Rattle.flow_d8.specs.Drainage.{IsDirection}
 use Rattle.flow_d8.specs.FlowPath.{FlowsTo, IsInWatershed}
 use Rattle.watershed.specs.Runs.{AreRuns}
 use Rattle.watershed.specs.declared.runs.Run.{Run}
-use Rattle.flow_d8.specs.Feeders.{IsFeeder}
+use Rattle.flow_d8.specs.Donors.{IsDonor}
+use Rattle.flow_d8.proofs.Paths.Following.{drains_to_ground}
 use Rattle.watershed.specs.Search.{LeadsTo, AreUpstream}
 use Rattle.watershed.proofs.Found.{empty_runs}
 
@@ -21,7 +20,7 @@ module _ (t : Terrain Point) (level : Point → ℤ) (p : Point) where
     pub lead : (x : Point) → Marked x ⊎ Contains waiting x → (k : ℕ) × LeadsTo t level x k p
     pub begins : IsTrue (t.is_ground p) → Marked p ⊎ Contains waiting p
     pub elsewhere : (x : Point) → Marked x ⊎ Contains waiting x → IsTrue (t.is_ground p)
-    pub closed : (q x : Point) → Marked q → IsFeeder t level x q → Marked x ⊎ Contains waiting x
+    pub closed : (q x : Point) → Marked q → IsDonor t level x q → Marked x ⊎ Contains waiting x
 
   none_waits : (Marked : Point → Type 0) (x : Point) → ((q : Point) → Marked q → ⊥) → Marked x ⊎ Contains [] x → ⊥
   none_waits Marked x none (inl marked) = none x marked
@@ -50,14 +49,14 @@ module _ (t : Terrain Point) (level : Point → ℤ) (p : Point) where
 
   -- the last that waits is marked, and what feeds it waits, where that isn't found yet
   module _ (Marked Marked' : Point → Type 0) (rest waiting : List Point) (at : Point)
-      (mark : (x : Point) → Marked' x ↔ (Marked x ⊎ (x ≡ at))) (kept : (x : Point) → Contains rest x → Contains waiting x) (new : (x : Point) → Contains waiting x → Contains rest x ⊎ IsFeeder t level x at)
-      (all : (x : Point) → IsFeeder t level x at → (Marked x ⊎ Contains (rest ++ at ∷ []) x) ⊎ Contains waiting x) (so_far : IsSearching Marked (rest ++ at ∷ [])) where
+      (mark : (x : Point) → Marked' x ↔ (Marked x ⊎ (x ≡ at))) (kept : (x : Point) → Contains rest x → Contains waiting x) (new : (x : Point) → Contains waiting x → Contains rest x ⊎ IsDonor t level x at)
+      (all : (x : Point) → IsDonor t level x at → (Marked x ⊎ Contains (rest ++ at ∷ []) x) ⊎ Contains waiting x) (so_far : IsSearching Marked (rest ++ at ∷ [])) where
     still : (x : Point) → Marked x ⊎ Contains (rest ++ at ∷ []) x → Marked' x ⊎ Contains waiting x
     still x (inl marked) = inl ((mark x).1 (inl marked))
     still x (inr has) = ⊎_elim (λ before. inr (kept x before)) (λ this. inl ((mark x).1 (inr (sym this)))) (Contains-push_cases rest at x has)
 
     -- what is found now was found before, or feeds the point
-    was : (x : Point) → Marked' x ⊎ Contains waiting x → (Marked x ⊎ Contains (rest ++ at ∷ []) x) ⊎ IsFeeder t level x at
+    was : (x : Point) → Marked' x ⊎ Contains waiting x → (Marked x ⊎ Contains (rest ++ at ∷ []) x) ⊎ IsDonor t level x at
     was x (inl marked) = inl (⊎_elim (λ old. inl old) (λ this. inr (subst (Contains (rest ++ at ∷ [])) (sym this) (Contains-push rest at))) ((mark x).0 marked))
     was x (inr has) = ⊎_elim (λ before. inl (inr (Contains-append_left rest (at ∷ []) x before))) (λ feeds. inr feeds) (new x has)
 
@@ -71,7 +70,7 @@ module _ (t : Terrain Point) (level : Point → ℤ) (p : Point) where
       elsewhere = λ x found. so_far.elsewhere at waited;
       closed = λ q x marked feeds. ⊎_elim
           (λ old. still x (so_far.closed q x old feeds))
-          (λ this. ⊎_elim (still x) (λ has. inr has) (all x (subst (IsFeeder t level x) this feeds)))
+          (λ this. ⊎_elim (still x) (λ has. inr has) (all x (subst (IsDonor t level x) this feeds)))
           ((mark q).0 marked);
     }
 
@@ -88,14 +87,9 @@ module _ (t : Terrain Point) (level : Point → ℤ) (p : Point) where
   }
 
 module _ (t : Terrain Point) (level : Point → ℤ) (lawful : IsLawful t) (p : Point) where
-  -- a step of a flow path is to ground
-  stays : (x : Point) (e : Dir) → IsDirection t level x (Some e) → IsTrue (t.is_ground (step e x))
-  stays x e (inl down) = lawful.to_ground x (step e x) down.lower.beside
-  stays x e (inr across) = lawful.to_ground x (step e x) across.1.1.nearer.beside
-
   flows_on_ground : (x : Point) (k : ℕ) → IsTrue (t.is_ground x) → FlowsTo t level x k p → IsTrue (t.is_ground p)
   flows_on_ground x zero solid flow = subst (λ q. IsTrue (t.is_ground q)) flow solid
-  flows_on_ground x (suc k) solid flow = flows_on_ground (step flow.0 x) k (stays x flow.0 flow.1.0) flow.1.1
+  flows_on_ground x (suc k) solid flow = flows_on_ground (step flow.0 x) k (drains_to_ground t lawful level x flow.0 flow.1.0) flow.1.1
 
   -- the watershed of a point that isn't ground has no run
   pub no_watershed : (runs : List Run) → AreRuns (IsInWatershed t level p) runs → IsFalse (t.is_ground p) → runs ≡ []
@@ -115,7 +109,7 @@ module _ (t : Terrain Point) (level : Point → ℤ) (lawful : IsLawful t) (p : 
     met x zero solid flow = subst Found (sym flow) (up.begins (subst (λ q. IsTrue (t.is_ground q)) flow solid))
     met x (suc k) solid flow =
         let e = flow.0 in
-        up.closed (step e x) x (met (step e x) k (stays x e flow.1.0) flow.1.1) (record { on_ground = solid; drains = (e, (flow.1.0, refl)) })
+        up.closed (step e x) x (met (step e x) k (drains_to_ground t lawful level x e flow.1.0) flow.1.1) (record { on_ground = solid; drains = (e, (flow.1.0, refl)) })
 
     pub found_is_watershed : (x : Point) → Found x ↔ IsInWatershed t level p x
     found_is_watershed x = (

@@ -5,3 +5,6 @@ pub mod Questions
 pub mod Feeding
 pub mod Marks
 pub mod FlowSource
+pub mod Counts
+pub mod Counting
+pub mod CountLaws

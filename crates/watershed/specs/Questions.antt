@@ -13,6 +13,7 @@ use Rattle.lattice.specs.Mosaic.{Mosaic}
 use Rattle.lattice.specs.Height.{height_of}
 use Rattle.lattice.specs.Ground.{is_ground, terrain}
 use Rattle.flow_d8.specs.Drainage.{AreFilledLevels, IsDirection}
+use Rattle.watershed.specs.Counts.{AreUpstreamCounts}
 
 -- the code in replies, 0 off the mosaic
 abbrev pub code_by : Option Dir → ℕ
@@ -48,3 +49,7 @@ pub record AreCodesTo (m : Mosaic) (c : Corner) (count : ℕ) (codes : List ℕ)
 -- .. and of all of them
 abbrev pub AreTileDirections : Mosaic → Corner → List ℕ → Type 0
 AreTileDirections m c codes = AreCodesTo m c (m.side * m.side) codes
+
+-- how many ground points have each sample's point on their flow path
+abbrev pub AreTileCounts : Mosaic → Corner → List ℕ → Type 0
+AreTileCounts m c counts = (level : Point → ℤ) → AreFilledLevels (terrain m) level → AreUpstreamCounts (terrain m) level m.side c counts

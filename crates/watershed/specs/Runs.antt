@@ -1,5 +1,5 @@
 -- A set of points as its maximal runs (this product's own profile).
-use Rattle.std.specs.Prelude.{◌≡◌, ◌⊎◌, ◌↔◌, pos, ◌+ℤ◌, ◌<ℤ◌, ◌≤ℤ◌, List, All, Any, length}
+use Rattle.std.specs.Prelude.{◌≡◌, ◌⊎◌, ◌↔◌, ◌+◌, ℕ, nat_abs, pos, ◌+ℤ◌, ◌-ℤ◌, ◌<ℤ◌, ◌≤ℤ◌, List, All, Any, length}
 use Rattle.std.specs.List.{AllAdjacentBelow}
 use Rattle.lattice.specs.declared.point.Point.{Point}
 use Rattle.watershed.specs.declared.runs.Run.{Run}
@@ -7,6 +7,10 @@ use Rattle.watershed.specs.declared.runs.Run.{Run}
 -- the run has the points of its row y from first to last
 abbrev pub IsInRun : Run → Point → Type 0
 IsInRun r p = (p.y ≡ r.y) × ((r.first ≤ℤ p.x) × (p.x ≤ℤ r.last))
+
+-- how many points a run has
+abbrev pub run_count : Run → ℕ
+run_count r = nat_abs (r.last -ℤ r.first) + 1
 
 -- the point lies in some of the runs
 abbrev pub Cover : List Run → Point → Type 0

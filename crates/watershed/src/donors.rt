@@ -1,18 +1,15 @@
 //! The donors of a point: those that drain straight to it.
-ghost use Rattle.std.specs.Prelude.{◌≡◌, ◌↔◌, ◌⊎◌, ◌<◌, ℤ, IsTrue, IfOk, IfErr, IfSome, OnOk, Contains, Some};
+ghost use Rattle.std.specs.Prelude.{◌≡◌, ◌↔◌, ◌⊎◌, ℤ, IsTrue, IfOk, IfErr, OnOk, Contains, Some};
 ghost use Rattle.lattice.specs.declared.point.Point.{Point};
 ghost use Rattle.lattice.specs.Ground.{terrain};
 ghost use Rattle.lattice.specs.Mosaic.{Mosaic, IsMosaic};
-ghost use Rattle.lattice.specs.Steps.{step, order_of};
-ghost use Rattle.lattice.specs.declared.direction.Dir.{Dir};
-ghost use Rattle.flow_d8.specs.Feeders.{IsFeeder};
+ghost use Rattle.flow_d8.specs.Donors.{AreToldBy, DrainsBack, IsDonor};
 ghost use Rattle.flow_d8.specs.Flows.{direction_of};
 ghost use Rattle.flow_d8.specs.Places.{back_of};
-ghost use Rattle.watershed.specs.Feeding.{DrainsBack, IsDonorAdded};
-ghost use Rattle.watershed.specs.FlowSource.{IsToldOf, AreToldAround};
+ghost use Rattle.watershed.specs.Feeding.{IsDonorAdded};
 
 use crate::flow_source::FlowSource;
-use flow_d8::Flow;
+use flow_d8::{Flow, back};
 use lattice::{DIRECTIONS, Dir, Point, Refusal, neighbour};
 use std::alloc::{AllocError, Global};
 
@@ -25,56 +22,77 @@ pub(crate) fn add_donors<F: FlowSource>(
 ) -> Result<(), Refusal>
     requires { F.is_ready flows.old }
     ensures donors { OnOk result ((m : Mosaic) (level : Point → ℤ) → F.tells flows.new m level
-        → (x : Point) → Contains found.new.items x ↔ (Contains found.old.items x ⊎ IsFeeder (terrain m) level x point)) }
+        → (x : Point) → Contains found.new.items x ↔ (Contains found.old.items x ⊎ IsDonor (terrain m) level x point)) }
     ensures ready { OnOk result (F.is_ready flows.new) }
     ensures follows { F.follows flows.old flows.new }
     ensures keeps { OnOk result (F.keeps flows.old flows.new) }
     ensures refusal { IfErr result (F.refuses flows.old flows.new) }
 {
-    let around = flows.flows_around(point);
+    let donors = donors(alloc, flows, point)?;
     for i in 0..8 {
-        let flow = flow_beside(alloc, flows, point, i, &around)?;
-        add_donor(point, DIRECTIONS[i], flow, found)?;
+        add_donor(point, DIRECTIONS[i], donors[i], found)?;
     }
     Ok(())
 }
 
-// Where the point in the direction with this number drains; NoGround where there is none.
-fn flow_beside<F: FlowSource>(
+/// Of each direction, in their order, whether the point there drains straight to this one.
+pub(crate) fn donors<F: FlowSource>(
     alloc: Global,
     flows: &mut F,
     point: Point,
-    i: usize,
-    around: &Option<[Flow; 8]>,
-) -> Result<Flow, Refusal>
-    requires ready { F.is_ready flows.old }
-    requires small { i < 8 }
-    requires around { IfSome around.now (λ around. (m : Mosaic) (level : Point → ℤ) → F.tells flows.old m level → AreToldAround (terrain m) level point around) }
-    ensures flow { IfOk result (λ flow. (m : Mosaic) (level : Point → ℤ) → F.tells flows.new m level → (d : Dir) → order_of d ≡ i → IsToldOf (terrain m) level (step d point) flow) }
+) -> Result<[bool; 8], Refusal>
+    requires { F.is_ready flows.old }
+    ensures donors { IfOk result (λ donors. (m : Mosaic) (level : Point → ℤ) → F.tells flows.new m level
+        → AreToldBy (DrainsBack (terrain m) level point) donors 8) }
     ensures ready { OnOk result (F.is_ready flows.new) }
     ensures follows { F.follows flows.old flows.new }
     ensures keeps { OnOk result (F.keeps flows.old flows.new) }
     ensures refusal { IfErr result (F.refuses flows.old flows.new) }
 {
-    if let Some(around) = around {
-        return Ok(around[i]);
+    if let Some(donors) = flows.donors_around(point) {
+        return Ok(donors);
     }
-    let Some(beside) = neighbour(point, DIRECTIONS[i]) else {
-        return Ok(Flow::NoGround);
-    };
-    flows.flow(alloc, beside)
+    let mut donors = [false; 8];
+    for i in 0..8 {
+        donors[i] = is_donor(alloc, flows, point, DIRECTIONS[i])?;
+    }
+    Ok(donors)
 }
 
-// Adds the point in the direction, where it drains straight back.
+// Whether the point in the direction drains straight back.
+fn is_donor<F: FlowSource>(
+    alloc: Global,
+    flows: &mut F,
+    point: Point,
+    direction: Dir,
+) -> Result<bool, Refusal>
+    requires { F.is_ready flows.old }
+    ensures donor { IfOk result (λ donor. (m : Mosaic) (level : Point → ℤ) → F.tells flows.new m level
+        → IsTrue donor ↔ DrainsBack (terrain m) level point direction) }
+    ensures ready { OnOk result (F.is_ready flows.new) }
+    ensures follows { F.follows flows.old flows.new }
+    ensures keeps { OnOk result (F.keeps flows.old flows.new) }
+    ensures refusal { IfErr result (F.refuses flows.old flows.new) }
+{
+    let Some(beside) = neighbour(point, direction) else {
+        return Ok(false);
+    };
+    let flow = flows.flow(alloc, beside)?;
+    Ok(leads_back(flow, direction))
+}
+
+// Adds the point in the direction, where it is a donor.
 fn add_donor(
     point: Point,
     direction: Dir,
-    flow: Flow,
+    is_donor: bool,
     found: &mut Vec<Point>,
 ) -> Result<(), AllocError>
-    ensures { OnOk result ((m : Mosaic) (level : Point → ℤ) → IsMosaic m → IsToldOf (terrain m) level (step direction point) flow → IsDonorAdded (DrainsBack (terrain m) level point) point direction found.old.items found.new.items) }
+    ensures { OnOk result ((m : Mosaic) (level : Point → ℤ) → IsMosaic m
+        → IsTrue is_donor ↔ DrainsBack (terrain m) level point direction
+        → IsDonorAdded (DrainsBack (terrain m) level point) point direction found.old.items found.new.items) }
 {
-    if !leads_back(flow, direction) {
+    if !is_donor {
         return Ok(());
     }
     let Some(from) = neighbour(point, direction) else {
@@ -89,19 +107,4 @@ fn leads_back(flow: Flow, direction: Dir) -> bool
     ensures { IsTrue result ↔ (direction_of flow ≡ Some (back_of direction)) }
 {
     flow.direction() == Some(back(direction))
-}
-
-fn back(direction: Dir) -> Dir
-    ensures { result ≡ back_of direction }
-{
-    match direction {
-        Dir::East => Dir::West,
-        Dir::SouthEast => Dir::NorthWest,
-        Dir::South => Dir::North,
-        Dir::SouthWest => Dir::NorthEast,
-        Dir::West => Dir::East,
-        Dir::NorthWest => Dir::SouthEast,
-        Dir::North => Dir::South,
-        Dir::NorthEast => Dir::SouthWest,
-    }
 }

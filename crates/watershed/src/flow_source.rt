@@ -5,7 +5,8 @@ ghost use Rattle.lattice.specs.declared.refusal.Refusal.{Refusal};
 ghost use Rattle.lattice.specs.declared.refusal.Refusal.TheVariants.{NoMemory};
 ghost use Rattle.lattice.specs.Ground.{terrain};
 ghost use Rattle.lattice.specs.Mosaic.{Mosaic, IsMosaic};
-ghost use Rattle.watershed.specs.FlowSource.{IsToldOf, AreToldAround};
+ghost use Rattle.flow_d8.specs.Donors.{AreToldBy, DrainsBack};
+ghost use Rattle.watershed.specs.FlowSource.{IsToldOf};
 
 use flow_d8::Flow;
 use lattice::{Point, Refusal};
@@ -38,12 +39,12 @@ pub trait FlowSource {
         ensures keeps { OnOk result (keeps self.old self.new) }
         ensures refusal { IfErr result (refuses self.old self.new) };
 
-    /// Where the points around this one drain, in the order of the directions, NoGround where one isn't ground; where what is
-    /// at hand tells all of it. Else each has to be asked for.
-    fn flows_around(&self, point: Point) -> Option<[Flow; 8]>
+    /// Of each direction, in their order, whether the point there drains straight to this one, where what is at hand tells it.
+    /// Else each has to be asked for.
+    fn donors_around(&self, point: Point) -> Option<[bool; 8]>
         requires { is_ready self.now }
-        ensures { IfSome result (λ around. (m : Mosaic) (level : Point → ℤ) → tells self.now m level
-            → AreToldAround (terrain m) level point around) };
+        ensures { IfSome result (λ donors. (m : Mosaic) (level : Point → ℤ) → tells self.now m level
+            → AreToldBy (DrainsBack (terrain m) level point) donors 8) };
 
     /// What it tells of is a mosaic.
     ghost is_mosaic: { (a : Self) (m : Mosaic) (level : Point → ℤ) → tells a m level → IsMosaic m };

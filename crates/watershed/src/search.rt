@@ -5,16 +5,16 @@ ghost use Rattle.lattice.specs.declared.refusal.Refusal.TheVariants.{NoMemory};
 ghost use Rattle.lattice.specs.Mosaic.{Mosaic, IsMosaic};
 ghost use Rattle.lattice.specs.Ground.{is_ground, terrain};
 ghost use Rattle.flow_d8.specs.Directions.{AreDirectionsOf};
-ghost use Rattle.flow_d8.specs.Feeders.{IsFeeder};
+ghost use Rattle.flow_d8.specs.Donors.{IsDonor};
 ghost use Rattle.flow_d8.specs.FlowPath.{IsInWatershed};
 ghost use Rattle.flow_d8.specs.declared.flow.Flow.TheVariants.{NoGround};
 ghost use Rattle.watershed.specs.Runs.{AreRuns};
 ghost use Rattle.watershed.specs.Search.{AreUpstream};
 ghost use Rattle.watershed.specs.Marks.{IsMarked, IsIndexed};
 
+use crate::direction_grid::DirectionGrid;
 use crate::donors::add_donors;
 use crate::flow_source::FlowSource;
-use crate::held::Held;
 use crate::marks::Marks;
 use crate::runs::Run;
 use flow_d8::{Directions, Flow};
@@ -30,7 +30,7 @@ pub fn watershed(alloc: Global, directions: &Directions, point: Point) -> Result
         → IsFalse (is_ground m point) → runs.items ≡ []) }
     ensures refusal { IfErr result (λ r. r ≡ NoMemory) }
 {
-    let mut held = Held { directions };
+    let mut held = DirectionGrid { directions };
     watershed_over(alloc, &mut held, point)
 }
 
@@ -89,7 +89,7 @@ fn visit<F: FlowSource>(
     requires indexed { IsIndexed marks.old }
     ensures once { OnOk result ((IsMarked marks.old point × (waiting.new.items ≡ waiting.old.items))
         ⊎ ((IsMarked marks.old point → ⊥) × ((m : Mosaic) (level : Point → ℤ) → F.tells flows.new m level
-        → (x : Point) → Contains waiting.new.items x ↔ (Contains waiting.old.items x ⊎ IsFeeder (terrain m) level x point)))) }
+        → (x : Point) → Contains waiting.new.items x ↔ (Contains waiting.old.items x ⊎ IsDonor (terrain m) level x point)))) }
     ensures marked { OnOk result ((p : Point) → IsMarked marks.new p ↔ (IsMarked marks.old p ⊎ (p ≡ point))) }
     ensures indexed { OnOk result (IsIndexed marks.new) }
     ensures ready { OnOk result (F.is_ready flows.new) }
@@ -121,7 +121,7 @@ fn start<F: FlowSource>(alloc: Global, flows: &mut F, point: Point) -> Result<Ve
     Ok(Vec::from_slice(alloc, &[point])?)
 }
 
-fn is_no_ground(flow: Flow) -> bool
+pub(crate) fn is_no_ground(flow: Flow) -> bool
     ensures { IsTrue result ↔ (flow ≡ NoGround) }
 {
     matches!(flow, Flow::NoGround)

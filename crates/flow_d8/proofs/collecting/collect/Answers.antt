@@ -1,82 +1,69 @@
-use Rattle.std.proofs.Common.{◌≡◌, ◌<◌, length, get_or, inl, inr, sym, ap, ◌∙◌, subst, arith, IfSome, IfNone, slice_index_or}
-use Rattle.std.proofs.lemmas.Bool.{cases_eq}
-use Rattle.std.proofs.lemmas.List.{get_or_default}
-use Rattle.flow_d8.specs.Prelude.{Dir, Unknown}
+use Rattle.std.proofs.Common.{◌≡◌, ◌++◌, [], ◌∷◌, ℕ, length, ⊎_elim, sym, ◌∙◌, subst, arith, IfSome, IfNone, slice_index_or}
+use Rattle.flow_d8.specs.Prelude.{Dir, Point, Unknown}
 use Rattle.flow_d8.specs.Filled.{number_of}
-use Rattle.flow_d8.specs.Flows.{IsOfFlat}
-use Rattle.flow_d8.specs.Component.{Connects}
+use Rattle.flow_d8.specs.Marks.{IsIn, IsMember, IsSettled, AreWaiting}
 use Rattle.flow_d8.specs.Resolution.{IsUnknownBeside}
 use Rattle.flow_d8.specs.Tiles.{by_of}
-use Rattle.flow_d8.specs.Marks.{IsSettled}
-use Rattle.flow_d8.proofs.Listing.{settled_on}
+use Rattle.flow_d8.proofs.Waves.Runs.{covers_still, covers_last, rows_before, row_last, found_listed, open_on}
 use Rattle.flow_d8.proofs.collecting.collect.Goals as goal
 
-pub queue-preserved : goal.queue-preserved
-queue-preserved c =
-    let was = c.queue.invariant in
+pub visit_run-requires-clause-row : goal.visit_run-requires-clause-row
+visit_run-requires-clause-row c = row_last c.pop.new.self.items c.runs.waiting.items c.in-Some.run' c.in-Some.ensures.items c.args.tiles.now.side c.runs.invariant.awaited.rows
+
+pub visit_run-requires-clause-members : goal.visit_run-requires-clause-members
+visit_run-requires-clause-members c k in_it = c.runs.invariant.awaited.members k (covers_last c.pop.new.self.items c.runs.waiting.items c.in-Some.run' c.in-Some.ensures.items k in_it)
+
+pub visit_run-requires-clause-flats : goal.visit_run-requires-clause-flats
+visit_run-requires-clause-flats c = c.runs.invariant.found.flat
+
+pub returns-in-Some-2-clause-listed : goal.returns-in-Some-2-clause-listed
+returns-in-Some-2-clause-listed c = found_listed c.args.tiles.now c.args.flows.now c.args.seed c.visit_run.new.marks c.visit_run.new.runs.items (c.in_ok-met.ensures.grows.found c.args.seed c.runs.invariant.found)
+
+pub returns-clause-listed : goal.returns-clause-listed
+returns-clause-listed c = found_listed c.args.tiles.now c.args.flows.now c.args.seed c.runs.marks c.runs.runs.items c.runs.invariant.found
+
+pub runs-preserved : goal.runs-preserved
+runs-preserved c =
+    let was = c.runs.invariant in
+    let t = c.args.tiles.now in
     let flows = c.args.flows.now in
-    let by = by_of c.args.tiles.now in
-    let marks = c.queue.marks in
-    let queue = c.queue.members.items in
-    let new = c.visit_around.new.marks in
-    let longer = c.visit_around.new.queue.items in
-    let grows = c.visit_around.ensures.grows in
-    let head = c.queue.head in
-    let small : head < length queue = omega (arith, c.len.ensures, c.queue-test.true) in
-    let from : c.index.result.now ≡ get_or queue head 0 = c.index.ensures ∙ get_or_default queue head c.index.result.now 0 small in
-    let settled : (d : Dir) → IsSettled flows new (by c.index.result.now d) = subst (λ o. IfNone o ((d : Dir) → IsSettled flows new (by c.index.result.now d))) c.in_default.is c.in_ok-met.ensures.settled in
+    let rest = c.pop.new.self.items in
+    let run = c.in-Some.run' in
+    let at : c.runs.waiting.items ≡ rest ++ (run ∷ []) = c.in-Some.ensures.items in
+    let new = c.visit_run.new.marks in
+    let grows = c.in_ok-met.ensures.grows in
+    let rest_waits : AreWaiting t.side c.runs.marks rest = record { members = λ k covers. was.awaited.members k (covers_still rest c.runs.waiting.items run at k covers); rows = rows_before rest c.runs.waiting.items run at t.side was.awaited.rows } in
+    let settled : (k : ℕ) (d : Dir) → IsIn run k → IsSettled flows new (by_of t k d) = subst (λ o. IfNone o ((k : ℕ) (d : Dir) → IsIn run k → IsSettled flows new (by_of t k d))) c.in_default-2.is c.in_ok-met.ensures.settled in
     record {
       whole = grows.whole ∙ was.whole;
-      seed = grows.kept c.args.seed was.seed;
-      listing = grows.listing was.listing;
-      connected = grows.connected c.args.seed was.connected;
-      within = omega (arith, grows.longer);
-      done = λ i d less. elim (cases_eq i head) [
-        | inl same ↦
-            let at : get_or longer i 0 ≡ c.index.result.now = grows.before i (omega arith) ∙ ap (λ n. get_or queue n 0) same ∙ sym from in
-            subst (λ q. IsSettled flows new (by q d)) (sym at) (settled d)
-        | inr other ↦
-            let before : i < head = omega arith in
-            subst (λ q. IsSettled flows new (by q d)) (sym (grows.before i (omega arith)))
-            (settled_on by flows marks queue new longer (by (get_or queue i 0) d) grows (was.done i d before))
-      ];
+      begun = grows.kept c.args.seed was.begun;
+      found = grows.found c.args.seed was.found;
+      awaited = grows.awaited rest_waits;
+      unsettled = open_on t flows c.runs.marks c.runs.runs.items c.runs.waiting.items rest run new c.visit_run.new.runs.items c.visit_run.new.waiting.items at was.unsettled grows settled;
     }
 
-pub visit_around-requires-clause-flat : goal.visit_around-requires-clause-flat
-visit_around-requires-clause-flat c =
-    let queue = c.queue.members.items in
-    let head = c.queue.head in
-    let small : head < length queue = omega (arith, c.len.ensures, c.queue-test.true) in
-    let from : c.index.result.now ≡ get_or queue head 0 = c.index.ensures ∙ get_or_default queue head c.index.result.now 0 small in
-    subst (λ n. IsOfFlat (slice_index_or c.args.flows.now n Unknown)) (sym from) (c.queue.invariant.listing.flat head small)
-
-pub visit_around-requires-clause-listed : goal.visit_around-requires-clause-listed
-visit_around-requires-clause-listed c =
-    let queue = c.queue.members.items in
-    let head = c.queue.head in
-    let small : head < length queue = omega (arith, c.len.ensures, c.queue-test.true) in
-    (head, (small, sym (c.index.ensures ∙ get_or_default queue head c.index.result.now 0 small)))
-
-pub returns-in-Some-clause-met : goal.returns-in-Some-clause-met
+pub returns-in-Some-2-clause-met : goal.returns-in-Some-2-clause-met
 unfolding by_of
-returns-in-Some-clause-met c =
+returns-in-Some-2-clause-met c =
     let tiles = c.args.tiles.now in
     let flows = c.args.flows.now in
-    let queue = c.queue.members.items in
-    let head = c.queue.head in
-    let small : head < length queue = omega (arith, c.len.ensures, c.queue-test.true) in
-    let from : c.index.result.now ≡ get_or queue head 0 = c.index.ensures ∙ get_or_default queue head c.index.result.now 0 small in
-    let met : IsUnknownBeside tiles flows c.index.result.now c.in-Some.met = subst (λ o. IfSome o (IsUnknownBeside tiles flows c.index.result.now)) c.in-Some.is c.in_ok-met.ensures.met in
-    let joined = c.queue.invariant.connected head small in
+    let run = c.in-Some.run' in
+    let met : (k : ℕ) × (IsIn run k × IsUnknownBeside tiles flows k c.in-Some-2.met) = subst (λ o. IfSome o (λ (q : Point). (k : ℕ) × (IsIn run k × IsUnknownBeside tiles flows k q))) c.in-Some-2.is c.in_ok-met.ensures.met in
+    let k = met.0 in
+    let beside = met.1.1 in
+    let member : IsMember c.runs.marks k = c.runs.invariant.awaited.members k (covers_last c.pop.new.self.items c.runs.waiting.items run c.in-Some.ensures.items k met.1.0) in
+    let joined = c.runs.invariant.found.joined k member in
     record {
-      beside = (
-        joined.0,
-        c.index.result.now,
-        met.0,
-        (
-          subst (Connects flows (by_of tiles) c.args.seed joined.0) (sym from) joined.1,
-          (subst (λ n. IsOfFlat (slice_index_or flows n Unknown)) (sym from) (c.queue.invariant.listing.flat head small), met.1.0),
-        ),
-      );
-      nothing = subst (λ q. slice_index_or flows (number_of tiles.side tiles.corners q) Unknown ≡ Unknown) (sym met.1.0) met.1.1;
+      beside = (joined.0, k, beside.0, (joined.1, (c.runs.invariant.found.flat k member, beside.1.0)));
+      nothing = subst (λ q. slice_index_or flows (number_of tiles.side tiles.corners q) Unknown ≡ Unknown) (sym beside.1.0) beside.1.1;
+    }
+
+pub returns-clause-collected : goal.returns-clause-collected
+returns-clause-collected c =
+    let was = c.runs.invariant in
+    let none : length c.runs.waiting.items ≡ 0 = omega (arith, c.in_default.ensures.cases.0, c.runs.waiting.ok.0) in
+    record {
+      begun = was.begun;
+      found = was.found;
+      closed = λ k d member. ⊎_elim (λ covers. absurd (omega (arith, none, covers.1.0))) (λ settled. settled d) (was.unsettled k member);
     }

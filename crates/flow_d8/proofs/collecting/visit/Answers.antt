@@ -1,7 +1,14 @@
-use Rattle.std.proofs.Common.{sym}
-use Rattle.flow_d8.specs.Tiles.{by_of}
-use Rattle.flow_d8.proofs.Listing.{connects_on}
+use Rattle.std.proofs.Common.{suc, sym, ◌∙◌, subst}
+use Rattle.flow_d8.specs.Marks.{IsMember, IsSettled}
+use Rattle.flow_d8.proofs.Sayings.Said.{is_known}
 use Rattle.flow_d8.proofs.collecting.visit.Goals as goal
 
-pub add-requires-clause-connected : goal.add-requires-clause-connected
-add-requires-clause-connected c = connects_on (by_of c.args.tiles.now) c.args.flows.now c.args.queue.now.items c.args.from c.args.direction c.step-to.result c.requires.listed c.requires.flat (sym c.step-to.ensures.value)
+pub returns-then-mark-ne-FREE-clause-settled : goal.returns-then-mark-ne-FREE-clause-settled
+returns-then-mark-ne-FREE-clause-settled c _ =
+    let member : IsMember c.args.marks.now c.step-to.result = λ out. c.if-mark-ne-FREE.true (c.mark.ensures ∙ out) in
+    subst (IsSettled c.args.flows.now c.args.marks.now) c.step-to.ensures.value (record { known = is_known _ (c.requires.flats c.step-to.result member); member = λ flat. member })
+
+pub add-requires-clause-joined : goal.add-requires-clause-joined
+add-requires-clause-joined c seed found =
+    let before = found.joined c.args.from c.requires.member in
+    (suc before.0, (c.args.from, c.args.direction, (before.1, (c.requires.flats c.args.from c.requires.member, sym c.step-to.ensures.value))))

@@ -6,6 +6,6 @@ use Rattle.flow_d8.proofs.collecting.visit_around.Given as goal
 
 abbrev pub invariant-loop-i : goal.invariant-loop-i
 invariant-loop-i l = record {
-  grows : Grows (by_of l.tiles) l.flows l.fn.marks l.fn.queue.items l.marks l.queue.items;
+  grows : Grows l.tiles l.flows l.fn.marks l.fn.runs.items l.fn.waiting.items l.marks l.runs.items l.waiting.items;
   settled : (d : Dir) → order_of d < l.i → IsSettled l.flows l.marks (by_of l.tiles l.from d);
 }

@@ -4,7 +4,7 @@ use Rattle.std.proofs.lemmas.List.Elements.{Contains-get_or}
 use Rattle.lattice.specs.Corners.{Corner}
 use Rattle.flow_d8.specs.FlowGrids.{AreTileFlows}
 use Rattle.flow_d8.specs.Tiles.{no_corner}
-use Rattle.flow_d8.proofs.GridFacts.{grid_push}
+use Rattle.flow_d8.proofs.Samples.GridFacts.{grid_push}
 use Rattle.flow_d8.proofs.filled.prepare_all.Goals as goal
 
 pub loop-tile-preserved : goal.loop-tile-preserved

@@ -4,7 +4,7 @@ use Rattle.flow_d8.specs.FlowGrids.{AreTileFlows}
 use Rattle.flow_d8.specs.Levels.{filled_of}
 use Rattle.flow_d8.specs.Padded.{ArePadded, IsPaddedTile}
 use Rattle.flow_d8.specs.Tiles.{no_corner}
-use Rattle.flow_d8.proofs.LevelsOf.{padded_is, tile_present}
+use Rattle.flow_d8.proofs.Mosaics.LevelsOf.{padded_is, tile_present}
 use Rattle.flow_d8.proofs.filled.prepare_tile.Goals as goal
 
 pub returns-clause-flows : goal.returns-clause-flows

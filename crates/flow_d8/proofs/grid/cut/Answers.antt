@@ -1,4 +1,4 @@
-use Rattle.std.proofs.Common.{◌≡◌, ℕ, ◌+◌, ◌*◌, ◌<◌, ◌≤◌, List, ◌++◌, length, take, drop, get_or, ap, ◌∙◌, arith}
+use Rattle.std.proofs.Common.{◌≡◌, ℕ, ◌+◌, ◌*◌, ◌<◌, ◌≤◌, List, ◌++◌, length, take, drop, get_or, ap, ◌∙◌, subst, arith}
 use Rattle.std.proofs.lemmas.Grind.{rows}
 use Rattle.std.proofs.lemmas.List.{get_or-take, length-take-le, with_items_is}
 use Rattle.flow_d8.specs.Prelude.{Flow, Unknown}
@@ -28,12 +28,13 @@ returns c =
     let same : take v.len (ws ++ drop (length ws) v.items) ≡ ws = with_items_is v ws (m.whole ∙ c.deref_mut.ensures.len) in
     let is : c.truncate.new.self.items ≡ take n ws = c.truncate.ensures.items ∙ ap (λ (l : List Flow). take n l) same in
     let all : length ws ≡ n + c.args.area = m.whole ∙ ap (λ (l : List Flow). length l) c.deref_mut.ensures.value ∙ c.requires.whole in
+    let whole = ap (λ (l : List Flow). length l) is ∙ length-take-le n ws (omega (arith, all)) in
     record {
-      whole = ap (λ (l : List Flow). length l) is ∙ length-take-le n ws (omega (arith, all));
+      whole = whole;
       moved = λ less e small.
           ap (λ (l : List Flow). get_or l (c.args.slot * c.args.area + e) Unknown) is
           ∙ get_or-take n ws (c.args.slot * c.args.area + e) Unknown (within c.args.slot e c.args.last c.args.area less small)
           ∙ m.moved e small ∙ ap (λ (l : List Flow). get_or l (n + e) Unknown) c.deref_mut.ensures.value;
       others = λ k small off.
-          ap (λ (l : List Flow). get_or l k Unknown) is ∙ get_or-take n ws k Unknown small ∙ m.others k off ∙ ap (λ (l : List Flow). get_or l k Unknown) c.deref_mut.ensures.value;
+          ap (λ (l : List Flow). get_or l k Unknown) is ∙ get_or-take n ws k Unknown (subst (λ m. k < m) whole small) ∙ m.others k off ∙ ap (λ (l : List Flow). get_or l k Unknown) c.deref_mut.ensures.value;
     }

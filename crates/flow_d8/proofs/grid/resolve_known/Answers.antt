@@ -4,10 +4,10 @@ use Rattle.flow_d8.specs.Flows.{IsFlow}
 use Rattle.flow_d8.specs.declared.flow.Flow.TheVariants.{Unknown}
 use Rattle.flow_d8.specs.Resolution.{IsOutcome, IsMetOnGround}
 use Rattle.flow_d8.specs.Tiles.{count_of}
-use Rattle.flow_d8.proofs.AtHand.{at_hand_below, sample_at_hand}
-use Rattle.flow_d8.proofs.Draining.{drains_at, resolved_sample, known_still}
-use Rattle.flow_d8.proofs.TilePlaces.{place_number}
-use Rattle.flow_d8.proofs.Told.{twin_flat}
+use Rattle.flow_d8.proofs.Samples.AtHand.{at_hand_below, sample_at_hand}
+use Rattle.flow_d8.proofs.Sayings.Draining.{drains_at, resolved_sample, known_still}
+use Rattle.flow_d8.proofs.Samples.TilePlaces.{place_number}
+use Rattle.flow_d8.proofs.Sayings.Told.{twin_flat}
 use Rattle.flow_d8.proofs.grid.resolve_known.Goals as goal
 
 pub returns-in_err-met-clause-known : goal.returns-in_err-met-clause-known

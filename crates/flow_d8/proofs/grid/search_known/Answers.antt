@@ -4,8 +4,8 @@ use Rattle.flow_d8.specs.Filled.{number_of}
 use Rattle.flow_d8.specs.Flows.{LiesInside}
 use Rattle.flow_d8.specs.Resolution.{IsMissing}
 use Rattle.flow_d8.specs.Tiles.{place_of, by_of}
-use Rattle.flow_d8.proofs.AtHand.{at_hand_below}
-use Rattle.flow_d8.proofs.Sayings.{inside_of, no_outlet}
+use Rattle.flow_d8.proofs.Samples.AtHand.{at_hand_below}
+use Rattle.flow_d8.proofs.Sayings.Said.{inside_of, no_outlet}
 use Rattle.flow_d8.proofs.grid.search_known.Goals as goal
 
 pub returns-in-Some : goal.returns-in-Some

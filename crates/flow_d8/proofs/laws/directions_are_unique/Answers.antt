@@ -1,7 +1,7 @@
 use Rattle.flow_d8.specs.Prelude.{terrain, void}
-use Rattle.flow_d8.proofs.MosaicGrid.{mosaic_is_grid}
-use Rattle.flow_d8.proofs.Exists.{direction_exists}
-use Rattle.flow_d8.proofs.Unique.{one_direction}
+use Rattle.flow_d8.proofs.Mosaics.MosaicGrid.{mosaic_is_grid}
+use Rattle.flow_d8.proofs.Paths.Exists.{direction_exists}
+use Rattle.flow_d8.proofs.Paths.Unique.{one_direction}
 use Rattle.flow_d8.proofs.laws.directions_are_unique.Goals as goal
 
 pub returns : goal.returns

@@ -1,7 +1,7 @@
 use Rattle.flow_d8.specs.Prelude.{terrain, void}
-use Rattle.flow_d8.proofs.MosaicGrid.{mosaic_is_grid}
-use Rattle.flow_d8.proofs.Exists.{distance_exists}
-use Rattle.flow_d8.proofs.Unique.{one_distance}
+use Rattle.flow_d8.proofs.Mosaics.MosaicGrid.{mosaic_is_grid}
+use Rattle.flow_d8.proofs.Paths.Exists.{distance_exists}
+use Rattle.flow_d8.proofs.Paths.Unique.{one_distance}
 use Rattle.flow_d8.proofs.laws.flat_distances_are_unique.Goals as goal
 
 pub returns : goal.returns

@@ -1,6 +1,6 @@
 use Rattle.flow_d8.specs.Prelude.{terrain, void}
-use Rattle.flow_d8.proofs.MosaicGrid.{mosaic_is_grid}
-use Rattle.flow_d8.proofs.FlowPaths.{flow_path_exists, one_flow_path}
+use Rattle.flow_d8.proofs.Mosaics.MosaicGrid.{mosaic_is_grid}
+use Rattle.flow_d8.proofs.Paths.FlowPaths.{flow_path_exists, one_flow_path}
 use Rattle.flow_d8.proofs.laws.flow_paths_are_unique.Goals as goal
 
 pub returns : goal.returns

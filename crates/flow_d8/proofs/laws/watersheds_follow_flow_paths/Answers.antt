@@ -1,6 +1,6 @@
 use Rattle.flow_d8.specs.Prelude.{terrain, void}
-use Rattle.flow_d8.proofs.MosaicGrid.{mosaic_is_grid}
-use Rattle.flow_d8.proofs.FlowPaths.{flow_path_exists, on_path, from_path}
+use Rattle.flow_d8.proofs.Mosaics.MosaicGrid.{mosaic_is_grid}
+use Rattle.flow_d8.proofs.Paths.FlowPaths.{flow_path_exists, on_path, from_path}
 use Rattle.flow_d8.proofs.laws.watersheds_follow_flow_paths.Goals as goal
 
 pub returns : goal.returns

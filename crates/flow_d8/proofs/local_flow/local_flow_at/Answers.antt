@@ -4,7 +4,7 @@ use Rattle.std.proofs.lemmas.Bool.{cases_Bool, cond-true, cond-false}
 use Rattle.std.proofs.lemmas.Int.{ints, to_z-of_z}
 use Rattle.flow_d8.specs.Prelude.{Point, Dir, Terrain, void}
 use Rattle.flow_d8.specs.LevelGrid.{level_beside, IsLevelGrid}
-use Rattle.flow_d8.proofs.SteepestStep.{none_lower, all_beside, beside_void, beside_level, steepest_of_all, none_of_all}
+use Rattle.flow_d8.proofs.Steps.SteepestStep.{none_lower, all_beside, beside_void, beside_level, steepest_of_all, none_of_all}
 use Rattle.flow_d8.proofs.local_flow.local_flow_at.Goals as goal
 
 module _ (t : Terrain Point) (level : Point → ℤ) (p : Point) where
@@ -39,16 +39,16 @@ pub returns-then-best-gt0-clause-so : goal.returns-then-best-gt0-clause-so
 returns-then-best-gt0-clause-so c t level p levelled shown =
     let here = ground_of t level p (slice_index_or c.args.levels.now c.args.k void) shown.here c.is_void.result c.is_void.ensures c.if-is_void.false in
     let best = c.steepest_at-best.ensures t level p levelled here.1 (shown.around here.0) in
-    (here.0, steepest_of_all t level p levelled c.steepest_at-best.result best c.if-best-gt0.true)
+    (here.0, steepest_of_all t level p c.steepest_at-best.result best c.if-best-gt0.true)
 
 pub returns-in-Some-clause-so : goal.returns-in-Some-clause-so
 returns-in-Some-clause-so c t level p levelled shown =
     let here = ground_of t level p (slice_index_or c.args.levels.now c.args.k void) shown.here c.is_void.result c.is_void.ensures c.if-is_void.false in
     let best = c.steepest_at-best.ensures t level p levelled here.1 (shown.around here.0) in
-    (here.0, none_of_all t level p levelled c.steepest_at-best.result best (omega arith), (c.in-Some.field-0, beside_void t level p levelled c.in-Some.field-0 (sym (shown.around here.0 c.in-Some.field-0) ∙ c.in-Some.ensures)))
+    (here.0, none_of_all t level p c.steepest_at-best.result best (levelled.steps p) (omega arith), (c.in-Some.field-0, beside_void t level p levelled c.in-Some.field-0 (sym (shown.around here.0 c.in-Some.field-0) ∙ c.in-Some.ensures)))
 
 pub returns-in-None-clause-so : goal.returns-in-None-clause-so
 returns-in-None-clause-so c t level p levelled shown =
     let here = ground_of t level p (slice_index_or c.args.levels.now c.args.k void) shown.here c.is_void.result c.is_void.ensures c.if-is_void.false in
     let best = c.steepest_at-best.ensures t level p levelled here.1 (shown.around here.0) in
-    (here.0, none_of_all t level p levelled c.steepest_at-best.result best (omega arith), (λ d. beside_level t level p levelled d (λ none. c.in-None.ensures d (shown.around here.0 d ∙ none))))
+    (here.0, none_of_all t level p c.steepest_at-best.result best (levelled.steps p) (omega arith), (λ d. beside_level t level p levelled d (λ none. c.in-None.ensures d (shown.around here.0 d ∙ none))))

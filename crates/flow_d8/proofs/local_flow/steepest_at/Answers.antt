@@ -1,13 +1,13 @@
 use Rattle.std.proofs.Common.{◌≡◌, w16, to_z, of_z, sym, ◌∙◌}
 use Rattle.std.proofs.lemmas.Int.{to_z-of_z}
 use Rattle.lattice.specs.declared.direction.Dir.TheVariants.{East, SouthEast, South, SouthWest, West, NorthWest, North, NorthEast}
-use Rattle.flow_d8.proofs.SteepestStep.{begun}
+use Rattle.flow_d8.proofs.Steps.SteepestStep.{begun}
 use Rattle.flow_d8.proofs.local_flow.steepest_at.Goals as goal
 
 pub returns : goal.returns
 returns c t level p levelled here around =
     let height_is : level p ≡ to_z w16 (of_z w16 c.at-height.result) = here ∙ sym c.at-height.ensures ∙ sym (to_z-of_z w16 c.at-height.result (record { sfits = c.at-height.type_inv })) in
-    let b1 = c.better-best.ensures t level p levelled (around East) height_is (begun t level p levelled East) in
+    let b1 = c.better-best.ensures t level p levelled (around East) height_is (begun t level p East) in
     let b2 = c.better-best-2.ensures t level p levelled (around SouthEast) height_is b1 in
     let b3 = c.better-best-3.ensures t level p levelled (around South) height_is b2 in
     let b4 = c.better-best-4.ensures t level p levelled (around SouthWest) height_is b3 in

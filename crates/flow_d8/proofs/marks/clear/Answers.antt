@@ -1,35 +1,35 @@
-use Rattle.std.proofs.Common.{◌<◌, length, get_or, inl, inr, ⊎_elim, sym, ap, ◌∙◌, arith}
+use Rattle.std.proofs.Common.{inl, inr, ⊎_elim, ap, ◌∙◌, subst, arith, slice_index_or}
 use Rattle.std.proofs.lemmas.Bool.{cases_eq}
-use Rattle.std.proofs.lemmas.List.{get_or-set_same, get_or-set_other, length-set}
-use Rattle.flow_d8.specs.Marks.{mark_at}
+use Rattle.flow_d8.specs.Marks.{mark_at, IsIn, no_run}
+use Rattle.flow_d8.specs.declared.marks.Run.{Run}
+use Rattle.flow_d8.proofs.Waves.Runs.{in_or_not}
 use Rattle.flow_d8.proofs.marks.clear.Goals as goal
+
+pub loop-i-init : goal.loop-i-init
+loop-i-init c = record { whole = omega arith; left = λ k member. let at = c.requires.listed k member in (at.0, (omega arith, (at.1.0, at.1.1))) }
+
+pub clear_run-requires : goal.clear_run-requires
+clear_run-requires c k in_it = omega (arith, c.loop-i.invariant.whole, c.requires.small k (c.loop-i.i, (c.loop-i-test.true, in_it)))
 
 pub loop-i-preserved : goal.loop-i-preserved
 loop-i-preserved c =
     let was = c.loop-i.invariant in
-    let marked = c.args.marked.now in
-    let marks = c.loop-i.marks in
-    let i = c.loop-i.i in
-    let to = get_or marked i 0 in
-    let small : to < length marks = omega (arith, was.whole, c.requires.small i c.loop-i-test.true) in
+    let run : Run = slice_index_or c.args.runs.now c.loop-i.i no_run in
     record {
-      whole = length-set marks to 3 ∙ was.whole;
-      cleared = λ j less. elim (cases_eq (get_or marked j 0) to) [
-        | inl same ↦ ap (mark_at _) same ∙ get_or-set_same marks to 3 3 small
-        | inr other ↦
-            let before : j < i = elim (cases_eq j i) [ inl here ↦ absurd (other (ap (λ n. get_or marked n 0) here)) | inr apart ↦ omega arith ] in
-            get_or-set_other marks to (get_or marked j 0) 3 3 other ∙ was.cleared j before
-      ];
-      others = λ k. elim (cases_eq k to) [
-        | inl same ↦ inr (ap (mark_at _) same ∙ get_or-set_same marks to 3 3 small)
-        | inr other ↦ let still = get_or-set_other marks to k 3 3 other in ⊎_elim (λ old. inl (still ∙ old)) (λ free. inr (still ∙ free)) (was.others k)
-      ];
+      whole = c.clear_run.ensures.whole ∙ was.whole;
+      left = λ k member. ⊎_elim
+          (λ in_it. absurd (member (c.clear_run.ensures.here k in_it)))
+          (λ apart.
+          let at = was.left k (λ out. member (c.clear_run.ensures.others k apart ∙ out)) in
+          elim (cases_eq at.0 c.loop-i.i) [
+            | inl same ↦ absurd (apart (subst (λ (r : Run). IsIn r k) (ap (λ i. slice_index_or c.args.runs.now i no_run) same) at.1.1.1))
+            | inr other ↦ (at.0, (omega (arith, at.1.0), at.1.1))
+          ])
+          (in_or_not run k);
     }
 
 pub returns-clause-free : goal.returns-clause-free
-returns-clause-free c k = elim (cases_eq (mark_at c.args.marks.now k) 3) [
-  | inl free ↦ ⊎_elim (λ old. old ∙ free) (λ now. now) (c.loop-i.invariant.others k)
-  | inr member ↦
-      let at = c.requires.listed k member in
-      ap (mark_at c.loop-i.marks) (sym at.1.1) ∙ c.loop-i.invariant.cleared at.0 (omega (arith, at.1.0, c.loop-i-test.false))
+returns-clause-free c k = elim (cases_eq (mark_at c.loop-i.marks k) 3) [
+  | inl out ↦ out
+  | inr member ↦ let at = c.loop-i.invariant.left k member in absurd (omega (arith, at.1.0, at.1.1.0, c.loop-i-test.false))
 ]

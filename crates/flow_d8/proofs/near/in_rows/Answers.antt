@@ -2,7 +2,7 @@ use Rattle.std.proofs.Common.{rules, SFits, w16, to_z, of_z, ◌≡◌, ℤ, Non
 use Rattle.std.proofs.lemmas.Int.{to_z-of_z}
 use Rattle.std.proofs.lemmas.Bool.{cond-true}
 use Rattle.flow_d8.specs.Prelude.{East, SouthEast, South, SouthWest, West, NorthWest, North, NorthEast, void}
-use Rattle.flow_d8.proofs.ThreeRows.{rows_shown, beside_read}
+use Rattle.flow_d8.proofs.Steps.ThreeRows.{rows_shown, beside_read}
 use Rattle.flow_d8.proofs.near.in_rows.Goals as goal
 
 read : (v : ℤ) → SFits w16 v → to_z w16 (of_z w16 v) ≡ v

@@ -3,7 +3,7 @@ use Rattle.std.specs.List.{list_any}
 use Rattle.std.proofs.lemmas.Int.{to_z-of_z}
 use Rattle.lattice.specs.Corners.{Corner, is_corner, same_corner}
 use Rattle.flow_d8.specs.Levels.{filled_of}
-use Rattle.flow_d8.proofs.LevelsOf.{has_tile, no_such_corner}
+use Rattle.flow_d8.proofs.Mosaics.LevelsOf.{has_tile, no_such_corner}
 use Rattle.flow_d8.proofs.padding.is_present_at.Goals as goal
 
 corner_at : ℤ → ℤ → Corner

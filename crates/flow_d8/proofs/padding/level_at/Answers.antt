@@ -4,7 +4,7 @@ use Rattle.std.proofs.lemmas.List.{get_or_past}
 use Rattle.lattice.specs.Mosaic.{void}
 use Rattle.flow_d8.specs.Filled.{number_of}
 use Rattle.flow_d8.specs.Levels.{filled_of}
-use Rattle.flow_d8.proofs.LevelsOf.{level_by, any_sinks}
+use Rattle.flow_d8.proofs.Mosaics.LevelsOf.{level_by, any_sinks}
 use Rattle.flow_d8.proofs.padding.level_at.Goals as goal
 
 pub returns-then-number-levels : goal.returns-then-number-levels

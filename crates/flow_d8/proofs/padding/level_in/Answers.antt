@@ -1,19 +1,9 @@
-use Rattle.std.proofs.Common.{◌≡◌, ◌+◌, ◌-◌, get_or, w16, sym, ap₂, ◌∙◌, subst, arith}
+use Rattle.std.proofs.Common.{get_or, w16, sym, ap₂, ◌∙◌, subst}
 use Rattle.std.proofs.lemmas.Int.{to_z-of_z}
 use Rattle.flow_d8.specs.Levels.{filled_of, IsLevelIn}
 use Rattle.flow_d8.specs.Padded.{padded_point}
 use Rattle.flow_d8.specs.Tiles.{no_corner}
 use Rattle.flow_d8.proofs.padding.level_in.Goals as goal
-
-pub returns-then-column-n : goal.returns-then-column-n
-returns-then-column-n c sinks =
-    let t = c.args.tiles.now in
-    let f = filled_of t c.args.levels.now sinks in
-    let corner = get_or t.corners c.args.tile no_corner in
-    let row : c.args.row - 2 + 2 ≡ c.args.row = omega (arith, c.if-row-ge2.true) in
-    let column : c.args.column - 2 + 2 ≡ c.args.column = omega (arith, c.if-column-ge2.true) in
-    subst (IsLevelIn f (padded_point t.side corner c.args.row c.args.column)) (sym (to_z-of_z w16 c.level_inside.result (record { sfits = c.level_inside.type_inv })))
-    (subst (λ q. IsLevelIn f q c.level_inside.result) (ap₂ (λ i j. padded_point t.side corner i j) row column) (c.level_inside.ensures sinks))
 
 pub returns : goal.returns
 returns c sinks =
@@ -22,4 +12,4 @@ returns c sinks =
     let corner = get_or t.corners c.args.tile no_corner in
     subst (IsLevelIn f (padded_point t.side corner c.args.row c.args.column)) (sym (to_z-of_z w16 c.level_at.result (record { sfits = c.level_at.type_inv })))
     (subst (λ q. IsLevelIn f q c.level_at.result)
-    (c.padded_point-point.ensures ∙ ap₂ (λ k d. padded_point k d c.args.row c.args.column) c.side-2.ensures.value c.corner.ensures) (c.level_at.ensures sinks))
+    (c.padded_point-point.ensures ∙ ap₂ (λ k d. padded_point k d c.args.row c.args.column) c.side.ensures.value c.corner.ensures) (c.level_at.ensures sinks))

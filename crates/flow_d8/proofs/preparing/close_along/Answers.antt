@@ -2,7 +2,7 @@ use Rattle.std.proofs.Common.{◌≡◌, ℕ, ◌+◌, ◌-◌, ◌*◌, ℤ, fa
 use Rattle.flow_d8.specs.Prelude.{Dir, East, South, West, North, Flow}
 use Rattle.flow_d8.specs.declared.preparing.Sides.{Sides}
 use Rattle.flow_d8.specs.Preparing.{flow_in, IsClosedAt, along_of, IsClosedFlow, IsClosing}
-use Rattle.flow_d8.proofs.Closing.{closed_still}
+use Rattle.flow_d8.proofs.Padded.Closing.{closed_still}
 use Rattle.flow_d8.proofs.preparing.close_along.Goals as goal
 
 module _ (n : ℕ) (levels : List ℤ) (sides : Sides) where

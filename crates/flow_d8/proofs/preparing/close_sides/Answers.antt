@@ -3,7 +3,7 @@ use Rattle.std.proofs.lemmas.Bool.{cases_lt}
 use Rattle.flow_d8.specs.Preparing.{IsClosedAt, along_of}
 use Rattle.flow_d8.specs.declared.preparing.Sides.{Sides}
 use Rattle.flow_d8.specs.Prelude.{Dir, SouthEast, SouthWest, NorthWest, NorthEast}
-use Rattle.flow_d8.proofs.Closing.{closing_on, closed_still}
+use Rattle.flow_d8.proofs.Padded.Closing.{closing_on, closed_still}
 use Rattle.flow_d8.proofs.preparing.close_sides.Goals as goal
 
 pub loop-i-preserved : goal.loop-i-preserved

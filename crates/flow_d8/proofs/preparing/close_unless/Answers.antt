@@ -4,7 +4,7 @@ use Rattle.std.proofs.lemmas.Nat.{mul-add-lt}
 use Rattle.flow_d8.specs.Places.{IsInner}
 use Rattle.flow_d8.specs.declared.flow.Flow.TheVariants.{Unknown}
 use Rattle.flow_d8.specs.Preparing.{flow_in, IsClosedFlow, IsFlowWithout}
-use Rattle.flow_d8.proofs.PaddedPlaces.{inner_at}
+use Rattle.flow_d8.proofs.Padded.PaddedPlaces.{inner_at}
 use Rattle.flow_d8.proofs.preparing.close_unless.Goals as goal
 
 pub flow_without-flow-requires : goal.flow_without-flow-requires

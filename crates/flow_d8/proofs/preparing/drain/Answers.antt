@@ -4,7 +4,7 @@ use Rattle.std.proofs.lemmas.List.{length-set, get_or-set_other, get_or-set_same
 use Rattle.flow_d8.specs.declared.flow.Flow.TheVariants.{Unknown, Outlet, Flat}
 use Rattle.flow_d8.specs.Flows.{IsOfFlat}
 use Rattle.flow_d8.specs.Preparing.{flow_in, IsSinkPlace}
-use Rattle.flow_d8.proofs.PaddedPlaces.{sink_below}
+use Rattle.flow_d8.proofs.Padded.PaddedPlaces.{sink_below}
 use Rattle.flow_d8.proofs.preparing.drain.Goals as goal
 
 no_flat : Outlet ≡ Flat → ⊥

@@ -1,6 +1,6 @@
 use Rattle.std.proofs.Common.{◌≡◌, ◌∙◌, ℤ, SFits, w32, to_z, of_z, pos, ◌+ℤ◌, ◌-ℤ◌, ap₂, arith, rules}
 use Rattle.std.proofs.lemmas.Int.{ints, to_z-of_z}
-use Rattle.flow_d8.proofs.PaddedPlaces.{IsFirst, is_first, first_small, point_from}
+use Rattle.flow_d8.proofs.Padded.PaddedPlaces.{IsFirst, is_first, first_small, point_from}
 use Rattle.flow_d8.proofs.preparing.padded_point.Goals as goal
 
 pub moved-y-requires : goal.moved-y-requires

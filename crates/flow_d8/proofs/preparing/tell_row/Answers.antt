@@ -5,7 +5,7 @@ use Rattle.std.proofs.lemmas.Nat.{div-mul-add, mod-mul-add}
 use Rattle.flow_d8.specs.Places.{IsInner}
 use Rattle.flow_d8.specs.declared.flow.Flow.TheVariants.{Unknown}
 use Rattle.flow_d8.specs.Preparing.{flow_in, IsEnded, place_in}
-use Rattle.flow_d8.proofs.PaddedPlaces.{inner_at}
+use Rattle.flow_d8.proofs.Padded.PaddedPlaces.{inner_at}
 use Rattle.flow_d8.proofs.preparing.tell_row.Goals as goal
 
 pub ended_flow-flow-requires-clause-inner : goal.ended_flow-flow-requires-clause-inner

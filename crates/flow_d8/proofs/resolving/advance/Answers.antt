@@ -1,8 +1,51 @@
-use Rattle.std.proofs.Common.{length, ap}
-use Rattle.flow_d8.proofs.Advancing.{advanced}
+use Rattle.std.proofs.Common.{◌≡◌, ◌<◌, get_or, inl, inr, sym, subst, arith}
+use Rattle.std.proofs.lemmas.Bool.{cases_eq}
+use Rattle.flow_d8.specs.Prelude.{order_of}
+use Rattle.flow_d8.specs.Places.{back_of}
+use Rattle.flow_d8.specs.Marks.{mark_at, IsBack}
 use Rattle.flow_d8.specs.Tiles.{by_of}
+use Rattle.flow_d8.proofs.Steps.Compass.{dir_at_place, order_at, order_below}
+use Rattle.flow_d8.proofs.Steps.StepBack.{back_twice}
+use Rattle.flow_d8.proofs.Waves.Advancing.{advances_none, advances_on}
+use Rattle.flow_d8.proofs.Waves.Marking.{in_range, reaches_two}
 use Rattle.flow_d8.proofs.resolving.advance.Goals as goal
 
-pub returns-clause-advances : goal.returns-clause-advances
-returns-clause-advances c = advanced (by_of c.args.tiles.now) c.args.marks.now c.args.wave.now c.new-next.result.items c.args.flows.now c.gather.new.marks c.gather.new.next.items c.reach.new.marks c.direct.new.flows
-    c.requires.still (ap length c.new-next.ensures.items) c.in_ok-gather.ensures.gathers c.in_ok-gather.ensures.passed c.direct.ensures.whole c.direct.ensures.kept c.direct.ensures.directed c.reach.ensures
+pub loop-i-init : goal.loop-i-init
+loop-i-init c = record {
+  advances = advances_none (by_of c.args.tiles.now) c.args.marks.now c.args.wave.now c.args.flows.now c.requires.reached c.requires.frontier c.requires.back c.args.next.now.items c.requires.none;
+  passed = λ j d less small. absurd (omega arith);
+}
+
+pub reach-requires-clause-small : goal.reach-requires-clause-small
+reach-requires-clause-small c i small = omega (arith, in_range c.args.marks.now (get_or c.args.wave.now i 0) 0 (c.requires.reached i small) (omega arith), c.loop-i.invariant.advances.whole)
+
+pub reach-requires-clause-back : goal.reach-requires-clause-back
+reach-requires-clause-back c i small = subst (λ n. IsBack (by_of c.args.tiles.now) n (get_or c.args.wave.now i 0)) (sym c.loop-i.invariant.advances.whole)
+    (c.requires.back (get_or c.args.wave.now i 0) (λ out. absurd (omega (arith, c.requires.reached i small))))
+
+pub loop-i-preserved : goal.loop-i-preserved
+loop-i-preserved c =
+    let was = c.loop-i.invariant in
+    let by = by_of c.args.tiles.now in
+    let wave = c.args.wave.now in
+    record {
+      advances = advances_on by c.args.marks.now wave c.args.flows.now c.requires.reached c.requires.frontier c.requires.back c.loop-i.marks c.loop-i.next.items c.loop-i.flows was.advances _
+          (λ j e less small. was.passed j e (subst (λ n. order_of e < n) (order_at c.loop-i.i _ c.loop-i-test.true) less) small)
+          c.reach.new.marks c.reach.new.next.items c.reach.new.flows c.reach.ensures.reaches;
+      passed = λ j d less small two. elim (cases_eq (order_of d) c.loop-i.i) [
+        | inl same ↦ c.in_ok-reach.ensures.passed j small (subst (λ e. mark_at c.reach.new.marks (by (get_or wave j 0) (back_of e)) ≡ 2) (sym (dir_at_place d _ c.loop-i.i same)) two)
+        | inr other ↦ was.passed j d (omega arith) small (reaches_two by wave _ c.loop-i.marks c.loop-i.next.items c.loop-i.flows
+            c.reach.new.marks c.reach.new.next.items c.reach.new.flows c.reach.ensures.reaches (by (get_or wave j 0) (back_of d)) two)
+      ];
+    }
+
+pub returns-in_err-reach-clause-advances : goal.returns-in_err-reach-clause-advances
+returns-in_err-reach-clause-advances c =
+    let was = c.loop-i.invariant in
+    advances_on (by_of c.args.tiles.now) c.args.marks.now c.args.wave.now c.args.flows.now c.requires.reached c.requires.frontier c.requires.back c.loop-i.marks c.loop-i.next.items c.loop-i.flows was.advances _
+    (λ j e less small. was.passed j e (subst (λ n. order_of e < n) (order_at c.loop-i.i _ c.loop-i-test.true) less) small)
+    c.reach.new.marks c.reach.new.next.items c.reach.new.flows c.reach.ensures.reaches
+
+pub returns-clause-passed : goal.returns-clause-passed
+returns-clause-passed c j d small two = c.loop-i.invariant.passed j (back_of d) (omega (arith, order_below (back_of d), c.loop-i-test.false)) small
+    (subst (λ e. mark_at c.loop-i.marks (by_of c.args.tiles.now (get_or c.args.wave.now j 0) e) ≡ 2) (sym (back_twice d)) two)

@@ -1,28 +1,33 @@
-use Rattle.std.proofs.Common.{◌≡◌, ◌<◌, length, get_or, inl, inr, ap, ◌∙◌, arith}
+use Rattle.std.proofs.Common.{◌≡◌, get_or, inl, inr, refl, subst, arith}
 use Rattle.std.proofs.lemmas.Bool.{cases_eq}
-use Rattle.std.proofs.lemmas.List.{get_or-set_same, get_or-set_other, length-set}
-use Rattle.std.proofs.lemmas.List.Sums.{sum_by-set}
+use Rattle.flow_d8.specs.Places.{back_of}
 use Rattle.flow_d8.specs.Marks.{mark_at}
-use Rattle.flow_d8.proofs.Marking.{in_range}
+use Rattle.flow_d8.specs.Tiles.{by_of}
+use Rattle.flow_d8.proofs.Waves.Marking.{reaches_same, reaches_on, reaches_two}
 use Rattle.flow_d8.proofs.spreading.reach.Goals as goal
+
+pub loop-i-init : goal.loop-i-init
+loop-i-init c = record {
+  reaches = reaches_same (by_of c.args.tiles.now) c.args.wave.now c.args.direction c.args.marks.now c.args.next.now.items c.args.flows.now;
+  passed = λ j less. absurd (omega arith);
+}
 
 pub loop-i-preserved : goal.loop-i-preserved
 loop-i-preserved c =
     let was = c.loop-i.invariant in
-    let next = c.args.next.now in
-    let marks = c.loop-i.marks in
-    let i = c.loop-i.i in
-    let to = get_or next i 0 in
-    let pending : mark_at c.args.marks.now to ≡ 1 = c.requires.pending i c.loop-i-test.true in
-    let small : to < length marks = omega (arith, was.whole, in_range c.args.marks.now to 1 pending (omega arith)) in
+    let by = by_of c.args.tiles.now in
+    let wave = c.args.wave.now in
+    let step = c.reach_from.ensures.reaches wave (c.loop-i.i, (c.loop-i-test.true, refl)) in
     record {
-      whole = length-set marks to 0 ∙ was.whole;
-      reached = λ j less. elim (cases_eq (get_or next j 0) to) [
-        | inl same ↦ ap (mark_at _) same ∙ get_or-set_same marks to 0 3 small
-        | inr other ↦
-            let before : j < i = elim (cases_eq j i) [ inl here ↦ absurd (other (ap (λ n. get_or next n 0) here)) | inr apart ↦ omega arith ] in
-            get_or-set_other marks to (get_or next j 0) 0 3 other ∙ was.reached j before
+      reaches = reaches_on by wave c.args.direction c.args.marks.now c.args.next.now.items c.args.flows.now c.loop-i.marks c.loop-i.next.items c.loop-i.flows
+          c.reach_from.new.marks c.reach_from.new.next.items c.reach_from.new.flows was.reaches step;
+      passed = λ j less two. elim (cases_eq j c.loop-i.i) [
+        | inl same ↦ c.in_ok-reach_from.ensures.passed (subst (λ n. mark_at c.reach_from.new.marks (by (get_or wave n 0) (back_of c.args.direction)) ≡ 2) same two)
+        | inr other ↦ was.passed j (omega arith) (reaches_two by wave c.args.direction c.loop-i.marks c.loop-i.next.items c.loop-i.flows
+            c.reach_from.new.marks c.reach_from.new.next.items c.reach_from.new.flows step (by (get_or wave j 0) (back_of c.args.direction)) two)
       ];
-      others = λ k not. get_or-set_other marks to k 0 3 (λ same. not (ap (mark_at c.args.marks.now) same ∙ pending)) ∙ was.others k not;
-      fewer = omega (arith, was.fewer, sum_by-set (λ x. x) marks to 0 3 small);
     }
+
+pub returns-in_err-reach_from-clause-reaches : goal.returns-in_err-reach_from-clause-reaches
+returns-in_err-reach_from-clause-reaches c = reaches_on (by_of c.args.tiles.now) c.args.wave.now c.args.direction c.args.marks.now c.args.next.now.items c.args.flows.now c.loop-i.marks c.loop-i.next.items c.loop-i.flows
+    c.reach_from.new.marks c.reach_from.new.next.items c.reach_from.new.flows c.loop-i.invariant.reaches (c.reach_from.ensures.reaches c.args.wave.now (c.loop-i.i, (c.loop-i-test.true, refl)))

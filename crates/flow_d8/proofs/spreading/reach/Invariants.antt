@@ -1,11 +1,11 @@
-use Rattle.std.proofs.Common.{◌≡◌, ℕ, ◌<◌, ◌≤◌, length, sum, slice_index_or}
-use Rattle.flow_d8.specs.Marks.{mark_at}
+use Rattle.std.proofs.Common.{◌≡◌, ℕ, ◌<◌, slice_index_or}
+use Rattle.flow_d8.specs.Places.{back_of}
+use Rattle.flow_d8.specs.Tiles.{by_of}
+use Rattle.flow_d8.specs.Marks.{mark_at, Reaches}
 use Rattle.flow_d8.proofs.spreading.reach.Given as goal
 
 abbrev pub invariant-loop-i : goal.invariant-loop-i
 invariant-loop-i l = record {
-  whole : length l.marks ≡ length l.fn.marks;
-  reached : (j : ℕ) → j < l.i → mark_at l.marks (slice_index_or l.next j 0) ≡ 0;
-  others : (k : ℕ) → (mark_at l.fn.marks k ≡ 1 → ⊥) → mark_at l.marks k ≡ mark_at l.fn.marks k;
-  fewer : sum l.marks ≤ sum l.fn.marks;
+  reaches : Reaches (by_of l.tiles) l.wave l.direction l.fn.marks l.fn.next.items l.fn.flows l.marks l.next.items l.flows;
+  passed : (j : ℕ) → j < l.i → mark_at l.marks (by_of l.tiles (slice_index_or l.wave j 0) (back_of l.direction)) ≡ 2 → ⊥;
 }

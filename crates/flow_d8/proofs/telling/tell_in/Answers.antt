@@ -3,7 +3,7 @@ use Rattle.std.proofs.lemmas.Bool.{cases_eq}
 use Rattle.flow_d8.specs.declared.flow.Flow.TheVariants.{Unknown}
 use Rattle.flow_d8.specs.Flows.{IsFlow}
 use Rattle.flow_d8.specs.Tiles.{place_of}
-use Rattle.flow_d8.proofs.TwinFlows.{decide_flat}
+use Rattle.flow_d8.proofs.Samples.TwinFlows.{decide_flat}
 use Rattle.flow_d8.proofs.telling.tell_in.Goals as goal
 
 pub returns-in-Some-clause-facts : goal.returns-in-Some-clause-facts

@@ -1,8 +1,8 @@
 use Rattle.std.proofs.Common.{◌/◌, ◌*◌, length, inl, inr, arith}
 use Rattle.std.proofs.lemmas.Bool.{cases_eq}
-use Rattle.flow_d8.proofs.Numbers.{tile_below}
-use Rattle.flow_d8.proofs.TilePlaces.{square_some}
-use Rattle.flow_d8.proofs.TwinFlows.{tells_on}
+use Rattle.flow_d8.proofs.Samples.Numbers.{tile_below}
+use Rattle.flow_d8.proofs.Samples.TilePlaces.{square_some}
+use Rattle.flow_d8.proofs.Samples.TwinFlows.{tells_on}
 use Rattle.flow_d8.proofs.telling.tell_point.Goals as goal
 
 pub loop-i-preserved : goal.loop-i-preserved

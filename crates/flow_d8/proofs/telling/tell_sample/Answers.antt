@@ -1,6 +1,6 @@
 use Rattle.std.proofs.Common.{set, sym, subst}
 use Rattle.flow_d8.specs.Rounds.{Tells}
-use Rattle.flow_d8.proofs.TwinFlows.{told_one}
+use Rattle.flow_d8.proofs.Samples.TwinFlows.{told_one}
 use Rattle.flow_d8.proofs.telling.tell_sample.Goals as goal
 
 pub returns-then-is_of_flat-clause-tells : goal.returns-then-is_of_flat-clause-tells

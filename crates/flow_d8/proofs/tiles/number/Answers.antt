@@ -2,7 +2,7 @@ use Rattle.std.proofs.Common.{◌≡◌, ◌+◌, ◌*◌, length, get_or, sym, 
 use Rattle.std.proofs.lemmas.List.{get_or_default}
 use Rattle.lattice.specs.Lattice.{IsIndexOf, Holds}
 use Rattle.flow_d8.specs.Tiles.{no_corner}
-use Rattle.flow_d8.proofs.TilePlaces.{found_at, passed_on, none_at}
+use Rattle.flow_d8.proofs.Samples.TilePlaces.{found_at, passed_on, none_at}
 use Rattle.flow_d8.proofs.tiles.number.Goals as goal
 
 pub returns-in-Some : goal.returns-in-Some

@@ -1,9 +1,9 @@
 use Rattle.std.proofs.Common.{◌≡◌, ◌*◌, ◌/◌, ◌%◌, ◌<◌, length, get_or, sym, ap, ◌∙◌, subst}
 use Rattle.std.proofs.lemmas.List.{get_or_default}
 use Rattle.lattice.specs.Lattice.{point_of}
-use Rattle.flow_d8.proofs.Numbers.{tile_below}
+use Rattle.flow_d8.proofs.Samples.Numbers.{tile_below}
 use Rattle.flow_d8.specs.Tiles.{no_corner, place_of}
-use Rattle.flow_d8.proofs.TilePlaces.{square_some}
+use Rattle.flow_d8.proofs.Samples.TilePlaces.{square_some}
 use Rattle.flow_d8.proofs.tiles.sample_point.Goals as goal
 
 pub returns : goal.returns

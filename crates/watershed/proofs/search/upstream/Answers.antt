@@ -1,6 +1,7 @@
-use Rattle.std.proofs.Common.{◌≡◌, ◌+◌, List, [], ◌∷◌, ◌++◌, inl, inr, ⊎_elim, Option, length, vec_len, refl, sym, ap, ◌∙◌, subst, arith}
+use Rattle.std.proofs.Common.{◌≡◌, ◌+◌, [], ◌∷◌, ◌++◌, inl, inr, ⊎_elim, Option, vec_len, sym, ap, ◌∙◌, subst, arith}
 use Rattle.std.specs.Prelude.{MatchOption, Contains}
 use Rattle.std.specs.Option.{option_to_list}
+use Rattle.std.proofs.lemmas.List.{nil_from_length}
 use Rattle.lattice.specs.declared.point.Point.{Point}
 use Rattle.lattice.specs.Ground.{terrain}
 use Rattle.watershed.specs.Marks.{IsMarked}
@@ -47,13 +48,9 @@ search-preserved g c =
           so_far;
     }
 
-none_left : (xs : List Point) → length xs ≡ 0 → xs ≡ []
-none_left [] e = refl
-none_left (x ∷ xs) e = absurd (omega arith)
-
 pub returns-clause-found : goal.returns-clause-found
 returns-clause-found g c m level tells =
     let waiting = c.search.waiting in
     let cases = subst (λ (o : Option Point). MatchOption o ((vec_len waiting ≡ 0) × (vec_len c.pop.new.self ≡ 0)) (λ _. vec_len c.pop.new.self + 1 ≡ vec_len waiting)) c.in_default.is c.pop.ensures.cases in
-    let none : waiting.items ≡ [] = none_left waiting.items (omega (arith, cases.0, waiting.ok.0)) in
+    let none : waiting.items ≡ [] = nil_from_length waiting.items (omega (arith, cases.0, waiting.ok.0)) in
     search_done (terrain m) level c.args.point (IsMarked c.search.marks) (subst (IsSearching (terrain m) level c.args.point (IsMarked c.search.marks)) none (c.search.invariant.searching m level tells))

@@ -3,11 +3,11 @@ use Rattle.std.proofs.lemmas.Result.{err_from_is_err_and}
 use Rattle.flow_d8.specs.Prelude.{Point, Refusal, NoMemory, Damaged, terrain}
 use Rattle.flow_d8.specs.Directions.{AreOfNoMosaic, IsChain}
 use Rattle.flow_d8.specs.FlowSteps.{IsFollowed}
-use Rattle.flow_d8.proofs.Chains.{chain_longer, chain_once, ends_with}
-use Rattle.flow_d8.proofs.Following.{followed_first}
-use Rattle.flow_d8.proofs.MosaicGrid.{mosaic_is_grid}
-use Rattle.flow_d8.proofs.OnePath.{goes_on_in}
-use Rattle.flow_d8.proofs.Tracing.{follow_more, follow_end, ground_held, told_ground}
+use Rattle.flow_d8.proofs.Paths.Chains.{chain_longer, chain_once, ends_with}
+use Rattle.flow_d8.proofs.Paths.Following.{followed_first}
+use Rattle.flow_d8.proofs.Mosaics.MosaicGrid.{mosaic_is_grid}
+use Rattle.flow_d8.proofs.Paths.OnePath.{goes_on_in}
+use Rattle.flow_d8.proofs.Paths.Tracing.{follow_more, follow_end, ground_held, told_ground}
 use Rattle.flow_d8.proofs.directions.Directions.follow.Goals as goal
 
 pub steps-init : goal.steps-init

@@ -1,7 +1,7 @@
 use Rattle.std.proofs.Common.{Vec, Global, Result, Ok, Err, [], sym, ◌∙◌, true≢false, ◌≡◌, ℤ, IsFalse, IfOk}
 use Rattle.flow_d8.specs.Prelude.{is_ground, Mosaic, Point}
 use Rattle.flow_d8.specs.Directions.{AreDirectionsOf}
-use Rattle.flow_d8.proofs.Tracing.{ground_told, off_none}
+use Rattle.flow_d8.proofs.Paths.Tracing.{ground_told, off_none}
 use Rattle.flow_d8.proofs.directions.Directions.trace.Goals as goal
 
 any_ok : {A B : Type 0} (P : A → Type 0) (r : Result A B) → ((x : A) → P x) → IfOk r P

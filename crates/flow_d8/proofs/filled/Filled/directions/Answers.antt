@@ -3,16 +3,16 @@ use Rattle.flow_d8.specs.Prelude.{terrain, void, Point}
 use Rattle.flow_d8.specs.Drainage.{AreFilledLevels}
 use Rattle.flow_d8.specs.Filled.{Filled, AreLevels, IsFilledOf}
 use Rattle.flow_d8.specs.Surface.{level_at}
-use Rattle.flow_d8.proofs.Exists.{distance_exists}
-use Rattle.flow_d8.proofs.FilledOf.{filled_at}
-use Rattle.flow_d8.proofs.MosaicGrid.{mosaic_is_grid}
+use Rattle.flow_d8.proofs.Paths.Exists.{distance_exists}
+use Rattle.flow_d8.proofs.Mosaics.FilledOf.{filled_at}
+use Rattle.flow_d8.proofs.Mosaics.MosaicGrid.{mosaic_is_grid}
 use Rattle.flow_d8.specs.Directions.{Directions, AreDirectionsOf}
 use Rattle.flow_d8.specs.FlowGrids.{IsAtHand, AreCrossed}
 use Rattle.flow_d8.specs.Levels.{filled_of}
 use Rattle.flow_d8.specs.Tiles.{Tiles}
-use Rattle.flow_d8.proofs.Crossing.{are_directions}
-use Rattle.flow_d8.proofs.FullTerrain.{mosaic_is_full}
-use Rattle.flow_d8.proofs.LevelsOf.{hand_in, crossed_in}
+use Rattle.flow_d8.proofs.Paths.Crossing.{are_directions}
+use Rattle.flow_d8.proofs.Mosaics.FullTerrain.{mosaic_is_full}
+use Rattle.flow_d8.proofs.Mosaics.LevelsOf.{hand_in, crossed_in}
 use Rattle.flow_d8.proofs.filled.Filled.directions.Goals as goal
 
 -- levels by their parts

@@ -3,7 +3,7 @@ use Rattle.flow_d8.specs.Filled.{number_of}
 use Rattle.flow_d8.specs.Prelude.{Flow, Unknown}
 use Rattle.flow_d8.specs.Flows.{IsFlow}
 use Rattle.flow_d8.specs.Tiles.{count_of}
-use Rattle.flow_d8.proofs.AtHand.{known_so}
+use Rattle.flow_d8.proofs.Samples.AtHand.{known_so}
 use Rattle.flow_d8.proofs.grid.FlowGrid.flow.Goals as goal
 
 pub returns-then-number-len-clause-says : goal.returns-then-number-len-clause-says

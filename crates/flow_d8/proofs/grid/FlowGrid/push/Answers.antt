@@ -1,5 +1,5 @@
-use Rattle.flow_d8.proofs.AtHand.{still_at_hand, comes_to_hand}
-use Rattle.flow_d8.proofs.Slots.{whole_push, known_push, flows_push}
+use Rattle.flow_d8.proofs.Samples.AtHand.{still_at_hand, comes_to_hand}
+use Rattle.flow_d8.proofs.Samples.Slots.{whole_push, known_push, flows_push}
 use Rattle.flow_d8.proofs.grid.FlowGrid.push.Goals as goal
 
 pub invariant_of-self-in-Ok : goal.invariant_of-self-in-Ok

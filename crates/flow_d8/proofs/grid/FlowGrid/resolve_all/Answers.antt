@@ -4,7 +4,7 @@ use Rattle.flow_d8.specs.declared.flow.Flow.TheVariants.{Unknown}
 use Rattle.flow_d8.specs.Flows.{IsTellingAll}
 use Rattle.flow_d8.specs.FlowGrids.{AreCrossed}
 use Rattle.flow_d8.specs.Tiles.{Tiles}
-use Rattle.flow_d8.proofs.Told.{telling_still}
+use Rattle.flow_d8.proofs.Sayings.Told.{telling_still}
 use Rattle.flow_d8.proofs.grid.FlowGrid.resolve_all.Goals as goal
 
 pub returns-in_err-resolve_at-clause-flows : goal.returns-in_err-resolve_at-clause-flows

@@ -2,7 +2,7 @@ use Rattle.std.proofs.Common.{IsTrue, sym, ap, ◌∙◌, subst}
 use Rattle.flow_d8.specs.Prelude.{step, fits_point}
 use Rattle.flow_d8.specs.Filled.{number_of}
 use Rattle.flow_d8.specs.Tiles.{place_of, by_of}
-use Rattle.flow_d8.proofs.TilePlaces.{unfit_past}
+use Rattle.flow_d8.proofs.Samples.TilePlaces.{unfit_past}
 use Rattle.flow_d8.proofs.tiles.Tiles.beside.Goals as goal
 
 pub returns-in-Some-clause-value : goal.returns-in-Some-clause-value

@@ -2,7 +2,7 @@ use Rattle.std.proofs.Common.{ℕ, ◌<◌, IsTrue, List, length, get_or, subst,
 use Rattle.std.specs.List.{AllAdjacentBelow}
 use Rattle.flow_d8.specs.Prelude.{Corner, is_corner, IsBefore}
 use Rattle.flow_d8.specs.Tiles.{no_corner}
-use Rattle.flow_d8.proofs.Slots.{distinct_from_rising}
+use Rattle.flow_d8.proofs.Samples.Slots.{distinct_from_rising}
 use Rattle.flow_d8.proofs.tiles.Tiles.new.Goals as goal
 
 pub invariant_of-result : goal.invariant_of-result

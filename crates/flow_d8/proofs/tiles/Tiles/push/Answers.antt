@@ -1,7 +1,7 @@
 use Rattle.std.proofs.Common.{◌≡◌, ℕ, ◌<◌, length, get_or, sym, subst}
 use Rattle.lattice.specs.Limits.{most_tiles}
 use Rattle.flow_d8.specs.Tiles.{Tiles, no_corner}
-use Rattle.flow_d8.proofs.Slots.{tiles_push}
+use Rattle.flow_d8.proofs.Samples.Slots.{tiles_push}
 use Rattle.flow_d8.proofs.tiles.Tiles.push.Goals as goal
 
 pub invariant_of-self-2 : goal.invariant_of-self-2

@@ -1,7 +1,7 @@
 use Rattle.std.proofs.Common.{◌≡◌, ℕ, ◌*◌, ◌+◌, IsTrue, subst, MatchOption, slice_index_or}
 use Rattle.flow_d8.specs.Prelude.{is_corner, Holds, IsIndexOf}
 use Rattle.flow_d8.specs.Tiles.{no_corner}
-use Rattle.flow_d8.proofs.TwinFlows.{sample_told}
+use Rattle.flow_d8.proofs.Samples.TwinFlows.{sample_told}
 use Rattle.flow_d8.proofs.tiles.Tiles.sample_in.Goals as goal
 
 pub returns : goal.returns

@@ -1,0 +1,9 @@
+-- What a mosaic is as a terrain, and its filled levels.
+pub mod MosaicGrid
+pub mod PointFlows
+pub mod FilledOf
+pub mod Fitting
+pub mod FullTerrain
+pub mod SharedTiles
+pub mod LevelsOf
+pub mod Ordered

@@ -1,0 +1,106 @@
+-- What a flow that tells where its point drains says, and that it does so once a flat is resolved.
+use Rattle.std.proofs.Common.{◌≡◌, ℕ, ◌<◌, ℤ, IsTrue, IsFalse, Some, None, List, length, get_or, inl, ⊎_elim, refl, sym, ap, ◌∙◌, subst, true≢false, slice_index_or}
+use Rattle.std.specs.Prelude.{◌↔◌}
+use Rattle.std.proofs.lemmas.Option.{none-some}
+use Rattle.flow_d8.specs.Prelude.{terrain, is_ground, Mosaic, IsMosaic, step, Terrain, Point, Dir, Flow, Unknown, NoGround, Outlet, To, Beside, Flat, FlatTo}
+use Rattle.lattice.proofs.Lawful.{terrain_is_lawful}
+use Rattle.flow_d8.specs.Drainage.{CrossesFlat, IsDirection}
+use Rattle.flow_d8.specs.Filled.{number_of}
+use Rattle.flow_d8.specs.Flows.{IsOfFlat, IsFull, Names, IsFlow, IsFlowNear, IsTellingAll, AreFlows, Drains, direction_of}
+use Rattle.flow_d8.specs.FlowGrids.{AreKnown}
+use Rattle.flow_d8.specs.Tiles.{Tiles, AreTiles, IsSampleOf, count_of, place_of}
+use Rattle.flow_d8.specs.Rounds.{Tells}
+use Rattle.flow_d8.specs.Resolution.{AreResolved}
+use Rattle.flow_d8.proofs.Samples.TilePlaces.{place_number}
+use Rattle.flow_d8.proofs.Samples.TwinFlows.{decide_flat}
+use Rattle.flow_d8.proofs.Paths.Unique.{one_direction}
+
+-- the flow names the point's direction
+pub flow_direction : (t : Terrain Point) (level : Point → ℤ) (p : Point) (f : Flow) → IsFlow t level p f → Drains f → IsDirection t level p (direction_of f)
+flow_direction t level p Outlet is drains = is
+flow_direction t level p (To d) is drains = inl is
+flow_direction t level p (Beside d) is drains = is.1.1
+flow_direction t level p (FlatTo d) is drains = is.1.1
+flow_direction t level p _ is drains = absurd drains
+
+-- a flow that tells all names the direction of a ground point
+pub telling_direction : (t : Terrain Point) (level : Point → ℤ) (p : Point) (f : Flow) → IsFlow t level p f → IsTellingAll f → IsTrue (t.is_ground p) → IsDirection t level p (direction_of f)
+telling_direction t level p NoGround is all ground = absurd (true≢false (sym ground ∙ is))
+telling_direction t level p Outlet is all ground = is
+telling_direction t level p (To d) is all ground = inl is
+telling_direction t level p (Beside d) is all ground = is.1.1
+telling_direction t level p (FlatTo d) is all ground = is.1.1
+telling_direction t level p _ is all ground = absurd all
+
+-- .. and where it says that there is none, alone, there is none
+pub telling_ground : (m : Mosaic) (level : Point → ℤ) (p : Point) (f : Flow) → IsFlow (terrain m) level p f → IsTellingAll f → (f ≡ NoGround → ⊥) → IsTrue (is_ground m p)
+telling_ground m level p NoGround so all some = absurd (some refl)
+telling_ground m level p Outlet so all some = (terrain_is_lawful m).outlet_ground p so.1
+telling_ground m level p (To d) so all some = (terrain_is_lawful m).from_ground p (step d p) so.lower.beside
+telling_ground m level p (Beside d) so all some = so.0.ground
+telling_ground m level p (FlatTo d) so all some = so.0.ground
+telling_ground m level p _ so all some = absurd all
+
+-- .. and no direction where there is none
+pub telling_none : (m : Mosaic) → IsMosaic m → (level : Point → ℤ) (p : Point) (f : Flow) → IsFlow (terrain m) level p f → IsTellingAll f → IsFalse (is_ground m p) → direction_of f ≡ None
+telling_none m is level p NoGround so all off = refl
+telling_none m is level p Outlet so all off = refl
+telling_none m is level p (To d) so all off = absurd (true≢false (sym ((terrain_is_lawful m).from_ground p (step d p) so.lower.beside) ∙ off))
+telling_none m is level p (Beside d) so all off = absurd (true≢false (sym so.0.ground ∙ off))
+telling_none m is level p (FlatTo d) so all off = absurd (true≢false (sym so.0.ground ∙ off))
+telling_none m is level p _ so all off = absurd all
+
+-- it names a direction exactly where ground drains there
+pub names_donor : (m : Mosaic) (level : Point → ℤ) (p : Point) (f : Flow) (d : Dir) → IsFlow (terrain m) level p f → IsTellingAll f
+    → (direction_of f ≡ Some d) ↔ (IsTrue (is_ground m p) × IsDirection (terrain m) level p (Some d))
+names_donor m level p f d so all = (
+  λ names.
+      let ground : IsTrue (is_ground m p) = telling_ground m level p f so all (λ none. none-some d (sym (ap direction_of none) ∙ names)) in
+      (ground, subst (IsDirection (terrain m) level p) names (telling_direction (terrain m) level p f so all ground)),
+  λ drains. one_direction (terrain m) level p (direction_of f) (Some d) (telling_direction (terrain m) level p f so all drains.0) drains.1,
+)
+
+-- what the levels around a point tell of it is so
+pub near_flow : (t : Terrain Point) (level : Point → ℤ) (p : Point) (f : Flow) → IsFlowNear t level p f → IsFlow t level p f
+near_flow t level p Unknown is = tt
+near_flow t level p Outlet is = is
+near_flow t level p (To d) is = is
+near_flow t level p _ is = absurd is
+
+-- known of a ground point, and not left on a flat, it tells where the point drains
+drains_unless : (t : Terrain Point) (level : Point → ℤ) (p : Point) (f : Flow) → IsFlow t level p f → IsTrue (t.is_ground p) → (f ≡ Unknown → ⊥) → (f ≡ Flat → ⊥) → Drains f
+drains_unless t level p Unknown is ground known left = absurd (known refl)
+drains_unless t level p NoGround is ground known left = absurd (true≢false (sym ground ∙ is))
+drains_unless t level p Flat is ground known left = absurd (left refl)
+drains_unless t level p _ is ground known left = tt
+
+-- what was known is known still
+pub known_still : (old new : List Flow) → AreKnown old → Tells old new → AreKnown new
+known_still old new known tells k small unknown = ⊎_elim
+    (λ on. subst IsOfFlat unknown (tells.flat k on))
+    (λ off. known k (subst (λ n. k < n) tells.whole small) (sym (tells.kept k off) ∙ unknown))
+    (decide_flat (get_or old k Unknown))
+
+module _ (tiles : Tiles) (valid : AreTiles tiles) (p : Point) (old new : List Flow) where
+  abbrev seed : ℕ
+  seed = number_of tiles.side tiles.corners p
+
+  -- each sample of the point tells where it drains, once its flat was resolved, or where none was asked for
+  pub drains_at : (k : ℕ) → IsSampleOf tiles p k → length new ≡ count_of tiles → AreKnown new
+      → ((e : ℕ) → (IsOfFlat (slice_index_or old e Unknown) → ⊥) → slice_index_or new e Unknown ≡ slice_index_or old e Unknown)
+      → (t : Terrain Point) (level : Point → ℤ) → AreFlows t level (place_of tiles) new → IsTrue (t.is_ground p)
+      → (IsOfFlat (slice_index_or old k Unknown) → (d : Dir) × Names (slice_index_or new k Unknown) d) → Drains (slice_index_or new k Unknown)
+  drains_at k at whole known kept t level are ground named =
+      drains_unless t level p (get_or new k Unknown) (subst (λ q. IsFlow t level q (get_or new k Unknown)) at.here (are k)) ground
+      (known k (subst (λ n. k < n) (sym whole) at.small))
+      (λ left. ⊎_elim
+      (λ flat. let name = named flat in subst (λ f. Names f name.0) left name.1)
+      (λ off. off (subst IsOfFlat (sym left ∙ kept k off) tt))
+      (decide_flat (get_or old k Unknown)))
+
+  pub resolved_sample : AreResolved tiles seed old new → seed < count_of tiles → (k : ℕ) → IsSampleOf tiles p k → (t : Terrain Point) (level : Point → ℤ) → IsFull t → AreFlows t level (place_of tiles) old → (j : ℕ) → CrossesFlat t level p j
+      → IsOfFlat (slice_index_or old k Unknown) → (d : Dir) × Names (slice_index_or new k Unknown) d
+  resolved_sample resolved small k at t level full are j crosses flat =
+      let place : place_of tiles seed ≡ p = place_number tiles valid p small in
+      let r = resolved 0 seed k refl (record { small = at.small; here = at.here ∙ sym place }) flat t level full are j (subst (λ q. CrossesFlat t level q j) (sym place) crosses) in
+      (r.0, r.1.0)

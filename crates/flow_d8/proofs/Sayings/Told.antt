@@ -1,0 +1,41 @@
+-- Samples that tell all, and what tells that a grid is no ground's.
+use Rattle.std.proofs.Common.{◌≡◌, ℕ, ℤ, List, get_or, inl, inr, ⊎_elim, refl, sym, ◌∙◌, subst, true≢false, slice_index_or}
+use Rattle.flow_d8.specs.Prelude.{step, Terrain, Point, Flow, Unknown, NoGround, Outlet, To, Beside, Flat, FlatTo}
+use Rattle.flow_d8.specs.Flows.{IsOfFlat, IsTold, IsTellingAll, IsFlow, LiesInside}
+use Rattle.flow_d8.specs.Rounds.{Tells}
+use Rattle.flow_d8.proofs.Sayings.Said.{inside_of}
+use Rattle.flow_d8.proofs.Samples.TwinFlows.{decide_flat}
+
+flat_told : (f : Flow) → IsOfFlat f → IsTellingAll f → IsTold f
+flat_told Unknown flat all = absurd all
+flat_told (Beside d) flat all = tt
+flat_told Flat flat all = absurd all
+flat_told (FlatTo d) flat all = tt
+flat_told _ flat all = absurd flat
+
+told_tells : (f : Flow) → IsTold f → IsTellingAll f
+told_tells (Beside d) is = tt
+told_tells (FlatTo d) is = tt
+told_tells _ is = absurd is
+
+-- what tells all does so still
+pub telling_still : (old new : List Flow) → Tells old new → (k : ℕ) → IsTellingAll (slice_index_or old k Unknown) → IsTellingAll (slice_index_or new k Unknown)
+telling_still old new tells k all = ⊎_elim
+    (λ flat. told_tells (get_or new k Unknown) (tells.told k (flat_told (get_or old k Unknown) flat all)))
+    (λ off. subst IsTellingAll (sym (tells.kept k off)) all)
+    (decide_flat (get_or old k Unknown))
+
+module _ (t : Terrain Point) (level : Point → ℤ) (p : Point) where
+  -- of two samples of a point of which something is known both lie inside a flat, or none
+  pub twin_flat : (f g : Flow) → IsFlow t level p f → IsFlow t level p g → IsOfFlat f → (g ≡ Unknown → ⊥) → IsOfFlat g
+  twin_flat f g one other flat known = by g refl
+    where
+      inside : LiesInside t level p
+      inside = inside_of t level p f flat one
+
+      by : (h : Flow) → g ≡ h → IsOfFlat g
+      by Unknown at = absurd (known at)
+      by NoGround at = absurd (true≢false (sym inside.ground ∙ subst (IsFlow t level p) at other))
+      by Outlet at = let so = subst (IsFlow t level p) at other in absurd (inside.inside (inr so.1))
+      by (To d) at = let so = subst (IsFlow t level p) at other in absurd (inside.inside (inl (step d p, so.lower)))
+      by _ at = subst IsOfFlat (sym at) tt

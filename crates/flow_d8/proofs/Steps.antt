@@ -1,0 +1,8 @@
+-- Directions, steps between points, and what lies around a point.
+pub mod Compass
+pub mod SteepestStep
+pub mod Surfaces
+pub mod StepBack
+pub mod Nearby
+pub mod ThreeRows
+pub mod StepFits

@@ -1,0 +1,24 @@
+-- A step and the step back.
+use Rattle.std.proofs.Common.{◌≡◌, ℤ, pos, ◌+ℤ◌, refl, ap₂, arith}
+use Rattle.std.proofs.lemmas.Int.{ints}
+use Rattle.flow_d8.specs.Prelude.{Point, Dir, East, step, north_of, east_of}
+use Rattle.flow_d8.specs.Places.{back_of}
+
+there : (v a b : ℤ) → a +ℤ b ≡ pos 0 → ((v +ℤ a) +ℤ b) ≡ v
+there v a b zero_sum = omega (arith, ints)
+
+norths : (e : Dir) → (north_of e +ℤ north_of (back_of e)) ≡ pos 0
+norths East = refl
+norths _ = refl
+
+easts : (e : Dir) → (east_of e +ℤ east_of (back_of e)) ≡ pos 0
+easts East = refl
+easts _ = refl
+
+-- a step and the step back
+pub step_back : (e : Dir) (x : Point) → step (back_of e) (step e x) ≡ x
+step_back e x = ap₂ (λ (v w : ℤ). let p : Point = record { y = v; x = w } in p) (there x.y (north_of e) (north_of (back_of e)) (norths e)) (there x.x (east_of e) (east_of (back_of e)) (easts e))
+
+pub back_twice : (e : Dir) → back_of (back_of e) ≡ e
+back_twice East = refl
+back_twice _ = refl

@@ -1,0 +1,31 @@
+-- Nine levels in three rows, of which each is a point's or that of the point beside it.
+use Rattle.std.proofs.Common.{◌≡◌, ℤ, Option, [], ◌∷◌, inl, inr, sym, ◌∙◌, subst, MatchOption, if◌then◌else◌, slice_index_or}
+use Rattle.std.proofs.lemmas.Bool.{cases_Bool, cond-true, cond-false}
+use Rattle.flow_d8.specs.Prelude.{Point, Dir, East, SouthEast, South, SouthWest, West, NorthWest, North, NorthEast, step, Terrain, void}
+use Rattle.flow_d8.specs.LevelGrid.{level_beside}
+use Rattle.flow_d8.specs.LevelsAround.{beside_of}
+use Rattle.flow_d8.specs.Places.{place_by, IsShown}
+use Rattle.flow_d8.proofs.Steps.Nearby.{beside_there, beside_none}
+
+module _ (t : Terrain Point) (level : Point → ℤ) (p : Point) where
+  pub rows_shown : (nw n ne w here e sw s se : ℤ) → here ≡ (if t.is_ground p then level p else void) → nw ≡ level_beside t level p NorthWest → n ≡ level_beside t level p North → ne ≡ level_beside t level p NorthEast
+      → w ≡ level_beside t level p West → e ≡ level_beside t level p East → sw ≡ level_beside t level p SouthWest → s ≡ level_beside t level p South → se ≡ level_beside t level p SouthEast
+      → IsShown t level (nw ∷ n ∷ ne ∷ w ∷ here ∷ e ∷ sw ∷ s ∷ se ∷ []) 3 p 4
+  rows_shown nw n ne w here e sw s se is_here is_nw is_n is_ne is_w is_e is_sw is_s is_se = record { here = is_here; around = λ _. each }
+    where
+      each : (d : Dir) → slice_index_or (nw ∷ n ∷ ne ∷ w ∷ here ∷ e ∷ sw ∷ s ∷ se ∷ []) (place_by 3 4 d) void ≡ level_beside t level p d
+      each East = is_e
+      each SouthEast = is_se
+      each South = is_s
+      each SouthWest = is_sw
+      each West = is_w
+      each NorthWest = is_nw
+      each North = is_n
+      each NorthEast = is_ne
+
+  -- the level beside it, or void, as it is read from what is beside it
+  pub beside_read : (d : Dir) (found : Option ℤ) (v : ℤ) → found ≡ beside_of t level p d → MatchOption found (v ≡ void) (λ w. v ≡ w) → v ≡ level_beside t level p d
+  beside_read d found v is read = elim (cases_Bool (t.is_adjacent p (step d p))) [
+    | inl on ↦ subst (λ o. MatchOption o (v ≡ void) (λ w. v ≡ w)) (is ∙ beside_there t level p d on) read ∙ sym (cond-true (t.is_adjacent p (step d p)) (level (step d p)) void on)
+    | inr off ↦ subst (λ o. MatchOption o (v ≡ void) (λ w. v ≡ w)) (is ∙ beside_none t level p d off) read ∙ sym (cond-false (t.is_adjacent p (step d p)) (level (step d p)) void off)
+  ]

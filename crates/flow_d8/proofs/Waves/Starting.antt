@@ -1,0 +1,70 @@
+-- Members beside an end come into the first wave.
+use Rattle.std.proofs.Common.{◌≡◌, ℕ, ◌<◌, ◌⊎◌, List, length, set, inl, inr, ⊎_elim, refl, sym, ap, ◌∙◌, subst, arith, slice_index_or}
+use Rattle.std.proofs.lemmas.Bool.{cases_eq, cases_lt}
+use Rattle.std.proofs.lemmas.List.{get_or-set_same, get_or-set_other, length-set, get_or_past}
+use Rattle.flow_d8.specs.Prelude.{Flow, Unknown}
+use Rattle.flow_d8.specs.Flows.{IsBeside}
+use Rattle.flow_d8.specs.Marks.{mark_at, IsMember, Lists, Begins, IsFirstWave}
+use Rattle.flow_d8.proofs.Waves.Listing.{IsLonger, lists_kept, lists_last, lists_either}
+
+pub member_small : (marks : List ℕ) (k : ℕ) → IsMember marks k → k < length marks
+member_small marks k member = ⊎_elim (λ lt. lt) (λ ge. absurd (member (get_or_past marks k 3 ge))) (cases_lt k (length marks))
+
+pub begins_same : (flows : List Flow) (marks wave : List ℕ) → Begins flows marks wave marks wave
+begins_same flows marks wave = record { whole = refl; changed = λ k. inl refl; kept = λ k is. is; listed = λ k is. inl is; only = λ k is. inl is }
+
+pub begun_at : (flows : List Flow) (marks wave longer : List ℕ) (k : ℕ) → IsBeside (slice_index_or flows k Unknown) → IsMember marks k → IsLonger wave longer k → Begins flows marks wave (set marks k 0) longer
+begun_at flows marks wave longer k beside member more = record {
+  whole = length-set marks k 0;
+  changed = λ j. elim (cases_eq j k) [
+    | inl same ↦ inr (subst (λ n. IsBeside (slice_index_or flows n Unknown)) (sym same) beside, ap (mark_at (set marks k 0)) same ∙ here, subst (IsMember marks) (sym same) member)
+    | inr other ↦ inl (apart j other)
+  ];
+  kept = λ j is. lists_kept wave longer k j more is;
+  listed = λ j zero. elim (cases_eq j k) [
+    | inl same ↦ inr (subst (Lists longer) (sym same) (lists_last wave longer k more))
+    | inr other ↦ inl (sym (apart j other) ∙ zero)
+  ];
+  only = λ j is. ⊎_elim (λ old. inl old) (λ same. inr (ap (mark_at (set marks k 0)) same ∙ here)) (lists_either wave longer k j more is);
+}
+  where
+    here : mark_at (set marks k 0) k ≡ 0
+    here = get_or-set_same marks k 0 3 (member_small marks k member)
+
+    apart : (j : ℕ) → (j ≡ k → ⊥) → mark_at (set marks k 0) j ≡ mark_at marks j
+    apart j other = get_or-set_other marks k j 0 3 other
+
+module _ (flows : List Flow) (a wa b wb : List ℕ) (first : Begins flows a wa b wb) where
+  pub member_still : (k : ℕ) → IsMember a k → IsMember b k
+  member_still k member out = ⊎_elim (λ same. member (sym same ∙ out)) (λ now. absurd (omega (arith, now.1))) (first.changed k)
+
+  member_before : (k : ℕ) → IsMember b k → IsMember a k
+  member_before k member = ⊎_elim (λ same out. member (same ∙ out)) (λ now. now.2) (first.changed k)
+
+  -- what was reached is so still
+  pub zero_on : (k : ℕ) → mark_at a k ≡ 0 → mark_at b k ≡ 0
+  zero_on k zero = ⊎_elim (λ same. same ∙ zero) (λ now. now.1) (first.changed k)
+
+  pub begins_on : (c wc : List ℕ) → Begins flows b wb c wc → Begins flows a wa c wc
+  begins_on c wc then = record {
+    whole = then.whole ∙ first.whole;
+    changed = λ k. ⊎_elim
+        (λ same. ⊎_elim (λ old. inl (same ∙ old)) (λ now. inr (now.0, same ∙ now.1, now.2)) (first.changed k))
+        (λ now. inr (now.0, now.1, member_before k now.2))
+        (then.changed k);
+    kept = λ k is. then.kept k (first.kept k is);
+    listed = λ k zero. ⊎_elim (λ old. ⊎_elim (λ older. inl older) (λ lists. inr (then.kept k lists)) (first.listed k old)) (λ lists. inr lists) (then.listed k zero);
+    only = λ k is. ⊎_elim (λ old. ⊎_elim (λ older. inl older) (λ zero. inr (⊎_elim (λ same. same ∙ zero) (λ now. now.1) (then.changed k))) (first.only k old)) (λ zero. inr zero) (then.only k is);
+  }
+
+-- from no wave to the first
+pub first_begun : (flows : List Flow) (marks none new wave : List ℕ) → length none ≡ 0 → ((k : ℕ) → IsMember marks k → mark_at marks k ≡ 2) → Begins flows marks none new wave
+    → ((k : ℕ) → IsMember marks k → IsBeside (slice_index_or flows k Unknown) → mark_at new k ≡ 0) → IsFirstWave flows marks new wave
+first_begun flows marks none new wave empty two begins here = record {
+  whole = begins.whole;
+  beside = here;
+  others = λ k member not. ⊎_elim (λ same. same ∙ two k member) (λ now. absurd (not now.0)) (begins.changed k);
+  outside = λ k out. ⊎_elim (λ same. same ∙ out) (λ now. absurd (now.2 out)) (begins.changed k);
+  listed = λ k zero. ⊎_elim (λ old. absurd (omega (arith, two k (λ out. absurd (omega arith))))) (λ lists. lists) (begins.listed k zero);
+  reached = λ i small. ⊎_elim (λ old. absurd (omega (arith, old.1.0))) (λ zero. zero) (begins.only _ (i, (small, refl)));
+}

@@ -1,0 +1,23 @@
+use Rattle.std.proofs.Common.{◌≡◌, ℕ, ◌+◌, ◌*◌, ◌%◌, ◌++◌, ◌∷◌, [], false, length, get_or, inl, inr, sym, ap, ◌∙◌, arith}
+use Rattle.std.proofs.lemmas.Bool.{cases_eq}
+use Rattle.std.proofs.lemmas.List.{get_or_append_left, get_or-append-add, length-append}
+use Rattle.flow_d8.specs.Filled.{is_deep}
+use Rattle.flow_d8.proofs.spreading.are_deep.Goals as goal
+
+pub loop-i-preserved : goal.loop-i-preserved
+loop-i-preserved c =
+    let was = c.loop-i.invariant in
+    let old = c.loop-i.deep.items in
+    let grown = c.in_ok-push.ensures.items in
+    record {
+      whole = ap length grown ∙ length-append old (c.is_deep.result ∷ []) ∙ ap (λ n. n + 1) was.whole;
+      lies = λ j less yes. elim (cases_eq j c.loop-i.i) [
+        | inl same ↦ ap (λ k. is_deep c.args.tiles.now.side (get_or c.args.wave.now k 0 % (c.args.tiles.now.side * c.args.tiles.now.side))) same
+            ∙ sym c.is_deep.ensures
+            ∙ sym (ap (λ l. get_or l j false) grown ∙ ap (λ k. get_or (old ++ c.is_deep.result ∷ []) k false) (at_end j (length old) (same ∙ sym was.whole)) ∙ get_or-append-add old (c.is_deep.result ∷ []) 0 false) ∙ yes
+        | inr other ↦ was.lies j (omega arith) (sym (ap (λ l. get_or l j false) grown ∙ get_or_append_left old (c.is_deep.result ∷ []) false j (omega (arith, was.whole))) ∙ yes)
+      ];
+    }
+  where
+    at_end : (j n : ℕ) → j ≡ n → j ≡ n + 0
+    at_end j n same = omega arith

@@ -1,0 +1,24 @@
+-- The points that drain straight to a point, by their directions from it.
+use Rattle.std.specs.Prelude.{◌≡◌, ◌↔◌, ◌<◌, ℕ, ℤ, Bool, false, IsTrue, Some, List, slice_index_or}
+use Rattle.flow_d8.specs.Prelude.{Point, Dir, step, order_of, Terrain, Flow}
+use Rattle.flow_d8.specs.Drainage.{IsDirection}
+use Rattle.flow_d8.specs.Flows.{IsTellingAll, direction_of}
+use Rattle.flow_d8.specs.Places.{back_of}
+
+-- x is ground that drains straight to y
+pub record IsDonor (t : Terrain Point) (level : Point → ℤ) (x y : Point) : Type 0 where
+  pub on_ground : IsTrue (t.is_ground x)
+  pub drains : (e : Dir) × (IsDirection t level x (Some e) × (step e x ≡ y))
+
+-- the point in the direction is ground, and drains straight back to p
+abbrev pub DrainsBack : Terrain Point → (Point → ℤ) → Point → Dir → Type 0
+DrainsBack t level p d = IsTrue (t.is_ground (step d p)) × IsDirection t level (step d p) (Some (back_of d))
+
+-- of each of the first k directions it is told whether it has the property
+abbrev pub AreToldBy : (Dir → Type 0) → List Bool → ℕ → Type 0
+AreToldBy Has told k = (d : Dir) → order_of d < k → IsTrue (slice_index_or told (order_of d) false) ↔ Has d
+
+-- the flow tells all, and whether its step is the one back from one in the direction
+pub record IsBackTold (flow : Flow) (d : Dir) (is_back : Bool) : Type 0 where
+  pub all : IsTellingAll flow
+  pub back : IsTrue is_back ↔ (direction_of flow ≡ Some (back_of d))

@@ -1,0 +1,79 @@
+use Rattle.std.proofs.Common.{◌≡◌, ◌+◌, [], ◌∷◌, ◌++◌, Option, vec_len, refl, sym, ap, ◌∙◌, subst, arith}
+use Rattle.std.specs.Prelude.{MatchOption}
+use Rattle.std.specs.Option.{option_to_list}
+use Rattle.std.proofs.lemmas.List.{nil_from_length}
+use Rattle.lattice.specs.Ground.{terrain}
+use Rattle.watershed.specs.Counting.{IsTour}
+use Rattle.watershed.specs.declared.counting.Branch.{Branch}
+use Rattle.watershed.proofs.Known.{known_still, still_on}
+use Rattle.watershed.proofs.Tours.{begun, finished, tour_begins, tour_skips, tour_returns, tour_ends}
+use Rattle.watershed.proofs.counting.count_from.Goals as goal
+
+pub tour-init : goal.tour-init
+tour-init g c =
+    let told = c.in_ok-donors.ensures in
+    let first = c.args.first in
+    record {
+      ready = told.ready;
+      follows = told.follows;
+      keeps = told.keeps;
+      tour = λ m level tells filled known solid.
+          let is = g.met.F.FlowSource.is_mosaic c.donors.new.flows m level tells in
+          let counting = begun m is level filled first solid c.in_ok-donors.donors (told.donors m level tells) in (
+            known_still (terrain m) level c.args.side c.args.corner c.args.counts.now known,
+            subst (λ (b : Branch). IsTour (terrain m) level first b c.new-waiting.result.items) (sym c.of-at.ensures)
+                (subst (IsTour (terrain m) level first _) (sym c.new-waiting.ensures.items) (tour_begins m is level filled first _ refl counting)),
+          );
+    }
+
+pub tour-preserved-then-at-lt8 : goal.tour-preserved-then-at-lt8
+tour-preserved-then-at-lt8 g c =
+    let laws = g.met.F.FlowSource in
+    let inv = c.tour.invariant in
+    let told = c.in_ok-at.ensures in
+    let first = c.args.flows.now in
+    let old = c.tour.flows in
+    let new = c.enter.new.flows in
+    record {
+      ready = told.ready;
+      follows = laws.follows_on first old new inv.follows told.follows;
+      keeps = laws.keeps_on first old new inv.keeps told.keeps;
+      tour = λ m level tells filled known solid.
+          let so_far = inv.tour m level (laws.told_before old new m level told.follows tells) filled known solid in
+          let is = laws.is_mosaic new m level tells in
+          let skipped = tour_skips m is level filled c.args.first c.tour.at c.next_donor.result c.tour.waiting.items so_far.1 c.next_donor.ensures in
+          (so_far.0, told.tour m level tells filled so_far.0.right c.args.first skipped);
+    }
+
+pub returns-in_default-clause-count : goal.returns-in_default-clause-count
+returns-in_default-clause-count g c m level tells filled known solid =
+    let is = g.met.F.FlowSource.is_mosaic c.tour.flows m level tells in
+    let waiting = c.tour.waiting in
+    let cases = subst (λ (o : Option Branch). MatchOption o ((vec_len waiting ≡ 0) × (vec_len c.pop.new.self ≡ 0)) (λ _. vec_len c.pop.new.self + 1 ≡ vec_len waiting)) c.in_default.is c.pop.ensures.cases in
+    let none : waiting.items ≡ [] = nil_from_length waiting.items (omega (arith, cases.0, waiting.ok.0)) in
+    let at : Branch = record c.tour.at { looked = c.next_donor.result } in
+    let skipped = tour_skips m is level filled c.args.first c.tour.at c.next_donor.result waiting.items (c.tour.invariant.tour m level tells filled known solid).1 c.next_donor.ensures in
+    tour_ends m is level filled c.args.first at (subst (IsTour (terrain m) level c.args.first at) none skipped) c.if-at-lt8.false
+
+pub tour-preserved : goal.tour-preserved
+tour-preserved g c =
+    let inv = c.tour.invariant in
+    let at : Branch = record c.tour.at { looked = c.next_donor.result } in
+    let below = c.in-Some.below in
+    let rest = c.pop.new.self.items in
+    let was : c.tour.waiting.items ≡ rest ++ below ∷ [] = c.pop.ensures.items ∙ ap (λ (o : Option Branch). rest ++ option_to_list o) c.in-Some.is in
+    record {
+      ready = inv.ready;
+      follows = inv.follows;
+      keeps = inv.keeps;
+      tour = λ m level tells filled known solid.
+          let is = g.met.F.FlowSource.is_mosaic c.tour.flows m level tells in
+          let so_far = inv.tour m level tells filled known solid in
+          let skipped = tour_skips m is level filled c.args.first c.tour.at c.next_donor.result c.tour.waiting.items so_far.1 c.next_donor.ensures in
+          let counted = finished m is level filled at c.if-at-lt8.false skipped.counting in
+          let more = c.set_count.ensures (terrain m) level so_far.0.right counted in (
+            still_on (terrain m) level c.args.side c.args.corner c.args.counts.now c.tour.counts c.set_count.new.counts so_far.0 more,
+            subst (λ (b : Branch). IsTour (terrain m) level c.args.first b rest) (sym c.in_ok-at-2.ensures.counted)
+                (tour_returns m is level filled c.args.first at below c.tour.waiting.items rest skipped was c.if-at-lt8.false),
+          );
+    }

@@ -1,0 +1,19 @@
+use Rattle.std.proofs.Common.{ℤ, IsTrue}
+use Rattle.lattice.specs.declared.point.Point.{Point}
+use Rattle.lattice.specs.Ground.{is_ground, terrain}
+use Rattle.lattice.specs.Mosaic.{Mosaic}
+use Rattle.flow_d8.specs.Drainage.{AreFilledLevels}
+use Rattle.watershed.specs.Counting.{AreCounted, AreStillCounted, IsTour}
+use Rattle.watershed.proofs.counting.count_from.Given as goal
+
+abbrev pub invariant-tour : goal.invariant-tour
+invariant-tour g l = record {
+  ready : g.F.FlowSource.is_ready l.flows;
+  follows : g.F.FlowSource.follows l.fn.flows l.flows;
+  keeps : g.F.FlowSource.keeps l.fn.flows l.flows;
+  tour : (m : Mosaic) (level : Point → ℤ) → g.F.FlowSource.tells l.flows m level → AreFilledLevels (terrain m) level → AreCounted (terrain m) level l.side l.corner l.fn.counts → IsTrue (is_ground m l.fn.first)
+      → AreStillCounted (terrain m) level l.side l.corner l.fn.counts l.counts × IsTour (terrain m) level l.fn.first l.at l.waiting.items;
+}
+
+abbrev pub decreases-tour : goal.decreases-tour
+decreases-tour g l = l.left

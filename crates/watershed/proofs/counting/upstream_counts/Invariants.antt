@@ -1,0 +1,18 @@
+use Rattle.std.proofs.Common.{◌≡◌, ◌*◌, ◌<◌, ℕ, ℤ, IsTrue, length, get_or}
+use Rattle.lattice.specs.declared.point.Point.{Point}
+use Rattle.lattice.specs.Ground.{is_ground, terrain}
+use Rattle.lattice.specs.Lattice.{point_of}
+use Rattle.lattice.specs.Mosaic.{Mosaic}
+use Rattle.flow_d8.specs.Drainage.{AreFilledLevels}
+use Rattle.watershed.specs.Counting.{AreCounted}
+use Rattle.watershed.proofs.counting.upstream_counts.Given as goal
+
+abbrev pub invariant-loop-index : goal.invariant-loop-index
+invariant-loop-index g l = record {
+  ready : g.F.FlowSource.is_ready l.flows;
+  follows : g.F.FlowSource.follows l.fn.flows l.flows;
+  keeps : g.F.FlowSource.keeps l.fn.flows l.flows;
+  whole : length l.counts.items ≡ l.side * l.side;
+  counted : (m : Mosaic) (level : Point → ℤ) → g.F.FlowSource.tells l.flows m level → AreFilledLevels (terrain m) level → AreCounted (terrain m) level l.side l.corner l.counts.items;
+  known : (m : Mosaic) (level : Point → ℤ) → g.F.FlowSource.tells l.flows m level → AreFilledLevels (terrain m) level → (e : ℕ) → e < l.index → IsTrue (is_ground m (point_of l.side l.corner e)) → get_or l.counts.items e 0 ≡ 0 → ⊥;
+}

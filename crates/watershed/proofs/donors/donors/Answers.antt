@@ -1,0 +1,55 @@
+use Rattle.std.proofs.Common.{◌≡◌, ◌+◌, ◌↔◌, Bool, false, IsTrue, List, length, set, get_or, inl, inr, refl, sym, ◌∙◌, subst, arith, get_or-set_other, get_or-set_same, length-set}
+use Rattle.std.proofs.lemmas.Bool.{cases_eq}
+use Rattle.lattice.specs.declared.direction.Dir.{Dir}
+use Rattle.lattice.specs.declared.direction.Dir.TheVariants.{East}
+use Rattle.lattice.specs.Ground.{terrain}
+use Rattle.lattice.specs.Steps.{order_of, directions}
+use Rattle.flow_d8.specs.Donors.{AreToldBy, DrainsBack}
+use Rattle.flow_d8.proofs.Steps.Compass.{order_at, order_below, same_order}
+use Rattle.watershed.proofs.donors.donors.Goals as goal
+
+-- one more direction is told
+told_more : (Has : Dir → Type 0) (told : List Bool) (d : Dir) (is : Bool) → length told ≡ 8 → AreToldBy Has told (order_of d) → IsTrue is ↔ Has d → AreToldBy Has (set told (order_of d) is) (order_of d + 1)
+told_more Has told d is whole so_far here = λ e below. elim (cases_eq (order_of e) (order_of d)) [
+  | inl this ↦
+      subst (λ f. IsTrue (get_or (set told (order_of d) is) (order_of f) false) ↔ Has f) (sym (same_order e d this))
+      (subst (λ b. IsTrue b ↔ Has d) (sym (get_or-set_same told (order_of d) is false (omega (arith, order_below d)))) here)
+  | inr other ↦
+      subst (λ b. IsTrue b ↔ Has e) (sym (get_or-set_other told (order_of d) (order_of e) is false other)) (so_far e (omega arith))
+]
+
+pub loop-i-init : goal.loop-i-init
+loop-i-init g c = record {
+  ready = c.requires;
+  follows = g.met.F.FlowSource.follows_itself c.args.flows.now c.requires;
+  keeps = g.met.F.FlowSource.keeps_itself c.args.flows.now;
+  whole = refl;
+  told = λ m level tells d below. absurd (omega arith);
+}
+
+pub loop-i-preserved : goal.loop-i-preserved
+loop-i-preserved g c =
+    let laws = g.met.F.FlowSource in
+    let inv = c.loop-i.invariant in
+    let told = c.in_ok-donors.ensures in
+    let is = c.in_ok-donors.field-0 in
+    let i = c.loop-i.i in
+    let d : Dir = get_or directions i East in
+    let place : order_of d ≡ i = order_at i East c.loop-i-test.true in
+    let now = c.args.flows.now in
+    let mid = c.loop-i.flows in
+    let end = c.is_donor.new.flows in
+    record {
+      ready = told.ready;
+      follows = laws.follows_on now mid end inv.follows told.follows;
+      keeps = laws.keeps_on now mid end inv.keeps told.keeps;
+      whole = length-set c.loop-i.donors i is ∙ inv.whole;
+      told = λ m level tells.
+          let Drains = DrainsBack (terrain m) level c.args.point in
+          let before = inv.told m level (laws.told_before mid end m level told.follows tells) in
+          subst (λ k. AreToldBy Drains (set c.loop-i.donors k is) (k + 1)) place
+          (told_more Drains c.loop-i.donors d is inv.whole (subst (AreToldBy Drains c.loop-i.donors) (sym place) before) (told.donor m level tells));
+    }
+
+pub returns-clause-donors : goal.returns-clause-donors
+returns-clause-donors g c m level tells d below = c.loop-i.invariant.told m level tells d (omega (arith, c.loop-i-test.false, below))

@@ -1,0 +1,15 @@
+use Rattle.std.proofs.Common.{◌≡◌, ℤ, length}
+use Rattle.lattice.specs.declared.point.Point.{Point}
+use Rattle.lattice.specs.Ground.{terrain}
+use Rattle.lattice.specs.Mosaic.{Mosaic}
+use Rattle.flow_d8.specs.Donors.{AreToldBy, DrainsBack}
+use Rattle.watershed.proofs.donors.donors.Given as goal
+
+abbrev pub invariant-loop-i : goal.invariant-loop-i
+invariant-loop-i g l = record {
+  ready : g.F.FlowSource.is_ready l.flows;
+  follows : g.F.FlowSource.follows l.fn.flows l.flows;
+  keeps : g.F.FlowSource.keeps l.fn.flows l.flows;
+  whole : length l.donors ≡ 8;
+  told : (m : Mosaic) (level : Point → ℤ) → g.F.FlowSource.tells l.flows m level → AreToldBy (DrainsBack (terrain m) level l.point) l.donors l.i;
+}

@@ -1,0 +1,66 @@
+-- The tour up the flow paths that counts: what is known of samples, and of the points on the way to the one at hand.
+use Rattle.std.specs.Prelude.{◌≡◌, ◌⊎◌, ◌+◌, ◌*◌, ◌<◌, ◌≤◌, ℕ, zero, suc, ℤ, Bool, false, IsTrue, IsFalse, List, [], ◌∷◌, ◌++◌, slice_index_or}
+use Rattle.lattice.specs.Corners.{Corner}
+use Rattle.lattice.specs.Lattice.{point_of}
+use Rattle.lattice.specs.declared.point.Point.{Point}
+use Rattle.lattice.specs.declared.direction.Dir.{Dir}
+use Rattle.lattice.specs.Steps.{step, order_of}
+use Rattle.lattice.specs.Terrain.{Terrain}
+use Rattle.flow_d8.specs.FlowPath.{IsInWatershed}
+use Rattle.watershed.specs.Counts.{IsCountOf}
+use Rattle.flow_d8.specs.Donors.{AreToldBy, DrainsBack}
+use Rattle.watershed.specs.declared.counting.Branch.{Branch}
+
+-- from one direction on it is the first that is told, or there is none
+pub record IsNext (told : List Bool) (from next : ℕ) : Type 0 where
+  pub later : from ≤ next
+  pub small : (next ≤ 8) ⊎ (next ≡ from)
+  pub none_before : (k : ℕ) → from ≤ k → k < next → IsFalse (slice_index_or told k false)
+  pub there : next < 8 → IsTrue (slice_index_or told next false)
+
+module _ (t : Terrain Point) (level : Point → ℤ) where
+  -- x is the point, or drains through one that drains straight to it from one of the first k directions
+  abbrev pub IsThrough : Point → ℕ → Point → Type 0
+  IsThrough p k x = (x ≡ p) ⊎ ((d : Dir) × ((order_of d < k) × (DrainsBack t level p d × IsInWatershed t level (step d p) x)))
+
+  -- so many points drain through the ground point
+  pub record IsCounted (p : Point) (k : ℕ) : Type 0 where
+    pub on_ground : IsTrue (t.is_ground p)
+    pub count : IsCountOf (IsInWatershed t level p) k
+
+  -- what is known of the samples of the corner's tile; 0 where nothing is
+  abbrev pub AreCounted : ℕ → Corner → List ℕ → Type 0
+  AreCounted n c counts = (e : ℕ) → e < n * n → (slice_index_or counts e 0 ≡ 0) ⊎ IsCounted (point_of n c e) (slice_index_or counts e 0)
+
+  pub record IsBranch (b : Branch) : Type 0 where
+    pub on_ground : IsTrue (t.is_ground b.point)
+    pub donors : AreToldBy (DrainsBack t level b.point) b.donors 8
+
+  -- what drains through the donors in the directions that were looked in is counted
+  pub record IsCounting (b : Branch) : Type 0 where
+    pub branch : IsBranch b
+    pub count : IsCountOf (IsThrough b.point b.looked) b.count
+
+  -- all but what drains through p, its donor in the last direction that was looked in
+  pub record IsWaiting (b : Branch) (p : Point) : Type 0 where
+    pub branch : IsBranch b
+    pub last : Dir
+    pub looked : b.looked ≡ order_of last + 1
+    pub leads : step last b.point ≡ p
+    pub drains : DrainsBack t level b.point last
+    pub count : IsCountOf (IsThrough b.point (order_of last)) b.count
+
+  -- the points on the flow path from p to the first, p left out, wait for the one before
+  abbrev pub AreWaiting : Point → ℕ → List Branch → Point → Type 0
+  AreWaiting first zero branches p = (branches ≡ []) × (p ≡ first)
+  AreWaiting first (suc n) branches p = (rest : List Branch) × ((b : Branch) × ((branches ≡ rest ++ b ∷ []) × (IsWaiting b p × AreWaiting first n rest b.point)))
+
+  pub record IsTour (first : Point) (at : Branch) (branches : List Branch) : Type 0 where
+    pub counting : IsCounting at
+    pub depth : ℕ
+    pub waiting : AreWaiting first depth branches at.point
+
+  -- what was known is known still, and all that is known is right
+  pub record AreStillCounted (n : ℕ) (c : Corner) (old new : List ℕ) : Type 0 where
+    pub right : AreCounted n c new
+    pub still : (e : ℕ) → e < n * n → slice_index_or new e 0 ≡ 0 → slice_index_or old e 0 ≡ 0

@@ -1,0 +1,253 @@
+//! How many points drain through each sample of a tile: a tour up the flow paths that counts on the way back.
+ghost use Rattle.std.specs.Prelude.{◌≡◌, ◌⊎◌, ◌*◌, ◌+◌, ◌<◌, ◌≤◌, ℕ, ℤ, false, IsTrue, IsFalse, IfOk, IfErr, OnOk, length, slice_index_or};
+ghost use Rattle.lattice.specs.Corners.{Corner};
+ghost use Rattle.lattice.specs.Ground.{is_ground, terrain};
+ghost use Rattle.lattice.specs.Lattice.{point_of};
+ghost use Rattle.lattice.specs.Mosaic.{Mosaic};
+ghost use Rattle.lattice.specs.Terrain.{Terrain};
+ghost use Rattle.lattice.specs.declared.point.Point.{Point};
+ghost use Rattle.lattice.specs.declared.refusal.Refusal.TheVariants.{NoMemory};
+ghost use Rattle.flow_d8.specs.Drainage.{AreFilledLevels};
+ghost use Rattle.watershed.specs.Counts.{AreUpstreamCounts};
+ghost use Rattle.watershed.specs.Counting.{AreCounted, AreStillCounted, IsCounted, IsNext, IsTour};
+
+use crate::donors::donors;
+use crate::flow_source::FlowSource;
+use crate::search::is_no_ground;
+use lattice::{
+    Corner, DIRECTIONS, MOST_TILES, Point, Refusal, Side, index_in, neighbour, point_at, push,
+};
+use std::alloc::Global;
+
+/// Of each sample of the corner's tile how many ground points have its point on their flow path, itself among them: so many as
+/// the watershed of the point has. 0 where it isn't ground. Row by row from the north, west first.
+///
+/// Each point upstream of the tile is visited once. 4 bytes a sample are held, and 24 a point of the longest flow path. It is
+/// refused as a flow is, or for want of memory.
+pub fn upstream_counts<F: FlowSource>(
+    alloc: Global,
+    flows: &mut F,
+    side: Side,
+    corner: Corner,
+) -> Result<Vec<u32>, Refusal>
+    requires { F.is_ready flows.old }
+    ensures counts { IfOk result (λ counts. (m : Mosaic) (level : Point → ℤ) → F.tells flows.new m level → AreFilledLevels (terrain m) level
+        → AreUpstreamCounts (terrain m) level side corner counts.items) }
+    ensures follows { F.follows flows.old flows.new }
+    ensures keeps { OnOk result (F.keeps flows.old flows.new) }
+    ensures refusal { IfErr result (F.refuses flows.old flows.new) }
+{
+    let area = side.area();
+    let mut counts = vec![in alloc; 0; area as usize]?;
+    for index in 0..area {
+        count_sample(alloc, flows, side, corner, &mut counts, index)?;
+    }
+    Ok(counts)
+}
+
+// Counts what drains through the sample's point, where that isn't known yet.
+fn count_sample<F: FlowSource>(
+    alloc: Global,
+    flows: &mut F,
+    side: Side,
+    corner: Corner,
+    counts: &mut [u32],
+    index: u32,
+) -> Result<(), Refusal>
+    requires ready { F.is_ready flows.old }
+    requires whole { length counts.old ≡ side * side }
+    requires index { index < side * side }
+    ensures counted { OnOk result ((m : Mosaic) (level : Point → ℤ) → F.tells flows.new m level → AreFilledLevels (terrain m) level
+        → AreCounted (terrain m) level side corner counts.old → AreStillCounted (terrain m) level side corner counts.old counts.new) }
+    ensures known { OnOk result ((m : Mosaic) (level : Point → ℤ) → F.tells flows.new m level → AreFilledLevels (terrain m) level
+        → AreCounted (terrain m) level side corner counts.old → IsTrue (is_ground m (point_of side corner index)) → slice_index_or counts.new index 0 ≡ 0 → ⊥) }
+    ensures ready { OnOk result (F.is_ready flows.new) }
+    ensures follows { F.follows flows.old flows.new }
+    ensures keeps { OnOk result (F.keeps flows.old flows.new) }
+    ensures refusal { IfErr result (F.refuses flows.old flows.new) }
+{
+    if counts[index as usize] > 0 {
+        return Ok(());
+    }
+    let point = point_at(side, corner, index);
+    let flow = flows.flow(alloc, point)?;
+    if is_no_ground(flow) {
+        return Ok(());
+    }
+    let count = count_from(alloc, flows, side, corner, counts, point)?;
+    counts[index as usize] = count;
+    Ok(())
+}
+
+/// A point whose donors are counted, one direction after another.
+#[derive(Clone, Copy)]
+struct Branch {
+    point: Point,
+    donors: [bool; 8], // which points beside it drain straight to it, in the order of the directions
+    looked: u8, // in so many directions
+    count: u32, // the point, and what drains through these donors
+}
+
+impl Branch {
+    fn of(point: Point, donors: [bool; 8]) -> Branch
+        ensures { result ≡ record { point = point; donors = donors; looked = 0; count = 1 } }
+    {
+        Branch {
+            point,
+            donors,
+            looked: 0,
+            count: 1,
+        }
+    }
+
+    // With so many points more.
+    fn with(self, count: u32) -> Result<Branch, Refusal>
+        ensures counted { IfOk result (λ branch. branch ≡ record self { count = self.count + count }) }
+        ensures refusal { IfErr result (λ r. r ≡ NoMemory) }
+    {
+        match self.count.checked_add(count) {
+            Some(count) => Ok(Branch { count, ..self }),
+            None => Err(Refusal::NoMemory),
+        }
+    }
+}
+
+// Finds where a path comes back to a point of its own: the last point of it is kept whenever it has grown to twice its length
+// (Brent 1980).
+#[derive(Drop)]
+struct CycleCheck {
+    point: Point,
+    length: usize,
+}
+
+impl CycleCheck {
+    // Whether the point that was just come to, with so many others on the path, is the one that is kept.
+    fn finds(&mut self, at: Branch, length: usize) -> bool {
+        let found = at.looked == 0 && at.point == self.point;
+        if length / 2 >= self.length {
+            self.length = length;
+            self.point = at.point;
+        }
+        found
+    }
+}
+
+// Counts what drains through the ground point, and through each sample above it. Each point drains to one alone, so that none
+// is met twice. Where what is asked tells otherwise it ends all the same: a way round is found, and there are no more steps than
+// two for each sample of all tiles that there may be.
+fn count_from<F: FlowSource>(
+    alloc: Global,
+    flows: &mut F,
+    side: Side,
+    corner: Corner,
+    counts: &mut [u32],
+    first: Point,
+) -> Result<u32, Refusal>
+    requires ready { F.is_ready flows.old }
+    requires whole { length counts.old ≡ side * side }
+    ensures count { IfOk result (λ count. (m : Mosaic) (level : Point → ℤ) → F.tells flows.new m level → AreFilledLevels (terrain m) level
+        → AreCounted (terrain m) level side corner counts.old → IsTrue (is_ground m first) → IsCounted (terrain m) level first count) }
+    ensures counted { OnOk result ((m : Mosaic) (level : Point → ℤ) → F.tells flows.new m level → AreFilledLevels (terrain m) level
+        → AreCounted (terrain m) level side corner counts.old → IsTrue (is_ground m first) → AreStillCounted (terrain m) level side corner counts.old counts.new) }
+    ensures ready { OnOk result (F.is_ready flows.new) }
+    ensures follows { F.follows flows.old flows.new }
+    ensures keeps { OnOk result (F.keeps flows.old flows.new) }
+    ensures refusal { IfErr result (F.refuses flows.old flows.new) }
+{
+    let donors = donors(alloc, flows, first)?;
+    let mut at = Branch::of(first, donors);
+    let mut waiting = Vec::new(alloc);
+    let mut check = CycleCheck {
+        point: first,
+        length: 1,
+    };
+    let mut left = MOST_TILES as usize * side.area() as usize * 2;
+    'tour: while left > 0 {
+        left -= 1;
+        at.looked = next_donor(&at.donors, at.looked);
+        if at.looked < 8 {
+            at = enter(alloc, flows, side, corner, counts, at, &mut waiting)?;
+            if check.finds(at, waiting.len()) {
+                return Err(Refusal::NoMemory);
+            }
+            continue;
+        }
+        let Some(below) = waiting.pop() else {
+            return Ok(at.count);
+        };
+        set_count(side, corner, counts, at.point, at.count);
+        at = below.with(at.count)?;
+    }
+    Err(Refusal::NoMemory)
+}
+
+// The first direction from this one on in which there is a donor; 8 where there is none.
+#[inline(always)]
+fn next_donor(donors: &[bool; 8], from: u8) -> u8
+    ensures { IsNext donors.now from result }
+{
+    let mut next = from;
+    while next < 8 && !donors[next as usize] {
+        next += 1;
+    }
+    next
+}
+
+// What drains through the donor in the next direction is added where it is known; else the tour goes on from the donor, and the
+// point waits.
+fn enter<F: FlowSource>(
+    alloc: Global,
+    flows: &mut F,
+    side: Side,
+    corner: Corner,
+    counts: &[u32],
+    at: Branch,
+    waiting: &mut Vec<Branch>,
+) -> Result<Branch, Refusal>
+    requires ready { F.is_ready flows.old }
+    requires whole { length counts.now ≡ side * side }
+    requires looked { at.looked < 8 }
+    requires donor { IsTrue (slice_index_or at.donors at.looked false) }
+    ensures tour { IfOk result (λ next. (m : Mosaic) (level : Point → ℤ) → F.tells flows.new m level → AreFilledLevels (terrain m) level
+        → AreCounted (terrain m) level side corner counts.now → (first : Point) → IsTour (terrain m) level first at waiting.old.items → IsTour (terrain m) level first next waiting.new.items) }
+    ensures ready { OnOk result (F.is_ready flows.new) }
+    ensures follows { F.follows flows.old flows.new }
+    ensures keeps { OnOk result (F.keeps flows.old flows.new) }
+    ensures refusal { IfErr result (F.refuses flows.old flows.new) }
+{
+    let next = Branch {
+        looked: at.looked + 1,
+        ..at
+    };
+    let Some(donor) = neighbour(at.point, DIRECTIONS[at.looked as usize]) else {
+        return Ok(next);
+    };
+    let count = count_at(side, corner, counts, donor);
+    if count > 0 {
+        return next.with(count);
+    }
+    let donors = donors(alloc, flows, donor)?;
+    push(waiting, next)?;
+    Ok(Branch::of(donor, donors))
+}
+
+// What is known of the point; 0 where nothing is.
+fn count_at(side: Side, corner: Corner, counts: &[u32], point: Point) -> u32
+    requires { length counts.now ≡ side * side }
+    ensures { (t : Terrain Point) (level : Point → ℤ) → AreCounted t level side corner counts.now → (result ≡ 0) ⊎ IsCounted t level point result }
+{
+    match index_in(side, corner, point) {
+        Some(index) => counts[index as usize],
+        None => 0,
+    }
+}
+
+// Keeps the count of the point, where the tile holds it.
+fn set_count(side: Side, corner: Corner, counts: &mut [u32], point: Point, count: u32)
+    requires { length counts.old ≡ side * side }
+    ensures { (t : Terrain Point) (level : Point → ℤ) → AreCounted t level side corner counts.old → IsCounted t level point count → AreStillCounted t level side corner counts.old counts.new }
+{
+    if let Some(index) = index_in(side, corner, point) {
+        counts[index as usize] = count;
+    }
+}
