@@ -16,7 +16,7 @@ use Rattle.border_graph.specs.declared.frontier.Entry.{Entry}
 use Rattle.border_graph.specs.Edges.{AreAllEdges, AreEdges, IsReachedBelow}
 use Rattle.border_graph.specs.Heaps.{IsAdded}
 use Rattle.border_graph.specs.Frontier.{is_among, IsNext, NoneLeft}
-use Rattle.border_graph.proofs.Next.{taken_still, taken_other}
+use Rattle.border_graph.proofs.Forests.Next.{taken_still, taken_other}
 use Rattle.border_graph.specs.Bottleneck.{raised, AreRaised, IsSettledBy, WaitsBelow, IsEnd, IsExpanded, IsOn, IsSearching}
 
 -- links lead back, but for those to the outlet node, from which none leads

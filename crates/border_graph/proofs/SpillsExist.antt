@@ -133,9 +133,6 @@ one_of_each (x ∷ rest) once p q has_p has_q same = elim (first_or_rest x p res
 ]
 
 module _ (n : ℕ) (heights levels : List ℤ) (labels : List ℕ) where
-  level_between : ℕ → ℕ → ℤ
-  level_between e f = int_max (slice_index_or levels e void) (slice_index_or levels f void)
-
   -- the place between two points
   place : ℕ → ℕ → Spill
   place e f = record { a = slice_index labels e; b = slice_index labels f; level = int_max (slice_index_or levels e void) (slice_index_or levels f void) }

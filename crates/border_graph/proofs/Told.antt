@@ -41,13 +41,6 @@ module _ (n : ℕ) (b : Summary) (k : ℕ) where
   abbrev IsRow : List Spill → List Spill → Type 0
   IsRow row spills = (s : Spill) → Contains row s ↔ (Contains spills s × (s.a ≡ k))
 
-  -- none leads from what isn't ground
-  pub none_out : (into : List Edge) → (IsThere n (b ∷ []) 0 k → ⊥) → AreEdgesOut n b k into into
-  none_out into off = record { still = λ way has. has; only = λ way has. inl has; all = λ level link. absurd (off link.0) }
-
-  pub none_across : (first : ℕ) (into : List Edge) → (IsThere n (b ∷ []) 0 k → ⊥) → AreEdgesAcross n b k first into into
-  none_across first into off = record { still = λ way has. has; only = λ way has. inl has; all = λ l level link. absurd (off link.0) }
-
   module _ (there : IsThere n (b ∷ []) 0 k) (point : RimPoint) (is : rim_point b k ≡ point) (own : Spill) (height : own.level ≡ point.height) where
     at_height : (level : ℤ) → level ≡ own.level → (rim_point b k).height ≡ level
     at_height level at = ap (λ (p : RimPoint). p.height) is ∙ (sym height ∙ sym at)

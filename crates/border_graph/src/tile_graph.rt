@@ -59,6 +59,13 @@ impl TileGraph {
         self.side
     }
 
+    /// How many rim points and spills it has.
+    pub fn size(&self) -> usize
+        ensures { result ≡ length self.now.summary.rim + length self.now.summary.spills }
+    {
+        self.summary.rim().len() + self.summary.spills().len()
+    }
+
     /// The height of the rim point with this number, in metres, -32768 where it is void.
     pub fn height(&self, k: u32) -> i16
         ensures { result ≡ (rim_point self.now.summary k).height }

@@ -1,21 +1,17 @@
 -- What is held between two questions.
-use Rattle.std.specs.Prelude.{◌≡◌, ◌+◌, ℕ, ℤ, List, Option, Some, None, length}
-use Rattle.std.specs.Option.{ForSome}
+use Rattle.std.specs.Prelude.{◌≡◌, ◌≤◌, ◌+◌, ◌*◌, ◌^◌, ℕ, ℤ, List, All, Option, Some, None, length, sum_by}
 use Rattle.lattice.specs.Corners.{Corner}
 use Rattle.lattice.specs.Mosaic.{Mosaic}
 use Rattle.lattice.specs.declared.point.Point.{Point}
 use Rattle.catalogue.specs.declared.samples.Samples.{Ghosts}
 use Rattle.tile_flood.specs.Blocks.{LabelledGround}
 use Rattle.edits.specs.declared.edit.NewHeight.{NewHeight}
-use Rattle.flow_d8.specs.FlowCaches.{IsCacheOf, IsPastOf}
-use Rattle.flow_d8.specs.FlowGrids.{AreFewTiles}
-use Rattle.flow_d8.specs.declared.flow_cache.FlowCache.{FlowCache}
-use Rattle.flow_d8.specs.declared.past_flows.PastFlows.{PastFlows}
+use Rattle.drainage.specs.FlowCaches.{are_spared, flow_bytes, flow_cache_right, past_right, IsCacheOf, IsPastTaken}
+use Rattle.drainage.specs.declared.flow_cache.FlowCache.{FlowCache}
 use Rattle.drainage.specs.Invalidating.{IsLeftOf, IsNotedOf}
 use Rattle.drainage.specs.Holding.{IsRight, IsCurrentIn, level_of}
-use Rattle.drainage.specs.PastFlows.{past_tiles, IsPastTaken, are_spared}
 use Rattle.drainage.specs.Reaching.{is_reached}
-use Rattle.drainage.specs.Room.{AreFew}
+use Rattle.drainage.specs.Room.{graph_size, labelling_bytes, HasSide}
 use Rattle.drainage.specs.TileCaches.{known_of, IsSparedOf}
 use Rattle.drainage.specs.declared.drainage_cache.DrainageCache.{DrainageCache}
 use Rattle.drainage.specs.declared.tile_cache.TileCache.{TileCache}
@@ -24,30 +20,26 @@ abbrev pub are_right : Mosaic → Option TileCache → Type 0
 are_right m None = Unit {0}
 are_right m (Some tile_cache) = IsRight m (known_of tile_cache)
 
-abbrev pub flow_cache_right : Mosaic → Option FlowCache → Type 0
-flow_cache_right m None = Unit {0}
-flow_cache_right m (Some cache) = IsCacheOf m cache
-
-abbrev pub past_right : Mosaic → Option PastFlows → Type 0
-past_right m None = Unit {0}
-past_right m (Some past) = IsPastOf m past
-
 -- what is held is right for the mosaic, or nothing is
 pub record IsHeldOf (m : Mosaic) (held : DrainageCache) : Type 0 where
   pub tile_cache : are_right m held.tile_cache
   pub flow_cache : flow_cache_right m held.flow_cache
   pub past_flows : past_right m held.past_flows
 
--- the labellings of few tiles are held, or none is
-abbrev pub are_few : Option TileCache → Type 0
-are_few None = Unit {0}
-are_few (Some tile_cache) = AreFew tile_cache.rim_graph.side tile_cache.labellings.held.items
+-- bytes of labellings and their blocks, of graphs (twelve at most for each rim point and spill) and of levels of rim points (four)
+abbrev pub tile_bytes : Option TileCache → ℕ
+tile_bytes None = 0
+tile_bytes (Some w) = labelling_bytes w.rim_graph.side w.labellings.held.items + 12 * sum_by graph_size w.rim_graph.loaded.items + 4 * length w.levels
 
--- no more is held than there is room for
+-- each labelling is of a tile with the mosaic's side
+abbrev pub are_of_side : Option TileCache → Type 0
+are_of_side None = Unit {0}
+are_of_side (Some w) = All (HasSide w.rim_graph.side) w.labellings.held.items
+
+-- no more is held than 512 MiB
 pub record HoldsFew (held : DrainageCache) : Type 0 where
-  pub labellings : are_few held.tile_cache
-  pub flow_cache : ForSome held.flow_cache (λ cache. AreFewTiles cache.grid.tiles.side (length cache.grid.tiles.corners + past_tiles held.past_flows))
-  pub past_flows : ForSome held.past_flows (λ past. AreFewTiles past.grid.tiles.side (length past.grid.tiles.corners))
+  pub bytes : tile_bytes held.tile_cache + (flow_bytes held.flow_cache + flow_bytes held.past_flows) ≤ 2 ^ 29
+  pub sides : are_of_side held.tile_cache
 
 -- these are the levels and labels that are held of the corner's tile, and no height may have changed since
 abbrev pub is_current_in : Option TileCache → Corner → LabelledGround → Type 0
@@ -81,18 +73,17 @@ abbrev pub levels_pass : (ℤ → Type 0) → Option TileCache → Type 0
 levels_pass spared None = Unit {0}
 levels_pass spared (Some tile_cache) = (x : ℕ) (level : ℤ) → level_of tile_cache.levels x ≡ Some level → spared level
 
--- what was found is left, but for the summaries that the point reaches, and for the labellings of tiles that hold it
-abbrev pub are_noted : Point → Option TileCache → Option TileCache → Type 0
-are_noted p None left = left ≡ None
-are_noted p (Some tile_cache) left =
-    (some : TileCache) × (left ≡ Some some) × IsNotedOf (is_reached tile_cache.rim_graph.side tile_cache.rim_graph.corners.items p p) p (known_of tile_cache) (known_of some)
+-- what was found is left, but for summaries that the point reaches, and for labellings of tiles that hold it
+abbrev pub are_noted : NewHeight → Option TileCache → Option TileCache → Type 0
+are_noted h None left = left ≡ None
+are_noted h (Some tile_cache) left = (some : TileCache) × (left ≡ Some some) × IsNotedOf h (known_of tile_cache) (known_of some)
 
-abbrev pub IsNotedHeld : Point → DrainageCache → DrainageCache → Type 0
-IsNotedHeld p held left = are_noted p held.tile_cache left.tile_cache
+abbrev pub IsNotedHeld : NewHeight → DrainageCache → DrainageCache → Type 0
+IsNotedHeld h held left = are_noted h held.tile_cache left.tile_cache
 
 -- what was known of where points drain is left where the change of a height from the one to the other spares it
 abbrev pub AreFlowsLeft : ℤ → ℤ → DrainageCache → DrainageCache → Type 0
-AreFlowsLeft was is held left = (past : Option PastFlows) × (IsPastTaken held.flow_cache held.past_flows past × are_spared was is past left.past_flows)
+AreFlowsLeft was is held left = (past : Option FlowCache) × (IsPastTaken held.flow_cache held.past_flows past × are_spared was is past left.past_flows)
 
 -- what is held is right for the mosaic that the samples stand for, where they are honest
 abbrev pub IsHeldFor : {S : Type 0} (g : Ghosts S) → S → DrainageCache → Type 0

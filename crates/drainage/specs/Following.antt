@@ -1,7 +1,7 @@
 -- What following water over levels that are held does to the samples.
 use Rattle.std.specs.Prelude.{Ok, Err, IsTrue, refl}
 use Rattle.lattice.specs.declared.refusal.Refusal.{Refusal}
-use Rattle.lattice.specs.declared.refusal.Refusal.TheVariants.{NoMemory, Damaged}
+use Rattle.lattice.specs.declared.refusal.Refusal.TheVariants.{NoMemory}
 use Rattle.catalogue.specs.Asked.{Asked}
 use Rattle.catalogue.specs.Endings.{ends_any}
 use Rattle.catalogue.specs.Readers.{OnlyReads}
@@ -20,9 +20,6 @@ module _ {S : Type 0} (g : Ghosts S) (a b : S) where
 
   pub ran_out : AreRead → IsStopped NoMemory
   ran_out reads = record { cause = refl; asked = asked g a b tt (Err NoMemory) reads tt (λ _ _ e. absurd (cc)) }
-
-  pub found_out : AreRead → (g.is_honest b → ⊥) → IsStopped Damaged
-  found_out reads never = record { cause = refl; asked = asked g a b tt (Err Damaged) reads tt (λ honest _ _. never honest) }
 
 pub stopped_on : {S : Type 0} (g : Ghosts S) → ((x y z : S) → g.keeps x y → g.keeps y z → g.keeps x z) → (a b c : S) (r : Refusal) → AreRead g a b → IsStopped g b c r → IsStopped g a c r
 stopped_on g keeps_on a b c r reads then_ = record { cause = then_.cause; asked = asked_on g keeps_on a b c tt (Err r) reads then_.asked }

@@ -1,16 +1,16 @@
 -- What is left of what was known of a mosaic's water (this product's own profile).
-use Rattle.std.specs.Prelude.{◌≡◌, ◌↔◌, ◌<◌, ℕ, ℤ, Bool, true, false, IsTrue, List, Some, length}
+use Rattle.std.specs.Prelude.{◌≡◌, ◌↔◌, ◌⊎◌, ◌<◌, ℕ, ℤ, Bool, true, false, IsTrue, List, Some, length}
 use Rattle.lattice.specs.Corners.{Corner}
-use Rattle.lattice.specs.Lattice.{holds}
+use Rattle.lattice.specs.Lattice.{IsIndexOf, holds}
 use Rattle.lattice.specs.Mosaic.{Mosaic}
 use Rattle.lattice.specs.declared.point.Point.{Point}
 use Rattle.border_graph.specs.Others.{corner_at}
 use Rattle.border_graph.specs.TileGraph.{TileGraph}
 use Rattle.edits.specs.declared.edit.NewHeight.{NewHeight}
-use Rattle.tile_labellings.specs.TileLabellings.{labelled_of, is_flooded, can_note, IsSetFrom, IsTileLabelling}
+use Rattle.tile_labellings.specs.TileLabellings.{labelled_of, is_flooded, can_note, IsBelow, IsSetFrom, IsTileLabelling}
 use Rattle.tile_labellings.specs.declared.tile_labelling.TileLabelling.{TileLabelling}
 use Rattle.drainage.specs.Holding.{Known, IsHeldAt, level_of}
-use Rattle.drainage.specs.Reaching.{DifferAt}
+use Rattle.drainage.specs.Reaching.{DifferAt, is_reached}
 use Rattle.drainage.specs.RimGraphs.{loaded_at}
 use Rattle.drainage.specs.Room.{has_block}
 use Rattle.drainage.specs.declared.labelling_cache.HeldLabelling.{HeldLabelling}
@@ -31,14 +31,26 @@ pub record IsHeldStill (labellings : List HeldLabelling) (t : ℕ) (labelling : 
   pub same : labelled_of noted ≡ labelled_of labelling
   pub flooded : is_flooded noted ≡ is_flooded labelling
 
--- all that was known, but for the summaries of the tiles whose places pass the test, and for the labellings of those that hold
--- the point, of which those stay that can be mended
-pub record IsNotedOf (gone : ℕ → Bool) (p : Point) (known known' : Known) : Type 0 where
+-- by a labelling that is held of the corner's tile the point lay below its level in the tile, and doesn't rise above it
+pub record IsStillAt (side : ℕ) (labellings : List HeldLabelling) (h : NewHeight) (t : ℕ) (c : Corner) : Type 0 where
+  pub labelling : TileLabelling
+  pub held : IsHeldAt labellings t labelling
+  pub index : ℕ
+  pub point : IsIndexOf side c h.point index
+  pub below : IsBelow labelling index h.was h.metres
+
+-- the point doesn't reach the tile with this place, or it is there and so its levels stay
+abbrev pub KeepsSummary : ℕ → List Corner → List HeldLabelling → NewHeight → ℕ → Type 0
+KeepsSummary side corners labellings h t = (is_reached side corners h.point h.point t ≡ false) ⊎ ((t < length corners) × IsStillAt side labellings h t (corner_at corners t))
+
+-- all that was known, but for the summaries of the tiles that the point reaches where levels may not stay, and for the
+-- labellings of those that hold it, of which those stay that can be mended
+pub record IsNotedOf (h : NewHeight) (known known' : Known) : Type 0 where
   pub same_side : known'.side ≡ known.side
   pub same_corners : known'.corners ≡ known.corners
   pub whole : length known'.loaded ≡ length known.loaded
-  pub loaded : (t : ℕ) (ways : TileGraph) → loaded_at known'.loaded t ≡ Some ways ↔ ((loaded_at known.loaded t ≡ Some ways) × (gone t ≡ false))
-  pub labellings : (t : ℕ) → t < length known.corners → holds known.side (corner_at known.corners t) p ≡ false → (labelling : TileLabelling) → IsHeldAt known'.labellings t labelling ↔ IsHeldAt known.labellings t labelling
+  pub loaded : (t : ℕ) (ways : TileGraph) → loaded_at known'.loaded t ≡ Some ways ↔ ((loaded_at known.loaded t ≡ Some ways) × KeepsSummary known.side known.corners known.labellings h t)
+  pub labellings : (t : ℕ) → t < length known.corners → holds known.side (corner_at known.corners t) h.point ≡ false → (labelling : TileLabelling) → IsHeldAt known'.labellings t labelling ↔ IsHeldAt known.labellings t labelling
   pub mended : (t : ℕ) → t < length known.corners → (labelling : TileLabelling) → IsHeldAt known.labellings t labelling → can_note labelling ≡ true → IsHeldStill known'.labellings t labelling
   pub same_levels : known'.levels ≡ known.levels
 

@@ -11,11 +11,13 @@ pub mod Between
 pub mod Reaching
 pub mod Invalidating
 pub mod Nearby
-pub mod Ring
+pub mod GroundCache
 pub mod Beyond
 pub mod Spared
 pub mod FlowPaths
 pub mod Padded
 pub mod TileLevels
 pub mod WholeTiles
-pub mod PastFlows
+pub mod LevelRanges
+pub mod FlowCaches
+pub mod Slots

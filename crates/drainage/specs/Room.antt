@@ -1,15 +1,28 @@
--- How much is held at most (this product's own profile).
-use Rattle.std.specs.Prelude.{◌≡◌, ℕ, ◌*◌, ◌/◌, ◌^◌, ◌≤◌, max, Bool, List, All, count_by, length}
+-- How much is held at most, kind by kind: together 512 MiB (this product's own profile).
+use Rattle.std.specs.Prelude.{◌≡◌, ℕ, ◌+◌, ◌*◌, ◌/◌, Bool, List, Option, Some, None, count_by, length}
+use Rattle.border_graph.specs.TileGraph.{TileGraph}
 use Rattle.tile_labellings.specs.TileLabellings.{labelled_of, is_flooded}
 use Rattle.drainage.specs.declared.labelling_cache.HeldLabelling.{HeldLabelling}
 
--- of how many tiles with this side the labellings are held: 256 MiB of them, at four bytes a sample, but nine at any side
+-- of how many tiles with this side the labellings are held: 230 MiB of them, at four bytes a sample
 abbrev pub most_labellings : ℕ → ℕ
-most_labellings n = max (2 ^ 28 / (4 * (n * n))) 9
+most_labellings n = 241172480 / (4 * (n * n))
 
--- .. and of how many of them the blocks too: 32 MiB, at two bytes a sample, but four at any side
+-- .. and of how many of them the blocks too: 50 MiB, at two bytes a sample
 abbrev pub most_blocks : ℕ → ℕ
-most_blocks n = max (2 ^ 25 / (2 * (n * n))) 4
+most_blocks n = 52428800 / (2 * (n * n))
+
+-- so many bytes tell where points drain: 139 MiB
+abbrev pub most_flow_bytes : ℕ
+most_flow_bytes = 145752064
+
+-- so many levels of rim points: of the most tiles, at the longest side
+abbrev pub most_rim_levels : ℕ
+most_rim_levels = 3456001
+
+-- so many rim points and spills in the graphs of tiles: of the most tiles, at the longest side, where each rim point has a spill
+abbrev pub most_graph_size : ℕ
+most_graph_size = 6912000
 
 -- it is that of a tile with this side
 abbrev pub HasSide : ℕ → HeldLabelling → Type 0
@@ -19,8 +32,10 @@ HasSide n held = (labelled_of held.labelling).side ≡ n
 abbrev pub has_block : HeldLabelling → Bool
 has_block held = is_flooded held.labelling
 
--- these labellings are no more than there is room for, each of a tile with this side
-pub record AreFew (n : ℕ) (held : List HeldLabelling) : Type 0 where
-  pub labellings : length held ≤ most_labellings n
-  pub blocks : count_by has_block held ≤ most_blocks n
-  pub sides : All (HasSide n) held
+-- four bytes a sample, and two more with its block
+abbrev pub labelling_bytes : ℕ → List HeldLabelling → ℕ
+labelling_bytes n held = 4 * (n * n) * length held + 2 * (n * n) * count_by has_block held
+
+abbrev pub graph_size : Option TileGraph → ℕ
+graph_size None = 0
+graph_size (Some graph) = length graph.summary.rim + length graph.summary.spills

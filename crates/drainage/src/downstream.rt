@@ -12,11 +12,12 @@ ghost use Rattle.drainage.specs.Between.{AreFlowsFor, IsHeldFor};
 
 use crate::asking::present_holder;
 use crate::drainage_cache::DrainageCache;
+use crate::flow_cache::{FlowCache, MOST_FLOW_BYTES};
 use crate::levels_near::near_levels;
 use crate::preparing::prepare;
 use catalogue::is_sink;
-use flow_d8::{FlatSearch, Flow, FlowCache, flow_near};
-use lattice::{Point, Refusal};
+use flow_d8::{FlatSearch, Flow, flow_near};
+use lattice::{MOST_TILES, Point, Refusal};
 use std::alloc::Global;
 use tile_labellings::Labellings;
 
@@ -73,7 +74,7 @@ fn flow_by_levels<S: Labellings>(
     let Some(corner) = present_holder(samples, point) else {
         return Ok(known);
     };
-    if held.is_due(alloc, samples.side(), corner) {
+    if held.is_due(alloc, corner) {
         return Ok(known);
     }
     let near = near_levels(alloc, samples, held, point)?;
@@ -98,7 +99,7 @@ pub(crate) fn flow_by_tiles<S: Labellings>(
     ensures asked { Asked S.Samples samples.old samples.new result }
 {
     let mut flows = held.take_flow_cache(alloc, samples.side());
-    flows.make_room();
+    flows.keep(MOST_FLOW_BYTES - samples.side().area() as usize);
     let found = prepared_flow(alloc, samples, held, &mut flows, point);
     held.put_flow_cache(flows);
     found
@@ -127,7 +128,7 @@ fn prepared_flow<S: Labellings>(
     'tiles: while let Some(met) = flows.resolve(point)? {
         have_flat(alloc, samples, held, flows, met)?;
     }
-    let flow = flows.known(point);
+    let flow = flows.grid.flow(point);
     if !flow.drains() {
         return Err(Refusal::Damaged);
     }
@@ -158,7 +159,7 @@ fn have_flat<S: Labellings>(
     have_tile(alloc, samples, held, flows, point)?;
     let mut search = FlatSearch::new(alloc);
     let mut last = point;
-    'tiles: while let Some(met) = flows.search(&mut search, last)? {
+    'tiles: while let Some(met) = flows.grid.search(&mut search, last)? {
         have_tile(alloc, samples, held, flows, met)?;
         last = met;
     }
@@ -186,8 +187,9 @@ fn have_tile<S: Labellings>(
     ensures causes { IfErr result (λ r. IsTrue (ends_any r)) }
     ensures asked { Asked S.Samples samples.old samples.new result }
 {
-    let side = flows.side();
-    if flows.holds(point) {
+    let side = flows.grid.side();
+    let count = flows.grid.count();
+    if flows.grid.holds(point) {
         return Ok(());
     }
     let Some(corner) = present_holder(samples, point) else {
@@ -196,7 +198,7 @@ fn have_tile<S: Labellings>(
     if side.samples() != samples.side().samples() {
         return Err(Refusal::Damaged);
     }
-    if flows.is_full() {
+    if count >= MOST_TILES as usize {
         return Err(Refusal::Damaged);
     }
     let prepared = prepare(alloc, samples, held, corner)?;

@@ -1,6 +1,18 @@
 //! What is found of a mosaic's water, held between two questions.
-ghost use Rattle.std.specs.Prelude.{◌≡◌, ◌↔◌, ◌⊎◌, ◌+◌, None, IsTrue, IfOk, IfErr, IfSome, IfNone, length};
-ghost use Rattle.std.specs.Option.{ForSome};
+//!
+//! What a change gives up (`invalidate_edit`; each line is what its contract lets stay):
+//!
+//! - A burn or a wall: labellings of tiles that hold a point, but a flooded one is mended later, for up to 64 points
+//!   (tile_flood/mending.rt), and a kept one stays where the point lay below its level and does so still. Summaries of tiles
+//!   that hold a point or one beside it, unless a labelling that is held tells that it lay below its level and does so still;
+//!   their spills only with a border between labels (tile_flood/borders.rt). Levels of rim points between the two heights of
+//!   a point. Where points drain, in blocks of 32 rows and columns with such a level in them or beside them. Nothing for a
+//!   point that gets the height that it has.
+//! - A patch: all that is cached of such tiles, all levels of rim points, and where points drain.
+//! - A sink that comes or goes: the same, but no level below its ground.
+//! - A tile that comes or goes, a reopening: everything.
+//! - A step, which keeps a labelling that a question left, or floods the tile; an upgrade: nothing.
+ghost use Rattle.std.specs.Prelude.{◌≡◌, ◌↔◌, ◌⊎◌, ◌+◌, ◌≤◌, None, IsTrue, IfOk, IfErr, IfSome, IfNone, length};
 ghost use Rattle.lattice.specs.Height.{height_of};
 ghost use Rattle.lattice.specs.Mosaic.{Mosaic, IsMosaic};
 ghost use Rattle.lattice.specs.declared.height.Height.TheVariants.{At};
@@ -10,22 +22,32 @@ ghost use Rattle.lattice.specs.Ground.{terrain};
 ghost use Rattle.flow_d8.specs.LevelsAround.{IsNear, OnLevels};
 ghost use Rattle.lattice.specs.declared.refusal.Refusal.TheVariants.{NoMemory};
 ghost use Rattle.drainage.specs.Holding.{IsRight};
-ghost use Rattle.drainage.specs.PastFlows.{past_tiles, IsPastTaken, IsOfMore};
+ghost use Rattle.drainage.specs.Room.{most_flow_bytes};
+ghost use Rattle.drainage.specs.FlowCaches.{flow_bytes, flow_cache_right, past_right, IsCacheOf, IsOfMore, IsPastTaken};
 ghost use Rattle.drainage.specs.Reaching.{DifferAt, DifferBetween};
 ghost use Rattle.flow_d8.specs.Flows.{IsFlow};
-ghost use Rattle.flow_d8.specs.FlowCaches.{IsCacheOf};
-ghost use Rattle.flow_d8.specs.FlowGrids.{AreFewTiles};
-ghost use Rattle.flow_d8.specs.FlowsAround.{AreTellingAround};
+ghost use Rattle.flow_d8.specs.Donors.{AreToldBy, DrainsBack};
 ghost use Rattle.drainage.specs.Spared.{AreLevelsStill, IsNoHigher, IsSetTo, IsSpared};
 
-use crate::nearby::near;
+use crate::flow_cache::{FlowCache, MOST_FLOW_BYTES};
+use crate::neighbourhood::near;
 use crate::tile_cache::TileCache;
 use catalogue::Samples;
 use edits::NewHeight;
-use flow_d8::{Flow, FlowCache, Near, PastFlows};
-use lattice::{Corner, Point, Refusal, Side};
+use flow_d8::{Flow, Near};
+use lattice::{Corner, MOST_TILES, Point, Refusal, Side};
 use std::alloc::Global;
 use tile_flood::Labelled;
+
+// So many questions are answered in a tile by the levels around their points, before it is prepared.
+const MOST_BY_LEVELS: u32 = 256;
+
+/// How often points of a tile that isn't at hand were asked for.
+#[derive(Clone, Copy)]
+struct AskedTile {
+    corner: Corner,
+    questions: u32,
+}
 
 /// What questions about the water of one mosaic found, so that a later question doesn't find it again: the ways of the
 /// tiles that water came to, the labellings of those that were asked, as many as there is room for, the levels of rim
@@ -35,10 +57,10 @@ pub struct DrainageCache {
     tile_cache: Option<TileCache>,
     flow_cache: Option<FlowCache>,
     // What is left of where points drained before heights changed.
-    past_flows: Option<PastFlows>,
-    ghost few: { ForSome flow_cache (λ cache. AreFewTiles cache.grid.tiles.side (length cache.grid.tiles.corners)) },
-    ghost few_both: { ForSome flow_cache (λ cache. AreFewTiles cache.grid.tiles.side (length cache.grid.tiles.corners + past_tiles past_flows)) },
-    ghost few_past: { ForSome past_flows (λ past. AreFewTiles past.grid.tiles.side (length past.grid.tiles.corners)) },
+    past_flows: Option<FlowCache>,
+    // Counted anew from each change on.
+    asked: Option<Vec<AskedTile>>,
+    ghost few: { flow_bytes flow_cache + flow_bytes past_flows ≤ most_flow_bytes },
 }
 
 impl DrainageCache {
@@ -53,6 +75,7 @@ impl DrainageCache {
             tile_cache: None,
             flow_cache: None,
             past_flows: None,
+            asked: None,
         }
     }
 
@@ -94,14 +117,16 @@ impl DrainageCache {
 
     /// The ground point may have this height from then on, but no sink comes or goes: the labellings of the tiles that hold it
     /// are mended when they are asked for, but kept ones where it lay below its level and stays there; the ways of tiles that
-    /// hold it or a point beside it are given up, and where points drain, near levels that it may move. What is held serves on,
-    /// for the mosaic as it was, and as it becomes where no level of a rim point is held that may change.
+    /// hold it or a point beside it are given up, unless a labelling tells that it lay so; and where points drain, near levels
+    /// that it may move. What is held serves on, for the mosaic as it was, and as it becomes where no level of a rim point is
+    /// held that may change.
     pub fn note_changed(&mut self, height: &NewHeight)
-        ensures left { IsNotedHeld height.now.point self.old self.new }
+        ensures left { IsNotedHeld height.now self.old self.new }
         ensures still { (m : Mosaic) → IsHeldOf m self.old → IsHeldOf m self.new }
         ensures right { (m new : Mosaic) → IsMosaic m → DifferAt m new height.now.point → height_of m height.now.point ≡ At height.now.was → IsSetTo m new height.now.point height.now.metres
             → levels_pass (IsSpared height.now.was height.now.metres) self.old.tile_cache → IsHeldOf m self.old → IsHeldOf new self.new }
         ensures flows { AreFlowsLeft height.now.was height.now.metres self.old self.new }
+        ensures flow_cache { self.new.flow_cache ≡ None }
     {
         self.retain_spared_flows(height.was, height.metres);
         let Some(mut tile_cache) = self.tile_cache.take() else {
@@ -129,6 +154,7 @@ impl DrainageCache {
     {
         self.flow_cache = None;
         self.past_flows = None;
+        self.asked = None;
     }
 
     // Of where points drain that is known from then on which no change of a ground point's height from the one to the other
@@ -146,13 +172,14 @@ impl DrainageCache {
     }
 
     // Hands out where points drain, as of before heights change. None is held then.
-    fn take_past(&mut self) -> Option<PastFlows>
+    fn take_past(&mut self) -> Option<FlowCache>
         ensures tile_cache { self.new.tile_cache ≡ self.old.tile_cache }
         ensures flow_cache { self.new.flow_cache ≡ None }
         ensures past_flows { self.new.past_flows ≡ None }
-        ensures few { ForSome result (λ past. AreFewTiles past.grid.tiles.side (length past.grid.tiles.corners)) }
+        ensures few { flow_bytes result ≤ most_flow_bytes }
         ensures taken { IsPastTaken self.old.flow_cache self.old.past_flows result }
     {
+        self.asked = None;
         let past = self.past_flows.take();
         let Some(flow_cache) = self.flow_cache.take() else {
             return past;
@@ -165,54 +192,34 @@ impl DrainageCache {
         ensures left { (m : Mosaic) → IsHeldOf m self.old → IsHeldOf m self.new }
         ensures flow { (m : Mosaic) → IsHeldOf m self.old → OnLevels m (λ level. IsFlow (terrain m) level point result) }
     {
-        let flow = self.flow_at_hand(point);
+        let flow = flow_in(&mut self.flow_cache, point);
         if matches!(flow, Flow::Unknown) {
-            return self.past_flow(point);
+            return flow_in(&mut self.past_flows, point);
         }
         flow
     }
 
-    fn flow_at_hand(&mut self, point: Point) -> Flow
-        ensures left { (m : Mosaic) → IsHeldOf m self.old → IsHeldOf m self.new }
-        ensures flow { (m : Mosaic) → IsHeldOf m self.old → OnLevels m (λ level. IsFlow (terrain m) level point result) }
-    {
-        let Some(mut flow_cache) = self.flow_cache.take() else {
-            return Flow::Unknown;
-        };
-        let flow = flow_cache.flow(point);
-        self.flow_cache = Some(flow_cache);
-        flow
-    }
-
-    // Where the points around this one drain, in the order of the directions, where the tile that was asked for last tells it of
-    // all of them.
-    pub(crate) fn flows_around(&self, point: Point) -> Option<[Flow; 8]>
-        ensures { (m : Mosaic) → IsHeldOf m self.now → IfSome result (λ around. OnLevels m (λ level. AreTellingAround (terrain m) level point around)) }
+    // Of each direction, in their order, whether the point there drains straight to this one, where the tile that was asked for
+    // last tells it.
+    pub(crate) fn donors_around(&self, point: Point) -> Option<[bool; 8]>
+        ensures { (m : Mosaic) → IsHeldOf m self.now
+            → IfSome result (λ donors. OnLevels m (λ level. AreToldBy (DrainsBack (terrain m) level point) donors 8)) }
     {
         let flow_cache = self.flow_cache.as_ref()?;
-        flow_cache.flows_around(point)
+        flow_cache.grid.donors_around(flow_cache.last, point)
     }
 
-    // .. as it drained before heights changed.
-    fn past_flow(&mut self, point: Point) -> Flow
-        ensures left { (m : Mosaic) → IsHeldOf m self.old → IsHeldOf m self.new }
-        ensures flow { (m : Mosaic) → IsHeldOf m self.old → OnLevels m (λ level. IsFlow (terrain m) level point result) }
+    // Whether it pays to prepare the corner's tile: once so many of its points were asked for. That is noted, as far as there is
+    // memory for it.
+    pub(crate) fn is_due(&mut self, alloc: Global, corner: Corner) -> bool
+        ensures { (m : Mosaic) → IsHeldOf m self.old → IsHeldOf m self.new }
     {
-        let Some(mut past) = self.past_flows.take() else {
-            return Flow::Unknown;
+        let mut asked = match self.asked.take() {
+            Some(asked) => asked,
+            None => Vec::new(alloc),
         };
-        let flow = past.flow(point);
-        self.past_flows = Some(past);
-        flow
-    }
-
-    // Whether it pays to prepare the corner's tile: once so many of its points were asked for.
-    pub(crate) fn is_due(&mut self, alloc: Global, side: Side, corner: Corner) -> bool
-        ensures { (m : Mosaic) → side ≡ m.side → IsHeldOf m self.old → IsHeldOf m self.new }
-    {
-        let mut flow_cache = self.take_flow_cache(alloc, side);
-        let due = flow_cache.is_due(corner);
-        self.put_flow_cache(flow_cache);
+        let due = is_due(&mut asked, corner);
+        self.asked = Some(asked);
         due
     }
 
@@ -232,7 +239,7 @@ impl DrainageCache {
         ensures { (m : Mosaic) → IsCacheOf m flow_cache → IsHeldOf m self.old → IsHeldOf m self.new }
     {
         let mut kept = flow_cache;
-        kept.trim();
+        kept.keep(MOST_FLOW_BYTES);
         self.past_flows = past_beside(&kept, self.past_flows.take());
         self.flow_cache = Some(kept);
     }
@@ -269,32 +276,63 @@ impl DrainageCache {
     }
 }
 
+// What is known of where the point drains by one of the two.
+fn flow_in(held: &mut Option<FlowCache>, point: Point) -> Flow
+    ensures bytes { flow_bytes held.new ≡ flow_bytes held.old }
+    ensures cache { (m : Mosaic) → flow_cache_right m held.old → flow_cache_right m held.new }
+    ensures past { (m : Mosaic) → past_right m held.old → past_right m held.new }
+    ensures flow { (m : Mosaic) → past_right m held.old → OnLevels m (λ level. IsFlow (terrain m) level point result) }
+{
+    let Some(mut cache) = held.take() else {
+        return Flow::Unknown;
+    };
+    let flow = cache.flow(point);
+    *held = Some(cache);
+    flow
+}
+
+// Notes that a point of the corner's tile was asked for. Whether so many were.
+fn is_due(asked: &mut Vec<AskedTile>, corner: Corner) -> bool {
+    for i in 0..asked.len() {
+        if asked[i].corner == corner {
+            asked[i].questions = asked[i].questions.saturating_add(1);
+            return asked[i].questions >= MOST_BY_LEVELS;
+        }
+    }
+    if asked.len() < MOST_TILES as usize {
+        let _ = asked.push(AskedTile {
+            corner,
+            questions: 1,
+        });
+    }
+    false
+}
+
 // What is known of the tiles at hand, or what was left of the past, if that is of more tiles.
-fn of_more_tiles(flow_cache: FlowCache, past: Option<PastFlows>) -> PastFlows
-    requires few { AreFewTiles flow_cache.grid.tiles.side (length flow_cache.grid.tiles.corners) }
-    requires few_past { ForSome past (λ past. AreFewTiles past.grid.tiles.side (length past.grid.tiles.corners)) }
-    ensures few { AreFewTiles result.grid.tiles.side (length result.grid.tiles.corners) }
+fn of_more_tiles(flow_cache: FlowCache, past: Option<FlowCache>) -> FlowCache
+    requires few { length flow_cache.grid.flows.items ≤ most_flow_bytes }
+    requires few_past { flow_bytes past ≤ most_flow_bytes }
+    ensures few { length result.grid.flows.items ≤ most_flow_bytes }
     ensures taken { IsOfMore flow_cache past result }
 {
     let Some(past) = past else {
-        return flow_cache.into_past();
+        return flow_cache;
     };
-    if flow_cache.count() < past.count() {
+    if flow_cache.grid.count() < past.grid.count() {
         past
     } else {
-        flow_cache.into_past()
+        flow_cache
     }
 }
 
 // What is left of the past, where there is room for it beside the tiles at hand.
-fn past_beside(flow_cache: &FlowCache, past: Option<PastFlows>) -> Option<PastFlows>
-    requires { AreFewTiles flow_cache.now.grid.tiles.side (length flow_cache.now.grid.tiles.corners) }
-    ensures few { AreFewTiles flow_cache.now.grid.tiles.side (length flow_cache.now.grid.tiles.corners + past_tiles result) }
+fn past_beside(flow_cache: &FlowCache, past: Option<FlowCache>) -> Option<FlowCache>
+    requires { length flow_cache.now.grid.flows.items ≤ most_flow_bytes }
+    ensures few { length flow_cache.now.grid.flows.items + flow_bytes result ≤ most_flow_bytes }
     ensures left { (result ≡ None) ⊎ (result ≡ past) }
-    ensures few_past { ForSome past (λ past. AreFewTiles past.grid.tiles.side (length past.grid.tiles.corners)) → ForSome result (λ past. AreFewTiles past.grid.tiles.side (length past.grid.tiles.corners)) }
 {
     let past = past?;
-    if flow_cache.has_room_beside(&past) {
+    if past.grid.samples() <= MOST_FLOW_BYTES - flow_cache.grid.samples() {
         Some(past)
     } else {
         None

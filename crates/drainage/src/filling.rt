@@ -96,7 +96,7 @@ pub(crate) fn level_in<S: Labellings>(
         return Ok(None);
     };
     let corner = tile_cache.rim_graph.corners[t];
-    let (level, label) = tile_cache.spot(alloc, samples, t, corner, index)?;
+    let (level, label) = tile_cache.label_at(alloc, samples, t, corner, index)?;
     if label == NO_LABEL {
         if !is_height(samples, point, VOID)? {
             return Err(Refusal::Damaged);
@@ -143,8 +143,8 @@ fn rim_level<S: Labellings>(
 }
 
 // The level and the label of the point with this index.
-pub(crate) fn spot_of(labelled: &Labelled, index: u32) -> Option<(i16, u16)>
-    ensures some { IfSome result (λ spot. (spot.0 ≡ slice_index_or labelled.now.levels index void) × (spot.1 ≡ slice_index labelled.now.labels index)) }
+pub(crate) fn label_in(labelled: &Labelled, index: u32) -> Option<(i16, u16)>
+    ensures some { IfSome result (λ label_at. (label_at.0 ≡ slice_index_or labelled.now.levels index void) × (label_at.1 ≡ slice_index labelled.now.labels index)) }
     ensures none { IfNone result (labelled.now.side * labelled.now.side ≤ index) }
 {
     if index >= labelled.side().area() {

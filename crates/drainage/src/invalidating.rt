@@ -7,7 +7,7 @@ ghost use Rattle.catalogue.specs.Tiles.{with_sinks};
 ghost use Rattle.edits.specs.Edits.{AreEarlier, TellsHeights, edit_made, with_heights};
 ghost use Rattle.edits.specs.Sinks.{with_point, without_point};
 ghost use Rattle.drainage.specs.Between.{IsHeldOf, IsLeftHeld};
-ghost use Rattle.drainage.specs.Beyond.{AreLevelsKept, IsKeptBeyondEdit, IsKeptBeyondHeights, IsKeptUnchanged};
+ghost use Rattle.drainage.specs.Beyond.{AreFlowsKept, AreLevelsKept, IsKeptBeyondEdit, IsKeptBeyondHeights, IsKeptUnchanged};
 ghost use Rattle.drainage.specs.Spared.{IsNoHigher, IsUnchanged, one_lower};
 
 use crate::drainage_cache::DrainageCache;
@@ -22,8 +22,8 @@ pub fn invalidate_edit(held: &mut DrainageCache, edit: &Edit)
     ensures still { (m : Mosaic) → IsMosaic m → IsHeldOf m held.old → IsHeldOf m held.new }
     ensures changed { (m : Mosaic) → IsMosaic m → TellsHeights m edit.now → IsHeldOf m held.old → IsHeldOf (edit_made edit.now m) held.new }
 
-    // What is held of a tile that the edit doesn't reach is kept, and so are levels of rim points that new heights can't change;
-    // and all that is held where each point gets the height that it has.
+    // What is held of a tile that the edit doesn't reach is kept, and so are levels of rim points that new heights can't change,
+    // and where points drain near such levels; and all that is held where each point gets the height that it has.
     ensures kept { IsKeptBeyondEdit edit.now held.old held.new }
 {
     match edit {
@@ -46,6 +46,7 @@ fn invalidate_heights(held: &mut DrainageCache, heights: &[NewHeight])
     ensures changed { (m : Mosaic) → IsMosaic m → AreEarlier heights.now m → IsHeldOf m held.old → IsHeldOf (with_heights heights.now m) held.new }
     ensures kept { IsKeptBeyondHeights heights.now held.old held.new }
     ensures levels { AreLevelsKept heights.now held.old held.new }
+    ensures flows { AreFlowsKept heights.now held.old held.new }
     ensures unchanged { IsKeptUnchanged heights.now held.old held.new }
 {
     if is_any_changed(heights) {

@@ -1,5 +1,5 @@
 //! The labellings of the tiles that were asked.
-ghost use Rattle.std.specs.Prelude.{◌≡◌, ◌≢◌, ◌<◌, ◌≤◌, ◌↔◌, ℕ, true, false, not, IfOk, IfErr, IfSome, IfNone, All, Contains, filter, count_by, length, slice_index_or};
+ghost use Rattle.std.specs.Prelude.{◌≡◌, ◌≢◌, ◌<◌, ◌≤◌, ◌↔◌, ℕ, true, false, not, IfOk, IfErr, IfSome, IfNone, IsTrue, All, Contains, filter, count_by, length, slice_index_or};
 ghost use Rattle.lattice.specs.Corners.{Corner};
 ghost use Rattle.lattice.specs.Lattice.{IsIndexOf, holds};
 ghost use Rattle.lattice.specs.Mosaic.{Mosaic};
@@ -7,30 +7,26 @@ ghost use Rattle.lattice.specs.declared.refusal.Refusal.TheVariants.{NoMemory};
 ghost use Rattle.border_graph.specs.Others.{corner_at};
 ghost use Rattle.tile_labellings.specs.Labellings.{IsFlooded};
 ghost use Rattle.tile_labellings.specs.Spots.{IsLabelledAt};
-ghost use Rattle.tile_labellings.specs.TileLabellings.{labelled_of, can_note, IsCurrent, IsSetFrom, IsTileLabelling};
+ghost use Rattle.tile_labellings.specs.TileLabellings.{labelled_of, can_note, IsBelow, IsCurrent, IsSetFrom, IsTileLabelling};
 ghost use Rattle.tile_labellings.specs.declared.tile_labelling.TileLabelling.{TileLabelling};
 ghost use Rattle.drainage.specs.Holding.{IsHeldAt, IsEntered};
-ghost use Rattle.drainage.specs.Invalidating.{IsNoted, IsHeldStill};
+ghost use Rattle.drainage.specs.Invalidating.{IsNoted, IsHeldStill, IsStillAt};
 ghost use Rattle.drainage.specs.Reaching.{DifferAt, is_reached};
 ghost use Rattle.drainage.specs.Room.{most_labellings, most_blocks, HasSide, has_block};
 
-use crate::filling::spot_of;
-use crate::reaching::is_reached;
+use crate::affected_tiles::is_reached;
+use crate::filling::label_in;
 use edits::NewHeight;
 use lattice::{Corner, Point, Refusal, Side, index_in};
 use std::alloc::Global;
 use tile_flood::Labelled;
 use tile_labellings::TileLabelling;
 
-// As many bytes of labellings are held, four a point, but those of a few tiles at any side.
-const MOST_BYTES: usize = 256 << 20;
+// As many bytes of labellings are held, four a point.
+const MOST_BYTES: usize = 230 << 20;
 
-const FEWEST_TILES: usize = 9;
-
-// As many bytes of flooded blocks are held with them, two a point, but those of the tiles that meet at a corner.
-const MOST_BLOCK_BYTES: usize = 32 << 20;
-
-const FEWEST_BLOCKS: usize = 4;
+// As many bytes of flooded blocks are held with them, two a point.
+const MOST_BLOCK_BYTES: usize = 50 << 20;
 
 // So many points of a tile are read by themselves before its labelling is held: together they take as long as to read it
 // whole.
@@ -57,6 +53,13 @@ impl HeldLabelling {
                 .note_changed(index, height.was, height.metres),
             None => true,
         }
+    }
+
+    // Whether it is that of the tile with this place, and its levels stay as the point with this index gets this height.
+    fn is_below(&self, t: usize, index: u32, height: &NewHeight) -> bool
+        ensures { IsTrue result ↔ ((self.now.place ≡ t) × IsBelow self.now.labelling index height.now.was height.now.metres) }
+    {
+        self.place == t && self.labelling.is_below(index, height.was, height.metres)
     }
 }
 
@@ -100,14 +103,14 @@ impl LabellingCache {
 
     /// The level and the label of the point with this index in the tile with this place, where its labelling is held and
     /// none of its heights may have changed since.
-    pub(crate) fn spot(&mut self, t: usize, index: u32) -> Option<(i16, u16)>
+    pub(crate) fn label_at(&mut self, t: usize, index: u32) -> Option<(i16, u16)>
         ensures same { All (Contains self.old.held.items) self.new.held.items }
         ensures side { self.new.side ≡ self.old.side }
-        ensures some { IfSome result (λ spot. (m : Mosaic) (c : Corner) → IsEntered m c self.old.held.items t → IsLabelledAt m c index spot.0 spot.1) }
+        ensures some { IfSome result (λ label_at. (m : Mosaic) (c : Corner) → IsEntered m c self.old.held.items t → IsLabelledAt m c index label_at.0 label_at.1) }
     {
         self.use_again(t);
         let labelled = self.labelling(t)?;
-        spot_of(labelled, index)
+        label_in(labelled, index)
     }
 
     /// Whether one more point of the tile with this place, of which nothing is held, is read by itself. Where not, its
@@ -218,6 +221,23 @@ impl LabellingCache {
         ensures side { self.new.side ≡ self.old.side }
     {
         retain_noted(&mut self.held, side, corners, height);
+    }
+
+    /// Whether by a labelling that is held of the corner's tile, with this place, all levels in the tile stay as the point gets
+    /// this height: it lay below its level, and doesn't rise above it.
+    pub(crate) fn is_still(&self, side: Side, t: usize, corner: Corner, height: &NewHeight) -> bool
+        ensures yes { IsTrue result → IsStillAt side self.now.held.items height.now t corner }
+        ensures no { IsStillAt side self.now.held.items height.now t corner → IsTrue result }
+    {
+        let Some(index) = index_held(side, corner, height.point) else {
+            return false;
+        };
+        for held in &self.held {
+            if held.is_below(t, index, height) {
+                return true;
+            }
+        }
+        false
     }
 
     // The tile with this place is the one that was used last, where it is held.
@@ -337,7 +357,7 @@ fn most_labellings(side: Side) -> usize
     ensures some { 0 < result }
 {
     let bytes = 4 * side.area() as usize;
-    (MOST_BYTES / bytes).max(FEWEST_TILES)
+    MOST_BYTES / bytes
 }
 
 // Of how many of them the blocks are held too.
@@ -346,7 +366,7 @@ fn most_blocks(side: Side) -> usize
     ensures some { 0 < result }
 {
     let bytes = 2 * side.area() as usize;
-    (MOST_BLOCK_BYTES / bytes).max(FEWEST_BLOCKS)
+    MOST_BLOCK_BYTES / bytes
 }
 
 // Where among these one of the tile with this place stands.

@@ -9,9 +9,9 @@ pub fn level_functions_exist()
     ensures { LevelFunctionsExist }
 {}
 
-/// At any time the labellings of at most so many tiles are held as take 256 MiB, but of nine tiles at any side; and with them
-/// at most so many blocks as take 32 MiB, but four. They are all of tiles with the mosaic's side. A byte for each sample
-/// tells where its point drains, of at most so many tiles as take 256 MiB, but nine.
+/// At any time no more than 512 MiB are held, at any side: four bytes a sample for the labelling of a tile, and two more with
+/// its block; a byte a sample that tells where its point drains; twelve at most for each rim point and each spill of a tile's
+/// graph; four for the level of a rim point. The labellings are all of tiles with the mosaic's side.
 pub fn what_is_held_is_bounded()
     ensures { (held : DrainageCache) → HoldsFew held }
 {}

@@ -13,36 +13,38 @@
 //! ```
 #![tactic(auto)]
 
+mod affected_tiles;
 mod asking;
 mod downstream;
 mod drainage_cache;
-mod draining;
 mod filling;
+mod flow_cache;
+mod flow_direction;
 mod flow_paths;
-mod following;
+mod ground_cache;
 mod heights;
 mod invalidating;
 mod labelling_cache;
 mod laws;
+mod level_range;
 mod levels_near;
-mod nearby;
+mod neighbourhood;
 mod outlets;
 mod prepared_flows;
 mod preparing;
-mod reaching;
-mod renewing;
+mod refreshing;
 mod rim_graph;
 mod rims;
-mod ring;
 mod summing;
 mod tile_cache;
 mod tile_levels;
+mod watersheds;
 mod whole_tiles;
 
 pub use drainage_cache::DrainageCache;
-pub use draining::watershed;
 pub use filling::{fill, level};
-pub use following::{direction, trace};
+pub use flow_direction::{direction, trace};
 pub use invalidating::invalidate_edit;
 pub use laws::{level_functions_exist, what_is_held_is_bounded};
-pub use whole_tiles::{directions, levels};
+pub use watersheds::watershed;
+pub use whole_tiles::{directions, levels, upstream};

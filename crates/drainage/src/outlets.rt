@@ -5,9 +5,9 @@ ghost use Rattle.lattice.specs.Lattice.{IsIndexOf};
 ghost use Rattle.catalogue.specs.Readers.{OnlyReads};
 ghost use Rattle.tile_labellings.specs.Labellings.{IsFlooded};
 ghost use Rattle.drainage.specs.Flooded.{IsGroundOf};
-ghost use Rattle.drainage.specs.Ring.{AreRemembered};
+ghost use Rattle.drainage.specs.GroundCache.{AreRemembered};
 
-use crate::ring::Ring;
+use crate::ground_cache::GroundCache;
 use catalogue::{Samples, is_ground, is_sink, tile_of_both};
 use lattice::{Corner, Point, Refusal, index_in, steps};
 use tile_flood::{Labelled, NO_LABEL};
@@ -19,17 +19,17 @@ pub(crate) fn is_tile_outlet<S: Samples>(
     samples: &mut S,
     corner: Corner,
     labelled: &Labelled,
-    ring: &mut Ring,
+    ground_cache: &mut GroundCache,
     point: Point,
     index: u32,
 ) -> Result<bool, Refusal>
     requires labelled_side { labelled.now.side ≡ S.side_of samples.old }
     requires present { Contains (S.corners samples.old) corner }
-    requires ring { S.is_honest samples.old → AreRemembered (S.mosaic samples.old) ring.old }
+    requires ground_cache { S.is_honest samples.old → AreRemembered (S.mosaic samples.old) ground_cache.old }
     requires index { IsIndexOf (S.side_of samples.old) corner point index }
     requires inside { index < S.side_of samples.old * S.side_of samples.old }
     ensures value { S.is_honest samples.new → IsFlooded (S.mosaic samples.old) corner labelled.now → IfOk result (λ answer. answer ≡ is_outlet (S.mosaic samples.old) point) }
-    ensures ring { S.is_honest samples.new → OnOk result (AreRemembered (S.mosaic samples.new) ring.new) }
+    ensures ground_cache { S.is_honest samples.new → OnOk result (AreRemembered (S.mosaic samples.new) ground_cache.new) }
     ensures reads { OnlyReads S.Samples samples.old samples.new result }
 {
     if labelled.labels()[index as usize] == NO_LABEL {
@@ -38,7 +38,7 @@ pub(crate) fn is_tile_outlet<S: Samples>(
     if is_sink(samples, point) {
         return Ok(true);
     }
-    let count = degree_in_tile(samples, corner, labelled, ring, point)?;
+    let count = degree_in_tile(samples, corner, labelled, ground_cache, point)?;
     Ok(count < 8)
 }
 
@@ -47,20 +47,20 @@ fn degree_in_tile<S: Samples>(
     samples: &mut S,
     corner: Corner,
     labelled: &Labelled,
-    ring: &mut Ring,
+    ground_cache: &mut GroundCache,
     point: Point,
 ) -> Result<u32, Refusal>
     requires labelled_side { labelled.now.side ≡ S.side_of samples.old }
     requires present { Contains (S.corners samples.old) corner }
-    requires ring { S.is_honest samples.old → AreRemembered (S.mosaic samples.old) ring.old }
+    requires ground_cache { S.is_honest samples.old → AreRemembered (S.mosaic samples.old) ground_cache.old }
     ensures value { S.is_honest samples.new → IsGroundOf (S.mosaic samples.old) corner labelled.now point → IfOk result (λ count. count ≡ degree_of (S.mosaic samples.old) point) }
-    ensures ring { S.is_honest samples.new → OnOk result (AreRemembered (S.mosaic samples.new) ring.new) }
+    ensures ground_cache { S.is_honest samples.new → OnOk result (AreRemembered (S.mosaic samples.new) ground_cache.new) }
     ensures reads { OnlyReads S.Samples samples.old samples.new result }
 {
     let reach = steps(point);
     let mut count = 0;
     for step in reach.as_slice() {
-        if is_adjacent_to(samples, corner, labelled, ring, point, step.to)? {
+        if is_adjacent_to(samples, corner, labelled, ground_cache, point, step.to)? {
             count += 1;
         }
     }
@@ -72,23 +72,23 @@ fn is_adjacent_to<S: Samples>(
     samples: &mut S,
     corner: Corner,
     labelled: &Labelled,
-    ring: &mut Ring,
+    ground_cache: &mut GroundCache,
     point: Point,
     to: Point,
 ) -> Result<bool, Refusal>
     requires labelled_side { labelled.now.side ≡ S.side_of samples.old }
     requires present { Contains (S.corners samples.old) corner }
-    requires ring { S.is_honest samples.old → AreRemembered (S.mosaic samples.old) ring.old }
+    requires ground_cache { S.is_honest samples.old → AreRemembered (S.mosaic samples.old) ground_cache.old }
     requires near { is_near point to ≡ true }
     requires other { same_point point to ≡ false }
     ensures value { S.is_honest samples.new → IsGroundOf (S.mosaic samples.old) corner labelled.now point → IfOk result (λ answer. answer ≡ is_adjacent (S.mosaic samples.old) point to) }
-    ensures ring { S.is_honest samples.new → OnOk result (AreRemembered (S.mosaic samples.new) ring.new) }
+    ensures ground_cache { S.is_honest samples.new → OnOk result (AreRemembered (S.mosaic samples.new) ground_cache.new) }
     ensures reads { OnlyReads S.Samples samples.old samples.new result }
 {
     if let Some(index) = index_in(labelled.side(), corner, to) {
         return Ok(labelled.labels()[index as usize] != NO_LABEL);
     }
-    if ring.shows(labelled.side(), point, to) {
+    if ground_cache.holds(labelled.side(), point, to) {
         return Ok(true);
     }
     let Some(tile) = tile_of_both(samples, point, to) else {
@@ -97,6 +97,6 @@ fn is_adjacent_to<S: Samples>(
     if !is_ground(samples, to)? {
         return Ok(false);
     }
-    ring.remember(to, tile);
+    ground_cache.remember(to, tile);
     Ok(true)
 }

@@ -46,12 +46,8 @@ impl<'a, 'b, S: Labellings> FlowSource for PreparedFlows<'a, 'b, S> {
         flow_anywhere(alloc, self.samples, self.held, point)
     }
 
-    fn flows_around(&self, point: Point) -> Option<[Flow; 8]> {
-        let around = self.held.flows_around(point)?;
-        if all_drain(&around) {
-            return Some(around);
-        }
-        None
+    fn donors_around(&self, point: Point) -> Option<[bool; 8]> {
+        self.held.donors_around(point)
     }
 
     ghost is_mosaic = { λ a m level told. subst IsMosaic (sym told.1.0) (S.is_mosaic a.samples.now told.0) };
@@ -95,14 +91,4 @@ pub(crate) fn flow_anywhere<S: Labellings>(
         return Ok(Flow::NoGround);
     }
     flow_by_tiles(alloc, samples, held, point)
-}
-
-// Whether each of them tells where its point drains.
-fn all_drain(around: &[Flow; 8]) -> bool {
-    for i in 0..8 {
-        if !around[i].drains() {
-            return false;
-        }
-    }
-    true
 }

@@ -1,18 +1,25 @@
 //! The ways between rim points, of tiles whose labellings are asked once water comes to their rims.
-ghost use Rattle.std.specs.Prelude.{◌≡◌, ◌≢◌, ◌-◌, ◌*◌, ◌<◌, ◌≤◌, ◌⊎◌, ◌↔◌, ℕ, IfOk, IfErr, OnOk, IfSome, IfNone, Ok, Some, None, false, length, slice_set};
+ghost use Rattle.std.specs.Prelude.{◌≡◌, ◌≢◌, ◌-◌, ◌*◌, ◌<◌, ◌≤◌, ◌⊎◌, ◌↔◌, ℕ, IfOk, IfErr, OnOk, IfSome, IfNone, IsTrue, Ok, Some, None, false, length, slice_set, sum_by};
 ghost use Rattle.border_graph.specs.Joining.{IsSummaryOf};
 ghost use Rattle.lattice.specs.Mosaic.{Mosaic};
 ghost use Rattle.lattice.specs.declared.refusal.Refusal.TheVariants.{NoMemory, Damaged};
 ghost use Rattle.border_graph.specs.TileGraph.{TileGraph as TileGraphOf};
 ghost use Rattle.border_graph.specs.Others.{corner_at, AreTooMany, AreTileEdges};
+ghost use Rattle.drainage.specs.Invalidating.{KeepsSummary};
+ghost use Rattle.drainage.specs.Room.{graph_size, most_graph_size};
 ghost use Rattle.drainage.specs.Reaching.{is_reached};
 ghost use Rattle.drainage.specs.RimGraphs.{loaded_at, AreLoaded, AreReady};
 
-use crate::reaching::is_reached;
+use crate::affected_tiles::is_reached;
+use crate::labelling_cache::LabellingCache;
 use border_graph::{Edge, Summary, TileGraph, list_edges, reduced};
 use catalogue::Samples;
+use edits::NewHeight;
 use lattice::{Corner, Point, Refusal, Side, push};
 use std::alloc::Global;
+
+// So many rim points and spills are held at most: of the most tiles, at the longest side, where each rim point has a spill.
+const MOST_GRAPH_SIZE: usize = 6_912_000;
 
 /// The corners of a mosaic's tiles, in order, and the ways of those tiles that water has come to.
 #[derive(Drop)]
@@ -20,6 +27,7 @@ pub(crate) struct RimGraph {
     pub(crate) side: Side,
     pub(crate) corners: Vec<Corner>,
     pub(crate) loaded: Vec<Option<TileGraph>>,
+    ghost few: { sum_by graph_size loaded.items ≤ most_graph_size },
 }
 
 impl RimGraph {
@@ -68,6 +76,9 @@ impl RimGraph {
         }
         let less = reduced(alloc, summary)?;
         let ways = TileGraph::new(alloc, self.side, less)?;
+        if ways.size() > MOST_GRAPH_SIZE - size_of(&self.loaded) {
+            return Err(Refusal::NoMemory);
+        }
         self.loaded[t] = Some(ways);
         Ok(())
     }
@@ -84,6 +95,35 @@ impl RimGraph {
             if is_reached(self.side, &self.corners, from, to, t) {
                 self.invalidate(t);
             }
+        }
+    }
+
+    /// Gives up the ways of the tiles that the point reaches as it gets this height, unless by these labellings all levels in
+    /// the tile stay. Takes no memory.
+    pub(crate) fn note_changed(&mut self, labellings: &LabellingCache, height: &NewHeight)
+        ensures side { self.new.side ≡ self.old.side }
+        ensures corners { self.new.corners.items ≡ self.old.corners.items }
+        ensures whole { length self.new.loaded.items ≡ length self.old.loaded.items }
+        ensures loaded { (t : ℕ) (ways : TileGraphOf) → loaded_at self.new.loaded.items t ≡ Some ways
+            ↔ ((loaded_at self.old.loaded.items t ≡ Some ways) × KeepsSummary self.old.side self.old.corners.items labellings.now.held.items height.now t) }
+    {
+        for t in 0..self.loaded.len() {
+            if !self.is_still(labellings, height, t) {
+                self.invalidate(t);
+            }
+        }
+    }
+
+    // Whether the ways of the tile with this place stay as the point gets this height.
+    fn is_still(&self, labellings: &LabellingCache, height: &NewHeight, t: usize) -> bool
+        ensures { IsTrue result ↔ KeepsSummary self.now.side self.now.corners.items labellings.now.held.items height.now t }
+    {
+        if !is_reached(self.side, &self.corners, height.point, height.point, t) {
+            return true;
+        }
+        match self.corner(t) {
+            Some(corner) => labellings.is_still(self.side, t, corner, height),
+            None => false,
         }
     }
 
@@ -114,5 +154,26 @@ impl RimGraph {
         };
         list_edges(self.side, &self.corners, ways, t, k, into)?;
         Ok(())
+    }
+}
+
+// How many rim points and spills the graphs have.
+fn size_of(loaded: &[Option<TileGraph>]) -> usize
+    requires { sum_by graph_size loaded.now ≤ most_graph_size }
+    ensures { result ≡ sum_by graph_size loaded.now }
+{
+    let mut size = 0;
+    for ways in loaded {
+        size += size_at(ways);
+    }
+    size
+}
+
+fn size_at(ways: &Option<TileGraph>) -> usize
+    ensures { result ≡ graph_size ways.now }
+{
+    match ways {
+        Some(ways) => ways.size(),
+        None => 0,
     }
 }

@@ -1,16 +1,20 @@
 //! The levels of rim points, as they were found.
-ghost use Rattle.std.specs.Prelude.{◌≡◌, ◌==◌, ◌⊎◌, ◌↔◌, ◌<◌, ℕ, ℤ, length, slice_set, Some, None, Contains, cond, IsTrue, IsFalse, IfSome, OnOk, IfErr};
+ghost use Rattle.std.specs.Prelude.{◌≡◌, ◌==◌, ◌⊎◌, ◌↔◌, ◌<◌, ◌≤◌, [], ℕ, ℤ, length, slice_set, Some, None, Contains, cond, IsTrue, IsFalse, IfSome, OnOk, IfErr};
 ghost use Rattle.lattice.specs.Mosaic.{IsSample};
 ghost use Rattle.lattice.specs.declared.refusal.Refusal.TheVariants.{NoMemory};
-ghost use Rattle.flow_d8.specs.LevelRanges.{IsIn};
+ghost use Rattle.drainage.specs.LevelRanges.{IsIn};
 ghost use Rattle.drainage.specs.Holding.{level_of};
+ghost use Rattle.drainage.specs.Room.{most_rim_levels};
 ghost use Rattle.drainage.specs.Spared.{IsNoHigher, LiesApart, IsSpared, IsSparedBy, AreSparing};
 
+use crate::level_range::LevelRange;
 use edits::NewHeight;
-use flow_d8::LevelRange;
 use lattice::{Refusal, VOID};
 use std::alloc::Global;
 use std::marker::Model;
+
+// So many levels are held at most: of the rim points of the most tiles, at the longest side.
+const MOST_LEVELS: usize = 3_456_001;
 
 /// The filled levels that are known of rim points, by the numbers of their nodes, up to the greatest that is known.
 #[derive(Drop)]
@@ -29,7 +33,8 @@ impl Model for RimLevels {
 impl RimLevels {
     /// None is known.
     pub(crate) fn new(alloc: Global) -> RimLevels
-        ensures { (x : ℕ) → level_of result x ≡ None }
+        ensures none { (x : ℕ) → level_of result x ≡ None }
+        ensures empty { result ≡ [] }
     {
         RimLevels {
             levels: Vec::new(alloc),
@@ -48,7 +53,8 @@ impl RimLevels {
 
     /// Gives up the levels that are higher than this one, in metres, or all where it is none. Takes no memory.
     pub(crate) fn invalidate_above(&mut self, most: Option<i32>)
-        ensures { (x : ℕ) (level : ℤ) → level_of self.new x ≡ Some level ↔ ((level_of self.old x ≡ Some level) × IsNoHigher most level) }
+        ensures levels { (x : ℕ) (level : ℤ) → level_of self.new x ≡ Some level ↔ ((level_of self.old x ≡ Some level) × IsNoHigher most level) }
+        ensures whole { length self.new ≡ length self.old }
     {
         for x in 0..self.levels.len() {
             if is_above(most, self.at(x)) {
@@ -60,7 +66,8 @@ impl RimLevels {
     /// Gives up the levels that may change as ground points get other heights than they had, one after another, in one pass.
     /// Takes no memory.
     pub(crate) fn invalidate_reached(&mut self, heights: &[NewHeight])
-        ensures { (x : ℕ) (level : ℤ) → level_of self.new x ≡ Some level ↔ ((level_of self.old x ≡ Some level) × AreSparing heights.now level) }
+        ensures levels { (x : ℕ) (level : ℤ) → level_of self.new x ≡ Some level ↔ ((level_of self.old x ≡ Some level) × AreSparing heights.now level) }
+        ensures whole { length self.new ≡ length self.old }
     {
         let range = reached_range(heights);
         for x in 0..self.levels.len() {
@@ -86,12 +93,17 @@ impl RimLevels {
         self.levels[x] = None;
     }
 
-    /// Knows the level of the node from then on. NoMemory is the only refusal.
+    /// Knows the level of the node from then on. NoMemory is the only refusal; so is a node refused that no mosaic of the most tiles
+    /// has.
     pub(crate) fn know(&mut self, node: u32, level: i16) -> Result<(), Refusal>
         ensures known { OnOk result ((x : ℕ) → level_of self.new x ≡ cond (node == x) (Some level) (level_of self.old x)) }
+        ensures few { length self.old ≤ most_rim_levels → length self.new ≤ most_rim_levels }
         ensures refusal { IfErr result (λ r. (r ≡ NoMemory) × (self.new ≡ self.old)) }
     {
         let place = node as usize;
+        if place >= MOST_LEVELS {
+            return Err(Refusal::NoMemory);
+        }
         if place >= self.levels.len() && self.levels.resize(place + 1, None).is_err() {
             return Err(Refusal::NoMemory);
         }
@@ -103,6 +115,7 @@ impl RimLevels {
     pub(crate) fn know_all(&mut self, nodes: &[u32], level: i16) -> Result<(), Refusal>
         ensures known { OnOk result ((x : ℕ) → Contains nodes.now x → level_of self.new x ≡ Some level) }
         ensures only { (x : ℕ) (found : ℤ) → level_of self.new x ≡ Some found → (level_of self.old x ≡ Some found) ⊎ (Contains nodes.now x × (found ≡ level)) }
+        ensures few { length self.old ≤ most_rim_levels → length self.new ≤ most_rim_levels }
         ensures refusal { IfErr result (λ r. r ≡ NoMemory) }
     {
         for node in nodes {

@@ -12,11 +12,11 @@ ghost use Rattle.catalogue.specs.Reading.{MayRefuse};
 ghost use Rattle.tile_labellings.specs.Labellings.{IsFlooded};
 ghost use Rattle.tile_labellings.specs.TileLabellings.{labelled_of, IsCurrent, IsTileLabelling};
 ghost use Rattle.drainage.specs.Flooded.{IsRimPointIn, HasOtherRimHeight, AreRimPointsIn};
-ghost use Rattle.drainage.specs.Ring.{AreRemembered};
+ghost use Rattle.drainage.specs.GroundCache.{AreRemembered};
 
+use crate::ground_cache::GroundCache;
 use crate::heights::is_height;
 use crate::outlets::is_tile_outlet;
-use crate::ring::Ring;
 use border_graph::{RimPoint, Summary};
 use catalogue::Samples;
 use lattice::{Corner, Point, Refusal, point_at, push, rim_index};
@@ -70,10 +70,17 @@ fn rim_of<S: Samples>(
     ensures reads { OnlyReads S.Samples samples.old samples.new (reads_of result) }
 {
     let count = labelled.side().rim();
-    let mut ring = Ring::new(alloc)?;
+    let mut ground_cache = GroundCache::new(alloc)?;
     let mut rim = Vec::new(alloc);
     for number in 0..count {
-        let Some(point) = rim_point(samples, corner, labelled, is_flooded, &mut ring, number)?
+        let Some(point) = rim_point(
+            samples,
+            corner,
+            labelled,
+            is_flooded,
+            &mut ground_cache,
+            number,
+        )?
         else {
             return Ok(None);
         };
@@ -89,16 +96,16 @@ fn rim_point<S: Samples>(
     corner: Corner,
     labelled: &Labelled,
     is_flooded: bool,
-    ring: &mut Ring,
+    ground_cache: &mut GroundCache,
     number: u32,
 ) -> Result<Option<RimPoint>, Refusal>
     requires labelled_side { labelled.now.side ≡ S.side_of samples.old }
     requires present { Contains (S.corners samples.old) corner }
-    requires ring { S.is_honest samples.old → AreRemembered (S.mosaic samples.old) ring.old }
+    requires ground_cache { S.is_honest samples.old → AreRemembered (S.mosaic samples.old) ground_cache.old }
     requires number { number < 4 * (S.side_of samples.old - 1) }
     ensures point { S.is_honest samples.new → IsFlooded (S.mosaic samples.old) corner labelled.now → IfOk result (λ found. MatchOption found (HasOtherRimHeight (S.mosaic samples.old) corner labelled.now.levels)
         (λ point. IsRimPointIn (S.mosaic samples.old) corner labelled.now.labels number point)) }
-    ensures ring { S.is_honest samples.new → OnOk result (AreRemembered (S.mosaic samples.new) ring.new) }
+    ensures ground_cache { S.is_honest samples.new → OnOk result (AreRemembered (S.mosaic samples.new) ground_cache.new) }
     ensures reads { OnlyReads S.Samples samples.old samples.new result }
 {
     let side = labelled.side();
@@ -108,7 +115,7 @@ fn rim_point<S: Samples>(
     if !is_rim_height(samples, point, level, is_flooded)? {
         return Ok(None);
     }
-    let is_outlet = is_tile_outlet(samples, corner, labelled, ring, point, index)?;
+    let is_outlet = is_tile_outlet(samples, corner, labelled, ground_cache, point, index)?;
     Ok(Some(RimPoint {
         height: level,
         label: labelled.labels()[index as usize],

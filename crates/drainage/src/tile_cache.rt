@@ -1,5 +1,5 @@
 //! What is found of a mosaic's water: ways, labellings and levels, tile by tile as they are asked for.
-ghost use Rattle.std.specs.Prelude.{◌≡◌, ◌≢◌, ◌-◌, ◌*◌, ◌<◌, ℕ, ℤ, IfOk, IfErr, IfSome, IfNone, OnOk, IsTrue, Ok, Some, length};
+ghost use Rattle.std.specs.Prelude.{◌≡◌, ◌≢◌, ◌-◌, ◌*◌, ◌<◌, ◌≤◌, ℕ, ℤ, IfOk, IfErr, IfSome, IfNone, OnOk, IsTrue, Ok, Some, length};
 ghost use Rattle.catalogue.specs.Asked.{Asked};
 ghost use Rattle.catalogue.specs.Endings.{ends_any};
 ghost use Rattle.catalogue.specs.Readers.{OnlyReads};
@@ -14,13 +14,14 @@ ghost use Rattle.border_graph.specs.TileGraph.{TileGraph as TileGraphOf};
 ghost use Rattle.border_graph.specs.Others.{corner_at};
 ghost use Rattle.drainage.specs.RimGraphs.{loaded_at};
 ghost use Rattle.drainage.specs.Invalidating.{IsLeftOf, IsNotedOf};
+ghost use Rattle.drainage.specs.Room.{most_rim_levels};
 ghost use Rattle.drainage.specs.Holding.{IsRight, IsGrown, IsCurrentIn, level_of};
 ghost use Rattle.drainage.specs.Reaching.{DifferAt, DifferBetween, is_reached};
 ghost use Rattle.drainage.specs.Spared.{AreLevelsStill, IsNoHigher, IsSetTo, IsSpared};
 
-use crate::filling::spot_of;
+use crate::filling::label_in;
 use crate::labelling_cache::LabellingCache;
-use crate::renewing::{current_labelling, kept_spot};
+use crate::refreshing::{current_labelling, kept_label_at};
 use crate::rim_graph::RimGraph;
 use crate::rims::RimLevels;
 use crate::summing::summarize;
@@ -39,6 +40,7 @@ pub(crate) struct TileCache {
     pub(crate) labellings: LabellingCache,
     pub(crate) levels: RimLevels,
     ghost same_side: { labellings.side ≡ rim_graph.side },
+    ghost few_levels: { length levels ≤ most_rim_levels },
 }
 
 impl TileCache {
@@ -80,19 +82,18 @@ impl TileCache {
     }
 
     /// The ground point may have this height from then on, and no sink changes: this is noted of the labellings of the tiles
-    /// that hold it, to be mended. The ways are given up as by `invalidate_between`; the levels of rim points stay, as this height
-    /// spares each.
+    /// that hold it, to be mended. The ways are given up as by `invalidate_between`, but for those of tiles where the point lay
+    /// below its level and stays there, by a labelling that is held; the levels of rim points stay, as this height spares each.
     pub(crate) fn note_changed(&mut self, height: &NewHeight)
-        ensures left { IsNotedOf (is_reached self.old.rim_graph.side self.old.rim_graph.corners.items height.now.point height.now.point) height.now.point (known_of self.old) (known_of self.new) }
+        ensures left { IsNotedOf height.now (known_of self.old) (known_of self.new) }
         ensures still { (m : Mosaic) → IsRight m (known_of self.old) → IsRight m (known_of self.new) }
         ensures right { (m new : Mosaic) → DifferAt m new height.now.point → height_of m height.now.point ≡ At height.now.was → IsSetTo m new height.now.point height.now.metres
             → ((x : ℕ) (level : ℤ) → level_of self.old.levels x ≡ Some level → IsSpared height.now.was height.now.metres level) → IsRight m (known_of self.old) → IsRight new (known_of self.new) }
     {
         let side = self.rim_graph.side;
+        self.rim_graph.note_changed(&self.labellings, height);
         self.labellings
             .note_changed(side, &self.rim_graph.corners, height);
-        self.rim_graph
-            .invalidate_between(height.point, height.point);
     }
 
     /// The labelling of the corner's tile, where it is held and none of its heights may have changed since.
@@ -138,7 +139,7 @@ impl TileCache {
 
     /// The level and the label of the point with this index in the tile with this place and corner: by a labelling that is
     /// held; as they are kept, by themselves; or by a labelling that is read or made, and held from then on.
-    pub(crate) fn spot<S: Labellings>(
+    pub(crate) fn label_at<S: Labellings>(
         &mut self,
         alloc: Global,
         samples: &mut S,
@@ -149,24 +150,24 @@ impl TileCache {
         requires place { t < length self.old.rim_graph.corners.items }
         requires corner { corner_at self.old.rim_graph.corners.items t ≡ corner }
         requires index { index < self.old.rim_graph.side * self.old.rim_graph.side }
-        ensures spot { S.is_honest samples.new → IsRight (S.mosaic samples.old) (known_of self.old) → IfOk result (λ spot. IsLabelledAt (S.mosaic samples.old) corner index spot.0 spot.1) }
+        ensures label_at { S.is_honest samples.new → IsRight (S.mosaic samples.old) (known_of self.old) → IfOk result (λ label_at. IsLabelledAt (S.mosaic samples.old) corner index label_at.0 label_at.1) }
         ensures grown { IsGrown S.Samples samples.old samples.new (known_of self.old) (known_of self.new) }
         ensures reads { OnOk result (OnlyReads {T = Unit {0}} S.Samples samples.old samples.new (Ok tt)) }
         ensures asked { (S.is_honest samples.new → IsRight (S.mosaic samples.old) (known_of self.old)) → Asked S.Samples samples.old samples.new result }
         ensures causes { IfErr result (λ r. IsTrue (ends_any r)) }
     {
-        if let Some(spot) = self.labellings.spot(t, index) {
-            return Ok(spot);
+        if let Some(label_at) = self.labellings.label_at(t, index) {
+            return Ok(label_at);
         }
-        if let Some(spot) = kept_spot(samples, &mut self.labellings, t, corner, index)? {
-            return Ok(spot);
+        if let Some(label_at) = kept_label_at(samples, &mut self.labellings, t, corner, index)? {
+            return Ok(label_at);
         }
-        self.cached_spot(alloc, samples, t, corner, index)
+        self.cached_label_at(alloc, samples, t, corner, index)
     }
 
     // The level and the label of the point with this index in the tile with this place and corner, by a labelling that is
     // held from then on.
-    fn cached_spot<S: Labellings>(
+    fn cached_label_at<S: Labellings>(
         &mut self,
         alloc: Global,
         samples: &mut S,
@@ -177,17 +178,17 @@ impl TileCache {
         requires place { t < length self.old.rim_graph.corners.items }
         requires corner { corner_at self.old.rim_graph.corners.items t ≡ corner }
         requires index { index < self.old.rim_graph.side * self.old.rim_graph.side }
-        ensures spot { S.is_honest samples.new → IsRight (S.mosaic samples.old) (known_of self.old) → IfOk result (λ spot. IsLabelledAt (S.mosaic samples.old) corner index spot.0 spot.1) }
+        ensures label_at { S.is_honest samples.new → IsRight (S.mosaic samples.old) (known_of self.old) → IfOk result (λ label_at. IsLabelledAt (S.mosaic samples.old) corner index label_at.0 label_at.1) }
         ensures grown { IsGrown S.Samples samples.old samples.new (known_of self.old) (known_of self.new) }
         ensures reads { OnOk result (OnlyReads {T = Unit {0}} S.Samples samples.old samples.new (Ok tt)) }
         ensures asked { (S.is_honest samples.new → IsRight (S.mosaic samples.old) (known_of self.old)) → Asked S.Samples samples.old samples.new result }
         ensures causes { IfErr result (λ r. IsTrue (ends_any r)) }
     {
         let labelling = current_labelling(alloc, samples, &mut self.labellings, t, corner)?;
-        let spot = spot_of(labelling.labelled(), index);
+        let label_at = label_in(labelling.labelled(), index);
         self.labellings.hold(t, labelling);
-        match spot {
-            Some(spot) => Ok(spot),
+        match label_at {
+            Some(label_at) => Ok(label_at),
             None => Err(Refusal::Damaged),
         }
     }

@@ -11,7 +11,7 @@ ghost use Rattle.drainage.specs.TileCaches.{known_of};
 ghost use Rattle.drainage.specs.TileLevels.{IsLevelOrVoid};
 
 use crate::filling::level_in;
-use crate::renewing::current_labelling;
+use crate::refreshing::current_labelling;
 use crate::tile_cache::TileCache;
 use border_graph::place_of;
 use catalogue::Samples;

@@ -4,18 +4,19 @@ ghost use Rattle.lattice.specs.Limits.{most_tiles};
 ghost use Rattle.catalogue.specs.Asked.{Asked};
 ghost use Rattle.catalogue.specs.Endings.{ends_any};
 ghost use Rattle.tile_flood.specs.Raising.{AreTileLevels};
-ghost use Rattle.watershed.specs.Questions.{AreTileDirections};
+ghost use Rattle.watershed.specs.Questions.{AreTileCounts, AreTileDirections};
 ghost use Rattle.drainage.specs.Between.{IsHeldFor};
 ghost use Rattle.drainage.specs.WholeTiles.{code_told};
 
 use crate::drainage_cache::DrainageCache;
-use crate::following::code;
-use crate::prepared_flows::flow_anywhere;
+use crate::flow_direction::code;
+use crate::prepared_flows::{PreparedFlows, flow_anywhere};
 use crate::tile_levels::{present_place, tile_levels};
 use flow_d8::Flow;
 use lattice::{Corner, Refusal, point_at, push};
 use std::alloc::Global;
 use tile_labellings::Labellings;
+use watershed::upstream_counts;
 
 // The code of a sample whose point isn't ground.
 const NO_GROUND: u8 = 255;
@@ -71,6 +72,30 @@ pub fn directions<S: Labellings>(
         push(&mut codes, code_told(flow))?;
     }
     Ok(codes)
+}
+
+/// Of all samples of the corner's tile how many ground points have the sample's point on their flow path, itself among them:
+/// so many points as [`crate::watershed`] answers of it. 0 where a sample's point isn't ground. Row by row from the north, west
+/// first. Each point upstream of the tile is visited once, in whichever tiles. What was held for the samples serves, and what is
+/// found of directions is held then.
+///
+/// It is refused as the levels are.
+pub fn upstream<S: Labellings>(
+    alloc: Global,
+    samples: &mut S,
+    held: &mut DrainageCache,
+    corner: Corner,
+) -> Result<Vec<u32>, Refusal>
+    requires held { IsHeldFor S.Samples samples.old held.old }
+    requires few { length (S.corners samples.old) ≤ most_tiles }
+    ensures counts { S.is_honest samples.new → IfOk result (λ counts. AreTileCounts (S.mosaic samples.old) corner counts.items) }
+    ensures causes { IfErr result (λ r. IsTrue (ends_any r)) }
+    ensures asked { Asked S.Samples samples.old samples.new result }
+    ensures held { IsHeldFor S.Samples samples.new held.new }
+{
+    let side = samples.side();
+    let mut flows = PreparedFlows { samples, held };
+    upstream_counts(alloc, &mut flows, side, corner)
 }
 
 // The code of what is told of a sample's point.

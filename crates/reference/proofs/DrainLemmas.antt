@@ -13,9 +13,9 @@ use Rattle.lattice.specs.Stepping.{fits_point, reach_of}
 use Rattle.lattice.specs.Mosaic.{Mosaic, IsMosaic, void}
 use Rattle.lattice.specs.Ground.{is_ground, is_outlet, terrain}
 use Rattle.flow_d8.specs.Drainage.{AreFilledLevels, IsLower, HasLower, IsSteepest, IsFlatDistance, IsNearer, IsFirstNearer, IsDirection}
-use Rattle.flow_d8.proofs.MosaicGrid.{mosaic_is_grid}
-use Rattle.flow_d8.proofs.Exists.{steepest_or_none, direction_exists}
-use Rattle.flow_d8.proofs.Unique.{one_distance}
+use Rattle.flow_d8.proofs.Mosaics.MosaicGrid.{mosaic_is_grid}
+use Rattle.flow_d8.proofs.Paths.Exists.{steepest_or_none, direction_exists}
+use Rattle.flow_d8.proofs.Paths.Unique.{one_distance}
 use Rattle.reference.specs.declared.levels.Cell.{Cell}
 use Rattle.reference.specs.Levels.{level_of}
 use Rattle.reference.specs.Flats.{is_lower, is_level}

@@ -9,7 +9,7 @@ use Rattle.lattice.specs.Mosaic.{Mosaic}
 use Rattle.lattice.specs.Ground.{is_ground, terrain}
 use Rattle.flow_d8.specs.Drainage.{IsDirection}
 use Rattle.flow_d8.specs.FlowPath.{IsFlowPath}
-use Rattle.flow_d8.proofs.FlowPaths.{from_next}
+use Rattle.flow_d8.proofs.Paths.FlowPaths.{from_next}
 use Rattle.reference.proofs.GroundLemmas.{adjacent_parts}
 
 -- the list has the element, by recursion

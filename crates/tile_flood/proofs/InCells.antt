@@ -118,7 +118,7 @@ marked_unless_open n heights sinks cells queue e whole s marks below cell is tes
       absurd (solid_height n heights e solid (s.gaps e none inside label))
 ]
 
--- the front has a label
+-- the popped has a label
 pub front_labelled : (n : ℕ) (heights : List ℤ) (sinks : List ℕ) (cells : List Cell) (queue : Queue) (c : ℕ) (low : ℤ) (label : ℕ) → length heights ≡ n * n → AreCells heights cells → IsSpreading (block_of n heights sinks) (levels_of cells) (labels_of cells) queue c low label →
     (label ≢ NO_LABEL) × (label ≢ OPEN)
 front_labelled n heights sinks cells queue c low label whole s spreading =

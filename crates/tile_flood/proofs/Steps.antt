@@ -418,7 +418,7 @@ taken_in levels queue queue' c low taken e w = elim (taken.others (get_or levels
 pub at_most_same : (levels : List ℤ) → AreAtMost levels levels
 at_most_same levels e on = (on, at_most_it (get_or levels e void))
 
--- what a point beside the front has afterwards
+-- what a point beside the popped has afterwards
 pub record IsReached (n : ℕ) (heights : List ℤ) (sinks : List ℕ) (levels levels' : List ℤ) (labels' : List ℕ) (queue' suspects' : Queue) (c : ℕ) (low : ℤ) (label y : ℕ) : Type 0 where
   pub state : IsPassingOn n heights sinks levels' labels' queue' suspects' c low label
   pub at_most : AreAtMost levels levels'
@@ -457,7 +457,7 @@ module _ (n : ℕ) (heights : List ℤ) (sinks : List ℕ) (levels : List ℤ) (
   linked_if : (z : ℕ) → z ≢ y → IsTrue (is_marked levels z) → IsTrue (is_beside n y z) → IsTrue (is_linked (block_of n heights sinks) y z)
   linked_if z other on near = linked_from n heights y z (record { from = solid; to = s.state.ground z on; apart = ap not (ne_eqb y z (λ same. other (sym same))); beside = near })
 
-  -- the front has what it had
+  -- the popped has what it had
   front_on : (levels' : List ℤ) (labels' : List ℕ) → levels' ≡ set levels y v → labels' ≡ set labels y a → c ≢ y → IsMending n heights sinks levels' labels' (IsInOr queue' levels' c low) (IsIn suspects' levels') → IsPassingOn n heights sinks levels' labels' queue' suspects' c low label
   front_on levels' labels' at_levels at_labels other state = record {
     state = state;
@@ -525,7 +525,7 @@ module _ (n : ℕ) (heights : List ℤ) (sinks : List ℕ) (levels : List ℤ) (
       not_itself : (e : ℕ) → IsHeldUp n heights sinks levels labels e y → e ≢ y
       not_itself e up same = apart_if e y (linked_parts n heights e y up.link).apart same
 
--- the front has passed on what it has
+-- the popped has passed on what it has
 pub passed_on : (n : ℕ) (heights : List ℤ) (sinks : List ℕ) (levels : List ℤ) (labels : List ℕ) (queue suspects : Queue) (c : ℕ) (low : ℤ) (label : ℕ) → IsPassingOn n heights sinks levels labels queue suspects c low label →
     ((z : ℕ) → z < n * n → IsTrue (is_beside n c z) → IsTrue (is_solid (block_of n heights sinks) z) → IsTrue (is_marked levels z) × (get_or levels z void ≤ℤ int_max (get_or heights z void) low)) → AreMending n heights sinks levels labels queue suspects
 passed_on n heights sinks levels labels queue suspects c low label s all =

@@ -19,7 +19,7 @@ use std::alloc::AllocError;
 
 // The point that passes on its level and its label.
 #[derive(Clone, Copy)]
-pub(crate) struct Front {
+pub(crate) struct PoppedCell {
     point: usize,
     level: i16,
     label: u16,
@@ -72,80 +72,80 @@ impl Flood {
             return Ok(());
         }
         let point = entry.point as usize;
-        let front = Front {
+        let popped = PoppedCell {
             point,
             level: entry.level,
             label: label_at(&self.labels, point),
         };
         for d in 0..9 {
             if let Some(e) = window_point(n, point, d) {
-                self.visit(n, heights, sinks, front, e, affected)?;
+                self.visit(n, heights, sinks, popped, e, affected)?;
             }
         }
         Ok(())
     }
 
-    // Marks the point e, beside the front, or lowers it, where that lowers its level.
+    // Marks the point e, beside the popped, or lowers it, where that lowers its level.
     fn visit(
         &mut self,
         n: usize,
         heights: &[i16],
         sinks: &[u32],
-        front: Front,
+        popped: PoppedCell,
         e: usize,
         affected: &mut Vec<Affected>,
     ) -> Result<(), AllocError>
         requires heights { AreHeights n heights.now }
         requires e { e < n * n }
-        requires beside { IsTrue (is_beside n front.point e) }
-        requires state { IsPassingOn n heights.now sinks.now self.old.levels.items self.old.labels.items self.old.queue self.old.suspects front.point front.level front.label }
-        ensures state { OnOk result (IsPassingOn n heights.now sinks.now self.new.levels.items self.new.labels.items self.new.queue self.new.suspects front.point front.level front.label) }
+        requires beside { IsTrue (is_beside n popped.point e) }
+        requires state { IsPassingOn n heights.now sinks.now self.old.levels.items self.old.labels.items self.old.queue self.old.suspects popped.point popped.level popped.label }
+        ensures state { OnOk result (IsPassingOn n heights.now sinks.now self.new.levels.items self.new.labels.items self.new.queue self.new.suspects popped.point popped.level popped.label) }
         ensures at_most { OnOk result (AreAtMost self.old.levels.items self.new.levels.items) }
-        ensures reached { OnOk result (IsTrue (is_solid (bare_block n heights.now) e) → IsTrue (is_marked self.new.levels.items e) × (slice_index_or self.new.levels.items e void ≤ℤ int_max (slice_index_or heights.now e void) front.level)) }
+        ensures reached { OnOk result (IsTrue (is_solid (bare_block n heights.now) e) → IsTrue (is_marked self.new.levels.items e) × (slice_index_or self.new.levels.items e void ≤ℤ int_max (slice_index_or heights.now e void) popped.level)) }
         ensures listed { OnOk result (StayListed n heights.now self.old.levels.items self.old.labels.items affected.old.items self.new.levels.items self.new.labels.items affected.new.items) }
     {
         if !is_ground(n, heights, e) {
             return Ok(());
         }
-        let level = higher(at(heights, e), front.level);
+        let level = higher(at(heights, e), popped.level);
         if self.is_unmarked(e) {
-            self.mark(e, level, front.label)?;
+            self.mark(e, level, popped.label)?;
             return Ok(());
         }
         if level >= at(&self.levels, e) {
             return Ok(());
         }
-        self.lower(n, heights, sinks, front, e, level, affected)?;
+        self.lower(n, heights, sinks, popped, e, level, affected)?;
         Ok(())
     }
 
-    // Gives the point e, beside the front, a lower level. Where its own label stands what hangs on it may hang on it still; else
+    // Gives the point e, beside the popped, a lower level. Where its own label stands what hangs on it may hang on it still; else
     // that is suspect.
     fn lower(
         &mut self,
         n: usize,
         heights: &[i16],
         sinks: &[u32],
-        front: Front,
+        popped: PoppedCell,
         e: usize,
         level: i16,
         affected: &mut Vec<Affected>,
     ) -> Result<(), AllocError>
         requires heights { AreHeights n heights.now }
         requires e { e < n * n }
-        requires beside { IsTrue (is_beside n front.point e) }
+        requires beside { IsTrue (is_beside n popped.point e) }
         requires marked { IsTrue (is_marked self.old.levels.items e) }
-        requires level { level ≡ int_max (slice_index_or heights.now e void) front.level }
+        requires level { level ≡ int_max (slice_index_or heights.now e void) popped.level }
         requires lower { level <ℤ slice_index_or self.old.levels.items e void }
-        requires state { IsPassingOn n heights.now sinks.now self.old.levels.items self.old.labels.items self.old.queue self.old.suspects front.point front.level front.label }
-        ensures state { OnOk result (IsPassingOn n heights.now sinks.now self.new.levels.items self.new.labels.items self.new.queue self.new.suspects front.point front.level front.label) }
+        requires state { IsPassingOn n heights.now sinks.now self.old.levels.items self.old.labels.items self.old.queue self.old.suspects popped.point popped.level popped.label }
+        ensures state { OnOk result (IsPassingOn n heights.now sinks.now self.new.levels.items self.new.labels.items self.new.queue self.new.suspects popped.point popped.level popped.label) }
         ensures at_most { OnOk result (AreAtMost self.old.levels.items self.new.levels.items) }
-        ensures reached { OnOk result (IsTrue (is_marked self.new.levels.items e) × (slice_index_or self.new.levels.items e void ≤ℤ int_max (slice_index_or heights.now e void) front.level)) }
+        ensures reached { OnOk result (IsTrue (is_marked self.new.levels.items e) × (slice_index_or self.new.levels.items e void ≤ℤ int_max (slice_index_or heights.now e void) popped.level)) }
         ensures listed { OnOk result (StayListed n heights.now self.old.levels.items self.old.labels.items affected.old.items self.new.levels.items self.new.labels.items affected.new.items) }
     {
         let was = at(&self.levels, e);
         let own = label_at(&self.labels, e);
-        let label = self.label_for(n, heights, sinks, front, e, level);
+        let label = self.label_for(n, heights, sinks, popped, e, level);
         self.list_affected(e, affected)?;
         self.mark(e, level, label)?;
         if label == own {
@@ -155,27 +155,27 @@ impl Flood {
         Ok(())
     }
 
-    // The label of the point e, beside the front, at this level: its own, where it stands there, else the front's.
+    // The label of the point e, beside the popped, at this level: its own, where it stands there, else the popped's.
     fn label_for(
         &self,
         n: usize,
         heights: &[i16],
         sinks: &[u32],
-        front: Front,
+        popped: PoppedCell,
         e: usize,
         level: i16,
     ) -> u16
         requires heights { AreHeights n heights.now }
         requires e { e < n * n }
-        requires beside { IsTrue (is_beside n front.point e) }
-        requires level { level ≡ int_max (slice_index_or heights.now e void) front.level }
-        requires state { IsPassingOn n heights.now sinks.now self.now.levels.items self.now.labels.items self.now.queue self.now.suspects front.point front.level front.label }
+        requires beside { IsTrue (is_beside n popped.point e) }
+        requires level { level ≡ int_max (slice_index_or heights.now e void) popped.level }
+        requires state { IsPassingOn n heights.now sinks.now self.now.levels.items self.now.labels.items self.now.queue self.now.suspects popped.point popped.level popped.label }
         ensures { IsBesideWith n self.now.levels.items self.now.labels.items e result level }
     {
         let own = label_at(&self.labels, e);
         if self.has_beside(n, e, own, level) {
             return own;
         }
-        front.label
+        popped.label
     }
 }

@@ -15,7 +15,7 @@ use std::alloc::AllocError;
 
 // The point that spreads, with its level and its label.
 #[derive(Clone, Copy)]
-struct Front {
+struct PoppedCell {
     point: usize,
     level: i16,
     label: u16,
@@ -37,40 +37,40 @@ pub(crate) fn settle(
 {
     while let Some(entry) = queue.pop() {
         let point = entry.point as usize;
-        let front = Front {
+        let popped = PoppedCell {
             point,
             level: entry.level,
             label: cell_at(cells, point).label,
         };
-        spread(n, heights, sinks, cells, queue, front)?;
+        spread(n, heights, sinks, cells, queue, popped)?;
     }
     Ok(())
 }
 
-// Marks all points beside the front.
+// Marks all points beside the popped.
 fn spread(
     n: usize,
     heights: &[i16],
     sinks: &[u32],
     cells: &mut [Cell],
     queue: &mut FullQueue,
-    front: Front,
+    popped: PoppedCell,
 ) -> Result<(), AllocError>
     requires heights { AreHeights n heights.now }
     requires cells { AreCells heights.now cells.old }
-    requires state { IsSpreading (block_of n heights.now sinks.now) (levels_of cells.old) (labels_of cells.old) queue.old front.point front.level front.label }
+    requires state { IsSpreading (block_of n heights.now sinks.now) (levels_of cells.old) (labels_of cells.old) queue.old popped.point popped.level popped.label }
     ensures cells { OnOk result (AreCells heights.now cells.new) }
     ensures state { OnOk result (IsFlooding (block_of n heights.now sinks.now) (levels_of cells.new) (labels_of cells.new) queue.new) }
     ensures count { OnOk result (unmarked (levels_of cells.new) + waiting queue.new ≡ unmarked (levels_of cells.old) + waiting queue.old) }
 {
-    visit_row(n, heights, sinks, cells, queue, front, 0)?;
-    visit_row(n, heights, sinks, cells, queue, front, 1)?;
-    visit_row(n, heights, sinks, cells, queue, front, 2)?;
+    visit_row(n, heights, sinks, cells, queue, popped, 0)?;
+    visit_row(n, heights, sinks, cells, queue, popped, 1)?;
+    visit_row(n, heights, sinks, cells, queue, popped, 2)?;
     Ok(())
 }
 
-// Marks the points beside the front in the row above it, in its own, or in the row below. The three points from the
-// front's western column on lie beside it, or on the rim, where all ground points are marked: so there are no columns to
+// Marks the points beside the popped in the row above it, in its own, or in the row below. The three points from the
+// popped's western column on lie beside it, or on the rim, where all ground points are marked: so there are no columns to
 // be told apart, and where there are no three such points the row is one of the rim.
 #[inline(always)]
 fn visit_row(
@@ -79,31 +79,31 @@ fn visit_row(
     sinks: &[u32],
     cells: &mut [Cell],
     queue: &mut FullQueue,
-    front: Front,
+    popped: PoppedCell,
     i: usize,
 ) -> Result<(), AllocError>
     requires heights { AreHeights n heights.now }
     requires cells { AreCells heights.now cells.old }
-    requires state { IsSpreading (block_of n heights.now sinks.now) (levels_of cells.old) (labels_of cells.old) queue.old front.point front.level front.label }
+    requires state { IsSpreading (block_of n heights.now sinks.now) (levels_of cells.old) (labels_of cells.old) queue.old popped.point popped.level popped.label }
     requires i { i < 3 }
     ensures cells { OnOk result (AreCells heights.now cells.new) }
-    ensures state { OnOk result (IsSpreading (block_of n heights.now sinks.now) (levels_of cells.new) (labels_of cells.new) queue.new front.point front.level front.label) }
+    ensures state { OnOk result (IsSpreading (block_of n heights.now sinks.now) (levels_of cells.new) (labels_of cells.new) queue.new popped.point popped.level popped.label) }
     ensures still { OnOk result (AreMarkedStill (levels_of cells.old) (levels_of cells.new)) }
     ensures count { OnOk result (unmarked (levels_of cells.new) + waiting queue.new ≡ unmarked (levels_of cells.old) + waiting queue.old) }
-    ensures marked { OnOk result ((z : ℕ) → IsTrue (is_linked (bare_block n heights.now) front.point z) → z / n + 1 ≡ front.point / n + i → IsTrue (is_marked (levels_of cells.new) z)) }
+    ensures marked { OnOk result ((z : ℕ) → IsTrue (is_linked (bare_block n heights.now) popped.point z) → z / n + 1 ≡ popped.point / n + i → IsTrue (is_marked (levels_of cells.new) z)) }
 {
-    let from = front.point + i * n;
+    let from = popped.point + i * n;
     if from <= n || from >= cells.len() + n - 1 {
         return Ok(());
     }
     let west = from - n - 1;
-    visit(n, heights, sinks, cells, queue, front, west)?;
-    visit(n, heights, sinks, cells, queue, front, west + 1)?;
-    visit(n, heights, sinks, cells, queue, front, west + 2)?;
+    visit(n, heights, sinks, cells, queue, popped, west)?;
+    visit(n, heights, sinks, cells, queue, popped, west + 1)?;
+    visit(n, heights, sinks, cells, queue, popped, west + 2)?;
     Ok(())
 }
 
-// Marks the point e, near the front, that was taken at the lowest level.
+// Marks the point e, near the popped, that was taken at the lowest level.
 #[inline(always)]
 fn visit(
     n: usize,
@@ -111,16 +111,16 @@ fn visit(
     sinks: &[u32],
     cells: &mut [Cell],
     queue: &mut FullQueue,
-    front: Front,
+    popped: PoppedCell,
     e: usize,
 ) -> Result<(), AllocError>
     requires heights { AreHeights n heights.now }
     requires cells { AreCells heights.now cells.old }
-    requires state { IsSpreading (block_of n heights.now sinks.now) (levels_of cells.old) (labels_of cells.old) queue.old front.point front.level front.label }
+    requires state { IsSpreading (block_of n heights.now sinks.now) (levels_of cells.old) (labels_of cells.old) queue.old popped.point popped.level popped.label }
     requires e { e < n * n }
-    requires near { IsNear n front.point e }
+    requires near { IsNear n popped.point e }
     ensures cells { OnOk result (AreCells heights.now cells.new) }
-    ensures state { OnOk result (IsSpreading (block_of n heights.now sinks.now) (levels_of cells.new) (labels_of cells.new) queue.new front.point front.level front.label) }
+    ensures state { OnOk result (IsSpreading (block_of n heights.now sinks.now) (levels_of cells.new) (labels_of cells.new) queue.new popped.point popped.level popped.label) }
     ensures still { OnOk result (AreMarkedStill (levels_of cells.old) (levels_of cells.new)) }
     ensures count { OnOk result (unmarked (levels_of cells.new) + waiting queue.new ≡ unmarked (levels_of cells.old) + waiting queue.old) }
     ensures marked { OnOk result (IsTrue (is_solid (bare_block n heights.now) e) → IsTrue (is_marked (levels_of cells.new) e)) }
@@ -131,8 +131,8 @@ fn visit(
             cells,
             queue,
             e,
-            higher(cell.level, front.level),
-            front.label,
+            higher(cell.level, popped.level),
+            popped.label,
         )?;
     }
     Ok(())

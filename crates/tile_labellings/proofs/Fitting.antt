@@ -1,10 +1,11 @@
 -- The marks of a valid labelling fit each other.
-use Rattle.std.proofs.Common.{◌≡◌, ◌≢◌, inl, inr, ℕ, ◌+◌, ◌-◌, ◌*◌, ◌<◌, ◌≤◌, ℤ, ◌≤ℤ◌, IsTrue, List, [], ◌∷◌, ◌++◌, length, length-append, get_or, slice_index, Some, None, sym, ap, ◌∙◌, subst, arith}
-use Rattle.std.proofs.lemmas.Bool.{cases_Bool, cases_lt}
+use Rattle.std.proofs.Common.{◌≡◌, ◌≢◌, inl, inr, ℕ, ◌+◌, ◌-◌, ◌*◌, ◌<◌, ◌≤◌, ℤ, ◌≤ℤ◌, IsTrue, List, [], ◌∷◌, ◌++◌, length, length-append, get_or, slice_index, Some, None, sym, ap, ◌∙◌, subst, arith, true≢false, nat_eq}
+use Rattle.std.proofs.lemmas.Bool.{cases_Bool, cases_lt, cond-true, cond-false, eqb-true, eqb-false}
+use Rattle.std.proofs.lemmas.Bool.Decides.{Decides-int_eq}
 use Rattle.std.proofs.lemmas.List.{get_or_append_left}
 use Rattle.std.proofs.Math.Seq.{get_or-append_seam}
 use Rattle.lattice.specs.Block.{block_terrain, is_solid, is_rim, rim_number}
-use Rattle.lattice.specs.Mosaic.{void}
+use Rattle.lattice.specs.Mosaic.{void, is_void}
 use Rattle.lattice.specs.RimPoints.{IsRimPoint}
 use Rattle.lattice.specs.Terrain.{end_of}
 use Rattle.lattice.specs.Limits.{largest_side}
@@ -13,7 +14,7 @@ use Rattle.lattice.proofs.RimNumbers.{one_index}
 use Rattle.tile_flood.specs.Blocks.{block_of, bare_block}
 use Rattle.tile_flood.specs.Labelling.{IsLabelling, OUT, NO_LABEL}
 use Rattle.tile_flood.specs.Raising.{raised_level}
-use Rattle.tile_flood.proofs.Passages.{solid_has_level}
+use Rattle.tile_flood.proofs.Passages.{not_void, solid_has_level}
 use Rattle.tile_flood.proofs.Raised.{rim_number_below, raised_over, raised_out, raised_void}
 use Rattle.tile_flood.proofs.Squares.{solid_below}
 use Rattle.tile_labellings.specs.Labellings.{AreLevelsOfRim}
@@ -68,3 +69,28 @@ one_more_level n levels rim count e level low here is done = record {
         ap (λ j. get_or (rim ++ level ∷ []) j void) (last ∙ sym done.whole) ∙ (get_or-append_seam rim level [] void ∙ (is ∙ ap (λ i. get_or levels i void) same))
   ];
 }
+
+-- ---- a label that goes with some level goes with any
+
+pub any_level : (rim : List ℤ) (label : ℕ) (level other : ℤ) → level ≢ void → other ≢ void → raised_level rim level label ≢ None → raised_level rim other label ≢ None
+any_level rim label level other full full' some none = elim (cases_Bool (nat_eq label NO_LABEL)) [
+  | inl gap ↦ some (cond-true (nat_eq label NO_LABEL) _ _ gap ∙ cond-false (is_void level) _ _ (not_void level full))
+  | inr named ↦ elim (cases_Bool (nat_eq label OUT)) [
+    | inl out ↦ none_is_some (sym (raised_out rim other label (eqb-true label OUT out) full') ∙ none)
+    | inr inner ↦ elim (cases_Bool (is_void (get_or rim label void))) [
+      | inl gone ↦ some
+          (cond-false (nat_eq label NO_LABEL) _ _ named
+          ∙ (cond-false (is_void level) _ _ (not_void level full) ∙ (cond-false (nat_eq label OUT) _ _ inner ∙ cond-true (is_void (get_or rim label void)) _ _ gone)))
+      | inr there ↦ none_is_some
+          (sym (raised_over rim other label (eqb-false label NO_LABEL named) full' (eqb-false label OUT inner) (λ same. true≢false (sym ((Decides-int_eq (get_or rim label void) void).1 same) ∙ there))) ∙ none)
+    ]
+  ]
+]
+
+-- one more point goes with its label
+pub one_more_fits : (rim levels : List ℤ) (labels : List ℕ) (k : ℕ) → raised_level rim (get_or levels k void) (slice_index labels k) ≢ None → ((e : ℕ) → e < k → raised_level rim (get_or levels e void) (slice_index labels e) ≢ None)
+    → (e : ℕ) → e < k + 1 → raised_level rim (get_or levels e void) (slice_index labels e) ≢ None
+one_more_fits rim levels labels k here fit e less = elim (cases_lt e k) [
+  | inl earlier ↦ fit e earlier
+  | inr later ↦ let same : k ≡ e = omega arith in subst (λ j. raised_level rim (get_or levels j void) (slice_index labels j) ≢ None) same here
+]

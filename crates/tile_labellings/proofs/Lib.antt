@@ -1,5 +1,5 @@
 mod LittleBytes
-mod Spotted
+mod LabelledAt
 mod Fitting
 mod Mended
-mod KeptStill
+pub mod KeptStill

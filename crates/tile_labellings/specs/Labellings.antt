@@ -1,6 +1,6 @@
 -- Labellings of tiles, made or kept, and when the marks of what is kept fit each other (this product's own profile, after
 -- the tiled flooding of Barnes 2016).
-use Rattle.std.specs.Prelude.{◌≡◌, ◌≢◌, ℕ, ◌*◌, ◌-◌, ◌<◌, ◌⊎◌, ℤ, List, Option, None, IfSome, IsTrue, Contains, length, slice_index, slice_index_or}
+use Rattle.std.specs.Prelude.{◌≡◌, ◌≢◌, ℕ, ◌*◌, ◌-◌, ◌<◌, ◌⊎◌, ℤ, Bool, List, Option, None, IfSome, IsTrue, Contains, length, slice_index, slice_index_or}
 use Rattle.std.specs.Global.{Vec}
 use Rattle.lattice.specs.Corners.{Corner}
 use Rattle.lattice.specs.Lattice.{point_of}
@@ -20,11 +20,12 @@ pub record IsFlooded (m : Mosaic) (c : Corner) (labelled : LabelledGround) : Typ
   pub side : labelled.side ≡ m.side
   pub valid : (b : Block) × (IsBlockOf m c b × IsLabelling b labelled.levels labelled.labels)
 
--- a block, its labelling, and those of its points whose heights may have changed since
+-- a block, its labelling, those of its points whose heights may have changed since, and whether these changed no level
 pub record FloodedGround : Type 0 where
   pub block : Block
   pub labelled : LabelledGround
   pub changed : List ℕ
+  pub still : Bool
 
 -- a valid labelling of the block, carried to each point
 pub record IsFloodOf (b : Block) (labelled : LabelledGround) : Type 0 where
@@ -42,6 +43,11 @@ pub record IsBlockBut (m : Mosaic) (c : Corner) (changed : List ℕ) (b : Block)
   pub whole : length b.heights ≡ m.side * m.side
   pub heights : (e : ℕ) → e < m.side * m.side → (slice_index_or b.heights e void ≡ metres (height_of m (point_of m.side c e))) ⊎ Contains changed e
   pub sinks : (e : ℕ) → e < m.side * m.side → is_sink_at b e ≡ is_sink m (point_of m.side c e)
+
+-- such a block of the corner's tile; where no level changed its labelling is valid
+pub record IsFloodedTile (m : Mosaic) (c : Corner) (flooded : FloodedGround) : Type 0 where
+  pub block : IsBlockBut m c flooded.changed flooded.block
+  pub still : IsTrue flooded.still → IsFlooded m c flooded.labelled
 
 -- these are the levels of the rim, by rim number
 pub record AreLevelsOfRim (n : ℕ) (levels rim : List ℤ) : Type 0 where

@@ -1,5 +1,5 @@
 -- What is held of a tile's labelling.
-use Rattle.std.specs.Prelude.{◌≡◌, ◌≢◌, ◌⊎◌, ℕ, ℤ, ◌*◌, ◌<◌, Bool, true, false, [], length, nat_lt}
+use Rattle.std.specs.Prelude.{◌≡◌, ◌≢◌, ◌⊎◌, ℕ, ℤ, ◌*◌, ◌<◌, ◌<ℤ◌, ◌≤ℤ◌, Bool, true, false, IsTrue, List, [], length, nat_lt, slice_index_or}
 use Rattle.lattice.specs.Corners.{Corner}
 use Rattle.lattice.specs.Ground.{is_sink}
 use Rattle.lattice.specs.Height.{height_of}
@@ -8,7 +8,7 @@ use Rattle.lattice.specs.Mosaic.{Mosaic, void}
 use Rattle.lattice.specs.declared.height.Height.TheVariants.{At}
 use Rattle.lattice.specs.declared.point.Point.{Point}
 use Rattle.tile_flood.specs.Blocks.{LabelledGround}
-use Rattle.tile_labellings.specs.Labellings.{IsFlooded, IsBlockBut}
+use Rattle.tile_labellings.specs.Labellings.{IsFlooded, IsFloodedTile}
 use Rattle.tile_labellings.specs.declared.tile_labelling.TileLabelling.{TileLabelling}
 use Rattle.tile_labellings.specs.declared.tile_labelling.TileLabelling.TheVariants.{Kept, Flooded}
 
@@ -37,7 +37,23 @@ IsCurrent (Flooded flooded) = flooded.changed ≡ []
 -- a valid labelling of the corner's tile, or one of its block but for the heights that may have changed
 abbrev pub IsTileLabelling : Mosaic → Corner → TileLabelling → Type 0
 IsTileLabelling m c (Kept labelled) = IsFlooded m c labelled
-IsTileLabelling m c (Flooded flooded) = IsBlockBut m c flooded.changed flooded.block
+IsTileLabelling m c (Flooded flooded) = IsFloodedTile m c flooded
+
+-- no level and no label may have changed since
+abbrev pub IsStill : TileLabelling → Type 0
+IsStill (Kept labelled) = Unit {0}
+IsStill (Flooded flooded) = IsTrue flooded.still
+
+-- the point with this index lay below its level, and doesn't rise above it
+pub record IsBelowLevel (levels : List ℤ) (e : ℕ) (was is : ℤ) : Type 0 where
+  pub inside : e < length levels
+  pub below : was <ℤ slice_index_or levels e void
+  pub full : is ≢ void
+  pub low : is ≤ℤ slice_index_or levels e void
+
+-- .. so that levels and labels stay
+abbrev pub IsBelow : TileLabelling → ℕ → ℤ → ℤ → Type 0
+IsBelow labelling e was is = IsStill labelling × IsBelowLevel (labelled_of labelling).levels e was is
 
 -- of the points of the corner's tile, that with this index alone may have another height
 pub record DifferAt (c : Corner) (e : ℕ) (m new : Mosaic) : Type 0 where

@@ -1,5 +1,5 @@
 //! Blocks that were flooded, whose labellings are mended where heights change.
-ghost use Rattle.std.specs.Prelude.{◌≡◌, ◌<◌, ◌≤◌, ◌⊎◌, ℕ, ℤ, [], true, false, Contains, IfOk, IfErr, IfSome, IsTrue, IsFalse, length, slice_set, slice_index_or};
+ghost use Rattle.std.specs.Prelude.{◌≡◌, ◌<◌, ◌≤◌, ◌⊎◌, ◌&&◌, ℕ, ℤ, [], true, false, Contains, IfOk, IfErr, IfSome, IsTrue, IsFalse, length, slice_set, slice_index_or};
 ghost use Rattle.lattice.specs.Block.{Block, is_solid};
 ghost use Rattle.lattice.specs.Corners.{Corner};
 ghost use Rattle.lattice.specs.Ground.{metres};
@@ -12,7 +12,7 @@ ghost use Rattle.catalogue.specs.Reading.{MayRefuse};
 ghost use Rattle.tile_flood.specs.Blocks.{LabelledGround};
 ghost use Rattle.tile_flood.specs.Mending.{IsLabelledBefore};
 ghost use Rattle.tile_flood.specs.Spills.{AreSpills, HaveSameSpills};
-ghost use Rattle.tile_labellings.specs.Labellings.{AreHeldSpills, IsFlooded, IsBlockBut};
+ghost use Rattle.tile_labellings.specs.Labellings.{AreHeldSpills, IsFlooded, IsFloodedTile, IsBlockBut};
 ghost use Rattle.tile_labellings.specs.TileLabellings.{most_changed};
 ghost use Rattle.tile_labellings.specs.Updating.{IsUpdated, IsListedUnlessBelow};
 
@@ -32,6 +32,8 @@ pub struct FloodedBlock {
     block: Block,
     labelled: Labelled,
     changed: ArrayVec<u32, MOST_CHANGED>,
+    // Whether these changed no level and no label.
+    still: bool,
     // The spills of the labelling, once they were asked for.
     spills: Option<Vec<Spill>>,
 }
@@ -41,7 +43,7 @@ impl Model for FloodedBlock {
 
     ghost Value = { FloodedGround };
 
-    ghost view = { λ f. record { block = f.block; labelled = f.labelled; changed = f.changed.items } };
+    ghost view = { λ f. record { block = f.block; labelled = f.labelled; changed = f.changed.items; still = f.still } };
 
     ghost invariant = { λ f. IsFloodOf f.block f.labelled × AreHeldSpills f.labelled f.spills };
 }
@@ -52,6 +54,7 @@ impl FloodedBlock {
         ensures block { IfOk result (λ flooded. flooded.block ≡ block) }
         ensures side { IfOk result (λ flooded. flooded.labelled.side ≡ block.side) }
         ensures current { IfOk result (λ flooded. flooded.changed ≡ []) }
+        ensures valid { IfOk result (λ flooded. (m : Mosaic) (c : Corner) → IsBlockBut m c [] block → IsFloodedTile m c flooded) }
         ensures refusal { IfErr result (λ r. r ≡ NoMemory) }
     {
         let labelled = Flood::run(alloc, &block)?;
@@ -59,6 +62,7 @@ impl FloodedBlock {
             block,
             labelled,
             changed: ArrayVec::new(),
+            still: true,
             spills: None,
         })
     }
@@ -101,19 +105,29 @@ impl FloodedBlock {
         self.changed.len()
     }
 
-    /// The height of the point with this index may change from then on. False where that can't be noted, since there are as
-    /// many such points as there is room for. Takes no memory.
-    pub fn note_changed(&mut self, index: u32) -> bool
+    /// Whether the heights that may have changed changed no level and no label.
+    pub fn is_still(&self) -> bool
+        ensures { result ≡ self.now.still }
+    {
+        self.still
+    }
+
+    /// The height of the point with this index may change from then on; levels and labels stay, as far as they did until
+    /// then, or may change. False where that can't be noted, since there are as many such points as there is room for. Takes
+    /// no memory.
+    pub fn note_changed(&mut self, index: u32, stays: bool) -> bool
         ensures block { self.new.block ≡ self.old.block }
         ensures labelled { self.new.labelled ≡ self.old.labelled }
         ensures noted { IsTrue result → Contains self.new.changed index }
-        ensures still { (e : ℕ) → Contains self.old.changed e → Contains self.new.changed e }
+        ensures kept { (e : ℕ) → Contains self.old.changed e → Contains self.new.changed e }
+        ensures still { IsTrue result → self.new.still ≡ (self.old.still && stays) }
         ensures full { IsFalse result → most_changed ≤ length self.old.changed }
     {
-        if self.changed.as_slice().contains(&index) {
-            return true;
+        if !self.changed.as_slice().contains(&index) && self.changed.try_push(index).is_err() {
+            return false;
         }
-        self.changed.try_push(index).is_ok()
+        self.still = self.still && stays;
+        true
     }
 
     /// The block of the corner's tile with the heights that its changed points have now, and its labelling, mended. None
@@ -126,7 +140,7 @@ impl FloodedBlock {
         corner: Corner,
     ) -> Result<Option<FloodedBlock>, Refusal>
         ensures right { S.is_honest samples.new → IsBlockBut (S.mosaic samples.old) corner self.changed self.block
-            → IfOk result (λ found. IfSome found (λ mended. IsBlockBut (S.mosaic samples.old) corner [] mended.block)) }
+            → IfOk result (λ found. IfSome found (IsFloodedTile (S.mosaic samples.old) corner)) }
         ensures current { IfOk result (λ found. IfSome found (λ mended. mended.changed ≡ [])) }
         ensures side { IfOk result (λ found. IfSome found (λ mended. mended.labelled.side ≡ self.labelled.side)) }
         ensures refusal { IfErr result (λ r. (r ≡ NoMemory) ⊎ MayRefuse (S.failures samples.old) (S.failures samples.new) r) }
@@ -154,6 +168,7 @@ impl FloodedBlock {
             block,
             labelled: mended.labelled,
             changed: ArrayVec::new(),
+            still: true,
             spills: still_held(self.spills, mended.same_spills),
         }))
     }

@@ -6,7 +6,7 @@ ghost use Rattle.catalogue.specs.Asked.{Asked};
 ghost use Rattle.catalogue.specs.Endings.{ends_any};
 ghost use Rattle.catalogue.specs.Readers.{OnlyReads, reads_of};
 ghost use Rattle.catalogue.specs.Reading.{MayRefuse};
-ghost use Rattle.tile_labellings.specs.Labellings.{IsBlockBut};
+ghost use Rattle.tile_labellings.specs.Labellings.{IsFloodedTile};
 ghost use Rattle.tile_labellings.specs.Spots.{IsLabelledAt};
 ghost use Rattle.tile_labellings.specs.TileLabellings.{labelled_of, IsCurrent, IsTileLabelling};
 
@@ -39,7 +39,7 @@ pub trait Labellings: Samples {
     fn kept_at(&mut self, corner: Corner, index: u32) -> Result<Option<(i16, u16)>, Refusal>
         requires corner { Contains (Self.corners self.old) corner }
         requires index { index < Self.side_of self.old * Self.side_of self.old }
-        ensures valid { Self.is_honest self.new → IfOk result (λ found. IfSome found (λ spot. IsLabelledAt (Self.mosaic self.old) corner index spot.0 spot.1)) }
+        ensures valid { Self.is_honest self.new → IfOk result (λ found. IfSome found (λ label_at. IsLabelledAt (Self.mosaic self.old) corner index label_at.0 label_at.1)) }
         ensures causes { IfErr result (λ r. IsTrue (ends_any r)) }
         ensures asked { Asked Self.Samples self.old self.new result };
 }
@@ -52,7 +52,7 @@ pub fn flooded<S: Samples>(
     corner: Corner,
 ) -> Result<FloodedBlock, Refusal>
     requires { Contains (S.corners samples.old) corner }
-    ensures block { S.is_honest samples.new → IfOk result (λ flooded. IsBlockBut (S.mosaic samples.old) corner [] flooded.block) }
+    ensures valid { S.is_honest samples.new → IfOk result (IsFloodedTile (S.mosaic samples.old) corner) }
     ensures current { IfOk result (λ flooded. flooded.changed ≡ []) }
     ensures side { IfOk result (λ flooded. flooded.labelled.side ≡ S.side_of samples.old) }
     ensures refusal { IfErr result (λ r. (r ≡ NoMemory) ⊎ MayRefuse (S.failures samples.old) (S.failures samples.new) r) }

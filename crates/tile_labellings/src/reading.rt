@@ -52,9 +52,9 @@ pub fn labelled_from(
 /// Damaged where no labelling of ground has such marks, which is the only refusal: one of them alone is that of a void, or
 /// the label is neither OUT nor the number of a rim point. Whether that rim point has a level isn't seen.
 pub fn labelled_at(side: Side, level: &[u8; 2], label: &[u8; 2]) -> Result<(i16, u16), Refusal>
-    ensures level { IfOk result (λ spot. (bytes : List ℕ) (e : ℕ) → StandsAt bytes e level.now → slice_index_or (levels_in bytes) e void ≡ spot.0) }
-    ensures label { IfOk result (λ spot. (bytes : List ℕ) (e : ℕ) → StandsAt bytes e label.now → slice_index (labels_in bytes) e ≡ spot.1) }
-    ensures fit { IfOk result (λ spot. DoMarksFitAt side spot.0 spot.1) }
+    ensures level { IfOk result (λ label_at. (bytes : List ℕ) (e : ℕ) → StandsAt bytes e level.now → slice_index_or (levels_in bytes) e void ≡ label_at.0) }
+    ensures label { IfOk result (λ label_at. (bytes : List ℕ) (e : ℕ) → StandsAt bytes e label.now → slice_index (labels_in bytes) e ≡ label_at.1) }
+    ensures fit { IfOk result (λ label_at. DoMarksFitAt side label_at.0 label_at.1) }
     ensures sound { (b : Block) (levels labels : List ℕ) (e : ℕ) → b.side ≡ side → IsLabelling b (levels_in levels) (labels_in labels) → ((z : ℕ) → void ≤ℤ slice_index_or b.heights z void)
         → e < side * side → StandsAt levels e level.now → StandsAt labels e label.now → IsOk result }
     ensures refusal { IfErr result (λ r. r ≡ Damaged) }
@@ -101,9 +101,20 @@ fn do_marks_fit(labelled: &Labelled, rim: &[i16]) -> bool
     ensures yes { IsTrue result → (e : ℕ) → e < labelled.now.side * labelled.now.side → raised_level rim.now (slice_index_or labelled.now.levels e void) (slice_index labelled.now.labels e) ≢ None }
     ensures no { (IsTrue result → ⊥) → (e : ℕ) × ((e < labelled.now.side * labelled.now.side) × (raised_level rim.now (slice_index_or labelled.now.levels e void) (slice_index labelled.now.labels e) ≡ None)) }
 {
+    let levels = labelled.levels();
+    let labels = labelled.labels();
+    // A label that goes with any level. Most points have that of the point before them.
+    let mut known = OUT;
     for index in 0..labelled.side().area() {
-        if raise_at(labelled, rim, index).is_none() {
-            return false;
+        let level = levels[index as usize];
+        let label = labels[index as usize];
+        if label != known || level == VOID {
+            if raise_at(labelled, rim, index).is_none() {
+                return false;
+            }
+            if level != VOID {
+                known = label;
+            }
         }
     }
     true

@@ -8,6 +8,7 @@ ghost use Rattle.catalogue.specs.Readers.{OnlyReads, reads_of};
 ghost use Rattle.catalogue.specs.Reading.{MayRefuse};
 ghost use Rattle.tile_flood.specs.Spills.{AreSpills};
 ghost use Rattle.tile_labellings.specs.Labellings.{IsFlooded};
+ghost use Rattle.tile_labellings.specs.TileLabellings.{IsBelowLevel};
 
 use crate::flooded_block::FloodedBlock;
 use catalogue::Samples;
@@ -23,7 +24,7 @@ pub enum TileLabelling {
 }
 
 impl TileLabelling {
-    ghost use Rattle.tile_labellings.specs.TileLabellings.{labelled_of, is_flooded, can_note, DifferAt, IsCurrent, IsSetFrom, IsTileLabelling};
+    ghost use Rattle.tile_labellings.specs.TileLabellings.{labelled_of, is_flooded, can_note, DifferAt, IsBelow, IsCurrent, IsSetFrom, IsStill, IsTileLabelling};
 
     /// The levels and labels; those of the tile where no height may have changed since they were made.
     pub fn labelled(&self) -> &Labelled
@@ -68,6 +69,25 @@ impl TileLabelling {
         }
     }
 
+    /// Whether levels and labels stay as the tile's point with this index gets the one height for the other, in metres: it
+    /// lay below its level and doesn't rise above it. False where some level may have changed already.
+    pub fn is_below(&self, index: u32, was: i16, to: i16) -> bool
+        ensures yes { IsTrue result → IsBelow self.now index was to }
+        ensures no { IsBelow self.now index was to → IsTrue result }
+    {
+        self.is_still() && stays_below(self.labelled(), index, was, to)
+    }
+
+    // Whether no level and no label may have changed since they were made.
+    fn is_still(&self) -> bool
+        ensures { IsTrue result ↔ IsStill self.now }
+    {
+        match self {
+            TileLabelling::Kept(_) => true,
+            TileLabelling::Flooded(flooded) => flooded.is_still(),
+        }
+    }
+
     /// The height of the tile's point with this index may change from then on, from the one to the other, in metres. False
     /// where that can't be noted: then the labelling is to be given up. A flooded block has room for 64 such points; a kept
     /// labelling stays valid where the point lay below its level and doesn't rise above it. Takes no memory.
@@ -77,16 +97,17 @@ impl TileLabelling {
         ensures flooded { is_flooded self.new ≡ is_flooded self.old }
         ensures room { can_note self.old ≡ true → IsTrue result }
     {
+        let stays = self.is_below(index, was, to);
         match self {
-            TileLabelling::Kept(labelled) => stays_below(labelled, index, was, to),
-            TileLabelling::Flooded(flooded) => flooded.note_changed(index),
+            TileLabelling::Kept(_) => stays,
+            TileLabelling::Flooded(flooded) => flooded.note_changed(index, stays),
         }
     }
 
     /// The labelling of the corner's tile as its heights are now: mended where some may have changed; None where the tile
     /// is to be flooded anew. It reads the points that may have changed alone, and is refused for want of memory, or as a
     /// read is.
-    pub fn renewed<S: Samples>(
+    pub fn refreshed<S: Samples>(
         self,
         alloc: Global,
         samples: &mut S,
@@ -94,7 +115,7 @@ impl TileLabelling {
     ) -> Result<Option<TileLabelling>, Refusal>
         ensures valid { S.is_honest samples.new → IsTileLabelling (S.mosaic samples.old) corner self → IfOk result (λ found. IfSome found (IsTileLabelling (S.mosaic samples.old) corner)) }
         ensures current { IfOk result (λ found. IfSome found IsCurrent) }
-        ensures side { IfOk result (λ found. IfSome found (λ renewed. (labelled_of renewed).side ≡ S.side_of samples.old)) }
+        ensures side { IfOk result (λ found. IfSome found (λ refreshed. (labelled_of refreshed).side ≡ S.side_of samples.old)) }
         ensures refusal { IfErr result (λ r. (r ≡ NoMemory) ⊎ MayRefuse (S.failures samples.old) (S.failures samples.new) r) }
         ensures reads { OnlyReads S.Samples samples.old samples.new (reads_of result) }
     {
@@ -130,9 +151,8 @@ impl TileLabelling {
 
 // Whether the point with this index lay below its level, and doesn't rise above it.
 fn stays_below(labelled: &Labelled, index: u32, was: i16, to: i16) -> bool
-    ensures inside { IsTrue result → index < length labelled.now.levels }
-    ensures below { IsTrue result → was <ℤ slice_index_or labelled.now.levels index void }
-    ensures low { IsTrue result → (to ≢ void) × (to ≤ℤ slice_index_or labelled.now.levels index void) }
+    ensures yes { IsTrue result → IsBelowLevel labelled.now.levels index was to }
+    ensures no { IsBelowLevel labelled.now.levels index was to → IsTrue result }
 {
     match labelled.levels().get(index as usize) {
         Some(level) => was < *level && to != VOID && to <= *level,

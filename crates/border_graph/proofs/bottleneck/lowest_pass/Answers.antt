@@ -17,9 +17,9 @@ use Rattle.border_graph.proofs.Onward.{way_up}
 use Rattle.border_graph.specs.declared.bottleneck.Settled.{Settled}
 use Rattle.border_graph.specs.Bottleneck.{IsEnd, IsExpanded, IsSettledBy, HasLevel}
 use Rattle.border_graph.proofs.Crested.{below_crest, least_crest}
-use Rattle.border_graph.proofs.Left.{fewer_left}
+use Rattle.border_graph.proofs.Forests.Left.{fewer_left}
 use Rattle.border_graph.proofs.Lowest.{low_placed}
-use Rattle.border_graph.proofs.Next.{taken_now, taken_still, taken_other}
+use Rattle.border_graph.proofs.Forests.Next.{taken_now, taken_still, taken_other}
 use Rattle.border_graph.proofs.SearchSteps.{IsTwoWay, alike, alike_at, settled_by, rising_first, no_way, reached_below, ended, risen}
 use Rattle.border_graph.proofs.Turned.{two_way}
 use Rattle.border_graph.proofs.bottleneck.lowest_pass.Goals as goal

@@ -7,7 +7,7 @@ use Rattle.border_graph.specs.Placed.{IsPlacedLink}
 use Rattle.border_graph.specs.declared.bottleneck.Settled.{Settled}
 use Rattle.border_graph.specs.Bottleneck.{IsSearching}
 use Rattle.border_graph.specs.Frontier.{is_among}
-use Rattle.border_graph.proofs.Left.{left_below}
+use Rattle.border_graph.proofs.Forests.Left.{left_below}
 use Rattle.border_graph.proofs.bottleneck.lowest_pass.Given as goal
 
 abbrev pub invariant-rise : goal.invariant-rise

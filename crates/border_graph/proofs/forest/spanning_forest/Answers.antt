@@ -3,7 +3,7 @@ use Rattle.std.proofs.lemmas.List.Sorted.{Contains-permutation, IsPermutation-sy
 use Rattle.border_graph.specs.declared.pass.Pass.{Pass}
 use Rattle.border_graph.specs.Passes.{SpanAll}
 use Rattle.border_graph.specs.Forest.{IsRisingBy}
-use Rattle.border_graph.proofs.Kruskal.{rising_from, rises, span_moved}
+use Rattle.border_graph.proofs.Forests.Kruskal.{rising_from, rises, span_moved}
 use Rattle.border_graph.proofs.forest.spanning_forest.Goals as goal
 
 pub keep-requires-clause-inside : goal.keep-requires-clause-inside

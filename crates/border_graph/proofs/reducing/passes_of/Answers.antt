@@ -2,7 +2,7 @@ use Rattle.std.proofs.Common.{◌≡◌, ℕ, List, length, get_or, pos, sym, su
 use Rattle.std.proofs.lemmas.List.{get_or_default}
 use Rattle.border_graph.specs.Reduced.{ArePassesOf}
 use Rattle.border_graph.specs.declared.pass.Pass.{Pass}
-use Rattle.border_graph.proofs.Sufficing.{no_passes, one_more_pass}
+use Rattle.border_graph.proofs.Forests.Sufficing.{no_passes, one_more_pass}
 use Rattle.border_graph.proofs.reducing.passes_of.Goals as goal
 
 pub loop-spill-init : goal.loop-spill-init

@@ -4,7 +4,7 @@ use Rattle.tile_flood.specs.declared.passing.Spill.{Spill}
 use Rattle.border_graph.specs.Joining.{Summarizes}
 use Rattle.border_graph.specs.Summaries.{Summary}
 use Rattle.border_graph.specs.Reduced.{ArePassesOf, Suffice, spill_of}
-use Rattle.border_graph.proofs.Sufficing.{summarizes_all, summarizes_less, forest_suffices}
+use Rattle.border_graph.proofs.Forests.Sufficing.{summarizes_all, summarizes_less, forest_suffices}
 use Rattle.border_graph.proofs.reducing.reduced.Goals as goal
 
 pub returns-then-count-clause-right : goal.returns-then-count-clause-right

@@ -2,7 +2,7 @@ use Rattle.std.proofs.Common.{◌+◌, ◌*◌, ◌-◌, ◌<◌, ◌∙◌, rul
 use Rattle.std.proofs.lemmas.Int.{to_z-of_z}
 use Rattle.lattice.proofs.Samples.{index_below}
 use Rattle.tile_flood.proofs.Raised.{rim_number_below}
-use Rattle.border_graph.proofs.Others.{too_many, one_told}
+use Rattle.border_graph.proofs.Forests.Others.{too_many, one_told}
 use Rattle.border_graph.proofs.seams.edge_to_other.Goals as goal
 
 pub returns-in_default-node_at-clause-refusal : goal.returns-in_default-node_at-clause-refusal

@@ -2,7 +2,7 @@ use Rattle.std.proofs.Common.{List, Contains, sym, subst, arith, rules, SFits, w
 use Rattle.std.proofs.lemmas.Int.{to_z-of_z}
 use Rattle.lattice.specs.Corners.{Corner}
 use Rattle.border_graph.specs.Others.{AreOthersTold}
-use Rattle.border_graph.proofs.Others.{one_more_told, all_told}
+use Rattle.border_graph.proofs.Forests.Others.{one_more_told, all_told}
 use Rattle.border_graph.proofs.seams.edges_to_others.Goals as goal
 
 pub loop-corner-preserved : goal.loop-corner-preserved

@@ -1,4 +1,4 @@
-use Rattle.border_graph.proofs.Others.{AreToldOf}
+use Rattle.border_graph.proofs.Forests.Others.{AreToldOf}
 use Rattle.border_graph.proofs.seams.edges_to_others.Given as goal
 
 abbrev pub invariant-loop-corner : goal.invariant-loop-corner

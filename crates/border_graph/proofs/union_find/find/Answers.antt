@@ -1,6 +1,6 @@
 use Rattle.std.proofs.Common.{◌≤◌, length, get_or, arith, length-set}
-use Rattle.border_graph.proofs.Connected.{joined_on}
-use Rattle.border_graph.proofs.Roots.{same_tops, higher_once}
+use Rattle.border_graph.proofs.Forests.Connected.{joined_on}
+use Rattle.border_graph.proofs.Forests.Roots.{same_tops, higher_once}
 use Rattle.border_graph.proofs.union_find.find.Goals as goal
 
 pub up-preserved : goal.up-preserved

@@ -2,7 +2,7 @@ use Rattle.std.proofs.Common.{◌<◌, ◌≤◌, ℤ, List, length}
 use Rattle.border_graph.specs.declared.pass.Pass.{Pass}
 use Rattle.border_graph.specs.Passes.{AreJoined}
 use Rattle.border_graph.specs.UnionFind.{AreOver}
-use Rattle.border_graph.proofs.Roots.{IsHigher}
+use Rattle.border_graph.proofs.Forests.Roots.{IsHigher}
 use Rattle.border_graph.proofs.union_find.find.Given as goal
 
 abbrev pub invariant-up : goal.invariant-up

@@ -1,4 +1,4 @@
-use Rattle.border_graph.proofs.Connected.{joined_turn}
+use Rattle.border_graph.proofs.Forests.Connected.{joined_turn}
 use Rattle.border_graph.proofs.union_find.link_roots.Goals as goal
 
 pub returns-then-one-other-clause-over : goal.returns-then-one-other-clause-over

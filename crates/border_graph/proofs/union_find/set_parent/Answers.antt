@@ -1,4 +1,4 @@
-use Rattle.border_graph.proofs.Roots.{fewer_tops, set_over}
+use Rattle.border_graph.proofs.Forests.Roots.{fewer_tops, set_over}
 use Rattle.border_graph.proofs.union_find.set_parent.Goals as goal
 
 pub returns-clause-fewer : goal.returns-clause-fewer

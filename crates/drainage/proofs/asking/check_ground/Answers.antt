@@ -5,8 +5,8 @@ use Rattle.catalogue.specs.Tiles.{corners_of}
 use Rattle.catalogue.proofs.Asking.{asked}
 use Rattle.catalogue.proofs.Reading.{reads_nothing, reads_as}
 use Rattle.drainage.specs.Asking.{IsHeldByNone}
-use Rattle.drainage.proofs.Holders.{outside_says, ground_at}
-use Rattle.drainage.proofs.Questioned.{answered}
+use Rattle.drainage.proofs.Caches.Holders.{outside_says, ground_at}
+use Rattle.drainage.proofs.Questions.Questioned.{answered}
 use Rattle.drainage.proofs.asking.check_ground.Goals as goal
 
 pub returns-then-not-is_held-clause-asked : goal.returns-then-not-is_held-clause-asked

@@ -7,8 +7,8 @@ use Rattle.lattice.specs.Mosaic.{Mosaic}
 use Rattle.catalogue.proofs.Reading.{reads_nothing}
 use Rattle.flow_d8.specs.LevelsAround.{OnLevels}
 use Rattle.flow_d8.specs.Flows.{IsFlow}
-use Rattle.drainage.proofs.GroundAtHand.{ground_still}
-use Rattle.drainage.proofs.Questioned.{answered, asked_then}
+use Rattle.drainage.proofs.Tiles.GroundAtHand.{ground_still}
+use Rattle.drainage.proofs.Questions.Questioned.{answered, asked_then}
 use Rattle.drainage.proofs.downstream.flow_at.Goals as goal
 
 pub returns-then-drains-clause-flow : goal.returns-then-drains-clause-flow

@@ -1,9 +1,9 @@
-use Rattle.std.proofs.Common.{◌≡◌, sym, ◌∙◌, subst}
+use Rattle.std.proofs.Common.{◌≡◌, subst}
 use Rattle.lattice.specs.Ground.{terrain, is_sink}
 use Rattle.lattice.specs.Mosaic.{Mosaic}
 use Rattle.catalogue.proofs.Reading.{reads_nothing}
-use Rattle.flow_d8.proofs.Draining.{near_flow}
-use Rattle.drainage.proofs.Questioned.{answered}
+use Rattle.flow_d8.proofs.Sayings.Draining.{near_flow}
+use Rattle.drainage.proofs.Questions.Questioned.{answered}
 use Rattle.drainage.proofs.downstream.flow_by_levels.Goals as goal
 
 pub returns-then-not-matches-clause-asked : goal.returns-then-not-matches-clause-asked
@@ -16,14 +16,10 @@ pub returns-then-is_due-clause-asked : goal.returns-then-is_due-clause-asked
 returns-then-is_due-clause-asked g c = let a = c.args.samples.now in answered g.S.Samples a a _ (reads_nothing g.S.Samples g.met.S.Samples.keeps_itself a (tt {0}))
 
 pub returns-then-is_due-clause-held : goal.returns-then-is_due-clause-held
-returns-then-is_due-clause-held g c honest =
-    let a = c.args.samples.now in
-    c.is_due.ensures (g.S.Samples.mosaic a) (c.side.ensures ∙ sym (g.met.S.Samples.same_side a honest)) (c.requires.held honest)
+returns-then-is_due-clause-held g c honest = c.is_due.ensures (g.S.Samples.mosaic c.args.samples.now) (c.requires.held honest)
 
 pub near_levels-requires-clause-held : goal.near_levels-requires-clause-held
-near_levels-requires-clause-held g c honest =
-    let a = c.args.samples.now in
-    c.is_due.ensures (g.S.Samples.mosaic a) (c.side.ensures ∙ sym (g.met.S.Samples.same_side a honest)) (c.requires.held honest)
+near_levels-requires-clause-held g c honest = c.is_due.ensures (g.S.Samples.mosaic c.args.samples.now) (c.requires.held honest)
 
 pub returns-clause-flow : goal.returns-clause-flow
 returns-clause-flow g c honest level filled =

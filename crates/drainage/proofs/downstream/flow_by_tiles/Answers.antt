@@ -8,7 +8,7 @@ pub prepared_flow-found-requires-clause-right : goal.prepared_flow-found-require
 prepared_flow-found-requires-clause-right g c honest =
     let a = c.args.samples.now in
     let m = g.S.Samples.mosaic a in
-    c.make_room.ensures.flows m (c.take_flow_cache-flows.ensures.flows m (c.side.ensures ∙ sym (g.met.S.Samples.same_side a honest)) (c.requires.held honest))
+    c.keep.ensures.flows m (c.take_flow_cache-flows.ensures.flows m (c.side.ensures ∙ sym (g.met.S.Samples.same_side a honest)) (c.requires.held honest))
 
 pub returns-clause-held : goal.returns-clause-held
 returns-clause-held g c honest =

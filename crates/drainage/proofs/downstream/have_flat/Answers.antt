@@ -5,8 +5,8 @@ use Rattle.catalogue.proofs.Reading.{reads_on}
 use Rattle.lattice.specs.declared.point.Point.{Point}
 use Rattle.flow_d8.specs.FlowGrids.{IsAtHand}
 use Rattle.flow_d8.specs.Tiles.{OnGround}
-use Rattle.drainage.proofs.Questioned.{refused_after, asked_reads}
-use Rattle.drainage.proofs.GroundAtHand.{met_ground}
+use Rattle.drainage.proofs.Questions.Questioned.{refused_after, asked_reads}
+use Rattle.drainage.proofs.Tiles.GroundAtHand.{met_ground}
 use Rattle.drainage.proofs.downstream.have_flat.Goals as goal
 
 pub have_tile-requires-in-Some-clause-ground : goal.have_tile-requires-in-Some-clause-ground

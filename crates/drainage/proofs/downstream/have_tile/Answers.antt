@@ -6,14 +6,14 @@ use Rattle.lattice.specs.Mosaic.{Mosaic}
 use Rattle.catalogue.proofs.Reading.{reads_nothing}
 use Rattle.flow_d8.specs.Tiles.{Tiles}
 use Rattle.flow_d8.specs.declared.flow.Flow.{Flow}
-use Rattle.flow_d8.specs.declared.flow_cache.Slot.{Slot}
-use Rattle.flow_d8.specs.FlowCaches.{AreSlotsOf, IsCacheOf}
+use Rattle.drainage.specs.declared.flow_cache.Slot.{Slot}
+use Rattle.drainage.specs.FlowCaches.{AreSlotsOf, IsCacheOf}
 use Rattle.flow_d8.specs.FlowGrids.{AreTileFlows, IsGridOf}
-use Rattle.flow_d8.specs.LevelRanges.{AreRangesOf}
-use Rattle.flow_d8.proofs.FlowCaches.{slots_push}
-use Rattle.flow_d8.proofs.GridFacts.{grid_push}
-use Rattle.drainage.proofs.GroundAtHand.{some_holds, not_all}
-use Rattle.drainage.proofs.Questioned.{answered, stopped}
+use Rattle.drainage.specs.LevelRanges.{AreRangesOf}
+use Rattle.drainage.proofs.Caches.FlowCaches.{slots_push}
+use Rattle.flow_d8.proofs.Samples.GridFacts.{grid_push}
+use Rattle.drainage.proofs.Tiles.GroundAtHand.{some_holds, not_all}
+use Rattle.drainage.proofs.Questions.Questioned.{answered, stopped}
 use Rattle.drainage.proofs.downstream.have_tile.Goals as goal
 
 pub returns-then-holds-clause-asked : goal.returns-then-holds-clause-asked
@@ -32,10 +32,10 @@ returns-then-samples-clause-asked g c =
     let a = c.args.samples.now in
     let laws = g.met.S.Samples in
     stopped g.S.Samples a a (reads_nothing g.S.Samples laws.keeps_itself a (tt {0}))
-    (λ honest. c.if-samples.true (c.samples.ensures.value ∙ c.side-side.ensures.value ∙ (c.requires.right honest).grid.same_side ∙ laws.same_side a honest ∙ sym c.side.ensures ∙ sym c.samples-2.ensures.value))
+    (λ honest. c.if-samples.true (c.samples.ensures.value ∙ c.side-side.ensures ∙ (c.requires.right honest).grid.same_side ∙ laws.same_side a honest ∙ sym c.side.ensures ∙ sym c.samples-2.ensures.value))
 
-pub returns-then-is_full-clause-asked : goal.returns-then-is_full-clause-asked
-returns-then-is_full-clause-asked g c =
+pub returns-then-count-clause-asked : goal.returns-then-count-clause-asked
+returns-then-count-clause-asked g c =
     let a = c.args.samples.now in
     let laws = g.met.S.Samples in
     let grid = c.args.flows.now.grid in
@@ -43,9 +43,9 @@ returns-then-is_full-clause-asked g c =
     (λ honest.
     let less : length grid.tiles.corners < most_tiles =
     not_all (g.S.Samples.mosaic a) (laws.is_mosaic a honest) (g.S.Samples.side_of a) (laws.same_side a honest) (g.S.Samples.corners a) (laws.same_corners a honest) c.args.point
-    grid.tiles grid.flows.items (c.requires.right honest).grid c.side-side.ensures.valid.distinct c.in-Some.corner c.in-Some.ensures.some.0 c.in-Some.ensures.some.1
+    grid.tiles grid.flows.items (c.requires.right honest).grid c.count-count.ensures.valid.distinct c.in-Some.corner c.in-Some.ensures.some.0 c.in-Some.ensures.some.1
     (λ at. true≢false (sym (c.holds.ensures.1 at) ∙ c.if-holds.false)) c.requires.few in
-    omega (arith, less, c.is_full.ensures.0 c.if-is_full.true))
+    omega (arith, less, c.count-count.ensures.value, c.if-count.true))
 
 pub returns-in_err-push-clause-right : goal.returns-in_err-push-clause-right
 returns-in_err-push-clause-right g c honest =

@@ -10,9 +10,9 @@ use Rattle.lattice.specs.Mosaic.{Mosaic}
 use Rattle.flow_d8.specs.Flows.{Drains, IsFlow}
 use Rattle.flow_d8.specs.FlowGrids.{IsAtHand, flow_of}
 use Rattle.flow_d8.specs.Tiles.{Tiles, OnGround}
-use Rattle.flow_d8.proofs.FlowCaches.{cache_resolved}
-use Rattle.drainage.proofs.Questioned.{refused_after, asked_reads, stopped}
-use Rattle.drainage.proofs.GroundAtHand.{met_ground, settled}
+use Rattle.drainage.proofs.Caches.FlowCaches.{cache_resolved}
+use Rattle.drainage.proofs.Questions.Questioned.{refused_after, asked_reads, stopped}
+use Rattle.drainage.proofs.Tiles.GroundAtHand.{met_ground, settled}
 use Rattle.drainage.proofs.downstream.prepared_flow.Goals as goal
 
 pub returns-in_err-met-clause-right : goal.returns-in_err-met-clause-right
@@ -71,7 +71,7 @@ returns-then-not-drains-clause-asked g c =
     let flow = flow_of new.tiles new.flows.items p in
     let said = subst (λ (o : Option Point). IfNone o (IsAtHand old.tiles p → OnGround old.tiles old.flows.items (λ t level. IsTrue (t.is_ground p) → (j : ℕ) → CrossesFlat t level p j → Drains flow))) c.in_default.is c.in_ok-met.ensures.drains in
     let drains : Drains flow = settled m (g.met.S.Samples.is_mosaic b honest) old.tiles old.flows.items p flow (so.right honest).grid ground (said so.at_hand) in
-    true≢false (sym (c.drains.ensures.1 (subst Drains (sym c.known-flow.ensures.value) drains)) ∙ c.if-not-drains.true))
+    true≢false (sym (c.drains.ensures.1 (subst Drains (sym c.flow-flow.ensures.value) drains)) ∙ c.if-not-drains.true))
 
 pub returns-clause-flow : goal.returns-clause-flow
 returns-clause-flow g c honest level filled =
@@ -80,9 +80,9 @@ returns-clause-flow g c honest level filled =
     let new = c.resolve.new.self.grid in
     let so = c.tiles.invariant in
     let right = cache_resolved (g.S.Samples.mosaic b) (g.met.S.Samples.is_mosaic b honest) c.tiles.flows c.resolve.new.self c.resolve.ensures.tiles c.resolve.ensures.flows c.resolve.ensures.slots (so.right honest) in
-    let said : OnLevels (g.S.Samples.mosaic b) (λ level. IsFlow (terrain (g.S.Samples.mosaic b)) level c.args.point c.known-flow.result) =
-    λ level filled. c.known-flow.ensures.says (terrain (g.S.Samples.mosaic b)) level (right.grid.told level filled) in
-    subst (λ (n : Mosaic). OnLevels n (λ level. IsFlow (terrain n) level c.args.point c.known-flow.result)) (so.reads.mosaic honest) said level filled
+    let said : OnLevels (g.S.Samples.mosaic b) (λ level. IsFlow (terrain (g.S.Samples.mosaic b)) level c.args.point c.flow-flow.result) =
+    λ level filled. c.flow-flow.ensures.says (terrain (g.S.Samples.mosaic b)) level (right.grid.told level filled) in
+    subst (λ (n : Mosaic). OnLevels n (λ level. IsFlow (terrain n) level c.args.point c.flow-flow.result)) (so.reads.mosaic honest) said level filled
 
 pub returns-clause-right : goal.returns-clause-right
 returns-clause-right g c honest =

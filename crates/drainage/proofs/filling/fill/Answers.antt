@@ -1,8 +1,8 @@
 use Rattle.std.proofs.Common.{Err}
 use Rattle.std.proofs.lemmas.Result.{err_from_is_err_and}
 use Rattle.catalogue.proofs.Asking.{asked_passed}
-use Rattle.drainage.proofs.Questioned.{asked_then, refused_by}
-use Rattle.drainage.proofs.Followed.{held_still}
+use Rattle.drainage.proofs.Questions.Questioned.{asked_then, refused_by}
+use Rattle.drainage.proofs.Flows.Followed.{held_still}
 use Rattle.drainage.proofs.filling.fill.Goals as goal
 
 pub returns-in_err-check_ground-clause-held : goal.returns-in_err-check_ground-clause-held

@@ -6,7 +6,7 @@ use Rattle.lattice.specs.Mosaic.{Mosaic}
 use Rattle.drainage.specs.Between.{IsHeldOf}
 use Rattle.catalogue.specs.Asked.{Asked}
 use Rattle.catalogue.proofs.Reading.{reads_nothing}
-use Rattle.drainage.proofs.Questioned.{wanting}
+use Rattle.drainage.proofs.Questions.Questioned.{wanting}
 use Rattle.drainage.proofs.filling.level.Goals as goal
 
 pub returns-in_err-tile_cache-clause-held : goal.returns-in_err-tile_cache-clause-held

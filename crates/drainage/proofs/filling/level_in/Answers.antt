@@ -23,9 +23,9 @@ use Rattle.drainage.specs.Asking.{IsHeldByNone}
 use Rattle.drainage.specs.Holding.{Known, IsRimLevel, IsGroundNode, IsRight, IsGrown}
 use Rattle.drainage.specs.Kept.{right_still}
 use Rattle.drainage.specs.TileCaches.{known_of}
-use Rattle.drainage.proofs.Filled.{void_there, no_height_there, level_inside, rim_there, level_over}
-use Rattle.drainage.proofs.Holders.{no_ground}
-use Rattle.drainage.proofs.Questioned.{answered, asked_reads, stopped}
+use Rattle.drainage.proofs.Questions.Filled.{void_there, no_height_there, level_inside, rim_there, level_over}
+use Rattle.drainage.proofs.Caches.Holders.{no_ground}
+use Rattle.drainage.proofs.Questions.Questioned.{answered, asked_reads, stopped}
 use Rattle.drainage.proofs.filling.level_in.Goals as goal
 
 pub returns-in_default-clause-level : goal.returns-in_default-clause-level
@@ -47,7 +47,7 @@ right_read g a b d known known' result grown reads honest right = subst (λ (m :
 pub returns-in_err-is_height-clause-asked : goal.returns-in_err-is_height-clause-asked
 returns-in_err-is_height-clause-asked g c =
     let a = c.args.samples.now in
-    let b = c.spot.new.samples in
+    let b = c.label_at.new.samples in
     let d = c.is_height.new.samples in
     let p = err_from_is_err_and c.from_residual-in_err-is_height.result c.from_residual-in_err-is_height.ensures.1 in
     rw p.1 (subst (λ (r : Refusal). Asked {T = Option ℤ} g.S.Samples a d (Err r)) (sym p.2)
@@ -58,13 +58,13 @@ pub returns-then-not-branch-clause-right : goal.returns-then-not-branch-clause-r
 returns-then-not-branch-clause-right g c honest =
     let spotted = c.in_ok-level.ensures in
     let seen = c.in_ok-is_height.ensures.reads in
-    right_read g.S.Samples c.args.samples.now c.spot.new.samples c.is_height.new.samples (known_of c.args.tile_cache.now) (known_of c.spot.new.self) (Ok c.in_ok-is_height.field-0) spotted.grown seen honest
+    right_read g.S.Samples c.args.samples.now c.label_at.new.samples c.is_height.new.samples (known_of c.args.tile_cache.now) (known_of c.label_at.new.self) (Ok c.in_ok-is_height.field-0) spotted.grown seen honest
     (c.requires.right (spotted.reads.honest (seen.honest honest)))
 
 pub returns-then-not-branch-clause-asked : goal.returns-then-not-branch-clause-asked
 returns-then-not-branch-clause-asked g c =
     let a = c.args.samples.now in
-    let b = c.spot.new.samples in
+    let b = c.label_at.new.samples in
     let d = c.is_height.new.samples in
     let spotted = c.in_ok-level.ensures in
     let seen = c.in_ok-is_height.ensures in
@@ -72,7 +72,7 @@ returns-then-not-branch-clause-asked g c =
     let mid = seen.reads.honest honest in
     let before = spotted.reads.honest mid in
     let none = no_height_there (g.S.Samples.mosaic a) (g.met.S.Samples.is_mosaic a before) c.args.point (known_of c.args.tile_cache.now) (c.requires.right before) c.deref.result.now c.deref.ensures.value c.in-Some.t c.in-Some.index c.in-Some.ensures.some
-    c.index-corner.result.now c.index-corner.ensures c.in_ok-level.level c.in_ok-level.label (spotted.spot mid (c.requires.right before)) c.if-label.true in
+    c.index-corner.result.now c.index-corner.ensures c.in_ok-level.level c.in_ok-level.label (spotted.label_at mid (c.requires.right before)) c.if-label.true in
     let same : metres (height_of (g.S.Samples.mosaic b) c.args.point) ≡ void = ap (λ (m : Mosaic). metres (height_of m c.args.point)) (spotted.reads.mosaic mid) ∙ none in
     false≢true (sym c.if-not-branch.true ∙ (seen.value honest ∙ (Decides-int_eq void _).1 (sym same))))
 
@@ -83,19 +83,19 @@ returns-then-label-clause-level g c honest =
     let mid = c.in_ok-is_height.ensures.reads.honest honest in
     let before = spotted.reads.honest mid in
     void_there (g.S.Samples.mosaic a) (g.met.S.Samples.is_mosaic a before) c.args.point (known_of c.args.tile_cache.now) (c.requires.right before) c.deref.result.now c.deref.ensures.value c.in-Some.t c.in-Some.index c.in-Some.ensures.some
-    c.index-corner.result.now c.index-corner.ensures c.in_ok-level.level c.in_ok-level.label (spotted.spot mid (c.requires.right before)) c.if-label.true
+    c.index-corner.result.now c.index-corner.ensures c.in_ok-level.level c.in_ok-level.label (spotted.label_at mid (c.requires.right before)) c.if-label.true
 
 pub returns-then-label-clause-right : goal.returns-then-label-clause-right
 returns-then-label-clause-right g c honest =
     let spotted = c.in_ok-level.ensures in
     let seen = c.in_ok-is_height.ensures.reads in
-    right_read g.S.Samples c.args.samples.now c.spot.new.samples c.is_height.new.samples (known_of c.args.tile_cache.now) (known_of c.spot.new.self) (Ok c.in_ok-is_height.field-0) spotted.grown seen honest
+    right_read g.S.Samples c.args.samples.now c.label_at.new.samples c.is_height.new.samples (known_of c.args.tile_cache.now) (known_of c.label_at.new.self) (Ok c.in_ok-is_height.field-0) spotted.grown seen honest
     (c.requires.right (spotted.reads.honest (seen.honest honest)))
 
 pub returns-then-label-clause-asked : goal.returns-then-label-clause-asked
 returns-then-label-clause-asked g c =
     let a = c.args.samples.now in
-    let b = c.spot.new.samples in
+    let b = c.label_at.new.samples in
     let d = c.is_height.new.samples in
     answered g.S.Samples a d _ (reads_on g.S.Samples g.met.S.Samples.keeps_on a b d tt (Ok tt) c.in_ok-level.ensures.reads (reads_as g.S.Samples b d c.in_ok-is_height.field-0 tt c.in_ok-is_height.ensures.reads))
 
@@ -108,25 +108,25 @@ returns-then-label-2-clause-level g c honest =
     let in_range : SFits w16 c.in_ok-level.level = search rules in
     subst (IsFilledLevel (terrain m) c.args.point) (sym (to_z-of_z w16 c.in_ok-level.level in_range))
     (level_inside m (g.met.S.Samples.is_mosaic a before) c.args.point (known_of c.args.tile_cache.now) (c.requires.right before) c.deref.result.now c.deref.ensures.value c.in-Some.t c.in-Some.index c.in-Some.ensures.some
-    c.index-corner.result.now c.index-corner.ensures c.in_ok-level.level c.in_ok-level.label (spotted.spot honest (c.requires.right before)) c.if-label.false c.if-label-2.true)
+    c.index-corner.result.now c.index-corner.ensures c.in_ok-level.level c.in_ok-level.label (spotted.label_at honest (c.requires.right before)) c.if-label.false c.if-label-2.true)
 
 pub returns-then-label-2-clause-asked : goal.returns-then-label-2-clause-asked
-returns-then-label-2-clause-asked g c = answered g.S.Samples c.args.samples.now c.spot.new.samples _ c.in_ok-level.ensures.reads
+returns-then-label-2-clause-asked g c = answered g.S.Samples c.args.samples.now c.label_at.new.samples _ c.in_ok-level.ensures.reads
 
 pub rim_level-requires-clause-there : goal.rim_level-requires-clause-there
 rim_level-requires-clause-there g c honest =
     let a = c.args.samples.now in
     let spotted = c.in_ok-level.ensures in
     let before = spotted.reads.honest honest in
-    subst (λ (m : Mosaic). IsGroundNode m c.spot.new.self.rim_graph.corners.items c.in-Some.t c.in_ok-level.label) (sym (spotted.reads.mosaic honest))
+    subst (λ (m : Mosaic). IsGroundNode m c.label_at.new.self.rim_graph.corners.items c.in-Some.t c.in_ok-level.label) (sym (spotted.reads.mosaic honest))
     (subst (λ (cs : List Corner). IsGroundNode (g.S.Samples.mosaic a) cs c.in-Some.t c.in_ok-level.label) (sym spotted.grown.kept.same_corners)
     (rim_there (g.S.Samples.mosaic a) (g.met.S.Samples.is_mosaic a before) c.args.point (known_of c.args.tile_cache.now) (c.requires.right before) c.deref.result.now c.deref.ensures.value c.in-Some.t c.in-Some.index c.in-Some.ensures.some
-    c.index-corner.result.now c.index-corner.ensures c.in_ok-level.level c.in_ok-level.label (spotted.spot honest (c.requires.right before)) c.if-label.false c.if-label-2.false))
+    c.index-corner.result.now c.index-corner.ensures c.in_ok-level.level c.in_ok-level.label (spotted.label_at honest (c.requires.right before)) c.if-label.false c.if-label-2.false))
 
 pub returns-in_err-over-clause-asked : goal.returns-in_err-over-clause-asked
 returns-in_err-over-clause-asked g c =
     let a = c.args.samples.now in
-    let b = c.spot.new.samples in
+    let b = c.label_at.new.samples in
     let d = c.rim_level.new.samples in
     let p = err_from_is_err_and c.from_residual-in_err-over.result c.from_residual-in_err-over.ensures.1 in
     rw p.1 (subst (λ (r : Refusal). Asked {T = Option ℤ} g.S.Samples a d (Err r)) (sym p.2)
@@ -146,13 +146,13 @@ returns-clause-level g c honest =
     c.max.ensures.value ∙ ap₂ int_max (to_z-of_z w16 c.in_ok-level.level (search rules)) (to_z-of_z w16 c.in_ok-over.over (search rules)) in
     let rim : IsRimLevel m w.corners (node_number m.side (Rim c.in-Some.t c.in_ok-level.label)) c.in_ok-over.over =
     subst (λ (n : Mosaic). IsRimLevel n w.corners (node_number n.side (Rim c.in-Some.t c.in_ok-level.label)) c.in_ok-over.over) (spotted.reads.mosaic mid)
-    (subst (λ (cs : List Corner). IsRimLevel (g.S.Samples.mosaic c.spot.new.samples) cs (node_number (g.S.Samples.mosaic c.spot.new.samples).side (Rim c.in-Some.t c.in_ok-level.label)) c.in_ok-over.over) spotted.grown.kept.same_corners (c.in_ok-over.ensures.level honest)) in
+    (subst (λ (cs : List Corner). IsRimLevel (g.S.Samples.mosaic c.label_at.new.samples) cs (node_number (g.S.Samples.mosaic c.label_at.new.samples).side (Rim c.in-Some.t c.in_ok-level.label)) c.in_ok-over.over) spotted.grown.kept.same_corners (c.in_ok-over.ensures.level honest)) in
     subst (IsFilledLevel (terrain m) c.args.point) (sym higher ∙ sym (to_z-of_z w16 c.max.result in_range))
     (level_over m (g.met.S.Samples.is_mosaic a before) c.args.point w (c.requires.right before) c.deref.result.now c.deref.ensures.value c.in-Some.t c.in-Some.index c.in-Some.ensures.some
-    c.index-corner.result.now c.index-corner.ensures c.in_ok-level.level c.in_ok-level.label (spotted.spot mid (c.requires.right before)) c.if-label.false c.if-label-2.false c.in_ok-over.over rim)
+    c.index-corner.result.now c.index-corner.ensures c.in_ok-level.level c.in_ok-level.label (spotted.label_at mid (c.requires.right before)) c.if-label.false c.if-label-2.false c.in_ok-over.over rim)
 
 pub returns-clause-asked : goal.returns-clause-asked
 returns-clause-asked g c =
     answered g.S.Samples c.args.samples.now c.rim_level.new.samples _
-    (reads_on g.S.Samples g.met.S.Samples.keeps_on c.args.samples.now c.spot.new.samples c.rim_level.new.samples tt (Ok tt) c.in_ok-level.ensures.reads
-    (asked_reads g.S.Samples c.spot.new.samples c.rim_level.new.samples _ c.in_ok-over.ensures.asked))
+    (reads_on g.S.Samples g.met.S.Samples.keeps_on c.args.samples.now c.label_at.new.samples c.rim_level.new.samples tt (Ok tt) c.in_ok-level.ensures.reads
+    (asked_reads g.S.Samples c.label_at.new.samples c.rim_level.new.samples _ c.in_ok-over.ensures.asked))

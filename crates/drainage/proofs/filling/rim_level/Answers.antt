@@ -9,11 +9,11 @@ use Rattle.border_graph.specs.Placed.{IsPlacedLink}
 use Rattle.drainage.specs.Holding.{IsRight, IsRimLevel, level_of}
 use Rattle.drainage.specs.Kept.{right_still}
 use Rattle.drainage.specs.TileCaches.{known_of}
-use Rattle.drainage.proofs.Growing.{known_by}
-use Rattle.drainage.proofs.Found.{right_more, right_all, reached_later, start_is, found, found_later, never}
-use Rattle.drainage.proofs.Numbered.{of_fits}
-use Rattle.drainage.proofs.Questioned.{answered, stopped}
-use Rattle.drainage.proofs.RimNodes.{node_there}
+use Rattle.drainage.proofs.Caches.Growing.{known_by}
+use Rattle.drainage.proofs.Flows.Found.{right_more, right_all, reached_later, start_is, found, found_later, never}
+use Rattle.drainage.proofs.RimPoints.Numbered.{of_fits}
+use Rattle.drainage.proofs.Questions.Questioned.{answered, stopped}
+use Rattle.drainage.proofs.RimPoints.RimNodes.{node_there}
 use Rattle.drainage.proofs.filling.rim_level.Goals as goal
 use Rattle.drainage.proofs.filling.rim_level.Goals.{After-know_all}
 

@@ -2,10 +2,10 @@ use Rattle.std.proofs.Common.{Option, sym, ◌∙◌, subst}
 use Rattle.lattice.specs.declared.direction.Dir.{Dir}
 use Rattle.lattice.specs.Ground.{terrain}
 use Rattle.flow_d8.specs.Drainage.{IsDirection}
-use Rattle.flow_d8.proofs.Fitting.{ground_fits}
-use Rattle.flow_d8.proofs.Following.{next_is}
-use Rattle.flow_d8.proofs.MosaicGrid.{mosaic_is_grid}
-use Rattle.flow_d8.proofs.Draining.{flow_direction}
+use Rattle.flow_d8.proofs.Mosaics.Fitting.{ground_fits}
+use Rattle.flow_d8.proofs.Paths.Following.{next_is}
+use Rattle.flow_d8.proofs.Mosaics.MosaicGrid.{mosaic_is_grid}
+use Rattle.flow_d8.proofs.Sayings.Draining.{flow_direction}
 use Rattle.drainage.proofs.flow_paths.next_point.Goals as goal
 
 pub returns-in_default-clause-next : goal.returns-in_default-clause-next

@@ -12,12 +12,12 @@ use Rattle.catalogue.specs.Tiles.{corners_of}
 use Rattle.catalogue.proofs.Reading.{reads_nothing, reads_on}
 use Rattle.flow_d8.specs.FlowSteps.{IsNext, IsFollowed}
 use Rattle.flow_d8.specs.LevelsAround.{OnLevels}
-use Rattle.flow_d8.proofs.Following.{followed_first, followed_more, followed_end}
-use Rattle.flow_d8.proofs.MosaicGrid.{mosaic_is_grid}
-use Rattle.flow_d8.proofs.OnePath.{goes_on}
+use Rattle.flow_d8.proofs.Paths.Following.{followed_first, followed_more, followed_end}
+use Rattle.flow_d8.proofs.Mosaics.MosaicGrid.{mosaic_is_grid}
+use Rattle.flow_d8.proofs.Paths.OnePath.{goes_on}
 use Rattle.flow_d8.specs.PresentTiles.{sample_count}
-use Rattle.drainage.proofs.LevelFunctions.{level_function}
-use Rattle.drainage.proofs.Questioned.{answered, asked_reads, own_cause, own_ended, refused_after, refused_by}
+use Rattle.drainage.proofs.Questions.LevelFunctions.{level_function}
+use Rattle.drainage.proofs.Questions.Questioned.{answered, asked_reads, own_cause, own_ended, refused_after, refused_by}
 use Rattle.drainage.proofs.flow_paths.path_from.Goals as goal
 
 pub add-requires : goal.add-requires

@@ -12,10 +12,10 @@ use Rattle.edits.specs.declared.edit.NewHeight.{NewHeight}
 use Rattle.edits.specs.Edits.{AreEarlier, TellsHeights, edit_made, with_heights}
 use Rattle.edits.specs.Effect.{patched}
 use Rattle.drainage.specs.Between.{IsHeldOf}
-use Rattle.drainage.specs.Beyond.{AreLevelsKept, IsKeptBeyondEdit, IsKeptBeyondHeights, IsKeptUnchanged}
+use Rattle.drainage.specs.Beyond.{AreFlowsKept, AreLevelsKept, IsKeptBeyondEdit, IsKeptBeyondHeights, IsKeptUnchanged}
 use Rattle.drainage.specs.Spared.{one_lower}
-use Rattle.drainage.proofs.EditedBox.{differ_patched}
-use Rattle.drainage.proofs.Reached.{unmoved}
+use Rattle.drainage.proofs.Changes.EditedBox.{differ_patched}
+use Rattle.drainage.proofs.Changes.Reached.{unmoved}
 use Rattle.drainage.proofs.invalidating.invalidate_edit.Goals as goal
 
 no_higher : (m : Mosaic) (p : Point) (h most : ℤ) → most ≡ h → height_of m p ≡ At h → most ≤ℤ metres (height_of m p)
@@ -65,5 +65,5 @@ returns-in-Unsink-clause-changed c m valid tells right =
 pub returns-in-Heights-clause-kept : goal.returns-in-Heights-clause-kept
 returns-in-Heights-clause-kept c =
     subst (λ (e : Edit). IsKeptBeyondEdit e c.args.held.now c.invalidate_heights.new.held) (sym c.in-Heights.is)
-    (subst (λ (l : List NewHeight). IsKeptBeyondHeights l c.args.held.now c.invalidate_heights.new.held × AreLevelsKept l c.args.held.now c.invalidate_heights.new.held × IsKeptUnchanged l c.args.held.now c.invalidate_heights.new.held)
-    c.as_slice.ensures.value (c.invalidate_heights.ensures.kept, c.invalidate_heights.ensures.levels, c.invalidate_heights.ensures.unchanged))
+    (subst (λ (l : List NewHeight). IsKeptBeyondHeights l c.args.held.now c.invalidate_heights.new.held × AreLevelsKept l c.args.held.now c.invalidate_heights.new.held × AreFlowsKept l c.args.held.now c.invalidate_heights.new.held × IsKeptUnchanged l c.args.held.now c.invalidate_heights.new.held)
+    c.as_slice.ensures.value (c.invalidate_heights.ensures.kept, c.invalidate_heights.ensures.levels, c.invalidate_heights.ensures.flows, c.invalidate_heights.ensures.unchanged))

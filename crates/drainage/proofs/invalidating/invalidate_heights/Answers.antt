@@ -1,5 +1,5 @@
 use Rattle.std.proofs.lemmas.Int.{ints, to_z-of_z}
-use Rattle.std.proofs.Common.{rules, SFits, w16, to_z, of_z, inr, ◌≡◌, ◌≢◌, ◌+◌, ◌<◌, ℕ, ℤ, List, length, get_or, take, pos, refl, sym, ap, ◌∙◌, subst, arith, true≢false}
+use Rattle.std.proofs.Common.{rules, SFits, w16, to_z, of_z, inl, inr, ◌≡◌, ◌≢◌, ◌+◌, ◌<◌, ℕ, ℤ, List, length, get_or, take, pos, refl, sym, ap, ◌∙◌, subst, arith, true≢false}
 use Rattle.std.proofs.lemmas.List.{take_all}
 use Rattle.std.proofs.lemmas.List.Elements.{All-get_or}
 use Rattle.lattice.specs.declared.height.Height.TheVariants.{At}
@@ -8,13 +8,15 @@ use Rattle.lattice.specs.Mosaic.{Mosaic, IsMosaic, IsSample, void}
 use Rattle.edits.specs.declared.edit.NewHeight.{NewHeight}
 use Rattle.edits.specs.Edits.{AreEarlier, with_heights}
 use Rattle.edits.proofs.EditStale.{read_within}
-use Rattle.drainage.specs.Between.{IsHeldOf, flow_cache_right, levels_pass, past_right}
-use Rattle.drainage.specs.Beyond.{AreLevelsKept, IsKeptBeyondHeights, IsKeptUnchanged}
+use Rattle.drainage.specs.Between.{IsHeldOf, levels_pass}
+use Rattle.drainage.specs.FlowCaches.{flow_cache_right, past_right}
+use Rattle.drainage.specs.Beyond.{AreFlowsKept, AreLevelsKept, IsKeptBeyondHeights, IsKeptUnchanged}
 use Rattle.drainage.specs.Spared.{AreSparing, IsUnchanged}
 use Rattle.drainage.specs.declared.drainage_cache.DrainageCache.{DrainageCache}
-use Rattle.drainage.proofs.Beyond.{all_kept, all_levels_kept, all_pass, all_unchanged, levels_kept, levels_kept_still, levels_spared, one_kept, pass_still, spared_by, tiles_kept}
-use Rattle.drainage.proofs.EditedBox.{differ_more, earlier_at, set_more, valid_more}
-use Rattle.drainage.proofs.Unchanged.{held_unchanged, not_void_at}
+use Rattle.drainage.proofs.Changes.Beyond.{all_kept, all_levels_kept, all_pass, all_unchanged, levels_kept, levels_kept_still, levels_spared, one_kept, pass_still, spared_by, tiles_kept}
+use Rattle.drainage.proofs.Changes.EditedBox.{differ_more, earlier_at, set_more, valid_more}
+use Rattle.drainage.proofs.Caches.FlowsKept.{one_flows_kept}
+use Rattle.drainage.proofs.Changes.Unchanged.{held_unchanged, not_void_at}
 use Rattle.drainage.proofs.invalidating.invalidate_heights.Goals as goal
 use Rattle.drainage.proofs.invalidating.invalidate_heights.Goals.{then-height, else-height, then-is_any_changed, else-is_any_changed}
 
@@ -28,6 +30,7 @@ IsSoFar before heights k held = record {
   changed : (m : Mosaic) → IsMosaic m → AreEarlier heights m → IsHeldOf m before → IsHeldOf (with_heights (take k heights) m) held;
   kept : IsKeptBeyondHeights heights before held;
   levels : AreLevelsKept heights before held;
+  flows : AreFlowsKept heights before held;
   unchanged : IsKeptUnchanged heights before held;
   pass : levels_pass (AreSparing heights) held.tile_cache;
   valid : (m : Mosaic) → IsMosaic m → IsMosaic (with_heights (take k heights) m);
@@ -54,6 +57,7 @@ loop-height-init c =
             changed = λ m valid earlier. still m;
             kept = tiles_kept heights held.tile_cache left.tile_cache spared.tile_cache;
             levels = levels_kept heights held.tile_cache left.tile_cache spared.tile_cache;
+            flows = inl (spared.flow_cache, spared.past_flows);
             unchanged = λ all. absurd (true≢false (sym w.if-is_any_changed.true ∙ c.is_any_changed.ensures.1 all));
             pass = all_pass heights held.tile_cache left.tile_cache spared.tile_cache;
             valid = λ m valid. valid;
@@ -63,6 +67,7 @@ loop-height-init c =
         changed = λ m valid earlier right. right;
         kept = all_kept heights held.tile_cache;
         levels = all_levels_kept heights held.tile_cache;
+        flows = inl (refl, refl);
         unchanged = λ all. refl;
         pass = all_unchanged heights held.tile_cache (c.is_any_changed.ensures.0 w.if-is_any_changed.false);
         valid = λ m valid. valid;
@@ -88,9 +93,10 @@ loop-height-preserved c =
                 (differ_more heights i h m valid inside read) (earlier_at heights i h m inside read earlier) (inr (set_more heights i h m valid inside read))
                 (spared_by heights i h c.loop-height.held.tile_cache inside read changes so.pass) (so.changed m valid earlier right);
             kept = one_kept heights i h c.args.held.now.tile_cache c.loop-height.held.tile_cache w.note_changed.new.self.tile_cache inside read changes noted.left so.kept;
-            levels = levels_kept_still heights h.point c.args.held.now.tile_cache c.loop-height.held.tile_cache w.note_changed.new.self.tile_cache noted.left so.levels;
+            levels = levels_kept_still heights h c.args.held.now.tile_cache c.loop-height.held.tile_cache w.note_changed.new.self.tile_cache noted.left so.levels;
+            flows = one_flows_kept heights i h inside read changes c.args.held.now c.loop-height.held w.note_changed.new.self noted.flows noted.flow_cache so.flows;
             unchanged = λ all. absurd (changes (All-get_or IsUnchanged heights i none inside all));
-            pass = pass_still heights h.point c.loop-height.held.tile_cache w.note_changed.new.self.tile_cache noted.left so.pass;
+            pass = pass_still heights h c.loop-height.held.tile_cache w.note_changed.new.self.tile_cache noted.left so.pass;
             valid = λ m valid. valid_more heights i h m (so.valid m valid) inside read (sample h.metres fits);
           })
       | else-height w ↦
@@ -106,6 +112,7 @@ loop-height-preserved c =
                 held_unchanged mid (with_heights (take (i + 1) heights) m) h.point (differ_more heights i h m valid inside read) (after ∙ (ap At (sym same) ∙ sym before)) c.loop-height.held (so.changed m valid earlier right);
             kept = so.kept;
             levels = so.levels;
+            flows = so.flows;
             unchanged = so.unchanged;
             pass = so.pass;
             valid = λ m valid. valid_more heights i h m (so.valid m valid) inside read (sample h.metres fits);

@@ -2,7 +2,7 @@ use Rattle.std.proofs.Common.{take}
 use Rattle.lattice.specs.Mosaic.{Mosaic, IsMosaic}
 use Rattle.edits.specs.Edits.{AreEarlier, with_heights}
 use Rattle.drainage.specs.Between.{IsHeldOf, levels_pass}
-use Rattle.drainage.specs.Beyond.{AreLevelsKept, IsKeptBeyondHeights, IsKeptUnchanged}
+use Rattle.drainage.specs.Beyond.{AreFlowsKept, AreLevelsKept, IsKeptBeyondHeights, IsKeptUnchanged}
 use Rattle.drainage.specs.Spared.{AreSparing}
 use Rattle.drainage.proofs.invalidating.invalidate_heights.Given as goal
 
@@ -12,6 +12,7 @@ invariant-loop-height l = record {
   changed : (m : Mosaic) → IsMosaic m → AreEarlier l.heights m → IsHeldOf m l.fn.held → IsHeldOf (with_heights (take l.height-index l.heights) m) l.held;
   kept : IsKeptBeyondHeights l.heights l.fn.held l.held;
   levels : AreLevelsKept l.heights l.fn.held l.held;
+  flows : AreFlowsKept l.heights l.fn.held l.held;
   unchanged : IsKeptUnchanged l.heights l.fn.held l.held;
   pass : levels_pass (AreSparing l.heights) l.held.tile_cache;
   valid : (m : Mosaic) → IsMosaic m → IsMosaic (with_heights (take l.height-index l.heights) m);

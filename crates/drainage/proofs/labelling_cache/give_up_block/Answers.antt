@@ -4,7 +4,7 @@ use Rattle.std.proofs.lemmas.List.Elements.{All-contains}
 use Rattle.drainage.specs.Holding.{IsEntered}
 use Rattle.drainage.specs.Room.{HasSide}
 use Rattle.drainage.specs.declared.labelling_cache.HeldLabelling.{HeldLabelling}
-use Rattle.drainage.proofs.Caching.{all_among, all_inserted, inserted_or_not, removed_among, entered_among, entered_exchanged}
+use Rattle.drainage.proofs.Caches.Caching.{all_among, all_inserted, inserted_or_not, removed_among, entered_among, entered_exchanged}
 use Rattle.drainage.proofs.labelling_cache.give_up_block.Goals as goal
 
 pub returns-in-Some-clause-entered : goal.returns-in-Some-clause-entered

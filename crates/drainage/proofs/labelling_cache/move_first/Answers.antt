@@ -2,7 +2,7 @@ use Rattle.std.proofs.Common.{rules, ◌≡◌, Bool, true, List, ◌∷◌, con
 use Rattle.std.specs.Prelude.{All, Contains, insert, remove, is_ok}
 use Rattle.std.proofs.lemmas.List.Elements.{All-cons, All-contains_itself}
 use Rattle.drainage.specs.declared.labelling_cache.HeldLabelling.{HeldLabelling}
-use Rattle.drainage.proofs.Caching.{removed_among, moved_first}
+use Rattle.drainage.proofs.Caches.Caching.{removed_among, moved_first}
 use Rattle.drainage.proofs.labelling_cache.move_first.Goals as goal
 use Rattle.drainage.proofs.labelling_cache.move_first.Goals.{After-insert}
 

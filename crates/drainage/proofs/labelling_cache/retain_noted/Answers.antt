@@ -1,5 +1,5 @@
 use Rattle.std.proofs.Common.{rules}
-use Rattle.drainage.proofs.Caching.{AreNoted, noted_in_turn, noted_right, noted_kept, noted_still, noted_sides, noted_blocks}
+use Rattle.drainage.proofs.Caches.Caching.{AreNoted, noted_in_turn, noted_right, noted_kept, noted_still, noted_sides, noted_blocks}
 use Rattle.drainage.proofs.labelling_cache.retain_noted.Goals as goal
 use Rattle.drainage.proofs.labelling_cache.retain_noted.Goals.{After-retain_mut}
 

@@ -1,4 +1,4 @@
-use Rattle.drainage.proofs.LevelFunctions.{level_function}
+use Rattle.drainage.proofs.Questions.LevelFunctions.{level_function}
 use Rattle.drainage.proofs.laws.level_functions_exist.Goals as goal
 
 pub returns : goal.returns

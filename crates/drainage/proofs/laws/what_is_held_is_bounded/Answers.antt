@@ -1,17 +1,34 @@
-use Rattle.std.proofs.Common.{subst}
-use Rattle.std.specs.Prelude.{Option, Some, None}
-use Rattle.drainage.specs.Between.{are_few}
-use Rattle.drainage.specs.Room.{AreFew}
+use Rattle.std.proofs.Common.{ℕ, ◌+◌, ◌*◌, ◌/◌, ◌≤◌, List, length, subst, arith}
+use Rattle.std.specs.Prelude.{All, Option, Some, None, count_by}
+use Rattle.std.proofs.Math.Nat.{mul-div-le, mul-le-mul_left}
+use Rattle.drainage.specs.Between.{are_of_side, tile_bytes}
+use Rattle.drainage.specs.Room.{has_block, labelling_bytes, HasSide, most_blocks, most_labellings}
+use Rattle.drainage.specs.declared.labelling_cache.HeldLabelling.{HeldLabelling}
 use Rattle.drainage.specs.declared.labelling_cache.LabellingCache.{LabellingCache}
 use Rattle.drainage.specs.declared.tile_cache.TileCache.{TileCache}
 use Rattle.drainage.proofs.laws.what_is_held_is_bounded.Goals as goal
 
-few : (labellings : LabellingCache) → AreFew labellings.side labellings.held.items
-few labellings = record { labellings = labellings.few; blocks = labellings.few_blocks; sides = labellings.sides }
+at_most : (each count most : ℕ) → count ≤ most / each → each * count ≤ most
+at_most each count most few = let more = mul-le-mul_left each few in let all = mul-div-le most each in omega (arith, more, all)
 
-few_are : (tile_cache : Option TileCache) → are_few tile_cache
-few_are None = tt
-few_are (Some tile_cache) = subst (λ n. AreFew n tile_cache.labellings.held.items) tile_cache.same_side (few tile_cache.labellings)
+labellings_few : (l : LabellingCache) → labelling_bytes l.side l.held.items ≤ 293601280
+labellings_few l =
+    let n = l.side in
+    let whole = at_most (4 * (n * n)) (length l.held.items) 241172480 l.few in
+    let blocks = at_most (2 * (n * n)) (count_by has_block l.held.items) 52428800 l.few_blocks in
+    omega (arith, whole, blocks)
+
+few : (tile_cache : Option TileCache) → tile_bytes tile_cache ≤ 390369284
+few None = omega arith
+few (Some w) =
+    let labellings = subst (λ n. labelling_bytes n w.labellings.held.items ≤ 293601280) w.same_side (labellings_few w.labellings) in
+    let graphs = w.rim_graph.few in
+    let levels = w.few_levels in
+    omega (arith, labellings, graphs, levels)
+
+sides : (tile_cache : Option TileCache) → are_of_side tile_cache
+sides None = tt
+sides (Some w) = subst (λ n. All (HasSide n) w.labellings.held.items) w.same_side w.labellings.sides
 
 pub returns : goal.returns
-returns c held = record { labellings = few_are held.tile_cache; flow_cache = held.few_both; past_flows = held.few_past }
+returns c held = let tiles = few held.tile_cache in let flows = held.few in record { bytes = omega (arith, tiles, flows); sides = sides held.tile_cache }

@@ -4,8 +4,8 @@ use Rattle.lattice.specs.Steps.{step}
 use Rattle.lattice.specs.Ground.{share_tile, terrain}
 use Rattle.catalogue.proofs.Reading.{reads_nothing}
 use Rattle.flow_d8.specs.LevelsAround.{IsLevelAt, beside_of, OnLevels}
-use Rattle.flow_d8.proofs.Nearby.{beside_unfit, beside_apart, told}
-use Rattle.drainage.proofs.Questioned.{answered}
+use Rattle.flow_d8.proofs.Steps.Nearby.{beside_unfit, beside_apart, told}
+use Rattle.drainage.proofs.Questions.Questioned.{answered}
 use Rattle.drainage.proofs.levels_near.level_beside.Goals as goal
 
 pub returns-in_default-clause-beside : goal.returns-in_default-clause-beside

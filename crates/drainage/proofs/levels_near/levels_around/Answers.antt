@@ -7,11 +7,11 @@ use Rattle.lattice.specs.Mosaic.{Mosaic}
 use Rattle.lattice.specs.Ground.{terrain}
 use Rattle.catalogue.proofs.Reading.{reads_nothing, reads_on}
 use Rattle.flow_d8.specs.LevelsAround.{beside_of, OnLevels}
-use Rattle.flow_d8.proofs.Compass.{dir_at_place, order_below}
-use Rattle.flow_d8.proofs.Nearby.{all_around}
-use Rattle.drainage.proofs.Questioned.{refused_after}
-use Rattle.drainage.proofs.GroundAtHand.{ground_still}
-use Rattle.drainage.proofs.Questioned.{asked_reads, answered}
+use Rattle.flow_d8.proofs.Steps.Compass.{dir_at_place, order_below}
+use Rattle.flow_d8.proofs.Steps.Nearby.{all_around}
+use Rattle.drainage.proofs.Questions.Questioned.{refused_after}
+use Rattle.drainage.proofs.Tiles.GroundAtHand.{ground_still}
+use Rattle.drainage.proofs.Questions.Questioned.{asked_reads, answered}
 use Rattle.drainage.proofs.levels_near.levels_around.Goals as goal
 
 pub loop-i-init : goal.loop-i-init

@@ -8,8 +8,8 @@ use Rattle.lattice.proofs.Levels.{level_is_unique}
 use Rattle.catalogue.proofs.Asking.{asked_passed}
 use Rattle.catalogue.proofs.Reading.{reads_nothing, reads_on}
 use Rattle.flow_d8.specs.LevelsAround.{IsLevelAt, OnLevels, around_of}
-use Rattle.drainage.proofs.GroundAtHand.{ground_still}
-use Rattle.drainage.proofs.Questioned.{answered, asked_reads, asked_then, refused_by, stopped}
+use Rattle.drainage.proofs.Tiles.GroundAtHand.{ground_still}
+use Rattle.drainage.proofs.Questions.Questioned.{answered, asked_reads, asked_then, refused_by, stopped}
 use Rattle.drainage.proofs.levels_near.near_levels.Goals as goal
 
 pub returns-in-Some-clause-near : goal.returns-in-Some-clause-near

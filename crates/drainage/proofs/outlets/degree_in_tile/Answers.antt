@@ -11,9 +11,9 @@ use Rattle.lattice.specs.Steps.{step, directions}
 use Rattle.lattice.specs.Stepping.{reach_of}
 use Rattle.catalogue.proofs.Degrees.{degree-reach}
 use Rattle.catalogue.proofs.Reading.{reads_as, reads_on}
-use Rattle.flow_d8.proofs.Surfaces.{step_near, step_other}
+use Rattle.flow_d8.proofs.Steps.Surfaces.{step_near, step_other}
 use Rattle.drainage.specs.Flooded.{IsGroundOf}
-use Rattle.drainage.proofs.TileOutlets.{reach_from}
+use Rattle.drainage.proofs.Tiles.TileOutlets.{reach_from}
 use Rattle.drainage.proofs.outlets.degree_in_tile.Goals as goal
 use Rattle.drainage.proofs.outlets.degree_in_tile.Goals.{then-branch, else-branch}
 
@@ -51,7 +51,7 @@ loop-step-preserved g c =
     let f : Mosaic → Step → Bool = λ m s. is_adjacent m c.args.point s.to in
     record {
       reads = reads_on g.S.Samples g.met.S.Samples.keeps_on a b d c.loop-step.count (Ok c.if-branch.count) so.reads (reads_as g.S.Samples b d c.in_ok-is_adjacent_to.field-0 c.if-branch.count read);
-      ring = λ honest. c.in_ok-is_adjacent_to.ensures.ring honest;
+      ground_cache = λ honest. c.in_ok-is_adjacent_to.ensures.ground_cache honest;
       few = let few = so.few in elim c.if-branch.branch [ then-branch w ↦ let is = w.count-is in omega arith | else-branch w ↦ let is = w.count-is in omega arith ];
       count = λ honest of.
           let mid = read.honest honest in

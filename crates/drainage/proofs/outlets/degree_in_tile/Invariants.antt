@@ -3,13 +3,13 @@ use Rattle.std.specs.Prelude.{count_by}
 use Rattle.lattice.specs.Ground.{is_adjacent}
 use Rattle.catalogue.specs.Readers.{OnlyReads}
 use Rattle.drainage.specs.Flooded.{IsGroundOf}
-use Rattle.drainage.specs.Ring.{AreRemembered}
+use Rattle.drainage.specs.GroundCache.{AreRemembered}
 use Rattle.drainage.proofs.outlets.degree_in_tile.Given as goal
 
 abbrev pub invariant-loop-step : goal.invariant-loop-step
 invariant-loop-step g l = record {
   reads : OnlyReads {T = ℕ} g.S.Samples l.fn.samples l.samples (Ok l.count);
-  ring : g.S.Samples.is_honest l.samples → AreRemembered (g.S.Samples.mosaic l.samples) l.ring;
+  ground_cache : g.S.Samples.is_honest l.samples → AreRemembered (g.S.Samples.mosaic l.samples) l.ground_cache;
   few : l.count ≤ l.step-index;
   count : g.S.Samples.is_honest l.samples → IsGroundOf (g.S.Samples.mosaic l.fn.samples) l.corner l.labelled l.point
       → l.count ≡ count_by (λ s. is_adjacent (g.S.Samples.mosaic l.fn.samples) l.point s.to) (take l.step-index l.step-items);

@@ -7,8 +7,8 @@ use Rattle.lattice.specs.Mosaic.{Mosaic}
 use Rattle.lattice.specs.declared.point.Point.{Point}
 use Rattle.lattice.proofs.Samples.{held_at}
 use Rattle.tile_flood.specs.Labelling.{NO_LABEL}
-use Rattle.drainage.proofs.TileOutlets.{ground_by_label, void_by_label, beside_in_tile}
-use Rattle.drainage.specs.Ring.{AreRemembered, IsGroundIn}
+use Rattle.drainage.proofs.Tiles.TileOutlets.{ground_by_label, void_by_label, beside_in_tile}
+use Rattle.drainage.specs.GroundCache.{AreRemembered, IsGroundIn}
 use Rattle.drainage.proofs.outlets.is_adjacent_to.Goals as goal
 
 pub returns-in-Some-clause-value : goal.returns-in-Some-clause-value
@@ -27,21 +27,21 @@ returns-in-Some-clause-value g c honest of =
       | inr some ↦ ap not some.0 ∙ sym (ground_by_label m is c.args.corner there c.args.labelled.now of.flooded c.args.to e at some.1)
     ] ∙ sym beside)
 
-pub returns-then-shows-clause-value : goal.returns-then-shows-clause-value
-returns-then-shows-clause-value g c honest of =
+pub returns-then-holds-clause-value : goal.returns-then-holds-clause-value
+returns-then-holds-clause-value g c honest of =
     let now = c.args.samples.now in
     let m = g.S.Samples.mosaic now in
     let is = g.met.S.Samples.is_mosaic now honest in
     let side : c.side-2.result ≡ m.side = c.side-2.ensures ∙ (c.requires.labelled_side ∙ sym (g.met.S.Samples.same_side now honest)) in
-    let found = c.shows.ensures c.if-shows.true in
-    let seen : IsGroundIn m c.args.to found.0 = c.requires.ring honest c.args.to found.0 found.1.0 in
+    let found = c.holds.ensures c.if-holds.true in
+    let seen : IsGroundIn m c.args.to found.0 = c.requires.ground_cache honest c.args.to found.0 found.1.0 in
     let here : Holds m.side found.0 c.args.point = subst (λ n. Holds n found.0 c.args.point) side found.1.1 in
     sym (beside_in_tile m is c.args.point c.args.to of.ground c.requires.near c.requires.other found.0 seen.present here seen.held ∙ seen.ground)
 
-pub returns-then-not-branch-clause-ring : goal.returns-then-not-branch-clause-ring
-returns-then-not-branch-clause-ring g c honest =
+pub returns-then-not-branch-clause-ground_cache : goal.returns-then-not-branch-clause-ground_cache
+returns-then-not-branch-clause-ground_cache g c honest =
     let reads = c.in_ok-is_ground.ensures.reads in
-    subst (λ (m : Mosaic). AreRemembered m c.args.ring.now) (sym (reads.mosaic honest)) (c.requires.ring (reads.honest honest))
+    subst (λ (m : Mosaic). AreRemembered m c.args.ground_cache.now) (sym (reads.mosaic honest)) (c.requires.ground_cache (reads.honest honest))
 
 pub returns-clause-value : goal.returns-clause-value
 returns-clause-value g c later of =
@@ -56,8 +56,8 @@ returns-clause-value g c later of =
     let here = subst (λ n. Holds n tile c.args.point) (sym (g.met.S.Samples.same_side now honest)) both.1.0 in
     sym (beside_in_tile m is c.args.point c.args.to of.ground c.requires.near c.requires.other tile there here held ∙ (sym (c.in_ok-is_ground.ensures.value later) ∙ c.if-not-branch.false))
 
-pub returns-clause-ring : goal.returns-clause-ring
-returns-clause-ring g c later p d has =
+pub returns-clause-ground_cache : goal.returns-clause-ground_cache
+returns-clause-ground_cache g c later p d has =
     let now = c.args.samples.now in
     let m = g.S.Samples.mosaic now in
     let reads = c.in_ok-is_ground.ensures.reads in
@@ -71,5 +71,5 @@ returns-clause-ring g c later p d has =
     } in
     subst (λ (s : Mosaic). IsGroundIn s p d) (sym (reads.mosaic later)) (elim (c.remember.ensures p d has) [
       | inl this ↦ subst (λ (q : Point). IsGroundIn m q d) (sym this.0) (subst (IsGroundIn m c.args.to) (sym this.1) now_there)
-      | inr before ↦ c.requires.ring honest p d before
+      | inr before ↦ c.requires.ground_cache honest p d before
     ])

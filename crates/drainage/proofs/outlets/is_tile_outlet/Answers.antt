@@ -5,7 +5,7 @@ use Rattle.lattice.specs.Lattice.{IsIndexOf}
 use Rattle.lattice.proofs.Samples.{held_at}
 use Rattle.tile_flood.specs.Labelling.{NO_LABEL}
 use Rattle.drainage.specs.Flooded.{IsGroundOf}
-use Rattle.drainage.proofs.TileOutlets.{ground_by_label, void_by_label, outlet_if_ground, outlet_by_sink, outlet_by_degree}
+use Rattle.drainage.proofs.Tiles.TileOutlets.{ground_by_label, void_by_label, outlet_if_ground, outlet_by_sink, outlet_by_degree}
 use Rattle.drainage.proofs.outlets.is_tile_outlet.Goals as goal
 
 pub returns-then-labels-index-clause-value : goal.returns-then-labels-index-clause-value

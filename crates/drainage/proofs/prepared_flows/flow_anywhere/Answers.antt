@@ -9,9 +9,9 @@ use Rattle.catalogue.proofs.Asking.{asked_on, asked_refused}
 use Rattle.catalogue.proofs.Reading.{reads_as, reads_nothing}
 use Rattle.flow_d8.specs.LevelsAround.{OnLevels}
 use Rattle.watershed.specs.FlowSource.{IsToldOf}
-use Rattle.drainage.proofs.Followed.{held_still}
-use Rattle.drainage.proofs.Questioned.{answered, refused_by}
-use Rattle.drainage.proofs.Told.{told_of, no_ground, drained_told, draining_tells}
+use Rattle.drainage.proofs.Flows.Followed.{held_still}
+use Rattle.drainage.proofs.Questions.Questioned.{answered, refused_by}
+use Rattle.drainage.proofs.Questions.Told.{told_of, no_ground, drained_told, draining_tells}
 use Rattle.drainage.proofs.prepared_flows.flow_anywhere.Goals as goal
 
 pub returns-then-drains-clause-flow : goal.returns-then-drains-clause-flow

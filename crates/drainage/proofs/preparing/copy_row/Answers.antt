@@ -5,7 +5,7 @@ use Rattle.std.proofs.lemmas.Int.{to_z-of_z}
 use Rattle.std.proofs.lemmas.List.{length-set, get_or_default}
 use Rattle.lattice.specs.Mosaic.{void}
 use Rattle.flow_d8.specs.Preparing.{place_in}
-use Rattle.drainage.proofs.PaddedLevels.{below_product, copied_here, copied_other, place_within}
+use Rattle.drainage.proofs.Tiles.PaddedLevels.{below_product, copied_here, copied_other, place_within}
 use Rattle.drainage.proofs.preparing.copy_row.Goals as goal
 
 pub loop-column-preserved : goal.loop-column-preserved

@@ -9,8 +9,8 @@ use Rattle.drainage.specs.TileLevels.{IsLevelOrVoid}
 use Rattle.lattice.specs.Mosaic.{Mosaic}
 use Rattle.catalogue.proofs.Reading.{reads_nothing, reads_on}
 use Rattle.drainage.specs.Padded.{AreFilledTo, IsStrip}
-use Rattle.drainage.proofs.PaddedLevels.{fill_none, fill_more}
-use Rattle.drainage.proofs.Questioned.{answered, asked_reads, refused_after}
+use Rattle.drainage.proofs.Tiles.PaddedLevels.{fill_none, fill_more}
+use Rattle.drainage.proofs.Questions.Questioned.{answered, asked_reads, refused_after}
 use Rattle.drainage.proofs.preparing.fill.Goals as goal
 
 pub loop-number-init : goal.loop-number-init

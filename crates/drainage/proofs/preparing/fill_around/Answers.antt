@@ -4,8 +4,8 @@ use Rattle.lattice.specs.Mosaic.{Mosaic}
 use Rattle.catalogue.proofs.Reading.{reads_nothing, reads_on}
 use Rattle.drainage.specs.Padded.{AreFilledTo, IsStrip, strip_of}
 use Rattle.drainage.specs.declared.preparing.Strip.{Strip}
-use Rattle.drainage.proofs.PaddedLevels.{AreStripsTo, strips_none, strips_more, around_all}
-use Rattle.drainage.proofs.Questioned.{answered, asked_reads, refused_after}
+use Rattle.drainage.proofs.Tiles.PaddedLevels.{AreStripsTo, strips_none, strips_more, around_all}
+use Rattle.drainage.proofs.Questions.Questioned.{answered, asked_reads, refused_after}
 use Rattle.drainage.proofs.preparing.fill_around.Goals as goal
 
 pub loop-number-init : goal.loop-number-init

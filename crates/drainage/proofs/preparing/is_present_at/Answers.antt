@@ -2,7 +2,7 @@ use Rattle.std.proofs.Common.{SFits, w16, ◌≡◌, ℤ, IsTrue, rules, ap₂, 
 use Rattle.std.proofs.lemmas.Int.{to_z-of_z}
 use Rattle.lattice.specs.Corners.{Corner, is_corner}
 use Rattle.lattice.specs.Mosaic.{is_present}
-use Rattle.drainage.proofs.PaddedLevels.{told_present, none_present}
+use Rattle.drainage.proofs.Tiles.PaddedLevels.{told_present, none_present}
 use Rattle.drainage.proofs.preparing.is_present_at.Goals as goal
 
 abbrev at : ℤ → ℤ → Corner

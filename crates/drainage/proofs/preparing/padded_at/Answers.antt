@@ -4,7 +4,7 @@ use Rattle.lattice.specs.Mosaic.{Mosaic}
 use Rattle.lattice.specs.declared.refusal.Refusal.TheVariants.{NoMemory}
 use Rattle.catalogue.proofs.Reading.{reads_nothing}
 use Rattle.drainage.specs.Between.{IsHeldOf}
-use Rattle.drainage.proofs.Questioned.{short_of_memory}
+use Rattle.drainage.proofs.Questions.Questioned.{short_of_memory}
 use Rattle.drainage.proofs.preparing.padded_at.Goals as goal
 
 pub returns-in_err-t-clause-asked : goal.returns-in_err-t-clause-asked

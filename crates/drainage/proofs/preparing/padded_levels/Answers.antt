@@ -6,8 +6,8 @@ use Rattle.catalogue.proofs.Reading.{reads_on}
 use Rattle.tile_flood.specs.Raising.{AreTileLevels}
 use Rattle.flow_d8.specs.Padded.{ArePadded}
 use Rattle.drainage.specs.Padded.{IsTileCopied, IsFilledAround}
-use Rattle.drainage.proofs.PaddedLevels.{all_padded, vec_back}
-use Rattle.drainage.proofs.Questioned.{answered, asked_reads, refused_after}
+use Rattle.drainage.proofs.Tiles.PaddedLevels.{all_padded, vec_back}
+use Rattle.drainage.proofs.Questions.Questioned.{answered, asked_reads, refused_after}
 use Rattle.drainage.proofs.preparing.padded_levels.Goals as goal
 
 pub returns-in_err-fill_around-clause-asked : goal.returns-in_err-fill_around-clause-asked

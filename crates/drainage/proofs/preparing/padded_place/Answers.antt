@@ -1,6 +1,6 @@
 use Rattle.std.proofs.Common.{◌+◌, ◌*◌, ◌<◌, ap, subst, arith}
 use Rattle.std.proofs.lemmas.Nat.{mul-le}
-use Rattle.drainage.proofs.PaddedLevels.{below_product}
+use Rattle.drainage.proofs.Tiles.PaddedLevels.{below_product}
 use Rattle.drainage.proofs.preparing.padded_place.Goals as goal
 
 pub overflow_mul-result : goal.overflow_mul-result

@@ -3,9 +3,9 @@ use Rattle.std.specs.Prelude.{Contains}
 use Rattle.lattice.specs.Corners.{Corner}
 use Rattle.lattice.specs.Mosaic.{Mosaic}
 use Rattle.flow_d8.specs.FlowGrids.{AreTileFlows}
-use Rattle.flow_d8.specs.LevelRanges.{AreRanges, AreRangesOf}
+use Rattle.drainage.specs.LevelRanges.{AreRanges, AreRangesOf}
 use Rattle.flow_d8.specs.Padded.{ArePadded}
-use Rattle.flow_d8.proofs.FlowCaches.{ranges_are}
+use Rattle.drainage.proofs.Caches.FlowCaches.{ranges_are}
 use Rattle.drainage.proofs.preparing.prepare.Goals as goal
 
 pub tell-requires : goal.tell-requires

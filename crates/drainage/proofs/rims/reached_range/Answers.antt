@@ -4,8 +4,8 @@ use Rattle.std.proofs.lemmas.Int.{to_z-of_z}
 use Rattle.std.proofs.lemmas.List.{take_all}
 use Rattle.std.proofs.lemmas.List.Elements.{All-more}
 use Rattle.edits.specs.declared.edit.NewHeight.{NewHeight}
-use Rattle.flow_d8.specs.LevelRanges.{IsIn}
-use Rattle.flow_d8.specs.declared.level_range.LevelRange.{LevelRange}
+use Rattle.drainage.specs.LevelRanges.{IsIn}
+use Rattle.drainage.specs.declared.level_range.LevelRange.{LevelRange}
 use Rattle.drainage.specs.Spared.{IsSpared, IsSparedBy}
 use Rattle.drainage.proofs.rims.reached_range.Goals as goal
 use Rattle.drainage.proofs.rims.reached_range.Goals.{then-height, else-height}

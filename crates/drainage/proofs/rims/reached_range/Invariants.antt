@@ -1,6 +1,6 @@
 use Rattle.std.proofs.Common.{ℤ, take, Some}
 use Rattle.lattice.specs.Mosaic.{IsSample}
-use Rattle.flow_d8.specs.LevelRanges.{IsIn}
+use Rattle.drainage.specs.LevelRanges.{IsIn}
 use Rattle.drainage.specs.Spared.{AreSparing}
 use Rattle.drainage.proofs.rims.reached_range.Given as goal
 

@@ -8,7 +8,7 @@ use Rattle.catalogue.specs.Readers.{reads_of}
 use Rattle.catalogue.proofs.Reading.{reads_on, reads_as, reads_for}
 use Rattle.tile_labellings.specs.Labellings.{IsFlooded}
 use Rattle.drainage.specs.Flooded.{IsRimPointIn, HasOtherRimHeight, AreRimPointsIn}
-use Rattle.drainage.proofs.Summed.{one_more_point}
+use Rattle.drainage.proofs.RimPoints.Summed.{one_more_point}
 use Rattle.drainage.proofs.summing.rim_of.Goals as goal
 
 pub loop-number-preserved : goal.loop-number-preserved
@@ -18,7 +18,7 @@ loop-number-preserved g c =
     let read = c.in_ok-point.ensures.reads in
     record {
       reads = reads_on g.S.Samples g.met.S.Samples.keeps_on now c.loop-number.samples c.rim_point.new.samples tt (Ok tt) so.reads (reads_as g.S.Samples c.loop-number.samples c.rim_point.new.samples c.in_ok-point.field-0 tt read);
-      ring = λ honest. c.in_ok-point.ensures.ring honest;
+      ground_cache = λ honest. c.in_ok-point.ensures.ground_cache honest;
       points = λ honest flooded.
           let mid = read.honest honest in
           let here = subst (λ (found : Option RimPoint). MatchOption found (HasOtherRimHeight (g.S.Samples.mosaic c.loop-number.samples) c.args.corner c.args.labelled.now.levels)

@@ -2,12 +2,12 @@ use Rattle.std.specs.Prelude.{Ok}
 use Rattle.catalogue.specs.Readers.{OnlyReads}
 use Rattle.tile_labellings.specs.Labellings.{IsFlooded}
 use Rattle.drainage.specs.Flooded.{AreRimPointsIn}
-use Rattle.drainage.specs.Ring.{AreRemembered}
+use Rattle.drainage.specs.GroundCache.{AreRemembered}
 use Rattle.drainage.proofs.summing.rim_of.Given as goal
 
 abbrev pub invariant-loop-number : goal.invariant-loop-number
 invariant-loop-number g l = record {
   reads : OnlyReads {T = Unit {0}} g.S.Samples l.fn.samples l.samples (Ok tt);
-  ring : g.S.Samples.is_honest l.samples → AreRemembered (g.S.Samples.mosaic l.samples) l.ring;
+  ground_cache : g.S.Samples.is_honest l.samples → AreRemembered (g.S.Samples.mosaic l.samples) l.ground_cache;
   points : g.S.Samples.is_honest l.samples → IsFlooded (g.S.Samples.mosaic l.fn.samples) l.corner l.labelled → AreRimPointsIn (g.S.Samples.mosaic l.fn.samples) l.corner l.labelled.labels l.rim.items l.number;
 }

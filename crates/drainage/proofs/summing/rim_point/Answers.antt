@@ -16,8 +16,8 @@ use Rattle.border_graph.specs.declared.summary.RimPoint.{RimPoint}
 use Rattle.tile_labellings.specs.Labellings.{IsFlooded}
 use Rattle.catalogue.specs.Readers.{OnlyReads}
 use Rattle.catalogue.proofs.Reading.{reads_as, reads_on, reads_refused}
-use Rattle.drainage.specs.Ring.{AreRemembered}
-use Rattle.drainage.proofs.Summed.{rim_height}
+use Rattle.drainage.specs.GroundCache.{AreRemembered}
+use Rattle.drainage.proofs.RimPoints.Summed.{rim_height}
 use Rattle.drainage.proofs.summing.rim_point.Goals as goal
 
 -- a level as it was read
@@ -88,12 +88,12 @@ returns-clause-reads g c =
     reads_on g.S.Samples g.met.S.Samples.keeps_on c.args.samples.now c.is_rim_height.new.samples c.is_tile_outlet.new.samples c.in_ok-is_rim_height.field-0 _ c.in_ok-is_rim_height.ensures.reads
     (reads_as g.S.Samples c.is_rim_height.new.samples c.is_tile_outlet.new.samples c.in_ok-is_outlet.is_outlet _ c.in_ok-is_outlet.ensures.reads)
 
-pub returns-then-not-branch-clause-ring : goal.returns-then-not-branch-clause-ring
-returns-then-not-branch-clause-ring g c honest =
+pub returns-then-not-branch-clause-ground_cache : goal.returns-then-not-branch-clause-ground_cache
+returns-then-not-branch-clause-ground_cache g c honest =
     let reads = c.in_ok-is_rim_height.ensures.reads in
-    subst (λ (m : Mosaic). AreRemembered m c.args.ring.now) (sym (reads.mosaic honest)) (c.requires.ring (reads.honest honest))
+    subst (λ (m : Mosaic). AreRemembered m c.args.ground_cache.now) (sym (reads.mosaic honest)) (c.requires.ground_cache (reads.honest honest))
 
-pub is_tile_outlet-requires-clause-ring : goal.is_tile_outlet-requires-clause-ring
-is_tile_outlet-requires-clause-ring g c honest =
+pub is_tile_outlet-requires-clause-ground_cache : goal.is_tile_outlet-requires-clause-ground_cache
+is_tile_outlet-requires-clause-ground_cache g c honest =
     let reads = c.in_ok-is_rim_height.ensures.reads in
-    subst (λ (m : Mosaic). AreRemembered m c.args.ring.now) (sym (reads.mosaic honest)) (c.requires.ring (reads.honest honest))
+    subst (λ (m : Mosaic). AreRemembered m c.args.ground_cache.now) (sym (reads.mosaic honest)) (c.requires.ground_cache (reads.honest honest))

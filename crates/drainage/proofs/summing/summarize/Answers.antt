@@ -9,8 +9,8 @@ use Rattle.tile_flood.specs.Blocks.{LabelledGround}
 use Rattle.tile_flood.specs.Spills.{AreSpills}
 use Rattle.tile_labellings.specs.TileLabellings.{labelled_of, IsCurrent, IsTileLabelling}
 use Rattle.drainage.specs.Flooded.{HasOtherRimHeight, AreRimPointsIn}
-use Rattle.drainage.proofs.Questioned.{answered, passed_on, refused_by, stopped, wanting}
-use Rattle.drainage.proofs.Summed.{rim_holds, summary_is}
+use Rattle.drainage.proofs.Questions.Questioned.{answered, passed_on, refused_by, stopped, wanting}
+use Rattle.drainage.proofs.RimPoints.Summed.{rim_holds, summary_is}
 use Rattle.drainage.proofs.summing.summarize.Goals as goal
 
 pub returns-clause-border : goal.returns-clause-border

@@ -3,9 +3,9 @@ use Rattle.std.proofs.lemmas.Result.{err_from_is_err_and}
 use Rattle.lattice.specs.Mosaic.{Mosaic}
 use Rattle.drainage.specs.Holding.{IsRight}
 use Rattle.drainage.specs.TileCaches.{known_of}
-use Rattle.drainage.proofs.Growing.{known_by}
-use Rattle.drainage.proofs.Questioned.{passed_on, refused_by}
-use Rattle.drainage.proofs.TileLevels.{is_there, entered_there, right_held, right_fewer, rim_filled, raised_asked, raised_causes}
+use Rattle.drainage.proofs.Caches.Growing.{known_by}
+use Rattle.drainage.proofs.Questions.Questioned.{passed_on, refused_by}
+use Rattle.drainage.proofs.Tiles.TileLevels.{is_there, entered_there, right_held, right_fewer, rim_filled, raised_asked, raised_causes}
 use Rattle.drainage.proofs.tile_levels.levels_over_rim.Goals as goal
 
 pub returns-in_err-labelling-clause-right : goal.returns-in_err-labelling-clause-right

@@ -8,9 +8,9 @@ use Rattle.lattice.specs.RimPoints.{IsRimPoint}
 use Rattle.lattice.specs.declared.refusal.Refusal.TheVariants.{NoMemory}
 use Rattle.catalogue.proofs.Reading.{reads_nothing, reads_on}
 use Rattle.drainage.specs.TileLevels.{AreRimLevelsTo, IsLevelOrVoid}
-use Rattle.drainage.proofs.RimLevels.{no_rim, rim_more, rim_whole}
-use Rattle.drainage.proofs.Questioned.{short_of_memory, short_after, refused_after}
-use Rattle.drainage.proofs.Questioned.{asked_reads, answered}
+use Rattle.drainage.proofs.RimPoints.RimLevels.{no_rim, rim_more, rim_whole}
+use Rattle.drainage.proofs.Questions.Questioned.{short_of_memory, short_after, refused_after}
+use Rattle.drainage.proofs.Questions.Questioned.{asked_reads, answered}
 use Rattle.drainage.proofs.tile_levels.rim_levels.Goals as goal
 
 pub loop-number-init : goal.loop-number-init

@@ -7,7 +7,7 @@ use Rattle.border_graph.specs.Others.{corner_at}
 use Rattle.catalogue.proofs.Asking.{asked_on, asked_passed}
 use Rattle.catalogue.proofs.Reading.{reads_nothing}
 use Rattle.tile_flood.specs.Raising.{AreRimLevels, AreTileLevels}
-use Rattle.drainage.proofs.Questioned.{asked_reads, refused_by, stopped}
+use Rattle.drainage.proofs.Questions.Questioned.{asked_reads, refused_by, stopped}
 use Rattle.drainage.proofs.tile_levels.tile_levels.Goals as goal
 
 pub returns-in_default-clause-asked : goal.returns-in_default-clause-asked

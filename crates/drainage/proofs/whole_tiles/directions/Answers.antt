@@ -11,8 +11,8 @@ use Rattle.catalogue.proofs.Reading.{reads_nothing, reads_on}
 use Rattle.flow_d8.specs.LevelsAround.{OnLevels}
 use Rattle.watershed.specs.FlowSource.{IsToldOf}
 use Rattle.watershed.specs.Questions.{IsCodeOrNone, AreCodesTo}
-use Rattle.drainage.proofs.Questioned.{asked_reads, answered, refused_after, short_after, short_of_memory}
-use Rattle.drainage.proofs.WholeTiles.{code_more, no_codes, told_code}
+use Rattle.drainage.proofs.Questions.Questioned.{asked_reads, answered, refused_after, short_after, short_of_memory}
+use Rattle.drainage.proofs.Tiles.WholeTiles.{code_more, no_codes, told_code}
 use Rattle.drainage.proofs.whole_tiles.directions.Goals as goal
 
 pub returns-in_err-codes-clause-asked : goal.returns-in_err-codes-clause-asked

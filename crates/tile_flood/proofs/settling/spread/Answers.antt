@@ -9,9 +9,9 @@ pub returns-clause-state : goal.returns-clause-state
 returns-clause-state c =
     let n = c.args.n in
     let heights = c.args.heights.now in
-    let point = c.args.front.point in
+    let point = c.args.popped.point in
     let cells' = c.visit_row-3.new.cells in
-    spread_end n heights c.args.sinks.now (levels_of cells') (labels_of cells') c.visit_row-3.new.queue point c.args.front.level c.args.front.label c.in_ok-visit_row-3.ensures.state
+    spread_end n heights c.args.sinks.now (levels_of cells') (labels_of cells') c.visit_row-3.new.queue point c.args.popped.level c.args.popped.label c.in_ok-visit_row-3.ensures.state
     (λ z link.
     let apart = linked_apart n heights point z link in
     let north = apart.north in

@@ -10,13 +10,13 @@ use Rattle.tile_flood.proofs.settling.visit_row.Goals as goal
 use Rattle.tile_flood.proofs.settling.visit_row.Goals.{then-from-n-via-then-from-n, then-from-n-via-else-from-n+then-from-cells}
 
 pub visit-requires-clause-near : goal.visit-requires-clause-near
-visit-requires-clause-near c = let low = c.if-from-n.false in run_near c.args.n c.args.front.point c.args.i 0 (c.args.front.point + c.args.i * c.args.n - c.args.n - 1) c.requires.heights.side.0 c.requires.i (omega arith) (omega arith)
+visit-requires-clause-near c = let low = c.if-from-n.false in run_near c.args.n c.args.popped.point c.args.i 0 (c.args.popped.point + c.args.i * c.args.n - c.args.n - 1) c.requires.heights.side.0 c.requires.i (omega arith) (omega arith)
 
 pub visit-requires-2-clause-near : goal.visit-requires-2-clause-near
-visit-requires-2-clause-near c = let low = c.if-from-n.false in run_near c.args.n c.args.front.point c.args.i 1 (c.args.front.point + c.args.i * c.args.n - c.args.n - 1 + 1) c.requires.heights.side.0 c.requires.i (omega arith) (omega arith)
+visit-requires-2-clause-near c = let low = c.if-from-n.false in run_near c.args.n c.args.popped.point c.args.i 1 (c.args.popped.point + c.args.i * c.args.n - c.args.n - 1 + 1) c.requires.heights.side.0 c.requires.i (omega arith) (omega arith)
 
 pub visit-requires-3-clause-near : goal.visit-requires-3-clause-near
-visit-requires-3-clause-near c = let low = c.if-from-n.false in run_near c.args.n c.args.front.point c.args.i 2 (c.args.front.point + c.args.i * c.args.n - c.args.n - 1 + 2) c.requires.heights.side.0 c.requires.i (omega arith) (omega arith)
+visit-requires-3-clause-near c = let low = c.if-from-n.false in run_near c.args.n c.args.popped.point c.args.i 2 (c.args.popped.point + c.args.i * c.args.n - c.args.n - 1 + 2) c.requires.heights.side.0 c.requires.i (omega arith) (omega arith)
 
 pub returns-clause-still : goal.returns-clause-still
 returns-clause-still c e on = c.in_ok-visit-3.ensures.still e (c.in_ok-visit-2.ensures.still e (c.in_ok-visit.ensures.still e on))
@@ -26,11 +26,11 @@ returns-then-from-n-clause-marked c z link row =
     let n = c.args.n in
     let heights = c.args.heights.now in
     let s = c.requires.state in
-    let l = linked_parts n heights c.args.front.point z link in
-    let inside : c.args.front.point < n * n = solid_below n heights c.args.front.point l.from in
+    let l = linked_parts n heights c.args.popped.point z link in
+    let inside : c.args.popped.point < n * n = solid_below n heights c.args.popped.point l.from in
     let whole = c.requires.cells.whole in
     let whole' = c.requires.heights.whole in
-    let rim = outer_row n c.args.front.point c.args.i z c.requires.heights.side.0 inside (linked_below n heights c.args.front.point z link) row
+    let rim = outer_row n c.args.popped.point c.args.i z c.requires.heights.side.0 inside (linked_below n heights c.args.popped.point z link) row
     (elim c.then-from-n.branch [
       | then-from-n-via-then-from-n w ↦ let low = w.if-from-n.true in inl (omega arith)
       | then-from-n-via-else-from-n+then-from-cells w ↦ let high = w.if-from-cells.true in inr (omega arith)
@@ -41,7 +41,7 @@ pub returns-clause-marked : goal.returns-clause-marked
 returns-clause-marked c z link row =
     let n = c.args.n in
     let heights = c.args.heights.now in
-    let point = c.args.front.point in
+    let point = c.args.popped.point in
     let l = linked_parts n heights point z link in
     let found = run_of n point c.args.i z l.beside row in
     let within = found.1.0 in

@@ -5,7 +5,7 @@ use Rattle.tile_flood.specs.Kept.{labels_in, levels_in}
 use Rattle.tile_flood.specs.Labelling.{IsLabelling}
 use Rattle.lattice.specs.Mosaic.{void}
 use Rattle.tile_labellings.specs.Spots.{DoMarksFitAt}
-use Rattle.tile_labellings.proofs.Spotted.{label_there, level_there, spot_fits}
+use Rattle.tile_labellings.proofs.LabelledAt.{label_there, level_there, spot_fits}
 use Rattle.tile_labellings.proofs.reading.labelled_at.Goals as goal
 
 pub returns-then-do_marks_fit_at-clause-level : goal.returns-then-do_marks_fit_at-clause-level

@@ -1,11 +1,12 @@
 use Rattle.std.proofs.Common.{rules, SFits, w16, to_z, of_z, ◌≡◌, ℤ, refl, sym, ◌∙◌, subst}
 use Rattle.std.specs.Prelude.{Option, Some}
 use Rattle.std.proofs.lemmas.Int.{to_z-of_z}
-use Rattle.drainage.specs.Between.{are_noted, are_right, flow_cache_right, levels_pass, AreFlowsLeft}
+use Rattle.drainage.specs.Between.{are_noted, are_right, levels_pass, AreFlowsLeft}
+use Rattle.drainage.specs.FlowCaches.{flow_cache_right}
 use Rattle.drainage.specs.Spared.{IsSpared}
 use Rattle.drainage.specs.declared.drainage_cache.DrainageCache.{DrainageCache}
 use Rattle.drainage.specs.declared.tile_cache.TileCache.{TileCache}
-use Rattle.drainage.proofs.PastStill.{flows_left, flows_set}
+use Rattle.drainage.proofs.Caches.PastStill.{flows_left, flows_set}
 use Rattle.drainage.proofs.drainage_cache.DrainageCache.note_changed.Goals as goal
 
 -- the heights as they are passed on
@@ -45,7 +46,7 @@ pub returns-clause-left : goal.returns-clause-left
 returns-clause-left c =
     let h = c.args.height.now in
     let left = c.note_changed.new.self in
-    subst (λ (held : Option TileCache). are_noted h.point held (Some left)) (c.in-Some.ensures.value ∙ c.retain_spared_flows.ensures.tile_cache) (left, refl, c.note_changed.ensures.left)
+    subst (λ (held : Option TileCache). are_noted h held (Some left)) (c.in-Some.ensures.value ∙ c.retain_spared_flows.ensures.tile_cache) (left, refl, c.note_changed.ensures.left)
 
 pub returns-clause-right : goal.returns-clause-right
 returns-clause-right c m new valid differ was set pass right =

@@ -1,5 +1,5 @@
 use Rattle.std.proofs.Common.{sym, subst}
-use Rattle.drainage.specs.Between.{flow_cache_right}
+use Rattle.drainage.specs.FlowCaches.{flow_cache_right}
 use Rattle.drainage.proofs.drainage_cache.DrainageCache.take_flow_cache.Goals as goal
 
 pub returns-in-Some-clause-flows : goal.returns-in-Some-clause-flows

@@ -1,12 +1,11 @@
 use Rattle.std.proofs.Common.{refl, subst}
 use Rattle.std.specs.Prelude.{Option, Some}
-use Rattle.flow_d8.specs.declared.flow_cache.FlowCache.{FlowCache}
-use Rattle.flow_d8.specs.declared.past_flows.PastFlows.{PastFlows}
-use Rattle.drainage.specs.PastFlows.{IsPastTaken}
+use Rattle.drainage.specs.declared.flow_cache.FlowCache.{FlowCache}
+use Rattle.drainage.specs.FlowCaches.{IsPastTaken}
 use Rattle.drainage.proofs.drainage_cache.DrainageCache.take_past.Goals as goal
 
 pub returns-clause-taken : goal.returns-clause-taken
 returns-clause-taken c =
-    subst (λ (past : Option PastFlows). IsPastTaken c.args.self.now.flow_cache past (Some c.of_more_tiles.result)) c.take-past.ensures.value
+    subst (λ (past : Option FlowCache). IsPastTaken c.args.self.now.flow_cache past (Some c.of_more_tiles.result)) c.take-past.ensures.value
     (subst (λ (cache : Option FlowCache). IsPastTaken cache c.take-past.result (Some c.of_more_tiles.result)) c.in-Some.ensures.value
     (c.of_more_tiles.result, (refl, c.of_more_tiles.ensures.taken)))

@@ -6,7 +6,7 @@ use Rattle.lattice.specs.Lattice.{IsIndexOf, holds}
 use Rattle.lattice.specs.Lattice.{point_of}
 use Rattle.border_graph.specs.Others.{corner_at}
 use Rattle.tile_labellings.specs.TileLabellings.{IsSetFrom}
-use Rattle.drainage.proofs.Noted.{differ_at_index, set_at_index, labelling_elsewhere}
+use Rattle.drainage.proofs.Changes.Noted.{differ_at_index, set_at_index, labelling_elsewhere}
 use Rattle.drainage.proofs.labelling_cache.HeldLabelling.note_changed.Goals as goal
 
 pub returns-in-Some-index_held : goal.returns-in-Some-index_held

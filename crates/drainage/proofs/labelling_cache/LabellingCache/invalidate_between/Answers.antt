@@ -6,7 +6,7 @@ use Rattle.drainage.specs.Holding.{IsHeldAt}
 use Rattle.drainage.specs.Reaching.{is_reached}
 use Rattle.drainage.specs.Room.{HasSide, has_block}
 use Rattle.drainage.specs.declared.labelling_cache.HeldLabelling.{HeldLabelling}
-use Rattle.drainage.proofs.Caching.{count_filtered, left_unreached}
+use Rattle.drainage.proofs.Caches.Caching.{count_filtered, left_unreached}
 use Rattle.drainage.proofs.labelling_cache.LabellingCache.invalidate_between.Goals as goal
 
 pub invariant_of-self-clause-few : goal.invariant_of-self-clause-few

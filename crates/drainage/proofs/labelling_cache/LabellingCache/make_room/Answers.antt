@@ -5,7 +5,7 @@ use Rattle.std.proofs.lemmas.List.Sums.{sum_by-take-le}
 use Rattle.tile_labellings.specs.declared.tile_labelling.TileLabelling.TheVariants.{Kept}
 use Rattle.drainage.specs.Room.{HasSide, has_block}
 use Rattle.drainage.specs.declared.labelling_cache.HeldLabelling.{HeldLabelling}
-use Rattle.drainage.proofs.Caching.{all_among, entered_among}
+use Rattle.drainage.proofs.Caches.Caching.{all_among, entered_among}
 use Rattle.drainage.proofs.labelling_cache.LabellingCache.make_room.Goals as goal
 use Rattle.drainage.proofs.labelling_cache.LabellingCache.make_room.Goals.{After-give_up_block}
 

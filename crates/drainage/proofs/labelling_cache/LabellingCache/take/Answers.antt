@@ -4,7 +4,7 @@ use Rattle.std.proofs.lemmas.List.Sums.{sum_by-remove}
 use Rattle.drainage.specs.Holding.{IsEntered}
 use Rattle.drainage.specs.Room.{HasSide, has_block}
 use Rattle.drainage.specs.declared.labelling_cache.HeldLabelling.{HeldLabelling}
-use Rattle.drainage.proofs.Caching.{all_among, removed_among, entered_among}
+use Rattle.drainage.proofs.Caches.Caching.{all_among, removed_among, entered_among}
 use Rattle.drainage.proofs.labelling_cache.LabellingCache.take.Goals as goal
 
 pub invariant_of-self-clause-few_blocks : goal.invariant_of-self-clause-few_blocks

@@ -1,6 +1,6 @@
 use Rattle.std.proofs.lemmas.List.Elements.{All-contains_itself}
 use Rattle.drainage.specs.Room.{HasSide}
-use Rattle.drainage.proofs.Caching.{all_among}
+use Rattle.drainage.proofs.Caches.Caching.{all_among}
 use Rattle.drainage.proofs.labelling_cache.LabellingCache.use_again.Goals as goal
 
 pub invariant_of-self-clause-sides : goal.invariant_of-self-clause-sides

@@ -6,7 +6,7 @@ use Rattle.flow_d8.specs.Drainage.{AreFilledLevels}
 use Rattle.flow_d8.specs.LevelsAround.{OnLevels}
 use Rattle.flow_d8.specs.declared.flow.Flow.{Flow}
 use Rattle.watershed.specs.FlowSource.{IsToldOf}
-use Rattle.drainage.proofs.Told.{given_late}
+use Rattle.drainage.proofs.Questions.Told.{given_late}
 use Rattle.drainage.proofs.prepared_flows.PreparedFlowsFlowSource.flow.Goals as goal
 
 pub returns-clause-flow : goal.returns-clause-flow

@@ -1,5 +1,5 @@
 use Rattle.drainage.specs.Spared.{IsNoHigher}
-use Rattle.drainage.proofs.SparedLevels.{AreSpared}
+use Rattle.drainage.proofs.Changes.SparedLevels.{AreSpared}
 use Rattle.drainage.proofs.rims.RimLevels.invalidate_above.Given as goal
 
 abbrev pub invariant-loop-x : goal.invariant-loop-x

@@ -1,6 +1,6 @@
 use Rattle.std.proofs.Common.{◌≡◌, ◌+◌, ◌<◌, ◌≤◌, length, sym, ap, ◌∙◌, subst, rules}
 use Rattle.drainage.specs.Spared.{AreSparing}
-use Rattle.drainage.proofs.SparedLevels.{AreSpared, one_spared, one_given_up, all_seen}
+use Rattle.drainage.proofs.Changes.SparedLevels.{AreSpared, one_spared, one_given_up, all_seen}
 use Rattle.drainage.proofs.rims.RimLevels.invalidate_reached.Goals as goal
 use Rattle.drainage.proofs.rims.RimLevels.invalidate_reached.Goals.{then-may_change, else-may_change}
 
@@ -18,8 +18,11 @@ loop-x-preserved c =
           (one_spared spared was c.loop-x.x c.loop-x.self c.at.result (sym c.at.ensures) so (c.may_change.ensures.no w.if-may_change.false))
     ]
 
-pub returns : goal.returns
-returns c x level =
+pub returns-clause-whole : goal.returns-clause-whole
+returns-clause-whole c = c.loop-x.invariant.whole
+
+pub returns-clause-levels : goal.returns-clause-levels
+returns-clause-levels c x level =
     let was = c.args.self.now in
     let so = c.loop-x.invariant in
     let many : length c.self.inside.levels.items ≡ length was = ap length c.self.view_is in

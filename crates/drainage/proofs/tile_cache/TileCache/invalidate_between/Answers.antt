@@ -5,8 +5,8 @@ use Rattle.drainage.specs.Holding.{IsHeldAt}
 use Rattle.drainage.specs.Reaching.{is_reached}
 use Rattle.drainage.specs.Spared.{IsNoHigher}
 use Rattle.drainage.specs.TileCaches.{known_of}
-use Rattle.drainage.proofs.Growing.{known_by}
-use Rattle.drainage.proofs.Invalidated.{left_right}
+use Rattle.drainage.proofs.Caches.Growing.{known_by}
+use Rattle.drainage.proofs.Changes.Invalidated.{left_right}
 use Rattle.drainage.proofs.tile_cache.TileCache.invalidate_between.Goals as goal
 
 pub returns-clause-left : goal.returns-clause-left
@@ -20,7 +20,7 @@ returns-clause-left c =
       loaded = rim_graph.loaded;
       labellings = λ t labelled. subst (λ (cs : List Corner). IsHeldAt c.invalidate_between.new.self.held.items t labelled ↔ (IsHeldAt was.labellings.held.items t labelled × (is_reached was.rim_graph.side cs c.args.from c.args.to t ≡ false)))
           c.deref.ensures.value (c.invalidate_between.ensures.left t labelled);
-      levels = c.invalidate_above.ensures;
+      levels = c.invalidate_above.ensures.levels;
     }
 
 pub returns-clause-right : goal.returns-clause-right

@@ -11,10 +11,10 @@ use Rattle.tile_labellings.specs.declared.tile_labelling.TileLabelling.{TileLabe
 use Rattle.drainage.specs.Holding.{IsEntered, IsRight, IsGrown}
 use Rattle.drainage.specs.declared.labelling_cache.LabellingCache.{LabellingCache}
 use Rattle.drainage.specs.TileCaches.{known_of}
-use Rattle.drainage.proofs.Growing.{known_by, grown_by, grown_fewer}
-use Rattle.drainage.proofs.Questioned.{answered, passed_on, refused_by, stopped, wanting}
-use Rattle.drainage.proofs.Renewed.{entered_there, is_there}
-use Rattle.drainage.proofs.LoadingTiles.{some_there}
+use Rattle.drainage.proofs.Caches.Growing.{known_by, grown_by, grown_fewer}
+use Rattle.drainage.proofs.Questions.Questioned.{answered, passed_on, refused_by, stopped, wanting}
+use Rattle.drainage.proofs.Changes.Refreshed.{entered_there, is_there}
+use Rattle.drainage.proofs.Caches.LoadingTiles.{some_there}
 use Rattle.drainage.proofs.tile_cache.TileCache.load_tile.Goals as goal
 use Rattle.drainage.proofs.tile_cache.TileCache.load_tile.Goals.{After-learn}
 

@@ -3,9 +3,9 @@ use Rattle.lattice.specs.Corners.{Corner}
 use Rattle.std.proofs.lemmas.Result.{err_from_is_err_and}
 use Rattle.drainage.specs.Holding.{IsRefused}
 use Rattle.drainage.specs.TileCaches.{known_of}
-use Rattle.drainage.proofs.Growing.{agrees_before}
-use Rattle.drainage.proofs.Questioned.{own_refused}
-use Rattle.drainage.proofs.Numbered.{of_fits, no_ways, told_ways, told_of}
+use Rattle.drainage.proofs.Caches.Growing.{agrees_before}
+use Rattle.drainage.proofs.Questions.Questioned.{own_refused}
+use Rattle.drainage.proofs.RimPoints.Numbered.{of_fits, no_ways, told_ways, told_of}
 use Rattle.drainage.proofs.tile_cache.TileCacheEdgeSource.edges_from.Goals as goal
 
 pub returns-in_default-corner-clause-answer : goal.returns-in_default-corner-clause-answer

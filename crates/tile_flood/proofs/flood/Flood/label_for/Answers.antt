@@ -16,13 +16,13 @@ returns-then-has_beside c =
 pub returns : goal.returns
 returns c =
     let s = c.requires.state in
-    let front = c.args.front.point in (
-      front,
+    let popped = c.args.popped.point in (
+      popped,
       (
-        solid_below c.args.n c.args.heights.now front (s.state.ground front s.marked),
+        solid_below c.args.n c.args.heights.now popped (s.state.ground popped s.marked),
         (
-          beside_back c.args.n front c.args.e c.requires.beside,
-          (s.marked, (s.named, subst (λ l. l ≤ℤ c.args.level) (sym s.level) (max_second (slice_index_or c.args.heights.now c.args.e void) c.args.front.level c.args.level c.requires.level))),
+          beside_back c.args.n popped c.args.e c.requires.beside,
+          (s.marked, (s.named, subst (λ l. l ≤ℤ c.args.level) (sym s.level) (max_second (slice_index_or c.args.heights.now c.args.e void) c.args.popped.level c.args.level c.requires.level))),
         ),
       ),
     )

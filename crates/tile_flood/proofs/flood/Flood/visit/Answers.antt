@@ -15,16 +15,16 @@ returns-then-not-is_ground-clause-at_most c = at_most_same c.args.self.now.level
 pub returns-then-not-is_ground-clause-reached : goal.returns-then-not-is_ground-clause-reached
 returns-then-not-is_ground-clause-reached c solid = absurd (true≢false (sym solid ∙ (sym c.is_ground.ensures ∙ c.if-not-is_ground.true)))
 
-marked : (c : In_ok-mark) → IsReached c.args.n c.args.heights.now c.args.sinks.now c.args.self.now.levels.items c.mark.new.self.levels.items c.mark.new.self.labels.items c.mark.new.self.queue c.mark.new.self.suspects c.args.front.point c.args.front.level c.args.front.label c.args.e
+marked : (c : In_ok-mark) → IsReached c.args.n c.args.heights.now c.args.sinks.now c.args.self.now.levels.items c.mark.new.self.levels.items c.mark.new.self.labels.items c.mark.new.self.queue c.mark.new.self.suspects c.args.popped.point c.args.popped.level c.args.popped.label c.args.e
 marked c =
     let s = c.args.self.now in
     let fits_height : SFits w16 c.at.result = search rules in
-    let fits_low : SFits w16 c.args.front.level = search rules in
+    let fits_low : SFits w16 c.args.popped.level = search rules in
     let fits_new : SFits w16 c.higher-level.result = search rules in
     let a = c.in_ok-mark.ensures in
-    mark_on c.args.n c.args.heights.now c.args.sinks.now s.levels.items s.labels.items s.queue c.mark.new.self.queue s.suspects c.mark.new.self.suspects c.args.front.point c.args.front.level c.args.front.label c.args.e (to_z w16 (of_z w16 c.higher-level.result)) c.args.front.label
+    mark_on c.args.n c.args.heights.now c.args.sinks.now s.levels.items s.labels.items s.queue c.mark.new.self.queue s.suspects c.mark.new.self.suspects c.args.popped.point c.args.popped.level c.args.popped.label c.args.e (to_z w16 (of_z w16 c.higher-level.result)) c.args.popped.label
     c.requires.state (sym c.is_ground.ensures ∙ c.if-not-is_ground.false) c.requires.beside
-    (passed_max c.higher-level.result c.at.result c.args.front.level (slice_index_or c.args.heights.now c.args.e void) fits_new fits_height fits_low c.higher-level.ensures c.at.ensures)
+    (passed_max c.higher-level.result c.at.result c.args.popped.level (slice_index_or c.args.heights.now c.args.e void) fits_new fits_height fits_low c.higher-level.ensures c.at.ensures)
     a.joined.waits a.joined.others (λ l f w. subst (λ q. Waits q l f) (sym a.suspects) w) c.mark.new.self.levels.items c.mark.new.self.labels.items (ap not (sym c.is_unmarked.ensures ∙ c.if-is_unmarked.true)) refl a.levels a.labels
 
 pub returns-then-is_unmarked-clause-state : goal.returns-then-is_unmarked-clause-state
@@ -40,7 +40,7 @@ pub returns-then-is_unmarked-clause-listed : goal.returns-then-is_unmarked-claus
 returns-then-is_unmarked-clause-listed c =
     let s = c.args.self.now in
     let a = c.in_ok-mark.ensures in
-    marked_listed c.args.n c.args.heights.now s.levels.items c.mark.new.self.levels.items s.labels.items c.mark.new.self.labels.items c.args.affected.now.items c.args.e (to_z w16 (of_z w16 c.higher-level.result)) c.args.front.label
+    marked_listed c.args.n c.args.heights.now s.levels.items c.mark.new.self.levels.items s.labels.items c.mark.new.self.labels.items c.args.affected.now.items c.args.e (to_z w16 (of_z w16 c.higher-level.result)) c.args.popped.label
     (sym c.is_ground.ensures ∙ c.if-not-is_ground.false) (ap not (sym c.is_unmarked.ensures ∙ c.if-is_unmarked.true)) a.levels a.labels
 
 pub returns-then-level-at-clause-at_most : goal.returns-then-level-at-clause-at_most
@@ -51,10 +51,10 @@ returns-then-level-at-clause-reached c _ =
     let levels = c.args.self.now.levels.items in
     let e = c.args.e in
     let fits_height : SFits w16 c.at.result = search rules in
-    let fits_low : SFits w16 c.args.front.level = search rules in
+    let fits_low : SFits w16 c.args.popped.level = search rules in
     let fits_new : SFits w16 c.higher-level.result = search rules in
     let fits_at : SFits w16 c.at-2.result = search rules in
-    let new = passed_max c.higher-level.result c.at.result c.args.front.level (slice_index_or c.args.heights.now e void) fits_new fits_height fits_low c.higher-level.ensures c.at.ensures in
+    let new = passed_max c.higher-level.result c.at.result c.args.popped.level (slice_index_or c.args.heights.now e void) fits_new fits_height fits_low c.higher-level.ensures c.at.ensures in
     let old : to_z w16 (of_z w16 c.at-2.result) ≡ slice_index_or levels e void = to_z-of_z w16 c.at-2.result fits_at ∙ (c.at-2.ensures ∙ ap (λ ls. slice_index_or ls e void) c.deref.ensures.value) in (
       ap not (sym c.is_unmarked.ensures ∙ c.if-is_unmarked.false),
       subst (λ v. slice_index_or levels e void ≤ℤ v) new (subst (λ l. l ≤ℤ to_z w16 (of_z w16 c.higher-level.result)) old (le_true (to_z w16 (of_z w16 c.at-2.result)) (to_z w16 (of_z w16 c.higher-level.result)) c.if-level-at.true)),
@@ -66,9 +66,9 @@ lower-requires-clause-marked c = ap not (sym c.is_unmarked.ensures ∙ c.if-is_u
 pub lower-requires-clause-level : goal.lower-requires-clause-level
 lower-requires-clause-level c =
     let fits_height : SFits w16 c.at.result = search rules in
-    let fits_low : SFits w16 c.args.front.level = search rules in
+    let fits_low : SFits w16 c.args.popped.level = search rules in
     let fits_new : SFits w16 c.higher-level.result = search rules in
-    passed_max c.higher-level.result c.at.result c.args.front.level (slice_index_or c.args.heights.now c.args.e void) fits_new fits_height fits_low c.higher-level.ensures c.at.ensures
+    passed_max c.higher-level.result c.at.result c.args.popped.level (slice_index_or c.args.heights.now c.args.e void) fits_new fits_height fits_low c.higher-level.ensures c.at.ensures
 
 pub lower-requires-clause-lower : goal.lower-requires-clause-lower
 lower-requires-clause-lower c =

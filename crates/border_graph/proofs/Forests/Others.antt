@@ -1,0 +1,74 @@
+-- The edges to the same point of other tiles, corner by corner.
+use Rattle.std.proofs.Common.{◌≡◌, ◌≢◌, ℕ, ◌+◌, ◌*◌, ◌-◌, ◌^◌, ◌<◌, ◌≤◌, ◌⊎◌, inl, inr, ℤ, List, [], ◌∷◌, ◌++◌, length, get_or, refl, sym, ap, ◌∙◌, subst, arith, Contains}
+use Rattle.std.proofs.lemmas.Bool.{cases_lt}
+use Rattle.std.proofs.lemmas.List.{get_or_default}
+use Rattle.std.proofs.Math.Nat.{mul-le-mul_right}
+use Rattle.lattice.specs.declared.point.Point.{Point}
+use Rattle.lattice.specs.Corners.{Corner}
+use Rattle.lattice.specs.Lattice.{Holds, IsIndexOf}
+use Rattle.lattice.specs.Block.{rim_number}
+use Rattle.lattice.proofs.Samples.{index_unique, held_at}
+use Rattle.border_graph.specs.Joining.{Rim}
+use Rattle.border_graph.specs.Linking.{node_number}
+use Rattle.border_graph.specs.declared.edge_source.Edge.{Edge}
+use Rattle.border_graph.specs.Others.{corner_at, AreApart, AreTooMany, IsToOther, IsOtherListed, IsOtherTold, AreOthersTold}
+use Rattle.border_graph.proofs.Listing.{still_more, last_has, before_or_last}
+
+-- more numbers than there are
+pub too_many : (n : ℕ) (corners : List Corner) (u l : ℕ) → u < length corners → l < 4 * (n - 1) → 2 ^ 32 ≤ 1 + u * (4 * (n - 1)) + l → AreTooMany n corners
+too_many n corners u l small number past =
+    let row : (u + 1) * (4 * (n - 1)) ≤ length corners * (4 * (n - 1)) = mul-le-mul_right (4 * (n - 1)) (omega arith) in
+    within (u * (4 * (n - 1))) (4 * (n - 1)) (length corners * (4 * (n - 1))) l (subst (λ v. v ≤ length corners * (4 * (n - 1))) (one_more u (4 * (n - 1))) row) number past
+  where
+    one_more : (a b : ℕ) → (a + 1) * b ≡ a * b + b
+    one_more a b = omega arith
+
+    within : (a size whole l : ℕ) → a + size ≤ whole → l < size → 2 ^ 32 ≤ 1 + a + l → 2 ^ 32 ≤ 1 + whole
+    within a size whole l le less past = omega arith
+
+module _ (n : ℕ) (corners : List Corner) (t : ℕ) (p : Point) (height : ℤ) (c : Corner) where
+  pub one_told : (u e : ℕ) → u < length corners → corner_at corners u ≡ c → t ≢ u → IsIndexOf n c p e → (old new : List Edge) (way : Edge) → way.to ≡ node_number n (Rim u (rim_number n e)) → way.level ≡ height → new ≡ old ++ way ∷ [] → IsOtherTold n corners t p height c old new
+  one_told u e small at other index old new way to level is = record {
+    still = still_more old old new way is (λ x has. has);
+    only = λ x has. elim (before_or_last old new way x is has) [
+      | inl before ↦ inl before
+      | inr last ↦ inr (record { tile = u; small = small; apart = other; index = e; at = subst (λ d. IsIndexOf n d p e) (sym at) index; to = ap (λ (w : Edge). w.to) last ∙ to; level = ap (λ (w : Edge). w.level) last ∙ level })
+    ];
+    listed = λ apart v f v_small v_at v_other v_index.
+        let tile : u ≡ v = apart u v small v_small (at ∙ sym v_at) in
+        let place : e ≡ f = index_unique n c p e f index v_index in
+        subst (λ (w : Edge). Contains new w) (ends way (node_number n (Rim v (rim_number n f))) (to ∙ (ap (λ x. node_number n (Rim x (rim_number n e))) tile ∙ ap (λ x. node_number n (Rim v (rim_number n x))) place)) level) (last_has old new way is);
+  }
+    where
+      ends : (w : Edge) (x : ℕ) → w.to ≡ x → w.level ≡ height → w ≡ record { level = height; to = x }
+      ends w x at_x at_height = subst (λ l. w ≡ record { level = l; to = x }) at_height (subst (λ y. w ≡ record { level = w.level; to = y }) at_x refl)
+
+module _ (n : ℕ) (corners : List Corner) (t : ℕ) (p : Point) (height : ℤ) where
+  -- the first corners of a list
+  pub record AreToldOf (holding : List Corner) (count : ℕ) (old new : List Edge) : Type 0 where
+    pub still : (way : Edge) → Contains old way → Contains new way
+    pub only : (way : Edge) → Contains new way → Contains old way ⊎ IsToOther n corners t p height way
+    pub listed : AreApart corners → (j : ℕ) (d : Corner) → j < count → IsOtherListed n corners t p height (get_or holding j d) new
+
+  pub one_more_told : (holding : List Corner) (i : ℕ) (item : Corner) (old mid new : List Edge) → i < length holding → item ≡ get_or holding i item → AreToldOf holding i old mid → IsOtherTold n corners t p height item mid new → AreToldOf holding (i + 1) old new
+  one_more_told holding i item old mid new small is was now = record {
+    still = λ way has. now.still way (was.still way has);
+    only = λ way has. elim (now.only way has) [ inr more ↦ inr more | inl before ↦ was.only way before ];
+    listed = λ apart j d below. elim (cases_lt j i) [
+      | inl earlier ↦ λ u e u_small at other index. now.still (record { level = height; to = node_number n (Rim u (rim_number n e)) }) (was.listed apart j d earlier u e u_small at other index)
+      | inr later ↦
+          let same : i ≡ j = omega arith in
+          let this : item ≡ get_or holding j d = is ∙ (get_or_default holding i item d small ∙ ap (λ k. get_or holding k d) same) in
+          subst (λ (c : Corner). IsOtherListed n corners t p height c new) this (now.listed apart)
+    ];
+  }
+
+  pub all_told : (holding : List Corner) (count : ℕ) (old new : List Edge) → length holding ≤ count → ((c : Corner) → Holds n c p → Contains holding c) → AreToldOf holding count old new → AreOthersTold n corners t p height old new
+  all_told holding count old new all exactly told = record {
+    still = told.still;
+    only = told.only;
+    listed = λ apart c u e small at other index.
+        let found = exactly c (held_at n c p e index) in
+        let inside : found.0 < length holding = found.1 in
+        subst (λ (d : Corner). IsOtherListed n corners t p height d new) found.2 (told.listed apart found.0 c (omega arith)) u e small at other index;
+  }

@@ -1,0 +1,276 @@
+-- Where points drain, as one height changes: what is left is so.
+use Rattle.std.proofs.Common.{◌≡◌, inl, inr, ℕ, ◌+◌, ◌*◌, ◌/◌, ◌%◌, ◌<◌, ◌≤◌, ℤ, true, ◌&&◌, ◌||◌, not, IsTrue, Option, Some, None, List, length, get_or, refl, sym, ap, ◌∙◌, subst, arith}
+use Rattle.std.specs.Prelude.{int_lt, if◌then◌else◌}
+use Rattle.std.specs.Ordering.{int_eq}
+use Rattle.std.proofs.lemmas.Bool.{cases_Bool, or_cases, and_parts, false≢true}
+use Rattle.std.proofs.lemmas.Bool.Decides.{Decides-int_eq}
+use Rattle.std.proofs.lemmas.Int.{ints}
+use Rattle.lattice.specs.Corners.{Corner}
+use Rattle.lattice.specs.declared.direction.Dir.{Dir}
+use Rattle.lattice.specs.declared.height.Height.TheVariants.{At}
+use Rattle.lattice.specs.declared.point.Point.{Point}
+use Rattle.lattice.specs.Ground.{is_height, is_ground, is_adjacent, terrain}
+use Rattle.lattice.specs.Height.{height_of}
+use Rattle.lattice.specs.Lattice.{point_of}
+use Rattle.lattice.specs.Mosaic.{Mosaic, IsMosaic, void}
+use Rattle.lattice.specs.Steps.{step}
+use Rattle.lattice.proofs.IntTests.{lt_true}
+use Rattle.lattice.proofs.SamePoints.{same_place}
+use Rattle.lattice.proofs.Samples.{row_below}
+use Rattle.flow_d8.specs.Drainage.{AreFilledLevels}
+use Rattle.drainage.specs.FlowCaches.{flow_cache_right, past_right, AreSlotsOf, IsPastOf, AreSlotsSpared, IsPastTaken, are_spared}
+use Rattle.flow_d8.specs.Flows.{IsFlow}
+use Rattle.drainage.specs.LevelRanges.{block_of, range_at, HasEnds, HasLevel, IsIn, is_range_spared, spared_of, AreKnownAround, AreRangesOf, AreSpared}
+use Rattle.flow_d8.specs.Padded.{padded_point}
+use Rattle.drainage.specs.Slots.{slot_ranges}
+use Rattle.flow_d8.specs.Tiles.{no_corner, count_of, place_of}
+use Rattle.flow_d8.specs.declared.flow.Flow.{Flow}
+use Rattle.flow_d8.specs.declared.flow.Flow.TheVariants.{Unknown}
+use Rattle.drainage.specs.declared.flow_cache.FlowCache.{FlowCache}
+use Rattle.flow_d8.specs.declared.grid.FlowGrid.{FlowGrid}
+use Rattle.drainage.specs.declared.level_range.LevelRange.{LevelRange}
+use Rattle.drainage.proofs.Caches.FlowCaches.{past_of_cache}
+use Rattle.drainage.proofs.Changes.LevelRanges.{ends_as}
+use Rattle.flow_d8.proofs.Mosaics.FullTerrain.{mosaic_is_full}
+use Rattle.flow_d8.proofs.Samples.Numbers.{tile_below}
+use Rattle.flow_d8.proofs.Samples.TilePlaces.{square_some}
+use Rattle.flow_d8.proofs.Padded.PaddedPlaces.{row_by, column_by, point_is, row_near, column_near}
+use Rattle.drainage.specs.Between.{IsHeldOf, AreFlowsLeft}
+use Rattle.drainage.specs.Reaching.{DifferAt}
+use Rattle.drainage.specs.Spared.{LiesApart, IsSetTo}
+use Rattle.drainage.specs.declared.drainage_cache.DrainageCache.{DrainageCache}
+use Rattle.drainage.proofs.Questions.LevelFunctions.{level_function}
+use Rattle.drainage.proofs.Changes.OutsideRange.{ground, stays, flow_stays}
+use Rattle.drainage.proofs.Changes.SparedLevels.{spared_twice}
+
+none_some : (r : LevelRange) → ◌≡◌ {A = Option LevelRange} None (Some r) → ⊥
+none_some r e = cc
+
+-- ---- ranges that are spared
+spared_apart : (was is : ℤ) (r : LevelRange) (v : ℤ) → is_range_spared was is r ≡ true → IsIn (Some r) v → LiesApart was is v
+spared_apart was is r v spared at =
+    let sides = (and_parts (not (int_eq is void)) ((int_lt r.greatest was && int_lt r.greatest is) || (int_lt was r.least && int_lt is r.least)) spared).1 in
+    let low = at.0 in
+    let high = at.1 in
+    elim (or_cases (int_lt r.greatest was && int_lt r.greatest is) (int_lt was r.least && int_lt is r.least) sides) [
+      | inl below ↦
+          let both = and_parts (int_lt r.greatest was) (int_lt r.greatest is) below in
+          let a = lt_true r.greatest was both.0 in
+          let b = lt_true r.greatest is both.1 in
+          inl (omega (arith, ints), omega (arith, ints))
+      | inr above ↦
+          let both = and_parts (int_lt was r.least) (int_lt is r.least) above in
+          let a = lt_true was r.least both.0 in
+          let b = lt_true is r.least both.1 in
+          inr (omega (arith, ints), omega (arith, ints))
+    ]
+
+-- what is known still is spared
+known_apart : (was is : ℤ) (o : Option LevelRange) (v : ℤ) → (spared_of was is o ≡ None → ⊥) → IsIn o v → LiesApart was is v
+known_apart was is None v known at = absurd (known refl)
+known_apart was is (Some r) v known at = elim (cases_Bool (is_range_spared was is r)) [
+  | inl spared ↦ spared_apart was is r v spared at
+  | inr other ↦ absurd (known (ap (λ b. if b then Some r else None) other))
+]
+
+-- .. and so are the levels in it
+in_still : (was is : ℤ) (o : Option LevelRange) (v w : ℤ) → (LiesApart was is v → w ≡ v) → IsIn o v → IsIn (spared_of was is o) w
+in_still was is None v w still at = tt
+in_still was is (Some r) v w still at = elim (cases_Bool (is_range_spared was is r)) [
+  | inl spared ↦ subst (λ b. IsIn (if b then Some r else None) w) (sym spared) (subst (IsIn (Some r)) (sym (still (spared_apart was is r v spared at))) at)
+  | inr other ↦ subst (λ b. IsIn (if b then Some r else None) w) (sym other) tt
+]
+
+-- the range that is known still was known, and is spared
+left_range : (was is : ℤ) (o : Option LevelRange) (r : LevelRange) → spared_of was is o ≡ Some r → (o ≡ Some r) × (is_range_spared was is r ≡ true)
+left_range was is None r at = absurd (none_some r at)
+left_range was is (Some q) r at = elim (cases_Bool (is_range_spared was is q)) [
+  | inl spared ↦
+      let same : q ≡ r = some_same q r (sym (ap (λ b. if b then Some q else None) spared) ∙ at) in
+      (ap Some same, subst (λ x. is_range_spared was is x ≡ true) same spared)
+  | inr other ↦ absurd (none_some r (sym (ap (λ b. if b then Some q else None) other) ∙ at))
+]
+  where
+    some_same : (a b : LevelRange) → ◌≡◌ {A = Option LevelRange} (Some a) (Some b) → a ≡ b
+    some_same a b e = cc
+
+-- a sample's point is that of its place
+sample_point : (n : ℕ) (c : Corner) (e : ℕ) → 1 ≤ n → padded_point n c (e / n + 2) (e % n + 2) ≡ point_of n c e
+sample_point n c e some = same_place (padded_point n c (e / n + 2) (e % n + 2)) (point_of n c e) (omega (arith, ints)) (omega (arith, ints))
+
+module _ (m new : Mosaic) (p : Point) (valid : IsMosaic m) (differ : DifferAt m new p) (was is : ℤ) (before : height_of m p ≡ At was) (after : height_of new p ≡ At is) (from to : ℤ)
+    (closer : (v : ℤ) → LiesApart from to v → LiesApart was is v) where
+  abbrev level : Point → ℤ
+  level = (level_function m valid).0
+
+  filled : AreFilledLevels (terrain m) level
+  filled = (level_function m valid).1
+
+  module _ (level' : Point → ℤ) (filled' : AreFilledLevels (terrain new) level') where
+    ground_back : (q : Point) → IsTrue (is_ground new q) → IsTrue (is_ground m q)
+    ground_back q on = sym (ground m new p differ was is before after level level' filled filled' q) ∙ on
+
+    -- levels that were in the ranges are in those that are left
+    ranges_stay : (n : ℕ) (c : Corner) (old left : List (Option LevelRange)) → AreSpared from to old left → AreRangesOf n m c old → (i j : ℕ) → i < n + 4 → j < n + 4 → IsTrue (is_ground new (padded_point n c i j))
+        → IsIn (range_at left (block_of i j)) (level' (padded_point n c i j))
+    ranges_stay n c old left spared ranges i j row column on =
+        let q = padded_point n c i j in
+        let on_m = ground_back q on in
+        subst (λ o. IsIn o (level' q)) (sym (spared.each (block_of i j)))
+        (in_still from to (range_at old (block_of i j)) (level q) (level' q) (λ apart. stays m new p differ was is before after level level' filled filled' q on_m (closer (level q) apart)) (ranges.within level filled i j row column on_m))
+
+    -- .. and so are their ends
+    ends_stay : (n : ℕ) (c : Corner) (old left : List (Option LevelRange)) → AreSpared from to old left → AreRangesOf n m c old → (b : ℕ) (r : LevelRange) → range_at left b ≡ Some r → HasEnds r (HasLevel n new c level' b)
+    ends_stay n c old left spared ranges b r known =
+        let was_known = left_range from to (range_at old b) r (sym (spared.each b) ∙ known) in
+        ends_as r (HasLevel n m c level b) (HasLevel n new c level' b)
+        (λ v (i, j, row, column, block, on, at).
+        let q = padded_point n c i j in
+        let within : IsIn (Some r) (level q) = subst (λ o. IsIn o (level q)) (ap (range_at old) block ∙ was_known.0) (ranges.within level filled i j row column on) in (
+          i,
+          j,
+          row,
+          column,
+          block,
+          ground m new p differ was is before after level level' filled filled' q ∙ on,
+          stays m new p differ was is before after level level' filled filled' q on (closer (level q) (spared_apart from to r (level q) was_known.1 within)) ∙ at,
+        ))
+        (ranges.ends level filled b r was_known.0)
+
+    -- what was known of a sample is so
+    module _ (n : ℕ) (side : 3 ≤ n) (c : Corner) (old left : List (Option LevelRange)) (spared : AreSpared from to old left) (ranges : AreRangesOf n m c old) (e : ℕ) (inside : e < n * n) (known : AreKnownAround left n e) where
+      apart_at : (i j : ℕ) → e / n + 1 ≤ i → i ≤ e / n + 3 → e % n + 1 ≤ j → j ≤ e % n + 3 → IsTrue (is_ground m (padded_point n c i j)) → LiesApart was is (level (padded_point n c i j))
+      apart_at i j up down left_of right on =
+          let some : 0 < n = omega (arith, side) in
+          let row : e / n < n = row_below n e some inside in
+          let column : e % n < n = omega (arith, some) in
+          closer (level (padded_point n c i j)) (known_apart from to (range_at old (block_of i j)) (level (padded_point n c i j)) (λ none. known i j up down left_of right (spared.each (block_of i j) ∙ none))
+          (ranges.within level filled i j (omega (arith, row, down)) (omega (arith, column, right)) on))
+
+      here : IsTrue (is_ground m (point_of n c e)) → LiesApart was is (level (point_of n c e))
+      here = subst (λ q. IsTrue (is_ground m q) → LiesApart was is (level q)) (sample_point n c e (omega (arith, side)))
+          (apart_at (e / n + 2) (e % n + 2) (omega arith) (omega arith) (omega arith) (omega arith))
+
+      around : (r : Point) → IsTrue (is_adjacent m (point_of n c e) r) → LiesApart was is (level r)
+      around r near =
+          let way = (mosaic_is_full m valid).stepped.steps (point_of n c e) r near in
+          let d : Dir = way.0 in
+          let i = e / n + 2 in
+          let j = e % n + 2 in
+          let rows = row_near i d in
+          let columns = column_near j d in
+          let at : padded_point n c (row_by i d) (column_by j d) ≡ r = point_is n c i j (omega arith) (omega arith) d ∙ (ap (step d) (sample_point n c e (omega (arith, side))) ∙ sym way.1) in
+          subst (λ q. IsTrue (is_ground m q) → LiesApart was is (level q)) at
+          (apart_at (row_by i d) (column_by j d) (omega (arith, rows.0)) (omega (arith, rows.1)) (omega (arith, columns.0)) (omega (arith, columns.1)))
+          ((mosaic_is_full m valid).stepped.lawful.to_ground (point_of n c e) r near)
+
+      sample_stays : (f : Flow) → IsFlow (terrain m) level (point_of n c e) f → IsFlow (terrain new) level' (point_of n c e) f
+      sample_stays = flow_stays m new p differ was is before after level level' filled filled' (point_of n c e) here around
+
+  pub past_still : (past left : FlowCache) → left.grid ≡ past.grid → AreSlotsSpared from to past.slots.items left.slots.items → IsPastOf m past → IsPastOf new left
+  unfolding place_of
+  past_still past left same spared right =
+      let tiles = past.grid.tiles in
+      let n = tiles.side in
+      let area = n * n in
+      let side : 3 ≤ n = subst (λ k. 3 ≤ k) (sym right.same_side) valid.side_low in
+      let some : 0 < area = square_some n side in
+      record {
+        same_side = ap (λ (g : FlowGrid). g.tiles.side) same ∙ (right.same_side ∙ sym differ.around.same_side);
+        slots = subst (λ (g : FlowGrid). AreSlotsOf new g.tiles left.slots.items) (sym same)
+            (λ i small. let ranges = right.slots i small in record {
+              within = λ level' filled'. ranges_stay level' filled' n (get_or tiles.corners i no_corner) (slot_ranges past.slots.items i) (slot_ranges left.slots.items i) (spared.each i) ranges;
+              ends = λ level' filled'. ends_stay level' filled' n (get_or tiles.corners i no_corner) (slot_ranges past.slots.items i) (slot_ranges left.slots.items i) (spared.each i) ranges;
+            });
+        flows = λ level' filled'.
+            subst (λ (g : FlowGrid). (k : ℕ) → k < count_of g.tiles → AreKnownAround (slot_ranges left.slots.items (k / (g.tiles.side * g.tiles.side))) g.tiles.side (k % (g.tiles.side * g.tiles.side))
+            → IsFlow (terrain new) level' (place_of g.tiles k) (get_or g.flows.items k Unknown)) (sym same)
+            (λ k small known.
+            let i = k / area in
+            let e = k % area in
+            let tile : i < length tiles.corners = tile_below area (length tiles.corners) k some small in
+            let inside : e < area = omega (arith, some) in
+            sample_stays level' filled' n side (get_or tiles.corners i no_corner) (slot_ranges past.slots.items i) (slot_ranges left.slots.items i) (spared.each i) (right.slots i tile) e inside known (get_or past.grid.flows.items k Unknown)
+            (right.flows level filled k small (λ h j up down left_of right_of none. known h j up down left_of right_of ((spared.each i).each (block_of h j) ∙ ap (spared_of from to) none))));
+      }
+
+-- ---- what is taken and left
+
+module _ (m : Mosaic) (was is : ℤ) (past left : FlowCache) (same : left.grid ≡ past.grid) (spared : AreSlotsSpared was is past.slots.items left.slots.items) where
+  -- less is known, but nothing else
+  pub past_fewer : IsPastOf m past → IsPastOf m left
+  past_fewer right = record {
+    same_side = ap (λ (g : FlowGrid). g.tiles.side) same ∙ right.same_side;
+    slots = subst (λ (g : FlowGrid). AreSlotsOf m g.tiles left.slots.items) (sym same)
+        (λ i small. record {
+          within = λ level filled h j row column on.
+              let q = padded_point past.grid.tiles.side (get_or past.grid.tiles.corners i no_corner) h j in
+              subst (λ o. IsIn o (level q)) (sym ((spared.each i).each (block_of h j))) (in_still was is (range_at (slot_ranges past.slots.items i) (block_of h j)) (level q) (level q) (λ _. refl) ((right.slots i small).within level filled h j row column on));
+          ends = λ level filled b r known. (right.slots i small).ends level filled b r (left_range was is (range_at (slot_ranges past.slots.items i) b) r (sym ((spared.each i).each b) ∙ known)).0;
+        });
+    flows = λ level filled.
+        subst (λ (g : FlowGrid). (k : ℕ) → k < count_of g.tiles → AreKnownAround (slot_ranges left.slots.items (k / (g.tiles.side * g.tiles.side))) g.tiles.side (k % (g.tiles.side * g.tiles.side))
+        → IsFlow (terrain m) level (place_of g.tiles k) (get_or g.flows.items k Unknown)) (sym same)
+        (λ k small known. right.flows level filled k small (was_known k known));
+  }
+    where
+      was_known : (k : ℕ) → AreKnownAround (slot_ranges left.slots.items (k / (past.grid.tiles.side * past.grid.tiles.side))) past.grid.tiles.side (k % (past.grid.tiles.side * past.grid.tiles.side))
+          → AreKnownAround (slot_ranges past.slots.items (k / (past.grid.tiles.side * past.grid.tiles.side))) past.grid.tiles.side (k % (past.grid.tiles.side * past.grid.tiles.side))
+      was_known k known h j up down left_of right_of none =
+          known h j up down left_of right_of ((spared.each (k / (past.grid.tiles.side * past.grid.tiles.side))).each (block_of h j) ∙ ap (spared_of was is) none)
+
+-- as a point loses its height nothing is known any more
+none_spared : (was : ℤ) (o : Option LevelRange) → spared_of was void o ≡ None
+none_spared was None = refl
+none_spared was (Some r) = refl
+
+past_gone : (new : Mosaic) (was : ℤ) (past left : FlowCache) → left.grid ≡ past.grid → AreSlotsSpared was void past.slots.items left.slots.items → past.grid.tiles.side ≡ new.side → IsPastOf new left
+past_gone new was past left same spared side = record {
+  same_side = ap (λ (g : FlowGrid). g.tiles.side) same ∙ side;
+  slots = λ i small. record {
+    within = λ level filled h j row column on. subst (λ o. IsIn o (level (padded_point left.grid.tiles.side (get_or left.grid.tiles.corners i no_corner) h j))) (sym (gone i (block_of h j))) tt;
+    ends = λ level filled b r known. absurd (none_some r (sym (gone i b) ∙ known));
+  };
+  flows = λ level filled k small known.
+      let n = left.grid.tiles.side in
+      let e = k % (n * n) in
+      absurd (known (e / n + 2) (e % n + 2) (omega arith) (omega arith) (omega arith) (omega arith) (gone (k / (n * n)) (block_of (e / n + 2) (e % n + 2))));
+}
+  where
+    gone : (i b : ℕ) → range_at (slot_ranges left.slots.items i) b ≡ None
+    gone i b = (spared.each i).each b ∙ none_spared was (range_at (slot_ranges past.slots.items i) b)
+
+module _ (m new : Mosaic) (p : Point) (valid : IsMosaic m) (differ : DifferAt m new p) (was is : ℤ) (before : height_of m p ≡ At was) (set : IsSetTo m new p is) (past left : FlowCache) (same : left.grid ≡ past.grid)
+    (spared : AreSlotsSpared was is past.slots.items left.slots.items) where
+  pub past_set : IsPastOf m past → IsPastOf new left
+  past_set right = elim (cases_Bool (int_eq is void)) [
+    | inl none ↦ past_gone new was past left same (subst (λ v. AreSlotsSpared was v past.slots.items left.slots.items) ((Decides-int_eq is void).0 none) spared) (right.same_side ∙ sym differ.around.same_side)
+    | inr some ↦ elim set [
+      | inl unmoved ↦ past_still m new p valid differ was was before (unmoved ∙ before) was is (spared_twice m new p differ was is) past left same spared right
+      | inr to ↦ past_still m new p valid differ was is before (to (λ void_is. false≢true (sym some ∙ (Decides-int_eq is void).1 void_is)) (ap is_height before)) was is (λ v apart. apart) past left same spared right
+    ]
+  ]
+
+-- what is taken, of what was held
+pub taken_right : (m : Mosaic) (cache : Option FlowCache) (past taken : Option FlowCache) → IsPastTaken cache past taken → flow_cache_right m cache → past_right m past → past_right m taken
+taken_right m None past taken is right_cache right = subst (past_right m) (sym is) right
+taken_right m (Some cache) past taken is right_cache right = subst (past_right m) (sym is.1.0) (elim is.1.1.from [
+  | inl same ↦ subst (past_right m) same right
+  | inr of ↦ subst (IsPastOf m) (sym of) (past_of_cache m cache right_cache)
+])
+
+module _ (m : Mosaic) (was is : ℤ) where
+  fewer : (past left : Option FlowCache) → are_spared was is past left → past_right m past → past_right m left
+  fewer None left spared right = subst (past_right m) (sym spared) tt
+  fewer (Some past) left spared right = subst (past_right m) (sym spared.1.0) (past_fewer m was is past spared.0 spared.1.1.0 spared.1.1.1 right)
+
+  pub flows_left : (held left : DrainageCache) → AreFlowsLeft was is held left → IsHeldOf m held → past_right m left.past_flows
+  flows_left held left are right = fewer are.0 left.past_flows are.1.1 (taken_right m held.flow_cache held.past_flows are.0 are.1.0 right.flow_cache right.past_flows)
+
+module _ (m new : Mosaic) (p : Point) (valid : IsMosaic m) (differ : DifferAt m new p) (was is : ℤ) (before : height_of m p ≡ At was) (set : IsSetTo m new p is) where
+  set_right : (past left : Option FlowCache) → are_spared was is past left → past_right m past → past_right new left
+  set_right None left spared right = subst (past_right new) (sym spared) tt
+  set_right (Some past) left spared right = subst (past_right new) (sym spared.1.0) (past_set m new p valid differ was is before set past spared.0 spared.1.1.0 spared.1.1.1 right)
+
+  pub flows_set : (held left : DrainageCache) → AreFlowsLeft was is held left → IsHeldOf m held → past_right new left.past_flows
+  flows_set held left are right = set_right are.0 left.past_flows are.1.1 (taken_right m held.flow_cache held.past_flows are.0 are.1.0 right.flow_cache right.past_flows)

@@ -1,0 +1,4 @@
+pub mod Followed
+pub mod Around
+pub mod Over
+pub mod Found

@@ -1,0 +1,72 @@
+-- The levels at a point and around it, as what is held of one tile tells them.
+use Rattle.std.proofs.Common.{◌≡◌, ◌≢◌, ℕ, ◌+◌, ◌*◌, ◌-◌, ◌<◌, ℤ, pos, Option, Some, None, IsTrue, List, length, get_or, slice_index, slice_index_or, refl, sym, subst}
+use Rattle.std.specs.Prelude.{Contains}
+use Rattle.std.specs.Int.{int_max}
+use Rattle.std.proofs.lemmas.List.{get_or_default}
+use Rattle.lattice.specs.declared.point.Point.{Point}
+use Rattle.lattice.specs.declared.direction.Dir.{Dir}
+use Rattle.lattice.specs.Corners.{Corner}
+use Rattle.lattice.specs.Ground.{share_tile, terrain}
+use Rattle.lattice.specs.Lattice.{Holds, IsIndexOf}
+use Rattle.lattice.specs.Mosaic.{Mosaic, IsMosaic, void}
+use Rattle.lattice.specs.Steps.{step, order_of}
+use Rattle.lattice.proofs.Levels.{level_is_unique}
+use Rattle.catalogue.specs.Tiles.{corners_of}
+use Rattle.catalogue.proofs.Sharing.{shared_from}
+use Rattle.flow_d8.specs.LevelsAround.{IsNear}
+use Rattle.flow_d8.proofs.Steps.Nearby.{all_around, level_ground, told}
+use Rattle.tile_labellings.specs.Labellings.{IsFlooded}
+use Rattle.border_graph.specs.Others.{corner_at}
+use Rattle.tile_flood.specs.Blocks.{LabelledGround}
+use Rattle.tile_flood.specs.Labelling.{OUT, NO_LABEL}
+use Rattle.drainage.specs.Holding.{Known, IsRimLevel, IsRight, level_of}
+use Rattle.drainage.specs.Nearby.{IsToldOf}
+use Rattle.drainage.proofs.Questions.Filled.{level_inside, level_over}
+use Rattle.drainage.proofs.Flows.Found.{start_is}
+
+-- a point by its index in a tile whose labelling is held, with its level and its label there
+module _ (known : Known) (p : Point) (t e : ℕ) (c : Corner) (small : t < length known.corners) (place : corner_at known.corners t ≡ c) (index : IsIndexOf known.side c p e)
+    (labelled : LabelledGround) (held : (m : Mosaic) → IsRight m known → IsFlooded m c labelled) (level : ℤ) (label : ℕ) (level_is : level ≡ slice_index_or labelled.levels e void) (label_is : label ≡ slice_index labelled.labels e) where
+  index_here : IsIndexOf known.side (corner_at known.corners t) p e
+  index_here = subst (λ (d : Corner). IsIndexOf known.side d p e) (sym place) index
+
+  holds : Holds known.side (corner_at known.corners t) p
+  holds = record { corner = index_here.corner; sample = (index_here.sample.0, index_here.sample.1, index_here.sample.2.0) }
+
+  at : corner_at known.corners t ≡ get_or known.corners t (corner_at known.corners t)
+  at = sym (get_or_default known.corners t (corner_at known.corners t) (record { lat = pos 0; lon = pos 0 }) small)
+
+  flooded : (m : Mosaic) → IsRight m known → IsFlooded m (corner_at known.corners t) labelled
+  flooded m right = subst (λ (d : Corner). IsFlooded m d labelled) (sym place) (held m right)
+
+  -- its label is OUT
+  pub told_out : label ≢ NO_LABEL → label ≡ OUT → IsToldOf known t p (Some level)
+  told_out ground out = record {
+    held = holds;
+    level = λ m is right. level_inside m is p known right known.corners refl t e (small, index_here) (corner_at known.corners t) at level label (labelled, (flooded m right, (level_is, label_is))) ground out;
+  }
+
+  -- or names a rim point whose level is known
+  pub told_over : label ≢ NO_LABEL → label ≢ OUT → (start : ℕ) (v : ℤ) → start ≡ 1 + t * (4 * (known.side - 1)) + label → level_of known.levels start ≡ Some v → IsToldOf known t p (Some (int_max level v))
+  told_over ground named start v node known_there = record {
+    held = holds;
+    level = λ m is right. level_over m is p known right known.corners refl t e (small, index_here) (corner_at known.corners t) at level label (labelled, (flooded m right, (level_is, label_is))) ground named v
+        (subst (λ x. IsRimLevel m known.corners x v) (start_is m known t label start right node) (right.levels start v known_there));
+  }
+
+-- such levels of a point and of those in all directions from it are those at it and around it
+pub near_is : (m : Mosaic) → IsMosaic m → (known : Known) → IsRight m known → (t : ℕ) → t < length known.corners → (p : Point) (height : ℤ) (around : List (Option ℤ)) → length around ≡ 8
+    → IsToldOf known t p (Some height) → ((d : Dir) → IsToldOf known t (step d p) (get_or around (order_of d) None)) → IsNear m p (record { height = height; around = around })
+near_is m is known right t small p height around eight here each =
+    let c = corner_at known.corners t in
+    let filled_here = here.level m is right in
+    let solid = level_ground m p height filled_here in
+    let there : Contains (corners_of m) c = subst (λ (cs : List Corner). Contains cs c) right.ready.all
+    (t, small, get_or_default known.corners t c (record { lat = pos 0; lon = pos 0 }) small) in
+    let holds_here : Holds m.side c p = subst (λ n. Holds n c p) right.ready.same_side here.held in
+    let share : (d : Dir) → IsTrue (share_tile m p (step d p)) = λ d. shared_from m p (step d p) c is there holds_here (subst (λ n. Holds n c (step d p)) right.ready.same_side (each d).held) in
+    record {
+      solid = solid;
+      here = λ level filled. level_is_unique (terrain m) p (level p) height (filled p solid) filled_here;
+      around_it = λ level filled. all_around (terrain m) level p around eight (λ d. told m level p is d filled solid (share d) (get_or around (order_of d) None) ((each d).level m is right));
+    }

@@ -1,0 +1,23 @@
+-- What is held as samples are read, and how a question over levels that are held ends.
+use Rattle.std.proofs.Common.{Result, Ok, Err, sym, subst}
+use Rattle.std.specs.Prelude.{IfErr, OnOk}
+use Rattle.lattice.specs.Mosaic.{Mosaic}
+use Rattle.lattice.specs.declared.refusal.Refusal.{Refusal}
+use Rattle.catalogue.specs.Asked.{Asked}
+use Rattle.catalogue.specs.Readers.{OnlyReads}
+use Rattle.catalogue.specs.declared.samples.Samples.{Ghosts}
+use Rattle.catalogue.proofs.Asking.{asked_passed}
+use Rattle.drainage.specs.declared.drainage_cache.DrainageCache.{DrainageCache}
+use Rattle.drainage.specs.Between.{IsHeldOf, IsHeldFor}
+use Rattle.drainage.specs.Following.{AreRead, IsStopped}
+use Rattle.drainage.proofs.Questions.Questioned.{answered}
+
+module _ {S : Type 0} (g : Ghosts S) (a b : S) where
+  -- what was right for the samples is so after reads of them, whether those were answered or refused
+  pub held_still : {T : Type 0} (result : Result T Refusal) (held : DrainageCache) → OnlyReads g a b result → IsHeldFor g a held → IsHeldFor g b held
+  held_still result held reads right honest = subst (λ (m : Mosaic). IsHeldOf m held) (sym (reads.mosaic honest)) (right (reads.honest honest))
+
+  -- how the calls over levels went tells how the question did
+  pub asked_by : {T : Type 0} (result : Result T Refusal) → OnOk result (AreRead g a b) → IfErr result (IsStopped g a b) → Asked g a b result
+  asked_by (Ok x) reads stopped = answered g a b x reads
+  asked_by (Err r) reads stopped = asked_passed g a b r stopped.asked

@@ -1,0 +1,20 @@
+-- Where what is known is right, the summaries of all tiles agree with it.
+use Rattle.std.proofs.Common.{ℕ, ℤ, sym, subst}
+use Rattle.lattice.specs.Mosaic.{Mosaic, IsMosaic}
+use Rattle.border_graph.specs.Links.{IsJoinedLevel}
+use Rattle.border_graph.specs.Placed.{IsPlacedLink}
+use Rattle.drainage.specs.Holding.{Known, IsRimLevel, IsRight, Agrees}
+use Rattle.drainage.proofs.RimPoints.RimNodes.{joined_by_filled}
+use Rattle.drainage.proofs.Tiles.Whole.{summaries, all_fit}
+
+module _ (m : Mosaic) (is : IsMosaic m) (known : Known) (right : IsRight m known) where
+  pub joined_at : (x : ℕ) (level : ℤ) → IsRimLevel m known.corners x level → IsJoinedLevel (IsPlacedLink m.side (summaries m is known.side known.corners known.loaded right.ready)) 0 x level
+  joined_at x level r =
+      subst (λ y. IsJoinedLevel (IsPlacedLink m.side (summaries m is known.side known.corners known.loaded right.ready)) 0 y level) (sym r.node)
+      (joined_by_filled m is known.side known.corners known.loaded right.ready r.tile r.number r.index r.place r.rim r.on_ground level r.filled)
+
+  pub all_agree : Agrees known m.side (summaries m is known.side known.corners known.loaded right.ready)
+  all_agree = record {
+    fits = all_fit m is known.side known.corners known.loaded right.ready;
+    knows = λ x level is_known. joined_at x level (right.levels x level is_known);
+  }

@@ -1,0 +1,56 @@
+-- Tiles at hand stay right as samples are read, and what can't be on a mosaic.
+use Rattle.std.proofs.Common.{◌≡◌, ℕ, ◌<◌, ◌≤◌, IsTrue, Result, List, length, get_or, sym, ◌∙◌, subst, arith, true≢false}
+use Rattle.std.specs.Prelude.{Contains}
+use Rattle.lattice.specs.Corners.{Corner}
+use Rattle.lattice.specs.Ground.{is_ground, terrain}
+use Rattle.lattice.specs.Lattice.{Holds}
+use Rattle.lattice.specs.Limits.{most_tiles}
+use Rattle.lattice.specs.Mosaic.{Mosaic, IsMosaic, void}
+use Rattle.lattice.specs.declared.point.Point.{Point}
+use Rattle.lattice.specs.declared.refusal.Refusal.{Refusal}
+use Rattle.catalogue.specs.Readers.{OnlyReads}
+use Rattle.catalogue.specs.Tiles.{corners_of}
+use Rattle.catalogue.specs.declared.samples.Samples.{Ghosts}
+use Rattle.flow_d8.specs.Drainage.{CrossesFlat}
+use Rattle.flow_d8.proofs.Mosaics.MosaicGrid.{mosaic_is_grid}
+use Rattle.flow_d8.proofs.Paths.Exists.{distance_exists}
+use Rattle.flow_d8.specs.declared.flow.Flow.{Flow}
+use Rattle.flow_d8.specs.Flows.{Drains}
+use Rattle.flow_d8.specs.FlowGrids.{IsAtHand, IsGridOf}
+use Rattle.flow_d8.specs.Tiles.{Tiles, AreDistinct, OnGround, no_corner}
+use Rattle.flow_d8.proofs.Mosaics.FullTerrain.{mosaic_is_full}
+use Rattle.drainage.specs.Asking.{IsHeldByNone}
+use Rattle.drainage.proofs.RimPoints.Apart.{fewer_than}
+use Rattle.drainage.proofs.Caches.Holders.{no_ground}
+use Rattle.drainage.proofs.Questions.LevelFunctions.{level_function}
+
+module _ {S : Type 0} (g : Ghosts S) (a b : S) where
+  pub ground_still : {T : Type 0} (result : Result T Refusal) (p : Point) → OnlyReads g a b result → (g.is_honest a → IsTrue (is_ground (g.mosaic a) p)) → g.is_honest b → IsTrue (is_ground (g.mosaic b) p)
+  ground_still result p reads ground honest = subst (λ (m : Mosaic). IsTrue (is_ground m p)) (sym (reads.mosaic honest)) (ground (reads.honest honest))
+
+module _ (m : Mosaic) (is : IsMosaic m) (n : ℕ) (side : m.side ≡ n) (corners : List Corner) (all : corners_of m ≡ corners) (p : Point) where
+  -- a ground point is held by some present tile
+  pub some_holds : IsTrue (is_ground m p) → IsHeldByNone n corners p → ⊥
+  some_holds ground none = true≢false (sym ground ∙ no_ground m p is (subst (λ k. IsHeldByNone k (corners_of m) p) (sym side) (subst (λ (cs : List Corner). IsHeldByNone n cs p) (sym all) none)))
+
+  -- where no tile at hand holds the point, and a present one does, there are fewer at hand than present
+  pub not_all : (tiles : Tiles) (flows : List Flow) → IsGridOf m tiles flows → AreDistinct tiles.corners → (c : Corner) → Contains corners c → Holds n c p → (IsAtHand tiles p → ⊥) → length corners ≤ most_tiles
+      → length tiles.corners < most_tiles
+  not_all tiles flows right distinct c present holds off few =
+      let here : Holds tiles.side c p = subst (λ k. Holds k c p) (sym (right.same_side ∙ side)) holds in
+      let less : length tiles.corners < length corners =
+      fewer_than tiles.corners corners c distinct (λ i small. subst (λ (cs : List Corner). Contains cs (get_or tiles.corners i no_corner)) all (right.present i small)) present
+      (λ i small same. off (i, (small, subst (λ (d : Corner). Holds tiles.side d p) (sym same) here))) in
+      omega (arith, less, few)
+
+-- what is said of each ground that the flows are so of is so on the mosaic
+pub met_ground : (m : Mosaic) → IsMosaic m → (tiles : Tiles) (flows : List Flow) (p : Point) → IsGridOf m tiles flows → OnGround tiles flows (λ t level. IsTrue (t.is_ground p)) → IsTrue (is_ground m p)
+met_ground m is tiles flows p right ground = let levels = level_function m is in ground (terrain m) levels.0 (mosaic_is_full m is) (right.told levels.0 levels.1)
+
+-- once a flat was resolved, its points drain
+pub settled : (m : Mosaic) → IsMosaic m → (tiles : Tiles) (flows : List Flow) (p : Point) (flow : Flow) → IsGridOf m tiles flows → IsTrue (is_ground m p)
+    → OnGround tiles flows (λ t level. IsTrue (t.is_ground p) → (j : ℕ) → CrossesFlat t level p j → Drains flow) → Drains flow
+settled m is tiles flows p flow right ground drains =
+    let levels = level_function m is in
+    let crosses = distance_exists (terrain m) void (mosaic_is_grid m is) levels.0 levels.1 p ground in
+    drains (terrain m) levels.0 (mosaic_is_full m is) (right.told levels.0 levels.1) ground crosses.0 crosses.1.crosses

@@ -1,0 +1,17 @@
+use Rattle.std.proofs.Common.{length, sym, ap, ◌∙◌, subst}
+use Rattle.flow_d8.specs.declared.grid.FlowGrid.{FlowGrid}
+use Rattle.drainage.specs.FlowCaches.{flow_bytes, flow_cache_right, past_right}
+use Rattle.drainage.proofs.Caches.FlowCaches.{same_cache, same_past}
+use Rattle.drainage.proofs.drainage_cache.flow_in.Goals as goal
+
+pub returns-clause-bytes : goal.returns-clause-bytes
+returns-clause-bytes c = ap (λ (g : FlowGrid). length g.flows.items) c.flow-flow.ensures.grid ∙ ap flow_bytes c.in-Some.ensures.value
+
+pub returns-clause-cache : goal.returns-clause-cache
+returns-clause-cache c m right = same_cache m c.in-Some.cache c.flow-flow.new.self c.flow-flow.ensures.grid c.flow-flow.ensures.ranges (subst (flow_cache_right m) (sym c.in-Some.ensures.value) right)
+
+pub returns-clause-past : goal.returns-clause-past
+returns-clause-past c m right = same_past m c.in-Some.cache c.flow-flow.new.self c.flow-flow.ensures.grid c.flow-flow.ensures.ranges (subst (past_right m) (sym c.in-Some.ensures.value) right)
+
+pub returns-clause-flow : goal.returns-clause-flow
+returns-clause-flow c m right level filled = c.flow-flow.ensures.flow m (subst (past_right m) (sym c.in-Some.ensures.value) right) level filled

@@ -1,0 +1,9 @@
+use Rattle.std.proofs.Common.{◌≡◌, ℕ, ◌<◌}
+use Rattle.drainage.specs.FlowCaches.{IsLeftIn}
+use Rattle.drainage.proofs.flow_cache.FlowCache.flow.Given as goal
+
+abbrev pub invariant-loop-slot : goal.invariant-loop-slot
+invariant-loop-slot l = record {
+  same : l.self ≡ l.fn.self;
+  none : (tile : ℕ) → tile < l.slot → IsLeftIn l.fn.self l.point tile → ⊥;
+}

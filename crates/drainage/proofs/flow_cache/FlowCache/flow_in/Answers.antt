@@ -1,0 +1,23 @@
+use Rattle.std.proofs.Common.{◌≡◌, ◌<◌, length, get_or, sym, ◌∙◌, subst, true≢false}
+use Rattle.std.proofs.lemmas.List.{get_or_default}
+use Rattle.lattice.specs.Ground.{terrain}
+use Rattle.drainage.specs.FlowCaches.{IsLeftAt}
+use Rattle.flow_d8.specs.Flows.{IsFlow}
+use Rattle.flow_d8.specs.Tiles.{place_of}
+use Rattle.flow_d8.specs.declared.flow.Flow.TheVariants.{Unknown, NoGround}
+use Rattle.drainage.proofs.flow_cache.FlowCache.flow_in.Goals as goal
+
+pub returns-then-not-is_left-clause-none : goal.returns-then-not-is_left-clause-none
+returns-then-not-is_left-clause-none c small left =
+    let same = c.in_ok-number.ensures.some.1 left.0 left.1.0 left.1.1 in
+    absurd (true≢false (sym (c.is_left.ensures.1 (subst (IsLeftAt c.args.self.now) same left.1.2)) ∙ c.if-not-is_left.true))
+
+pub returns-clause-flow : goal.returns-clause-flow
+returns-clause-flow c m right level filled =
+    let grid = c.args.self.now.grid in
+    let k = c.in_ok-number.number in
+    let sample = c.in_ok-number.ensures.some.0 in
+    let below : k < length grid.flows.items = subst (λ n. k < n) (sym grid.whole) sample.small in
+    let read : c.sample_flow.result ≡ get_or grid.flows.items k Unknown = c.sample_flow.ensures ∙ get_or_default grid.flows.items k NoGround Unknown below in
+    subst (λ q. IsFlow (terrain m) level q c.sample_flow.result) sample.here
+    (subst (IsFlow (terrain m) level (place_of grid.tiles k)) (sym read) (right.flows level filled k sample.small (c.is_left.ensures.0 c.if-not-is_left.false)))

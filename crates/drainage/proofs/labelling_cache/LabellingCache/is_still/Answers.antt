@@ -1,0 +1,45 @@
+use Rattle.std.proofs.Common.{◌≡◌, ◌<◌, ◌≤◌, true≢false, List, length, get_or, refl, sym, ◌∙◌, subst}
+use Rattle.std.specs.Prelude.{All}
+use Rattle.std.proofs.lemmas.List.{take_all}
+use Rattle.std.proofs.lemmas.List.Elements.{All-contains, All-more}
+use Rattle.tile_labellings.specs.TileLabellings.{IsBelow}
+use Rattle.lattice.proofs.Samples.{index_unique}
+use Rattle.drainage.specs.Holding.{IsHeldAt}
+use Rattle.drainage.specs.declared.labelling_cache.HeldLabelling.{HeldLabelling}
+use Rattle.drainage.proofs.Caches.Caching.{held_there}
+use Rattle.drainage.proofs.labelling_cache.LabellingCache.is_still.Goals as goal
+
+pub returns-then-is_below-clause-yes : goal.returns-then-is_below-clause-yes
+returns-then-is_below-clause-yes c done =
+    let one = c.held-item.result in
+    let is = c.is_below.ensures.0 c.if-is_below.true in
+    record {
+      labelling = one.labelling;
+      held = subst (λ (l : List HeldLabelling). IsHeldAt l c.args.t one.labelling) c.deref-held-items.ensures.value
+          (held_there c.deref-held-items.result.now c.loop-held.held-index one c.args.t c.loop-held-test.true c.held-item.is is.0);
+      index = c.in-Some.index;
+      point = c.in-Some.ensures.some.0;
+      below = is.1;
+    }
+
+pub loop-held-preserved : goal.loop-held-preserved
+loop-held-preserved c =
+    let held = c.args.self.now.held.items in
+    let h = c.args.height.now in
+    let i = c.loop-held.held-index in
+    let one = c.held-item.result in
+    let other = λ (x : HeldLabelling). ((x.place ≡ c.args.t) × IsBelow x.labelling c.in-Some.index h.was h.metres) → ⊥ in
+    let below : i < length held = subst (λ (l : List HeldLabelling). i < length l) c.deref-held-items.ensures.value c.loop-held-test.true in
+    let is : one ≡ get_or held i one = subst (λ (l : List HeldLabelling). one ≡ get_or l i one) c.deref-held-items.ensures.value c.held-item.is in
+    let passed : other one = λ at. true≢false (sym (c.is_below.ensures.1 at) ∙ c.if-is_below.false) in
+    All-more other held i one below c.loop-held.invariant (subst other is passed)
+
+pub returns-clause-no : goal.returns-clause-no
+returns-clause-no c at =
+    let held = c.args.self.now.held.items in
+    let h = c.args.height.now in
+    let other = λ (x : HeldLabelling). ((x.place ≡ c.args.t) × IsBelow x.labelling c.in-Some.index h.was h.metres) → ⊥ in
+    let end : length held ≤ c.loop-held.held-index = subst (λ (l : List HeldLabelling). length l ≤ c.loop-held.held-index) c.deref-held-items.ensures.value c.loop-held-test.false in
+    let same = index_unique c.args.side c.args.corner h.point at.index c.in-Some.index at.point c.in-Some.ensures.some.0 in
+    absurd (All-contains other held (record { place = c.args.t; labelling = at.labelling }) (subst (All other) (take_all c.loop-held.held-index held end) c.loop-held.invariant) at.held
+    (refl, subst (λ e. IsBelow at.labelling e h.was h.metres) same at.below))

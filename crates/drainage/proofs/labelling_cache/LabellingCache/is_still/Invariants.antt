@@ -1,0 +1,8 @@
+use Rattle.std.proofs.Common.{◌≡◌, take}
+use Rattle.std.specs.Prelude.{All}
+use Rattle.tile_labellings.specs.TileLabellings.{IsBelow}
+use Rattle.drainage.specs.declared.labelling_cache.HeldLabelling.{HeldLabelling}
+use Rattle.drainage.proofs.labelling_cache.LabellingCache.is_still.Given as goal
+
+abbrev pub invariant-loop-held : goal.invariant-loop-held
+invariant-loop-held l = All (λ (one : HeldLabelling). ((one.place ≡ l.t) × IsBelow one.labelling l.index l.height.was l.height.metres) → ⊥) (take l.held-index l.self.held.items)

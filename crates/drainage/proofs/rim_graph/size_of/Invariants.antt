@@ -1,0 +1,7 @@
+use Rattle.std.proofs.Common.{◌≡◌, take}
+use Rattle.std.specs.Prelude.{sum_by}
+use Rattle.drainage.specs.Room.{graph_size}
+use Rattle.drainage.proofs.rim_graph.size_of.Given as goal
+
+abbrev pub invariant-loop-ways : goal.invariant-loop-ways
+invariant-loop-ways l = l.size ≡ sum_by graph_size (take l.ways-index l.loaded)

@@ -1,0 +1,155 @@
+//! The levels of a tile and those around it, block by block: what a change of a height leaves as it was.
+ghost use Rattle.std.specs.Prelude.{◌≡◌, ◌↔◌, ◌+◌, ◌*◌, ◌<◌, ◌≤◌, IsTrue, IfOk, None, length, slice_index_or, slice_set};
+ghost use Rattle.lattice.specs.Mosaic.{void};
+ghost use Rattle.drainage.specs.LevelRanges.{block_of, range_at, with_level, spared_of, is_range_spared, AreRangesTo, AreRanges, AreSpared, AreKnownAround};
+
+use lattice::{Side, VOID};
+use std::alloc::{AllocError, Global};
+
+// A block has so many rows and columns ..
+const BLOCK: usize = 32;
+
+// .. and there are so many places for blocks beside each other.
+const BLOCKS_IN_ROW: usize = 128;
+
+/// The least and the greatest of some levels, in metres.
+#[derive(Clone, Copy, Debug, PartialEq, Eq)]
+pub(crate) struct LevelRange {
+    pub(crate) least: i16,
+    pub(crate) greatest: i16,
+}
+
+impl LevelRange {
+    // Whether all of them stay as a ground point gets another height: they are below both heights, or above both.
+    fn is_spared(self, was: i16, is: i16) -> bool
+        ensures { result ≡ is_range_spared was is self }
+    {
+        is != VOID
+            && (self.greatest < was && self.greatest < is || was < self.least && is < self.least)
+    }
+}
+
+/// The ranges of the levels of a tile and of two rows and columns around it (void where a point isn't ground), by blocks.
+pub(crate) fn level_ranges(
+    alloc: Global,
+    side: Side,
+    levels: &[i16],
+) -> Result<Vec<Option<LevelRange>>, AllocError>
+    requires { length levels.now ≡ (side + 4) * (side + 4) }
+    ensures { IfOk result (λ ranges. AreRanges (side + 4) levels.now ranges.items) }
+{
+    let width = side.samples() as usize + 4;
+    let none = LevelRange {
+        least: i16::MAX,
+        greatest: i16::MIN,
+    };
+    let mut ranges = vec![in alloc; Some(none); block(width, 0) + BLOCKS_IN_ROW]?;
+    for row in 0..width {
+        widen_row(levels, width, row, &mut ranges);
+    }
+    Ok(ranges)
+}
+
+// The levels of the row come to the ranges.
+fn widen_row(levels: &[i16], width: usize, row: usize, ranges: &mut [Option<LevelRange>])
+    requires levels { length levels.now ≡ width * width }
+    requires width { width ≤ 3605 }
+    requires row { row < width }
+    requires whole { length ranges.old ≡ block_of width 0 + 128 }
+    requires before { AreRangesTo width (row * width) levels.now ranges.old }
+    ensures whole { length ranges.new ≡ length ranges.old }
+    ensures ranges { AreRangesTo width ((row + 1) * width) levels.now ranges.new }
+{
+    for column in 0..width {
+        widen(
+            ranges,
+            block(row, column),
+            level_at(levels, row * width + column),
+        );
+    }
+}
+
+#[inline(always)]
+fn level_at(levels: &[i16], k: usize) -> i16
+    requires { k < length levels.now }
+    ensures { result ≡ slice_index_or levels.now k void }
+{
+    levels[k]
+}
+
+// The level comes to the range of the block.
+#[inline(always)]
+fn widen(ranges: &mut [Option<LevelRange>], block: usize, level: i16)
+    requires { block < length ranges.old }
+    ensures { ranges.new ≡ slice_set ranges.old block (with_level (range_at ranges.old block) level) }
+{
+    ranges[block] = with_level(ranges[block], level);
+}
+
+#[inline(always)]
+fn with_level(range: Option<LevelRange>, level: i16) -> Option<LevelRange>
+    ensures { result ≡ with_level range level }
+{
+    let range = range?;
+    if level == VOID {
+        return Some(range);
+    }
+    Some(LevelRange {
+        least: range.least.min(level),
+        greatest: range.greatest.max(level),
+    })
+}
+
+/// Gives up the ranges of which some level may change as a ground point gets another height than it had. Takes no memory.
+pub(crate) fn retain_spared(ranges: &mut [Option<LevelRange>], was: i16, is: i16)
+    ensures { AreSpared was is ranges.old ranges.new }
+{
+    for block in 0..ranges.len() {
+        ranges[block] = spared(ranges[block], was, is);
+    }
+}
+
+fn spared(range: Option<LevelRange>, was: i16, is: i16) -> Option<LevelRange>
+    ensures { result ≡ spared_of was is range }
+{
+    let range = range?;
+    if range.is_spared(was, is) {
+        Some(range)
+    } else {
+        None
+    }
+}
+
+/// Whether the ranges of the levels of the tile's sample and of those around it are known.
+pub(crate) fn are_known_around(ranges: &[Option<LevelRange>], side: Side, index: usize) -> bool
+    requires { index < side * side }
+    ensures { IsTrue result ↔ AreKnownAround ranges.now side index }
+{
+    let samples = side.samples() as usize;
+    let row = index / samples + 1;
+    let column = index % samples + 1;
+    is_known(ranges, block(row, column))
+        && is_known(ranges, block(row, column + 2))
+        && is_known(ranges, block(row + 2, column))
+        && is_known(ranges, block(row + 2, column + 2))
+}
+
+#[inline(always)]
+fn is_known(ranges: &[Option<LevelRange>], block: usize) -> bool
+    ensures { IsTrue result ↔ (range_at ranges.now block ≡ None → ⊥) }
+{
+    match ranges.get(block) {
+        Some(range) => range.is_some(),
+        None => false,
+    }
+}
+
+// The block of the place in this row and column of the tile's levels and those around it.
+#[inline(always)]
+fn block(row: usize, column: usize) -> usize
+    requires row { row ≤ 3605 }
+    requires column { column ≤ 3605 }
+    ensures { result ≡ block_of row column }
+{
+    row / BLOCK * BLOCKS_IN_ROW + column / BLOCK
+}

@@ -1,0 +1,84 @@
+//! The levels at a point and around it, where what is held tells them.
+ghost use Rattle.std.specs.Prelude.{◌≡◌, ◌<◌, Some, IfSome, length};
+ghost use Rattle.flow_d8.specs.LevelsAround.{IsNear};
+ghost use Rattle.lattice.specs.Mosaic.{Mosaic, IsMosaic};
+ghost use Rattle.lattice.specs.Steps.{step};
+ghost use Rattle.border_graph.specs.Others.{corner_at};
+ghost use Rattle.tile_labellings.specs.Labellings.{IsFlooded};
+ghost use Rattle.drainage.specs.Holding.{IsRight};
+ghost use Rattle.drainage.specs.Nearby.{IsToldOf};
+ghost use Rattle.drainage.specs.TileCaches.{known_of};
+
+use crate::filling::label_in;
+use crate::tile_cache::TileCache;
+use border_graph::node_at;
+use flow_d8::Near;
+use lattice::{Corner, DIRECTIONS, Dir, Point, index_in, neighbour};
+use tile_flood::{Labelled, NO_LABEL, OUT};
+
+/// The filled level of a ground point and those of the points around it, where they all lie in one tile whose labelling is
+/// held, which marks none as a void, and the levels of the rim points that their labels name are known. So it is of nearly
+/// every point of a tile that was asked about before.
+pub(crate) fn near(tile_cache: &TileCache, point: Point) -> Option<Near>
+    ensures { (m : Mosaic) → IsMosaic m → IsRight m (known_of tile_cache.now) → IfSome result (IsNear m point) }
+{
+    let side = tile_cache.rim_graph.side;
+    let t = tile_cache
+        .labellings
+        .holder(side, &tile_cache.rim_graph.corners, point)?;
+    let corner = tile_cache.rim_graph.corner(t)?;
+    let labelled = tile_cache.labellings.labelling(t)?;
+    let height = level_in_tile(tile_cache, t, corner, labelled, point)?;
+    let mut around = [None; 8];
+    for i in 0..8 {
+        let level = level_beside(tile_cache, t, corner, labelled, point, DIRECTIONS[i])?;
+        around[i] = Some(level);
+    }
+    Some(Near { height, around })
+}
+
+// The level of the point in the direction, as that of a point in the tile.
+fn level_beside(
+    tile_cache: &TileCache,
+    t: usize,
+    corner: Corner,
+    labelled: &Labelled,
+    point: Point,
+    direction: Dir,
+) -> Option<i16>
+    requires place { t < length tile_cache.now.rim_graph.corners.items }
+    requires corner { corner_at tile_cache.now.rim_graph.corners.items t ≡ corner }
+    requires held { (m : Mosaic) → IsRight m (known_of tile_cache.now) → IsFlooded m corner labelled.now }
+    ensures { IfSome result (λ level. IsToldOf (known_of tile_cache.now) t (step direction point) (Some level)) }
+{
+    let to = neighbour(point, direction)?;
+    level_in_tile(tile_cache, t, corner, labelled, to)
+}
+
+// The filled level of the point, where the tile with this place, corner and labelling holds it, and the level of the rim
+// point that its label names is known. Whether a point that is marked as a void has a height isn't held.
+fn level_in_tile(
+    tile_cache: &TileCache,
+    t: usize,
+    corner: Corner,
+    labelled: &Labelled,
+    point: Point,
+) -> Option<i16>
+    requires place { t < length tile_cache.now.rim_graph.corners.items }
+    requires corner { corner_at tile_cache.now.rim_graph.corners.items t ≡ corner }
+    requires held { (m : Mosaic) → IsRight m (known_of tile_cache.now) → IsFlooded m corner labelled.now }
+    ensures { IfSome result (λ level. IsToldOf (known_of tile_cache.now) t point (Some level)) }
+{
+    let side = tile_cache.rim_graph.side;
+    let index = index_in(side, corner, point)?;
+    let (level, label) = label_in(labelled, index)?;
+    if label == NO_LABEL {
+        return None;
+    }
+    if label == OUT {
+        return Some(level);
+    }
+    let node = node_at(side, t, u32::from(label))?;
+    let over = tile_cache.levels.level(node)?;
+    Some(level.max(over))
+}
