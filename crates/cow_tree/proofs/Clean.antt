@@ -6,8 +6,8 @@ use Rattle.page_map.specs.PageMaps.{PageMapValue, corners_of_locations, IsClean 
 use Rattle.cow_tree.specs.Clean.{IsClean}
 use Rattle.cow_tree.specs.Trees.{page_map_of, IsUnstaged}
 use Rattle.cow_tree.specs.declared.tree.Tree.{Tree}
-use Rattle.cow_tree.proofs.Dropping.{corners_of_entries, clean_is_committed}
-use Rattle.cow_tree.proofs.Due.{none_due}
+use Rattle.cow_tree.proofs.Writes.Dropping.{corners_of_entries, clean_is_committed}
+use Rattle.cow_tree.proofs.Listed.Due.{none_due}
 
 pub is_clean : {D : Type 0} {g : Ghosts D} (tree : Tree D g) → IsUnstaged tree → IsClean tree
 is_clean tree unstaged = record {

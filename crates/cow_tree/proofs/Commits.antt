@@ -25,8 +25,8 @@ use Rattle.page_map.specs.Locations.{PlaneLocation, IsWholePlane, listing_of, pa
 use Rattle.page_map.specs.PageMaps.{AreWholeKept, PageMapValue, IsPageMap, IsWholeTile, is_unreached}
 use Rattle.cow_tree.specs.Staged.{AreListedBy, AreStaged, IsListedBy, IsTileListed}
 use Rattle.cow_tree.specs.Stored.{KeptPlanes, PlanePages, Stored, StoredTile}
-use Rattle.cow_tree.proofs.Counting.{at_times, times_failing}
-use Rattle.cow_tree.proofs.ListingPages.{all_within, due_numbers, few_due, number_there, plane_at, plane_length, tiles_numbers}
+use Rattle.cow_tree.proofs.Listed.Counting.{at_times, times_failing}
+use Rattle.cow_tree.proofs.Listed.ListingPages.{all_within, due_numbers, few_due, number_there, plane_at, plane_length, tiles_numbers}
 use Rattle.cow_tree.proofs.Standing.{SameOn, All-front, All-back, map_same, stores_kept, each_tile}
 use Rattle.cow_tree.proofs.Steps.{stands}
 use Rattle.cow_tree.proofs.Tiles.{unfiltered}

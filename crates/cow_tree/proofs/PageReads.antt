@@ -17,7 +17,7 @@ use Rattle.page_map.specs.PageMaps.{IsWholeTile, AreWholeKept}
 use Rattle.page_map.specs.Planes.{HasPlaneAt, plane_of}
 use Rattle.cow_tree.specs.Planes.{HasPage, stored_plane}
 use Rattle.cow_tree.specs.Stored.{KeptPlanes, PlanePages}
-use Rattle.cow_tree.proofs.Adding.{contains-map}
+use Rattle.cow_tree.proofs.Listed.Adding.{contains-map}
 use Rattle.cow_tree.proofs.Standing.{All-front, All-back, each_tile}
 
 -- what holds of the heights of a tile, and of its levels and labels where they are kept, holds of the plane

@@ -8,7 +8,7 @@ use Rattle.cow_tree.specs.Layout.{tile_in}
 use Rattle.page_map.specs.PageMaps.{PageMapValue, IsPrepared, is_at, corners_of_locations, with_record}
 use Rattle.cow_tree.specs.Staged.{AreStaged, IsTileListed}
 use Rattle.cow_tree.specs.Stored.{StoredTile}
-use Rattle.cow_tree.proofs.CornerChanges.{all_changed, corners_still}
+use Rattle.cow_tree.proofs.Listed.CornerChanges.{all_changed, corners_still}
 use Rattle.page_map.proofs.Listing.{any_none}
 
 pub prepared_tiles : (c : Corner) (r : ℕ) (image : Image) (tiles : List TileLocation) → map (tile_in image) (with_record c r tiles) ≡ map (tile_in image) tiles

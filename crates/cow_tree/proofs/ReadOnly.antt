@@ -1,8 +1,7 @@
 -- Reads one after another, and why they were refused.
 use Rattle.std.proofs.Common.{◌≡◌, ◌⊎◌, inl, inr, ⊎_elim, Bool, false, Result, Ok, Err, IsErrOf, IfErr, refl, sym, ◌∙◌, subst, arith}
 use Rattle.std.specs.Result.{IsErrAnd}
-use Rattle.disk.specs.Disk.{Image}
-use Rattle.disk.specs.Stops.{nothing_done, nothing_twice}
+use Rattle.disk.specs.Stops.{nothing_twice}
 use Rattle.disk.specs.declared.disk.Disk.{Ghosts}
 use Rattle.lattice.specs.declared.refusal.Refusal.{Refusal}
 use Rattle.lattice.specs.declared.refusal.Refusal.TheVariants.{Device, NoMemory, Damaged}
@@ -24,22 +23,6 @@ abbrev pub HasRead : {D : Type 0} (g : Ghosts D) → Roots D g → Roots D g →
 HasRead g old new = OnlyReads {T = Unit {0}} g old new (Ok tt)
 
 module _ {D : Type 0} (g : Ghosts D) where
-  -- nothing was read
-  pub none_read : (roots : Roots D g) → ((c : Image) → g.honest (disk_of roots) → g.since (disk_of roots) (g.moment (disk_of roots)) c → g.may (disk_of roots) c) → has_failed roots ≡ false → HasRead g roots roots
-  none_read roots only_now works = record {
-    size = refl;
-    writes = refl;
-    later = omega arith;
-    device = λ no. cc;
-    root = refl;
-    begun = refl;
-    works = inl works;
-    honest = λ h. h;
-    seen = λ _. refl;
-    nothing = λ h. nothing_done g (disk_of roots) only_now h;
-    ready = λ _ r _. r;
-  }
-
   -- more was read
   pub read_on : {T : Type 0} (old mid new : Roots D g) (result : Result T Refusal) → HasRead g old mid → has_failed mid ≡ false → OnlyReads g mid new result → OnlyReads g old new result
   read_on old mid new result first works second = record {

@@ -22,7 +22,7 @@ use Rattle.page_codec.specs.declared.version.Version.{Version}
 use Rattle.page_codec.specs.declared.version.Version.TheVariants.{One, Two}
 use Rattle.cow_tree.specs.Planes.{HasPage}
 use Rattle.cow_tree.specs.Stored.{StoredTile, PlanePages, IsPage, AreWhole, plane_bytes, samples_of_plane, mosaic_of_tiles}
-use Rattle.cow_tree.proofs.Adding.{contains-map}
+use Rattle.cow_tree.proofs.Listed.Adding.{contains-map}
 
 -- ---- the samples of a tile in the mosaic
 abbrev corner_of : Tile → Corner

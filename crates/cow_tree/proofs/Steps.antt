@@ -3,24 +3,21 @@ use Rattle.std.proofs.Common.{◌≡◌, ℕ, ◌/◌, ◌<◌, ◌≤◌, ◌==
 use Rattle.std.specs.List.{list_any}
 use Rattle.std.proofs.lemmas.List.Elements.{All-weaker}
 use Rattle.disk.specs.Disk.{Image}
-use Rattle.disk.specs.Stops.{LeavesOnly, weaker}
-use Rattle.disk.specs.declared.disk.Disk.{Ghosts}
 use Rattle.lattice.specs.Corners.{Corner}
 use Rattle.lattice.specs.declared.refusal.Refusal.{Refusal}
 use Rattle.lattice.specs.declared.refusal.Refusal.TheVariants.{Device, NoMemory}
 use Rattle.page_codec.specs.Formats.{Format}
 use Rattle.page_codec.specs.Roots.{RootValue}
 use Rattle.page_codec.specs.Sizes.{pages_of}
-use Rattle.roots.specs.Slots.{SamePagesBut, KeepsBut}
+use Rattle.roots.specs.Slots.{SamePagesBut}
 use Rattle.page_map.specs.TileLocations.{TileLocation, reached}
 use Rattle.cow_tree.specs.Layout.{tile_in, StoresAt, Stands}
 use Rattle.page_map.specs.Locations.{moved_plane, times}
 use Rattle.page_map.specs.PageMaps.{PageMapValue, IsPageMap, IsRewritten, IsLocated, IsWholeTile, corners_of_locations, with_page_location}
 use Rattle.cow_tree.specs.Staged.{AreStaged}
 use Rattle.cow_tree.specs.Stored.{Stored, with_page}
-use Rattle.cow_tree.proofs.CornerChanges.{corners_still}
-use Rattle.cow_tree.proofs.Standing.{stores_kept_but}
-use Rattle.cow_tree.proofs.Staging.{IsWrittenAt, written_tiles, staged_pages, still_staged}
+use Rattle.cow_tree.proofs.Listed.CornerChanges.{corners_still}
+use Rattle.cow_tree.proofs.Writes.Staging.{IsWrittenAt, written_tiles, staged_pages, still_staged}
 use Rattle.page_map.proofs.Listing.{any_none}
 use Rattle.cow_tree.proofs.Tiles.{located_is}
 
@@ -74,15 +71,6 @@ module _ (old new : PageMapValue) (c : Corner) (i p : ℕ) (page : List ℕ) (a 
 -- what stores stands
 pub stands : (sectors : ℕ) (root : RootValue) (tiles : List TileLocation) (s : Stored) (image : Image) → StoresAt sectors root tiles s image → Stands sectors image s
 stands sectors root tiles s image stores = (root, tiles, stores)
-
-pub still_stands : {D : Type 0} (g : Ghosts D) (old new : D) (p sectors : ℕ) (root : RootValue) (tiles : List TileLocation) (s : Stored) → ((image : Image) → g.may old image → StoresAt sectors root tiles s image) → ¬ Contains (reached tiles) p
-    → LeavesOnly g old new (KeepsBut p root (g.may old)) → LeavesOnly g old new (λ image. Stands sectors image s)
-still_stands g old new p sectors root tiles s each none run =
-    weaker g old new (KeepsBut p root (g.may old)) (λ image. Stands sectors image s) (λ image keeps. stands sectors root tiles s image (stores_kept_but p sectors root tiles s (g.may old) each none image keeps)) run
-
-pub each_still : {D : Type 0} (g : Ghosts D) (old new : D) (p sectors : ℕ) (root : RootValue) (tiles : List TileLocation) (s : Stored) → ((image : Image) → g.may old image → StoresAt sectors root tiles s image) → ¬ Contains (reached tiles) p
-    → LeavesOnly g old new (KeepsBut p root (g.may old)) → (image : Image) → g.may new image → StoresAt sectors root tiles s image
-each_still g old new p sectors root tiles s each none run image may = stores_kept_but p sectors root tiles s (g.may old) each none image (run.now image may)
 
 pub on_ok : {T E : Type 0} {P Q : Type 0} (r : Result T E) → (P → Q) → OnOk r P → OnOk r Q
 on_ok (Ok t) f p = f p

@@ -17,8 +17,8 @@ use Rattle.cow_tree.specs.Staged.{AreStaged}
 use Rattle.cow_tree.specs.Stored.{Stored}
 use Rattle.cow_tree.specs.Trees.{disk_of, has_failed, IsAt}
 use Rattle.cow_tree.specs.declared.tree.Tree.{Tree}
-use Rattle.cow_tree.proofs.Steps.{failed_where, ok_where_works, on_ok, stands, stores_along}
-use Rattle.cow_tree.specs.Uncommitted.{CommitsNothing, MakesNoCall}
+use Rattle.cow_tree.proofs.Steps.{failed_where, ok_where, ok_where_works, on_ok, stands, stores_along}
+use Rattle.cow_tree.specs.Uncommitted.{CommitsNothing, MakesNoCall, Returns}
 
 -- what a refusal that was handed on answers
 pub refused_as : {T : Type 0} (result : Result T Refusal) (r : Refusal) → IsErrAnd result (λ why. why ≡ r) → result ≡ Err r
@@ -27,10 +27,6 @@ refused_as (Err why) r same = ap (λ (x : Refusal). Err x) same
 
 pub refusal_is : {T : Type 0} (r : Refusal) → ◌≡◌ {A = Result T Refusal} (Err r) (Err Device) → r ≡ Device
 refusal_is r e = cc
-
-pub always : {T P : Type 0} (result : Result T Refusal) → P → OnOk result P
-always (Ok t) p = p
-always (Err e) p = tt
 
 module _ {D : Type 0} (g : Ghosts D) where
   -- each image that a stop may leave stands for what the tree is at
@@ -48,15 +44,20 @@ module _ {D : Type 0} (g : Ghosts D) where
   no_call_twice old mid new first second = record { disk = second.disk ∙ first.disk; root = second.root ∙ first.root; failed = second.failed ∙ first.failed; begun = second.begun ∙ first.begun }
 
   -- what makes no call of the disk commits nothing
-  pub in_memory : {T : Type 0} (old new : Tree D g) (result : Result T Refusal) → OnlyNow → MakesNoCall old new → has_failed old ≡ false → (g.honest (disk_of old) → (s : Stored) → IsAt g old s → IsAt g new s)
-      → (IsErrOf result Device → ⊥) → CommitsNothing g old new result
-  in_memory old new result only_now makes works at other = record {
+  pub not_called : {T : Type 0} (old new : Tree D g) (result : Result T Refusal) → MakesNoCall old new → OnOk result (has_failed new ≡ false) → (IsErrOf result Device → ⊥) → Returns g old new result
+  not_called old new result makes works other = record {
     size = ap g.size makes.disk;
     later = let same = ap g.failures makes.disk in omega (arith, same);
     device = λ is. absurd (other is);
-    failed = λ is. absurd (other is);
-    works = always result (makes.failed ∙ works);
+    works = works;
+    fails = λ is. absurd (other is);
     honest = subst g.honest makes.disk;
+  }
+
+  pub in_memory : {T : Type 0} (old new : Tree D g) (result : Result T Refusal) → OnlyNow → MakesNoCall old new → has_failed old ≡ false → (g.honest (disk_of old) → (s : Stored) → IsAt g old s → IsAt g new s)
+      → (IsErrOf result Device → ⊥) → CommitsNothing g old new result
+  in_memory old new result only_now makes works at other = record {
+    returns = not_called old new result makes (ok_where result (makes.failed ∙ works)) other;
     root = makes.root;
     at = λ h s was _. at (subst g.honest makes.disk h) s was;
     run = λ h s was.
@@ -66,33 +67,40 @@ module _ {D : Type 0} (g : Ghosts D) where
   }
 
   -- a call after one that wasn't refused
+  pub returns_on : {T U : Type 0} (old mid new : Tree D g) (x : T) (result : Result U Refusal) → Returns g old mid (Ok x) → Returns g mid new result → Returns g old new result
+  returns_on old mid new x result first second = record {
+    size = second.size ∙ first.size;
+    later = omega (arith, first.later, second.later);
+    device = λ is. let risen = second.device is in omega (arith, risen, first.later);
+    works = second.works;
+    fails = second.fails;
+    honest = λ h. first.honest (second.honest h);
+  }
+
   pub uncommitted_on : {T U : Type 0} (old mid new : Tree D g) (x : T) (result : Result U Refusal) → CommitsNothing g old mid (Ok x) → CommitsNothing g mid new result → CommitsNothing g old new result
   uncommitted_on old mid new x result first second =
       record {
-        size = second.size ∙ first.size;
-        later = omega (arith, first.later, second.later);
-        device = λ is. let risen = second.device is in omega (arith, risen, first.later);
-        failed = second.failed;
-        works = second.works;
-        honest = λ h. first.honest (second.honest h);
+        returns = returns_on old mid new x result first.returns second.returns;
         root = second.root ∙ first.root;
-        at = λ h s was now. second.at h s (first.at (second.honest h) s was first.works) now;
+        at = λ h s was now. second.at h s (first.at (second.returns.honest h) s was first.returns.works) now;
         run = λ h s was.
-            in_turn g (disk_of old) (disk_of mid) (disk_of new) (λ image. Stands (g.size (disk_of old)) image s) (first.run (second.honest h) s was)
-            (subst (λ (sectors : ℕ). LeavesOnly g (disk_of mid) (disk_of new) (λ image. Stands sectors image s)) first.size
-            (second.run h s (first.at (second.honest h) s was first.works)));
+            in_turn g (disk_of old) (disk_of mid) (disk_of new) (λ image. Stands (g.size (disk_of old)) image s) (first.run (second.returns.honest h) s was)
+            (subst (λ (sectors : ℕ). LeavesOnly g (disk_of mid) (disk_of new) (λ image. Stands sectors image s)) first.returns.size
+            (second.run h s (first.at (second.returns.honest h) s was first.returns.works)));
       }
 
   -- what was staged is given up
   pub given_up : {T : Type 0} (old mid new : Tree D g) (result : Result T Refusal) → CommitsNothing g old mid result → MakesNoCall mid new → (g.honest (disk_of mid) → (s : Stored) → IsAt g mid s → IsAt g new s)
       → CommitsNothing g old new result
   given_up old mid new result done makes at = record {
-    size = ap g.size makes.disk ∙ done.size;
-    later = let same = ap g.failures makes.disk in omega (arith, same, done.later);
-    device = λ is. subst (λ (disk : D). HasRisen (g.failures (disk_of old)) (g.failures disk)) (sym makes.disk) (done.device is);
-    failed = λ is. makes.failed ∙ done.failed is;
-    works = on_ok result (λ w. makes.failed ∙ w) done.works;
-    honest = λ h. done.honest (subst g.honest makes.disk h);
+    returns = record {
+      size = ap g.size makes.disk ∙ done.returns.size;
+      later = let same = ap g.failures makes.disk in omega (arith, same, done.returns.later);
+      device = λ is. subst (λ (disk : D). HasRisen (g.failures (disk_of old)) (g.failures disk)) (sym makes.disk) (done.returns.device is);
+      works = on_ok result (λ w. makes.failed ∙ w) done.returns.works;
+      fails = λ is. makes.failed ∙ done.returns.fails is;
+      honest = λ h. done.returns.honest (subst g.honest makes.disk h);
+    };
     root = makes.root ∙ done.root;
     at = λ h s was now. at (subst g.honest makes.disk h) s (done.at (subst g.honest makes.disk h) s was (sym makes.failed ∙ now));
     run = λ h s was. subst (λ (disk : D). LeavesOnly g (disk_of old) disk (λ image. Stands (g.size (disk_of old)) image s)) (sym makes.disk) (done.run (subst g.honest makes.disk h) s was);
@@ -102,12 +110,7 @@ module _ {D : Type 0} (g : Ghosts D) where
   pub reading : {T : Type 0} (old new : Tree D g) → HasOnlyRead g old new → (result : Result T Refusal) → (IsErrOf result Device → HasRisen (g.failures (disk_of old)) (g.failures (disk_of new))) → (IsErrOf result Device → has_failed new ≡ true)
       → OnOk result (has_failed new ≡ false) → CommitsNothing g old new result
   reading old new keeps result device failed works = record {
-    size = keeps.size;
-    later = keeps.later;
-    device = device;
-    failed = failed;
-    works = works;
-    honest = keeps.honest;
+    returns = record { size = keeps.size; later = keeps.later; device = device; works = works; fails = failed; honest = keeps.honest };
     root = keeps.root;
     at = keeps.at;
     run = λ honest s at.
@@ -141,12 +144,14 @@ module _ {D : Type 0} (g : Ghosts D) where
 
     pub wrote : CommitsNothing g old new result
     wrote = record {
-      size = writes.size;
-      later = writes.cause.later;
-      device = λ is. writes.cause.failed (ap is_err is);
-      failed = failed_where result Device writes.failed;
-      works = writes.works;
-      honest = writes.honest;
+      returns = record {
+        size = writes.size;
+        later = writes.cause.later;
+        device = λ is. writes.cause.failed (ap is_err is);
+        works = writes.works;
+        fails = failed_where result Device writes.failed;
+        honest = writes.honest;
+      };
       root = writes.root;
       at = λ honest s is works. record {
         ready = ok_where_works result (has_failed new) writes.failed works (writes.ready honest is.ready);

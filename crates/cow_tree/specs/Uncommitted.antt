@@ -1,4 +1,4 @@
--- Calls of a tree that commit nothing (this product's own profile).
+-- Calls of a tree: each by its answer, and those that commit nothing (this product's own profile).
 use Rattle.std.specs.Prelude.{◌≡◌, ◌≤◌, false, true, Result, OnOk, IsErrOf}
 use Rattle.disk.specs.Disk.{HasRisen}
 use Rattle.disk.specs.Stops.{LeavesOnly}
@@ -17,15 +17,20 @@ pub record MakesNoCall {D : Type 0} {g : Ghosts D} (old new : Tree D g) : Type 0
   pub failed : has_failed new ≡ has_failed old
   pub begun : has_begun new ≡ has_begun old
 
--- The call read pages of the tree, and may have staged some or given up what was staged. What is committed stays, and a
--- stop at any moment leaves it.
-pub record CommitsNothing {D T : Type 0} (g : Ghosts D) (old new : Tree D g) (result : Result T Refusal) : Type 0 where
+-- What is known of a call by its answer, whatever the disk did: where it blames the disk, that has failed, and the tree with
+-- it.
+pub record Returns {D T : Type 0} (g : Ghosts D) (old new : Tree D g) (result : Result T Refusal) : Type 0 where
   pub size : g.size (disk_of new) ≡ g.size (disk_of old)
   pub later : g.failures (disk_of old) ≤ g.failures (disk_of new)
   pub device : IsErrOf result Device → HasRisen (g.failures (disk_of old)) (g.failures (disk_of new))
-  pub failed : IsErrOf result Device → has_failed new ≡ true
   pub works : OnOk result (has_failed new ≡ false)
+  pub fails : IsErrOf result Device → has_failed new ≡ true
   pub honest : g.honest (disk_of new) → g.honest (disk_of old)
+
+-- The call read pages of the tree, and may have staged some or given up what was staged. What is committed stays, and a
+-- stop at any moment leaves it.
+pub record CommitsNothing {D T : Type 0} (g : Ghosts D) (old new : Tree D g) (result : Result T Refusal) : Type 0 where
+  pub returns : Returns g old new result
   pub root : root_of new ≡ root_of old
   pub at : g.honest (disk_of new) → (s : Stored) → IsAt g old s → has_failed new ≡ false → IsAt g new s
   pub run : g.honest (disk_of new) → (s : Stored) → IsAt g old s → LeavesOnly g (disk_of old) (disk_of new) (λ image. Stands (g.size (disk_of old)) image s)

@@ -52,7 +52,7 @@ impl PageCache {
     }
 
     /// Holds the page with these bytes, where there is memory.
-    pub(crate) fn keep(&mut self, number: u32, bytes: &[u8; 4096])
+    pub(crate) fn keep(&mut self, number: u32, bytes: &[u8; PAGE_BYTES])
         ensures { (page : ℕ) (held : List ℕ) → IsHeld self.new page held
             → IsHeld self.old page held ⊎ ((page ≡ number) × (held ≡ bytes.now)) }
     {

@@ -14,7 +14,7 @@ use crate::cache::PageCache;
 use arrayvec::ArrayVec;
 use disk::Disk;
 use lattice::{Corner, Refusal};
-use page_codec::{Format, IndexPage, RECORD_PAGES, Record, Version};
+use page_codec::{Format, IndexPage, PAGE_BYTES, RECORD_PAGES, Record, Version};
 use page_map::{PageMap, PagedPlane, Plane};
 use roots::Roots;
 
@@ -55,7 +55,7 @@ fn listed(format: Format, plane: &PagedPlane) -> &[u32]
 }
 
 // The record of a plane.
-fn record_of(format: Format, plane: &PagedPlane) -> [u8; 4096]
+fn record_of(format: Format, plane: &PagedPlane) -> [u8; PAGE_BYTES]
     requires { IsWholePlane format plane.now }
     ensures { result ≡ record_bytes (listed_by format.version plane.now) }
 {
@@ -75,7 +75,7 @@ fn part(plane: &PagedPlane, t: usize) -> &[u32]
 }
 
 // Index page `t` of a plane.
-fn index_page_of(plane: &PagedPlane, t: usize) -> [u8; 4096]
+fn index_page_of(plane: &PagedPlane, t: usize) -> [u8; PAGE_BYTES]
     requires { 1024 * t < length plane.now.pages }
     ensures { result ≡ record_bytes (part_of t plane.now.pages) }
 {
@@ -84,7 +84,7 @@ fn index_page_of(plane: &PagedPlane, t: usize) -> [u8; 4096]
 }
 
 // A page of those that list a plane's pages, by its number: the record, and then the index pages.
-fn listing_page(format: Format, plane: &PagedPlane, i: usize) -> [u8; 4096]
+fn listing_page(format: Format, plane: &PagedPlane, i: usize) -> [u8; PAGE_BYTES]
     requires whole { IsWholePlane format plane.now }
     requires index { i < length (listing_of plane.now) }
     ensures { result ≡ listing_bytes format plane.now i }

@@ -17,12 +17,12 @@ ghost use Rattle.cow_tree.specs.OverRoots.{OnlyReads, IsRefusedFor, IsRefusalOfT
 use arrayvec::ArrayVec;
 use disk::Disk;
 use lattice::Refusal;
-use page_codec::{Entry, Format, Kept, PAGE_BYTES, RECORD_PAGES, Record, Root, Version};
+use page_codec::{
+    Entry, FIXED_SECTORS, Format, Kept, PAGE_BYTES, RECORD_PAGES, Record, Root, Version,
+};
 use page_map::{KeptLocations, PageMap, PagedPlane, TilePlanes};
 use roots::Roots;
 use std::alloc::Global;
-
-const FIRST_PAGE: u32 = 4;
 
 /// So many page numbers that a record or an index page lists.
 fn read_listed<D: Disk>(
@@ -38,7 +38,7 @@ fn read_listed<D: Disk>(
     ensures listed { D.honest (disk_of roots.new) → IfOk result (λ pages. D.seen (disk_of roots.old) page ≡ record_bytes pages.items) }
     ensures refused { D.honest (disk_of roots.new) → IfErr result (IsRefusedFor (NoneListed (D.size (disk_of roots.old)) (D.seen (disk_of roots.old)) page count)) }
 {
-    if page < FIRST_PAGE || roots.sectors() <= page {
+    if page < FIXED_SECTORS || roots.sectors() <= page {
         return Err(Refusal::Damaged);
     }
     let mut bytes = [0; PAGE_BYTES];

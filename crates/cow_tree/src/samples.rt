@@ -8,10 +8,8 @@ use crate::tree::Tree;
 use catalogue::Samples;
 use disk::Disk;
 use lattice::{Corner, Point, Refusal, Side};
-use page_codec::PAGE_BYTES;
+use page_codec::{PAGE_BYTES, VALUES_IN_PAGE};
 use page_map::Plane;
-
-const SAMPLES_IN_PAGE: u32 = 2048;
 
 /// Reads samples that stand in one page of the corner's heights.
 fn read_part<D: Disk>(
@@ -30,8 +28,8 @@ fn read_part<D: Disk>(
     ensures length { length into.new ≡ length into.old }
 {
     let mut page = [0; PAGE_BYTES];
-    tree.scan_page(c, Plane::Heights, first / SAMPLES_IN_PAGE, &mut page)?;
-    let from = 2 * (first % SAMPLES_IN_PAGE) as usize;
+    tree.scan_page(c, Plane::Heights, first / VALUES_IN_PAGE, &mut page)?;
+    let from = 2 * (first % VALUES_IN_PAGE) as usize;
     hgt::read_samples(&page[from..from + 2 * into.len()], into);
     Ok(())
 }
@@ -90,9 +88,9 @@ impl<D: Disk> Samples for Tree<D> {
     }
 
     fn sample(&mut self, c: Corner, i: u32) -> Result<i16, Refusal> {
-        let from = 2 * (i % SAMPLES_IN_PAGE) as usize;
+        let from = 2 * (i % VALUES_IN_PAGE) as usize;
         let mut two = [0; 2];
-        self.read_two(c, Plane::Heights, i / SAMPLES_IN_PAGE, from, &mut two)?;
+        self.read_two(c, Plane::Heights, i / VALUES_IN_PAGE, from, &mut two)?;
         let mut one = [0];
         hgt::read_samples(&two, &mut one);
         Ok(one[0])
@@ -104,7 +102,7 @@ impl<D: Disk> Samples for Tree<D> {
         let mut done = 0;
         while done < into.len() {
             let at = first + done as u32;
-            let behind = done + (SAMPLES_IN_PAGE - at % SAMPLES_IN_PAGE) as usize;
+            let behind = done + (VALUES_IN_PAGE - at % VALUES_IN_PAGE) as usize;
             let end = into.len().min(behind);
             read_part(self, c, at, &mut into[done..end])?;
             done = end;

@@ -63,7 +63,7 @@ impl<D: Disk> Tree<D> {
     ghost use Rattle.cow_tree.specs.Clean.{IsClean};
     ghost use Rattle.cow_tree.specs.Reading.{Reads};
     ghost use Rattle.cow_tree.specs.Trees.{disk_of, root_of, page_map_of, has_failed, has_begun, corners_of, sinks_of, Holds, HasStaged, IsUnstaged, records_due, disk_after, staged_in, IsAt, MayRefuse};
-    ghost use Rattle.cow_tree.specs.Uncommitted.{CommitsNothing, MakesNoCall};
+    ghost use Rattle.cow_tree.specs.Uncommitted.{CommitsNothing, MakesNoCall, Returns};
 
     /// Makes an empty store of this format on a disk. A fault before the Ok may leave anything.
     //
@@ -258,7 +258,7 @@ impl<D: Disk> Tree<D> {
         c: Corner,
         plane: Plane,
         i: u32,
-        into: &mut [u8; 4096],
+        into: &mut [u8; PAGE_BYTES],
     ) -> Result<(), Refusal>
         requires held { Holds self.old c plane }
         requires index { i < pages_of (root_of self.old).side }
@@ -328,7 +328,7 @@ impl<D: Disk> Tree<D> {
         c: Corner,
         plane: Plane,
         i: u32,
-        into: &mut [u8; 4096],
+        into: &mut [u8; PAGE_BYTES],
     ) -> Result<(), Refusal>
         requires held { Holds self.old c plane }
         requires index { i < pages_of (root_of self.old).side }
@@ -365,7 +365,7 @@ impl<D: Disk> Tree<D> {
         c: Corner,
         plane: Plane,
         i: u32,
-        page: &[u8; 4096],
+        page: &[u8; PAGE_BYTES],
     ) -> Result<(), Refusal>
         requires not_failed { has_failed self.old ≡ false }
         requires heights { plane ≡ Heights }
@@ -500,14 +500,11 @@ impl<D: Disk> Tree<D> {
         requires not_failed { has_failed self.old ≡ false }
         requires number { (root_of self.old).number + 1 < 2 ^ 64 }
         requires count { count ≤ (root_of self.old).number }
-        ensures size { D.size (disk_of self.new) ≡ D.size (disk_of self.old) }
-        ensures cause { HasCause (D.failures (disk_of self.old)) (D.failures (disk_of self.new)) result }
+        ensures returns { Returns D.Disk self.old self.new result }
         ensures refused { IfErr result (λ refusal. refusal ≡ Device) }
         ensures writes { D.writes (disk_of self.new) ≤ D.writes (disk_of self.old) + records_due self.old + (if has_begun self.old then 2 else 3) }
-        ensures honest { D.honest (disk_of self.new) → D.honest (disk_of self.old) }
         ensures corners { corners_of self.new ≡ corners_of self.old }
         ensures sinks { sinks_of self.new ≡ sinks_of self.old }
-        ensures not_failed { OnOk result (has_failed self.new ≡ false) }
         ensures failed { OnErr result (has_failed self.new ≡ true) }
         ensures last_known { OnErr result (root_of self.new ≡ root_of self.old) }
         ensures number { OnOk result ((root_of self.new).number ≡ (root_of self.old).number + 1) }
@@ -542,7 +539,7 @@ impl<D: Disk> Tree<D> {
             Listings::Due,
         )?;
         self.roots.commit(&root)?;
-        self.page_map.settle();
+        self.page_map.commit();
         Ok(())
     }
 
@@ -556,16 +553,11 @@ impl<D: Disk> Tree<D> {
     pub fn upgrade(&mut self) -> Result<(), Refusal>
         requires not_failed { has_failed self.old ≡ false }
         requires unstaged { IsUnstaged self.old }
-        ensures size { D.size (disk_of self.new) ≡ D.size (disk_of self.old) }
-        ensures cause { IsErrOf result Device → HasRisen (D.failures (disk_of self.old)) (D.failures (disk_of self.new)) }
-        ensures later { D.failures (disk_of self.old) ≤ D.failures (disk_of self.new) }
+        ensures returns { Returns D.Disk self.old self.new result }
         ensures refused { IfErr result (UpgradesNot (D.size (disk_of self.old)) (root_of self.old)) }
         ensures allowed { OnOk result (MayUpgrade (D.size (disk_of self.old)) (root_of self.old)) }
         ensures unchanged { IfErr result (λ why. why ≢ Device → self.new ≡ self.old) }
         ensures writes { D.writes (disk_of self.new) ≤ D.writes (disk_of self.old) + most_upgrade_writes (root_of self.old) }
-        ensures honest { D.honest (disk_of self.new) → D.honest (disk_of self.old) }
-        ensures not_failed { OnOk result (has_failed self.new ≡ false) }
-        ensures device { IsErrOf result Device → has_failed self.new ≡ true }
         ensures last_known { OnErr result (root_of self.new ≡ root_of self.old) }
         ensures version { OnOk result ((root_of self.new).version ≡ Two) }
         ensures number { OnOk result ((root_of self.new).number ≡ (root_of self.old).number + 1) }
@@ -627,7 +619,7 @@ impl<D: Disk> Tree<D> {
         ensures undeclared { D.honest (disk_of self.old) → (s : Stored) → IsAt D.Disk self.old s → sinks_of self.new ≡ s.sinks }
     {
         self.cache.clear();
-        self.page_map.undo();
+        self.page_map.rollback();
         self.sinks = Sinks::of(self.roots.current());
     }
 

@@ -17,7 +17,7 @@ use roots::Roots;
 
 // A page that begins with these bytes, and zeros behind them.
 #[tactic(auto, unfolding(page_codec::specs::Numbers::zeros))]
-fn page_of(bytes: &[u8]) -> [u8; 4096]
+fn page_of(bytes: &[u8]) -> [u8; PAGE_BYTES]
     requires { length bytes.now ≤ 4096 }
     ensures { result ≡ padded 4096 bytes.now }
 {

@@ -3,48 +3,48 @@ use Rattle.std.proofs.Common.{◌≡◌, ℕ, zero, suc, arith, ◌+◌, ◌*◌
 use Rattle.std.specs.Prelude.{Option, Some, None, IfSome, Contains, filter}
 use Rattle.std.specs.List.{list_any}
 use Rattle.std.specs.Option.{is_none}
-use Rattle.std.proofs.lemmas.List.{take_more}
-use Rattle.std.proofs.lemmas.List.Elements.{All-nil, All-cons, All-head, All-tail, All-contains}
+use Rattle.std.proofs.lemmas.List.{append-nil, take_more}
+use Rattle.std.proofs.lemmas.List.Filters.{length-filter_more}
+use Rattle.std.proofs.lemmas.List.Elements.{All-contains, All-contains_itself, All-filter, All-map, All-weaker, filter-append}
 use Rattle.std.proofs.Math.Bool.{and-true, and-false}
 use Rattle.lattice.specs.Corners.{Corner, same_corner}
 use Rattle.lattice.specs.Mosaic.{Tile, Mosaic, IsMosaic}
-use Rattle.lattice.specs.declared.point.Point.{Point}
-use Rattle.lattice.proofs.CornerOrder.{same_says, same_from}
+use Rattle.lattice.proofs.CornerOrder.{same_says}
+use Rattle.lattice.proofs.Filters.{contains_filtered}
 use Rattle.page_codec.specs.Sizes.{pages_of}
 use Rattle.page_codec.specs.Entries.{EntryValue}
 use Rattle.catalogue.specs.Tiles.{is_listed}
+use Rattle.catalogue.proofs.Presence.{listed_from}
 use Rattle.tile_flood.specs.Kept.{AreKeptOf}
 use Rattle.cow_tree.specs.Kept.{planes_of_bytes, with_kept_in, with_kept}
-use Rattle.cow_tree.specs.Stored.{IsPage, AreWhole, KeptPlanes, StoredTile, Stored, next_commit, plane_bytes, pages_of_bytes, samples_of_plane, mosaic_of_tiles, corners_of_stored}
-use Rattle.cow_tree.proofs.Planes.{plane_read_back, whole_pages}
+use Rattle.cow_tree.specs.Stored.{IsPage, KeptPlanes, StoredTile, Stored, next_commit, plane_bytes, pages_of_bytes, samples_of_plane, mosaic_of_tiles, corners_of_stored}
+use Rattle.cow_tree.proofs.Listed.Adding.{contains-map}
+use Rattle.cow_tree.proofs.Writes.Planes.{plane_read_back, whole_pages}
 use Rattle.derived.specs.Kept.{AreRight, KeepRight, KeepsRight, IsFresh, mosaic_stored, stale_corners, stale_among}
 use Rattle.derived.specs.Steps.{IsStepped}
 
 -- a stored tile as one of the mosaic
-abbrev as_tile : ℕ → StoredTile → Tile
+abbrev pub as_tile : ℕ → StoredTile → Tile
 as_tile n t = record { corner = t.corner; samples = samples_of_plane n t.heights }
 
-module _ (c : Corner) (kept : KeptPlanes) where
-  -- no height changes
-  same_tiles : (n : ℕ) (tiles : List StoredTile) → map (as_tile n) (with_kept c kept tiles) ≡ map (as_tile n) tiles
+-- ---- of each tile only what it keeps changes
+
+module _ (f : StoredTile → StoredTile) (rest_stays : (t : StoredTile) → f t ≡ record t { kept = (f t).kept }) where
+  pub same_tiles : (n : ℕ) (tiles : List StoredTile) → map (as_tile n) (map f tiles) ≡ map (as_tile n) tiles
   same_tiles n [] = refl
-  same_tiles n (t ∷ rest) = ap₂ (λ (x : Tile) (xs : List Tile). x ∷ xs) (by (same_corner t.corner c)) (same_tiles n rest)
+  same_tiles n (t ∷ rest) = ap₂ (λ (x : Tile) (xs : List Tile). x ∷ xs) (ap (as_tile n) (rest_stays t)) (same_tiles n rest)
+
+  -- what is said of all tiles, and of none's kept planes
+  pub still_all : (P : StoredTile → Type 0) → ((t : StoredTile) (kept : Option KeptPlanes) → P t → P (record t { kept = kept })) → (tiles : List StoredTile) → All P tiles → All P (map f tiles)
+  still_all P stays tiles all = All-map P f tiles (λ k d below. subst P (sym (rest_stays (get_or tiles k d))) (stays (get_or tiles k d) (f (get_or tiles k d)).kept (all k d below)))
+
+module _ (c : Corner) (kept : KeptPlanes) where
+  pub others_stay : (t : StoredTile) → with_kept_in c kept t ≡ record t { kept = (with_kept_in c kept t).kept }
+  others_stay t = by (same_corner t.corner c)
     where
-      by : (b : Bool) → as_tile n (cond b (record t { kept = Some kept }) t) ≡ as_tile n t
+      by : (b : Bool) → cond b (record t { kept = Some kept }) t ≡ record t { kept = (cond b (record t { kept = Some kept }) t).kept }
       by true = refl
       by false = refl
-
-  pub same_mosaic : (n : ℕ) (sinks : List Point) (tiles : List StoredTile) → mosaic_of_tiles n sinks (with_kept c kept tiles) ≡ mosaic_of_tiles n sinks tiles
-  same_mosaic n sinks tiles = ap (λ (ts : List Tile). record { side = n; sinks = sinks; tiles = ts }) (same_tiles n tiles)
-
-  still_whole : (tiles : List StoredTile) → AreWhole tiles → AreWhole (with_kept c kept tiles)
-  still_whole [] whole = All-nil (λ t. All IsPage t.heights)
-  still_whole (t ∷ rest) whole =
-      All-cons (λ u. All IsPage u.heights) (with_kept_in c kept t) (with_kept c kept rest) (by (same_corner t.corner c)) (still_whole rest (All-tail (λ u. All IsPage u.heights) t rest whole))
-    where
-      by : (b : Bool) → All IsPage (cond b (record t { kept = Some kept }) t).heights
-      by true = All-head (λ u. All IsPage u.heights) t rest whole
-      by false = All-head (λ u. All IsPage u.heights) t rest whole
 
   -- what is kept is right
   one_right : (m : Mosaic) → AreRight m c kept → (t : StoredTile) → IfSome t.kept (AreRight m t.corner) → IfSome (with_kept_in c kept t).kept (AreRight m (with_kept_in c kept t).corner)
@@ -55,11 +55,9 @@ module _ (c : Corner) (kept : KeptPlanes) where
       by false other = was
 
   pub still_right : (m : Mosaic) → AreRight m c kept → (tiles : List StoredTile) → KeepRight m tiles → KeepRight m (with_kept c kept tiles)
-  still_right m right [] keeps = All-nil (λ t. IfSome t.kept (AreRight m t.corner))
-  still_right m right (t ∷ rest) keeps =
-      All-cons (λ u. IfSome u.kept (AreRight m u.corner)) (with_kept_in c kept t) (with_kept c kept rest)
-      (one_right m right t (All-head (λ u. IfSome u.kept (AreRight m u.corner)) t rest keeps))
-      (still_right m right rest (All-tail (λ u. IfSome u.kept (AreRight m u.corner)) t rest keeps))
+  still_right m right tiles keeps =
+      let Right : StoredTile → Type 0 = λ t. IfSome t.kept (AreRight m t.corner) in
+      All-map Right (with_kept_in c kept) tiles (All-weaker Right (λ t. Right (with_kept_in c kept t)) (one_right m right) tiles keeps)
 
   -- so the step is one
   pub is_stepped : (s : Stored) → KeepsRight s → Contains (stale_corners s.tiles) c → AreRight (mosaic_stored s) c kept → IsStepped s c (next_commit s s.sinks (with_kept c kept s.tiles) s.count)
@@ -69,14 +67,14 @@ module _ (c : Corner) (kept : KeptPlanes) where
     right = right;
     now_is = refl;
     still = record {
-      pages = still_whole s.tiles keeps.pages;
+      pages = still_all (with_kept_in c kept) others_stay (λ t. All IsPage t.heights) (λ t k pages. pages) s.tiles keeps.pages;
       valid = subst IsMosaic (sym same) keeps.valid;
       kept = subst (λ (m : Mosaic). KeepRight m (with_kept c kept s.tiles)) (sym same) (still_right (mosaic_stored s) right s.tiles keeps.kept);
     };
   }
     where
       same : mosaic_of_tiles s.side s.sinks (with_kept c kept s.tiles) ≡ mosaic_stored s
-      same = same_mosaic s.side s.sinks s.tiles
+      same = ap (λ (ts : List Tile). record { side = s.side; sinks = s.sinks; tiles = ts }) (same_tiles (with_kept_in c kept) others_stay s.side s.tiles)
 
   -- one tile less is stale
   abbrev other : Corner → Bool
@@ -116,40 +114,28 @@ planes_right n m c levels labels side are levels_whole labels_whole level_bytes 
 
 -- a stale corner is a present one
 pub stale_present : (entries : List EntryValue) (c : Corner) → Contains (stale_among entries) c → Contains (map (λ e. e.corner) entries) c
-stale_present [] c there = there
-stale_present (e ∷ rest) c there = by (is_none e.kept) (stale_present rest c) there
-  where
-    later : Contains (map (λ (x : EntryValue). x.corner) rest) c → Contains (map (λ (x : EntryValue). x.corner) (e ∷ rest)) c
-    later (k, below, here) = (suc k, omega (arith, below), here)
-
-    by : (b : Bool) → (Contains (stale_among rest) c → Contains (map (λ (x : EntryValue). x.corner) rest) c)
-        → Contains (map (λ (x : EntryValue). x.corner) (cond b (e ∷ filter (λ x. is_none x.kept) rest) (filter (λ x. is_none x.kept) rest))) c → Contains (map (λ (x : EntryValue). x.corner) (e ∷ rest)) c
-    by true present (zero, below, here) = (0, omega arith, here)
-    by true present (suc k, below, here) = later (present (k, omega (arith, below), here))
-    by false present has = later (present has)
+stale_present entries c there =
+    let corner : EntryValue → Corner = λ e. e.corner in
+    let Present : Corner → Type 0 = Contains (map corner entries) in
+    let all : All (λ e. Present e.corner) entries = All-weaker (Contains entries) (λ e. Present e.corner) (λ e. contains-map corner entries e) entries (All-contains_itself entries) in
+    All-contains Present (stale_among entries) c (All-map Present corner (filter (λ e. is_none e.kept) entries) (All-filter (λ e. is_none e.kept) (λ e. Present e.corner) entries all)) there
 
 -- ---- the first stale entry, entry by entry
 
 pub stale_found : (entries : List EntryValue) (e : EntryValue) → Contains entries e → is_none e.kept ≡ true → Contains (stale_among entries) e.corner
-stale_found [] e (k, below, here) none = absurd (omega (arith, below))
-stale_found (x ∷ rest) e (zero, below, here) none =
-    subst (λ (b : Bool). Contains (map (λ (y : EntryValue). y.corner) (cond b (x ∷ filter (λ y. is_none y.kept) rest) (filter (λ y. is_none y.kept) rest))) e.corner)
-    (sym (ap (λ (y : EntryValue). is_none y.kept) here ∙ none)) (0, omega arith, ap (λ (y : EntryValue). y.corner) here)
-stale_found (x ∷ rest) e (suc k, below, here) none = by (is_none x.kept) (stale_found rest e (k, omega (arith, below), here) none)
-  where
-    by : (b : Bool) → Contains (stale_among rest) e.corner → Contains (map (λ (y : EntryValue). y.corner) (cond b (x ∷ filter (λ y. is_none y.kept) rest) (filter (λ y. is_none y.kept) rest))) e.corner
-    by true (j, within, there) = (suc j, omega (arith, within), there)
-    by false there = there
+stale_found entries e there none = contains-map (λ (x : EntryValue). x.corner) (filter (λ x. is_none x.kept) entries) e (contains_filtered (λ x. is_none x.kept) entries e there none)
 
 stale_append : (entries : List EntryValue) (e : EntryValue) → is_none e.kept ≡ false → stale_among (entries ++ e ∷ []) ≡ stale_among entries
-stale_append [] e some = ap (λ (b : Bool). map (λ (y : EntryValue). y.corner) (cond b (e ∷ []) [])) some
-stale_append (x ∷ rest) e some = by (is_none x.kept) (stale_append rest e some)
-  where
-    by : (b : Bool) → stale_among (rest ++ e ∷ []) ≡ stale_among rest
-        → map (λ (y : EntryValue). y.corner) (cond b (x ∷ filter (λ y. is_none y.kept) (rest ++ e ∷ [])) (filter (λ y. is_none y.kept) (rest ++ e ∷ [])))
-        ≡ map (λ (y : EntryValue). y.corner) (cond b (x ∷ filter (λ y. is_none y.kept) rest) (filter (λ y. is_none y.kept) rest))
-    by true later = ap (λ (cs : List Corner). x.corner ∷ cs) later
-    by false later = later
+stale_append entries e some =
+    let stale : List EntryValue = filter (λ x. is_none x.kept) entries in
+    ap (map (λ (x : EntryValue). x.corner)) (filter-append (λ x. is_none x.kept) entries (e ∷ []) ∙ ap (λ (b : Bool). stale ++ cond b (e ∷ []) []) some ∙ append-nil stale)
+
+-- one entry more is counted
+pub one_counted : (entries : List EntryValue) (i : ℕ) (e : EntryValue) (b : Bool) → i < length entries → e ≡ get_or entries i e → is_none e.kept ≡ b
+    → length (filter (λ (x : EntryValue). is_none x.kept) (take (i + 1) entries)) ≡ length (filter (λ (x : EntryValue). is_none x.kept) (take i entries)) + cond b 1 0
+one_counted entries i e b below is here =
+    length-filter_more (λ (x : EntryValue). is_none x.kept) entries i e below
+    ∙ ap (λ (c : Bool). length (filter (λ (x : EntryValue). is_none x.kept) (take i entries)) + cond c 1 0) (ap (λ (x : EntryValue). is_none x.kept) (sym is) ∙ here)
 
 pub none_more : (entries : List EntryValue) (i : ℕ) (e : EntryValue) → i < length entries → e ≡ get_or entries i e → is_none e.kept ≡ false → stale_among (take i entries) ≡ [] → stale_among (take (i + 1) entries) ≡ []
 none_more entries i e below is some before =
@@ -176,29 +162,20 @@ pub record KeepsPlanes (tiles : List StoredTile) (c : Corner) : Type 0 where
   pub kept : KeptPlanes
   pub keeps : tile.kept ≡ Some kept
 
-pub keeps_unlisted : (tiles : List StoredTile) (c : Corner) → Contains (corners_of_stored tiles) c → is_listed c (stale_corners tiles) ≡ false → KeepsPlanes tiles c
-keeps_unlisted [] c (k, below, here) fresh = absurd (omega (arith, below))
-keeps_unlisted (t ∷ rest) c (zero, below, here) fresh = by t.kept refl
-  where
-    by : (kept : Option KeptPlanes) → t.kept ≡ kept → KeepsPlanes (t ∷ rest) c
-    by (Some planes) is = record { tile = t; stored = (0, omega arith, refl); corner = here; kept = planes; keeps = is }
-    by None is =
-        let listed : is_listed c (corners_of_stored (cond (is_none t.kept) (t ∷ filter (λ u. is_none u.kept) rest) (filter (λ u. is_none u.kept) rest))) ≡ false = fresh in
-        let first : (same_corner t.corner c || is_listed c (stale_corners rest)) ≡ false =
-        subst (λ (kept : Option KeptPlanes). is_listed c (corners_of_stored (cond (is_none kept) (t ∷ filter (λ u. is_none u.kept) rest) (filter (λ u. is_none u.kept) rest))) ≡ false) is listed in
-        absurd (true≢false (sym (ap (λ (b : Bool). b || is_listed c (stale_corners rest)) (same_from t.corner c here)) ∙ first))
-keeps_unlisted (t ∷ rest) c (suc k, below, here) fresh = later (keeps_unlisted rest c (k, omega (arith, below), here) (by (is_none t.kept) fresh))
-  where
-    by : (b : Bool) → is_listed c (corners_of_stored (cond b (t ∷ filter (λ u. is_none u.kept) rest) (filter (λ u. is_none u.kept) rest))) ≡ false → is_listed c (stale_corners rest) ≡ false
-    by true none = only (same_corner t.corner c) none
-      where
-        only : (x : Bool) → (x || is_listed c (stale_corners rest)) ≡ false → is_listed c (stale_corners rest) ≡ false
-        only true e = absurd (true≢false e)
-        only false e = e
-    by false none = none
+-- the tile of a corner that is there
+tile_at : (tiles : List StoredTile) (c : Corner) → Contains (corners_of_stored tiles) c → (t : StoredTile) × (Contains tiles t × (t.corner ≡ c))
+tile_at [] c (k, below, here) = absurd (omega (arith, below))
+tile_at (t ∷ rest) c (zero, below, here) = (t, ((0, omega arith, refl), here))
+tile_at (t ∷ rest) c (suc k, below, here) = let (u, (there, is)) = tile_at rest c (k, omega (arith, below), here) in (u, ((suc there.0, omega (arith, there.1), there.2), is))
 
-    later : KeepsPlanes rest c → KeepsPlanes (t ∷ rest) c
-    later is = record { tile = is.tile; stored = (suc is.stored.0, omega (arith, is.stored.1), is.stored.2); corner = is.corner; kept = is.kept; keeps = is.keeps }
+pub keeps_unlisted : (tiles : List StoredTile) (c : Corner) → Contains (corners_of_stored tiles) c → is_listed c (stale_corners tiles) ≡ false → KeepsPlanes tiles c
+keeps_unlisted tiles c present fresh = let (t, (there, is)) = tile_at tiles c present in by t there is t.kept refl
+  where
+    by : (t : StoredTile) → Contains tiles t → t.corner ≡ c → (kept : Option KeptPlanes) → t.kept ≡ kept → KeepsPlanes tiles c
+    by t there is (Some planes) keeps = record { tile = t; stored = there; corner = is; kept = planes; keeps = keeps }
+    by t there is None none =
+        let stale : Contains (stale_corners tiles) t.corner = contains-map (λ (u : StoredTile). u.corner) (filter (λ u. is_none u.kept) tiles) t (contains_filtered (λ u. is_none u.kept) tiles t there (ap is_none none)) in
+        absurd (true≢false (sym (listed_from c (stale_corners tiles) (subst (Contains (stale_corners tiles)) is stale)) ∙ fresh))
 
 -- and they are right
 pub is_fresh : (s : Stored) (c : Corner) → KeepsRight s → Contains (corners_of_stored s.tiles) c → is_listed c (stale_corners s.tiles) ≡ false → IsFresh s c

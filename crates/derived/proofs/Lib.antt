@@ -1,4 +1,4 @@
+pub mod Commits
 pub mod KeptTiles
 pub mod RootStored
 pub mod Settled
-pub mod StepEnds

@@ -3,27 +3,27 @@ use Rattle.std.proofs.Common.{◌≡◌, List, map, sym, ap, ap₂, ◌∙◌, s
 use Rattle.disk.specs.declared.disk.Disk.{Ghosts}
 use Rattle.lattice.specs.Mosaic.{IsMosaic}
 use Rattle.lattice.specs.declared.point.Point.{Point}
-use Rattle.page_map.specs.PageMaps.{PageMapValue}
 use Rattle.page_map.specs.TileLocations.{TileLocation}
 use Rattle.cow_tree.specs.Layout.{tile_in}
 use Rattle.cow_tree.specs.Reading.{mosaic_of, IsReadable}
 use Rattle.cow_tree.specs.Stored.{StoredTile, Stored, AreWhole, mosaic_of_tiles}
-use Rattle.cow_tree.specs.Trees.{disk_of, root_of, page_map_of, sinks_of, staged_in, IsUnstaged, IsAt}
+use Rattle.cow_tree.specs.Trees.{disk_of, root_of, sinks_of, staged_in, IsUnstaged, IsAt}
 use Rattle.cow_tree.specs.declared.tree.Tree.{Tree}
-use Rattle.derived.specs.Clean.{IsSettled}
 use Rattle.derived.specs.Kept.{KeepsRight, mosaic_stored}
-use Rattle.derived.proofs.RootStored.{seen_stores, side_at, sinks_at}
+use Rattle.derived.proofs.RootStored.{side_at, sinks_at, tiles_at}
+
+-- the tree is at this, and its tiles and sinks are those that the next commit will have
+pub record IsSettled {D : Type 0} (g : Ghosts D) (tree : Tree D g) (s : Stored) : Type 0 where
+  pub at : IsAt g tree s
+  pub tiles : staged_in g tree ≡ s.tiles
+  pub sinks : sinks_of tree ≡ s.sinks
 
 module _ {D : Type 0} (g : Ghosts D) where
-  -- on the same disk the same tiles are staged
-  pub staged_same : (old new : Tree D g) → disk_of new ≡ disk_of old → page_map_of new ≡ page_map_of old → staged_in g new ≡ staged_in g old
-  staged_same old new disk page_map = ap₂ (λ (x : D) (y : PageMapValue). map (tile_in (g.seen x)) y.staged) disk page_map
-
   -- where nothing is staged, the tiles and the sinks are those of what the tree is at
   pub settled_at : (tree : Tree D g) (s : Stored) → IsUnstaged tree → sinks_of tree ≡ (root_of tree).sinks → IsAt g tree s → g.may (disk_of tree) (g.seen (disk_of tree)) → IsSettled g tree s
   settled_at tree s unstaged declared at seen = record {
     at = at;
-    tiles = ap (λ (tiles : List TileLocation). map (tile_in (g.seen (disk_of tree))) tiles) unstaged ∙ sym (ap (λ (x : Stored). x.tiles) (seen_stores g tree s at seen).stands);
+    tiles = ap (λ (tiles : List TileLocation). map (tile_in (g.seen (disk_of tree))) tiles) unstaged ∙ sym (tiles_at g tree s at seen);
     sinks = declared ∙ sym (sinks_at g tree s at seen);
   }
 

@@ -1,12 +1,12 @@
 //! Which tiles are stale: of those that are present, the ones of which no levels and labels are kept.
-ghost use Rattle.std.specs.Prelude.{◌≡◌, ◌&&◌, [], false, Contains, MatchOption};
+ghost use Rattle.std.specs.Prelude.{◌≡◌, ◌&&◌, [], false, length, Contains, MatchOption};
 ghost use Rattle.std.specs.List.{list_any};
 ghost use Rattle.std.specs.Option.{is_none};
 ghost use Rattle.lattice.specs.Corners.{same_corner};
 ghost use Rattle.catalogue.specs.Tiles.{is_listed};
 ghost use Rattle.cow_tree.specs.Stored.{Stored, corners_of_stored};
 ghost use Rattle.cow_tree.specs.Trees.{disk_of, root_of, IsAt};
-ghost use Rattle.derived.specs.Kept.{stale_in, KeepsRight, IsFresh};
+ghost use Rattle.derived.specs.Kept.{stale_among, stale_in, KeepsRight, IsFresh};
 
 use crate::stepping::first_stale;
 use cow_tree::Tree;
@@ -30,6 +30,26 @@ pub fn next_stale<D: Disk>(tree: &Tree<D>) -> Option<Corner>
     ensures { MatchOption result (stale_in (root_of tree.now) ≡ []) (Contains (stale_in (root_of tree.now))) }
 {
     first_stale(tree.current().entries())
+}
+
+/// How many tiles are stale, as last known.
+pub fn stale_count<D: Disk>(tree: &Tree<D>) -> usize
+    ensures { result ≡ length (stale_in (root_of tree.now)) }
+{
+    count_stale(tree.current().entries())
+}
+
+// How many of the tiles keep nothing.
+fn count_stale(entries: &[Entry]) -> usize
+    ensures { result ≡ length (stale_among entries.now) }
+{
+    let mut count = 0;
+    for entry in entries {
+        if entry.kept.is_none() {
+            count += 1;
+        }
+    }
+    count
 }
 
 // Whether some entry is the corner's and keeps nothing.

@@ -1,15 +1,18 @@
 //! Steps: the levels and labels of one stale tile more are kept.
-ghost use Rattle.std.specs.Prelude.{◌≡◌, ◌≤◌, ◌<◌, ◌+◌, ◌*◌, ◌^◌, ◌⊎◌, false, true, [], Err, Contains, IfOk, IfErr, OnOk, IsErrOf, IfSome, Some, MatchOption, length, vec_len};
+ghost use Rattle.std.specs.Prelude.{◌≡◌, ◌≤◌, ◌+◌, ◌*◌, ◌⊎◌, false, true, [], Err, Contains, IfOk, IfErr, OnOk, IsErrOf, IfSome, Some, MatchOption, vec_len, if◌then◌else◌};
 ghost use Rattle.disk.specs.Disk.{HasRisen};
 ghost use Rattle.lattice.specs.declared.refusal.Refusal.TheVariants.{Device, NoMemory, Failed};
 ghost use Rattle.page_codec.specs.Sizes.{plane_pages_of};
 ghost use Rattle.page_codec.specs.Roots.{format_of};
 ghost use Rattle.tile_flood.specs.Kept.{AreKeptOf};
 ghost use Rattle.tile_labellings.specs.Labellings.{IsFlooded};
-ghost use Rattle.cow_tree.specs.Reading.{mosaic_of, HasOnlyRead, IsReadable};
-ghost use Rattle.cow_tree.specs.Trees.{disk_of, root_of, has_failed, corners_of, sinks_of};
-ghost use Rattle.derived.specs.Kept.{stale_among, stale_in};
 ghost use Rattle.cow_tree.specs.Clean.{IsClean};
+ghost use Rattle.cow_tree.specs.Kept.{with_kept};
+ghost use Rattle.cow_tree.specs.Reading.{mosaic_of, HasOnlyRead, IsReadable};
+ghost use Rattle.cow_tree.specs.Stored.{KeptPlanes as KeptPages, Stored};
+ghost use Rattle.cow_tree.specs.Trees.{disk_of, root_of, page_map_of, has_failed, has_begun, corners_of, sinks_of, records_due, staged_in, IsAt};
+ghost use Rattle.cow_tree.specs.Uncommitted.{CommitsNothing};
+ghost use Rattle.derived.specs.Kept.{stale_among, stale_in, AreRight};
 ghost use Rattle.derived.specs.Steps.{HasStepped};
 
 use cow_tree::Tree;
@@ -20,28 +23,13 @@ use std::alloc::Global;
 use tile_flood::Labelled;
 use tile_labellings::{KeptPlanes, kept_planes, planes_of};
 
-/// Floods the first stale tile, keeps its levels and labels and names it, or answers none where no tile is stale. A step is
-/// a commit at the same count of commands. What was staged before is given up.
+/// Keeps levels and labels of the first stale tile and names it, or answers none where no tile is stale. Where a labelling is
+/// given, which is of the tile at `at`, and that is the first stale tile, they are those of the labelling; else the tile is
+/// flooded. A step is a commit at the same count of commands. What was staged before is given up.
 ///
 /// Refused with Failed, with Worn where the commit number can't grow, or for the disk or for memory, which is had before
 /// the first write.
-pub fn step<D: Disk>(alloc: Global, tree: &mut Tree<D>) -> Result<Option<Corner>, Refusal>
-    ensures stepped { has_failed tree.old ≡ false → HasStepped D.Disk (λ _. Unit {0}) tree.old tree.new result }
-
-    ensures clean { has_failed tree.new ≡ false → IsClean tree.new }
-
-    // It writes two planes with what lists their pages, a root and two gates at most, on any disk.
-    ensures writes { D.writes (disk_of tree.new) ≤ D.writes (disk_of tree.old) + (2 * plane_pages_of (format_of (root_of tree.old)) + 3) }
-
-    // A tree that failed makes no call of the disk, and stays failed.
-    ensures failed { has_failed tree.old ≡ true → (result ≡ Err Failed) × (tree.new ≡ tree.old) }
-{
-    step_held(alloc, tree, None, None)
-}
-
-/// Steps as `step` does. Where a labelling is given, which is of the tile at `at`, and that is the first stale tile, the
-/// levels and labels are those of the labelling, and nothing is flooded.
-pub fn step_held<D: Disk>(
+pub fn step<D: Disk>(
     alloc: Global,
     tree: &mut Tree<D>,
     at: Option<Corner>,
@@ -51,7 +39,7 @@ pub fn step_held<D: Disk>(
 
     ensures clean { has_failed tree.new ≡ false → IsClean tree.new }
 
-    // It writes as much as a step does, on any disk.
+    // It writes two planes with what lists their pages, a root and two gates at most, on any disk.
     ensures writes { D.writes (disk_of tree.new) ≤ D.writes (disk_of tree.old) + (2 * plane_pages_of (format_of (root_of tree.old)) + 3) }
 
     // A tree that failed makes no call of the disk, and stays failed.
@@ -68,10 +56,11 @@ pub fn step_held<D: Disk>(
     if root.number() == u64::MAX {
         return Err(Refusal::Worn);
     }
-    match labelling_of(at, labelled, root.side(), corner) {
-        Some(labelled) => keep_labelled(alloc, tree, corner, labelled),
-        None => keep(alloc, tree, corner),
-    }
+    let found = labelling_of(at, labelled, root.side(), corner);
+    stage_planes(alloc, tree, corner, found)?;
+    let count = tree.current().count();
+    tree.commit(count)?;
+    Ok(Some(corner))
 }
 
 // The labelling, where it is one of this corner's tile and of this side.
@@ -103,52 +92,45 @@ pub(crate) fn first_stale(entries: &[Entry]) -> Option<Corner>
     None
 }
 
-// Keeps the levels and labels of this stale tile, where nothing is staged: those of the labelling.
-fn keep_labelled<D: Disk>(
+// Stages levels and labels of this stale tile, where nothing is staged: those of the labelling, or of a flood.
+fn stage_planes<D: Disk>(
     alloc: Global,
     tree: &mut Tree<D>,
     corner: Corner,
-    labelled: &Labelled,
-) -> Result<Option<Corner>, Refusal>
+    labelled: Option<&Labelled>,
+) -> Result<(), Refusal>
     requires works { has_failed tree.old ≡ false }
     requires clean { IsClean tree.old }
-    requires declared { sinks_of tree.old ≡ (root_of tree.old).sinks }
     requires stale { Contains (stale_in (root_of tree.old)) corner }
-    requires number { (root_of tree.old).number + 1 < 2 ^ 64 }
-    requires side { labelled.now.side ≡ (root_of tree.old).side }
-    ensures stepped { HasStepped D.Disk (λ m. IsFlooded m corner labelled.now) tree.old tree.new result }
-    ensures writes { D.writes (disk_of tree.new) ≤ D.writes (disk_of tree.old) + (2 * plane_pages_of (format_of (root_of tree.old)) + 3) }
+    requires side { IfSome labelled (λ l. l.now.side ≡ (root_of tree.old).side) }
+    ensures uncommitted { CommitsNothing D.Disk tree.old tree.new result }
+    ensures refused { IfErr result (λ r. (r ≡ Device) ⊎ (r ≡ NoMemory)) }
+    ensures no_memory { IsErrOf result NoMemory → (has_failed tree.new ≡ false) × (page_map_of tree.new ≡ page_map_of tree.old) × (D.writes (disk_of tree.new) ≡ D.writes (disk_of tree.old)) }
+    ensures sinks { sinks_of tree.new ≡ sinks_of tree.old }
+    ensures writes { D.writes (disk_of tree.new) ≤ D.writes (disk_of tree.old) + (2 * plane_pages_of (format_of (root_of tree.old)) + 1) }
+
+    // .. and so much with the commit.
+    ensures few { OnOk result (D.writes (disk_of tree.new) + records_due tree.new + (if has_begun tree.new then 2 else 3) ≤ D.writes (disk_of tree.old) + (2 * plane_pages_of (format_of (root_of tree.old)) + 3)) }
+    ensures staged { D.honest (disk_of tree.new) → (s : Stored) → IsAt D.Disk tree.old s → IsReadable D.Disk tree.old
+        → IfSome labelled.entry (λ l. IsFlooded (mosaic_of D.Disk tree.old) corner l.now)
+        → OnOk result ((kept : KeptPages) × AreRight (mosaic_of D.Disk tree.old) corner kept × (staged_in D.Disk tree.new ≡ with_kept corner kept (staged_in D.Disk tree.old))) }
 {
-    let planes = planes_of(alloc, labelled)?;
-    commit_planes(tree, corner, &planes.levels, &planes.labels)
+    let planes = tile_planes(alloc, tree, corner, labelled)?;
+    bytes_in_range(&planes.levels);
+    bytes_in_range(&planes.labels);
+    tree.stage_kept(corner, &planes.levels, &planes.labels)
 }
 
-// Keeps the levels and labels of this stale tile, where nothing is staged: those of a flood.
-fn keep<D: Disk>(
+// The levels and labels of the corner's tile: those of the labelling, or of a flood. Samples are read, and nothing is staged.
+fn tile_planes<D: Disk>(
     alloc: Global,
     tree: &mut Tree<D>,
     corner: Corner,
-) -> Result<Option<Corner>, Refusal>
-    requires works { has_failed tree.old ≡ false }
-    requires clean { IsClean tree.old }
-    requires declared { sinks_of tree.old ≡ (root_of tree.old).sinks }
-    requires stale { Contains (stale_in (root_of tree.old)) corner }
-    requires number { (root_of tree.old).number + 1 < 2 ^ 64 }
-    ensures stepped { HasStepped D.Disk (λ _. Unit {0}) tree.old tree.new result }
-    ensures writes { D.writes (disk_of tree.new) ≤ D.writes (disk_of tree.old) + (2 * plane_pages_of (format_of (root_of tree.old)) + 3) }
-{
-    let planes = read_planes(alloc, tree, corner)?;
-    commit_planes(tree, corner, &planes.levels, &planes.labels)
-}
-
-// The levels and labels of the corner's tile, flooded. Samples are read, and nothing is staged.
-fn read_planes<D: Disk>(
-    alloc: Global,
-    tree: &mut Tree<D>,
-    corner: Corner,
+    labelled: Option<&Labelled>,
 ) -> Result<KeptPlanes, Refusal>
     requires works { has_failed tree.old ≡ false }
     requires present { Contains (corners_of tree.old) corner }
+    requires side { IfSome labelled (λ l. l.now.side ≡ (root_of tree.old).side) }
     ensures reads { HasOnlyRead D.Disk tree.old tree.new }
     ensures device { IsErrOf result Device → HasRisen (D.failures (disk_of tree.old)) (D.failures (disk_of tree.new)) }
     ensures failed { IsErrOf result Device → has_failed tree.new ≡ true }
@@ -156,33 +138,11 @@ fn read_planes<D: Disk>(
     ensures refusal { IfErr result (λ r. (r ≡ Device) ⊎ ((r ≡ NoMemory) × (has_failed tree.new ≡ false))) }
     ensures levels { IfOk result (λ planes. vec_len planes.levels ≡ 2 * ((root_of tree.old).side * (root_of tree.old).side)) }
     ensures labels { IfOk result (λ planes. vec_len planes.labels ≡ 2 * ((root_of tree.old).side * (root_of tree.old).side)) }
-    ensures right { IsReadable D.Disk tree.new
+    ensures right { IsReadable D.Disk tree.new → IfSome labelled.entry (λ l. IsFlooded (mosaic_of D.Disk tree.old) corner l.now)
         → IfOk result (λ planes. AreKeptOf (mosaic_of D.Disk tree.old) corner planes.levels.items planes.labels.items) }
 {
-    kept_planes(alloc, tree, corner)
-}
-
-// Stages these levels and labels of the stale tile, and commits them at the same count of commands.
-fn commit_planes<D: Disk>(
-    tree: &mut Tree<D>,
-    corner: Corner,
-    levels: &[u8],
-    labels: &[u8],
-) -> Result<Option<Corner>, Refusal>
-    requires works { has_failed tree.old ≡ false }
-    requires clean { IsClean tree.old }
-    requires declared { sinks_of tree.old ≡ (root_of tree.old).sinks }
-    requires stale { Contains (stale_in (root_of tree.old)) corner }
-    requires number { (root_of tree.old).number + 1 < 2 ^ 64 }
-    requires levels { length levels.now ≡ 2 * ((root_of tree.old).side * (root_of tree.old).side) }
-    requires labels { length labels.now ≡ 2 * ((root_of tree.old).side * (root_of tree.old).side) }
-    ensures stepped { HasStepped D.Disk (λ m. AreKeptOf m corner levels.now labels.now) tree.old tree.new result }
-    ensures writes { D.writes (disk_of tree.new) ≤ D.writes (disk_of tree.old) + (2 * plane_pages_of (format_of (root_of tree.old)) + 3) }
-{
-    bytes_in_range(levels);
-    bytes_in_range(labels);
-    tree.stage_kept(corner, levels, labels)?;
-    let count = tree.current().count();
-    tree.commit(count)?;
-    Ok(Some(corner))
+    match labelled {
+        Some(labelled) => planes_of(alloc, labelled),
+        None => kept_planes(alloc, tree, corner),
+    }
 }

@@ -24,13 +24,13 @@ mod note;
 mod recorded_file;
 mod sector;
 mod sector_file;
-mod settled;
 mod system_cache;
 mod tally;
 mod torn;
 mod transcript;
 mod unsynced;
 mod world;
+mod writing_through;
 
 pub use disk::{Disk, Fault};
 pub use fault_once::{FaultOnceDisk, OneFault};
@@ -41,7 +41,7 @@ pub use file_laws::{
 };
 pub use fuse::{Fuse, FuseDisk};
 pub use memory::MemDisk;
-pub use settled::settle;
 pub use tally::{CountedDisk, Tally};
 pub use torn::Torn;
 pub use world::World;
+pub use writing_through::write_through;

@@ -19,7 +19,7 @@ use Rattle.edits.specs.Edits.{AreVoidTiles, holds_any, points_of}
 use Rattle.edits.specs.Effect.{has_void_from}
 use Rattle.edits.specs.Touched.{are_neighbours, holds_one}
 use Rattle.edits.specs.Touched.{is_near_one}
-use Rattle.edits.proofs.Voids.{any_says, any_from, tile_at}
+use Rattle.edits.proofs.BoxVoids.Voids.{any_says, any_from, tile_at}
 
 any_corner : (test : Corner → Bool) (ts : List Tile) → list_any test (map (λ t. t.corner) ts) ≡ list_any (λ t. test t.corner) ts
 any_corner test [] = refl

@@ -25,7 +25,7 @@ use Rattle.edits.proofs.AllStale.{near_itself}
 use Rattle.edits.proofs.Untouched.{fresh_stays}
 use Rattle.edits.proofs.NewMosaics.{new_side}
 use Rattle.lattice.proofs.SamePoints.{same_point_says}
-use Rattle.edits.proofs.Voids.{any_from, tile_at}
+use Rattle.edits.proofs.BoxVoids.Voids.{any_from, tile_at}
 
 -- ---- a point more or less leaves the others
 

@@ -22,8 +22,8 @@ use Rattle.edits.specs.Effect.{effect, changed_from, edited, is_named, has_void_
 use Rattle.edits.specs.Sinks.{with_point, without_point}
 use Rattle.edits.specs.Touched.{holds_one, is_touched, goes_stale, stale_after, is_near_one, are_neighbours}
 use Rattle.edits.proofs.Accepted.{IsMade, accepted_is}
-use Rattle.edits.proofs.TouchedTiles.{HasOne, named_from, void_from}
-use Rattle.edits.proofs.Voids.{is_void_within, any_from}
+use Rattle.edits.proofs.BoxVoids.TouchedTiles.{HasOne, named_from, void_from}
+use Rattle.edits.proofs.BoxVoids.Voids.{is_void_within, any_from}
 use Rattle.catalogue.proofs.Nearby.{holders_near}
 
 kept_with : (new t : Tile) (ts : List Tile) → Contains ts t → Contains (with_tile new ts) t

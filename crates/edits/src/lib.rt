@@ -1,18 +1,18 @@
 //! Commands that change a mosaic, and what they make of it.
 //!
 //! The layer above rests on this: the edit that `edit_of` answers is the effect of the command, or its refusal;
-//! `leaves_stale` says which tiles go stale by it; `carry_out` makes it in a table, whole or not at all. `plan` lists it
+//! `leaves_stale` says which tiles go stale by it; `apply_edit` makes it in a table, whole or not at all. `plan` lists it
 //! change by change.
 //!
 //! ```
 //! let command = Command::Remove { corner };
 //! let edit = edit_of(&mut table, 240, &command)?;        // NoTile where there is none
-//! carry_out(alloc, &edit, &mut table)?;
+//! apply_edit(alloc, &edit, &mut table)?;
 //! ```
 #![tactic(auto)]
 
+mod applying;
 mod boxes;
-mod carrying;
 mod change;
 mod command;
 mod edit;
@@ -29,7 +29,8 @@ mod stale;
 mod tiles;
 mod void_tiles;
 
-pub use carrying::carry_out;
+pub use applying::apply_edit;
+pub use arrayvec::ArrayVec;
 pub use change::{Change, TileSamples};
 pub use command::{Bytes, Command};
 pub use edit::{Edit, NewHeight, edit_of};

@@ -3,3 +3,4 @@ pub mod Applying
 pub mod Chains
 mod Decided
 pub mod Questions
+pub mod Infos

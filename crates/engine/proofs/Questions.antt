@@ -13,8 +13,8 @@ use Rattle.watershed.specs.declared.runs.Run.{Run}
 use Rattle.engine.specs.Engines.{answered, items_in}
 use Rattle.engine.specs.Events.{SaysFailed, fails_after, Happens}
 use Rattle.tile_flood.specs.Raising.{AreTileLevels}
-use Rattle.watershed.specs.Questions.{AreTileDirections}
-use Rattle.engine.specs.Outcomes.{Elevates, Exports, TellsTile, Lists, ListsSinks, Fills, Directs, Traces, Sheds}
+use Rattle.watershed.specs.Questions.{AreTileCounts, AreTileDirections}
+use Rattle.engine.specs.Outcomes.{Elevates, Exports, TellsTile, Lists, ListsSinks, Informs, Fills, Directs, Traces, Sheds}
 use Rattle.engine.specs.State.{State}
 use Rattle.engine.specs.Told.{Matches, may_refuse, IsTold, IsCounted, WritesFew, IsWritten, Known, Knows}
 use Rattle.engine.specs.declared.event.Event.{Event}
@@ -44,15 +44,15 @@ asks ask.Count = false
 asks ask.Reopen = false
 asks event = true
 
--- .. and these are its answers
-pub record IsQuestion {T : Type 0} (event : Event) (tell : T → Reply) (Answers : State → Result T Refusal → State → Type 0) : Type 0 where
+-- .. and these are its answers, where so many tiles are taken
+pub record IsQuestion {T : Type 0} (capacity : ℕ) (event : Event) (tell : T → Reply) (Answers : State → Result T Refusal → State → Type 0) : Type 0 where
   pub asks_it : asks event ≡ true
   pub matches : (x : T) → Matches event (tell x)
   pub goes_on : (b : Bool) (x : T) → fails_after b event (tell x) ≡ b
   pub no_refusal : (x : T) (r : Refusal) → tell x ≢ reply.Refused r
   pub knows : (before after : Known) (x : T) → after ≡ before → Knows before event (tell x) after
-  pub right : (capacity : ℕ) (s t : State) (x : T) → Answers s (Ok x) t → Happens capacity s event (tell x) t
-  pub refused : (capacity : ℕ) (s t : State) (r : Refusal) → Answers s (Err r) t → Happens capacity s event (reply.Refused r) t
+  pub right : (s t : State) (x : T) → Answers s (Ok x) t → Happens capacity s event (tell x) t
+  pub refused : (s t : State) (r : Refusal) → Answers s (Err r) t → Happens capacity s event (reply.Refused r) t
 
 says_failed : (event : Event) → asks event ≡ true → SaysFailed event (reply.Refused Failed)
 says_failed (ask.Do c) asked = refl
@@ -78,7 +78,7 @@ writes_nothing (ask.Do c) asked version side before now same = absurd (true≢fa
 writes_nothing ask.Step asked version side before now same = absurd (true≢false (sym asked))
 writes_nothing event asked version side before now same = same
 
-module _ {T : Type 0} (event : Event) (tell : T → Reply) (Answers : State → Result T Refusal → State → Type 0) (is : IsQuestion event tell Answers) where
+module _ {T : Type 0} {capacity : ℕ} (event : Event) (tell : T → Reply) (Answers : State → Result T Refusal → State → Type 0) (is : IsQuestion capacity event tell Answers) where
   pub answers_so : IsAnswered event tell
   answers_so = record {
     matches = is.matches;
@@ -93,9 +93,9 @@ module _ {T : Type 0} (event : Event) (tell : T → Reply) (Answers : State → 
   knows_as before after (Ok x) same = is.knows before after x same
   knows_as before after (Err r) same = knows_refused before after event r same
 
-  pub right_as : (capacity : ℕ) (s t : State) (result : Result T Refusal) → Answers s result t → Happens capacity s event (answered tell result) t
-  right_as capacity s t (Ok x) right = is.right capacity s t x right
-  right_as capacity s t (Err r) right = is.refused capacity s t r right
+  pub right_as : (s t : State) (result : Result T Refusal) → Answers s result t → Happens capacity s event (answered tell result) t
+  right_as s t (Ok x) right = is.right s t x right
+  right_as s t (Err r) right = is.refused s t r right
 
   pub few_as : (version side before now : ℕ) → now ≡ before → WritesFew version side event before now
   few_as = writes_nothing event is.asks_it
@@ -166,32 +166,38 @@ step_answered = record { matches = λ tile. tt; says = refl; goes_on = λ b tile
 
 -- ---- the questions
 
-pub elevation_asked : (p : Point) → IsQuestion (ask.Elevation p) reply.Elevation (λ (s : State) (r : Result Height Refusal) (t : State). Elevates s p r t)
-elevation_asked p = record { asks_it = refl; matches = λ x. tt; goes_on = λ b x. refl; no_refusal = λ x r e. cc; knows = λ before after x same. same; right = λ capacity s t x is. is; refused = λ capacity s t r is. is }
+pub elevation_asked : {capacity : ℕ} (p : Point) → IsQuestion capacity (ask.Elevation p) reply.Elevation (λ (s : State) (r : Result Height Refusal) (t : State). Elevates s p r t)
+elevation_asked p = record { asks_it = refl; matches = λ x. tt; goes_on = λ b x. refl; no_refusal = λ x r e. cc; knows = λ before after x same. same; right = λ s t x is. is; refused = λ s t r is. is }
 
-pub fill_asked : (p : Point) → IsQuestion (ask.Fill p) reply.Fill (λ (s : State) (r : Result ℤ Refusal) (t : State). Fills s p r t)
-fill_asked p = record { asks_it = refl; matches = λ x. tt; goes_on = λ b x. refl; no_refusal = λ x r e. cc; knows = λ before after x same. same; right = λ capacity s t x is. is; refused = λ capacity s t r is. is }
+pub fill_asked : {capacity : ℕ} (p : Point) → IsQuestion capacity (ask.Fill p) reply.Fill (λ (s : State) (r : Result ℤ Refusal) (t : State). Fills s p r t)
+fill_asked p = record { asks_it = refl; matches = λ x. tt; goes_on = λ b x. refl; no_refusal = λ x r e. cc; knows = λ before after x same. same; right = λ s t x is. is; refused = λ s t r is. is }
 
-pub direction_asked : (p : Point) → IsQuestion (ask.Direction p) reply.Direction (λ (s : State) (r : Result ℕ Refusal) (t : State). Directs s p r t)
-direction_asked p = record { asks_it = refl; matches = λ x. tt; goes_on = λ b x. refl; no_refusal = λ x r e. cc; knows = λ before after x same. same; right = λ capacity s t x is. is; refused = λ capacity s t r is. is }
+pub direction_asked : {capacity : ℕ} (p : Point) → IsQuestion capacity (ask.Direction p) reply.Direction (λ (s : State) (r : Result ℕ Refusal) (t : State). Directs s p r t)
+direction_asked p = record { asks_it = refl; matches = λ x. tt; goes_on = λ b x. refl; no_refusal = λ x r e. cc; knows = λ before after x same. same; right = λ s t x is. is; refused = λ s t r is. is }
 
-pub trace_asked : (p : Point) → IsQuestion (ask.Trace p) reply.Trace (λ (s : State) (r : Result (Vec Point) Refusal) (t : State). Traces s p (items_in r) t)
-trace_asked p = record { asks_it = refl; matches = λ x. tt; goes_on = λ b x. refl; no_refusal = λ x r e. cc; knows = λ before after x same. same; right = λ capacity s t x is. is; refused = λ capacity s t r is. is }
+pub trace_asked : {capacity : ℕ} (p : Point) → IsQuestion capacity (ask.Trace p) reply.Trace (λ (s : State) (r : Result (Vec Point) Refusal) (t : State). Traces s p (items_in r) t)
+trace_asked p = record { asks_it = refl; matches = λ x. tt; goes_on = λ b x. refl; no_refusal = λ x r e. cc; knows = λ before after x same. same; right = λ s t x is. is; refused = λ s t r is. is }
 
-pub watershed_asked : (p : Point) → IsQuestion (ask.Watershed p) reply.Watershed (λ (s : State) (r : Result (Vec Run) Refusal) (t : State). Sheds s p (items_in r) t)
-watershed_asked p = record { asks_it = refl; matches = λ x. tt; goes_on = λ b x. refl; no_refusal = λ x r e. cc; knows = λ before after x same. same; right = λ capacity s t x is. is; refused = λ capacity s t r is. is }
+pub watershed_asked : {capacity : ℕ} (p : Point) → IsQuestion capacity (ask.Watershed p) reply.Watershed (λ (s : State) (r : Result (Vec Run) Refusal) (t : State). Sheds s p (items_in r) t)
+watershed_asked p = record { asks_it = refl; matches = λ x. tt; goes_on = λ b x. refl; no_refusal = λ x r e. cc; knows = λ before after x same. same; right = λ s t x is. is; refused = λ s t r is. is }
 
-pub export_asked : (c : Corner) → IsQuestion (ask.Export c) reply.Export (λ (s : State) (r : Result (Vec ℕ) Refusal) (t : State). Exports s c (items_in r) t)
-export_asked c = record { asks_it = refl; matches = λ x. tt; goes_on = λ b x. refl; no_refusal = λ x r e. cc; knows = λ before after x same. same; right = λ capacity s t x is. is; refused = λ capacity s t r is. is }
+pub export_asked : {capacity : ℕ} (c : Corner) → IsQuestion capacity (ask.Export c) reply.Export (λ (s : State) (r : Result (Vec ℕ) Refusal) (t : State). Exports s c (items_in r) t)
+export_asked c = record { asks_it = refl; matches = λ x. tt; goes_on = λ b x. refl; no_refusal = λ x r e. cc; knows = λ before after x same. same; right = λ s t x is. is; refused = λ s t r is. is }
 
-pub levels_asked : (c : Corner) → IsQuestion (ask.Levels c) reply.Levels (λ (s : State) (r : Result (Vec ℤ) Refusal) (t : State). TellsTile AreTileLevels s c (items_in r) t)
-levels_asked c = record { asks_it = refl; matches = λ x. tt; goes_on = λ b x. refl; no_refusal = λ x r e. cc; knows = λ before after x same. same; right = λ capacity s t x is. is; refused = λ capacity s t r is. is }
+pub levels_asked : {capacity : ℕ} (c : Corner) → IsQuestion capacity (ask.Levels c) reply.Levels (λ (s : State) (r : Result (Vec ℤ) Refusal) (t : State). TellsTile AreTileLevels s c (items_in r) t)
+levels_asked c = record { asks_it = refl; matches = λ x. tt; goes_on = λ b x. refl; no_refusal = λ x r e. cc; knows = λ before after x same. same; right = λ s t x is. is; refused = λ s t r is. is }
 
-pub directions_asked : (c : Corner) → IsQuestion (ask.Directions c) reply.Directions (λ (s : State) (r : Result (Vec ℕ) Refusal) (t : State). TellsTile AreTileDirections s c (items_in r) t)
-directions_asked c = record { asks_it = refl; matches = λ x. tt; goes_on = λ b x. refl; no_refusal = λ x r e. cc; knows = λ before after x same. same; right = λ capacity s t x is. is; refused = λ capacity s t r is. is }
+pub directions_asked : {capacity : ℕ} (c : Corner) → IsQuestion capacity (ask.Directions c) reply.Directions (λ (s : State) (r : Result (Vec ℕ) Refusal) (t : State). TellsTile AreTileDirections s c (items_in r) t)
+directions_asked c = record { asks_it = refl; matches = λ x. tt; goes_on = λ b x. refl; no_refusal = λ x r e. cc; knows = λ before after x same. same; right = λ s t x is. is; refused = λ s t r is. is }
 
-pub tiles_asked : IsQuestion ask.Tiles reply.Tiles (λ (s : State) (r : Result (Vec Corner) Refusal) (t : State). Lists s (items_in r) t)
-tiles_asked = record { asks_it = refl; matches = λ x. tt; goes_on = λ b x. refl; no_refusal = λ x r e. cc; knows = λ before after x same. same; right = λ capacity s t x is. is; refused = λ capacity s t r is. is }
+pub upstream_asked : {capacity : ℕ} (c : Corner) → IsQuestion capacity (ask.Upstream c) reply.Upstream (λ (s : State) (r : Result (Vec ℕ) Refusal) (t : State). TellsTile AreTileCounts s c (items_in r) t)
+upstream_asked c = record { asks_it = refl; matches = λ x. tt; goes_on = λ b x. refl; no_refusal = λ x r e. cc; knows = λ before after x same. same; right = λ s t x is. is; refused = λ s t r is. is }
 
-pub sinks_asked : IsQuestion ask.Sinks reply.Sinks (λ (s : State) (r : Result (Vec Point) Refusal) (t : State). ListsSinks s (items_in r) t)
-sinks_asked = record { asks_it = refl; matches = λ x. tt; goes_on = λ b x. refl; no_refusal = λ x r e. cc; knows = λ before after x same. same; right = λ capacity s t x is. is; refused = λ capacity s t r is. is }
+pub tiles_asked : {capacity : ℕ} → IsQuestion capacity ask.Tiles reply.Tiles (λ (s : State) (r : Result (Vec Corner) Refusal) (t : State). Lists s (items_in r) t)
+tiles_asked = record { asks_it = refl; matches = λ x. tt; goes_on = λ b x. refl; no_refusal = λ x r e. cc; knows = λ before after x same. same; right = λ s t x is. is; refused = λ s t r is. is }
+
+pub sinks_asked : {capacity : ℕ} → IsQuestion capacity ask.Sinks reply.Sinks (λ (s : State) (r : Result (Vec Point) Refusal) (t : State). ListsSinks s (items_in r) t)
+sinks_asked = record { asks_it = refl; matches = λ x. tt; goes_on = λ b x. refl; no_refusal = λ x r e. cc; knows = λ before after x same. same; right = λ s t x is. is; refused = λ s t r is. is }
+
+pub info_asked : {capacity : ℕ} → IsQuestion capacity ask.Info reply.Info (Informs capacity)
+info_asked = record { asks_it = refl; matches = λ x. tt; goes_on = λ b x. refl; no_refusal = λ x r e. cc; knows = λ before after x same. same; right = λ s t x is. is; refused = λ s t r is. is }

@@ -3,8 +3,8 @@ use Rattle.std.specs.Prelude.{◌≡◌, ◌⊎◌, ℕ, Bool, true, false, Some
 use Rattle.lattice.specs.declared.refusal.Refusal.{Refusal}
 use Rattle.lattice.specs.declared.refusal.Refusal.TheVariants.{Device, NoMemory, Failed}
 use Rattle.tile_flood.specs.Raising.{AreTileLevels}
-use Rattle.watershed.specs.Questions.{AreTileDirections}
-use Rattle.engine.specs.Outcomes.{Applies, Elevates, Exports, TellsTile, Lists, ListsSinks, Fills, Directs, Traces, Sheds}
+use Rattle.watershed.specs.Questions.{AreTileCounts, AreTileDirections}
+use Rattle.engine.specs.Outcomes.{Applies, Elevates, Exports, TellsTile, Lists, ListsSinks, Informs, Fills, Directs, Traces, Sheds}
 use Rattle.engine.specs.State.{Contents, State, working}
 use Rattle.engine.specs.Steps.{Steps}
 use Rattle.engine.specs.declared.event.Event.{Event}
@@ -42,6 +42,8 @@ Happens capacity s (ask.Levels c) (reply.Levels levels) t = TellsTile AreTileLev
 Happens capacity s (ask.Levels c) (reply.Refused r) t = TellsTile AreTileLevels s c (Err r) t
 Happens capacity s (ask.Directions c) (reply.Directions codes) t = TellsTile AreTileDirections s c (Ok codes.items) t
 Happens capacity s (ask.Directions c) (reply.Refused r) t = TellsTile AreTileDirections s c (Err r) t
+Happens capacity s (ask.Upstream c) (reply.Upstream counts) t = TellsTile AreTileCounts s c (Ok counts.items) t
+Happens capacity s (ask.Upstream c) (reply.Refused r) t = TellsTile AreTileCounts s c (Err r) t
 Happens capacity s ask.Tiles (reply.Tiles corners) t = Lists s (Ok corners.items) t
 Happens capacity s ask.Tiles (reply.Refused r) t = Lists s (Err r) t
 Happens capacity s ask.Sinks (reply.Sinks points) t = ListsSinks s (Ok points.items) t
@@ -49,6 +51,8 @@ Happens capacity s ask.Sinks (reply.Refused r) t = ListsSinks s (Err r) t
 Happens capacity s ask.Step (reply.Stepped tile) t = Steps s (Ok tile) t
 Happens capacity s ask.Step (reply.Refused r) t = Steps s (Err r) t
 Happens capacity s ask.Count (reply.Count count) t = (count ≡ s.contents.count) × (t ≡ s)
+Happens capacity s ask.Info (reply.Info info) t = Informs capacity s (Ok info) t
+Happens capacity s ask.Info (reply.Refused r) t = Informs capacity s (Err r) t
 Happens capacity s ask.Reopen reply.Reopened t = Reopens s t
 Happens capacity s ask.Reopen (reply.Refused r) t = ReopensNot s r t
 Happens capacity s asked replied t = ⊥

@@ -1,6 +1,6 @@
 -- What a store may answer to a command or a query, and the state that it is in then (this product's own profile).
 -- Each relation reads: in the state s the call may answer r and leave the state t.
-use Rattle.std.specs.Prelude.{◌≡◌, ℕ, ◌+◌, ◌<◌, ℤ, IsTrue, IsFalse, List, Option, Some, None, Result, Ok, Err, map}
+use Rattle.std.specs.Prelude.{◌≡◌, ℕ, ◌+◌, ◌-◌, ◌<◌, ℤ, length, IsTrue, IsFalse, List, Option, Some, None, Result, Ok, Err, map}
 use Rattle.lattice.specs.Corners.{Corner}
 use Rattle.lattice.specs.declared.point.Point.{Point}
 use Rattle.lattice.specs.declared.height.Height.{Height}
@@ -19,6 +19,7 @@ use Rattle.watershed.specs.declared.runs.Run.{Run}
 use Rattle.watershed.specs.Runs.{AreRuns}
 use Rattle.watershed.specs.Questions.{IsAnswered, DrainsBy}
 use Rattle.engine.specs.State.{Contents, State, last_number, made_by, in_doubt, failing}
+use Rattle.engine.specs.declared.info.Info.{Info}
 
 -- the state stays, and the store hasn't failed
 pub record Stays (s t : State) : Type 0 where
@@ -106,6 +107,22 @@ Lists s (Err r) t = ListsNot s r t
 abbrev pub ListsSinks : State → Result (List Point) Refusal → State → Type 0
 ListsSinks s (Ok points) t = Stays s t × (points ≡ s.contents.mosaic.sinks)
 ListsSinks s (Err r) t = ListsNot s r t
+
+-- the numbers of these contents, where so many tiles are taken
+abbrev pub info_of : (capacity : ℕ) → Contents → Info
+info_of capacity c = record {
+  side = c.mosaic.side;
+  capacity = capacity;
+  version = c.version;
+  count = c.count;
+  commits = c.number;
+  fresh = length c.mosaic.tiles - length c.stale;
+  stale = length c.stale;
+}
+
+abbrev pub Informs : ℕ → State → Result Info Refusal → State → Type 0
+Informs capacity s (Ok info) t = Stays s t × (info ≡ info_of capacity s.contents)
+Informs capacity s (Err r) t = ListsNot s r t
 
 abbrev pub AnswersNot : State → Point → Refusal → State → Type 0
 AnswersNot s p Outside t = Stays s t × (height_of s.contents.mosaic p ≡ height.Outside)

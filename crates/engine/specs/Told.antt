@@ -70,10 +70,12 @@ may_refuse (ask.Watershed p) r = may_refuse_question r
 may_refuse (ask.Export c) r = may_refuse_tile r
 may_refuse (ask.Levels c) r = may_refuse_tile r
 may_refuse (ask.Directions c) r = may_refuse_tile r
+may_refuse (ask.Upstream c) r = may_refuse_tile r
 may_refuse ask.Tiles r = may_refuse_list r
 may_refuse ask.Sinks r = may_refuse_list r
 may_refuse ask.Step r = may_refuse_step r
 may_refuse ask.Count r = false
+may_refuse ask.Info r = may_refuse_list r
 may_refuse ask.Reopen r = may_refuse_reopening r
 
 -- the answer is one to such an event
@@ -88,10 +90,12 @@ Matches (ask.Watershed p) (reply.Watershed runs) = Unit {0}
 Matches (ask.Export c) (reply.Export bytes) = Unit {0}
 Matches (ask.Levels c) (reply.Levels levels) = Unit {0}
 Matches (ask.Directions c) (reply.Directions codes) = Unit {0}
+Matches (ask.Upstream c) (reply.Upstream counts) = Unit {0}
 Matches ask.Tiles (reply.Tiles corners) = Unit {0}
 Matches ask.Sinks (reply.Sinks points) = Unit {0}
 Matches ask.Step (reply.Stepped tile) = Unit {0}
 Matches ask.Count (reply.Count k) = Unit {0}
+Matches ask.Info (reply.Info info) = Unit {0}
 Matches ask.Reopen reply.Reopened = Unit {0}
 Matches event answer = ⊥
 

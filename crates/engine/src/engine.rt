@@ -8,7 +8,7 @@ ghost use Rattle.engine.specs.declared.event.Event.TheVariants as ask;
 ghost use Rattle.engine.specs.declared.event.Reply.{Reply};
 ghost use Rattle.engine.specs.declared.event.Reply.TheVariants as reply;
 
-use crate::{Event, Reply};
+use crate::{Event, Info, Reply};
 use edits::Command;
 use lattice::{Corner, Height, Point, Refusal, Side};
 use watershed::Run;
@@ -94,6 +94,10 @@ pub trait Engine {
     fn directions(&mut self, corner: Corner) -> Result<Vec<u8>, Refusal>
         ensures { called self.old (ask.Directions corner) (answered reply.Directions result) self.new };
 
+    /// How many points drain through each sample of a tile, itself among them; 0 where there is no ground.
+    fn upstream(&mut self, corner: Corner) -> Result<Vec<u32>, Refusal>
+        ensures { called self.old (ask.Upstream corner) (answered reply.Upstream result) self.new };
+
     /// The corners of the present tiles, in order. They are held in memory, so that no disk refuses.
     fn tiles(&self) -> Result<Vec<Corner>, Refusal>
         ensures { called self.now ask.Tiles (answered reply.Tiles result) self.now };
@@ -109,6 +113,10 @@ pub trait Engine {
     /// How many commands were accepted, as last known.
     fn count(&self) -> u64
         ensures { called self.now ask.Count (reply.Count result) self.now };
+
+    /// Its sizes, and what it counts.
+    fn info(&self) -> Result<Info, Refusal>
+        ensures { called self.now ask.Info (answered reply.Info result) self.now };
 
     /// Opens its disk again, which ends a failure. What is held in memory is then as the disk has it.
     fn reopen(&mut self) -> Result<(), Refusal>
@@ -140,10 +148,14 @@ pub trait Engine {
             Event::Directions(corner) => self
                 .directions(*corner)
                 .map_or_else(Reply::Refused, Reply::Directions),
+            Event::Upstream(corner) => self
+                .upstream(*corner)
+                .map_or_else(Reply::Refused, Reply::Upstream),
             Event::Tiles => self.tiles().map_or_else(Reply::Refused, Reply::Tiles),
             Event::Sinks => self.sinks().map_or_else(Reply::Refused, Reply::Sinks),
             Event::Step => self.step().map_or_else(Reply::Refused, Reply::Stepped),
             Event::Count => Reply::Count(self.count()),
+            Event::Info => self.info().map_or_else(Reply::Refused, Reply::Info),
             Event::Reopen => self
                 .reopen()
                 .map_or_else(Reply::Refused, |()| Reply::Reopened),

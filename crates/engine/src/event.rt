@@ -1,5 +1,6 @@
 //! What a store is asked in a run, and what it answers.
 
+use crate::Info;
 use edits::Command;
 use lattice::{Corner, Height, Point, Refusal};
 use watershed::Run;
@@ -25,6 +26,8 @@ pub enum Event {
     Levels(Corner),
     /// The directions of all samples of a tile.
     Directions(Corner),
+    /// How many points drain through each sample of a tile.
+    Upstream(Corner),
     /// The corners of the present tiles.
     Tiles,
     /// The declared sinks.
@@ -33,6 +36,8 @@ pub enum Event {
     Step,
     /// How many commands were accepted.
     Count,
+    /// Its numbers.
+    Info,
     /// To open its disk again.
     Reopen,
 }
@@ -58,6 +63,8 @@ pub enum Reply {
     Levels(Vec<i16>),
     /// Their codes; 255 where there is no ground.
     Directions(Vec<u8>),
+    /// Each point itself among them; 0 where there is no ground.
+    Upstream(Vec<u32>),
     /// In order.
     Tiles(Vec<Corner>),
     /// In the order of points.
@@ -66,6 +73,8 @@ pub enum Reply {
     Stepped(Option<Corner>),
     /// As last known.
     Count(u64),
+    /// Its sizes, and what it counts.
+    Info(Info),
     /// The store is open again.
     Reopened,
     /// The event was refused.

@@ -12,8 +12,10 @@
 
 mod engine;
 mod event;
+mod info;
 mod laws;
 
 pub use engine::Engine;
 pub use event::{Event, Reply};
+pub use info::Info;
 pub use laws::commands_come_to_their_effects;

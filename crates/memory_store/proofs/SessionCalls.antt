@@ -1,5 +1,5 @@
 -- The calls of a session, and two sessions with a cut after each.
-use Rattle.std.proofs.Common.{◌≡◌, ℕ, ◌≤◌, List, [], ◌∷◌, ◌++◌, map, refl, sym, ap, ◌∙◌, subst, arith, Result, Ok, Err, IfOk}
+use Rattle.std.proofs.Common.{◌≡◌, ℕ, ◌≤◌, List, [], ◌∷◌, ◌++◌, map, refl, sym, ap, ◌∙◌, subst, arith, Result, Ok, Err}
 use Rattle.disk.specs.Disk.{Image}
 use Rattle.disk.specs.Faulty.{inner_of}
 use Rattle.disk.specs.MemDisk.{state_of, sectors_of}
@@ -8,51 +8,20 @@ use Rattle.disk.specs.declared.disk.Disk.{Ghosts}
 use Rattle.disk.specs.declared.memory.MemDisk.{MemDisk}
 use Rattle.disk.specs.declared.torn.Torn.{Torn}
 use Rattle.edits.specs.declared.command.Command.{Command}
-use Rattle.engine.specs.Engines.{IsCall}
-use Rattle.engine.specs.Runs.{last_of, Through}
 use Rattle.engine.specs.declared.event.Event.{Event}
 use Rattle.engine.specs.declared.event.Event.TheVariants as ask
 use Rattle.engine.specs.declared.event.Reply.{Reply}
 use Rattle.engine.specs.declared.event.Reply.TheVariants as reply
 use Rattle.store.specs.Accepted.{Since, none_asked}
-use Rattle.store.specs.Sessions.{Call, Made, Asked, known_by, known_without, AreMade, IsRefusedWithCause, Session, Unopened, Ended, Stopped, IsSession, first_disk, last_disk, last_store, MayLeave, TakesOver, FindsBy, EachFindsIn, EachFinds}
+use Rattle.store.specs.Sessions.{Call, Made, Asked, known_by, known_without, IsRefusedWithCause, Session, Unopened, Ended, Stopped, IsSession, first_disk, last_disk, MayLeave, TakesOver, FindsBy, EachFindsIn, EachFinds}
 use Rattle.store.specs.Standing.{StandsFor}
-use Rattle.store.specs.StoreState.{members}
-use Rattle.store.proofs.SessionsInTurn.{sessions_compose}
+use Rattle.store.proofs.Calls.SessionsInTurn.{sessions_compose}
 use Rattle.store.specs.declared.store.Store.{Store}
 use Rattle.roots.specs.declared.roots.NotOpened.{NotOpened}
 use Rattle.engine.specs.State.{Contents}
-use Rattle.memory_store.specs.TwoSessions.{CutDisk, HoldsOnly, AreCallsOf, AsksEvents, WasCutOff}
-
--- what holds of a value holds more weakly
-pub if_ok : {T E : Type 0} (result : Result T E) (P Q : T → Type 0) → ((x : T) → P x → Q x) → IfOk result P → IfOk result Q
-if_ok (Ok x) P Q weaker is = weaker x is
-if_ok (Err e) P Q weaker is = tt
+use Rattle.memory_store.specs.TwoSessions.{CutDisk, HoldsOnly, AsksEvents, WasCutOff}
 
 module _ (g : Ghosts CutDisk) where
-  -- a run's events as calls
-  pub record CallsOfRun (old last : Store CutDisk g) (events : List Event) (answers : List Reply) : Type 0 where
-    pub calls : List (Made g)
-    pub made : AreMade g old calls
-    pub ends : last_store g old calls ≡ last
-    pub asks : AreCallsOf g calls events answers
-
-  pub calls_of_run : (old : Store CutDisk g) (events : List Event) (answers : List Reply) (stores : List (Store CutDisk g)) → Through (IsCall (members g)) old events answers stores
-      → CallsOfRun old (last_of old stores) events answers
-  calls_of_run old [] [] [] run = record { calls = []; made = tt; ends = refl; asks = tt }
-  calls_of_run old (event ∷ events) (answer ∷ answers) (next ∷ stores) (one, run) =
-      let rest = calls_of_run next events answers stores run in
-      record {
-        calls = record { call = Asked event answer; store = next } ∷ rest.calls;
-        made = (one, rest.made);
-        ends = rest.ends;
-        asks = (refl, rest.asks);
-      }
-  calls_of_run old [] [] (next ∷ stores) run = absurd run
-  calls_of_run old [] (answer ∷ answers) stores run = absurd run
-  calls_of_run old (event ∷ events) [] stores run = absurd run
-  calls_of_run old (event ∷ events) (answer ∷ answers) [] run = absurd run
-
   -- what a cut leaves of the last disk is among what the session may leave
   pub left_by_session : ((disk : CutDisk) (t : ℕ) (c : Image) → g.honest disk → t ≤ g.moment disk → g.may disk c → g.since disk t c) → (session : Session g) → IsSession g session → g.honest (last_disk g session)
       → (events : List Event) (answers : List Reply) → AsksEvents g session events answers → (image : Image) → g.may (last_disk g session) image → MayLeave g session image

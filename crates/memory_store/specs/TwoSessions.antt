@@ -1,5 +1,5 @@
 -- Two sessions of a store with a power cut after each (this product's own profile).
-use Rattle.std.specs.Prelude.{◌≡◌, ◌≢◌, ℕ, List, [], ◌∷◌, ◌++◌, Result, Ok, Err}
+use Rattle.std.specs.Prelude.{◌≡◌, ◌≢◌, ℕ, List, [], ◌∷◌, Result, Ok, Err}
 use Rattle.engine.specs.State.{Contents}
 use Rattle.engine.specs.declared.event.Event.{Event}
 use Rattle.engine.specs.declared.event.Reply.{Reply}
@@ -15,7 +15,7 @@ use Rattle.disk.specs.declared.torn.Torn.{Torn}
 use Rattle.lattice.specs.declared.refusal.Refusal.TheVariants.{NoMemory}
 use Rattle.roots.specs.declared.roots.NotOpened.{NotOpened}
 use Rattle.store.specs.Accepted.{none_asked}
-use Rattle.store.specs.Sessions.{Made, Asked, Session, Unopened, Ended, Stopped, IsSession, EachFinds, first_disk, last_disk}
+use Rattle.store.specs.Sessions.{AreCallsOf, Session, Unopened, Ended, Stopped, IsSession, EachFinds, first_disk, last_disk}
 use Rattle.store.specs.Standing.{StandsFor}
 use Rattle.store.specs.Stores.{disk_of}
 use Rattle.store.specs.declared.store.Store.{Store}
@@ -36,12 +36,6 @@ pub record IsCut (torn : Torn) (old new : MemDisk) : Type 0 where
   pub sectors : sectors_of new ≡ sectors_of old
 
 module _ (g : Ghosts CutDisk) where
-  -- the calls are these events, answered so
-  abbrev pub AreCallsOf : List (Made g) → List Event → List Reply → Type 0
-  AreCallsOf [] [] [] = Unit {0}
-  AreCallsOf (made ∷ more) (event ∷ events) (answer ∷ answers) = (made.call ≡ Asked event answer) × AreCallsOf more events answers
-  AreCallsOf _ events answers = ⊥
-
   -- the opening was refused, and not for memory
   abbrev pub IsRefusedOpening : Result (Store CutDisk g) (NotOpened CutDisk) → Type 0
   IsRefusedOpening (Ok store) = ⊥
@@ -50,7 +44,7 @@ module _ (g : Ghosts CutDisk) where
   -- the session asked the events and had these answers, or its opening was refused, and it had none
   abbrev pub AsksEvents : Session g → List Event → List Reply → Type 0
   AsksEvents (Unopened disk opened) events answers = IsRefusedOpening opened × (answers ≡ [])
-  AsksEvents (Ended disk store calls) events answers = AreCallsOf calls events answers
+  AsksEvents (Ended disk store calls) events answers = AreCallsOf g calls events answers
   AsksEvents (Stopped disk store calls last) events answers = ⊥
 
   -- On the disk, whose calls fail once so many have passed, inside the opening too, a session asked the events; then the

@@ -11,7 +11,7 @@ use disk::{Disk, FuseDisk, MemDisk, Torn};
 use engine::{Event, Reply};
 use lattice::Refusal;
 use std::alloc::Global;
-use store::{Store, open_session};
+use store::{Store, open_session, run_in_session};
 
 /// What a session is asked, and how the power is cut at its end.
 #[derive(Clone, Copy)]
@@ -93,7 +93,7 @@ fn run_session(
     match open_session(alloc, disk) {
         Ok(opened) => {
             let mut store = opened;
-            store.run(events, out)?;
+            run_in_session(&mut store, events, out)?;
             Ok(store.into_disk())
         }
         Err(not_opened) => match not_opened.refusal {

@@ -9,7 +9,7 @@ use Rattle.lattice.proofs.Rising.{rising_from, adjacent_from, rising-filter}
 use Rattle.page_codec.specs.Formats.{Format}
 use Rattle.page_map.specs.FreePages.{FreePages, PageRange, AreBalanced, AreInUse}
 use Rattle.page_map.specs.declared.plane_entry.Ending.{Ending}
-use Rattle.page_map.specs.declared.plane_entry.Ending.TheVariants.{Committed, GivenUp}
+use Rattle.page_map.specs.declared.plane_entry.Ending.TheVariants.{Committed, RolledBack}
 use Rattle.page_map.specs.declared.plane_entry.PlaneEntry.{PlaneEntry}
 use Rattle.page_map.specs.declared.plane_entry.Staged.TheVariants.{AsCommitted}
 use Rattle.page_map.specs.declared.tile_entry.TileEntry.{TileEntry}
@@ -78,14 +78,14 @@ module _ (ending : Ending) where
     where
       by : (e : Ending) → AreTogether (ended_plane e s.1.heights) (ended_plane e s.1.levels) (ended_plane e s.1.labels)
       by Committed = sound.staged
-      by GivenUp = sound.committed
+      by RolledBack = sound.committed
 
   sound_ended : (format : Format) (e : PlaneEntry) → IsSoundPlane format e → IsSoundPlane format (record { committed = ended_plane ending e; staged = AsCommitted })
   sound_ended format e sound = by ending
     where
       by : (w : Ending) → IsSoundPlane format (record { committed = ended_plane w e; staged = AsCommitted })
       by Committed = record { committed = sound.staged; staged = sound.staged }
-      by GivenUp = record { committed = sound.committed; staged = sound.committed }
+      by RolledBack = record { committed = sound.committed; staged = sound.committed }
 
   -- the entries without a committed tile have no tile and no pages
   left_tiles : (tile : Entry → Option TileLocation) → ((s : Entry) → tile (ended s) ≡ ended_tile s) → (entries : List Entry) → filter_map tile (filter is_left (map ended entries)) ≡ filter_map ended_tile entries
@@ -142,7 +142,7 @@ module _ (ending : Ending) where
       where
         by : (e : Ending) → length (filter_map (λ s. committed_tile (ended_entry e s)) entries) ≤ format.capacity
         by Committed = is.staged_room
-        by GivenUp = is.committed_room
+        by RolledBack = is.committed_room
 
     pub kept_left : IsKept format left now
     kept_left = record {
@@ -169,4 +169,4 @@ module _ (ending : Ending) where
             → record { sectors = free.range.sectors; format = format; committed = filter_map (λ s. committed_tile (ended_entry e s)) entries; staged = filter_map (λ s. committed_tile (ended_entry e s)) entries }
             ≡ ended_page_map e (page_map_of format entries free)
         by Committed = refl
-        by GivenUp = refl
+        by RolledBack = refl

@@ -1,7 +1,7 @@
 -- A plane as committed and as staged, and which pages only one of the two has.
 use Rattle.std.specs.Prelude.{◌≡◌, ℕ, ◌≤◌, ◌<◌, ◌+◌, ◌/◌, Bool, true, false, List, [], ◌∷◌, ◌++◌, length, Option, Some, None, IfSome, option_and_then, slice_get}
 use Rattle.page_map.specs.declared.plane_entry.Ending.{Ending}
-use Rattle.page_map.specs.declared.plane_entry.Ending.TheVariants.{Committed, GivenUp}
+use Rattle.page_map.specs.declared.plane_entry.Ending.TheVariants.{Committed, RolledBack}
 use Rattle.page_map.specs.declared.plane_entry.PlaneEntry.{PlaneEntry}
 use Rattle.page_map.specs.declared.plane_entry.Staged.{Staged}
 use Rattle.page_map.specs.declared.plane_entry.Staged.TheVariants.{AsCommitted, Dropped, Fresh}
@@ -24,7 +24,7 @@ staged_plane e = staged_as e.committed e.staged
 -- what is committed once what is staged has ended so
 abbrev pub ended_plane : Ending → PlaneEntry → Option PlaneLocation
 ended_plane Committed e = staged_plane e
-ended_plane GivenUp e = e.committed
+ended_plane RolledBack e = e.committed
 
 -- all pages of a plane, and those behind its record
 abbrev pub pages_at : Option PlaneLocation → List ℕ

@@ -14,7 +14,7 @@ use Rattle.page_map.specs.declared.locations.TilePlanes.{TilePlanes}
 use Rattle.page_map.specs.declared.plane.Plane.{Plane}
 use Rattle.page_map.specs.declared.plane.Plane.TheVariants.{Heights, Levels, Labels}
 use Rattle.page_map.specs.declared.plane_entry.Ending.{Ending}
-use Rattle.page_map.specs.declared.plane_entry.Ending.TheVariants.{Committed, GivenUp}
+use Rattle.page_map.specs.declared.plane_entry.Ending.TheVariants.{Committed, RolledBack}
 use Rattle.page_map.specs.declared.plane_entry.PlaneEntry.{PlaneEntry}
 use Rattle.page_map.specs.declared.plane_entry.Staged.TheVariants.{Fresh}
 use Rattle.page_map.specs.declared.tile_entry.TileEntry.{TileEntry}
@@ -185,4 +185,4 @@ AreAlike old new = (format : Format) (free : FreePages) → IsKept format old fr
 -- the page_map once what is staged has ended so
 abbrev pub ended_page_map : Ending → PageMapValue → PageMapValue
 ended_page_map Committed page_map = record page_map { committed = page_map.staged }
-ended_page_map GivenUp page_map = record page_map { staged = page_map.committed }
+ended_page_map RolledBack page_map = record page_map { staged = page_map.committed }

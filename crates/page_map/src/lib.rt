@@ -8,7 +8,7 @@
 //! ```
 //! page_map.tile_for_writing(corner)?;
 //! let page = page_map.page_for_writing(corner, 0)?;      // for new content of the tile's first page
-//! page_map.settle();                                     // what was staged is committed
+//! page_map.commit();                                     // what was staged is committed
 //! ```
 #![tactic(auto)]
 

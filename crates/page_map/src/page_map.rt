@@ -271,19 +271,19 @@ impl PageMap {
     }
 
     /// What is staged is committed. Takes no memory.
-    pub fn settle(&mut self)
-        ensures settled { self.new ≡ record (self.old) { committed = self.old.staged } }
+    pub fn commit(&mut self)
+        ensures committed { self.new ≡ record (self.old) { committed = self.old.staged } }
         ensures rules { IsPageMap self.new }
     {
         self.end(Ending::Committed);
     }
 
-    /// What was staged is given up. Takes no memory.
-    pub fn undo(&mut self)
-        ensures undone { self.new ≡ record (self.old) { staged = self.old.committed } }
+    /// What was staged is rolled back. Takes no memory.
+    pub fn rollback(&mut self)
+        ensures rolled_back { self.new ≡ record (self.old) { staged = self.old.committed } }
         ensures rules { IsPageMap self.new }
     {
-        self.end(Ending::GivenUp);
+        self.end(Ending::RolledBack);
     }
 
     fn end(&mut self, ending: Ending)

@@ -37,8 +37,8 @@ pub(crate) struct PlaneEntry {
 pub(crate) enum Ending {
     /// It is committed.
     Committed,
-    /// It is given up.
-    GivenUp,
+    /// It is rolled back.
+    RolledBack,
 }
 
 impl PlaneEntry {
@@ -151,18 +151,18 @@ impl PlaneEntry {
     {
         match ending {
             Ending::Committed => self.give_committed(free),
-            Ending::GivenUp => self.give_staged(free),
+            Ending::RolledBack => self.give_staged(free),
         }
     }
 
-    /// Commits or gives up what is staged.
+    /// Commits or rolls back what is staged.
     pub(crate) fn end(&mut self, ending: Ending)
         ensures { self.new ≡ settled_plane (ended_plane ending self.old) }
     {
         let staged = mem::replace(&mut self.staged, Staged::AsCommitted);
         match ending {
             Ending::Committed => self.commit(staged),
-            Ending::GivenUp => (),
+            Ending::RolledBack => (),
         }
     }
 

@@ -125,7 +125,7 @@ impl TileEntry {
         self.labels.give_back(ending, free);
     }
 
-    /// Commits or gives up what is staged.
+    /// Commits or rolls back what is staged.
     pub(crate) fn end(&mut self, ending: Ending)
         ensures { self.new ≡ ended_planes ending self.old }
     {

@@ -14,7 +14,7 @@ use crate::faults::device;
 use crate::slot::{Slot, is_open_gate};
 use disk::{Disk, Fault};
 use lattice::Refusal;
-use page_codec::{Damaged, FIXED_SECTORS, Root};
+use page_codec::{Damaged, FIXED_SECTORS, PAGE_BYTES, Root};
 
 // The current root, and where it stands.
 #[derive(Drop)]
@@ -42,7 +42,7 @@ fn read_gate<D: Disk>(disk: &mut D, slot: Slot) -> Result<bool, Fault>
     ensures cause { HasCause (D.failures disk.old) (D.failures disk.new) result }
     ensures opened { D.honest disk.new → IfOk result (λ opened. is_open (D.seen disk.old (gate slot)) ≡ opened) }
 {
-    let mut bytes = [0; 4096];
+    let mut bytes = [0; PAGE_BYTES];
     disk.read(slot.gate(), &mut bytes)?;
     Ok(is_open_gate(&bytes))
 }
@@ -61,7 +61,7 @@ fn read_root<D: Disk>(
     if !opened {
         return Ok(None);
     }
-    let mut bytes = [0; 4096];
+    let mut bytes = [0; PAGE_BYTES];
     disk.read(slot.root_sector(), &mut bytes)?;
     Ok(Some(Root::read(&bytes)))
 }

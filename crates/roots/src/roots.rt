@@ -12,9 +12,9 @@ use crate::faults::{device, noted};
 use crate::opening::{Found, scan};
 use crate::slot::{Slot, closed_gate};
 use crate::writing::{fill_slot, write_only};
-use disk::{Disk, settle};
+use disk::{Disk, write_through};
 use lattice::Refusal;
-use page_codec::Root;
+use page_codec::{PAGE_BYTES, Root};
 use std::error::Error;
 use std::fmt;
 
@@ -223,7 +223,7 @@ impl<D: Disk> Roots<D> {
     }
 
     /// Reads a sector.
-    pub fn read(&mut self, p: u32, into: &mut [u8; 4096]) -> Result<(), Refusal>
+    pub fn read(&mut self, p: u32, into: &mut [u8; PAGE_BYTES]) -> Result<(), Refusal>
         requires not_failed { has_failed self.old ≡ false }
         requires in_range { p < D.size (disk_of self.old) }
         ensures size { D.size (disk_of self.new) ≡ D.size (disk_of self.old) }
@@ -269,7 +269,7 @@ impl<D: Disk> Roots<D> {
             self.begun = true;
             return Ok(());
         }
-        let answer = settle(&mut self.disk, self.slot.other().gate(), &closed_gate());
+        let answer = write_through(&mut self.disk, self.slot.other().gate(), &closed_gate());
         noted(&mut self.failed, answer)?;
         self.other_open = false;
         self.begun = true;
@@ -277,7 +277,7 @@ impl<D: Disk> Roots<D> {
     }
 
     /// Writes a page, and begins a commit if none has begun. The page isn't settled before the commit.
-    pub fn write(&mut self, p: u32, from: &[u8; 4096]) -> Result<(), Refusal>
+    pub fn write(&mut self, p: u32, from: &[u8; PAGE_BYTES]) -> Result<(), Refusal>
         requires not_failed { has_failed self.old ≡ false }
         requires page { 4 ≤ p }
         requires in_range { p < D.size (disk_of self.old) }

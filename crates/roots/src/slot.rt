@@ -2,6 +2,8 @@
 ghost use Rattle.std.specs.Prelude.{◌≡◌, true, false};
 ghost use Rattle.roots.specs.Slots.{is_open, closed_gate, open_gate, gate, root_sector, other};
 
+use page_codec::PAGE_BYTES;
+
 // Slot A is sectors 0 and 1, slot B is sectors 2 and 3.
 #[derive(Clone, Copy, Debug, PartialEq, Eq)]
 pub(crate) enum Slot {
@@ -42,25 +44,25 @@ impl Slot {
 const OPEN: u8 = 0xa7;
 
 #[tactic(auto, unfolding(crate::specs::Slots::is_open, page_codec::specs::Numbers::zeros))]
-pub(crate) fn closed_gate() -> [u8; 4096]
+pub(crate) fn closed_gate() -> [u8; PAGE_BYTES]
     ensures shut { is_open result ≡ false }
     ensures whole { result ≡ closed_gate }
 {
-    [0; 4096]
+    [0; PAGE_BYTES]
 }
 
 #[tactic(auto, unfolding(crate::specs::Slots::is_open, page_codec::specs::Numbers::zeros))]
-pub(crate) fn open_gate() -> [u8; 4096]
+pub(crate) fn open_gate() -> [u8; PAGE_BYTES]
     ensures opened { is_open result ≡ true }
     ensures whole { result ≡ open_gate }
 {
-    let mut gate = [0; 4096];
+    let mut gate = [0; PAGE_BYTES];
     gate[0] = OPEN;
     gate
 }
 
 #[tactic(auto, unfolding(crate::specs::Slots::is_open))]
-pub(crate) fn is_open_gate(bytes: &[u8; 4096]) -> bool
+pub(crate) fn is_open_gate(bytes: &[u8; PAGE_BYTES]) -> bool
     ensures { result ≡ is_open bytes.now }
 {
     bytes[0] == OPEN

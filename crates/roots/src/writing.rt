@@ -7,11 +7,11 @@ ghost use Rattle.roots.specs.Slots.{is_open, gate, root_sector, IsSpelledBy, IsA
 ghost use Rattle.roots.specs.Found.{Filling};
 
 use crate::slot::{Slot, closed_gate, open_gate};
-use disk::{Disk, Fault, settle};
-use page_codec::Root;
+use disk::{Disk, Fault, write_through};
+use page_codec::{PAGE_BYTES, Root};
 
 // A root's one spelling.
-fn spelling(root: &Root) -> [u8; 4096]
+fn spelling(root: &Root) -> [u8; PAGE_BYTES]
     ensures { IsSpelledBy root.now result }
 {
     // That it keeps the rules of a root is told by its entries.
@@ -34,8 +34,8 @@ pub(crate) fn fill_slot<D: Disk>(disk: &mut D, slot: Slot, root: &Root) -> Resul
     ensures any_moment { D.honest disk.new
         → LeavesOnly D.Disk disk.old disk.new (Filling slot root.now (D.may disk.old) (D.seen disk.old)) }
 {
-    settle(disk, slot.root_sector(), &spelling(root))?;
-    settle(disk, slot.gate(), &open_gate())
+    write_through(disk, slot.root_sector(), &spelling(root))?;
+    write_through(disk, slot.gate(), &open_gate())
 }
 
 /// Closes both gates, and then fills slot A.

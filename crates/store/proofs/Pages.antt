@@ -81,10 +81,6 @@ module _ (pages : PlanePages) (i j e : ℕ) (all : All IsPage pages) (within : i
       ∙ ap (λ h. sample_of h (get_or (plane_bytes n pages) (2 * e + 1) 0)) (at (2 * j) (2 * e) (omega (arith, below)) high_at (omega (arith, inside)))
       ∙ ap (λ l. sample_of (get_or (get_or pages i []) (2 * j) 0) l) (at (2 * j + 1) (2 * e + 1) (omega (arith, below)) low_at (omega (arith, inside)))
 
--- the page of a sample of a plane is there
-pub page_there : (n i j e count : ℕ) → e ≡ 2048 * i + j → e < n * n → 2 * (n * n) ≤ 4096 * count → i < count
-page_there n i j e count here inside enough = omega (arith, here, inside, enough)
-
 pub length_samples : (n : ℕ) (pages : PlanePages) → All IsPage pages → 2 * (n * n) ≤ 4096 * length pages → length (samples_of_plane n pages) ≡ n * n
 length_samples n pages all enough = length-samples_in (plane_bytes n pages) (n * n) (length_plane n pages all enough)
 

@@ -15,7 +15,6 @@ use Rattle.store.specs.declared.store.Store.{Store}
 pub record HasRun {D : Type 0} (g : Ghosts D) (old : Store D g) (events : List Event) (answers : List Reply) (stores : List (Store D g)) : Type 0 where
   -- each event was asked once, in order, and answered so
   pub answered : Through (IsCall (members g)) old events answers stores
-  pub size : g.size (disk_of (last_of old stores)) ≡ g.size (disk_of old)
   -- the disk is blamed only where it failed, and is honest at the end only where it was
   pub keeps : Keeps (members g) old answers (last_of old stores)
   -- the answers are right in each state that the store may have been in, and a stop since an event leaves the state after

@@ -1,10 +1,11 @@
 -- How a call that may commit ends, by the store's tree (this product's own profile): a command, a step or an upgrade.
-use Rattle.std.specs.Prelude.{◌≡◌, ◌≢◌, ◌≤◌, ◌⊎◌, ℕ, Bool, false, true, IsTrue, Option, Result, OnOk, OnErr, IfOk, IfErr, IsErrOf}
+use Rattle.std.specs.Prelude.{◌≡◌, ◌≢◌, ◌⊎◌, ℕ, Bool, false, IsTrue, Option, Result, OnErr, IfOk, IfErr}
 use Rattle.std.specs.Option.{is_none}
-use Rattle.disk.specs.Disk.{Image, HasRisen}
+use Rattle.disk.specs.Disk.{Image}
 use Rattle.disk.specs.Stops.{LeavesOnly}
 use Rattle.disk.specs.declared.disk.Disk.{Ghosts}
 use Rattle.lattice.specs.Corners.{Corner}
+use Rattle.lattice.specs.Mosaic.{Mosaic}
 use Rattle.lattice.specs.declared.refusal.Refusal.{Refusal}
 use Rattle.lattice.specs.declared.refusal.Refusal.TheVariants.{Device, Failed}
 use Rattle.page_codec.specs.Roots.{RootValue}
@@ -18,6 +19,7 @@ use Rattle.engine.specs.declared.event.Event.TheVariants as ask
 use Rattle.engine.specs.declared.event.Reply.{Reply}
 use Rattle.engine.specs.declared.event.Reply.TheVariants as reply
 use Rattle.cow_tree.specs.Trees.{disk_of, root_of, has_failed}
+use Rattle.cow_tree.specs.Uncommitted.{Returns}
 use Rattle.cow_tree.specs.declared.tree.Tree.{Tree}
 use Rattle.store.specs.Standing.{StandsFor}
 use Rattle.store.specs.States.{StandsForState}
@@ -45,13 +47,9 @@ pub record Ending (T : Type 0) : Type 1 where
 -- The call was made, and answered so: from each state that it may have been in before, by the one test, to one that it may
 -- be in then, by the other.
 pub record EndsAt {D T : Type 0} (g : Ghosts D) (ending : Ending T) (result : Result T Refusal) (old new : Tree D g) (Was Is : State → Type 0) : Type 0 where
-  pub size : g.size (disk_of new) ≡ g.size (disk_of old)
+  pub returns : Returns g old new result
   pub side : (root_of new).side ≡ (root_of old).side
   pub capacity : (root_of new).capacity ≡ (root_of old).capacity
-  pub later : g.failures (disk_of old) ≤ g.failures (disk_of new)
-  pub device : IsErrOf result Device → HasRisen (g.failures (disk_of old)) (g.failures (disk_of new))
-  pub works : OnOk result (has_failed new ≡ false)
-  pub fails : IsErrOf result Device → has_failed new ≡ true
   pub causes : IfErr result (λ r. IsTrue (ending.may_refuse r))
   -- it fails where it blames the disk, and says that it had failed only where it had
   pub quiet : has_failed old ≡ false → IfErr result (λ r. r ≢ Device → (r ≢ Failed) × (has_failed new ≡ false))
@@ -61,7 +59,6 @@ pub record EndsAt {D T : Type 0} (g : Ghosts D) (ending : Ending T) (result : Re
   -- where it is idle, or is refused for another reason than the disk, it writes nothing
   pub unwritten : IfErr result (λ r. r ≢ Device → g.writes (disk_of new) ≡ g.writes (disk_of old))
   pub idle : IfOk result (λ answer. IsTrue (ending.is_idle answer) → g.writes (disk_of new) ≡ g.writes (disk_of old))
-  pub honest : g.honest (disk_of new) → g.honest (disk_of old)
   -- the answer, and the state that it leaves; a stop at any moment leaves the contents as they were, or what that state
   -- stands for
   pub outcome : g.honest (disk_of new) → (s : State) → Was s
@@ -98,6 +95,6 @@ step_ending capacity = event_ending capacity ask.Step reply.Stepped is_none
 abbrev pub IsApplied : {D : Type 0} (g : Ghosts D) → Command → Result ℕ Refusal → Tree D g → Tree D g → Type 0
 IsApplied g command result old new = HasEnded g (command_ending (root_of old).capacity command) result old new
 
--- the step was made, and answered so, by a tree
-abbrev pub IsStepped : {D : Type 0} (g : Ghosts D) → Result (Option Corner) Refusal → Tree D g → Tree D g → Type 0
-IsStepped g result old new = HasEnded g (step_ending (root_of old).capacity) result old new
+-- the step was made, and answered so, by a tree; what it leaves is told where the premise holds of the mosaic
+abbrev pub IsStepped : {D : Type 0} (g : Ghosts D) → (Mosaic → Type 0) → Result (Option Corner) Refusal → Tree D g → Tree D g → Type 0
+IsStepped g P result old new = EndsAt g (step_ending (root_of old).capacity) result old new (λ s. IsInState g old s × P s.contents.mosaic) (λ t. IsInState g new t)

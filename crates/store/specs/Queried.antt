@@ -1,6 +1,5 @@
 -- What a query does to a store: it reads, and changes nothing but the count of failures and whether the store failed.
-use Rattle.std.specs.Prelude.{◌≡◌, ◌≢◌, ◌≤◌, ℕ, true, false, List, Contains, Result, Ok, Err, OnOk, IfErr, IsErrOf}
-use Rattle.disk.specs.Disk.{HasRisen}
+use Rattle.std.specs.Prelude.{◌≡◌, ◌≢◌, ℕ, true, false, List, Contains, Result, Ok, Err, IfErr}
 use Rattle.disk.specs.Stops.{AddsNothing}
 use Rattle.disk.specs.declared.disk.Disk.{Ghosts}
 use Rattle.lattice.specs.Corners.{Corner}
@@ -11,18 +10,15 @@ use Rattle.engine.specs.Outcomes.{Stays, ElevatesNot}
 use Rattle.engine.specs.State.{State}
 use Rattle.cow_tree.specs.Stored.{StoredTile}
 use Rattle.cow_tree.specs.Trees.{disk_of, root_of, has_failed}
+use Rattle.cow_tree.specs.Uncommitted.{Returns}
 use Rattle.cow_tree.specs.declared.tree.Tree.{Tree}
 use Rattle.store.specs.declared.store.Store.{Store}
 
 -- the query was made, and answered so, by the store's tree
 pub record IsQueried {D T : Type 0} (g : Ghosts D) (old new : Tree D g) (result : Result T Refusal) : Type 0 where
-  pub size : g.size (disk_of new) ≡ g.size (disk_of old)
+  pub returns : Returns g old new result
   pub writes : g.writes (disk_of new) ≡ g.writes (disk_of old)
   pub root : root_of new ≡ root_of old
-  pub later : g.failures (disk_of old) ≤ g.failures (disk_of new)
-  pub device : IsErrOf result Device → HasRisen (g.failures (disk_of old)) (g.failures (disk_of new))
-  pub works : OnOk result (has_failed new ≡ false)
-  pub fails : IsErrOf result Device → has_failed new ≡ true
   -- it fails where it blames the disk, and says that it had failed only where it had
   pub quiet : has_failed old ≡ false → IfErr result (λ r. r ≢ Device → (r ≢ Failed) × (has_failed new ≡ false))
   -- a store that failed makes no call of the disk, and stays failed

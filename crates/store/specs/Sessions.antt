@@ -89,6 +89,16 @@ module _ {D : Type 0} (g : Ghosts D) where
   last_store old [] = old
   last_store old (made ∷ more) = last_store made.store more
 
+  -- the calls are these events, answered so
+  abbrev pub AreCallsOf : List Made → List Event → List Reply → Type 0
+  AreCallsOf [] [] [] = Unit {0}
+  AreCallsOf (made ∷ more) (event ∷ events) (answer ∷ answers) = (made.call ≡ Asked event answer) × AreCallsOf more events answers
+  AreCallsOf _ events answers = ⊥
+
+  -- .. and lead from the one store to the other
+  abbrev pub MakesCallsOf : Store D g → Store D g → List Event → List Reply → Type 0
+  MakesCallsOf old new events answers = (calls : List Made) × AreMade old calls × (last_store old calls ≡ new) × AreCallsOf calls events answers
+
   -- A session on a disk.
   pub data Session : Type 0 where
     -- the opening was refused, or the session was stopped inside it

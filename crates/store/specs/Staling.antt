@@ -1,5 +1,5 @@
 -- Kept planes that are given up in memory, before a commit (this product's own profile).
-use Rattle.std.specs.Prelude.{◌≡◌, ◌≤◌, Bool, true, false, if◌then◌else◌, List, map, Contains, Option, None}
+use Rattle.std.specs.Prelude.{◌≡◌, ◌≤◌, ◌+◌, ℕ, Bool, true, false, if◌then◌else◌, List, map, Contains, Option, None}
 use Rattle.disk.specs.declared.disk.Disk.{Ghosts}
 use Rattle.lattice.specs.Corners.{Corner}
 use Rattle.lattice.specs.Mosaic.{Mosaic}
@@ -17,14 +17,19 @@ staled_in test t = if test t.corner then stale_tile t.corner t.heights else t
 abbrev pub staled : (Corner → Bool) → List StoredTile → List StoredTile
 staled test tiles = map (staled_in test) tiles
 
--- the tiles whose corners pass the test will keep nothing, and nothing else has changed
-pub record Stales {D : Type 0} (g : Ghosts D) (test : Corner → Bool) (old new : Tree D g) : Type 0 where
+-- Of what is staged the tiles became what this makes of them, so many records at most came due, and nothing else has changed: no
+-- call of the disk was made.
+pub record ChangesTiles {D : Type 0} (g : Ghosts D) (makes : List StoredTile → List StoredTile) (records : ℕ) (old new : Tree D g) : Type 0 where
   pub no_call : MakesNoCall old new
   pub corners : corners_of new ≡ corners_of old
   pub sinks : sinks_of new ≡ sinks_of old
-  pub due : records_due new ≤ records_due old
-  pub staged : staged_in g new ≡ staled test (staged_in g old)
+  pub due : records_due new ≤ records_due old + records
+  pub staged : staged_in g new ≡ makes (staged_in g old)
   pub at : (s : Stored) → IsAt g old s → IsAt g new s
+
+-- the tiles whose corners pass the test will keep nothing
+abbrev pub Stales : {D : Type 0} (g : Ghosts D) → (Corner → Bool) → Tree D g → Tree D g → Type 0
+Stales g test old new = ChangesTiles g (staled test) 0 old new
 
 -- Of what the tiles kept before the command, those that don't go stale by it keep theirs, and the others nothing.
 pub record KeepFresh (m : Mosaic) (command : Command) (was now : List StoredTile) : Type 0 where

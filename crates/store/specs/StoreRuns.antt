@@ -14,7 +14,7 @@ first_contained : (s : State) (others : List State) → Contains (s ∷ others) 
 first_contained s others = (0, omega arith, refl)
 
 -- an image is read by the same size, side and capacity
-same_stands : (a b c d e f : ℕ) → a ≡ d → b ≡ e → c ≡ f → (image : Image) (s : State) → StandsForState a b c image s → StandsForState d e f image s
+pub same_stands : (a b c d e f : ℕ) → a ≡ d → b ≡ e → c ≡ f → (image : Image) (s : State) → StandsForState a b c image s → StandsForState d e f image s
 same_stands a b c d e f size side capacity image s stands = rw (← size, ← side, ← capacity) stands
 
 module _ {D : Type 0} {g : Ghosts D} where

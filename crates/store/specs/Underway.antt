@@ -8,6 +8,7 @@ use Rattle.lattice.specs.Lattice.{point_of}
 use Rattle.lattice.specs.Mosaic.{Tile, Mosaic, IsMosaic, is_void}
 use Rattle.lattice.specs.declared.point.Point.{Point}
 use Rattle.hgt.specs.Bytes.{sample_of}
+use Rattle.catalogue.specs.Tiles.{is_listed}
 use Rattle.edits.specs.Effect.{is_in_box, is_void_at}
 use Rattle.edits.specs.declared.edit.NewHeight.{NewHeight}
 use Rattle.cow_tree.specs.Stored.{IsPage, StoredTile, samples_of_plane}
@@ -57,10 +58,9 @@ pub record Advances (n : ℕ) (edit : Point → ℤ → ℤ) (m : Mosaic) (was n
   pub kept : keepers now ≡ keepers was
   pub settled : (c : Corner) (i : ℕ) → IsSettled n edit was c i → IsSettled n edit now c i
 
--- .. and page i of the corner's heights is settled
-pub record Settles (n : ℕ) (edit : Point → ℤ → ℤ) (m : Mosaic) (was now : List StoredTile) (c : Corner) (i : ℕ) : Type 0 where
-  pub advances : Advances n edit m was now
-  pub here : IsSettled n edit now c i
+-- .. and these pages are settled
+abbrev pub Settles : ℕ → (Point → ℤ → ℤ) → Mosaic → (Corner → ℕ → Type 0) → List StoredTile → List StoredTile → Type 0
+Settles n edit m here was now = Advances n edit m was now × ((c : Corner) (i : ℕ) → here c i → IsSettled n edit now c i)
 
 -- ---- new heights
 
@@ -82,6 +82,10 @@ last_in_page n i = if nat_lt (2048 * (i + 1)) (n * n) then 2048 * (i + 1) - 1 el
 -- no row of page i of the corner's heights lies south of the box, and none north of it: else it has no point of the box
 abbrev pub has_rows : ℕ → Corner → ℕ → Patch → Bool
 has_rows n c i patch = int_le patch.from.y (point_of n c (2048 * i)).y && int_le (point_of n c (last_in_page n i)).y patch.to.y
+
+-- .. of the tiles at these corners alone
+abbrev pub box_meets : ℕ → Patch → List Corner → Corner → ℕ → Bool
+box_meets n patch corners c i = is_listed c corners && has_rows n c i patch
 
 -- these are the points of the box on the rim of the corner's tile that are void, by rim number
 pub record AreRimVoids (m : Mosaic) (patch : Patch) (rim : RimVoids) : Type 0 where

@@ -6,7 +6,7 @@ ghost use Rattle.std.specs.List.{AllPairs};
 ghost use Rattle.lattice.specs.Limits.{most_tiles};
 ghost use Rattle.engine.specs.Engines.{items_in};
 ghost use Rattle.tile_flood.specs.Raising.{AreTileLevels};
-ghost use Rattle.watershed.specs.Questions.{AreTileDirections};
+ghost use Rattle.watershed.specs.Questions.{AreTileCounts, AreTileDirections};
 ghost use Rattle.engine.specs.Outcomes.{Fills, Directs, TellsTile, Traces, Sheds};
 ghost use Rattle.engine.specs.Told.{may_refuse};
 ghost use Rattle.engine.specs.declared.event.Event.TheVariants as ask;
@@ -15,7 +15,7 @@ ghost use Rattle.cow_tree.specs.Trees.{has_failed, corners_of};
 ghost use Rattle.drainage.specs.Between.{IsHeldOf};
 ghost use Rattle.store.specs.Water.{IsAskedOf};
 
-use crate::labelling::{Asked, Premise};
+use crate::labelling::{Premise, TreeSource};
 use cow_tree::Tree;
 use disk::Disk;
 use drainage::DrainageCache;
@@ -36,11 +36,11 @@ pub(crate) fn ask_fill<D: Disk, P: Premise>(
     ensures causes { IfErr result (λ r. IsTrue (may_refuse (ask.Fill point) r)) }
     ensures asked { IsAskedOf D.Disk P.holds tree.old tree.new held.old held.new result (λ s r t. Fills s point r t) }
 {
-    let mut asked = Asked::<D, P> {
+    let mut source = TreeSource::<D, P> {
         tree,
         premise: PhantomData,
     };
-    drainage::fill(alloc, &mut asked, held, point)
+    drainage::fill(alloc, &mut source, held, point)
 }
 
 // The code of its direction.
@@ -56,11 +56,11 @@ pub(crate) fn ask_direction<D: Disk, P: Premise>(
     ensures causes { IfErr result (λ r. IsTrue (may_refuse (ask.Direction point) r)) }
     ensures asked { IsAskedOf D.Disk P.holds tree.old tree.new held.old held.new result (λ s r t. Directs s point r t) }
 {
-    let mut asked = Asked::<D, P> {
+    let mut source = TreeSource::<D, P> {
         tree,
         premise: PhantomData,
     };
-    drainage::direction(alloc, &mut asked, held, point)
+    drainage::direction(alloc, &mut source, held, point)
 }
 
 // Its flow path.
@@ -77,11 +77,11 @@ pub(crate) fn ask_trace<D: Disk, P: Premise>(
     ensures once { IfOk result (λ path. AllPairs (λ p q. p ≢ q) path.items) }
     ensures asked { IsAskedOf D.Disk P.holds tree.old tree.new held.old held.new result (λ s r t. Traces s point (items_in r) t) }
 {
-    let mut asked = Asked::<D, P> {
+    let mut source = TreeSource::<D, P> {
         tree,
         premise: PhantomData,
     };
-    drainage::trace(alloc, &mut asked, held, point)
+    drainage::trace(alloc, &mut source, held, point)
 }
 
 // Its watershed.
@@ -97,11 +97,11 @@ pub(crate) fn ask_watershed<D: Disk, P: Premise>(
     ensures causes { IfErr result (λ r. IsTrue (may_refuse (ask.Watershed point) r)) }
     ensures asked { IsAskedOf D.Disk P.holds tree.old tree.new held.old held.new result (λ s r t. Sheds s point (items_in r) t) }
 {
-    let mut asked = Asked::<D, P> {
+    let mut source = TreeSource::<D, P> {
         tree,
         premise: PhantomData,
     };
-    drainage::watershed(alloc, &mut asked, held, point)
+    drainage::watershed(alloc, &mut source, held, point)
 }
 
 // The filled levels of all samples of the corner's tile.
@@ -117,11 +117,11 @@ pub(crate) fn ask_levels<D: Disk, P: Premise>(
     ensures causes { IfErr result (λ r. IsTrue (may_refuse (ask.Levels corner) r)) }
     ensures asked { IsAskedOf D.Disk P.holds tree.old tree.new held.old held.new result (λ s r t. TellsTile AreTileLevels s corner (items_in r) t) }
 {
-    let mut asked = Asked::<D, P> {
+    let mut source = TreeSource::<D, P> {
         tree,
         premise: PhantomData,
     };
-    drainage::levels(alloc, &mut asked, held, corner)
+    drainage::levels(alloc, &mut source, held, corner)
 }
 
 // The codes of their directions.
@@ -138,9 +138,30 @@ pub(crate) fn ask_directions<D: Disk, P: Premise>(
     ensures causes { IfErr result (λ r. IsTrue (may_refuse (ask.Directions corner) r)) }
     ensures asked { IsAskedOf D.Disk P.holds tree.old tree.new held.old held.new result (λ s r t. TellsTile AreTileDirections s corner (items_in r) t) }
 {
-    let mut asked = Asked::<D, P> {
+    let mut source = TreeSource::<D, P> {
         tree,
         premise: PhantomData,
     };
-    drainage::directions(alloc, &mut asked, held, corner)
+    drainage::directions(alloc, &mut source, held, corner)
+}
+
+// How many points drain through each of them.
+pub(crate) fn ask_upstream<D: Disk, P: Premise>(
+    alloc: Global,
+    tree: &mut Tree<D>,
+    held: &mut DrainageCache,
+    corner: Corner,
+) -> Result<Vec<u32>, Refusal>
+    requires works { has_failed tree.old ≡ false }
+    requires few { length (corners_of tree.old) ≤ most_tiles }
+    requires present { Contains (corners_of tree.old) corner }
+    requires right { P.holds → IsHeldOf (mosaic_of D.Disk tree.old) held.old }
+    ensures causes { IfErr result (λ r. IsTrue (may_refuse (ask.Upstream corner) r)) }
+    ensures asked { IsAskedOf D.Disk P.holds tree.old tree.new held.old held.new result (λ s r t. TellsTile AreTileCounts s corner (items_in r) t) }
+{
+    let mut source = TreeSource::<D, P> {
+        tree,
+        premise: PhantomData,
+    };
+    drainage::upstream(alloc, &mut source, held, corner)
 }

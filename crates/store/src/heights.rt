@@ -9,10 +9,10 @@ ghost use Rattle.store.specs.PagesMet.{is_in_page};
 ghost use Rattle.store.specs.Underway.{heightened, page_sample, IsEdited};
 
 use crate::page_edit::PageEdit;
-use crate::staging::SAMPLES_IN_PAGE;
 use edits::NewHeight;
 use hgt::{put_sample, sample};
 use lattice::{Corner, Point, Side, index_in};
+use page_codec::{PAGE_BYTES, VALUES_IN_PAGE};
 
 /// The new heights of points, one after another.
 #[derive(Clone, Copy)]
@@ -44,7 +44,13 @@ impl<'a> PageEdit for PointHeights<'a> {
         next
     }
 
-    fn edit_page(&self, side: Side, corner: Corner, index: u32, page: &mut [u8; 4096]) -> bool {
+    fn edit_page(
+        &self,
+        side: Side,
+        corner: Corner,
+        index: u32,
+        page: &mut [u8; PAGE_BYTES],
+    ) -> bool {
         set_heights(side, self.heights, corner, index, page)
     }
 }
@@ -66,7 +72,7 @@ fn page_from(side: Side, corner: Corner, point: Point, from: u32) -> Option<u32>
     ensures none { IfNone result ((i : ℕ) → from ≤ i → is_in_page side corner i point ≡ false) }
 {
     let index = index_in(side, corner, point)?;
-    let page = index / SAMPLES_IN_PAGE;
+    let page = index / VALUES_IN_PAGE;
     if page < from {
         return None;
     }
@@ -79,7 +85,7 @@ fn set_heights(
     heights: &[NewHeight],
     corner: Corner,
     page_index: u32,
-    page: &mut [u8; 4096],
+    page: &mut [u8; PAGE_BYTES],
 ) -> bool
     ensures edited { IsTrue (is_corner corner) → IsEdited side (heightened heights.now) corner page_index page.old page.new }
     ensures left { result ≡ false → page.new ≡ page.old }
@@ -95,7 +101,7 @@ fn set_heights(
 }
 
 // Sets the sample. Answers whether it was another before.
-fn set_sample(page: &mut [u8; 4096], at: usize, metres: i16) -> bool
+fn set_sample(page: &mut [u8; PAGE_BYTES], at: usize, metres: i16) -> bool
     requires { at < 2048 }
     ensures set { result ≡ true → page.new ≡ slice_set (slice_set page.old (2 * at) (high_byte metres)) (2 * at + 1) (low_byte metres) }
     ensures left { result ≡ false → (page.new ≡ page.old) × (page_sample page.old at ≡ metres) }
@@ -113,10 +119,10 @@ fn place_in(side: Side, corner: Corner, page_index: u32, point: Point) -> Option
     ensures none { IfNone result ((e : ℕ) → IsIndexOf side corner point e → e / 2048 ≢ page_index) }
 {
     let index = index_in(side, corner, point)?;
-    if index / SAMPLES_IN_PAGE != page_index {
+    if index / VALUES_IN_PAGE != page_index {
         return None;
     }
-    Some((index % SAMPLES_IN_PAGE) as usize)
+    Some((index % VALUES_IN_PAGE) as usize)
 }
 
 // Its height, which is known to be a number of 16 bits once it is read.

@@ -18,13 +18,11 @@ use catalogue::Samples;
 use cow_tree::{Plane, Tree};
 use disk::Disk;
 use lattice::{Corner, Point, Refusal, Side};
+use page_codec::VALUES_IN_PAGE;
 use std::alloc::Global;
 use std::marker::{Brand, PhantomData};
 use tile_flood::Labelled;
 use tile_labellings::{KeptPlanes, Labellings, TileLabelling, flooded, labelled_at, labelled_from};
-
-// So many values stand in a page of a plane.
-const VALUES_IN_PAGE: u32 = 2048;
 
 /// What is taken to hold where samples are said to be honest. A caller at `Brand` picks it.
 pub(crate) trait Premise {
@@ -37,12 +35,12 @@ impl Premise for Brand {
 
 /// A store's tree that is asked about water: it is honest where the tree is sure and the premise holds.
 #[derive(Drop)]
-pub(crate) struct Asked<'a, D: Disk, P: Premise> {
+pub(crate) struct TreeSource<'a, D: Disk, P: Premise> {
     pub(crate) tree: &'a mut Tree<D>,
     pub(crate) premise: PhantomData<P>,
 }
 
-impl<'a, D: Disk, P: Premise> Samples for Asked<'a, D, P> {
+impl<'a, D: Disk, P: Premise> Samples for TreeSource<'a, D, P> {
     ghost side_of = { λ asked. (root_under asked.tree.now).side };
 
     ghost corners = { λ asked. corners_of asked.tree.now };
@@ -105,7 +103,7 @@ impl<'a, D: Disk, P: Premise> Samples for Asked<'a, D, P> {
     }
 }
 
-impl<'a, D: Disk, P: Premise> Labellings for Asked<'a, D, P> {
+impl<'a, D: Disk, P: Premise> Labellings for TreeSource<'a, D, P> {
     fn labelling(&mut self, alloc: Global, corner: Corner) -> Result<TileLabelling, Refusal> {
         if self.tree.keeps(corner) {
             let labelled = kept_labelling(alloc, self.tree, corner)?;
@@ -120,18 +118,22 @@ impl<'a, D: Disk, P: Premise> Labellings for Asked<'a, D, P> {
         if !self.tree.keeps(corner) {
             return Ok(None);
         }
-        let spot = kept_spot(self.tree, corner, index)?;
-        Ok(Some(spot))
+        let label_at = kept_label_at(self.tree, corner, index)?;
+        Ok(Some(label_at))
     }
 }
 
 // The level and the label that are kept of the point with this index in the corner's tile, read by themselves. Damaged where
 // no labelling has them.
-fn kept_spot<D: Disk>(tree: &mut Tree<D>, corner: Corner, index: u32) -> Result<(i16, u16), Refusal>
+fn kept_label_at<D: Disk>(
+    tree: &mut Tree<D>,
+    corner: Corner,
+    index: u32,
+) -> Result<(i16, u16), Refusal>
     requires levels { Holds tree.old corner Levels }
     requires labels { Holds tree.old corner Labels }
     requires index { index < (root_under tree.old).side * (root_under tree.old).side }
-    ensures spot { IsSure D.Disk tree.new → IfOk result (λ spot. IsLabelledAt (mosaic_of D.Disk tree.old) corner index spot.0 spot.1) }
+    ensures label_at { IsSure D.Disk tree.new → IfOk result (λ label_at. IsLabelledAt (mosaic_of D.Disk tree.old) corner index label_at.0 label_at.1) }
     ensures sound { IsSure D.Disk tree.new → result ≢ Err Damaged }
     ensures causes { IfErr result (λ r. IsTrue (ends_any r)) }
     ensures reads { Consults D.Disk tree.old tree.new result }
@@ -140,12 +142,12 @@ fn kept_spot<D: Disk>(tree: &mut Tree<D>, corner: Corner, index: u32) -> Result<
         return Err(Refusal::Failed);
     }
     let side = tree.current().side();
-    let (level, label) = read_spot(tree, corner, index)?;
+    let (level, label) = read_label_at(tree, corner, index)?;
     labelled_at(side, &level, &label)
 }
 
 // The two bytes of the level and those of the label that are kept of the point with this index in the corner's tile.
-fn read_spot<D: Disk>(
+fn read_label_at<D: Disk>(
     tree: &mut Tree<D>,
     corner: Corner,
     index: u32,

@@ -8,10 +8,15 @@
 //! the relation of a call, which each call here ensures.
 //!
 //! ```
-//! Store::format(&mut disk, 3, 4)?;                       // tiles of 3 x 3 samples, at most four
+//! let format = Format::new(Version::Two, 3, 4)?;         // tiles of 3 x 3 samples, at most four
+//! let mut disk = MemDisk::new(alloc, format.sectors())?; // `FileDisk` keeps them in a file
+//! Store::format(&mut disk, 3, 4)?;
 //! let mut store = Store::open(alloc, disk)?;             // the refusal has the disk, too
-//! let count = store.apply(&command)?;                    // acknowledged: a power cut leaves it done
+//! let count = store.apply(&Command::Import { corner, bytes })?;   // acknowledged: a power cut leaves it done
 //! let level = store.fill(Point { y: 1, x: 1 })?;         // in metres
+//! let mut points = ArrayVec::new();
+//! points.push(Point { y: 0, x: 2 });
+//! store.apply(&Command::Burn { depth: 3, points })?;     // three metres lower
 //! ```
 #![tactic(auto)]
 
@@ -36,8 +41,14 @@ mod store_engine;
 mod upgrading;
 mod voids;
 
-pub use engine::{Event, Reply};
+pub use cow_tree::NotOpened;
+pub use disk::{Disk, Fault, FileDisk, MemDisk};
+pub use edits::{ArrayVec, Bytes, Command};
+pub use engine::{Engine, Event, Reply};
 pub use kept_right::planes_stay_right;
+pub use lattice::{Corner, Height, Point, Refusal, Side};
 pub use laws::{images_stand_for_one_contents, pages_are_written_once};
-pub use sessions::{open_session, sessions_compose};
+pub use page_codec::{Format, Version};
+pub use sessions::{open_session, run_in_session, sessions_compose, upgrade_in_session};
 pub use store::Store;
+pub use watershed::Run;

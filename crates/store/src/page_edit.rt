@@ -7,6 +7,7 @@ ghost use Rattle.page_codec.specs.Sizes.{pages_of};
 ghost use Rattle.store.specs.Underway.{IsEdited, IsPageOf, LeavesPage};
 
 use lattice::{Corner, Side};
+use page_codec::PAGE_BYTES;
 
 /// An edit that sets samples of tiles: it says which pages of heights it meets, and what it makes of such a page.
 pub(crate) trait PageEdit {
@@ -34,7 +35,7 @@ pub(crate) trait PageEdit {
             → (i : ℕ) → meets self.now side corner i ≡ false → LeavesPage side (made self.now m) corner i };
 
     /// Edits a page of the corner's heights that it meets. Answers whether it set a sample.
-    fn edit_page(&self, side: Side, corner: Corner, index: u32, page: &mut [u8; 4096]) -> bool
+    fn edit_page(&self, side: Side, corner: Corner, index: u32, page: &mut [u8; PAGE_BYTES]) -> bool
         requires made_for { is_for self.now side }
         requires index { index < pages_of side }
         requires met { meets self.now side corner index ≡ true }

@@ -17,10 +17,11 @@ ghost use Rattle.store.specs.Stores.{disk_of, has_failed, IsAt};
 
 use crate::Store;
 use crate::asking::{
-    ask_direction, ask_directions, ask_fill, ask_levels, ask_trace, ask_watershed,
+    ask_direction, ask_directions, ask_fill, ask_levels, ask_trace, ask_upstream, ask_watershed,
 };
 use cow_tree::{Plane, Tree};
 use disk::Disk;
+use engine::Info;
 use lattice::{Corner, Height, Point, Refusal};
 use page_codec::{PAGE_BYTES, pages_in_plane};
 use std::marker::Brand;
@@ -129,6 +130,17 @@ impl<D: Disk> Store<D> {
         ask_directions::<D, Brand>(self.alloc, &mut self.tree, &mut self.held, corner)
     }
 
+    /// How many points drain through each sample of a tile, itself among them: so many as `watershed` answers of its point. 0
+    /// where a sample's point isn't ground. Row by row from the north, west first. Refused as `levels` is.
+    pub fn upstream(&mut self, corner: Corner) -> Result<Vec<u32>, Refusal>
+        ensures call { IsCall (members D.Disk) self.old (ask.Upstream corner) (answered reply.Upstream result) self.new }
+        ensures reads { OnlyReads D.Disk self.old self.new }
+    {
+        self.check_working()?;
+        self.check_present(corner)?;
+        ask_upstream::<D, Brand>(self.alloc, &mut self.tree, &mut self.held, corner)
+    }
+
     /// The corners of the present tiles, in order. They are held in memory, so that no disk refuses.
     pub fn tiles(&self) -> Result<Vec<Corner>, Refusal>
         ensures { IsCall (members D.Disk) self.now ask.Tiles (answered reply.Tiles result) self.now }
@@ -149,6 +161,24 @@ impl<D: Disk> Store<D> {
     {
         self.check_working()?;
         Ok(Vec::from_slice(self.alloc, self.tree.sinks())?)
+    }
+
+    /// Its sizes, and what it counts. All of it is held in memory. Refused with Failed.
+    pub fn info(&self) -> Result<Info, Refusal>
+        ensures { IsCall (members D.Disk) self.now ask.Info (answered reply.Info result) self.now }
+    {
+        self.check_working()?;
+        let stale = derived::stale_count(&self.tree);
+        let tiles = self.tree.current().entries().len();
+        Ok(Info {
+            side: self.side(),
+            capacity: self.capacity(),
+            version: self.version(),
+            count: self.count(),
+            commits: self.commits(),
+            fresh: tiles.saturating_sub(stale) as u64,
+            stale: stale as u64,
+        })
     }
 
     // Refused where the corner's tile isn't there.

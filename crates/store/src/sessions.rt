@@ -1,14 +1,18 @@
 //! Sessions of a store, and the law of those that follow one another.
-ghost use Rattle.std.specs.Prelude.{ℕ};
+ghost use Rattle.std.specs.Prelude.{◌≡◌, ◌++◌, ℕ, List, IfErr, OnErr, OnOk};
 ghost use Rattle.std.specs.declared.marker.Brand.{Brand};
 ghost use Rattle.disk.specs.Disk.{Image};
 ghost use Rattle.disk.specs.FileWorlds.{giving};
 ghost use Rattle.disk.specs.declared.file.FileDisk.{FileDisk};
-ghost use Rattle.store.specs.Sessions.{IsOpening, SessionsCompose};
+ghost use Rattle.engine.specs.declared.event.Reply.{Reply};
+ghost use Rattle.lattice.specs.declared.refusal.Refusal.TheVariants.{NoMemory};
+ghost use Rattle.store.specs.Sessions.{IsMade, IsOpening, MakesCallsOf, SessionsCompose, Upgraded};
 
 use crate::Store;
 use cow_tree::NotOpened;
 use disk::Disk;
+use engine::{Event, Reply};
+use lattice::Refusal;
 use std::alloc::Global;
 
 /// Begins a session: [`Store::open`], by all that is promised of an opening in one.
@@ -16,6 +20,29 @@ pub fn open_session<D: Disk>(alloc: Global, disk: D) -> Result<Store<D>, NotOpen
     ensures { IsOpening D.Disk disk result }
 {
     Store::open(alloc, disk)
+}
+
+/// Answers events in a session: [`Store::run`], by the calls that it makes in one.
+pub fn run_in_session<D: Disk>(
+    store: &mut Store<D>,
+    events: &[Event],
+    out: &mut Vec<Reply>,
+) -> Result<(), Refusal>
+    ensures ran { OnOk result ((replies : List Reply) × (out.new.items ≡ out.old.items ++ replies)
+        × MakesCallsOf D.Disk store.old store.new events.now replies) }
+
+    // It is refused for memory alone, before the first event.
+    ensures refused { IfErr result (λ r. r ≡ NoMemory) }
+    ensures nothing { OnErr result (store.new ≡ store.old) }
+{
+    store.run(events, out)
+}
+
+/// Upgrades a store in a session: [`Store::upgrade`], by all that is promised of it in one.
+pub fn upgrade_in_session<D: Disk>(store: &mut Store<D>) -> Result<(), Refusal>
+    ensures { IsMade D.Disk store.old (Upgraded result) store.new }
+{
+    store.upgrade()
 }
 
 /// The law, which the function says in its contract; it does nothing.

@@ -17,9 +17,6 @@ use edits::{Edit, with_point, without_point};
 use lattice::{Corner, Refusal};
 use std::alloc::Global;
 
-// Samples in a page, two bytes each.
-pub(crate) const SAMPLES_IN_PAGE: u32 = 2048;
-
 /// Stages what the edit makes of the tiles and the sinks, and nothing else. Memory for it is had before the first write:
 /// refused with NoMemory, and then nothing was written, or with Device.
 pub(crate) fn stage<D: Disk>(

@@ -5,17 +5,17 @@ ghost use Rattle.page_codec.specs.Roots.{format_of};
 ghost use Rattle.page_codec.specs.Sizes.{plane_pages_of};
 ghost use Rattle.cow_tree.specs.Trees.{disk_of as disk_under, root_of as root_under, has_failed as have_failed};
 ghost use Rattle.cow_tree.specs.Clean.{IsClean};
-ghost use Rattle.derived.specs.Steps.{HasStepped};
 ghost use Rattle.drainage.specs.Between.{IsHeldOf};
 ghost use Rattle.engine.specs.Engines.{IsCall, answered};
 ghost use Rattle.engine.specs.declared.event.Event.TheVariants as ask;
 ghost use Rattle.engine.specs.declared.event.Reply.TheVariants as reply;
+ghost use Rattle.store.specs.Ended.{IsStepped};
 ghost use Rattle.store.specs.StoreState.{members};
 ghost use Rattle.store.specs.Stores.{disk_of, root_of, has_failed};
 
 use crate::Store;
 use cow_tree::Tree;
-use derived::{next_stale, step_held};
+use derived::{next_stale, step};
 use disk::Disk;
 use drainage::DrainageCache;
 use lattice::{Corner, Refusal};
@@ -46,13 +46,13 @@ fn step_tree<D: Disk>(
     tree: &mut Tree<D>,
     held: &DrainageCache,
 ) -> Result<Option<Corner>, Refusal>
-    ensures stepped { have_failed tree.old ≡ false → HasStepped D.Disk (λ m. IsHeldOf m held.now) tree.old tree.new result }
+    ensures stepped { IsStepped D.Disk (λ m. IsHeldOf m held.now) result tree.old tree.new }
     ensures clean { have_failed tree.new ≡ false → IsClean tree.new }
     ensures writes { D.writes (disk_under tree.new) ≤ D.writes (disk_under tree.old) + (2 * plane_pages_of (format_of (root_under tree.old)) + 3) }
     ensures failed { have_failed tree.old ≡ true → (result ≡ Err Failed) × (tree.new ≡ tree.old) }
 {
     match next_stale(tree) {
-        Some(corner) => step_held(alloc, tree, Some(corner), held.labelling(corner)),
-        None => derived::step(alloc, tree),
+        Some(corner) => step(alloc, tree, Some(corner), held.labelling(corner)),
+        None => step(alloc, tree, None, None),
     }
 }

@@ -1,12 +1,11 @@
 //! The store.
-ghost use Rattle.std.specs.Prelude.{◌≡◌, ◌≢◌, ◌≤◌, ◌<◌, ◌⊎◌, ◌↔◌, ℕ, false, Ok, Err, OnOk, OnErr, IfOk, IfErr, IsErrOf, Contains};
+ghost use Rattle.std.specs.Prelude.{◌≡◌, ◌≤◌, ◌⊎◌, ℕ, false, Ok, Err, OnOk, OnErr, IfOk, IfErr, Contains};
 ghost use Rattle.disk.specs.Disk.{Image, HasRisen};
 ghost use Rattle.disk.specs.Stops.{AddsNothing};
-ghost use Rattle.lattice.specs.Limits.{largest_side, most_tiles};
-ghost use Rattle.lattice.specs.declared.refusal.Refusal.TheVariants.{Device, NoMemory, BadSide, BadCapacity, TooSmall};
-ghost use Rattle.page_codec.specs.Formats.{IsKnown, largest_side_of, number_of};
-ghost use Rattle.page_codec.specs.declared.version.Version.TheVariants.{One};
-ghost use Rattle.page_codec.specs.Sizes.{sectors_asked, sectors_of};
+ghost use Rattle.lattice.specs.declared.refusal.Refusal.TheVariants.{Device, NoMemory};
+ghost use Rattle.page_codec.specs.Formats.{IsKnown, number_of};
+ghost use Rattle.page_codec.specs.declared.version.Version.TheVariants.{One, Two};
+ghost use Rattle.page_codec.specs.Sizes.{sectors_asked};
 ghost use Rattle.catalogue.specs.Tiles.{corners_of, is_listed};
 ghost use Rattle.engine.specs.Engines.{IsCall, answered};
 ghost use Rattle.engine.specs.State.{Contents, State, fresh, fresh_1, working};
@@ -15,7 +14,7 @@ ghost use Rattle.engine.specs.declared.event.Reply.TheVariants as reply;
 ghost use Rattle.cow_tree.specs.Layout.{Stands};
 ghost use Rattle.cow_tree.specs.Stored.{no_tiles};
 ghost use Rattle.cow_tree.specs.Trees.{MayRefuse, has_failed as have_failed};
-ghost use Rattle.store.specs.Formatted.{format_2, format_by};
+ghost use Rattle.store.specs.Formatted.{format_2, format_by, Formats};
 ghost use Rattle.derived.specs.Kept.{stale_in};
 ghost use Rattle.store.specs.Standing.{StandsFor};
 ghost use Rattle.cow_tree.specs.Clean.{IsClean};
@@ -23,7 +22,7 @@ ghost use Rattle.cow_tree.specs.Clean.{IsClean};
 use cow_tree::{NotOpened, Tree};
 use disk::Disk;
 use drainage::DrainageCache;
-use lattice::{Corner, Refusal, Side};
+use lattice::{Corner, Refusal};
 use page_codec::{Format, Version};
 use std::alloc::Global;
 
@@ -51,16 +50,7 @@ impl<D: Disk> Store<D> {
     /// many (1 to 240). Refused as BadSide, BadCapacity or TooSmall, in this order, and then nothing was done; or with
     /// Device, and then the disk may hold anything.
     pub fn format(disk: &mut D, side: u32, capacity: u32) -> Result<(), Refusal>
-        ensures size { D.size disk.new ≡ D.size disk.old }
-        ensures bad_side { (result ≡ Err BadSide) ↔ ((side < 3) ⊎ (largest_side < side)) }
-        ensures bad_capacity { (result ≡ Err BadCapacity) ↔ ((3 ≤ side) × (side ≤ largest_side) × ((capacity < 1) ⊎ (most_tiles < capacity))) }
-        ensures too_small { (result ≡ Err TooSmall)
-            ↔ ((3 ≤ side) × (side ≤ largest_side) × (1 ≤ capacity) × (capacity ≤ most_tiles) × (D.size disk.old < sectors_asked (format_2 side capacity))) }
-        ensures refused { IfErr result (λ r. (r ≡ BadSide) ⊎ ((r ≡ BadCapacity) ⊎ ((r ≡ TooSmall) ⊎ (r ≡ Device)))) }
-        ensures untouched { IfErr result (λ r. r ≢ Device → disk.new ≡ disk.old) }
-        ensures later { D.failures disk.old ≤ D.failures disk.new }
-        ensures device { IsErrOf result Device → HasRisen (D.failures disk.old) (D.failures disk.new) }
-        ensures honest { D.honest disk.new → D.honest disk.old }
+        ensures formats { Formats D.Disk Two side capacity disk.old disk.new result }
         ensures formatted { D.honest disk.new
             → OnOk result ((image : Image) → D.may disk.new image → StandsFor (D.size disk.new) side capacity image (fresh side)) }
     {
@@ -69,16 +59,7 @@ impl<D: Disk> Store<D> {
 
     /// Makes an empty store on a disk as [`Store::format`] does, by the first version, whose sides are 3 to 1201.
     pub fn format_1(disk: &mut D, side: u32, capacity: u32) -> Result<(), Refusal>
-        ensures size { D.size disk.new ≡ D.size disk.old }
-        ensures bad_side { (result ≡ Err BadSide) ↔ ((side < 3) ⊎ (largest_side_of One < side)) }
-        ensures bad_capacity { (result ≡ Err BadCapacity) ↔ ((3 ≤ side) × (side ≤ largest_side_of One) × ((capacity < 1) ⊎ (most_tiles < capacity))) }
-        ensures too_small { (result ≡ Err TooSmall)
-            ↔ ((3 ≤ side) × (side ≤ largest_side_of One) × (1 ≤ capacity) × (capacity ≤ most_tiles) × (D.size disk.old < sectors_of side capacity)) }
-        ensures refused { IfErr result (λ r. (r ≡ BadSide) ⊎ ((r ≡ BadCapacity) ⊎ ((r ≡ TooSmall) ⊎ (r ≡ Device)))) }
-        ensures untouched { IfErr result (λ r. r ≢ Device → disk.new ≡ disk.old) }
-        ensures later { D.failures disk.old ≤ D.failures disk.new }
-        ensures device { IsErrOf result Device → HasRisen (D.failures disk.old) (D.failures disk.new) }
-        ensures honest { D.honest disk.new → D.honest disk.old }
+        ensures formats { Formats D.Disk One side capacity disk.old disk.new result }
         ensures formatted { D.honest disk.new
             → OnOk result ((image : Image) → D.may disk.new image → StandsFor (D.size disk.new) side capacity image (fresh_1 side)) }
     {
@@ -190,13 +171,6 @@ impl<D: Disk> Store<D> {
         self.tree.current().side().samples()
     }
 
-    /// The side of its tiles.
-    pub fn tile_side(&self) -> Side
-        ensures { result ≡ side_of self.now }
-    {
-        self.tree.current().side()
-    }
-
     /// How many tiles it has room for.
     pub fn capacity(&self) -> u32
         ensures { result ≡ capacity_of self.now }
@@ -213,16 +187,7 @@ fn format_as<D: Disk>(
     capacity: u32,
 ) -> Result<(), Refusal>
     requires known { IsKnown version }
-    ensures size { D.size disk.new ≡ D.size disk.old }
-    ensures bad_side { (result ≡ Err BadSide) ↔ ((side < 3) ⊎ (largest_side_of version < side)) }
-    ensures bad_capacity { (result ≡ Err BadCapacity) ↔ ((3 ≤ side) × (side ≤ largest_side_of version) × ((capacity < 1) ⊎ (most_tiles < capacity))) }
-    ensures too_small { (result ≡ Err TooSmall)
-        ↔ ((3 ≤ side) × (side ≤ largest_side_of version) × (1 ≤ capacity) × (capacity ≤ most_tiles) × (D.size disk.old < sectors_asked (format_by version side capacity))) }
-    ensures refused { IfErr result (λ r. (r ≡ BadSide) ⊎ ((r ≡ BadCapacity) ⊎ ((r ≡ TooSmall) ⊎ (r ≡ Device)))) }
-    ensures untouched { IfErr result (λ r. r ≢ Device → disk.new ≡ disk.old) }
-    ensures later { D.failures disk.old ≤ D.failures disk.new }
-    ensures device { IsErrOf result Device → HasRisen (D.failures disk.old) (D.failures disk.new) }
-    ensures honest { D.honest disk.new → D.honest disk.old }
+    ensures formats { Formats D.Disk version side capacity disk.old disk.new result }
     ensures formatted { D.honest disk.new
         → OnOk result ((image : Image) → D.may disk.new image → Stands (D.size disk.new) image (no_tiles (format_by version side capacity))) }
 {

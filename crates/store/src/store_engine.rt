@@ -9,7 +9,7 @@ ghost use Rattle.std.specs.Prelude.{◌≡◌, []};
 use crate::store::Store;
 use disk::Disk;
 use edits::Command;
-use engine::Engine;
+use engine::{Engine, Info};
 use lattice::{Corner, Height, Point, Refusal, Side};
 use watershed::Run;
 
@@ -54,7 +54,7 @@ impl<D: Disk> Engine for Store<D> {
     ghost same_side = { λ e s at. at.in_state.side_is };
 
     fn side(&self) -> Side {
-        self.tile_side()
+        self.tree.current().side()
     }
 
     fn apply(&mut self, command: &Command) -> Result<u64, Refusal> {
@@ -93,6 +93,10 @@ impl<D: Disk> Engine for Store<D> {
         Store::directions(self, corner)
     }
 
+    fn upstream(&mut self, corner: Corner) -> Result<Vec<u32>, Refusal> {
+        Store::upstream(self, corner)
+    }
+
     fn tiles(&self) -> Result<Vec<Corner>, Refusal> {
         Store::tiles(self)
     }
@@ -107,6 +111,10 @@ impl<D: Disk> Engine for Store<D> {
 
     fn count(&self) -> u64 {
         Store::count(self)
+    }
+
+    fn info(&self) -> Result<Info, Refusal> {
+        Store::info(self)
     }
 
     fn reopen(&mut self) -> Result<(), Refusal> {

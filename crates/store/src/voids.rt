@@ -1,25 +1,24 @@
 //! A patch, as an edit of pages: what it fills.
-ghost use Rattle.std.specs.Prelude.{◌≡◌, ◌<◌, ◌≤◌, ◌+◌, ◌*◌, ◌-◌, ◌^◌, ◌&&◌, int_le, ℕ, true, false, All, Contains, IfSome, IfNone, OnOk, map, vec_len};
+ghost use Rattle.std.specs.Prelude.{◌≡◌, ◌<◌, ◌≤◌, ◌+◌, ◌*◌, ◌-◌, ◌^◌, ◌&&◌, int_le, ℕ, true, false, All, Contains, IfSome, IfNone, map, vec_len};
 ghost use Rattle.lattice.specs.Mosaic.{Mosaic, IsMosaic, IsSample, is_void};
 ghost use Rattle.page_codec.specs.Sizes.{pages_of};
 ghost use Rattle.catalogue.specs.Tiles.{is_listed};
 ghost use Rattle.edits.specs.Edits.{AreVoidTiles};
 ghost use Rattle.edits.specs.Effect.{is_in_box};
 ghost use Rattle.cow_tree.specs.Reading.{mosaic_of};
-ghost use Rattle.cow_tree.specs.Stored.{Stored};
-ghost use Rattle.cow_tree.specs.Trees.{disk_of, root_of, has_failed, corners_of, staged_in, IsAt};
-ghost use Rattle.store.specs.Editing.{StagesOnly, IsRefusedEarly};
-ghost use Rattle.store.specs.Underway.{filled, has_rows, is_due, last_in_page, page_sample, AreRimVoids, IsEdited, IsPageOf, IsSettled, IsUnderway, Advances};
+ghost use Rattle.cow_tree.specs.Trees.{root_of, has_failed, corners_of};
+ghost use Rattle.store.specs.Editing.{MakesPages, IsRefusedEarly};
+ghost use Rattle.store.specs.PagesMet.{pages_met};
+ghost use Rattle.store.specs.Underway.{box_meets, filled, has_rows, is_due, last_in_page, page_sample, AreRimVoids, IsEdited, IsPageOf};
 
 use crate::page_edit::PageEdit;
 use crate::rims::{RimVoids, read_rims};
-use crate::staging::SAMPLES_IN_PAGE;
 use crate::staging_pages::stage_pages;
 use cow_tree::Tree;
 use disk::Disk;
 use hgt::{put_sample, sample};
 use lattice::{Corner, Point, Refusal, Side, VOID, point_at};
-use page_codec::pages_in_plane;
+use page_codec::{PAGE_BYTES, VALUES_IN_PAGE, pages_in_plane};
 use std::alloc::Global;
 
 /// The box of a patch, ends included, and the height that its void points get.
@@ -40,12 +39,11 @@ pub(crate) fn stage_voids<D: Disk>(
     patch: Patch,
 ) -> Result<(), Refusal>
     requires works { has_failed tree.old ≡ false }
-    ensures stages { StagesOnly D.Disk tree.old tree.new result }
+    // Of these tiles each page with a row of the box is staged, once at most.
+    ensures makes { let n : ℕ = (root_of tree.old).side in let pages : ℕ = pages_met (box_meets n patch tiles.now) (pages_of n) (corners_of tree.old) in
+        MakesPages D.Disk n (λ m. filled m patch) (λ m. (mosaic_of D.Disk tree.old ≡ m) × AreVoidTiles m patch.from patch.to tiles.now) (λ c i. Contains (corners_of tree.old) c)
+        pages pages tree.old tree.new result }
     ensures refused { IsRefusedEarly D.Disk tree.old tree.new result }
-    ensures set { D.honest (disk_of tree.new) → (s : Stored) (m : Mosaic) → IsAt D.Disk tree.old s → mosaic_of D.Disk tree.old ≡ m
-        → AreVoidTiles m patch.from patch.to tiles.now → IsUnderway (root_of tree.old).side (filled m patch) m (staged_in D.Disk tree.old)
-        → OnOk result (Advances (root_of tree.old).side (filled m patch) m (staged_in D.Disk tree.old) (staged_in D.Disk tree.new)
-        × All (λ c. (i : ℕ) → IsSettled (root_of tree.old).side (filled m patch) (staged_in D.Disk tree.new) c i) (corners_of tree.old)) }
 {
     let rims = read_rims(alloc, tree, tiles, patch)?;
     let fills = VoidFills { rims: &rims, patch };
@@ -60,10 +58,9 @@ pub(crate) struct VoidFills<'a> {
 }
 
 impl<'a> PageEdit for VoidFills<'a> {
-    ghost use Rattle.std.specs.Prelude.{◌≡◌, ◌-◌, ◌*◌, ◌&&◌, All, map, vec_len};
-    ghost use Rattle.catalogue.specs.Tiles.{is_listed};
+    ghost use Rattle.std.specs.Prelude.{◌≡◌, ◌-◌, ◌*◌, All, map, vec_len};
     ghost use Rattle.edits.specs.Edits.{AreVoidTiles};
-    ghost use Rattle.store.specs.Underway.{filled, AreRimVoids, has_rows};
+    ghost use Rattle.store.specs.Underway.{box_meets, filled, AreRimVoids};
 
     ghost made = { λ edit m. filled m edit.patch };
 
@@ -72,7 +69,7 @@ impl<'a> PageEdit for VoidFills<'a> {
 
     ghost is_for = { λ edit n. All (λ rim. vec_len rim.voids ≡ 4 * (n - 1)) edit.rims.now };
 
-    ghost meets = { λ edit n c i. is_listed c (map (λ rim. rim.corner) edit.rims.now) && has_rows n c i edit.patch };
+    ghost meets = { λ edit n. box_meets n edit.patch (map (λ rim. rim.corner) edit.rims.now) };
 
     fn next_page(&self, side: Side, corner: Corner, from: u32) -> Option<u32> {
         rim_of(self.rims, corner)?;
@@ -84,7 +81,13 @@ impl<'a> PageEdit for VoidFills<'a> {
         None
     }
 
-    fn edit_page(&self, side: Side, corner: Corner, index: u32, page: &mut [u8; 4096]) -> bool {
+    fn edit_page(
+        &self,
+        side: Side,
+        corner: Corner,
+        index: u32,
+        page: &mut [u8; PAGE_BYTES],
+    ) -> bool {
         match rim_of(self.rims, corner) {
             Some(rim) => fill_samples(side, rim, self.patch, index, page),
             None => false,
@@ -110,7 +113,7 @@ fn has_rows(side: Side, corner: Corner, patch: Patch, index: u32) -> bool
     requires { index < pages_of side }
     ensures { result ≡ has_rows side corner index patch }
 {
-    let north = point_at(side, corner, SAMPLES_IN_PAGE * index);
+    let north = point_at(side, corner, VALUES_IN_PAGE * index);
     let south = point_at(side, corner, last_in_page(side, index));
     meets_rows(patch, north, south)
 }
@@ -121,7 +124,7 @@ fn last_in_page(side: Side, index: u32) -> u32
     ensures value { result ≡ last_in_page side index }
     ensures within { result < side * side }
 {
-    let next = SAMPLES_IN_PAGE * (index + 1);
+    let next = VALUES_IN_PAGE * (index + 1);
     if next < side.area() {
         return next - 1;
     }
@@ -136,7 +139,13 @@ fn meets_rows(patch: Patch, north: Point, south: Point) -> bool
 }
 
 // Fills the voids of the box in a page of the tile's heights. Answers whether there was one.
-fn fill_samples(side: Side, rim: &RimVoids, patch: Patch, index: u32, page: &mut [u8; 4096]) -> bool
+fn fill_samples(
+    side: Side,
+    rim: &RimVoids,
+    patch: Patch,
+    index: u32,
+    page: &mut [u8; PAGE_BYTES],
+) -> bool
     requires whole { vec_len rim.now.voids ≡ 4 * (side - 1) }
     requires index { index < pages_of side }
     ensures edited { (m : Mosaic) → IsMosaic m → m.side ≡ side → AreRimVoids m patch rim.now → IsPageOf side (filled m patch) m rim.now.corner index page.old
@@ -145,8 +154,8 @@ fn fill_samples(side: Side, rim: &RimVoids, patch: Patch, index: u32, page: &mut
 {
     let height = height_of(&patch);
     let mut is_filled = false;
-    for at in 0..SAMPLES_IN_PAGE {
-        if is_due(side, rim, patch, SAMPLES_IN_PAGE * index, page, at) {
+    for at in 0..VALUES_IN_PAGE {
+        if is_due(side, rim, patch, VALUES_IN_PAGE * index, page, at) {
             put_sample(page, at as usize, height);
             is_filled = true;
         }
@@ -164,7 +173,14 @@ fn height_of(patch: &Patch) -> i16
 
 // Whether sample `at` of the page, which begins with the tile's sample `first`, is to be filled: it is a void, and its
 // point a void point of the box.
-fn is_due(side: Side, rim: &RimVoids, patch: Patch, first: u32, page: &[u8; 4096], at: u32) -> bool
+fn is_due(
+    side: Side,
+    rim: &RimVoids,
+    patch: Patch,
+    first: u32,
+    page: &[u8; PAGE_BYTES],
+    at: u32,
+) -> bool
     requires whole { vec_len rim.now.voids ≡ 4 * (side - 1) }
     requires at { at < 2048 }
     requires fits { first + 2048 < 2 ^ 32 }
@@ -181,7 +197,7 @@ fn is_due(side: Side, rim: &RimVoids, patch: Patch, first: u32, page: &[u8; 4096
 }
 
 // Whether the sample of the page is a void.
-fn holds_void(page: &[u8; 4096], at: u32) -> bool
+fn holds_void(page: &[u8; PAGE_BYTES], at: u32) -> bool
     requires { at < 2048 }
     ensures { result ≡ is_void (page_sample page.now at) }
 {

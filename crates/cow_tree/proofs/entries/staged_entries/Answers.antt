@@ -4,7 +4,7 @@ use Rattle.page_codec.specs.Entries.{IsEntry}
 use Rattle.page_codec.specs.Roots.{AreInOrder}
 use Rattle.page_map.specs.TileLocations.{TileLocation}
 use Rattle.cow_tree.specs.Entries.{entry_of}
-use Rattle.cow_tree.proofs.EntryTiles.{entries_rules, entries_in_order, one_entry_more}
+use Rattle.cow_tree.proofs.Listed.EntryTiles.{entries_rules, entries_in_order, one_entry_more}
 use Rattle.cow_tree.proofs.entries.staged_entries.Goals as goal
 use Rattle.cow_tree.proofs.entries.staged_entries.Goals.{After-loop-corner}
 

@@ -8,9 +8,9 @@ use Rattle.cow_tree.specs.Caches.{Agrees}
 use Rattle.cow_tree.specs.declared.cache.PageCache.{PageCache}
 use Rattle.cow_tree.proofs.Cached.{written_agrees}
 use Rattle.cow_tree.specs.Listings.{ListingPage, WritesListing, due_among, listing_bytes, plane_listing, written_before}
-use Rattle.cow_tree.proofs.ListingPages.{none_listed}
-use Rattle.cow_tree.proofs.PageWrites.{one_written}
-use Rattle.cow_tree.proofs.PlaneWrites.{IsPlaneAt, plane_there, plane_is, no_plane, all_due, number_is, page_low, page_high, page_more, page_passed, page_refused}
+use Rattle.cow_tree.proofs.Listed.ListingPages.{none_listed}
+use Rattle.cow_tree.proofs.Writes.PageWrites.{one_written}
+use Rattle.cow_tree.proofs.Writes.PlaneWrites.{IsPlaneAt, plane_there, plane_is, no_plane, all_due, number_is, page_low, page_high, page_more, page_passed, page_refused}
 use Rattle.cow_tree.proofs.listings.write_listing.Goals as goal
 use Rattle.cow_tree.proofs.listings.write_listing.Goals.{After-page_due, in-Some-page_due+in_ok-write, in_default-page_due}
 

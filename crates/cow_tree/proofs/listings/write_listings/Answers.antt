@@ -6,9 +6,9 @@ use Rattle.lattice.specs.declared.refusal.Refusal.{Refusal}
 use Rattle.page_map.specs.PageMaps.{corners_of_locations}
 use Rattle.page_map.specs.TileLocations.{TileLocation}
 use Rattle.cow_tree.specs.Listings.{ListingPage, WritesListing, due_among, tiles_listing, written_before}
-use Rattle.cow_tree.proofs.EntryTiles.{tile_at, corner_located}
-use Rattle.cow_tree.proofs.ListingPages.{none_listed}
-use Rattle.cow_tree.proofs.TileWrites.{first_all, one_more, one_refused}
+use Rattle.cow_tree.proofs.Listed.EntryTiles.{tile_at, corner_located}
+use Rattle.cow_tree.proofs.Listed.ListingPages.{none_listed}
+use Rattle.cow_tree.proofs.Writes.TileWrites.{first_all, one_more, one_refused}
 use Rattle.cow_tree.proofs.listings.write_listings.Goals as goal
 use Rattle.cow_tree.proofs.listings.write_listings.Goals.{After-write_tile_listings}
 

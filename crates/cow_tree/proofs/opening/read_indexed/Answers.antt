@@ -7,7 +7,7 @@ use Rattle.page_codec.specs.Sizes.{pages_of, index_pages_by}
 use Rattle.page_map.specs.Locations.{PlaneLocation}
 use Rattle.cow_tree.specs.Found.{NoneListed, NoneIndexed}
 use Rattle.cow_tree.specs.OverRoots.{IsRefusedFor}
-use Rattle.cow_tree.proofs.Indexed.{AreReadTo, within as index_within, read_more, part_same, part_read, none_indexed}
+use Rattle.cow_tree.proofs.Listed.Indexed.{AreReadTo, within as index_within, read_more, part_same, part_read, none_indexed}
 use Rattle.cow_tree.proofs.ReadOnly.{refused_for, handed_on, read_on, works_ok, refused_again, read_well}
 use Rattle.cow_tree.proofs.opening.read_indexed.Goals as goal
 use Rattle.cow_tree.proofs.opening.read_indexed.Goals.{After-read_listed}

@@ -2,7 +2,7 @@ use Rattle.std.proofs.Common.{◌≡◌, ◌<◌, ℕ, false, length, drop, get_
 use Rattle.page_codec.specs.Records.{part_of, record_bytes}
 use Rattle.page_codec.specs.Sizes.{pages_of}
 use Rattle.roots.specs.Roots.{disk_of, has_failed}
-use Rattle.cow_tree.proofs.Indexed.{AreReadTo}
+use Rattle.cow_tree.proofs.Listed.Indexed.{AreReadTo}
 use Rattle.cow_tree.proofs.ReadOnly.{HasRead}
 use Rattle.cow_tree.proofs.opening.read_indexed.Given as goal
 

@@ -11,7 +11,7 @@ use Rattle.page_map.specs.TileLocations.{TileLocation, KeepsPageRule}
 use Rattle.cow_tree.specs.Entries.{entry_of}
 use Rattle.cow_tree.specs.Layout.{HasRecords}
 use Rattle.roots.specs.Roots.{has_failed}
-use Rattle.cow_tree.proofs.ReadTiles.{before_next, one_more, no_next_tile, no_rule}
+use Rattle.cow_tree.proofs.Listed.ReadTiles.{before_next, one_more, no_next_tile, no_rule}
 use Rattle.cow_tree.proofs.ReadOnly.{refused_for, handed_on, read_on, read_as, not_device, works_ok, refused_again, read_well}
 use Rattle.cow_tree.proofs.opening.read_page_map.Goals as goal
 use Rattle.cow_tree.proofs.opening.read_page_map.Goals.{In_ok-planes}

@@ -7,7 +7,7 @@ use Rattle.page_codec.specs.Sizes.{listed_in}
 use Rattle.cow_tree.specs.Found.{NoneListed, NoneIndexed, NonePlane}
 use Rattle.cow_tree.specs.Layout.{IsIndexed}
 use Rattle.cow_tree.specs.OverRoots.{IsRefusedFor}
-use Rattle.cow_tree.proofs.Indexed.{second_read, none_behind}
+use Rattle.cow_tree.proofs.Listed.Indexed.{second_read, none_behind}
 use Rattle.cow_tree.proofs.ReadOnly.{refused_for, handed_on, refused_again, read_well, read_after}
 use Rattle.cow_tree.proofs.Reasons.{none_listed}
 use Rattle.cow_tree.proofs.opening.read_plane.Goals as goal

@@ -6,8 +6,8 @@ use Rattle.page_map.specs.Locations.{times}
 use Rattle.page_map.proofs.Times.{all_numbers, times-append}
 use Rattle.cow_tree.specs.OverRoots.{WritesPages}
 use Rattle.cow_tree.specs.Stored.{PlanePages, pages_of_bytes}
-use Rattle.cow_tree.proofs.Counting.{at_times}
-use Rattle.cow_tree.proofs.PageWrites.{HasWritten, then_written, refused_within}
+use Rattle.cow_tree.proofs.Listed.Counting.{at_times}
+use Rattle.cow_tree.proofs.Writes.PageWrites.{HasWritten, then_written, refused_within}
 use Rattle.cow_tree.proofs.Standing.{SameOn, All-front, All-back, map_same}
 use Rattle.cow_tree.proofs.Steps.{on_ok_both}
 use Rattle.cow_tree.proofs.writing.write_kept.Goals as goal

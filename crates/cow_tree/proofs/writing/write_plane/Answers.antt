@@ -6,9 +6,9 @@ use Rattle.page_codec.specs.Numbers.{padded}
 use Rattle.roots.specs.Roots.{disk_of}
 use Rattle.page_map.proofs.Occurrences.{once_apart}
 use Rattle.cow_tree.specs.OverRoots.{WritesPages}
-use Rattle.cow_tree.proofs.Counting.{take_few, times_first}
-use Rattle.cow_tree.proofs.PageWrites.{HasWritten, one_written, then_written, refused_within}
-use Rattle.cow_tree.proofs.WrittenPages.{all_written}
+use Rattle.cow_tree.proofs.Listed.Counting.{take_few, times_first}
+use Rattle.cow_tree.proofs.Writes.PageWrites.{HasWritten, one_written, then_written, refused_within}
+use Rattle.cow_tree.proofs.Writes.WrittenPages.{all_written}
 use Rattle.cow_tree.proofs.writing.write_plane.Goals as goal
 
 pub returns-in_err-write-clause-writes : goal.returns-in_err-write-clause-writes

@@ -1,6 +1,6 @@
 use Rattle.std.proofs.Common.{◌≡◌, ◌<◌, ◌*◌, ℕ, drop, get_or, take}
 use Rattle.cow_tree.specs.Staged.{page_of_bytes}
-use Rattle.cow_tree.proofs.PageWrites.{HasWritten}
+use Rattle.cow_tree.proofs.Writes.PageWrites.{HasWritten}
 use Rattle.roots.specs.Roots.{disk_of}
 use Rattle.cow_tree.proofs.writing.write_plane.Given as goal
 

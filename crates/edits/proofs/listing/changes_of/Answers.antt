@@ -11,8 +11,8 @@ use Rattle.edits.specs.declared.edit.NewHeight.{NewHeight}
 use Rattle.edits.specs.Edits.{edit_made, points_of}
 use Rattle.edits.specs.Effect.{is_in_box, is_named, is_repeated, is_void_at, patched}
 use Rattle.edits.specs.Plans.{AreSetOnce}
-use Rattle.edits.proofs.Planned.{where_ok}
-use Rattle.edits.proofs.Setting.{once_all, sets_all}
+use Rattle.edits.proofs.Plans.Planned.{where_ok}
+use Rattle.edits.proofs.Plans.Setting.{once_all, sets_all}
 use Rattle.edits.proofs.listing.changes_of.Goals as goal
 
 pub returns-in-Voids-clause-changes : goal.returns-in-Voids-clause-changes

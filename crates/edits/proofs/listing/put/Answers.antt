@@ -5,8 +5,8 @@ use mir.Syntax.{w16}
 use Rattle.lattice.specs.Ground.{same_point}
 use Rattle.edits.specs.declared.places.Place.{Place}
 use Rattle.edits.specs.Changes.{Sets}
-use Rattle.edits.proofs.Once.{set_to}
-use Rattle.edits.proofs.Setting.{sets_at, sets_fit}
+use Rattle.edits.proofs.Plans.Once.{set_to}
+use Rattle.edits.proofs.Plans.Setting.{sets_at, sets_fit}
 use Rattle.edits.proofs.listing.put.Goals as goal
 
 pub returns-clause-sets : goal.returns-clause-sets

@@ -1,5 +1,5 @@
 use Rattle.std.proofs.Common.{◌≡◌, ◌++◌, map, take}
-use Rattle.edits.proofs.Once.{set_to}
+use Rattle.edits.proofs.Plans.Once.{set_to}
 use Rattle.edits.proofs.listing.put.Given as goal
 
 abbrev pub invariant-loop-place : goal.invariant-loop-place

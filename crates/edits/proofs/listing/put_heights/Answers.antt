@@ -6,7 +6,7 @@ use Rattle.lattice.specs.Ground.{same_point}
 use Rattle.edits.specs.Changes.{Sets}
 use Rattle.edits.specs.declared.edit.NewHeight.{NewHeight}
 use Rattle.edits.proofs.EditStale.{read_within}
-use Rattle.edits.proofs.Setting.{heights_more, heights_once}
+use Rattle.edits.proofs.Plans.Setting.{heights_more, heights_once}
 use Rattle.edits.proofs.listing.put_heights.Goals as goal
 
 abbrev none : NewHeight

@@ -3,7 +3,7 @@ use Rattle.std.specs.List.{All}
 use Rattle.edits.specs.Changes.{CanBeSet, SetOnce}
 use Rattle.edits.specs.Edits.{points_of}
 use Rattle.edits.specs.Effect.{is_named, is_repeated}
-use Rattle.edits.proofs.Setting.{GiveHeights}
+use Rattle.edits.proofs.Plans.Setting.{GiveHeights}
 use Rattle.edits.proofs.listing.put_heights.Given as goal
 
 abbrev pub invariant-loop-height : goal.invariant-loop-height

@@ -8,8 +8,8 @@ use Rattle.lattice.specs.Height.{height_of}
 use Rattle.lattice.specs.Ground.{same_point}
 use Rattle.edits.specs.Changes.{Sets}
 use Rattle.edits.specs.Effect.{is_void_at, is_void_height}
-use Rattle.edits.proofs.BoxPlaces.{not_void_is, void_is}
-use Rattle.edits.proofs.Setting.{fits_kept, sets_alike, sets_kept, sets_none}
+use Rattle.edits.proofs.BoxVoids.BoxPlaces.{not_void_is, void_is}
+use Rattle.edits.proofs.Plans.Setting.{fits_kept, sets_alike, sets_kept, sets_none}
 use Rattle.edits.proofs.listing.put_if_void.Goals as goal
 
 pub returns-in-Void-clause-sets : goal.returns-in-Void-clause-sets

@@ -13,9 +13,9 @@ use Rattle.edits.specs.Boxes.{is_among, is_void_among}
 use Rattle.edits.specs.Changes.{Sets}
 use Rattle.edits.specs.Effect.{is_in_box, is_void_at}
 use Rattle.edits.specs.declared.change.Change.{Change}
-use Rattle.edits.proofs.BoxPlaces.{among_all, among_none, among_with, not_among}
-use Rattle.edits.proofs.Setting.{sets_alike}
-use Rattle.edits.proofs.VoidsPut.{ArePut, none_put, put_on}
+use Rattle.edits.proofs.BoxVoids.BoxPlaces.{among_all, among_none, among_with, not_among}
+use Rattle.edits.proofs.Plans.Setting.{sets_alike}
+use Rattle.edits.proofs.Plans.VoidsPut.{ArePut, none_put, put_on}
 use Rattle.edits.proofs.listing.put_in_voids.Goals as goal
 
 pub loop-k-init : goal.loop-k-init

@@ -1,6 +1,6 @@
 use Rattle.std.proofs.Common.{[]}
 use Rattle.edits.specs.Boxes.{is_void_among}
-use Rattle.edits.proofs.VoidsPut.{ArePut}
+use Rattle.edits.proofs.Plans.VoidsPut.{ArePut}
 use Rattle.edits.proofs.listing.put_in_voids.Given as goal
 
 abbrev pub invariant-loop-k : goal.invariant-loop-k

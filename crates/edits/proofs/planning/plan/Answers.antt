@@ -2,7 +2,7 @@ use Rattle.std.proofs.Common.{subst}
 use Rattle.std.proofs.lemmas.Result.{IfOk-weaker}
 use Rattle.lattice.specs.Mosaic.{Mosaic}
 use Rattle.edits.specs.Plans.{AreSetOnce}
-use Rattle.edits.proofs.Planned.{planned_once}
+use Rattle.edits.proofs.Plans.Planned.{planned_once}
 use Rattle.edits.proofs.planning.plan.Goals as goal
 
 pub returns-clause-once : goal.returns-clause-once

@@ -5,7 +5,7 @@ use Rattle.lattice.specs.Lattice.{holds}
 use Rattle.edits.specs.declared.edit.NewHeight.{NewHeight}
 use Rattle.edits.specs.Touched.{are_neighbours}
 use Rattle.edits.proofs.EditStale.{any_near, none_more, read_within}
-use Rattle.edits.proofs.Voids.{any_from}
+use Rattle.edits.proofs.BoxVoids.Voids.{any_from}
 use Rattle.edits.proofs.stale.is_one_near.Goals as goal
 
 pub returns : goal.returns

@@ -6,9 +6,9 @@ use Rattle.lattice.specs.Mosaic.{Mosaic}
 use Rattle.lattice.specs.declared.point.Point.{Point}
 use Rattle.edits.specs.Boxes.{is_among}
 use Rattle.edits.specs.Effect.{is_box, is_in_box, is_void_at}
-use Rattle.edits.proofs.BoxPlaces.{alone, among_all, among_none, among_with, inside_at}
-use Rattle.edits.proofs.Searching.{none_on, none_start}
-use Rattle.edits.proofs.TilesFound.{tile_void}
+use Rattle.edits.proofs.BoxVoids.BoxPlaces.{alone, among_all, among_none, among_with, inside_at}
+use Rattle.edits.proofs.BoxVoids.Searching.{none_on, none_start}
+use Rattle.edits.proofs.BoxVoids.TilesFound.{tile_void}
 use Rattle.edits.proofs.void_tiles.has_void.Goals as goal
 
 pub loop-k-init : goal.loop-k-init

@@ -2,7 +2,7 @@ use Rattle.std.proofs.Common.{◌&&◌}
 use Rattle.lattice.specs.Lattice.{holds}
 use Rattle.edits.specs.Boxes.{is_among}
 use Rattle.edits.specs.Effect.{is_void_at}
-use Rattle.edits.proofs.Searching.{NoneYet}
+use Rattle.edits.proofs.BoxVoids.Searching.{NoneYet}
 use Rattle.edits.proofs.void_tiles.has_void.Given as goal
 
 abbrev pub invariant-loop-k : goal.invariant-loop-k

@@ -2,7 +2,7 @@ use Rattle.std.proofs.Common.{inl, inr, to_z, of_z, rules}
 use Rattle.std.proofs.lemmas.Int.{to_z-of_z}
 use mir.Syntax.{w32}
 use mir.Val.{SFits}
-use Rattle.edits.proofs.Overlapping.{some_corner, held_as}
+use Rattle.edits.proofs.BoxVoids.Overlapping.{some_corner, held_as}
 use Rattle.edits.proofs.void_tiles.holders_of_box.Goals as goal
 
 pub returns : goal.returns

@@ -10,8 +10,8 @@ use Rattle.lattice.specs.declared.point.Point.{Point}
 use Rattle.catalogue.specs.Tiles.{corners_of, is_listed}
 use Rattle.catalogue.proofs.Reading.{reads_on}
 use Rattle.edits.specs.Effect.{has_void_from, is_in_box}
-use Rattle.edits.proofs.TouchedTiles.{listed}
-use Rattle.edits.proofs.TilesFound.{FindsTiles, finds_skip, finds_put, finds_all, test_true, test_false}
+use Rattle.edits.proofs.BoxVoids.TouchedTiles.{listed}
+use Rattle.edits.proofs.BoxVoids.TilesFound.{FindsTiles, finds_skip, finds_put, finds_all, test_true, test_false}
 use Rattle.edits.proofs.void_tiles.tiles_of_box.Goals as goal
 use Rattle.edits.proofs.void_tiles.tiles_of_box.Goals.{then-present, else-present, then-is_new+in_ok-has_void+then-branch, else-is_new, else-is_new-via-then-is_new+in_ok-has_void+else-branch, else-is_new-via-else-is_new}
 

@@ -1,5 +1,5 @@
 use Rattle.std.proofs.Common.{take}
-use Rattle.edits.proofs.TilesFound.{FindsTiles}
+use Rattle.edits.proofs.BoxVoids.TilesFound.{FindsTiles}
 use Rattle.edits.proofs.void_tiles.tiles_of_box.Given as goal
 
 abbrev pub invariant-loop-corner : goal.invariant-loop-corner

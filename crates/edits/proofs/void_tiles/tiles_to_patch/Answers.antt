@@ -6,8 +6,8 @@ use Rattle.arrayvec.specs.ArrayVec.{array_vec_len}
 use Rattle.lattice.specs.Corners.{Corner}
 use mir.Syntax.{w32}
 use Rattle.edits.specs.Effect.{is_box}
-use Rattle.edits.proofs.Voids.{height_in, bad_box}
-use Rattle.edits.proofs.TilesFound.{patch_made, patch_none}
+use Rattle.edits.proofs.BoxVoids.Voids.{height_in, bad_box}
+use Rattle.edits.proofs.BoxVoids.TilesFound.{patch_made, patch_none}
 use Rattle.edits.proofs.void_tiles.tiles_to_patch.Goals as goal
 
 pub returns-in_default-clause-refused : goal.returns-in_default-clause-refused

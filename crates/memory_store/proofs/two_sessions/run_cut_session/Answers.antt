@@ -1,15 +1,15 @@
 use Rattle.std.proofs.Common.{ap, sym, ◌∙◌, subst}
+use Rattle.std.proofs.lemmas.Result.{IfOk-weaker}
 use Rattle.disk.specs.Faulty.{inner_of, faults_of}
 use Rattle.disk.specs.declared.memory.MemDisk.{MemDisk}
 use Rattle.memory_store.specs.TwoSessions.{CutDisk, IsCut}
-use Rattle.memory_store.proofs.SessionCalls.{if_ok}
 use Rattle.memory_store.proofs.two_sessions.run_cut_session.Goals as goal
 
 pub returns-clause-cut_off : goal.returns-clause-cut_off
 returns-clause-cut_off c =
     let ran = c.in_ok-disk.ensures.session in
     let (session, is, first, last, asks) = ran.2 in
-    if_ok c.cut.result _ _
+    IfOk-weaker c.cut.result _ _
     (λ left cut. (
       ran.0,
       ran.1,

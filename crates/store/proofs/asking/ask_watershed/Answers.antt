@@ -1,9 +1,7 @@
 use Rattle.std.proofs.Common.{rules, Result}
 use Rattle.std.specs.Global.{Vec}
 use Rattle.lattice.specs.Ground.{terrain}
-use Rattle.lattice.specs.Mosaic.{Mosaic}
 use Rattle.lattice.specs.declared.refusal.Refusal.{Refusal}
-use Rattle.engine.specs.State.{State}
 use Rattle.flow_d8.specs.FlowPath.{IsInWatershed}
 use Rattle.watershed.specs.Questions.{IsAnswered}
 use Rattle.watershed.specs.Runs.{AreRuns}
@@ -12,24 +10,17 @@ use Rattle.engine.specs.Engines.{items_in}
 use Rattle.engine.specs.Outcomes.{Sheds}
 use Rattle.engine.proofs.Answered.{sheds}
 use Rattle.cow_tree.specs.Reading.{mosaic_of}
-use Rattle.store.specs.Water.{IsAskedOf}
-use Rattle.store.proofs.AskedTrees.{listed, of_levels, asked_of}
+use Rattle.store.proofs.Reading.AskedTrees.{listed, of_levels, asked_of}
 use Rattle.store.proofs.asking.ask_watershed.Goals as goal
 
 pub returns-clause-asked : goal.returns-clause-asked
 returns-clause-asked g c =
-    let d = g.D.Disk in
     let p = c.args.point in
     let old = c.args.tree.now in
-    let new = c.watershed.new.samples.tree.now in
-    let held = c.watershed.new.held in
-    let works = c.requires.works in
     let ensures = c.watershed.ensures in
     let result : Result (Vec Run) Refusal = c.watershed.result in
-    let answers = λ (s : State) (r : Result (Vec Run) Refusal) (t : State). Sheds s p (items_in r) t in
-    let is : IsAskedOf d g.P.Premise.holds old new c.args.held.now held result answers =
-    asked_of d old new works _ _ c.watershed.new.samples result ensures.asked
-    (record { ready = works; works = (λ is. is, λ is. is); risen = λ is. is; keeps = ensures.asked.reads.keeps.1 })
-    p (λ (m : Mosaic) runs. IsAnswered m p (λ level. AreRuns (IsInWatershed (terrain m) level p) runs.items)) (λ honest. of_levels _ p (λ runs level. AreRuns (IsInWatershed (terrain (mosaic_of d old)) level p) runs.items) result (ensures.runs honest) (ensures.on_ground honest)) ensures.outside ensures.void ensures.causes
-    c.args.held.now held ensures.held answers (λ s t fails. fails) (λ s stays is. listed (λ r. Sheds s p r s) result (sheds s s stays p result is)) g.P.Premise.holds (λ holds sure. (sure, holds)) in
+    let is = asked_of g.D.Disk old c.watershed.new.samples.tree.now c.requires.works _ _ c.watershed.new.samples result ensures.asked
+    (record { ready = c.requires.works; works = (λ is. is, λ is. is); risen = λ is. is; keeps = ensures.asked.reads.keeps.1 })
+    p (λ m runs. IsAnswered m p (λ level. AreRuns (IsInWatershed (terrain m) level p) runs.items)) (λ honest. of_levels _ p (λ runs level. AreRuns (IsInWatershed (terrain (mosaic_of g.D.Disk old)) level p) runs.items) result (ensures.runs honest) (ensures.on_ground honest)) ensures.outside ensures.void ensures.causes
+    c.args.held.now c.watershed.new.held ensures.held (λ s r t. Sheds s p (items_in r) t) (λ s t fails. fails) (λ s stays is. listed (λ r. Sheds s p r s) result (sheds s s stays p result is)) g.P.Premise.holds (λ holds sure. (sure, holds)) in
     search rules

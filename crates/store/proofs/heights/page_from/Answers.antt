@@ -2,7 +2,7 @@ use Rattle.std.proofs.Common.{rules, ◌≡◌, ◌≤◌, ◌<◌, ◌/◌, ℕ
 use Rattle.std.proofs.lemmas.Bool.{eqb-true, false_from_ne_true, false≢true}
 use Rattle.lattice.specs.Corners.{is_corner}
 use Rattle.lattice.proofs.Samples.{index_below}
-use Rattle.store.proofs.NewHeights.{in_no_page, in_own_page}
+use Rattle.store.proofs.Edits.NewHeights.{in_no_page, in_own_page}
 use Rattle.store.proofs.heights.page_from.Goals as goal
 
 -- the page of an index isn't a later one

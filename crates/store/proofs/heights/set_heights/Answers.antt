@@ -1,16 +1,12 @@
-use Rattle.std.proofs.Common.{◌≡◌, ⊎_elim, ◌+◌, ◌<◌, ℕ, ℤ, Bool, true, false, List, length, get_or, refl, sym, ap, ◌∙◌, subst, arith, ◌||◌}
-use Rattle.std.proofs.lemmas.Bool.{cases_Bool}
+use Rattle.std.proofs.Common.{◌≡◌, ⊎_elim, ◌+◌, ◌<◌, ℕ, ℤ, List, length, get_or, sym, ap, ◌∙◌, subst, arith}
+use Rattle.std.proofs.lemmas.Bool.{cases_Bool, or_parts}
 use Rattle.lattice.specs.Mosaic.{IsSample}
 use Rattle.edits.specs.declared.edit.NewHeight.{NewHeight}
-use Rattle.store.proofs.NewHeights.{IsSetTo, all_set, height_passed, height_set, height_there}
+use Rattle.store.proofs.Edits.NewHeights.{IsSetTo, all_set, height_passed, height_set, height_there}
 use Rattle.store.proofs.Pages.{with_bytes}
-use Rattle.store.proofs.VoidPages.{sample_passed}
+use Rattle.store.proofs.Edits.VoidPages.{sample_passed}
 use Rattle.store.proofs.heights.set_heights.Goals as goal
 use Rattle.store.proofs.heights.set_heights.Goals.{in-Some, in_default}
-
-or_none : (a b : Bool) → (a || b) ≡ false → (a ≡ false) × (b ≡ false)
-or_none true b is = absurd (let e : true ≡ false = is in cc)
-or_none false b is = (refl, is)
 
 pub loop-k-preserved : goal.loop-k-preserved
 loop-k-preserved c =
@@ -43,7 +39,7 @@ loop-k-preserved c =
                 (height_there n heights c.args.corner corner i was k h within is now (so.set corner) at w.in-Some.ensures.some.0 w.in-Some.ensures.some.1 (left.1 ∙ passed)))
                 (cases_Bool w.set_sample-is_set.result);
             left = λ none.
-                let two = or_none c.loop-k.is_set w.set_sample-is_set.result (sym w.is_set-is ∙ none) in
+                let two = or_parts c.loop-k.is_set w.set_sample-is_set.result (sym w.is_set-is ∙ none) in
                 w.page-is ∙ (w.set_sample-is_set.ensures.left two.1).0 ∙ so.left two.0;
           }
       | in_default w ↦ record {

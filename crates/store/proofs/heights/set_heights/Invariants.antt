@@ -1,6 +1,6 @@
 use Rattle.std.proofs.Common.{◌≡◌, false, IsTrue}
 use Rattle.lattice.specs.Corners.{is_corner}
-use Rattle.store.proofs.NewHeights.{IsSetTo}
+use Rattle.store.proofs.Edits.NewHeights.{IsSetTo}
 use Rattle.store.proofs.heights.set_heights.Given as goal
 
 abbrev pub invariant-loop-k : goal.invariant-loop-k

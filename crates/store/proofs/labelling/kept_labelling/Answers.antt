@@ -1,20 +1,14 @@
-use Rattle.std.proofs.Common.{◌≡◌, ℕ, List, Err, refl, sym, ap, ◌∙◌, subst, IfOk}
-use Rattle.lattice.specs.declared.refusal.Refusal.TheVariants.{Failed}
+use Rattle.std.proofs.Common.{◌≡◌, ℕ, List, sym, ap, ◌∙◌, subst, IfOk}
 use Rattle.page_codec.specs.Roots.{RootValue}
 use Rattle.tile_flood.specs.Kept.{labels_in, levels_in}
 use Rattle.tile_flood.specs.Labelling.{IsLabelling}
 use Rattle.cow_tree.specs.Reading.{mosaic_of}
 use Rattle.cow_tree.specs.Stored.{plane_bytes}
-use Rattle.store.proofs.Labelled.{was_sure, keeps_there, flooded_by_bytes, least_height, failed_before, not_damaged}
+use Rattle.store.proofs.KeptPlanes.Labelled.{was_sure, keeps_there, flooded_by_bytes, least_height, failed_before, not_damaged}
 use Rattle.store.proofs.labelling.kept_labelling.Goals as goal
 
 pub returns-then-has_failed-clause-reads : goal.returns-then-has_failed-clause-reads
-returns-then-has_failed-clause-reads g c = record {
-  read = Err Failed;
-  reads = failed_before g.D.Disk g.met.D.Disk.only_now c.args.tree.now (sym c.has_failed.ensures ∙ c.if-has_failed.true);
-  passed = refl;
-  own = λ e. absurd (cc);
-}
+returns-then-has_failed-clause-reads g c = failed_before g.D.Disk g.met.D.Disk.only_now c.args.tree.now (sym c.has_failed.ensures ∙ c.if-has_failed.true)
 
 pub returns-clause-flooded : goal.returns-clause-flooded
 returns-clause-flooded g c sure =

@@ -1,13 +1,9 @@
-use Rattle.std.proofs.Common.{◌/◌, Result, Ok, Err, OnOk}
-use Rattle.lattice.specs.declared.refusal.Refusal.{Refusal}
+use Rattle.std.proofs.Common.{◌/◌}
 use Rattle.cow_tree.specs.Trees.{staged_in}
-use Rattle.store.proofs.QueryingPages.{page_of_tile}
-use Rattle.store.proofs.Spotted.{two_stand}
+use Rattle.cow_tree.proofs.Steps.{on_ok}
+use Rattle.store.proofs.Reading.QueryingPages.{page_of_tile}
+use Rattle.store.proofs.Edits.LabelsRead.{two_stand}
 use Rattle.store.proofs.labelling.read_value.Goals as goal
-
-on_ok : {T P Q : Type 0} (result : Result T Refusal) → (P → Q) → OnOk result P → OnOk result Q
-on_ok (Ok x) then_ p = then_ p
-on_ok (Err r) then_ p = p
 
 pub returns-clause-value : goal.returns-clause-value
 returns-clause-value g c honest =

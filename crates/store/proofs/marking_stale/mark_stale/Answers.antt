@@ -1,12 +1,12 @@
-use Rattle.std.proofs.Common.{rules, ◌≡◌, ◌+◌, ◌<◌, ◌≤◌, List, length, take, get_or, Contains, true, false, refl, sym, ap₂, ◌∙◌, subst}
+use Rattle.std.proofs.Common.{rules, arith, ◌≡◌, ◌+◌, ◌<◌, ◌≤◌, List, length, take, get_or, Contains, true, false, refl, sym, ap₂, ◌∙◌, subst}
 use Rattle.lattice.specs.Corners.{Corner}
 use Rattle.edits.specs.Edits.{goes_stale_by}
 use Rattle.cow_tree.specs.Trees.{root_of, corners_of}
 use Rattle.cow_tree.specs.declared.tree.Tree.{Tree}
 use Rattle.page_codec.specs.Roots.{RootValue}
 use Rattle.store.specs.Staling.{Stales}
-use Rattle.store.proofs.Nearby.{passes_first, first_more, first_same, first_all}
-use Rattle.store.proofs.Staled.{stales_none}
+use Rattle.store.proofs.Reading.Nearby.{passes_first, first_more, first_same, first_all}
+use Rattle.store.proofs.Edits.Staled.{stales_none}
 use Rattle.store.proofs.marking_stale.mark_stale.Goals as goal
 use Rattle.store.proofs.marking_stale.mark_stale.Goals.{then-is_stale, else-is_stale}
 
@@ -40,7 +40,7 @@ loop-corner-preserved g c =
           let dropped = w.drop_kept.ensures in
           subst (λ (t : Tree _ d). Stales d (passes_first test (take (i + 1) corners)) old t) (sym w.tree-is)
           (first_more d test corners i here within is old mid so w.drop_kept.new.self (sym same ∙ stale)
-          (record { no_call = dropped.no_call; corners = dropped.corners; sinks = dropped.sinks; due = dropped.due; staged = dropped.staged; at = dropped.at }))
+          (record { no_call = dropped.no_call; corners = dropped.corners; sinks = dropped.sinks; due = let due = dropped.due in omega (arith, due); staged = dropped.staged; at = dropped.at }))
       | else-is_stale w ↦
           let fresh : goes_stale_by (root_of mid).side (corners_of mid) edit here ≡ false = search rules in
           subst (λ (t : Tree _ d). Stales d (passes_first test (take (i + 1) corners)) old t) (sym w.tree-is)

@@ -8,7 +8,7 @@ use Rattle.cow_tree.specs.Planes.{HasPage}
 use Rattle.cow_tree.specs.Reading.{read_again}
 use Rattle.cow_tree.specs.Stored.{StoredTile}
 use Rattle.cow_tree.specs.Trees.{staged_in}
-use Rattle.store.proofs.QueryingPages.{IsReadTo, read_more, all_read, page_of_tile}
+use Rattle.store.proofs.Reading.QueryingPages.{IsReadTo, read_more, all_read, page_of_tile}
 use Rattle.lattice.specs.declared.refusal.Refusal.{Refusal}
 use Rattle.store.proofs.queries.read_plane.Goals as goal
 

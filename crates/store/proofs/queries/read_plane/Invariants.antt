@@ -4,7 +4,7 @@ use Rattle.cow_tree.specs.Reading.{HasOnlyRead}
 use Rattle.cow_tree.specs.Stored.{PlanePages, StoredTile}
 use Rattle.cow_tree.specs.Trees.{disk_of, has_failed, staged_in}
 use Rattle.store.specs.Queried.{IsTileOf}
-use Rattle.store.proofs.QueryingPages.{IsReadTo}
+use Rattle.store.proofs.Reading.QueryingPages.{IsReadTo}
 use Rattle.store.proofs.queries.read_plane.Given as goal
 
 abbrev pub invariant-loop-i : goal.invariant-loop-i

@@ -3,7 +3,7 @@ use Rattle.disk.specs.Disk.{Image}
 use Rattle.disk.specs.FileDisk.{calls_of}
 use Rattle.disk.specs.FileMembers.{only_left}
 use Rattle.disk.specs.FileWorlds.{giving}
-use Rattle.store.proofs.SessionsInTurn.{sessions_compose}
+use Rattle.store.proofs.Calls.SessionsInTurn.{sessions_compose}
 use Rattle.store.proofs.sessions.sessions_compose.Goals as goal
 
 pub returns-clause-any : goal.returns-clause-any

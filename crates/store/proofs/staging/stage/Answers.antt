@@ -1,22 +1,20 @@
-use Rattle.std.proofs.Common.{◌≡◌, ℕ, ℤ, pos, negsuc, List, [], ◌∷◌, All, Contains, length, map, Result, Ok, OnOk, refl, sym, ap, ◌∙◌, subst, arith, IsTrue, int_le}
+use Rattle.std.proofs.Common.{◌≡◌, ℕ, ℤ, pos, negsuc, List, Contains, length, Result, Ok, OnOk, refl, sym, ap, ◌∙◌, subst, arith, false, IsTrue, int_le}
 use Rattle.std.proofs.lemmas.Bool.{and_parts}
 use Rattle.std.proofs.lemmas.Int.{ints}
 use Rattle.std.proofs.lemmas.List.{length-map}
 use mir.Syntax.{w16}
 use mir.Val.{to_z, of_z}
 use Rattle.lattice.proofs.IntTests.{le_true}
-use Rattle.store.proofs.VoidPages.{sample_passed}
-use Rattle.std.proofs.lemmas.List.Elements.{All-contains}
+use Rattle.store.proofs.Edits.VoidPages.{sample_passed}
 use Rattle.lattice.specs.Corners.{Corner}
-use Rattle.lattice.specs.Mosaic.{AreSinks, IsSample}
+use Rattle.lattice.specs.Mosaic.{Mosaic, AreSinks, IsMosaic, IsSample}
 use Rattle.lattice.specs.declared.point.Point.{Point}
 use Rattle.lattice.specs.declared.refusal.Refusal.{Refusal}
 use Rattle.lattice.specs.declared.refusal.Refusal.TheVariants.{Device}
 use Rattle.disk.specs.declared.disk.Disk.{Ghosts}
 use Rattle.lattice.proofs.Rising.{rising_from}
+use Rattle.catalogue.specs.Tiles.{with_sinks}
 use Rattle.page_codec.specs.Sizes.{pages_of}
-use Rattle.page_map.specs.PageMaps.{corners_of_locations}
-use Rattle.page_map.specs.TileLocations.{TileLocation}
 use Rattle.edits.specs.declared.edit.Edit.{Edit}
 use Rattle.edits.specs.declared.edit.Edit.TheVariants.{Add, Drop, Heights, Voids, Sink, Unsink}
 use Rattle.edits.specs.declared.edit.NewHeight.{NewHeight}
@@ -25,24 +23,24 @@ use Rattle.edits.specs.Effect.{edited, patched, is_height}
 use Rattle.edits.specs.Sinks.{with_point, without_point}
 use Rattle.edits.proofs.SinkLists.{length_with, sinks_without}
 use Rattle.cow_tree.specs.Reading.{mosaic_of}
-use Rattle.cow_tree.specs.Stored.{StoredTile, mosaic_of_tiles, pages_of_bytes, stale_tile}
-use Rattle.cow_tree.specs.Layout.{tile_in}
-use Rattle.cow_tree.specs.Trees.{disk_of, root_of, corners_of, sinks_of, staged_in}
+use Rattle.cow_tree.specs.Stored.{Stored, StoredTile, mosaic_of_tiles, pages_of_bytes, stale_tile}
+use Rattle.cow_tree.specs.Trees.{disk_of, root_of, has_failed, corners_of, sinks_of, staged_in, IsAt}
+use Rattle.cow_tree.specs.Uncommitted.{CommitsNothing, MakesNoCall}
 use Rattle.cow_tree.specs.declared.tree.Tree.{Tree}
-use Rattle.cow_tree.proofs.Adding.{contains-map}
 use Rattle.cow_tree.proofs.ReadOnly.{never_refused}
 use Rattle.cow_tree.proofs.Steps.{on_ok}
-use Rattle.store.specs.Editing.{IsMade, KeepsBut, AreTilesOf, StagesFew, StagesOnly, StagesPages}
-use Rattle.store.specs.PagesMet.{pages_with}
+use Rattle.store.specs.Editing.{IsMade, KeepsBut, AreTilesOf, MakesPages, StagesFew, StagesPages}
+use Rattle.store.specs.PagesMet.{pages_met, pages_with}
 use Rattle.store.specs.Staling.{keepers}
-use Rattle.store.specs.Underway.{filled, heightened, IsSettled}
+use Rattle.store.specs.Underway.{box_meets, filled, heightened}
 use Rattle.store.specs.declared.voids.Patch.{Patch}
-use Rattle.store.proofs.EditingSteps.{in_memory}
-use Rattle.store.proofs.HeldTiles.{imported, removed}
-use Rattle.store.proofs.Made.{kept_as, kept_left, kept_with, with_others}
-use Rattle.store.proofs.NewHeights.{heights_made, sinks_kept}
-use Rattle.store.proofs.PagesMet.{pages_few}
-use Rattle.store.proofs.Underway.{all_settled, underway_first}
+use Rattle.cow_tree.proofs.Uncommitted.{in_memory, OnlyNow}
+use Rattle.store.proofs.Reading.HeldTiles.{imported, removed}
+use Rattle.store.proofs.Reading.Nearby.{there_listed}
+use Rattle.store.proofs.Calls.Made.{kept_as, kept_left, kept_with, with_others}
+use Rattle.store.proofs.Edits.NewHeights.{heights_made, sinks_kept}
+use Rattle.store.proofs.Edits.PagesMet.{pages_few}
+use Rattle.store.proofs.Calls.Underway.{all_settled, underway_first}
 use Rattle.store.proofs.staging.stage.Goals as goal
 
 -- a height is a number of 16 bits
@@ -53,21 +51,30 @@ height_sample h is =
     let high = le_true h (pos 32767) parts.1 in
     (omega (arith, ints, low), high)
 
--- a stored tile is that of a present corner
-staged_corner : {D : Type 0} (d : Ghosts D) (tree : Tree D d) (t : StoredTile) → Contains (staged_in d tree) t → Contains (corners_of tree) t.corner
-staged_corner d tree t there =
-    subst (λ (cs : List Corner). Contains cs t.corner) (same tree.page_map.staged) (contains-map (λ (x : StoredTile). x.corner) (staged_in d tree) t there)
-  where
-    same : (tiles : List TileLocation) → map (λ (x : StoredTile). x.corner) (map (tile_in (d.seen (disk_of tree))) tiles) ≡ corners_of_locations tiles
-    same [] = refl
-    same (x ∷ rest) = ap (λ (cs : List Corner). x.corner ∷ cs) (same rest)
+-- an edit of pages that went through all tiles has made what it makes
+made_tiles : {D T : Type 0} {result : Result T Refusal} (d : Ghosts D) (old new : Tree D d) (n : ℕ) (made : Mosaic → Point → ℤ → ℤ) (fits : Mosaic → Type 0) (p : ℕ)
+    → MakesPages d n made fits (λ c i. Contains (corners_of old) c) p p old new result → d.honest (disk_of new) → (s : Stored) (m : Mosaic) → IsAt d old s → fits m → IsMosaic m → AreTilesOf n (staged_in d old) m
+    → OnOk result (AreTilesOf n (staged_in d new) (edited (made m) m) × (keepers (staged_in d new) ≡ keepers (staged_in d old)))
+made_tiles {result} d old new n made fits p done honest s m at fit valid are =
+    on_ok result
+    (λ so. (
+      all_settled n (made m) m (staged_in d new) so.0.underway (λ t there i. so.1 t.corner i (subst (λ (cs : List Corner). Contains cs t.corner) done.pages.corners (there_listed d new new (corners_of new) refl t there))),
+      so.0.kept,
+    ))
+    (done.set honest s m at fit (underway_first n (made m) m (staged_in d old) valid are))
 
--- every stored tile is one of those gone through
-each_settled : {D T : Type 0} {result : Result T Refusal} (d : Ghosts D) (old new : Tree D d) → StagesOnly d old new result → (n : ℕ) (edit : Point → ℤ → ℤ) → All (λ e. (i : ℕ) → IsSettled n edit (staged_in d new) e i) (corners_of old)
-    → (t : StoredTile) → Contains (staged_in d new) t → (i : ℕ) → IsSettled n edit (staged_in d new) t.corner i
-each_settled d old new stages n edit settled t there i =
-    let among : Contains (corners_of new) t.corner = staged_corner d new t there in
-    All-contains (λ e. (k : ℕ) → IsSettled n edit (staged_in d new) e k) (corners_of old) t.corner settled (subst (λ (cs : List Corner). Contains cs t.corner) stages.corners among) i
+-- what makes no call of the disk commits nothing
+done_in_memory : {D : Type 0} (d : Ghosts D) → OnlyNow d → (old new : Tree D d) → MakesNoCall old new → has_failed old ≡ false → ((s : Stored) → IsAt d old s → IsAt d new s) → CommitsNothing {T = Unit {0}} d old new (Ok tt)
+done_in_memory d only_now old new makes works at = in_memory d old new (Ok tt) only_now makes works (λ _. at) (λ refused. never_refused (tt {0}) Device refused)
+
+-- only the sinks are others
+declared : {D : Type 0} (d : Ghosts D) (old new : Tree D d) (m : Mosaic) (made : Edit) (sinks : List Point) → edit_made made m ≡ with_sinks sinks m → AreTilesOf (root_of old).side (staged_in d old) m → staged_in d new ≡ staged_in d old
+    → sinks_of new ≡ sinks → IsMade d made m old new
+declared d old new m made sinks is are staged now = record {
+  tiles = subst (AreTilesOf (root_of old).side (staged_in d new)) (sym is) (subst (λ (ts : List StoredTile). AreTilesOf (root_of old).side ts (with_sinks sinks m)) (sym staged) (with_others (root_of old).side (staged_in d old) m sinks are));
+  sinks = now ∙ ap (λ (x : Mosaic). x.sinks) (sym is);
+  kept = kept_as made (staged_in d old) (staged_in d new) (ap keepers staged);
+}
 
 pub drop_plane-requires-clause-settled : goal.drop_plane-requires-clause-settled
 drop_plane-requires-clause-settled g c = c.requires.unstaged c.in-Drop.corner
@@ -112,11 +119,7 @@ returns-in-Add-clause-made g c honest s m at valid are sinks finds =
     (c.stage_plane.ensures.staged honest s at))
 
 pub returns-in-Drop-clause-uncommitted : goal.returns-in-Drop-clause-uncommitted
-returns-in-Drop-clause-uncommitted g c =
-    let is = c.drop_plane.ensures in
-    let nothing : Unit {0} = tt in
-    let ok : Result (Unit {0}) Refusal = Ok nothing in
-    in_memory g.D.Disk c.args.tree.now c.drop_plane.new.self ok g.met.D.Disk.only_now is.no_call c.requires.works (λ _. is.at) (λ refused. never_refused nothing Device refused)
+returns-in-Drop-clause-uncommitted g c = let is = c.drop_plane.ensures in done_in_memory g.D.Disk g.met.D.Disk.only_now c.args.tree.now c.drop_plane.new.self is.no_call c.requires.works is.at
 
 pub returns-in-Drop-clause-made : goal.returns-in-Drop-clause-made
 returns-in-Drop-clause-made g c honest s m at valid are sinks finds =
@@ -147,7 +150,7 @@ returns-in-Heights-clause-few g c =
     let same : c.as_slice.result.now ≡ heights = c.as_slice.ensures.value in
     let few = pages_few n (corners_of old) is.side (rising_from (λ e. e) (corners_of old) is.in_order) is.whole_degrees (points_of heights) in
     subst (λ (e : Edit). StagesFew d e old new c.stage_pages.result) (sym c.in-Heights.is) (
-      subst (λ (l : List NewHeight). StagesPages d (pages_with n (corners_of old) (points_of l)) (pages_with n (corners_of old) (points_of l)) old new c.stage_pages.result) same is.pages,
+      subst (λ (l : List NewHeight). StagesPages d (pages_with n (corners_of old) (points_of l)) (pages_with n (corners_of old) (points_of l)) old new c.stage_pages.result) same is.makes.pages,
       let long = length-map heights (λ (h : NewHeight). h.point) in omega (arith, few, long),
     )
 
@@ -159,17 +162,26 @@ returns-in-Heights-clause-made g c honest s m at valid are sinks finds =
     let n : ℕ = (root_of old).side in
     let heights = c.as_slice.result.now in
     let made : Edit = Heights c.in-Heights.heights in
-    let edit = heightened heights in
     subst (λ (e : Edit). OnOk c.stage_pages.result (IsMade d e m old new)) (sym c.in-Heights.is)
     (on_ok c.stage_pages.result
-    (λ so.
-    let tiles : AreTilesOf n (staged_in d new) (edited edit m) = all_settled n edit m (staged_in d new) so.0.underway (each_settled d old new c.stage_pages.ensures.pages.stages n edit so.1) in
-    record {
-      tiles = subst (AreTilesOf n (staged_in d new)) (sym (heights_made heights m) ∙ ap (λ (l : List NewHeight). with_heights l m) c.as_slice.ensures.value) tiles;
-      sinks = c.stage_pages.ensures.pages.stages.sinks ∙ sinks ∙ sym (sinks_kept c.in-Heights.heights.items m);
-      kept = kept_as made (staged_in d old) (staged_in d new) so.0.kept;
+    (λ so. record {
+      tiles = subst (AreTilesOf n (staged_in d new)) (sym (heights_made heights m) ∙ ap (λ (l : List NewHeight). with_heights l m) c.as_slice.ensures.value) so.0;
+      sinks = c.stage_pages.ensures.makes.pages.sinks ∙ sinks ∙ sym (sinks_kept c.in-Heights.heights.items m);
+      kept = kept_as made (staged_in d old) (staged_in d new) so.1;
     })
-    (c.stage_pages.ensures.set honest s m at tt (underway_first n edit m (staged_in d old) valid are)))
+    (made_tiles d old new n (λ x. heightened heights) (λ x. Unit {0}) (pages_with n (corners_of old) (points_of heights)) c.stage_pages.ensures.makes honest s m at tt valid are))
+
+-- the pages of their tiles with a row of the box
+pub returns-in-Voids-clause-few : goal.returns-in-Voids-clause-few
+returns-in-Voids-clause-few g c =
+    let d = g.D.Disk in
+    let old = c.args.tree.now in
+    let new = c.stage_voids.new.tree in
+    let n : ℕ = (root_of old).side in
+    let patch : Patch = record { from = c.in-Voids.from; to = c.in-Voids.to; height = c.in-Voids.height } in
+    subst (λ (e : Edit). StagesFew d e old new c.stage_voids.result) (sym c.in-Voids.is)
+    (subst (λ (tiles : List Corner). StagesPages d (pages_met (box_meets n patch tiles) (pages_of n) (corners_of old)) (pages_met (box_meets n patch tiles) (pages_of n) (corners_of old)) old new c.stage_voids.result)
+    c.as_slice-in-Voids.ensures.value c.stage_voids.ensures.makes.pages)
 
 pub returns-in-Voids-clause-made : goal.returns-in-Voids-clause-made
 returns-in-Voids-clause-made g c honest s m at valid are sinks finds =
@@ -181,7 +193,6 @@ returns-in-Voids-clause-made g c honest s m at valid are sinks finds =
     let h_passed : ℤ = to_z w16 (of_z w16 h) in
     let patch : Patch = record { from = c.in-Voids.from; to = c.in-Voids.to; height = h_passed } in
     let made : Edit = Voids c.in-Voids.from c.in-Voids.to c.in-Voids.height c.in-Voids.tiles in
-    let edit = filled m patch in
     let found : AreVoidTiles m patch.from patch.to c.as_slice-in-Voids.result.now =
     subst (λ (cs : List Corner). AreVoidTiles m patch.from patch.to cs) (sym c.as_slice-in-Voids.ensures.value) (let known : FindsVoids m made = subst (FindsVoids m) c.in-Voids.is finds in known) in
     let fits : FitsIn n (corners_of old) (sinks_of old) made = subst (FitsIn n (corners_of old) (sinks_of old)) c.in-Voids.is c.requires.fits in
@@ -190,58 +201,30 @@ returns-in-Voids-clause-made g c honest s m at valid are sinks finds =
     subst (λ (e : Edit). OnOk c.stage_voids.result (IsMade d e m old new)) (sym c.in-Voids.is)
     (on_ok c.stage_voids.result
     (λ so. record {
-      tiles = subst (λ (k : ℤ). AreTilesOf n (staged_in d new) (patched c.in-Voids.from c.in-Voids.to k m)) passes
-          (all_settled n edit m (staged_in d new) so.0.underway (each_settled d old new c.stage_voids.ensures.stages n edit so.1));
-      sinks = c.stage_voids.ensures.stages.sinks ∙ sinks;
-      kept = kept_as made (staged_in d old) (staged_in d new) so.0.kept;
+      tiles = subst (λ (k : ℤ). AreTilesOf n (staged_in d new) (patched c.in-Voids.from c.in-Voids.to k m)) passes so.0;
+      sinks = c.stage_voids.ensures.makes.pages.sinks ∙ sinks;
+      kept = kept_as made (staged_in d old) (staged_in d new) so.1;
     })
-    (c.stage_voids.ensures.set honest s m at same found (underway_first n edit m (staged_in d old) valid are)))
+    (made_tiles d old new n (λ x. filled x patch) (λ x. (mosaic_of d old ≡ x) × AreVoidTiles x patch.from patch.to c.as_slice-in-Voids.result.now)
+    (pages_met (box_meets n patch c.as_slice-in-Voids.result.now) (pages_of n) (corners_of old)) c.stage_voids.ensures.makes honest s m at (same, found) valid are))
 
 pub returns-in-Sink-clause-uncommitted : goal.returns-in-Sink-clause-uncommitted
-returns-in-Sink-clause-uncommitted g c =
-    let is = c.declare.ensures in
-    let nothing : Unit {0} = tt in
-    let ok : Result (Unit {0}) Refusal = Ok nothing in
-    in_memory g.D.Disk c.args.tree.now c.declare.new.self ok g.met.D.Disk.only_now is.no_call c.requires.works (λ _. is.at) (λ refused. never_refused nothing Device refused)
+returns-in-Sink-clause-uncommitted g c = let is = c.declare.ensures in done_in_memory g.D.Disk g.met.D.Disk.only_now c.args.tree.now c.declare.new.self is.no_call c.requires.works is.at
 
 pub returns-in-Unsink-clause-uncommitted : goal.returns-in-Unsink-clause-uncommitted
-returns-in-Unsink-clause-uncommitted g c =
-    let is = c.declare-in-Unsink.ensures in
-    let nothing : Unit {0} = tt in
-    let ok : Result (Unit {0}) Refusal = Ok nothing in
-    in_memory g.D.Disk c.args.tree.now c.declare-in-Unsink.new.self ok g.met.D.Disk.only_now is.no_call c.requires.works (λ _. is.at) (λ refused. never_refused nothing Device refused)
+returns-in-Unsink-clause-uncommitted g c = let is = c.declare-in-Unsink.ensures in done_in_memory g.D.Disk g.met.D.Disk.only_now c.args.tree.now c.declare-in-Unsink.new.self is.no_call c.requires.works is.at
 
 pub returns-in-Sink-clause-made : goal.returns-in-Sink-clause-made
 returns-in-Sink-clause-made g c honest s m at valid are sinks finds =
-    let d = g.D.Disk in
-    let old = c.args.tree.now in
-    let new = c.declare.new.self in
-    let n : ℕ = (root_of old).side in
-    let p : Point = c.in-Sink.point in
-    let made : Edit = Sink p c.in-Sink.metres in
     let is = c.declare.ensures in
-    let now : sinks_of new ≡ with_point p m.sinks = is.sinks ∙ c.deref.ensures.0 ∙ c.with_point-sinks.ensures ∙ ap (with_point p) (c.sinks.ensures.value ∙ sinks) in
-    subst (λ (e : Edit). IsMade d e m old new) (sym c.in-Sink.is)
-    (record {
-      tiles = subst (λ (ts : List StoredTile). AreTilesOf n ts (edit_made made m)) (sym is.staged) (with_others n (staged_in d old) m (with_point p m.sinks) are);
-      sinks = now;
-      kept = kept_as made (staged_in d old) (staged_in d new) (ap keepers is.staged);
-    })
+    let p : Point = c.in-Sink.point in
+    subst (λ (e : Edit). IsMade g.D.Disk e m c.args.tree.now c.declare.new.self) (sym c.in-Sink.is)
+    (declared g.D.Disk c.args.tree.now c.declare.new.self m (Sink p c.in-Sink.metres) (with_point p m.sinks) refl are is.staged (is.sinks ∙ c.deref.ensures.0 ∙ c.with_point-sinks.ensures ∙ ap (with_point p) (c.sinks.ensures.value ∙ sinks)))
 
 pub returns-in-Unsink-clause-made : goal.returns-in-Unsink-clause-made
 returns-in-Unsink-clause-made g c honest s m at valid are sinks finds =
-    let d = g.D.Disk in
-    let old = c.args.tree.now in
-    let new = c.declare-in-Unsink.new.self in
-    let n : ℕ = (root_of old).side in
-    let p : Point = c.in-Unsink.point in
-    let made : Edit = Unsink p c.in-Unsink.metres in
     let is = c.declare-in-Unsink.ensures in
-    let now : sinks_of new ≡ without_point p m.sinks =
-    is.sinks ∙ c.deref-in-Unsink.ensures.0 ∙ c.without_point-sinks.ensures ∙ ap (without_point p) (c.sinks-in-Unsink.ensures.value ∙ sinks) in
-    subst (λ (e : Edit). IsMade d e m old new) (sym c.in-Unsink.is)
-    (record {
-      tiles = subst (λ (ts : List StoredTile). AreTilesOf n ts (edit_made made m)) (sym is.staged) (with_others n (staged_in d old) m (without_point p m.sinks) are);
-      sinks = now;
-      kept = kept_as made (staged_in d old) (staged_in d new) (ap keepers is.staged);
-    })
+    let p : Point = c.in-Unsink.point in
+    subst (λ (e : Edit). IsMade g.D.Disk e m c.args.tree.now c.declare-in-Unsink.new.self) (sym c.in-Unsink.is)
+    (declared g.D.Disk c.args.tree.now c.declare-in-Unsink.new.self m (Unsink p c.in-Unsink.metres) (without_point p m.sinks) refl are is.staged
+    (is.sinks ∙ c.deref-in-Unsink.ensures.0 ∙ c.without_point-sinks.ensures ∙ ap (without_point p) (c.sinks-in-Unsink.ensures.value ∙ sinks)))

@@ -1,12 +1,11 @@
 use Rattle.std.proofs.Common.{Ok, take, All}
 use Rattle.page_codec.specs.Sizes.{pages_of}
-use Rattle.cow_tree.specs.Trees.{root_of}
 use Rattle.store.specs.Editing.{IsPrepared, Prepares}
 use Rattle.store.specs.PagesMet.{pages_met}
 use Rattle.store.proofs.staging_pages.prepare_tiles.Given as goal
 
 abbrev pub invariant-loop-corner : goal.invariant-loop-corner
 invariant-loop-corner g l = record {
-  prepares : Prepares {T = Unit {0}} g.D.Disk (pages_met (g.E.PageEdit.meets l.edit (root_of l.fn.tree).side) (pages_of (root_of l.fn.tree).side) (take l.corner-index l.corners)) l.fn.tree l.tree (Ok tt);
-  prepared : All (IsPrepared (g.E.PageEdit.meets l.edit (root_of l.fn.tree).side) l.tree) (take l.corner-index l.corners);
+  prepares : Prepares {T = Unit {0}} g.D.Disk (pages_met (g.E.PageEdit.meets l.edit l.side) (pages_of l.side) (take l.corner-index l.corners)) l.fn.tree l.tree (Ok tt);
+  prepared : All (IsPrepared (g.E.PageEdit.meets l.edit l.side) (pages_of l.side) l.tree) (take l.corner-index l.corners);
 }

@@ -1,8 +1,6 @@
-use Rattle.std.proofs.Common.{◌≡◌, ◌≢◌, ◌⊎◌, ⊎_elim, ℕ, ◌+◌, ◌≤◌, ◌<◌, ◌^◌, true, true≢false, refl, sym, ap, ◌∙◌, subst, arith, Some, Result, Ok, Err, IsTrue, IsFalse}
+use Rattle.std.proofs.Common.{◌≡◌, ◌≢◌, ⊎_elim, ℕ, ◌+◌, ◌≤◌, ◌<◌, ◌^◌, true≢false, refl, sym, ap, ◌∙◌, subst, arith, Some, Result, Ok, Err, IsTrue, IsFalse}
 use Rattle.std.proofs.lemmas.Bool.{le-leb}
 use Rattle.std.proofs.lemmas.Bool.Decides.{leb_tells}
-use Rattle.disk.specs.Disk.{HasRisen}
-use Rattle.disk.specs.Stops.{LeavesOnly}
 use Rattle.lattice.specs.declared.refusal.Refusal.{Refusal}
 use Rattle.lattice.specs.declared.refusal.Refusal.TheVariants.{Device, NoMemory, Failed, Worn, TooSmall, NotOld}
 use Rattle.page_codec.specs.Formats.{number_of, upgraded as upgraded_format}
@@ -15,20 +13,22 @@ use Rattle.engine.specs.State.{Contents, State, last_number, if_numbered}
 use Rattle.engine.specs.Steps.{IsOld, UpgradesNot as AnswersNot, upgraded}
 use Rattle.engine.proofs.Questions.{device_or_not}
 use Rattle.cow_tree.specs.Clean.{IsClean}
-use Rattle.cow_tree.specs.Layout.{Stands}
 use Rattle.cow_tree.specs.Stored.{Stored}
-use Rattle.cow_tree.specs.Trees.{disk_of, root_of, has_failed, IsAt as IsTreeAt}
+use Rattle.cow_tree.specs.Trees.{disk_of, root_of}
 use Rattle.cow_tree.specs.Uncommitted.{CommitsNothing}
 use Rattle.cow_tree.specs.Upgrades.{MayUpgrade, UpgradesNot, upgraded_store}
 use Rattle.cow_tree.specs.declared.tree.Tree.{Tree}
 use Rattle.cow_tree.proofs.ReadOnly.{never_refused}
+use Rattle.cow_tree.proofs.Steps.{ok_where}
+use Rattle.derived.specs.Steps.{Commits}
+use Rattle.derived.proofs.Commits.{commits_after}
 use Rattle.store.specs.Ended.{Ending}
 use Rattle.store.specs.Standing.{Holds}
 use Rattle.store.specs.TreeStates.{IsInState}
 use Rattle.store.specs.Upgraded.{IsUpgraded, has_room, may_refuse_upgrade, upgrade_ending}
-use Rattle.store.proofs.EditingSteps.{in_memory, refused_as}
-use Rattle.store.proofs.Ended as ended
-use Rattle.store.proofs.InMemory.{is_working}
+use Rattle.cow_tree.proofs.Uncommitted.{in_memory, refused_as}
+use Rattle.store.proofs.Calls.Ended as ended
+use Rattle.store.proofs.Reading.InMemory.{is_working}
 use Rattle.store.proofs.upgrading.upgrade_tree.Goals as goal
 use Rattle.store.proofs.upgrading.upgrade_tree.Goals.{After-upgrade}
 
@@ -106,56 +106,58 @@ module _ (g : _) (c : After-upgrade g) where
   as_old : (P : ℕ → RootValue → Type 0) → P (g.D.Disk.size (disk_of mid)) (root_of mid) → P room (root_of old)
   as_old P is = let gave = c.abandon.ensures.no_call in subst (λ (d : _). P (g.D.Disk.size d) (root_of old)) gave.disk (subst (P (g.D.Disk.size (disk_of mid))) gave.root is)
 
+  nothing : CommitsNothing {T = Unit {0}} g.D.Disk old mid (Ok tt)
+  nothing = in_memory g.D.Disk old mid (Ok tt) g.met.D.Disk.only_now c.abandon.ensures.no_call c.requires.works c.abandon.ensures.at (λ device. never_refused tt Device device)
+
+  abbrev Was : State → Type 0
+  Was s = IsInState g.D.Disk old s
+
   -- it is refused, and nothing was done
   refuses : (r : Refusal) → r ≢ Device → UpgradesNot (g.D.Disk.size (disk_of mid)) (root_of mid) r → new ≡ mid → IsUpgraded g.D.Disk (Err r) old new
   refuses r other refused same =
       let gave = c.abandon.ensures in
       let why = answers_not r other (as_old (λ n root. UpgradesNot n root r) refused) in
-      let nothing : CommitsNothing {T = Unit {0}} g.D.Disk old mid (Ok tt) =
-      in_memory g.D.Disk old mid (Ok tt) g.met.D.Disk.only_now gave.no_call c.requires.works gave.at (λ device. never_refused tt Device device) in
       subst (λ (tree : Tree _ g.D.Disk). IsUpgraded g.D.Disk (Err r) old tree) (sym same)
-      (ended.quiet g.D.Disk ending old mid c.requires.works (Ok tt) nothing (gave.no_call.failed ∙ c.requires.works)
+      (ended.quiet g.D.Disk ending old mid c.requires.works Was (λ s at. at) (Ok tt) nothing (gave.no_call.failed ∙ c.requires.works)
       (λ honest s at.
       let sound = at.sound c.requires.works in
       let was = subst g.D.Disk.honest gave.no_call.disk honest in
-      (gave.committed was sound.stored sound.tree ∙ sym sound.nothing_staged, gave.undeclared was sound.stored sound.tree ∙ sym sound.none_declared))
+      (gave.committed was sound.stored sound.tree, gave.undeclared was sound.stored sound.tree))
       (Err r) (ended.other_refusal r other) why.0 tt (ap g.D.Disk.writes gave.no_call.disk) (λ honest s at. why.1 (subst g.D.Disk.honest gave.no_call.disk honest) s at))
 
   -- ---- the commit
-  abbrev target : (s : State) → IsInState g.D.Disk old s → Stored
-  target s at = upgraded_store (at.sound c.requires.works).stored
+  commits : Commits g.D.Disk upgraded_store old new c.upgrade.result
+  commits =
+      let does = c.upgrade.ensures in
+      commits_after g.D.Disk upgraded_store old mid new tt c.upgrade.result nothing
+      (record {
+        returns = does.returns;
+        side = does.side;
+        capacity = does.capacity;
+        number = does.number;
+        last_known = does.last_known;
+        clean = does.clean;
+        declared = ok_where c.upgrade.result (does.sinks ∙ c.abandon.ensures.sinks ∙ sym does.declared);
+        at = does.at;
+        run = does.any_moment;
+      })
 
-  size_is : g.D.Disk.size (disk_of new) ≡ room
-  size_is = c.upgrade.ensures.size ∙ ap g.D.Disk.size c.abandon.ensures.no_call.disk
+  abbrev made : State → Contents
+  made s = upgraded s.contents
 
-  later_is : g.D.Disk.failures (disk_of old) ≤ g.D.Disk.failures (disk_of new)
-  later_is = subst (λ (d : _). g.D.Disk.failures d ≤ g.D.Disk.failures (disk_of new)) c.abandon.ensures.no_call.disk c.upgrade.ensures.later
-
-  honest_was : g.D.Disk.honest (disk_of new) → g.D.Disk.honest (disk_of old)
-  honest_was h = subst g.D.Disk.honest c.abandon.ensures.no_call.disk (c.upgrade.ensures.honest h)
-
-  mid_at : g.D.Disk.honest (disk_of new) → (s : State) → (at : IsInState g.D.Disk old s) → IsTreeAt g.D.Disk mid (at.sound c.requires.works).stored
-  mid_at h s at = c.abandon.ensures.at (honest_was h) (at.sound c.requires.works).stored (at.sound c.requires.works).tree
-
-  run : g.D.Disk.honest (disk_of new) → (s : State) → (at : IsInState g.D.Disk old s)
-      → LeavesOnly g.D.Disk (disk_of old) (disk_of new) (λ image. Stands room image (at.sound c.requires.works).stored ⊎ Stands room image (target s at))
-  run h s at =
-      subst (λ (d : _). LeavesOnly g.D.Disk d (disk_of new) (λ image. Stands (g.D.Disk.size d) image (at.sound c.requires.works).stored ⊎ Stands (g.D.Disk.size d) image (target s at))) c.abandon.ensures.no_call.disk
-      (c.upgrade.ensures.any_moment h (at.sound c.requires.works).stored (mid_at h s at))
-
-  holds : g.D.Disk.honest (disk_of new) → (s : State) → (at : IsInState g.D.Disk old s) → Holds (root_of old).side (root_of old).capacity (target s at) (upgraded s.contents)
+  holds : g.D.Disk.honest (disk_of new) → (s : State) → (at : IsInState g.D.Disk old s) → Holds (root_of old).side (root_of old).capacity (upgraded_store (at.sound c.requires.works).stored) (upgraded s.contents)
   holds h s at = upgraded_holds (root_of old).side (root_of old).capacity (at.sound c.requires.works).stored s.contents (at.sound c.requires.works).holds
 
   number_at : MayUpgrade room (root_of old) → (s : State) → IsInState g.D.Disk old s → s.contents.number < last_number
   number_at may s at = omega (arith, may.number, at.number)
 
   -- the disk failed
-  fails : MayUpgrade (g.D.Disk.size (disk_of mid)) (root_of mid) → root_of new ≡ root_of mid → has_failed new ≡ true → HasRisen (g.D.Disk.failures (disk_of mid)) (g.D.Disk.failures (disk_of new)) → IsUpgraded g.D.Disk (Err Device) old new
-  fails allowed last_known failed risen =
+  fails : MayUpgrade (g.D.Disk.size (disk_of mid)) (root_of mid) → c.upgrade.result ≡ Err Device → IsUpgraded g.D.Disk (Err Device) old new
+  fails allowed is =
       let may : MayUpgrade room (root_of old) = as_old MayUpgrade allowed in
-      ended.fails_in_commit g.D.Disk ending old new c.requires.works (λ s. upgraded s.contents) target size_is later_is honest_was run holds (λ s. if_numbered s.contents (Some (upgraded s.contents)))
+      ended.fails_in_commit g.D.Disk ending old new c.requires.works Was (λ s at. at) made upgraded_store holds (λ s. if_numbered s.contents (Some (upgraded s.contents)))
       (λ h s at. ended.is_doubted s.contents (upgraded s.contents) (number_at may s at)) refl (λ s at. (old_at s at may, record { working = is_working g.D.Disk old c.requires.works s at; fails = refl }))
-      (last_known ∙ c.abandon.ensures.no_call.root) failed (subst (λ (d : _). HasRisen (g.D.Disk.failures d) (g.D.Disk.failures (disk_of new))) c.abandon.ensures.no_call.disk risen)
+      (subst (λ (result : Result (Unit {0}) Refusal). Commits g.D.Disk upgraded_store old new result) is commits)
 
 pub returns-in_err-upgrade-clause-upgraded : goal.returns-in_err-upgrade-clause-upgraded
 returns-in_err-upgrade-clause-upgraded g c =
@@ -166,7 +168,7 @@ returns-in_err-upgrade-clause-upgraded g c =
     (⊎_elim
     (λ device.
     subst (λ (x : Refusal). IsUpgraded g.D.Disk (Err x) c.args.tree.now c.upgrade.new.self) (sym device)
-    (fails g after (subst (UpgradesNot (g.D.Disk.size (disk_of c.abandon.new.self)) (root_of c.abandon.new.self)) device does.refused) does.last_known (does.device (ap (λ (x : Refusal). Err x) device)) (does.cause (ap (λ (x : Refusal). Err x) device))))
+    (fails g after (subst (UpgradesNot (g.D.Disk.size (disk_of c.abandon.new.self)) (root_of c.abandon.new.self)) device does.refused) (c.in_err-upgrade.was ∙ ap (λ (x : Refusal). Err x) device)))
     (λ other. refuses g after r other does.refused (does.unchanged other))
     (device_or_not r))
 
@@ -176,23 +178,16 @@ returns-clause-upgraded g c =
     let d = g.D.Disk in
     let gave = c.abandon.ensures in
     let does = c.in_ok-upgrade.ensures in
-    let works = c.requires.works in
     let tree = c.args.tree.now in
     let may : MayUpgrade (d.size (disk_of tree)) (root_of tree) = as_old g after MayUpgrade does.allowed in
-    let made = λ (s : State). upgraded s.contents in
-    ended.commits_it d (ending g after) tree c.upgrade.new.self works made (target g after) (size_is g after) (later_is g after) (honest_was g after) (run g after) (holds g after) tt does.not_failed
-    (c.upgrade.ensures.side ∙ ap (λ (r : RootValue). r.side) gave.no_call.root) (c.upgrade.ensures.capacity ∙ ap (λ (r : RootValue). r.capacity) gave.no_call.root)
-    (record { version = does.version; count = c.upgrade.ensures.count ∙ ap (λ (r : RootValue). r.count) gave.no_call.root; number = does.number ∙ ap (λ (r : RootValue). r.number + 1) gave.no_call.root })
-    refl (g.met.D.Disk.seen_may (disk_of c.upgrade.new.self)) (λ h s at. does.at h (at.sound works).stored (mid_at g after h s at)) (λ h s at. does.staged h (at.sound works).stored (mid_at g after h s at))
-    (c.upgrade.ensures.sinks ∙ gave.sinks ∙ sym c.upgrade.ensures.declared)
-    (λ h s at. (
-      old_at g after s at may,
-      ended.commits_made d (ending g after) tree c.upgrade.new.self works made (target g after) (size_is g after) (later_is g after) (honest_was g after) (run g after) (holds g after) s at (number_at g after may s at),
-    ))
+    let done = subst (λ (result : Result (Unit {0}) Refusal). Commits d upgraded_store tree c.upgrade.new.self result) c.in_ok-upgrade.was (commits g after) in
+    ended.commits_it d (ending g after) tree c.upgrade.new.self c.requires.works (λ s. IsInState d tree s) (λ s at. at) (λ s. upgraded s.contents) upgraded_store (holds g after) tt done
+    (record { version = does.version; count = c.upgrade.ensures.count ∙ ap (λ (r : RootValue). r.count) gave.no_call.root; number = done.number }) refl (g.met.D.Disk.seen_may (disk_of c.upgrade.new.self))
+    (λ h s at. (old_at g after s at may, ended.commits_made d (ending g after) tree c.upgrade.new.self c.requires.works (λ z. IsInState d tree z) (λ z is. is) (λ z. upgraded z.contents) s at (number_at g after may s at)))
 
 -- nothing is staged in it then, where it hasn't failed
 pub returns-in_err-upgrade-clause-clean : goal.returns-in_err-upgrade-clause-clean
 returns-in_err-upgrade-clause-clean g c works =
     let does = c.in_err-upgrade.ensures in
-    ⊎_elim (λ device. absurd (true≢false (sym (does.device (ap (λ (x : Refusal). Err x) device)) ∙ works)))
+    ⊎_elim (λ device. absurd (true≢false (sym (does.returns.fails (ap (λ (x : Refusal). Err x) device)) ∙ works)))
     (λ other. subst (λ (tree : Tree _ g.D.Disk). IsClean tree) (sym (does.unchanged other)) c.abandon.ensures.clean) (device_or_not c.in_err-upgrade.field-0.0)

@@ -1,9 +1,9 @@
 use Rattle.std.proofs.Common.{◌≡◌, ◌+◌, ◌*◌, ℕ, ℤ, true, false, List, length, sym, ap, ◌∙◌, subst, arith}
 use Rattle.lattice.specs.Mosaic.{IsSample}
 use Rattle.store.specs.Underway.{is_due, page_sample}
-use Rattle.store.proofs.NewHeights.{length_with_bytes}
+use Rattle.store.proofs.Edits.NewHeights.{length_with_bytes}
 use Rattle.store.proofs.Pages.{with_bytes}
-use Rattle.store.proofs.VoidPages.{IsFilledTo, filled_more, filled_same, page_filled, sample_passed}
+use Rattle.store.proofs.Edits.VoidPages.{IsFilledTo, filled_more, filled_same, page_filled, sample_passed}
 use Rattle.store.proofs.voids.fill_samples.Goals as goal
 use Rattle.store.proofs.voids.fill_samples.Goals.{then-is_due, else-is_due}
 

@@ -1,5 +1,5 @@
 use Rattle.std.proofs.Common.{◌≡◌, false, length}
-use Rattle.store.proofs.VoidPages.{IsFilledTo}
+use Rattle.store.proofs.Edits.VoidPages.{IsFilledTo}
 use Rattle.store.proofs.voids.fill_samples.Given as goal
 
 abbrev pub invariant-loop-at : goal.invariant-loop-at

@@ -1,14 +1,11 @@
-use Rattle.std.proofs.Common.{◌≡◌, ◌+◌, ◌*◌, ℕ, Bool, true, false, refl, sym, ap, ap₂, ◌∙◌, arith, ◌&&◌, nat_lt}
+use Rattle.std.proofs.Common.{◌≡◌, ◌+◌, ◌*◌, ℕ, true, false, sym, ap, ap₂, ◌∙◌, arith, ◌&&◌, nat_lt}
 use Rattle.std.proofs.lemmas.Bool.{false_from_ne_true, lt-ltb, ltb-true}
+use Rattle.std.proofs.Math.Bool.{and-false}
 use Rattle.lattice.specs.Lattice.{point_of}
 use Rattle.lattice.specs.Mosaic.{is_void}
 use Rattle.edits.specs.Effect.{is_in_box}
 use Rattle.store.specs.Underway.{is_void_by_rim, page_sample}
 use Rattle.store.proofs.voids.is_due.Goals as goal
-
-and_none : (a : Bool) → (a && false) ≡ false
-and_none true = refl
-and_none false = refl
 
 pub returns-then-not-holds_void : goal.returns-then-not-holds_void
 returns-then-not-holds_void c =
@@ -23,7 +20,7 @@ returns-then-area-index c =
     let rest = is_in_box c.args.patch.from c.args.patch.to (point_of n c.args.rim.now.corner e) && is_void_by_rim n c.args.rim.now e in
     let beyond : nat_lt e (n * n) ≡ false =
     false_from_ne_true (nat_lt e (n * n)) (λ inside. let less = ltb-true e (n * n) inside in let area = c.area.ensures.value in let out = c.if-area-index.true in omega (arith, less, area, out)) in
-    sym (ap (λ l. (is_void (page_sample c.args.page.now c.args.at) && l) && rest) beyond ∙ ap (λ b. b && rest) (and_none (is_void (page_sample c.args.page.now c.args.at))))
+    sym (ap (λ l. (is_void (page_sample c.args.page.now c.args.at) && l) && rest) beyond ∙ ap (λ b. b && rest) (and-false (is_void (page_sample c.args.page.now c.args.at))))
 
 pub returns-then-is_in_box : goal.returns-then-is_in_box
 returns-then-is_in_box c =

@@ -3,14 +3,14 @@ use Rattle.lattice.specs.Corners.{Corner, same_corner}
 use Rattle.lattice.proofs.CornerOrder.{same_from, same_says}
 use Rattle.catalogue.specs.Tiles.{is_listed}
 use Rattle.store.specs.declared.rims.RimVoids.{RimVoids}
-use Rattle.store.proofs.PagesMet.{or_true}
+use Rattle.std.proofs.lemmas.Bool.{or_right}
 use Rattle.store.proofs.voids.rim_of.Goals as goal
 
 -- a rim that is there is that of a listed corner
 listed : (rims : List RimVoids) (rim : RimVoids) → Contains rims rim → is_listed rim.corner (map (λ r. r.corner) rims) ≡ true
 listed [] rim (k, below, here) = absurd (omega (arith, below))
 listed (x ∷ rest) rim (zero, below, here) = ap (λ b. b || is_listed rim.corner (map (λ r. r.corner) rest)) (same_from x.corner rim.corner (ap (λ (r : RimVoids). r.corner) here))
-listed (x ∷ rest) rim (suc k, below, here) = or_true (same_corner x.corner rim.corner) (is_listed rim.corner (map (λ r. r.corner) rest)) (listed rest rim (k, omega (arith, below), here))
+listed (x ∷ rest) rim (suc k, below, here) = or_right (same_corner x.corner rim.corner) (is_listed rim.corner (map (λ r. r.corner) rest)) (listed rest rim (k, omega (arith, below), here))
 
 pub returns-then-eq-clause-some : goal.returns-then-eq-clause-some
 returns-then-eq-clause-some c =

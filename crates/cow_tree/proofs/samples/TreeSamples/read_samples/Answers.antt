@@ -7,8 +7,8 @@ use Rattle.cow_tree.specs.Layout.{tile_in}
 use Rattle.cow_tree.specs.Reading.{read_again}
 use Rattle.cow_tree.specs.Stored.{StoredTile, samples_of_plane}
 use Rattle.cow_tree.specs.Trees.{staged_in}
-use Rattle.cow_tree.proofs.Adding.{contains-map}
-use Rattle.cow_tree.proofs.Due.{located_tile}
+use Rattle.cow_tree.proofs.Listed.Adding.{contains-map}
+use Rattle.cow_tree.proofs.Listed.Due.{located_tile}
 use Rattle.cow_tree.proofs.SampleReads.{samples_are, read_further, length_further, samples_small}
 use Rattle.cow_tree.proofs.TreeReads.{was_readable, same_mosaic}
 use Rattle.cow_tree.proofs.samples.TreeSamples.read_samples.Goals as goal

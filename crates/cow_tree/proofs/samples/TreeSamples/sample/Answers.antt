@@ -9,8 +9,8 @@ use Rattle.cow_tree.specs.Reading.{mosaic_of}
 use Rattle.cow_tree.specs.Stored.{StoredTile, samples_of_plane}
 use Rattle.cow_tree.specs.Trees.{staged_in}
 use Rattle.page_map.proofs.Lookup.{tile_at_corner}
-use Rattle.cow_tree.proofs.Adding.{contains-map}
-use Rattle.cow_tree.proofs.Due.{located_tile}
+use Rattle.cow_tree.proofs.Listed.Adding.{contains-map}
+use Rattle.cow_tree.proofs.Listed.Due.{located_tile}
 use Rattle.cow_tree.proofs.SampleReads.{samples_are, as_many, part_read, one_sample}
 use Rattle.cow_tree.proofs.TreeReads.{was_readable}
 use Rattle.cow_tree.proofs.samples.TreeSamples.sample.Goals as goal

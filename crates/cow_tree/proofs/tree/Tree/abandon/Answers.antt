@@ -7,7 +7,7 @@ use Rattle.cow_tree.proofs.Clean.{is_clean}
 use Rattle.cow_tree.proofs.tree.Tree.abandon.Goals as goal
 
 pub returns-clause-clean : goal.returns-clause-clean
-returns-clause-clean g c = is_clean _ (ap (λ (x : PageMapValue). x.staged) c.undo.ensures.undone ∙ sym (ap (λ (x : PageMapValue). x.committed) c.undo.ensures.undone))
+returns-clause-clean g c = is_clean _ (ap (λ (x : PageMapValue). x.staged) c.rollback.ensures.rolled_back ∙ sym (ap (λ (x : PageMapValue). x.committed) c.rollback.ensures.rolled_back))
 
 pub returns-clause-undeclared : goal.returns-clause-undeclared
 returns-clause-undeclared g c honest s is =

@@ -18,7 +18,7 @@ use Rattle.cow_tree.specs.Trees.{IsAt}
 use Rattle.cow_tree.proofs.Cached.{same_agrees}
 use Rattle.cow_tree.proofs.Commits.{next_root, few_in_all, few_in_part, lands, same_tiles, nothing_staged, committing}
 use Rattle.cow_tree.proofs.Clean.{is_clean}
-use Rattle.cow_tree.proofs.ListingPages.{due_are, due_unreached}
+use Rattle.cow_tree.proofs.Listed.ListingPages.{due_are, due_unreached}
 use Rattle.cow_tree.proofs.Steps.{stands, stores_along}
 use Rattle.cow_tree.proofs.tree.Tree.commit.Goals as goal
 use Rattle.cow_tree.proofs.tree.Tree.commit.Goals.{After-write_listings, After-commit}
@@ -127,12 +127,12 @@ returns-clause-at g c honest s is =
     let current : IsCurrent c.with_sinks-root.result image = subst (λ (r : RootValue). IsCurrent r image) c.in_ok-commit.ensures.root (ready_current d new image ready_now may) in
     let pages : SamePages (d.seen mid.disk) image = subst (λ (i : Image). SamePages (d.seen mid.disk) i) (sym (c.in_ok-commit.ensures.durable honest image may)) (c.in_ok-commit.ensures.pages honest) in
     land g after honest s is image (current, pages) in
-    let settled = c.settle.ensures.settled in
+    let settled = c.commit-2.ensures.committed in
     record {
       ready = ready_now;
-      each = λ image may. stores_along n (d.size new.disk) c.with_sinks-root.result new.root page_map.staged c.settle.new.self.committed (target g after honest s is) image
+      each = λ image may. stores_along n (d.size new.disk) c.with_sinks-root.result new.root page_map.staged c.commit-2.new.self.committed (target g after honest s is) image
           (c.commit.ensures.size ∙ c.write_listings.ensures.listed.pages.size) c.in_ok-commit.ensures.root (ap (λ (x : PageMapValue). x.committed) settled) (each image may);
-      staged = subst (λ (r : RootValue). AreStaged (format_of r) c.settle.new.self.committed c.settle.new.self.staged (d.seen new.disk)) (sym c.in_ok-commit.ensures.root)
+      staged = subst (λ (r : RootValue). AreStaged (format_of r) c.commit-2.new.self.committed c.commit-2.new.self.staged (d.seen new.disk)) (sym c.in_ok-commit.ensures.root)
           (subst (λ (x : PageMapValue). AreStaged (format_of c.with_sinks-root.result) x.committed x.staged (d.seen new.disk)) (sym settled)
           (nothing_staged n c.with_sinks-root.result page_map.staged (target g after honest s is) (d.seen new.disk) (each (d.seen new.disk) (g.met.D.Disk.seen_may new.disk honest))));
     }
@@ -142,12 +142,12 @@ returns-clause-staged g c honest s is =
     let d = g.D.Disk in
     let after = (goal.at.returns-clause-staged g c).After-commit in
     let old = c.args.self.now in
-    ap (λ (x : PageMapValue). map (tile_in (d.seen c.commit.new.self.disk)) x.staged) c.settle.ensures.settled
+    ap (λ (x : PageMapValue). map (tile_in (d.seen c.commit.new.self.disk)) x.staged) c.commit-2.ensures.committed
     ∙ sym (same_tiles old.page_map c.rules.ensures old.page_map.committed (d.seen old.roots.disk) (d.seen c.write_listings.new.roots.disk) (staged g after honest s is)
     (c.in_ok-write_listings.ensures.listed.written (mid_honest g after honest s is)) (c.in_ok-write_listings.ensures.listed.pages.others (mid_honest g after honest s is)) (d.seen c.commit.new.self.disk) (c.in_ok-commit.ensures.pages honest) old.page_map.staged refl)
 
 pub returns-clause-clean : goal.returns-clause-clean
-returns-clause-clean g c = is_clean _ (ap (λ (x : PageMapValue). x.staged) c.settle.ensures.settled ∙ sym (ap (λ (x : PageMapValue). x.committed) c.settle.ensures.settled))
+returns-clause-clean g c = is_clean _ (ap (λ (x : PageMapValue). x.staged) c.commit-2.ensures.committed ∙ sym (ap (λ (x : PageMapValue). x.committed) c.commit-2.ensures.committed))
 
 pub invariant_of-self-2 : goal.invariant_of-self-2
 invariant_of-self-2 g c =
@@ -157,8 +157,8 @@ invariant_of-self-2 g c =
     record {
       sectors = search rules;
       fits = search rules;
-      format = subst (λ (r : RootValue). c.settle.new.self.format ≡ format_of r) (sym c.in_ok-commit.ensures.root) (search rules);
-      entries = subst (λ (r : RootValue). map entry_of c.settle.new.self.committed ≡ r.entries) (sym c.in_ok-commit.ensures.root) (search rules);
+      format = subst (λ (r : RootValue). c.commit-2.new.self.format ≡ format_of r) (sym c.in_ok-commit.ensures.root) (search rules);
+      entries = subst (λ (r : RootValue). map entry_of c.commit-2.new.self.committed ≡ r.entries) (sym c.in_ok-commit.ensures.root) (search rules);
       declared = subst (λ (r : RootValue). had.sinks.side ≡ r.side) (sym c.in_ok-commit.ensures.root) (search rules);
       cached = λ honest _.
           let mid_honest = c.commit.ensures.honest honest in

@@ -4,8 +4,8 @@ use Rattle.page_map.specs.PageMaps.{PageMapValue, corners_of_locations}
 use Rattle.page_map.specs.TileLocations.{TileLocation}
 use Rattle.cow_tree.specs.Layout.{tile_in, StoresAt}
 use Rattle.cow_tree.specs.Staged.{AreStaged}
-use Rattle.cow_tree.proofs.Due.{other_due}
-use Rattle.cow_tree.proofs.KeptDrops.{bared_tiles, other_corners, other_still, other_stays}
+use Rattle.cow_tree.proofs.Listed.Due.{other_due}
+use Rattle.cow_tree.proofs.Writes.KeptDrops.{bared_tiles, other_corners, other_still, other_stays}
 use Rattle.cow_tree.proofs.tree.Tree.drop_kept.Goals as goal
 
 pub returns-clause-corners : goal.returns-clause-corners

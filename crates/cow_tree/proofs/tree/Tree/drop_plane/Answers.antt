@@ -6,8 +6,8 @@ use Rattle.page_map.specs.TileLocations.{TileLocation}
 use Rattle.cow_tree.specs.Layout.{tile_in, StoresAt}
 use Rattle.cow_tree.specs.Staged.{AreStaged}
 use Rattle.cow_tree.specs.Stored.{StoredTile}
-use Rattle.cow_tree.proofs.Dropping.{filter-map, staged_without}
-use Rattle.cow_tree.proofs.Due.{without_due}
+use Rattle.cow_tree.proofs.Writes.Dropping.{filter-map, staged_without}
+use Rattle.cow_tree.proofs.Listed.Due.{without_due}
 use Rattle.cow_tree.proofs.tree.Tree.drop_plane.Goals as goal
 
 pub returns-clause-corners : goal.returns-clause-corners

@@ -4,7 +4,7 @@ use Rattle.page_map.specs.PageMaps.{PageMapValue, HasFreshHeights, corners_of_lo
 use Rattle.page_map.specs.TileLocations.{TileLocation}
 use Rattle.cow_tree.specs.Layout.{tile_in, StoresAt}
 use Rattle.cow_tree.specs.Staged.{AreStaged, pages_due}
-use Rattle.cow_tree.proofs.Due.{prepared_due, prepared_due_same, prepared_located, prepared_still}
+use Rattle.cow_tree.proofs.Listed.Due.{prepared_due, prepared_due_same, prepared_located, prepared_still}
 use Rattle.cow_tree.proofs.Prepared.{prepared_tiles, prepared_corners, still_prepared}
 use Rattle.cow_tree.proofs.Steps.{on_ok, either_way}
 use Rattle.cow_tree.proofs.tree.Tree.prepare.Goals as goal

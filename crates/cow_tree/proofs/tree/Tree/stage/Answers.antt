@@ -1,16 +1,19 @@
-use Rattle.std.proofs.Common.{◌<◌, ◌≤◌, ◌+◌, ℕ, length, map, arith, refl, sym, ap, ◌∙◌, subst, is_err}
+use Rattle.std.proofs.Common.{[], ◌∷◌, Contains, ◌<◌, ◌≤◌, ◌+◌, ℕ, length, map, arith, refl, sym, ap, ◌∙◌, subst}
 use Rattle.page_codec.specs.Sizes.{pages_of}
 use Rattle.std.proofs.lemmas.Bool.{false≢true}
+use Rattle.std.proofs.lemmas.List.Elements.{All-cons, All-nil}
 use Rattle.page_codec.specs.Formats.{Format}
 use Rattle.page_codec.specs.Roots.{RootValue, format_of}
 use Rattle.page_map.specs.PageMaps.{PageMapValue, HasFreshHeights, corners_of_locations}
+use Rattle.page_map.specs.TileLocations.{reached}
 use Rattle.cow_tree.specs.Entries.{entry_of}
-use Rattle.cow_tree.specs.Staged.{AreStaged, index_page_by, pages_due}
-use Rattle.cow_tree.proofs.Steps.{corners_same, stage_pages, stage_stays, page_unreached, still_stands, each_still, stores_along, ok_where_works, on_ok_both, ok_where, failed_where, only_device}
+use Rattle.cow_tree.specs.Staged.{index_page_by, pages_due}
+use Rattle.cow_tree.proofs.Steps.{corners_same, stage_pages, stage_stays, page_unreached, ok_where_works, on_ok_both, ok_where, only_device}
 use Rattle.cow_tree.proofs.Cached.{written_agrees}
-use Rattle.cow_tree.proofs.Due.{written_due, written_due_same, written_due_before, written_here, written_still}
+use Rattle.cow_tree.proofs.Listed.Due.{written_due, written_due_same, written_due_before, written_here, written_still}
 use Rattle.page_map.proofs.Refused.{ended_with}
-use Rattle.cow_tree.proofs.Uncommitted.{refused_in_memory}
+use Rattle.cow_tree.proofs.Writes.PageWrites.{one_written}
+use Rattle.cow_tree.proofs.Uncommitted.{refused_in_memory, wrote}
 use Rattle.cow_tree.proofs.tree.Tree.stage.Goals as goal
 
 pub returns-clause-corners : goal.returns-clause-corners
@@ -35,28 +38,16 @@ returns-clause-uncommitted g c =
     let new_page_map = c.page_for_writing.new.self in
     let rw = c.in_ok-number.ensures.written in
     let index : c.args.i < pages_of old.page_map.format.side = subst (λ (n : ℕ). c.args.i < pages_of n) (sym (ap (λ (f : Format). f.side) old.format)) c.requires.index in
-    let failed = c.write.ensures.failed in
+    let wrote_it = c.write.ensures in
     let unreached = page_unreached old.page_map new_page_map c.args.c c.args.i c.in_ok-number.number c.args.page.now (d.seen old.roots.disk) (d.seen c.write.new.self.disk) c.rules.ensures c.in_ok-number.ensures.rules rw in
-    record {
-      size = c.write.ensures.size;
-      later = c.write.ensures.cause.later;
-      device = λ is. c.write.ensures.cause.failed (ap is_err is);
-      failed = failed_where c.write.result _ failed;
-      works = c.write.ensures.not_failed;
-      honest = c.write.ensures.honest;
-      root = c.write.ensures.root;
-      at = λ honest s is works. record {
-        ready = ok_where_works c.write.result c.write.new.self.failed failed works (c.write.ensures.ready honest is.ready);
-        each = λ image may. stores_along (d.size old.roots.disk) (d.size c.write.new.self.disk) old.roots.root c.write.new.self.root old.page_map.committed new_page_map.committed s image
-            c.write.ensures.size c.write.ensures.root (ap (λ (page_map : PageMapValue). page_map.committed) rw.changed)
-            (each_still d old.roots.disk c.write.new.self.disk c.in_ok-number.number (d.size old.roots.disk) old.roots.root old.page_map.committed s is.each unreached (c.write.ensures.any_moment honest is.ready) image may);
-        staged = subst (λ (r : RootValue). AreStaged (format_of r) new_page_map.committed new_page_map.staged (d.seen c.write.new.self.disk)) (sym c.write.ensures.root) (ok_where_works c.write.result c.write.new.self.failed failed works
-            (on_ok_both c.write.result
-            (λ same written. stage_stays old.page_map new_page_map c.args.c c.args.i c.in_ok-number.number c.args.page.now (d.seen old.roots.disk) (d.seen c.write.new.self.disk) c.rules.ensures c.in_ok-number.ensures.rules rw (format_of old.roots.root) c.requires.present index same written is.staged)
-            (c.write.ensures.others honest) (c.write.ensures.written honest)));
-      };
-      run = λ honest s is. still_stands d old.roots.disk c.write.new.self.disk c.in_ok-number.number (d.size old.roots.disk) old.roots.root old.page_map.committed s is.each unreached (c.write.ensures.any_moment honest is.ready);
-    }
+    wrote d old _ c.write.result (c.in_ok-number.number ∷ [])
+    (one_written d old.roots c.write.new.self c.in_ok-number.number c.write.result wrote_it.size wrote_it.cause wrote_it.refused wrote_it.writes wrote_it.begun wrote_it.honest wrote_it.root wrote_it.not_failed wrote_it.failed wrote_it.ready wrote_it.others wrote_it.any_moment)
+    (All-cons (λ p. ¬ Contains (reached old.page_map.committed) p) c.in_ok-number.number [] unreached (All-nil (λ p. ¬ Contains (reached old.page_map.committed) p)))
+    (ap (λ (page_map : PageMapValue). page_map.committed) rw.changed)
+    (λ honest s is.
+    on_ok_both c.write.result
+    (λ same written. stage_stays old.page_map new_page_map c.args.c c.args.i c.in_ok-number.number c.args.page.now (d.seen old.roots.disk) (d.seen c.write.new.self.disk) c.rules.ensures c.in_ok-number.ensures.rules rw (format_of old.roots.root) c.requires.present index same written is.staged)
+    (wrote_it.others honest) (wrote_it.written honest))
 
 pub returns-in_err-number-clause-uncommitted : goal.returns-in_err-number-clause-uncommitted
 returns-in_err-number-clause-uncommitted g c =

@@ -7,9 +7,9 @@ use Rattle.page_map.specs.PageMaps.{PageMapValue, AreKept, AreWholeKept, corners
 use Rattle.page_map.specs.declared.locations.KeptLocations.{KeptLocations}
 use Rattle.cow_tree.specs.Kept.{planes_of_bytes}
 use Rattle.cow_tree.specs.Staged.{pages_due}
-use Rattle.cow_tree.proofs.Due.{kept_more}
-use Rattle.cow_tree.proofs.KeptDrops.{other_corners}
-use Rattle.cow_tree.proofs.KeptStaging.{locations_are, no_labels, no_levels, whole_planes, pages_low, pages_high, pages_once, pages_unreached, kept_staged, kept_stays}
+use Rattle.cow_tree.proofs.Listed.Due.{kept_more}
+use Rattle.cow_tree.proofs.Writes.KeptDrops.{other_corners}
+use Rattle.cow_tree.proofs.Writes.KeptStaging.{locations_are, no_labels, no_levels, whole_planes, pages_low, pages_high, pages_once, pages_unreached, kept_staged, kept_stays}
 use Rattle.page_map.proofs.Refused.{ended_with}
 use Rattle.cow_tree.proofs.Steps.{on_ok, on_ok_both}
 use Rattle.cow_tree.proofs.Uncommitted.{refused_in_memory, wrote}

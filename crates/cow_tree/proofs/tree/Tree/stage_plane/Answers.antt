@@ -8,8 +8,8 @@ use Rattle.page_map.specs.Locations.{times}
 use Rattle.cow_tree.specs.Staged.{pages_due}
 use Rattle.cow_tree.specs.Stored.{pages_of_bytes}
 use Rattle.page_codec.specs.Sizes.{index_pages_of}
-use Rattle.cow_tree.proofs.Adding.{added_heights, pages_low, pages_high, pages_unreached, pages_once, plane_staged, plane_stays}
-use Rattle.cow_tree.proofs.Due.{added_corners, added_due, added_here}
+use Rattle.cow_tree.proofs.Listed.Adding.{added_heights, pages_low, pages_high, pages_unreached, pages_once, plane_staged, plane_stays}
+use Rattle.cow_tree.proofs.Listed.Due.{added_corners, added_due, added_here}
 use Rattle.page_map.proofs.Refused.{ended_with}
 use Rattle.cow_tree.proofs.Steps.{on_ok, on_ok_both, ok_where}
 use Rattle.cow_tree.proofs.Uncommitted.{refused_in_memory, wrote}

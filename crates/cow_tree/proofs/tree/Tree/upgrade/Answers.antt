@@ -22,8 +22,8 @@ use Rattle.cow_tree.specs.Upgrades.{upgraded_store}
 use Rattle.cow_tree.proofs.Cached.{same_agrees}
 use Rattle.cow_tree.proofs.Commits.{lands, same_tiles, few_in_all, few_in_part, none_before, nothing_staged, committing}
 use Rattle.cow_tree.proofs.Clean.{is_clean}
-use Rattle.cow_tree.proofs.Counting.{all_of_fewer}
-use Rattle.cow_tree.proofs.ListingPages.{due_are, few_due, tiles_numbers}
+use Rattle.cow_tree.proofs.Listed.Counting.{all_of_fewer}
+use Rattle.cow_tree.proofs.Listed.ListingPages.{due_are, few_due, tiles_numbers}
 use Rattle.cow_tree.proofs.Steps.{stands, stores_along}
 use Rattle.cow_tree.proofs.UpgradeLands.{corners_stay, few_listed, three_more, upgraded_root}
 use Rattle.cow_tree.proofs.tree.Tree.upgrade.Goals as goal

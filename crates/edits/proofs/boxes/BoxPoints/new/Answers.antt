@@ -2,7 +2,7 @@ use Rattle.std.proofs.Common.{◌≡◌, true, false, refl, rules, to_z, of_z}
 use Rattle.std.proofs.lemmas.Int.{to_z-of_z}
 use mir.Syntax.{w32}
 use mir.Val.{SFits}
-use Rattle.edits.proofs.Voids.{is_span, span_at, count_at, box_from, no_rows, no_columns}
+use Rattle.edits.proofs.BoxVoids.Voids.{is_span, span_at, count_at, box_from, no_rows, no_columns}
 use Rattle.edits.proofs.boxes.BoxPoints.new.Goals as goal
 
 pub returns-in_err-rows-clause-none : goal.returns-in_err-rows-clause-none

@@ -17,9 +17,9 @@ returns-in_err-noted-clause-any_moment g c honest ready =
     let roots = c.args.self.now in
     let s = roots.slot in
     let gate_at : c.gate.result ≡ gate (other s) = c.gate.ensures ∙ ap gate c.other.ensures in
-    closing d s roots.root roots.disk c.settle-answer.new.disk
+    closing d s roots.root roots.disk c.write_through-answer.new.disk
     (λ i may. subst (λ (b : Bool). IsAt s b roots.root i) c.if-not-self.false (ready.each i may))
-    (subst (λ (k : ℕ). LeavesOnly d roots.disk c.settle-answer.new.disk (TornAt k (d.may roots.disk))) gate_at (c.settle-answer.ensures.any_moment honest))
+    (subst (λ (k : ℕ). LeavesOnly d roots.disk c.write_through-answer.new.disk (TornAt k (d.may roots.disk))) gate_at (c.write_through-answer.ensures.any_moment honest))
 
 pub returns-clause-any_moment : goal.returns-clause-any_moment
 returns-clause-any_moment g c honest ready =
@@ -27,6 +27,6 @@ returns-clause-any_moment g c honest ready =
     let roots = c.args.self.now in
     let s = roots.slot in
     let gate_at : c.gate.result ≡ gate (other s) = c.gate.ensures ∙ ap gate c.other.ensures in
-    closing d s roots.root roots.disk c.settle-answer.new.disk
+    closing d s roots.root roots.disk c.write_through-answer.new.disk
     (λ i may. subst (λ (b : Bool). IsAt s b roots.root i) c.if-not-self.false (ready.each i may))
-    (subst (λ (k : ℕ). LeavesOnly d roots.disk c.settle-answer.new.disk (TornAt k (d.may roots.disk))) gate_at (c.settle-answer.ensures.any_moment honest))
+    (subst (λ (k : ℕ). LeavesOnly d roots.disk c.write_through-answer.new.disk (TornAt k (d.may roots.disk))) gate_at (c.write_through-answer.ensures.any_moment honest))

@@ -1,4 +1,4 @@
-use Rattle.store.proofs.NewHeights.{heightened_once}
+use Rattle.store.proofs.Edits.NewHeights.{heightened_once}
 use Rattle.store.proofs.heights.PointHeightsPageEdit.edit_page.Goals as goal
 
 pub returns-clause-once : goal.returns-clause-once

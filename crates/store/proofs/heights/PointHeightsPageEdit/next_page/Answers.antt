@@ -1,6 +1,6 @@
 use Rattle.std.proofs.Common.{rules, ◌≤◌, IsTrue}
 use Rattle.lattice.specs.Corners.{is_corner}
-use Rattle.store.proofs.NewHeights.{points_left}
+use Rattle.store.proofs.Edits.NewHeights.{points_left}
 use Rattle.store.proofs.heights.PointHeightsPageEdit.next_page.Goals as goal
 
 pub returns-clause-leaves : goal.returns-clause-leaves

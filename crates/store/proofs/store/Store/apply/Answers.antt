@@ -1,6 +1,7 @@
 use Rattle.std.proofs.Common.{◌≡◌, ⊎_elim, inl, inr, ℕ, ◌+◌, ◌<◌, ◌≤◌, false, true, List, All, map, refl, sym, ap, ap₂, ◌∙◌, subst, arith, Result, Ok, Err, IfSome, IsTrue}
 use Rattle.std.proofs.lemmas.Bool.{both_ways}
 use Rattle.std.proofs.lemmas.Result.{IfErr-weaker}
+use Rattle.disk.specs.declared.disk.Disk.{Ghosts}
 use Rattle.lattice.specs.Corners.{Corner, is_corner}
 use Rattle.lattice.specs.Mosaic.{Mosaic, IsMosaic}
 use Rattle.lattice.specs.declared.refusal.Refusal.{Refusal}
@@ -8,6 +9,7 @@ use Rattle.lattice.specs.declared.refusal.Refusal.TheVariants.{Device, Failed, W
 use Rattle.page_codec.specs.Entries.{EntryValue}
 use Rattle.page_codec.specs.Formats.{number_of}
 use Rattle.page_codec.specs.Roots.{RootValue}
+use Rattle.engine.specs.State.{State}
 use Rattle.engine.specs.Told.{WritesFew}
 use Rattle.engine.specs.declared.event.Event.TheVariants as ask
 use Rattle.engine.proofs.Questions.{device_or_not}
@@ -22,8 +24,10 @@ use Rattle.edits.specs.EffectLaws.{IsCommand}
 use Rattle.edits.specs.Plans.{is_own}
 use Rattle.edits.specs.Touched.{goes_stale}
 use Rattle.edits.proofs.AllStale.{near_itself}
+use Rattle.cow_tree.specs.Reading.{HasOnlyRead}
 use Rattle.cow_tree.specs.Stored.{StoredTile}
 use Rattle.cow_tree.specs.Trees.{disk_of, root_of, has_failed, corners_of, sinks_of, staged_in}
+use Rattle.cow_tree.specs.declared.tree.Tree.{Tree}
 use Rattle.cow_tree.proofs.ReadOnly.{never_refused}
 use Rattle.cow_tree.proofs.Steps.{on_ok}
 use Rattle.store.specs.Ended.{IsApplied}
@@ -31,19 +35,20 @@ use Rattle.store.specs.Editing.{ComesIn, IsGiven, AreTilesOf}
 use Rattle.cow_tree.specs.Uncommitted.{CommitsNothing}
 use Rattle.store.specs.PagesMet.{named_by, page_writes, pages_with}
 use Rattle.store.specs.Staling.{staled}
-use Rattle.store.proofs.Committed.{fails_before, failed_first, quiet, may_end_it}
-use Rattle.store.proofs.EditingReads.{reading, mosaic_is, readable, refused_so, risen_read, works_read, fails_read, quiet_read}
-use Rattle.store.proofs.EditingSteps.{in_memory, uncommitted_on, refused_as}
-use Rattle.store.proofs.EditingWrites.{named_written, none_named, none_written, staged_written}
-use Rattle.store.proofs.Holding.{held}
-use Rattle.store.proofs.InMemory.{is_working, worn_at}
-use Rattle.store.proofs.Keeping.{staled_held}
-use Rattle.store.proofs.Made.{made_holds}
-use Rattle.store.proofs.Querying.{still_clean, true_where}
-use Rattle.store.proofs.Staged.{none_staged}
-use Rattle.store.proofs.StoreCalls.{commanded}
-use Rattle.store.proofs.Staled.{staled_as}
-use Rattle.store.proofs.WaterHeld.{done_holding, left_by, unchanged_holding}
+use Rattle.store.specs.TreeStates.{IsInState}
+use Rattle.store.proofs.Calls.Committed.{fails_before, failed_first, quiet, may_end_it}
+use Rattle.store.proofs.Edits.EditingReads.{reading, refused_so, risen_read, works_read, fails_read, quiet_read}
+use Rattle.cow_tree.proofs.Uncommitted.{in_memory, uncommitted_on, refused_as}
+use Rattle.store.proofs.Edits.EditingWrites.{named_written, none_named, none_written, staged_written}
+use Rattle.store.proofs.Reading.Holding.{held}
+use Rattle.store.proofs.Reading.InMemory.{is_working, worn_at}
+use Rattle.store.proofs.KeptPlanes.Keeping.{staled_held}
+use Rattle.store.proofs.Calls.Made.{made_holds}
+use Rattle.store.proofs.Reading.Querying.{mosaic_at, still_clean, still_readable, true_where}
+use Rattle.store.proofs.Edits.Staged.{none_staged}
+use Rattle.store.proofs.Calls.StoreCalls.{commanded}
+use Rattle.store.proofs.Edits.Staled.{staled_as}
+use Rattle.store.proofs.Reading.WaterHeld.{done_holding, left_by, unchanged_holding}
 use Rattle.store.proofs.store.Store.apply.Goals as goal
 
 pub returns-then-has_failed-clause-call : goal.returns-then-has_failed-clause-call
@@ -91,6 +96,11 @@ returns-clause-pages g c works =
 
 -- ---- a refusal of the command's own tests, or of a read
 
+-- reading leaves the tiles and the sinks as they are stored
+still_there : {D : Type 0} (d : Ghosts D) (old new : Tree D d) → HasOnlyRead d old new → (works : has_failed old ≡ false) → d.honest (disk_of new) → (s : State) → (at : IsInState d old s)
+    → (staged_in d new ≡ (at.sound works).stored.tiles) × (sinks_of new ≡ (at.sound works).stored.sinks)
+still_there d old new keeps works honest s at = let sound = at.sound works in (keeps.staged honest ∙ sound.nothing_staged, keeps.sinks ∙ sound.none_declared)
+
 pub returns-in_err-edit-clause-call : goal.returns-in_err-edit-clause-call
 returns-in_err-edit-clause-call g c =
     let d = g.D.Disk in
@@ -115,12 +125,12 @@ returns-in_err-edit-clause-call g c =
     subst (λ (x : Refusal). IsApplied d command (Err x) old new) (sym device) (fails_before d old new command works planned read (ap (λ (x : Refusal). let e : Result Edit Refusal = Err x in e) device)))
     (λ other.
     let goes_on = quiet_read planned _ (reads.only_device works) (reads.ready works) other in
-    quiet d old new command works planned read goes_on.1 (λ honest s at. (keeps.staged honest, keeps.sinks)) r other goes_on.0 goes_on.1 (may_end_it command r is.causes) keeps.writes
+    quiet d old new command works planned read goes_on.1 (still_there d old new keeps works) r other goes_on.0 (may_end_it command r is.causes) keeps.writes
     (λ honest s at.
     refused_so (root_of old).capacity s command planned (is_working d old works s at) is.causes (reads.only_device works)
     (subst (λ (n : ℕ). IsTrue (is_own command r) → effect n s.contents.mosaic command ≡ Err r) capacity
-    (subst (λ (m : Mosaic). IsTrue (is_own command r) → effect c.capacity-capacity.result m command ≡ Err r) (mosaic_is d old new keeps works s at)
-    (is.refused (readable d old new keeps works s at honest)))) other))
+    (subst (λ (m : Mosaic). IsTrue (is_own command r) → effect c.capacity-capacity.result m command ≡ Err r) (mosaic_at d old works s at)
+    (is.refused (still_readable d old new works keeps honest s at)))) other))
     (device_or_not r))))
     (none_written (number_of (root_of old).version) (root_of old).side command (d.writes (disk_of old)) (d.writes (disk_of new)) keeps.writes) (λ had. absurd (both_ways (has_failed old) works had))
 
@@ -142,10 +152,10 @@ returns-then-number-clause-call g c =
     commanded d g.met.D.Disk.only_now c.args.self.now _ command (Err Worn)
     (unchanged_holding d old new c.args.self.now.held command (Err Worn) refl
     (quiet d old new command works planned (reading d old new keeps planned (λ refused. never_refused made Device refused) (λ refused. absurd (never_refused made Device refused)) now_works) now_works
-    (λ honest s at. (keeps.staged honest, keeps.sinks)) Worn (λ e. cc) (λ e. cc) now_works refl keeps.writes
+    (still_there d old new keeps works) Worn (λ e. cc) (λ e. cc) refl keeps.writes
     (λ honest s at. worn_at d old works s at command (edit_made made s.contents.mosaic)
     (subst (λ (n : ℕ). effect n s.contents.mosaic command ≡ Ok (edit_made made s.contents.mosaic)) capacity
-    (subst (λ (m : Mosaic). effect c.capacity-capacity.result m command ≡ Ok (edit_made made m)) (mosaic_is d old new keeps works s at) (is.made (readable d old new keeps works s at honest))))
+    (subst (λ (m : Mosaic). effect c.capacity-capacity.result m command ≡ Ok (edit_made made m)) (mosaic_at d old works s at) (is.made (still_readable d old new works keeps honest s at))))
     (sym (ap (λ (r : RootValue). r.number) (c.current-2.ensures ∙ keeps.root)) ∙ sym c.number.ensures ∙ c.if-number.true))))
     (none_written (number_of (root_of old).version) (root_of old).side command (d.writes (disk_of old)) (d.writes (disk_of new)) keeps.writes) (λ had. absurd (both_ways (has_failed old) works had))
 
@@ -213,12 +223,12 @@ returns-clause-call g c =
     (λ honest s at right.
     let sound = at.sound works in
     let m : Mosaic = s.contents.mosaic in
-    let planned_honest = subst d.honest marks.no_call.disk (stages.uncommitted.honest (c.commit_staged.ensures.honest honest)) in
-    let same_m = mosaic_is d old planned keeps works s at in
+    let planned_honest = subst d.honest marks.no_call.disk (stages.uncommitted.returns.honest (c.commit_staged.ensures.honest honest)) in
+    let same_m = mosaic_at d old works s at in
     let makes : effect (root_of old).capacity m command ≡ Ok (edit_made made m) =
     subst (λ (n : ℕ). effect n m command ≡ Ok (edit_made made m)) capacity
-    (subst (λ (x : Mosaic). effect c.capacity-capacity.result x command ≡ Ok (edit_made made x)) same_m (is.made (readable d old planned keeps works s at planned_honest))) in
-    let tells : TellsHeights m made = subst (λ (x : Mosaic). TellsHeights x made) same_m (is.heights (readable d old planned keeps works s at planned_honest)) in
+    (subst (λ (x : Mosaic). effect c.capacity-capacity.result x command ≡ Ok (edit_made made x)) same_m (is.made (still_readable d old planned works keeps planned_honest s at))) in
+    let tells : TellsHeights m made = subst (λ (x : Mosaic). TellsHeights x made) same_m (is.heights (still_readable d old planned works keeps planned_honest s at)) in
     left_by (root_of old).capacity m command result c.invalidate_edit.new.held (c.invalidate_edit.ensures.still m sound.holds.valid right)
     (λ x is_x. subst (λ (y : Mosaic). IsHeldOf y c.invalidate_edit.new.held) (same_made (edit_made made m) x (sym makes ∙ is_x)) (c.invalidate_edit.ensures.changed m sound.holds.valid tells right)))
     (c.commit_staged.ensures.command old command (record {
@@ -228,10 +238,10 @@ returns-clause-call g c =
       next = λ honest s at.
           let sound = at.sound works in
           let m : Mosaic = s.contents.mosaic in
-          let marked_honest = stages.uncommitted.honest honest in
+          let marked_honest = stages.uncommitted.returns.honest honest in
           let planned_honest = subst d.honest marks.no_call.disk marked_honest in
-          let sure = readable d old planned keeps works s at planned_honest in
-          let same_m = mosaic_is d old planned keeps works s at in
+          let sure = still_readable d old planned works keeps planned_honest s at in
+          let same_m = mosaic_at d old works s at in
           let root : root_of marked ≡ root_of old = marks.no_call.root ∙ keeps.root in
           let side : (root_of marked).side ≡ (root_of old).side = ap (λ (r : RootValue). r.side) root in
           let makes : effect (root_of old).capacity m command ≡ Ok (edit_made made m) =

@@ -1,7 +1,7 @@
 use Rattle.std.proofs.Common.{◌≡◌, false, sym, ◌∙◌, subst}
 use Rattle.page_codec.specs.Roots.{RootValue, IsRoot}
 use Rattle.cow_tree.specs.Trees.{corners_of, has_failed}
-use Rattle.store.proofs.AskedTrees.{few_tiles}
+use Rattle.store.proofs.Reading.AskedTrees.{few_tiles}
 use Rattle.store.proofs.store.Store.check_working.Goals as goal
 
 pub returns-clause-few : goal.returns-clause-few

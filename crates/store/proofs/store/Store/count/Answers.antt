@@ -1,6 +1,6 @@
 use Rattle.std.proofs.Common.{ap, ◌∙◌}
 use Rattle.page_codec.specs.Roots.{RootValue}
-use Rattle.store.proofs.StoreCalls.{counts}
+use Rattle.store.proofs.Calls.StoreCalls.{counts}
 use Rattle.store.proofs.store.Store.count.Goals as goal
 
 pub returns-clause-call : goal.returns-clause-call

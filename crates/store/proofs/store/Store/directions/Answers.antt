@@ -1,8 +1,7 @@
 use Rattle.std.proofs.Common.{refl}
 use Rattle.engine.proofs.Questions.{directions_asked}
-use Rattle.store.proofs.AskedTrees.{no_tile}
-use Rattle.store.proofs.Querying.{right_at}
-use Rattle.store.proofs.StoreCalls.{asked, denied}
+use Rattle.store.proofs.Reading.AskedTrees.{no_tile, water_asked}
+use Rattle.store.proofs.Calls.StoreCalls.{denied}
 use Rattle.store.proofs.store.Store.directions.Goals as goal
 
 pub returns-in_err-check_working-clause-call : goal.returns-in_err-check_working-clause-call
@@ -15,8 +14,4 @@ returns-in_err-check_present-clause-call g c =
     c.from_residual-in_err-check_present.result c.in_err-check_present.field-0.0 c.from_residual-in_err-check_present.ensures.1 c.in_err-check_present.ensures.refused
 
 pub returns-clause-call : goal.returns-clause-call
-returns-clause-call g c =
-    let old = c.args.self.now in
-    let is = c.ask_directions.ensures in
-    asked g.D.Disk old _ (directions_asked c.args.corner) c.ask_directions.result is.causes is.asked.reads
-    (λ honest s at. is.asked.outcome (right_at g.D.Disk old.tree c.in_ok-check_working.ensures.works s at.in_state old.held at.right) honest s at)
+returns-clause-call g c = let is = c.ask_directions.ensures in water_asked g.D.Disk c.args.self.now _ (directions_asked c.args.corner) c.ask_directions.result is.causes c.in_ok-check_working.ensures.works is.asked

@@ -9,8 +9,8 @@ use Rattle.engine.specs.State.{State}
 use Rattle.engine.specs.declared.event.Event.TheVariants as ask
 use Rattle.engine.proofs.Questions.{elevation_asked}
 use Rattle.store.specs.Queried.{IsQueried}
-use Rattle.store.proofs.Querying.{mosaic_at, stays_at, still_clean, still_readable, fails_so, answered, queried_by_disk, risen_for}
-use Rattle.store.proofs.StoreCalls.{asked, denied, only_device_may}
+use Rattle.store.proofs.Reading.Querying.{mosaic_at, stays_at, still_clean, still_readable, fails_so, answered, queried_by_disk, risen_for}
+use Rattle.store.proofs.Calls.StoreCalls.{asked, denied, only_device_may}
 use Rattle.store.proofs.store.Store.elevation.Goals as goal
 
 pub invariant_of-self : goal.invariant_of-self

@@ -8,11 +8,11 @@ use Rattle.engine.proofs.Questions.{export_asked}
 use Rattle.page_map.proofs.Lookup.{tile_at_corner}
 use Rattle.cow_tree.proofs.ReadOnly.{never_refused}
 use Rattle.store.specs.Queried.{IsQueried}
-use Rattle.store.proofs.EditingSteps.{refused_as}
-use Rattle.store.proofs.Querying.{queried_by_disk, stays_at, still_clean, still_at, failing_at, fails_so}
-use Rattle.store.proofs.AskedTrees.{no_tile}
-use Rattle.store.proofs.QueryingPages.{tile, tile_of, exported}
-use Rattle.store.proofs.StoreCalls.{asked, asked_in_vain, denied, refused_it}
+use Rattle.cow_tree.proofs.Uncommitted.{refused_as}
+use Rattle.store.proofs.Reading.Querying.{queried_by_disk, stays_at, still_clean, still_at, failing_at, fails_so}
+use Rattle.store.proofs.Reading.AskedTrees.{no_tile}
+use Rattle.store.proofs.Reading.QueryingPages.{tile, tile_of, exported}
+use Rattle.store.proofs.Calls.StoreCalls.{asked, asked_in_vain, denied, refused_it}
 use Rattle.store.proofs.store.Store.export.Goals as goal
 
 pub returns-in_err-check_working-clause-call : goal.returns-in_err-check_working-clause-call

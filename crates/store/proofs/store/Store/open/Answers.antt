@@ -1,6 +1,6 @@
 use Rattle.std.proofs.Common.{⊎_elim}
-use Rattle.store.proofs.Opened.{in_one, refused_for, found_one}
-use Rattle.store.proofs.WaterHeld.{one_holding}
+use Rattle.store.proofs.Calls.Opened.{in_one, refused_for, found_one}
+use Rattle.store.proofs.Reading.WaterHeld.{one_holding}
 use Rattle.store.proofs.store.Store.open.Goals as goal
 
 pub returns-in-Err-clause-sure : goal.returns-in-Err-clause-sure

@@ -1,16 +1,15 @@
-use Rattle.std.proofs.Common.{◌≡◌, true, ⊎_elim, ap, Result, Ok, Err, OnErr, IfErr}
+use Rattle.std.proofs.Common.{◌≡◌, true, ⊎_elim, refl, ap, Result, Ok, Err, OnErr, IfErr}
 use Rattle.std.proofs.lemmas.Result.{IfErr-weaker}
 use Rattle.lattice.specs.declared.refusal.Refusal.{Refusal}
 use Rattle.page_codec.specs.Roots.{RootValue}
 use Rattle.engine.specs.State.{State}
-use Rattle.cow_tree.specs.Stored.{Stored}
-use Rattle.cow_tree.specs.Trees.{disk_of, root_of, has_failed, sinks_of, staged_in, IsAt as IsTreeAt}
+use Rattle.cow_tree.specs.Trees.{root_of, has_failed}
 use Rattle.cow_tree.proofs.Steps.{ok_where_works, either_way, on_ok_both}
 use Rattle.store.specs.Stores.{IsAt}
-use Rattle.store.proofs.Opened.{in_known, sized_as_known, refused_for}
-use Rattle.store.proofs.Reopening.{reopened}
-use Rattle.store.proofs.States.{stays_failed}
-use Rattle.store.proofs.WaterHeld.{known_holding}
+use Rattle.store.proofs.Calls.Opened.{in_known, sized_as_known, refused_for}
+use Rattle.store.proofs.Calls.Reopening.{reopened}
+use Rattle.store.proofs.Calls.States.{fails_in}
+use Rattle.store.proofs.Reading.WaterHeld.{known_holding}
 use Rattle.store.proofs.store.Store.reopen.Goals as goal
 
 pub invariant_of-self : goal.invariant_of-self
@@ -43,8 +42,7 @@ returns-clause-call g c =
     (λ honest s at.
     on_err result (has_failed new ≡ true) (root_of new ≡ root_of old) does.failed does.last_known
     (λ fails same. record {
-      in_state = stays_failed d (disk_of old) (disk_of new) does.size (does.nothing honest).run.now (root_of old) (root_of new) same (has_failed old) (has_failed new) (λ (stored : Stored). IsTreeAt d old stored)
-          (λ (stored : Stored). IsTreeAt d new stored) (staged_in d old) (staged_in d new) (sinks_of old) (sinks_of new) s at.in_state fails;
+      in_state = fails_in d old new same does.size s at.in_state fails (record s { failed = true }) refl refl (λ image may. at.in_state.images image ((does.nothing honest).run.now image may));
       right = c.invalidate.ensures s.contents.mosaic;
     }))
     (λ honest s at.

@@ -10,7 +10,7 @@ use Rattle.engine.proofs.Chains.{asked_more, last_more, step_more}
 use Rattle.store.specs.Calls.{Runs}
 use Rattle.store.specs.StoreState.{members}
 use Rattle.store.specs.declared.store.Store.{Store}
-use Rattle.store.proofs.Runs.{ran, size_then, later_then, honest_then}
+use Rattle.store.proofs.Calls.Runs.{ran, known_then}
 use Rattle.store.proofs.store.Store.run.Goals as goal
 
 with_none : (xs ys : List Reply) → xs ≡ ys → xs ≡ ys ++ []
@@ -66,19 +66,10 @@ returns-clause-ran g c =
     (so_far.0, so_far.1.0, all_run g.D.Disk g.met.D.Disk.only_now c.args.self.now l.self c.args.events.now l.event-index so_far.0 c.loop-event-test.false so_far.1.1)
 
 pub returns-clause-size : goal.returns-clause-size
-returns-clause-size g c =
-    let l = c.loop-event in
-    let so_far = l.invariant.1 in
-    size_then g.D.Disk c.args.self.now l.self c.args.events.now so_far.0 (all_run g.D.Disk g.met.D.Disk.only_now c.args.self.now l.self c.args.events.now l.event-index so_far.0 c.loop-event-test.false so_far.1.1)
+returns-clause-size g c = let l = c.loop-event in let so_far = l.invariant.1 in (known_then g.D.Disk c.args.self.now l.self c.args.events.now so_far.0 (all_run g.D.Disk g.met.D.Disk.only_now c.args.self.now l.self c.args.events.now l.event-index so_far.0 c.loop-event-test.false so_far.1.1)).0
 
 pub returns-clause-later : goal.returns-clause-later
-returns-clause-later g c =
-    let l = c.loop-event in
-    let so_far = l.invariant.1 in
-    later_then g.D.Disk c.args.self.now l.self c.args.events.now so_far.0 (all_run g.D.Disk g.met.D.Disk.only_now c.args.self.now l.self c.args.events.now l.event-index so_far.0 c.loop-event-test.false so_far.1.1)
+returns-clause-later g c = let l = c.loop-event in let so_far = l.invariant.1 in (known_then g.D.Disk c.args.self.now l.self c.args.events.now so_far.0 (all_run g.D.Disk g.met.D.Disk.only_now c.args.self.now l.self c.args.events.now l.event-index so_far.0 c.loop-event-test.false so_far.1.1)).1
 
 pub returns-clause-honest : goal.returns-clause-honest
-returns-clause-honest g c =
-    let l = c.loop-event in
-    let so_far = l.invariant.1 in
-    honest_then g.D.Disk c.args.self.now l.self c.args.events.now so_far.0 (all_run g.D.Disk g.met.D.Disk.only_now c.args.self.now l.self c.args.events.now l.event-index so_far.0 c.loop-event-test.false so_far.1.1)
+returns-clause-honest g c = let l = c.loop-event in let so_far = l.invariant.1 in (known_then g.D.Disk c.args.self.now l.self c.args.events.now so_far.0 (all_run g.D.Disk g.met.D.Disk.only_now c.args.self.now l.self c.args.events.now l.event-index so_far.0 c.loop-event-test.false so_far.1.1)).2

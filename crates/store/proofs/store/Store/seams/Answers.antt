@@ -5,7 +5,7 @@ use Rattle.lattice.specs.declared.refusal.Refusal.{Refusal}
 use Rattle.catalogue.specs.Seams.{IsSeamCount}
 use Rattle.engine.specs.State.{State}
 use Rattle.store.specs.Queried.{CountsSeams}
-use Rattle.store.proofs.Querying.{mosaic_at, stays_at, still_clean, still_readable, fails_so, answered}
+use Rattle.store.proofs.Reading.Querying.{mosaic_at, stays_at, still_clean, still_readable, fails_so, answered}
 use Rattle.store.proofs.store.Store.seams.Goals as goal
 
 pub invariant_of-self : goal.invariant_of-self

@@ -8,9 +8,9 @@ use Rattle.engine.specs.declared.event.Event.TheVariants as ask
 use Rattle.engine.specs.declared.event.Reply.TheVariants as reply
 use Rattle.engine.proofs.Questions.{sinks_asked}
 use Rattle.store.specs.StoreState.{members}
-use Rattle.store.proofs.EditingSteps.{refused_as}
-use Rattle.store.proofs.Querying.{stays_at}
-use Rattle.store.proofs.StoreCalls.{denied, refused_it, told_it}
+use Rattle.cow_tree.proofs.Uncommitted.{refused_as}
+use Rattle.store.proofs.Reading.Querying.{stays_at}
+use Rattle.store.proofs.Calls.StoreCalls.{denied, refused_it, told_it}
 use Rattle.store.proofs.store.Store.sinks.Goals as goal
 
 pub returns-in_err-check_working : goal.returns-in_err-check_working

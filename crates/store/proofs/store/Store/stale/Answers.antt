@@ -2,9 +2,9 @@ use Rattle.std.proofs.Common.{List, sym, ap, ◌∙◌, subst, Contains}
 use Rattle.lattice.specs.Corners.{Corner}
 use Rattle.catalogue.specs.Tiles.{is_listed}
 use Rattle.cow_tree.specs.Trees.{root_of}
-use Rattle.store.proofs.HeldTiles.{corners_held}
-use Rattle.store.proofs.Holding.{held}
-use Rattle.store.proofs.SteppedTiles.{stored_mosaic, stored_right}
+use Rattle.store.proofs.Reading.HeldTiles.{corners_held}
+use Rattle.store.proofs.Reading.Holding.{held}
+use Rattle.store.proofs.KeptPlanes.SteppedTiles.{stored_mosaic, stored_right}
 use Rattle.store.proofs.store.Store.stale.Goals as goal
 
 pub returns-clause-state : goal.returns-clause-state

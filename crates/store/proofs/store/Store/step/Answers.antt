@@ -1,8 +1,6 @@
 use Rattle.std.proofs.Common.{◌≡◌, ◌≤◌, ◌+◌, ◌*◌, if◌then◌else◌, refl, ap, ◌∙◌, subst, IsTrue, None, Option, Result, Ok, IfOk, nat_eq}
 use Rattle.std.specs.Option.{is_none}
 use Rattle.lattice.specs.Corners.{Corner}
-use Rattle.lattice.specs.Mosaic.{Mosaic}
-use Rattle.drainage.specs.Between.{IsHeldOf}
 use Rattle.lattice.specs.declared.refusal.Refusal.{Refusal}
 use Rattle.page_codec.specs.Formats.{number_of}
 use Rattle.page_codec.specs.Sizes.{index_pages_by, pages_of}
@@ -13,11 +11,8 @@ use Rattle.engine.specs.declared.event.Reply.TheVariants as reply
 use Rattle.engine.proofs.Questions.{step_answered}
 use Rattle.cow_tree.specs.Trees.{disk_of, root_of, has_failed}
 use Rattle.cow_tree.specs.declared.tree.Tree.{Tree}
-use Rattle.engine.specs.State.{State}
-use Rattle.store.specs.Water.{IsHolding}
-use Rattle.store.proofs.StoreCalls.{ended}
-use Rattle.store.proofs.SteppedTrees.{stepped_by}
-use Rattle.store.proofs.WaterHeld.{stepped_holding}
+use Rattle.store.proofs.Calls.StoreCalls.{ended}
+use Rattle.store.proofs.Reading.WaterHeld.{stepped_holding}
 use Rattle.store.proofs.store.Store.step.Goals as goal
 
 by_number : (v : Version) → v ≡ (if nat_eq (number_of v) 1 then One else Two)
@@ -30,22 +25,20 @@ returns-clause-call g c =
     let old = c.args.self.now.tree in
     let new = c.step_tree.new.tree in
     let failed = c.step_tree.ensures.failed in
-    ended d g.met.D.Disk.only_now c.args.self.now _ ask.Step reply.Stepped step_answered is_none c.step_tree.result
-    (stepped_holding d old new c.args.self.now.held c.step_tree.result (stepped_by d g.met.D.Disk.seen_may (λ (m : Mosaic). IsHeldOf m c.args.self.now.held) (λ (s : State). IsHolding d old c.args.self.now.held s) old new (λ s at. (at.in_state, at.right)) c.step_tree.result failed c.step_tree.ensures.stepped))
+    ended d g.met.D.Disk.only_now c.args.self.now _ ask.Step reply.Stepped step_answered is_none c.step_tree.result (stepped_holding d old new c.args.self.now.held c.step_tree.result c.step_tree.ensures.stepped)
     (subst (λ (v : Version). d.writes (disk_of new) ≤ d.writes (disk_of old) + (2 * (1 + index_pages_by v (pages_of (root_of old).side) + pages_of (root_of old).side) + 3)) (by_number (root_of old).version) c.step_tree.ensures.writes)
     (λ fails. ((failed fails).0, (ap (λ (t : Tree _ d). disk_of t) (failed fails).1, ap (λ (t : Tree _ d). has_failed t) (failed fails).1 ∙ fails)))
 
 pub returns-clause-last_known : goal.returns-clause-last_known
-returns-clause-last_known g c = (stepped_by g.D.Disk g.met.D.Disk.seen_may (λ (m : Mosaic). IsHeldOf m c.args.self.now.held) (λ (s : State). IsHolding g.D.Disk c.args.self.now.tree c.args.self.now.held s) c.args.self.now.tree c.step_tree.new.tree (λ s at. (at.in_state, at.right)) c.step_tree.result c.step_tree.ensures.failed c.step_tree.ensures.stepped).last_known
+returns-clause-last_known g c = c.step_tree.ensures.stepped.last_known
 
 pub returns-clause-idle : goal.returns-clause-idle
 returns-clause-idle g c none =
     let d = g.D.Disk in
     let old = c.args.self.now.tree in
     let new = c.step_tree.new.tree in
-    let is = stepped_by d g.met.D.Disk.seen_may (λ (m : Mosaic). IsHeldOf m c.args.self.now.held) (λ (s : State). IsHolding d old c.args.self.now.held s) old new (λ s at. (at.in_state, at.right)) c.step_tree.result c.step_tree.ensures.failed c.step_tree.ensures.stepped in
     let so : IfOk {E = Refusal} (Ok None) (λ (tile : Option Corner). IsTrue (is_none tile) → d.writes (disk_of new) ≡ d.writes (disk_of old)) =
-    subst (λ (answer : Result (Option Corner) Refusal). IfOk answer (λ tile. IsTrue (is_none tile) → d.writes (disk_of new) ≡ d.writes (disk_of old))) none is.idle in
+    subst (λ (answer : Result (Option Corner) Refusal). IfOk answer (λ tile. IsTrue (is_none tile) → d.writes (disk_of new) ≡ d.writes (disk_of old))) none c.step_tree.ensures.stepped.idle in
     so refl
 
 pub returns-clause-failed : goal.returns-clause-failed

@@ -4,9 +4,9 @@ use Rattle.lattice.specs.declared.refusal.Refusal.TheVariants.{NoMemory}
 use Rattle.page_codec.specs.Entries.{EntryValue}
 use Rattle.page_codec.specs.Roots.{RootValue}
 use Rattle.engine.proofs.Questions.{tiles_asked}
-use Rattle.store.proofs.InMemory.{corners_are}
-use Rattle.store.proofs.Querying.{stays_at}
-use Rattle.store.proofs.StoreCalls.{denied, refused_it, told_it}
+use Rattle.store.proofs.Reading.InMemory.{corners_are}
+use Rattle.store.proofs.Reading.Querying.{stays_at}
+use Rattle.store.proofs.Calls.StoreCalls.{denied, refused_it, told_it}
 use Rattle.store.proofs.store.Store.tiles.Goals as goal
 
 pub returns-in_err-check_working : goal.returns-in_err-check_working

@@ -1,6 +1,6 @@
 use Rattle.std.proofs.Common.{map}
 use Rattle.store.specs.declared.rims.RimVoids.{RimVoids}
-use Rattle.store.proofs.Patched.{fills_leave}
+use Rattle.store.proofs.Edits.Patched.{fills_leave}
 use Rattle.store.proofs.voids.VoidFillsPageEdit.next_page.Goals as goal
 
 pub returns-in_err-rim_of-clause-leaves : goal.returns-in_err-rim_of-clause-leaves

@@ -1,0 +1,9 @@
+pub mod Planes
+pub mod Staging
+pub mod WrittenPages
+pub mod PageWrites
+pub mod PlaneWrites
+pub mod TileWrites
+pub mod Dropping
+pub mod KeptDrops
+pub mod KeptStaging

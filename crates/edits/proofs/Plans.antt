@@ -1,0 +1,4 @@
+pub mod Once
+pub mod Planned
+pub mod Setting
+pub mod VoidsPut

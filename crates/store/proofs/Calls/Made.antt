@@ -1,0 +1,63 @@
+-- What an edit makes of the mosaic, once it is staged.
+use Rattle.std.proofs.Common.{◌≡◌, inl, inr, ⊎_elim, ℕ, true, false, List, not, refl, sym, ap, ◌∙◌, subst, None, Ok}
+use Rattle.disk.specs.declared.disk.Disk.{Ghosts}
+use Rattle.lattice.specs.Corners.{Corner, same_corner}
+use Rattle.lattice.specs.Mosaic.{Mosaic, IsMosaic}
+use Rattle.lattice.specs.declared.point.Point.{Point}
+use Rattle.catalogue.specs.Tiles.{with_sinks}
+use Rattle.edits.specs.declared.command.Command.{Command}
+use Rattle.edits.specs.declared.edit.Edit.{Edit}
+use Rattle.edits.specs.Edits.{edit_made}
+use Rattle.edits.specs.Effect.{effect}
+use Rattle.edits.specs.Touched.{goes_stale}
+use Rattle.engine.specs.State.{State}
+use Rattle.cow_tree.specs.Stored.{StoredTile, with_tile, without_tile}
+use Rattle.cow_tree.specs.Trees.{root_of, has_failed, sinks_of, staged_in}
+use Rattle.cow_tree.specs.declared.tree.Tree.{Tree}
+use Rattle.store.specs.Editing.{ComesIn, IsMade, KeepsBut, AreTilesOf}
+use Rattle.store.specs.Staging.{WillHold}
+use Rattle.store.specs.Staling.{staled, keepers, KeepFresh}
+use Rattle.store.specs.TreeStates.{IsInState}
+use Rattle.store.proofs.Reading.Holding.{holds_with}
+use Rattle.store.proofs.KeptPlanes.Keeping.{contains_left, found_keeper, found_with, keep_but, staled_keep}
+
+-- ---- what tiles keep
+
+pub kept_as : (made : Edit) (was now : List StoredTile) → keepers now ≡ keepers was → KeepsBut made was now
+kept_as made was now same t there = inr (found_keeper now was t same there)
+
+pub kept_left : (made : Edit) (c : Corner) (tiles : List StoredTile) → KeepsBut made tiles (without_tile c tiles)
+kept_left made c tiles t there = inr (t, (contains_left (λ u. not (same_corner u.corner c)) tiles t there, (refl, refl)))
+
+pub kept_with : (made : Edit) (new : StoredTile) (tiles : List StoredTile) → ComesIn made new.corner → new.kept ≡ None → KeepsBut made tiles (with_tile new tiles)
+kept_with made new tiles comes none t there =
+    ⊎_elim
+    (λ is. inl (subst (λ (x : StoredTile). ComesIn made x.corner) is comes, ap (λ (x : StoredTile). x.kept) (sym is) ∙ none))
+    (λ among. inr (t, (among, (refl, refl))))
+    (found_with new tiles t there)
+
+-- ---- what the tiles are
+
+pub with_others : (n : ℕ) (tiles : List StoredTile) (m : Mosaic) (sinks : List Point) → AreTilesOf n tiles m → AreTilesOf n tiles (with_sinks sinks m)
+with_others n tiles m sinks are = record { mosaic = ap (with_sinks sinks) are.mosaic; filled = are.filled }
+
+-- ---- the next commit holds it
+
+module _ {D : Type 0} (g : Ghosts D) (old marked mid : Tree D g) (works : has_failed old ≡ false) (command : Command) (s : State) (at : IsInState g old s) (made : Edit) where
+  abbrev m : Mosaic
+  m = s.contents.mosaic
+
+  pub made_holds : effect (root_of old).capacity m command ≡ Ok (edit_made made m) → IsMosaic (edit_made made m) → (root_of marked).side ≡ (root_of old).side
+      → staged_in g marked ≡ staled (goes_stale m command) (at.sound works).stored.tiles → ((c : Corner) → ComesIn made c → goes_stale m command c ≡ true) → IsMade g made m marked mid
+      → WillHold g old mid command s (at.sound works).stored
+  made_holds makes valid side staged stale is =
+      let sound = at.sound works in
+      record {
+        made = edit_made made m;
+        makes = makes;
+        will = holds_with (root_of old).side (root_of old).capacity sound.stored s.contents command (edit_made made m) (sinks_of mid) (staged_in g mid) sound.holds makes is.sinks valid
+            (subst (λ (n : ℕ). AreTilesOf n (staged_in g mid) (edit_made made m)) side is.tiles)
+            (keep_but m command sound.stored.tiles made (staged_in g marked) (staged_in g mid) stale
+            (subst (KeepFresh m command sound.stored.tiles) (sym staged) (staled_keep m command sound.stored.tiles sound.stored.tiles (λ t there. there)))
+            is.kept);
+      }

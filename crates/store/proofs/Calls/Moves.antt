@@ -1,0 +1,333 @@
+-- What a call of a store leaves of what was accepted: a stop inside it finds the contents before it or after it.
+use Rattle.std.proofs.Common.{◌≡◌, ◌⊎◌, inl, inr, ⊎_elim, ℕ, Bool, true, false, true≢false, [], ◌∷◌, ◌++◌, refl, sym, ap, ◌∙◌, subst}
+use Rattle.std.specs.Prelude.{Result, Ok, Err, Some, None, Option, unwrap_or, nat_lt, if◌then◌else◌, IsFalse}
+use Rattle.lattice.specs.Corners.{Corner}
+use Rattle.lattice.specs.Mosaic.{Mosaic}
+use Rattle.lattice.specs.declared.point.Point.{Point}
+use Rattle.lattice.specs.declared.refusal.Refusal.{Refusal}
+use Rattle.lattice.specs.declared.refusal.Refusal.TheVariants.{NoTile, Outside, Void, Device, NoMemory, Failed, Worn, TooSmall, NotOld}
+use Rattle.edits.specs.declared.command.Command.{Command}
+use Rattle.edits.specs.Effect.{effect}
+use Rattle.engine.specs.State.{Contents, State, working, failing, made_by, would_make, if_numbered, in_doubt, last_number}
+use Rattle.engine.specs.Outcomes.{Fails, AppliesNot, ElevatesNot, ExportsNot, ListsNot, AnswersNot}
+use Rattle.engine.specs.Steps.{Commits, stepped, step_in_doubt, StepsNot, Steps, upgraded, Upgrades, UpgradesNot}
+use Rattle.engine.specs.Events.{Happens, Reopens, ReopensNot}
+use Rattle.engine.specs.declared.event.Event.{Event}
+use Rattle.engine.specs.declared.event.Event.TheVariants as ask
+use Rattle.engine.specs.declared.event.Reply.{Reply}
+use Rattle.engine.specs.declared.event.Reply.TheVariants as reply
+use Rattle.store.specs.Queried.{CountsSeams}
+use Rattle.store.specs.Accepted.{Since, none_asked, done_too, doubted_too, ComesBy, IsMadeOf}
+use Rattle.store.specs.Sessions.{Call, Asked, Upgraded, CountedSeams, known_by, known_without}
+use Rattle.store.proofs.Calls.AcceptedInTurn.{by_none, as_well, one_more, still_doubted}
+
+-- the contents are those of the state, or of its commit in doubt
+abbrev pub MayHold : State → Contents → Type 0
+MayHold s c = (c ≡ s.contents) ⊎ (s.doubt ≡ Some c)
+
+abbrev pub second_of : State → Contents
+second_of s = unwrap_or s.doubt s.contents
+
+-- what a state may hold is one of two contents
+pub one_of_two : (s : State) (c : Contents) → MayHold s c → (c ≡ s.contents) ⊎ (c ≡ second_of s)
+one_of_two s c (inl is) = inl is
+one_of_two s c (inr is) = inr (sym (ap (λ (d : Option Contents). unwrap_or d s.contents) is))
+
+pub second_held : (s : State) → MayHold s (second_of s)
+second_held s = by s.doubt refl
+  where
+    by : (doubt : Option Contents) → s.doubt ≡ doubt → MayHold s (unwrap_or doubt s.contents)
+    by (Some d) is = inr is
+    by None is = inl refl
+
+pub not_some : (c : Contents) → ◌≡◌ {A = Option Contents} None (Some c) → ⊥
+not_some c is = cc is
+
+module _ (capacity : ℕ) where
+  -- What is known of a state, since an opening found these contents: what it knows comes by what was done, what is in doubt
+  -- is made of what was accepted, and neither is in doubt until the disk failed.
+  pub record Knows (found : Contents) (since : Since) (s : State) : Type 0 where
+    pub known : ComesBy capacity found since.done s.contents
+    pub doubted : (d : Contents) → s.doubt ≡ Some d → IsMadeOf capacity found since d
+    pub sober : s.failed ≡ false → (s.doubt ≡ None) × (since.doubt ≡ None)
+
+  -- the disk was opened again
+  abbrev pub IsFoundAgain : Contents → Since → State → Type 0
+  IsFoundAgain found since t = (e : Contents) × IsMadeOf capacity found since e × (t ≡ working e)
+
+  -- From the one state to the other, of which this is known then; and what a stop inside the call finds is one of two
+  -- contents, each made of what was accepted, as is known without an answer.
+  pub record Moves (found : Contents) (without : Since) (Then : State → Type 0) (s t : State) : Type 0 where
+    pub next : Then t
+    pub one : Contents
+    pub other : Contents
+    pub either : (c : Contents) → MayHold s c ⊎ MayHold t c → (c ≡ one) ⊎ (c ≡ other)
+    pub one_made : IsMadeOf capacity found without one
+    pub other_made : IsMadeOf capacity found without other
+
+  -- what a state may hold is made of what was accepted
+  pub held_made : (found : Contents) (since : Since) (s : State) → Knows found since s → (c : Contents) → MayHold s c → IsMadeOf capacity found since c
+  held_made found since s knows c (inl same) = subst (λ (x : Contents). IsMadeOf capacity found since x) (sym same) (since.done, inl refl, knows.known)
+  held_made found since s knows c (inr is) = knows.doubted c is
+
+  -- as an opening finds it
+  pub known_first : (e : Contents) → Knows e none_asked (working e)
+  known_first e = record { known = by_none capacity e; doubted = λ d is. absurd (not_some d is); sober = λ works. (refl, refl) }
+
+  module _ (found : Contents) (since without : Since) (s : State) (knows : Knows found since s) (more : (c : Contents) → IsMadeOf capacity found since c → IsMadeOf capacity found without c) where
+    -- what is held then was held before
+    at_most : (Then : State → Type 0) (t : State) → Then t → ((c : Contents) → MayHold t c → MayHold s c) → Moves found without Then s t
+    at_most Then t is held = record {
+      next = is;
+      one = s.contents;
+      other = second_of s;
+      either = λ c. ⊎_elim (λ before. one_of_two s c before) (λ after. one_of_two s c (held c after));
+      one_made = more s.contents (held_made found since s knows s.contents (inl refl));
+      other_made = more (second_of s) (held_made found since s knows (second_of s) (second_held s));
+    }
+
+    pub stays : (t : State) → t ≡ s → Moves found without (Knows found since) s t
+    stays t same = subst (λ (u : State). Moves found without (Knows found since) s u) (sym same) (at_most (Knows found since) s knows (λ c may. may))
+
+    pub opened_again : (t : State) (e : Contents) → MayHold s e → t ≡ working e → Moves found without (IsFoundAgain found since) s t
+    opened_again t e held is = subst (λ (u : State). Moves found without (IsFoundAgain found since) s u) (sym is)
+        (at_most (IsFoundAgain found since) (working e) (e, held_made found since s knows e held, refl)
+        (λ c. ⊎_elim (λ same. subst (λ (x : Contents). MayHold s x) (sym same) held) (λ doubt. absurd (not_some c doubt))))
+
+    pub not_opened : (t : State) → t ≡ record s { failed = true } → Moves found without (Knows found since) s t
+    not_opened t is = subst (λ (u : State). Moves found without (Knows found since) s u) (sym is)
+        (at_most (Knows found since) (record s { failed = true }) (record { known = knows.known; doubted = knows.doubted; sober = λ failed. absurd (true≢false failed) }) (λ c may. may))
+
+    -- ---- a commit was made, or is in doubt
+
+    module _ (works : IsFalse s.failed) where
+      no_doubt : (c : Contents) → MayHold s c → c ≡ s.contents
+      no_doubt c (inl same) = same
+      no_doubt c (inr doubt) = absurd (not_some c (sym (knows.sober works).0 ∙ doubt))
+
+      now_made : IsMadeOf capacity found without s.contents
+      now_made = more s.contents (held_made found since s knows s.contents (inl refl))
+
+      pub fails : (after : Since) → ComesBy capacity found after.done s.contents → (t : State) (doubt : Option Contents) → t ≡ failing s doubt
+          → ((c : Contents) → doubt ≡ Some c → IsMadeOf capacity found after c × IsMadeOf capacity found without c) → Moves found without (Knows found after) s t
+      fails after comes t doubt is made = subst (λ (u : State). Moves found without (Knows found after) s u) (sym is) (by doubt made)
+        where
+          next : (doubt : Option Contents) → ((c : Contents) → doubt ≡ Some c → IsMadeOf capacity found after c × IsMadeOf capacity found without c) → Knows found after (failing s doubt)
+          next doubt made = record { known = comes; doubted = λ d some. (made d some).0; sober = λ failed. absurd (true≢false failed) }
+
+          by : (doubt : Option Contents) → ((c : Contents) → doubt ≡ Some c → IsMadeOf capacity found after c × IsMadeOf capacity found without c) → Moves found without (Knows found after) s (failing s doubt)
+          by None made = record {
+            next = next None made;
+            one = s.contents;
+            other = s.contents;
+            either = λ c. ⊎_elim (λ before. inl (no_doubt c before)) (λ after. inl (⊎_elim (λ same. same) (λ none. absurd (not_some c none)) after));
+            one_made = now_made;
+            other_made = now_made;
+          }
+          by (Some d) made = record {
+            next = next (Some d) made;
+            one = s.contents;
+            other = d;
+            either = λ c. ⊎_elim (λ before. inl (no_doubt c before)) (λ after. ⊎_elim (λ same. inl same) (λ some. inr (let same : d ≡ c = cc some in sym same)) after);
+            one_made = now_made;
+            other_made = (made d refl).1;
+          }
+
+      pub commits : (after : Since) (t : State) (c : Contents) → t ≡ record s { contents = c } → ComesBy capacity found after.done c → after.doubt ≡ since.doubt → IsMadeOf capacity found without c
+          → Moves found without (Knows found after) s t
+      commits after t c is comes same_doubt made = subst (λ (u : State). Moves found without (Knows found after) s u) (sym is) (record {
+        next = record { known = comes; doubted = λ d some. absurd (not_some d (sym (knows.sober works).0 ∙ some)); sober = λ failed. ((knows.sober failed).0, same_doubt ∙ (knows.sober failed).1) };
+        one = s.contents;
+        other = c;
+        either = λ d. ⊎_elim (λ before. inl (no_doubt d before)) (λ after. inr (⊎_elim (λ same. same) (λ doubt. absurd (not_some d (sym (knows.sober works).0 ∙ doubt))) after));
+        one_made = now_made;
+        other_made = made;
+      })
+
+  -- in this state the call may have its answer and leave that one, whether the disk has room for the second version or not
+  abbrev pub CallHappens : Bool → State → Call → State → Type 0
+  CallHappens has_room s (Asked event answer) t = Happens capacity s event answer t
+  CallHappens has_room s (Upgraded result) t = Upgrades has_room s result t
+  CallHappens has_room s (CountedSeams result) t = CountsSeams s result t
+
+  -- what is known after a call
+  abbrev pub IsKnownBy : Contents → Since → Call → State → Type 0
+  IsKnownBy found since (Asked ask.Reopen reply.Reopened) t = IsFoundAgain found since t
+  IsKnownBy found since call t = Knows found (known_by since call) t
+
+  -- ---- by what was asked
+
+  doubt_makes : (was : Contents) (c : Command) (made : Contents) → in_doubt capacity was c ≡ Some made → (new : Mosaic) × ((effect capacity was.mosaic c ≡ Ok new) × (made ≡ made_by was c new))
+  doubt_makes was c made is = by_room (nat_lt was.number last_number) is
+    where
+      by_effect : (result : Result Mosaic Refusal) → effect capacity was.mosaic c ≡ result → would_make was c result ≡ Some made → (new : Mosaic) × ((effect capacity was.mosaic c ≡ Ok new) × (made ≡ made_by was c new))
+      by_effect (Ok new) makes some = (new, (makes, let same : made_by was c new ≡ made = cc some in sym same))
+      by_effect (Err r) makes some = absurd (not_some made some)
+
+      by_room : (room : Bool) → (if room then would_make was c (effect capacity was.mosaic c) else None) ≡ Some made → (new : Mosaic) × ((effect capacity was.mosaic c ≡ Ok new) × (made ≡ made_by was c new))
+      by_room true some = by_effect (effect capacity was.mosaic c) refl some
+      by_room false some = absurd (not_some made some)
+
+  module _ (found : Contents) (since : Since) (s t : State) (knows : Knows found since s) where
+    abbrev Still : Type 0
+    Still = Moves found since (Knows found since) s t
+
+    module _ (c : Command) where
+      more : (made : Contents) → IsMadeOf capacity found since made → IsMadeOf capacity found (doubted_too since c) made
+      more made is = still_doubted capacity found since c made is
+
+      same_as : t ≡ s → Moves found (doubted_too since c) (Knows found since) s t
+      same_as same = stays found since (doubted_too since c) s knows more t same
+
+      -- it is the first in doubt
+      doubted_made : IsFalse s.failed → (made : Contents) (new : Mosaic) → effect capacity s.contents.mosaic c ≡ Ok new → made ≡ made_by s.contents c new → IsMadeOf capacity found (doubted_too since c) made
+      doubted_made works made new makes is = (
+        since.done ++ c ∷ [],
+        inr (c, ap (λ (d : Option Command). Some (unwrap_or d c)) (knows.sober works).1, refl),
+        one_more capacity found s.contents made since.done c new knows.known makes is,
+      )
+
+      refused : (r : Refusal) → AppliesNot capacity s c r t → Moves found (doubted_too since c) (Knows found (known_by since (Asked (ask.Do c) (reply.Refused r)))) s t
+      refused Failed is = same_as is.same
+      refused Device is = fails found since (doubted_too since c) s knows more is.working (doubted_too since c) knows.known t (in_doubt capacity s.contents c) is.fails
+          (λ made some. let (new, (makes, same)) = doubt_makes s.contents c made some in (doubted_made is.working made new makes same, doubted_made is.working made new makes same))
+      refused NoMemory is = same_as is.same
+      refused Worn is = same_as is.stays.same
+      refused r is = same_as is.stays.same
+
+      commanded : (answer : Reply) → Happens capacity s (ask.Do c) answer t → Moves found (doubted_too since c) (Knows found (known_by since (Asked (ask.Do c) answer))) s t
+      commanded (reply.Done k) is =
+          let new = is.effect_is.0 in
+          let makes = is.effect_is.1.0 in
+          let made = made_by s.contents c new in
+          commits found since (doubted_too since c) s knows more is.working (done_too since c) t made is.effect_is.1.1
+          (one_more capacity found s.contents made since.done c new knows.known makes refl) refl (doubted_made is.working made new makes refl)
+      commanded (reply.Refused r) is = refused r is
+      commanded answer is = absurd is
+
+    read : t ≡ s → Still
+    read same = stays found since since s knows (λ c made. made) t same
+
+    -- what it made is of the same terrain and count
+    of_same : (c : Contents) → c.mosaic ≡ s.contents.mosaic → c.count ≡ s.contents.count → ComesBy capacity found since.done c
+    of_same c mosaic count = as_well capacity found s.contents c since.done knows.known mosaic count
+
+    -- nothing is in doubt, or a commit of the same terrain
+    failed_read : (doubt : Option Contents) → Fails s doubt t → ((c : Contents) → doubt ≡ Some c → (c.mosaic ≡ s.contents.mosaic) × (c.count ≡ s.contents.count)) → Still
+    failed_read doubt is same = fails found since since s knows (λ c made. made) is.working since knows.known t doubt is.fails
+        (λ c some. let made : IsMadeOf capacity found since c = (since.done, inl refl, of_same c (same c some).0 (same c some).1) in (made, made))
+
+    failed_asking : Fails s None t → Still
+    failed_asking is = failed_read None is (λ c none. absurd (not_some c none))
+
+    committed : (c : Contents) → Commits s c t → c.mosaic ≡ s.contents.mosaic → c.count ≡ s.contents.count → Still
+    committed c is mosaic count =
+        commits found since since s knows (λ c made. made) is.working since t c is.made_is (of_same c mosaic count) refl (since.done, inl refl, of_same c mosaic count)
+
+    elevates_not : (r : Refusal) → ElevatesNot s r t → Still
+    elevates_not Failed is = read is.same
+    elevates_not Device is = failed_asking is
+    elevates_not r is = absurd is
+
+    exports_not : (c : Corner) (r : Refusal) → ExportsNot s c r t → Still
+    exports_not c Failed is = read is.same
+    exports_not c Device is = failed_asking is
+    exports_not c NoMemory is = read is.same
+    exports_not c NoTile is = read is.0.same
+    exports_not c r is = absurd is
+
+    lists_not : (r : Refusal) → ListsNot s r t → Still
+    lists_not Failed is = read is.same
+    lists_not NoMemory is = read is.same
+    lists_not r is = absurd is
+
+    answers_not : (p : Point) (r : Refusal) → AnswersNot s p r t → Still
+    answers_not p Outside is = read is.0.same
+    answers_not p Void is = read is.0.same
+    answers_not p NoMemory is = read is.same
+    answers_not p Failed is = read is.same
+    answers_not p Device is = failed_asking is
+    answers_not p r is = absurd is
+
+    -- a commit of the same terrain, where a number was left for it
+    number_doubted : (made : Contents) → made.mosaic ≡ s.contents.mosaic → made.count ≡ s.contents.count → (c : Contents) → if_numbered s.contents (Some made) ≡ Some c
+        → (c.mosaic ≡ s.contents.mosaic) × (c.count ≡ s.contents.count)
+    number_doubted made mosaic count c some = by (nat_lt s.contents.number last_number) some
+      where
+        by : (room : Bool) → (if room then Some made else None) ≡ Some c → (c.mosaic ≡ s.contents.mosaic) × (c.count ≡ s.contents.count)
+        by true is = let same : made ≡ c = cc is in (ap (λ (x : Contents). x.mosaic) (sym same) ∙ mosaic, ap (λ (x : Contents). x.count) (sym same) ∙ count)
+        by false is = absurd (not_some c is)
+
+    step_doubted : (tile : Option Corner) (c : Contents) → step_in_doubt s.contents tile ≡ Some c → (c.mosaic ≡ s.contents.mosaic) × (c.count ≡ s.contents.count)
+    step_doubted (Some corner) c some = number_doubted (stepped corner s.contents) refl refl c some
+    step_doubted None c some = absurd (not_some c some)
+
+    steps_not : (r : Refusal) → StepsNot s r t → Still
+    steps_not Failed is = read is.same
+    steps_not Device (tile, (step, is)) = failed_read (step_in_doubt s.contents tile) is (step_doubted tile)
+    steps_not NoMemory is = read is.same
+    steps_not Worn is = read is.0.stays.same
+    steps_not r is = absurd is
+
+    steps : (result : Result (Option Corner) Refusal) → Steps s result t → Still
+    steps (Ok None) is = read is.0.same
+    steps (Ok (Some c)) is = committed (stepped c s.contents) is.1 refl refl
+    steps (Err r) is = steps_not r is
+
+    reopens_not : (r : Refusal) → ReopensNot s r t → Still
+    reopens_not Device is = not_opened found since since s knows (λ c made. made) t is
+    reopens_not NoMemory is = not_opened found since since s knows (λ c made. made) t is
+    reopens_not r is = absurd is
+
+    reopens : Reopens s t → Moves found since (IsFoundAgain found since) s t
+    reopens (inl is) = opened_again found since since s knows (λ c made. made) t s.contents (inl refl) is
+    reopens (inr (d, doubt, is)) = opened_again found since since s knows (λ c made. made) t d (inr doubt) is
+
+    happened : (event : Event) (answer : Reply) → Happens capacity s event answer t → Moves found (known_without since (Asked event answer)) (IsKnownBy found since (Asked event answer)) s t
+    happened (ask.Do c) answer is = commanded c answer is
+    happened (ask.Elevation p) (reply.Elevation h) is = read is.0.same
+    happened (ask.Elevation p) (reply.Refused r) is = elevates_not r is
+    happened (ask.Fill p) (reply.Fill level) is = read is.0.same
+    happened (ask.Fill p) (reply.Refused r) is = answers_not p r is
+    happened (ask.Direction p) (reply.Direction code) is = read is.0.same
+    happened (ask.Direction p) (reply.Refused r) is = answers_not p r is
+    happened (ask.Trace p) (reply.Trace path) is = read is.0.same
+    happened (ask.Trace p) (reply.Refused r) is = answers_not p r is
+    happened (ask.Watershed p) (reply.Watershed runs) is = read is.0.same
+    happened (ask.Watershed p) (reply.Refused r) is = answers_not p r is
+    happened (ask.Export c) (reply.Export bytes) is = read is.0.same
+    happened (ask.Export c) (reply.Refused r) is = exports_not c r is
+    happened (ask.Levels c) (reply.Levels levels) is = read is.0.same
+    happened (ask.Levels c) (reply.Refused r) is = exports_not c r is
+    happened (ask.Directions c) (reply.Directions codes) is = read is.0.same
+    happened (ask.Directions c) (reply.Refused r) is = exports_not c r is
+    happened (ask.Upstream c) (reply.Upstream counts) is = read is.0.same
+    happened (ask.Upstream c) (reply.Refused r) is = exports_not c r is
+    happened ask.Tiles (reply.Tiles corners) is = read is.0.same
+    happened ask.Tiles (reply.Refused r) is = lists_not r is
+    happened ask.Sinks (reply.Sinks points) is = read is.0.same
+    happened ask.Sinks (reply.Refused r) is = lists_not r is
+    happened ask.Step (reply.Stepped tile) is = steps (Ok tile) is
+    happened ask.Step (reply.Refused r) is = steps_not r is
+    happened ask.Count (reply.Count count) is = read is.1
+    happened ask.Info (reply.Info info) is = read is.0.same
+    happened ask.Info (reply.Refused r) is = lists_not r is
+    happened ask.Reopen reply.Reopened is = reopens is
+    happened ask.Reopen (reply.Refused r) is = reopens_not r is
+    happened event answer is = absurd is
+
+    upgrades_not : (has_room : Bool) (r : Refusal) → UpgradesNot has_room s r t → Still
+    upgrades_not has_room Failed is = read is.same
+    upgrades_not has_room NotOld is = read is.0.same
+    upgrades_not has_room TooSmall is = read is.0.same
+    upgrades_not has_room Worn is = read is.0.stays.same
+    upgrades_not has_room Device is = failed_read (if_numbered s.contents (Some (upgraded s.contents))) is.1 (number_doubted (upgraded s.contents) refl refl)
+    upgrades_not has_room NoMemory is = read is.same
+    upgrades_not has_room r is = absurd is
+
+    pub moved : (has_room : Bool) (call : Call) → CallHappens has_room s call t → Moves found (known_without since call) (IsKnownBy found since call) s t
+    moved has_room (Asked event answer) is = happened event answer is
+    moved has_room (Upgraded (Ok u)) is = committed (upgraded s.contents) is.1 refl refl
+    moved has_room (Upgraded (Err r)) is = upgrades_not has_room r is
+    moved has_room (CountedSeams (Ok count)) is = read is.0.same
+    moved has_room (CountedSeams (Err r)) is = elevates_not r is

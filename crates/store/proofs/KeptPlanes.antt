@@ -1,0 +1,6 @@
+pub mod Keeping
+pub mod Labelled
+pub mod RightPlanes
+pub mod SteppedTiles
+pub mod SteppedTrees
+pub mod StagingSteps

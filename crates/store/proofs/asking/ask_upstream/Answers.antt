@@ -1,0 +1,15 @@
+use Rattle.std.proofs.Common.{rules, ℕ, Result}
+use Rattle.std.specs.Global.{Vec}
+use Rattle.lattice.specs.declared.refusal.Refusal.{Refusal}
+use Rattle.watershed.specs.Questions.{AreTileCounts}
+use Rattle.store.proofs.Reading.AskedTrees.{tile_asked_of}
+use Rattle.store.proofs.asking.ask_upstream.Goals as goal
+
+pub returns-clause-asked : goal.returns-clause-asked
+returns-clause-asked g c =
+    let ensures = c.upstream.ensures in
+    let result : Result (Vec ℕ) Refusal = c.upstream.result in
+    let is = tile_asked_of g.D.Disk c.args.tree.now c.upstream.new.samples.tree.now c.requires.works _ _ c.upstream.new.samples result ensures.asked
+    (record { ready = c.requires.works; works = (λ is. is, λ is. is); risen = λ is. is; keeps = ensures.asked.reads.keeps.1 })
+    c.args.corner c.requires.present AreTileCounts ensures.counts ensures.causes c.args.held.now c.upstream.new.held ensures.held g.P.Premise.holds (λ holds sure. (sure, holds)) in
+    search rules

@@ -1,0 +1,7 @@
+use Rattle.cow_tree.specs.Reading.{mosaic_of}
+use Rattle.drainage.specs.Between.{IsHeldOf}
+use Rattle.store.proofs.store.Store.upstream.Given as goal
+
+-- what is held now is right
+abbrev pub ghosts-ask_upstream : goal.ghosts-ask_upstream
+ghosts-ask_upstream g a = record { holds = IsHeldOf (mosaic_of g.D.Disk a.tree.now) a.held.now }
