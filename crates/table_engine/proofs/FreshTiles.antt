@@ -3,6 +3,7 @@ use Rattle.std.proofs.Common.{◌≡◌, ℕ, ◌+◌, ◌<◌, length, take, Bo
 use Rattle.std.specs.Prelude.{Ok}
 use Rattle.std.specs.List.{All, list_any}
 use Rattle.std.proofs.lemmas.List.{take_more}
+use Rattle.std.proofs.lemmas.List.Filters.{length-filter_more}
 use Rattle.std.proofs.lemmas.List.Elements.{All-head, All-tail, filter_agree, filter-append}
 use Rattle.std.proofs.lemmas.List.Folds.{list_any-append}
 use Rattle.std.proofs.lemmas.Map.Views.{any-filter_same}
@@ -46,6 +47,13 @@ filtered_more {X} test xs i x b below is here =
     ap (filter test) (take_more xs i x below ∙ ap (λ (y : X). take i xs ++ y ∷ []) (sym is))
     ∙ filter-append test (take i xs) (x ∷ [])
     ∙ ap (λ (c : Bool). filter test (take i xs) ++ cond c (x ∷ []) []) here
+
+-- one corner more is counted
+pub one_counted : (corners fresh : List Corner) (i : ℕ) (c : Corner) (b : Bool) → i < length corners → c ≡ get_or corners i c → not (is_listed c fresh) ≡ b
+    → length (stale_among (take (i + 1) corners) fresh) ≡ length (stale_among (take i corners) fresh) + cond b 1 0
+one_counted corners fresh i c b below is here =
+    length-filter_more (λ p. not (is_listed p fresh)) corners i c below
+    ∙ ap (λ (t : Bool). length (stale_among (take i corners) fresh) + cond t 1 0) (ap (λ (p : Corner). not (is_listed p fresh)) (sym is) ∙ here)
 
 -- ---- one tile more is fresh
 

@@ -1,23 +1,18 @@
 -- What is known of a call of the mosaic in memory, which never fails.
-use Rattle.std.proofs.Common.{◌≡◌, inl, ℕ, ℤ, ◌<◌, ◌+◌, false, true≢false, IsTrue, List, [], ◌∷◌, ◌++◌, refl, sym, ap, subst, arith}
-use Rattle.std.specs.Prelude.{Result, Ok, Err, IsOk, IfOk, IfErr, MatchResult, Some, None, Contains}
+use Rattle.std.proofs.Common.{◌≡◌, ℕ, ℤ, ◌<◌, ◌+◌, false, true≢false, IsTrue, List, [], ◌∷◌, ◌++◌, refl, sym, ap, subst, arith}
+use Rattle.std.specs.Prelude.{Result, Ok, Err, IfErr, IfOk, MatchResult, Some, Contains}
 use Rattle.std.specs.Global.{Vec}
 use Rattle.lattice.specs.Corners.{Corner}
-use Rattle.lattice.specs.Height.{height_of}
 use Rattle.lattice.specs.Ground.{terrain}
 use Rattle.lattice.specs.Terrain.{IsFilledLevel}
-use Rattle.lattice.specs.Mosaic.{Mosaic, is_present, samples_of}
-use Rattle.lattice.specs.declared.height.Height.{Height}
+use Rattle.lattice.specs.Mosaic.{Mosaic, is_present}
 use Rattle.lattice.specs.declared.point.Point.{Point}
 use Rattle.lattice.specs.declared.refusal.Refusal.{Refusal}
 use Rattle.lattice.specs.declared.refusal.Refusal.TheVariants.{Outside, Void, NoTile, Device, NoMemory, Failed, Worn}
-use Rattle.hgt.specs.Bytes.{hgt_bytes}
-use Rattle.catalogue.specs.Readers.{reads_of}
 use Rattle.catalogue.specs.Tiles.{corners_of}
 use Rattle.edits.specs.declared.command.Command.{Command}
 use Rattle.edits.specs.declared.command.Command.TheVariants.{Import, Remove, Patch, Burn, Wall, Sink, Unsink}
 use Rattle.edits.specs.Effect.{effect}
-use Rattle.edits.specs.Plans.{is_own, may_end}
 use Rattle.flow_d8.specs.FlowPath.{IsFlowPath, IsInWatershed}
 use Rattle.watershed.specs.declared.runs.Run.{Run}
 use Rattle.watershed.specs.Runs.{AreRuns}
@@ -28,12 +23,12 @@ use Rattle.engine.specs.declared.event.Reply.{Reply}
 use Rattle.engine.specs.declared.event.Reply.TheVariants as reply
 use Rattle.engine.specs.Engines.{IsCall, answered, items_in}
 use Rattle.engine.specs.Events.{Happens, fails_after}
-use Rattle.engine.specs.Outcomes.{Stays, AnswersNot, Accepts, Applies, AppliesNot, TellsTile}
+use Rattle.engine.specs.Outcomes.{Stays, AnswersNot, Accepts, Applies, AppliesNot, TellsTile, info_of}
+use Rattle.engine.specs.declared.info.Info.{Info}
 use Rattle.engine.specs.State.{State, last_number, working}
 use Rattle.engine.specs.Steps.{Commits, Steps, stepped}
 use Rattle.engine.specs.Told.{Matches, Knows, WritesFew, may_refuse, may_refuse_question, may_refuse_tile}
 use Rattle.engine.proofs.Answered.{no_samples}
-use Rattle.engine.proofs.Applying.{plan_refused}
 use Rattle.engine.proofs.Questions.{IsQuestion, answers_so, few_as, knows_refused}
 use Rattle.edits.specs.Touched.{stale_after}
 use Rattle.table_engine.specs.TableState.{TableState, held_of, contents_of, stale_among, table}
@@ -47,9 +42,6 @@ few_writes side (Burn depth points) = omega arith
 few_writes side (Wall height points) = omega arith
 few_writes side (Sink p) = omega arith
 few_writes side (Unsink p) = omega arith
-
-nothing_within : (c : Corner) → Contains [] c → ⊥
-nothing_within c (k, below, here) = omega (arith, below)
 
 module _ (held : TableState) where
   abbrev now : State
@@ -114,29 +106,16 @@ module _ (held : TableState) where
   shed p (Ok runs) is = same (ask.Watershed p) (reply.Watershed runs) tt (λ e. absurd (cc)) (λ e. absurd (cc)) refl refl refl (stays, is)
   shed p (Err r) is = unanswered p (ask.Watershed p) (λ r may. may) (not_failing (ask.Watershed p) (λ e. absurd (cc))) refl (λ r. refl) (λ r is. is) r is
 
-  pub elevated : (p : Point) (result : Result Height Refusal) → IsOk result → IfOk result (λ h. h ≡ height_of here p) → Same (ask.Elevation p) (answered reply.Elevation result)
-  elevated p (Ok h) ok is = same (ask.Elevation p) (reply.Elevation h) tt (λ e. absurd (cc)) (λ e. absurd (cc)) refl refl refl (stays, is)
-  elevated p (Err r) ok is = absurd (true≢false (sym ok))
-
-  pub exported : (c : Corner) (bytes : Vec ℕ) (samples : List ℤ) → samples_of here c ≡ Some samples → bytes.items ≡ hgt_bytes samples → Same (ask.Export c) (reply.Export bytes)
-  exported c bytes samples there is = same (ask.Export c) (reply.Export bytes) tt (λ e. absurd (cc)) (λ e. absurd (cc)) refl refl refl (stays, (samples, (there, is)))
-
-  pub no_tile : (c : Corner) → samples_of here c ≡ None → Same (ask.Export c) (reply.Refused NoTile)
-  no_tile c none = same (ask.Export c) (reply.Refused NoTile) refl (λ e. absurd (cc)) (λ e. absurd (cc)) refl refl refl (stays, none)
-
-  pub no_room_to_export : (c : Corner) → Same (ask.Export c) (reply.Refused NoMemory)
-  no_room_to_export c = same (ask.Export c) (reply.Refused NoMemory) refl (λ e. absurd (cc)) (λ e. absurd (cc)) refl refl refl stays
-
   -- a question about all samples of a tile
   module _ {X : Type 0} (c : Corner) (Says : Mosaic → Corner → List X → Type 0) {event : Event} {tell : Vec X → Reply}
-      (is : IsQuestion event tell (λ (s : State) (r : Result (Vec X) Refusal) (t : State). TellsTile Says s c (items_in r) t)) (may : (r : Refusal) → IsTrue (may_refuse_tile r) → IsTrue (may_refuse event r)) where
+      (is : IsQuestion held.capacity event tell (λ (s : State) (r : Result (Vec X) Refusal) (t : State). TellsTile Says s c (items_in r) t)) (may : (r : Refusal) → IsTrue (may_refuse_tile r) → IsTrue (may_refuse event r)) where
     abbrev answers : State → Result (Vec X) Refusal → State → Type 0
     answers s r t = TellsTile Says s c (items_in r) t
 
     refused_tile : (r : Refusal) → IsTrue (may_refuse_tile r) → (r ≡ Failed → ⊥) → (r ≡ Device → ⊥) → answers now (Err r) now → Same event (reply.Refused r)
     refused_tile r of_tile not_failed not_device so =
         same event (reply.Refused r) (may r of_tile) (λ e. not_failed (refusal_of e)) (λ e. not_device (refusal_of e)) (sym ((answers_so event tell answers is).passes false r not_device))
-        (few_as event tell answers is 2 here.side 0 0 refl) (knows_refused (table.known held) (table.known held) event r refl) (is.refused held.capacity now now r so)
+        (few_as event tell answers is 2 here.side 0 0 refl) (knows_refused (table.known held) (table.known held) event r refl) (is.refused now now r so)
       where
         refusal_of : {q : Refusal} → reply.Refused r ≡ reply.Refused q → r ≡ q
         refusal_of e = cc
@@ -147,35 +126,13 @@ module _ (held : TableState) where
     pub told_tile : IsTrue (is_present here c) → (result : Result (Vec X) Refusal) → MatchResult result (λ values. Says here c values.items) (λ r. r ≡ NoMemory) → Same event (answered tell result)
     told_tile present (Ok values) so =
         same event (tell values) (is.matches values) (is.no_refusal values Failed) (is.no_refusal values Device) (sym (is.goes_on false values))
-        (few_as event tell answers is 2 here.side 0 0 refl) (is.knows (table.known held) (table.known held) values refl) (is.right held.capacity now now values (stays, (present, so)))
+        (few_as event tell answers is 2 here.side 0 0 refl) (is.knows (table.known held) (table.known held) values refl) (is.right now now values (stays, (present, so)))
     told_tile present (Err r) memory =
         subst (λ (why : Refusal). Same event (reply.Refused why)) (sym memory) (refused_tile NoMemory refl (λ e. absurd (cc)) (λ e. absurd (cc)) stays)
 
-  pub reopened : Same ask.Reopen reply.Reopened
-  reopened = same ask.Reopen reply.Reopened tt (λ e. absurd (cc)) (λ e. absurd (cc)) refl refl tt (inl refl)
-
-  pub listed : (result : Result (Vec Corner) Refusal) → IfOk result (λ corners. corners.items ≡ corners_of here) → IfErr result (λ r. r ≡ NoMemory) → Same ask.Tiles (answered reply.Tiles result)
-  listed (Ok corners) is memory = same ask.Tiles (reply.Tiles corners) tt (λ e. absurd (cc)) (λ e. absurd (cc)) refl refl refl (stays, is)
-  listed (Err r) is memory = subst (λ (r : Refusal). Same ask.Tiles (reply.Refused r)) (sym memory) (same ask.Tiles (reply.Refused NoMemory) refl (λ e. absurd (cc)) (λ e. absurd (cc)) refl refl refl stays)
-
-  pub listed_sinks : (result : Result (Vec Point) Refusal) → IfOk result (λ points. points.items ≡ here.sinks) → IfErr result (λ r. r ≡ NoMemory) → Same ask.Sinks (answered reply.Sinks result)
-  listed_sinks (Ok points) is memory = same ask.Sinks (reply.Sinks points) tt (λ e. absurd (cc)) (λ e. absurd (cc)) refl refl refl (stays, is)
-  listed_sinks (Err r) is memory = subst (λ (r : Refusal). Same ask.Sinks (reply.Refused r)) (sym memory) (same ask.Sinks (reply.Refused NoMemory) refl (λ e. absurd (cc)) (λ e. absurd (cc)) refl refl refl stays)
-
-  pub told_count : (k : ℕ) → k ≡ held.contents.count → Same ask.Count (reply.Count k)
-  told_count k is = same ask.Count (reply.Count k) tt (λ e. absurd (cc)) (λ e. absurd (cc)) refl refl (is, refl) (is, refl)
-
-  -- a step that names none
-  pub none_stale : held.contents.stale ≡ [] → Same ask.Step (reply.Stepped None)
-  none_stale none = same ask.Step (reply.Stepped None) tt (λ e. absurd (cc)) (λ e. absurd (cc)) refl (omega arith) refl (stays, none)
-
-  pub no_room_to_step : Same ask.Step (reply.Refused NoMemory)
-  no_room_to_step = same ask.Step (reply.Refused NoMemory) refl (λ e. absurd (cc)) (λ e. absurd (cc)) refl (omega arith) refl stays
-
-  pub worn_to_step : (c : Corner) → Contains held.contents.stale c → held.contents.number ≡ last_number → Same ask.Step (reply.Refused Worn)
-  worn_to_step c some full =
-      same ask.Step (reply.Refused Worn) refl (λ e. absurd (cc)) (λ e. absurd (cc)) refl (omega arith) refl
-      (record { stays = stays; worn = full }, λ none. nothing_within c (subst (λ (l : List Corner). Contains l c) none some))
+  pub told_info : (result : Result Info Refusal) → IfOk result (λ info. info ≡ info_of held.capacity held.contents) → IfErr result (λ r. r ≡ NoMemory) → Same ask.Info (answered reply.Info result)
+  told_info (Ok info) is memory = same ask.Info (reply.Info info) tt (λ e. absurd (cc)) (λ e. absurd (cc)) refl refl refl (stays, is)
+  told_info (Err r) is memory = subst (λ (r : Refusal). Same ask.Info (reply.Refused r)) (sym memory) (same ask.Info (reply.Refused NoMemory) refl (λ e. absurd (cc)) (λ e. absurd (cc)) refl refl refl stays)
 
   module _ (c : Command) where
     not_done : (r : Refusal) → IsTrue (may_refuse (ask.Do c) r) → (r ≡ Failed → ⊥) → (r ≡ Device → ⊥) → AppliesNot held.capacity now c r now → Same (ask.Do c) (reply.Refused r)
@@ -185,26 +142,8 @@ module _ (held : TableState) where
         refusal_is : {q : Refusal} → reply.Refused r ≡ reply.Refused q → r ≡ q
         refusal_is e = cc
 
-    pub refused : (r : Refusal) → IsTrue (may_end c r) → reads_of {T = Unit {0}} (Err r) ≡ Ok tt → (IsTrue (is_own c r) → effect held.capacity here c ≡ Err r) → Same (ask.Do c) (reply.Refused r)
-    refused Worn may read own = not_done Worn refl (λ e. absurd (cc)) (λ e. absurd (cc)) (plan_refused held.capacity now c Worn refl may read own)
-    refused Device may read own = absurd (cc)
-    refused Failed may read own = absurd (cc)
-    refused r may read own = not_done r may (λ e. absurd (cc)) (λ e. absurd (cc)) (plan_refused held.capacity now c r refl may read own)
-
     pub worn : (new : Mosaic) → effect held.capacity here c ≡ Ok new → held.contents.number ≡ last_number → Same (ask.Do c) (reply.Refused Worn)
     worn new makes full = not_done Worn refl (λ e. absurd (cc)) (λ e. absurd (cc)) (record { stays = stays; accepted = (new, makes); worn = full })
-
-    pub no_room : Same (ask.Do c) (reply.Refused NoMemory)
-    no_room = not_done NoMemory (may_be_memory c) (λ e. absurd (cc)) (λ e. absurd (cc)) stays
-      where
-        may_be_memory : (c : Command) → IsTrue (may_refuse (ask.Do c) NoMemory)
-        may_be_memory (Import c bytes) = refl
-        may_be_memory (Remove c) = refl
-        may_be_memory (Patch from to height) = refl
-        may_be_memory (Burn depth points) = refl
-        may_be_memory (Wall height points) = refl
-        may_be_memory (Sink p) = refl
-        may_be_memory (Unsink p) = refl
 
 module _ (m : Mosaic) (capacity : ℕ) (fresh : List Corner) (k g : ℕ) where
   abbrev pub old : TableState

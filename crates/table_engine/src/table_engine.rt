@@ -1,5 +1,5 @@
 //! A mosaic in memory, as an engine.
-ghost use Rattle.std.specs.Prelude.{◌≡◌, ◌≤◌, [], ◌∷◌, ◌++◌, filter, not, IfErr, IfOk, OnOk, OnErr, MatchOption, Contains};
+ghost use Rattle.std.specs.Prelude.{◌≡◌, ◌≤◌, [], ◌∷◌, ◌++◌, filter, length, not, IfErr, IfOk, OnOk, OnErr, MatchOption, Contains};
 ghost use Rattle.lattice.specs.declared.refusal.Refusal.TheVariants.{NoMemory};
 ghost use Rattle.catalogue.specs.Tiles.{corners_of};
 ghost use Rattle.edits.specs.Edits.{goes_stale_by};
@@ -8,8 +8,8 @@ ghost use Rattle.table_engine.specs.TableState.{stale_among};
 
 use catalogue::{Samples, Table, height};
 use drainage::{DrainageCache, invalidate_edit};
-use edits::{Command, Edit, carry_out, commands_make_mosaics, edit_of, leaves_stale};
-use engine::Engine;
+use edits::{Command, Edit, apply_edit, commands_make_mosaics, edit_of, leaves_stale};
+use engine::{Engine, Info};
 use lattice::{Corner, Height, MOST_TILES, Point, Refusal, Side, push};
 use std::alloc::Global;
 use std::marker::Model;
@@ -107,7 +107,7 @@ impl Engine for TableEngine {
         }
         let fresh = still_fresh(self.alloc, &self.table, &edit, &self.fresh)?;
         invalidate_edit(&mut self.held, &edit);
-        carry_out(self.alloc, &edit, &mut self.table)?;
+        apply_edit(self.alloc, &edit, &mut self.table)?;
         // By this law the capacity is kept.
         commands_make_mosaics();
         self.fresh = fresh;
@@ -157,6 +157,13 @@ impl Engine for TableEngine {
         drainage::directions(self.alloc, &mut self.table, &mut self.held, corner)
     }
 
+    fn upstream(&mut self, corner: Corner) -> Result<Vec<u32>, Refusal> {
+        if !self.table.present(corner) {
+            return Err(Refusal::NoTile);
+        }
+        drainage::upstream(self.alloc, &mut self.table, &mut self.held, corner)
+    }
+
     fn tiles(&self) -> Result<Vec<Corner>, Refusal> {
         self.table.corners()
     }
@@ -182,6 +189,21 @@ impl Engine for TableEngine {
         self.count
     }
 
+    fn info(&self) -> Result<Info, Refusal> {
+        let corners = self.table.corners()?;
+        let stale = count_stale(&corners, &self.fresh);
+        Ok(Info {
+            side: self.table.side().samples(),
+            capacity: self.capacity,
+            // What it holds is as a store of the second version has it.
+            version: 2,
+            count: self.count,
+            commits: self.number,
+            fresh: corners.len().saturating_sub(stale) as u64,
+            stale: stale as u64,
+        })
+    }
+
     // It has no disk, and stays as it is.
     fn reopen(&mut self) -> Result<(), Refusal> {
         Ok(())
@@ -205,6 +227,19 @@ fn still_fresh(
         }
     }
     Ok(fresh)
+}
+
+// How many of the corners aren't fresh.
+fn count_stale(corners: &[Corner], fresh: &[Corner]) -> usize
+    ensures { result ≡ length (stale_among corners.now fresh.now) }
+{
+    let mut count = 0;
+    for corner in corners {
+        if !fresh.contains(corner) {
+            count += 1;
+        }
+    }
+    count
 }
 
 // The first of the corners that isn't fresh.

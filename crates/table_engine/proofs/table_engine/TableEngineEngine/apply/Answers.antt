@@ -13,15 +13,15 @@ use Rattle.table_engine.proofs.FreshTiles.{stale_then}
 use Rattle.table_engine.proofs.TableCalls.{called, called_same, done, old, worn}
 use Rattle.table_engine.proofs.table_engine.TableEngineEngine.apply.Goals as goal
 
-pub carry_out-requires : goal.carry_out-requires
-carry_out-requires c =
+pub apply_edit-requires : goal.apply_edit-requires
+apply_edit-requires c =
     let is = c.in_ok-edit.ensures in
     subst (λ (m : Mosaic). FitsIn m.side (corners_of m) m.sinks c.in_ok-edit.edit) (sym is.reads.keeps) is.fits
 
-pub invariant_of-self-in_err-carry_out : goal.invariant_of-self-in_err-carry_out
-invariant_of-self-in_err-carry_out c =
+pub invariant_of-self-in_err-apply_edit : goal.invariant_of-self-in_err-apply_edit
+invariant_of-self-in_err-apply_edit c =
     let e = c.self.inside in
-    let same : c.carry_out.new.table ≡ e.table = c.in_err-carry_out.ensures.unchanged ∙ c.in_ok-edit.ensures.reads.keeps in
+    let same : c.apply_edit.new.table ≡ e.table = c.in_err-apply_edit.ensures.unchanged ∙ c.in_ok-edit.ensures.reads.keeps in
     record {
       valid = search rules;
       above = search rules;
@@ -45,8 +45,8 @@ returns c =
     let edit = c.in_ok-edit.edit in
     let reads = c.in_ok-edit.ensures.reads in
     let valid = reads.never_refuses c.self.invariant.valid in
-    let new = c.carry_out.new.table in
-    let is : edit_made edit e.table ≡ new = ap (edit_made edit) (sym reads.keeps) ∙ sym c.in_ok-carry_out.ensures.made in
+    let new = c.apply_edit.new.table in
+    let is : edit_made edit e.table ≡ new = ap (edit_made edit) (sym reads.keeps) ∙ sym c.in_ok-apply_edit.ensures.made in
     let makes : effect e.capacity e.table command ≡ Ok new = c.in_ok-edit.ensures.made valid ∙ ap (λ (m : Mosaic). let r : Result Mosaic Refusal = Ok m in r) is in
     let side : new.side ≡ e.table.side = c.commands_make_mosaics.ensures.side e.capacity e.table command new makes in
     let below : e.number < 18446744073709551615 = search rules in
@@ -64,8 +64,8 @@ invariant_of-self-2 c =
     let edit = c.in_ok-edit.edit in
     let reads = c.in_ok-edit.ensures.reads in
     let valid = reads.never_refuses c.self.invariant.valid in
-    let new = c.carry_out.new.table in
-    let is : edit_made edit e.table ≡ new = ap (edit_made edit) (sym reads.keeps) ∙ sym c.in_ok-carry_out.ensures.made in
+    let new = c.apply_edit.new.table in
+    let is : edit_made edit e.table ≡ new = ap (edit_made edit) (sym reads.keeps) ∙ sym c.in_ok-apply_edit.ensures.made in
     record {
       valid = search rules;
       above = search rules;

@@ -3,7 +3,7 @@ use Rattle.std.proofs.lemmas.Bool.{both_ways}
 use Rattle.watershed.specs.Questions.{AreTileDirections}
 use Rattle.lattice.specs.declared.refusal.Refusal.TheVariants.{NoTile}
 use Rattle.catalogue.proofs.Presence.{present_iff}
-use Rattle.drainage.proofs.Answered.{told_or_short}
+use Rattle.drainage.proofs.Questions.Answered.{told_or_short}
 use Rattle.engine.specs.Engines.{IsCall}
 use Rattle.engine.specs.declared.event.Event.TheVariants as ask
 use Rattle.engine.specs.declared.event.Reply.TheVariants as reply

@@ -1,6 +1,6 @@
 use Rattle.lattice.specs.Terrain.{IsFilledLevel}
 use Rattle.lattice.specs.Ground.{terrain}
-use Rattle.drainage.proofs.Answered.{told}
+use Rattle.drainage.proofs.Questions.Answered.{told}
 use Rattle.engine.specs.declared.event.Event.TheVariants as ask
 use Rattle.table_engine.proofs.TableCalls.{called_same, filled, old}
 use Rattle.table_engine.proofs.table_engine.TableEngineEngine.fill.Goals as goal

@@ -1,6 +1,6 @@
 use Rattle.flow_d8.specs.FlowPath.{IsFlowPath}
 use Rattle.lattice.specs.Ground.{terrain}
-use Rattle.drainage.proofs.Answered.{told_of_levels}
+use Rattle.drainage.proofs.Questions.Answered.{told_of_levels}
 use Rattle.engine.specs.declared.event.Event.TheVariants as ask
 use Rattle.table_engine.proofs.TableCalls.{called_same, traced, old}
 use Rattle.table_engine.proofs.table_engine.TableEngineEngine.trace.Goals as goal

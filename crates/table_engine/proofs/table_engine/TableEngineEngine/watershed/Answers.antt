@@ -1,7 +1,7 @@
 use Rattle.flow_d8.specs.FlowPath.{IsInWatershed}
 use Rattle.watershed.specs.Runs.{AreRuns}
 use Rattle.lattice.specs.Ground.{terrain}
-use Rattle.drainage.proofs.Answered.{told_of_levels}
+use Rattle.drainage.proofs.Questions.Answered.{told_of_levels}
 use Rattle.engine.specs.declared.event.Event.TheVariants as ask
 use Rattle.table_engine.proofs.TableCalls.{called_same, shed, old}
 use Rattle.table_engine.proofs.table_engine.TableEngineEngine.watershed.Goals as goal

@@ -1,0 +1,91 @@
+//! The bytes of a store's image, held in memory, as a disk that is only read.
+//!
+//! It is honest with no premise: reads give the bytes that it was made of. A write is a fault, so what asks for none, as the
+//! opening of a store and every question, goes on as on any disk.
+//!
+//! ```
+//! let mut disk = ImageDisk::new(&image);                 // whole sectors of 4096 bytes; the rest isn't seen
+//! disk.read(1, &mut sector)?;                            // the second sector's bytes
+//! ```
+#![tactic(auto)]
+
+ghost use Rattle.std.specs.Prelude.{◌≡◌, ◌≤◌, ⊤};
+ghost use Rattle.disk.specs.Disk.{SameBut, TornAt, NoneNew, Only, counted, CountsFault, Elapses, Nothing};
+ghost use Rattle.image_disk.specs.Images.{sectors_in, image_in};
+
+#[cfg(test)]
+mod tests;
+
+use disk::{Disk, Fault};
+
+/// The bytes of a sector.
+const SECTOR_BYTES: usize = 4096;
+
+/// Some bytes, cut into sectors. Those after the last whole sector aren't seen.
+#[derive(Drop)]
+pub struct ImageDisk<'a> {
+    bytes: &'a [u8],
+    failures: u64,
+    writes: u64,
+}
+
+impl<'a> ImageDisk<'a> {
+    ghost use Rattle.image_disk.specs.ImageDisks.{bytes_of};
+
+    /// These bytes as a disk. No call has failed yet.
+    pub fn new(bytes: &'a [u8]) -> ImageDisk<'a>
+        ensures { bytes_of result ≡ bytes.now }
+    {
+        ImageDisk {
+            bytes,
+            failures: 0,
+            writes: 0,
+        }
+    }
+}
+
+impl<'a> Disk for ImageDisk<'a> {
+    ghost use Rattle.image_disk.specs.ImageDisks.{bytes_of};
+
+    ghost honest = { λ disk. ⊤ };
+
+    ghost size = { λ disk. sectors_in (bytes_of disk) };
+
+    ghost seen = { λ disk. image_in (bytes_of disk) };
+
+    ghost may = { λ disk image. image ≡ image_in (bytes_of disk) };
+
+    ghost moment = { λ disk. 0 };
+
+    ghost since = { λ disk t image. (t ≤ 0) × (image ≡ image_in (bytes_of disk)) };
+
+    ghost failures = { λ disk. disk.failures };
+
+    ghost writes = { λ disk. disk.writes };
+
+    ghost seen_may = { λ disk honest i. image_in (bytes_of disk) };
+
+    ghost counts_now = { λ disk t image honest earlier left. (earlier, left) };
+
+    ghost only_now = { λ disk image honest left. left.1 };
+
+    fn sectors(&self) -> u32 {
+        u32::try_from(self.bytes.len() / SECTOR_BYTES).unwrap_or(u32::MAX)
+    }
+
+    fn read(&mut self, s: u32, into: &mut [u8; 4096]) -> Result<(), Fault> {
+        let from = s as usize * SECTOR_BYTES;
+        into.copy_from_slice(&self.bytes[from..from + SECTOR_BYTES]);
+        Ok(())
+    }
+
+    fn write(&mut self, _s: u32, _from: &[u8; 4096]) -> Result<(), Fault> {
+        self.writes = self.writes.saturating_add(1);
+        self.failures = self.failures.saturating_add(1);
+        Err(Fault)
+    }
+
+    fn sync(&mut self) -> Result<(), Fault> {
+        Ok(())
+    }
+}

@@ -1,0 +1,75 @@
+/* The store in a program's own process: heights, filled levels, directions and upstream counts, read from the bytes of a store's
+ * file.
+ *
+ * It only reads: nothing here changes a store. Each function answers 0, or the number of a refusal (docs/messages.md), and then
+ * what it was to fill may hold anything.
+ *
+ * Points: y grows northwards and x eastwards, in samples, from 0 N 0 E; a degree has side - 1 of them. Heights and levels are whole
+ * metres, MOSAIC_VOID where there is none. A direction is 1 for east and each next one clockwise twice as much, 0 where water leaves
+ * the mosaic, MOSAIC_NO_GROUND where the point isn't ground. Arrays go row by row from the north, west first.
+ *
+ * What the caller owes, which nothing checks:
+ * - A handle is zeros before it is first opened, is never copied, and is one thread's at a time.
+ * - The image is the whole file's bytes. They stay where they are, and as they are, until the handle is closed: so the caller holds a
+ *   shared lock, flock(LOCK_SH), of the file all that time, which `mosaic serve` respects.
+ * - Each pointer leads to as many elements as its count says, and no two of one call overlap.
+ * - malloc, realloc and free are of one allocator. No function is called from a signal handler, or after fork from a child of a
+ *   program with threads.
+ *
+ * Refusals: 2 BadName (no such corner), 3 BadLength (the array isn't as long as the window or the tile has points), 5 NoTile,
+ * 7 Outside, 8 Void, 12 BadBox (points beyond the lattice), 21 NoMemory, 22 Failed (the handle holds no store), 23 Damaged; from
+ * opening also 30 NotAStore, 31 Version, 34 TooSmall. */
+#ifndef MOSAIC_H
+#define MOSAIC_H
+
+#include <stdbool.h>
+#include <stddef.h>
+#include <stdint.h>
+
+#ifdef __cplusplus
+extern "C" {
+#endif
+
+#define MOSAIC_VOID (-32768)
+#define MOSAIC_NO_GROUND 255
+
+typedef struct {
+    void *at;
+    bool held;
+} mosaic_handle;
+
+/* Its north-west point, how many rows, which go southwards, and how many columns. */
+typedef struct {
+    int32_t north, west;
+    uint32_t rows, columns;
+} mosaic_window;
+
+/* Opens the store whose image this is, and closes what the handle held. */
+uint8_t mosaic_open(mosaic_handle *handle, const uint8_t *image, size_t bytes);
+/* Closes it, where one is open. */
+void mosaic_close(mosaic_handle *handle);
+
+/* Samples along an edge of a tile; accepted commands since the store was made. */
+uint8_t mosaic_side(mosaic_handle *handle, uint32_t *into);
+uint8_t mosaic_count(mosaic_handle *handle, uint64_t *into);
+
+/* Of one point. Refused with Outside or Void where it isn't ground. */
+uint8_t mosaic_fill(mosaic_handle *handle, int32_t y, int32_t x, int16_t *into);
+uint8_t mosaic_direction(mosaic_handle *handle, int32_t y, int32_t x, uint8_t *into);
+
+/* Of all points of a window: count is rows * columns. */
+uint8_t mosaic_heights(mosaic_handle *handle, const mosaic_window *window, int16_t *into, size_t count);
+uint8_t mosaic_levels(mosaic_handle *handle, const mosaic_window *window, int16_t *into, size_t count);
+uint8_t mosaic_directions(mosaic_handle *handle, const mosaic_window *window, uint8_t *into, size_t count);
+
+/* Of all samples of the tile whose south-west sample is at these degrees: count is side * side. */
+uint8_t mosaic_tile_levels(mosaic_handle *handle, int16_t latitude, int16_t longitude, int16_t *into, size_t count);
+uint8_t mosaic_tile_directions(mosaic_handle *handle, int16_t latitude, int16_t longitude, uint8_t *into, size_t count);
+/* .. how many points drain through each, itself among them; 0 where its point isn't ground. */
+uint8_t mosaic_upstream(mosaic_handle *handle, int16_t latitude, int16_t longitude, uint32_t *into, size_t count);
+
+#ifdef __cplusplus
+}
+#endif
+
+#endif
