@@ -1,5 +1,5 @@
 -- A text asks for one thing at most.
-use Rattle.std.proofs.Common.{arith, refl, ◌≡◌, ℕ, ℤ, pos, neg_ℤ, List, [], ◌∷◌, ◌≤◌, length, sym, ap, ◌∙◌, subst, inl, inr}
+use Rattle.std.proofs.Common.{arith, refl, ◌≡◌, ℕ, ℤ, pos, neg_ℤ, List, [], ◌∷◌, sym, ap, ◌∙◌, subst, inl, inr}
 use Rattle.std.proofs.lemmas.Str.Parse.{digit_from_value}
 use Rattle.lattice.specs.declared.point.Point.{Point}
 use Rattle.std.specs.Prelude.{Option, Some, None, IfSome, ◌⊎◌}
@@ -11,11 +11,11 @@ use Rattle.edits.specs.declared.command.Command.TheVariants as command
 use Rattle.engine.specs.declared.event.Event.{Event}
 use Rattle.engine.specs.declared.event.Event.TheVariants as ask
 use Rattle.lines.specs.declared.keyword.Keyword.{Keyword}
-use Rattle.lines.specs.declared.keyword.Keyword.TheVariants.{Import, Remove, Patch, Burn, Wall, Sink, Unsink, Elev, Fill, Dir, Trace, Watershed, Export, Levels, Directions, Tiles, Sinks, Step, Count, Quit}
+use Rattle.lines.specs.declared.keyword.Keyword.TheVariants.{Import, Remove, Patch, Burn, Wall, Sink, Unsink, Elev, Fill, Dir, Trace, Watershed, Export, Levels, Directions, Upstream, Tiles, Sinks, Step, Count, Info, Quit}
 use Rattle.lines.specs.Grammar.{Asked, AskImport, AskEvent, AskNoTile, NamesNone, AsksImport, AsksOf, AsksBox, AsksAlong, AsksAt, AsksAlone, Takes, IsIn, IsTextOf, AreInts, IsNat, IsInt, coordinates, spaced, spelling, LineAsks}
 use Rattle.lines.specs.declared.language.Language.{Language}
 use Rattle.lines.specs.declared.language.Language.TheVariants as language
-use Rattle.lines.specs.Languages.{PlainIsAPart, TextAsksTile}
+use Rattle.lines.specs.Languages.{PlainIsAPart, TextAsksInfo, TextAsksTile}
 use Rattle.lines.specs.declared.request.Request.{Request}
 use Rattle.lines.specs.Requests.{asked, IsRequestOf}
 use Rattle.lines.specs.Words.{cut}
@@ -134,10 +134,12 @@ same_asked Watershed = same_at _
 same_asked Export = same_of _
 same_asked Levels = same_of _
 same_asked Directions = same_of _
+same_asked Upstream = same_of _
 same_asked Tiles = same_alone _
 same_asked Sinks = same_alone _
 same_asked Step = same_alone _
 same_asked Count = same_alone _
+same_asked Info = same_alone _
 same_asked Quit = same_alone _
 
 -- a line asks for one thing
@@ -166,10 +168,12 @@ keyword_for (ask.Watershed p) = Some Watershed
 keyword_for (ask.Export c) = Some Export
 keyword_for (ask.Levels c) = Some Levels
 keyword_for (ask.Directions c) = Some Directions
+keyword_for (ask.Upstream c) = Some Upstream
 keyword_for ask.Tiles = Some Tiles
 keyword_for ask.Sinks = Some Sinks
 keyword_for ask.Step = Some Step
 keyword_for ask.Count = Some Count
+keyword_for ask.Info = Some Info
 keyword_for ask.Reopen = None
 
 by_event : (event other : Event) → AskEvent event ≡ AskEvent other → keyword_for event ≡ keyword_for other
@@ -195,10 +199,12 @@ asked_by Watershed args event (p, ints, is) = by_event event _ is
 asked_by Export args event takes = by_corner Export _ (λ c. refl) args event takes
 asked_by Levels args event takes = by_corner Levels _ (λ c. refl) args event takes
 asked_by Directions args event takes = by_corner Directions _ (λ c. refl) args event takes
+asked_by Upstream args event takes = by_corner Upstream _ (λ c. refl) args event takes
 asked_by Tiles args event (e, is) = by_event event _ is
 asked_by Sinks args event (e, is) = by_event event _ is
 asked_by Step args event (e, is) = by_event event _ is
 asked_by Count args event (e, is) = by_event event _ is
+asked_by Info args event (e, is) = by_event event _ is
 asked_by Quit args event (e, is) = cc
 
 pub never_reopens : (language : Language) (line : List ℕ) (event : Event) → LineAsks language line (AskEvent event) → event ≡ ask.Reopen → ⊥
@@ -213,9 +219,11 @@ out_of_plain keyword tile out is_in same = let one : keyword ≡ tile = cc in ou
 kept : (line : List ℕ) (a : Asked) → LineAsks language.Plain line a → LineAsks language.Tiles line a
 kept line a (short, text, is_text, (keyword, args, e, takes, is_in)) = (short, text, is_text, (keyword, args, e, takes, tt))
 
-besides : (line : List ℕ) (a : Asked) → LineAsks language.Tiles line a → LineAsks language.Plain line a ⊎ ((text : List ℕ) × (IsTextOf line text × TextAsksTile text a))
-besides line a (short, text, is_text, (Levels, args, e, takes, is_in)) = inr (text, (is_text, (args, inl (e, takes))))
-besides line a (short, text, is_text, (Directions, args, e, takes, is_in)) = inr (text, (is_text, (args, inr (e, takes))))
+besides : (line : List ℕ) (a : Asked) → LineAsks language.Tiles line a → LineAsks language.Plain line a ⊎ ((text : List ℕ) × (IsTextOf line text × (TextAsksTile text a ⊎ TextAsksInfo text a)))
+besides line a (short, text, is_text, (Levels, args, e, takes, is_in)) = inr (text, (is_text, inl (args, inl (e, takes))))
+besides line a (short, text, is_text, (Directions, args, e, takes, is_in)) = inr (text, (is_text, inl (args, inr (inl (e, takes)))))
+besides line a (short, text, is_text, (Upstream, args, e, takes, is_in)) = inr (text, (is_text, inl (args, inr (inr (e, takes)))))
+besides line a (short, text, is_text, (Info, args, e, takes, is_in)) = inr (text, (is_text, inr (args, (e, takes))))
 besides line a (short, text, is_text, (keyword, args, e, takes, is_in)) = inl (short, text, is_text, (keyword, args, e, takes, tt))
 
 no_levels : (line : List ℕ) (c : Corner) → LineAsks language.Plain line (AskEvent (ask.Levels c)) → ⊥
@@ -224,5 +232,11 @@ no_levels line c (short, text, is_text, (keyword, args, e, takes, is_in)) = out_
 no_directions : (line : List ℕ) (c : Corner) → LineAsks language.Plain line (AskEvent (ask.Directions c)) → ⊥
 no_directions line c (short, text, is_text, (keyword, args, e, takes, is_in)) = out_of_plain keyword Directions (λ is. is) is_in (asked_by keyword args (ask.Directions c) takes)
 
+no_upstream : (line : List ℕ) (c : Corner) → LineAsks language.Plain line (AskEvent (ask.Upstream c)) → ⊥
+no_upstream line c (short, text, is_text, (keyword, args, e, takes, is_in)) = out_of_plain keyword Upstream (λ is. is) is_in (asked_by keyword args (ask.Upstream c) takes)
+
+no_info : (line : List ℕ) → LineAsks language.Plain line (AskEvent ask.Info) → ⊥
+no_info line (short, text, is_text, (keyword, args, e, takes, is_in)) = out_of_plain keyword Info (λ is. is) is_in (asked_by keyword args ask.Info takes)
+
 pub plain_is_a_part : PlainIsAPart
-plain_is_a_part = record { kept = kept; besides = besides; no_levels = no_levels; no_directions = no_directions }
+plain_is_a_part = record { kept = kept; besides = besides; no_levels = no_levels; no_directions = no_directions; no_upstream = no_upstream; no_info = no_info }

@@ -6,11 +6,11 @@ use Rattle.std.proofs.lemmas.List.Sums.{AllPass-from_list_all}
 use Rattle.lines.specs.Grammar.{spelling}
 use Rattle.lines.specs.Words.{HasNoSpace}
 use Rattle.lines.specs.declared.keyword.Keyword.{Keyword}
-use Rattle.lines.specs.declared.keyword.Keyword.TheVariants.{Import, Remove, Patch, Burn, Wall, Sink, Unsink, Elev, Fill, Dir, Trace, Watershed, Export, Levels, Directions, Tiles, Sinks, Step, Count, Quit}
+use Rattle.lines.specs.declared.keyword.Keyword.TheVariants.{Import, Remove, Patch, Burn, Wall, Sink, Unsink, Elev, Fill, Dir, Trace, Watershed, Export, Levels, Directions, Upstream, Tiles, Sinks, Step, Count, Info, Quit}
 use Rattle.lines.specs.declared.keyword.TheConstants.{KEYWORDS}
 
 -- what holds of each keyword of the list holds of every keyword
-pub each_keyword : (P : Keyword → Type 0) → ((j : ℕ) → j < 20 → P (get_or KEYWORDS j Quit)) → (k : Keyword) → P k
+pub each_keyword : (P : Keyword → Type 0) → ((j : ℕ) → j < 22 → P (get_or KEYWORDS j Quit)) → (k : Keyword) → P k
 each_keyword P h Import = h 0 (lit< tt)
 each_keyword P h Remove = h 1 (lit< tt)
 each_keyword P h Patch = h 2 (lit< tt)
@@ -26,11 +26,13 @@ each_keyword P h Watershed = h 11 (lit< tt)
 each_keyword P h Export = h 12 (lit< tt)
 each_keyword P h Levels = h 13 (lit< tt)
 each_keyword P h Directions = h 14 (lit< tt)
-each_keyword P h Tiles = h 15 (lit< tt)
-each_keyword P h Sinks = h 16 (lit< tt)
-each_keyword P h Step = h 17 (lit< tt)
-each_keyword P h Count = h 18 (lit< tt)
-each_keyword P h Quit = h 19 (lit< tt)
+each_keyword P h Upstream = h 15 (lit< tt)
+each_keyword P h Tiles = h 16 (lit< tt)
+each_keyword P h Sinks = h 17 (lit< tt)
+each_keyword P h Step = h 18 (lit< tt)
+each_keyword P h Count = h 19 (lit< tt)
+each_keyword P h Info = h 20 (lit< tt)
+each_keyword P h Quit = h 21 (lit< tt)
 
 -- the keyword that a word spells
 abbrev keyword_at : List ℕ → Keyword
@@ -50,10 +52,12 @@ keyword_at word =
     if bytes_eq word (spelling Export) then Export else
     if bytes_eq word (spelling Levels) then Levels else
     if bytes_eq word (spelling Directions) then Directions else
+    if bytes_eq word (spelling Upstream) then Upstream else
     if bytes_eq word (spelling Tiles) then Tiles else
     if bytes_eq word (spelling Sinks) then Sinks else
     if bytes_eq word (spelling Step) then Step else
     if bytes_eq word (spelling Count) then Count else
+    if bytes_eq word (spelling Info) then Info else
     Quit
 
 keyword_at-spelling : (k : Keyword) → keyword_at (spelling k) ≡ k
@@ -72,10 +76,12 @@ keyword_at-spelling Watershed = refl
 keyword_at-spelling Export = refl
 keyword_at-spelling Levels = refl
 keyword_at-spelling Directions = refl
+keyword_at-spelling Upstream = refl
 keyword_at-spelling Tiles = refl
 keyword_at-spelling Sinks = refl
 keyword_at-spelling Step = refl
 keyword_at-spelling Count = refl
+keyword_at-spelling Info = refl
 keyword_at-spelling Quit = refl
 
 pub same_keyword : (j k : Keyword) → spelling j ≡ spelling k → j ≡ k
@@ -107,8 +113,10 @@ spelling-free Watershed = no_space (spelling Watershed) refl
 spelling-free Export = no_space (spelling Export) refl
 spelling-free Levels = no_space (spelling Levels) refl
 spelling-free Directions = no_space (spelling Directions) refl
+spelling-free Upstream = no_space (spelling Upstream) refl
 spelling-free Tiles = no_space (spelling Tiles) refl
 spelling-free Sinks = no_space (spelling Sinks) refl
 spelling-free Step = no_space (spelling Step) refl
 spelling-free Count = no_space (spelling Count) refl
+spelling-free Info = no_space (spelling Info) refl
 spelling-free Quit = no_space (spelling Quit) refl

@@ -4,4 +4,3 @@ pub mod KeywordLemmas
 pub mod NumberLemmas
 pub mod RequestLemmas
 pub mod WordLemmas
-pub mod WriteLemmas

@@ -5,7 +5,7 @@ use Rattle.std.proofs.lemmas.Str.Parse.{digit_from_value}
 use Rattle.std.specs.Str.Parse.{AllDigits}
 use Rattle.lattice.specs.declared.point.Point.{Point}
 use Rattle.lines.specs.declared.keyword.Keyword.{Keyword}
-use Rattle.lines.specs.declared.keyword.Keyword.TheVariants.{Import, Remove, Patch, Burn, Wall, Sink, Unsink, Elev, Fill, Dir, Trace, Watershed, Export, Levels, Directions, Tiles, Sinks, Step, Count, Quit}
+use Rattle.lines.specs.declared.keyword.Keyword.TheVariants.{Import, Remove, Patch, Burn, Wall, Sink, Unsink, Elev, Fill, Dir, Trace, Watershed, Export, Levels, Directions, Upstream, Tiles, Sinks, Step, Count, Info, Quit}
 use Rattle.lines.specs.declared.language.Language.{Language}
 use Rattle.lines.specs.declared.request.Request.{Request}
 use Rattle.lattice.specs.Corners.{Corner}
@@ -74,10 +74,12 @@ takes_free Watershed = at_free _
 takes_free Export = of_free _
 takes_free Levels = of_free _
 takes_free Directions = of_free _
+takes_free Upstream = of_free _
 takes_free Tiles = alone_free _
 takes_free Sinks = alone_free _
 takes_free Step = alone_free _
 takes_free Count = alone_free _
+takes_free Info = alone_free _
 takes_free Quit = alone_free _
 
 -- ---- the text of a line, and its words

@@ -11,7 +11,7 @@ use Rattle.engine.specs.declared.event.Event.TheVariants as ask
 use Rattle.lines.specs.declared.keyword.Keyword.{Keyword}
 use Rattle.lines.specs.declared.language.Language.{Language}
 use Rattle.lines.specs.declared.language.Language.TheVariants.{Plain}
-use Rattle.lines.specs.declared.keyword.Keyword.TheVariants.{Import, Remove, Patch, Burn, Wall, Sink, Unsink, Elev, Fill, Dir, Trace, Watershed, Export, Levels, Directions, Tiles, Sinks, Step, Count, Quit}
+use Rattle.lines.specs.declared.keyword.Keyword.TheVariants.{Import, Remove, Patch, Burn, Wall, Sink, Unsink, Elev, Fill, Dir, Trace, Watershed, Export, Levels, Directions, Upstream, Tiles, Sinks, Step, Count, Info, Quit}
 
 -- WORD: one or more bytes from 0x21 to 0x7E
 abbrev pub IsWord : List ℕ → Type 0
@@ -64,10 +64,12 @@ spelling Watershed = codes "watershed"
 spelling Export = codes "export"
 spelling Levels = codes "levels"
 spelling Directions = codes "directions"
+spelling Upstream = codes "upstream"
 spelling Tiles = codes "tiles"
 spelling Sinks = codes "sinks"
 spelling Step = codes "step"
 spelling Count = codes "count"
+spelling Info = codes "info"
 spelling Quit = codes "quit"
 
 -- 1 to 64 points
@@ -120,10 +122,12 @@ Takes Watershed args asked = AsksAt ask.Watershed args asked
 Takes Export args asked = AsksOf ask.Export args asked
 Takes Levels args asked = AsksOf ask.Levels args asked
 Takes Directions args asked = AsksOf ask.Directions args asked
+Takes Upstream args asked = AsksOf ask.Upstream args asked
 Takes Tiles args asked = AsksAlone (AskEvent ask.Tiles) args asked
 Takes Sinks args asked = AsksAlone (AskEvent ask.Sinks) args asked
 Takes Step args asked = AsksAlone (AskEvent ask.Step) args asked
 Takes Count args asked = AsksAlone (AskEvent ask.Count) args asked
+Takes Info args asked = AsksAlone (AskEvent ask.Info) args asked
 Takes Quit args asked = AsksAlone AskQuit args asked
 
 -- a word, and then each further word behind exactly one space
@@ -131,10 +135,12 @@ abbrev pub spaced : List ℕ → List (List ℕ) → List ℕ
 spaced word [] = word
 spaced word (w ∷ ws) = word ++ 32 ∷ spaced w ws
 
--- the command is of the language: the plain one has no question about all samples of a tile
+-- the command is of the language: the plain one has no question about all samples of a tile, or about the store's numbers
 abbrev pub IsIn : Language → Keyword → Type 0
 IsIn Plain Levels = ⊥
 IsIn Plain Directions = ⊥
+IsIn Plain Upstream = ⊥
+IsIn Plain Info = ⊥
 IsIn language keyword = Unit {0}
 
 -- the text of a line asks for this

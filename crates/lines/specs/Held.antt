@@ -1,9 +1,22 @@
 -- What contracts see of a text: its bytes, wherever they are held (this product's own profile).
-use Rattle.std.specs.Prelude.{ℕ, List, ◌++◌}
-use Rattle.lines.specs.declared.text.Held.{Held}
-use Rattle.lines.specs.declared.text.Held.TheVariants.{Short, Long, Tile}
+use Rattle.std.specs.Prelude.{ℕ, List, [], flat_map}
+use Rattle.lines.specs.declared.lists.Elements.{Elements}
+use Rattle.lines.specs.declared.lists.Elements.TheVariants.{None, Names, Points, Runs}
+use Rattle.lines.specs.declared.text.Body.{Body}
+use Rattle.lines.specs.declared.text.Body.TheVariants as body
+use Rattle.lines.specs.Replies.{line_of, spaced_names, point_line, run_line}
 
-abbrev pub held_in : Held → List ℕ
-held_in (Short line) = line.items
-held_in (Long text) = text.items
-held_in (Tile head bytes) = head.items ++ bytes.items
+-- the text of a list's elements
+abbrev pub text_left : Elements → List ℕ
+text_left None = []
+text_left (Names corners) = line_of (spaced_names corners.now)
+text_left (Points points) = flat_map point_line points.now
+text_left (Runs runs) = flat_map run_line runs.now
+
+-- what comes behind the first line of a text, or goes on in it
+abbrev pub body_text : Body → List ℕ
+body_text body.None = []
+body_text (body.Bytes bytes) = bytes.items
+body_text (body.Names corners) = line_of (spaced_names corners.items)
+body_text (body.Points points) = flat_map point_line points.items
+body_text (body.Runs runs) = flat_map run_line runs.items

@@ -7,7 +7,7 @@ use Rattle.hgt.specs.Bytes.{hgt_bytes}
 use Rattle.hgt.specs.Names.{name_bytes}
 use Rattle.engine.specs.declared.event.Reply.{Reply}
 use Rattle.engine.specs.declared.event.Reply.TheVariants as reply
-use Rattle.lines.specs.Replies.{ok_line, done_text, names_line, path_text, runs_text, refusal_text}
+use Rattle.lines.specs.Replies.{count_bytes, ok_line, done_text, info_line, names_line, path_text, runs_text, refusal_text}
 
 -- `OK`, how many bytes there are, and the bytes
 abbrev pub bytes_text : List ℕ → List ℕ
@@ -27,21 +27,20 @@ text_of (reply.Watershed runs) = runs_text runs.items
 text_of (reply.Export bytes) = bytes_text bytes.items
 text_of (reply.Levels levels) = bytes_text (hgt_bytes levels.items)
 text_of (reply.Directions codes) = bytes_text codes.items
+text_of (reply.Upstream counts) = bytes_text (count_bytes counts.items)
 text_of (reply.Tiles corners) = names_line corners.items
 text_of (reply.Sinks points) = path_text points.items
 text_of (reply.Stepped (Some c)) = ok_line (name_bytes c)
 text_of (reply.Stepped None) = ok_line (codes "none")
 text_of (reply.Count count) = ok_line (decimal count)
+text_of (reply.Info info) = info_line info
 text_of reply.Reopened = done_text
 text_of (reply.Refused r) = refusal_text r
 
--- whether the text of an answer takes memory
+-- whether the text of an answer takes memory beside it
 abbrev pub takes_memory : Reply → Bool
-takes_memory (reply.Trace path) = true
-takes_memory (reply.Watershed runs) = true
 takes_memory (reply.Levels levels) = true
-takes_memory (reply.Tiles corners) = true
-takes_memory (reply.Sinks points) = true
+takes_memory (reply.Upstream counts) = true
 takes_memory answer = false
 
 -- an answer is told by its text, or by want of memory for that

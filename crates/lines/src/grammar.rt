@@ -64,6 +64,10 @@ fn with_arguments<'a>(command: Keyword, arguments: Words<'a>) -> Option<Request<
             Some(corner) => Event::Directions(corner),
             None => return Some(Request::BadName),
         },
+        Keyword::Upstream => match tile(arguments)? {
+            Some(corner) => Event::Upstream(corner),
+            None => return Some(Request::BadName),
+        },
         Keyword::Patch => patch(arguments)?,
         Keyword::Burn => {
             let (depth, points) = number_and_points(arguments)?;
@@ -90,6 +94,7 @@ fn with_arguments<'a>(command: Keyword, arguments: Words<'a>) -> Option<Request<
         Keyword::Sinks => return alone(arguments, Request::Ask(Event::Sinks)),
         Keyword::Step => return alone(arguments, Request::Ask(Event::Step)),
         Keyword::Count => return alone(arguments, Request::Ask(Event::Count)),
+        Keyword::Info => return alone(arguments, Request::Ask(Event::Info)),
         Keyword::Quit => return alone(arguments, Request::Quit),
     };
     Some(Request::Ask(event))

@@ -20,14 +20,16 @@ pub enum Keyword {
     Export,
     Levels,
     Directions,
+    Upstream,
     Tiles,
     Sinks,
     Step,
     Count,
+    Info,
     Quit,
 }
 
-const KEYWORDS: [Keyword; 20] = [
+const KEYWORDS: [Keyword; 22] = [
     Keyword::Import,
     Keyword::Remove,
     Keyword::Patch,
@@ -43,10 +45,12 @@ const KEYWORDS: [Keyword; 20] = [
     Keyword::Export,
     Keyword::Levels,
     Keyword::Directions,
+    Keyword::Upstream,
     Keyword::Tiles,
     Keyword::Sinks,
     Keyword::Step,
     Keyword::Count,
+    Keyword::Info,
     Keyword::Quit,
 ];
 
@@ -82,10 +86,12 @@ impl Keyword {
             Keyword::Export => b"export",
             Keyword::Levels => b"levels",
             Keyword::Directions => b"directions",
+            Keyword::Upstream => b"upstream",
             Keyword::Tiles => b"tiles",
             Keyword::Sinks => b"sinks",
             Keyword::Step => b"step",
             Keyword::Count => b"count",
+            Keyword::Info => b"info",
             Keyword::Quit => b"quit",
         }
     }

@@ -10,7 +10,7 @@ use crate::keyword::Keyword;
 pub enum Language {
     /// Those of the program `mosaic`.
     Plain,
-    /// Those too that ask about all samples of a tile at once.
+    /// Those too that ask about all samples of a tile at once, or for the store's numbers.
     Tiles,
 }
 
@@ -20,14 +20,16 @@ impl Language {
         ensures { IsTrue result ↔ IsIn self command }
     {
         match command {
-            Keyword::Levels | Keyword::Directions => self == Language::Tiles,
+            Keyword::Levels | Keyword::Directions | Keyword::Upstream | Keyword::Info => {
+                self == Language::Tiles
+            }
             _ => true,
         }
     }
 }
 
-/// Each line of the plain language asks for the same in the other one, and never for all samples of a tile; and each line that
-/// the other one has besides begins with a word for these.
+/// Each line of the plain language asks for the same in the other one, and never for all samples of a tile or for the store's
+/// numbers; and each line that the other one has besides begins with a word for these.
 ///
 /// The function does nothing: its contract is the law.
 pub fn plain_lines_ask_for_no_tile_at_once()

@@ -7,11 +7,13 @@
 //! ```
 //! let request = request_of(Language::Plain, b"fill 1 1"); // Some: the event to fill y = 1, x = 1
 //! let text = format_reply(alloc, reply);                 // "OK 5" and an LF
-//! text.write(&mut writer)?;
+//! let (mut rest, bytes) = text.parts();                  // the bytes of a tile stand apart
+//! let part = rest.next_part();                           // of a list's text a part is made at a time
 //! ```
 #![tactic(auto)]
 
 mod bytes;
+mod counts;
 mod grammar;
 mod keyword;
 mod language;
@@ -23,10 +25,12 @@ mod source;
 mod text;
 mod words;
 
+pub use counts::count_bytes;
 pub use grammar::request_of;
 pub use language::{Language, plain_lines_ask_for_no_tile_at_once};
+pub use lists::{Part, Rest};
 pub use number::natural;
 pub use replying::format_reply;
 pub use request::{MOST_POINTS, Request};
 pub use source::{Ahead, Extent, Line, ReadFault, read_line, read_payload, skip_payload};
-pub use text::{Text, WriteFault, write_bytes};
+pub use text::Text;

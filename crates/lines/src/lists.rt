@@ -1,44 +1,191 @@
-//! Names of tiles, and lines of numbers: points, and runs of points.
-ghost use Rattle.std.specs.Prelude.{◌≡◌, ◌++◌, ◌∷◌, [], OnOk, flat_map};
+//! Lists as text, made a part at a time behind their first line: names of tiles, and lines of numbers for points and runs of points.
+ghost use Rattle.std.specs.Prelude.{◌≡◌, ◌≢◌, ◌+◌, ◌≤◌, ◌<◌, ◌++◌, ◌∷◌, ◌↔◌, ℕ, List, [], IsTrue, flat_map, length};
 ghost use Rattle.std.specs.Fmt.{signed_decimal};
 ghost use Rattle.std.specs.List.{sum_by};
-ghost use Rattle.lines.specs.Replies.{line_of, point_line, run_line, run_count, spaced_names};
+ghost use Rattle.lines.specs.Held.{text_left};
+ghost use Rattle.lines.specs.Replies.{line_of, name_after_space, point_line, run_line, spaced_names};
+ghost use Rattle.watershed.specs.Runs.{run_count};
 
+use arrayvec::ArrayVec;
 use hgt::name_text;
 use itoa::Buffer;
 use lattice::{Corner, Point};
-use std::alloc::AllocError;
+use std::marker::Model;
 use watershed::Run;
 
-/// The text goes on by the tiles' names, each after a space.
-pub(crate) fn extend_names(text: &mut Vec<u8>, corners: &[Corner]) -> Result<(), AllocError>
-    ensures { OnOk result (text.new.items ≡ text.old.items ++ spaced_names corners.now) }
-{
-    for corner in corners {
-        text.push(b' ')?;
-        text.extend_from_slice(name_text(*corner).as_bytes())?;
-    }
-    Ok(())
+/// Room for the part of a text that is made at once, in bytes.
+const PART_BYTES: usize = 3072;
+
+/// Room for `OK`, a store's numbers and an LF, and for `ERR`, a refusal and an LF.
+pub(crate) const LONGEST_LINE: usize = 384;
+
+/// Room for one element's text: three numbers, each with a byte after it.
+const LONGEST_ELEMENT: usize = 128;
+
+/// Room for a number and the byte after it.
+const LONGEST_NUMBER: usize = 41;
+
+/// A part of a text.
+pub type Part = ArrayVec<u8, PART_BYTES>;
+
+/// What a list is made of.
+trait Element: Copy {
+    ghost text: { Self → List ℕ };
+
+    /// The part goes on by the element's text.
+    fn tell(self, part: &mut Part)
+        requires { length part.old.items + LONGEST_ELEMENT ≤ PART_BYTES }
+        ensures told { part.new.items ≡ part.old.items ++ text self }
+        ensures short { length part.new.items ≤ length part.old.items + LONGEST_ELEMENT }
+        ensures some { 0 < length (text self) };
 }
 
-/// The text goes on by a line `y x` for each point.
-pub(crate) fn extend_points(text: &mut Vec<u8>, points: &[Point]) -> Result<(), AllocError>
-    ensures { OnOk result (text.new.items ≡ text.old.items ++ flat_map point_line points.now) }
-{
-    for point in points {
-        extend_point(text, *point)?;
+/// A tile's name, after a space.
+impl Element for Corner {
+    ghost text = { name_after_space };
+
+    fn tell(self, part: &mut Part) {
+        add(part, b" ");
+        add(part, name_text(self).as_bytes());
     }
-    Ok(())
 }
 
-/// The text goes on by a line `y first last` for each run.
-pub(crate) fn extend_runs(text: &mut Vec<u8>, runs: &[Run]) -> Result<(), AllocError>
-    ensures { OnOk result (text.new.items ≡ text.old.items ++ flat_map run_line runs.now) }
-{
-    for run in runs {
-        extend_run(text, *run)?;
+/// A point's line `y x`.
+impl Element for Point {
+    ghost text = { point_line };
+
+    fn tell(self, part: &mut Part) {
+        add_number(part, self.y, b' ');
+        add_number(part, self.x, b'\n');
     }
-    Ok(())
+}
+
+/// A run's line `y first last`.
+impl Element for Run {
+    ghost text = { run_line };
+
+    fn tell(self, part: &mut Part) {
+        add_number(part, self.y, b' ');
+        add_number(part, self.first, b' ');
+        add_number(part, self.last, b'\n');
+    }
+}
+
+/// The part goes on by the text of these elements, as many as it has room for. What is left of them is answered.
+fn tell_some<'a, T: Element>(part: &mut Part, elements: &'a [T]) -> &'a [T]
+    requires { length part.old.items ≤ LONGEST_LINE }
+    ensures told { part.new.items ++ flat_map T.text result.now
+        ≡ part.old.items ++ flat_map T.text elements.now }
+    ensures room { length part.new.items < PART_BYTES }
+    ensures some { 0 < length part.old.items + length elements.now → 0 < length part.new.items }
+    ensures left { length result.now ≤ length elements.now }
+{
+    let mut count = 0;
+    while count < elements.len() && part.len() + LONGEST_ELEMENT < PART_BYTES {
+        elements[count].tell(part);
+        count += 1;
+    }
+    &elements[count..]
+}
+
+/// What of a text isn't made yet: its head, and the text of a list.
+#[derive(Drop)]
+pub struct Rest<'a> {
+    head: &'a [u8],
+    left: Elements<'a>,
+}
+
+/// The elements whose text isn't made yet. Behind the last name comes an LF.
+#[derive(Clone, Copy)]
+pub(crate) enum Elements<'a> {
+    None,
+    Names(&'a [Corner]),
+    Points(&'a [Point]),
+    Runs(&'a [Run]),
+}
+
+impl<'a> Model for Rest<'a> {
+    ghost use Rattle.std.specs.Prelude.{◌≤◌, ◌++◌, ℕ, List, length};
+    ghost use Rattle.lines.specs.Held.{text_left};
+
+    ghost Value = { List ℕ };
+
+    ghost view = { λ r. r.head.now ++ text_left r.left };
+
+    // The head fits into a line, and so into a part.
+    ghost invariant = { λ r. length r.head.now ≤ 384 };
+}
+
+impl<'a> Rest<'a> {
+    /// The head, and the text of these elements.
+    pub(crate) fn new(head: &'a [u8], left: Elements<'a>) -> Rest<'a>
+        requires { length head.now ≤ LONGEST_LINE }
+        ensures { result ≡ head.now ++ text_left left.entry }
+    {
+        Rest { head, left }
+    }
+
+    /// Whether all of it is made.
+    pub fn is_made(&self) -> bool
+        ensures { IsTrue result ↔ (self.now ≡ []) }
+    {
+        self.head.is_empty() && self.left.is_made()
+    }
+
+    /// Makes the next part, of a byte at least where any is left.
+    pub fn next_part(&mut self) -> Part
+        ensures next { result.items ++ self.new ≡ self.old }
+        ensures some { self.old ≢ [] → 0 < length result.items }
+    {
+        let mut part = Part::new();
+        add(&mut part, self.head);
+        self.head = &[];
+        self.left = self.left.tell(&mut part);
+        part
+    }
+}
+
+impl<'a> Elements<'a> {
+    /// Whether the text of all of them is made.
+    fn is_made(self) -> bool
+        ensures { IsTrue result ↔ (text_left self.entry ≡ []) }
+    {
+        match self {
+            Elements::None => true,
+            Elements::Names(_) => false,
+            Elements::Points(points) => points.is_empty(),
+            Elements::Runs(runs) => runs.is_empty(),
+        }
+    }
+
+    /// The part goes on by the text of these elements, as many as it has room for. What is left of them is answered.
+    fn tell(self, part: &mut Part) -> Elements<'a>
+        requires { length part.old.items ≤ LONGEST_LINE }
+        ensures told { part.new.items ++ text_left result ≡ part.old.items ++ text_left self.entry }
+        ensures some { part.old.items ++ text_left self.entry ≢ [] → 0 < length part.new.items }
+    {
+        match self {
+            Elements::None => Elements::None,
+            Elements::Names(corners) => tell_names(part, corners),
+            Elements::Points(points) => Elements::Points(tell_some(part, points)),
+            Elements::Runs(runs) => Elements::Runs(tell_some(part, runs)),
+        }
+    }
+}
+
+/// The part goes on by names, and by the LF behind the last.
+fn tell_names<'a>(part: &mut Part, corners: &'a [Corner]) -> Elements<'a>
+    requires { length part.old.items ≤ LONGEST_LINE }
+    ensures told { part.new.items ++ text_left result
+        ≡ part.old.items ++ line_of (spaced_names corners.now) }
+    ensures some { 0 < length part.new.items }
+{
+    let left = tell_some(part, corners);
+    if !left.is_empty() {
+        return Elements::Names(left);
+    }
+    add(part, b"\n");
+    Elements::None
 }
 
 /// How many points the runs have.
@@ -52,35 +199,21 @@ pub(crate) fn point_count(runs: &[Run]) -> u128
     count
 }
 
-/// The lines go on by the point's.
-fn extend_point(lines: &mut Vec<u8>, point: Point) -> Result<(), AllocError>
-    ensures { OnOk result (lines.new.items ≡ lines.old.items ++ point_line point) }
-{
-    end_line(lines, point.y, point.x)
-}
-
-/// The lines go on by the run's.
-fn extend_run(lines: &mut Vec<u8>, run: Run) -> Result<(), AllocError>
-    ensures { OnOk result (lines.new.items ≡ lines.old.items ++ run_line run) }
-{
-    extend_number(lines, run.y, b' ')?;
-    end_line(lines, run.first, run.last)
-}
-
-/// The lines go on by two numbers, which end a line.
-fn end_line(lines: &mut Vec<u8>, first: i32, second: i32) -> Result<(), AllocError>
-    ensures { OnOk result (lines.new.items ≡ lines.old.items ++ line_of (signed_decimal first ++ 32 ∷ signed_decimal second)) }
-{
-    extend_number(lines, first, b' ')?;
-    extend_number(lines, second, b'\n')
-}
-
-/// The lines go on by a number and the byte after it.
-fn extend_number(lines: &mut Vec<u8>, number: i32, after: u8) -> Result<(), AllocError>
-    ensures { OnOk result (lines.new.items ≡ lines.old.items ++ signed_decimal number ++ after ∷ []) }
+/// The part goes on by a number and the byte after it.
+fn add_number(part: &mut Part, number: i32, after: u8)
+    requires { length part.old.items + LONGEST_NUMBER ≤ PART_BYTES }
+    ensures told { part.new.items ≡ part.old.items ++ signed_decimal number ++ after ∷ [] }
+    ensures short { length part.new.items ≤ length part.old.items + LONGEST_NUMBER }
 {
     let mut buffer = Buffer::new();
-    lines.extend_from_slice(buffer.format(number).as_bytes())?;
-    lines.push(after)?;
-    Ok(())
+    add(part, buffer.format(number).as_bytes());
+    add(part, &[after]);
+}
+
+/// The part goes on by these bytes, for which it has room.
+fn add(part: &mut Part, bytes: &[u8])
+    requires { length part.old.items + length bytes.now ≤ PART_BYTES }
+    ensures { part.new.items ≡ part.old.items ++ bytes.now }
+{
+    let _ = part.try_extend_from_slice(bytes);
 }

@@ -2,14 +2,17 @@
 ghost use Rattle.std.specs.Prelude.{◌≡◌, MatchResult};
 ghost use Rattle.engine.specs.declared.event.Reply.TheVariants as answers;
 ghost use Rattle.lines.specs.Replies.{refusal_text};
-ghost use Rattle.lines.specs.Telling.{Tells, text_of};
+ghost use Rattle.lines.specs.Telling.{Tells, bytes_text, text_of};
 
+use crate::counts::count_bytes;
 use crate::text::Text;
 use engine::Reply;
+use hgt::bytes_of;
 use lattice::{Corner, Height, Refusal};
 use std::alloc::{AllocError, Global};
 
-/// The text of this reply, or of `ERR 21 NoMemory` where there is no memory for it.
+/// The text of this reply. Those of levels and of upstream counts take memory for their bytes: `ERR 21 NoMemory` where it is
+/// refused.
 pub fn format_reply(alloc: Global, reply: Reply) -> Text
     ensures { Tells reply result }
 {
@@ -18,17 +21,26 @@ pub fn format_reply(alloc: Global, reply: Reply) -> Text
         Reply::Elevation(height) => tell_height(height),
         Reply::Fill(level) => Text::number(level),
         Reply::Direction(code) => Text::number(code),
-        Reply::Trace(points) | Reply::Sinks(points) => or_no_memory(Text::path(
-            alloc,
-            points.as_slice(),
-        )),
-        Reply::Watershed(runs) => or_no_memory(Text::runs(alloc, runs.as_slice())),
+        Reply::Trace(points) | Reply::Sinks(points) => Text::path(points),
+        Reply::Watershed(runs) => Text::runs(runs),
         Reply::Export(bytes) | Reply::Directions(bytes) => Text::bytes(bytes),
-        Reply::Levels(levels) => or_no_memory(Text::samples(alloc, levels.as_slice())),
-        Reply::Tiles(corners) => or_no_memory(Text::names(alloc, corners.as_slice())),
+        Reply::Levels(levels) => tell_bytes(bytes_of(alloc, levels.as_slice())),
+        Reply::Upstream(counts) => tell_bytes(count_bytes(alloc, counts.as_slice())),
+        Reply::Tiles(corners) => Text::names(corners),
         Reply::Stepped(tile) => tell_step(tile),
+        Reply::Info(info) => Text::info(&info),
         Reply::Reopened => Text::done(),
         Reply::Refused(refusal) => Text::refused(refusal),
+    }
+}
+
+/// Bytes of a whole tile, or that there was no memory for them.
+fn tell_bytes(bytes: Result<Vec<u8>, AllocError>) -> Text
+    ensures { MatchResult bytes (λ made. result ≡ bytes_text made.items) (λ _. result ≡ refusal_text Refusal.NoMemory) }
+{
+    match bytes {
+        Ok(bytes) => Text::bytes(bytes),
+        Err(_) => Text::refused(Refusal::NoMemory),
     }
 }
 
@@ -50,15 +62,5 @@ fn tell_step(tile: Option<Corner>) -> Text
     match tile {
         Some(corner) => Text::name(corner),
         None => Text::none(),
-    }
-}
-
-/// The text, or that there was no memory for it.
-fn or_no_memory(text: Result<Text, AllocError>) -> Text
-    ensures { MatchResult text (λ made. result ≡ made) (λ _. result ≡ refusal_text Refusal.NoMemory) }
-{
-    match text {
-        Ok(text) => text,
-        Err(_) => Text::refused(Refusal::NoMemory),
     }
 }

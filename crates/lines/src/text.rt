@@ -1,52 +1,52 @@
 //! What is written for a line: `OK` with a value, or `ERR` with the number and the word of a refusal. Each line of a
 //! reply ends in an LF.
-ghost use Rattle.std.specs.Prelude.{◌≡◌, ◌+◌, ◌≤◌, ℕ, List, ◌++◌, length, IfOk, OnOk, OnErr, take, codes, decimal};
-ghost use Rattle.std.specs.Io.KnownBytes.{Appends};
-ghost use Rattle.hgt.specs.Bytes.{hgt_bytes};
+ghost use Rattle.std.specs.Prelude.{◌≡◌, ◌+◌, ◌≤◌, ◌++◌, length, codes, decimal};
 ghost use Rattle.hgt.specs.Names.{name_bytes};
-ghost use Rattle.lines.specs.Replies.{ok_line, done_text, names_line, path_text, refusal_text, runs_text};
+ghost use Rattle.lines.specs.Held.{body_text, text_left};
+ghost use Rattle.lines.specs.Replies.{ok_line, done_text, info_line, names_line, path_text, refusal_text, runs_text};
 
-use crate::lists::{extend_names, extend_points, extend_runs, point_count};
+use crate::lists::{Elements, LONGEST_LINE, Rest, point_count};
 use arrayvec::ArrayVec;
-use hgt::{bytes_of, name_text};
+use engine::Info;
+use hgt::name_text;
 use itoa::{Buffer, Integer};
 use lattice::{Corner, Point, Refusal};
-use std::alloc::{AllocError, Global};
-use std::io::Write;
 use std::marker::Model;
 use watershed::Run;
 
-/// Room for `OK`, a number and an LF, and for `ERR`, a refusal and an LF.
-const LONGEST_LINE: usize = 64;
+/// Room for a number.
+const LONGEST_NUMBER: usize = 40;
 
-/// The text of a reply, made whole before any of it is written.
+/// The text of a reply.
 ///
-/// One line of a bounded length needs no memory, nor do the bytes of a tile, which are held as they came; `samples`, `names`,
-/// `path` and `runs` do.
+/// It takes no memory beside the answer that it tells: the bytes of a tile are held as they came, and the text of a list is made
+/// while it is written, a part at a time.
 #[derive(Drop)]
 pub struct Text {
-    held: Held,
+    head: ArrayVec<u8, LONGEST_LINE>,
+    body: Body,
 }
 
-/// Where a text is held.
+/// What comes behind the head.
 #[derive(Drop)]
-enum Held {
-    Short(ArrayVec<u8, LONGEST_LINE>),
-    Long(Vec<u8>),
-    Tile(ArrayVec<u8, LONGEST_LINE>, Vec<u8>),
+enum Body {
+    None,
+    Bytes(Vec<u8>),
+    Names(Vec<Corner>),
+    Points(Vec<Point>),
+    Runs(Vec<Run>),
 }
 
 impl Model for Text {
-    ghost use Rattle.std.specs.Prelude.{ℕ, List};
+    ghost use Rattle.std.specs.Prelude.{◌++◌, ℕ, List};
+    ghost use Rattle.lines.specs.Held.{body_text};
     ghost use Rattle.lines.specs.Replies.{reply_code};
 
     ghost Value = { List ℕ };
 
     ghost coded = { reply_code };
 
-    ghost use Rattle.lines.specs.Held.{held_in};
-
-    ghost view = { λ t. held_in t.held };
+    ghost view = { λ t. t.head.items ++ body_text t.body };
 }
 
 impl Text {
@@ -103,87 +103,107 @@ impl Text {
     pub fn bytes(bytes: Vec<u8>) -> Text
         ensures { result ≡ ok_line (decimal (length bytes.items)) ++ bytes.items }
     {
-        let mut buffer = Buffer::new();
-        let count = buffer.format(bytes.len()).as_bytes();
-        let head = joined(b"OK ", count, b"\n");
         Text {
-            held: Held::Tile(head, bytes),
+            head: count_line(bytes.len(), b"\n"),
+            body: Body::Bytes(bytes),
         }
-    }
-
-    /// The same of the samples' HGT bytes.
-    pub fn samples(alloc: Global, samples: &[i16]) -> Result<Text, AllocError>
-        ensures { IfOk result (λ r. r ≡ ok_line (decimal (length (hgt_bytes samples.now))) ++ hgt_bytes samples.now) }
-    {
-        Ok(Text::bytes(bytes_of(alloc, samples)?))
     }
 
     /// `OK`, the number of tiles, and their names.
-    pub fn names(alloc: Global, corners: &[Corner]) -> Result<Text, AllocError>
-        ensures { IfOk result (λ r. r ≡ names_line corners.now) }
+    pub fn names(corners: Vec<Corner>) -> Text
+        ensures { result ≡ names_line corners.items }
     {
-        let mut buffer = Buffer::new();
-        let count = buffer.format(corners.len()).as_bytes();
-        let head = joined(b"OK ", count, b"");
-        let mut text = Vec::from_slice(alloc, head.as_slice())?;
-        extend_names(&mut text, corners)?;
-        text.push(b'\n')?;
-        Ok(Text::lines(text))
+        Text {
+            head: count_line(corners.len(), b""),
+            body: Body::Names(corners),
+        }
     }
 
     /// `OK` and the number of points, then a line `y x` for each.
-    pub fn path(alloc: Global, points: &[Point]) -> Result<Text, AllocError>
-        ensures { IfOk result (λ r. r ≡ path_text points.now) }
+    pub fn path(points: Vec<Point>) -> Text
+        ensures { result ≡ path_text points.items }
     {
-        let mut buffer = Buffer::new();
-        let count = buffer.format(points.len()).as_bytes();
-        let head = joined(b"OK ", count, b"\n");
-        let mut text = Vec::from_slice(alloc, head.as_slice())?;
-        extend_points(&mut text, points)?;
-        Ok(Text::lines(text))
+        Text {
+            head: count_line(points.len(), b"\n"),
+            body: Body::Points(points),
+        }
     }
 
     /// `OK`, the number of the runs' points and that of the runs, then a line `y first last` for each run.
-    pub fn runs(alloc: Global, runs: &[Run]) -> Result<Text, AllocError>
-        ensures { IfOk result (λ r. r ≡ runs_text runs.now) }
+    pub fn runs(runs: Vec<Run>) -> Text
+        ensures { result ≡ runs_text runs.items }
     {
         let mut points = Buffer::new();
+        let mut head = joined(
+            b"OK ",
+            points.format(point_count(runs.as_slice())).as_bytes(),
+            b" ",
+        );
         let mut count = Buffer::new();
-        let mut text = Vec::from_slice(alloc, b"OK ")?;
-        text.extend_from_slice(points.format(point_count(runs)).as_bytes())?;
-        text.push(b' ')?;
-        text.extend_from_slice(count.format(runs.len()).as_bytes())?;
-        text.push(b'\n')?;
-        extend_runs(&mut text, runs)?;
-        Ok(Text::lines(text))
-    }
-
-    /// The text's bytes in two parts, of which the second is empty but for the bytes of a tile: its head comes first.
-    pub fn parts(&self) -> (&[u8], &[u8])
-        ensures { result.0.now ++ result.1.now ≡ self.now }
-    {
-        match &self.held {
-            Held::Short(line) => (line.as_slice(), &[]),
-            Held::Long(text) => (text.as_slice(), &[]),
-            Held::Tile(head, bytes) => (head.as_slice(), bytes.as_slice()),
+        extend(&mut head, count.format(runs.len()).as_bytes());
+        extend(&mut head, b"\n");
+        Text {
+            head,
+            body: Body::Runs(runs),
         }
     }
 
-    fn line(line: ArrayVec<u8, LONGEST_LINE>) -> Text
-        ensures { result ≡ line.items }
+    /// `OK` and a store's numbers, each behind its word.
+    pub fn info(info: &Info) -> Text
+        ensures { result ≡ info_line info.now }
+    {
+        let mut line = joined(b"OK", b"", b"");
+        extend_number(&mut line, b" side ", u64::from(info.side));
+        extend_number(&mut line, b" capacity ", u64::from(info.capacity));
+        extend_number(&mut line, b" version ", u64::from(info.version));
+        extend_number(&mut line, b" count ", info.count);
+        extend_number(&mut line, b" commits ", info.commits);
+        extend_number(&mut line, b" fresh ", info.fresh);
+        extend_number(&mut line, b" stale ", info.stale);
+        extend(&mut line, b"\n");
+        Text::line(line)
+    }
+
+    /// The text in two parts: its head with the text of a list, and the bytes of a tile.
+    pub fn parts(&self) -> (Rest<'_>, &[u8])
+        ensures { result.0 ++ result.1.now ≡ self.now }
+    {
+        let (left, bytes) = self.body.parts();
+        (Rest::new(self.head.as_slice(), left), bytes)
+    }
+
+    fn line(head: ArrayVec<u8, LONGEST_LINE>) -> Text
+        ensures { result ≡ head.items }
     {
         Text {
-            held: Held::Short(line),
+            head,
+            body: Body::None,
         }
     }
+}
 
-    fn lines(text: Vec<u8>) -> Text
-        ensures { result ≡ text.items }
+impl Body {
+    /// The elements of a list, and the bytes of a tile.
+    fn parts(&self) -> (Elements<'_>, &[u8])
+        ensures { text_left result.0 ++ result.1.now ≡ body_text self.now }
     {
-        Text {
-            held: Held::Long(text),
+        match self {
+            Body::None => (Elements::None, &[]),
+            Body::Bytes(bytes) => (Elements::None, bytes.as_slice()),
+            Body::Names(corners) => (Elements::Names(corners.as_slice()), &[]),
+            Body::Points(points) => (Elements::Points(points.as_slice()), &[]),
+            Body::Runs(runs) => (Elements::Runs(runs.as_slice()), &[]),
         }
     }
+}
+
+/// `OK`, a count, and what comes after it.
+fn count_line(count: usize, after: &[u8]) -> ArrayVec<u8, LONGEST_LINE>
+    requires { length after.now ≤ 1 }
+    ensures { result.items ≡ codes "OK " ++ decimal count ++ after.now }
+{
+    let mut buffer = Buffer::new();
+    joined(b"OK ", buffer.format(count).as_bytes(), after)
 }
 
 /// Three parts as one line.
@@ -206,40 +226,13 @@ fn extend(line: &mut ArrayVec<u8, LONGEST_LINE>, more: &[u8])
     let _ = line.try_extend_from_slice(more);
 }
 
-/// A write failed, or took no byte.
-#[derive(Clone, Copy, Debug, PartialEq, Eq)]
-pub struct WriteFault;
-
-impl Text {
-    /// Writes the text, by one call of `write` where the writer takes it whole; ahead of a tile's bytes goes their head by a
-    /// call of its own. After a fault a beginning of it was written.
-    pub fn write<W: Write>(&self, writer: &mut W) -> Result<(), WriteFault>
-        ensures ok { OnOk result (Appends (W.contents writer.old) (W.contents writer.new) self.now) }
-        ensures err { OnErr result ((n : ℕ) × Appends (W.contents writer.old) (W.contents writer.new) (take n self.now)) }
-    {
-        match &self.held {
-            Held::Short(line) => write_bytes(writer, line.as_slice()),
-            Held::Long(text) => write_bytes(writer, text.as_slice()),
-            Held::Tile(head, bytes) => {
-                write_bytes(writer, head.as_slice())?;
-                write_bytes(writer, bytes.as_slice())
-            }
-        }
-    }
-}
-
-/// Writes all the bytes. After a fault a beginning of them was written.
-pub fn write_bytes<W: Write>(writer: &mut W, bytes: &[u8]) -> Result<(), WriteFault>
-    ensures ok { OnOk result (Appends (W.contents writer.old) (W.contents writer.new) bytes.now) }
-    ensures err { OnErr result ((n : ℕ) × Appends (W.contents writer.old) (W.contents writer.new) (take n bytes.now)) }
+/// The line goes on by a word and its number, for which it has room.
+fn extend_number(line: &mut ArrayVec<u8, LONGEST_LINE>, word: &[u8], number: u64)
+    requires { length line.old.items + length word.now + LONGEST_NUMBER ≤ LONGEST_LINE }
+    ensures told { line.new.items ≡ line.old.items ++ word.now ++ decimal number }
+    ensures short { length line.new.items ≤ length line.old.items + length word.now + LONGEST_NUMBER }
 {
-    let mut at = 0;
-    while at < bytes.len() {
-        match writer.write(&bytes[at..]) {
-            Ok(0) => return Err(WriteFault),
-            Ok(count) => at += count,
-            Err(_) => return Err(WriteFault),
-        }
-    }
-    Ok(())
+    let mut buffer = Buffer::new();
+    extend(line, word);
+    extend(line, buffer.format(number).as_bytes());
 }

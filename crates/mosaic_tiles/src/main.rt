@@ -7,6 +7,7 @@ mod layers;
 mod tests;
 mod writing;
 
+use crate::layers::writing_in;
 use crate::writing::write_tiles;
 use server::{CheckedWriter, FilePlaces, Language, Output, carry_out};
 use std::io;
@@ -31,8 +32,8 @@ fn run<R: Read, O: Output>(
     reader: &mut R,
     writer: &mut O,
 ) -> u8 {
-    if words.len() > 4 && words[0].as_str() == "write" {
-        return write_tiles(rt, &words[1..], writer);
+    if let Some(asked) = writing_in(words) {
+        return write_tiles(rt, &asked, writer);
     }
     let mut places = FilePlaces::<Brand>::new(rt);
     carry_out(

@@ -10,6 +10,7 @@ use std::marker::Brand;
 use std::process::Abort;
 use std::test::Fail;
 use test_tiles::lines_of;
+use watershed::Run;
 
 fn owned(alloc: Global, words: &[&str]) -> Result<Vec<String>, AllocError> {
     let mut list = Vec::new(alloc);
@@ -46,11 +47,13 @@ fn tiles_by_lines(rt: HostRuntime) -> Result<(), Fail> {
         "levels n00e000",
         "import N45E045 $H",
         "directions N45E045",
+        "upstream N45E045",
         "levels N0",
         "directions S45E045",
         "levels",
         "directions  N00E000",
         "count",
+        "info",
     ];
     let wanted = [
         "ERR 5 NoTile",
@@ -58,11 +61,13 @@ fn tiles_by_lines(rt: HostRuntime) -> Result<(), Fail> {
         "OK 18\n\0\x09\0\x09\0\x09\0\x09\0\x05\0\x09\0\x09\0\x09\0\x05$",
         "OK 2",
         "OK 9\n\x04\x08\0\0\x10\0\x40\x20\0$",
+        "OK 36\n\0\0\0\x01\0\0\0\x01\0\0\0\x01\0\0\0\x06\0\0\0\x01\0\0\0\x01\0\0\0\x01\0\0\0\x01\0\0\0\x01$",
         "ERR 2 BadName",
         "ERR 5 NoTile",
         "ERR 1 BadLine",
         "ERR 1 BadLine",
         "OK 2",
+        "OK side 3 capacity 4 version 2 count 2 commits 3 fresh 0 stale 2",
     ];
     assert!(rt; ends(&rt, &["table", "3", "4"], &lines, 0, &wanted)?);
     Ok(())
@@ -71,13 +76,21 @@ fn tiles_by_lines(rt: HostRuntime) -> Result<(), Fail> {
 #[test]
 fn mosaic_has_no_such_words(rt: HostRuntime) -> Result<(), Fail> {
     let words = owned(rt.alloc(), &["table", "3", "4"])?;
-    let mut reader: &[u8] = b"levels N00E000\ndirections x\ncount\n";
+    let mut reader: &[u8] = b"levels N00E000\ndirections x\ninfo\ncount\n";
     let mut writer = CheckedWriter::new(Vec::new(rt.alloc()));
     let mut places = FilePlaces::<Brand>::new(&rt);
     let _ = program(rt.alloc(), &mut places, &words, &mut reader, &mut writer);
-    let wanted: &[u8] = b"ERR 1 BadLine\nERR 1 BadLine\nOK 0\n";
+    let wanted: &[u8] = b"ERR 1 BadLine\nERR 1 BadLine\nERR 1 BadLine\nOK 0\n";
     assert_eq!(rt; writer.into_inner().as_slice(), wanted);
     Ok(())
+}
+
+fn points_in(runs: &[Run]) -> u32 {
+    let mut count = 0u32;
+    for run in runs {
+        count = count.saturating_add(run.last.abs_diff(run.first).saturating_add(1));
+    }
+    count
 }
 
 /// Whether what the engine answers of each tile is what it answers of its points.
@@ -87,12 +100,15 @@ fn tells_points<E: Engine>(engine: &mut E) -> Result<bool, Refusal> {
     for corner in engine.tiles()? {
         let levels = engine.levels(corner)?;
         let codes = engine.directions(corner)?;
+        let counts = engine.upstream(corner)?;
         for index in 0..side.area() {
             let point = point_at(side, corner, index);
             let level = engine.fill(point).unwrap_or(VOID);
             let code = engine.direction(point).unwrap_or(255);
+            let count = engine.watershed(point).map_or(0, |runs| points_in(&runs));
             let at = index as usize;
             holds = holds && levels.get(at) == Some(&level) && codes.get(at) == Some(&code);
+            holds = holds && counts.get(at) == Some(&count);
         }
     }
     Ok(holds)
@@ -120,7 +136,7 @@ fn check_points<E: Engine>(rt: &impl Abort, alloc: Global, engine: &mut E) -> Re
 fn samples_as_their_points(rt: HostRuntime) -> Result<(), Fail> {
     let alloc = rt.alloc();
     let mut store = store_in_memory(alloc, 60, 3, 4)?;
-    let mut table = TableEngine::new(alloc, store.tile_side(), 4);
+    let mut table = TableEngine::new(alloc, Engine::side(&store), 4);
     check_points(&rt, alloc, &mut store)?;
     check_points(&rt, alloc, &mut table)
 }
@@ -128,7 +144,7 @@ fn samples_as_their_points(rt: HostRuntime) -> Result<(), Fail> {
 #[test]
 fn files_of_tiles(rt: HostRuntime) -> Result<(), Fail> {
     let store = "mosaic_tiles_test";
-    let files = ["./N00E000.hgt", "./N00E000.dir", store];
+    let files = ["./N00E000.hgt", "./N00E000.dir", "./N00E000.acc", store];
     for file in files {
         let _ = fs::remove_file(&rt, file);
     }
@@ -146,6 +162,13 @@ fn files_of_tiles(rt: HostRuntime) -> Result<(), Fail> {
         ends(
             &rt,
             &["write", store, "directions", "n00e000", "."],
+            &[],
+            0,
+            &["OK 1"],
+        )?,
+        ends(
+            &rt,
+            &["write", store, "upstream", "all", "."],
             &[],
             0,
             &["OK 1"],
@@ -171,6 +194,27 @@ fn files_of_tiles(rt: HostRuntime) -> Result<(), Fail> {
             2,
             &["mosaic: bad arguments"],
         )?,
+        ends(
+            &rt,
+            &["write", store, "levels", "all", "-"],
+            &[],
+            2,
+            &["mosaic: bad arguments"],
+        )?,
+        ends(
+            &rt,
+            &["write", store, "levels", "."],
+            &[],
+            2,
+            &["mosaic: bad arguments"],
+        )?,
+        ends(
+            &rt,
+            &["write", "no\nstore", "levels", "all", "."],
+            &[],
+            1,
+            &["mosaic: cannot open no?store"],
+        )?,
     ];
     for (row, holds) in all.iter().enumerate() {
         assert!(rt; *holds, "files of tiles, {row}");
@@ -181,6 +225,7 @@ fn files_of_tiles(rt: HostRuntime) -> Result<(), Fail> {
     );
     let codes: &[u8] = &[0, 0, 0, 0, 255, 0, 0, 0, 0];
     assert_eq!(rt; fs::read(&rt, files[1])?.as_slice(), codes);
+    assert_eq!(rt; fs::read(&rt, files[2])?.len(), 36);
     for file in files {
         fs::remove_file(&rt, file)?;
     }

@@ -9,7 +9,7 @@ use Rattle.lines.specs.declared.language.Language.{Language}
 use Rattle.serving.specs.Outputs.{Stream}
 use Rattle.store.specs.Sessions.{HoldsOnly, Made, AreMade, last_store, Session, Unopened, Ended, Stopped, IsSession, Visit, AreSessions}
 use Rattle.store.specs.declared.store.Store.{Store}
-use Rattle.store.proofs.SessionsInTurn.{sessions_compose}
+use Rattle.store.proofs.Calls.SessionsInTurn.{sessions_compose}
 use Rattle.server.specs.Endings.{EndsAnswering, count_line}
 use Rattle.server.specs.FileRuns.{IsPartOf, ArePartsOf, Run, visits_of, RunsCompose}
 use Rattle.server.specs.OnDisks.{HasFormatted, GrowsAndUpgrades, RunsGrown}

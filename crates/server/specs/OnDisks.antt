@@ -1,7 +1,6 @@
 -- What a subcommand does on the disk of a store: the session that it makes of it, with its calls, and what it tells of their
 -- answers (this product's own profile).
-use Rattle.std.specs.Prelude.{◌≡◌, ◌⊎◌, ◌≤◌, ◌+◌, ◌*◌, ℕ, List, [], ◌∷◌, map, codes, ◌++◌, Option, Result, Ok, Err, IsErrOf, OnOk, IfOk, IfErr}
-use Rattle.disk.specs.Disk.{Image, HasRisen}
+use Rattle.std.specs.Prelude.{◌≡◌, ◌⊎◌, ◌+◌, ◌*◌, ℕ, List, [], ◌∷◌, map, codes, ◌++◌, Option, Result, Ok, Err, OnOk, IfOk}
 use Rattle.disk.specs.declared.disk.Disk.{Ghosts}
 use Rattle.lattice.specs.Corners.{Corner}
 use Rattle.lattice.specs.declared.refusal.Refusal.{Refusal}
@@ -13,12 +12,12 @@ use Rattle.engine.specs.declared.event.Event.TheVariants as ask
 use Rattle.engine.specs.declared.event.Reply.TheVariants as reply
 use Rattle.lines.specs.declared.language.Language.{Language}
 use Rattle.page_codec.specs.Sizes.{sectors_asked}
+use Rattle.page_codec.specs.declared.version.Version.TheVariants.{Two}
 use Rattle.roots.specs.declared.roots.NotOpened.{NotOpened}
 use Rattle.serving.specs.Outputs.{Stream}
 use Rattle.serving.specs.declared.session.ServeFault.{ServeFault}
-use Rattle.store.specs.Formatted.{format_2}
-use Rattle.store.specs.Sessions.{Call, Asked, Upgraded, CountedSeams, IsOpening, Made, AreMade, last_store, Session, Unopened, Ended}
-use Rattle.store.specs.Standing.{StandsFor}
+use Rattle.store.specs.Formatted.{format_2, Formats}
+use Rattle.store.specs.Sessions.{Call, Asked, Upgraded, CountedSeams, HoldsOnly, IsOpening, Made, AreMade, last_store, Session, Unopened, Ended}
 use Rattle.store.specs.Stores.{disk_of, root_of, side_of, capacity_of}
 use Rattle.store.specs.declared.store.Store.{Store}
 use Rattle.server.specs.Endings.{EndsAnswering, EndsSession, Tells, TellsRefusal, count_line}
@@ -27,7 +26,6 @@ use Rattle.server.specs.declared.places.TileFault.{TileFault}
 use Rattle.server.specs.declared.places.TileFault.TheVariants as fault
 use Rattle.server.specs.Replies.{IsReplied}
 use Rattle.server.specs.Report.{IsReported}
-use Rattle.server.specs.Sizes.{IsTaken, IsRefusedOn}
 
 -- how much is taken of a tile's file: as much as a tile has, and one byte more where there are more
 abbrev pub most_bytes : (side : ℕ) → ℕ
@@ -104,15 +102,8 @@ module _ {D : Type 0} (g : Ghosts D) where
   -- ---- making a store
 
   pub record HasFormatted (old new : D) (side capacity : ℕ) (result : Result (Unit {0}) Refusal) : Type 0 where
-    pub size : g.size new ≡ g.size old
-    pub later : g.failures old ≤ g.failures new
-    pub device : IsErrOf result Device → HasRisen (g.failures old) (g.failures new)
-    pub honest : g.honest new → g.honest old
-    pub formatted : g.honest new → OnOk result ((image : Image) → g.may new image → StandsFor (g.size new) side capacity image (fresh side))
-    -- where the sizes don't serve, it is refused so and nothing was done
-    pub refused : (r : Refusal) → IsRefusedOn side capacity (g.size old) r → (result ≡ Err r) × (new ≡ old)
-    -- where they do, only for the disk
-    pub sure : IsTaken side capacity → sectors_asked (format_2 side capacity) ≤ g.size old → IfErr result (λ r. r ≡ Device)
+    pub formats : Formats g Two side capacity old new result
+    pub formatted : g.honest new → OnOk result (HoldsOnly g new side capacity (fresh side))
 
   -- the disk is made a store without tiles
   abbrev pub MakesStore : (side capacity : ℕ) → D → D → Stream → Stream → ℕ → Type 0

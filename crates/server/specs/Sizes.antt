@@ -2,9 +2,7 @@
 use Rattle.std.specs.Prelude.{◌≡◌, ◌⊎◌, ◌<◌, ◌≤◌, ℕ}
 use Rattle.lattice.specs.Limits.{largest_side, most_tiles}
 use Rattle.lattice.specs.declared.refusal.Refusal.{Refusal}
-use Rattle.lattice.specs.declared.refusal.Refusal.TheVariants.{BadSide, BadCapacity, TooSmall}
-use Rattle.page_codec.specs.Sizes.{sectors_asked}
-use Rattle.store.specs.Formatted.{format_2}
+use Rattle.lattice.specs.declared.refusal.Refusal.TheVariants.{BadSide, BadCapacity}
 
 -- a store of this side and capacity is made
 pub record IsTaken (side capacity : ℕ) : Type 0 where
@@ -18,8 +16,3 @@ abbrev pub IsRefusedFor : (side capacity : ℕ) → Refusal → Type 0
 IsRefusedFor side capacity refusal =
     (((side < 3) ⊎ (largest_side < side)) × (refusal ≡ BadSide))
     ⊎ ((3 ≤ side) × (side ≤ largest_side) × ((capacity < 1) ⊎ (most_tiles < capacity)) × (refusal ≡ BadCapacity))
-
--- none is made on so many sectors: it is none that is made, or it asks for more
-abbrev pub IsRefusedOn : (side capacity sectors : ℕ) → Refusal → Type 0
-IsRefusedOn side capacity sectors refusal =
-    IsRefusedFor side capacity refusal ⊎ (IsTaken side capacity × (sectors < sectors_asked (format_2 side capacity)) × (refusal ≡ TooSmall))

@@ -82,7 +82,7 @@ impl<'a> Arguments<'a> {
 }
 
 /// Whether a hyphen stands first in one of them.
-fn has_option<S: AsStr>(words: &[S]) -> bool
+pub fn has_option<S: AsStr>(words: &[S]) -> bool
     ensures { IsTrue result ↔ Any (λ w. IsOption (S.text w)) words.now }
 {
     words.iter().any(|word| is_option(word.as_str()))

@@ -248,7 +248,7 @@ fn not_opened<D, O: Output>(alloc: Global, path: &str, writer: &mut O) -> Exit<D
 }
 
 /// Tells why there is no file of a store at the path, and answers the exit status.
-fn tell_fault<O: Output>(alloc: Global, path: &str, fault: MakeFault, writer: &mut O) -> u8
+pub fn tell_fault<O: Output>(alloc: Global, path: &str, fault: MakeFault, writer: &mut O) -> u8
     ensures { TellsFault path.now fault (O.stream writer.old) (O.stream writer.new) result }
 {
     match fault {

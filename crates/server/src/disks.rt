@@ -2,11 +2,10 @@
 //!
 //! Each but the making of a store is one session of it, or two: an opening, and the calls that are made then. Its contract
 //! names the session, and what is told of the calls' answers.
-ghost use Rattle.std.specs.Prelude.{◌≡◌, true, List, IfOk};
-ghost use Rattle.store.specs.Sessions.{Session};
-ghost use Rattle.store.specs.Stores.{disk_of, root_of, has_failed};
-ghost use Rattle.store.specs.Upgraded.{HasUpgraded};
-ghost use Rattle.server.specs.OnDisks.{ChecksStore, GrowsAndUpgrades, ImportsTile, MakesStore, RunsGrown, ServesLines, UpgradesStore, done_of};
+ghost use Rattle.std.specs.Prelude.{◌≡◌, List, IfOk};
+ghost use Rattle.store.specs.Sessions.{Session, IsMade, Upgraded};
+ghost use Rattle.store.specs.Stores.{root_of};
+ghost use Rattle.server.specs.OnDisks.{ChecksStore, GrowsAndUpgrades, ImportsTile, MakesStore, ServesLines, UpgradesStore, done_of};
 ghost use Rattle.server.specs.Places.{Accessing};
 
 use crate::exit::{end_command, end_format, end_report, end_session, refuse, write_message};
@@ -20,7 +19,7 @@ use lines::Language;
 use serving::{Output, serve_lines};
 use std::alloc::Global;
 use std::io::Read;
-use store::{Store, open_session};
+use store::{Store, open_session, upgrade_in_session};
 
 /// Makes a disk a store without tiles. It hands the disk back, with the exit status.
 pub fn make_store<D: Disk, O: Output>(disk: D, side: u32, capacity: u32, writer: &mut O) -> (D, u8)
@@ -48,7 +47,7 @@ pub fn import_tile<P: Places, O: Output>(
         Ok(store) => store,
         Err(refused) => return (refused.disk, refuse(writer, refused.refusal)),
     };
-    let bytes = match places.read(tile, store.tile_side().file_bytes() + 1) {
+    let bytes = match places.read(tile, Engine::side(&store).file_bytes() + 1) {
         Ok(bytes) => Bytes::new(bytes),
         Err(TileFault::Unreadable) => {
             let status = write_message(alloc, writer, b"mosaic: cannot read ", tile.as_bytes());
@@ -98,18 +97,7 @@ pub fn grow_and_upgrade<D: Disk + Lengthen, O: Output>(
         Err(refused) => return (refused.disk, refuse(writer, refused.refusal)),
     };
     let sectors = store.sectors_to_upgrade();
-    upgrade_grown(alloc, store.into_disk(), sectors, writer)
-}
-
-// Makes the disk of a store as long as so many sectors, and the store on it one of the second version.
-fn upgrade_grown<D: Disk + Lengthen, O: Output>(
-    alloc: Global,
-    mut disk: D,
-    sectors: u32,
-    writer: &mut O,
-) -> (D, u8)
-    ensures { (sessions : List (Session D.Disk)) × RunsGrown D.Disk sectors disk result.0 sessions (O.stream writer.old) (O.stream writer.new) result.1 }
-{
+    let mut disk = store.into_disk();
     if disk.lengthen(sectors).is_err() {
         return (disk, refuse(writer, Refusal::Device));
     }
@@ -130,11 +118,10 @@ pub fn upgrade_store<D: Disk, O: Output>(alloc: Global, disk: D, writer: &mut O)
 
 // Upgrades a store, and answers how many commands it has accepted.
 fn upgrade_counted<D: Disk>(store: &mut Store<D>) -> Result<u64, Refusal>
-    ensures upgraded { HasUpgraded D.Disk store.old store.new (done_of result) }
-    ensures untouched { has_failed store.old ≡ true → disk_of store.new ≡ disk_of store.old }
+    ensures upgraded { IsMade D.Disk store.old (Upgraded (done_of result)) store.new }
     ensures count { IfOk result (λ k. k ≡ (root_of store.new).count) }
 {
-    store.upgrade()?;
+    upgrade_in_session(store)?;
     Ok(store.count())
 }
 

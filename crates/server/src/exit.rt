@@ -39,7 +39,7 @@ pub(crate) fn end_format<O: Output>(writer: &mut O, answer: Result<(), Refusal>)
 }
 
 /// Tells how many commands were accepted, or a refusal, and answers the exit status.
-pub(crate) fn end_command<O: Output>(writer: &mut O, answer: Result<u64, Refusal>) -> u8
+pub fn end_command<O: Output>(writer: &mut O, answer: Result<u64, Refusal>) -> u8
     ensures { EndsAnswering count_line answer (O.stream writer.old) (O.stream writer.new) result }
 {
     match answer {
@@ -91,7 +91,7 @@ pub(crate) fn fault_line(fault: ServeFault) -> &'static [u8]
 }
 
 /// Tells of a refusal, and answers the exit status.
-pub(crate) fn refuse<O: Output>(writer: &mut O, refusal: Refusal) -> u8
+pub fn refuse<O: Output>(writer: &mut O, refusal: Refusal) -> u8
     ensures { TellsRefusal refusal (O.stream writer.old) (O.stream writer.new) result }
 {
     writer.put_reply(&Text::refused(refusal));
@@ -99,7 +99,7 @@ pub(crate) fn refuse<O: Output>(writer: &mut O, refusal: Refusal) -> u8
 }
 
 /// Ends with a line of the program's own.
-pub(crate) fn end_with<O: Output>(writer: &mut O, line: &[u8], status: u8) -> u8
+pub fn end_with<O: Output>(writer: &mut O, line: &[u8], status: u8) -> u8
     ensures status { result ≡ status }
     ensures line { Puts (O.stream writer.old) (O.stream writer.new) line.now }
 {

@@ -4,7 +4,8 @@
 //! the store on the disk, and writes and answers what goes with it (`specs/Program.antt`). [`Arguments::parse`] answers
 //! what the words ask for, and tells bad words exactly where they ask for nothing.
 //!
-//! It hands out what serves any engine, too: `serve`, `Engine` and `TableEngine`.
+//! It hands out what serves any engine, too: `serve`, `Engine` and `TableEngine`; and how a program tells what came of its
+//! words: `end_command` and its like.
 //!
 //! ```
 //! let mut places = FilePlaces::<Brand>::new(&rt);
@@ -21,12 +22,13 @@ mod files;
 mod places;
 mod reporting;
 
-pub use arguments::{ArgumentFault, Arguments};
-pub use commands::{Exit, carry_out, no_room, program};
+pub use arguments::{ArgumentFault, Arguments, has_option};
+pub use commands::{Exit, carry_out, no_room, program, tell_fault};
 pub use disks::{
     check_store, grow_and_upgrade, import_tile, make_store, serve_store, upgrade_store,
 };
 pub use engine::Engine;
+pub use exit::{end_command, end_with, refuse};
 pub use file_runs::runs_compose;
 pub use files::{FilePlaces, words};
 pub use lines::Language;

@@ -3,3 +3,4 @@ pub mod Runs
 pub mod SessionLemmas
 pub mod Texts
 pub mod Turns
+mod WriteLemmas

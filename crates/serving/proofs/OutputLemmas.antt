@@ -4,7 +4,7 @@ use Rattle.std.specs.Io.KnownBytes.{Appends}
 use Rattle.std.proofs.KnownBytes.{Appends-kept, Appends-trans}
 use Rattle.std.proofs.lemmas.List.{take_all}
 use Rattle.catalogue.specs.Reading.{HasRisen}
-use Rattle.lines.proofs.WriteLemmas.{Appends-first, Appends-second}
+use Rattle.serving.proofs.WriteLemmas.{Appends-first, Appends-second}
 use Rattle.serving.specs.Outputs.{Begins, Breaks, Fails, Flushes, HasFailed, HasLeft, Leaves, Puts, Stream}
 use Rattle.serving.specs.Writing.{WritesAll}
 

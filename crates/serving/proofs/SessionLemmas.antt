@@ -23,7 +23,7 @@ use Rattle.engine.specs.Runs.{last_of}
 use Rattle.lines.specs.Ahead.{IsNear}
 use Rattle.serving.specs.Served.{Replies, Ends, AreItemsOf, Outcome, ReadsNoFurther}
 use Rattle.serving.specs.Session.{Stored, Holds, Steps, SoFar, EndsReading}
-use Rattle.lines.proofs.WriteLemmas.{Appends-second}
+use Rattle.serving.proofs.WriteLemmas.{Appends-second}
 
 -- a line that is kept whole
 pub kept_some : (text bytes : List ℕ) (line : Option (List ℕ)) → line ≡ Some bytes → line ≡ kept text → bytes ≡ text

@@ -3,7 +3,7 @@ ghost use Rattle.std.specs.Prelude.{◌<◌, ◌↔◌, IsTrue, length};
 ghost use Rattle.serving.specs.Outputs.{Flushes, HasFailed, Puts, Stream, Writes};
 ghost use Rattle.serving.specs.Writing.{WritesAll};
 
-use lines::Text;
+use lines::{Rest, Text};
 
 /// A write failed or took no byte, or a flush failed.
 #[derive(Clone, Copy, Debug, PartialEq, Eq)]
@@ -62,11 +62,22 @@ fn write_all<O: Output>(output: &mut O, bytes: &[u8]) -> Result<(), OutputFault>
     Ok(())
 }
 
-/// Writes a reply. The bytes of a tile leave by a call of their own, behind their head.
+/// Writes a reply. The text of a list leaves a part at a time, its head with the first, and the bytes of a tile by a call of their own.
 fn write_reply<O: Output>(output: &mut O, reply: &Text) -> Result<(), OutputFault>
     ensures { WritesAll (O.stream output.old) (O.stream output.new) result reply.now }
 {
-    let (head, rest) = reply.parts();
-    write_all(output, head)?;
-    write_all(output, rest)
+    let (rest, bytes) = reply.parts();
+    write_rest(output, rest)?;
+    write_all(output, bytes)
+}
+
+/// Writes what is left of a text, each part as it is made.
+fn write_rest<O: Output>(output: &mut O, mut rest: Rest<'_>) -> Result<(), OutputFault>
+    ensures { WritesAll (O.stream output.old) (O.stream output.new) result rest.entry }
+{
+    while !rest.is_made() {
+        let part = rest.next_part();
+        write_all(output, part.as_slice())?;
+    }
+    Ok(())
 }

@@ -1,20 +1,31 @@
-use Rattle.std.proofs.Common.{ℕ, Err, [], ◌∷◌, inl, inr, refl, subst}
+use Rattle.std.proofs.Common.{rules, ℕ, List, Err, [], ◌∷◌, inl, inr, refl, subst}
 use Rattle.page_codec.specs.Sizes.{sectors_asked}
 use Rattle.store.specs.Formatted.{format_2}
-use Rattle.store.specs.Sessions.{Unopened, Ended}
-use Rattle.store.specs.Stores.{side_of, capacity_of}
+use Rattle.store.specs.Sessions.{Session, Unopened, Ended}
+use Rattle.store.specs.Stores.{disk_of, side_of, capacity_of}
 use Rattle.server.specs.OnDisks.{RunsGrown}
+use Rattle.server.specs.Places.{HasGrown, HasNotGrown}
 use Rattle.server.proofs.disks.grow_and_upgrade.Goals as goal
+use Rattle.server.proofs.disks.grow_and_upgrade.Goals.{After-into_disk-disk}
 
 pub returns-in-Err : goal.returns-in-Err
 returns-in-Err g c = (Unopened c.args.disk (Err c.in-Err.refused) ∷ [], inl (c.in-Err.refused, refl, c.in-Err.ensures, refl, c.refuse.ensures))
 
+-- the disk was measured by a first session
+module _ (g : _) (c : After-into_disk-disk g) where
+  measured : (left : _) (more : List (Session g.D.Disk)) (written now : _) (status : ℕ) → RunsGrown g.D.Disk c.sectors_to_upgrade-sectors.result c.into_disk-disk.result left more written now status
+      → RunsGrown g.D.Disk (sectors_asked (format_2 (side_of c.in-Ok.store) (capacity_of c.in-Ok.store))) (disk_of c.in-Ok.store) left more written now status
+  measured left more written now status runs =
+      subst (λ disk. RunsGrown g.D.Disk (sectors_asked (format_2 (side_of c.in-Ok.store) (capacity_of c.in-Ok.store))) disk left more written now status) c.into_disk-disk.ensures
+      (subst (λ (n : ℕ). RunsGrown g.D.Disk n c.into_disk-disk.result left more written now status) c.sectors_to_upgrade-sectors.ensures runs)
+
+pub returns-then-is_err : goal.returns-then-is_err
+returns-then-is_err g c =
+    let short : HasNotGrown g.D.Disk c.into_disk-disk.result c.lengthen.new.self = search rules in
+    (Ended c.args.disk c.in-Ok.store [] ∷ [], inr (c.in-Ok.store, [], refl, c.in-Ok.ensures, measured g (goal.at.returns-then-is_err g c).After-into_disk-disk _ _ _ _ _ (inl (refl, short, c.refuse-then-is_err.ensures))))
+
 pub returns : goal.returns
 returns g c =
-    let grown = c.upgrade_grown.ensures in
-    let asked : ℕ = sectors_asked (format_2 (side_of c.in-Ok.store) (capacity_of c.in-Ok.store)) in
-    let runs = subst (λ (n : ℕ). RunsGrown g.D.Disk n c.into_disk.result c.upgrade_grown.result.0 grown.0 (g.O.Output.stream c.args.writer.now) (g.O.Output.stream c.upgrade_grown.new.writer) c.upgrade_grown.result.1)
-    c.sectors_to_upgrade-sectors.ensures grown.1 in
-    let runs_there = subst (λ disk. RunsGrown g.D.Disk asked disk c.upgrade_grown.result.0 grown.0 (g.O.Output.stream c.args.writer.now) (g.O.Output.stream c.upgrade_grown.new.writer) c.upgrade_grown.result.1)
-    c.into_disk.ensures runs in
-    (Ended c.args.disk c.in-Ok.store [] ∷ grown.0, inr (c.in-Ok.store, grown.0, refl, c.in-Ok.ensures, runs_there))
+    let longer : HasGrown g.D.Disk c.sectors_to_upgrade-sectors.result c.into_disk-disk.result c.lengthen.new.self = search rules in
+    let (sessions, upgrades) = c.upgrade_store.ensures in
+    (Ended c.args.disk c.in-Ok.store [] ∷ sessions, inr (c.in-Ok.store, sessions, refl, c.in-Ok.ensures, measured g (goal.at.returns g c).After-into_disk-disk _ _ _ _ _ (inr (c.lengthen.new.self, longer, upgrades))))

@@ -18,7 +18,7 @@ returns-in-Err g c = ([], refl, (Unopened c.args.disk (Err c.in-Err.refused) ∷
 pub returns-in-Err-Unreadable : goal.returns-in-Err-Unreadable
 returns-in-Err-Unreadable g c =
     let store = c.in-Ok.store in
-    let most : c.file_bytes.result + 1 ≡ most_bytes (side_of store) = ap (λ (n : ℕ). n + 1) (c.file_bytes.ensures.value ∙ ap (λ (n : ℕ). 2 * (n * n)) c.tile_side.ensures) in
+    let most : c.file_bytes.result + 1 ≡ most_bytes (side_of store) = ap (λ (n : ℕ). n + 1) (c.file_bytes.ensures.value ∙ ap (λ (n : ℕ). 2 * (n * n)) c.side.ensures) in
     let told = subst (λ (about : List ℕ). Tells (codes "mosaic: cannot read " ++ about) (g.O.Output.stream c.args.writer.now) (g.O.Output.stream c.write_message-status.new.writer) c.write_message-status.result)
     c.as_bytes.ensures.value c.write_message-status.ensures in (
       Reads c.args.tile.now (c.file_bytes.result + 1) (Err fault.Unreadable) ∷ [],
@@ -36,7 +36,7 @@ returns-in-Err-Unreadable g c =
 pub returns-in-Err-NoMemory : goal.returns-in-Err-NoMemory
 returns-in-Err-NoMemory g c =
     let store = c.in-Ok.store in
-    let most : c.file_bytes.result + 1 ≡ most_bytes (side_of store) = ap (λ (n : ℕ). n + 1) (c.file_bytes.ensures.value ∙ ap (λ (n : ℕ). 2 * (n * n)) c.tile_side.ensures) in (
+    let most : c.file_bytes.result + 1 ≡ most_bytes (side_of store) = ap (λ (n : ℕ). n + 1) (c.file_bytes.ensures.value ∙ ap (λ (n : ℕ). 2 * (n * n)) c.side.ensures) in (
       Reads c.args.tile.now (c.file_bytes.result + 1) (Err fault.NoMemory) ∷ [],
       (
         c.read.new.self,
@@ -61,7 +61,7 @@ pub returns : goal.returns
 returns g c =
     let store = c.in-Ok.store in
     let bytes = c.new-bytes.result in
-    let most : c.file_bytes.result + 1 ≡ most_bytes (side_of store) = ap (λ (n : ℕ). n + 1) (c.file_bytes.ensures.value ∙ ap (λ (n : ℕ). 2 * (n * n)) c.tile_side.ensures) in
+    let most : c.file_bytes.result + 1 ≡ most_bytes (side_of store) = ap (λ (n : ℕ). n + 1) (c.file_bytes.ensures.value ∙ ap (λ (n : ℕ). 2 * (n * n)) c.side.ensures) in
     let calls = record { call = Asked (ask.Do (Import c.args.corner bytes)) (answered reply.Done c.apply-applied.result); store = c.apply-applied.new.self } ∷ [] in (
       Reads c.args.tile.now (c.file_bytes.result + 1) (Ok c.in-Ok-read.bytes.items) ∷ [],
       (c.read.new.self, c.in-Ok-read.ensures, refl),

@@ -13,5 +13,5 @@ returns g c =
     let upgraded = c.upgrade_counted-upgraded.ensures in
     let calls = record { call = Upgraded (done_of result); store = c.upgrade_counted-upgraded.new.store } ∷ [] in (
       Ended c.args.disk store calls ∷ [],
-      inr (store, calls, refl, c.in-Ok.ensures, ((upgraded.upgraded, upgraded.untouched), tt), sym c.into_disk.ensures, (result, refl, upgraded.count, c.end_command.ensures)),
+      inr (store, calls, refl, c.in-Ok.ensures, (upgraded.upgraded, tt), sym c.into_disk.ensures, (result, refl, upgraded.count, c.end_command.ensures)),
     )

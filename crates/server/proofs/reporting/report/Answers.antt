@@ -7,8 +7,8 @@ use Rattle.lattice.specs.declared.refusal.Refusal.TheVariants.{NoMemory}
 use Rattle.derived.specs.Kept.{stale_in}
 use Rattle.engine.specs.Engines.{items_in}
 use Rattle.store.specs.Stores.{root_of, has_failed}
-use Rattle.store.proofs.EditingSteps.{refused_as}
-use Rattle.store.proofs.StoreCalls.{only_memory, tiles_at}
+use Rattle.cow_tree.proofs.Uncommitted.{refused_as}
+use Rattle.store.proofs.Calls.StoreCalls.{only_memory, tiles_at}
 use Rattle.server.specs.Report.{report_text}
 use Rattle.server.proofs.reporting.report.Goals as goal
 

@@ -1,6 +1,6 @@
 use Rattle.std.proofs.Common.{arith, ◌∙◌}
 use Rattle.std.proofs.lemmas.Grind.{common_steps}
-use Rattle.lines.proofs.WriteLemmas.{Appends-next}
+use Rattle.serving.proofs.WriteLemmas.{Appends-next}
 use Rattle.serving.proofs.output.write_all.Goals as goal
 
 pub loop-at-preserved : goal.loop-at-preserved

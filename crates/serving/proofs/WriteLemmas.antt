@@ -1,5 +1,5 @@
 -- Bytes that are written one part after another.
-use Rattle.std.proofs.Common.{arith, ◌≡◌, ◌∙◌, ℕ, ◌+◌, ◌-◌, ◌≤◌, min, List, ◌++◌, take, drop, length, Option, Result, Ok, Err, OnOk, OnErr, sym, ap, subst, take-add}
+use Rattle.std.proofs.Common.{arith, ◌≡◌, ◌∙◌, ℕ, ◌+◌, ◌-◌, ◌≤◌, min, List, ◌++◌, take, drop, length, Option, sym, ap, subst, take-add}
 use Rattle.std.specs.Io.KnownBytes.{Appends}
 use Rattle.std.proofs.KnownBytes.{Appends-trans}
 use Rattle.std.proofs.Math.Seq.{take-append-add}
@@ -23,15 +23,3 @@ Appends-first a b x y n p =
 pub Appends-second : (a b c : Option (List ℕ)) (x y : List ℕ) (n : ℕ) → Appends a b x → Appends b c (take n y) → (m : ℕ) × Appends a c (take m (x ++ y))
 Appends-second a b c x y n p q =
     (length x + n, subst (Appends a c) (sym (take-append-add x y n)) (Appends-trans a b c x (take n y) p q))
-
-pub OnOk-map : {A E P Q : Type 0} (r : Result A E) → (P → Q) → OnOk r P → OnOk r Q
-OnOk-map (Ok x) f h = f h
-OnOk-map (Err e) f h = h
-
-pub OnErr-of : {A E P : Type 0} (r : Result A E) → P → OnErr r P
-OnErr-of (Ok x) p = tt
-OnErr-of (Err e) p = p
-
-pub OnErr-map : {A E P Q : Type 0} (r : Result A E) → (P → Q) → OnErr r P → OnErr r Q
-OnErr-map (Ok x) f h = h
-OnErr-map (Err e) f h = f h
