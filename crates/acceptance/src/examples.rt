@@ -1,16 +1,15 @@
 //! The examples of root comments, of a mosaic in memory and its lines, and what they come to.
-use arrayvec::ArrayVec;
 use catalogue::{Samples, Table};
 use drainage::{DrainageCache, fill, trace};
 use hgt::samples;
-use lattice::{Corner, Height, Point, Refusal, Side};
 use lines::{Language, format_reply, request_of};
 use seeded_random::Random;
 use serving::{CheckedWriter, serve};
 use std::alloc::Global;
-use std::process::Abort;
 use std::test::Fail;
-use table_engine::{Bytes, Command, Engine, Event, Reply, TableEngine};
+use table_engine::{
+    ArrayVec, Bytes, Command, Corner, Engine, Event, Point, Refusal, Reply, Side, TableEngine,
+};
 use test_tiles::{A, expand, split_payload};
 
 const CENTRE: Point = Point { y: 1, x: 1 };
@@ -20,17 +19,16 @@ fn levels_of_a_pit(alloc: Global) -> Result<(i16, i16, Reply), Refusal> {
     let side = Side::new(3).ok_or(Refusal::BadSide)?;
     let corner = Corner::new(0, 0).ok_or(Refusal::BadName)?;
     let bytes = Bytes::new(Vec::from_slice(alloc, &A)?);
-    let command = Command::Import { corner, bytes };
     let mut engine = TableEngine::new(alloc, side, 4);
-    let count = engine.apply(&command)?;
-    let before = engine.fill(CENTRE)?;
+    let count = engine.apply(&Command::Import { corner, bytes })?;
+    let level = engine.fill(Point { y: 1, x: 1 })?;
     let mut points = ArrayVec::new();
     points.push(Point { y: 0, x: 2 });
     engine.apply(&Command::Burn { depth: 3, points })?;
     let point = CENTRE;
     let reply = engine.answer(&Event::Fill(point));
     match count {
-        1 => Ok((before, engine.fill(point)?, reply)),
+        1 => Ok((level, engine.fill(point)?, reply)),
         _ => Err(Refusal::Damaged),
     }
 }
@@ -44,12 +42,17 @@ fn a_mosaic_in_memory(rt: HostRuntime) -> Result<(), Fail> {
 #[test]
 fn a_line_and_its_reply(rt: HostRuntime) -> Result<(), Fail> {
     let alloc = rt.alloc();
-    let mut writer = Vec::new(alloc);
     let reply = Reply::Fill(5);
     let request = request_of(Language::Plain, b"fill 1 1");
     let text = format_reply(alloc, reply);
-    text.write(&mut writer)?;
-    assert!(rt; request.is_some() && writer.as_slice() == b"OK 5\n".as_slice());
+    let (mut rest, bytes) = text.parts();
+    let part = rest.next_part();
+    assert!(rt;
+        request.is_some()
+            && part.as_slice() == b"OK 5\n".as_slice()
+            && bytes.is_empty()
+            && rest.is_made()
+    );
     Ok(())
 }
 

@@ -12,8 +12,6 @@
 #[cfg(test)]
 mod answers;
 #[cfg(test)]
-mod asserting;
-#[cfg(test)]
 mod commands;
 #[cfg(test)]
 mod counting;

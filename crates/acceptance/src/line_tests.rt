@@ -1,5 +1,4 @@
 //! Lines and payloads as they are read, the event that a line asks for, and the text of an answer.
-use crate::asserting::{assert_found, assert_row};
 use crate::counting::Counting;
 use edits::Command;
 use engine::Event;
@@ -7,11 +6,12 @@ use lattice::{Corner, Point, Refusal};
 use lines::{
     Ahead, Extent, Language, Line, Request, Text, read_line, read_payload, request_of, skip_payload,
 };
+use serving::{CheckedWriter, Output};
 use std::alloc::{AllocError, Global};
 use std::io::{self, Read};
-use std::process::Abort;
 use std::str::from_utf8;
 use std::test::Fail;
+use test_tiles::{check_found, check_row};
 use watershed::Run;
 
 /// Gives one byte a read, and fails once `good` bytes were given.
@@ -103,7 +103,7 @@ fn word_of_command(command: &Command) -> &'static str {
 }
 
 #[test]
-fn words_of_lines(rt: HostRuntime) {
+fn words_of_lines(rt: HostRuntime) -> Result<(), Fail> {
     let lines: [(&[u8], &str); 33] = [
         (b"import N00E000 18", "import"),
         (b"remove ~!", "no name"),
@@ -141,12 +141,13 @@ fn words_of_lines(rt: HostRuntime) {
         (b"unsink 1 2 3", "none"),
     ];
     for (line, word) in lines {
-        assert_found(&rt, &text_of(line), &word_of(line), &word);
+        check_found(&text_of(line), &word_of(line), &word)?;
     }
+    Ok(())
 }
 
 #[test]
-fn points_of_lines(rt: HostRuntime) {
+fn points_of_lines(rt: HostRuntime) -> Result<(), Fail> {
     let lines: [(&[u8], &str, i32, i32); 5] = [
         (b"elev 0 -0", "elev", 0, 0),
         (b"elev 007 -000000009\r", "elev", 7, -9),
@@ -160,9 +161,10 @@ fn points_of_lines(rt: HostRuntime) {
         (b"unsink -1 2", "unsink", -1, 2),
     ];
     for (line, word, y, x) in lines {
-        assert_found(&rt, &text_of(line), &word_of(line), &word);
-        assert_found(&rt, &text_of(line), &point_in(line), &Some(Point { y, x }));
+        check_found(&text_of(line), &word_of(line), &word)?;
+        check_found(&text_of(line), &point_in(line), &Some(Point { y, x }))?;
     }
+    Ok(())
 }
 
 fn wall_points(line: &[u8]) -> Option<usize> {
@@ -187,11 +189,10 @@ fn points_of_a_wall(rt: HostRuntime) -> Result<(), Fail> {
 
 /// Reads lines one after another: so far, and these, or none where they are too long.
 fn check_lines<R: Read>(
-    rt: &impl Abort,
     ahead: &mut Ahead,
     reader: &mut R,
     lines: &[(Extent, Option<&[u8]>)],
-) {
+) -> Result<(), Fail> {
     for (extent, bytes) in lines {
         let mut line = Line::new();
         let is_right = read_line(ahead, reader, &mut line) == Ok(*extent) && line.bytes() == *bytes;
@@ -199,12 +200,13 @@ fn check_lines<R: Read>(
             Some(bytes) => text_of(bytes),
             None => "a line that is too long",
         };
-        assert_row(rt, &text, is_right);
+        check_row(&text, is_right)?;
     }
+    Ok(())
 }
 
 #[test]
-fn lines_and_payloads(rt: HostRuntime) {
+fn lines_and_payloads(rt: HostRuntime) -> Result<(), Fail> {
     let mut reader = Trickle {
         bytes: b"count\r\nimport N00E000 3\n\n5\nskipped\nend",
         good: 100,
@@ -214,7 +216,7 @@ fn lines_and_payloads(rt: HostRuntime) {
         (Extent::Whole, Some(b"count\r")),
         (Extent::Whole, Some(b"import N00E000 3")),
     ];
-    check_lines(&rt, &mut ahead, &mut reader, &lines);
+    check_lines(&mut ahead, &mut reader, &lines)?;
     let skipped = skip_payload(&mut ahead, &mut reader, 3);
     assert!(rt; skipped == Ok(Extent::Whole));
     let lines: [(Extent, Option<&[u8]>); 3] = [
@@ -222,7 +224,7 @@ fn lines_and_payloads(rt: HostRuntime) {
         (Extent::Cut, Some(b"end")),
         (Extent::Cut, Some(b"")),
     ];
-    check_lines(&rt, &mut ahead, &mut reader, &lines);
+    check_lines(&mut ahead, &mut reader, &lines)
 }
 
 /// Whether a payload of three bytes is read so far, and is this one.
@@ -269,39 +271,33 @@ fn long_lines(rt: HostRuntime) -> Result<(), Fail> {
         (Extent::Whole, None),
         (Extent::Cut, Some(b"count")),
     ];
-    check_lines(&rt, &mut ahead, &mut reader, &lines);
-    Ok(())
+    check_lines(&mut ahead, &mut reader, &lines)
 }
 
 #[test]
-fn a_read_that_fails(rt: HostRuntime) {
+fn a_read_that_fails(rt: HostRuntime) -> Result<(), Fail> {
     let mut reader = Trickle {
         bytes: b"count\ncount\n",
         good: 8,
     };
     let mut ahead = Ahead::new(rt.alloc());
-    check_lines(
-        &rt,
-        &mut ahead,
-        &mut reader,
-        &[(Extent::Whole, Some(b"count"))],
-    );
+    check_lines(&mut ahead, &mut reader, &[(Extent::Whole, Some(b"count"))])?;
     for call in 0..2 {
         let is_refused = read_line(&mut ahead, &mut reader, &mut Line::new()).is_err();
-        assert_row(&rt, &("a read that fails", call), is_refused);
+        check_row(&("a read that fails", call), is_refused)?;
     }
     let skipped = skip_payload(&mut ahead, &mut reader, 1);
     assert!(rt; skipped.is_err());
+    Ok(())
 }
 
 /// Whether the texts are written so, one after another.
 fn are_written(output: &mut Vec<u8>, texts: &[Text], wanted: &[u8]) -> bool {
+    let mut writer = CheckedWriter::new(output);
     for text in texts {
-        if text.write(output).is_err() {
-            return false;
-        }
+        writer.put_reply(text);
     }
-    output.as_slice() == wanted
+    !writer.has_failed() && writer.into_inner().as_slice() == wanted
 }
 
 #[test]
@@ -329,18 +325,26 @@ fn run(y: i32, first: i32, last: i32) -> Run {
 fn texts_of_lists(rt: HostRuntime) -> Result<(), Fail> {
     let alloc = rt.alloc();
     let points = [Point { y: 0, x: -3 }, Point { y: i32::MIN, x: 12 }];
+    let tiles = [Corner { lat: -1, lon: 0 }, Corner { lat: 37, lon: -105 }];
+    let runs = [run(2, 0, 2), run(-1, -4, -4)];
     let texts = [
-        Text::path(alloc, &points)?,
-        Text::path(alloc, &[])?,
-        Text::runs(alloc, &[run(2, 0, 2), run(-1, -4, -4)])?,
+        Text::path(Vec::from_slice(alloc, &points)?),
+        Text::path(Vec::new(alloc)),
+        Text::runs(Vec::from_slice(alloc, &runs)?),
+        Text::names(Vec::from_slice(alloc, &tiles)?),
+        Text::names(Vec::new(alloc)),
     ];
-    let wanted = b"OK 2\n0 -3\n-2147483648 12\nOK 0\nOK 4 2\n2 0 2\n-1 -4 -4\n";
+    let wanted =
+        b"OK 2\n0 -3\n-2147483648 12\nOK 0\nOK 4 2\n2 0 2\n-1 -4 -4\nOK 2 S01E000 N37W105\nOK 0\n";
     assert!(rt; are_written(&mut Vec::new(alloc), &texts, wanted));
     Ok(())
 }
 
+/// The shortest part of a long reply, in bytes, but the first and the last.
+const SHORTEST_PART: usize = 2900;
+
 #[test]
-fn long_replies_leave_by_one_write(rt: HostRuntime) -> Result<(), Fail> {
+fn long_replies_leave_in_large_parts(rt: HostRuntime) -> Result<(), Fail> {
     let alloc = rt.alloc();
     let mut points = Vec::new(alloc);
     points.resize(
@@ -353,13 +357,19 @@ fn long_replies_leave_by_one_write(rt: HostRuntime) -> Result<(), Fail> {
     let mut runs = Vec::new(alloc);
     runs.resize(100_000, run(-100_000, 1_000_000, 1_000_000))?;
     let replies = [
-        (Text::path(alloc, &points)?, 10 + 100_000 * 16),
-        (Text::runs(alloc, &runs)?, 17 + 100_000 * 24),
+        (Text::path(points), 10 + 100_000 * 16),
+        (Text::runs(runs), 17 + 100_000 * 24),
     ];
     for (text, bytes) in &replies {
-        let mut writer = Counting::new();
-        let written = text.write(&mut writer);
-        assert!(rt; written.is_ok() && writer.bytes == *bytes && writer.writes == 1);
+        let mut output = CheckedWriter::new(Counting::new());
+        output.put_reply(text);
+        let has_failed = output.has_failed();
+        let writer = output.into_inner();
+        assert!(rt;
+            !has_failed
+                && writer.bytes == *bytes
+                && writer.writes as usize <= 2 + *bytes / SHORTEST_PART
+        );
     }
     Ok(())
 }
@@ -367,7 +377,8 @@ fn long_replies_leave_by_one_write(rt: HostRuntime) -> Result<(), Fail> {
 #[test]
 fn a_writer_without_room(rt: HostRuntime) {
     let mut room = [0; 4];
-    let mut writer = room.as_mut_slice();
-    assert!(rt; Text::number(123u64).write(&mut writer).is_err());
+    let mut output = CheckedWriter::new(room.as_mut_slice());
+    output.put_reply(&Text::number(123u64));
+    assert!(rt; output.has_failed());
     assert!(rt; room == *b"OK 1");
 }

@@ -1,6 +1,5 @@
 //! A random session: a mosaic by the definitions, which engines follow.
 use crate::answers::{defined, served};
-use crate::asserting::assert_found;
 use crate::commands::Commands;
 use crate::region::{MIDDLES, corners_around, points_around};
 use edits::Command;
@@ -10,8 +9,8 @@ use reference::Plain;
 use seeded_random::Random;
 use std::alloc::{AllocError, Global};
 use std::fmt::Debug;
-use std::process::Abort;
 use std::test::Fail;
+use test_tiles::check_found;
 
 /// A mosaic that the plain programs change, and the random commands that change it.
 #[derive(Drop)]
@@ -55,7 +54,6 @@ impl Session {
     /// Does so many random commands, each on both engines too.
     pub(crate) fn run<E: Engine, F: Engine>(
         &mut self,
-        rt: &impl Abort,
         commands: u32,
         engine: &mut E,
         other: &mut F,
@@ -64,13 +62,9 @@ impl Session {
             let command = self.commands.next(self.alloc, &self.mosaic)?;
             let expected = self.apply(&command);
             self.step = self.step.saturating_add(1);
-            self.assert_found(rt, &"a command", &engine.apply(&command), &expected);
-            self.assert_found(
-                rt,
-                &"a command of the other",
-                &other.apply(&command),
-                &expected,
-            );
+            self.check_found(&"a command", &engine.apply(&command), &expected)?;
+            let found = other.apply(&command);
+            self.check_found(&"a command of the other", &found, &expected)?;
             if let Err(refusal) = expected {
                 self.refusals.push(refusal)?;
             }
@@ -78,29 +72,23 @@ impl Session {
         Ok(())
     }
 
-    // Ends the test where this doesn't hold once so many commands were done.
-    fn assert(&self, rt: &impl Abort, holds: bool, what: &str) {
-        let Session { seed, step, .. } = *self;
-        assert!(rt; holds, "seed {seed}, step {step}: {what}");
-    }
-
-    // The same where something else was found than is wanted of what this names.
-    fn assert_found<R: Debug, T: Debug + PartialEq>(
+    // Fails where something else was found than is wanted of what this names, and says how many commands were done.
+    fn check_found<R: Debug, T: Debug + PartialEq>(
         &self,
-        rt: &impl Abort,
         what: &R,
         found: &T,
         wanted: &T,
-    ) {
+    ) -> Result<(), Fail> {
         let Session { seed, step, .. } = *self;
-        assert_found(rt, &("seed", seed, "step", step, what), found, wanted);
+        check_found(&("seed", seed, "step", step, what), found, wanted)
     }
 
     /// Has the engine make so many steps, or as many as there are stale tiles.
-    pub(crate) fn step<E: Engine>(&self, rt: &impl Abort, steps: u32, engine: &mut E) {
+    pub(crate) fn step<E: Engine>(&self, steps: u32, engine: &mut E) -> Result<(), Fail> {
         for _ in 0..steps {
-            self.assert(rt, engine.step().is_ok(), "a step");
+            self.check_found(&"a step", &engine.step().is_ok(), &true)?;
         }
+        Ok(())
     }
 
     /// How many tiles the mosaic takes.
@@ -120,46 +108,38 @@ impl Session {
     }
 
     /// Compares what the engine holds: its count, its tiles, their files, its sinks and the elevation of each point.
-    pub(crate) fn check_contents<E: Engine>(
-        &self,
-        rt: &impl Abort,
-        engine: &mut E,
-    ) -> Result<(), Fail> {
-        self.assert_found(rt, &"the count", &engine.count(), &self.count);
+    pub(crate) fn check_contents<E: Engine>(&self, engine: &mut E) -> Result<(), Fail> {
+        self.check_found(&"the count", &engine.count(), &self.count)?;
         let has_tiles = self.has_tiles(&engine.tiles()?);
-        self.assert(rt, has_tiles, "the tiles");
+        self.check_found(&"the tiles", &has_tiles, &true)?;
         let sinks = engine.sinks()?;
-        self.assert_found(rt, &"the sinks", &sinks.as_slice(), &self.mosaic.sinks());
-        self.check_files(rt, engine)?;
-        self.check_elevations(rt, engine);
-        Ok(())
+        self.check_found(&"the sinks", &sinks.as_slice(), &self.mosaic.sinks())?;
+        self.check_files(engine)?;
+        self.check_elevations(engine)
     }
 
-    fn check_files<E: Engine>(&self, rt: &impl Abort, engine: &mut E) -> Result<(), Fail> {
+    fn check_files<E: Engine>(&self, engine: &mut E) -> Result<(), Fail> {
         for corner in &self.corners {
             let wanted = self.file(*corner)?;
-            self.assert_found(rt, corner, &engine.export(*corner), &wanted);
+            self.check_found(corner, &engine.export(*corner), &wanted)?;
         }
         Ok(())
     }
 
-    fn check_elevations<E: Engine>(&self, rt: &impl Abort, engine: &mut E) {
+    fn check_elevations<E: Engine>(&self, engine: &mut E) -> Result<(), Fail> {
         for point in &self.points {
             let height = reference::height(&self.mosaic, *point);
-            self.assert_found(rt, point, &engine.elevation(*point), &Ok(height));
+            self.check_found(point, &engine.elevation(*point), &Ok(height))?;
         }
+        Ok(())
     }
 
     /// Compares what the engine answers to each query of each point.
-    pub(crate) fn check_points<E: Engine>(
-        &self,
-        rt: &impl Abort,
-        engine: &mut E,
-    ) -> Result<(), Fail> {
+    pub(crate) fn check_points<E: Engine>(&self, engine: &mut E) -> Result<(), Fail> {
         let levels = reference::filled_levels(self.alloc, &self.mosaic)?;
         for point in &self.points {
             let answers = defined(self.alloc, &self.mosaic, &levels, *point)?;
-            self.assert_found(rt, point, &served(engine, *point), &answers);
+            self.check_found(point, &served(engine, *point), &answers)?;
         }
         Ok(())
     }

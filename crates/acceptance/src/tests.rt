@@ -6,7 +6,6 @@ use disk::MemDisk;
 use lattice::{Refusal, Side};
 use memory_store::store_in_memory;
 use std::alloc::Global;
-use std::process::Abort;
 use std::test::Fail;
 use store::Store;
 use table_engine::TableEngine;
@@ -46,106 +45,95 @@ fn reopened(alloc: Global, store: Store<MemDisk>) -> Result<Store<MemDisk>, Fail
 
 /// Compares the answers of the store while some of its tiles are fresh and some stale.
 fn query_stale(
-    rt: &impl Abort,
     session: &mut Session,
     table: &mut TableEngine,
     store: &mut Store<MemDisk>,
 ) -> Result<(), Fail> {
-    session.run(rt, 8, table, store)?;
-    session.step(rt, 1, store);
-    session.check_points(rt, store)?;
-    session.run(rt, 4, table, store)?;
-    session.check_points(rt, store)
+    session.run(8, table, store)?;
+    session.step(1, store)?;
+    session.check_points(store)?;
+    session.run(4, table, store)?;
+    session.check_points(store)
 }
 
 /// Compares the answers of the table and of the store once each of their tiles is fresh.
 fn query_fresh(
-    rt: &impl Abort,
     session: &mut Session,
     table: &mut TableEngine,
     store: &mut Store<MemDisk>,
 ) -> Result<(), Fail> {
-    session.step(rt, session.capacity(), table);
-    session.run(rt, 4, table, store)?;
-    session.check_points(rt, table)?;
-    session.step(rt, session.capacity(), store);
-    session.check_points(rt, store)
+    session.step(session.capacity(), table)?;
+    session.run(4, table, store)?;
+    session.check_points(table)?;
+    session.step(session.capacity(), store)?;
+    session.check_points(store)
 }
 
 /// Compares all queries of a table and of a store, that is opened anew twice.
 fn query_engines(
-    rt: &impl Abort,
     alloc: Global,
     side: Side,
     session: &mut Session,
     table: &mut TableEngine,
 ) -> Result<(), Fail> {
     let mut stale = empty_store(alloc, side, session.capacity())?;
-    query_stale(rt, session, table, &mut stale)?;
+    query_stale(session, table, &mut stale)?;
     let mut fresh = reopened(alloc, stale)?;
-    query_fresh(rt, session, table, &mut fresh)?;
-    session.check_points(rt, &mut reopened(alloc, fresh)?)
+    query_fresh(session, table, &mut fresh)?;
+    session.check_points(&mut reopened(alloc, fresh)?)
 }
 
 /// A session in which all queries are compared: of the store while some tiles are fresh and some stale, also opened anew,
 /// of the table, and of the store with all tiles fresh.
-fn query(rt: &impl Abort, alloc: Global, seed: u64, side: Side, capacity: u32) -> Result<(), Fail>
+fn query(alloc: Global, seed: u64, side: Side, capacity: u32) -> Result<(), Fail>
     requires { capacity ≤ 240 }
 {
     let mut session = Session::new(alloc, seed, side, capacity)?;
     let mut table = TableEngine::new(alloc, side, capacity);
-    query_engines(rt, alloc, side, &mut session, &mut table)
+    query_engines(alloc, side, &mut session, &mut table)
 }
 
-fn query_many(
-    rt: &impl Abort,
-    alloc: Global,
-    samples: u32,
-    capacity: u32,
-    sessions: u64,
-) -> Result<(), Fail>
+fn query_many(alloc: Global, samples: u32, capacity: u32, sessions: u64) -> Result<(), Fail>
     requires { capacity ≤ 240 }
 {
     let side = Side::new(samples).ok_or("no such side")?;
     for seed in 0..sessions {
-        query(rt, alloc, seed, side, capacity)?;
+        query(alloc, seed, side, capacity)?;
     }
     Ok(())
 }
 
 #[test]
 fn queries_of_one_tile(rt: HostRuntime) -> Result<(), Fail> {
-    query_many(&rt, rt.alloc(), 3, 1, 40)?;
-    query_many(&rt, rt.alloc(), 4, 1, 20)?;
-    query_many(&rt, rt.alloc(), 5, 1, 6)
+    query_many(rt.alloc(), 3, 1, 40)?;
+    query_many(rt.alloc(), 4, 1, 20)?;
+    query_many(rt.alloc(), 5, 1, 6)
 }
 
 #[test]
 fn queries_of_two_tiles(rt: HostRuntime) -> Result<(), Fail> {
-    query_many(&rt, rt.alloc(), 3, 2, 12)?;
-    query_many(&rt, rt.alloc(), 4, 2, 4)
+    query_many(rt.alloc(), 3, 2, 12)?;
+    query_many(rt.alloc(), 4, 2, 4)
 }
 
 #[test]
 fn queries_of_four_tiles(rt: HostRuntime) -> Result<(), Fail> {
-    query_many(&rt, rt.alloc(), 3, 4, 4)
+    query_many(rt.alloc(), 3, 4, 4)
 }
 
 /// Runs commands on a table and on a store, and compares what they hold.
 fn edit_both(
-    rt: &impl Abort,
     session: &mut Session,
     table: &mut TableEngine,
     store: &mut Store<MemDisk>,
 ) -> Result<(), Fail> {
-    session.run(rt, 10, table, store)?;
-    session.check_contents(rt, table)?;
-    session.check_contents(rt, store)
+    session.run(10, table, store)?;
+    session.check_contents(table)?;
+    session.check_contents(store)
 }
 
 /// The same again and again, and at the end of the store opened anew.
 fn edit_engines(
-    rt: &impl Abort,
     alloc: Global,
     side: Side,
     session: &mut Session,
@@ -153,40 +141,29 @@ fn edit_engines(
 ) -> Result<(), Fail> {
     let mut store = empty_store(alloc, side, session.capacity())?;
     for _ in 0..4_u32 {
-        edit_both(rt, session, table, &mut store)?;
+        edit_both(session, table, &mut store)?;
     }
-    session.check_contents(rt, &mut reopened(alloc, store)?)
+    session.check_contents(&mut reopened(alloc, store)?)
 }
 
 /// A session in which commands and contents are compared. Adds what commands were refused with.
-fn edit(
-    rt: &impl Abort,
-    seed: u64,
-    side: Side,
-    capacity: u32,
-    refusals: &mut Vec<Refusal>,
-) -> Result<(), Fail>
+fn edit(seed: u64, side: Side, capacity: u32, refusals: &mut Vec<Refusal>) -> Result<(), Fail>
     requires { capacity ≤ 240 }
 {
     let alloc = *refusals.allocator();
     let mut session = Session::new(alloc, seed, side, capacity)?;
     let mut table = TableEngine::new(alloc, side, capacity);
-    edit_engines(rt, alloc, side, &mut session, &mut table)?;
+    edit_engines(alloc, side, &mut session, &mut table)?;
     refusals.extend_from_slice(session.refusals())?;
     Ok(())
 }
 
-fn edit_many(
-    rt: &impl Abort,
-    samples: u32,
-    capacity: u32,
-    refusals: &mut Vec<Refusal>,
-) -> Result<(), Fail>
+fn edit_many(samples: u32, capacity: u32, refusals: &mut Vec<Refusal>) -> Result<(), Fail>
     requires { capacity ≤ 240 }
 {
     let side = Side::new(samples).ok_or("no such side")?;
     for seed in 0..50_u64 {
-        edit(rt, seed, side, capacity, refusals)?;
+        edit(seed, side, capacity, refusals)?;
     }
     Ok(())
 }
@@ -195,8 +172,8 @@ fn edit_many(
 fn commands_and_their_refusals(rt: HostRuntime) -> Result<(), Fail> {
     let mut refusals = Vec::new(rt.alloc());
     for capacity in 1..5_u32 {
-        edit_many(&rt, 3, capacity, &mut refusals)?;
-        edit_many(&rt, 4, capacity, &mut refusals)?;
+        edit_many(3, capacity, &mut refusals)?;
+        edit_many(4, capacity, &mut refusals)?;
     }
     for refusal in REFUSALS {
         let count = refusals.iter().filter(|came| **came == refusal).count();

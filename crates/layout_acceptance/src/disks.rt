@@ -2,13 +2,13 @@
 ghost use Rattle.std.specs.Prelude.{◌≡◌, ◌<◌, ◌≤◌, IfOk};
 ghost use Rattle.disk.specs.MemDisk.{sectors_of};
 
-use crate::asserting::{assert_all, assert_found, assert_row};
-use disk::{Disk, Fault, FaultOnceDisk, FileDisk, FuseDisk, MemDisk, Torn, settle};
+use disk::{Disk, Fault, FaultOnceDisk, FileDisk, FuseDisk, MemDisk, Torn, write_through};
 use std::alloc::Global;
 use std::fs;
 use std::io::{self, ErrorKind};
 use std::marker::Brand;
 use std::test::Fail;
+use test_tiles::{check_all, check_found, check_row};
 
 // Three sectors: the first settled, the second written since the sync, the third written for the first time.
 fn half_written(alloc: Global) -> Result<MemDisk, Fail>
@@ -59,14 +59,14 @@ fn a_stop_leaves_what_its_kind_says(rt: HostRuntime) -> Result<(), Fail> {
         stops_as(rt.alloc(), Torn::New, 2, 3)?,
         stops_as(rt.alloc(), Torn::Fill(0xa7), 0xa7, 0xa7)?,
     ];
-    assert_all(&rt, &all, "a stop");
+    check_all("a stop", &all)?;
     Ok(())
 }
 
 #[test]
 fn a_settled_sector_outlasts_a_stop(rt: HostRuntime) -> Result<(), Fail> {
     let mut disk = MemDisk::new(rt.alloc(), 2)?;
-    settle(&mut disk, 1, &[6; 4096])?;
+    write_through(&mut disk, 1, &[6; 4096])?;
     assert!(rt; disk.sectors() == 2);
     disk.stop(Torn::Fill(0xff))?;
     assert!(rt; read_as(&mut disk, &[0, 6])?);
@@ -104,7 +104,7 @@ fn a_fuse_fails_from_its_call_on(rt: HostRuntime) -> Result<(), Fail> {
         let mut fuse = FuseDisk::new(MemDisk::new(rt.alloc(), 2)?, calls);
         let is_told = four_calls(&mut fuse) == passed;
         let is_behind = holds(fuse.into_inner(), writes, first, second)?;
-        assert_row(&rt, &("a fuse, calls", calls), is_told && is_behind);
+        check_row(&("a fuse, calls", calls), is_told && is_behind)?;
     }
     Ok(())
 }
@@ -122,7 +122,7 @@ fn a_fault_once_fails_its_call_alone(rt: HostRuntime) -> Result<(), Fail> {
         let mut faulty = FaultOnceDisk::new(MemDisk::new(rt.alloc(), 2)?, call);
         let is_told = four_calls(&mut faulty) == passed;
         let is_behind = holds(faulty.into_inner(), writes, first, second)?;
-        assert_row(&rt, &("a faulty disk, call", call), is_told && is_behind);
+        check_row(&("a faulty disk, call", call), is_told && is_behind)?;
     }
     Ok(())
 }
@@ -138,7 +138,7 @@ fn marked() -> [u8; 4096] {
 // Settles the second sector with the marked bytes.
 fn write_second<D: Disk>(disk: &mut D) -> Result<(), Fault> {
     if 1 < disk.sectors() {
-        settle(disk, 1, &marked())?;
+        write_through(disk, 1, &marked())?;
     }
     Ok(())
 }
@@ -178,7 +178,7 @@ fn a_file_keeps_what_was_written(rt: HostRuntime) -> Result<(), Fail> {
         read_sector(&mut again, 1)? == marked(),
         read_sector(&mut again, 2)? == [0; 4096],
     ];
-    assert_all(&rt, &all, "what is read of the file");
+    check_all("what is read of the file", &all)?;
     fs::write(&rt, path, [5; 12_288].as_slice())?;
     assert!(rt; read_as(&mut again, &[5, 5, 5])?, "what the file holds now");
     fs::remove_file(&rt, path)?;
@@ -191,7 +191,7 @@ fn a_file_is_cut_into_whole_sectors(rt: HostRuntime) -> Result<(), Fail> {
     for (bytes, sectors) in [(0, 0), (4095, 0), (4096, 1), (12_287, 2), (12_288, 3)] {
         fs::File::create(&rt, path)?.set_len(bytes)?;
         let disk = FileDisk::<Brand>::open(&rt, path)?;
-        assert_found(&rt, &("bytes", bytes), &disk.sectors(), &sectors);
+        check_found(&("bytes", bytes), &disk.sectors(), &sectors)?;
     }
     fs::remove_file(&rt, path)?;
     Ok(())
@@ -267,7 +267,7 @@ fn a_file_grows_by_sectors_of_zeros(rt: HostRuntime) -> Result<(), Fail> {
         bytes.get(..4096) == Some([5; 4096].as_slice()),
         bytes.get(4096..) == Some([0; 8192].as_slice()),
     ];
-    assert_all(&rt, &all, "a file that grew");
+    check_all("a file that grew", &all)?;
     fs::write(&rt, path, [5; 8195].as_slice())?;
     FileDisk::<Brand>::open(&rt, path)?.lengthen(2)?;
     assert!(rt; fs::metadata(&rt, path)?.len() == 8195);

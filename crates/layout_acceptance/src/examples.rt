@@ -9,7 +9,6 @@ use page_alloc::Pages;
 use page_codec::{Format, Root, Version};
 use page_map::PageMap;
 use roots::Roots;
-use std::process::Abort;
 use std::test::Fail;
 
 #[test]
@@ -84,7 +83,7 @@ fn a_page_of_a_tile(rt: HostRuntime) -> Result<(), Fail> {
     let mut page_map = PageMap::new(alloc, 16, format)?;
     page_map.tile_for_writing(corner)?;
     let page = page_map.page_for_writing(corner, 0)?;
-    page_map.settle();
+    page_map.commit();
     assert!(rt; page >= 4 && page_map.is_present(corner));
     Ok(())
 }

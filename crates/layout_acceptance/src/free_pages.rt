@@ -1,7 +1,7 @@
 //! Which pages of a disk are free, by disks of a few sectors and by the largest.
-use crate::asserting::assert_row;
 use page_alloc::{FIRST_PAGE, Pages};
 use std::test::Fail;
+use test_tiles::check_row;
 
 // The least disk of a store: 16 sectors, of which 4 hold the roots and their gates.
 #[test]
@@ -29,7 +29,7 @@ fn sixteen_sectors_have_twelve_pages(rt: HostRuntime) -> Result<(), Fail> {
 fn a_page_is_marked_once_and_given_back(rt: HostRuntime) -> Result<(), Fail> {
     let mut pages = Pages::new(rt.alloc(), 24).ok_or("no memory")?;
     for outside in [0, 3, 24, 25, 4096, u32::MAX] {
-        assert_row(&rt, &("marked", outside), !pages.mark(outside));
+        check_row(&("marked", outside), !pages.mark(outside))?;
     }
     assert!(rt; pages.free() == 20);
     let marked = pages.mark(23);
@@ -47,7 +47,7 @@ fn disks_without_a_page(rt: HostRuntime) -> Result<(), Fail> {
     for total in 0..5 {
         let mut pages = Pages::new(rt.alloc(), total).ok_or("no memory")?;
         let is_full = pages.free() == 0 && pages.take() == None;
-        assert_row(&rt, &("sectors", total), is_full);
+        check_row(&("sectors", total), is_full)?;
     }
     Ok(())
 }

@@ -3,14 +3,13 @@ ghost use Rattle.std.specs.Prelude.{◌≡◌, ◌≤◌, ◌<◌, IfOk, OnOk, f
 ghost use Rattle.disk.specs.MemDisk.{sectors_of};
 ghost use Rattle.roots.specs.Roots.{has_failed, disk_of};
 
-use crate::asserting::{assert_all, assert_found};
 use disk::{Disk, FuseDisk, MemDisk, Torn};
 use lattice::{Refusal, Side};
 use page_codec::{Format, Root};
 use roots::Roots;
 use std::alloc::Global;
-use std::process::Abort;
 use std::test::Fail;
+use test_tiles::{check_all, check_found};
 
 // The first 32 bytes of root A after formatting with side 3 and capacity 1; the others are zero.
 const FORMATTED: [u8; 32] = [
@@ -118,7 +117,7 @@ fn a_formatted_disk(rt: HostRuntime) -> Result<(), Fail> {
         sector_of(&mut disk, 0)? == page_of(&[0xa7]),
         sector_of(&mut disk, 2)? == page_of(&[]),
     ];
-    assert_all(&rt, &all, "a formatted disk");
+    check_all("a formatted disk", &all)?;
     disk.stop(Torn::Fill(0xa7))?;
     assert!(rt; numbers_of(disk)? == (1, 0));
     Ok(())
@@ -135,17 +134,11 @@ fn stopped_after(alloc: Global, calls: u64, torn: Torn, root: &Root) -> Result<(
 }
 
 // Compares the commit numbers that opening finds after a stop that leaves old bytes, new ones, zeros, or open gates.
-fn check_stops(
-    rt: &impl Abort,
-    alloc: Global,
-    root: &Root,
-    calls: u64,
-    numbers: &[u64],
-) -> Result<(), Fail> {
+fn check_stops(alloc: Global, root: &Root, calls: u64, numbers: &[u64]) -> Result<(), Fail> {
     let kinds = [Torn::Old, Torn::New, Torn::Fill(0), Torn::Fill(0xa7)];
     for (torn, number) in kinds.iter().zip(numbers.iter()) {
         let stopped = stopped_after(alloc, calls, *torn, root)?;
-        assert_found(rt, &(calls, *number), &stopped, &(calls > 20, *number));
+        check_found(&(calls, *number), &stopped, &(calls > 20, *number))?;
     }
     Ok(())
 }
@@ -173,7 +166,7 @@ fn a_stop_after_each_call(rt: HostRuntime) -> Result<(), Fail> {
     ];
     let root = first_root()?;
     for (calls, numbers) in table {
-        check_stops(&rt, rt.alloc(), &root, calls, &numbers)?;
+        check_stops(rt.alloc(), &root, calls, &numbers)?;
     }
     Ok(())
 }
@@ -184,7 +177,7 @@ fn a_fault_is_answered_device(rt: HostRuntime) -> Result<(), Fail> {
     for calls in 0..21 {
         let fuse = FuseDisk::new(MemDisk::new(rt.alloc(), 16)?, calls);
         let (_, answer) = two_commits(fuse, &root);
-        assert_found(&rt, &("calls", calls), &answer, &Err(Refusal::Device));
+        check_found(&("calls", calls), &answer, &Err(Refusal::Device))?;
     }
     Ok(())
 }
@@ -254,12 +247,7 @@ fn images_that_are_no_stores(rt: HostRuntime) -> Result<(), Fail> {
     for (sector, at, byte, refusal) in table {
         let mut disk = committed_once(rt.alloc())?;
         set_byte(&mut disk, sector, at, byte)?;
-        assert_found(
-            &rt,
-            &(sector, at, byte),
-            &refused(disk),
-            &(Some(refusal), 16),
-        );
+        check_found(&(sector, at, byte), &refused(disk), &(Some(refusal), 16))?;
     }
     let mut disk = committed_once(rt.alloc())?;
     set_byte(&mut disk, 0, 0, 0)?;

@@ -1,9 +1,9 @@
 //! The bytes of roots, entries, sinks, records and index pages, by spellings worked by hand.
-use crate::asserting::{assert_all, assert_found};
 use arrayvec::ArrayVec;
 use lattice::{Corner, Point, Refusal, Side};
 use page_codec::*;
 use std::test::Fail;
+use test_tiles::{check_all, check_found};
 
 fn format_1(side: u32, capacity: u32) -> Result<Format, Refusal> {
     Format::new(Version::One, side, capacity)
@@ -46,7 +46,7 @@ fn a_new_store(rt: HostRuntime) -> Result<(), Fail> {
         read.sinks().is_empty(),
         read.entries().is_empty(),
     ];
-    assert_all(&rt, &all, "a new store");
+    check_all("a new store", &all)?;
     Ok(())
 }
 
@@ -97,7 +97,7 @@ fn the_next_root(rt: HostRuntime) -> Result<(), Fail> {
         read.count() == 1,
         read.entries() == [entry].as_slice(),
     ];
-    assert_all(&rt, &all, "the next root");
+    check_all("the next root", &all)?;
     Ok(())
 }
 
@@ -130,17 +130,18 @@ const CHANGES: [(u8, [u8; 2], Option<Damaged>); 24] = [
 ];
 
 #[test]
-fn hostile_roots(rt: HostRuntime) {
+fn hostile_roots(rt: HostRuntime) -> Result<(), Fail> {
     for (at, bytes, damaged) in CHANGES {
         let mut page = page_of(&ONE_TILE);
         let at = usize::from(at);
         page[at] = bytes[0];
         page[at + 1] = bytes[1];
-        assert_found(&rt, &(at, bytes), &Root::read(&page).err(), &damaged);
+        check_found(&(at, bytes), &Root::read(&page).err(), &damaged)?;
     }
     let mut last = page_of(&ONE_TILE);
     last[4095] = 1;
     assert!(rt; Root::read(&last).err() == Some(Damaged::Rule));
+    Ok(())
 }
 
 #[test]
@@ -177,7 +178,7 @@ fn two_tiles(lat: u8, lon: u8) -> [u8; PAGE_BYTES] {
 }
 
 #[test]
-fn tiles_have_an_order(rt: HostRuntime) {
+fn tiles_have_an_order(rt: HostRuntime) -> Result<(), Fail> {
     let mut falling = two_tiles(0, 0xff);
     falling[83] = 0xff;
     let mut south = two_tiles(0xff, 1);
@@ -189,7 +190,8 @@ fn tiles_have_an_order(rt: HostRuntime) {
         Root::read(&falling).err() == Some(Damaged::Rule),
         Root::read(&south).err() == Some(Damaged::Rule),
     ];
-    assert_all(&rt, &all, "two tiles");
+    check_all("two tiles", &all)?;
+    Ok(())
 }
 
 #[test]
@@ -206,7 +208,7 @@ fn records(rt: HostRuntime) -> Result<(), Fail> {
         longer.pages.len() == 1024,
         Record::read(&behind, 2).err() == Some(Damaged::Rule),
     ];
-    assert_all(&rt, &all, "a record");
+    check_all("a record", &all)?;
     Ok(())
 }
 
@@ -221,7 +223,7 @@ fn index_pages(rt: HostRuntime) -> Result<(), Fail> {
         index.write() == page,
         IndexPage::read(&behind, 2).err() == Some(Damaged::Rule),
     ];
-    assert_all(&rt, &all, "an index page");
+    check_all("an index page", &all)?;
     Ok(())
 }
 
@@ -250,13 +252,13 @@ fn sinks(rt: HostRuntime) -> Result<(), Fail> {
         let mut page = two_sinks();
         page[at] = byte;
         let refused = Root::read(&page).err();
-        assert_found(&rt, &("byte", at), &refused, &Some(Damaged::Rule));
+        check_found(&("byte", at), &refused, &Some(Damaged::Rule))?;
     }
     Ok(())
 }
 
 #[test]
-fn formats(rt: HostRuntime) {
+fn formats(rt: HostRuntime) -> Result<(), Fail> {
     for (version, side, capacity, refusal) in [
         (Version::One, 2, 0, Some(Refusal::BadSide)),
         (Version::One, 1202, 1, Some(Refusal::BadSide)),
@@ -267,8 +269,9 @@ fn formats(rt: HostRuntime) {
         (Version::Two, 1202, 1, None),
     ] {
         let made = Format::new(version, side, capacity);
-        assert_found(&rt, &(version, side, capacity), &made.err(), &refusal);
+        check_found(&(version, side, capacity), &made.err(), &refusal)?;
     }
+    Ok(())
 }
 
 // Version, side, capacity, index pages and pages of a plane, sectors of a store.
@@ -290,12 +293,7 @@ fn sizes(rt: HostRuntime) -> Result<(), Fail> {
     for (version, side, capacity, index, data, sectors) in SIZES {
         let format = Format::new(version, side, capacity)?;
         let found = (format.index_pages(), format.data_pages(), format.sectors());
-        assert_found(
-            &rt,
-            &(version, side, capacity),
-            &found,
-            &(index, data, sectors),
-        );
+        check_found(&(version, side, capacity), &found, &(index, data, sectors))?;
     }
     Ok(())
 }

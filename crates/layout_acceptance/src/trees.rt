@@ -3,16 +3,16 @@ ghost use Rattle.std.specs.Prelude.{◌≡◌, ◌≤◌, map, OnOk, IfOk};
 ghost use Rattle.disk.specs.MemDisk.{sectors_of};
 ghost use Rattle.cow_tree.specs.Trees.{corners_of, root_of};
 
-use crate::asserting::{assert_all, assert_found, assert_row};
 use catalogue::Samples;
 use cow_tree::{Plane, Tree};
 use disk::{Disk, FaultOnceDisk, FuseDisk, MemDisk, Torn};
 use lattice::{Corner, Refusal, Side};
 use page_codec::Format;
 use std::alloc::Global;
-use std::process::Abort;
 use std::test::Fail;
-use test_tiles::{A as FIRST, A_SAMPLES as FIRST_SAMPLES, B as SECOND};
+use test_tiles::{
+    A as FIRST, A_SAMPLES as FIRST_SAMPLES, B as SECOND, check_all, check_found, check_row,
+};
 
 // Room for two tiles of side 3, each plane of which takes one page.
 const SECTORS: u32 = 24;
@@ -148,7 +148,7 @@ fn two_tiles_are_read_back(rt: HostRuntime) -> Result<(), Fail> {
         samples_at(&mut tree, first) == Ok(FIRST_SAMPLES),
         samples_at(&mut tree, second) == Ok(SECOND_SAMPLES),
     ];
-    assert_all(&rt, &all, "two tiles");
+    check_all("two tiles", &all)?;
     Ok(())
 }
 
@@ -183,11 +183,11 @@ fn stopped_after(alloc: Global, calls: u64, torn: Torn) -> Result<(bool, bool), 
 }
 
 // Stops in each way after so many calls: whether both tiles were acknowledged before.
-fn check_stops(rt: &impl Abort, alloc: Global, calls: u64) -> Result<bool, Fail> {
+fn check_stops(alloc: Global, calls: u64) -> Result<bool, Fail> {
     let mut is_done = false;
     for torn in [Torn::Old, Torn::New, Torn::Fill(0), Torn::Fill(0xa7)] {
         let (is_right, is_whole) = stopped_after(alloc, calls, torn)?;
-        assert_row(rt, &("calls before a stop", calls), is_right);
+        check_row(&("calls before a stop", calls), is_right)?;
         is_done = is_whole;
     }
     Ok(is_done)
@@ -197,7 +197,7 @@ fn check_stops(rt: &impl Abort, alloc: Global, calls: u64) -> Result<bool, Fail>
 fn a_stop_after_each_call(rt: HostRuntime) -> Result<(), Fail> {
     let mut is_done = false;
     for calls in 0..40 {
-        is_done = check_stops(&rt, rt.alloc(), calls)?;
+        is_done = check_stops(rt.alloc(), calls)?;
     }
     assert!(rt; is_done);
     Ok(())
@@ -222,7 +222,7 @@ fn is_told(alloc: Global, call: u64) -> Result<bool, Fail> {
 #[test]
 fn a_fault_at_each_call(rt: HostRuntime) -> Result<(), Fail> {
     for call in 0..40 {
-        assert_row(&rt, &("a fault at call", call), is_told(rt.alloc(), call)?);
+        check_row(&("a fault at call", call), is_told(rt.alloc(), call)?)?;
     }
     Ok(())
 }
@@ -252,7 +252,7 @@ fn records_that_are_none(rt: HostRuntime) -> Result<(), Fail> {
     let itself = record.to_le_bytes()[0];
     for (at, byte) in [(0, 0), (0, itself), (0, 24), (1, 1), (4095, 1)] {
         let refusal = refused_with(rt.alloc(), record, at, byte)?;
-        assert_found(&rt, &("byte", at), &refusal, &Refusal::Damaged);
+        check_found(&("byte", at), &refusal, &Refusal::Damaged)?;
     }
     Ok(())
 }
@@ -296,7 +296,7 @@ fn a_patch_is_given_up(rt: HostRuntime) -> Result<(), Fail> {
         patch(&mut tree, first, &[0; 4096]) == Ok(()),
         samples_at(&mut tree, first) == Ok([0; 9]),
     ];
-    assert_all(&rt, &staged, "a patch");
+    check_all("a patch", &staged)?;
     tree.abandon();
     assert!(rt; samples_at(&mut tree, first) == Ok(FIRST_SAMPLES));
     Ok(())
@@ -313,7 +313,7 @@ fn a_tile_is_dropped(rt: HostRuntime) -> Result<(), Fail> {
         samples_at(&mut again, first) == Err(Refusal::NoTile),
         samples_at(&mut again, second) == Ok(SECOND_SAMPLES),
     ];
-    assert_all(&rt, &all, "a dropped tile");
+    check_all("a dropped tile", &all)?;
     Ok(())
 }
 
@@ -349,7 +349,7 @@ fn two_tiles_are_upgraded(rt: HostRuntime) -> Result<(), Fail> {
         samples_at(&mut tree, first) == Ok(FIRST_SAMPLES),
         samples_at(&mut tree, second) == Ok(SECOND_SAMPLES),
     ];
-    assert_all(&rt, &all, "two tiles upgraded");
+    check_all("two tiles upgraded", &all)?;
     let (disk, answer) = upgrade(rt.alloc(), tree.into_disk())?;
     assert!(rt; answer == Err(Refusal::NotOld) && disk.writes() == 20);
     Ok(())
@@ -407,7 +407,7 @@ fn pages_lie_anywhere_on_a_long_disk(rt: HostRuntime) -> Result<(), Fail> {
         samples_at(&mut tree, first) == Ok(FIRST_SAMPLES),
         drop_tile(&mut tree, first) == Ok(()),
     ];
-    assert_all(&rt, &moved, "a page far off");
+    check_all("a page far off", &moved)?;
     let (disk, answer) = with_tile(rt.alloc(), tree.into_disk(), first, &SECOND)?;
     let mut again = opened(rt.alloc(), disk)?;
     let all = [
@@ -415,7 +415,7 @@ fn pages_lie_anywhere_on_a_long_disk(rt: HostRuntime) -> Result<(), Fail> {
         samples_at(&mut again, first) == Ok(SECOND_SAMPLES),
         samples_at(&mut again, second) == Ok(SECOND_SAMPLES),
     ];
-    assert_all(&rt, &all, "a page far off was given up");
+    check_all("a page far off was given up", &all)?;
     Ok(())
 }
 
@@ -428,7 +428,7 @@ fn a_store_with_a_page_far_off_is_upgraded(rt: HostRuntime) -> Result<(), Fail> 
         samples_at(&mut tree, corner(6)?) == Ok(FIRST_SAMPLES),
         samples_at(&mut tree, corner(-7)?) == Ok(SECOND_SAMPLES),
     ];
-    assert_all(&rt, &all, "upgraded with a page far off");
+    check_all("upgraded with a page far off", &all)?;
     Ok(())
 }
 
@@ -442,7 +442,7 @@ fn a_page_far_off_is_reached_once(rt: HostRuntime) -> Result<(), Fail> {
             Ok(_) => false,
             Err(not_opened) => not_opened.refusal == Refusal::Damaged,
         };
-        assert_row(&rt, &("page", page), is_damaged);
+        check_row(&("page", page), is_damaged)?;
     }
     Ok(())
 }

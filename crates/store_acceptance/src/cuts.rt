@@ -1,14 +1,12 @@
 //! Sessions of a store with power cuts between them.
-use super::asserting::assert_row;
 use super::fixtures::{EAST, HERE, import, store_of};
 use disk::Torn;
 use edits::Command;
 use memory_store::{CutSession, run_two_sessions};
 use std::alloc::Global;
-use std::process::Abort;
 use std::test::Fail;
 use store::{Event, Reply};
-use test_tiles::{A, B};
+use test_tiles::{A, B, check_row};
 
 // How many calls opening a store with one tile makes: a sync, both gates, both roots and the record.
 const CALLS_TO_OPEN: u64 = 6;
@@ -53,11 +51,11 @@ fn done_and_found(alloc: Global, torn: Torn, calls: u64) -> Result<(u64, u64), F
 }
 
 // Cuts the session after each count of calls: what was done is found, and at most the command in doubt besides.
-fn check_cuts(rt: &impl Abort, alloc: Global, torn: Torn) -> Result<(), Fail> {
+fn check_cuts(alloc: Global, torn: Torn) -> Result<(), Fail> {
     for calls in 0..CALLS_OF_SESSION {
         let (done, found) = done_and_found(alloc, torn, calls)?;
         let is_right = done <= found && found <= done.saturating_add(1);
-        assert_row(rt, &(torn, calls, done, found), is_right);
+        check_row(&(torn, calls, done, found), is_right)?;
     }
     Ok(())
 }
@@ -65,7 +63,7 @@ fn check_cuts(rt: &impl Abort, alloc: Global, torn: Torn) -> Result<(), Fail> {
 #[test]
 fn what_was_answered_done_is_there_after_a_cut(rt: HostRuntime) -> Result<(), Fail> {
     for torn in [Torn::Old, Torn::New, Torn::Fill(0xa7)] {
-        check_cuts(&rt, rt.alloc(), torn)?;
+        check_cuts(rt.alloc(), torn)?;
     }
     Ok(())
 }

@@ -1,26 +1,24 @@
 //! The examples of root comments, of a store on a disk, and what they come to.
-use arrayvec::ArrayVec;
 use cow_tree::Tree;
 use derived::{stale, step};
-use disk::MemDisk;
-use edits::{Bytes, Command};
-use lattice::{Corner, Point, Refusal};
+use disk::Disk;
+use image_disk::ImageDisk;
 use memory_store::store_in_memory;
 use std::alloc::Global;
-use std::process::Abort;
 use std::test::Fail;
-use store::Store;
+use store::{ArrayVec, Bytes, Command, Corner, Format, MemDisk, Point, Refusal, Store, Version};
 use test_tiles::A;
+use windows::Window;
 
-// A tile with a pit is imported, its level asked for, and a stream burnt in that drains it.
+// A tile with a pit is imported, its level asked for, and a stream burnt in that drains it; by names of `store` alone.
 fn levels_of_a_pit(alloc: Global) -> Result<(i16, i16), Refusal> {
     let corner = Corner::new(0, 0).ok_or(Refusal::BadName)?;
     let bytes = Bytes::new(Vec::from_slice(alloc, &A)?);
-    let command = Command::Import { corner, bytes };
-    let mut disk = MemDisk::new(alloc, 58)?;
+    let format = Format::new(Version::Two, 3, 4)?;
+    let mut disk = MemDisk::new(alloc, format.sectors())?;
     Store::format(&mut disk, 3, 4)?;
     let mut store = Store::open(alloc, disk)?;
-    let count = store.apply(&command)?;
+    let count = store.apply(&Command::Import { corner, bytes })?;
     let level = store.fill(Point { y: 1, x: 1 })?;
     let mut points = ArrayVec::new();
     points.push(Point { y: 0, x: 2 });
@@ -54,8 +52,48 @@ fn a_tile_that_is_stepped(rt: HostRuntime) -> Result<(), Fail> {
     let bytes = Bytes::new(Vec::from_slice(alloc, &A)?);
     store.apply(&Command::Import { corner, bytes })?;
     let mut tree = Tree::open(alloc, store.into_disk())?;
-    let stepped = step(alloc, &mut tree)?;
+    let stepped = step(alloc, &mut tree, None, None)?;
     let fresh = !stale(&tree, corner);
     assert!(rt; stepped == Some(corner) && fresh);
+    Ok(())
+}
+
+// The bytes of a disk of a store with a pit.
+fn image_of_a_pit(alloc: Global) -> Result<Vec<u8>, Fail> {
+    let mut store = store_in_memory(alloc, 24, 3, 1)?;
+    let corner = Corner::default();
+    let bytes = Bytes::new(Vec::from_slice(alloc, &A)?);
+    store.apply(&Command::Import { corner, bytes })?;
+    let mut disk = store.into_disk();
+    let mut image = Vec::new(alloc);
+    let mut sector = [0; 4096];
+    for s in 0..disk.sectors() {
+        if s < disk.sectors() {
+            disk.read(s, &mut sector)?;
+            image.extend_from_slice(&sector)?;
+        }
+    }
+    Ok(image)
+}
+
+#[test]
+fn a_window_of_an_image(rt: HostRuntime) -> Result<(), Fail> {
+    let alloc = rt.alloc();
+    let image = image_of_a_pit(alloc)?;
+    let mut sector = [7; 4096];
+    let mut disk = ImageDisk::new(&image);
+    assert_eq!(rt; disk.sectors(), 24);
+    disk.read(1, &mut sector)?;
+    assert!(rt; sector != [7; 4096]);
+    let mut engine = Store::open(alloc, disk)?;
+    let mut values = [7; 9];
+    let window = Window {
+        north: 2,
+        west: 0,
+        rows: 3,
+        columns: 3,
+    };
+    windows::levels(&mut engine, window, &mut values)?;
+    assert!(rt; values == [9, 9, 9, 9, 5, 9, 9, 9, 5]);
     Ok(())
 }

@@ -1,5 +1,4 @@
 //! Tiles of 1201 by 1201 samples, and one of 3601 by 3601.
-use super::asserting::assert_found;
 use super::fixtures::{EAST, HERE, at, exports, import, opened};
 use super::writes::make_counted;
 use disk::{Disk, MemDisk};
@@ -9,6 +8,7 @@ use std::alloc::Global;
 use std::ops::Range;
 use std::test::Fail;
 use store::Store;
+use test_tiles::check_found;
 
 // What a store of two tiles of 1201 x 1201 samples needs.
 const SECTORS: u32 = 7074;
@@ -89,14 +89,13 @@ fn a_tile_of_the_first_version_is_written_once(rt: HostRuntime) -> Result<(), Fa
     Store::format_1(&mut disk, 1201, 1)?;
     let bytes = tile(alloc, 0)?;
     let (mut disk, writes) = import_counted(alloc, disk, &bytes)?;
-    assert_found(&rt, &"an import", &writes, &708);
-    assert_found(
-        &rt,
+    check_found(&"an import", &writes, &708)?;
+    check_found(
         &"last pages",
         &last_pages(&mut disk, 0..4240, &bytes, 1218)?,
         &1,
-    );
-    make_counted(&rt, alloc, disk, &[("burn 1 600 600", 5)])?;
+    )?;
+    make_counted(alloc, disk, &[("burn 1 600 600", 5)])?;
     Ok(())
 }
 
@@ -127,20 +126,19 @@ fn the_largest_tile_comes_back_is_burnt_and_kept_filled(rt: HostRuntime) -> Resu
     let disk = store_in_memory(alloc, LARGEST_SECTORS, LARGEST_SIDE, 1)?.into_disk();
     let bytes = slope(alloc, 0)?;
     let (mut disk, writes) = import_counted(alloc, disk, &bytes)?;
-    assert_found(&rt, &"an import", &writes, &6342);
-    assert_found(
-        &rt,
+    check_found(&"an import", &writes, &6342)?;
+    check_found(
         &"last pages",
         &last_pages(&mut disk, 6300..6400, &bytes, 2626)?,
         &1,
-    );
+    )?;
     let mut store = opened(alloc, disk)?;
     // The last sample is in the last page.
     let is_back = exports(&mut store, HERE, &bytes)?
         && store.elevation(at(0, 3600)) == Ok(Height::At(14_400));
     assert!(rt; is_back);
     let rows = [("burn 1 1800 1800", 6), ("step", 12_683)];
-    let disk = make_counted(&rt, alloc, store.into_disk(), &rows)?;
+    let disk = make_counted(alloc, store.into_disk(), &rows)?;
     assert!(rt; is_burnt_and_filled(alloc, disk)?);
     Ok(())
 }

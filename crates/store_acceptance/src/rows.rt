@@ -1,6 +1,5 @@
 //! What a store of tiles of side 3 answers where no line asks for it: sizes, counts of calls, seams. `acceptance` has the
 //! rows of lines.
-use super::asserting::{assert_found, assert_row};
 use super::fixtures::opened;
 use super::script::{Session, check_sessions, command};
 use disk::{CountedDisk, MemDisk};
@@ -8,6 +7,7 @@ use lattice::Refusal;
 use std::alloc::Global;
 use std::test::Fail;
 use store::Store;
+use test_tiles::{check_found, check_row};
 
 // Whether the disk holds a store of the second version, of tiles of this side.
 fn is_second(alloc: Global, disk: MemDisk, side: u32) -> Result<bool, Fail> {
@@ -36,9 +36,9 @@ fn sizes_that_format_takes(rt: HostRuntime) -> Result<(), Fail> {
         let mut disk = MemDisk::new(rt.alloc(), sectors)?;
         let found = Store::format(&mut disk, side, capacity);
         let size = (sectors, side, capacity);
-        assert_found(&rt, &size, &found, &answer);
+        check_found(&size, &found, &answer)?;
         let is_right = answer.is_err() || is_second(rt.alloc(), disk, side)?;
-        assert_row(&rt, &size, is_right);
+        check_row(&size, is_right)?;
     }
     Ok(())
 }
@@ -60,8 +60,8 @@ fn sizes_that_the_first_version_takes(rt: HostRuntime) -> Result<(), Fail> {
         let found = Store::format_1(&mut disk, side, capacity);
         let writes = if answer.is_ok() { 4 } else { 0 };
         let size = (sectors, side, capacity);
-        assert_found(&rt, &size, &found, &answer);
-        assert_found(&rt, &size, &disk.writes(), &writes);
+        check_found(&size, &found, &answer)?;
+        check_found(&size, &disk.writes(), &writes)?;
     }
     Ok(())
 }
@@ -103,8 +103,8 @@ fn writes_and_syncs_of_commands(rt: HostRuntime) -> Result<(), Fail> {
     let mut before = 1;
     for (line, answer, commits, writes, syncs) in steps {
         let (left, found, calls) = counted(alloc, disk, line)?;
-        assert_found(&rt, &line, &found, &(before, answer, commits));
-        assert_found(&rt, &line, &calls, &(writes, syncs));
+        check_found(&line, &found, &(before, answer, commits))?;
+        check_found(&line, &calls, &(writes, syncs))?;
         disk = left;
         before = commits;
     }

@@ -1,15 +1,13 @@
 //! Whole runs of a store.
-use super::asserting::assert_found;
 use super::fixtures::{HERE, at, import, opened, store_of};
 use disk::{Disk, FaultOnceDisk};
 use edits::Command;
 use lattice::{Height, Refusal};
 use memory_store::store_in_memory;
 use std::alloc::Global;
-use std::process::Abort;
 use std::test::Fail;
 use store::{Event, Reply, Store};
-use test_tiles::A;
+use test_tiles::{A, check_found};
 use watershed::Run;
 
 // How many calls opening a store of the first version with one tile makes: a sync, both gates, both roots and the record.
@@ -36,7 +34,6 @@ fn removal() -> Event {
 
 // Has the store answer these events, and compares the replies.
 fn check_run<D: Disk>(
-    rt: &impl Abort,
     alloc: Global,
     store: &mut Store<D>,
     rows: Vec<(Event, Reply)>,
@@ -49,7 +46,7 @@ fn check_run<D: Disk>(
     }
     let mut out = Vec::new(alloc);
     store.run(&events, &mut out)?;
-    assert_found(rt, &"a run", &out.as_slice(), &expected.as_slice());
+    check_found(&"a run", &out.as_slice(), &expected.as_slice())?;
     Ok(())
 }
 
@@ -96,7 +93,7 @@ fn every_event(alloc: Global) -> Result<Vec<(Event, Reply)>, Fail> {
 fn every_event_of_a_run(rt: HostRuntime) -> Result<(), Fail> {
     let rows = every_event(rt.alloc())?;
     let mut store = store_in_memory(rt.alloc(), 22, 3, 1)?;
-    check_run(&rt, rt.alloc(), &mut store, rows)
+    check_run(rt.alloc(), &mut store, rows)
 }
 
 #[test]
@@ -107,7 +104,7 @@ fn replies_go_behind_what_is_there(rt: HostRuntime) -> Result<(), Fail> {
     store.run(&events, &mut out)?;
     store.run(&[], &mut out)?;
     let expected = [Reply::Reopened, Reply::Done(1), Reply::Count(1)];
-    assert_found(&rt, &"a run", &out.as_slice(), &expected.as_slice());
+    check_found(&"a run", &out.as_slice(), &expected.as_slice())?;
     Ok(())
 }
 
@@ -136,5 +133,5 @@ fn a_fault_in_a_run(rt: HostRuntime) -> Result<(), Fail> {
     let rows = after_a_fault(rt.alloc())?;
     let disk = store_of(rt.alloc(), 1, &[(HERE, A)])?.into_disk();
     let mut store = opened(rt.alloc(), FaultOnceDisk::new(disk, CALLS_TO_OPEN))?;
-    check_run(&rt, rt.alloc(), &mut store, rows)
+    check_run(rt.alloc(), &mut store, rows)
 }

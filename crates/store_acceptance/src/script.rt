@@ -8,7 +8,7 @@ use engine::{Event, Reply};
 use hgt::name_of;
 use lattice::Corner;
 use lines::{Language, Request, format_reply, request_of};
-use serving::{CheckedWriter, serve};
+use serving::{CheckedWriter, Output, serve};
 use std::alloc::Global;
 use std::process::Abort;
 use std::str::from_utf8;
@@ -78,11 +78,12 @@ fn answer<D: Disk>(alloc: Global, store: &mut Store<D>, text: &str) -> Result<Ve
         b"stale" => Reply::Tiles(stale_tiles(alloc, store)?),
         _ => return served(alloc, store, text),
     };
-    let mut output = Vec::new(alloc);
-    format_reply(alloc, reply)
-        .write(&mut output)
-        .map_err(|_| "no memory")?;
-    Ok(output)
+    let mut output = CheckedWriter::new(Vec::new(alloc));
+    output.put_reply(&format_reply(alloc, reply));
+    match output.has_failed() {
+        true => Err("no memory".into()),
+        false => Ok(output.into_inner()),
+    }
 }
 
 fn served<D: Disk>(alloc: Global, store: &mut Store<D>, line: &str) -> Result<Vec<u8>, Fail> {

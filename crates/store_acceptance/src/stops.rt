@@ -1,5 +1,4 @@
 //! Stops and faults at each call of each change and of an opening, on stores of tiles of side 3.
-use super::asserting::assert_row;
 use super::change::{CHANGES, Row, UPGRADES, make, prepared_disk};
 use super::fixtures::{HERE, at, opened, store_of};
 use super::standing::{Model, Standing};
@@ -9,10 +8,9 @@ use edits::Command;
 use lattice::{Height, Refusal};
 use std::alloc::Global;
 use std::fmt::Debug;
-use std::process::Abort;
 use std::test::Fail;
 use store::Store;
-use test_tiles::A;
+use test_tiles::{A, check_row};
 
 // How many calls opening a store of the first version with one tile makes: a sync, both gates, both roots and a record.
 const CALLS_TO_OPEN: u64 = 6;
@@ -166,33 +164,28 @@ fn stop_after_each(alloc: Global, case: &Case) -> Result<bool, Fail> {
     Ok(false)
 }
 
-fn stop_each_change(
-    rt: &impl Abort,
-    alloc: Global,
-    version: u32,
-    rows: &[Row],
-) -> Result<(), Fail> {
+fn stop_each_change(alloc: Global, version: u32, rows: &[Row]) -> Result<(), Fail> {
     for row in rows {
         let case = Case::new(alloc, version, *row)?;
         let through = stop_after_each(alloc, &case)?;
-        assert_row(rt, &("a change that isn't through", version, *row), through);
+        check_row(&("a change that isn't through", version, *row), through)?;
     }
     Ok(())
 }
 
 #[test]
 fn a_stop_after_each_call_by_the_first_version(rt: HostRuntime) -> Result<(), Fail> {
-    stop_each_change(&rt, rt.alloc(), 1, &CHANGES)
+    stop_each_change(rt.alloc(), 1, &CHANGES)
 }
 
 #[test]
 fn a_stop_after_each_call_by_the_second_version(rt: HostRuntime) -> Result<(), Fail> {
-    stop_each_change(&rt, rt.alloc(), 2, &CHANGES)
+    stop_each_change(rt.alloc(), 2, &CHANGES)
 }
 
 #[test]
 fn a_stop_after_each_call_of_an_upgrade(rt: HostRuntime) -> Result<(), Fail> {
-    stop_each_change(&rt, rt.alloc(), 1, &UPGRADES)
+    stop_each_change(rt.alloc(), 1, &UPGRADES)
 }
 
 // Whether each call that can refuse is refused with Failed.
@@ -277,34 +270,29 @@ fn fault_at_each(alloc: Global, case: &Case) -> Result<bool, Fail> {
     Ok(made)
 }
 
-fn fault_in_each_change(
-    rt: &impl Abort,
-    alloc: Global,
-    version: u32,
-    rows: &[Row],
-) -> Result<(), Fail> {
+fn fault_in_each_change(alloc: Global, version: u32, rows: &[Row]) -> Result<(), Fail> {
     for row in rows {
         let case = Case::new(alloc, version, *row)?;
         let made = fault_at_each(alloc, &case)?;
         let what = "not made by a fault in the last sync";
-        assert_row(rt, &(what, version, *row), made);
+        check_row(&(what, version, *row), made)?;
     }
     Ok(())
 }
 
 #[test]
 fn a_fault_at_each_call_by_the_first_version(rt: HostRuntime) -> Result<(), Fail> {
-    fault_in_each_change(&rt, rt.alloc(), 1, &CHANGES)
+    fault_in_each_change(rt.alloc(), 1, &CHANGES)
 }
 
 #[test]
 fn a_fault_at_each_call_by_the_second_version(rt: HostRuntime) -> Result<(), Fail> {
-    fault_in_each_change(&rt, rt.alloc(), 2, &CHANGES)
+    fault_in_each_change(rt.alloc(), 2, &CHANGES)
 }
 
 #[test]
 fn a_fault_at_each_call_of_an_upgrade(rt: HostRuntime) -> Result<(), Fail> {
-    fault_in_each_change(&rt, rt.alloc(), 1, &UPGRADES)
+    fault_in_each_change(rt.alloc(), 1, &UPGRADES)
 }
 
 #[test]

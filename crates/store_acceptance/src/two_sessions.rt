@@ -1,5 +1,4 @@
 //! Two sessions of a store, each cut off after some calls, inside its opening too.
-use super::asserting::{assert_found, assert_row};
 use super::cuts::count_done;
 use super::fixtures::{HERE, store_of};
 use super::script::command;
@@ -7,10 +6,9 @@ use disk::Torn;
 use lattice::Refusal;
 use memory_store::{CutSession, run_two_sessions};
 use std::alloc::Global;
-use std::process::Abort;
 use std::test::Fail;
 use store::{Event, Reply};
-use test_tiles::V;
+use test_tiles::{V, check_found, check_row};
 
 /// Commands to a store of the tile V, in a first session and in a second.
 struct Row {
@@ -90,25 +88,25 @@ fn cut_twice(
 
 // Cuts both sessions off in each way: what was done is found, and at most what was in doubt besides. At the last no call
 // fails, and all is done.
-fn check_row(rt: &impl Abort, alloc: Global, row: &Row) -> Result<(), Fail> {
+fn check_cut_off(alloc: Global, row: &Row) -> Result<(), Fail> {
     let mut all_done = 0;
     for way in 0..192_usize {
         let passes = (PASSES[way / 8 % 8], PASSES[way % 8]);
         let torn = TORN[way / 64 % 3];
         let (done, doubted, found) = cut_twice(alloc, row, torn, passes)?;
         let is_right = done <= found && found <= done.saturating_add(doubted);
-        assert_row(rt, &(row.shows, torn, passes, done, found), is_right);
+        check_row(&(row.shows, torn, passes, done, found), is_right)?;
         all_done = done;
     }
     let asked = row.first.len().saturating_add(row.second.len());
-    assert_found(rt, &row.shows, &all_done, &(asked as u64));
+    check_found(&row.shows, &all_done, &(asked as u64))?;
     Ok(())
 }
 
 #[test]
 fn what_two_sessions_did_is_there_after_both(rt: HostRuntime) -> Result<(), Fail> {
     for row in &ROWS {
-        check_row(&rt, rt.alloc(), row)?;
+        check_cut_off(rt.alloc(), row)?;
     }
     Ok(())
 }

@@ -1,12 +1,11 @@
 //! The upgrade of a store of side 3 to the second version.
-use super::asserting::assert_found;
 use super::fixtures::{HERE, at, exports, import, opened, sink, store_of_version_1};
 use disk::MemDisk;
 use lattice::Refusal;
 use std::alloc::Global;
 use std::test::Fail;
 use store::Store;
-use test_tiles::A;
+use test_tiles::{A, check_found};
 
 // Version, commands and commits: an import, a sink and a step were made, and then the upgrade.
 const BEFORE: (u32, u64, u64) = (1, 2, 4);
@@ -44,29 +43,19 @@ fn numbers(store: &Store<MemDisk>) -> (u32, u64, u64) {
 #[test]
 fn an_upgrade_needs_room(rt: HostRuntime) -> Result<(), Fail> {
     let mut store = one_tile(rt.alloc(), 16)?;
-    assert_found(
-        &rt,
-        &"an upgrade",
-        &store.upgrade(),
-        &Err(Refusal::TooSmall),
-    );
-    assert_found(&rt, &"numbers", &numbers(&store), &BEFORE);
+    check_found(&"an upgrade", &store.upgrade(), &Err(Refusal::TooSmall))?;
+    check_found(&"numbers", &numbers(&store), &BEFORE)?;
     Ok(())
 }
 
 #[test]
 fn an_upgrade_is_made_once(rt: HostRuntime) -> Result<(), Fail> {
     let mut store = one_tile(rt.alloc(), 22)?;
-    assert_found(&rt, &"an upgrade", &store.upgrade(), &Ok(()));
-    assert_found(&rt, &"numbers", &numbers(&store), &AFTER);
-    assert_found(
-        &rt,
-        &"a second one",
-        &store.upgrade(),
-        &Err(Refusal::NotOld),
-    );
+    check_found(&"an upgrade", &store.upgrade(), &Ok(()))?;
+    check_found(&"numbers", &numbers(&store), &AFTER)?;
+    check_found(&"a second one", &store.upgrade(), &Err(Refusal::NotOld))?;
     let mut again = opened(rt.alloc(), store.into_disk())?;
-    assert_found(&rt, &"numbers once opened again", &numbers(&again), &AFTER);
+    check_found(&"numbers once opened again", &numbers(&again), &AFTER)?;
     assert!(rt; has_all(&mut again)?);
     Ok(())
 }

@@ -1,12 +1,11 @@
 //! How many writes changes of a store make, by either version.
-use super::asserting::assert_found;
 use super::change::{ONE_SINK, ONE_TILE, make, prepared_disk};
 use super::fixtures::opened;
 use disk::MemDisk;
 use lattice::Refusal;
 use std::alloc::Global;
-use std::process::Abort;
 use std::test::Fail;
+use test_tiles::check_found;
 
 // Four tiles around a point.
 const AROUND: [&str; 4] = [
@@ -88,28 +87,27 @@ fn counted(
     Ok((disk, refused, writes))
 }
 
-fn check_rows(rt: &impl Abort, alloc: Global, version: u32) -> Result<(), Fail> {
+fn check_rows(alloc: Global, version: u32) -> Result<(), Fail> {
     for row in ROWS.iter() {
         let [first, second] = row.writes;
         let wanted = if version == 1 { first } else { second };
         let disk = prepared_disk(alloc, version, (4, row.before, row.change))?;
         let (_, refusal, writes) = counted(alloc, disk, row.change)?;
         let asked = (version, row.before, row.change);
-        assert_found(rt, &asked, &refusal, &row.refusal);
-        assert_found(rt, &asked, &writes, &wanted);
+        check_found(&asked, &refusal, &row.refusal)?;
+        check_found(&asked, &writes, &wanted)?;
     }
     Ok(())
 }
 
 #[test]
 fn writes_by_either_version(rt: HostRuntime) -> Result<(), Fail> {
-    check_rows(&rt, rt.alloc(), 1)?;
-    check_rows(&rt, rt.alloc(), 2)
+    check_rows(rt.alloc(), 1)?;
+    check_rows(rt.alloc(), 2)
 }
 
 /// Makes the changes one after another, each with so many writes. Answers the disk.
 pub(crate) fn make_counted(
-    rt: &impl Abort,
     alloc: Global,
     disk: MemDisk,
     rows: &[(&str, u64)],
@@ -117,8 +115,8 @@ pub(crate) fn make_counted(
     let mut disk = disk;
     for (change, wanted) in rows {
         let (left, refusal, writes) = counted(alloc, disk, change)?;
-        assert_found(rt, change, &refusal, &None);
-        assert_found(rt, change, &writes, wanted);
+        check_found(change, &refusal, &None)?;
+        check_found(change, &writes, wanted)?;
         disk = left;
     }
     Ok(disk)

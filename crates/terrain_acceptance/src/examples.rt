@@ -1,13 +1,12 @@
 //! The examples of root comments, of crates that know terrain, and what they come to.
 use arrayvec::ArrayVec;
 use catalogue::{Samples, Table, height};
-use edits::{Bytes, Command, carry_out, edit_of};
+use edits::{Bytes, Command, apply_edit, edit_of};
 use flow_d8::Filled;
 use hgt::{name_of, name_text, samples};
 use lattice::{Corner, Height, Point, Refusal, Side, holders, index_in};
 use reference::{Plain, effect, filled_levels};
 use std::alloc::Global;
-use std::process::Abort;
 use std::test::Fail;
 use test_tiles::{A, A_SAMPLES};
 use tile_flood::{Block, Flood, spills};
@@ -64,7 +63,7 @@ fn a_table_of_a_tile(rt: HostRuntime) -> Result<(), Fail> {
 
     let command = Command::Remove { corner };
     let edit = edit_of(&mut table, 240, &command)?;
-    carry_out(alloc, &edit, &mut table)?;
+    apply_edit(alloc, &edit, &mut table)?;
     assert!(rt; !table.present(corner));
     Ok(())
 }

@@ -1,11 +1,9 @@
 //! Levels, labels and spills of one block, by blocks worked by hand, row by row from the north.
-use crate::asserting::{assert_found, assert_row};
 use arrayvec::ArrayVec;
 use lattice::{Refusal, Side, VOID};
 use std::alloc::Global;
-use std::process::Abort;
 use std::test::Fail;
-use test_tiles::A_SAMPLES;
+use test_tiles::{A_SAMPLES, check_found, check_row};
 use tile_flood::{Block, Flood, Labelled, NO_LABEL, OUT, Spill, raise, spills};
 
 fn block(alloc: Global, side: u32, heights: &[i16], sinks: &[u32]) -> Result<Block, Refusal> {
@@ -95,18 +93,19 @@ fn flooded(alloc: Global, side: u32, heights: &[i16], sinks: &[u32]) -> Result<L
 fn blocks_flood_so(rt: HostRuntime) -> Result<(), Fail> {
     for row in FLOODS.iter() {
         let found = flooded(rt.alloc(), row.side, row.heights, row.sinks)?;
-        assert_found(&rt, &row.shows, &found.side().samples(), &row.side);
-        assert_found(&rt, &row.shows, &found.levels(), &row.levels);
-        check_labels(&rt, row, found.labels());
+        check_found(&row.shows, &found.side().samples(), &row.side)?;
+        check_found(&row.shows, &found.levels(), &row.levels)?;
+        check_labels(row, found.labels())?;
     }
     Ok(())
 }
 
-fn check_labels(rt: &impl Abort, row: &FloodRow, labels: &[u16]) {
-    assert_found(rt, &row.shows, &labels.len(), &row.levels.len());
+fn check_labels(row: &FloodRow, labels: &[u16]) -> Result<(), Fail> {
+    check_found(&row.shows, &labels.len(), &row.levels.len())?;
     for (point, label) in row.labels {
-        assert_found(rt, &(row.shows, *point), &labels.get(*point), &Some(label));
+        check_found(&(row.shows, *point), &labels.get(*point), &Some(label))?;
     }
+    Ok(())
 }
 
 // Heights with one lowest rim point, its place, and its number, which is the label that it has.
@@ -127,8 +126,8 @@ fn rim_points_have_these_numbers(rt: HostRuntime) -> Result<(), Fail> {
     for row in RIM.iter() {
         let (heights, lowest, number) = row;
         let found = flooded(rt.alloc(), 3, heights, &[])?;
-        assert_found(&rt, row, &found.levels(), &heights.as_slice());
-        assert_found(&rt, row, &found.labels().get(*lowest), &Some(number));
+        check_found(row, &found.levels(), &heights.as_slice())?;
+        check_found(row, &found.labels().get(*lowest), &Some(number))?;
     }
     Ok(())
 }
@@ -197,11 +196,10 @@ fn are_spills(found: &[Spill], wanted: &[(u16, u16, i16)]) -> bool {
 fn labels_meet_at_the_greater_level(rt: HostRuntime) -> Result<(), Fail> {
     for row in SPILLS.iter() {
         let found = spills(rt.alloc(), &labelled(rt.alloc(), row.levels, row.labels)?)?;
-        assert_row(
-            &rt,
+        check_row(
             &(row.spills, found.as_slice()),
             are_spills(&found, row.spills),
-        );
+        )?;
     }
     Ok(())
 }
@@ -249,7 +247,7 @@ const RAISED: [RaiseRow; 3] = [
 fn a_block_is_raised_by_its_rim(rt: HostRuntime) -> Result<(), Fail> {
     for row in RAISED.iter() {
         let filled = raised(rt.alloc(), row.levels, row.labels, row.rim)?;
-        assert_found(&rt, &row.shows, &filled.as_slice(), &row.filled);
+        check_found(&row.shows, &filled.as_slice(), &row.filled)?;
     }
     Ok(())
 }
@@ -314,9 +312,10 @@ const DAMAGED: [DamageRow; 8] = [
 ];
 
 #[test]
-fn damaged_labellings_are_found(rt: HostRuntime) {
+fn damaged_labellings_are_found(rt: HostRuntime) -> Result<(), Fail> {
     for row in DAMAGED.iter() {
         let refused = raised(rt.alloc(), row.levels, row.labels, row.rim).err();
-        assert_found(&rt, &row.shows, &refused, &Some(Refusal::Damaged));
+        check_found(&row.shows, &refused, &Some(Refusal::Damaged))?;
     }
+    Ok(())
 }

@@ -1,12 +1,10 @@
 //! Directions over filled levels, by rows worked by hand: levels row by row from the north, tile after tile.
-use crate::asserting::{assert_found, assert_row};
 use crate::written::{are_points, at};
 use flow_d8::{Directions, Filled};
 use lattice::{Corner, Dir, Point, Refusal, Side, VOID};
 use std::alloc::Global;
-use std::process::Abort;
 use std::test::Fail;
-use test_tiles::A_SAMPLES;
+use test_tiles::{A_SAMPLES, check_found, check_row};
 
 fn tiles(alloc: Global, corners: &[(i16, i16)]) -> Option<Vec<Corner>> {
     let mut tiles = Vec::new(alloc);
@@ -191,51 +189,53 @@ const FLATS: [Row; 2] = [
     },
 ];
 
-fn check_directions(rt: &impl Abort, directions: &Directions, row: &Row) {
+fn check_directions(directions: &Directions, row: &Row) -> Result<(), Fail> {
     for (y, x, direction) in row.leads {
         let found = directions.direction(at(*y, *x));
-        assert_found(rt, &(row.shows, *y, *x), &found, direction);
-    }
-}
-
-fn check_distances(rt: &impl Abort, directions: &Directions, row: &Row) {
-    for (y, x, distance) in row.lies {
-        let found = directions.flat_distance(at(*y, *x));
-        assert_found(rt, &(row.shows, *y, *x), &found, distance);
-    }
-}
-
-fn check_paths(rt: &impl Abort, directions: &Directions, row: &Row) -> Result<(), Refusal> {
-    for (y, x, path) in row.paths {
-        let found = directions.trace(at(*y, *x))?;
-        assert_row(rt, &(row.shows, found.as_slice()), are_points(&found, path));
+        check_found(&(row.shows, *y, *x), &found, direction)?;
     }
     Ok(())
 }
 
-fn check(rt: &impl Abort, alloc: Global, rows: &[Row]) -> Result<(), Fail> {
+fn check_distances(directions: &Directions, row: &Row) -> Result<(), Fail> {
+    for (y, x, distance) in row.lies {
+        let found = directions.flat_distance(at(*y, *x));
+        check_found(&(row.shows, *y, *x), &found, distance)?;
+    }
+    Ok(())
+}
+
+fn check_paths(directions: &Directions, row: &Row) -> Result<(), Fail> {
+    for (y, x, path) in row.paths {
+        let found = directions.trace(at(*y, *x))?;
+        check_row(&(row.shows, found.as_slice()), are_points(&found, path))?;
+    }
+    Ok(())
+}
+
+fn check(alloc: Global, rows: &[Row]) -> Result<(), Fail> {
     for row in rows {
         let directions = found(alloc, row.side, row.corners, row.levels, row.sinks)?;
-        check_directions(rt, &directions, row);
-        check_distances(rt, &directions, row);
-        check_paths(rt, &directions, row)?;
+        check_directions(&directions, row)?;
+        check_distances(&directions, row)?;
+        check_paths(&directions, row)?;
     }
     Ok(())
 }
 
 #[test]
 fn water_goes_to_the_steepest_neighbour(rt: HostRuntime) -> Result<(), Fail> {
-    check(&rt, rt.alloc(), &STEEPEST)
+    check(rt.alloc(), &STEEPEST)
 }
 
 #[test]
 fn water_leaves_at_sinks_and_beside_voids(rt: HostRuntime) -> Result<(), Fail> {
-    check(&rt, rt.alloc(), &WAYS_OUT)
+    check(rt.alloc(), &WAYS_OUT)
 }
 
 #[test]
 fn flats_drain_to_their_nearest_way_out(rt: HostRuntime) -> Result<(), Fail> {
-    check(&rt, rt.alloc(), &FLATS)
+    check(rt.alloc(), &FLATS)
 }
 
 #[test]

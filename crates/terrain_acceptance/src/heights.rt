@@ -1,13 +1,11 @@
 //! Heights, adjacent points and seams, by rows worked by hand.
-use crate::asserting::assert_found;
 use crate::written::at;
 use catalogue::{Samples, Table, adjacent, degree, outlet, seams, tiles};
 use hgt::samples;
 use lattice::{Corner, Refusal, Side};
 use std::alloc::Global;
-use std::process::Abort;
 use std::test::Fail;
-use test_tiles::{A, A_SAMPLES, F, G, H, K, O, V};
+use test_tiles::{A, A_SAMPLES, F, G, H, K, O, V, check_found};
 
 const N00E000: Corner = Corner { lat: 0, lon: 0 };
 
@@ -43,13 +41,14 @@ fn has_tile(table: &Table, corner: Corner, samples: &[i16; 9]) -> bool {
 }
 
 // Points with how many others are adjacent to each, and whether water can leave there.
-fn check_points(rt: &impl Abort, table: &mut Table, rows: &[(i32, i32, u32, bool)]) {
+fn check_points(table: &mut Table, rows: &[(i32, i32, u32, bool)]) -> Result<(), Fail> {
     for row in rows {
         let (y, x, count, leaves) = row;
         let point = at(*y, *x);
-        assert_found(rt, row, &degree(table, point), &Ok(*count));
-        assert_found(rt, row, &outlet(table, point), &Ok(*leaves));
+        check_found(row, &degree(table, point), &Ok(*count))?;
+        check_found(row, &outlet(table, point), &Ok(*leaves))?;
     }
+    Ok(())
 }
 
 // What is shown, two tiles, and how many points disagree.
@@ -75,7 +74,7 @@ const SEAMS: [(&str, [(Corner, [u8; 18]); 2], u64); 3] = [
 fn seams_between_tiles(rt: HostRuntime) -> Result<(), Fail> {
     for (shows, tiles, count) in SEAMS.iter() {
         let mut table = table(rt.alloc(), tiles)?;
-        assert_found(&rt, shows, &seams(&mut table), &Ok(*count));
+        check_found(shows, &seams(&mut table), &Ok(*count))?;
     }
     Ok(())
 }
@@ -94,7 +93,7 @@ const MEETING_POINTS: [(i32, i32, u32, bool); 5] = [
 #[test]
 fn tiles_that_meet_in_one_point(rt: HostRuntime) -> Result<(), Fail> {
     let mut table = table(rt.alloc(), &MEETING)?;
-    check_points(&rt, &mut table, &MEETING_POINTS);
+    check_points(&mut table, &MEETING_POINTS)?;
     assert!(rt; seams(&mut table) == Ok(1));
     Ok(())
 }
@@ -113,7 +112,7 @@ fn adjacent_points_lie_in_one_tile(rt: HostRuntime) -> Result<(), Fail> {
     for row in PAIRS.iter() {
         let (y, x, other_y, other_x, answer) = row;
         let found = adjacent(&mut table, at(*y, *x), at(*other_y, *other_x));
-        assert_found(&rt, row, &found, &Ok(*answer));
+        check_found(row, &found, &Ok(*answer))?;
     }
     Ok(())
 }
@@ -121,7 +120,7 @@ fn adjacent_points_lie_in_one_tile(rt: HostRuntime) -> Result<(), Fail> {
 #[test]
 fn points_beside_a_void(rt: HostRuntime) -> Result<(), Fail> {
     let mut table = table(rt.alloc(), &[(N00E000, V)])?;
-    check_points(&rt, &mut table, &[(1, 1, 0, false), (0, 1, 4, true)]);
+    check_points(&mut table, &[(1, 1, 0, false), (0, 1, 4, true)])?;
     Ok(())
 }
 

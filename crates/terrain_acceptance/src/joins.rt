@@ -1,11 +1,10 @@
 //! The levels that two tiles of side 3 give each other along their rims, by rows worked by hand.
-use crate::asserting::assert_found;
 use arrayvec::ArrayVec;
 use border_graph::{RimPoint, Summary, join};
 use lattice::{Corner, Side, VOID};
 use std::alloc::Global;
-use std::process::Abort;
 use std::test::Fail;
+use test_tiles::check_found;
 use tile_flood::{Block, Flood, Labelled, spills};
 
 // The rim numbers of a tile of side 3, by index; the centre has none.
@@ -74,13 +73,12 @@ const ROWS: [Row; 2] = [
     },
 ];
 
-fn check(rt: &impl Abort, row: &Row, levels: &[Vec<i16>]) {
+fn check(row: &Row, levels: &[Vec<i16>]) -> Result<(), Fail> {
     let [west, east] = levels else {
-        assert_found(rt, &row.shows, &levels.len(), &2);
-        return;
+        return check_found(&row.shows, &levels.len(), &2);
     };
-    assert_found(rt, &row.shows, &west.as_slice(), &row.west_rim);
-    assert_found(rt, &row.shows, &east.as_slice(), &row.east_rim);
+    check_found(&row.shows, &west.as_slice(), &row.west_rim)?;
+    check_found(&row.shows, &east.as_slice(), &row.east_rim)
 }
 
 #[test]
@@ -89,7 +87,7 @@ fn tiles_raise_each_other_along_their_rims(rt: HostRuntime) -> Result<(), Fail> 
     for row in ROWS.iter() {
         let summaries = pair(alloc, row.west, row.east).ok_or("no memory")?;
         let levels = join(alloc, &summaries)?;
-        check(&rt, row, &levels);
+        check(row, &levels)?;
     }
     Ok(())
 }

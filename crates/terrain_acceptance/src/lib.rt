@@ -9,8 +9,6 @@
 #![tactic(auto)]
 
 #[cfg(test)]
-mod asserting;
-#[cfg(test)]
 mod examples;
 #[cfg(test)]
 mod floods;

@@ -1,5 +1,4 @@
 //! What the plain programs answer of heights, outlets and flats, by rows worked by hand. `acceptance` asks them what lines ask.
-use crate::asserting::assert_found;
 use crate::written::at;
 use edits::{Bytes, Command};
 use lattice::{Corner, Height, Refusal, Side};
@@ -8,7 +7,7 @@ use reference::{
 };
 use std::alloc::{AllocError, Global};
 use std::test::Fail;
-use test_tiles::{A, B, C, D, F, G, H, O, W};
+use test_tiles::{A, B, C, D, F, G, H, O, W, check_found};
 
 fn import(alloc: Global, lat: i16, lon: i16, bytes: &[u8]) -> Result<Command, Refusal> {
     let corner = Corner::new(lat, lon).ok_or(Refusal::BadName)?;
@@ -59,7 +58,7 @@ fn heights_of_points(rt: HostRuntime) -> Result<(), Fail> {
         let (tiles, y, x, height) = row;
         let mosaic = mosaic(rt.alloc(), 3, tiles)?;
         let found = reference::height(&mosaic, at(*y, *x));
-        assert_found(&rt, row, &found, height);
+        check_found(row, &found, height)?;
     }
     Ok(())
 }
@@ -78,7 +77,7 @@ fn outlets_lie_on_rims_and_around_voids(rt: HostRuntime) -> Result<(), Fail> {
     for row in OUTLETS.iter() {
         let (side, tiles, y, x, leaves) = row;
         let mosaic = mosaic(rt.alloc(), *side, tiles)?;
-        assert_found(&rt, row, &is_outlet(&mosaic, at(*y, *x)), leaves);
+        check_found(row, &is_outlet(&mosaic, at(*y, *x)), leaves)?;
     }
     Ok(())
 }

@@ -1,13 +1,12 @@
 //! How many changes commands come to.
-use crate::asserting::assert_found;
 use crate::written::at;
 use arrayvec::ArrayVec;
 use catalogue::Table;
-use edits::{Bytes, Command, carry_out, edit_of, plan};
+use edits::{Bytes, Command, apply_edit, edit_of, plan};
 use lattice::{Corner, Point, Side};
 use std::alloc::{AllocError, Global};
 use std::test::Fail;
-use test_tiles::{A, V};
+use test_tiles::{A, V, check_found};
 
 const WEST: Corner = Corner { lat: 0, lon: 0 };
 
@@ -51,9 +50,9 @@ fn changes_of_commands(rt: HostRuntime) -> Result<(), Fail> {
     ];
     for (shows, command, count) in rows.iter() {
         let changes = plan(alloc, &mut table, 4, command)?;
-        assert_found(&rt, shows, &changes.len(), count);
+        check_found(shows, &changes.len(), count)?;
         let edit = edit_of(&mut table, 4, command)?;
-        carry_out(alloc, &edit, &mut table)?;
+        apply_edit(alloc, &edit, &mut table)?;
     }
     Ok(())
 }

@@ -1,9 +1,10 @@
 //! Corners, sides, points, steps and refusals, by rows worked by hand.
-use crate::asserting::{assert_found, assert_row};
 use lattice::{
     Corner, DIRECTIONS, Dir, Point, Refusal, Side, Step, holders, index_in, point_at, sinks_in,
     steeper, steps,
 };
+use std::test::Fail;
+use test_tiles::{check_found, check_row};
 
 const ORIGIN: Corner = Corner { lat: 0, lon: 0 };
 
@@ -18,18 +19,19 @@ const CORNERS: [(i16, i16, bool); 6] = [
 ];
 
 #[test]
-fn corners_lie_on_the_globe(rt: HostRuntime) {
+fn corners_lie_on_the_globe(rt: HostRuntime) -> Result<(), Fail> {
     for row in CORNERS.iter() {
         let (lat, lon, lies) = row;
-        assert_found(&rt, row, &Corner::new(*lat, *lon).is_some(), lies);
+        check_found(row, &Corner::new(*lat, *lon).is_some(), lies)?;
     }
+    Ok(())
 }
 
 // The sizes of SRTM3 and SRTM1 files: samples along a side, and bytes.
 const SIZES: [(u32, u32); 2] = [(1201, 2_884_802), (3601, 25_934_402)];
 
 #[test]
-fn sides_measure_tiles(rt: HostRuntime) {
+fn sides_measure_tiles(rt: HostRuntime) -> Result<(), Fail> {
     assert!(rt; Side::new(2).is_none());
     assert!(rt; Side::new(3602).is_none());
     for row in SIZES.iter() {
@@ -39,8 +41,9 @@ fn sides_measure_tiles(rt: HostRuntime) {
             && side.edge() + 1 == *samples
             && side.area() * 2 == *bytes
             && side.file_bytes() == *bytes;
-        assert_row(&rt, row, is_right);
+        check_row(row, is_right)?;
     }
+    Ok(())
 }
 
 // y and x of a point, a place among the corners of the tiles of side 3 that hold it, and the corner there. No corner has
@@ -63,13 +66,14 @@ const HELD: [(i32, i32, usize, Option<Corner>); 14] = [
 ];
 
 #[test]
-fn points_are_held_by_these_corners(rt: HostRuntime) {
+fn points_are_held_by_these_corners(rt: HostRuntime) -> Result<(), Fail> {
     let side = Side::new(3).expect(&rt, "a side");
     for row in HELD.iter() {
         let (y, x, place, corner) = row;
         let held = holders(side, Point { y: *y, x: *x });
-        assert_found(&rt, row, &held.get(*place).copied(), corner);
+        check_found(row, &held.get(*place).copied(), corner)?;
     }
+    Ok(())
 }
 
 // y and x of a point, and its index in the tile of side 3 at the origin.
@@ -84,14 +88,15 @@ const INDICES: [(i32, i32, Option<u32>); 7] = [
 ];
 
 #[test]
-fn rows_run_from_the_north(rt: HostRuntime) {
+fn rows_run_from_the_north(rt: HostRuntime) -> Result<(), Fail> {
     let side = Side::new(3).expect(&rt, "a side");
     for row in INDICES.iter() {
         let (y, x, index) = row;
         let found = index_in(side, ORIGIN, Point { y: *y, x: *x });
-        assert_found(&rt, row, &found, index);
+        check_found(row, &found, index)?;
     }
     assert!(rt; point_at(side, ORIGIN, 2) == Point { y: 2, x: 2 });
+    Ok(())
 }
 
 #[test]
@@ -125,13 +130,14 @@ fn leads(step: Option<&Step>, y: i32, x: i32, code: u8) -> bool {
 }
 
 #[test]
-fn steps_go_clockwise_from_east(rt: HostRuntime) {
+fn steps_go_clockwise_from_east(rt: HostRuntime) -> Result<(), Fail> {
     let around = steps(Point { y: 0, x: 0 });
     assert!(rt; around.len() == 8);
     for (place, (y, x, code)) in STEPS.iter().enumerate() {
         let is_right = leads(around.get(place), *y, *x, *code);
-        assert_row(&rt, &(y, x, code), is_right);
+        check_row(&(y, x, code), is_right)?;
     }
+    Ok(())
 }
 
 fn has_code(direction: Option<&Dir>, code: u8) -> bool {
@@ -142,11 +148,12 @@ fn has_code(direction: Option<&Dir>, code: u8) -> bool {
 }
 
 #[test]
-fn directions_are_in_the_order_of_their_steps(rt: HostRuntime) {
+fn directions_are_in_the_order_of_their_steps(rt: HostRuntime) -> Result<(), Fail> {
     for (place, (_, _, code)) in STEPS.iter().enumerate() {
         let is_right = has_code(DIRECTIONS.get(place), *code);
-        assert_row(&rt, code, is_right);
+        check_row(code, is_right)?;
     }
+    Ok(())
 }
 
 // Nothing lies south or west of the least coordinates.
@@ -201,10 +208,11 @@ const REFUSALS: [(Refusal, u8, &str); 28] = [
 
 // The number and the word by which replies name each.
 #[test]
-fn refusals_have_these_numbers_and_words(rt: HostRuntime) {
+fn refusals_have_these_numbers_and_words(rt: HostRuntime) -> Result<(), Fail> {
     for row in REFUSALS.iter() {
         let (refusal, number, word) = row;
-        assert_found(&rt, row, &refusal.number(), number);
-        assert_found(&rt, row, &refusal.word(), word);
+        check_found(row, &refusal.number(), number)?;
+        check_found(row, &refusal.word(), word)?;
     }
+    Ok(())
 }

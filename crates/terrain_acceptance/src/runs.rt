@@ -1,12 +1,11 @@
 //! Watersheds over filled levels, by rows worked by hand.
-use crate::asserting::assert_row;
 use crate::flow::found;
 use crate::written::{are_runs, at};
 use flow_d8::Directions;
-use lattice::{Refusal, VOID};
+use lattice::VOID;
 use std::alloc::Global;
-use std::process::Abort;
 use std::test::Fail;
+use test_tiles::check_row;
 
 /// A point, and the runs of its watershed: y, the first x and the last.
 type Shed<'a> = (i32, i32, &'a [(i32, i32, i32)]);
@@ -50,15 +49,10 @@ const ROWS: [Row; 4] = [
     },
 ];
 
-fn check_sheds(
-    rt: &impl Abort,
-    alloc: Global,
-    directions: &Directions,
-    row: &Row,
-) -> Result<(), Refusal> {
+fn check_sheds(alloc: Global, directions: &Directions, row: &Row) -> Result<(), Fail> {
     for (y, x, runs) in row.sheds {
         let found = watershed::watershed(alloc, directions, at(*y, *x))?;
-        assert_row(rt, &(row.shows, found.as_slice()), are_runs(&found, runs));
+        check_row(&(row.shows, found.as_slice()), are_runs(&found, runs))?;
     }
     Ok(())
 }
@@ -68,7 +62,7 @@ fn watersheds_have_these_runs(rt: HostRuntime) -> Result<(), Fail> {
     let alloc = rt.alloc();
     for row in ROWS.iter() {
         let directions = found(alloc, 3, row.corners, row.levels, &[])?;
-        check_sheds(&rt, alloc, &directions, row)?;
+        check_sheds(alloc, &directions, row)?;
     }
     Ok(())
 }

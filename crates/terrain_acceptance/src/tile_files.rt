@@ -1,9 +1,8 @@
 //! Samples as bytes, sides, and the names of tiles and files.
-use crate::asserting::assert_found;
 use hgt::*;
 use lattice::{Corner, Refusal, Side, VOID};
 use std::test::Fail;
-use test_tiles::{A, A_SAMPLES};
+use test_tiles::{A, A_SAMPLES, check_found};
 
 #[test]
 fn reads_and_writes_samples(rt: HostRuntime) -> Result<(), Fail> {
@@ -24,12 +23,13 @@ const BAD_LENGTHS: [&[u8]; 4] = [
 ];
 
 #[test]
-fn refuses_other_lengths(rt: HostRuntime) {
+fn refuses_other_lengths(rt: HostRuntime) -> Result<(), Fail> {
     let side = Side::new(3).expect(&rt, "3 is a side");
     for bytes in BAD_LENGTHS.iter() {
         let refused = samples(rt.alloc(), bytes, side).err();
-        assert_found(&rt, bytes, &refused, &Some(Refusal::BadLength));
+        check_found(bytes, &refused, &Some(Refusal::BadLength))?;
     }
+    Ok(())
 }
 
 // The answers also where an allocation is refused, as `rt try --test --fail-alloc N` does.
@@ -47,11 +47,11 @@ fn answers_without_memory(rt: HostRuntime) {
 }
 
 #[test]
-fn knows_voids_and_signs(rt: HostRuntime) {
+fn knows_voids_and_signs(rt: HostRuntime) -> Result<(), Fail> {
     let bytes = [0x80, 0x00, 0xff, 0xff, 0x00, 0x09];
-    assert_found(&rt, &"void", &sample(&bytes, 0), &VOID);
-    assert_found(&rt, &"below the sea", &sample(&bytes, 1), &-1);
-    assert_found(&rt, &"above it", &sample(&bytes, 2), &9);
+    check_found(&"void", &sample(&bytes, 0), &VOID)?;
+    check_found(&"below the sea", &sample(&bytes, 1), &-1)?;
+    check_found(&"above it", &sample(&bytes, 2), &9)?;
     let mut written = [0; 6];
     put_sample(&mut written, 0, VOID);
     put_sample(&mut written, 1, -1);
@@ -63,6 +63,7 @@ fn knows_voids_and_signs(rt: HostRuntime) {
     let mut again = [0; 6];
     write_samples(&read, &mut again);
     assert!(rt; again == bytes);
+    Ok(())
 }
 
 const SIDES: [(u32, bool); 6] = [
@@ -75,10 +76,11 @@ const SIDES: [(u32, bool); 6] = [
 ];
 
 #[test]
-fn takes_sides(rt: HostRuntime) {
+fn takes_sides(rt: HostRuntime) -> Result<(), Fail> {
     for (side, is_side) in SIDES.iter() {
-        assert_found(&rt, side, &side_ok(*side), is_side);
+        check_found(side, &side_ok(*side), is_side)?;
     }
+    Ok(())
 }
 
 // A name, and the latitude and longitude of the corner that it names.
@@ -98,22 +100,24 @@ const BAD_NAMES: [&str; 11] = [
 ];
 
 #[test]
-fn reads_names(rt: HostRuntime) {
+fn reads_names(rt: HostRuntime) -> Result<(), Fail> {
     for (name, lat, lon) in NAMES.iter() {
         let corner = Corner {
             lat: *lat,
             lon: *lon,
         };
-        assert_found(&rt, name, &name_of(name.as_bytes()), &Ok(corner));
+        check_found(name, &name_of(name.as_bytes()), &Ok(corner))?;
     }
+    Ok(())
 }
 
 #[test]
-fn refuses_other_names(rt: HostRuntime) {
+fn refuses_other_names(rt: HostRuntime) -> Result<(), Fail> {
     for name in BAD_NAMES.iter() {
         let found = name_of(name.as_bytes());
-        assert_found(&rt, name, &found, &Err(Refusal::BadName));
+        check_found(name, &found, &Err(Refusal::BadName))?;
     }
+    Ok(())
 }
 
 const PATHS: [&str; 4] = [
@@ -135,19 +139,21 @@ const BAD_PATHS: [&str; 8] = [
 ];
 
 #[test]
-fn reads_file_names(rt: HostRuntime) {
+fn reads_file_names(rt: HostRuntime) -> Result<(), Fail> {
     let corner = Corner { lat: 37, lon: -105 };
     for path in PATHS.iter() {
-        assert_found(&rt, path, &file_name(path.as_bytes()), &Ok(corner));
+        check_found(path, &file_name(path.as_bytes()), &Ok(corner))?;
     }
+    Ok(())
 }
 
 #[test]
-fn refuses_other_file_names(rt: HostRuntime) {
+fn refuses_other_file_names(rt: HostRuntime) -> Result<(), Fail> {
     for path in BAD_PATHS.iter() {
         let found = file_name(path.as_bytes());
-        assert_found(&rt, path, &found, &Err(Refusal::BadName));
+        check_found(path, &found, &Err(Refusal::BadName))?;
     }
+    Ok(())
 }
 
 const PRINTED: [(i16, i16, &str); 5] = [
@@ -159,12 +165,13 @@ const PRINTED: [(i16, i16, &str); 5] = [
 ];
 
 #[test]
-fn prints_names(rt: HostRuntime) {
+fn prints_names(rt: HostRuntime) -> Result<(), Fail> {
     for (lat, lon, name) in PRINTED.iter() {
         let corner = Corner {
             lat: *lat,
             lon: *lon,
         };
-        assert_found(&rt, &corner, &name_text(corner).as_str(), name);
+        check_found(&corner, &name_text(corner).as_str(), name)?;
     }
+    Ok(())
 }

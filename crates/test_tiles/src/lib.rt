@@ -1,5 +1,5 @@
 //! The tiles that tests ask about: the bytes of their HGT files, two for each sample, the higher first, rows from the north;
-//! and texts in which `$` and a letter stand for a tile. No contract speaks of them.
+//! and texts in which `$` and a letter stand for a tile. No contract speaks of them. And comparisons that name their row.
 //!
 //! ```
 //! let item = expand(alloc, "import N00E000 $A")?;        // "import N00E000 18", an LF, and 9 9 9 / 9 1 9 / 9 9 5
@@ -7,6 +7,9 @@
 //! ```
 #![tactic(auto)]
 
+mod comparing;
+
+pub use comparing::{check_all, check_found, check_row};
 use std::alloc::{AllocError, Global};
 
 /// A pit that drains to the south-eastern corner: 9 9 9 / 9 1 9 / 9 9 5.

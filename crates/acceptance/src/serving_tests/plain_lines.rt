@@ -6,6 +6,7 @@ use hgt::name_of;
 use lattice::{Corner, Point, Refusal, Side};
 use lines::{Language, Request, format_reply, request_of};
 use reference::Plain;
+use serving::{CheckedWriter, Output};
 use std::alloc::{AllocError, Global};
 use std::test::Fail;
 use test_tiles::split_payload;
@@ -33,9 +34,11 @@ impl PlainLines {
     /// Writes the reply to a line, which its payload follows behind an LF.
     pub(crate) fn write_reply(&mut self, item: &[u8], output: &mut Vec<u8>) -> Result<(), Fail> {
         let reply = self.reply(item)?;
-        format_reply(self.alloc, reply)
-            .write(output)
-            .map_err(|_| "no memory")?;
+        let mut writer = CheckedWriter::new(output);
+        writer.put_reply(&format_reply(self.alloc, reply));
+        if writer.has_failed() {
+            return Err("no memory".into());
+        }
         Ok(())
     }
 
@@ -73,7 +76,9 @@ impl PlainLines {
             | Event::Watershed(point) => Ok(told(event, self.answers(*point)?)),
             Event::Export(corner) => self.export(*corner),
             // No line of the plain language asks for these.
-            Event::Levels(_) | Event::Directions(_) => Ok(Reply::Refused(Refusal::BadLine)),
+            Event::Levels(_) | Event::Directions(_) | Event::Upstream(_) | Event::Info => {
+                Ok(Reply::Refused(Refusal::BadLine))
+            }
             Event::Tiles => self.tiles(),
             Event::Sinks => Ok(Reply::Sinks(Vec::from_slice(self.alloc, self.mosaic.sinks())?)),
             Event::Step => Ok(Reply::Stepped(None)),

@@ -1,12 +1,11 @@
 //! Sessions by readers and writers of many kinds.
 use super::script::{ENGINES, Row, check_replies, check_rows, table};
-use crate::asserting::{assert_found, assert_row};
 use crate::counting::Counting;
 use serving::{CheckedWriter, ServeFault, serve};
 use std::alloc::Global;
 use std::io::{self, Read};
 use std::test::Fail;
-use test_tiles::{Said, input_of, output_of};
+use test_tiles::{Said, check_found, check_row, input_of, output_of};
 
 /// Gives the bytes in two reads, the first of `cut` bytes.
 #[derive(Drop)]
@@ -137,7 +136,7 @@ fn a_reader_that_fails(rt: HostRuntime) -> Result<(), Fail> {
     input.truncate(50);
     let mut reader = Broken { bytes: &input };
     let (served, output) = served(rt.alloc(), &mut reader)?;
-    assert_found(&rt, &"what was served", &served, &Err(ServeFault::Input));
+    check_found(&"what was served", &served, &Err(ServeFault::Input))?;
     let said = [SESSION[0], SESSION[1]];
     check_replies(&rt, rt.alloc(), &"what was read", &output, &said)
 }
@@ -157,7 +156,7 @@ fn a_writer_that_fails_at_each_byte(rt: HostRuntime) -> Result<(), Fail> {
     let replies = output_of(rt.alloc(), &SESSION)?;
     for room in 0..replies.len() {
         let fails = fails_after(rt.alloc(), &input, &replies, room)?;
-        assert_row(&rt, &("room for", room), fails);
+        check_row(&("room for", room), fails)?;
     }
     Ok(())
 }
@@ -179,6 +178,5 @@ fn a_write_for_each_reply(rt: HostRuntime) -> Result<(), Fail> {
     let mut writer = CheckedWriter::new(Counting::new());
     serve(alloc, &mut reader, &mut writer, &mut table(alloc, 3, 4)?)?;
     // The bytes of the tile leave by one of their own.
-    assert_found(&rt, &"writes", &writer.into_inner().writes, &7);
-    Ok(())
+    check_found(&"writes", &writer.into_inner().writes, &7)
 }
