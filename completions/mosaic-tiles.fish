@@ -7,8 +7,8 @@ function __mosaic_tiles_writes
 end
 
 complete -c mosaic-tiles -f -w mosaic
-complete -c mosaic-tiles -n 'test (count (commandline -opc)) -eq 1' -a write -d 'write the levels or directions of tiles as files'
+complete -c mosaic-tiles -n 'test (count (commandline -opc)) -eq 1' -a write -d 'write the levels, directions or upstream counts of tiles as files'
 complete -c mosaic-tiles -n '__mosaic_tiles_writes 2; and not __mosaic_tiles_writes 3' -F
-complete -c mosaic-tiles -n '__mosaic_tiles_writes 3; and not __mosaic_tiles_writes 4' -a 'levels directions'
+complete -c mosaic-tiles -n '__mosaic_tiles_writes 3; and not __mosaic_tiles_writes 4' -a 'levels directions upstream'
 complete -c mosaic-tiles -n '__mosaic_tiles_writes 4; and not __mosaic_tiles_writes 5' -a all -d 'each tile'
 complete -c mosaic-tiles -n '__mosaic_tiles_writes 5' -a '(__fish_complete_directories)'

@@ -22,7 +22,7 @@ _mosaic() {
     case "${wanted:-}" in
         file) mapfile -t COMPREPLY < <(compgen -f -- "$word") ;;
         tile) mapfile -t COMPREPLY < <(compgen -d -- "$word"; compgen -f -X '!*.[hH][gG][tT]' -- "$word") ;;
-        layer) mapfile -t COMPREPLY < <(compgen -W 'levels directions' -- "$word") ;;
+        layer) mapfile -t COMPREPLY < <(compgen -W 'levels directions upstream' -- "$word") ;;
         all) mapfile -t COMPREPLY < <(compgen -W 'all' -- "$word") ;;
         folder) mapfile -t COMPREPLY < <(compgen -d -- "$word") ;;
         side) mapfile -t COMPREPLY < <(compgen -W '1201 3601' -- "$word") ;;

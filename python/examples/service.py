@@ -8,7 +8,7 @@ usage: service.py STORE [--port PORT] [--program PROGRAM]
     GET  /tiles                   also /sinks, /count                                         {"answer": ..}
     GET  /export?tile=N00E000                                                                 the tile's HGT bytes
     GET  /health                  503 where the program can't be begun                        {"answer": count}
-    GET  /info                    what it is and holds, and whether each tile is fresh        {"answer": {..}}
+    GET  /info                    what it is and holds, how many tiles are fresh and stale    {"answer": {..}}
     POST /wall                    {"height": 1193, "points": [[183, 411]]}                    {"answer": k}
     POST /burn                    {"depth": 15, "points": [[183, 411]]}                       {"answer": k}
     POST /patch                   {"y0": 3, "x0": 4, "y1": 9, "x1": 9, "height": 250}         {"answer": k}
@@ -16,8 +16,10 @@ usage: service.py STORE [--port PORT] [--program PROGRAM]
     POST /import?tile=N00E000     HGT bytes, as application/octet-stream                      {"answer": k}
     POST /remove                  {"tile": "N00E000"}                                         {"answer": k}
     POST /step                    {}                                                          {"answer": name or null}
+    POST /backup                  {}                                                          {"answer": the copy's name}
 
-/info is told of a copy of the store, which is made beside it and taken away.
+/backup copies the store, whole, to a file beside it: STORE.k, after the count k that it has. Where mosaic-tiles isn't beside the
+program /info leaves version and capacity out, and reads such a copy, which it takes away.
 Questions that wait at the same moment are asked together. A command that was answered is on the drive: where the program
 is killed, the service begins it anew and asks again only what doesn't stand; where the service is killed, start it again.
 A refusal is status 404 where the point has no answer, 503 where the store failed, else 409, with its number and word; what
@@ -37,7 +39,7 @@ import urllib.parse
 
 sys.path.insert(0, str(pathlib.Path(__file__).resolve().parents[1]))  # this package, also where it isn't installed
 
-from mosaic_store import Command, MosaicError, Refusal, open_store, questions, shape_of
+from mosaic_store import Command, MosaicError, Refusal, StoreExists, errors, open_store, point_of, questions
 
 QUESTIONS = {
     "/elevation": questions.Elevation,
@@ -71,7 +73,8 @@ class Service:
     """Takes requests, and has one task ask the store."""
 
     def __init__(self, session, store):
-        self.session, self.store = session, store
+        self.session, self.store = session, pathlib.Path(store)
+        self.side = session.side  # degrees are made points of without a question
         self.waiting = asyncio.Queue()
 
     async def answers(self):
@@ -86,24 +89,24 @@ class Service:
                     future.set_result(answer)
 
     def ask_all(self, asked):
-        """The answers in order, errors in place; questions between two commands are asked together."""
+        """The answers in order, errors in place; questions between two commands are asked together. What can be called is called."""
         answers = []
         together = []
         for question in [*asked, None]:
-            if question is not None and not isinstance(question, Command):
+            if question is not None and not isinstance(question, Command) and not callable(question):
                 together.append(question)
                 continue
             answers += self.safely(lambda: self.session.ask_many(together), len(together)) if together else []
             together = []
             if question is not None:
-                answers += self.safely(lambda: [self.session.ask(question)], 1)
+                answers += self.safely(lambda: [question() if callable(question) else self.session.ask(question)], 1)
         return answers
 
     @staticmethod
     def safely(ask, count):
         try:
             return ask()
-        except MosaicError as error:
+        except (MosaicError, OSError) as error:
             return [error] * count
 
     async def serve(self, reader, writer):
@@ -128,10 +131,10 @@ class Service:
         # A page of another site may have its own name lead here: what asks by that name isn't answered, nor such a page.
         if headers.get("host", "").rsplit(":", 1)[0] not in OWN_NAMES:
             return 403, {"error": "this service answers to 127.0.0.1 and localhost alone"}
-        if headers.get("origin", f"http://{headers['host']}") != f"http://{headers['host']}":
+        own = f"http://{headers['host']}"
+        # A picture of such a page is asked for without an origin: browsers tell where that page is from.
+        if headers.get("origin", own) != own or headers.get("sec-fetch-site", "none") not in ("none", "same-origin"):
             return 403, {"error": "this request comes from a page of another site"}
-        if (method, target) == ("GET", "/info"):
-            return await asyncio.to_thread(self.info)
         try:
             question = self.question(method, target, headers, body)
         except (BadRequest, ValueError, RecursionError) as error:
@@ -141,16 +144,30 @@ class Service:
         return told(await future)
 
     def info(self):
+        """What the store is and holds."""
         try:
+            numbers = dataclasses.asdict(self.session.info())
+        except errors.BadLine:  # of `mosaic` alone
             report = self.session.report()
-        except (MosaicError, OSError) as error:
-            return told(error)
-        return 200, {"answer": dataclasses.asdict(shape_of(self.store)) | dataclasses.asdict(report)}
+            fresh = sum(report.tiles.values())
+            numbers = {"side": self.side, "count": report.count, "commits": report.commits, "fresh": fresh, "stale": len(report.tiles) - fresh}
+        return numbers | {"tiles": self.session.tiles()}
+
+    def backup(self):
+        """Copies the store; the name of the copy. Commands wait meanwhile."""
+        copy = self.store.with_name(f"{self.store.name}.{self.session.count()}")
+        self.session.backup(copy)
+        return copy.name
 
     def question(self, method, target, headers, body):
         """What a request asks. BadRequest, or a ValueError that tells why, where it asks nothing."""
         url = urllib.parse.urlsplit(target)
         given = {name: values[-1] for name, values in urllib.parse.parse_qs(url.query).items()}
+        if (method, url.path) == ("GET", "/info"):
+            return self.info
+        if (method, url.path) == ("POST", "/backup"):
+            given_in(headers, body, ())
+            return self.backup
         if method == "GET" and url.path in OF_THE_STORE:
             return OF_THE_STORE[url.path]()
         if method == "GET" and url.path in QUESTIONS:
@@ -168,17 +185,23 @@ class Service:
         if "y" in given and "x" in given:
             return int(given["y"]), int(given["x"])
         if "latitude" in given and "longitude" in given:
-            return self.session.point_of(float(given["latitude"]), float(given["longitude"]))
+            return point_of(float(given["latitude"]), float(given["longitude"]), self.side)
         raise BadRequest("a point is needed: y and x, or latitude and longitude")
 
 
 def command(path, headers, body):
-    sent_as(headers, "application/json")
     kind, names = COMMANDS[path]
+    given = given_in(headers, body, names)
+    return checked(kind(*(given[name] for name in names)))
+
+
+def given_in(headers, body, names):
+    """The object that a body is, with these names and no others."""
+    sent_as(headers, "application/json")
     given = json.loads(body)
     if not isinstance(given, dict) or set(given) != set(names) or not isinstance(given.get("points", []), list):
         raise BadRequest(f"this command is an object with {' and '.join(names) or 'nothing in it'}")
-    return checked(kind(*(given[name] for name in names)))
+    return given
 
 
 def sent_as(headers, kind):
@@ -237,6 +260,8 @@ def told(answer):
     if isinstance(answer, Refusal):
         status = REFUSED.get(answer.number, 409)
         return status, {"error": str(answer), "number": answer.number, "word": answer.word, "cure": answer.cure}
+    if isinstance(answer, StoreExists):
+        return 409, {"error": str(answer)}
     if isinstance(answer, Exception):
         return 503, {"error": str(answer)}
     if isinstance(answer, bytes):

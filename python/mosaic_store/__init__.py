@@ -41,9 +41,9 @@ from .lattice import (
     point_of,
     side_of,
 )
-from .questions import Command, Question, Watershed
+from .questions import Command, Numbers, Question, Watershed
 from .session import Recovery, Session, memory_table, open_store
-from .stores import Report, Shape, check_store, find_program, find_server, format_store, shape_of, upgrade_store
+from .stores import Report, check_store, find_program, find_server, format_store, upgrade_store
 from .trials import Trial
 from .version import VERSION as __version__
 
@@ -56,6 +56,7 @@ __all__ = [
     "Corner",
     "Direction",
     "MosaicError",
+    "Numbers",
     "Place",
     "Point",
     "ProgramNotFound",
@@ -66,7 +67,6 @@ __all__ = [
     "Run",
     "Session",
     "SessionDied",
-    "Shape",
     "StoreBusy",
     "StoreChanged",
     "StoreExists",
@@ -87,7 +87,6 @@ __all__ = [
     "open_store",
     "point_of",
     "questions",
-    "shape_of",
     "side_of",
     "upgrade_store",
 ]

@@ -19,7 +19,7 @@ from typing import Any, ParamSpec, TypeVar
 from . import session as sessions
 from .errors import BadArgument, Refusal
 from .lattice import Direction, Place, Point
-from .questions import Command, Question, Watershed
+from .questions import Command, Numbers, Question, Watershed
 from .stores import PathLike, Report
 from .trials import Trial
 
@@ -41,7 +41,7 @@ class Session:
         self._session: sessions.Session | None = None
 
     async def __aenter__(self) -> Session:
-        begun = self._worker.submit(self._begin)
+        begun = self._worker.submit(self._begun)
         try:
             session = await asyncio.wrap_future(begun)
         except BaseException:
@@ -50,6 +50,15 @@ class Session:
             raise
         self._session = session
         return self
+
+    def _begun(self) -> sessions.Session:
+        session = self._begin()
+        try:
+            session.side  # from now on it is known without a question
+        except BaseException:
+            session.close()
+            raise
+        return session
 
     async def __aexit__(self, *_: object) -> None:
         await self.close()
@@ -135,11 +144,17 @@ class Session:
     async def directions(self, name: str) -> Any:
         return await self._call(self.blocking.directions, name)
 
+    async def upstream(self, name: str) -> Any:
+        return await self._call(self.blocking.upstream, name)
+
     async def tiles(self) -> list[str]:
         return await self._call(self.blocking.tiles)
 
     async def sinks(self) -> list[Point]:
         return await self._call(self.blocking.sinks)
+
+    async def info(self) -> Numbers:
+        return await self._call(self.blocking.info)
 
     async def step(self) -> str | None:
         return await self._call(self.blocking.step)

@@ -6,10 +6,11 @@ through them.
 
 from __future__ import annotations
 
+import math
 from collections.abc import Sequence
 from typing import Any
 
-from .lattice import Corner, Point, Run, degrees_of
+from .lattice import METRES_A_DEGREE, Corner, Point, Run, degrees_of
 from .polygons import Ring, polygons_of
 from .questions import Watershed
 
@@ -19,14 +20,14 @@ _DECIMALS = 9  # a tenth of a millimetre
 
 
 def watershed_feature(watershed: Watershed, outlet: Point, side: int) -> Feature:
-    """A watershed as a MultiPolygon. Its property `cells` is its number of points, which is its area in cells."""
+    """A watershed as a MultiPolygon. Its property `cells` is its number of points, which is its area in cells of one size."""
     return points_feature(watershed.runs, side, {"what": "watershed", "cells": watershed.cells, **_place(outlet, side)})
 
 
 def points_feature(runs: Sequence[Run], side: int, properties: dict[str, Any]) -> Feature:
-    """Points, given as maximal runs, as a MultiPolygon around their cells."""
+    """Points, given as maximal runs, as a MultiPolygon around their cells. Its property `km2` is their area by latitude."""
     coordinates = [[_degrees_of_ring(ring, side) for ring in polygon.rings] for polygon in polygons_of(runs)]
-    return _feature("MultiPolygon", coordinates, properties)
+    return _feature("MultiPolygon", coordinates, {**properties, "km2": round(_square_kilometres(runs, side), 4)})
 
 
 def trace_feature(path: Sequence[Point], side: int) -> Feature:
@@ -54,6 +55,11 @@ def collection(features: Sequence[Feature]) -> Feature:
 
 def _feature(kind: str, coordinates: Any, properties: dict[str, Any]) -> Feature:
     return {"type": "Feature", "properties": properties, "geometry": {"type": kind, "coordinates": coordinates}}
+
+
+def _square_kilometres(runs: Sequence[Run], side: int) -> float:
+    length = METRES_A_DEGREE / (side - 1) / 1000
+    return sum((last - first + 1) * math.cos(math.radians(y / (side - 1))) for y, first, last in runs) * length * length
 
 
 def _place(point: Point, side: int) -> dict[str, Any]:

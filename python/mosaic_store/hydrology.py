@@ -42,7 +42,7 @@ class Reservoir:
     """What a dam holds back."""
 
     stages: list[Stage]
-    """From the lowest point before the dam, a metre at a time, to the level at which it spills."""
+    """From its lowest point, where it begins to fill, a metre at a time, to the level at which it spills."""
     spills_at: int
     """The filled level before the dam, in metres: as high as water can stand there."""
     depths: Array
@@ -71,6 +71,8 @@ def reservoir(session: Session, network: Network, dam: Sequence[Point], crest: i
         raise BadArgument("the reservoir reaches the window's edge: take a larger window")
     numpy = needed_numpy()
     depths = numpy.where(inside, spills_at - heights.samples.astype(numpy.int32), 0)
+    # It fills from its lowest point, which needn't be the one before the dam.
+    reached = _reached(heights.samples, int(depths.argmax()), spills_at - 1)
     return Reservoir(_stages(network, heights.samples, reached, spills_at), spills_at, depths)
 
 
@@ -147,7 +149,8 @@ class PathFigures:
 def longest_path(network: Network, outlet: Point) -> PathFigures:
     """The longest flow path in the window that ends at an outlet, with its slope and its time of concentration."""
     points = network.longest_path(outlet)
-    length = float(network.longest_lengths.ravel()[network.cell(outlet)])
+    lengths = network.path_lengths.ravel()
+    length = float(lengths[network.cell(points[0])] - lengths[network.cell(outlet)])
     samples = network.heights.samples.ravel()
     fall = int(samples[network.cell(points[0])]) - int(samples[network.cell(outlet)])
     minutes = 0.0195 * length**0.77 * (fall / length) ** -0.385 if length and fall > 0 else float("inf") if length else 0.0
@@ -214,25 +217,39 @@ def tile_without_voids(data: bytes, most: int) -> tuple[bytes, int]:
 
 
 def filled_voids(
-    session: Session, window: Window, most: int = 10_000, told: Callable[[int, int], None] = lambda done, total: None
+    session: Session, window: Window, most: int = 10_000, saved: Callable[[str, bytes], None] = lambda name, data: None
 ) -> list[Run]:
-    """Gives the voids of a window heights as `without_voids` does; those that got one. `told` is how many runs of how many.
+    """Gives the voids of a window heights as `without_voids` does; those that got one.
 
-    Each void has its height by one command, so that where this is ended midway there are voids left, and no wrong heights.
-    Thousands are filled faster while their tiles are imported, by `tile_without_voids`.
+    Each tile that has some is taken out, and imported again with its new heights: two commands, however many voids there are.
+    Inside a trial what fails in between is taken back. Before a tile is taken out `saved` is told its name and its new HGT
+    bytes, to be imported where this process ends in between.
     """
     numpy = needed_numpy()
     heights = heights_of(session, window)
     void = heights.held & (heights.samples == VOID)
     given = without_voids(heights.samples, void, most)
-    filled = runs_of(void & (given != VOID), window)
-    for number, (y, first, last) in enumerate(filled):
-        told(number, len(filled))
-        row = given[window.y1 - y, first - window.x0 : last - window.x0 + 1]
-        ends = numpy.flatnonzero(numpy.diff(row, append=VOID)) + 1
-        for start, end in zip([0, *ends[:-1].tolist()], ends.tolist()):
-            session.patch(y, first + start, y, first + end - 1, int(row[start]))
-    return filled
+    is_filled = void & (given != VOID)
+    for corner in heights.corners:
+        own = corner.window(session.side)
+        north, west = min(own.y1, window.y1), max(own.x0, window.x0)
+        rows, columns = north - max(own.y0, window.y0) + 1, min(own.x1, window.x1) - west + 1
+        part = _box(window, north, west, rows, columns)
+        if rows > 0 and columns > 0 and is_filled[part].any():
+            samples = session.tile(corner.name)
+            laid = samples[_box(own, north, west, rows, columns)]
+            numpy.copyto(laid, given[part], where=is_filled[part])
+            data = bytes_of(samples)
+            saved(corner.name, data)
+            session.remove(corner.name)
+            session.import_tile(corner.name, data)
+    return runs_of(is_filled, window)
+
+
+def _box(window: Window, north: int, west: int, rows: int, columns: int) -> tuple[slice, slice]:
+    """Where a box lies in an array of a window that has it."""
+    first, left = window.y1 - north, west - window.x0
+    return slice(first, first + rows), slice(left, left + columns)
 
 
 def _hanging_on_edge(mask: Array) -> Array:

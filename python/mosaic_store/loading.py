@@ -12,7 +12,21 @@ from .archives import Source, Trouble, Unreadable, files_below, sources_of
 from .errors import Device, Failed, Full, MosaicError, Refusal
 from .lattice import GREATEST_SIDE, MOST_TILES, VOID_SAMPLE, Corner, side_of
 from .session import Session
-from .stores import Shape
+
+
+@dataclass(frozen=True)
+class Shape:
+    """What a store is made for."""
+
+    side: int
+    """The side of each tile, in samples."""
+    capacity: int
+    """The greatest number of tiles."""
+
+
+def room_for(tiles: int) -> int:
+    """The capacity of a store for some tiles and as many more: its file takes as much of the drive as its tiles do."""
+    return min(MOST_TILES, max(4, 2 * tiles))
 
 
 class Kind(enum.Enum):
@@ -77,8 +91,7 @@ class Found:
             raise MosaicError(f"{len(self.corners)} tiles, and a store takes at most {MOST_TILES}: cut them by mosaic-split")
         if side is None:
             side = max(sides, key=lambda at: (sides[at], at))
-        # The file of a store takes as much of the drive as its tiles do, so there is room for more of them.
-        return Shape(side, min(MOST_TILES, max(4, 2 * len(self.corners))) if capacity is None else capacity)
+        return Shape(side, room_for(len(self.corners)) if capacity is None else capacity)
 
     def _named(self) -> Iterator[Source]:
         return (source for source in self.sources if source.corner is not None)
@@ -205,7 +218,8 @@ def _misfit(length: int, side: int) -> tuple[str, str]:
     longer = "or more " if length > 2 * side**2 else ""
     wanted = f"the store's tiles have {side} x {side} samples, {2 * side**2} bytes"
     if other is None:
-        return f"{length} {longer}bytes are no tile; {wanted}", "fetch it again: it may be cut short"
+        cause = "of another kind" if longer else "cut short"
+        return f"{length} {longer}bytes are no tile; {wanted}", f"fetch it again: it may be {cause}"
     return f"a tile of {other} x {other} samples; {wanted}", f"load it to a store of side {other}, or resample it"
 
 

@@ -7,14 +7,15 @@ are in square kilometres of the sphere. They need numpy.
 from __future__ import annotations
 
 import functools
+import itertools
 from collections.abc import Iterator, Mapping, Sequence
 from dataclasses import dataclass
 from typing import TYPE_CHECKING, Any
 
 from .directions import levels_and_directions
-from .errors import BadArgument
+from .errors import BadArgument, BadReply
 from .geojson import Feature, line_feature
-from .lattice import METRES_A_DEGREE, Direction, Point, Window
+from .lattice import METRES_A_DEGREE, Direction, Point, Window, corners_of
 from .questions import FlowDirection, WatershedOf
 from .rasters import NO_DIRECTION, STEPS, Heights, Told, heights_of
 from .samples import needed_numpy
@@ -40,10 +41,10 @@ class Network:
     """Direction codes, uint8; 255 where there is no ground."""
     receivers: Array
     """Of each cell the one that it drains to, int64 of shape (cells,); -1 where water leaves the window."""
-    ranks: tuple[Array, ...]
-    """All ground cells, such that each comes in an earlier part than the one that it drains to, by which a part is ordered."""
     entering: Mapping[int, int]
     """How many points from outside the window drain into a cell at once, by cell; only cells with any."""
+    told_counts: Array | None = None
+    """`counts`, where the program has told them."""
 
     @property
     def window(self) -> Window:
@@ -84,6 +85,8 @@ class Network:
         It is the number of cells of the point's watershed, also where that reaches beyond the window.
         """
         numpy = needed_numpy()
+        if self.told_counts is not None:
+            return self.told_counts
         counts = self.heights.ground.astype(numpy.int64).ravel()
         for cell, count in self.entering.items():
             counts[cell] += count
@@ -108,13 +111,10 @@ class Network:
         So catchments are nested, and no point is in two.
         """
         numpy = needed_numpy()
-        labels = numpy.full(self.receivers.size + 1, NOWHERE, numpy.int32)
-        own = numpy.full(self.receivers.size, NOWHERE, numpy.int32)
+        own = numpy.full(self.receivers.size + 1, NOWHERE, numpy.int32)
         for number, outlet in reversed(list(enumerate(outlets))):
             own[self.cell(outlet)] = number
-        for part in reversed(self.ranks):
-            labels[part] = numpy.where(own[part] != NOWHERE, own[part], labels[self.receivers[part]])
-        return labels[:-1].reshape(self.shape)
+        return own[self._first_of(own[:-1] != NOWHERE)].reshape(self.shape)
 
     def snapped(self, point: Point, reach: int, threshold: int) -> Point:
         """Of the points within `reach` steps of a point that `threshold` points and more drain through, the nearest.
@@ -130,64 +130,134 @@ class Network:
         return point if found is None else self.point(found[2])
 
     @functools.cached_property
-    def longest_lengths(self) -> Array:
-        """Of each point the length of the longest flow path in the window that ends there, in metres: float64."""
+    def path_lengths(self) -> Array:
+        """Of each point how long its flow path in the window is, in metres: float64."""
         numpy = needed_numpy()
-        steps = self.step_lengths().ravel()
-        lengths = numpy.zeros(self.receivers.size)
-        for onward, starts, to in self._onward():
-            lengths[to] = numpy.maximum(lengths[to], numpy.maximum.reduceat(lengths[onward] + steps[onward], starts))
+        ahead = numpy.append(self.receivers, NOWHERE)
+        lengths = numpy.where(self.receivers != NOWHERE, self.step_lengths().ravel(), 0.0)
+        cells = numpy.flatnonzero(self.receivers != NOWHERE)
+        for _ in _turns(self.receivers.size):
+            if not cells.size:
+                break
+            to = ahead[cells]
+            lengths[cells] += lengths[to]
+            further = ahead[to]
+            ahead[cells] = further
+            cells = cells[further != NOWHERE]
         return lengths.reshape(self.shape)
 
     def longest_path(self, outlet: Point) -> list[Point]:
         """The longest flow path in the window that ends at a point, from its head."""
         numpy = needed_numpy()
-        lengths, steps = self.longest_lengths.ravel(), self.step_lengths().ravel()
-        donors = numpy.argsort(self.receivers, kind="stable")
-        first = numpy.searchsorted(self.receivers[donors], numpy.arange(self.receivers.size + 1))
-        cell = self.cell(outlet)
+        cell = int(numpy.where(self.catchments([outlet]) == 0, self.path_lengths, -1.0).argmax())
         path = [cell]
-        while (above := donors[first[cell] : first[cell + 1]]).size:
-            cell = int(above[numpy.argmax(lengths[above] + steps[above])])
+        while cell != self.cell(outlet):
+            cell = int(self.receivers[cell])
             path.append(cell)
-        return [self.point(cell) for cell in reversed(path)]
+        return [self.point(cell) for cell in path]
 
     def nearest_stream(self, threshold: int) -> Array:
         """Of each ground point the cell of the first point on its flow path that `threshold` points drain through: int64.
 
         -1 where its path leaves the window before one.
         """
+        return self._first_of((self.counts >= threshold).ravel()).reshape(self.shape)
+
+    def _first_of(self, stops: Array) -> Array:
+        """Of each cell the first on its flow path, itself among them, that is a stop: int64; -1 where there is none.
+
+        Each cell looks twice as far ahead at each turn.
+        """
         numpy = needed_numpy()
-        is_stream = (self.counts >= threshold).ravel()
-        nearest = numpy.full(self.receivers.size + 1, NOWHERE, numpy.int64)
-        for part in reversed(self.ranks):
-            nearest[part] = numpy.where(is_stream[part], part, nearest[self.receivers[part]])
-        return nearest[:-1].reshape(self.shape)
+        ahead = numpy.append(numpy.where(stops, numpy.arange(stops.size), self.receivers), NOWHERE)
+        cells = numpy.flatnonzero(~stops & (self.receivers != NOWHERE))
+        for _ in _turns(stops.size):
+            if not cells.size:
+                break
+            further = ahead[ahead[cells]]
+            onward = further != ahead[cells]
+            cells = cells[onward]
+            ahead[cells] = further[onward]
+        return ahead[:-1]
 
     def _summed(self, values: Array) -> Array:
-        """The sums of values over all that drains through each cell."""
-        numpy = needed_numpy()
-        sums = values.copy()
-        for onward, starts, to in self._onward():
-            sums[to] += numpy.add.reduceat(sums[onward], starts)
-        return sums
+        """The sums of values over all that drains through each cell.
 
-    def _onward(self) -> Iterator[tuple[Array, Array, Array]]:
-        """Part by part: the cells that drain to another; at which of them each of these others begins; and these."""
-        for part in self.ranks:
-            onward = part[self.receivers[part] != NOWHERE]
-            if onward.size:
-                to = self.receivers[onward]
-                starts = _starts(to)
-                yield onward, starts, to[starts]
+        Cells without donors that aren't summed yet give to their receivers, as long as there are many at once. Then each of
+        the others, which are long streams, gives to the cell that lies twice as far ahead at each turn.
+        """
+        numpy = needed_numpy()
+        sums = numpy.append(values, 0)  # the last stands for NOWHERE, and so does that of the donors, which is never without
+        donors = numpy.bincount(self.receivers[self.receivers != NOWHERE], minlength=sums.size)
+        donors[NOWHERE] = sums.size
+        front = numpy.flatnonzero(donors == 0)
+        while front.size * _FEW >= sums.size:
+            to = self.receivers[front]
+            order = to.argsort(kind="stable")
+            to = to[order]
+            starts = _starts(to)
+            reached = to[starts]
+            sums[reached] += numpy.add.reduceat(sums[front[order]], starts)
+            waiting = donors[reached] - numpy.diff(starts, append=to.size)
+            donors[reached] = waiting
+            front = reached[waiting == 0]
+        donors[front] = 1
+        left = numpy.flatnonzero(donors[:-1])
+        number = numpy.full(sums.size, NOWHERE)
+        number[left] = numpy.arange(left.size)
+        sums[left] = _summed_by_turns(number[self.receivers[left]], sums[left])
+        return sums[:-1]
+
+
+_FEW = 500
+"""Of so many cells one is too few for an operation on an array of its own."""
+
+
+def _starts(ordered: Array) -> Array:
+    """Where each value of an ordered array begins."""
+    numpy = needed_numpy()
+    begins = numpy.ones(ordered.size, bool)
+    numpy.not_equal(ordered[1:], ordered[:-1], out=begins[1:])
+    return begins.nonzero()[0]
+
+
+def _summed_by_turns(receivers: Array, values: Array) -> Array:
+    """The sums of values over all that drains through each cell, as float64, which has whole numbers to 2^53."""
+    numpy = needed_numpy()
+    sums = values.astype(numpy.float64)
+    ahead = numpy.append(receivers, NOWHERE)
+    cells = numpy.flatnonzero(receivers != NOWHERE)
+    for _ in _turns(sums.size):
+        if not cells.size:
+            break
+        to = ahead[cells]
+        sums += numpy.bincount(to, sums[cells], sums.size)
+        further = ahead[to]
+        ahead[cells] = further
+        cells = cells[further != NOWHERE]
+    return sums
+
+
+def _turns(cells: int) -> Iterator[None]:
+    """As many turns as a way through all cells takes, where each goes twice as far as the one before."""
+    yield from itertools.repeat(None, cells.bit_length() + 1)
+    raise BadReply("the directions of the window go round")
 
 
 def network_of(session: Session, window: Window, told: Told | None = None) -> Network:
-    """The network of a window of a store. What drains into the window from outside is asked for where it enters."""
+    """The network of a window of a store. What drains into the window from outside is asked for where it enters.
+
+    The counts of a window that is a tile's own are the program's, where it tells those of whole tiles.
+    """
+    numpy = needed_numpy()
     heights = heights_of(session, window)
     levels, codes = levels_and_directions(session, heights, told)
     receivers = _receivers(codes)
-    return Network(heights, levels, codes, receivers, tuple(_ranks(receivers, heights.ground)), _entering(session, window))
+    tile = next((corner.name for corner in heights.corners if corner.window(heights.side) == window), None)
+    if tile is None or not session.takes_whole_tiles:
+        return Network(heights, levels, codes, receivers, _entering(session, heights))
+    counts = session.upstream(tile).astype(numpy.int64)
+    return Network(heights, levels, codes, receivers, _left_over(counts, heights, receivers), counts)
 
 
 def _receivers(codes: Array) -> Array:
@@ -204,35 +274,10 @@ def _receivers(codes: Array) -> Array:
     return receivers.ravel()
 
 
-def _ranks(receivers: Array, ground: Array) -> Iterator[Array]:
-    numpy = needed_numpy()
-    # One more at the end for NOWHERE, which is the index of the last.
-    donors = numpy.bincount(receivers[receivers != NOWHERE], minlength=receivers.size + 1)
-    ones = numpy.ones_like(donors)
-    part = numpy.flatnonzero(ground.ravel() & (donors[:-1] == 0))
-    while part.size:
-        to = receivers[part]
-        order = to.argsort(kind="stable")
-        yield part[order]
-        to = to[order]
-        starts = _starts(to)
-        reached = to[starts]
-        left = donors[reached] - numpy.add.reduceat(ones[: to.size], starts)
-        donors[reached] = left
-        part = reached[(left == 0) & (reached != NOWHERE)]
-
-
-def _starts(ordered: Array) -> Array:
-    """Where each value of an ordered array begins."""
-    numpy = needed_numpy()
-    begins = numpy.ones(ordered.size, bool)
-    numpy.not_equal(ordered[1:], ordered[:-1], out=begins[1:])
-    return begins.nonzero()[0]
-
-
-def _entering(session: Session, window: Window) -> dict[int, int]:
+def _entering(session: Session, heights: Heights) -> dict[int, int]:
     """How many points drain into each cell of a window from points outside that lie beside it."""
-    ring = list(_around(window))
+    window, present = heights.window, set(heights.corners)
+    ring = [point for point in _around(window) if not present.isdisjoint(corners_of(point, heights.side))]
     found = session.ask_many(FlowDirection(*point) for point in ring)
     inward = [(point, at) for point, at in zip(ring, map(_led, ring, found)) if at is not None and _is_in(window, at)]
     sheds = session.ask_many(WatershedOf(*point) for point, _ in inward)
@@ -243,6 +288,15 @@ def _entering(session: Session, window: Window) -> dict[int, int]:
         cell = (window.y1 - at.y) * window.width + at.x - window.x0
         counts[cell] = counts.get(cell, 0) + shed.cells
     return counts
+
+
+def _left_over(counts: Array, heights: Heights, receivers: Array) -> dict[int, int]:
+    """What `_entering` answers, from the counts: of each cell's count what neither itself nor a cell of the window gives."""
+    numpy = needed_numpy()
+    within = receivers != NOWHERE
+    given = numpy.bincount(receivers[within], counts.ravel()[within], receivers.size)  # float64 has whole numbers to 2^53
+    entered = (counts - heights.ground).ravel() - given.astype(numpy.int64)
+    return {int(cell): int(entered[cell]) for cell in entered.nonzero()[0]}
 
 
 def _around(window: Window) -> Iterator[Point]:
@@ -287,10 +341,9 @@ def streams(network: Network, threshold: int) -> list[Reach]:
     if threshold < 1:
         raise BadArgument("a stream begins where 1 point and more drains through")
     counts = network.counts.ravel()
-    is_stream = counts >= threshold
     receivers, lengths = network.receivers, network.step_lengths().ravel()
-    parts = [numpy.sort(part[is_stream[part]]) for part in network.ranks]
-    ordered = numpy.concatenate(parts or [numpy.empty(0, numpy.int64)]).tolist()
+    found = numpy.flatnonzero(counts >= threshold)
+    ordered = found[counts[found].argsort(kind="stable")].tolist()  # more drain through a cell than through those above it
     above: dict[int, list[_Open]] = {}
     reaches: list[Reach] = []
     for cell in ordered:

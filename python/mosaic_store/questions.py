@@ -9,7 +9,7 @@ from __future__ import annotations
 
 import operator
 from collections.abc import Iterable, Sequence
-from dataclasses import dataclass, field
+from dataclasses import dataclass, field, fields
 from typing import Generic, Protocol, SupportsIndex, TypeVar
 
 from .errors import BadArgument, BadReply
@@ -43,6 +43,26 @@ class Watershed:
     def points(self) -> Iterable[Point]:
         """Each of its points."""
         return (Point(y, x) for y, first, last in self.runs for x in range(first, last + 1))
+
+
+@dataclass(frozen=True)
+class Numbers:
+    """The sizes of a store, and what it counts."""
+
+    side: int
+    """Samples along an edge of a tile."""
+    capacity: int
+    """The greatest number of tiles."""
+    version: int
+    """Of its file's layout."""
+    count: int
+    """How many commands were accepted since it was formatted."""
+    commits: int
+    """The number of its last commit."""
+    fresh: int
+    """How many present tiles have kept planes."""
+    stale: int
+    """How many present tiles have none."""
 
 
 class Question(Generic[Answer_co]):
@@ -272,6 +292,17 @@ class FlowDirections(_OfTile):
 
 
 @dataclass(frozen=True, slots=True)
+class UpstreamCounts(_OfTile):
+    """How many points drain through each of a tile's samples, four bytes each, the higher first; 0 where there is no ground.
+
+    A line of `mosaic-tiles` alone.
+    """
+
+    name: str
+    _verb = "upstream"
+
+
+@dataclass(frozen=True, slots=True)
 class Tiles(Question["list[str]"]):
     """The names of the present tiles, in order."""
 
@@ -317,6 +348,20 @@ class Count(Question[int]):
 
     def answer(self, words: list[str], replies: Replies) -> int:
         return _number(words)
+
+
+@dataclass(frozen=True, slots=True)
+class Info(Question[Numbers]):
+    """The sizes of the store, and what it counts. A line of `mosaic-tiles` alone."""
+
+    def line(self) -> str:
+        return "info"
+
+    def answer(self, words: list[str], replies: Replies) -> Numbers:
+        names = [each.name for each in fields(Numbers)]
+        if words[::2] != names:
+            raise BadReply(f"{' '.join(names)} were due, and {words} came")
+        return Numbers(*_numbers(words[1::2], len(names)))
 
 
 def _coordinate(value: SupportsIndex) -> int:

@@ -99,20 +99,37 @@ def lay(
     every: int = 1,
     nothing: int = VOID,
 ) -> None:
-    """Lays a tile on rows and columns of points, the tiles in their order: what one before has laid stays, but for `nothing`.
+    """Lays a tile on equally distant rows and columns of points, the tiles in their order: what one before has laid stays, but for
+    `nothing`.
 
     `tile` answers each `every`-th of the samples each way, and is asked where some of the points lie in its window.
     """
     numpy = needed_numpy()
-    rows, columns = window.y1 - ys, xs - window.x0
-    in_rows = numpy.flatnonzero((rows >= 0) & (ys >= window.y0))
-    in_columns = numpy.flatnonzero((columns >= 0) & (xs <= window.x1))
-    if not in_rows.size or not in_columns.size:
+    place = _overlap(window, ys, xs)
+    if place is None:
         return
-    own = tile()[numpy.ix_(rows[in_rows] // every, columns[in_columns] // every)]
-    place = numpy.ix_(in_rows, in_columns)
-    samples[place] = numpy.where(samples[place] == nothing, own, samples[place])
+    rows, columns = window.y1 - ys[place[0]], xs[place[1]] - window.x0
+    own = tile()[_places(rows, every)][:, _places(columns, every)]
+    laid = samples[place]
+    numpy.copyto(laid, own, where=laid == nothing)
     held[place] = True
+
+
+def _overlap(window: Window, ys: Array, xs: Array) -> tuple[slice, slice] | None:
+    """Which of some rows and columns of points lie in a window; None where no point does."""
+    numpy = needed_numpy()
+    rows = numpy.flatnonzero((ys <= window.y1) & (ys >= window.y0))
+    columns = numpy.flatnonzero((xs >= window.x0) & (xs <= window.x1))
+    if not rows.size or not columns.size:
+        return None
+    return slice(rows[0], rows[-1] + 1), slice(columns[0], columns[-1] + 1)
+
+
+def _places(at: Array, every: int) -> slice | Array:
+    """Where each `every`-th of some samples lies, for equally distant ones: a slice where each of them is one of those."""
+    if every > 1:
+        return at // every
+    return slice(int(at[0]), int(at[-1]) + 1, int(at[1] - at[0]) if at.size > 1 else 1)
 
 
 def levels_of(session: Session, heights: Heights, told: Told | None = None) -> Array:
@@ -139,7 +156,7 @@ def asks_whole_tiles(session: Session, heights: Heights) -> bool:
     """Whether whole tiles tell sooner of a window than questions of its points do."""
     if heights.every != 1:
         raise BadReply("water is asked for in windows that aren't thinned")
-    worth = _WORTH_A_TILE * heights.samples.size >= len(_reached(heights)) * heights.side**2
+    worth = _WORTH_A_TILE * heights.samples.size >= len(_covering(heights)) * heights.side**2
     return worth and session.takes_whole_tiles
 
 
@@ -148,23 +165,26 @@ def whole_tiles(ask: Callable[[str], Array], heights: Heights, nothing: int, kin
     numpy = needed_numpy()
     found = numpy.full(heights.samples.shape, nothing, kind)
     held = numpy.zeros(found.shape, bool)
-    reached = _reached(heights)
-    for number, corner in enumerate(reached, 1):
+    covering = _covering(heights)
+    for number, corner in enumerate(covering, 1):
         lay(functools.partial(ask, corner.name), corner.window(heights.side), heights.ys, heights.xs, found, held, nothing=nothing)
         if told is not None:
-            told(number, len(reached))
+            told(number, len(covering))
     return found
 
 
-def _reached(heights: Heights) -> list[Corner]:
-    """The tiles that reach into a window."""
-    window = heights.window
-    tiles = [(corner, corner.window(heights.side)) for corner in heights.corners]
-    return [
-        corner
-        for corner, own in tiles
-        if own.y0 <= window.y1 and window.y0 <= own.y1 and own.x0 <= window.x1 and window.x0 <= own.x1
-    ]
+def _covering(heights: Heights) -> list[Corner]:
+    """Of the tiles that reach into a window as many as hold each point that any of them holds: those with most of it first."""
+    numpy = needed_numpy()
+    held = numpy.zeros(heights.samples.shape, bool)
+    places = {corner: _overlap(corner.window(heights.side), heights.ys, heights.xs) for corner in heights.corners}
+    reached = [(corner, held[place]) for corner, place in places.items() if place is not None]
+    covering = []
+    for corner, part in sorted(reached, key=lambda pair: -pair[1].size):
+        if not part.all():
+            part[:] = True
+            covering.append(corner)
+    return covering
 
 
 def depths_of(heights: Heights, levels: Array) -> Array:

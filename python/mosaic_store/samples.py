@@ -14,16 +14,24 @@ if TYPE_CHECKING:
 
 def array_of(data: bytes) -> numpy.ndarray[Any, Any]:
     """HGT bytes as an array of int16 of shape (side, side), the north row first."""
-    numpy = needed_numpy()
-    side = math.isqrt(len(data) // 2)
-    return numpy.frombuffer(data, ">i2").astype(numpy.int16).reshape(side, side)
+    return _square(data, ">i2", "int16")
 
 
 def codes_of(data: bytes) -> numpy.ndarray[Any, Any]:
     """Direction codes as an array of uint8 of shape (side, side), the north row first."""
-    numpy = needed_numpy()
-    side = math.isqrt(len(data))
-    return numpy.frombuffer(data, numpy.uint8).reshape(side, side)
+    return _square(data, "uint8", "uint8")
+
+
+def counts_of(data: bytes) -> numpy.ndarray[Any, Any]:
+    """Upstream counts as an array of uint32 of shape (side, side), the north row first."""
+    return _square(data, ">u4", "uint32")
+
+
+def _square(data: bytes, stored: str, kind: str) -> numpy.ndarray[Any, Any]:
+    """Numbers that are stored as one type, as a square array of another."""
+    numbers = needed_numpy().frombuffer(data, stored)
+    side = math.isqrt(numbers.size)
+    return numbers.astype(kind).reshape(side, side)
 
 
 def bytes_of(data: bytes | bytearray | memoryview | numpy.ndarray[Any, Any]) -> bytes:

@@ -21,11 +21,24 @@ from typing import TYPE_CHECKING, Any, TypeVar, Union, cast
 from . import questions
 from .backups import copy_file
 from .channel import Channel, Word
-from .errors import BadArgument, BadLine, BadName, BadReply, Device, Refusal, SessionDied, StoreBusy, StoreChanged, refusal_of
-from .lattice import Direction, Place, Point, degrees_of, point_of
-from .questions import Command, Question, Watershed
-from .samples import array_of, bytes_of, codes_of
-from .stores import PathLike, Report, Shape, cannot_open, check_store, find_server, shape_of
+from .errors import (
+    BadArgument,
+    BadBox,
+    BadLine,
+    BadName,
+    BadReply,
+    Device,
+    NothingVoid,
+    Refusal,
+    SessionDied,
+    StoreBusy,
+    StoreChanged,
+    refusal_of,
+)
+from .lattice import GREATEST_SIDE, LEAST_SIDE, Direction, Place, Point, degrees_of, point_of
+from .questions import Command, Numbers, Question, Watershed
+from .samples import array_of, bytes_of, codes_of, counts_of
+from .stores import PathLike, Report, cannot_open, check_store, find_server
 from .trials import Tiles, Trial
 
 if TYPE_CHECKING:
@@ -40,6 +53,7 @@ _BATCH = 4096
 _BUSY_PAUSE = 0.02
 _MOST_RESTARTS = 5
 _SECONDS_TO_FREE = 10.0
+_OFF_ALL_TILES = 900_000_000
 
 
 @dataclass(frozen=True)
@@ -72,7 +86,8 @@ class Session:
         self._timeout, self._restart = timeout, restart
         self._lock = threading.RLock()
         self._channel: Channel | None = None
-        self._shape: Shape | None = None
+        self._side: int | None = None
+        self._capacity: int | None = None
         self._acknowledged = 0
         self._in_doubt: Command | None = None
         self._trial: Trial | None = None
@@ -85,13 +100,21 @@ class Session:
 
     @property
     def side(self) -> int:
-        """The side of each tile, in samples."""
-        return self._known_shape().side
+        """The side of each tile, in samples. It never changes, and is asked for once."""
+        if self._side is None:
+            try:
+                self._side = self.info().side
+            except BadLine:
+                self._side = self._side_by_boxes()
+        return self._side
 
     @property
-    def capacity(self) -> int:
-        """The greatest number of tiles."""
-        return self._known_shape().capacity
+    def capacity(self) -> int | None:
+        """The greatest number of tiles; None where the program doesn't tell it, as `mosaic` doesn't."""
+        if self._capacity is None:
+            with contextlib.suppress(BadLine):
+                self._capacity = self.info().capacity
+        return self._capacity
 
     @property
     def acknowledged(self) -> int:
@@ -205,6 +228,19 @@ class Session:
 
         return directions_of(self, tile_of(self, name))
 
+    def upstream(self, name: str) -> numpy.ndarray[Any, Any]:
+        """How many points drain through each of a tile's samples, uint32 of shape (side, side), the north row first.
+
+        The cells of `watershed` there, from whichever tiles; 0 where the sample's point isn't ground. As `levels`, by one line
+        or by questions: those of its directions, and a watershed for each point beside the tile that drains into it.
+        """
+        if self.takes_whole_tiles:
+            return counts_of(self.ask(questions.UpstreamCounts(name)))
+        from .network import network_of
+        from .rasters import tile_of
+
+        return cast("numpy.ndarray[Any, Any]", network_of(self, tile_of(self, name).window).counts.astype("uint32"))
+
     def tiles(self) -> list[str]:
         """The names of the present tiles, in order."""
         return self.ask(questions.Tiles())
@@ -220,6 +256,10 @@ class Session:
     def count(self) -> int:
         """How many commands were accepted since the store was formatted."""
         return self.ask(questions.Count())
+
+    def info(self) -> Numbers:
+        """The sizes of the store, and what it counts. BadLine where the session doesn't take whole tiles."""
+        return self.ask(questions.Info())
 
     def backup(self, path: PathLike) -> int:
         """Copies the store's file to another, whole, between two commands; the count that the copy has.
@@ -452,12 +492,20 @@ class Session:
         if channel is not None:
             channel.kill()
 
-    def _known_shape(self) -> Shape:
-        if self._shape is None:
-            self._shape = shape_of(self._path) if self._path is not None else None
-        if self._shape is None:
-            raise BadReply("the store tells no side")
-        return self._shape
+    def _side_by_boxes(self) -> int:
+        """The side, where no line tells it: a box off all tiles holds nothing void, unless it is longer than a side."""
+        least, greatest = LEAST_SIDE, GREATEST_SIDE
+        while least < greatest:
+            tried = (least + greatest + 1) // 2
+            box = questions.Patch(_OFF_ALL_TILES, 0, _OFF_ALL_TILES + tried - 1, 0, 0)
+            try:
+                with self._lock:
+                    self._surely(lambda: self._asked(box, box.line()))
+            except BadBox:
+                greatest = tried - 1
+            except NothingVoid:
+                least = tried
+        return least
 
 
 def open_store(
@@ -490,7 +538,7 @@ def memory_table(
     BadSide or BadCapacity out of range.
     """
     session = _session(["table", str(side), str(capacity)], None, program, timeout, False)
-    session._shape = Shape(side, capacity)
+    session._side, session._capacity = side, capacity
     session._start(0.0)
     return session
 

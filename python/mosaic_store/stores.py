@@ -6,33 +6,14 @@ import fcntl
 import os
 import pathlib
 import shutil
-import struct
 import subprocess
 from collections.abc import Sequence
 from dataclasses import dataclass
 from typing import Union
 
 from .errors import BadArgument, BadReply, CannotOpen, ProgramNotFound, StoreBusy, StoreExists, refusal_of
-from .lattice import GREATEST_SIDE, LEAST_SIDE, MOST_TILES
 
 PathLike = Union[str, bytes, "os.PathLike[str]", "os.PathLike[bytes]"]
-
-_SECTOR = 4096
-_SLOTS = (0, 2)
-_OPEN_GATE = 0xA7
-_MAGIC = b"MOSAICST"
-
-
-@dataclass(frozen=True)
-class Shape:
-    """What a store is."""
-
-    side: int
-    """The side of each tile, in samples."""
-    capacity: int
-    """The greatest number of tiles."""
-    version: int = 2
-    """Of its file's layout, 1 or 2."""
 
 
 @dataclass(frozen=True)
@@ -106,26 +87,6 @@ def upgrade_store(path: PathLike, program: PathLike | None = None) -> int:
         raise BadReply(f"OK and a number were due, and {lines} came") from None
 
 
-def shape_of(path: PathLike) -> Shape | None:
-    """The side, capacity and version of a store, from its first sectors; None where the file is no store.
-
-    Side and capacity never change once a store is formatted, and the version by an upgrade alone: this needs no lock.
-    """
-    try:
-        with open(path, "rb") as file:
-            head = file.read(4 * _SECTOR)
-    except OSError as fault:
-        raise cannot_open(path, fault) from None
-    found = []
-    for slot in _SLOTS:
-        gate, root = head[slot * _SECTOR :], head[(slot + 1) * _SECTOR :]
-        if len(root) >= 20 and gate[0] == _OPEN_GATE and root.startswith(_MAGIC):
-            version, side, capacity = struct.unpack_from("<III", root, 8)
-            if LEAST_SIDE <= side <= GREATEST_SIDE and 1 <= capacity <= MOST_TILES:
-                found.append(Shape(side, capacity, version))
-    return max(found, key=lambda shape: shape.version) if found else None
-
-
 def cannot_open(path: PathLike, fault: OSError | None = None) -> CannotOpen:
     """Why the file of a store can't be opened, as an exception with its cause and cure."""
     shown = os.fsdecode(path)
@@ -179,8 +140,8 @@ def _is_text(path: PathLike) -> bool:
 
 def _is_locked(path: PathLike) -> bool:
     try:
-        with open(path, "rb") as file:
-            fcntl.flock(file, fcntl.LOCK_SH | fcntl.LOCK_NB)
+        with open(path, "r+b") as file:
+            fcntl.flock(file, fcntl.LOCK_EX | fcntl.LOCK_NB)
     except BlockingIOError:
         return True
     except OSError:

@@ -4,25 +4,59 @@ from __future__ import annotations
 
 import base64
 import contextlib
+import functools
 import json
 import os
 import select
+import shutil
 import subprocess
 import tempfile
 import time
+from collections.abc import Callable
 from types import TracebackType
 from typing import Any
 
 from .support import A_WHILE
 
+TO_BEGIN = 120
+"""Seconds after which a chromium that answers nothing is one that doesn't run here."""
+
+
+@functools.cache
+def lack() -> str:
+    """What pages lack here; nothing where chromium shows one."""
+    if shutil.which("chromium") is None:
+        return "chromium isn't installed: apt-get install chromium"
+    try:
+        with Browser("about:blank", TO_BEGIN) as browser:
+            browser.wait_for("1 + 1 == 2")
+    except (OSError, EOFError, LookupError) as fault:
+        return f"chromium doesn't run here: {fault}"
+    return ""
+
+
+def needs_browser(test: Callable[[Any], None]) -> Callable[[Any], None]:
+    """Leaves a test out where chromium shows no page, and says why."""
+
+    @functools.wraps(test)
+    def tried(self: Any) -> None:
+        if lack():
+            self.skipTest(lack())
+        test(self)
+
+    return tried
+
+
 class Browser:
     """A page of a link."""
 
-    def __init__(self, link: str, width: int = 1280, height: int = 800) -> None:
+    def __init__(self, link: str, to_begin: float = A_WHILE, width: int = 1280, height: int = 800) -> None:
+        """`to_begin` is how many seconds chromium has for its first answers."""
+        self._patience = to_begin
         self._folder = tempfile.TemporaryDirectory(ignore_cleanup_errors=True)
         read, self._commands = os.pipe()
         self._answers, write = os.pipe()
-        words = ["--headless=new", "--no-sandbox", "--disable-gpu", "--remote-debugging-pipe", f"--window-size={width},{height}"]
+        words = ["--headless=new", "--no-sandbox", "--disable-gpu", "--disable-dev-shm-usage", "--remote-debugging-pipe", f"--window-size={width},{height}"]
         words += [f"--user-data-dir={self._folder.name}", "about:blank"]
         # It reads commands from descriptor 3 and writes answers to 4.
         self._process = subprocess.Popen(
@@ -36,8 +70,13 @@ class Browser:
         os.close(write)
         self._number, self._unread = 0, b""
         self._page: dict[str, str] = {}
-        target = self._ask("Target.createTarget", url=link)["targetId"]
-        self._page = {"sessionId": self._ask("Target.attachToTarget", targetId=target, flatten=True)["sessionId"]}
+        try:
+            target = self._ask("Target.createTarget", url=link)["targetId"]
+            self._page = {"sessionId": self._ask("Target.attachToTarget", targetId=target, flatten=True)["sessionId"]}
+        except BaseException:
+            self._end()
+            raise
+        self._patience = A_WHILE
 
     def __enter__(self) -> Browser:
         return self
@@ -47,6 +86,9 @@ class Browser:
         with contextlib.suppress(OSError, EOFError):  # where it has ended by itself
             self._ask("Browser.close")
             self._process.wait()
+        self._end()
+
+    def _end(self) -> None:
         self._process.kill()
         self._process.wait()
         os.close(self._commands)
@@ -94,7 +136,7 @@ class Browser:
 
     def _message(self) -> dict[str, Any]:
         while b"\0" not in self._unread:
-            if not select.select([self._answers], [], [], A_WHILE)[0]:
+            if not select.select([self._answers], [], [], self._patience)[0]:
                 raise TimeoutError("chromium answers nothing")
             part = os.read(self._answers, 1 << 16)
             if not part:

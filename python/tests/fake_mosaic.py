@@ -3,10 +3,11 @@
 
 usage: fake_mosaic.py format PATH SIDE CAPACITY | serve PATH | table SIDE CAPACITY | check PATH
 
-It shares no code with the package, so that it is also a second opinion on answers. A store is a file that begins as a
-store's root does and goes on with its state. By the name mosaic-tiles it takes the lines of whole tiles, too.
+It shares no code with the package, so that it is also a second opinion on answers. A store's file is of its own kind. By the
+name mosaic-tiles it takes the lines of whole tiles, too.
 """
 
+import collections
 import fcntl
 import heapq
 import os
@@ -15,6 +16,7 @@ import re
 import struct
 import sys
 
+MAGIC = b"a mosaic of the tests\n"
 VOID = -32768
 STEPS = [(1, 0, 1), (2, -1, 1), (4, -1, 0), (8, -1, -1), (16, 0, -1), (32, 1, -1), (64, 1, 0), (128, 1, 1)]
 WORDS = {
@@ -86,12 +88,12 @@ class Mosaic:
 
     def answer(self, words, payload):
         word, *rest = words
-        if word in ("import", "remove", "export", "levels", "directions"):
+        if word in ("import", "remove", "export", "levels", "directions", "upstream"):
             corner = corner_of(rest[0])
             return getattr(self, word + "_tile")(corner, payload)
         if word in ("elev", "fill", "dir", "trace", "watershed"):
             return getattr(self, word)(*map(int, rest))
-        if word in ("tiles", "sinks", "step", "count"):
+        if word in ("tiles", "sinks", "step", "count", "info"):
             return getattr(self, word + "_all")()
         getattr(self, word + "_points")(*map(int, rest))
         return self.accepted()
@@ -129,6 +131,11 @@ class Mosaic:
     def directions_tile(self, corner, _):
         codes = self.samples_of(corner, self.flooded()[1], 255)
         return f"OK {len(codes)}", bytes(codes)
+
+    def upstream_tile(self, corner, _):
+        passed = collections.Counter(at for point in self.flooded()[1] for at in self.path(*point))
+        counts = self.samples_of(corner, passed, 0)
+        return f"OK {4 * len(counts)}", struct.pack(f">{len(counts)}I", *counts)
 
     def samples_of(self, corner, told, nothing):
         """What is told of each sample's point of a tile."""
@@ -243,6 +250,11 @@ class Mosaic:
     def count_all(self):
         return f"OK {self.count}"
 
+    def info_all(self):
+        fresh = len(self.fresh)
+        sizes = f"side {self.side} capacity {self.capacity} version 2"
+        return f"OK {sizes} count {self.count} commits {self.count + 1} fresh {fresh} stale {len(self.tiles) - fresh}"
+
     def seams(self):
         m = self.side - 1
         points = {(y, x) for a, b in self.tiles for y in range(a * m, a * m + m + 1) for x in range(b * m, b * m + m + 1)}
@@ -298,7 +310,7 @@ GRAMMAR = re.compile(
     rf"|(sink|unsink|elev|fill|dir|trace|watershed) {INT} {INT}|tiles|sinks|step|count|quit",
     re.ASCII,
 )
-WHOLE = re.compile(rf"(levels|directions) {WORD}", re.ASCII)
+WHOLE = re.compile(rf"(levels|directions|upstream) {WORD}|info", re.ASCII)
 TAKES_WHOLE = os.path.basename(sys.argv[0]) == "mosaic-tiles"
 CHANGES = ("import", "remove", "patch", "burn", "wall", "sink", "unsink", "step")
 
@@ -346,16 +358,15 @@ def opened(path):
     except OSError:
         told(f"mosaic: cannot open {path}", 1)
     data = file.read()
-    if data[4096:4104] != b"MOSAICST":
+    if not data.startswith(MAGIC):
         told("ERR 30 NotAStore", 1)
-    return file, pickle.loads(data[16384:])
+    return file, pickle.loads(data.removeprefix(MAGIC))
 
 
 def keeper(file):
     def keep(mosaic):
         water, mosaic.water = mosaic.water, None
-        root = b"MOSAICST" + struct.pack("<III", 2, mosaic.side, mosaic.capacity)
-        data = (b"\xa7" + bytes(4095) + root).ljust(16384, b"\0") + pickle.dumps(mosaic)
+        data = MAGIC + pickle.dumps(mosaic)
         mosaic.water = water
         os.pwrite(file.fileno(), data, 0)  # one call: a kill falls before it or after it
 

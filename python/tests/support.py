@@ -2,10 +2,12 @@
 
 from __future__ import annotations
 
-import importlib.util
+import functools
+import importlib
 import os
 import pathlib
 import random
+import re
 import struct
 import subprocess
 import sys
@@ -13,7 +15,7 @@ import tempfile
 import time
 import unittest
 
-from mosaic_store import Corner, ProgramNotFound, find_program, find_server, format_store, open_store
+from mosaic_store import Corner, ProgramNotFound, channel, find_program, find_server, format_store, open_store, session
 
 TESTS = pathlib.Path(__file__).resolve().parent
 PYTHON = TESTS.parent
@@ -31,20 +33,35 @@ def _chosen() -> str:
     return found
 
 
-A_WHILE = 600
+A_WHILE = 3600
 """Seconds after which a test gives up what hangs. Far more than anything takes on a loaded machine: no outcome rests on it."""
+
+# A program that is asked to end, and a store that is let go of, may take their time, too.
+channel._SECONDS_TO_END = session._SECONDS_TO_FREE = A_WHILE
 
 PROGRAM = _chosen()
 IS_REAL = PROGRAM != FAKE
+
+_HOW_FAR = re.compile(r"^mosaic-\w+: \d+ of (at most )?\d+ (stores|questions|levels asked|tiles flooded|done)\n", re.M)
+"""What a command tells that takes more than ten seconds, as it may on a loaded machine."""
 
 THREE = struct.pack(">9h", 9, 9, 9, 9, 1, 9, 9, 9, 5)
 """The tile of side 3 of docs/lines.md."""
 
 
 def needs(*modules: str):
-    """Leaves a test out where a module isn't installed, and says which."""
-    missing = [module for module in modules if importlib.util.find_spec(module) is None]
+    """Leaves a test out where a module isn't installed or can't be loaded, and says which."""
+    missing = [module for module in modules if not _loads(module)]
     return unittest.skipIf(missing, f"{', '.join(missing)} isn't installed")
+
+
+@functools.cache
+def _loads(module: str) -> bool:
+    try:
+        importlib.import_module(module)
+    except Exception:  # what a broken installation may come to
+        return False
+    return True
 
 
 def hills(side: int, rows: int, columns: int, seed: int = 1) -> dict[str, bytes]:
@@ -108,18 +125,25 @@ class InFolder(unittest.TestCase):
             self.assertLess(time.monotonic(), end, f"{path} was never made")
             time.sleep(0.01)
 
+    @staticmethod
+    def surroundings() -> dict[str, str]:
+        """The environment of another program, which finds the package and talks to the same `mosaic`."""
+        return {**os.environ, "PYTHONPATH": str(PYTHON), "MOSAIC": PROGRAM}
+
     def command(self, name: str, *words: str) -> subprocess.CompletedProcess[str]:
-        """Runs a command of the package."""
-        return subprocess.run(
+        """Runs a command of the package; how far it is isn't in what it tells."""
+        done = subprocess.run(
             [sys.executable, "-m", "mosaic_store", name, *words],
             cwd=self.folder,
-            env={**os.environ, "PYTHONPATH": str(PYTHON), "MOSAIC": PROGRAM},
+            env=self.surroundings(),
             stdin=subprocess.DEVNULL,
             capture_output=True,
             text=True,
             timeout=A_WHILE,
             check=False,
         )
+        done.stderr = _HOW_FAR.sub("", done.stderr)
+        return done
 
     def refused(self, done: subprocess.CompletedProcess[str], *words: str, status: int = 1) -> None:
         """A command ended in one line that holds these words, without a traceback."""

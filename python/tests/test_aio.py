@@ -8,6 +8,11 @@ from mosaic_store import BadArgument, aio, errors, open_store, questions
 from .support import A_WHILE, PROGRAM, InFolder
 
 POINTS = [(y, x) for y in range(21) for x in range(21)]
+BEGINNING = "".join(
+    f"sys.stdin.readline(), print({reply!r}, flush=True)\n"
+    for reply in ("OK 0", "OK side 11 capacity 4 version 2 count 0 commits 1 fresh 0 stale 0")
+)
+"""What a program answers while a session begins."""
 
 
 class Awaited(InFolder, unittest.IsolatedAsyncioTestCase):
@@ -23,6 +28,7 @@ class Awaited(InFolder, unittest.IsolatedAsyncioTestCase):
 
     async def test_every_method_answers_as_the_other_session_does(self):
         async with aio.open_store(self.path, PROGRAM) as store:
+            self.assertEqual(store.blocking._side, 11)  # known before a point is asked for
             y, x = store.point_of(0.5, 0.5)
             self.assertEqual(store.degrees_of(y, x), (0.5, 0.5))
             answers = [
@@ -79,7 +85,7 @@ class Awaited(InFolder, unittest.IsolatedAsyncioTestCase):
         """The program answers once the loop has let it."""
         go = self.folder / "go"
         waiting = self.script(
-            "sys.stdin.readline(), print('OK 0', flush=True), sys.stdin.readline()\n"
+            f"{BEGINNING}sys.stdin.readline()\n"
             f"while not os.path.exists({str(go)!r}): time.sleep(0.01)\n"
             "print('OK 7', flush=True)"
         )
@@ -97,7 +103,7 @@ class Awaited(InFolder, unittest.IsolatedAsyncioTestCase):
         waiting = self.script(
             f"open({str(begun)!r}, 'w').close()\n"
             f"while not os.path.exists({str(go)!r}): time.sleep(0.01)\n"
-            "sys.stdin.readline(), print('OK 0', flush=True), sys.stdin.read()\n"
+            f"{BEGINNING}sys.stdin.read()\n"
             f"open({str(ended)!r}, 'w').close()"
         )
         opening = asyncio.create_task(aio.open_store(self.path, waiting).__aenter__())

@@ -56,9 +56,10 @@ ATTACKS = [
 
 
 class Attacked:
-    """The attacks on a server at `self.port`, whose path for an edit is `self.path`."""
+    """The attacks on a server at `self.port`, whose path for an edit is `self.path`, and more of its own kind."""
 
     kind: str
+    more: list[Attack] = []
     port: int
     path: str
     own: dict[str, str] = {}
@@ -103,7 +104,7 @@ class Attacked:
         return length is not None and len(body) >= int(length[1])
 
     def test_each_is_refused(self) -> None:
-        for attack in ATTACKS:
+        for attack in [*ATTACKS, *self.more]:
             with self.subTest(attack.what):
                 answer = self.sent(self.request(attack))
                 # What has no version is answered as the first HTTP did, without a status line.
@@ -190,6 +191,8 @@ class OnTheMap(Attacked, unittest.TestCase):
 
 class OnTheService(Attacked, InFolder):
     kind, path = "service", "/wall"
+    # Its paths are known to everybody, unlike those of the map.
+    more = [Attack("a picture of a page of another site", (403,), line="GET /info HTTP/1.1", headers={"Sec-Fetch-Site": "cross-site"})]
 
     def setUp(self) -> None:
         super().setUp()

@@ -34,7 +34,7 @@ class Backups(InFolder):
         self.refused(self.command("backup", path, "copy"), "is there already")
         self.refused(self.command("backup", "none", "other"), "no such file")
         told = self.command("info", "copy").stdout
-        for line in ("version 2, side 11 samples", "at most 4 tiles", "tiles 4: 0 fresh, 4 stale", "count 4, ", "bounds 0 0 to 2 2 degrees"):
+        for line in ("side 11 samples, 10 points a degree", "tiles 4: 0 fresh, 4 stale", "count 4, ", "bounds 0 0 to 2 2 degrees"):
             self.assertIn(line, told)
 
     def test_what_a_served_store_holds(self) -> None:

@@ -12,7 +12,7 @@ import threading
 import time
 import unittest
 
-from mosaic_store import check_store, open_store
+from mosaic_store import check_store, find_server, open_store
 
 from .support import A_WHILE, PROGRAM, PYTHON, InFolder
 
@@ -123,7 +123,23 @@ class Service(InFolder):
         self.assertIn(self.ask(port, "POST", "/step", "{}")[1]["answer"], ("N00E000", "N00E001", "N01E000", "N01E001", None))
         self.assertEqual(self.ask(port, "GET", "/export?tile=N00E000", raw=True)[1], patched)
         info = self.ask(port, "GET", "/info")[1]["answer"]
-        self.assertEqual((info["version"], info["side"], info["count"], sum(info["tiles"].values())), (2, 11, 9, 1))
+        commits, names = info.pop("commits"), ["N00E000", "N00E001", "N01E000", "N01E001"]
+        sizes = {"capacity": 4, "version": 2} if find_server(PROGRAM) != PROGRAM else {}
+        self.assertEqual(info, {"side": 11, "count": 9, "fresh": 1, "stale": 3, "tiles": names} | sizes)
+        self.assertGreaterEqual(commits, 9)
+
+    def test_backup(self):
+        """A copy by the service that serves the store; a second one of the same count is refused, and nobody names its place."""
+        path = self.store(11)
+        _, port, _ = self.start(path)
+        for body, status, answer in (("{}", 200, "store.4"), ("{}", 409, None), ('{"name": "/tmp/other"}', 400, None), ("[]", 400, None)):
+            found = self.ask(port, "POST", "/backup", body)
+            self.assertEqual((found[0], found[1].get("answer")), (status, answer))
+        self.assertEqual(self.ask(port, "POST", "/wall", json.dumps({"height": 900, "points": [[5, 5]]})), (200, {"answer": 5}))
+        self.assertEqual(self.ask(port, "POST", "/backup", "{}"), (200, {"answer": "store.5"}))
+        for count, height in ((4, 900), (5, 900)):
+            with open_store(f"{path}.{count}", PROGRAM) as copy:
+                self.assertEqual((copy.count(), copy.elevation(5, 5) == height), (count, count == 5))
 
     def test_health_of_a_store_that_is_gone(self):
         """Where the program can't be begun anew /health says so, and is well again once it can."""
@@ -179,6 +195,7 @@ class Service(InFolder):
             self.wait_for_more(acknowledged)
             os.kill(service.pid, signal.SIGKILL)
             service.wait()
+            open_store(path, PROGRAM, wait=A_WHILE).close()  # once the program of the one that was killed has ended
             service, port, program = self.start(path)
         self.wait_for_more(acknowledged)
         ending.set()

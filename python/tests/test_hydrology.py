@@ -6,7 +6,7 @@ import unittest
 
 from mosaic_store import BadArgument, Point, Window, memory_table, open_store
 
-from .support import PROGRAM, InFolder, needs
+from .support import A_WHILE, PROGRAM, InFolder, needs
 
 SIDE = 11
 
@@ -139,7 +139,9 @@ class Commands(InFolder):
         with open_store(path, PROGRAM) as store:
             around = [store.elevation(3 + north, 2 + east) for north in (-1, 0, 1) for east in (-1, 0, 1) if north or east]
             self.assertTrue(min(around) <= store.elevation(3, 2) <= max(around))
-        self.assertEqual(self.features("voids.geojson")[0]["properties"], {"what": "filled voids", "cells": 1})
+        found = self.features("voids.geojson")[0]["properties"]
+        self.assertEqual((found["what"], found["cells"]), ("filled voids", 1))
+        self.assertAlmostEqual(found["km2"] / 11.132**2, 1, delta=0.01)
         self.assertIn("0 voids", self.hydrology(path, "voids", "voids.geojson"))
         with open_store(path, PROGRAM) as store:
             images = [store.export(name) for name in store.tiles()]
@@ -148,6 +150,49 @@ class Commands(InFolder):
         self.assertIn(done.returncode, (0, 1))  # what it holds back depends on the hills; the store is as it was
         with open_store(path, PROGRAM) as store:
             self.assertEqual([store.export(name) for name in store.tiles()], images)
+
+    def at_import(self, act: str) -> str:
+        """A program that does something else in place of a session's first import, and ends."""
+        return self.script(f"""
+import pathlib, signal, subprocess
+met = pathlib.Path({str(self.folder / "met")!r})
+if sys.argv[1] != "serve" or met.exists():
+    os.execv({PROGRAM!r}, [{PROGRAM!r}, *sys.argv[1:]])
+with subprocess.Popen([{PROGRAM!r}, *sys.argv[1:]], stdin=subprocess.PIPE) as server:
+    while line := sys.stdin.buffer.readline():
+        if line.startswith(b"import"):
+            met.touch()
+            {act}
+            break
+        server.stdin.write(line)
+        server.stdin.flush()
+""")
+
+    def images(self, path: str) -> dict[str, bytes]:
+        with open_store(path, PROGRAM, wait=A_WHILE) as store:
+            return {name: store.export(name) for name in store.tiles()}
+
+    def test_a_program_that_dies_between_two_commands(self) -> None:
+        """The tile that was taken out is put back as it was."""
+        path = self.store(SIDE)
+        before = self.images(path)
+        done = self.command("hydrology", path, "voids", "voids.geojson", "--program", self.at_import("server.kill()"))
+        self.refused(done, "what was acknowledged stands")
+        self.assertEqual(self.images(path), before)
+        self.assertEqual([*self.folder.glob("*voids*")], [])
+
+    def test_a_run_that_is_killed_between_two_commands(self) -> None:
+        """The tile that was taken out lies beside the store, with its voids filled, and is put back from there."""
+        path, other = self.store(SIDE), self.store(SIDE, name="other")
+        words = [path, "voids", "voids.geojson"]
+        killing = self.at_import("os.kill(os.getppid(), signal.SIGKILL)")
+        self.assertEqual(self.command("hydrology", *words, "--program", killing).returncode, -9)
+        self.assertEqual(list(self.images(path)), ["N00E001", "N01E000", "N01E001"])
+        self.refused(self.command("hydrology", *words), f"mosaic-load {path} {path}.voids")
+        self.assertEqual(self.command("load", path, f"{path}.voids").returncode, 0)
+        self.assertIn("1 voids", self.hydrology(other, "voids", "voids.geojson"))
+        self.assertEqual(self.images(path), self.images(other))
+        self.assertEqual([entry.name for entry in self.folder.glob("*.voids")], ["store.voids"])
 
     def test_bad_input(self) -> None:
         path = self.store(SIDE)
@@ -162,6 +207,8 @@ class Commands(InFolder):
             (("streams", "x.geojson", "--threshold", "0"), "1 point and more"),
             (("reservoir", "x.csv", "--dam", "1", "1", "1", "2", "--crest", "9", "--before", "1", "1", "--picture", "x.doc"), "ends in"),
             (("accumulation", "x.png"), ".tif (GeoTIFF) or .asc"),
+            (("accumulation", "x.asc", "--points", "--window", "0", "0", "9999", "9999"), "100,000,000 points, and the most for accumulation is 20,000,000"),
+            (("flooded", "x.geojson", "--points", "--window", "0", "0", "9999", "9999"), "give a smaller --window"),
         ):
             with self.subTest(words):
                 self.refused(self.command("hydrology", path, *words), told)
@@ -185,6 +232,8 @@ class Planning(unittest.TestCase):
                 self.assertAlmostEqual(stage.area, sum(areas[40 - y] for y, _ in wet), delta=1)
                 self.assertAlmostEqual(stage.volume, sum(areas[40 - y] * depth for (y, _), depth in wet.items()), delta=1)
             self.assertEqual((found.spills_at, found.stages[-1].level, found.depths.max()), (160, 160, 18))
+            higher = reservoir(table, network, [Point(5, 30), Point(35, 30)], 160, Point(20, 25))
+            self.assertEqual(higher.stages, found.stages, "it fills from its lowest point, whichever point it is asked at")
             with self.assertRaisesRegex(BadArgument, "no water stands before the dam at 35 29"):
                 reservoir(table, network, [Point(5, 30), Point(35, 30)], 160, Point(35, 29))
 

@@ -6,7 +6,7 @@ import pathlib
 import unittest
 import zipfile
 
-from mosaic_store import Corner, check_store, format_store, open_store, shape_of
+from mosaic_store import Corner, check_store, format_store, open_store
 
 from .support import PROGRAM, InFolder, hills, needs
 
@@ -68,7 +68,7 @@ class Loading(InFolder):
         self.assertIn("100 files in", done.stdout)
         self.assertIn("95 imported, 1 there already, 1 passed by, 3 failed", done.stdout)
         self.assertEqual(self.exports(store), tiles)
-        self.assertEqual(shape_of(store).side, SIDE)
+        self.assertIn(f"made, for at most 192 tiles of {SIDE} x {SIDE} samples", done.stdout)
         troubles = done.stderr.splitlines()
         self.assertEqual(len(troubles), 4)
         for name, cause, cure in (
@@ -100,6 +100,53 @@ class Loading(InFolder):
         with open_store(store, PROGRAM) as session:
             self.assertEqual(session.elevation(6, 1), 5000)  # what was edited stays
 
+    def test_what_was_loaded_is_fresh(self):
+        """Tiles are flooded at the end, from files and from another store; a run that finds nothing to do has no word of it."""
+        files, store = self.folder / "files", str(self.folder / "store")
+        files.mkdir()
+        for name, data in hills(SIDE, 2, 2).items():
+            write(files, name, 5, data)
+        for words, freshness, told in ((["--no-step"], False, ""), ([], True, "4 tiles flooded in "), ([], True, "")):
+            done = self.load(store, str(files), *words)
+            self.assertEqual((done.returncode, done.stderr), (0, ""))
+            self.assertEqual((told in done.stdout, "flooded" in done.stdout), (True, bool(told)))
+            self.assertEqual(set(check_store(store, PROGRAM).tiles.values()), {freshness})
+        for name, words in (("stale", ["--no-step"]), ("fresh", [])):
+            self.assertEqual(self.load(name, "--from", store, *words).returncode, 0)
+            self.assertEqual(set(check_store(str(self.folder / name), PROGRAM).tiles.values()), {name == "fresh"})
+
+    def test_a_program_that_dies_while_it_floods(self):
+        """What was loaded stays, and the next run goes on."""
+        files, store, left = self.folder / "files", str(self.folder / "store"), self.folder / "left"
+        files.mkdir()
+        left.write_text("2")
+        for name, data in hills(SIDE, 2, 2).items():
+            write(files, name, 5, data)
+        dying = f"""
+import subprocess
+if sys.argv[1] != "serve":
+    os.execv({PROGRAM!r}, [{PROGRAM!r}, *sys.argv[1:]])
+with subprocess.Popen([{PROGRAM!r}, *sys.argv[1:]], stdin=subprocess.PIPE) as server:
+    while line := sys.stdin.buffer.readline():
+        steps = int(open({str(left)!r}).read())
+        if line == b"step\\n" and steps == 0:
+            server.kill()
+            break
+        if line == b"step\\n":
+            open({str(left)!r}, "w").write(str(steps - 1))
+        server.stdin.write(line)
+        if line.startswith(b"import"):
+            server.stdin.write(sys.stdin.buffer.read(int(line.split()[2])))
+        server.stdin.flush()
+"""
+        done = self.load(store, str(files), "--program", self.script(dying))
+        self.assertEqual(done.returncode, 1, done)
+        self.assertEqual(len(done.stderr.splitlines()), 1, done.stderr)
+        self.assertIn("2 tiles flooded in ", done.stdout)
+        self.assertEqual(sorted(check_store(store, PROGRAM).tiles.values()), [False, False, True, True])
+        self.assertIn("2 tiles flooded in ", self.load(store, str(files)).stdout)
+        self.assertEqual(set(check_store(store, PROGRAM).tiles.values()), {True})
+
     def test_files_of_one_tile(self):
         """The file with the tile's own name goes in, whatever its copies are called, and each run tells those that differ."""
         files, store = self.folder / "files", str(self.folder / "store")
@@ -115,10 +162,10 @@ class Loading(InFolder):
         for counts in ("2 imported, 1 failed", "2 there already, 1 failed"):
             done = self.load(store, str(files))
             self.assertEqual((done.returncode, counts in done.stdout), (1, True), done.stdout)
+            self.assertEqual("for at most 4 tiles" in done.stdout, "imported" in counts)
             self.assertIn("N30W109 (1).hgt: failed: the same tile as", done.stderr)
             self.assertEqual("void throughout" in done.stderr, "imported" in counts)
         self.assertEqual(self.exports(store)["N30W109"], one)
-        self.assertEqual(shape_of(store).capacity, 4)
 
     def test_troubles_of_their_own(self):
         files, store = self.folder / "files", str(self.folder / "store")
@@ -173,7 +220,7 @@ class Loading(InFolder):
         done = self.load(new, "--from", old, "--capacity", "7")
         self.assertEqual((done.returncode, done.stderr), (0, ""))
         self.assertIn("6 tiles and sinks", done.stdout)
-        self.assertEqual(shape_of(new).capacity, 7)
+        self.assertIn("made, for at most 7 tiles", done.stdout)
         for path in (old, new):
             with open_store(path, PROGRAM) as session:
                 self.assertEqual(self.image(session), wanted)

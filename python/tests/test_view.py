@@ -4,10 +4,8 @@ from __future__ import annotations
 
 import contextlib
 import http.client
-import importlib.util
 import json
 import os
-import shutil
 import signal
 import threading
 import unittest
@@ -21,8 +19,8 @@ from mosaic_store.session import memory_table
 from mosaic_store.stores import find_program
 from mosaic_store.view import lines
 
-from .browser import Browser
-from .support import A_WHILE
+from .browser import Browser, needs_browser
+from .support import A_WHILE, needs
 
 try:
     import numpy as np
@@ -293,7 +291,7 @@ class Served(unittest.TestCase):
         self.assertEqual(last["geometry"]["coordinates"][-1], [2.0, 0.5])
         self.assertEqual(last["properties"]["points"], self.session.watershed(20, 80).cells)
 
-    @unittest.skipIf(importlib.util.find_spec("rasterio") is None, "rasterio isn't installed")
+    @needs("rasterio")
     def test_a_window_is_saved_as_a_raster(self) -> None:
         import rasterio.io
 
@@ -303,14 +301,16 @@ class Served(unittest.TestCase):
             levels = file.read(1)
         self.assertEqual((levels.shape, levels[9, 15]), ((20, 30), self.session.fill(20, 45)))
 
-    @unittest.skipUnless(shutil.which("chromium"), "chromium isn't installed: apt-get install chromium")
+    @needs_browser
     def test_a_browser_draws_the_map_and_a_trial(self) -> None:
         with Browser(self.server.url + LINK) as browser:
             for shown in ("valley: 2 tiles of 41", "215 m", "Watershed\n16 points", "Level at the line, m\t160\t190"):
                 browser.wait_for_text(shown)
+            browser.press("standing")
+            browser.wait_for("!byId('depths').hidden && byId('finding').hidden")  # all of the water is drawn
         self.assertEqual(self.session.count(), 2)
 
-    @unittest.skipUnless(shutil.which("chromium"), "chromium isn't installed: apt-get install chromium")
+    @needs_browser
     def test_a_browser_gives_up_the_copy(self) -> None:
         """Cancel is pressed between two tiles; nothing is left of the copy, and the line can be tried again."""
         pressed, copy = threading.Event(), self.bench.copy

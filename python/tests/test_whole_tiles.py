@@ -2,9 +2,11 @@
 
 import asyncio
 import pathlib
+import struct
 import unittest
+import unittest.mock
 
-from mosaic_store import Window, aio, errors, find_server, format_store, memory_table, open_store, questions
+from mosaic_store import Numbers, Window, aio, errors, find_server, format_store, memory_table, open_store, questions
 
 from .support import FAKE, THREE, InFolder, hills, needs
 
@@ -44,8 +46,63 @@ class Servers(InFolder):
                 table.import_tile("N00E000", THREE)
                 self.assertEqual(table.ask(questions.Levels("n00e000")), THREE.replace(b"\0\1", b"\0\5"))
                 self.assertEqual(table.ask(questions.FlowDirections("N00E000")), bytes([2, 4, 8, 1, 2, 4, 128, 1, 0]))
+                counts = struct.pack(">9I", 1, 1, 1, 1, 6, 1, 1, 1, 9)
+                self.assertEqual(table.ask(questions.UpstreamCounts("n00E000")), counts)
                 found = table.ask_many([questions.Levels("N00E000"), questions.Levels("N00E001"), questions.Fill(1, 1)])
                 self.assertEqual([found[0], type(found[1]), found[2]], [table.ask(questions.Levels("N00E000")), errors.NoTile, 5])
+
+
+class Sizes(InFolder):
+    def stores(self, side=SIDE):
+        """A store for five tiles by each way, and what it tells of itself; None by lines alone."""
+        for way, program in self.ways().items():
+            path = self.folder / f"{way} {side}"
+            format_store(path, side, 5, program)
+            with open_store(path, program) as store:
+                try:
+                    told = store.info()
+                except errors.BadLine:
+                    told = None
+            with self.subTest(way, side=side):
+                self.assertEqual(told is None, way == "by lines")
+                yield path, program, told
+
+    def test_what_is_told(self):
+        for path, program, told in self.stores():
+            with open_store(path, program) as store:
+                for name in ("N00E000", "N00E001", "N01E000"):
+                    store.import_tile(name, hills(SIDE, 2, 2)[name])
+                store.step()
+                if told is not None:
+                    commits = store.info().commits
+                    self.assertEqual(store.info(), Numbers(SIDE, 5, 2, count=3, commits=commits, fresh=1, stale=2))
+                    self.assertGreaterEqual(commits, 4)
+
+    def test_side_and_capacity(self):
+        """The side is told of any store, also in a trial, and without a command; the capacity by the line alone."""
+        for side in (3, 4, 1201, 3601):
+            for path, program, told in self.stores(side):
+                with open_store(path, program) as store:
+                    with store.trial() as trial:
+                        self.assertEqual((store.side, trial.touched), (side, []))
+                    self.assertEqual((store.count(), store.capacity), (0, told and 5))
+
+    def test_commands(self):
+        """mosaic-info and mosaic-load say what isn't told."""
+        (self.folder / "N00E000.hgt").write_bytes(hills(SIDE, 1, 1)["N00E000"])
+        for path, program, told in self.stores():
+            done = self.command("info", str(path), "--program", program)
+            sizes = f"side {SIDE} samples, {SIDE - 1} points a degree"
+            first = f"version 2, {sizes}, at most 5 tiles" if told else f"{sizes}; version and capacity are told by mosaic-tiles"
+            self.assertTrue(done.stdout.startswith(first), done)
+            words = [str(path), "N00E000.hgt", "--program", program]
+            cause = "its capacity is 5, not 7" if told else "its capacity is told by mosaic-tiles alone"
+            self.refused(self.command("load", *words, "--capacity", "7"), cause)
+            self.refused(self.command("load", *words, "--side", "7"), f"its side is {SIDE}, not 7")
+            done = self.command("load", *words)
+            self.assertIn("the store holds 1 of 5 tiles" if told else "the store holds 1 tile\n", done.stdout)
+            done = self.command("load", f"{path}, copied", "--from", str(path), "--program", program)
+            self.assertIn(f"made, for at most {5 if told else 4} tiles", done.stdout)
 
 
 @needs("numpy")
@@ -67,26 +124,45 @@ class Answers(InFolder):
         names = sorted(set(hills(SIDE, 2, 2)) - {"N01E001"})
         told = {}
         for way, table in self.tables(names):
-            found = [(table.levels(name), table.directions(name)) for name in names]
+            asks = table.levels, table.directions, table.upstream
+            found = [ask(name) for name in names for ask in asks]
             with table.trial():
                 table.wall(900, [(5, x) for x in range(3, 9)])
-                found += [(table.levels(name), table.directions(name)) for name in names]
+                found += [ask(name) for name in names for ask in asks]
             table.burn(60, [(10, 10)])
-            found += [(table.levels(name), table.directions(name)) for name in names]
+            found += [ask(name) for name in names for ask in asks]
             told[way] = found
-            self.assertEqual({(levels.dtype, codes.dtype) for levels, codes in found}, {(numpy.dtype("int16"), numpy.dtype("uint8"))})
+            kinds = [(array.dtype.name, array.shape) for array in found]
+            self.assertEqual(kinds, [(kind, (SIDE, SIDE)) for kind in ("int16", "uint8", "uint32")] * 3 * len(names))
             for name, refusal in (("N01E001", errors.NoTile), ("x", errors.BadName)):
-                for ask in (table.levels, table.directions):
+                for ask in asks:
                     with self.assertRaises(refusal):
                         ask(name)
         for way, found in told.items():
-            for one, other in zip(told["by lines"], found):
-                self.assertTrue(numpy.array_equal(one[0], other[0]) and numpy.array_equal(one[1], other[1]), way)
-        void = told["by lines"][0][0] == -32768
-        self.assertTrue(void.any() and ((told["by lines"][0][1] == 255) == void).all())
+            self.assertTrue(all(map(numpy.array_equal, told["by lines"], found)), way)
+        levels, codes, counts = told["by lines"][:3]
+        void = levels == -32768
+        self.assertTrue(void.any() and ((codes == 255) == void).all() and ((counts == 0) == void).all())
+
+    def test_upstream_counts_are_those_of_watersheds(self):
+        """Of each sample of each tile, also where water comes from other tiles."""
+        from mosaic_store import corner_of
+
+        names = sorted(hills(SIDE, 2, 2))
+        for way, table in self.tables(names):
+            from_others = 0
+            for name in names:
+                window = corner_of(name).window(SIDE)
+                points = [(y, x) for y in range(window.y1, window.y0 - 1, -1) for x in range(window.x0, window.x1 + 1)]
+                sheds = table.ask_many(questions.WatershedOf(*point) for point in points)
+                wanted = [0 if isinstance(shed, errors.Void) else shed.cells for shed in sheds]
+                self.assertEqual(table.upstream(name).ravel().tolist(), wanted, (way, name))
+                grounds = [shed for shed in sheds if not isinstance(shed, errors.Void)]
+                from_others += sum(not set(shed.points()).issubset(points) for shed in grounds)
+            self.assertGreater(from_others, 0)
 
     def test_windows(self):
-        """Levels, directions and accumulation of windows on some tiles, beside some and off all."""
+        """Levels, directions, accumulation and areas of windows on some tiles, beside some and off all; one is a tile's own."""
         import numpy
 
         from mosaic_store.directions import levels_and_directions
@@ -98,23 +174,38 @@ class Answers(InFolder):
             told = {}
             for way, table in self.tables(sorted(every - missing)):
                 found, whole = [], []
-                for window in (Window(0, 0, 20, 20), Window(-3, 2, 14, 25), Window(4, 4, 7, 8), Window(9, 9, 10, 10), Window(40, 40, 50, 50)):
+                for window in (Window(0, 0, 20, 20), Window(0, 0, 10, 10), Window(-3, 2, 14, 25), Window(4, 4, 7, 8), Window(9, 9, 9, 10), Window(40, 40, 50, 50)):
                     heights = heights_of(table, window)
                     whole.append(asks_whole_tiles(table, heights))
-                    found += [*levels_and_directions(table, heights), network_of(table, window).counts]
+                    network = network_of(table, window)
+                    found += [*levels_and_directions(table, heights), network.counts, network.drained_area]
                 told[way] = found
                 self.assertEqual(set(whole), {False} if way == "by lines" else {True, False})
             for way, found in told.items():
                 same = [one.dtype == other.dtype and numpy.array_equal(one, other) for one, other in zip(told["by lines"], found)]
                 self.assertTrue(all(same), (way, same))
 
+    def test_no_tile_is_asked_for_points_that_another_tells(self):
+        """Of a tile's own window that tile alone, of one across a seam both, and none of the edges beside it."""
+        from mosaic_store.rasters import heights_of, levels_of
+
+        for way, table in self.tables(sorted(hills(SIDE, 2, 2))):
+            if way == "by lines":
+                continue
+            for window, names in ((Window(0, 0, 10, 10), ["N00E000"]), (Window(10, 2, 20, 17), ["N01E000", "N01E001"])):
+                asked, levels = [], table.levels
+                with unittest.mock.patch.object(table, "levels", lambda name: (asked.append(name), levels(name))[1]):
+                    levels_of(table, heights_of(table, window))
+                self.assertEqual((way, sorted(asked)), (way, names))
+
     def test_asyncio(self):
         async def told(program):
             async with aio.memory_table(3, 1, program) as table:
                 await table.import_tile("N00E000", THREE)
-                return (await table.levels("N00E000")).tolist(), (await table.directions("N00E000")).tolist()
+                return [(await ask("N00E000")).tolist() for ask in (table.levels, table.directions, table.upstream)]
 
-        wanted = [[9, 9, 9], [9, 5, 9], [9, 9, 5]], [[2, 4, 8], [1, 2, 4], [128, 1, 0]]
+        levels, codes, counts = [[9, 9, 9], [9, 5, 9], [9, 9, 5]], [[2, 4, 8], [1, 2, 4], [128, 1, 0]], [[1, 1, 1], [1, 6, 1], [1, 1, 9]]
+        wanted = [levels, codes, counts]
         for way, program in self.ways().items():
             with self.subTest(way):
                 self.assertEqual(asyncio.run(told(program)), wanted)

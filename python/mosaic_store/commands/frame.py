@@ -26,6 +26,9 @@ EPILOG = "The program itself, which takes no --help: man mosaic."
 
 DONE, FAILED, BAD_ARGUMENTS, INTERRUPTED = 0, 1, 2, 130
 
+MOST_POINTS = 50_000_000
+"""The most points of a window whose water is asked for."""
+
 _SECONDS_BETWEEN_LINES = 10.0
 
 
@@ -188,6 +191,13 @@ def window_given(numbers: Sequence[float] | None, session: Session, as_points: b
     return window
 
 
+def check_size(window: Window, what: str, most: int = MOST_POINTS) -> None:
+    """A CommandError where a window has too many points for the memory that they take."""
+    points = window.width * window.height
+    if points > most:
+        raise CommandError(f"the window has {points:,} points, and the most for {what} is {most:,}: give a smaller --window")
+
+
 def tile_windows(session: Session) -> list[Window]:
     """The points of each tile of a store."""
     corners = filter(None, map(corner_of, session.tiles()))
@@ -247,7 +257,7 @@ def written_whole(path: str) -> Iterator[str]:
 class Progress:
     """Tells on standard error how far a command is: in place on a terminal, now and then elsewhere."""
 
-    def __init__(self, name: str, total: int, what: str) -> None:
+    def __init__(self, name: str, total: int | str, what: str) -> None:
         self._name, self._total, self._what = name, total, what
         self._on_terminal = sys.stderr.isatty()
         self._told = time.monotonic()

@@ -21,7 +21,7 @@ DESCRIPTION = """Writes watersheds, flow paths or the outlines of a store's tile
   mosaic-geojson STORE tiles > tiles.geojson
 
 A point is the middle of a cell. A watershed's polygons run around its cells, so that their area in cells is its number
-of points, which is the property `cells`."""
+of points, which is the property `cells`; `km2` is the area with cells as wide as their latitude makes them."""
 
 
 def main(arguments: Sequence[str] | None = None) -> int:

@@ -3,10 +3,12 @@
 from __future__ import annotations
 
 import argparse
+import contextlib
 import csv
 import functools
 import io
 import json
+import os
 import pathlib
 import sys
 from collections.abc import Callable, Iterator, Sequence
@@ -24,6 +26,7 @@ from .frame import (
     add_places,
     add_window,
     check_picture,
+    check_size,
     opened,
     parser,
     point_given,
@@ -58,13 +61,16 @@ DESCRIPTION = """What drains where in a window of a store. It needs numpy.
                                                        all of them, or none where one is refused
   mosaic-hydrology STORE voids filled.geojson --most 10000
                                                        gives voids heights from their rim, in the store, and tells which;
-                                                       those that reach the window's edge are left. A command for nearly
-                                                       each void: where there are thousands take
-                                                       mosaic-load NEW --from STORE --fill-voids 10000
+                                                       those that reach the window's edge are left. A tile that has some
+                                                       is taken out and imported again; STORE.voids has it meanwhile
 
-Numbers are degrees north and east; with --points they are points y x of the lattice."""
+Numbers are degrees north and east; with --points they are points y x of the lattice. A window has at most 20 million points, that of
+a flood 50 million."""
 
 NO_ACCUMULATION = 0
+
+MOST_OF_A_NETWORK = 20_000_000
+"""The most points of a window whose network is found: each takes some 60 bytes."""
 
 
 def main(arguments: Sequence[str] | None = None) -> int:
@@ -106,6 +112,7 @@ def _network(session: Session, options: argparse.Namespace) -> Network:
     from ..network import network_of
 
     window = window_given(options.window, session, options.points)
+    check_size(window, options.what, MOST_OF_A_NETWORK)
     progress = Progress(NAME, 0, "questions")
     try:
         return network_of(session, window, progress.tell_of)
@@ -119,7 +126,7 @@ def _accumulation(session: Session, options: argparse.Namespace) -> str:
     network = _network(session, options)
     counts = network.counts
     with written_whole(options.file) as path:
-        write_grid(path, counts.astype(numpy.int32), network.window, session.side, NO_ACCUMULATION, "points that drain through")
+        write_grid(path, counts.astype(numpy.uint32), network.window, session.side, NO_ACCUMULATION, "points that drain through")
     return f"at most {int(counts.max())} points drain through one"
 
 
@@ -208,6 +215,7 @@ def _flooded(session: Session, options: argparse.Namespace) -> str:
     from ..rasters import depths_of, heights_of, levels_of
 
     window = window_given(options.window, session, options.points)
+    check_size(window, options.what)
     heights = heights_of(session, window)
     progress = Progress(NAME, 0, "questions")
     depths = depths_of(heights, levels_of(session, heights, progress.tell_of))
@@ -318,17 +326,50 @@ def _voids(session: Session, options: argparse.Namespace) -> str:
     from ..hydrology import filled_voids
 
     window = window_given(options.window, session, options.points)
-    progress = Progress(NAME, 0, "runs of voids filled")
-    with written_whole(options.file) as path:
-        with session.trial() as trial:
-            try:
-                runs = filled_voids(session, window, options.most, progress.tell_of)
-            finally:
-                progress.clear()
-            count = sum(run.last - run.first + 1 for run in runs)
-            _dump_json(path, [points_feature(runs, session.side, {"what": "filled voids", "cells": count})])
-            trial.keep()
+    with written_whole(options.file) as path, _tiles_beside(options.store, session) as save, session.trial() as trial:
+        runs = filled_voids(session, window, options.most, save)
+        count = sum(run.last - run.first + 1 for run in runs)
+        _dump_json(path, [points_feature(runs, session.side, {"what": "filled voids", "cells": count})])
+        trial.keep()
     return f"{count} voids were given heights from their rim"
+
+
+@contextlib.contextmanager
+def _tiles_beside(store: str, session: Session) -> Iterator[Callable[[str, bytes], None]]:
+    """What saves tiles in a folder beside a store, for as long as they may be missing in it."""
+    folder = pathlib.Path(f"{store}.voids")
+    try:
+        folder.mkdir()
+    except FileExistsError:
+        raise CommandError(f"{folder}: tiles of a run that was ended midway: mosaic-load {store} {folder}, then remove it") from None
+
+    def save(name: str, data: bytes) -> None:
+        try:
+            with (folder / f"{name}.hgt").open("xb") as file:
+                file.write(data)
+                file.flush()
+                os.fsync(file.fileno())
+            for place in (folder, folder.parent):
+                _sync(place)
+        except OSError as fault:
+            raise CommandError(f"{folder}: not written: {fault.strerror or fault}") from None
+
+    try:
+        yield save
+    finally:
+        for name in session.tiles():
+            (folder / f"{name}.hgt").unlink(missing_ok=True)
+        with contextlib.suppress(OSError):
+            folder.rmdir()
+
+
+def _sync(folder: pathlib.Path) -> None:
+    """Has the names in a folder reach the drive."""
+    made = os.open(folder, os.O_RDONLY)
+    try:
+        os.fsync(made)
+    finally:
+        os.close(made)
 
 
 def _write_json(name: str, features: Sequence[Feature]) -> None:

@@ -7,15 +7,18 @@ import functools
 import sys
 from collections.abc import Sequence
 
-from ..errors import StoreBusy
+from ..errors import BadLine, StoreBusy
 from ..lattice import corner_of
-from ..stores import check_store, shape_of
+from ..questions import Numbers
+from ..session import Session, open_store
+from ..stores import Report, check_store
 from .frame import DONE, CommandError, parser, run
 
 NAME = "mosaic-info"
-DESCRIPTION = """Tells a store's version, side, capacity, count of accepted commands, tiles (fresh and stale) and bounds. The store is read
-whole. Where another program serves it the first line is told, and the rest by that one's session: Session.report of the
-package, or GET /info of python/examples/service.py.
+DESCRIPTION = """Tells a store's version, side, capacity, count of accepted commands, tiles (fresh and stale) and bounds. mosaic-tiles tells
+it; where that isn't beside the program version and capacity are left out, and the store is read whole. `mosaic check` tells which
+tiles are stale. Where another program serves the store, that one's session tells all this: Session.info of the package, or GET
+/info of python/examples/service.py.
 
   mosaic-info STORE"""
 
@@ -32,23 +35,36 @@ def _parsed(arguments: Sequence[str] | None) -> argparse.Namespace:
 
 
 def _tell(options: argparse.Namespace) -> int:
-    shape = shape_of(options.store)
-    if shape is not None:
-        print(f"version {shape.version}, side {shape.side} samples, {shape.side - 1} points a degree, at most {shape.capacity} tiles")
     try:
-        report = check_store(options.store, options.program)
+        with open_store(options.store, options.program) as session:
+            side, names, told = session.side, session.tiles(), _numbers(session)
+        found: Numbers | Report = told or check_store(options.store, options.program)
     except StoreBusy:
-        raise CommandError(f"{options.store}: another program serves it: its Session.report, or GET /info, tells the rest") from None
-    fresh = sum(report.tiles.values())
-    print(f"tiles {len(report.tiles)}: {fresh} fresh, {len(report.tiles) - fresh} stale")
-    print(f"count {report.count}, commits {report.commits}, points that two tiles hold with different samples {report.seams}")
-    corners = [corner for corner in map(corner_of, report.tiles) if corner is not None]
+        raise CommandError(f"{options.store}: another program serves it: its Session.info, or GET /info, tells what it is") from None
+    shape = f"side {side} samples, {side - 1} points a degree"
+    if isinstance(found, Numbers):
+        fresh = found.fresh
+        print(f"version {found.version}, {shape}, at most {found.capacity} tiles")
+    else:
+        fresh = sum(found.tiles.values())
+        print(f"{shape}; version and capacity are told by mosaic-tiles, and that isn't beside the program")
+    print(f"tiles {len(names)}: {fresh} fresh, {len(names) - fresh} stale")
+    print(f"count {found.count}, commits {found.commits}")
+    corners = [corner for corner in map(corner_of, names) if corner is not None]
     if corners:
         south, west = min(corner.latitude for corner in corners), min(corner.longitude for corner in corners)
         north, east = max(corner.latitude for corner in corners) + 1, max(corner.longitude for corner in corners) + 1
         print(f"bounds {south} {west} to {north} {east} degrees, north and east positive")
-        print("names " + " ".join(report.tiles))
+        print("names " + " ".join(names))
     return DONE
+
+
+def _numbers(session: Session) -> Numbers | None:
+    """What the store's session tells of it; None of `mosaic` alone."""
+    try:
+        return session.info()
+    except BadLine:
+        return None
 
 
 if __name__ == "__main__":

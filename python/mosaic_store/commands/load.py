@@ -12,10 +12,10 @@ import time
 from collections.abc import Callable, Iterable, Sequence
 
 from ..lattice import MOST_TILES, corner_of
-from ..loading import Change, Found, Kind, Outcome, copy, find, load, unchanged
+from ..loading import Change, Found, Kind, Outcome, Shape, copy, find, load, room_for, unchanged
 from ..session import Session, open_store
 from ..splitting import FILE, is_split, read_split
-from ..stores import Shape, format_store, shape_of
+from ..stores import format_store
 from .frame import DONE, FAILED, CommandError, Progress, parser, run
 
 NAME = "mosaic-load"
@@ -29,8 +29,9 @@ DESCRIPTION = """Imports HGT files and archives of them (.hgt, .zip, .hgt.gz, na
                                       those that reach the tile's edge are left. With FOLDER.., too. It needs numpy
   mosaic-load STORES FOLDER..         more than 240 tiles: makes a folder of stores as mosaic-split says, or fills its stores
 
-Run it again to go on after an interruption: tiles that are there are passed by. Each failure is told with its cause and
-cure, and the status is 1 then."""
+At its end it floods each tile that a command made stale, and keeps the levels, so that no question has to: --no-step leaves
+that out. Run it again to go on after an interruption: tiles that are there are passed by. Each failure is told with its cause
+and cure, and the status is 1 then."""
 
 
 def main(arguments: Sequence[str] | None = None) -> int:
@@ -44,8 +45,9 @@ def _parsed(arguments: Sequence[str] | None) -> argparse.Namespace:
     made.add_argument("paths", nargs="*", metavar="FOLDER", help="folders and files")
     made.add_argument("--from", dest="origin", metavar="STORE", help="takes tiles and sinks from another store")
     made.add_argument("--side", type=int, help="of a store that is made: what most files have, without it")
-    made.add_argument("--capacity", type=int, help="of a store that is made; without it twice as many as there are tiles, or what the other store has")
+    made.add_argument("--capacity", type=int, help="of a store that is made; without it what the other store has, or twice as many as there are tiles")
     made.add_argument("--fill-voids", type=int, metavar="POINTS", help="gives parts of so many voids at most heights from their rim")
+    made.add_argument("--no-step", action="store_true", help="leaves stale tiles to `step`: until then the first question that comes to one floods it")
     options = made.options_of(arguments)
     if bool(options.paths) == bool(options.origin):
         made.error("folders and files are needed, or --from a store")
@@ -65,9 +67,9 @@ def _from_files(options: argparse.Namespace) -> int:
     if len(found.corners) > MOST_TILES and options.capacity is None and not os.path.lexists(options.store):
         _plan(options, found)
         return _into_stores(options, found)
-    _make_where_none(options, found.shape)
-    with open_store(options.store, options.program) as session:
-        return _summed_up(load(session, found, _change(options)), len(found.sources) + len(found.troubles), _files(found), session)
+    with _opened(options, found.shape) as session:
+        outcomes = load(session, found, _change(options))
+        return _done(outcomes, len(found.sources) + len(found.troubles), _files(found), session, options)
 
 
 def _change(options: argparse.Namespace) -> Change:
@@ -105,7 +107,7 @@ def _into_stores(options: argparse.Namespace, found: Found) -> int:
             outcomes = itertools.chain.from_iterable(load(session, part, _change(options)) for part in parts)
             total = sum(len(part.sources) + len(part.troubles) for part in parts)
             files = sum(part.files for part in parts)
-            statuses.append(_summed_up(outcomes, total, f"{path}: {files} file{'' if files == 1 else 's'}", session))
+            statuses.append(_done(outcomes, total, f"{path}: {files} file{'' if files == 1 else 's'}", session, options))
 
     for name, tiles in split.stores.items():
         add(name, tiles)
@@ -125,28 +127,54 @@ def _from_store(options: argparse.Namespace) -> int:
             raise CommandError(f"{options.origin} holds {len(other.tiles())} tiles: give no smaller --capacity")
         if options.side not in (None, other.side):
             raise CommandError(f"{options.origin} has the side {other.side}, and tiles keep theirs: leave --side out")
-        _make_where_none(options, lambda _, capacity: Shape(other.side, other.capacity if capacity is None else capacity))
-        with open_store(options.store, options.program) as session:
+        room = other.capacity or room_for(len(other.tiles()))
+        with _opened(options, lambda _, capacity: Shape(other.side, room if capacity is None else capacity)) as session:
             total = len(other.tiles()) + len(other.sinks())
-            return _summed_up(copy(session, other, _change(options)), total, f"{total} tiles and sinks", session)
+            return _done(copy(session, other, _change(options)), total, f"{total} tiles and sinks", session, options)
 
 
-def _make_where_none(options: argparse.Namespace, shape_for: Callable[[int | None, int | None], Shape]) -> None:
-    """Makes the store where there is none; checks what is asked of one that is there."""
+def _opened(options: argparse.Namespace, shape_for: Callable[[int | None, int | None], Shape]) -> Session:
+    """The store, made where there is none; of one that is there side and capacity are those that are asked for, if any are."""
     if not os.path.lexists(options.store):
         shape = shape_for(options.side, options.capacity)
         format_store(options.store, shape.side, shape.capacity, options.program)
         print(f"{options.store}: made, for at most {shape.capacity} tiles of {shape.side} x {shape.side} samples")
-        return
-    there = shape_of(options.store)
-    for what in ("side", "capacity") if there is not None else ():
-        asked, has = getattr(options, what), getattr(there, what)
-        if asked not in (None, has):
-            raise CommandError(f"{options.store}: its {what} is {has}, not {asked}: leave --{what} out, or name a new store")
+        return open_store(options.store, options.program)
+    session = open_store(options.store, options.program)
+    for what in ("side", "capacity"):
+        asked = getattr(options, what)
+        if asked is not None and asked != (has := getattr(session, what)):
+            session.close()
+            told = "told by mosaic-tiles alone" if has is None else f"{has}, not {asked}"
+            raise CommandError(f"{options.store}: its {what} is {told}: leave --{what} out, or name a new store")
+    return session
 
 
 def _files(found: Found) -> str:
     return f"{found.files} file" + ("" if found.files == 1 else "s")
+
+
+def _done(outcomes: Iterable[Outcome], total: int, what: str, session: Session, options: argparse.Namespace) -> int:
+    """Takes all in, and floods what is stale then; the status."""
+    status = _summed_up(outcomes, total, what, session)
+    if not options.no_step:
+        _flood(session)
+    return status
+
+
+def _flood(session: Session) -> None:
+    """Floods each stale tile and keeps its levels."""
+    start = time.monotonic()
+    progress = Progress(NAME, f"at most {len(session.tiles())}", "tiles flooded")
+    flooded = 0
+    try:
+        while session.step() is not None:
+            flooded += 1
+            progress.tell(flooded)
+    finally:
+        progress.clear()
+        if flooded:
+            print(f"{flooded} tile{'' if flooded == 1 else 's'} flooded in {time.monotonic() - start:.1f} s, and their levels kept", flush=True)
 
 
 def _summed_up(outcomes: Iterable[Outcome], total: int, what: str, session: Session) -> int:
@@ -168,7 +196,9 @@ def _summed_up(outcomes: Iterable[Outcome], total: int, what: str, session: Sess
         counts = ", ".join(f"{tally[kind]} {kind.value}" for kind in Kind if tally[kind]) or "nothing done"
         voids = f"; {filled} voids filled" if filled else ""
         print(f"{what} in {time.monotonic() - start:.1f} s: {counts}{voids}", flush=True)
-    print(f"the store holds {len(session.tiles())} of {session.capacity} tiles")
+    count, capacity = len(session.tiles()), session.capacity
+    of = f" of {capacity}" if capacity is not None else ""
+    print(f"the store holds {count}{of} tile{'' if (count if capacity is None else capacity) == 1 else 's'}")
     return FAILED if tally[Kind.FAILED] else DONE
 
 

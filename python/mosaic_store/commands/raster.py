@@ -10,16 +10,16 @@ from typing import TYPE_CHECKING, Any
 
 from ..directions import directions_of
 from ..grids import check_format, write_grid
-from ..lattice import VOID, Window
+from ..lattice import VOID
 from ..rasters import NO_DIRECTION, Heights, Told, depths_of, heights_of, levels_of
 from ..samples import needed_numpy
 from ..session import Session
 from .frame import (
     DONE,
-    CommandError,
     Progress,
     add_places,
     add_window,
+    check_size,
     opened,
     parser,
     run,
@@ -34,7 +34,6 @@ if TYPE_CHECKING:
     Array = numpy.ndarray[Any, Any]
 
 NAME = "mosaic-raster"
-MOST_POINTS = 50_000_000
 DESCRIPTION = """Writes a window of a store as a raster: .tif for GeoTIFF, which needs rasterio, .asc for ESRI ASCII.
 
   heights     metres, by the seam rule
@@ -42,8 +41,8 @@ DESCRIPTION = """Writes a window of a store as a raster: .tif for GeoTIFF, which
   water       depth of standing water in metres: the filled level less the height
   directions  where water goes: 1 E, 2 SE, 4 S, 8 SW, 16 W, 32 NW, 64 N, 128 NE, 0 off the mosaic
 
-Levels and water take a question for each pit of the window, directions one for each of its points (some 0.1 ms), in
-windows of at most 50 million points."""
+All but heights are asked in windows of at most 50 million points: of whole tiles at once where mosaic-tiles lies beside the
+program, else by a question for each pit of the window, and for each point of a flat that reaches beyond it."""
 
 
 def main(arguments: Sequence[str] | None = None) -> int:
@@ -67,19 +66,14 @@ def _write(options: argparse.Namespace) -> int:
     progress = Progress(NAME, 0, "questions")
     with opened(options.store, options.program) as session, written_whole(options.output) as path:
         window = window_given(options.window, session, options.points)
-        _check_size(options.what, window)
+        if options.what != "heights":
+            check_size(window, options.what)
         heights = heights_of(session, window)
         array, no_data = LAYERS[options.what](session, heights, progress.tell_of)
         write_grid(path, array, window, session.side, no_data, options.what)
         progress.clear()
         print(f"{options.output}: {window.width} x {window.height} points, {shown_window(window, session.side)}")
     return DONE
-
-
-def _check_size(what: str, window: Window) -> None:
-    points = window.width * window.height
-    if what != "heights" and points > MOST_POINTS:
-        raise CommandError(f"the window has {points:,} points, and {what} take {MOST_POINTS:,}: give a smaller --window")
 
 
 def _heights(session: Session, heights: Heights, told: Told) -> tuple[Array, int]:

@@ -42,7 +42,7 @@ def _serve(options: argparse.Namespace) -> int:
     with open_store(options.store, options.program, wait=1, restart=True) as session:
         name = pathlib.Path(options.store).name
         try:
-            workbench = Workbench(name, session, lambda: memory_table(session.side, session.capacity, options.program))
+            workbench = Workbench(name, session, lambda: memory_table(session.side, len(session.tiles()), options.program))
         except BadRequest as bad:
             raise CommandError(str(bad)) from None
         try:

@@ -67,6 +67,7 @@ const pointAt = (across, down) => ({
   x: Math.floor(left() + across * eastPerPixel()),
 });
 const middle = () => pointAt(canvas.clientWidth / 2, canvas.clientHeight / 2);
+const pointsOf = (count) => `${count.toLocaleString("en")} point${count === 1 ? "" : "s"}`;
 const degrees = (value, positive, negative) => `${Math.abs(value).toFixed(5)}° ${value < 0 ? negative : positive}`;
 
 // ---- Pictures
@@ -83,13 +84,14 @@ function picture(layer, zoom, row, column) {
     if (pictures.size > 600) pictures.delete(pictures.keys().next().value);
     image = new Image();
     image.onload = draw;
+    image.onerror = () => say("A picture of the map wasn't answered: load the page anew", true);
     image.src = path;
     pictures.set(path, image);
   }
   return image.complete && image.naturalWidth > 0 ? image : null;
 }
 
-// Draws the pictures of a layer; none of it within a box of points where one is left out.
+// Draws the pictures of a layer; none of it within a box of points where one is left out. Answers whether all are there.
 function drawLayer(layer, zoom, leftOut = null) {
   pen.save();
   if (leftOut) {
@@ -98,6 +100,7 @@ function drawLayer(layer, zoom, leftOut = null) {
     pen.rect(...pixelsOf(leftOut));
     pen.clip("evenodd");
   }
+  let isWhole = true;
   const span = PIXELS * 2 ** zoom;
   const [south, west, north, east] = region.bounds;
   const lowRow = Math.floor(Math.max(south, top_() - canvas.clientHeight * view.pointsPerPixel) / span);
@@ -108,9 +111,11 @@ function drawLayer(layer, zoom, leftOut = null) {
     for (let column = lowColumn; column <= highColumn; column++) {
       const image = picture(layer, zoom, row, column);
       if (image) drawBox(image, { top: row * span + span - 2 ** zoom, left: column * span, size: span });
+      isWhole &&= image !== null;
     }
   }
   pen.restore();
+  return isWhole;
 }
 
 // A box of points, of which the north-west point is told, in whole pixels, so that boxes side by side leave no gap.
@@ -132,7 +137,7 @@ function draw() {
   if (!region) return;
   drawLayer("relief", zoomOfView());
   const hasWater = byId("standing").checked && view.pointsPerPixel <= 1;
-  if (hasWater) drawLayer("standing", 0, trial && trial.box);
+  byId("finding").hidden = !hasWater || drawLayer("standing", 0, trial && trial.box);
   byId("depths").hidden = !hasWater && !trial;
   if (watershed) drawBox(watershed.image, watershed.box);
   if (streams) drawStreams();
@@ -200,7 +205,7 @@ async function ask(point) {
   asked = await request("ask", point);
   watershed = null;
   showPoint();
-  return asked.height === null ? "A void: no height is known" : `Height ${asked.height} m, water at ${asked.level} m, a path of ${asked.steps} points`;
+  return asked.height === null ? "A void: no height is known" : `Height ${asked.height} m, water at ${asked.level} m, a path of ${pointsOf(asked.steps)}`;
 }
 
 // Shows a place that was typed: two numbers, or numbers with N, S, E or W behind them.
@@ -226,7 +231,7 @@ function showPoint() {
   ];
   if (asked.height !== null) {
     rows.push(["Filled level", `${asked.level} m`], ["Standing water", `${asked.level - asked.height} m`]);
-    rows.push(["Flows", flowsTo(asked.direction)], ["Flow path", `${asked.steps} points`]);
+    rows.push(["Flows", flowsTo(asked.direction)], ["Flow path", pointsOf(asked.steps)]);
   }
   if (watershed) rows.push(["Watershed", `${watershed.cells.toLocaleString("en")} points, ${squareKilometres(watershed.cells, asked.y)} km²`]);
   byId("point").replaceChildren(...rows.flatMap(([name, value]) => [term("dt", name), term("dd", value)]));
@@ -433,7 +438,7 @@ async function change(path) {
   showEdits();
   showCopy();
   const told = { keep: "Kept in the store", discard: "Taken back: the store is as it was", undo: "The last edit was undone" };
-  return `${told[path]}; it counts ${count} commands`;
+  return `${told[path]}; the store counts ${count} commands`;
 }
 
 function showEdits() {
