@@ -1,30 +1,28 @@
 -- What is known of a call of the mosaic in memory, which never fails.
-use Rattle.std.proofs.Common.{◌≡◌, ℕ, ℤ, ◌<◌, ◌+◌, false, true≢false, IsTrue, List, [], ◌∷◌, ◌++◌, refl, sym, ap, subst, arith}
-use Rattle.std.specs.Prelude.{Result, Ok, Err, IfErr, IfOk, MatchResult, Some, Contains}
+use Rattle.std.proofs.Common.{◌≡◌, ◌≢◌, ℕ, ◌<◌, ◌+◌, false, true≢false, IsTrue, List, [], ◌∷◌, ◌++◌, refl, sym, ap, subst, arith}
+use Rattle.std.specs.Prelude.{Result, Ok, Err, IfOk, IfErr, MatchResult, Some, Contains}
 use Rattle.std.specs.Global.{Vec}
 use Rattle.lattice.specs.Corners.{Corner}
-use Rattle.lattice.specs.Ground.{terrain}
-use Rattle.lattice.specs.Terrain.{IsFilledLevel}
-use Rattle.lattice.specs.Mosaic.{Mosaic, is_present}
+use Rattle.lattice.specs.Mosaic.{Mosaic}
 use Rattle.lattice.specs.declared.point.Point.{Point}
 use Rattle.lattice.specs.declared.refusal.Refusal.{Refusal}
-use Rattle.lattice.specs.declared.refusal.Refusal.TheVariants.{Outside, Void, NoTile, Device, NoMemory, Failed, Worn}
+use Rattle.lattice.specs.declared.refusal.Refusal.TheVariants.{Outside, Void, NoTile, Device, NoMemory, Failed, Worn, Damaged}
+use Rattle.catalogue.specs.Asked.{IsOwnRefusal}
+use Rattle.catalogue.specs.Endings.{ends_any}
 use Rattle.catalogue.specs.Tiles.{corners_of}
+use Rattle.catalogue.proofs.Presence.{present_iff}
+use Rattle.drainage.proofs.Questions.Answered.{told_or_short}
 use Rattle.edits.specs.declared.command.Command.{Command}
 use Rattle.edits.specs.declared.command.Command.TheVariants.{Import, Remove, Patch, Burn, Wall, Sink, Unsink}
 use Rattle.edits.specs.Effect.{effect}
-use Rattle.flow_d8.specs.FlowPath.{IsFlowPath, IsInWatershed}
-use Rattle.watershed.specs.declared.runs.Run.{Run}
-use Rattle.watershed.specs.Runs.{AreRuns}
-use Rattle.watershed.specs.Questions.{DrainsBy, IsAnswered, IsUnanswered}
+use Rattle.watershed.specs.Questions.{IsUnanswered}
 use Rattle.engine.specs.declared.event.Event.{Event}
 use Rattle.engine.specs.declared.event.Event.TheVariants as ask
 use Rattle.engine.specs.declared.event.Reply.{Reply}
 use Rattle.engine.specs.declared.event.Reply.TheVariants as reply
 use Rattle.engine.specs.Engines.{IsCall, answered, items_in}
 use Rattle.engine.specs.Events.{Happens, fails_after}
-use Rattle.engine.specs.Outcomes.{Stays, AnswersNot, Accepts, Applies, AppliesNot, TellsTile, info_of}
-use Rattle.engine.specs.declared.info.Info.{Info}
+use Rattle.engine.specs.Outcomes.{Stays, AnswersNot, Accepts, Applies, AppliesNot, TellsTile}
 use Rattle.engine.specs.State.{State, last_number, working}
 use Rattle.engine.specs.Steps.{Commits, Steps, stepped}
 use Rattle.engine.specs.Told.{Matches, Knows, WritesFew, may_refuse, may_refuse_question, may_refuse_tile}
@@ -50,7 +48,7 @@ module _ (held : TableState) where
   abbrev here : Mosaic
   here = held.contents.mosaic
 
-  stays : Stays now now
+  pub stays : Stays now now
   stays = record { working = refl; same = refl }
 
   -- a call after which it holds the same
@@ -72,67 +70,46 @@ module _ (held : TableState) where
     happens = λ honest s at. (s, (at, subst (λ (z : State). Happens held.capacity z event answer z) (sym at) happens, tt));
   }
 
+  -- a question whose answer is right, and no failure of a disk's
+  pub told_so : {T : Type 0} {event : Event} {tell : T → Reply} {Answers : State → Result T Refusal → State → Type 0} → IsQuestion held.capacity event tell Answers
+      → (result : Result T Refusal) → IfErr result (λ r. IsTrue (may_refuse event r) × ((r ≢ Failed) × (r ≢ Device))) → Answers now result now → Same event (answered tell result)
+  told_so {T} {event} {tell} {Answers} is (Ok x) own so =
+      same event (tell x) (is.matches x) (is.no_refusal x Failed) (is.no_refusal x Device) (sym (is.goes_on false x)) (few_as event tell Answers is 2 here.side 0 0 refl)
+      (is.knows (table.known held) (table.known held) x refl) (is.right now now x so)
+  told_so {T} {event} {tell} {Answers} is (Err r) (may, (not_failed, not_device)) so =
+      same event (reply.Refused r) may (λ e. not_failed (refusal_of e)) (λ e. not_device (refusal_of e)) (sym ((answers_so event tell Answers is).passes false r not_device))
+      (few_as event tell Answers is 2 here.side 0 0 refl) (knows_refused (table.known held) (table.known held) event r refl) (is.refused now now r so)
+    where
+      refusal_of : {q : Refusal} → reply.Refused r ≡ reply.Refused q → r ≡ q
+      refusal_of e = cc
+
   -- a question about the water at a point
-  module _ (p : Point) (event : Event) (may : (r : Refusal) → IsTrue (may_refuse_question r) → IsTrue (may_refuse event r)) (after : (r : Refusal) → (r ≡ Device → ⊥) → false ≡ fails_after false event (reply.Refused r))
-      (few : WritesFew 2 here.side event 0 0) (knows : (r : Refusal) → Knows (table.known held) event (reply.Refused r) (table.known held))
-      (happens : (r : Refusal) → AnswersNot now p r now → Happens held.capacity now event (reply.Refused r) now) where
-    unanswered : (r : Refusal) → IsUnanswered here p r → Same event (reply.Refused r)
-    unanswered Outside is = same event (reply.Refused Outside) (may Outside refl) (λ e. absurd (cc)) (λ e. absurd (cc)) (after Outside (λ e. absurd (cc))) few (knows Outside) (happens Outside (stays, is))
-    unanswered Void is = same event (reply.Refused Void) (may Void refl) (λ e. absurd (cc)) (λ e. absurd (cc)) (after Void (λ e. absurd (cc))) few (knows Void) (happens Void (stays, is))
-    unanswered NoMemory is = same event (reply.Refused NoMemory) (may NoMemory refl) (λ e. absurd (cc)) (λ e. absurd (cc)) (after NoMemory (λ e. absurd (cc))) few (knows NoMemory) (happens NoMemory stays)
-    unanswered r is = absurd is
+  module _ {T : Type 0} (p : Point) {event : Event} {tell : T → Reply} {Answers : State → Result T Refusal → State → Type 0} (is : IsQuestion held.capacity event tell Answers) (may : (r : Refusal) → IsTrue (may_refuse_question r) → IsTrue (may_refuse event r))
+      (Says : T → Type 0) (right : (x : T) → Says x → Answers now (Ok x) now) (wrong : (r : Refusal) → AnswersNot now p r now → Answers now (Err r) now) where
+    unanswered : (r : Refusal) → IsUnanswered here p r → (IsTrue (may_refuse_question r) × ((r ≢ Failed) × (r ≢ Device))) × AnswersNot now p r now
+    unanswered Outside so = ((refl, ((λ e. cc), (λ e. cc))), (stays, so))
+    unanswered Void so = ((refl, ((λ e. cc), (λ e. cc))), (stays, so))
+    unanswered NoMemory so = ((refl, ((λ e. cc), (λ e. cc))), stays)
+    unanswered r so = absurd so
+
+    pub told_point : (result : Result T Refusal) → MatchResult result Says (IsUnanswered here p) → Same event (answered tell result)
+    told_point (Ok x) so = told_so is (Ok x) tt (right x so)
+    told_point (Err r) so = let (own, says) = unanswered r so in told_so is (Err r) (may r own.0, own.1) (wrong r says)
+
+  -- a question about all samples of a tile
+  module _ {X : Type 0} (c : Corner) (Says : Mosaic → Corner → List X → Type 0) {event : Event} {tell : Vec X → Reply}
+      (is : IsQuestion held.capacity event tell (λ (s : State) (r : Result (Vec X) Refusal) (t : State). TellsTile Says s c (items_in r) t)) (may : (r : Refusal) → IsTrue (may_refuse_tile r) → IsTrue (may_refuse event r)) where
+    pub no_tile_at : ¬ Contains (corners_of here) c → Same event (reply.Refused NoTile)
+    no_tile_at none = told_so is (Err NoTile) (may NoTile refl, ((λ e. cc), (λ e. cc))) (stays, no_samples here c none)
+
+    pub told_tile : Contains (corners_of here) c → (result : Result (Vec X) Refusal) → MatchResult result (λ values. Says here c values.items) (λ r. r ≡ NoMemory) → Same event (answered tell result)
+    told_tile there (Ok values) so = told_so is (Ok values) tt (stays, ((present_iff here c).1 there, so))
+    told_tile there (Err r) memory = subst (λ (why : Refusal). Same event (reply.Refused why)) (sym memory) (told_so is (Err NoMemory) (may NoMemory refl, ((λ e. cc), (λ e. cc))) stays)
 
   not_failing : (event : Event) → (event ≡ ask.Reopen → ⊥) → (r : Refusal) → (r ≡ Device → ⊥) → false ≡ fails_after false event (reply.Refused r)
   not_failing ask.Reopen other r not_device = absurd (other refl)
   not_failing event other Device not_device = absurd (not_device refl)
   not_failing event other r not_device = refl
-
-  pub filled : (p : Point) (result : Result ℤ Refusal) → MatchResult result (IsFilledLevel (terrain here) p) (IsUnanswered here p) → Same (ask.Fill p) (answered reply.Fill result)
-  filled p (Ok level) is = same (ask.Fill p) (reply.Fill level) tt (λ e. absurd (cc)) (λ e. absurd (cc)) refl refl refl (stays, is)
-  filled p (Err r) is = unanswered p (ask.Fill p) (λ r may. may) (not_failing (ask.Fill p) (λ e. absurd (cc))) refl (λ r. refl) (λ r is. is) r is
-
-  pub directed : (p : Point) (result : Result ℕ Refusal) → MatchResult result (λ code. IsAnswered here p (λ level. DrainsBy (terrain here) level p code)) (IsUnanswered here p)
-      → Same (ask.Direction p) (answered reply.Direction result)
-  directed p (Ok code) is = same (ask.Direction p) (reply.Direction code) tt (λ e. absurd (cc)) (λ e. absurd (cc)) refl refl refl (stays, is)
-  directed p (Err r) is = unanswered p (ask.Direction p) (λ r may. may) (not_failing (ask.Direction p) (λ e. absurd (cc))) refl (λ r. refl) (λ r is. is) r is
-
-  pub traced : (p : Point) (result : Result (Vec Point) Refusal) → MatchResult result (λ path. IsAnswered here p (λ level. IsFlowPath (terrain here) level p path.items)) (IsUnanswered here p)
-      → Same (ask.Trace p) (answered reply.Trace result)
-  traced p (Ok path) is = same (ask.Trace p) (reply.Trace path) tt (λ e. absurd (cc)) (λ e. absurd (cc)) refl refl refl (stays, is)
-  traced p (Err r) is = unanswered p (ask.Trace p) (λ r may. may) (not_failing (ask.Trace p) (λ e. absurd (cc))) refl (λ r. refl) (λ r is. is) r is
-
-  pub shed : (p : Point) (result : Result (Vec Run) Refusal) → MatchResult result (λ runs. IsAnswered here p (λ level. AreRuns (IsInWatershed (terrain here) level p) runs.items)) (IsUnanswered here p)
-      → Same (ask.Watershed p) (answered reply.Watershed result)
-  shed p (Ok runs) is = same (ask.Watershed p) (reply.Watershed runs) tt (λ e. absurd (cc)) (λ e. absurd (cc)) refl refl refl (stays, is)
-  shed p (Err r) is = unanswered p (ask.Watershed p) (λ r may. may) (not_failing (ask.Watershed p) (λ e. absurd (cc))) refl (λ r. refl) (λ r is. is) r is
-
-  -- a question about all samples of a tile
-  module _ {X : Type 0} (c : Corner) (Says : Mosaic → Corner → List X → Type 0) {event : Event} {tell : Vec X → Reply}
-      (is : IsQuestion held.capacity event tell (λ (s : State) (r : Result (Vec X) Refusal) (t : State). TellsTile Says s c (items_in r) t)) (may : (r : Refusal) → IsTrue (may_refuse_tile r) → IsTrue (may_refuse event r)) where
-    abbrev answers : State → Result (Vec X) Refusal → State → Type 0
-    answers s r t = TellsTile Says s c (items_in r) t
-
-    refused_tile : (r : Refusal) → IsTrue (may_refuse_tile r) → (r ≡ Failed → ⊥) → (r ≡ Device → ⊥) → answers now (Err r) now → Same event (reply.Refused r)
-    refused_tile r of_tile not_failed not_device so =
-        same event (reply.Refused r) (may r of_tile) (λ e. not_failed (refusal_of e)) (λ e. not_device (refusal_of e)) (sym ((answers_so event tell answers is).passes false r not_device))
-        (few_as event tell answers is 2 here.side 0 0 refl) (knows_refused (table.known held) (table.known held) event r refl) (is.refused now now r so)
-      where
-        refusal_of : {q : Refusal} → reply.Refused r ≡ reply.Refused q → r ≡ q
-        refusal_of e = cc
-
-    pub no_tile_at : ¬ Contains (corners_of here) c → Same event (reply.Refused NoTile)
-    no_tile_at none = refused_tile NoTile refl (λ e. absurd (cc)) (λ e. absurd (cc)) (stays, no_samples here c none)
-
-    pub told_tile : IsTrue (is_present here c) → (result : Result (Vec X) Refusal) → MatchResult result (λ values. Says here c values.items) (λ r. r ≡ NoMemory) → Same event (answered tell result)
-    told_tile present (Ok values) so =
-        same event (tell values) (is.matches values) (is.no_refusal values Failed) (is.no_refusal values Device) (sym (is.goes_on false values))
-        (few_as event tell answers is 2 here.side 0 0 refl) (is.knows (table.known held) (table.known held) values refl) (is.right now now values (stays, (present, so)))
-    told_tile present (Err r) memory =
-        subst (λ (why : Refusal). Same event (reply.Refused why)) (sym memory) (refused_tile NoMemory refl (λ e. absurd (cc)) (λ e. absurd (cc)) stays)
-
-  pub told_info : (result : Result Info Refusal) → IfOk result (λ info. info ≡ info_of held.capacity held.contents) → IfErr result (λ r. r ≡ NoMemory) → Same ask.Info (answered reply.Info result)
-  told_info (Ok info) is memory = same ask.Info (reply.Info info) tt (λ e. absurd (cc)) (λ e. absurd (cc)) refl refl refl (stays, is)
-  told_info (Err r) is memory = subst (λ (r : Refusal). Same ask.Info (reply.Refused r)) (sym memory) (same ask.Info (reply.Refused NoMemory) refl (λ e. absurd (cc)) (λ e. absurd (cc)) refl refl refl stays)
 
   module _ (c : Command) where
     not_done : (r : Refusal) → IsTrue (may_refuse (ask.Do c) r) → (r ≡ Failed → ⊥) → (r ≡ Device → ⊥) → AppliesNot held.capacity now c r now → Same (ask.Do c) (reply.Refused r)
@@ -210,3 +187,14 @@ module _ (m : Mosaic) (capacity : ℕ) (fresh : List Corner) (k g : ℕ) where
     -- .. and then holds an equal mosaic
     pub called_same : (new : Mosaic) → new ≡ m → IsCall table old event answer old → IsCall table held event answer (held_of capacity new fresh k g)
     called_same new is call = called (held_of capacity new fresh k g) (subst (λ (x : Mosaic). IsCall table old event answer (held_of capacity x fresh k g)) (sym is) call)
+
+  -- a question about a tile, which is there or isn't
+  module _ (held : TableState) (view : old ≡ held) {X : Type 0} (c : Corner) (Says : Mosaic → Corner → List X → Type 0) {event : Event} {tell : Vec X → Reply}
+      (is : IsQuestion capacity event tell (λ (s : State) (r : Result (Vec X) Refusal) (t : State). TellsTile Says s c (items_in r) t)) (may : (r : Refusal) → IsTrue (may_refuse_tile r) → IsTrue (may_refuse event r)) where
+    pub absent_told : ¬ Contains (corners_of m) c → IsCall table held event (reply.Refused NoTile) held
+    absent_told none = subst (λ (h : TableState). IsCall table h event (reply.Refused NoTile) h) view (no_tile_at old c Says is may none)
+
+    pub tile_told : Contains (corners_of m) c → (result : Result (Vec X) Refusal) → IfErr result IsOwnRefusal → result ≢ Err Damaged → IfOk result (λ values. Says m c values.items) → IfErr result (λ r. IsTrue (ends_any r))
+        → (new : Mosaic) → new ≡ m → IsCall table held event (answered tell result) (held_of capacity new fresh k g)
+    tile_told there result own sound found causes new same =
+        called_same held view event (answered tell result) new same (told_tile old c Says is may there result (told_or_short (λ (values : Vec X). Says m c values.items) result own sound found causes))

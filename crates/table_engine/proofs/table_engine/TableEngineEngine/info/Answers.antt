@@ -9,8 +9,9 @@ use Rattle.engine.specs.declared.info.Info.{Info}
 use Rattle.engine.specs.declared.event.Event.TheVariants as ask
 use Rattle.engine.specs.declared.event.Reply.TheVariants as reply
 use Rattle.engine.proofs.Infos.{same_info}
+use Rattle.engine.proofs.Questions.{info_asked}
 use Rattle.table_engine.specs.TableState.{TableState, stale_among, table}
-use Rattle.table_engine.proofs.TableCalls.{old, told_info}
+use Rattle.table_engine.proofs.TableCalls.{old, stays, told_so}
 use Rattle.table_engine.proofs.table_engine.TableEngineEngine.info.Goals as goal
 
 pub returns : goal.returns
@@ -26,4 +27,4 @@ returns c =
     let tiles : c.len.result ≡ length e.table.tiles = counted ∙ ap (λ (l : List Corner). length l) corners ∙ length-map e.table.tiles (λ t. t.corner) in
     let fresh : c.saturating_sub.result ≡ length e.table.tiles - length held.contents.stale = c.saturating_sub.ensures ∙ ap₂ (λ (a b : ℕ). a - b) tiles stale in
     subst (λ (s : TableState). IsCall table s ask.Info (reply.Info info) s) c.self.view_is
-    (told_info held (Ok info) (same_info info (info_of held.capacity held.contents) side refl refl refl refl fresh stale) tt)
+    (told_so held info_asked (Ok info) tt (stays held, same_info info (info_of held.capacity held.contents) side refl refl refl refl fresh stale))
