@@ -80,9 +80,6 @@ returns-in-Err-clause-output g c =
       caused = λ told. step.caused (cc);
     }
 
-pub returns-in-Ok-End-clause-left : goal.returns-in-Ok-End-clause-left
-returns-in-Ok-End-clause-left g c = still_left (g.O.Output.stream c.args.writer.now) _ _ c.items.invariant.2 c.in-Ok-End.ensures.left
-
 pub returns-in-Ok-End-clause-end : goal.returns-in-Ok-End-clause-end
 returns-in-Ok-End-clause-end g c =
     let before = c.items.invariant.1 in

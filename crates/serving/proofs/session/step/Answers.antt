@@ -4,15 +4,38 @@ use Rattle.std.specs.Io.KnownBytes.{IsAtEnd}
 use Rattle.std.proofs.KnownBytes.{Appends-nil}
 use Rattle.std.proofs.lemmas.Bool.{both_ways}
 use Rattle.lines.specs.declared.source.Extent.TheVariants.{Whole, Cut}
-use Rattle.lines.specs.Ahead.{IsNear, Lookahead}
+use Rattle.lines.specs.Ahead.{IsNear, Lookahead, Taken}
 use Rattle.lines.specs.Grammar.{AskQuit}
 use Rattle.lines.specs.Requests.{asked}
+use Rattle.serving.specs.Items.{Item, spelled}
 use Rattle.serving.specs.Promises.{Answers}
+use Rattle.serving.specs.Served.{Replies}
+use Rattle.serving.specs.Session.{Holds}
 use Rattle.serving.proofs.OutputLemmas.{begun, put_whole}
 use Rattle.serving.proofs.SessionLemmas.{item_taken, begun_taken, ends_none, ends_last, ends_reading, goes_on, one_reply}
 use Rattle.serving.proofs.Turns.{answers}
 use Rattle.serving.proofs.session.step.Goals as goal
-use Rattle.serving.proofs.session.step.Goals.{then-is_last, else-is_last}
+use Rattle.serving.proofs.session.step.Goals.{After-answer-reply, After-is_last, then-is_last, else-is_last}
+
+-- the item that was read
+item_read : (g : _) (c : After-is_last g)
+    → (i : Item) × Holds c.args.language c.in-Ok-read_item.item i × (i.fed ≡ c.in-Ok.fed) × Taken c.args.ahead.now (g.R.Read.remaining c.args.reader.now) c.read_item.new.ahead (g.R.Read.remaining c.read_item.new.reader) (spelled i)
+item_read g c =
+    let line = c.in-Ok.ensures.ok in
+    let some : c.in-Ok.fed ≡ Cut → line.0 ≢ [] = λ cut empty. both_ways c.is_over.result c.if-is_over.false ((c.is_over.ensures line.0 line.2).1 (cut, empty)) in
+    let found = c.in-Ok-read_item.ensures.ok line.0 line.2 line.1 some in
+    (found.0, found.1, found.3, item_taken _ _ _ found.0 line.0 c.in-Ok.fed found.2 found.3 line.3 found.4)
+
+-- and its reply
+replied : (g : _) (c : After-answer-reply g) (i : Item) → Holds c.args.language c.in-Ok-read_item.item i → Replies (Answers g.E.Engine) c.args.engine.now (i ∷ []) c.answer-reply.result (c.answer-reply.new.engine ∷ [])
+replied g c i held =
+    one_reply (Answers g.E.Engine) c.args.engine.now i c.answer-reply.result c.answer-reply.new.engine
+    (answers g.E.Engine
+    (record {
+      laws = record { is_call = g.met.E.Engine.is_call; stays = g.met.E.Engine.stays; in_turn = g.met.E.Engine.in_turn; weaker = g.met.E.Engine.weaker };
+      same_side = g.met.E.Engine.same_side;
+    })
+    c.args.language c.args.engine.now c.answer-reply.new.engine i c.answer-reply.result held.item.asked (c.answer-reply.ensures c.args.language i held))
 
 pub returns-then-is_over-clause-calls : goal.returns-then-is_over-clause-calls
 returns-then-is_over-clause-calls g c =
@@ -31,71 +54,35 @@ returns-in_default-read_item-clause-calls g c =
 
 pub answer-reply-requires : goal.answer-reply-requires
 answer-reply-requires g c =
-    let line = c.in-Ok.ensures.ok in
-    let some : c.in-Ok.fed ≡ Cut → line.0 ≢ [] = λ cut empty. both_ways c.is_over.result c.if-is_over.false ((c.is_over.ensures line.0 line.2).1 (cut, empty)) in
-    let found = c.in-Ok-read_item.ensures.ok line.0 line.2 line.1 some in
-    (c.args.language, found.0, found.1)
+    let (i, held, fed, taken) = item_read g (goal.at.answer-reply-requires g c).After-is_last in
+    (c.args.language, i, held)
 
 pub returns-then-has_failed-clause-calls : goal.returns-then-has_failed-clause-calls
 returns-then-has_failed-clause-calls g c =
-    let line = c.in-Ok.ensures.ok in
-    let some : c.in-Ok.fed ≡ Cut → line.0 ≢ [] = λ cut empty. both_ways c.is_over.result c.if-is_over.false ((c.is_over.ensures line.0 line.2).1 (cut, empty)) in
-    let found = c.in-Ok-read_item.ensures.ok line.0 line.2 line.1 some in
-    let i = found.0 in
-    let taken = item_taken _ _ _ i line.0 c.in-Ok.fed found.2 found.3 line.3 found.4 in
-    let engine = c.answer-reply.new.engine in
-    let answered = answers g.E.Engine
-    (record {
-      laws = record { is_call = g.met.E.Engine.is_call; stays = g.met.E.Engine.stays; in_turn = g.met.E.Engine.in_turn; weaker = g.met.E.Engine.weaker };
-      same_side = g.met.E.Engine.same_side;
-    })
-    c.args.language c.args.engine.now engine i c.answer-reply.result found.1.item.asked (c.answer-reply.ensures c.args.language i found.1) in
+    let at = goal.at.returns-then-has_failed-clause-calls g c in
+    let (i, held, fed, taken) = item_read g at.After-is_last in
+    let reply = replied g at.After-answer-reply i held in
     let wrote = begun (g.O.Output.stream c.args.writer.now) (g.O.Output.stream c.put_reply.new.self) c.answer-reply.result c.put_reply.ensures in (
-      engine ∷ [],
-      (refl, (i, c.in-Ok-read_item.item.extent, c.answer-reply.result, wrote.0, found.1.item, taken, wrote.1, one_reply (Answers g.E.Engine) c.args.engine.now i c.answer-reply.result engine answered)),
+      c.answer-reply.new.engine ∷ [],
+      (refl, (i, c.in-Ok-read_item.item.extent, c.answer-reply.result, wrote.0, held.item, taken, wrote.1, reply)),
     )
 
 pub returns-clause-calls : goal.returns-clause-calls
 returns-clause-calls g c =
-    let line = c.in-Ok.ensures.ok in
-    let some : c.in-Ok.fed ≡ Cut → line.0 ≢ [] = λ cut empty. both_ways c.is_over.result c.if-is_over.false ((c.is_over.ensures line.0 line.2).1 (cut, empty)) in
-    let found = c.in-Ok-read_item.ensures.ok line.0 line.2 line.1 some in
-    let i = found.0 in
-    let taken = item_taken _ _ _ i line.0 c.in-Ok.fed found.2 found.3 line.3 found.4 in
-    let engine = c.answer-reply.new.engine in
-    let answered = answers g.E.Engine
-    (record {
-      laws = record { is_call = g.met.E.Engine.is_call; stays = g.met.E.Engine.stays; in_turn = g.met.E.Engine.in_turn; weaker = g.met.E.Engine.weaker };
-      same_side = g.met.E.Engine.same_side;
-    })
-    c.args.language c.args.engine.now engine i c.answer-reply.result found.1.item.asked (c.answer-reply.ensures c.args.language i found.1) in
-    let replied = one_reply (Answers g.E.Engine) c.args.engine.now i c.answer-reply.result engine answered in
+    let at = goal.at.returns-clause-calls g c in
+    let (i, held, fed, taken) = item_read g at.After-is_last in
+    let reply = replied g at.After-answer-reply i held in
     let wrote = (put_whole (g.O.Output.stream c.args.writer.now) (g.O.Output.stream c.put_reply.new.self) c.answer-reply.result c.put_reply.ensures
     (λ failed. both_ways c.has_failed.result c.if-has_failed.false (c.has_failed.ensures.1 failed))).whole in (
-      engine ∷ [],
+      c.answer-reply.new.engine ∷ [],
       (
         refl,
         elim c.if-is_last.branch [
-          | then-is_last w ↦ rw w.next-is (i ∷ [], c.answer-reply.result, ends_last c.args.language _ _ _ i _ _ taken found.1.asked found.1.item c.in-Ok-read_item.ensures.cut (c.is_last.ensures.0 w.if-is_last.true), wrote, replied)
-          | else-is_last w ↦ rw w.next-is (i, c.answer-reply.result, goes_on c.args.language i _ _ found.1.asked found.1.item (λ last. both_ways c.is_last.result w.if-is_last.false (c.is_last.ensures.1 last)), taken, wrote, replied)
+          | then-is_last w ↦ rw w.next-is (i ∷ [], c.answer-reply.result, ends_last c.args.language _ _ _ i _ _ taken held.asked held.item c.in-Ok-read_item.ensures.cut (c.is_last.ensures.0 w.if-is_last.true), wrote, reply)
+          | else-is_last w ↦ rw w.next-is (i, c.answer-reply.result, goes_on c.args.language i _ _ held.asked held.item (λ last. both_ways c.is_last.result w.if-is_last.false (c.is_last.ensures.1 last)), taken, wrote, reply)
         ],
       ),
     )
-
-pub returns-then-has_failed-clause-output : goal.returns-then-has_failed-clause-output
-returns-then-has_failed-clause-output g c = record { told = inr refl; caused = λ told. c.has_failed.ensures.0 c.if-has_failed.true }
-
-pub returns-clause-output : goal.returns-clause-output
-returns-clause-output g c =
-    let left = put_whole (g.O.Output.stream c.args.writer.now) (g.O.Output.stream c.put_reply.new.self) c.answer-reply.result c.put_reply.ensures
-    (λ failed. both_ways c.has_failed.result c.if-has_failed.false (c.has_failed.ensures.1 failed)) in
-    record { told = inl left.none; caused = λ told. absurd (cc) }
-
-pub returns-clause-left : goal.returns-clause-left
-returns-clause-left g c =
-    let left = put_whole (g.O.Output.stream c.args.writer.now) (g.O.Output.stream c.put_reply.new.self) c.answer-reply.result c.put_reply.ensures
-    (λ failed. both_ways c.has_failed.result c.if-has_failed.false (c.has_failed.ensures.1 failed)) in
-    inr left.flushed
 
 pub returns-then-is_over-clause-end : goal.returns-then-is_over-clause-end
 returns-then-is_over-clause-end g c ended =
@@ -107,15 +94,11 @@ returns-then-is_over-clause-end g c ended =
 
 pub returns-clause-end : goal.returns-clause-end
 returns-clause-end g c ended =
-    let line = c.in-Ok.ensures.ok in
-    let some : c.in-Ok.fed ≡ Cut → line.0 ≢ [] = λ cut empty. both_ways c.is_over.result c.if-is_over.false ((c.is_over.ensures line.0 line.2).1 (cut, empty)) in
-    let found = c.in-Ok-read_item.ensures.ok line.0 line.2 line.1 some in
-    let i = found.0 in
-    let taken = item_taken _ _ _ i line.0 c.in-Ok.fed found.2 found.3 line.3 found.4 in
+    let (i, held, fed_is, taken) = item_read g (goal.at.returns-clause-end g c).After-is_last in
     let near : i.fed ≡ Whole → option_map asked c.in-Ok-read_item.item.request ≡ Some AskQuit → IsNear c.read_item.new.ahead.bytes = λ whole quit.
-    let fed : c.in-Ok.fed ≡ Whole = sym found.3 ∙ whole in
+    let fed : c.in-Ok.fed ≡ Whole = sym fed_is ∙ whole in
     subst (λ (a : Lookahead). IsNear a.bytes) (sym (c.in-Ok-read_item.ensures.quit fed quit).0) (c.in-Ok.ensures.near (cc)) in
     elim c.if-is_last.branch [
-      | then-is_last w ↦ ends_reading c.args.language _ _ _ i _ _ taken found.1.asked found.1.item c.in-Ok-read_item.ensures.cut near (c.is_last.ensures.0 w.if-is_last.true)
+      | then-is_last w ↦ ends_reading c.args.language _ _ _ i _ _ taken held.asked held.item c.in-Ok-read_item.ensures.cut near (c.is_last.ensures.0 w.if-is_last.true)
       | else-is_last w ↦ absurd (let more = w.next-is in cc)
     ]
