@@ -1,11 +1,11 @@
 //! The program `mosaic`.
-ghost use Rattle.std.specs.Prelude.{◌≡◌, ◌≤◌, IfErr, IfOk, List, map};
+ghost use Rattle.std.specs.Prelude.{◌≡◌, IfErr, IfOk, List, map};
 ghost use Rattle.lines.specs.declared.language.Language.TheVariants.{Plain};
 ghost use Rattle.store.specs.Formatted.{format_2};
 ghost use Rattle.store.specs.Sessions.{Session};
 ghost use Rattle.server.specs.Endings.{TellsRefusal};
 ghost use Rattle.server.specs.Places.{Accessing};
-ghost use Rattle.server.specs.Program.{CarriesOut, EndsServing, Runs, RunsAs, RunsCheck, RunsFormat, RunsImport, RunsServe, RunsTable, RunsUpgrade, TellsFault};
+ghost use Rattle.server.specs.Program.{CarriesOut, Runs, RunsAs, RunsFormat, RunsImport, RunsTable, TellsFault};
 ghost use Rattle.server.specs.Sizes.{IsRefusedFor, IsTaken};
 
 use crate::disks::{check_store, grow_and_upgrade, import_tile, make_store, serve_store};
@@ -103,13 +103,23 @@ fn run<P: Places, R: Read, O: Output>(
             capacity,
         } => format(alloc, places, path, side, capacity, writer),
         Arguments::Import { path, tile } => import(alloc, places, path, tile, writer),
-        Arguments::Serve { path } => serve_file(alloc, language, places, path, reader, writer),
+        Arguments::Serve { path } => match places.open(path) {
+            Some(disk) => exit_on(serve_store(alloc, language, disk, reader, writer)),
+            None => not_opened(alloc, path, writer),
+        },
         Arguments::Table { side, capacity } => Exit {
             status: table(alloc, language, side, capacity, reader, writer),
             disk: None,
         },
-        Arguments::Check { path } => check(alloc, places, path, writer),
-        Arguments::Upgrade { path } => upgrade(alloc, places, path, writer),
+        Arguments::Check { path } => match places.open(path) {
+            Some(disk) => exit_on(check_store(alloc, disk, writer)),
+            None => not_opened(alloc, path, writer),
+        },
+        // The file stays open and locked while it is made as long as the second version asks, and upgraded.
+        Arguments::Upgrade { path } => match places.open(path) {
+            Some(disk) => exit_on(grow_and_upgrade(alloc, disk, writer)),
+            None => not_opened(alloc, path, writer),
+        },
     }
 }
 
@@ -173,57 +183,6 @@ fn import<P: Places, O: Output>(
     }
 }
 
-/// Serves lines on the store in a file.
-fn serve_file<P: Places, R: Read, O: Output>(
-    alloc: Global,
-    language: Language,
-    places: &mut P,
-    path: &str,
-    reader: &mut R,
-    writer: &mut O,
-) -> Exit<P::File>
-    ensures { Accessing P.accessed places.old places.new (λ accesses. (sessions : List (Session P.File.Disk))
-        × RunsServe P.File.Disk language path.now accesses (R.remaining reader.old) (R.remaining reader.new) (O.stream writer.old) (O.stream writer.new) result.disk sessions result.status) }
-{
-    match places.open(path) {
-        Some(disk) => exit_on(serve_store(alloc, language, disk, reader, writer)),
-        None => not_opened(alloc, path, writer),
-    }
-}
-
-/// Reports on the store in a file.
-fn check<P: Places, O: Output>(
-    alloc: Global,
-    places: &mut P,
-    path: &str,
-    writer: &mut O,
-) -> Exit<P::File>
-    ensures { Accessing P.accessed places.old places.new (λ accesses. (sessions : List (Session P.File.Disk))
-        × RunsCheck P.File.Disk path.now accesses (O.stream writer.old) (O.stream writer.new) result.disk sessions result.status) }
-{
-    match places.open(path) {
-        Some(disk) => exit_on(check_store(alloc, disk, writer)),
-        None => not_opened(alloc, path, writer),
-    }
-}
-
-/// Makes the store in a file one of the second version. The file is made as long as that version asks, and stays open and
-/// locked from the first call to the last.
-fn upgrade<P: Places, O: Output>(
-    alloc: Global,
-    places: &mut P,
-    path: &str,
-    writer: &mut O,
-) -> Exit<P::File>
-    ensures { Accessing P.accessed places.old places.new (λ accesses. (sessions : List (Session P.File.Disk))
-        × RunsUpgrade P.File.Disk path.now accesses (O.stream writer.old) (O.stream writer.new) result.disk sessions result.status) }
-{
-    match places.open(path) {
-        Some(disk) => exit_on(grow_and_upgrade(alloc, disk, writer)),
-        None => not_opened(alloc, path, writer),
-    }
-}
-
 /// What came of work on a disk.
 fn exit_on<D>(work: (D, u8)) -> Exit<D>
     ensures status { result.status ≡ work.1 }
@@ -282,21 +241,6 @@ fn table<R: Read, O: Output>(
     if capacity < 1 || capacity > MOST_TILES {
         return refuse(writer, Refusal::BadCapacity);
     }
-    serve_table(alloc, language, side, capacity, reader, writer)
-}
-
-/// Serves lines on an empty mosaic held in memory.
-fn serve_table<R: Read, O: Output>(
-    alloc: Global,
-    language: Language,
-    side: Side,
-    capacity: u32,
-    reader: &mut R,
-    writer: &mut O,
-) -> u8
-    requires { capacity ≤ MOST_TILES }
-    ensures { EndsServing language side capacity (R.remaining reader.old) (R.remaining reader.new) (O.stream writer.old) (O.stream writer.new) result }
-{
     let mut engine = TableEngine::new(alloc, side, capacity);
     let served = serve_lines(alloc, language, reader, writer, &mut engine);
     end_session(writer, served)

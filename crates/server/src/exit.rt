@@ -1,9 +1,9 @@
 //! How the program ends: what it writes, and its exit status.
-ghost use Rattle.std.specs.Prelude.{◌≡◌, ◌++◌, Err, IfOk, map};
+ghost use Rattle.std.specs.Prelude.{◌≡◌, ◌++◌, ℕ, Err, IfOk, List, map};
 ghost use Rattle.engine.specs.Engines.{items_in};
 ghost use Rattle.lines.specs.Replies.{line_of};
 ghost use Rattle.server.specs.Endings.{EndsAnswering, EndsReplying, EndsSession, Tells, TellsRefusal, count_line, fault_line, printable};
-ghost use Rattle.serving.specs.Outputs.{HasFailed, Puts};
+ghost use Rattle.serving.specs.Outputs.{HasFailed, Puts, Stream};
 
 use lattice::Refusal;
 use lines::Text;
@@ -63,10 +63,7 @@ pub(crate) fn reply<O: Output>(writer: &mut O, reply: Text) -> u8
     ensures { EndsReplying reply (O.stream writer.old) (O.stream writer.new) result }
 {
     writer.put_reply(&reply);
-    if writer.has_failed() {
-        return end_with(writer, fault_line(ServeFault::Output), REFUSED);
-    }
-    DONE
+    end_writing(writer)
 }
 
 /// Writes a reply of any number of lines, and answers the exit status.
@@ -74,6 +71,13 @@ pub(crate) fn reply_text<O: Output>(writer: &mut O, text: &[u8]) -> u8
     ensures { EndsReplying text.now (O.stream writer.old) (O.stream writer.new) result }
 {
     writer.put(text);
+    end_writing(writer)
+}
+
+/// Tells of a write that failed, and answers the exit status.
+fn end_writing<O: Output>(writer: &mut O) -> u8
+    ensures { (was : Stream) (text : List ℕ) → Puts was (O.stream writer.old) text → EndsReplying text was (O.stream writer.new) result }
+{
     if writer.has_failed() {
         return end_with(writer, fault_line(ServeFault::Output), REFUSED);
     }
