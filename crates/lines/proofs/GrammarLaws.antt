@@ -12,16 +12,14 @@ use Rattle.engine.specs.declared.event.Event.{Event}
 use Rattle.engine.specs.declared.event.Event.TheVariants as ask
 use Rattle.lines.specs.declared.keyword.Keyword.{Keyword}
 use Rattle.lines.specs.declared.keyword.Keyword.TheVariants.{Import, Remove, Patch, Burn, Wall, Sink, Unsink, Elev, Fill, Dir, Trace, Watershed, Export, Levels, Directions, Upstream, Tiles, Sinks, Step, Count, Info, Quit}
-use Rattle.lines.specs.Grammar.{Asked, AskImport, AskEvent, AskNoTile, NamesNone, AsksImport, AsksOf, AsksBox, AsksAlong, AsksAt, AsksAlone, Takes, IsIn, IsTextOf, AreInts, IsNat, IsInt, coordinates, spaced, spelling, LineAsks}
+use Rattle.lines.specs.Grammar.{Asked, AskImport, AskEvent, AskNoTile, NamesNone, AsksImport, AsksOf, AsksBox, AsksAlong, AsksAt, AsksAlone, Takes, AreInts, IsNat, IsInt, coordinates, spelling, LineAsks}
 use Rattle.lines.specs.declared.language.Language.{Language}
-use Rattle.lines.specs.declared.language.Language.TheVariants as language
-use Rattle.lines.specs.Languages.{PlainIsAPart, TextAsksInfo, TextAsksTile}
 use Rattle.lines.specs.declared.request.Request.{Request}
 use Rattle.lines.specs.Requests.{asked, IsRequestOf}
 use Rattle.lines.specs.Words.{cut}
 use Rattle.lines.proofs.KeywordLemmas.{spelling-free, same_keyword}
 use Rattle.lines.proofs.WordLemmas.{cut-spaced}
-use Rattle.lines.proofs.RequestLemmas.{takes_free, asks_words}
+use Rattle.lines.proofs.RequestLemmas.{asks_words, each_takes, takes_free}
 
 same_nat : (w : List ℕ) (m n : ℕ) → IsNat w m → IsNat w n → m ≡ n
 same_nat w m n h i = h.2 ∙ sym i.2
@@ -119,28 +117,7 @@ same_alone : (what : Asked) (args : List (List ℕ)) (a b : Asked) → AsksAlone
 same_alone what args a b h i = h.1 ∙ sym i.1
 
 same_asked : (keyword : Keyword) (args : List (List ℕ)) (a b : Asked) → Takes keyword args a → Takes keyword args b → a ≡ b
-same_asked Import = same_import
-same_asked Remove = same_of _
-same_asked Patch = same_box _
-same_asked Burn = same_along _
-same_asked Wall = same_along _
-same_asked Sink = same_at _
-same_asked Unsink = same_at _
-same_asked Elev = same_at _
-same_asked Fill = same_at _
-same_asked Dir = same_at _
-same_asked Trace = same_at _
-same_asked Watershed = same_at _
-same_asked Export = same_of _
-same_asked Levels = same_of _
-same_asked Directions = same_of _
-same_asked Upstream = same_of _
-same_asked Tiles = same_alone _
-same_asked Sinks = same_alone _
-same_asked Step = same_alone _
-same_asked Count = same_alone _
-same_asked Info = same_alone _
-same_asked Quit = same_alone _
+same_asked = each_takes (λ Asks. (args : List (List ℕ)) (a b : Asked) → Asks args a → Asks args b → a ≡ b) same_import same_of same_box same_along same_at same_alone
 
 -- a line asks for one thing
 pub only_one : (language : Language) (line : List ℕ) (o : Option Request) → IsRequestOf language line o → IfSome o (λ r. (a : Asked) → LineAsks language line a → a ≡ asked r)
@@ -210,33 +187,3 @@ asked_by Quit args event (e, is) = cc
 pub never_reopens : (language : Language) (line : List ℕ) (event : Event) → LineAsks language line (AskEvent event) → event ≡ ask.Reopen → ⊥
 never_reopens language line event (short, text, is_text, (keyword, args, e, takes, is_in)) is =
     let by : None ≡ Some keyword = sym (ap keyword_for is) ∙ asked_by keyword args event takes in cc
-
--- ---- what the plain language has is a part of what the other one has
-
-out_of_plain : (keyword tile : Keyword) → (IsIn language.Plain tile → ⊥) → IsIn language.Plain keyword → Some tile ≡ Some keyword → ⊥
-out_of_plain keyword tile out is_in same = let one : keyword ≡ tile = cc in out (subst (IsIn language.Plain) one is_in)
-
-kept : (line : List ℕ) (a : Asked) → LineAsks language.Plain line a → LineAsks language.Tiles line a
-kept line a (short, text, is_text, (keyword, args, e, takes, is_in)) = (short, text, is_text, (keyword, args, e, takes, tt))
-
-besides : (line : List ℕ) (a : Asked) → LineAsks language.Tiles line a → LineAsks language.Plain line a ⊎ ((text : List ℕ) × (IsTextOf line text × (TextAsksTile text a ⊎ TextAsksInfo text a)))
-besides line a (short, text, is_text, (Levels, args, e, takes, is_in)) = inr (text, (is_text, inl (args, inl (e, takes))))
-besides line a (short, text, is_text, (Directions, args, e, takes, is_in)) = inr (text, (is_text, inl (args, inr (inl (e, takes)))))
-besides line a (short, text, is_text, (Upstream, args, e, takes, is_in)) = inr (text, (is_text, inl (args, inr (inr (e, takes)))))
-besides line a (short, text, is_text, (Info, args, e, takes, is_in)) = inr (text, (is_text, inr (args, (e, takes))))
-besides line a (short, text, is_text, (keyword, args, e, takes, is_in)) = inl (short, text, is_text, (keyword, args, e, takes, tt))
-
-no_levels : (line : List ℕ) (c : Corner) → LineAsks language.Plain line (AskEvent (ask.Levels c)) → ⊥
-no_levels line c (short, text, is_text, (keyword, args, e, takes, is_in)) = out_of_plain keyword Levels (λ is. is) is_in (asked_by keyword args (ask.Levels c) takes)
-
-no_directions : (line : List ℕ) (c : Corner) → LineAsks language.Plain line (AskEvent (ask.Directions c)) → ⊥
-no_directions line c (short, text, is_text, (keyword, args, e, takes, is_in)) = out_of_plain keyword Directions (λ is. is) is_in (asked_by keyword args (ask.Directions c) takes)
-
-no_upstream : (line : List ℕ) (c : Corner) → LineAsks language.Plain line (AskEvent (ask.Upstream c)) → ⊥
-no_upstream line c (short, text, is_text, (keyword, args, e, takes, is_in)) = out_of_plain keyword Upstream (λ is. is) is_in (asked_by keyword args (ask.Upstream c) takes)
-
-no_info : (line : List ℕ) → LineAsks language.Plain line (AskEvent ask.Info) → ⊥
-no_info line (short, text, is_text, (keyword, args, e, takes, is_in)) = out_of_plain keyword Info (λ is. is) is_in (asked_by keyword args ask.Info takes)
-
-pub plain_is_a_part : PlainIsAPart
-plain_is_a_part = record { kept = kept; besides = besides; no_levels = no_levels; no_directions = no_directions; no_upstream = no_upstream; no_info = no_info }

@@ -58,29 +58,35 @@ at_free event args a (p, ints, is) = ints_free args _ ints
 alone_free : (what : Asked) (args : List (List ℕ)) (a : Asked) → AsksAlone what args a → AllFree args
 alone_free what args a (e, is) = subst AllFree (sym e) tt
 
+-- what holds of each kind of arguments holds of those of every command
+module _ (P : (List (List ℕ) → Asked → Type 0) → Type 0) (import_ : P AsksImport) (of : (event : Corner → Event) → P (AsksOf event)) (box : (event : Point → Point → ℤ → Event) → P (AsksBox event))
+    (along : (event : ℤ → List Point → Event) → P (AsksAlong event)) (at : (event : Point → Event) → P (AsksAt event)) (alone : (what : Asked) → P (AsksAlone what)) where
+  pub each_takes : (keyword : Keyword) → P (Takes keyword)
+  each_takes Import = import_
+  each_takes Remove = of _
+  each_takes Patch = box _
+  each_takes Burn = along _
+  each_takes Wall = along _
+  each_takes Sink = at _
+  each_takes Unsink = at _
+  each_takes Elev = at _
+  each_takes Fill = at _
+  each_takes Dir = at _
+  each_takes Trace = at _
+  each_takes Watershed = at _
+  each_takes Export = of _
+  each_takes Levels = of _
+  each_takes Directions = of _
+  each_takes Upstream = of _
+  each_takes Tiles = alone _
+  each_takes Sinks = alone _
+  each_takes Step = alone _
+  each_takes Count = alone _
+  each_takes Info = alone _
+  each_takes Quit = alone _
+
 pub takes_free : (keyword : Keyword) (args : List (List ℕ)) (a : Asked) → Takes keyword args a → AllFree args
-takes_free Import = import_free
-takes_free Remove = of_free _
-takes_free Patch = box_free _
-takes_free Burn = along_free _
-takes_free Wall = along_free _
-takes_free Sink = at_free _
-takes_free Unsink = at_free _
-takes_free Elev = at_free _
-takes_free Fill = at_free _
-takes_free Dir = at_free _
-takes_free Trace = at_free _
-takes_free Watershed = at_free _
-takes_free Export = of_free _
-takes_free Levels = of_free _
-takes_free Directions = of_free _
-takes_free Upstream = of_free _
-takes_free Tiles = alone_free _
-takes_free Sinks = alone_free _
-takes_free Step = alone_free _
-takes_free Count = alone_free _
-takes_free Info = alone_free _
-takes_free Quit = alone_free _
+takes_free = each_takes (λ Asks. (args : List (List ℕ)) (a : Asked) → Asks args a → AllFree args) import_free of_free box_free along_free at_free alone_free
 
 -- ---- the text of a line, and its words
 

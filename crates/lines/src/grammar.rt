@@ -42,32 +42,27 @@ fn text_of(line: &[u8]) -> &[u8]
     }
 }
 
+/// The event of the tile that the one argument names.
+macro_rules! of_tile {
+    ($arguments:expr, $corner:ident => $event:expr) => {
+        match tile($arguments)? {
+            Some($corner) => $event,
+            None => return Some(Request::BadName),
+        }
+    };
+}
+
 /// What a command with these arguments asks for.
 fn with_arguments<'a>(command: Keyword, arguments: Words<'a>) -> Option<Request<'a>>
     ensures { IsRequest command arguments.entry result }
 {
     let event = match command {
         Keyword::Import => return import(arguments),
-        Keyword::Remove => match tile(arguments)? {
-            Some(corner) => Event::Do(Command::Remove { corner }),
-            None => return Some(Request::BadName),
-        },
-        Keyword::Export => match tile(arguments)? {
-            Some(corner) => Event::Export(corner),
-            None => return Some(Request::BadName),
-        },
-        Keyword::Levels => match tile(arguments)? {
-            Some(corner) => Event::Levels(corner),
-            None => return Some(Request::BadName),
-        },
-        Keyword::Directions => match tile(arguments)? {
-            Some(corner) => Event::Directions(corner),
-            None => return Some(Request::BadName),
-        },
-        Keyword::Upstream => match tile(arguments)? {
-            Some(corner) => Event::Upstream(corner),
-            None => return Some(Request::BadName),
-        },
+        Keyword::Remove => of_tile!(arguments, corner => Event::Do(Command::Remove { corner })),
+        Keyword::Export => of_tile!(arguments, corner => Event::Export(corner)),
+        Keyword::Levels => of_tile!(arguments, corner => Event::Levels(corner)),
+        Keyword::Directions => of_tile!(arguments, corner => Event::Directions(corner)),
+        Keyword::Upstream => of_tile!(arguments, corner => Event::Upstream(corner)),
         Keyword::Patch => patch(arguments)?,
         Keyword::Burn => {
             let (depth, points) = number_and_points(arguments)?;

@@ -29,70 +29,35 @@ pub enum Keyword {
     Quit,
 }
 
-const KEYWORDS: [Keyword; 22] = [
-    Keyword::Import,
-    Keyword::Remove,
-    Keyword::Patch,
-    Keyword::Burn,
-    Keyword::Wall,
-    Keyword::Sink,
-    Keyword::Unsink,
-    Keyword::Elev,
-    Keyword::Fill,
-    Keyword::Dir,
-    Keyword::Trace,
-    Keyword::Watershed,
-    Keyword::Export,
-    Keyword::Levels,
-    Keyword::Directions,
-    Keyword::Upstream,
-    Keyword::Tiles,
-    Keyword::Sinks,
-    Keyword::Step,
-    Keyword::Count,
-    Keyword::Info,
-    Keyword::Quit,
-];
-
 impl Keyword {
     /// The keyword that a word spells, if there is one.
     pub fn of(word: &[u8]) -> Option<Keyword>
         ensures { MatchOption result ((k : Keyword) → spelling k ≢ word.now) (λ k. spelling k ≡ word.now) }
     {
-        for keyword in KEYWORDS {
-            if keyword.spelling() == word {
-                return Some(keyword);
-            }
-        }
-        None
-    }
-
-    fn spelling(self) -> &'static [u8]
-        ensures { result.now ≡ spelling self }
-    {
-        match self {
-            Keyword::Import => b"import",
-            Keyword::Remove => b"remove",
-            Keyword::Patch => b"patch",
-            Keyword::Burn => b"burn",
-            Keyword::Wall => b"wall",
-            Keyword::Sink => b"sink",
-            Keyword::Unsink => b"unsink",
-            Keyword::Elev => b"elev",
-            Keyword::Fill => b"fill",
-            Keyword::Dir => b"dir",
-            Keyword::Trace => b"trace",
-            Keyword::Watershed => b"watershed",
-            Keyword::Export => b"export",
-            Keyword::Levels => b"levels",
-            Keyword::Directions => b"directions",
-            Keyword::Upstream => b"upstream",
-            Keyword::Tiles => b"tiles",
-            Keyword::Sinks => b"sinks",
-            Keyword::Step => b"step",
-            Keyword::Count => b"count",
-            Keyword::Info => b"info",
-            Keyword::Quit => b"quit",
+        match word {
+            b"import" => Some(Keyword::Import),
+            b"remove" => Some(Keyword::Remove),
+            b"patch" => Some(Keyword::Patch),
+            b"burn" => Some(Keyword::Burn),
+            b"wall" => Some(Keyword::Wall),
+            b"sink" => Some(Keyword::Sink),
+            b"unsink" => Some(Keyword::Unsink),
+            b"elev" => Some(Keyword::Elev),
+            b"fill" => Some(Keyword::Fill),
+            b"dir" => Some(Keyword::Dir),
+            b"trace" => Some(Keyword::Trace),
+            b"watershed" => Some(Keyword::Watershed),
+            b"export" => Some(Keyword::Export),
+            b"levels" => Some(Keyword::Levels),
+            b"directions" => Some(Keyword::Directions),
+            b"upstream" => Some(Keyword::Upstream),
+            b"tiles" => Some(Keyword::Tiles),
+            b"sinks" => Some(Keyword::Sinks),
+            b"step" => Some(Keyword::Step),
+            b"count" => Some(Keyword::Count),
+            b"info" => Some(Keyword::Info),
+            b"quit" => Some(Keyword::Quit),
+            _ => None,
         }
     }
 }
