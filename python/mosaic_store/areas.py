@@ -17,22 +17,20 @@ import collections
 import dataclasses
 from collections.abc import Iterable, Iterator, Mapping, Sequence
 from dataclasses import dataclass
-from typing import TYPE_CHECKING, Any, TypeVar
+from typing import TYPE_CHECKING, TypeVar
 
 from .errors import Refusal, Void
 from .geojson import Feature, points_feature
 from .hydrology import runs_of
-from .lattice import VOID, Corner, Direction, Point, Run, Window, corner_of, corners_of
+from .lattice import VOID, Corner, Direction, Point, Run, Window, corners_named, corners_of
 from .questions import FlowDirection, Question, Trace, WatershedOf
-from .rasters import STEPS
+from .rasters import STEPS, grown, ring
 from .samples import needed_numpy
 from .session import Session
 from .splitting import AREA, PLANNED, TOO_LARGE, Cells, Split
 
 if TYPE_CHECKING:
-    import numpy
-
-    Array = numpy.ndarray[Any, Any]
+    from .samples import Array
 
 
 Answer = TypeVar("Answer")
@@ -72,15 +70,15 @@ def drained(session: Session, region: Iterable[str]) -> Drained:
     """Where the water of a store goes that has some tiles of a region, which are named."""
     numpy = needed_numpy()
     side = session.side
-    tiles = set(_corners(session.tiles()))
-    cut = _cut(tiles, set(_corners(region)) - tiles, side)
+    tiles = set(corners_named(session.tiles()))
+    cut = _cut(tiles, set(corners_named(region)) - tiles, side)
     directions = _directions(session, sorted(cut | _possible_outlets(session)))
-    next_of_cut = {point: _next(point, directions[point]) for point in cut if point in directions}
+    next_of_cut = {point: directions[point].onward(point) for point in cut if point in directions}
     last_of_cut = [point for point, after in next_of_cut.items() if after not in cut]
     leaving = _rows(_sheds(session, last_of_cut))
     outlets = [point for point, direction in directions.items() if direction is Direction.OFF and point not in cut]
     runs = _rows(_sheds(session, outlets))
-    window = _extent(tiles, side)
+    window = Window.around(corner.window(side) for corner in tiles)
     left = _mask([leaving], window)
     is_clean = _summed(runs, _counted(runs, left, window), len(outlets)) == 0
     if not is_clean.all():
@@ -93,7 +91,7 @@ def inlets(found: Mapping[str, Drained]) -> dict[str, list[Point]]:
     """Of each store the points that it answers for, and to which water may come that it doesn't know of."""
     answering, entries = _answering(found), {}
     for name, own in found.items():
-        entered = _grown(_left_over(own, answering)) | _mask([own.beyond], own.window)
+        entered = grown(_left_over(own, answering)) | _mask([own.beyond], own.window)
         runs = runs_of(_mask([answering[name]], own.window) & entered, own.window)
         entries[name] = [Point(y, x) for y, first, last in runs for x in range(first, last + 1)]
     return entries
@@ -109,7 +107,7 @@ def downstream(session: Session, points: Iterable[Point]) -> Array:
     while len(front) > _FEW:
         found |= front
         directions = _directions(session, sorted(front))
-        front = {after for point, direction in directions.items() if (after := _next(point, direction)) is not None} - found
+        front = {after for point, direction in directions.items() if (after := direction.onward(point)) is not None} - found
     found.update(*_answers(session, (Trace(*point) for point in sorted(front))))
     return _as_runs(sorted(found))
 
@@ -195,20 +193,14 @@ def _chosen(found: Mapping[str, Drained]) -> dict[str, Array]:
     return {name: numpy.array([best[outlet][1] == name for outlet in store.outlets], bool) for name, store in found.items()}
 
 
-def _corners(names: Iterable[str]) -> Iterator[Corner]:
-    return (corner for corner in map(corner_of, names) if corner is not None)
-
-
 def _cut(tiles: set[Corner], absent: set[Corner], side: int) -> set[Point]:
     """The points of some tiles that an absent tile of the region holds, too."""
-    found = set()
+    found: set[Point] = set()
     for corner in tiles:
         for north, east in STEPS:
             other = Corner(corner.latitude + north, corner.longitude + east)
-            if other in absent:
-                (y0, x0, y1, x1), (v0, u0, v1, u1) = corner.window(side), other.window(side)
-                rows, columns = range(max(y0, v0), min(y1, v1) + 1), range(max(x0, u0), min(x1, u1) + 1)
-                found |= {Point(y, x) for y in rows for x in columns}
+            if other in absent and (edge := corner.window(side).met(other.window(side))) is not None:
+                found.update(edge.points())
     return found
 
 
@@ -216,12 +208,10 @@ def _possible_outlets(session: Session) -> set[Point]:
     """All points on edges of tiles and beside voids of a tile, and the sinks: water leaves at no others."""
     numpy = needed_numpy()
     found = set(session.sinks())
-    for corner in _corners(session.tiles()):
+    for corner in corners_named(session.tiles()):
         window = corner.window(session.side)
         void = session.tile(corner.name) == VOID
-        edge = numpy.ones(void.shape, bool)
-        edge[1:-1, 1:-1] = False
-        rows, columns = numpy.nonzero((_grown(void) | edge) & ~void)
+        rows, columns = numpy.nonzero((grown(void) | ring(void.shape)) & ~void)
         found |= {Point(window.y1 - row, window.x0 + column) for row, column in zip(rows.tolist(), columns.tolist())}
     return found
 
@@ -235,12 +225,6 @@ def _directions(session: Session, points: Sequence[Point]) -> dict[Point, Direct
         elif not isinstance(direction, Void):
             raise direction
     return found
-
-
-def _next(point: Point, direction: Direction) -> Point | None:
-    """The point that a direction leads to; None off the mosaic."""
-    north, east = direction.step
-    return None if direction is Direction.OFF else Point(point.y + north, point.x + east)
 
 
 def _sheds(session: Session, points: Sequence[Point]) -> Iterator[Sequence[Run]]:
@@ -271,11 +255,6 @@ def _as_runs(points: Iterable[Point]) -> Array:
     """Points as rows of y, x, x."""
     numpy = needed_numpy()
     return numpy.array([(y, x, x) for y, x in points], numpy.int64).reshape(-1, 3)
-
-
-def _extent(tiles: Iterable[Corner], side: int) -> Window:
-    south, west, north, east = zip(*(corner.window(side) for corner in tiles))
-    return Window(min(south), min(west), max(north), max(east))
 
 
 def _mask(parts: Iterable[Array], window: Window) -> Array:
@@ -315,14 +294,3 @@ def _without(runs: Array, mask: Array, window: Window) -> Array:
         left = runs_of(row, Window(y, first, y, last))
         parts.append(numpy.array([(*run, number) for run in left], numpy.int64).reshape(-1, 4))
     return numpy.concatenate(parts)
-
-
-def _grown(mask: Array) -> Array:
-    """A mask with the eight neighbours of each of its points."""
-    numpy = needed_numpy()
-    height, width = mask.shape
-    padded = numpy.pad(mask, 1)
-    found = mask.copy()
-    for north, east in STEPS:
-        found |= padded[1 - north : 1 - north + height, 1 + east : 1 + east + width]
-    return found

@@ -12,6 +12,7 @@ import pathlib
 import tempfile
 
 from .errors import StoreExists
+from .files import sync_folder
 
 _AT_ONCE = 1 << 22
 
@@ -27,9 +28,11 @@ def copy_file(source: str, target: str) -> None:
             os.fsync(copy.fileno())
             os.chmod(copy.name, os.stat(source).st_mode & 0o777)
             os.link(copy.name, place)  # unlike a renaming, it replaces nothing
-            _sync_folder(place.parent)
+            sync_folder(place.parent)
         except FileExistsError:
             raise StoreExists(f"{target}: a file is there already: take another path, or remove it first") from None
+        except OSError as fault:
+            raise OSError(fault.errno, os.strerror(fault.errno or 0), target) from None
         finally:
             os.unlink(copy.name)
 
@@ -52,11 +55,3 @@ def _next_data(file: int, at: int) -> int | None:
         if fault.errno == errno.ENXIO:
             return None
         raise
-
-
-def _sync_folder(folder: pathlib.Path) -> None:
-    descriptor = os.open(folder, os.O_RDONLY)
-    try:
-        os.fsync(descriptor)
-    finally:
-        os.close(descriptor)

@@ -9,20 +9,18 @@ from __future__ import annotations
 
 from collections.abc import Iterable, Iterator
 from dataclasses import dataclass
-from typing import TYPE_CHECKING, Any
+from typing import TYPE_CHECKING
 
 from .errors import BadArgument, Refusal
 from .lattice import MOST_TILES, VOID, Corner, Direction, Point, Run, Window
 from .questions import FlowDirection, WatershedOf
-from .rasters import STEPS
+from .rasters import grown, place_in, ring
 from .samples import needed_numpy
 from .session import Session, memory_table
 from .stores import PathLike
 
 if TYPE_CHECKING:
-    import numpy
-
-    Array = numpy.ndarray[Any, Any]
+    from .samples import Array
 
 MOST_A_DEGREE = 120
 """How many points a degree a coarse mosaic has at most, where nothing else is asked for."""
@@ -119,22 +117,16 @@ def _cut_out(coarse: Coarse, window: Window) -> Array:
     numpy = needed_numpy()
     own = coarse.window
     part = numpy.full((window.height, window.width), VOID, numpy.int16)
-    y0, x0, y1, x1 = max(window.y0, own.y0), max(window.x0, own.x0), min(window.y1, own.y1), min(window.x1, own.x1)
-    part[window.y1 - y1 : window.y1 - y0 + 1, x0 - window.x0 : x1 - window.x0 + 1] = coarse.heights[
-        own.y1 - y1 : own.y1 - y0 + 1, x0 - own.x0 : x1 - own.x0 + 1
-    ]
+    if (common := window.met(own)) is not None:
+        part[place_in(window, common)] = coarse.heights[place_in(own, common)]
     return part
 
 
 def _beside_none(coarse: Coarse) -> list[Point]:
     """The ground points that have a neighbour without ground: water leaves at no other ones."""
     numpy = needed_numpy()
-    ground = numpy.pad(coarse.heights != VOID, 1)
-    height, width = coarse.heights.shape
-    whole = numpy.ones((height, width), bool)
-    for north, east in STEPS:
-        whole &= ground[1 - north : 1 - north + height, 1 + east : 1 + east + width]
-    rows, columns = numpy.nonzero(ground[1:-1, 1:-1] & ~whole)
+    void = coarse.heights == VOID
+    rows, columns = numpy.nonzero((grown(void) | ring(void.shape)) & ~void)
     return [Point(coarse.window.y1 - row, coarse.window.x0 + column) for row, column in zip(rows.tolist(), columns.tolist())]
 
 

@@ -8,7 +8,7 @@ the window are asked of the program. Where whole tiles are told at once they are
 
 from __future__ import annotations
 
-from typing import TYPE_CHECKING, Any
+from typing import TYPE_CHECKING
 
 from .lattice import Window
 from .questions import FlowDirection
@@ -23,6 +23,7 @@ from .rasters import (
     heights_of,
     levels_of,
     points_of,
+    ring,
     shifted,
     whole_tiles,
 )
@@ -30,9 +31,7 @@ from .samples import needed_numpy
 from .session import Session
 
 if TYPE_CHECKING:
-    import numpy
-
-    Array = numpy.ndarray[Any, Any]
+    from .samples import Array
 
 
 def directions_of(session: Session, heights: Heights, told: Told | None = None) -> Array:
@@ -50,7 +49,7 @@ def levels_and_directions(session: Session, heights: Heights, told: Told | None 
     around = heights_of(session, _grown(heights.window))
     levels = levels_of(session, around, told)
     codes, members = _local(session, around, levels)
-    unknown = _reaching(_ring(around) & around.ground, members, levels)
+    unknown = reaching(ring(levels.shape) & around.ground, members, levels)
     codes[members & ~unknown] = _waves(codes, members & ~unknown, levels)
     inner = (slice(1, -1), slice(1, -1))
     found = codes[inner].copy()
@@ -98,16 +97,9 @@ def _sinks(session: Session, heights: Heights) -> Array:
     sinks = numpy.zeros(heights.samples.shape, bool)
     window = heights.window
     for y, x in session.sinks():
-        if window.y0 <= y <= window.y1 and window.x0 <= x <= window.x1:
+        if window.holds((y, x)):
             sinks[window.y1 - y, x - window.x0] = True
     return sinks
-
-
-def _ring(heights: Heights) -> Array:
-    numpy = needed_numpy()
-    ring = numpy.ones(heights.samples.shape, bool)
-    ring[1:-1, 1:-1] = False
-    return ring
 
 
 def _padded(array: Array, value: int) -> tuple[Array, list[int]]:
@@ -117,12 +109,12 @@ def _padded(array: Array, value: int) -> tuple[Array, list[int]]:
     return padded.ravel(), [east - north * padded.shape[1] for north, east in STEPS]
 
 
-def _reaching(ring: Array, members: Array, levels: Array) -> Array:
-    """The ring's points, and the members of flats that reach one of them over points of its level."""
+def reaching(starts: Array, members: Array, levels: Array) -> Array:
+    """Some points, and the members that reach one of them over members of its level, diagonals included."""
     numpy = needed_numpy()
     level, steps = _padded(levels, 0)
-    waiting, _ = _padded((members & ~ring).astype(numpy.uint8), 0)
-    reached, _ = _padded(ring.astype(numpy.uint8), 0)
+    waiting, _ = _padded((members & ~starts).astype(numpy.uint8), 0)
+    reached, _ = _padded(starts.astype(numpy.uint8), 0)
     front = numpy.flatnonzero(reached)
     while front.size:
         found = [front[(waiting[front + step] == 1) & (level[front + step] == level[front])] + step for step in steps]

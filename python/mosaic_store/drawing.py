@@ -19,9 +19,7 @@ from .samples import cure_for, needed_numpy
 from .shading import DEEP, NO_DATA, TINTS, WATERSHED
 
 if TYPE_CHECKING:
-    import numpy
-
-    Array = numpy.ndarray[Any, Any]
+    from .samples import Array
 
 FORMS = (".png", ".svg", ".pdf")
 """The endings of the names of pictures."""

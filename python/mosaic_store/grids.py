@@ -12,12 +12,12 @@ from .lattice import Window
 from .samples import cure_for
 
 if TYPE_CHECKING:
-    import numpy
+    from .samples import Array
 
 GEOTIFF, ASCII = (".tif", ".tiff"), (".asc",)
 
 
-def write_grid(path: str, array: numpy.ndarray[Any, Any], window: Window, side: int, no_data: int, what: str) -> None:
+def write_grid(path: str, array: Array, window: Window, side: int, no_data: int, what: str) -> None:
     """Writes the whole numbers of a window, of shape (window.height, window.width), the north row first.
 
     `path` ends in .tif, for a GeoTIFF, or in .asc, for ESRI ASCII. `what` is the description of a GeoTIFF's band.
@@ -39,7 +39,7 @@ def check_format(path: str) -> None:
 
 
 def _write_geotiff(
-    path: str, array: numpy.ndarray[Any, Any], window: Window, side: int, no_data: int, what: str
+    path: str, array: Array, window: Window, side: int, no_data: int, what: str
 ) -> None:
     rasterio = _rasterio()
     cell = 1 / (side - 1)
@@ -55,7 +55,7 @@ def _write_geotiff(
             written.write(memory.read())
 
 
-def _write_ascii(path: str, array: numpy.ndarray[Any, Any], window: Window, side: int, no_data: int) -> None:
+def _write_ascii(path: str, array: Array, window: Window, side: int, no_data: int) -> None:
     cell = 1 / (side - 1)
     head = {
         "ncols": array.shape[1],

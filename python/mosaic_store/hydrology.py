@@ -9,20 +9,19 @@ from __future__ import annotations
 import heapq
 from collections.abc import Callable, Sequence
 from dataclasses import dataclass
-from typing import TYPE_CHECKING, Any
+from typing import TYPE_CHECKING
 
+from . import lines
+from .directions import reaching
 from .errors import BadArgument
 from .lattice import VOID, Point, Run, Window
 from .network import Network
-from .rasters import STEPS, Heights, heights_of
+from .rasters import STEPS, Heights, heights_of, place_in, ring
 from .samples import array_of, bytes_of, needed_numpy
 from .session import Session
-from .view import lines
 
 if TYPE_CHECKING:
-    import numpy
-
-    Array = numpy.ndarray[Any, Any]
+    from .samples import Array
 
 
 @dataclass(frozen=True)
@@ -49,7 +48,7 @@ class Reservoir:
     """Of each point of the window the depth of the full reservoir in metres, int32; 0 outside it."""
 
 
-def reservoir(session: Session, network: Network, dam: Sequence[Point], crest: int, before: Point) -> Reservoir:
+def reservoir(session: Session, window: Window, dam: Sequence[Point], crest: int, before: Point) -> Reservoir:
     """What a dam along a line of corners holds back, with its crest at a height in metres, at a point before it.
 
     The dam is built in a trial, so that the store is afterwards as it was. The reservoir has to lie in the window.
@@ -59,13 +58,14 @@ def reservoir(session: Session, network: Network, dam: Sequence[Point], crest: i
         for part in lines.commands(line):
             session.wall(crest, part)
         spills_at = session.fill(*before)
-        heights = heights_of(session, network.window)
-    ground = int(heights.samples.ravel()[network.cell(before)])
+        heights = heights_of(session, window)
+    start = heights.cell(before)
+    ground = int(heights.samples.ravel()[start])
     if ground == spills_at:
         place = f"{before.y} {before.x}, where the ground is {ground} m high"
         raise BadArgument(f"no water stands before the dam at {place}: take a lower point")
     # What is reached at the level of the sill alone lies beyond it, and is no part of the reservoir.
-    reached = _reached(heights.samples, network.cell(before), spills_at - 1)
+    reached = _reached(heights.samples, start, spills_at - 1)
     inside = reached < spills_at
     if inside[[0, -1]].any() or inside[:, [0, -1]].any():
         raise BadArgument("the reservoir reaches the window's edge: take a larger window")
@@ -73,7 +73,7 @@ def reservoir(session: Session, network: Network, dam: Sequence[Point], crest: i
     depths = numpy.where(inside, spills_at - heights.samples.astype(numpy.int32), 0)
     # It fills from its lowest point, which needn't be the one before the dam.
     reached = _reached(heights.samples, int(depths.argmax()), spills_at - 1)
-    return Reservoir(_stages(network, heights.samples, reached, spills_at), spills_at, depths)
+    return Reservoir(_stages(heights, reached, spills_at), spills_at, depths)
 
 
 _FAR = 1 << 20
@@ -103,11 +103,11 @@ def _reached(samples: Array, start: int, most: int) -> Array:
     return reached.reshape(-1, width)[1:-1, 1:-1]
 
 
-def _stages(network: Network, samples: Array, reached: Array, spills_at: int) -> list[Stage]:
+def _stages(terrain: Heights, reached: Array, spills_at: int) -> list[Stage]:
     numpy = needed_numpy()
     inside = reached < spills_at
-    areas = numpy.broadcast_to(network.heights.cell_areas(), samples.shape)[inside]
-    levels, heights = reached[inside], samples[inside].astype(numpy.int64)
+    areas = numpy.broadcast_to(terrain.cell_areas(), reached.shape)[inside]
+    levels, heights = reached[inside], terrain.samples[inside].astype(numpy.int64)
     lowest = int(heights.min(initial=spills_at))
     stages = []
     for level in range(lowest, spills_at + 1):
@@ -201,7 +201,8 @@ def without_voids(samples: Array, void: Array, most: int) -> Array:
     """
     numpy = needed_numpy()
     given = samples.copy()
-    for part in _parts(void & ~_hanging_on_edge(void)):
+    at_edge = reaching(void & ring(void.shape), void, numpy.zeros(void.shape, numpy.int8))
+    for part in _parts(void & ~at_edge):
         if len(part) <= most:
             rows, columns = numpy.divmod(part, samples.shape[1])
             given[rows, columns] = _interpolated(samples, rows, columns)
@@ -232,41 +233,15 @@ def filled_voids(
     is_filled = void & (given != VOID)
     for corner in heights.corners:
         own = corner.window(session.side)
-        north, west = min(own.y1, window.y1), max(own.x0, window.x0)
-        rows, columns = north - max(own.y0, window.y0) + 1, min(own.x1, window.x1) - west + 1
-        part = _box(window, north, west, rows, columns)
-        if rows > 0 and columns > 0 and is_filled[part].any():
+        common = own.met(window)
+        if common is not None and is_filled[part := place_in(window, common)].any():
             samples = session.tile(corner.name)
-            laid = samples[_box(own, north, west, rows, columns)]
-            numpy.copyto(laid, given[part], where=is_filled[part])
+            numpy.copyto(samples[place_in(own, common)], given[part], where=is_filled[part])
             data = bytes_of(samples)
             saved(corner.name, data)
             session.remove(corner.name)
             session.import_tile(corner.name, data)
     return runs_of(is_filled, window)
-
-
-def _box(window: Window, north: int, west: int, rows: int, columns: int) -> tuple[slice, slice]:
-    """Where a box lies in an array of a window that has it."""
-    first, left = window.y1 - north, west - window.x0
-    return slice(first, first + rows), slice(left, left + columns)
-
-
-def _hanging_on_edge(mask: Array) -> Array:
-    """The cells of a mask that hang together with one at the edge of it, diagonals included."""
-    numpy = needed_numpy()
-    left = numpy.pad(mask, 1).ravel()
-    width = mask.shape[1] + 2
-    steps = [east - north * width for north, east in STEPS]
-    edge = mask.copy()
-    edge[1:-1, 1:-1] = False
-    front = numpy.flatnonzero(numpy.pad(edge, 1))
-    left[front] = False
-    while front.size:
-        front = numpy.unique(numpy.concatenate([front + step for step in steps]))
-        front = front[left[front]]
-        left[front] = False
-    return mask & ~left.reshape(-1, width)[1:-1, 1:-1]
 
 
 def _parts(mask: Array) -> list[Array]:

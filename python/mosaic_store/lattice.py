@@ -10,7 +10,7 @@ from __future__ import annotations
 import enum
 import math
 import re
-from collections.abc import Iterator
+from collections.abc import Iterable, Iterator
 from typing import NamedTuple
 
 VOID = -32768
@@ -67,6 +67,25 @@ class Window(NamedTuple):
         """How many points it is wide."""
         return self.x1 - self.x0 + 1
 
+    def points(self) -> Iterator[Point]:
+        """Its points, from the south, then from the west."""
+        return (Point(y, x) for y in range(self.y0, self.y1 + 1) for x in range(self.x0, self.x1 + 1))
+
+    def holds(self, point: tuple[int, int]) -> bool:
+        """Whether a point lies in it."""
+        return self.y0 <= point[0] <= self.y1 and self.x0 <= point[1] <= self.x1
+
+    def met(self, other: Window) -> Window | None:
+        """The points that it has in common with another one; None where there are none."""
+        common = Window(max(self.y0, other.y0), max(self.x0, other.x0), min(self.y1, other.y1), min(self.x1, other.x1))
+        return common if common.height > 0 and common.width > 0 else None
+
+    @staticmethod
+    def around(windows: Iterable[Window]) -> Window:
+        """The least window that has all of some, one at least."""
+        souths, wests, norths, easts = zip(*windows)
+        return Window(min(souths), min(wests), max(norths), max(easts))
+
 
 class Run(NamedTuple):
     """Neighbouring points of one row, from (y, first) to (y, last), ends included."""
@@ -93,6 +112,11 @@ class Direction(enum.IntEnum):
     def step(self) -> tuple[int, int]:
         """The change of y and of x to the point that it names; (0, 0) off the mosaic."""
         return _STEPS[self]
+
+    def onward(self, point: tuple[int, int]) -> Point | None:
+        """The point that water goes to from a point; None off the mosaic."""
+        north, east = self.step
+        return None if self is Direction.OFF else Point(point[0] + north, point[1] + east)
 
 
 _STEPS = {
@@ -143,6 +167,11 @@ def corner_of(name: str) -> Corner | None:
     )
     in_range = -90 <= corner.latitude <= 89 and -180 <= corner.longitude <= 179
     return corner if in_range else None
+
+
+def corners_named(names: Iterable[str]) -> list[Corner]:
+    """The corners of tiles by their names, in the names' order; what is no name is passed by."""
+    return [corner for corner in map(corner_of, names) if corner is not None]
 
 
 def corners_of(point: Point, side: int) -> Iterator[Corner]:

@@ -10,7 +10,7 @@ import functools
 import itertools
 from collections.abc import Iterator, Mapping, Sequence
 from dataclasses import dataclass
-from typing import TYPE_CHECKING, Any
+from typing import TYPE_CHECKING
 
 from .directions import levels_and_directions
 from .errors import BadArgument, BadReply
@@ -22,9 +22,7 @@ from .samples import needed_numpy
 from .session import Session
 
 if TYPE_CHECKING:
-    import numpy
-
-    Array = numpy.ndarray[Any, Any]
+    from .samples import Array
 
 NOWHERE = -1
 """Stands for no cell: water leaves the window, or there is no ground."""
@@ -57,10 +55,7 @@ class Network:
 
     def cell(self, point: Point) -> int:
         """The cell of a point. BadArgument where the window doesn't hold it."""
-        window = self.window
-        if not (window.y0 <= point[0] <= window.y1 and window.x0 <= point[1] <= window.x1):
-            raise BadArgument(f"the point {point[0]} {point[1]} lies off the window")
-        return (window.y1 - point[0]) * window.width + point[1] - window.x0
+        return self.heights.cell(point)
 
     def point(self, cell: int) -> Point:
         """The point of a cell."""
@@ -279,13 +274,14 @@ def _entering(session: Session, heights: Heights) -> dict[int, int]:
     window, present = heights.window, set(heights.corners)
     ring = [point for point in _around(window) if not present.isdisjoint(corners_of(point, heights.side))]
     found = session.ask_many(FlowDirection(*point) for point in ring)
-    inward = [(point, at) for point, at in zip(ring, map(_led, ring, found)) if at is not None and _is_in(window, at)]
+    ways = ((point, way.onward(point)) for point, way in zip(ring, found) if isinstance(way, Direction))
+    inward = [(point, at) for point, at in ways if at is not None and window.holds(at)]
     sheds = session.ask_many(WatershedOf(*point) for point, _ in inward)
     counts: dict[int, int] = {}
     for (_, at), shed in zip(inward, sheds):
         if isinstance(shed, Exception):
             raise shed
-        cell = (window.y1 - at.y) * window.width + at.x - window.x0
+        cell = heights.cell(at)
         counts[cell] = counts.get(cell, 0) + shed.cells
     return counts
 
@@ -307,18 +303,6 @@ def _around(window: Window) -> Iterator[Point]:
     for y in range(window.y0, window.y1 + 1):
         yield Point(y, window.x0 - 1)
         yield Point(y, window.x1 + 1)
-
-
-def _led(point: Point, found: object) -> Point | None:
-    """The point that a direction leads to; None where there is none."""
-    if not isinstance(found, Direction) or found is Direction.OFF:
-        return None
-    north, east = found.step
-    return Point(point.y + north, point.x + east)
-
-
-def _is_in(window: Window, point: Point) -> bool:
-    return window.y0 <= point.y <= window.y1 and window.x0 <= point.x <= window.x1
 
 
 @dataclass(frozen=True)

@@ -8,18 +8,16 @@ from __future__ import annotations
 import functools
 from collections.abc import Callable, Sequence
 from dataclasses import dataclass
-from typing import TYPE_CHECKING, Any
+from typing import TYPE_CHECKING
 
-from .errors import BadReply, Refusal
-from .lattice import METRES_A_DEGREE, VOID, Corner, Window, corner_of
+from .errors import BadArgument, BadReply, Refusal
+from .lattice import METRES_A_DEGREE, VOID, Corner, Window, corner_of, corners_named
 from .questions import Fill, Question
 from .samples import needed_numpy
 from .session import Session
 
 if TYPE_CHECKING:
-    import numpy
-
-    Array = numpy.ndarray[Any, Any]
+    from .samples import Array
 
 NO_DIRECTION = 255
 """Stands for no direction, where a point isn't ground."""
@@ -59,6 +57,13 @@ class Heights:
         """Whether the point has a height: bool of that shape."""
         return self.samples != VOID
 
+    def cell(self, point: tuple[int, int]) -> int:
+        """The number of a point's cell, by rows from the north-west, where none is left out. BadArgument off the window."""
+        window = self.window
+        if not window.holds(point):
+            raise BadArgument(f"the point {point[0]} {point[1]} lies off the window")
+        return (window.y1 - point[0]) * window.width + point[1] - window.x0
+
     def cell_areas(self) -> Array:
         """The area of each cell in square metres by its latitude: float64 of shape (rows, 1)."""
         numpy = needed_numpy()
@@ -74,7 +79,7 @@ def heights_of(session: Session, window: Window, every: int = 1) -> Heights:
     xs = numpy.arange(window.x0, window.x1 + 1, every)
     samples = numpy.full((len(ys), len(xs)), VOID, numpy.int16)
     held = numpy.zeros(samples.shape, bool)
-    corners = tuple(filter(None, map(corner_of, session.tiles())))
+    corners = tuple(corners_named(session.tiles()))
     for corner in corners:
         lay(functools.partial(session.tile, corner.name), corner.window(side), ys, xs, samples, held)
     return Heights(window, side, every, ys, xs, samples, held, corners)
@@ -113,6 +118,12 @@ def lay(
     laid = samples[place]
     numpy.copyto(laid, own, where=laid == nothing)
     held[place] = True
+
+
+def place_in(window: Window, part: Window) -> tuple[slice, slice]:
+    """Where a part of a window lies in an array of it."""
+    first, left = window.y1 - part.y1, part.x0 - window.x0
+    return slice(first, first + part.height), slice(left, left + part.width)
 
 
 def _overlap(window: Window, ys: Array, xs: Array) -> tuple[slice, slice] | None:
@@ -227,6 +238,24 @@ def _pits(heights: Heights) -> Array:
     while not numpy.array_equal(further := ahead[ahead], ahead):
         ahead = further
     return ahead
+
+
+def ring(shape: tuple[int, ...]) -> Array:
+    """The outermost cells of a window: bool of its shape."""
+    numpy = needed_numpy()
+    found = numpy.ones(shape, bool)
+    found[1:-1, 1:-1] = False
+    return found
+
+
+def grown(mask: Array) -> Array:
+    """A mask with the eight neighbours of each of its cells."""
+    numpy = needed_numpy()
+    found = mask.copy()
+    for step in STEPS:
+        here, there = shifted(mask.shape, step)
+        numpy.logical_or(found[here], mask[there], out=found[here])
+    return found
 
 
 def shifted(shape: tuple[int, ...], step: tuple[int, int]) -> tuple[tuple[slice, slice], tuple[slice, slice]]:

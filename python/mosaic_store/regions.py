@@ -17,9 +17,7 @@ from .splitting import AREA, PLANNED, Split, planned
 from .stores import PathLike
 
 if TYPE_CHECKING:
-    import numpy
-
-    Array = numpy.ndarray[Any, Any]
+    from .samples import Array
 
 
 _MOST_ROUNDS = 8

@@ -11,30 +11,32 @@ from .errors import BadArgument
 if TYPE_CHECKING:
     import numpy
 
+    Array = numpy.ndarray[Any, Any]
 
-def array_of(data: bytes) -> numpy.ndarray[Any, Any]:
+
+def array_of(data: bytes) -> Array:
     """HGT bytes as an array of int16 of shape (side, side), the north row first."""
     return _square(data, ">i2", "int16")
 
 
-def codes_of(data: bytes) -> numpy.ndarray[Any, Any]:
+def codes_of(data: bytes) -> Array:
     """Direction codes as an array of uint8 of shape (side, side), the north row first."""
     return _square(data, "uint8", "uint8")
 
 
-def counts_of(data: bytes) -> numpy.ndarray[Any, Any]:
+def counts_of(data: bytes) -> Array:
     """Upstream counts as an array of uint32 of shape (side, side), the north row first."""
     return _square(data, ">u4", "uint32")
 
 
-def _square(data: bytes, stored: str, kind: str) -> numpy.ndarray[Any, Any]:
+def _square(data: bytes, stored: str, kind: str) -> Array:
     """Numbers that are stored as one type, as a square array of another."""
     numbers = needed_numpy().frombuffer(data, stored)
     side = math.isqrt(numbers.size)
     return numbers.astype(kind).reshape(side, side)
 
 
-def bytes_of(data: bytes | bytearray | memoryview | numpy.ndarray[Any, Any]) -> bytes:
+def bytes_of(data: bytes | bytearray | memoryview | Array) -> bytes:
     """The HGT bytes of a tile: bytes as they are, or an array of whole numbers of shape (side, side)."""
     if isinstance(data, (bytes, bytearray, memoryview)):
         return bytes(data)

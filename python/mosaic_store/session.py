@@ -42,7 +42,7 @@ from .stores import PathLike, Report, cannot_open, check_store, find_server
 from .trials import Tiles, Trial
 
 if TYPE_CHECKING:
-    import numpy
+    from .samples import Array
 
 Answer = TypeVar("Answer")
 Result = TypeVar("Result")
@@ -147,7 +147,7 @@ class Session:
 
     # ---- commands: each answers k, the number of commands accepted since the store was formatted ----
 
-    def import_tile(self, name: str, data: bytes | numpy.ndarray[Any, Any]) -> int:
+    def import_tile(self, name: str, data: bytes | Array) -> int:
         """Adds a tile: its HGT bytes, or an array of whole numbers of shape (side, side), the north row first."""
         return self.ask(questions.Import(name, bytes_of(data)))
 
@@ -201,11 +201,11 @@ class Session:
         """A tile's own HGT bytes, 2 * side * side of them."""
         return self.ask(questions.Export(name))
 
-    def tile(self, name: str) -> numpy.ndarray[Any, Any]:
+    def tile(self, name: str) -> Array:
         """A tile's own samples in metres, an array of int16 of shape (side, side), the north row first; -32768 is void."""
         return array_of(self.export(name))
 
-    def levels(self, name: str) -> numpy.ndarray[Any, Any]:
+    def levels(self, name: str) -> Array:
         """The filled levels of a tile's samples in metres, int16 of shape (side, side), the north row first.
 
         -32768 where the sample's point isn't ground. By one line where the session `takes_whole_tiles`, else by questions.
@@ -214,9 +214,9 @@ class Session:
             return array_of(self.ask(questions.Levels(name)))
         from .rasters import levels_of, tile_of
 
-        return cast("numpy.ndarray[Any, Any]", levels_of(self, tile_of(self, name)).astype("int16"))
+        return cast("Array", levels_of(self, tile_of(self, name)).astype("int16"))
 
-    def directions(self, name: str) -> numpy.ndarray[Any, Any]:
+    def directions(self, name: str) -> Array:
         """The direction codes of a tile's samples, uint8 of shape (side, side), the north row first.
 
         0 is an outlet, 255 where the sample's point isn't ground. As `levels`, by one line or by questions.
@@ -228,7 +228,7 @@ class Session:
 
         return directions_of(self, tile_of(self, name))
 
-    def upstream(self, name: str) -> numpy.ndarray[Any, Any]:
+    def upstream(self, name: str) -> Array:
         """How many points drain through each of a tile's samples, uint32 of shape (side, side), the north row first.
 
         The cells of `watershed` there, from whichever tiles; 0 where the sample's point isn't ground. As `levels`, by one line
@@ -239,7 +239,7 @@ class Session:
         from .network import network_of
         from .rasters import tile_of
 
-        return cast("numpy.ndarray[Any, Any]", network_of(self, tile_of(self, name).window).counts.astype("uint32"))
+        return cast("Array", network_of(self, tile_of(self, name).window).counts.astype("uint32"))
 
     def tiles(self) -> list[str]:
         """The names of the present tiles, in order."""

@@ -3,15 +3,13 @@
 from __future__ import annotations
 
 import math
-from typing import TYPE_CHECKING, Any
+from typing import TYPE_CHECKING
 
 from .lattice import VOID
 from .samples import needed_numpy
 
 if TYPE_CHECKING:
-    import numpy
-
-    Array = numpy.ndarray[Any, Any]
+    from .samples import Array
 
 TINTS = ((98, 142, 88), (158, 176, 110), (212, 200, 142), (184, 150, 108), (150, 118, 96), (236, 232, 228))
 """Colours by height, from the lowest to the highest."""

@@ -14,22 +14,20 @@ import itertools
 import json
 import os
 import pathlib
-import tempfile
 from collections.abc import Callable, Iterable, Iterator, Mapping, Sequence
 from dataclasses import dataclass, field
 from typing import TYPE_CHECKING, Any
 
 from .coarse import CoarseBasin, basins_of, coarse_of, every_for
 from .errors import MosaicError
+from .files import replacing
 from .geojson import Feature, points_feature
 from .lattice import MOST_TILES, Corner, Point, Run, corners_of
 from .samples import needed_numpy
 from .stores import PathLike
 
 if TYPE_CHECKING:
-    import numpy
-
-    Array = numpy.ndarray[Any, Any]
+    from .samples import Array
 
 FILE = "split.geojson"
 """The file beside the stores."""
@@ -180,10 +178,8 @@ class Split:
         place = pathlib.Path(os.fsdecode(folder)) / FILE
         numbers = {"side": self.side, "every": self.every, "most": self.most}
         head: dict[str, Any] = {"type": "FeatureCollection", **numbers, "tiles": " ".join(self.tiles)}
-        with tempfile.TemporaryDirectory(dir=place.parent, prefix=f".{FILE}.") as scratch:
-            made = pathlib.Path(scratch) / FILE
-            made.write_text(json.dumps({**head, "features": self.features}, separators=(",", ":")) + "\n", encoding="ascii")
-            os.replace(made, place)
+        with replacing(place) as made, open(made, "w", encoding="ascii") as file:
+            file.write(json.dumps({**head, "features": self.features}, separators=(",", ":")) + "\n")
 
 
 def read_split(folder: PathLike) -> Split:

@@ -16,6 +16,7 @@ from typing import TYPE_CHECKING
 
 from .errors import BadArgument
 from .lattice import GREATEST_HEIGHT, MOST_POINTS, VOID, Corner, Point, corner_of, corners_of
+from .lines import commands
 from .questions import Burn, Command, Elevation, Import, Patch, Remove, Unsink, Wall
 
 if TYPE_CHECKING:
@@ -144,7 +145,7 @@ class Trial:
             kind: type[Burn] | type[Wall] = Wall if height < was else Burn
             if height != was:
                 parts[kind, was if height < was else height - was].append(point)
-        return [kind(amount, tuple(part)) for (kind, amount), points in parts.items() for part in _batches(points)]
+        return [kind(amount, tuple(part)) for (kind, amount), points in parts.items() for part in commands(points)]
 
     def _samples_before(self, point: Point) -> set[int]:
         """The different samples of a point in the tiles that held it before the trial."""
@@ -169,7 +170,3 @@ def _sample(data: bytes, corner: Corner, point: Point) -> int:
 
 def _side_of(data: bytes) -> int:
     return math.isqrt(len(data) // 2)
-
-
-def _batches(points: list[Point]) -> Iterator[list[Point]]:
-    return (points[first : first + MOST_POINTS] for first in range(0, len(points), MOST_POINTS))

@@ -104,10 +104,10 @@ class BesideGrass(InFolder):
 
         from mosaic_store.hydrology import reservoir
         from mosaic_store.rasters import heights_of
-        from mosaic_store.view import lines
+        from mosaic_store import lines
 
         dam, crest, before = self.valley()
-        found = reservoir(self.session, self.network, dam, crest, before)
+        found = reservoir(self.session, self.network.window, dam, crest, before)
         with self.session.trial():
             for part in lines.commands(lines.points_along(dam)):
                 self.session.wall(crest, part)

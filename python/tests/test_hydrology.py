@@ -223,7 +223,7 @@ class Planning(unittest.TestCase):
         with memory_table(41, 1, PROGRAM) as table:
             table.import_tile("N00E000", valley(41))
             network = network_of(table, Window(0, 0, 40, 40))
-            found = reservoir(table, network, [Point(5, 30), Point(35, 30)], 160, Point(20, 29))
+            found = reservoir(table, network.window, [Point(5, 30), Point(35, 30)], 160, Point(20, 29))
             self.assertEqual(table.elevation(20, 30), 140)
             areas = network.heights.cell_areas().ravel()
             height = {(y, x): 200 - 2 * x + 5 * abs(y - 20) for y in range(41) for x in range(30)}
@@ -232,10 +232,10 @@ class Planning(unittest.TestCase):
                 self.assertAlmostEqual(stage.area, sum(areas[40 - y] for y, _ in wet), delta=1)
                 self.assertAlmostEqual(stage.volume, sum(areas[40 - y] * depth for (y, _), depth in wet.items()), delta=1)
             self.assertEqual((found.spills_at, found.stages[-1].level, found.depths.max()), (160, 160, 18))
-            higher = reservoir(table, network, [Point(5, 30), Point(35, 30)], 160, Point(20, 25))
+            higher = reservoir(table, network.window, [Point(5, 30), Point(35, 30)], 160, Point(20, 25))
             self.assertEqual(higher.stages, found.stages, "it fills from its lowest point, whichever point it is asked at")
             with self.assertRaisesRegex(BadArgument, "no water stands before the dam at 35 29"):
-                reservoir(table, network, [Point(5, 30), Point(35, 30)], 160, Point(35, 29))
+                reservoir(table, network.window, [Point(5, 30), Point(35, 30)], 160, Point(35, 29))
 
     def test_heights_above_a_stream(self) -> None:
         from mosaic_store.hydrology import heights_above_stream, longest_path

@@ -17,7 +17,7 @@ from mosaic_store.errors import ProgramNotFound
 from mosaic_store.lattice import VOID, Point
 from mosaic_store.session import memory_table
 from mosaic_store.stores import find_program
-from mosaic_store.view import lines
+from mosaic_store import lines
 
 from .browser import Browser, needs_browser
 from .support import A_WHILE, needs

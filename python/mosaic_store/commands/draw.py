@@ -7,7 +7,7 @@ import functools
 import pathlib
 import sys
 from collections.abc import Sequence
-from typing import TYPE_CHECKING, Any
+from typing import TYPE_CHECKING
 
 from ..drawing import Scene, draw, range_of
 from ..lattice import Point, Window, degrees_of
@@ -33,9 +33,7 @@ from .frame import (
 )
 
 if TYPE_CHECKING:
-    import numpy
-
-    Array = numpy.ndarray[Any, Any]
+    from ..samples import Array
 
 NAME = "mosaic-draw"
 MOST_POINTS = 1201  # a whole tile of 3 arc seconds

@@ -11,13 +11,13 @@ import io
 import os
 import pathlib
 import sys
-import tempfile
 import time
 from collections.abc import Callable, Iterator, Sequence
 from typing import NoReturn
 
 from ..errors import MosaicError, Refusal, SessionDied
-from ..lattice import Place, Point, Window, corner_of, degrees_of
+from ..files import replacing
+from ..lattice import Place, Point, Window, corners_named, degrees_of
 from ..session import Session, open_store
 from ..snapping import FARTHEST, snapped
 from ..version import VERSION
@@ -143,7 +143,8 @@ def _point_told(numbers: Sequence[float], session: Session, as_points: bool) -> 
         try:
             return session.point_of(*numbers)
         except ValueError as fault:
-            raise CommandError(f"{fault}; with --points numbers are points of the lattice") from None
+            hint = _hint(numbers, session) or "; with --points numbers are points of the lattice"
+            raise CommandError(f"{fault}{hint}") from None
     if not all(float(number).is_integer() for number in numbers):
         shown = " ".join(f"{number:g}" for number in numbers)
         raise CommandError(f"points are whole numbers y x, not {shown}: leave --points out for degrees")
@@ -152,15 +153,20 @@ def _point_told(numbers: Sequence[float], session: Session, as_points: bool) -> 
 
 def _check_held(numbers: Sequence[float], point: Point, session: Session) -> None:
     """A CommandError in the words of the place that was given, where no tile holds it."""
-    windows = list(tile_windows(session))
-    if any(_holds(window, point) for window in windows):
+    windows = tile_windows(session)
+    if any(window.holds(point) for window in windows):
         return
+    tiles = shown_window(Window.around(windows), session.side)
+    raise CommandError(f"no tile holds {shown_place(Place(*numbers))}: the tiles lie {tiles}{_hint(numbers, session)}")
+
+
+def _hint(numbers: Sequence[float], session: Session) -> str:
+    """What may have been meant by a place that no tile holds; empty where nothing comes to mind."""
     latitude, longitude = numbers
-    tiles = shown_window(extent_of(session), session.side)
     others = {"latitude and longitude are exchanged": (longitude, latitude), "the west is negative": (latitude, -longitude)}
+    windows = tile_windows(session)
     hints = [hint for hint, other in others.items() if _is_held(other, windows, session)]
-    hint = f"; is it that {hints[0]}?" if hints else ""
-    raise CommandError(f"no tile holds {shown_place(Place(latitude, longitude))}: the tiles lie {tiles}{hint}")
+    return f"; is it that {hints[0]}?" if hints else ""
 
 
 def _is_held(numbers: tuple[float, float], windows: Sequence[Window], session: Session) -> bool:
@@ -168,11 +174,7 @@ def _is_held(numbers: tuple[float, float], windows: Sequence[Window], session: S
         point = session.point_of(*numbers)
     except ValueError:
         return False
-    return any(_holds(window, point) for window in windows)
-
-
-def _holds(window: Window, point: Point) -> bool:
-    return window.y0 <= point.y <= window.y1 and window.x0 <= point.x <= window.x1
+    return any(window.holds(point) for window in windows)
 
 
 def window_given(numbers: Sequence[float] | None, session: Session, as_points: bool) -> Window:
@@ -185,7 +187,7 @@ def window_given(numbers: Sequence[float] | None, session: Session, as_points: b
     window = Window(*south_west, *north_east)
     if window.width < 1 or window.height < 1:
         raise CommandError("the window is out of order: give its south-west end first, then its north-east end")
-    if not any(_meet(window, tile) for tile in tile_windows(session)):
+    if all(window.met(tile) is None for tile in tile_windows(session)):
         reach = shown_window(extent, session.side)
         raise CommandError(f"the window lies off the tiles, which reach {reach}: choose one there")
     return window
@@ -200,14 +202,12 @@ def check_size(window: Window, what: str, most: int = MOST_POINTS) -> None:
 
 def tile_windows(session: Session) -> list[Window]:
     """The points of each tile of a store."""
-    corners = filter(None, map(corner_of, session.tiles()))
-    return [corner.window(session.side) for corner in corners]
+    return [corner.window(session.side) for corner in corners_named(session.tiles())]
 
 
 def extent_of(session: Session) -> Window:
     """The least window that has all tiles of a store."""
-    south, west, north, east = zip(*tile_windows(session))
-    return Window(min(south), min(west), max(north), max(east))
+    return Window.around(tile_windows(session))
 
 
 def shown_window(window: Window, side: int) -> str:
@@ -220,10 +220,6 @@ def shown_place(place: Place) -> str:
     """A place in words, as 37.5 N 105.25 W."""
     north = f"{abs(place.latitude):.6g} {'S' if place.latitude < 0 else 'N'}"
     return f"{north} {abs(place.longitude):.6g} {'W' if place.longitude < 0 else 'E'}"
-
-
-def _meet(one: Window, other: Window) -> bool:
-    return one.y0 <= other.y1 and other.y0 <= one.y1 and one.x0 <= other.x1 and other.x0 <= one.x1
 
 
 def check_picture(name: str) -> None:
@@ -244,10 +240,8 @@ def written_whole(path: str) -> Iterator[str]:
     if not target.parent.is_dir():
         raise CommandError(f"{path}: there is no folder {target.parent}: make it first")
     try:
-        with tempfile.TemporaryDirectory(dir=target.parent, prefix=f".{target.name}.") as folder:
-            made = os.path.join(folder, target.name)
+        with replacing(target) as made:
             yield made
-            os.replace(made, path)
     except BrokenPipeError:
         raise
     except OSError as fault:

@@ -9,7 +9,7 @@ import sys
 from collections.abc import Sequence
 
 from ..geojson import Feature, collection, tile_feature, trace_feature, watershed_feature
-from ..lattice import corner_of
+from ..lattice import corners_named
 from ..session import Session
 from .frame import DONE, add_places, add_snap, opened, outlet_given, parser, point_given, run, written_whole
 
@@ -60,7 +60,7 @@ def _write(options: argparse.Namespace) -> int:
 def _features(session: Session, options: argparse.Namespace) -> list[Feature]:
     side = session.side
     if options.what == "tiles":
-        return [tile_feature(corner, side) for corner in map(corner_of, session.tiles()) if corner is not None]
+        return [tile_feature(corner, side) for corner in corners_named(session.tiles())]
     pairs = zip(options.places[::2], options.places[1::2])
     if options.what == "trace":
         starts = [point_given(pair, session, options.points) for pair in pairs]

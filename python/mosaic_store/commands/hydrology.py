@@ -14,6 +14,8 @@ import sys
 from collections.abc import Callable, Iterator, Sequence
 from typing import TYPE_CHECKING, Any
 
+from .. import lines
+from ..files import sync_folder
 from ..geojson import Feature, collection, line_feature, points_feature
 from ..grids import check_format, write_grid
 from ..lattice import Point, Window
@@ -70,7 +72,7 @@ a flood 50 million."""
 NO_ACCUMULATION = 0
 
 MOST_OF_A_NETWORK = 20_000_000
-"""The most points of a window whose network is found: each takes some 60 bytes."""
+"""The most points of a window whose network is found, or that holds a reservoir: each takes some 60 bytes."""
 
 
 def main(arguments: Sequence[str] | None = None) -> int:
@@ -155,8 +157,9 @@ def _catchments(session: Session, options: argparse.Namespace) -> str:
 
     if options.outlets is None:
         raise CommandError("catchments take --outlets, a .csv or a .geojson of places")
+    places = [(point_given(numbers, session, as_points), carried) for numbers, as_points, carried in _places(options.outlets)]
     network = _network(session, options)
-    outlets = list(_outlets(session, options, network))
+    outlets = [(network.snapped(point, options.reach, options.threshold), carried) for point, carried in places]
     labels = network.catchments([outlet for outlet, _ in outlets])
     counts, areas = network.counts.ravel(), network.drained_area.ravel()
     features = []
@@ -169,12 +172,6 @@ def _catchments(session: Session, options: argparse.Namespace) -> str:
     _write_json(options.file, features)
     dry = sum(counts[network.cell(outlet)] < options.threshold for outlet, _ in outlets) if options.reach else 0
     return f"{len(features)} catchments" + (f"; {dry} without a stream within {options.reach} steps stay where they are" if dry else "")
-
-
-def _outlets(session: Session, options: argparse.Namespace, network: Network) -> Iterator[tuple[Point, dict[str, Any]]]:
-    for numbers, as_points, carried in _places(options.outlets):
-        point = point_given(numbers, session, as_points)
-        yield (network.snapped(point, options.reach, options.threshold) if options.reach else point), carried
 
 
 def _places(path: str) -> Iterator[tuple[tuple[float, float], bool, dict[str, Any]]]:
@@ -249,6 +246,7 @@ def _path(session: Session, options: argparse.Namespace) -> str:
 def _reservoir(session: Session, options: argparse.Namespace) -> str:
     from ..drawing import Scene, draw
     from ..hydrology import reservoir
+    from ..rasters import heights_of
 
     if len(options.dam) < 4 or len(options.dam) % 2 or options.crest is None or options.before is None:
         raise CommandError("a reservoir takes --dam with two places and more, --crest and --before")
@@ -256,14 +254,15 @@ def _reservoir(session: Session, options: argparse.Namespace) -> str:
     before = point_given(options.before, session, options.points)
     if options.picture is not None:
         check_picture(options.picture)
-    network = _network(session, options)
-    found = reservoir(session, network, corners, options.crest, before)
+    window = window_given(options.window, session, options.points)
+    check_size(window, options.what, MOST_OF_A_NETWORK)
+    found = reservoir(session, window, corners, options.crest, before)
     with written_whole(options.file) as path, open(path, "w", newline="", encoding="ascii") as file:
         rows = csv.writer(file)
         rows.writerow(["level_m", "area_km2", "volume_m3"])
         rows.writerows((stage.level, f"{stage.area / 1e6:.6f}", f"{stage.volume:.0f}") for stage in found.stages)
     if options.picture is not None:
-        scene = Scene(network.heights, f"full at {found.spills_at} m", depths=found.depths, road=corners)
+        scene = Scene(heights_of(session, window), f"full at {found.spills_at} m", depths=found.depths, road=corners)
         with written_whole(options.picture) as path:
             draw(scene, path)
     full = found.stages[-1]
@@ -273,7 +272,6 @@ def _reservoir(session: Session, options: argparse.Namespace) -> str:
 def _edit(session: Session, options: argparse.Namespace) -> str:
     from ..hydrology import earthwork
     from ..rasters import heights_of
-    from ..view import lines
 
     if (options.wall is None) == (options.burn is None):
         raise CommandError("lines are edited by --wall or by --burn")
@@ -297,7 +295,6 @@ def _edit(session: Session, options: argparse.Namespace) -> str:
 def _amounts(session: Session, options: argparse.Namespace) -> tuple[dict[Point, int], int]:
     """The points of a file's lines, each with the most that a line over it asks for; how many features are no lines."""
     from ..hydrology import widened
-    from ..view import lines
 
     kind, given = ("height", options.wall) if options.burn is None else ("depth", options.burn)
     amounts: dict[Point, int] = {}
@@ -350,7 +347,7 @@ def _tiles_beside(store: str, session: Session) -> Iterator[Callable[[str, bytes
                 file.flush()
                 os.fsync(file.fileno())
             for place in (folder, folder.parent):
-                _sync(place)
+                sync_folder(place)
         except OSError as fault:
             raise CommandError(f"{folder}: not written: {fault.strerror or fault}") from None
 
@@ -361,15 +358,6 @@ def _tiles_beside(store: str, session: Session) -> Iterator[Callable[[str, bytes
             (folder / f"{name}.hgt").unlink(missing_ok=True)
         with contextlib.suppress(OSError):
             folder.rmdir()
-
-
-def _sync(folder: pathlib.Path) -> None:
-    """Has the names in a folder reach the drive."""
-    made = os.open(folder, os.O_RDONLY)
-    try:
-        os.fsync(made)
-    finally:
-        os.close(made)
 
 
 def _write_json(name: str, features: Sequence[Feature]) -> None:

@@ -8,7 +8,7 @@ import sys
 from collections.abc import Sequence
 
 from ..errors import BadLine, StoreBusy
-from ..lattice import corner_of
+from ..lattice import Window, corners_named
 from ..questions import Numbers
 from ..session import Session, open_store
 from ..stores import Report, check_store
@@ -50,10 +50,8 @@ def _tell(options: argparse.Namespace) -> int:
         print(f"{shape}; version and capacity are told by mosaic-tiles, and that isn't beside the program")
     print(f"tiles {len(names)}: {fresh} fresh, {len(names) - fresh} stale")
     print(f"count {found.count}, commits {found.commits}")
-    corners = [corner for corner in map(corner_of, names) if corner is not None]
-    if corners:
-        south, west = min(corner.latitude for corner in corners), min(corner.longitude for corner in corners)
-        north, east = max(corner.latitude for corner in corners) + 1, max(corner.longitude for corner in corners) + 1
+    if corners := corners_named(names):
+        south, west, north, east = Window.around(corner.window(2) for corner in corners)
         print(f"bounds {south} {west} to {north} {east} degrees, north and east positive")
         print("names " + " ".join(names))
     return DONE

@@ -11,7 +11,7 @@ import sys
 import time
 from collections.abc import Callable, Iterable, Sequence
 
-from ..lattice import MOST_TILES, corner_of
+from ..lattice import MOST_TILES, corners_named
 from ..loading import Change, Found, Kind, Outcome, Shape, copy, find, load, room_for, unchanged
 from ..session import Session, open_store
 from ..splitting import FILE, is_split, read_split
@@ -112,7 +112,7 @@ def _into_stores(options: argparse.Namespace, found: Found) -> int:
     for name, tiles in split.stores.items():
         add(name, tiles)
     split = grow(options.store, split, add, options.program)
-    in_none = found.corners - set(filter(None, map(corner_of, itertools.chain(*split.stores.values()))))
+    in_none = found.corners - set(corners_named(itertools.chain(*split.stores.values())))
     if in_none:
         print(f"{NAME}: {len(in_none)} tiles are in no store: {options.store}/{FILE} says of which basins", file=sys.stderr)
     print("\n".join(shown_areas(split)))

@@ -29,9 +29,7 @@ from .frame import (
 )
 
 if TYPE_CHECKING:
-    import numpy
-
-    Array = numpy.ndarray[Any, Any]
+    from ..samples import Array
 
 NAME = "mosaic-raster"
 DESCRIPTION = """Writes a window of a store as a raster: .tif for GeoTIFF, which needs rasterio, .asc for ESRI ASCII.

@@ -12,7 +12,7 @@ from dataclasses import dataclass
 import numpy as np
 from numpy.typing import NDArray
 
-from ..lattice import VOID, Corner, Point, Window, corner_of, corners_of
+from ..lattice import VOID, Corner, Point, Window, corners_named, corners_of
 from ..rasters import Heights, lay
 from ..samples import array_of
 
@@ -45,7 +45,7 @@ class Region:
 
     def __init__(self, side: int, names: Iterable[str], export: Callable[[str], bytes], most_bytes: int = 400 << 20):
         self.side = side
-        self.corners: frozenset[Corner] = frozenset(filter(None, map(corner_of, names)))
+        self.corners: frozenset[Corner] = frozenset(corners_named(names))
         self._export = export
         self._lock = threading.Lock()
         self._most_tiles = max(4, most_bytes // (2 * side * side))
@@ -54,8 +54,7 @@ class Region:
 
     def bounds(self) -> Window:
         """The least box of points that has all tiles in it."""
-        souths, wests, norths, easts = zip(*(corner.window(self.side) for corner in self.corners))
-        return Window(min(souths), min(wests), max(norths), max(easts))
+        return Window.around(corner.window(self.side) for corner in self.corners)
 
     def range_of_heights(self) -> tuple[int, int]:
         """The heights below and above which one sample in a hundred lies; they span the colours of a picture."""

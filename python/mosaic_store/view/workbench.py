@@ -20,6 +20,7 @@ from typing import Any
 
 import numpy as np
 
+from .. import lines
 from ..commands.raster import LAYERS
 from ..errors import MosaicError, SessionDied
 from ..geojson import Feature, collection, trace_feature, watershed_feature
@@ -32,7 +33,7 @@ from ..session import Session
 from ..shading import WATERSHED
 from ..snapping import FARTHEST, snapped
 from ..trials import Trial
-from . import lines, pictures
+from . import pictures
 from .region import Grid, Region
 from .water import Water, standing_water
 
@@ -275,9 +276,8 @@ class Workbench:
 
     def _met(self, window: Window) -> Window:
         """A window within the bounds of the tiles."""
-        south, west, north, east = self.region.bounds()
-        met = Window(max(window.y0, south), max(window.x0, west), min(window.y1, north), min(window.x1, east))
-        if met.height < 1 or met.width < 1:
+        met = window.met(self.region.bounds())
+        if met is None:
             raise BadRequest("no tile is there")
         if met.height * met.width > MOST_SHOWN:
             raise BadRequest(f"this takes at most {MOST_SHOWN:,} points, and {met.height * met.width:,} are shown: zoom in")
@@ -467,7 +467,7 @@ def heights_after(session: Session, heights: Heights, points: Sequence[Point]) -
     changed = heights.samples.copy()
     window = heights.window
     for y, x in points:
-        if window.y0 <= y <= window.y1 and window.x0 <= x <= window.x1:
+        if window.holds((y, x)):
             height = session.elevation(y, x)
             changed[window.y1 - y, x - window.x0] = VOID if height is None else height
     return dataclasses.replace(heights, samples=changed)

@@ -4,7 +4,7 @@ from __future__ import annotations
 
 from collections.abc import Iterator, Sequence
 
-from ..lattice import MOST_POINTS, Point
+from .lattice import MOST_POINTS, Point
 
 
 def points_along(corners: Sequence[Point]) -> list[Point]:
