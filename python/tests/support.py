@@ -130,10 +130,12 @@ class InFolder(unittest.TestCase):
         """The environment of another program, which finds the package and talks to the same `mosaic`."""
         return {**os.environ, "PYTHONPATH": str(PYTHON), "MOSAIC": PROGRAM}
 
-    def command(self, name: str, *words: str) -> subprocess.CompletedProcess[str]:
-        """Runs a command of the package; how far it is isn't in what it tells."""
+    def command(self, name: str, *words: str, most_bytes: int | None = None) -> subprocess.CompletedProcess[str]:
+        """Runs a command of the package; how far it is isn't in what it tells. No file grows past so many bytes, if that is told."""
+        limit = f"resource.setrlimit(resource.RLIMIT_FSIZE, ({most_bytes}, {most_bytes}))\n" if most_bytes else ""
+        script = f"import resource, sys\n{limit}from mosaic_store.__main__ import main\nsys.exit(main())"
         done = subprocess.run(
-            [sys.executable, "-m", "mosaic_store", name, *words],
+            [sys.executable, "-c", script, name, *words],
             cwd=self.folder,
             env=self.surroundings(),
             stdin=subprocess.DEVNULL,

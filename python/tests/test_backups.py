@@ -33,6 +33,8 @@ class Backups(InFolder):
         self.assertIn("4 tiles, count 4", done.stdout)
         self.refused(self.command("backup", path, "copy"), "is there already")
         self.refused(self.command("backup", "none", "other"), "no such file")
+        self.refused(self.command("backup", path, "other", most_bytes=300), "other: File too large")
+        self.assertEqual(sorted(os.listdir(self.folder)), ["copy", "store"])
         told = self.command("info", "copy").stdout
         for line in ("side 11 samples, 10 points a degree", "tiles 4: 0 fresh, 4 stale", "count 4, ", "bounds 0 0 to 2 2 degrees"):
             self.assertIn(line, told)

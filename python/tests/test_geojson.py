@@ -7,7 +7,7 @@ import shutil
 import subprocess
 import unittest
 
-from mosaic_store import Run, memory_table, open_store
+from mosaic_store import Run, format_store, memory_table, open_store
 from mosaic_store.geojson import tile_feature, trace_feature, watershed_feature
 from mosaic_store.lattice import Corner, Point
 from mosaic_store.polygons import doubled_area, polygons_of
@@ -139,7 +139,11 @@ class Features(InFolder):
         self.refused(geojson(path, "trace", "1.5", "-0.5"), "the west is negative?")
         self.refused(geojson(path, "watershed", "--points", "500", "500"), "7 Outside", "choose a point of a tile")
         self.refused(geojson(path, "trace", "3", "2", "--points"), "8 Void")
-        self.refused(geojson(path, "trace", "95", "5"), "from -90 to 90")
+        self.refused(geojson(path, "trace", "95", "5"), "from -90 to 90", "with --points")
+        format_store(str(self.folder / "far"), 3, 1, PROGRAM)
+        with open_store(str(self.folder / "far"), PROGRAM) as store:
+            store.import_tile("N00E100", THREE)
+        self.refused(geojson("far", "trace", "100.5", "0.5"), "from -90 to 90", "latitude and longitude are exchanged?")
         self.refused(geojson(path, "trace", "0.5", "5", "--points"), "whole numbers")
         self.refused(geojson(path, "trace", "0.5"), "two numbers each", status=2)
         self.refused(geojson(path, "trace", "here", "there"), "invalid float", status=2)

@@ -1,14 +1,11 @@
 """Windows as arrays and as files, beside answers point by point and what GDAL reads."""
 
-import os
 import struct
-import subprocess
-import sys
 import unittest
 
 from mosaic_store import Refusal, Window, memory_table, open_store
 
-from .support import PROGRAM, PYTHON, InFolder, hills, needs
+from .support import PROGRAM, InFolder, hills, needs
 
 SIDE = 11
 
@@ -120,15 +117,8 @@ class Files(InFolder):
     def test_a_drive_that_is_full_leaves_nothing(self):
         """As a limit on the size of files is met: GDAL by itself would close such a file without an error."""
         path = self.store(21)
-        script = (
-            "import resource, sys\nfrom mosaic_store.commands.raster import main\n"
-            "resource.setrlimit(resource.RLIMIT_FSIZE, (300, 300))\nsys.exit(main(sys.argv[1:]))"
-        )
         for name in ("x.tif", "x.asc"):
-            words = [sys.executable, "-c", script, path, "heights", name, "--program", PROGRAM]
-            environment = {**os.environ, "PYTHONPATH": str(PYTHON)}
-            done = subprocess.run(words, cwd=self.folder, env=environment, capture_output=True, text=True, check=False)
-            self.refused(done, f"{name}: not written")
+            self.refused(self.command("raster", path, "heights", name, most_bytes=300), f"{name}: not written")
         self.assertEqual([file.name for file in self.folder.iterdir()], ["store"])
 
     def test_bad_input(self):
