@@ -411,10 +411,7 @@ class Session:
             words = channel.line()
             if words[:1] == ["mosaic:"] and self._path is not None:
                 raise cannot_open(self._path)
-            refusal = refusal_of(words, " ".join(map(os.fsdecode, self._words[1:])))
-            if refusal is not None:
-                raise refusal
-            self._acknowledged = _answer(count, words, channel)
+            self._acknowledged = _replied(count, " ".join(map(os.fsdecode, self._words[1:])), words, channel)
         except BaseException:
             channel.kill()
             raise
@@ -439,7 +436,7 @@ class Session:
         self._in_doubt = command or earlier
         try:
             channel.send(_end(line), command.payload() if command is not None else b"")
-            answer = _replied(question, line, channel)
+            answer = _replied(question, line, channel.line(), channel)
         except Refusal as refusal:
             if not isinstance(refusal, Device):
                 self._in_doubt = earlier
@@ -479,7 +476,7 @@ class Session:
             channel.send(_end("\n".join(lines)))
             for question, line in zip(batch, lines):
                 try:
-                    answers.append(_replied(question, line, channel))
+                    answers.append(_replied(question, line, channel.line(), channel))
                 except Refusal as refusal:
                     answers.append(refusal)
         except BaseException:
@@ -517,9 +514,10 @@ def open_store(
 ) -> Session:
     """Opens a store by `mosaic serve`: a session, to be used in a `with`.
 
-    `program` is the program's path (see `find_program`); `mosaic-tiles` beside it serves in its place. `timeout` is how many seconds may pass while the program
-    neither reads nor writes; it is ended then. `wait` is how many seconds a store that another program has open is
-    waited for. With `restart` a session that dies is begun anew within the call, and nothing is asked twice.
+    `program` is the program's path (see `find_program`); `mosaic-tiles` beside it serves in its place. `timeout` is how many
+    seconds may pass while the program neither reads nor writes; it is ended then. `wait` is how many seconds a store that
+    another program has open is waited for. With `restart` a session that dies is begun anew within the call, and nothing is
+    asked twice.
 
     CannotOpen, StoreBusy, ProgramNotFound, or a refusal of opening (NotAStore, Version, Damaged, TooSmall, Device).
     """
@@ -553,23 +551,16 @@ def _end(line: str) -> bytes:
     return line.encode("ascii") + b"\n"
 
 
-def _replied(question: Question[Answer], line: str, channel: Channel) -> Answer:
-    """The answer to a question that was sent; its refusal raised."""
-    words = channel.line()
+def _replied(question: Question[Answer], line: str, words: list[str], channel: Channel) -> Answer:
+    """The answer to a question that was sent as a line, from the words of its reply; its refusal raised."""
     if words[:1] == ["OK"]:
-        return _answer(question, words, channel)
+        try:
+            return question.answer(words[1:], channel)
+        except ValueError as fault:
+            raise BadReply(str(fault)) from None
     refusal = refusal_of(words, line)
     if refusal is not None:
         raise refusal
     if words[:1] == ["mosaic:"]:
         raise SessionDied(" ".join(words))
-    raise BadReply(f"a reply was due, and this came: {' '.join(words)[:80]!r}")
-
-
-def _answer(question: Question[Answer], words: list[str], channel: Channel) -> Answer:
-    if words[:1] != ["OK"]:
-        raise BadReply(f"a reply was due, and this came: {' '.join(words)[:80]!r}: is this the program `mosaic`?")
-    try:
-        return question.answer(words[1:], channel)
-    except ValueError as fault:
-        raise BadReply(str(fault)) from None
+    raise BadReply(f"a reply was due, and this came: {' '.join(words)[:80]!r}: is this the program `mosaic`?")
