@@ -1,5 +1,5 @@
 -- A point whose height stays below its level changes no level and no label.
-use Rattle.std.proofs.Common.{◌≡◌, ◌≢◌, ℕ, zero, suc, ◌*◌, ◌<◌, ℤ, ◌≤ℤ◌, ◌<ℤ◌, IsTrue, List, [], ◌∷◌, length, get_or, set, slice_index, get_or-set_other, get_or-set_same, inl, inr, refl, sym, ◌∙◌, subst, arith}
+use Rattle.std.proofs.Common.{◌≡◌, ◌≢◌, ℕ, ◌<◌, ℤ, ◌≤ℤ◌, ◌<ℤ◌, IsTrue, List, [], ◌∷◌, length, get_or, set, slice_index, get_or-set_other, get_or-set_same, inl, inr, refl, sym, ◌∙◌, subst, arith}
 use Rattle.std.specs.Int.{int_max}
 use Rattle.std.proofs.lemmas.Bool.{cases_eq}
 use Rattle.std.proofs.lemmas.Int.{ints, clamps}
@@ -7,26 +7,21 @@ use Rattle.lattice.specs.Mosaic.{void}
 use Rattle.lattice.specs.Block.{Block, block_terrain, is_solid, is_exit}
 use Rattle.lattice.specs.Terrain.{IsPath, LeadsOut, crest, end_of}
 use Rattle.lattice.proofs.Levels.{≤ℤ_same, ≤ℤ_antisym}
+use Rattle.lattice.proofs.Multiples.{some_side}
 use Rattle.tile_flood.specs.Blocks.{block_of}
 use Rattle.tile_flood.specs.Labelling.{IsLabelling, Names}
 use Rattle.tile_flood.specs.Carried.{AreCarried, AreRelaxed}
 use Rattle.tile_flood.specs.Suspects.{IsMending}
 use Rattle.tile_flood.proofs.Squares.{linked_parts, solid_below}
 use Rattle.tile_flood.proofs.Dependence.{same_exit, same_inner, same_link, same_names, labelling_relaxed, relaxed_least, max_mono}
-use Rattle.tile_flood.proofs.Steps.{labelled_state, heights_state, mended_carried}
+use Rattle.tile_flood.proofs.Held.{not_below}
+use Rattle.tile_flood.proofs.Steps.{labelled_state, heights_state, mended}
 
 low_link : (level was now beside : ℤ) → level ≤ℤ int_max was beside → was <ℤ level → level ≤ℤ int_max now beside
 low_link level was now beside relaxed below = omega (arith, ints, clamps)
 
 max_low : (h c h₀ c₀ l : ℤ) → h ≤ℤ l → l ≤ℤ int_max h₀ c₀ → c ≤ℤ c₀ → int_max h c ≤ℤ int_max h₀ c₀
 max_low h c h₀ c₀ l low least on = omega (arith, ints, clamps)
-
-above : (level was : ℤ) → level ≤ℤ was → was <ℤ level → ⊥
-above level was le lt = absurd (omega (arith, ints))
-
-some_side : (n e : ℕ) → e < n * n → 0 < n
-some_side zero e small = absurd (omega arith)
-some_side (suc n) e small = omega arith
 
 module _ (n : ℕ) (heights : List ℤ) (sinks : List ℕ) (levels : List ℤ) (labels : List ℕ) (labelling : IsLabelling (block_of n heights sinks) levels labels)
     (e : ℕ) (h : ℤ) (inside : e < length heights) (same : (z : ℕ) → is_solid (block_of n heights sinks) z ≡ is_solid (block_of n (set heights e h) sinks) z)
@@ -39,7 +34,7 @@ module _ (n : ℕ) (heights : List ℤ) (sinks : List ℕ) (levels : List ℤ) (
 
   -- a way out has its height for its level
   no_exit : (z : ℕ) → IsTrue (is_exit (block_of n heights sinks) z) → z ≢ e
-  no_exit z out is = above (get_or levels e void) (get_or heights e void) (subst (λ x. get_or levels x void ≤ℤ get_or heights x void) is ((labelling_relaxed n heights sinks levels labels labelling).exits z out)) below
+  no_exit z out is = not_below (get_or levels e void) (get_or heights e void) (subst (λ x. get_or levels x void ≤ℤ get_or heights x void) is ((labelling_relaxed n heights sinks levels labels labelling).exits z out)) below
 
   abbrev before : Block
   before = block_of n heights sinks
@@ -127,4 +122,4 @@ module _ (n : ℕ) (heights : List ℤ) (sinks : List ℕ) (levels : List ℤ) (
         (λ z w. w) (λ x y on link le. inr (link_low x y le))
 
     pub carried_still : IsTrue (is_solid before e) → AreCarried now levels labels
-    carried_still ground = mended_carried n (set heights e h) sinks levels labels (λ _. ⊥) (λ _. ⊥) (λ _. ⊥) (λ _. ⊥) state (some_side n e (solid_below n heights e ground)) (λ z w. w) (λ z w. w)
+    carried_still ground = (mended n (set heights e h) sinks levels labels (λ _. ⊥) (λ _. ⊥) (λ _. ⊥) (λ _. ⊥) state (some_side n e (solid_below n heights e ground)) (λ z w. w) (λ z w. w)).1

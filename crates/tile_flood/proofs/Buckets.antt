@@ -158,7 +158,6 @@ module _ (least : ℤ) (pre bs post : List (List ℕ)) (none_before : AreEmpty p
       | inr above ↦
           let b : ℕ = w.0 - length pre in
           let same : w.0 ≡ length pre + b = omega arith in
-          let at = w.1.0 in
           (b, (omega (arith, ints), subst (λ xs. Contains xs e) (ap (bucket all) same ∙ among b) w.1.1))
     ];
     count = sum_by-append length (pre ++ bs) post ∙ (ap₂ (λ x y. x + y) (sum_by-append length pre bs ∙ ap (λ x. x + waiting (from_level least bs)) (no_count pre none_before)) (no_count post none_after) ∙ omega arith);
@@ -238,7 +237,6 @@ module _ {V : Type 0} (items : V → List ℕ) where
   has_bucket_at least level xs queue same low high =
       let number = number_from least level low in
       let as_many = map_length xs in
-      let at = number.1 in
       subst (λ q. HasBucket q level) same (record { number = number.0; inside = omega (arith, ints); at = number.1 })
 
   -- further buckets leave what waits as it was

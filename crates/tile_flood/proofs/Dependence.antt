@@ -104,10 +104,6 @@ module _ (n : ℕ) (heights : List ℤ) (sinks : List ℕ) (e : ℕ) (h : ℤ) (
 pub window_point_of : (n e y : ℕ) → IsTrue (is_beside n e y) → (d : ℕ) × ((d < 9) × IsInWindow n e d y)
 window_point_of n e y beside =
     let a = apart_of n e y beside in
-    let north = a.north in
-    let south = a.south in
-    let west = a.west in
-    let east = a.east in
     let r = y / n + 1 - e / n in
     let q = y % n + 1 - e % n in
     let r_small : r < 3 = omega arith in
@@ -119,8 +115,6 @@ window_point_of n e y beside =
 -- and its points lie beside it
 pub window_beside : (n e d z : ℕ) → d < 9 → IsInWindow n e d z → IsTrue (is_beside n e z)
 window_beside n e d z small spot =
-    let row = spot.0 in
-    let column = spot.1 in
     beside_if n e z (record { north = omega arith; south = omega arith; west = omega arith; east = omega arith })
 
 pub beside_itself : (n e : ℕ) → IsTrue (is_beside n e e)
@@ -129,19 +123,11 @@ beside_itself n e = beside_if n e e (record { north = omega arith; south = omega
 pub beside_back : (n e f : ℕ) → IsTrue (is_beside n e f) → IsTrue (is_beside n f e)
 beside_back n e f beside =
     let a = apart_of n e f beside in
-    let north = a.north in
-    let south = a.south in
-    let west = a.west in
-    let east = a.east in
     beside_if n f e (record { north = omega arith; south = omega arith; west = omega arith; east = omega arith })
 
 -- of one number there is one
 pub one_window_point : (n e d y z : ℕ) → IsInWindow n e d y → IsInWindow n e d z → y ≡ z
 one_window_point n e d y z a b =
-    let ar = a.0 in
-    let ac = a.1 in
-    let br = b.0 in
-    let bc = b.1 in
     let row : y / n ≡ z / n = omega arith in
     let column : y % n ≡ z % n = omega arith in
     cell_of n y ∙ (ap₂ (λ r q. r * n + q) row column ∙ sym (cell_of n z))

@@ -1,14 +1,16 @@
 -- Labels that are carried but for suspects, while a labelling is mended.
-use Rattle.std.proofs.Common.{◌≡◌, ◌≢◌, ℕ, ◌<◌, ℤ, ◌≤ℤ◌, ◌<ℤ◌, ◌⊎◌, not, nat_eq, IsTrue, IsFalse, List, [], ◌∷◌, length, get_or, set, get_or-set_other, get_or-set_same, slice_index, inl, inr, refl, sym, ap, ◌∙◌, subst, arith, true≢false}
+use Rattle.std.proofs.Common.{int_eq, ◌≡◌, ◌≢◌, ℕ, ◌<◌, ℤ, ◌≤ℤ◌, ◌<ℤ◌, ◌⊎◌, not, nat_eq, IsTrue, IsFalse, List, [], ◌∷◌, length, get_or, set, get_or-set_other, get_or-set_same, slice_index, inl, inr, refl, sym, ap, ◌∙◌, subst, arith, true≢false}
 use Rattle.std.specs.Int.{int_max}
 use Rattle.std.proofs.lemmas.Bool.{cases_Bool, cases_eq, eqb-false}
 use Rattle.std.proofs.lemmas.Int.{ints, clamps}
 use Rattle.lattice.specs.Mosaic.{void}
 use Rattle.lattice.specs.Block.{is_solid, is_linked, is_exit}
+use Rattle.lattice.proofs.Levels.{≤ℤ_same, ≤ℤ_trans, ≤ℤ_antisym}
 use Rattle.lattice.proofs.Lawful.{block_is_lawful}
 use Rattle.tile_flood.specs.Blocks.{block_of}
 use Rattle.tile_flood.specs.Labelling.{Names}
 use Rattle.tile_flood.specs.Carried.{IsSeed, IsCarriedBy, AreRelaxed}
+use Rattle.tile_flood.specs.Flooding.{is_marked}
 use Rattle.tile_flood.specs.Suspects.{IsHeldUp, IsHeldBy}
 use Rattle.tile_flood.proofs.Dependence.{same_exit, same_inner, same_link, same_names}
 
@@ -26,28 +28,30 @@ first_below h l m le = omega (arith, ints, clamps)
 pub apart_if : (z y : ℕ) → IsTrue (not (nat_eq z y)) → z ≡ y → ⊥
 apart_if z y apart is = elim (cases_Bool (nat_eq z y)) [ inl is_so ↦ true≢false (sym apart ∙ ap not is_so) | inr isnt ↦ eqb-false z y isnt is ]
 
-on_to : (a b c : ℤ) → a ≤ℤ b → b ≤ℤ c → a ≤ℤ c
-on_to a b c one two = omega (arith, ints)
-
-equal_if : (l m : ℤ) → m ≤ℤ l → l ≤ℤ m → l ≡ m
-equal_if l m one two = omega (arith, ints)
-
-at_most_it : (l : ℤ) → l ≤ℤ l
-at_most_it l = omega (arith, ints)
-
-not_below : (l m : ℤ) → l ≤ℤ m → m <ℤ l → ⊥
+pub not_below : (l m : ℤ) → l ≤ℤ m → m <ℤ l → ⊥
 not_below l m le lt = absurd (omega (arith, ints))
 
 lower_still : (h l l' m : ℤ) → int_max h l ≤ℤ m → l' <ℤ l → int_max h l' ≤ℤ m
 lower_still h l l' m le lt = omega (arith, ints, clamps)
 
+-- at other points a list is as it was
+module _ (levels : List ℤ) (labels : List ℕ) (y : ℕ) (l : ℤ) (a : ℕ) where
+  pub level_else : (z : ℕ) → z ≢ y → get_or (set levels y l) z void ≡ get_or levels z void
+  level_else z other = get_or-set_other levels y z l void other
+
+  pub label_else : (z : ℕ) → z ≢ y → slice_index (set labels y a) z ≡ slice_index labels z
+  label_else z other = get_or-set_other labels y z a 0 other
+
+  pub marked_else : (z : ℕ) → z ≢ y → is_marked (set levels y l) z ≡ is_marked levels z
+  marked_else z other = ap (λ v. not (int_eq v void)) (level_else z other)
+
 module _ (n : ℕ) (heights : List ℤ) (sinks : List ℕ) (levels : List ℤ) (labels : List ℕ) where
   -- along it levels don't rise
   pub never_rises : (Suspect : ℕ → Type 0) (y e : ℕ) (rest : List ℕ) → IsHeldBy n heights sinks levels labels Suspect e rest → Passes y e rest → get_or levels y void ≤ℤ get_or levels e void
-  never_rises Suspect y e [] by is = subst (λ z. get_or levels z void ≤ℤ get_or levels e void) is (at_most_it (get_or levels e void))
+  never_rises Suspect y e [] by is = subst (λ z. get_or levels z void ≤ℤ get_or levels e void) is (≤ℤ_same (get_or levels e void))
   never_rises Suspect y e (f ∷ rest) by passes = elim passes [
-    | inl is ↦ subst (λ z. get_or levels z void ≤ℤ get_or levels e void) is (at_most_it (get_or levels e void))
-    | inr on ↦ on_to (get_or levels y void) (get_or levels f void) (get_or levels e void) (never_rises Suspect y f rest by.1 on) (below_max (get_or heights e void) (get_or levels f void) (get_or levels e void) by.0.level)
+    | inl is ↦ subst (λ z. get_or levels z void ≤ℤ get_or levels e void) is (≤ℤ_same (get_or levels e void))
+    | inr on ↦ ≤ℤ_trans (get_or levels y void) (get_or levels f void) (get_or levels e void) (never_rises Suspect y f rest by.1 on) (below_max (get_or heights e void) (get_or levels f void) (get_or levels e void) by.0.level)
   ]
 
   -- so what begins below y doesn't pass it
@@ -63,7 +67,7 @@ module _ (n : ℕ) (heights : List ℤ) (sinks : List ℕ) (levels : List ℤ) (
       link = by.0.link;
       full = by.0.full;
       label = by.0.label;
-      level = equal_if (get_or levels e void) (int_max (get_or heights e void) (get_or levels f void)) by.0.level (relaxed.links f e ((block_is_lawful (block_of n heights sinks)).both_ways e f by.0.link));
+      level = ≤ℤ_antisym (get_or levels e void) (int_max (get_or heights e void) (get_or levels f void)) (relaxed.links f e ((block_is_lawful (block_of n heights sinks)).both_ways e f by.0.link)) by.0.level;
     },
     carried_end Suspect none relaxed f rest by.1,
   )
@@ -115,12 +119,6 @@ module _ (n : ℕ) (heights : List ℤ) (sinks : List ℕ) (levels : List ℤ) (
   abbrev new_labels : List ℕ
   new_labels = set labels y a
 
-  level_else : (z : ℕ) → z ≢ y → get_or new_levels z void ≡ get_or levels z void
-  level_else z other = get_or-set_other levels y z l void other
-
-  label_else : (z : ℕ) → z ≢ y → slice_index new_labels z ≡ slice_index labels z
-  label_else z other = get_or-set_other labels y z a 0 other
-
   level_here : y < length levels → get_or new_levels y void ≡ l
   level_here small = get_or-set_same levels y l void small
 
@@ -157,9 +155,9 @@ module _ (n : ℕ) (heights : List ℤ) (sinks : List ℕ) (levels : List ℤ) (
             inner = inner;
             link = link;
             own = subst (λ v. v ≢ void) (sym (level_here in_levels)) full;
-            full = subst (λ v. v ≢ void) (sym (level_else x x_else)) full_x;
-            label = label_here in_labels ∙ (sym label ∙ sym (label_else x x_else));
-            level = rw (level_here in_levels) (rw (level_else x x_else) gives);
+            full = subst (λ v. v ≢ void) (sym (level_else levels labels y l a x x_else)) full_x;
+            label = label_here in_labels ∙ (sym label ∙ sym (label_else levels labels y l a x x_else));
+            level = rw (level_here in_levels) (rw (level_else levels labels y l a x x_else) gives);
           },
           beside_it still x given by (open_off gone Suspect x given x_else by),
         ),
@@ -195,7 +193,7 @@ module _ (n : ℕ) (heights : List ℤ) (sinks : List ℕ) (levels : List ℤ) (
   x_lower = let low = below_max (get_or heights y void) (get_or levels x void) l gives in omega (arith, ints)
 
   x_else : x ≢ y
-  x_else is = not_below (get_or levels y void) (get_or levels x void) (subst (λ z. get_or levels z void ≤ℤ get_or levels x void) is (at_most_it (get_or levels x void))) x_lower
+  x_else is = not_below (get_or levels y void) (get_or levels x void) (subst (λ z. get_or levels z void ≤ℤ get_or levels x void) is (≤ℤ_same (get_or levels x void))) x_lower
 
   -- y hangs on its giver, whose way doesn't pass it
   here : (rest : List ℕ) → IsHeldBy n heights sinks levels labels Suspect x rest → IsHeldBy n heights sinks low_levels low_labels Suspect' y (x ∷ rest)
@@ -204,9 +202,9 @@ module _ (n : ℕ) (heights : List ℤ) (sinks : List ℕ) (levels : List ℤ) (
       inner = inner;
       link = link;
       own = subst (λ v. v ≢ void) (sym (level_here n heights sinks levels labels Suspect Suspect' y l a in_levels)) full;
-      full = subst (λ v. v ≢ void) (sym (level_else n heights sinks levels labels Suspect Suspect' y l a x x_else)) full_x;
-      label = label_here n heights sinks levels labels Suspect Suspect' y l a in_labels ∙ (sym label ∙ sym (label_else n heights sinks levels labels Suspect Suspect' y l a x x_else));
-      level = rw (level_here n heights sinks levels labels Suspect Suspect' y l a in_levels) (rw (level_else n heights sinks levels labels Suspect Suspect' y l a x x_else) gives);
+      full = subst (λ v. v ≢ void) (sym (level_else levels labels y l a x x_else)) full_x;
+      label = label_here n heights sinks levels labels Suspect Suspect' y l a in_labels ∙ (sym label ∙ sym (label_else levels labels y l a x x_else));
+      level = rw (level_here n heights sinks levels labels Suspect Suspect' y l a in_levels) (rw (level_else levels labels y l a x x_else) gives);
     },
     beside_it n heights sinks levels labels Suspect Suspect' y l a still x rest by (passes_by n heights sinks levels labels Suspect y x rest by x_lower),
   )
@@ -220,10 +218,10 @@ module _ (n : ℕ) (heights : List ℤ) (sinks : List ℕ) (levels : List ℤ) (
         record {
           inner = up.inner;
           link = up.link;
-          own = subst (λ v. v ≢ void) (sym (level_else n heights sinks levels labels Suspect Suspect' y l a z other)) up.own;
+          own = subst (λ v. v ≢ void) (sym (level_else levels labels y l a z other)) up.own;
           full = subst (λ v. v ≢ void) (sym (level_here n heights sinks levels labels Suspect Suspect' y l a in_levels)) full;
-          label = label_else n heights sinks levels labels Suspect Suspect' y l a z other ∙ (up.label ∙ (same ∙ sym (label_here n heights sinks levels labels Suspect Suspect' y l a in_labels)));
-          level = rw (level_else n heights sinks levels labels Suspect Suspect' y l a z other) (rw (level_here n heights sinks levels labels Suspect Suspect' y l a in_levels) (lower_still (get_or heights z void) (get_or levels y void) l (get_or levels z void) up.level lower));
+          label = label_else levels labels y l a z other ∙ (up.label ∙ (same ∙ sym (label_here n heights sinks levels labels Suspect Suspect' y l a in_labels)));
+          level = rw (level_else levels labels y l a z other) (rw (level_here n heights sinks levels labels Suspect Suspect' y l a in_levels) (lower_still (get_or heights z void) (get_or levels y void) l (get_or levels z void) up.level lower));
         },
         by,
       ),

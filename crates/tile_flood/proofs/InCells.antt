@@ -1,6 +1,5 @@
 -- The levels and the labels that stand in cells.
 use Rattle.std.proofs.Common.{◌≡◌, ◌≢◌, ℕ, ◌*◌, ◌+◌, ◌<◌, ℤ, pos, false, true, not, IsTrue, List, length, get_or, set, slice_index, nat_eq, nat_lt, inl, inr, sym, ap, ◌∙◌, subst, arith, true≢false, length-set, get_or-set_other, get_or-set_same}
-use Rattle.std.specs.Ordering.{int_eq}
 use Rattle.std.proofs.lemmas.Bool.{cases_Bool, cases_eq, cases_lt, cond-true, cond-false, eqb-true, eq-eqb, ne_eqb, and_from, lt-ltb}
 use Rattle.std.proofs.lemmas.Bool.Decides.{Decides-int_eq}
 use Rattle.std.proofs.lemmas.List.{get_or-map, length-map, map-set, get_or_past, get_or_default}
@@ -11,9 +10,11 @@ use Rattle.tile_flood.specs.declared.cells.Cell.{Cell}
 use Rattle.tile_flood.specs.Labelling.{NO_LABEL}
 use Rattle.tile_flood.specs.Blocks.{block_of, bare_block}
 use Rattle.tile_flood.specs.Cells.{OPEN, level_of, label_of, levels_of, labels_of, AreCells, IsFresh}
-use Rattle.tile_flood.specs.Flooding.{is_marked, IsOwnLabel, AreMarks, IsSpreading}
+use Rattle.tile_flood.specs.Flooding.{is_marked, IsOwnLabel}
+use Rattle.tile_flood.specs.Spreading.{IsSpreading}
 use Rattle.tile_flood.specs.Waiting.{Queue}
-use Rattle.tile_flood.proofs.Spreading.{marked_solid}
+use Rattle.tile_flood.proofs.Steps.{unmarked_void}
+use Rattle.tile_flood.proofs.Spreading.{spreader_solid}
 use Rattle.tile_flood.proofs.Squares.{not_void_if, test_if, solid_height, solid_below}
 use Rattle.tile_flood.proofs.Raised.{rim_number_below}
 
@@ -79,9 +80,7 @@ pub own_labelled : (n : ℕ) (heights : List ℤ) (sinks : List ℕ) (e label : 
 own_labelled n heights sinks e label side small own = elim own.names [
   | inl rim ↦
       let low = side.0 in
-      let high = side.1 in
       let below = rim_number_below n e low small in
-      let at = rim.1 in
       (λ is. omega arith, λ is. omega arith)
   | inr inner ↦ let at = inner.1 in (λ is. omega arith, λ is. omega arith)
 ]
@@ -95,7 +94,6 @@ pub record IsOpen (n : ℕ) (heights : List ℤ) (cells : List Cell) (e : ℕ) :
 pub open_if : (n : ℕ) (heights : List ℤ) (cells : List Cell) (e : ℕ) → length heights ≡ n * n → AreCells heights cells → e < n * n → (cell : Cell) → cell ≡ get_or cells e none →
     nat_eq cell.label OPEN ≡ true → IsOpen n heights cells e
 open_if n heights cells e whole s below cell is test =
-    let long = s.whole in
     let inside : e < length cells = omega arith in
     let label : (get_or cells e none).label ≡ OPEN = sym (ap (λ c. c.label) is) ∙ eqb-true cell.label OPEN test in
     let ground = s.ground e none inside label in
@@ -106,15 +104,14 @@ open_if n heights cells e whole s below cell is test =
     }
 
 -- any other ground point is marked
-pub marked_unless_open : (n : ℕ) (heights : List ℤ) (sinks : List ℕ) (cells : List Cell) (queue : Queue) (e : ℕ) → length heights ≡ n * n → AreCells heights cells → AreMarks (block_of n heights sinks) (levels_of cells) (labels_of cells) queue → e < n * n → (cell : Cell) → cell ≡ get_or cells e none →
+pub marked_unless_open : (n : ℕ) (heights : List ℤ) (cells : List Cell) (e : ℕ) → length heights ≡ n * n → AreCells heights cells → (is_marked (levels_of cells) e ≡ false → slice_index (labels_of cells) e ≡ NO_LABEL) → e < n * n → (cell : Cell) → cell ≡ get_or cells e none →
     nat_eq cell.label OPEN ≡ false → IsTrue (is_solid (bare_block n heights) e) → IsTrue (is_marked (levels_of cells) e)
-marked_unless_open n heights sinks cells queue e whole s marks below cell is test solid = elim (cases_Bool (is_marked (levels_of cells) e)) [
+marked_unless_open n heights cells e whole s unlabelled below cell is test solid = elim (cases_Bool (is_marked (levels_of cells) e)) [
   | inl on ↦ on
   | inr off ↦
-      let long = s.whole in
       let inside : e < length cells = omega arith in
       let closed : (get_or cells e none).label ≢ OPEN = λ same. true≢false (sym (eq-eqb cell.label OPEN (ap (λ c. c.label) is ∙ same)) ∙ test) in
-      let label : (get_or cells e none).label ≡ NO_LABEL = sym (label_at cells e none inside ∙ (value_if (get_or cells e none) closed).1) ∙ marks.unlabelled e below off in
+      let label : (get_or cells e none).label ≡ NO_LABEL = sym (label_at cells e none inside ∙ (value_if (get_or cells e none) closed).1) ∙ unlabelled off in
       absurd (solid_height n heights e solid (s.gaps e none inside label))
 ]
 
@@ -122,12 +119,11 @@ marked_unless_open n heights sinks cells queue e whole s marks below cell is tes
 pub front_labelled : (n : ℕ) (heights : List ℤ) (sinks : List ℕ) (cells : List Cell) (queue : Queue) (c : ℕ) (low : ℤ) (label : ℕ) → length heights ≡ n * n → AreCells heights cells → IsSpreading (block_of n heights sinks) (levels_of cells) (labels_of cells) queue c low label →
     (label ≢ NO_LABEL) × (label ≢ OPEN)
 front_labelled n heights sinks cells queue c low label whole s spreading =
-    let long = s.whole in
-    let solid = marked_solid n heights sinks (levels_of cells) (labels_of cells) queue c spreading.marks spreading.taken.0 in
+    let solid = spreader_solid n heights sinks (levels_of cells) (labels_of cells) queue c low label spreading in
     let below = solid_below n heights c solid in
     let inside : c < length cells = omega arith in
-    let closed = closed_if cells c none inside spreading.taken.0 in
-    let at : (get_or cells c none).label ≡ label = sym (label_at cells c none inside ∙ (value_if (get_or cells c none) closed).1) ∙ spreading.named in
+    let closed = closed_if cells c none inside spreading.passing.marked in
+    let at : (get_or cells c none).label ≡ label = sym (label_at cells c none inside ∙ (value_if (get_or cells c none) closed).1) ∙ spreading.passing.named in
     (λ is. solid_height n heights c solid (s.gaps c none inside (at ∙ is)), λ is. closed (at ∙ is))
 
 -- a marked point's own label is in its cell
@@ -139,12 +135,6 @@ pub one_more : {X : Type 0} (d : X) (xs ys : List X) (e : ℕ) (v : X) → e < l
 one_more d xs ys e v inside is before f below = elim (cases_eq f e) [
   | inl same ↦ ap (λ k. get_or (set xs e v) k d) same ∙ (get_or-set_same xs e v d inside ∙ (is ∙ ap (λ k. get_or ys k d) (sym same)))
   | inr other ↦ get_or-set_other xs e f v d other ∙ before f (omega arith)
-]
-
-void_if_off : (levels : List ℤ) (e : ℕ) → is_marked levels e ≡ false → get_or levels e void ≡ void
-void_if_off levels e off = elim (cases_Bool (int_eq (get_or levels e void) void)) [
-  | inl is ↦ (Decides-int_eq (get_or levels e void) void).0 is
-  | inr isnt ↦ absurd (true≢false (sym (ap not isnt) ∙ off))
 ]
 
 -- one more cell is written
@@ -169,7 +159,7 @@ module _ (heights : List ℤ) (cells : List Cell) (whole : length cells ≡ leng
         let f = fresh e d (omega arith) in
         elim (cases_Bool (is_marked heights e)) [
           | inl on ↦ let ground = f.ground on in absurd (omega arith)
-          | inr off ↦ void_if_off heights e off
+          | inr off ↦ unmarked_void heights e off
         ];
   }
 
@@ -181,7 +171,7 @@ module _ (heights : List ℤ) (cells : List Cell) (whole : length cells ≡ leng
         | inr off ↦
             let gap = f.gap off in
             let v = value_if (get_or cells e none) (λ is. absurd (omega arith)) in
-            (v.0 ∙ (f.level ∙ void_if_off heights e off), v.1 ∙ gap)
+            (v.0 ∙ (f.level ∙ unmarked_void heights e off), v.1 ∙ gap)
       ]
 
   pub fresh_level : (e : ℕ) → get_or (levels_of cells) e void ≡ void

@@ -1,13 +1,9 @@
 -- A block is a part of its mosaic: what is adjacent to an inner point lies in its own tile, a path leaves the tile only
 -- at its rim, and an inner outlet is an outlet of the mosaic.
-use Rattle.std.proofs.Common.{◌≡◌, ◌≢◌, ℕ, suc, ◌+◌, ◌*◌, ◌-◌, ◌/◌, ◌%◌, ◌<◌, ◌≤◌, inl, inr, ℤ, pos, ◌+ℤ◌, ◌-ℤ◌, ◌*ℤ◌, Bool, true, false, not, cond, IsTrue, ◌&&◌, ◌||◌, List, [], ◌∷◌, get_or, refl, sym, ap, ap₂, ◌∙◌, subst, arith, true≢false, nat_abs, nat_eq, All}
-use Rattle.std.specs.Prelude.{nat_lt}
-use Rattle.std.specs.Ordering.{int_eq}
+use Rattle.std.proofs.Common.{◌≡◌, ◌≢◌, ℕ, suc, ◌+◌, ◌*◌, ◌-◌, ◌/◌, ◌%◌, ◌<◌, ◌≤◌, inl, inr, ℤ, pos, ◌+ℤ◌, ◌-ℤ◌, ◌*ℤ◌, Bool, true, false, not, cond, IsTrue, ◌&&◌, ◌||◌, List, [], ◌∷◌, get_or, refl, sym, ap, ap₂, ◌∙◌, subst, arith, true≢false, nat_abs, nat_eq, All, nat_lt}
 use Rattle.std.specs.List.{list_any, list_all}
 use Rattle.std.proofs.lemmas.Int.{ints}
-use Rattle.std.proofs.lemmas.Grind.{rows}
-use Rattle.std.proofs.lemmas.Bool.{cases_Bool, and_parts, and_from, or_cases, or_left, or_right, ltb-true, lt-ltb, ltb-false, eqb-true, ne_eqb, eqb-false, or_parts, not-true, eq-eqb}
-use Rattle.std.proofs.lemmas.Bool.Decides.{Decides-int_eq}
+use Rattle.std.proofs.lemmas.Bool.{cases_Bool, and_parts, and_from, or_cases, or_left, or_right, ltb-true, lt-ltb, ltb-false, eqb-true, ne_eqb, not-true, eq-eqb}
 use Rattle.lattice.specs.declared.point.Point.{Point}
 use Rattle.lattice.specs.declared.height.Height.{Height}
 use Rattle.lattice.specs.declared.direction.Dir.{Dir}
@@ -20,15 +16,15 @@ use Rattle.lattice.specs.Height.{height_of, by_seam_rule, first_height, samples_
 use Rattle.lattice.specs.Ground.{is_ground, is_sink, is_height, metres, same_point, is_near, share_tile, is_adjacent, degree_of, is_outlet, terrain}
 use Rattle.lattice.specs.Block.{IsBlockOf, block_terrain, is_solid, is_linked, is_rim, is_exit, is_inner_outlet, is_sink_at, around}
 use Rattle.lattice.proofs.Along.{from_parts}
+use Rattle.lattice.proofs.CornerOrder.{same_says}
+use Rattle.lattice.proofs.SamePoints.{same_point_says, same_point_from}
+use Rattle.lattice.proofs.Interior.{IsInner, inner_if}
 use Rattle.lattice.proofs.Samples.{holds_is, point_of_held, index_of_point_is, point_of_index, index_of_below}
 use Rattle.lattice.proofs.Lawful.{five_parts, five_from, terrain_is_lawful}
 use Rattle.lattice.proofs.BoolTests.{one_at_most}
 use Rattle.tile_flood.proofs.Parts.{IsPart}
 use Rattle.tile_flood.specs.Blocks.{block_of, bare_block}
-use Rattle.tile_flood.proofs.Squares.{inner_at, linked_parts, linked_from, linked_apart, Apart, beside_if, solid_below, row_of_cell, column_of_cell, cell_of, row_below, rim_is_exit, inner_is_exit}
-
-same_if : (a b : ℤ) → IsTrue (int_eq a b) → a ≡ b
-same_if a b h = (Decides-int_eq a b).0 h
+use Rattle.tile_flood.proofs.Squares.{in_square, inner_at, linked_parts, linked_from, linked_apart, Apart, beside_if, solid_below, row_of_cell, column_of_cell, cell_of, rim_is_exit, inner_is_exit}
 
 -- a point is ground where its height in metres isn't that of a void
 ground_by_metres : (samples : List ℤ) → is_height (by_seam_rule samples) ≡ not (is_void (metres (by_seam_rule samples)))
@@ -46,19 +42,14 @@ ground_by_metres (s ∷ later) = first (s ∷ later)
 tile_passes : (f : Corner → Bool) (c : Corner) (tiles : List Tile) → IsTrue (list_any (λ t. same_corner t.corner c) tiles) → IsTrue (f c) → IsTrue (list_any (λ t. f t.corner) tiles)
 tile_passes f c [] here yes_c = absurd (true≢false (sym here))
 tile_passes f c (t ∷ rest) here yes_c = elim (or_cases (same_corner t.corner c) (list_any (λ t. same_corner t.corner c) rest) here) [
-  | inl this ↦ or_left (f t.corner) (list_any (λ t. f t.corner) rest) (subst (λ p. IsTrue (f p)) (sym (one_corner t.corner c this)) yes_c)
+  | inl this ↦ or_left (f t.corner) (list_any (λ t. f t.corner) rest) (subst (λ p. IsTrue (f p)) (sym (same_says t.corner c this)) yes_c)
   | inr later ↦ or_right (f t.corner) (list_any (λ t. f t.corner) rest) (tile_passes f c rest later yes_c)
 ]
-  where
-    one_corner : (a b : Corner) → IsTrue (same_corner a b) → a ≡ b
-    one_corner a b h = let both = and_parts (int_eq a.lat b.lat) (int_eq a.lon b.lon) h in
-        ap₂ (λ (u v : ℤ). record { lat = u; lon = v }) (same_if a.lat b.lat both.0) (same_if a.lon b.lon both.1)
 
 corner_of_tile : (n : ℕ) (c : Corner) (tiles : List Tile) → All (IsTile n) tiles → IsTrue (list_any (λ t. same_corner t.corner c) tiles) → IsTrue (is_corner c)
 corner_of_tile n c [] all here = absurd (true≢false (sym here))
 corner_of_tile n c (t ∷ rest) all here = elim (or_cases (same_corner t.corner c) (list_any (λ t. same_corner t.corner c) rest) here) [
-  | inl this ↦ let both = and_parts (int_eq t.corner.lat c.lat) (int_eq t.corner.lon c.lon) this in
-      subst (λ p. IsTrue (is_corner p)) (ap₂ (λ (u v : ℤ). record { lat = u; lon = v }) (same_if t.corner.lat c.lat both.0) (same_if t.corner.lon c.lon both.1)) (all 0 t (omega arith)).corner
+  | inl this ↦ subst (λ p. IsTrue (is_corner p)) (same_says t.corner c this) (all 0 t (omega arith)).corner
   | inr later ↦ corner_of_tile n c rest (λ k d lt. all (suc k) d (omega arith)) later
 ]
 
@@ -81,59 +72,33 @@ true_if : (b : Bool) → 1 ≤ cond b 1 0 → b ≡ true
 true_if true h = refl
 true_if false h = absurd (omega arith)
 
-record Each (a b c d e f g h : ℕ) : Type 0 where
-  a1 : 1 ≤ a
-  b1 : 1 ≤ b
-  c1 : 1 ≤ c
-  d1 : 1 ≤ d
-  e1 : 1 ≤ e
-  f1 : 1 ≤ f
-  g1 : 1 ≤ g
-  h1 : 1 ≤ h
+-- of eight numbers up to one, whose sum is eight, each is one
+eight_ones : (a b c d e f g h : ℕ) → a ≤ 1 → b ≤ 1 → c ≤ 1 → d ≤ 1 → e ≤ 1 → f ≤ 1 → g ≤ 1 → h ≤ 1 → 8 ≤ 0 + a + b + c + d + e + f + g + h →
+    (1 ≤ a) × ((1 ≤ b) × ((1 ≤ c) × ((1 ≤ d) × ((1 ≤ e) × ((1 ≤ f) × ((1 ≤ g) × (1 ≤ h)))))))
+eight_ones a b c d e f g h la lb lc ld le lf lg lh all = (omega arith, (omega arith, (omega arith, (omega arith, (omega arith, (omega arith, (omega arith, omega arith)))))))
 
-each_of : (a b c d e f g h : ℕ) → a ≤ 1 → b ≤ 1 → c ≤ 1 → d ≤ 1 → e ≤ 1 → f ≤ 1 → g ≤ 1 → h ≤ 1 → 8 ≤ 0 + a + b + c + d + e + f + g + h → Each a b c d e f g h
-each_of a b c d e f g h la lb lc ld le lf lg lh all = record {
-  a1 = omega arith;
-  b1 = omega arith;
-  c1 = omega arith;
-  d1 = omega arith;
-  e1 = omega arith;
-  f1 = omega arith;
-  g1 = omega arith;
-  h1 = omega arith;
-}
-
-sum_of : (a b c d e f g h : ℕ) → Each a b c d e f g h → 8 ≤ 0 + a + b + c + d + e + f + g + h
-sum_of a b c d e f g h all =
-    let a1 = all.a1 in let b1 = all.b1 in let c1 = all.c1 in let d1 = all.d1 in let e1 = all.e1 in let f1 = all.f1 in let g1 = all.g1 in let h1 = all.h1 in omega arith
+sum_of_ones : (a b c d e f g h : ℕ) → 1 ≤ a → 1 ≤ b → 1 ≤ c → 1 ≤ d → 1 ≤ e → 1 ≤ f → 1 ≤ g → 1 ≤ h → 8 ≤ 0 + a + b + c + d + e + f + g + h
+sum_of_ones a b c d e f g h la lb lc ld le lf lg lh = omega arith
 
 pub eight_from_degree : (m : Mosaic) (p : Point) → 8 ≤ degree_of m p → AllEight (λ d. is_adjacent m p (step d p))
 eight_from_degree m p h =
     let adjacent : Dir → ℕ = λ d. cond (is_adjacent m p (step d p)) 1 0 in
-    let each = each_of (adjacent East) (adjacent SouthEast) (adjacent South) (adjacent SouthWest) (adjacent West) (adjacent NorthWest) (adjacent North) (adjacent NorthEast)
+    let each = eight_ones (adjacent East) (adjacent SouthEast) (adjacent South) (adjacent SouthWest) (adjacent West) (adjacent NorthWest) (adjacent North) (adjacent NorthEast)
     (one_at_most _) (one_at_most _) (one_at_most _) (one_at_most _) (one_at_most _) (one_at_most _) (one_at_most _) (one_at_most _) h in
     record {
-      east = true_if _ each.a1;
-      south_east = true_if _ each.b1;
-      south = true_if _ each.c1;
-      south_west = true_if _ each.d1;
-      west = true_if _ each.e1;
-      north_west = true_if _ each.f1;
-      north = true_if _ each.g1;
-      north_east = true_if _ each.h1;
+      east = true_if _ each.0;
+      south_east = true_if _ each.1.0;
+      south = true_if _ each.1.1.0;
+      south_west = true_if _ each.1.1.1.0;
+      west = true_if _ each.1.1.1.1.0;
+      north_west = true_if _ each.1.1.1.1.1.0;
+      north = true_if _ each.1.1.1.1.1.1.0;
+      north_east = true_if _ each.1.1.1.1.1.1.1;
     }
 
 pub degree_from_eight : (m : Mosaic) (p : Point) → AllEight (λ d. is_adjacent m p (step d p)) → 8 ≤ degree_of m p
-degree_from_eight m p all = sum_of _ _ _ _ _ _ _ _ (record {
-  a1 = one_if _ all.east;
-  b1 = one_if _ all.south_east;
-  c1 = one_if _ all.south;
-  d1 = one_if _ all.south_west;
-  e1 = one_if _ all.west;
-  f1 = one_if _ all.north_west;
-  g1 = one_if _ all.north;
-  h1 = one_if _ all.north_east;
-})
+degree_from_eight m p all = sum_of_ones _ _ _ _ _ _ _ _ (one_if _ all.east) (one_if _ all.south_east) (one_if _ all.south) (one_if _ all.south_west)
+    (one_if _ all.west) (one_if _ all.north_west) (one_if _ all.north) (one_if _ all.north_east)
 
 -- the cell of the block that lies in a direction, and its row and column
 offset : ℕ → ℕ → Dir → ℕ
@@ -185,26 +150,6 @@ is_offset n e row column side at NorthWest = record { cell = omega arith; down =
 is_offset n e row column side at North = record { cell = omega arith; down = omega arith; right = omega arith; y = omega (arith, ints); x = omega (arith, ints); apart = omega arith }
 is_offset n e row column side at NorthEast = record { cell = omega arith; down = omega arith; right = omega arith; y = omega (arith, ints); x = omega (arith, ints); apart = omega arith }
 
--- a point off the rim has a row above and below it, and a column on either side
-pub record IsInner (n e : ℕ) : Type 0 where
-  pub above : 1 ≤ e / n
-  pub below : e / n + 2 ≤ n
-  pub before : 1 ≤ e % n
-  pub after : e % n + 2 ≤ n
-
-pub inner_if : (n e : ℕ) → e < n * n → 3 ≤ n → is_rim n e ≡ false → IsInner n e
-inner_if n e small side off =
-    let a = or_parts (nat_eq (e / n) 0 || nat_eq (e / n + 1) n || nat_eq (e % n) 0) (nat_eq (e % n + 1) n) off in
-    let b = or_parts (nat_eq (e / n) 0 || nat_eq (e / n + 1) n) (nat_eq (e % n) 0) a.0 in
-    let d = or_parts (nat_eq (e / n) 0) (nat_eq (e / n + 1) n) b.0 in
-    let row : e / n < n = row_below n e small in
-    let column : e % n < n = omega arith in
-    let r0 : e / n ≢ 0 = eqb-false (e / n) 0 d.0 in
-    let r1 : e / n + 1 ≢ n = eqb-false (e / n + 1) n d.1 in
-    let c0 : e % n ≢ 0 = eqb-false (e % n) 0 b.1 in
-    let c1 : e % n + 1 ≢ n = eqb-false (e % n + 1) n a.1 in
-    record { above = omega arith; below = omega arith; before = omega arith; after = omega arith }
-
 module _ (m : Mosaic) (is : IsMosaic m) (c : Corner) (present : IsTrue (is_present m c)) (heights : List ℤ) (sinks : List ℕ) (of : IsBlockOf m c (block_of m.side heights sinks)) where
   at : ℕ → Point
   at e = point_of m.side c e
@@ -230,13 +175,6 @@ module _ (m : Mosaic) (is : IsMosaic m) (c : Corner) (present : IsTrue (is_prese
   held : (e : ℕ) → e < m.side * m.side → IsTrue (holds m.side c (point_of m.side c e))
   held e small = (holds_is m.side c (point_of m.side c e) is.side_low corner).1 (point_of_held m.side c e some corner small)
 
-  coordinates : (p q : Point) → IsTrue (same_point p q) → p ≡ q
-  coordinates p q h = let both = and_parts (int_eq p.y q.y) (int_eq p.x q.x) h in
-      ap₂ (λ (u v : ℤ). record { y = u; x = v }) (same_if p.y q.y both.0) (same_if p.x q.x both.1)
-
-  equal_itself : (p : Point) → IsTrue (same_point p p)
-  equal_itself p = and_from (int_eq p.y p.y) (int_eq p.x p.x) ((Decides-int_eq p.y p.y).1 refl) ((Decides-int_eq p.x p.x).1 refl)
-
   one_index : (e f : ℕ) → e < m.side * m.side → f < m.side * m.side → point_of m.side c e ≡ point_of m.side c f → e ≡ f
   one_index e f small small' same = sym (index_of_point_is m.side c e some corner small) ∙ ap (index_of m.side c) same ∙ index_of_point_is m.side c f some corner small'
 
@@ -260,7 +198,7 @@ module _ (m : Mosaic) (is : IsMosaic m) (c : Corner) (present : IsTrue (is_prese
         first = solid_is_ground e both.from;
         second = solid_is_ground f both.to;
         third = elim (cases_Bool (same_point p q)) [
-          | inl same ↦ absurd (true≢false (sym both.apart ∙ ap not (ap (nat_eq e) (sym (one_index e f in_e in_f (coordinates p q same))) ∙ eq-eqb e e refl)))
+          | inl same ↦ absurd (true≢false (sym both.apart ∙ ap not (ap (nat_eq e) (sym (one_index e f in_e in_f (same_point_says p q same))) ∙ eq-eqb e e refl)))
           | inr differs ↦ ap not differs
         ];
         fourth = near_if (c.lat *ℤ pos (m.side - 1) +ℤ pos (m.side - 1)) (c.lon *ℤ pos (m.side - 1)) (e / m.side) (f / m.side) (e % m.side) (f % m.side) apart.north apart.south apart.west apart.east;
@@ -278,7 +216,7 @@ module _ (m : Mosaic) (is : IsMosaic m) (c : Corner) (present : IsTrue (is_prese
         from = ground_is e small ∙ all.first;
         to = ground_is f small' ∙ all.second;
         apart = elim (cases_Bool (nat_eq e f)) [
-          | inl one ↦ absurd (true≢false (sym all.third ∙ ap not (ap (same_point p) (ap (point_of m.side c) (sym (eqb-true e f one))) ∙ equal_itself p)))
+          | inl one ↦ absurd (true≢false (sym all.third ∙ ap not (ap (same_point p) (ap (point_of m.side c) (sym (eqb-true e f one))) ∙ same_point_from p p refl)))
           | inr differs ↦ ap not differs
         ];
         beside = beside_if m.side e f (cells (c.lat *ℤ pos (m.side - 1) +ℤ pos (m.side - 1)) (c.lon *ℤ pos (m.side - 1)) (ltb-true _ _ near.0) (ltb-true _ _ near.1));
@@ -302,7 +240,7 @@ module _ (m : Mosaic) (is : IsMosaic m) (c : Corner) (present : IsTrue (is_prese
       let near = and_parts (nat_lt (nat_abs (p.y -ℤ q.y)) 2) (nat_lt (nat_abs (p.x -ℤ q.x)) 2) all.fourth in
       let near_y : nat_abs (p.y -ℤ q.y) < 2 = ltb-true _ _ near.0 in
       let near_x : nat_abs (p.x -ℤ q.x) < 2 = ltb-true _ _ near.1 in
-      let inner = inner_if n e (solid_below n heights e solid) is.side_low off in
+      let inner = inner_if n e is.side_low (solid_below n heights e solid) off in
       let a = inner.above in let b = inner.below in let d = inner.before in let f = inner.after in
       let along_y : IsTrue (is_along (pos (n - 1)) c.lat q.y) = from_parts (n - 1) c.lat q.y (omega (arith, ints)) (omega (arith, ints)) in
       let along_x : IsTrue (is_along (pos (n - 1)) c.lon q.x) = from_parts (n - 1) c.lon q.x (omega (arith, ints)) (omega (arith, ints)) in
@@ -317,7 +255,7 @@ module _ (m : Mosaic) (is : IsMosaic m) (c : Corner) (present : IsTrue (is_prese
 
   module _ (e : ℕ) (solid : IsTrue (is_solid (bare_block m.side heights) e)) (off : is_rim m.side e ≡ false) where
     inner : IsInner m.side e
-    inner = inner_if m.side e (solid_below m.side heights e solid) is.side_low off
+    inner = inner_if m.side e is.side_low (solid_below m.side heights e solid) off
 
     offset_at : (d : Dir) → IsOffset m.side e (e / m.side - 1) (e % m.side - 1) d
     offset_at d =
@@ -342,9 +280,6 @@ module _ (m : Mosaic) (is : IsMosaic m) (c : Corner) (present : IsTrue (is_prese
         let o = offset_at d in let r = o.right in let l = o.down in
         let a = inner.above in let b = inner.below in let a' = inner.before in let b' = inner.after in
         subst (λ v. v < m.side * m.side) (sym o.cell) (in_square m.side ((e / m.side - 1) + down_of d) ((e % m.side - 1) + right_of d) (omega arith) (omega arith))
-      where
-        in_square : (n i j : ℕ) → i < n → j < n → i * n + j < n * n
-        in_square n i j row column = grind (arith, rows)
 
     offset_point : (d : Dir) → point_of m.side c (offset m.side e d) ≡ step d (point_of m.side c e)
     offset_point d =

@@ -16,14 +16,6 @@ pub record AreNear (c d : ℕ) : Type 0 where
 
 near_beside : (n p c d y z : ℕ) → IsInWindow n p c y → IsInWindow n p d z → AreNear c d → IsTrue (is_beside n y z)
 near_beside n p c d y z at_y at_z near =
-    let a = at_y.0 in
-    let b = at_y.1 in
-    let e = at_z.0 in
-    let f = at_z.1 in
-    let north = near.north in
-    let south = near.south in
-    let west = near.west in
-    let east = near.east in
     beside_if n y z (record { north = omega arith; south = omega arith; west = omega arith; east = omega arith })
 
 -- each place of the window but its centre is one round it
@@ -76,7 +68,6 @@ module _ (n : ℕ) (levels : List ℤ) (labels : List ℕ) (p start : ℕ) where
   seen_or_there k z seen = elim (cases_lt seen.place k) [
     | inl before ↦ inl (record { place = seen.place; before = before; spot = seen.spot; around = seen.around })
     | inr on ↦
-        let before = seen.before in
         let at : seen.place ≡ k = omega arith in
         inr (subst (λ j. IsInWindow n p (in_round ((start + j) % 8)) z) at seen.spot, seen.around)
   ]

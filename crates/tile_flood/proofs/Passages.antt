@@ -1,19 +1,15 @@
 -- Where water passes between labels: each two adjacent points are met once, and the lowest place between two labels is
 -- the first in order.
-use Rattle.std.proofs.Common.{◌≡◌, ◌≢◌, ℕ, ◌+◌, ◌*◌, ◌-◌, ◌/◌, ◌%◌, ◌<◌, ◌≤◌, ◌⊎◌, inl, inr, ℤ, ◌≤ℤ◌, false, not, IsTrue, ◌&&◌, List, [], ◌∷◌, ◌++◌, length, get_or, set, get_or-set_same, get_or-set_other, length-set, slice_index, refl, sym, ap, ap₂, ◌∙◌, subst, add-zero, arith, true≢false, cond, int_lt, nat_eq, All, Contains}
+use Rattle.std.proofs.Common.{◌≡◌, ◌≢◌, ℕ, ◌+◌, ◌*◌, ◌-◌, ◌/◌, ◌%◌, ◌<◌, ◌≤◌, ◌⊎◌, inl, inr, ℤ, ◌≤ℤ◌, false, not, IsTrue, ◌&&◌, List, [], ◌∷◌, ◌++◌, length, get_or, set, get_or-set_same, get_or-set_other, length-set, slice_index, refl, sym, ap, ap₂, ◌∙◌, subst, add-zero, arith, true≢false, cond, int_lt, nat_eq, All, Contains, Less, Equal, Greater, AllPairs, IsPermutation, mul-le-mul_right}
 use Rattle.std.specs.Int.{int_max}
 use Rattle.std.specs.Ordering.{int_eq, is_lt, nat_cmp, int_cmp, ordering_then}
-use Rattle.std.specs.declared.cmp.Ordering.TheVariants.{Less, Equal, Greater}
 use Rattle.std.specs.Cmp.{nat_cmp_is}
-use Rattle.std.specs.List.{AllPairs}
-use Rattle.std.specs.List.Sorted.{IsPermutation}
 use Rattle.std.proofs.lemmas.List.Quantifiers.{all_pairs_push}
 use Rattle.std.proofs.lemmas.Int.{ints}
 use Rattle.std.proofs.lemmas.Bool.{cases_Bool, ne_eqb, cases_lt, cases_eq, not-true, eq-eqb}
 use Rattle.std.proofs.lemmas.Bool.Decides.{Decides-int_eq}
 use Rattle.std.proofs.lemmas.List.Elements.{Contains-get_or, Contains-append_left, Contains-push, Contains-push_cases}
 use Rattle.std.proofs.lemmas.List.Sorted.{Contains-permutation, IsPermutation-sym}
-use Rattle.std.proofs.Math.Nat.{mul-le-mul_right}
 use Rattle.lattice.specs.Mosaic.{void, IsSample}
 use Rattle.lattice.specs.Block.{block_terrain, is_solid, is_linked, is_beside}
 use Rattle.lattice.proofs.Levels.{height-le_level, ≤ℤ_same, ≤ℤ_trans, max-swap}
@@ -62,10 +58,7 @@ beside_cells n i j i' j' e f at_e at_f small small' north south west east =
     beside_if n e f (record { north = omega arith; south = omega arith; west = omega arith; east = omega arith })
 
 last_row : (n i : ℕ) → i < n → i * n + n ≤ n * n
-last_row n i inside = omega (arith, mul-le-mul_right n (more i n inside))
-  where
-    more : (i n : ℕ) → i < n → i + 1 ≤ n
-    more i n h = omega arith
+last_row n i inside = let more : i + 1 ≤ n = omega arith in omega (arith, mul-le-mul_right n more)
 
 pub beside_east : (n i : ℕ) → i < n → AreBeside n (i * n) (i * n + 1) (n - 1)
 beside_east n i inside =
@@ -144,9 +137,6 @@ module _ (n : ℕ) (levels : List ℤ) (labels : List ℕ) where
   pub passage_meets : (e f : ℕ) (p : Spill) → e < n * n → f < n * n → e ≢ f → IsTrue (is_beside n e f) → IsPassage levels labels e f p →
       (p.a < p.b) × Meets n levels levels labels p.a p.b p.level
   passage_meets e f p in_e in_f other beside h =
-      let apart = h.apart in
-      let lower = h.lower in
-      let higher = h.higher in
       let solid_e : IsTrue (is_solid (bare_block n levels) e) = solid_of e in_e h.from in
       let solid_f : IsTrue (is_solid (bare_block n levels) f) = solid_of f in_f h.to in
       let link : IsTrue (is_linked (bare_block n levels) e f) = linked_from n levels e f (record { from = solid_e; to = solid_f; apart = ap not (ne_eqb e f other); beside = beside }) in (
@@ -261,15 +251,13 @@ module _ (n : ℕ) (levels : List ℤ) (labels : List ℕ) where
       at_least : (f i : ℕ) → i * n ≤ f → i ≤ f / n
       at_least f i from = elim (cases_lt (f / n) i) [
         | inl less ↦
-            let more : (f / n + 1) * n ≤ i * n = mul-le-mul_right n (next (f / n) i less) in
+            let next : f / n + 1 ≤ i = omega arith in
+            let more : (f / n + 1) * n ≤ i * n = mul-le-mul_right n next in
             let cell : f ≡ (f / n) * n + f % n = cell_of n f in
             let small : f % n < n = omega arith in
             absurd (omega arith)
         | inr enough ↦ enough
       ]
-        where
-          next : (a b : ℕ) → a < b → a + 1 ≤ b
-          next a b h = omega arith
 
       later : (f i : ℕ) → i ≤ f / n → f / n ≢ i → f / n ≤ i + 1 → f / n ≡ i + 1
       later f i low other high = omega arith
@@ -277,31 +265,23 @@ module _ (n : ℕ) (levels : List ℤ) (labels : List ℕ) where
       moved : (x y : ℕ) → e ≡ x → f ≡ y → IsFound n levels labels found x y → IsFound n levels labels found e f
       moved x y ex fy h = subst (λ v. IsFound n levels labels found v f) (sym ex) (subst (λ v. IsFound n levels labels found x v) (sym fy) h)
 
-  -- the first of each run in order has the lowest level of its labels
-  pub spills_are : (found sorted firsts : List Spill) → ArePassages n levels labels found → AreFoundBelow n levels labels found (n * n) →
-      IsPermutation found sorted → AreFirsts sorted firsts → AreSpills n levels levels labels firsts
-  spills_are found sorted firsts passages below moved is = record {
+  -- where of those between the same labels one is left that is no higher than the others, these are the spills
+  pub spills_are : (found firsts : List Spill) → ArePassages n levels labels found → AreFoundBelow n levels labels found (n * n) → ((p : Spill) → Contains firsts p → Contains found p) →
+      AreFoundStill found firsts → AllPairs (λ p q. ¬ HaveSameLabels p q) firsts → AreSpills n levels levels labels firsts
+  spills_are found firsts passages below from still once = record {
     each = λ p has. record {
-      in_order = (of_found p has).0;
-      meets = (of_found p has).1;
+      in_order = (passages p (from p has)).0;
+      meets = (passages p (from p has)).1;
       least = λ level m.
-          let low = lowest p.a p.b level (of_found p has).0 m in
-          subst (λ (q : Spill). q.level ≤ℤ level) (one_of_each firsts is.once low.0 p low.1.0 has (record { same_a = low.1.1.0; same_b = low.1.1.1.0 })) low.1.1.1.1;
+          let low = lowest p.a p.b level (passages p (from p has)).0 m in
+          subst (λ (q : Spill). q.level ≤ℤ level) (one_of_each firsts once low.0 p low.1.0 has (record { same_a = low.1.1.0; same_b = low.1.1.1.0 })) low.1.1.1.1;
     };
     all = λ a b level less m. let low = lowest a b level less m in (low.0, (low.1.0, (low.1.1.0, low.1.1.1.0)));
-    once = is.once;
+    once = once;
   }
     where
-      of_found : (p : Spill) → Contains firsts p → (p.a < p.b) × Meets n levels levels labels p.a p.b p.level
-      of_found p has = passages p (Contains-permutation sorted found p (IsPermutation-sym found sorted moved) (is.from p has))
-
-      first_of_it : AreFoundStill found firsts
-      first_of_it r has =
-          let there = Contains-permutation found sorted r moved has in
-          subst (λ (v : Spill). (q : Spill) × (Contains firsts q × (HaveSameLabels q v × (q.level ≤ℤ v.level)))) there.2 (is.each there.0 r there.1)
-
       first_of : (r : Spill) → IsMetBy found r → IsMetBy firsts r
-      first_of r met = met_still found firsts r first_of_it met
+      first_of r met = met_still found firsts r still met
 
       -- two adjacent points with these labels were met, so there is a place between them that is no higher
       lowest : (a b : ℕ) (level : ℤ) → a < b → Meets n levels levels labels a b level → (q : Spill) × (Contains firsts q × ((q.a ≡ a) × ((q.b ≡ b) × (q.level ≤ℤ level))))
@@ -328,6 +308,15 @@ module _ (n : ℕ) (levels : List ℤ) (labels : List ℕ) where
                 let same_a = q.1.1.0.same_a in let same_b = q.1.1.0.same_b in
                 (q.0, (q.1.0, (omega arith, (omega arith, subst (λ v. q.0.level ≤ℤ v) (met.1.1.level ∙ max-swap (get_or levels f void) (get_or levels e void) ∙ at) q.1.1.1))))
           ]
+
+-- the first of each run in order has the lowest level of its labels
+pub spills_in_order : (n : ℕ) (levels : List ℤ) (labels : List ℕ) (found sorted firsts : List Spill) → ArePassages n levels labels found → AreFoundBelow n levels labels found (n * n) →
+    IsPermutation found sorted → AreFirsts sorted firsts → AreSpills n levels levels labels firsts
+spills_in_order n levels labels found sorted firsts passages below moved is =
+    spills_are n levels labels found firsts passages below (λ p has. Contains-permutation sorted found p (IsPermutation-sym found sorted moved) (is.from p has))
+    (λ r has.
+    let there = Contains-permutation found sorted r moved has in
+    subst (λ (v : Spill). (q : Spill) × (Contains firsts q × (HaveSameLabels q v × (q.level ≤ℤ v.level)))) there.2 (is.each there.0 r there.1)) is.once
 
 -- lower labels, and the same
 lower_labels : (p q r : Spill) → HasLowerLabels p q ⊎ HaveSameLabels p q → HasLowerLabels q r → HasLowerLabels p r
@@ -359,6 +348,9 @@ module _ (sorted firsts : List Spill) (k : ℕ) (order : IsInOrder sorted) (smal
       ⊎ (HaveSameLabels (get_or sorted (k - 1) d) (get_or sorted j d) × ((get_or sorted (k - 1) d).level ≤ℤ (get_or sorted j d).level)) in
       subst T next (order (k - 1) d (omega arith))
 
+  not_empty : (p : Spill) → Contains firsts p → 0 < length firsts
+  not_empty p has = let h = has.1 in omega arith
+
   -- those that were taken have labels up to those of the next
   up_to : (p d : Spill) → Contains firsts p → HasLowerLabels p (get_or sorted k d) ⊎ HaveSameLabels p (get_or sorted k d)
   up_to p d has =
@@ -368,9 +360,6 @@ module _ (sorted firsts : List Spill) (k : ℕ) (order : IsInOrder sorted) (smal
         | inl lower ↦ inl (lower_labels p (get_or sorted (k - 1) d) (get_or sorted k d) below lower)
         | inr same ↦ not_lower_labels p (get_or sorted (k - 1) d) (get_or sorted k d) below same.0
       ]
-    where
-      not_empty : (p : Spill) → Contains firsts p → 0 < length firsts
-      not_empty p has = let h = has.1 in omega arith
 
   last_now : (k + 1) - 1 ≡ k
   last_now = omega arith
@@ -407,9 +396,6 @@ module _ (sorted firsts : List Spill) (k : ℕ) (order : IsInOrder sorted) (smal
             | inl lower ↦ lower_is_other p (get_or sorted k d) (lower_labels p (get_or sorted (k - 1) d) (get_or sorted k d) below lower) same
             | inr tied ↦ absurd (new some tied.0)
           ]
-        where
-          not_empty : (p : Spill) → Contains firsts p → 0 < length firsts
-          not_empty p has = let h = has.1 in omega arith
 
   -- the next has the labels of the one before it
   pub same_passed : (d : Spill) → 0 < k → HaveSameLabels (get_or sorted (k - 1) d) (get_or sorted k d) → AreFirstsBelow sorted firsts (k + 1)

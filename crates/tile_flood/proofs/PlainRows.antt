@@ -1,11 +1,10 @@
 -- Runs of points of a row in which none can be an outlet.
-use Rattle.std.proofs.Common.{◌≡◌, ℕ, ◌+◌, ◌-◌, ◌*◌, ◌/◌, ◌%◌, ◌<◌, ◌≤◌, ℤ, Bool, true, false, not, IsTrue, ◌&&◌, ◌||◌, nat_eq, List, [], refl, sym, ap, ◌∙◌, subst, arith, inl, inr, true≢false}
+use Rattle.std.proofs.Common.{◌≡◌, ℕ, ◌+◌, ◌-◌, ◌*◌, ◌/◌, ◌%◌, ◌<◌, ◌≤◌, ℤ, Bool, true, false, not, IsTrue, ◌&&◌, ◌||◌, nat_eq, List, [], refl, sym, ap, subst, arith}
 use Rattle.std.specs.List.{list_all}
-use Rattle.std.proofs.lemmas.Bool.{cases_lt, ne_eqb, and_from}
+use Rattle.std.proofs.lemmas.Bool.{ne_eqb, and_from}
 use Rattle.lattice.specs.Block.{is_solid, is_exit, is_rim, is_sink_at, around}
 use Rattle.tile_flood.specs.Blocks.{block_of, bare_block}
-use Rattle.tile_flood.specs.Waiting.{Queue}
-use Rattle.tile_flood.specs.Flooding.{IsFullSpan, IsPlainSpan, IsSeeding}
+use Rattle.tile_flood.specs.Flooding.{IsFullSpan, IsPlainSpan}
 use Rattle.tile_flood.proofs.Squares.{row_of_cell, column_of_cell}
 
 none_of : (a b d e : Bool) → a ≡ false → b ≡ false → d ≡ false → e ≡ false → (a || b || d || e) ≡ false
@@ -52,15 +51,8 @@ plain_if n heights sinks i from to none north south some high above here below j
     no_exit (is_solid (bare_block n heights) e) (is_rim n e) (list_all (is_solid (bare_block n heights)) (around n e)) (is_sink_at (block_of n heights sinks) e)
     (off_rim n i j north south (omega arith) (omega arith)) all (ap (λ ss. is_sink_at (block_of n heights ss) e) none)
 
--- no more of these points are outlets
-pub seeds_passed : (n : ℕ) (heights : List ℤ) (sinks : List ℕ) (levels : List ℤ) (labels : List ℕ) (queue : Queue) (k l : ℕ) → IsSeeding (block_of n heights sinks) levels labels queue k → k ≤ l → ((e : ℕ) → k ≤ e → e < l → is_exit (block_of n heights sinks) e ≡ false) →
-    IsSeeding (block_of n heights sinks) levels labels queue l
-seeds_passed n heights sinks levels labels queue k l s le none = record {
-  marks = s.marks;
-  outlets = λ e below exit. elim (cases_lt e k) [
-    | inl before ↦ s.outlets e before exit
-    | inr from ↦ absurd (true≢false (sym exit ∙ none e from below))
-  ];
-  waits = s.waits;
-  fresh = λ e above. s.fresh e (omega arith);
-}
+-- no point of such a run is an outlet, by its index
+pub plain_at : (n : ℕ) (heights : List ℤ) (sinks : List ℕ) (i from to e : ℕ) → i * n + from ≤ e → e < i * n + to → IsPlainSpan (block_of n heights sinks) i from to → is_exit (block_of n heights sinks) e ≡ false
+plain_at n heights sinks i from to e low high plain =
+    let at : i * n + (e - i * n) ≡ e = omega arith in
+    subst (λ z. is_exit (block_of n heights sinks) z ≡ false) at (plain (e - i * n) (omega arith) (omega arith))

@@ -1,19 +1,16 @@
 -- Raising gives the filled levels of the mosaic at all points of a tile.
-use Rattle.std.proofs.Common.{◌≡◌, ◌≢◌, ℕ, suc, ◌+◌, ◌*◌, ◌-◌, ◌/◌, ◌%◌, ◌<◌, ◌≤◌, inl, inr, ℤ, ◌≤ℤ◌, Bool, true, false, cond, IsTrue, IsFalse, List, [], ◌∷◌, ◌++◌, length, length-append, get_or, slice_index, refl, sym, ap, ◌∙◌, subst, arith, true≢false, nat_eq, map, filter, All, Some, None}
+use Rattle.std.proofs.Common.{◌≡◌, ◌≢◌, ℕ, ◌+◌, ◌*◌, ◌-◌, ◌/◌, ◌%◌, ◌<◌, ◌≤◌, inl, inr, ℤ, ◌≤ℤ◌, Bool, true, false, cond, IsTrue, IsFalse, List, [], ◌∷◌, ◌++◌, length, length-append, get_or, slice_index, refl, sym, ap, ◌∙◌, subst, arith, true≢false, nat_eq, Some, None}
 use Rattle.std.specs.Int.{int_max}
-use Rattle.std.proofs.lemmas.Bool.{cases_Bool, cond-true, cond-false, eqb-true, eqb-false, ne_eqb, eq-eqb, cases_lt}
+use Rattle.std.proofs.lemmas.Bool.{cases_Bool, cond-true, cond-false, ne_eqb, eq-eqb, cases_lt}
 use Rattle.std.proofs.lemmas.Bool.Decides.{Decides-int_eq}
 use Rattle.std.proofs.Math.ListN.{get_or-eq_default, get_or-append}
 use Rattle.std.proofs.Math.Seq.{get_or-append_seam}
 use borrow.Author.Count.{below_more}
-use Rattle.std.proofs.lemmas.List.Elements.{All-cons}
-use Rattle.lattice.specs.declared.height.Height.{Height}
-use Rattle.lattice.specs.declared.point.Point.{Point}
 use Rattle.lattice.specs.Corners.{Corner}
-use Rattle.lattice.specs.Lattice.{point_of, holds, index_of}
+use Rattle.lattice.specs.Lattice.{point_of}
 use Rattle.lattice.specs.Terrain.{IsFilledLevel, IsPath, end_of, crest}
-use Rattle.lattice.specs.Mosaic.{Mosaic, Tile, IsMosaic, IsTile, is_present, void, is_void}
-use Rattle.lattice.specs.Height.{height_of, by_seam_rule, first_height, samples_at, sample_at}
+use Rattle.lattice.specs.Mosaic.{Mosaic, IsMosaic, is_present, void, is_void}
+use Rattle.lattice.specs.Height.{height_of}
 use Rattle.lattice.specs.Ground.{is_ground, metres, terrain}
 use Rattle.lattice.specs.Block.{AreHeightsOf, IsBlockOf, block_terrain, is_solid, is_rim, rim_number, is_exit, is_inner_outlet}
 use Rattle.lattice.specs.Limits.{largest_side}
@@ -26,29 +23,23 @@ use Rattle.tile_flood.proofs.Parts.{level_of_part, level_at_outlet}
 use Rattle.tile_flood.proofs.InMosaic.{block_is_part, ground_is, inner_outlet_is_outlet}
 use Rattle.tile_flood.proofs.Passages.{not_void, solid_has_level}
 use Rattle.tile_flood.specs.Blocks.{block_of, bare_block}
-use Rattle.tile_flood.proofs.Squares.{solid_below, solid_height, cell_of, row_below}
+use Rattle.lattice.proofs.SampleRange.{metres_are_sample}
+use Rattle.lattice.proofs.Interior.{inner_if}
+use Rattle.lattice.proofs.RimNumbers.{number_below}
+use Rattle.tile_flood.proofs.Squares.{solid_below, solid_height}
 
 -- rim points have numbers below four times the side less one
 pub rim_number_below : (n e : ℕ) → 3 ≤ n → e < n * n → rim_number n e < 4 * (n - 1)
-rim_number_below n e side small =
-    let row : e / n < n = row_below n e small in
-    let column : e % n < n = omega arith in
-    let cell : e ≡ (e / n) * n + e % n = cell_of n e in
-    let last : ℕ = n + 2 * (n - 2) + e % n in
-    let middle : ℕ = n + 2 * (e / n - 1) + cond (nat_eq (e % n) 0) 0 1 in
-    let one : cond (nat_eq (e % n) 0) 0 1 ≤ 1 = at_most_one (nat_eq (e % n) 0) in
-    elim (cases_Bool (nat_eq (e / n) 0)) [
-      | inl first ↦
-          let at : e / n ≡ 0 = eqb-true (e / n) 0 first in
-          let at' : e ≡ e % n = cell ∙ ap (λ r. r * n + e % n) at ∙ omega arith in
-          subst (λ v. v < 4 * (n - 1)) (sym (cond-true (nat_eq (e / n) 0) e (cond (nat_eq (e / n + 1) n) last middle) first)) (omega arith)
-      | inr later ↦ subst (λ v. v < 4 * (n - 1)) (sym (cond-false (nat_eq (e / n) 0) e (cond (nat_eq (e / n + 1) n) last middle) later)) (elim (cases_Bool (nat_eq (e / n + 1) n)) [
-        | inl end ↦ subst (λ v. v < 4 * (n - 1)) (sym (cond-true (nat_eq (e / n + 1) n) last middle end)) (omega arith)
-        | inr inner ↦
-            let more : e / n + 1 ≢ n = eqb-false (e / n + 1) n inner in
-            subst (λ v. v < 4 * (n - 1)) (sym (cond-false (nat_eq (e / n + 1) n) last middle inner)) (omega arith)
-      ])
-    ]
+rim_number_below n e side small = elim (cases_Bool (is_rim n e)) [
+  | inl rim ↦ number_below n (rim_number n e) e side (record { small = small; rim = rim; number = refl })
+  | inr off ↦
+      let inner = inner_if n e side small off in
+      let last : ℕ = n + 2 * (n - 2) + e % n in
+      let middle : ℕ = n + 2 * (e / n - 1) + cond (nat_eq (e % n) 0) 0 1 in
+      let one : cond (nat_eq (e % n) 0) 0 1 ≤ 1 = at_most_one (nat_eq (e % n) 0) in
+      subst (λ v. v < 4 * (n - 1)) (sym (cond-false (nat_eq (e / n) 0) e (cond (nat_eq (e / n + 1) n) last middle) (ne_eqb (e / n) 0 (λ h. absurd (omega arith)))
+      ∙ cond-false (nat_eq (e / n + 1) n) last middle (ne_eqb (e / n + 1) n (λ h. absurd (omega arith))))) (omega arith)
+]
   where
     at_most_one : (b : Bool) → cond b 0 1 ≤ 1
     at_most_one true = omega arith
@@ -74,41 +65,11 @@ module _ (rim : List ℤ) (level : ℤ) (label : ℕ) where
       cond-true (nat_eq label NO_LABEL) _ _ (eq-eqb label NO_LABEL none)
       ∙ cond-true (is_void level) _ _ ((Decides-int_eq level void).1 gap)
 
--- heights of a mosaic are numbers of 16 bits
-low_first : (samples : List ℤ) → All (λ s. void ≤ℤ s) samples → void ≤ℤ metres (first_height samples)
-low_first [] all = ≤ℤ_same void
-low_first (s ∷ later) all = elim (cases_Bool (is_void s)) [
-  | inl gap ↦ subst (λ h. void ≤ℤ metres h) (sym (cond-true (is_void s) (first_height later) (Height.At s) gap)) (low_first later (λ k d lt. all (suc k) d (omega arith)))
-  | inr full ↦ subst (λ h. void ≤ℤ metres h) (sym (cond-false (is_void s) (first_height later) (Height.At s) full)) (all 0 s (omega arith))
-]
-
-low_metres : (samples : List ℤ) → All (λ s. void ≤ℤ s) samples → void ≤ℤ metres (by_seam_rule samples)
-low_metres [] all = ≤ℤ_same void
-low_metres (s ∷ later) all = low_first (s ∷ later) all
-
-low_sample : (n : ℕ) (p : Point) (t : Tile) (rest : List Tile) → IsTile n t → All (λ s. void ≤ℤ s) (map (λ t. sample_at n t p) (filter (λ t. holds n t.corner p) rest)) →
-    All (λ s. void ≤ℤ s) (map (λ t. sample_at n t p) (filter (λ t. holds n t.corner p) (t ∷ rest)))
-low_sample n p t rest is later = elim (cases_Bool (holds n t.corner p)) [
-  | inl held ↦ subst (λ l. All (λ s. void ≤ℤ s) (map (λ t. sample_at n t p) l)) (sym (cond-true (holds n t.corner p) (t ∷ filter (λ t. holds n t.corner p) rest) (filter (λ t. holds n t.corner p) rest) held))
-      (All-cons (λ s. void ≤ℤ s) (sample_at n t p) (map (λ t. sample_at n t p) (filter (λ t. holds n t.corner p) rest)) of_tile later)
-  | inr out ↦ subst (λ l. All (λ s. void ≤ℤ s) (map (λ t. sample_at n t p) l)) (sym (cond-false (holds n t.corner p) (t ∷ filter (λ t. holds n t.corner p) rest) (filter (λ t. holds n t.corner p) rest) out)) later
-]
-  where
-    of_tile : void ≤ℤ sample_at n t p
-    of_tile = elim (cases_lt (index_of n t.corner p) (length t.samples)) [
-      | inl inside ↦ (is.samples (index_of n t.corner p) void inside).0
-      | inr beyond ↦ subst (λ v. void ≤ℤ v) (sym (get_or-eq_default t.samples void beyond)) (≤ℤ_same void)
-    ]
-
-low_samples : (n : ℕ) (p : Point) (tiles : List Tile) → All (IsTile n) tiles → All (λ s. void ≤ℤ s) (map (λ t. sample_at n t p) (filter (λ t. holds n t.corner p) tiles))
-low_samples n p [] all = λ k d lt. absurd (omega arith)
-low_samples n p (t ∷ rest) all = low_sample n p t rest (all 0 t (omega arith)) (low_samples n p rest (λ k d lt. all (suc k) d (omega arith)))
-
 -- heights of a block are numbers of 16 bits
 module _ (m : Mosaic) (is : IsMosaic m) (c : Corner) (heights : List ℤ) (of : AreHeightsOf m c heights) where
   pub lowest_height : (e : ℕ) → void ≤ℤ get_or heights e void
   lowest_height e = elim (cases_lt e (length heights)) [
-    | inl inside ↦ subst (λ v. void ≤ℤ v) (sym (of.values e (subst (λ k. e < k) of.whole inside))) (low_metres (samples_at m (point_of m.side c e)) (low_samples m.side (point_of m.side c e) m.tiles is.tiles))
+    | inl inside ↦ subst (λ v. void ≤ℤ v) (sym (of.values e (subst (λ k. e < k) of.whole inside))) (metres_are_sample m (point_of m.side c e) is).0
     | inr beyond ↦ subst (λ v. void ≤ℤ v) (sym (get_or-eq_default heights void beyond)) (≤ℤ_same void)
   ]
 

@@ -1,6 +1,5 @@
 -- Three points after one another, in the row of a point or in one beside it: which of them are near the point.
-use Rattle.std.proofs.Common.{◌≡◌, ℕ, ◌+◌, ◌-◌, ◌*◌, ◌/◌, ◌%◌, ◌<◌, ◌≤◌, IsTrue, ◌||◌, nat_eq, ◌⊎◌, inl, inr, ap, ◌∙◌, arith, mod-lt}
-use Rattle.std.proofs.Math.Nat.{mul-le-mul_right}
+use Rattle.std.proofs.Common.{◌≡◌, ℕ, ◌+◌, ◌-◌, ◌*◌, ◌/◌, ◌%◌, ◌<◌, ◌≤◌, IsTrue, ◌||◌, nat_eq, ◌⊎◌, inl, inr, ap, ◌∙◌, arith, mod-lt, mul-le-mul_right}
 use Rattle.std.proofs.lemmas.Bool.{cases_lt, cases_eq, eq-eqb, or_left, or_right}
 use Rattle.lattice.specs.Block.{is_beside, is_rim}
 use Rattle.tile_flood.specs.Flooding.{IsNear}
@@ -55,8 +54,6 @@ near_cell n c e q r i k side column row_is column_is few within is = elim (cases
           let up : q + i ≡ j + 1 = omega arith in
           let along : r + k ≡ s + 1 = omega arith in
           let at = at_cell n e j s (omega arith) (is ∙ (ap (λ m. m * n + (r + k)) up ∙ ap (λ m. (j + 1) * n + m) along)) in
-          let at_row = at.0 in
-          let at_column = at.1 in
           inr (beside_if n c e (record { north = omega arith; south = omega arith; west = omega arith; east = omega arith }))
     ]
   ]
@@ -72,8 +69,6 @@ run_near n c i k e side few within is =
 pub run_of : (n c i z : ℕ) → IsTrue (is_beside n c z) → z / n + 1 ≡ c / n + i → (k : ℕ) × ((k < 3) × (z + n + 1 ≡ c + i * n + k))
 run_of n c i z beside row =
     let a = apart_of n c z beside in
-    let from = a.west in
-    let to = a.east in
     let cell = cell_of n c in
     let cell' = cell_of n z in
     let rows : (z / n + 1) * n ≡ (c / n + i) * n = ap (λ m. m * n) row in

@@ -1,15 +1,18 @@
 -- Points of a block: rows and columns, adjacency, outlets, and a way out of each ground point.
-use Rattle.std.proofs.Common.{◌≡◌, ◌≢◌, ℕ, zero, suc, ◌+◌, ◌*◌, ◌-◌, ◌/◌, ◌%◌, ◌<◌, ◌≤◌, ℤ, false, not, IsTrue, ◌&&◌, ◌||◌, List, [], ◌∷◌, get_or, sym, ap, ◌∙◌, arith, true≢false, nat_le, nat_lt, nat_eq, mod-lt, inl, inr}
-use Rattle.std.specs.Ordering.{int_eq}
+use Rattle.std.proofs.Common.{◌≡◌, ◌≢◌, ℕ, zero, suc, ◌+◌, ◌*◌, ◌-◌, ◌/◌, ◌%◌, ◌<◌, ◌≤◌, ℤ, false, not, IsTrue, ◌&&◌, ◌||◌, List, [], ◌∷◌, get_or, sym, ap, ◌∙◌, subst, arith, true≢false, nat_le, nat_lt, nat_eq, mod-lt, inl, inr, int_eq}
 use Rattle.std.specs.List.{list_all}
 use Rattle.std.proofs.lemmas.Bool.{cases_Bool, and_parts, and_from, ltb-true, lt-ltb, leb-true, le-leb, ne_eqb, and_left, and_right, or_left, or_right, eqb-false, or_parts}
 use Rattle.std.proofs.lemmas.Bool.Decides.{Decides-int_eq}
 use Rattle.std.proofs.lemmas.Nat.{rows}
 use Rattle.lattice.specs.Mosaic.{void}
 use Rattle.lattice.specs.Terrain.{LeadsOut}
-use Rattle.lattice.specs.Block.{block_terrain, is_solid, is_linked, is_exit, is_inner_outlet, is_sink_at, is_beside, is_rim, around}
+use Rattle.lattice.specs.Block.{Block, block_terrain, is_solid, is_linked, is_exit, is_inner_outlet, is_sink_at, is_beside, is_rim, around}
 use Rattle.tile_flood.specs.Blocks.{block_of, bare_block}
 use Rattle.tile_flood.specs.Flooding.{is_marked}
+
+-- what is so of the block with these parts is so of a block that has them
+pub of_block : (P : Block → Type 0) (b : Block) (n : ℕ) (heights : List ℤ) (sinks : List ℕ) → n ≡ b.side → heights ≡ b.heights → sinks ≡ b.sinks → P (block_of n heights sinks) → P b
+of_block P b n heights sinks side is_heights is_sinks is = subst (λ k. P (block_of k b.heights b.sinks)) side (subst (λ hs. P (block_of n hs b.sinks)) is_heights (subst (λ ss. P (block_of n heights ss)) is_sinks is))
 
 pub not_void_if : (levels : List ℤ) (e : ℕ) → IsTrue (is_marked levels e) → get_or levels e void ≢ void
 not_void_if levels e on h = absurd (true≢false (sym on ∙ ap not ((Decides-int_eq (get_or levels e void) void).1 h)))
@@ -55,6 +58,9 @@ cell_of n z = grind (arith, rows)
 
 pub row_below : (n z : ℕ) → z < n * n → z / n < n
 row_below n z h = grind (arith, rows)
+
+pub in_square : (n i j : ℕ) → i < n → j < n → i * n + j < n * n
+in_square n i j row column = grind (arith, rows)
 
 pub linked_below : (n : ℕ) (heights : List ℤ) (c z : ℕ) → IsTrue (is_linked (bare_block n heights) c z) → z < n * n
 linked_below n heights c z link = solid_below n heights z (linked_parts n heights c z link).to

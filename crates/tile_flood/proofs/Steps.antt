@@ -1,14 +1,12 @@
 -- The steps by which a labelling is mended.
 use Rattle.std.proofs.Common.{◌≡◌, ◌≢◌, ℕ, ◌+◌, ◌*◌, ◌/◌, ◌<◌, ℤ, ◌≤ℤ◌, ◌<ℤ◌, ◌⊎◌, false, not, IsTrue, IsFalse, List, [], ◌∷◌, length, length-set, Contains, get_or, set, get_or-set_other, get_or-set_same, slice_index, inl, inr, refl, sym, ap, ◌∙◌, subst, arith, true≢false}
 use Rattle.std.specs.Int.{int_max}
-use Rattle.std.specs.Ordering.{int_eq}
 use Rattle.std.proofs.lemmas.Bool.{cases_Bool, cases_eq, ne_eqb}
-use Rattle.std.proofs.lemmas.Bool.Decides.{Decides-int_eq}
 use Rattle.std.proofs.lemmas.Int.{ints, clamps}
 use Rattle.lattice.specs.Mosaic.{void}
 use Rattle.lattice.specs.Block.{block_terrain, is_solid, is_linked, is_exit, is_beside}
-use Rattle.lattice.proofs.Levels.{all_marked, max_one_of}
-use Rattle.lattice.proofs.IntTests.{le_or_above}
+use Rattle.lattice.proofs.Levels.{all_marked, max_one_of, max-le, ≤ℤ_same, ≤ℤ_trans}
+use Rattle.lattice.proofs.IntTests.{le_or_above, eq_or_not}
 use Rattle.lattice.proofs.Lawful.{block_is_lawful}
 use Rattle.tile_flood.specs.Blocks.{block_of}
 use Rattle.tile_flood.specs.Labelling.{IsLabelling, Names, NO_LABEL}
@@ -21,13 +19,10 @@ use Rattle.tile_flood.specs.Suspects.{IsHeldUp, IsHeldBy, IsMending, IsIn, IsInO
 use Rattle.tile_flood.specs.Sparing.{HangTogether, IsFirstSuspect}
 use Rattle.tile_flood.proofs.Squares.{not_void_if, test_if, linked_parts, linked_from, solid_height, solid_below, leads}
 use Rattle.tile_flood.proofs.Dependence.{same_exit, same_inner, same_link, same_names, full_at, solid_at, filled_if, label_at, relaxed_least, labelling_relaxed, same_ground, solid_inside, beside_itself, beside_back}
-use Rattle.tile_flood.proofs.Held.{held_lowered, held_marked, held_kept, held_reset, seed_anew, carried_end, first_below, below_max, apart_if, beside_anew}
+use Rattle.tile_flood.proofs.Held.{level_else, label_else, marked_else, not_below, held_lowered, held_marked, held_kept, held_reset, seed_anew, carried_end, first_below, below_max, apart_if, beside_anew}
 use Rattle.tile_flood.proofs.Spared.{held_off}
 
-at_most_it : (l : ℤ) → l ≤ℤ l
-at_most_it l = omega (arith, ints)
-
-at_most_as : (l m : ℤ) → l ≡ m → l ≤ℤ m
+pub at_most_as : (l m : ℤ) → l ≡ m → l ≤ℤ m
 at_most_as l m same = omega (arith, ints)
 
 max_as : (h l m : ℤ) → m ≡ int_max h l → int_max h l ≤ℤ m
@@ -42,17 +37,8 @@ max_first h l v same = omega (arith, ints, clamps)
 pub max_second : (h l v : ℤ) → v ≡ int_max h l → l ≤ℤ v
 max_second h l v same = omega (arith, ints, clamps)
 
-max_both : (h l v : ℤ) → h ≤ℤ v → l ≤ℤ v → int_max h l ≤ℤ v
-max_both h l v first second = omega (arith, ints, clamps)
-
 less_weak : (l m : ℤ) → l <ℤ m → l ≤ℤ m
 less_weak l m less = omega (arith, ints)
-
-not_above : (l m : ℤ) → l <ℤ m → m ≤ℤ l → ⊥
-not_above l m less le = absurd (omega (arith, ints))
-
-pub at_most_both : (l m k : ℤ) → l ≤ℤ m → m ≤ℤ k → l ≤ℤ k
-at_most_both l m k first second = omega (arith, ints)
 
 below_both : (l m k : ℤ) → l ≤ℤ m → m <ℤ k → l <ℤ k
 below_both l m k le lt = omega (arith, ints)
@@ -61,24 +47,7 @@ lower_too : (l m k : ℤ) → l <ℤ m → m ≤ℤ k → l ≤ℤ k
 lower_too l m k lt le = omega (arith, ints)
 
 pub unmarked_void : (levels : List ℤ) (e : ℕ) → is_marked levels e ≡ false → get_or levels e void ≡ void
-unmarked_void levels e off = elim (cases_Bool (int_eq (get_or levels e void) void)) [
-  | inl is ↦ int_is (get_or levels e void) is
-  | inr isnt ↦ absurd (true≢false (sym (ap not isnt) ∙ off))
-]
-  where
-    int_is : (v : ℤ) → IsTrue (int_eq v void) → v ≡ void
-    int_is v is = (Decides-int_eq v void).0 is
-
--- at other points a list is as it was
-module _ (levels : List ℤ) (labels : List ℕ) (y : ℕ) (l : ℤ) (a : ℕ) where
-  pub level_else : (z : ℕ) → z ≢ y → get_or (set levels y l) z void ≡ get_or levels z void
-  level_else z other = get_or-set_other levels y z l void other
-
-  pub label_else : (z : ℕ) → z ≢ y → slice_index (set labels y a) z ≡ slice_index labels z
-  label_else z other = get_or-set_other labels y z a 0 other
-
-  pub marked_else : (z : ℕ) → z ≢ y → is_marked (set levels y l) z ≡ is_marked levels z
-  marked_else z other = ap (λ v. not (int_eq v void)) (level_else z other)
+unmarked_void levels e off = elim (eq_or_not (get_or levels e void) void) [ inl is ↦ is | inr full ↦ absurd (true≢false (sym (test_if (get_or levels e void) full) ∙ off)) ]
 
 pub in_still : (levels : List ℤ) (labels : List ℕ) (y : ℕ) (l : ℤ) (a : ℕ) (queue queue' : Queue) → WaitStill queue queue' → (e : ℕ) → e ≢ y → IsIn queue levels e → IsIn queue' (set levels y l) e
 in_still levels labels y l a queue queue' still e other w = subst (λ v. Waits queue' v e) (sym (level_else levels labels y l a e other)) (still (get_or levels e void) e w)
@@ -221,7 +190,7 @@ reset_in n heights heights' sinks levels levels' labels labels' queue queue' sus
 
     hung : AreSuspectBeside n labels (set levels y l) (set labels y a) suspects' y from → (e : ℕ) → e ≢ y → IsHeldUp n heights sinks levels labels e y → (after : List ℕ) × IsHeldBy n heights' sinks (set levels y l) (set labels y a) (IsIn suspects' (set levels y l)) e after
     hung suspected e other up = elim spared [
-      | inl low ↦ ([], inl (hung_suspect n heights sinks levels labels y l a e other up (λ small beside marked named high. suspected e small beside marked named (at_most_both from (get_or levels y void) (get_or (set levels y l) e void) low high))))
+      | inl low ↦ ([], inl (hung_suspect n heights sinks levels labels y l a e other up (λ small beside marked named high. suspected e small beside marked named (≤ℤ_trans from (get_or levels y void) (get_or (set levels y l) e void) low high))))
       | inr spares ↦ elim (le_or_above (get_or levels e void) (get_or levels y void)) [
         | inl level ↦
             let off = held_off n heights sinks levels labels (IsIn queue levels) Suspect s y spares.1.1.0 spares.1.1.1 on spares.1.0 e up level in
@@ -373,20 +342,23 @@ module _ (n : ℕ) (heights : List ℤ) (sinks : List ℕ) (levels : List ℤ) (
       links = λ x y link. (settled x y (marked x (linked_parts n heights x y link).from) link).1;
     }
 
-    pub mended_carried : AreCarried (block_of n heights sinks) levels labels
-    mended_carried e solid = let by = s.held e (marked e solid) in (by.0, carried_end n heights sinks levels labels Suspect none relaxed e by.0 by.1)
+    carried : AreCarried (block_of n heights sinks) levels labels
+    carried e solid = let by = s.held e (marked e solid) in (by.0, carried_end n heights sinks levels labels Suspect none relaxed e by.0 by.1)
 
-    pub mended_labelling : IsLabelling (block_of n heights sinks) levels labels
-    mended_labelling = record {
-      levels_whole = s.levels_whole;
-      labels_whole = s.labels_whole;
-      level = λ e solid. filled_if n heights sinks levels labels e (mended_carried e solid) (relaxed_least n heights sinks levels relaxed e);
-      label = λ e solid. label_at n heights sinks levels labels e (mended_carried e solid);
-      void_points = λ e small gap. elim (cases_Bool (is_marked levels e)) [
-        | inl on ↦ absurd (true≢false (sym (s.ground e on) ∙ gap))
-        | inr off ↦ (unmarked_void levels e off, s.unlabelled e small off)
-      ];
-    }
+    pub mended : IsLabelling (block_of n heights sinks) levels labels × AreCarried (block_of n heights sinks) levels labels
+    mended = (
+      record {
+        levels_whole = s.levels_whole;
+        labels_whole = s.labels_whole;
+        level = λ e solid. filled_if n heights sinks levels labels e (carried e solid) (relaxed_least n heights sinks levels relaxed e);
+        label = λ e solid. label_at n heights sinks levels labels e (carried e solid);
+        void_points = λ e small gap. elim (cases_Bool (is_marked levels e)) [
+          | inl on ↦ absurd (true≢false (sym (s.ground e on) ∙ gap))
+          | inr off ↦ (unmarked_void levels e off, s.unlabelled e small off)
+        ];
+      },
+      carried,
+    )
 
 -- a lower point beside e with its label holds it
 pub held_beside : (n : ℕ) (heights : List ℤ) (sinks : List ℕ) (levels : List ℤ) (labels : List ℕ) (e : ℕ) (most : ℤ) → ((z : ℕ) → IsTrue (is_marked levels z) → IsTrue (is_solid (block_of n heights sinks) z)) → IsFalse (is_exit (block_of n heights sinks) e) → IsTrue (is_marked levels e) →
@@ -399,11 +371,11 @@ held_beside n heights sinks levels labels e most ground inner on high found less
       (
         record {
           inner = inner;
-          link = linked_from n heights e z (record { from = ground e on; to = ground z z_on; apart = ap not (ne_eqb e z (λ same. not_above (get_or levels z void) (get_or levels e void) z_less (at_most_as (get_or levels e void) (get_or levels z void) (ap (λ x. get_or levels x void) same)))); beside = found.1.1.0 });
+          link = linked_from n heights e z (record { from = ground e on; to = ground z z_on; apart = ap not (ne_eqb e z (λ same. not_below (get_or levels e void) (get_or levels z void) (at_most_as (get_or levels e void) (get_or levels z void) (ap (λ x. get_or levels x void) same)) z_less)); beside = found.1.1.0 });
           own = not_void_if levels e on;
           full = not_void_if levels z z_on;
           label = sym found.1.1.1.1.0;
-          level = max_both (get_or heights e void) (get_or levels z void) (get_or levels e void) high (less_weak (get_or levels z void) (get_or levels e void) z_less);
+          level = max-le (get_or heights e void) (get_or levels z void) (get_or levels e void) high (less_weak (get_or levels z void) (get_or levels e void) z_less);
         },
         z_less,
       ),
@@ -416,7 +388,7 @@ pub taken_in : (levels : List ℤ) (queue queue' : Queue) (c : ℕ) (low : ℤ) 
 taken_in levels queue queue' c low taken e w = elim (taken.others (get_or levels e void) e w) [ inl is ↦ inr (is.1, is.0) | inr left ↦ inl left ]
 
 pub at_most_same : (levels : List ℤ) → AreAtMost levels levels
-at_most_same levels e on = (on, at_most_it (get_or levels e void))
+at_most_same levels e on = (on, ≤ℤ_same (get_or levels e void))
 
 -- what a point beside the popped has afterwards
 pub record IsReached (n : ℕ) (heights : List ℤ) (sinks : List ℕ) (levels levels' : List ℤ) (labels' : List ℕ) (queue' suspects' : Queue) (c : ℕ) (low : ℤ) (label y : ℕ) : Type 0 where
@@ -508,7 +480,7 @@ module _ (n : ℕ) (heights : List ℤ) (sinks : List ℕ) (levels : List ℤ) (
         state = front_on levels' labels' at_levels at_labels c_else
             (in_set levels' labels' at_levels at_labels
             (lower_state n heights sinks levels labels (IsInOr queue levels c low) (IsIn suspects levels) (IsInOr queue' (set levels y v) c low) (IsIn suspects' (set levels y v)) s.state y z v a on less full
-            (linked_if z z_else giver.1.1.1.0 giver.1.1.0) giver.1.1.1.0 (max_both (get_or heights y void) (get_or levels z void) v (max_first (get_or heights y void) low v is) z_low) giver.1.1.1.1.0
+            (linked_if z z_else giver.1.1.1.0 giver.1.1.0) giver.1.1.1.0 (max-le (get_or heights y void) (get_or levels z void) v (max_first (get_or heights y void) low v is) z_low) giver.1.1.1.1.0
             (elim hung [
               | inl same ↦ inl same
               | inr all ↦ inr (λ e up. hung_suspect n heights sinks levels labels y v a e (not_itself e up) up
@@ -520,7 +492,7 @@ module _ (n : ℕ) (heights : List ℤ) (sinks : List ℕ) (levels : List ℤ) (
       }
     where
       above_itself : (z : ℕ) → get_or levels z void ≤ℤ v → v <ℤ get_or levels y void → z ≡ y → ⊥
-      above_itself z low less same = not_above v (get_or levels y void) less (subst (λ x. get_or levels x void ≤ℤ v) same low)
+      above_itself z low less same = not_below (get_or levels y void) v (subst (λ x. get_or levels x void ≤ℤ v) same low) less
 
       not_itself : (e : ℕ) → IsHeldUp n heights sinks levels labels e y → e ≢ y
       not_itself e up same = apart_if e y (linked_parts n heights e y up.link).apart same
@@ -574,7 +546,7 @@ heights_state n heights heights' sinks levels labels Waiting Suspect Waiting' s 
         own = by.0.own;
         full = by.0.full;
         label = by.0.label;
-        level = max_both (get_or heights' e void) (get_or levels f void) (get_or levels e void)
+        level = max-le (get_or heights' e void) (get_or levels f void) (get_or levels e void)
             (low e (sym (same e) ∙ (linked_parts n heights e f by.0.link).from) (first_below (get_or heights e void) (get_or levels f void) (get_or levels e void) by.0.level))
             (below_max (get_or heights e void) (get_or levels f void) (get_or levels e void) by.0.level);
       },

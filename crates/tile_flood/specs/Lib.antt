@@ -11,5 +11,6 @@ pub mod Cells
 pub mod Mending
 pub mod Affected
 pub mod Suspects
+pub mod Spreading
 pub mod Sparing
 pub mod Kept

@@ -5,8 +5,8 @@ ghost use Rattle.tile_flood.specs.Labelling.{NO_LABEL as no_label};
 ghost use Rattle.tile_flood.specs.Waiting.{waiting, IsJoined};
 ghost use Rattle.tile_flood.specs.Cells.{OPEN as open_label, levels_of, labels_of, AreCells};
 
-use crate::full_queue::FullQueue;
 use crate::labelled::NO_LABEL;
+use crate::queue::Queue;
 use crate::values::{at, has_level};
 use lattice::VOID;
 use std::alloc::{AllocError, Global};
@@ -64,7 +64,7 @@ pub(crate) fn labels_in(alloc: Global, cells: &[Cell]) -> Result<Vec<u16>, Alloc
 #[inline(always)]
 pub(crate) fn mark(
     cells: &mut [Cell],
-    queue: &mut FullQueue,
+    queue: &mut Queue,
     e: usize,
     level: i16,
     label: u16,

@@ -12,7 +12,6 @@ ghost use Rattle.tile_flood.specs.Flooding.{is_marked};
 
 use crate::block::Block;
 use crate::cells::{Cell, labels_in, levels_in, unlabelled};
-use crate::full_queue::FullQueue;
 use crate::labelled::Labelled;
 use crate::queue::Queue;
 use crate::seeding::seed;
@@ -94,10 +93,10 @@ fn flood_cells(
     requires cells { AreCells heights.now cells.old }
     requires no_level { (e : ℕ) → slice_index_or (levels_of cells.old) e void ≡ void }
     requires no_label { (e : ℕ) → e < n * n → slice_index (labels_of cells.old) e ≡ no_label }
-    ensures labelling { OnOk result (IsLabelling (block_of n heights.now sinks.now) (levels_of cells.new) (labels_of cells.new)) }
-    ensures carried { OnOk result (AreCarried (block_of n heights.now sinks.now) (levels_of cells.new) (labels_of cells.new)) }
+    ensures { OnOk result (IsLabelling (block_of n heights.now sinks.now) (levels_of cells.new) (labels_of cells.new)
+        × AreCarried (block_of n heights.now sinks.now) (levels_of cells.new) (labels_of cells.new)) }
 {
-    let mut queue = FullQueue::new(alloc)?;
+    let mut queue = Queue::full(alloc)?;
     seed(n, heights, sinks, cells, &mut queue)?;
     settle(n, heights, sinks, cells, &mut queue)?;
     Ok(())

@@ -18,7 +18,6 @@ mod block;
 mod borders;
 mod cells;
 mod flood;
-mod full_queue;
 mod labelled;
 mod mending;
 mod outlets;

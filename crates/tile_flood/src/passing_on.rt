@@ -38,8 +38,8 @@ impl Flood {
     ) -> Result<bool, AllocError>
         requires heights { AreHeights n heights.now }
         requires state { AreMending n heights.now sinks.now self.old.levels.items self.old.labels.items self.old.queue self.old.suspects }
-        ensures labelling { IfOk result (λ done. IsTrue done → IsLabelling (block_of n heights.now sinks.now) self.new.levels.items self.new.labels.items) }
-        ensures carried { IfOk result (λ done. IsTrue done → AreCarried (block_of n heights.now sinks.now) self.new.levels.items self.new.labels.items) }
+        ensures mended { IfOk result (λ done. IsTrue done → IsLabelling (block_of n heights.now sinks.now) self.new.levels.items self.new.labels.items
+            × AreCarried (block_of n heights.now sinks.now) self.new.levels.items self.new.labels.items) }
         ensures listed { OnOk result (StayListed n heights.now self.old.levels.items self.old.labels.items affected.old.items self.new.levels.items self.new.labels.items affected.new.items) }
     {
         for _ in 0..most {

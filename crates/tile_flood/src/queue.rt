@@ -1,9 +1,12 @@
 //! The points that wait to spread, the lowest level first.
-ghost use Rattle.std.specs.Prelude.{◌≡◌, ℕ, ℤ, ◌+◌, OnOk, IfSome, IfNone, MatchOption};
+ghost use Rattle.std.specs.Prelude.{◌≡◌, ℕ, ℤ, ◌+◌, IfOk, OnOk, IfSome, IfNone, MatchOption};
 ghost use Rattle.tile_flood.specs.Waiting.{Waits, HasBucket, waiting, IsJoined, IsTaken, IsExtended};
 
 use std::alloc::{AllocError, Global};
 use std::marker::Model;
+
+// There are so many levels.
+const LEVELS: usize = 65536;
 
 /// A point that waits at its level.
 #[derive(Clone, Copy)]
@@ -12,8 +15,7 @@ pub(crate) struct QueueEntry {
     pub(crate) point: u32,
 }
 
-/// The points that wait, in a bucket for each level of a range, which is extended where a point waits at another level: for
-/// few points, where buckets for all levels would take longer than what they are for.
+/// The points that wait, in a bucket for each level of a range, which is extended where a point waits at another level.
 #[derive(Drop)]
 pub(crate) struct Queue {
     alloc: Global,
@@ -36,7 +38,8 @@ impl Model for Queue {
 }
 
 impl Queue {
-    /// A queue where no point waits; its buckets will lie about this level.
+    /// A queue where no point waits; its buckets will lie about this level: for few points, where buckets for all levels
+    /// would take longer than what they are for.
     pub(crate) fn new(alloc: Global, least: i16) -> Queue
         ensures { (level : ℤ) (e : ℕ) → Waits result level e → ⊥ }
     {
@@ -48,7 +51,21 @@ impl Queue {
         }
     }
 
+    /// A queue where no point waits, with a bucket for each level: for a whole block.
+    pub(crate) fn full(alloc: Global) -> Result<Queue, AllocError>
+        ensures { IfOk result (λ queue. (level : ℤ) (e : ℕ) → Waits queue level e → ⊥) }
+    {
+        let buckets = empty_buckets(alloc, LEVELS)?;
+        Ok(Queue {
+            alloc,
+            least: i16::MIN,
+            buckets,
+            lowest: 0,
+        })
+    }
+
     /// Lets the point wait at this level.
+    #[inline(always)]
     pub(crate) fn push(&mut self, level: i16, point: u32) -> Result<(), AllocError>
         ensures joined { OnOk result (IsJoined self.old self.new level point) }
         ensures count { OnOk result (waiting self.new ≡ waiting self.old + 1) }
@@ -59,6 +76,7 @@ impl Queue {
     }
 
     // Makes the level's bucket, where there is none.
+    #[inline(always)]
     fn reach(&mut self, level: i16) -> Result<(), AllocError>
         ensures bucket { OnOk result (HasBucket self.new level) }
         ensures extended { OnOk result (IsExtended self.old self.new) }
@@ -70,6 +88,7 @@ impl Queue {
     }
 
     // Makes buckets for further levels, this one among them, for as many again as there are.
+    #[cold]
     fn extend(&mut self, level: i16) -> Result<(), AllocError>
         ensures bucket { OnOk result (HasBucket self.new level) }
         ensures extended { OnOk result (IsExtended self.old self.new) }
@@ -88,6 +107,7 @@ impl Queue {
     }
 
     // Puts the point into the level's bucket.
+    #[inline(always)]
     fn put(&mut self, level: i16, point: u32) -> Result<(), AllocError>
         requires { HasBucket self.old level }
         ensures joined { OnOk result (IsJoined self.old self.new level point) }
@@ -139,12 +159,12 @@ impl Queue {
     }
 }
 
-ghost use Rattle.std.specs.Prelude.{◌<◌, ◌≤◌, ◌≤ℤ◌, [], IfOk, IsTrue, map, length, pos, ◌+ℤ◌, ◌-ℤ◌, ◌<ℤ◌};
+ghost use Rattle.std.specs.Prelude.{◌<◌, ◌≤◌, ◌≤ℤ◌, [], IsTrue, map, length, pos, ◌+ℤ◌, ◌-ℤ◌, ◌<ℤ◌};
 ghost use Rattle.lattice.specs.Mosaic.{void};
 ghost use Rattle.tile_flood.specs.Waiting.{bucket, AreEmpty};
 
 // The first bucket that isn't empty, from this one on.
-pub(crate) fn first_in_use(buckets: &[Vec<u32>], from: usize) -> Option<usize>
+fn first_in_use(buckets: &[Vec<u32>], from: usize) -> Option<usize>
     ensures none { IfNone result ((b : ℕ) → from ≤ b → bucket (map (λ v. v.items) buckets.now) b ≡ []) }
     ensures in_range { IfSome result (λ k. k < length buckets.now) }
     ensures in_use { IfSome result (λ k. 0 < length (bucket (map (λ v. v.items) buckets.now) k)) }
@@ -159,7 +179,7 @@ pub(crate) fn first_in_use(buckets: &[Vec<u32>], from: usize) -> Option<usize>
 }
 
 // So many empty buckets.
-pub(crate) fn empty_buckets(alloc: Global, count: usize) -> Result<Vec<Vec<u32>>, AllocError>
+fn empty_buckets(alloc: Global, count: usize) -> Result<Vec<Vec<u32>>, AllocError>
     ensures count { IfOk result (λ buckets. length buckets.items ≡ count) }
     ensures empty { IfOk result (λ buckets. AreEmpty (map (λ v. v.items) buckets.items)) }
 {

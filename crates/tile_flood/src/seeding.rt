@@ -2,11 +2,12 @@
 ghost use Rattle.std.specs.Prelude.{◌≡◌, ◌<◌, ◌≤◌, ◌*◌, ◌+◌, OnOk, IsTrue, length};
 ghost use Rattle.tile_flood.specs.Blocks.{block_of, AreHeights};
 ghost use Rattle.tile_flood.specs.Cells.{levels_of, labels_of, AreCells};
-ghost use Rattle.tile_flood.specs.Flooding.{IsFullSpan, IsPlainSpan, IsSeeding, IsFlooding};
+ghost use Rattle.tile_flood.specs.Flooding.{IsFullSpan, IsPlainSpan};
+ghost use Rattle.tile_flood.specs.Spreading.{IsSeeding, IsFlooding};
 
 use crate::cells::{Cell, mark};
-use crate::full_queue::FullQueue;
 use crate::outlets::{is_ground, own_label};
+use crate::queue::Queue;
 use crate::values::at;
 use std::alloc::AllocError;
 
@@ -19,7 +20,7 @@ pub(crate) fn seed(
     heights: &[i16],
     sinks: &[u32],
     cells: &mut [Cell],
-    queue: &mut FullQueue,
+    queue: &mut Queue,
 ) -> Result<(), AllocError>
     requires heights { AreHeights n heights.now }
     requires cells { AreCells heights.now cells.old }
@@ -39,7 +40,7 @@ fn seed_row(
     heights: &[i16],
     sinks: &[u32],
     cells: &mut [Cell],
-    queue: &mut FullQueue,
+    queue: &mut Queue,
     i: usize,
 ) -> Result<(), AllocError>
     requires heights { AreHeights n heights.now }
@@ -53,36 +54,13 @@ fn seed_row(
     let mut from = 1;
     while from < n - 1 {
         let to = (from + SPAN).min(n - 1);
-        seed_span(n, heights, sinks, cells, queue, i, from, to)?;
+        if !is_plain(n, heights, sinks, i, from, to) {
+            seed_columns(n, heights, sinks, cells, queue, i, from, to)?;
+        }
         from = to;
     }
     seed_at(n, heights, sinks, cells, queue, i, n - 1)?;
     Ok(())
-}
-
-// Marks the outlets of a row in these columns, where there are any.
-fn seed_span(
-    n: usize,
-    heights: &[i16],
-    sinks: &[u32],
-    cells: &mut [Cell],
-    queue: &mut FullQueue,
-    i: usize,
-    from: usize,
-    to: usize,
-) -> Result<(), AllocError>
-    requires heights { AreHeights n heights.now }
-    requires i { i < n }
-    requires columns { (0 < from) × ((from ≤ to) × (to < n)) }
-    requires cells { AreCells heights.now cells.old }
-    requires state { IsSeeding (block_of n heights.now sinks.now) (levels_of cells.old) (labels_of cells.old) queue.old (i * n + from) }
-    ensures cells { OnOk result (AreCells heights.now cells.new) }
-    ensures state { OnOk result (IsSeeding (block_of n heights.now sinks.now) (levels_of cells.new) (labels_of cells.new) queue.new (i * n + to)) }
-{
-    if is_plain(n, heights, sinks, i, from, to) {
-        return Ok(());
-    }
-    seed_columns(n, heights, sinks, cells, queue, i, from, to)
 }
 
 // Marks the outlets of a row in these columns.
@@ -91,7 +69,7 @@ fn seed_columns(
     heights: &[i16],
     sinks: &[u32],
     cells: &mut [Cell],
-    queue: &mut FullQueue,
+    queue: &mut Queue,
     i: usize,
     from: usize,
     to: usize,
@@ -116,7 +94,7 @@ fn seed_at(
     heights: &[i16],
     sinks: &[u32],
     cells: &mut [Cell],
-    queue: &mut FullQueue,
+    queue: &mut Queue,
     i: usize,
     j: usize,
 ) -> Result<(), AllocError>

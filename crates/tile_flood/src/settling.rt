@@ -6,10 +6,11 @@ ghost use Rattle.tile_flood.specs.Carried.{AreCarried};
 ghost use Rattle.tile_flood.specs.Blocks.{block_of, bare_block, AreHeights};
 ghost use Rattle.tile_flood.specs.Waiting.{waiting};
 ghost use Rattle.tile_flood.specs.Cells.{levels_of, labels_of, AreCells};
-ghost use Rattle.tile_flood.specs.Flooding.{is_marked, unmarked, AreMarkedStill, IsNear, IsFlooding, IsSpreading};
+ghost use Rattle.tile_flood.specs.Flooding.{is_marked, unmarked, AreMarkedStill, IsNear};
+ghost use Rattle.tile_flood.specs.Spreading.{IsFlooding, IsSpreading};
 
 use crate::cells::{Cell, cell_at, is_open, mark};
-use crate::full_queue::FullQueue;
+use crate::queue::Queue;
 use crate::values::higher;
 use std::alloc::AllocError;
 
@@ -27,13 +28,13 @@ pub(crate) fn settle(
     heights: &[i16],
     sinks: &[u32],
     cells: &mut [Cell],
-    queue: &mut FullQueue,
+    queue: &mut Queue,
 ) -> Result<(), AllocError>
     requires heights { AreHeights n heights.now }
     requires cells { AreCells heights.now cells.old }
     requires state { IsFlooding (block_of n heights.now sinks.now) (levels_of cells.old) (labels_of cells.old) queue.old }
-    ensures labelling { OnOk result (IsLabelling (block_of n heights.now sinks.now) (levels_of cells.new) (labels_of cells.new)) }
-    ensures carried { OnOk result (AreCarried (block_of n heights.now sinks.now) (levels_of cells.new) (labels_of cells.new)) }
+    ensures { OnOk result (IsLabelling (block_of n heights.now sinks.now) (levels_of cells.new) (labels_of cells.new)
+        × AreCarried (block_of n heights.now sinks.now) (levels_of cells.new) (labels_of cells.new)) }
 {
     while let Some(entry) = queue.pop() {
         let point = entry.point as usize;
@@ -53,7 +54,7 @@ fn spread(
     heights: &[i16],
     sinks: &[u32],
     cells: &mut [Cell],
-    queue: &mut FullQueue,
+    queue: &mut Queue,
     popped: PoppedCell,
 ) -> Result<(), AllocError>
     requires heights { AreHeights n heights.now }
@@ -78,7 +79,7 @@ fn visit_row(
     heights: &[i16],
     sinks: &[u32],
     cells: &mut [Cell],
-    queue: &mut FullQueue,
+    queue: &mut Queue,
     popped: PoppedCell,
     i: usize,
 ) -> Result<(), AllocError>
@@ -110,7 +111,7 @@ fn visit(
     heights: &[i16],
     sinks: &[u32],
     cells: &mut [Cell],
-    queue: &mut FullQueue,
+    queue: &mut Queue,
     popped: PoppedCell,
     e: usize,
 ) -> Result<(), AllocError>

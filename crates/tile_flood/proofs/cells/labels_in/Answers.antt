@@ -19,6 +19,5 @@ loop-e-preserved c =
 pub returns : goal.returns
 returns c =
     let cells = c.args.cells.now in
-    let whole = c.loop-e.invariant.whole in
     let long = length-map cells label_of in
     ext_get_or 0 c.loop-e.labels.items (labels_of cells) (omega arith) (λ f below. c.loop-e.invariant.below f (omega arith))

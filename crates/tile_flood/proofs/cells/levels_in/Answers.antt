@@ -1,5 +1,4 @@
-use Rattle.std.proofs.Common.{arith, rules, ◌<◌, ◌∙◌, length, length-set, ap, sym, SFits, w16, to_z, of_z}
-use Rattle.std.proofs.lemmas.Int.{to_z-of_z}
+use Rattle.std.proofs.Common.{arith, rules, ◌<◌, ◌∙◌, length, length-set, ap, sym, SFits, w16, to_z, of_z, to_z-of_z}
 use Rattle.std.proofs.lemmas.List.{ext_get_or, length-map}
 use Rattle.lattice.specs.Mosaic.{void}
 use Rattle.tile_flood.specs.Cells.{level_of, levels_of}
@@ -18,12 +17,11 @@ loop-e-preserved c =
     record {
       whole = length-set c.loop-e.levels.items e level ∙ i.whole;
       below = one_more void c.loop-e.levels.items (levels_of cells) e level (omega arith)
-          (to_z-of_z w16 c.level_in.result fits ∙ (c.level_in.ensures ∙ (ap level_of (c.cell_at.ensures none) ∙ sym (level_at cells e none inside)))) i.below;
+          (to_z-of_z fits ∙ (c.level_in.ensures ∙ (ap level_of (c.cell_at.ensures none) ∙ sym (level_at cells e none inside)))) i.below;
     }
 
 pub returns : goal.returns
 returns c =
     let cells = c.args.cells.now in
-    let whole = c.loop-e.invariant.whole in
     let long = length-map cells level_of in
     ext_get_or void c.loop-e.levels.items (levels_of cells) (omega arith) (λ f below. c.loop-e.invariant.below f (omega arith))

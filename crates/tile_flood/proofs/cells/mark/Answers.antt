@@ -1,5 +1,4 @@
-use Rattle.std.proofs.Common.{rules, ◌∙◌, set, ap, SFits, w16, to_z, of_z}
-use Rattle.std.proofs.lemmas.Int.{to_z-of_z}
+use Rattle.std.proofs.Common.{rules, ◌∙◌, set, ap, SFits, w16, to_z, of_z, to_z-of_z}
 use Rattle.tile_flood.specs.declared.cells.Cell.{Cell}
 use Rattle.tile_flood.specs.Cells.{levels_of}
 use Rattle.tile_flood.proofs.InCells.{set_levels, set_labels, set_cells}
@@ -9,7 +8,7 @@ pub returns-clause-levels : goal.returns-clause-levels
 returns-clause-levels c =
     let fits : SFits w16 c.args.level = search rules in
     let cell : Cell = record { level = to_z w16 (of_z w16 c.args.level); label = c.args.label } in
-    set_levels c.args.cells.now c.args.e cell c.requires.labelled.0 c.requires.labelled.1 ∙ ap (set (levels_of c.args.cells.now) c.args.e) (to_z-of_z w16 c.args.level fits)
+    set_levels c.args.cells.now c.args.e cell c.requires.labelled.0 c.requires.labelled.1 ∙ ap (set (levels_of c.args.cells.now) c.args.e) (to_z-of_z fits)
 
 pub returns-clause-labels : goal.returns-clause-labels
 returns-clause-labels c = set_labels c.args.cells.now c.args.e (record { level = to_z w16 (of_z w16 c.args.level); label = c.args.label }) c.requires.labelled.0 c.requires.labelled.1

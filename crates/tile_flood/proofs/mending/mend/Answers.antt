@@ -1,13 +1,14 @@
 use Rattle.std.proofs.Common.{◌≡◌, ◌*◌, ◌<◌, ℕ, ℤ, List, [], IsTrue, sym, ap, subst, ◌∙◌, length, slice_index_or}
 use Rattle.lattice.specs.Block.{is_solid}
 use Rattle.tile_flood.specs.declared.affected.Affected.{Affected}
-use Rattle.tile_flood.specs.Blocks.{LabelledGround, block_of, bare_block}
+use Rattle.tile_flood.specs.Blocks.{LabelledGround, bare_block}
 use Rattle.tile_flood.specs.Flooding.{is_marked}
 use Rattle.tile_flood.specs.Spills.{AreSpills}
 use Rattle.tile_flood.specs.Affected.{AreChangesListed, AreOffBorders}
 use Rattle.tile_flood.specs.Labelling.{IsLabelling}
 use Rattle.tile_flood.specs.Carried.{AreCarried}
 use Rattle.tile_flood.specs.Waiting.{Waits}
+use Rattle.tile_flood.proofs.Squares.{of_block}
 use Rattle.tile_flood.proofs.Dependence.{full_at}
 use Rattle.tile_flood.proofs.ListedChanges.{none_changed}
 use Rattle.tile_flood.proofs.SameSpills.{spills_still}
@@ -45,24 +46,14 @@ are_off_borders-same_spills-requires-clause-inside c =
     (listed_now (goal.at.are_off_borders-same_spills-requires-clause-inside c).In_ok-settle_changes).inside
 
 pub returns-clause-labelling : goal.returns-clause-labelling
-returns-clause-labelling c =
-    let b = c.args.block.now in
-    let side : c.samples-n.result ≡ b.side = c.samples-n.ensures.value ∙ c.side-side.ensures in
-    rw c.of_flood.ensures
-    (subst (λ n. IsLabelling (block_of n b.heights b.sinks) c.settle_changes.new.self.levels.items c.settle_changes.new.self.labels.items) side
-    (subst (λ hs. IsLabelling (block_of c.samples-n.result hs b.sinks) c.settle_changes.new.self.levels.items c.settle_changes.new.self.labels.items) c.heights-heights.ensures.value
-    (subst (λ ss. IsLabelling (block_of c.samples-n.result c.heights-heights.result.now ss) c.settle_changes.new.self.levels.items c.settle_changes.new.self.labels.items) c.sinks-sinks.ensures
-    (c.in_ok-settle_changes.ensures.labelling c.if-not-branch.false))))
+returns-clause-labelling c = rw c.of_flood.ensures
+    (of_block (λ b. IsLabelling b c.settle_changes.new.self.levels.items c.settle_changes.new.self.labels.items) c.args.block.now c.samples-n.result c.heights-heights.result.now c.sinks-sinks.result.now
+    (c.samples-n.ensures.value ∙ c.side-side.ensures) c.heights-heights.ensures.value c.sinks-sinks.ensures (c.in_ok-settle_changes.ensures.mended c.if-not-branch.false).0)
 
 pub returns-clause-carried : goal.returns-clause-carried
-returns-clause-carried c =
-    let b = c.args.block.now in
-    let side : c.samples-n.result ≡ b.side = c.samples-n.ensures.value ∙ c.side-side.ensures in
-    rw c.of_flood.ensures
-    (subst (λ n. AreCarried (block_of n b.heights b.sinks) c.settle_changes.new.self.levels.items c.settle_changes.new.self.labels.items) side
-    (subst (λ hs. AreCarried (block_of c.samples-n.result hs b.sinks) c.settle_changes.new.self.levels.items c.settle_changes.new.self.labels.items) c.heights-heights.ensures.value
-    (subst (λ ss. AreCarried (block_of c.samples-n.result c.heights-heights.result.now ss) c.settle_changes.new.self.levels.items c.settle_changes.new.self.labels.items) c.sinks-sinks.ensures
-    (c.in_ok-settle_changes.ensures.carried c.if-not-branch.false))))
+returns-clause-carried c = rw c.of_flood.ensures
+    (of_block (λ b. AreCarried b c.settle_changes.new.self.levels.items c.settle_changes.new.self.labels.items) c.args.block.now c.samples-n.result c.heights-heights.result.now c.sinks-sinks.result.now
+    (c.samples-n.ensures.value ∙ c.side-side.ensures) c.heights-heights.ensures.value c.sinks-sinks.ensures (c.in_ok-settle_changes.ensures.mended c.if-not-branch.false).1)
 
 pub returns-clause-spills : goal.returns-clause-spills
 returns-clause-spills c same spills are =

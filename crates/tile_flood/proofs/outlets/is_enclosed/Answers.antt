@@ -1,8 +1,7 @@
-use Rattle.std.proofs.Common.{ℕ, false, ◌≡◌, ◌+◌, ◌*◌, ◌/◌, ◌%◌, ◌<◌, ◌≤◌, arith}
-use Rattle.std.proofs.Math.Nat.{mul-le-mul_right}
+use Rattle.std.proofs.Common.{ℕ, false, ◌≡◌, ◌+◌, ◌*◌, ◌/◌, ◌%◌, ◌<◌, ◌≤◌, arith, mul-le-mul_right}
 use Rattle.lattice.specs.Block.{is_rim}
 use Rattle.tile_flood.proofs.Squares.{cell_of}
-use Rattle.tile_flood.proofs.InMosaic.{inner_if}
+use Rattle.lattice.proofs.Interior.{inner_if}
 use Rattle.tile_flood.proofs.outlets.is_enclosed.Goals as goal
 
 bounds : (n e q r : ℕ) → e ≡ q * n + r → 1 ≤ q → q + 2 ≤ n → 1 ≤ r → r + 2 ≤ n → (n + 1 ≤ e) × (e + n + 1 < n * n)
@@ -12,19 +11,7 @@ bounds n e q r is above below before after =
     (omega arith, omega arith)
 
 off_rim : (n e : ℕ) → 3 ≤ n → e < n * n → is_rim n e ≡ false → (n + 1 ≤ e) × (e + n + 1 < n * n)
-off_rim n e side small off = let i = inner_if n e small side off in bounds n e (e / n) (e % n) (cell_of n e) i.above i.below i.before i.after
-
-pub is_ground-requires-clause-e : goal.is_ground-requires-clause-e
-is_ground-requires-clause-e c = let b = off_rim c.args.n c.args.e c.requires.heights.side.0 c.requires.e c.requires.inner in let low = b.0 in let high = b.1 in omega arith
-
-pub is_ground-requires-then-is_ground-clause-e : goal.is_ground-requires-then-is_ground-clause-e
-is_ground-requires-then-is_ground-clause-e c = let b = off_rim c.args.n c.args.e c.requires.heights.side.0 c.requires.e c.requires.inner in let low = b.0 in let high = b.1 in omega arith
-
-pub is_ground-requires-then-is_ground-2-clause-e : goal.is_ground-requires-then-is_ground-2-clause-e
-is_ground-requires-then-is_ground-2-clause-e c = let b = off_rim c.args.n c.args.e c.requires.heights.side.0 c.requires.e c.requires.inner in let low = b.0 in let high = b.1 in omega arith
-
-pub is_ground-requires-then-is_ground-3-clause-e : goal.is_ground-requires-then-is_ground-3-clause-e
-is_ground-requires-then-is_ground-3-clause-e c = let b = off_rim c.args.n c.args.e c.requires.heights.side.0 c.requires.e c.requires.inner in let low = b.0 in let high = b.1 in omega arith
+off_rim n e side small off = let i = inner_if n e side small off in bounds n e (e / n) (e % n) (cell_of n e) i.above i.below i.before i.after
 
 pub is_ground-requires-then-is_ground-4-clause-e : goal.is_ground-requires-then-is_ground-4-clause-e
 is_ground-requires-then-is_ground-4-clause-e c = let b = off_rim c.args.n c.args.e c.requires.heights.side.0 c.requires.e c.requires.inner in let low = b.0 in let high = b.1 in omega arith

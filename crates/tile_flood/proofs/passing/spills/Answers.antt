@@ -3,7 +3,7 @@ use Rattle.tile_flood.specs.Passing.{IsInOrder, AreFoundBelow, AreFirsts}
 use Rattle.tile_flood.specs.Spills.{AreSpills}
 use Rattle.tile_flood.specs.Blocks.{block_of}
 use Rattle.tile_flood.specs.Labelling.{IsLabelling}
-use Rattle.tile_flood.proofs.Passages.{rises, spills_are, spills_of_ground, no_lower}
+use Rattle.tile_flood.proofs.Passages.{rises, spills_in_order, spills_of_ground, no_lower}
 use Rattle.tile_flood.proofs.passing.spills.Goals as goal
 
 pub first_of_each-requires : goal.first_of_each-requires
@@ -19,11 +19,9 @@ returns-clause-of_any c =
     let labels = c.args.labelled.now.labels in
     let firsts = c.in_ok-first_of_each.field-0.items in
     let same : n ≡ c.args.labelled.now.side = c.samples-n.ensures.value ∙ c.side.ensures in
-    let past = c.loop-i-test.false in
-    let within = c.loop-i.auto.i-end in
     let at_end : c.loop-i.i ≡ n = omega arith in
     subst (λ s. AreSpills s levels levels labels firsts) same
-    (spills_are n levels labels c.loop-i.found.items c.sort.new.self.items firsts c.loop-i.invariant.passages
+    (spills_in_order n levels labels c.loop-i.found.items c.sort.new.self.items firsts c.loop-i.invariant.passages
     (subst (λ i. AreFoundBelow n levels labels c.loop-i.found.items (i * n)) at_end c.loop-i.invariant.before)
     c.in_ok-sort.ensures.permutation (subst (λ l. AreFirsts l firsts) c.deref.ensures.value c.in_ok-first_of_each.ensures))
 

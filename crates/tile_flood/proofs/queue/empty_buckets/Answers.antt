@@ -6,7 +6,6 @@ pub loop-preserved : goal.loop-preserved
 loop-preserved c =
     let grew = c.in_ok-push.ensures.items in
     let one : length (c.loop.buckets.items ++ c.new.result ∷ []) ≡ length c.loop.buckets.items + 1 = length-append c.loop.buckets.items (c.new.result ∷ []) in
-    let before = c.loop.invariant.whole in
     let now : length c.push.new.self.items ≡ length (c.loop.buckets.items ++ c.new.result ∷ []) = ap length grew in
     record {
       whole = omega arith;

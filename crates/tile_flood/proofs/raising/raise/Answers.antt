@@ -1,5 +1,4 @@
-use Rattle.std.proofs.Common.{arith, rules, ◌≡◌, ◌*◌, ◌-◌, ◌++◌, ◌∷◌, [], inr, refl, sym, ap, ◌∙◌, subst, length, slice_index, slice_index_or, SFits, w16}
-use Rattle.std.proofs.lemmas.Int.{to_z-of_z}
+use Rattle.std.proofs.Common.{arith, rules, ◌≡◌, ◌*◌, ◌-◌, ◌++◌, ◌∷◌, [], inr, refl, sym, ap, ◌∙◌, subst, length, slice_index, slice_index_or, SFits, w16, to_z-of_z}
 use Rattle.lattice.specs.Mosaic.{void}
 use Rattle.tile_flood.specs.Raising.{raised_level}
 use Rattle.tile_flood.proofs.Raised.{rim_filled_levels, rim_filled_can, raised_more}
@@ -13,7 +12,6 @@ returns-in_default-clause-refusal c =
     subst (λ ls. c.raised.result ≡ raised_level c.args.rim.now (slice_index_or ls c.loop-e.e void) (slice_index labels c.loop-e.e)) c.levels-levels.ensures.value
     (subst (λ bs. c.raised.result ≡ raised_level c.args.rim.now (slice_index_or c.levels-levels.result.now c.loop-e.e void) (slice_index bs c.loop-e.e)) c.labels-labels.ensures.value c.raised.ensures) in
     let size : length c.levels-levels.result.now ≡ c.args.labelled.now.side * c.args.labelled.now.side = ap length c.levels-levels.ensures.value ∙ c.levels-levels.ensures.whole in
-    let small = c.loop-e-test.true in
     inr (refl, inr (c.loop-e.e, (omega arith, sym at ∙ c.in_default.is)))
 
 pub returns-in_default-clause-not_damaged : goal.returns-in_default-clause-not_damaged
@@ -24,7 +22,6 @@ returns-in_default-clause-not_damaged c =
     subst (λ ls. c.raised.result ≡ raised_level c.args.rim.now (slice_index_or ls c.loop-e.e void) (slice_index labels c.loop-e.e)) c.levels-levels.ensures.value
     (subst (λ bs. c.raised.result ≡ raised_level c.args.rim.now (slice_index_or c.levels-levels.result.now c.loop-e.e void) (slice_index bs c.loop-e.e)) c.labels-labels.ensures.value c.raised.ensures) in
     let size : length c.levels-levels.result.now ≡ c.args.labelled.now.side * c.args.labelled.now.side = ap length c.levels-levels.ensures.value ∙ c.levels-levels.ensures.whole in
-    let small = c.loop-e-test.true in
     λ m p h. absurd (rim_filled_can m p c.args.labelled.now.side levels labels c.args.rim.now h (inr (c.loop-e.e, (omega arith, sym at ∙ c.in_default.is))))
 
 pub loop-e-preserved : goal.loop-e-preserved
@@ -36,14 +33,12 @@ loop-e-preserved c =
     (subst (λ bs. c.raised.result ≡ raised_level c.args.rim.now (slice_index_or c.levels-levels.result.now c.loop-e.e void) (slice_index bs c.loop-e.e)) c.labels-labels.ensures.value c.raised.ensures) in
     let fits : SFits w16 c.in-Some.level = search rules in
     raised_more c.args.labelled.now.side levels labels c.args.rim.now c.loop-e.filled.items c.add.new.filled.items c.loop-e.e c.in-Some.level c.loop-e.invariant
-    (c.in_ok-add.ensures ∙ ap (λ v. c.loop-e.filled.items ++ v ∷ []) (to_z-of_z w16 c.in-Some.level fits)) (sym at ∙ c.in-Some.is)
+    (c.in_ok-add.ensures ∙ ap (λ v. c.loop-e.filled.items ++ v ∷ []) (to_z-of_z fits)) (sym at ∙ c.in-Some.is)
 
 pub returns-clause-filled : goal.returns-clause-filled
 returns-clause-filled c =
     let side = c.args.labelled.now.side in
     let size : length c.levels-levels.result.now ≡ side * side = ap length c.levels-levels.ensures.value ∙ c.levels-levels.ensures.whole in
-    let past = c.loop-e-test.false in
-    let within = c.loop-e.auto.e-end in
     let at_end : c.loop-e.e ≡ side * side = omega arith in
     let samples : c.samples.result ≡ side = c.samples.ensures.value ∙ c.side-side.ensures in
     let same_size = c.if-rim-samples.false in

@@ -1,5 +1,4 @@
-use Rattle.std.proofs.Common.{◌≡◌, ℤ, IsTrue, sym, ◌∙◌, subst, slice_index, slice_index_or, Option}
-use Rattle.std.specs.Prelude.{IsSomeAnd}
+use Rattle.std.proofs.Common.{◌≡◌, ℤ, IsTrue, sym, ◌∙◌, subst, slice_index, slice_index_or, Option, IsSomeAnd}
 use Rattle.lattice.specs.Lattice.{point_of}
 use Rattle.lattice.specs.Ground.{is_ground, terrain}
 use Rattle.lattice.specs.Mosaic.{void}

@@ -9,14 +9,8 @@ pub returns-then-is_full-2 : goal.returns-then-is_full-2
 returns-then-is_full-2 c below =
     let columns = c.requires.columns in
     let low = columns.0 in
-    let order = columns.1.0 in
     let high = columns.1.1 in
-    let test = c.is_empty.ensures in
-    let empty = c.if-not-is_empty.false in
     let none : length c.args.sinks.now ≡ 0 = grind (arith, nat_tests) in
-    let first = c.if-i-eq0.false in
-    let last = c.if-i-n.false in
-    let inside = c.requires.i in
     elim c.if-is_full.branch [
       | then-is_full w ↦ plain_if c.args.n c.args.heights.now c.args.sinks.now c.args.i c.args.from c.args.to (none_left c.args.sinks.now none) (omega arith) (omega arith) low high
           (c.is_full.ensures w.if-is_full.true) (w.is_full-then-is_full.ensures (sym w.value-is ∙ c.if-is_full-2.true)) (c.is_full-then-is_full-2.ensures below)

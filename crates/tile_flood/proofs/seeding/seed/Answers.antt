@@ -1,5 +1,5 @@
 use Rattle.std.proofs.Common.{arith, ◌≡◌, ◌*◌, subst}
-use Rattle.tile_flood.specs.Flooding.{IsSeeding}
+use Rattle.tile_flood.specs.Spreading.{IsSeeding}
 use Rattle.tile_flood.specs.Blocks.{block_of}
 use Rattle.tile_flood.specs.Cells.{levels_of, labels_of}
 use Rattle.tile_flood.proofs.Spreading.{seeding_end}

@@ -1,16 +1,13 @@
-use Rattle.std.proofs.Common.{arith, rules, ◌≡◌, ℕ, ◌+◌, ◌*◌, ◌<◌, ℤ, List, subst, ◌∙◌, SFits, w16, to_z, of_z}
-use Rattle.std.proofs.lemmas.Int.{to_z-of_z}
-use Rattle.std.proofs.lemmas.Nat.{rows}
+use Rattle.std.proofs.Common.{arith, rules, ◌≡◌, ℕ, ◌+◌, ◌*◌, ℤ, List, subst, ap, ◌∙◌, SFits, w16, to_z, of_z, to_z-of_z}
+use Rattle.lattice.specs.Block.{is_exit}
 use Rattle.tile_flood.specs.Waiting.{Queue}
-use Rattle.tile_flood.specs.Flooding.{IsSeeding}
+use Rattle.tile_flood.specs.Spreading.{IsSeeding}
 use Rattle.tile_flood.specs.Cells.{levels_of, labels_of}
 use Rattle.tile_flood.proofs.InCells.{own_labelled}
-use Rattle.tile_flood.proofs.Spreading.{seeded, seed_passed}
+use Rattle.tile_flood.proofs.Squares.{in_square}
+use Rattle.tile_flood.proofs.Spreading.{seeded, seeds_passed}
 use Rattle.tile_flood.proofs.seeding.seed_at.Goals as goal
 use Rattle.tile_flood.specs.Blocks.{block_of}
-
-in_square : (n i j : ℕ) → i < n → j < n → i * n + j < n * n
-in_square n i j row column = grind (arith, rows)
 
 pub mark-requires-clause-labelled : goal.mark-requires-clause-labelled
 mark-requires-clause-labelled c = own_labelled c.args.n c.args.heights.now c.args.sinks.now (c.args.i * c.args.n + c.args.j) c.in-Some.label c.requires.heights.side (in_square c.args.n c.args.i c.args.j c.requires.cell.0 c.requires.cell.1) c.in-Some.ensures.label
@@ -34,12 +31,12 @@ returns-clause-state c =
     let labels' = labels_of c.mark.new.cells in
     next_point c.args.n c.args.heights.now c.args.sinks.now levels' labels' c.mark.new.queue west j
     (seeded c.args.n c.args.heights.now c.args.sinks.now levels levels' labels labels' c.args.queue.now c.mark.new.queue (west + j) (to_z w16 (of_z w16 c.at.result)) c.in-Some.label c.requires.state
-    c.in-Some.ensures.outlet c.in-Some.ensures.label (to_z-of_z w16 c.at.result fits ∙ c.at.ensures) a.levels a.labels a.joined)
+    c.in-Some.ensures.outlet c.in-Some.ensures.label (to_z-of_z fits ∙ c.at.ensures) a.levels a.labels a.joined)
 
 pub returns-in_default-clause-state : goal.returns-in_default-clause-state
 returns-in_default-clause-state c =
     let west = c.args.i * c.args.n in
     let levels = levels_of c.args.cells.now in
     let labels = labels_of c.args.cells.now in
-    next_point c.args.n c.args.heights.now c.args.sinks.now levels labels c.args.queue.now west c.args.j
-    (seed_passed c.args.n c.args.heights.now c.args.sinks.now levels labels c.args.queue.now (west + c.args.j) c.requires.state c.in_default.ensures.none)
+    seeds_passed c.args.n c.args.heights.now c.args.sinks.now levels labels c.args.queue.now (west + c.args.j) (west + (c.args.j + 1)) c.requires.state (omega arith)
+    (λ e from below. let same : e ≡ west + c.args.j = omega arith in ap (is_exit (block_of c.args.n c.args.heights.now c.args.sinks.now)) same ∙ c.in_default.ensures.none)

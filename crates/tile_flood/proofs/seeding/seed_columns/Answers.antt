@@ -1,11 +1,10 @@
 use Rattle.std.proofs.Common.{arith, ◌≡◌, ◌+◌, ◌*◌, subst}
-use Rattle.tile_flood.specs.Flooding.{IsSeeding}
+use Rattle.tile_flood.specs.Spreading.{IsSeeding}
 use Rattle.tile_flood.specs.Blocks.{block_of}
 use Rattle.tile_flood.specs.Cells.{levels_of, labels_of}
 use Rattle.tile_flood.proofs.seeding.seed_columns.Goals as goal
 
 pub returns-clause-state : goal.returns-clause-state
 returns-clause-state c =
-    let columns = c.requires.columns.0 in
     let end : c.args.i * c.args.n + c.loop-j.j ≡ c.args.i * c.args.n + c.args.to = omega arith in
     subst (λ k. IsSeeding (block_of c.args.n c.args.heights.now c.args.sinks.now) (levels_of c.loop-j.cells) (labels_of c.loop-j.cells) c.loop-j.queue k) end c.loop-j.invariant.state

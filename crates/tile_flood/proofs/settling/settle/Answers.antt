@@ -1,12 +1,11 @@
-use Rattle.std.proofs.Common.{arith, rules, ◌<◌, ◌∙◌, ℕ, ℤ, List, length, slice_index, sym, subst, ap, SFits, w16}
-use Rattle.std.proofs.lemmas.Int.{to_z-of_z}
+use Rattle.std.proofs.Common.{arith, rules, ◌<◌, ◌∙◌, ℕ, ℤ, List, length, slice_index, sym, subst, ap, SFits, w16, to_z-of_z}
 use Rattle.std.proofs.lemmas.List.{length-map}
 use Rattle.tile_flood.specs.declared.cells.Cell.{Cell}
 use Rattle.tile_flood.specs.Waiting.{Queue, IsTaken}
-use Rattle.tile_flood.specs.Flooding.{IsFlooding, IsSpreading}
+use Rattle.tile_flood.specs.Spreading.{IsFlooding, IsSpreading}
 use Rattle.tile_flood.specs.Cells.{label_of, levels_of, labels_of}
 use Rattle.tile_flood.proofs.InCells.{none, label_in_cell}
-use Rattle.tile_flood.proofs.Spreading.{spread_begin, taken_below, flooding_end, carried_end}
+use Rattle.tile_flood.proofs.Spreading.{spread_begin, taken_below, flooding_end}
 use Rattle.tile_flood.specs.Blocks.{block_of}
 use Rattle.tile_flood.proofs.settling.settle.Goals as goal
 
@@ -19,15 +18,8 @@ begun n heights sinks cells queue queue' point level s taken =
 pub cell_at-requires : goal.cell_at-requires
 cell_at-requires c = (begun c.args.n c.args.heights.now c.args.sinks.now c.loop-entry.cells c.loop-entry.queue c.pop.new.self c.in-Some.entry.point c.in-Some.entry.level c.loop-entry.invariant.state c.in-Some.ensures.taken).0
 
-pub returns-clause-carried : goal.returns-clause-carried
-returns-clause-carried c =
-    let least = c.requires.heights.side.0 in
-    carried_end c.args.n c.args.heights.now c.args.sinks.now (levels_of c.loop-entry.cells) (labels_of c.loop-entry.cells) c.loop-entry.queue (omega arith) c.loop-entry.invariant.state c.in_default.ensures.taken
-
-pub returns-clause-labelling : goal.returns-clause-labelling
-returns-clause-labelling c =
-    let least = c.requires.heights.side.0 in
-    flooding_end c.args.n c.args.heights.now c.args.sinks.now (levels_of c.loop-entry.cells) (labels_of c.loop-entry.cells) c.loop-entry.queue (omega arith) c.loop-entry.invariant.state c.in_default.ensures.taken
+pub returns : goal.returns
+returns c = flooding_end c.args.n c.args.heights.now c.args.sinks.now (levels_of c.loop-entry.cells) (labels_of c.loop-entry.cells) c.loop-entry.queue (omega arith) c.loop-entry.invariant.state c.in_default.ensures.taken
 
 pub spread-requires-clause-state : goal.spread-requires-clause-state
 spread-requires-clause-state c =
@@ -36,5 +28,5 @@ spread-requires-clause-state c =
     let block = block_of c.args.n c.args.heights.now c.args.sinks.now in
     let fits : SFits w16 c.in-Some.entry.level = search rules in
     let start = begun c.args.n c.args.heights.now c.args.sinks.now cells c.loop-entry.queue c.pop.new.self point c.in-Some.entry.level c.loop-entry.invariant.state c.in-Some.ensures.taken in
-    subst (λ low. IsSpreading block (levels_of cells) (labels_of cells) c.pop.new.self point low c.cell_at.result.label) (sym (to_z-of_z w16 c.in-Some.entry.level fits))
-    (subst (λ l. IsSpreading block (levels_of cells) (labels_of cells) c.pop.new.self point c.in-Some.entry.level l) (label_in_cell cells point start.0 start.1.taken.0 ∙ sym (ap (λ cell. cell.label) (c.cell_at.ensures none))) start.1)
+    subst (λ low. IsSpreading block (levels_of cells) (labels_of cells) c.pop.new.self point low c.cell_at.result.label) (sym (to_z-of_z fits))
+    (subst (λ l. IsSpreading block (levels_of cells) (labels_of cells) c.pop.new.self point c.in-Some.entry.level l) (label_in_cell cells point start.0 start.1.passing.marked ∙ sym (ap (λ cell. cell.label) (c.cell_at.ensures none))) start.1)

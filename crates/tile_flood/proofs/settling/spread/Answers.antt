@@ -14,8 +14,6 @@ returns-clause-state c =
     spread_end n heights c.args.sinks.now (levels_of cells') (labels_of cells') c.visit_row-3.new.queue point c.args.popped.level c.args.popped.label c.in_ok-visit_row-3.ensures.state
     (λ z link.
     let apart = linked_apart n heights point z link in
-    let north = apart.north in
-    let south = apart.south in
     elim (cases_eq (z / n + 1) (point / n)) [
       | inl above ↦ c.in_ok-visit_row-3.ensures.still z (c.in_ok-visit_row-2.ensures.still z (c.in_ok-visit_row.ensures.marked z link (omega arith)))
       | inr rest ↦ elim (cases_eq (z / n) (point / n)) [

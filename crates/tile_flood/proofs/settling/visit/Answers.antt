@@ -20,24 +20,16 @@ after c =
     let o = open_if c.args.n c.args.heights.now c.args.cells.now c.args.e c.requires.heights.whole c.requires.cells c.requires.e c.cell_at-cell.result (c.cell_at-cell.ensures none) (sym c.is_open.ensures ∙ c.if-is_open.true) in
     visited_as c.args.n c.args.heights.now c.args.sinks.now (levels_of c.args.cells.now) (levels_of c.mark.new.cells) (labels_of c.args.cells.now) (labels_of c.mark.new.cells)
     c.args.queue.now c.mark.new.queue c.args.popped.point c.args.popped.level c.args.e (to_z w16 (of_z w16 c.higher.result)) c.args.popped.label
-    c.requires.state (near_linked c.args.n c.args.heights.now c.args.sinks.now (levels_of c.args.cells.now) (labels_of c.args.cells.now) c.args.queue.now c.args.popped.point c.args.popped.level c.args.popped.label c.args.e c.requires.state c.requires.near o.solid o.off) o.off
+    c.requires.state (near_linked c.args.n c.args.heights.now c.args.sinks.now (levels_of c.args.cells.now) (labels_of c.args.cells.now) c.args.queue.now c.args.popped.point c.args.popped.level c.args.popped.label c.requires.state c.args.e c.requires.near o.solid o.off) o.off
     (passed_max c.higher.result c.cell_at-cell.result.level c.args.popped.level (slice_index_or c.args.heights.now c.args.e void) fits_new fits_height fits_low c.higher.ensures (ap (λ cell. cell.level) (c.cell_at-cell.ensures none) ∙ o.height none))
     c.in_ok-mark.ensures.levels c.in_ok-mark.ensures.labels c.in_ok-mark.ensures.joined
 
-pub returns-in_ok-mark-clause-cells : goal.returns-in_ok-mark-clause-cells
-returns-in_ok-mark-clause-cells c = c.in_ok-mark.ensures.cells c.args.heights.now c.requires.cells
-
-pub returns-in_ok-mark-clause-state : goal.returns-in_ok-mark-clause-state
-returns-in_ok-mark-clause-state c = (after c).state
-
-pub returns-in_ok-mark-clause-marked : goal.returns-in_ok-mark-clause-marked
-returns-in_ok-mark-clause-marked c = λ _. (after c).marked
-
-pub returns-in_ok-mark-clause-still : goal.returns-in_ok-mark-clause-still
-returns-in_ok-mark-clause-still c = (after c).still
-
-pub returns-in_ok-mark-clause-count : goal.returns-in_ok-mark-clause-count
-returns-in_ok-mark-clause-count c = let fewer = (after c).count in let more = c.in_ok-mark.ensures.count in omega arith
+pub returns-in_ok-mark : goal.returns-in_ok-mark
+returns-in_ok-mark c =
+    let a = after c in
+    let fewer = a.count in
+    let more = c.in_ok-mark.ensures.count in
+    record { cells = c.in_ok-mark.ensures.cells c.args.heights.now c.requires.cells; state = a.state; still = a.still; count = omega arith; marked = λ _. a.marked }
 
 pub returns-else-is_open-clause-marked : goal.returns-else-is_open-clause-marked
-returns-else-is_open-clause-marked c = marked_unless_open c.args.n c.args.heights.now c.args.sinks.now c.args.cells.now c.args.queue.now c.args.e c.requires.heights.whole c.requires.cells c.requires.state.marks c.requires.e c.cell_at-cell.result (c.cell_at-cell.ensures none) (sym c.is_open.ensures ∙ c.if-is_open.false)
+returns-else-is_open-clause-marked c = marked_unless_open c.args.n c.args.heights.now c.args.cells.now c.args.e c.requires.heights.whole c.requires.cells (c.requires.state.passing.state.unlabelled c.args.e c.requires.e) c.requires.e c.cell_at-cell.result (c.cell_at-cell.ensures none) (sym c.is_open.ensures ∙ c.if-is_open.false)

@@ -2,9 +2,10 @@ use Rattle.std.proofs.Common.{arith, ◌≡◌, ℕ, ◌+◌, ◌*◌, ◌-◌, 
 use Rattle.std.proofs.lemmas.Bool.{cases_eq}
 use Rattle.lattice.specs.Block.{is_solid}
 use Rattle.tile_flood.specs.Blocks.{bare_block}
-use Rattle.tile_flood.specs.Cells.{levels_of}
+use Rattle.tile_flood.specs.Cells.{levels_of, labels_of}
 use Rattle.tile_flood.specs.Flooding.{is_marked}
 use Rattle.tile_flood.proofs.Squares.{linked_parts, linked_below, solid_below, rim_is_exit}
+use Rattle.tile_flood.proofs.Spreading.{outlet_marked}
 use Rattle.tile_flood.proofs.Runs.{run_near, run_of, outer_row}
 use Rattle.tile_flood.proofs.settling.visit_row.Goals as goal
 use Rattle.tile_flood.proofs.settling.visit_row.Goals.{then-from-n-via-then-from-n, then-from-n-via-else-from-n+then-from-cells}
@@ -25,17 +26,14 @@ pub returns-then-from-n-clause-marked : goal.returns-then-from-n-clause-marked
 returns-then-from-n-clause-marked c z link row =
     let n = c.args.n in
     let heights = c.args.heights.now in
-    let s = c.requires.state in
     let l = linked_parts n heights c.args.popped.point z link in
     let inside : c.args.popped.point < n * n = solid_below n heights c.args.popped.point l.from in
-    let whole = c.requires.cells.whole in
-    let whole' = c.requires.heights.whole in
     let rim = outer_row n c.args.popped.point c.args.i z c.requires.heights.side.0 inside (linked_below n heights c.args.popped.point z link) row
     (elim c.then-from-n.branch [
       | then-from-n-via-then-from-n w ↦ let low = w.if-from-n.true in inl (omega arith)
       | then-from-n-via-else-from-n+then-from-cells w ↦ let high = w.if-from-cells.true in inr (omega arith)
     ]) in
-    s.outlets z (rim_is_exit n heights c.args.sinks.now z l.to rim)
+    outlet_marked n heights c.args.sinks.now (levels_of c.args.cells.now) (labels_of c.args.cells.now) c.args.queue.now c.args.popped.point c.args.popped.level c.args.popped.label c.requires.state z (rim_is_exit n heights c.args.sinks.now z l.to rim)
 
 pub returns-clause-marked : goal.returns-clause-marked
 returns-clause-marked c z link row =
@@ -44,9 +42,6 @@ returns-clause-marked c z link row =
     let point = c.args.popped.point in
     let l = linked_parts n heights point z link in
     let found = run_of n point c.args.i z l.beside row in
-    let within = found.1.0 in
-    let at = found.1.1 in
-    let low = c.if-from-n.false in
     let west : ℕ = point + c.args.i * n - n - 1 in
     let levels' = levels_of c.visit-3.new.cells in
     let b = bare_block n heights in

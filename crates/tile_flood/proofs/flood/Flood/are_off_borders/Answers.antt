@@ -10,7 +10,6 @@ none = record { point = 0; label = 0 }
 
 pub loop-k-preserved : goal.loop-k-preserved
 loop-k-preserved c j d z less small beside on =
-    let test = c.loop-k-test.true in
     let affected = c.args.affected.now in
     let k = c.loop-k.k in
     elim (cases_lt j k) [

@@ -23,8 +23,6 @@ loop-k-preserved c =
 
 pub returns-clause-state : goal.returns-clause-state
 returns-clause-state c =
-    let test = c.loop-k-test.false in
-    let end = c.loop-k.auto.k-end in
     let at_end : c.loop-k.k ≡ length c.args.points.now = omega arith in
     let s = c.loop-k.self in
     begin_end c.args.n c.args.heights.now c.args.sinks.now c.args.points.now s.levels.items s.labels.items s.queue s.suspects

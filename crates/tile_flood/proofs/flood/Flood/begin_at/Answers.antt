@@ -1,5 +1,4 @@
-use Rattle.std.proofs.Common.{◌≡◌, ◌+◌, ◌<◌, ◌*◌, ◌/◌, ◌%◌, ◌≤ℤ◌, IsTrue, refl, sym, ap, ◌∙◌, subst, inl, inr, rules, slice_index, slice_index_or, SFits, w16, to_z, of_z}
-use Rattle.std.proofs.lemmas.Int.{to_z-of_z}
+use Rattle.std.proofs.Common.{◌≡◌, ◌+◌, ◌<◌, ◌*◌, ◌/◌, ◌%◌, ◌≤ℤ◌, IsTrue, refl, sym, ap, ◌∙◌, subst, inl, inr, rules, slice_index, slice_index_or, SFits, w16, to_z, of_z, to_z-of_z}
 use Rattle.std.proofs.lemmas.List.{get_or_default}
 use Rattle.lattice.specs.Mosaic.{void}
 use Rattle.lattice.specs.Block.{is_exit}
@@ -29,11 +28,11 @@ returns-in-Some-clause-state c =
     let a = c.in_ok-reset.ensures in
     let fits : SFits w16 c.at-height.result = search rules in
     let fits_level : SFits w16 c.at-level.result = search rules in
-    let level : to_z w16 (of_z w16 c.at-level.result) ≡ slice_index_or s.levels.items e void = to_z-of_z w16 c.at-level.result fits_level ∙ (c.at-level.ensures ∙ ap (λ ls. slice_index_or ls e void) c.deref.ensures.value) in
+    let level : to_z w16 (of_z w16 c.at-level.result) ≡ slice_index_or s.levels.items e void = to_z-of_z fits_level ∙ (c.at-level.ensures ∙ ap (λ ls. slice_index_or ls e void) c.deref.ensures.value) in
     begin_reset n c.args.heights.now c.args.sinks.now c.args.points.now s.levels.items s.labels.items s.queue s.suspects c.args.k e c.requires.state
     (λ d. get_or_default c.args.points.now c.args.k d 0 c.requires.k) (sym c.is_marked.ensures.value ∙ c.if-not-is_marked.false)
     c.reset.new.self.levels.items c.reset.new.self.labels.items (to_z w16 (of_z w16 c.at-height.result)) c.in-Some.label (to_z w16 (of_z w16 c.at-level.result)) c.reset.new.self.queue c.reset.new.self.suspects a.levels a.labels
-    (inr (subst (λ z. IsTrue (is_exit b z)) (sym cell) c.in-Some.ensures.outlet, (to_z-of_z w16 c.at-height.result fits ∙ c.at-height.ensures, subst (λ z. IsOwnLabel b z c.in-Some.label) (sym cell) c.in-Some.ensures.label)))
+    (inr (subst (λ z. IsTrue (is_exit b z)) (sym cell) c.in-Some.ensures.outlet, (to_z-of_z fits ∙ c.at-height.ensures, subst (λ z. IsOwnLabel b z c.in-Some.label) (sym cell) c.in-Some.ensures.label)))
     a.waiting a.suspect (inl (subst (λ v. to_z w16 (of_z w16 c.at-level.result) ≤ℤ v) level (≤ℤ_same (to_z w16 (of_z w16 c.at-level.result))))) a.suspected a.others
 
 pub returns-in-Some-clause-listed : goal.returns-in-Some-clause-listed
@@ -56,7 +55,7 @@ returns-then-level-height-clause-state c =
     (λ d. get_or_default c.args.points.now c.args.k d 0 c.requires.k) (sym c.is_marked.ensures.value ∙ c.if-not-is_marked.false)
     c.reset-then-level-height.new.self.levels.items c.reset-then-level-height.new.self.labels.items void _ (to_z w16 (of_z w16 c.first_suspect-from.result)) c.reset-then-level-height.new.self.queue c.reset-then-level-height.new.self.suspects a.levels a.labels
     (inl (refl, (refl, ap (is_exit b) cell ∙ c.in_default.ensures.none)))
-    a.waiting a.suspect (inr (ap (is_exit b) cell ∙ c.in_default.ensures.none, subst (IsFirstSuspect n s.levels.items s.labels.items s.suspects e) (sym (to_z-of_z w16 c.first_suspect-from.result fits)) c.first_suspect-from.ensures)) a.suspected a.others
+    a.waiting a.suspect (inr (ap (is_exit b) cell ∙ c.in_default.ensures.none, subst (IsFirstSuspect n s.levels.items s.labels.items s.suspects e) (sym (to_z-of_z fits)) c.first_suspect-from.ensures)) a.suspected a.others
 
 pub returns-then-level-height-clause-listed : goal.returns-then-level-height-clause-listed
 returns-then-level-height-clause-listed c =
@@ -75,8 +74,8 @@ returns-clause-state c =
     let a = c.in_ok-wait_beside.ensures in
     let fits : SFits w16 c.at-height.result = search rules in
     let fits_level : SFits w16 c.at-level.result = search rules in
-    let height : to_z w16 (of_z w16 c.at-height.result) ≡ slice_index_or c.args.heights.now e void = to_z-of_z w16 c.at-height.result fits ∙ c.at-height.ensures in
-    let level : to_z w16 (of_z w16 c.at-level.result) ≡ slice_index_or s.levels.items e void = to_z-of_z w16 c.at-level.result fits_level ∙ (c.at-level.ensures ∙ ap (λ ls. slice_index_or ls e void) c.deref.ensures.value) in
+    let height : to_z w16 (of_z w16 c.at-height.result) ≡ slice_index_or c.args.heights.now e void = to_z-of_z fits ∙ c.at-height.ensures in
+    let level : to_z w16 (of_z w16 c.at-level.result) ≡ slice_index_or s.levels.items e void = to_z-of_z fits_level ∙ (c.at-level.ensures ∙ ap (λ ls. slice_index_or ls e void) c.deref.ensures.value) in
     rw (a.levels, a.labels, a.suspects)
     (begin_waits n c.args.heights.now c.args.sinks.now c.args.points.now s.levels.items s.labels.items s.queue s.suspects c.args.k e c.requires.state
     (λ d. get_or_default c.args.points.now c.args.k d 0 c.requires.k) (sym c.is_marked.ensures.value ∙ c.if-not-is_marked.false)

@@ -1,5 +1,4 @@
-use Rattle.std.proofs.Common.{◌<◌, ◌≤ℤ◌, IsTrue, to_z, of_z, refl, sym, ap, ◌∙◌, subst, inl, inr, rules, slice_index_or, SFits, w16}
-use Rattle.std.proofs.lemmas.Int.{to_z-of_z}
+use Rattle.std.proofs.Common.{◌<◌, ◌≤ℤ◌, IsTrue, to_z, of_z, refl, sym, ap, ◌∙◌, subst, inl, inr, rules, slice_index_or, SFits, w16, to_z-of_z}
 use Rattle.lattice.specs.Mosaic.{void}
 use Rattle.lattice.proofs.Levels.{≤ℤ_same}
 use Rattle.tile_flood.specs.Flooding.{is_marked}
@@ -29,7 +28,7 @@ returns-then-is_held-clause-state c =
     e (c.is_held.ensures.held c.if-is_held.true)
     (λ z other is. elim is [ inl in_still ↦ in_still | inr taken ↦ absurd (other taken.0) ])
     (λ z other w. joined.others (slice_index_or s.levels.items z void) z w)
-    (subst (λ l. Waits c.push.new.self l e) (to_z-of_z w16 c.args.entry.level fits ∙ sym (c.is_current.ensures.level c.if-not-is_current.false)) joined.waits)
+    (subst (λ l. Waits c.push.new.self l e) (to_z-of_z fits ∙ sym (c.is_current.ensures.level c.if-not-is_current.false)) joined.waits)
 
 pub returns-clause-state : goal.returns-clause-state
 returns-clause-state c =
@@ -42,7 +41,7 @@ returns-clause-state c =
     (IsInOr s.suspects s.levels.items e c.args.entry.level) e void _ (to_z w16 (of_z w16 c.args.entry.level)) a.levels a.labels c.requires.state
     (λ z other is. elim is [ inl in_still ↦ in_still | inr taken ↦ absurd (other taken.0) ])
     (λ z. refl) (λ z other. refl) (c.is_current.ensures.current c.if-not-is_current.false) (inl (refl, (refl, c.is_held.ensures.inner c.if-is_held.false))) a.waiting a.suspect
-    (inl (subst (λ l. l ≤ℤ slice_index_or s.levels.items e void) (sym (to_z-of_z w16 c.args.entry.level fits)) (subst (λ l. c.args.entry.level ≤ℤ l) (sym (c.is_current.ensures.level c.if-not-is_current.false)) (≤ℤ_same c.args.entry.level)))) a.suspected a.others
+    (inl (subst (λ l. l ≤ℤ slice_index_or s.levels.items e void) (sym (to_z-of_z fits)) (subst (λ l. c.args.entry.level ≤ℤ l) (sym (c.is_current.ensures.level c.if-not-is_current.false)) (≤ℤ_same c.args.entry.level)))) a.suspected a.others
 
 pub returns-clause-listed : goal.returns-clause-listed
 returns-clause-listed c =

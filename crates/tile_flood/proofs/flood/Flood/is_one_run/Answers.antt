@@ -35,8 +35,6 @@ loop-k-preserved c =
 pub returns : goal.returns
 returns c done =
     let s = c.args.self.now in
-    let test = c.loop-k-test.false in
-    let end = c.loop-k.auto.k-end in
     let at_end : c.loop-k.k ≡ 8 = omega arith in
     run_whole c.args.n s.levels.items s.labels.items c.args.e c.args.start c.requires.start c.loop-k.last
     (subst (λ k. IsRun c.args.n s.levels.items s.labels.items c.args.e c.args.start k c.loop-k.last) at_end c.loop-k.invariant)

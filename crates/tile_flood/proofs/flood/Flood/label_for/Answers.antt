@@ -1,5 +1,4 @@
-use Rattle.std.proofs.Common.{◌≤ℤ◌, sym, subst, rules, slice_index_or, SFits, w16}
-use Rattle.std.proofs.lemmas.Int.{to_z-of_z}
+use Rattle.std.proofs.Common.{◌≤ℤ◌, sym, subst, rules, slice_index_or, SFits, w16, to_z-of_z}
 use Rattle.lattice.specs.Mosaic.{void}
 use Rattle.tile_flood.specs.Suspects.{IsBesideWith}
 use Rattle.tile_flood.proofs.Squares.{solid_below}
@@ -11,7 +10,7 @@ pub returns-then-has_beside : goal.returns-then-has_beside
 returns-then-has_beside c =
     let s = c.args.self.now in
     let fits : SFits w16 c.args.level = search rules in
-    subst (λ l. IsBesideWith c.args.n s.levels.items s.labels.items c.args.e c.label_at-own.result l) (to_z-of_z w16 c.args.level fits) (c.has_beside.ensures c.if-has_beside.true)
+    subst (λ l. IsBesideWith c.args.n s.levels.items s.labels.items c.args.e c.label_at-own.result l) (to_z-of_z fits) (c.has_beside.ensures c.if-has_beside.true)
 
 pub returns : goal.returns
 returns c =

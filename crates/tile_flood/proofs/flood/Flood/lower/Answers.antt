@@ -1,5 +1,4 @@
-use Rattle.std.proofs.Common.{◌≡◌, ◌≤ℤ◌, ◌<ℤ◌, IsTrue, sym, ap, ◌∙◌, subst, inl, inr, rules, slice_index, slice_index_or, SFits, w16, to_z, of_z}
-use Rattle.std.proofs.lemmas.Int.{to_z-of_z}
+use Rattle.std.proofs.Common.{◌≡◌, ◌≤ℤ◌, ◌<ℤ◌, IsTrue, sym, ap, ◌∙◌, subst, inl, inr, rules, slice_index, slice_index_or, SFits, w16, to_z, of_z, to_z-of_z}
 use Rattle.lattice.specs.Mosaic.{void}
 use Rattle.tile_flood.specs.Flooding.{is_marked}
 use Rattle.tile_flood.specs.Waiting.{Waits}
@@ -16,7 +15,7 @@ kept c =
     let e = c.args.e in
     let fits : SFits w16 c.args.level = search rules in
     let v = to_z w16 (of_z w16 c.args.level) in
-    let at : v ≡ c.args.level = to_z-of_z w16 c.args.level fits in
+    let at : v ≡ c.args.level = to_z-of_z fits in
     let a = c.in_ok-mark.ensures in
     let own : c.label_at-own.result ≡ slice_index s.labels.items e = c.label_at-own.ensures ∙ ap (λ bs. slice_index bs e) c.deref-2.ensures.value in
     lower_on c.args.n c.args.heights.now c.args.sinks.now s.levels.items s.labels.items s.queue c.mark.new.self.queue s.suspects c.mark.new.self.suspects c.args.popped.point c.args.popped.level c.args.popped.label e v c.label_for-label.result
@@ -24,20 +23,17 @@ kept c =
     c.mark.new.self.levels.items c.mark.new.self.labels.items c.requires.marked (subst (λ l. l <ℤ slice_index_or s.levels.items e void) (sym at) c.requires.lower) c.label_for-label.ensures a.levels a.labels
     (inl (sym own ∙ sym c.if-label-own.true))
 
-pub returns-then-label-own-clause-state : goal.returns-then-label-own-clause-state
-returns-then-label-own-clause-state c = (kept c).state
-
-pub returns-then-label-own-clause-at_most : goal.returns-then-label-own-clause-at_most
-returns-then-label-own-clause-at_most c = (kept c).at_most
-
-pub returns-then-label-own-clause-reached : goal.returns-then-label-own-clause-reached
-returns-then-label-own-clause-reached c = (kept c).reached
-
-pub returns-then-label-own-clause-listed : goal.returns-then-label-own-clause-listed
-returns-then-label-own-clause-listed c =
+pub returns-then-label-own : goal.returns-then-label-own
+returns-then-label-own c =
     let s = c.args.self.now in
-    listed_as c.args.n c.args.heights.now s.levels.items c.mark.new.self.levels.items s.labels.items c.mark.new.self.labels.items c.args.affected.now.items c.list_affected.new.affected.items c.args.e (to_z w16 (of_z w16 c.args.level)) c.label_for-label.result
-    c.requires.e c.in_ok-mark.ensures.levels c.in_ok-mark.ensures.labels c.in_ok-list_affected.ensures
+    let k = kept c in
+    record {
+      state = k.state;
+      at_most = k.at_most;
+      reached = k.reached;
+      listed = listed_as c.args.n c.args.heights.now s.levels.items c.mark.new.self.levels.items s.labels.items c.mark.new.self.labels.items c.args.affected.now.items c.list_affected.new.affected.items c.args.e (to_z w16 (of_z w16 c.args.level)) c.label_for-label.result
+          c.requires.e c.in_ok-mark.ensures.levels c.in_ok-mark.ensures.labels c.in_ok-list_affected.ensures;
+    }
 
 -- it has another, and what hung on it is suspect
 changed : (c : In_ok-suspect_beside) → IsReached c.args.n c.args.heights.now c.args.sinks.now c.args.self.now.levels.items c.suspect_beside.new.self.levels.items c.suspect_beside.new.self.labels.items c.suspect_beside.new.self.queue c.suspect_beside.new.self.suspects
@@ -48,13 +44,13 @@ changed c =
     let fits : SFits w16 c.args.level = search rules in
     let fits_was : SFits w16 c.at-was.result = search rules in
     let v = to_z w16 (of_z w16 c.args.level) in
-    let at : v ≡ c.args.level = to_z-of_z w16 c.args.level fits in
+    let at : v ≡ c.args.level = to_z-of_z fits in
     let a = c.in_ok-mark.ensures in
     let b = c.in_ok-suspect_beside.ensures in
     let mid = c.mark.new.self.levels.items in
     let suspects' = c.suspect_beside.new.self.suspects in
     let own : c.label_at-own.result ≡ slice_index s.labels.items e = c.label_at-own.ensures ∙ ap (λ bs. slice_index bs e) c.deref-2.ensures.value in
-    let was : to_z w16 (of_z w16 c.at-was.result) ≡ slice_index_or s.levels.items e void = to_z-of_z w16 c.at-was.result fits_was ∙ (c.at-was.ensures ∙ ap (λ ls. slice_index_or ls e void) c.deref.ensures.value) in
+    let was : to_z w16 (of_z w16 c.at-was.result) ≡ slice_index_or s.levels.items e void = to_z-of_z fits_was ∙ (c.at-was.ensures ∙ ap (λ ls. slice_index_or ls e void) c.deref.ensures.value) in
     lower_on c.args.n c.args.heights.now c.args.sinks.now s.levels.items s.labels.items s.queue c.suspect_beside.new.self.queue s.suspects suspects' c.args.popped.point c.args.popped.level c.args.popped.label e v c.label_for-label.result
     c.requires.state (c.requires.state.state.ground e c.requires.marked) c.requires.beside (at ∙ c.requires.level) (b.waiting v e a.joined.waits) (λ l f w. b.waiting l f (a.joined.others l f w)) (λ l f w. b.suspect l f (subst (λ q. Waits q l f) (sym a.suspects) w))
     c.suspect_beside.new.self.levels.items c.suspect_beside.new.self.labels.items c.requires.marked (subst (λ l. l <ℤ slice_index_or s.levels.items e void) (sym at) c.requires.lower) c.label_for-label.ensures (b.levels ∙ a.levels) (b.labels ∙ a.labels)
@@ -62,19 +58,16 @@ changed c =
     (b.suspected z small near (subst (λ ls. IsTrue (is_marked ls z)) b.levels on) (ap (λ bs. slice_index bs z) (sym b.labels) ∙ (named ∙ sym own))
     (subst (λ l. l ≤ℤ slice_index_or mid z void) (sym was) (subst (λ ls. slice_index_or s.levels.items e void ≤ℤ slice_index_or ls z void) b.levels high)))))
 
-pub returns-clause-state : goal.returns-clause-state
-returns-clause-state c = (changed c).state
-
-pub returns-clause-at_most : goal.returns-clause-at_most
-returns-clause-at_most c = (changed c).at_most
-
-pub returns-clause-reached : goal.returns-clause-reached
-returns-clause-reached c = (changed c).reached
-
-pub returns-clause-listed : goal.returns-clause-listed
-returns-clause-listed c =
+pub returns : goal.returns
+returns c =
     let s = c.args.self.now in
     let a = c.in_ok-mark.ensures in
     let b = c.in_ok-suspect_beside.ensures in
-    listed_as c.args.n c.args.heights.now s.levels.items c.suspect_beside.new.self.levels.items s.labels.items c.suspect_beside.new.self.labels.items c.args.affected.now.items c.list_affected.new.affected.items c.args.e (to_z w16 (of_z w16 c.args.level)) c.label_for-label.result
-    c.requires.e (b.levels ∙ a.levels) (b.labels ∙ a.labels) c.in_ok-list_affected.ensures
+    let k = changed c in
+    record {
+      state = k.state;
+      at_most = k.at_most;
+      reached = k.reached;
+      listed = listed_as c.args.n c.args.heights.now s.levels.items c.suspect_beside.new.self.levels.items s.labels.items c.suspect_beside.new.self.labels.items c.args.affected.now.items c.list_affected.new.affected.items c.args.e (to_z w16 (of_z w16 c.args.level)) c.label_for-label.result
+          c.requires.e (b.levels ∙ a.levels) (b.labels ∙ a.labels) c.in_ok-list_affected.ensures;
+    }

@@ -1,15 +1,15 @@
-use Rattle.std.proofs.Common.{◌≡◌, ◌≤ℤ◌, arith, rules, sym, subst, ap, ◌∙◌, IsTrue, inl, inr, slice_index, slice_index_or, SFits, w16, to_z, of_z}
+use Rattle.std.proofs.Common.{◌≡◌, ◌≤ℤ◌, arith, rules, sym, subst, ap, ◌∙◌, IsTrue, inl, inr, slice_index, slice_index_or, SFits, w16, to_z, of_z, to_z-of_z}
 use Rattle.std.specs.Int.{int_max}
 use Rattle.std.proofs.lemmas.Bool.{cases_lt}
-use Rattle.std.proofs.lemmas.Int.{to_z-of_z}
 use Rattle.lattice.specs.Mosaic.{void}
 use Rattle.lattice.specs.Block.{is_solid}
+use Rattle.lattice.proofs.Levels.{≤ℤ_trans}
 use Rattle.tile_flood.specs.Blocks.{bare_block}
 use Rattle.tile_flood.specs.Flooding.{is_marked}
 use Rattle.tile_flood.specs.Affected.{IsInWindow}
 use Rattle.tile_flood.specs.Suspects.{IsIn, IsInOr, IsMending}
 use Rattle.tile_flood.proofs.Dependence.{one_window_point, window_point_of, window_beside}
-use Rattle.tile_flood.proofs.Steps.{mending_as, passed_on, at_most_both}
+use Rattle.tile_flood.proofs.Steps.{mending_as, passed_on}
 use Rattle.tile_flood.proofs.ListedChanges.{listed_same, listed_twice}
 use Rattle.tile_flood.proofs.flood.Flood.pass_on.Goals as goal
 use Rattle.tile_flood.proofs.flood.Flood.pass_on.Goals.{in-Some+in_ok-visit, in_default}
@@ -31,7 +31,7 @@ pub loop-d-init : goal.loop-d-init
 loop-d-init c =
     let s = c.args.self.now in
     let fits : SFits w16 c.args.entry.level = search rules in
-    let level = to_z-of_z w16 c.args.entry.level fits in
+    let level = to_z-of_z fits in
     record {
       state = record {
         state = subst (λ v. IsMending c.args.n c.args.heights.now c.args.sinks.now s.levels.items s.labels.items (IsInOr s.queue s.levels.items c.args.entry.point v) (IsIn s.suspects s.levels.items)) (sym level) c.requires.state;
@@ -65,7 +65,7 @@ loop-d-preserved c =
               | inl before ↦
                   let was = i.reached k z before small spot solid in
                   let now = a.at_most z was.0 in
-                  (now.0, at_most_both (slice_index_or levels' z void) (slice_index_or levels z void) (int_max (slice_index_or c.args.heights.now z void) low) now.1 was.1)
+                  (now.0, ≤ℤ_trans (slice_index_or levels' z void) (slice_index_or levels z void) (int_max (slice_index_or c.args.heights.now z void) low) now.1 was.1)
               | inr ge ↦
                   let same : k ≡ d = omega arith in
                   let is : z ≡ e = one_window_point n point d z e (subst (λ k. IsInWindow n point k z) same spot) w.in-Some.ensures.some in

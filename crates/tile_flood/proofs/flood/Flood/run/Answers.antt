@@ -7,6 +7,7 @@ use Rattle.tile_flood.specs.Blocks.{block_of}
 use Rattle.tile_flood.specs.Carried.{AreCarried}
 use Rattle.tile_flood.specs.Cells.{levels_of, labels_of}
 use Rattle.tile_flood.specs.Labelling.{IsLabelling}
+use Rattle.tile_flood.proofs.Squares.{of_block}
 use Rattle.tile_flood.proofs.flood.Flood.run.Goals as goal
 use Rattle.tile_flood.proofs.flood.Flood.run.Goals.{After-of_flood}
 
@@ -30,12 +31,10 @@ module _ (c : After-of_flood) where
       rw c.of_flood.ensures
       (subst (λ ls. P b ls c.in_ok-labels.labels.items) (sym levels)
       (subst (λ bs. P b (levels_of cells) bs) (sym labels)
-      (subst (λ n. P (block_of n b.heights b.sinks) (levels_of cells) (labels_of cells)) side
-      (subst (λ hs. P (block_of c.samples-n.result hs b.sinks) (levels_of cells) (labels_of cells)) c.heights-heights.ensures.value
-      (subst (λ ss. P (block_of c.samples-n.result c.heights-heights.result.now ss) (levels_of cells) (labels_of cells)) c.sinks.ensures flooded)))))
+      (of_block (λ k. P k (levels_of cells) (labels_of cells)) b c.samples-n.result c.heights-heights.result.now c.sinks.result.now side c.heights-heights.ensures.value c.sinks.ensures flooded)))
 
 pub returns-clause-labelling : goal.returns-clause-labelling
-returns-clause-labelling c = answered (goal.at.returns-clause-labelling c).After-of_flood IsLabelling c.in_ok-flood_cells.ensures.labelling
+returns-clause-labelling c = answered (goal.at.returns-clause-labelling c).After-of_flood IsLabelling c.in_ok-flood_cells.ensures.0
 
 pub returns-clause-carried : goal.returns-clause-carried
-returns-clause-carried c = answered (goal.at.returns-clause-carried c).After-of_flood AreCarried c.in_ok-flood_cells.ensures.carried
+returns-clause-carried c = answered (goal.at.returns-clause-carried c).After-of_flood AreCarried c.in_ok-flood_cells.ensures.1

@@ -4,7 +4,7 @@ use Rattle.tile_flood.specs.Waiting.{Waits, IsTaken}
 use Rattle.tile_flood.specs.declared.affected.Affected.{Affected}
 use Rattle.tile_flood.specs.Affected.{StayListed}
 use Rattle.tile_flood.specs.Suspects.{IsIn, IsInOr}
-use Rattle.tile_flood.proofs.Steps.{mended_labelling, mended_carried, mending_as, taken_in}
+use Rattle.tile_flood.proofs.Steps.{mended, mending_as, taken_in}
 use Rattle.tile_flood.proofs.ListedChanges.{listed_same, listed_twice}
 use Rattle.tile_flood.proofs.flood.Flood.settle_changes.Goals as goal
 use Rattle.tile_flood.proofs.flood.Flood.settle_changes.Goals.{In_default-pop, in-Some+in_ok-examine, in_default+in-Some-pop+in_ok-pass_on}
@@ -38,27 +38,15 @@ pass_on-requires-clause-state c =
 nobody : (c : In_default-pop) (l : ℤ) (e : ℕ) → Waits c.loop.self.queue l e → ⊥
 nobody c l e w = c.in_default-pop.ensures.taken l e (subst (λ q. Waits q l e) (sym c.in_default.ensures.queue) w)
 
-pub returns-in_default-pop-clause-labelling : goal.returns-in_default-pop-clause-labelling
-returns-in_default-pop-clause-labelling c done =
+pub returns-in_default-pop-clause-mended : goal.returns-in_default-pop-clause-mended
+returns-in_default-pop-clause-mended c done =
     let s = c.loop.self in
     let a = c.in_default.ensures in
     let levels = s.levels.items in
-    let none = a.none (nobody (goal.at.returns-in_default-pop-clause-labelling c).In_default-pop) in
-    let least = c.requires.heights.side.0 in
+    let none = a.none (nobody (goal.at.returns-in_default-pop-clause-mended c).In_default-pop) in
     rw (a.levels, a.labels)
-    (mended_labelling c.args.n c.args.heights.now c.args.sinks.now levels s.labels.items (IsIn s.queue levels) (IsIn s.suspects levels) (IsIn s.queue levels) (IsIn s.suspects levels) c.loop.invariant.state (omega arith)
-    (λ e w. nobody (goal.at.returns-in_default-pop-clause-labelling c).In_default-pop (slice_index_or levels e void) e w) (λ e is. none (slice_index_or levels e void) e is))
-
-pub returns-in_default-pop-clause-carried : goal.returns-in_default-pop-clause-carried
-returns-in_default-pop-clause-carried c done =
-    let s = c.loop.self in
-    let a = c.in_default.ensures in
-    let levels = s.levels.items in
-    let none = a.none (nobody (goal.at.returns-in_default-pop-clause-carried c).In_default-pop) in
-    let least = c.requires.heights.side.0 in
-    rw (a.levels, a.labels)
-    (mended_carried c.args.n c.args.heights.now c.args.sinks.now levels s.labels.items (IsIn s.queue levels) (IsIn s.suspects levels) (IsIn s.queue levels) (IsIn s.suspects levels) c.loop.invariant.state (omega arith)
-    (λ e w. nobody (goal.at.returns-in_default-pop-clause-carried c).In_default-pop (slice_index_or levels e void) e w) (λ e is. none (slice_index_or levels e void) e is))
+    (mended c.args.n c.args.heights.now c.args.sinks.now levels s.labels.items (IsIn s.queue levels) (IsIn s.suspects levels) (IsIn s.queue levels) (IsIn s.suspects levels) c.loop.invariant.state (omega arith)
+    (λ e w. nobody (goal.at.returns-in_default-pop-clause-mended c).In_default-pop (slice_index_or levels e void) e w) (λ e is. none (slice_index_or levels e void) e is))
 
 pub returns-in_default-pop-clause-listed : goal.returns-in_default-pop-clause-listed
 returns-in_default-pop-clause-listed c =

@@ -1,6 +1,5 @@
-use Rattle.std.proofs.Common.{◌≡◌, ◌≤ℤ◌, ◌⊎◌, arith, rules, refl, sym, ◌∙◌, subst, IsTrue, inl, inr, slice_index, slice_index_or, SFits, w16, to_z, of_z}
+use Rattle.std.proofs.Common.{◌≡◌, ◌≤ℤ◌, ◌⊎◌, arith, rules, refl, sym, ◌∙◌, subst, IsTrue, inl, inr, slice_index, slice_index_or, SFits, w16, to_z, of_z, to_z-of_z}
 use Rattle.std.proofs.lemmas.Bool.{cases_lt}
-use Rattle.std.proofs.lemmas.Int.{to_z-of_z}
 use Rattle.lattice.specs.Mosaic.{void}
 use Rattle.tile_flood.specs.Flooding.{is_marked}
 use Rattle.tile_flood.specs.Affected.{IsInWindow}
@@ -80,9 +79,8 @@ loop-d-preserved c =
 pub returns-clause-suspected : goal.returns-clause-suspected
 returns-clause-suspected c y small beside on named high =
     let spot = window_point_of c.args.n c.args.point y beside in
-    let low = spot.1.0 in
     let fits : SFits w16 c.args.level = search rules in
-    c.loop-d.invariant.suspected spot.0 y (omega arith) small spot.1.1 on named (subst (λ v. v ≤ℤ slice_index_or c.args.self.now.levels.items y void) (sym (to_z-of_z w16 c.args.level fits)) high)
+    c.loop-d.invariant.suspected spot.0 y (omega arith) small spot.1.1 on named (subst (λ v. v ≤ℤ slice_index_or c.args.self.now.levels.items y void) (sym (to_z-of_z fits)) high)
 
 pub returns-clause-others : goal.returns-clause-others
 returns-clause-others c wanted y small beside on = let spot = window_point_of c.args.n c.args.point y beside in let low = spot.1.0 in c.loop-d.invariant.others wanted spot.0 y (omega arith) small spot.1.1 on

@@ -1,5 +1,4 @@
-use Rattle.std.proofs.Common.{◌≡◌, ◌≤ℤ◌, ◌<ℤ◌, not, refl, sym, ap, ◌∙◌, subst, rules, true≢false, slice_index_or, SFits, w16, to_z, of_z}
-use Rattle.std.proofs.lemmas.Int.{to_z-of_z}
+use Rattle.std.proofs.Common.{◌≡◌, ◌≤ℤ◌, ◌<ℤ◌, not, refl, sym, ap, ◌∙◌, subst, rules, true≢false, slice_index_or, SFits, w16, to_z, of_z, to_z-of_z}
 use Rattle.lattice.specs.Mosaic.{void}
 use Rattle.lattice.proofs.IntTests.{le_true, le_false}
 use Rattle.tile_flood.specs.Waiting.{Waits}
@@ -27,21 +26,18 @@ marked c =
     (passed_max c.higher-level.result c.at.result c.args.popped.level (slice_index_or c.args.heights.now c.args.e void) fits_new fits_height fits_low c.higher-level.ensures c.at.ensures)
     a.joined.waits a.joined.others (λ l f w. subst (λ q. Waits q l f) (sym a.suspects) w) c.mark.new.self.levels.items c.mark.new.self.labels.items (ap not (sym c.is_unmarked.ensures ∙ c.if-is_unmarked.true)) refl a.levels a.labels
 
-pub returns-then-is_unmarked-clause-state : goal.returns-then-is_unmarked-clause-state
-returns-then-is_unmarked-clause-state c = (marked c).state
-
-pub returns-then-is_unmarked-clause-at_most : goal.returns-then-is_unmarked-clause-at_most
-returns-then-is_unmarked-clause-at_most c = (marked c).at_most
-
-pub returns-then-is_unmarked-clause-reached : goal.returns-then-is_unmarked-clause-reached
-returns-then-is_unmarked-clause-reached c _ = (marked c).reached
-
-pub returns-then-is_unmarked-clause-listed : goal.returns-then-is_unmarked-clause-listed
-returns-then-is_unmarked-clause-listed c =
+pub returns-then-is_unmarked : goal.returns-then-is_unmarked
+returns-then-is_unmarked c =
     let s = c.args.self.now in
     let a = c.in_ok-mark.ensures in
-    marked_listed c.args.n c.args.heights.now s.levels.items c.mark.new.self.levels.items s.labels.items c.mark.new.self.labels.items c.args.affected.now.items c.args.e (to_z w16 (of_z w16 c.higher-level.result)) c.args.popped.label
-    (sym c.is_ground.ensures ∙ c.if-not-is_ground.false) (ap not (sym c.is_unmarked.ensures ∙ c.if-is_unmarked.true)) a.levels a.labels
+    let m = marked c in
+    record {
+      state = m.state;
+      at_most = m.at_most;
+      reached = λ _. m.reached;
+      listed = marked_listed c.args.n c.args.heights.now s.levels.items c.mark.new.self.levels.items s.labels.items c.mark.new.self.labels.items c.args.affected.now.items c.args.e (to_z w16 (of_z w16 c.higher-level.result)) c.args.popped.label
+          (sym c.is_ground.ensures ∙ c.if-not-is_ground.false) (ap not (sym c.is_unmarked.ensures ∙ c.if-is_unmarked.true)) a.levels a.labels;
+    }
 
 pub returns-then-level-at-clause-at_most : goal.returns-then-level-at-clause-at_most
 returns-then-level-at-clause-at_most c = at_most_same c.args.self.now.levels.items
@@ -55,7 +51,7 @@ returns-then-level-at-clause-reached c _ =
     let fits_new : SFits w16 c.higher-level.result = search rules in
     let fits_at : SFits w16 c.at-2.result = search rules in
     let new = passed_max c.higher-level.result c.at.result c.args.popped.level (slice_index_or c.args.heights.now e void) fits_new fits_height fits_low c.higher-level.ensures c.at.ensures in
-    let old : to_z w16 (of_z w16 c.at-2.result) ≡ slice_index_or levels e void = to_z-of_z w16 c.at-2.result fits_at ∙ (c.at-2.ensures ∙ ap (λ ls. slice_index_or ls e void) c.deref.ensures.value) in (
+    let old : to_z w16 (of_z w16 c.at-2.result) ≡ slice_index_or levels e void = to_z-of_z fits_at ∙ (c.at-2.ensures ∙ ap (λ ls. slice_index_or ls e void) c.deref.ensures.value) in (
       ap not (sym c.is_unmarked.ensures ∙ c.if-is_unmarked.false),
       subst (λ v. slice_index_or levels e void ≤ℤ v) new (subst (λ l. l ≤ℤ to_z w16 (of_z w16 c.higher-level.result)) old (le_true (to_z w16 (of_z w16 c.at-2.result)) (to_z w16 (of_z w16 c.higher-level.result)) c.if-level-at.true)),
     )
@@ -75,5 +71,5 @@ lower-requires-clause-lower c =
     let levels = c.args.self.now.levels.items in
     let e = c.args.e in
     let fits_at : SFits w16 c.at-2.result = search rules in
-    let old : to_z w16 (of_z w16 c.at-2.result) ≡ slice_index_or levels e void = to_z-of_z w16 c.at-2.result fits_at ∙ (c.at-2.ensures ∙ ap (λ ls. slice_index_or ls e void) c.deref.ensures.value) in
+    let old : to_z w16 (of_z w16 c.at-2.result) ≡ slice_index_or levels e void = to_z-of_z fits_at ∙ (c.at-2.ensures ∙ ap (λ ls. slice_index_or ls e void) c.deref.ensures.value) in
     subst (λ l. to_z w16 (of_z w16 c.higher-level.result) <ℤ l) old (le_false (to_z w16 (of_z w16 c.at-2.result)) (to_z w16 (of_z w16 c.higher-level.result)) c.if-level-at.false)

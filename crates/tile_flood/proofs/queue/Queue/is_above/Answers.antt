@@ -1,5 +1,4 @@
-use Rattle.std.proofs.Common.{ℕ, ◌≡◌, ◌≤◌, ◌+ℤ◌, ◌<ℤ◌, pos, [], rules, ap, map, ◌∙◌, sym, subst, SFits, w16, to_z, of_z}
-use Rattle.std.proofs.lemmas.Int.{to_z-of_z}
+use Rattle.std.proofs.Common.{ℕ, ◌≡◌, ◌≤◌, ◌+ℤ◌, ◌<ℤ◌, pos, [], rules, ap, map, ◌∙◌, sym, subst, SFits, w16, to_z, of_z, to_z-of_z}
 use Rattle.lattice.proofs.IntTests.{lt_true}
 use Rattle.tile_flood.specs.Waiting.{Waits, bucket}
 use Rattle.tile_flood.proofs.Buckets.{nobody, above_level}
@@ -12,9 +11,9 @@ returns-in-Some c less =
     let fits : SFits w16 c.level_of.result = search rules in
     let fits_least : SFits w16 q.least = search rules in
     let fits_level : SFits w16 c.args.level = search rules in
-    let at : to_z w16 (of_z w16 c.level_of.result) ≡ q.least +ℤ pos k = to_z-of_z w16 c.level_of.result fits ∙ c.level_of.ensures ∙ ap (λ l. l +ℤ pos k) (to_z-of_z w16 q.least fits_least) in
+    let at : to_z w16 (of_z w16 c.level_of.result) ≡ q.least +ℤ pos k = to_z-of_z fits ∙ c.level_of.ensures ∙ ap (λ l. l +ℤ pos k) (to_z-of_z fits_least) in
     above_level (λ b. b.items) q.least c.deref.result.now q.buckets.items q.lowest k c.args.self.now c.args.level c.self.view_is c.deref.ensures.value c.self.invariant.1 c.in-Some.ensures.first
-    (subst (λ l. c.args.level <ℤ l) at (subst (λ l. l <ℤ to_z w16 (of_z w16 c.level_of.result)) (to_z-of_z w16 c.args.level fits_level) (lt_true (to_z w16 (of_z w16 c.args.level)) (to_z w16 (of_z w16 c.level_of.result)) less)))
+    (subst (λ l. c.args.level <ℤ l) at (subst (λ l. l <ℤ to_z w16 (of_z w16 c.level_of.result)) (to_z-of_z fits_level) (lt_true (to_z w16 (of_z w16 c.args.level)) (to_z w16 (of_z w16 c.level_of.result)) less)))
 
 pub returns-in-None : goal.returns-in-None
 returns-in-None c always l e w =

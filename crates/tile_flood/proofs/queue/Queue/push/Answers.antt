@@ -1,5 +1,4 @@
-use Rattle.std.proofs.Common.{arith, rules, subst, SFits, w16, to_z, of_z}
-use Rattle.std.proofs.lemmas.Int.{to_z-of_z}
+use Rattle.std.proofs.Common.{arith, rules, subst, SFits, w16, to_z, of_z, to_z-of_z}
 use Rattle.tile_flood.specs.Waiting.{IsJoined}
 use Rattle.tile_flood.proofs.Buckets.{joined_extended}
 use Rattle.tile_flood.proofs.queue.Queue.push.Goals as goal
@@ -7,7 +6,7 @@ use Rattle.tile_flood.proofs.queue.Queue.push.Goals as goal
 pub returns-clause-joined : goal.returns-clause-joined
 returns-clause-joined c =
     let fits : SFits w16 c.args.level = search rules in
-    subst (λ l. IsJoined c.args.self.now c.put.new.self l c.args.point) (to_z-of_z w16 c.args.level fits)
+    subst (λ l. IsJoined c.args.self.now c.put.new.self l c.args.point) (to_z-of_z fits)
     (joined_extended c.args.self.now c.reach.new.self c.put.new.self (to_z w16 (of_z w16 c.args.level)) c.args.point c.in_ok-reach.ensures.extended c.in_ok-put.ensures.joined)
 
 pub returns-clause-count : goal.returns-clause-count

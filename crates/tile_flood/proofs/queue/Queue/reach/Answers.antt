@@ -9,8 +9,5 @@ returns-then-is_in_range-clause-bucket c =
     let fits_least : SFits w16 c.self.inside.least = search rules in
     let level_is = to_z-of_z w16 c.args.level fits_level in
     let least_is = to_z-of_z w16 c.self.inside.least fits_least in
-    let long = c.len.ensures in
     let both = c.is_in_range.ensures c.if-is_in_range.true in
-    let low = both.0 in
-    let high = both.1 in
     has_bucket_at (λ v. v.items) c.self.inside.least c.args.level c.self.inside.buckets.items c.args.self.now c.self.view_is (omega (arith, ints)) (omega (arith, ints))
