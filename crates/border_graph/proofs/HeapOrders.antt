@@ -1,8 +1,6 @@
 -- What is taken first of a heap of entries has the lowest crest.
-use Rattle.std.proofs.Common.{◌≡◌, ℤ, ◌≤ℤ◌, List, false, sym, ap, ◌∙◌, arith, true≢false, cond, int_lt, inl, inr}
+use Rattle.std.proofs.Common.{◌≡◌, ℤ, ◌≤ℤ◌, List, false, sym, ap, ◌∙◌, arith, true≢false, cond, int_lt, inl, inr, Ordering, Less, Equal, Greater}
 use Rattle.std.specs.Ordering.{is_lt, int_cmp, nat_cmp, ordering_then}
-use Rattle.std.specs.declared.cmp.Ordering.{Ordering}
-use Rattle.std.specs.declared.cmp.Ordering.TheVariants.{Less, Equal, Greater}
 use Rattle.std.proofs.lemmas.Int.{ints}
 use Rattle.std.proofs.lemmas.Bool.{cases_Bool}
 use Rattle.border_graph.specs.Heaps.{IsTaken}

@@ -1,63 +1,36 @@
--- The links inside a tile, by itself with its spills in any order, and among all.
-use Rattle.std.proofs.Common.{◌≡◌, ℕ, ◌<◌, inl, inr, ℤ, List, [], ◌∷◌, length, get_or, refl, sym, ap, ◌∙◌, arith}
-use Rattle.std.proofs.lemmas.List.Sorted.{Contains-permutation, IsPermutation-sym}
+-- The links inside a tile are those of a summary with the same rim and the same spills, in any order and among any others.
+use Rattle.std.proofs.Common.{◌≡◌, ℕ, ◌<◌, inl, inr, ℤ, List, length, get_or, refl, sym, ap, ◌∙◌, Contains}
 use Rattle.tile_flood.specs.Labelling.{OUT}
+use Rattle.tile_flood.specs.declared.passing.Spill.{Spill}
 use Rattle.border_graph.specs.declared.summary.RimPoint.{RimPoint}
 use Rattle.border_graph.specs.Summaries.{Summary}
-use Rattle.border_graph.specs.Reordered.{IsReordered}
-use Rattle.border_graph.specs.Joining.{Outlet, Rim, nowhere, rim_point, summary_at, IsThere, IsLabelLink, IsSpillLink, IsInnerLink, IsLink}
+use Rattle.border_graph.specs.Joining.{Outlet, Rim, nowhere, rim_point, summary_at, IsThere, IsLabelLink, IsInnerLink, IsLink}
 
-module _ (n : ℕ) (summaries : List Summary) (t : ℕ) (small : t < length summaries) (b : Summary) (moved : IsReordered (summary_at summaries t) b) where
-  point_is : (k : ℕ) → rim_point b k ≡ rim_point (summary_at summaries t) k
-  point_is k = ap (λ (r : List RimPoint). get_or r k nowhere) moved.rim
+module _ (n : ℕ) (old new : List Summary) (t u : ℕ) (small : u < length new) (rim : (summary_at new u).rim ≡ (summary_at old t).rim)
+    (spills : (s : Spill) → Contains (summary_at old t).spills s → Contains (summary_at new u).spills s) where
+  point_is : (k : ℕ) → rim_point (summary_at new u) k ≡ rim_point (summary_at old t) k
+  point_is k = ap (λ (r : List RimPoint). get_or r k nowhere) rim
 
-  height_is : (k : ℕ) → (rim_point b k).height ≡ (rim_point (summary_at summaries t) k).height
+  height_is : (k : ℕ) → (rim_point (summary_at new u) k).height ≡ (rim_point (summary_at old t) k).height
   height_is k = ap (λ (p : RimPoint). p.height) (point_is k)
 
-  there_up : (k : ℕ) → IsThere n (b ∷ []) 0 k → IsThere n summaries t k
-  there_up k there = record { tile = small; number = there.number; solid = λ gap. there.solid (height_is k ∙ gap) }
+  there : (k : ℕ) → IsThere n old t k → IsThere n new u k
+  there k on = record { tile = small; number = on.number; solid = λ gap. on.solid (sym (height_is k) ∙ gap) }
 
-  there_down : (k : ℕ) → IsThere n summaries t k → IsThere n (b ∷ []) 0 k
-  there_down k there = record { tile = omega arith; number = there.number; solid = λ gap. there.solid (sym (height_is k) ∙ gap) }
+  label : (k l : ℕ) (level : ℤ) → IsLabelLink n old t k l level → IsLabelLink n new u k l level
+  label k l level link = record { names = ap (λ (p : RimPoint). p.label) (point_is k) ∙ link.names; height = height_is k ∙ link.height }
 
-  label_up : (k l : ℕ) (level : ℤ) → IsLabelLink n (b ∷ []) 0 k l level → IsLabelLink n summaries t k l level
-  label_up k l level link = record { names = sym (ap (λ (p : RimPoint). p.label) (point_is k)) ∙ link.names; height = sym (height_is k) ∙ link.height }
+  pub out_link : (k : ℕ) (level : ℤ) → IsLink n old (Rim t k) Outlet level → IsLink n new (Rim u k) Outlet level
+  out_link k level (on, inl out) = (there k on, inl (record { outlet = ap (λ (p : RimPoint). p.outlet) (point_is k) ∙ out.outlet; height = height_is k ∙ out.height }))
+  out_link k level (on, inr (inl link)) = (there k on, inr (inl (label k OUT level link)))
+  out_link k level (on, inr (inr spill)) = (there k on, inr (inr (spills (record { a = k; b = OUT; level = level }) spill)))
 
-  label_down : (k l : ℕ) (level : ℤ) → IsLabelLink n summaries t k l level → IsLabelLink n (b ∷ []) 0 k l level
-  label_down k l level link = record { names = ap (λ (p : RimPoint). p.label) (point_is k) ∙ link.names; height = height_is k ∙ link.height }
+  inner : (k l : ℕ) (level : ℤ) → IsInnerLink n old t k l level → IsInnerLink n new u k l level
+  inner k l level (inl link) = inl (label k l level link)
+  inner k l level (inr (inl link)) = inr (inl (label l k level link))
+  inner k l level (inr (inr (inl spill))) = inr (inr (inl (spills (record { a = k; b = l; level = level }) spill)))
+  inner k l level (inr (inr (inr spill))) = inr (inr (inr (spills (record { a = l; b = k; level = level }) spill)))
 
-  spill_up : (x y : ℕ) (level : ℤ) → IsSpillLink n (b ∷ []) 0 x y level → IsSpillLink n summaries t x y level
-  spill_up x y level has = Contains-permutation b.spills (summary_at summaries t).spills (record { a = x; b = y; level = level }) (IsPermutation-sym (summary_at summaries t).spills b.spills moved.spills) has
-
-  spill_down : (x y : ℕ) (level : ℤ) → IsSpillLink n summaries t x y level → IsSpillLink n (b ∷ []) 0 x y level
-  spill_down x y level has = Contains-permutation (summary_at summaries t).spills b.spills (record { a = x; b = y; level = level }) moved.spills has
-
-  pub out_up : (k : ℕ) (level : ℤ) → IsLink n (b ∷ []) (Rim 0 k) Outlet level → IsLink n summaries (Rim t k) Outlet level
-  out_up k level (there, inl out) = (there_up k there, inl (record { outlet = sym (ap (λ (p : RimPoint). p.outlet) (point_is k)) ∙ out.outlet; height = sym (height_is k) ∙ out.height }))
-  out_up k level (there, inr (inl label)) = (there_up k there, inr (inl (label_up k OUT level label)))
-  out_up k level (there, inr (inr spill)) = (there_up k there, inr (inr (spill_up k OUT level spill)))
-
-  pub out_down : (k : ℕ) (level : ℤ) → IsLink n summaries (Rim t k) Outlet level → IsLink n (b ∷ []) (Rim 0 k) Outlet level
-  out_down k level (there, inl out) = (there_down k there, inl (record { outlet = ap (λ (p : RimPoint). p.outlet) (point_is k) ∙ out.outlet; height = height_is k ∙ out.height }))
-  out_down k level (there, inr (inl label)) = (there_down k there, inr (inl (label_down k OUT level label)))
-  out_down k level (there, inr (inr spill)) = (there_down k there, inr (inr (spill_down k OUT level spill)))
-
-  inner_up : (k l : ℕ) (level : ℤ) → IsInnerLink n (b ∷ []) 0 k l level → IsInnerLink n summaries t k l level
-  inner_up k l level (inl label) = inl (label_up k l level label)
-  inner_up k l level (inr (inl label)) = inr (inl (label_up l k level label))
-  inner_up k l level (inr (inr (inl spill))) = inr (inr (inl (spill_up k l level spill)))
-  inner_up k l level (inr (inr (inr spill))) = inr (inr (inr (spill_up l k level spill)))
-
-  inner_down : (k l : ℕ) (level : ℤ) → IsInnerLink n summaries t k l level → IsInnerLink n (b ∷ []) 0 k l level
-  inner_down k l level (inl label) = inl (label_down k l level label)
-  inner_down k l level (inr (inl label)) = inr (inl (label_down l k level label))
-  inner_down k l level (inr (inr (inl spill))) = inr (inr (inl (spill_down k l level spill)))
-  inner_down k l level (inr (inr (inr spill))) = inr (inr (inr (spill_down l k level spill)))
-
-  pub across_up : (k l : ℕ) (level : ℤ) → IsLink n (b ∷ []) (Rim 0 k) (Rim 0 l) level → IsLink n summaries (Rim t k) (Rim t l) level
-  across_up k l level (here, (there, inl inner)) = (there_up k here, (there_up l there, inl (refl, inner_up k l level inner.1)))
-  across_up k l level (here, (there, inr shared)) = absurd (shared.apart refl)
-
-  pub across_down : (k l : ℕ) (level : ℤ) → IsLink n summaries (Rim t k) (Rim t l) level → IsLink n (b ∷ []) (Rim 0 k) (Rim 0 l) level
-  across_down k l level (here, (there, inl inner)) = (there_down k here, (there_down l there, inl (refl, inner_down k l level inner.1)))
-  across_down k l level (here, (there, inr shared)) = absurd (shared.apart refl)
+  pub inner_link : (k l : ℕ) (level : ℤ) → IsLink n old (Rim t k) (Rim t l) level → IsLink n new (Rim u k) (Rim u l) level
+  inner_link k l level (here, (on, inl link)) = (there k here, (there l on, inl (refl, inner k l level link.1)))
+  inner_link k l level (here, (on, inr shared)) = absurd (shared.apart refl)

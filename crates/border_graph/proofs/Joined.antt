@@ -3,9 +3,7 @@ use Rattle.std.proofs.Common.{suc, Bool, false, ◌≡◌, ◌≢◌, ℕ, ◌*�
 use Rattle.std.proofs.lemmas.List.{length-map, get_or_default}
 use denote.Struct.Props.{props}
 use Rattle.std.specs.Int.{int_max}
-use Rattle.std.specs.Ordering.{int_eq}
-use Rattle.std.proofs.lemmas.Bool.{cases_Bool, cases_eq, cases_lt, and_parts, and_from, or_cases}
-use Rattle.std.proofs.lemmas.Bool.Decides.{Decides-int_eq}
+use Rattle.std.proofs.lemmas.Bool.{cases_Bool, cases_eq, cases_lt, and_parts, or_cases}
 use Rattle.lattice.specs.declared.point.Point.{Point}
 use Rattle.lattice.specs.Corners.{Corner, is_corner, same_corner}
 use Rattle.lattice.specs.Lattice.{IsBefore, point_of, holds, index_of}
@@ -31,6 +29,7 @@ use Rattle.border_graph.specs.Links.{IsLinkBelow, IsWayBelow, IsJoinedLevel}
 use Rattle.border_graph.specs.Reduced.{IsCrossing, IsLabelOf}
 use Rattle.border_graph.proofs.Onward.{way_up}
 use Rattle.border_graph.specs.Joining.{AreSummaries, IsSummaryOf, Summarizes, IsRimNumberOf, Node, Outlet, Rim, rim_point, summary_at, IsThere, IsLabelLink, IsOutletLink, IsSpillLink, IsSharedLink, IsInnerLink, IsLink}
+use Rattle.lattice.proofs.CornerOrder.{same_from}
 use Rattle.lattice.proofs.RimNumbers.{one_rim_point, rim_point_of}
 use Rattle.border_graph.proofs.Ways.{WayOut, along, back, way_of_level, level_of_ways}
 use Rattle.std.proofs.Math.ListN.{get_or-map}
@@ -57,12 +56,9 @@ module _ (m : Mosaic) (is : IsMosaic m) (summaries : List Summary) (all : AreSum
       ∙ (ap (λ (cs : List Corner). get_or cs t (record { lat = pos 0; lon = pos 0 })) (sym all.corners)
       ∙ get_or-map (λ (b : Summary). b.corner) summaries t (record { corner = record { lat = pos 0; lon = pos 0 }; rim = []; spills = [] }))
 
-  same_itself : (c : Corner) → IsTrue (same_corner c c)
-  same_itself c = and_from (int_eq c.lat c.lat) (int_eq c.lon c.lon) ((Decides-int_eq c.lat c.lat).1 refl) ((Decides-int_eq c.lon c.lon).1 refl)
-
   pub present : (t : ℕ) → t < length summaries → IsTrue (is_present m (summary_at summaries t).corner)
   present t small = list_any_at (λ (tile : Tile). same_corner tile.corner (summary_at summaries t).corner) m.tiles t (record { corner = record { lat = pos 0; lon = pos 0 }; samples = [] }) (subst (λ k. t < k) as_many small)
-      (subst (λ c. IsTrue (same_corner c (summary_at summaries t).corner)) (sym (tile_corner t)) (same_itself (summary_at summaries t).corner))
+      (subst (λ c. IsTrue (same_corner c (summary_at summaries t).corner)) (sym (tile_corner t)) (same_from (summary_at summaries t).corner (summary_at summaries t).corner refl))
 
   one_summary : (t u : ℕ) → t < length summaries → u < length summaries → (summary_at summaries t).corner ≡ (summary_at summaries u).corner → t ≡ u
   one_summary t u in_t in_u same = one_index (λ (tile : Tile). tile.corner) m.tiles t u (record { corner = record { lat = pos 0; lon = pos 0 }; samples = [] }) (rising_from (λ (tile : Tile). tile.corner) m.tiles is.in_order)
@@ -265,8 +261,19 @@ module _ (m : Mosaic) (is : IsMosaic m) (summaries : List Summary) (all : AreSum
       level_of_node : (k : ℕ) (a : At k) (v : ℤ) → (rim_point (summary_at summaries t) k).height ≡ v → v ≤ℤ level → slice_index_or of.levels a.e void ≤ℤ level
       level_of_node k a v at low = subst (λ w. w ≤ℤ level) (sym (rim_level a.e a.solid a.rim ∙ (sym a.height ∙ at))) low
 
-      spill_pass : (a b : ℕ) (v : ℤ) → IsSpillLink m.side summaries t a b v → v ≤ℤ level → Meets m.side of.heights of.levels of.labels a b v
-      spill_pass a b v has low = (spill_of a b v has).meets
+      -- over a spill to a point with another label, from which there is a way
+      spilled : (k : ℕ) (a : At k) (l : ℕ) (v : ℤ) → Meets m.side of.heights of.levels of.labels k l v → v ≤ℤ level →
+          ((f : ℕ) → IsTrue (is_solid (bare_block m.side of.heights) f) → slice_index of.labels f ≡ l → slice_index_or of.levels f void ≤ℤ level → WayOut (terrain m) level (point_of m.side (summary_at summaries t).corner f)) →
+          WayOut (terrain m) level (point_of m.side (summary_at summaries t).corner a.e)
+      spilled k a l v meets low way =
+          let e = meets.points.0 in
+          let f = meets.points.1 in
+          let link = meets.points.2.0 in
+          let both = linked_parts m.side of.heights e f link in
+          let at : int_max (slice_index_or of.levels e void) (slice_index_or of.levels f void) ≡ v = meets.points.2.1.1.1 in
+          let low_e : slice_index_or of.levels e void ≤ℤ level = ≤ℤ_trans (slice_index_or of.levels e void) v level (subst (λ w. slice_index_or of.levels e void ≤ℤ w) at (le-max_left (slice_index_or of.levels e void) (slice_index_or of.levels f void))) low in
+          let low_f : slice_index_or of.levels f void ≤ℤ level = ≤ℤ_trans (slice_index_or of.levels f void) v level (subst (λ w. slice_index_or of.levels f void ≤ℤ w) at (le-max_right (slice_index_or of.levels e void) (slice_index_or of.levels f void))) low in
+          from_rim k a e both.from meets.points.2.1.0 low_e (over e f link low_e low_f (way f both.to meets.points.2.1.1.0 low_f))
 
       -- a link to the outlet node
       to_outlet : (k : ℕ) (a : At k) (v : ℤ) → IsOutletLink m.side summaries t k v ⊎ (IsLabelLink m.side summaries t k OUT v ⊎ IsSpillLink m.side summaries t k OUT v) → v ≤ℤ level →
@@ -277,29 +284,7 @@ module _ (m : Mosaic) (is : IsMosaic m) (summaries : List Summary) (all : AreSum
         below = subst (λ w. w ≤ℤ level) (sym out.height ∙ (a.height ∙ part.heights a.e a.solid)) low;
       }
       to_outlet k a v (inr (inl label)) low = out_below a.e a.solid (sym a.label ∙ label.names) (level_of_node k a v label.height low)
-      to_outlet k a v (inr (inr spill)) low =
-          let meets = spill_pass k OUT v spill low in
-          let e = meets.points.0 in
-          let f = meets.points.1 in
-          let link = meets.points.2.0 in
-          let both = linked_parts m.side of.heights e f link in
-          let at : int_max (slice_index_or of.levels e void) (slice_index_or of.levels f void) ≡ v = meets.points.2.1.1.1 in
-          let low_e : slice_index_or of.levels e void ≤ℤ level = ≤ℤ_trans (slice_index_or of.levels e void) v level (subst (λ w. slice_index_or of.levels e void ≤ℤ w) at (le-max_left (slice_index_or of.levels e void) (slice_index_or of.levels f void))) low in
-          let low_f : slice_index_or of.levels f void ≤ℤ level = ≤ℤ_trans (slice_index_or of.levels f void) v level (subst (λ w. slice_index_or of.levels f void ≤ℤ w) at (le-max_right (slice_index_or of.levels e void) (slice_index_or of.levels f void))) low in
-          from_rim k a e both.from meets.points.2.1.0 low_e (over e f link low_e low_f (out_below f both.to meets.points.2.1.1.0 low_f))
-
-      -- a spill between two rim points
-      spilled : (k l : ℕ) (a : At k) (b : At l) (v : ℤ) → Meets m.side of.heights of.levels of.labels k l v → v ≤ℤ level →
-          WayOut (terrain m) level (point_of m.side (summary_at summaries t).corner b.e) → WayOut (terrain m) level (point_of m.side (summary_at summaries t).corner a.e)
-      spilled k l a b v meets low way =
-          let e = meets.points.0 in
-          let f = meets.points.1 in
-          let link = meets.points.2.0 in
-          let both = linked_parts m.side of.heights e f link in
-          let at : int_max (slice_index_or of.levels e void) (slice_index_or of.levels f void) ≡ v = meets.points.2.1.1.1 in
-          let low_e : slice_index_or of.levels e void ≤ℤ level = ≤ℤ_trans (slice_index_or of.levels e void) v level (subst (λ w. slice_index_or of.levels e void ≤ℤ w) at (le-max_left (slice_index_or of.levels e void) (slice_index_or of.levels f void))) low in
-          let low_f : slice_index_or of.levels f void ≤ℤ level = ≤ℤ_trans (slice_index_or of.levels f void) v level (subst (λ w. slice_index_or of.levels f void ≤ℤ w) at (le-max_right (slice_index_or of.levels e void) (slice_index_or of.levels f void))) low in
-          from_rim k a e both.from meets.points.2.1.0 low_e (over e f link low_e low_f (to_rim l b f both.to meets.points.2.1.1.0 low_f way))
+      to_outlet k a v (inr (inr spill)) low = spilled k a OUT v (spill_of k OUT v spill).meets low out_below
 
       turned : (a b : ℕ) (v : ℤ) → Meets m.side of.heights of.levels of.labels a b v → Meets m.side of.heights of.levels of.labels b a v
       turned a b v meets = record {
@@ -318,8 +303,8 @@ module _ (m : Mosaic) (is : IsMosaic m) (summaries : List Summary) (all : AreSum
           WayOut (terrain m) level (point_of m.side (summary_at summaries t).corner b.e) → WayOut (terrain m) level (point_of m.side (summary_at summaries t).corner a.e)
       inner_link k l a b v (inl label) low way = to_rim l b a.e a.solid (sym a.label ∙ label.names) (level_of_node k a v label.height low) way
       inner_link k l a b v (inr (inl label)) low way = from_rim k a b.e b.solid (sym b.label ∙ label.names) (level_of_node l b v label.height low) way
-      inner_link k l a b v (inr (inr (inl spill))) low way = spilled k l a b v (spill_pass k l v spill low) low way
-      inner_link k l a b v (inr (inr (inr spill))) low way = spilled k l a b v (turned l k v (spill_pass l k v spill low)) low way
+      inner_link k l a b v (inr (inr (inl spill))) low way = spilled k a l v (spill_of k l v spill).meets low (λ f solid label low_f. to_rim l b f solid label low_f way)
+      inner_link k l a b v (inr (inr (inr spill))) low way = spilled k a l v (turned l k v (spill_of l k v spill).meets) low (λ f solid label low_f. to_rim l b f solid label low_f way)
 
   -- water at the node's point leaves at no more than the level
   abbrev Sinks : ℤ → Node → Type 0
@@ -542,10 +527,10 @@ module _ (m : Mosaic) (is : IsMosaic m) (summaries : List Summary) (all : AreSum
     | inl same ↦ same_tile same
     | inr other ↦ elim (cases_Bool (is_rim m.side e)) [
       | inr off ↦ absurd (other (one_summary t u in_t in_u (inner_held t u in_t in_u e inside off
-          (subst (λ q. IsTrue (holds m.side (summary_at summaries u).corner q)) (at' ∙ sym at) (held u in_u f inside')))))
+          (subst (λ q. IsTrue (holds m.side (summary_at summaries u).corner q)) (at' ∙ sym at) (held_in u in_u f inside')))))
       | inl rim ↦ elim (cases_Bool (is_rim m.side f)) [
         | inr off ↦ absurd (other (sym (one_summary u t in_u in_t (inner_held u t in_u in_t f inside' off
-            (subst (λ q. IsTrue (holds m.side (summary_at summaries t).corner q)) (at ∙ sym at') (held t in_t e inside))))))
+            (subst (λ q. IsTrue (holds m.side (summary_at summaries t).corner q)) (at ∙ sym at') (held_in t in_t e inside))))))
         | inl rim' ↦
             let solid = solid_at t in_t e inside (subst (λ q. IsTrue (is_ground m q)) (sym at) on) in
             let solid' = solid_at u in_u f inside' (subst (λ q. IsTrue (is_ground m q)) (sym at') on) in
@@ -574,9 +559,6 @@ module _ (m : Mosaic) (is : IsMosaic m) (summaries : List Summary) (all : AreSum
     ]
   ]
     where
-      held : (t : ℕ) (small : t < length summaries) (e : ℕ) → e < m.side * m.side → IsTrue (holds m.side (summary_at summaries t).corner (point_of m.side (summary_at summaries t).corner e))
-      held t small e inside = held_in t small e inside
-
       same_tile : t ≡ u → (slice_index (of t in_t).labels e ≡ OUT) ⊎ WayBelow level (Rim t (slice_index (of t in_t).labels e))
       same_tile same =
           let c = (summary_at summaries t).corner in

@@ -1,6 +1,6 @@
 -- The steps of a bottleneck search from a start over links: what is visited next ends a least path (after the correctness
 -- argument of Barnes, Lehman and Mulla 2014).
-use Rattle.std.proofs.Common.{◌≡◌, ℕ, zero, suc, ◌+◌, ◌<◌, ◌≤◌, ◌⊎◌, inl, inr, ℤ, ◌≤ℤ◌, ◌<ℤ◌, true, false, IsTrue, List, [], ◌∷◌, length, get_or, refl, sym, ap, ◌∙◌, subst, arith, true≢false, Contains, int_lt}
+use Rattle.std.proofs.Common.{◌≡◌, ℕ, zero, suc, ◌+◌, ◌<◌, ◌≤◌, ◌⊎◌, inl, inr, ℤ, ◌≤ℤ◌, ◌<ℤ◌, true, false, IsTrue, List, [], ◌∷◌, length, get_or, refl, sym, ap, ◌∙◌, subst, arith, true≢false, Contains}
 use Rattle.std.specs.Int.{int_max}
 use Rattle.std.proofs.lemmas.Bool.{cases_Bool, cases_eq, cases_lt}
 use Rattle.std.proofs.lemmas.Int.{ints, clamps}
@@ -41,22 +41,16 @@ pub alike : (L : ℕ → ℕ → ℤ → Type 0) → IsTwoWay L → (start x : �
 alike L two start x crest level joined some first below = record {
   reached =
       let back = way_back L two start x crest first.0 first.1 some in
-      go_on L start 0 level x back.0 joined.reached.0 (way_up L start crest level (lt-le crest level lower_crest) x back.0 back.1) joined.reached.1;
+      go_on L start 0 level x back.0 joined.reached.0 (way_up L start crest level (lt-le crest level below) x back.0 back.1) joined.reached.1;
   least = λ lower rest way.
       let on = go_on L x 0 (int_max crest lower) start first.0 rest (way_up L x crest (int_max crest lower) (le-max_left crest lower) start first.0 first.1) (way_up L 0 lower (int_max crest lower) (le-max_right crest lower) x rest way) in
-      under crest lower level lower_crest (joined.least (int_max crest lower) on.0 on.1);
+      under crest lower level below (joined.least (int_max crest lower) on.0 on.1);
 }
   where
-    less : (a b : ℤ) → a <ℤ b → int_lt a b ≡ true
-    less a b lower = grind (arith, ints)
-
-    lower_crest : int_lt crest level ≡ true
-    lower_crest = less crest level below
-
-    lt-le : (a b : ℤ) → int_lt a b ≡ true → a ≤ℤ b
+    lt-le : (a b : ℤ) → a <ℤ b → a ≤ℤ b
     lt-le a b less = omega (arith, ints)
 
-    under : (a b c : ℤ) → int_lt a c ≡ true → c ≤ℤ int_max a b → c ≤ℤ b
+    under : (a b c : ℤ) → a <ℤ c → c ≤ℤ int_max a b → c ≤ℤ b
     under a b c less le = omega (arith, ints, clamps)
 
 -- and what it reaches at its level, where no link from there is lower

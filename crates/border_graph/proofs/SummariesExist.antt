@@ -17,7 +17,8 @@ use Rattle.lattice.proofs.RimNumbers.{rim_index_of_number}
 use Rattle.lattice.proofs.SinkIndices.{block_from}
 use Rattle.tile_flood.specs.Blocks.{block_of, bare_block}
 use Rattle.tile_flood.specs.Labelling.{IsLabelling, IsLabelAt, OUT, NO_LABEL}
-use Rattle.tile_flood.proofs.Raised.{rim_number_below}
+use Rattle.tile_flood.proofs.Passages.{spills_of_ground}
+use Rattle.tile_flood.proofs.Raised.{rim_number_below, lowest_height}
 use Rattle.tile_flood.proofs.Squares.{leads, solid_below}
 use Rattle.border_graph.specs.declared.summary.RimPoint.{RimPoint}
 use Rattle.border_graph.specs.Summaries.{Summary}
@@ -173,12 +174,11 @@ module _ (m : Mosaic) (is : IsMosaic m) (c : Corner) (corner : IsTrue (is_corner
   -- so has each tile
   pub summary_exists : (b : Summary) × (IsSummaryOf m b × (b.corner ≡ c))
   summary_exists =
-      let low = is.side_low in
       let sinks = sinks_in m.side c m.sinks in
       let labelling = labelling_exists m.side heights sinks (omega arith) in
       let levels = labelling.0 in
       let labels = labelling.1 in
-      let spills = spills_exist m.side heights levels labels in (
+      let spills = spills_exist m.side levels labels in (
         record { corner = c; rim = rim labels; spills = spills.0 },
         (
           record {
@@ -188,7 +188,7 @@ module _ (m : Mosaic) (is : IsMosaic m) (c : Corner) (corner : IsTrue (is_corner
             labels = labels;
             block = block;
             labelling = labelling.2;
-            spills = spills.1;
+            spills = spills_of_ground m.side heights sinks levels labels (lowest_height m is c heights block.heights) labelling.2 spills.0 spills.1;
             rim = record {
               whole = rim_whole labels;
               height = λ e small on. ap (λ (p : RimPoint). p.height) (point_is labels e small on);

@@ -1,19 +1,20 @@
 -- The edges from a rim point, as they are listed of its tile and of the others that hold the point, are all its links; and
 -- where the tiles are those of a mosaic, no others.
-use Rattle.std.proofs.Common.{◌≡◌, ◌≢◌, ℕ, ◌+◌, ◌*◌, ◌-◌, ◌<◌, inl, inr, ℤ, IsTrue, false, true≢false, ◌≤◌, List, [], length, get_or, pos, refl, sym, ap, ◌∙◌, subst, arith, Contains}
+use Rattle.std.proofs.Common.{◌≡◌, ◌≢◌, ℕ, ◌+◌, ◌*◌, ◌-◌, ◌<◌, inl, inr, ℤ, IsTrue, ◌≤◌, List, [], ◌∷◌, length, get_or, pos, refl, sym, ap, ◌∙◌, subst, arith, Contains}
 use Rattle.std.proofs.lemmas.Bool.{cases_Bool}
-use Rattle.std.proofs.lemmas.Bool.Decides.{Decides-int_eq}
-use Rattle.std.specs.Ordering.{int_eq}
+use Rattle.std.proofs.lemmas.List.Sorted.{Contains-permutation, IsPermutation-sym}
 use Rattle.lattice.specs.declared.point.Point.{Point}
 use Rattle.lattice.specs.Corners.{Corner}
 use Rattle.lattice.specs.Lattice.{point_of, IsIndexOf}
 use Rattle.lattice.specs.Mosaic.{Mosaic, IsMosaic, void}
 use Rattle.lattice.specs.Ground.{is_ground}
 use Rattle.lattice.specs.Block.{is_rim, rim_number}
+use Rattle.lattice.proofs.IntTests.{eq_or_not}
 use Rattle.lattice.proofs.Interior.{inner_only}
 use Rattle.lattice.proofs.Rising.{rising_from, one_index}
 use Rattle.lattice.proofs.Samples.{index_below, index_unique, index_of_point, held_at, point_at_index}
 use Rattle.lattice.proofs.RimNumbers.{one_rim_point}
+use Rattle.tile_flood.specs.declared.passing.Spill.{Spill}
 use Rattle.border_graph.specs.declared.summary.RimPoint.{RimPoint}
 use Rattle.border_graph.specs.Summaries.{Summary}
 use Rattle.border_graph.specs.Joining.{Node, Outlet, Rim, nowhere, summary_at, rim_point, AreSummaries, AreOfMosaic, IsThere, IsSharedLink, IsLink, IsRimNumberOf}
@@ -27,7 +28,7 @@ use Rattle.border_graph.specs.TileGraph.{TileGraph}
 use Rattle.border_graph.specs.declared.edge_source.Edge.{Edge}
 use Rattle.border_graph.proofs.Joined.{at_node, ground_at, solid_at, there_at, are_in_order}
 use Rattle.border_graph.proofs.PlacedWays.{one_tile, one_number, is_there}
-use Rattle.border_graph.proofs.Inside.{out_up, out_down, across_up, across_down}
+use Rattle.border_graph.proofs.Inside.{out_link, inner_link}
 
 -- a point on the rim of a tile is on the rim of each that holds it
 rim_of_other : (n : ℕ) (c other : Corner) (p : Point) (k e : ℕ) → 3 ≤ n → IsOfRim n c k p → IsIndexOf n other p e → IsTrue (is_rim n e)
@@ -57,6 +58,12 @@ module _ (n : ℕ) (low : 3 ≤ n) (summaries : List Summary) (order : AreInOrde
   point_is : point_of n (corner_at corners t) listed.index ≡ point_of n (summary_at summaries t).corner listed.index
   point_is = ap (λ (d : Corner). point_of n d listed.index) (corner_is t small)
 
+  spills_up : (s : Spill) → Contains ways.summary.spills s → Contains (summary_at summaries t).spills s
+  spills_up s = Contains-permutation ways.summary.spills (summary_at summaries t).spills s (IsPermutation-sym (summary_at summaries t).spills ways.summary.spills told.spills)
+
+  spills_down : (s : Spill) → Contains (summary_at summaries t).spills s → Contains ways.summary.spills s
+  spills_down s = Contains-permutation (summary_at summaries t).spills ways.summary.spills s told.spills
+
   -- the point, by its rim number
   numbered : IsRimNumberOf n (summary_at summaries t).corner k (point_of n (corner_at corners t) listed.index)
   numbered = record { index = listed.index; small = listed.rim.small; rim = listed.rim.rim; number = listed.rim.number; point = sym point_is }
@@ -64,14 +71,14 @@ module _ (n : ℕ) (low : 3 ≤ n) (summaries : List Summary) (order : AreInOrde
   height_is : (rim_point (summary_at summaries t) k).height ≡ (rim_point ways.summary k).height
   height_is = ap (λ (r : List RimPoint). (get_or r k nowhere).height) (sym told.rim)
 
-  not_gap : int_eq (rim_point ways.summary k).height void ≡ false → (rim_point ways.summary k).height ≢ void
-  not_gap full same = true≢false (sym ((Decides-int_eq (rim_point ways.summary k).height void).1 same) ∙ full)
-
   before_others : (way : Edge) → Contains listed.second way → Contains new way
-  before_others way has = elim (cases_Bool (int_eq (rim_point ways.summary k).height void)) [
-    | inl gap ↦ subst (λ (l : List Edge). Contains l way) (sym (listed.nothing ((Decides-int_eq (rim_point ways.summary k).height void).0 gap))) has
-    | inr full ↦ (listed.others (not_gap full)).still way has
+  before_others way has = elim (eq_or_not (rim_point ways.summary k).height void) [
+    | inl gap ↦ subst (λ (l : List Edge). Contains l way) (sym (listed.nothing gap)) has
+    | inr full ↦ (listed.others full).still way has
   ]
+
+  sum_is : (a l : ℕ) → a + (1 + l) ≡ 1 + a + l
+  sum_is a l = omega arith
 
   within_only : (way : Edge) → Contains listed.second way → IsPlacedLink n summaries (node_number n (Rim t k)) way.to way.level
   within_only way has = elim (listed.across.only way has) [
@@ -81,7 +88,7 @@ module _ (n : ℕ) (low : 3 ≤ n) (summaries : List Summary) (order : AreInOrde
       to = Rim t by.0;
       starts = refl;
       ends = by.1.0 ∙ sum_is (t * (4 * (n - 1))) by.0;
-      link = across_up n summaries t small ways.summary told k by.0 way.level by.1.1;
+      link = inner_link n (ways.summary ∷ []) summaries 0 t small (sym told.rim) spills_up k by.0 way.level by.1.1;
     }
     | inl first ↦ elim (listed.out.only way first) [
       | inl old ↦ let h = old.1 in absurd (omega arith)
@@ -91,23 +98,17 @@ module _ (n : ℕ) (low : 3 ≤ n) (summaries : List Summary) (order : AreInOrde
         to = Outlet;
         starts = refl;
         ends = by.0;
-        link = out_up n summaries t small ways.summary told k way.level by.1;
+        link = out_link n (ways.summary ∷ []) summaries 0 t small (sym told.rim) spills_up k way.level by.1;
       }
     ]
   ]
-    where
-      sum_is : (a l : ℕ) → a + (1 + l) ≡ 1 + a + l
-      sum_is a l = omega arith
 
   out_listed : (level : ℤ) → IsLink n summaries (Rim t k) Outlet level → Contains new (record { level = level; to = 0 })
-  out_listed level link = before_others (record { level = level; to = 0 }) (listed.across.still (record { level = level; to = 0 }) (listed.out.all level (out_down n summaries t small ways.summary told k level link)))
+  out_listed level link = before_others (record { level = level; to = 0 }) (listed.across.still (record { level = level; to = 0 }) (listed.out.all level (out_link n summaries (ways.summary ∷ []) t 0 (omega arith) told.rim spills_down k level link)))
 
   inner_listed : (l : ℕ) (level : ℤ) → IsLink n summaries (Rim t k) (Rim t l) level → Contains new (record { level = level; to = node_number n (Rim t l) })
   inner_listed l level link = before_others (record { level = level; to = node_number n (Rim t l) })
-      (subst (λ x. Contains listed.second (record { level = level; to = x })) (sum_is (t * (4 * (n - 1))) l) (listed.across.all l level (across_down n summaries t small ways.summary told k l level link)))
-    where
-      sum_is : (a l : ℕ) → a + (1 + l) ≡ 1 + a + l
-      sum_is a l = omega arith
+      (subst (λ x. Contains listed.second (record { level = level; to = x })) (sum_is (t * (4 * (n - 1))) l) (listed.across.all l level (inner_link n summaries (ways.summary ∷ []) t 0 (omega arith) told.rim spills_down k l level link)))
 
   shared_listed : (u l : ℕ) (level : ℤ) → IsThere n summaries t k → IsThere n summaries u l → IsSharedLink n summaries t k u l level → Contains new (record { level = level; to = node_number n (Rim u l) })
   shared_listed u l level on there shared =
@@ -194,19 +195,13 @@ module _ (m : Mosaic) (is : IsMosaic m) (summaries : List Summary) (all : AreSum
           );
         }
 
-  no_gap : int_eq (rim_point ways.summary k).height void ≡ false → (rim_point ways.summary k).height ≢ void
-  no_gap full = not_gap m.side is.side_low summaries order corners many corner_is t k small number ways told new listed full
-
   inner_edge : (way : Edge) → Contains listed.second way → IsPlacedLink m.side summaries (node_number m.side (Rim t k)) way.to way.level
   inner_edge = within_only m.side is.side_low summaries order corners many corner_is t k small number ways told new listed
 
   each : (way : Edge) → Contains new way → IsPlacedLink m.side summaries (node_number m.side (Rim t k)) way.to way.level
-  each way has = elim (cases_Bool (int_eq (rim_point ways.summary k).height void)) [
-    | inl gap ↦ inner_edge way (subst (λ (l : List Edge). Contains l way) (listed.nothing ((Decides-int_eq (rim_point ways.summary k).height void).0 gap)) has)
-    | inr full ↦ elim ((listed.others (no_gap full)).only way has) [
-      | inl inner ↦ inner_edge way inner
-      | inr other ↦ to_other (no_gap full) way other
-    ]
+  each way has = elim (eq_or_not (rim_point ways.summary k).height void) [
+    | inl gap ↦ inner_edge way (subst (λ (l : List Edge). Contains l way) (listed.nothing gap) has)
+    | inr full ↦ elim ((listed.others full).only way has) [ inl inner ↦ inner_edge way inner | inr other ↦ to_other full way other ]
   ]
 
   exactly : AreEdges (IsPlacedLink m.side summaries) (node_number m.side (Rim t k)) new
@@ -227,6 +222,5 @@ none_listed n summaries node t k number at past new empty = record {
   all = λ y level link.
       let there = is_there n summaries link.tile link.number link.to level link.link in
       let tile : t ≡ link.tile = one_tile (4 * (n - 1)) t link.tile k link.number number there.number (sym at ∙ link.starts) in
-      let small = there.tile in
       absurd (omega arith);
 }

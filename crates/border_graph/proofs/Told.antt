@@ -1,7 +1,5 @@
 -- The edges inside a tile, as they are listed of the rows of its rim points.
-use Rattle.std.proofs.Common.{◌≡◌, ℕ, zero, suc, ◌+◌, inl, inr, ℤ, List, [], ◌∷◌, length, refl, sym, ap, ◌∙◌, subst, arith, Contains, IsTrue, IsFalse, true, false, true≢false}
-use Rattle.std.specs.Prelude.{◌↔◌, ◌⊎◌, Option, Some, None, IfSome, IfNone}
-use Rattle.std.specs.Option.{is_some}
+use Rattle.std.proofs.Common.{◌≡◌, ℕ, zero, suc, ◌+◌, inl, inr, ℤ, List, [], ◌∷◌, length, refl, sym, ap, ◌∙◌, subst, arith, Contains, IsTrue, IsFalse, true, false, true≢false, ◌↔◌, ◌⊎◌, Option, Some, None, IfSome, IfNone, is_some}
 use Rattle.std.proofs.lemmas.Bool.{cases_Bool, cases_eq}
 use Rattle.tile_flood.specs.Labelling.{OUT}
 use Rattle.tile_flood.specs.declared.passing.Spill.{Spill}

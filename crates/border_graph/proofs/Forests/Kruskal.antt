@@ -1,7 +1,6 @@
 -- The passes that are kept decide.
-use Rattle.std.proofs.Common.{◌≡◌, ℕ, zero, suc, false, true≢false, cond, int_lt, ◌+◌, ◌<◌, ◌≤◌, ℤ, ◌≤ℤ◌, inl, inr, List, [], ◌∷◌, ◌++◌, length, get_or, refl, sym, ap, ◌∙◌, subst, arith, Contains}
+use Rattle.std.proofs.Common.{length-append, ◌≡◌, ℕ, zero, suc, false, true≢false, cond, int_lt, ◌+◌, ◌<◌, ◌≤◌, ℤ, ◌≤ℤ◌, inl, inr, List, [], ◌∷◌, ◌++◌, length, get_or, sym, ap, ◌∙◌, subst, arith, Contains, Less, Equal, Greater}
 use Rattle.std.specs.Ordering.{is_lt, int_cmp, nat_cmp, ordering_then}
-use Rattle.std.specs.declared.cmp.Ordering.TheVariants.{Less, Equal, Greater}
 use Rattle.std.proofs.lemmas.Int.{ints}
 use Rattle.std.proofs.lemmas.Bool.{cases_Bool, cases_lt, cases_eq}
 use Rattle.std.proofs.lemmas.List.{get_or_default}
@@ -34,6 +33,9 @@ module _ (count : ℕ) (sorted : List Pass) where
     over_this : IsOverAll count sorted k (get_or sorted k d).level
     over_this j e less = subst (λ (p : Pass). (get_or sorted j e).level ≤ℤ p.level) (sym (get_or_default sorted k d e small)) (rising j k e (omega arith) small)
 
+    at : (j : ℕ) (e : Pass) → j < k + 1 → k ≤ j → get_or sorted k d ≡ get_or sorted j e
+    at j e less last = let same : k ≡ j = omega arith in get_or_default sorted k d e small ∙ ap (λ i. get_or sorted i e) same
+
     module _ (whole : length parent' ≡ length parent) (falling : IsFalling parent') where
       -- it joins what is joined already
       pub passed_over : ((passes : List Pass) (level : ℤ) → AreJoined passes level (get_or sorted k d).a (get_or sorted k d).b → AreOver passes level parent → AreOver passes level parent')
@@ -50,9 +52,6 @@ module _ (count : ℕ) (sorted : List Pass) where
         ];
         few = let f = r.few in omega arith;
       }
-        where
-          at : (j : ℕ) (e : Pass) → j < k + 1 → k ≤ j → get_or sorted k d ≡ get_or sorted j e
-          at j e less last = let same : k ≡ j = omega arith in get_or_default sorted k d e small ∙ ap (λ i. get_or sorted i e) same
 
       -- it joins what was apart
       pub kept_too : ((passes : List Pass) (level : ℤ) → AreJoined passes level (get_or sorted k d).a (get_or sorted k d).b → AreOver passes level parent → AreOver passes level parent')
@@ -70,21 +69,14 @@ module _ (count : ℕ) (sorted : List Pass) where
           | inl earlier ↦ joined_more kept kept' more (get_or sorted j e).level (get_or sorted j e).a (get_or sorted j e).b (r.done j e earlier)
           | inr last ↦ subst (λ (p : Pass). AreJoined kept' p.level p.a p.b) (at j e less last) (joined_by kept' (get_or sorted k d).level (get_or sorted k d).a (get_or sorted k d).b (get_or sorted k d).level (≤ℤ_same (get_or sorted k d).level) this)
         ];
-        few = let f = r.few in let longer : length kept' ≡ length kept + 1 = ap length is ∙ one_longer kept in omega arith;
+        few = let f = r.few in let longer : length kept' ≡ length kept + 1 = ap length is ∙ length-append kept (get_or sorted k d ∷ []) in omega arith;
       }
         where
-          at : (j : ℕ) (e : Pass) → j < k + 1 → k ≤ j → get_or sorted k d ≡ get_or sorted j e
-          at j e less last = let same : k ≡ j = omega arith in get_or_default sorted k d e small ∙ ap (λ i. get_or sorted i e) same
-
           this : Contains kept' (get_or sorted k d)
           this = subst (λ (l : List Pass). Contains l (get_or sorted k d)) (sym is) (Contains-push kept (get_or sorted k d))
 
           more : (p : Pass) → Contains kept p → Contains kept' p
           more p has = subst (λ (l : List Pass). Contains l p) (sym is) (Contains-append_left kept (get_or sorted k d ∷ []) p has)
-
-          one_longer : (l : List Pass) → length (l ++ get_or sorted k d ∷ []) ≡ length l + 1
-          one_longer [] = refl
-          one_longer (q ∷ l) = let rest = one_longer l in omega arith
 
   -- once all passes are done, those that are kept span them
   module _ (parent : List ℕ) (kept : List Pass) (k : ℕ) (past : length sorted ≤ k) (r : IsForestSoFar count sorted k parent kept) where

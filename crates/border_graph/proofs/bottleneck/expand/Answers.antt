@@ -1,7 +1,5 @@
-use Rattle.std.proofs.Common.{rules, arith, ◌≡◌, SFits, w16, ap₂, sym, ◌∙◌, subst, length}
-use Rattle.std.specs.Prelude.{MatchOption, IfNone}
+use Rattle.std.proofs.Common.{rules, arith, ◌≡◌, SFits, w16, ap₂, sym, ◌∙◌, subst, length, MatchOption, IfNone, to_z-of_z}
 use Rattle.std.specs.Int.{int_max}
-use Rattle.std.proofs.lemmas.Int.{to_z-of_z}
 use Rattle.border_graph.specs.Links.{IsJoinedLevel}
 use Rattle.border_graph.specs.Edges.{AreAllEdges, AreEdges}
 use Rattle.border_graph.specs.Joining.{AreOfMosaic}
@@ -13,14 +11,14 @@ use Rattle.border_graph.proofs.bottleneck.expand.Goals as goal
 pub returns-then-entry-eq0-clause-ends : goal.returns-then-entry-eq0-clause-ends
 returns-then-entry-eq0-clause-ends g c n summaries fits of =
     let in_range : SFits w16 c.args.entry.crest = search rules in
-    subst (IsEnd (IsPlacedLink n summaries) c.args.entry) (sym (to_z-of_z w16 c.args.entry.crest in_range)) (end_at_outlet (IsPlacedLink n summaries) c.args.entry c.if-entry-eq0.true)
+    subst (IsEnd (IsPlacedLink n summaries) c.args.entry) (sym (to_z-of_z in_range)) (end_at_outlet (IsPlacedLink n summaries) c.args.entry c.if-entry-eq0.true)
 
 pub returns-in-Some-clause-ends : goal.returns-in-Some-clause-ends
 returns-in-Some-clause-ends g c n summaries fits of =
     let answer = c.in_ok-level.ensures.answer n summaries fits of in
     let in_range : SFits w16 c.max.result = record { sfits = c.max.type_inv } in
-    let higher : c.max.result ≡ int_max c.args.entry.crest c.in-Some.level = c.max.ensures.value ∙ ap₂ int_max (to_z-of_z w16 c.args.entry.crest (search rules)) (to_z-of_z w16 c.in-Some.level (search rules)) in
-    subst (IsEnd (IsPlacedLink n summaries) c.args.entry) (sym higher ∙ sym (to_z-of_z w16 c.max.result in_range))
+    let higher : c.max.result ≡ int_max c.args.entry.crest c.in-Some.level = c.max.ensures.value ∙ ap₂ int_max (to_z-of_z {w = w16} {z = c.args.entry.crest} (search rules)) (to_z-of_z {w = w16} {z = c.in-Some.level} (search rules)) in
+    subst (IsEnd (IsPlacedLink n summaries) c.args.entry) (sym higher ∙ sym (to_z-of_z in_range))
     (end_at_known (IsPlacedLink n summaries) c.args.entry c.in-Some.level
     (subst (λ known. MatchOption known (AreEdges (IsPlacedLink n summaries) c.args.entry.node c.edges_from.new.into.items) (IsJoinedLevel (IsPlacedLink n summaries) 0 c.args.entry.node)) c.in-Some.is answer))
 

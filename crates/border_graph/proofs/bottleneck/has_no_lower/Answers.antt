@@ -1,12 +1,10 @@
-use Rattle.std.proofs.Common.{rules, arith, ◌≡◌, ◌<◌, ◌≤ℤ◌, ℤ, inl, inr, w16, to_z, of_z, int_lt, false, get_or, pos, sym, ap, ◌∙◌, subst}
+use Rattle.std.proofs.Common.{rules, arith, ◌<◌, ◌≤ℤ◌, inl, inr, w16, to_z, of_z, int_lt, false, get_or, pos, sym, ap, ◌∙◌, subst}
 use Rattle.std.proofs.lemmas.Bool.{cases_eq}
-use Rattle.std.proofs.lemmas.Int.{ints, to_z-of_z}
+use Rattle.std.proofs.lemmas.Int.{to_z-of_z}
 use Rattle.std.proofs.lemmas.List.{get_or_default}
+use Rattle.lattice.proofs.IntTests.{lt_false}
 use Rattle.border_graph.specs.declared.edge_source.Edge.{Edge}
 use Rattle.border_graph.proofs.bottleneck.has_no_lower.Goals as goal
-
-not_below : (a b : ℤ) → int_lt a b ≡ false → b ≤ℤ a
-not_below a b none = grind (arith, ints)
 
 pub loop-edge-preserved : goal.loop-edge-preserved
 loop-edge-preserved c k d below =
@@ -14,7 +12,7 @@ loop-edge-preserved c k d below =
     elim (cases_eq k c.loop-edge.edge-index) [
       | inl same ↦
           let e : Edge = get_or c.args.edges.now c.loop-edge.edge-index (record { level = pos 0; to = 0 }) in
-          let low : crest ≤ℤ e.level = not_below e.level crest (ap (λ v. int_lt v crest) (sym (to_z-of_z w16 e.level (search rules))) ∙ c.if-edge-crest.false) in
+          let low : crest ≤ℤ e.level = lt_false e.level crest (ap (λ v. int_lt v crest) (sym (to_z-of_z w16 e.level (search rules))) ∙ c.if-edge-crest.false) in
           subst (λ i. crest ≤ℤ (get_or c.args.edges.now i d).level) (sym same)
           (subst (λ v. crest ≤ℤ v) (ap (λ (way : Edge). way.level) (get_or_default c.args.edges.now c.loop-edge.edge-index (record { level = pos 0; to = 0 }) d c.loop-edge-test.true)) low)
       | inr other ↦ c.loop-edge.invariant k d (omega arith)

@@ -1,7 +1,4 @@
-use Rattle.std.proofs.Common.{rules, arith, ◌≡◌, ◌≤◌, ◌+◌, ◌++◌, ◌∷◌, [], ℕ, ℤ, ◌⊎◌, inl, inr, w16, List, Contains, Vec, Global, to_z, of_z, get_or, take, length, pos, false, true≢false, sym, ap, ◌∙◌, subst}
-use Rattle.std.specs.Prelude.{All}
-use Rattle.std.proofs.lemmas.Int.{to_z-of_z}
-use Rattle.std.proofs.lemmas.List.{take_all}
+use Rattle.std.proofs.Common.{rules, arith, ◌≡◌, ◌≤◌, ◌+◌, ◌++◌, ◌∷◌, [], ℕ, ℤ, ◌⊎◌, inl, inr, w16, List, Contains, Vec, Global, to_z, of_z, get_or, take, length, pos, false, true≢false, sym, ap, ◌∙◌, subst, All, to_z-of_z, take_all}
 use Rattle.std.proofs.lemmas.List.Elements.{All-contains, All-more, All-weaker, Contains-append_left, Contains-get_or, Contains-push, Contains-push_cases}
 use Rattle.border_graph.specs.Bottleneck.{HasLevel}
 use Rattle.border_graph.specs.declared.bottleneck.Settled.{Settled}
@@ -38,7 +35,7 @@ loop-one-preserved c =
     ]
 
 pub returns-clause-only : goal.returns-clause-only
-returns-clause-only c x has = subst (λ v. Contains c.args.into.now.items x ⊎ ((one : Settled) × (Contains c.args.settled.now one × ((one.node ≡ x) × HasLevel one v)))) (to_z-of_z w16 c.args.level (search rules)) (c.loop-one.invariant.only x has)
+returns-clause-only c x has = subst (λ v. Contains c.args.into.now.items x ⊎ ((one : Settled) × (Contains c.args.settled.now one × ((one.node ≡ x) × HasLevel one v)))) (to_z-of_z {w = w16} {z = c.args.level} (search rules)) (c.loop-one.invariant.only x has)
 
 pub returns-clause-all : goal.returns-clause-all
 returns-clause-all c s there has =
@@ -47,4 +44,4 @@ returns-clause-all c s there has =
     let listed = λ (s : Settled). HasLevel s level → Contains c.loop-one.into.items s.node in
     let end : length settled ≤ c.loop-one.one-index = (let last = c.loop-one-test.false in omega arith) in
     All-contains listed settled s (subst (All listed) (take_all c.loop-one.one-index settled end) c.loop-one.invariant.all) there
-    (subst (HasLevel s) (sym (to_z-of_z w16 c.args.level (search rules))) has)
+    (subst (HasLevel s) (sym (to_z-of_z {w = w16} {z = c.args.level} (search rules))) has)

@@ -1,7 +1,5 @@
-use Rattle.std.proofs.Common.{rules, true, ◌≡◌, ◌<◌, ◌≤ℤ◌, ◌^◌, ◌⊎◌, ℕ, ℤ, inl, inr, Contains, IsTrue, SFits, w16, refl, sym, subst, arith, to_z, of_z, List, [], ◌∷◌, map}
-use Rattle.std.specs.Prelude.{IfSome, IfNone}
+use Rattle.std.proofs.Common.{rules, true, ◌≡◌, ◌<◌, ◌≤ℤ◌, ◌^◌, ◌⊎◌, ℕ, ℤ, inl, inr, Contains, IsTrue, SFits, w16, refl, sym, subst, arith, to_z, of_z, List, [], ◌∷◌, map, IfSome, IfNone, to_z-of_z}
 use Rattle.std.proofs.lemmas.List.Elements.{Contains-push_cases}
-use Rattle.std.proofs.lemmas.Int.{to_z-of_z}
 use Rattle.std.proofs.lemmas.Result.{err_from_is_err_and}
 use Rattle.lattice.specs.Mosaic.{void}
 use Rattle.border_graph.specs.Links.{IsJoinedLevel}
@@ -44,7 +42,7 @@ returns-in-Some-2-clause-joined g c n summaries fits of =
     let before = c.in_ok-level.ensures.fits n summaries fits in
     let next : IsNext c.rise.frontier c.rise.visited c.pop_unvisited.new.frontier c.pop_unvisited.new.visited c.in-Some.entry =
     subst (λ found. IfSome found (IsNext c.rise.frontier c.rise.visited c.pop_unvisited.new.frontier c.pop_unvisited.new.visited)) c.in-Some.is c.in_ok-entry.ensures.next in
-    subst (λ v. IsJoinedLevel (IsPlacedLink n summaries) 0 c.args.start v) (sym (to_z-of_z w16 c.in-Some-2.level in_range))
+    subst (λ v. IsJoinedLevel (IsPlacedLink n summaries) 0 c.args.start v) (sym (to_z-of_z in_range))
     (ended (IsPlacedLink n summaries) (AreOfMosaic n summaries) c.args.start c.rise.visited c.rise.frontier (c.rise.invariant.rising n summaries before) c.pop_unvisited.new.frontier c.pop_unvisited.new.visited c.in-Some.entry next
     of (two_way n summaries of) c.in-Some-2.level
     (subst (λ found. IfSome found (IsEnd (IsPlacedLink n summaries) c.in-Some.entry)) c.in-Some-2.is (c.in_ok-level.ensures.ends n summaries fits of)))
@@ -84,7 +82,7 @@ returns-in-Some-2-clause-told g c n summaries fits of t told =
     let rising = c.rise.invariant.rising n summaries before in
     let end : IsEnd (IsPlacedLink n summaries) c.in-Some.entry c.in-Some-2.level = subst (λ found. IfSome found (IsEnd (IsPlacedLink n summaries) c.in-Some.entry)) c.in-Some-2.is (c.in_ok-level.ensures.ends n summaries fits of) in
     let up : (y : ℕ) → IsReachedBelow (IsPlacedLink n summaries) c.args.start c.in-Some.entry.crest y → IsReachedBelow (IsPlacedLink n summaries) c.args.start (to_z w16 (of_z w16 c.in-Some-2.level)) y =
-    λ y way. (way.0, way_up (IsPlacedLink n summaries) y c.in-Some.entry.crest (to_z w16 (of_z w16 c.in-Some-2.level)) (subst (λ v. c.in-Some.entry.crest ≤ℤ v) (sym (to_z-of_z w16 c.in-Some-2.level in_range)) end.high) c.args.start way.0 way.1) in
+    λ y way. (way.0, way_up (IsPlacedLink n summaries) y c.in-Some.entry.crest (to_z w16 (of_z w16 c.in-Some-2.level)) (subst (λ v. c.in-Some.entry.crest ≤ℤ v) (sym (to_z-of_z in_range)) end.high) c.args.start way.0 way.1) in
     elim (c.in_ok-level.ensures.told n summaries fits t told) [
       | inr here ↦ inr (here.0, up (node_number n (Rim t here.0)) (subst (IsReachedBelow (IsPlacedLink n summaries) c.args.start c.in-Some.entry.crest) here.1 (rising.ways of c.in-Some.entry next.waited)))
       | inl earlier ↦ elim (c.rise.invariant.told n summaries before t earlier) [

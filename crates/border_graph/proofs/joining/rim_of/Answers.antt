@@ -1,5 +1,4 @@
-use Rattle.std.proofs.Common.{rules, SFits, w16, ◌∙◌, sym, subst}
-use Rattle.std.proofs.lemmas.Int.{to_z-of_z}
+use Rattle.std.proofs.Common.{rules, SFits, w16, ◌∙◌, sym, subst, to_z-of_z}
 use Rattle.lattice.specs.Mosaic.{void}
 use Rattle.border_graph.specs.MosaicGraph.{IsLevelAt}
 use Rattle.border_graph.proofs.MosaicGraphs.{each_more, one_longer}
@@ -13,5 +12,5 @@ loop-k-preserved c =
       same = c.in_ok-level.ensures.same ∙ same;
       whole = one_longer c.loop-k.rim.items c.push.new.items.items _ c.loop-k.k c.loop-k.invariant.whole c.in_ok-push.ensures.pushed;
       levels = each_more (IsLevelAt c.args.graph.now c.args.t) c.loop-k.rim.items c.push.new.items.items _ void c.loop-k.k c.loop-k.invariant.whole c.in_ok-push.ensures.pushed c.loop-k.invariant.levels
-          (subst (λ v. IsLevelAt c.args.graph.now c.args.t c.loop-k.k v) (sym (to_z-of_z w16 c.in_ok-level.level in_range)) (subst (λ g. IsLevelAt g c.args.t c.loop-k.k c.in_ok-level.level) same c.in_ok-level.ensures.level));
+          (subst (λ v. IsLevelAt c.args.graph.now c.args.t c.loop-k.k v) (sym (to_z-of_z in_range)) (subst (λ g. IsLevelAt g c.args.t c.loop-k.k c.in_ok-level.level) same c.in_ok-level.ensures.level));
     }

@@ -16,7 +16,5 @@ loop-spill-preserved c =
 
 pub returns : goal.returns
 returns c =
-    let past = c.loop-spill-test.false in
-    let within = c.loop-spill.auto.spill-index-end in
     let all : c.loop-spill.spill-index ≡ length c.args.spills.now = omega arith in
     subst (λ (k : ℕ). ArePassesOf c.args.size c.args.spills.now k c.loop-spill.passes.items) all c.loop-spill.invariant

@@ -1,5 +1,4 @@
-use Rattle.std.proofs.Common.{rules, SFits, w16, refl, sym, ap, ◌∙◌}
-use Rattle.std.proofs.lemmas.Int.{to_z-of_z}
+use Rattle.std.proofs.Common.{rules, SFits, w16, refl, sym, ap, ◌∙◌, to_z-of_z}
 use Rattle.border_graph.specs.Joining.{rim_point}
 use Rattle.border_graph.specs.declared.summary.RimPoint.{RimPoint}
 use Rattle.border_graph.proofs.RowSteps.{labels_more, labels_less}
@@ -15,7 +14,7 @@ loop-number-preserved c =
       | then-from-number+in_ok-push w ↦ rw w.back-is (labels_more c.args.side b c.loop-number.number c.args.back.now.items c.loop-number.back.items c.loop-number.invariant _ w.push.new.self.items refl (record {
         there = c.in-Some.ensures.some.0;
         apart = λ same. w.if-from-number.true (c.from.ensures ∙ same);
-        label = record { names = ap (λ (p : RimPoint). p.label) is; height = ap (λ (p : RimPoint). p.height) is ∙ sym (to_z-of_z w16 c.in-Some.point.height in_range) };
+        label = record { names = ap (λ (p : RimPoint). p.label) is; height = ap (λ (p : RimPoint). p.height) is ∙ sym (to_z-of_z in_range) };
       }) w.in_ok-push.ensures.items)
       | else-from-number w ↦ rw w.back-is (labels_less c.args.side b c.loop-number.number c.args.back.now.items c.loop-number.back.items c.loop-number.invariant
           (λ link at from. from.apart (sym from.label.names ∙ (ap (λ k. (rim_point b k).label) at ∙ (ap (λ (p : RimPoint). p.label) is ∙ (sym c.from.ensures ∙ (w.if-from-number.false ∙ sym at)))))))

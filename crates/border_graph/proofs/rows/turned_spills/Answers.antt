@@ -1,5 +1,4 @@
-use Rattle.std.proofs.Common.{◌≡◌, map, take, ap, ◌∙◌, arith, rules}
-use Rattle.std.proofs.lemmas.List.{take_all}
+use Rattle.std.proofs.Common.{◌≡◌, map, take, ap, ◌∙◌, arith, rules, take_all}
 use Rattle.std.proofs.lemmas.List.Sorted.{IsNonDecreasingBy-from_sort_by_key}
 use Rattle.tile_flood.specs.declared.passing.Spill.{Spill}
 use Rattle.border_graph.specs.Rows.{turned}
@@ -9,7 +8,6 @@ use Rattle.border_graph.proofs.rows.turned_spills.Goals as goal
 pub returns-clause-turned : goal.returns-clause-turned
 returns-clause-turned c =
     let b = c.args.summary.now in
-    let past = c.loop-spill-test.false in
     let all : take c.loop-spill.spill-index c.spills-spills.result.now ≡ b.spills = take_all c.loop-spill.spill-index c.spills-spills.result.now (omega arith) ∙ c.spills-spills.ensures in
     all_turned c.args.side b c.loop-spill.back.items c.turn_labels.new.back.items c.sort_by_key.new.self.items (c.loop-spill.invariant ∙ ap (map turned) all) c.in_ok-turn_labels.ensures c.in_ok-sort_by_key.ensures.permutation
 

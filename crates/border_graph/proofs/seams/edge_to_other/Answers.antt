@@ -1,5 +1,4 @@
-use Rattle.std.proofs.Common.{◌+◌, ◌*◌, ◌-◌, ◌<◌, ◌∙◌, rules, refl, sym, ap, subst, inr, SFits, w16}
-use Rattle.std.proofs.lemmas.Int.{to_z-of_z}
+use Rattle.std.proofs.Common.{◌+◌, ◌*◌, ◌-◌, ◌<◌, ◌∙◌, rules, refl, sym, ap, subst, inr, SFits, w16, to_z-of_z}
 use Rattle.lattice.proofs.Samples.{index_below}
 use Rattle.tile_flood.proofs.Raised.{rim_number_below}
 use Rattle.border_graph.proofs.Forests.Others.{too_many, one_told}
@@ -15,4 +14,4 @@ returns-clause-edge c =
     let found = c.in-Some.ensures.some in
     let in_range : SFits w16 c.args.height = search rules in
     one_told c.args.side c.args.corners.now c.args.t c.args.point c.args.height c.args.corner c.in-Some.u c.in-Some-index_in.index found.0 found.1 (λ same. c.if-u-t.false (sym same)) c.in-Some-index_in.ensures.index
-    c.args.into.now.items c.add.new.into.items _ (c.in-Some-node_at.ensures.some ∙ ap (λ l. 1 + c.in-Some.u * (4 * (c.args.side - 1)) + l) c.rim_number.ensures) (to_z-of_z w16 c.args.height in_range) c.in_ok-add.ensures
+    c.args.into.now.items c.add.new.into.items _ (c.in-Some-node_at.ensures.some ∙ ap (λ l. 1 + c.in-Some.u * (4 * (c.args.side - 1)) + l) c.rim_number.ensures) (to_z-of_z in_range) c.in_ok-add.ensures

@@ -1,5 +1,4 @@
-use Rattle.std.proofs.Common.{List, Contains, sym, subst, arith, rules, SFits, w16, to_z, of_z}
-use Rattle.std.proofs.lemmas.Int.{to_z-of_z}
+use Rattle.std.proofs.Common.{List, Contains, sym, subst, arith, rules, SFits, w16, to_z, of_z, to_z-of_z}
 use Rattle.lattice.specs.Corners.{Corner}
 use Rattle.border_graph.specs.Others.{AreOthersTold}
 use Rattle.border_graph.proofs.Forests.Others.{one_more_told, all_told}
@@ -14,7 +13,7 @@ loop-corner-preserved c =
 pub returns-clause-edges : goal.returns-clause-edges
 returns-clause-edges c =
     let in_range : SFits w16 c.args.height = search rules in
-    subst (λ h. AreOthersTold c.args.side c.args.corners.now c.args.t c.args.point h c.args.into.now.items c.loop-corner.into.items) (to_z-of_z w16 c.args.height in_range)
+    subst (λ h. AreOthersTold c.args.side c.args.corners.now c.args.t c.args.point h c.args.into.now.items c.loop-corner.into.items) (to_z-of_z in_range)
     (all_told c.args.side c.args.corners.now c.args.t c.args.point (to_z w16 (of_z w16 c.args.height)) c.as_slice-corner-items.result.now c.loop-corner.corner-index c.args.into.now.items c.loop-corner.into.items
     (let done = c.loop-corner-test.false in omega arith)
     (λ corner held. subst (λ (cs : List Corner). Contains cs corner) (sym c.as_slice-corner-items.ensures.value) ((c.holders-holding.ensures.exactly corner).1 held)) c.loop-corner.invariant)

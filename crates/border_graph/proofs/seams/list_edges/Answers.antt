@@ -1,6 +1,5 @@
-use Rattle.std.proofs.Common.{◌≡◌, ℕ, ℤ, ◌+◌, ◌*◌, ◌-◌, ◌∙◌, ◌==◌, inl, inr, false, not, true≢false, SFits, w16, of_z, to_z, rules, refl, sym, ap, subst, arith}
+use Rattle.std.proofs.Common.{◌≡◌, ℕ, ℤ, ◌+◌, ◌*◌, ◌-◌, ◌∙◌, ◌==◌, inl, inr, false, not, true≢false, SFits, w16, of_z, to_z, rules, refl, sym, ap, subst, arith, to_z-of_z}
 use Rattle.std.proofs.lemmas.Bool.Decides.{eqb_tells}
-use Rattle.std.proofs.lemmas.Int.{to_z-of_z}
 use Rattle.lattice.specs.Corners.{Corner}
 use Rattle.lattice.specs.Lattice.{point_of}
 use Rattle.lattice.specs.Mosaic.{void}
@@ -22,7 +21,7 @@ first_is : (last a r r' s : ℕ) → last ≡ 1 + a + r → r ≡ s → r' ≡ s
 first_is last a r r' s is at at' = omega arith
 
 is_gap : (h : ℤ) → SFits w16 h → of_z w16 h ≡ 32768 → h ≡ void
-is_gap h fits is = sym (to_z-of_z w16 h fits) ∙ ap (to_z w16) is
+is_gap h fits is = sym (to_z-of_z fits) ∙ ap (to_z w16) is
 
 pub returns-then-height-clause-edges : goal.returns-then-height-clause-edges
 returns-then-height-clause-edges c =
@@ -50,7 +49,7 @@ returns-clause-edges c =
     let graph = c.args.graph.now in
     let side : graph.side ≡ c.args.side = sym c.side.ensures ∙ same_side c.side.result c.args.side c.if-ne.ensures in
     let in_range : SFits w16 c.height-height.result = search rules in
-    let height : to_z w16 (of_z w16 c.height-height.result) ≡ (rim_point graph.summary c.args.k).height = to_z-of_z w16 c.height-height.result in_range ∙ c.height-height.ensures in
+    let height : to_z w16 (of_z w16 c.height-height.result) ≡ (rim_point graph.summary c.args.k).height = to_z-of_z in_range ∙ c.height-height.ensures in
     let first : (c.in-Some.last - 1) - c.rim-2.result ≡ c.args.t * (4 * (c.args.side - 1)) = first_is c.in-Some.last (c.args.t * (4 * (c.args.side - 1))) c.rim.result c.rim-2.result (4 * (c.args.side - 1)) c.in-Some.ensures.some c.rim.ensures.value c.rim-2.ensures.value in
     let corner : c.index-corners-t.result ≡ corner_at c.args.corners.now c.args.t = c.index-corners-t.is ∙ get_or_default c.args.corners.now c.args.t c.index-corners-t.result _ c.requires.place in
     record {

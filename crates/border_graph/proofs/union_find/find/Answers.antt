@@ -9,9 +9,7 @@ up-preserved c =
     let x = c.up.x in
     let parent = c.up.parent in
     let one : get_or parent x 0 ≤ x = so.higher.falling x so.inside in
-    let small = so.inside in
     let two : get_or parent (get_or parent x 0) 0 ≤ get_or parent x 0 = so.higher.falling (get_or parent x 0) (omega arith) in
-    let far = so.below in
     let whole = length-set parent x (get_or parent (get_or parent x 0) 0) in
     record {
       higher = higher_once c.args.parent.now parent so.higher x so.inside c.up-test.true;

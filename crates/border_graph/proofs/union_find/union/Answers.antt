@@ -6,7 +6,6 @@ use Rattle.border_graph.proofs.union_find.union.Goals as goal
 
 pub returns-then-one-other-clause-no_more : goal.returns-then-one-other-clause-no_more
 returns-then-one-other-clause-no_more c =
-    let one = c.find-one.ensures.as_many in
     let other = subst (λ n. roots n c.find-other.new.parent ≡ roots n c.find-one.new.parent) c.find-one.ensures.whole c.find-other.ensures.as_many in
     omega arith
 
@@ -20,14 +19,12 @@ returns-then-one-other-clause-together c false_ passes level over =
 
 pub returns-clause-fewer : goal.returns-clause-fewer
 returns-clause-fewer c true_ =
-    let one = c.find-one.ensures.as_many in
     let other = subst (λ n. roots n c.find-other.new.parent ≡ roots n c.find-one.new.parent) c.find-one.ensures.whole c.find-other.ensures.as_many in
     let less = subst (λ n. roots n c.link_roots.new.parent < roots n c.find-other.new.parent) (c.find-other.ensures.whole ∙ c.find-one.ensures.whole) c.link_roots.ensures.fewer in
     omega arith
 
 pub returns-clause-no_more : goal.returns-clause-no_more
 returns-clause-no_more c =
-    let one = c.find-one.ensures.as_many in
     let other = subst (λ n. roots n c.find-other.new.parent ≡ roots n c.find-one.new.parent) c.find-one.ensures.whole c.find-other.ensures.as_many in
     let less = subst (λ n. roots n c.link_roots.new.parent < roots n c.find-other.new.parent) (c.find-other.ensures.whole ∙ c.find-one.ensures.whole) c.link_roots.ensures.fewer in
     omega arith

@@ -1,6 +1,4 @@
-use Rattle.std.proofs.Common.{◌≡◌, false, subst, map}
-use Rattle.std.specs.BinaryHeap.{heap_items}
-use Rattle.std.specs.Ordering.{is_lt}
+use Rattle.std.proofs.Common.{◌≡◌, false, subst, map, heap_items, is_lt}
 use Rattle.border_graph.specs.Heaps.{IsTaken}
 use Rattle.border_graph.proofs.Heaps.{taken_from_heap}
 use Rattle.border_graph.proofs.lowest_first.LowestFirst.pop.Goals as goal

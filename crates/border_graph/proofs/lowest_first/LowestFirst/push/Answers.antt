@@ -1,5 +1,4 @@
-use Rattle.std.proofs.Common.{subst, map}
-use Rattle.std.specs.BinaryHeap.{heap_items}
+use Rattle.std.proofs.Common.{subst, map, heap_items}
 use Rattle.border_graph.specs.Heaps.{IsAdded}
 use Rattle.border_graph.proofs.Heaps.{added_to_heap}
 use Rattle.border_graph.proofs.lowest_first.LowestFirst.push.Goals as goal

@@ -1,6 +1,4 @@
-use Rattle.std.proofs.Common.{rules, SFits, w16, ℕ, ℤ, ◌<◌, inr, List, Contains, refl, sym, subst}
-use Rattle.std.specs.Prelude.{IfSome, IfNone}
-use Rattle.std.proofs.lemmas.Int.{to_z-of_z}
+use Rattle.std.proofs.Common.{rules, SFits, w16, ℕ, ℤ, ◌<◌, inr, List, Contains, refl, sym, subst, IfSome, IfNone, to_z-of_z}
 use Rattle.border_graph.specs.Links.{IsJoinedLevel, IsWayBelow}
 use Rattle.border_graph.specs.Placed.{IsPlacedLink}
 use Rattle.border_graph.specs.MosaicGraph.{IsGraphOf}
@@ -17,18 +15,18 @@ returns-in_default-2-clause-refusal c = inr (
 pub know-requires : goal.know-requires
 know-requires c n summaries is of =
     let in_range : SFits w16 c.in-Some-2.level = search rules in
-    subst (λ v. IsJoinedLevel (IsPlacedLink n summaries) 0 c.args.node v) (sym (to_z-of_z w16 c.in-Some-2.level in_range))
+    subst (λ v. IsJoinedLevel (IsPlacedLink n summaries) 0 c.args.node v) (sym (to_z-of_z in_range))
     (subst (λ found. IfSome found (IsJoinedLevel (IsPlacedLink n summaries) 0 c.args.node)) c.in-Some-2.is (c.in_ok-level.ensures.joined n summaries is of))
 
 pub know_all-requires : goal.know_all-requires
 know_all-requires c x has n summaries is of =
     let in_range : SFits w16 c.in-Some-2.level = search rules in
-    subst (λ v. IsJoinedLevel (IsPlacedLink n summaries) 0 x v) (sym (to_z-of_z w16 c.in-Some-2.level in_range))
+    subst (λ v. IsJoinedLevel (IsPlacedLink n summaries) 0 x v) (sym (to_z-of_z in_range))
     (subst (λ found. IfSome found (λ level. (y : ℕ) → Contains c.lowest_pass.new.alike.items y → (0 < y) × IsJoinedLevel (IsPlacedLink n summaries) 0 y level)) c.in-Some-2.is
     (c.in_ok-level.ensures.alike n summaries (subst (IsGraphOf n summaries) c.know.ensures is) of) x (subst (λ (l : List ℕ). Contains l x) c.deref.ensures.value has)).1
 
 pub returns-clause-level : goal.returns-clause-level
 returns-clause-level c n summaries is of =
     let in_range : SFits w16 c.in-Some-2.level = search rules in
-    subst (λ v. IsJoinedLevel (IsPlacedLink n summaries) 0 c.args.node v) (sym (to_z-of_z w16 c.in-Some-2.level in_range))
+    subst (λ v. IsJoinedLevel (IsPlacedLink n summaries) 0 c.args.node v) (sym (to_z-of_z in_range))
     (subst (λ found. IfSome found (IsJoinedLevel (IsPlacedLink n summaries) 0 c.args.node)) c.in-Some-2.is (c.in_ok-level.ensures.joined n summaries (subst (IsGraphOf n summaries) (sym c.in_ok-level.ensures.keeps) is) of))

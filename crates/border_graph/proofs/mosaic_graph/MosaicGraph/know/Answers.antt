@@ -1,5 +1,4 @@
-use Rattle.std.proofs.Common.{rules, SFits, w16, to_z, of_z, sym, subst}
-use Rattle.std.proofs.lemmas.Int.{to_z-of_z}
+use Rattle.std.proofs.Common.{rules, SFits, w16, to_z, of_z, sym, subst, to_z-of_z}
 use Rattle.border_graph.specs.MosaicGraph.{MosaicGraph, IsFound, graph_of}
 use Rattle.border_graph.proofs.MosaicGraphs.{found_more}
 use Rattle.border_graph.proofs.mosaic_graph.MosaicGraph.know.Goals as goal
@@ -9,5 +8,5 @@ invariant_of-self c =
     let was = c.self.inside in
     let in_range : SFits w16 c.args.level = search rules in
     found_more was.side was.corners.items was.graphs.items was.levels.items c.args.node (to_z w16 (of_z w16 c.args.level)) (let less = c.if-place-len.true in let size = c.len.ensures in search rules)
-    (subst (λ v. IsFound (graph_of was.side was.graphs.items) c.args.node v) (sym (to_z-of_z w16 c.args.level in_range)) (subst (λ (g : MosaicGraph). IsFound g c.args.node c.args.level) (sym c.self.view_is) c.requires))
+    (subst (λ v. IsFound (graph_of was.side was.graphs.items) c.args.node v) (sym (to_z-of_z in_range)) (subst (λ (g : MosaicGraph). IsFound g c.args.node c.args.level) (sym c.self.view_is) c.requires))
     c.self.invariant

@@ -1,5 +1,4 @@
-use Rattle.std.proofs.Common.{rules, SFits, w16, get_or, sym, subst}
-use Rattle.std.proofs.lemmas.Int.{to_z-of_z}
+use Rattle.std.proofs.Common.{rules, SFits, w16, get_or, sym, subst, to_z-of_z}
 use Rattle.std.proofs.lemmas.List.Elements.{Contains-get_or}
 use Rattle.border_graph.specs.MosaicGraph.{MosaicGraph, IsFound}
 use Rattle.border_graph.proofs.mosaic_graph.MosaicGraph.know_all.Goals as goal
@@ -9,5 +8,5 @@ know-requires c =
     let nodes = c.args.nodes.now in
     let x = get_or nodes c.loop-node.node-index 0 in
     let in_range : SFits w16 c.args.level = search rules in
-    subst (λ v. IsFound c.loop-node.self (get_or nodes c.loop-node.node-index 0) v) (sym (to_z-of_z w16 c.args.level in_range))
+    subst (λ v. IsFound c.loop-node.self (get_or nodes c.loop-node.node-index 0) v) (sym (to_z-of_z in_range))
     (subst (λ (g : MosaicGraph). IsFound g (get_or nodes c.loop-node.node-index 0) c.args.level) (sym c.loop-node.invariant) (c.requires x (Contains-get_or nodes c.loop-node.node-index 0 c.loop-node-test.true)))

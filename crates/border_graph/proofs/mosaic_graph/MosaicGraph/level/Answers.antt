@@ -1,5 +1,4 @@
-use Rattle.std.proofs.Common.{rules, SFits, w16, of_z, to_z, get_or, ◌≡◌, ◌≢◌, ◌∙◌, sym, ap, subst}
-use Rattle.std.proofs.lemmas.Int.{to_z-of_z}
+use Rattle.std.proofs.Common.{rules, SFits, w16, of_z, to_z, get_or, ◌≡◌, ◌≢◌, ◌∙◌, sym, ap, subst, to_z-of_z}
 use Rattle.lattice.specs.Mosaic.{void}
 use Rattle.border_graph.specs.MosaicGraph.{MosaicGraph, IsFound, graph_of}
 use Rattle.border_graph.proofs.mosaic_graph.MosaicGraph.level.Goals as goal
@@ -12,4 +11,4 @@ returns-else-level c =
     let at : get_or c.self.inside.levels.items c.args.node void ≡ c.in_ok-level.field-0.now = search rules in
     let full : get_or c.self.inside.levels.items c.args.node void ≢ void = λ gap. c.if-level.false (ap (of_z w16) (sym at ∙ gap)) in
     subst (λ (g : MosaicGraph). IsFound g c.args.node (to_z w16 (of_z w16 c.in_ok-level.field-0.now))) c.self.view_is
-    (subst (λ v. IsFound (graph_of was.side was.graphs.items) c.args.node v) (at ∙ sym (to_z-of_z w16 level in_range)) (c.self.invariant.found c.args.node full))
+    (subst (λ v. IsFound (graph_of was.side was.graphs.items) c.args.node v) (at ∙ sym (to_z-of_z in_range)) (c.self.invariant.found c.args.node full))

@@ -1,5 +1,4 @@
-use Rattle.std.proofs.Common.{rules, arith, inl, inr, ℤ, List, sym, ◌≡◌, ◌≤◌, ◌<◌, ◌+◌, ◌*◌, ◌-◌, ◌^◌, ℕ, pos, get_or, length, subst, ap, ◌∙◌}
-use Rattle.std.proofs.Math.ListN.{replicate}
+use Rattle.std.proofs.Common.{rules, arith, inl, inr, ℤ, List, sym, ◌≡◌, ◌≤◌, ◌<◌, ◌+◌, ◌*◌, ◌-◌, ◌^◌, ℕ, pos, get_or, length, subst, ap, ◌∙◌, replicate}
 use Rattle.std.proofs.lemmas.Bool.{cases_lt}
 use Rattle.std.proofs.lemmas.List.{get_or-replicate, get_or_past, length-replicate}
 use Rattle.lattice.specs.Corners.{Corner}

@@ -1,6 +1,5 @@
-use Rattle.std.proofs.Common.{rules, SFits, w16, of_z, to_z, ◌≡◌, ◌⊎◌, ◌+◌, ◌*◌, ◌-◌, ◌∙◌, inl, inr, refl, sym, ap, ap₂, subst}
+use Rattle.std.proofs.Common.{rules, SFits, w16, of_z, to_z, ◌≡◌, ◌⊎◌, ◌+◌, ◌*◌, ◌-◌, ◌∙◌, inl, inr, refl, sym, ap, ap₂, subst, to_z-of_z}
 use Rattle.std.specs.Int.{int_max}
-use Rattle.std.proofs.lemmas.Int.{to_z-of_z}
 use Rattle.std.proofs.lemmas.Result.{err_from_is_err_and}
 use Rattle.lattice.specs.Mosaic.{void}
 use Rattle.lattice.specs.declared.refusal.Refusal.TheVariants.{NoMemory, Damaged}
@@ -16,7 +15,7 @@ returns-then-height-clause-level c =
     let was = c.self.inside in
     let in_range : SFits w16 c.height-height.result = search rules in
     let height : (rim_point (summary_at g.summaries c.args.t) c.args.k).height ≡ c.height-height.result = height_at was.side was.graphs.items g c.self.view_is c.args.t c.requires.place c.args.k c.index.result.now c.index.ensures ∙ sym c.height-height.ensures in
-    let gap : (rim_point (summary_at g.summaries c.args.t) c.args.k).height ≡ void = height ∙ (sym (to_z-of_z w16 c.height-height.result in_range) ∙ ap (to_z w16) c.if-height.true) in
+    let gap : (rim_point (summary_at g.summaries c.args.t) c.args.k).height ≡ void = height ∙ (sym (to_z-of_z in_range) ∙ ap (to_z w16) c.if-height.true) in
     record { none = λ _. refl; some = λ full. absurd (full gap); found = λ full. absurd (full gap) }
 
 pub returns-in_err-level-clause-refusal : goal.returns-in_err-level-clause-refusal
@@ -47,6 +46,6 @@ returns-clause-level c =
     let height : (rim_point (summary_at g.summaries c.args.t) c.args.k).height ≡ c.height-height.result = height_at was.side was.graphs.items g c.self.view_is c.args.t c.requires.place c.args.k c.index.result.now c.index.ensures ∙ sym c.height-height.ensures in
     let at : c.in-Some.node ≡ node_number g.side (Rim c.args.t c.args.k) = c.in-Some.ensures.some ∙ ap (λ (h : MosaicGraph). 1 + c.args.t * (4 * (h.side - 1)) + c.args.k) c.self.view_is in
     let max_range : SFits w16 c.max.result = record { sfits = c.max.type_inv } in
-    let greater : c.max.result ≡ int_max c.in_ok-level.level c.height-height.result = c.max.ensures.value ∙ ap₂ int_max (to_z-of_z w16 c.in_ok-level.level (search rules)) (to_z-of_z w16 c.height-height.result (search rules)) in
+    let greater : c.max.result ≡ int_max c.in_ok-level.level c.height-height.result = c.max.ensures.value ∙ ap₂ int_max (to_z-of_z {w = w16} {z = c.in_ok-level.level} (search rules)) (to_z-of_z {w = w16} {z = c.height-height.result} (search rules)) in
     level_at g c.args.t c.args.k c.in_ok-level.level c.height-height.result (to_z w16 (of_z w16 c.max.result)) height in_range (λ gap. c.if-height.false (ap (of_z w16) gap))
-    (subst (λ x. IsFound g x c.in_ok-level.level) at c.in_ok-level.ensures.level) (to_z-of_z w16 c.max.result max_range ∙ greater)
+    (subst (λ x. IsFound g x c.in_ok-level.level) at c.in_ok-level.ensures.level) (to_z-of_z max_range ∙ greater)
