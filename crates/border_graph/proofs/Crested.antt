@@ -1,10 +1,8 @@
 -- The least level of paths over links is the least of their crests.
 use Rattle.std.proofs.Common.{◌≡◌, ◌≢◌, ℕ, ℤ, ◌≤ℤ◌, List, [], ◌∷◌, map}
-use Rattle.std.specs.Int.{int_max}
-use Rattle.lattice.proofs.Levels.{≤ℤ_same, ≤ℤ_antisym, le-max_left, le-max_right, max-le}
-use Rattle.border_graph.specs.Links.{IsWayBelow, IsJoinedLevel}
+use Rattle.border_graph.proofs.Words.{int_max, ≤ℤ_same, ≤ℤ_antisym, le-max_left, le-max_right, max-le, IsWayBelow}
+use Rattle.border_graph.proofs.Words.{IsJoinedLevel, Edge}
 use Rattle.border_graph.proofs.Onward.{way_up}
-use Rattle.border_graph.specs.declared.edge_source.Edge.{Edge}
 use Rattle.border_graph.specs.Crests.{crest, LeadsOut, IsLeastCrest}
 
 module _ (L : ℕ → ℕ → ℤ → Type 0) where

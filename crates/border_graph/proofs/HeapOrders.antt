@@ -1,10 +1,7 @@
 -- What is taken first of a heap of entries has the lowest crest.
 use Rattle.std.proofs.Common.{◌≡◌, ℤ, ◌≤ℤ◌, List, false, sym, ap, ◌∙◌, arith, true≢false, cond, int_lt, inl, inr, Ordering, Less, Equal, Greater}
+use Rattle.border_graph.proofs.Words.{ints, cases_Bool, IsTaken, Entry}
 use Rattle.std.specs.Ordering.{is_lt, int_cmp, nat_cmp, ordering_then}
-use Rattle.std.proofs.lemmas.Int.{ints}
-use Rattle.std.proofs.lemmas.Bool.{cases_Bool}
-use Rattle.border_graph.specs.Heaps.{IsTaken}
-use Rattle.border_graph.specs.declared.frontier.Entry.{Entry}
 
 first_no_lower : (a b : ℤ) (rest : Ordering) → is_lt (ordering_then (int_cmp b a) rest) ≡ false → a ≤ℤ b
 first_no_lower a b rest h = elim (cases_Bool (int_lt b a)) [

@@ -1,27 +1,19 @@
 -- The levels of rim points that are found over the graph of a mosaic are the filled levels of its rims.
 use Rattle.std.proofs.Common.{◌≡◌, ◌≢◌, ℕ, ◌*◌, ◌-◌, ◌<◌, ◌≤◌, inl, inr, ℤ, ◌≤ℤ◌, IsFalse, List, [], ◌∷◌, length, map, get_or, slice_index_or, refl, sym, ap, ◌∙◌, subst, arith, true≢false}
-use Rattle.std.specs.Int.{int_max}
-use Rattle.std.proofs.lemmas.Bool.{cases_lt}
+use Rattle.border_graph.proofs.Words.{int_max, cases_lt, point_of, Mosaic, IsMosaic, void, is_ground, IsFilledLevel}
+use Rattle.border_graph.proofs.Words.{rim_number, ≤ℤ_same, ≤ℤ_antisym, le-max_left, max-le, rim_number_below, RimPoint}
+use Rattle.border_graph.proofs.Words.{Summary, IsWayBelow, IsJoinedLevel, Node, Outlet, Rim, AreSummaries, AreOfMosaic}
+use Rattle.border_graph.proofs.Words.{IsRimNumberOf, IsThere, IsLink, nowhere, rim_point, summary_at, node_number}
+use Rattle.border_graph.proofs.Words.{MosaicGraph, IsGraphOf, IsPlacedLink}
 use Rattle.std.proofs.lemmas.List.{get_or_past}
-use Rattle.lattice.specs.Lattice.{point_of}
-use Rattle.lattice.specs.Mosaic.{Mosaic, IsMosaic, void}
-use Rattle.lattice.specs.Ground.{is_ground, terrain}
-use Rattle.lattice.specs.Terrain.{IsFilledLevel}
-use Rattle.lattice.specs.Block.{rim_number}
+use Rattle.lattice.specs.Ground.{terrain}
 use Rattle.lattice.proofs.IntTests.{eq_or_not}
-use Rattle.lattice.proofs.Levels.{≤ℤ_same, ≤ℤ_antisym, le-max_left, max-le, height-le_level}
+use Rattle.lattice.proofs.Levels.{height-le_level}
 use Rattle.tile_flood.specs.Raising.{AreRimLevels}
-use Rattle.tile_flood.proofs.Raised.{rim_number_below}
 use Rattle.tile_flood.proofs.Passages.{not_void}
 use Rattle.tile_flood.proofs.Squares.{solid_if}
-use Rattle.border_graph.specs.declared.summary.RimPoint.{RimPoint}
-use Rattle.border_graph.specs.Summaries.{Summary}
-use Rattle.border_graph.specs.Links.{IsWayBelow, IsJoinedLevel}
-use Rattle.border_graph.specs.Joining.{Node, Outlet, Rim, AreSummaries, AreOfMosaic, IsRimNumberOf, IsThere, IsLink, nowhere, rim_point, summary_at}
 use Rattle.border_graph.specs.Joins.{IsSideOf, HaveNoSide, AreJoined, AreLevelled, LeadsNowhere}
-use Rattle.border_graph.specs.Linking.{node_number}
-use Rattle.border_graph.specs.MosaicGraph.{MosaicGraph, AreReordered, IsGraphOf, IsRimAt, AreRimsAt, IsCutOff}
-use Rattle.border_graph.specs.Placed.{IsPlacedLink}
+use Rattle.border_graph.specs.MosaicGraph.{AreReordered, IsRimAt, AreRimsAt, IsCutOff}
 use Rattle.border_graph.proofs.Joined.{of, there_at, ground_at, solid_at, joined_is_filled, is_joined, are_in_order}
 use Rattle.border_graph.proofs.PlacedWays.{joined_over_links, to_placed}
 use Rattle.border_graph.proofs.Turned.{height_there}

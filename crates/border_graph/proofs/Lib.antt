@@ -1,3 +1,4 @@
+pub mod Words
 pub mod Heaps
 pub mod Joined
 pub mod Inside

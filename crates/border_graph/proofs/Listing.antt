@@ -1,11 +1,8 @@
 -- Edges listed one by one.
 use Rattle.std.proofs.Common.{◌≡◌, ℕ, ◌+◌, ◌<◌, ◌≤◌, ◌⊎◌, inl, inr, List, [], ◌∷◌, ◌++◌, length, get_or, sym, ap, ◌∙◌, subst, arith, Contains}
-use Rattle.std.proofs.lemmas.Bool.{cases_lt}
-use Rattle.std.proofs.lemmas.List.{get_or_default}
-use Rattle.std.proofs.lemmas.List.Elements.{Contains-get_or, Contains-append_left, Contains-push, Contains-push_cases}
-use Rattle.tile_flood.specs.declared.passing.Spill.{Spill}
-use Rattle.border_graph.specs.declared.edge_source.Edge.{Edge}
-use Rattle.border_graph.specs.TileGraph.{AreListedStill, AreListed}
+use Rattle.border_graph.proofs.Words.{cases_lt, get_or_default, Contains-get_or, Contains-append_left, Contains-push}
+use Rattle.border_graph.proofs.Words.{Contains-push_cases, Spill, Edge, AreListed}
+use Rattle.border_graph.specs.TileGraph.{AreListedStill}
 
 -- one edge more
 pub still_more : (old mid new : List Edge) (way : Edge) → new ≡ mid ++ way ∷ [] → AreListedStill old mid → AreListedStill old new

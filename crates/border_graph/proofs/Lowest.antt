@@ -1,13 +1,9 @@
 -- No link is below the void.
 use Rattle.std.proofs.Common.{ℕ, ◌<◌, ℤ, ◌≤ℤ◌, inl, inr, List, length, slice_index_or, sym, subst}
-use Rattle.std.specs.Int.{int_max}
-use Rattle.lattice.specs.Mosaic.{Mosaic, IsMosaic, void}
-use Rattle.lattice.proofs.Levels.{≤ℤ_trans, le-max_right}
+use Rattle.border_graph.proofs.Words.{int_max, Mosaic, IsMosaic, void, ≤ℤ_trans, le-max_right, linked_parts, Summary}
+use Rattle.border_graph.proofs.Words.{Node, Outlet, Rim, summary_at, rim_point, AreSummaries, AreOfMosaic, IsThere}
+use Rattle.border_graph.proofs.Words.{IsLink, IsInnerLink, IsSpillLink, IsPlacedLink}
 use Rattle.tile_flood.proofs.Raised.{lowest_height}
-use Rattle.tile_flood.proofs.Squares.{linked_parts}
-use Rattle.border_graph.specs.Summaries.{Summary}
-use Rattle.border_graph.specs.Joining.{Node, Outlet, Rim, summary_at, rim_point, AreSummaries, AreOfMosaic, IsThere, IsLink, IsInnerLink, IsSpillLink}
-use Rattle.border_graph.specs.Placed.{IsPlacedLink}
 use Rattle.border_graph.proofs.Joined.{of, at_node, height-le_level_at, spill_of}
 
 module _ (m : Mosaic) (is : IsMosaic m) (summaries : List Summary) (all : AreSummaries m summaries) where

@@ -1,24 +1,12 @@
 -- The graph of a mosaic as its fields hold it: a graph of each tile, and levels of nodes.
 use Rattle.std.proofs.Common.{◌≡◌, ◌≢◌, ℕ, ◌+◌, ◌*◌, ◌-◌, ◌^◌, ◌<◌, ◌≤◌, inl, inr, ℤ, pos, List, [], ◌∷◌, ◌++◌, length, length-append, get_or, set, sym, ap, ◌∙◌, subst, arith, get_or-set_same, get_or-set_other, SFits, w16, ◌≤ℤ◌}
-use Rattle.std.specs.Int.{int_max}
-use Rattle.std.proofs.lemmas.Bool.{cases_eq, cases_lt}
-use Rattle.std.proofs.lemmas.Int.{ints}
-use Rattle.std.proofs.lemmas.List.{length-map, get_or_default}
-use Rattle.std.proofs.Math.ListN.{get_or-map, get_or-append}
+use Rattle.border_graph.proofs.Words.{int_max, cases_eq, cases_lt, ints, length-map, get_or_default, get_or-map, Corner}
+use Rattle.border_graph.proofs.Words.{void, ≤ℤ_antisym, le-max_right, Summary, Rim, AreOfMosaic, rim_point, summary_at}
+use Rattle.border_graph.proofs.Words.{node_number, AreAllEdges, AreEdges, IsPlacedLink, IsReordered, TileGraph}
+use Rattle.border_graph.proofs.Words.{corner_at, AreTileEdges, MosaicGraph, IsGraphOf, graph_of, Edge}
+use Rattle.std.proofs.Math.ListN.{get_or-append}
 use Rattle.std.proofs.Math.Seq.{get_or-append_seam}
-use Rattle.lattice.specs.Corners.{Corner}
-use Rattle.lattice.specs.Mosaic.{void}
-use Rattle.lattice.proofs.Levels.{≤ℤ_antisym, le-max_right}
-use Rattle.border_graph.specs.Summaries.{Summary}
-use Rattle.border_graph.specs.Joining.{Rim, AreOfMosaic, rim_point, summary_at}
-use Rattle.border_graph.specs.Linking.{node_number}
-use Rattle.border_graph.specs.Edges.{AreAllEdges, AreEdges}
-use Rattle.border_graph.specs.Placed.{IsPlacedLink}
-use Rattle.border_graph.specs.Reordered.{IsReordered}
-use Rattle.border_graph.specs.TileGraph.{TileGraph}
-use Rattle.border_graph.specs.Others.{corner_at, AreTileEdges}
-use Rattle.border_graph.specs.MosaicGraph.{MosaicGraph, AreReordered, IsGraphOf, IsFound, IsLevelAt, IsWhole, graph_of}
-use Rattle.border_graph.specs.declared.edge_source.Edge.{Edge}
+use Rattle.border_graph.specs.MosaicGraph.{AreReordered, IsFound, IsLevelAt, IsWhole}
 use Rattle.border_graph.proofs.TileEdges.{all_listed, are_edges, none_listed}
 
 abbrev pub no_graph : TileGraph

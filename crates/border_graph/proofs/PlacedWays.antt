@@ -1,11 +1,8 @@
 -- The least levels over links between nodes by their numbers are those over the links between rim points.
 use Rattle.std.proofs.Common.{◌≡◌, ℕ, ◌+◌, ◌-◌, ◌*◌, ◌/◌, ◌<◌, ℤ, ◌≤ℤ◌, List, [], ◌∷◌, refl, sym, ap, ◌∙◌, subst, arith, map}
+use Rattle.border_graph.proofs.Words.{Summary, IsWayBelow, IsJoinedLevel, Node, Outlet, Rim, IsThere, IsLink}
+use Rattle.border_graph.proofs.Words.{node_number, IsPlacedLink}
 use Rattle.tile_flood.proofs.Squares.{row_of_cell}
-use Rattle.border_graph.specs.Summaries.{Summary}
-use Rattle.border_graph.specs.Links.{IsWayBelow, IsJoinedLevel}
-use Rattle.border_graph.specs.Joining.{Node, Outlet, Rim, IsThere, IsLink}
-use Rattle.border_graph.specs.Linking.{node_number}
-use Rattle.border_graph.specs.Placed.{IsPlacedLink}
 
 pub one_tile : (size t u k l : ℕ) → k < size → l < size → 1 + t * size + k ≡ 1 + u * size + l → t ≡ u
 one_tile size t u k l in_k in_l same =

@@ -1,15 +1,11 @@
 -- Rows of spills by the labels that they lead from.
 use Rattle.std.proofs.Common.{◌≡◌, ℕ, ◌+◌, ◌-◌, ◌<◌, ◌≤◌, inl, inr, pos, true, false, List, [], ◌∷◌, ◌++◌, length, map, drop, get_or, refl, sym, ap, ◌∙◌, subst, arith, Contains, leb, ltb, leb-true, leb-false, ltb-true, ltb-false, length-drop, ◌↔◌, ◌*◌, slice_range}
+use Rattle.border_graph.proofs.Words.{cases_lt, length-map, Contains-push, Contains-push_cases, Contains-append_left}
+use Rattle.border_graph.proofs.Words.{Contains-permutation, IsPermutation-sym, get_or-map, Spill, Summary, rim_point}
+use Rattle.border_graph.proofs.Words.{turned}
 use Rattle.std.specs.List.Sorted.{IsPartitionPoint, IsPermutation}
-use Rattle.std.proofs.lemmas.Bool.{cases_lt}
-use Rattle.std.proofs.lemmas.List.{get_or-take, get_or-drop, length-take-le, length-map}
-use Rattle.std.proofs.lemmas.List.Elements.{Contains-push, Contains-push_cases, Contains-append_left}
-use Rattle.std.proofs.lemmas.List.Sorted.{Contains-permutation, IsPermutation-sym}
-use Rattle.std.proofs.Math.ListN.{get_or-map}
-use Rattle.tile_flood.specs.declared.passing.Spill.{Spill}
-use Rattle.border_graph.specs.Summaries.{Summary}
-use Rattle.border_graph.specs.Joining.{rim_point}
-use Rattle.border_graph.specs.Rows.{turned, IsFromLabel, AreTurned, AreLabelsTurned}
+use Rattle.std.proofs.lemmas.List.{get_or-take, get_or-drop, length-take-le}
+use Rattle.border_graph.specs.Rows.{IsFromLabel, AreTurned, AreLabelsTurned}
 
 -- between the first spill from a label and the first past it
 module _ (spills : List Spill) (label from to : ℕ) (first : IsPartitionPoint (λ (s : Spill). ltb s.a label ≡ true) (λ (s : Spill). ltb s.a label ≡ false) spills from)

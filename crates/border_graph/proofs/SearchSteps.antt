@@ -1,23 +1,15 @@
 -- The steps of a bottleneck search from a start over links: what is visited next ends a least path (after the correctness
 -- argument of Barnes, Lehman and Mulla 2014).
 use Rattle.std.proofs.Common.{◌≡◌, ℕ, zero, suc, ◌+◌, ◌<◌, ◌≤◌, ◌⊎◌, inl, inr, ℤ, ◌≤ℤ◌, ◌<ℤ◌, true, false, IsTrue, List, [], ◌∷◌, length, get_or, refl, sym, ap, ◌∙◌, subst, arith, true≢false, Contains}
-use Rattle.std.specs.Int.{int_max}
-use Rattle.std.proofs.lemmas.Bool.{cases_Bool, cases_eq, cases_lt}
-use Rattle.std.proofs.lemmas.Int.{ints, clamps}
-use Rattle.std.proofs.lemmas.List.{get_or_default}
-use Rattle.std.proofs.lemmas.List.Elements.{Contains-get_or}
-use Rattle.lattice.specs.Mosaic.{void}
-use Rattle.lattice.proofs.Levels.{≤ℤ_same, ≤ℤ_trans, le-max_left, le-max_right, max-le}
-use Rattle.border_graph.specs.Links.{IsWayBelow, IsJoinedLevel}
+use Rattle.border_graph.proofs.Words.{int_max, cases_Bool, cases_eq, cases_lt, ints, get_or_default, Contains-get_or}
+use Rattle.border_graph.proofs.Words.{void, ≤ℤ_same, ≤ℤ_trans, le-max_left, le-max_right, max-le, IsWayBelow}
+use Rattle.border_graph.proofs.Words.{IsJoinedLevel, Edge, Settled, Entry, AreAllEdges, AreEdges, IsReachedBelow}
+use Rattle.border_graph.proofs.Words.{IsAdded, is_among, IsNext, AreRaised, IsEnd}
+use Rattle.std.proofs.lemmas.Int.{clamps}
 use Rattle.border_graph.proofs.Onward.{way_up, go_on}
-use Rattle.border_graph.specs.declared.edge_source.Edge.{Edge}
-use Rattle.border_graph.specs.declared.bottleneck.Settled.{Settled}
-use Rattle.border_graph.specs.declared.frontier.Entry.{Entry}
-use Rattle.border_graph.specs.Edges.{AreAllEdges, AreEdges, IsReachedBelow}
-use Rattle.border_graph.specs.Heaps.{IsAdded}
-use Rattle.border_graph.specs.Frontier.{is_among, IsNext, NoneLeft}
+use Rattle.border_graph.specs.Frontier.{NoneLeft}
 use Rattle.border_graph.proofs.Forests.Next.{taken_still, taken_other}
-use Rattle.border_graph.specs.Bottleneck.{raised, AreRaised, IsSettledBy, WaitsBelow, IsEnd, IsExpanded, IsOn, IsSearching}
+use Rattle.border_graph.specs.Bottleneck.{raised, IsSettledBy, WaitsBelow, IsExpanded, IsOn, IsSearching}
 
 -- links lead back, but for those to the outlet node, from which none leads
 pub record IsTwoWay (L : ℕ → ℕ → ℤ → Type 0) : Type 0 where

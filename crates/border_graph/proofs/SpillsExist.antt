@@ -1,19 +1,14 @@
 -- Levels and labels of a block have their spills.
-use Rattle.std.proofs.Common.{◌≡◌, ℕ, zero, suc, ◌+◌, ◌*◌, ◌/◌, ◌%◌, ◌<◌, ◌≤◌, ◌⊎◌, inl, inr, ℤ, ◌≤ℤ◌, List, [], ◌∷◌, get_or, slice_index, slice_index_or, min, max, refl, sym, ap, ◌∙◌, subst, arith, true≢false, int_le, All, Contains, AllPairs}
-use Rattle.std.specs.Int.{int_max}
-use Rattle.std.proofs.lemmas.Int.{ints}
-use Rattle.std.proofs.lemmas.Bool.{cases_Bool, cases_lt, cases_eq}
-use Rattle.std.proofs.lemmas.List.Elements.{All-contains, Contains-get_or, Contains-append_right}
+use Rattle.std.proofs.Common.{◌≡◌, ℕ, zero, suc, ◌+◌, ◌*◌, ◌/◌, ◌%◌, ◌<◌, ◌⊎◌, inl, inr, ℤ, ◌≤ℤ◌, List, [], ◌∷◌, get_or, slice_index, slice_index_or, min, max, refl, sym, ap, ◌∙◌, subst, arith, true≢false, int_le, All, Contains, AllPairs}
+use Rattle.border_graph.proofs.Words.{int_max, ints, cases_Bool, cases_lt, cases_eq, Contains-get_or, void, ≤ℤ_same}
+use Rattle.border_graph.proofs.Words.{Spill, bare_block, linked_parts, solid_below}
+use Rattle.std.proofs.lemmas.List.Elements.{All-contains, Contains-append_right}
 use Rattle.std.proofs.lemmas.List.Kept.{AllPairs-cons}
-use Rattle.lattice.specs.Mosaic.{void}
 use Rattle.lattice.specs.Block.{is_linked}
-use Rattle.lattice.proofs.Levels.{≤ℤ_same}
 use Rattle.lattice.proofs.IntTests.{le_true, le_false}
-use Rattle.tile_flood.specs.declared.passing.Spill.{Spill}
-use Rattle.tile_flood.specs.Blocks.{bare_block}
 use Rattle.tile_flood.specs.Spills.{HaveSameLabels, AreSpills}
 use Rattle.tile_flood.specs.Passing.{IsPassage, IsListed, ArePassages, IsFound}
-use Rattle.tile_flood.proofs.Squares.{in_square, linked_below, linked_parts, solid_below, solid_height, test_if, row_of_cell, column_of_cell}
+use Rattle.tile_flood.proofs.Squares.{in_square, linked_below, solid_height, test_if, row_of_cell, column_of_cell}
 use Rattle.tile_flood.proofs.Held.{apart_if}
 use Rattle.tile_flood.proofs.Passages.{listed_last, passages_more, found_still, found_now, spills_are}
 

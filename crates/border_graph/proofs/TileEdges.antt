@@ -1,31 +1,20 @@
 -- The edges from a rim point, as they are listed of its tile and of the others that hold the point, are all its links; and
 -- where the tiles are those of a mosaic, no others.
 use Rattle.std.proofs.Common.{◌≡◌, ◌≢◌, ℕ, ◌+◌, ◌*◌, ◌-◌, ◌<◌, inl, inr, ℤ, IsTrue, ◌≤◌, List, [], ◌∷◌, length, get_or, pos, refl, sym, ap, ◌∙◌, subst, arith, Contains}
-use Rattle.std.proofs.lemmas.Bool.{cases_Bool}
-use Rattle.std.proofs.lemmas.List.Sorted.{Contains-permutation, IsPermutation-sym}
-use Rattle.lattice.specs.declared.point.Point.{Point}
-use Rattle.lattice.specs.Corners.{Corner}
-use Rattle.lattice.specs.Lattice.{point_of, IsIndexOf}
-use Rattle.lattice.specs.Mosaic.{Mosaic, IsMosaic, void}
-use Rattle.lattice.specs.Ground.{is_ground}
-use Rattle.lattice.specs.Block.{is_rim, rim_number}
+use Rattle.border_graph.proofs.Words.{cases_Bool, Contains-permutation, IsPermutation-sym, Point, Corner, point_of}
+use Rattle.border_graph.proofs.Words.{Mosaic, IsMosaic, void, is_ground, is_rim, rim_number, Spill, RimPoint, Summary}
+use Rattle.border_graph.proofs.Words.{Node, Outlet, Rim, nowhere, summary_at, rim_point, AreSummaries, AreOfMosaic}
+use Rattle.border_graph.proofs.Words.{IsThere, IsLink, IsRimNumberOf, node_number, IsReordered, AreAllEdges, AreEdges}
+use Rattle.border_graph.proofs.Words.{IsPlacedLink, corner_at, AreTileEdges, TileGraph, Edge}
+use Rattle.lattice.specs.Lattice.{IsIndexOf}
 use Rattle.lattice.proofs.IntTests.{eq_or_not}
 use Rattle.lattice.proofs.Interior.{inner_only}
 use Rattle.lattice.proofs.Rising.{rising_from, one_index}
 use Rattle.lattice.proofs.Samples.{index_below, index_unique, index_of_point, held_at, point_at_index}
 use Rattle.lattice.proofs.RimNumbers.{one_rim_point}
-use Rattle.tile_flood.specs.declared.passing.Spill.{Spill}
-use Rattle.border_graph.specs.declared.summary.RimPoint.{RimPoint}
-use Rattle.border_graph.specs.Summaries.{Summary}
-use Rattle.border_graph.specs.Joining.{Node, Outlet, Rim, nowhere, summary_at, rim_point, AreSummaries, AreOfMosaic, IsThere, IsSharedLink, IsLink, IsRimNumberOf}
-use Rattle.border_graph.specs.Linking.{node_number}
-use Rattle.border_graph.specs.Reordered.{IsReordered}
+use Rattle.border_graph.specs.Joining.{IsSharedLink}
 use Rattle.border_graph.specs.Sharing.{AreInOrder, IsOfRim}
-use Rattle.border_graph.specs.Edges.{AreAllEdges, AreEdges}
-use Rattle.border_graph.specs.Placed.{IsPlacedLink}
-use Rattle.border_graph.specs.Others.{corner_at, AreApart, IsToOther, AreTileEdges}
-use Rattle.border_graph.specs.TileGraph.{TileGraph}
-use Rattle.border_graph.specs.declared.edge_source.Edge.{Edge}
+use Rattle.border_graph.specs.Others.{AreApart, IsToOther}
 use Rattle.border_graph.proofs.Joined.{at_node, ground_at, solid_at, there_at, are_in_order}
 use Rattle.border_graph.proofs.PlacedWays.{one_tile, one_number, is_there}
 use Rattle.border_graph.proofs.Inside.{out_link, inner_link}

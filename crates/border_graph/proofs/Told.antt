@@ -1,14 +1,10 @@
 -- The edges inside a tile, as they are listed of the rows of its rim points.
 use Rattle.std.proofs.Common.{◌≡◌, ℕ, zero, suc, ◌+◌, inl, inr, ℤ, List, [], ◌∷◌, length, refl, sym, ap, ◌∙◌, subst, arith, Contains, IsTrue, IsFalse, true, false, true≢false, ◌↔◌, ◌⊎◌, Option, Some, None, IfSome, IfNone, is_some}
-use Rattle.std.proofs.lemmas.Bool.{cases_Bool, cases_eq}
-use Rattle.tile_flood.specs.Labelling.{OUT}
-use Rattle.tile_flood.specs.declared.passing.Spill.{Spill}
-use Rattle.border_graph.specs.Summaries.{Summary}
-use Rattle.border_graph.specs.declared.summary.RimPoint.{RimPoint}
-use Rattle.border_graph.specs.Joining.{Rim, IsThere, IsOutletLink, IsLabelLink, IsSpillLink, IsInnerLink, IsLink, rim_point}
-use Rattle.border_graph.specs.Rows.{turned}
-use Rattle.border_graph.specs.declared.edge_source.Edge.{Edge}
-use Rattle.border_graph.specs.TileGraph.{AreTileRows, AreListed, AreEdgesOut, AreEdgesAcross, out_at, across}
+use Rattle.border_graph.proofs.Words.{cases_Bool, cases_eq, OUT, Spill, Summary, RimPoint, Rim, IsThere, IsLabelLink}
+use Rattle.border_graph.proofs.Words.{IsSpillLink, IsInnerLink, IsLink, rim_point, turned, Edge, AreListed, out_at}
+use Rattle.border_graph.proofs.Words.{across}
+use Rattle.border_graph.specs.Joining.{IsOutletLink}
+use Rattle.border_graph.specs.TileGraph.{AreTileRows, AreEdgesOut, AreEdgesAcross}
 use Rattle.border_graph.proofs.Listing.{listed_all}
 
 pub inner_turned : (n : ℕ) (bs : List Summary) (t k l : ℕ) (level : ℤ) → IsInnerLink n bs t k l level → IsInnerLink n bs t l k level

@@ -1,14 +1,11 @@
 -- A link between rim points leads back too, at the same level.
 use Rattle.std.proofs.Common.{◌≡◌, ℕ, ◌+◌, ◌*◌, ◌-◌, ◌<◌, ℤ, inl, inr, List, length, sym, ap, ◌∙◌, subst, arith}
-use Rattle.lattice.specs.declared.point.Point.{Point}
-use Rattle.lattice.specs.Mosaic.{Mosaic, IsMosaic}
+use Rattle.border_graph.proofs.Words.{Point, Mosaic, IsMosaic, Summary, Node, Outlet, Rim, summary_at, rim_point}
+use Rattle.border_graph.proofs.Words.{AreSummaries, AreOfMosaic, IsLink, IsInnerLink, IsRimNumberOf, node_number}
+use Rattle.border_graph.proofs.Words.{IsPlacedLink}
 use Rattle.lattice.specs.Ground.{metres}
 use Rattle.lattice.specs.Height.{height_of}
-use Rattle.border_graph.specs.Summaries.{Summary}
-use Rattle.border_graph.specs.Joining.{Node, Outlet, Rim, summary_at, rim_point, AreSummaries, AreOfMosaic, IsLink, IsInnerLink, IsRimNumberOf}
-use Rattle.border_graph.specs.Linking.{node_number}
 use Rattle.border_graph.proofs.Joined.{of}
-use Rattle.border_graph.specs.Placed.{IsPlacedLink}
 use Rattle.border_graph.proofs.SearchSteps.{IsTwoWay}
 use Rattle.border_graph.proofs.Told.{inner_turned}
 

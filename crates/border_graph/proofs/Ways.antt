@@ -1,8 +1,7 @@
 -- Ways out of a terrain of no more than a level.
 use Rattle.std.proofs.Common.{ℤ, ◌≤ℤ◌, List, subst, sym}
-use Rattle.std.specs.Int.{int_max}
-use Rattle.lattice.specs.Terrain.{Terrain, IsPath, end_of, crest, LeadsOut, IsFilledLevel, IsLawful}
-use Rattle.lattice.proofs.Levels.{≤ℤ_trans, ≤ℤ_same, max-le, ≤ℤ_antisym}
+use Rattle.border_graph.proofs.Words.{int_max, end_of, IsFilledLevel, ≤ℤ_trans, ≤ℤ_same, max-le, ≤ℤ_antisym}
+use Rattle.lattice.specs.Terrain.{Terrain, IsPath, crest, LeadsOut, IsLawful}
 use Rattle.tile_flood.proofs.Parts.{go_on, go_back}
 
 module _ {P : Type 0} (t : Terrain P) where

@@ -1,17 +1,9 @@
 -- A point whose height stays below its level changes no level and no label.
 use Rattle.std.proofs.Common.{◌≡◌, ◌≢◌, ℕ, ◌<◌, ℤ, ◌≤ℤ◌, ◌<ℤ◌, IsTrue, List, [], ◌∷◌, length, get_or, set, slice_index, get_or-set_other, get_or-set_same, inl, inr, refl, sym, ◌∙◌, subst, arith}
-use Rattle.std.specs.Int.{int_max}
-use Rattle.std.proofs.lemmas.Bool.{cases_eq}
-use Rattle.std.proofs.lemmas.Int.{ints, clamps}
-use Rattle.lattice.specs.Mosaic.{void}
-use Rattle.lattice.specs.Block.{Block, block_terrain, is_solid, is_exit}
-use Rattle.lattice.specs.Terrain.{IsPath, LeadsOut, crest, end_of}
-use Rattle.lattice.proofs.Levels.{≤ℤ_same, ≤ℤ_antisym}
+use Rattle.tile_flood.proofs.Words.{int_max, cases_eq, ints, clamps, void, Block, block_terrain, is_solid, is_exit}
+use Rattle.tile_flood.proofs.Words.{IsPath, LeadsOut, crest, end_of, ≤ℤ_same, ≤ℤ_antisym, block_of, IsLabelling, Names}
+use Rattle.tile_flood.proofs.Words.{AreCarried, AreRelaxed, IsMending}
 use Rattle.lattice.proofs.Multiples.{some_side}
-use Rattle.tile_flood.specs.Blocks.{block_of}
-use Rattle.tile_flood.specs.Labelling.{IsLabelling, Names}
-use Rattle.tile_flood.specs.Carried.{AreCarried, AreRelaxed}
-use Rattle.tile_flood.specs.Suspects.{IsMending}
 use Rattle.tile_flood.proofs.Squares.{linked_parts, solid_below}
 use Rattle.tile_flood.proofs.Dependence.{same_exit, same_inner, same_link, same_names, labelling_relaxed, relaxed_least, max_mono}
 use Rattle.tile_flood.proofs.Held.{not_below}

@@ -1,17 +1,9 @@
 -- Labels that are carried but for suspects, while a labelling is mended.
 use Rattle.std.proofs.Common.{int_eq, ◌≡◌, ◌≢◌, ℕ, ◌<◌, ℤ, ◌≤ℤ◌, ◌<ℤ◌, ◌⊎◌, not, nat_eq, IsTrue, IsFalse, List, [], ◌∷◌, length, get_or, set, get_or-set_other, get_or-set_same, slice_index, inl, inr, refl, sym, ap, ◌∙◌, subst, arith, true≢false}
-use Rattle.std.specs.Int.{int_max}
-use Rattle.std.proofs.lemmas.Bool.{cases_Bool, cases_eq, eqb-false}
-use Rattle.std.proofs.lemmas.Int.{ints, clamps}
-use Rattle.lattice.specs.Mosaic.{void}
-use Rattle.lattice.specs.Block.{is_solid, is_linked, is_exit}
-use Rattle.lattice.proofs.Levels.{≤ℤ_same, ≤ℤ_trans, ≤ℤ_antisym}
-use Rattle.lattice.proofs.Lawful.{block_is_lawful}
-use Rattle.tile_flood.specs.Blocks.{block_of}
-use Rattle.tile_flood.specs.Labelling.{Names}
-use Rattle.tile_flood.specs.Carried.{IsSeed, IsCarriedBy, AreRelaxed}
-use Rattle.tile_flood.specs.Flooding.{is_marked}
-use Rattle.tile_flood.specs.Suspects.{IsHeldUp, IsHeldBy}
+use Rattle.tile_flood.proofs.Words.{int_max, cases_Bool, cases_eq, ints, clamps, void, is_solid, is_linked, is_exit}
+use Rattle.tile_flood.proofs.Words.{≤ℤ_same, ≤ℤ_trans, ≤ℤ_antisym, block_is_lawful, block_of, Names, IsSeed}
+use Rattle.tile_flood.proofs.Words.{IsCarriedBy, AreRelaxed, is_marked, IsHeldUp, IsHeldBy}
+use Rattle.std.proofs.lemmas.Bool.{eqb-false}
 use Rattle.tile_flood.proofs.Dependence.{same_exit, same_inner, same_link, same_names}
 
 -- y is on the way from e on

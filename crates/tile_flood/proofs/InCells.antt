@@ -1,18 +1,13 @@
 -- The levels and the labels that stand in cells.
 use Rattle.std.proofs.Common.{◌≡◌, ◌≢◌, ℕ, ◌*◌, ◌+◌, ◌<◌, ℤ, pos, false, true, not, IsTrue, List, length, get_or, set, slice_index, nat_eq, nat_lt, inl, inr, sym, ap, ◌∙◌, subst, arith, true≢false, length-set, get_or-set_other, get_or-set_same}
-use Rattle.std.proofs.lemmas.Bool.{cases_Bool, cases_eq, cases_lt, cond-true, cond-false, eqb-true, eq-eqb, ne_eqb, and_from, lt-ltb}
-use Rattle.std.proofs.lemmas.Bool.Decides.{Decides-int_eq}
-use Rattle.std.proofs.lemmas.List.{get_or-map, length-map, map-set, get_or_past, get_or_default}
-use Rattle.lattice.specs.Mosaic.{void}
+use Rattle.tile_flood.proofs.Words.{cases_Bool, cases_eq, cases_lt, eq-eqb, ne_eqb, and_from, Decides-int_eq}
+use Rattle.tile_flood.proofs.Words.{length-map, get_or_past, get_or_default, void, is_solid, Cell, NO_LABEL, block_of}
+use Rattle.tile_flood.proofs.Words.{bare_block, level_of, label_of, levels_of, labels_of, AreCells, is_marked}
+use Rattle.tile_flood.proofs.Words.{IsOwnLabel, IsSpreading, Queue}
+use Rattle.std.proofs.lemmas.Bool.{cond-true, cond-false, eqb-true, lt-ltb}
+use Rattle.std.proofs.lemmas.List.{get_or-map, map-set}
 use Rattle.lattice.specs.Limits.{IsSide}
-use Rattle.lattice.specs.Block.{is_solid}
-use Rattle.tile_flood.specs.declared.cells.Cell.{Cell}
-use Rattle.tile_flood.specs.Labelling.{NO_LABEL}
-use Rattle.tile_flood.specs.Blocks.{block_of, bare_block}
-use Rattle.tile_flood.specs.Cells.{OPEN, level_of, label_of, levels_of, labels_of, AreCells, IsFresh}
-use Rattle.tile_flood.specs.Flooding.{is_marked, IsOwnLabel}
-use Rattle.tile_flood.specs.Spreading.{IsSpreading}
-use Rattle.tile_flood.specs.Waiting.{Queue}
+use Rattle.tile_flood.specs.Cells.{OPEN, IsFresh}
 use Rattle.tile_flood.proofs.Steps.{unmarked_void}
 use Rattle.tile_flood.proofs.Spreading.{spreader_solid}
 use Rattle.tile_flood.proofs.Squares.{not_void_if, test_if, solid_height, solid_below}

@@ -1,14 +1,10 @@
 -- What a mending changes is listed, with the label that it had.
 use Rattle.std.proofs.Common.{◌≡◌, ◌≢◌, ℕ, ◌+◌, ◌*◌, ◌<◌, ℤ, false, IsTrue, List, [], ◌∷◌, ◌++◌, length, get_or, set, get_or-set_other, length-append, slice_index, inl, inr, refl, sym, ap, ◌∙◌, subst, arith}
-use Rattle.std.proofs.lemmas.Bool.{cases_eq, cases_lt}
+use Rattle.tile_flood.proofs.Words.{cases_eq, cases_lt, void, is_solid, Affected, bare_block, is_marked}
+use Rattle.tile_flood.proofs.Words.{AreChangesListed, StayListed}
 use Rattle.std.proofs.Math.ListN.{get_or-append}
 use Rattle.std.proofs.Math.Seq.{get_or-append_seam}
-use Rattle.lattice.specs.Mosaic.{void}
-use Rattle.lattice.specs.Block.{is_solid}
-use Rattle.tile_flood.specs.declared.affected.Affected.{Affected}
-use Rattle.tile_flood.specs.Blocks.{bare_block}
-use Rattle.tile_flood.specs.Flooding.{is_marked}
-use Rattle.tile_flood.specs.Affected.{IsListed, AreChangesListed, StayListed}
+use Rattle.tile_flood.specs.Affected.{IsListed}
 use Rattle.tile_flood.proofs.Squares.{not_void_if}
 use Rattle.tile_flood.proofs.Steps.{unmarked_void}
 

@@ -1,9 +1,7 @@
 -- What is found to be one run round a point hangs together.
 use Rattle.std.proofs.Common.{◌≡◌, ◌≢◌, ℕ, ◌+◌, ◌/◌, ◌%◌, ◌-◌, ◌<◌, ◌≤◌, ℤ, ◌⊎◌, IsTrue, List, [], ◌∷◌, ◌++◌, inl, inr, refl, sym, ap, ◌∙◌, subst, arith}
-use Rattle.std.proofs.lemmas.Bool.{cases_eq, cases_lt}
-use Rattle.lattice.specs.Block.{is_beside}
-use Rattle.tile_flood.specs.Affected.{IsInWindow}
-use Rattle.tile_flood.specs.Sparing.{IsAround, LeadsAround, HangTogether, IsSeen, IsRun, in_round}
+use Rattle.tile_flood.proofs.Words.{cases_eq, cases_lt, is_beside, IsInWindow, HangTogether, IsRun}
+use Rattle.tile_flood.specs.Sparing.{IsAround, LeadsAround, IsSeen, in_round}
 use Rattle.tile_flood.proofs.Squares.{beside_if}
 use Rattle.tile_flood.proofs.Dependence.{window_point_of, one_window_point, beside_back}
 

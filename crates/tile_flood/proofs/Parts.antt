@@ -1,11 +1,10 @@
 -- A part of a terrain: what is reached inside it, and the filled level of its points (for any terrain).
 use Rattle.std.proofs.Common.{◌≡◌, ℤ, ◌≤ℤ◌, Bool, IsTrue, IsFalse, List, [], ◌∷◌, refl, sym, ap, ap₂, ◌∙◌, subst, map}
-use Rattle.std.specs.Int.{int_max}
+use Rattle.tile_flood.proofs.Words.{int_max, ints, clamps, cases_Bool, IsPath, end_of, crest, LeadsOut, IsFilledLevel}
+use Rattle.tile_flood.proofs.Words.{le-max_left, max-le, ≤ℤ_trans, ≤ℤ_same, ≤ℤ_antisym}
 use Rattle.std.proofs.Common.{arith, inl, inr}
-use Rattle.std.proofs.lemmas.Int.{ints, clamps}
-use Rattle.std.proofs.lemmas.Bool.{cases_Bool}
-use Rattle.lattice.specs.Terrain.{Terrain, IsPath, end_of, crest, LeadsOut, IsFilledLevel, IsLawful}
-use Rattle.lattice.proofs.Levels.{le-max_left, le-max_right, max-le, ≤ℤ_trans, ≤ℤ_same, ≤ℤ_antisym, height-le_crest, level_of_outlet}
+use Rattle.lattice.specs.Terrain.{Terrain, IsLawful}
+use Rattle.lattice.proofs.Levels.{le-max_right, height-le_crest, level_of_outlet}
 
 -- the ground of b is a part of that of the terrain t, by `at`, with its heights; what is adjacent in b is so in t. Off
 -- the rim, what is adjacent in t comes from b. Ground on the rim leads out of b, and so does each outlet of t.

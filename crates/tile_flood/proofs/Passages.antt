@@ -1,27 +1,21 @@
 -- Where water passes between labels: each two adjacent points are met once, and the lowest place between two labels is
 -- the first in order.
 use Rattle.std.proofs.Common.{◌≡◌, ◌≢◌, ℕ, ◌+◌, ◌*◌, ◌-◌, ◌/◌, ◌%◌, ◌<◌, ◌≤◌, ◌⊎◌, inl, inr, ℤ, ◌≤ℤ◌, false, not, IsTrue, ◌&&◌, List, [], ◌∷◌, ◌++◌, length, get_or, set, get_or-set_same, get_or-set_other, length-set, slice_index, refl, sym, ap, ap₂, ◌∙◌, subst, add-zero, arith, true≢false, cond, int_lt, nat_eq, All, Contains, Less, Equal, Greater, AllPairs, IsPermutation, mul-le-mul_right}
-use Rattle.std.specs.Int.{int_max}
+use Rattle.tile_flood.proofs.Words.{int_max, ints, cases_Bool, ne_eqb, cases_lt, cases_eq, not-true, eq-eqb}
+use Rattle.tile_flood.proofs.Words.{Decides-int_eq, void, block_terrain, is_solid, is_linked, is_beside, ≤ℤ_same}
+use Rattle.tile_flood.proofs.Words.{≤ℤ_trans, get_or_default, block_is_lawful, Spill, is_marked, IsLabelling, AreSpills}
+use Rattle.tile_flood.proofs.Words.{AreFoundStill, IsSquareFound, ArePassages, IsFound, AreFoundBelow, block_of}
+use Rattle.tile_flood.proofs.Words.{bare_block}
 use Rattle.std.specs.Ordering.{int_eq, is_lt, nat_cmp, int_cmp, ordering_then}
 use Rattle.std.specs.Cmp.{nat_cmp_is}
 use Rattle.std.proofs.lemmas.List.Quantifiers.{all_pairs_push}
-use Rattle.std.proofs.lemmas.Int.{ints}
-use Rattle.std.proofs.lemmas.Bool.{cases_Bool, ne_eqb, cases_lt, cases_eq, not-true, eq-eqb}
-use Rattle.std.proofs.lemmas.Bool.Decides.{Decides-int_eq}
 use Rattle.std.proofs.lemmas.List.Elements.{Contains-get_or, Contains-append_left, Contains-push, Contains-push_cases}
 use Rattle.std.proofs.lemmas.List.Sorted.{Contains-permutation, IsPermutation-sym}
-use Rattle.lattice.specs.Mosaic.{void, IsSample}
-use Rattle.lattice.specs.Block.{block_terrain, is_solid, is_linked, is_beside}
-use Rattle.lattice.proofs.Levels.{height-le_level, ≤ℤ_same, ≤ℤ_trans, max-swap}
+use Rattle.lattice.specs.Mosaic.{IsSample}
+use Rattle.lattice.proofs.Levels.{height-le_level, max-swap}
 use Rattle.std.proofs.Math.ListN.{get_or-eq_default}
-use Rattle.std.proofs.lemmas.List.{get_or_default}
-use Rattle.lattice.proofs.Lawful.{block_is_lawful}
-use Rattle.tile_flood.specs.declared.passing.Spill.{Spill}
-use Rattle.tile_flood.specs.Flooding.{is_marked}
-use Rattle.tile_flood.specs.Labelling.{IsLabelling}
-use Rattle.tile_flood.specs.Spills.{Meets, AreSpills, HaveSameLabels}
-use Rattle.tile_flood.specs.Passing.{IsPassage, IsNoPassage, IsMetBy, IsListed, AreFoundStill, AreBeside, IsOneLabel, IsSquareFound, ArePassages, IsFound, AreFoundBelow, IsInOrder, AreFirsts, AreFirstsBelow, HasLowerLabels}
-use Rattle.tile_flood.specs.Blocks.{block_of, bare_block}
+use Rattle.tile_flood.specs.Spills.{Meets, HaveSameLabels}
+use Rattle.tile_flood.specs.Passing.{IsPassage, IsNoPassage, IsMetBy, IsListed, AreBeside, IsOneLabel, IsInOrder, AreFirsts, AreFirstsBelow, HasLowerLabels}
 use Rattle.tile_flood.proofs.Squares.{linked_parts, linked_from, linked_apart, beside_if, solid_below, solid_if, row_of_cell, column_of_cell, cell_of, row_below, test_if, solid_height}
 
 differ : (e f : ℕ) → IsTrue (not (nat_eq e f)) → e ≢ f

@@ -1,9 +1,7 @@
 -- Runs of points of a row in which none can be an outlet.
 use Rattle.std.proofs.Common.{◌≡◌, ℕ, ◌+◌, ◌-◌, ◌*◌, ◌/◌, ◌%◌, ◌<◌, ◌≤◌, ℤ, Bool, true, false, not, IsTrue, ◌&&◌, ◌||◌, nat_eq, List, [], refl, sym, ap, subst, arith}
-use Rattle.std.specs.List.{list_all}
-use Rattle.std.proofs.lemmas.Bool.{ne_eqb, and_from}
-use Rattle.lattice.specs.Block.{is_solid, is_exit, is_rim, is_sink_at, around}
-use Rattle.tile_flood.specs.Blocks.{block_of, bare_block}
+use Rattle.tile_flood.proofs.Words.{list_all, ne_eqb, and_from, is_solid, is_exit, is_rim, is_sink_at, around, block_of}
+use Rattle.tile_flood.proofs.Words.{bare_block}
 use Rattle.tile_flood.specs.Flooding.{IsFullSpan, IsPlainSpan}
 use Rattle.tile_flood.proofs.Squares.{row_of_cell, column_of_cell}
 

@@ -1,30 +1,29 @@
 -- Raising gives the filled levels of the mosaic at all points of a tile.
 use Rattle.std.proofs.Common.{◌≡◌, ◌≢◌, ℕ, ◌+◌, ◌*◌, ◌-◌, ◌/◌, ◌%◌, ◌<◌, ◌≤◌, inl, inr, ℤ, ◌≤ℤ◌, Bool, true, false, cond, IsTrue, IsFalse, List, [], ◌∷◌, ◌++◌, length, length-append, get_or, slice_index, refl, sym, ap, ◌∙◌, subst, arith, true≢false, nat_eq, Some, None}
-use Rattle.std.specs.Int.{int_max}
-use Rattle.std.proofs.lemmas.Bool.{cases_Bool, cond-true, cond-false, ne_eqb, eq-eqb, cases_lt}
-use Rattle.std.proofs.lemmas.Bool.Decides.{Decides-int_eq}
+use Rattle.tile_flood.proofs.Words.{int_max, cases_Bool, ne_eqb, eq-eqb, cases_lt, Decides-int_eq, point_of}
+use Rattle.tile_flood.proofs.Words.{IsFilledLevel, IsPath, end_of, crest, void, is_void, is_ground, terrain}
+use Rattle.tile_flood.proofs.Words.{block_terrain, is_solid, is_rim, is_exit, is_inner_outlet, ≤ℤ_same, ≤ℤ_antisym}
+use Rattle.tile_flood.proofs.Words.{block_is_lawful, IsLabelling, NO_LABEL, raised_level, block_of, bare_block}
+use Rattle.tile_flood.proofs.Words.{inner_if}
+use Rattle.std.proofs.lemmas.Bool.{cond-true, cond-false}
 use Rattle.std.proofs.Math.ListN.{get_or-eq_default, get_or-append}
 use Rattle.std.proofs.Math.Seq.{get_or-append_seam}
 use borrow.Author.Count.{below_more}
 use Rattle.lattice.specs.Corners.{Corner}
-use Rattle.lattice.specs.Lattice.{point_of}
-use Rattle.lattice.specs.Terrain.{IsFilledLevel, IsPath, end_of, crest}
-use Rattle.lattice.specs.Mosaic.{Mosaic, IsMosaic, is_present, void, is_void}
+use Rattle.lattice.specs.Mosaic.{Mosaic, IsMosaic, is_present}
 use Rattle.lattice.specs.Height.{height_of}
-use Rattle.lattice.specs.Ground.{is_ground, metres, terrain}
-use Rattle.lattice.specs.Block.{AreHeightsOf, IsBlockOf, block_terrain, is_solid, is_rim, rim_number, is_exit, is_inner_outlet}
+use Rattle.lattice.specs.Ground.{metres}
+use Rattle.lattice.specs.Block.{AreHeightsOf, IsBlockOf, rim_number}
 use Rattle.lattice.specs.Limits.{largest_side}
-use Rattle.lattice.proofs.Levels.{height-le_level, ≤ℤ_same, ≤ℤ_antisym}
-use Rattle.lattice.proofs.Lawful.{terrain_is_lawful, block_is_lawful}
-use Rattle.tile_flood.specs.Labelling.{IsLabelling, OUT, NO_LABEL}
-use Rattle.tile_flood.specs.Raising.{AreRimLevels, AreTileLevels, IsRimFilled, raised_level, AreRaised, CannotBeRaised}
+use Rattle.lattice.proofs.Levels.{height-le_level}
+use Rattle.lattice.proofs.Lawful.{terrain_is_lawful}
+use Rattle.tile_flood.specs.Labelling.{OUT}
+use Rattle.tile_flood.specs.Raising.{AreRimLevels, AreTileLevels, IsRimFilled, AreRaised, CannotBeRaised}
 use Rattle.tile_flood.specs.RaisingLoop.{AreRaisedBelow}
 use Rattle.tile_flood.proofs.Parts.{level_of_part, level_at_outlet}
 use Rattle.tile_flood.proofs.InMosaic.{block_is_part, ground_is, inner_outlet_is_outlet}
 use Rattle.tile_flood.proofs.Passages.{not_void, solid_has_level}
-use Rattle.tile_flood.specs.Blocks.{block_of, bare_block}
 use Rattle.lattice.proofs.SampleRange.{metres_are_sample}
-use Rattle.lattice.proofs.Interior.{inner_if}
 use Rattle.lattice.proofs.RimNumbers.{number_below}
 use Rattle.tile_flood.proofs.Squares.{solid_below, solid_height}
 

@@ -1,17 +1,10 @@
 -- Where all that a mending affected lies off the borders between labels, the spills are those of before.
-use Rattle.std.proofs.Common.{int_eq, ◌≡◌, ◌≢◌, ℕ, ℤ, IsTrue, List, [], length, get_or, slice_index, ◌⊎◌, inl, inr, sym, ap₂, ◌∙◌, subst, arith}
-use Rattle.std.specs.Int.{int_max}
-use Rattle.std.proofs.lemmas.Bool.{cases_Bool, not-true}
-use Rattle.lattice.specs.Mosaic.{void}
-use Rattle.lattice.specs.Block.{is_solid, is_beside}
-use Rattle.tile_flood.specs.declared.affected.Affected.{Affected}
-use Rattle.tile_flood.specs.declared.passing.Spill.{Spill}
-use Rattle.tile_flood.specs.Blocks.{block_of, bare_block}
-use Rattle.tile_flood.specs.Labelling.{IsLabelling}
-use Rattle.tile_flood.specs.Carried.{AreCarried}
-use Rattle.tile_flood.specs.Flooding.{is_marked}
-use Rattle.tile_flood.specs.Affected.{IsListed, AreChangesListed, AreOffBorders}
-use Rattle.tile_flood.specs.Spills.{Meets, AreSpills}
+use Rattle.std.proofs.Common.{int_eq, ◌≡◌, ◌≢◌, ℕ, ℤ, IsTrue, List, length, get_or, slice_index, ◌⊎◌, inl, inr, sym, ap₂, ◌∙◌, subst, arith}
+use Rattle.tile_flood.proofs.Words.{int_max, cases_Bool, not-true, void, is_solid, is_beside, Affected, Spill, block_of}
+use Rattle.tile_flood.proofs.Words.{bare_block, IsLabelling, AreCarried, is_marked, AreChangesListed, AreOffBorders}
+use Rattle.tile_flood.proofs.Words.{AreSpills}
+use Rattle.tile_flood.specs.Affected.{IsListed}
+use Rattle.tile_flood.specs.Spills.{Meets}
 use Rattle.tile_flood.proofs.Squares.{linked_parts, linked_from, solid_height, solid_below, solid_if, test_if}
 use Rattle.tile_flood.proofs.Dependence.{full_at, beside_itself, beside_back}
 use Rattle.tile_flood.proofs.Passages.{not_void}

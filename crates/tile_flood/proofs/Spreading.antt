@@ -1,21 +1,13 @@
 -- The steps of a flood of a whole block: one of a labelling that is mended, where nothing is suspect and no level is lowered
 -- (after the correctness argument of Barnes, Lehman and Mulla 2014).
 use Rattle.std.proofs.Common.{◌≡◌, ◌≢◌, ℕ, ◌+◌, ◌*◌, ◌<◌, ◌≤◌, ℤ, ◌≤ℤ◌, false, not, cond, IsTrue, List, [], length, get_or, set, slice_index, inl, inr, refl, sym, ap, ap₂, ◌∙◌, subst, arith, true≢false, get_or-set_same, length-set, SFits, w16, to_z, of_z, int_eq, to_z-of_z}
-use Rattle.std.specs.Int.{int_max}
-use Rattle.std.proofs.lemmas.Bool.{cases_eq, cases_lt, not-true, ne_eqb}
+use Rattle.tile_flood.proofs.Words.{int_max, cases_eq, cases_lt, not-true, ne_eqb, Decides-int_eq, void, is_solid}
+use Rattle.tile_flood.proofs.Words.{is_linked, is_exit, le-max_left, ≤ℤ_same, ≤ℤ_trans, block_is_lawful, Queue, Waits}
+use Rattle.tile_flood.proofs.Words.{IsJoined, IsTaken, IsLabelling, Names, NO_LABEL, is_marked, IsOwnLabel, block_of}
+use Rattle.tile_flood.proofs.Words.{bare_block, IsSeed, AreCarried, IsIn, IsInOr, IsSeeding, IsFlooding, IsSpreading}
 use Rattle.std.proofs.lemmas.List.Sums.{sum_by-set}
-use Rattle.std.proofs.lemmas.Bool.Decides.{Decides-int_eq}
-use Rattle.lattice.specs.Mosaic.{void}
-use Rattle.lattice.specs.Block.{is_solid, is_linked, is_exit}
-use Rattle.lattice.proofs.Levels.{le-max_left, ≤ℤ_same, ≤ℤ_trans}
-use Rattle.lattice.proofs.Lawful.{block_is_lawful}
-use Rattle.tile_flood.specs.Waiting.{Queue, Waits, IsJoined, IsTaken}
-use Rattle.tile_flood.specs.Labelling.{IsLabelling, Names, NO_LABEL}
-use Rattle.tile_flood.specs.Flooding.{is_marked, unmarked, lack, AreMarkedStill, IsOwnLabel, IsNear}
-use Rattle.tile_flood.specs.Blocks.{block_of, bare_block}
-use Rattle.tile_flood.specs.Carried.{IsSeed, AreCarried}
-use Rattle.tile_flood.specs.Suspects.{IsIn, IsInOr}
-use Rattle.tile_flood.specs.Spreading.{no_suspects, HaveLevels, IsSeeding, IsFlooding, IsSpreading}
+use Rattle.tile_flood.specs.Flooding.{unmarked, lack, AreMarkedStill, IsNear}
+use Rattle.tile_flood.specs.Spreading.{no_suspects, HaveLevels}
 use Rattle.tile_flood.proofs.Buckets.{none_in}
 use Rattle.tile_flood.proofs.Squares.{rim_is_exit, not_void_if, test_if, linked_parts, linked_from, solid_height, solid_below}
 use Rattle.tile_flood.proofs.Dependence.{max_mono}

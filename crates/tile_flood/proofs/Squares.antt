@@ -1,14 +1,10 @@
 -- Points of a block: rows and columns, adjacency, outlets, and a way out of each ground point.
 use Rattle.std.proofs.Common.{◌≡◌, ◌≢◌, ℕ, zero, suc, ◌+◌, ◌*◌, ◌-◌, ◌/◌, ◌%◌, ◌<◌, ◌≤◌, ℤ, false, not, IsTrue, ◌&&◌, ◌||◌, List, [], ◌∷◌, get_or, sym, ap, ◌∙◌, subst, arith, true≢false, nat_le, nat_lt, nat_eq, mod-lt, inl, inr, int_eq}
-use Rattle.std.specs.List.{list_all}
-use Rattle.std.proofs.lemmas.Bool.{cases_Bool, and_parts, and_from, ltb-true, lt-ltb, leb-true, le-leb, ne_eqb, and_left, and_right, or_left, or_right, eqb-false, or_parts}
-use Rattle.std.proofs.lemmas.Bool.Decides.{Decides-int_eq}
+use Rattle.tile_flood.proofs.Words.{list_all, cases_Bool, and_from, ne_eqb, or_left, or_right, Decides-int_eq, void}
+use Rattle.tile_flood.proofs.Words.{LeadsOut, Block, block_terrain, is_solid, is_linked, is_exit, is_inner_outlet}
+use Rattle.tile_flood.proofs.Words.{is_sink_at, is_beside, is_rim, around, block_of, bare_block, is_marked}
+use Rattle.std.proofs.lemmas.Bool.{and_parts, ltb-true, lt-ltb, leb-true, le-leb, and_left, and_right, eqb-false, or_parts}
 use Rattle.std.proofs.lemmas.Nat.{rows}
-use Rattle.lattice.specs.Mosaic.{void}
-use Rattle.lattice.specs.Terrain.{LeadsOut}
-use Rattle.lattice.specs.Block.{Block, block_terrain, is_solid, is_linked, is_exit, is_inner_outlet, is_sink_at, is_beside, is_rim, around}
-use Rattle.tile_flood.specs.Blocks.{block_of, bare_block}
-use Rattle.tile_flood.specs.Flooding.{is_marked}
 
 -- what is so of the block with these parts is so of a block that has them
 pub of_block : (P : Block → Type 0) (b : Block) (n : ℕ) (heights : List ℤ) (sinks : List ℕ) → n ≡ b.side → heights ≡ b.heights → sinks ≡ b.sinks → P (block_of n heights sinks) → P b

@@ -1,22 +1,16 @@
 -- The steps by which a labelling is mended.
 use Rattle.std.proofs.Common.{◌≡◌, ◌≢◌, ℕ, ◌+◌, ◌*◌, ◌/◌, ◌<◌, ℤ, ◌≤ℤ◌, ◌<ℤ◌, ◌⊎◌, false, not, IsTrue, IsFalse, List, [], ◌∷◌, length, length-set, Contains, get_or, set, get_or-set_other, get_or-set_same, slice_index, inl, inr, refl, sym, ap, ◌∙◌, subst, arith, true≢false}
-use Rattle.std.specs.Int.{int_max}
-use Rattle.std.proofs.lemmas.Bool.{cases_Bool, cases_eq, ne_eqb}
-use Rattle.std.proofs.lemmas.Int.{ints, clamps}
-use Rattle.lattice.specs.Mosaic.{void}
-use Rattle.lattice.specs.Block.{block_terrain, is_solid, is_linked, is_exit, is_beside}
-use Rattle.lattice.proofs.Levels.{all_marked, max_one_of, max-le, ≤ℤ_same, ≤ℤ_trans}
+use Rattle.tile_flood.proofs.Words.{int_max, cases_Bool, cases_eq, ne_eqb, ints, clamps, void, block_terrain, is_solid}
+use Rattle.tile_flood.proofs.Words.{is_linked, is_exit, is_beside, max-le, ≤ℤ_same, ≤ℤ_trans, block_is_lawful, block_of}
+use Rattle.tile_flood.proofs.Words.{IsLabelling, Names, NO_LABEL, IsSeed, IsCarriedBy, AreCarried, AreRelaxed, Queue}
+use Rattle.tile_flood.proofs.Words.{Waits, WaitStill, IsTaken, is_marked, IsOwnLabel, IsHeldUp, IsHeldBy, IsMending}
+use Rattle.tile_flood.proofs.Words.{IsIn, IsInOr, IsBesideWith, IsBeginning, HangTogether}
+use Rattle.lattice.proofs.Levels.{all_marked, max_one_of}
 use Rattle.lattice.proofs.IntTests.{le_or_above, eq_or_not}
-use Rattle.lattice.proofs.Lawful.{block_is_lawful}
-use Rattle.tile_flood.specs.Blocks.{block_of}
-use Rattle.tile_flood.specs.Labelling.{IsLabelling, Names, NO_LABEL}
-use Rattle.tile_flood.specs.Carried.{IsSeed, IsCarriedBy, AreCarried, AreRelaxed}
-use Rattle.tile_flood.specs.Waiting.{Queue, Waits, WaitStill, IsTaken}
-use Rattle.tile_flood.specs.Flooding.{is_marked, IsOwnLabel}
 use Rattle.tile_flood.specs.Mending.{IsLabelledBefore}
 use Rattle.tile_flood.specs.Affected.{IsAmong}
-use Rattle.tile_flood.specs.Suspects.{IsHeldUp, IsHeldBy, IsMending, IsIn, IsInOr, AreMending, IsPassingOn, IsBesideWith, AreAtMost, IsBeginning}
-use Rattle.tile_flood.specs.Sparing.{HangTogether, IsFirstSuspect}
+use Rattle.tile_flood.specs.Suspects.{AreMending, IsPassingOn, AreAtMost}
+use Rattle.tile_flood.specs.Sparing.{IsFirstSuspect}
 use Rattle.tile_flood.proofs.Squares.{not_void_if, test_if, linked_parts, linked_from, solid_height, solid_below, leads}
 use Rattle.tile_flood.proofs.Dependence.{same_exit, same_inner, same_link, same_names, full_at, solid_at, filled_if, label_at, relaxed_least, labelling_relaxed, same_ground, solid_inside, beside_itself, beside_back}
 use Rattle.tile_flood.proofs.Held.{level_else, label_else, marked_else, not_below, held_lowered, held_marked, held_kept, held_reset, seed_anew, carried_end, first_below, below_max, apart_if, beside_anew}

@@ -1,8 +1,7 @@
 -- Places that are joined by ways at no more than a level.
 use Rattle.std.proofs.Common.{ℕ, ℤ, ◌≤ℤ◌, inl, inr, List, [], ◌∷◌, refl, Contains}
-use Rattle.border_graph.specs.Links.{IsWayBelow}
+use Rattle.border_graph.proofs.Words.{IsWayBelow, Pass}
 use Rattle.border_graph.proofs.Onward.{go_on}
-use Rattle.border_graph.specs.declared.pass.Pass.{Pass}
 use Rattle.border_graph.specs.Passes.{IsPass, AreJoined}
 
 -- a way is one over more links too

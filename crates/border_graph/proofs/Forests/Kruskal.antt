@@ -1,15 +1,12 @@
 -- The passes that are kept decide.
 use Rattle.std.proofs.Common.{length-append, ◌≡◌, ℕ, zero, suc, false, true≢false, cond, int_lt, ◌+◌, ◌<◌, ◌≤◌, ℤ, ◌≤ℤ◌, inl, inr, List, [], ◌∷◌, ◌++◌, length, get_or, sym, ap, ◌∙◌, subst, arith, Contains, Less, Equal, Greater}
+use Rattle.border_graph.proofs.Words.{ints, cases_Bool, cases_lt, cases_eq, get_or_default, Contains-get_or}
+use Rattle.border_graph.proofs.Words.{Contains-append_left, Contains-push, Contains-push_cases, ≤ℤ_same, ≤ℤ_trans, Pass}
+use Rattle.border_graph.proofs.Words.{SpanAll, AreOver, roots, IsForestSoFar}
 use Rattle.std.specs.Ordering.{is_lt, int_cmp, nat_cmp, ordering_then}
-use Rattle.std.proofs.lemmas.Int.{ints}
-use Rattle.std.proofs.lemmas.Bool.{cases_Bool, cases_lt, cases_eq}
-use Rattle.std.proofs.lemmas.List.{get_or_default}
-use Rattle.std.proofs.lemmas.List.Elements.{Contains-get_or, Contains-append_left, Contains-push, Contains-push_cases}
-use Rattle.lattice.proofs.Levels.{≤ℤ_same, ≤ℤ_trans}
-use Rattle.border_graph.specs.declared.pass.Pass.{Pass}
-use Rattle.border_graph.specs.Passes.{AreJoined, SpanAll}
-use Rattle.border_graph.specs.UnionFind.{IsFalling, AreOver, roots}
-use Rattle.border_graph.specs.Forest.{IsRisingBy, IsOverAll, IsForestSoFar}
+use Rattle.border_graph.specs.Passes.{AreJoined}
+use Rattle.border_graph.specs.UnionFind.{IsFalling}
+use Rattle.border_graph.specs.Forest.{IsRisingBy, IsOverAll}
 use Rattle.border_graph.proofs.Forests.Connected.{joined_self, joined_by, joined_more}
 use Rattle.border_graph.proofs.Forests.Roots.{tops_few, tops_some}
 

@@ -1,10 +1,6 @@
 -- What is visited next: the lowest entry that waits, of a node that isn't visited.
 use Rattle.std.proofs.Common.{◌≡◌, ℕ, ◌≤ℤ◌, ◌⊎◌, inl, inr, ◌==◌, Bool, true, false, not, cond, List, refl, sym, ap, ◌∙◌, subst, true≢false, Contains}
-use Rattle.std.proofs.lemmas.Bool.{cases_Bool}
-use Rattle.std.proofs.lemmas.Bool.Decides.{eqb_tells}
-use Rattle.border_graph.specs.declared.frontier.Entry.{Entry}
-use Rattle.border_graph.specs.Heaps.{IsTaken}
-use Rattle.border_graph.specs.Frontier.{is_among, IsNext}
+use Rattle.border_graph.proofs.Words.{cases_Bool, eqb_tells, Entry, IsTaken, is_among, IsNext}
 
 pub not_taken : (b : Bool) → true ≡ not b → b ≡ false
 not_taken false h = refl

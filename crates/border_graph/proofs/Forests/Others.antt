@@ -1,16 +1,10 @@
 -- The edges to the same point of other tiles, corner by corner.
 use Rattle.std.proofs.Common.{◌≡◌, ◌≢◌, ℕ, ◌+◌, ◌*◌, ◌-◌, ◌^◌, ◌<◌, ◌≤◌, ◌⊎◌, inl, inr, ℤ, List, [], ◌∷◌, ◌++◌, length, get_or, refl, sym, ap, ◌∙◌, subst, arith, Contains, mul-le-mul_right}
-use Rattle.std.proofs.lemmas.Bool.{cases_lt}
-use Rattle.std.proofs.lemmas.List.{get_or_default}
-use Rattle.lattice.specs.declared.point.Point.{Point}
-use Rattle.lattice.specs.Corners.{Corner}
+use Rattle.border_graph.proofs.Words.{cases_lt, get_or_default, Point, Corner, rim_number, Rim, node_number, Edge}
+use Rattle.border_graph.proofs.Words.{corner_at, AreOthersTold}
 use Rattle.lattice.specs.Lattice.{Holds, IsIndexOf}
-use Rattle.lattice.specs.Block.{rim_number}
 use Rattle.lattice.proofs.Samples.{index_unique, held_at}
-use Rattle.border_graph.specs.Joining.{Rim}
-use Rattle.border_graph.specs.Linking.{node_number}
-use Rattle.border_graph.specs.declared.edge_source.Edge.{Edge}
-use Rattle.border_graph.specs.Others.{corner_at, AreApart, AreTooMany, IsToOther, IsOtherListed, IsOtherTold, AreOthersTold}
+use Rattle.border_graph.specs.Others.{AreApart, AreTooMany, IsToOther, IsOtherListed, IsOtherTold}
 use Rattle.border_graph.proofs.Listing.{still_more, last_has, before_or_last}
 
 -- more numbers than there are

@@ -1,10 +1,8 @@
 -- How places stand one under another, step by step.
 use Rattle.std.proofs.Common.{◌≡◌, ℕ, zero, suc, ◌<◌, ◌≤◌, ◌==◌, ℤ, inl, inr, Bool, true, false, List, length, get_or, set, refl, sym, ap, ◌∙◌, subst, arith, get_or-set_same, get_or-set_other, length-set}
-use Rattle.std.proofs.lemmas.Bool.{cases_eq}
-use Rattle.std.proofs.lemmas.Bool.Decides.{eqb_tells}
-use Rattle.border_graph.specs.declared.pass.Pass.{Pass}
+use Rattle.border_graph.proofs.Words.{cases_eq, eqb_tells, Pass, AreOver, roots}
 use Rattle.border_graph.specs.Passes.{AreJoined}
-use Rattle.border_graph.specs.UnionFind.{IsFalling, IsRoot, AreOver, one_if, roots}
+use Rattle.border_graph.specs.UnionFind.{IsFalling, IsRoot, one_if}
 use Rattle.border_graph.proofs.Forests.Connected.{joined_on}
 
 -- the same are roots, and the others stand no lower than they did

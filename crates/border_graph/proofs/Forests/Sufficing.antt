@@ -1,21 +1,11 @@
 -- The spills that a spanning forest keeps suffice.
 use Rattle.std.proofs.Common.{◌≡◌, ◌⊎◌, inl, inr, ℕ, zero, suc, ◌+◌, ◌<◌, ℤ, List, [], ◌∷◌, ◌++◌, length, get_or, map, Contains, refl, sym, ap, ap₂, ◌∙◌, subst, arith}
-use Rattle.std.proofs.lemmas.Bool.{cases_lt, cases_eq}
-use Rattle.std.proofs.lemmas.List.Elements.{Contains-append_left, Contains-push, Contains-push_cases}
-use Rattle.std.proofs.lemmas.List.Sorted.{Contains-permutation, IsPermutation-sym}
-use Rattle.lattice.specs.Corners.{Corner}
-use Rattle.lattice.specs.Mosaic.{Mosaic}
-use Rattle.lattice.proofs.Levels.{≤ℤ_same}
-use Rattle.tile_flood.specs.declared.passing.Spill.{Spill}
-use Rattle.tile_flood.specs.Labelling.{OUT}
-use Rattle.border_graph.specs.declared.summary.RimPoint.{RimPoint}
-use Rattle.border_graph.specs.Joining.{IsSummaryOf, Summarizes}
-use Rattle.border_graph.specs.Links.{IsWayBelow}
-use Rattle.border_graph.specs.Passes.{IsPass, SpanAll}
-use Rattle.border_graph.specs.Summaries.{Summary}
-use Rattle.border_graph.specs.Reordered.{IsReordered}
-use Rattle.border_graph.specs.Reduced.{IsCrossing, IsLabelOf, Suffice, label_of, spill_of, IsPassListed, ArePassesOf}
-use Rattle.border_graph.specs.declared.pass.Pass.{Pass}
+use Rattle.border_graph.proofs.Words.{cases_lt, cases_eq, Contains-append_left, Contains-push, Contains-push_cases}
+use Rattle.border_graph.proofs.Words.{Contains-permutation, IsPermutation-sym, Corner, Mosaic, ≤ℤ_same, Spill, OUT}
+use Rattle.border_graph.proofs.Words.{RimPoint, IsSummaryOf, Summarizes, IsWayBelow, SpanAll, Summary, IsReordered}
+use Rattle.border_graph.proofs.Words.{ArePassesOf, Pass}
+use Rattle.border_graph.specs.Passes.{IsPass}
+use Rattle.border_graph.specs.Reduced.{IsCrossing, IsLabelOf, Suffice, label_of, spill_of, IsPassListed}
 
 map_has : (f : Pass → Spill) (passes : List Pass) (p : Pass) → Contains passes p → Contains (map f passes) (f p)
 map_has f [] p (k, less, is) = absurd (omega (arith, less))

@@ -1,10 +1,6 @@
 use Rattle.std.proofs.Common.{rules, arith, ◌≡◌, SFits, w16, ap₂, sym, ◌∙◌, subst, length, MatchOption, IfNone, to_z-of_z}
-use Rattle.std.specs.Int.{int_max}
-use Rattle.border_graph.specs.Links.{IsJoinedLevel}
-use Rattle.border_graph.specs.Edges.{AreAllEdges, AreEdges}
-use Rattle.border_graph.specs.Joining.{AreOfMosaic}
-use Rattle.border_graph.specs.Placed.{IsPlacedLink}
-use Rattle.border_graph.specs.Bottleneck.{IsEnd, AreRaised}
+use Rattle.border_graph.proofs.Words.{int_max, IsJoinedLevel, AreAllEdges, AreEdges, AreOfMosaic, IsPlacedLink, IsEnd}
+use Rattle.border_graph.proofs.Words.{AreRaised}
 use Rattle.border_graph.proofs.SearchSteps.{end_at_outlet, end_at_known, followed_all}
 use Rattle.border_graph.proofs.bottleneck.expand.Goals as goal
 

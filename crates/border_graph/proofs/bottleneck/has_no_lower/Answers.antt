@@ -1,9 +1,7 @@
-use Rattle.std.proofs.Common.{rules, arith, ◌<◌, ◌≤ℤ◌, inl, inr, w16, to_z, of_z, int_lt, false, get_or, pos, sym, ap, ◌∙◌, subst}
-use Rattle.std.proofs.lemmas.Bool.{cases_eq}
+use Rattle.std.proofs.Common.{rules, arith, ◌<◌, ◌≤ℤ◌, inl, inr, w16, to_z, of_z, int_lt, get_or, pos, sym, ap, ◌∙◌, subst}
+use Rattle.border_graph.proofs.Words.{cases_eq, get_or_default, Edge}
 use Rattle.std.proofs.lemmas.Int.{to_z-of_z}
-use Rattle.std.proofs.lemmas.List.{get_or_default}
 use Rattle.lattice.proofs.IntTests.{lt_false}
-use Rattle.border_graph.specs.declared.edge_source.Edge.{Edge}
 use Rattle.border_graph.proofs.bottleneck.has_no_lower.Goals as goal
 
 pub loop-edge-preserved : goal.loop-edge-preserved

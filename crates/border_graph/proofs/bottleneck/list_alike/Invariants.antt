@@ -1,6 +1,5 @@
 use Rattle.std.proofs.Common.{◌≡◌, ℕ, ◌⊎◌, Contains, take, All}
-use Rattle.border_graph.specs.Bottleneck.{HasLevel}
-use Rattle.border_graph.specs.declared.bottleneck.Settled.{Settled}
+use Rattle.border_graph.proofs.Words.{HasLevel, Settled}
 use Rattle.border_graph.proofs.bottleneck.list_alike.Given as goal
 
 abbrev pub invariant-loop-one : goal.invariant-loop-one

@@ -1,19 +1,11 @@
 use Rattle.std.proofs.Common.{rules, true, ◌≡◌, ◌<◌, ◌≤ℤ◌, ◌^◌, ◌⊎◌, ℕ, ℤ, inl, inr, Contains, IsTrue, SFits, w16, refl, sym, subst, arith, to_z, of_z, List, [], ◌∷◌, map, IfSome, IfNone, to_z-of_z}
-use Rattle.std.proofs.lemmas.List.Elements.{Contains-push_cases}
-use Rattle.std.proofs.lemmas.Result.{err_from_is_err_and}
-use Rattle.lattice.specs.Mosaic.{void}
-use Rattle.border_graph.specs.Links.{IsJoinedLevel}
-use Rattle.border_graph.specs.Joining.{Rim, AreOfMosaic}
-use Rattle.border_graph.specs.Linking.{node_number}
-use Rattle.border_graph.specs.Edges.{AreAllEdges, IsReachedBelow}
-use Rattle.border_graph.specs.Placed.{IsPlacedLink}
-use Rattle.border_graph.specs.Heaps.{IsAdded}
-use Rattle.border_graph.specs.Frontier.{is_among, IsNext, NoneLeft}
-use Rattle.border_graph.specs.declared.edge_source.Edge.{Edge}
+use Rattle.border_graph.proofs.Words.{Contains-push_cases, err_from_is_err_and, void, IsJoinedLevel, Rim, AreOfMosaic}
+use Rattle.border_graph.proofs.Words.{node_number, AreAllEdges, IsReachedBelow, IsPlacedLink, IsAdded, is_among, IsNext}
+use Rattle.border_graph.proofs.Words.{Edge, Settled, IsEnd, HasLevel}
+use Rattle.border_graph.specs.Frontier.{NoneLeft}
 use Rattle.border_graph.specs.Crests.{crest, LeadsOut}
 use Rattle.border_graph.proofs.Onward.{way_up}
-use Rattle.border_graph.specs.declared.bottleneck.Settled.{Settled}
-use Rattle.border_graph.specs.Bottleneck.{IsEnd, IsExpanded, IsSettledBy, HasLevel}
+use Rattle.border_graph.specs.Bottleneck.{IsExpanded, IsSettledBy}
 use Rattle.border_graph.proofs.Crested.{below_crest, least_crest}
 use Rattle.border_graph.proofs.Forests.Left.{fewer_left}
 use Rattle.border_graph.proofs.Lowest.{low_placed}

@@ -1,12 +1,7 @@
 use Rattle.std.proofs.Common.{◌≡◌, ℕ, ℤ, List, [], ◌<◌, ◌≤ℤ◌, ◌^◌, ◌⊎◌, true, IsTrue, Contains}
-use Rattle.border_graph.specs.Summaries.{Summary}
-use Rattle.border_graph.specs.Joining.{Rim, AreOfMosaic}
-use Rattle.border_graph.specs.Linking.{node_number}
-use Rattle.border_graph.specs.Edges.{IsReachedBelow}
-use Rattle.border_graph.specs.Placed.{IsPlacedLink}
-use Rattle.border_graph.specs.declared.bottleneck.Settled.{Settled}
+use Rattle.border_graph.proofs.Words.{Summary, Rim, AreOfMosaic, node_number, IsReachedBelow, IsPlacedLink, Settled}
+use Rattle.border_graph.proofs.Words.{is_among}
 use Rattle.border_graph.specs.Bottleneck.{IsSearching}
-use Rattle.border_graph.specs.Frontier.{is_among}
 use Rattle.border_graph.proofs.Forests.Left.{left_below}
 use Rattle.border_graph.proofs.bottleneck.lowest_pass.Given as goal
 

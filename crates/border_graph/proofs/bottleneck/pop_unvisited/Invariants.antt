@@ -1,6 +1,5 @@
 use Rattle.std.proofs.Common.{◌≡◌, ℕ, ◌⊎◌, Contains, length, true}
-use Rattle.border_graph.specs.Frontier.{is_among}
-use Rattle.border_graph.specs.declared.frontier.Entry.{Entry}
+use Rattle.border_graph.proofs.Words.{is_among, Entry}
 use Rattle.border_graph.proofs.bottleneck.pop_unvisited.Given as goal
 
 abbrev pub invariant-loop-entry : goal.invariant-loop-entry

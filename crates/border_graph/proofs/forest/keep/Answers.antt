@@ -1,8 +1,5 @@
 use Rattle.std.proofs.Common.{◌+◌, ◌<◌, ◌≤◌, pos, ℕ, List, [], Vec, Global, get_or, sym, ap, ◌∙◌, subst, arith}
-use Rattle.std.proofs.lemmas.List.Elements.{Contains-get_or}
-use Rattle.border_graph.specs.declared.pass.Pass.{Pass}
-use Rattle.border_graph.specs.UnionFind.{roots}
-use Rattle.border_graph.specs.Forest.{IsForestSoFar}
+use Rattle.border_graph.proofs.Words.{Contains-get_or, Pass, roots, IsForestSoFar}
 use Rattle.border_graph.proofs.Forests.Kruskal.{none_kept, passed_over, kept_too, all_spanned, fewer_kept}
 use Rattle.border_graph.proofs.forest.keep.Goals as goal
 use Rattle.border_graph.proofs.forest.keep.Goals.{then-union+in_ok-push, else-union}

@@ -1,7 +1,5 @@
 use Rattle.std.proofs.Common.{◌+◌, get_or, List, Contains, sym, subst, arith}
-use Rattle.std.proofs.lemmas.List.Sorted.{Contains-permutation, IsPermutation-sym}
-use Rattle.border_graph.specs.declared.pass.Pass.{Pass}
-use Rattle.border_graph.specs.Passes.{SpanAll}
+use Rattle.border_graph.proofs.Words.{Contains-permutation, IsPermutation-sym, Pass, SpanAll}
 use Rattle.border_graph.specs.Forest.{IsRisingBy}
 use Rattle.border_graph.proofs.Forests.Kruskal.{rising_from, rises, span_moved}
 use Rattle.border_graph.proofs.forest.spanning_forest.Goals as goal

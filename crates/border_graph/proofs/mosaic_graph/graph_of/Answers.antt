@@ -1,8 +1,5 @@
 use Rattle.std.proofs.Common.{◌≡◌, List, ap, ◌∙◌, subst}
-use Rattle.tile_flood.specs.declared.passing.Spill.{Spill}
-use Rattle.border_graph.specs.declared.summary.RimPoint.{RimPoint}
-use Rattle.border_graph.specs.Reordered.{IsReordered}
-use Rattle.border_graph.specs.Summaries.{Summary}
+use Rattle.border_graph.proofs.Words.{Spill, RimPoint, IsReordered, Summary}
 use Rattle.border_graph.proofs.mosaic_graph.graph_of.Goals as goal
 
 pub returns-clause-summary : goal.returns-clause-summary

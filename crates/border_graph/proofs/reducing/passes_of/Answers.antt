@@ -1,7 +1,5 @@
 use Rattle.std.proofs.Common.{◌≡◌, ℕ, List, length, get_or, pos, sym, subst, arith}
-use Rattle.std.proofs.lemmas.List.{get_or_default}
-use Rattle.border_graph.specs.Reduced.{ArePassesOf}
-use Rattle.border_graph.specs.declared.pass.Pass.{Pass}
+use Rattle.border_graph.proofs.Words.{get_or_default, ArePassesOf, Pass}
 use Rattle.border_graph.proofs.Forests.Sufficing.{no_passes, one_more_pass}
 use Rattle.border_graph.proofs.reducing.passes_of.Goals as goal
 

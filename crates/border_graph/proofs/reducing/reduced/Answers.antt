@@ -1,9 +1,6 @@
 use Rattle.std.proofs.Common.{◌≡◌, ◌≤◌, ℕ, List, length, map, ap, sym, ◌∙◌, subst, refl, arith}
-use Rattle.std.proofs.lemmas.List.{length-map}
-use Rattle.tile_flood.specs.declared.passing.Spill.{Spill}
-use Rattle.border_graph.specs.Joining.{Summarizes}
-use Rattle.border_graph.specs.Summaries.{Summary}
-use Rattle.border_graph.specs.Reduced.{ArePassesOf, Suffice, spill_of}
+use Rattle.border_graph.proofs.Words.{length-map, Spill, Summarizes, Summary, ArePassesOf}
+use Rattle.border_graph.specs.Reduced.{Suffice, spill_of}
 use Rattle.border_graph.proofs.Forests.Sufficing.{summarizes_all, summarizes_less, forest_suffices}
 use Rattle.border_graph.proofs.reducing.reduced.Goals as goal
 

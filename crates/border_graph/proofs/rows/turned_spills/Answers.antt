@@ -1,7 +1,6 @@
 use Rattle.std.proofs.Common.{◌≡◌, map, take, ap, ◌∙◌, arith, rules, take_all}
+use Rattle.border_graph.proofs.Words.{Spill, turned}
 use Rattle.std.proofs.lemmas.List.Sorted.{IsNonDecreasingBy-from_sort_by_key}
-use Rattle.tile_flood.specs.declared.passing.Spill.{Spill}
-use Rattle.border_graph.specs.Rows.{turned}
 use Rattle.border_graph.proofs.RowSteps.{all_turned}
 use Rattle.border_graph.proofs.rows.turned_spills.Goals as goal
 

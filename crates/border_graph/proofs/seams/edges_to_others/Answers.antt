@@ -1,6 +1,5 @@
 use Rattle.std.proofs.Common.{List, Contains, sym, subst, arith, rules, SFits, w16, to_z, of_z, to_z-of_z}
-use Rattle.lattice.specs.Corners.{Corner}
-use Rattle.border_graph.specs.Others.{AreOthersTold}
+use Rattle.border_graph.proofs.Words.{Corner, AreOthersTold}
 use Rattle.border_graph.proofs.Forests.Others.{one_more_told, all_told}
 use Rattle.border_graph.proofs.seams.edges_to_others.Goals as goal
 

@@ -1,12 +1,7 @@
 use Rattle.std.proofs.Common.{◌≡◌, ℕ, ℤ, ◌+◌, ◌*◌, ◌-◌, ◌∙◌, ◌==◌, inl, inr, false, not, true≢false, SFits, w16, of_z, to_z, rules, refl, sym, ap, subst, arith, to_z-of_z}
-use Rattle.std.proofs.lemmas.Bool.Decides.{eqb_tells}
-use Rattle.lattice.specs.Corners.{Corner}
-use Rattle.lattice.specs.Lattice.{point_of}
-use Rattle.lattice.specs.Mosaic.{void}
+use Rattle.border_graph.proofs.Words.{eqb_tells, Corner, point_of, void, rim_point, get_or_default, corner_at}
+use Rattle.border_graph.proofs.Words.{AreOthersTold}
 use Rattle.lattice.proofs.RimNumbers.{rim_point_of}
-use Rattle.border_graph.specs.Joining.{rim_point}
-use Rattle.std.proofs.lemmas.List.{get_or_default}
-use Rattle.border_graph.specs.Others.{corner_at, AreOthersTold}
 use Rattle.border_graph.specs.TileGraph.{AreEdgesOut, AreEdgesAcross}
 use Rattle.border_graph.proofs.seams.list_edges.Goals as goal
 

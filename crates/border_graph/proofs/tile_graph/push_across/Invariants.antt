@@ -1,6 +1,5 @@
 use Rattle.std.proofs.Common.{[], ◌∷◌}
-use Rattle.border_graph.specs.Joining.{IsThere}
-use Rattle.border_graph.specs.TileGraph.{AreListed, across}
+use Rattle.border_graph.proofs.Words.{IsThere, AreListed, across}
 use Rattle.border_graph.proofs.tile_graph.push_across.Given as goal
 
 abbrev pub invariant-loop-spill : goal.invariant-loop-spill

@@ -1,6 +1,5 @@
 use Rattle.std.proofs.Common.{◌≡◌, pos, refl}
-use Rattle.tile_flood.specs.Labelling.{OUT}
-use Rattle.border_graph.specs.TileGraph.{out_at}
+use Rattle.border_graph.proofs.Words.{OUT, out_at}
 use Rattle.border_graph.proofs.Listing.{listed_more, listed_less}
 use Rattle.border_graph.proofs.tile_graph.push_out.Goals as goal
 use Rattle.border_graph.proofs.tile_graph.push_out.Goals.{then-spill+in_ok-push, else-spill}

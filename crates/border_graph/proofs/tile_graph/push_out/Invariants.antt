@@ -1,6 +1,5 @@
 use Rattle.std.proofs.Common.{◌≡◌}
-use Rattle.tile_flood.specs.Labelling.{OUT}
-use Rattle.border_graph.specs.TileGraph.{AreListed, out_at}
+use Rattle.border_graph.proofs.Words.{OUT, AreListed, out_at}
 use Rattle.border_graph.proofs.tile_graph.push_out.Given as goal
 
 abbrev pub invariant-loop-spill : goal.invariant-loop-spill

@@ -1,7 +1,6 @@
 use Rattle.std.proofs.Common.{◌<◌, ◌≤◌, ℤ, List, length}
-use Rattle.border_graph.specs.declared.pass.Pass.{Pass}
+use Rattle.border_graph.proofs.Words.{Pass, AreOver}
 use Rattle.border_graph.specs.Passes.{AreJoined}
-use Rattle.border_graph.specs.UnionFind.{AreOver}
 use Rattle.border_graph.proofs.Forests.Roots.{IsHigher}
 use Rattle.border_graph.proofs.union_find.find.Given as goal
 

@@ -1,6 +1,5 @@
 use Rattle.std.proofs.Common.{◌≡◌, ℕ, ◌<◌, length, slice_index_or}
-use Rattle.lattice.specs.Mosaic.{void}
-use Rattle.tile_flood.specs.Cells.{levels_of}
+use Rattle.tile_flood.proofs.Words.{void, levels_of}
 use Rattle.tile_flood.proofs.cells.levels_in.Given as goal
 
 abbrev pub invariant-loop-e : goal.invariant-loop-e

@@ -1,6 +1,5 @@
 use Rattle.std.proofs.Common.{rules, ◌∙◌, set, ap, SFits, w16, to_z, of_z, to_z-of_z}
-use Rattle.tile_flood.specs.declared.cells.Cell.{Cell}
-use Rattle.tile_flood.specs.Cells.{levels_of}
+use Rattle.tile_flood.proofs.Words.{Cell, levels_of}
 use Rattle.tile_flood.proofs.InCells.{set_levels, set_labels, set_cells}
 use Rattle.tile_flood.proofs.cells.mark.Goals as goal
 

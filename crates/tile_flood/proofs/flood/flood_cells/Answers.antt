@@ -1,6 +1,5 @@
 use Rattle.std.proofs.Common.{◌≡◌, ◌*◌, ◌∙◌, length}
-use Rattle.std.proofs.lemmas.List.{length-map}
-use Rattle.tile_flood.specs.Cells.{level_of, label_of, levels_of, labels_of}
+use Rattle.tile_flood.proofs.Words.{length-map, level_of, label_of, levels_of, labels_of}
 use Rattle.tile_flood.proofs.Spreading.{seeding_start}
 use Rattle.tile_flood.proofs.flood.flood_cells.Goals as goal
 

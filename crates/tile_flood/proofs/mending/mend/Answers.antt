@@ -1,13 +1,7 @@
 use Rattle.std.proofs.Common.{◌≡◌, ◌*◌, ◌<◌, ℕ, ℤ, List, [], IsTrue, sym, ap, subst, ◌∙◌, length, slice_index_or}
-use Rattle.lattice.specs.Block.{is_solid}
-use Rattle.tile_flood.specs.declared.affected.Affected.{Affected}
-use Rattle.tile_flood.specs.Blocks.{LabelledGround, bare_block}
-use Rattle.tile_flood.specs.Flooding.{is_marked}
-use Rattle.tile_flood.specs.Spills.{AreSpills}
-use Rattle.tile_flood.specs.Affected.{AreChangesListed, AreOffBorders}
-use Rattle.tile_flood.specs.Labelling.{IsLabelling}
-use Rattle.tile_flood.specs.Carried.{AreCarried}
-use Rattle.tile_flood.specs.Waiting.{Waits}
+use Rattle.tile_flood.proofs.Words.{is_solid, Affected, bare_block, is_marked, AreSpills, AreChangesListed}
+use Rattle.tile_flood.proofs.Words.{AreOffBorders, IsLabelling, AreCarried, Waits}
+use Rattle.tile_flood.specs.Blocks.{LabelledGround}
 use Rattle.tile_flood.proofs.Squares.{of_block}
 use Rattle.tile_flood.proofs.Dependence.{full_at}
 use Rattle.tile_flood.proofs.ListedChanges.{none_changed}

@@ -1,7 +1,6 @@
 use Rattle.std.proofs.Common.{ℕ, false, ◌≡◌, ◌+◌, ◌*◌, ◌/◌, ◌%◌, ◌<◌, ◌≤◌, arith, mul-le-mul_right}
-use Rattle.lattice.specs.Block.{is_rim}
+use Rattle.tile_flood.proofs.Words.{is_rim, inner_if}
 use Rattle.tile_flood.proofs.Squares.{cell_of}
-use Rattle.lattice.proofs.Interior.{inner_if}
 use Rattle.tile_flood.proofs.outlets.is_enclosed.Goals as goal
 
 bounds : (n e q r : ℕ) → e ≡ q * n + r → 1 ≤ q → q + 2 ≤ n → 1 ≤ r → r + 2 ≤ n → (n + 1 ≤ e) × (e + n + 1 < n * n)

@@ -1,7 +1,5 @@
 use Rattle.std.proofs.Common.{◌≡◌, ℤ, pos, ◌≤ℤ◌, int_lt, true, sym, ◌∙◌, subst, arith}
-use Rattle.std.proofs.lemmas.Int.{ints}
-use Rattle.std.proofs.lemmas.List.{get_or_default}
-use Rattle.tile_flood.specs.declared.passing.Spill.{Spill}
+use Rattle.tile_flood.proofs.Words.{ints, get_or_default, Spill}
 use Rattle.tile_flood.proofs.Passages.{listed_in_place}
 use Rattle.tile_flood.proofs.passing.lower.Goals as goal
 

@@ -1,8 +1,6 @@
 use Rattle.std.proofs.Common.{arith, ◌≡◌, ◌*◌, ◌∙◌, sym, subst}
-use Rattle.tile_flood.specs.Passing.{IsInOrder, AreFoundBelow, AreFirsts}
-use Rattle.tile_flood.specs.Spills.{AreSpills}
-use Rattle.tile_flood.specs.Blocks.{block_of}
-use Rattle.tile_flood.specs.Labelling.{IsLabelling}
+use Rattle.tile_flood.proofs.Words.{AreFoundBelow, AreSpills, block_of, IsLabelling}
+use Rattle.tile_flood.specs.Passing.{IsInOrder, AreFirsts}
 use Rattle.tile_flood.proofs.Passages.{rises, spills_in_order, spills_of_ground, no_lower}
 use Rattle.tile_flood.proofs.passing.spills.Goals as goal
 

@@ -1,6 +1,5 @@
 use Rattle.std.proofs.Common.{arith, rules, ◌≡◌, ◌*◌, ◌-◌, ◌++◌, ◌∷◌, [], inr, refl, sym, ap, ◌∙◌, subst, length, slice_index, slice_index_or, SFits, w16, to_z-of_z}
-use Rattle.lattice.specs.Mosaic.{void}
-use Rattle.tile_flood.specs.Raising.{raised_level}
+use Rattle.tile_flood.proofs.Words.{void, raised_level}
 use Rattle.tile_flood.proofs.Raised.{rim_filled_levels, rim_filled_can, raised_more}
 use Rattle.tile_flood.proofs.raising.raise.Goals as goal
 

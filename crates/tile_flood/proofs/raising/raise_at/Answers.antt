@@ -1,9 +1,5 @@
 use Rattle.std.proofs.Common.{◌≡◌, ℤ, IsTrue, sym, ◌∙◌, subst, slice_index, slice_index_or, Option, IsSomeAnd}
-use Rattle.lattice.specs.Lattice.{point_of}
-use Rattle.lattice.specs.Ground.{is_ground, terrain}
-use Rattle.lattice.specs.Mosaic.{void}
-use Rattle.lattice.specs.Terrain.{IsFilledLevel}
-use Rattle.tile_flood.specs.Raising.{raised_level}
+use Rattle.tile_flood.proofs.Words.{point_of, is_ground, terrain, void, IsFilledLevel, raised_level}
 use Rattle.tile_flood.proofs.Raised.{rim_filled_at}
 use Rattle.tile_flood.proofs.raising.raise_at.Goals as goal
 

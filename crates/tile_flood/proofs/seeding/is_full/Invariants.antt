@@ -1,6 +1,5 @@
 use Rattle.std.proofs.Common.{ℕ, ◌<◌, ◌≤◌, ◌+◌, ◌*◌, IsTrue}
-use Rattle.lattice.specs.Block.{is_solid}
-use Rattle.tile_flood.specs.Blocks.{bare_block}
+use Rattle.tile_flood.proofs.Words.{is_solid, bare_block}
 use Rattle.tile_flood.proofs.seeding.is_full.Given as goal
 
 abbrev pub invariant-loop-j : goal.invariant-loop-j

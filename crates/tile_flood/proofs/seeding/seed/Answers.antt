@@ -1,7 +1,5 @@
 use Rattle.std.proofs.Common.{arith, ◌≡◌, ◌*◌, subst}
-use Rattle.tile_flood.specs.Spreading.{IsSeeding}
-use Rattle.tile_flood.specs.Blocks.{block_of}
-use Rattle.tile_flood.specs.Cells.{levels_of, labels_of}
+use Rattle.tile_flood.proofs.Words.{IsSeeding, block_of, levels_of, labels_of}
 use Rattle.tile_flood.proofs.Spreading.{seeding_end}
 use Rattle.tile_flood.proofs.seeding.seed.Goals as goal
 

@@ -1,7 +1,5 @@
 use Rattle.std.proofs.Common.{◌*◌}
-use Rattle.tile_flood.specs.Spreading.{IsSeeding}
-use Rattle.tile_flood.specs.Blocks.{block_of}
-use Rattle.tile_flood.specs.Cells.{levels_of, labels_of, AreCells}
+use Rattle.tile_flood.proofs.Words.{IsSeeding, block_of, levels_of, labels_of, AreCells}
 use Rattle.tile_flood.proofs.seeding.seed.Given as goal
 
 abbrev pub invariant-loop-i : goal.invariant-loop-i

@@ -1,13 +1,9 @@
 use Rattle.std.proofs.Common.{arith, rules, ◌≡◌, ℕ, ◌+◌, ◌*◌, ℤ, List, subst, ap, ◌∙◌, SFits, w16, to_z, of_z, to_z-of_z}
-use Rattle.lattice.specs.Block.{is_exit}
-use Rattle.tile_flood.specs.Waiting.{Queue}
-use Rattle.tile_flood.specs.Spreading.{IsSeeding}
-use Rattle.tile_flood.specs.Cells.{levels_of, labels_of}
+use Rattle.tile_flood.proofs.Words.{is_exit, Queue, IsSeeding, levels_of, labels_of, block_of}
 use Rattle.tile_flood.proofs.InCells.{own_labelled}
 use Rattle.tile_flood.proofs.Squares.{in_square}
 use Rattle.tile_flood.proofs.Spreading.{seeded, seeds_passed}
 use Rattle.tile_flood.proofs.seeding.seed_at.Goals as goal
-use Rattle.tile_flood.specs.Blocks.{block_of}
 
 pub mark-requires-clause-labelled : goal.mark-requires-clause-labelled
 mark-requires-clause-labelled c = own_labelled c.args.n c.args.heights.now c.args.sinks.now (c.args.i * c.args.n + c.args.j) c.in-Some.label c.requires.heights.side (in_square c.args.n c.args.i c.args.j c.requires.cell.0 c.requires.cell.1) c.in-Some.ensures.label

@@ -1,12 +1,8 @@
 use Rattle.std.proofs.Common.{arith, rules, ◌<◌, ◌∙◌, ℕ, ℤ, List, length, slice_index, sym, subst, ap, SFits, w16, to_z-of_z}
-use Rattle.std.proofs.lemmas.List.{length-map}
-use Rattle.tile_flood.specs.declared.cells.Cell.{Cell}
-use Rattle.tile_flood.specs.Waiting.{Queue, IsTaken}
-use Rattle.tile_flood.specs.Spreading.{IsFlooding, IsSpreading}
-use Rattle.tile_flood.specs.Cells.{label_of, levels_of, labels_of}
+use Rattle.tile_flood.proofs.Words.{length-map, Cell, Queue, IsTaken, IsFlooding, IsSpreading, label_of, levels_of}
+use Rattle.tile_flood.proofs.Words.{labels_of, block_of}
 use Rattle.tile_flood.proofs.InCells.{none, label_in_cell}
 use Rattle.tile_flood.proofs.Spreading.{spread_begin, taken_below, flooding_end}
-use Rattle.tile_flood.specs.Blocks.{block_of}
 use Rattle.tile_flood.proofs.settling.settle.Goals as goal
 
 begun : (n : ℕ) (heights : List ℤ) (sinks : List ℕ) (cells : List Cell) (queue queue' : Queue) (point : ℕ) (level : ℤ) → IsFlooding (block_of n heights sinks) (levels_of cells) (labels_of cells) queue → IsTaken queue queue' level point →

@@ -1,9 +1,7 @@
 use Rattle.std.proofs.Common.{◌+◌}
+use Rattle.tile_flood.proofs.Words.{IsFlooding, block_of, levels_of, labels_of, AreCells}
 use Rattle.tile_flood.specs.Waiting.{waiting}
 use Rattle.tile_flood.specs.Flooding.{unmarked}
-use Rattle.tile_flood.specs.Spreading.{IsFlooding}
-use Rattle.tile_flood.specs.Blocks.{block_of}
-use Rattle.tile_flood.specs.Cells.{levels_of, labels_of, AreCells}
 use Rattle.tile_flood.proofs.settling.settle.Given as goal
 
 abbrev pub invariant-loop-entry : goal.invariant-loop-entry

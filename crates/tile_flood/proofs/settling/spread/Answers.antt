@@ -1,6 +1,5 @@
 use Rattle.std.proofs.Common.{arith, ◌+◌, ◌/◌, inl, inr}
-use Rattle.std.proofs.lemmas.Bool.{cases_eq}
-use Rattle.tile_flood.specs.Cells.{levels_of, labels_of}
+use Rattle.tile_flood.proofs.Words.{cases_eq, levels_of, labels_of}
 use Rattle.tile_flood.proofs.Squares.{linked_apart}
 use Rattle.tile_flood.proofs.Spreading.{spread_end}
 use Rattle.tile_flood.proofs.settling.spread.Goals as goal

@@ -1,9 +1,5 @@
 use Rattle.std.proofs.Common.{arith, ◌≡◌, ℕ, ◌+◌, ◌*◌, ◌-◌, ◌<◌, IsTrue, inl, inr, sym, subst}
-use Rattle.std.proofs.lemmas.Bool.{cases_eq}
-use Rattle.lattice.specs.Block.{is_solid}
-use Rattle.tile_flood.specs.Blocks.{bare_block}
-use Rattle.tile_flood.specs.Cells.{levels_of, labels_of}
-use Rattle.tile_flood.specs.Flooding.{is_marked}
+use Rattle.tile_flood.proofs.Words.{cases_eq, is_solid, bare_block, levels_of, labels_of, is_marked}
 use Rattle.tile_flood.proofs.Squares.{linked_parts, linked_below, solid_below, rim_is_exit}
 use Rattle.tile_flood.proofs.Spreading.{outlet_marked}
 use Rattle.tile_flood.proofs.Runs.{run_near, run_of, outer_row}

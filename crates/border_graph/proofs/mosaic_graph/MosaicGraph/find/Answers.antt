@@ -1,7 +1,5 @@
 use Rattle.std.proofs.Common.{rules, SFits, w16, ℕ, ℤ, ◌<◌, inr, List, Contains, refl, sym, subst, IfSome, IfNone, to_z-of_z}
-use Rattle.border_graph.specs.Links.{IsJoinedLevel, IsWayBelow}
-use Rattle.border_graph.specs.Placed.{IsPlacedLink}
-use Rattle.border_graph.specs.MosaicGraph.{IsGraphOf}
+use Rattle.border_graph.proofs.Words.{IsJoinedLevel, IsWayBelow, IsPlacedLink, IsGraphOf}
 use Rattle.border_graph.proofs.mosaic_graph.MosaicGraph.find.Goals as goal
 
 pub returns-in_default-2-clause-refusal : goal.returns-in_default-2-clause-refusal

@@ -1,12 +1,6 @@
 use Rattle.std.proofs.Common.{rules, arith, inl, inr, ℤ, List, sym, ◌≡◌, ◌≤◌, ◌<◌, ◌+◌, ◌*◌, ◌-◌, ◌^◌, ℕ, pos, get_or, length, subst, ap, ◌∙◌, replicate}
-use Rattle.std.proofs.lemmas.Bool.{cases_lt}
+use Rattle.border_graph.proofs.Words.{cases_lt, Corner, void, Summary, summary_at, IsReordered, TileGraph}
 use Rattle.std.proofs.lemmas.List.{get_or-replicate, get_or_past, length-replicate}
-use Rattle.lattice.specs.Corners.{Corner}
-use Rattle.lattice.specs.Mosaic.{void}
-use Rattle.border_graph.specs.Summaries.{Summary}
-use Rattle.border_graph.specs.Joining.{summary_at}
-use Rattle.border_graph.specs.Reordered.{IsReordered}
-use Rattle.border_graph.specs.TileGraph.{TileGraph}
 use Rattle.border_graph.proofs.MosaicGraphs.{IsGraphWith, no_graph, each_more, one_longer, are_reordered, whole_first}
 use Rattle.border_graph.proofs.mosaic_graph.MosaicGraph.new.Goals as goal
 

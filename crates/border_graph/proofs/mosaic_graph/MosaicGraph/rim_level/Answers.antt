@@ -1,11 +1,8 @@
 use Rattle.std.proofs.Common.{rules, SFits, w16, of_z, to_z, ◌≡◌, ◌⊎◌, ◌+◌, ◌*◌, ◌-◌, ◌∙◌, inl, inr, refl, sym, ap, ap₂, subst, to_z-of_z}
-use Rattle.std.specs.Int.{int_max}
-use Rattle.std.proofs.lemmas.Result.{err_from_is_err_and}
-use Rattle.lattice.specs.Mosaic.{void}
+use Rattle.border_graph.proofs.Words.{int_max, err_from_is_err_and, void, Rim, rim_point, summary_at, node_number}
+use Rattle.border_graph.proofs.Words.{MosaicGraph}
 use Rattle.lattice.specs.declared.refusal.Refusal.TheVariants.{NoMemory, Damaged}
-use Rattle.border_graph.specs.Joining.{Rim, rim_point, summary_at}
-use Rattle.border_graph.specs.Linking.{node_number}
-use Rattle.border_graph.specs.MosaicGraph.{MosaicGraph, IsFound, IsCutOff, LeadsNowhereFrom}
+use Rattle.border_graph.specs.MosaicGraph.{IsFound, IsCutOff, LeadsNowhereFrom}
 use Rattle.border_graph.proofs.MosaicGraphs.{height_at, level_at}
 use Rattle.border_graph.proofs.mosaic_graph.MosaicGraph.rim_level.Goals as goal
 

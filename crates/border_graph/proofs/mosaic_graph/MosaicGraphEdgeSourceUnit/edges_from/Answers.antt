@@ -1,7 +1,5 @@
 use Rattle.std.proofs.Common.{rules, ◌≤◌, ◌<◌, List, length, sym, subst}
-use Rattle.lattice.specs.Corners.{Corner}
-use Rattle.border_graph.specs.MosaicGraph.{IsGraphOf}
-use Rattle.border_graph.specs.Others.{AreTileEdges}
+use Rattle.border_graph.proofs.Words.{Corner, IsGraphOf, AreTileEdges}
 use Rattle.border_graph.proofs.MosaicGraphs.{no_edges, all_edges, exact_edges}
 use Rattle.border_graph.proofs.mosaic_graph.MosaicGraphEdgeSourceUnit.edges_from.Goals as goal
 

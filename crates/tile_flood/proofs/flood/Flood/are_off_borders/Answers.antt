@@ -1,8 +1,5 @@
 use Rattle.std.proofs.Common.{◌≡◌, arith, ap, sym, subst, ◌∙◌, IsTrue, inl, inr, slice_index_or}
-use Rattle.std.proofs.lemmas.Bool.{cases_lt}
-use Rattle.std.proofs.lemmas.List.{get_or_default}
-use Rattle.lattice.specs.Block.{is_beside}
-use Rattle.tile_flood.specs.declared.affected.Affected.{Affected}
+use Rattle.tile_flood.proofs.Words.{cases_lt, get_or_default, is_beside, Affected}
 use Rattle.tile_flood.proofs.flood.Flood.are_off_borders.Goals as goal
 
 abbrev none : Affected

@@ -1,12 +1,7 @@
 use Rattle.std.proofs.Common.{◌≡◌, ◌+◌, ◌<◌, ◌*◌, ◌/◌, ◌%◌, ◌≤ℤ◌, IsTrue, refl, sym, ap, ◌∙◌, subst, inl, inr, rules, slice_index, slice_index_or, SFits, w16, to_z, of_z, to_z-of_z}
-use Rattle.std.proofs.lemmas.List.{get_or_default}
-use Rattle.lattice.specs.Mosaic.{void}
-use Rattle.lattice.specs.Block.{is_exit}
+use Rattle.tile_flood.proofs.Words.{get_or_default, void, is_exit, ≤ℤ_same, block_of, IsOwnLabel}
 use Rattle.lattice.proofs.IntTests.{lt_false}
-use Rattle.lattice.proofs.Levels.{≤ℤ_same}
-use Rattle.tile_flood.specs.Blocks.{block_of}
 use Rattle.tile_flood.specs.Sparing.{IsFirstSuspect}
-use Rattle.tile_flood.specs.Flooding.{IsOwnLabel}
 use Rattle.tile_flood.proofs.Squares.{cell_of}
 use Rattle.tile_flood.proofs.Steps.{begin_passed, begin_reset, begin_waits}
 use Rattle.tile_flood.proofs.ListedChanges.{listed_as}

@@ -1,9 +1,5 @@
 use Rattle.std.proofs.Common.{◌<◌, ◌≤ℤ◌, IsTrue, to_z, of_z, refl, sym, ap, ◌∙◌, subst, inl, inr, rules, slice_index_or, SFits, w16, to_z-of_z}
-use Rattle.lattice.specs.Mosaic.{void}
-use Rattle.lattice.proofs.Levels.{≤ℤ_same}
-use Rattle.tile_flood.specs.Flooding.{is_marked}
-use Rattle.tile_flood.specs.Waiting.{Waits}
-use Rattle.tile_flood.specs.Suspects.{IsIn, IsInOr}
+use Rattle.tile_flood.proofs.Words.{void, ≤ℤ_same, is_marked, Waits, IsIn, IsInOr}
 use Rattle.tile_flood.proofs.Steps.{mending_as, kept_state, reset_in}
 use Rattle.tile_flood.proofs.ListedChanges.{listed_as}
 use Rattle.tile_flood.proofs.flood.Flood.examine.Goals as goal

@@ -1,10 +1,7 @@
 use Rattle.std.proofs.Common.{arith, ◌≡◌, ◌*◌, ◌/◌, ◌%◌, ◌+◌, ◌≤ℤ◌, ◌<ℤ◌, ◌-ℤ◌, pos, sym, ap, ◌∙◌, subst, inr, rules, slice_index, slice_index_or, SFits, w16, to_z, of_z}
-use Rattle.std.proofs.lemmas.Int.{ints, to_z-of_z}
-use Rattle.lattice.specs.Mosaic.{void}
-use Rattle.lattice.specs.Block.{is_exit}
+use Rattle.tile_flood.proofs.Words.{ints, void, is_exit, block_of, IsBesideWith}
+use Rattle.std.proofs.lemmas.Int.{to_z-of_z}
 use Rattle.lattice.proofs.IntTests.{le_true}
-use Rattle.tile_flood.specs.Blocks.{block_of}
-use Rattle.tile_flood.specs.Suspects.{IsBesideWith}
 use Rattle.tile_flood.proofs.Squares.{cell_of}
 use Rattle.tile_flood.proofs.Steps.{held_beside}
 use Rattle.tile_flood.proofs.flood.Flood.is_held.Goals as goal

@@ -1,6 +1,5 @@
 use Rattle.std.proofs.Common.{◌≤ℤ◌, sym, subst, rules, slice_index_or, SFits, w16, to_z-of_z}
-use Rattle.lattice.specs.Mosaic.{void}
-use Rattle.tile_flood.specs.Suspects.{IsBesideWith}
+use Rattle.tile_flood.proofs.Words.{void, IsBesideWith}
 use Rattle.tile_flood.proofs.Squares.{solid_below}
 use Rattle.tile_flood.proofs.Dependence.{beside_back}
 use Rattle.tile_flood.proofs.Steps.{max_second}

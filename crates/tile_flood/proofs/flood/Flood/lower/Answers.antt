@@ -1,8 +1,5 @@
 use Rattle.std.proofs.Common.{◌≡◌, ◌≤ℤ◌, ◌<ℤ◌, IsTrue, sym, ap, ◌∙◌, subst, inl, inr, rules, slice_index, slice_index_or, SFits, w16, to_z, of_z, to_z-of_z}
-use Rattle.lattice.specs.Mosaic.{void}
-use Rattle.tile_flood.specs.Flooding.{is_marked}
-use Rattle.tile_flood.specs.Waiting.{Waits}
-use Rattle.tile_flood.specs.Suspects.{IsIn}
+use Rattle.tile_flood.proofs.Words.{void, is_marked, Waits, IsIn}
 use Rattle.tile_flood.proofs.Steps.{IsReached, lower_on}
 use Rattle.tile_flood.proofs.ListedChanges.{listed_as}
 use Rattle.tile_flood.proofs.flood.Flood.lower.Goals as goal

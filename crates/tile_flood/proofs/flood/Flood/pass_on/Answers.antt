@@ -1,13 +1,6 @@
 use Rattle.std.proofs.Common.{◌≡◌, ◌≤ℤ◌, arith, rules, sym, subst, ap, ◌∙◌, IsTrue, inl, inr, slice_index, slice_index_or, SFits, w16, to_z, of_z, to_z-of_z}
-use Rattle.std.specs.Int.{int_max}
-use Rattle.std.proofs.lemmas.Bool.{cases_lt}
-use Rattle.lattice.specs.Mosaic.{void}
-use Rattle.lattice.specs.Block.{is_solid}
-use Rattle.lattice.proofs.Levels.{≤ℤ_trans}
-use Rattle.tile_flood.specs.Blocks.{bare_block}
-use Rattle.tile_flood.specs.Flooding.{is_marked}
-use Rattle.tile_flood.specs.Affected.{IsInWindow}
-use Rattle.tile_flood.specs.Suspects.{IsIn, IsInOr, IsMending}
+use Rattle.tile_flood.proofs.Words.{int_max, cases_lt, void, is_solid, ≤ℤ_trans, bare_block, is_marked, IsInWindow}
+use Rattle.tile_flood.proofs.Words.{IsIn, IsInOr, IsMending}
 use Rattle.tile_flood.proofs.Dependence.{one_window_point, window_point_of, window_beside}
 use Rattle.tile_flood.proofs.Steps.{mending_as, passed_on}
 use Rattle.tile_flood.proofs.ListedChanges.{listed_same, listed_twice}

@@ -1,10 +1,5 @@
 use Rattle.std.proofs.Common.{ℕ, ◌*◌, ◌<◌, ◌≤ℤ◌, IsTrue, slice_index_or}
-use Rattle.std.specs.Int.{int_max}
-use Rattle.lattice.specs.Mosaic.{void}
-use Rattle.lattice.specs.Block.{is_solid}
-use Rattle.tile_flood.specs.Blocks.{bare_block}
-use Rattle.tile_flood.specs.Flooding.{is_marked}
-use Rattle.tile_flood.specs.Affected.{IsInWindow, StayListed}
+use Rattle.tile_flood.proofs.Words.{int_max, void, is_solid, bare_block, is_marked, IsInWindow, StayListed}
 use Rattle.tile_flood.specs.Suspects.{IsPassingOn}
 use Rattle.tile_flood.proofs.flood.Flood.pass_on.Given as goal
 

@@ -1,7 +1,5 @@
 use Rattle.std.proofs.Common.{◌*◌, ◌<◌, ◌⊎◌, ℕ, IsTrue, refl, sym, subst}
-use Rattle.lattice.specs.Block.{is_beside}
-use Rattle.tile_flood.specs.Flooding.{is_marked}
-use Rattle.tile_flood.specs.Suspects.{IsIn}
+use Rattle.tile_flood.proofs.Words.{is_beside, is_marked, IsIn}
 use Rattle.tile_flood.proofs.flood.Flood.reset.Goals as goal
 
 pub returns-clause-others : goal.returns-clause-others

@@ -1,12 +1,7 @@
 use Rattle.std.proofs.Common.{arith, ◌≡◌, ℕ, ℤ, List, ◌++◌, take, drop, length, sym, subst, ap, ◌∙◌}
+use Rattle.tile_flood.proofs.Words.{Block, Cell, block_of, AreCarried, levels_of, labels_of, IsLabelling}
 use Rattle.std.proofs.lemmas.Grind.{common_steps}
 use Rattle.std.proofs.Math.Seq.{take-append_seam}
-use Rattle.lattice.specs.Block.{Block}
-use Rattle.tile_flood.specs.declared.cells.Cell.{Cell}
-use Rattle.tile_flood.specs.Blocks.{block_of}
-use Rattle.tile_flood.specs.Carried.{AreCarried}
-use Rattle.tile_flood.specs.Cells.{levels_of, labels_of}
-use Rattle.tile_flood.specs.Labelling.{IsLabelling}
 use Rattle.tile_flood.proofs.Squares.{of_block}
 use Rattle.tile_flood.proofs.flood.Flood.run.Goals as goal
 use Rattle.tile_flood.proofs.flood.Flood.run.Goals.{After-of_flood}

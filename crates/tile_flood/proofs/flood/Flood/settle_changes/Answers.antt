@@ -1,9 +1,5 @@
 use Rattle.std.proofs.Common.{ℕ, ℤ, List, arith, sym, subst, inl, slice_index_or}
-use Rattle.lattice.specs.Mosaic.{void}
-use Rattle.tile_flood.specs.Waiting.{Waits, IsTaken}
-use Rattle.tile_flood.specs.declared.affected.Affected.{Affected}
-use Rattle.tile_flood.specs.Affected.{StayListed}
-use Rattle.tile_flood.specs.Suspects.{IsIn, IsInOr}
+use Rattle.tile_flood.proofs.Words.{void, Waits, IsTaken, Affected, StayListed, IsIn, IsInOr}
 use Rattle.tile_flood.proofs.Steps.{mended, mending_as, taken_in}
 use Rattle.tile_flood.proofs.ListedChanges.{listed_same, listed_twice}
 use Rattle.tile_flood.proofs.flood.Flood.settle_changes.Goals as goal

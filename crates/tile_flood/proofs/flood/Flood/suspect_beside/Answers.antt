@@ -1,9 +1,5 @@
 use Rattle.std.proofs.Common.{◌≡◌, ◌≤ℤ◌, ◌⊎◌, arith, rules, refl, sym, ◌∙◌, subst, IsTrue, inl, inr, slice_index, slice_index_or, SFits, w16, to_z, of_z, to_z-of_z}
-use Rattle.std.proofs.lemmas.Bool.{cases_lt}
-use Rattle.lattice.specs.Mosaic.{void}
-use Rattle.tile_flood.specs.Flooding.{is_marked}
-use Rattle.tile_flood.specs.Affected.{IsInWindow}
-use Rattle.tile_flood.specs.Suspects.{IsIn}
+use Rattle.tile_flood.proofs.Words.{cases_lt, void, is_marked, IsInWindow, IsIn}
 use Rattle.tile_flood.proofs.Dependence.{one_window_point, window_point_of}
 use Rattle.tile_flood.proofs.flood.Flood.suspect_beside.Goals as goal
 use Rattle.tile_flood.proofs.flood.Flood.suspect_beside.Goals.{in-Some+in_ok-suspect_or_wait, in_default}

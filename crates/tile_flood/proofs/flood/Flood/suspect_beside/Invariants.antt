@@ -1,9 +1,5 @@
 use Rattle.std.proofs.Common.{ℕ, ◌*◌, ◌<◌, ◌≤ℤ◌, ◌≡◌, ◌⊎◌, IsTrue, slice_index, slice_index_or}
-use Rattle.lattice.specs.Mosaic.{void}
-use Rattle.tile_flood.specs.Waiting.{WaitStill}
-use Rattle.tile_flood.specs.Flooding.{is_marked}
-use Rattle.tile_flood.specs.Affected.{IsInWindow}
-use Rattle.tile_flood.specs.Suspects.{IsIn}
+use Rattle.tile_flood.proofs.Words.{void, WaitStill, is_marked, IsInWindow, IsIn}
 use Rattle.tile_flood.proofs.flood.Flood.suspect_beside.Given as goal
 
 abbrev pub invariant-loop-d : goal.invariant-loop-d

@@ -1,7 +1,6 @@
 use Rattle.std.proofs.Common.{◌≡◌, ◌≤ℤ◌, ◌<ℤ◌, not, refl, sym, ap, ◌∙◌, subst, rules, true≢false, slice_index_or, SFits, w16, to_z, of_z, to_z-of_z}
-use Rattle.lattice.specs.Mosaic.{void}
+use Rattle.tile_flood.proofs.Words.{void, Waits}
 use Rattle.lattice.proofs.IntTests.{le_true, le_false}
-use Rattle.tile_flood.specs.Waiting.{Waits}
 use Rattle.tile_flood.proofs.Spreading.{passed_max}
 use Rattle.tile_flood.proofs.Steps.{IsReached, mark_on, at_most_same}
 use Rattle.tile_flood.proofs.ListedChanges.{marked_listed}

@@ -1,9 +1,5 @@
 use Rattle.std.proofs.Common.{◌≡◌, arith, refl, sym, ◌∙◌, subst, IsTrue, inl, inr, slice_index_or}
-use Rattle.std.proofs.lemmas.Bool.{cases_lt}
-use Rattle.lattice.specs.Mosaic.{void}
-use Rattle.tile_flood.specs.Flooding.{is_marked}
-use Rattle.tile_flood.specs.Affected.{IsInWindow}
-use Rattle.tile_flood.specs.Suspects.{IsIn}
+use Rattle.tile_flood.proofs.Words.{cases_lt, void, is_marked, IsInWindow, IsIn}
 use Rattle.tile_flood.proofs.Dependence.{one_window_point, window_point_of}
 use Rattle.tile_flood.proofs.flood.Flood.wait_beside.Goals as goal
 use Rattle.tile_flood.proofs.flood.Flood.wait_beside.Goals.{in-Some+in_ok-wait, in_default}

@@ -1,8 +1,5 @@
 use Rattle.std.proofs.Common.{ℕ, ◌*◌, ◌<◌, ◌≡◌, IsTrue}
-use Rattle.tile_flood.specs.Waiting.{WaitStill}
-use Rattle.tile_flood.specs.Flooding.{is_marked}
-use Rattle.tile_flood.specs.Affected.{IsInWindow}
-use Rattle.tile_flood.specs.Suspects.{IsIn}
+use Rattle.tile_flood.proofs.Words.{WaitStill, is_marked, IsInWindow, IsIn}
 use Rattle.tile_flood.proofs.flood.Flood.wait_beside.Given as goal
 
 abbrev pub invariant-loop-d : goal.invariant-loop-d
