@@ -1,9 +1,9 @@
 -- Runs of points of a row in which none can be an outlet.
-use Rattle.std.proofs.Common.{◌≡◌, ℕ, ◌+◌, ◌-◌, ◌*◌, ◌/◌, ◌%◌, ◌<◌, ◌≤◌, ℤ, Bool, true, false, not, IsTrue, ◌&&◌, ◌||◌, nat_eq, List, [], refl, sym, ap, subst, arith}
+use Rattle.std.proofs.Common.{mul-le-mul_right, ◌≡◌, ℕ, ◌+◌, ◌-◌, ◌*◌, ◌/◌, ◌%◌, ◌<◌, ◌≤◌, ℤ, Bool, true, false, not, IsTrue, ◌&&◌, ◌||◌, nat_eq, List, [], refl, sym, ap, subst, arith}
 use Rattle.tile_flood.proofs.Words.{list_all, ne_eqb, and_from, is_solid, is_exit, is_rim, is_sink_at, around, block_of}
-use Rattle.tile_flood.proofs.Words.{bare_block}
+use Rattle.tile_flood.proofs.Words.{bare_block, inner_if}
 use Rattle.tile_flood.specs.Flooding.{IsFullSpan, IsPlainSpan}
-use Rattle.tile_flood.proofs.Squares.{row_of_cell, column_of_cell}
+use Rattle.tile_flood.proofs.Squares.{row_of_cell, column_of_cell, cell_of}
 
 none_of : (a b d e : Bool) → a ≡ false → b ≡ false → d ≡ false → e ≡ false → (a || b || d || e) ≡ false
 none_of a b d e p q r s = rw (p, q, r, s) refl
@@ -54,3 +54,10 @@ pub plain_at : (n : ℕ) (heights : List ℤ) (sinks : List ℕ) (i from to e : 
 plain_at n heights sinks i from to e low high plain =
     let at : i * n + (e - i * n) ≡ e = omega arith in
     subst (λ z. is_exit (block_of n heights sinks) z ≡ false) at (plain (e - i * n) (omega arith) (omega arith))
+
+-- off the rim a row and a column follow
+pub inner_reach : (n e : ℕ) → 3 ≤ n → e < n * n → is_rim n e ≡ false → e + n + 1 < n * n
+inner_reach n e side small off = let i = inner_if n e side small off in reach n e (e / n) (e % n) (cell_of n e) i.below i.after
+  where
+    reach : (n e q r : ℕ) → e ≡ q * n + r → q + 2 ≤ n → r + 2 ≤ n → e + n + 1 < n * n
+    reach n e q r is below after = let bottom : (q + 2) * n ≤ n * n = mul-le-mul_right n below in omega arith

@@ -508,7 +508,7 @@ passed_on n heights sinks levels labels queue suspects c low label s all =
 -- other heights: not of ways out, none that rises above its level, and where one sinks all beside it wait
 pub heights_state : (n : ℕ) (heights heights' : List ℤ) (sinks : List ℕ) (levels : List ℤ) (labels : List ℕ) (Waiting Suspect Waiting' : ℕ → Type 0) → IsMending n heights sinks levels labels Waiting Suspect → ((e : ℕ) → is_solid (block_of n heights sinks) e ≡ is_solid (block_of n heights' sinks) e) →
     ((e : ℕ) → IsTrue (is_exit (block_of n heights' sinks) e) → get_or heights' e void ≡ get_or heights e void) → ((e : ℕ) → IsTrue (is_solid (block_of n heights' sinks) e) → get_or heights e void ≤ℤ get_or levels e void → get_or heights' e void ≤ℤ get_or levels e void) → ((e : ℕ) → Waiting e → Waiting' e) →
-    ((x z : ℕ) → IsTrue (is_marked levels x) → IsTrue (is_linked (block_of n heights' sinks) x z) → get_or levels z void ≤ℤ int_max (get_or heights z void) (get_or levels x void) → Waiting' x ⊎ (get_or levels z void ≤ℤ int_max (get_or heights' z void) (get_or levels x void))) →
+    ((x z : ℕ) → IsTrue (is_marked levels x) → IsTrue (is_linked (block_of n heights' sinks) x z) → get_or levels z void ≤ℤ int_max (get_or heights z void) (get_or levels x void) → (Waiting' x ⊎ Suspect x) ⊎ (get_or levels z void ≤ℤ int_max (get_or heights' z void) (get_or levels x void))) →
     IsMending n heights' sinks levels labels Waiting' Suspect
 heights_state n heights heights' sinks levels labels Waiting Suspect Waiting' s same ways low waiting links = record {
   levels_whole = s.levels_whole;
@@ -519,7 +519,7 @@ heights_state n heights heights' sinks levels labels Waiting Suspect Waiting' s 
   held = λ e on. let by = s.held e on in (by.0, held_still e by.0 by.1);
   links = λ x z on link. elim (s.links x z on (same_link n heights heights' sinks same x z ∙ link)) [
     | inl awaited ↦ inl (elim awaited [ inl w ↦ inl (waiting x w) | inr is ↦ inr is ])
-    | inr is ↦ elim (links x z on link is.1) [ inl w ↦ inl (inl w) | inr still ↦ inr (is.0, still) ]
+    | inr is ↦ elim (links x z on link is.1) [ inl awaited ↦ inl awaited | inr still ↦ inr (is.0, still) ]
   ];
 }
   where
@@ -550,7 +550,7 @@ heights_state n heights heights' sinks levels labels Waiting Suspect Waiting' s 
 -- the point y, no way out, has another height that isn't above its level, and all beside it wait
 pub height_state : (n : ℕ) (heights heights' : List ℤ) (sinks : List ℕ) (levels : List ℤ) (labels : List ℕ) (Waiting Suspect Waiting' : ℕ → Type 0) (y : ℕ) → IsMending n heights sinks levels labels Waiting Suspect →
     ((e : ℕ) → is_solid (block_of n heights sinks) e ≡ is_solid (block_of n heights' sinks) e) → ((e : ℕ) → e ≢ y → get_or heights' e void ≡ get_or heights e void) → IsFalse (is_exit (block_of n heights' sinks) y) → get_or heights' y void ≤ℤ get_or levels y void →
-    ((e : ℕ) → Waiting e → Waiting' e) → ((x : ℕ) → x < n * n → IsTrue (is_beside n y x) → IsTrue (is_marked levels x) → Waiting' x) → IsMending n heights' sinks levels labels Waiting' Suspect
+    ((e : ℕ) → Waiting e → Waiting' e) → ((x : ℕ) → x < n * n → IsTrue (is_beside n y x) → IsTrue (is_marked levels x) → Waiting' x ⊎ Suspect x) → IsMending n heights' sinks levels labels Waiting' Suspect
 height_state n heights heights' sinks levels labels Waiting Suspect Waiting' y s same others inner low waiting beside =
     heights_state n heights heights' sinks levels labels Waiting Suspect Waiting' s same
     (λ e out. others e (λ is. true≢false (sym (subst (λ z. IsTrue (is_exit (block_of n heights' sinks) z)) is out) ∙ inner)))
@@ -655,12 +655,13 @@ module _ (n : ℕ) (heights : List ℤ) (sinks : List ℕ) (points : List ℕ) (
     exit₁ : (e : ℕ) → is_exit (block_of n heights₁ sinks) e ≡ is_exit (block_of n heights sinks) e
     exit₁ = same_exit n heights₁ heights sinks ground₁
 
-    pub begin_waits : (queue' : Queue) → IsFalse (is_exit (block_of n heights sinks) p) → get_or heights p void ≤ℤ get_or levels p void → WaitStill queue queue' →
-        ((x : ℕ) → x < n * n → IsTrue (is_beside n p x) → IsTrue (is_marked levels x) → IsIn queue' levels x) → IsBeginning n heights sinks points levels labels queue' suspects (k + 1)
-    begin_waits queue' inner low still beside = record {
+    pub begin_waits : (queue' suspects' : Queue) → IsFalse (is_exit (block_of n heights sinks) p) → get_or heights p void ≤ℤ get_or levels p void → WaitStill queue queue' → WaitStill suspects suspects' →
+        AreAwaitedBeside n levels queue' suspects' p → IsBeginning n heights sinks points levels labels queue' suspects' (k + 1)
+    begin_waits queue' suspects' inner low still suspect beside = record {
       heights₀ = heights₁;
-      state = height_state n s.heights₀ heights₁ sinks levels labels (IsIn queue levels) (IsIn suspects levels) (IsIn queue' levels) p s.state same₁ others₁ (exit₁ p ∙ inner) (subst (λ v. v ≤ℤ get_or levels p void) (sym at_p) low)
-          (λ e w. still (get_or levels e void) e w) beside;
+      state = height_state n s.heights₀ heights₁ sinks levels labels (IsIn queue levels) (IsIn suspects' levels) (IsIn queue' levels) p
+          (mending_as n s.heights₀ sinks levels labels (IsIn queue levels) (IsIn suspects levels) (IsIn queue levels) (IsIn suspects' levels) s.state (λ e on is. suspect (get_or levels e void) e is) (λ x y on link w. inl w))
+          same₁ others₁ (exit₁ p ∙ inner) (subst (λ v. v ≤ℤ get_or levels p void) (sym at_p) low) (λ e w. still (get_or levels e void) e w) beside;
       ground = ground₁;
       others = done levels (λ e other on_e. on_e);
     }

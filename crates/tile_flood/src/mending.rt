@@ -139,7 +139,8 @@ impl Flood {
             self.reset(n, e, VOID, NO_LABEL, from, affected)?;
             return Ok(());
         }
-        self.wait_beside(n, e)?;
+        // No point with a level has this label: all beside it wait.
+        self.suspect_beside(n, e, level, NO_LABEL, true)?;
         Ok(())
     }
 }

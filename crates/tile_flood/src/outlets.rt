@@ -63,6 +63,7 @@ fn number_of(n: usize, i: usize, j: usize) -> u16
     number as u16
 }
 
+#[tactic(auto, using(crate::proofs::PlainRows::inner_reach))]
 fn is_enclosed(n: usize, heights: &[i16], e: usize) -> bool
     requires heights { AreHeights n heights.now }
     requires e { e < n * n }

@@ -13,43 +13,6 @@ use crate::values::{at, label_at};
 use std::alloc::AllocError;
 
 impl Flood {
-    // Lets all marked points beside the point wait.
-    pub(crate) fn wait_beside(&mut self, n: usize, point: usize) -> Result<(), AllocError>
-        requires side { IsSide n }
-        requires small { n * n < 4294967296 }
-        requires point { point < n * n }
-        requires levels { length self.old.levels.items ≡ n * n }
-        ensures levels { OnOk result (self.new.levels.items ≡ self.old.levels.items) }
-        ensures labels { OnOk result (self.new.labels.items ≡ self.old.labels.items) }
-        ensures suspects { OnOk result (self.new.suspects ≡ self.old.suspects) }
-        ensures still { OnOk result (WaitStill self.old.queue self.new.queue) }
-        ensures waits { OnOk result ((y : ℕ) → y < n * n → IsTrue (is_beside n point y) → IsTrue (is_marked self.old.levels.items y) → IsIn self.new.queue self.old.levels.items y) }
-    {
-        for d in 0..9 {
-            if let Some(e) = window_point(n, point, d) {
-                self.wait(e)?;
-            }
-        }
-        Ok(())
-    }
-
-    // Lets the point wait at its level, if it has one.
-    fn wait(&mut self, e: usize) -> Result<(), AllocError>
-        requires small { e < 4294967296 }
-        requires levels { e < length self.old.levels.items }
-        ensures levels { OnOk result (self.new.levels.items ≡ self.old.levels.items) }
-        ensures labels { OnOk result (self.new.labels.items ≡ self.old.labels.items) }
-        ensures suspects { OnOk result (self.new.suspects ≡ self.old.suspects) }
-        ensures still { OnOk result (WaitStill self.old.queue self.new.queue) }
-        ensures waits { OnOk result (IsTrue (is_marked self.old.levels.items e) → IsIn self.new.queue self.old.levels.items e) }
-    {
-        if !self.is_unmarked(e) {
-            let level = at(&self.levels, e);
-            self.queue.push(level, e as u32)?;
-        }
-        Ok(())
-    }
-
     // Of the marked points beside the point, those with this label and at least this level are suspect from now on; the
     // others wait, where that is wanted.
     pub(crate) fn suspect_beside(

@@ -1,7 +1,6 @@
-use Rattle.std.proofs.Common.{◌≡◌, ◌*◌, ◌<◌, ℕ, ℤ, List, [], IsTrue, sym, ap, subst, ◌∙◌, length, slice_index_or}
+use Rattle.std.proofs.Common.{◌≡◌, ◌*◌, ◌<◌, ℕ, ℤ, List, [], IsTrue, sym, subst, ◌∙◌, length, slice_index_or}
 use Rattle.tile_flood.proofs.Words.{is_solid, Affected, bare_block, is_marked, AreSpills, AreChangesListed}
 use Rattle.tile_flood.proofs.Words.{AreOffBorders, IsLabelling, AreCarried, Waits}
-use Rattle.tile_flood.specs.Blocks.{LabelledGround}
 use Rattle.tile_flood.proofs.Squares.{of_block}
 use Rattle.tile_flood.proofs.Dependence.{full_at}
 use Rattle.tile_flood.proofs.ListedChanges.{none_changed}
@@ -56,22 +55,16 @@ returns-clause-spills c same spills are =
     let side : c.samples-n.result ≡ b.side = c.samples-n.ensures.value ∙ c.side-side.ensures in
     let levels₀ = c.args.labelled.levels in
     let labels₀ = c.args.labelled.labels in
-    let levels = c.of_flood.result.levels in
-    let labels = c.of_flood.result.labels in
+    let levels = c.settle_changes.new.self.levels.items in
+    let labels = c.settle_changes.new.self.labels.items in
     let affected = c.settle_changes.new.affected.items in
-    let at_levels : levels ≡ c.settle_changes.new.self.levels.items = ap (λ (l : LabelledGround). l.levels) c.of_flood.ensures in
-    let at_labels : labels ≡ c.settle_changes.new.self.labels.items = ap (λ (l : LabelledGround). l.labels) c.of_flood.ensures in
-    let listed : AreChangesListed b.side b.heights levels₀ labels₀ levels labels affected =
-    subst (λ (k : ℕ). AreChangesListed k b.heights levels₀ labels₀ levels labels affected) side
-    (subst (λ (hs : List ℤ). AreChangesListed c.samples-n.result hs levels₀ labels₀ levels labels affected) c.heights-heights.ensures.value
-    (subst (λ (ls : List ℤ). AreChangesListed c.samples-n.result c.heights-heights.result.now levels₀ labels₀ ls labels affected) (sym at_levels)
-    (subst (λ (bs : List ℕ). AreChangesListed c.samples-n.result c.heights-heights.result.now levels₀ labels₀ c.settle_changes.new.self.levels.items bs affected) (sym at_labels)
-    (listed_now (goal.at.returns-clause-spills c).In_ok-settle_changes)))) in
-    let off : AreOffBorders b.side levels labels affected (length affected) =
-    subst (λ (xs : List Affected). AreOffBorders b.side levels labels xs (length xs)) c.deref.ensures.value
-    (subst (λ (k : ℕ). AreOffBorders k levels labels c.deref.result.now (length c.deref.result.now)) side
-    (subst (λ (ls : List ℤ). AreOffBorders c.samples-n.result ls labels c.deref.result.now (length c.deref.result.now)) (sym at_levels)
-    (subst (λ (bs : List ℕ). AreOffBorders c.samples-n.result c.settle_changes.new.self.levels.items bs c.deref.result.now (length c.deref.result.now)) (sym at_labels) (c.are_off_borders-same_spills.ensures same)))) in
-    subst (λ (k : ℕ). AreSpills k levels levels labels spills) (sym (ap (λ (l : LabelledGround). l.side) c.of_flood.ensures ∙ c.side-side.ensures))
-    (spills_still b.side before.heights b.heights b.sinks levels₀ levels labels₀ labels affected before.labelling (returns-clause-labelling c) before.ground (returns-clause-carried c) listed off
-    spills (subst (λ (k : ℕ). AreSpills k levels₀ levels₀ labels₀ spills) c.requires.same_side are))
+    let mended = c.in_ok-settle_changes.ensures.mended c.if-not-branch.false in
+    let now : IsLabelling b levels labels × (AreCarried b levels labels × AreChangesListed b.side b.heights levels₀ labels₀ levels labels affected) =
+    of_block (λ k. IsLabelling k levels labels × (AreCarried k levels labels × AreChangesListed k.side k.heights levels₀ labels₀ levels labels affected)) b c.samples-n.result c.heights-heights.result.now c.sinks-sinks.result.now
+    side c.heights-heights.ensures.value c.sinks-sinks.ensures (mended.0, (mended.1, listed_now (goal.at.returns-clause-spills c).In_ok-settle_changes)) in
+    let off : AreOffBorders b.side levels labels affected (length affected) = subst (λ (xs : List Affected). AreOffBorders b.side levels labels xs (length xs)) c.deref.ensures.value
+    (subst (λ (k : ℕ). AreOffBorders k levels labels c.deref.result.now (length c.deref.result.now)) side (c.are_off_borders-same_spills.ensures same)) in
+    rw c.of_flood.ensures
+    (subst (λ (k : ℕ). AreSpills k levels levels labels spills) (sym c.side-side.ensures)
+    (spills_still b.side before.heights b.heights b.sinks levels₀ levels labels₀ labels affected before.labelling now.0 before.ground now.1.0 now.1.1 off
+    spills (subst (λ (k : ℕ). AreSpills k levels₀ levels₀ labels₀ spills) c.requires.same_side are)))

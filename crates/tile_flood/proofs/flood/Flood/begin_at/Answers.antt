@@ -66,14 +66,14 @@ returns-clause-state c =
     let b = block_of n c.args.heights.now c.args.sinks.now in
     let e = slice_index c.args.points.now c.args.k in
     let cell : e ≡ (e / n) * n + e % n = cell_of n e in
-    let a = c.in_ok-wait_beside.ensures in
+    let a = c.in_ok-suspect_beside.ensures in
     let fits : SFits w16 c.at-height.result = search rules in
     let fits_level : SFits w16 c.at-level.result = search rules in
     let height : to_z w16 (of_z w16 c.at-height.result) ≡ slice_index_or c.args.heights.now e void = to_z-of_z fits ∙ c.at-height.ensures in
     let level : to_z w16 (of_z w16 c.at-level.result) ≡ slice_index_or s.levels.items e void = to_z-of_z fits_level ∙ (c.at-level.ensures ∙ ap (λ ls. slice_index_or ls e void) c.deref.ensures.value) in
-    rw (a.levels, a.labels, a.suspects)
+    rw (a.levels, a.labels)
     (begin_waits n c.args.heights.now c.args.sinks.now c.args.points.now s.levels.items s.labels.items s.queue s.suspects c.args.k e c.requires.state
     (λ d. get_or_default c.args.points.now c.args.k d 0 c.requires.k) (sym c.is_marked.ensures.value ∙ c.if-not-is_marked.false)
-    c.wait_beside.new.self.queue (ap (is_exit b) cell ∙ c.in_default.ensures.none)
+    c.suspect_beside.new.self.queue c.suspect_beside.new.self.suspects (ap (is_exit b) cell ∙ c.in_default.ensures.none)
     (subst (λ h. h ≤ℤ slice_index_or s.levels.items e void) height (subst (λ l. to_z w16 (of_z w16 c.at-height.result) ≤ℤ l) level (lt_false (to_z w16 (of_z w16 c.at-level.result)) (to_z w16 (of_z w16 c.at-height.result)) c.if-level-height.false)))
-    a.still a.waits)
+    a.waiting a.suspect (a.others refl))
