@@ -4,6 +4,7 @@ use server::{CheckedWriter, FilePlaces, program};
 use std::io::{self, ErrorKind, Write};
 use std::marker::Brand;
 use std::test::Fail;
+use test_tiles::check_found;
 
 /// A writer of which one call fails, by its number from 0.
 #[derive(Drop)]
@@ -45,91 +46,80 @@ struct Row {
     written: &'static [u8],
 }
 
+/// A table without input, whose second call fails.
+const TABLE: Row = Row {
+    words: &["table", "3", "1"],
+    input: b"",
+    fault: 1,
+    status: 1,
+    written: b"mosaic: output fault\n",
+};
+
 const ROWS: [Row; 9] = [
     Row {
-        words: &["table", "3", "1"],
-        input: b"",
         fault: 9,
         status: 0,
         written: b"",
+        ..TABLE
     },
+    Row { fault: 0, ..TABLE },
     Row {
-        words: &["table", "3", "1"],
-        input: b"",
-        fault: 0,
-        status: 1,
-        written: b"mosaic: output fault\n",
-    },
-    Row {
-        words: &["table", "3", "1"],
         input: b"count\n",
         fault: 0,
-        status: 1,
-        written: b"mosaic: output fault\n",
+        ..TABLE
     },
     Row {
-        words: &["table", "3", "1"],
         input: b"count\n",
-        fault: 1,
-        status: 1,
         written: b"OK 0\nmosaic: output fault\n",
+        ..TABLE
     },
     Row {
         words: &["table", "2", "1"],
-        input: b"",
         fault: 0,
-        status: 1,
         written: b"",
+        ..TABLE
     },
     Row {
         words: &["table", "2", "1"],
-        input: b"",
-        fault: 1,
-        status: 1,
         written: b"ERR 32 BadSide\n",
+        ..TABLE
     },
     Row {
         words: &["check", "server_test_no_output"],
-        input: b"",
-        fault: 1,
-        status: 1,
         written: b"mosaic: cannot open server_test_no_output\n",
+        ..TABLE
     },
     Row {
         words: &["help"],
-        input: b"",
         fault: 0,
         status: 2,
         written: b"",
+        ..TABLE
     },
     Row {
         words: &["help"],
-        input: b"",
-        fault: 1,
         status: 2,
         written: b"mosaic: bad arguments\n",
+        ..TABLE
     },
 ];
 
 #[test]
 fn outputs_that_fail(rt: HostRuntime) -> Result<(), Fail> {
-    for (number, row) in ROWS.iter().enumerate() {
-        let words = owned(rt.alloc(), row.words)?;
+    let alloc = rt.alloc();
+    for row in &ROWS {
+        let words = owned(alloc, row.words)?;
         let mut reader = row.input;
         let mut writer = CheckedWriter::new(FaultOnceWriter {
-            taken: Vec::new(rt.alloc()),
+            taken: Vec::new(alloc),
             calls: 0,
             fault: row.fault,
         });
         let mut places = FilePlaces::<Brand>::new(&rt);
-        let status = program(rt.alloc(), &mut places, &words, &mut reader, &mut writer);
-        let written = writer.into_inner().taken;
-        let holds = status == row.status && written.as_slice() == row.written;
-        assert!(rt;
-            holds,
-            "row {number}: status {status}, {:?}",
-            lossy(rt.alloc(), &written)
-        );
+        let status = program(alloc, &mut places, &words, &mut reader, &mut writer);
+        let found = (status, lossy(alloc, &writer.into_inner().taken));
+        let wanted = (row.status, lossy(alloc, row.written));
+        check_found(&(row.words, row.fault), &found, &wanted)?;
     }
     Ok(())
 }

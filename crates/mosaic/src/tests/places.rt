@@ -8,7 +8,7 @@ use server::{CheckedWriter, Exit, Language, Lengthen, MakeFault, Places, TileFau
 use std::alloc::{AllocError, Global};
 use std::test::Fail;
 use store::Store;
-use test_tiles::A;
+use test_tiles::{A, check_found};
 
 /// Sectors in memory, of which one call fails, by its number from 0. Its contract promises nothing of what they hold.
 #[derive(Drop)]
@@ -37,7 +37,9 @@ impl PlainDisk {
     }
 
     /// From now on this call fails, and no other.
-    fn fail_at(&mut self, fault: u64) {
+    fn fail_at(&mut self, fault: u64)
+        ensures { self.new.count ≡ self.old.count }
+    {
         self.calls = 0;
         self.fault = fault;
     }
@@ -139,6 +141,8 @@ struct MemoryPlaces<'a> {
     store: Option<PlainDisk>,
     tile: &'a str,
     bytes: &'a [u8],
+    // Which call fails of a file that is made.
+    fault: u64,
     accesses: Vec<u8>,
 }
 
@@ -161,7 +165,9 @@ impl Places for MemoryPlaces<'_> {
         if path == self.path && self.store.is_some() {
             return Err(MakeFault::Exists);
         }
-        PlainDisk::zeros(self.alloc, sectors).map_err(|_| MakeFault::Closed)
+        let mut disk = PlainDisk::zeros(self.alloc, sectors).map_err(|_| MakeFault::Closed)?;
+        disk.fail_at(self.fault);
+        Ok(disk)
     }
 
     fn open(&mut self, path: &str) -> Option<PlainDisk> {
@@ -196,126 +202,113 @@ struct Row {
     accesses: &'static [u8],
 }
 
+/// No input, no fault, and a refusal once the store is open.
+const REFUSED: Row = Row {
+    words: &[],
+    input: b"",
+    fault: NONE,
+    status: 1,
+    written: b"",
+    accesses: b"open m\n",
+};
+
 const ROWS: [Row; 15] = [
     Row {
         words: &["serve", "m"],
         input: b"count\n",
-        fault: NONE,
-        status: 1,
         written: b"mosaic: cannot open m\n",
-        accesses: b"open m\n",
+        ..REFUSED
     },
     Row {
         words: &["format", "m", "2", "1"],
-        input: b"",
-        fault: NONE,
-        status: 1,
         written: b"ERR 32 BadSide\n",
         accesses: b"",
+        ..REFUSED
     },
     Row {
         words: &["format", "m", "3", "1"],
-        input: b"",
-        fault: NONE,
         status: 0,
         written: b"OK 0\n",
         accesses: b"make m\n",
+        ..REFUSED
     },
     Row {
         words: &["format", "m", "3", "1"],
-        input: b"",
-        fault: NONE,
-        status: 1,
         written: b"mosaic: exists m\n",
         accesses: b"make m\n",
+        ..REFUSED
     },
     Row {
         words: &["import", "m", "A.hgt"],
-        input: b"",
-        fault: NONE,
-        status: 1,
         written: b"ERR 2 BadName\n",
         accesses: b"",
+        ..REFUSED
     },
     Row {
         words: &["import", "x", "N00E000.hgt"],
-        input: b"",
-        fault: NONE,
-        status: 1,
         written: b"mosaic: cannot open x\n",
         accesses: b"open x\n",
+        ..REFUSED
     },
     Row {
         words: &["import", "m", "N00E001.hgt"],
-        input: b"",
-        fault: NONE,
-        status: 1,
         written: b"mosaic: cannot read N00E001.hgt\n",
         accesses: b"open m\nread N00E001.hgt\n",
+        ..REFUSED
     },
     Row {
         words: &["import", "m", "N00E000.hgt"],
-        input: b"",
-        fault: NONE,
         status: 0,
         written: b"OK 1\n",
         accesses: b"open m\nread N00E000.hgt\n",
+        ..REFUSED
     },
     Row {
         words: &["serve", "m"],
         input: b"elev 0 2\ncount\n",
-        fault: NONE,
         status: 0,
         written: b"OK 5\nOK 1\n",
-        accesses: b"open m\n",
+        ..REFUSED
     },
     Row {
         words: &["serve", "m"],
         input: b"count\n",
         fault: 0,
-        status: 1,
         written: b"ERR 20 Device\n",
-        accesses: b"open m\n",
+        ..REFUSED
     },
     Row {
         words: &["check", "m"],
-        input: b"",
         fault: 1,
-        status: 1,
         written: b"ERR 20 Device\n",
-        accesses: b"open m\n",
+        ..REFUSED
     },
     Row {
         words: &["check", "m"],
-        input: b"",
-        fault: NONE,
         status: 0,
         written: b"count 1 commits 2\nN00E000 stale\nseams 0\n",
-        accesses: b"open m\n",
+        ..REFUSED
     },
     Row {
         words: &["upgrade", "m"],
-        input: b"",
-        fault: NONE,
-        status: 1,
         written: b"ERR 35 NotOld\n",
-        accesses: b"open m\n",
+        ..REFUSED
     },
     Row {
         words: &["table", "3", "1"],
         input: b"count\n",
-        fault: NONE,
         status: 0,
         written: b"OK 0\n",
         accesses: b"",
+        ..REFUSED
     },
     Row {
         words: &["serve", "m", "m"],
         input: b"count\n",
-        fault: NONE,
         status: 2,
         written: b"mosaic: bad arguments\n",
         accesses: b"",
+        ..REFUSED
     },
 ];
 
@@ -327,6 +320,7 @@ fn one_tile(alloc: Global) -> MemoryPlaces<'static> {
         store: None,
         tile: "N00E000.hgt",
         bytes: &A,
+        fault: NONE,
         accesses: Vec::new(alloc),
     }
 }
@@ -357,48 +351,74 @@ fn run_on(
 
 #[test]
 fn subcommands_in_memory(rt: HostRuntime) -> Result<(), Fail> {
-    let mut places = one_tile(rt.alloc());
-    for (number, row) in ROWS.iter().enumerate() {
+    let alloc = rt.alloc();
+    let mut places = one_tile(alloc);
+    for row in &ROWS {
         if let Some(disk) = &mut places.store {
             disk.fail_at(row.fault);
         }
-        let (status, written) = run_on(rt.alloc(), &mut places, row.words, row.input)?;
-        let holds = status == row.status && written.as_slice() == row.written;
-        assert!(rt;
-            holds,
-            "row {number}: status {status}, {:?}",
-            lossy(rt.alloc(), &written)
-        );
-        assert!(rt;
-            places.accesses.as_slice() == row.accesses,
-            "accesses of row {number}: {:?}",
-            lossy(rt.alloc(), &places.accesses)
-        );
+        let (status, output) = run_on(alloc, &mut places, row.words, row.input)?;
+        let written = lossy(alloc, &output);
+        let wanted = lossy(alloc, row.written);
+        check_found(&row.words, &(status, written), &(row.status, wanted))?;
+        check_found(&row.words, &places.accesses.as_slice(), &row.accesses)?;
     }
     Ok(())
 }
 
-/// Whichever call of the disk fails, an upgrade tells it as Device; where none does it is done.
-#[test]
-fn faults_of_an_upgrade(rt: HostRuntime) -> Result<(), Fail> {
-    for fault in 0..60_u64 {
-        let mut places = one_tile(rt.alloc());
-        let mut disk = PlainDisk::zeros(rt.alloc(), 16)?;
-        Store::format_1(&mut disk, 3, 1).map_err(|_| "not formatted")?;
+/// A run with a disk that fails: its words, the version of the store that there is, and what it writes where no call fails.
+type FaultRow = (&'static [&'static str], Option<u32>, &'static [u8]);
+
+const FAULTS: [FaultRow; 3] = [
+    (&["format", "m", "3", "1"], None, b"OK 0\n"),
+    (&["import", "m", "N00E000.hgt"], Some(2), b"OK 1\n"),
+    (&["upgrade", "m"], Some(1), b"OK 0\n"),
+];
+
+/// An empty store of this version, with room for one tile.
+fn empty_store(alloc: Global, version: u32) -> Result<PlainDisk, Fail> {
+    let mut disk = PlainDisk::zeros(alloc, if version == 1 { 16 } else { 22 })?;
+    let is_made = if version == 1 {
+        Store::format_1(&mut disk, 3, 1)
+    } else {
+        Store::format(&mut disk, 3, 1)
+    };
+    is_made.map_err(|_| "not formatted")?;
+    Ok(disk)
+}
+
+/// Where this call of the disk fails the program tells Device, and else that it is done.
+fn check_fault(alloc: Global, row: FaultRow, fault: u64) -> Result<(), Fail> {
+    let (words, version, done) = row;
+    let mut places = one_tile(alloc);
+    places.fault = fault;
+    if let Some(version) = version {
+        let mut disk = empty_store(alloc, version)?;
         disk.fail_at(fault);
         places.store = Some(disk);
-        let (status, written) = run_on(rt.alloc(), &mut places, &["upgrade", "m"], b"")?;
-        let failures = places.store.as_ref().map_or(0, |disk| disk.failures);
-        let told = if failures == 0 {
-            status == 0 && written.as_slice() == b"OK 0\n".as_slice()
-        } else {
-            status == 1 && written.as_slice() == b"ERR 20 Device\n".as_slice()
-        };
-        assert!(rt;
-            told,
-            "call {fault}: status {status}, {:?}",
-            lossy(rt.alloc(), &written)
-        );
+    }
+    let (status, output) = run_on(alloc, &mut places, words, b"")?;
+    let failures = places.store.as_ref().map_or(0, |disk| disk.failures);
+    let wanted = if failures == 0 {
+        (0, lossy(alloc, done))
+    } else {
+        (1, lossy(alloc, b"ERR 20 Device\n"))
+    };
+    check_found(&(words, fault), &(status, lossy(alloc, &output)), &wanted)
+}
+
+/// Each call of the disk fails in turn; no run here makes so many.
+fn check_faults(alloc: Global, row: FaultRow) -> Result<(), Fail> {
+    for fault in 0..60 {
+        check_fault(alloc, row, fault)?;
+    }
+    Ok(())
+}
+
+#[test]
+fn faults_of_a_disk(rt: HostRuntime) -> Result<(), Fail> {
+    for row in FAULTS {
+        check_faults(rt.alloc(), row)?;
     }
     Ok(())
 }
