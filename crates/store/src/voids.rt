@@ -1,5 +1,6 @@
 //! A patch, as an edit of pages: what it fills.
-ghost use Rattle.std.specs.Prelude.{◌≡◌, ◌<◌, ◌≤◌, ◌+◌, ◌*◌, ◌-◌, ◌^◌, ◌&&◌, int_le, ℕ, true, false, All, Contains, IfSome, IfNone, map, vec_len};
+ghost use Rattle.std.specs.Prelude.{◌≡◌, ◌<◌, ◌≤◌, ◌+◌, ◌*◌, ◌-◌, ◌^◌, ◌&&◌, int_le, nat_lt, ℕ, true, false, All, Contains, IfSome, IfNone, map, vec_len};
+ghost use Rattle.lattice.specs.Lattice.{point_of};
 ghost use Rattle.lattice.specs.Mosaic.{Mosaic, IsMosaic, IsSample, is_void};
 ghost use Rattle.page_codec.specs.Sizes.{pages_of};
 ghost use Rattle.catalogue.specs.Tiles.{is_listed};
@@ -9,7 +10,7 @@ ghost use Rattle.cow_tree.specs.Reading.{mosaic_of};
 ghost use Rattle.cow_tree.specs.Trees.{root_of, has_failed, corners_of};
 ghost use Rattle.store.specs.Editing.{MakesPages, IsRefusedEarly};
 ghost use Rattle.store.specs.PagesMet.{pages_met};
-ghost use Rattle.store.specs.Underway.{box_meets, filled, has_rows, is_due, last_in_page, page_sample, AreRimVoids, IsEdited, IsPageOf};
+ghost use Rattle.store.specs.Underway.{box_meets, filled, has_rows, is_due, is_void_by_rim, last_in_page, page_sample, AreRimVoids, IsEdited, IsPageOf};
 
 use crate::page_edit::PageEdit;
 use crate::rims::{RimVoids, read_rims};
@@ -186,22 +187,25 @@ fn is_due(
     requires fits { first + 2048 < 2 ^ 32 }
     ensures { result ≡ is_due side rim.now patch (first + at) (page_sample page.now at) }
 {
-    if !holds_void(page, at) {
-        return false;
-    }
-    let index = first + at;
-    if side.area() <= index {
-        return false;
-    }
-    is_in_box(patch, point_at(side, rim.corner, index)) && rim.is_void(side, index)
+    holds_void(side, page, first, at) && is_void_of_box(side, rim, patch, first + at)
 }
 
-// Whether the sample of the page is a void.
-fn holds_void(page: &[u8; PAGE_BYTES], at: u32) -> bool
-    requires { at < 2048 }
-    ensures { result ≡ is_void (page_sample page.now at) }
+// Whether the sample of the page is a void, and one of the tile.
+fn holds_void(side: Side, page: &[u8; PAGE_BYTES], first: u32, at: u32) -> bool
+    requires at { at < 2048 }
+    requires fits { first + 2048 < 2 ^ 32 }
+    ensures { result ≡ (is_void (page_sample page.now at) && nat_lt (first + at) (side * side)) }
 {
-    sample(page, at as usize) == VOID
+    sample(page, at as usize) == VOID && first + at < side.area()
+}
+
+// Whether the tile's void sample with this index is a void point of the box.
+fn is_void_of_box(side: Side, rim: &RimVoids, patch: Patch, index: u32) -> bool
+    requires index { index < side * side }
+    requires whole { vec_len rim.now.voids ≡ 4 * (side - 1) }
+    ensures { result ≡ (is_in_box patch.from patch.to (point_of side rim.now.corner index) && is_void_by_rim side rim.now index) }
+{
+    is_in_box(patch, point_at(side, rim.corner, index)) && rim.is_void(side, index)
 }
 
 // Whether the point lies in the box of the patch.
