@@ -75,7 +75,12 @@ def hills(side: int, rows: int, columns: int, seed: int = 1) -> dict[str, bytes]
         for x in range(reach // 4, reach // 2):
             heights[y, x] = 250
     heights[3, 2] = -32768
-    tiles = {}
+    return cut(heights, side, rows, columns)
+
+
+def cut(heights: dict[tuple[int, int], int], side: int, rows: int, columns: int) -> dict[str, bytes]:
+    """Tiles from N00E000 of the heights of points."""
+    reach, tiles = side - 1, {}
     for latitude in range(rows):
         for longitude in range(columns):
             north, west = (latitude + 1) * reach, longitude * reach

@@ -3,7 +3,6 @@
 import json
 import math
 import random
-import struct
 import unittest
 
 from mosaic_store import Corner, MosaicError, Point, Run, corner_of, memory_table, open_store
@@ -14,7 +13,7 @@ from mosaic_store.samples import array_of
 from mosaic_store.splitting import Cells, NotAnswered, grouped, planned, read_split, touched
 
 from . import fake_mosaic
-from .support import PROGRAM, InFolder, hills, needs
+from .support import PROGRAM, InFolder, cut, hills, needs
 
 SIDE = 9
 
@@ -28,13 +27,7 @@ def ranges(rows: int, columns: int, seed: int, side: int = SIDE) -> dict[str, by
         for x in range(columns * reach + 1):
             hill = int(300 + sum(high * math.sin(north * y / 4 + east * x / 4 + at) for north, east, at, high in waves)) + chance.randrange(6)
             heights[y, x] = -32768 if chance.random() < 0.003 else hill
-    tiles = {}
-    for latitude in range(rows):
-        for longitude in range(columns):
-            north, west = (latitude + 1) * reach, longitude * reach
-            samples = [heights[north - row, west + column] for row in range(side) for column in range(side)]
-            tiles[Corner(latitude, longitude).name] = struct.pack(f">{side * side}h", *samples)
-    return tiles
+    return cut(heights, side, rows, columns)
 
 
 @needs("numpy")
