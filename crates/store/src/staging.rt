@@ -1,6 +1,6 @@
 //! What an edit stages.
-ghost use Rattle.std.specs.Prelude.{◌≡◌, ◌<◌, false, All, IsTrue, OnOk};
-ghost use Rattle.lattice.specs.Corners.{Corner, is_corner};
+ghost use Rattle.std.specs.Prelude.{◌≡◌, false, OnOk};
+ghost use Rattle.lattice.specs.Corners.{Corner};
 ghost use Rattle.lattice.specs.Mosaic.{Mosaic, IsMosaic};
 ghost use Rattle.edits.specs.Edits.{FitsIn, HasRoom, FindsVoids};
 ghost use Rattle.cow_tree.specs.Stored.{Stored};
@@ -14,7 +14,7 @@ use crate::voids::{Patch, stage_voids};
 use cow_tree::{Plane, Tree};
 use disk::Disk;
 use edits::{Edit, with_point, without_point};
-use lattice::{Corner, Refusal};
+use lattice::{Corner, Refusal, bytes_in_range, corner_in_range};
 use std::alloc::Global;
 
 /// Stages what the edit makes of the tiles and the sinks, and nothing else. Memory for it is had before the first write:
@@ -38,7 +38,8 @@ pub(crate) fn stage<D: Disk>(
 {
     match edit {
         Edit::Add { corner, bytes } => {
-            know_tile(*corner, bytes);
+            corner_in_range(*corner);
+            bytes_in_range(bytes);
             tree.stage_plane(*corner, Plane::Heights, bytes)
         }
         Edit::Drop { corner } => {
@@ -75,12 +76,4 @@ pub(crate) fn stage<D: Disk>(
             Ok(())
         }
     }
-}
-
-// That these are a corner and bytes is told by their types.
-fn know_tile(corner: Corner, bytes: &[u8])
-    ensures corner { IsTrue (is_corner corner) }
-    ensures bytes { All (λ b. b < 256) bytes.now }
-{
-    let _lat = corner.lat;
 }

@@ -112,7 +112,7 @@ returns-in-Add-clause-made g c honest s m at valid are sinks finds =
     subst (λ (e : Edit). OnOk c.stage_plane.result (IsMade d e m old new)) (sym c.in-Add.is)
     (on_ok c.stage_plane.result
     (λ staged. record {
-      tiles = subst (λ (ts : List StoredTile). AreTilesOf n ts (edit_made made m)) (sym staged) (imported n (staged_in d old) m corner bytes are fits.1 c.know_tile.ensures.bytes);
+      tiles = subst (λ (ts : List StoredTile). AreTilesOf n ts (edit_made made m)) (sym staged) (imported n (staged_in d old) m corner bytes are fits.1 c.bytes_in_range.ensures);
       sinks = c.stage_plane.ensures.sinks ∙ sinks;
       kept = subst (KeepsBut made (staged_in d old)) (sym staged) (kept_with made tile (staged_in d old) refl refl);
     })
