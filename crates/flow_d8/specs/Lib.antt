@@ -18,6 +18,7 @@ pub mod Component
 pub mod Marks
 pub mod Rounds
 pub mod Tiles
+pub mod Strides
 pub mod Resolution
 pub mod FlowGrids
 pub mod Donors

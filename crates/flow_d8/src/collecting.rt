@@ -13,7 +13,7 @@ ghost use Rattle.flow_d8.specs.Resolution.{IsMet, IsUnknownBeside};
 use crate::flow::{is_of_flat, is_unknown};
 use crate::flow_byte::FlowByte;
 use crate::marks::{FREE, MEMBER, Run, mark, mark_run};
-use crate::tiles::Tiles;
+use crate::tiles::{Stride, Tiles};
 use lattice::{DIRECTIONS, Dir, Point, neighbour};
 use std::alloc::AllocError;
 
@@ -73,6 +73,7 @@ pub(crate) fn collect(
 }
 
 // Adds what lies inside a flat around the samples of the run. Gives a point around them of which nothing is known, if there is one.
+#[inline(never)]
 fn visit_run(
     flows: &[FlowByte],
     tiles: &Tiles,
@@ -168,7 +169,7 @@ fn visit(
     ensures settled { IfOk result (λ known. IsTrue known → IsSettled flows.now marks.new (by_of tiles.now from direction)) }
     ensures unknown { IfOk result (λ known. IsFalse known → slice_index_or flows.now (by_of tiles.now from direction) Unknown ≡ Unknown) }
 {
-    let to = tiles.step(from, direction, deep);
+    let to = tiles.step(from, direction, Stride::new(tiles.side(), direction), deep);
     if mark(marks, to) != FREE {
         return Ok(true);
     }

@@ -33,7 +33,7 @@ impl Model for FlowByte {
 }
 
 // The flows, by their bytes.
-const FLOWS: [Flow; 28] = [
+static FLOWS: [Flow; 28] = [
     Flow::Unknown,
     Flow::NoGround,
     Flow::Outlet,

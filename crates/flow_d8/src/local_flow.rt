@@ -57,7 +57,7 @@ fn is_none_below(levels: &[i16], width: usize, k: usize, height: i16) -> bool
         && height <= at(levels, k + width + 1)
 }
 
-#[inline(always)]
+#[inline(never)]
 fn steepest_at(levels: &[i16], width: usize, k: usize) -> Best
     requires { IsInner width (length levels.now) k }
     ensures { IsBestAt levels.now width k result }
@@ -78,6 +78,7 @@ fn steepest_at(levels: &[i16], width: usize, k: usize) -> Best
 }
 
 // The first direction whose place has no level.
+#[inline(never)]
 fn gap(levels: &[i16], width: usize, k: usize) -> Option<Dir>
     requires { IsInner width (length levels.now) k }
     ensures { MatchOption result ((d : Dir) → slice_index_or levels.now (place_by width k d) void ≡ void → ⊥) (λ d. slice_index_or levels.now (place_by width k d) void ≡ void) }

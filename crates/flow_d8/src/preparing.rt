@@ -96,6 +96,7 @@ fn drain(side: Side, corner: Corner, sink: Point, flows: &mut [FlowByte])
     }
 }
 
+#[inline(always)]
 fn is_flat(flows: &[FlowByte], k: usize) -> bool
     requires { k < length flows.now }
     ensures { IsTrue result ↔ (flow_in flows.now k ≡ Flat) }
@@ -230,6 +231,9 @@ fn flat_flow(levels: &[i16], around: &[FlowByte], width: usize, k: usize) -> Flo
     requires around { length around.now ≡ length levels.now }
     ensures { ((result ≡ Flat) × ((d : Dir) → IsEndBeside levels.now around.now width k d → ⊥)) ⊎ ((d : Dir) × ((result ≡ Beside d) × IsFirstEndBeside levels.now around.now width k d)) }
 {
+    if are_flat_around(around, width, k) {
+        return Flow::Flat;
+    }
     for i in 0..8 {
         if leads_to_end(
             levels,
@@ -241,6 +245,22 @@ fn flat_flow(levels: &[i16], around: &[FlowByte], width: usize, k: usize) -> Flo
         }
     }
     Flow::Flat
+}
+
+// Whether each place around this one is of a flat.
+#[inline(always)]
+fn are_flat_around(flows: &[FlowByte], width: usize, k: usize) -> bool
+    requires { IsInner width (length flows.now) k }
+    ensures { IsTrue result → (d : Dir) → flow_in flows.now (place_by width k d) ≡ Flat }
+{
+    is_flat(flows, k - 1)
+        && is_flat(flows, k + 1)
+        && is_flat(flows, k - width - 1)
+        && is_flat(flows, k - width)
+        && is_flat(flows, k - width + 1)
+        && is_flat(flows, k + width - 1)
+        && is_flat(flows, k + width)
+        && is_flat(flows, k + width + 1)
 }
 
 #[inline(always)]

@@ -11,7 +11,7 @@ ghost use Rattle.flow_d8.specs.Marks.{mark_at, IsBack, IsIn, Covers, IsMember, I
 use crate::flow::{Flow, back, is_beside};
 use crate::flow_byte::FlowByte;
 use crate::marks::{MEMBER, REACHED, Run, mark};
-use crate::tiles::Tiles;
+use crate::tiles::{Stride, Tiles};
 use lattice::Dir;
 use std::alloc::{AllocError, Global};
 
@@ -86,6 +86,7 @@ pub(crate) fn are_deep(alloc: Global, tiles: &Tiles, wave: &[u32]) -> Result<Vec
 }
 
 /// Reaches the members in no wave whose step in the direction leads to the wave: lists them, and directs them by that step.
+#[inline(never)]
 pub(crate) fn reach(
     tiles: &Tiles,
     wave: &[u32],
@@ -103,45 +104,16 @@ pub(crate) fn reach(
     ensures reaches { Reaches (by_of tiles.now) wave.now direction marks.old next.old.items flows.old marks.new next.new.items flows.new }
     ensures passed { OnOk result ((i : ℕ) → i < length wave.now → mark_at marks.new (by_of tiles.now (slice_index_or wave.now i 0) (back_of direction)) ≡ 2 → ⊥) }
 {
+    let to_wave = back(direction);
+    let stride = Stride::new(tiles.side(), to_wave);
     for i in 0..wave.len() {
-        reach_from(
-            tiles,
-            wave[i] as usize,
-            deep[i],
-            direction,
-            marks,
-            next,
-            flows,
-        )?;
+        let to = tiles.step(wave[i] as usize, to_wave, stride, deep[i]);
+        if mark(marks, to) != MEMBER {
+            continue;
+        }
+        next.push(tiles.short(to))?;
+        marks[to] = REACHED;
+        flows[to] = FlowByte::of(Flow::FlatTo(direction));
     }
-    Ok(())
-}
-
-// .. to this sample of the wave.
-#[inline(always)]
-fn reach_from(
-    tiles: &Tiles,
-    from: usize,
-    deep: bool,
-    direction: Dir,
-    marks: &mut [u8],
-    next: &mut Vec<u32>,
-    flows: &mut [FlowByte],
-) -> Result<(), AllocError>
-    requires tiles { length marks.old ≡ count_of tiles.now }
-    requires whole { length flows.old ≡ length marks.old }
-    requires from { from < length marks.old }
-    requires deep { IsTrue deep → is_deep tiles.now.side (from % (tiles.now.side * tiles.now.side)) ≡ true }
-    requires back { IsBack (by_of tiles.now) (length marks.old) from }
-    ensures reaches { (wave : List ℕ) → Lists wave from → Reaches (by_of tiles.now) wave direction marks.old next.old.items flows.old marks.new next.new.items flows.new }
-    ensures passed { OnOk result (mark_at marks.new (by_of tiles.now from (back_of direction)) ≡ 2 → ⊥) }
-{
-    let to = tiles.step(from, back(direction), deep);
-    if mark(marks, to) != MEMBER {
-        return Ok(());
-    }
-    next.push(tiles.short(to))?;
-    marks[to] = REACHED;
-    flows[to] = FlowByte::of(Flow::FlatTo(direction));
     Ok(())
 }

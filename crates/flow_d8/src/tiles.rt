@@ -6,6 +6,7 @@ ghost use Rattle.lattice.specs.Lattice.{Holds, IsIndexOf};
 ghost use Rattle.std.specs.List.{AllAdjacentBelow, list_any};
 ghost use Rattle.lattice.specs.Lattice.{IsBefore};
 ghost use Rattle.flow_d8.specs.Places.{IsInner, place_by};
+ghost use Rattle.flow_d8.specs.Strides.{IsStride};
 ghost use Rattle.flow_d8.specs.Filled.{number_of, is_deep};
 ghost use Rattle.flow_d8.specs.Tiles.{AreTiles, count_of, place_of, by_of, IsInTile, IsSampleOf, IsFirst, no_corner};
 
@@ -198,31 +199,21 @@ impl Tiles {
         Some((k - (column - 2), k + (n - 3 - column)))
     }
 
-    /// The first sample of the point one step away; past all samples where no tile holds it. By an addition where the sample is
+    /// The first sample of the point one step away; past all samples where no tile holds it. By the stride where the sample is
     /// said to lie deep in its tile.
     #[inline(always)]
-    pub(crate) fn step(&self, k: usize, direction: Dir, deep: bool) -> usize
+    pub(crate) fn step(&self, k: usize, direction: Dir, stride: Stride, deep: bool) -> usize
         requires k { k < count_of self.now }
+        requires stride { IsStride self.now.side direction stride }
         requires deep { IsTrue deep → is_deep self.now.side (k % (self.now.side * self.now.side)) ≡ true }
         ensures value { result ≡ by_of self.now k direction }
         ensures first { result < count_of self.now → IsFirst self.now result }
     {
         if deep {
-            return self.deep_step(k, direction);
+            let _valid = self.side();
+            return k + stride.ahead - stride.behind;
         }
         self.beside(k, direction)
-    }
-
-    #[inline(always)]
-    fn deep_step(&self, k: usize, direction: Dir) -> usize
-        requires k { k < count_of self.now }
-        requires deep { is_deep self.now.side (k % (self.now.side * self.now.side)) ≡ true }
-        ensures value { result ≡ by_of self.now k direction }
-        ensures first { result < count_of self.now → IsFirst self.now result }
-    {
-        let side = self.side();
-        let count = self.count();
-        place(side.samples() as usize, k, direction, count)
     }
 
     /// The first sample of the point one step away; past all samples where no tile holds it.
@@ -292,6 +283,34 @@ fn latitude(corner: Corner) -> i16
     ensures { IsTrue (is_corner corner) }
 {
     corner.lat
+}
+
+/// How far a step leads over samples deep in a tile.
+#[derive(Clone, Copy)]
+pub(crate) struct Stride {
+    ahead: usize,
+    behind: usize,
+}
+
+impl Stride {
+    /// In the direction.
+    #[inline(always)]
+    pub(crate) fn new(side: Side, direction: Dir) -> Stride
+        ensures { IsStride side direction result }
+    {
+        let n = side.samples() as usize;
+        let (ahead, behind) = match direction {
+            Dir::East => (1, 0),
+            Dir::SouthEast => (n + 1, 0),
+            Dir::South => (n, 0),
+            Dir::SouthWest => (n, 1),
+            Dir::West => (0, 1),
+            Dir::NorthWest => (0, n + 1),
+            Dir::North => (0, n),
+            Dir::NorthEast => (1, n),
+        };
+        Stride { ahead, behind }
+    }
 }
 
 /// Where a step leads, in rows of this width.

@@ -1,9 +1,13 @@
-use Rattle.std.proofs.Common.{◌≡◌, get_or, inl, inr, refl, subst, arith}
+use Rattle.std.proofs.Common.{◌≡◌, get_or, inl, inr, refl, sym, ap, ◌∙◌, subst, set, arith}
 use Rattle.std.proofs.lemmas.Bool.{cases_eq}
+use Rattle.std.proofs.lemmas.List.{get_or-set_same}
+use Rattle.flow_d8.specs.Prelude.{FlatTo}
 use Rattle.flow_d8.specs.Places.{back_of}
-use Rattle.flow_d8.specs.Marks.{mark_at}
+use Rattle.flow_d8.specs.Marks.{mark_at, Reaches}
 use Rattle.flow_d8.specs.Tiles.{by_of}
-use Rattle.flow_d8.proofs.Waves.Marking.{reaches_same, reaches_on, reaches_two}
+use Rattle.flow_d8.proofs.Steps.StepBack.{back_twice}
+use Rattle.flow_d8.proofs.Waves.Listing.{IsLonger, longer_of}
+use Rattle.flow_d8.proofs.Waves.Marking.{reaches_same, reaches_one, reaches_on, reaches_two, in_range}
 use Rattle.flow_d8.proofs.spreading.reach.Goals as goal
 
 pub loop-i-init : goal.loop-i-init
@@ -12,22 +16,48 @@ loop-i-init c = record {
   passed = λ j less. absurd (omega arith);
 }
 
+pub loop-i-preserved-then-mark-ne-MEMBER : goal.loop-i-preserved-then-mark-ne-MEMBER
+loop-i-preserved-then-mark-ne-MEMBER c =
+    let was = c.loop-i.invariant in
+    let by = by_of c.args.tiles.now in
+    let wave = c.args.wave.now in
+    let value = c.step-to.ensures.value ∙ ap (by (get_or wave c.loop-i.i 0)) c.back-to_wave.ensures in
+    record {
+      reaches = was.reaches;
+      passed = λ j less two. elim (cases_eq j c.loop-i.i) [
+        | inl same ↦ absurd (c.if-mark-ne-MEMBER.true (c.mark.ensures ∙ ap (mark_at c.loop-i.marks) value ∙ subst (λ n. mark_at c.loop-i.marks (by (get_or wave n 0) (back_of c.args.direction)) ≡ 2) same two))
+        | inr other ↦ was.passed j (omega arith) two
+      ];
+    }
+
 pub loop-i-preserved : goal.loop-i-preserved
 loop-i-preserved c =
     let was = c.loop-i.invariant in
     let by = by_of c.args.tiles.now in
     let wave = c.args.wave.now in
-    let step = c.reach_from.ensures.reaches wave (c.loop-i.i, (c.loop-i-test.true, refl)) in
+    let d = c.args.direction in
+    let from = get_or wave c.loop-i.i 0 in
+    let to = by from (back_of d) in
+    let marks = c.loop-i.marks in
+    let flows = c.loop-i.flows in
+    let next = c.loop-i.next.items in
+    let value : c.step-to.result ≡ to = c.step-to.ensures.value ∙ ap (by from) c.back-to_wave.ensures in
+    let two : mark_at marks to ≡ 2 = ap (mark_at marks) (sym value) ∙ sym c.mark.ensures ∙ c.if-mark-ne-MEMBER.false in
+    let home = ap (by to) (sym (back_twice d)) ∙ c.requires.back c.loop-i.i c.loop-i-test.true (back_of d) (omega (arith, in_range marks to 2 two (omega arith), was.reaches.whole)) in
+    let step : Reaches by wave d marks next flows (set marks c.step-to.result 0) c.push.new.self.items (set flows c.step-to.result c.of.result) =
+    subst (λ f. Reaches by wave d marks next flows (set marks c.step-to.result 0) c.push.new.self.items (set flows c.step-to.result f)) (sym c.of.ensures)
+    (subst (λ n. Reaches by wave d marks next flows (set marks n 0) c.push.new.self.items (set flows n (FlatTo d))) (sym value)
+    (reaches_one by marks next c.push.new.self.items flows from d home (omega (arith, was.reaches.whole, was.reaches.flows_whole, c.requires.whole)) two
+    (subst (IsLonger next c.push.new.self.items) (c.short.ensures ∙ value) (longer_of next c.push.new.self.items c.short.result c.in_ok-push.ensures.items)) wave (c.loop-i.i, (c.loop-i-test.true, refl)))) in
+    let here : mark_at (set marks c.step-to.result 0) to ≡ 0 = subst (λ n. mark_at (set marks n 0) to ≡ 0) (sym value) (get_or-set_same marks to 0 3 (in_range marks to 2 two (omega arith))) in
     record {
-      reaches = reaches_on by wave c.args.direction c.args.marks.now c.args.next.now.items c.args.flows.now c.loop-i.marks c.loop-i.next.items c.loop-i.flows
-          c.reach_from.new.marks c.reach_from.new.next.items c.reach_from.new.flows was.reaches step;
-      passed = λ j less two. elim (cases_eq j c.loop-i.i) [
-        | inl same ↦ c.in_ok-reach_from.ensures.passed (subst (λ n. mark_at c.reach_from.new.marks (by (get_or wave n 0) (back_of c.args.direction)) ≡ 2) same two)
-        | inr other ↦ was.passed j (omega arith) (reaches_two by wave c.args.direction c.loop-i.marks c.loop-i.next.items c.loop-i.flows
-            c.reach_from.new.marks c.reach_from.new.next.items c.reach_from.new.flows step (by (get_or wave j 0) (back_of c.args.direction)) two)
+      reaches = reaches_on by wave d c.args.marks.now c.args.next.now.items c.args.flows.now marks next flows _ _ _ was.reaches step;
+      passed = λ j less held. elim (cases_eq j c.loop-i.i) [
+        | inl same ↦ absurd (omega (arith, here, subst (λ n. mark_at (set marks c.step-to.result 0) (by (get_or wave n 0) (back_of d)) ≡ 2) same held))
+        | inr other ↦ was.passed j (omega arith) (reaches_two by wave d marks next flows _ _ _ step (by (get_or wave j 0) (back_of d)) held)
       ];
     }
 
-pub returns-in_err-reach_from-clause-reaches : goal.returns-in_err-reach_from-clause-reaches
-returns-in_err-reach_from-clause-reaches c = reaches_on (by_of c.args.tiles.now) c.args.wave.now c.args.direction c.args.marks.now c.args.next.now.items c.args.flows.now c.loop-i.marks c.loop-i.next.items c.loop-i.flows
-    c.reach_from.new.marks c.reach_from.new.next.items c.reach_from.new.flows c.loop-i.invariant.reaches (c.reach_from.ensures.reaches c.args.wave.now (c.loop-i.i, (c.loop-i-test.true, refl)))
+pub returns-in_err-push-clause-reaches : goal.returns-in_err-push-clause-reaches
+returns-in_err-push-clause-reaches c =
+    subst (λ n. Reaches (by_of c.args.tiles.now) c.args.wave.now c.args.direction c.args.marks.now c.args.next.now.items c.args.flows.now c.loop-i.marks n c.loop-i.flows) (sym c.in_err-push.ensures.items) c.loop-i.invariant.reaches

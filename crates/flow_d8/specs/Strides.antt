@@ -1,0 +1,11 @@
+-- How far steps lead over samples deep in a tile.
+use Rattle.std.specs.Prelude.{◌≡◌, ℕ, ◌+◌, ◌-◌, ◌≤◌}
+use Rattle.flow_d8.specs.Prelude.{Dir}
+use Rattle.flow_d8.specs.declared.tiles.Stride.{Stride}
+use Rattle.flow_d8.specs.Places.{place_by}
+
+-- where a step leads, by how far ahead and how far behind
+pub record IsStride (n : ℕ) (d : Dir) (s : Stride) : Type 0 where
+  pub ahead : s.ahead ≤ n + 1
+  pub behind : s.behind ≤ n + 1
+  pub at : (k : ℕ) → n + 1 ≤ k → place_by n k d ≡ k + s.ahead - s.behind
