@@ -1,12 +1,10 @@
 //! Waves over a flat.
-ghost use Rattle.std.specs.Prelude.{◌≡◌, ℕ, ◌<◌, ◌*◌, ◌%◌, true, IsTrue, IfOk, OnOk, List, length, slice_index_or};
-ghost use Rattle.lattice.specs.declared.direction.Dir.{Dir};
-ghost use Rattle.flow_d8.specs.Filled.{is_deep};
+ghost use Rattle.std.specs.Prelude.{◌≡◌, ℕ, ◌<◌, IfOk, OnOk, length, slice_index_or};
 ghost use Rattle.flow_d8.specs.Tiles.{count_of, by_of};
 ghost use Rattle.flow_d8.specs.declared.flow.Flow.TheVariants.{Unknown};
 ghost use Rattle.flow_d8.specs.Flows.{IsBeside};
 ghost use Rattle.flow_d8.specs.Places.{back_of};
-ghost use Rattle.flow_d8.specs.Marks.{mark_at, IsBack, IsIn, Covers, IsMember, IsFirstWave, Lists, Begins, AreDeep, Reaches};
+ghost use Rattle.flow_d8.specs.Marks.{mark_at, IsBack, IsIn, Covers, IsMember, IsFirstWave, Begins, AreDeep, Reaches};
 
 use crate::flow::{Flow, back, is_beside};
 use crate::flow_byte::FlowByte;

@@ -1,6 +1,4 @@
-use Rattle.std.proofs.Common.{◌≡◌, ◌+◌, ◌≤◌, sym, ◌∙◌, arith}
-use Rattle.flow_d8.specs.Tiles.{by_of}
-use Rattle.flow_d8.specs.Places.{IsInner}
+use Rattle.std.proofs.Common.{sym, ◌∙◌}
 use Rattle.flow_d8.proofs.Samples.DeepSteps.{deep_by, deep_inner_at, deep_first}
 use Rattle.flow_d8.proofs.tiles.Tiles.step.Goals as goal
 
