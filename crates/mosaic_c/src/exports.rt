@@ -1,23 +1,30 @@
 //! What C calls. Each answers 0, or the number of a refusal; none asks for more than `include/mosaic.h` says.
-ghost use Rattle.std.specs.Prelude.{◌≡◌, ℕ, None, IsOk};
+ghost use Rattle.std.specs.Prelude.{◌≡◌, ℕ, nat_le, if◌then◌else◌, None, length};
+ghost use Rattle.lattice.specs.Corners.{Corner};
+ghost use Rattle.lattice.specs.declared.point.Point.{Point};
+ghost use Rattle.drainage.specs.TileLevels.{IsLevelOrVoid};
 ghost use Rattle.engine.specs.State.{Contents};
 ghost use Rattle.image_disk.specs.Images.{sectors_in, image_in};
+ghost use Rattle.lattice.specs.Ground.{metres, terrain};
+ghost use Rattle.lattice.specs.Height.{height_of};
+ghost use Rattle.lattice.specs.Terrain.{IsFilledLevel};
 ghost use Rattle.store.specs.Standing.{StandsFor};
 ghost use Rattle.tile_flood.specs.Raising.{AreTileLevels};
-ghost use Rattle.watershed.specs.Questions.{AreTileCounts, AreTileDirections, IsAnswered, DrainsBy};
-ghost use Rattle.lattice.specs.Ground.{terrain};
-ghost use Rattle.lattice.specs.Terrain.{IsFilledLevel};
-ghost use Rattle.windows.specs.Windows.{AreOfAll, AreLevelsTo, AreHeightsTo, AreDirectionsTo};
-ghost use Rattle.mosaic_c.specs.Sessions.{HasIn, Tells};
+ghost use Rattle.watershed.specs.Questions.{AreTileCounts, AreTileDirections, IsAnswered, IsCodeOrNone, DrainsBy};
+ghost use Rattle.windows.specs.Results.{OfAny, OfCopy, OfPoint, refused_corner};
+ghost use Rattle.windows.specs.Windows.{AreOfAll, IsShed, refused_at_once};
+ghost use Rattle.mosaic_c.specs.Sessions.{HasIn, Tells, Told, ToldLine};
 
 use crate::handle::Handle;
 use crate::session::Session;
 use image_disk::ImageDisk;
-use lattice::{Corner, Point, Refusal};
+use lattice::{Point, Refusal};
 use std::alloc::Global;
 use std::mem::ManuallyDrop;
 use store::Store;
-use windows::Window;
+use windows::{
+    Course, Direction, Each, Elevation, Fill, Level, Question, Tile, Upstream, Watershed, Window,
+};
 
 /// Opens the store whose image these bytes are, and closes what the handle held. They stay as they are, and readable, until it
 /// is closed.
@@ -84,15 +91,10 @@ pub extern "C" fn mosaic_fill(
     x: i32,
     into: &mut i16,
 ) -> u8
-    ensures { Tells held.old held.new result
-        (λ contents. IsFilledLevel (terrain contents.mosaic) (record { y = y; x = x }) into.new) }
+    ensures { let p : Point = record { y = y; x = x } in Told held.old held.new result into.new None
+        (λ m answer. OfPoint m p (IsFilledLevel (terrain m) p) answer) }
 {
-    let Some(mut session) = held.take(alloc) else {
-        return Refusal::Failed.number();
-    };
-    let answer = windows::fill(&mut session.store, Point { y, x }, into);
-    held.put(session);
-    number_of(answer)
+    tell(alloc, held, &Fill(Point { y, x }), &mut [], into)
 }
 
 /// The code of the direction of a point.
@@ -104,15 +106,33 @@ pub extern "C" fn mosaic_direction(
     x: i32,
     into: &mut u8,
 ) -> u8
-    ensures { Tells held.old held.new result (λ contents. IsAnswered contents.mosaic (record { y = y; x = x })
-        (λ level. DrainsBy (terrain contents.mosaic) level (record { y = y; x = x }) into.new)) }
+    ensures { let p : Point = record { y = y; x = x } in Told held.old held.new result into.new None
+        (λ m answer. OfPoint m p (λ code. IsAnswered m p (λ level. DrainsBy (terrain m) level p code)) answer) }
 {
-    let Some(mut session) = held.take(alloc) else {
-        return Refusal::Failed.number();
-    };
-    let answer = windows::direction(&mut session.store, Point { y, x }, into);
-    held.put(session);
-    number_of(answer)
+    tell(alloc, held, &Direction(Point { y, x }), &mut [], into)
+}
+
+/// Which of a window's points drain through a point, and how many points do.
+#[unsafe(no_mangle)]
+pub extern "C" fn mosaic_watershed(
+    alloc: Global,
+    held: &mut Handle,
+    y: i32,
+    x: i32,
+    window: &Window,
+    count: &mut u64,
+    into: &mut [u8],
+) -> u8
+    ensures { let p : Point = record { y = y; x = x } in Told held.old held.new result count.new (refused_at_once window.now (length into.old))
+        (λ m answer. OfPoint m p (IsShed m p window.now into.new) answer) }
+{
+    tell(
+        alloc,
+        held,
+        &Watershed(Point { y, x }, *window),
+        into,
+        count,
+    )
 }
 
 /// The heights of a window's points.
@@ -123,15 +143,10 @@ pub extern "C" fn mosaic_heights(
     window: &Window,
     into: &mut [i16],
 ) -> u8
-    ensures { Tells held.old held.new result
-        (λ contents. AreOfAll contents.mosaic window.now (AreHeightsTo contents.mosaic window.now) into.new) }
+    ensures { Told held.old held.new result (tt {0}) (refused_at_once window.now (length into.old))
+        (λ m answer. OfAny (λ _. AreOfAll window.now (λ p h. h ≡ metres (height_of m p)) into.new) answer) }
 {
-    let Some(mut session) = held.take(alloc) else {
-        return Refusal::Failed.number();
-    };
-    let answer = windows::heights(&mut session.store, *window, into);
-    held.put(session);
-    number_of(answer)
+    tell(alloc, held, &Each(Elevation, *window), into, &mut ())
 }
 
 /// The filled levels of a window's points.
@@ -142,15 +157,10 @@ pub extern "C" fn mosaic_levels(
     window: &Window,
     into: &mut [i16],
 ) -> u8
-    ensures { Tells held.old held.new result
-        (λ contents. AreOfAll contents.mosaic window.now (AreLevelsTo contents.mosaic window.now) into.new) }
+    ensures { Told held.old held.new result (tt {0}) (refused_at_once window.now (length into.old))
+        (λ m answer. OfAny (λ _. AreOfAll window.now (IsLevelOrVoid m) into.new) answer) }
 {
-    let Some(mut session) = held.take(alloc) else {
-        return Refusal::Failed.number();
-    };
-    let answer = windows::levels(&mut session.store, *window, into);
-    held.put(session);
-    number_of(answer)
+    tell(alloc, held, &Each(Level, *window), into, &mut ())
 }
 
 /// The codes of the directions of a window's points.
@@ -161,15 +171,10 @@ pub extern "C" fn mosaic_directions(
     window: &Window,
     into: &mut [u8],
 ) -> u8
-    ensures { Tells held.old held.new result
-        (λ contents. AreOfAll contents.mosaic window.now (AreDirectionsTo contents.mosaic window.now) into.new) }
+    ensures { Told held.old held.new result (tt {0}) (refused_at_once window.now (length into.old))
+        (λ m answer. OfAny (λ _. AreOfAll window.now (IsCodeOrNone m) into.new) answer) }
 {
-    let Some(mut session) = held.take(alloc) else {
-        return Refusal::Failed.number();
-    };
-    let answer = windows::directions(&mut session.store, *window, into);
-    held.put(session);
-    number_of(answer)
+    tell(alloc, held, &Each(Course, *window), into, &mut ())
 }
 
 /// The filled levels of all samples of a tile.
@@ -181,18 +186,10 @@ pub extern "C" fn mosaic_tile_levels(
     lon: i16,
     into: &mut [i16],
 ) -> u8
-    ensures { Tells held.old held.new result
-        (λ contents. AreTileLevels contents.mosaic (record { lat = lat; lon = lon }) into.new) }
+    ensures { let c : Corner = record { lat = lat; lon = lon } in Told held.old held.new result (tt {0}) (refused_corner c)
+        (λ m answer. OfCopy m c (AreTileLevels m c) into.new answer) }
 {
-    let Some(corner) = Corner::new(lat, lon) else {
-        return Refusal::BadName.number();
-    };
-    let Some(mut session) = held.take(alloc) else {
-        return Refusal::Failed.number();
-    };
-    let answer = windows::tile_levels(&mut session.store, corner, into);
-    held.put(session);
-    number_of(answer)
+    tell(alloc, held, &Tile(Level, lat, lon), into, &mut ())
 }
 
 /// The codes of the directions of all samples of a tile.
@@ -204,18 +201,10 @@ pub extern "C" fn mosaic_tile_directions(
     lon: i16,
     into: &mut [u8],
 ) -> u8
-    ensures { Tells held.old held.new result
-        (λ contents. AreTileDirections contents.mosaic (record { lat = lat; lon = lon }) into.new) }
+    ensures { let c : Corner = record { lat = lat; lon = lon } in Told held.old held.new result (tt {0}) (refused_corner c)
+        (λ m answer. OfCopy m c (AreTileDirections m c) into.new answer) }
 {
-    let Some(corner) = Corner::new(lat, lon) else {
-        return Refusal::BadName.number();
-    };
-    let Some(mut session) = held.take(alloc) else {
-        return Refusal::Failed.number();
-    };
-    let answer = windows::tile_directions(&mut session.store, corner, into);
-    held.put(session);
-    number_of(answer)
+    tell(alloc, held, &Tile(Course, lat, lon), into, &mut ())
 }
 
 /// How many points drain through each sample of a tile.
@@ -227,18 +216,35 @@ pub extern "C" fn mosaic_upstream(
     lon: i16,
     into: &mut [u32],
 ) -> u8
-    ensures { Tells held.old held.new result
-        (λ contents. AreTileCounts contents.mosaic (record { lat = lat; lon = lon }) into.new) }
+    ensures { let c : Corner = record { lat = lat; lon = lon } in Told held.old held.new result (tt {0}) (refused_corner c)
+        (λ m answer. OfCopy m c (AreTileCounts m c) into.new answer) }
 {
-    let Some(corner) = Corner::new(lat, lon) else {
-        return Refusal::BadName.number();
-    };
+    tell(alloc, held, &Tile(Upstream, lat, lon), into, &mut ())
+}
+
+/// The reply to the line of a question, and how many bytes it has.
+#[unsafe(no_mangle)]
+pub extern "C" fn mosaic_ask(
+    alloc: Global,
+    held: &mut Handle,
+    line: &[u8],
+    count: &mut usize,
+    into: &mut [u8],
+) -> u8
+    ensures { ToldLine held.old held.new line.now result count.new into.new }
+{
     let Some(mut session) = held.take(alloc) else {
         return Refusal::Failed.number();
     };
-    let answer = windows::upstream(&mut session.store, corner, into);
+    let answer = windows::ask(alloc, &mut session.store, line, into);
     held.put(session);
-    number_of(answer)
+    match answer {
+        Ok(needed) => {
+            *count = needed;
+            number_fitting(needed, into.len())
+        }
+        Err(refusal) => refusal.number(),
+    }
 }
 
 // Closes the store, where one is open.
@@ -250,11 +256,37 @@ fn close(alloc: Global, held: &mut Handle)
     }
 }
 
-fn number_of(answer: Result<(), Refusal>) -> u8
-    ensures { result ≡ 0 → IsOk answer }
+// Asks the question of the store that is held, and keeps it whatever is answered.
+fn tell<Q: Question>(
+    alloc: Global,
+    held: &mut Handle,
+    question: &Q,
+    into: &mut [Q::Element],
+    answer: &mut Q::Answer,
+) -> u8
+    ensures { Told held.old held.new result answer.new (Q.refused_first question.now (length into.old)) (λ m told. Q.says question.now m into.new told) }
 {
-    match answer {
-        Ok(()) => 0,
-        Err(refusal) => refusal.number(),
+    let Some(mut session) = held.take(alloc) else {
+        return Refusal::Failed.number();
+    };
+    let told = question.ask(&mut session.store, into);
+    held.put(session);
+    match told {
+        Ok(value) => {
+            *answer = value;
+            0
+        }
+        Err(why) => why.number(),
+    }
+}
+
+// BadLength's number where there isn't room for so many.
+fn number_fitting(needed: usize, room: usize) -> u8
+    ensures { result ≡ (if nat_le needed room then 0 else 3) }
+{
+    if needed <= room {
+        0
+    } else {
+        Refusal::BadLength.number()
     }
 }

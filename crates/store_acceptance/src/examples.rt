@@ -8,7 +8,7 @@ use std::alloc::Global;
 use std::test::Fail;
 use store::{ArrayVec, Bytes, Command, Corner, Format, MemDisk, Point, Refusal, Store, Version};
 use test_tiles::A;
-use windows::Window;
+use windows::{Each, Level, Question, Window};
 
 // A tile with a pit is imported, its level asked for, and a stream burnt in that drains it; by names of `store` alone.
 fn levels_of_a_pit(alloc: Global) -> Result<(i16, i16), Refusal> {
@@ -93,7 +93,7 @@ fn a_window_of_an_image(rt: HostRuntime) -> Result<(), Fail> {
         rows: 3,
         columns: 3,
     };
-    windows::levels(&mut engine, window, &mut values)?;
+    Each(Level, window).ask(&mut engine, &mut values)?;
     assert!(rt; values == [9, 9, 9, 9, 5, 9, 9, 9, 5]);
     Ok(())
 }

@@ -1,2 +1,4 @@
-pub mod Places
+pub mod Lines
+pub mod Marks
+pub mod Numbers
 pub mod Told

@@ -1,131 +1,219 @@
 -- What an engine's calls tell of its mosaic.
-use Rattle.std.proofs.Common.{◌≡◌, ℕ, ℤ, List, IsTrue, IsFalse, true≢false, refl, sym, ap, ◌∙◌, subst}
+use Rattle.std.proofs.Common.{SFits, w16, to_z, of_z, ◌≡◌, ◌≢◌, ◌+◌, ◌*◌, ◌<◌, ◌≤◌, ℕ, ℤ, List, length, IsTrue, true, true≢false, inl, inr, refl, sym, ap, ◌∙◌, subst, arith}
 use Rattle.std.specs.Global.{Vec}
-use Rattle.std.specs.Prelude.{Result, Ok, Err}
+use Rattle.std.specs.Prelude.{if◌then◌else◌, Option, Some, None, Result, Ok, Err, MatchResult}
+use Rattle.std.proofs.lemmas.Bool.{cases_lt}
+use Rattle.std.proofs.lemmas.Int.{to_z-of_z}
+use Rattle.catalogue.specs.Reading.{HasRisen}
 use Rattle.tile_flood.specs.Raising.{AreTileLevels}
-use Rattle.lattice.specs.Corners.{Corner}
-use Rattle.lattice.specs.Ground.{is_ground, is_height, terrain}
+use Rattle.lattice.specs.Corners.{Corner, is_corner}
+use Rattle.lattice.specs.Ground.{terrain}
 use Rattle.lattice.specs.Height.{height_of}
-use Rattle.lattice.specs.Mosaic.{Mosaic, void}
+use Rattle.lattice.specs.Mosaic.{Mosaic}
 use Rattle.lattice.specs.Terrain.{IsFilledLevel}
 use Rattle.lattice.specs.declared.point.Point.{Point}
 use Rattle.lattice.specs.declared.height.Height.{Height}
-use Rattle.lattice.specs.declared.height.Height.TheVariants as height
 use Rattle.lattice.specs.declared.refusal.Refusal.{Refusal}
-use Rattle.lattice.specs.declared.refusal.Refusal.TheVariants.{NoTile, Outside, Void, Device, NoMemory, Failed}
+use Rattle.lattice.specs.declared.refusal.Refusal.TheVariants.{BadName, BadLength, NoTile, Outside, Void, Device, NoMemory, Failed}
+use Rattle.flow_d8.specs.Drainage.{AreFilledLevels}
+use Rattle.flow_d8.specs.FlowPath.{IsInWatershed}
+use Rattle.flow_d8.proofs.Steps.Nearby.{level_ground}
+use Rattle.drainage.specs.TileLevels.{IsLevelOrVoid}
 use Rattle.watershed.specs.Questions.{IsAnswered, DrainsBy, IsCodeOrNone, AreTileCounts, AreTileDirections}
-use Rattle.engine.specs.Engines.{IsCall, answered}
-use Rattle.engine.specs.Events.{Happens}
+use Rattle.watershed.specs.Runs.{AreRuns}
+use Rattle.watershed.specs.declared.runs.Run.{Run}
+use Rattle.engine.specs.Engines.{IsCall, answered, items_in}
+use Rattle.engine.specs.Events.{Happens, SaysFailed}
 use Rattle.engine.specs.Members.{members}
-use Rattle.engine.specs.Outcomes.{Stays, AnswersNot, ElevatesNot, ExportsNot}
+use Rattle.engine.specs.Outcomes.{Stays, AnswersNot, ElevatesNot, ListsNot, TellsTile}
 use Rattle.engine.specs.State.{Contents, State}
 use Rattle.engine.specs.declared.engine.Engine.{Ghosts}
 use Rattle.engine.specs.declared.event.Event.{Event}
 use Rattle.engine.specs.declared.event.Event.TheVariants as ask
 use Rattle.engine.specs.declared.event.Reply.{Reply}
 use Rattle.engine.specs.declared.event.Reply.TheVariants as reply
-use Rattle.drainage.specs.TileLevels.{IsLevelOrVoid}
-use Rattle.flow_d8.proofs.Steps.Nearby.{level_ground}
-use Rattle.windows.specs.Telling.{Has, Tells}
+use Rattle.engine.proofs.Questions as questions
+use Rattle.windows.specs.Lines.{OnlyAsks}
+use Rattle.windows.specs.Results.{OfAny, OfPoint, OfTile, OfCopy, refused_corner}
+use Rattle.windows.specs.Telling.{Asked, Has, Tells, refusal_of}
+
+risen : (before mid now : ℕ) → before ≤ mid → HasRisen mid now → HasRisen before now
+risen before mid now later up = omega (arith, later, up)
 
 module _ {E : Type 0} (g : Ghosts E) where
   -- nothing was asked
-  pub unasked : (e : E) (Says : Mosaic → Type 0) → ((m : Mosaic) → Says m) → Tells g e e Says
-  unasked e Says all = record { honest = λ h. h; kept = λ h contents has. has; says = λ h contents has. all contents.mosaic }
-
-  -- two runs of calls
-  pub then_told : (a b c : E) (P Q R : Mosaic → Type 0) → Tells g a b P → Tells g b c Q → ((m : Mosaic) → P m → Q m → R m) → Tells g a c R
-  then_told a b c P Q R first last both = record {
-    honest = λ h. first.honest (last.honest h);
-    kept = λ h contents has. last.kept h contents (first.kept (last.honest h) contents has);
-    says = λ h contents has. both contents.mosaic (first.says (last.honest h) contents has) (last.says h contents (first.kept (last.honest h) contents has));
+  pub unasked : (e : E) (Says : Mosaic → Type 0) → ((m : Mosaic) → Says m) → Tells g e e 0 None Says
+  unasked e Says all = record {
+    honest = λ h. h;
+    kept = λ h contents has. has;
+    says = λ h contents has. all contents.mosaic;
+    had_failed = λ some failed. absurd (omega (arith, some));
+    failed = λ none. cc;
+    device = λ none. cc;
+    stays = λ other. refl;
+    later = omega arith;
   }
 
-  pub so_told : (a b : E) (P Q : Mosaic → Type 0) → Tells g a b P → ((m : Mosaic) → P m → Q m) → Tells g a b Q
-  so_told a b P Q told more = record { honest = told.honest; kept = told.kept; says = λ h contents has. more contents.mosaic (told.says h contents has) }
+  -- some questions, and then others
+  pub then_told : (a b c : E) (i j : ℕ) (refused : Option Refusal) (P Q R : Mosaic → Type 0) → Tells g a b i None P → Tells g b c j refused Q → ((m : Mosaic) → P m → Q m → R m) → Tells g a c (i + j) refused R
+  then_told a b c i j refused P Q R first last both =
+      let same : g.has_failed b ≡ g.has_failed a = first.stays (λ none. cc) in
+      record {
+        honest = λ h. first.honest (last.honest h);
+        kept = λ h contents has. last.kept h contents (first.kept (last.honest h) contents has);
+        says = λ h contents has. both contents.mosaic (first.says (last.honest h) contents has) (last.says h contents (first.kept (last.honest h) contents has));
+        had_failed = λ some failed. elim (cases_lt 0 j) [
+          | inl more ↦ last.had_failed more (same ∙ failed)
+          | inr none ↦ let no : None ≡ Some Failed = first.had_failed (omega (arith, some, none)) failed in cc
+        ];
+        failed = λ is. sym same ∙ last.failed is;
+        device = λ is. risen (g.failures a) (g.failures b) (g.failures c) first.later (last.device is);
+        stays = λ other. last.stays other ∙ same;
+        later = omega (arith, first.later, last.later);
+      }
 
-  -- one call, which leaves the contents
-  pub one_call : (a b : E) (event : Event) (answer : Reply) (Says : Mosaic → Type 0) → IsCall (members g) a event answer b
-      → ((s t : State) → Happens (g.capacity_of a) s event answer t → (t.contents ≡ s.contents) × Says s.contents.mosaic) → Tells g a b Says
-  one_call a b event answer Says call happens = record {
-    honest = call.honest;
-    kept = λ h contents has. let it = call.happens h has.0 has.1.0 in (it.0, (it.1.0, (happens has.0 it.0 it.1.1).0 ∙ has.1.1));
-    says = λ h contents has. let it = call.happens h has.0 has.1.0 in subst (λ (c : Contents). Says c.mosaic) has.1.1 (happens has.0 it.0 it.1.1).1;
+  -- what follows from it, and by another count of some
+  pub so_told : (a b : E) (i j : ℕ) (refused : Option Refusal) (P Q : Mosaic → Type 0) → Tells g a b i refused P → (0 < j → 0 < i) → ((m : Mosaic) → P m → Q m) → Tells g a b j refused Q
+  so_told a b i j refused P Q told some more = record {
+    honest = told.honest;
+    kept = told.kept;
+    says = λ h contents has. more contents.mosaic (told.says h contents has);
+    had_failed = λ any failed. told.had_failed (some any) failed;
+    failed = told.failed;
+    device = told.device;
+    stays = told.stays;
+    later = told.later;
   }
 
-pub stayed : (s t : State) → Stays s t → t.contents ≡ s.contents
+  -- an answer or a refusal that isn't the disk's may be told as another one
+  pub told_as : (a b : E) (n : ℕ) (refused other : Option Refusal) (P Q : Mosaic → Type 0) → Tells g a b n refused P → (refused ≢ Some Failed) × (other ≢ Some Failed) × (refused ≢ Some Device) × (other ≢ Some Device)
+      → ((m : Mosaic) → P m → Q m) → Tells g a b n other Q
+  told_as a b n refused other P Q told not more = record {
+    honest = told.honest;
+    kept = told.kept;
+    says = λ h contents has. more contents.mosaic (told.says h contents has);
+    had_failed = λ any failed. absurd (not.0 (told.had_failed any failed));
+    failed = λ is. absurd (not.1 is);
+    device = λ is. absurd (not.3 is);
+    stays = λ _. told.stays not.2;
+    later = told.later;
+  }
+
+  -- it is asked, where nothing refuses it at once
+  pub as_asked : (a b : E) (first : Option Refusal) (n : ℕ) (refused : Option Refusal) (Says : Mosaic → Type 0) → first ≡ None → Tells g a b n refused Says → Asked g a b first n refused Says
+  as_asked a b first n refused Says none told = subst (λ (f : Option Refusal). Asked g a b f n refused Says) (sym none) told
+
+  -- a refusal that is handed on
+  pub still_refused : {S T : Type 0} (a b : E) (n : ℕ) (found : Result S Refusal) (result : Result T Refusal) (r : Refusal) → found ≡ Err r → result ≡ Err r → (P : Mosaic → S → Type 0) (Q : Mosaic → T → Type 0)
+      → Tells g a b n (refusal_of found) (λ m. OfAny (P m) found) → Tells g a b n (refusal_of result) (λ m. OfAny (Q m) result)
+  still_refused {S} {T} a b n found result r was is P Q told =
+      subst (λ (x : Result T Refusal). Tells g a b n (refusal_of x) (λ m. OfAny (Q m) x)) (sym is)
+      (so_told a b n n (Some r) _ _ (subst (λ (x : Result S Refusal). Tells g a b n (refusal_of x) (λ m. OfAny (P m) x)) was told) (λ some. some) (λ m of_call. of_call))
+
+  module _ {T : Type 0} (a b : E) (event : Event) (tell : T → Reply) (is : questions.IsAnswered event tell) (fails : (answer : Reply) → SaysFailed event answer → answer ≡ reply.Refused Failed) where
+    -- one call, which leaves the contents
+    pub asked_once : (result : Result T Refusal) (Says : Mosaic → Type 0) → IsCall (members g) a event (answered tell result) b
+        → ((s t : State) → Happens (g.capacity_of a) s event (answered tell result) t → (t.contents ≡ s.contents) × Says s.contents.mosaic) → Tells g a b 1 (refusal_of result) Says
+    asked_once result Says call happens =
+        let had = case_had result call in
+        record {
+          honest = call.honest;
+          kept = λ h contents has. let it = call.happens h has.0 has.1.0 in (it.0, (it.1.0, (happens has.0 it.0 it.1.1).0 ∙ has.1.1));
+          says = λ h contents has. let it = call.happens h has.0 has.1.0 in subst (λ (c : Contents). Says c.mosaic) has.1.1 (happens has.0 it.0 it.1.1).1;
+          had_failed = λ any failed. had.0 failed;
+          failed = had.1;
+          device = had.2;
+          stays = had.3;
+          later = call.failures.later;
+        }
+      where
+        case_had : (result : Result T Refusal) → IsCall (members g) a event (answered tell result) b
+            → (IsTrue (g.has_failed a) → refusal_of result ≡ Some Failed) × (refusal_of result ≡ Some Failed → IsTrue (g.has_failed a))
+            × (refusal_of result ≡ Some Device → HasRisen (g.failures a) (g.failures b)) × (refusal_of result ≢ Some Device → g.has_failed b ≡ g.has_failed a)
+        case_had (Ok x) call = (
+          (λ failed. absurd (is.no_refusal x Failed (fails (tell x) (call.told.says failed)))),
+          (λ none. cc),
+          (λ none. cc),
+          (λ other. call.told.after_is ∙ is.goes_on (g.has_failed a) x),
+        )
+        case_had (Err r) call = (
+          (λ failed. let same : reply.Refused r ≡ reply.Refused Failed = fails (reply.Refused r) (call.told.says failed) in cc),
+          (λ is_failed. call.told.had_failed (let same : r ≡ Failed = cc in ap (λ (x : Refusal). reply.Refused x) same)),
+          (λ is_device. call.failures.device (let same : r ≡ Device = cc in ap (λ (x : Refusal). reply.Refused x) same)),
+          (λ other. call.told.after_is ∙ is.passes (g.has_failed a) r (λ device. other (ap (λ (x : Refusal). Some x) device))),
+        )
+
+stayed : (s t : State) → Stays s t → t.contents ≡ s.contents
 stayed s t stays = ap (λ (u : State). u.contents) stays.same
 
--- a question that is refused leaves the contents
-pub unanswered : (s t : State) (p : Point) (r : Refusal) → AnswersNot s p r t → t.contents ≡ s.contents
-unanswered s t p Outside not = stayed s t not.0
-unanswered s t p Void not = stayed s t not.0
-unanswered s t p NoMemory not = stayed s t not
-unanswered s t p Failed not = ap (λ (u : State). u.contents) not.same
-unanswered s t p Device not = ap (λ (u : State). u.contents) not.fails
-unanswered s t p r not = absurd not
+pub corner_is : (lat lon : ℤ) → SFits w16 lat → SFits w16 lon → ◌≡◌ {A = Corner} (record { lat = to_z w16 (of_z w16 lat); lon = to_z w16 (of_z w16 lon) }) (record { lat = lat; lon = lon })
+corner_is lat lon fits_lat fits_lon =
+    subst (λ (a : ℤ). ◌≡◌ {A = Corner} (record { lat = to_z w16 (of_z w16 lat); lon = to_z w16 (of_z w16 lon) }) (record { lat = a; lon = to_z w16 (of_z w16 lon) })) (to_z-of_z w16 lat fits_lat) refl
+    ∙ ap (λ (b : ℤ). record { lat = lat; lon = b }) (to_z-of_z w16 lon fits_lon)
 
--- the filled level of a point, and of one that isn't ground
-pub level_is : (m : Mosaic) (p : Point) (level : ℤ) → IsFilledLevel (terrain m) p level → IsLevelOrVoid m p level
-level_is m p level filled = record {
-  on_ground = λ solid. filled;
-  elsewhere = λ off. absurd (true≢false (sym (level_ground m p level filled) ∙ off));
-}
+-- a corner that there is isn't refused
+pub corner_there : (c : Corner) → IsTrue (is_corner c) → refused_corner c ≡ None
+corner_there c is = ap (λ b. if b then None else Some BadName) is
 
-pub no_level : (m : Mosaic) (p : Point) → IsFalse (is_ground m p) → IsLevelOrVoid m p void
-no_level m p off = record { on_ground = λ solid. absurd (true≢false (sym solid ∙ off)); elsewhere = λ _. refl }
+-- a question about a point that is refused
+unanswered : {X : Type 0} (Says : X → Type 0) (s t : State) (p : Point) (r : Refusal) → AnswersNot s p r t → (t.contents ≡ s.contents) × OfPoint s.contents.mosaic p Says (Err r)
+unanswered Says s t p Outside not = (stayed s t not.0, not.1)
+unanswered Says s t p Void not = (stayed s t not.0, not.1)
+unanswered Says s t p NoMemory not = (stayed s t not, tt)
+unanswered Says s t p Failed not = (ap (λ (u : State). u.contents) not.same, tt)
+unanswered Says s t p Device not = (ap (λ (u : State). u.contents) not.fails, tt)
+unanswered Says s t p r not = absurd not
 
--- the code of a point's direction, and of one that isn't ground
-pub code_is : (m : Mosaic) (p : Point) (code : ℕ) → IsAnswered m p (λ level. DrainsBy (terrain m) level p code) → IsCodeOrNone m p code
-code_is m p code answered = record {
-  on_ground = λ solid level filled. answered.says level filled;
-  elsewhere = λ off. absurd (true≢false (sym answered.on_ground ∙ off));
-}
+unelevated : (Says : Height → Type 0) (s t : State) (r : Refusal) → ElevatesNot s r t → (t.contents ≡ s.contents) × OfAny Says (Err r)
+unelevated Says s t Failed not = (ap (λ (u : State). u.contents) not.same, tt)
+unelevated Says s t Device not = (ap (λ (u : State). u.contents) not.fails, tt)
+unelevated Says s t r not = absurd not
 
-pub no_code : (m : Mosaic) (p : Point) → IsFalse (is_ground m p) → IsCodeOrNone m p 255
-no_code m p off = record { on_ground = λ solid level filled. absurd (true≢false (sym solid ∙ off)); elsewhere = λ _. refl }
+of_tile : {X : Type 0} (Says : Mosaic → Corner → List X → Type 0) (s t : State) (c : Corner) (result : Result (Vec X) Refusal) → TellsTile Says s c (items_in result) t
+    → (t.contents ≡ s.contents) × OfTile s.contents.mosaic c (Says s.contents.mosaic c) result
+of_tile Says s t c (Ok xs) tells = (stayed s t tells.0, tells.1)
+of_tile Says s t c (Err Failed) not = (ap (λ (u : State). u.contents) not.same, tt)
+of_tile Says s t c (Err Device) not = (ap (λ (u : State). u.contents) not.fails, tt)
+of_tile Says s t c (Err NoMemory) not = (stayed s t not, tt)
+of_tile Says s t c (Err NoTile) not = (stayed s t not.0, not.1)
+of_tile Says s t c (Err r) not = absurd not
 
--- it has no height
-pub outside : (m : Mosaic) (p : Point) → height_of m p ≡ height.Outside → IsFalse (is_ground m p)
-outside m p is = ap is_height is
+unlisted : (s t : State) (r : Refusal) → ListsNot s r t → t.contents ≡ s.contents
+unlisted s t Failed not = ap (λ (u : State). u.contents) not.same
+unlisted s t NoMemory not = stayed s t not
+unlisted s t r not = absurd not
 
-pub voided : (m : Mosaic) (p : Point) → height_of m p ≡ height.Void → IsFalse (is_ground m p)
-voided m p is = ap is_height is
-
--- a tile that isn't told leaves the contents
-pub no_tile : (s t : State) (c : Corner) (r : Refusal) → ExportsNot s c r t → t.contents ≡ s.contents
-no_tile s t c Failed not = ap (λ (u : State). u.contents) not.same
-no_tile s t c Device not = ap (λ (u : State). u.contents) not.fails
-no_tile s t c NoMemory not = stayed s t not
-no_tile s t c NoTile not = stayed s t not.0
-no_tile s t c r not = absurd not
-
--- a height that isn't told leaves them
-pub no_height : (s t : State) (r : Refusal) → ElevatesNot s r t → t.contents ≡ s.contents
-no_height s t Failed not = ap (λ (u : State). u.contents) not.same
-no_height s t Device not = ap (λ (u : State). u.contents) not.fails
-no_height s t r not = absurd not
-
--- what an answer about a point tells: its value on ground, or that there is none
-abbrev pub Told : {X : Type 0} → (Mosaic → Point → X → Type 0) → Mosaic → Point → Result X Refusal → Type 0
-Told Says m p (Ok x) = Says m p x
-Told Says m p (Err Outside) = IsFalse (is_ground m p)
-Told Says m p (Err Void) = IsFalse (is_ground m p)
-Told Says m p (Err r) = Unit {0}
-
-not_told : {X : Type 0} (Says : Mosaic → Point → X → Type 0) (s t : State) (p : Point) (r : Refusal) → AnswersNot s p r t → Told Says s.contents.mosaic p (Err r)
-not_told Says s t p Outside not = outside s.contents.mosaic p not.1
-not_told Says s t p Void not = voided s.contents.mosaic p not.1
-not_told Says s t p r not = tt
-
--- what an answer about a tile tells
-abbrev pub ToldTile : {X : Type 0} → (Mosaic → Corner → List X → Type 0) → Mosaic → Corner → Result (Vec X) Refusal → Type 0
-ToldTile Says m c (Ok xs) = Says m c xs.items
-ToldTile Says m c (Err r) = Unit {0}
-
-abbrev pub ToldHeight : Mosaic → Point → Result Height Refusal → Type 0
-ToldHeight m p (Ok h) = h ≡ height_of m p
-ToldHeight m p (Err r) = Unit {0}
+-- what only asks leaves the contents
+pub leaves : (capacity : ℕ) (s t : State) (event : Event) (answer : Reply) → OnlyAsks event → Happens capacity s event answer t → t.contents ≡ s.contents
+leaves capacity s t (ask.Do c) answer only is = absurd only
+leaves capacity s t ask.Step answer only is = absurd only
+leaves capacity s t ask.Reopen answer only is = absurd only
+leaves capacity s t ask.Count (reply.Count k) only is = ap (λ (u : State). u.contents) is.1
+leaves capacity s t (ask.Elevation p) (reply.Elevation x) only is = stayed s t is.0
+leaves capacity s t (ask.Elevation p) (reply.Refused r) only not = (unelevated (λ h. Unit {0}) s t r not).0
+leaves capacity s t (ask.Fill p) (reply.Fill x) only is = stayed s t is.0
+leaves capacity s t (ask.Fill p) (reply.Refused r) only not = (unanswered {X = ℕ} (λ x. Unit {0}) s t p r not).0
+leaves capacity s t (ask.Direction p) (reply.Direction x) only is = stayed s t is.0
+leaves capacity s t (ask.Direction p) (reply.Refused r) only not = (unanswered {X = ℕ} (λ x. Unit {0}) s t p r not).0
+leaves capacity s t (ask.Trace p) (reply.Trace x) only is = stayed s t is.0
+leaves capacity s t (ask.Trace p) (reply.Refused r) only not = (unanswered {X = ℕ} (λ x. Unit {0}) s t p r not).0
+leaves capacity s t (ask.Watershed p) (reply.Watershed x) only is = stayed s t is.0
+leaves capacity s t (ask.Watershed p) (reply.Refused r) only not = (unanswered {X = ℕ} (λ x. Unit {0}) s t p r not).0
+leaves capacity s t (ask.Export c) (reply.Export x) only is = stayed s t is.0
+leaves capacity s t (ask.Export c) (reply.Refused r) only not = (of_tile {X = ℕ} (λ m k xs. Unit {0}) s t c (Err r) not).0
+leaves capacity s t (ask.Levels c) (reply.Levels x) only is = stayed s t is.0
+leaves capacity s t (ask.Levels c) (reply.Refused r) only not = (of_tile {X = ℕ} (λ m k xs. Unit {0}) s t c (Err r) not).0
+leaves capacity s t (ask.Directions c) (reply.Directions x) only is = stayed s t is.0
+leaves capacity s t (ask.Directions c) (reply.Refused r) only not = (of_tile {X = ℕ} (λ m k xs. Unit {0}) s t c (Err r) not).0
+leaves capacity s t (ask.Upstream c) (reply.Upstream x) only is = stayed s t is.0
+leaves capacity s t (ask.Upstream c) (reply.Refused r) only not = (of_tile {X = ℕ} (λ m k xs. Unit {0}) s t c (Err r) not).0
+leaves capacity s t ask.Tiles (reply.Tiles x) only is = stayed s t is.0
+leaves capacity s t ask.Tiles (reply.Refused r) only not = unlisted s t r not
+leaves capacity s t ask.Sinks (reply.Sinks x) only is = stayed s t is.0
+leaves capacity s t ask.Sinks (reply.Refused r) only not = unlisted s t r not
+leaves capacity s t ask.Info (reply.Info x) only is = stayed s t is.0
+leaves capacity s t ask.Info (reply.Refused r) only not = unlisted s t r not
+leaves capacity s t event answer only is = absurd is
 
 abbrev pub IsLevel : Mosaic → Point → ℤ → Type 0
 IsLevel m p level = IsFilledLevel (terrain m) p level
@@ -133,27 +221,94 @@ IsLevel m p level = IsFilledLevel (terrain m) p level
 abbrev pub IsCode : Mosaic → Point → ℕ → Type 0
 IsCode m p code = IsAnswered m p (λ level. DrainsBy (terrain m) level p code)
 
+abbrev pub AreRunsOf : Mosaic → Point → Vec Run → Type 0
+AreRunsOf m p runs = IsAnswered m p (λ level. AreRuns (IsInWatershed (terrain m) level p) runs.items)
+
 module _ {E : Type 0} (g : Ghosts E) (a b : E) where
-  pub fill_told : (p : Point) (result : Result ℤ Refusal) → IsCall (members g) a (ask.Fill p) (answered reply.Fill result) b → Tells g a b (λ m. Told IsLevel m p result)
-  fill_told p (Ok level) call = one_call g a b (ask.Fill p) (reply.Fill level) (λ m. IsLevel m p level) call (λ s t fills. (stayed s t fills.0, fills.1))
-  fill_told p (Err r) call = one_call g a b (ask.Fill p) (reply.Refused r) (λ m. Told IsLevel m p (Err r)) call (λ s t not. (unanswered s t p r not, not_told IsLevel s t p r not))
+  pub fill_told : (p : Point) (result : Result ℤ Refusal) → IsCall (members g) a (ask.Fill p) (answered reply.Fill result) b → Tells g a b 1 (refusal_of result) (λ m. OfPoint m p (IsLevel m p) result)
+  fill_told p result call = asked_once g a b (ask.Fill p) reply.Fill (questions.answers_so {capacity = 0} (ask.Fill p) reply.Fill _ (questions.fill_asked p)) (λ answer e. e) result (λ m. OfPoint m p (IsLevel m p) result) call (fills result)
+    where
+      fills : (result : Result ℤ Refusal) (s t : State) → Happens (g.capacity_of a) s (ask.Fill p) (answered reply.Fill result) t → (t.contents ≡ s.contents) × OfPoint s.contents.mosaic p (IsLevel s.contents.mosaic p) result
+      fills (Ok level) s t is = (stayed s t is.0, is.1)
+      fills (Err r) s t not = unanswered (IsLevel s.contents.mosaic p) s t p r not
 
-  pub direction_told : (p : Point) (result : Result ℕ Refusal) → IsCall (members g) a (ask.Direction p) (answered reply.Direction result) b → Tells g a b (λ m. Told IsCode m p result)
-  direction_told p (Ok code) call = one_call g a b (ask.Direction p) (reply.Direction code) (λ m. IsCode m p code) call (λ s t directs. (stayed s t directs.0, directs.1))
-  direction_told p (Err r) call = one_call g a b (ask.Direction p) (reply.Refused r) (λ m. Told IsCode m p (Err r)) call (λ s t not. (unanswered s t p r not, not_told IsCode s t p r not))
+  pub direction_told : (p : Point) (result : Result ℕ Refusal) → IsCall (members g) a (ask.Direction p) (answered reply.Direction result) b → Tells g a b 1 (refusal_of result) (λ m. OfPoint m p (IsCode m p) result)
+  direction_told p result call = asked_once g a b (ask.Direction p) reply.Direction (questions.answers_so {capacity = 0} (ask.Direction p) reply.Direction _ (questions.direction_asked p)) (λ answer e. e) result (λ m. OfPoint m p (IsCode m p) result) call (directs result)
+    where
+      directs : (result : Result ℕ Refusal) (s t : State) → Happens (g.capacity_of a) s (ask.Direction p) (answered reply.Direction result) t → (t.contents ≡ s.contents) × OfPoint s.contents.mosaic p (IsCode s.contents.mosaic p) result
+      directs (Ok code) s t is = (stayed s t is.0, is.1)
+      directs (Err r) s t not = unanswered (IsCode s.contents.mosaic p) s t p r not
 
-  pub height_told : (p : Point) (result : Result Height Refusal) → IsCall (members g) a (ask.Elevation p) (answered reply.Elevation result) b → Tells g a b (λ m. ToldHeight m p result)
-  height_told p (Ok h) call = one_call g a b (ask.Elevation p) (reply.Elevation h) (λ m. h ≡ height_of m p) call (λ s t elevates. (stayed s t elevates.0, elevates.1))
-  height_told p (Err r) call = one_call g a b (ask.Elevation p) (reply.Refused r) (λ m. Unit {0}) call (λ s t not. (no_height s t r not, tt))
+  pub watershed_told : (p : Point) (result : Result (Vec Run) Refusal) → IsCall (members g) a (ask.Watershed p) (answered reply.Watershed result) b → Tells g a b 1 (refusal_of result) (λ m. OfPoint m p (AreRunsOf m p) result)
+  watershed_told p result call = asked_once g a b (ask.Watershed p) reply.Watershed (questions.answers_so {capacity = 0} (ask.Watershed p) reply.Watershed _ (questions.watershed_asked p)) (λ answer e. e) result (λ m. OfPoint m p (AreRunsOf m p) result) call (sheds result)
+    where
+      sheds : (result : Result (Vec Run) Refusal) (s t : State) → Happens (g.capacity_of a) s (ask.Watershed p) (answered reply.Watershed result) t → (t.contents ≡ s.contents) × OfPoint s.contents.mosaic p (AreRunsOf s.contents.mosaic p) result
+      sheds (Ok runs) s t is = (stayed s t is.0, is.1)
+      sheds (Err r) s t not = unanswered (AreRunsOf s.contents.mosaic p) s t p r not
 
-  pub levels_told : (c : Corner) (result : Result (Vec ℤ) Refusal) → IsCall (members g) a (ask.Levels c) (answered reply.Levels result) b → Tells g a b (λ m. ToldTile AreTileLevels m c result)
-  levels_told c (Ok levels) call = one_call g a b (ask.Levels c) (reply.Levels levels) (λ m. AreTileLevels m c levels.items) call (λ s t tells. (stayed s t tells.0, tells.1.1))
-  levels_told c (Err r) call = one_call g a b (ask.Levels c) (reply.Refused r) (λ m. Unit {0}) call (λ s t not. (no_tile s t c r not, tt))
+  pub height_told : (p : Point) (result : Result Height Refusal) → IsCall (members g) a (ask.Elevation p) (answered reply.Elevation result) b → Tells g a b 1 (refusal_of result) (λ m. OfAny (λ h. h ≡ height_of m p) result)
+  height_told p result call = asked_once g a b (ask.Elevation p) reply.Elevation (questions.answers_so {capacity = 0} (ask.Elevation p) reply.Elevation _ (questions.elevation_asked p)) (λ answer e. e) result (λ m. OfAny (λ h. h ≡ height_of m p) result) call (elevates result)
+    where
+      elevates : (result : Result Height Refusal) (s t : State) → Happens (g.capacity_of a) s (ask.Elevation p) (answered reply.Elevation result) t → (t.contents ≡ s.contents) × OfAny (λ h. h ≡ height_of s.contents.mosaic p) result
+      elevates (Ok h) s t is = (stayed s t is.0, is.1)
+      elevates (Err r) s t not = unelevated (λ h. h ≡ height_of s.contents.mosaic p) s t r not
 
-  pub directions_told : (c : Corner) (result : Result (Vec ℕ) Refusal) → IsCall (members g) a (ask.Directions c) (answered reply.Directions result) b → Tells g a b (λ m. ToldTile AreTileDirections m c result)
-  directions_told c (Ok codes) call = one_call g a b (ask.Directions c) (reply.Directions codes) (λ m. AreTileDirections m c codes.items) call (λ s t tells. (stayed s t tells.0, tells.1.1))
-  directions_told c (Err r) call = one_call g a b (ask.Directions c) (reply.Refused r) (λ m. Unit {0}) call (λ s t not. (no_tile s t c r not, tt))
+  -- a level, or the code of a direction, is told of ground alone
+  pub level_told : (p : Point) (result : Result ℤ Refusal) (level same : ℤ) → result ≡ Ok level → level ≡ same → Tells g a b 1 (refusal_of result) (λ m. OfPoint m p (IsLevel m p) result) → Tells g a b 1 None (λ m. OfAny (IsLevelOrVoid m p) (Ok same))
+  level_told p result level same is alike told =
+      so_told g a b 1 1 None _ _ (subst (λ (r : Result ℤ Refusal). Tells g a b 1 (refusal_of r) (λ m. OfPoint m p (IsLevel m p) r)) is told) (λ some. some)
+      (λ m filled. subst (IsLevelOrVoid m p) alike (record {
+        on_ground = λ solid. filled;
+        elsewhere = λ off. absurd (true≢false (sym (level_ground m p level filled) ∙ off));
+      }))
 
-  pub upstream_told : (c : Corner) (result : Result (Vec ℕ) Refusal) → IsCall (members g) a (ask.Upstream c) (answered reply.Upstream result) b → Tells g a b (λ m. ToldTile AreTileCounts m c result)
-  upstream_told c (Ok counts) call = one_call g a b (ask.Upstream c) (reply.Upstream counts) (λ m. AreTileCounts m c counts.items) call (λ s t tells. (stayed s t tells.0, tells.1.1))
-  upstream_told c (Err r) call = one_call g a b (ask.Upstream c) (reply.Refused r) (λ m. Unit {0}) call (λ s t not. (no_tile s t c r not, tt))
+  pub code_told : (p : Point) (result : Result ℕ Refusal) (code : ℕ) → result ≡ Ok code → Tells g a b 1 (refusal_of result) (λ m. OfPoint m p (IsCode m p) result) → Tells g a b 1 None (λ m. OfAny (IsCodeOrNone m p) (Ok code))
+  code_told p result code is told =
+      so_told g a b 1 1 None _ _ (subst (λ (r : Result ℕ Refusal). Tells g a b 1 (refusal_of r) (λ m. OfPoint m p (IsCode m p) r)) is told) (λ some. some)
+      (λ m answered. record {
+        on_ground = λ solid level filled. answered.says level filled;
+        elsewhere = λ off. absurd (true≢false (sym answered.on_ground ∙ off));
+      })
+
+  module _ {X : Type 0} (Says : Mosaic → Corner → List X → Type 0) (c : Corner) where
+    -- a tile's values were copied, or the slice had another length
+    pub copied : (found : Result (Vec X) Refusal) (values : Vec X) → found ≡ Ok values → Tells g a b 1 (refusal_of found) (λ m. OfTile m c (Says m c) found) → (into : List X) (result : Result (Unit {0}) Refusal)
+        → MatchResult result (λ _. into ≡ values.items) (λ r. (r ≡ BadLength) × (length values.items ≢ length into)) → Tells g a b 1 (refusal_of result) (λ m. OfCopy m c (Says m c) into result)
+    copied found values is told into (Ok u) same =
+        so_told g a b 1 1 None _ _ (subst (λ (f : Result (Vec X) Refusal). Tells g a b 1 (refusal_of f) (λ m. OfTile m c (Says m c) f)) is told) (λ some. some)
+        (λ m tells. (tells.0, subst (Says m c) (sym same) tells.1))
+    copied found values is told into (Err r) other =
+        told_as g a b 1 None (Some r) _ _ (subst (λ (f : Result (Vec X) Refusal). Tells g a b 1 (refusal_of f) (λ m. OfTile m c (Says m c) f)) is told)
+        ((λ e. cc), (λ e. let no : r ≡ BadLength = other.0 in cc), (λ e. cc), (λ e. let no : r ≡ BadLength = other.0 in cc))
+        (λ m tells. subst (λ (why : Refusal). OfCopy m c (Says m c) into (Err why)) (sym other.0) (tells.0, (values.items, (tells.1, other.1))))
+
+    -- they aren't told at all
+    pub not_told : (found : Result (Vec X) Refusal) (r : Refusal) → found ≡ Err r → Tells g a b 1 (refusal_of found) (λ m. OfTile m c (Says m c) found) → (into : List X) → Tells g a b 1 (Some r) (λ m. OfCopy m c (Says m c) into (Err r))
+    not_told found r is told into =
+        so_told g a b 1 1 (Some r) _ _ (subst (λ (f : Result (Vec X) Refusal). Tells g a b 1 (refusal_of f) (λ m. OfTile m c (Says m c) f)) is told) (λ some. some) (λ m. refused m r)
+      where
+        refused : (m : Mosaic) (r : Refusal) → OfTile m c (Says m c) (Err r) → OfCopy m c (Says m c) into (Err r)
+        refused m NoTile none = none
+        refused m BadLength not = absurd not
+        refused m r not = not
+
+  pub levels_told : (c : Corner) (result : Result (Vec ℤ) Refusal) → IsCall (members g) a (ask.Levels c) (answered reply.Levels result) b → Tells g a b 1 (refusal_of result) (λ m. OfTile m c (AreTileLevels m c) result)
+  levels_told c result call = asked_once g a b (ask.Levels c) reply.Levels (questions.answers_so {capacity = 0} (ask.Levels c) reply.Levels _ (questions.levels_asked c)) (λ answer e. e) result (λ m. OfTile m c (AreTileLevels m c) result) call (tells result)
+    where
+      tells : (result : Result (Vec ℤ) Refusal) (s t : State) → Happens (g.capacity_of a) s (ask.Levels c) (answered reply.Levels result) t → (t.contents ≡ s.contents) × OfTile s.contents.mosaic c (AreTileLevels s.contents.mosaic c) result
+      tells (Ok xs) s t is = of_tile AreTileLevels s t c (Ok xs) is
+      tells (Err r) s t is = of_tile AreTileLevels s t c (Err r) is
+
+  pub directions_told : (c : Corner) (result : Result (Vec ℕ) Refusal) → IsCall (members g) a (ask.Directions c) (answered reply.Directions result) b → Tells g a b 1 (refusal_of result) (λ m. OfTile m c (AreTileDirections m c) result)
+  directions_told c result call = asked_once g a b (ask.Directions c) reply.Directions (questions.answers_so {capacity = 0} (ask.Directions c) reply.Directions _ (questions.directions_asked c)) (λ answer e. e) result (λ m. OfTile m c (AreTileDirections m c) result) call (tells result)
+    where
+      tells : (result : Result (Vec ℕ) Refusal) (s t : State) → Happens (g.capacity_of a) s (ask.Directions c) (answered reply.Directions result) t → (t.contents ≡ s.contents) × OfTile s.contents.mosaic c (AreTileDirections s.contents.mosaic c) result
+      tells (Ok xs) s t is = of_tile AreTileDirections s t c (Ok xs) is
+      tells (Err r) s t is = of_tile AreTileDirections s t c (Err r) is
+
+  pub upstream_told : (c : Corner) (result : Result (Vec ℕ) Refusal) → IsCall (members g) a (ask.Upstream c) (answered reply.Upstream result) b → Tells g a b 1 (refusal_of result) (λ m. OfTile m c (AreTileCounts m c) result)
+  upstream_told c result call = asked_once g a b (ask.Upstream c) reply.Upstream (questions.answers_so {capacity = 0} (ask.Upstream c) reply.Upstream _ (questions.upstream_asked c)) (λ answer e. e) result (λ m. OfTile m c (AreTileCounts m c) result) call (tells result)
+    where
+      tells : (result : Result (Vec ℕ) Refusal) (s t : State) → Happens (g.capacity_of a) s (ask.Upstream c) (answered reply.Upstream result) t → (t.contents ≡ s.contents) × OfTile s.contents.mosaic c (AreTileCounts s.contents.mosaic c) result
+      tells (Ok xs) s t is = of_tile AreTileCounts s t c (Ok xs) is
+      tells (Err r) s t is = of_tile AreTileCounts s t c (Err r) is

@@ -1,2 +1,4 @@
+pub mod Lines
+pub mod Results
 pub mod Telling
 pub mod Windows

@@ -1,16 +1,35 @@
--- What an engine told of its mosaic by some calls that only ask (this product's own profile).
-use Rattle.std.specs.Prelude.{◌≡◌}
+-- What an engine told of its mosaic by some questions (this product's own profile).
+use Rattle.std.specs.Prelude.{◌≡◌, ◌≢◌, ◌<◌, ◌≤◌, ℕ, IsTrue, Option, Some, None, Result, Ok, Err}
+use Rattle.catalogue.specs.Reading.{HasRisen}
 use Rattle.lattice.specs.Mosaic.{Mosaic}
+use Rattle.lattice.specs.declared.refusal.Refusal.{Refusal}
+use Rattle.lattice.specs.declared.refusal.Refusal.TheVariants.{Device, Failed}
 use Rattle.engine.specs.State.{Contents, State}
 use Rattle.engine.specs.declared.engine.Engine.{Ghosts}
+
+abbrev pub refusal_of : {T : Type 0} → Result T Refusal → Option Refusal
+refusal_of (Ok value) = None
+refusal_of (Err r) = Some r
 
 module _ {E : Type 0} (g : Ghosts E) where
   -- it is in a state of these contents
   abbrev pub Has : E → Contents → Type 0
   Has e contents = (s : State) × (g.is_at e s × (s.contents ≡ contents))
 
-  -- Where it is honest it was so all along, has the contents that it had, and of their mosaic this is so.
-  pub record Tells (old new : E) (Says : Mosaic → Type 0) : Type 0 where
+  -- so many questions were asked of it, or fewer where one was refused so, which was the last
+  pub record Tells (old new : E) (count : ℕ) (refused : Option Refusal) (Says : Mosaic → Type 0) : Type 0 where
+    -- where it is honest it was so all along, has the contents that it had, and of their mosaic this is so
     pub honest : g.is_honest new → g.is_honest old
     pub kept : g.is_honest new → (contents : Contents) → Has old contents → Has new contents
     pub says : g.is_honest new → (contents : Contents) → Has old contents → Says contents.mosaic
+    -- honest or not: it is refused as Failed where it had failed before, and nowhere else, and as Device only where the disk fails now
+    pub had_failed : 0 < count → IsTrue (g.has_failed old) → refused ≡ Some Failed
+    pub failed : refused ≡ Some Failed → IsTrue (g.has_failed old)
+    pub device : refused ≡ Some Device → HasRisen (g.failures old) (g.failures new)
+    pub stays : refused ≢ Some Device → g.has_failed new ≡ g.has_failed old
+    pub later : g.failures old ≤ g.failures new
+
+  -- it is refused at once, and nothing is asked; or it is asked
+  abbrev pub Asked : (old new : E) (first : Option Refusal) (count : ℕ) (refused : Option Refusal) (Says : Mosaic → Type 0) → Type 0
+  Asked old new (Some r) count refused Says = (refused ≡ Some r) × (new ≡ old)
+  Asked old new None count refused Says = Tells old new count refused Says

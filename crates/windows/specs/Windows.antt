@@ -1,31 +1,43 @@
 -- The points of a window, and what is said of them (this product's own profile).
-use Rattle.std.specs.Prelude.{◌≡◌, ℕ, ◌*◌, ◌/◌, ◌%◌, ◌<◌, ℤ, pos, ◌+ℤ◌, ◌-ℤ◌, List, length, slice_index, slice_index_or}
-use Rattle.lattice.specs.Ground.{metres}
-use Rattle.lattice.specs.Height.{height_of}
-use Rattle.lattice.specs.Mosaic.{Mosaic, void}
+use Rattle.std.specs.Prelude.{◌≡◌, ◌⊎◌, ℕ, ◌*◌, ◌-◌, ◌/◌, ◌%◌, ◌<◌, min, nat_eq, nat_lt, ℤ, pos, negsuc, int_lt, ◌+ℤ◌, ◌-ℤ◌, Bool, ◌&&◌, ◌||◌, IsTrue, if◌then◌else◌, Option, Some, None, List, length, slice_index_or}
+use Rattle.lattice.specs.Ground.{is_ground, terrain}
+use Rattle.lattice.specs.Mosaic.{Mosaic}
 use Rattle.lattice.specs.declared.point.Point.{Point}
-use Rattle.drainage.specs.TileLevels.{IsLevelOrVoid}
-use Rattle.watershed.specs.Questions.{IsCodeOrNone}
+use Rattle.lattice.specs.declared.refusal.Refusal.{Refusal}
+use Rattle.lattice.specs.declared.refusal.Refusal.TheVariants.{BadLength, BadBox}
+use Rattle.flow_d8.specs.Drainage.{AreFilledLevels}
+use Rattle.flow_d8.specs.FlowPath.{IsInWatershed}
+use Rattle.watershed.specs.Counts.{IsUpstreamCount}
 use Rattle.windows.specs.declared.window.Window.{Window}
 
 -- the point of this number, row by row from the north-west
 abbrev pub point_in : Window → ℕ → Point
 point_in w k = record { y = w.north -ℤ pos (k / w.columns); x = w.west +ℤ pos (k % w.columns) }
 
-module _ (m : Mosaic) (w : Window) where
-  -- the filled levels of its first points, void where there is no ground
-  abbrev pub AreLevelsTo : ℕ → List ℤ → Type 0
-  AreLevelsTo count levels = (k : ℕ) → k < count → IsLevelOrVoid m (point_in w k) (slice_index_or levels k void)
+-- its last row or its last column is beyond 32 bits
+abbrev pub is_beyond : Window → Bool
+is_beyond w = int_lt (w.north -ℤ pos (w.rows - 1)) (negsuc 2147483647) || int_lt (pos 2147483647) (w.west +ℤ pos (w.columns - 1))
 
-  -- their heights in metres, void where there is none
-  abbrev pub AreHeightsTo : ℕ → List ℤ → Type 0
-  AreHeightsTo count heights = (k : ℕ) → k < count → slice_index_or heights k void ≡ metres (height_of m (point_in w k))
+-- BadLength where a slice of this length hasn't an element for each point, BadBox where it has points beyond 32 bits
+abbrev pub refused_at_once : Window → ℕ → Option Refusal
+refused_at_once w len = if nat_eq (w.rows * w.columns) len then (if nat_lt 0 len && is_beyond w then Some BadBox else None) else Some BadLength
 
-  -- the codes of their directions, 255 where there is no ground
-  abbrev pub AreDirectionsTo : ℕ → List ℕ → Type 0
-  AreDirectionsTo count codes = (k : ℕ) → k < count → IsCodeOrNone m (point_in w k) (slice_index codes k)
+module _ (w : Window) {X : Type 0} (IsOf : Point → X → Type 0) where
+  -- the values are right for the first points
+  abbrev pub AreTo : ℕ → List X → Type 0
+  AreTo count values = (blank : X) (k : ℕ) → k < count → IsOf (point_in w k) (slice_index_or values k blank)
 
-  -- of all of its points, and nothing else
-  pub record AreOfAll {X : Type 0} (AreTo : ℕ → List X → Type 0) (values : List X) : Type 0 where
+  -- for all of its points, and there are no more
+  pub record AreOfAll (values : List X) : Type 0 where
     pub whole : length values ≡ w.rows * w.columns
     pub each : AreTo (w.rows * w.columns) values
+
+-- 1 where it is so, 0 where it isn't
+abbrev pub IsMark : Type 0 → ℕ → Type 0
+IsMark so mark = ((mark ≡ 1) × so) ⊎ ((mark ≡ 0) × ¬ so)
+
+-- which of the window's points drain through the point, and how many points do at all, up to the largest 64-bit number
+pub record IsShed (m : Mosaic) (p : Point) (w : Window) (marks : List ℕ) (count : ℕ) : Type 0 where
+  pub on_ground : IsTrue (is_ground m p)
+  pub marked : (level : Point → ℤ) → AreFilledLevels (terrain m) level → AreOfAll w (λ q mark. IsMark (IsInWatershed (terrain m) level p q) mark) marks
+  pub counted : (level : Point → ℤ) → AreFilledLevels (terrain m) level → (k : ℕ) × (IsUpstreamCount (terrain m) level p k × (count ≡ min k 18446744073709551615))

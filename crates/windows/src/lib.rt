@@ -1,22 +1,30 @@
-//! What an engine, a store or a table, tells of all points of a window or a tile, put into the caller's slice.
+//! What an engine, a store or a table, tells of all points of a window or a tile, put into the caller's slice, and what it tells of a
+//! point or to a line.
 //!
 //! Each element is the definition's value of its point on the whole mosaic. A window names its first point and its rows and
-//! columns, so that no point is asked for by name; where it lies outside the tiles its levels and heights are void.
+//! columns, so that no point is asked for by name; where it lies outside the tiles its levels and heights are void. What each
+//! question says, and what it is refused with, stands at its type; `specs/Telling.antt` says what holds of all of them.
 //!
 //! ```
 //! let window = Window { north: 2, west: 0, rows: 3, columns: 3 };
-//! windows::levels(&mut engine, window, &mut values)?;    // nine levels in metres, the north-west first
+//! Each(Level, window).ask(&mut engine, &mut values)?;    // nine levels in metres, the north-west first
 //! ```
 #![tactic(auto)]
 
+mod line;
 mod points;
+mod question;
+mod shed;
 #[cfg(test)]
 mod tests;
 mod tiles;
 mod values;
 mod window;
 
-pub use points::{direction, fill};
-pub use tiles::{tile_directions, tile_levels, upstream};
-pub use values::{directions, heights, levels};
+pub use line::ask;
+pub use points::{Direction, Fill};
+pub use question::Question;
+pub use shed::Watershed;
+pub use tiles::{Tile, TileValues, Upstream};
+pub use values::{Course, Each, Elevation, Level, PointValue};
 pub use window::Window;

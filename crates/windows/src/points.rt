@@ -1,26 +1,50 @@
 //! What is told of one point.
-ghost use Rattle.std.specs.Prelude.{OnOk, Result};
+ghost use Rattle.std.specs.Prelude.{None};
 ghost use Rattle.lattice.specs.Ground.{terrain};
 ghost use Rattle.lattice.specs.Terrain.{IsFilledLevel};
 ghost use Rattle.watershed.specs.Questions.{IsAnswered, DrainsBy};
-ghost use Rattle.windows.specs.Telling.{Tells};
+ghost use Rattle.windows.specs.Results.{OfPoint};
 
+use crate::question::Question;
 use engine::Engine;
 use lattice::{Point, Refusal};
 
-/// Puts the filled level of the point, in metres. Refused as the engine's own question is, with Outside or Void where the
-/// point isn't ground.
-pub fn fill<E: Engine>(engine: &mut E, point: Point, into: &mut i16) -> Result<(), Refusal>
-    ensures { Tells E.Engine engine.old engine.new (λ m. OnOk result (IsFilledLevel (terrain m) point into.new)) }
-{
-    *into = engine.fill(point)?;
-    Ok(())
+/// The filled level of a point, in metres.
+#[derive(Clone, Copy)]
+pub struct Fill(pub Point);
+
+/// The code of a point's direction, 0 where water leaves the mosaic.
+#[derive(Clone, Copy)]
+pub struct Direction(pub Point);
+
+impl Question for Fill {
+    type Answer = i16;
+
+    type Element = u8;
+
+    ghost refused_first = { λ q len. None };
+
+    ghost count = { λ q. 1 };
+
+    ghost says = { λ q m into result. OfPoint m q.0 (IsFilledLevel (terrain m) q.0) result };
+
+    fn ask<E: Engine>(&self, engine: &mut E, _into: &mut [u8]) -> Result<i16, Refusal> {
+        engine.fill(self.0)
+    }
 }
 
-/// Puts the code of the point's direction, 0 where water leaves the mosaic. Refused as `fill` is.
-pub fn direction<E: Engine>(engine: &mut E, point: Point, into: &mut u8) -> Result<(), Refusal>
-    ensures { Tells E.Engine engine.old engine.new (λ m. OnOk result (IsAnswered m point (λ level. DrainsBy (terrain m) level point into.new))) }
-{
-    *into = engine.direction(point)?;
-    Ok(())
+impl Question for Direction {
+    type Answer = u8;
+
+    type Element = u8;
+
+    ghost refused_first = { λ q len. None };
+
+    ghost count = { λ q. 1 };
+
+    ghost says = { λ q m into result. OfPoint m q.0 (λ code. IsAnswered m q.0 (λ level. DrainsBy (terrain m) level q.0 code)) result };
+
+    fn ask<E: Engine>(&self, engine: &mut E, _into: &mut [u8]) -> Result<u8, Refusal> {
+        engine.direction(self.0)
+    }
 }

@@ -1,8 +1,11 @@
 //! Windows and tiles of tables of one tile, whose answers are worked by hand.
-use crate::{Window, directions, heights, levels, tile_directions, tile_levels, upstream};
+use crate::{
+    Course, Direction, Each, Elevation, Fill, Level, Question, Tile, Upstream, Watershed, Window,
+    ask,
+};
 use edits::{Bytes, Command};
 use engine::Engine;
-use lattice::{Corner, Refusal, Side, VOID};
+use lattice::{Corner, Point, Refusal, Side, VOID};
 use std::alloc::Global;
 use std::process::Abort;
 use std::test::Fail;
@@ -13,15 +16,11 @@ fn table(rt: &impl Abort, alloc: Global, tile: &[u8]) -> Result<TableEngine, Fai
     let side = Side::new(3).expect(rt, "a side");
     let mut engine = TableEngine::new(alloc, side, 4);
     let command = Command::Import {
-        corner: corner(rt, 0),
+        corner: Corner::new(0, 0).expect(rt, "a corner"),
         bytes: Bytes::new(Vec::from_slice(alloc, tile)?),
     };
     assert!(rt; engine.apply(&command) == Ok(1));
     Ok(engine)
-}
-
-fn corner(rt: &impl Abort, lon: i16) -> Corner {
-    Corner::new(0, lon).expect(rt, "a corner")
 }
 
 /// The tile and a point more on each side.
@@ -45,15 +44,18 @@ const TILE: Window = Window {
 fn levels_of_a_window(rt: HostRuntime) -> Result<(), Fail> {
     let mut engine = table(&rt, rt.alloc(), &test_tiles::A)?;
     let mut into = [7; 25];
-    assert!(rt; levels(&mut engine, AROUND, &mut into) == Ok(()));
+    assert!(rt; Each(Level, AROUND).ask(&mut engine, &mut into) == Ok(()));
     let v = VOID;
     let wanted = [
         v, v, v, v, v, v, 9, 9, 9, v, v, 9, 5, 9, v, v, 9, 9, 5, v, v, v, v, v, v,
     ];
     assert!(rt; into == wanted);
     let mut tile = [7; 9];
-    assert!(rt; tile_levels(&mut engine, corner(&rt, 0), &mut tile) == Ok(()));
+    assert!(rt; Tile(Level, 0, 0).ask(&mut engine, &mut tile) == Ok(()));
     assert!(rt; tile == [9, 9, 9, 9, 5, 9, 9, 9, 5]);
+    let middle = Point { y: 1, x: 1 };
+    assert!(rt; Fill(middle).ask(&mut engine, &mut []) == Ok(5));
+    assert!(rt; Direction(middle).ask(&mut engine, &mut []) == Ok(2));
     Ok(())
 }
 
@@ -63,27 +65,43 @@ fn directions_of_a_window(rt: HostRuntime) -> Result<(), Fail> {
     let mut engine = table(&rt, rt.alloc(), &test_tiles::H)?;
     let mut into = [7; 9];
     let wanted = [4, 8, 0, 0, 16, 0, 64, 32, 0];
-    assert!(rt; directions(&mut engine, TILE, &mut into) == Ok(()));
+    assert!(rt; Each(Course, TILE).ask(&mut engine, &mut into) == Ok(()));
     assert!(rt; into == wanted);
     into = [7; 9];
-    assert!(rt; tile_directions(&mut engine, corner(&rt, 0), &mut into) == Ok(()));
+    assert!(rt; Tile(Course, 0, 0).ask(&mut engine, &mut into) == Ok(()));
     assert!(rt; into == wanted);
     let east = Window { west: 2, ..TILE };
-    assert!(rt; directions(&mut engine, east, &mut into) == Ok(()));
+    assert!(rt; Each(Course, east).ask(&mut engine, &mut into) == Ok(()));
     assert!(rt; into == [0, 255, 255, 0, 255, 255, 0, 255, 255]);
     Ok(())
 }
 
-// The same tile: five points drain to the notch, and the other outlets have their own water alone.
+// The same tile: six points drain through the notch, itself among them, and the other outlets have their own water alone.
 #[test]
 fn upstream_counts_of_a_tile(rt: HostRuntime) -> Result<(), Fail> {
     let mut engine = table(&rt, rt.alloc(), &test_tiles::H)?;
     let mut into = [7; 9];
-    assert!(rt; upstream(&mut engine, corner(&rt, 0), &mut into) == Ok(()));
+    assert!(rt; Tile(Upstream, 0, 0).ask(&mut engine, &mut into) == Ok(()));
     assert!(rt; into == [1, 1, 1, 6, 1, 1, 1, 1, 1]);
-    let mut short = [7; 8];
-    assert!(rt; upstream(&mut engine, corner(&rt, 0), &mut short) == Err(Refusal::BadLength));
-    assert!(rt; upstream(&mut engine, corner(&rt, 1), &mut into) == Err(Refusal::NoTile));
+    Ok(())
+}
+
+#[test]
+fn watershed_in_a_window(rt: HostRuntime) -> Result<(), Fail> {
+    let mut engine = table(&rt, rt.alloc(), &test_tiles::H)?;
+    let notch = Point { y: 1, x: 0 };
+    let mut into = [7; 9];
+    assert!(rt; Watershed(notch, TILE).ask(&mut engine, &mut into) == Ok(6));
+    assert!(rt; into == [1, 1, 0, 1, 1, 0, 1, 1, 0]);
+    let east = Window { west: 1, ..TILE };
+    assert!(rt; Watershed(notch, east).ask(&mut engine, &mut into) == Ok(6));
+    assert!(rt; into == [1, 0, 0, 1, 0, 0, 1, 0, 0]);
+    let north = Window { north: 5, ..TILE };
+    assert!(rt; Watershed(notch, north).ask(&mut engine, &mut into) == Ok(6));
+    assert!(rt; into == [0; 9]);
+    let off = Point { y: 9, x: 9 };
+    assert!(rt; Watershed(off, TILE).ask(&mut engine, &mut into) == Err(Refusal::Outside));
+    assert!(rt; Watershed(notch, TILE).ask(&mut engine, &mut into[..8]) == Err(Refusal::BadLength));
     Ok(())
 }
 
@@ -92,8 +110,35 @@ fn upstream_counts_of_a_tile(rt: HostRuntime) -> Result<(), Fail> {
 fn heights_of_a_window(rt: HostRuntime) -> Result<(), Fail> {
     let mut engine = table(&rt, rt.alloc(), &test_tiles::V)?;
     let mut into = [7; 9];
-    assert!(rt; heights(&mut engine, TILE, &mut into) == Ok(()));
+    assert!(rt; Each(Elevation, TILE).ask(&mut engine, &mut into) == Ok(()));
     assert!(rt; into == [9, 9, 9, 9, VOID, 9, 9, 9, 9]);
+    let middle = Point { y: 1, x: 1 };
+    assert!(rt; Fill(middle).ask(&mut engine, &mut []) == Err(Refusal::Void));
+    assert!(rt; Watershed(middle, TILE).ask(&mut engine, &mut [0; 9]) == Err(Refusal::Void));
+    Ok(())
+}
+
+#[test]
+fn questions_by_lines(rt: HostRuntime) -> Result<(), Fail> {
+    let alloc = rt.alloc();
+    let mut engine = table(&rt, alloc, &test_tiles::A)?;
+    let mut into = [7; 9];
+    assert!(rt; ask(alloc, &mut engine, b"fill 1 1", &mut into) == Ok(5));
+    assert!(rt; into == *b"OK 5\n\x07\x07\x07\x07");
+    assert!(rt; ask(alloc, &mut engine, b"fill 1 1", &mut into[..4]) == Ok(5));
+    assert!(rt; ask(alloc, &mut engine, b"trace 1 1", &mut into) == Ok(13));
+    assert!(rt; ask(alloc, &mut engine, b"fill 9 9", &mut [0; 14]) == Ok(14));
+    for line in [
+        b"step" as &[u8],
+        b"burn 1 1 1",
+        b"quit",
+        b"import N01E000 18",
+        b"fill 1",
+    ] {
+        assert!(rt; ask(alloc, &mut engine, line, &mut into) == Err(Refusal::BadLine));
+    }
+    assert!(rt; ask(alloc, &mut engine, b"levels N0", &mut into) == Err(Refusal::BadName));
+    assert!(rt; engine.count() == 1);
     Ok(())
 }
 
@@ -102,22 +147,31 @@ fn refusals(rt: HostRuntime) -> Result<(), Fail> {
     let mut engine = table(&rt, rt.alloc(), &test_tiles::A)?;
     let mut into = [7; 9];
     let more = Window { rows: 4, ..TILE };
-    let beyond = Window {
-        north: i32::MIN,
-        ..TILE
-    };
     let none = Window {
         rows: u32::MAX,
         columns: 0,
         ..TILE
     };
-    assert!(rt; levels(&mut engine, more, &mut into) == Err(Refusal::BadLength));
-    assert!(rt; levels(&mut engine, none, &mut into) == Err(Refusal::BadLength));
-    assert!(rt; levels(&mut engine, none, &mut []) == Ok(()));
-    assert!(rt; levels(&mut engine, beyond, &mut into) == Err(Refusal::BadBox));
-    assert!(rt; tile_levels(&mut engine, corner(&rt, 1), &mut into) == Err(Refusal::NoTile));
-    assert!(rt;
-        tile_levels(&mut engine, corner(&rt, 0), &mut into[..8]) == Err(Refusal::BadLength)
-    );
+    assert!(rt; Each(Level, more).ask(&mut engine, &mut into) == Err(Refusal::BadLength));
+    assert!(rt; Each(Level, none).ask(&mut engine, &mut into) == Err(Refusal::BadLength));
+    assert!(rt; Each(Level, none).ask(&mut engine, &mut []) == Ok(()));
+    for north in [i32::MIN, i32::MIN + 1] {
+        let beyond = Window { north, ..TILE };
+        assert!(rt; Each(Level, beyond).ask(&mut engine, &mut into) == Err(Refusal::BadBox));
+    }
+    let last = Window {
+        north: i32::MIN + 2,
+        west: i32::MAX - 2,
+        ..TILE
+    };
+    assert!(rt; Each(Level, last).ask(&mut engine, &mut into) == Ok(()));
+    let wide = Window {
+        west: i32::MAX - 1,
+        ..TILE
+    };
+    assert!(rt; Each(Level, wide).ask(&mut engine, &mut into) == Err(Refusal::BadBox));
+    assert!(rt; Tile(Level, 0, 1).ask(&mut engine, &mut into) == Err(Refusal::NoTile));
+    assert!(rt; Tile(Level, 95, 1).ask(&mut engine, &mut into) == Err(Refusal::BadName));
+    assert!(rt; Tile(Level, 0, 0).ask(&mut engine, &mut into[..8]) == Err(Refusal::BadLength));
     Ok(())
 }

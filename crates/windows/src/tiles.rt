@@ -1,57 +1,95 @@
 //! What is told of all samples of a tile.
-ghost use Rattle.std.specs.Prelude.{OnOk, Result};
+ghost use Rattle.std.specs.Prelude.{◌≡◌, ◌≢◌, List, MatchResult, Result, length};
+ghost use Rattle.lattice.specs.Corners.{Corner};
+ghost use Rattle.lattice.specs.Mosaic.{Mosaic};
+ghost use Rattle.lattice.specs.declared.refusal.Refusal.TheVariants.{BadLength};
 ghost use Rattle.tile_flood.specs.Raising.{AreTileLevels};
 ghost use Rattle.watershed.specs.Questions.{AreTileCounts, AreTileDirections};
-ghost use Rattle.windows.specs.Telling.{Tells};
+ghost use Rattle.windows.specs.Results.{OfTile, OfCopy, refused_corner};
+ghost use Rattle.windows.specs.Telling.{Tells, refusal_of};
 
+use crate::question::Question;
+use crate::values::{Course, Level};
 use engine::Engine;
 use lattice::{Corner, Refusal};
 
-/// Puts the filled levels of all samples of the corner's tile, row by row from the north, west first; void where a sample's
-/// point isn't ground.
-///
-/// Refused with NoTile, with BadLength where the slice isn't as long as a tile has samples, and else as a level is.
-pub fn tile_levels<E: Engine>(
-    engine: &mut E,
-    corner: Corner,
-    into: &mut [i16],
-) -> Result<(), Refusal>
-    ensures { Tells E.Engine engine.old engine.new (λ m. OnOk result (AreTileLevels m corner into.new)) }
-{
-    let levels = engine.levels(corner)?;
-    if levels.len() != into.len() {
-        return Err(Refusal::BadLength);
-    }
-    into.copy_from_slice(&levels);
-    Ok(())
+/// What is told of a tile's samples.
+pub trait TileValues {
+    type Value: Copy;
+
+    /// That these are the values of the samples of the corner's tile, row by row from the north, west first.
+    ghost are: { Mosaic → Corner → List Self.Value → Type 0 };
+
+    /// The tile's values, by one question.
+    fn of<E: Engine>(engine: &mut E, corner: Corner) -> Result<Vec<Self::Value>, Refusal>
+        ensures { Tells E.Engine engine.old engine.new 1 (refusal_of result) (λ m. OfTile m corner (are m corner) result) };
 }
 
-/// Puts the codes of the directions of all samples of the corner's tile, 255 where a sample's point isn't ground. Refused as
-/// `tile_levels` is.
-pub fn tile_directions<E: Engine>(
-    engine: &mut E,
-    corner: Corner,
-    into: &mut [u8],
-) -> Result<(), Refusal>
-    ensures { Tells E.Engine engine.old engine.new (λ m. OnOk result (AreTileDirections m corner into.new)) }
-{
-    let codes = engine.directions(corner)?;
-    if codes.len() != into.len() {
-        return Err(Refusal::BadLength);
+/// How many points drain through a sample's point, itself among them; 0 where it isn't ground.
+#[derive(Clone, Copy)]
+pub struct Upstream;
+
+impl TileValues for Level {
+    type Value = i16;
+
+    ghost are = { AreTileLevels };
+
+    fn of<E: Engine>(engine: &mut E, corner: Corner) -> Result<Vec<i16>, Refusal> {
+        engine.levels(corner)
     }
-    into.copy_from_slice(&codes);
-    Ok(())
 }
 
-/// Puts how many points drain through each sample of the corner's tile, itself among them; 0 where a sample's point isn't
-/// ground. Refused as `tile_levels` is.
-pub fn upstream<E: Engine>(engine: &mut E, corner: Corner, into: &mut [u32]) -> Result<(), Refusal>
-    ensures { Tells E.Engine engine.old engine.new (λ m. OnOk result (AreTileCounts m corner into.new)) }
+impl TileValues for Course {
+    type Value = u8;
+
+    ghost are = { AreTileDirections };
+
+    fn of<E: Engine>(engine: &mut E, corner: Corner) -> Result<Vec<u8>, Refusal> {
+        engine.directions(corner)
+    }
+}
+
+impl TileValues for Upstream {
+    type Value = u32;
+
+    ghost are = { AreTileCounts };
+
+    fn of<E: Engine>(engine: &mut E, corner: Corner) -> Result<Vec<u32>, Refusal> {
+        engine.upstream(corner)
+    }
+}
+
+/// The values of all samples of the tile whose south-west sample is at this latitude and longitude, in degrees.
+#[derive(Clone, Copy)]
+pub struct Tile<V>(pub V, pub i16, pub i16);
+
+impl<V: TileValues> Question for Tile<V> {
+    type Answer = ();
+
+    type Element = V::Value;
+
+    ghost refused_first = { λ q len. refused_corner (record { lat = q.1; lon = q.2 }) };
+
+    ghost count = { λ q. 1 };
+
+    ghost says = { λ q m into result. OfCopy m (record { lat = q.1; lon = q.2 }) (V.are m (record { lat = q.1; lon = q.2 })) into result };
+
+    fn ask<E: Engine>(&self, engine: &mut E, into: &mut [V::Value]) -> Result<(), Refusal> {
+        let Some(corner) = Corner::new(self.1, self.2) else {
+            return Err(Refusal::BadName);
+        };
+        let values = V::of(engine, corner)?;
+        copy(values.as_slice(), into)
+    }
+}
+
+// Copies the values, if there are as many as the slice has elements.
+fn copy<T: Copy>(values: &[T], into: &mut [T]) -> Result<(), Refusal>
+    ensures { MatchResult result (λ _. into.new ≡ values.now) (λ r. (r ≡ BadLength) × (length values.now ≢ length into.new)) }
 {
-    let counts = engine.upstream(corner)?;
-    if counts.len() != into.len() {
+    if values.len() != into.len() {
         return Err(Refusal::BadLength);
     }
-    into.copy_from_slice(&counts);
+    into.copy_from_slice(values);
     Ok(())
 }

@@ -1,140 +1,125 @@
 //! What is told of each point of a window.
-ghost use Rattle.std.specs.Prelude.{◌≡◌, ◌<◌, suc, OnOk, IfOk, Result, length};
+ghost use Rattle.std.specs.Prelude.{◌≡◌, ◌<◌, ◌*◌, suc, None, length};
 ghost use Rattle.lattice.specs.Ground.{metres};
 ghost use Rattle.lattice.specs.Height.{height_of};
+ghost use Rattle.lattice.specs.Mosaic.{Mosaic};
+ghost use Rattle.lattice.specs.declared.point.Point.{Point};
 ghost use Rattle.drainage.specs.TileLevels.{IsLevelOrVoid};
 ghost use Rattle.watershed.specs.Questions.{IsCodeOrNone};
-ghost use Rattle.windows.specs.Telling.{Tells};
-ghost use Rattle.windows.specs.Windows.{point_in, AreOfAll, AreLevelsTo, AreHeightsTo, AreDirectionsTo};
+ghost use Rattle.windows.specs.Results.{OfAny};
+ghost use Rattle.windows.specs.Telling.{Tells, refusal_of};
+ghost use Rattle.windows.specs.Windows.{AreTo, AreOfAll, refused_at_once};
 
 use crate::Window;
+use crate::question::Question;
 use engine::Engine;
 use lattice::{Height, Point, Refusal, VOID};
 
 /// The code of a point that isn't ground.
 const NO_GROUND: u8 = 255;
 
-/// Puts the filled levels of a window's points, in metres, row by row from the north-west; void where a point isn't ground.
-///
-/// Refused with BadLength where the slice isn't as long as the window has points, with BadBox where it has points beyond the
-/// lattice, and else as a level is.
-pub fn levels<E: Engine>(engine: &mut E, window: Window, into: &mut [i16]) -> Result<(), Refusal>
-    ensures { Tells E.Engine engine.old engine.new (λ m. OnOk result (AreOfAll m window (AreLevelsTo m window) into.new)) }
-{
-    window.check_len(into.len())?;
-    for k in 0..into.len() {
-        put_level(engine, window, k, into)?;
-    }
-    Ok(())
+/// What is told of a point.
+pub trait PointValue {
+    type Value: Copy;
+
+    /// That this is the point's value on the mosaic.
+    ghost is: { Mosaic → Point → Self.Value → Type 0 };
+
+    /// The point's value, by one question.
+    fn at<E: Engine>(engine: &mut E, point: Point) -> Result<Self::Value, Refusal>
+        ensures { Tells E.Engine engine.old engine.new 1 (refusal_of result) (λ m. OfAny (is m point) result) };
 }
 
-// Puts the level of the point of this number.
-fn put_level<E: Engine>(
+/// The filled level, in metres; void where the point isn't ground.
+#[derive(Clone, Copy)]
+pub struct Level;
+
+/// The code of the direction, 0 where water leaves the mosaic; 255 where the point isn't ground.
+#[derive(Clone, Copy)]
+pub struct Course;
+
+/// The height, in metres; void where the point has none.
+#[derive(Clone, Copy)]
+pub struct Elevation;
+
+impl PointValue for Level {
+    type Value = i16;
+
+    ghost is = { IsLevelOrVoid };
+
+    fn at<E: Engine>(engine: &mut E, point: Point) -> Result<i16, Refusal> {
+        match engine.fill(point) {
+            Ok(level) => Ok(level),
+            Err(Refusal::Outside) | Err(Refusal::Void) => Ok(VOID),
+            Err(refusal) => Err(refusal),
+        }
+    }
+}
+
+impl PointValue for Course {
+    type Value = u8;
+
+    ghost is = { IsCodeOrNone };
+
+    fn at<E: Engine>(engine: &mut E, point: Point) -> Result<u8, Refusal> {
+        match engine.direction(point) {
+            Ok(code) => Ok(code),
+            Err(Refusal::Outside) | Err(Refusal::Void) => Ok(NO_GROUND),
+            Err(refusal) => Err(refusal),
+        }
+    }
+}
+
+impl PointValue for Elevation {
+    type Value = i16;
+
+    ghost is = { λ m p h. h ≡ metres (height_of m p) };
+
+    fn at<E: Engine>(engine: &mut E, point: Point) -> Result<i16, Refusal> {
+        match engine.elevation(point)? {
+            Height::At(height) => Ok(height),
+            Height::Outside | Height::Void => Ok(VOID),
+        }
+    }
+}
+
+/// The values of a window's points, row by row from the north-west.
+#[derive(Clone, Copy)]
+pub struct Each<V>(pub V, pub Window);
+
+impl<V: PointValue> Question for Each<V> {
+    type Answer = ();
+
+    type Element = V::Value;
+
+    ghost refused_first = { λ q len. refused_at_once q.1 len };
+
+    ghost count = { λ q. q.1.rows * q.1.columns };
+
+    ghost says = { λ q m into result. OfAny (λ _. AreOfAll q.1 (V.is m) into) result };
+
+    fn ask<E: Engine>(&self, engine: &mut E, into: &mut [V::Value]) -> Result<(), Refusal> {
+        self.1.check(into.len())?;
+        for k in 0..into.len() {
+            put::<V, E>(engine, self.1, k, into)?;
+        }
+        Ok(())
+    }
+}
+
+// Puts the value of the point of this number.
+fn put<V: PointValue, E: Engine>(
     engine: &mut E,
     window: Window,
     k: usize,
-    into: &mut [i16],
+    into: &mut [V::Value],
 ) -> Result<(), Refusal>
-    requires { k < length into.old }
+    requires inside { k < length into.old }
+    requires askable { refused_at_once window (length into.old) ≡ None }
     ensures whole { length into.new ≡ length into.old }
-    ensures tells { Tells E.Engine engine.old engine.new (λ m. OnOk result (AreLevelsTo m window k into.old → AreLevelsTo m window (suc k) into.new)) }
+    ensures tells { Tells E.Engine engine.old engine.new 1 (refusal_of result)
+        (λ m. OfAny (λ _. AreTo window (V.is m) k into.old → AreTo window (V.is m) (suc k) into.new) result) }
 {
-    let Some(point) = window.point(k) else {
-        return Err(Refusal::BadBox);
-    };
-    into[k] = level_at(engine, point)?;
+    into[k] = V::at(engine, window.point(k, into.len()))?;
     Ok(())
-}
-
-// The filled level of the point; void where it isn't ground.
-fn level_at<E: Engine>(engine: &mut E, point: Point) -> Result<i16, Refusal>
-    ensures { Tells E.Engine engine.old engine.new (λ m. IfOk result (IsLevelOrVoid m point)) }
-{
-    match engine.fill(point) {
-        Ok(level) => Ok(level),
-        Err(Refusal::Outside) => Ok(VOID),
-        Err(Refusal::Void) => Ok(VOID),
-        Err(refusal) => Err(refusal),
-    }
-}
-
-/// Puts the codes of the directions of a window's points, 255 where a point isn't ground. Refused as `levels` is.
-pub fn directions<E: Engine>(engine: &mut E, window: Window, into: &mut [u8]) -> Result<(), Refusal>
-    ensures { Tells E.Engine engine.old engine.new (λ m. OnOk result (AreOfAll m window (AreDirectionsTo m window) into.new)) }
-{
-    window.check_len(into.len())?;
-    for k in 0..into.len() {
-        put_code(engine, window, k, into)?;
-    }
-    Ok(())
-}
-
-// Puts the code of the point of this number.
-fn put_code<E: Engine>(
-    engine: &mut E,
-    window: Window,
-    k: usize,
-    into: &mut [u8],
-) -> Result<(), Refusal>
-    requires { k < length into.old }
-    ensures whole { length into.new ≡ length into.old }
-    ensures tells { Tells E.Engine engine.old engine.new (λ m. OnOk result (AreDirectionsTo m window k into.old → AreDirectionsTo m window (suc k) into.new)) }
-{
-    let Some(point) = window.point(k) else {
-        return Err(Refusal::BadBox);
-    };
-    into[k] = code_at(engine, point)?;
-    Ok(())
-}
-
-// The code of the point's direction; 255 where it isn't ground.
-fn code_at<E: Engine>(engine: &mut E, point: Point) -> Result<u8, Refusal>
-    ensures { Tells E.Engine engine.old engine.new (λ m. IfOk result (IsCodeOrNone m point)) }
-{
-    match engine.direction(point) {
-        Ok(code) => Ok(code),
-        Err(Refusal::Outside) => Ok(NO_GROUND),
-        Err(Refusal::Void) => Ok(NO_GROUND),
-        Err(refusal) => Err(refusal),
-    }
-}
-
-/// Puts the heights of a window's points, in metres; void where a point has none. Refused as `levels` is.
-pub fn heights<E: Engine>(engine: &mut E, window: Window, into: &mut [i16]) -> Result<(), Refusal>
-    ensures { Tells E.Engine engine.old engine.new (λ m. OnOk result (AreOfAll m window (AreHeightsTo m window) into.new)) }
-{
-    window.check_len(into.len())?;
-    for k in 0..into.len() {
-        put_height(engine, window, k, into)?;
-    }
-    Ok(())
-}
-
-// Puts the height of the point of this number.
-fn put_height<E: Engine>(
-    engine: &mut E,
-    window: Window,
-    k: usize,
-    into: &mut [i16],
-) -> Result<(), Refusal>
-    requires { k < length into.old }
-    ensures whole { length into.new ≡ length into.old }
-    ensures tells { Tells E.Engine engine.old engine.new (λ m. OnOk result (AreHeightsTo m window k into.old → AreHeightsTo m window (suc k) into.new)) }
-{
-    let Some(point) = window.point(k) else {
-        return Err(Refusal::BadBox);
-    };
-    into[k] = height_at(engine, point)?;
-    Ok(())
-}
-
-// The height of the point; void where it has none.
-fn height_at<E: Engine>(engine: &mut E, point: Point) -> Result<i16, Refusal>
-    ensures { Tells E.Engine engine.old engine.new (λ m. IfOk result (λ h. h ≡ metres (height_of m point))) }
-{
-    match engine.elevation(point)? {
-        Height::At(height) => Ok(height),
-        Height::Outside => Ok(VOID),
-        Height::Void => Ok(VOID),
-    }
 }

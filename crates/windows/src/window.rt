@@ -1,8 +1,12 @@
 //! Windows of the lattice.
-ghost use Rattle.std.specs.Prelude.{◌≡◌, ◌-ℤ◌, ◌+ℤ◌, ◌*◌, pos, IfSome, OnOk, Result};
-ghost use Rattle.windows.specs.Windows.{point_in};
+ghost use Rattle.std.specs.Prelude.{◌≡◌, ◌<◌, ◌≤◌, ◌↔◌, ◌<ℤ◌, ◌≤ℤ◌, ◌+ℤ◌, ◌-ℤ◌, ℕ, FitsSigned, MatchOption, None, pos};
+ghost use Rattle.watershed.specs.Runs.{IsInRun};
+ghost use Rattle.std.specs.Int.{w32};
+ghost use Rattle.windows.specs.Telling.{refusal_of};
+ghost use Rattle.windows.specs.Windows.{point_in, is_beyond, refused_at_once};
 
 use lattice::{Point, Refusal};
+use watershed::Run;
 
 /// A window of the lattice: its north-west point, how many rows it has, which go southwards, and how many columns.
 #[repr(C)]
@@ -15,43 +19,114 @@ pub struct Window {
 }
 
 impl Window {
-    /// The point of this number, row by row from the north-west, where the lattice has it.
-    pub(crate) fn point(self, number: usize) -> Option<Point>
-        ensures { IfSome result (λ point. point ≡ point_in self number) }
+    /// Refused with BadLength unless it has so many points, and with BadBox where some of them have coordinates beyond 32 bits.
+    pub(crate) fn check(self, len: usize) -> Result<(), Refusal>
+        ensures { refusal_of result ≡ refused_at_once self len }
+    {
+        if u64::from(self.rows) * u64::from(self.columns) != len as u64 {
+            return Err(Refusal::BadLength);
+        }
+        if len > 0 && self.is_beyond() {
+            return Err(Refusal::BadBox);
+        }
+        Ok(())
+    }
+
+    // Whether its last row or its last column is beyond 32 bits.
+    fn is_beyond(self) -> bool
+        ensures { result ≡ is_beyond self }
+    {
+        let south = i64::from(self.north) - i64::from(self.rows.saturating_sub(1));
+        if south < i64::from(i32::MIN) {
+            return true;
+        }
+        let east = i64::from(self.west) + i64::from(self.columns.saturating_sub(1));
+        if i64::from(i32::MAX) < east {
+            return true;
+        }
+        false
+    }
+
+    /// The point of this number, row by row from the north-west.
+    pub(crate) fn point(self, number: usize, len: usize) -> Point
+        requires inside { number < len }
+        requires askable { refused_at_once self len ≡ None }
+        ensures { result ≡ point_in self number }
     {
         let columns = self.columns as usize;
-        if columns == 0 {
-            return None;
+        Point {
+            y: below(self.north, (number / columns) as u32),
+            x: above(self.west, (number % columns) as u32),
         }
-        let y = south_of(self.north, number / columns)?;
-        let x = east_of(self.west, number % columns)?;
-        Some(Point { y, x })
     }
 
-    /// Refused as BadLength unless it has so many points.
-    pub(crate) fn check_len(self, len: usize) -> Result<(), Refusal>
-        ensures { OnOk result (len ≡ self.rows * self.columns) }
+    /// The numbers of its points that lie in the run: from the first, up to the second.
+    pub(crate) fn numbers_in(self, run: Run, len: usize) -> (usize, usize)
+        requires { refused_at_once self len ≡ None }
+        ensures ordered { result.0 ≤ result.1 }
+        ensures within { result.1 ≤ len }
+        ensures exact { (k : ℕ) → k < len → ((result.0 ≤ k) × (k < result.1)) ↔ IsInRun run (point_in self k) }
     {
-        if u64::from(self.rows) * u64::from(self.columns) == len as u64 {
-            Ok(())
-        } else {
-            Err(Refusal::BadLength)
+        let Some(row) = ahead(run.y, self.north) else {
+            return (0, 0);
+        };
+        let first = first_from(self.west, run.first);
+        let after = first_after(self.west, run.last).min(self.columns);
+        if row >= self.rows || first >= after {
+            return (0, 0);
         }
+        let start = row as usize * self.columns as usize;
+        (start + first as usize, start + after as usize)
     }
 }
 
-fn south_of(from: i32, by: usize) -> Option<i32>
-    ensures { IfSome result (λ y. y ≡ from -ℤ pos by) }
+// So far below.
+fn below(from: i32, by: u32) -> i32
+    requires { FitsSigned w32 (from -ℤ pos by) }
+    ensures { result ≡ from -ℤ pos by }
 {
-    let by = i64::try_from(by).ok()?;
-    let y = i64::from(from).checked_sub(by)?;
-    i32::try_from(y).ok()
+    match from.checked_sub_unsigned(by) {
+        Some(number) => number,
+        None => from,
+    }
 }
 
-fn east_of(from: i32, by: usize) -> Option<i32>
-    ensures { IfSome result (λ x. x ≡ from +ℤ pos by) }
+// So far above.
+fn above(from: i32, by: u32) -> i32
+    requires { FitsSigned w32 (from +ℤ pos by) }
+    ensures { result ≡ from +ℤ pos by }
 {
-    let by = i64::try_from(by).ok()?;
-    let x = i64::from(from).checked_add(by)?;
-    i32::try_from(x).ok()
+    match from.checked_add_unsigned(by) {
+        Some(number) => number,
+        None => from,
+    }
+}
+
+// How far the second lies above the first, where it isn't below it.
+fn ahead(from: i32, to: i32) -> Option<u32>
+    ensures { MatchOption result (to <ℤ from) (λ by. to ≡ from +ℤ pos by) }
+{
+    if to < from {
+        None
+    } else {
+        Some(to.abs_diff(from))
+    }
+}
+
+// How far above the first the second lies, 0 where it is below it.
+fn first_from(from: i32, to: i32) -> u32
+    ensures { (c : ℕ) → (result ≤ c) ↔ (to ≤ℤ (from +ℤ pos c)) }
+{
+    if to < from { 0 } else { to.abs_diff(from) }
+}
+
+// How far above the first what comes after the second lies, up to the largest number, 0 where that isn't above it.
+fn first_after(from: i32, to: i32) -> u32
+    ensures { (c : ℕ) → c < 4294967295 → (c < result) ↔ ((from +ℤ pos c) ≤ℤ to) }
+{
+    if to < from {
+        0
+    } else {
+        to.abs_diff(from).saturating_add(1)
+    }
 }

@@ -1,15 +1,13 @@
-use Rattle.std.proofs.Common.{rules, SFits, w32, ap, ◌∙◌}
-use Rattle.core.specs.Mem.{manually_drop_value}
+use Rattle.std.proofs.Common.{rules, SFits, w32, None}
 use Rattle.lattice.specs.Ground.{terrain}
 use Rattle.lattice.specs.Terrain.{IsFilledLevel}
-use Rattle.mosaic_c.proofs.Answered.{answered, of_point, on_ok}
+use Rattle.windows.specs.Results.{OfPoint}
+use Rattle.mosaic_c.specs.Sessions.{Told}
+use Rattle.mosaic_c.proofs.Answered.{of_point}
 use Rattle.mosaic_c.proofs.exports.mosaic_fill.Goals as goal
 
 pub returns : goal.returns
 returns c =
-    let told = c.fill-answer.ensures in
     let fits_y : SFits w32 c.args.y = search rules in
     let fits_x : SFits w32 c.args.x = search rules in
-    answered c.in-Some.ensures.session (c.deref_mut-2.ensures.value ∙ ap manually_drop_value c.deref_mut.ensures.value) c.put.ensures
-    (told.kept tt) (λ zero contents has.
-    of_point (λ p. IsFilledLevel (terrain contents.mosaic) p c.fill-answer.new.into) c.args.y c.args.x fits_y fits_x (on_ok c.fill-answer.result (c.number_of.ensures zero) (told.says tt contents has)))
+    of_point (λ p. Told c.args.held.now c.tell.new.held c.tell.result c.tell.new.answer None (λ m answer. OfPoint m p (IsFilledLevel (terrain m) p) answer)) c.args.y c.args.x fits_y fits_x c.tell.ensures

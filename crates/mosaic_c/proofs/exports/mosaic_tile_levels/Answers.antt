@@ -1,16 +1,12 @@
-use Rattle.std.proofs.Common.{rules, SFits, w16, ap, ◌∙◌, subst}
-use Rattle.core.specs.Mem.{manually_drop_value}
-use Rattle.lattice.specs.Corners.{Corner}
+use Rattle.std.proofs.Common.{rules, SFits, w16}
 use Rattle.tile_flood.specs.Raising.{AreTileLevels}
-use Rattle.mosaic_c.proofs.Answered.{answered, of_corner, on_ok}
+use Rattle.windows.specs.Results.{OfCopy, refused_corner}
+use Rattle.mosaic_c.specs.Sessions.{Told}
+use Rattle.mosaic_c.proofs.Answered.{of_corner}
 use Rattle.mosaic_c.proofs.exports.mosaic_tile_levels.Goals as goal
 
 pub returns : goal.returns
 returns c =
-    let told = c.tile_levels-answer.ensures in
     let fits_lat : SFits w16 c.args.lat = search rules in
     let fits_lon : SFits w16 c.args.lon = search rules in
-    answered c.in-Some-take.ensures.session (c.deref_mut-2.ensures.value ∙ ap manually_drop_value c.deref_mut.ensures.value) c.put.ensures
-    (told.kept tt) (λ zero contents has.
-    of_corner (λ k. AreTileLevels contents.mosaic k c.tile_levels-answer.new.into) c.args.lat c.args.lon fits_lat fits_lon
-    (subst (λ (k : Corner). AreTileLevels contents.mosaic k c.tile_levels-answer.new.into) c.in-Some.ensures.1 (on_ok c.tile_levels-answer.result (c.number_of.ensures zero) (told.says tt contents has))))
+    of_corner (λ k. Told c.args.held.now c.tell.new.held c.tell.result (tt {0}) (refused_corner k) (λ m answer. OfCopy m k (AreTileLevels m k) c.tell.new.into answer)) c.args.lat c.args.lon fits_lat fits_lon c.tell.ensures

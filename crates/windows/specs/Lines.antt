@@ -1,0 +1,46 @@
+-- Questions by lines (this product's own profile).
+use Rattle.std.specs.Prelude.{◌≡◌, ◌≤◌, ℕ, min, List, length, take}
+use Rattle.lattice.specs.declared.refusal.Refusal.{Refusal}
+use Rattle.lattice.specs.declared.refusal.Refusal.TheVariants.{BadLine, BadName}
+use Rattle.engine.specs.Engines.{IsCall}
+use Rattle.engine.specs.Members.{members}
+use Rattle.engine.specs.declared.engine.Engine.{Ghosts}
+use Rattle.engine.specs.declared.event.Event.{Event}
+use Rattle.engine.specs.declared.event.Event.TheVariants as ask
+use Rattle.engine.specs.declared.event.Reply.{Reply}
+use Rattle.lines.specs.Grammar.{AskEvent, AskNoTile, LineAsks}
+use Rattle.lines.specs.Telling.{Tells}
+use Rattle.lines.specs.declared.language.Language.TheVariants.{Tiles}
+
+-- the event only asks: it is no command, no step and no reopening
+abbrev pub OnlyAsks : Event → Type 0
+OnlyAsks (ask.Do c) = ⊥
+OnlyAsks ask.Step = ⊥
+OnlyAsks ask.Reopen = ⊥
+OnlyAsks event = Unit {0}
+
+-- the line asks only, and for this
+abbrev pub AsksOnly : List ℕ → Event → Type 0
+AsksOnly line event = LineAsks Tiles line (AskEvent event) × OnlyAsks event
+
+-- why a line isn't asked: it names no tile, or is no question
+abbrev pub IsNoQuestion : List ℕ → Refusal → Type 0
+IsNoQuestion line BadName = LineAsks Tiles line AskNoTile
+IsNoQuestion line BadLine = ((event : Event) → AsksOnly line event → ⊥) × (LineAsks Tiles line AskNoTile → ⊥)
+IsNoQuestion line r = ⊥
+
+-- the bytes are so many, up to the largest 64-bit number, and stand in front where there is room for them
+pub record IsPut (bytes : List ℕ) (into : List ℕ) (count : ℕ) : Type 0 where
+  pub counted : count ≡ min (length bytes) 18446744073709551615
+  pub put : length bytes ≤ length into → take (length bytes) into ≡ bytes
+
+module _ {E : Type 0} (g : Ghosts E) where
+  -- the line was asked, and its reply was put
+  pub record IsReplied (old new : E) (line : List ℕ) (into : List ℕ) (count : ℕ) : Type 0 where
+    pub event : Event
+    pub asks : AsksOnly line event
+    pub answer : Reply
+    pub call : IsCall (members g) old event answer new
+    pub text : List ℕ
+    pub told : Tells answer text
+    pub put : IsPut text into count

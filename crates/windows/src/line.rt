@@ -1,0 +1,90 @@
+//! Questions by lines.
+ghost use Rattle.lattice.specs.declared.refusal.Refusal.TheVariants.{BadLine};
+ghost use Rattle.std.specs.Prelude.{◌≡◌, ◌+◌, ◌≤◌, ◌++◌, min, length, take, MatchResult};
+ghost use Rattle.windows.specs.Lines.{AsksOnly, IsNoQuestion, IsPut, IsReplied, OnlyAsks};
+
+use engine::{Engine, Event};
+use lattice::Refusal;
+use lines::{Language, Request, Rest, Text, format_reply, request_of};
+use std::alloc::Global;
+
+/// Asks the question of a line, which is without its LF, and puts the bytes of its reply, which are those that a session writes.
+/// Answers how many they are: where that is more than the slice has, what it holds is no reply.
+///
+/// A line that is no question is refused before anything is asked: a command or a step, and what isn't in the language, with
+/// BadLine; what names no tile, with BadName.
+pub fn ask<E: Engine>(
+    alloc: Global,
+    engine: &mut E,
+    line: &[u8],
+    into: &mut [u8],
+) -> Result<usize, Refusal>
+    ensures { MatchResult result (λ count. IsReplied E.Engine engine.old engine.new line.now into.new count)
+        (λ r. IsNoQuestion line.now r × (engine.new ≡ engine.old)) }
+{
+    let event = question_of(line)?;
+    let text = format_reply(alloc, engine.answer(&event));
+    Ok(put(&text, into))
+}
+
+// What the line asks for.
+fn question_of(line: &[u8]) -> Result<Event, Refusal>
+    ensures { MatchResult result (AsksOnly line.now) (IsNoQuestion line.now) }
+{
+    if line.len() > MOST_BYTES {
+        return Err(Refusal::BadLine);
+    }
+    match request_of(Language::Tiles, line) {
+        Some(Request::Ask(event)) => only_question(event),
+        Some(Request::BadName) => Err(Refusal::BadName),
+        Some(Request::Import { .. }) => Err(Refusal::BadLine),
+        Some(Request::Quit) => Err(Refusal::BadLine),
+        None => Err(Refusal::BadLine),
+    }
+}
+
+/// The most bytes of a line.
+const MOST_BYTES: usize = 2048;
+
+// The event, unless it changes what is stored.
+fn only_question(event: Event) -> Result<Event, Refusal>
+    ensures { MatchResult result (λ asked. (asked ≡ event) × OnlyAsks event) (λ r. (r ≡ BadLine) × (OnlyAsks event → ⊥)) }
+{
+    match event {
+        Event::Do(_) | Event::Step | Event::Reopen => Err(Refusal::BadLine),
+        question => Ok(question),
+    }
+}
+
+// Puts the bytes of the text.
+fn put(text: &Text, into: &mut [u8]) -> usize
+    ensures { IsPut text.now into.new result }
+{
+    let (rest, bytes) = text.parts();
+    let at = put_rest(rest, into);
+    put_bytes(bytes, at, into)
+}
+
+// Puts what is left of a text, each part as it is made.
+fn put_rest(mut rest: Rest<'_>, into: &mut [u8]) -> usize
+    ensures { IsPut rest.entry into.new result }
+{
+    let mut at = 0;
+    while !rest.is_made() {
+        let part = rest.next_part();
+        at = put_bytes(part.as_slice(), at, into);
+    }
+    at
+}
+
+// Puts more bytes behind so many, where there is room for them.
+fn put_bytes(bytes: &[u8], at: usize, into: &mut [u8]) -> usize
+    ensures counted { result ≡ min (at + length bytes.now) 18446744073709551615 }
+    ensures put { at + length bytes.now ≤ length into.old → take (at + length bytes.now) into.new ≡ take at into.old ++ bytes.now }
+{
+    let to = at.saturating_add(bytes.len());
+    if to <= into.len() {
+        into[at..to].copy_from_slice(bytes);
+    }
+    to
+}

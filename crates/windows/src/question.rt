@@ -1,0 +1,33 @@
+//! What an engine is asked at once.
+ghost use Rattle.std.specs.Prelude.{ℕ, List, Option, Result, length};
+ghost use Rattle.lattice.specs.Mosaic.{Mosaic};
+ghost use Rattle.lattice.specs.declared.refusal.Refusal.{Refusal};
+ghost use Rattle.windows.specs.Telling.{Asked, refusal_of};
+
+use engine::Engine;
+use lattice::Refusal;
+
+/// A question about an engine's mosaic. Its answer is a value, and what it puts into the caller's slice.
+pub trait Question {
+    type Answer: Copy;
+
+    type Element;
+
+    /// What it is refused with before anything is asked, for a slice of this length.
+    ghost refused_first: { Self → ℕ → Option Refusal };
+
+    /// How many calls it is, where none is refused.
+    ghost count: { Self → ℕ };
+
+    /// What is so of the mosaic once the slice is left so and this is the result.
+    ghost says: { Self → Mosaic → List Self.Element → Result Self.Answer Refusal → Type 0 };
+
+    /// Asks it.
+    fn ask<E: Engine>(
+        &self,
+        engine: &mut E,
+        into: &mut [Self::Element],
+    ) -> Result<Self::Answer, Refusal>
+        ensures { Asked E.Engine engine.old engine.new (refused_first self.now (length into.old)) (count self.now) (refusal_of result)
+            (λ m. says self.now m into.new result) };
+}
