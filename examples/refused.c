@@ -3,6 +3,7 @@
 #include "mosaic.h"
 #include <stdio.h>
 #include <stdlib.h>
+#include <string.h>
 
 static uint8_t image[1 << 20], zeros[1 << 16];
 static mosaic_handle handle;
@@ -14,6 +15,16 @@ static uint8_t opened(const uint8_t *bytes, size_t count) {
     uint8_t number = mosaic_open(&handle, bytes, count);
     mosaic_close(&handle);
     return number;
+}
+
+/* Asks a line, and writes its number and, where it is answered, its reply. */
+static void asked(const char *line, size_t room) {
+    uint8_t reply[64];
+    size_t bytes = 0;
+    uint8_t number = mosaic_ask(&handle, (const uint8_t *)line, strlen(line), &bytes, reply, room);
+    printf("%s: %d %zu", line, number, bytes);
+    if (number == 0) printf(" %.*s", (int)bytes - 1, (const char *)reply);
+    printf("\n");
 }
 
 /* Opens the image with each byte of its first sectors altered in turn, and asks each that opens. */
@@ -46,6 +57,20 @@ int main(int count, char **words) {
     told("its middle", (uint8_t)into[4]);
     told("upstream counts", mosaic_upstream(&handle, 0, 0, counts, 9));
     told("at the outlet", (uint8_t)counts[8]);
+    uint64_t points = 0;
+    uint8_t marks[9];
+    told("a watershed", mosaic_watershed(&handle, 0, 2, &whole, &points, marks, 9));
+    told("its points", (uint8_t)points);
+    told("the north-west in it", marks[0]);
+    told("the middle in it", marks[4]);
+    told("a watershed of a shorter array", mosaic_watershed(&handle, 0, 2, &whole, &points, marks, 8));
+    told("a watershed of a point outside", mosaic_watershed(&handle, 9, 9, &whole, &points, marks, 9));
+    asked("fill 1 1", 64);
+    asked("fill 9 9", 64);
+    asked("trace 1 1", 8);
+    asked("levels N0", 64);
+    asked("burn 1 1 1", 64);
+    asked("step", 64);
     told("a shorter array", mosaic_levels(&handle, &whole, into, 8));
     told("a window beyond the lattice", mosaic_levels(&handle, &beyond, into, 9));
     told("a window beyond all numbers", mosaic_levels(&handle, &vast, into, 1));

@@ -1,8 +1,8 @@
-/* The store in a program's own process: heights, filled levels, directions and upstream counts, read from the bytes of a store's
- * file.
+/* The store in a program's own process: heights, filled levels, directions, watersheds and upstream counts, read from the bytes of a
+ * store's file.
  *
  * It only reads: nothing here changes a store. Each function answers 0, or the number of a refusal (docs/messages.md), and then
- * what it was to fill may hold anything.
+ * what it was to fill may hold anything. A refusal leaves the store open, as it was.
  *
  * Points: y grows northwards and x eastwards, in samples, from 0 N 0 E; a degree has side - 1 of them. Heights and levels are whole
  * metres, MOSAIC_VOID where there is none. A direction is 1 for east and each next one clockwise twice as much, 0 where water leaves
@@ -16,9 +16,16 @@
  * - malloc, realloc and free are of one allocator. No function is called from a signal handler, or after fork from a child of a
  *   program with threads.
  *
- * Refusals: 2 BadName (no such corner), 3 BadLength (the array isn't as long as the window or the tile has points), 5 NoTile,
- * 7 Outside, 8 Void, 12 BadBox (points beyond the lattice), 21 NoMemory, 22 Failed (the handle holds no store), 23 Damaged; from
- * opening also 30 NotAStore, 31 Version, 34 TooSmall. */
+ * Refusals, each of which comes where it says so and nowhere else, but for those that may come of any question of an open handle: 20
+ * Device and 23 Damaged (the image is no store's), 21 NoMemory.
+ *   22 Failed     before all others, where the handle holds no store
+ *   3 BadLength   a window's array hasn't rows * columns elements, a tile's not side * side; a reply is longer than its buffer
+ *   12 BadBox     a window of a right length has points whose coordinates don't fit 32 bits
+ *   2 BadName     there is no corner of a tile at these degrees; a line names no tile
+ *   5 NoTile      the tile isn't there
+ *   7 Outside     of a single point that no tile holds, 8 Void of one that has no height: in a window's array these have a value
+ *   1 BadLine     a line is no question
+ * From opening also 30 NotAStore, 31 Version, 34 TooSmall. */
 #ifndef MOSAIC_H
 #define MOSAIC_H
 
@@ -57,6 +64,10 @@ uint8_t mosaic_count(mosaic_handle *handle, uint64_t *into);
 uint8_t mosaic_fill(mosaic_handle *handle, int32_t y, int32_t x, int16_t *into);
 uint8_t mosaic_direction(mosaic_handle *handle, int32_t y, int32_t x, uint8_t *into);
 
+/* Which points of a window drain through this point, 1 or 0, and how many points do at all, in the window or not. */
+uint8_t mosaic_watershed(mosaic_handle *handle, int32_t y, int32_t x, const mosaic_window *window, uint64_t *points, uint8_t *into,
+                         size_t count);
+
 /* Of all points of a window: count is rows * columns. */
 uint8_t mosaic_heights(mosaic_handle *handle, const mosaic_window *window, int16_t *into, size_t count);
 uint8_t mosaic_levels(mosaic_handle *handle, const mosaic_window *window, int16_t *into, size_t count);
@@ -67,6 +78,11 @@ uint8_t mosaic_tile_levels(mosaic_handle *handle, int16_t latitude, int16_t long
 uint8_t mosaic_tile_directions(mosaic_handle *handle, int16_t latitude, int16_t longitude, uint8_t *into, size_t count);
 /* .. how many points drain through each, itself among them; 0 where its point isn't ground. */
 uint8_t mosaic_upstream(mosaic_handle *handle, int16_t latitude, int16_t longitude, uint32_t *into, size_t count);
+
+/* The reply to the line of a question, without its LF, in the language of `mosaic-tiles serve`: the bytes that it would write, a
+ * refused question's `ERR` and all. `bytes` is how many they are, also where they don't fit and BadLength is answered. Commands and
+ * `step` are no questions: they are refused before anything is asked. */
+uint8_t mosaic_ask(mosaic_handle *handle, const uint8_t *line, size_t length, size_t *bytes, uint8_t *into, size_t count);
 
 #ifdef __cplusplus
 }

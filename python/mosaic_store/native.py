@@ -43,6 +43,14 @@ class _Window(ctypes.Structure):
     _fields_ = (("north", ctypes.c_int32), ("west", ctypes.c_int32), ("rows", ctypes.c_uint32), ("columns", ctypes.c_uint32))
 
 
+def _asked(window: Window) -> _Window:
+    return _Window(window.y1, window.x0, window.height, window.width)
+
+
+# A reply is first given so many bytes, and else those that it has.
+_FIRST_ROOM = 4096
+_BAD_LENGTH = 3
+
 _POINTER, _COUNT = ctypes.c_void_p, ctypes.c_size_t
 _OF_WINDOW = (ctypes.POINTER(_Window), _POINTER, _COUNT)
 _OF_TILE = (ctypes.c_int16, ctypes.c_int16, _POINTER, _COUNT)
@@ -51,6 +59,8 @@ _FUNCTIONS: dict[str, tuple[Any, ...]] = {
     "open": (_POINTER, _COUNT),
     "side": (_POINTER,),
     "count": (_POINTER,),
+    "ask": (_POINTER, _COUNT, _POINTER, _POINTER, _COUNT),
+    "watershed": (ctypes.c_int32, ctypes.c_int32, ctypes.POINTER(_Window), _POINTER, _POINTER, _COUNT),
     "fill": _OF_POINT,
     "direction": _OF_POINT,
     "heights": _OF_WINDOW,
@@ -164,6 +174,26 @@ class Image:
         """The code of a point's direction, 0 where water leaves the mosaic."""
         return self._number(self._library.mosaic_direction, ctypes.c_uint8, y, x)
 
+    def watershed(self, y: int, x: int, window: Window) -> tuple[Array, int]:
+        """Which points of a window drain through a point, as uint8 of 1 and 0, and how many points do at all."""
+        into = self._numpy.empty((window.height, window.width), dtype="uint8")
+        points = ctypes.c_uint64()
+        self._call(self._library.mosaic_watershed, y, x, ctypes.byref(_asked(window)), ctypes.byref(points), into.ctypes.data, into.size)
+        return into, int(points.value)
+
+    def ask(self, line: str) -> bytes:
+        """The reply to the line of a question, as `mosaic-tiles serve` writes it."""
+        asked = line.encode()
+        needed = ctypes.c_size_t(_FIRST_ROOM)
+        while True:
+            room = int(needed.value)
+            reply = ctypes.create_string_buffer(room)
+            number = self._library.mosaic_ask(ctypes.byref(self._handle), asked, len(asked), ctypes.byref(needed), reply, room)
+            if number == 0:
+                return reply.raw[: needed.value]
+            if number != _BAD_LENGTH or int(needed.value) <= room:
+                raise REFUSALS[number]()
+
     def heights(self, window: Window) -> Array:
         """The heights of a window, north row first: int16, -32768 where there is none."""
         return self._of_window(self._library.mosaic_heights, window, "int16")
@@ -190,8 +220,7 @@ class Image:
 
     def _of_window(self, function: Callable[..., int], window: Window, kind: str) -> Array:
         into = self._numpy.empty((window.height, window.width), dtype=kind)
-        asked = _Window(window.y1, window.x0, window.height, window.width)
-        self._call(function, ctypes.byref(asked), into.ctypes.data, into.size)
+        self._call(function, ctypes.byref(_asked(window)), into.ctypes.data, into.size)
         return into
 
     def _of_tile(self, function: Callable[..., int], name: str | Corner, kind: str) -> Array:

@@ -1,8 +1,9 @@
 """The library in this process beside the program's own answers. Left out where the library isn't built."""
 
+import subprocess
 import unittest
 
-from mosaic_store import Window, errors, open_store
+from mosaic_store import Window, errors, find_server, open_store
 from mosaic_store.native import LibraryNotFound, load_library, open_image
 
 from .support import IS_REAL, PROGRAM, InFolder, needs
@@ -55,6 +56,33 @@ class Native(InFolder):
             with open_image(self.path) as image:
                 found = image.upstream(name)
             self.assertEqual((found.dtype, found.tolist()), (wanted.dtype, wanted.tolist()))
+
+    def test_watersheds(self):
+        window = Window(-2, -1, 21, 22)
+        for y, x in ((7, 6), (3, 3), (0, 10)):
+            with open_store(self.path, PROGRAM) as store:
+                wanted = store.watershed(y, x)
+            with open_image(self.path) as image:
+                marks, points = image.watershed(y, x, window)
+            self.assertEqual((str(marks.dtype), points), ("uint8", wanted.cells))
+            marked = {(window.y1 - row, window.x0 + column) for row, column in zip(*marks.nonzero(), strict=True)}
+            self.assertEqual(marked, set(wanted.points()))
+            self.assertEqual(int(marks.max()), 1)
+
+    def test_lines(self):
+        server = find_server(PROGRAM)
+        lines = ["fill 3 3", "elev 9 99", "trace 3 3", "dir -5 -5", "watershed 7 6", "export N00E000", "tiles", "sinks", "count"]
+        lines += ["levels N00E000", "upstream N01E001", "info"] if server != PROGRAM else []
+        with subprocess.Popen([server, "serve", self.path], stdin=subprocess.PIPE, stdout=subprocess.PIPE) as program:
+            wanted, _ = program.communicate("".join(f"{line}\n" for line in lines).encode())
+        with open_image(self.path) as image:
+            self.assertEqual(b"".join(map(image.ask, lines)), wanted)
+            for line in ("burn 1 3 3", "step", "quit", "import N00E000 242", "fill 3"):
+                with self.assertRaises(errors.BadLine):
+                    image.ask(line)
+            with self.assertRaises(errors.BadName):
+                image.ask("levels N0")
+            self.assertEqual(image.count, 5)
 
     def test_what_is_refused(self):
         with open_image(self.path) as image:
