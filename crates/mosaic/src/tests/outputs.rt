@@ -116,7 +116,7 @@ fn outputs_that_fail(rt: HostRuntime) -> Result<(), Fail> {
             fault: row.fault,
         });
         let mut places = FilePlaces::<Brand>::new(&rt);
-        let status = program(alloc, &mut places, &words, &mut reader, &mut writer);
+        let status = program(rt.alloc(), &mut places, &words, &mut reader, &mut writer);
         let found = (status, lossy(alloc, &writer.into_inner().taken));
         let wanted = (row.status, lossy(alloc, row.written));
         check_found(&(row.words, row.fault), &found, &wanted)?;
