@@ -21,6 +21,9 @@ use lattice::{MOST_TILES, Point, Refusal};
 use std::alloc::Global;
 use tile_labellings::Labellings;
 
+// For so many tiles that a flat reaches it is collected anew, since a search over it takes a byte for each sample at hand.
+const FEW_TILES: usize = 3;
+
 /// Where the ground point drains: To, Beside, FlatTo or Outlet. Where that isn't held, its tile is prepared, and those over which
 /// its flat goes.
 ///
@@ -125,8 +128,9 @@ fn prepared_flow<S: Labellings>(
     ensures asked { Asked S.Samples samples.old samples.new result }
 {
     have_tile(alloc, samples, held, flows, point)?;
+    let most = flows.grid.count().saturating_add(FEW_TILES);
     'tiles: while let Some(met) = flows.resolve(point)? {
-        have_flat(alloc, samples, held, flows, met)?;
+        have_flat(alloc, samples, held, flows, met, most)?;
     }
     let flow = flows.grid.flow(point);
     if !flow.drains() {
@@ -135,14 +139,15 @@ fn prepared_flow<S: Labellings>(
     Ok(flow)
 }
 
-// A tile that holds the ground point is at hand from then on, and those over which its flat goes: one search over the flat, that
-// goes on in each tile that comes to hand.
+// A tile that holds the ground point is at hand from then on, and, where more than `most` are then, those over which its flat
+// goes: one search over the flat, that goes on in each tile that comes to hand.
 fn have_flat<S: Labellings>(
     alloc: Global,
     samples: &mut S,
     held: &mut DrainageCache,
     flows: &mut FlowCache,
     point: Point,
+    most: usize,
 ) -> Result<(), Refusal>
     requires held { IsHeldFor S.Samples samples.old held.old }
     requires few { length (S.corners samples.old) ≤ most_tiles }
@@ -157,6 +162,9 @@ fn have_flat<S: Labellings>(
     ensures asked { Asked S.Samples samples.old samples.new result }
 {
     have_tile(alloc, samples, held, flows, point)?;
+    if flows.grid.count() <= most {
+        return Ok(());
+    }
     let mut search = FlatSearch::new(alloc);
     let mut last = point;
     'tiles: while let Some(met) = flows.grid.search(&mut search, last)? {

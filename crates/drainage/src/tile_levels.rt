@@ -15,7 +15,7 @@ use crate::refreshing::current_labelling;
 use crate::tile_cache::TileCache;
 use border_graph::place_of;
 use catalogue::Samples;
-use lattice::{Corner, Point, Refusal, VOID, point_at, push, rim_index};
+use lattice::{Corner, Point, Refusal, Side, VOID, point_at, push, rim_index};
 use std::alloc::Global;
 use tile_flood::raise;
 use tile_labellings::Labellings;
@@ -73,11 +73,19 @@ fn rim_levels<S: Labellings>(
     let side = samples.side();
     let mut rim = Vec::with_capacity(alloc, side.rim() as usize)?;
     for number in 0..side.rim() {
+        level_in(alloc, samples, tile_cache, elsewhere(side, corner, number))?;
         let point = point_at(side, corner, rim_index(side, number));
         let level = level_of(alloc, samples, tile_cache, point)?;
         push(&mut rim, level)?;
     }
     Ok(rim)
+}
+
+// Some rim point of the corner: one after another they lie anywhere. Where the rim falls, rim points that are asked in their order
+// alone would each have the water go all the way that it went before.
+fn elsewhere(side: Side, corner: Corner, number: u32) -> Point {
+    let scattered = number.wrapping_mul(2_654_435_769) % side.rim();
+    point_at(side, corner, rim_index(side, scattered))
 }
 
 /// The filled level of the point; void where it isn't ground.

@@ -1,13 +1,14 @@
 -- Questions one after another, and what their refusals are.
 use Rattle.std.proofs.Common.{◌≡◌, ◌⊎◌, inl, inr, IsTrue, Result, Ok, Err, refl, sym, ap, ◌∙◌, subst}
-use Rattle.std.specs.Prelude.{IfErr}
+use Rattle.std.specs.Prelude.{IfErr, IsErrAnd}
+use Rattle.std.proofs.lemmas.Result.{err_from_is_err_and}
 use Rattle.lattice.specs.declared.refusal.Refusal.{Refusal}
 use Rattle.lattice.specs.declared.refusal.Refusal.TheVariants.{NoMemory, Damaged}
 use Rattle.catalogue.specs.Asked.{Asked}
 use Rattle.catalogue.specs.Endings.{ends_any}
 use Rattle.catalogue.specs.Readers.{OnlyReads}
 use Rattle.catalogue.specs.declared.samples.Samples.{Ghosts}
-use Rattle.catalogue.proofs.Reading.{reads_as, reads_on}
+use Rattle.catalogue.proofs.Reading.{reads_as, reads_nothing, reads_on}
 use Rattle.catalogue.proofs.Asking.{asked, asked_on, asked_passed}
 use Rattle.drainage.specs.Holding.{Known, IsRight, IsGrown, IsRefused}
 
@@ -34,9 +35,11 @@ stopped {S} {T} g a b reads never = asked g a b (tt {0}) (Err Damaged) reads tt 
 pub passed_on : {S T U : Type 0} (g : Ghosts S) (a b : S) (call : Result T Refusal) (r : Refusal) → call ≡ Err r → Asked g a b call → Asked {T = U} g a b (Err r)
 passed_on {S} {T} {U} g a b call r is h = asked_passed g a b r (subst (λ (x : Result T Refusal). Asked g a b x) is h)
 
--- .. as its result
-pub refused_by : {S U : Type 0} (g : Ghosts S) (a b : S) (result : Result U Refusal) (was r : Refusal) → result ≡ Err was → was ≡ r → Asked {T = U} g a b (Err r) → Asked g a b result
-refused_by {S} {U} g a b result was r is same h = subst (λ (x : Result U Refusal). Asked g a b x) (sym (is ∙ ap (λ (x : Refusal). Err x) same)) h
+-- .. as the result of its `?`
+pub refused_by : {S U : Type 0} (g : Ghosts S) (a b : S) (result : Result U Refusal) (r : Refusal) → IsErrAnd result (λ was. was ≡ r) → Asked {T = U} g a b (Err r) → Asked g a b result
+refused_by {S} {U} g a b result r is h =
+    let p = err_from_is_err_and result is in
+    subst (λ (x : Result U Refusal). Asked g a b x) (sym (p.1 ∙ ap (λ (x : Refusal). Err x) p.2)) h
 
 -- memory was wanting after reads
 pub wanting : {S U : Type 0} (g : Ghosts S) (a b : S) → OnlyReads {T = Unit {0}} g a b (Ok tt) → Asked {T = U} g a b (Err NoMemory)
@@ -65,12 +68,23 @@ pub short_of_memory : {S T : Type 0} (g : Ghosts S) (a b : S) (result : Result T
 short_of_memory {S} {T} g a b (Ok x) reads none = answered g a b x reads
 short_of_memory {S} {T} g a b (Err r) reads none = subst (λ (x : Refusal). Asked {T = T} g a b (Err x)) (sym none) (wanting g a b reads)
 
--- the same after one question more, which was answered
+-- an answer, a refusal where honest samples were no mosaic's, and one for want of memory, where nothing was read
+module _ {S T : Type 0} (g : Ghosts S) (keeps_itself : (a : S) → g.keeps a a) (a : S) where
+  pub answered_here : (x : T) → Asked g a a (Ok x)
+  answered_here x = answered g a a x (reads_nothing g keeps_itself a (tt {0}))
+
+  pub stopped_here : (g.is_honest a → ⊥) → Asked {T = T} g a a (Err Damaged)
+  stopped_here never = stopped g a a (reads_nothing g keeps_itself a (tt {0})) never
+
+  pub short_here : (result : Result T Refusal) → IfErr result (λ r. r ≡ NoMemory) → Asked g a a result
+  short_here result none = short_of_memory g a a result (reads_nothing g keeps_itself a (tt {0})) none
+
+-- want of memory after one question more, which was answered
 pub short_after : {S T U : Type 0} (g : Ghosts S) (keeps_on : (a b c : S) → g.keeps a b → g.keeps b c → g.keeps a c) (a b c : S) (x : U) (result : Result T Refusal) → OnlyReads {T = Unit {0}} g a b (Ok tt) → Asked g b c (Ok x)
     → IfErr result (λ r. r ≡ NoMemory) → Asked g a c result
 short_after g keeps_on a b c x result reads last none = short_of_memory g a c result (reads_on g keeps_on a b c tt (Ok tt) reads (asked_reads g b c x last)) none
 
 -- .. which was refused
-pub refused_after : {S T U : Type 0} (g : Ghosts S) (keeps_on : (a b c : S) → g.keeps a b → g.keeps b c → g.keeps a c) (a b c : S) (result : Result T Refusal) (was r : Refusal) → result ≡ Err was → was ≡ r
+pub refused_after : {S T U : Type 0} (g : Ghosts S) (keeps_on : (a b c : S) → g.keeps a b → g.keeps b c → g.keeps a c) (a b c : S) (result : Result T Refusal) (r : Refusal) → IsErrAnd result (λ was. was ≡ r)
     → OnlyReads {T = Unit {0}} g a b (Ok tt) → Asked {T = U} g b c (Err r) → Asked g a c result
-refused_after g keeps_on a b c result was r is same reads last = refused_by g a c result was r is same (asked_passed g a c r (asked_on g keeps_on a b c (tt {0}) (Err r) reads last))
+refused_after g keeps_on a b c result r is reads last = refused_by g a c result r is (asked_passed g a c r (asked_on g keeps_on a b c (tt {0}) (Err r) reads last))

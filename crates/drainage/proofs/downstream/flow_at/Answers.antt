@@ -4,11 +4,10 @@ use Rattle.lattice.specs.Corners.{Corner}
 use Rattle.lattice.specs.Ground.{terrain}
 use Rattle.lattice.specs.Limits.{most_tiles}
 use Rattle.lattice.specs.Mosaic.{Mosaic}
-use Rattle.catalogue.proofs.Reading.{reads_nothing}
 use Rattle.flow_d8.specs.LevelsAround.{OnLevels}
 use Rattle.flow_d8.specs.Flows.{IsFlow}
 use Rattle.drainage.proofs.Tiles.GroundAtHand.{ground_still}
-use Rattle.drainage.proofs.Questions.Questioned.{answered, asked_then}
+use Rattle.drainage.proofs.Questions.Questioned.{answered_here, asked_then}
 use Rattle.drainage.proofs.downstream.flow_at.Goals as goal
 
 pub returns-then-drains-clause-flow : goal.returns-then-drains-clause-flow
@@ -18,7 +17,7 @@ pub returns-then-drains-clause-held : goal.returns-then-drains-clause-held
 returns-then-drains-clause-held g c honest = c.flow-flow.ensures.left (g.S.Samples.mosaic c.args.samples.now) (c.requires.held honest)
 
 pub returns-then-drains-clause-asked : goal.returns-then-drains-clause-asked
-returns-then-drains-clause-asked g c = let a = c.args.samples.now in answered g.S.Samples a a _ (reads_nothing g.S.Samples g.met.S.Samples.keeps_itself a (tt {0}))
+returns-then-drains-clause-asked g c = answered_here g.S.Samples g.met.S.Samples.keeps_itself c.args.samples.now _
 
 pub flow_by_levels-requires-clause-held : goal.flow_by_levels-requires-clause-held
 flow_by_levels-requires-clause-held g c honest = c.flow-flow.ensures.left (g.S.Samples.mosaic c.args.samples.now) (c.requires.held honest)

@@ -1,19 +1,18 @@
 use Rattle.std.proofs.Common.{◌≡◌, subst}
 use Rattle.lattice.specs.Ground.{terrain, is_sink}
 use Rattle.lattice.specs.Mosaic.{Mosaic}
-use Rattle.catalogue.proofs.Reading.{reads_nothing}
 use Rattle.flow_d8.proofs.Sayings.Draining.{near_flow}
-use Rattle.drainage.proofs.Questions.Questioned.{answered}
+use Rattle.drainage.proofs.Questions.Questioned.{answered_here}
 use Rattle.drainage.proofs.downstream.flow_by_levels.Goals as goal
 
 pub returns-then-not-matches-clause-asked : goal.returns-then-not-matches-clause-asked
-returns-then-not-matches-clause-asked g c = let a = c.args.samples.now in answered g.S.Samples a a _ (reads_nothing g.S.Samples g.met.S.Samples.keeps_itself a (tt {0}))
+returns-then-not-matches-clause-asked g c = answered_here g.S.Samples g.met.S.Samples.keeps_itself c.args.samples.now _
 
 pub returns-in_default-present_holder-clause-asked : goal.returns-in_default-present_holder-clause-asked
-returns-in_default-present_holder-clause-asked g c = let a = c.args.samples.now in answered g.S.Samples a a _ (reads_nothing g.S.Samples g.met.S.Samples.keeps_itself a (tt {0}))
+returns-in_default-present_holder-clause-asked g c = answered_here g.S.Samples g.met.S.Samples.keeps_itself c.args.samples.now _
 
 pub returns-then-is_due-clause-asked : goal.returns-then-is_due-clause-asked
-returns-then-is_due-clause-asked g c = let a = c.args.samples.now in answered g.S.Samples a a _ (reads_nothing g.S.Samples g.met.S.Samples.keeps_itself a (tt {0}))
+returns-then-is_due-clause-asked g c = answered_here g.S.Samples g.met.S.Samples.keeps_itself c.args.samples.now _
 
 pub returns-then-is_due-clause-held : goal.returns-then-is_due-clause-held
 returns-then-is_due-clause-held g c honest = c.is_due.ensures (g.S.Samples.mosaic c.args.samples.now) (c.requires.held honest)

@@ -1,6 +1,5 @@
 use Rattle.std.proofs.Common.{IsTrue, Ok, Option, length, subst, arith}
 use Rattle.std.specs.Prelude.{IfSome, ◌<◌}
-use Rattle.std.proofs.lemmas.Result.{err_from_is_err_and}
 use Rattle.catalogue.proofs.Reading.{reads_on}
 use Rattle.lattice.specs.declared.point.Point.{Point}
 use Rattle.flow_d8.specs.FlowGrids.{IsAtHand}
@@ -34,9 +33,7 @@ tiles-preserved g c =
 
 pub returns-in_err-have_tile-2-clause-asked : goal.returns-in_err-have_tile-2-clause-asked
 returns-in_err-have_tile-2-clause-asked g c =
-    let r = c.from_residual-in_err-have_tile-2 in
-    let p = err_from_is_err_and r.result r.ensures.1 in
-    refused_after g.S.Samples g.met.S.Samples.keeps_on c.args.samples.now c.tiles.samples c.have_tile-in-Some.new.samples r.result p.0 c.in_err-have_tile-2.field-0.0 p.1 p.2 c.tiles.invariant.reads c.in_err-have_tile-2.ensures.asked
+    refused_after g.S.Samples g.met.S.Samples.keeps_on c.args.samples.now c.tiles.samples c.have_tile-in-Some.new.samples c.from_residual-in_err-have_tile-2.result c.in_err-have_tile-2.field-0.0 c.from_residual-in_err-have_tile-2.ensures.1 c.tiles.invariant.reads c.in_err-have_tile-2.ensures.asked
 
 pub returns-in_err-have_tile-2-clause-kept : goal.returns-in_err-have_tile-2-clause-kept
 returns-in_err-have_tile-2-clause-kept g c = λ p at. c.in_err-have_tile-2.ensures.kept p (c.tiles.invariant.kept p at)

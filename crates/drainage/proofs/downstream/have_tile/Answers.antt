@@ -3,7 +3,6 @@ use Rattle.std.specs.Prelude.{Contains}
 use Rattle.lattice.specs.Corners.{Corner}
 use Rattle.lattice.specs.Limits.{most_tiles}
 use Rattle.lattice.specs.Mosaic.{Mosaic}
-use Rattle.catalogue.proofs.Reading.{reads_nothing}
 use Rattle.flow_d8.specs.Tiles.{Tiles}
 use Rattle.flow_d8.specs.declared.flow.Flow.{Flow}
 use Rattle.drainage.specs.declared.flow_cache.Slot.{Slot}
@@ -13,17 +12,17 @@ use Rattle.drainage.specs.LevelRanges.{AreRangesOf}
 use Rattle.drainage.proofs.Caches.FlowCaches.{slots_push}
 use Rattle.flow_d8.proofs.Samples.GridFacts.{grid_push}
 use Rattle.drainage.proofs.Tiles.GroundAtHand.{some_holds, not_all}
-use Rattle.drainage.proofs.Questions.Questioned.{answered, stopped}
+use Rattle.drainage.proofs.Questions.Questioned.{answered_here, stopped_here}
 use Rattle.drainage.proofs.downstream.have_tile.Goals as goal
 
 pub returns-then-holds-clause-asked : goal.returns-then-holds-clause-asked
-returns-then-holds-clause-asked g c = let a = c.args.samples.now in answered g.S.Samples a a (tt {0}) (reads_nothing g.S.Samples g.met.S.Samples.keeps_itself a (tt {0}))
+returns-then-holds-clause-asked g c = answered_here g.S.Samples g.met.S.Samples.keeps_itself c.args.samples.now (tt {0})
 
 pub returns-in_default-clause-asked : goal.returns-in_default-clause-asked
 returns-in_default-clause-asked g c =
     let a = c.args.samples.now in
     let laws = g.met.S.Samples in
-    stopped g.S.Samples a a (reads_nothing g.S.Samples laws.keeps_itself a (tt {0}))
+    stopped_here g.S.Samples g.met.S.Samples.keeps_itself a
     (λ honest. some_holds (g.S.Samples.mosaic a) (laws.is_mosaic a honest) (g.S.Samples.side_of a) (laws.same_side a honest) (g.S.Samples.corners a) (laws.same_corners a honest) c.args.point
     (c.requires.ground honest) c.in_default.ensures.none)
 
@@ -31,7 +30,7 @@ pub returns-then-samples-clause-asked : goal.returns-then-samples-clause-asked
 returns-then-samples-clause-asked g c =
     let a = c.args.samples.now in
     let laws = g.met.S.Samples in
-    stopped g.S.Samples a a (reads_nothing g.S.Samples laws.keeps_itself a (tt {0}))
+    stopped_here g.S.Samples g.met.S.Samples.keeps_itself a
     (λ honest. c.if-samples.true (c.samples.ensures.value ∙ c.side-side.ensures ∙ (c.requires.right honest).grid.same_side ∙ laws.same_side a honest ∙ sym c.side.ensures ∙ sym c.samples-2.ensures.value))
 
 pub returns-then-count-clause-asked : goal.returns-then-count-clause-asked
@@ -39,7 +38,7 @@ returns-then-count-clause-asked g c =
     let a = c.args.samples.now in
     let laws = g.met.S.Samples in
     let grid = c.args.flows.now.grid in
-    stopped g.S.Samples a a (reads_nothing g.S.Samples laws.keeps_itself a (tt {0}))
+    stopped_here g.S.Samples g.met.S.Samples.keeps_itself a
     (λ honest.
     let less : length grid.tiles.corners < most_tiles =
     not_all (g.S.Samples.mosaic a) (laws.is_mosaic a honest) (g.S.Samples.side_of a) (laws.same_side a honest) (g.S.Samples.corners a) (laws.same_corners a honest) c.args.point

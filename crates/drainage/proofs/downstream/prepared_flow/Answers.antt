@@ -1,6 +1,5 @@
 use Rattle.std.proofs.Common.{IsTrue, Ok, Option, sym, ◌∙◌, subst, true≢false}
 use Rattle.std.specs.Prelude.{IfSome, IfNone, ℕ}
-use Rattle.std.proofs.lemmas.Result.{err_from_is_err_and}
 use Rattle.lattice.specs.Ground.{terrain}
 use Rattle.lattice.specs.declared.point.Point.{Point}
 use Rattle.catalogue.proofs.Reading.{reads_on}
@@ -46,9 +45,7 @@ tiles-preserved g c =
 
 pub returns-in_err-have_flat-clause-asked : goal.returns-in_err-have_flat-clause-asked
 returns-in_err-have_flat-clause-asked g c =
-    let r = c.from_residual-in_err-have_flat in
-    let p = err_from_is_err_and r.result r.ensures.1 in
-    refused_after g.S.Samples g.met.S.Samples.keeps_on c.args.samples.now c.tiles.samples c.have_flat.new.samples r.result p.0 c.in_err-have_flat.field-0.0 p.1 p.2 c.tiles.invariant.reads c.in_err-have_flat.ensures.asked
+    refused_after g.S.Samples g.met.S.Samples.keeps_on c.args.samples.now c.tiles.samples c.have_flat.new.samples c.from_residual-in_err-have_flat.result c.in_err-have_flat.field-0.0 c.from_residual-in_err-have_flat.ensures.1 c.tiles.invariant.reads c.in_err-have_flat.ensures.asked
 
 pub returns-then-not-drains-clause-right : goal.returns-then-not-drains-clause-right
 returns-then-not-drains-clause-right g c honest =

@@ -1,22 +1,20 @@
-use Rattle.std.proofs.Common.{◌≡◌, ◌∙◌, ℤ, List, Result, Ok, Err, rules, sym, ap, ap₂, subst, SFits, w16}
+use Rattle.std.proofs.Common.{◌≡◌, ◌∙◌, ℤ, List, Result, Ok, rules, sym, ap, ap₂, subst, SFits, w16}
 use Rattle.std.specs.Prelude.{Option}
 use Rattle.std.specs.Int.{int_max}
 use Rattle.std.proofs.lemmas.Bool.{false≢true}
 use Rattle.std.proofs.lemmas.Bool.Decides.{Decides-int_eq}
 use Rattle.std.proofs.lemmas.Int.{to_z-of_z}
-use Rattle.std.proofs.lemmas.Result.{err_from_is_err_and}
 use Rattle.lattice.specs.Corners.{Corner}
 use Rattle.lattice.specs.Mosaic.{Mosaic, void}
 use Rattle.lattice.specs.Ground.{metres, terrain}
 use Rattle.lattice.specs.Height.{height_of}
 use Rattle.lattice.specs.Terrain.{IsFilledLevel}
 use Rattle.lattice.specs.declared.refusal.Refusal.{Refusal}
-use Rattle.catalogue.specs.Asked.{Asked}
 use Rattle.catalogue.specs.Readers.{OnlyReads}
 use Rattle.catalogue.specs.Tiles.{corners_of}
 use Rattle.catalogue.specs.declared.samples.Samples.{Ghosts}
-use Rattle.catalogue.proofs.Asking.{asked_on, asked_passed, asked_refused}
-use Rattle.catalogue.proofs.Reading.{reads_nothing, reads_as, reads_on}
+use Rattle.catalogue.proofs.Asking.{asked_refused}
+use Rattle.catalogue.proofs.Reading.{reads_as, reads_on}
 use Rattle.border_graph.specs.Joining.{Rim}
 use Rattle.border_graph.specs.Linking.{node_number}
 use Rattle.drainage.specs.Asking.{IsHeldByNone}
@@ -25,7 +23,7 @@ use Rattle.drainage.specs.Kept.{right_still}
 use Rattle.drainage.specs.TileCaches.{known_of}
 use Rattle.drainage.proofs.Questions.Filled.{void_there, no_height_there, level_inside, rim_there, level_over}
 use Rattle.drainage.proofs.Caches.Holders.{no_ground}
-use Rattle.drainage.proofs.Questions.Questioned.{answered, asked_reads, stopped}
+use Rattle.drainage.proofs.Questions.Questioned.{answered, answered_here, asked_reads, refused_after, stopped}
 use Rattle.drainage.proofs.filling.level_in.Goals as goal
 
 pub returns-in_default-clause-level : goal.returns-in_default-clause-level
@@ -38,7 +36,7 @@ returns-in_default-clause-level g c honest =
     (subst (λ (cs : List Corner). IsHeldByNone w.side cs c.args.point) (c.deref.ensures.value ∙ right.ready.all) c.in_default.ensures.none))
 
 pub returns-in_default-clause-asked : goal.returns-in_default-clause-asked
-returns-in_default-clause-asked g c = answered g.S.Samples c.args.samples.now c.args.samples.now _ (reads_nothing g.S.Samples g.met.S.Samples.keeps_itself c.args.samples.now (tt {0}))
+returns-in_default-clause-asked g c = answered_here g.S.Samples g.met.S.Samples.keeps_itself c.args.samples.now _
 
 -- what is right after a question is so after a further read
 right_read : {S T : Type 0} (g : Ghosts S) (a b d : S) (known known' : Known) (result : Result T Refusal) → IsGrown g a b known known' → OnlyReads g b d result → g.is_honest d → IsRight (g.mosaic a) known → IsRight (g.mosaic d) known'
@@ -46,13 +44,11 @@ right_read g a b d known known' result grown reads honest right = subst (λ (m :
 
 pub returns-in_err-is_height-clause-asked : goal.returns-in_err-is_height-clause-asked
 returns-in_err-is_height-clause-asked g c =
-    let a = c.args.samples.now in
     let b = c.label_at.new.samples in
     let d = c.is_height.new.samples in
-    let p = err_from_is_err_and c.from_residual-in_err-is_height.result c.from_residual-in_err-is_height.ensures.1 in
-    rw p.1 (subst (λ (r : Refusal). Asked {T = Option ℤ} g.S.Samples a d (Err r)) (sym p.2)
-    (asked_on g.S.Samples g.met.S.Samples.keeps_on a b d (tt {0}) (Err c.in_err-is_height.field-0.0) c.in_ok-level.ensures.reads
-    (asked_refused g.S.Samples b d c.in_err-is_height.field-0.0 c.in_err-is_height.ensures.reads)))
+    let r = c.in_err-is_height.field-0.0 in
+    refused_after {U = Option ℤ} g.S.Samples g.met.S.Samples.keeps_on c.args.samples.now b d c.from_residual-in_err-is_height.result r c.from_residual-in_err-is_height.ensures.1 c.in_ok-level.ensures.reads
+    (asked_refused g.S.Samples b d r c.in_err-is_height.ensures.reads)
 
 pub returns-then-not-branch-clause-right : goal.returns-then-not-branch-clause-right
 returns-then-not-branch-clause-right g c honest =
@@ -125,13 +121,8 @@ rim_level-requires-clause-there g c honest =
 
 pub returns-in_err-over-clause-asked : goal.returns-in_err-over-clause-asked
 returns-in_err-over-clause-asked g c =
-    let a = c.args.samples.now in
-    let b = c.label_at.new.samples in
-    let d = c.rim_level.new.samples in
-    let p = err_from_is_err_and c.from_residual-in_err-over.result c.from_residual-in_err-over.ensures.1 in
-    rw p.1 (subst (λ (r : Refusal). Asked {T = Option ℤ} g.S.Samples a d (Err r)) (sym p.2)
-    (asked_on g.S.Samples g.met.S.Samples.keeps_on a b d (tt {0}) (Err c.in_err-over.field-0.0) c.in_ok-level.ensures.reads
-    (asked_passed g.S.Samples b d c.in_err-over.field-0.0 c.in_err-over.ensures.asked)))
+    refused_after g.S.Samples g.met.S.Samples.keeps_on c.args.samples.now c.label_at.new.samples c.rim_level.new.samples c.from_residual-in_err-over.result c.in_err-over.field-0.0 c.from_residual-in_err-over.ensures.1
+    c.in_ok-level.ensures.reads c.in_err-over.ensures.asked
 
 pub returns-clause-level : goal.returns-clause-level
 returns-clause-level g c honest =

@@ -1,7 +1,6 @@
 use Rattle.std.proofs.Common.{◌≡◌, ◌∙◌, ℕ, ◌+◌, ◌*◌, ◌-◌, ◌^◌, ◌≤◌, ◌==◌, ℤ, ◌⊎◌, ◌<◌, Contains, cond, List, rules, sym, ap, subst, SFits, w16}
 use Rattle.std.specs.Prelude.{Some, IfSome, IfNone}
 use Rattle.std.proofs.lemmas.Int.{to_z-of_z}
-use Rattle.catalogue.proofs.Reading.{reads_nothing}
 use Rattle.border_graph.specs.Joining.{Rim}
 use Rattle.border_graph.specs.Linking.{node_number}
 use Rattle.border_graph.specs.Links.{IsJoinedLevel, IsWayBelow}
@@ -12,7 +11,7 @@ use Rattle.drainage.specs.TileCaches.{known_of}
 use Rattle.drainage.proofs.Caches.Growing.{known_by}
 use Rattle.drainage.proofs.Flows.Found.{right_more, right_all, reached_later, start_is, found, found_later, never}
 use Rattle.drainage.proofs.RimPoints.Numbered.{of_fits}
-use Rattle.drainage.proofs.Questions.Questioned.{answered, stopped}
+use Rattle.drainage.proofs.Questions.Questioned.{answered, answered_here, stopped, stopped_here}
 use Rattle.drainage.proofs.RimPoints.RimNodes.{node_there}
 use Rattle.drainage.proofs.filling.rim_level.Goals as goal
 use Rattle.drainage.proofs.filling.rim_level.Goals.{After-know_all}
@@ -21,7 +20,7 @@ pub returns-in_default-clause-asked : goal.returns-in_default-clause-asked
 returns-in_default-clause-asked g c =
     let a = c.args.samples.now in
     let w = known_of c.args.tile_cache.now in
-    stopped g.S.Samples a a (reads_nothing g.S.Samples g.met.S.Samples.keeps_itself a (tt {0})) (λ honest.
+    stopped_here g.S.Samples g.met.S.Samples.keeps_itself a (λ honest.
     let right = c.requires.right honest in
     let ground = c.requires.there honest in
     node_there (g.S.Samples.mosaic a) (g.met.S.Samples.is_mosaic a honest) w.side w.corners w.loaded right.ready c.args.t c.args.number ground.index c.requires.place ground.rim ground.on_ground
@@ -38,7 +37,7 @@ returns-in-Some-level-clause-level g c honest =
     (subst (λ x. IsRimLevel m w.corners x c.in-Some-level.level) at (right.levels c.in-Some.start c.in-Some-level.level (sym c.in-Some-level.ensures)))
 
 pub returns-in-Some-level-clause-asked : goal.returns-in-Some-level-clause-asked
-returns-in-Some-level-clause-asked g c = answered g.S.Samples c.args.samples.now c.args.samples.now _ (reads_nothing g.S.Samples g.met.S.Samples.keeps_itself c.args.samples.now (tt {0}))
+returns-in-Some-level-clause-asked g c = answered_here g.S.Samples g.met.S.Samples.keeps_itself c.args.samples.now _
 
 pub returns-in_default-2-clause-asked : goal.returns-in_default-2-clause-asked
 returns-in_default-2-clause-asked g c =

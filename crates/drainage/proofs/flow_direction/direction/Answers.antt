@@ -1,22 +1,18 @@
 use Rattle.std.proofs.Common.{◌≤◌, IsTrue, List, length, refl, sym, ap, ◌∙◌, subst}
-use Rattle.std.proofs.lemmas.Result.{err_from_is_err_and}
 use Rattle.lattice.specs.Corners.{Corner}
 use Rattle.lattice.specs.Ground.{is_ground, terrain}
 use Rattle.lattice.specs.Limits.{most_tiles}
 use Rattle.lattice.specs.Mosaic.{Mosaic}
-use Rattle.catalogue.proofs.Asking.{asked_passed}
 use Rattle.flow_d8.specs.LevelsAround.{OnLevels}
 use Rattle.flow_d8.specs.Flows.{IsFlow, direction_of}
 use Rattle.flow_d8.proofs.Sayings.Draining.{flow_direction}
 use Rattle.watershed.specs.Questions.{code_by}
-use Rattle.drainage.proofs.Questions.Questioned.{answered, asked_reads, asked_then, refused_by}
+use Rattle.drainage.proofs.Questions.Questioned.{answered, asked_reads, asked_then, refused_after}
 use Rattle.drainage.proofs.Flows.Followed.{held_still}
 use Rattle.drainage.proofs.flow_direction.direction.Goals as goal
 
 pub returns-in_err-check_ground-clause-held : goal.returns-in_err-check_ground-clause-held
-returns-in_err-check_ground-clause-held g c =
-    let asked = c.in_err-check_ground.ensures.asked in
-    held_still g.S.Samples c.args.samples.now c.check_ground.new.samples asked.read c.args.held.now asked.reads c.requires.held
+returns-in_err-check_ground-clause-held g c = held_still g.S.Samples c.args.samples.now c.check_ground.new.samples _ c.args.held.now c.in_err-check_ground.ensures.asked.reads c.requires.held
 
 pub flow_at-requires : goal.flow_at-requires
 flow_at-requires g c =
@@ -32,11 +28,7 @@ pub returns-in_err-flow-clause-asked : goal.returns-in_err-flow-clause-asked
 returns-in_err-flow-clause-asked g c =
     let a = c.args.samples.now in
     let b = c.check_ground.new.samples in
-    let d = c.flow_at.new.samples in
-    let r = c.in_err-flow.field-0.0 in
-    let p = err_from_is_err_and c.from_residual-in_err-flow.result c.from_residual-in_err-flow.ensures.1 in
-    refused_by g.S.Samples a d c.from_residual-in_err-flow.result p.0 r p.1 p.2
-    (asked_passed g.S.Samples a d r (asked_then g.S.Samples g.met.S.Samples.keeps_on a b d tt _ c.in_ok-check_ground.ensures.asked c.in_err-flow.ensures.asked))
+    refused_after g.S.Samples g.met.S.Samples.keeps_on a b c.flow_at.new.samples c.from_residual-in_err-flow.result c.in_err-flow.field-0.0 c.from_residual-in_err-flow.ensures.1 (asked_reads g.S.Samples a b _ c.in_ok-check_ground.ensures.asked) c.in_err-flow.ensures.asked
 
 pub returns-clause-direction : goal.returns-clause-direction
 returns-clause-direction g c honest level filled =

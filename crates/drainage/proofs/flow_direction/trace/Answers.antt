@@ -12,9 +12,7 @@ use Rattle.drainage.proofs.Flows.Followed.{held_still}
 use Rattle.drainage.proofs.flow_direction.trace.Goals as goal
 
 pub returns-in_err-check_ground-clause-held : goal.returns-in_err-check_ground-clause-held
-returns-in_err-check_ground-clause-held g c =
-    let asked = c.in_err-check_ground.ensures.asked in
-    held_still g.S.Samples c.args.samples.now c.check_ground.new.samples asked.read c.args.held.now asked.reads c.requires.held
+returns-in_err-check_ground-clause-held g c = held_still g.S.Samples c.args.samples.now c.check_ground.new.samples _ c.args.held.now c.in_err-check_ground.ensures.asked.reads c.requires.held
 
 pub overflow_mul-most : goal.overflow_mul-most
 overflow_mul-most g c =

@@ -97,8 +97,7 @@ pub returns-in_err-add-clause-asked : goal.returns-in_err-add-clause-asked
 returns-in_err-add-clause-asked g c =
     let a = c.args.samples.now in
     let laws = g.met.S.Samples in
-    let p = err_from_is_err_and c.from_residual.result c.from_residual.ensures.1 in
-    refused_by g.S.Samples a a c.from_residual.result p.0 c.in_err-add.field-0.0 p.1 p.2
+    refused_by g.S.Samples a a c.from_residual.result c.in_err-add.field-0.0 c.from_residual.ensures.1
     (own_ended g.S.Samples a a c.in_err-add.field-0.0 (Contains c.new-path.result.items c.args.point ⊎ (c.args.most ≤ length c.new-path.result.items)) (reads_nothing g.S.Samples laws.keeps_itself a (tt {0})) c.in_err-add.ensures.refusal
     (λ honest why.
     let m = g.S.Samples.mosaic a in
@@ -111,9 +110,7 @@ returns-in_err-add-clause-asked g c =
 
 pub returns-in_err-to-clause-asked : goal.returns-in_err-to-clause-asked
 returns-in_err-to-clause-asked g c =
-    let r = c.from_residual-in_err-to in
-    let p = err_from_is_err_and r.result r.ensures.1 in
-    refused_after g.S.Samples g.met.S.Samples.keeps_on c.args.samples.now c.steps.samples c.next_point.new.samples r.result p.0 c.in_err-to.field-0.0 p.1 p.2 c.steps.invariant.reads c.in_err-to.ensures.asked
+    refused_after g.S.Samples g.met.S.Samples.keeps_on c.args.samples.now c.steps.samples c.next_point.new.samples c.from_residual-in_err-to.result c.in_err-to.field-0.0 c.from_residual-in_err-to.ensures.1 c.steps.invariant.reads c.in_err-to.ensures.asked
 
 pub returns-in_err-add-2-clause-asked : goal.returns-in_err-add-2-clause-asked
 returns-in_err-add-2-clause-asked g c =
@@ -125,8 +122,7 @@ returns-in_err-add-2-clause-asked g c =
     let path = c.steps.path.items in
     let to = c.in-Some.to in
     let reads = reads_on g.S.Samples laws.keeps_on a c.steps.samples b tt (Ok tt) inv.reads (asked_reads g.S.Samples c.steps.samples b _ e.asked) in
-    let p = err_from_is_err_and c.from_residual-in_err-add-2.result c.from_residual-in_err-add-2.ensures.1 in
-    refused_by g.S.Samples a b c.from_residual-in_err-add-2.result p.0 c.in_err-add-2.field-0.0 p.1 p.2
+    refused_by g.S.Samples a b c.from_residual-in_err-add-2.result c.in_err-add-2.field-0.0 c.from_residual-in_err-add-2.ensures.1
     (own_ended g.S.Samples a b c.in_err-add-2.field-0.0 (Contains path to ⊎ (c.args.most ≤ length path)) reads c.in_err-add-2.ensures.refusal
     (λ honest why.
     let m = g.S.Samples.mosaic a in

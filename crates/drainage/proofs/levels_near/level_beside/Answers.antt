@@ -2,10 +2,9 @@ use Rattle.std.proofs.Common.{◌≡◌, IsTrue, IsFalse, Option, ℤ, sym, ◌�
 use Rattle.std.proofs.lemmas.Result.{IfOk-weaker}
 use Rattle.lattice.specs.Steps.{step}
 use Rattle.lattice.specs.Ground.{share_tile, terrain}
-use Rattle.catalogue.proofs.Reading.{reads_nothing}
 use Rattle.flow_d8.specs.LevelsAround.{IsLevelAt, beside_of, OnLevels}
 use Rattle.flow_d8.proofs.Steps.Nearby.{beside_unfit, beside_apart, told}
-use Rattle.drainage.proofs.Questions.Questioned.{answered}
+use Rattle.drainage.proofs.Questions.Questioned.{answered_here}
 use Rattle.drainage.proofs.levels_near.level_beside.Goals as goal
 
 pub returns-in_default-clause-beside : goal.returns-in_default-clause-beside
@@ -14,9 +13,7 @@ returns-in_default-clause-beside g c honest level filled =
     beside_unfit (g.S.Samples.mosaic a) level c.args.point (g.met.S.Samples.is_mosaic a honest) c.args.direction c.in_default.ensures
 
 pub returns-in_default-clause-asked : goal.returns-in_default-clause-asked
-returns-in_default-clause-asked g c =
-    let a = c.args.samples.now in
-    answered g.S.Samples a a _ (reads_nothing g.S.Samples g.met.S.Samples.keeps_itself a (tt {0}))
+returns-in_default-clause-asked g c = answered_here g.S.Samples g.met.S.Samples.keeps_itself c.args.samples.now _
 
 pub returns-then-not-share_tile-clause-beside : goal.returns-then-not-share_tile-clause-beside
 returns-then-not-share_tile-clause-beside g c honest level filled =
@@ -26,9 +23,7 @@ returns-then-not-share_tile-clause-beside g c honest level filled =
     (subst (λ q. IsFalse (share_tile m c.args.point q)) c.in-Some.ensures.1 (sym (c.share_tile.ensures honest) ∙ c.if-not-share_tile.true))
 
 pub returns-then-not-share_tile-clause-asked : goal.returns-then-not-share_tile-clause-asked
-returns-then-not-share_tile-clause-asked g c =
-    let a = c.args.samples.now in
-    answered g.S.Samples a a _ (reads_nothing g.S.Samples g.met.S.Samples.keeps_itself a (tt {0}))
+returns-then-not-share_tile-clause-asked g c = answered_here g.S.Samples g.met.S.Samples.keeps_itself c.args.samples.now _
 
 pub returns-clause-beside : goal.returns-clause-beside
 returns-clause-beside g c honest =

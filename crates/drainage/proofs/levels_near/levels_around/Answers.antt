@@ -1,6 +1,5 @@
 use Rattle.std.proofs.Common.{◌≡◌, ◌<◌, None, Ok, inl, inr, length, get_or, set, refl, ap, ◌∙◌, subst, arith, get_or-set_other, get_or-set_same, length-set}
 use Rattle.std.proofs.lemmas.Bool.{cases_eq}
-use Rattle.std.proofs.lemmas.Result.{err_from_is_err_and}
 use Rattle.lattice.specs.declared.direction.Dir.TheVariants.{East}
 use Rattle.lattice.specs.Steps.{order_of, directions}
 use Rattle.lattice.specs.Mosaic.{Mosaic}
@@ -54,8 +53,7 @@ loop-i-preserved g c =
 
 pub returns-in_err-found-clause-asked : goal.returns-in_err-found-clause-asked
 returns-in_err-found-clause-asked g c =
-    let p = err_from_is_err_and c.from_residual.result c.from_residual.ensures.1 in
-    refused_after g.S.Samples g.met.S.Samples.keeps_on c.args.samples.now c.loop-i.samples c.level_beside.new.samples c.from_residual.result p.0 c.in_err-found.field-0.0 p.1 p.2 c.loop-i.invariant.reads c.in_err-found.ensures.asked
+    refused_after g.S.Samples g.met.S.Samples.keeps_on c.args.samples.now c.loop-i.samples c.level_beside.new.samples c.from_residual.result c.in_err-found.field-0.0 c.from_residual.ensures.1 c.loop-i.invariant.reads c.in_err-found.ensures.asked
 
 pub returns-clause-around : goal.returns-clause-around
 returns-clause-around g c honest level filled =

@@ -1,22 +1,20 @@
 use Rattle.std.proofs.Common.{rules, SFits, w16, ◌≡◌, Option, ℤ, Ok, sym, ◌∙◌, subst, true≢false}
 use Rattle.std.proofs.lemmas.Int.{to_z-of_z}
-use Rattle.std.proofs.lemmas.Result.{err_from_is_err_and}
 use Rattle.lattice.specs.Ground.{terrain}
 use Rattle.lattice.specs.Mosaic.{Mosaic}
 use Rattle.lattice.specs.Terrain.{IsFilledLevel}
 use Rattle.lattice.proofs.Levels.{level_is_unique}
-use Rattle.catalogue.proofs.Asking.{asked_passed}
-use Rattle.catalogue.proofs.Reading.{reads_nothing, reads_on}
+use Rattle.catalogue.proofs.Reading.{reads_on}
 use Rattle.flow_d8.specs.LevelsAround.{IsLevelAt, OnLevels, around_of}
 use Rattle.drainage.proofs.Tiles.GroundAtHand.{ground_still}
-use Rattle.drainage.proofs.Questions.Questioned.{answered, asked_reads, asked_then, refused_by, stopped}
+use Rattle.drainage.proofs.Questions.Questioned.{answered, answered_here, asked_reads, refused_after, stopped}
 use Rattle.drainage.proofs.levels_near.near_levels.Goals as goal
 
 pub returns-in-Some-clause-near : goal.returns-in-Some-clause-near
 returns-in-Some-clause-near g c honest = let a = c.args.samples.now in c.in-Some.ensures (g.S.Samples.mosaic a) (g.met.S.Samples.is_mosaic a honest) (c.requires.held honest)
 
 pub returns-in-Some-clause-asked : goal.returns-in-Some-clause-asked
-returns-in-Some-clause-asked g c = let a = c.args.samples.now in answered g.S.Samples a a _ (reads_nothing g.S.Samples g.met.S.Samples.keeps_itself a (tt {0}))
+returns-in-Some-clause-asked g c = answered_here g.S.Samples g.met.S.Samples.keeps_itself c.args.samples.now _
 
 pub returns-in_default-2-clause-asked : goal.returns-in_default-2-clause-asked
 returns-in_default-2-clause-asked g c =
@@ -39,11 +37,7 @@ pub returns-in_err-around-clause-asked : goal.returns-in_err-around-clause-asked
 returns-in_err-around-clause-asked g c =
     let a = c.args.samples.now in
     let b = c.level.new.samples in
-    let d = c.levels_around.new.samples in
-    let r = c.in_err-around.field-0.0 in
-    let p = err_from_is_err_and c.from_residual-in_err-around.result c.from_residual-in_err-around.ensures.1 in
-    refused_by g.S.Samples a d c.from_residual-in_err-around.result p.0 r p.1 p.2
-    (asked_passed g.S.Samples a d r (asked_then g.S.Samples g.met.S.Samples.keeps_on a b d _ _ c.in_ok-height.ensures.asked c.in_err-around.ensures.asked))
+    refused_after g.S.Samples g.met.S.Samples.keeps_on a b c.levels_around.new.samples c.from_residual-in_err-around.result c.in_err-around.field-0.0 c.from_residual-in_err-around.ensures.1 (asked_reads g.S.Samples a b _ c.in_ok-height.ensures.asked) c.in_err-around.ensures.asked
 
 pub returns-clause-near : goal.returns-clause-near
 returns-clause-near g c honest =

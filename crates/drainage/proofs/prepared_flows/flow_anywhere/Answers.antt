@@ -1,16 +1,15 @@
 use Rattle.std.proofs.Common.{◌≤◌, IsTrue, List, length, sym, ◌∙◌, subst}
-use Rattle.std.proofs.lemmas.Result.{err_from_is_err_and}
 use Rattle.std.specs.Prelude.{IfOk}
 use Rattle.lattice.specs.Corners.{Corner}
 use Rattle.lattice.specs.Ground.{is_ground, terrain}
 use Rattle.lattice.specs.Limits.{most_tiles}
 use Rattle.lattice.specs.Mosaic.{Mosaic}
 use Rattle.catalogue.proofs.Asking.{asked_on, asked_refused}
-use Rattle.catalogue.proofs.Reading.{reads_as, reads_nothing}
+use Rattle.catalogue.proofs.Reading.{reads_as}
 use Rattle.flow_d8.specs.LevelsAround.{OnLevels}
 use Rattle.watershed.specs.FlowSource.{IsToldOf}
 use Rattle.drainage.proofs.Flows.Followed.{held_still}
-use Rattle.drainage.proofs.Questions.Questioned.{answered, refused_by}
+use Rattle.drainage.proofs.Questions.Questioned.{answered, answered_here, refused_by}
 use Rattle.drainage.proofs.Questions.Told.{told_of, no_ground, drained_told, draining_tells}
 use Rattle.drainage.proofs.prepared_flows.flow_anywhere.Goals as goal
 
@@ -23,7 +22,7 @@ pub returns-then-drains-clause-held : goal.returns-then-drains-clause-held
 returns-then-drains-clause-held g c honest = c.flow-flow.ensures.left (g.S.Samples.mosaic c.args.samples.now) (c.requires.held honest)
 
 pub returns-then-drains-clause-asked : goal.returns-then-drains-clause-asked
-returns-then-drains-clause-asked g c = let a = c.args.samples.now in answered g.S.Samples a a _ (reads_nothing g.S.Samples g.met.S.Samples.keeps_itself a (tt {0}))
+returns-then-drains-clause-asked g c = answered_here g.S.Samples g.met.S.Samples.keeps_itself c.args.samples.now _
 
 pub returns-in_err-is_ground-clause-held : goal.returns-in_err-is_ground-clause-held
 returns-in_err-is_ground-clause-held g c =
@@ -35,8 +34,7 @@ returns-in_err-is_ground-clause-asked g c =
     let a = c.args.samples.now in
     let b = c.is_ground.new.samples in
     let r = c.in_err-is_ground.field-0.0 in
-    let p = err_from_is_err_and c.from_residual.result c.from_residual.ensures.1 in
-    refused_by g.S.Samples a b c.from_residual.result p.0 r p.1 p.2 (asked_refused g.S.Samples a b r c.in_err-is_ground.ensures.reads)
+    refused_by g.S.Samples a b c.from_residual.result r c.from_residual.ensures.1 (asked_refused g.S.Samples a b r c.in_err-is_ground.ensures.reads)
 
 pub returns-then-not-branch-clause-flow : goal.returns-then-not-branch-clause-flow
 returns-then-not-branch-clause-flow g c honest level filled =

@@ -2,7 +2,6 @@ use Rattle.std.proofs.Common.{SFits, w16, to_z, of_z, rules, ◌≡◌, ℕ, ◌
 use Rattle.std.specs.Prelude.{slice_set}
 use Rattle.std.proofs.lemmas.Int.{to_z-of_z}
 use Rattle.std.proofs.lemmas.List.{length-set}
-use Rattle.std.proofs.lemmas.Result.{err_from_is_err_and}
 use Rattle.lattice.specs.declared.point.Point.{Point}
 use Rattle.flow_d8.specs.Padded.{padded_point}
 use Rattle.drainage.specs.TileLevels.{IsLevelOrVoid}
@@ -64,5 +63,4 @@ returns-clause-asked g c = answered g.S.Samples c.args.samples.now c.loop-number
 
 pub returns-in_err-level-clause-asked : goal.returns-in_err-level-clause-asked
 returns-in_err-level-clause-asked g c =
-    let p = err_from_is_err_and c.from_residual.result c.from_residual.ensures.1 in
-    refused_after g.S.Samples g.met.S.Samples.keeps_on c.args.samples.now c.loop-number.samples c.level_of.new.samples c.from_residual.result p.0 c.in_err-level.field-0.0 p.1 p.2 c.loop-number.invariant.reads c.in_err-level.ensures.asked
+    refused_after g.S.Samples g.met.S.Samples.keeps_on c.args.samples.now c.loop-number.samples c.level_of.new.samples c.from_residual.result c.in_err-level.field-0.0 c.from_residual.ensures.1 c.loop-number.invariant.reads c.in_err-level.ensures.asked

@@ -1,5 +1,4 @@
 use Rattle.std.proofs.Common.{◌≡◌, ◌+◌, ◌*◌, Ok, refl, sym, ap, ◌∙◌, subst, arith}
-use Rattle.std.proofs.lemmas.Result.{err_from_is_err_and}
 use Rattle.lattice.specs.Mosaic.{Mosaic}
 use Rattle.catalogue.proofs.Reading.{reads_nothing, reads_on}
 use Rattle.drainage.specs.Padded.{AreFilledTo, IsStrip, strip_of}
@@ -52,8 +51,7 @@ loop-number-preserved g c =
 
 pub returns-in_err-fill-clause-asked : goal.returns-in_err-fill-clause-asked
 returns-in_err-fill-clause-asked g c =
-    let p = err_from_is_err_and c.from_residual.result c.from_residual.ensures.1 in
-    refused_after g.S.Samples g.met.S.Samples.keeps_on c.args.samples.now c.loop-number.samples c.fill.new.samples c.from_residual.result p.0 c.in_err-fill.field-0.0 p.1 p.2 c.loop-number.invariant.reads c.in_err-fill.ensures.asked
+    refused_after g.S.Samples g.met.S.Samples.keeps_on c.args.samples.now c.loop-number.samples c.fill.new.samples c.from_residual.result c.in_err-fill.field-0.0 c.from_residual.ensures.1 c.loop-number.invariant.reads c.in_err-fill.ensures.asked
 
 pub returns-clause-filled : goal.returns-clause-filled
 returns-clause-filled g c honest =

@@ -1,5 +1,4 @@
 use Rattle.std.proofs.Common.{rules, ◌≡◌, ◌+◌, ◌*◌, ◌++◌, ℤ, Ok, List, length, take, drop, sym, ap, ◌∙◌, subst}
-use Rattle.std.proofs.lemmas.Result.{err_from_is_err_and}
 use Rattle.lattice.specs.Corners.{Corner}
 use Rattle.lattice.specs.Mosaic.{Mosaic}
 use Rattle.catalogue.proofs.Reading.{reads_on}
@@ -14,9 +13,7 @@ pub returns-in_err-fill_around-clause-asked : goal.returns-in_err-fill_around-cl
 returns-in_err-fill_around-clause-asked g c =
     let a = c.args.samples.now in
     let b = c.tile_levels.new.samples in
-    let r = c.from_residual-in_err-fill_around in
-    let p = err_from_is_err_and r.result r.ensures.1 in
-    refused_after g.S.Samples g.met.S.Samples.keeps_on a b c.fill_around.new.samples r.result p.0 c.in_err-fill_around.field-0.0 p.1 p.2 (asked_reads g.S.Samples a b _ c.in_ok-tile.ensures.asked) c.in_err-fill_around.ensures.asked
+    refused_after g.S.Samples g.met.S.Samples.keeps_on a b c.fill_around.new.samples c.from_residual-in_err-fill_around.result c.in_err-fill_around.field-0.0 c.from_residual-in_err-fill_around.ensures.1 (asked_reads g.S.Samples a b _ c.in_ok-tile.ensures.asked) c.in_err-fill_around.ensures.asked
 
 pub returns-clause-asked : goal.returns-clause-asked
 returns-clause-asked g c =

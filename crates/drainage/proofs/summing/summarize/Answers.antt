@@ -1,15 +1,12 @@
-use Rattle.std.proofs.Common.{◌-◌, ◌*◌, sym, ap, ◌∙◌, subst}
+use Rattle.std.proofs.Common.{rules, ◌-◌, ◌*◌, sym, ap, ◌∙◌, subst}
 use Rattle.std.specs.Prelude.{MatchOption}
-use Rattle.std.proofs.lemmas.Result.{err_from_is_err_and}
-use Rattle.lattice.specs.declared.refusal.Refusal.TheVariants.{NoMemory}
 use Rattle.catalogue.proofs.Asking.{asked_by_reads}
-use Rattle.catalogue.proofs.Reading.{reads_nothing}
 use Rattle.border_graph.specs.Joining.{IsSummaryOf}
 use Rattle.tile_flood.specs.Blocks.{LabelledGround}
 use Rattle.tile_flood.specs.Spills.{AreSpills}
 use Rattle.tile_labellings.specs.TileLabellings.{labelled_of, IsCurrent, IsTileLabelling}
 use Rattle.drainage.specs.Flooded.{HasOtherRimHeight, AreRimPointsIn}
-use Rattle.drainage.proofs.Questions.Questioned.{answered, passed_on, refused_by, stopped, wanting}
+use Rattle.drainage.proofs.Questions.Questioned.{answered, passed_on, refused_by, short_here, stopped}
 use Rattle.drainage.proofs.RimPoints.Summed.{rim_holds, summary_is}
 use Rattle.drainage.proofs.summing.summarize.Goals as goal
 
@@ -53,13 +50,8 @@ returns-in_err-rim-clause-asked g c current is =
     let a = c.args.samples.now in
     let d = c.rim_of.new.samples in
     let r = c.in_err-rim.field-0.0 in
-    let p = err_from_is_err_and c.from_residual-in_err-rim.result c.from_residual-in_err-rim.ensures.1 in
-    refused_by g.S.Samples a d c.from_residual-in_err-rim.result p.0 r p.1 p.2
+    refused_by g.S.Samples a d c.from_residual-in_err-rim.result r c.from_residual-in_err-rim.ensures.1
     (passed_on g.S.Samples a d c.rim_of.result r c.in_err-rim.was (asked_by_reads g.S.Samples a d _ _ c.rim_of.result c.rim_of.ensures.reads c.rim_of.ensures.refusal))
 
 pub returns-in_err-spills-clause-asked : goal.returns-in_err-spills-clause-asked
-returns-in_err-spills-clause-asked g c current is =
-    let a = c.args.samples.now in
-    let p = err_from_is_err_and c.from_residual.result c.from_residual.ensures.1 in
-    refused_by g.S.Samples a a c.from_residual.result p.0 NoMemory p.1 (p.2 ∙ c.in_err-spills.ensures.refusal)
-    (wanting g.S.Samples a a (reads_nothing g.S.Samples g.met.S.Samples.keeps_itself a (tt {0})))
+returns-in_err-spills-clause-asked g c current is = short_here g.S.Samples g.met.S.Samples.keeps_itself c.args.samples.now c.from_residual.result (search rules)

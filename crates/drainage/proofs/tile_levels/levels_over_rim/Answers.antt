@@ -1,5 +1,4 @@
 use Rattle.std.proofs.Common.{sym, subst}
-use Rattle.std.proofs.lemmas.Result.{err_from_is_err_and}
 use Rattle.lattice.specs.Mosaic.{Mosaic}
 use Rattle.drainage.specs.Holding.{IsRight}
 use Rattle.drainage.specs.TileCaches.{known_of}
@@ -23,8 +22,7 @@ returns-in_err-labelling-clause-asked g c =
     let b = c.current_labelling.new.samples in
     let made = c.in_err-labelling.ensures in
     let r = c.in_err-labelling.field-0.0 in
-    let p = err_from_is_err_and c.from_residual.result c.from_residual.ensures.1 in
-    refused_by g.S.Samples a b c.from_residual.result p.0 r p.1 p.2
+    refused_by g.S.Samples a b c.from_residual.result r c.from_residual.ensures.1
     (passed_on g.S.Samples a b c.current_labelling.result r c.in_err-labelling.was (c.current_labelling.ensures.asked (λ honest.
     let before = made.honest honest in
     is_there g.S.Samples a (g.met.S.Samples.is_mosaic a before) (known_of c.args.tile_cache.now) c.args.t c.args.corner c.requires.place (c.requires.corner before) (c.requires.right before) (g.met.S.Samples.same_corners a before))))

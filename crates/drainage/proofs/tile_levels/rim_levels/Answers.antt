@@ -1,16 +1,12 @@
 use Rattle.std.proofs.Common.{rules, SFits, w16, to_z, of_z, ◌≡◌, ◌*◌, ◌-◌, ℤ, List, Ok, sym, ap, ◌∙◌, subst, arith}
-use Rattle.std.specs.Prelude.{IfErr}
 use Rattle.std.proofs.lemmas.Int.{to_z-of_z}
-use Rattle.std.proofs.lemmas.Result.{err_from_is_err_and}
 use Rattle.lattice.specs.Lattice.{point_of}
 use Rattle.lattice.specs.Mosaic.{Mosaic}
 use Rattle.lattice.specs.RimPoints.{IsRimPoint}
-use Rattle.lattice.specs.declared.refusal.Refusal.TheVariants.{NoMemory}
 use Rattle.catalogue.proofs.Reading.{reads_nothing, reads_on}
 use Rattle.drainage.specs.TileLevels.{AreRimLevelsTo, IsLevelOrVoid}
 use Rattle.drainage.proofs.RimPoints.RimLevels.{no_rim, rim_more, rim_whole}
-use Rattle.drainage.proofs.Questions.Questioned.{short_of_memory, short_after, refused_after}
-use Rattle.drainage.proofs.Questions.Questioned.{asked_reads, answered}
+use Rattle.drainage.proofs.Questions.Questioned.{answered, asked_reads, refused_after, short_after, short_here}
 use Rattle.drainage.proofs.tile_levels.rim_levels.Goals as goal
 
 pub loop-number-init : goal.loop-number-init
@@ -26,39 +22,44 @@ pub loop-number-preserved : goal.loop-number-preserved
 loop-number-preserved g c =
     let now = c.args.samples.now in
     let so = c.loop-number.invariant in
+    let elsewhere = reads_on g.S.Samples g.met.S.Samples.keeps_on now c.loop-number.samples c.level_in.new.samples tt (Ok tt) so.reads (asked_reads g.S.Samples c.loop-number.samples c.level_in.new.samples _ c.in_ok-level_in.ensures.asked) in
     let told = c.in_ok-level.ensures in
-    let read = asked_reads g.S.Samples c.loop-number.samples c.level_of.new.samples _ told.asked in
+    let read = asked_reads g.S.Samples c.level_in.new.samples c.level_of.new.samples _ told.asked in
     record {
-      reads = reads_on g.S.Samples g.met.S.Samples.keeps_on now c.loop-number.samples c.level_of.new.samples tt (Ok tt) so.reads read;
+      reads = reads_on g.S.Samples g.met.S.Samples.keeps_on now c.level_in.new.samples c.level_of.new.samples tt (Ok tt) elsewhere read;
       right = told.right;
       levels = λ honest.
           let mid = read.honest honest in
-          let first = so.reads.honest mid in
+          let first = elsewhere.honest mid in
           let m = g.S.Samples.mosaic now in
           let v = to_z w16 (of_z w16 c.in_ok-level.level) in
           let fits : SFits w16 c.in_ok-level.level = search rules in
           let side : c.side-side.result ≡ m.side = c.side-side.ensures ∙ sym (g.met.S.Samples.same_side now first) in
           let here = subst (λ p. IsLevelOrVoid m p v) c.point_at-point.ensures.value
-          (subst (IsLevelOrVoid m c.point_at-point.result) (sym (to_z-of_z w16 c.in_ok-level.level fits)) (subst (λ (k : Mosaic). IsLevelOrVoid k c.point_at-point.result c.in_ok-level.level) (so.reads.mosaic mid) (told.level honest))) in
+          (subst (IsLevelOrVoid m c.point_at-point.result) (sym (to_z-of_z w16 c.in_ok-level.level fits)) (subst (λ (k : Mosaic). IsLevelOrVoid k c.point_at-point.result c.in_ok-level.level) (elsewhere.mosaic mid) (told.level honest))) in
           rim_more m (g.met.S.Samples.is_mosaic now first) c.args.corner c.loop-number.rim.items c.push.new.items.items c.loop-number.number c.rim_index.result v c.in_ok-push.ensures.pushed
           (subst (λ n. IsRimPoint n c.loop-number.number c.rim_index.result) side c.rim_index.ensures)
-          (subst (λ n. IsLevelOrVoid m (point_of n c.args.corner c.rim_index.result) v) side here) (so.levels mid);
+          (subst (λ n. IsLevelOrVoid m (point_of n c.args.corner c.rim_index.result) v) side here) (so.levels (c.in_ok-level_in.ensures.asked.reads.honest mid));
     }
 
 pub returns-in_err-rim-clause-asked : goal.returns-in_err-rim-clause-asked
-returns-in_err-rim-clause-asked g c =
-    let a = c.args.samples.now in
-    let memory : IfErr c.from_residual.result (λ r. r ≡ NoMemory) = search rules in
-    short_of_memory g.S.Samples a a c.from_residual.result (reads_nothing g.S.Samples g.met.S.Samples.keeps_itself a (tt {0})) memory
+returns-in_err-rim-clause-asked g c = short_here g.S.Samples g.met.S.Samples.keeps_itself c.args.samples.now c.from_residual.result (search rules)
+
+pub returns-in_err-level_in-clause-asked : goal.returns-in_err-level_in-clause-asked
+returns-in_err-level_in-clause-asked g c =
+    refused_after g.S.Samples g.met.S.Samples.keeps_on c.args.samples.now c.loop-number.samples c.level_in.new.samples c.from_residual-in_err-level_in.result c.in_err-level_in.field-0.0 c.from_residual-in_err-level_in.ensures.1 c.loop-number.invariant.reads c.in_err-level_in.ensures.asked
 
 pub returns-in_err-level-clause-asked : goal.returns-in_err-level-clause-asked
 returns-in_err-level-clause-asked g c =
-    let p = err_from_is_err_and c.from_residual-in_err-level.result c.from_residual-in_err-level.ensures.1 in
-    refused_after g.S.Samples g.met.S.Samples.keeps_on c.args.samples.now c.loop-number.samples c.level_of.new.samples c.from_residual-in_err-level.result p.0 c.in_err-level.field-0.0 p.1 p.2 c.loop-number.invariant.reads c.in_err-level.ensures.asked
+    let now = c.args.samples.now in
+    let elsewhere = reads_on g.S.Samples g.met.S.Samples.keeps_on now c.loop-number.samples c.level_in.new.samples tt (Ok tt) c.loop-number.invariant.reads (asked_reads g.S.Samples c.loop-number.samples c.level_in.new.samples _ c.in_ok-level_in.ensures.asked) in
+    refused_after g.S.Samples g.met.S.Samples.keeps_on now c.level_in.new.samples c.level_of.new.samples c.from_residual-in_err-level.result c.in_err-level.field-0.0 c.from_residual-in_err-level.ensures.1 elsewhere c.in_err-level.ensures.asked
 
 pub returns-in_err-push-clause-asked : goal.returns-in_err-push-clause-asked
 returns-in_err-push-clause-asked g c =
-    short_after g.S.Samples g.met.S.Samples.keeps_on c.args.samples.now c.loop-number.samples c.level_of.new.samples _ c.from_residual-in_err-push.result c.loop-number.invariant.reads c.in_ok-level.ensures.asked (search rules)
+    let now = c.args.samples.now in
+    let elsewhere = reads_on g.S.Samples g.met.S.Samples.keeps_on now c.loop-number.samples c.level_in.new.samples tt (Ok tt) c.loop-number.invariant.reads (asked_reads g.S.Samples c.loop-number.samples c.level_in.new.samples _ c.in_ok-level_in.ensures.asked) in
+    short_after g.S.Samples g.met.S.Samples.keeps_on now c.level_in.new.samples c.level_of.new.samples _ c.from_residual-in_err-push.result elsewhere c.in_ok-level.ensures.asked (search rules)
 
 pub returns-clause-levels : goal.returns-clause-levels
 returns-clause-levels g c honest =

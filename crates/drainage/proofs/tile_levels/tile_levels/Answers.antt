@@ -1,19 +1,17 @@
 use Rattle.std.proofs.Common.{◌<◌, ◌≤◌, List, length, sym, ap, ◌∙◌, subst, arith}
 use Rattle.std.specs.Prelude.{IfOk}
-use Rattle.std.proofs.lemmas.Result.{err_from_is_err_and}
 use Rattle.lattice.specs.Corners.{Corner}
 use Rattle.lattice.specs.Mosaic.{Mosaic}
 use Rattle.border_graph.specs.Others.{corner_at}
 use Rattle.catalogue.proofs.Asking.{asked_on, asked_passed}
-use Rattle.catalogue.proofs.Reading.{reads_nothing}
 use Rattle.tile_flood.specs.Raising.{AreRimLevels, AreTileLevels}
-use Rattle.drainage.proofs.Questions.Questioned.{asked_reads, refused_by, stopped}
+use Rattle.drainage.proofs.Questions.Questioned.{asked_reads, refused_by, stopped_here}
 use Rattle.drainage.proofs.tile_levels.tile_levels.Goals as goal
 
 pub returns-in_default-clause-asked : goal.returns-in_default-clause-asked
 returns-in_default-clause-asked g c =
     let a = c.args.samples.now in
-    stopped g.S.Samples a a (reads_nothing g.S.Samples g.met.S.Samples.keeps_itself a (tt {0})) (λ honest.
+    stopped_here g.S.Samples g.met.S.Samples.keeps_itself a (λ honest.
     let all = (c.requires.right honest).ready.all ∙ g.met.S.Samples.same_corners a honest in
     let past : length (g.S.Samples.corners a) ≤ c.args.t = subst (λ (cs : List Corner). length cs ≤ c.args.t) all c.in_default.ensures.none in
     absurd (omega (arith, past, c.requires.place)))
@@ -23,8 +21,7 @@ returns-in_err-rim-clause-asked g c =
     let a = c.args.samples.now in
     let d = c.rim_levels.new.samples in
     let r = c.in_err-rim.field-0.0 in
-    let p = err_from_is_err_and c.from_residual.result c.from_residual.ensures.1 in
-    refused_by g.S.Samples a d c.from_residual.result p.0 r p.1 p.2 (asked_passed g.S.Samples a d r c.in_err-rim.ensures.asked)
+    refused_by g.S.Samples a d c.from_residual.result r c.from_residual.ensures.1 (asked_passed g.S.Samples a d r c.in_err-rim.ensures.asked)
 
 pub levels_over_rim-requires-clause-place : goal.levels_over_rim-requires-clause-place
 levels_over_rim-requires-clause-place g c = subst (λ (cs : List Corner). c.args.t < length cs) (sym c.in_ok-rim.ensures.asked.reads.corners) c.requires.place

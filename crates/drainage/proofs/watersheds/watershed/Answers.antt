@@ -12,9 +12,7 @@ use Rattle.drainage.proofs.Flows.Followed.{held_still}
 use Rattle.drainage.proofs.watersheds.watershed.Goals as goal
 
 pub returns-in_err-check_ground-clause-held : goal.returns-in_err-check_ground-clause-held
-returns-in_err-check_ground-clause-held g c =
-    let asked = c.in_err-check_ground.ensures.asked in
-    held_still g.S.Samples c.args.samples.now c.check_ground.new.samples asked.read c.args.held.now asked.reads c.requires.held
+returns-in_err-check_ground-clause-held g c = held_still g.S.Samples c.args.samples.now c.check_ground.new.samples _ c.args.held.now c.in_err-check_ground.ensures.asked.reads c.requires.held
 
 pub watershed_by-requires : goal.watershed_by-requires
 watershed_by-requires g c =

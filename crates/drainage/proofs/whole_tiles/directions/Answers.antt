@@ -1,25 +1,19 @@
 use Rattle.std.proofs.Common.{rules, ◌≡◌, ◌*◌, ◌≤◌, ℕ, List, Ok, length, sym, ap, ◌∙◌, subst, arith}
-use Rattle.std.specs.Prelude.{IfErr}
-use Rattle.std.proofs.lemmas.Result.{err_from_is_err_and}
 use Rattle.lattice.specs.Corners.{Corner}
 use Rattle.lattice.specs.Ground.{terrain}
 use Rattle.lattice.specs.Lattice.{point_of}
 use Rattle.lattice.specs.Limits.{most_tiles}
 use Rattle.lattice.specs.Mosaic.{Mosaic}
-use Rattle.lattice.specs.declared.refusal.Refusal.TheVariants.{NoMemory}
 use Rattle.catalogue.proofs.Reading.{reads_nothing, reads_on}
 use Rattle.flow_d8.specs.LevelsAround.{OnLevels}
 use Rattle.watershed.specs.FlowSource.{IsToldOf}
 use Rattle.watershed.specs.Questions.{IsCodeOrNone, AreCodesTo}
-use Rattle.drainage.proofs.Questions.Questioned.{asked_reads, answered, refused_after, short_after, short_of_memory}
+use Rattle.drainage.proofs.Questions.Questioned.{answered, asked_reads, refused_after, short_after, short_here}
 use Rattle.drainage.proofs.Tiles.WholeTiles.{code_more, no_codes, told_code}
 use Rattle.drainage.proofs.whole_tiles.directions.Goals as goal
 
 pub returns-in_err-codes-clause-asked : goal.returns-in_err-codes-clause-asked
-returns-in_err-codes-clause-asked g c =
-    let a = c.args.samples.now in
-    let memory : IfErr c.from_residual.result (λ r. r ≡ NoMemory) = search rules in
-    short_of_memory g.S.Samples a a c.from_residual.result (reads_nothing g.S.Samples g.met.S.Samples.keeps_itself a (tt {0})) memory
+returns-in_err-codes-clause-asked g c = short_here g.S.Samples g.met.S.Samples.keeps_itself c.args.samples.now c.from_residual.result (search rules)
 
 pub loop-index-init : goal.loop-index-init
 loop-index-init g c = record {
@@ -57,8 +51,7 @@ loop-index-preserved g c =
 
 pub returns-in_err-flow-clause-asked : goal.returns-in_err-flow-clause-asked
 returns-in_err-flow-clause-asked g c =
-    let p = err_from_is_err_and c.from_residual-in_err-flow.result c.from_residual-in_err-flow.ensures.1 in
-    refused_after g.S.Samples g.met.S.Samples.keeps_on c.args.samples.now c.loop-index.samples c.flow_anywhere.new.samples c.from_residual-in_err-flow.result p.0 c.in_err-flow.field-0.0 p.1 p.2 c.loop-index.invariant.reads c.in_err-flow.ensures.asked
+    refused_after g.S.Samples g.met.S.Samples.keeps_on c.args.samples.now c.loop-index.samples c.flow_anywhere.new.samples c.from_residual-in_err-flow.result c.in_err-flow.field-0.0 c.from_residual-in_err-flow.ensures.1 c.loop-index.invariant.reads c.in_err-flow.ensures.asked
 
 pub returns-in_err-push-clause-asked : goal.returns-in_err-push-clause-asked
 returns-in_err-push-clause-asked g c =

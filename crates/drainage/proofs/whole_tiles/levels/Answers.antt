@@ -1,28 +1,20 @@
-use Rattle.std.proofs.Common.{rules, ◌≡◌, sym, subst}
-use Rattle.std.specs.Prelude.{IfErr, IfOk}
+use Rattle.std.proofs.Common.{rules, sym, subst}
+use Rattle.std.specs.Prelude.{IfOk}
 use Rattle.lattice.specs.Corners.{Corner}
 use Rattle.lattice.specs.Mosaic.{Mosaic}
-use Rattle.lattice.specs.declared.refusal.Refusal.TheVariants.{NoMemory}
-use Rattle.catalogue.proofs.Reading.{reads_nothing}
 use Rattle.tile_flood.specs.Raising.{AreTileLevels}
 use Rattle.drainage.specs.Between.{IsHeldOf}
-use Rattle.drainage.proofs.Questions.Questioned.{short_of_memory}
+use Rattle.drainage.proofs.Questions.Questioned.{short_here}
 use Rattle.drainage.proofs.whole_tiles.levels.Goals as goal
 
 pub returns-in_err-t-clause-asked : goal.returns-in_err-t-clause-asked
-returns-in_err-t-clause-asked g c =
-    let a = c.args.samples.now in
-    let memory : IfErr c.from_residual.result (λ r. r ≡ NoMemory) = search rules in
-    short_of_memory g.S.Samples a a c.from_residual.result (reads_nothing g.S.Samples g.met.S.Samples.keeps_itself a (tt {0})) memory
+returns-in_err-t-clause-asked g c = short_here g.S.Samples g.met.S.Samples.keeps_itself c.args.samples.now c.from_residual.result (search rules)
 
 pub returns-in_err-tile_cache-clause-held : goal.returns-in_err-tile_cache-clause-held
 returns-in_err-tile_cache-clause-held g c honest = c.take.ensures.left (g.S.Samples.mosaic c.args.samples.now) (c.requires.held honest)
 
 pub returns-in_err-tile_cache-clause-asked : goal.returns-in_err-tile_cache-clause-asked
-returns-in_err-tile_cache-clause-asked g c =
-    let a = c.args.samples.now in
-    let memory : IfErr c.from_residual-in_err-tile_cache.result (λ r. r ≡ NoMemory) = search rules in
-    short_of_memory g.S.Samples a a c.from_residual-in_err-tile_cache.result (reads_nothing g.S.Samples g.met.S.Samples.keeps_itself a (tt {0})) memory
+returns-in_err-tile_cache-clause-asked g c = short_here g.S.Samples g.met.S.Samples.keeps_itself c.args.samples.now c.from_residual-in_err-tile_cache.result (search rules)
 
 pub returns-clause-held : goal.returns-clause-held
 returns-clause-held g c honest =

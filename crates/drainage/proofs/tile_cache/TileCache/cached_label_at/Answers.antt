@@ -1,5 +1,4 @@
 use Rattle.std.proofs.Common.{refl}
-use Rattle.std.proofs.lemmas.Result.{err_from_is_err_and}
 use Rattle.drainage.specs.Holding.{IsGrown}
 use Rattle.drainage.specs.TileCaches.{known_of}
 use Rattle.drainage.proofs.Caches.Growing.{known_by, grown_by, grown_fewer}
@@ -19,8 +18,7 @@ returns-in_err-labelling-clause-asked g c right =
     let b = c.current_labelling.new.samples in
     let made = c.in_err-labelling.ensures in
     let r = c.in_err-labelling.field-0.0 in
-    let p = err_from_is_err_and c.from_residual.result c.from_residual.ensures.1 in
-    refused_by g.S.Samples a b c.from_residual.result p.0 r p.1 p.2
+    refused_by g.S.Samples a b c.from_residual.result r c.from_residual.ensures.1
     (passed_on g.S.Samples a b c.current_labelling.result r c.in_err-labelling.was (c.current_labelling.ensures.asked (λ honest.
     is_there g.S.Samples a (known_of c.args.self.now) c.args.t c.args.corner c.requires.place c.requires.corner (right honest) (g.met.S.Samples.same_corners a (made.honest honest)))))
 

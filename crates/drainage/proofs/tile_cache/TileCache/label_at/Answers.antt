@@ -1,10 +1,9 @@
 use Rattle.std.proofs.Common.{◌≡◌, Result, Ok, Err, List, refl, sym, subst}
 use Rattle.std.specs.Prelude.{ℕ, ℤ, All, Contains, Option, IfOk, IfSome, OnOk}
-use Rattle.std.proofs.lemmas.Result.{err_from_is_err_and}
 use Rattle.lattice.specs.Mosaic.{Mosaic}
 use Rattle.lattice.specs.declared.refusal.Refusal.{Refusal}
 use Rattle.catalogue.proofs.Asking.{asked_on}
-use Rattle.catalogue.proofs.Reading.{reads_nothing, reads_on}
+use Rattle.catalogue.proofs.Reading.{reads_on}
 use Rattle.catalogue.specs.declared.samples.Samples.{Ghosts}
 use Rattle.tile_labellings.specs.Spots.{IsLabelledAt}
 use Rattle.drainage.specs.Holding.{Known, IsEntered, IsGrown}
@@ -13,7 +12,7 @@ use Rattle.drainage.specs.TileCaches.{known_of}
 use Rattle.drainage.specs.declared.labelling_cache.HeldLabelling.{HeldLabelling}
 use Rattle.drainage.proofs.Caches.Caching.{entered_among}
 use Rattle.drainage.proofs.Caches.Growing.{grown_fewer}
-use Rattle.drainage.proofs.Questions.Questioned.{answered, passed_on, refused_by}
+use Rattle.drainage.proofs.Questions.Questioned.{answered, answered_here, passed_on, refused_by}
 use Rattle.drainage.proofs.Changes.Refreshed.{entered_there, is_there}
 use Rattle.drainage.proofs.tile_cache.TileCache.label_at.Goals as goal
 
@@ -22,7 +21,7 @@ returns-in-Some-clause-label_at g c honest right =
     c.in-Some.ensures.some (g.S.Samples.mosaic c.args.samples.now) c.args.corner (entered_there g.S.Samples c.args.samples.now (known_of c.args.self.now) c.args.t c.args.corner c.requires.place c.requires.corner right)
 
 pub returns-in-Some-clause-asked : goal.returns-in-Some-clause-asked
-returns-in-Some-clause-asked g c right = answered g.S.Samples c.args.samples.now c.args.samples.now c.in-Some.label_at (reads_nothing g.S.Samples g.met.S.Samples.keeps_itself c.args.samples.now (tt {0}))
+returns-in-Some-clause-asked g c right = answered_here g.S.Samples g.met.S.Samples.keeps_itself c.args.samples.now c.in-Some.label_at
 
 -- reads alone, after which no more is held
 read_alone : {S : Type 0} (g : Ghosts S) (a b : S) (known : Known) (labellings mid : List HeldLabelling) → (g.is_honest b → g.is_honest a) → (g.is_honest b → g.mosaic b ≡ g.mosaic a) → All (Contains known.labellings) mid → labellings ≡ mid
@@ -50,8 +49,7 @@ returns-in_err-label_at-clause-asked g c right =
     let b = c.kept_label_at.new.samples in
     let read = c.in_err-label_at.ensures in
     let r = c.in_err-label_at.field-0.0 in
-    let p = err_from_is_err_and c.from_residual.result c.from_residual.ensures.1 in
-    refused_by g.S.Samples a b c.from_residual.result p.0 r p.1 p.2
+    refused_by g.S.Samples a b c.from_residual.result r c.from_residual.ensures.1
     (passed_on g.S.Samples a b c.kept_label_at.result r c.in_err-label_at.was (c.kept_label_at.ensures.asked (λ honest.
     is_there g.S.Samples a (known_of c.args.self.now) c.args.t c.args.corner c.requires.place c.requires.corner (right honest) (g.met.S.Samples.same_corners a (read.honest honest)))))
 

@@ -1,10 +1,8 @@
 use Rattle.std.proofs.Common.{ℕ, ◌≡◌, ◌<◌, ◌≤◌, ◌∙◌, Ok, Err, length, refl, sym, subst, arith, rules}
-use Rattle.std.proofs.lemmas.Result.{err_from_is_err_and}
 use Rattle.lattice.specs.Corners.{Corner}
 use Rattle.lattice.specs.Mosaic.{Mosaic}
-use Rattle.lattice.specs.declared.refusal.Refusal.TheVariants.{NoMemory}
 use Rattle.catalogue.proofs.Asking.{asked_on}
-use Rattle.catalogue.proofs.Reading.{reads_nothing, reads_on}
+use Rattle.catalogue.proofs.Reading.{reads_on}
 use Rattle.border_graph.specs.Joining.{IsSummaryOf}
 use Rattle.tile_labellings.specs.TileLabellings.{IsTileLabelling}
 use Rattle.tile_labellings.specs.declared.tile_labelling.TileLabelling.{TileLabelling}
@@ -12,7 +10,7 @@ use Rattle.drainage.specs.Holding.{IsEntered, IsRight, IsGrown}
 use Rattle.drainage.specs.declared.labelling_cache.LabellingCache.{LabellingCache}
 use Rattle.drainage.specs.TileCaches.{known_of}
 use Rattle.drainage.proofs.Caches.Growing.{known_by, grown_by, grown_fewer}
-use Rattle.drainage.proofs.Questions.Questioned.{answered, passed_on, refused_by, stopped, wanting}
+use Rattle.drainage.proofs.Questions.Questioned.{answered, answered_here, passed_on, refused_by, short_of_memory, stopped_here}
 use Rattle.drainage.proofs.Changes.Refreshed.{entered_there, is_there}
 use Rattle.drainage.proofs.Caches.LoadingTiles.{some_there}
 use Rattle.drainage.proofs.tile_cache.TileCache.load_tile.Goals as goal
@@ -20,17 +18,14 @@ use Rattle.drainage.proofs.tile_cache.TileCache.load_tile.Goals.{After-learn}
 
 pub returns-then-t-len-clause-asked : goal.returns-then-t-len-clause-asked
 returns-then-t-len-clause-asked g c ready =
-    let a = c.args.samples.now in
-    stopped g.S.Samples a a (reads_nothing g.S.Samples g.met.S.Samples.keeps_itself a (tt {0})) (λ honest.
+    stopped_here g.S.Samples g.met.S.Samples.keeps_itself c.args.samples.now (λ honest.
     let past : length c.args.self.now.rim_graph.loaded.items ≤ c.args.t = (let size = c.len.ensures in let h = c.if-t-len.true in search rules) in
     let whole = (ready honest).ready.tiles.whole in
     let place = c.requires.place in
     absurd (omega arith))
 
 pub returns-then-is_some-clause-asked : goal.returns-then-is_some-clause-asked
-returns-then-is_some-clause-asked g c ready =
-    let a = c.args.samples.now in
-    answered g.S.Samples a a (tt {0}) (reads_nothing g.S.Samples g.met.S.Samples.keeps_itself a (tt {0}))
+returns-then-is_some-clause-asked g c ready = answered_here g.S.Samples g.met.S.Samples.keeps_itself c.args.samples.now (tt {0})
 
 pub returns-then-is_some-clause-loaded : goal.returns-then-is_some-clause-loaded
 returns-then-is_some-clause-loaded g c =
@@ -48,8 +43,7 @@ returns-in_err-labelling-clause-asked g c right =
     let b = c.current_labelling.new.samples in
     let made = c.in_err-labelling.ensures in
     let r = c.in_err-labelling.field-0.0 in
-    let p = err_from_is_err_and c.from_residual.result c.from_residual.ensures.1 in
-    refused_by g.S.Samples a b c.from_residual.result p.0 r p.1 p.2
+    refused_by g.S.Samples a b c.from_residual.result r c.from_residual.ensures.1
     (passed_on g.S.Samples a b c.current_labelling.result r c.in_err-labelling.was (c.current_labelling.ensures.asked (λ honest.
     is_there g.S.Samples a (known_of c.args.self.now) c.args.t c.args.corner c.requires.place c.requires.corner (right honest) (g.met.S.Samples.same_corners a (made.honest honest)))))
 
@@ -68,8 +62,7 @@ returns-in_err-summary-clause-asked g c right =
     let made = c.in_ok-labelling.ensures in
     let summed = c.in_err-summary.ensures in
     let r = c.in_err-summary.field-0.0 in
-    let p = err_from_is_err_and c.from_residual-in_err-summary.result c.from_residual-in_err-summary.ensures.1 in
-    refused_by g.S.Samples a d c.from_residual-in_err-summary.result p.0 r p.1 p.2
+    refused_by g.S.Samples a d c.from_residual-in_err-summary.result r c.from_residual-in_err-summary.ensures.1
     (asked_on g.S.Samples g.met.S.Samples.keeps_on a b d (tt {0}) (Err r) made.reads
     (passed_on g.S.Samples b d c.summarize.result r c.in_err-summary.was (c.summarize.ensures.asked made.current (λ honest.
     let mid = summed.honest honest in
@@ -109,9 +102,7 @@ returns-in_err-learn-clause-asked g c right =
     let a = c.args.samples.now in
     let b = c.current_labelling.new.samples in
     let d = c.summarize.new.samples in
-    let p = err_from_is_err_and c.from_residual-in_err-learn.result c.from_residual-in_err-learn.ensures.1 in
-    refused_by g.S.Samples a d c.from_residual-in_err-learn.result p.0 NoMemory p.1 (p.2 ∙ c.in_err-learn.ensures.refusal)
-    (wanting g.S.Samples a d (reads_on g.S.Samples g.met.S.Samples.keeps_on a b d tt (Ok tt) c.in_ok-labelling.ensures.reads c.in_ok-summary.ensures.reads))
+    short_of_memory g.S.Samples a d c.from_residual-in_err-learn.result (reads_on g.S.Samples g.met.S.Samples.keeps_on a b d tt (Ok tt) c.in_ok-labelling.ensures.reads c.in_ok-summary.ensures.reads) (search rules)
 
 pub returns-clause-grown : goal.returns-clause-grown
 returns-clause-grown g c = grown_then g (goal.at.returns-clause-grown g c).After-learn c.hold.new.self
