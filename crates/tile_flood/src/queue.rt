@@ -65,7 +65,6 @@ impl Queue {
     }
 
     /// Lets the point wait at this level.
-    #[inline(always)]
     pub(crate) fn push(&mut self, level: i16, point: u32) -> Result<(), AllocError>
         ensures joined { OnOk result (IsJoined self.old self.new level point) }
         ensures count { OnOk result (waiting self.new ≡ waiting self.old + 1) }
@@ -76,7 +75,6 @@ impl Queue {
     }
 
     // Makes the level's bucket, where there is none.
-    #[inline(always)]
     fn reach(&mut self, level: i16) -> Result<(), AllocError>
         ensures bucket { OnOk result (HasBucket self.new level) }
         ensures extended { OnOk result (IsExtended self.old self.new) }
@@ -107,7 +105,6 @@ impl Queue {
     }
 
     // Puts the point into the level's bucket.
-    #[inline(always)]
     fn put(&mut self, level: i16, point: u32) -> Result<(), AllocError>
         requires { HasBucket self.old level }
         ensures joined { OnOk result (IsJoined self.old self.new level point) }
