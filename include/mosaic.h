@@ -1,8 +1,9 @@
 /* The store in a program's own process: heights, filled levels, directions, watersheds and upstream counts, read from the bytes of a
  * store's file.
  *
- * It only reads: nothing here changes a store. Each function answers 0, or the number of a refusal (docs/messages.md), and then
- * what it was to fill may hold anything. A refusal leaves the store open, as it was.
+ * It only reads: nothing here changes a store. Each function but mosaic_close answers 0, or the number of a refusal (docs/messages.md), and then
+ * what it was to fill may hold anything. A refused question leaves the store open, as it was; a refused mosaic_open leaves the handle
+ * empty.
  *
  * Points: y grows northwards and x eastwards, in samples, from 0 N 0 E; a degree has side - 1 of them. Heights and levels are whole
  * metres, MOSAIC_VOID where there is none. A direction is 1 for east and each next one clockwise twice as much, 0 where water leaves
@@ -16,8 +17,8 @@
  * - malloc, realloc and free are of one allocator. No function is called from a signal handler, or after fork from a child of a
  *   program with threads.
  *
- * Refusals, each of which comes where it says so and nowhere else, but for those that may come of any question of an open handle: 20
- * Device and 23 Damaged (the image is no store's), 21 NoMemory.
+ * Refusals, each of which comes where it says so and nowhere else, but for those that may come of any question of an open handle: 23
+ * Damaged (what the store keeps isn't as the program wrote it), 21 NoMemory.
  *   22 Failed     before all others, where the handle holds no store
  *   3 BadLength   a window's array hasn't rows * columns elements, a tile's not side * side; a reply is longer than its buffer
  *   12 BadBox     a window of a right length has points whose coordinates don't fit 32 bits
