@@ -22,6 +22,7 @@ still_left (synced false) st image right held k shut = sym (right.1 k shut) ∙ 
 still_left (forgotten ok) st image right held k shut = sym (right k shut) ∙ held k shut
 still_left (aside call) st image right held k shut = ap (λ (i : Image). i k) right ∙ held k shut
 
+-- the trait's laws: seen is in may; may is in since; since now is may
 module _ (images : ℕ → Image) where
   pub seen_left : (calls : List Answered) → IsHonest images calls → MayLeave (state_after images calls) (state_after images calls).seen
   seen_left [] honest = λ k shut. refl

@@ -78,6 +78,7 @@ abbrev pub are_noted : NewHeight → Option TileCache → Option TileCache → T
 are_noted h None left = left ≡ None
 are_noted h (Some tile_cache) left = (some : TileCache) × (left ≡ Some some) × IsNotedOf h (known_of tile_cache) (known_of some)
 
+-- the same of what is held
 abbrev pub IsNotedHeld : NewHeight → DrainageCache → DrainageCache → Type 0
 IsNotedHeld h held left = are_noted h held.tile_cache left.tile_cache
 

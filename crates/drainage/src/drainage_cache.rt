@@ -3,13 +3,14 @@
 //! What a change gives up (`invalidate_edit`; each line is what its contract lets stay):
 //!
 //! - A burn or a wall: labellings of tiles that hold a point, but a flooded one is mended later, for up to 64 points
-//!   (tile_flood/mending.rt), and a kept one stays where the point lay below its level and does so still. Summaries of tiles
-//!   that hold a point or one beside it, unless a labelling that is held tells that it lay below its level and does so still;
-//!   their spills only with a border between labels (tile_flood/borders.rt). Levels of rim points between the two heights of
-//!   a point. Where points drain, in blocks of 32 rows and columns with such a level in them or beside them. Nothing for a
-//!   point that gets the height that it has.
-//! - A patch: all that is cached of such tiles, all levels of rim points, and where points drain.
-//! - A sink that comes or goes: the same, but no level below its ground.
+//!   (tile_labellings/flooded_block.rt), and a kept one stays where the point lay below its level and does so still.
+//!   Summaries of tiles that hold a point or one beside it, unless a labelling that is held tells that it lay below its
+//!   level and does so still; their spills only with a border between labels (tile_flood/borders.rt). Levels of rim points
+//!   between the two heights of a point. Where points drain, in blocks of 32 rows and columns with such a level in them or
+//!   beside them. Nothing for a point that gets the height that it has.
+//! - A patch: all that is cached of tiles that hold a point of the box or one beside it, all levels of rim points, and where
+//!   points drain.
+//! - A sink that comes or goes: the same for its point, but levels of rim points below its ground stay.
 //! - A tile that comes or goes, a reopening: everything.
 //! - A step, which keeps a labelling that a question left, or floods the tile; an upgrade: nothing.
 ghost use Rattle.std.specs.Prelude.{◌≡◌, ◌↔◌, ◌⊎◌, ◌+◌, ◌≤◌, None, IsTrue, IfOk, IfErr, IfSome, IfNone, length};
@@ -39,7 +40,7 @@ use lattice::{Corner, MOST_TILES, Point, Refusal, Side};
 use std::alloc::Global;
 use tile_flood::Labelled;
 
-// So many questions are answered in a tile by the levels around their points, before it is prepared.
+// How many questions a tile answers by the levels around their points before it is prepared.
 const MOST_BY_LEVELS: u32 = 256;
 
 /// How often points of a tile that isn't at hand were asked for.
@@ -49,7 +50,7 @@ struct AskedTile {
     questions: u32,
 }
 
-/// What questions about the water of one mosaic found, so that a later question doesn't find it again: the ways of the
+/// What questions about the water of one mosaic found, so that a later question doesn't find it again: the graphs of the
 /// tiles that water came to, the labellings of those that were asked, as many as there is room for, the levels of rim
 /// points, and where points drain.
 #[derive(Drop)]
@@ -58,7 +59,7 @@ pub struct DrainageCache {
     flow_cache: Option<FlowCache>,
     // What is left of where points drained before heights changed.
     past_flows: Option<FlowCache>,
-    // Counted anew from each change on.
+    // How often points of tiles that aren't prepared were asked for since the last change.
     asked: Option<Vec<AskedTile>>,
     ghost few: { flow_bytes flow_cache + flow_bytes past_flows ≤ most_flow_bytes },
 }
@@ -87,10 +88,10 @@ impl DrainageCache {
         self.invalidate_flows();
     }
 
-    /// Gives up what changes of points from the one to the other, ends included, may make wrong: the ways and the labellings
-    /// of the tiles that hold such a point or one beside it, where points drain, and the levels of rim points that are higher
-    /// than `most`, in metres, or all of them. What else is held serves on, for the mosaic as it was and as it becomes. Takes
-    /// no memory.
+    /// Gives up what changes of points from the one to the other, ends included, may make wrong: the graphs and the
+    /// labellings of the tiles that hold such a point or one beside it, where points drain, and the levels of rim points
+    /// that are higher than `most`, in metres, or all of them. What else is held serves on, for the mosaic as it was and as
+    /// it becomes. Takes no memory.
     pub fn invalidate_between(&mut self, from: Point, to: Point, most: Option<i32>)
         ensures left { IsLeftHeld from to (IsNoHigher most) self.old self.new }
         ensures right { (m new : Mosaic) → DifferBetween m new from to → AreLevelsStill (IsNoHigher most) m new → IsHeldOf m self.old → IsHeldOf new self.new }
@@ -115,11 +116,12 @@ impl DrainageCache {
         self.tile_cache = Some(tile_cache);
     }
 
-    /// The ground point may have this height from then on, but no sink comes or goes: the labellings of the tiles that hold it
-    /// are mended when they are asked for, but kept ones where it lay below its level and stays there; the ways of tiles that
-    /// hold it or a point beside it are given up, unless a labelling tells that it lay so; and where points drain, near levels
-    /// that it may move. What is held serves on, for the mosaic as it was, and as it becomes where no level of a rim point is
-    /// held that may change.
+    /// The ground point may have this height from then on, but no sink comes or goes: a flooded labelling of a tile that
+    /// holds it is mended when it is asked for, for up to 64 points; a kept one stays where the point lay below its level
+    /// and does so still, and is given up elsewhere. The graphs of tiles that hold it or a point beside it are given up,
+    /// unless a labelling tells that it lay so and does so still; and where points drain, near levels that it may move.
+    /// What is held serves on, for the mosaic as it was, and as it becomes where no level of a rim point is held that may
+    /// change.
     pub fn note_changed(&mut self, height: &NewHeight)
         ensures left { IsNotedHeld height.now self.old self.new }
         ensures still { (m : Mosaic) → IsHeldOf m self.old → IsHeldOf m self.new }
@@ -157,8 +159,7 @@ impl DrainageCache {
         self.asked = None;
     }
 
-    // Of where points drain that is known from then on which no change of a ground point's height from the one to the other
-    // can move.
+    // Keeps, of where points drain, what no change of a ground point's height from `was` to `is` can move.
     fn retain_spared_flows(&mut self, was: i16, is: i16)
         ensures tile_cache { self.new.tile_cache ≡ self.old.tile_cache }
         ensures flow_cache { self.new.flow_cache ≡ None }
@@ -171,7 +172,7 @@ impl DrainageCache {
         self.past_flows = Some(past);
     }
 
-    // Hands out where points drain, as of before heights change. None is held then.
+    // Hands out what is known of where points drain before heights change; afterwards the cache has none of it.
     fn take_past(&mut self) -> Option<FlowCache>
         ensures tile_cache { self.new.tile_cache ≡ self.old.tile_cache }
         ensures flow_cache { self.new.flow_cache ≡ None }
@@ -199,8 +200,8 @@ impl DrainageCache {
         flow
     }
 
-    // Of each direction, in their order, whether the point there drains straight to this one, where the tile that was asked for
-    // last tells it.
+    // For each of the eight directions, in order, whether the neighbour there drains straight to this point; None where the
+    // tile asked for last doesn't tell.
     pub(crate) fn donors_around(&self, point: Point) -> Option<[bool; 8]>
         ensures { (m : Mosaic) → IsHeldOf m self.now
             → IfSome result (λ donors. OnLevels m (λ level. AreToldBy (DrainsBack (terrain m) level point) donors 8)) }
@@ -223,7 +224,7 @@ impl DrainageCache {
         due
     }
 
-    // Hands out what is held of tiles' flows. None is held then.
+    // Hands out what is held of tiles' flows. The cache holds nothing of it then.
     pub(crate) fn take_flow_cache(&mut self, alloc: Global, side: Side) -> FlowCache
         ensures flows { (m : Mosaic) → side ≡ m.side → IsHeldOf m self.old → IsCacheOf m result }
         ensures left { (m : Mosaic) → IsHeldOf m self.old → IsHeldOf m self.new }
@@ -252,7 +253,8 @@ impl DrainageCache {
         near(tile_cache, point)
     }
 
-    // Hands out what is held of levels, or that nothing is found yet. None is held then. NoMemory is the only refusal.
+    // Hands out what is held of levels, or that nothing is found yet. The cache holds nothing of it then. NoMemory is the
+    // only refusal.
     pub(crate) fn take<S: Samples>(
         &mut self,
         alloc: Global,
@@ -291,7 +293,7 @@ fn flow_in(held: &mut Option<FlowCache>, point: Point) -> Flow
     flow
 }
 
-// Notes that a point of the corner's tile was asked for. Whether so many were.
+// Notes that a point of the corner's tile was asked for. Answers whether MOST_BY_LEVELS were.
 fn is_due(asked: &mut Vec<AskedTile>, corner: Corner) -> bool {
     for i in 0..asked.len() {
         if asked[i].corner == corner {

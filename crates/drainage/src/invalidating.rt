@@ -15,9 +15,9 @@ use edits::{Edit, NewHeight};
 use lattice::Point;
 
 /// What the edit may make wrong of what is held isn't used any more: where heights are set, the labellings of the tiles that
-/// hold them are mended when they are asked for; of the tiles that hold a point that changes, or one beside it, the ways are
-/// given up, and the levels of rim points that may change; everything where a tile comes or goes. What is held then is right
-/// for the mosaic before the edit and, where this has the heights that the edit tells, after it alike.
+/// hold them are mended when they are asked for; of the tiles that hold a point that changes, or one beside it, the graphs
+/// are given up, and the levels of rim points that may change; everything where a tile comes or goes. What is held then is
+/// right for the mosaic before the edit and, where this has the heights that the edit tells, after it alike.
 pub fn invalidate_edit(held: &mut DrainageCache, edit: &Edit)
     ensures still { (m : Mosaic) → IsMosaic m → IsHeldOf m held.old → IsHeldOf m held.new }
     ensures changed { (m : Mosaic) → IsMosaic m → TellsHeights m edit.now → IsHeldOf m held.old → IsHeldOf (edit_made edit.now m) held.new }

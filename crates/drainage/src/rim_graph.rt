@@ -1,4 +1,4 @@
-//! The ways between rim points, of tiles whose labellings are asked once water comes to their rims.
+//! The graphs of tiles, between their rim points. The labelling of a tile is asked once water comes to its rim.
 ghost use Rattle.std.specs.Prelude.{◌≡◌, ◌≢◌, ◌-◌, ◌*◌, ◌<◌, ◌≤◌, ◌⊎◌, ◌↔◌, ℕ, IfOk, IfErr, OnOk, IfSome, IfNone, IsTrue, Ok, Some, None, false, length, slice_set, sum_by};
 ghost use Rattle.border_graph.specs.Joining.{IsSummaryOf};
 ghost use Rattle.lattice.specs.Mosaic.{Mosaic};
@@ -21,7 +21,7 @@ use std::alloc::Global;
 // So many rim points and spills are held at most: of the most tiles, at the longest side, where each rim point has a spill.
 const MOST_GRAPH_SIZE: usize = 6_912_000;
 
-/// The corners of a mosaic's tiles, in order, and the ways of those tiles that water has come to.
+/// The corners of a mosaic's tiles, in order, and the graphs of those tiles that water has come to.
 #[derive(Drop)]
 pub(crate) struct RimGraph {
     pub(crate) side: Side,
@@ -58,8 +58,8 @@ impl RimGraph {
         Some(*corner)
     }
 
-    /// Has the ways of the tile with this place and summary from then on, unless it had them: those that decide how low water
-    /// gets out.
+    /// Has the graph of the tile with this place and summary from then on, unless it had it: with those edges that decide
+    /// how low water gets out.
     pub(crate) fn learn(&mut self, alloc: Global, t: usize, summary: Summary) -> Result<(), Refusal>
         requires inside { t < length self.old.loaded.items }
         ensures loaded { OnOk result ((ways : TileGraphOf) × (loaded_at self.new.loaded.items t ≡ Some ways)) }
@@ -83,7 +83,7 @@ impl RimGraph {
         Ok(())
     }
 
-    /// Gives up the ways of the tiles that changes from the one point to the other reach. Takes no memory.
+    /// Gives up the graphs of the tiles that changes from the one point to the other reach. Takes no memory.
     pub(crate) fn invalidate_between(&mut self, from: Point, to: Point)
         ensures side { self.new.side ≡ self.old.side }
         ensures corners { self.new.corners.items ≡ self.old.corners.items }
@@ -98,8 +98,8 @@ impl RimGraph {
         }
     }
 
-    /// Gives up the ways of the tiles that the point reaches as it gets this height, unless by these labellings all levels in
-    /// the tile stay. Takes no memory.
+    /// Gives up the graphs of the tiles that the point reaches as it gets this height, unless by these labellings all levels
+    /// in the tile stay. Takes no memory.
     pub(crate) fn note_changed(&mut self, labellings: &LabellingCache, height: &NewHeight)
         ensures side { self.new.side ≡ self.old.side }
         ensures corners { self.new.corners.items ≡ self.old.corners.items }
@@ -114,7 +114,7 @@ impl RimGraph {
         }
     }
 
-    // Whether the ways of the tile with this place stay as the point gets this height.
+    // Whether the graph of the tile with this place stays as the point gets this height.
     fn is_still(&self, labellings: &LabellingCache, height: &NewHeight, t: usize) -> bool
         ensures { IsTrue result ↔ KeepsSummary self.now.side self.now.corners.items labellings.now.held.items height.now t }
     {
@@ -127,7 +127,7 @@ impl RimGraph {
         }
     }
 
-    // Gives up the ways of the tile with this place.
+    // Gives up the graph of the tile with this place.
     fn invalidate(&mut self, t: usize)
         requires { t < length self.old.loaded.items }
         ensures side { self.new.side ≡ self.old.side }
@@ -137,7 +137,7 @@ impl RimGraph {
         self.loaded[t] = None;
     }
 
-    // Lists the ways from the rim point with this number in the tile with this place, where the tile is loaded.
+    // Lists the edges from the rim point with this number in the graph of the tile with this place, where it is loaded.
     pub(crate) fn list(&self, t: usize, k: u32, into: &mut Vec<Edge>) -> Result<(), Refusal>
         requires number { k < 4 * (self.now.side - 1) }
         requires place { t < length self.now.corners.items }

@@ -93,7 +93,7 @@ impl RimLevels {
         self.levels[x] = None;
     }
 
-    /// Knows the level of the node from then on. NoMemory is the only refusal; so is a node refused that no mosaic of the most tiles
+    /// Knows the level of the node from then on. NoMemory is the only refusal, also of a node that no mosaic of 240 tiles
     /// has.
     pub(crate) fn know(&mut self, node: u32, level: i16) -> Result<(), Refusal>
         ensures known { OnOk result ((x : ℕ) → level_of self.new x ≡ cond (node == x) (Some level) (level_of self.old x)) }

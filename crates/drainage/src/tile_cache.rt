@@ -1,4 +1,4 @@
-//! What is found of a mosaic's water: ways, labellings and levels, tile by tile as they are asked for.
+//! What is found of a mosaic's water: graphs of tiles, labellings and levels, tile by tile as they are asked for.
 ghost use Rattle.std.specs.Prelude.{◌≡◌, ◌≢◌, ◌-◌, ◌*◌, ◌<◌, ◌≤◌, ℕ, ℤ, IfOk, IfErr, IfSome, IfNone, OnOk, IsTrue, Ok, Some, length};
 ghost use Rattle.catalogue.specs.Asked.{Asked};
 ghost use Rattle.catalogue.specs.Endings.{ends_any};
@@ -33,7 +33,7 @@ use std::alloc::Global;
 use tile_flood::Labelled;
 use tile_labellings::Labellings;
 
-/// The ways of the tiles that water has come to, their labellings, and the levels of rim points that were found.
+/// The graphs of the tiles that water has come to, their labellings, and the levels of rim points that were found.
 #[derive(Drop)]
 pub(crate) struct TileCache {
     pub(crate) rim_graph: RimGraph,
@@ -60,7 +60,7 @@ impl TileCache {
         })
     }
 
-    /// Gives up what changes from the one point to the other may make wrong: the ways and the labellings of the tiles that
+    /// Gives up what changes from the one point to the other may make wrong: the graphs and the labellings of the tiles that
     /// they reach, and of the levels of rim points, which depend on the water's whole way out, those that are higher than
     /// `most`, in metres, or all. Takes no memory.
     pub(crate) fn invalidate_between(&mut self, from: Point, to: Point, most: Option<i32>)
@@ -82,8 +82,9 @@ impl TileCache {
     }
 
     /// The ground point may have this height from then on, and no sink changes: this is noted of the labellings of the tiles
-    /// that hold it, to be mended. The ways are given up as by `invalidate_between`, but for those of tiles where the point lay
-    /// below its level and stays there, by a labelling that is held; the levels of rim points stay, as this height spares each.
+    /// that hold it, to be mended. The graphs are given up as by `invalidate_between`, but for those of tiles where the
+    /// point lay below its level and stays there, by a labelling that is held; the levels of rim points stay, as this height
+    /// spares each.
     pub(crate) fn note_changed(&mut self, height: &NewHeight)
         ensures left { IsNotedOf height.now (known_of self.old) (known_of self.new) }
         ensures still { (m : Mosaic) → IsRight m (known_of self.old) → IsRight m (known_of self.new) }
@@ -107,7 +108,7 @@ impl TileCache {
         Some(labelled)
     }
 
-    // Has the ways of the tile with this place and corner from then on, unless it had them.
+    // Has the graph of the tile with this place and corner from then on, unless it had it.
     fn load_tile<S: Labellings>(
         &mut self,
         alloc: Global,
@@ -138,7 +139,7 @@ impl TileCache {
     }
 
     /// The level and the label of the point with this index in the tile with this place and corner: by a labelling that is
-    /// held; as they are kept, by themselves; or by a labelling that is read or made, and held from then on.
+    /// held; read from the kept planes, a page each; or by a labelling that is read or made, and held from then on.
     pub(crate) fn label_at<S: Labellings>(
         &mut self,
         alloc: Global,

@@ -44,8 +44,8 @@ pub(crate) fn begin(
     Ok(())
 }
 
-/// Marks the samples of the flat from those that wait on, and lists their runs. Gives a point that it reaches and of which
-/// nothing is known, if there is one, where it stops.
+/// Takes the waiting runs one after another, marks the samples of the flat that lie around each, and lists their runs.
+/// `seed` only tells contracts which flat it is. Stops at a point of which nothing is known, and gives it.
 pub(crate) fn collect(
     flows: &[FlowByte],
     tiles: &Tiles,
@@ -92,6 +92,7 @@ fn visit_run(
     ensures settled { IfOk result (λ met. IfNone met ((k : ℕ) (d : Dir) → IsIn run k → IsSettled flows.now marks.new (by_of tiles.now k d))) }
     ensures met { IfOk result (λ met. IfSome met (λ q. (k : ℕ) × (IsIn run k × IsUnknownBeside tiles.now flows.now k q))) }
 {
+    // That these are valid tiles (`AreTiles`) is told by this call.
     let _valid = tiles.tiles();
     let first = run.first as usize;
     let deep = tiles.is_deep(first);

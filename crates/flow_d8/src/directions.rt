@@ -45,6 +45,7 @@ impl Directions {
         ensures value { result ≡ record { tiles = grid.tiles; drains = grid.flows.items } }
         ensures whole { AreWhole (record { tiles = grid.tiles; drains = grid.flows.items }) }
     {
+        // That the grid's tiles are valid (`AreTiles`) is told by this call.
         let _valid = grid.count();
         Directions { grid }
     }

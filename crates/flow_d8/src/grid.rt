@@ -69,6 +69,7 @@ impl FlowGrid {
         ensures value { result ≡ flow_of self.now.tiles self.now.flows.items point }
         ensures says { (t : Terrain Point) (level : Point → ℤ) → AreFlows t level (place_of self.now.tiles) self.now.flows.items → IsFlow t level point result }
     {
+        // That these are valid tiles (`AreTiles`) is told by this call.
         let _valid = self.tiles.tiles();
         let number = self.tiles.number(point);
         if number < self.flows.len() {

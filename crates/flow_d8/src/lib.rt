@@ -3,9 +3,10 @@
 //!
 //! The layer above rests on this: each ground point of a mosaic has exactly one direction and one flow path.
 //!
-//! What is known of where a sample's point drains is one byte (`Flow`), a fact about the mosaic by itself. `prepare` tells the
-//! bytes of a tile from its filled levels and those of two rows around it: all but the directions of points inside flats that
-//! lie beside no end of their level. `FlowGrid::resolve` gives these, by waves over the tiles at hand that begin beside the ends.
+//! What is known of where a sample's point drains is one byte (`Flow`), a fact about the mosaic by itself. `prepare` tells
+//! the bytes of a tile from its filled levels and those of two rows around it: all but the directions of points inside flats
+//! that lie beside no end of their level. `FlowGrid::resolve` gives these, by waves over the tiles at hand that begin beside
+//! the ends. An end of a flat is a point of its level that drains to a lower one, or off the mosaic.
 //!
 //! `Filled::directions` does so for all tiles at once:
 //!

@@ -44,7 +44,7 @@ pub(crate) fn mark(marks: &[u8], k: usize) -> u8
     if k < marks.len() { marks[k] } else { FREE }
 }
 
-/// Samples one after another in a row of a tile.
+/// Samples one after another in a row of a tile, all deep in it (two samples or more from its edges); or a single one.
 #[derive(Clone, Copy)]
 pub(crate) struct Run {
     pub(crate) first: u32,

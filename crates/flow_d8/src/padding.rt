@@ -51,6 +51,7 @@ fn level_at(tiles: &Tiles, levels: &[i16], point: Point) -> i16
     requires { AreLevels (filled_of tiles.now levels.now []) }
     ensures { (sinks : List Point) → IsLevelIn (filled_of tiles.now levels.now sinks) point result }
 {
+    // That these are valid tiles (`AreTiles`) is told by this call.
     let _valid = tiles.tiles();
     let number = tiles.number(point);
     if number < levels.len() {

@@ -108,6 +108,7 @@ fn is_flat(flows: &[FlowByte], k: usize) -> bool
 fn place_of(side: Side, corner: Corner, point: Point) -> Option<usize>
     ensures { MatchOption result ((k : ℕ) → IsSinkPlace side corner point k → ⊥) (λ k. IsSinkPlace side corner point k × ((j : ℕ) → IsSinkPlace side corner point j → j ≡ k)) }
 {
+    // That the side is from 3 to 3601 samples is told by this call.
     let _small = side.samples();
     let first = point_at(side, corner, 0);
     let row = inner_place(side, place_along(point.y, first.y))?;

@@ -31,7 +31,8 @@ pub(crate) enum Resolution {
 
 ghost use Rattle.flow_d8.specs.Resolution.{AreResolved, IsOutcome, IsMetOnGround};
 
-/// Resolves the flat of the point: gives its samples, in each of the tiles, their directions.
+/// Resolves the flat of the point: gives its samples, in each of the tiles, their directions. Refused only for want of
+/// memory.
 pub(crate) fn resolve(
     flows: &mut [FlowByte],
     tiles: &Tiles,
@@ -47,12 +48,14 @@ pub(crate) fn resolve(
     let alloc = *marks.marks.allocator();
     resize(&mut marks.marks, flows.len())?;
     let outcome = resolve_marking(alloc, flows, tiles, &mut marks.marks, point);
+    // After a failure marks may be left set, so room is made anew.
     if outcome.is_err() {
         marks.marks = Vec::new(alloc);
     }
     outcome
 }
 
+// The same over marks of the right length, none of them set.
 fn resolve_marking(
     alloc: Global,
     flows: &mut [FlowByte],
@@ -107,6 +110,7 @@ fn resolve_listing(
     Ok(Resolution::Resolved)
 }
 
+// Resolves the members that were collected, and tells their flows in each tile that holds their points.
 fn resolve_members(
     alloc: Global,
     flows: &mut [FlowByte],
@@ -123,6 +127,7 @@ fn resolve_members(
     ensures facts { OnGround tiles.now flows.old (λ t level. AreFlows t level (place_of tiles.now) flows.new) }
     ensures resolved { OnOk result (AreResolved tiles.now seed flows.old flows.new) }
 {
+    // That these are valid tiles (`AreTiles`) is told by this call.
     let _valid = tiles.tiles();
     let wave = first_wave(alloc, flows, marks, runs)?;
     spread(alloc, flows, tiles, marks, wave)?;
@@ -157,7 +162,8 @@ fn spread(
     Ok(())
 }
 
-// The next wave: its samples are directed and reached. The directions in their order: each gets the first that leads to the wave.
+// Directs and marks the next wave. Directions are tried in their order, so that each sample gets the first that leads to the
+// wave.
 fn advance(
     alloc: Global,
     tiles: &Tiles,

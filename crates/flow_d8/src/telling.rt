@@ -29,6 +29,7 @@ pub(crate) fn tell(tiles: &Tiles, runs: &[Run], flows: &mut [FlowByte])
     }
 }
 
+// Tells the flow of the run's members at all samples of their points. A run that isn't deep is one sample.
 fn tell_run(tiles: &Tiles, run: Run, flows: &mut [FlowByte])
     requires tiles { length flows.old ≡ count_of tiles.now }
     requires row { IsRow tiles.now.side run }
@@ -38,6 +39,7 @@ fn tell_run(tiles: &Tiles, run: Run, flows: &mut [FlowByte])
     ensures twins { (k e : ℕ) → IsIn run k → IsTold (slice_index_or flows.old k Unknown) → IsSampleOf tiles.now (place_of tiles.now k) e
         → IsOfFlat (slice_index_or flows.old e Unknown) → IsTold (slice_index_or flows.new e Unknown) }
 {
+    // That these are valid tiles (`AreTiles`) is told by this call.
     let _valid = tiles.tiles();
     let k = run.first as usize;
     // No other sample has the points of a deep row.

@@ -40,6 +40,7 @@ impl Tiles {
     pub(crate) fn new(side: Side, corners: Vec<Corner>) -> Option<Tiles>
         ensures { SomeIff result ((length corners.items ≤ most_tiles) × AllAdjacentBelow IsBefore corners.items (length corners.items)) (record { side = side; corners = corners.items }) }
     {
+        // That the side is from 3 to 3601 samples is told by this call.
         let _low = side.samples();
         see_corners(&corners);
         if corners.len() <= MOST_TILES as usize && are_rising(&corners) {
@@ -75,6 +76,7 @@ impl Tiles {
         ensures pushed { OnOk result (self.new.corners ≡ self.old.corners ++ corner ∷ []) }
         ensures failed { OnErr result (self.new ≡ self.old) }
     {
+        // That this is a corner of the grid of tiles is told by this call.
         let _latitude = latitude(corner);
         self.corners.push(corner)?;
         Ok(())
@@ -124,6 +126,7 @@ impl Tiles {
         ensures value { result ≡ length self.now.corners }
         ensures valid { AreTiles self.now }
     {
+        // That these are valid tiles (`AreTiles`) is told by this call.
         let _valid = self.side();
         self.corners.len()
     }

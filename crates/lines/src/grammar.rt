@@ -18,7 +18,7 @@ use engine::Event;
 use hgt::name_of;
 use lattice::{Corner, Point};
 
-/// What a line asks for, if the language has it.
+/// What a line, without its LF and of at most 2048 bytes, asks for; None where the language hasn't it.
 pub fn request_of(language: Language, line: &[u8]) -> Option<Request<'_>>
     requires { length line.now ≤ 2048 }
     ensures exact { IsRequestOf language line.now result }
@@ -114,7 +114,7 @@ fn tile(mut arguments: Words<'_>) -> Option<Option<Corner>>
     Some(name_of(name).ok())
 }
 
-/// A name and a length.
+/// What `import NAME LENGTH` asks for; None for other arguments.
 fn import(mut arguments: Words<'_>) -> Option<Request<'_>>
     ensures { IsRequest Keyword.Import arguments.entry result }
 {
@@ -127,7 +127,7 @@ fn import(mut arguments: Words<'_>) -> Option<Request<'_>>
     Some(Request::Import { name, len })
 }
 
-/// Two points and a height.
+/// What `patch Y0 X0 Y1 X1 HEIGHT` asks for; None for other arguments.
 fn patch(arguments: Words<'_>) -> Option<Event>
     ensures { MatchOption result ((from to : Point) (height : ℤ) → AreInts arguments.entry (from.y ∷ from.x ∷ to.y ∷ to.x ∷ height ∷ []) → ⊥)
         (λ event. (from to : Point) × (height : ℤ) × AreInts arguments.entry (from.y ∷ from.x ∷ to.y ∷ to.x ∷ height ∷ []) × (event ≡ ask.Do (Patch from to height))) }
@@ -149,7 +149,7 @@ fn patch(arguments: Words<'_>) -> Option<Event>
     Some(Event::Do(Command::Patch { from, to, height }))
 }
 
-/// One point.
+/// The point that the arguments `Y X` name; None for other arguments.
 fn point(arguments: Words<'_>) -> Option<Point>
     ensures { MatchOption result ((p : Point) → AreInts arguments.entry (p.y ∷ p.x ∷ []) → ⊥) (λ p. AreInts arguments.entry (p.y ∷ p.x ∷ [])) }
 {
@@ -164,7 +164,7 @@ fn point(arguments: Words<'_>) -> Option<Point>
     })
 }
 
-/// A number and 1 to 64 points.
+/// The number and the 1 to 64 points that the arguments `NUMBER Y X ..` name; None for other arguments.
 fn number_and_points(arguments: Words<'_>) -> Option<(i32, ArrayVec<Point, MOST_POINTS>)>
     ensures { MatchOption result ((z : ℤ) (ps : List Point) → AreInts arguments.entry (z ∷ coordinates ps) → IsPointCount (length ps) → ⊥)
         (λ r. AreInts arguments.entry (r.0 ∷ coordinates r.1.items) × IsPointCount (length r.1.items)) }

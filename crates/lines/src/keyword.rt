@@ -2,7 +2,7 @@
 ghost use Rattle.std.specs.Prelude.{◌≡◌, ◌≢◌, MatchOption};
 ghost use Rattle.lines.specs.Grammar.{spelling};
 
-/// The first word of a line that is in the grammar.
+/// A word that a line of the grammar may begin with; docs/lines.md says what each does.
 #[derive(Clone, Copy, Debug, PartialEq, Eq)]
 pub enum Keyword {
     Import,

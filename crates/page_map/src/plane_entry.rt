@@ -201,8 +201,8 @@ impl PlaneEntry {
     }
 }
 
-/// Gives back the pages of a plane, where there is one, without those behind its record that stand at the same index among
-/// the others.
+/// Gives back the pages of a plane, where there is one, without those of its data and index pages that `others` has at the
+/// same index.
 fn give_location(free: &mut FreePages, location: &Option<PagedPlane>, others: &[u32])
     requires { AreInUse (replaced_by others.now location.now) free.old }
     ensures { AreGiven (replaced_by others.now location.now) free.old free.new }

@@ -1,6 +1,7 @@
 //! Questions about water, asked of a store's tree with what the store holds.
 //!
-//! Each is asked over any premise. `Store` asks at `Brand`, and picks as the premise that what it holds then is right.
+//! Each is asked over any premise (see `Premise` in labelling.rt). `Store` asks at `Brand`, and picks as the premise that
+//! what it holds then is right.
 ghost use Rattle.std.specs.Prelude.{◌≡◌, ◌≢◌, ◌≤◌, length, false, IsTrue, IfOk, IfErr, Contains};
 ghost use Rattle.std.specs.List.{AllPairs};
 ghost use Rattle.lattice.specs.Limits.{most_tiles};
@@ -145,7 +146,7 @@ pub(crate) fn ask_directions<D: Disk, P: Premise>(
     drainage::directions(alloc, &mut source, held, corner)
 }
 
-// How many points drain through each of them.
+// How many points drain through each sample of the corner's tile.
 pub(crate) fn ask_upstream<D: Disk, P: Premise>(
     alloc: Global,
     tree: &mut Tree<D>,

@@ -66,8 +66,8 @@ impl<D: Disk> Store<D> {
         format_as(disk, Version::One, side, capacity)
     }
 
-    /// Opens a disk, which a stop may have left in the middle of a commit. Nothing is written. A refusal hands the disk
-    /// back.
+    /// Opens a disk, which a stop may have left in the middle of a commit. Nothing is written. Refused with NotAStore,
+    /// Version, Damaged or TooSmall (docs/layout.md, Opening), Device or NoMemory. A refusal hands the disk back.
     pub fn open(alloc: Global, disk: D) -> Result<Store<D>, NotOpened<D>>
         ensures size { D.size (disk_after result) ≡ D.size disk }
         ensures writes { D.writes (disk_after result) ≡ D.writes disk }
@@ -113,7 +113,7 @@ impl<D: Disk> Store<D> {
         self.tree.reopen()
     }
 
-    /// The disk as it is.
+    /// Gives up the store and hands out its disk; nothing is written.
     pub fn into_disk(self) -> D
         ensures { result ≡ disk_of self }
     {
@@ -129,7 +129,7 @@ impl<D: Disk> Store<D> {
         self.tree.current().count()
     }
 
-    /// The number of the last commit, as last known.
+    /// The number of the last commit, as last known; 1 after a format.
     pub fn commits(&self) -> u64
         ensures value { result ≡ (root_of self.now).number }
         ensures state { (s : State) → IsAt D.Disk self.now s → result ≡ s.contents.number }
@@ -149,7 +149,7 @@ impl<D: Disk> Store<D> {
         derived::stale(&self.tree, corner)
     }
 
-    /// The version of its format, as last known.
+    /// The version of its format, 1 or 2, as last known.
     pub fn version(&self) -> u32
         ensures value { result ≡ number_of (root_of self.now).version }
         ensures state { (s : State) → IsAt D.Disk self.now s → result ≡ s.contents.version }
@@ -164,7 +164,7 @@ impl<D: Disk> Store<D> {
         self.tree.current().format().upgraded().sectors()
     }
 
-    /// Samples along an edge of its tiles.
+    /// How many samples an edge of its tiles has.
     pub fn side(&self) -> u32
         ensures { result ≡ side_of self.now }
     {

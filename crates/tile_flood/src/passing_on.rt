@@ -85,7 +85,7 @@ impl Flood {
         Ok(())
     }
 
-    // Marks the point e, beside the popped, or lowers it, where that lowers its level.
+    // Marks the point e, beside the popped point, or lowers it, where that lowers its level.
     fn visit(
         &mut self,
         n: usize,
@@ -119,8 +119,8 @@ impl Flood {
         Ok(())
     }
 
-    // Gives the point e, beside the popped, a lower level. Where its own label stands what hangs on it may hang on it still; else
-    // that is suspect.
+    // Gives the point e, beside the popped point, a lower level. Where its own label stands what hangs on it may hang on it
+    // still; else that is suspect.
     fn lower(
         &mut self,
         n: usize,
@@ -155,7 +155,8 @@ impl Flood {
         Ok(())
     }
 
-    // The label of the point e, beside the popped, at this level: its own, where it stands there, else the popped's.
+    // The label of the point e, beside the popped point, at this level: its own, where it stands there, else the popped
+    // point's.
     fn label_for(
         &self,
         n: usize,

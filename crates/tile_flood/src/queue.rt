@@ -5,7 +5,7 @@ ghost use Rattle.tile_flood.specs.Waiting.{Waits, HasBucket, waiting, IsJoined, 
 use std::alloc::{AllocError, Global};
 use std::marker::Model;
 
-// There are so many levels.
+// How many levels 16 bits tell apart.
 const LEVELS: usize = 65536;
 
 /// A point that waits at its level.
@@ -22,7 +22,7 @@ pub(crate) struct Queue {
     // The level of the first bucket.
     least: i16,
     buckets: Vec<Vec<u32>>,
-    // Every lower bucket is empty.
+    // No bucket before this one has a point.
     lowest: usize,
 }
 
@@ -38,8 +38,8 @@ impl Model for Queue {
 }
 
 impl Queue {
-    /// A queue where no point waits; its buckets will lie about this level: for few points, where buckets for all levels
-    /// would take longer than what they are for.
+    /// A queue where no point waits and no bucket is made yet; the first are made about this level. For few points: to make
+    /// a bucket for each level would take longer than to use them.
     pub(crate) fn new(alloc: Global, least: i16) -> Queue
         ensures { (level : ℤ) (e : ℕ) → Waits result level e → ⊥ }
     {
@@ -85,7 +85,7 @@ impl Queue {
         self.extend(level)
     }
 
-    // Makes buckets for further levels, this one among them, for as many again as there are.
+    // Makes buckets down or up to this level, and as many more as there are, as far as there are levels.
     #[cold]
     fn extend(&mut self, level: i16) -> Result<(), AllocError>
         ensures bucket { OnOk result (HasBucket self.new level) }

@@ -11,7 +11,7 @@ use crate::queue::Queue;
 use crate::values::at;
 use std::alloc::AllocError;
 
-// So many columns of a row are looked at together: most have no outlet.
+// How many columns are looked at together; most such spans have no outlet.
 const SPAN: usize = 64;
 
 // Marks the outlets, each at its own height and with its own label.
@@ -113,7 +113,8 @@ fn seed_at(
     Ok(())
 }
 
-// No point of the row in these columns can be an outlet: no void lies there or beside them, and the block has no sinks.
+// True only where no point of the row in columns `from` up to `to`, without it, can be an outlet: no void lies there or
+// beside them, and the block has no sinks.
 fn is_plain(n: usize, heights: &[i16], sinks: &[u32], i: usize, from: usize, to: usize) -> bool
     requires heights { AreHeights n heights.now }
     requires i { i < n }
@@ -130,7 +131,7 @@ fn is_plain(n: usize, heights: &[i16], sinks: &[u32], i: usize, from: usize, to:
         && is_full(n, heights, i + 1, west, east)
 }
 
-// All points of the row in these columns are ground.
+// True only where all points of the row in these columns are ground.
 fn is_full(n: usize, heights: &[i16], i: usize, from: usize, to: usize) -> bool
     requires heights { AreHeights n heights.now }
     requires i { i < n }

@@ -48,7 +48,7 @@ pub(crate) fn settle(
     Ok(())
 }
 
-// Marks all points beside the popped.
+// Marks all points beside the popped point.
 fn spread(
     n: usize,
     heights: &[i16],
@@ -70,9 +70,9 @@ fn spread(
     Ok(())
 }
 
-// Marks the points beside the popped in the row above it, in its own, or in the row below. The three points from the
-// popped's western column on lie beside it, or on the rim, where all ground points are marked: so there are no columns to
-// be told apart, and where there are no three such points the row is one of the rim.
+// Marks the points beside the popped point in the row above (i = 0), its own (1) or the row below (2). The three from the
+// western column on lie beside it, or on the rim, whose ground points are all marked, so columns needn't be told apart.
+// Where there are no three such points, none is left to mark.
 #[inline(always)]
 fn visit_row(
     n: usize,
@@ -104,7 +104,8 @@ fn visit_row(
     Ok(())
 }
 
-// Marks the point e, near the popped, that was taken at the lowest level.
+// Gives the point e, near the popped point, the popped point's label and the higher of its height and the popped point's
+// level, if it is open, and lets it wait.
 #[inline(always)]
 fn visit(
     n: usize,

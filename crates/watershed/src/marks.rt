@@ -57,6 +57,7 @@ impl Marks {
     {
         let rank = rank(point);
         let place = self.place(rank / SEGMENT)?;
+        // That the number of words fits a usize, and so does each index of one, is told by this call.
         let _whole = self.words.len();
         let word = place * WORDS + (rank / 64 % 64) as usize;
         Ok(set_bit(&mut self.words, word, (rank % 64) as u32))
@@ -112,6 +113,7 @@ impl Marks {
         ensures { IfOk result (λ runs. AreRuns (IsMarked self.now) runs.items) }
     {
         let mut runs = Vec::new(alloc);
+        // That the keys of the map stand in order is told by this call.
         let _ordered = self.places.len();
         for (number, place) in &self.places {
             add_segment(&mut runs, &self.words, *number, *place)?;

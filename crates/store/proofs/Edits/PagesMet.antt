@@ -119,6 +119,7 @@ one_held true k pages = one_met k pages
 one_held false k pages = let none = none_met pages in omega (arith, none)
 
 module _ (n : ℕ) (p : Point) where
+  -- the pages that hold a point are at most as many as the tiles that do
   held_in : (pages : ℕ) (corners : List Corner) → pages_met (λ c i. is_in_page n c i p) pages corners ≤ length (filter (λ c. holds n c p) corners)
   held_in pages [] = omega arith
   held_in pages (c ∷ rest) =
