@@ -1,9 +1,9 @@
 -- Marks of the points that lie in runs.
-use Rattle.std.proofs.Common.{◌≡◌, ◌⊎◌, ◌↔◌, ◌+◌, ◌<◌, ◌≤◌, ◌≤ℤ◌, ◌<ℤ◌, ℕ, ℤ, List, length, get_or, min, inl, inr, refl, sym, ◌∙◌, subst, arith}
+use Rattle.std.proofs.Common.{◌≡◌, ◌⊎◌, ◌↔◌, ◌+◌, ◌<◌, ℕ, List, length, get_or, min, inl, inr, sym, ◌∙◌, subst, arith}
 use Rattle.std.proofs.lemmas.Bool.{cases_lt}
 use Rattle.std.proofs.lemmas.Int.{ints, by_lt_z}
 use Rattle.std.proofs.lemmas.List.{get_or_default}
-use Rattle.lattice.specs.Ground.{is_ground, terrain}
+use Rattle.lattice.specs.Ground.{terrain}
 use Rattle.lattice.specs.Mosaic.{Mosaic}
 use Rattle.lattice.specs.declared.point.Point.{Point}
 use Rattle.watershed.specs.CountLaws.{points_in}
@@ -19,7 +19,7 @@ use Rattle.windows.proofs.Told.{AreRunsOf}
 abbrev pub CoverTo : List Run → ℕ → Point → Type 0
 CoverTo runs count p = (i : ℕ) × (r : Run) × (i < count) × (i < length runs) × (get_or runs i r ≡ r) × IsInRun r p
 
-decided : (r : Run) (p : Point) → IsInRun r p ⊎ ¬ IsInRun r p
+pub decided : (r : Run) (p : Point) → IsInRun r p ⊎ ¬ IsInRun r p
 decided r p =
     by_lt_z p.y r.y (λ south. inr (λ lies. let same = lies.0 in absurd (omega (arith, ints)))) (λ north.
     by_lt_z r.y p.y (λ over. inr (λ lies. let same = lies.0 in absurd (omega (arith, ints)))) (λ under.

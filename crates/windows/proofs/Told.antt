@@ -1,10 +1,11 @@
 -- What an engine's calls tell of its mosaic.
-use Rattle.std.proofs.Common.{SFits, w16, to_z, of_z, ◌≡◌, ◌≢◌, ◌+◌, ◌*◌, ◌<◌, ◌≤◌, ℕ, ℤ, List, length, IsTrue, true, true≢false, inl, inr, refl, sym, ap, ◌∙◌, subst, arith}
+use Rattle.std.proofs.Common.{SFits, w16, to_z, of_z, ◌≡◌, ◌≢◌, ◌+◌, ◌<◌, ◌≤◌, ℕ, ℤ, List, length, IsTrue, true≢false, inl, inr, refl, sym, ap, ◌∙◌, subst, arith}
 use Rattle.std.specs.Global.{Vec}
 use Rattle.std.specs.Prelude.{if◌then◌else◌, Option, Some, None, Result, Ok, Err, MatchResult}
 use Rattle.std.proofs.lemmas.Bool.{cases_lt}
 use Rattle.std.proofs.lemmas.Int.{to_z-of_z}
 use Rattle.catalogue.specs.Reading.{HasRisen}
+use Rattle.catalogue.specs.Tiles.{corners_of}
 use Rattle.tile_flood.specs.Raising.{AreTileLevels}
 use Rattle.lattice.specs.Corners.{Corner, is_corner}
 use Rattle.lattice.specs.Ground.{terrain}
@@ -15,7 +16,6 @@ use Rattle.lattice.specs.declared.point.Point.{Point}
 use Rattle.lattice.specs.declared.height.Height.{Height}
 use Rattle.lattice.specs.declared.refusal.Refusal.{Refusal}
 use Rattle.lattice.specs.declared.refusal.Refusal.TheVariants.{BadName, BadLength, NoTile, Outside, Void, Device, NoMemory, Failed}
-use Rattle.flow_d8.specs.Drainage.{AreFilledLevels}
 use Rattle.flow_d8.specs.FlowPath.{IsInWatershed}
 use Rattle.flow_d8.proofs.Steps.Nearby.{level_ground}
 use Rattle.drainage.specs.TileLevels.{IsLevelOrVoid}
@@ -35,7 +35,7 @@ use Rattle.engine.specs.declared.event.Reply.TheVariants as reply
 use Rattle.engine.proofs.Questions as questions
 use Rattle.windows.specs.Lines.{OnlyAsks}
 use Rattle.windows.specs.Results.{OfAny, OfPoint, OfTile, OfCopy, refused_corner}
-use Rattle.windows.specs.Telling.{Asked, Has, Tells, refusal_of}
+use Rattle.windows.specs.Telling.{Asked, Tells, refusal_of}
 
 risen : (before mid now : ℕ) → before ≤ mid → HasRisen mid now → HasRisen before now
 risen before mid now later up = omega (arith, later, up)
@@ -178,10 +178,10 @@ of_tile Says s t c (Err NoMemory) not = (stayed s t not, tt)
 of_tile Says s t c (Err NoTile) not = (stayed s t not.0, not.1)
 of_tile Says s t c (Err r) not = absurd not
 
-unlisted : (s t : State) (r : Refusal) → ListsNot s r t → t.contents ≡ s.contents
-unlisted s t Failed not = ap (λ (u : State). u.contents) not.same
-unlisted s t NoMemory not = stayed s t not
-unlisted s t r not = absurd not
+unlisted : {X : Type 0} (Says : X → Type 0) (s t : State) (r : Refusal) → ListsNot s r t → (t.contents ≡ s.contents) × OfAny Says (Err r)
+unlisted Says s t Failed not = (ap (λ (u : State). u.contents) not.same, tt)
+unlisted Says s t NoMemory not = (stayed s t not, tt)
+unlisted Says s t r not = absurd not
 
 -- what only asks leaves the contents
 pub leaves : (capacity : ℕ) (s t : State) (event : Event) (answer : Reply) → OnlyAsks event → Happens capacity s event answer t → t.contents ≡ s.contents
@@ -208,11 +208,11 @@ leaves capacity s t (ask.Directions c) (reply.Refused r) only not = (of_tile {X 
 leaves capacity s t (ask.Upstream c) (reply.Upstream x) only is = stayed s t is.0
 leaves capacity s t (ask.Upstream c) (reply.Refused r) only not = (of_tile {X = ℕ} (λ m k xs. Unit {0}) s t c (Err r) not).0
 leaves capacity s t ask.Tiles (reply.Tiles x) only is = stayed s t is.0
-leaves capacity s t ask.Tiles (reply.Refused r) only not = unlisted s t r not
+leaves capacity s t ask.Tiles (reply.Refused r) only not = (unlisted {X = ℕ} (λ x. Unit {0}) s t r not).0
 leaves capacity s t ask.Sinks (reply.Sinks x) only is = stayed s t is.0
-leaves capacity s t ask.Sinks (reply.Refused r) only not = unlisted s t r not
+leaves capacity s t ask.Sinks (reply.Refused r) only not = (unlisted {X = ℕ} (λ x. Unit {0}) s t r not).0
 leaves capacity s t ask.Info (reply.Info x) only is = stayed s t is.0
-leaves capacity s t ask.Info (reply.Refused r) only not = unlisted s t r not
+leaves capacity s t ask.Info (reply.Refused r) only not = (unlisted {X = ℕ} (λ x. Unit {0}) s t r not).0
 leaves capacity s t event answer only is = absurd is
 
 abbrev pub IsLevel : Mosaic → Point → ℤ → Type 0
@@ -312,3 +312,26 @@ module _ {E : Type 0} (g : Ghosts E) (a b : E) where
       tells : (result : Result (Vec ℕ) Refusal) (s t : State) → Happens (g.capacity_of a) s (ask.Upstream c) (answered reply.Upstream result) t → (t.contents ≡ s.contents) × OfTile s.contents.mosaic c (AreTileCounts s.contents.mosaic c) result
       tells (Ok xs) s t is = of_tile AreTileCounts s t c (Ok xs) is
       tells (Err r) s t is = of_tile AreTileCounts s t c (Err r) is
+
+  -- the corners of the present tiles
+  pub tiles_told : (result : Result (Vec Corner) Refusal) → IsCall (members g) a ask.Tiles (answered reply.Tiles result) b → Tells g a b 1 (refusal_of result) (λ m. OfAny (λ corners. corners.items ≡ corners_of m) result)
+  tiles_told result call = asked_once g a b ask.Tiles reply.Tiles (questions.answers_so {capacity = 0} ask.Tiles reply.Tiles _ questions.tiles_asked) (λ answer e. e) result (λ m. OfAny (λ corners. corners.items ≡ corners_of m) result) call (lists result)
+    where
+      lists : (result : Result (Vec Corner) Refusal) (s t : State) → Happens (g.capacity_of a) s ask.Tiles (answered reply.Tiles result) t → (t.contents ≡ s.contents) × OfAny (λ (corners : Vec Corner). corners.items ≡ corners_of s.contents.mosaic) result
+      lists (Ok corners) s t is = (stayed s t is.0, is.1)
+      lists (Err r) s t not = unlisted (λ (corners : Vec Corner). corners.items ≡ corners_of s.contents.mosaic) s t r not
+
+  -- .. and a side that every state has
+  pub tiles_of_side : (n : ℕ) (corners : Vec Corner) (result : Result (Vec Corner) Refusal) → ((s : State) → g.is_at a s → s.contents.mosaic.side ≡ n) → result ≡ Ok corners
+      → IsCall (members g) a ask.Tiles (answered reply.Tiles result) b → Tells g a b 1 None (λ m. (m.side ≡ n) × (corners.items ≡ corners_of m))
+  tiles_of_side n corners result same is call =
+      let told = subst (λ (r : Result (Vec Corner) Refusal). Tells g a b 1 (refusal_of r) (λ m. OfAny (λ (cs : Vec Corner). cs.items ≡ corners_of m) r)) is (tiles_told result call) in record {
+        honest = told.honest;
+        kept = told.kept;
+        says = λ h contents has. (subst (λ (c : Contents). c.mosaic.side ≡ n) has.1.1 (same has.0 has.1.0), told.says h contents has);
+        had_failed = told.had_failed;
+        failed = told.failed;
+        device = told.device;
+        stays = told.stays;
+        later = told.later;
+      }

@@ -1,6 +1,8 @@
 -- The points of a window, and what is said of them (this product's own profile).
-use Rattle.std.specs.Prelude.{◌≡◌, ◌⊎◌, ℕ, ◌*◌, ◌-◌, ◌/◌, ◌%◌, ◌<◌, min, nat_eq, nat_lt, ℤ, pos, negsuc, int_lt, ◌+ℤ◌, ◌-ℤ◌, Bool, ◌&&◌, ◌||◌, IsTrue, if◌then◌else◌, Option, Some, None, List, length, slice_index_or}
+use Rattle.std.specs.Prelude.{◌≡◌, ◌⊎◌, ℕ, ◌*◌, ◌-◌, ◌/◌, ◌%◌, ◌<◌, min, nat_eq, nat_lt, ℤ, pos, negsuc, int_lt, ◌+ℤ◌, ◌-ℤ◌, Bool, ◌&&◌, ◌||◌, IsTrue, IsFalse, if◌then◌else◌, Option, Some, None, List, length, slice_index, slice_index_or}
+use Rattle.lattice.specs.Corners.{Corner}
 use Rattle.lattice.specs.Ground.{is_ground, terrain}
+use Rattle.lattice.specs.Lattice.{holds, index_of}
 use Rattle.lattice.specs.Mosaic.{Mosaic}
 use Rattle.lattice.specs.declared.point.Point.{Point}
 use Rattle.lattice.specs.declared.refusal.Refusal.{Refusal}
@@ -31,6 +33,19 @@ module _ (w : Window) {X : Type 0} (IsOf : Point → X → Type 0) where
   pub record AreOfAll (values : List X) : Type 0 where
     pub whole : length values ≡ w.rows * w.columns
     pub each : AreTo (w.rows * w.columns) values
+
+-- so many points drain through the point, itself among them; 0 where it isn't ground
+abbrev pub IsCountAt : Mosaic → Point → ℕ → Type 0
+IsCountAt m p k = (level : Point → ℤ) → AreFilledLevels (terrain m) level → IsUpstreamCount (terrain m) level p k
+
+-- the point's count among a tile's, where the tile holds it, else what was there
+abbrev pub count_or : ℕ → Corner → List ℕ → Point → ℕ → ℕ
+count_or n c counts p was = if holds n c p then slice_index_or counts (index_of n c p) 0 else was
+
+-- the counts of the window's points that the tile holds were put, and the others left
+abbrev pub ArePut : Mosaic → Window → Corner → List ℕ → List ℕ → Type 0
+ArePut m w c old new = (k : ℕ) → k < length old → (IsTrue (holds m.side c (point_in w k)) → IsCountAt m (point_in w k) (slice_index new k))
+    × (IsFalse (holds m.side c (point_in w k)) → slice_index new k ≡ slice_index old k)
 
 -- 1 where it is so, 0 where it isn't
 abbrev pub IsMark : Type 0 → ℕ → Type 0

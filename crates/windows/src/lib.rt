@@ -11,6 +11,7 @@
 //! ```
 #![tactic(auto)]
 
+mod counts;
 mod line;
 mod points;
 mod question;
@@ -21,6 +22,7 @@ mod tiles;
 mod values;
 mod window;
 
+pub use counts::Counts;
 pub use line::ask;
 pub use points::{Direction, Fill};
 pub use question::Question;

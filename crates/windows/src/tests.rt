@@ -1,7 +1,7 @@
 //! Windows and tiles of tables of one tile, whose answers are worked by hand.
 use crate::{
-    Course, Direction, Each, Elevation, Fill, Level, Question, Tile, Upstream, Watershed, Window,
-    ask,
+    Counts, Course, Direction, Each, Elevation, Fill, Level, Question, Tile, Upstream, Watershed,
+    Window, ask,
 };
 use edits::{Bytes, Command};
 use engine::Engine;
@@ -174,5 +174,23 @@ fn refusals(rt: HostRuntime) -> Result<(), Fail> {
     assert!(rt; Tile(Level, 0, 1).ask(&mut engine, &mut into) == Err(Refusal::NoTile));
     assert!(rt; Tile(Level, 95, 1).ask(&mut engine, &mut into) == Err(Refusal::BadName));
     assert!(rt; Tile(Level, 0, 0).ask(&mut engine, &mut into[..8]) == Err(Refusal::BadLength));
+    Ok(())
+}
+
+// The notch again, whose six points are counted in a window that reaches beyond the tile.
+#[test]
+fn upstream_counts_of_a_window(rt: HostRuntime) -> Result<(), Fail> {
+    let mut engine = table(&rt, rt.alloc(), &test_tiles::H)?;
+    let mut into = [7; 25];
+    assert!(rt; Counts(AROUND).ask(&mut engine, &mut into) == Ok(()));
+    let wanted = [
+        0, 0, 0, 0, 0, 0, 1, 1, 1, 0, 0, 6, 1, 1, 0, 0, 1, 1, 1, 0, 0, 0, 0, 0, 0,
+    ];
+    assert!(rt; into == wanted);
+    let east = Window { west: 2, ..TILE };
+    let mut part = [7; 9];
+    assert!(rt; Counts(east).ask(&mut engine, &mut part) == Ok(()));
+    assert!(rt; part == [1, 0, 0, 1, 0, 0, 1, 0, 0]);
+    assert!(rt; Counts(AROUND).ask(&mut engine, &mut part) == Err(Refusal::BadLength));
     Ok(())
 }
