@@ -52,11 +52,15 @@ int main(int count, char **words) {
     told("an image without its last byte", opened(image, bytes - 1));
     alter(bytes);
     told("the image", mosaic_open(&handle, image, bytes));
-    mosaic_window whole = {2, 0, 3, 3}, beyond = {INT32_MIN, INT32_MAX, 3, 3}, vast = {0, 0, UINT32_MAX, UINT32_MAX};
+    mosaic_window whole = {2, 0, 3, 3}, east = {2, 2, 3, 3}, beyond = {INT32_MIN, INT32_MAX, 3, 3}, vast = {0, 0, UINT32_MAX, UINT32_MAX};
     told("a window", mosaic_levels(&handle, &whole, into, 9));
     told("its middle", (uint8_t)into[4]);
     told("upstream counts", mosaic_upstream(&handle, 0, 0, counts, 9));
     told("at the outlet", (uint8_t)counts[8]);
+    told("upstream counts of a window", mosaic_upstream_window(&handle, &east, counts, 9));
+    told("at the outlet again", (uint8_t)counts[6]);
+    told("outside", (uint8_t)counts[8]);
+    told("upstream counts of a window in a shorter array", mosaic_upstream_window(&handle, &east, counts, 8));
     uint64_t points = 0;
     uint8_t marks[9];
     told("a watershed", mosaic_watershed(&handle, 0, 2, &whole, &points, marks, 9));

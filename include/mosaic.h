@@ -73,6 +73,9 @@ uint8_t mosaic_watershed(mosaic_handle *handle, int32_t y, int32_t x, const mosa
 uint8_t mosaic_heights(mosaic_handle *handle, const mosaic_window *window, int16_t *into, size_t count);
 uint8_t mosaic_levels(mosaic_handle *handle, const mosaic_window *window, int16_t *into, size_t count);
 uint8_t mosaic_directions(mosaic_handle *handle, const mosaic_window *window, uint8_t *into, size_t count);
+/* .. how many points drain through each, itself among them, in the window or not; 0 where it isn't ground. Each tile that has points of
+ * the window is asked once, so that a large window takes less time than its parts. */
+uint8_t mosaic_upstream_window(mosaic_handle *handle, const mosaic_window *window, uint32_t *into, size_t count);
 
 /* Of all samples of the tile whose south-west sample is at these degrees: count is side * side. */
 uint8_t mosaic_tile_levels(mosaic_handle *handle, int16_t latitude, int16_t longitude, int16_t *into, size_t count);

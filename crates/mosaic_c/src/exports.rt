@@ -12,7 +12,7 @@ ghost use Rattle.store.specs.Standing.{StandsFor};
 ghost use Rattle.tile_flood.specs.Raising.{AreTileLevels};
 ghost use Rattle.watershed.specs.Questions.{AreTileCounts, AreTileDirections, IsAnswered, IsCodeOrNone, DrainsBy};
 ghost use Rattle.windows.specs.Results.{OfAny, OfCopy, OfPoint, refused_corner};
-ghost use Rattle.windows.specs.Windows.{AreOfAll, IsShed, refused_at_once};
+ghost use Rattle.windows.specs.Windows.{AreOfAll, IsCountAt, IsShed, refused_at_once};
 ghost use Rattle.mosaic_c.specs.Sessions.{HasIn, Tells, Told, ToldLine};
 
 use crate::handle::Handle;
@@ -23,7 +23,8 @@ use std::alloc::Global;
 use std::mem::ManuallyDrop;
 use store::Store;
 use windows::{
-    Course, Direction, Each, Elevation, Fill, Level, Question, Tile, Upstream, Watershed, Window,
+    Counts, Course, Direction, Each, Elevation, Fill, Level, Question, Tile, Upstream, Watershed,
+    Window,
 };
 
 /// Opens the store whose image these bytes are, and closes what the handle held. They stay as they are, and readable, until it
@@ -220,6 +221,20 @@ pub extern "C" fn mosaic_upstream(
         (λ m answer. OfCopy m c (AreTileCounts m c) into.new answer) }
 {
     tell(alloc, held, &Tile(Upstream, lat, lon), into, &mut ())
+}
+
+/// How many points drain through each of a window's points.
+#[unsafe(no_mangle)]
+pub extern "C" fn mosaic_upstream_window(
+    alloc: Global,
+    held: &mut Handle,
+    window: &Window,
+    into: &mut [u32],
+) -> u8
+    ensures { Told held.old held.new result (tt {0}) (refused_at_once window.now (length into.old))
+        (λ m answer. OfAny (λ _. AreOfAll window.now (IsCountAt m) into.new) answer) }
+{
+    tell(alloc, held, &Counts(*window), into, &mut ())
 }
 
 /// The reply to the line of a question, and how many bytes it has.
