@@ -66,6 +66,7 @@ _FUNCTIONS: dict[str, tuple[Any, ...]] = {
     "heights": _OF_WINDOW,
     "levels": _OF_WINDOW,
     "directions": _OF_WINDOW,
+    "upstream_window": _OF_WINDOW,
     "tile_levels": _OF_TILE,
     "tile_directions": _OF_TILE,
     "upstream": _OF_TILE,
@@ -205,6 +206,10 @@ class Image:
     def directions(self, window: Window) -> Array:
         """The codes of the directions of a window: uint8, 255 where a point isn't ground."""
         return self._of_window(self._library.mosaic_directions, window, "uint8")
+
+    def upstream_window(self, window: Window) -> Array:
+        """How many points drain through each of a window's points: uint32, 0 where a point isn't ground."""
+        return self._of_window(self._library.mosaic_upstream_window, window, "uint32")
 
     def tile_levels(self, name: str | Corner) -> Array:
         """The filled levels of a whole tile."""

@@ -3,7 +3,7 @@
 import subprocess
 import unittest
 
-from mosaic_store import Window, errors, find_server, open_store
+from mosaic_store import Corner, Window, errors, find_server, open_store
 from mosaic_store.native import LibraryNotFound, load_library, open_image
 
 from .support import IS_REAL, PROGRAM, InFolder, needs
@@ -56,6 +56,21 @@ class Native(InFolder):
             with open_image(self.path) as image:
                 found = image.upstream(name)
             self.assertEqual((found.dtype, found.tolist()), (wanted.dtype, wanted.tolist()))
+
+    def test_upstream_counts_of_a_window(self):
+        window, wanted = Window(-2, -1, 21, 22), {}
+        with open_image(self.path) as image:
+            for north in range(2):
+                for east in range(2):
+                    counts = image.upstream(Corner(north, east)).tolist()
+                    y, x = (north + 1) * (SIDE - 1), east * (SIDE - 1)
+                    wanted.update({(y - i, x + j): counts[i][j] for i in range(SIDE) for j in range(SIDE)})
+            found = image.upstream_window(window)
+            told = {(window.y1 - i, window.x0 + j): count for i, row in enumerate(found.tolist()) for j, count in enumerate(row)}
+            self.assertEqual((str(found.dtype), told), ("uint32", {point: wanted.get(point, 0) for point in told}))
+            self.assertEqual(image.upstream_window(Window(2, 3, 4, 7)).tolist(), found[17:20, 4:9].tolist())
+            with self.assertRaises(errors.BadBox):
+                image.upstream_window(Window(-(2**31) - 1, 0, -(2**31), 0))
 
     def test_watersheds(self):
         window = Window(-2, -1, 21, 22)
