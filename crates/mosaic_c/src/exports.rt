@@ -1,4 +1,5 @@
-//! What C calls. Each answers 0, or the number of a refusal; none asks for more than `include/mosaic.h` says.
+//! What C calls. Each but `mosaic_close` answers 0 or the number of a refusal. `include/mosaic.h` has units, shapes and
+//! refusals; nothing here asks more of the caller than it says.
 ghost use Rattle.std.specs.Prelude.{◌≡◌, ℕ, nat_le, if◌then◌else◌, None, length};
 ghost use Rattle.lattice.specs.Corners.{Corner};
 ghost use Rattle.lattice.specs.declared.point.Point.{Point};
@@ -27,8 +28,8 @@ use windows::{
     Window,
 };
 
-/// Opens the store whose image these bytes are, and closes what the handle held. They stay as they are, and readable, until it
-/// is closed.
+/// Closes what the handle held, and opens the store whose image these bytes are; they stay as they are, and readable, until
+/// it is closed. Where it is refused (NotAStore, Version, Damaged, TooSmall, NoMemory) the handle holds nothing.
 #[unsafe(no_mangle)]
 pub extern "C" fn mosaic_open(alloc: Global, held: &mut Handle, image: &'static [u8]) -> u8
     ensures opened { result ≡ 0 → (side capacity : ℕ) (contents : Contents)
@@ -83,7 +84,7 @@ pub extern "C" fn mosaic_count(alloc: Global, held: &mut Handle, into: &mut u64)
     0
 }
 
-/// The filled level of a point.
+/// The filled level of a point, in metres. Refused with Failed, Outside or Void, or as any question is.
 #[unsafe(no_mangle)]
 pub extern "C" fn mosaic_fill(
     alloc: Global,
@@ -98,7 +99,8 @@ pub extern "C" fn mosaic_fill(
     tell(alloc, held, &Fill(Point { y, x }), &mut [], into)
 }
 
-/// The code of the direction of a point.
+/// The code of the direction of a point: 1 for east, each next one clockwise twice as much, 0 where water leaves the mosaic.
+/// Refused as `mosaic_fill` is.
 #[unsafe(no_mangle)]
 pub extern "C" fn mosaic_direction(
     alloc: Global,
@@ -113,7 +115,8 @@ pub extern "C" fn mosaic_direction(
     tell(alloc, held, &Direction(Point { y, x }), &mut [], into)
 }
 
-/// Which of a window's points drain through a point, and how many points do.
+/// 1 for each of the window's points that drains through the point, else 0; and in `count` how many points do, in the window
+/// or not. Refused with BadLength unless there are rows * columns bytes, then BadBox, then as `mosaic_fill` is.
 #[unsafe(no_mangle)]
 pub extern "C" fn mosaic_watershed(
     alloc: Global,
@@ -136,7 +139,8 @@ pub extern "C" fn mosaic_watershed(
     )
 }
 
-/// The heights of a window's points.
+/// The heights of a window's points, in metres, row by row from the north-west, -32768 where there is none. Refused with
+/// BadLength or BadBox, or as any question is.
 #[unsafe(no_mangle)]
 pub extern "C" fn mosaic_heights(
     alloc: Global,
@@ -150,7 +154,8 @@ pub extern "C" fn mosaic_heights(
     tell(alloc, held, &Each(Elevation, *window), into, &mut ())
 }
 
-/// The filled levels of a window's points.
+/// The filled levels of a window's points, in metres, row by row from the north-west, -32768 where there is none. Refused
+/// with BadLength or BadBox, or as any question is.
 #[unsafe(no_mangle)]
 pub extern "C" fn mosaic_levels(
     alloc: Global,
@@ -164,7 +169,8 @@ pub extern "C" fn mosaic_levels(
     tell(alloc, held, &Each(Level, *window), into, &mut ())
 }
 
-/// The codes of the directions of a window's points.
+/// The codes of the directions of a window's points, row by row from the north-west, 255 where the point isn't ground.
+/// Refused with BadLength or BadBox, or as any question is.
 #[unsafe(no_mangle)]
 pub extern "C" fn mosaic_directions(
     alloc: Global,
@@ -178,7 +184,8 @@ pub extern "C" fn mosaic_directions(
     tell(alloc, held, &Each(Course, *window), into, &mut ())
 }
 
-/// The filled levels of all samples of a tile.
+/// The filled levels of all samples of a tile, row by row from the north, west first. Refused with BadName, NoTile, or
+/// BadLength unless there are side * side elements, or as any question is.
 #[unsafe(no_mangle)]
 pub extern "C" fn mosaic_tile_levels(
     alloc: Global,
@@ -193,7 +200,7 @@ pub extern "C" fn mosaic_tile_levels(
     tell(alloc, held, &Tile(Level, lat, lon), into, &mut ())
 }
 
-/// The codes of the directions of all samples of a tile.
+/// The codes of the directions of all samples of a tile, as `mosaic_tile_levels` has them, and refused so.
 #[unsafe(no_mangle)]
 pub extern "C" fn mosaic_tile_directions(
     alloc: Global,
@@ -208,7 +215,7 @@ pub extern "C" fn mosaic_tile_directions(
     tell(alloc, held, &Tile(Course, lat, lon), into, &mut ())
 }
 
-/// How many points drain through each sample of a tile.
+/// How many points drain through each sample of a tile, as `mosaic_tile_levels` has them, and refused so.
 #[unsafe(no_mangle)]
 pub extern "C" fn mosaic_upstream(
     alloc: Global,
@@ -223,7 +230,8 @@ pub extern "C" fn mosaic_upstream(
     tell(alloc, held, &Tile(Upstream, lat, lon), into, &mut ())
 }
 
-/// How many points drain through each of a window's points.
+/// How many points drain through each of a window's points, itself among them, row by row from the north-west; 0 where it
+/// isn't ground. Refused with BadLength or BadBox, or as any question is.
 #[unsafe(no_mangle)]
 pub extern "C" fn mosaic_upstream_window(
     alloc: Global,
@@ -237,7 +245,8 @@ pub extern "C" fn mosaic_upstream_window(
     tell(alloc, held, &Counts(*window), into, &mut ())
 }
 
-/// The reply to the line of a question, and how many bytes it has.
+/// The bytes of the reply to a question's line, without its LF, and in `count` how many they are, also where there is no room
+/// (BadLength). A command or `step` is BadLine.
 #[unsafe(no_mangle)]
 pub extern "C" fn mosaic_ask(
     alloc: Global,

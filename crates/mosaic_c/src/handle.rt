@@ -9,7 +9,7 @@ use std::alloc::Global;
 use std::marker::Model;
 use std::mem::ManuallyDrop;
 
-/// The place of a session on the heap.
+/// Where a session lies on the heap; the ghost field says which, None once it was taken back.
 #[repr(C)]
 #[derive(Drop)]
 struct Kept {
@@ -38,7 +38,7 @@ impl Kept {
     }
 }
 
-/// A session, or none where `held` is false.
+/// A session, or none where `held` is false, as in a handle of zeros.
 #[repr(C)]
 #[derive(Drop)]
 pub struct Handle {

@@ -1,9 +1,10 @@
-//! What an engine, a store or a table, tells of all points of a window or a tile, put into the caller's slice, and what it tells of a
-//! point or to a line.
+//! Questions to an engine, a store or a table, about all points of a window or a tile, whose answers fill the caller's slice;
+//! and about one point, or by a line.
 //!
-//! Each element is the definition's value of its point on the whole mosaic. A window names its first point and its rows and
-//! columns, so that no point is asked for by name; where it lies outside the tiles its levels and heights are void. What each
-//! question says, and what it is refused with, stands at its type; `specs/Telling.antt` says what holds of all of them.
+//! Each element is the definition's value of its point on the whole mosaic. A window is its north-west point,
+//! its rows and its columns. Where a point isn't ground levels are -32768 and directions 255; heights are -32768 where it has
+//! none. What each question says, and what it is refused with, stands at its type; `specs/Telling.antt` says what holds of
+//! all of them.
 //!
 //! ```
 //! let window = Window { north: 2, west: 0, rows: 3, columns: 3 };

@@ -1,4 +1,4 @@
-//! What an engine is asked at once.
+//! Questions whose answers fill a slice.
 ghost use Rattle.std.specs.Prelude.{ℕ, List, Option, Result, length};
 ghost use Rattle.lattice.specs.Mosaic.{Mosaic};
 ghost use Rattle.lattice.specs.declared.refusal.Refusal.{Refusal};
@@ -19,10 +19,10 @@ pub trait Question {
     /// How many calls it is, where none is refused.
     ghost count: { Self → ℕ };
 
-    /// What is so of the mosaic once the slice is left so and this is the result.
+    /// What holds of the mosaic where the slice is left like this and this is the result.
     ghost says: { Self → Mosaic → List Self.Element → Result Self.Answer Refusal → Type 0 };
 
-    /// Asks it.
+    /// Asks it, and fills the slice; after a refusal that may hold anything.
     fn ask<E: Engine>(
         &self,
         engine: &mut E,

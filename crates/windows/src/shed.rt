@@ -11,8 +11,8 @@ use engine::Engine;
 use lattice::{Point, Refusal};
 use watershed::Run;
 
-/// The watershed of a point in a window: 1 where a point of the window drains through it, else 0. The answer is how many points
-/// it has at all, in the window or not.
+/// The watershed of a point: for each of the window's points 1 where it drains through the point, else 0. The answer is how
+/// many points drain through it, in the window or not. Refused as `Each` is, and with Outside or Void.
 #[derive(Clone, Copy)]
 pub struct Watershed(pub Point, pub Window);
 

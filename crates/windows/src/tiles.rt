@@ -20,7 +20,7 @@ pub trait TileValues {
     /// That these are the values of the samples of the corner's tile, row by row from the north, west first.
     ghost are: { Mosaic → Corner → List Self.Value → Type 0 };
 
-    /// The tile's values, by one question.
+    /// The tile's values, by one question. Refused with NoTile where the tile isn't there.
     fn of<E: Engine>(engine: &mut E, corner: Corner) -> Result<Vec<Self::Value>, Refusal>
         ensures { Tells E.Engine engine.old engine.new 1 (refusal_of result) (λ m. OfTile m corner (are m corner) result) };
 }
@@ -59,7 +59,9 @@ impl TileValues for Upstream {
     }
 }
 
-/// The values of all samples of the tile whose south-west sample is at this latitude and longitude, in degrees.
+/// The values of all samples of the tile whose south-west sample is at this latitude and longitude, in degrees, row by row
+/// from the north. Refused with BadName where there is no such corner, NoTile, or BadLength unless the slice has side * side
+/// elements.
 #[derive(Clone, Copy)]
 pub struct Tile<V>(pub V, pub i16, pub i16);
 

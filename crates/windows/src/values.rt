@@ -30,7 +30,7 @@ pub trait PointValue {
         ensures { Tells E.Engine engine.old engine.new 1 (refusal_of result) (λ m. OfAny (is m point) result) };
 }
 
-/// The filled level, in metres; void where the point isn't ground.
+/// The filled level, in metres; -32768 where the point isn't ground.
 #[derive(Clone, Copy)]
 pub struct Level;
 
@@ -38,7 +38,7 @@ pub struct Level;
 #[derive(Clone, Copy)]
 pub struct Course;
 
-/// The height, in metres; void where the point has none.
+/// The height, in metres; -32768 where the point has none.
 #[derive(Clone, Copy)]
 pub struct Elevation;
 
@@ -83,7 +83,8 @@ impl PointValue for Elevation {
     }
 }
 
-/// The values of a window's points, row by row from the north-west.
+/// The values of a window's points, row by row from the north-west. Refused before anything is asked with BadLength unless
+/// the slice has rows * columns elements, then with BadBox where coordinates pass 32 bits; else as the engine is.
 #[derive(Clone, Copy)]
 pub struct Each<V>(pub V, pub Window);
 
