@@ -90,48 +90,39 @@ pub fn edit_of<'a, S: Samples>(
     ensures reads { OnlyReads S.Samples samples.old samples.new (reads_of result) }
 {
     match command {
-        Command::Import { corner, bytes } => {
+        &Command::Import { corner, ref bytes } => {
             let bytes = bytes.as_slice();
-            can_import(samples, capacity, *corner, bytes)?;
-            Ok(Edit::Add {
-                corner: *corner,
-                bytes,
-            })
+            can_import(samples, capacity, corner, bytes)?;
+            Ok(Edit::Add { corner, bytes })
         }
-        Command::Remove { corner } => {
-            can_remove(samples, *corner)?;
-            Ok(Edit::Drop { corner: *corner })
+        &Command::Remove { corner } => {
+            can_remove(samples, corner)?;
+            Ok(Edit::Drop { corner })
         }
-        Command::Patch { from, to, height } => {
-            let tiles = tiles_to_patch(samples, *from, *to, *height)?;
+        &Command::Patch { from, to, height } => {
+            let tiles = tiles_to_patch(samples, from, to, height)?;
             Ok(Edit::Voids {
-                from: *from,
-                to: *to,
-                height: *height as i16,
+                from,
+                to,
+                height: height as i16,
                 tiles,
             })
         }
-        Command::Burn { depth, points } => {
-            let heights = lowered(samples, *depth, points)?;
+        &Command::Burn { depth, ref points } => {
+            let heights = lowered(samples, depth, points)?;
             Ok(Edit::Heights { heights })
         }
-        Command::Wall { height, points } => {
-            let heights = raised(samples, *height, points)?;
+        &Command::Wall { height, ref points } => {
+            let heights = raised(samples, height, points)?;
             Ok(Edit::Heights { heights })
         }
-        Command::Sink { point } => {
-            let metres = new_sink_height(samples, *point)?;
-            Ok(Edit::Sink {
-                point: *point,
-                metres,
-            })
+        &Command::Sink { point } => {
+            let metres = new_sink_height(samples, point)?;
+            Ok(Edit::Sink { point, metres })
         }
-        Command::Unsink { point } => {
-            let metres = old_sink_height(samples, *point)?;
-            Ok(Edit::Unsink {
-                point: *point,
-                metres,
-            })
+        &Command::Unsink { point } => {
+            let metres = old_sink_height(samples, point)?;
+            Ok(Edit::Unsink { point, metres })
         }
     }
 }
