@@ -1,10 +1,10 @@
 -- Where water passes between labels: each two adjacent points are met once, and the lowest place between two labels is
 -- the first in order.
-use Rattle.std.proofs.Common.{◌≡◌, ◌≢◌, ℕ, ◌+◌, ◌*◌, ◌-◌, ◌/◌, ◌%◌, ◌<◌, ◌≤◌, ◌⊎◌, inl, inr, ℤ, ◌≤ℤ◌, false, not, IsTrue, ◌&&◌, List, [], ◌∷◌, ◌++◌, length, get_or, set, get_or-set_same, get_or-set_other, length-set, slice_index, refl, sym, ap, ap₂, ◌∙◌, subst, add-zero, arith, true≢false, cond, int_lt, nat_eq, All, Contains, Less, Equal, Greater, AllPairs, IsPermutation, mul-le-mul_right}
+use Rattle.std.proofs.Common.{◌≡◌, ◌≢◌, ℕ, ◌+◌, ◌*◌, ◌-◌, ◌/◌, ◌%◌, ◌<◌, ◌≤◌, ◌⊎◌, inl, inr, ℤ, ◌≤ℤ◌, false, not, IsTrue, ◌&&◌, List, [], ◌∷◌, ◌++◌, length, get_or, set, get_or-set_same, get_or-set_other, length-set, slice_index, refl, sym, ap, ap₂, ◌∙◌, subst, arith, true≢false, cond, int_lt, nat_eq, All, Contains, Less, Equal, Greater, AllPairs, IsPermutation, mul-le-mul_right}
 use Rattle.tile_flood.proofs.Words.{int_max, ints, cases_Bool, ne_eqb, cases_lt, cases_eq, not-true, eq-eqb}
 use Rattle.tile_flood.proofs.Words.{Decides-int_eq, void, block_terrain, is_solid, is_linked, is_beside, ≤ℤ_same}
 use Rattle.tile_flood.proofs.Words.{≤ℤ_trans, get_or_default, block_is_lawful, Spill, is_marked, IsLabelling, AreSpills}
-use Rattle.tile_flood.proofs.Words.{AreFoundStill, IsSquareFound, ArePassages, IsFound, AreFoundBelow, block_of}
+use Rattle.tile_flood.proofs.Words.{AreFoundStill, ArePassages, IsFound, AreFoundBelow, block_of}
 use Rattle.tile_flood.proofs.Words.{bare_block}
 use Rattle.std.specs.Ordering.{int_eq, is_lt, nat_cmp, int_cmp, ordering_then}
 use Rattle.std.specs.Cmp.{nat_cmp_is}
@@ -15,7 +15,7 @@ use Rattle.lattice.specs.Mosaic.{IsSample}
 use Rattle.lattice.proofs.Levels.{height-le_level, max-swap}
 use Rattle.std.proofs.Math.ListN.{get_or-eq_default}
 use Rattle.tile_flood.specs.Spills.{Meets, HaveSameLabels}
-use Rattle.tile_flood.specs.Passing.{IsPassage, IsNoPassage, IsMetBy, IsListed, AreBeside, IsOneLabel, IsInOrder, AreFirsts, AreFirstsBelow, HasLowerLabels}
+use Rattle.tile_flood.specs.Passing.{IsPassage, IsNoPassage, IsMetBy, IsListed, AreBeside, IsInOrder, AreFirsts, AreFirstsBelow, HasLowerLabels}
 use Rattle.tile_flood.proofs.Squares.{linked_parts, linked_from, linked_apart, beside_if, solid_below, solid_if, row_of_cell, column_of_cell, cell_of, row_below, test_if, solid_height}
 
 differ : (e f : ℕ) → IsTrue (not (nat_eq e f)) → e ≢ f
@@ -63,34 +63,47 @@ beside_east n i inside =
       apart = omega arith;
     }
 
--- so many points of two neighbouring rows, or of one, from these columns on
-one_beside : (n i j i' j' e f : ℕ) → e ≡ i * n + j → f ≡ i' * n + j' → i < n → i' < n → j < n → j' < n → e < f → i ≤ i' + 1 → i' ≤ i + 1 → j ≤ j' + 1 → j' ≤ j + 1 → AreBeside n e f 1
-one_beside n i j i' j' e f at_e at_f row row' small small' apart north south west east =
-    let room = last_row n i row in
-    let room' = last_row n i' row' in
-    record {
+-- the pairs of points of a row and the next one
+module _ (n i : ℕ) (above : i + 1 < n) where
+  room : i * n + n + n ≤ n * n
+  room = let more = last_row n (i + 1) above in omega arith
+
+  pub beside_south : AreBeside n (i * n) (i * n + n) n
+  beside_south = let enough = room in record {
+    first = omega arith;
+    second = omega arith;
+    beside = λ k less. beside_cells n i k (i + 1) k (i * n + k) (i * n + n + k) refl (omega arith) (omega arith) (omega arith) (omega arith) (omega arith) (omega arith) (omega arith);
+    apart = omega arith;
+  }
+
+  pub beside_south_east : AreBeside n (i * n) (i * n + n + 1) (n - 1)
+  beside_south_east = let enough = room in record {
+    first = omega arith;
+    second = omega arith;
+    beside = λ k less. beside_cells n i k (i + 1) (k + 1) (i * n + k) (i * n + n + 1 + k) refl (omega arith) (omega arith) (omega arith) (omega arith) (omega arith) (omega arith) (omega arith);
+    apart = omega arith;
+  }
+
+  pub beside_south_west : AreBeside n (i * n + 1) (i * n + n) (n - 1)
+  beside_south_west = let enough = room in record {
+    first = omega arith;
+    second = omega arith;
+    beside = λ k less. beside_cells n i (k + 1) (i + 1) k (i * n + 1 + k) (i * n + n + k) (omega arith) (omega arith) (omega arith) (omega arith) (omega arith) (omega arith) (omega arith) (omega arith);
+    apart = omega arith;
+  }
+
+-- some of them
+pub beside_part : (n e f count from width : ℕ) → AreBeside n e f count → from + width ≤ count → AreBeside n (e + from) (f + from) width
+beside_part n e f count from width all inside =
+    let first = all.first in let second = all.second in let apart = all.apart in record {
       first = omega arith;
       second = omega arith;
-      beside = λ k less. let none : 0 ≡ k = omega arith in subst (λ d. IsTrue (is_beside n (e + d) (f + d))) none (beside_cells n i j i' j' (e + 0) (f + 0) (omega arith) (omega arith) small small' north south west east);
-      apart = apart;
+      beside = λ k less.
+          let at : e + (from + k) ≡ e + from + k = omega arith in
+          let at' : f + (from + k) ≡ f + from + k = omega arith in
+          subst (λ x. IsTrue (is_beside n x (f + from + k))) at (subst (λ y. IsTrue (is_beside n (e + (from + k)) y)) at' (all.beside (from + k) (omega arith)));
+      apart = omega arith;
     }
-
--- the pairs of points of a square
-module _ (n i j e : ℕ) (above : i + 1 < n) (left : j + 1 < n) (at : e ≡ i * n + j) where
-  pub square_east : AreBeside n e (e + 1) 1
-  square_east = one_beside n i j i (j + 1) e (e + 1) at (omega arith) (omega arith) (omega arith) (omega arith) left (omega arith) (omega arith) (omega arith) (omega arith) (omega arith)
-
-  pub square_south : AreBeside n e (e + n) 1
-  square_south = one_beside n i j (i + 1) j e (e + n) at (omega arith) (omega arith) above (omega arith) (omega arith) (omega arith) (omega arith) (omega arith) (omega arith) (omega arith)
-
-  pub square_south_east : AreBeside n e (e + n + 1) 1
-  square_south_east = one_beside n i j (i + 1) (j + 1) e (e + n + 1) at (omega arith) (omega arith) above (omega arith) left (omega arith) (omega arith) (omega arith) (omega arith) (omega arith)
-
-  pub square_south_west : AreBeside n (e + 1) (e + n) 1
-  square_south_west = one_beside n i (j + 1) (i + 1) j (e + 1) (e + n) (omega arith) (omega arith) (omega arith) above left (omega arith) (omega arith) (omega arith) (omega arith) (omega arith) (omega arith)
-
-pub beside_last_column : (n i : ℕ) → i + 1 < n → AreBeside n (i * n + n - 1) (i * n + n - 1 + n) 1
-beside_last_column n i inside = one_beside n i (n - 1) (i + 1) (n - 1) (i * n + n - 1) (i * n + n - 1 + n) (omega arith) (omega arith) (omega arith) inside (omega arith) (omega arith) (omega arith) (omega arith) (omega arith) (omega arith) (omega arith)
 
 -- what was met is met still
 pub met_still : (old new : List Spill) (p : Spill) → AreFoundStill old new → IsMetBy old p → IsMetBy new p
@@ -147,14 +160,6 @@ module _ (n : ℕ) (levels : List ℤ) (labels : List ℕ) where
   pub found_still : (old new : List Spill) (e f : ℕ) → AreFoundStill old new → IsFound n levels labels old e f → IsFound n levels labels new e f
   found_still old new e f still was link apart = let h = was link apart in (h.0, (met_still old new h.0 still h.1.0, h.1.1))
 
-  pub square_still : (old new : List Spill) (e : ℕ) → AreFoundStill old new → IsSquareFound n levels labels old e → IsSquareFound n levels labels new e
-  square_still old new e still was = record {
-    east = found_still old new e (e + 1) still was.east;
-    south = found_still old new e (e + n) still was.south;
-    south_east = found_still old new e (e + n + 1) still was.south_east;
-    south_west = found_still old new (e + 1) (e + n) still was.south_west;
-  }
-
   -- a place is listed
   pub passages_more : (found found' : List Spill) (p : Spill) (e f : ℕ) → IsListed found found' p → ArePassages n levels labels found →
       e < n * n → f < n * n → e ≢ f → IsTrue (is_beside n e f) → IsPassage levels labels e f p → ArePassages n levels labels found'
@@ -178,25 +183,18 @@ module _ (n : ℕ) (levels : List ℤ) (labels : List ℕ) where
       marked_of : (e : ℕ) → IsTrue (is_solid (bare_block n levels) e) → IsTrue (is_marked levels e)
       marked_of e solid = test_if (get_or levels e void) (solid_height n levels e solid)
 
-  pub found_here : (found : List Spill) (e f : ℕ) → IsFound n levels labels found (e + 0) (f + 0) → IsFound n levels labels found e f
-  found_here found e f h = subst (λ v. IsFound n levels labels found v f) (add-zero e) (subst (λ v. IsFound n levels labels found (e + 0) v) (add-zero f) h)
+  -- the same points, as other sums
+  pub found_at : (found : List Spill) (e f x y : ℕ) → e ≡ x → f ≡ y → IsFound n levels labels found x y → IsFound n levels labels found e f
+  found_at found e f x y ex fy h = subst (λ v. IsFound n levels labels found v f) (sym ex) (subst (λ v. IsFound n levels labels found x v) (sym fy) h)
 
-  -- a square with one label
-  pub square_within : (found : List Spill) (e : ℕ) → IsOneLabel n labels e → IsSquareFound n levels labels found e
-  square_within found e one = record {
-    east = none_there found e (e + 1) (inr (inr one.east));
-    south = none_there found e (e + n) (inr (inr one.south));
-    south_east = none_there found e (e + n + 1) (inr (inr one.south_east));
-    south_west = none_there found (e + 1) (e + n) (inr (inr (sym one.east ∙ one.south)));
-  }
-
-  -- the points of a row: in the squares below it, or with the next one
+  -- the points of a row: with those of the row, and of the next one
   pub row_found : (found : List Spill) (i : ℕ) → i < n →
-      (i + 1 < n → (k : ℕ) → k < n - 1 → IsSquareFound n levels labels found (i * n + k)) →
-      (i + 1 < n → IsFound n levels labels found (i * n + n - 1) (i * n + n - 1 + n)) →
-      (i + 1 ≡ n → (k : ℕ) → k < n - 1 → IsFound n levels labels found (i * n + k) (i * n + 1 + k)) →
+      ((k : ℕ) → k < n - 1 → IsFound n levels labels found (i * n + k) (i * n + 1 + k)) →
+      (i + 1 < n → (k : ℕ) → k < n → IsFound n levels labels found (i * n + k) (i * n + n + k)) →
+      (i + 1 < n → (k : ℕ) → k < n - 1 → IsFound n levels labels found (i * n + k) (i * n + n + 1 + k)) →
+      (i + 1 < n → (k : ℕ) → k < n - 1 → IsFound n levels labels found (i * n + 1 + k) (i * n + n + k)) →
       AreFoundBelow n levels labels found (i * n) → AreFoundBelow n levels labels found ((i + 1) * n)
-  row_found found i inside squares last_column last_row before e f low less link = elim (cases_lt e (i * n)) [
+  row_found found i inside east south south_east south_west before e f low less link = elim (cases_lt e (i * n)) [
     | inl earlier ↦ before e f earlier less link
     | inr here ↦
         let parts = linked_parts n levels e f link in
@@ -209,26 +207,20 @@ module _ (n : ℕ) (levels : List ℤ) (labels : List ℕ) where
         let cell' : f ≡ (f / n) * n + f % n = cell_of n f in
         let row : e / n ≡ i = row_is e i here low in
         let at : e ≡ i * n + e % n = cell ∙ ap (λ r. r * n + e % n) row in
-        let north = apart.north in let southward = apart.south in let west = apart.west in let eastward = apart.east in
+        let north = apart.north in let southward = apart.south in let westward = apart.west in let eastward = apart.east in
         elim (cases_eq (f / n) i) [
           | inl same ↦
               let at' : f ≡ i * n + f % n = cell' ∙ ap (λ r. r * n + f % n) same in
-              elim (cases_lt (i + 1) n) [
-                | inl more ↦ moved (i * n + e % n) (i * n + e % n + 1) at (omega arith) (squares more (e % n) (omega arith)).east link
-                | inr last ↦ moved (i * n + e % n) (i * n + 1 + e % n) at (omega arith) (last_row (omega arith) (e % n) (omega arith)) link
-              ]
+              found_at found e f (i * n + e % n) (i * n + 1 + e % n) at (omega arith) (east (e % n) (omega arith)) link
           | inr other ↦
               let below : f / n ≡ i + 1 = later f i (at_least f i (omega arith)) other (omega arith) in
               let at' : f ≡ (i + 1) * n + f % n = cell' ∙ ap (λ r. r * n + f % n) below in
               let more : i + 1 < n = omega arith in
               elim (cases_eq (f % n) (e % n)) [
-                | inl same ↦ elim (cases_lt (e % n) (n - 1)) [
-                  | inl small ↦ moved (i * n + e % n) (i * n + e % n + n) at (omega arith) (squares more (e % n) small).south link
-                  | inr end ↦ moved (i * n + n - 1) (i * n + n - 1 + n) (omega arith) (omega arith) (last_column more) link
-                ]
+                | inl same ↦ found_at found e f (i * n + e % n) (i * n + n + e % n) at (omega arith) (south more (e % n) column) link
                 | inr aside ↦ elim (cases_lt (e % n) (f % n)) [
-                  | inl right ↦ moved (i * n + e % n) (i * n + e % n + n + 1) at (omega arith) (squares more (e % n) (omega arith)).south_east link
-                  | inr left ↦ moved (i * n + f % n + 1) (i * n + f % n + n) (omega arith) (omega arith) (squares more (f % n) (omega arith)).south_west link
+                  | inl right ↦ found_at found e f (i * n + e % n) (i * n + n + 1 + e % n) at (omega arith) (south_east more (e % n) (omega arith)) link
+                  | inr left ↦ found_at found e f (i * n + 1 + f % n) (i * n + n + f % n) (omega arith) (omega arith) (south_west more (f % n) (omega arith)) link
                 ]
               ]
         ]
@@ -255,9 +247,6 @@ module _ (n : ℕ) (levels : List ℤ) (labels : List ℕ) where
 
       later : (f i : ℕ) → i ≤ f / n → f / n ≢ i → f / n ≤ i + 1 → f / n ≡ i + 1
       later f i low other high = omega arith
-
-      moved : (x y : ℕ) → e ≡ x → f ≡ y → IsFound n levels labels found x y → IsFound n levels labels found e f
-      moved x y ex fy h = subst (λ v. IsFound n levels labels found v f) (sym ex) (subst (λ v. IsFound n levels labels found x v) (sym fy) h)
 
   -- where of those between the same labels one is left that is no higher than the others, these are the spills
   pub spills_are : (found firsts : List Spill) → ArePassages n levels labels found → AreFoundBelow n levels labels found (n * n) → ((p : Spill) → Contains firsts p → Contains found p) →

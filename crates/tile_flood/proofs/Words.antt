@@ -19,7 +19,7 @@ pub use Rattle.tile_flood.specs.Carried.{AreCarried, AreRelaxed, IsCarriedBy, Is
 pub use Rattle.tile_flood.specs.Cells.{AreCells, label_of, labels_of, level_of, levels_of}
 pub use Rattle.tile_flood.specs.Flooding.{IsOwnLabel, is_marked}
 pub use Rattle.tile_flood.specs.Labelling.{IsLabelling, NO_LABEL, Names}
-pub use Rattle.tile_flood.specs.Passing.{AreFoundBelow, AreFoundStill, ArePassages, IsFound, IsSquareFound}
+pub use Rattle.tile_flood.specs.Passing.{AreFoundBelow, AreFoundStill, ArePassages, IsFound}
 pub use Rattle.tile_flood.specs.Raising.{raised_level}
 pub use Rattle.tile_flood.specs.Sparing.{HangTogether, IsRun}
 pub use Rattle.tile_flood.specs.Spills.{AreSpills}

@@ -43,20 +43,6 @@ pub record AreBeside (n e f count : ℕ) : Type 0 where
   pub beside : (k : ℕ) → k < count → IsTrue (is_beside n (e + k) (f + k))
   pub apart : e < f
 
--- the square of two by two points with this north-west point lies in the block
-pub record IsSquare (n e : ℕ) : Type 0 where
-  pub row : ℕ
-  pub column : ℕ
-  pub above : row + 1 < n
-  pub left : column + 1 < n
-  pub at : e ≡ row * n + column
-
--- the square with this north-west point has one label
-pub record IsOneLabel (n : ℕ) (labels : List ℕ) (e : ℕ) : Type 0 where
-  pub east : slice_index labels e ≡ slice_index labels (e + 1)
-  pub south : slice_index labels e ≡ slice_index labels (e + n)
-  pub south_east : slice_index labels e ≡ slice_index labels (e + n + 1)
-
 module _ (n : ℕ) (levels : List ℤ) (labels : List ℕ) where
   -- each place that was found is one between two adjacent points
   abbrev pub ArePassages : List Spill → Type 0
@@ -65,13 +51,6 @@ module _ (n : ℕ) (levels : List ℤ) (labels : List ℕ) where
   -- if water passes between the two points, then that was found
   abbrev pub IsFound : List Spill → ℕ → ℕ → Type 0
   IsFound found e f = IsTrue (is_linked (bare_block n levels) e f) → slice_index labels e ≢ slice_index labels f → (p : Spill) × (IsMetBy found p × IsPassage levels labels e f p)
-
-  -- the same inside the square with this north-west point
-  pub record IsSquareFound (found : List Spill) (e : ℕ) : Type 0 where
-    pub east : IsFound found e (e + 1)
-    pub south : IsFound found e (e + n)
-    pub south_east : IsFound found e (e + n + 1)
-    pub south_west : IsFound found (e + 1) (e + n)
 
   -- the same for all points before k, with those after them
   abbrev pub AreFoundBelow : List Spill → ℕ → Type 0

@@ -1,5 +1,5 @@
 //! Where water passes between what drains to one label and what drains to another.
-ghost use Rattle.std.specs.Prelude.{◌≡◌, ℕ, ◌+◌, ◌-◌, ◌*◌, ◌<◌, ◌↔◌, All, IfOk, IfErr, OnOk, IfSome, IfNone, IsTrue, int_lt, length, slice_index_or};
+ghost use Rattle.std.specs.Prelude.{◌≡◌, ℕ, ◌+◌, ◌-◌, ◌*◌, ◌<◌, ◌↔◌, All, IfOk, IfErr, OnOk, IfSome, IfNone, IsTrue, int_lt, length, slice_index, slice_index_or, ◌≤◌};
 ghost use Rattle.lattice.specs.Block.{Block};
 ghost use Rattle.lattice.specs.Limits.{IsSide};
 ghost use Rattle.lattice.specs.Mosaic.{IsSample};
@@ -24,6 +24,9 @@ pub struct Spill {
 // How many places are remembered at which pairs of labels were listed.
 const PLACES: usize = 4096;
 
+// How many pairs of points are looked at together.
+const STRIP: usize = 16;
+
 /// For each two labels of the block that meet, the level at which water passes between them, each two once. `OUT` is a
 /// label too. NoMemory is the only refusal: of labels that aren't a valid labelling these are the spills between the
 /// points that have a level.
@@ -45,7 +48,7 @@ pub fn spills(alloc: Global, labelled: &Labelled) -> Result<Vec<Spill>, Refusal>
 }
 
 ghost use Rattle.tile_flood.specs.Spills.{AreSpills, HaveSameLabels};
-ghost use Rattle.tile_flood.specs.Passing.{IsPassage, IsNoPassage, AreFoundStill, AreBeside, IsSquare, IsOneLabel, IsSquareFound, ArePassages, IsFound, AreFoundBelow, IsListed, IsInOrder, AreFirsts};
+ghost use Rattle.tile_flood.specs.Passing.{IsPassage, IsNoPassage, AreFoundStill, AreBeside, ArePassages, IsFound, AreFoundBelow, IsListed, IsInOrder, AreFirsts};
 
 // Gathers the places where water passes from the points of a row to later points.
 fn gather_row(
@@ -65,87 +68,67 @@ fn gather_row(
     ensures upto { OnOk result (AreFoundBelow n labelled.now.levels labelled.now.labels found.new.items ((i + 1) * n)) }
 {
     let west = i * n;
+    gather(n, labelled, west, west + 1, n - 1, found, places)?;
     if i + 1 == n {
-        gather(n, labelled, west, west + 1, n - 1, found, places)?;
         return Ok(());
     }
-    gather_squares(n, labelled, i, found, places)?;
-    gather(
-        n,
-        labelled,
-        west + n - 1,
-        west + n - 1 + n,
-        1,
-        found,
-        places,
-    )?;
+    gather(n, labelled, west, west + n, n, found, places)?;
+    gather(n, labelled, west, west + n + 1, n - 1, found, places)?;
+    gather(n, labelled, west + 1, west + n, n - 1, found, places)?;
     Ok(())
 }
 
-// Gathers the places where water passes in the squares of two by two points between a row and the next one.
-fn gather_squares(
-    n: usize,
-    labelled: &Labelled,
-    i: usize,
-    found: &mut Vec<Spill>,
-    places: &mut [usize],
-) -> Result<(), AllocError>
-    requires side { (n ≡ labelled.now.side) × IsSide n }
-    requires small { n * n < 4294967296 }
-    requires places { length places.old ≡ PLACES }
-    requires row { i + 1 < n }
-    requires passages { ArePassages n labelled.now.levels labelled.now.labels found.old.items }
-    ensures passages { OnOk result (ArePassages n labelled.now.levels labelled.now.labels found.new.items) }
-    ensures still { OnOk result (AreFoundStill found.old.items found.new.items) }
-    ensures found { OnOk result ((k : ℕ) → k < n - 1 → IsSquareFound n labelled.now.levels labelled.now.labels found.new.items (i * n + k)) }
-{
-    let west = i * n;
-    let labels = labelled.labels();
-    for k in 0..n - 1 {
-        // Most squares lie inside one basin.
-        if !is_one_label(n, labels, west + k) {
-            gather_square(n, labelled, west + k, found, places)?;
-        }
-    }
-    Ok(())
-}
-
-// Gathers the places where water passes in the square with this north-west point, but for the edges that the next squares
-// to the east and to the south have too.
-fn gather_square(
+// Gathers the places where water passes between the points from e on and those from f on.
+fn gather(
     n: usize,
     labelled: &Labelled,
     e: usize,
+    f: usize,
+    count: usize,
     found: &mut Vec<Spill>,
     places: &mut [usize],
 ) -> Result<(), AllocError>
     requires side { n ≡ labelled.now.side }
     requires small { n * n < 4294967296 }
     requires places { length places.old ≡ PLACES }
-    requires square { IsSquare n e }
+    requires beside { AreBeside n e f count }
     requires passages { ArePassages n labelled.now.levels labelled.now.labels found.old.items }
     ensures passages { OnOk result (ArePassages n labelled.now.levels labelled.now.labels found.new.items) }
     ensures still { OnOk result (AreFoundStill found.old.items found.new.items) }
-    ensures found { OnOk result (IsSquareFound n labelled.now.levels labelled.now.labels found.new.items e) }
+    ensures found { OnOk result ((k : ℕ) → k < count → IsFound n labelled.now.levels labelled.now.labels found.new.items (e + k) (f + k)) }
 {
-    gather(n, labelled, e, e + 1, 1, found, places)?;
-    gather(n, labelled, e, e + n, 1, found, places)?;
-    gather(n, labelled, e, e + n + 1, 1, found, places)?;
-    gather(n, labelled, e + 1, e + n, 1, found, places)?;
+    let mut from = 0;
+    'strips: while from < count {
+        let width = STRIP.min(count - from);
+        // Most neighbours have one label.
+        if !are_alike(labelled.labels(), e + from, f + from, width) {
+            gather_strip(n, labelled, e + from, f + from, width, found, places)?;
+        }
+        from += width;
+    }
     Ok(())
 }
 
-// Whether the square with this north-west point has one label.
-fn is_one_label(n: usize, labels: &[u16], e: usize) -> bool
-    requires { e + n + 1 < length labels.now }
-    ensures { IsTrue result → IsOneLabel n labels.now e }
+// Whether a strip of points from e on has the labels of the points from f on. It looks at all of it, as a processor does at
+// several points at once.
+fn are_alike(labels: &[u16], e: usize, f: usize, width: usize) -> bool
+    requires e { e + width ≤ length labels.now }
+    requires f { f + width ≤ length labels.now }
+    requires width { width ≤ STRIP }
+    ensures { IsTrue result → (k : ℕ) → k < width → slice_index labels.now (e + k) ≡ slice_index labels.now (f + k) }
 {
-    let label = labels[e];
-    labels[e + 1] == label && labels[e + n] == label && labels[e + n + 1] == label
+    if width < STRIP {
+        return false;
+    }
+    let mut alike = true;
+    for k in 0..STRIP {
+        alike &= labels[e + k] == labels[f + k];
+    }
+    alike
 }
 
-// Gathers the places where water passes between the points from e on and those from f on.
-fn gather(
+// Gathers them one after another.
+fn gather_strip(
     n: usize,
     labelled: &Labelled,
     e: usize,

@@ -1,37 +1,44 @@
-use Rattle.std.proofs.Common.{arith, subst, ◌<◌, ◌≢◌, ◌*◌, ◌+◌}
-use borrow.Author.Count.{below_more}
-use Rattle.tile_flood.specs.Passing.{IsFound, IsPassage, IsNoPassage}
-use Rattle.tile_flood.proofs.Passages.{met_still, passages_more, found_now, found_still, none_there}
+use Rattle.std.proofs.Common.{◌≡◌, ◌+◌, ◌-◌, ◌≤◌, inl, inr, ℕ, List, slice_index, subst, arith}
+use Rattle.tile_flood.proofs.Words.{cases_lt}
+use Rattle.tile_flood.proofs.Passages.{met_still, found_still, found_at, none_there, beside_part}
 use Rattle.tile_flood.proofs.passing.gather.Goals as goal
-use Rattle.tile_flood.proofs.passing.gather.Goals.{in-Some+in_ok-list, in_default}
+use Rattle.tile_flood.proofs.passing.gather.Goals.{then-not-are_alike+in_ok-gather_strip, else-not-are_alike}
 
-pub loop-k-preserved : goal.loop-k-preserved
-loop-k-preserved c =
+pub gather_strip-requires-clause-beside : goal.gather_strip-requires-clause-beside
+gather_strip-requires-clause-beside c =
+    let within : c.strips.from + c.min-width.result ≤ c.args.count = omega (arith, c.min-width.ensures, c.strips.invariant.upto) in
+    beside_part c.args.n c.args.e c.args.f c.args.count c.strips.from c.min-width.result c.requires.beside within
+
+pub strips-preserved : goal.strips-preserved
+strips-preserved c =
     let n = c.args.n in
     let levels = c.args.labelled.now.levels in
     let labels = c.args.labelled.now.labels in
-    let k = c.loop-k.k in
-    let in_e : c.args.e + k < n * n = omega arith in
-    let in_f : c.args.f + k < n * n = omega arith in
-    let other : c.args.e + k ≢ c.args.f + k = omega arith in
-    let at_levels = c.levels-levels.ensures.value in
-    let at_labels = c.labels-labels.ensures.value in
-    elim c.match-passage.branch [
-      | in-Some+in_ok-list w ↦ rw w.found-is (
-          let passage = subst (λ ls. IsPassage ls labels (c.args.e + k) (c.args.f + k) w.in-Some.passage) at_levels (subst (λ bs. IsPassage c.levels-levels.result.now bs (c.args.e + k) (c.args.f + k) w.in-Some.passage) at_labels w.in-Some.ensures.some) in
-          let listed = w.in_ok-list.ensures in
-          record {
-            passages = passages_more n levels labels c.loop-k.found.items w.list.new.found.items w.in-Some.passage (c.args.e + k) (c.args.f + k) listed c.loop-k.invariant.passages
-                in_e in_f other (c.requires.beside.beside k (omega arith)) passage;
-            still = λ p has. met_still c.loop-k.found.items w.list.new.found.items p listed.still (c.loop-k.invariant.still p has);
-            found = below_more (λ j. IsFound n levels labels w.list.new.found.items (c.args.e + j) (c.args.f + j)) k
-                (λ j less. found_still n levels labels c.loop-k.found.items w.list.new.found.items (c.args.e + j) (c.args.f + j) listed.still (c.loop-k.invariant.found j less))
-                (found_now n levels labels c.loop-k.found.items w.list.new.found.items w.in-Some.passage (c.args.e + k) (c.args.f + k) listed passage);
-          })
-      | in_default w ↦ rw w.found-is (record {
-        passages = c.loop-k.invariant.passages;
-        still = c.loop-k.invariant.still;
-        found = below_more (λ j. IsFound n levels labels c.loop-k.found.items (c.args.e + j) (c.args.f + j)) k c.loop-k.invariant.found
-            (none_there n levels labels c.loop-k.found.items (c.args.e + k) (c.args.f + k) (subst (λ ls. IsNoPassage ls labels (c.args.e + k) (c.args.f + k)) at_levels (subst (λ bs. IsNoPassage c.levels-levels.result.now bs (c.args.e + k) (c.args.f + k)) at_labels w.in_default.ensures.none)));
+    let from = c.strips.from in
+    let width = c.min-width.result in
+    let was = c.strips.found.items in
+    let so_far = c.strips.invariant in
+    let within : from + width ≤ c.args.count = omega (arith, c.min-width.ensures, so_far.upto) in
+    elim c.if-not-are_alike.branch [
+      | then-not-are_alike+in_ok-gather_strip w ↦ rw w.found-is (record {
+        upto = within;
+        passages = w.in_ok-gather_strip.ensures.passages;
+        still = λ p has. met_still was w.gather_strip.new.found.items p w.in_ok-gather_strip.ensures.still (so_far.still p has);
+        found = λ k below. elim (cases_lt k from) [
+          | inl before ↦ found_still n levels labels was w.gather_strip.new.found.items (c.args.e + k) (c.args.f + k) w.in_ok-gather_strip.ensures.still (so_far.found k before)
+          | inr here ↦ found_at n levels labels w.gather_strip.new.found.items (c.args.e + k) (c.args.f + k) (c.args.e + from + (k - from)) (c.args.f + from + (k - from)) (omega arith) (omega arith)
+              (w.in_ok-gather_strip.ensures.found (k - from) (omega arith))
+        ];
+      })
+      | else-not-are_alike w ↦ rw w.found-is (record {
+        upto = within;
+        passages = so_far.passages;
+        still = so_far.still;
+        found = λ k below. elim (cases_lt k from) [
+          | inl before ↦ so_far.found k before
+          | inr here ↦ found_at n levels labels was (c.args.e + k) (c.args.f + k) (c.args.e + from + (k - from)) (c.args.f + from + (k - from)) (omega arith) (omega arith)
+              (none_there n levels labels was (c.args.e + from + (k - from)) (c.args.f + from + (k - from))
+              (inr (inr (subst (λ (ls : List ℕ). slice_index ls (c.args.e + from + (k - from)) ≡ slice_index ls (c.args.f + from + (k - from))) c.labels.ensures.value (c.are_alike.ensures w.if-not-are_alike.false (k - from) (omega arith))))))
+        ];
       })
     ]

@@ -1,10 +1,14 @@
-use Rattle.std.proofs.Common.{ℕ, ◌+◌, ◌<◌}
+use Rattle.std.proofs.Common.{ℕ, ◌+◌, ◌-◌, ◌<◌, ◌≤◌}
 use Rattle.tile_flood.specs.Passing.{ArePassages, AreFoundStill, IsFound}
 use Rattle.tile_flood.proofs.passing.gather.Given as goal
 
-abbrev pub invariant-loop-k : goal.invariant-loop-k
-invariant-loop-k l = record {
+abbrev pub invariant-strips : goal.invariant-strips
+invariant-strips l = record {
+  upto : l.from ≤ l.count;
   passages : ArePassages l.n l.labelled.levels l.labelled.labels l.found.items;
   still : AreFoundStill l.fn.found.items l.found.items;
-  found : (j : ℕ) → j < l.k → IsFound l.n l.labelled.levels l.labelled.labels l.found.items (l.e + j) (l.f + j);
+  found : (k : ℕ) → k < l.from → IsFound l.n l.labelled.levels l.labelled.labels l.found.items (l.e + k) (l.f + k);
 }
+
+abbrev pub decreases-strips : goal.decreases-strips
+decreases-strips l = l.count - l.from
