@@ -1,5 +1,5 @@
 -- What a call tells of the store that its handle holds.
-use Rattle.std.proofs.Common.{◌≡◌, ℕ, ℤ, List, length, nat_le, if◌then◌else◌, inl, inr, MatchResult, SFits, w16, w32, to_z, of_z, Option, Some, None, Result, Ok, Err, IfOk, refl, sym, ap, ◌∙◌, subst}
+use Rattle.std.proofs.Common.{◌≡◌, ℕ, ℤ, List, length, nat_le, if◌then◌else◌, inl, inr, MatchResult, SFits, w16, w32, to_z, of_z, Option, Some, None, is_some, Result, Ok, Err, IfOk, refl, sym, ap, ◌∙◌, subst}
 use Rattle.std.proofs.lemmas.Int.{to_z-of_z}
 use Rattle.lattice.specs.Corners.{Corner}
 use Rattle.lattice.specs.declared.point.Point.{Point}
@@ -18,14 +18,15 @@ use Rattle.mosaic_c.specs.declared.handle.Handle.{Handle}
 use Rattle.mosaic_c.specs.declared.session.Session.{Session}
 
 -- no store is held
-pub not_held : {T : Type 0} (old new : Handle) (first : Option Refusal) (Says : Mosaic → Result T Refusal → Type 0) (number : ℕ) (value : T) → old.kept.session ≡ None → number ≡ number_of Failed → Told old new number value first Says
-not_held {T} old new first Says number value none failed =
+pub not_held : {T : Type 0} (old new : Handle) (first : Option Refusal) (Says : Mosaic → Result T Refusal → Type 0) (number : ℕ) (value : T) → old.kept.session ≡ None → new.kept.session ≡ None → number ≡ number_of Failed → Told old new number value first Says
+not_held {T} old new first Says number value none left failed =
     let closed : (contents : Contents) → IsOpenAt old.kept.session contents → ⊥ = λ contents open_at. subst (λ (o : Option Session). IsOpenAt o contents) none open_at in
     record {
       result = Err Failed;
       number_is = failed;
       value_is = tt;
       closed = λ _. refl;
+      stays = ap is_some left ∙ ap is_some (sym none);
       kept = λ contents open_at. absurd (closed contents open_at);
       refused = λ r is_first contents open_at. absurd (closed contents open_at);
       says = λ is_none contents open_at. absurd (closed contents open_at);
@@ -51,6 +52,7 @@ module _ {S : Type 0} (g : Ghosts S) (store_of : Session → S) (honest : (e : S
     number_is = number_is;
     value_is = value_is;
     closed = λ none. let no : Some held ≡ None = was ∙ none in cc;
+    stays = ap is_some left ∙ ap is_some was;
     kept = λ contents open_at. after contents (come.kept (honest (store_of put)) contents (before contents open_at));
     refused = λ r is_first. cc;
     says = λ none contents open_at. come.says (honest (store_of put)) contents (before contents open_at);
@@ -60,6 +62,7 @@ module _ {S : Type 0} (g : Ghosts S) (store_of : Session → S) (honest : (e : S
     number_is = number_is;
     value_is = value_is;
     closed = λ none. let no : Some held ≡ None = was ∙ none in cc;
+    stays = ap is_some left ∙ ap is_some was;
     kept = λ contents open_at. after contents (subst (λ (e : S). Has g e contents) (sym come.1) (before contents open_at));
     refused = λ other is_first contents open_at. err_of result r come.0 ∙ (let same : r ≡ other = cc in ap (λ (why : Refusal). Err why) same);
     says = λ none. cc;
@@ -74,6 +77,7 @@ module _ {S : Type 0} (g : Ghosts S) (store_of : Session → S) (honest : (e : S
       λ contents here. let it = replied.call.happens (honest (store_of put)) here.0 here.1.0 in (it.0, (it.1.0, it.1.1)) in
       record {
         closed = λ none. let no : Some held ≡ None = was ∙ none in cc;
+        stays = ap is_some left ∙ ap is_some was;
         kept = λ contents open_at.
             let here = before contents open_at in
             let it = next contents here in
@@ -100,6 +104,7 @@ module _ {S : Type 0} (g : Ghosts S) (store_of : Session → S) (honest : (e : S
       }
   line_told line into (Err r) number count not answer = record {
     closed = λ none. let no : Some held ≡ None = was ∙ none in cc;
+    stays = ap is_some left ∙ ap is_some was;
     kept = λ contents open_at. after contents (subst (λ (e : S). Has g e contents) (sym not.1) (before contents open_at));
     says = λ contents open_at. inl (r, (not.0, answer));
   }

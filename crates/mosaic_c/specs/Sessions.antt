@@ -1,5 +1,5 @@
 -- What is said of a handle (this product's own profile).
-use Rattle.std.specs.Prelude.{◌≡◌, ◌⊎◌, ℕ, nat_le, if◌then◌else◌, List, length, Option, Some, None, Result, Ok, Err, IfOk}
+use Rattle.std.specs.Prelude.{◌≡◌, ◌⊎◌, ℕ, nat_le, if◌then◌else◌, List, length, Option, Some, None, is_some, Result, Ok, Err, IfOk}
 use Rattle.lattice.specs.Mosaic.{Mosaic}
 use Rattle.lattice.specs.Refusals.{number_of}
 use Rattle.lattice.specs.declared.refusal.Refusal.{Refusal}
@@ -25,6 +25,7 @@ HasIn handle contents = IsOpenAt handle.kept.session contents
 
 -- Whatever is answered, a store that was held is held with the contents that it had; and where that is 0, this is so of them.
 pub record Tells (old new : Handle) (number : ℕ) (Says : Contents → Type 0) : Type 0 where
+  pub stays : is_some new.kept.session ≡ is_some old.kept.session
   pub kept : (contents : Contents) → HasIn old contents → HasIn new contents
   pub says : number ≡ 0 → (contents : Contents) → HasIn old contents → Says contents
 
@@ -40,7 +41,8 @@ pub record Told {T : Type 0} (old new : Handle) (number : ℕ) (value : T) (firs
   pub value_is : IfOk result (λ put. value ≡ put)
   -- Failed where no store is held
   pub closed : old.kept.session ≡ None → result ≡ Err Failed
-  -- a store that is held is held with the contents that it had, is refused at once where that is due, and else tells this
+  -- a store that is held, and no other, is held with the contents that it had, is refused at once where that is due, and else tells this
+  pub stays : is_some new.kept.session ≡ is_some old.kept.session
   pub kept : (contents : Contents) → HasIn old contents → HasIn new contents
   pub refused : (r : Refusal) → first ≡ Some r → (contents : Contents) → HasIn old contents → result ≡ Err r
   pub says : first ≡ None → (contents : Contents) → HasIn old contents → Says contents.mosaic result
@@ -62,6 +64,7 @@ pub record IsReplyOf (contents : Contents) (line : List ℕ) (count : ℕ) (into
 -- the line was asked: 0 is answered, or BadLength's number where there wasn't room; or it is no question
 pub record ToldLine (old new : Handle) (line : List ℕ) (number count : ℕ) (into : List ℕ) : Type 0 where
   pub closed : old.kept.session ≡ None → number ≡ number_of Failed
+  pub stays : is_some new.kept.session ≡ is_some old.kept.session
   pub kept : (contents : Contents) → HasIn old contents → HasIn new contents
   pub says : (contents : Contents) → HasIn old contents →
       ((r : Refusal) × (IsNoQuestion line r × (number ≡ number_of r))) ⊎ (IsReplyOf contents line count into × (number ≡ (if nat_le count (length into) then 0 else 3)))

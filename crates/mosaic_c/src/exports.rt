@@ -1,6 +1,6 @@
 //! What C calls. Each but `mosaic_close` answers 0 or the number of a refusal. `include/mosaic.h` has units, shapes and
 //! refusals; nothing here asks more of the caller than it says.
-ghost use Rattle.std.specs.Prelude.{◌≡◌, ℕ, nat_le, if◌then◌else◌, None, length};
+ghost use Rattle.std.specs.Prelude.{◌≡◌, ◌↔◌, ◌⊎◌, ℕ, nat_le, if◌then◌else◌, IsTrue, None, is_some, length};
 ghost use Rattle.lattice.specs.Corners.{Corner};
 ghost use Rattle.lattice.specs.declared.point.Point.{Point};
 ghost use Rattle.drainage.specs.TileLevels.{IsLevelOrVoid};
@@ -8,6 +8,8 @@ ghost use Rattle.engine.specs.State.{Contents};
 ghost use Rattle.image_disk.specs.Images.{sectors_in, image_in};
 ghost use Rattle.lattice.specs.Ground.{metres, terrain};
 ghost use Rattle.lattice.specs.Height.{height_of};
+ghost use Rattle.lattice.specs.Refusals.{number_of};
+ghost use Rattle.lattice.specs.declared.refusal.Refusal.TheVariants.{Device, Failed, NoMemory};
 ghost use Rattle.lattice.specs.Terrain.{IsFilledLevel};
 ghost use Rattle.store.specs.Standing.{StandsFor};
 ghost use Rattle.tile_flood.specs.Raising.{AreTileLevels};
@@ -35,6 +37,12 @@ pub extern "C" fn mosaic_open(alloc: Global, held: &mut Handle, image: &'static 
     ensures opened { result ≡ 0 → (side capacity : ℕ) (contents : Contents)
         → StandsFor (sectors_in image.now) side capacity (image_in image.now) contents
         → HasIn held.new contents }
+    ensures held { IsTrue (is_some held.new.kept.session) ↔ (result ≡ 0) }
+
+    // It is refused then only for memory, or for a call of the disk: an image's reads never fail.
+    ensures sure { (side capacity : ℕ) (contents : Contents)
+        → StandsFor (sectors_in image.now) side capacity (image_in image.now) contents
+        → (result ≡ 0) ⊎ ((result ≡ number_of Device) ⊎ (result ≡ number_of NoMemory)) }
 {
     close(alloc, held);
     let store = match Store::open(alloc, ImageDisk::new(image)) {
@@ -60,7 +68,7 @@ pub extern "C" fn mosaic_close(alloc: Global, held: &mut Handle)
 #[unsafe(no_mangle)]
 pub extern "C" fn mosaic_side(alloc: Global, held: &mut Handle, into: &mut u32) -> u8
     ensures tells { Tells held.old held.new result (λ contents. into.new ≡ contents.mosaic.side) }
-    ensures answers { (contents : Contents) → HasIn held.old contents → result ≡ 0 }
+    ensures answers { result ≡ (if is_some held.old.kept.session then 0 else number_of Failed) }
 {
     let Some(session) = held.take(alloc) else {
         return Refusal::Failed.number();
@@ -74,7 +82,7 @@ pub extern "C" fn mosaic_side(alloc: Global, held: &mut Handle, into: &mut u32) 
 #[unsafe(no_mangle)]
 pub extern "C" fn mosaic_count(alloc: Global, held: &mut Handle, into: &mut u64) -> u8
     ensures tells { Tells held.old held.new result (λ contents. into.new ≡ contents.count) }
-    ensures answers { (contents : Contents) → HasIn held.old contents → result ≡ 0 }
+    ensures answers { result ≡ (if is_some held.old.kept.session then 0 else number_of Failed) }
 {
     let Some(session) = held.take(alloc) else {
         return Refusal::Failed.number();

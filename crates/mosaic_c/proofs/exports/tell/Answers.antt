@@ -16,4 +16,4 @@ returns-in-Err g c =
     _ _ c.ask-told.result _ _ c.args.answer.now c.ask-told.ensures (c.number-in-Err.ensures ∙ sym (ap number_in c.in-Err.is)) (subst (λ r. IfOk r (λ x. c.args.answer.now ≡ x)) (sym c.in-Err.is) tt)
 
 pub returns-in_default : goal.returns-in_default
-returns-in_default g c = not_held _ _ _ _ _ _ (search rules) (search rules)
+returns-in_default g c = not_held _ _ _ _ _ _ (search rules) (search rules) (search rules)
