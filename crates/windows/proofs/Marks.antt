@@ -26,9 +26,6 @@ decided r p =
     by_lt_z p.x r.first (λ west. inr (λ lies. let from = lies.1.0 in absurd (omega (arith, ints)))) (λ from.
     by_lt_z r.last p.x (λ east. inr (λ lies. let to = lies.1.1 in absurd (omega (arith, ints)))) (λ to. inl (omega (arith, ints), (from, to))))))
 
-pub none_yet : (runs : List Run) (p : Point) → ¬ CoverTo runs 0 p
-none_yet runs p cover = absurd (omega (arith, cover.2))
-
 -- a run more: its points are marked, and the others are left
 pub one_more : (runs : List Run) (count : ℕ) (r : Run) (p : Point) (was now : ℕ) → count < length runs → get_or runs count r ≡ r → (IsInRun r p → now ≡ 1) → (¬ IsInRun r p → now ≡ was)
     → IsMark (CoverTo runs count p) was → IsMark (CoverTo runs (count + 1) p) now

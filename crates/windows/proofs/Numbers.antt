@@ -1,10 +1,9 @@
 -- The numbers of a window's points.
-use Rattle.std.proofs.Common.{to_z, of_z, min, SFits, FitsSigned, w32, ◌≡◌, ℕ, zero, suc, ◌+◌, ◌-◌, ◌*◌, ◌/◌, ◌%◌, ◌<◌, ◌≤◌, ◌↔◌, ℤ, pos, negsuc, ◌+ℤ◌, ◌-ℤ◌, ◌≤ℤ◌, ◌<ℤ◌, int_lt, Bool, true, false, ◌&&◌, ◌||◌, IsTrue, IsFalse, cond, Option, Some, None, nat_eq, nat_lt, refl, sym, ap, ◌∙◌, subst, arith}
+use Rattle.std.proofs.Common.{to_z, of_z, min, SFits, FitsSigned, w32, ◌≡◌, ℕ, zero, suc, ◌+◌, ◌-◌, ◌*◌, ◌/◌, ◌%◌, ◌<◌, ◌≤◌, ◌↔◌, ℤ, pos, negsuc, ◌+ℤ◌, ◌-ℤ◌, ◌≤ℤ◌, int_lt, Bool, true, false, ◌&&◌, ◌||◌, IsTrue, IsFalse, cond, Some, None, nat_eq, nat_lt, refl, sym, ap, ◌∙◌, subst, arith}
 use Rattle.std.proofs.Math.Nat.{mul-le-mul_right}
 use Rattle.std.proofs.lemmas.Nat.{div_below, mod_below, div-mul-add, mod-mul-add, div-add-mod'}
 use Rattle.std.proofs.lemmas.Int.{ints, to_z-of_z}
 use Rattle.std.proofs.lemmas.Bool.Decides.{nat_tests}
-use Rattle.lattice.specs.declared.refusal.Refusal.{Refusal}
 use Rattle.lattice.specs.declared.refusal.Refusal.TheVariants.{BadLength, BadBox}
 use Rattle.watershed.specs.Runs.{IsInRun}
 use Rattle.watershed.specs.declared.runs.Run.{Run}
@@ -113,12 +112,6 @@ pub apart : (a b : ℤ) (r : ℕ) → SFits w32 a → SFits w32 b → to_z w32 (
 apart a b r fits_a fits_b is =
     let plain : a ≡ (b +ℤ pos r) = sym (same_number a fits_a) ∙ is ∙ ap (λ z. z +ℤ pos r) (same_number b fits_b) in
     omega (arith, ints)
-
--- no point of a window that begins below the row lies in it
-pub none_above : (north y : ℤ) (q : ℕ) → SFits w32 north → SFits w32 y → to_z w32 (of_z w32 north) <ℤ to_z w32 (of_z w32 y) → north -ℤ pos q ≡ y → ⊥
-none_above north y q fits_north fits_y above is =
-    let plain : north <ℤ y = subst (λ z. north <ℤ z) (same_number y fits_y) (subst (λ z. z <ℤ to_z w32 (of_z w32 y)) (same_number north fits_north) above) in
-    absurd (omega (arith, ints))
 
 module _ (west from to : ℤ) (columns first most after : ℕ) (fits_west : SFits w32 west) (fits_from : SFits w32 from) (fits_to : SFits w32 to) (narrow : columns < 4294967296) (after_is : after ≡ min most columns)
     (lows : (c : ℕ) → (first ≤ c) ↔ (to_z w32 (of_z w32 from) ≤ℤ (to_z w32 (of_z w32 west) +ℤ pos c))) (highs : (c : ℕ) → c < 4294967295 → (c < most) ↔ ((to_z w32 (of_z w32 west) +ℤ pos c) ≤ℤ to_z w32 (of_z w32 to))) where

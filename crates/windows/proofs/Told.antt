@@ -5,11 +5,8 @@ use Rattle.std.specs.Prelude.{if◌then◌else◌, Option, Some, None, Result, O
 use Rattle.std.proofs.lemmas.Bool.{cases_lt}
 use Rattle.std.proofs.lemmas.Int.{to_z-of_z}
 use Rattle.catalogue.specs.Reading.{HasRisen}
-use Rattle.catalogue.specs.Tiles.{corners_of}
-use Rattle.tile_flood.specs.Raising.{AreTileLevels}
 use Rattle.lattice.specs.Corners.{Corner, is_corner}
 use Rattle.lattice.specs.Ground.{terrain}
-use Rattle.lattice.specs.Height.{height_of}
 use Rattle.lattice.specs.Mosaic.{Mosaic}
 use Rattle.lattice.specs.Terrain.{IsFilledLevel}
 use Rattle.lattice.specs.declared.point.Point.{Point}
@@ -19,7 +16,7 @@ use Rattle.lattice.specs.declared.refusal.Refusal.TheVariants.{BadName, BadLengt
 use Rattle.flow_d8.specs.FlowPath.{IsInWatershed}
 use Rattle.flow_d8.proofs.Steps.Nearby.{level_ground}
 use Rattle.drainage.specs.TileLevels.{IsLevelOrVoid}
-use Rattle.watershed.specs.Questions.{IsAnswered, DrainsBy, IsCodeOrNone, AreTileCounts, AreTileDirections}
+use Rattle.watershed.specs.Questions.{IsAnswered, DrainsBy, IsCodeOrNone, AreTileCounts}
 use Rattle.watershed.specs.Runs.{AreRuns}
 use Rattle.watershed.specs.declared.runs.Run.{Run}
 use Rattle.engine.specs.Engines.{IsCall, answered, items_in}
@@ -41,19 +38,6 @@ risen : (before mid now : ℕ) → before ≤ mid → HasRisen mid now → HasRi
 risen before mid now later up = omega (arith, later, up)
 
 module _ {E : Type 0} (g : Ghosts E) where
-  -- nothing was asked
-  pub unasked : (e : E) (Says : Mosaic → Type 0) → ((m : Mosaic) → Says m) → Tells g e e 0 None Says
-  unasked e Says all = record {
-    honest = λ h. h;
-    kept = λ h contents has. has;
-    says = λ h contents has. all contents.mosaic;
-    had_failed = λ some failed. absurd (omega (arith, some));
-    failed = λ none. cc;
-    device = λ none. cc;
-    stays = λ other. refl;
-    later = omega arith;
-  }
-
   -- some questions, and then others
   pub then_told : (a b c : E) (i j : ℕ) (refused : Option Refusal) (P Q R : Mosaic → Type 0) → Tells g a b i None P → Tells g b c j refused Q → ((m : Mosaic) → P m → Q m → R m) → Tells g a c (i + j) refused R
   then_told a b c i j refused P Q R first last both =
@@ -246,13 +230,6 @@ module _ {E : Type 0} (g : Ghosts E) (a b : E) where
       sheds (Ok runs) s t is = (stayed s t is.0, is.1)
       sheds (Err r) s t not = unanswered (AreRunsOf s.contents.mosaic p) s t p r not
 
-  pub height_told : (p : Point) (result : Result Height Refusal) → IsCall (members g) a (ask.Elevation p) (answered reply.Elevation result) b → Tells g a b 1 (refusal_of result) (λ m. OfAny (λ h. h ≡ height_of m p) result)
-  height_told p result call = asked_once g a b (ask.Elevation p) reply.Elevation (questions.answers_so {capacity = 0} (ask.Elevation p) reply.Elevation _ (questions.elevation_asked p)) (λ answer e. e) result (λ m. OfAny (λ h. h ≡ height_of m p) result) call (elevates result)
-    where
-      elevates : (result : Result Height Refusal) (s t : State) → Happens (g.capacity_of a) s (ask.Elevation p) (answered reply.Elevation result) t → (t.contents ≡ s.contents) × OfAny (λ h. h ≡ height_of s.contents.mosaic p) result
-      elevates (Ok h) s t is = (stayed s t is.0, is.1)
-      elevates (Err r) s t not = unelevated (λ h. h ≡ height_of s.contents.mosaic p) s t r not
-
   -- a level, or the code of a direction, is told of ground alone
   pub level_told : (p : Point) (result : Result ℤ Refusal) (level same : ℤ) → result ≡ Ok level → level ≡ same → Tells g a b 1 (refusal_of result) (λ m. OfPoint m p (IsLevel m p) result) → Tells g a b 1 None (λ m. OfAny (IsLevelOrVoid m p) (Ok same))
   level_told p result level same is alike told =
@@ -292,46 +269,9 @@ module _ {E : Type 0} (g : Ghosts E) (a b : E) where
         refused m BadLength not = absurd not
         refused m r not = not
 
-  pub levels_told : (c : Corner) (result : Result (Vec ℤ) Refusal) → IsCall (members g) a (ask.Levels c) (answered reply.Levels result) b → Tells g a b 1 (refusal_of result) (λ m. OfTile m c (AreTileLevels m c) result)
-  levels_told c result call = asked_once g a b (ask.Levels c) reply.Levels (questions.answers_so {capacity = 0} (ask.Levels c) reply.Levels _ (questions.levels_asked c)) (λ answer e. e) result (λ m. OfTile m c (AreTileLevels m c) result) call (tells result)
-    where
-      tells : (result : Result (Vec ℤ) Refusal) (s t : State) → Happens (g.capacity_of a) s (ask.Levels c) (answered reply.Levels result) t → (t.contents ≡ s.contents) × OfTile s.contents.mosaic c (AreTileLevels s.contents.mosaic c) result
-      tells (Ok xs) s t is = of_tile AreTileLevels s t c (Ok xs) is
-      tells (Err r) s t is = of_tile AreTileLevels s t c (Err r) is
-
-  pub directions_told : (c : Corner) (result : Result (Vec ℕ) Refusal) → IsCall (members g) a (ask.Directions c) (answered reply.Directions result) b → Tells g a b 1 (refusal_of result) (λ m. OfTile m c (AreTileDirections m c) result)
-  directions_told c result call = asked_once g a b (ask.Directions c) reply.Directions (questions.answers_so {capacity = 0} (ask.Directions c) reply.Directions _ (questions.directions_asked c)) (λ answer e. e) result (λ m. OfTile m c (AreTileDirections m c) result) call (tells result)
-    where
-      tells : (result : Result (Vec ℕ) Refusal) (s t : State) → Happens (g.capacity_of a) s (ask.Directions c) (answered reply.Directions result) t → (t.contents ≡ s.contents) × OfTile s.contents.mosaic c (AreTileDirections s.contents.mosaic c) result
-      tells (Ok xs) s t is = of_tile AreTileDirections s t c (Ok xs) is
-      tells (Err r) s t is = of_tile AreTileDirections s t c (Err r) is
-
   pub upstream_told : (c : Corner) (result : Result (Vec ℕ) Refusal) → IsCall (members g) a (ask.Upstream c) (answered reply.Upstream result) b → Tells g a b 1 (refusal_of result) (λ m. OfTile m c (AreTileCounts m c) result)
   upstream_told c result call = asked_once g a b (ask.Upstream c) reply.Upstream (questions.answers_so {capacity = 0} (ask.Upstream c) reply.Upstream _ (questions.upstream_asked c)) (λ answer e. e) result (λ m. OfTile m c (AreTileCounts m c) result) call (tells result)
     where
       tells : (result : Result (Vec ℕ) Refusal) (s t : State) → Happens (g.capacity_of a) s (ask.Upstream c) (answered reply.Upstream result) t → (t.contents ≡ s.contents) × OfTile s.contents.mosaic c (AreTileCounts s.contents.mosaic c) result
       tells (Ok xs) s t is = of_tile AreTileCounts s t c (Ok xs) is
       tells (Err r) s t is = of_tile AreTileCounts s t c (Err r) is
-
-  -- the corners of the present tiles
-  pub tiles_told : (result : Result (Vec Corner) Refusal) → IsCall (members g) a ask.Tiles (answered reply.Tiles result) b → Tells g a b 1 (refusal_of result) (λ m. OfAny (λ corners. corners.items ≡ corners_of m) result)
-  tiles_told result call = asked_once g a b ask.Tiles reply.Tiles (questions.answers_so {capacity = 0} ask.Tiles reply.Tiles _ questions.tiles_asked) (λ answer e. e) result (λ m. OfAny (λ corners. corners.items ≡ corners_of m) result) call (lists result)
-    where
-      lists : (result : Result (Vec Corner) Refusal) (s t : State) → Happens (g.capacity_of a) s ask.Tiles (answered reply.Tiles result) t → (t.contents ≡ s.contents) × OfAny (λ (corners : Vec Corner). corners.items ≡ corners_of s.contents.mosaic) result
-      lists (Ok corners) s t is = (stayed s t is.0, is.1)
-      lists (Err r) s t not = unlisted (λ (corners : Vec Corner). corners.items ≡ corners_of s.contents.mosaic) s t r not
-
-  -- .. and a side that every state has
-  pub tiles_of_side : (n : ℕ) (corners : Vec Corner) (result : Result (Vec Corner) Refusal) → ((s : State) → g.is_at a s → s.contents.mosaic.side ≡ n) → result ≡ Ok corners
-      → IsCall (members g) a ask.Tiles (answered reply.Tiles result) b → Tells g a b 1 None (λ m. (m.side ≡ n) × (corners.items ≡ corners_of m))
-  tiles_of_side n corners result same is call =
-      let told = subst (λ (r : Result (Vec Corner) Refusal). Tells g a b 1 (refusal_of r) (λ m. OfAny (λ (cs : Vec Corner). cs.items ≡ corners_of m) r)) is (tiles_told result call) in record {
-        honest = told.honest;
-        kept = told.kept;
-        says = λ h contents has. (subst (λ (c : Contents). c.mosaic.side ≡ n) has.1.1 (same has.0 has.1.0), told.says h contents has);
-        had_failed = told.had_failed;
-        failed = told.failed;
-        device = told.device;
-        stays = told.stays;
-        later = told.later;
-      }

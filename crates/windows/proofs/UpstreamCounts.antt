@@ -116,13 +116,6 @@ are_put m w n c counts old new side corner same are put k small =
       (λ off. is ∙ ap (λ b. if b then slice_index_or counts e 0 else get_or old k 0) off),
     )
 
--- .. and where it has none of the window, nothing is put
-pub none_put : (m : Mosaic) (w : Window) (n : ℕ) (c : Corner) (old : List ℕ) → m.side ≡ n → ((k : ℕ) → k < length old → IsFalse (holds n c (point_in w k))) → ArePut m w c old old
-none_put m w n c old same none k small = (
-  (λ held. absurd (true≢false (sym held ∙ subst (λ s. holds s c (point_in w k) ≡ false) (sym same) (none k small)))),
-  (λ off. refl),
-)
-
 -- a present tile isn't refused as one that isn't there
 pub refused_so : {X Y : Type 0} (m : Mosaic) (c : Corner) (Says : List X → Type 0) (More : Y → Type 0) (r : Refusal) → IsTrue (is_present m c) → OfTile m c Says (Err r) → OfAny More (Err r)
 refused_so m c Says More NoTile there none = absurd (true≢false (sym there ∙ sym (some-samples c m.tiles) ∙ ap is_some none))
