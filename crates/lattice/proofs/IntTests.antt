@@ -23,9 +23,6 @@ lt_from a b h = grind (arith, ints)
 pub lt_false : (a b : ℤ) → int_lt a b ≡ false → b ≤ℤ a
 lt_false a b e = grind (arith, ints)
 
-pub lt_not : (a b : ℤ) → b ≤ℤ a → int_lt a b ≡ false
-lt_not a b h = grind (arith, ints)
-
 pub eq_true : (a b : ℤ) → int_eq a b ≡ true → a ≡ b
 eq_true a b e = (Decides-int_eq a b).0 e
 

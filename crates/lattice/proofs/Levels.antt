@@ -1,6 +1,6 @@
 -- Filled levels of any terrain: there is at most one, an outlet's is its height, and each step of a flood finds one
 -- (after the correctness argument of Barnes, Lehman and Mulla 2014).
-use Rattle.std.proofs.Common.{◌≡◌, ℤ, ◌≤ℤ◌, Bool, IsTrue, IsFalse, List, [], ◌∷◌, refl, sym, ap, ◌∙◌, subst, arith, inl, inr, true≢false, ◌⊎◌, cond, int_lt}
+use Rattle.std.proofs.Common.{◌≡◌, ℤ, ◌≤ℤ◌, Bool, IsTrue, List, [], ◌∷◌, refl, ap, subst, arith, inl, inr, ◌⊎◌, cond, int_lt}
 use Rattle.std.specs.Int.{int_max}
 use Rattle.std.proofs.lemmas.Int.{ints, clamps}
 use Rattle.std.proofs.lemmas.Bool.{cases_Bool}
@@ -52,37 +52,6 @@ module _ {P : Type 0} (t : Terrain P) where
     reached = ([], (record { path = law.outlet_ground x out; outlet = out }, refl));
     least = λ rest way. height-le_crest x rest;
   }
-
-  module _ (law : IsLawful t) (marked : P → Bool) (level : P → ℤ) (low : ℤ)
-      (outlets : (x : P) → IsTrue (t.is_outlet x) → IsTrue (marked x))
-      (filled : (x : P) → IsTrue (marked x) → IsFilledLevel t x (level x))
-      (border : (w z : P) → IsTrue (marked w) → IsFalse (marked z) → IsTrue (t.is_adjacent w z) → low ≤ℤ level w) where
-    -- a path from a point that isn't marked to an outlet enters the marked points at no less than the least waiting level
-    pub crest_at_border : (z : P) (rest : List P) → IsFalse (marked z) → LeadsOut t z rest → low ≤ℤ crest t z rest
-    crest_at_border z [] off way = absurd (true≢false (sym (outlets z way.outlet) ∙ off))
-    crest_at_border z (w ∷ rest) off way =
-        let on_from_w : LeadsOut t w rest = record { path = way.path.1; outlet = way.outlet } in
-        ≤ℤ_trans low (crest t w rest) (crest t z (w ∷ rest))
-        (elim (cases_Bool (marked w)) [
-          | inl on ↦ ≤ℤ_trans low (level w) (crest t w rest) (border w z on off (law.both_ways z w way.path.0)) ((filled w on).least rest on_from_w)
-          | inr off' ↦ crest_at_border w rest off' on_from_w
-        ])
-        (le-max_right (t.height z) (crest t w rest))
-
-    -- so the greater of that level and its own height is the filled level of a point beside one of that level
-    pub level_beside : (c y : P) → IsTrue (marked c) → level c ≡ low → IsTrue (t.is_adjacent c y) → IsFalse (marked y) → IsFilledLevel t y (int_max (t.height y) low)
-    level_beside c y on is beside off =
-        let from_c = (filled c on).reached in
-        record {
-          reached = (
-            c ∷ from_c.0,
-            (
-              record { path = (law.both_ways c y beside, from_c.1.0.path); outlet = from_c.1.0.outlet },
-              ap (int_max (t.height y)) (from_c.1.1 ∙ is),
-            ),
-          );
-          least = λ rest way. max-le (t.height y) low (crest t y rest) (height-le_crest y rest) (crest_at_border y rest off way);
-        }
 
   -- where nothing waits, every point that leads out is marked
   pub all_marked : (law : IsLawful t) (marked : P → Bool)

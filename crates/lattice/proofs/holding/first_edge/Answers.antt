@@ -13,9 +13,6 @@ edge_is c =
     let both = within c in
     ap₂ (λ (a b : ℤ). to_z w64 (of_z w64 (a *ℤ b))) corner edge ∙ omega (arith, ints)
 
-pub returns-clause-value : goal.returns-clause-value
-returns-clause-value c = edge_is c
-
 pub returns-clause-low : goal.returns-clause-low
 returns-clause-low c =
     let is = edge_is c in

@@ -1,5 +1,5 @@
 use Rattle.std.proofs.Common.{arith, ◌<◌}
-use Rattle.lattice.proofs.Samples.{index_of_point, index_below, point_at_index, index_unique, index_of_held, held_at}
+use Rattle.lattice.proofs.Samples.{index_of_point, index_below, point_at_index, index_of_held, held_at}
 use Rattle.lattice.specs.Lattice.{index_of}
 use Rattle.lattice.proofs.laws.index_and_point_are_inverse.Goals as goal
 
@@ -8,9 +8,6 @@ returns-clause-point c = λ n k e side corner small. let some : 0 < n = omega (a
 
 pub returns-clause-one_point : goal.returns-clause-one_point
 returns-clause-one_point c = λ n k p e index. (index_below n k p e index, point_at_index n k p e index)
-
-pub returns-clause-one_index : goal.returns-clause-one_index
-returns-clause-one_index c = index_unique
 
 pub returns-clause-held : goal.returns-clause-held
 returns-clause-held c = λ n k p. (λ held. (index_of n k p, index_of_held n k p held), λ some. held_at n k p some.0 some.1)
