@@ -1,7 +1,5 @@
 -- The least level of paths over links is the least of their crests.
-use Rattle.std.proofs.Common.{◌≡◌, ◌≢◌, ℕ, ℤ, ◌≤ℤ◌, List, [], ◌∷◌, map}
-use Rattle.border_graph.proofs.Words.{int_max, ≤ℤ_same, ≤ℤ_antisym, le-max_left, le-max_right, max-le, IsWayBelow}
-use Rattle.border_graph.proofs.Words.{IsJoinedLevel, Edge}
+use Rattle.border_graph.proofs.Prelude.{Edge, IsJoinedLevel, IsWayBelow, List, ℕ, ℤ, [], int_max, le-max_left, le-max_right, map, max-le, ≤ℤ_antisym, ≤ℤ_same, ◌∷◌, ◌≡◌, ◌≢◌, ◌≤ℤ◌}
 use Rattle.border_graph.proofs.Onward.{way_up}
 use Rattle.border_graph.specs.Crests.{crest, LeadsOut, IsLeastCrest}
 

@@ -1,7 +1,6 @@
 -- What is taken first of a heap of entries has the lowest crest.
 use Rattle.std.proofs.Common.{◌≡◌, ℤ, ◌≤ℤ◌, List, false, sym, ap, ◌∙◌, arith, true≢false, cond, int_lt, inl, inr, Ordering, Less, Equal, Greater}
-use Rattle.border_graph.proofs.Words.{ints, cases_Bool, IsTaken, Entry}
-use Rattle.std.specs.Ordering.{is_lt, int_cmp, nat_cmp, ordering_then}
+use Rattle.border_graph.proofs.Prelude.{Entry, IsTaken, cases_Bool, int_cmp, ints, is_lt, nat_cmp, ordering_then}
 
 first_no_lower : (a b : ℤ) (rest : Ordering) → is_lt (ordering_then (int_cmp b a) rest) ≡ false → a ≤ℤ b
 first_no_lower a b rest h = elim (cases_Bool (int_lt b a)) [

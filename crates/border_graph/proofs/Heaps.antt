@@ -1,10 +1,8 @@
 -- What waits in a heap of what is reversed: the lowest comes first.
 use Rattle.std.proofs.Common.{◌≡◌, zero, suc, ◌<◌, ◌⊎◌, inl, inr, List, [], ◌∷◌, length, get_or, refl, sym, ap, ◌∙◌, subst, arith, map, Contains, IsPermutation}
-use Rattle.border_graph.proofs.Words.{length-map, Contains-get_or, Contains-permutation, IsPermutation-sym, IsAdded}
-use Rattle.border_graph.proofs.Words.{IsTaken, get_or-map}
+use Rattle.border_graph.proofs.Prelude.{Contains-append_right, Contains-get_or, Contains-permutation, IsAdded, IsPermutation-sym, IsTaken, get_or-map, length-map}
 use Rattle.std.specs.List.{AllByRecursion}
 use Rattle.std.specs.declared.cmp.Reverse.{Reverse}
-use Rattle.std.proofs.lemmas.List.Elements.{Contains-append_right}
 
 module _ {X : Type 0} where
   contains_map : (xs : List (Reverse X)) (x : Reverse X) → Contains xs x → Contains (map (λ (r : Reverse X). r.0) xs) x.0

@@ -1,7 +1,5 @@
 -- The links inside a tile are those of a summary with the same rim and the same spills, in any order and among any others.
-use Rattle.std.proofs.Common.{◌≡◌, ℕ, ◌<◌, inl, inr, ℤ, List, length, get_or, refl, sym, ap, ◌∙◌, Contains}
-use Rattle.border_graph.proofs.Words.{OUT, Spill, RimPoint, Summary, Outlet, Rim, nowhere, rim_point, summary_at}
-use Rattle.border_graph.proofs.Words.{IsThere, IsLabelLink, IsInnerLink, IsLink}
+use Rattle.border_graph.proofs.Prelude.{Contains, IsInnerLink, IsLabelLink, IsLink, IsThere, List, OUT, Outlet, Rim, RimPoint, Spill, Summary, ℕ, ℤ, ap, get_or, inl, inr, length, nowhere, refl, rim_point, summary_at, sym, ◌<◌, ◌∙◌, ◌≡◌}
 
 module _ (n : ℕ) (old new : List Summary) (t u : ℕ) (small : u < length new) (rim : (summary_at new u).rim ≡ (summary_at old t).rim)
     (spills : (s : Spill) → Contains (summary_at old t).spills s → Contains (summary_at new u).spills s) where

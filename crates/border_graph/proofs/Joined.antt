@@ -1,20 +1,10 @@
 -- Joining is right: each link is a path of no greater crest, and a path out is cut at the rims that it crosses.
-use Rattle.std.proofs.Common.{suc, Bool, false, ◌≡◌, ◌≢◌, ℕ, ◌*◌, ◌+◌, ◌-◌, ◌<◌, ◌≤◌, ◌⊎◌, inl, inr, ℤ, pos, ◌≤ℤ◌, not, IsTrue, ◌&&◌, List, [], ◌∷◌, length, get_or, slice_index, slice_index_or, refl, sym, ap, ap₂, ◌∙◌, subst, arith, true≢false, map, Contains}
-use Rattle.border_graph.proofs.Words.{length-map, get_or_default, int_max, cases_Bool, cases_eq, cases_lt, Point}
-use Rattle.border_graph.proofs.Words.{Corner, point_of, end_of, IsFilledLevel, Mosaic, IsMosaic, void, is_ground}
-use Rattle.border_graph.proofs.Words.{is_rim, rim_number, ≤ℤ_trans, le-max_left, le-max_right, max-le, Spill, OUT}
-use Rattle.border_graph.proofs.Words.{rim_number_below, solid_below, linked_parts, Summary, IsWayBelow, IsJoinedLevel}
-use Rattle.border_graph.proofs.Words.{AreSummaries, IsSummaryOf, Summarizes, IsRimNumberOf, Node, Outlet, Rim}
-use Rattle.border_graph.proofs.Words.{rim_point, summary_at, IsThere, IsLabelLink, IsSpillLink, IsInnerLink, IsLink}
-use Rattle.border_graph.proofs.Words.{get_or-map, bare_block}
+use Rattle.border_graph.proofs.Prelude.{AreInOrder, AreSummaries, Bool, Contains, Corner, IsCrossing, IsFilledLevel, IsInnerLink, IsJoinedLevel, IsLabelLink, IsLabelOf, IsLink, IsMosaic, IsOutletLink, IsPath, IsRimNumberOf, IsSharedLink, IsSpillLink, IsSummaryOf, IsThere, IsTrue, IsWayBelow, LeadsOut, List, Mosaic, Node, OUT, Outlet, Point, Rim, Spill, Summarizes, Summary, ℕ, ℤ, [], and_parts, ap, ap₂, arith, bare_block, block_of, block_terrain, cases_Bool, cases_eq, cases_lt, crest, end_of, false, get_or, get_or-map, get_or_default, inl, inner_only, inr, int_max, is_ground, is_inner_outlet, is_linked, is_rim, is_solid, le-max_left, le-max_right, length, length-map, linked_parts, list_any, list_any_at, map, max-le, not, not_void, one_index, one_rim_point, or_cases, point_of, pos, refl, rim_number, rim_number_below, rim_point, rim_point_of, rising_from, slice_index, slice_index_or, solid_below, subst, suc, summary_at, sym, true≢false, void, ≤ℤ_trans, ◌&&◌, ◌*◌, ◌+◌, ◌-◌, ◌<◌, ◌∙◌, ◌∷◌, ◌≡◌, ◌≢◌, ◌≤ℤ◌, ◌≤◌, ◌⊎◌}
 use denote.Struct.Props.{props}
-use Rattle.std.proofs.lemmas.Bool.{and_parts, or_cases}
 use Rattle.lattice.specs.Corners.{is_corner, same_corner}
 use Rattle.lattice.specs.Lattice.{IsBefore, holds, index_of}
-use Rattle.lattice.specs.Terrain.{IsPath, crest, LeadsOut}
 use Rattle.lattice.specs.Mosaic.{Tile, is_present}
 use Rattle.lattice.specs.Ground.{is_outlet, is_adjacent, same_point, is_near, share_tile, terrain}
-use Rattle.lattice.specs.Block.{block_terrain, is_solid, is_linked, is_inner_outlet}
 use Rattle.lattice.proofs.Levels.{height-le_level, height-le_crest, level_is_unique, level_of_outlet, max-swap}
 use Rattle.lattice.proofs.Lawful.{terrain_is_lawful, block_is_lawful, five_parts}
 use Rattle.lattice.proofs.Samples.{index_of_point, holds_is, point_of_index, index_of_below, index_of_point_is, point_of_held}
@@ -22,21 +12,11 @@ use Rattle.lattice.proofs.FilledLevels.{filled_level_exists}
 use Rattle.tile_flood.specs.Spills.{Meets, IsSpill}
 use Rattle.tile_flood.proofs.Parts.{IsPart, path_onto, crest_onto, end_onto, end-le_crest, way_in_part}
 use Rattle.tile_flood.proofs.InMosaic.{block_is_part, ground_is, inner_outlet_is_outlet, adjacent_in_tile}
-use Rattle.tile_flood.proofs.Passages.{not_void}
 use Rattle.tile_flood.proofs.Squares.{solid_height, solid_if, rim_is_exit}
-use Rattle.border_graph.specs.Sharing.{AreInOrder}
 use Rattle.border_graph.specs.Links.{IsLinkBelow}
-use Rattle.border_graph.specs.Reduced.{IsCrossing, IsLabelOf}
 use Rattle.border_graph.proofs.Onward.{way_up}
-use Rattle.border_graph.specs.Joining.{IsOutletLink, IsSharedLink}
 use Rattle.lattice.proofs.CornerOrder.{same_from}
-use Rattle.lattice.proofs.RimNumbers.{one_rim_point, rim_point_of}
 use Rattle.border_graph.proofs.Ways.{WayOut, along, back, way_of_level, level_of_ways}
-use Rattle.std.specs.List.{list_any}
-use Rattle.std.proofs.lemmas.List.Folds.{list_any_at}
-use Rattle.lattice.proofs.Rising.{rising_from, one_index}
-use Rattle.tile_flood.specs.Blocks.{block_of}
-use Rattle.lattice.proofs.Interior.{inner_only}
 
 index_of_any : {X : Type 0} (f : X → Bool) (xs : List X) → IsTrue (list_any f xs) → (k : ℕ) × ((k < length xs) × ((d : X) → IsTrue (f (get_or xs k d))))
 index_of_any f [] h = absurd (true≢false (sym h))

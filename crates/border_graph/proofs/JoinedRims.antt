@@ -1,19 +1,7 @@
 -- The levels of rim points that are found over the graph of a mosaic are the filled levels of its rims.
-use Rattle.std.proofs.Common.{◌≡◌, ◌≢◌, ℕ, ◌*◌, ◌-◌, ◌<◌, ◌≤◌, inl, inr, ℤ, ◌≤ℤ◌, IsFalse, List, [], ◌∷◌, length, map, get_or, slice_index_or, refl, sym, ap, ◌∙◌, subst, arith, true≢false}
-use Rattle.border_graph.proofs.Words.{int_max, cases_lt, point_of, Mosaic, IsMosaic, void, is_ground, IsFilledLevel}
-use Rattle.border_graph.proofs.Words.{rim_number, ≤ℤ_same, ≤ℤ_antisym, le-max_left, max-le, rim_number_below, RimPoint}
-use Rattle.border_graph.proofs.Words.{Summary, IsWayBelow, IsJoinedLevel, Node, Outlet, Rim, AreSummaries, AreOfMosaic}
-use Rattle.border_graph.proofs.Words.{IsRimNumberOf, IsThere, IsLink, nowhere, rim_point, summary_at, node_number}
-use Rattle.border_graph.proofs.Words.{MosaicGraph, IsGraphOf, IsPlacedLink}
-use Rattle.std.proofs.lemmas.List.{get_or_past}
-use Rattle.lattice.specs.Ground.{terrain}
-use Rattle.lattice.proofs.IntTests.{eq_or_not}
-use Rattle.lattice.proofs.Levels.{height-le_level}
+use Rattle.border_graph.proofs.Prelude.{AreOfMosaic, AreReordered, AreRimsAt, AreSummaries, IsCutOff, IsFalse, IsFilledLevel, IsGraphOf, IsJoinedLevel, IsLink, IsMosaic, IsPlacedLink, IsRimAt, IsRimNumberOf, IsThere, IsWayBelow, List, Mosaic, MosaicGraph, Node, Outlet, Rim, RimPoint, Summary, ℕ, ℤ, [], ap, arith, cases_lt, eq_or_not, get_or, get_or_past, height-le_level, inl, inr, int_max, is_ground, le-max_left, length, map, max-le, node_number, not_void, nowhere, point_of, refl, rim_number, rim_number_below, rim_point, slice_index_or, solid_if, subst, summary_at, sym, terrain, true≢false, void, ≤ℤ_antisym, ≤ℤ_same, ◌*◌, ◌-◌, ◌<◌, ◌∙◌, ◌∷◌, ◌≡◌, ◌≢◌, ◌≤ℤ◌, ◌≤◌}
 use Rattle.tile_flood.specs.Raising.{AreRimLevels}
-use Rattle.tile_flood.proofs.Passages.{not_void}
-use Rattle.tile_flood.proofs.Squares.{solid_if}
 use Rattle.border_graph.specs.Joins.{IsSideOf, HaveNoSide, AreJoined, AreLevelled, LeadsNowhere}
-use Rattle.border_graph.specs.MosaicGraph.{AreReordered, IsRimAt, AreRimsAt, IsCutOff}
 use Rattle.border_graph.proofs.Joined.{of, there_at, ground_at, solid_at, joined_is_filled, is_joined, are_in_order}
 use Rattle.border_graph.proofs.PlacedWays.{joined_over_links, to_placed}
 use Rattle.border_graph.proofs.Turned.{height_there}

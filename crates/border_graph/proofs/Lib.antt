@@ -1,4 +1,4 @@
-pub mod Words
+mod Prelude
 pub mod Heaps
 pub mod Joined
 pub mod Inside

@@ -1,7 +1,5 @@
 -- Edges listed one by one.
-use Rattle.std.proofs.Common.{◌≡◌, ℕ, ◌+◌, ◌<◌, ◌≤◌, ◌⊎◌, inl, inr, List, [], ◌∷◌, ◌++◌, length, get_or, sym, ap, ◌∙◌, subst, arith, Contains}
-use Rattle.border_graph.proofs.Words.{cases_lt, get_or_default, Contains-get_or, Contains-append_left, Contains-push}
-use Rattle.border_graph.proofs.Words.{Contains-push_cases, Spill, Edge, AreListed}
+use Rattle.border_graph.proofs.Prelude.{AreListed, Contains, Contains-append_left, Contains-get_or, Contains-push, Contains-push_cases, Edge, List, Spill, ℕ, [], ap, arith, cases_lt, get_or, get_or_default, inl, inr, length, subst, sym, ◌++◌, ◌+◌, ◌<◌, ◌∙◌, ◌∷◌, ◌≡◌, ◌≤◌, ◌⊎◌}
 use Rattle.border_graph.specs.TileGraph.{AreListedStill}
 
 -- one edge more

@@ -1,9 +1,5 @@
 -- No link is below the void.
-use Rattle.std.proofs.Common.{ℕ, ◌<◌, ℤ, ◌≤ℤ◌, inl, inr, List, length, slice_index_or, sym, subst}
-use Rattle.border_graph.proofs.Words.{int_max, Mosaic, IsMosaic, void, ≤ℤ_trans, le-max_right, linked_parts, Summary}
-use Rattle.border_graph.proofs.Words.{Node, Outlet, Rim, summary_at, rim_point, AreSummaries, AreOfMosaic, IsThere}
-use Rattle.border_graph.proofs.Words.{IsLink, IsInnerLink, IsSpillLink, IsPlacedLink}
-use Rattle.tile_flood.proofs.Raised.{lowest_height}
+use Rattle.border_graph.proofs.Prelude.{AreOfMosaic, AreSummaries, IsInnerLink, IsLink, IsMosaic, IsPlacedLink, IsSpillLink, IsThere, List, Mosaic, Node, Outlet, Rim, Summary, ℕ, ℤ, inl, inr, int_max, le-max_right, length, linked_parts, lowest_height, rim_point, slice_index_or, subst, summary_at, sym, void, ≤ℤ_trans, ◌<◌, ◌≤ℤ◌}
 use Rattle.border_graph.proofs.Joined.{of, at_node, height-le_level_at, spill_of}
 
 module _ (m : Mosaic) (is : IsMosaic m) (summaries : List Summary) (all : AreSummaries m summaries) where

@@ -1,9 +1,5 @@
 -- The graph of a mosaic as its fields hold it: a graph of each tile, and levels of nodes.
-use Rattle.std.proofs.Common.{◌≡◌, ◌≢◌, ℕ, ◌+◌, ◌*◌, ◌-◌, ◌^◌, ◌<◌, ◌≤◌, inl, inr, ℤ, pos, List, [], ◌∷◌, ◌++◌, length, length-append, get_or, set, sym, ap, ◌∙◌, subst, arith, get_or-set_same, get_or-set_other, SFits, w16, ◌≤ℤ◌}
-use Rattle.border_graph.proofs.Words.{int_max, cases_eq, cases_lt, ints, length-map, get_or_default, get_or-map, Corner}
-use Rattle.border_graph.proofs.Words.{void, ≤ℤ_antisym, le-max_right, Summary, Rim, AreOfMosaic, rim_point, summary_at}
-use Rattle.border_graph.proofs.Words.{node_number, AreAllEdges, AreEdges, IsPlacedLink, IsReordered, TileGraph}
-use Rattle.border_graph.proofs.Words.{corner_at, AreTileEdges, MosaicGraph, IsGraphOf, graph_of, Edge}
+use Rattle.border_graph.proofs.Prelude.{AreAllEdges, AreEdges, AreOfMosaic, AreTileEdges, Corner, Edge, IsGraphOf, IsPlacedLink, IsReordered, List, MosaicGraph, Rim, SFits, Summary, TileGraph, ℕ, ℤ, [], ap, arith, cases_eq, cases_lt, corner_at, get_or, get_or-map, get_or-set_other, get_or-set_same, get_or_default, graph_of, inl, inr, int_max, ints, le-max_right, length, length-append, length-map, node_number, pos, rim_point, set, subst, summary_at, sym, void, w16, ≤ℤ_antisym, ◌*◌, ◌++◌, ◌+◌, ◌-◌, ◌<◌, ◌^◌, ◌∙◌, ◌∷◌, ◌≡◌, ◌≢◌, ◌≤ℤ◌, ◌≤◌}
 use Rattle.std.proofs.Math.ListN.{get_or-append}
 use Rattle.std.proofs.Math.Seq.{get_or-append_seam}
 use Rattle.border_graph.specs.MosaicGraph.{AreReordered, IsFound, IsLevelAt, IsWhole}

@@ -1,6 +1,5 @@
 -- Ways over links, one after another.
-use Rattle.std.proofs.Common.{ℕ, ℤ, ◌≤ℤ◌, List, [], ◌∷◌, sym, subst}
-use Rattle.border_graph.proofs.Words.{≤ℤ_trans, IsWayBelow}
+use Rattle.border_graph.proofs.Prelude.{IsWayBelow, List, ℕ, ℤ, [], subst, sym, ≤ℤ_trans, ◌∷◌, ◌≤ℤ◌}
 
 -- a way to a, and on from there
 pub go_on : (L : ℕ → ℕ → ℤ → Type 0) (a b : ℕ) (level : ℤ) (x : ℕ) (rest more : List ℕ) → IsWayBelow L a level x rest → IsWayBelow L b level a more → (all : List ℕ) × IsWayBelow L b level x all

@@ -1,8 +1,5 @@
 -- The least levels over links between nodes by their numbers are those over the links between rim points.
-use Rattle.std.proofs.Common.{◌≡◌, ℕ, ◌+◌, ◌-◌, ◌*◌, ◌/◌, ◌<◌, ℤ, ◌≤ℤ◌, List, [], ◌∷◌, refl, sym, ap, ◌∙◌, subst, arith, map}
-use Rattle.border_graph.proofs.Words.{Summary, IsWayBelow, IsJoinedLevel, Node, Outlet, Rim, IsThere, IsLink}
-use Rattle.border_graph.proofs.Words.{node_number, IsPlacedLink}
-use Rattle.tile_flood.proofs.Squares.{row_of_cell}
+use Rattle.border_graph.proofs.Prelude.{IsJoinedLevel, IsLink, IsPlacedLink, IsThere, IsWayBelow, List, Node, Outlet, Rim, Summary, ℕ, ℤ, [], ap, arith, map, node_number, refl, row_of_cell, subst, sym, ◌*◌, ◌+◌, ◌-◌, ◌/◌, ◌<◌, ◌∙◌, ◌∷◌, ◌≡◌, ◌≤ℤ◌}
 
 pub one_tile : (size t u k l : ℕ) → k < size → l < size → 1 + t * size + k ≡ 1 + u * size + l → t ≡ u
 one_tile size t u k l in_k in_l same =

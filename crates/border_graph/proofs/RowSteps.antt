@@ -1,8 +1,6 @@
 -- Rows of spills by the labels that they lead from.
 use Rattle.std.proofs.Common.{◌≡◌, ℕ, ◌+◌, ◌-◌, ◌<◌, ◌≤◌, inl, inr, pos, true, false, List, [], ◌∷◌, ◌++◌, length, map, drop, get_or, refl, sym, ap, ◌∙◌, subst, arith, Contains, leb, ltb, leb-true, leb-false, ltb-true, ltb-false, length-drop, ◌↔◌, ◌*◌, slice_range}
-use Rattle.border_graph.proofs.Words.{cases_lt, length-map, Contains-push, Contains-push_cases, Contains-append_left}
-use Rattle.border_graph.proofs.Words.{Contains-permutation, IsPermutation-sym, get_or-map, Spill, Summary, rim_point}
-use Rattle.border_graph.proofs.Words.{turned}
+use Rattle.border_graph.proofs.Prelude.{Contains-append_left, Contains-permutation, Contains-push, Contains-push_cases, IsPermutation-sym, Spill, Summary, cases_lt, get_or-map, length-map, rim_point, turned}
 use Rattle.std.specs.List.Sorted.{IsPartitionPoint, IsPermutation}
 use Rattle.std.proofs.lemmas.List.{get_or-take, get_or-drop, length-take-le}
 use Rattle.border_graph.specs.Rows.{IsFromLabel, AreTurned, AreLabelsTurned}

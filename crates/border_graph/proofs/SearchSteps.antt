@@ -1,13 +1,9 @@
 -- The steps of a bottleneck search from a start over links: what is visited next ends a least path (after the correctness
 -- argument of Barnes, Lehman and Mulla 2014).
 use Rattle.std.proofs.Common.{◌≡◌, ℕ, zero, suc, ◌+◌, ◌<◌, ◌≤◌, ◌⊎◌, inl, inr, ℤ, ◌≤ℤ◌, ◌<ℤ◌, true, false, IsTrue, List, [], ◌∷◌, length, get_or, refl, sym, ap, ◌∙◌, subst, arith, true≢false, Contains}
-use Rattle.border_graph.proofs.Words.{int_max, cases_Bool, cases_eq, cases_lt, ints, get_or_default, Contains-get_or}
-use Rattle.border_graph.proofs.Words.{void, ≤ℤ_same, ≤ℤ_trans, le-max_left, le-max_right, max-le, IsWayBelow}
-use Rattle.border_graph.proofs.Words.{IsJoinedLevel, Edge, Settled, Entry, AreAllEdges, AreEdges, IsReachedBelow}
-use Rattle.border_graph.proofs.Words.{IsAdded, is_among, IsNext, AreRaised, IsEnd}
+use Rattle.border_graph.proofs.Prelude.{AreAllEdges, AreEdges, AreRaised, Contains-get_or, Edge, Entry, IsAdded, IsEnd, IsJoinedLevel, IsNext, IsReachedBelow, IsWayBelow, NoneLeft, Settled, cases_Bool, cases_eq, cases_lt, get_or_default, int_max, ints, is_among, le-max_left, le-max_right, max-le, void, ≤ℤ_same, ≤ℤ_trans}
 use Rattle.std.proofs.lemmas.Int.{clamps}
 use Rattle.border_graph.proofs.Onward.{way_up, go_on}
-use Rattle.border_graph.specs.Frontier.{NoneLeft}
 use Rattle.border_graph.proofs.Forests.Next.{taken_still, taken_other}
 use Rattle.border_graph.specs.Bottleneck.{raised, IsSettledBy, WaitsBelow, IsExpanded, IsOn, IsSearching}
 

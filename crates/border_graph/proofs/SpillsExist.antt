@@ -1,10 +1,7 @@
 -- Levels and labels of a block have their spills.
 use Rattle.std.proofs.Common.{◌≡◌, ℕ, zero, suc, ◌+◌, ◌*◌, ◌/◌, ◌%◌, ◌<◌, ◌⊎◌, inl, inr, ℤ, ◌≤ℤ◌, List, [], ◌∷◌, get_or, slice_index, slice_index_or, min, max, refl, sym, ap, ◌∙◌, subst, arith, true≢false, int_le, All, Contains, AllPairs}
-use Rattle.border_graph.proofs.Words.{int_max, ints, cases_Bool, cases_lt, cases_eq, Contains-get_or, void, ≤ℤ_same}
-use Rattle.border_graph.proofs.Words.{Spill, bare_block, linked_parts, solid_below}
-use Rattle.std.proofs.lemmas.List.Elements.{All-contains, Contains-append_right}
+use Rattle.border_graph.proofs.Prelude.{All-contains, Contains-append_right, Contains-get_or, Spill, bare_block, cases_Bool, cases_eq, cases_lt, int_max, ints, is_linked, linked_parts, solid_below, void, ≤ℤ_same}
 use Rattle.std.proofs.lemmas.List.Kept.{AllPairs-cons}
-use Rattle.lattice.specs.Block.{is_linked}
 use Rattle.lattice.proofs.IntTests.{le_true, le_false}
 use Rattle.tile_flood.specs.Spills.{HaveSameLabels, AreSpills}
 use Rattle.tile_flood.specs.Passing.{IsPassage, IsListed, ArePassages, IsFound}

@@ -1,24 +1,14 @@
 -- Each tile has a summary, though it may have many.
-use Rattle.std.proofs.Common.{◌≡◌, ℕ, suc, ◌*◌, ◌-◌, ◌/◌, ◌<◌, inl, inr, ℤ, Bool, true, false, ◌&&◌, IsTrue, List, [], length, slice_index_or, slice_index, refl, sym, ap, ◌∙◌, subst, arith, true≢false}
-use Rattle.border_graph.proofs.Words.{cases_Bool, Corner, point_of, IsFilledLevel, end_of, Mosaic, IsMosaic, void}
-use Rattle.border_graph.proofs.Words.{is_rim, rim_number, bare_block, OUT, rim_number_below, solid_below, RimPoint}
-use Rattle.border_graph.proofs.Words.{Summary, nowhere, IsSummaryOf}
+use Rattle.border_graph.proofs.Prelude.{Bool, Corner, IsFilledLevel, IsMosaic, IsSummaryOf, IsTrue, List, Mosaic, OUT, RimPoint, Summary, ℕ, ℤ, [], ap, arith, bare_block, block_is_lawful, block_of, cases_Bool, end_of, false, height_of, inl, inr, is_corner, is_outlet, is_rim, length, level_of_outlet, lowest_height, metres, nowhere, point_of, refl, rim_number, rim_number_below, slice_index, slice_index_or, solid_below, subst, suc, sym, true, true≢false, void, ◌&&◌, ◌*◌, ◌-◌, ◌/◌, ◌<◌, ◌∙◌, ◌≡◌}
 use Rattle.std.proofs.lemmas.Bool.{or_cases, or_right, and_parts}
-use Rattle.lattice.specs.Corners.{is_corner}
-use Rattle.lattice.specs.Height.{height_of}
-use Rattle.lattice.specs.Ground.{is_outlet, metres}
 use Rattle.lattice.specs.Block.{IsBlockOf, block_terrain, is_solid, is_exit, is_inner_outlet}
 use Rattle.lattice.specs.SinkIndices.{sinks_in}
 use Rattle.lattice.specs.RimPoints.{rim_index}
 use Rattle.lattice.proofs.Existence.{level_exists}
-use Rattle.lattice.proofs.Lawful.{block_is_lawful}
-use Rattle.lattice.proofs.Levels.{level_of_outlet}
 use Rattle.lattice.proofs.RimNumbers.{rim_index_of_number}
 use Rattle.lattice.proofs.SinkIndices.{block_from}
-use Rattle.tile_flood.specs.Blocks.{block_of}
 use Rattle.tile_flood.specs.Labelling.{IsLabelling, IsLabelAt, NO_LABEL}
 use Rattle.tile_flood.proofs.Passages.{spills_of_ground}
-use Rattle.tile_flood.proofs.Raised.{lowest_height}
 use Rattle.tile_flood.proofs.Squares.{leads}
 use Rattle.border_graph.proofs.Tabulated.{tabulated, length-tabulated, at_number, among_numbers}
 use Rattle.border_graph.proofs.SpillsExist.{spills_exist}

@@ -1,7 +1,5 @@
 -- A list of the values of a function.
-use Rattle.std.proofs.Common.{◌≡◌, ℕ, zero, suc, ◌+◌, ◌<◌, Bool, IsTrue, List, [], ◌∷◌, length, get_or, refl, sym, ap, subst, arith, ◌∙◌}
-use Rattle.std.specs.List.{list_any}
-use Rattle.std.proofs.lemmas.List.Folds.{list_any_at}
+use Rattle.border_graph.proofs.Prelude.{Bool, IsTrue, List, ℕ, [], ap, arith, get_or, length, list_any, list_any_at, refl, subst, suc, sym, zero, ◌+◌, ◌<◌, ◌∙◌, ◌∷◌, ◌≡◌}
 
 -- those at so many numbers from k on
 pub tabulated : {X : Type 0} → (ℕ → X) → ℕ → ℕ → List X

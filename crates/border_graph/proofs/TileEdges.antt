@@ -1,20 +1,8 @@
 -- The edges from a rim point, as they are listed of its tile and of the others that hold the point, are all its links; and
 -- where the tiles are those of a mosaic, no others.
-use Rattle.std.proofs.Common.{◌≡◌, ◌≢◌, ℕ, ◌+◌, ◌*◌, ◌-◌, ◌<◌, inl, inr, ℤ, IsTrue, ◌≤◌, List, [], ◌∷◌, length, get_or, pos, refl, sym, ap, ◌∙◌, subst, arith, Contains}
-use Rattle.border_graph.proofs.Words.{cases_Bool, Contains-permutation, IsPermutation-sym, Point, Corner, point_of}
-use Rattle.border_graph.proofs.Words.{Mosaic, IsMosaic, void, is_ground, is_rim, rim_number, Spill, RimPoint, Summary}
-use Rattle.border_graph.proofs.Words.{Node, Outlet, Rim, nowhere, summary_at, rim_point, AreSummaries, AreOfMosaic}
-use Rattle.border_graph.proofs.Words.{IsThere, IsLink, IsRimNumberOf, node_number, IsReordered, AreAllEdges, AreEdges}
-use Rattle.border_graph.proofs.Words.{IsPlacedLink, corner_at, AreTileEdges, TileGraph, Edge}
-use Rattle.lattice.specs.Lattice.{IsIndexOf}
-use Rattle.lattice.proofs.IntTests.{eq_or_not}
-use Rattle.lattice.proofs.Interior.{inner_only}
-use Rattle.lattice.proofs.Rising.{rising_from, one_index}
+use Rattle.border_graph.proofs.Prelude.{AreAllEdges, AreApart, AreEdges, AreOfMosaic, AreSummaries, AreTileEdges, Contains, Contains-permutation, Corner, Edge, IsIndexOf, IsLink, IsMosaic, IsPermutation-sym, IsPlacedLink, IsReordered, IsRimNumberOf, IsSharedLink, IsThere, IsToOther, IsTrue, List, Mosaic, Node, Outlet, Point, Rim, RimPoint, Spill, Summary, TileGraph, ℕ, ℤ, [], ap, arith, cases_Bool, corner_at, eq_or_not, get_or, inl, inner_only, inr, is_ground, is_rim, length, node_number, nowhere, one_index, one_rim_point, point_of, pos, refl, rim_number, rim_point, rising_from, subst, summary_at, sym, void, ◌*◌, ◌+◌, ◌-◌, ◌<◌, ◌∙◌, ◌∷◌, ◌≡◌, ◌≢◌, ◌≤◌}
 use Rattle.lattice.proofs.Samples.{index_below, index_unique, index_of_point, held_at, point_at_index}
-use Rattle.lattice.proofs.RimNumbers.{one_rim_point}
-use Rattle.border_graph.specs.Joining.{IsSharedLink}
 use Rattle.border_graph.specs.Sharing.{AreInOrder, IsOfRim}
-use Rattle.border_graph.specs.Others.{AreApart, IsToOther}
 use Rattle.border_graph.proofs.Joined.{at_node, ground_at, solid_at, there_at, are_in_order}
 use Rattle.border_graph.proofs.PlacedWays.{one_tile, one_number, is_there}
 use Rattle.border_graph.proofs.Inside.{out_link, inner_link}

@@ -1,9 +1,6 @@
 -- The edges inside a tile, as they are listed of the rows of its rim points.
 use Rattle.std.proofs.Common.{◌≡◌, ℕ, zero, suc, ◌+◌, inl, inr, ℤ, List, [], ◌∷◌, length, refl, sym, ap, ◌∙◌, subst, arith, Contains, IsTrue, IsFalse, true, false, true≢false, ◌↔◌, ◌⊎◌, Option, Some, None, IfSome, IfNone, is_some}
-use Rattle.border_graph.proofs.Words.{cases_Bool, cases_eq, OUT, Spill, Summary, RimPoint, Rim, IsThere, IsLabelLink}
-use Rattle.border_graph.proofs.Words.{IsSpillLink, IsInnerLink, IsLink, rim_point, turned, Edge, AreListed, out_at}
-use Rattle.border_graph.proofs.Words.{across}
-use Rattle.border_graph.specs.Joining.{IsOutletLink}
+use Rattle.border_graph.proofs.Prelude.{AreListed, Edge, IsInnerLink, IsLabelLink, IsLink, IsOutletLink, IsSpillLink, IsThere, OUT, Rim, RimPoint, Spill, Summary, across, cases_Bool, cases_eq, out_at, rim_point, turned}
 use Rattle.border_graph.specs.TileGraph.{AreTileRows, AreEdgesOut, AreEdgesAcross}
 use Rattle.border_graph.proofs.Listing.{listed_all}
 

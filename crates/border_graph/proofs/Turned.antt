@@ -1,10 +1,5 @@
 -- A link between rim points leads back too, at the same level.
-use Rattle.std.proofs.Common.{◌≡◌, ℕ, ◌+◌, ◌*◌, ◌-◌, ◌<◌, ℤ, inl, inr, List, length, sym, ap, ◌∙◌, subst, arith}
-use Rattle.border_graph.proofs.Words.{Point, Mosaic, IsMosaic, Summary, Node, Outlet, Rim, summary_at, rim_point}
-use Rattle.border_graph.proofs.Words.{AreSummaries, AreOfMosaic, IsLink, IsInnerLink, IsRimNumberOf, node_number}
-use Rattle.border_graph.proofs.Words.{IsPlacedLink}
-use Rattle.lattice.specs.Ground.{metres}
-use Rattle.lattice.specs.Height.{height_of}
+use Rattle.border_graph.proofs.Prelude.{AreOfMosaic, AreSummaries, IsInnerLink, IsLink, IsMosaic, IsPlacedLink, IsRimNumberOf, List, Mosaic, Node, Outlet, Point, Rim, Summary, ℕ, ℤ, ap, arith, height_of, inl, inr, length, metres, node_number, rim_point, subst, summary_at, sym, ◌*◌, ◌+◌, ◌-◌, ◌<◌, ◌∙◌, ◌≡◌}
 use Rattle.border_graph.proofs.Joined.{of}
 use Rattle.border_graph.proofs.SearchSteps.{IsTwoWay}
 use Rattle.border_graph.proofs.Told.{inner_turned}

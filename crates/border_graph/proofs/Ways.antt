@@ -1,6 +1,5 @@
 -- Ways out of a terrain of no more than a level.
-use Rattle.std.proofs.Common.{ℤ, ◌≤ℤ◌, List, subst, sym}
-use Rattle.border_graph.proofs.Words.{int_max, end_of, IsFilledLevel, ≤ℤ_trans, ≤ℤ_same, max-le, ≤ℤ_antisym}
+use Rattle.border_graph.proofs.Prelude.{IsFilledLevel, List, ℤ, end_of, int_max, max-le, subst, sym, ≤ℤ_antisym, ≤ℤ_same, ≤ℤ_trans, ◌≤ℤ◌}
 use Rattle.lattice.specs.Terrain.{Terrain, IsPath, crest, LeadsOut, IsLawful}
 use Rattle.tile_flood.proofs.Parts.{go_on, go_back}
 

@@ -1,12 +1,9 @@
 -- Reads, and a question after them, are a question.
 use Rattle.std.proofs.Common.{◌≡◌, ◌≢◌, ℕ, ◌⊎◌, inl, inr, Result, Ok, Err, refl, sym, ◌∙◌, ap, subst}
 use Rattle.std.specs.Prelude.{IsOk, IfErr, OnOk, IsErrOf}
-use Rattle.lattice.specs.declared.refusal.Refusal.{Refusal}
+use Rattle.catalogue.proofs.Prelude.{Ghosts, MayRefuse, OnlyReads, Refusal, reads_of}
 use Rattle.lattice.specs.declared.refusal.Refusal.TheVariants.{Device, Failed, NoMemory, Damaged}
-use Rattle.catalogue.specs.Reading.{MayRefuse}
-use Rattle.catalogue.specs.Readers.{OnlyReads, reads_of}
 use Rattle.catalogue.specs.Asked.{Asked, IsOwnRefusal}
-use Rattle.catalogue.specs.declared.samples.Samples.{Ghosts}
 use Rattle.catalogue.proofs.Reading.{reads_as, reads_on, reads_refused}
 
 device_is_other : {T : Type 0} (r : Refusal) → r ≡ Device → ◌≢◌ {A = Result T Refusal} (Err r) (Err Damaged)

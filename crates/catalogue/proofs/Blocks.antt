@@ -1,24 +1,11 @@
 -- A tile's own samples, as they become its block.
-use Rattle.std.proofs.Common.{◌≡◌, ℕ, ◌+◌, ◌-◌, ◌*◌, ◌<◌, ◌≤◌, ℤ, false, List, ◌++◌, length, take, inl, inr, refl, sym, ◌∙◌, ap, ap₂, subst, arith}
-use Rattle.std.specs.Prelude.{Option, Some, None, IsSomeAnd, slice_get, slice_range, slice_set, slice_index_or, Contains}
+use Rattle.catalogue.proofs.Prelude.{AreHeightsOf, AreSamplesOf, Contains, Corner, IsMosaic, IsRimPoint, IsSomeAnd, List, Mosaic, None, Option, Some, ℕ, ℤ, ap, ap₂, arith, cases_Bool, cases_eq, corners_of, false, height_of, inl, inner_only, inr, is_rim, length, metres, number_below, one_index, point_of, refl, rim_number, samples_of, slice_get, slice_index_or, slice_range, slice_set, subst, sym, take, void, ◌*◌, ◌++◌, ◌+◌, ◌-◌, ◌<◌, ◌∙◌, ◌≡◌, ◌≤◌}
 use Rattle.std.proofs.lemmas.Option.{slice_get-get_or}
 use Rattle.std.proofs.lemmas.List.{get_or-set_other, length-set, set-get_or}
 use Rattle.std.proofs.lemmas.Grind.{get_or-set_at}
 use Rattle.std.proofs.Math.Seq.{take-length, take-append_seam}
-use Rattle.std.proofs.lemmas.Bool.{cases_Bool, cases_eq}
-use Rattle.lattice.specs.Corners.{Corner}
-use Rattle.lattice.specs.Lattice.{point_of}
-use Rattle.lattice.specs.Mosaic.{Mosaic, IsMosaic, void, samples_of}
-use Rattle.lattice.specs.Height.{height_of}
-use Rattle.lattice.specs.Ground.{metres}
-use Rattle.lattice.specs.Block.{AreHeightsOf, is_rim, rim_number}
-use Rattle.lattice.specs.RimPoints.{IsRimPoint}
-use Rattle.lattice.proofs.Interior.{inner_only}
-use Rattle.lattice.proofs.RimNumbers.{one_index, number_below}
 use Rattle.lattice.proofs.Samples.{index_of_point}
-use Rattle.catalogue.specs.Reading.{AreSamplesOf}
 use Rattle.catalogue.specs.Elsewhere.{IsOwnOrHeight, is_held_elsewhere}
-use Rattle.catalogue.specs.Tiles.{corners_of}
 use Rattle.catalogue.proofs.OneTile.{corner_is}
 use Rattle.catalogue.proofs.OwnHeights.{own_height, whole_tile}
 use Rattle.catalogue.proofs.Elsewhere.{only_holder}

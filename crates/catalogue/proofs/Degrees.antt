@@ -1,20 +1,9 @@
 -- Adjacent points are within the numbers of 32 bits, so that the steps that can be made are enough.
-use Rattle.std.proofs.Common.{◌≡◌, ℕ, ◌+◌, ◌-◌, ◌*◌, ◌≤◌, ℤ, pos, negsuc, ◌*ℤ◌, ◌≤ℤ◌, Bool, true, false, cond, not, ◌&&◌, List, [], ◌∷◌, refl, sym, ◌∙◌, ap, arith}
-use Rattle.std.specs.Prelude.{count_by, int_le}
+use Rattle.catalogue.proofs.Prelude.{Bool, Corner, Dir, Holds, IsMosaic, List, Mosaic, Point, Step, ℕ, ℤ, [], and_from, and_parts, ap, arith, cond, count_by, degree_of, directions, false, false_from_ne_true, false≢true, int_le, ints, is_adjacent, is_ground, is_near, negsuc, not, pos, refl, same_point, share_tile, step, sym, true, ◌&&◌, ◌*ℤ◌, ◌*◌, ◌+◌, ◌-◌, ◌∙◌, ◌∷◌, ◌≡◌, ◌≤ℤ◌, ◌≤◌}
 use Rattle.std.specs.List.{fold}
-use Rattle.std.proofs.lemmas.Int.{ints}
 use Rattle.std.proofs.Math.Nat.{mul-le-mul_left, mul-le-mul_right}
-use Rattle.std.proofs.lemmas.Bool.{and_parts, and_from, false≢true, false_from_ne_true}
-use Rattle.lattice.specs.declared.point.Point.{Point}
-use Rattle.lattice.specs.declared.direction.Dir.{Dir}
-use Rattle.lattice.specs.declared.direction.Step.{Step}
-use Rattle.lattice.specs.Corners.{Corner}
-use Rattle.lattice.specs.Lattice.{Holds}
-use Rattle.lattice.specs.Steps.{step, directions}
 use Rattle.lattice.specs.Stepping.{reach_of, fits_number, fits_point}
-use Rattle.lattice.specs.Mosaic.{Mosaic, IsMosaic}
 use Rattle.lattice.proofs.IntTests.{le_from}
-use Rattle.lattice.specs.Ground.{is_ground, is_near, same_point, share_tile, is_adjacent, degree_of}
 use Rattle.lattice.specs.Limits.{largest_side}
 use Rattle.catalogue.proofs.Sharing.{shared_says}
 use Rattle.catalogue.proofs.Rows.{corner_range}

@@ -1,9 +1,6 @@
 -- Whether samples differ, as far as a search has come.
-use Rattle.std.proofs.Common.{ℤ, Bool, not, List}
-use Rattle.std.specs.Prelude.{Option, Some, None}
+use Rattle.catalogue.proofs.Prelude.{Bool, List, None, Option, Some, ℤ, differ, list_any, not}
 use Rattle.std.specs.Ordering.{int_eq}
-use Rattle.std.specs.List.{list_any}
-use Rattle.lattice.specs.Height.{differ}
 
 -- two of these samples differ, or one from the first that was found
 abbrev pub differ_from : Option ℤ → List ℤ → Bool

@@ -1,15 +1,5 @@
 -- Points that a present tile other than the corner's holds.
-use Rattle.std.proofs.Common.{◌≡◌, ℕ, ◌<◌, true, false, inl, inr, not, ◌&&◌, List, length, get_or, sym, ap, ◌∙◌, subst}
-use Rattle.std.specs.Prelude.{Contains}
-use Rattle.std.proofs.lemmas.Bool.{and_parts, and_from, false_from_ne_true, cases_Bool, false≢true}
-use Rattle.lattice.specs.Corners.{Corner, same_corner}
-use Rattle.lattice.specs.Lattice.{Holds, holds}
-use Rattle.lattice.specs.Mosaic.{Mosaic, IsMosaic}
-use Rattle.lattice.specs.declared.point.Point.{Point}
-use Rattle.lattice.proofs.Samples.{holds_is}
-use Rattle.catalogue.specs.Tiles.{corners_of}
-use Rattle.catalogue.specs.Elsewhere.{is_held_elsewhere}
-use Rattle.lattice.proofs.CornerOrder.{same_says}
+use Rattle.catalogue.proofs.Prelude.{Contains, Corner, Holds, IsMosaic, List, Mosaic, Point, ℕ, and_from, and_parts, ap, cases_Bool, corners_of, false, false_from_ne_true, false≢true, get_or, holds, holds_is, inl, inr, is_held_elsewhere, length, not, same_corner, same_says, subst, sym, true, ◌&&◌, ◌<◌, ◌∙◌, ◌≡◌}
 use Rattle.catalogue.proofs.Presence.{any_from, any_says}
 use Rattle.catalogue.proofs.OneTile.{corner_is}
 

@@ -1,24 +1,15 @@
 -- A map from corners to samples, and the tiles that it holds.
 use Rattle.std.proofs.Common.{◌≡◌, ℕ, ◌*◌, ◌<◌, ◌≤◌, ℤ, Bool, true, false, cond, not, ◌||◌, IsTrue, IsFalse, List, [], ◌∷◌, length, map, Some, None, option_map, refl, sym, ◌∙◌, ap, ap₂, subst, vec_len}
-use Rattle.std.specs.Global.{Vec}
+use Rattle.catalogue.proofs.Prelude.{All-head, All-tail, AllAfter, Corner, IsMosaic, IsSample, IsTile, Mosaic, Point, Rising, Tile, Vec, added, cond-false, false≢true, is_before, is_corner, is_present, is_some, or_parts, same_corner, samples_among, samples_of, slice_set, with_sample, with_sample_in, with_tile, without}
 use Rattle.std.specs.List.{All, filter, list_any}
 use Rattle.std.specs.Ordering.{MatchOrdering, match_ordering, is_eq}
-use Rattle.std.specs.Prelude.{slice_set, is_some}
 use Rattle.std.specs.BTreeMap.{insert_entry, is_at}
 use Rattle.std.specs.Map.{lookup, keys_of, remove_entry, set_value}
 use Rattle.std.specs.declared.cmp.Ordering.{Ordering}
 use Rattle.std.specs.declared.cmp.Ordering.TheVariants.{Less, Equal, Greater}
-use Rattle.std.proofs.lemmas.List.Elements.{All-head, All-tail}
-use Rattle.std.proofs.lemmas.Bool.{or_parts, false≢true, cond-false}
-use Rattle.lattice.specs.Corners.{Corner, is_corner, is_before, same_corner}
-use Rattle.lattice.specs.Mosaic.{Tile, Mosaic, IsSample, IsTile, IsMosaic, is_present, samples_among, samples_of}
 use Rattle.catalogue.specs.Entries.{tiles_in}
-use Rattle.catalogue.specs.Tiles.{with_tile, added, without}
-use Rattle.catalogue.specs.Tables.{with_sample_in, with_sample}
 use Rattle.catalogue.proofs.Mosaics.{corner_of, rising_tiles, mosaic-added, mosaic-without, mosaic-with_sample}
-use Rattle.lattice.specs.declared.point.Point.{Point}
 use Rattle.lattice.proofs.CornerOrder.{corner_cmp, ranked_corners, same_says, same_from, before_not_same, after_not_same, before_not_back}
-use Rattle.lattice.proofs.Rising.{AllAfter, Rising}
 
 abbrev Entry : Type 0
 Entry = Corner × Vec ℤ

@@ -1,19 +1,7 @@
 -- The samples at a point, looked up by the corners that hold it.
-use Rattle.std.proofs.Common.{◌≡◌, ℕ, ℤ, ◌↔◌, Bool, true, false, cond, ◌||◌, IsTrue, List, [], ◌∷◌, map, refl, sym, ◌∙◌, ap, ap₂, subst}
-use Rattle.std.specs.Prelude.{Option, Some, None, option_map, slice_index_or, Contains, All}
+use Rattle.catalogue.proofs.Prelude.{Adjacent, All, All-head, All-tail, AllAfter, Bool, Contains, Corner, Holds, IsMosaic, IsTile, IsTrue, List, Mosaic, None, Option, Point, Rising, Some, Tile, ℕ, ℤ, [], after_later, after_not_same, ap, ap₂, cond, false, false_from_ne_true, false≢true, holds, holds_is, index_of, is_before, is_corner, is_listed, map, option_map, refl, rising_from, same_comm, same_corner, same_from, same_says, sample_in, samples_among, slice_index_or, subst, sym, true, void, ◌||◌, ◌↔◌, ◌∙◌, ◌∷◌, ◌≡◌}
 use Rattle.std.specs.List.{filter, filter_map, cons_option}
-use Rattle.std.proofs.lemmas.Bool.{false≢true, false_from_ne_true}
-use Rattle.std.proofs.lemmas.List.Elements.{All-head, All-tail}
-use Rattle.lattice.specs.Corners.{Corner, is_corner, is_before, same_corner}
-use Rattle.lattice.specs.Lattice.{Holds, holds, index_of}
-use Rattle.lattice.specs.Mosaic.{Tile, Mosaic, IsTile, IsMosaic, void, samples_among}
 use Rattle.lattice.specs.Height.{sample_at, samples_at}
-use Rattle.lattice.specs.declared.point.Point.{Point}
-use Rattle.lattice.proofs.Samples.{holds_is}
-use Rattle.catalogue.specs.SeamRule.{sample_in}
-use Rattle.catalogue.specs.Tiles.{is_listed}
-use Rattle.lattice.proofs.CornerOrder.{same_says, same_from, same_comm, after_not_same}
-use Rattle.lattice.proofs.Rising.{AllAfter, Rising, Adjacent, after_later, rising_from}
 use Rattle.catalogue.proofs.Mosaics.{corner_of, rising_tiles}
 use Rattle.catalogue.proofs.Presence.{listed_from, listed_says}
 

@@ -1,19 +1,6 @@
 -- No two tiles disagree on a point inside one of them.
-use Rattle.std.proofs.Common.{◌≡◌, ℕ, true, false, IsTrue, List, [], ◌∷◌, map, sym, ◌∙◌}
-use Rattle.std.specs.Prelude.{All}
-use Rattle.std.specs.List.{filter}
-use Rattle.std.proofs.lemmas.Bool.{false_from_ne_true, false≢true}
+use Rattle.catalogue.proofs.Prelude.{All, Corner, IsIndexOf, IsMosaic, IsTile, IsTrue, List, Mosaic, Point, Rising, Tile, ℕ, [], before_apart, differ, disagrees, false, false_from_ne_true, false≢true, filter, holds, holds_is, inner_only, is_before, is_corner, is_rim, map, rising-filter, sample_at, sym, true, ◌∙◌, ◌∷◌, ◌≡◌}
 use Rattle.std.proofs.lemmas.List.Elements.{All-head, All-tail, All-filter, filter_passes}
-use Rattle.lattice.specs.Corners.{Corner, is_corner, is_before}
-use Rattle.lattice.specs.Lattice.{IsIndexOf, holds}
-use Rattle.lattice.specs.Block.{is_rim}
-use Rattle.lattice.specs.Mosaic.{Tile, Mosaic, IsTile, IsMosaic}
-use Rattle.lattice.specs.Height.{sample_at, differ, disagrees}
-use Rattle.lattice.specs.declared.point.Point.{Point}
-use Rattle.lattice.proofs.Samples.{holds_is}
-use Rattle.lattice.proofs.Interior.{inner_only}
-use Rattle.lattice.proofs.CornerOrder.{before_apart}
-use Rattle.lattice.proofs.Rising.{Rising, rising-filter}
 use Rattle.catalogue.proofs.Mosaics.{corner_of, rising_tiles}
 
 -- two tiles that differ hold the point

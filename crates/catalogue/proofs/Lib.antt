@@ -1,3 +1,4 @@
+mod Prelude
 pub mod Asking
 pub mod Blocks
 pub mod Degrees

@@ -1,16 +1,7 @@
 -- What becomes of a mosaic is a mosaic.
-use Rattle.std.proofs.Common.{◌≡◌, ℕ, ℤ, Bool, true, false, cond, not, IsTrue, IsFalse, List, [], ◌∷◌, map, refl, sym, ◌∙◌, subst}
+use Rattle.catalogue.proofs.Prelude.{AllAfter, Bool, Corner, IsFalse, IsMosaic, IsSample, IsTile, IsTrue, List, Mosaic, Rising, Tile, ℕ, ℤ, [], added, adjacent_from, after_from, after_later, cond, false, is_before, is_present, length-set, map, not, or_parts, refl, rising-filter, rising_from, same_comm, same_corner, slice_set, subst, sym, true, with_sample, with_sample_in, with_tile, without, ◌∙◌, ◌∷◌, ◌≡◌}
 use Rattle.std.specs.List.{All, filter, list_any}
-use Rattle.std.specs.Prelude.{slice_set}
-use Rattle.std.proofs.lemmas.List.{length-set}
 use Rattle.std.proofs.lemmas.List.Elements.{All-nil, All-cons, All-head, All-tail, All-filter, All-set}
-use Rattle.std.proofs.lemmas.Bool.{or_parts}
-use Rattle.lattice.specs.Corners.{Corner, is_before, same_corner}
-use Rattle.lattice.specs.Mosaic.{Tile, Mosaic, IsSample, IsTile, IsMosaic, is_present}
-use Rattle.catalogue.specs.Tiles.{with_tile, added, without}
-use Rattle.catalogue.specs.Tables.{with_sample_in, with_sample}
-use Rattle.lattice.proofs.CornerOrder.{after_from, same_comm}
-use Rattle.lattice.proofs.Rising.{AllAfter, Rising, rising_from, adjacent_from, rising-filter, after_later}
 
 abbrev pub corner_of : Tile → Corner
 corner_of t = t.corner

@@ -1,25 +1,13 @@
 -- The heights of a tile's points, and what is adjacent to them, depend on the tile and its neighbours alone.
 use Rattle.std.proofs.Common.{◌≡◌, ℕ, zero, suc, ◌+◌, ◌-◌, ◌*◌, ◌<◌, ◌≤◌, ◌⊎◌, inl, inr, ℤ, pos, ◌+ℤ◌, ◌-ℤ◌, ◌*ℤ◌, nat_abs, Bool, true, false, cond, not, ◌&&◌, ◌||◌, IsTrue, List, [], ◌∷◌, map, Option, Some, None, refl, sym, ◌∙◌, ap, ap₂, subst, arith}
-use Rattle.std.specs.Prelude.{nat_lt, count_by}
-use Rattle.std.specs.List.{filter, list_any}
+use Rattle.catalogue.proofs.Prelude.{AllAfter, Corner, Dir, Height, IsMosaic, Mosaic, Point, Rising, Tile, after_from, after_later, by_lt_z, by_seam_rule, count_by, directions, filter, height_of, holds_is, ints, is_before, is_corner, list_any, nat_lt, point_of_held, rising-filter, same_corner, same_from, same_says, sample_at, samples_among, samples_of, step}
 use Rattle.std.proofs.Math.Path.{fun_ext}
 use Rattle.std.proofs.lemmas.Bool.{and_parts, ltb-true}
-use Rattle.std.proofs.lemmas.Int.{ints, by_lt_z}
-use Rattle.lattice.specs.Corners.{Corner, is_corner, is_before, same_corner}
-use Rattle.lattice.specs.declared.point.Point.{Point}
-use Rattle.lattice.specs.declared.height.Height.{Height}
-use Rattle.lattice.specs.declared.direction.Dir.{Dir}
-use Rattle.lattice.specs.Steps.{step, directions}
 use Rattle.lattice.specs.Block.{Block, AreHeightsOf, IsBlockOf}
 use Rattle.lattice.specs.Ground.{is_height, metres, is_ground, same_point, is_near, share_tile, is_adjacent, degree_of, is_sink, is_outlet}
-use Rattle.lattice.specs.Height.{height_of, by_seam_rule, sample_at}
 use Rattle.lattice.specs.Lattice.{is_along, holds, point_of}
-use Rattle.lattice.specs.Mosaic.{Tile, Mosaic, IsMosaic, samples_among, samples_of}
 use Rattle.lattice.proofs.Along.{steps}
-use Rattle.lattice.proofs.Samples.{holds_is, point_of_held}
 use Rattle.catalogue.specs.Locality.{SameNearby, SameSinksIn}
-use Rattle.lattice.proofs.CornerOrder.{same_says, same_from, after_from}
-use Rattle.lattice.proofs.Rising.{AllAfter, Rising, rising-filter, after_later}
 use Rattle.catalogue.proofs.Holders.{none_after}
 use Rattle.catalogue.proofs.Mosaics.{corner_of, rising_tiles}
 use Rattle.lattice.proofs.Multiples.{product_plus}

@@ -1,17 +1,6 @@
 -- What one tile says of a point, by its corner and by the point's index.
-use Rattle.std.proofs.Common.{◌≡◌, ℕ, ℤ, true, false, cond, IsTrue, List, refl, sym, ◌∙◌, ap}
-use Rattle.std.specs.Prelude.{Option, Some, None, is_some, option_map, IsSomeAnd, slice_get, slice_index_or, Contains, All}
-use Rattle.std.proofs.lemmas.Option.{get_or_from_slice_get}
-use Rattle.std.proofs.lemmas.Bool.{false_from_ne_true, false≢true}
+use Rattle.catalogue.proofs.Prelude.{All, Contains, Corner, Holds, IsIndexOf, IsMosaic, IsSampleOf, IsSomeAnd, IsTile, IsTrue, List, Mosaic, None, Option, Point, Some, ℕ, ℤ, ap, cond, corners_of, false, false_from_ne_true, false≢true, get_or_from_slice_get, held_at, holds, holds_is, index_is, index_of, is_corner, is_present, is_some, option_map, refl, sample_in, samples_of, slice_get, slice_index_or, sym, true, void, ◌∙◌, ◌≡◌}
 use Rattle.std.proofs.lemmas.List.Elements.{All-map, All-contains, All-weaker}
-use Rattle.lattice.specs.Corners.{Corner, is_corner}
-use Rattle.lattice.specs.Lattice.{Holds, IsIndexOf, holds, index_of}
-use Rattle.lattice.specs.Mosaic.{Mosaic, IsMosaic, IsTile, void, is_present, samples_of}
-use Rattle.lattice.specs.declared.point.Point.{Point}
-use Rattle.lattice.proofs.Samples.{holds_is, index_is, held_at}
-use Rattle.catalogue.specs.Reading.{IsSampleOf}
-use Rattle.catalogue.specs.SeamRule.{sample_in}
-use Rattle.catalogue.specs.Tiles.{corners_of}
 use Rattle.catalogue.proofs.Mosaics.{corner_of}
 use Rattle.catalogue.proofs.Presence.{present_iff, some-samples}
 

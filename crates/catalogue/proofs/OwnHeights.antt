@@ -1,22 +1,7 @@
 -- Where no other tile holds a point, its height is the tile's own sample.
-use Rattle.std.proofs.Common.{◌≡◌, ℕ, ◌*◌, zero, suc, ℤ, Bool, true, false, cond, List, [], ◌∷◌, length, map, refl, sym, ◌∙◌, ap, subst, arith}
-use Rattle.std.specs.Prelude.{Option, Some, None, IsSomeAnd, slice_get, slice_index_or, Contains, All}
-use Rattle.std.specs.List.{filter}
-use Rattle.std.proofs.lemmas.Option.{get_or_from_slice_get}
-use Rattle.std.proofs.lemmas.Bool.{false≢true}
+use Rattle.catalogue.proofs.Prelude.{All, All-head, All-tail, AllAfter, Bool, Contains, Corner, Holds, IsIndexOf, IsSampleOf, IsSomeAnd, List, None, Option, Point, Rising, Some, ℕ, ℤ, [], ap, arith, before_apart, by_seam_rule, cond, corners_of, false, false≢true, filter, get_or_from_slice_get, height_of, held_at, holds, holds_is, index_is, index_of, length, map, metres, refl, same_corner, same_from, same_says, sample_at, slice_get, slice_index_or, subst, suc, sym, true, zero, ◌*◌, ◌∙◌, ◌∷◌, ◌≡◌}
 use Rattle.std.proofs.lemmas.Bool.Decides.{Decides-int_eq}
-use Rattle.std.proofs.lemmas.List.Elements.{All-head, All-tail}
-use Rattle.lattice.specs.Corners.{Corner, same_corner}
-use Rattle.lattice.specs.Lattice.{Holds, IsIndexOf, holds, index_of}
 use Rattle.lattice.specs.Mosaic.{Tile, Mosaic, IsTile, IsMosaic, void, is_void, samples_among, samples_of}
-use Rattle.lattice.specs.Height.{sample_at, by_seam_rule, height_of}
-use Rattle.lattice.specs.Ground.{metres}
-use Rattle.lattice.specs.declared.point.Point.{Point}
-use Rattle.lattice.proofs.Samples.{holds_is, index_is, held_at}
-use Rattle.catalogue.specs.Tiles.{corners_of}
-use Rattle.catalogue.specs.Reading.{IsSampleOf}
-use Rattle.lattice.proofs.CornerOrder.{same_says, same_from, before_apart}
-use Rattle.lattice.proofs.Rising.{AllAfter, Rising}
 use Rattle.catalogue.proofs.Mosaics.{corner_of, rising_tiles}
 use Rattle.catalogue.proofs.OneTile.{corner_is}
 

@@ -1,13 +1,5 @@
 -- Which corners are present, as a test and in the list of corners.
-use Rattle.std.proofs.Common.{◌≡◌, zero, suc, ◌↔◌, Bool, true, false, cond, ◌||◌, IsTrue, List, [], ◌∷◌, map, refl, sym, ◌∙◌, ap, arith}
-use Rattle.std.specs.Prelude.{Contains, Some, is_some}
-use Rattle.std.specs.List.{list_any}
-use Rattle.std.proofs.lemmas.Bool.{or_left, or_right, false≢true}
-use Rattle.lattice.specs.Corners.{Corner, same_corner}
-use Rattle.lattice.specs.Mosaic.{Tile, Mosaic, IsMosaic, is_present, samples_among}
-use Rattle.catalogue.specs.Tiles.{corners_of, is_listed}
-use Rattle.lattice.proofs.CornerOrder.{same_says, same_from}
-use Rattle.lattice.proofs.Rising.{AllAfter, Rising, Adjacent, adjacent_from}
+use Rattle.catalogue.proofs.Prelude.{Adjacent, AllAfter, Bool, Contains, Corner, IsMosaic, IsTrue, List, Mosaic, Rising, Some, Tile, [], adjacent_from, ap, arith, cond, corners_of, false, false≢true, is_listed, is_present, is_some, list_any, map, or_left, or_right, refl, same_corner, same_from, same_says, samples_among, suc, sym, true, zero, ◌||◌, ◌↔◌, ◌∙◌, ◌∷◌, ◌≡◌}
 use Rattle.catalogue.proofs.Mosaics.{corner_of, rising_tiles}
 
 pub listed_from : (c : Corner) (corners : List Corner) → Contains corners c → is_listed c corners ≡ true

@@ -1,20 +1,7 @@
 -- The corners of the present tiles that hold a point, in order.
-use Rattle.std.proofs.Common.{◌≡◌, ℕ, ◌+◌, ◌<◌, ◌↔◌, Bool, true, false, cond, ◌&&◌, ◌||◌, IsTrue, List, [], ◌∷◌, length, map, get_or, drop, refl, sym, ◌∙◌, ap, ap₂, subst}
-use Rattle.std.specs.Prelude.{Contains}
-use Rattle.std.specs.List.{filter}
+use Rattle.catalogue.proofs.Prelude.{Adjacent, AllAfter, Bool, Contains, Corner, Holds, IsMosaic, IsTrue, List, Mosaic, Point, Rising, Tile, ℕ, [], and_from, and_parts, ap, ap₂, before_not_back, cond, corners_of, drop, false, false≢true, filter, get_or, holds, holds_is, is_before, is_first, is_listed, is_present, length, map, or_left, present_holders, refl, rising-filter, rising_from, same_corner, same_from, same_says, same_tests, subst, sym, true, ◌&&◌, ◌+◌, ◌<◌, ◌||◌, ◌↔◌, ◌∙◌, ◌∷◌, ◌≡◌}
 use Rattle.std.proofs.lemmas.List.{drop_more}
-use Rattle.std.proofs.lemmas.Bool.{and_parts, and_from, false≢true, or_left}
 use Rattle.std.proofs.Math.Bool.{and-false}
-use Rattle.lattice.specs.Corners.{Corner, is_before, same_corner}
-use Rattle.lattice.specs.Lattice.{Holds, holds}
-use Rattle.lattice.specs.Mosaic.{Tile, Mosaic, IsMosaic, is_present}
-use Rattle.lattice.specs.declared.point.Point.{Point}
-use Rattle.lattice.proofs.Samples.{holds_is}
-use Rattle.catalogue.specs.Tiles.{corners_of, is_listed}
-use Rattle.catalogue.specs.SeamCounting.{is_first, present_holders}
-use Rattle.lattice.proofs.CornerOrder.{same_says, same_from, before_not_back}
-use Rattle.lattice.proofs.Rising.{AllAfter, Rising, Adjacent, rising_from, rising-filter}
-use Rattle.lattice.proofs.BoolTests.{same_tests}
 use Rattle.catalogue.proofs.Mosaics.{corner_of}
 use Rattle.catalogue.proofs.Presence.{listed_from, listed_says, present-listed, corners_rise}
 use Rattle.catalogue.proofs.OneTile.{corner_is}

@@ -1,11 +1,6 @@
 -- Reads one after another are a read.
-use Rattle.std.proofs.Common.{◌≡◌, ℕ, ◌≤◌, refl, ◌∙◌, arith, Result, Ok, Err}
-use Rattle.std.specs.Prelude.{IfErr}
-use Rattle.lattice.specs.declared.refusal.Refusal.{Refusal}
-use Rattle.lattice.specs.declared.refusal.Refusal.TheVariants.{Device, Failed, Damaged}
+use Rattle.catalogue.proofs.Prelude.{Damaged, Device, Err, Failed, Ghosts, IfErr, Ok, OnlyReads, Refusal, Result, ℕ, arith, reads_of, refl, ◌∙◌, ◌≡◌, ◌≤◌}
 use Rattle.catalogue.specs.Reading.{HasRisen, MayRefuse}
-use Rattle.catalogue.specs.Readers.{OnlyReads, reads_of}
-use Rattle.catalogue.specs.declared.samples.Samples.{Ghosts}
 
 risen_before : (before mid now : ℕ) → before ≤ mid → HasRisen mid now → HasRisen before now
 risen_before before mid now later risen = omega arith

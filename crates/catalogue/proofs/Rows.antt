@@ -1,19 +1,10 @@
 -- The corners one after another, row by row from the south.
 use Rattle.std.proofs.Common.{◌≡◌, ℤ, pos, negsuc, ◌+ℤ◌, ◌≤ℤ◌, ◌<ℤ◌, Bool, true, false, cond, ◌&&◌, ◌||◌, IsTrue, List, [], ◌∷◌, ◌++◌, refl, sym, ◌∙◌, ap, ap₂, subst, arith, inl, inr}
-use Rattle.std.specs.Prelude.{int_le, All, Option, Some, None}
-use Rattle.std.specs.List.{filter}
-use Rattle.std.proofs.lemmas.Int.{ints, by_lt_z, to_z-of_z}
+use Rattle.catalogue.proofs.Prelude.{All, All-head, All-tail, AllAfter, Corner, None, Option, Rising, Some, after_later, and_parts, by_lt_z, corners_before, false_from_ne_true, filter, int_le, ints, is_before, is_corner, is_listed, same_corner, same_tests, to_z-of_z}
 use mir.Syntax.{w16}
 use mir.Val.{SFits, to_z, of_z}
-use Rattle.std.proofs.lemmas.List.Elements.{All-head, All-tail}
-use Rattle.std.proofs.lemmas.Bool.{and_parts, false_from_ne_true}
-use Rattle.lattice.specs.Corners.{Corner, is_corner, is_before, same_corner}
 use Rattle.lattice.proofs.IntTests.{le_true}
-use Rattle.catalogue.specs.Tiles.{is_listed}
-use Rattle.catalogue.specs.SeamCounting.{corners_before}
 use Rattle.lattice.proofs.CornerOrder.{Below, before_says, before_from, same_says, before_not_back, after_from, before_apart}
-use Rattle.lattice.proofs.Rising.{AllAfter, Rising, after_later}
-use Rattle.lattice.proofs.BoolTests.{same_tests}
 use Rattle.catalogue.proofs.Holders.{itself, not_listed}
 
 pub corner_range : (c : Corner) → IsTrue (is_corner c) → (negsuc 89 ≤ℤ c.lat) × (c.lat ≤ℤ pos 89) × (negsuc 179 ≤ℤ c.lon) × (c.lon ≤ℤ pos 179)

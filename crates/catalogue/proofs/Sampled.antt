@@ -1,10 +1,6 @@
 -- What a read of a sample gives.
-use Rattle.std.proofs.Common.{◌≡◌, ℕ, ◌<◌, ◌+◌, ◌-◌, ℤ, List, length, get_or, take, drop, refl, sym, subst}
-use Rattle.std.specs.Prelude.{Option, Some, IsSomeAnd, slice_get, slice_range}
+use Rattle.catalogue.proofs.Prelude.{AreSamplesOf, Corner, IsSampleOf, IsSomeAnd, List, Mosaic, Option, Some, ℕ, ℤ, drop, get_or, length, refl, samples_of, slice_get, slice_range, subst, sym, take, ◌+◌, ◌-◌, ◌<◌, ◌≡◌}
 use Rattle.std.proofs.lemmas.Option.{slice_get_read}
-use Rattle.lattice.specs.Corners.{Corner}
-use Rattle.lattice.specs.Mosaic.{Mosaic, samples_of}
-use Rattle.catalogue.specs.Reading.{IsSampleOf, AreSamplesOf}
 
 pub sample_from : (m : Mosaic) (c : Corner) (i : ℕ) (s : ℤ) (samples : List ℤ) → samples_of m c ≡ Some samples → i < length samples → s ≡ get_or samples i s → IsSampleOf m c i s
 sample_from m c i s samples found within read =

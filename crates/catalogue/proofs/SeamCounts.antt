@@ -1,30 +1,15 @@
 -- How many points disagree: counted tile by tile, each at the first present tile that holds it.
 use Rattle.std.proofs.Common.{◌≡◌, ℕ, zero, suc, ◌+◌, ◌-◌, ◌*◌, ◌<◌, ℤ, pos, negsuc, ◌+ℤ◌, Bool, true, false, cond, ◌&&◌, ◌||◌, IsTrue, List, [], ◌∷◌, ◌++◌, length, map, refl, sym, ◌∙◌, ap, ap₂, subst, arith, add-one, add-zero, zero-add, inl, inr}
 use Rattle.std.specs.Prelude.{Some, None, Result, Ok, Err, IfOk, sum_by, count_by, All, nat_lt}
-use Rattle.std.specs.List.{filter}
+use Rattle.catalogue.proofs.Prelude.{All-head, All-tail, AllAfter, Corner, Holds, IsMosaic, IsSeamCount, Mosaic, Point, Refusal, Rising, Tile, corners_before, corners_of, differ, disagrees, filter, holds, index_of, is_corner, is_listed, is_rim, point_of, rim_index, rim_number, same_comm, same_corner, same_from, same_point, same_says, sample_at}
 use Rattle.std.proofs.lemmas.List.{length-append}
 use Rattle.std.proofs.lemmas.List.Sums.{sum_by-append}
-use Rattle.std.proofs.lemmas.List.Elements.{All-head, All-tail}
 use Rattle.std.proofs.lemmas.Bool.{and_parts, and_from, and_right, or_left, cases_lt, false≢true, lt-ltb, le-ltb}
 use Rattle.std.proofs.Math.Bool.{and-true}
-use Rattle.lattice.specs.Corners.{Corner, is_corner, same_corner}
-use Rattle.lattice.specs.Lattice.{Holds, holds, index_of, point_of}
-use Rattle.lattice.specs.Mosaic.{Tile, Mosaic, IsMosaic}
-use Rattle.lattice.specs.Height.{sample_at, differ, disagrees}
-use Rattle.lattice.specs.Ground.{same_point}
-use Rattle.lattice.specs.Block.{is_rim, rim_number}
-use Rattle.lattice.specs.RimPoints.{rim_index}
-use Rattle.lattice.specs.declared.point.Point.{Point}
-use Rattle.lattice.specs.declared.refusal.Refusal.{Refusal}
 use Rattle.lattice.proofs.RimNumbers.{rim_index_is, rim_index_of_number, number_below}
 use Rattle.lattice.proofs.SamePoints.{same_point_says, same_point_from}
 use Rattle.lattice.proofs.Samples.{holds_is, index_of_point_is, point_of_held, point_of_index, index_of_below, index_of_held}
-use Rattle.catalogue.specs.Tiles.{corners_of, is_listed}
-use Rattle.catalogue.specs.SeamCounting.{corners_before}
-use Rattle.catalogue.specs.Seams.{IsSeamCount}
 use Rattle.catalogue.specs.SeamCounting.{is_first, present_holders, is_own_seam, own_seams_below, seams_of, seams_before}
-use Rattle.lattice.proofs.CornerOrder.{same_says, same_from, same_comm}
-use Rattle.lattice.proofs.Rising.{AllAfter, Rising}
 use Rattle.catalogue.proofs.InnerPoints.{inner_agrees}
 use Rattle.catalogue.proofs.Mosaics.{corner_of}
 use Rattle.catalogue.proofs.Presence.{corners_rise}

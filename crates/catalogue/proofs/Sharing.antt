@@ -1,16 +1,5 @@
 -- Points that one present tile holds.
-use Rattle.std.proofs.Common.{◌≡◌, ℕ, ◌<◌, Bool, true, false, ◌&&◌, ◌||◌, List, [], ◌∷◌, length, map, get_or, refl, sym, subst}
-use Rattle.std.specs.Prelude.{Contains}
-use Rattle.std.specs.List.{list_any}
-use Rattle.std.proofs.lemmas.Bool.{and_parts, and_from, or_left, or_right, false≢true, false_from_ne_true}
-use Rattle.lattice.specs.Corners.{Corner, same_corner}
-use Rattle.lattice.specs.Lattice.{Holds, holds}
-use Rattle.lattice.specs.Mosaic.{Tile, Mosaic, IsMosaic}
-use Rattle.lattice.specs.Ground.{share_tile}
-use Rattle.lattice.specs.declared.point.Point.{Point}
-use Rattle.lattice.proofs.Samples.{holds_is}
-use Rattle.catalogue.specs.Tiles.{corners_of, is_listed}
-use Rattle.lattice.proofs.CornerOrder.{same_says, same_from}
+use Rattle.catalogue.proofs.Prelude.{Bool, Contains, Corner, Holds, IsMosaic, List, Mosaic, Point, Tile, ℕ, [], and_from, and_parts, corners_of, false, false_from_ne_true, false≢true, get_or, holds, holds_is, is_listed, length, list_any, map, or_left, or_right, refl, same_corner, same_from, same_says, share_tile, subst, sym, true, ◌&&◌, ◌<◌, ◌||◌, ◌∷◌, ◌≡◌}
 use Rattle.catalogue.proofs.Mosaics.{corner_of}
 use Rattle.catalogue.proofs.Presence.{listed_from, listed_says}
 use Rattle.catalogue.proofs.OneTile.{corner_is}

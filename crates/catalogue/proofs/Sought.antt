@@ -1,6 +1,5 @@
 -- The seam rule, as far as a search has come.
-use Rattle.std.proofs.Common.{ℤ, List}
-use Rattle.lattice.specs.declared.height.Height.{Height}
+use Rattle.catalogue.proofs.Prelude.{Height, List, ℤ}
 use Rattle.lattice.specs.declared.height.Height.TheVariants.{Outside, Void, At}
 use Rattle.lattice.specs.Height.{first_height, by_seam_rule}
 

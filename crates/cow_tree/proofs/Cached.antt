@@ -1,6 +1,6 @@
 -- Pages in a cache: what is found, put in and taken out, and when they are an image's.
 use Rattle.std.proofs.Common.{◌≡◌, ◌≤◌, ◌⊎◌, inl, inr, ⊎_elim, ℕ, zero, suc, Bool, true, false, cond, nat_eq, List, [], ◌∷◌, Contains, sym, ap, ◌∙◌, subst, arith, Some, None}
-use Rattle.std.specs.Global.{Vec}
+use Rattle.cow_tree.proofs.Prelude.{Image, PageCache, SamePages, SamePagesBut, Vec}
 use Rattle.std.specs.List.{AllByRecursion, IsDistinct}
 use Rattle.std.specs.Map.{keys_of, lookup, remove_entry}
 use Rattle.std.proofs.lemmas.Bool.{eqb-true, false≢true}
@@ -8,10 +8,7 @@ use Rattle.std.proofs.lemmas.Cmp.{nat_eq_equiv}
 use Rattle.std.proofs.lemmas.Map.{lookup-remove_entry, none_passes_from_lookup}
 use Rattle.lru.specs.LruCache.{LruCache, put_entries}
 use Rattle.lru.proofs.CallerLemmas.{Contains-lookup, Contains-put_entries}
-use Rattle.disk.specs.Disk.{Image}
-use Rattle.roots.specs.Slots.{SamePages, SamePagesBut}
 use Rattle.cow_tree.specs.Caches.{entries_of, IsHeld, Agrees}
-use Rattle.cow_tree.specs.declared.cache.PageCache.{PageCache}
 
 -- a page that is found is there
 pub found_there : (n : ℕ) (held : List (ℕ × Vec ℕ)) (page : Vec ℕ) → lookup (nat_eq n) held ≡ Some page → Contains held (n, page)

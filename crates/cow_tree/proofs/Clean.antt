@@ -1,11 +1,8 @@
 -- A tree whose tiles are the committed ones.
-use Rattle.std.proofs.Common.{◌≡◌, map, sym, ap, ◌∙◌, subst}
-use Rattle.disk.specs.declared.disk.Disk.{Ghosts}
-use Rattle.page_codec.specs.Entries.{EntryValue}
+use Rattle.cow_tree.proofs.Prelude.{EntryValue, Ghosts, Tree, ap, map, subst, sym, ◌∙◌, ◌≡◌}
 use Rattle.page_map.specs.PageMaps.{PageMapValue, corners_of_locations, IsClean as IsCleanPageMap}
 use Rattle.cow_tree.specs.Clean.{IsClean}
 use Rattle.cow_tree.specs.Trees.{page_map_of, IsUnstaged}
-use Rattle.cow_tree.specs.declared.tree.Tree.{Tree}
 use Rattle.cow_tree.proofs.Writes.Dropping.{corners_of_entries, clean_is_committed}
 use Rattle.cow_tree.proofs.Listed.Due.{none_due}
 

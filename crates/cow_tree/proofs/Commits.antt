@@ -1,30 +1,8 @@
 -- What a commit lands on: all staged tiles behind the new root.
-use Rattle.std.proofs.Common.{◌≡◌, ◌⊎◌, inl, inr, ⊎_elim, ℕ, zero, suc, ◌+◌, ◌<◌, ◌≤◌, ◌^◌, Bool, true, false, if◌then◌else◌, List, [], ◌∷◌, All, length, get_or, map, refl, sym, ap, ap₂, ◌∙◌, subst, arith, Option, Some, None, IfSome}
+use Rattle.cow_tree.proofs.Prelude.{All, All-append, All-cons, All-head, All-nil, All-tail, All-weaker, AreListedBy, AreStaged, AreWholeKept, Bool, EntryValue, Format, Ghosts, HasMoved, HasRecord, HasRecords, HaveKeptRecords, IfSome, Image, IsIndexed, IsListedBy, IsOn, IsPageMap, IsTileListed, IsWholePlane, IsWholeTile, KeepsAll, KeepsPageRule, KeptLocations, KeptPlanes, LeavesOnly, List, ListingPage, None, Option, PageMapValue, PlaneLocation, PlanePages, Point, RootValue, Some, Stands, Stored, StoredTile, StoresAt, TileLocation, ℕ, [], all_numbers, ap, ap₂, arith, due_among, entry_of, false, format_of, get_or, if◌then◌else◌, in_turn, index_listing, inl, inr, is_unreached, kept_in, kept_listing, length, listed_by, listing_bytes, listing_of, map, numbers_of, pages_behind, pages_of_kept, pages_of_plane, pages_of_tile, plane_listing, reached, record_bytes, refl, sectors_asked, stored_in, subst, suc, sym, tile_in, tile_listing, tiles_listing, times, true, weaker, zero, ⊎_elim, ◌+◌, ◌<◌, ◌^◌, ◌∙◌, ◌∷◌, ◌≡◌, ◌≤◌, ◌⊎◌}
 use Rattle.std.proofs.lemmas.Bool.{cases_Bool}
-use Rattle.std.proofs.lemmas.List.Elements.{All-nil, All-cons, All-append, All-head, All-tail, All-weaker}
-use Rattle.disk.specs.Disk.{Image}
-use Rattle.disk.specs.Stops.{LeavesOnly, weaker, in_turn}
-use Rattle.disk.specs.declared.disk.Disk.{Ghosts}
-use Rattle.lattice.specs.declared.point.Point.{Point}
-use Rattle.page_codec.specs.Entries.{EntryValue}
-use Rattle.page_codec.specs.Formats.{Format}
-use Rattle.page_codec.specs.Records.{record_bytes}
-use Rattle.page_codec.specs.Roots.{RootValue, format_of}
-use Rattle.page_codec.specs.Sizes.{sectors_asked}
-use Rattle.roots.specs.Slots.{KeepsAll}
-use Rattle.roots.specs.Found.{HasMoved}
-use Rattle.page_map.proofs.Times.{all_numbers}
-use Rattle.page_map.specs.declared.locations.KeptLocations.{KeptLocations}
-use Rattle.page_map.specs.TileLocations.{TileLocation, pages_of_kept, pages_of_tile, reached, KeepsPageRule}
 use Rattle.page_map.specs.Upgraded.{KeptData, TileData, data_of, data_of_kept, listings}
 use Rattle.page_map.proofs.UpgradedTiles.{kept_data, data_pages, all_data, tiles_split}
-use Rattle.cow_tree.specs.Entries.{entry_of}
-use Rattle.cow_tree.specs.Layout.{tile_in, kept_in, stored_in, listed_by, HasRecord, HasRecords, HaveKeptRecords, IsIndexed, StoresAt, Stands}
-use Rattle.cow_tree.specs.Listings.{ListingPage, IsOn, due_among, kept_listing, index_listing, listing_bytes, numbers_of, plane_listing, tile_listing, tiles_listing}
-use Rattle.page_map.specs.Locations.{PlaneLocation, IsWholePlane, listing_of, pages_behind, pages_of_plane, times}
-use Rattle.page_map.specs.PageMaps.{AreWholeKept, PageMapValue, IsPageMap, IsWholeTile, is_unreached}
-use Rattle.cow_tree.specs.Staged.{AreListedBy, AreStaged, IsListedBy, IsTileListed}
-use Rattle.cow_tree.specs.Stored.{KeptPlanes, PlanePages, Stored, StoredTile}
 use Rattle.cow_tree.proofs.Listed.Counting.{at_times, times_failing}
 use Rattle.cow_tree.proofs.Listed.ListingPages.{all_within, due_numbers, few_due, number_there, plane_at, plane_length, tiles_numbers}
 use Rattle.cow_tree.proofs.Standing.{SameOn, All-front, All-back, map_same, stores_kept, each_tile}

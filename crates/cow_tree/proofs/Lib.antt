@@ -1,3 +1,4 @@
+mod Prelude
 pub mod Standing
 pub mod OneStored
 pub mod Writes

@@ -1,11 +1,7 @@
 -- A disk that was made longer stands for what it stood for.
-use Rattle.std.proofs.Common.{◌≡◌, ◌<◌, ◌∙◌, List, ℕ, All, arith, ap, sym, subst}
-use Rattle.std.proofs.lemmas.List.Elements.{All-weaker}
-use Rattle.disk.specs.Disk.{Image}
-use Rattle.page_codec.specs.Roots.{RootValue}
+use Rattle.cow_tree.proofs.Prelude.{All, All-weaker, Image, List, RootValue, ℕ, ap, arith, reached, subst, sym, ◌<◌, ◌∙◌, ◌≡◌}
 use Rattle.roots.specs.Slots.{is_open, IsSpelledBy, IsLaterThan, IsCurrent}
 use Rattle.roots.specs.declared.slot.Slot.TheVariants.{A, B}
-use Rattle.page_map.specs.TileLocations.{reached}
 use Rattle.cow_tree.specs.Longer.{StandsWhereLonger}
 use Rattle.cow_tree.proofs.Standing.{stores_same}
 

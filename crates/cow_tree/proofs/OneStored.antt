@@ -1,26 +1,8 @@
 -- An image stands for at most one: its root is the only current one, records have one spelling, and so locations and contents
 -- are equal.
-use Rattle.std.proofs.Common.{◌≡◌, ℕ, ◌<◌, ◌*◌, ◌+◌, ◌-◌, ◌/◌, ◌%◌, ◌^◌, List, [], ◌∷◌, All, length, drop, get_or, min, map, arith, Option, Some, None, IfSome, refl, sym, ap, ap₂, ◌∙◌, subst}
+use Rattle.cow_tree.proofs.Prelude.{All, All-drop, All-head, All-tail, All-take, Corner, EntryValue, Format, IfSome, Image, IsWholePlane, Kept, KeptLocations, List, None, One, Option, PlaneLocation, RootValue, Some, TileLocation, Two, Version, ℕ, [], ap, ap₂, arith, drop, entry_of, entry_of_kept, format_of, get_or, get_or-drop, get_or-take, index_pages_by, length, length-drop, length-take, map, min, nil_from_length, one_is_current, pages_behind, pages_of, part_of, record_bytes, refl, same_lists, same_records, subst, sym, ◌%◌, ◌*◌, ◌+◌, ◌-◌, ◌/◌, ◌<◌, ◌^◌, ◌∙◌, ◌∷◌, ◌≡◌}
 use Rattle.std.proofs.Math.Nat.{div-add-mod, mod-lt}
-use Rattle.std.proofs.lemmas.List.{get_or-take, get_or-drop, length-take, length-drop, nil_from_length, same_lists}
-use Rattle.std.proofs.lemmas.List.Elements.{All-head, All-tail, All-take, All-drop}
-use Rattle.disk.specs.Disk.{Image}
-use Rattle.lattice.specs.Corners.{Corner}
-use Rattle.page_codec.specs.Formats.{Format}
-use Rattle.page_codec.specs.Entries.{EntryValue}
-use Rattle.page_codec.specs.declared.entry.Kept.{Kept}
-use Rattle.page_codec.specs.Roots.{RootValue, format_of}
-use Rattle.page_codec.specs.declared.version.Version.{Version}
-use Rattle.page_codec.specs.declared.version.Version.TheVariants.{One, Two}
-use Rattle.page_codec.specs.Records.{part_of, record_bytes}
-use Rattle.page_codec.specs.Sizes.{pages_of, index_pages_by}
-use Rattle.page_codec.proofs.RecordPages.{same_records}
 use Rattle.cow_tree.proofs.Standing.{All-front, All-back}
-use Rattle.roots.proofs.OneAnswer.{one_is_current}
-use Rattle.page_map.specs.declared.locations.KeptLocations.{KeptLocations}
-use Rattle.page_map.specs.Locations.{PlaneLocation, IsWholePlane, pages_behind}
-use Rattle.page_map.specs.TileLocations.{TileLocation}
-use Rattle.cow_tree.specs.Entries.{entry_of_kept, entry_of}
 use Rattle.cow_tree.specs.Layout.{HasRecord, HaveKeptRecords, HasRecords, IsIndexed, IsLaidOut, listed_by, stored_in, StandsForOne}
 
 -- lists of which each part of 1024 is the same

@@ -1,30 +1,16 @@
 -- What a disk stands for that was formatted, or opened.
-use Rattle.std.proofs.lemmas.Bool.{false≢true}
+use Rattle.cow_tree.proofs.Prelude.{A, All-nil, AreStaged, Format, Ghosts, IsClean, IsEntry, IsPageMap, IsReady, IsRefusedFor, KeepsPageRule, PageMapValue, Refusal, TileLocation, Tree, entry_of, false≢true, ready_current, sectors_asked}
 use Rattle.std.proofs.Common.{zero, suc, ◌∷◌, lit<, ◌≡◌, ◌⊎◌, inl, inr, ⊎_elim, ℕ, ◌<◌, ◌≤◌, Ok, Err, List, [], All, map, refl, sym, ap, ◌∙◌, subst, arith}
-use Rattle.std.proofs.lemmas.List.Elements.{All-nil}
 use Rattle.disk.specs.Disk.{Image, Only}
-use Rattle.disk.specs.declared.disk.Disk.{Ghosts}
-use Rattle.lattice.specs.declared.refusal.Refusal.{Refusal}
 use Rattle.lattice.specs.declared.refusal.Refusal.TheVariants as refusal
 use Rattle.page_codec.specs.Roots.{RootValue, format_of, AreNumbers, empty_root, root_bytes}
-use Rattle.page_codec.specs.Entries.{IsEntry}
-use Rattle.page_codec.specs.Sizes.{sectors_asked}
 use Rattle.roots.specs.Opening.{OpensAs, StoresOpen}
-use Rattle.roots.specs.Roots.{IsReady, ready_current}
 use Rattle.roots.specs.Slots.{is_open, IsCurrent}
-use Rattle.roots.specs.declared.slot.Slot.TheVariants.{A}
-use Rattle.page_map.specs.PageMaps.{PageMapValue, IsPageMap, IsClean}
-use Rattle.page_map.specs.TileLocations.{TileLocation, KeepsPageRule}
-use Rattle.cow_tree.specs.Entries.{entry_of}
 use Rattle.cow_tree.specs.Layout.{stored_in, tile_in, HasRecords, IsLaidOut, StoresAt, Stands, NoTilesStand}
-use Rattle.cow_tree.specs.OverRoots.{IsRefusedFor}
-use Rattle.cow_tree.specs.Staged.{AreStaged}
 use Rattle.cow_tree.specs.Stored.{Stored, no_tiles}
-use Rattle.page_codec.specs.Formats.{Format}
 use Rattle.lattice.specs.Mosaic.{IsHeld}
 use Rattle.roots.proofs.OneAnswer.{one_is_current, stores_open, only_root}
 use Rattle.cow_tree.specs.Trees.{IsAt, staged_in, MayRefuse}
-use Rattle.cow_tree.specs.declared.tree.Tree.{Tree}
 use Rattle.cow_tree.proofs.Commits.{nothing_staged}
 use Rattle.cow_tree.proofs.Steps.{stores_along}
 

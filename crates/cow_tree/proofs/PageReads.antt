@@ -1,22 +1,7 @@
 -- Where a plane of a staged tile lies, and what its pages read as.
 use Rattle.std.proofs.Common.{◌≡◌, ℕ, ◌<◌, List, All, Contains, length, get_or, map, Option, Some, None, IfSome, refl, sym, ap, ◌∙◌, subst, arith, option_and_then, option_map, slice_get}
-use Rattle.std.proofs.lemmas.Option.{same_Some, slice_get_read}
-use Rattle.std.proofs.lemmas.List.{length-map, get_or-map}
-use Rattle.std.proofs.lemmas.List.Elements.{All-tail, All-contains}
-use Rattle.disk.specs.Disk.{Image}
-use Rattle.lattice.specs.Corners.{Corner}
-use Rattle.page_codec.specs.Formats.{Format}
-use Rattle.page_codec.specs.Sizes.{pages_of}
-use Rattle.page_map.specs.declared.locations.KeptLocations.{KeptLocations}
-use Rattle.page_map.specs.declared.plane.Plane.{Plane}
-use Rattle.page_map.specs.declared.plane.Plane.TheVariants.{Heights, Levels, Labels}
-use Rattle.page_map.specs.Locations.{IsWholePlane, PlaneLocation, pages_behind, pages_of_plane}
-use Rattle.page_map.specs.TileLocations.{TileLocation, pages_of_kept, pages_of_tile, reached}
-use Rattle.cow_tree.specs.Layout.{plane_in, kept_in, tile_in}
-use Rattle.page_map.specs.PageMaps.{IsWholeTile, AreWholeKept}
-use Rattle.page_map.specs.Planes.{HasPlaneAt, plane_of}
+use Rattle.cow_tree.proofs.Prelude.{All-contains, All-tail, AreWholeKept, Corner, Format, HasPlaneAt, Heights, Image, IsWholePlane, IsWholeTile, KeptLocations, KeptPlanes, Labels, Levels, Plane, PlaneLocation, PlanePages, TileLocation, get_or-map, kept_in, length-map, pages_behind, pages_of, pages_of_kept, pages_of_plane, pages_of_tile, plane_in, plane_of, reached, same_Some, slice_get_read, tile_in}
 use Rattle.cow_tree.specs.Planes.{HasPage, stored_plane}
-use Rattle.cow_tree.specs.Stored.{KeptPlanes, PlanePages}
 use Rattle.cow_tree.proofs.Listed.Adding.{contains-map}
 use Rattle.cow_tree.proofs.Standing.{All-front, All-back, each_tile}
 

@@ -1,15 +1,7 @@
 -- Heights staged as they are: what the tiles store stays.
-use Rattle.std.proofs.Common.{◌≡◌, ℕ, Bool, true, false, not, if◌then◌else◌, List, [], ◌∷◌, Contains, map, refl, sym, ap, ap₂, subst, ◌∙◌}
-use Rattle.disk.specs.Disk.{Image}
-use Rattle.lattice.specs.Corners.{Corner}
-use Rattle.page_codec.specs.Formats.{Format}
-use Rattle.page_map.specs.TileLocations.{TileLocation, reached}
-use Rattle.cow_tree.specs.Layout.{tile_in}
+use Rattle.cow_tree.proofs.Prelude.{AreStaged, Bool, Contains, Corner, Format, Image, IsTileListed, List, StoredTile, TileLocation, ℕ, [], any_none, ap, ap₂, false, if◌then◌else◌, map, not, reached, refl, subst, sym, tile_in, true, ◌∙◌, ◌∷◌, ◌≡◌}
 use Rattle.page_map.specs.PageMaps.{PageMapValue, IsPrepared, is_at, corners_of_locations, with_record}
-use Rattle.cow_tree.specs.Staged.{AreStaged, IsTileListed}
-use Rattle.cow_tree.specs.Stored.{StoredTile}
 use Rattle.cow_tree.proofs.Listed.CornerChanges.{all_changed, corners_still}
-use Rattle.page_map.proofs.Listing.{any_none}
 
 pub prepared_tiles : (c : Corner) (r : ℕ) (image : Image) (tiles : List TileLocation) → map (tile_in image) (with_record c r tiles) ≡ map (tile_in image) tiles
 prepared_tiles c r image [] = refl

@@ -1,14 +1,8 @@
 -- Reads one after another, and why they were refused.
-use Rattle.std.proofs.Common.{◌≡◌, ◌⊎◌, inl, inr, ⊎_elim, Bool, false, Result, Ok, Err, IsErrOf, IfErr, refl, sym, ◌∙◌, subst, arith}
+use Rattle.cow_tree.proofs.Prelude.{Bool, Err, Ghosts, IfErr, IsErrOf, Ok, Refusal, Result, Roots, arith, disk_of, ended_with, false, has_failed, inl, inr, nothing_twice, refl, subst, sym, ⊎_elim, ◌∙◌, ◌≡◌, ◌⊎◌}
 use Rattle.std.specs.Result.{IsErrAnd}
-use Rattle.disk.specs.Stops.{nothing_twice}
-use Rattle.disk.specs.declared.disk.Disk.{Ghosts}
-use Rattle.lattice.specs.declared.refusal.Refusal.{Refusal}
 use Rattle.lattice.specs.declared.refusal.Refusal.TheVariants.{Device, NoMemory, Damaged}
-use Rattle.roots.specs.Roots.{disk_of, has_failed}
-use Rattle.page_map.proofs.Refused.{ended_with}
 use Rattle.cow_tree.specs.OverRoots.{OnlyReads, IsRefusedFor}
-use Rattle.roots.specs.declared.roots.Roots.{Roots}
 
 pub refused_for : (A B : Type 0) (why : Refusal) → (A → B) → IsRefusedFor A why → IsRefusedFor B why
 refused_for A B why implies refused = ⊎_elim (λ h. inl h) (λ rest. inr (⊎_elim (λ h. inl h) (λ h. inr (h.0, implies h.1)) rest)) refused

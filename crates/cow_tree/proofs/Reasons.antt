@@ -1,18 +1,6 @@
 -- Why no tile lies where an entry names it: a record of one of its planes is none.
-use Rattle.std.proofs.Common.{◌≡◌, ℕ, ◌<◌, ◌≤◌, ◌^◌, All, Some, None, length, ap, sym, ◌∙◌, subst}
-use Rattle.std.proofs.lemmas.List.Elements.{All-head}
-use Rattle.disk.specs.Disk.{Image}
-use Rattle.page_codec.specs.Formats.{Format}
-use Rattle.page_codec.specs.declared.version.Version.{Version}
-use Rattle.page_codec.specs.declared.version.Version.TheVariants.{One, Two}
-use Rattle.page_codec.specs.Entries.{EntryValue}
-use Rattle.page_codec.specs.Records.{IsRecord}
+use Rattle.cow_tree.proofs.Prelude.{All, All-head, EntryValue, Format, HasRecord, Image, IsRecord, Kept, NoTileAt, None, NoneKept, NoneListed, NonePlane, One, PlaneLocation, Some, Two, Version, ℕ, ap, length, listed_by, pages_behind, pages_of_kept, pages_of_plane, subst, sym, ◌<◌, ◌^◌, ◌∙◌, ◌≡◌, ◌≤◌}
 use Rattle.page_codec.specs.Sizes.{pages_of, index_pages_by, listed_in, listed_by as count_listed}
-use Rattle.page_codec.specs.declared.entry.Kept.{Kept}
-use Rattle.page_map.specs.Locations.{PlaneLocation, pages_behind, pages_of_plane}
-use Rattle.page_map.specs.TileLocations.{pages_of_kept}
-use Rattle.cow_tree.specs.Found.{NoneListed, NonePlane, NoneKept, NoTileAt}
-use Rattle.cow_tree.specs.Layout.{HasRecord, listed_by}
 use Rattle.cow_tree.proofs.Standing.{All-front, All-back}
 
 -- a whole plane's record lists as many numbers as its format says

@@ -1,27 +1,16 @@
 -- The samples that a page of heights holds.
-use Rattle.std.proofs.Common.{◌≡◌, ℕ, ℤ, zero, suc, ◌+◌, ◌-◌, ◌*◌, ◌/◌, ◌%◌, ◌<◌, ◌≤◌, Bool, false, cond, List, [], ◌∷◌, ◌++◌, All, Contains, length, take, drop, get_or, map, Option, Some, refl, sym, ap, ap₂, ◌∙◌, subst, arith, slice_get, slice_range, IsSomeAnd}
-use Rattle.std.specs.List.{concat}
+use Rattle.cow_tree.proofs.Prelude.{All, All-contains, All-head, All-tail, AreWhole, Bool, Contains, Corner, HasPage, Heights, IsPage, IsSomeAnd, List, One, Option, PlanePages, Point, Some, StoredTile, Two, Version, ℕ, ℤ, [], ap, ap₂, arith, concat, cond, drop, drop-drop, false, get_or, get_or-append-add, get_or-drop, get_or-take, get_or_append_left, largest_side_of, length, length-append, length-drop, length-take, map, mosaic_of_tiles, plane_bytes, refl, same_corner, same_lists, samples_of_plane, slice_get, slice_range, subst, suc, sym, take, zero, ◌%◌, ◌*◌, ◌++◌, ◌+◌, ◌-◌, ◌/◌, ◌<◌, ◌∙◌, ◌∷◌, ◌≡◌, ◌≤◌}
 use Rattle.std.proofs.lemmas.Option.{get_or_from_slice_get, slice_get_within, slice_get_read}
-use Rattle.std.proofs.lemmas.List.{drop-drop, length-append, length-take, length-drop, get_or-take, get_or-drop, get_or_append_left, get_or-append-add, same_lists}
 use Rattle.std.proofs.lemmas.Slice.{take-put_mid}
 use Rattle.std.proofs.Math.Nat.{mul-le-mul_left}
 use Rattle.std.proofs.Math.Seq.{take-add}
 use borrow.Rule.Slice.PartMut.{put_mid}
-use Rattle.std.proofs.lemmas.List.Elements.{All-head, All-tail, All-contains}
-use Rattle.lattice.specs.Corners.{Corner, same_corner}
-use Rattle.lattice.specs.declared.point.Point.{Point}
 use Rattle.lattice.specs.Mosaic.{Tile, Mosaic, IsMosaic, IsTile, samples_among, samples_of}
 use Rattle.lattice.specs.Limits.{largest_side}
 use Rattle.hgt.specs.Bytes.{sample_of, samples_in}
 use Rattle.hgt.proofs.BytesLemmas.{get_or-samples_in}
 use Rattle.lattice.proofs.CornerOrder.{same_from, before_not_same}
 use Rattle.lattice.proofs.Rising.{AllAfter, Rising, after_at, rising_from}
-use Rattle.page_map.specs.declared.plane.Plane.TheVariants.{Heights}
-use Rattle.page_codec.specs.Formats.{largest_side_of}
-use Rattle.page_codec.specs.declared.version.Version.{Version}
-use Rattle.page_codec.specs.declared.version.Version.TheVariants.{One, Two}
-use Rattle.cow_tree.specs.Planes.{HasPage}
-use Rattle.cow_tree.specs.Stored.{StoredTile, PlanePages, IsPage, AreWhole, plane_bytes, samples_of_plane, mosaic_of_tiles}
 use Rattle.cow_tree.proofs.Listed.Adding.{contains-map}
 
 -- ---- the samples of a tile in the mosaic

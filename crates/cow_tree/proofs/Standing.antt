@@ -1,16 +1,5 @@
 -- What stands on an image depends on its current root and on the pages that the tiles reach, and on nothing else.
-use Rattle.std.proofs.Common.{◌≡◌, ◌≢◌, ℕ, ◌+◌, ◌≤◌, List, [], ◌∷◌, ◌++◌, All, Contains, get_or, length, map, Option, Some, None, IfSome, refl, sym, ap, ap₂, ◌∙◌, subst, arith}
-use Rattle.std.proofs.lemmas.List.{length-append, get_or_append_left, get_or-append-add}
-use Rattle.std.proofs.lemmas.List.Elements.{All-nil, All-cons, All-head, All-tail, All-contains_itself}
-use Rattle.disk.specs.Disk.{Image}
-use Rattle.page_codec.specs.Formats.{Format}
-use Rattle.page_codec.specs.Roots.{RootValue, format_of}
-use Rattle.roots.specs.Slots.{SamePages, SamePagesBut, KeepsAll, KeepsBut, IsCurrent}
-use Rattle.cow_tree.specs.Stored.{PlanePages, KeptPlanes, StoredTile, Stored}
-use Rattle.page_map.specs.declared.locations.KeptLocations.{KeptLocations}
-use Rattle.page_map.specs.Locations.{PlaneLocation, pages_behind, pages_of_plane}
-use Rattle.page_map.specs.TileLocations.{TileLocation, pages_of_kept, pages_of_tile, reached}
-use Rattle.cow_tree.specs.Layout.{HasRecord, HaveKeptRecords, HasRecords, plane_in, kept_in, tile_in, StoresAt}
+use Rattle.cow_tree.proofs.Prelude.{All, All-cons, All-contains_itself, All-head, All-nil, All-tail, Contains, Format, HasRecord, HasRecords, HaveKeptRecords, IfSome, Image, IsCurrent, KeepsAll, KeepsBut, KeptLocations, KeptPlanes, List, None, Option, PlaneLocation, PlanePages, RootValue, SamePages, SamePagesBut, Some, Stored, StoredTile, StoresAt, TileLocation, ℕ, [], ap, ap₂, arith, format_of, get_or, get_or-append-add, get_or_append_left, kept_in, length, length-append, map, pages_behind, pages_of_kept, pages_of_plane, pages_of_tile, plane_in, reached, refl, subst, sym, tile_in, ◌++◌, ◌+◌, ◌∙◌, ◌∷◌, ◌≡◌, ◌≢◌, ◌≤◌}
 
 -- both images have the same in these pages
 abbrev pub SameOn : List ℕ → Image → Image → Type 0

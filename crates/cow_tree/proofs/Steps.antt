@@ -1,24 +1,8 @@
 -- The steps of staging and of a commit, over page_map and images.
-use Rattle.std.proofs.Common.{◌≡◌, ℕ, ◌/◌, ◌<◌, ◌≤◌, ◌==◌, Bool, true, false, Result, Ok, Err, OnOk, OnErr, List, All, Contains, length, map, refl, sym, ap, ◌∙◌, subst, arith, IfErr, IsErrOf}
-use Rattle.std.specs.List.{list_any}
-use Rattle.std.proofs.lemmas.List.Elements.{All-weaker}
-use Rattle.disk.specs.Disk.{Image}
-use Rattle.lattice.specs.Corners.{Corner}
-use Rattle.lattice.specs.declared.refusal.Refusal.{Refusal}
-use Rattle.lattice.specs.declared.refusal.Refusal.TheVariants.{Device, NoMemory}
-use Rattle.page_codec.specs.Formats.{Format}
-use Rattle.page_codec.specs.Roots.{RootValue}
-use Rattle.page_codec.specs.Sizes.{pages_of}
-use Rattle.roots.specs.Slots.{SamePagesBut}
-use Rattle.page_map.specs.TileLocations.{TileLocation, reached}
-use Rattle.cow_tree.specs.Layout.{tile_in, StoresAt, Stands}
-use Rattle.page_map.specs.Locations.{moved_plane, times}
+use Rattle.cow_tree.proofs.Prelude.{All, All-weaker, AreStaged, Bool, Contains, Corner, Device, Err, Format, IfErr, Image, IsErrOf, List, NoMemory, Ok, OnErr, OnOk, Refusal, Result, RootValue, SamePagesBut, Stands, Stored, StoresAt, TileLocation, ℕ, any_none, ap, arith, false, length, list_any, map, moved_plane, pages_of, reached, refl, subst, sym, tile_in, times, true, with_page, ◌/◌, ◌<◌, ◌==◌, ◌∙◌, ◌≡◌, ◌≤◌}
 use Rattle.page_map.specs.PageMaps.{PageMapValue, IsPageMap, IsRewritten, IsLocated, IsWholeTile, corners_of_locations, with_page_location}
-use Rattle.cow_tree.specs.Staged.{AreStaged}
-use Rattle.cow_tree.specs.Stored.{Stored, with_page}
 use Rattle.cow_tree.proofs.Listed.CornerChanges.{corners_still}
 use Rattle.cow_tree.proofs.Writes.Staging.{IsWrittenAt, written_tiles, staged_pages, still_staged}
-use Rattle.page_map.proofs.Listing.{any_none}
 use Rattle.cow_tree.proofs.Tiles.{located_is}
 
 -- a call that left its owner unfailed answered Ok

@@ -1,14 +1,10 @@
 -- Tiles in the order of their corners: a corner has one tile.
-use Rattle.std.proofs.Common.{◌≡◌, zero, suc, Bool, true, false, cond, ◌||◌, IsTrue, List, [], ◌∷◌, All, Contains, length, map, refl, sym, ap, ◌∙◌, subst, arith}
+use Rattle.cow_tree.proofs.Prelude.{All, All-cons, All-head, All-nil, All-tail, Bool, Contains, Corner, IsLocated, IsTrue, List, TileLocation, [], ap, arith, cond, corners_of_locations, false, is_at, is_before, length, map, refl, same_corner, subst, suc, sym, true, zero, ◌||◌, ◌∙◌, ◌∷◌, ◌≡◌}
 use Rattle.std.specs.List.{AllAdjacentBelow, filter, list_any}
-use Rattle.std.proofs.lemmas.List.Elements.{All-nil, All-cons, All-head, All-tail}
-use Rattle.lattice.specs.Corners.{Corner, same_corner, is_before}
 use Rattle.lattice.specs.Lattice.{IsBefore}
 use Rattle.lattice.proofs.CornerOrder.{before_apart}
 use Rattle.catalogue.proofs.Presence.{listed_from}
 use Rattle.lattice.proofs.Rising.{AllAfter, Rising, rising_from, adjacent_from}
-use Rattle.page_map.specs.TileLocations.{TileLocation}
-use Rattle.page_map.specs.PageMaps.{is_at, corners_of_locations, IsLocated}
 use Rattle.page_map.proofs.EntryLists.{rising_map}
 
 abbrev pub corner_of : TileLocation → Corner

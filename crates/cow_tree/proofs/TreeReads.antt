@@ -1,13 +1,6 @@
 -- What a read leaves of a tree.
-use Rattle.std.proofs.Common.{◌≡◌, List, sym, ap, ap₂, ◌∙◌, subst}
-use Rattle.disk.specs.declared.disk.Disk.{Ghosts}
-use Rattle.lattice.specs.declared.point.Point.{Point}
-use Rattle.lattice.specs.Mosaic.{IsMosaic}
-use Rattle.page_codec.specs.Roots.{RootValue}
-use Rattle.cow_tree.specs.Reading.{mosaic_of, IsReadable, HasOnlyRead}
-use Rattle.cow_tree.specs.Stored.{AreWhole, mosaic_of_tiles}
+use Rattle.cow_tree.proofs.Prelude.{AreWhole, Ghosts, HasOnlyRead, IsMosaic, IsReadable, List, Point, RootValue, Tree, ap, ap₂, mosaic_of, mosaic_of_tiles, subst, sym, ◌∙◌, ◌≡◌}
 use Rattle.cow_tree.specs.Trees.{disk_of, root_of, sinks_of, staged_in}
-use Rattle.cow_tree.specs.declared.tree.Tree.{Tree}
 
 module _ {D : Type 0} (g : Ghosts D) (old new : Tree D g) (kept : HasOnlyRead g old new) where
   pub same_mosaic : g.honest (disk_of new) → mosaic_of g new ≡ mosaic_of g old

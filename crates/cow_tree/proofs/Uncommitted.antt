@@ -1,22 +1,9 @@
 -- Calls that commit nothing: one, and one after another.
 use Rattle.std.proofs.Common.{◌≡◌, false, true, List, All, Contains, Result, Ok, Err, OnOk, IsErrOf, refl, sym, ap, ◌∙◌, subst, arith, ℕ, IsErrAnd, is_err}
 use Rattle.disk.specs.Disk.{Image, HasRisen}
-use Rattle.disk.specs.Stops.{LeavesOnly, weaker, in_turn, nothing_done}
-use Rattle.disk.specs.declared.disk.Disk.{Ghosts}
-use Rattle.lattice.specs.declared.refusal.Refusal.{Refusal}
-use Rattle.lattice.specs.declared.refusal.Refusal.TheVariants.{Device, NoMemory}
-use Rattle.page_codec.specs.Roots.{RootValue, format_of}
-use Rattle.page_map.specs.PageMaps.{PageMapValue}
-use Rattle.page_map.specs.TileLocations.{reached}
+use Rattle.cow_tree.proofs.Prelude.{AreStaged, Device, EachStores, Ghosts, HasOnlyRead, LeavesOnly, NoMemory, PageMapValue, Refusal, RootValue, Roots, Stands, Stored, StoresAt, Tree, WritesPages, format_of, in_turn, nothing_done, reached, weaker}
 use Rattle.roots.specs.Roots.{IsReady, disk_of as disk_under, root_of as root_under, has_begun as have_begun, has_failed as have_failed}
-use Rattle.roots.specs.declared.roots.Roots.{Roots}
-use Rattle.cow_tree.specs.Layout.{Stands, StoresAt}
-use Rattle.cow_tree.specs.OverRoots.{EachStores, WritesPages}
-use Rattle.cow_tree.specs.Reading.{HasOnlyRead}
-use Rattle.cow_tree.specs.Staged.{AreStaged}
-use Rattle.cow_tree.specs.Stored.{Stored}
 use Rattle.cow_tree.specs.Trees.{disk_of, has_failed, IsAt}
-use Rattle.cow_tree.specs.declared.tree.Tree.{Tree}
 use Rattle.cow_tree.proofs.Steps.{failed_where, ok_where, ok_where_works, on_ok, stands, stores_along}
 use Rattle.cow_tree.specs.Uncommitted.{CommitsNothing, MakesNoCall, Returns}
 

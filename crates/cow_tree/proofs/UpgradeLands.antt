@@ -1,21 +1,7 @@
 -- What an upgrade keeps of the page_map, and how much it writes.
-use Rattle.std.proofs.Common.{◌≡◌, ℕ, ◌+◌, ◌*◌, ◌≤◌, Bool, true, false, if◌then◌else◌, List, [], ◌∷◌, All, length, map, refl, sym, ap, ◌∙◌, subst, arith, Option, Some, None, IfSome}
+use Rattle.cow_tree.proofs.Prelude.{All, All-head, All-tail, AreWholeKept, Bool, Corner, EntryValue, Format, IfSome, IsPageMap, IsWholeTile, KeptLocations, List, None, Option, PageMapValue, RootValue, Some, TileLocation, Two, ℕ, [], ap, arith, corners_of_locations, entry_of, false, format_of, if◌then◌else◌, index_pages_of, length, length-append, length-map, listing_of, map, refl, subst, sym, true, upgraded, ◌*◌, ◌+◌, ◌∙◌, ◌∷◌, ◌≡◌, ◌≤◌}
 use Rattle.std.proofs.Math.Nat.{mul-add}
-use Rattle.std.proofs.lemmas.List.{length-append, length-map}
-use Rattle.std.proofs.lemmas.List.Elements.{All-head, All-tail}
-use Rattle.lattice.specs.Corners.{Corner}
-use Rattle.page_codec.specs.Formats.{upgraded}
-use Rattle.page_codec.specs.declared.version.Version.TheVariants.{Two}
-use Rattle.page_codec.specs.Entries.{EntryValue}
-use Rattle.page_codec.specs.Formats.{Format}
-use Rattle.page_codec.specs.Roots.{RootValue, format_of}
-use Rattle.page_codec.specs.Sizes.{index_pages_of}
-use Rattle.page_map.specs.declared.locations.KeptLocations.{KeptLocations}
-use Rattle.page_map.specs.PageMaps.{PageMapValue, IsPageMap, IsWholeTile, AreWholeKept, corners_of_locations}
-use Rattle.page_map.specs.Locations.{listing_of}
-use Rattle.page_map.specs.TileLocations.{TileLocation}
 use Rattle.page_map.specs.Upgraded.{TileData, IsUpgraded, data_of, listing_of_kept, listing_of_tile, listings}
-use Rattle.cow_tree.specs.Entries.{entry_of}
 
 -- the root of the next commit by the second version
 abbrev pub upgraded_root : RootValue → List EntryValue → RootValue

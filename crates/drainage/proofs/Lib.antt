@@ -1,3 +1,4 @@
+mod Prelude
 pub mod Caches
 pub mod RimPoints
 pub mod Questions

@@ -1,21 +1,7 @@
 -- What is known of a command that isn't refused, and of what it makes.
 use Rattle.std.proofs.Common.{◌≡◌, ℕ, ◌*◌, pos, Bool, true, false, cond, not, nat_eq, nat_lt, length, refl}
-use Rattle.std.specs.Prelude.{Option, Some, None, Result, Ok, Err}
-use Rattle.lattice.specs.declared.refusal.Refusal.{Refusal}
-use Rattle.lattice.specs.declared.refusal.Refusal.TheVariants.{NoSink}
-use Rattle.lattice.specs.declared.point.Point.{Point}
-use Rattle.lattice.specs.declared.height.Height.{Height}
+use Rattle.edits.proofs.Prelude.{Burn, Command, Err, Height, Import, Mosaic, NoSink, None, Ok, Option, Patch, Point, Refusal, Remove, Result, Sink, Some, Unsink, Wall, added, burnt, effect, first_fault, has_void, height_of, is_box, is_depth, is_height, is_present, is_repeated, is_sink, most_sinks, patched, samples_in, sunk, sunk_at, unless_fault, unsunk, walled, with_point, with_sinks, without, without_point}
 use Rattle.lattice.specs.declared.height.Height.TheVariants as height
-use Rattle.lattice.specs.Ground.{is_sink}
-use Rattle.lattice.specs.Height.{height_of}
-use Rattle.lattice.specs.Limits.{most_sinks}
-use Rattle.lattice.specs.Mosaic.{Mosaic, is_present}
-use Rattle.hgt.specs.Bytes.{samples_in}
-use Rattle.catalogue.specs.Tiles.{added, without, with_sinks}
-use Rattle.edits.specs.declared.command.Command.{Command}
-use Rattle.edits.specs.declared.command.Command.TheVariants.{Import, Remove, Patch, Burn, Wall, Sink, Unsink}
-use Rattle.edits.specs.Effect.{effect, is_height, is_depth, is_box, is_repeated, has_void, first_fault, unless_fault, patched, burnt, walled}
-use Rattle.edits.specs.Sinks.{with_point, without_point, sunk, sunk_at, unsunk}
 
 abbrev pub IsMade : ℕ → Mosaic → Command → Mosaic → Type 0
 IsMade capacity m (Import c bytes) new =

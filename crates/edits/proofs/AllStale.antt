@@ -1,25 +1,6 @@
 -- After a command each present tile was present before or goes stale.
 use Rattle.std.proofs.Common.{◌≡◌, ℕ, zero, suc, ◌*◌, ◌<◌, ℤ, pos, ◌-ℤ◌, Bool, true, false, cond, ◌||◌, ◌&&◌, List, [], ◌∷◌, length, map, filter, nat_eq, nat_lt, nat_abs, get_or, refl, sym, ◌∙◌, ap, subst, arith, not}
-use Rattle.std.specs.Prelude.{Result, Ok, Err, Option, Some, None, if◌then◌else◌}
-use Rattle.std.specs.Int.{int_max}
-use Rattle.std.specs.List.{All, list_any}
-use Rattle.std.proofs.lemmas.Bool.{or_left, or_right}
-use Rattle.std.proofs.lemmas.Int.{ints}
-use Rattle.std.proofs.lemmas.List.Elements.{All-nil, All-cons, All-head, All-tail}
-use Rattle.lattice.specs.Corners.{Corner, is_before, same_corner}
-use Rattle.lattice.specs.Mosaic.{Tile, Mosaic, is_present}
-use Rattle.lattice.specs.Height.{height_of}
-use Rattle.lattice.specs.Ground.{metres}
-use Rattle.lattice.specs.declared.refusal.Refusal.{Refusal}
-use Rattle.lattice.specs.declared.refusal.Refusal.TheVariants.{BadLength, TileThere, NoTile, Full, NothingVoid, BadHeight, BadDepth, BadBox, Repeated}
-use Rattle.hgt.specs.Bytes.{samples_in}
-use Rattle.catalogue.specs.Tiles.{with_tile, added, without, with_sinks, corners_of}
-use Rattle.lattice.proofs.CornerOrder.{same_from}
-use Rattle.edits.specs.declared.command.Command.{Command}
-use Rattle.edits.specs.declared.command.Command.TheVariants.{Import, Remove, Patch, Burn, Wall, Sink, Unsink}
-use Rattle.edits.specs.Effect.{effect, is_in_box, is_void_at, is_named, patched, burnt, walled, unless_fault, first_fault, is_height, is_depth, is_box, has_void, is_repeated}
-use Rattle.edits.specs.Sinks.{with_point, without_point}
-use Rattle.edits.specs.Touched.{are_neighbours, goes_stale}
+use Rattle.edits.proofs.Prelude.{All, All-cons, All-head, All-nil, All-tail, BadBox, BadDepth, BadHeight, BadLength, Burn, Command, Corner, Err, Full, Import, Mosaic, NoTile, None, NothingVoid, Ok, Option, Patch, Refusal, Remove, Repeated, Result, Sink, Some, Tile, TileThere, Unsink, Wall, added, are_neighbours, burnt, corners_of, effect, first_fault, goes_stale, has_void, height_of, if◌then◌else◌, int_max, ints, is_before, is_box, is_depth, is_height, is_in_box, is_named, is_present, is_repeated, is_void_at, list_any, metres, or_left, or_right, patched, same_corner, same_from, samples_in, unless_fault, walled, with_point, with_sinks, with_tile, without, without_point}
 use Rattle.edits.proofs.Accepted.{accepted_is}
 use Rattle.edits.proofs.EditedHeights.{edited_corners}
 

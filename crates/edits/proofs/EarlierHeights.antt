@@ -1,20 +1,8 @@
 -- The heights that points have, until they get others one after another.
-use Rattle.std.proofs.Common.{◌≡◌, ◌≤◌, true, false, List, [], ◌∷◌, sym, ◌∙◌, ap, subst, refl}
+use Rattle.edits.proofs.Prelude.{All-cons, All-head, All-nil, All-tail, AreCorners, AreEarlier, List, Mosaic, NewHeight, Point, [], ap, both_ways, corners_of, false, false_from_ne_true, height_of, is_named, is_repeated, or_parts, points_of, refl, same_point, same_point_from, same_point_says, subst, sym, true, with_height, ◌∙◌, ◌∷◌, ◌≡◌, ◌≤◌}
 use Rattle.std.specs.Prelude.{All, if◌then◌else◌}
-use Rattle.std.proofs.lemmas.Bool.{both_ways, false_from_ne_true, or_parts}
-use Rattle.std.proofs.lemmas.List.Elements.{All-nil, All-cons, All-head, All-tail}
 use Rattle.lattice.specs.declared.height.Height.TheVariants.{At}
-use Rattle.lattice.specs.declared.point.Point.{Point}
-use Rattle.lattice.specs.Ground.{same_point}
-use Rattle.lattice.specs.Height.{height_of}
-use Rattle.lattice.specs.Mosaic.{Mosaic}
-use Rattle.catalogue.specs.Tiles.{corners_of}
-use Rattle.catalogue.specs.Tables.{AreCorners}
-use Rattle.edits.specs.declared.edit.NewHeight.{NewHeight}
-use Rattle.edits.specs.Edits.{AreEarlier, points_of, with_height}
-use Rattle.edits.specs.Effect.{is_named, is_repeated}
 use Rattle.edits.proofs.EditedHeights.{edited_corners, height_stays}
-use Rattle.lattice.proofs.SamePoints.{same_point_from, same_point_says}
 
 abbrev HasEarlier : Mosaic → NewHeight → Type 0
 HasEarlier m h = height_of m h.point ≡ At h.was

@@ -1,24 +1,7 @@
 -- The tiles that go stale by an edit are those that go stale by its command.
-use Rattle.std.proofs.Common.{◌≡◌, ℕ, zero, suc, arith, ◌+◌, ◌<◌, ◌≤◌, Bool, true, false, ◌&&◌, ◌||◌, IsTrue, List, [], ◌∷◌, ◌++◌, map, length, take, get_or, refl, sym, ◌∙◌, ap, ap₂, subst}
-use Rattle.std.specs.List.{All, Contains, list_any}
-use Rattle.std.proofs.lemmas.Bool.{and_parts, and_from, false_from_ne_true}
-use Rattle.std.proofs.lemmas.List.{take_more}
-use Rattle.std.proofs.lemmas.List.Elements.{All-contains}
-use Rattle.std.proofs.lemmas.List.Folds.{list_any-append}
-use Rattle.lattice.specs.Corners.{Corner, is_corner, same_corner}
-use Rattle.lattice.specs.declared.point.Point.{Point}
-use Rattle.lattice.specs.Lattice.{Holds, holds}
-use Rattle.lattice.specs.Mosaic.{Tile, Mosaic}
-use Rattle.lattice.proofs.CornerOrder.{same_says, same_from}
-use Rattle.lattice.proofs.Samples.{holds_is}
+use Rattle.edits.proofs.Prelude.{All, All-contains, AreCorners, Bool, Contains, Corner, Holds, IsTrue, List, Mosaic, NewHeight, Point, Tile, ℕ, [], and_from, and_parts, ap, ap₂, are_neighbours, arith, corners_of, false, false_from_ne_true, get_or, has_void_from, holds, holds_is, holds_one, is_corner, is_listed, is_near_one, length, list_any, list_any-append, map, refl, same_corner, same_from, same_says, subst, suc, sym, take, take_more, true, zero, ◌&&◌, ◌++◌, ◌+◌, ◌<◌, ◌||◌, ◌∙◌, ◌∷◌, ◌≡◌, ◌≤◌}
 use Rattle.lattice.proofs.BoolTests.{same_tests}
-use Rattle.catalogue.specs.Tiles.{corners_of, is_listed}
-use Rattle.catalogue.specs.Tables.{AreCorners}
-use Rattle.edits.specs.declared.edit.NewHeight.{NewHeight}
 use Rattle.edits.specs.Edits.{AreVoidTiles, holds_any, points_of}
-use Rattle.edits.specs.Effect.{has_void_from}
-use Rattle.edits.specs.Touched.{are_neighbours, holds_one}
-use Rattle.edits.specs.Touched.{is_near_one}
 use Rattle.edits.proofs.BoxVoids.Voids.{any_says, any_from, tile_at}
 
 any_corner : (test : Corner → Bool) (ts : List Tile) → list_any test (map (λ t. t.corner) ts) ≡ list_any (λ t. test t.corner) ts

@@ -1,17 +1,6 @@
 -- Edits of a mosaic, one after another.
-use Rattle.std.proofs.Common.{◌≡◌, ℕ, ◌+◌, ◌<◌, ℤ, Bool, true, false, ◌||◌, List, [], ◌∷◌, ◌++◌, length, map, take, get_or, refl, sym, ◌∙◌, ap, ap₂}
-use Rattle.std.specs.Prelude.{if◌then◌else◌}
-use Rattle.std.proofs.lemmas.List.{take_more}
-use Rattle.lattice.specs.declared.point.Point.{Point}
-use Rattle.lattice.specs.Lattice.{point_of}
-use Rattle.lattice.specs.Ground.{same_point}
-use Rattle.lattice.specs.Mosaic.{Tile, Mosaic}
-use Rattle.catalogue.specs.Tiles.{corners_of}
-use Rattle.edits.specs.declared.edit.NewHeight.{NewHeight}
-use Rattle.edits.specs.Edits.{with_height, with_heights}
-use Rattle.edits.specs.Effect.{changed_from, edited, is_named}
+use Rattle.edits.proofs.Prelude.{Bool, List, Mosaic, NewHeight, Point, Tile, ℕ, ℤ, [], ap, ap₂, changed_from, corners_of, edited, false, get_or, if◌then◌else◌, is_named, length, map, point_of, refl, same_point, same_point_says, sym, take, take_more, true, with_height, with_heights, ◌++◌, ◌+◌, ◌<◌, ◌||◌, ◌∙◌, ◌∷◌, ◌≡◌}
 use Rattle.edits.proofs.EditedHeights.{edited_corners}
-use Rattle.lattice.proofs.SamePoints.{same_point_says}
 
 none_from : (e : ℕ) (l : List ℤ) → changed_from (λ e s. s) e l ≡ l
 none_from e [] = refl

@@ -1,16 +1,5 @@
 -- Where an edit leaves the samples of a point as they are, its height stays.
-use Rattle.std.proofs.Common.{◌≡◌, ℕ, zero, suc, ◌+◌, ◌≤◌, ℤ, Bool, true, false, cond, IsTrue, List, [], ◌∷◌, map, get_or, refl, sym, ◌∙◌, ap, ap₂, add-zero, arith}
-use Rattle.std.specs.List.{filter}
-use Rattle.std.proofs.lemmas.List.Elements.{All-head, All-tail}
-use Rattle.lattice.specs.Corners.{Corner, is_corner}
-use Rattle.lattice.specs.declared.point.Point.{Point}
-use Rattle.lattice.specs.Height.{by_seam_rule, height_of, sample_at}
-use Rattle.lattice.specs.Lattice.{holds, index_of, point_of}
-use Rattle.lattice.specs.Mosaic.{Tile, Mosaic, void}
-use Rattle.lattice.proofs.Samples.{holds_is, point_of_index}
-use Rattle.catalogue.specs.Tiles.{corners_of}
-use Rattle.catalogue.specs.Tables.{AreCorners}
-use Rattle.edits.specs.Effect.{changed_from, edited}
+use Rattle.edits.proofs.Prelude.{All-head, All-tail, AreCorners, Bool, Corner, IsTrue, List, Mosaic, Point, Tile, ℕ, ℤ, [], add-zero, ap, ap₂, arith, by_seam_rule, changed_from, cond, corners_of, edited, false, filter, get_or, height_of, holds, holds_is, index_of, is_corner, map, point_of, point_of_index, refl, sample_at, suc, sym, true, void, zero, ◌+◌, ◌∙◌, ◌∷◌, ◌≡◌, ◌≤◌}
 
 changed_same : (g : ℕ → ℤ → ℤ) (e : ℕ) (l : List ℤ) (k : ℕ) (d : ℤ) → ((s : ℤ) → g (e + k) s ≡ s) → get_or (changed_from g e l) k d ≡ get_or l k d
 changed_same g e [] k d same = refl

@@ -1,30 +1,11 @@
 -- A present tile that doesn't go stale by a command keeps the sinks among its points, and so its block.
-use Rattle.std.proofs.Common.{◌≡◌, ℕ, ◌*◌, ◌<◌, Bool, true, false, cond, not, ◌&&◌, ◌||◌, List, [], ◌∷◌, refl, sym, ◌∙◌, ap, subst, arith}
-use Rattle.std.specs.Prelude.{Ok}
-use Rattle.std.specs.List.{Contains, list_any}
-use Rattle.std.proofs.lemmas.Bool.{and_from, false_from_ne_true, both_ways}
+use Rattle.edits.proofs.Prelude.{Bool, Burn, Command, Contains, Corner, Import, IsMosaic, List, Mosaic, Ok, Patch, Point, Remove, Sink, Unsink, Wall, ℕ, [], and_from, ap, are_neighbours, arith, both_ways, cond, corners_of, effect, false, false_from_ne_true, goes_stale, height_of, holds, holds_is, is_near_one, is_point_before, is_sink, list_any, metres, not, point_of, point_of_held, refl, same_point, same_point_says, subst, sym, true, with_point, without_point, ◌&&◌, ◌*◌, ◌<◌, ◌||◌, ◌∙◌, ◌∷◌, ◌≡◌}
 use Rattle.lattice.specs.Block.{Block, IsBlockOf}
-use Rattle.lattice.specs.Corners.{Corner}
-use Rattle.lattice.specs.declared.point.Point.{Point}
-use Rattle.lattice.specs.Ground.{same_point, metres, is_sink}
-use Rattle.lattice.specs.Height.{height_of}
-use Rattle.lattice.specs.Lattice.{holds, point_of}
-use Rattle.lattice.specs.Mosaic.{Mosaic, IsMosaic}
-use Rattle.lattice.specs.Points.{is_point_before}
-use Rattle.lattice.proofs.Samples.{holds_is, point_of_held}
-use Rattle.catalogue.specs.Tiles.{corners_of}
 use Rattle.catalogue.proofs.OneTile.{corner_is}
-use Rattle.edits.specs.declared.command.Command.{Command}
-use Rattle.edits.specs.declared.command.Command.TheVariants.{Import, Remove, Patch, Burn, Wall, Sink, Unsink}
-use Rattle.edits.specs.Effect.{effect}
-use Rattle.edits.specs.Touched.{is_near_one}
-use Rattle.edits.specs.Sinks.{with_point, without_point}
-use Rattle.edits.specs.Touched.{are_neighbours, goes_stale}
 use Rattle.edits.proofs.Accepted.{IsMade, accepted_is}
 use Rattle.edits.proofs.AllStale.{near_itself}
 use Rattle.edits.proofs.Untouched.{fresh_stays}
 use Rattle.edits.proofs.NewMosaics.{new_side}
-use Rattle.lattice.proofs.SamePoints.{same_point_says}
 use Rattle.edits.proofs.BoxVoids.Voids.{any_from, tile_at}
 
 -- ---- a point more or less leaves the others

@@ -1,3 +1,4 @@
+mod Prelude
 mod Accepted
 pub mod AllStale
 mod BoxVoids

@@ -1,26 +1,7 @@
 -- The new heights of the named points, one after another.
-use Rattle.std.proofs.Common.{◌≡◌, ◌≢◌, ℕ, ◌+◌, ◌<◌, ◌≤◌, ℤ, pos, negsuc, ◌-ℤ◌, true, false, IsTrue, List, [], ◌∷◌, ◌++◌, map, length, get_or, take, drop, sym, ◌∙◌, ap, ap₂}
+use Rattle.edits.proofs.Prelude.{All-push, AreEarlier, ArrayVec, Burn, Ghosts, IsMosaic, IsTrue, List, Lower, Mosaic, NewHeight, OnlyReads, Point, PointEdit, Raise, Refusal, Repeated, TooDeep, Wall, ℕ, ℤ, [], ap, ap₂, at_drop_all, at_drop_more, burnt, corners_are, drop, edited, effect, false, fault_at, first_fault, get_or, height_of, is_depth, is_height, is_repeated, length, map, map-append, metres, negsuc, points_of, pos, reads_on, sym, take, take_all, take_more, true, unless_fault, void, walled, with_heights, ◌++◌, ◌+◌, ◌-ℤ◌, ◌<◌, ◌∙◌, ◌∷◌, ◌≡◌, ◌≢◌, ◌≤◌}
 use Rattle.std.specs.Prelude.{Option, Some, Result, Ok, Err, IfOk, All, int_lt, if◌then◌else◌}
-use Rattle.std.proofs.lemmas.List.{take_more, take_all, at_drop_more, at_drop_all, map-append}
-use Rattle.std.proofs.lemmas.List.Elements.{All-push}
-use Rattle.arrayvec.specs.ArrayVec.{ArrayVec}
-use Rattle.lattice.specs.declared.point.Point.{Point}
 use Rattle.lattice.specs.declared.height.Height.TheVariants as height
-use Rattle.lattice.specs.declared.refusal.Refusal.{Refusal}
-use Rattle.lattice.specs.declared.refusal.Refusal.TheVariants.{TooDeep, Repeated}
-use Rattle.lattice.specs.Mosaic.{Mosaic, IsMosaic, void}
-use Rattle.lattice.specs.Height.{height_of}
-use Rattle.lattice.specs.Ground.{metres}
-use Rattle.catalogue.specs.declared.samples.Samples.{Ghosts}
-use Rattle.catalogue.specs.Readers.{OnlyReads}
-use Rattle.catalogue.proofs.OneTile.{corners_are}
-use Rattle.catalogue.proofs.Reading.{reads_on}
-use Rattle.edits.specs.declared.command.Command.TheVariants.{Burn, Wall}
-use Rattle.edits.specs.declared.edit.NewHeight.{NewHeight}
-use Rattle.edits.specs.declared.point_edit.PointEdit.{PointEdit}
-use Rattle.edits.specs.declared.point_edit.PointEdit.TheVariants.{Lower, Raise}
-use Rattle.edits.specs.Edits.{AreEarlier, points_of, with_heights}
-use Rattle.edits.specs.Effect.{effect, is_depth, is_height, is_repeated, first_fault, fault_at, edited, unless_fault, burnt, walled}
 use Rattle.edits.specs.PointEdits.{edited_metres, depth_of, edited_sample, fault_of, refuses, edit_points}
 use Rattle.edits.proofs.Edited.{height_by, named_heights}
 use Rattle.edits.proofs.EarlierHeights.{are_earlier}

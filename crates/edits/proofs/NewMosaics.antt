@@ -1,36 +1,14 @@
 -- What a command that isn't refused makes is a mosaic.
 use Rattle.std.proofs.Common.{◌≡◌, ℕ, ◌+◌, ◌*◌, ◌<◌, ◌≤◌, inl, inr, ℤ, pos, negsuc, ◌-ℤ◌, ◌≤ℤ◌, Bool, true, false, cond, not, ◌&&◌, List, [], ◌∷◌, length, map, refl, sym, ◌∙◌, ap, subst, arith}
-use Rattle.std.specs.Prelude.{Option, Some, None, Ok, int_le, int_lt}
-use Rattle.std.specs.Int.{int_max}
-use Rattle.std.specs.List.{All, filter}
-use Rattle.std.proofs.lemmas.Bool.{and_parts, or_cases, false≢true, eqb-true, ltb-true}
-use Rattle.std.proofs.lemmas.Int.{ints}
-use Rattle.std.proofs.lemmas.List.{length-map}
-use Rattle.std.proofs.lemmas.List.Elements.{All-nil, All-cons, All-head, All-tail}
-use Rattle.lattice.specs.Corners.{Corner, is_before, same_corner}
-use Rattle.lattice.specs.declared.point.Point.{Point}
-use Rattle.lattice.specs.declared.height.Height.{Height}
+use Rattle.edits.proofs.Prelude.{All, All-cons, All-head, All-nil, All-tail, AllAfter, Burn, Command, Corner, Height, Import, None, Ok, Option, Patch, Point, Refusal, Remove, Rising, Sink, Some, TooDeep, Unsink, Wall, added, adjacent_from, and_parts, burnt, changed_from, edited, effect, eqb-true, false≢true, fault_at, filter, first_fault, height_of, int_le, int_lt, int_max, ints, is_before, is_depth, is_height, is_in_box, is_named, is_void_at, length-map, ltb-true, metres, or_cases, patched, point_of, same_corner, same_point, same_point_says, samples_in, walled, with_point, with_sinks, with_tile, without, without_point}
 use Rattle.lattice.specs.declared.height.Height.TheVariants as height
-use Rattle.lattice.specs.declared.refusal.Refusal.{Refusal}
-use Rattle.lattice.specs.declared.refusal.Refusal.TheVariants.{TooDeep}
-use Rattle.lattice.specs.Ground.{metres, same_point}
-use Rattle.lattice.specs.Height.{height_of}
-use Rattle.lattice.specs.Lattice.{point_of}
 use Rattle.lattice.specs.Mosaic.{Tile, Mosaic, IsSample, IsTile, IsMosaic, void}
-use Rattle.hgt.specs.Bytes.{samples_in}
 use Rattle.hgt.proofs.BytesLemmas.{length-samples_in, samples_in_are_samples}
-use Rattle.catalogue.specs.Tiles.{added, with_tile, without, with_sinks}
 use Rattle.catalogue.proofs.Mosaics.{corner_of, rising_tiles, mosaic-added, mosaic-without}
-use Rattle.lattice.proofs.Rising.{AllAfter, Rising, adjacent_from}
 use Rattle.lattice.proofs.SampleRange.{max_is_sample, metres_are_sample}
-use Rattle.edits.specs.declared.command.Command.{Command}
-use Rattle.edits.specs.declared.command.Command.TheVariants.{Import, Remove, Patch, Burn, Wall, Sink, Unsink}
-use Rattle.edits.specs.Effect.{effect, changed_from, edited, is_named, is_height, is_depth, is_in_box, is_void_at, first_fault, fault_at, patched, burnt, walled}
 use Rattle.edits.specs.EffectLaws.{IsCommand}
-use Rattle.edits.specs.Sinks.{with_point, without_point}
 use Rattle.edits.proofs.Accepted.{IsMade, accepted_is}
 use Rattle.edits.proofs.Placing.{length-changed_from}
-use Rattle.lattice.proofs.SamePoints.{same_point_says}
 use Rattle.edits.proofs.SinkLists.{sunk_makes, unsunk_leaves}
 
 -- ---- samples

@@ -1,19 +1,10 @@
 -- Where the samples of a point lie, holder by holder.
-use Rattle.std.proofs.Common.{◌≡◌, ℕ, zero, suc, ◌*◌, ◌<◌, ◌≤◌, ◌⊎◌, inl, inr, ◌↔◌, false, IsTrue, List, [], ◌∷◌, ◌++◌, length, get_or, take, sym, ◌∙◌, ap, ap₂, subst, length-append, arith}
-use Rattle.std.specs.Prelude.{IsFalse}
-use Rattle.std.specs.List.{All, AllPairs, Contains}
-use Rattle.std.proofs.lemmas.Bool.{false_from_ne_true}
-use Rattle.std.proofs.lemmas.List.Elements.{All-push, All-weaker, Contains-append_left, Contains-push, Contains-push_cases}
-use Rattle.std.proofs.lemmas.List.Quantifiers.{all_pairs_push}
+use Rattle.edits.proofs.Prelude.{All, All-push, All-weaker, AllPairs, ArePlaces, Contains, Contains-append_left, Contains-push, Contains-push_cases, Corner, IsFalse, IsPlace, IsTrue, List, Place, Point, ℕ, [], all_pairs_push, ap, ap₂, arith, false, false_from_ne_true, get_or, inl, inr, is_corner, length, length-append, same_corner, subst, suc, sym, take, zero, ◌*◌, ◌++◌, ◌<◌, ◌↔◌, ◌∙◌, ◌∷◌, ◌≡◌, ◌≤◌, ◌⊎◌}
 use Rattle.lattice.proofs.CornerOrder.{before_apart, same_says}
 use Rattle.lattice.proofs.Rising.{Rising, after_at}
-use Rattle.lattice.specs.Corners.{Corner, is_corner, same_corner}
-use Rattle.lattice.specs.declared.point.Point.{Point}
 use Rattle.lattice.specs.Lattice.{Holds, IsIndexOf, point_of, index_of}
 use Rattle.lattice.proofs.Samples.{index_is, index_below, index_of_point_is, point_of_held, point_at_index}
 use Rattle.lattice.proofs.Multiples.{some_side}
-use Rattle.edits.specs.declared.places.Place.{Place}
-use Rattle.edits.specs.Places.{IsPlace, ArePlaces}
 
 -- those of the corners among these
 pub record PlacesAmong (n : ℕ) (cs among : List Corner) (p : Point) (places : List Place) : Type 0 where

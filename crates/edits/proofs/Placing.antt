@@ -1,23 +1,8 @@
 -- Samples put where those of a point lie make the mosaic that is edited there.
-use Rattle.std.proofs.Common.{◌≡◌, ℕ, zero, suc, ◌+◌, ◌*◌, ◌<◌, ◌⊎◌, inl, inr, ℤ, Bool, true, false, cond, IsTrue, List, [], ◌∷◌, ◌++◌, length, map, take, get_or, refl, sym, ◌∙◌, ap, ap₂, subst, zero-add, add-zero, arith}
+use Rattle.edits.proofs.Prelude.{All, All-head, All-map, All-tail, All-weaker, ArePlaces, Bool, Contains, Corner, IsMosaic, IsPlace, IsTile, IsTrue, List, Mosaic, Place, Point, Tile, ℕ, ℤ, [], add-zero, ap, ap₂, arith, both_ways, cases_eq, changed_from, cond, corners_of, edited, false, filled, get_or, inl, inr, is_corner, length, map, point_of, refl, same_corner, same_from, same_point, same_point_from, same_point_says, same_says, subst, suc, sym, take, true, zero, zero-add, ◌*◌, ◌++◌, ◌+◌, ◌<◌, ◌∙◌, ◌∷◌, ◌≡◌, ◌⊎◌}
 use Rattle.std.specs.Prelude.{slice_set}
-use Rattle.std.specs.List.{All, Contains}
-use Rattle.std.proofs.lemmas.Bool.{cases_eq, both_ways}
 use Rattle.std.proofs.lemmas.List.{take_more, same_lists, length-map, get_or-map, length-set, get_or-set_same, get_or-set_other}
-use Rattle.std.proofs.lemmas.List.Elements.{All-head, All-tail, All-map, All-weaker}
-use Rattle.lattice.specs.Corners.{Corner, is_corner, same_corner}
-use Rattle.lattice.specs.declared.point.Point.{Point}
-use Rattle.lattice.specs.Ground.{same_point}
-use Rattle.lattice.specs.Lattice.{point_of}
-use Rattle.lattice.specs.Mosaic.{Tile, Mosaic, IsMosaic, IsTile}
-use Rattle.catalogue.specs.Tiles.{corners_of}
 use Rattle.catalogue.specs.Tables.{with_sample, with_sample_in}
-use Rattle.lattice.proofs.CornerOrder.{same_says, same_from}
-use Rattle.edits.specs.declared.places.Place.{Place}
-use Rattle.edits.specs.Boxes.{filled}
-use Rattle.edits.specs.Effect.{changed_from, edited}
-use Rattle.edits.specs.Places.{IsPlace, ArePlaces}
-use Rattle.lattice.proofs.SamePoints.{same_point_says, same_point_from}
 
 abbrev place : Corner → ℕ → Place
 place c k = record { corner = c; index = k }

@@ -1,18 +1,10 @@
 -- What is read of a named point, and why it may end a point_edit.
-use Rattle.std.proofs.Common.{◌≡◌, ◌≢◌, ℕ, zero, suc, ◌<◌, ℤ, pos, Bool, true, false, IsTrue, List, [], ◌∷◌, length, get_or, refl, ◌∙◌, ap, arith}
-use Rattle.std.specs.Prelude.{Option, Some, if◌then◌else◌}
-use Rattle.std.proofs.lemmas.Bool.{both_ways}
+use Rattle.edits.proofs.Prelude.{Bool, Height, IsTrue, List, Lower, Option, Point, PointEdit, Raise, Refusal, Some, ℕ, ℤ, [], ap, arith, both_ways, false, fault_at, get_or, if◌then◌else◌, length, pos, refl, suc, true, zero, ◌<◌, ◌∙◌, ◌∷◌, ◌≡◌, ◌≢◌}
 use Rattle.std.proofs.lemmas.Bool.Decides.{Decides-int_eq}
-use Rattle.lattice.specs.declared.point.Point.{Point}
-use Rattle.lattice.specs.declared.height.Height.{Height}
 use Rattle.lattice.specs.declared.height.Height.TheVariants as height
-use Rattle.lattice.specs.declared.refusal.Refusal.{Refusal}
 use Rattle.lattice.specs.declared.refusal.Refusal.TheVariants.{Outside, Void, Device, Failed, Damaged}
 use Rattle.lattice.specs.Mosaic.{Mosaic, void, is_void}
 use Rattle.lattice.specs.Height.{height_of, first_height, by_seam_rule, samples_at}
-use Rattle.edits.specs.declared.point_edit.PointEdit.{PointEdit}
-use Rattle.edits.specs.declared.point_edit.PointEdit.TheVariants.{Lower, Raise}
-use Rattle.edits.specs.Effect.{fault_at}
 use Rattle.edits.specs.PointEdits.{depth_of, fault_of, is_fault}
 
 -- the point at a place, as the code reads it

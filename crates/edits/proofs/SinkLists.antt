@@ -1,25 +1,13 @@
 -- Points with one more among them, or one less; and mosaics with such sinks.
 use Rattle.std.proofs.Common.{◌≡◌, ℕ, ℤ, ◌+◌, ◌<◌, ◌≤◌, Bool, true, false, cond, not, IsTrue, List, [], ◌∷◌, ◌++◌, length, map, drop, get_or, add-one, append_assoc, refl, sym, ap, ◌∙◌, subst, arith}
-use Rattle.std.specs.Prelude.{nat_lt, Result, Ok, Err}
-use Rattle.std.specs.List.{All, list_any, filter}
+use Rattle.edits.proofs.Prelude.{All, AreSinks, Corner, Err, Height, IsHeld, IsMosaic, IsTile, Mosaic, Ok, Point, Refusal, Result, Tile, by_seam_rule, filter, height_of, holds, is_before, is_point_before, is_sink, list_any, most_sinks, nat_lt, same_point, sample_at, with_sinks}
 use Rattle.std.proofs.Math.Seq.{drop-cons}
 use Rattle.std.proofs.lemmas.Bool.{cond-true, cond-false, or_parts, lt-ltb, ltb-true, le-ltb}
 use Rattle.std.proofs.lemmas.List.Elements.{All-cons, All-nil, All-head, All-tail, All-filter}
-use Rattle.lattice.specs.Corners.{Corner, is_before}
-use Rattle.lattice.specs.declared.point.Point.{Point}
-use Rattle.lattice.specs.declared.height.Height.{Height}
 use Rattle.lattice.specs.declared.height.Height.TheVariants as height
-use Rattle.lattice.specs.declared.refusal.Refusal.{Refusal}
 use Rattle.lattice.specs.declared.refusal.Refusal.TheVariants.{Outside, SinkThere, SinksFull, NoSink}
-use Rattle.lattice.specs.Ground.{same_point, is_sink}
-use Rattle.lattice.specs.Height.{height_of, sample_at, by_seam_rule}
-use Rattle.lattice.specs.Lattice.{holds}
-use Rattle.lattice.specs.Limits.{most_sinks}
-use Rattle.lattice.specs.Mosaic.{Tile, Mosaic, IsTile, IsMosaic, IsHeld, AreSinks}
-use Rattle.lattice.specs.Points.{is_point_before}
 use Rattle.lattice.proofs.CornerOrder.{after_from, same_comm}
 use Rattle.lattice.proofs.Rising.{AllAfter, Rising, after_later, rising_from, adjacent_from, rising-filter}
-use Rattle.catalogue.specs.Tiles.{with_sinks}
 use Rattle.edits.specs.Sinks.{with_point, without_point, sunk, sunk_at, unsunk, SinksMakeMosaics, SinksLeaveMosaics}
 
 -- points are ordered as corners are

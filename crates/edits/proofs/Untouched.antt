@@ -1,25 +1,8 @@
 -- What a command leaves of tiles that it doesn't touch, and of blocks that stay fresh.
-use Rattle.std.proofs.Common.{◌≡◌, ℕ, zero, suc, ◌+◌, ◌<◌, ℤ, Bool, true, false, cond, not, ◌||◌, List, [], ◌∷◌, length, map, refl, sym, ◌∙◌, ap, ap₂, subst, add-zero, zero-add, arith, ◌≤◌, ◌-ℤ◌, nat_abs, ◌&&◌}
-use Rattle.std.specs.Prelude.{Ok, nat_lt}
-use Rattle.std.specs.Int.{int_max}
+use Rattle.edits.proofs.Prelude.{All-contains, Bool, Burn, Command, Corner, Import, IsMosaic, IsTile, List, Mosaic, Ok, Patch, Point, Remove, Sink, Tile, Unsink, Wall, ℕ, ℤ, [], add-zero, added, adjacent_from, and_from, ap, ap₂, arith, both_ways, burnt, by_seam_rule, changed_from, cond, corners_of, edited, effect, false, false_from_ne_true, has_void_from, height_of, int_max, is_before, is_named, length, lt-ltb, map, metres, nat_abs, nat_lt, not, patched, refl, rising-filter, same_comm, same_corner, same_says, sample_at, samples_in, subst, suc, sym, true, walled, with_point, with_sinks, with_tile, without, without_point, zero, zero-add, ◌&&◌, ◌+◌, ◌-ℤ◌, ◌<◌, ◌||◌, ◌∙◌, ◌∷◌, ◌≡◌, ◌≤◌}
 use Rattle.std.specs.List.{Contains, filter, list_any, AllAdjacentBelow}
-use Rattle.std.proofs.lemmas.Bool.{false_from_ne_true, both_ways, and_from, lt-ltb}
-use Rattle.std.proofs.lemmas.List.Elements.{All-contains}
-use Rattle.lattice.specs.Corners.{Corner, is_before, same_corner}
-use Rattle.lattice.specs.declared.point.Point.{Point}
 use Rattle.lattice.specs.Lattice.{IsBefore, point_of, holds}
-use Rattle.lattice.specs.Height.{height_of, by_seam_rule, sample_at}
-use Rattle.lattice.specs.Ground.{metres}
-use Rattle.lattice.specs.Mosaic.{Tile, Mosaic, IsTile, IsMosaic}
-use Rattle.hgt.specs.Bytes.{samples_in}
-use Rattle.catalogue.specs.Tiles.{corners_of, with_tile, added, without, with_sinks}
-use Rattle.lattice.proofs.CornerOrder.{same_comm, same_says}
 use Rattle.catalogue.proofs.Presence.{corners_rise}
-use Rattle.lattice.proofs.Rising.{adjacent_from, rising-filter}
-use Rattle.edits.specs.declared.command.Command.{Command}
-use Rattle.edits.specs.declared.command.Command.TheVariants.{Import, Remove, Patch, Burn, Wall, Sink, Unsink}
-use Rattle.edits.specs.Effect.{effect, changed_from, edited, is_named, has_void_from, patched, burnt, walled}
-use Rattle.edits.specs.Sinks.{with_point, without_point}
 use Rattle.edits.specs.Touched.{holds_one, is_touched, goes_stale, stale_after, is_near_one, are_neighbours}
 use Rattle.edits.proofs.Accepted.{IsMade, accepted_is}
 use Rattle.edits.proofs.BoxVoids.TouchedTiles.{HasOne, named_from, void_from}

@@ -1,9 +1,6 @@
 -- A value between the two edges of a tile, as a test, as two inequalities and as a number of steps.
 use Rattle.std.proofs.Common.{◌≡◌, ℕ, suc, ◌*◌, ◌≤◌, ℤ, pos, negsuc, ◌+ℤ◌, ◌-ℤ◌, ◌*ℤ◌, ◌≤ℤ◌, ◌<ℤ◌, int_le, nat_abs, IsTrue, IsFalse, arith, inl, inr}
-use Rattle.std.proofs.Math.Nat.{mul-le-mul_left}
-use Rattle.std.proofs.lemmas.Int.{ints}
-use Rattle.std.proofs.lemmas.Bool.{and_parts, and_from, cases_Bool}
-use Rattle.lattice.specs.Lattice.{is_along}
+use Rattle.lattice.proofs.Prelude.{and_from, and_parts, cases_Bool, ints, is_along, mul-le-mul_left}
 use Rattle.lattice.proofs.IntTests.{le_true, le_from}
 
 -- how far v lies above a bound

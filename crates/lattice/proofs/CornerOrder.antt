@@ -1,13 +1,10 @@
 -- The order of corners, and which two are the same.
-use Rattle.std.proofs.Common.{◌≡◌, ℤ, ◌<ℤ◌, true, false, ◌⊎◌, inl, inr, refl, sym, ◌∙◌, ap, ap₂, arith, ◌&&◌}
+use Rattle.lattice.proofs.Prelude.{Decides-int_eq, ℤ, and_from, and_parts, ap, ap₂, arith, by_lt_z, false, false_from_ne_true, false≢true, inl, inr, ints, or_cases, or_left, or_right, refl, sym, true, ◌&&◌, ◌<ℤ◌, ◌∙◌, ◌≡◌, ◌⊎◌}
 use Rattle.std.specs.Prelude.{int_lt}
 use Rattle.std.specs.Ordering.{int_eq, int_cmp, ordering_then, MatchOrdering}
 use Rattle.std.specs.declared.cmp.Ordering.{Ordering}
 use Rattle.std.specs.declared.cmp.Ordering.TheVariants.{Less, Equal, Greater}
 use Rattle.std.proofs.lemmas.Cmp.{int_ranked}
-use Rattle.std.proofs.lemmas.Int.{ints, by_lt_z}
-use Rattle.std.proofs.lemmas.Bool.{and_parts, and_from, or_cases, or_left, or_right, false_from_ne_true, false≢true}
-use Rattle.std.proofs.lemmas.Bool.Decides.{Decides-int_eq}
 use Rattle.lattice.specs.Corners.{Corner, is_before, same_corner}
 use Rattle.lattice.proofs.IntTests.{lt_true, lt_from}
 

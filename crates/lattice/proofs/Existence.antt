@@ -1,11 +1,7 @@
 -- A point of a finite terrain that has a path to an outlet has a filled level: for each level it can be found out
 -- whether a path of no greater crest leads out, by marking points until no more are added.
-use Rattle.std.proofs.Common.{◌≡◌, ℕ, zero, suc, ◌+◌, ◌<◌, ◌≤◌, ℤ, pos, ◌-ℤ◌, ◌≤ℤ◌, ◌<ℤ◌, Bool, true, false, IsTrue, ◌&&◌, ◌||◌, not, cond, List, [], ◌∷◌, ◌⊎◌, refl, sym, ap, ◌∙◌, arith, inl, inr, ⊎_elim, true≢false, length, nat_abs}
-use Rattle.std.specs.Prelude.{int_le}
-use Rattle.std.specs.List.{list_any}
-use Rattle.std.proofs.lemmas.Int.{ints}
+use Rattle.lattice.proofs.Prelude.{Bool, IsFilledLevel, IsLawful, IsTrue, LeadsOut, List, Terrain, ℕ, ℤ, [], ap, arith, cond, crest, false, inl, inr, int_le, ints, length, list_any, nat_abs, not, pos, refl, suc, sym, true, true≢false, zero, ⊎_elim, ◌&&◌, ◌+◌, ◌-ℤ◌, ◌<ℤ◌, ◌<◌, ◌||◌, ◌∙◌, ◌∷◌, ◌≡◌, ◌≤ℤ◌, ◌≤◌, ◌⊎◌}
 use Rattle.std.proofs.lemmas.Bool.{cases_Bool, and_parts, and_from, or_cases, or_left, or_right, not-true}
-use Rattle.lattice.specs.Terrain.{Terrain, crest, LeadsOut, IsFilledLevel, IsLawful}
 use Rattle.lattice.proofs.IntTests.{le_true, le_from, le_or_above}
 use Rattle.lattice.proofs.Levels.{le-max_left, le-max_right, max-le, ≤ℤ_trans, height-le_crest}
 

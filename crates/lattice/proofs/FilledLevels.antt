@@ -1,15 +1,6 @@
 -- Each ground point of a mosaic has a filled level: the mosaic's points are finitely many.
-use Rattle.std.proofs.Common.{◌≡◌, ℕ, zero, suc, ◌-◌, ◌≤◌, ℤ, pos, ◌+ℤ◌, ◌*ℤ◌, ◌≤ℤ◌, ◌<ℤ◌, Bool, IsTrue, List, [], ◌∷◌, ◌++◌, ◌⊎◌, sym, ◌∙◌, subst, arith, inl, inr, ⊎_elim, true≢false}
-use Rattle.std.specs.Prelude.{int_le}
-use Rattle.std.specs.List.{list_any}
-use Rattle.std.proofs.lemmas.Int.{ints}
+use Rattle.lattice.proofs.Prelude.{Bool, IsFilledLevel, IsMosaic, IsTrue, List, Mosaic, Point, Tile, ℕ, ℤ, [], and_parts, arith, cases_Bool, holds, inl, inr, int_le, ints, is_along, is_ground, list_any, or_cases, or_left, or_right, pos, subst, suc, sym, terrain, true≢false, zero, ⊎_elim, ◌*ℤ◌, ◌++◌, ◌+ℤ◌, ◌-◌, ◌<ℤ◌, ◌∙◌, ◌∷◌, ◌≡◌, ◌≤ℤ◌, ◌≤◌, ◌⊎◌}
 use Rattle.std.proofs.lemmas.List.Folds.{list_any-append}
-use Rattle.std.proofs.lemmas.Bool.{cases_Bool, and_parts, or_cases, or_left, or_right}
-use Rattle.lattice.specs.declared.point.Point.{Point}
-use Rattle.lattice.specs.Lattice.{holds, is_along}
-use Rattle.lattice.specs.Terrain.{IsFilledLevel}
-use Rattle.lattice.specs.Mosaic.{Mosaic, Tile, IsMosaic}
-use Rattle.lattice.specs.Ground.{is_ground, terrain}
 use Rattle.lattice.proofs.Lawful.{terrain_is_lawful}
 use Rattle.lattice.proofs.WaysOut.{way_out, held}
 use Rattle.lattice.proofs.IntTests.{le_true}

@@ -1,13 +1,7 @@
 -- Points off the rim of a tile: there is a row above and below each, and a column on either side, and no other tile
 -- holds one.
-use Rattle.std.proofs.Common.{◌≡◌, ◌≢◌, ◌∙◌, ℕ, ◌+◌, ◌-◌, ◌*◌, ◌/◌, ◌%◌, ◌<◌, ◌≤◌, ℤ, pos, ◌+ℤ◌, ◌*ℤ◌, false, ◌||◌, nat_eq, sym, ap, ap₂, subst, arith}
+use Rattle.lattice.proofs.Prelude.{Corner, Holds, IsIndexOf, IsSampleAt, Point, ℕ, ℤ, ap, ap₂, arith, div-mul-add, false, ints, is_rim, mod-mul-add, nat_eq, pos, subst, sym, ◌%◌, ◌*ℤ◌, ◌*◌, ◌+ℤ◌, ◌+◌, ◌-◌, ◌/◌, ◌<◌, ◌||◌, ◌∙◌, ◌≡◌, ◌≢◌, ◌≤◌}
 use Rattle.std.proofs.lemmas.Bool.{or_parts, eqb-false}
-use Rattle.std.proofs.lemmas.Int.{ints}
-use Rattle.std.proofs.lemmas.Nat.{div-mul-add, mod-mul-add}
-use Rattle.lattice.specs.Corners.{Corner}
-use Rattle.lattice.specs.Lattice.{Holds, IsSampleAt, IsIndexOf}
-use Rattle.lattice.specs.Block.{is_rim}
-use Rattle.lattice.specs.declared.point.Point.{Point}
 use Rattle.lattice.proofs.Samples.{row_below, index_below}
 use Rattle.lattice.proofs.Multiples.{multiples_same}
 

@@ -2,17 +2,13 @@
 -- the order of tiles.
 use Rattle.std.proofs.Common.{◌≡◌, ◌∙◌, ℕ, ◌+◌, ◌-◌, ◌/◌, ◌<◌, ◌≤◌, ◌⊎◌, inl, inr, ℤ, pos, negsuc, ◌+ℤ◌, ◌*◌, ◌-ℤ◌, ◌*ℤ◌, ◌≤ℤ◌, ◌<ℤ◌, int_lt, ◌↔◌, Bool, true, IsTrue, ◌&&◌, List, [], ◌∷◌, ◌++◌, length, map, get_or, drop, refl, sym, ap, ap₂, append_assoc, append-nil, add-one, drop-cons, arith}
 use Rattle.std.specs.List.{Contains, AllPairs, AllAdjacentBelow, filter}
-use Rattle.std.proofs.lemmas.Int.{ints}
+use Rattle.lattice.proofs.Prelude.{Corner, Holds, IsBefore, Point, corner_at, holds, ints, is_along, is_corner}
 use Rattle.std.proofs.lemmas.Bool.{and_parts, and_from, cond-true, cond-false, cond_both, false_from_ne_true, cases_Bool}
 use Rattle.std.proofs.lemmas.List.{drop_all}
 use Rattle.std.proofs.lemmas.List.Elements.{All-nil, All-cons, All-contains, filter_passes}
 use Rattle.std.proofs.lemmas.List.Kept.{AllPairs-cons, AllPairs-filter}
-use Rattle.lattice.specs.Corners.{Corner, is_corner}
 use Rattle.lattice.specs.LatticeLaws.{AreHolders}
-use Rattle.lattice.specs.Lattice.{Holds, IsBefore, is_along, holds}
-use Rattle.lattice.specs.declared.point.Point.{Point}
 use Rattle.lattice.specs.declared.holding.Degrees.{Degrees}
-use Rattle.lattice.specs.Degrees.{corner_at}
 use Rattle.lattice.proofs.Along.{parts}
 use Rattle.lattice.proofs.Filters.{contains_filtered}
 use Rattle.lattice.proofs.Multiples.{product_plus, factor_less}

@@ -1,15 +1,8 @@
 -- Adjacency is between ground points and goes both ways, and outlets are ground: on a mosaic and in a block.
-use Rattle.std.proofs.Common.{◌≡◌, ℕ, ◌+◌, ◌/◌, ◌%◌, ℤ, ◌-ℤ◌, Bool, true, false, IsTrue, ◌&&◌, ◌||◌, not, List, [], ◌∷◌, refl, ◌∙◌, ap, ap₂, nat_abs, arith, ⊎_elim}
+use Rattle.lattice.proofs.Prelude.{Bool, IsLawful, IsTrue, List, Mosaic, Point, Tile, ℕ, ℤ, [], and_from, and_parts, ap, ap₂, arith, false, holds, ints, list_any, nat_abs, not, or_cases, refl, true, ⊎_elim, ◌%◌, ◌&&◌, ◌+◌, ◌-ℤ◌, ◌/◌, ◌||◌, ◌∙◌, ◌∷◌, ◌≡◌}
 use Rattle.std.specs.Prelude.{nat_lt, nat_le, nat_eq}
-use Rattle.std.specs.List.{list_any}
-use Rattle.std.proofs.lemmas.Bool.{and_parts, and_from, or_cases}
-use Rattle.std.proofs.lemmas.Int.{ints}
 use Rattle.std.proofs.lemmas.Bool.Decides.{nat_tests}
 use Rattle.std.proofs.Math.Bool.{and_comm}
-use Rattle.lattice.specs.declared.point.Point.{Point}
-use Rattle.lattice.specs.Lattice.{holds}
-use Rattle.lattice.specs.Terrain.{IsLawful}
-use Rattle.lattice.specs.Mosaic.{Mosaic, Tile}
 use Rattle.lattice.specs.Ground.{is_ground, same_point, is_near, share_tile, is_adjacent, terrain}
 use Rattle.lattice.proofs.IntTests.{int_eq-swap}
 use Rattle.lattice.specs.Block.{is_solid, is_linked, is_beside, is_exit, is_inner_outlet, is_rim, Block, block_terrain}

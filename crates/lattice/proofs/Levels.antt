@@ -1,10 +1,7 @@
 -- Filled levels of any terrain: there is at most one, an outlet's is its height, and each step of a flood finds one
 -- (after the correctness argument of Barnes, Lehman and Mulla 2014).
-use Rattle.std.proofs.Common.{◌≡◌, ℤ, ◌≤ℤ◌, Bool, IsTrue, List, [], ◌∷◌, refl, ap, subst, arith, inl, inr, ◌⊎◌, cond, int_lt}
-use Rattle.std.specs.Int.{int_max}
+use Rattle.lattice.proofs.Prelude.{Bool, IsFilledLevel, IsLawful, IsTrue, LeadsOut, List, Terrain, ℤ, [], ap, arith, cases_Bool, cond, crest, inl, inr, int_lt, int_max, refl, subst, ◌∷◌, ◌≡◌, ◌≤ℤ◌, ◌⊎◌}
 use Rattle.std.proofs.lemmas.Int.{ints, clamps}
-use Rattle.std.proofs.lemmas.Bool.{cases_Bool}
-use Rattle.lattice.specs.Terrain.{Terrain, crest, LeadsOut, IsFilledLevel, IsLawful}
 
 pub le-max_left : (a b : ℤ) → a ≤ℤ int_max a b
 le-max_left a b = omega (arith, ints, clamps)

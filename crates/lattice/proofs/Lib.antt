@@ -1,3 +1,4 @@
+mod Prelude
 pub mod IntTests
 pub mod BoolTests
 pub mod Filters

@@ -1,9 +1,7 @@
 -- Multiples of a number: where the edges of tiles lie.
-use Rattle.std.proofs.Common.{◌≡◌, ◌∙◌, ℕ, zero, suc, ◌*◌, ◌<◌, ◌≤◌, ℤ, pos, negsuc, ◌+ℤ◌, ◌-ℤ◌, ◌*ℤ◌, ◌<ℤ◌, ◌≤ℤ◌, int_lt, nat_abs, refl, ap, arith, inl, inr}
+use Rattle.lattice.proofs.Prelude.{ℕ, ℤ, ap, arith, by_lt_z, cases_Bool, inl, inr, int_lt, ints, nat_abs, negsuc, pos, refl, suc, zero, ◌*ℤ◌, ◌*◌, ◌+ℤ◌, ◌-ℤ◌, ◌<ℤ◌, ◌<◌, ◌∙◌, ◌≡◌, ◌≤ℤ◌, ◌≤◌}
 use Rattle.std.proofs.Math.IntN.{+ℤ_idr, suc_ℤ-*ℤ, suc_ℤ}
 use Rattle.std.proofs.Math.Nat.{mul-le-mul_right}
-use Rattle.std.proofs.lemmas.Bool.{cases_Bool}
-use Rattle.std.proofs.lemmas.Int.{ints, by_lt_z}
 use Rattle.lattice.proofs.Along.{distance}
 
 one_more : (z : ℤ) → z +ℤ pos 1 ≡ suc_ℤ z

@@ -1,10 +1,6 @@
 -- The steps found so far, and those that the directions to come still give.
-use Rattle.std.proofs.Common.{◌≡◌, ◌∙◌, ℕ, ◌+◌, ◌<◌, IsTrue, List, [], ◌∷◌, ◌++◌, length, get_or, drop, refl, sym, ap, append_assoc, add-one, drop-cons}
-use Rattle.std.proofs.lemmas.Bool.{cond-true, cond-false, false_from_ne_true}
+use Rattle.lattice.proofs.Prelude.{IsTrue, List, Point, Step, ℕ, [], add-one, ap, append_assoc, cond-false, cond-true, drop, drop-cons, false_from_ne_true, get_or, length, refl, step, sym, ◌++◌, ◌+◌, ◌<◌, ◌∙◌, ◌∷◌, ◌≡◌}
 use Rattle.lattice.specs.declared.direction.Dir.{Dir}
-use Rattle.lattice.specs.declared.direction.Step.{Step}
-use Rattle.lattice.specs.declared.point.Point.{Point}
-use Rattle.lattice.specs.Steps.{step}
 use Rattle.lattice.specs.Stepping.{reach_of, fits_point}
 
 turn : (ds : List Dir) (i : ℕ) (d : Dir) → i < length ds → drop i ds ≡ get_or ds i d ∷ drop (i + 1) ds

@@ -1,9 +1,7 @@
 -- Lists whose corners rise, by recursion: what the definitions say by index.
-use Rattle.std.proofs.Common.{◌≡◌, ℕ, zero, suc, ◌<◌, inl, inr, sym, get_or, Bool, true, false, cond, IsTrue, List, [], ◌∷◌, length, arith}
+use Rattle.lattice.proofs.Prelude.{AllAdjacentBelow, Bool, Corner, IsTrue, List, ℕ, [], arith, cond, false, filter, get_or, inl, inr, is_before, length, suc, sym, true, zero, ◌<◌, ◌∷◌, ◌≡◌}
 use native.Mathlib.Numerals.{unary_clauses}
-use Rattle.std.specs.List.{AllAdjacentBelow, filter}
 use Rattle.std.proofs.lemmas.Bool.{cases_order}
-use Rattle.lattice.specs.Corners.{Corner, is_before}
 use Rattle.lattice.proofs.CornerOrder.{before_trans, before_apart}
 
 module _ {X : Type 0} (key : X → Corner) where

@@ -1,10 +1,5 @@
 -- When two points are the same.
-use Rattle.std.proofs.Common.{◌≡◌, ℤ, true, ap, ap₂}
-use Rattle.std.specs.Ordering.{int_eq}
-use Rattle.std.proofs.lemmas.Bool.{and_parts, and_from}
-use Rattle.std.proofs.lemmas.Bool.Decides.{Decides-int_eq}
-use Rattle.lattice.specs.declared.point.Point.{Point}
-use Rattle.lattice.specs.Ground.{same_point}
+use Rattle.lattice.proofs.Prelude.{Decides-int_eq, Point, ℤ, and_from, and_parts, ap, ap₂, int_eq, same_point, true, ◌≡◌}
 
 pub same_place : (p q : Point) → p.y ≡ q.y → p.x ≡ q.x → p ≡ q
 same_place p q y x = ap₂ (λ (v u : ℤ). record { y = v; x = u }) y x

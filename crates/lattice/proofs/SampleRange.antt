@@ -1,12 +1,8 @@
 -- Heights are numbers of 16 bits, as samples are.
-use Rattle.std.proofs.Common.{ℕ, zero, suc, ℤ, true, false, cond, List, [], ◌∷◌, map, get_or, int_lt, arith}
-use Rattle.std.specs.Int.{int_max}
+use Rattle.lattice.proofs.Prelude.{List, Point, ℕ, ℤ, [], arith, cond, false, get_or, holds, index_of, int_lt, int_max, ints, map, suc, true, zero, ◌∷◌}
 use Rattle.std.specs.List.{All, filter}
-use Rattle.std.proofs.lemmas.Int.{ints}
 use Rattle.std.proofs.lemmas.List.Elements.{All-nil, All-cons, All-head, All-tail}
 use Rattle.lattice.specs.declared.height.Height.TheVariants.{At}
-use Rattle.lattice.specs.declared.point.Point.{Point}
-use Rattle.lattice.specs.Lattice.{holds, index_of}
 use Rattle.lattice.specs.Mosaic.{Tile, Mosaic, IsTile, IsMosaic, IsSample, is_void, void}
 use Rattle.lattice.specs.Height.{sample_at, samples_at, first_height, by_seam_rule, height_of}
 use Rattle.lattice.specs.Ground.{metres}

@@ -1,13 +1,7 @@
 -- Samples, indices and points of one tile: each index of the tile is that of one point, and each point that the tile
 -- holds has one index.
-use Rattle.std.proofs.Common.{◌≡◌, ◌∙◌, ℕ, ◌+◌, ◌-◌, ◌*◌, ◌/◌, ◌%◌, ◌<◌, ◌≤◌, ◌↔◌, ℤ, pos, ◌+ℤ◌, ◌-ℤ◌, ◌*ℤ◌, nat_abs, IsTrue, refl, sym, ap, ap₂, subst, arith}
-use Rattle.std.proofs.lemmas.Int.{ints}
-use Rattle.std.proofs.lemmas.Bool.{and_parts, and_from}
+use Rattle.lattice.proofs.Prelude.{Corner, Holds, IsIndexOf, IsSampleAt, IsTrue, Point, ℕ, ℤ, and_from, and_parts, ap, ap₂, arith, div-mul-add, holds, index_of, ints, is_along, is_corner, mod-mul-add, mul-add-lt, nat_abs, point_of, pos, refl, subst, sym, ◌%◌, ◌*ℤ◌, ◌*◌, ◌+ℤ◌, ◌+◌, ◌-ℤ◌, ◌-◌, ◌/◌, ◌<◌, ◌↔◌, ◌∙◌, ◌≡◌, ◌≤◌}
 use Rattle.std.proofs.lemmas.Grind.{rows}
-use Rattle.std.proofs.lemmas.Nat.{div-mul-add, mod-mul-add, mul-add-lt}
-use Rattle.lattice.specs.Corners.{Corner, is_corner}
-use Rattle.lattice.specs.Lattice.{IsSampleAt, Holds, IsIndexOf, point_of, is_along, holds, index_of}
-use Rattle.lattice.specs.declared.point.Point.{Point}
 use Rattle.lattice.proofs.Along.{from_steps, steps, distance_is}
 
 -- the sample so many steps north and east of the south-west one

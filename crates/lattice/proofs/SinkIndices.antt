@@ -1,14 +1,6 @@
 -- The sinks in a tile, by index.
-use Rattle.std.proofs.Common.{◌≡◌, ℕ, ◌+◌, ◌*◌, ◌<◌, ◌≤◌, ℤ, Bool, true, false, cond, ◌||◌, IsTrue, List, [], ◌∷◌, ◌++◌, length, map, get_or, drop, append_assoc, add-one, drop-cons, nat_eq, refl, sym, ◌∙◌, ap, ap₂, arith}
-use Rattle.std.specs.List.{filter, list_any}
-use Rattle.std.proofs.lemmas.Bool.{eqb-true, eq-eqb, cond-true, cond-false, false_from_ne_true, false≢true}
-use Rattle.lattice.specs.Corners.{Corner, is_corner}
-use Rattle.lattice.specs.declared.point.Point.{Point}
-use Rattle.lattice.specs.Lattice.{holds, index_of, point_of}
-use Rattle.lattice.specs.Mosaic.{Mosaic, IsMosaic}
-use Rattle.lattice.specs.Ground.{same_point}
+use Rattle.lattice.proofs.Prelude.{Bool, Corner, IsMosaic, IsTrue, List, Mosaic, Point, ℕ, ℤ, [], add-one, ap, append_assoc, ap₂, arith, cond, cond-false, cond-true, drop, drop-cons, eq-eqb, eqb-true, false, false_from_ne_true, false≢true, filter, get_or, holds, index_of, is_corner, length, list_any, map, nat_eq, point_of, refl, same_point, sinks_in, sym, true, ◌*◌, ◌++◌, ◌+◌, ◌<◌, ◌||◌, ◌∙◌, ◌∷◌, ◌≡◌, ◌≤◌}
 use Rattle.lattice.specs.Block.{AreHeightsOf, IsBlockOf}
-use Rattle.lattice.specs.SinkIndices.{sinks_in}
 use Rattle.lattice.proofs.BoolTests.{same_tests}
 use Rattle.lattice.proofs.SamePoints.{same_point_says, same_point_from}
 use Rattle.lattice.proofs.Samples.{holds_is, point_of_held, point_of_index, index_of_point_is}

@@ -1,6 +1,5 @@
 -- The square root of 2 is no ratio of whole numbers: halves of a solution are a solution again.
-use Rattle.std.proofs.Common.{◌≡◌, ℕ, zero, suc, ◌+◌, ◌*◌, ◌/◌, ◌%◌, ◌<◌, ◌⊎◌, inl, inr, subst, arith}
-use Rattle.std.proofs.lemmas.Bool.{cases_lt, cases_eq}
+use Rattle.lattice.proofs.Prelude.{ℕ, arith, cases_eq, cases_lt, inl, inr, subst, suc, zero, ◌%◌, ◌*◌, ◌+◌, ◌/◌, ◌<◌, ◌≡◌, ◌⊎◌}
 
 -- a number is twice another, or one more
 halves : (n : ℕ) → (h : ℕ) × ((n ≡ h + h) ⊎ (n ≡ h + h + 1))

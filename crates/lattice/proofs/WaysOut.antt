@@ -1,17 +1,7 @@
 -- Every ground point of a mosaic has a path to an outlet: northwards, as far as there is adjacent ground.
-use Rattle.std.proofs.Common.{◌≡◌, ℕ, zero, suc, ◌+◌, ◌-◌, ◌*◌, ◌<◌, ◌≤◌, ℤ, pos, negsuc, ◌+ℤ◌, ◌-ℤ◌, ◌*ℤ◌, ◌≤ℤ◌, ◌<ℤ◌, Bool, true, false, IsTrue, ◌||◌, cond, List, [], ◌∷◌, sym, subst, nat_abs, arith, ⊎_elim, inl, inr, map, true≢false}
+use Rattle.lattice.proofs.Prelude.{Bool, IsMosaic, IsTile, IsTrue, LeadsOut, List, Mosaic, Point, Tile, ℕ, ℤ, [], and_from, and_parts, arith, by_seam_rule, cases_Bool, cond, false, holds, inl, inr, ints, list_any, lt-ltb, map, mul-le-mul_left, nat_abs, negsuc, or_cases, or_left, or_right, pos, sample_at, step, subst, suc, sym, true, true≢false, zero, ⊎_elim, ◌*ℤ◌, ◌*◌, ◌+ℤ◌, ◌+◌, ◌-ℤ◌, ◌-◌, ◌<ℤ◌, ◌<◌, ◌||◌, ◌∷◌, ◌≡◌, ◌≤ℤ◌, ◌≤◌}
 use Rattle.std.specs.Prelude.{nat_lt, All, int_le, filter}
-use Rattle.std.specs.List.{list_any}
-use Rattle.std.proofs.lemmas.Bool.{cases_Bool, and_parts, and_from, or_cases, or_left, or_right, lt-ltb}
-use Rattle.std.proofs.lemmas.Int.{ints}
-use Rattle.std.proofs.Math.Nat.{mul-le-mul_left}
-use Rattle.lattice.specs.declared.point.Point.{Point}
 use Rattle.lattice.specs.declared.direction.Dir.TheVariants.{North}
-use Rattle.lattice.specs.Steps.{step}
-use Rattle.lattice.specs.Lattice.{holds}
-use Rattle.lattice.specs.Terrain.{LeadsOut}
-use Rattle.lattice.specs.Mosaic.{Mosaic, Tile, IsMosaic, IsTile}
-use Rattle.lattice.specs.Height.{sample_at, by_seam_rule}
 use Rattle.lattice.specs.Ground.{is_ground, is_height, is_adjacent, is_sink, degree_of, terrain}
 use Rattle.lattice.proofs.BoolTests.{one_at_most}
 use Rattle.lattice.proofs.IntTests.{le_true}

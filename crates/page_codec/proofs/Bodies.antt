@@ -1,18 +1,9 @@
 -- A root behind its version: what the parts of its bytes spell, and that bytes spell one root only.
-use Rattle.std.proofs.Common.{◌≡◌, ℕ, ◌+◌, ◌^◌, ◌<◌, ◌≤◌, true, List, ◌++◌, length, take, drop, refl, sym, ap, subst, ◌∙◌, arith}
-use Rattle.std.specs.Prelude.{All}
-use Rattle.std.specs.List.{flat_map}
-use Rattle.std.proofs.lemmas.List.{length-append, length-take, take-append-drop}
-use Rattle.lattice.specs.declared.point.Point.{Point}
+use Rattle.page_codec.proofs.Prelude.{All, AreInOrder, AreNumbers, AreSinks, EntryValue, IsEntry, IsHeld, IsRoot, List, One, Point, RootValue, Two, Version, ℕ, ap, arith, drop, entry_bytes, flat_map, format_of, length, length-append, length-take, refl, subst, sym, take, take-append-drop, true, ◌++◌, ◌+◌, ◌<◌, ◌^◌, ◌∙◌, ◌≡◌, ◌≤◌}
 use Rattle.lattice.specs.Limits.{IsSide, largest_side}
-use Rattle.lattice.specs.Mosaic.{AreSinks, IsHeld}
-use Rattle.page_codec.specs.declared.version.Version.{Version}
-use Rattle.page_codec.specs.declared.version.Version.TheVariants.{One, Two}
 use Rattle.page_codec.specs.Numbers.{zeros, padded, is_all_zero}
 use Rattle.page_codec.specs.Formats.{Format, IsFormat, largest_side_of}
-use Rattle.page_codec.specs.Entries.{EntryValue, IsEntry, entry_bytes}
 use Rattle.page_codec.specs.Sinks.{sink_bytes}
-use Rattle.page_codec.specs.Roots.{RootValue, format_of, AreNumbers, AreInOrder, IsRoot}
 use Rattle.page_codec.specs.declared.header.Header.{Header}
 use Rattle.page_codec.specs.Headers.{number_bytes, body_bytes}
 use Rattle.page_codec.proofs.Fields.{same_u32, same_u64, same_fronts, length-u32_bytes, length-u64_bytes, length-zeros, zeros_from_all, all_from_zeros}

@@ -1,9 +1,5 @@
 -- Entries one after another, in their order.
-use Rattle.std.proofs.Common.{◌≡◌, ℕ, ◌*◌, List, length, sym, subst, ◌∙◌}
-use Rattle.std.specs.List.{flat_map}
-use Rattle.page_codec.specs.Entries.{EntryValue, IsEntry, entry_bytes}
-use Rattle.page_codec.specs.Roots.{EntryIsBefore}
-use Rattle.page_codec.specs.Headers.{Follows}
+use Rattle.page_codec.proofs.Prelude.{EntryIsBefore, EntryValue, Follows, IsEntry, List, ℕ, entry_bytes, flat_map, length, subst, sym, ◌*◌, ◌∙◌, ◌≡◌}
 use Rattle.page_codec.proofs.Fields.{same_fronts}
 use Rattle.page_codec.proofs.EntryFields.{same_entry, length-entry_bytes}
 use Rattle.page_codec.proofs.Items.{SpellsOne, length_items}

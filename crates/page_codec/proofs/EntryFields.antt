@@ -1,11 +1,6 @@
 -- The fields of an entry: what the parts of its bytes spell, and that bytes spell one entry only.
-use Rattle.std.proofs.Common.{◌≡◌, ℕ, ◌^◌, ◌<◌, ℤ, List, [], ◌++◌, length, refl, sym, ap, ◌∙◌, arith, Option, Some, None}
+use Rattle.page_codec.proofs.Prelude.{Damaged, FitsSigned, List, None, Option, Some, ℕ, ℤ, [], ap, arith, ints, length, ok_or, refl, sym, w16, ◌++◌, ◌<◌, ◌^◌, ◌∙◌, ◌≡◌}
 use Rattle.std.specs.Prelude.{IsTrue, IfSome, IfNone, Result, Ok}
-use Rattle.std.specs.Option.{ok_or}
-use Rattle.page_codec.specs.declared.damaged.Damaged.{Damaged}
-use Rattle.std.specs.Int.{w16}
-use Rattle.std.specs.Int.RustNames.{FitsSigned}
-use Rattle.std.proofs.lemmas.Int.{ints}
 use Rattle.std.proofs.lemmas.List.{nil_from_length, length-append}
 use Rattle.lattice.specs.Corners.{Corner, is_corner}
 use Rattle.page_codec.specs.Numbers.{i16_bytes, u32_bytes}

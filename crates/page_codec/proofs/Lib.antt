@@ -1,3 +1,4 @@
+mod Prelude
 pub mod Fields
 pub mod Padding
 pub mod Items

@@ -1,13 +1,10 @@
 -- Items of one length in an order, spelled one after another with zeros behind them.
 use Rattle.std.proofs.Common.{◌≡◌, ℕ, ◌+◌, ◌-◌, ◌<◌, true, List, [], ◌∷◌, ◌++◌, length, get_or, refl, sym, ap, subst, ◌∙◌, arith, append_assoc, inl, inr}
-use Rattle.std.specs.Prelude.{All}
-use Rattle.std.specs.List.{AllAdjacentBelow, AllByRecursion, flat_map}
+use Rattle.page_codec.proofs.Prelude.{All, AllAdjacentBelow, AllByRecursion, Follows, flat_map, length-append}
 use Rattle.std.proofs.lemmas.Bool.{cases_lt}
-use Rattle.std.proofs.lemmas.List.{length-append}
 use Rattle.std.proofs.Math.ListN.{get_or-append}
 use Rattle.std.proofs.Math.Seq.{get_or-append_seam}
 use Rattle.page_codec.specs.Numbers.{zeros, padded, is_all_zero}
-use Rattle.page_codec.specs.Headers.{Follows}
 use Rattle.page_codec.proofs.Fields.{same_fronts, zeros_from_all, all_from_zeros}
 use Rattle.page_codec.proofs.Items.{SpellsOne, continues_all, same_items}
 

@@ -1,19 +1,13 @@
 -- The bytes of a root: magic, version, and what stands behind them.
 use Rattle.std.proofs.Common.{◌≡◌, ℕ, ◌-◌, ◌^◌, ◌<◌, List, [], ◌++◌, length, take, drop, Option, Some, None, Result, Ok, Err, refl, sym, ap, ◌∙◌, arith, append_assoc}
 use Rattle.std.specs.Prelude.{IfOk, IfSome, IfNone, IsErrOf, ◌↔◌, ◌≢◌}
-use Rattle.std.specs.Option.{ok_or}
-use Rattle.std.specs.List.{flat_map}
+use Rattle.page_codec.proofs.Prelude.{Damaged, One, Two, Version, drop-append_seam, entry_bytes, flat_map, ok_or, take-append_seam}
 use Rattle.std.proofs.lemmas.List.{append-nil, length-append, append_cancel_left}
-use Rattle.std.proofs.Math.Seq.{take-append_seam, drop-append_seam}
 use Rattle.page_codec.specs.Numbers.{u32_bytes, u64_bytes, zeros, padded}
-use Rattle.page_codec.specs.declared.version.Version.{Version}
-use Rattle.page_codec.specs.declared.version.Version.TheVariants.{One, Two}
 use Rattle.page_codec.specs.Formats.{Format, IsKnown, number_of}
-use Rattle.page_codec.specs.Entries.{entry_bytes}
 use Rattle.page_codec.specs.Sinks.{sink_bytes}
 use Rattle.page_codec.specs.Roots.{RootValue, format_of, IsRoot, magic, header_bytes, root_bytes, HasMagic, HasVersion, HasKnownVersion}
 use Rattle.page_codec.specs.Headers.{number_bytes, body_bytes}
-use Rattle.page_codec.specs.declared.damaged.Damaged.{Damaged}
 use Rattle.page_codec.specs.declared.damaged.Damaged.TheVariants as reason
 use Rattle.page_codec.proofs.Fields.{same_u32, length-u32_bytes, length-u64_bytes, length-zeros}
 use Rattle.page_codec.proofs.Bodies.{same_bodies, length_rooms}

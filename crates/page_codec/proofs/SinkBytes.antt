@@ -1,20 +1,12 @@
 -- The bytes of a sink: they spell one sink only.
 use Rattle.std.proofs.Common.{◌≡◌, ℕ, ◌-◌, ◌*◌, ◌≤◌, ℤ, pos, ◌+ℤ◌, ◌*ℤ◌, IsTrue, List, [], ◌++◌, length, sym, ap, ◌∙◌, arith, append_assoc}
 use Rattle.std.specs.Prelude.{unsigned_abs}
-use Rattle.std.specs.List.{flat_map}
-use Rattle.std.specs.Int.{w32}
-use Rattle.std.specs.Int.RustNames.{FitsSigned}
+use Rattle.page_codec.proofs.Prelude.{FitsSigned, IsHeld, IsSide, Point, and_parts, flat_map, is_corner, length-append, w32}
 use Rattle.std.proofs.lemmas.Int.{ints, unsigned_abs-mul, fits_signed_from_abs}
-use Rattle.std.proofs.lemmas.List.{length-append}
 use Rattle.std.proofs.Math.Nat.{mul-le-mul}
-use Rattle.std.proofs.lemmas.Bool.{and_parts}
-use Rattle.lattice.specs.Corners.{is_corner}
 use Rattle.lattice.specs.Lattice.{is_along}
-use Rattle.lattice.specs.Limits.{IsSide}
-use Rattle.lattice.specs.declared.point.Point.{Point}
 use Rattle.lattice.proofs.Along.{steps}
 use Rattle.page_codec.specs.Numbers.{i32_bytes}
-use Rattle.lattice.specs.Mosaic.{IsHeld}
 use Rattle.lattice.proofs.SamePoints.{same_place}
 use Rattle.page_codec.specs.Sinks.{sink_bytes}
 use Rattle.page_codec.proofs.Fields.{same_i32, length-i32_bytes}

@@ -1,26 +1,8 @@
 -- A page_map where the planes of a corner change.
-use Rattle.std.proofs.Common.{Bor, ◌≡◌, ℕ, ◌+◌, ◌/◌, ◌<◌, ◌≤◌, true, List, ◌∷◌, ◌++◌, length, map, if◌then◌else◌, refl, sym, ap, subst, ◌∙◌, arith}
-use Rattle.std.specs.Prelude.{IfNone, option_and_then, option_copied, Option, Some, None, IsSome, IfSome, Contains, Result, IfOk, OnOk, OnErr}
-use Rattle.std.proofs.lemmas.List.{length-set}
+use Rattle.page_map.proofs.Prelude.{AreBalanced, AreInUse, AsCommitted, Bor, Contains, Corner, Dropped, Format, FreePages, Fresh, HasFreshHeights, HasPlane, HasPlaneAt, IfNone, IfOk, IfSome, IsFresh, IsLocated, IsPrepared, IsRewritten, IsSome, IsWholePlane, List, None, OnErr, OnOk, Option, PageMapValue, PageRange, Plane, PlaneEntry, PlaneLocation, Refusal, Result, Rising, Some, Staged, TileEntry, TileLocation, ℕ, ap, arith, free_times, if◌then◌else◌, is_at, len, length, length-set, map, moved_plane, option_and_then, option_copied, pages_of, plane_of, reached, refl, rising_from, subst, sym, tile_at, times, true, ◌++◌, ◌+◌, ◌/◌, ◌<◌, ◌∙◌, ◌∷◌, ◌≡◌, ◌≤◌}
 use Rattle.std.proofs.lemmas.Map.Steps.{set_value_same}
 use Rattle.std.proofs.lemmas.Result.{IfOk-weaker, on_err_weaker, on_ok_weaker}
-use Rattle.lattice.specs.Corners.{Corner}
-use Rattle.lattice.specs.declared.refusal.Refusal.{Refusal}
-use Rattle.lattice.proofs.Rising.{Rising, rising_from}
-use Rattle.page_codec.specs.Sizes.{pages_of}
-use Rattle.page_codec.specs.Formats.{Format}
-use Rattle.std.specs.FinSet.{len}
-use Rattle.page_map.specs.FreePages.{FreePages, PageRange, free_times, AreBalanced, AreInUse}
-use Rattle.page_map.specs.declared.plane.Plane.{Plane}
-use Rattle.page_map.specs.declared.plane_entry.PlaneEntry.{PlaneEntry}
-use Rattle.page_map.specs.declared.plane_entry.Staged.{Staged}
-use Rattle.page_map.specs.declared.plane_entry.Staged.TheVariants.{AsCommitted, Dropped, Fresh}
-use Rattle.page_map.specs.declared.tile_entry.TileEntry.{TileEntry}
-use Rattle.page_map.specs.Locations.{PlaneLocation, IsWholePlane, moved_plane, times}
 use Rattle.page_map.specs.PlaneEntries.{behind_at, fresh_as, fresh_in, is_fresh, is_fresh_as, staged_as, staged_plane, used_in, HasRoom, IsPageRestaged, IsRecordRestaged}
-use Rattle.page_map.specs.Planes.{HasPlane, HasPlaneAt, plane_of}
-use Rattle.page_map.specs.TileLocations.{TileLocation, reached}
-use Rattle.page_map.specs.PageMaps.{PageMapValue, IsFresh, IsLocated, HasFreshHeights, IsPrepared, IsRewritten, is_at, tile_at}
 use Rattle.page_map.specs.TileEntries.{committed_tile, committed_tiles, fresh_kept, is_at_corner, named_plane, page_map_of, planes_at, staged_tile, staged_tiles, tile_of, tile_planes, used_pages, with_planes, AreTogether, Entry, IsKept, IsSound}
 use Rattle.page_map.proofs.Times.{one-self, times-append, member_of_times}
 use Rattle.page_map.proofs.FreeTimes.{balanced-append, balanced_same, page_le}

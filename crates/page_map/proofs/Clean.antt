@@ -1,13 +1,5 @@
 -- Where nothing is staged, no page is fresh.
-use Rattle.std.proofs.Common.{◌≡◌, ℕ, ◌≤◌, List, [], ◌∷◌, ◌++◌, sym, ap, ◌∙◌, arith}
-use Rattle.std.specs.List.{flat_map, AllByRecursion}
-use Rattle.std.proofs.lemmas.Grind.{flat_map-append}
-use Rattle.page_codec.specs.Formats.{Format}
-use Rattle.page_map.specs.FreePages.{FreePages}
-use Rattle.page_map.specs.Locations.{times}
-use Rattle.page_map.specs.PlaneEntries.{fresh_in, staged_plane}
-use Rattle.page_map.specs.TileLocations.{TileLocation, reached}
-use Rattle.page_map.specs.TileEntries.{committed_tiles, fresh_by, fresh_kept, staged_tile, staged_tiles, Entry, IsKept, IsSound}
+use Rattle.page_map.proofs.Prelude.{AllByRecursion, Entry, Format, FreePages, IsKept, IsSound, List, TileLocation, ℕ, [], ap, arith, committed_tiles, flat_map, flat_map-append, fresh_by, fresh_in, fresh_kept, reached, staged_plane, staged_tile, staged_tiles, sym, times, ◌++◌, ◌∙◌, ◌∷◌, ◌≡◌, ◌≤◌}
 use Rattle.page_map.proofs.Times.{times-append, empty_of_times}
 use Rattle.page_map.proofs.FreeTimes.{page_le}
 use Rattle.page_map.proofs.PlaneChanges.{fresh_le, nil_parts}

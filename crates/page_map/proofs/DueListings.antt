@@ -1,24 +1,9 @@
 -- A page of what lists a staged plane is reached by the committed tiles where it is the committed one, and by none where it isn't.
-use Rattle.std.proofs.Common.{◌≡◌, ℕ, zero, suc, ◌+◌, ◌<◌, ◌≤◌, Bool, true, false, not, inl, inr, List, ◌∷◌, ◌++◌, length, get_or, refl, sym, ap, subst, ◌∙◌, arith}
+use Rattle.page_map.proofs.Prelude.{AsCommitted, Bool, Corner, Dropped, Entry, Format, FreePages, Fresh, HasPlaneAt, Heights, IsKept, IsSoundPlane, IsWholePlane, Labels, Levels, List, Plane, PlaneEntry, PlaneLocation, Staged, TileEntry, ℕ, ap, arith, cases_eq, committed_tile, committed_tiles, differing, false, fresh_pages, get_or, inl, inr, is_unreached, length, listing_of, named_plane, not, page_if, pages_behind, planes_at, reached, refl, staged_tiles, subst, suc, sym, times, true, zero, ◌++◌, ◌+◌, ◌<◌, ◌∙◌, ◌∷◌, ◌≡◌, ◌≤◌}
 use Rattle.std.specs.Prelude.{Option, Some, None, IfSome, Contains, slice_get}
-use Rattle.std.proofs.lemmas.Bool.{cases_eq}
 use Rattle.std.proofs.lemmas.List.{get_or_append_left, length-append}
 use Rattle.std.proofs.lemmas.Option.{same_Some, slice_get_within, slice_get-get_or, get_or_from_slice_get}
-use Rattle.lattice.specs.Corners.{Corner}
-use Rattle.page_codec.specs.Formats.{Format}
-use Rattle.page_map.specs.FreePages.{FreePages, differing}
-use Rattle.page_map.specs.declared.plane.Plane.{Plane}
-use Rattle.page_map.specs.declared.plane.Plane.TheVariants.{Heights, Levels, Labels}
-use Rattle.page_map.specs.declared.plane_entry.PlaneEntry.{PlaneEntry}
-use Rattle.page_map.specs.declared.plane_entry.Staged.{Staged}
-use Rattle.page_map.specs.declared.plane_entry.Staged.TheVariants.{AsCommitted, Dropped, Fresh}
-use Rattle.page_map.specs.declared.tile_entry.TileEntry.{TileEntry}
-use Rattle.page_map.specs.Locations.{PlaneLocation, IsWholePlane, listing_of, pages_behind, times}
 use Rattle.page_map.specs.PlaneEntries.{behind_at, fresh_as, fresh_in, listed_at, pages_at, staged_as, staged_plane}
-use Rattle.page_map.specs.Planes.{HasPlaneAt}
-use Rattle.page_map.specs.TileLocations.{reached}
-use Rattle.page_map.specs.PageMaps.{is_unreached, page_if}
-use Rattle.page_map.specs.TileEntries.{committed_tile, committed_tiles, fresh_pages, named_plane, planes_at, staged_tiles, Entry, IsKept, IsSoundPlane}
 use Rattle.page_map.proofs.Times.{has_at, one-self, times-append, member_of_times, differing-has}
 use Rattle.page_map.proofs.EntryLists.{fresh_parts, pages_of_location, reached_all, tile_times, times-split}
 use Rattle.page_map.proofs.EntryChanges.{entry_fresh}

@@ -1,22 +1,10 @@
 -- What a page_map is once what is staged has ended.
-use Rattle.std.proofs.Common.{◌≡◌, ℕ, ◌≤◌, Bool, true, false, cond, List, [], ◌∷◌, ◌++◌, length, map, append_assoc, refl, sym, ap, ap₂, subst, ◌∙◌, arith}
-use Rattle.std.specs.Prelude.{Option, Some, None, is_some, filter}
-use Rattle.std.specs.List.{filter_map, cons_option, AllByRecursion, flat_map}
+use Rattle.page_map.proofs.Prelude.{AllByRecursion, AreBalanced, AreInUse, AsCommitted, Bool, Corner, Format, FreePages, List, None, Option, PageMapValue, PageRange, PlaneEntry, PlaneLocation, Some, TileEntry, TileLocation, ℕ, [], ap, append_assoc, ap₂, arith, cond, cons_option, false, false≢true, filter, filter_map, flat_map, is_some, length, map, refl, subst, sym, times, true, ◌++◌, ◌∙◌, ◌∷◌, ◌≡◌, ◌≤◌}
 use Rattle.std.specs.Map.Calls.{RetainsPairs}
-use Rattle.std.proofs.lemmas.Bool.{false≢true}
-use Rattle.lattice.specs.Corners.{Corner}
 use Rattle.lattice.proofs.Rising.{rising_from, adjacent_from, rising-filter}
-use Rattle.page_codec.specs.Formats.{Format}
-use Rattle.page_map.specs.FreePages.{FreePages, PageRange, AreBalanced, AreInUse}
 use Rattle.page_map.specs.declared.plane_entry.Ending.{Ending}
 use Rattle.page_map.specs.declared.plane_entry.Ending.TheVariants.{Committed, RolledBack}
-use Rattle.page_map.specs.declared.plane_entry.PlaneEntry.{PlaneEntry}
-use Rattle.page_map.specs.declared.plane_entry.Staged.TheVariants.{AsCommitted}
-use Rattle.page_map.specs.declared.tile_entry.TileEntry.{TileEntry}
-use Rattle.page_map.specs.Locations.{PlaneLocation, times}
 use Rattle.page_map.specs.PlaneEntries.{ended_plane, pages_at}
-use Rattle.page_map.specs.TileLocations.{TileLocation}
-use Rattle.page_map.specs.PageMaps.{PageMapValue}
 use Rattle.page_map.specs.TileEntries.{committed_tile, committed_tiles, ended_entry, ended_page_map, ended_planes, fresh_kept_by, page_map_of, staged_tile, staged_tiles, tile_of, used_by, AreCounted, AreTogether, Entry, IsKept, IsSound, IsSoundPlane}
 use Rattle.page_map.proofs.Times.{times-append}
 use Rattle.page_map.proofs.EntryLists.{corner_of, counted_change, entry_in_use, rising_map}

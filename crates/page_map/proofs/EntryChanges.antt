@@ -1,20 +1,5 @@
 -- What a page_map is once one entry has changed.
-use Rattle.std.proofs.Common.{◌≡◌, ℕ, ◌*◌, ◌≤◌, true, false, cond, if◌then◌else◌, not, List, [], ◌∷◌, ◌++◌, length, map, refl, sym, ap, subst, ◌∙◌, arith}
-use Rattle.std.specs.Prelude.{Option, Some, None, IfSome}
-use Rattle.std.specs.List.{cons_option, flat_map, AllByRecursion}
-use Rattle.std.proofs.lemmas.List.{length-append, length-map}
-use Rattle.std.proofs.lemmas.List.Elements.{filter_map-append}
-use Rattle.lattice.specs.Corners.{Corner, same_corner}
-use Rattle.lattice.proofs.CornerOrder.{before_not_same, after_not_same, same_from}
-use Rattle.lattice.proofs.Rising.{AllAfter, Rising, rising_from, adjacent_from}
-use Rattle.page_codec.specs.Formats.{Format}
-use Rattle.page_codec.specs.Sizes.{plane_pages_of}
-use Rattle.page_map.specs.FreePages.{FreePages, PageRange, AreBalanced}
-use Rattle.page_map.specs.Locations.{times}
-use Rattle.page_map.specs.declared.tile_entry.TileEntry.{TileEntry}
-use Rattle.page_map.specs.TileLocations.{TileLocation}
-use Rattle.page_map.specs.PageMaps.{PageMapValue, IsFresh, is_at, without_location}
-use Rattle.page_map.specs.TileEntries.{committed_tile, committed_tiles, fresh_by, fresh_kept_by, page_map_of, staged_tile, staged_tiles, used_pages, Entry, IsKept, IsSound}
+use Rattle.page_map.proofs.Prelude.{AllAfter, AllByRecursion, AreBalanced, Corner, Entry, Format, FreePages, IfSome, IsFresh, IsKept, IsSound, List, None, Option, PageMapValue, PageRange, Rising, Some, TileEntry, TileLocation, ℕ, [], adjacent_from, after_not_same, ap, arith, before_not_same, committed_tile, committed_tiles, cond, cons_option, false, filter_map-append, flat_map, fresh_by, fresh_kept_by, if◌then◌else◌, is_at, length, length-append, length-map, map, not, page_map_of, plane_pages_of, refl, rising_from, same_corner, same_from, staged_tile, staged_tiles, subst, sym, times, true, used_pages, without_location, ◌*◌, ◌++◌, ◌∙◌, ◌∷◌, ◌≡◌, ◌≤◌}
 use Rattle.page_map.proofs.EntryLists.{times-split, counted_change, corner_of, rising_change, AllBefore, rising_before, rising_after, staged_all, staged_own}
 use Rattle.page_map.proofs.PageMapRules.{fresh_page}
 

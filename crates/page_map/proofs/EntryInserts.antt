@@ -1,26 +1,7 @@
 -- What a page_map is with one entry more.
-use Rattle.std.proofs.Common.{◌≡◌, ℕ, ◌<◌, true, false, cond, List, [], ◌∷◌, ◌++◌, length, refl, sym, ap, ap₂, subst, ◌∙◌, arith}
-use Rattle.std.specs.Prelude.{IsTrue, Option, Some, None, is_some}
-use Rattle.std.specs.BTreeMap.{insert_entry}
-use Rattle.std.specs.List.{cons_option, filter_map, AllByRecursion, flat_map}
+use Rattle.page_map.proofs.Prelude.{AllByRecursion, AreBalanced, AreInUse, AreTaken, AsCommitted, Corner, Dropped, Equal, Format, FreePages, Fresh, Greater, IsTrue, IsWholePlane, Less, List, None, Option, Ordering, PlaneLocation, Some, Staged, TileEntry, TileLocation, ℕ, [], ap, ap₂, arith, before_not_back, cond, cons_option, corner_cmp, false, false≢true, filter_map, filter_map-append, flat_map, flat_map-append, fresh_as, fresh_in, insert_entry, is_before, is_corner, is_some, length, length-append, pages_of_plane, ranked_corners, refl, settled_plane, staged_as, staged_plane, subst, sym, times, true, used_in, ◌++◌, ◌<◌, ◌∙◌, ◌∷◌, ◌≡◌}
 use Rattle.std.specs.Ordering.{MatchOrdering, is_eq, match_ordering}
-use Rattle.std.specs.declared.cmp.Ordering.{Ordering}
-use Rattle.std.specs.declared.cmp.Ordering.TheVariants.{Less, Equal, Greater}
-use Rattle.std.proofs.lemmas.Bool.{false≢true}
-use Rattle.std.proofs.lemmas.List.{length-append}
-use Rattle.std.proofs.lemmas.List.Elements.{filter_map-append}
-use Rattle.std.proofs.lemmas.Grind.{flat_map-append}
-use Rattle.lattice.specs.Corners.{Corner, is_before, is_corner}
-use Rattle.lattice.proofs.CornerOrder.{before_not_back, corner_cmp, ranked_corners}
 use Rattle.lattice.proofs.Rising.{AllAfter, Rising, adjacent_from, after_later, rising_from}
-use Rattle.page_codec.specs.Formats.{Format}
-use Rattle.page_map.specs.FreePages.{FreePages, AreBalanced, AreInUse, AreTaken}
-use Rattle.page_map.specs.declared.plane_entry.Staged.{Staged}
-use Rattle.page_map.specs.declared.plane_entry.Staged.TheVariants.{AsCommitted, Dropped, Fresh}
-use Rattle.page_map.specs.declared.tile_entry.TileEntry.{TileEntry}
-use Rattle.page_map.specs.Locations.{PlaneLocation, IsWholePlane, times, pages_of_plane}
-use Rattle.page_map.specs.PlaneEntries.{fresh_as, fresh_in, settled_plane, staged_as, staged_plane, used_in}
-use Rattle.page_map.specs.TileLocations.{TileLocation}
 use Rattle.page_map.specs.PageMaps.{PageMapValue, IsFresh, IsAdded, with_tile_location}
 use Rattle.page_map.specs.TileEntries.{committed_tile, fresh_kept, fresh_kept_by, no_planes, page_map_of, planes_at, staged_tile, staged_tiles, tile_of, used_by, used_pages, AreAlike, AreInOrder, AreTogether, Entry, IsKept, IsSound, IsSoundPlane}
 use Rattle.page_map.proofs.Times.{times-append, all_numbers}

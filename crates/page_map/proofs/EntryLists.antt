@@ -1,19 +1,6 @@
 -- Lists of entries in which one entry changes.
 use Rattle.std.proofs.Common.{◌≡◌, ℕ, ◌+◌, IsTrue, List, [], ◌∷◌, ◌++◌, map, refl, sym, ap, subst, ◌∙◌, arith}
-use Rattle.std.specs.Prelude.{Option, Some, None, IfSome}
-use Rattle.std.specs.List.{filter_map, flat_map, cons_option, AllByRecursion}
-use Rattle.std.proofs.lemmas.Grind.{flat_map-append}
-use Rattle.lattice.specs.Corners.{Corner, is_before}
-use Rattle.lattice.specs.Lattice.{IsBefore}
-use Rattle.lattice.proofs.Rising.{AllAfter, Rising}
-use Rattle.page_codec.specs.Formats.{Format}
-use Rattle.page_map.specs.FreePages.{FreePages, free_times, page_times, AreBalanced, AreInUse}
-use Rattle.page_map.specs.Locations.{PlaneLocation, IsWholePlane, pages_of_plane, times}
-use Rattle.page_map.specs.declared.tile_entry.TileEntry.{TileEntry}
-use Rattle.page_map.specs.PageMaps.{AreWholeKept, IsWholeTile}
-use Rattle.page_map.specs.PlaneEntries.{fresh_in, pages_at, staged_plane, used_in}
-use Rattle.page_map.specs.TileEntries.{committed_tile, committed_tiles, fresh_by, fresh_kept, fresh_pages, kept_of, staged_tile, staged_tiles, tile_of, used_by, used_pages, AreCounted, AreTogether, Entry, IsKept, IsSound}
-use Rattle.page_map.specs.TileLocations.{TileLocation, pages_of_kept, pages_of_tile, reached}
+use Rattle.page_map.proofs.Prelude.{AllAfter, AllByRecursion, AreBalanced, AreCounted, AreInUse, AreTogether, AreWholeKept, Corner, Entry, Format, FreePages, IfSome, IsBefore, IsKept, IsSound, IsWholePlane, IsWholeTile, None, Option, PlaneLocation, Rising, Some, TileEntry, TileLocation, committed_tile, committed_tiles, cons_option, filter_map, flat_map, flat_map-append, free_times, fresh_by, fresh_in, fresh_kept, fresh_pages, is_before, kept_of, page_times, pages_at, pages_of_kept, pages_of_plane, pages_of_tile, reached, staged_plane, staged_tile, staged_tiles, tile_of, times, used_by, used_in, used_pages}
 use Rattle.page_map.proofs.Times.{times-append}
 use Rattle.page_map.proofs.PlaneChanges.{used_split}
 

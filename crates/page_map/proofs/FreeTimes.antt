@@ -1,16 +1,11 @@
 -- Free pages counted by their numbers.
-use Rattle.std.proofs.Common.{◌≡◌, ◌≢◌, ℕ, ◌+◌, ◌≤◌, ◌<◌, Bool, List, [], ◌∷◌, ◌++◌, true, false, cond, eqb, inl, inr, refl, sym, subst, ap, ap₂, ◌∙◌, arith}
+use Rattle.page_map.proofs.Prelude.{AreBalanced, AreGiven, AreInUse, AreTaken, Bool, FreePages, List, PageRange, ℕ, [], ap, ap₂, arith, cond, contains, eqb, false, free_times, inl, inr, nat_cmp, nat_tests, page_times, refl, subst, sym, times, true, ◌++◌, ◌+◌, ◌<◌, ◌∙◌, ◌∷◌, ◌≡◌, ◌≢◌, ◌≤◌}
 use Rattle.std.specs.BTreeSet as tree
 use Rattle.std.specs.Prelude.{not, ◌&&◌, ◌||◌, nat_le, nat_lt}
-use Rattle.std.specs.Ordering.{nat_cmp}
-use Rattle.std.specs.FinSet.{contains}
 use Rattle.std.proofs.lemmas.Bool.{false_from_ne_true, cases_eq, eq-eqb, ne_eqb, le-leb, lt-ltb}
-use Rattle.std.proofs.lemmas.Bool.Decides.{nat_tests}
 use Rattle.std.specs.BTreeSet.{BTreeSet}
 use Rattle.page_alloc.specs.Pages.{PageSet, IsPage, IsFree, with_page, without_page}
 use Rattle.page_alloc.proofs.PageLemmas.{contains-with, contains-without}
-use Rattle.page_map.specs.FreePages.{FreePages, PageRange, free_times, page_times, AreBalanced, AreTaken, AreGiven, AreInUse}
-use Rattle.page_map.specs.Locations.{times}
 use Rattle.page_map.proofs.Times.{one-other, one-self, times-append}
 
 -- a page of the window

@@ -2,9 +2,8 @@
 use Rattle.std.proofs.Common.{◌≡◌, ◌≢◌, ℕ, zero, suc, ◌+◌, ◌<◌, ◌≤◌, ◌⊎◌, inl, inr, List, [], ◌∷◌, ◌++◌, length, drop, take, get_or, set, sym, ap, subst, ◌∙◌, arith, add-one}
 use Rattle.std.specs.Prelude.{Result, Ok, Err, OnOk, IfErr}
 use Rattle.std.proofs.lemmas.List.{take_more, take_more_set, take_all, drop_all}
-use Rattle.lattice.specs.declared.refusal.Refusal.{Refusal}
+use Rattle.page_map.proofs.Prelude.{Refusal, times}
 use Rattle.lattice.specs.declared.refusal.Refusal.TheVariants.{Damaged, NoMemory}
-use Rattle.page_map.specs.Locations.{times}
 use Rattle.page_map.specs.FreePages.{FreePages, free_times, page_times, differing, AreBalanced, AreTaken, AreGiven, AreInUse, IsUnmarked}
 use Rattle.page_map.proofs.Times.{one, one-self, times-append, differing_same, differing_more}
 use Rattle.page_map.proofs.FreeTimes.{balanced_as, taken-append}

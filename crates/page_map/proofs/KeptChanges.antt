@@ -1,23 +1,5 @@
 -- A tile staged without its kept planes or with others, and one that is taken out.
-use Rattle.std.proofs.Common.{◌≡◌, suc, ◌*◌, ◌≤◌, Bool, true, false, cond, not, List, [], ◌∷◌, ◌++◌, length, refl, sym, ap, subst, ◌∙◌, arith}
-use Rattle.std.specs.Prelude.{Option, Some, None, IsSome, IfSome, All, Result, OnOk, OnErr, filter}
-use Rattle.std.specs.List.{flat_map}
-use Rattle.std.proofs.lemmas.Bool.{false≢true}
-use Rattle.std.proofs.lemmas.List.{length-append}
-use Rattle.std.proofs.lemmas.Result.{on_err_weaker, on_ok_weaker}
-use Rattle.lattice.specs.Corners.{Corner}
-use Rattle.lattice.specs.declared.refusal.Refusal.{Refusal}
-use Rattle.page_codec.specs.Formats.{Format}
-use Rattle.page_codec.specs.Sizes.{plane_pages_of}
-use Rattle.page_map.specs.FreePages.{FreePages, AreBalanced, AreGiven, AreInUse}
-use Rattle.page_map.specs.declared.locations.KeptLocations.{KeptLocations}
-use Rattle.page_map.specs.declared.plane_entry.Staged.{Staged}
-use Rattle.page_map.specs.declared.plane_entry.Staged.TheVariants.{Dropped, Fresh}
-use Rattle.page_map.specs.declared.tile_entry.TileEntry.{TileEntry}
-use Rattle.page_map.specs.Locations.{PlaneLocation, IsWholePlane, pages_of_plane, times}
-use Rattle.page_map.specs.PlaneEntries.{fresh_in, staged_as, staged_plane}
-use Rattle.page_map.specs.TileLocations.{TileLocation, pages_of_kept}
-use Rattle.page_map.specs.PageMaps.{AreKept, IsFresh, IsLocated, PageMapValue, is_at, other_kept, tile_at, without_location}
+use Rattle.page_map.proofs.Prelude.{All, AreBalanced, AreGiven, AreInUse, AreKept, Bool, Corner, Dropped, Format, FreePages, Fresh, IfSome, IsFresh, IsLocated, IsSome, IsWholePlane, KeptLocations, List, None, OnErr, OnOk, Option, PageMapValue, PlaneLocation, Refusal, Result, Some, Staged, TileEntry, TileLocation, [], ap, arith, cond, false, false≢true, filter, flat_map, fresh_in, is_at, length, length-append, not, on_err_weaker, on_ok_weaker, other_kept, pages_of_kept, pages_of_plane, plane_pages_of, refl, staged_as, staged_plane, subst, suc, sym, tile_at, times, true, without_location, ◌*◌, ◌++◌, ◌∙◌, ◌∷◌, ◌≡◌, ◌≤◌}
 use Rattle.page_map.specs.TileEntries.{fresh_by, fresh_kept, fresh_kept_by, fresh_pages, kept_of, page_map_of, planes_at, staged_tile, staged_tiles, tile_of, tile_planes, used_pages, with_planes, AreTogether, Entry, IsKept, IsKeptAnew, IsSound}
 use Rattle.page_map.proofs.Times.{all_numbers, times-append}
 use Rattle.page_map.proofs.PlaneChanges.{used_split}

@@ -1,3 +1,4 @@
+mod Prelude
 pub mod Times
 pub mod Refused
 pub mod FreeTimes

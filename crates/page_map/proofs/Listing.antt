@@ -1,17 +1,9 @@
 -- What is listed of the entries, one after another.
-use Rattle.std.proofs.Common.{◌≡◌, ℕ, ◌<◌, true, false, List, [], ◌∷◌, ◌++◌, length, get_or, append_assoc, refl, sym, ap, subst, ◌∙◌, arith, Bor}
+use Rattle.page_map.proofs.Prelude.{Bor, Corner, Entry, List, PlaneLocation, TileLocation, ℕ, [], ap, append_assoc, arith, corners_of_locations, eq-eqb, false, false≢true, get_or, length, length-append, ne_eqb, refl, staged_plane, staged_tile, staged_tiles, subst, sym, tile_of, true, ◌++◌, ◌<◌, ◌∙◌, ◌∷◌, ◌≡◌}
 use Rattle.std.specs.Prelude.{Option, Some, None, IsSome, IfSome, is_some, Contains, ◌==◌, option_copied}
 use Rattle.std.specs.List.{cons_option, list_any}
-use Rattle.std.proofs.lemmas.List.{length-append}
 use Rattle.std.proofs.lemmas.List.Elements.{Contains-get_or}
 use Rattle.std.proofs.lemmas.List.Folds.{list_any_at, list_any_none}
-use Rattle.std.proofs.lemmas.Bool.{false≢true, eq-eqb, ne_eqb}
-use Rattle.lattice.specs.Corners.{Corner}
-use Rattle.page_map.specs.TileLocations.{TileLocation}
-use Rattle.page_map.specs.PageMaps.{corners_of_locations}
-use Rattle.page_map.specs.Locations.{PlaneLocation}
-use Rattle.page_map.specs.PlaneEntries.{staged_plane}
-use Rattle.page_map.specs.TileEntries.{staged_tile, staged_tiles, tile_of, Entry}
 use Rattle.page_map.proofs.EntryLists.{staged_own}
 
 -- a tile is staged where heights are

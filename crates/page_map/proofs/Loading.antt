@@ -1,25 +1,8 @@
 -- What a page_map is with one more committed tile, and with a tile added.
-use Rattle.std.proofs.Common.{◌≡◌, ℕ, ◌+◌, ◌<◌, ◌≤◌, false, List, [], ◌∷◌, ◌++◌, length, refl, sym, ap, ap₂, subst, ◌∙◌, arith}
-use Rattle.std.specs.Prelude.{IsTrue, Option, Some, None, IfSome, All}
-use Rattle.std.specs.List.{filter_map, cons_option, AllByRecursion, flat_map}
-use Rattle.std.proofs.Math.Seq.{drop-append_seam}
-use Rattle.std.proofs.lemmas.List.{length-append, append-nil}
+use Rattle.page_map.proofs.Prelude.{All, AllAfter, AllByRecursion, AreWholeKept, Corner, Format, IfSome, IsAdded, IsBefore, IsLocated, IsTrue, IsWholePlane, IsWholeTile, KeepsPageRule, KeptLocations, List, None, Option, PageMapValue, PlaneLocation, Some, TileEntry, TileLocation, TilePlanes, ℕ, [], ap, append-nil, ap₂, arith, cons_option, drop-append_seam, false, false_from_ne_true, false≢true, filter_map, flat_map, flat_map-append, is_before, is_corner, length, length-append, pages_at, pages_of_kept, pages_of_plane, pages_of_tile, reached, refl, subst, sym, tile_at, times, ◌++◌, ◌+◌, ◌<◌, ◌∙◌, ◌∷◌, ◌≡◌, ◌≤◌}
 use Rattle.std.proofs.lemmas.List.Elements.{All-contains, All-drop, All-head, filter_map-append}
-use Rattle.std.proofs.lemmas.Grind.{flat_map-append}
-use Rattle.std.proofs.lemmas.Bool.{false≢true, false_from_ne_true}
-use Rattle.lattice.specs.Corners.{Corner, is_before, is_corner}
-use Rattle.lattice.specs.Lattice.{IsBefore}
 use Rattle.lattice.proofs.CornerOrder.{before_apart, before_not_back}
-use Rattle.lattice.proofs.Rising.{AllAfter}
-use Rattle.page_codec.specs.Formats.{Format}
 use Rattle.page_map.specs.FreePages.{FreePages, free_times, pages_of_planes, AreTaken}
-use Rattle.page_map.specs.declared.locations.KeptLocations.{KeptLocations}
-use Rattle.page_map.specs.declared.locations.TilePlanes.{TilePlanes}
-use Rattle.page_map.specs.declared.tile_entry.TileEntry.{TileEntry}
-use Rattle.page_map.specs.Locations.{PlaneLocation, IsWholePlane, times, pages_of_plane}
-use Rattle.page_map.specs.PlaneEntries.{pages_at}
-use Rattle.page_map.specs.TileLocations.{TileLocation, KeepsPageRule, reached, pages_of_kept, pages_of_tile}
-use Rattle.page_map.specs.PageMaps.{PageMapValue, AreWholeKept, IsWholeTile, IsAdded, IsLocated, tile_at}
 use Rattle.page_map.specs.TileEntries.{committed_tile, committed_tiles, fresh_by, kept_of, labels_of, levels_of, loaded_planes, page_map_of, planes_at, staged_tile, staged_tiles, used_pages, with_planes, AreTogether, Entry, IsKept}
 use Rattle.page_map.proofs.Times.{times-append, member_of_times}
 use Rattle.page_map.proofs.FreeTimes.{balanced_as, page_one}

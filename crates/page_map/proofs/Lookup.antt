@@ -1,27 +1,7 @@
 -- The entry of a corner, and what it says of the page_map's tiles.
 use Rattle.std.proofs.Common.{◌≡◌, zero, suc, true, false, cond, List, [], ◌∷◌, ◌++◌, refl, sym, ap, ap₂, subst, ◌∙◌, arith, ◌↔◌, Bor, MutBor}
-use Rattle.std.specs.Prelude.{Option, Some, None, IsSome, IfSome, Contains, IfNone, option_and_then}
-use Rattle.std.specs.Option.{option_copied_mut}
-use Rattle.std.specs.List.{cons_option}
-use Rattle.std.specs.Ordering.{MatchOrdering, is_eq}
-use Rattle.std.specs.declared.cmp.Ordering.{Ordering}
-use Rattle.std.specs.declared.cmp.Ordering.TheVariants.{Less, Equal, Greater}
+use Rattle.page_map.proofs.Prelude.{AreTogether, Contains, Corner, Entry, Equal, Format, Greater, HasPlane, HasPlaneAt, Heights, IfNone, IfSome, IsLocated, IsSome, IsSound, Labels, Less, Levels, MatchOrdering, None, Option, Ordering, Plane, PlaneLocation, Rising, Some, TileEntry, TileLocation, after_not_same, before_not_same, cons_option, corner_cmp, false≢true, is_before, is_eq, named_plane, option_and_then, option_copied_mut, plane_of, planes_at, ranked_corners, same_Some, same_corner, same_from, staged_plane, staged_tile, staged_tiles, tile_of, with_planes}
 use Rattle.std.proofs.lemmas.List.Elements.{Contains-append_right, filter_map-append}
-use Rattle.std.proofs.lemmas.Bool.{false≢true}
-use Rattle.std.proofs.lemmas.Option.{same_Some}
-use Rattle.lattice.specs.Corners.{Corner, is_before, same_corner}
-use Rattle.lattice.proofs.CornerOrder.{after_not_same, before_not_same, corner_cmp, ranked_corners, same_from}
-use Rattle.lattice.proofs.Rising.{Rising}
-use Rattle.page_codec.specs.Formats.{Format}
-use Rattle.page_map.specs.declared.plane.Plane.{Plane}
-use Rattle.page_map.specs.declared.plane.Plane.TheVariants.{Heights, Levels, Labels}
-use Rattle.page_map.specs.declared.tile_entry.TileEntry.{TileEntry}
-use Rattle.page_map.specs.Locations.{PlaneLocation}
-use Rattle.page_map.specs.PlaneEntries.{staged_plane}
-use Rattle.page_map.specs.Planes.{HasPlane, HasPlaneAt, plane_of}
-use Rattle.page_map.specs.TileLocations.{TileLocation}
-use Rattle.page_map.specs.PageMaps.{IsLocated}
-use Rattle.page_map.specs.TileEntries.{named_plane, planes_at, staged_tile, staged_tiles, tile_of, with_planes, AreTogether, Entry, IsSound}
 use Rattle.page_map.proofs.EntryLists.{corner_of, rising_after, rising_before, staged_all}
 use Rattle.page_map.proofs.EntryChanges.{AllOther, other_before, other_after, staged_corner, staged_split}
 

@@ -2,9 +2,7 @@
 use Rattle.std.proofs.Common.{◌≡◌, ◌≢◌, ⊎_elim, ℕ, zero, suc, ◌+◌, ◌<◌, ◌≤◌, List, [], ◌∷◌, All, length, get_or, refl, sym, arith}
 use Rattle.std.specs.List.{slice_set}
 use Rattle.std.proofs.lemmas.Bool.{cases_lt}
-use Rattle.std.proofs.lemmas.Bool.Decides.{nat_tests}
-use Rattle.std.proofs.lemmas.List.Elements.{All-nil, All-cons}
-use Rattle.page_map.specs.Locations.{times}
+use Rattle.page_map.proofs.Prelude.{All-cons, All-nil, nat_tests, times}
 use Rattle.page_map.proofs.Times.{has_at, times-append}
 
 pub times_here : (p x : ℕ) (xs : List ℕ) → p ≡ x → times p (x ∷ xs) ≡ 1 + times p xs

@@ -1,10 +1,7 @@
 -- A page of a plane that is moved to a free page.
-use Rattle.std.proofs.Common.{◌≡◌, ◌≢◌, ℕ, ◌+◌, ◌/◌, ◌<◌, ◌≤◌, List, [], ◌∷◌, ◌++◌, length, take, drop, get_or, set, refl, sym, ap, ◌∙◌, arith}
-use Rattle.std.specs.Prelude.{slice_set}
-use Rattle.std.specs.FinSet.{len}
+use Rattle.page_map.proofs.Prelude.{FreePages, List, ℕ, [], ap, arith, drop, get_or, len, length, refl, set, slice_set, sym, take, ◌++◌, ◌+◌, ◌/◌, ◌<◌, ◌∙◌, ◌∷◌, ◌≡◌, ◌≢◌, ◌≤◌}
 use Rattle.std.proofs.Math.Seq.{take-append_seam, drop-append_seam}
 use Rattle.std.proofs.lemmas.List.{length-set, set_past, set-append_left, set-append_right}
-use Rattle.page_map.specs.FreePages.{FreePages}
 use Rattle.page_map.specs.Locations.{PlaneLocation, pages_behind, IsMovedBehind, times}
 use Rattle.page_map.specs.FreePages.{free_times, differing, AreTaken, IsOwned, IsOwnedPage}
 use Rattle.page_map.proofs.FreeTimes.{balanced_as, balanced_on, balanced_same}

@@ -1,17 +1,5 @@
 -- What is known of every page_map.
-use Rattle.std.proofs.Common.{ℕ, ◌<◌, ◌≤◌, List, [], ◌∷◌, ap, arith}
-use Rattle.std.specs.Prelude.{IsTrue, Option, Some, None, IfSome, All}
-use Rattle.std.specs.List.{filter_map, flat_map, cons_option, AllByRecursion}
-use Rattle.std.proofs.lemmas.List.Elements.{All-nil, All-cons}
-use Rattle.lattice.specs.Corners.{is_corner}
-use Rattle.lattice.proofs.Rising.{Rising, rising_from, adjacent_from}
-use Rattle.page_codec.specs.Formats.{Format}
-use Rattle.page_map.specs.Locations.{times}
-use Rattle.page_map.specs.FreePages.{FreePages, PageRange, page_times}
-use Rattle.page_map.specs.TileLocations.{TileLocation, KeepsPageRule, reached}
-use Rattle.page_map.specs.PageMaps.{IsPageMap, IsFresh, IsWholeTile}
-use Rattle.page_map.specs.PlaneEntries.{staged_plane}
-use Rattle.page_map.specs.TileEntries.{committed_tile, committed_tiles, fresh_by, page_map_of, staged_tile, staged_tiles, used_by, Entry, IsKept, IsSound}
+use Rattle.page_map.proofs.Prelude.{All, All-cons, All-nil, AllByRecursion, Entry, Format, FreePages, IfSome, IsFresh, IsKept, IsPageMap, IsSound, IsTrue, IsWholeTile, KeepsPageRule, List, None, Option, PageRange, Rising, Some, TileLocation, ℕ, [], adjacent_from, ap, arith, committed_tile, committed_tiles, cons_option, filter_map, flat_map, fresh_by, is_corner, page_map_of, page_times, reached, rising_from, staged_plane, staged_tile, staged_tiles, times, used_by, ◌<◌, ◌∷◌, ◌≤◌}
 use Rattle.page_map.proofs.Times.{times-append, times_of_member, all_numbers}
 use Rattle.page_map.proofs.FreeTimes.{page_at, page_le}
 use Rattle.page_map.proofs.PlaneChanges.{staged_le}

@@ -1,12 +1,5 @@
 -- A plane staged otherwise, or ended, and what its pages come to.
-use Rattle.std.proofs.Common.{◌≡◌, ℕ, ◌+◌, ◌/◌, ◌<◌, ◌≤◌, List, [], ◌∷◌, ◌++◌, length, refl, sym, ap, subst, ◌∙◌, arith}
-use Rattle.std.specs.Prelude.{Option, Some, None, IfSome}
-use Rattle.std.specs.FinSet.{len}
-use Rattle.page_map.specs.declared.plane_entry.PlaneEntry.{PlaneEntry}
-use Rattle.page_map.specs.declared.plane_entry.Staged.{Staged}
-use Rattle.page_map.specs.declared.plane_entry.Staged.TheVariants.{AsCommitted, Dropped, Fresh}
-use Rattle.page_map.specs.FreePages.{FreePages, differing, AreBalanced, AreGiven, AreInUse, AreTaken, IsOwnedPage}
-use Rattle.page_map.specs.Locations.{PlaneLocation, moved_plane, pages_behind, pages_of_plane, times}
+use Rattle.page_map.proofs.Prelude.{AreBalanced, AreGiven, AreInUse, AreTaken, AsCommitted, Dropped, FreePages, Fresh, IfSome, IsOwnedPage, List, None, Option, PlaneEntry, PlaneLocation, Some, Staged, ℕ, [], ap, arith, differing, len, length, moved_plane, pages_behind, pages_of_plane, refl, subst, sym, times, ◌++◌, ◌+◌, ◌/◌, ◌<◌, ◌∙◌, ◌∷◌, ◌≡◌, ◌≤◌}
 use Rattle.page_map.specs.PlaneEntries.{behind_at, fresh_as, fresh_in, pages_at, replaced, settled_plane, staged_as, staged_plane, used_in, HasRoom, IsPageRestaged, IsRecordRestaged}
 use Rattle.page_map.proofs.Times.{one, one-self, times-append, differing-apart, differing-le, differing-nil, differing-self, differing-swap}
 use Rattle.page_map.proofs.FreeTimes.{balanced_as, page_le}

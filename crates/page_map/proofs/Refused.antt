@@ -1,8 +1,7 @@
 -- What a `?` answers where the call before it was refused.
 use Rattle.std.proofs.Common.{◌≡◌, Result, Ok, Err, ap}
-use Rattle.std.specs.Prelude.{IfOk, OnErr}
+use Rattle.page_map.proofs.Prelude.{IfOk, OnErr, Refusal}
 use Rattle.std.specs.Result.{IsErrAnd}
-use Rattle.lattice.specs.declared.refusal.Refusal.{Refusal}
 
 pub ended_with : {A : Type 0} (r : Result A Refusal) (why : Refusal) → IsErrAnd r (λ e. e ≡ why) → r ≡ Err why
 ended_with (Ok x) why is = absurd is

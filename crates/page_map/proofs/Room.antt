@@ -1,26 +1,11 @@
 -- A free page is always left: the committed tiles and the fresh pages take fewer than the disk has.
-use Rattle.std.proofs.Common.{◌≡◌, ◌≢◌, ℕ, zero, suc, ◌+◌, ◌-◌, ◌*◌, ◌<◌, ◌≤◌, cond, inl, inr, List, [], ◌∷◌, ◌++◌, length, refl, sym, ap, subst, ◌∙◌, arith}
+use Rattle.page_map.proofs.Prelude.{AllByRecursion, AreWholeKept, AsCommitted, Dropped, Entry, Format, FreePages, Fresh, HasRoom, IsKept, IsSound, IsSoundPlane, IsWholePlane, IsWholeTile, KeptLocations, List, One, PlaneEntry, PlaneLocation, Staged, TileLocation, ℕ, [], ap, arith, behind_at, committed_tile, committed_tiles, cond, cons_option, filter_map, flat_map, fresh_as, fresh_by, fresh_in, fresh_kept_by, inl, inr, length, length-append, nat_cmp, page_times, pages_behind, pages_of_kept, pages_of_plane, pages_of_tile, reached, refl, staged_as, staged_plane, staged_tile, staged_tiles, subst, suc, sym, tile_of, times, upgraded, zero, ◌*◌, ◌++◌, ◌+◌, ◌-◌, ◌<◌, ◌∙◌, ◌∷◌, ◌≡◌, ◌≢◌, ◌≤◌}
 use Rattle.std.proofs.Math.Nat.{mul-add, mul-le-mul_left, mul_comm, mul_assoc, mul_left_comm}
 use Rattle.std.specs.Prelude.{Option, Some, None, IsSome, IfSome, is_some, not, ◌&&◌}
-use Rattle.std.specs.List.{filter_map, flat_map, cons_option, AllByRecursion}
-use Rattle.std.specs.Ordering.{nat_cmp}
 use Rattle.std.specs.FinSet.{FinSet, contains, remove, len}
 use Rattle.std.proofs.lemmas.Bool.{false≢true, cases_eq, cases_Bool, ne_eqb}
-use Rattle.std.proofs.lemmas.List.{length-append}
 use Rattle.page_codec.specs.Sizes.{pages_of, index_pages_by, index_pages_of, plane_pages_of, sectors_asked}
-use Rattle.page_codec.specs.Formats.{Format, upgraded}
-use Rattle.page_codec.specs.declared.version.Version.TheVariants.{One}
 use Rattle.page_alloc.proofs.PageLemmas.{contains-without, len-without, some_member}
-use Rattle.page_map.specs.declared.locations.KeptLocations.{KeptLocations}
-use Rattle.page_map.specs.declared.plane_entry.PlaneEntry.{PlaneEntry}
-use Rattle.page_map.specs.declared.plane_entry.Staged.{Staged}
-use Rattle.page_map.specs.declared.plane_entry.Staged.TheVariants.{AsCommitted, Dropped, Fresh}
-use Rattle.page_map.specs.Locations.{PlaneLocation, IsWholePlane, times, pages_behind, pages_of_plane}
-use Rattle.page_map.specs.FreePages.{FreePages, page_times}
-use Rattle.page_map.specs.PlaneEntries.{behind_at, fresh_as, fresh_in, staged_as, staged_plane, HasRoom}
-use Rattle.page_map.specs.TileLocations.{TileLocation, pages_of_tile, pages_of_kept, reached}
-use Rattle.page_map.specs.PageMaps.{IsWholeTile, AreWholeKept}
-use Rattle.page_map.specs.TileEntries.{committed_tile, committed_tiles, fresh_by, fresh_kept_by, staged_tile, staged_tiles, tile_of, Entry, IsKept, IsSound, IsSoundPlane}
 use Rattle.page_map.proofs.Times.{one, one-other, times-append, length-differing}
 use Rattle.page_map.proofs.FreeTimes.{free_near, page_one}
 use Rattle.page_map.proofs.EntryLists.{counted_tiles, pages_of_location, reached_all, tile_whole}

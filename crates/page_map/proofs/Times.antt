@@ -1,9 +1,5 @@
 -- How often a number stands in lists that are joined, or compared index by index.
-use Rattle.std.proofs.Common.{◌≡◌, ◌≢◌, ℕ, zero, suc, ◌+◌, ◌≤◌, ◌<◌, List, [], ◌∷◌, ◌++◌, length, drop, get_or, cond, eqb, inl, inr, refl, sym, ap, subst, ◌∙◌, arith}
-use Rattle.std.specs.Prelude.{slice_set, Contains, All}
-use Rattle.std.proofs.lemmas.Bool.{cases_eq, eq-eqb, ne_eqb}
-use Rattle.page_map.specs.Locations.{times}
-use Rattle.page_map.specs.FreePages.{differing}
+use Rattle.page_map.proofs.Prelude.{All, Contains, List, ℕ, [], ap, arith, cases_eq, cond, differing, drop, eq-eqb, eqb, get_or, inl, inr, length, ne_eqb, refl, slice_set, subst, suc, sym, times, zero, ◌++◌, ◌+◌, ◌<◌, ◌∙◌, ◌∷◌, ◌≡◌, ◌≢◌, ◌≤◌}
 
 abbrev nil : List ℕ
 nil = []

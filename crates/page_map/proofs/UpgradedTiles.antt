@@ -1,25 +1,7 @@
 -- A page_map of the second version over one of the first: the pages stay, and what lists them is taken from free pages.
-use Rattle.std.proofs.Common.{◌≡◌, ℕ, ◌+◌, ◌*◌, ◌<◌, ◌≤◌, List, [], ◌∷◌, ◌++◌, length, map, append_assoc, refl, sym, ap, subst, ◌∙◌, arith}
-use Rattle.std.specs.Prelude.{Option, Some, None, All}
-use Rattle.std.specs.List.{flat_map, cons_option}
-use Rattle.std.proofs.Math.Nat.{mul-add, mul-le-mul_left}
-use Rattle.std.specs.FinSet.{len}
+use Rattle.page_map.proofs.Prelude.{All, AreTaken, Corner, Entry, Format, FreePages, IsBefore, IsFresh, IsKept, KeepsPageRule, KeptLocations, List, None, Option, PlaneLocation, Rising, Some, TileEntry, TileLocation, TilePlanes, ℕ, [], ap, append_assoc, arith, committed_tile, committed_tiles, cons_option, flat_map, flat_map-append, len, length, listing_of, map, mul-add, mul-le-mul_left, page_map_of, pages_of_kept, pages_of_plane, pages_of_tile, reached, refl, rising_from, staged_tiles, subst, sym, tile_at, tile_of, tile_planes, times, ◌*◌, ◌++◌, ◌+◌, ◌<◌, ◌∙◌, ◌∷◌, ◌≡◌, ◌≤◌}
 use Rattle.std.proofs.lemmas.List.{get_or-map, length-append, length-map, map-append}
 use Rattle.std.proofs.lemmas.List.Elements.{All-from_recursion}
-use Rattle.std.proofs.lemmas.Grind.{flat_map-append}
-use Rattle.lattice.specs.Corners.{Corner}
-use Rattle.lattice.specs.Lattice.{IsBefore}
-use Rattle.lattice.proofs.Rising.{Rising, rising_from}
-use Rattle.page_map.specs.FreePages.{FreePages}
-use Rattle.page_codec.specs.Formats.{Format}
-use Rattle.page_map.specs.declared.locations.KeptLocations.{KeptLocations}
-use Rattle.page_map.specs.declared.locations.TilePlanes.{TilePlanes}
-use Rattle.page_map.specs.declared.tile_entry.TileEntry.{TileEntry}
-use Rattle.page_map.specs.Locations.{PlaneLocation, times, listing_of, pages_of_plane}
-use Rattle.page_map.specs.FreePages.{AreTaken}
-use Rattle.page_map.specs.TileLocations.{TileLocation, KeepsPageRule, reached, pages_of_tile, pages_of_kept}
-use Rattle.page_map.specs.PageMaps.{IsFresh, tile_at}
-use Rattle.page_map.specs.TileEntries.{committed_tile, committed_tiles, page_map_of, staged_tiles, tile_of, tile_planes, Entry, IsKept}
 use Rattle.page_map.specs.Upgraded.{KeptData, TileData, data_of, data_of_kept, listing_of_kept, listing_of_tile, listings}
 use Rattle.page_map.proofs.Times.{times-append, all_numbers, times_of_member}
 use Rattle.page_map.proofs.FreeTimes.{balanced_as, page_at, page_le, taken-append}

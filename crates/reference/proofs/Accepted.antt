@@ -1,29 +1,15 @@
 -- What is known of a command that isn't refused.
 use Rattle.std.proofs.Common.{◌≡◌, ◌∙◌, ℕ, ℤ, pos, negsuc, ◌-ℤ◌, ◌≤ℤ◌, int_le, int_lt, Bool, true, false, cond, not, ◌&&◌, List, [], ◌∷◌, length, Option, Some, None, Result, Ok, Err, nat_lt, inl, inr, refl, sym, subst, arith}
-use Rattle.std.proofs.lemmas.Int.{ints}
+use Rattle.reference.proofs.Prelude.{At, Command, Corner, Height, IsMosaic, IsSample, Mosaic, Outside, Point, Void, height_of, int_max, ints, is_sink, le_true, list_any, lt_false, metres, refusal_of, same_point, same_point_says, with_sinks}
 use Rattle.std.proofs.lemmas.Bool.{cond_both, and_parts, or_cases, not-false, false≢true}
-use Rattle.std.specs.Int.{int_max}
-use Rattle.std.specs.List.{list_any}
-use Rattle.lattice.specs.Corners.{Corner}
-use Rattle.lattice.specs.declared.point.Point.{Point}
-use Rattle.lattice.specs.declared.height.Height.{Height}
-use Rattle.lattice.specs.declared.height.Height.TheVariants.{Outside, Void, At}
 use Rattle.lattice.specs.declared.refusal.Refusal.{Refusal}
 use Rattle.lattice.specs.declared.refusal.Refusal.TheVariants.{NothingVoid, BadHeight, BadDepth, BadBox, Repeated, TooDeep, SinkThere, SinksFull, NoSink}
-use Rattle.lattice.specs.Mosaic.{Mosaic, IsMosaic, IsSample}
-use Rattle.lattice.specs.Height.{height_of}
 use Rattle.lattice.specs.Limits.{most_sinks}
-use Rattle.lattice.specs.Ground.{metres, same_point, is_sink}
-use Rattle.lattice.proofs.IntTests.{le_true, lt_false}
-use Rattle.lattice.proofs.SamePoints.{same_point_says}
 use Rattle.lattice.proofs.SampleRange.{max_is_sample, metres_are_sample}
-use Rattle.edits.specs.declared.command.Command.{Command}
 use Rattle.edits.specs.declared.command.Command.TheVariants.{Import, Remove, Patch, Burn, Wall, Sink, Unsink}
 use Rattle.edits.specs.Effect as effects
-use Rattle.catalogue.specs.Tiles.{with_sinks}
 use Rattle.edits.specs.Sinks.{with_point, sunk_at}
 use Rattle.edits.specs.Effect.{effect, edited, patched, burnt, walled, is_named, is_repeated, is_depth, is_box, has_void, is_in_box, is_void_at, fault_at, first_fault, unless_fault}
-use Rattle.reference.specs.Answers.{refusal_of}
 use Rattle.reference.specs.Changes.{change_of, FitsAll}
 
 some_not_none : {r : Refusal} → ◌≡◌ {A = Option Refusal} (Some r) None → ⊥

@@ -1,18 +1,7 @@
 -- The tests of commands, step by step.
 use Rattle.std.proofs.Common.{◌≡◌, ◌∙◌, ℕ, suc, ◌+◌, ◌*◌, ◌/◌, ◌<◌, ◌≤◌, ℤ, pos, negsuc, Bool, true, false, cond, not, ◌&&◌, ◌||◌, List, [], ◌∷◌, ◌++◌, length, get_or, drop, refl, sym, ap, ap₂, subst, append_assoc, to_z, w16, SFits, arith, length-drop}
-use Rattle.std.proofs.lemmas.List.{at_drop_more, at_drop_all}
-use Rattle.std.proofs.lemmas.Grind.{common_steps}
-use Rattle.std.proofs.lemmas.Int.{ints}
-use Rattle.std.specs.List.{position_or_len, insert}
-use Rattle.lattice.specs.Corners.{Corner, is_before}
-use Rattle.lattice.specs.declared.point.Point.{Point}
-use Rattle.lattice.specs.Lattice.{point_of}
-use Rattle.lattice.specs.Mosaic.{Tile, Mosaic, IsSample}
+use Rattle.reference.proofs.Prelude.{Corner, IsSample, Mosaic, Point, Tile, at_drop_all, at_drop_more, changed_from, common_steps, has_void_from, insert, ints, is_before, is_in_box, is_point_before, is_void_at, point_of, position_or_len, with_point, with_tile}
 use Rattle.hgt.specs.Bytes.{sample_of, samples_in}
-use Rattle.catalogue.specs.Tiles.{with_tile}
-use Rattle.lattice.specs.Points.{is_point_before}
-use Rattle.edits.specs.Sinks.{with_point}
-use Rattle.edits.specs.Effect.{changed_from, is_in_box, is_void_at, has_void_from}
 
 pub has_void_more : (m : Mosaic) (from to : Point) (c : Corner) (e : ℕ) (samples : List ℤ) → e < length samples →
     has_void_from m from to c e (drop e samples) ≡

@@ -1,24 +1,15 @@
 -- The steps that can be made from a point tell its direction.
-use Rattle.std.proofs.Common.{◌≡◌, ◌∙◌, ℕ, zero, suc, ◌<◌, ◌≤◌, Bool, true, false, cond, not, ◌&&◌, ◌||◌, IsTrue, IsFalse, Option, Some, None, Result, Ok, Err, IfOk, MatchOption, List, [], ◌∷◌, length, get_or, ◌⊎◌, inl, inr, ⊎_elim, refl, sym, ap, subst, arith}
+use Rattle.reference.proofs.Prelude.{Bool, Cell, Dir, Err, IfOk, IsFalse, IsMosaic, IsTrue, List, MatchOption, Mosaic, None, Ok, Option, Point, Result, Some, Step, ℕ, [], ap, arith, cond, false, get_or, get_or_default, inl, inr, is_ground, is_level, is_lower, is_outlet, length, level_of, not, refl, subst, suc, sym, terrain, true, void, zero, ⊎_elim, ◌&&◌, ◌<◌, ◌||◌, ◌∙◌, ◌∷◌, ◌≡◌, ◌≤◌, ◌⊎◌}
 use Rattle.std.specs.Prelude.{nat_lt, find}
 use Rattle.std.specs.List.{All, list_all}
-use Rattle.std.proofs.lemmas.List.{get_or_default}
 use Rattle.std.proofs.lemmas.Bool.{cases_Bool, cases_lt, and_parts, and_from, or_cases, or_left, or_right, false≢true, not-true, not_from_false, lt-ltb, le-ltb}
-use Rattle.lattice.specs.declared.point.Point.{Point}
-use Rattle.lattice.specs.declared.direction.Dir.{Dir}
 use Rattle.lattice.specs.declared.direction.Dir.TheVariants.{East, SouthEast, South, SouthWest, West, NorthWest, North, NorthEast}
-use Rattle.lattice.specs.declared.direction.Step.{Step}
 use Rattle.lattice.specs.Steps.{step, order_of, directions}
 use Rattle.lattice.specs.Stepping.{fits_point, reach_of}
-use Rattle.lattice.specs.Mosaic.{Mosaic, IsMosaic, void}
-use Rattle.lattice.specs.Ground.{is_ground, is_outlet, terrain}
 use Rattle.flow_d8.specs.Drainage.{AreFilledLevels, IsLower, HasLower, IsSteepest, IsFlatDistance, IsNearer, IsFirstNearer, IsDirection}
 use Rattle.flow_d8.proofs.Mosaics.MosaicGrid.{mosaic_is_grid}
 use Rattle.flow_d8.proofs.Paths.Exists.{steepest_or_none, direction_exists}
 use Rattle.flow_d8.proofs.Paths.Unique.{one_distance}
-use Rattle.reference.specs.declared.levels.Cell.{Cell}
-use Rattle.reference.specs.Levels.{level_of}
-use Rattle.reference.specs.Flats.{is_lower, is_level}
 use Rattle.reference.specs.Drains.{falls_faster, outranks, is_steepest, DrainsBy, IsFirstOf}
 use Rattle.reference.proofs.FlatLemmas.{lower_is, lower_from, level_is}
 use Rattle.catalogue.proofs.Degrees.{adjacent_fits}

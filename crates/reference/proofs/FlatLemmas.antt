@@ -1,22 +1,10 @@
 -- The points of round k are those that cross their flat in k steps.
-use Rattle.std.proofs.Common.{◌≡◌, ◌∙◌, ℕ, zero, suc, ◌+◌, ◌<◌, Bool, true, false, IsTrue, List, filter, inl, inr, ⊎_elim, refl, sym, subst, arith, add-one}
-use Rattle.std.specs.Prelude.{int_lt}
-use Rattle.std.specs.Ordering.{int_eq}
-use Rattle.std.specs.List.{Contains, list_any}
-use Rattle.std.proofs.lemmas.Bool.{cases_eq, cases_lt, and_parts, and_from, or_cases, or_left, or_right, false≢true}
+use Rattle.reference.proofs.Prelude.{Bool, Cell, Contains, IsTrue, List, Mosaic, Point, ℕ, add-one, and_from, and_parts, arith, cases_eq, cases_lt, crossing, false, false≢true, filter, inl, inr, int_eq, int_lt, is_adjacent, is_end, is_ground, is_level, is_lower, is_named, is_outlet, level_of, list_any, or_cases, or_left, or_right, refl, same_point, same_point_from, same_point_says, subst, suc, sym, terrain, true, zero, ⊎_elim, ◌+◌, ◌<◌, ◌∙◌, ◌≡◌}
 use Rattle.std.proofs.lemmas.List.Elements.{All-contains, filter_passes}
 use Rattle.std.proofs.lemmas.List.Folds.{list_any_at, Any-from_list_any}
-use Rattle.lattice.specs.declared.point.Point.{Point}
-use Rattle.lattice.specs.Mosaic.{Mosaic}
-use Rattle.lattice.specs.Ground.{is_ground, is_adjacent, is_outlet, same_point, terrain}
 use Rattle.lattice.proofs.IntTests.{lt_true, lt_from, eq_true, eq_from}
 use Rattle.lattice.proofs.Filters.{contains_filtered}
-use Rattle.lattice.proofs.SamePoints.{same_point_says, same_point_from}
 use Rattle.flow_d8.specs.Drainage.{IsLower, CrossesFlat, IsFlatDistance}
-use Rattle.edits.specs.Effect.{is_named}
-use Rattle.reference.specs.declared.levels.Cell.{Cell}
-use Rattle.reference.specs.Levels.{level_of}
-use Rattle.reference.specs.Flats.{is_lower, is_level, is_end, crossing}
 use Rattle.reference.proofs.GroundLemmas.{adjacent_parts}
 
 -- tests of some element

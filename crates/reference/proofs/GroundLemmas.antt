@@ -1,10 +1,5 @@
 -- Ground points lie in present tiles, and the parts of adjacency.
-use Rattle.std.proofs.Common.{◌≡◌, ℕ, suc, ◌<◌, true, cond, not, ◌&&◌, List, [], ◌∷◌, length, get_or, filter, map, inl, inr, subst, arith}
-use Rattle.std.proofs.lemmas.Bool.{cases_Bool, and_parts, false≢true}
-use Rattle.lattice.specs.declared.point.Point.{Point}
-use Rattle.lattice.specs.Lattice.{holds}
-use Rattle.lattice.specs.Mosaic.{Tile, Mosaic}
-use Rattle.lattice.specs.Height.{sample_at, by_seam_rule}
+use Rattle.reference.proofs.Prelude.{List, Mosaic, Point, Tile, ℕ, [], and_parts, arith, by_seam_rule, cases_Bool, cond, false≢true, filter, get_or, holds, inl, inr, length, map, not, sample_at, subst, suc, true, ◌&&◌, ◌<◌, ◌∷◌, ◌≡◌}
 use Rattle.lattice.specs.Ground.{is_height, is_ground, same_point, is_near, share_tile, is_adjacent}
 use Rattle.reference.proofs.SeamLemmas.{told}
 

@@ -1,10 +1,5 @@
 -- Tiles whose samples are changed.
-use Rattle.std.proofs.Common.{◌≡◌, ℕ, ℤ, List, ap}
-use Rattle.lattice.specs.Corners.{Corner}
-use Rattle.lattice.specs.declared.point.Point.{Point}
-use Rattle.lattice.specs.Lattice.{point_of}
-use Rattle.lattice.specs.Mosaic.{Tile}
-use Rattle.edits.specs.Effect.{changed_from}
+use Rattle.reference.proofs.Prelude.{Corner, List, Point, Tile, ℕ, ℤ, ap, changed_from, point_of, ◌≡◌}
 
 -- a tile once its samples were changed
 abbrev pub edited_tile : (Point → ℤ → ℤ) → ℕ → Tile → Tile

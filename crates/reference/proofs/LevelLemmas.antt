@@ -2,21 +2,13 @@
 use Rattle.std.proofs.Common.{◌≡◌, ◌∙◌, ℕ, zero, suc, ◌<◌, ℤ, pos, negsuc, ◌+ℤ◌, ◌≤ℤ◌, ◌<ℤ◌, int_le, nat_abs, true, false, ◌||◌, cond, IsTrue, IsFalse, List, [], ◌∷◌, length, get_or, set, Option, Some, None, MatchOption, unwrap_or, nat_lt, ◌⊎◌, inl, inr, refl, sym, ap, ap₂, subst, arith, get_or-set_same, get_or-set_other, length-set, map}
 use Rattle.std.proofs.lemmas.Int.{ints, clamps}
 use Rattle.std.proofs.lemmas.List.{length-map}
-use Rattle.std.proofs.lemmas.Bool.{cases_Bool, cases_eq, and_parts, false≢true, false_from_ne_true}
+use Rattle.reference.proofs.Prelude.{All, AreFilledLevels, Cell, Contains, IsMosaic, IsSample, Mosaic, Point, and_parts, cases_Bool, cases_eq, false_from_ne_true, false≢true, height_of, int_max, same_point_from, same_point_says, sum_by, void}
 use Rattle.std.proofs.lemmas.List.Elements.{All-contains, All-set, All-map}
-use Rattle.std.specs.Int.{int_max}
-use Rattle.std.specs.List.{All, Contains, sum_by}
 use Rattle.std.proofs.lemmas.List.Sums.{sum_by-set}
-use Rattle.lattice.specs.declared.point.Point.{Point}
 use Rattle.lattice.specs.Terrain.{IsPath, crest, LeadsOut, IsFilledLevel}
-use Rattle.lattice.specs.Mosaic.{Mosaic, IsMosaic, IsSample, void}
 use Rattle.lattice.proofs.WaysOut.{way_out}
-use Rattle.lattice.specs.Height.{height_of}
 use Rattle.lattice.specs.Ground.{is_ground, is_adjacent, is_outlet, is_sink, degree_of, metres, same_point, terrain}
 use Rattle.lattice.proofs.IntTests.{le_true, le_false}
-use Rattle.lattice.proofs.SamePoints.{same_point_says, same_point_from}
-use Rattle.flow_d8.specs.Drainage.{AreFilledLevels}
-use Rattle.reference.specs.declared.levels.Cell.{Cell}
 use Rattle.reference.specs.Levels.{level_of, level_in, starting_cell, lower_level, level_by}
 use Rattle.reference.proofs.GroundLemmas.{adjacent_parts}
 

@@ -1,3 +1,4 @@
+mod Prelude
 pub mod Accepted
 pub mod CommandLemmas
 pub mod DrainLemmas

@@ -1,14 +1,6 @@
 -- A flow path has exactly the points that water from its first point comes to.
-use Rattle.std.proofs.Common.{◌≡◌, zero, suc, ℤ, Some, List, [], ◌∷◌, ◌++◌, ◌⊎◌, inl, inr, sym, subst, arith, append_assoc, IsTrue}
-use Rattle.std.specs.List.{Contains}
-use Rattle.lattice.specs.declared.point.Point.{Point}
-use Rattle.lattice.specs.declared.direction.Dir.{Dir}
-use Rattle.lattice.specs.Steps.{step}
+use Rattle.reference.proofs.Prelude.{Contains, Dir, IsDirection, IsFlowPath, IsTrue, List, Mosaic, Point, Some, ℤ, [], append_assoc, arith, inl, inr, is_ground, step, subst, suc, sym, terrain, zero, ◌++◌, ◌∷◌, ◌≡◌, ◌⊎◌}
 use Rattle.lattice.specs.Terrain.{Terrain}
-use Rattle.lattice.specs.Mosaic.{Mosaic}
-use Rattle.lattice.specs.Ground.{is_ground, terrain}
-use Rattle.flow_d8.specs.Drainage.{IsDirection}
-use Rattle.flow_d8.specs.FlowPath.{IsFlowPath}
 use Rattle.flow_d8.proofs.Paths.FlowPaths.{from_next}
 use Rattle.reference.proofs.GroundLemmas.{adjacent_parts}
 

@@ -1,16 +1,7 @@
 -- The list of ground points holds them all.
-use Rattle.std.proofs.Common.{◌≡◌, ◌∙◌, ℕ, zero, suc, ◌+◌, ◌*◌, ◌<◌, ◌≤◌, true, cond, IsTrue, List, [], ◌∷◌, ◌++◌, length, get_or, drop, inl, inr, refl, sym, ap, subst, arith, append_assoc, add-one, pos}
-use Rattle.std.proofs.lemmas.Bool.{cases_Bool, cases_eq}
-use Rattle.std.proofs.lemmas.List.{at_drop_more, at_drop_all}
+use Rattle.reference.proofs.Prelude.{All, Contains, Corner, Holds, IsMosaic, IsTrue, List, Mosaic, Point, Tile, ℕ, [], add-one, ap, append_assoc, arith, at_drop_all, at_drop_more, cases_Bool, cases_eq, cond, drop, get_or, index_of, inl, inr, is_ground, length, point_of, pos, refl, subst, suc, sym, tile_ground, true, zero, ◌*◌, ◌++◌, ◌+◌, ◌<◌, ◌∙◌, ◌∷◌, ◌≡◌, ◌≤◌}
 use Rattle.std.proofs.lemmas.List.Elements.{All-nil, All-cons, All-append, Contains-append_left, Contains-append_right}
-use Rattle.std.specs.List.{All, Contains}
-use Rattle.lattice.specs.Corners.{Corner}
-use Rattle.lattice.specs.declared.point.Point.{Point}
-use Rattle.lattice.specs.Lattice.{Holds, point_of, index_of}
-use Rattle.lattice.specs.Mosaic.{Tile, Mosaic, IsMosaic}
-use Rattle.lattice.specs.Ground.{is_ground}
 use Rattle.lattice.proofs.Samples.{holds_is, index_of_below, point_of_index}
-use Rattle.reference.specs.Points.{tile_ground}
 use Rattle.reference.proofs.GroundLemmas.{held_by}
 
 -- one more sample

@@ -1,13 +1,5 @@
 -- What the tiles say of a point, tile by tile, and the height that this comes to.
-use Rattle.std.proofs.Common.{◌≡◌, ◌∙◌, ℕ, ◌+◌, ◌<◌, ℤ, Bool, true, false, cond, not, ◌||◌, List, ◌∷◌, length, get_or, drop, map, filter, Option, Some, None, ap}
-use Rattle.std.proofs.lemmas.List.{at_drop_more}
-use Rattle.std.specs.Ordering.{int_eq}
-use Rattle.std.specs.List.{list_any}
-use Rattle.lattice.specs.declared.point.Point.{Point}
-use Rattle.lattice.specs.declared.height.Height.{Height}
-use Rattle.lattice.specs.declared.height.Height.TheVariants.{At}
-use Rattle.lattice.specs.Lattice.{holds}
-use Rattle.lattice.specs.Mosaic.{Tile, is_void}
+use Rattle.reference.proofs.Prelude.{At, Bool, Height, List, None, Option, Point, Some, Tile, ℕ, ℤ, ap, at_drop_more, cond, drop, false, filter, get_or, holds, int_eq, is_void, length, list_any, map, not, true, ◌+◌, ◌<◌, ◌||◌, ◌∙◌, ◌∷◌, ◌≡◌}
 use Rattle.lattice.specs.Height.{sample_at, first_height, by_seam_rule, differ}
 
 -- what these tiles say of the point

@@ -1,16 +1,11 @@
 -- Bytes and samples of a plane by its pages.
-use Rattle.std.proofs.Common.{◌≡◌, ℕ, zero, suc, ◌+◌, ◌-◌, ◌*◌, ◌<◌, ◌≤◌, ℤ, List, [], ◌∷◌, ◌++◌, length, take, get_or, set, All, refl, sym, ap, ◌∙◌, subst, arith, Some, slice_get}
-use Rattle.std.specs.List.{concat}
+use Rattle.store.proofs.Prelude.{All, IsPage, List, PlanePages, Some, ℕ, ℤ, [], ap, arith, concat, concat-append, get_or, get_or_from_slice_get, high_byte, length, low_byte, plane_bytes, refl, sample_of, samples_of_plane, set, slice_get, slice_get_within, subst, suc, sym, take, zero, ◌*◌, ◌++◌, ◌+◌, ◌-◌, ◌<◌, ◌∙◌, ◌∷◌, ◌≡◌, ◌≤◌}
 use Rattle.std.proofs.Math.ListN.{get_or-append}
 use Rattle.std.proofs.Math.Seq.{get_or-append_right}
 use Rattle.std.proofs.lemmas.List.{append-nil, length-append, length-set, length-take, length-take-le, get_or-take, take_more}
 use Rattle.std.proofs.lemmas.List.Elements.{All-nil, All-head, All-tail, All-append, All-take, All-set}
-use Rattle.std.proofs.lemmas.List.Folds.{concat-append}
-use Rattle.std.proofs.lemmas.Option.{get_or_from_slice_get, slice_get_within}
-use Rattle.hgt.specs.Bytes.{sample_of, high_byte, low_byte}
 use Rattle.hgt.proofs.BytesLemmas.{get_or-samples_in, length-samples_in}
 use Rattle.hgt.proofs.Words.{byte-high_byte, byte-low_byte}
-use Rattle.cow_tree.specs.Stored.{IsPage, PlanePages, plane_bytes, samples_of_plane}
 
 abbrev IsByte : ℕ → Type 0
 IsByte b = b < 256

@@ -1,8 +1,5 @@
 -- A point whose height stays below its level changes no level and no label.
-use Rattle.std.proofs.Common.{◌≡◌, ◌≢◌, ℕ, ◌<◌, ℤ, ◌≤ℤ◌, ◌<ℤ◌, IsTrue, List, [], ◌∷◌, length, get_or, set, slice_index, get_or-set_other, get_or-set_same, inl, inr, refl, sym, ◌∙◌, subst, arith}
-use Rattle.tile_flood.proofs.Words.{int_max, cases_eq, ints, clamps, void, Block, block_terrain, is_solid, is_exit}
-use Rattle.tile_flood.proofs.Words.{IsPath, LeadsOut, crest, end_of, ≤ℤ_same, ≤ℤ_antisym, block_of, IsLabelling, Names}
-use Rattle.tile_flood.proofs.Words.{AreCarried, AreRelaxed, IsMending}
+use Rattle.tile_flood.proofs.Prelude.{AreCarried, AreRelaxed, Block, IsLabelling, IsMending, IsPath, IsTrue, LeadsOut, List, Names, ℕ, ℤ, [], arith, block_of, block_terrain, cases_eq, clamps, crest, end_of, get_or, get_or-set_other, get_or-set_same, inl, inr, int_max, ints, is_exit, is_solid, length, refl, set, slice_index, subst, sym, void, ≤ℤ_antisym, ≤ℤ_same, ◌<ℤ◌, ◌<◌, ◌∙◌, ◌∷◌, ◌≡◌, ◌≢◌, ◌≤ℤ◌}
 use Rattle.lattice.proofs.Multiples.{some_side}
 use Rattle.tile_flood.proofs.Squares.{linked_parts, solid_below}
 use Rattle.tile_flood.proofs.Dependence.{same_exit, same_inner, same_link, same_names, labelling_relaxed, relaxed_least, max_mono}

@@ -1,11 +1,6 @@
 -- What a labelling keeps when a height changes, and that carried levels that no link can lower are a labelling.
 use Rattle.std.proofs.Common.{◌≡◌, ◌≢◌, ℕ, ◌+◌, ◌*◌, ◌/◌, ◌%◌, ◌<◌, ◌≤◌, ℤ, ◌≤ℤ◌, Bool, true, false, not, ◌-◌, IsTrue, List, [], ◌∷◌, length, get_or, set, get_or-set_other, get_or-set_same, slice_index, inl, inr, refl, sym, ap, ap₂, ◌∙◌, subst, arith, true≢false, ◌&&◌, ◌||◌, nat_eq, nat_lt, lt-ltb}
-use Rattle.tile_flood.proofs.Words.{int_max, list_all, cases_Bool, cases_eq, cases_lt, and_from, get_or_past, void}
-use Rattle.tile_flood.proofs.Words.{is_void, IsFilledLevel, IsPath, LeadsOut, crest, end_of, block_terrain, is_solid}
-use Rattle.tile_flood.proofs.Words.{is_linked, is_exit, is_inner_outlet, is_rim, is_beside, is_sink_at, around, max-le}
-use Rattle.tile_flood.proofs.Words.{le-max_left, ≤ℤ_trans, ≤ℤ_same, block_is_lawful, block_of, bare_block, IsLabelling}
-use Rattle.tile_flood.proofs.Words.{Names, IsCarriedBy, AreCarried, AreRelaxed, is_marked, IsInWindow}
-use Rattle.lattice.proofs.Levels.{le-max_right, max_one_of}
+use Rattle.tile_flood.proofs.Prelude.{AreCarried, AreRelaxed, IsCarriedBy, IsFilledLevel, IsInWindow, IsLabelling, IsPath, LeadsOut, Names, and_from, around, bare_block, block_is_lawful, block_of, block_terrain, cases_Bool, cases_eq, cases_lt, crest, end_of, get_or_past, int_max, is_beside, is_exit, is_inner_outlet, is_linked, is_marked, is_rim, is_sink_at, is_solid, is_void, le-max_left, le-max_right, list_all, max-le, max_one_of, void, ≤ℤ_same, ≤ℤ_trans}
 use Rattle.tile_flood.specs.Labelling.{IsLabelAt, OUT}
 use Rattle.tile_flood.specs.Carried.{IsCarried}
 use Rattle.tile_flood.proofs.Squares.{not_void_if, test_if, linked_parts, solid_height, solid_below, cell_of, row_of_cell, column_of_cell, apart_of, beside_if}

@@ -1,10 +1,5 @@
 -- The levels and the labels that stand in cells.
-use Rattle.std.proofs.Common.{◌≡◌, ◌≢◌, ℕ, ◌*◌, ◌+◌, ◌<◌, ℤ, pos, false, true, not, IsTrue, List, length, get_or, set, slice_index, nat_eq, nat_lt, inl, inr, sym, ap, ◌∙◌, subst, arith, true≢false, length-set, get_or-set_other, get_or-set_same}
-use Rattle.tile_flood.proofs.Words.{cases_Bool, cases_eq, cases_lt, eq-eqb, ne_eqb, and_from, Decides-int_eq}
-use Rattle.tile_flood.proofs.Words.{length-map, get_or_past, get_or_default, void, is_solid, Cell, NO_LABEL, block_of}
-use Rattle.tile_flood.proofs.Words.{bare_block, level_of, label_of, levels_of, labels_of, AreCells, is_marked}
-use Rattle.tile_flood.proofs.Words.{IsOwnLabel, IsSpreading, Queue}
-use Rattle.std.proofs.lemmas.Bool.{cond-true, cond-false, eqb-true, lt-ltb}
+use Rattle.tile_flood.proofs.Prelude.{AreCells, Cell, Decides-int_eq, IsOwnLabel, IsSpreading, IsTrue, List, NO_LABEL, Queue, ℕ, ℤ, and_from, ap, arith, bare_block, block_of, cases_Bool, cases_eq, cases_lt, cond-false, cond-true, eq-eqb, eqb-true, false, get_or, get_or-set_other, get_or-set_same, get_or_default, get_or_past, inl, inr, is_marked, is_solid, label_of, labels_of, length, length-map, length-set, level_of, levels_of, lt-ltb, nat_eq, nat_lt, ne_eqb, not, pos, set, slice_index, subst, sym, true, true≢false, void, ◌*◌, ◌+◌, ◌<◌, ◌∙◌, ◌≡◌, ◌≢◌}
 use Rattle.std.proofs.lemmas.List.{get_or-map, map-set}
 use Rattle.lattice.specs.Limits.{IsSide}
 use Rattle.tile_flood.specs.Cells.{OPEN, IsFresh}

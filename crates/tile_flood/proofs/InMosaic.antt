@@ -2,7 +2,7 @@
 -- at its rim, and an inner outlet is an outlet of the mosaic.
 use Rattle.std.proofs.Common.{◌≡◌, ◌≢◌, ℕ, suc, ◌+◌, ◌*◌, ◌-◌, ◌/◌, ◌%◌, ◌<◌, ◌≤◌, inl, inr, ℤ, pos, ◌+ℤ◌, ◌-ℤ◌, ◌*ℤ◌, Bool, true, false, not, cond, IsTrue, ◌&&◌, ◌||◌, List, [], ◌∷◌, get_or, refl, sym, ap, ap₂, ◌∙◌, subst, arith, true≢false, nat_abs, nat_eq, All, nat_lt}
 use Rattle.std.specs.List.{list_any, list_all}
-use Rattle.std.proofs.lemmas.Int.{ints}
+use Rattle.tile_flood.proofs.Prelude.{IsBlockOf, around, bare_block, block_of, block_terrain, ints, is_exit, is_inner_outlet, is_linked, is_rim, is_sink_at, is_solid}
 use Rattle.std.proofs.lemmas.Bool.{cases_Bool, and_parts, and_from, or_cases, or_left, or_right, ltb-true, lt-ltb, ltb-false, eqb-true, ne_eqb, not-true, eq-eqb}
 use Rattle.lattice.specs.declared.point.Point.{Point}
 use Rattle.lattice.specs.declared.height.Height.{Height}
@@ -14,7 +14,6 @@ use Rattle.lattice.specs.Steps.{step, north_of, east_of}
 use Rattle.lattice.specs.Mosaic.{Mosaic, Tile, IsMosaic, IsTile, is_present, void, is_void}
 use Rattle.lattice.specs.Height.{height_of, by_seam_rule, first_height, samples_at}
 use Rattle.lattice.specs.Ground.{is_ground, is_sink, is_height, metres, same_point, is_near, share_tile, is_adjacent, degree_of, is_outlet, terrain}
-use Rattle.lattice.specs.Block.{IsBlockOf, block_terrain, is_solid, is_linked, is_rim, is_exit, is_inner_outlet, is_sink_at, around}
 use Rattle.lattice.proofs.Along.{from_parts}
 use Rattle.lattice.proofs.CornerOrder.{same_says}
 use Rattle.lattice.proofs.SamePoints.{same_point_says, same_point_from}
@@ -23,7 +22,6 @@ use Rattle.lattice.proofs.Samples.{holds_is, point_of_held, index_of_point_is, p
 use Rattle.lattice.proofs.Lawful.{five_parts, five_from, terrain_is_lawful}
 use Rattle.lattice.proofs.BoolTests.{one_at_most}
 use Rattle.tile_flood.proofs.Parts.{IsPart}
-use Rattle.tile_flood.specs.Blocks.{block_of, bare_block}
 use Rattle.tile_flood.proofs.Squares.{in_square, inner_at, linked_parts, linked_from, linked_apart, Apart, beside_if, solid_below, row_of_cell, column_of_cell, cell_of, rim_is_exit, inner_is_exit}
 
 -- a point is ground where its height in metres isn't that of a void

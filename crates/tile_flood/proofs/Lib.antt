@@ -1,4 +1,4 @@
-pub mod Words
+mod Prelude
 pub mod Buckets
 pub mod Squares
 pub mod Spreading

@@ -1,10 +1,5 @@
 -- What a mending changes is listed, with the label that it had.
-use Rattle.std.proofs.Common.{◌≡◌, ◌≢◌, ℕ, ◌+◌, ◌*◌, ◌<◌, ℤ, false, IsTrue, List, [], ◌∷◌, ◌++◌, length, get_or, set, get_or-set_other, length-append, slice_index, inl, inr, refl, sym, ap, ◌∙◌, subst, arith}
-use Rattle.tile_flood.proofs.Words.{cases_eq, cases_lt, void, is_solid, Affected, bare_block, is_marked}
-use Rattle.tile_flood.proofs.Words.{AreChangesListed, StayListed}
-use Rattle.std.proofs.Math.ListN.{get_or-append}
-use Rattle.std.proofs.Math.Seq.{get_or-append_seam}
-use Rattle.tile_flood.specs.Affected.{IsListed}
+use Rattle.tile_flood.proofs.Prelude.{Affected, AreChangesListed, IsListed, IsTrue, List, StayListed, ℕ, ℤ, [], ap, arith, bare_block, cases_eq, cases_lt, false, get_or, get_or-append, get_or-append_seam, get_or-set_other, inl, inr, is_marked, is_solid, length, length-append, refl, set, slice_index, subst, sym, void, ◌*◌, ◌++◌, ◌+◌, ◌<◌, ◌∙◌, ◌∷◌, ◌≡◌, ◌≢◌}
 use Rattle.tile_flood.proofs.Squares.{not_void_if}
 use Rattle.tile_flood.proofs.Steps.{unmarked_void}
 

@@ -1,6 +1,5 @@
 -- What is found to be one run round a point hangs together.
-use Rattle.std.proofs.Common.{◌≡◌, ◌≢◌, ℕ, ◌+◌, ◌/◌, ◌%◌, ◌-◌, ◌<◌, ◌≤◌, ℤ, ◌⊎◌, IsTrue, List, [], ◌∷◌, ◌++◌, inl, inr, refl, sym, ap, ◌∙◌, subst, arith}
-use Rattle.tile_flood.proofs.Words.{cases_eq, cases_lt, is_beside, IsInWindow, HangTogether, IsRun}
+use Rattle.tile_flood.proofs.Prelude.{HangTogether, IsInWindow, IsRun, IsTrue, List, ℕ, ℤ, [], ap, arith, cases_eq, cases_lt, inl, inr, is_beside, refl, subst, sym, ◌%◌, ◌++◌, ◌+◌, ◌-◌, ◌/◌, ◌<◌, ◌∙◌, ◌∷◌, ◌≡◌, ◌≢◌, ◌≤◌, ◌⊎◌}
 use Rattle.tile_flood.specs.Sparing.{IsAround, LeadsAround, IsSeen, in_round}
 use Rattle.tile_flood.proofs.Squares.{beside_if}
 use Rattle.tile_flood.proofs.Dependence.{window_point_of, one_window_point, beside_back}

@@ -1,8 +1,5 @@
 -- A part of a terrain: what is reached inside it, and the filled level of its points (for any terrain).
-use Rattle.std.proofs.Common.{◌≡◌, ℤ, ◌≤ℤ◌, Bool, IsTrue, IsFalse, List, [], ◌∷◌, refl, sym, ap, ap₂, ◌∙◌, subst, map}
-use Rattle.tile_flood.proofs.Words.{int_max, ints, clamps, cases_Bool, IsPath, end_of, crest, LeadsOut, IsFilledLevel}
-use Rattle.tile_flood.proofs.Words.{le-max_left, max-le, ≤ℤ_trans, ≤ℤ_same, ≤ℤ_antisym}
-use Rattle.std.proofs.Common.{arith, inl, inr}
+use Rattle.tile_flood.proofs.Prelude.{Bool, IsFalse, IsFilledLevel, IsPath, IsTrue, LeadsOut, List, ℤ, [], ap, ap₂, arith, cases_Bool, clamps, crest, end_of, inl, inr, int_max, ints, le-max_left, map, max-le, refl, subst, sym, ≤ℤ_antisym, ≤ℤ_same, ≤ℤ_trans, ◌∙◌, ◌∷◌, ◌≡◌, ◌≤ℤ◌}
 use Rattle.lattice.specs.Terrain.{Terrain, IsLawful}
 use Rattle.lattice.proofs.Levels.{le-max_right, height-le_crest, level_of_outlet}
 

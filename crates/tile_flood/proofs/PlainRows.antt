@@ -1,7 +1,5 @@
 -- Runs of points of a row in which none can be an outlet.
-use Rattle.std.proofs.Common.{mul-le-mul_right, ◌≡◌, ℕ, ◌+◌, ◌-◌, ◌*◌, ◌/◌, ◌%◌, ◌<◌, ◌≤◌, ℤ, Bool, true, false, not, IsTrue, ◌&&◌, ◌||◌, nat_eq, List, [], refl, sym, ap, subst, arith}
-use Rattle.tile_flood.proofs.Words.{list_all, ne_eqb, and_from, is_solid, is_exit, is_rim, is_sink_at, around, block_of}
-use Rattle.tile_flood.proofs.Words.{bare_block, inner_if}
+use Rattle.tile_flood.proofs.Prelude.{Bool, IsTrue, List, ℕ, ℤ, [], and_from, ap, arith, around, bare_block, block_of, false, inner_if, is_exit, is_rim, is_sink_at, is_solid, list_all, mul-le-mul_right, nat_eq, ne_eqb, not, refl, subst, sym, true, ◌%◌, ◌&&◌, ◌*◌, ◌+◌, ◌-◌, ◌/◌, ◌<◌, ◌||◌, ◌≡◌, ◌≤◌}
 use Rattle.tile_flood.specs.Flooding.{IsFullSpan, IsPlainSpan}
 use Rattle.tile_flood.proofs.Squares.{row_of_cell, column_of_cell, cell_of}
 

@@ -1,25 +1,10 @@
 -- Raising gives the filled levels of the mosaic at all points of a tile.
 use Rattle.std.proofs.Common.{◌≡◌, ◌≢◌, ℕ, ◌+◌, ◌*◌, ◌-◌, ◌/◌, ◌%◌, ◌<◌, ◌≤◌, inl, inr, ℤ, ◌≤ℤ◌, Bool, true, false, cond, IsTrue, IsFalse, List, [], ◌∷◌, ◌++◌, length, length-append, get_or, slice_index, refl, sym, ap, ◌∙◌, subst, arith, true≢false, nat_eq, Some, None}
-use Rattle.tile_flood.proofs.Words.{int_max, cases_Bool, ne_eqb, eq-eqb, cases_lt, Decides-int_eq, point_of}
-use Rattle.tile_flood.proofs.Words.{IsFilledLevel, IsPath, end_of, crest, void, is_void, is_ground, terrain}
-use Rattle.tile_flood.proofs.Words.{block_terrain, is_solid, is_rim, is_exit, is_inner_outlet, ≤ℤ_same, ≤ℤ_antisym}
-use Rattle.tile_flood.proofs.Words.{block_is_lawful, IsLabelling, NO_LABEL, raised_level, block_of, bare_block}
-use Rattle.tile_flood.proofs.Words.{inner_if}
-use Rattle.std.proofs.lemmas.Bool.{cond-true, cond-false}
-use Rattle.std.proofs.Math.ListN.{get_or-eq_default, get_or-append}
-use Rattle.std.proofs.Math.Seq.{get_or-append_seam}
+use Rattle.tile_flood.proofs.Prelude.{AreRaisedBelow, Corner, Decides-int_eq, IsFilledLevel, IsLabelling, IsMosaic, IsPath, Mosaic, NO_LABEL, OUT, bare_block, block_is_lawful, block_of, block_terrain, cases_Bool, cases_lt, cond-false, cond-true, crest, end_of, eq-eqb, get_or-append, get_or-append_seam, get_or-eq_default, height-le_level, height_of, inner_if, int_max, is_exit, is_ground, is_inner_outlet, is_present, is_rim, is_solid, is_void, metres, ne_eqb, point_of, raised_level, terrain, terrain_is_lawful, void, ≤ℤ_antisym, ≤ℤ_same}
 use borrow.Author.Count.{below_more}
-use Rattle.lattice.specs.Corners.{Corner}
-use Rattle.lattice.specs.Mosaic.{Mosaic, IsMosaic, is_present}
-use Rattle.lattice.specs.Height.{height_of}
-use Rattle.lattice.specs.Ground.{metres}
 use Rattle.lattice.specs.Block.{AreHeightsOf, IsBlockOf, rim_number}
 use Rattle.lattice.specs.Limits.{largest_side}
-use Rattle.lattice.proofs.Levels.{height-le_level}
-use Rattle.lattice.proofs.Lawful.{terrain_is_lawful}
-use Rattle.tile_flood.specs.Labelling.{OUT}
 use Rattle.tile_flood.specs.Raising.{AreRimLevels, AreTileLevels, IsRimFilled, AreRaised, CannotBeRaised}
-use Rattle.tile_flood.specs.RaisingLoop.{AreRaisedBelow}
 use Rattle.tile_flood.proofs.Parts.{level_of_part, level_at_outlet}
 use Rattle.tile_flood.proofs.InMosaic.{block_is_part, ground_is, inner_outlet_is_outlet}
 use Rattle.tile_flood.proofs.Passages.{not_void, solid_has_level}

@@ -1,10 +1,5 @@
 -- Where all that a mending affected lies off the borders between labels, the spills are those of before.
-use Rattle.std.proofs.Common.{int_eq, ◌≡◌, ◌≢◌, ℕ, ℤ, IsTrue, List, length, get_or, slice_index, ◌⊎◌, inl, inr, sym, ap₂, ◌∙◌, subst, arith}
-use Rattle.tile_flood.proofs.Words.{int_max, cases_Bool, not-true, void, is_solid, is_beside, Affected, Spill, block_of}
-use Rattle.tile_flood.proofs.Words.{bare_block, IsLabelling, AreCarried, is_marked, AreChangesListed, AreOffBorders}
-use Rattle.tile_flood.proofs.Words.{AreSpills}
-use Rattle.tile_flood.specs.Affected.{IsListed}
-use Rattle.tile_flood.specs.Spills.{Meets}
+use Rattle.tile_flood.proofs.Prelude.{Affected, AreCarried, AreChangesListed, AreOffBorders, AreSpills, IsLabelling, IsListed, IsTrue, List, Meets, Spill, ℕ, ℤ, ap₂, arith, bare_block, block_of, cases_Bool, get_or, inl, inr, int_eq, int_max, is_beside, is_marked, is_solid, length, not-true, slice_index, subst, sym, void, ◌∙◌, ◌≡◌, ◌≢◌, ◌⊎◌}
 use Rattle.tile_flood.proofs.Squares.{linked_parts, linked_from, solid_height, solid_below, solid_if, test_if}
 use Rattle.tile_flood.proofs.Dependence.{full_at, beside_itself, beside_back}
 use Rattle.tile_flood.proofs.Passages.{not_void}

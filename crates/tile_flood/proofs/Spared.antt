@@ -1,9 +1,5 @@
 -- What hung on a point at its own level is held without it, where all hang together around it.
-use Rattle.std.proofs.Common.{◌≢◌, ℕ, ℤ, ◌≤ℤ◌, ◌⊎◌, not, IsTrue, IsFalse, List, [], ◌∷◌, get_or, inl, inr, refl, sym, ap, ◌∙◌, subst, arith, true≢false}
-use Rattle.tile_flood.proofs.Words.{int_max, cases_eq, ne_eqb, ints, clamps, void, is_linked, is_exit, is_beside}
-use Rattle.tile_flood.proofs.Words.{block_of, is_marked, IsHeldUp, IsHeldBy, IsMending, HangTogether}
-use Rattle.lattice.proofs.IntTests.{le_or_above}
-use Rattle.tile_flood.specs.Sparing.{IsAround, LeadsAround}
+use Rattle.tile_flood.proofs.Prelude.{HangTogether, IsAround, IsFalse, IsHeldBy, IsHeldUp, IsMending, IsTrue, LeadsAround, List, ℕ, ℤ, [], ap, arith, block_of, cases_eq, clamps, get_or, inl, inr, int_max, ints, is_beside, is_exit, is_linked, is_marked, le_or_above, ne_eqb, not, refl, subst, sym, true≢false, void, ◌∙◌, ◌∷◌, ◌≢◌, ◌≤ℤ◌, ◌⊎◌}
 use Rattle.tile_flood.proofs.Squares.{test_if, not_void_if, linked_parts, linked_from, solid_below}
 use Rattle.tile_flood.proofs.Dependence.{beside_back}
 use Rattle.tile_flood.proofs.Held.{Passes, passes_by, first_below, below_max, apart_if}

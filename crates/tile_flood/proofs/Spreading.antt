@@ -1,11 +1,6 @@
 -- The steps of a flood of a whole block: one of a labelling that is mended, where nothing is suspect and no level is lowered
 -- (after the correctness argument of Barnes, Lehman and Mulla 2014).
-use Rattle.std.proofs.Common.{◌≡◌, ◌≢◌, ℕ, ◌+◌, ◌*◌, ◌<◌, ◌≤◌, ℤ, ◌≤ℤ◌, false, not, cond, IsTrue, List, [], length, get_or, set, slice_index, inl, inr, refl, sym, ap, ap₂, ◌∙◌, subst, arith, true≢false, get_or-set_same, length-set, SFits, w16, to_z, of_z, int_eq, to_z-of_z}
-use Rattle.tile_flood.proofs.Words.{int_max, cases_eq, cases_lt, not-true, ne_eqb, Decides-int_eq, void, is_solid}
-use Rattle.tile_flood.proofs.Words.{is_linked, is_exit, le-max_left, ≤ℤ_same, ≤ℤ_trans, block_is_lawful, Queue, Waits}
-use Rattle.tile_flood.proofs.Words.{IsJoined, IsTaken, IsLabelling, Names, NO_LABEL, is_marked, IsOwnLabel, block_of}
-use Rattle.tile_flood.proofs.Words.{bare_block, IsSeed, AreCarried, IsIn, IsInOr, IsSeeding, IsFlooding, IsSpreading}
-use Rattle.std.proofs.lemmas.List.Sums.{sum_by-set}
+use Rattle.tile_flood.proofs.Prelude.{AreCarried, Decides-int_eq, IsFlooding, IsIn, IsInOr, IsJoined, IsLabelling, IsOwnLabel, IsSeed, IsSeeding, IsSpreading, IsTaken, IsTrue, List, NO_LABEL, Names, Queue, SFits, Waits, ℕ, ℤ, [], ap, ap₂, arith, bare_block, block_is_lawful, block_of, cases_eq, cases_lt, cond, false, get_or, get_or-set_same, inl, inr, int_eq, int_max, is_exit, is_linked, is_marked, is_solid, le-max_left, length, length-set, ne_eqb, not, not-true, of_z, refl, set, slice_index, subst, sum_by-set, sym, to_z, to_z-of_z, true≢false, void, w16, ≤ℤ_same, ≤ℤ_trans, ◌*◌, ◌+◌, ◌<◌, ◌∙◌, ◌≡◌, ◌≢◌, ◌≤ℤ◌, ◌≤◌}
 use Rattle.tile_flood.specs.Flooding.{unmarked, lack, AreMarkedStill, IsNear}
 use Rattle.tile_flood.specs.Spreading.{no_suspects, HaveLevels}
 use Rattle.tile_flood.proofs.Buckets.{none_in}

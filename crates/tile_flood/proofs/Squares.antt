@@ -1,8 +1,6 @@
 -- Points of a block: rows and columns, adjacency, outlets, and a way out of each ground point.
 use Rattle.std.proofs.Common.{◌≡◌, ◌≢◌, ℕ, zero, suc, ◌+◌, ◌*◌, ◌-◌, ◌/◌, ◌%◌, ◌<◌, ◌≤◌, ℤ, false, not, IsTrue, ◌&&◌, ◌||◌, List, [], ◌∷◌, get_or, sym, ap, ◌∙◌, subst, arith, true≢false, nat_le, nat_lt, nat_eq, mod-lt, inl, inr, int_eq}
-use Rattle.tile_flood.proofs.Words.{list_all, cases_Bool, and_from, ne_eqb, or_left, or_right, Decides-int_eq, void}
-use Rattle.tile_flood.proofs.Words.{LeadsOut, Block, block_terrain, is_solid, is_linked, is_exit, is_inner_outlet}
-use Rattle.tile_flood.proofs.Words.{is_sink_at, is_beside, is_rim, around, block_of, bare_block, is_marked}
+use Rattle.tile_flood.proofs.Prelude.{Block, Decides-int_eq, LeadsOut, and_from, around, bare_block, block_of, block_terrain, cases_Bool, is_beside, is_exit, is_inner_outlet, is_linked, is_marked, is_rim, is_sink_at, is_solid, list_all, ne_eqb, or_left, or_right, void}
 use Rattle.std.proofs.lemmas.Bool.{and_parts, ltb-true, lt-ltb, leb-true, le-leb, and_left, and_right, eqb-false, or_parts}
 use Rattle.std.proofs.lemmas.Nat.{rows}
 

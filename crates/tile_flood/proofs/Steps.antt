@@ -1,16 +1,10 @@
 -- The steps by which a labelling is mended.
-use Rattle.std.proofs.Common.{◌≡◌, ◌≢◌, ℕ, ◌+◌, ◌*◌, ◌/◌, ◌<◌, ℤ, ◌≤ℤ◌, ◌<ℤ◌, ◌⊎◌, false, not, IsTrue, IsFalse, List, [], ◌∷◌, length, length-set, Contains, get_or, set, get_or-set_other, get_or-set_same, slice_index, inl, inr, refl, sym, ap, ◌∙◌, subst, arith, true≢false}
-use Rattle.tile_flood.proofs.Words.{int_max, cases_Bool, cases_eq, ne_eqb, ints, clamps, void, block_terrain, is_solid}
-use Rattle.tile_flood.proofs.Words.{is_linked, is_exit, is_beside, max-le, ≤ℤ_same, ≤ℤ_trans, block_is_lawful, block_of}
-use Rattle.tile_flood.proofs.Words.{IsLabelling, Names, NO_LABEL, IsSeed, IsCarriedBy, AreCarried, AreRelaxed, Queue}
-use Rattle.tile_flood.proofs.Words.{Waits, WaitStill, IsTaken, is_marked, IsOwnLabel, IsHeldUp, IsHeldBy, IsMending}
-use Rattle.tile_flood.proofs.Words.{IsIn, IsInOr, IsBesideWith, IsBeginning, HangTogether}
+use Rattle.tile_flood.proofs.Prelude.{AreCarried, AreRelaxed, Contains, HangTogether, IsBeginning, IsBesideWith, IsCarriedBy, IsFalse, IsFirstSuspect, IsHeldBy, IsHeldUp, IsIn, IsInOr, IsLabelling, IsMending, IsOwnLabel, IsSeed, IsTaken, IsTrue, List, NO_LABEL, Names, Queue, WaitStill, Waits, ℕ, ℤ, [], ap, arith, block_is_lawful, block_of, block_terrain, cases_Bool, cases_eq, clamps, false, get_or, get_or-set_other, get_or-set_same, inl, inr, int_max, ints, is_beside, is_exit, is_linked, is_marked, is_solid, length, length-set, max-le, ne_eqb, not, refl, set, slice_index, subst, sym, true≢false, void, ≤ℤ_same, ≤ℤ_trans, ◌*◌, ◌+◌, ◌/◌, ◌<ℤ◌, ◌<◌, ◌∙◌, ◌∷◌, ◌≡◌, ◌≢◌, ◌≤ℤ◌, ◌⊎◌}
 use Rattle.lattice.proofs.Levels.{all_marked, max_one_of}
 use Rattle.lattice.proofs.IntTests.{le_or_above, eq_or_not}
 use Rattle.tile_flood.specs.Mending.{IsLabelledBefore}
 use Rattle.tile_flood.specs.Affected.{IsAmong}
 use Rattle.tile_flood.specs.Suspects.{AreMending, IsPassingOn, AreAtMost}
-use Rattle.tile_flood.specs.Sparing.{IsFirstSuspect}
 use Rattle.tile_flood.proofs.Squares.{not_void_if, test_if, linked_parts, linked_from, solid_height, solid_below, leads}
 use Rattle.tile_flood.proofs.Dependence.{same_exit, same_inner, same_link, same_names, full_at, solid_at, filled_if, label_at, relaxed_least, labelling_relaxed, same_ground, solid_inside, beside_itself, beside_back}
 use Rattle.tile_flood.proofs.Held.{level_else, label_else, marked_else, not_below, held_lowered, held_marked, held_kept, held_reset, seed_anew, carried_end, first_below, below_max, apart_if, beside_anew}

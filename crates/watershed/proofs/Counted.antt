@@ -1,11 +1,8 @@
 -- Counts of sets of points: of one point, and of two sets that lie apart.
 use Rattle.std.proofs.Common.{◌≡◌, ◌≢◌, ◌⊎◌, ◌↔◌, ◌+◌, ◌-◌, ◌<◌, ℕ, List, [], ◌∷◌, ◌++◌, length, get_or, Contains, inl, inr, ⊎_elim, refl, sym, ◌∙◌, subst, arith, length-append}
-use Rattle.std.specs.List.{AllPairs}
-use Rattle.std.proofs.lemmas.Bool.{cases_lt}
+use Rattle.watershed.proofs.Prelude.{AllPairs, IsCountOf, Point, cases_lt}
 use Rattle.std.proofs.lemmas.List.{get_or_append_left, get_or-append_right, get_or_default}
 use Rattle.std.proofs.lemmas.List.Elements.{Contains-append_left, Contains-append_right, Contains-append_cases, Contains-push_cases, Contains-push}
-use Rattle.lattice.specs.declared.point.Point.{Point}
-use Rattle.watershed.specs.Counts.{IsCountOf}
 
 pub count_alike : (A B : Point → Type 0) (k : ℕ) → ((p : Point) → A p ↔ B p) → IsCountOf A k → IsCountOf B k
 count_alike A B k same of = record {

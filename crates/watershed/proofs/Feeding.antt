@@ -1,23 +1,9 @@
 -- The points that drain straight to a point, found one direction after another.
-use Rattle.std.proofs.Common.{◌≡◌, ℕ, ◌+◌, ◌<◌, ◌≤◌, ℤ, IsTrue, Some, List, [], ◌∷◌, ◌++◌, inl, inr, ⊎_elim, sym, ap, ◌∙◌, subst, arith}
+use Rattle.watershed.proofs.Prelude.{Contains-append_left, Contains-push, Contains-push_cases, Dir, DrainsBack, IsDirection, IsDonor, IsToldOf, IsTrue, List, Point, Some, Terrain, ℕ, ℤ, [], ap, arith, back_of, back_twice, cases_Bool, cases_eq, inl, inr, none-some, one_direction, order_below, order_of, same_order, step, step_back, subst, sym, ⊎_elim, ◌++◌, ◌+◌, ◌<◌, ◌∙◌, ◌∷◌, ◌≡◌, ◌≤◌}
 use Rattle.std.specs.Prelude.{Contains, ◌↔◌, ◌⊎◌}
-use Rattle.std.proofs.lemmas.Bool.{cases_Bool, cases_eq}
-use Rattle.std.proofs.lemmas.List.Elements.{Contains-append_left, Contains-push, Contains-push_cases}
-use Rattle.std.proofs.lemmas.Option.{none-some}
-use Rattle.lattice.specs.declared.point.Point.{Point}
-use Rattle.lattice.specs.declared.direction.Dir.{Dir}
-use Rattle.lattice.specs.Steps.{step, order_of}
-use Rattle.lattice.specs.Terrain.{Terrain}
-use Rattle.flow_d8.specs.Drainage.{IsDirection}
 use Rattle.flow_d8.specs.Flows.{direction_of}
-use Rattle.flow_d8.specs.Places.{back_of}
 use Rattle.flow_d8.specs.declared.flow.Flow.{Flow}
-use Rattle.flow_d8.proofs.Steps.Compass.{same_order, order_below}
-use Rattle.flow_d8.proofs.Steps.StepBack.{back_twice, step_back}
-use Rattle.flow_d8.proofs.Paths.Unique.{one_direction}
-use Rattle.flow_d8.specs.Donors.{DrainsBack, IsDonor}
 use Rattle.watershed.specs.Feeding.{IsDonorAdded}
-use Rattle.watershed.specs.FlowSource.{IsToldOf}
 
 module _ (Drains : Dir → Type 0) (p : Point) (start : List Point) where
   -- the donors in the first k directions are added

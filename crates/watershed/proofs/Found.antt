@@ -1,9 +1,5 @@
 -- The runs of sets that have the same points.
-use Rattle.std.proofs.Common.{◌≡◌, ◌↔◌, List, [], ◌∷◌, refl, arith}
-use Rattle.lattice.specs.declared.point.Point.{Point}
-use Rattle.lattice.proofs.Levels.{≤ℤ_same}
-use Rattle.watershed.specs.declared.runs.Run.{Run}
-use Rattle.watershed.specs.Runs.{AreRuns}
+use Rattle.watershed.proofs.Prelude.{AreRuns, List, Point, Run, [], arith, refl, ≤ℤ_same, ◌↔◌, ◌∷◌, ◌≡◌}
 
 -- a set of no points has no run
 pub empty_runs : (inside : Point → Type 0) (runs : List Run) → AreRuns inside runs → ((p : Point) → inside p → ⊥) → runs ≡ []

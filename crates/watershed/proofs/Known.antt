@@ -1,12 +1,9 @@
 -- What is known of a tile's samples, as counts are added.
 use Rattle.std.proofs.Common.{◌≡◌, ◌⊎◌, ◌*◌, ◌<◌, ℕ, ℤ, List, length, set, get_or, Contains, inl, inr, ⊎_elim, refl, sym, ap, ◌∙◌, subst, arith, get_or-set_other, get_or-set_same}
-use Rattle.std.proofs.lemmas.Bool.{cases_eq}
+use Rattle.watershed.proofs.Prelude.{AreCounted, AreStillCounted, IsCounted, Point, Terrain, cases_eq}
 use Rattle.lattice.specs.Corners.{Corner}
 use Rattle.lattice.specs.Lattice.{IsIndexOf, point_of}
-use Rattle.lattice.specs.declared.point.Point.{Point}
-use Rattle.lattice.specs.Terrain.{Terrain}
 use Rattle.lattice.proofs.Samples.{index_below, point_at_index}
-use Rattle.watershed.specs.Counting.{AreCounted, AreStillCounted, IsCounted}
 
 module _ (t : Terrain Point) (level : Point → ℤ) where
   -- the point itself drains through it

@@ -1,25 +1,14 @@
 -- The points that are marked: each by its rank, as segments are added and bits are set.
 use Rattle.std.proofs.Common.{◌≡◌, ◌≢◌, ℕ, zero, suc, ◌+◌, ◌*◌, ◌^◌, ◌/◌, ◌%◌, ◌<◌, ◌≤◌, pos, ◌⊎◌, ◌↔◌, inl, inr, ⊎_elim, Option, Some, None, List, [], ◌∷◌, ◌++◌, length, get_or, replicate, refl, sym, ap, ◌∙◌, subst, arith, true, true≢false, length-append}
-use Rattle.std.specs.Int.{bit_at}
-use Rattle.std.specs.BTreeMap.{is_at}
+use Rattle.watershed.proofs.Prelude.{AreRuns, Cover, IsBefore, IsInSegment, IsIndexed, IsMarked, IsRank, Marks, Point, Run, bit_at, cases_Bool, cases_eq, cond-false, get_or-append_seam, ints, is_at, none-some, place_of, same_place, word_in, word_of}
 use Rattle.std.specs.Map.{lookup, keys_of}
 use Rattle.std.specs.List.Sorted.{IsStrictlySortedBy}
 use Rattle.std.specs.Ordering.{nat_cmp, is_eq}
 use Rattle.std.specs.declared.cmp.Ordering.{Ordering}
 use Rattle.std.specs.declared.cmp.Ordering.TheVariants.{Less, Equal, Greater}
 use Rattle.std.proofs.lemmas.Cmp.{ranked}
-use Rattle.std.proofs.lemmas.Int.{ints}
-use Rattle.std.proofs.lemmas.Bool.{cases_Bool, cases_eq, cond-false}
-use Rattle.std.proofs.Math.Seq.{get_or-append_seam}
 use Rattle.std.proofs.lemmas.List.{get_or_append_left, get_or-replicate, length-replicate}
-use Rattle.std.proofs.lemmas.Option.{none-some}
 use Rattle.std.proofs.lemmas.Nat.Bits.{bit_at-zero}
-use Rattle.lattice.specs.declared.point.Point.{Point}
-use Rattle.lattice.proofs.SamePoints.{same_place}
-use Rattle.watershed.specs.declared.marks.Marks.{Marks}
-use Rattle.watershed.specs.declared.runs.Run.{Run}
-use Rattle.watershed.specs.Marks.{IsRank, IsMarked, IsIndexed, IsInSegment, place_of, word_in, word_of}
-use Rattle.watershed.specs.Runs.{IsBefore, Cover, AreRuns}
 use Rattle.watershed.proofs.Found.{runs_alike}
 
 pos_same : (a b : ℕ) → pos a ≡ pos b → a ≡ b

@@ -1,20 +1,12 @@
 -- A set has at most one count, and that of a set with runs is the sum of theirs.
 use Rattle.std.proofs.Common.{◌≡◌, ◌≢◌, ◌+◌, ◌-◌, ◌<◌, ◌≤◌, ℕ, zero, suc, ℤ, pos, ◌+ℤ◌, ◌-ℤ◌, ◌≤ℤ◌, nat_abs, IsTrue, List, [], ◌∷◌, length, get_or, Contains, inl, inr, ⊎_elim, refl, sym, ap, ◌∙◌, subst, arith, true≢false}
 use Rattle.std.specs.List.{AllPairs, remove}
-use Rattle.std.proofs.lemmas.Bool.{cases_Bool, cases_lt, cases_eq}
-use Rattle.std.proofs.lemmas.Int.{ints}
-use Rattle.std.proofs.lemmas.List.{get_or_default}
+use Rattle.watershed.proofs.Prelude.{IsInWatershed, Point, Run, Terrain, cases_Bool, cases_eq, cases_lt, get_or_default, ints, same_place, ≤ℤ_same}
 use Rattle.std.proofs.lemmas.List.Edits.{length-remove, get_or-remove_below, get_or-remove_above}
 use Rattle.std.proofs.lemmas.List.Sums.{sum_by-cons}
-use Rattle.lattice.specs.declared.point.Point.{Point}
-use Rattle.lattice.specs.Terrain.{Terrain}
-use Rattle.lattice.proofs.Levels.{≤ℤ_same}
-use Rattle.lattice.proofs.SamePoints.{same_place}
-use Rattle.flow_d8.specs.FlowPath.{IsInWatershed}
 use Rattle.watershed.specs.CountLaws.{points_in}
 use Rattle.watershed.specs.Counts.{IsCountOf, IsUpstreamCount}
 use Rattle.watershed.specs.Runs.{IsInRun, AreRuns, run_count}
-use Rattle.watershed.specs.declared.runs.Run.{Run}
 use Rattle.watershed.proofs.Counted.{count_alike, count_one, count_both}
 use Rattle.watershed.proofs.Growing.{int_split}
 use Rattle.watershed.proofs.OneList.{InSome, from_any, to_any, Sorted, tail_sorted, apart_from_later}

@@ -1,14 +1,6 @@
 -- A set has at most one list of maximal runs.
-use Rattle.std.proofs.Common.{◌≡◌, zero, suc, ◌+◌, pos, ◌+ℤ◌, ◌≤ℤ◌, ◌<ℤ◌, ◌⊎◌, inl, inr, ⊎_elim, List, [], ◌∷◌, refl, sym, ap₂, ◌∙◌, subst, arith, length}
+use Rattle.watershed.proofs.Prelude.{AllAdjacentBelow, AreRuns, IsAfter, IsInRun, List, Point, Run, [], ap₂, arith, cases_Bool, inl, inr, ints, length, lt_false, lt_true, pos, refl, subst, suc, sym, zero, ≤ℤ_antisym, ≤ℤ_same, ⊎_elim, ◌+ℤ◌, ◌+◌, ◌<ℤ◌, ◌∙◌, ◌∷◌, ◌≡◌, ◌≤ℤ◌, ◌⊎◌}
 use Rattle.std.specs.Prelude.{All, Any, int_lt, slice_index_or}
-use Rattle.std.specs.List.{AllAdjacentBelow}
-use Rattle.std.proofs.lemmas.Int.{ints}
-use Rattle.std.proofs.lemmas.Bool.{cases_Bool}
-use Rattle.lattice.specs.declared.point.Point.{Point}
-use Rattle.lattice.proofs.IntTests.{lt_true, lt_false}
-use Rattle.lattice.proofs.Levels.{≤ℤ_same, ≤ℤ_antisym}
-use Rattle.watershed.specs.declared.runs.Run.{Run}
-use Rattle.watershed.specs.Runs.{IsInRun, IsAfter, AreRuns}
 
 -- the point lies in one of the runs
 abbrev pub InSome : List Run → Point → Type 0

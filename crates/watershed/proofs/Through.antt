@@ -1,23 +1,8 @@
 -- The watershed of a point is the point and, apart from one another, the watersheds of those that drain straight to it.
 use Rattle.std.proofs.Common.{◌≡◌, ◌⊎◌, ◌+◌, ◌-◌, ◌<◌, ◌≤◌, ℕ, zero, suc, ℤ, pos, negsuc, ◌+ℤ◌, IsTrue, Some, None, List, [], ◌∷◌, length, inl, inr, ⊎_elim, refl, sym, ap, ap₂, ◌∙◌, subst, arith, zero-add, suc-add}
-use Rattle.std.proofs.lemmas.Bool.{cases_lt, cases_eq}
-use Rattle.std.proofs.lemmas.Int.{ints}
-use Rattle.std.proofs.lemmas.Option.{none-some}
-use Rattle.lattice.specs.declared.point.Point.{Point}
-use Rattle.lattice.specs.declared.direction.Dir.{Dir}
+use Rattle.watershed.proofs.Prelude.{Dir, DrainsBack, FlowsTo, IsCountOf, IsDirection, IsFlowPath, IsInWatershed, IsLawful, IsThrough, Point, Terrain, back_of, back_twice, cases_eq, cases_lt, drains_to_ground, ints, none-some, one_direction, order_below, same_order, step_back}
 use Rattle.lattice.specs.declared.direction.Dir.TheVariants.{East, SouthEast, South, SouthWest, West, NorthWest, North, NorthEast}
 use Rattle.lattice.specs.Steps.{step, order_of, north_of, east_of}
-use Rattle.lattice.specs.Terrain.{Terrain, IsLawful}
-use Rattle.flow_d8.specs.Drainage.{IsDirection}
-use Rattle.flow_d8.specs.FlowPath.{FlowsTo, IsFlowPath, IsInWatershed}
-use Rattle.flow_d8.specs.Places.{back_of}
-use Rattle.flow_d8.proofs.Steps.Compass.{same_order, order_below}
-use Rattle.flow_d8.proofs.Paths.Following.{drains_to_ground}
-use Rattle.flow_d8.proofs.Steps.StepBack.{back_twice, step_back}
-use Rattle.flow_d8.proofs.Paths.Unique.{one_direction}
-use Rattle.watershed.specs.Counts.{IsCountOf}
-use Rattle.watershed.specs.Counting.{IsThrough}
-use Rattle.flow_d8.specs.Donors.{DrainsBack}
 use Rattle.watershed.proofs.Counted.{count_alike, count_one, count_both}
 
 -- the direction that goes so far north and so far east

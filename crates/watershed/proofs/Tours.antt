@@ -1,20 +1,10 @@
 -- The tour that counts: each of its steps leaves all counts right.
-use Rattle.std.proofs.Common.{◌≡◌, ◌+◌, ◌-◌, ◌<◌, ◌≤◌, ⊎_elim, ℕ, zero, suc, ℤ, Bool, false, IsTrue, IsFalse, get_or, true≢false, List, [], ◌∷◌, ◌++◌, length, refl, sym, ap, ◌∙◌, subst, arith}
-use Rattle.lattice.specs.declared.point.Point.{Point}
-use Rattle.lattice.specs.declared.direction.Dir.{Dir}
-use Rattle.lattice.specs.Ground.{is_ground, terrain}
+use Rattle.watershed.proofs.Prelude.{AreFilledLevels, AreToldBy, Bool, Branch, Dir, DrainsBack, IsCountOf, IsFalse, IsFlowPath, IsInWatershed, IsTrue, List, Point, ℕ, ℤ, [], ap, arith, false, get_or, is_ground, length, order_of, refl, step, subst, suc, sym, terrain, terrain_is_lawful, true≢false, zero, ⊎_elim, ◌++◌, ◌+◌, ◌-◌, ◌<◌, ◌∙◌, ◌∷◌, ◌≡◌, ◌≤◌}
 use Rattle.lattice.specs.Mosaic.{Mosaic, IsMosaic, void}
-use Rattle.lattice.specs.Steps.{step, order_of}
-use Rattle.lattice.proofs.Lawful.{terrain_is_lawful}
-use Rattle.flow_d8.specs.Drainage.{AreFilledLevels}
-use Rattle.flow_d8.specs.FlowPath.{IsFlowPath, IsInWatershed}
 use Rattle.flow_d8.proofs.Paths.FlowPaths.{flow_path_exists}
 use Rattle.flow_d8.proofs.Mosaics.MosaicGrid.{mosaic_is_grid}
 use Rattle.flow_d8.proofs.Steps.Compass.{dir_at, order_below, order_of-dir_at}
-use Rattle.watershed.specs.Counts.{IsCountOf}
 use Rattle.watershed.specs.Counting.{IsThrough, IsCounted, IsCounting, IsWaiting, AreWaiting, IsNext, IsTour}
-use Rattle.flow_d8.specs.Donors.{AreToldBy, DrainsBack}
-use Rattle.watershed.specs.declared.counting.Branch.{Branch}
 use Rattle.watershed.proofs.Through.{count_begins, count_grows, count_stays, count_ends}
 
 module _ (m : Mosaic) (is : IsMosaic m) (level : Point → ℤ) (filled : AreFilledLevels (terrain m) level) where

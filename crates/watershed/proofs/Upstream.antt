@@ -1,16 +1,6 @@
 -- The search up the flow paths: what is found after each step, and that in the end it is the watershed.
-use Rattle.std.proofs.Common.{◌≡◌, ℕ, zero, suc, ℤ, IsTrue, IsFalse, List, [], ◌∷◌, ◌++◌, ◌⊎◌, ◌↔◌, inl, inr, ⊎_elim, refl, sym, ap, ◌∙◌, subst, arith, true≢false}
+use Rattle.watershed.proofs.Prelude.{AreRuns, Contains-append_left, Contains-push, Contains-push_cases, FlowsTo, IsDonor, IsFalse, IsInWatershed, IsLawful, IsTrue, List, Point, Run, Terrain, ℕ, ℤ, [], ap, arith, cases_Bool, drains_to_ground, inl, inr, refl, step, subst, suc, sym, true≢false, zero, ⊎_elim, ◌++◌, ◌↔◌, ◌∙◌, ◌∷◌, ◌≡◌, ◌⊎◌}
 use Rattle.std.specs.Prelude.{Contains, if◌then◌else◌}
-use Rattle.std.proofs.lemmas.Bool.{cases_Bool}
-use Rattle.std.proofs.lemmas.List.Elements.{Contains-append_left, Contains-push, Contains-push_cases}
-use Rattle.lattice.specs.declared.point.Point.{Point}
-use Rattle.lattice.specs.Steps.{step}
-use Rattle.lattice.specs.Terrain.{Terrain, IsLawful}
-use Rattle.flow_d8.specs.FlowPath.{FlowsTo, IsInWatershed}
-use Rattle.watershed.specs.Runs.{AreRuns}
-use Rattle.watershed.specs.declared.runs.Run.{Run}
-use Rattle.flow_d8.specs.Donors.{IsDonor}
-use Rattle.flow_d8.proofs.Paths.Following.{drains_to_ground}
 use Rattle.watershed.specs.Search.{LeadsTo, AreUpstream}
 use Rattle.watershed.proofs.Found.{empty_runs}
 

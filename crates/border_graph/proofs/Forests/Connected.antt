@@ -1,8 +1,6 @@
 -- Places that are joined by ways at no more than a level.
-use Rattle.std.proofs.Common.{ℕ, ℤ, ◌≤ℤ◌, inl, inr, List, [], ◌∷◌, refl, Contains}
-use Rattle.border_graph.proofs.Words.{IsWayBelow, Pass}
+use Rattle.border_graph.proofs.Prelude.{AreJoined, Contains, IsPass, IsWayBelow, List, Pass, ℕ, ℤ, [], inl, inr, refl, ◌∷◌, ◌≤ℤ◌}
 use Rattle.border_graph.proofs.Onward.{go_on}
-use Rattle.border_graph.specs.Passes.{IsPass, AreJoined}
 
 -- a way is one over more links too
 pub over_more : (L L' : ℕ → ℕ → ℤ → Type 0) → ((x y : ℕ) (l : ℤ) → L x y l → L' x y l) → (out : ℕ) (level : ℤ) (x : ℕ) (rest : List ℕ) → IsWayBelow L out level x rest → IsWayBelow L' out level x rest

@@ -1,11 +1,5 @@
 -- The passes that are kept decide.
-use Rattle.std.proofs.Common.{length-append, ◌≡◌, ℕ, zero, suc, false, true≢false, cond, int_lt, ◌+◌, ◌<◌, ◌≤◌, ℤ, ◌≤ℤ◌, inl, inr, List, [], ◌∷◌, ◌++◌, length, get_or, sym, ap, ◌∙◌, subst, arith, Contains, Less, Equal, Greater}
-use Rattle.border_graph.proofs.Words.{ints, cases_Bool, cases_lt, cases_eq, get_or_default, Contains-get_or}
-use Rattle.border_graph.proofs.Words.{Contains-append_left, Contains-push, Contains-push_cases, ≤ℤ_same, ≤ℤ_trans, Pass}
-use Rattle.border_graph.proofs.Words.{SpanAll, AreOver, roots, IsForestSoFar}
-use Rattle.std.specs.Ordering.{is_lt, int_cmp, nat_cmp, ordering_then}
-use Rattle.border_graph.specs.Passes.{AreJoined}
-use Rattle.border_graph.specs.UnionFind.{IsFalling}
+use Rattle.border_graph.proofs.Prelude.{AreJoined, AreOver, Contains, Contains-append_left, Contains-get_or, Contains-push, Contains-push_cases, Equal, Greater, IsFalling, IsForestSoFar, Less, List, Pass, SpanAll, ℕ, ℤ, [], ap, arith, cases_Bool, cases_eq, cases_lt, cond, false, get_or, get_or_default, inl, inr, int_cmp, int_lt, ints, is_lt, length, length-append, nat_cmp, ordering_then, roots, subst, suc, sym, true≢false, zero, ≤ℤ_same, ≤ℤ_trans, ◌++◌, ◌+◌, ◌<◌, ◌∙◌, ◌∷◌, ◌≡◌, ◌≤ℤ◌, ◌≤◌}
 use Rattle.border_graph.specs.Forest.{IsRisingBy, IsOverAll}
 use Rattle.border_graph.proofs.Forests.Connected.{joined_self, joined_by, joined_more}
 use Rattle.border_graph.proofs.Forests.Roots.{tops_few, tops_some}

@@ -1,6 +1,5 @@
 -- How many nodes are left to take.
-use Rattle.std.proofs.Common.{◌≡◌, ℕ, zero, suc, ◌+◌, ◌<◌, Bool, true, false, inl, inr, refl, sym, ap, ◌∙◌, arith}
-use Rattle.std.proofs.lemmas.Bool.{cases_eq}
+use Rattle.border_graph.proofs.Prelude.{Bool, ℕ, ap, arith, cases_eq, false, inl, inr, refl, suc, sym, true, zero, ◌+◌, ◌<◌, ◌∙◌, ◌≡◌}
 
 one_unless : Bool → ℕ
 one_unless true = 0

@@ -1,6 +1,5 @@
 -- What is visited next: the lowest entry that waits, of a node that isn't visited.
-use Rattle.std.proofs.Common.{◌≡◌, ℕ, ◌≤ℤ◌, ◌⊎◌, inl, inr, ◌==◌, Bool, true, false, not, cond, List, refl, sym, ap, ◌∙◌, subst, true≢false, Contains}
-use Rattle.border_graph.proofs.Words.{cases_Bool, eqb_tells, Entry, IsTaken, is_among, IsNext}
+use Rattle.border_graph.proofs.Prelude.{Bool, Contains, Entry, IsNext, IsTaken, List, ℕ, ap, cases_Bool, cond, eqb_tells, false, inl, inr, is_among, not, refl, subst, sym, true, true≢false, ◌==◌, ◌∙◌, ◌≡◌, ◌≤ℤ◌, ◌⊎◌}
 
 pub not_taken : (b : Bool) → true ≡ not b → b ≡ false
 not_taken false h = refl

@@ -1,9 +1,7 @@
 -- The edges to the same point of other tiles, corner by corner.
 use Rattle.std.proofs.Common.{◌≡◌, ◌≢◌, ℕ, ◌+◌, ◌*◌, ◌-◌, ◌^◌, ◌<◌, ◌≤◌, ◌⊎◌, inl, inr, ℤ, List, [], ◌∷◌, ◌++◌, length, get_or, refl, sym, ap, ◌∙◌, subst, arith, Contains, mul-le-mul_right}
-use Rattle.border_graph.proofs.Words.{cases_lt, get_or_default, Point, Corner, rim_number, Rim, node_number, Edge}
-use Rattle.border_graph.proofs.Words.{corner_at, AreOthersTold}
+use Rattle.border_graph.proofs.Prelude.{AreOthersTold, Corner, Edge, Point, Rim, cases_lt, corner_at, get_or_default, held_at, index_unique, node_number, rim_number}
 use Rattle.lattice.specs.Lattice.{Holds, IsIndexOf}
-use Rattle.lattice.proofs.Samples.{index_unique, held_at}
 use Rattle.border_graph.specs.Others.{AreApart, AreTooMany, IsToOther, IsOtherListed, IsOtherTold}
 use Rattle.border_graph.proofs.Listing.{still_more, last_has, before_or_last}
 

@@ -1,7 +1,5 @@
 -- How places stand one under another, step by step.
-use Rattle.std.proofs.Common.{◌≡◌, ℕ, zero, suc, ◌<◌, ◌≤◌, ◌==◌, ℤ, inl, inr, Bool, true, false, List, length, get_or, set, refl, sym, ap, ◌∙◌, subst, arith, get_or-set_same, get_or-set_other, length-set}
-use Rattle.border_graph.proofs.Words.{cases_eq, eqb_tells, Pass, AreOver, roots}
-use Rattle.border_graph.specs.Passes.{AreJoined}
+use Rattle.border_graph.proofs.Prelude.{AreJoined, AreOver, Bool, List, Pass, ℕ, ℤ, ap, arith, cases_eq, eqb_tells, false, get_or, get_or-set_other, get_or-set_same, inl, inr, length, length-set, refl, roots, set, subst, suc, sym, true, zero, ◌<◌, ◌==◌, ◌∙◌, ◌≡◌, ◌≤◌}
 use Rattle.border_graph.specs.UnionFind.{IsFalling, IsRoot, one_if}
 use Rattle.border_graph.proofs.Forests.Connected.{joined_on}
 

@@ -1,10 +1,5 @@
 -- The spills that a spanning forest keeps suffice.
-use Rattle.std.proofs.Common.{◌≡◌, ◌⊎◌, inl, inr, ℕ, zero, suc, ◌+◌, ◌<◌, ℤ, List, [], ◌∷◌, ◌++◌, length, get_or, map, Contains, refl, sym, ap, ap₂, ◌∙◌, subst, arith}
-use Rattle.border_graph.proofs.Words.{cases_lt, cases_eq, Contains-append_left, Contains-push, Contains-push_cases}
-use Rattle.border_graph.proofs.Words.{Contains-permutation, IsPermutation-sym, Corner, Mosaic, ≤ℤ_same, Spill, OUT}
-use Rattle.border_graph.proofs.Words.{RimPoint, IsSummaryOf, Summarizes, IsWayBelow, SpanAll, Summary, IsReordered}
-use Rattle.border_graph.proofs.Words.{ArePassesOf, Pass}
-use Rattle.border_graph.specs.Passes.{IsPass}
+use Rattle.border_graph.proofs.Prelude.{ArePassesOf, Contains, Contains-append_left, Contains-permutation, Contains-push, Contains-push_cases, Corner, IsPass, IsPermutation-sym, IsReordered, IsSummaryOf, IsWayBelow, List, Mosaic, OUT, Pass, RimPoint, SpanAll, Spill, Summarizes, Summary, ℕ, ℤ, [], ap, ap₂, arith, cases_eq, cases_lt, get_or, inl, inr, length, map, refl, subst, suc, sym, zero, ≤ℤ_same, ◌++◌, ◌+◌, ◌<◌, ◌∙◌, ◌∷◌, ◌≡◌, ◌⊎◌}
 use Rattle.border_graph.specs.Reduced.{IsCrossing, IsLabelOf, Suffice, label_of, spill_of, IsPassListed}
 
 map_has : (f : Pass → Spill) (passes : List Pass) (p : Pass) → Contains passes p → Contains (map f passes) (f p)

@@ -1,25 +1,9 @@
 -- A tile added, all of whose pages are written.
-use Rattle.std.proofs.Common.{◌≡◌, ℕ, suc, ◌+◌, ◌<◌, ◌≤◌, Bool, true, false, not, if◌then◌else◌, List, [], ◌∷◌, ◌++◌, All, Contains, length, get_or, map, None, refl, sym, ap, ap₂, ◌∙◌, subst, arith}
-use Rattle.std.proofs.lemmas.Option.{same_Some}
-use Rattle.std.proofs.lemmas.List.{get_or-map, length-map}
-use Rattle.std.proofs.lemmas.List.Elements.{All-cons, All-head, All-tail}
-use Rattle.disk.specs.Disk.{Image}
-use Rattle.lattice.specs.Corners.{Corner, is_before}
-use Rattle.page_codec.specs.Formats.{Format}
-use Rattle.page_map.specs.Locations.{PlaneLocation, pages_behind, pages_of_plane, times}
-use Rattle.page_map.specs.TileLocations.{TileLocation, pages_of_kept, pages_of_tile, reached}
-use Rattle.cow_tree.specs.Layout.{tile_in}
-use Rattle.page_map.specs.declared.plane.Plane.TheVariants.{Heights}
-use Rattle.page_map.specs.Planes.{HasPlane, HasPlaneAt, plane_of}
-use Rattle.page_map.specs.PageMaps.{PageMapValue, IsPageMap, IsAdded, IsFresh, with_tile_location, is_unreached}
+use Rattle.cow_tree.proofs.Prelude.{All, All-cons, All-head, All-tail, AreStaged, Bool, Contains, Corner, Format, HasPlane, HasPlaneAt, Heights, Image, IsAdded, IsFresh, IsListedBy, IsPageMap, IsTileListed, List, None, PageMapValue, PlaneLocation, TileLocation, ℕ, [], all_numbers, any_none, ap, ap₂, arith, false, get_or, get_or-map, if◌then◌else◌, is_before, is_unreached, length, length-map, map, not, pages_behind, pages_of, pages_of_kept, pages_of_plane, pages_of_tile, plane_of, reached, refl, same_Some, subst, suc, sym, tile_in, times, times-append, true, with_tile_location, ◌++◌, ◌+◌, ◌<◌, ◌∙◌, ◌∷◌, ◌≡◌, ◌≤◌}
 use Rattle.cow_tree.specs.Stored.{StoredTile, with_tile, stale_tile, pages_of_bytes}
-use Rattle.cow_tree.specs.Staged.{AreStaged, IsListedBy, IsTileListed}
 use Rattle.cow_tree.proofs.Standing.{SameOn, All-front, All-back, tile_same, tiles_same, each_tile}
-use Rattle.page_map.proofs.Times.{all_numbers, times-append}
 use Rattle.cow_tree.proofs.Writes.Staging.{tile_listed_same}
-use Rattle.page_map.proofs.Listing.{any_none}
 use Rattle.cow_tree.proofs.Tiles.{one_at_corner}
-use Rattle.page_codec.specs.Sizes.{pages_of}
 use Rattle.cow_tree.proofs.Listed.Counting.{at_times}
 
 -- it is among them

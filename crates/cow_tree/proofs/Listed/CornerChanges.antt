@@ -1,10 +1,5 @@
 -- The corner's tile changed, and the other tiles as they were.
-use Rattle.std.proofs.Common.{◌≡◌, ℕ, ◌<◌, Bool, true, false, if◌then◌else◌, List, [], ◌∷◌, All, Contains, map, refl, sym, ap, ap₂, ◌∙◌, subst}
-use Rattle.std.proofs.lemmas.List.Elements.{All-map, All-weaker}
-use Rattle.lattice.specs.Corners.{Corner}
-use Rattle.lattice.proofs.CornerOrder.{same_from}
-use Rattle.page_map.specs.PageMaps.{PageMapValue, HasFreshHeights, IsFresh, is_at, corners_of_locations}
-use Rattle.page_map.specs.TileLocations.{TileLocation, reached}
+use Rattle.cow_tree.proofs.Prelude.{All, All-map, All-weaker, Bool, Contains, Corner, HasFreshHeights, IsFresh, List, PageMapValue, TileLocation, ℕ, [], ap, ap₂, corners_of_locations, false, if◌then◌else◌, is_at, map, reached, refl, same_from, subst, sym, true, ◌<◌, ◌∙◌, ◌∷◌, ◌≡◌}
 use Rattle.cow_tree.proofs.Listed.Adding.{contains-map}
 
 module _ (c : Corner) (f : TileLocation → TileLocation) (corner : (t : TileLocation) → (f t).corner ≡ t.corner) where

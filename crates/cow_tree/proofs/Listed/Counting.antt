@@ -1,12 +1,7 @@
 -- Pages by how often they stand in lists.
-use Rattle.std.proofs.Common.{◌≡◌, ℕ, zero, suc, ◌+◌, ◌<◌, ◌≤◌, Bool, true, false, cond, List, [], ◌∷◌, ◌++◌, All, Contains, length, get_or, take, drop, refl, sym, ap, ◌∙◌, subst, arith}
+use Rattle.cow_tree.proofs.Prelude.{All, All-contains, Bool, Contains, List, ℕ, [], all_numbers, ap, append-nil, arith, cond, drop, false, flat_map-append, get_or, length, length-append, member_of_times, refl, subst, suc, sym, take, take-append-drop, take_more, times, times-append, true, zero, ◌++◌, ◌+◌, ◌<◌, ◌∙◌, ◌∷◌, ◌≡◌, ◌≤◌}
 use Rattle.std.specs.List.{filter, flat_map}
-use Rattle.std.proofs.lemmas.Grind.{flat_map-append}
-use Rattle.std.proofs.lemmas.List.{append-nil, length-append, take_more, take-append-drop}
-use Rattle.std.proofs.lemmas.List.Elements.{All-contains}
-use Rattle.page_map.specs.Locations.{times}
 use Rattle.page_map.proofs.Occurrences.{times_other}
-use Rattle.page_map.proofs.Times.{all_numbers, member_of_times, times-append}
 
 -- what holds of a number that stands there
 pub at_times : (P : ℕ → Type 0) (q : ℕ) (xs : List ℕ) → All P xs → 1 ≤ times q xs → P q

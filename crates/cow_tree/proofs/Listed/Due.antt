@@ -1,23 +1,6 @@
 -- Which heights are staged, and how many records and index pages a commit writes.
-use Rattle.std.proofs.Common.{◌≡◌, ℕ, zero, suc, ◌+◌, ◌*◌, ◌/◌, ◌<◌, ◌≤◌, Bool, true, false, cond, not, ◌||◌, if◌then◌else◌, List, [], ◌∷◌, ◌++◌, All, Contains, length, map, refl, sym, ap, ap₂, ◌∙◌, subst, arith, Option, Some, None}
-use Rattle.std.specs.List.{filter, list_any, slice_set}
-use Rattle.std.proofs.lemmas.List.{length-append}
-use Rattle.std.proofs.lemmas.List.Elements.{All-head, All-tail, All-contains, All-weaker, All-contains_itself, filter-append}
-use Rattle.page_codec.specs.declared.version.Version.{Version}
-use Rattle.page_codec.specs.declared.version.Version.TheVariants.{One, Two}
-use Rattle.lattice.specs.Corners.{Corner, is_before}
+use Rattle.cow_tree.proofs.Prelude.{All, All-contains, All-contains_itself, All-head, All-tail, All-weaker, AllAfter, AreKept, Bool, Contains, Corner, HasFreshHeights, IsAdded, IsFresh, IsLocated, IsPageMap, IsPrepared, IsRewritten, IsWholeTile, KeptLocations, List, None, One, Option, PageMapValue, PlaneLocation, Rising, Some, TileLocation, Two, Version, ℕ, [], ap, ap₂, arith, cond, corners_of_locations, false, filter, filter-append, if◌then◌else◌, index_page_by, index_pages_by, index_pages_of, is_at, is_before, is_unreached, length, length-append, length-filter-le, list_any, listing_of, listing_of_kept, listing_of_tile, listings, map, moved_plane, not, other_kept, pages_behind, pages_due, pages_of, reached, refl, rising_from, slice_set, subst, suc, sym, tile_at_corner, tiles_split, true, with_tile_location, without_location, zero, ◌*◌, ◌++◌, ◌+◌, ◌/◌, ◌<◌, ◌||◌, ◌∙◌, ◌∷◌, ◌≡◌, ◌≤◌}
 use Rattle.lattice.proofs.CornerOrder.{same_says, after_not_same}
-use Rattle.lattice.proofs.Rising.{AllAfter, Rising, rising_from}
-use Rattle.page_codec.specs.Sizes.{pages_of, index_pages_by, index_pages_of}
-use Rattle.page_map.specs.declared.locations.KeptLocations.{KeptLocations}
-use Rattle.page_map.specs.Locations.{PlaneLocation, listing_of, moved_plane, pages_behind}
-use Rattle.page_map.specs.TileLocations.{TileLocation, reached}
-use Rattle.page_map.specs.Upgraded.{listing_of_kept, listing_of_tile, listings}
-use Rattle.page_map.proofs.KeptChanges.{length-filter-le}
-use Rattle.page_map.proofs.Lookup.{tile_at_corner}
-use Rattle.page_map.proofs.UpgradedTiles.{tiles_split}
-use Rattle.page_map.specs.PageMaps.{PageMapValue, IsPageMap, IsFresh, IsLocated, IsRewritten, IsPrepared, IsAdded, HasFreshHeights, AreKept, IsWholeTile, is_at, is_unreached, corners_of_locations, other_kept, with_tile_location, without_location}
-use Rattle.cow_tree.specs.Staged.{index_page_by, pages_due}
 use Rattle.cow_tree.specs.Stored.{with_corner}
 use Rattle.cow_tree.proofs.Listed.Adding.{added_there}
 use Rattle.cow_tree.proofs.Listed.CornerChanges.{heights_here, heights_still}

@@ -1,21 +1,10 @@
 -- The entries of the staged tiles, found by their corners.
 use Rattle.std.proofs.Common.{◌≡◌, ℕ, zero, suc, ◌+◌, ◌<◌, ◌^◌, IsTrue, List, [], ◌∷◌, ◌++◌, All, Contains, length, get_or, map, take, Bor, refl, sym, ap, ap₂, ◌∙◌, arith, Option, Some, None, IfSome, IfNone, option_copied}
-use Rattle.std.proofs.lemmas.Option.{same_Some}
+use Rattle.cow_tree.proofs.Prelude.{All-contains, All-contains_itself, All-head, All-map, AreInOrder, Corner, HasPlane, HasPlaneAt, Heights, IsLocated, IsPageMap, KeptLocations, Labels, Levels, PageMapValue, Plane, PlaneLocation, TileLocation, corners_of_locations, entry_of, entry_of_kept, is_corner, pages_behind, pages_of_kept, pages_of_plane, pages_of_tile, plane_of, reached, same_Some}
 use Rattle.std.proofs.lemmas.List.{map_more}
-use Rattle.std.proofs.lemmas.List.Elements.{All-head, All-contains, All-map, All-contains_itself}
-use Rattle.lattice.specs.Corners.{Corner, is_corner}
 use Rattle.page_codec.specs.Entries.{EntryValue, IsPage, AreKept, IsEntry}
-use Rattle.page_codec.specs.Roots.{AreInOrder}
-use Rattle.page_map.specs.declared.locations.KeptLocations.{KeptLocations}
-use Rattle.page_map.specs.Locations.{PlaneLocation, pages_behind, pages_of_plane}
-use Rattle.page_map.specs.TileLocations.{TileLocation, pages_of_kept, pages_of_tile, reached}
-use Rattle.page_map.specs.declared.plane.Plane.{Plane}
-use Rattle.page_map.specs.declared.plane.Plane.TheVariants.{Heights, Levels, Labels}
-use Rattle.page_map.specs.Planes.{HasPlane, HasPlaneAt, plane_of}
 use Rattle.page_map.specs.TileEntries.{kept_of}
-use Rattle.page_map.specs.PageMaps.{PageMapValue, IsPageMap, IsLocated, corners_of_locations}
 use Rattle.page_map.proofs.Loading.{kept_back}
-use Rattle.cow_tree.specs.Entries.{entry_of_kept, entry_of}
 use Rattle.cow_tree.proofs.Standing.{All-back, each_tile}
 use Rattle.cow_tree.proofs.Tiles.{one_at_corner, adjacent_map}
 

@@ -1,20 +1,9 @@
 -- The pages of a plane as its index pages list them, one index page after another.
-use Rattle.std.proofs.Common.{◌≡◌, ◌⊎◌, inl, inr, ⊎_elim, ℕ, ◌+◌, ◌-◌, ◌*◌, ◌/◌, ◌<◌, ◌≤◌, ◌^◌, List, ◌++◌, All, length, take, drop, get_or, min, sym, ap, ◌∙◌, subst, arith, Result, Ok, Err, IfOk}
+use Rattle.cow_tree.proofs.Prelude.{All, All-append, All-drop, All-tail, All-take, Err, Format, HasRecord, IfOk, Image, IsIndexed, IsRecord, IsWholePlane, List, NoneIndexed, NoneListed, NonePlane, Ok, PlaneLocation, Refusal, Result, Two, ℕ, ap, arith, cases_lt, drop, get_or, inl, inr, length, listed_by, min, pages_behind, part_of, record_bytes, same_records, subst, sym, take, ⊎_elim, ◌*◌, ◌++◌, ◌+◌, ◌-◌, ◌/◌, ◌<◌, ◌^◌, ◌∙◌, ◌≡◌, ◌≤◌, ◌⊎◌}
 use Rattle.std.proofs.Math.Seq.{drop-append_seam}
 use Rattle.std.proofs.Math.Nat.{min-le_left, min-le_right, min-eq_left, min-eq_right, min_comm}
-use Rattle.std.proofs.lemmas.Bool.{cases_lt}
 use Rattle.std.proofs.lemmas.List.{length-append, length-take, length-drop, take-append-le, drop-append-le, take_all, get_or_append_left, append_assoc}
-use Rattle.std.proofs.lemmas.List.Elements.{All-tail, All-append, All-take, All-drop}
-use Rattle.disk.specs.Disk.{Image}
-use Rattle.lattice.specs.declared.refusal.Refusal.{Refusal}
-use Rattle.page_codec.specs.declared.version.Version.TheVariants.{Two}
-use Rattle.page_codec.specs.Formats.{Format}
-use Rattle.page_codec.specs.Records.{IsRecord, part_of, record_bytes}
 use Rattle.page_codec.specs.Sizes.{pages_of, index_pages_by, index_pages_of, listed_in, listed_by as count_listed}
-use Rattle.page_map.specs.Locations.{PlaneLocation, IsWholePlane, pages_behind}
-use Rattle.cow_tree.specs.Layout.{HasRecord, IsIndexed, listed_by}
-use Rattle.cow_tree.specs.Found.{NoneListed, NoneIndexed, NonePlane}
-use Rattle.page_codec.proofs.RecordPages.{same_records}
 use Rattle.cow_tree.proofs.Standing.{All-front, All-back}
 use Rattle.cow_tree.proofs.Reasons.{is_listed}
 

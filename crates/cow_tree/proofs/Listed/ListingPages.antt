@@ -1,27 +1,5 @@
 -- What lists the pages of tiles, page by page: which pages those are, and how they are written.
-use Rattle.std.proofs.Common.{◌≡◌, ℕ, zero, suc, ◌+◌, ◌<◌, ◌≤◌, Bool, true, false, cond, List, [], ◌∷◌, ◌++◌, All, Contains, length, get_or, take, drop, Result, Ok, Err, OnOk, refl, sym, ap, ap₂, ◌∙◌, subst, arith, Option, Some, None, option_map}
-use Rattle.std.specs.List.{filter}
-use Rattle.std.proofs.lemmas.List.{map-append, length-append, length-map, take-append-drop}
-use Rattle.std.proofs.lemmas.List.Elements.{All-nil, All-cons, All-append, All-contains_itself, filter-append}
-use Rattle.disk.specs.Disk.{Image}
-use Rattle.disk.specs.declared.disk.Disk.{Ghosts}
-use Rattle.lattice.specs.declared.refusal.Refusal.{Refusal}
-use Rattle.page_codec.specs.Formats.{Format}
-use Rattle.page_codec.specs.Records.{part_of, record_bytes}
-use Rattle.roots.specs.Roots.{disk_of, has_failed}
-use Rattle.roots.specs.declared.roots.Roots.{Roots}
-use Rattle.page_map.specs.declared.locations.KeptLocations.{KeptLocations}
-use Rattle.page_map.specs.declared.plane.Plane.{Plane}
-use Rattle.page_map.specs.declared.plane.Plane.TheVariants.{Heights, Levels, Labels}
-use Rattle.page_map.specs.PageMaps.{is_unreached}
-use Rattle.page_map.specs.Locations.{PlaneLocation, listing_of, times}
-use Rattle.page_map.specs.Planes.{plane_of}
-use Rattle.page_map.specs.TileLocations.{TileLocation, KeepsPageRule, reached}
-use Rattle.page_map.specs.Upgraded.{listing_of_kept, listing_of_tile, listings}
-use Rattle.page_map.proofs.Times.{all_numbers, times-append, times_of_member}
-use Rattle.page_map.proofs.UpgradedTiles.{tiles_split}
-use Rattle.cow_tree.specs.Listings.{ListingPage, WritesListing, IsOn, due_among, index_listing, kept_listing, listing_bytes, listing_if, named_listing, numbers_of, plane_listing, tile_listing, tiles_listing}
-use Rattle.cow_tree.specs.OverRoots.{WritesPages}
+use Rattle.cow_tree.proofs.Prelude.{All, All-append, All-cons, All-contains_itself, All-nil, Bool, Contains, Err, Format, Ghosts, Heights, Image, IsOn, KeepsPageRule, KeptLocations, Labels, Levels, List, ListingPage, None, Ok, OnOk, Option, Plane, PlaneLocation, Refusal, Result, Roots, Some, TileLocation, WritesListing, WritesPages, ℕ, [], all_numbers, ap, ap₂, arith, cond, disk_of, drop, due_among, false, filter, filter-append, get_or, has_failed, index_listing, is_unreached, kept_listing, length, length-append, length-map, listing_bytes, listing_if, listing_of, listing_of_kept, listing_of_tile, listings, map-append, named_listing, numbers_of, option_map, part_of, plane_listing, plane_of, reached, record_bytes, refl, subst, suc, sym, take, take-append-drop, tile_listing, tiles_listing, tiles_split, times, times-append, times_of_member, true, zero, ◌++◌, ◌+◌, ◌<◌, ◌∙◌, ◌∷◌, ◌≡◌, ◌≤◌}
 use Rattle.cow_tree.proofs.Listed.Counting.{at_times, times_among, times_failing, times_passing}
 use Rattle.cow_tree.proofs.Listed.Due.{reached_from}
 use Rattle.cow_tree.proofs.Listed.Adding.{contains-map}

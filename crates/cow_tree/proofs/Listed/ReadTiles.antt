@@ -1,20 +1,8 @@
 -- One tile after another, as the entries of a root name them.
-use Rattle.std.proofs.Common.{◌≡◌, ℕ, zero, suc, ◌+◌, ◌<◌, ◌≤◌, IsTrue, List, [], ◌∷◌, ◌++◌, All, length, get_or, map, take, drop, refl, sym, ap, ap₂, ◌∙◌, subst, arith}
+use Rattle.cow_tree.proofs.Prelude.{All, All-cons, All-nil, All-push, All-take, AllAfter, AreInOrder, Corner, EntryValue, HasRecords, Image, IsLaidOut, IsTrue, KeepsPageRule, List, NoTileAt, Rising, RootValue, TileLocation, ℕ, [], ap, ap₂, arith, drop, entry_of, format_of, get_or, is_before, length, map, pages_of_tile, reached, refl, rising_from, subst, suc, sym, take, times, times-append, zero, ◌++◌, ◌+◌, ◌<◌, ◌∙◌, ◌∷◌, ◌≡◌, ◌≤◌}
 use Rattle.std.proofs.lemmas.List.{length-map, take-map, take_more, take-append-drop, map-append}
 use Rattle.std.proofs.lemmas.List.Concat.{flat_map-append}
-use Rattle.std.proofs.lemmas.List.Elements.{All-nil, All-cons, All-take, All-push}
-use Rattle.disk.specs.Disk.{Image}
-use Rattle.lattice.specs.Corners.{Corner, is_before}
-use Rattle.page_codec.specs.Entries.{EntryValue}
-use Rattle.page_codec.specs.Roots.{RootValue, AreInOrder, format_of}
-use Rattle.lattice.proofs.Rising.{AllAfter, Rising, rising_from}
-use Rattle.page_map.specs.Locations.{times}
-use Rattle.page_map.specs.TileLocations.{TileLocation, pages_of_tile, reached, KeepsPageRule}
-use Rattle.cow_tree.specs.Entries.{entry_of}
-use Rattle.cow_tree.specs.Layout.{HasRecords, IsLaidOut}
-use Rattle.cow_tree.specs.Found.{NoTileAt}
 use Rattle.cow_tree.proofs.Standing.{All-front, each_tile}
-use Rattle.page_map.proofs.Times.{times-append}
 use Rattle.page_map.proofs.UpgradedTiles.{unmapped}
 use Rattle.cow_tree.proofs.OneStored.{one_layout}
 

@@ -1,16 +1,6 @@
 -- A tile taken out, and what was staged given up.
-use Rattle.std.proofs.Common.{◌≡◌, Bool, true, false, not, cond, List, [], ◌∷◌, ◌++◌, All, Contains, map, refl, ap, subst}
-use Rattle.std.specs.List.{filter}
+use Rattle.cow_tree.proofs.Prelude.{All, AreStaged, Bool, Contains, Corner, EntryValue, Format, HasFreshHeights, Image, IsTileListed, List, PageMapValue, TileLocation, [], ap, cond, corners_of_locations, entry_of, false, filter, is_at, map, not, pages_behind, pages_of_kept, pages_of_tile, reached, refl, subst, true, without_location, ◌++◌, ◌∷◌, ◌≡◌}
 use Rattle.std.proofs.lemmas.List.Elements.{All-head, All-contains, All-contains_itself, All-filter}
-use Rattle.disk.specs.Disk.{Image}
-use Rattle.lattice.specs.Corners.{Corner}
-use Rattle.page_codec.specs.Formats.{Format}
-use Rattle.page_codec.specs.Entries.{EntryValue}
-use Rattle.page_map.specs.Locations.{pages_behind}
-use Rattle.page_map.specs.TileLocations.{TileLocation, reached, pages_of_kept, pages_of_tile}
-use Rattle.cow_tree.specs.Entries.{entry_of}
-use Rattle.page_map.specs.PageMaps.{PageMapValue, HasFreshHeights, is_at, corners_of_locations, without_location}
-use Rattle.cow_tree.specs.Staged.{AreStaged, IsTileListed}
 use Rattle.cow_tree.proofs.Standing.{each_tile}
 
 pub filter-map : {X Y : Type 0} (test : Y → Bool) (f : X → Y) (xs : List X) → map f (filter (λ x. test (f x)) xs) ≡ filter test (map f xs)

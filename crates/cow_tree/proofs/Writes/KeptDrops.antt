@@ -1,13 +1,5 @@
 -- A tile staged without its levels and labels, or with others.
-use Rattle.std.proofs.Common.{◌≡◌, Bool, true, false, if◌then◌else◌, List, [], ◌∷◌, map, refl, ap₂, Option, None, IfSome}
-use Rattle.disk.specs.Disk.{Image}
-use Rattle.lattice.specs.Corners.{Corner}
-use Rattle.page_codec.specs.Formats.{Format}
-use Rattle.page_map.specs.TileLocations.{TileLocation}
-use Rattle.page_map.specs.PageMaps.{PageMapValue, HasFreshHeights, is_at, corners_of_locations, other_kept}
-use Rattle.page_map.specs.declared.locations.KeptLocations.{KeptLocations}
-use Rattle.cow_tree.specs.Layout.{tile_in}
-use Rattle.cow_tree.specs.Staged.{AreListedBy, AreStaged, IsTileListed}
+use Rattle.cow_tree.proofs.Prelude.{AreListedBy, AreStaged, Bool, Corner, Format, HasFreshHeights, IfSome, Image, IsTileListed, KeptLocations, List, None, Option, PageMapValue, TileLocation, [], ap₂, corners_of_locations, false, if◌then◌else◌, is_at, map, other_kept, refl, tile_in, true, ◌∷◌, ◌≡◌}
 use Rattle.cow_tree.specs.Stored.{StoredTile, stale_tile, made_stale}
 use Rattle.cow_tree.proofs.Listed.CornerChanges.{all_changed, corners_still, heights_still}
 

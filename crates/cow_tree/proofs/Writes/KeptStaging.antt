@@ -1,29 +1,12 @@
 -- Levels and labels of a tile that were written whole are staged.
-use Rattle.std.proofs.Common.{◌≡◌, ℕ, ◌<◌, ◌≤◌, Bool, true, false, not, inl, inr, if◌then◌else◌, List, [], ◌∷◌, ◌++◌, All, Contains, get_or, map, refl, sym, ap, ap₂, ◌∙◌, subst, arith, Option, Some, option_map}
-use Rattle.std.proofs.lemmas.Bool.{cases_eq}
-use Rattle.std.proofs.lemmas.Option.{same_Some}
-use Rattle.disk.specs.Disk.{Image}
-use Rattle.lattice.specs.Corners.{Corner}
-use Rattle.page_codec.specs.Formats.{Format}
-use Rattle.page_map.specs.declared.plane.Plane.{Plane}
-use Rattle.page_map.specs.declared.plane.Plane.TheVariants.{Levels, Labels}
-use Rattle.page_map.specs.Planes.{HasPlane, HasPlaneAt, plane_of}
-use Rattle.page_map.specs.declared.locations.KeptLocations.{KeptLocations}
-use Rattle.page_map.specs.PageMaps.{PageMapValue, IsPageMap, IsClean, IsFresh, IsLocated, AreKept, AreWholeKept, is_at, is_unreached, other_kept}
-use Rattle.page_map.specs.Locations.{PlaneLocation, listing_of, pages_behind, pages_of_plane, times}
-use Rattle.page_map.specs.TileLocations.{TileLocation, pages_of_kept, pages_of_tile, reached}
-use Rattle.page_map.proofs.Occurrences.{times_here}
+use Rattle.cow_tree.proofs.Prelude.{All, AreKept, AreListedBy, AreStaged, AreWholeKept, Bool, Contains, Corner, Format, HasPlane, HasPlaneAt, Image, IsClean, IsFresh, IsListedBy, IsLocated, IsPageMap, KeptLocations, KeptPlanes, Labels, Levels, List, Option, PageMapValue, Plane, PlaneLocation, PlanePages, Some, StoredTile, TileLocation, ℕ, [], any_none, ap, ap₂, arith, cases_eq, false, get_or, if◌then◌else◌, inl, inr, is_at, is_unreached, kept_in, listing_of, map, not, option_map, other_kept, pages_behind, pages_of_kept, pages_of_plane, pages_of_tile, plane_of, reached, refl, same_Some, subst, sym, tile_in, times, times_here, true, ◌++◌, ◌<◌, ◌∙◌, ◌∷◌, ◌≡◌, ◌≤◌}
 use Rattle.page_map.proofs.Times.{all_numbers, has_at, member_of_times, times-append}
 use Rattle.cow_tree.specs.Kept.{with_kept}
-use Rattle.cow_tree.specs.Layout.{kept_in, tile_in}
-use Rattle.cow_tree.specs.Staged.{AreListedBy, AreStaged, IsListedBy}
-use Rattle.cow_tree.specs.Stored.{KeptPlanes, PlanePages, StoredTile}
 use Rattle.cow_tree.proofs.Listed.Adding.{still_records}
 use Rattle.cow_tree.proofs.Listed.CornerChanges.{tile_changed}
 use Rattle.cow_tree.proofs.Listed.Due.{located_tile}
 use Rattle.cow_tree.proofs.Listed.Counting.{all_of_fewer, at_times, times_among}
 use Rattle.cow_tree.proofs.Writes.KeptDrops.{other_stays}
-use Rattle.page_map.proofs.Listing.{any_none}
 use Rattle.cow_tree.proofs.Standing.{SameOn, All-front, All-back, tile_same, plane_same}
 use Rattle.cow_tree.proofs.Tiles.{one_at_corner}
 

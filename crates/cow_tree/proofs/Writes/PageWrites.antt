@@ -1,22 +1,7 @@
 -- Pages written one after another.
-use Rattle.std.proofs.Common.{◌≡◌, ℕ, ◌+◌, ◌≤◌, Bool, true, false, if◌then◌else◌, List, [], ◌∷◌, ◌++◌, Contains, length, Result, Ok, Err, OnOk, OnErr, refl, sym, ◌∙◌, subst, arith, IfErr}
-use Rattle.std.proofs.lemmas.List.{length-append}
-use Rattle.std.proofs.lemmas.List.Elements.{All-head}
-use Rattle.std.proofs.lemmas.Bool.{false≢true}
-use Rattle.disk.specs.Disk.{Image}
+use Rattle.cow_tree.proofs.Prelude.{All-head, Bool, Contains, Device, EachStores, Err, Ghosts, IfErr, Image, KeepsBut, List, Ok, OnErr, OnOk, Refusal, Result, Roots, SamePagesBut, StoresAt, WritesPages, ℕ, [], apart_head, arith, false, false≢true, if◌then◌else◌, length, length-append, reached, refl, subst, sym, times, times-append, true, ◌++◌, ◌+◌, ◌∙◌, ◌∷◌, ◌≡◌, ◌≤◌}
 use Rattle.disk.specs.Stops.{LeavesOnly, HasCause, in_turn, nothing_done, weaker}
-use Rattle.disk.specs.declared.disk.Disk.{Ghosts}
-use Rattle.lattice.specs.declared.refusal.Refusal.{Refusal}
-use Rattle.lattice.specs.declared.refusal.Refusal.TheVariants.{Device}
 use Rattle.roots.specs.Roots.{disk_of, root_of, has_begun, has_failed, IsReady}
-use Rattle.roots.specs.Slots.{SamePagesBut, KeepsBut}
-use Rattle.roots.specs.declared.roots.Roots.{Roots}
-use Rattle.page_map.specs.TileLocations.{reached}
-use Rattle.page_map.specs.Locations.{times}
-use Rattle.page_map.proofs.Occurrences.{apart_head}
-use Rattle.page_map.proofs.Times.{times-append}
-use Rattle.cow_tree.specs.Layout.{StoresAt}
-use Rattle.cow_tree.specs.OverRoots.{EachStores, WritesPages}
 use Rattle.cow_tree.proofs.Listed.Counting.{all_of_fewer}
 use Rattle.cow_tree.proofs.Standing.{All-front, All-back, stores_kept_but}
 use Rattle.cow_tree.proofs.Steps.{on_ok, stores_along}

@@ -1,21 +1,6 @@
 -- What lists the pages of one plane of a tile, written page by page.
-use Rattle.std.proofs.Common.{◌≡◌, ◌+◌, ◌<◌, ◌≤◌, ◌++◌, ◌∷◌, [], ℕ, Bool, true, false, cond, List, Contains, get_or, length, take, drop, Result, Ok, Err, OnOk, refl, sym, ap, ◌∙◌, subst, arith, Option, Some, None}
-use Rattle.std.proofs.lemmas.Option.{same_Some}
-use Rattle.std.proofs.lemmas.List.{append-nil, take-append-drop, take_all, take_more}
+use Rattle.cow_tree.proofs.Prelude.{Bool, Contains, Corner, Err, Ghosts, HasPlane, HasPlaneAt, IsPageMap, IsWholePlane, IsWholeTile, List, ListingPage, None, Ok, OnOk, Option, PageMapValue, Plane, PlaneLocation, Refusal, Result, Roots, Some, TileLocation, WritesListing, WritesPages, ℕ, [], ap, append-nil, arith, cond, disk_of, drop, due_among, false, get_or, is_unreached, length, listing_bytes, listing_if, listing_of, named_listing, numbers_of, page_if, plane_listing, plane_of, reached, refl, same_Some, subst, sym, take, take-append-drop, take_all, take_more, times, times_of_member, true, ◌++◌, ◌+◌, ◌<◌, ◌∙◌, ◌∷◌, ◌≡◌, ◌≤◌}
 use Rattle.std.proofs.lemmas.List.Elements.{All-contains, Contains-get_or, filter-append}
-use Rattle.disk.specs.declared.disk.Disk.{Ghosts}
-use Rattle.lattice.specs.Corners.{Corner}
-use Rattle.lattice.specs.declared.refusal.Refusal.{Refusal}
-use Rattle.roots.specs.Roots.{disk_of}
-use Rattle.roots.specs.declared.roots.Roots.{Roots}
-use Rattle.page_map.specs.declared.plane.Plane.{Plane}
-use Rattle.page_map.specs.PageMaps.{PageMapValue, IsPageMap, IsWholeTile, is_unreached, page_if}
-use Rattle.page_map.specs.Locations.{PlaneLocation, IsWholePlane, listing_of, times}
-use Rattle.page_map.specs.Planes.{HasPlane, HasPlaneAt, plane_of}
-use Rattle.page_map.specs.TileLocations.{TileLocation, reached}
-use Rattle.page_map.proofs.Times.{times_of_member}
-use Rattle.cow_tree.specs.Listings.{ListingPage, WritesListing, due_among, listing_bytes, listing_if, named_listing, numbers_of, plane_listing}
-use Rattle.cow_tree.specs.OverRoots.{WritesPages}
 use Rattle.cow_tree.proofs.Listed.Counting.{at_times}
 use Rattle.cow_tree.proofs.Listed.ListingPages.{AreWithin, due_refused, due_then, few_first, one_listed, plane_at, plane_length, plane_numbers, plane_within}
 use Rattle.cow_tree.proofs.PageReads.{whole_in}

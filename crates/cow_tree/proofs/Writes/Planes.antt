@@ -1,12 +1,8 @@
 -- The bytes of a plane and its pages.
-use Rattle.std.proofs.Common.{◌≡◌, ⊎_elim, ℕ, zero, suc, ◌-◌, ◌*◌, ◌<◌, ◌≤◌, List, [], ◌++◌, length, take, drop, replicate, All, refl, sym, ap, ap₂, ◌∙◌, arith}
-use Rattle.std.specs.List.{concat}
-use Rattle.std.proofs.lemmas.Bool.{cases_lt}
+use Rattle.cow_tree.proofs.Prelude.{All, IsPage, List, ℕ, [], ap, ap₂, arith, cases_lt, concat, drop, length, pages_of, pages_of_bytes, plane_bytes, refl, replicate, suc, sym, take, zero, ⊎_elim, ◌*◌, ◌++◌, ◌-◌, ◌<◌, ◌∙◌, ◌≡◌, ◌≤◌}
 use Rattle.std.proofs.lemmas.List.{append-nil, append_assoc, length-append, length-take, length-take-le, length-drop, length-replicate, take_all, take-append-drop, take_at, nil_from_length}
 use Rattle.std.proofs.lemmas.List.Elements.{All-nil, All-cons, All-append, All-take, All-drop, All-replicate}
 use Rattle.page_codec.specs.Numbers.{padded, zeros}
-use Rattle.page_codec.specs.Sizes.{pages_of}
-use Rattle.cow_tree.specs.Stored.{IsPage, plane_bytes, pages_of_bytes}
 
 pub length-padded : (bytes : List ℕ) → length bytes ≤ 4096 → length (padded 4096 bytes) ≡ 4096
 unfolding zeros

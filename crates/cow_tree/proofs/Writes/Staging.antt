@@ -1,24 +1,9 @@
 -- What one written page makes of the staged tiles: the page stands once among all that they reach.
-use Rattle.std.proofs.Common.{◌≡◌, ◌≢◌, ◌==◌, not, Option, IfSome, ℕ, zero, suc, ◌+◌, ◌-◌, ◌*◌, ◌/◌, ◌<◌, inl, inr, length, take, drop, get_or, ◌≤◌, Bool, true, false, if◌then◌else◌, ◌||◌, List, [], ◌∷◌, ◌++◌, All, map, refl, sym, ap, ap₂, ◌∙◌, subst, arith, Some, None}
-use Rattle.std.specs.List.{slice_set, list_any}
-use Rattle.std.proofs.lemmas.Bool.{cases_eq, cases_lt}
+use Rattle.cow_tree.proofs.Prelude.{All, All-cons, All-head, All-nil, All-tail, AreListedBy, AreStaged, Bool, Corner, Format, IfSome, Image, IsIndexed, IsListedBy, IsTileListed, KeptLocations, List, None, Option, PlaneLocation, SamePagesBut, Some, TileLocation, ℕ, [], ap, ap₂, arith, cases_eq, cases_lt, drop, false, get_or, if◌then◌else◌, inl, inr, is_at, is_unreached, length, list_any, map, moved_plane, not, pages_behind, pages_of_kept, pages_of_plane, pages_of_tile, part_of, reached, record_bytes, refl, slice_set, subst, suc, sym, take, tile_in, times, times-append, true, zero, ◌*◌, ◌++◌, ◌+◌, ◌-◌, ◌/◌, ◌<◌, ◌==◌, ◌||◌, ◌∙◌, ◌∷◌, ◌≡◌, ◌≢◌, ◌≤◌}
 use Rattle.std.proofs.lemmas.List.{drop-set-lt, drop-set-add, take-set-le, length-set, get_or-set_same, get_or-set_other}
-use Rattle.std.proofs.lemmas.List.Elements.{All-nil, All-cons, All-head, All-tail}
-use Rattle.disk.specs.Disk.{Image}
-use Rattle.lattice.specs.Corners.{Corner}
-use Rattle.page_codec.specs.Formats.{Format}
-use Rattle.roots.specs.Slots.{SamePagesBut}
-use Rattle.page_codec.specs.Records.{part_of, record_bytes}
-use Rattle.page_map.specs.Locations.{PlaneLocation, moved_plane, pages_behind, pages_of_plane, times}
-use Rattle.page_map.specs.TileLocations.{TileLocation, pages_of_kept, pages_of_tile, reached}
-use Rattle.page_map.specs.declared.locations.KeptLocations.{KeptLocations}
-use Rattle.cow_tree.specs.Layout.{IsIndexed, tile_in}
-use Rattle.page_map.specs.PageMaps.{is_at, is_unreached}
-use Rattle.cow_tree.specs.Staged.{AreListedBy, AreStaged, IsListedBy, IsTileListed}
 use Rattle.cow_tree.specs.Stored.{PlanePages, KeptPlanes, StoredTile, with_page_in, with_page}
 use Rattle.cow_tree.proofs.Standing.{SameOn, All-front, All-back, map_same, kept_same, tile_same}
 use Rattle.page_map.proofs.Occurrences.{times_here, apart_head, absent, set_there}
-use Rattle.page_map.proofs.Times.{times-append}
 
 -- the tile with page i of its heights, its index page and their record elsewhere, if it is the corner's
 abbrev pub rewritten : Corner → (i p x r : ℕ) → TileLocation → TileLocation

@@ -1,15 +1,5 @@
 -- What lists the pages of tiles, written plane by plane and tile by tile.
-use Rattle.std.proofs.Common.{◌≡◌, ◌+◌, ◌<◌, ◌≤◌, ◌++◌, ℕ, List, Contains, get_or, length, take, drop, Result, Ok, Err, sym, ap, ◌∙◌, subst, arith}
-use Rattle.std.proofs.lemmas.Grind.{flat_map-append}
-use Rattle.std.proofs.lemmas.List.{take-append-drop, take_all}
-use Rattle.disk.specs.declared.disk.Disk.{Ghosts}
-use Rattle.lattice.specs.declared.refusal.Refusal.{Refusal}
-use Rattle.roots.specs.declared.roots.Roots.{Roots}
-use Rattle.page_map.specs.declared.plane.Plane.TheVariants.{Heights, Levels, Labels}
-use Rattle.page_map.specs.PageMaps.{PageMapValue, IsPageMap}
-use Rattle.page_map.specs.Locations.{times}
-use Rattle.page_map.specs.TileLocations.{TileLocation}
-use Rattle.cow_tree.specs.Listings.{ListingPage, WritesListing, due_among, named_listing, numbers_of, tile_listing, tiles_listing}
+use Rattle.cow_tree.proofs.Prelude.{Contains, Err, Ghosts, Heights, IsPageMap, Labels, Levels, List, ListingPage, Ok, PageMapValue, Refusal, Result, Roots, TileLocation, WritesListing, ℕ, ap, arith, drop, due_among, flat_map-append, get_or, length, named_listing, numbers_of, subst, sym, take, take-append-drop, take_all, tile_listing, tiles_listing, times, ◌++◌, ◌+◌, ◌<◌, ◌∙◌, ◌≡◌, ◌≤◌}
 use Rattle.cow_tree.proofs.Listed.Counting.{flat_more}
 use Rattle.cow_tree.proofs.Listed.ListingPages.{AreWithin, all_within, by_name, both_parts, due_refused, due_then, tile_within}
 

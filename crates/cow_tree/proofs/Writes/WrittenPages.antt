@@ -1,10 +1,5 @@
 -- The pages of a plane as they are written.
-use Rattle.std.proofs.Common.{◌≡◌, ℕ, zero, suc, ◌+◌, ◌*◌, ◌<◌, List, [], ◌∷◌, length, get_or, map, take, drop, refl, sym, ap, ◌∙◌, arith}
-use Rattle.std.proofs.lemmas.List.{drop-drop, length-map, same_lists}
-use Rattle.disk.specs.Disk.{Image}
-use Rattle.page_codec.specs.Numbers.{padded}
-use Rattle.cow_tree.specs.Staged.{page_of_bytes}
-use Rattle.cow_tree.specs.Stored.{pages_of_bytes}
+use Rattle.cow_tree.proofs.Prelude.{Image, List, ℕ, [], ap, arith, drop, drop-drop, get_or, length, length-map, map, padded, page_of_bytes, pages_of_bytes, refl, same_lists, suc, sym, take, zero, ◌*◌, ◌+◌, ◌<◌, ◌∙◌, ◌∷◌, ◌≡◌}
 use Rattle.cow_tree.proofs.Writes.Planes.{length-pages_of_bytes}
 
 -- page i of the pages of a plane's bytes

@@ -1,23 +1,12 @@
 -- Lists of labellings that are held, and of what is held or isn't.
-use Rattle.std.proofs.Common.{◌≡◌, inl, inr, ◌⊎◌, ℕ, zero, suc, ◌<◌, ◌≤◌, Bool, true, false, List, [], ◌∷◌, ◌++◌, length, get_or, take, drop, cond, not, refl, sym, ap, ◌∙◌, subst, arith}
+use Rattle.drainage.proofs.Prelude.{Bool, Corner, DifferAt, HasSide, HeldLabelling, IsEntered, IsHeldAt, LabelledGround, List, Mosaic, NewHeight, TileLabelling, ℕ, [], ap, arith, cond, corner_at, drop, false, get_or, has_block, holds, inl, inr, length, not, refl, subst, suc, sym, take, true, zero, ◌++◌, ◌<◌, ◌∙◌, ◌∷◌, ◌≡◌, ◌≤◌, ◌⊎◌}
 use Rattle.std.specs.Prelude.{◌↔◌, Option, None, IsTrue, All, Contains, filter, count_by, insert, remove}
 use Rattle.std.specs.List.Retain.{RetainsInTurn}
 use Rattle.std.proofs.lemmas.List.Elements.{All-cons, All-head, All-tail, All-append, All-take, All-drop, All-filter, All-weaker, All-contains, All-contains_itself, Contains-append_left, Contains-append_right, filter_passes}
 use Rattle.std.proofs.lemmas.List.Filters.{sum_by-filter_both}
 use Rattle.std.proofs.lemmas.List.Sums.{sum_by-cons}
-use Rattle.lattice.specs.Corners.{Corner}
-use Rattle.lattice.specs.Lattice.{holds}
-use Rattle.lattice.specs.Mosaic.{Mosaic}
-use Rattle.border_graph.specs.Others.{corner_at}
-use Rattle.edits.specs.declared.edit.NewHeight.{NewHeight}
-use Rattle.tile_flood.specs.Blocks.{LabelledGround}
 use Rattle.tile_labellings.specs.TileLabellings.{labelled_of, is_flooded, can_note, IsSetFrom, IsTileLabelling}
-use Rattle.tile_labellings.specs.declared.tile_labelling.TileLabelling.{TileLabelling}
-use Rattle.drainage.specs.Holding.{IsHeldAt, IsEntered}
 use Rattle.drainage.specs.Invalidating.{IsNoted, IsHeldStill}
-use Rattle.drainage.specs.Reaching.{DifferAt}
-use Rattle.drainage.specs.Room.{HasSide, has_block}
-use Rattle.drainage.specs.declared.labelling_cache.HeldLabelling.{HeldLabelling}
 
 -- none is held of one place more
 pub none_held : {A : Type 0} (held new : List (Option A)) → new ≡ held ++ None ∷ [] → ((t : ℕ) → get_or held t None ≡ None) → (t : ℕ) → get_or new t None ≡ None

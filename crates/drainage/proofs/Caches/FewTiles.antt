@@ -1,17 +1,8 @@
 -- There are no more tiles than corners, 180 by 360 of them; so each rim point of a mosaic has its number.
 use Rattle.std.proofs.Common.{ℕ, ◌+◌, ◌-◌, ◌*◌, ◌^◌, ◌<◌, ◌≤◌, inl, inr, ℤ, pos, negsuc, ◌+ℤ◌, ◌*ℤ◌, ◌≤ℤ◌, ◌<ℤ◌, ◌&&◌, List, [], ◌∷◌, length, IsTrue, arith, int_le}
-use Rattle.std.specs.Prelude.{All}
-use Rattle.std.proofs.lemmas.Int.{ints}
-use Rattle.std.proofs.lemmas.Bool.{and_parts}
-use Rattle.std.proofs.lemmas.Nat.{mul-le}
-use Rattle.std.proofs.lemmas.List.{length-map}
-use Rattle.std.proofs.lemmas.List.Elements.{All-head, All-tail}
-use Rattle.lattice.specs.Corners.{Corner, is_corner}
-use Rattle.lattice.specs.Mosaic.{Tile, Mosaic, IsMosaic, IsTile}
+use Rattle.drainage.proofs.Prelude.{All, All-head, All-tail, Corner, IsMosaic, IsTile, Mosaic, Tile, and_parts, corners_of, ints, is_corner, le_true, length-map, mul-le}
 use Rattle.lattice.proofs.CornerOrder.{Below, before_says}
-use Rattle.lattice.proofs.IntTests.{le_true}
 use Rattle.lattice.proofs.Rising.{AllAfter, Rising}
-use Rattle.catalogue.specs.Tiles.{corners_of}
 use Rattle.catalogue.proofs.Mosaics.{corner_of, rising_tiles}
 
 -- the place of a corner among all corners, row by row from the south: from -32580 to 32219

@@ -1,31 +1,13 @@
 -- What is known of tiles stays right of a mosaic as they come and go.
 use Rattle.std.proofs.Common.{◌≡◌, ◌≢◌, ℕ, zero, suc, ◌+◌, ◌*◌, ◌/◌, ◌%◌, ◌<◌, ◌≤◌, ℤ, IsTrue, List, [], ◌∷◌, ◌++◌, Option, Some, None, length, get_or, set, inl, inr, refl, sym, ap, ◌∙◌, subst, arith}
-use Rattle.std.proofs.lemmas.Bool.{cases_Bool, cases_lt, cases_eq}
-use Rattle.std.proofs.Math.Nat.{mul-le-mul_right}
-use Rattle.std.proofs.lemmas.Nat.{mul-add-lt}
+use Rattle.drainage.proofs.Prelude.{AreFilledLevels, AreFlows, ArePadded, AreSlotsOf, Corner, FlowCache, FlowGrid, IsCacheOf, IsFlow, IsGridOf, IsMosaic, IsPastOf, LevelRange, Mosaic, Point, Slot, Unknown, as_before, at_end, cases_Bool, cases_eq, cases_lt, flow_cache_right, is_ground, level_is_unique, longer, mul-add-lt, mul-le-mul_right, padded_point, past_right, terrain, void}
 use Rattle.std.proofs.lemmas.Option.{slice_get_read, slice_get_past}
-use Rattle.lattice.specs.Corners.{Corner}
-use Rattle.lattice.specs.Ground.{is_ground, terrain}
-use Rattle.lattice.specs.Mosaic.{Mosaic, IsMosaic, void}
-use Rattle.lattice.specs.declared.point.Point.{Point}
-use Rattle.lattice.proofs.Levels.{level_is_unique}
-use Rattle.flow_d8.specs.declared.flow.Flow.TheVariants.{Unknown}
-use Rattle.drainage.specs.declared.flow_cache.FlowCache.{FlowCache}
-use Rattle.drainage.specs.declared.flow_cache.Slot.{Slot}
-use Rattle.flow_d8.specs.declared.grid.FlowGrid.{FlowGrid}
-use Rattle.drainage.specs.declared.level_range.LevelRange.{LevelRange}
-use Rattle.flow_d8.specs.Drainage.{AreFilledLevels}
-use Rattle.flow_d8.specs.Flows.{IsFlow, AreFlows}
-use Rattle.drainage.specs.FlowCaches.{AreSlotsOf, IsCacheOf, IsPastOf, flow_cache_right, past_right}
-use Rattle.flow_d8.specs.FlowGrids.{IsGridOf}
 use Rattle.drainage.specs.LevelRanges.{block_of, range_at, HasLevel, HasLevelTo, IsIn, AreKnownAround, AreRanges, AreRangesOf}
-use Rattle.flow_d8.specs.Padded.{ArePadded, padded_point}
 use Rattle.drainage.specs.Slots.{ranges_of, slot_ranges}
 use Rattle.flow_d8.specs.Tiles.{Tiles, count_of, no_corner, place_of, OnGround}
 use Rattle.drainage.proofs.Changes.LevelRanges.{ends_as}
 use Rattle.flow_d8.proofs.Samples.GridFacts.{grid_resolved}
 use Rattle.flow_d8.proofs.Steps.Nearby.{never_void}
-use Rattle.flow_d8.proofs.Samples.Slots.{longer, as_before, at_end}
 
 -- ---- the ranges of one slot
 pub slot_read : (slots : List Slot) (k : ℕ) (s : Slot) → k < length slots → s ≡ get_or slots k s → slot_ranges slots k ≡ s.ranges.items

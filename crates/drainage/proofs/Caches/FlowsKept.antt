@@ -1,17 +1,7 @@
 -- Where points drain is kept, height after height, near levels that none of them moves.
 use Rattle.std.proofs.Common.{◌≡◌, ◌⊎◌, ℕ, ℤ, ◌<◌, true, inl, inr, Option, Some, None, List, length, get_or, refl, sym, ap, ◌∙◌, subst}
-use Rattle.std.specs.Prelude.{if◌then◌else◌}
-use Rattle.std.proofs.lemmas.List.Elements.{All-get_or}
-use Rattle.edits.specs.declared.edit.NewHeight.{NewHeight}
-use Rattle.drainage.specs.LevelRanges.{range_at, is_range_spared, spared_of}
-use Rattle.drainage.specs.Slots.{slot_ranges}
-use Rattle.drainage.specs.declared.flow_cache.FlowCache.{FlowCache}
-use Rattle.drainage.specs.declared.level_range.LevelRange.{LevelRange}
-use Rattle.drainage.specs.Between.{AreFlowsLeft}
-use Rattle.drainage.specs.Beyond.{AreFlowsKept}
+use Rattle.drainage.proofs.Prelude.{All-get_or, AreFlowsKept, AreFlowsLeft, DrainageCache, FlowCache, IsUnchanged, LevelRange, NewHeight, if◌then◌else◌, is_range_spared, range_at, slot_ranges, spared_of}
 use Rattle.drainage.specs.FlowCaches.{IsPastTaken, are_ranges_kept, are_spared}
-use Rattle.drainage.specs.Spared.{IsUnchanged}
-use Rattle.drainage.specs.declared.drainage_cache.DrainageCache.{DrainageCache}
 
 module _ (heights : List NewHeight) (i : ℕ) (h : NewHeight) (below : i < length heights) (is_h : h ≡ get_or heights i h) (changes : IsUnchanged h → ⊥) where
   -- a range that this height spares stays

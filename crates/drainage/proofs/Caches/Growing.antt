@@ -1,18 +1,5 @@
 -- What is known of a mosaic's water grows as tiles are loaded and their labellings held.
-use Rattle.std.proofs.Common.{◌≡◌, ℕ, ℤ, List, refl, sym, ap, ◌∙◌, subst}
-use Rattle.std.specs.Prelude.{Option, Some}
-use Rattle.lattice.specs.Corners.{Corner}
-use Rattle.catalogue.specs.declared.samples.Samples.{Ghosts}
-use Rattle.tile_labellings.specs.TileLabellings.{IsTileLabelling}
-use Rattle.tile_labellings.specs.declared.tile_labelling.TileLabelling.{TileLabelling}
-use Rattle.lattice.specs.Mosaic.{Mosaic}
-use Rattle.border_graph.specs.Others.{corner_at}
-use Rattle.drainage.specs.RimGraphs.{AreLoaded, AreKept}
-use Rattle.drainage.specs.declared.labelling_cache.HeldLabelling.{HeldLabelling}
-use Rattle.drainage.specs.declared.labelling_cache.LabellingCache.{LabellingCache}
-use Rattle.drainage.specs.declared.rim_graph.RimGraph.{RimGraph}
-use Rattle.drainage.specs.Holding.{Known, IsRimLevel, IsEntered, IsRight, IsGrown, Agrees, level_of}
-use Rattle.border_graph.specs.Summaries.{Summary}
+use Rattle.drainage.proofs.Prelude.{Agrees, AreKept, AreLoaded, Corner, Ghosts, HeldLabelling, IsEntered, IsGrown, IsRight, IsRimLevel, IsTileLabelling, Known, LabellingCache, List, Mosaic, Option, RimGraph, Some, Summary, TileLabelling, ℕ, ℤ, ap, corner_at, level_of, refl, subst, sym, ◌∙◌, ◌≡◌}
 use Rattle.drainage.specs.Kept.{ready_later}
 use Rattle.drainage.proofs.Caches.LoadingTiles.{fits_before}
 

@@ -1,20 +1,6 @@
 -- A point lies outside exactly where no present tile holds it.
-use Rattle.std.proofs.Common.{◌≡◌, ℕ, zero, suc, ◌<◌, ◌≤◌, ℤ, Bool, true, false, cond, IsTrue, List, [], ◌∷◌, length, map, get_or, refl, sym, ◌∙◌, ap, subst, arith}
-use Rattle.std.specs.Prelude.{All, IsFalse}
-use Rattle.std.specs.List.{filter}
-use Rattle.std.proofs.lemmas.Bool.{false≢true}
-use Rattle.std.proofs.lemmas.List.Elements.{All-head, All-tail}
-use Rattle.lattice.specs.Corners.{is_corner}
-use Rattle.lattice.specs.Lattice.{Holds, holds}
-use Rattle.lattice.specs.Mosaic.{Tile, Mosaic, IsTile, IsMosaic, is_void}
-use Rattle.lattice.specs.Height.{by_seam_rule, first_height, sample_at, height_of}
-use Rattle.lattice.specs.Ground.{is_ground, is_height}
-use Rattle.lattice.specs.declared.point.Point.{Point}
+use Rattle.drainage.proofs.Prelude.{All, All-head, All-tail, Bool, Holds, IsFalse, IsHeldByNone, IsMosaic, IsTile, IsTrue, List, Mosaic, Point, Tile, ℕ, ℤ, [], ap, arith, by_seam_rule, cond, corner_of, corners_of, false, false≢true, filter, first_height, get_or, height_of, holds, holds_is, is_corner, is_ground, is_height, is_void, length, map, refl, sample_at, subst, suc, sym, true, zero, ◌<◌, ◌∙◌, ◌∷◌, ◌≡◌, ◌≤◌}
 use Rattle.lattice.specs.declared.height.Height.TheVariants.{Outside, At}
-use Rattle.lattice.proofs.Samples.{holds_is}
-use Rattle.catalogue.specs.Tiles.{corners_of}
-use Rattle.catalogue.proofs.Mosaics.{corner_of}
-use Rattle.drainage.specs.Asking.{IsHeldByNone}
 
 module _ (n : ℕ) (p : Point) (side : 3 ≤ n) where
   none_hold : (tiles : List Tile) → All (IsTile n) tiles → IsHeldByNone n (map corner_of tiles) p → filter (λ t. holds n t.corner p) tiles ≡ []

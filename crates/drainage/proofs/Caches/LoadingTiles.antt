@@ -1,16 +1,6 @@
 -- What is known of tiles as they are loaded one after another.
-use Rattle.std.proofs.Common.{◌≡◌, ◌≢◌, ℕ, ◌<◌, inl, inr, true, false, true≢false, List, length, get_or, refl, sym, ap, ◌∙◌, subst}
+use Rattle.drainage.proofs.Prelude.{AreKept, AreLoaded, Corner, Fits, Ghosts, List, Mosaic, Summarizes, Summary, TileGraph, ℕ, ap, cases_eq, corner_at, false, get_or, get_or-set_other, get_or-set_same, get_or_default, inl, inr, length, length-set, loaded_at, refl, subst, sym, true, true≢false, ◌<◌, ◌∙◌, ◌≡◌, ◌≢◌}
 use Rattle.std.specs.Prelude.{Option, Some, None, is_some, slice_set}
-use Rattle.std.proofs.lemmas.Bool.{cases_eq}
-use Rattle.std.proofs.lemmas.List.{get_or_default, get_or-set_other, get_or-set_same, length-set}
-use Rattle.lattice.specs.Corners.{Corner}
-use Rattle.lattice.specs.Mosaic.{Mosaic}
-use Rattle.catalogue.specs.declared.samples.Samples.{Ghosts}
-use Rattle.border_graph.specs.Summaries.{Summary}
-use Rattle.border_graph.specs.Joining.{Summarizes}
-use Rattle.border_graph.specs.Others.{corner_at}
-use Rattle.border_graph.specs.TileGraph.{TileGraph}
-use Rattle.drainage.specs.RimGraphs.{loaded_at, Fits, AreLoaded, AreKept}
 
 pub fits_before : {S : Type 0} (g : Ghosts S) (a b : S) (side : ℕ) (corners : List Corner) (loaded : List (Option TileGraph)) (side' : ℕ) (corners' : List Corner) (loaded' : List (Option TileGraph)) (n : ℕ) (summaries : List Summary)
     → AreKept g a b side corners loaded side' corners' loaded' → Fits side' corners' loaded' n summaries → Fits side corners loaded n summaries

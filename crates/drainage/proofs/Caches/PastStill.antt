@@ -1,44 +1,12 @@
 -- Where points drain, as one height changes: what is left is so.
 use Rattle.std.proofs.Common.{◌≡◌, inl, inr, ℕ, ◌+◌, ◌*◌, ◌/◌, ◌%◌, ◌<◌, ◌≤◌, ℤ, true, ◌&&◌, ◌||◌, not, IsTrue, Option, Some, None, List, length, get_or, refl, sym, ap, ◌∙◌, subst, arith}
-use Rattle.std.specs.Prelude.{int_lt, if◌then◌else◌}
-use Rattle.std.specs.Ordering.{int_eq}
-use Rattle.std.proofs.lemmas.Bool.{cases_Bool, or_cases, and_parts, false≢true}
-use Rattle.std.proofs.lemmas.Bool.Decides.{Decides-int_eq}
-use Rattle.std.proofs.lemmas.Int.{ints}
-use Rattle.lattice.specs.Corners.{Corner}
-use Rattle.lattice.specs.declared.direction.Dir.{Dir}
-use Rattle.lattice.specs.declared.height.Height.TheVariants.{At}
-use Rattle.lattice.specs.declared.point.Point.{Point}
-use Rattle.lattice.specs.Ground.{is_height, is_ground, is_adjacent, terrain}
-use Rattle.lattice.specs.Height.{height_of}
-use Rattle.lattice.specs.Lattice.{point_of}
-use Rattle.lattice.specs.Mosaic.{Mosaic, IsMosaic, void}
-use Rattle.lattice.specs.Steps.{step}
+use Rattle.drainage.proofs.Prelude.{AreFilledLevels, AreFlowsLeft, AreSlotsOf, AreSlotsSpared, At, Corner, Decides-int_eq, DifferAt, Dir, DrainageCache, Flow, FlowCache, FlowGrid, IsFlow, IsHeldOf, IsMosaic, IsPastOf, IsPastTaken, IsSetTo, LevelRange, LiesApart, Mosaic, Point, Unknown, and_parts, are_spared, cases_Bool, false≢true, flow_cache_right, height_of, if◌then◌else◌, int_eq, int_lt, ints, is_adjacent, is_ground, is_height, mosaic_is_full, or_cases, padded_point, past_right, point_of, row_below, same_place, slot_ranges, square_some, step, terrain, tile_below, void}
 use Rattle.lattice.proofs.IntTests.{lt_true}
-use Rattle.lattice.proofs.SamePoints.{same_place}
-use Rattle.lattice.proofs.Samples.{row_below}
-use Rattle.flow_d8.specs.Drainage.{AreFilledLevels}
-use Rattle.drainage.specs.FlowCaches.{flow_cache_right, past_right, AreSlotsOf, IsPastOf, AreSlotsSpared, IsPastTaken, are_spared}
-use Rattle.flow_d8.specs.Flows.{IsFlow}
 use Rattle.drainage.specs.LevelRanges.{block_of, range_at, HasEnds, HasLevel, IsIn, is_range_spared, spared_of, AreKnownAround, AreRangesOf, AreSpared}
-use Rattle.flow_d8.specs.Padded.{padded_point}
-use Rattle.drainage.specs.Slots.{slot_ranges}
 use Rattle.flow_d8.specs.Tiles.{no_corner, count_of, place_of}
-use Rattle.flow_d8.specs.declared.flow.Flow.{Flow}
-use Rattle.flow_d8.specs.declared.flow.Flow.TheVariants.{Unknown}
-use Rattle.drainage.specs.declared.flow_cache.FlowCache.{FlowCache}
-use Rattle.flow_d8.specs.declared.grid.FlowGrid.{FlowGrid}
-use Rattle.drainage.specs.declared.level_range.LevelRange.{LevelRange}
 use Rattle.drainage.proofs.Caches.FlowCaches.{past_of_cache}
 use Rattle.drainage.proofs.Changes.LevelRanges.{ends_as}
-use Rattle.flow_d8.proofs.Mosaics.FullTerrain.{mosaic_is_full}
-use Rattle.flow_d8.proofs.Samples.Numbers.{tile_below}
-use Rattle.flow_d8.proofs.Samples.TilePlaces.{square_some}
 use Rattle.flow_d8.proofs.Padded.PaddedPlaces.{row_by, column_by, point_is, row_near, column_near}
-use Rattle.drainage.specs.Between.{IsHeldOf, AreFlowsLeft}
-use Rattle.drainage.specs.Reaching.{DifferAt}
-use Rattle.drainage.specs.Spared.{LiesApart, IsSetTo}
-use Rattle.drainage.specs.declared.drainage_cache.DrainageCache.{DrainageCache}
 use Rattle.drainage.proofs.Questions.LevelFunctions.{level_function}
 use Rattle.drainage.proofs.Changes.OutsideRange.{ground, stays, flow_stays}
 use Rattle.drainage.proofs.Changes.SparedLevels.{spared_twice}

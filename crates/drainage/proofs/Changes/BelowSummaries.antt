@@ -1,37 +1,13 @@
 -- The summary of a tile stays where a point changes its height below its level in the tile.
-use Rattle.std.proofs.Common.{◌≡◌, ◌≢◌, ℕ, ◌*◌, ◌-◌, ◌<◌, ℤ, ◌<ℤ◌, ◌≤ℤ◌, inl, inr, Bool, false, ◌&&◌, ◌||◌, not, IsTrue, List, length, get_or, refl, sym, ap, ◌∙◌, subst, arith}
-use Rattle.std.specs.Prelude.{nat_lt, slice_index, slice_index_or}
+use Rattle.drainage.proofs.Prelude.{At, Bool, Corner, DifferAt, Flooded, Height, IsFilledLevel, IsFlooded, IsIndexOf, IsLabelling, IsSummaryOf, IsTrue, Kept, LabelledGround, List, Mosaic, Point, Spill, Summarizes, Summary, Terrain, TileLabelling, ℕ, ℤ, ap, arith, block_of, cases_Bool, false, fun_ext, get_or, height_of, inl, inr, ints, is_ground, is_outlet, is_void, length, level_is_unique, ltb-true, metres, nat_lt, not, point_of, refl, rim_point, slice_index, slice_index_or, solid_if, subst, sym, void, ◌&&◌, ◌*◌, ◌-◌, ◌<ℤ◌, ◌<◌, ◌||◌, ◌∙◌, ◌≡◌, ◌≢◌, ◌≤ℤ◌}
 use Rattle.std.specs.List.{list_all}
-use Rattle.std.proofs.Math.Path.{fun_ext}
-use Rattle.std.proofs.lemmas.Bool.{cases_Bool, ltb-true}
-use Rattle.std.proofs.lemmas.Int.{ints}
 use Rattle.std.proofs.lemmas.List.{get_or_default, same_lists}
 use Rattle.lattice.specs.Block.{Block, IsBlockOf, block_terrain, is_solid, is_exit, is_rim, is_sink_at, around, rim_number}
-use Rattle.lattice.specs.Corners.{Corner}
-use Rattle.lattice.specs.Ground.{metres, is_ground, is_outlet}
-use Rattle.lattice.specs.Height.{height_of}
-use Rattle.lattice.specs.Lattice.{IsIndexOf, point_of}
-use Rattle.lattice.specs.Mosaic.{Mosaic, void, is_void}
-use Rattle.lattice.specs.Terrain.{Terrain, IsFilledLevel}
-use Rattle.lattice.specs.declared.height.Height.{Height}
-use Rattle.lattice.specs.declared.height.Height.TheVariants.{At}
-use Rattle.lattice.specs.declared.point.Point.{Point}
-use Rattle.lattice.proofs.Levels.{level_is_unique}
-use Rattle.tile_flood.specs.Blocks.{LabelledGround, block_of}
-use Rattle.tile_flood.specs.Labelling.{IsLabelling}
 use Rattle.tile_flood.specs.Spills.{AreSpills, Meets}
-use Rattle.tile_flood.specs.declared.passing.Spill.{Spill}
 use Rattle.tile_flood.proofs.Dependence.{same_link}
 use Rattle.tile_flood.proofs.Passages.{not_void}
-use Rattle.tile_flood.proofs.Squares.{solid_if}
-use Rattle.tile_labellings.specs.Labellings.{IsFlooded}
 use Rattle.tile_labellings.specs.TileLabellings.{labelled_of, DifferAt as DifferAtIndex, IsBelow, IsBelowLevel, IsSetFrom, IsStill, IsTileLabelling}
-use Rattle.tile_labellings.specs.declared.tile_labelling.TileLabelling.{TileLabelling}
-use Rattle.tile_labellings.specs.declared.tile_labelling.TileLabelling.TheVariants.{Kept, Flooded}
 use Rattle.tile_labellings.proofs.KeptStill.{AreHeightsStill, heights_still}
-use Rattle.border_graph.specs.Joining.{IsSummaryOf, Summarizes, rim_point}
-use Rattle.border_graph.specs.Summaries.{Summary}
-use Rattle.drainage.specs.Reaching.{DifferAt}
 use Rattle.drainage.proofs.Questions.Asked.{is_at}
 use Rattle.drainage.proofs.Changes.Noted.{differ_at_index, set_at_index}
 use Rattle.drainage.proofs.Changes.SparedLevels.{ground_still, outlet_still}

@@ -1,25 +1,8 @@
 -- What is held of a tile that a change doesn't reach is kept, change after change.
-use Rattle.std.proofs.Common.{◌≡◌, ℕ, ℤ, ◌<◌, true, false, inl, inr, List, length, get_or, refl, sym, ap, ap₂, ◌∙◌, subst}
+use Rattle.drainage.proofs.Prelude.{All-get_or, All-weaker, AreSparing, Corner, IsHeldAt, IsRight, IsSpared, IsSparedBy, IsUnchanged, KeepsSummary, LabellingCache, List, Mosaic, NewHeight, Point, RimGraph, TileCache, ℕ, ℤ, ap, ap₂, are_noted, are_right, are_sparing, both_ways, corner_at, false, false_from_ne_true, get_or, holds, inl, inr, is_between, is_reached, length, level_of, levels_pass, loaded_at, ltb-true, or_parts, reaches, refl, subst, sym, true, ◌<◌, ◌∙◌, ◌≡◌}
 use Rattle.std.specs.Prelude.{◌↔◌, ◌⊎◌, All, Option, Some, None, nat_lt, not}
-use Rattle.std.proofs.lemmas.Bool.{or_parts, false_from_ne_true, both_ways, ltb-true}
-use Rattle.std.proofs.lemmas.List.Elements.{All-get_or, All-weaker}
-use Rattle.lattice.specs.Corners.{Corner}
-use Rattle.lattice.specs.Lattice.{holds}
-use Rattle.lattice.specs.Mosaic.{Mosaic}
-use Rattle.lattice.specs.declared.point.Point.{Point}
-use Rattle.edits.specs.declared.edit.NewHeight.{NewHeight}
-use Rattle.border_graph.specs.Others.{corner_at}
-use Rattle.drainage.specs.Between.{are_noted, are_right, are_sparing, levels_pass}
 use Rattle.drainage.specs.Beyond.{are_kept_from, are_kept_beyond, are_levels_kept}
-use Rattle.drainage.specs.Invalidating.{KeepsSummary}
-use Rattle.drainage.specs.Holding.{IsHeldAt, IsRight, level_of}
-use Rattle.drainage.specs.RimGraphs.{loaded_at}
-use Rattle.drainage.specs.declared.labelling_cache.LabellingCache.{LabellingCache}
-use Rattle.drainage.specs.declared.rim_graph.RimGraph.{RimGraph}
 use Rattle.drainage.proofs.Caches.Growing.{known_by}
-use Rattle.drainage.specs.Reaching.{is_between, is_reached, reaches}
-use Rattle.drainage.specs.Spared.{AreSparing, IsSpared, IsSparedBy, IsUnchanged}
-use Rattle.drainage.specs.declared.tile_cache.TileCache.{TileCache}
 use Rattle.drainage.proofs.Changes.Reached.{at_itself}
 use Rattle.drainage.proofs.Changes.Unreached.{itself_unreached}
 

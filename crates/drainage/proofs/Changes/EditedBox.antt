@@ -1,25 +1,13 @@
 -- What an edit of points of a box leaves as it was.
-use Rattle.std.proofs.Common.{◌≡◌, ◌≢◌, ℕ, zero, suc, ◌+◌, ◌<◌, ◌≤◌, ℤ, Bool, true, false, ◌&&◌, List, [], ◌∷◌, length, get_or, take, refl, sym, ap, subst, arith}
-use Rattle.std.specs.Prelude.{if◌then◌else◌}
+use Rattle.drainage.proofs.Prelude.{AreCorners, AreEarlier, At, Bool, DifferAt, DifferBetween, IsMosaic, IsSample, List, Mosaic, NewHeight, Point, ℕ, ℤ, [], ap, arith, corners_of, false, get_or, height_of, if◌then◌else◌, is_between, is_ground, length, refl, same_point, subst, suc, sym, take, true, void, with_height, with_heights, zero, ◌&&◌, ◌+◌, ◌<◌, ◌∷◌, ◌≡◌, ◌≢◌, ◌≤◌}
 use Rattle.std.proofs.lemmas.Bool.{and_left}
-use Rattle.lattice.specs.declared.point.Point.{Point}
-use Rattle.lattice.specs.Ground.{same_point}
-use Rattle.lattice.specs.Mosaic.{Mosaic, IsMosaic, IsSample, void}
-use Rattle.catalogue.specs.Tiles.{corners_of}
-use Rattle.catalogue.specs.Tables.{AreCorners}
 use Rattle.catalogue.proofs.OneTile.{corners_are}
-use Rattle.edits.specs.declared.edit.NewHeight.{NewHeight}
-use Rattle.edits.specs.Edits.{AreEarlier, with_height, with_heights}
 use Rattle.edits.specs.Effect.{edited, is_in_box, is_void_at, patched}
 use Rattle.edits.proofs.Edited.{heights_corners, heights_next, heights_side}
 use Rattle.edits.proofs.NewMosaics.{edited_is_mosaic}
 use Rattle.edits.proofs.EditedHeights.{edited_corners, height_stays}
-use Rattle.drainage.specs.Reaching.{is_between, DifferAt, DifferBetween}
 use Rattle.drainage.proofs.Changes.Reached.{apart_points, other_point}
 use Rattle.drainage.proofs.Changes.HeightSet.{height_set}
-use Rattle.lattice.specs.declared.height.Height.TheVariants.{At}
-use Rattle.lattice.specs.Ground.{is_ground}
-use Rattle.lattice.specs.Height.{height_of}
 
 differ_edited : (f : Point → ℤ → ℤ) (m : Mosaic) (from to : Point) → 3 ≤ m.side → AreCorners (corners_of m) → ((q : Point) (s : ℤ) → is_between from to q ≡ false → f q s ≡ s) → DifferBetween m (edited f m) from to
 differ_edited f m from to side are leaves = record {

@@ -1,22 +1,6 @@
 -- A ground point that is given a height has it.
-use Rattle.std.proofs.Common.{◌≡◌, ◌≢◌, ◌⊎◌, inl, inr, ℕ, ◌+◌, ◌≤◌, ℤ, Bool, true, false, cond, IsTrue, List, [], ◌∷◌, length, map, get_or, refl, sym, ◌∙◌, ap, subst, arith}
-use Rattle.std.specs.List.{filter}
-use Rattle.std.specs.Ordering.{int_eq}
-use Rattle.std.proofs.lemmas.Bool.{cases_Bool, cases_lt, and_from, false≢true}
-use Rattle.std.proofs.lemmas.Bool.Decides.{Decides-int_eq}
-use Rattle.std.proofs.lemmas.List.{get_or_past}
-use Rattle.std.proofs.lemmas.List.Elements.{All-head, All-tail}
-use Rattle.lattice.specs.Corners.{Corner, is_corner}
-use Rattle.lattice.specs.declared.height.Height.TheVariants.{At}
-use Rattle.lattice.specs.declared.point.Point.{Point}
-use Rattle.lattice.specs.Ground.{is_height, is_ground, same_point}
-use Rattle.lattice.specs.Height.{by_seam_rule, first_height, height_of, sample_at}
-use Rattle.lattice.specs.Lattice.{holds, index_of, point_of}
-use Rattle.lattice.specs.Mosaic.{Tile, Mosaic, void, is_void}
+use Rattle.drainage.proofs.Prelude.{All-head, All-tail, AreCorners, At, Bool, Corner, Decides-int_eq, IsTrue, List, Mosaic, Point, Tile, ℕ, ℤ, [], and_from, ap, arith, by_seam_rule, cases_Bool, cases_lt, cond, corners_of, false, false≢true, filter, first_height, get_or, get_or_past, height_of, holds, index_of, inl, inr, int_eq, is_corner, is_ground, is_height, is_void, length, map, point_of, refl, same_point, sample_at, subst, sym, true, void, with_height, ◌+◌, ◌∙◌, ◌∷◌, ◌≡◌, ◌≢◌, ◌≤◌, ◌⊎◌}
 use Rattle.lattice.proofs.Samples.{holds_is, point_of_index}
-use Rattle.catalogue.specs.Tiles.{corners_of}
-use Rattle.catalogue.specs.Tables.{AreCorners}
-use Rattle.edits.specs.Edits.{with_height}
 use Rattle.edits.specs.Effect.{changed_from}
 use Rattle.edits.proofs.Placing.{get-changed_from, length-changed_from}
 

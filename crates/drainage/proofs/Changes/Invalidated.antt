@@ -1,22 +1,7 @@
 -- What is left of what was known is right for the mosaic as it changed; and lists whose elements are given up one by one.
-use Rattle.std.proofs.Common.{◌≡◌, ℕ, zero, suc, ℤ, ◌+◌, ◌-◌, ◌*◌, ◌^◌, ◌<◌, ◌≤◌, inl, inr, Bool, true, false, List, [], ◌∷◌, length, get_or, sym, ap, ◌∙◌, subst, arith}
+use Rattle.drainage.proofs.Prelude.{AreLevelsStill, AreReady, Bool, Corner, DifferAt, DifferBetween, IsEntered, IsRight, IsRimLevel, IsSetFrom, IsTileLabelling, Known, List, Mosaic, NewHeight, Point, Summarizes, TileGraph, ℕ, ℤ, [], ap, arith, cases_eq, corner_at, corners_of, false, get_or, get_or-set_other, get_or-set_same, inl, inr, is_reached, length, length-set, level_of, loaded_at, or_parts, reaches, subst, suc, sym, true, zero, ◌*◌, ◌+◌, ◌-◌, ◌<◌, ◌^◌, ◌∙◌, ◌∷◌, ◌≡◌, ◌≤◌}
 use Rattle.std.specs.Prelude.{◌↔◌, Option, Some, None, slice_set, nat_lt, not}
-use Rattle.std.proofs.lemmas.Bool.{cases_eq, or_parts}
-use Rattle.std.proofs.lemmas.List.{get_or-set_other, get_or-set_same, length-set}
-use Rattle.lattice.specs.Corners.{Corner}
-use Rattle.lattice.specs.declared.point.Point.{Point}
-use Rattle.lattice.specs.Mosaic.{Mosaic}
-use Rattle.catalogue.specs.Tiles.{corners_of}
-use Rattle.edits.specs.declared.edit.NewHeight.{NewHeight}
-use Rattle.tile_labellings.specs.TileLabellings.{IsSetFrom, IsTileLabelling}
-use Rattle.border_graph.specs.Joining.{Summarizes}
-use Rattle.border_graph.specs.Others.{corner_at}
-use Rattle.border_graph.specs.TileGraph.{TileGraph}
 use Rattle.drainage.specs.Invalidating.{IsLeftOf, IsNotedOf}
-use Rattle.drainage.specs.Holding.{Known, IsEntered, IsRight, IsRimLevel, level_of}
-use Rattle.drainage.specs.Reaching.{is_reached, reaches, DifferAt, DifferBetween}
-use Rattle.drainage.specs.RimGraphs.{AreReady, loaded_at}
-use Rattle.drainage.specs.Spared.{AreLevelsStill}
 use Rattle.drainage.proofs.Changes.BelowSummaries.{summarizes_below}
 use Rattle.drainage.proofs.Changes.SparedLevels.{rim_level_still}
 use Rattle.drainage.proofs.Changes.Unreached.{labelling_still, summarizes_still}

@@ -1,17 +1,7 @@
 -- Levels come to the ranges of their blocks.
 use Rattle.std.proofs.Common.{◌≡◌, ◌≢◌, ℕ, ◌+◌, ◌*◌, ◌/◌, ◌<◌, ◌≤◌, ℤ, pos, ◌≤ℤ◌, ◌⊎◌, Bool, true, false, Option, Some, None, List, length, get_or, set, inl, inr, refl, sym, ap, ◌∙◌, subst, arith}
-use Rattle.std.specs.Prelude.{if◌then◌else◌}
-use Rattle.std.specs.Int.{int_max, int_min}
-use Rattle.std.specs.Ordering.{int_eq}
-use Rattle.std.proofs.lemmas.Bool.{cases_Bool, cases_eq, cases_lt, false≢true}
-use Rattle.std.proofs.lemmas.Bool.Decides.{Decides-int_eq}
-use Rattle.std.proofs.lemmas.Int.{ints, clamps}
-use Rattle.std.proofs.lemmas.List.{get_or-set_same, get_or-set_other, length-set}
-use Rattle.lattice.specs.Mosaic.{void}
-use Rattle.lattice.proofs.IntTests.{le_or_above}
+use Rattle.drainage.proofs.Prelude.{Decides-int_eq, LevelRange, cases_Bool, cases_eq, cases_lt, clamps, false≢true, get_or-set_other, get_or-set_same, if◌then◌else◌, int_eq, int_max, int_min, ints, le_or_above, length-set, one_column, one_row, void}
 use Rattle.drainage.specs.LevelRanges.{block_of, range_at, HasEnds, HasLevelTo, IsIn, with_level, AreRangesTo}
-use Rattle.drainage.specs.declared.level_range.LevelRange.{LevelRange}
-use Rattle.flow_d8.proofs.Padded.PaddedPlaces.{one_row, one_column}
 
 -- a level that was in the range is
 stays_in : (o : Option LevelRange) (v w : ℤ) → IsIn o w → IsIn (with_level o v) w

@@ -1,16 +1,8 @@
 -- A tile whose labelling is held, where the height of one point may change.
-use Rattle.std.proofs.Common.{◌≡◌, ℕ, ℤ, ◌<◌, ◌≤◌, true, false, IsTrue, refl, sym, ◌∙◌, ap, subst}
+use Rattle.drainage.proofs.Prelude.{Corner, DifferAt, Holds, IsIndexOf, IsTrue, Mosaic, Point, TileLabelling, ℕ, ℤ, ap, false, false_from_ne_true, false≢true, holds, index_of, is_between, is_corner, point_of, refl, some_side, subst, sym, true, ◌<◌, ◌∙◌, ◌≡◌, ◌≤◌}
 use Rattle.std.specs.Prelude.{Option, Some, None, IsSome, IfSome, IfNone}
-use Rattle.std.proofs.lemmas.Bool.{false_from_ne_true, false≢true}
-use Rattle.lattice.specs.Corners.{Corner, is_corner}
-use Rattle.lattice.specs.declared.point.Point.{Point}
-use Rattle.lattice.specs.Lattice.{Holds, IsIndexOf, holds, index_of, point_of}
-use Rattle.lattice.specs.Mosaic.{Mosaic}
 use Rattle.lattice.proofs.Samples.{index_of_point_is, holds_is}
-use Rattle.lattice.proofs.Multiples.{some_side}
 use Rattle.tile_labellings.specs.TileLabellings.{IsTileLabelling, IsSetFrom, DifferAt as DifferAtIndex}
-use Rattle.tile_labellings.specs.declared.tile_labelling.TileLabelling.{TileLabelling}
-use Rattle.drainage.specs.Reaching.{is_between, DifferAt}
 use Rattle.drainage.proofs.Questions.Asked.{is_at}
 use Rattle.drainage.proofs.Changes.Reached.{between_itself}
 use Rattle.drainage.proofs.Changes.Unreached.{held_by_index, tile_still}

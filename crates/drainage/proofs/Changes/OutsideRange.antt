@@ -1,25 +1,7 @@
 -- As one height changes, levels outside the range from the one height to the other stay, and what is known of where points of
 -- such levels drain.
-use Rattle.std.proofs.Common.{◌≡◌, inl, inr, ℤ, ◌<ℤ◌, ◌≤ℤ◌, ◌⊎◌, false, IsTrue, sym, ◌∙◌, subst, arith, true≢false}
-use Rattle.std.specs.Prelude.{int_lt}
-use Rattle.std.specs.Int.{int_max, int_min}
-use Rattle.std.proofs.lemmas.Bool.{cases_Bool}
-use Rattle.std.proofs.lemmas.Int.{ints, clamps}
-use Rattle.lattice.specs.declared.height.Height.TheVariants.{At}
-use Rattle.lattice.specs.declared.point.Point.{Point}
-use Rattle.lattice.specs.Ground.{is_ground, is_adjacent, terrain}
-use Rattle.lattice.specs.Height.{height_of}
-use Rattle.lattice.specs.Mosaic.{Mosaic}
-use Rattle.lattice.specs.Steps.{step}
-use Rattle.lattice.proofs.Lawful.{terrain_is_lawful}
-use Rattle.lattice.proofs.Levels.{level_is_unique}
-use Rattle.flow_d8.specs.Drainage.{AreFilledLevels}
-use Rattle.flow_d8.specs.Flows.{IsFlow}
-use Rattle.flow_d8.specs.declared.flow.Flow.{Flow}
-use Rattle.flow_d8.specs.declared.flow.Flow.TheVariants.{Unknown, NoGround, Outlet, To, Beside, Flat, FlatTo}
+use Rattle.drainage.proofs.Prelude.{AreFilledLevels, At, Beside, DifferAt, Flat, FlatTo, Flow, IsFlow, IsTrue, LiesApart, Mosaic, NoGround, Outlet, Point, To, Unknown, ℤ, arith, cases_Bool, clamps, false, height_of, inl, inr, int_lt, int_max, int_min, ints, is_adjacent, is_ground, level_is_unique, step, subst, sym, terrain, terrain_is_lawful, true≢false, ◌<ℤ◌, ◌∙◌, ◌≡◌, ◌≤ℤ◌, ◌⊎◌}
 use Rattle.flow_d8.proofs.Mosaics.Ordered.{AreInOrder, flow_too}
-use Rattle.drainage.specs.Reaching.{DifferAt}
-use Rattle.drainage.specs.Spared.{LiesApart}
 use Rattle.drainage.proofs.Changes.SparedLevels.{ground_still, adjacent_still, outlet_still, filled_still}
 
 -- ---- levels in the range and outside

@@ -1,18 +1,9 @@
 -- What a change of a point leaves as it was: all but that point.
-use Rattle.std.proofs.Common.{◌≡◌, ℤ, int_le, true, false, cond, ◌&&◌, ◌||◌, List, [], ◌∷◌, refl, sym, ap, ap₂, ◌∙◌, arith}
-use Rattle.std.specs.List.{list_any}
+use Rattle.drainage.proofs.Prelude.{DifferBetween, List, Mosaic, Point, ℤ, [], ap, ap₂, arith, cond, false, int_le, ints, is_between, le_from, le_true, list_any, refl, same_point, sym, true, with_point, with_sinks, without_point, ◌&&◌, ◌||◌, ◌∙◌, ◌∷◌, ◌≡◌}
 use Rattle.std.proofs.lemmas.Bool.{and_parts, and_from, or_right, false_from_ne_true, both_ways}
-use Rattle.std.proofs.lemmas.Int.{ints}
-use Rattle.lattice.specs.declared.point.Point.{Point}
-use Rattle.lattice.specs.Ground.{same_point}
-use Rattle.lattice.specs.Mosaic.{Mosaic}
 use Rattle.lattice.specs.Points.{is_point_before}
-use Rattle.lattice.proofs.IntTests.{le_true, le_from}
 use Rattle.lattice.proofs.SamePoints.{same_point_says, same_point_from}
-use Rattle.catalogue.specs.Tiles.{with_sinks}
-use Rattle.edits.specs.Sinks.{with_point, without_point}
 use Rattle.edits.proofs.FreshSinks.{any_with, any_without}
-use Rattle.drainage.specs.Reaching.{is_between, DifferBetween}
 
 -- ---- the box of one point
 

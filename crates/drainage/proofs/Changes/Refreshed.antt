@@ -1,13 +1,5 @@
 -- A labelling is asked of a tile that is there.
-use Rattle.std.proofs.Common.{◌≡◌, ℕ, ◌<◌, pos, List, length, ◌∙◌, subst}
-use Rattle.std.specs.Prelude.{Contains}
-use Rattle.std.proofs.lemmas.List.{get_or_default}
-use Rattle.lattice.specs.Corners.{Corner}
-use Rattle.catalogue.specs.Tiles.{corners_of}
-use Rattle.catalogue.specs.declared.samples.Samples.{Ghosts}
-use Rattle.border_graph.specs.Others.{corner_at}
-use Rattle.tile_labellings.specs.TileLabellings.{IsTileLabelling}
-use Rattle.drainage.specs.Holding.{Known, IsEntered, IsRight}
+use Rattle.drainage.proofs.Prelude.{Contains, Corner, Ghosts, IsEntered, IsRight, IsTileLabelling, Known, List, ℕ, corner_at, corners_of, get_or_default, length, pos, subst, ◌<◌, ◌∙◌, ◌≡◌}
 
 module _ {S : Type 0} (g : Ghosts S) (a : S) (known : Known) (t : ℕ) (c : Corner) (place : t < length known.corners) (at : corner_at known.corners t ≡ c) (right : IsRight (g.mosaic a) known) where
   pub is_there : corners_of (g.mosaic a) ≡ g.corners a → Contains (g.corners a) c

@@ -1,33 +1,9 @@
 -- A level below both heights of a point that changes, or above both, stays; and one below a sink that comes or goes.
-use Rattle.std.proofs.Common.{◌≡◌, inl, inr, ℕ, ◌+◌, ◌<◌, ◌≤◌, ℤ, ◌≤ℤ◌, ◌<ℤ◌, ◌⊎◌, Bool, true, false, ◌&&◌, ◌||◌, not, IsTrue, List, [], ◌∷◌, length, refl, sym, ap, ap₂, ◌∙◌, subst, arith}
+use Rattle.drainage.proofs.Prelude.{AreLevelsStill, At, Bool, Corner, DifferAt, DifferBetween, Dir, Height, IsNoHigher, IsRimLevel, IsRimPoint, IsSetTo, IsSpared, IsTrue, LiesApart, List, Mosaic, Point, Rim, ℕ, ℤ, [], and_from, and_parts, ap, ap₂, arith, both_ways, cases_Bool, cases_eq, cases_lt, clamps, corner_at, degree_of, directions, false, fun_ext, get_or-set_other, get_or-set_same, get_or_past, height_of, inl, inr, ints, is_adjacent, is_between, is_ground, is_height, is_near, is_outlet, is_sink, length, length-set, level_of, metres, node_number, not, point_of, refl, same_point, share_tile, step, subst, sym, terrain, terrain_is_lawful, true, with_point, with_sinks, without_point, ◌&&◌, ◌+◌, ◌<ℤ◌, ◌<◌, ◌||◌, ◌∙◌, ◌∷◌, ◌≡◌, ◌≤ℤ◌, ◌≤◌, ◌⊎◌}
 use Rattle.std.specs.Prelude.{Option, Some, None, IfSome, slice_set, nat_lt, count_by, int_le}
-use Rattle.std.proofs.Math.Path.{fun_ext}
-use Rattle.std.proofs.lemmas.Bool.{cases_Bool, cases_eq, cases_lt, and_parts, and_from, both_ways}
-use Rattle.std.proofs.lemmas.Int.{ints, clamps}
-use Rattle.std.proofs.lemmas.List.{get_or-set_same, get_or-set_other, get_or_past, length-set}
-use Rattle.lattice.specs.Corners.{Corner}
-use Rattle.lattice.specs.declared.direction.Dir.{Dir}
-use Rattle.lattice.specs.declared.height.Height.{Height}
-use Rattle.lattice.specs.declared.height.Height.TheVariants.{At}
-use Rattle.lattice.specs.declared.point.Point.{Point}
-use Rattle.lattice.specs.Ground.{is_height, metres, is_ground, same_point, is_near, share_tile, is_adjacent, degree_of, is_sink, is_outlet, terrain}
-use Rattle.lattice.specs.Height.{height_of}
-use Rattle.lattice.specs.Lattice.{point_of}
-use Rattle.lattice.specs.Mosaic.{Mosaic}
-use Rattle.lattice.specs.RimPoints.{IsRimPoint}
-use Rattle.lattice.specs.Steps.{step, directions}
 use Rattle.lattice.specs.Terrain.{Terrain, IsPath, LeadsOut, IsFilledLevel, IsLawful, crest, end_of}
 use Rattle.lattice.proofs.IntTests.{le_true, le_false}
-use Rattle.lattice.proofs.Lawful.{terrain_is_lawful}
 use Rattle.lattice.proofs.Levels.{≤ℤ_same, ≤ℤ_antisym}
-use Rattle.catalogue.specs.Tiles.{with_sinks}
-use Rattle.edits.specs.Sinks.{with_point, without_point}
-use Rattle.border_graph.specs.Joining.{Rim}
-use Rattle.border_graph.specs.Linking.{node_number}
-use Rattle.border_graph.specs.Others.{corner_at}
-use Rattle.drainage.specs.Holding.{IsRimLevel, level_of}
-use Rattle.drainage.specs.Reaching.{is_between, DifferAt, DifferBetween}
-use Rattle.drainage.specs.Spared.{IsNoHigher, AreLevelsStill, LiesApart, IsSpared, IsSetTo}
 use Rattle.drainage.proofs.Changes.Reached.{between_itself, differ_with, differ_without, own_with}
 use Rattle.drainage.proofs.Changes.Unreached.{shared_still}
 

@@ -1,37 +1,10 @@
 -- Where no height changes, all that is held is right still.
-use Rattle.std.proofs.Common.{◌≡◌, ◌≢◌, inl, inr, ℕ, ◌-◌, ℤ, pos, ◌+ℤ◌, ◌-ℤ◌, ◌*ℤ◌, int_le, Bool, false, ◌&&◌, refl, sym, ap, ◌∙◌, subst, arith, true≢false}
+use Rattle.drainage.proofs.Prelude.{AreFilledLevels, AreFlows, AreSlotsOf, At, Bool, Corner, DifferAt, DifferBetween, DrainageCache, FlowCache, HasLevel, IsFilledLevel, IsFlow, IsHeldOf, IsRight, Known, Mosaic, Point, Slot, Summarizes, Summary, Terrain, TileCache, Unknown, ℕ, ℤ, and_parts, ap, are_right, arith, cases_Bool, corner_at, false, false_from_ne_true, flow_cache_right, fun_ext, inl, inr, int_le, ints, is_adjacent, is_between, is_ground, is_height, is_outlet, is_void, known_of, le_true, metres, padded_point, past_right, pos, reaches, reaches_along, refl, subst, sym, terrain, true≢false, void, ◌&&◌, ◌*ℤ◌, ◌+ℤ◌, ◌-ℤ◌, ◌-◌, ◌∙◌, ◌≡◌, ◌≢◌}
 use Rattle.std.specs.Prelude.{Option, Some, None, List, Contains, slice_index_or}
-use Rattle.std.proofs.Math.Path.{fun_ext}
-use Rattle.std.proofs.lemmas.Bool.{cases_Bool, and_parts, false_from_ne_true}
-use Rattle.std.proofs.lemmas.Int.{ints}
-use Rattle.lattice.specs.Corners.{Corner}
-use Rattle.lattice.specs.declared.height.Height.TheVariants.{At}
-use Rattle.lattice.specs.declared.point.Point.{Point}
-use Rattle.lattice.specs.Ground.{is_height, metres, is_ground, is_adjacent, is_outlet, terrain}
 use Rattle.lattice.specs.Height.{height_of, samples_at}
-use Rattle.lattice.specs.Mosaic.{Mosaic, void, is_void}
-use Rattle.lattice.specs.Terrain.{Terrain, IsFilledLevel}
-use Rattle.lattice.proofs.IntTests.{le_true}
-use Rattle.border_graph.specs.Joining.{Summarizes}
-use Rattle.border_graph.specs.Others.{corner_at}
-use Rattle.border_graph.specs.Summaries.{Summary}
-use Rattle.flow_d8.specs.Drainage.{AreFilledLevels}
-use Rattle.drainage.specs.FlowCaches.{flow_cache_right, past_right, AreSlotsOf}
-use Rattle.flow_d8.specs.Flows.{IsFlow, AreFlows}
-use Rattle.drainage.specs.LevelRanges.{HasLevel}
-use Rattle.flow_d8.specs.Padded.{padded_point}
 use Rattle.flow_d8.specs.Tiles.{Tiles, no_corner, place_of}
-use Rattle.flow_d8.specs.declared.flow.Flow.TheVariants.{Unknown}
-use Rattle.drainage.specs.declared.flow_cache.FlowCache.{FlowCache}
-use Rattle.drainage.specs.declared.flow_cache.Slot.{Slot}
 use Rattle.drainage.proofs.Changes.LevelRanges.{ends_as}
 use Rattle.flow_d8.proofs.Mosaics.FilledOf.{ground_not_void}
-use Rattle.drainage.specs.Between.{IsHeldOf, are_right}
-use Rattle.drainage.specs.Holding.{Known, IsRight}
-use Rattle.drainage.specs.Reaching.{is_between, reaches_along, reaches, DifferAt, DifferBetween}
-use Rattle.drainage.specs.TileCaches.{known_of}
-use Rattle.drainage.specs.declared.drainage_cache.DrainageCache.{DrainageCache}
-use Rattle.drainage.specs.declared.tile_cache.TileCache.{TileCache}
 use Rattle.drainage.proofs.Changes.Reached.{between_itself}
 use Rattle.drainage.proofs.Changes.SparedLevels.{adjacent_still, outlet_still, rim_level_still}
 use Rattle.drainage.proofs.Changes.Unreached.{labelling_still, summarizes_still}

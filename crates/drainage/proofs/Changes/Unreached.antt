@@ -1,35 +1,10 @@
 -- A tile that reaches no point of a box keeps its block and its summary, where two mosaics differ in that box alone.
 use Rattle.std.proofs.Common.{◌≡◌, inl, inr, ℕ, ◌-◌, ◌*◌, ◌/◌, ◌%◌, ◌<◌, ℤ, pos, ◌+ℤ◌, ◌-ℤ◌, ◌*ℤ◌, nat_abs, int_le, Bool, true, false, not, ◌&&◌, ◌||◌, IsTrue, List, [], ◌∷◌, map, refl, sym, ◌∙◌, ap, ap₂, subst, arith}
-use Rattle.std.specs.Prelude.{nat_lt, count_by, slice_index, slice_index_or}
-use Rattle.std.specs.List.{list_any}
-use Rattle.std.proofs.Math.Path.{fun_ext}
-use Rattle.std.proofs.lemmas.Bool.{and_parts, and_from, ltb-true, false_from_ne_true, both_ways}
-use Rattle.std.proofs.lemmas.Int.{ints}
-use Rattle.lattice.specs.Block.{Block, IsBlockOf, is_rim, rim_number}
-use Rattle.lattice.specs.Corners.{Corner}
-use Rattle.lattice.specs.declared.direction.Dir.{Dir}
-use Rattle.lattice.specs.declared.height.Height.{Height}
-use Rattle.lattice.specs.declared.point.Point.{Point}
-use Rattle.lattice.specs.Ground.{is_height, metres, is_ground, same_point, is_near, share_tile, is_adjacent, degree_of, is_sink, is_outlet}
-use Rattle.lattice.specs.Height.{height_of}
+use Rattle.drainage.proofs.Prelude.{AreSpills, Block, Corner, DifferBetween, Dir, Flooded, Height, IsBlockOf, IsFlooded, IsLabelling, IsSummaryOf, IsTileLabelling, Kept, LabelledGround, Mosaic, Point, Summarizes, Summary, Tile, TileLabelling, and_from, and_parts, block_of, both_ways, count_by, degree_of, directions, false_from_ne_true, fun_ext, height_of, ints, is_adjacent, is_between, is_ground, is_height, is_near, is_outlet, is_rim, is_sink, le_from, le_true, list_any, ltb-true, metres, nat_lt, reaches, reaches_along, rim_number, rim_point, same_point, share_tile, slice_index, slice_index_or, some_side, step, void}
 use Rattle.lattice.specs.Lattice.{IsSampleAt, is_along, holds, point_of}
-use Rattle.lattice.specs.Mosaic.{Tile, Mosaic, void}
-use Rattle.lattice.specs.Steps.{step, directions}
 use Rattle.lattice.proofs.Along.{parts}
-use Rattle.lattice.proofs.IntTests.{le_true, le_from}
 use Rattle.lattice.proofs.Samples.{along_of_sample, row_below}
-use Rattle.lattice.proofs.Multiples.{some_side}
 use Rattle.lattice.proofs.BoolTests.{fourth_fails}
-use Rattle.border_graph.specs.Joining.{IsSummaryOf, Summarizes, rim_point}
-use Rattle.border_graph.specs.Summaries.{Summary}
-use Rattle.tile_labellings.specs.Labellings.{IsFlooded}
-use Rattle.tile_labellings.specs.TileLabellings.{IsTileLabelling}
-use Rattle.tile_labellings.specs.declared.tile_labelling.TileLabelling.{TileLabelling}
-use Rattle.tile_labellings.specs.declared.tile_labelling.TileLabelling.TheVariants.{Kept, Flooded}
-use Rattle.tile_flood.specs.Blocks.{LabelledGround, block_of}
-use Rattle.tile_flood.specs.Labelling.{IsLabelling}
-use Rattle.tile_flood.specs.Spills.{AreSpills}
-use Rattle.drainage.specs.Reaching.{is_between, reaches_along, reaches, DifferBetween}
 
 -- ---- a point of the box that lies beside one of the tile's is reached
 

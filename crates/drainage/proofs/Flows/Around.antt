@@ -1,25 +1,7 @@
 -- The levels at a point and around it, as what is held of one tile tells them.
 use Rattle.std.proofs.Common.{◌≡◌, ◌≢◌, ℕ, ◌+◌, ◌*◌, ◌-◌, ◌<◌, ℤ, pos, Option, Some, None, IsTrue, List, length, get_or, slice_index, slice_index_or, refl, sym, subst}
-use Rattle.std.specs.Prelude.{Contains}
-use Rattle.std.specs.Int.{int_max}
-use Rattle.std.proofs.lemmas.List.{get_or_default}
-use Rattle.lattice.specs.declared.point.Point.{Point}
-use Rattle.lattice.specs.declared.direction.Dir.{Dir}
-use Rattle.lattice.specs.Corners.{Corner}
-use Rattle.lattice.specs.Ground.{share_tile, terrain}
-use Rattle.lattice.specs.Lattice.{Holds, IsIndexOf}
-use Rattle.lattice.specs.Mosaic.{Mosaic, IsMosaic, void}
-use Rattle.lattice.specs.Steps.{step, order_of}
-use Rattle.lattice.proofs.Levels.{level_is_unique}
-use Rattle.catalogue.specs.Tiles.{corners_of}
-use Rattle.catalogue.proofs.Sharing.{shared_from}
+use Rattle.drainage.proofs.Prelude.{Contains, Corner, Dir, Holds, IsFlooded, IsIndexOf, IsMosaic, IsRight, IsRimLevel, Known, LabelledGround, Mosaic, NO_LABEL, OUT, Point, all_around, corner_at, corners_of, get_or_default, int_max, level_ground, level_is_unique, level_of, order_of, share_tile, shared_from, step, terrain, told, void}
 use Rattle.flow_d8.specs.LevelsAround.{IsNear}
-use Rattle.flow_d8.proofs.Steps.Nearby.{all_around, level_ground, told}
-use Rattle.tile_labellings.specs.Labellings.{IsFlooded}
-use Rattle.border_graph.specs.Others.{corner_at}
-use Rattle.tile_flood.specs.Blocks.{LabelledGround}
-use Rattle.tile_flood.specs.Labelling.{OUT, NO_LABEL}
-use Rattle.drainage.specs.Holding.{Known, IsRimLevel, IsRight, level_of}
 use Rattle.drainage.specs.Nearby.{IsToldOf}
 use Rattle.drainage.proofs.Questions.Filled.{level_inside, level_over}
 use Rattle.drainage.proofs.Flows.Found.{start_is}

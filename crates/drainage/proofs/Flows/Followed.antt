@@ -1,14 +1,5 @@
 -- What is held as samples are read, and how a question over levels that are held ends.
-use Rattle.std.proofs.Common.{Result, Ok, Err, sym, subst}
-use Rattle.std.specs.Prelude.{IfErr, OnOk}
-use Rattle.lattice.specs.Mosaic.{Mosaic}
-use Rattle.lattice.specs.declared.refusal.Refusal.{Refusal}
-use Rattle.catalogue.specs.Asked.{Asked}
-use Rattle.catalogue.specs.Readers.{OnlyReads}
-use Rattle.catalogue.specs.declared.samples.Samples.{Ghosts}
-use Rattle.catalogue.proofs.Asking.{asked_passed}
-use Rattle.drainage.specs.declared.drainage_cache.DrainageCache.{DrainageCache}
-use Rattle.drainage.specs.Between.{IsHeldOf, IsHeldFor}
+use Rattle.drainage.proofs.Prelude.{Asked, DrainageCache, Err, Ghosts, IfErr, IsHeldFor, IsHeldOf, Mosaic, Ok, OnOk, OnlyReads, Refusal, Result, asked_passed, subst, sym}
 use Rattle.drainage.specs.Following.{AreRead, IsStopped}
 use Rattle.drainage.proofs.Questions.Questioned.{answered}
 

@@ -1,16 +1,6 @@
 -- The level of a rim point, as it is found and known from then on.
 use Rattle.std.proofs.Common.{◌≡◌, ◌∙◌, ℕ, ◌+◌, ◌*◌, ◌-◌, ◌<◌, ◌==◌, ◌⊎◌, Contains, inl, inr, ℤ, cond, List, length, sym, ap, subst}
-use Rattle.std.specs.Prelude.{Option, Some}
-use Rattle.std.proofs.lemmas.Bool.Decides.{eqb_tells}
-use Rattle.lattice.specs.Corners.{Corner}
-use Rattle.lattice.specs.Mosaic.{Mosaic, IsMosaic}
-use Rattle.catalogue.specs.declared.samples.Samples.{Ghosts}
-use Rattle.border_graph.specs.Links.{IsWayBelow, IsJoinedLevel}
-use Rattle.border_graph.specs.Joining.{Rim}
-use Rattle.border_graph.specs.Linking.{node_number}
-use Rattle.border_graph.specs.Summaries.{Summary}
-use Rattle.border_graph.specs.Placed.{IsPlacedLink}
-use Rattle.drainage.specs.Holding.{Known, IsRimLevel, IsGroundNode, IsRight, IsGrown, Agrees, level_of}
+use Rattle.drainage.proofs.Prelude.{Agrees, Corner, Ghosts, IsGroundNode, IsGrown, IsJoinedLevel, IsMosaic, IsPlacedLink, IsRight, IsRimLevel, IsWayBelow, Known, Mosaic, Option, Rim, Some, Summary, eqb_tells, level_of, node_number}
 use Rattle.drainage.proofs.RimPoints.Agreeing.{all_agree}
 use Rattle.drainage.proofs.RimPoints.RimNodes.{filled_by_joined, rim_level_of, way_out}
 use Rattle.drainage.proofs.Tiles.Whole.{summaries}

@@ -1,32 +1,10 @@
 -- A point's filled level: its level in its own tile, or the greater of that and the level of the rim point which its
 -- label names.
 use Rattle.std.proofs.Common.{◌≡◌, ◌≢◌, ℕ, ◌*◌, ◌-◌, ◌<◌, inl, inr, ℤ, pos, Bool, true, false, IsTrue, List, length, slice_index, slice_index_or, refl, sym, ◌∙◌, subst, arith, Contains}
-use Rattle.std.specs.Prelude.{Option, IsFalse}
-use Rattle.std.specs.Int.{int_max}
-use Rattle.std.proofs.lemmas.List.{get_or_default}
-use Rattle.lattice.specs.Corners.{Corner}
-use Rattle.lattice.specs.Lattice.{point_of}
-use Rattle.lattice.specs.Terrain.{IsFilledLevel, IsPath, end_of, crest}
-use Rattle.lattice.specs.Mosaic.{Mosaic, IsMosaic, is_present, void}
-use Rattle.lattice.specs.Ground.{is_ground, terrain}
-use Rattle.lattice.specs.Block.{IsBlockOf, block_terrain, is_solid, is_rim, rim_number}
-use Rattle.lattice.proofs.Lawful.{terrain_is_lawful, block_is_lawful}
-use Rattle.catalogue.proofs.Presence.{present_iff}
-use Rattle.tile_flood.specs.Blocks.{LabelledGround, block_of, bare_block}
-use Rattle.tile_flood.specs.Labelling.{IsLabelling, OUT, NO_LABEL}
+use Rattle.drainage.proofs.Prelude.{AreReady, Corner, IsBlockOf, IsFalse, IsFilledLevel, IsFlooded, IsGroundNode, IsJoinedLevel, IsLabelling, IsMosaic, IsPath, IsPlacedLink, LabelledGround, Mosaic, NO_LABEL, OUT, Option, Rim, TileGraph, bare_block, block_is_lawful, block_of, block_terrain, corner_at, crest, end_of, get_or_default, int_max, is_ground, is_present, is_rim, is_solid, node_number, point_of, present_iff, rim_number, rim_number_below, terrain, terrain_is_lawful, void}
 use Rattle.tile_flood.proofs.InMosaic.{block_is_part, ground_is, solid_is_ground, inner_outlet_is_outlet}
 use Rattle.tile_flood.proofs.Parts.{level_of_part, level_at_outlet}
-use Rattle.tile_flood.proofs.Raised.{rim_number_below}
 use Rattle.tile_flood.proofs.Squares.{solid_below}
-use Rattle.border_graph.specs.Links.{IsJoinedLevel}
-use Rattle.border_graph.specs.Joining.{Rim}
-use Rattle.border_graph.specs.Linking.{node_number}
-use Rattle.border_graph.specs.Placed.{IsPlacedLink}
-use Rattle.border_graph.specs.Others.{corner_at}
-use Rattle.border_graph.specs.TileGraph.{TileGraph}
-use Rattle.tile_labellings.specs.Labellings.{IsFlooded}
-use Rattle.drainage.specs.RimGraphs.{AreReady}
-use Rattle.drainage.specs.Holding.{IsGroundNode}
 use Rattle.drainage.proofs.RimPoints.RimNodes.{filled_by_joined}
 use Rattle.drainage.proofs.Tiles.Whole.{summaries}
 

@@ -2,18 +2,10 @@
 -- so always over a table.
 use Rattle.std.proofs.Common.{◌≡◌, ◌≢◌, ◌↔◌, ℤ, IsTrue, refl, ap, Result, Ok, Err}
 use Rattle.std.specs.Prelude.{IsOk, IfOk, IfErr, IsErrOf, MatchResult}
-use Rattle.std.proofs.lemmas.Bool.{false≢true}
-use Rattle.lattice.specs.declared.point.Point.{Point}
+use Rattle.drainage.proofs.Prelude.{AreFilledLevels, IsMosaic, Mosaic, Point, Refusal, corners_of, ends_any, false≢true, height_of, is_ground, terrain}
 use Rattle.lattice.specs.declared.height.Height.TheVariants as height
-use Rattle.lattice.specs.declared.refusal.Refusal.{Refusal}
 use Rattle.lattice.specs.declared.refusal.Refusal.TheVariants.{Outside, Void, Device, NoMemory, Failed, Damaged}
-use Rattle.lattice.specs.Mosaic.{Mosaic, IsMosaic}
-use Rattle.lattice.specs.Height.{height_of}
-use Rattle.lattice.specs.Ground.{is_ground, terrain}
-use Rattle.catalogue.specs.Tiles.{corners_of}
 use Rattle.catalogue.specs.Asked.{IsOwnRefusal}
-use Rattle.catalogue.specs.Endings.{ends_any}
-use Rattle.flow_d8.specs.Drainage.{AreFilledLevels}
 use Rattle.watershed.specs.Questions.{IsAnswered, IsUnanswered}
 use Rattle.drainage.specs.Asking.{IsHeldByNone, may_refuse}
 use Rattle.drainage.proofs.Caches.Holders.{outside_from}

@@ -1,9 +1,5 @@
 -- A point by its index in a tile that holds it.
-use Rattle.std.proofs.Common.{◌≡◌, ℕ, ◌*◌, ◌<◌, subst}
-use Rattle.lattice.specs.declared.point.Point.{Point}
-use Rattle.lattice.specs.Corners.{Corner}
-use Rattle.lattice.specs.Lattice.{IsIndexOf, point_of}
-use Rattle.lattice.specs.Mosaic.{Mosaic}
+use Rattle.drainage.proofs.Prelude.{Corner, IsIndexOf, Mosaic, Point, ℕ, point_of, subst, ◌*◌, ◌<◌, ◌≡◌}
 use Rattle.lattice.proofs.Samples.{index_below, point_at_index}
 
 pub record IsAt (m : Mosaic) (c : Corner) (p : Point) (e : ℕ) : Type 0 where

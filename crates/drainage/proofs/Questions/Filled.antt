@@ -1,24 +1,7 @@
 -- The filled level of a point, from its own tile and the water's way out.
 use Rattle.std.proofs.Common.{◌≡◌, ◌≢◌, ℕ, ◌<◌, ℤ, pos, IsTrue, List, length, get_or, slice_index, slice_index_or, refl, sym, ◌∙◌, subst}
-use Rattle.std.specs.Prelude.{IsFalse}
-use Rattle.std.specs.Int.{int_max}
-use Rattle.std.proofs.lemmas.List.{get_or_default}
-use Rattle.lattice.specs.declared.point.Point.{Point}
-use Rattle.lattice.specs.Corners.{Corner}
-use Rattle.lattice.specs.Lattice.{IsIndexOf, point_of}
-use Rattle.lattice.specs.Terrain.{IsFilledLevel}
-use Rattle.lattice.specs.Mosaic.{Mosaic, IsMosaic, void}
-use Rattle.lattice.specs.Ground.{is_ground, is_height, metres, terrain}
-use Rattle.lattice.specs.Height.{height_of}
-use Rattle.lattice.specs.declared.height.Height.{Height}
+use Rattle.drainage.proofs.Prelude.{Corner, Height, IsFalse, IsFilledLevel, IsFlooded, IsGroundNode, IsIndexOf, IsMosaic, IsRight, IsRimLevel, Known, LabelledGround, Mosaic, NO_LABEL, OUT, Point, Rim, corner_at, get_or_default, height_of, int_max, is_ground, is_height, metres, node_number, point_of, terrain, void}
 use Rattle.lattice.specs.declared.height.Height.TheVariants.{Outside, Void, At}
-use Rattle.tile_flood.specs.Blocks.{LabelledGround}
-use Rattle.tile_flood.specs.Labelling.{OUT, NO_LABEL}
-use Rattle.border_graph.specs.Joining.{Rim}
-use Rattle.border_graph.specs.Linking.{node_number}
-use Rattle.border_graph.specs.Others.{corner_at}
-use Rattle.tile_labellings.specs.Labellings.{IsFlooded}
-use Rattle.drainage.specs.Holding.{Known, IsRimLevel, IsGroundNode, IsRight}
 use Rattle.drainage.proofs.RimPoints.Agreeing.{joined_at}
 use Rattle.drainage.proofs.Questions.Asked.{IsAt, is_at}
 use Rattle.drainage.proofs.Flows.Over.{ground_by_label, void_by_label, out_level, ground_node, over_level}

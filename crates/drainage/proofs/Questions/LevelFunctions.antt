@@ -1,10 +1,5 @@
 -- A function that gives the filled level of each ground point.
-use Rattle.std.proofs.Common.{◌≡◌, ℤ, Bool, true, false, refl}
-use Rattle.std.proofs.lemmas.Bool.{false≢true}
-use Rattle.lattice.specs.declared.point.Point.{Point}
-use Rattle.lattice.specs.Terrain.{IsFilledLevel}
-use Rattle.lattice.specs.Mosaic.{Mosaic, IsMosaic, void}
-use Rattle.lattice.specs.Ground.{is_ground, terrain}
+use Rattle.drainage.proofs.Prelude.{Bool, IsFilledLevel, IsMosaic, Mosaic, Point, ℤ, false, false≢true, is_ground, refl, terrain, true, void, ◌≡◌}
 use Rattle.lattice.proofs.FilledLevels.{filled_level_exists}
 use Rattle.drainage.specs.Draining.{LevelFunctionsExist}
 

@@ -1,16 +1,6 @@
 -- Questions one after another, and what their refusals are.
-use Rattle.std.proofs.Common.{◌≡◌, ◌⊎◌, inl, inr, IsTrue, Result, Ok, Err, refl, sym, ap, ◌∙◌, subst}
+use Rattle.drainage.proofs.Prelude.{Asked, Damaged, Err, Ghosts, IsGrown, IsRefused, IsRight, IsTrue, Known, NoMemory, Ok, OnlyReads, Refusal, Result, ap, asked, asked_on, asked_passed, ends_any, err_from_is_err_and, inl, inr, reads_as, reads_nothing, reads_on, refl, subst, sym, ◌∙◌, ◌≡◌, ◌⊎◌}
 use Rattle.std.specs.Prelude.{IfErr, IsErrAnd}
-use Rattle.std.proofs.lemmas.Result.{err_from_is_err_and}
-use Rattle.lattice.specs.declared.refusal.Refusal.{Refusal}
-use Rattle.lattice.specs.declared.refusal.Refusal.TheVariants.{NoMemory, Damaged}
-use Rattle.catalogue.specs.Asked.{Asked}
-use Rattle.catalogue.specs.Endings.{ends_any}
-use Rattle.catalogue.specs.Readers.{OnlyReads}
-use Rattle.catalogue.specs.declared.samples.Samples.{Ghosts}
-use Rattle.catalogue.proofs.Reading.{reads_as, reads_nothing, reads_on}
-use Rattle.catalogue.proofs.Asking.{asked, asked_on, asked_passed}
-use Rattle.drainage.specs.Holding.{Known, IsRight, IsGrown, IsRefused}
 
 -- each read of a question that was answered was answered
 pub asked_reads : {S T : Type 0} (g : Ghosts S) (a b : S) (x : T) → Asked g a b (Ok x) → OnlyReads {T = Unit {0}} g a b (Ok tt)

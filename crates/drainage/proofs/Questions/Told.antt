@@ -1,18 +1,9 @@
 -- What flows that tell all say of a point to who searches over them.
 use Rattle.std.proofs.Common.{◌≡◌, ℤ, Bool, IsFalse, Option, Some, None, List, Result, Ok, Err, refl, sym, ◌∙◌, subst, true≢false}
-use Rattle.std.specs.Prelude.{IfOk, IfSome}
-use Rattle.lattice.specs.declared.point.Point.{Point}
-use Rattle.lattice.specs.Mosaic.{Mosaic}
-use Rattle.lattice.specs.Ground.{is_ground, terrain}
-use Rattle.lattice.specs.declared.refusal.Refusal.{Refusal}
-use Rattle.flow_d8.specs.Drainage.{AreFilledLevels}
+use Rattle.drainage.proofs.Prelude.{AreFilledLevels, Beside, Flat, FlatTo, Flow, IfOk, IfSome, IsToldOf, Mosaic, NoGround, OnLevels, Outlet, Point, Refusal, To, Unknown, is_ground, terrain}
 use Rattle.flow_d8.specs.Donors.{AreToldBy, DrainsBack}
-use Rattle.flow_d8.specs.LevelsAround.{OnLevels}
-use Rattle.flow_d8.specs.declared.flow.Flow.{Flow}
-use Rattle.flow_d8.specs.declared.flow.Flow.TheVariants.{Unknown, NoGround, Outlet, To, Beside, Flat, FlatTo}
 use Rattle.flow_d8.specs.Flows.{IsFlow, IsTellingAll, Drains}
 use Rattle.flow_d8.proofs.Sayings.Draining.{telling_direction, telling_ground}
-use Rattle.watershed.specs.FlowSource.{IsToldOf}
 
 pub draining_tells : (f : Flow) → Drains f → IsTellingAll f
 draining_tells Unknown drains = absurd drains

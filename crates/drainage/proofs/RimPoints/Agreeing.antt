@@ -1,9 +1,5 @@
 -- Where what is known is right, the summaries of all tiles agree with it.
-use Rattle.std.proofs.Common.{ℕ, ℤ, sym, subst}
-use Rattle.lattice.specs.Mosaic.{Mosaic, IsMosaic}
-use Rattle.border_graph.specs.Links.{IsJoinedLevel}
-use Rattle.border_graph.specs.Placed.{IsPlacedLink}
-use Rattle.drainage.specs.Holding.{Known, IsRimLevel, IsRight, Agrees}
+use Rattle.drainage.proofs.Prelude.{Agrees, IsJoinedLevel, IsMosaic, IsPlacedLink, IsRight, IsRimLevel, Known, Mosaic, ℕ, ℤ, subst, sym}
 use Rattle.drainage.proofs.RimPoints.RimNodes.{joined_by_filled}
 use Rattle.drainage.proofs.Tiles.Whole.{summaries, all_fit}
 

@@ -1,10 +1,5 @@
 -- Corners that stand in a list once, each in another list, are no more than that has.
-use Rattle.std.proofs.Common.{◌≡◌, ℕ, zero, suc, ◌<◌, ◌≤◌, ◌⊎◌, List, [], ◌∷◌, ◌++◌, length, get_or, inl, inr, refl, sym, ap, ◌∙◌, subst, arith}
-use Rattle.std.specs.Prelude.{Contains}
-use Rattle.std.proofs.lemmas.Bool.{cases_eq, cases_lt}
-use Rattle.std.proofs.lemmas.List.{get_or_default}
-use Rattle.lattice.specs.Corners.{Corner}
-use Rattle.flow_d8.specs.Tiles.{AreDistinct, no_corner}
+use Rattle.drainage.proofs.Prelude.{AreDistinct, Contains, Corner, List, ℕ, [], ap, arith, cases_eq, cases_lt, get_or, get_or_default, inl, inr, length, no_corner, refl, subst, suc, sym, zero, ◌++◌, ◌<◌, ◌∙◌, ◌∷◌, ◌≡◌, ◌≤◌, ◌⊎◌}
 use Rattle.flow_d8.proofs.Samples.Slots.{distinct_push, longer, as_before, at_end}
 
 -- i is matched with j, or with m, where j stands in for that

@@ -1,23 +1,15 @@
 -- The ways of a node, by its number.
 use Rattle.std.proofs.Common.{◌≡◌, ◌≢◌, ◌⊎◌, inl, inr, ℕ, ◌+◌, ◌*◌, ◌-◌, ◌/◌, ◌%◌, ◌<◌, ◌≤◌, List, [], length, pos, refl, sym, ap, ap₂, ◌∙◌, subst, arith, mod-lt}
-use Rattle.std.specs.Prelude.{Option, Some}
-use Rattle.std.proofs.lemmas.Bool.{cases_eq}
-use Rattle.std.proofs.lemmas.List.{length-map}
+use Rattle.drainage.proofs.Prelude.{Corner, Fits, Option, Some, Summary, TileGraph, cases_eq, get_or-map, length-map, loaded_at, node_number}
 use Rattle.std.proofs.lemmas.List.Sorted.{IsPermutation-refl}
-use Rattle.std.proofs.Math.ListN.{get_or-map}
-use Rattle.lattice.specs.Corners.{Corner}
 use Rattle.tile_flood.proofs.Squares.{cell_of}
-use Rattle.border_graph.specs.Summaries.{Summary}
 use Rattle.border_graph.specs.Joining.{Rim, AreOfMosaic, summary_at}
-use Rattle.border_graph.specs.Linking.{node_number}
 use Rattle.border_graph.specs.Edges.{AreEdges}
 use Rattle.border_graph.specs.Others.{corner_at, AreTileEdges}
 use Rattle.border_graph.specs.Reordered.{IsReordered}
 use Rattle.border_graph.specs.Placed.{IsPlacedLink, IsOfTile}
-use Rattle.border_graph.specs.TileGraph.{TileGraph}
 use Rattle.border_graph.specs.declared.edge_source.Edge.{Edge}
 use Rattle.border_graph.proofs.TileEdges.{are_edges, none_listed}
-use Rattle.drainage.specs.RimGraphs.{loaded_at, Fits}
 
 node_is : (node size : ℕ) → 0 < node → 1 + ((node - 1) / size) * size + (node - 1) % size ≡ node
 node_is node size some = let cell : node - 1 ≡ ((node - 1) / size) * size + (node - 1) % size = cell_of size (node - 1) in let one : 1 + (node - 1) ≡ node = omega arith in sum (((node - 1) / size) * size) ((node - 1) % size) (node - 1) node cell one

@@ -1,20 +1,7 @@
 -- The filled levels of the points of a tile's rim, found one after another.
 use Rattle.std.proofs.Common.{◌≡◌, ℕ, ◌+◌, ◌*◌, ◌-◌, ◌<◌, ℤ, IsTrue, IsFalse, Option, Some, None, List, [], ◌∷◌, ◌++◌, length, get_or, inl, inr, refl, sym, ap, ◌∙◌, subst, arith, true≢false}
-use Rattle.std.specs.Prelude.{MatchOption, slice_index_or}
-use Rattle.std.proofs.lemmas.Bool.{cases_eq}
-use Rattle.std.proofs.lemmas.List.{get_or-append-add, get_or_append_left, length-append}
-use Rattle.lattice.specs.Block.{is_rim, rim_number}
-use Rattle.lattice.specs.Corners.{Corner}
-use Rattle.lattice.specs.Lattice.{point_of}
-use Rattle.lattice.specs.Ground.{is_ground, terrain}
-use Rattle.lattice.specs.Mosaic.{Mosaic, IsMosaic, void}
-use Rattle.lattice.specs.RimPoints.{IsRimPoint}
-use Rattle.lattice.specs.Terrain.{IsFilledLevel}
-use Rattle.lattice.specs.declared.point.Point.{Point}
+use Rattle.drainage.proofs.Prelude.{AreRimLevels, AreRimLevelsTo, Corner, IsFilledLevel, IsLevelOrVoid, IsMosaic, IsRimPoint, MatchOption, Mosaic, Point, cases_eq, get_or-append-add, get_or_append_left, is_ground, is_rim, length-append, level_ground, point_of, rim_number, slice_index_or, terrain, void}
 use Rattle.lattice.proofs.RimNumbers.{one_index, number_below}
-use Rattle.flow_d8.proofs.Steps.Nearby.{level_ground}
-use Rattle.tile_flood.specs.Raising.{AreRimLevels}
-use Rattle.drainage.specs.TileLevels.{IsLevelOrVoid, AreRimLevelsTo}
 
 pub level_or_void_is : (m : Mosaic) (p : Point) (found : Option ℤ) (level : ℤ) → MatchOption found (level ≡ void) (λ l. level ≡ l) → MatchOption found (IsFalse (is_ground m p)) (λ l. IsFilledLevel (terrain m) p l) → IsLevelOrVoid m p level
 level_or_void_is m p (Some l) level same filled = record {

@@ -1,22 +1,7 @@
 -- A ground point on a tile's rim, as a node of the graph of all tiles.
-use Rattle.std.proofs.Common.{◌≡◌, ℕ, ◌+◌, ◌*◌, ◌-◌, ◌^◌, ◌<◌, ◌≤◌, ℤ, IsTrue, List, [], ◌∷◌, length, map, sym, ap, subst, arith}
-use Rattle.std.specs.Prelude.{Option}
-use Rattle.std.proofs.Math.Nat.{mul-le-mul_right}
-use Rattle.lattice.specs.Corners.{Corner}
-use Rattle.lattice.specs.Lattice.{point_of}
-use Rattle.lattice.specs.Mosaic.{Mosaic, IsMosaic}
-use Rattle.lattice.specs.Ground.{is_ground, terrain}
-use Rattle.lattice.specs.RimPoints.{IsRimPoint}
-use Rattle.lattice.specs.Terrain.{IsFilledLevel}
-use Rattle.border_graph.specs.Links.{IsWayBelow, IsJoinedLevel}
+use Rattle.drainage.proofs.Prelude.{AreReady, Corner, IsFilledLevel, IsJoinedLevel, IsMosaic, IsPlacedLink, IsRimLevel, IsRimPoint, IsTrue, IsWayBelow, List, Mosaic, Option, TileGraph, ℕ, ℤ, [], ap, arith, corner_at, is_ground, length, map, mul-le-mul_right, node_number, point_of, subst, sym, terrain, ◌*◌, ◌+◌, ◌-◌, ◌<◌, ◌^◌, ◌∷◌, ◌≡◌, ◌≤◌}
 use Rattle.border_graph.specs.Joining.{Node, Outlet, Rim, summary_at, IsLink, IsThere, IsRimNumberOf}
-use Rattle.border_graph.specs.Linking.{node_number}
 use Rattle.border_graph.proofs.Joined.{there_at, at_node, ground_at, solid_at, joined_is_filled, filled_is_joined, is_joined}
-use Rattle.border_graph.specs.Others.{corner_at}
-use Rattle.border_graph.specs.Placed.{IsPlacedLink}
-use Rattle.border_graph.specs.TileGraph.{TileGraph}
-use Rattle.drainage.specs.Holding.{IsRimLevel}
-use Rattle.drainage.specs.RimGraphs.{AreReady}
 use Rattle.border_graph.proofs.PlacedWays.{joined_over_links, placed_over_links, to_placed}
 use Rattle.drainage.proofs.Tiles.Whole.{summaries, are_summaries, as_many, corner_of_summary}
 

@@ -1,32 +1,13 @@
 -- What a tile's own flood and its summary are.
 use Rattle.std.proofs.Common.{◌≡◌, ℕ, ◌+◌, ◌*◌, ◌-◌, ◌<◌, ℤ, inl, inr, false, true≢false, IsTrue, List, [], ◌∷◌, ◌++◌, sym, ◌∙◌, ap, subst, arith, length-append}
-use Rattle.std.proofs.lemmas.Bool.{cases_Bool, cases_lt}
-use Rattle.std.proofs.lemmas.Bool.Decides.{Decides-int_eq}
-use Rattle.std.proofs.lemmas.List.{get_or_append_left}
+use Rattle.drainage.proofs.Prelude.{AreRimPointsIn, AreSpills, Block, Corner, Decides-int_eq, HasOtherRimHeight, IsBlockOf, IsFlooded, IsLabelling, IsMosaic, IsRimPoint, IsRimPointIn, LabelledGround, Mosaic, RimPoint, Spill, bare_block, block_is_lawful, block_of, block_terrain, cases_Bool, cases_lt, get_or_append_left, height_of, int_eq, is_outlet, is_rim, is_solid, metres, point_of, rim_number, slice_index, slice_index_or, void}
 use Rattle.std.proofs.Math.Seq.{get_or-append_seam}
-use Rattle.std.specs.Ordering.{int_eq}
-use Rattle.std.specs.Prelude.{slice_index, slice_index_or}
-use Rattle.lattice.specs.Corners.{Corner}
-use Rattle.lattice.specs.Lattice.{point_of}
-use Rattle.lattice.specs.RimPoints.{IsRimPoint}
-use Rattle.lattice.specs.Mosaic.{Mosaic, IsMosaic, void}
-use Rattle.lattice.specs.Ground.{is_outlet, metres}
-use Rattle.lattice.specs.Height.{height_of}
-use Rattle.lattice.specs.Block.{Block, IsBlockOf, block_terrain, is_solid, is_rim, rim_number}
-use Rattle.lattice.proofs.Lawful.{block_is_lawful}
 use Rattle.lattice.proofs.Levels.{level_is_unique, level_of_outlet}
-use Rattle.tile_flood.specs.declared.passing.Spill.{Spill}
-use Rattle.tile_flood.specs.Blocks.{LabelledGround, block_of, bare_block}
-use Rattle.tile_flood.specs.Labelling.{IsLabelling}
-use Rattle.tile_flood.specs.Spills.{AreSpills}
 use Rattle.tile_flood.proofs.Passages.{spills_of_ground}
 use Rattle.tile_flood.proofs.Raised.{rim_number_below, lowest_height}
 use Rattle.tile_flood.proofs.Squares.{rim_is_exit, solid_if}
-use Rattle.border_graph.specs.declared.summary.RimPoint.{RimPoint}
 use Rattle.border_graph.specs.Joining.{nowhere, IsRimOf, IsSummaryOf}
 use Rattle.lattice.proofs.RimNumbers.{one_rim_point}
-use Rattle.tile_labellings.specs.Labellings.{IsFlooded}
-use Rattle.drainage.specs.Flooded.{IsRimPointIn, HasOtherRimHeight, AreRimPointsIn}
 
 module _ (m : Mosaic) (is : IsMosaic m) (c : Corner) (block : Block) (given : IsBlockOf m c block) where
   module _ (labels : List ℕ) (rim : List RimPoint) (points : AreRimPointsIn m c labels rim (4 * (m.side - 1))) where

@@ -1,25 +1,6 @@
 -- Tiles at hand stay right as samples are read, and what can't be on a mosaic.
-use Rattle.std.proofs.Common.{◌≡◌, ℕ, ◌<◌, ◌≤◌, IsTrue, Result, List, length, get_or, sym, ◌∙◌, subst, arith, true≢false}
-use Rattle.std.specs.Prelude.{Contains}
-use Rattle.lattice.specs.Corners.{Corner}
-use Rattle.lattice.specs.Ground.{is_ground, terrain}
-use Rattle.lattice.specs.Lattice.{Holds}
-use Rattle.lattice.specs.Limits.{most_tiles}
-use Rattle.lattice.specs.Mosaic.{Mosaic, IsMosaic, void}
-use Rattle.lattice.specs.declared.point.Point.{Point}
-use Rattle.lattice.specs.declared.refusal.Refusal.{Refusal}
-use Rattle.catalogue.specs.Readers.{OnlyReads}
-use Rattle.catalogue.specs.Tiles.{corners_of}
-use Rattle.catalogue.specs.declared.samples.Samples.{Ghosts}
-use Rattle.flow_d8.specs.Drainage.{CrossesFlat}
-use Rattle.flow_d8.proofs.Mosaics.MosaicGrid.{mosaic_is_grid}
+use Rattle.drainage.proofs.Prelude.{AreDistinct, Contains, Corner, CrossesFlat, Drains, Flow, Ghosts, Holds, IsAtHand, IsGridOf, IsHeldByNone, IsMosaic, IsTrue, List, Mosaic, OnGround, OnlyReads, Point, Refusal, Result, Tiles, ℕ, arith, corners_of, get_or, is_ground, length, mosaic_is_full, mosaic_is_grid, most_tiles, no_corner, subst, sym, terrain, true≢false, void, ◌<◌, ◌∙◌, ◌≡◌, ◌≤◌}
 use Rattle.flow_d8.proofs.Paths.Exists.{distance_exists}
-use Rattle.flow_d8.specs.declared.flow.Flow.{Flow}
-use Rattle.flow_d8.specs.Flows.{Drains}
-use Rattle.flow_d8.specs.FlowGrids.{IsAtHand, IsGridOf}
-use Rattle.flow_d8.specs.Tiles.{Tiles, AreDistinct, OnGround, no_corner}
-use Rattle.flow_d8.proofs.Mosaics.FullTerrain.{mosaic_is_full}
-use Rattle.drainage.specs.Asking.{IsHeldByNone}
 use Rattle.drainage.proofs.RimPoints.Apart.{fewer_than}
 use Rattle.drainage.proofs.Caches.Holders.{no_ground}
 use Rattle.drainage.proofs.Questions.LevelFunctions.{level_function}

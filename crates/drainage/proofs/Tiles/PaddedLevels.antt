@@ -1,27 +1,11 @@
 -- A tile's levels and those around it, place by place.
-use Rattle.std.proofs.Common.{◌≡◌, ◌∙◌, ℕ, zero, suc, ◌+◌, ◌-◌, ◌*◌, ◌/◌, ◌%◌, ◌<◌, ◌≤◌, ℤ, Bool, true, false, IsTrue, List, [], ◌∷◌, ◌++◌, length, take, drop, inl, inr, ⊎_elim, refl, sym, ap, ap₂, subst, arith, true≢false}
-use Rattle.std.specs.Prelude.{All, Contains, ◌↔◌, slice_index_or, slice_set}
-use Rattle.std.specs.List.{list_any}
-use Rattle.std.proofs.lemmas.Bool.{cases_Bool, cases_eq, cases_lt, or_cases}
-use Rattle.std.proofs.lemmas.Int.{ints}
+use Rattle.drainage.proofs.Prelude.{All, ArePadded, AreTileLevels, Bool, Contains, IsLevelOrVoid, IsMosaic, IsTile, IsTrue, List, Mosaic, Strip, Tile, ℕ, ℤ, [], ap, ap₂, arith, cases_Bool, cases_eq, cases_lt, corners_of, drop, false, get_or-set_other, get_or-set_same, inl, inr, ints, is_present, length, length-set, list_any, one_column, one_row, or_cases, padded_point, place_in, point_of, present_iff, refl, same_place, slice_index_or, slice_set, subst, suc, sym, take, true, true≢false, void, zero, ⊎_elim, ◌%◌, ◌*◌, ◌++◌, ◌+◌, ◌-◌, ◌/◌, ◌<◌, ◌↔◌, ◌∙◌, ◌∷◌, ◌≡◌, ◌≤◌}
 use Rattle.std.proofs.lemmas.Grind.{rows}
-use Rattle.std.proofs.lemmas.List.{length-set, get_or-set_other, get_or-set_same}
 use Rattle.std.proofs.Math.Seq.{take-append_seam}
 use Rattle.std.proofs.lemmas.Nat.{div-mul-add, mod-mul-add, mul-add-lt}
 use Rattle.lattice.specs.Corners.{Corner, is_corner, same_corner}
-use Rattle.lattice.specs.Lattice.{point_of}
-use Rattle.lattice.specs.Mosaic.{Mosaic, Tile, IsMosaic, IsTile, is_present, void}
 use Rattle.lattice.proofs.CornerOrder.{same_says}
-use Rattle.lattice.proofs.SamePoints.{same_place}
-use Rattle.catalogue.specs.Tiles.{corners_of}
-use Rattle.catalogue.proofs.Presence.{present_iff}
-use Rattle.tile_flood.specs.Raising.{AreTileLevels}
-use Rattle.flow_d8.specs.Padded.{padded_point, ArePadded}
-use Rattle.flow_d8.specs.Preparing.{place_in}
-use Rattle.flow_d8.proofs.Padded.PaddedPlaces.{one_row, one_column}
-use Rattle.drainage.specs.TileLevels.{IsLevelOrVoid}
 use Rattle.drainage.specs.Padded.{IsPlaceRight, IsTileCopied, IsStrip, strip_of, AreFilledTo, IsFilledAround}
-use Rattle.drainage.specs.declared.preparing.Strip.{Strip}
 
 -- a tile that some corner has lies in whole degrees
 pub corner_if : (n : ℕ) (c : Corner) (tiles : List Tile) → All (IsTile n) tiles → IsTrue (list_any (λ t. same_corner t.corner c) tiles) → IsTrue (is_corner c)

@@ -1,24 +1,6 @@
 -- The levels of a whole tile, from its labelling and those of its rim.
-use Rattle.std.proofs.Common.{◌≡◌, ℕ, ◌<◌, ◌⊎◌, inl, inr, ℤ, IsTrue, List, Result, Ok, Err, length, refl, sym, ap, ◌∙◌, subst}
-use Rattle.std.specs.Prelude.{IfErr, Contains}
-use Rattle.lattice.specs.Corners.{Corner}
-use Rattle.lattice.specs.Mosaic.{Mosaic, IsMosaic}
-use Rattle.lattice.specs.declared.refusal.Refusal.{Refusal}
-use Rattle.lattice.specs.declared.refusal.Refusal.TheVariants.{NoMemory, Damaged}
-use Rattle.catalogue.specs.Asked.{Asked}
-use Rattle.catalogue.specs.Endings.{ends_any}
-use Rattle.catalogue.specs.Readers.{OnlyReads}
-use Rattle.catalogue.specs.Tiles.{corners_of}
-use Rattle.catalogue.specs.declared.samples.Samples.{Ghosts}
-use Rattle.catalogue.proofs.Presence.{present_iff}
-use Rattle.border_graph.specs.Others.{corner_at}
-use Rattle.tile_flood.specs.Blocks.{LabelledGround}
+use Rattle.drainage.proofs.Prelude.{Asked, Contains, Corner, Damaged, Err, Ghosts, HeldLabelling, IfErr, IsEntered, IsFlooded, IsMosaic, IsRight, IsTileLabelling, IsTrue, Known, LabelledGround, List, Mosaic, NoMemory, Ok, OnlyReads, Refusal, Result, TileLabelling, ℕ, ℤ, ap, corner_at, corners_of, ends_any, inl, inr, length, present_iff, refl, subst, sym, ◌<◌, ◌∙◌, ◌≡◌, ◌⊎◌}
 use Rattle.tile_flood.specs.Raising.{AreRimLevels, IsRimFilled}
-use Rattle.tile_labellings.specs.Labellings.{IsFlooded}
-use Rattle.tile_labellings.specs.TileLabellings.{IsTileLabelling}
-use Rattle.tile_labellings.specs.declared.tile_labelling.TileLabelling.{TileLabelling}
-use Rattle.drainage.specs.declared.labelling_cache.HeldLabelling.{HeldLabelling}
-use Rattle.drainage.specs.Holding.{Known, IsEntered, IsRight}
 use Rattle.drainage.proofs.Questions.Questioned.{answered, stopped, wanting}
 use Rattle.drainage.proofs.Changes.Refreshed as refreshed
 

@@ -1,22 +1,7 @@
 -- The points beside a ground point of a tile, by the tile's labelling.
 use Rattle.std.proofs.Common.{◌≡◌, ◌≢◌, ℕ, zero, suc, ◌<◌, Bool, true, false, not, cond, ◌&&◌, ◌||◌, IsTrue, List, [], ◌∷◌, length, get_or, refl, sym, ap, ◌∙◌, subst, arith, Contains}
-use Rattle.std.specs.Prelude.{nat_lt, slice_index}
-use Rattle.lattice.specs.Corners.{Corner}
-use Rattle.lattice.specs.declared.point.Point.{Point}
-use Rattle.lattice.specs.declared.direction.Dir.{Dir}
-use Rattle.lattice.specs.declared.direction.Step.{Step}
-use Rattle.lattice.specs.Lattice.{Holds, IsIndexOf}
-use Rattle.lattice.specs.Steps.{step}
+use Rattle.drainage.proofs.Prelude.{Corner, Dir, Holds, IsBlockOf, IsFlooded, IsIndexOf, IsLabelling, IsMosaic, LabelledGround, Mosaic, NO_LABEL, Point, Step, block_of, corners_of, degree_of, is_adjacent, is_ground, is_near, is_outlet, is_present, is_sink, nat_lt, present_iff, same_point, share_tile, shared_from, slice_index, step}
 use Rattle.lattice.specs.Stepping.{reach_of, fits_point}
-use Rattle.lattice.specs.Mosaic.{Mosaic, IsMosaic, is_present}
-use Rattle.lattice.specs.Ground.{is_ground, is_near, is_sink, same_point, share_tile, is_adjacent, degree_of, is_outlet}
-use Rattle.lattice.specs.Block.{IsBlockOf}
-use Rattle.catalogue.specs.Tiles.{corners_of}
-use Rattle.catalogue.proofs.Presence.{present_iff}
-use Rattle.catalogue.proofs.Sharing.{shared_from}
-use Rattle.tile_flood.specs.Blocks.{LabelledGround, block_of}
-use Rattle.tile_flood.specs.Labelling.{IsLabelling, NO_LABEL}
-use Rattle.tile_labellings.specs.Labellings.{IsFlooded}
 use Rattle.drainage.proofs.Questions.Asked.{IsAt, is_at}
 use Rattle.drainage.proofs.Flows.Over.{ground_labelled, never_unlabelled}
 

@@ -1,20 +1,9 @@
 -- Where some tiles are loaded, there are summaries of all tiles that agree with them.
-use Rattle.std.proofs.Common.{◌≡◌, ℕ, suc, ◌<◌, pos, inl, inr, IsTrue, List, [], ◌∷◌, length, map, get_or, refl, sym, ap, ap₂, ◌∙◌, subst, arith}
-use Rattle.std.specs.Prelude.{Option, Some, None}
-use Rattle.std.proofs.lemmas.Bool.{cases_lt}
-use Rattle.std.proofs.lemmas.List.{length-map, get_or_past}
-use Rattle.std.proofs.Math.ListN.{get_or-map}
-use Rattle.lattice.specs.Corners.{Corner, is_corner}
-use Rattle.lattice.specs.Mosaic.{Mosaic, Tile, IsMosaic}
-use Rattle.catalogue.specs.Tiles.{corners_of}
-use Rattle.border_graph.specs.Summaries.{Summary}
+use Rattle.drainage.proofs.Prelude.{AreReady, Corner, Fits, IsMosaic, IsTrue, List, Mosaic, None, Option, Some, Summary, Tile, TileGraph, ℕ, [], ap, ap₂, arith, cases_lt, corner_at, corners_of, get_or, get_or-map, get_or_past, inl, inr, is_corner, length, length-map, loaded_at, map, pos, refl, subst, suc, sym, ◌<◌, ◌∙◌, ◌∷◌, ◌≡◌}
 use Rattle.border_graph.specs.Joining.{summary_at, Summarizes, AreSummaries}
 use Rattle.border_graph.proofs.Forests.Sufficing.{summarizes_all}
 use Rattle.border_graph.proofs.Tabulated.{tabulated, length-tabulated, at_number}
 use Rattle.border_graph.proofs.SummariesExist.{summary_exists}
-use Rattle.border_graph.specs.Others.{corner_at}
-use Rattle.border_graph.specs.TileGraph.{TileGraph}
-use Rattle.drainage.specs.RimGraphs.{loaded_at, Fits, AreReady}
 use Rattle.drainage.proofs.Caches.LoadingTiles.{some_is, not_both}
 
 same_list : {X : Type 0} (d : X) (xs ys : List X) → length xs ≡ length ys → ((i : ℕ) → i < length xs → get_or xs i d ≡ get_or ys i d) → xs ≡ ys

@@ -1,18 +1,5 @@
 -- The codes of the samples of a tile, told one after another.
-use Rattle.std.proofs.Common.{◌≡◌, ℕ, ◌+◌, ◌<◌, List, [], ◌∷◌, ◌++◌, length, get_or, inl, inr, refl, sym, ap, ◌∙◌, subst, arith, true≢false}
-use Rattle.std.proofs.lemmas.Bool.{cases_eq}
-use Rattle.std.proofs.lemmas.List.{get_or-append-add, get_or_append_left, length-append}
-use Rattle.lattice.specs.Corners.{Corner}
-use Rattle.lattice.specs.Lattice.{point_of}
-use Rattle.lattice.specs.Ground.{terrain}
-use Rattle.lattice.specs.Mosaic.{Mosaic, IsMosaic}
-use Rattle.lattice.specs.declared.point.Point.{Point}
-use Rattle.flow_d8.specs.Flows.{direction_of}
-use Rattle.flow_d8.specs.LevelsAround.{OnLevels}
-use Rattle.flow_d8.specs.declared.flow.Flow.{Flow}
-use Rattle.flow_d8.specs.declared.flow.Flow.TheVariants.{NoGround}
-use Rattle.watershed.specs.FlowSource.{IsToldOf}
-use Rattle.watershed.specs.Questions.{IsCodeOrNone, AreCodesTo}
+use Rattle.drainage.proofs.Prelude.{AreCodesTo, Corner, Flow, IsCodeOrNone, IsMosaic, IsToldOf, List, Mosaic, NoGround, OnLevels, Point, ℕ, [], ap, arith, cases_eq, direction_of, get_or, get_or-append-add, get_or_append_left, inl, inr, length, length-append, point_of, refl, subst, sym, terrain, true≢false, ◌++◌, ◌+◌, ◌<◌, ◌∙◌, ◌∷◌, ◌≡◌}
 use Rattle.drainage.specs.WholeTiles.{code_told}
 use Rattle.drainage.proofs.Questions.LevelFunctions.{level_function}
 

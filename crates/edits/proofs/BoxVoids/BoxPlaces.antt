@@ -1,18 +1,10 @@
 -- Boxes point by point, and the void points in them.
 use Rattle.std.proofs.Common.{◌≡◌, ℕ, ◌+◌, ◌*◌, ◌/◌, ◌%◌, ◌<◌, ℤ, pos, ◌+ℤ◌, ◌-ℤ◌, nat_abs, Bool, true, false, ◌&&◌, ◌||◌, inl, inr, refl, sym, ◌∙◌, ap, ap₂, subst, arith}
-use Rattle.std.specs.Prelude.{int_le, nat_lt}
+use Rattle.edits.proofs.Prelude.{Height, Mosaic, Point, height_of, int_le, ints, is_in_box, is_void_at, is_void_height, nat_lt, same_point, same_point_from, same_point_says}
 use Rattle.std.proofs.lemmas.Bool.{and_from, and_parts, and_right, both_ways, cases_Bool, false_from_ne_true, lt-ltb, ltb-true}
-use Rattle.std.proofs.lemmas.Int.{ints}
 use Rattle.std.proofs.lemmas.Nat.{div-add-mod', div-mul-add, div_below, mod-mul-add, mul-add-lt}
 use Rattle.std.proofs.Math.Bool.{and-or_distrib_right}
-use Rattle.lattice.specs.declared.point.Point.{Point}
-use Rattle.lattice.specs.declared.height.Height.{Height}
-use Rattle.lattice.specs.Mosaic.{Mosaic}
-use Rattle.lattice.specs.Height.{height_of}
-use Rattle.lattice.specs.Ground.{same_point}
-use Rattle.lattice.proofs.SamePoints.{same_point_from, same_point_says}
 use Rattle.edits.specs.Boxes.{ArePointsOf, box_place, box_point, is_among}
-use Rattle.edits.specs.Effect.{is_void_at, is_void_height, is_in_box}
 use Rattle.edits.specs.declared.boxes.BoxPoints.{BoxPoints}
 
 -- ---- along one axis

@@ -1,15 +1,5 @@
 -- Filling the void points of a box, part by part.
-use Rattle.std.proofs.Common.{◌≡◌, ℤ, Bool, true, false, ◌&&◌, ◌||◌, refl, sym, ◌∙◌, ap, ap₂}
-use Rattle.std.specs.Prelude.{if◌then◌else◌}
-use Rattle.std.proofs.lemmas.Bool.{and_left, false_from_ne_true}
-use Rattle.std.proofs.Math.Bool.{or-false, and-true, and-false}
-use Rattle.lattice.specs.declared.point.Point.{Point}
-use Rattle.lattice.specs.Ground.{same_point}
-use Rattle.lattice.specs.Mosaic.{Mosaic, IsMosaic}
-use Rattle.catalogue.proofs.OneTile.{corners_are}
-use Rattle.edits.specs.Boxes.{filled}
-use Rattle.edits.specs.Edits.{with_height}
-use Rattle.edits.specs.Effect.{is_void_at, is_void_height}
+use Rattle.edits.proofs.Prelude.{Bool, IsMosaic, Mosaic, Point, ℤ, and-false, and-true, and_left, ap, ap₂, corners_are, false, false_from_ne_true, filled, if◌then◌else◌, is_void_at, is_void_height, or-false, refl, same_point, sym, true, with_height, ◌&&◌, ◌||◌, ◌∙◌, ◌≡◌}
 use Rattle.edits.proofs.BoxVoids.BoxPlaces.{void_is}
 use Rattle.edits.proofs.Edited.{edited_none, edited_twice, edited_alike}
 use Rattle.edits.proofs.EditedHeights.{height_stays}

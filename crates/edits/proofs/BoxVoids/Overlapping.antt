@@ -1,13 +1,7 @@
 -- A tile that holds a point of a box holds one of its corners.
 use Rattle.std.proofs.Common.{◌≡◌, ℕ, ◌+◌, ◌-◌, ◌≤◌, ◌⊎◌, inl, inr, ℤ, pos, ◌+ℤ◌, ◌-ℤ◌, ◌*ℤ◌, Bool, true, false, ◌&&◌, refl, ap, ap₂, sym, ◌∙◌, subst, arith}
-use Rattle.std.specs.Prelude.{int_le, int_lt}
-use Rattle.std.proofs.lemmas.Int.{ints}
-use Rattle.std.proofs.lemmas.Bool.{and_parts, and_from}
-use Rattle.lattice.specs.Corners.{Corner}
-use Rattle.lattice.specs.declared.point.Point.{Point}
+use Rattle.edits.proofs.Prelude.{Corner, Point, and_from, and_parts, holds_is, int_le, int_lt, ints, is_box, is_in_box}
 use Rattle.lattice.specs.Lattice.{Holds, is_along}
-use Rattle.lattice.proofs.Samples.{holds_is}
-use Rattle.edits.specs.Effect.{is_box, is_in_box}
 
 module _ (m : ℕ) (corner : ℤ) (first last v : ℤ) where
   pub end_along : (int_le first v && int_le v last) ≡ true → int_lt (last -ℤ first) (pos (m + 1)) ≡ true → is_along (pos m) corner v ≡ true

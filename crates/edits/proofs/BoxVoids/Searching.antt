@@ -1,11 +1,5 @@
 -- Looking for a void point, point by point.
-use Rattle.std.proofs.Common.{◌≡◌, Bool, false, ◌||◌, ap, ap₂, sym, ◌∙◌}
-use Rattle.std.specs.Prelude.{Ok}
-use Rattle.lattice.specs.declared.point.Point.{Point}
-use Rattle.lattice.specs.Mosaic.{Mosaic}
-use Rattle.catalogue.specs.declared.samples.Samples.{Ghosts}
-use Rattle.catalogue.specs.Readers.{OnlyReads}
-use Rattle.catalogue.proofs.Reading.{reads_on, reads_nothing}
+use Rattle.edits.proofs.Prelude.{Bool, Ghosts, Mosaic, Ok, OnlyReads, Point, ap, ap₂, false, reads_nothing, reads_on, sym, ◌||◌, ◌∙◌, ◌≡◌}
 
 -- no point that was looked at passed the test
 pub record NoneYet {S : Type 0} (g : Ghosts S) (test : Mosaic → Point → Bool) (old now : S) : Type 0 where

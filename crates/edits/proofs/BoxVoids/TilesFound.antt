@@ -1,26 +1,10 @@
 -- Which tiles have a void point in a box, tile by tile.
-use Rattle.std.proofs.Common.{◌≡◌, ℕ, ◌<◌, ◌≤◌, ◌⊎◌, inl, inr, ℤ, pos, Bool, true, false, ◌&&◌, ◌||◌, List, [], ◌∷◌, ◌++◌, length, get_or, refl, ap, sym, ◌∙◌, subst, length-append, arith}
+use Rattle.edits.proofs.Prelude.{All, All-contains, All-push, Bool, Contains, Contains-get_or, Corner, Ghosts, Holds, IsMosaic, IsTile, List, Mosaic, NothingVoid, OnlyReads, Patch, Point, Tile, ℕ, ℤ, [], all_pairs_push, and_from, and_parts, ap, arith, both_ways, corners_of, effect, false, false_from_ne_true, false≢true, get_or, has_void, has_void_from, holds, index_of, inl, inr, is_box, is_height, is_in_box, is_listed, is_void_at, length, length-append, list_any-append, patched, point_of, pos, refl, same_corner, same_from, same_says, subst, sym, true, ◌&&◌, ◌++◌, ◌<◌, ◌||◌, ◌∙◌, ◌∷◌, ◌≡◌, ◌≤◌, ◌⊎◌}
 use Rattle.std.specs.Prelude.{Ok, Err, IsFalse, not}
-use Rattle.std.specs.List.{All, Contains}
-use Rattle.std.proofs.lemmas.Bool.{and_parts, and_from, false_from_ne_true, both_ways, false≢true}
-use Rattle.std.proofs.lemmas.List.Elements.{All-contains, All-push, Contains-get_or}
-use Rattle.std.proofs.lemmas.List.Quantifiers.{all_pairs_push}
-use Rattle.std.proofs.lemmas.List.Folds.{list_any-append}
 use Rattle.std.proofs.Math.Bool.{or-true, and-false, or-false}
-use Rattle.lattice.specs.Corners.{Corner, same_corner}
-use Rattle.lattice.specs.declared.point.Point.{Point}
-use Rattle.lattice.specs.Lattice.{Holds, point_of, holds, index_of}
-use Rattle.lattice.specs.Mosaic.{Tile, Mosaic, IsMosaic, IsTile}
-use Rattle.lattice.specs.declared.refusal.Refusal.TheVariants.{NothingVoid}
-use Rattle.lattice.proofs.CornerOrder.{same_says, same_from}
 use Rattle.lattice.proofs.Samples.{holds_is, index_of_below, point_of_index, point_of_held}
-use Rattle.catalogue.specs.declared.samples.Samples.{Ghosts}
-use Rattle.catalogue.specs.Readers.{OnlyReads}
-use Rattle.catalogue.specs.Tiles.{corners_of, is_listed}
 use Rattle.edits.specs.Boxes.{IsSomewhere}
-use Rattle.edits.specs.declared.command.Command.TheVariants.{Patch}
 use Rattle.edits.specs.Edits.{ArePresent, AreVoidTiles}
-use Rattle.edits.specs.Effect.{effect, has_void, has_void_from, is_box, is_height, is_in_box, is_void_at, patched}
 use Rattle.edits.proofs.BoxVoids.TouchedTiles.{void_says, void_from, some_edge}
 use Rattle.edits.proofs.BoxVoids.Voids.{any_says, any_from, tile_at, is_void_within}
 

@@ -1,16 +1,5 @@
 -- The tiles that hold a point of a command.
-use Rattle.std.proofs.Common.{◌≡◌, ℕ, ◌*◌, ◌<◌, ◌≤◌, Bool, true, List, sym, ◌∙◌, ap, subst, zero-add, arith}
-use Rattle.std.specs.List.{Contains}
-use Rattle.std.proofs.lemmas.List.{length-map, get_or-map}
-use Rattle.lattice.specs.declared.point.Point.{Point}
-use Rattle.lattice.specs.Ground.{same_point}
-use Rattle.lattice.specs.Lattice.{Holds, point_of, holds}
-use Rattle.lattice.specs.Mosaic.{Tile, Mosaic, IsMosaic, IsTile}
-use Rattle.lattice.proofs.Samples.{holds_is, point_of_held}
-use Rattle.catalogue.specs.Tiles.{corners_of}
-use Rattle.edits.specs.Effect.{is_named, has_void_from}
-use Rattle.edits.specs.Touched.{holds_one}
-use Rattle.lattice.proofs.SamePoints.{same_point_says}
+use Rattle.edits.proofs.Prelude.{Bool, Contains, Holds, IsMosaic, IsTile, List, Mosaic, Point, Tile, ℕ, ap, arith, corners_of, get_or-map, has_void_from, holds, holds_is, holds_one, is_named, length-map, point_of, point_of_held, same_point, same_point_says, subst, sym, true, zero-add, ◌*◌, ◌<◌, ◌∙◌, ◌≡◌, ◌≤◌}
 use Rattle.edits.proofs.BoxVoids.Voids.{any_says, any_from, is_void_within, some_index, at_index}
 
 pub some_edge : (n : ℕ) → 3 ≤ n → 0 < n

@@ -1,19 +1,6 @@
 -- Whether some point of a box is void.
-use Rattle.std.proofs.Common.{◌≡◌, ℕ, zero, suc, ◌+◌, ◌<◌, ℤ, pos, negsuc, ◌+ℤ◌, Bool, true, false, ◌&&◌, ◌⊎◌, inl, inr, List, [], ◌∷◌, length, get_or, refl, sym, ◌∙◌, ap, ap₂, subst, add-zero, arith}
+use Rattle.edits.proofs.Prelude.{BadBox, Bool, Contains, Contains-get_or, Corner, List, Mosaic, Patch, Point, Tile, ℕ, ℤ, [], add-zero, and_from, and_left, and_right, ap, ap₂, arith, corners_of, effect, false, false≢true, get_or, get_or-map, has_void_from, inl, inr, ints, is_box, is_height, is_in_box, is_void_at, length, length-map, list_any, negsuc, or_cases, or_left, or_right, point_of, pos, refl, subst, suc, sym, true, zero, ◌&&◌, ◌+ℤ◌, ◌+◌, ◌<◌, ◌∙◌, ◌∷◌, ◌≡◌, ◌⊎◌}
 use Rattle.std.specs.Prelude.{Err, int_le, int_lt, ◌-ℤ◌}
-use Rattle.std.specs.List.{Contains, list_any}
-use Rattle.std.proofs.lemmas.Bool.{or_left, or_right, or_cases, and_from, and_left, and_right, false≢true}
-use Rattle.std.proofs.lemmas.List.{get_or-map, length-map}
-use Rattle.std.proofs.lemmas.List.Elements.{Contains-get_or}
-use Rattle.std.proofs.lemmas.Int.{ints}
-use Rattle.lattice.specs.Corners.{Corner}
-use Rattle.lattice.specs.declared.point.Point.{Point}
-use Rattle.lattice.specs.Lattice.{point_of}
-use Rattle.lattice.specs.Mosaic.{Tile, Mosaic}
-use Rattle.lattice.specs.declared.refusal.Refusal.TheVariants.{BadBox}
-use Rattle.catalogue.specs.Tiles.{corners_of}
-use Rattle.edits.specs.declared.command.Command.TheVariants.{Patch}
-use Rattle.edits.specs.Effect.{effect, is_height, is_box, is_in_box, is_void_at, has_void_from}
 
 pub any_says : {X : Type 0} (f : X → Bool) (xs : List X) → list_any f xs ≡ true → (x : X) × (Contains xs x × (f x ≡ true))
 any_says f [] e = absurd (false≢true e)

@@ -1,23 +1,9 @@
 -- Changes that set each sample once.
-use Rattle.std.proofs.Common.{◌≡◌, ℕ, zero, suc, ◌<◌, ◌⊎◌, inl, inr, ℤ, Bool, true, false, ◌&&◌, ◌||◌, List, [], ◌∷◌, ◌++◌, length, get_or, take, map, refl, sym, ◌∙◌, ap, ap₂, subst, nat_eq, arith}
+use Rattle.edits.proofs.Prelude.{All, All-push, All-weaker, AllPairs, ArePlaces, Bool, Change, Contains, Contains-get_or, Contains-push_cases, Corner, IsPlace, List, Place, Point, ℕ, ℤ, [], all_pairs_push, and_parts, ap, ap₂, arith, both_ways, eqb-true, false, false_from_ne_true, false≢true, get_or, inl, inr, is_named, is_repeated, length, map, nat_eq, or_left, or_parts, or_right, point_of, refl, same_corner, same_point, same_point_from, same_point_says, same_says, subst, suc, sym, take, true, zero, ◌&&◌, ◌++◌, ◌<◌, ◌||◌, ◌∙◌, ◌∷◌, ◌≡◌, ◌⊎◌}
 use Rattle.std.specs.Prelude.{IsTrue, IsFalse}
-use Rattle.std.specs.List.{All, AllPairs, Contains}
-use Rattle.std.proofs.lemmas.Bool.{and_parts, or_left, or_right, or_parts, both_ways, false_from_ne_true, false≢true, eqb-true}
 use Rattle.std.proofs.lemmas.List.{append-nil, append_assoc}
-use Rattle.std.proofs.lemmas.List.Elements.{All-push, All-weaker, Contains-get_or, Contains-push_cases}
-use Rattle.std.proofs.lemmas.List.Quantifiers.{all_pairs_push}
-use Rattle.lattice.specs.Corners.{Corner, same_corner}
-use Rattle.lattice.specs.declared.point.Point.{Point}
-use Rattle.lattice.specs.Ground.{same_point}
-use Rattle.lattice.specs.Lattice.{point_of}
-use Rattle.lattice.proofs.CornerOrder.{same_says}
-use Rattle.edits.specs.declared.change.Change.{Change}
 use Rattle.edits.specs.declared.change.Change.TheVariants.{Add, Drop, Set, Sink, Unsink}
-use Rattle.edits.specs.declared.places.Place.{Place}
 use Rattle.edits.specs.Changes.{IsSetAt, SetOnce, set_same}
-use Rattle.edits.specs.Effect.{is_named, is_repeated}
-use Rattle.edits.specs.Places.{IsPlace, ArePlaces}
-use Rattle.lattice.proofs.SamePoints.{same_point_says, same_point_from}
 
 abbrev pub set_to : ℤ → Place → Change
 set_to s x = Set x.corner x.index s

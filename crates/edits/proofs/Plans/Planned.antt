@@ -1,18 +1,9 @@
 -- What a command comes to, by what its edit does.
-use Rattle.std.proofs.Common.{◌≡◌, ℕ, Bool, true, false, List, refl, sym, subst}
+use Rattle.edits.proofs.Prelude.{BadDepth, BadHeight, Bool, Change, Command, Edit, List, Mosaic, Point, Refusal, Repeated, SetOnce, ℕ, effect, false, is_in_box, is_named, is_repeated, is_void_at, refl, subst, sym, true, ◌≡◌}
 use Rattle.std.specs.Prelude.{◌&&◌, if◌then◌else◌, Result, Ok, Err, IfOk}
-use Rattle.lattice.specs.Mosaic.{Mosaic}
-use Rattle.lattice.specs.declared.point.Point.{Point}
-use Rattle.lattice.specs.declared.refusal.Refusal.{Refusal}
-use Rattle.lattice.specs.declared.refusal.Refusal.TheVariants.{BadDepth, BadHeight, Repeated}
-use Rattle.edits.specs.declared.change.Change.{Change}
-use Rattle.edits.specs.declared.command.Command.{Command}
 use Rattle.edits.specs.declared.command.Command.TheVariants as command
-use Rattle.edits.specs.declared.edit.Edit.{Edit}
 use Rattle.edits.specs.declared.edit.Edit.TheVariants.{Heights, Voids}
-use Rattle.edits.specs.Changes.{SetOnce}
 use Rattle.edits.specs.Edits.{IsEditOf}
-use Rattle.edits.specs.Effect.{effect, is_in_box, is_named, is_repeated, is_void_at}
 use Rattle.edits.specs.Plans.{AreSetOnce, SetsOnce}
 
 -- what isn't refused names no point twice

@@ -1,30 +1,12 @@
 -- Changes that set samples, and what they make of a mosaic.
 use Rattle.std.proofs.Common.{◌≡◌, ℕ, ◌+◌, ◌<◌, ⊎_elim, ℤ, Bool, true, false, ◌||◌, List, [], ◌∷◌, ◌++◌, length, map, take, get_or, refl, sym, ◌∙◌, ap, subst, arith}
-use Rattle.std.specs.Prelude.{if◌then◌else◌}
-use Rattle.std.specs.List.{All}
-use Rattle.std.proofs.lemmas.Bool.{both_ways, false≢true, or_cases, or_left, or_right}
+use Rattle.edits.proofs.Prelude.{All, ArePlaces, Change, Corner, IsMosaic, IsPlace, Mosaic, NewHeight, Place, Point, both_ways, corners_of, edited, false≢true, filled, if◌then◌else◌, is_named, is_repeated, list_any-append, or-false, or_cases, or_left, or_right, points_of, same_point, same_point_says, with_height, with_heights, with_sample}
 use Rattle.std.proofs.lemmas.List.{get_or-map, length-map, map-append, take-map, take_more}
 use Rattle.std.proofs.lemmas.List.Elements.{All-append, All-map, All-weaker}
-use Rattle.std.proofs.lemmas.List.Folds.{list_any-append}
-use Rattle.std.proofs.Math.Bool.{or-false}
-use Rattle.lattice.specs.Corners.{Corner}
-use Rattle.lattice.specs.declared.point.Point.{Point}
-use Rattle.lattice.specs.Ground.{same_point}
-use Rattle.lattice.specs.Mosaic.{Mosaic, IsMosaic}
-use Rattle.catalogue.specs.Tiles.{corners_of}
-use Rattle.catalogue.specs.Tables.{with_sample}
-use Rattle.edits.specs.declared.change.Change.{Change}
-use Rattle.edits.specs.declared.edit.NewHeight.{NewHeight}
-use Rattle.edits.specs.declared.places.Place.{Place}
-use Rattle.edits.specs.Boxes.{filled}
 use Rattle.edits.specs.Changes.{CanBeSet, SetOnce, Sets, changed, all_changed}
-use Rattle.edits.specs.Edits.{points_of, with_height, with_heights}
-use Rattle.edits.specs.Effect.{edited, is_named, is_repeated}
-use Rattle.edits.specs.Places.{IsPlace, ArePlaces}
 use Rattle.edits.proofs.Edited.{edited_none, edited_twice, edited_alike, heights_edit, heights_next}
 use Rattle.edits.proofs.EditedHeights.{edited_corners}
 use Rattle.edits.proofs.Plans.Once.{not_named, once_at, once_none, once_within, set_to}
-use Rattle.lattice.proofs.SamePoints.{same_point_says}
 use Rattle.edits.proofs.Placing.{placed, placed_edit, whole_tiles, edited_whole}
 
 all_on : (old more : List Change) (m : Mosaic) → all_changed (old ++ more) m ≡ all_changed more (all_changed old m)

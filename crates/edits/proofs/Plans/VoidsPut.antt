@@ -1,14 +1,5 @@
 -- Changes that put a sample at void points, part by part.
-use Rattle.std.proofs.Common.{◌≡◌, Bool, true, false, ◌||◌, ℤ, List, subst}
-use Rattle.std.specs.Prelude.{Ok}
-use Rattle.std.specs.List.{All}
-use Rattle.lattice.specs.declared.point.Point.{Point}
-use Rattle.lattice.specs.Mosaic.{Mosaic}
-use Rattle.catalogue.specs.declared.samples.Samples.{Ghosts}
-use Rattle.catalogue.specs.Readers.{OnlyReads}
-use Rattle.catalogue.proofs.Reading.{reads_on, reads_nothing}
-use Rattle.edits.specs.declared.change.Change.{Change}
-use Rattle.edits.specs.Changes.{CanBeSet, Sets}
+use Rattle.edits.proofs.Prelude.{All, Bool, CanBeSet, Change, Ghosts, List, Mosaic, Ok, OnlyReads, Point, Sets, ℤ, false, reads_nothing, reads_on, subst, true, ◌||◌, ◌≡◌}
 use Rattle.edits.proofs.Plans.Setting.{fits_kept, sets_kept, sets_none, sets_on}
 
 -- the part that passes the test was seen to

@@ -1,14 +1,7 @@
 -- Where levels are the filled levels of a mosaic, they tell of its ground.
-use Rattle.std.proofs.Common.{◌||◌, ◌≡◌, ℕ, suc, ◌+◌, ◌*◌, ℤ, ◌≤ℤ◌, Bool, true, false, not, ◌&&◌, ◌||◌, IsTrue, IsFalse, List, [], ◌∷◌, map, refl, sym, ap, ap₂, ◌∙◌, subst, arith, inl, inr, true≢false, All, slice_index_or, if◌then◌else◌}
-use Rattle.std.specs.List.{list_any}
-use Rattle.std.proofs.lemmas.Int.{ints}
-use Rattle.std.proofs.lemmas.Bool.{cases_Bool}
+use Rattle.flow_d8.proofs.Prelude.{All, AreLevels, Bool, Filled, IsFalse, IsFilledOf, IsTrue, List, ℕ, ℤ, [], ap, ap₂, arith, cases_Bool, false, height-le_level, held, if◌then◌else◌, inl, inr, ints, is_held, is_holder, list_any, map, not, point_of_index, refl, slice_index_or, subst, suc, sym, true, true≢false, ◌&&◌, ◌*◌, ◌+◌, ◌||◌, ◌∙◌, ◌∷◌, ◌≡◌, ◌≤ℤ◌}
 use Rattle.flow_d8.specs.Prelude.{Point, At, Corner, is_corner, holds, index_of, point_of, IsFilledLevel, Mosaic, Tile, IsMosaic, IsTile, void, is_void, samples_at, first_height, by_seam_rule, height_of, is_ground, is_height, metres, terrain}
-use Rattle.lattice.proofs.Samples.{point_of_index}
-use Rattle.lattice.proofs.WaysOut.{held}
-use Rattle.lattice.proofs.Levels.{height-le_level}
 use Rattle.lattice.proofs.BoolTests.{same_tests}
-use Rattle.flow_d8.specs.Filled.{Filled, AreLevels, IsFilledOf, is_holder, is_held}
 use Rattle.flow_d8.specs.Surface.{level_at, has_level}
 use Rattle.flow_d8.proofs.Samples.Numbers.{seat_of, holder_holds, index_small}
 use Rattle.flow_d8.proofs.Steps.Surfaces.{level_held, at_level}

@@ -1,9 +1,5 @@
 -- The coordinates of a mosaic's ground points are numbers of 32 bits.
-use Rattle.std.proofs.Common.{ℕ, suc, ◌≤◌, IsTrue, List, [], ◌∷◌, sym, arith, ⊎_elim, true≢false, All}
-use Rattle.std.specs.List.{list_any}
-use Rattle.std.proofs.lemmas.Bool.{and_from, or_cases}
-use Rattle.flow_d8.specs.Prelude.{Point, is_corner, holds, fits_point, Mosaic, IsMosaic, Tile, IsTile, is_ground, largest_side}
-use Rattle.lattice.proofs.WaysOut.{held}
+use Rattle.flow_d8.proofs.Prelude.{All, IsMosaic, IsTile, IsTrue, List, Mosaic, Point, Tile, ℕ, [], and_from, arith, fits_point, held, holds, is_corner, is_ground, largest_side, list_any, or_cases, suc, sym, true≢false, ⊎_elim, ◌∷◌, ◌≤◌}
 use Rattle.flow_d8.proofs.Samples.Numbers.{held_fits}
 
 fits_of : (n : ℕ) (p : Point) (tiles : List Tile) → 3 ≤ n → n ≤ largest_side → All (IsTile n) tiles → IsTrue (list_any (λ t. holds n t.corner p) tiles) → IsTrue (fits_point p)

@@ -1,8 +1,7 @@
 -- On a mosaic a point inside a flat has eight adjacent points.
-use Rattle.std.proofs.Common.{◌||◌, sym, ◌∙◌, true≢false, inl, inr, ⊎_elim, nat_lt}
+use Rattle.flow_d8.proofs.Prelude.{IsFull, inl, inr, nat_lt, sym, true≢false, ⊎_elim, ◌||◌, ◌∙◌}
 use Rattle.std.proofs.lemmas.Bool.{and_cases, cases_Bool, or_parts}
 use Rattle.flow_d8.specs.Prelude.{step, Mosaic, IsMosaic, is_ground, is_adjacent, degree_of, is_sink, terrain}
-use Rattle.flow_d8.specs.Flows.{IsFull}
 use Rattle.flow_d8.proofs.Mosaics.MosaicGrid.{mosaic_is_grid}
 use Rattle.flow_d8.proofs.Mosaics.PointFlows.{fewer}
 

@@ -1,14 +1,6 @@
 -- Levels of all tiles, told of one of them and of what lies around it.
-use Rattle.std.proofs.Common.{◌≡◌, Bool, ℕ, suc, ◌+◌, ◌*◌, ◌/◌, ◌%◌, ◌<◌, ℤ, not, ◌||◌, false, true, IsTrue, List, [], ◌∷◌, length, get_or, inl, inr, refl, sym, ap, ap₂, ◌∙◌, subst, arith, true≢false, slice_index_or}
-use Rattle.std.specs.List.{list_any}
-use Rattle.std.proofs.lemmas.Bool.{cases_Bool}
-use Rattle.std.proofs.lemmas.List.{get_or_default}
-use Rattle.std.proofs.lemmas.Nat.{div-mul-add, mod-mul-add, mul-add-lt}
-use Rattle.std.proofs.lemmas.Option.{slice_get_read}
-use Rattle.flow_d8.specs.Prelude.{Corner, is_corner, same_corner, is_ground, terrain, Mosaic, IsMosaic, is_present, is_void, void, IsFilledLevel, Point}
-use Rattle.lattice.proofs.CornerOrder.{same_says, same_from}
+use Rattle.flow_d8.proofs.Prelude.{AreCrossed, AreFilledLevels, ArePadded, ArePaddedTo, AreTiles, Bool, Corner, IsAtHand, IsFilledLevel, IsLevelIn, IsMosaic, IsTrue, List, Mosaic, Point, Tiles, ℕ, ℤ, [], ap, ap₂, arith, cases_Bool, div-mul-add, false, filled_of, get_or, get_or_default, inl, inr, is_corner, is_ground, is_present, is_void, length, list_any, mod-mul-add, mul-add-lt, no_corner, not, padded_point, refl, same_corner, same_from, same_says, slice_get_read, slice_index_or, subst, suc, sym, terrain, true, true≢false, void, ◌%◌, ◌*◌, ◌+◌, ◌/◌, ◌<◌, ◌||◌, ◌∙◌, ◌∷◌, ◌≡◌}
 use Rattle.lattice.proofs.IntTests.{eq_true}
-use Rattle.flow_d8.specs.Drainage.{AreFilledLevels}
 use Rattle.flow_d8.specs.Filled.{Filled, AreLevels, IsFilledOf, number_of}
 use Rattle.flow_d8.specs.Surface.{level_at, has_level}
 use Rattle.flow_d8.proofs.Mosaics.FilledOf.{any_corner, filled_at, ground_held, ground_same}
@@ -17,10 +9,6 @@ use Rattle.flow_d8.proofs.Mosaics.MosaicGrid.{mosaic_is_grid}
 use Rattle.flow_d8.proofs.Samples.Numbers.{number_below}
 use Rattle.flow_d8.proofs.Samples.Inside.{any_at}
 use Rattle.flow_d8.proofs.Steps.Surfaces.{at_level}
-use Rattle.flow_d8.specs.FlowGrids.{IsAtHand, AreCrossed}
-use Rattle.flow_d8.specs.Levels.{filled_of, IsLevelIn, ArePaddedTo}
-use Rattle.flow_d8.specs.Padded.{padded_point, ArePadded}
-use Rattle.flow_d8.specs.Tiles.{Tiles, AreTiles, no_corner}
 use Rattle.flow_d8.proofs.Samples.AtHand.{below_at_hand}
 
 is_void_void : (v : ℤ) → not (is_void v) ≡ false → v ≡ void

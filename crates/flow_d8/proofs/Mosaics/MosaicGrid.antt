@@ -1,13 +1,8 @@
 -- The terrain of a mosaic is a grid: adjacent points are a step apart, and no ground is as low as the void.
 use Rattle.std.proofs.Common.{◌≡◌, ℕ, suc, ◌<◌, ℤ, pos, negsuc, ◌+ℤ◌, ◌-ℤ◌, ◌≤ℤ◌, ◌⊎◌, inl, inr, ⊎_elim, true, false, not, List, [], ◌∷◌, sym, ap₂, ◌∙◌, subst, arith, nat_abs, true≢false, nat_lt, int_lt, All, filter, slice_index_or, if◌then◌else◌, cond, map, length}
-use Rattle.std.specs.Ordering.{int_eq}
+use Rattle.flow_d8.proofs.Prelude.{IsGrid, five_parts, get_or_past, int_eq, ints, terrain_is_lawful, ≤ℤ_same}
 use Rattle.std.proofs.lemmas.Bool.{ltb-true, not-true, cases_Bool, cases_lt, and_parts, and_from}
-use Rattle.std.proofs.lemmas.Int.{ints}
-use Rattle.std.proofs.lemmas.List.{get_or_past}
 use Rattle.flow_d8.specs.Prelude.{Point, Dir, East, SouthEast, South, SouthWest, West, NorthWest, North, NorthEast, step, At, holds, index_of, Mosaic, Tile, IsMosaic, IsTile, IsSample, void, is_void, sample_at, samples_at, first_height, by_seam_rule, is_ground, same_point, is_near, share_tile, terrain, metres}
-use Rattle.lattice.proofs.Levels.{≤ℤ_same}
-use Rattle.flow_d8.specs.Grid.{IsGrid}
-use Rattle.lattice.proofs.Lawful.{five_parts, terrain_is_lawful}
 use Rattle.lattice.proofs.IntTests.{lt_true, lt_false, eq_from}
 
 shifted : (a b : ℤ) → nat_abs (a -ℤ b) < 2 → (b ≡ a +ℤ pos 0) ⊎ ((b ≡ a +ℤ pos 1) ⊎ (b ≡ a +ℤ negsuc 0))

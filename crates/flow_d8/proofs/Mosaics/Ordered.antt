@@ -1,13 +1,10 @@
 -- Where two terrains have the same outlets at points of a region, and from there the same steps down and across, water drains
 -- from there alike.
-use Rattle.std.proofs.Common.{◌≡◌, ℕ, zero, suc, ℤ, ◌-ℤ◌, Option, Some, None, inl, inr, ⊎_elim, sym, ap₂, ◌∙◌, nat_abs}
+use Rattle.flow_d8.proofs.Prelude.{CrossesFlat, HasLower, IsAcross, IsDirection, IsFirstNearer, IsFlatDistance, IsFlow, IsLower, IsNearer, IsSteepest, LiesInside, None, Option, Some, ℕ, ℤ, ap₂, drop_by, inl, inr, nat_abs, suc, sym, zero, ⊎_elim, ◌-ℤ◌, ◌∙◌, ◌≡◌}
 use Rattle.lattice.specs.declared.point.Point.{Point}
 use Rattle.lattice.specs.declared.direction.Dir.{Dir}
 use Rattle.lattice.specs.Steps.{step, is_steeper}
 use Rattle.lattice.specs.Terrain.{Terrain}
-use Rattle.flow_d8.specs.Drainage.{IsLower, HasLower, drop_by, IsSteepest, CrossesFlat, IsFlatDistance, IsNearer, IsFirstNearer, IsDirection}
-use Rattle.flow_d8.specs.Waves.{IsAcross}
-use Rattle.flow_d8.specs.Flows.{IsFlow, LiesInside}
 use Rattle.flow_d8.specs.declared.flow.Flow.{Flow}
 use Rattle.flow_d8.specs.declared.flow.Flow.TheVariants.{Unknown, NoGround, Outlet, To, Beside, Flat, FlatTo}
 

@@ -1,15 +1,7 @@
 -- Which tiles hold two points beside each other.
-use Rattle.std.proofs.Common.{◌≡◌, ◌∙◌, ℕ, zero, suc, ◌+◌, ◌-◌, ◌*◌, ◌<◌, ◌≤◌, ◌⊎◌, ◌↔◌, ℤ, pos, ◌+ℤ◌, ◌-ℤ◌, ◌*ℤ◌, ◌<ℤ◌, ◌≤ℤ◌, Bool, true, IsTrue, ◌&&◌, List, [], ◌∷◌, nat_abs, inl, inr, ⊎_elim, refl, sym, ap, ap₂, subst, arith, true≢false}
-use Rattle.std.specs.List.{list_any}
-use Rattle.std.proofs.Math.Nat.{mul-le-mul_right}
-use Rattle.std.proofs.lemmas.Bool.{and_parts, and_from, or_left, or_right, or_cases}
-use Rattle.std.proofs.lemmas.Int.{ints}
-use Rattle.flow_d8.specs.Prelude.{Corner, same_corner, is_along, holds, Mosaic, Tile, is_present, is_ground, share_tile, Point}
+use Rattle.flow_d8.proofs.Prelude.{Bool, Corner, IsTrue, List, Mosaic, Point, Tile, ℕ, ℤ, [], and_from, and_parts, ap, ap₂, arith, held, holds, inl, inr, ints, is_along, is_ground, is_present, le_or_above, list_any, mul-le-mul_right, nat_abs, or_cases, or_left, or_right, pos, refl, same_corner, same_from, same_says, share_tile, subst, suc, sym, true, true≢false, zero, ⊎_elim, ◌&&◌, ◌*ℤ◌, ◌*◌, ◌+ℤ◌, ◌+◌, ◌-ℤ◌, ◌-◌, ◌<ℤ◌, ◌<◌, ◌↔◌, ◌∙◌, ◌∷◌, ◌≡◌, ◌≤ℤ◌, ◌≤◌, ◌⊎◌}
 use Rattle.lattice.proofs.Along.{distance, parts, from_parts, steps}
-use Rattle.lattice.proofs.CornerOrder.{same_says, same_from}
-use Rattle.lattice.proofs.IntTests.{le_or_above}
 use Rattle.lattice.proofs.Multiples.{product_plus, factor_less, multiples_same}
-use Rattle.lattice.proofs.WaysOut.{held}
 
 -- at most one apart
 abbrev pub IsClose : ℤ → ℤ → Type 0

@@ -1,14 +1,5 @@
 -- Places of a padded tile: the places and points around each.
-use Rattle.std.proofs.Common.{◌≡◌, ◌∙◌, ℕ, zero, suc, IsTrue, negsuc, ◌≤ℤ◌, ◌+◌, ◌-◌, ◌*◌, ◌/◌, ◌%◌, ◌<◌, ◌≤◌, pos, ◌+ℤ◌, ◌-ℤ◌, ◌*ℤ◌, refl, sym, ap, ap₂, arith}
-use Rattle.std.proofs.Math.Nat.{mul-le-mul_right}
-use Rattle.std.proofs.lemmas.Int.{ints}
-use Rattle.std.proofs.lemmas.Nat.{div-mul-add, mod-mul-add}
-use Rattle.std.proofs.lemmas.Nat.{mul-add-lt}
-use Rattle.flow_d8.specs.Prelude.{Corner, is_corner, IsIndexOf, step, north_of, east_of, Point, Dir, East, SouthEast, South, SouthWest, West, NorthWest, North, NorthEast}
-use Rattle.flow_d8.specs.Preparing.{IsSinkPlace}
-use Rattle.lattice.proofs.SamePoints.{same_place}
-use Rattle.flow_d8.specs.Places.{place_by, IsInner}
-use Rattle.flow_d8.specs.Padded.{padded_point}
+use Rattle.flow_d8.proofs.Prelude.{Corner, Dir, East, IsIndexOf, IsInner, IsSinkPlace, IsTrue, North, NorthEast, NorthWest, Point, South, SouthEast, SouthWest, West, ℕ, ap, ap₂, arith, div-mul-add, east_of, ints, is_corner, mod-mul-add, mul-add-lt, mul-le-mul_right, negsuc, north_of, padded_point, place_by, pos, refl, same_place, step, suc, sym, zero, ◌%◌, ◌*ℤ◌, ◌*◌, ◌+ℤ◌, ◌+◌, ◌-ℤ◌, ◌-◌, ◌/◌, ◌<◌, ◌∙◌, ◌≡◌, ◌≤ℤ◌, ◌≤◌}
 use Rattle.flow_d8.proofs.Samples.Numbers.{corner_near}
 use Rattle.flow_d8.proofs.Mosaics.SharedTiles.{IsClose}
 

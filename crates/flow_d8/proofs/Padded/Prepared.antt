@@ -1,26 +1,11 @@
 -- Flows told by a padded tile are so of the mosaic.
-use Rattle.std.proofs.Common.{◌≡◌, ◌∙◌, ℕ, zero, suc, ◌+◌, ◌-◌, ◌*◌, ◌/◌, ◌%◌, ◌<◌, ◌≤◌, ◌⊎◌, ◌↔◌, ℤ, pos, ◌+ℤ◌, ◌-ℤ◌, ◌*ℤ◌, ◌<ℤ◌, Bool, true, false, IsTrue, IsFalse, List, [], ◌∷◌, inl, inr, ⊎_elim, refl, sym, ap, ap₂, subst, arith, true≢false, Contains, if◌then◌else◌}
-use Rattle.std.specs.List.{list_any}
-use Rattle.std.proofs.lemmas.Bool.{cases_Bool, cases_eq, cases_lt, cond-true, cond-false, or_left, or_right, or_cases}
-use Rattle.std.proofs.lemmas.Int.{ints}
-use Rattle.flow_d8.specs.Prelude.{Corner, point_of, Mosaic, IsMosaic, is_present, void, is_ground, is_sink, share_tile, is_adjacent, same_point, terrain, step, north_of, east_of, Point, Dir, East, SouthEast, South, SouthWest, West, NorthWest, North, NorthEast, Flow, Unknown, NoGround, Outlet, To, Beside, Flat, FlatTo}
-use Rattle.lattice.proofs.IntTests.{eq_or_not, le_or_above, lt_true, lt_false}
-use Rattle.lattice.proofs.Levels.{level_is_unique}
+use Rattle.flow_d8.proofs.Prelude.{AreFilledLevels, AreTileFlows, Beside, Bool, Contains, Corner, CrossesFlat, Dir, East, Flat, FlatTo, Flow, IsFalse, IsFlow, IsInner, IsLevelGrid, IsMosaic, IsPaddedTile, IsShown, IsStepped, IsTrue, LeadsToEnd, LiesInside, List, Mosaic, NoGround, North, NorthEast, NorthWest, Outlet, Point, Sides, South, SouthEast, SouthWest, To, Unknown, West, ℕ, ℤ, [], ap, ap₂, arith, cases_Bool, cases_eq, cases_lt, cond-false, cond-true, east_of, east_of_tile, eq_or_not, false, from_parts, if◌then◌else◌, inl, inr, ints, is_adjacent, is_ground, is_present, is_sink, le_or_above, level_beside, level_is_unique, list_any, lt_false, lt_true, north_of, north_of_tile, or_cases, or_left, or_right, padded_point, place_by, point_of, pos, refl, same_point, share_tile, south_of_tile, step, subst, suc, sym, terrain, true, true≢false, void, west_of_tile, zero, ⊎_elim, ◌%◌, ◌*ℤ◌, ◌*◌, ◌+ℤ◌, ◌+◌, ◌-ℤ◌, ◌-◌, ◌/◌, ◌<ℤ◌, ◌<◌, ◌↔◌, ◌∙◌, ◌∷◌, ◌≡◌, ◌≤◌, ◌⊎◌}
 use Rattle.lattice.proofs.SamePoints.{same_place, same_point_says, same_point_from}
 use Rattle.lattice.proofs.Samples.{row_below}
-use Rattle.lattice.proofs.Along.{from_parts}
-use Rattle.flow_d8.specs.Drainage.{CrossesFlat, AreFilledLevels}
-use Rattle.flow_d8.specs.LevelGrid.{IsLevelGrid, level_beside}
-use Rattle.flow_d8.specs.Places.{place_by, IsInner, IsShown}
 use Rattle.flow_d8.proofs.Steps.Compass.{first_dir}
 use Rattle.flow_d8.proofs.Steps.Nearby.{one_step, in_one_tile, level_grid, never_void}
 use Rattle.flow_d8.proofs.Mosaics.PointFlows.{edge_off, inner_is}
-use Rattle.flow_d8.specs.declared.preparing.Sides.{Sides}
-use Rattle.flow_d8.specs.Flows.{LiesInside, IsFlow}
-use Rattle.flow_d8.specs.Padded.{padded_point, IsPaddedTile, north_of_tile, east_of_tile, south_of_tile, west_of_tile}
 use Rattle.flow_d8.specs.Preparing.{flow_in, level_in, IsLocal, IsPlain, IsEnd, HasSink, IsSunkFlow, AreSunkFlows, IsEndBeside, IsFirstEndBeside, IsEnded, AreEnded, place_in, leads_over, IsClosedAt, IsClosedFlow, IsClosing}
-use Rattle.flow_d8.specs.FlowGrids.{AreTileFlows}
-use Rattle.flow_d8.specs.Waves.{IsStepped, LeadsToEnd}
 use Rattle.flow_d8.proofs.Padded.FirstEnds.{crosses_by, leads_by, first_is_direction}
 use Rattle.flow_d8.proofs.Mosaics.FullTerrain.{mosaic_is_full}
 use Rattle.flow_d8.proofs.Padded.PaddedPlaces.{row_by, column_by, place_is, point_is, row_near, column_near, close_y, close_x, one_row, one_column, inner_at}

@@ -1,10 +1,7 @@
 -- Points that lead each to the next, up to one that leads nowhere, are different.
 use Rattle.std.proofs.Common.{◌≡◌, ◌≢◌, ℕ, zero, suc, ◌+◌, ◌-◌, ◌<◌, IsTrue, Some, List, [], ◌∷◌, ◌++◌, length, get_or, inl, inr, sym, ap, ap₂, ◌∙◌, subst, arith, length-append}
-use Rattle.std.specs.List.{AllPairs}
-use Rattle.std.proofs.lemmas.Bool.{cases_eq}
-use Rattle.std.proofs.lemmas.List.{get_or_append_left, get_or_at}
+use Rattle.flow_d8.proofs.Prelude.{AllPairs, Dir, Point, cases_eq, fits_point, get_or_append_left, get_or_at, step}
 use Rattle.std.proofs.lemmas.Option.{same_Some}
-use Rattle.flow_d8.specs.Prelude.{Point, Dir, step, fits_point}
 use Rattle.flow_d8.specs.Directions.{Directions, LeadsTo, IsChain, direction_in}
 
 module _ (d : Directions) (path : List Point) (chain : IsChain d path) where

@@ -1,19 +1,11 @@
 -- The walk along the steps across a flat is as long as the point's flat distance.
-use Rattle.std.proofs.Common.{◌≡◌, ℕ, zero, suc, ◌+◌, ◌-◌, ◌<◌, ◌≤◌, ℤ, IsTrue, IsFalse, Option, Some, None, List, [], ◌∷◌, length, get_or, inl, inr, ⊎_elim, refl, sym, ap, ◌∙◌, subst, arith, true≢false}
-use Rattle.std.proofs.lemmas.Bool.{cases_Bool, cases_lt}
-use Rattle.std.proofs.lemmas.List.{get_or_default, get_or_past}
-use Rattle.flow_d8.specs.Prelude.{is_ground, terrain, Mosaic, IsMosaic, void, step, Terrain, Point, Dir, Flow, Unknown, NoGround, Outlet, To, Beside, Flat, FlatTo}
-use Rattle.flow_d8.specs.Drainage.{AreFilledLevels, CrossesFlat, IsFlatDistance}
-use Rattle.flow_d8.specs.Filled.{is_held}
-use Rattle.flow_d8.specs.FlowPath.{IsFlowPath}
+use Rattle.flow_d8.proofs.Prelude.{AreFilledLevels, AreFlows, Beside, CrossesFlat, Dir, Flat, FlatTo, Flow, IsAtHand, IsFalse, IsFlatDistance, IsFlow, IsFlowPath, IsMosaic, IsTellingAll, IsTrue, List, Mosaic, NoGround, None, Option, Outlet, Point, Some, Terrain, To, Unknown, ℕ, ℤ, [], ap, arith, cases_Bool, cases_lt, get_or, get_or_default, get_or_past, inl, inr, is_ground, is_held, length, refl, step, subst, suc, sym, terrain, true≢false, void, zero, ⊎_elim, ◌+◌, ◌-◌, ◌<◌, ◌∙◌, ◌∷◌, ◌≡◌, ◌≤◌}
 use Rattle.flow_d8.proofs.Paths.FlowPaths.{flow_path_exists}
 use Rattle.flow_d8.proofs.Mosaics.MosaicGrid.{mosaic_is_grid}
 use Rattle.flow_d8.proofs.Samples.Numbers.{number_past}
 use Rattle.flow_d8.proofs.Paths.OnePath.{no_point_twice, ground_along, no_more_than_samples}
 use Rattle.flow_d8.proofs.Paths.Unique.{one_distance}
 use Rattle.flow_d8.specs.Directions.{Directions, AreWhole, AreDirectionsOf, number_in, flow_at, flow_in, one_more, after, across, walk}
-use Rattle.flow_d8.specs.Flows.{IsFlow, IsTellingAll, AreFlows}
-use Rattle.flow_d8.specs.FlowGrids.{IsAtHand}
 use Rattle.flow_d8.specs.Tiles.{count_of, place_of, by_of}
 use Rattle.flow_d8.proofs.Samples.AtHand.{at_hand_below, known_so}
 use Rattle.flow_d8.proofs.Sayings.Draining.{telling_direction, telling_none}

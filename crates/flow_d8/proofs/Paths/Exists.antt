@@ -1,18 +1,11 @@
 -- Each ground point has a flat distance and a direction.
-use Rattle.std.proofs.Common.{◌≡◌, ℕ, zero, suc, ◌+◌, ◌<◌, ◌≤◌, ℤ, ◌≤ℤ◌, ◌⊎◌, inl, inr, ⊎_elim, IsTrue, IsFalse, Option, Some, None, List, [], ◌∷◌, refl, sym, ◌∙◌, subst, arith, true≢false, int_lt}
-use Rattle.std.proofs.lemmas.Bool.{cases_Bool, cases_eq, cases_lt, cases_order}
+use Rattle.flow_d8.proofs.Prelude.{AreFilledLevels, Best, CrossesFlat, HasLower, IsDirection, IsFalse, IsFirstNearer, IsFlatDistance, IsGrid, IsNearer, IsSteepest, IsSteepestOf, IsStepped, IsTrue, LeadsDown, List, None, Option, Some, ℕ, ℤ, [], arith, cases_Bool, cases_eq, cases_lt, cases_order, eq_or_not, inl, inr, int_lt, lt_false, lt_true, refl, slope_in, subst, suc, sym, true≢false, zero, ⊎_elim, ◌+◌, ◌<◌, ◌∙◌, ◌∷◌, ◌≡◌, ◌≤ℤ◌, ◌≤◌, ◌⊎◌}
 use Rattle.flow_d8.specs.Prelude.{Point, Dir, East, step, order_of, Terrain, LeadsOut, crest}
 use Rattle.lattice.proofs.Levels.{le-max_right, ≤ℤ_trans, ≤ℤ_same, ≤ℤ_antisym}
-use Rattle.lattice.proofs.IntTests.{lt_true, lt_false, eq_or_not}
-use Rattle.flow_d8.specs.Drainage.{AreFilledLevels, HasLower, IsSteepest, CrossesFlat, IsFlatDistance, IsNearer, IsFirstNearer, IsDirection}
-use Rattle.flow_d8.specs.Grid.{IsGrid}
 use Rattle.flow_d8.proofs.Steps.Compass.{dir_at, order_of-dir_at, first_dir}
 use Rattle.flow_d8.proofs.Steps.SteepestStep.{begun, taken, left, steepest_of_all, none_of_all}
 use Rattle.flow_d8.proofs.Paths.Unique.{one_distance}
 use Rattle.flow_d8.proofs.Waves.WaveLaw.{decide_lower, end_or_inside}
-use Rattle.flow_d8.specs.SteepestStep.{LeadsDown, slope_in, IsSteepestOf}
-use Rattle.flow_d8.specs.Waves.{IsStepped}
-use Rattle.flow_d8.specs.declared.slopes.Best.{Best}
 
 module _ (t : Terrain Point) (bottom : ℤ) (grid : IsGrid t bottom) (level : Point → ℤ) (filled : AreFilledLevels t level) where
   stepped : IsStepped t

@@ -1,11 +1,6 @@
 -- Each ground point has a flow path, and only one: the level falls, or it stays and the flat distance falls.
-use Rattle.std.proofs.Common.{◌≡◌, ℕ, zero, suc, ℤ, pos, ◌-ℤ◌, ◌≤ℤ◌, ◌<ℤ◌, ⊎_elim, IsTrue, Option, Some, None, List, [], ◌∷◌, length, get_or, Contains, ◌<◌, refl, sym, ap, ◌∙◌, subst, arith, nat_abs}
-use Rattle.std.proofs.lemmas.Int.{ints}
-use Rattle.flow_d8.specs.Prelude.{Point, Dir, step, Terrain}
-use Rattle.lattice.proofs.Levels.{height-le_level, ≤ℤ_trans}
-use Rattle.flow_d8.specs.Drainage.{AreFilledLevels, IsFlatDistance, IsDirection}
+use Rattle.flow_d8.proofs.Prelude.{AreFilledLevels, Contains, Dir, IsDirection, IsFlatDistance, IsGrid, IsTrue, List, None, Option, Point, Some, Terrain, ℕ, ℤ, [], ap, arith, get_or, height-le_level, ints, length, nat_abs, pos, refl, step, subst, suc, sym, zero, ≤ℤ_trans, ⊎_elim, ◌-ℤ◌, ◌<ℤ◌, ◌<◌, ◌∙◌, ◌∷◌, ◌≡◌, ◌≤ℤ◌}
 use Rattle.flow_d8.specs.FlowPath.{IsFlowPath, FlowsTo}
-use Rattle.flow_d8.specs.Grid.{IsGrid}
 use Rattle.flow_d8.proofs.Paths.Unique.{one_distance, one_direction}
 use Rattle.flow_d8.proofs.Paths.Exists.{distance_exists, direction_exists}
 

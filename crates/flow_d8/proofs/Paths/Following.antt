@@ -1,10 +1,7 @@
 -- One step of a flow path after another.
 use Rattle.std.proofs.Common.{ℤ, IsTrue, Option, Some, None, List, [], ◌∷◌, ◌++◌, refl, sym, ⊎_elim, subst, append_assoc, SomeIff}
 use Rattle.std.proofs.lemmas.List.{append-nil}
-use Rattle.flow_d8.specs.Prelude.{Point, Dir, step, fits_point, Terrain, IsLawful, void}
-use Rattle.flow_d8.specs.Drainage.{IsDirection}
-use Rattle.flow_d8.specs.FlowPath.{IsFlowPath}
-use Rattle.flow_d8.specs.Grid.{IsGrid}
+use Rattle.flow_d8.proofs.Prelude.{Dir, IsDirection, IsFlowPath, IsGrid, IsLawful, Point, Terrain, fits_point, step, void}
 use Rattle.flow_d8.proofs.Paths.FlowPaths.{from_next}
 use Rattle.flow_d8.specs.FlowSteps.{IsNext, IsFollowed}
 

@@ -1,18 +1,12 @@
 -- A flow path has no point twice, and no more points than the present tiles have samples.
 use Rattle.std.proofs.Common.{◌≡◌, ◌≢◌, ◌⊎◌, ⊎_elim, ℕ, zero, suc, ◌+◌, ◌*◌, ◌<◌, ◌≤◌, ℤ, pos, ◌&&◌, IsTrue, List, [], ◌∷◌, ◌++◌, length, map, get_or, Contains, eqb, refl, sym, ap, ◌∙◌, subst, arith, true, true≢false, length-append}
-use Rattle.std.specs.List.{AllPairs, list_any}
+use Rattle.flow_d8.proofs.Prelude.{AllPairs, AreFilledLevels, Corner, IsFlowPath, IsFollowed, IsGrid, IsMosaic, Mosaic, Point, Terrain, held, holds, is_ground, list_any, step, terrain, void}
 use Rattle.std.proofs.lemmas.Bool.Decides.{Decides-eqb, eqb_tells}
 use Rattle.std.proofs.lemmas.List.{get_or-map, length-map, get_or_append_left, get_or_at}
 use Rattle.std.proofs.lemmas.Map.Made.{IsDistinct-from_AllPairs}
 use Rattle.std.proofs.lemmas.Map.Steps.{length-le_from_distinct_below}
 use Rattle.std.proofs.lemmas.Map.Views.{Contains-from_any}
-use Rattle.flow_d8.specs.Prelude.{Point, step, Corner, holds, Terrain, Mosaic, IsMosaic, void, is_ground, terrain}
-use Rattle.lattice.proofs.WaysOut.{held}
-use Rattle.flow_d8.specs.Drainage.{AreFilledLevels}
 use Rattle.flow_d8.specs.Filled.{is_holder, is_held, number_of}
-use Rattle.flow_d8.specs.FlowPath.{IsFlowPath}
-use Rattle.flow_d8.specs.FlowSteps.{IsFollowed}
-use Rattle.flow_d8.specs.Grid.{IsGrid}
 use Rattle.flow_d8.specs.PresentTiles.{corners_of, sample_count}
 use Rattle.flow_d8.proofs.Mosaics.FilledOf.{any_corner}
 use Rattle.flow_d8.proofs.Paths.FlowPaths.{one_flow_path, flow_path_exists}

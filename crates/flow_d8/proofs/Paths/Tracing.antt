@@ -1,20 +1,10 @@
 -- A trace on its way: what leads from its first point to the last one so far.
-use Rattle.std.proofs.Common.{◌≡◌, ◌↔◌, ℕ, zero, suc, ◌<◌, ℤ, IsTrue, IsFalse, Option, Some, None, List, [], ◌∷◌, ◌++◌, length, inl, inr, refl, sym, ◌∙◌, subst, arith, ⊎_elim}
-use Rattle.std.proofs.lemmas.Bool.{cases_Bool, cases_lt}
-use Rattle.std.proofs.lemmas.List.{get_or_past}
-use Rattle.std.proofs.lemmas.Option.{none-some}
-use Rattle.flow_d8.specs.Prelude.{Point, Dir, step, fits_point, Mosaic, IsMosaic, is_ground, terrain, Flow, Unknown, NoGround, Outlet, To, Beside, Flat, FlatTo}
-use Rattle.flow_d8.specs.Drainage.{IsDirection}
-use Rattle.flow_d8.specs.FlowPath.{IsFlowPath}
-use Rattle.flow_d8.specs.FlowSteps.{IsFollowed}
-use Rattle.flow_d8.specs.Filled.{is_held}
+use Rattle.flow_d8.proofs.Prelude.{Beside, Dir, Flat, FlatTo, Flow, IsDirection, IsFalse, IsFlowPath, IsFollowed, IsMosaic, IsTellingAll, IsTrue, List, Mosaic, NoGround, None, Option, Outlet, Point, Some, To, Unknown, ℕ, ℤ, [], arith, cases_Bool, cases_lt, count_of, direction_of, fits_point, get_or_past, inl, inr, is_ground, is_held, length, none-some, refl, step, subst, suc, sym, terrain, zero, ⊎_elim, ◌++◌, ◌<◌, ◌↔◌, ◌∙◌, ◌∷◌, ◌≡◌}
 use Rattle.flow_d8.proofs.Paths.Following.{followed_more, followed_end}
 use Rattle.flow_d8.proofs.Samples.Numbers.{number_past}
 use Rattle.flow_d8.proofs.Mosaics.MosaicGrid.{mosaic_is_grid}
 use Rattle.flow_d8.proofs.Mosaics.Fitting.{ground_fits}
 use Rattle.flow_d8.specs.Directions.{Directions, AreWhole, AreDirectionsOf, number_in, flow_at, flow_in, direction_in, distance_in, walk}
-use Rattle.flow_d8.specs.Flows.{IsTellingAll, direction_of}
-use Rattle.flow_d8.specs.Tiles.{count_of}
 use Rattle.flow_d8.proofs.Paths.Crossing.{told_in, walk_is, walk_nowhere}
 
 -- there is a sample of which something is told

@@ -1,8 +1,5 @@
 -- A point has at most one flat distance and at most one direction.
-use Rattle.std.proofs.Common.{◌≡◌, ℕ, ◌<◌, ℤ, inl, inr, ⊎_elim, Option, Some, None, refl, sym, ap, ◌∙◌, arith, true≢false}
-use Rattle.std.proofs.lemmas.Bool.{cases_order}
-use Rattle.flow_d8.specs.Prelude.{Point, Dir, step, order_of, Terrain}
-use Rattle.flow_d8.specs.Drainage.{IsSteepest, IsFlatDistance, IsFirstNearer, IsDirection}
+use Rattle.flow_d8.proofs.Prelude.{Dir, IsDirection, IsFirstNearer, IsFlatDistance, IsSteepest, None, Option, Point, Some, Terrain, ℕ, ℤ, ap, arith, cases_order, inl, inr, order_of, refl, step, sym, true≢false, ⊎_elim, ◌<◌, ◌∙◌, ◌≡◌}
 use Rattle.flow_d8.proofs.Steps.Compass.{same_order}
 
 module _ (t : Terrain Point) (level : Point → ℤ) where

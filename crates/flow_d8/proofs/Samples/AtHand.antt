@@ -1,15 +1,8 @@
 -- The first sample of a point is at hand exactly where a tile that holds the point is.
-use Rattle.std.proofs.Common.{◌≡◌, ℕ, ℤ, ◌*◌, ◌/◌, ◌%◌, ◌<◌, ◌++◌, [], ◌∷◌, List, length, get_or, ⊎_elim, refl, sym, subst, arith}
-use Rattle.std.proofs.lemmas.Bool.{cases_Bool}
-use Rattle.std.proofs.lemmas.List.{get_or_default}
-use Rattle.std.proofs.lemmas.Option.{slice_get_read}
-use Rattle.flow_d8.specs.Prelude.{Corner, Holds, Point, Terrain, Flow}
-use Rattle.lattice.proofs.Samples.{point_of_held}
+use Rattle.flow_d8.proofs.Prelude.{AreFlows, Corner, Flow, Holds, IsAtHand, IsFlow, List, Point, Terrain, ℕ, ℤ, [], arith, cases_Bool, flow_of, get_or, get_or_default, length, point_of_held, refl, slice_get_read, subst, sym, ⊎_elim, ◌%◌, ◌*◌, ◌++◌, ◌/◌, ◌<◌, ◌∷◌, ◌≡◌}
 use Rattle.flow_d8.specs.Filled.{is_holder, is_held, number_of}
 use Rattle.flow_d8.proofs.Samples.Inside.{any_at}
 use Rattle.flow_d8.proofs.Samples.Numbers.{seat_of, holder_holds, holds_holder, number_below, number_past, tile_below}
-use Rattle.flow_d8.specs.Flows.{IsFlow, AreFlows}
-use Rattle.flow_d8.specs.FlowGrids.{IsAtHand, flow_of}
 use Rattle.flow_d8.specs.Tiles.{Tiles, AreTiles, IsSampleOf, count_of, no_corner, place_of}
 use Rattle.flow_d8.proofs.Samples.TilePlaces.{place_number, square_some}
 use Rattle.flow_d8.proofs.Samples.Slots.{longer, as_before, at_end}

@@ -1,13 +1,6 @@
 -- Around a point off the rim of a tile lie points of that tile, at the places around its own, and no other tile holds it.
-use Rattle.std.proofs.Common.{◌≡◌, ℕ, ◌+◌, ◌-◌, ◌*◌, ◌/◌, ◌%◌, ◌<◌, ◌≤◌, pos, ◌+ℤ◌, ◌-ℤ◌, ◌*ℤ◌, ◌≤ℤ◌, true, ◌&&◌, ◌∙◌, ap, sym, subst, arith, nat_le}
-use Rattle.std.proofs.lemmas.Bool.{and_parts}
-use Rattle.std.proofs.lemmas.Bool.Decides.{nat_tests}
-use Rattle.std.proofs.lemmas.Int.{ints}
-use Rattle.std.proofs.lemmas.Nat.{div-mul-add, mod-mul-add}
-use Rattle.flow_d8.specs.Prelude.{Point, Dir, East, SouthEast, South, SouthWest, West, NorthWest, North, NorthEast, Corner, Holds, IsIndexOf, step, north_of, east_of}
+use Rattle.flow_d8.proofs.Prelude.{Corner, Dir, East, Holds, IsIndexOf, North, NorthEast, NorthWest, Point, South, SouthEast, SouthWest, West, ℕ, and_parts, ap, arith, div-mul-add, east_of, ints, is_deep, mod-mul-add, nat_le, nat_tests, north_of, place_by, pos, step, subst, sym, true, ◌%◌, ◌&&◌, ◌*ℤ◌, ◌*◌, ◌+ℤ◌, ◌+◌, ◌-ℤ◌, ◌-◌, ◌/◌, ◌<◌, ◌∙◌, ◌≡◌, ◌≤ℤ◌, ◌≤◌}
 use Rattle.lattice.proofs.Interior.{IsInner, inner_holder}
-use Rattle.flow_d8.specs.Filled.{is_deep}
-use Rattle.flow_d8.specs.Places.{place_by}
 
 le_said : (a b : ℕ) → nat_le a b ≡ true → a ≤ b
 le_said a b h = grind (arith, nat_tests)

@@ -1,13 +1,7 @@
 -- Steps from a sample deep inside its tile are steps between places of that tile.
-use Rattle.std.proofs.Common.{◌≡◌, ℕ, zero, suc, ◌+◌, ◌-◌, ◌*◌, ◌/◌, ◌%◌, ◌<◌, ◌≤◌, Bool, true, ◌&&◌, nat_le, length, get_or, drop, sym, ap, ◌∙◌, subst, arith}
-use Rattle.std.proofs.Math.Nat.{mul-le-mul_right}
-use Rattle.std.proofs.lemmas.Bool.Decides.{nat_tests}
-use Rattle.std.proofs.lemmas.Nat.{div-mul-add, mod-mul-add}
-use Rattle.flow_d8.specs.Prelude.{Corner, IsIndexOf, Holds, index_of, step, Point, Dir}
-use Rattle.lattice.proofs.Samples.{index_of_point, index_is}
+use Rattle.flow_d8.proofs.Prelude.{Bool, Corner, Dir, Holds, IsIndexOf, IsInner, Point, ℕ, ap, arith, div-mul-add, drop, get_or, index_is, index_of, index_of_point, length, mod-mul-add, mul-le-mul_right, nat_le, nat_tests, place_by, step, subst, suc, sym, true, zero, ◌%◌, ◌&&◌, ◌*◌, ◌+◌, ◌-◌, ◌/◌, ◌<◌, ◌∙◌, ◌≡◌, ◌≤◌}
 use Rattle.lattice.proofs.Interior.{IsInner as IsOffRim}
 use Rattle.flow_d8.specs.Filled.{number_of, is_deep}
-use Rattle.flow_d8.specs.Places.{place_by, IsInner}
 use Rattle.flow_d8.proofs.Samples.Beside.{deep_says, deep_inner, only, beside, inner_beside, place_from, room_before}
 use Rattle.flow_d8.proofs.Samples.Inside.{tile_and_index}
 use Rattle.flow_d8.proofs.Samples.Numbers.{tile_below}

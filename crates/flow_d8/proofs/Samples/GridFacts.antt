@@ -1,10 +1,5 @@
 -- What is known of the tiles at hand stays right of a mosaic as they come and go.
-use Rattle.std.proofs.Common.{◌≡◌, ◌≢◌, ℕ, ◌+◌, ◌*◌, ◌<◌, ◌≤◌, ℤ, List, [], ◌∷◌, ◌++◌, length, get_or, inl, inr, sym, ap, ◌∙◌, subst, arith, Contains}
-use Rattle.std.proofs.lemmas.Bool.{cases_lt, cases_eq}
-use Rattle.std.proofs.lemmas.List.{get_or_past}
-use Rattle.flow_d8.specs.Prelude.{Corner, terrain, Mosaic, IsMosaic, Terrain, Point, Flow, Unknown}
-use Rattle.flow_d8.specs.PresentTiles.{corners_of}
-use Rattle.flow_d8.specs.Flows.{IsFlow, AreFlows}
+use Rattle.flow_d8.proofs.Prelude.{AreFlows, Contains, Corner, Flow, IsFlow, IsMosaic, List, Mosaic, Point, Terrain, Unknown, ℕ, ℤ, [], ap, arith, cases_eq, cases_lt, corners_of, get_or, get_or_past, inl, inr, length, subst, sym, terrain, ◌*◌, ◌++◌, ◌+◌, ◌<◌, ◌∙◌, ◌∷◌, ◌≡◌, ◌≢◌, ◌≤◌}
 use Rattle.flow_d8.specs.FlowGrids.{AreFlowsIn, AreTileFlows, IsGridOf, StayFlows}
 use Rattle.flow_d8.specs.Tiles.{Tiles, count_of, no_corner, place_of, OnGround}
 use Rattle.flow_d8.proofs.Mosaics.FullTerrain.{mosaic_is_full}

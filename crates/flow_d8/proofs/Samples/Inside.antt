@@ -1,9 +1,5 @@
 -- Tests of corners in a list, and a number's tile and index.
-use Rattle.std.proofs.Common.{◌≡◌, ℕ, zero, suc, ◌+◌, ◌*◌, ◌/◌, ◌%◌, Bool, true, IsTrue, Option, Some, List, [], ◌∷◌, subst, arith, slice_get}
-use Rattle.std.specs.List.{list_any}
-use Rattle.std.proofs.lemmas.Bool.{or_left, or_right}
-use Rattle.std.proofs.lemmas.Grind.{rows}
-use Rattle.std.proofs.lemmas.Option.{none-some}
+use Rattle.flow_d8.proofs.Prelude.{Bool, IsTrue, List, Option, Some, ℕ, [], arith, list_any, none-some, or_left, or_right, rows, slice_get, subst, suc, true, zero, ◌%◌, ◌*◌, ◌+◌, ◌/◌, ◌∷◌, ◌≡◌}
 use Rattle.lattice.specs.Corners.{Corner}
 
 pub any_at : (P : Corner → Bool) (corners : List Corner) (k : ℕ) (c : Corner) → slice_get corners k ≡ Some c → P c ≡ true → IsTrue (list_any P corners)

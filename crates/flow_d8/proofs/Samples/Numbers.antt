@@ -1,14 +1,6 @@
 -- Points and their numbers among the samples of tiles, tile after tile: no two points have one number.
-use Rattle.std.proofs.Common.{◌≡◌, ℕ, suc, ◌+◌, ◌-◌, ◌*◌, ◌/◌, ◌%◌, ◌<◌, ◌≤◌, ℤ, pos, negsuc, ◌*ℤ◌, ◌≤ℤ◌, true, false, IsTrue, ◌&&◌, List, [], ◌∷◌, Some, length, get_or, refl, sym, ap, ◌∙◌, arith, inl, inr, ⊎_elim, true≢false, slice_get, int_le}
-use Rattle.std.proofs.lemmas.Int.{ints}
-use Rattle.std.proofs.lemmas.Bool.{cases_Bool, cond-true, cond-false, and_parts, and_from, or_cases, or_left, or_right}
-use Rattle.std.proofs.lemmas.Grind.{rows}
-use Rattle.std.proofs.Math.Nat.{mul-le-mul_right}
-use Rattle.std.proofs.lemmas.Nat.{div-mul-add, mod-mul-add}
-use Rattle.flow_d8.specs.Prelude.{Point, Corner, is_corner, Holds, holds, index_of, point_of, is_along, fits_number, fits_point, largest_side, most_tiles}
+use Rattle.flow_d8.proofs.Prelude.{Corner, Holds, IsTrue, List, Point, Some, ℕ, ℤ, [], and_from, and_parts, ap, arith, cases_Bool, cond-false, cond-true, div-mul-add, false, fits_number, fits_point, get_or, holds, index_of, inl, inr, int_le, ints, is_along, is_corner, largest_side, le_from, le_true, length, mod-mul-add, most_tiles, mul-le-mul_right, negsuc, or_cases, or_left, or_right, parts, point_of, pos, refl, rows, slice_get, suc, sym, true, true≢false, ⊎_elim, ◌%◌, ◌&&◌, ◌*ℤ◌, ◌*◌, ◌+◌, ◌-◌, ◌/◌, ◌<◌, ◌∙◌, ◌∷◌, ◌≡◌, ◌≤ℤ◌, ◌≤◌}
 use Rattle.lattice.proofs.Samples.{holds_is, index_of_below, point_of_index}
-use Rattle.lattice.proofs.Along.{parts}
-use Rattle.lattice.proofs.IntTests.{le_true, le_from}
 use Rattle.flow_d8.specs.Filled.{is_holder, is_held, number_of}
 
 pub number-here : (n : ℕ) (c : Corner) (rest : List Corner) (p : Point) → is_holder n c p ≡ true → number_of n (c ∷ rest) p ≡ index_of n c p

@@ -1,16 +1,9 @@
 -- Tiles come to the end of the list, and one may give up its place to the last.
-use Rattle.std.proofs.Common.{◌≡◌, ◌≢◌, ℕ, ◌+◌, ◌-◌, ◌*◌, ◌/◌, ◌%◌, ◌<◌, ◌≤◌, ℤ, IsTrue, List, [], ◌∷◌, ◌++◌, length, get_or, inl, inr, refl, sym, ap, ap₂, ◌∙◌, subst, arith}
-use Rattle.std.specs.List.{AllAdjacentBelow}
-use Rattle.std.proofs.lemmas.Bool.{cases_lt, cases_eq}
-use Rattle.std.proofs.lemmas.Grind.{rows}
+use Rattle.flow_d8.proofs.Prelude.{AllAdjacentBelow, AreFlows, AreFlowsIn, AreKnown, Corner, Flow, IsBefore, IsCut, IsFlow, IsTrue, List, Point, Terrain, Unknown, ℕ, ℤ, [], ap, ap₂, arith, cases_eq, cases_lt, div-mul-add, get_or, inl, inr, is_corner, length, mod-mul-add, most_tiles, point_of, refl, rows, subst, sym, ◌%◌, ◌*◌, ◌++◌, ◌+◌, ◌-◌, ◌/◌, ◌<◌, ◌∙◌, ◌∷◌, ◌≡◌, ◌≢◌, ◌≤◌}
 use Rattle.std.proofs.lemmas.List.{length-append, get_or_append_left, get_or_at, get_or-append_right, get_or_past}
-use Rattle.std.proofs.lemmas.Nat.{div-mul-add, mod-mul-add}
-use Rattle.flow_d8.specs.Prelude.{Corner, is_corner, IsBefore, point_of, most_tiles, Terrain, Point, Flow, Unknown}
 use Rattle.lattice.proofs.Rising.{rising_from, one_index}
 use Rattle.flow_d8.proofs.Samples.Inside.{tile_and_index}
 use Rattle.flow_d8.proofs.Samples.Numbers.{tile_below}
-use Rattle.flow_d8.specs.Flows.{IsFlow, AreFlows}
-use Rattle.flow_d8.specs.FlowGrids.{AreKnown, AreFlowsIn, IsCut}
 use Rattle.flow_d8.specs.Tiles.{Tiles, AreTiles, AreDistinct, count_of, no_corner, place_of}
 use Rattle.flow_d8.proofs.Samples.TilePlaces.{square_some}
 

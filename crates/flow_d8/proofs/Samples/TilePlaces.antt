@@ -1,16 +1,10 @@
 -- Samples of several tiles: the first sample of a point, and steps between samples.
-use Rattle.std.proofs.Common.{◌≡◌, ℕ, zero, suc, ◌+◌, ◌*◌, ◌<◌, ◌≤◌, false, IsTrue, List, [], ◌∷◌, length, get_or, drop, ⊎_elim, refl, sym, ap, ◌∙◌, subst, arith}
+use Rattle.flow_d8.proofs.Prelude.{AreLaid, Corner, Dir, Holds, IsBack, IsIndexOf, IsTrue, List, Point, ℕ, [], ap, arith, back_of, cases_Bool, drop, false, fits_point, get_or, index_is, index_of, length, refl, step, subst, suc, sym, zero, ⊎_elim, ◌*◌, ◌+◌, ◌<◌, ◌∙◌, ◌∷◌, ◌≡◌, ◌≤◌}
 use Rattle.std.proofs.Math.Seq.{drop-cons}
-use Rattle.std.proofs.lemmas.Bool.{cases_Bool}
 use Rattle.std.proofs.lemmas.List.{length-drop}
-use Rattle.flow_d8.specs.Prelude.{Corner, Holds, IsIndexOf, index_of, step, fits_point, Point, Dir}
-use Rattle.lattice.proofs.Samples.{index_is}
 use Rattle.flow_d8.specs.Filled.{is_holder, is_held, number_of}
-use Rattle.flow_d8.specs.Places.{back_of}
 use Rattle.flow_d8.proofs.Samples.Numbers.{number-here, number-later, number-none, number_past, holds_holder, holder_holds, seat_of, held_fits, point_at_number}
 use Rattle.flow_d8.proofs.Steps.StepBack.{step_back}
-use Rattle.flow_d8.specs.Flows.{AreLaid}
-use Rattle.flow_d8.specs.Marks.{IsBack}
 use Rattle.flow_d8.specs.Tiles.{Tiles, AreTiles, count_of, no_corner, place_of, by_of, IsFirst}
 
 module _ (n : ℕ) (side : 3 ≤ n) (corners : List Corner) (p : Point) (i : ℕ) (passed : number_of n corners p ≡ i * (n * n) + number_of n (drop i corners) p) where

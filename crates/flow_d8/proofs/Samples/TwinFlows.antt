@@ -1,14 +1,7 @@
 -- The samples of a point in several tiles.
-use Rattle.std.proofs.Common.{◌≡◌, ℕ, suc, ◌+◌, ◌*◌, ◌/◌, ◌%◌, ◌<◌, ◌≤◌, ◌⊎◌, Option, Some, None, IsTrue, List, length, get_or, set, inl, inr, refl, sym, ap, ap₂, ◌∙◌, subst, arith, MatchOption, slice_index_or}
-use Rattle.std.proofs.lemmas.Bool.{cases_eq}
-use Rattle.std.proofs.lemmas.List.{get_or-set_same, get_or-set_other, length-set}
-use Rattle.std.proofs.lemmas.Nat.{div-mul-add, mod-mul-add}
-use Rattle.std.proofs.Math.Nat.{mul-le-mul_right}
-use Rattle.flow_d8.specs.Prelude.{Corner, is_corner, Holds, IsIndexOf, index_of, point_of, Point, Flow, Unknown, Beside, Flat, FlatTo}
+use Rattle.flow_d8.proofs.Prelude.{Beside, Corner, Flat, FlatTo, Flow, Holds, IsIndexOf, IsOfFlat, IsTold, IsTrue, List, MatchOption, None, Option, Point, Some, Tells, Unknown, ℕ, ap, ap₂, arith, cases_eq, div-mul-add, get_or, get_or-set_other, get_or-set_same, index_of, inl, inr, is_corner, length, length-set, mod-mul-add, mul-le-mul_right, point_of, refl, set, slice_index_or, subst, suc, sym, ◌%◌, ◌*◌, ◌+◌, ◌/◌, ◌<◌, ◌∙◌, ◌≡◌, ◌≤◌, ◌⊎◌}
 use Rattle.lattice.proofs.Samples.{index_is, index_below, point_of_held, index_of_point_is, point_at_index}
 use Rattle.flow_d8.proofs.Samples.Inside.{tile_and_index}
-use Rattle.flow_d8.specs.Flows.{IsOfFlat, IsTold}
-use Rattle.flow_d8.specs.Rounds.{Tells}
 use Rattle.flow_d8.specs.Tiles.{Tiles, AreTiles, no_corner, place_of, IsInTile, IsSampleOf}
 use Rattle.flow_d8.proofs.Samples.TilePlaces.{square_some}
 

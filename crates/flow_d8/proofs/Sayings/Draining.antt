@@ -1,15 +1,8 @@
 -- What a flow that tells where its point drains says, and that it does so once a flat is resolved.
-use Rattle.std.proofs.Common.{◌≡◌, ℕ, ◌<◌, ℤ, IsTrue, IsFalse, Some, None, List, length, get_or, inl, ⊎_elim, refl, sym, ap, ◌∙◌, subst, true≢false, slice_index_or}
+use Rattle.flow_d8.proofs.Prelude.{AreFlows, AreKnown, Beside, CrossesFlat, Dir, Drains, Flat, FlatTo, Flow, IsDirection, IsFalse, IsFlow, IsFlowNear, IsFull, IsMosaic, IsOfFlat, IsTellingAll, IsTrue, List, Mosaic, Names, NoGround, None, Outlet, Point, Some, Tells, Terrain, To, Unknown, ℕ, ℤ, ap, direction_of, get_or, inl, is_ground, length, none-some, refl, slice_index_or, step, subst, sym, terrain, terrain_is_lawful, true≢false, ⊎_elim, ◌<◌, ◌∙◌, ◌≡◌}
 use Rattle.std.specs.Prelude.{◌↔◌}
-use Rattle.std.proofs.lemmas.Option.{none-some}
-use Rattle.flow_d8.specs.Prelude.{terrain, is_ground, Mosaic, IsMosaic, step, Terrain, Point, Dir, Flow, Unknown, NoGround, Outlet, To, Beside, Flat, FlatTo}
-use Rattle.lattice.proofs.Lawful.{terrain_is_lawful}
-use Rattle.flow_d8.specs.Drainage.{CrossesFlat, IsDirection}
 use Rattle.flow_d8.specs.Filled.{number_of}
-use Rattle.flow_d8.specs.Flows.{IsOfFlat, IsFull, Names, IsFlow, IsFlowNear, IsTellingAll, AreFlows, Drains, direction_of}
-use Rattle.flow_d8.specs.FlowGrids.{AreKnown}
 use Rattle.flow_d8.specs.Tiles.{Tiles, AreTiles, IsSampleOf, count_of, place_of}
-use Rattle.flow_d8.specs.Rounds.{Tells}
 use Rattle.flow_d8.specs.Resolution.{AreResolved}
 use Rattle.flow_d8.proofs.Samples.TilePlaces.{place_number}
 use Rattle.flow_d8.proofs.Samples.TwinFlows.{decide_flat}

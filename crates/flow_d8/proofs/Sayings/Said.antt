@@ -1,9 +1,5 @@
 -- What follows from what a flow says.
-use Rattle.std.proofs.Common.{◌≡◌, ◌⊎◌, ℤ, IsTrue, IsFalse, Some, inl, inr, ⊎_elim, refl, sym, ◌∙◌, subst, true≢false}
-use Rattle.std.proofs.lemmas.Bool.{cases_Bool}
-use Rattle.flow_d8.specs.Prelude.{Point, Dir, step, Terrain, Flow, Unknown, NoGround, Outlet, To, Beside, Flat, FlatTo}
-use Rattle.flow_d8.specs.Drainage.{CrossesFlat, IsDirection}
-use Rattle.flow_d8.specs.Flows.{IsOfFlat, IsBeside, IsTold, Names, LiesInside, IsFlow}
+use Rattle.flow_d8.proofs.Prelude.{Beside, CrossesFlat, Dir, Flat, FlatTo, Flow, IsBeside, IsDirection, IsFalse, IsFlow, IsOfFlat, IsTold, IsTrue, LiesInside, Names, NoGround, Outlet, Point, Some, Terrain, To, Unknown, ℤ, cases_Bool, inl, inr, refl, step, subst, sym, true≢false, ⊎_elim, ◌∙◌, ◌≡◌, ◌⊎◌}
 
 pub is_known : (f : Flow) → IsOfFlat f → f ≡ Unknown → ⊥
 is_known f is same = subst IsOfFlat same is

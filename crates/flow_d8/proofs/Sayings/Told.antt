@@ -1,8 +1,5 @@
 -- Samples that tell all, and what tells that a grid is no ground's.
-use Rattle.std.proofs.Common.{◌≡◌, ℕ, ℤ, List, get_or, inl, inr, ⊎_elim, refl, sym, ◌∙◌, subst, true≢false, slice_index_or}
-use Rattle.flow_d8.specs.Prelude.{step, Terrain, Point, Flow, Unknown, NoGround, Outlet, To, Beside, Flat, FlatTo}
-use Rattle.flow_d8.specs.Flows.{IsOfFlat, IsTold, IsTellingAll, IsFlow, LiesInside}
-use Rattle.flow_d8.specs.Rounds.{Tells}
+use Rattle.flow_d8.proofs.Prelude.{Beside, Flat, FlatTo, Flow, IsFlow, IsOfFlat, IsTellingAll, IsTold, LiesInside, List, NoGround, Outlet, Point, Tells, Terrain, To, Unknown, ℕ, ℤ, get_or, inl, inr, refl, slice_index_or, step, subst, sym, true≢false, ⊎_elim, ◌∙◌, ◌≡◌}
 use Rattle.flow_d8.proofs.Sayings.Said.{inside_of}
 use Rattle.flow_d8.proofs.Samples.TwinFlows.{decide_flat}
 

@@ -1,7 +1,5 @@
 -- The eight directions by their rank in code order, and the first of them with a property.
-use Rattle.std.proofs.Common.{◌≡◌, ℕ, zero, suc, ◌+◌, ◌<◌, ◌≤◌, ◌⊎◌, inl, inr, ⊎_elim, refl, sym, ap, ◌∙◌, subst, arith, get_or}
-use Rattle.std.proofs.lemmas.Bool.{cases_eq}
-use Rattle.flow_d8.specs.Prelude.{Dir, East, SouthEast, South, SouthWest, West, NorthWest, North, NorthEast, order_of, directions}
+use Rattle.flow_d8.proofs.Prelude.{Dir, East, North, NorthEast, NorthWest, South, SouthEast, SouthWest, West, ℕ, ap, arith, cases_eq, directions, get_or, inl, inr, order_of, refl, subst, suc, sym, zero, ⊎_elim, ◌+◌, ◌<◌, ◌∙◌, ◌≡◌, ◌≤◌, ◌⊎◌}
 
 pub dir_at : ℕ → Dir
 dir_at zero = East

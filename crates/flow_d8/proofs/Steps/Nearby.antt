@@ -1,12 +1,8 @@
 -- What lies around a point of a mosaic.
-use Rattle.std.proofs.Common.{◌≡◌, ℤ, false, not, IsTrue, IsFalse, Option, Some, None, List, [], ◌∷◌, length, get_or, inl, inr, refl, sym, ap, ◌∙◌, arith, true≢false}
-use Rattle.std.proofs.lemmas.Bool.{cases_Bool, cond-true, cond-false}
+use Rattle.flow_d8.proofs.Prelude.{AreFilledLevels, IsFalse, IsLevelGrid, IsTrue, List, None, Option, Some, ℤ, [], ap, arith, cases_Bool, cond-false, cond-true, false, get_or, height-le_level, inl, inr, length, level_is_unique, not, refl, sym, true≢false, ◌∙◌, ◌∷◌, ◌≡◌}
 use Rattle.std.proofs.lemmas.List.{same_lists, get_or_default}
 use Rattle.flow_d8.specs.Prelude.{Point, Dir, East, step, order_of, fits_point, Terrain, IsPath, IsFilledLevel, Mosaic, IsMosaic, void, is_void, samples_at, height_of, is_ground, same_point, is_near, share_tile, is_adjacent, terrain, metres}
 use Rattle.lattice.proofs.Lawful.{five_parts, five_from, terrain_is_lawful}
-use Rattle.lattice.proofs.Levels.{level_is_unique, height-le_level}
-use Rattle.flow_d8.specs.Drainage.{AreFilledLevels}
-use Rattle.flow_d8.specs.LevelGrid.{IsLevelGrid}
 use Rattle.flow_d8.proofs.Steps.Compass.{dir_at, order_of-dir_at}
 use Rattle.flow_d8.proofs.Steps.Surfaces.{step_near, step_other}
 use Rattle.flow_d8.proofs.Mosaics.Fitting.{ground_fits}

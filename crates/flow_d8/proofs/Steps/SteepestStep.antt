@@ -1,14 +1,8 @@
 -- The steepest way down, found one direction after another.
-use Rattle.std.proofs.Common.{◌≡◌, ℕ, zero, suc, ◌+◌, ◌*◌, ◌<◌, ◌≤◌, ℤ, ◌-ℤ◌, ◌≤ℤ◌, ◌<ℤ◌, IsTrue, IsFalse, ◌⊎◌, inl, inr, ⊎_elim, sym, ap, ◌∙◌, subst, arith, nat_abs}
+use Rattle.flow_d8.proofs.Prelude.{Best, HasLower, IsFalse, IsLevelGrid, IsLower, IsSteepest, IsSteepestOf, IsTrue, LeadsDown, ℕ, ℤ, ap, arith, drop_by, inl, inr, ints, le_or_above, level_beside, nat_abs, slope_in, subst, suc, sym, zero, ⊎_elim, ◌*◌, ◌+◌, ◌-ℤ◌, ◌<ℤ◌, ◌<◌, ◌∙◌, ◌≡◌, ◌≤ℤ◌, ◌≤◌, ◌⊎◌}
 use Rattle.std.proofs.lemmas.Bool.{cases_eq, cases_Bool, cond-true, cond-false, lt-ltb, le-ltb}
-use Rattle.std.proofs.lemmas.Int.{ints}
 use Rattle.flow_d8.specs.Prelude.{Point, Dir, SouthEast, SouthWest, NorthWest, NorthEast, step, order_of, slope_of, Terrain, void}
-use Rattle.lattice.proofs.IntTests.{le_or_above}
-use Rattle.flow_d8.specs.Drainage.{IsLower, HasLower, IsSteepest, drop_by}
 use Rattle.flow_d8.proofs.Steps.Compass.{same_order, order_below}
-use Rattle.flow_d8.specs.declared.slopes.Best.{Best}
-use Rattle.flow_d8.specs.LevelGrid.{level_beside, IsLevelGrid}
-use Rattle.flow_d8.specs.SteepestStep.{LeadsDown, slope_in, IsSteepestOf}
 
 square_some : (n : ℕ) → 0 < n → 0 < n * n
 square_some zero some = absurd (omega arith)

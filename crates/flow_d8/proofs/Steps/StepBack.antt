@@ -1,8 +1,5 @@
 -- A step and the step back.
-use Rattle.std.proofs.Common.{◌≡◌, ℤ, pos, ◌+ℤ◌, refl, ap₂, arith}
-use Rattle.std.proofs.lemmas.Int.{ints}
-use Rattle.flow_d8.specs.Prelude.{Point, Dir, East, step, north_of, east_of}
-use Rattle.flow_d8.specs.Places.{back_of}
+use Rattle.flow_d8.proofs.Prelude.{Dir, East, Point, ℤ, ap₂, arith, back_of, east_of, ints, north_of, pos, refl, step, ◌+ℤ◌, ◌≡◌}
 
 there : (v a b : ℤ) → a +ℤ b ≡ pos 0 → ((v +ℤ a) +ℤ b) ≡ v
 there v a b zero_sum = omega (arith, ints)

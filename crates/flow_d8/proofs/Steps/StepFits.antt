@@ -1,10 +1,5 @@
 -- A step from a sample's point leads to a point whose coordinates are numbers of 32 bits.
-use Rattle.std.proofs.Common.{ℕ, ◌-◌, ◌*◌, ◌/◌, ◌%◌, ◌<◌, ◌≤◌, ℤ, pos, negsuc, ◌+ℤ◌, ◌≤ℤ◌, IsTrue, get_or, length, arith, int_le}
-use Rattle.std.proofs.lemmas.Int.{ints}
-use Rattle.std.proofs.lemmas.Bool.{and_from}
-use Rattle.flow_d8.specs.Prelude.{Corner, IsIndexOf, point_of, largest_side, step, north_of, east_of, fits_number, fits_point, Point, Dir}
-use Rattle.lattice.proofs.IntTests.{le_from}
-use Rattle.lattice.proofs.Samples.{index_of_point}
+use Rattle.flow_d8.proofs.Prelude.{Corner, Dir, IsIndexOf, IsTrue, Point, ℕ, ℤ, and_from, arith, east_of, fits_number, fits_point, get_or, index_of_point, int_le, ints, largest_side, le_from, length, negsuc, north_of, point_of, pos, step, ◌%◌, ◌*◌, ◌+ℤ◌, ◌-◌, ◌/◌, ◌<◌, ◌≤ℤ◌, ◌≤◌}
 use Rattle.flow_d8.proofs.Samples.Beside.{near}
 use Rattle.flow_d8.proofs.Samples.Numbers.{corner_near, tile_below}
 use Rattle.flow_d8.specs.Tiles.{Tiles, AreTiles, count_of, no_corner, place_of}

@@ -1,11 +1,5 @@
 -- Steps lead to other points close by; and of which points a list of levels tells.
-use Rattle.std.proofs.Common.{◌≡◌, ◌≤◌, ℤ, pos, negsuc, ◌+ℤ◌, ◌-ℤ◌, Bool, true, false, IsTrue, ◌&&◌, not, length, refl, sym, ap, ◌∙◌, arith, inl, inr, nat_abs, true≢false, nat_lt, slice_index_or}
-use Rattle.std.specs.Ordering.{int_eq}
-use Rattle.std.proofs.lemmas.Int.{ints}
-use Rattle.std.proofs.lemmas.List.{get_or_past}
-use Rattle.std.proofs.lemmas.Bool.{cases_Bool, and_from}
-use Rattle.flow_d8.specs.Prelude.{Point, Dir, East, SouthEast, South, SouthWest, West, NorthWest, North, NorthEast, step, void, is_void, same_point, is_near}
-use Rattle.flow_d8.specs.Filled.{Filled, AreLevels, is_held}
+use Rattle.flow_d8.proofs.Prelude.{AreLevels, Bool, Dir, East, Filled, IsTrue, North, NorthEast, NorthWest, Point, South, SouthEast, SouthWest, West, ℤ, and_from, ap, arith, cases_Bool, false, get_or_past, inl, inr, int_eq, ints, is_held, is_near, is_void, length, nat_abs, nat_lt, negsuc, not, pos, refl, same_point, slice_index_or, step, sym, true, true≢false, void, ◌&&◌, ◌+ℤ◌, ◌-ℤ◌, ◌∙◌, ◌≡◌, ◌≤◌}
 use Rattle.flow_d8.specs.Surface.{number_in, level_at, has_level}
 use Rattle.flow_d8.proofs.Samples.Numbers.{number_past}
 

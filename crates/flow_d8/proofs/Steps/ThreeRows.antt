@@ -1,10 +1,5 @@
 -- Nine levels in three rows, of which each is a point's or that of the point beside it.
-use Rattle.std.proofs.Common.{◌≡◌, ℤ, Option, [], ◌∷◌, inl, inr, sym, ◌∙◌, subst, MatchOption, if◌then◌else◌, slice_index_or}
-use Rattle.std.proofs.lemmas.Bool.{cases_Bool, cond-true, cond-false}
-use Rattle.flow_d8.specs.Prelude.{Point, Dir, East, SouthEast, South, SouthWest, West, NorthWest, North, NorthEast, step, Terrain, void}
-use Rattle.flow_d8.specs.LevelGrid.{level_beside}
-use Rattle.flow_d8.specs.LevelsAround.{beside_of}
-use Rattle.flow_d8.specs.Places.{place_by, IsShown}
+use Rattle.flow_d8.proofs.Prelude.{Dir, East, IsShown, MatchOption, North, NorthEast, NorthWest, Option, Point, South, SouthEast, SouthWest, Terrain, West, ℤ, [], beside_of, cases_Bool, cond-false, cond-true, if◌then◌else◌, inl, inr, level_beside, place_by, slice_index_or, step, subst, sym, void, ◌∙◌, ◌∷◌, ◌≡◌}
 use Rattle.flow_d8.proofs.Steps.Nearby.{beside_there, beside_none}
 
 module _ (t : Terrain Point) (level : Point → ℤ) (p : Point) where

@@ -1,13 +1,6 @@
 -- From one wave to the next.
-use Rattle.std.proofs.Common.{◌≡◌, ℕ, zero, suc, ◌<◌, ◌≤◌, ◌⊎◌, ℤ, IsTrue, List, length, get_or, inl, inr, ⊎_elim, refl, sym, ap, ◌∙◌, subst, arith, slice_index_or}
-use Rattle.std.proofs.lemmas.Bool.{cases_eq, cases_lt}
-use Rattle.std.proofs.lemmas.List.{get_or_past}
-use Rattle.flow_d8.specs.Prelude.{Point, Dir, step, order_of, Terrain, Flow, Unknown, FlatTo}
-use Rattle.flow_d8.specs.Drainage.{CrossesFlat}
-use Rattle.flow_d8.specs.Places.{back_of}
-use Rattle.flow_d8.specs.Flows.{IsOfFlat, IsTold, Names, IsFull, LiesInside, IsFlow, AreFlows, AreLaid}
+use Rattle.flow_d8.proofs.Prelude.{Advances, AreBegun, AreFlows, AreLaid, AreMarked, AreWavesOf, CrossesFlat, Dir, FlatTo, Flow, IsFlow, IsFull, IsOfFlat, IsPassed, IsRound, IsTold, IsTrue, LiesInside, List, Names, Point, Tells, Terrain, Unknown, ℕ, ℤ, ap, arith, back_of, cases_eq, cases_lt, get_or, get_or_past, inl, inr, length, order_of, refl, slice_index_or, step, subst, suc, sym, zero, ⊎_elim, ◌<◌, ◌∙◌, ◌≡◌, ◌≤◌, ◌⊎◌}
 use Rattle.flow_d8.specs.Marks.{mark_at, IsMember, Lists, IsBack, Reaches, IsDirected}
-use Rattle.flow_d8.specs.Rounds.{AreMarked, AreBegun, IsRound, Advances, IsPassed, AreWavesOf, Tells}
 use Rattle.flow_d8.proofs.Waves.WaveLaw.{AreMembers, Leads, direction, grown, settled}
 use Rattle.flow_d8.proofs.Sayings.Said.{inside_of, beside_one, one_beside, told_inside, no_outlet, names_beside, is_known}
 use Rattle.flow_d8.proofs.Waves.Marking.{in_range}

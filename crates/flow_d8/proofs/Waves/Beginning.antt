@@ -1,12 +1,8 @@
 -- From a flat that is collected to its first wave.
-use Rattle.std.proofs.Common.{◌≡◌, ℕ, zero, suc, ◌<◌, ◌⊎◌, List, length, inl, inr, ⊎_elim, sym, ◌∙◌, subst, arith, slice_index_or}
-use Rattle.flow_d8.specs.Prelude.{Dir, Flow, Unknown}
+use Rattle.flow_d8.proofs.Prelude.{AreBegun, AreMarked, Connects, Dir, Flow, List, Run, Unknown, ℕ, arith, inl, inr, length, slice_index_or, subst, suc, sym, zero, ⊎_elim, ◌<◌, ◌∙◌, ◌≡◌, ◌⊎◌}
 use Rattle.flow_d8.specs.Marks.{mark_at, IsMember, IsSettled, AreCollected, IsFirstWave, IsBack}
-use Rattle.flow_d8.specs.Component.{Connects}
 use Rattle.flow_d8.specs.Filled.{number_of}
-use Rattle.flow_d8.specs.Rounds.{AreMarked, AreBegun}
 use Rattle.flow_d8.specs.Tiles.{Tiles, AreTiles, count_of, place_of, by_of}
-use Rattle.flow_d8.specs.declared.marks.Run.{Run}
 use Rattle.flow_d8.proofs.Waves.Marking.{in_range}
 use Rattle.flow_d8.proofs.Samples.TilePlaces.{back}
 use Rattle.flow_d8.proofs.Sayings.Said.{decide_beside, is_known}

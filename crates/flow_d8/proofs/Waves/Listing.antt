@@ -1,8 +1,5 @@
 -- Lists of samples that grow, one by one.
-use Rattle.std.proofs.Common.{◌≡◌, ℕ, ◌+◌, ◌<◌, ◌⊎◌, List, [], ◌∷◌, ◌++◌, length, get_or, inl, inr, sym, ap, ◌∙◌, subst, arith}
-use Rattle.std.proofs.lemmas.Bool.{cases_eq}
-use Rattle.std.proofs.lemmas.List.{length-append, get_or_append_left, get_or-append-add}
-use Rattle.flow_d8.specs.Marks.{Lists}
+use Rattle.flow_d8.proofs.Prelude.{List, Lists, ℕ, [], ap, arith, cases_eq, get_or, get_or-append-add, get_or_append_left, inl, inr, length, length-append, subst, sym, ◌++◌, ◌+◌, ◌<◌, ◌∙◌, ◌∷◌, ◌≡◌, ◌⊎◌}
 
 -- a list with one more
 pub record IsLonger (old new : List ℕ) (v : ℕ) : Type 0 where

@@ -1,11 +1,5 @@
 -- Marks that are written, one by one.
-use Rattle.std.proofs.Common.{◌≡◌, ℕ, ◌<◌, List, length, get_or, set, inl, inr, ⊎_elim, refl, sym, ap, ◌∙◌, subst, arith}
-use Rattle.std.proofs.lemmas.Bool.{cases_eq, cases_lt}
-use Rattle.std.proofs.lemmas.List.{get_or-set_same, get_or-set_other, length-set, get_or_past}
-use Rattle.std.proofs.lemmas.List.Sums.{sum_by-set}
-use Rattle.flow_d8.specs.Prelude.{Dir, Flow, Unknown, FlatTo}
-use Rattle.flow_d8.specs.Places.{back_of}
-use Rattle.flow_d8.specs.Marks.{mark_at, Lists, Reaches}
+use Rattle.flow_d8.proofs.Prelude.{Dir, FlatTo, Flow, List, Lists, Reaches, Unknown, ℕ, ap, arith, back_of, cases_eq, cases_lt, get_or, get_or-set_other, get_or-set_same, get_or_past, inl, inr, length, length-set, mark_at, refl, set, subst, sum_by-set, sym, ⊎_elim, ◌<◌, ◌∙◌, ◌≡◌}
 use Rattle.flow_d8.proofs.Waves.Listing.{IsLonger, lists_kept, lists_last, longer_all}
 
 pub in_range : (marks : List ℕ) (k v : ℕ) → mark_at marks k ≡ v → v < 3 → k < length marks

@@ -1,13 +1,5 @@
 -- Members that are added to a flat, run by run.
-use Rattle.std.proofs.Common.{◌≡◌, ℕ, zero, suc, ◌+◌, ◌-◌, ◌*◌, ◌%◌, ◌<◌, ◌≤◌, ◌⊎◌, ◌++◌, [], ◌∷◌, true, List, length, get_or, inl, inr, ⊎_elim, refl, sym, ap, ◌∙◌, subst, arith, slice_index_or}
-use Rattle.std.proofs.lemmas.Bool.{cases_eq, cases_lt}
-use Rattle.std.proofs.lemmas.List.{get_or_past, length-append, get_or_append_left, get_or-append-add}
-use Rattle.flow_d8.specs.Prelude.{Dir, East, SouthEast, South, SouthWest, West, NorthWest, North, NorthEast, Flow, Unknown, order_of}
-use Rattle.flow_d8.specs.Component.{Connects}
-use Rattle.flow_d8.specs.Filled.{is_deep}
-use Rattle.flow_d8.specs.Flows.{IsOfFlat}
-use Rattle.flow_d8.specs.Places.{place_by}
-use Rattle.flow_d8.specs.declared.marks.Run.{Run}
+use Rattle.flow_d8.proofs.Prelude.{Connects, Dir, East, Flow, IsOfFlat, List, North, NorthEast, NorthWest, Run, South, SouthEast, SouthWest, Unknown, West, ℕ, [], ap, arith, cases_eq, cases_lt, get_or, get_or-append-add, get_or_append_left, get_or_past, inl, inr, is_deep, length, length-append, order_of, place_by, refl, slice_index_or, subst, suc, sym, true, zero, ⊎_elim, ◌%◌, ◌*◌, ◌++◌, ◌+◌, ◌-◌, ◌<◌, ◌∙◌, ◌∷◌, ◌≡◌, ◌≤◌, ◌⊎◌}
 use Rattle.flow_d8.specs.Marks.{mark_at, AreFree, IsMember, IsIn, no_run, Covers, IsRow, AreRows, AreListed, AreFound, AreWaiting, AreOpen, IsRunAdded, IsSettled, Grows}
 use Rattle.flow_d8.specs.Tiles.{Tiles, AreTiles, count_of, by_of, IsFirst}
 use Rattle.flow_d8.proofs.Samples.DeepSteps.{deep_number, deep_by, deep_inner_at}

@@ -1,10 +1,5 @@
 -- Members beside an end come into the first wave.
-use Rattle.std.proofs.Common.{◌≡◌, ℕ, ◌<◌, ◌⊎◌, List, length, set, inl, inr, ⊎_elim, refl, sym, ap, ◌∙◌, subst, arith, slice_index_or}
-use Rattle.std.proofs.lemmas.Bool.{cases_eq, cases_lt}
-use Rattle.std.proofs.lemmas.List.{get_or-set_same, get_or-set_other, length-set, get_or_past}
-use Rattle.flow_d8.specs.Prelude.{Flow, Unknown}
-use Rattle.flow_d8.specs.Flows.{IsBeside}
-use Rattle.flow_d8.specs.Marks.{mark_at, IsMember, Lists, Begins, IsFirstWave}
+use Rattle.flow_d8.proofs.Prelude.{Begins, Flow, IsBeside, IsFirstWave, IsMember, List, Lists, Unknown, ℕ, ap, arith, cases_eq, cases_lt, get_or-set_other, get_or-set_same, get_or_past, inl, inr, length, length-set, mark_at, refl, set, slice_index_or, subst, sym, ⊎_elim, ◌<◌, ◌∙◌, ◌≡◌, ◌⊎◌}
 use Rattle.flow_d8.proofs.Waves.Listing.{IsLonger, lists_kept, lists_last, lists_either}
 
 pub member_small : (marks : List ℕ) (k : ℕ) → IsMember marks k → k < length marks

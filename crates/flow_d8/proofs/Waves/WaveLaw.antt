@@ -1,13 +1,7 @@
 -- Waves over the points of flats, or over places that stand for them.
-use Rattle.std.proofs.Common.{◌≡◌, ℕ, zero, suc, ◌≤◌, ◌<◌, ◌⊎◌, ◌↔◌, ℤ, false, IsTrue, IsFalse, Some, inl, inr, ⊎_elim, sym, ◌∙◌, subst, arith, true≢false, int_lt}
-use Rattle.std.proofs.lemmas.Bool.{cases_Bool, cases_order}
-use Rattle.std.proofs.lemmas.Int.{ints}
-use Rattle.flow_d8.specs.Prelude.{Point, Dir, step, order_of, Terrain, IsLawful}
-use Rattle.lattice.proofs.IntTests.{lt_true, lt_false}
-use Rattle.flow_d8.specs.Drainage.{IsLower, HasLower, CrossesFlat, IsFlatDistance, IsNearer, IsDirection}
+use Rattle.flow_d8.proofs.Prelude.{CrossesFlat, Dir, HasLower, IsDirection, IsFalse, IsFlatDistance, IsLawful, IsLower, IsNearer, IsStepped, IsTrue, Point, Some, Terrain, ℕ, ℤ, arith, cases_Bool, cases_order, false, inl, inr, int_lt, ints, lt_false, lt_true, order_of, step, subst, suc, sym, true≢false, zero, ⊎_elim, ◌<◌, ◌↔◌, ◌∙◌, ◌≡◌, ◌≤◌, ◌⊎◌}
 use Rattle.flow_d8.proofs.Steps.Compass.{first_dir}
 use Rattle.flow_d8.proofs.Paths.Unique.{one_distance}
-use Rattle.flow_d8.specs.Waves.{IsStepped}
 
 at_most_or_more : (a b : ℕ) → (a ≤ b) ⊎ (b < a)
 at_most_or_more a b = ⊎_elim (λ same. inl (omega arith)) (λ other. ⊎_elim (λ lt. inl (omega arith)) (λ gt. inr gt) other) (cases_order a b)

@@ -1,12 +1,7 @@
 -- What some commands make of contents, and then others.
-use Rattle.std.proofs.Common.{◌≡◌, inl, inr, ℕ, ◌+◌, List, [], ◌∷◌, ◌++◌, length, refl, sym, ap, ◌∙◌, subst, arith}
+use Rattle.store.proofs.Prelude.{ComesBy, Command, Contents, IsMadeOf, List, Mosaic, Since, ℕ, [], ap, arith, doubted_too, inl, inr, length, length-append, made_by, refl, subst, sym, ◌++◌, ◌+◌, ◌∙◌, ◌∷◌, ◌≡◌}
 use Rattle.std.specs.Prelude.{Ok, Option, Some, unwrap_or}
-use Rattle.std.proofs.lemmas.List.{length-append}
-use Rattle.lattice.specs.Mosaic.{Mosaic}
-use Rattle.edits.specs.declared.command.Command.{Command}
 use Rattle.edits.specs.Effect.{effect, unless_refused, after, accepted}
-use Rattle.engine.specs.State.{Contents, made_by}
-use Rattle.store.specs.Accepted.{Since, doubted_too, ComesBy, IsMadeOf}
 
 module _ (capacity : ℕ) where
   after_both : (m : Mosaic) (xs ys : List Command) → after capacity m (xs ++ ys) ≡ after capacity (after capacity m xs) ys

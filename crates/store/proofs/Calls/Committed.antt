@@ -1,28 +1,6 @@
 -- A command by the trees that it goes through: what commits nothing, and the commit of what was staged.
-use Rattle.std.proofs.Common.{◌≡◌, ◌≢◌, ◌⊎◌, ⊎_elim, ℕ, ◌+◌, ◌<◌, ◌^◌, true, false, refl, sym, ap, ◌∙◌, subst, arith, Result, Ok, Err, IsTrue}
-use Rattle.std.proofs.lemmas.Bool.{or_right}
-use Rattle.disk.specs.declared.disk.Disk.{Ghosts}
-use Rattle.lattice.specs.Mosaic.{Mosaic}
-use Rattle.lattice.specs.declared.refusal.Refusal.{Refusal}
-use Rattle.lattice.specs.declared.refusal.Refusal.TheVariants.{Device, NoMemory, Failed, Worn}
-use Rattle.page_codec.specs.Roots.{RootValue}
-use Rattle.catalogue.specs.Endings.{ends_any}
-use Rattle.edits.specs.Effect.{effect, unless_refused}
-use Rattle.edits.specs.Plans.{is_own, may_end}
-use Rattle.edits.specs.declared.command.Command.{Command}
-use Rattle.engine.specs.Outcomes.{AppliesNot}
-use Rattle.engine.specs.State.{Contents, State, last_number, made_by, in_doubt}
+use Rattle.store.proofs.Prelude.{AppliesNot, Command, Commits, CommitsNothing, Contents, Device, Err, Failed, Ghosts, Holds, IsApplied, IsInState, IsStaged, IsTrue, Mosaic, NoMemory, Ok, Refusal, Result, RootValue, State, Stored, Tree, Worn, ℕ, ap, arith, command_ending, commits_after, disk_of, effect, ends_any, false, has_failed, in_doubt, is_own, last_number, made_by, may_end, next_commit, or_right, refl, root_of, sinks_of, staged_in, subst, sym, true, unless_refused, ⊎_elim, ◌+◌, ◌<◌, ◌^◌, ◌∙◌, ◌≡◌, ◌≢◌, ◌⊎◌}
 use Rattle.engine.specs.Told.{may_refuse_command}
-use Rattle.cow_tree.specs.Stored.{Stored, next_commit}
-use Rattle.cow_tree.specs.Trees.{disk_of, root_of, has_failed, sinks_of, staged_in}
-use Rattle.cow_tree.specs.declared.tree.Tree.{Tree}
-use Rattle.store.specs.Ended.{IsApplied, command_ending}
-use Rattle.cow_tree.specs.Uncommitted.{CommitsNothing}
-use Rattle.derived.specs.Steps.{Commits}
-use Rattle.derived.proofs.Commits.{commits_after}
-use Rattle.store.specs.Staging.{IsStaged}
-use Rattle.store.specs.Standing.{Holds}
-use Rattle.store.specs.TreeStates.{IsInState}
 use Rattle.store.proofs.Calls.Ended as ended
 use Rattle.store.proofs.Reading.InMemory.{is_working}
 use Rattle.engine.proofs.Applying.{fails, doubt_is, no_memory}

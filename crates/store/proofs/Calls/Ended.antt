@@ -1,32 +1,8 @@
 -- A call that may commit, by the trees that it goes through: what commits nothing, and a commit of other contents.
-use Rattle.std.proofs.Common.{◌≡◌, ◌≢◌, ◌⊎◌, inl, inr, ⊎_elim, ℕ, ◌<◌, Bool, true, false, true≢false, refl, sym, ap, ap₂, ◌∙◌, Option, Some, None, Result, Ok, Err, OnErr, OnOk, IfOk, IfErr, IsTrue, if◌then◌else◌}
-use Rattle.std.proofs.lemmas.Bool.{lt-ltb}
-use Rattle.std.proofs.lemmas.Result.{IfErr-weaker, IfOk-weaker}
-use Rattle.disk.specs.Disk.{Image}
+use Rattle.store.proofs.Prelude.{Bool, Commits, Contents, Device, Ending, EndsAt, Err, Failed, Ghosts, Holds, IfErr, IfErr-weaker, IfOk, IfOk-weaker, Image, IsInState, IsTrue, LeavesOr, None, Ok, OnErr, OnOk, Option, Refusal, Result, RootValue, Some, Stands, StandsFor, StandsForState, State, Stored, Tree, Version, ℕ, ap, ap₂, disk_of, failing, false, has_failed, if_numbered, if◌then◌else◌, inl, inr, known_by, last_number, lt-ltb, never_refused, no_call_yet, not_called, number_of, ok_where, refl, refusal_is, root_of, settled_at, sinks_of, staged_in, sym, true, true≢false, working, ⊎_elim, ◌<◌, ◌∙◌, ◌≡◌, ◌≢◌, ◌⊎◌}
 use Rattle.disk.specs.Stops.{LeavesOnly, weaker}
-use Rattle.disk.specs.declared.disk.Disk.{Ghosts}
-use Rattle.lattice.specs.declared.refusal.Refusal.{Refusal}
-use Rattle.lattice.specs.declared.refusal.Refusal.TheVariants.{Device, Failed}
-use Rattle.page_codec.specs.Formats.{number_of}
-use Rattle.page_codec.specs.Roots.{RootValue}
-use Rattle.page_codec.specs.declared.version.Version.{Version}
-use Rattle.engine.specs.State.{Contents, State, last_number, if_numbered, failing, working}
 use Rattle.engine.specs.Steps.{Commits as IsCommit}
-use Rattle.cow_tree.specs.Layout.{Stands}
-use Rattle.cow_tree.specs.Stored.{Stored}
-use Rattle.cow_tree.specs.Trees.{disk_of, root_of, has_failed, sinks_of, staged_in}
-use Rattle.cow_tree.specs.declared.tree.Tree.{Tree}
-use Rattle.cow_tree.proofs.ReadOnly.{never_refused}
-use Rattle.cow_tree.proofs.Steps.{ok_where}
-use Rattle.derived.specs.Steps.{Commits}
-use Rattle.derived.proofs.Settled.{settled_at}
-use Rattle.store.specs.Ended.{LeavesOr, Ending, EndsAt}
 use Rattle.cow_tree.specs.Uncommitted.{CommitsNothing, Returns}
-use Rattle.store.specs.Standing.{Holds, StandsFor}
-use Rattle.store.specs.States.{StandsForState}
-use Rattle.store.specs.StoreState.{known_by}
-use Rattle.store.specs.TreeStates.{IsInState}
-use Rattle.cow_tree.proofs.Uncommitted.{no_call_yet, not_called, refusal_is}
 use Rattle.store.proofs.Reading.InMemory.{is_working}
 use Rattle.store.proofs.Calls.Opened.{in_state}
 use Rattle.store.proofs.Calls.States.{fails_in, stays_in}

@@ -1,23 +1,6 @@
 -- What an edit makes of the mosaic, once it is staged.
-use Rattle.std.proofs.Common.{◌≡◌, inl, inr, ⊎_elim, ℕ, true, false, List, not, refl, sym, ap, ◌∙◌, subst, None, Ok}
-use Rattle.disk.specs.declared.disk.Disk.{Ghosts}
-use Rattle.lattice.specs.Corners.{Corner, same_corner}
-use Rattle.lattice.specs.Mosaic.{Mosaic, IsMosaic}
-use Rattle.lattice.specs.declared.point.Point.{Point}
-use Rattle.catalogue.specs.Tiles.{with_sinks}
-use Rattle.edits.specs.declared.command.Command.{Command}
-use Rattle.edits.specs.declared.edit.Edit.{Edit}
-use Rattle.edits.specs.Edits.{edit_made}
-use Rattle.edits.specs.Effect.{effect}
-use Rattle.edits.specs.Touched.{goes_stale}
-use Rattle.engine.specs.State.{State}
-use Rattle.cow_tree.specs.Stored.{StoredTile, with_tile, without_tile}
-use Rattle.cow_tree.specs.Trees.{root_of, has_failed, sinks_of, staged_in}
-use Rattle.cow_tree.specs.declared.tree.Tree.{Tree}
-use Rattle.store.specs.Editing.{ComesIn, IsMade, KeepsBut, AreTilesOf}
+use Rattle.store.proofs.Prelude.{AreTilesOf, ComesIn, Command, Corner, Edit, Ghosts, IsInState, IsMade, IsMosaic, KeepFresh, KeepsBut, List, Mosaic, None, Ok, Point, State, StoredTile, Tree, ℕ, ap, edit_made, effect, false, goes_stale, has_failed, inl, inr, keepers, not, refl, root_of, same_corner, sinks_of, staged_in, staled, subst, sym, true, with_sinks, with_tile, without_tile, ⊎_elim, ◌∙◌, ◌≡◌}
 use Rattle.store.specs.Staging.{WillHold}
-use Rattle.store.specs.Staling.{staled, keepers, KeepFresh}
-use Rattle.store.specs.TreeStates.{IsInState}
 use Rattle.store.proofs.Reading.Holding.{holds_with}
 use Rattle.store.proofs.KeptPlanes.Keeping.{contains_left, found_keeper, found_with, keep_but, staled_keep}
 

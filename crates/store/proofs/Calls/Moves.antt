@@ -1,22 +1,12 @@
 -- What a call of a store leaves of what was accepted: a stop inside it finds the contents before it or after it.
-use Rattle.std.proofs.Common.{◌≡◌, ◌⊎◌, inl, inr, ⊎_elim, ℕ, Bool, true, false, true≢false, [], ◌∷◌, ◌++◌, refl, sym, ap, ◌∙◌, subst}
+use Rattle.store.proofs.Prelude.{Bool, Command, Corner, CountsSeams, Device, Event, Failed, Mosaic, NoMemory, NoTile, NotOld, Outside, Point, Refusal, Reply, TooSmall, Void, Worn, ℕ, [], ap, effect, false, inl, inr, refl, subst, sym, true, true≢false, ⊎_elim, ◌++◌, ◌∙◌, ◌∷◌, ◌≡◌, ◌⊎◌}
 use Rattle.std.specs.Prelude.{Result, Ok, Err, Some, None, Option, unwrap_or, nat_lt, if◌then◌else◌, IsFalse}
-use Rattle.lattice.specs.Corners.{Corner}
-use Rattle.lattice.specs.Mosaic.{Mosaic}
-use Rattle.lattice.specs.declared.point.Point.{Point}
-use Rattle.lattice.specs.declared.refusal.Refusal.{Refusal}
-use Rattle.lattice.specs.declared.refusal.Refusal.TheVariants.{NoTile, Outside, Void, Device, NoMemory, Failed, Worn, TooSmall, NotOld}
-use Rattle.edits.specs.declared.command.Command.{Command}
-use Rattle.edits.specs.Effect.{effect}
 use Rattle.engine.specs.State.{Contents, State, working, failing, made_by, would_make, if_numbered, in_doubt, last_number}
 use Rattle.engine.specs.Outcomes.{Fails, AppliesNot, ElevatesNot, ExportsNot, ListsNot, AnswersNot}
 use Rattle.engine.specs.Steps.{Commits, stepped, step_in_doubt, StepsNot, Steps, upgraded, Upgrades, UpgradesNot}
 use Rattle.engine.specs.Events.{Happens, Reopens, ReopensNot}
-use Rattle.engine.specs.declared.event.Event.{Event}
 use Rattle.engine.specs.declared.event.Event.TheVariants as ask
-use Rattle.engine.specs.declared.event.Reply.{Reply}
 use Rattle.engine.specs.declared.event.Reply.TheVariants as reply
-use Rattle.store.specs.Queried.{CountsSeams}
 use Rattle.store.specs.Accepted.{Since, none_asked, done_too, doubted_too, ComesBy, IsMadeOf}
 use Rattle.store.specs.Sessions.{Call, Asked, Upgraded, CountedSeams, known_by, known_without}
 use Rattle.store.proofs.Calls.AcceptedInTurn.{by_none, as_well, one_more, still_doubted}

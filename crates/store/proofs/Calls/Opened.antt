@@ -1,23 +1,9 @@
 -- When opening doesn't refuse, and what a store of a tree that was opened is at.
-use Rattle.std.proofs.Common.{◌≡◌, ◌⊎◌, inl, inr, ℕ, List, refl, sym, ap, subst, ◌∙◌, Result, Ok, Err, Some}
-use Rattle.disk.specs.Disk.{Image}
-use Rattle.lattice.specs.declared.refusal.Refusal.{Refusal}
-use Rattle.lattice.specs.declared.refusal.Refusal.TheVariants.{Device, NoMemory}
-use Rattle.page_codec.specs.Formats.{number_of}
-use Rattle.page_codec.specs.Roots.{RootValue}
+use Rattle.store.proofs.Prelude.{Contents, Device, Err, Ghosts, Holds, Image, IsInState, List, NoMemory, Ok, Refusal, Result, RootValue, Some, StandsFor, StandsForState, State, Stored, TileLocation, Tree, ℕ, ap, inl, inr, number_of, one_stored, refl, subst, sym, working, ◌∙◌, ◌≡◌, ◌⊎◌}
 use Rattle.roots.specs.Opening.{OpensAs}
 use Rattle.roots.proofs.OneAnswer.{only_root}
-use Rattle.engine.specs.State.{Contents, State, working}
-use Rattle.cow_tree.specs.Stored.{Stored}
-use Rattle.page_map.specs.TileLocations.{TileLocation}
 use Rattle.cow_tree.specs.Layout.{IsLaidOut, Stands}
 use Rattle.cow_tree.specs.Trees.{MayRefuse, disk_of, root_of, sinks_of, staged_in, IsAt as IsTreeAt}
-use Rattle.cow_tree.proofs.OneStored.{one_stored}
-use Rattle.store.specs.Standing.{Holds, StandsFor}
-use Rattle.disk.specs.declared.disk.Disk.{Ghosts}
-use Rattle.cow_tree.specs.declared.tree.Tree.{Tree}
-use Rattle.store.specs.States.{StandsForState}
-use Rattle.store.specs.TreeStates.{IsInState}
 use Rattle.derived.proofs.RootStored.{side_at, version_at, capacity_at, count_at, number_at, sinks_at, stale_at}
 
 ok_same : (a b : RootValue) → ◌≡◌ {A = Result RootValue Refusal} (Ok a) (Ok b) → a ≡ b

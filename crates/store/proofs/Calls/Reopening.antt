@@ -1,24 +1,11 @@
 -- What a reopening is as a call of an engine.
-use Rattle.std.proofs.Common.{◌≡◌, ◌≢◌, ◌⊎◌, inl, inr, ⊎_elim, ◌≤◌, true, false, IsTrue, [], ◌∷◌, refl, sym, ap, subst, Some, Result, Ok, Err, OnOk, OnErr, IfErr, IsErrOf}
-use Rattle.std.proofs.lemmas.Bool.{both_ways}
-use Rattle.disk.specs.Disk.{HasRisen}
+use Rattle.store.proofs.Prelude.{Contents, Device, Err, Failed, Ghosts, Happens, HasRisen, IfErr, IsCall, IsErrOf, IsTrue, NoMemory, Ok, OnErr, OnOk, Refusal, Reply, Result, RootValue, Some, StandsForOne, State, Store, [], allowed, answered, ap, both_ways, false, inl, inr, known_by, members, refl, subst, sym, true, working, ⊎_elim, ◌∷◌, ◌≡◌, ◌≢◌, ◌≤◌, ◌⊎◌}
 use Rattle.disk.specs.Stops.{AddsNothing, weaker}
-use Rattle.disk.specs.declared.disk.Disk.{Ghosts}
-use Rattle.lattice.specs.declared.refusal.Refusal.{Refusal}
-use Rattle.lattice.specs.declared.refusal.Refusal.TheVariants.{Device, NoMemory, Failed}
-use Rattle.page_codec.specs.Roots.{RootValue}
 use Rattle.cow_tree.specs.OverRoots.{IsRefusalOfTree}
-use Rattle.engine.specs.Engines.{answered, IsCall}
-use Rattle.engine.specs.Events.{Happens}
-use Rattle.engine.specs.State.{Contents, State, working}
 use Rattle.engine.specs.Told.{IsTold, Knows, may_refuse_reopening}
 use Rattle.engine.specs.declared.event.Event.TheVariants as ask
-use Rattle.engine.specs.declared.event.Reply.{Reply}
 use Rattle.engine.specs.declared.event.Reply.TheVariants as reply
-use Rattle.store.specs.StoreRuns.{allowed}
-use Rattle.store.specs.StoreState.{StandsForOne, known_by, members}
 use Rattle.store.specs.Stores.{IsAt, disk_of, root_of, side_of, capacity_of, has_failed}
-use Rattle.store.specs.declared.store.Store.{Store}
 
 module _ {D : Type 0} (g : Ghosts D) (old new : Store D g) where
   abbrev Opened : Result (Unit {0}) Refusal → Reply

@@ -1,18 +1,10 @@
 -- Events that a store answered, one after another.
-use Rattle.std.proofs.Common.{◌≡◌, ◌≤◌, List, [], ◌∷◌, refl, subst}
-use Rattle.disk.specs.Disk.{Image}
-use Rattle.disk.specs.declared.disk.Disk.{Ghosts}
+use Rattle.store.proofs.Prelude.{Asked, Event, Ghosts, Image, List, MakesCallsOf, Reply, Runs, Store, [], members, refl, subst, ◌∷◌, ◌≡◌, ◌≤◌}
 use Rattle.engine.specs.Engines.{IsCall, Calls, Laws}
 use Rattle.engine.specs.Runs.{last_of, Through}
-use Rattle.engine.specs.declared.event.Event.{Event}
-use Rattle.engine.specs.declared.event.Reply.{Reply}
 use Rattle.engine.proofs.Chains.{keeps, runs}
-use Rattle.store.specs.Calls.{Runs}
-use Rattle.store.specs.Sessions.{Asked, MakesCallsOf}
 use Rattle.store.specs.StoreRuns.{nothing_done, one_by_one, among_more}
-use Rattle.store.specs.StoreState.{members}
 use Rattle.store.specs.Stores.{disk_of}
-use Rattle.store.specs.declared.store.Store.{Store}
 
 module _ {D : Type 0} (g : Ghosts D) where
   module _ (only_now : (disk : D) (image : Image) → g.honest disk → g.since disk (g.moment disk) image → g.may disk image) where

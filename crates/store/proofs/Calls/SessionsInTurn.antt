@@ -1,24 +1,13 @@
 -- Sessions, one after another: by what each of them leaves, and what each opening finds of it.
-use Rattle.std.proofs.Common.{◌≡◌, ◌⊎◌, inl, inr, ⊎_elim, ℕ, ◌≤◌, List, [], ◌∷◌, ◌++◌, refl, sym, ◌∙◌, subst, arith, Result, Ok, Err, IfErr}
-use Rattle.std.proofs.lemmas.List.Elements.{Contains-push_cases}
-use Rattle.disk.specs.Disk.{Image}
-use Rattle.disk.specs.declared.disk.Disk.{Ghosts}
-use Rattle.edits.specs.declared.command.Command.{Command}
-use Rattle.engine.specs.State.{Contents, State, working}
+use Rattle.store.proofs.Prelude.{ComesBy, Command, Contains-push_cases, Contents, Err, Ghosts, IfErr, Image, IsMadeOf, LeavesStates, List, Ok, Result, Since, StandsFor, StandsForOne, StandsForState, State, Store, ℕ, [], arith, has_room, inl, inr, none_asked, refl, subst, sym, working, ⊎_elim, ◌++◌, ◌∙◌, ◌∷◌, ◌≡◌, ◌≤◌, ◌⊎◌}
 use Rattle.engine.specs.declared.event.Event.TheVariants as ask
 use Rattle.engine.specs.declared.event.Reply.TheVariants as reply
 use Rattle.cow_tree.specs.Longer.{AgreesBelow}
 use Rattle.cow_tree.proofs.LongerDisks.{stands_where_longer}
 use Rattle.roots.specs.declared.roots.NotOpened.{NotOpened}
-use Rattle.store.specs.Accepted.{Since, none_asked, ComesBy, IsMadeOf}
 use Rattle.store.specs.Sessions.{Call, Asked, Upgraded, CountedSeams, known_by, known_without, HoldsEither, IsOpening, IsRefusedWithCause, IsMade, Made, AreMade, last_store, Unopened, Ended, Stopped, MayLeave, TakesOver, Visit, AreSessions, InTurn, FindsMore, FindsBy, EachFindsIn, EachFinds, SessionsCompose}
-use Rattle.store.specs.Standing.{StandsFor}
-use Rattle.store.specs.States.{StandsForState}
 use Rattle.store.specs.StoreRuns.{same_stands}
-use Rattle.store.specs.StoreState.{StandsForOne, LeavesStates}
-use Rattle.store.specs.Upgraded.{has_room}
 use Rattle.store.specs.Stores.{disk_of, root_of, side_of, capacity_of, disk_after, IsAt}
-use Rattle.store.specs.declared.store.Store.{Store}
 use Rattle.store.proofs.Calls.AcceptedInTurn.{by_none, comes_by_both}
 use Rattle.store.proofs.Calls.StoreCalls.{ended_leaves, question_leaves}
 use Rattle.store.proofs.Calls.Moves.{MayHold, Moves, Knows, IsKnownBy, CallHappens, known_first, held_made, moved, one_of_two, second_held, second_of}

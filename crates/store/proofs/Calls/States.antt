@@ -1,17 +1,7 @@
 -- The states of a store whose tree knows the same root, before a call and after it.
-use Rattle.std.proofs.Common.{◌≡◌, inl, inr, ℕ, true, false, refl, sym, ap, ◌∙◌, subst, true≢false, None}
+use Rattle.store.proofs.Prelude.{Contents, Ghosts, Holds, Image, IsInState, IsSound, None, RootValue, StandsFor, StandsForState, State, Tree, ℕ, ap, failing, false, inl, inr, number_of, refl, stale_in, subst, sym, true, true≢false, ◌∙◌, ◌≡◌}
 use Rattle.std.proofs.lemmas.Option.{none-some}
-use Rattle.disk.specs.Disk.{Image}
-use Rattle.disk.specs.declared.disk.Disk.{Ghosts}
-use Rattle.page_codec.specs.Formats.{number_of}
-use Rattle.page_codec.specs.Roots.{RootValue}
-use Rattle.engine.specs.State.{Contents, State, failing}
 use Rattle.cow_tree.specs.Trees.{disk_of, root_of, has_failed, sinks_of, staged_in, IsAt as IsTreeAt}
-use Rattle.cow_tree.specs.declared.tree.Tree.{Tree}
-use Rattle.derived.specs.Kept.{stale_in}
-use Rattle.store.specs.Standing.{Holds, StandsFor}
-use Rattle.store.specs.States.{StandsForState}
-use Rattle.store.specs.TreeStates.{IsSound, IsInState}
 
 module _ {D : Type 0} (g : Ghosts D) (old new : Tree D g) (root : root_of new ≡ root_of old) (size : g.size (disk_of new) ≡ g.size (disk_of old)) (s : State) (at : IsInState g old s) where
   abbrev Stands : State → Image → Type 0

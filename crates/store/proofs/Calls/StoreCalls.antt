@@ -1,35 +1,14 @@
 -- The calls of a store as calls of an engine: questions, and what may commit.
-use Rattle.std.proofs.Common.{◌≡◌, ◌≢◌, ⊎_elim, ℕ, Bool, true, false, [], ◌∷◌, arith, refl, sym, ◌∙◌, ap, subst, inl, IsTrue, IsErrAnd, Result, Ok, Err, OnOk, OnErr, IfOk, IfErr}
-use Rattle.std.specs.Global.{Vec}
-use Rattle.std.proofs.lemmas.Bool.{both_ways}
-use Rattle.std.proofs.lemmas.Result.{IfErr-weaker}
-use Rattle.disk.specs.Disk.{Image}
+use Rattle.store.proofs.Prelude.{Bool, Command, Corner, Device, Err, Event, Failed, Ghosts, Happens, IfErr, IfErr-weaker, IfOk, Image, IsCall, IsErrAnd, IsTrue, LeavesStates, NoMemory, Ok, OnErr, OnOk, Refusal, Reply, Result, RootValue, StandsForOne, State, StaysFailed, Store, Vec, ℕ, [], allowed, answered, ap, arith, both_ways, false, inl, known_by, members, no_call_yet, not_called, nothing_done, number_of, refl, refused_as, subst, sym, true, ⊎_elim, ◌∙◌, ◌∷◌, ◌≡◌, ◌≢◌}
 use Rattle.disk.specs.Stops.{LeavesOnly, weaker as weaker_on, nothing_done as nothing_done_on}
-use Rattle.disk.specs.declared.disk.Disk.{Ghosts}
-use Rattle.lattice.specs.Corners.{Corner}
-use Rattle.lattice.specs.declared.refusal.Refusal.{Refusal}
-use Rattle.lattice.specs.declared.refusal.Refusal.TheVariants.{Device, NoMemory, Failed}
 use Rattle.catalogue.specs.Tiles.{corners_of}
-use Rattle.page_codec.specs.Formats.{number_of}
-use Rattle.page_codec.specs.Roots.{RootValue}
-use Rattle.engine.specs.Engines.{answered, IsCall}
-use Rattle.engine.specs.Events.{Happens}
-use Rattle.engine.specs.Outcomes.{StaysFailed}
-use Rattle.engine.specs.State.{State}
 use Rattle.engine.specs.Told.{may_refuse, IsTold, Knows, WritesFew}
-use Rattle.engine.specs.declared.event.Event.{Event}
 use Rattle.engine.specs.declared.event.Event.TheVariants as ask
-use Rattle.engine.specs.declared.event.Reply.{Reply}
 use Rattle.engine.specs.declared.event.Reply.TheVariants as reply
-use Rattle.edits.specs.declared.command.Command.{Command}
 use Rattle.engine.proofs.Questions.{IsAnswered, IsQuestion, answers_so, command_answered, knows_as, knows_refused, right_as, few_as, told, counted_so, written_so}
 use Rattle.store.specs.Ended.{HasEndedAt, LeavesOr, command_ending, event_ending}
 use Rattle.store.specs.Queried.{Queries}
 use Rattle.store.specs.Stores.{IsAt, disk_of, root_of, side_of, capacity_of, has_failed}
-use Rattle.store.specs.declared.store.Store.{Store}
-use Rattle.store.specs.StoreRuns.{allowed, nothing_done}
-use Rattle.store.specs.StoreState.{StandsForOne, LeavesStates, known_by, members}
-use Rattle.cow_tree.proofs.Uncommitted.{no_call_yet, not_called, refused_as}
 use Rattle.store.proofs.Calls.Ended.{IsNoFault, no_fault, other_refusal}
 use Rattle.store.proofs.Reading.Querying.{stays_failed_at}
 

@@ -1,24 +1,10 @@
 -- Pages of heights staged one by one for an edit.
 use Rattle.std.proofs.Common.{◌≡◌, ◌⊎◌, inl, inr, ⊎_elim, ℕ, zero, suc, ◌+◌, ◌*◌, ◌/◌, ◌%◌, ◌<◌, ◌≤◌, ℤ, pos, Bool, true, false, cond, List, [], ◌∷◌, length, get_or, set, map, All, Contains, nat_eq, refl, sym, ap, ap₂, ◌∙◌, subst, arith, Option, Some, IsTrue, slice_get, slice_set}
-use Rattle.std.specs.List.{AllZip}
-use Rattle.std.proofs.lemmas.Bool.{eqb-true, eqb-false}
+use Rattle.store.proofs.Prelude.{All-cons, All-contains, All-head, All-nil, All-set, All-tail, AllAfter, AllZip, Corner, HasPage, Heights, IsMosaic, IsTile, Mosaic, Point, Rising, Tile, corner_of, eqb-false, eqb-true, get_or_from_slice_get, is_before, keeper, keepers, pages_of, point_of, rising_tiles, same_corner, same_from, same_says, slice_get_within}
 use Rattle.std.proofs.lemmas.List.{same_lists, length-set, get_or-set_same, get_or-set_other, get_or_default}
-use Rattle.std.proofs.lemmas.List.Elements.{All-nil, All-cons, All-head, All-tail, All-set, All-contains}
-use Rattle.std.proofs.lemmas.Option.{get_or_from_slice_get, slice_get_within}
-use Rattle.lattice.specs.Corners.{Corner, same_corner, is_before}
-use Rattle.lattice.specs.Lattice.{point_of}
-use Rattle.lattice.specs.Mosaic.{Tile, Mosaic, IsTile, IsMosaic}
-use Rattle.lattice.specs.declared.point.Point.{Point}
-use Rattle.lattice.proofs.CornerOrder.{same_says, same_from}
-use Rattle.lattice.proofs.Rising.{AllAfter, Rising}
-use Rattle.catalogue.proofs.Mosaics.{corner_of, rising_tiles}
 use Rattle.edits.specs.Effect.{changed_from, edited}
 use Rattle.edits.proofs.Placing.{get-changed_from, length-changed_from}
-use Rattle.page_codec.specs.Sizes.{pages_of}
-use Rattle.page_map.specs.declared.plane.Plane.TheVariants.{Heights}
-use Rattle.cow_tree.specs.Planes.{HasPage}
 use Rattle.cow_tree.specs.Stored.{AreWhole, IsPage, PlanePages, KeptPlanes, StoredTile, samples_of_plane, mosaic_of_tiles, with_page_in, with_page}
-use Rattle.store.specs.Staling.{keeper, keepers}
 use Rattle.store.specs.Underway.{page_sample, IsEdited, stored_sample, IsPartly, IsUnderway, IsSettled, IsPageOf, LeavesPage, Advances, Settles}
 use Rattle.store.proofs.Reading.Finding.{stored_corner}
 use Rattle.store.proofs.Reading.HeldTiles.{IsFilled, AreTilesOf, as_tile}

@@ -1,22 +1,7 @@
 -- A command planned by reading the tree.
-use Rattle.std.proofs.Common.{◌≡◌, ◌≢◌, ℕ, false, Result, Ok, Err, OnOk, OnErr, IfErr, IsErrOf, refl, sym, subst, IsTrue}
-use Rattle.disk.specs.Disk.{HasRisen}
-use Rattle.disk.specs.declared.disk.Disk.{Ghosts}
-use Rattle.lattice.specs.Corners.{Corner}
-use Rattle.lattice.specs.declared.refusal.Refusal.{Refusal}
-use Rattle.lattice.specs.declared.refusal.Refusal.TheVariants.{Device, Failed, Damaged}
-use Rattle.catalogue.specs.Readers.{reads_of}
-use Rattle.catalogue.specs.Reading.{MayRefuse}
-use Rattle.edits.specs.declared.command.Command.{Command}
-use Rattle.edits.specs.Effect.{effect}
-use Rattle.edits.specs.Plans.{is_own, may_end}
-use Rattle.engine.specs.Outcomes.{AppliesNot}
-use Rattle.engine.specs.State.{State}
+use Rattle.store.proofs.Prelude.{AppliesNot, Command, Corner, Damaged, Device, Err, Failed, Ghosts, HasOnlyRead, HasRisen, HasStaged, IfErr, IsErrOf, IsTrue, MayRefuse, Ok, OnErr, OnOk, Refusal, Result, State, Tree, ℕ, effect, false, is_own, may_end, reads_of, refl, subst, sym, ◌≡◌, ◌≢◌}
 use Rattle.engine.proofs.Applying.{plan_refused}
 use Rattle.page_map.specs.PageMaps.{PageMapValue, HasFreshHeights}
-use Rattle.cow_tree.specs.Reading.{HasOnlyRead}
-use Rattle.cow_tree.specs.Trees.{HasStaged}
-use Rattle.cow_tree.specs.declared.tree.Tree.{Tree}
 pub use Rattle.cow_tree.proofs.Uncommitted.{reading}
 
 -- where only the disk refuses a read, any other refusal is of no read

@@ -1,25 +1,8 @@
 -- How many writes an edit makes.
-use Rattle.std.proofs.Common.{◌≡◌, ℕ, ◌+◌, ◌*◌, ◌≤◌, Bool, true, false, if◌then◌else◌, List, length, sym, ap, ◌∙◌, subst, arith, Result, Ok, Err, IfSome, OnOk, OnErr}
-use Rattle.std.proofs.lemmas.List.{length-map}
-use Rattle.disk.specs.declared.disk.Disk.{Ghosts}
-use Rattle.lattice.specs.Corners.{Corner}
-use Rattle.lattice.specs.declared.point.Point.{Point}
-use Rattle.lattice.specs.declared.refusal.Refusal.{Refusal}
-use Rattle.page_codec.specs.declared.version.Version.{Version}
-use Rattle.page_codec.specs.declared.version.Version.TheVariants.{One, Two}
-use Rattle.page_codec.specs.Formats.{number_of}
-use Rattle.edits.specs.declared.command.Command.{Command}
-use Rattle.edits.specs.declared.command.Command.TheVariants.{Burn, Wall, Sink, Unsink}
-use Rattle.edits.specs.declared.edit.Edit.{Edit}
+use Rattle.store.proofs.Prelude.{Bool, Burn, Command, Corner, Edit, Err, Ghosts, IfSome, IsEditOf, List, NewHeight, Ok, OnErr, OnOk, One, Point, Refusal, Result, Sink, StagesFew, StagesPages, Tree, Two, Unsink, Version, Wall, ℕ, ap, arith, corners_of, disk_of, false, has_begun, if◌then◌else◌, index_pages_due, length, length-map, named_by, number_of, page_writes, pages_with, points_of, records_due, root_of, subst, sym, true, ◌*◌, ◌+◌, ◌∙◌, ◌≡◌, ◌≤◌}
 use Rattle.edits.specs.declared.edit.Edit.TheVariants as edit
-use Rattle.edits.specs.declared.edit.NewHeight.{NewHeight}
-use Rattle.edits.specs.Edits.{IsEditOf, points_of}
 use Rattle.engine.specs.Told.{WritesFew, writes_a_point}
 use Rattle.engine.specs.declared.event.Event.TheVariants as ask
-use Rattle.cow_tree.specs.Trees.{disk_of, root_of, corners_of, has_begun, records_due}
-use Rattle.cow_tree.specs.declared.tree.Tree.{Tree}
-use Rattle.store.specs.Editing.{StagesFew, StagesPages, index_pages_due}
-use Rattle.store.specs.PagesMet.{named_by, page_writes, pages_with}
 
 -- one page more, which may begin a commit
 pub page_written : (begun : Bool) (before now : ℕ) → now ≤ before + (if begun then 1 else 2) → now ≤ before + (if begun then 0 else 1) + 1

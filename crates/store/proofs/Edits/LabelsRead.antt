@@ -1,11 +1,8 @@
 -- The two bytes of a value of a plane, in its page.
 use Rattle.std.proofs.Common.{◌≡◌, ℕ, ◌+◌, ◌-◌, ◌*◌, ◌/◌, ◌%◌, ◌<◌, List, [], length, drop, get_or, All, Some, sym, ap, ◌∙◌, subst, arith, slice_get, slice_range}
-use Rattle.std.specs.List.{concat}
+use Rattle.store.proofs.Prelude.{IsPage, PlanePages, StandsAt, concat, get_or_from_slice_get, plane_bytes, slice_get_within}
 use Rattle.std.proofs.lemmas.Grind.{same_number_lists}
 use Rattle.std.proofs.lemmas.List.{length-take, length-drop, get_or-take, get_or-drop}
-use Rattle.std.proofs.lemmas.Option.{get_or_from_slice_get, slice_get_within}
-use Rattle.cow_tree.specs.Stored.{IsPage, PlanePages, plane_bytes}
-use Rattle.tile_labellings.specs.Spots.{StandsAt}
 use Rattle.store.proofs.Pages.{length_joined, byte_joined}
 
 module _ (n : ℕ) (pages : PlanePages) (e : ℕ) (page : List ℕ) (all : All IsPage pages) (at : slice_get pages (e / 2048) ≡ Some page) (small : e < n * n) where

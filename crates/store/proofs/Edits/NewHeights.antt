@@ -1,24 +1,13 @@
 -- New heights of points: what they make of samples, page by page and all together.
-use Rattle.std.proofs.Common.{◌≡◌, ◌≢◌, ◌⊎◌, inl, inr, ⊎_elim, ℕ, suc, ◌+◌, ◌*◌, ◌/◌, ◌<◌, ◌≤◌, ℤ, Bool, true, false, cond, List, [], ◌∷◌, ◌++◌, length, get_or, set, take, take_all, Contains, nat_eq, zero, refl, sym, ap, ◌∙◌, subst, arith, ◌&&◌, ◌||◌, IsTrue}
-use Rattle.std.proofs.lemmas.Bool.{and_from, false_from_ne_true, or_right}
+use Rattle.store.proofs.Prelude.{Bool, Contains, Corner, IsEdited, IsPage, IsSample, IsTrue, LeavesPage, List, Mosaic, NewHeight, Point, ℕ, ℤ, [], and_from, ap, arith, cond, edited, false, false_from_ne_true, get_or, has_point, heightened, high_byte, inl, inr, is_corner, is_in_page, length, length-set, low_byte, nat_eq, or_right, page_sample, refl, set, subst, suc, sym, take, take_all, take_more, true, zero, ⊎_elim, ◌&&◌, ◌*◌, ◌++◌, ◌+◌, ◌/◌, ◌<◌, ◌||◌, ◌∙◌, ◌∷◌, ◌≡◌, ◌≢◌, ◌≤◌, ◌⊎◌}
 use Rattle.std.proofs.lemmas.Cmp.{nat_eq_equiv}
-use Rattle.std.proofs.lemmas.List.{length-set, take_more}
-use Rattle.hgt.specs.Bytes.{high_byte, low_byte}
-use Rattle.lattice.specs.Corners.{Corner, is_corner}
 use Rattle.lattice.specs.Ground.{same_point}
 use Rattle.lattice.specs.Lattice.{Holds, IsIndexOf, holds, index_of, point_of}
-use Rattle.lattice.specs.Mosaic.{Mosaic, IsSample}
-use Rattle.lattice.specs.declared.point.Point.{Point}
 use Rattle.lattice.proofs.SamePoints.{same_point_says, same_point_from}
 use Rattle.lattice.proofs.Samples.{held_at, holds_is, index_is, index_of_point, index_of_point_is, index_unique, point_at_index, point_of_held}
 use Rattle.lattice.proofs.Multiples.{some_side}
-use Rattle.edits.specs.declared.edit.NewHeight.{NewHeight}
 use Rattle.edits.specs.Edits.{points_of, with_height, with_heights}
-use Rattle.edits.specs.Effect.{edited}
 use Rattle.edits.proofs.Edited.{edited_none, edited_twice}
-use Rattle.cow_tree.specs.Stored.{IsPage}
-use Rattle.store.specs.PagesMet.{is_in_page, has_point}
-use Rattle.store.specs.Underway.{page_sample, heightened, IsEdited, LeavesPage}
 use Rattle.store.proofs.Pages.{with_bytes, page_with_bytes}
 use Rattle.store.proofs.Edits.VoidPages.{sample_put, sample_beside}
 

@@ -1,14 +1,9 @@
 -- Pages whose rows are none of a box's.
 use Rattle.std.proofs.Common.{◌≡◌, ℕ, zero, suc, ◌-◌, ◌*◌, ◌/◌, ◌<◌, ◌≤◌, ℤ, pos, ◌+ℤ◌, ◌-ℤ◌, ◌*ℤ◌, ◌≤ℤ◌, false, arith, ◌&&◌, int_le}
-use Rattle.std.proofs.lemmas.Bool.{and_parts, and_from, both_ways, false_from_ne_true}
-use Rattle.std.proofs.lemmas.Int.{ints}
+use Rattle.store.proofs.Prelude.{Corner, Point, and_from, and_parts, both_ways, false_from_ne_true, ints, is_in_box, point_of}
 use Rattle.std.proofs.lemmas.Nat.{le-div}
 use Rattle.std.proofs.Math.Nat.{div-mul-le_self}
-use Rattle.lattice.specs.Corners.{Corner}
-use Rattle.lattice.specs.Lattice.{point_of}
-use Rattle.lattice.specs.declared.point.Point.{Point}
 use Rattle.lattice.proofs.IntTests.{le_true, le_from}
-use Rattle.edits.specs.Effect.{is_in_box}
 
 some_edge : (n : ℕ) → 0 < n * n → 0 < n
 some_edge zero some = absurd (omega (arith, some))

@@ -1,21 +1,12 @@
 -- How many pages of heights an edit meets.
-use Rattle.std.proofs.Common.{◌≡◌, ◌⊎◌, ⊎_elim, ℕ, zero, suc, ◌+◌, ◌*◌, ◌/◌, ◌<◌, ◌≤◌, Bool, true, false, cond, List, [], ◌∷◌, ◌++◌, length, take, drop, get_or, filter, All, Contains, nat_eq, refl, sym, ap, ◌∙◌, arith, ◌&&◌, ◌||◌, Option, IfSome, IfNone, IsTrue}
+use Rattle.store.proofs.Prelude.{All, Bool, Contains, Corner, IfNone, IfSome, IsTrue, List, Option, Point, ℕ, [], ap, arith, before_not_same, cases_lt, cond, drop, eqb-true, false, false_from_ne_true, filter, get_or, has_point, holds, holds_is, index_of, is_corner, is_in_page, length, nat_eq, pages_met, pages_met_in, pages_of, pages_with, refl, same_corner, same_from, same_says, suc, sym, take, take-append-drop, take_more, true, zero, ⊎_elim, ◌&&◌, ◌*◌, ◌++◌, ◌+◌, ◌/◌, ◌<◌, ◌||◌, ◌∙◌, ◌∷◌, ◌≡◌, ◌≤◌, ◌⊎◌}
 use Rattle.std.specs.Cmp.{IsEquivalence}
 use Rattle.std.specs.List.{AllByRecursion, IsDistinct}
-use Rattle.std.proofs.lemmas.Bool.{cases_lt, eqb-true, false_from_ne_true}
-use Rattle.std.proofs.lemmas.List.{take_more, take-append-drop}
 use Rattle.std.proofs.lemmas.List.Elements.{All-contains, All-filter, filter_passes}
 use Rattle.std.proofs.lemmas.Map.Made.{is_member-Decides, length-le_from_is_member}
-use Rattle.lattice.specs.Corners.{Corner, is_corner, same_corner}
-use Rattle.lattice.specs.Lattice.{holds, index_of}
-use Rattle.lattice.specs.declared.point.Point.{Point}
 use Rattle.lattice.proofs.BoolTests.{same_tests}
-use Rattle.lattice.proofs.CornerOrder.{before_not_same, same_from, same_says}
 use Rattle.lattice.proofs.Kept.{at_most_four}
 use Rattle.lattice.proofs.Rising.{AllAfter, Rising, rising-filter}
-use Rattle.lattice.proofs.Samples.{holds_is}
-use Rattle.page_codec.specs.Sizes.{pages_of}
-use Rattle.store.specs.PagesMet.{pages_met_in, pages_met, is_in_page, has_point, pages_with}
 
 -- ---- the pages of one tile
 

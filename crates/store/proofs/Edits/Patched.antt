@@ -1,16 +1,7 @@
 -- Pages that a patch leaves.
-use Rattle.std.proofs.Common.{◌≡◌, ℕ, zero, suc, ◌+◌, ◌-◌, ◌*◌, ◌/◌, ◌<◌, ◌≤◌, ℤ, Bool, true, false, cond, List, [], ◌∷◌, length, Contains, refl, sym, ap, ap₂, ◌∙◌, subst, arith, ◌&&◌, nat_lt}
-use Rattle.std.proofs.lemmas.Bool.{or_parts}
-use Rattle.std.proofs.lemmas.List.Elements.{All-contains}
-use Rattle.lattice.specs.Corners.{Corner}
-use Rattle.lattice.specs.Lattice.{point_of}
-use Rattle.lattice.specs.Mosaic.{Tile, Mosaic, IsMosaic, IsTile}
-use Rattle.lattice.specs.declared.point.Point.{Point}
-use Rattle.catalogue.specs.Tiles.{is_listed}
-use Rattle.edits.specs.Edits.{AreVoidTiles}
+use Rattle.store.proofs.Prelude.{All-contains, AreVoidTiles, Bool, Contains, Corner, IsMosaic, IsTile, List, Mosaic, Patch, Point, Tile, ℕ, ℤ, [], ap, ap₂, arith, cond, false, is_listed, length, nat_lt, or_parts, point_of, refl, subst, suc, sym, true, zero, ◌&&◌, ◌*◌, ◌+◌, ◌-◌, ◌/◌, ◌<◌, ◌∙◌, ◌∷◌, ◌≡◌, ◌≤◌}
 use Rattle.edits.specs.Effect.{has_void_from, is_in_box, is_void_at}
 use Rattle.store.specs.Underway.{filled, has_rows, last_in_page, LeavesPage}
-use Rattle.store.specs.declared.voids.Patch.{Patch}
 use Rattle.store.proofs.Edits.PageRows.{passed_over}
 
 -- a tile without a void in the box has none at any index

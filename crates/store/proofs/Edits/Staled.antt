@@ -1,10 +1,5 @@
 -- Trees of which kept planes were given up.
-use Rattle.std.proofs.Common.{◌≡◌, ◌≤◌, ◌+◌, ℕ, suc, Bool, true, false, cond, ◌||◌, List, [], ◌∷◌, Contains, refl, ap, ap₂, ◌∙◌, arith}
-use Rattle.disk.specs.declared.disk.Disk.{Ghosts}
-use Rattle.lattice.specs.Corners.{Corner}
-use Rattle.cow_tree.specs.Stored.{StoredTile, stale_tile}
-use Rattle.cow_tree.specs.Trees.{staged_in}
-use Rattle.cow_tree.specs.declared.tree.Tree.{Tree}
+use Rattle.store.proofs.Prelude.{Bool, Contains, Corner, Ghosts, List, StoredTile, Tree, ℕ, [], ap, ap₂, arith, cond, false, refl, staged_in, stale_tile, suc, true, ◌+◌, ◌||◌, ◌∙◌, ◌∷◌, ◌≡◌, ◌≤◌}
 use Rattle.cow_tree.proofs.Uncommitted.{no_call_twice, no_call_yet}
 use Rattle.store.specs.Staling.{staled_in, staled, ChangesTiles, Stales}
 

@@ -3,23 +3,10 @@ use Rattle.std.proofs.Common.{◌≡◌, ◌≢◌, ◌⊎◌, inl, inr, ℕ, �
 use Rattle.std.proofs.lemmas.Int.{to_z-of_z, ints}
 use mir.Syntax.{w16}
 use mir.Val.{to_z, of_z}
-use Rattle.std.proofs.lemmas.Bool.{eqb-true, eqb-false, lt-ltb}
-use Rattle.std.proofs.lemmas.Bool.Decides.{Decides-int_eq}
-use Rattle.std.proofs.Math.Bool.{and-false}
-use Rattle.std.proofs.lemmas.List.{length-set, get_or-set_same, get_or-set_other, get_or_default}
-use Rattle.std.proofs.lemmas.List.Elements.{All-contains}
-use Rattle.hgt.specs.Bytes.{high_byte, low_byte, sample_of}
+use Rattle.store.proofs.Prelude.{All-contains, Corner, Decides-int_eq, IsMosaic, IsPage, IsSample, IsTile, Mosaic, Patch, Point, RimVoids, Tile, and-false, eqb-false, eqb-true, get_or-set_other, get_or-set_same, get_or_default, high_byte, is_in_box, is_void, is_void_at, length-set, low_byte, lt-ltb, point_of, sample_of, void}
 use Rattle.hgt.proofs.Words.{sample_of_bytes}
 use Rattle.lattice.specs.Block.{is_rim, rim_number}
-use Rattle.lattice.specs.Corners.{Corner}
-use Rattle.lattice.specs.Lattice.{point_of}
-use Rattle.lattice.specs.Mosaic.{Tile, Mosaic, IsTile, IsMosaic, IsSample, void, is_void}
-use Rattle.lattice.specs.declared.point.Point.{Point}
-use Rattle.edits.specs.Effect.{is_in_box, is_void_at}
-use Rattle.cow_tree.specs.Stored.{IsPage}
 use Rattle.store.specs.Underway.{page_sample, filled, is_void_by_rim, is_due, AreRimVoids, IsEdited, IsPageOf}
-use Rattle.store.specs.declared.rims.RimVoids.{RimVoids}
-use Rattle.store.specs.declared.voids.Patch.{Patch}
 use Rattle.store.proofs.Pages.{with_bytes, page_with_bytes}
 use Rattle.store.proofs.Edits.VoidPoints.{own_ground, inner_void}
 

@@ -1,21 +1,10 @@
 -- Void points, by what the tiles that hold them say.
-use Rattle.std.proofs.Common.{◌≡◌, ◌≢◌, ℕ, zero, suc, ◌*◌, ◌<◌, ℤ, Bool, true, false, cond, List, [], ◌∷◌, get_or, map, Contains, refl, sym, ap, ◌∙◌, arith, IsTrue}
+use Rattle.store.proofs.Prelude.{All-contains, Bool, Contains, Decides-int_eq, IsIndexOf, IsMosaic, IsTile, IsTrue, List, Mosaic, Point, Tile, ℕ, ℤ, [], ap, arith, cond, corner_of, false, false_from_ne_true, get_or, get_or_default, holds, holds_is, index_of_point, index_of_point_is, is_corner, is_rim, is_void, map, point_of, point_of_held, refl, rising_tiles, suc, sym, true, void, zero, ◌*◌, ◌<◌, ◌∙◌, ◌∷◌, ◌≡◌, ◌≢◌}
 use Rattle.std.specs.List.{filter}
-use Rattle.std.proofs.lemmas.Bool.{false_from_ne_true}
-use Rattle.std.proofs.lemmas.Bool.Decides.{Decides-int_eq}
-use Rattle.std.proofs.lemmas.List.{get_or_default}
-use Rattle.std.proofs.lemmas.List.Elements.{All-contains}
-use Rattle.lattice.specs.Block.{is_rim}
-use Rattle.lattice.specs.Corners.{is_corner}
-use Rattle.lattice.specs.Lattice.{IsIndexOf, holds, point_of}
-use Rattle.lattice.specs.Mosaic.{Tile, Mosaic, IsTile, IsMosaic, void, is_void}
 use Rattle.lattice.specs.Height.{sample_at, samples_at, first_height, by_seam_rule}
 use Rattle.lattice.specs.declared.height.Height.TheVariants.{At}
-use Rattle.lattice.specs.declared.point.Point.{Point}
 use Rattle.lattice.proofs.Interior.{inner_only}
 use Rattle.lattice.proofs.Rising.{one_index}
-use Rattle.lattice.proofs.Samples.{holds_is, index_of_point, index_of_point_is, point_of_held}
-use Rattle.catalogue.proofs.Mosaics.{corner_of, rising_tiles}
 use Rattle.edits.specs.Effect.{is_void_height, is_void_at}
 
 void_is : (s : ℤ) → s ≡ void → is_void s ≡ true

@@ -1,29 +1,11 @@
 -- What becomes of kept planes by a command: those of tiles that stay fresh stay right, and the others are stale.
-use Rattle.std.proofs.Common.{◌≡◌, ◌⊎◌, inl, inr, ℕ, zero, suc, ◌<◌, Bool, true, false, cond, ◌||◌, List, [], ◌∷◌, length, get_or, Contains, refl, sym, ap, ◌∙◌, subst, arith, Option, None, Ok, IfSome, IsTrue, filter}
-use Rattle.std.specs.List.{list_any}
-use Rattle.std.specs.Option.{is_none}
+use Rattle.store.proofs.Prelude.{All-contains, All-contains_itself, All-filter, AllAfter, AreRight, Bool, ComesIn, Command, Contains, Corner, Edit, IfSome, IsLabelling, IsMosaic, IsTrue, KeepFresh, KeepRight, KeepsBut, KeptPlanes, List, Mosaic, None, Ok, Option, Rising, StoredTile, ℕ, [], ap, arith, cond, contains-map, corners_of_stored, effect, false, filter, get_or, goes_stale, inl, inr, is_before, is_none, keeper, keepers, labels_in, length, levels_in, list_any, or-false, plane_bytes, refl, same_corner, stale_after, stale_corners, stale_tile, staled, staled_in, subst, suc, sym, true, with_tile, zero, ◌<◌, ◌||◌, ◌∙◌, ◌∷◌, ◌≡◌, ◌⊎◌}
 use Rattle.std.proofs.lemmas.Bool.{or_left, or_right, both_ways}
 use Rattle.std.proofs.lemmas.Option.{IfSome_then}
 use Rattle.std.proofs.lemmas.List.{length-map, get_or-map, get_or_default}
-use Rattle.std.proofs.lemmas.List.Elements.{All-filter, All-contains, All-contains_itself}
-use Rattle.std.proofs.Math.Bool.{or-false}
-use Rattle.lattice.specs.Corners.{Corner, is_before, same_corner}
-use Rattle.lattice.specs.Mosaic.{Mosaic, IsMosaic}
 use Rattle.lattice.proofs.CornerOrder.{same_from, before_not_same, after_not_same}
-use Rattle.lattice.proofs.Rising.{AllAfter, Rising}
 use Rattle.catalogue.specs.Tiles.{corners_of}
-use Rattle.tile_flood.specs.Kept.{levels_in, labels_in}
-use Rattle.tile_flood.specs.Labelling.{IsLabelling}
-use Rattle.edits.specs.declared.command.Command.{Command}
-use Rattle.edits.specs.declared.edit.Edit.{Edit}
-use Rattle.edits.specs.Effect.{effect}
-use Rattle.edits.specs.Touched.{goes_stale, stale_after}
 use Rattle.edits.proofs.FreshSinks.{block_stays}
-use Rattle.cow_tree.specs.Stored.{KeptPlanes, StoredTile, plane_bytes, stale_tile, with_tile, corners_of_stored}
-use Rattle.cow_tree.proofs.Listed.Adding.{contains-map}
-use Rattle.store.specs.Editing.{ComesIn, KeepsBut}
-use Rattle.derived.specs.Kept.{AreRight, KeepRight, stale_corners}
-use Rattle.store.specs.Staling.{staled_in, staled, KeepFresh, keeper, keepers}
 use Rattle.store.proofs.Reading.Finding.{stored_corner, after_contained, rising_stored}
 use Rattle.store.proofs.Reading.HeldTiles.{AreTilesOf, corners_held, keepers_held}
 

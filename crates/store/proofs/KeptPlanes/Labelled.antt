@@ -1,38 +1,16 @@
 -- Labellings that are kept are right where the store's tree is sure; and reads of the tree one after another.
 use Rattle.std.proofs.Common.{◌≡◌, ◌≢◌, ◌⊎◌, inl, inr, ℕ, ℤ, ◌≤ℤ◌, false, true, List, Contains, Option, Some, None, Result, Ok, Err, refl, sym, ap, ◌∙◌, subst, true≢false, arith, IsOk, IfOk, IfErr, IfSome, IsErrOf, IsErrAnd, OnErr, option_map, slice_index, slice_index_or}
-use Rattle.std.proofs.lemmas.List.Elements.{All-contains}
-use Rattle.disk.specs.Disk.{Image, HasRisen}
-use Rattle.disk.specs.declared.disk.Disk.{Ghosts}
-use Rattle.lattice.specs.Corners.{Corner}
-use Rattle.lattice.specs.Mosaic.{Mosaic, IsMosaic, void}
-use Rattle.lattice.specs.declared.refusal.Refusal.{Refusal}
-use Rattle.lattice.specs.declared.refusal.Refusal.TheVariants.{Device, NoMemory, Failed, Damaged}
-use Rattle.catalogue.specs.Readers.{reads_of}
-use Rattle.catalogue.specs.Reading.{MayRefuse}
-use Rattle.page_map.specs.Planes.{HasPlane}
+use Rattle.store.proofs.Prelude.{All-contains, AreRight, Corner, Damaged, Device, Failed, Ghosts, HasOnlyRead, HasPlane, HasRisen, Image, IsFlooded, IsInState, IsLabelling, IsMosaic, IsTileOf, KeepRight, KeptPlanes, MayRefuse, Mosaic, NoMemory, Reads, Refusal, State, StoredTile, TileLocation, Tree, contains-map, disk_of, has_failed, mosaic_of, read_again, read_nothing, reads_of, refused_as, root_of, sinks_of, staged_in, void}
 use Rattle.page_map.specs.declared.locations.KeptLocations.{KeptLocations}
 use Rattle.page_map.specs.Locations.{PlaneLocation}
-use Rattle.page_map.specs.TileLocations.{TileLocation}
 use Rattle.page_map.specs.declared.plane.Plane.TheVariants.{Levels}
-use Rattle.tile_labellings.specs.Labellings.{IsFlooded}
 use Rattle.tile_labellings.specs.Spots.{IsLabelledAt, StandsAt}
 use Rattle.tile_flood.specs.Blocks.{LabelledGround}
 use Rattle.tile_flood.specs.Kept.{AreKeptOf, labels_in, levels_in}
-use Rattle.tile_flood.specs.Labelling.{IsLabelling}
 use Rattle.tile_flood.proofs.Raised.{lowest_height}
-use Rattle.engine.specs.State.{State}
 use Rattle.cow_tree.specs.Layout.{tile_in, kept_in}
-use Rattle.cow_tree.specs.Reading.{mosaic_of, HasOnlyRead, Reads, read_nothing, read_again}
-use Rattle.cow_tree.specs.Stored.{StoredTile, KeptPlanes}
-use Rattle.cow_tree.specs.Trees.{disk_of, root_of, sinks_of, has_failed, staged_in}
-use Rattle.cow_tree.specs.declared.tree.Tree.{Tree}
-use Rattle.cow_tree.proofs.Listed.Adding.{contains-map}
 use Rattle.cow_tree.proofs.TreeReads.{same_mosaic, was_readable}
-use Rattle.cow_tree.proofs.Uncommitted.{refused_as}
-use Rattle.derived.specs.Kept.{AreRight, KeepRight}
 use Rattle.store.specs.Labelling.{IsSure, Consults}
-use Rattle.store.specs.Queried.{IsTileOf}
-use Rattle.store.specs.TreeStates.{IsInState}
 use Rattle.store.proofs.Reading.Finding.{rising_staged}
 use Rattle.store.proofs.Reading.Querying.{mosaic_at, readable_at, still_readable}
 use Rattle.store.proofs.Reading.QueryingPages.{one_tile}

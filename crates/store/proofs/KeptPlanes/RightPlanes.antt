@@ -1,16 +1,8 @@
 -- What is kept through any events.
-use Rattle.std.proofs.Common.{inl, inr, ℕ, List, [], ◌∷◌, subst, sym}
-use Rattle.disk.specs.Disk.{Image}
-use Rattle.disk.specs.declared.disk.Disk.{Ghosts}
+use Rattle.store.proofs.Prelude.{Contents, Ghosts, Image, List, StandsFor, StandsForState, State, Store, ℕ, [], inl, inr, last_of, members, subst, sym, ◌∷◌}
 use Rattle.engine.specs.Engines.{Members, AreAt}
-use Rattle.engine.specs.Runs.{last_of}
-use Rattle.engine.specs.State.{Contents, State}
 use Rattle.store.specs.KeptRight.{KeepsPlanesOf, KeepsPlanes, PlanesStayRight}
-use Rattle.store.specs.Standing.{StandsFor}
-use Rattle.store.specs.States.{StandsForState}
-use Rattle.store.specs.StoreState.{members}
 use Rattle.store.specs.Stores.{disk_of, IsAt}
-use Rattle.store.specs.declared.store.Store.{Store}
 use Rattle.store.proofs.Reading.HeldTiles.{corners_held}
 use Rattle.store.proofs.Reading.Holding.{held}
 

@@ -1,27 +1,6 @@
 -- Pages staged one after another, and what has the memory for them.
-use Rattle.std.proofs.Common.{◌≡◌, ◌⊎◌, ⊎_elim, inr, ◌≤◌, ◌+◌, ℕ, ℤ, Bool, List, length, if◌then◌else◌, true, false, Result, Ok, Err, IfErr, OnOk, OnErr, IsErrOf, refl, sym, ap, ap₂, ◌∙◌, subst, arith}
-use Rattle.disk.specs.declared.disk.Disk.{Ghosts}
-use Rattle.page_codec.specs.declared.version.Version.{Version}
-use Rattle.page_codec.specs.declared.version.Version.TheVariants.{One, Two}
-use Rattle.lattice.specs.Corners.{Corner}
-use Rattle.lattice.specs.Mosaic.{Mosaic}
-use Rattle.lattice.specs.declared.point.Point.{Point}
-use Rattle.lattice.specs.declared.refusal.Refusal.{Refusal}
-use Rattle.lattice.specs.declared.refusal.Refusal.TheVariants.{Device, NoMemory}
-use Rattle.page_codec.specs.Roots.{RootValue}
-use Rattle.page_map.specs.PageMaps.{PageMapValue}
-use Rattle.cow_tree.specs.Reading.{HasOnlyRead, Reads}
-use Rattle.cow_tree.specs.Staged.{index_page_by, pages_due}
-use Rattle.cow_tree.specs.Stored.{StoredTile}
-use Rattle.cow_tree.specs.Trees.{disk_of, root_of, has_begun, has_failed, records_due, staged_in}
-use Rattle.cow_tree.specs.Uncommitted.{CommitsNothing}
-use Rattle.cow_tree.specs.declared.tree.Tree.{Tree}
-use Rattle.cow_tree.proofs.ReadOnly.{never_refused}
-use Rattle.cow_tree.proofs.Steps.{ok_where, on_ok}
-use Rattle.store.specs.Editing.{IsRefusedEarly, MakesPages, Prepares, StagesPages, index_pages_due, writes_begun}
-use Rattle.store.specs.Underway.{IsSettled, IsUnderway, Settles}
+use Rattle.store.proofs.Prelude.{Bool, CommitsNothing, Corner, Device, Err, Ghosts, HasOnlyRead, IfErr, IsErrOf, IsRefusedEarly, IsSettled, IsUnderway, List, MakesPages, Mosaic, NoMemory, Ok, OnErr, OnOk, One, OnlyNow, PageMapValue, Point, Prepares, Reads, Refusal, Result, RootValue, Settles, StagesPages, StoredTile, Tree, Two, Version, ℕ, ℤ, ap, ap₂, arith, disk_of, false, has_begun, has_failed, if◌then◌else◌, in_memory, index_page_by, index_pages_due, inr, length, never_refused, ok_where, on_ok, pages_due, records_due, refl, refusal_is, root_of, staged_in, subst, sym, true, uncommitted_on, writes_begun, ⊎_elim, ◌+◌, ◌∙◌, ◌≡◌, ◌≤◌, ◌⊎◌}
 use Rattle.store.proofs.Edits.EditingReads.{reading, still_staged_by}
-use Rattle.cow_tree.proofs.Uncommitted.{in_memory, refusal_is, uncommitted_on, OnlyNow}
 use Rattle.store.proofs.Calls.Underway.{advances_none, advances_on}
 use Rattle.store.proofs.Edits.Staled.{changes_as, changes_none, changes_on}
 

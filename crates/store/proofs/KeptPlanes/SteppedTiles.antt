@@ -1,16 +1,9 @@
 -- What is stored once a step is made holds what the step makes of the contents.
-use Rattle.std.proofs.Common.{◌≡◌, ℕ, ◌+◌, not, List, sym, ap, ap₂, ◌∙◌, subst, filter}
-use Rattle.lattice.specs.Corners.{Corner, same_corner}
-use Rattle.lattice.specs.Mosaic.{Mosaic, IsMosaic}
-use Rattle.lattice.specs.declared.point.Point.{Point}
-use Rattle.engine.specs.State.{Contents}
-use Rattle.engine.specs.Steps.{stepped}
+use Rattle.store.proofs.Prelude.{Contents, Corner, Holds, IsMosaic, KeptPlanes, List, Mosaic, Point, Stored, ℕ, ap, ap₂, filter, mosaic_of_tiles, next_commit, not, same_corner, stepped, subst, sym, ◌+◌, ◌∙◌, ◌≡◌}
 use Rattle.cow_tree.specs.Kept.{with_kept_in, with_kept}
-use Rattle.cow_tree.specs.Stored.{KeptPlanes, Stored, next_commit, mosaic_of_tiles}
 use Rattle.derived.specs.Kept.{AreRight, KeepRight, KeepsRight, mosaic_stored}
 use Rattle.derived.specs.Steps.{IsStepped}
 use Rattle.derived.proofs.KeptTiles.{others_stay, still_right, stale_less}
-use Rattle.store.specs.Standing.{Holds}
 use Rattle.store.proofs.Reading.HeldTiles.{keepers_held, whole_filled}
 use Rattle.store.proofs.Reading.Holding.{held, holds_from}
 

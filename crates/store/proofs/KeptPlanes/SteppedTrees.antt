@@ -1,21 +1,6 @@
 -- A step of a store, by that of its tree.
-use Rattle.std.proofs.Common.{◌≡◌, ⊎_elim, ℕ, ◌+◌, ◌<◌, Bool, true, false, List, refl, sym, ap, ◌∙◌, subst, arith, Option, Some, None, Result, Ok, Err, Contains}
-use Rattle.disk.specs.declared.disk.Disk.{Ghosts}
-use Rattle.lattice.specs.Corners.{Corner}
-use Rattle.lattice.specs.Mosaic.{Mosaic}
-use Rattle.lattice.specs.declared.refusal.Refusal.{Refusal}
-use Rattle.lattice.specs.declared.refusal.Refusal.TheVariants.{Device, NoMemory, Failed, Worn}
-use Rattle.engine.specs.Outcomes.{Stays}
-use Rattle.engine.specs.State.{State, failing, last_number}
-use Rattle.engine.specs.Steps.{stepped, step_in_doubt}
-use Rattle.cow_tree.specs.Trees.{disk_of, root_of, has_failed, sinks_of, staged_in}
-use Rattle.cow_tree.specs.declared.tree.Tree.{Tree}
+use Rattle.store.proofs.Prelude.{Bool, Contains, Corner, Device, Ending, EndsAt, Err, Failed, Ghosts, Holds, IsInState, List, Mosaic, NoMemory, None, Ok, Option, Refusal, Result, Some, State, Stays, Tree, Worn, ℕ, ap, arith, disk_of, failing, false, has_failed, known_by, last_number, refl, root_of, settled_at, sinks_of, staged_in, step_ending, step_in_doubt, stepped, subst, sym, true, ⊎_elim, ◌+◌, ◌<◌, ◌∙◌, ◌≡◌}
 use Rattle.derived.specs.Steps.{StaysClean, MayStep, Steps, HasStepped}
-use Rattle.derived.proofs.Settled.{settled_at}
-use Rattle.store.specs.Ended.{Ending, EndsAt, step_ending}
-use Rattle.store.specs.Standing.{Holds}
-use Rattle.store.specs.StoreState.{known_by}
-use Rattle.store.specs.TreeStates.{IsInState}
 use Rattle.store.proofs.Calls.Ended as ended
 use Rattle.store.proofs.Reading.InMemory.{is_working}
 use Rattle.store.proofs.KeptPlanes.SteppedTiles.{stored_mosaic, stored_right, stepped_holds}

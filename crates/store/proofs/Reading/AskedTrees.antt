@@ -1,37 +1,18 @@
 -- What a question of water over a store's tree leaves and answers: the tree is read as samples, by one call.
 use Rattle.std.proofs.Common.{◌≡◌, ◌↔◌, ℕ, ◌≤◌, false, List, length, map, refl, sym, ap, ◌∙◌, subst, arith, ◌≢◌, ℤ, IsTrue, Result, Ok, Err, None, IsOk, IfErr, OnOk, OnErr, MatchResult, Vec, Global, IfOk, IsErrOf, IsErrAnd, Contains}
-use Rattle.std.proofs.lemmas.List.{length-map}
-use Rattle.disk.specs.declared.disk.Disk.{Ghosts}
-use Rattle.lattice.specs.Corners.{Corner}
+use Rattle.store.proofs.Prelude.{Corner, Device, DrainageCache, EntryValue, Event, Failed, Ghosts, HasOnlyRead, HasRisen, IsCall, IsHeldOf, IsInState, IsQueried, IsQuestion, IsRoot, IsSure, MayRefuse, NoTile, Outside, Point, Refusal, Reply, RootValue, State, Store, Tree, Void, answered, capacity_of, ends_any, failing, height_of, items_in, length-map, members, mosaic_of, refused_as, same_mosaic}
 use Rattle.lattice.specs.Limits.{most_tiles}
 use Rattle.lattice.specs.Mosaic.{Mosaic, is_present, samples_of}
-use Rattle.lattice.specs.declared.point.Point.{Point}
-use Rattle.lattice.specs.declared.refusal.Refusal.{Refusal}
-use Rattle.lattice.specs.declared.refusal.Refusal.TheVariants.{Device, Outside, Void, Failed, NoTile}
-use Rattle.page_codec.specs.Entries.{EntryValue}
-use Rattle.page_codec.specs.Roots.{RootValue, IsRoot}
 use Rattle.catalogue.specs.Tiles.{corners_of}
-use Rattle.engine.specs.State.{State, failing}
-use Rattle.cow_tree.specs.Reading.{mosaic_of, HasOnlyRead}
 use Rattle.cow_tree.specs.Trees.{disk_of, root_of, has_failed, corners_of as corners_under}
-use Rattle.store.specs.Stores.{capacity_of}
-use Rattle.cow_tree.specs.declared.tree.Tree.{Tree}
 use Rattle.drainage.specs.Asking.{IsHeldByNone, may_refuse}
-use Rattle.drainage.specs.Between.{IsHeldOf}
-use Rattle.drainage.specs.declared.drainage_cache.DrainageCache.{DrainageCache}
-use Rattle.engine.specs.Engines.{items_in, answered, IsCall}
-use Rattle.store.specs.TreeStates.{IsInState}
 use Rattle.store.proofs.Reading.InMemory.{corners_are}
 use Rattle.store.specs.Water.{IsHolding, IsAskedOf}
-use Rattle.cow_tree.proofs.TreeReads.{same_mosaic}
 use Rattle.store.proofs.Reading.Querying.{mosaic_at, right_at, true_where, still_at, failing_at, valid_at, stays_at, queried, fails_so, still_clean}
 use Rattle.std.proofs.lemmas.Result.{on_ok_weaker, on_err_weaker, IfErr-weaker}
-use Rattle.disk.specs.Disk.{HasRisen}
 use Rattle.lattice.specs.Ground.{is_ground, terrain}
-use Rattle.lattice.specs.Height.{height_of}
 use Rattle.lattice.specs.declared.height.Height.TheVariants as height
 use Rattle.catalogue.specs.Asked.{Asked}
-use Rattle.catalogue.specs.Reading.{MayRefuse}
 use Rattle.catalogue.specs.declared.samples.Samples.{Ghosts as Samples}
 use Rattle.catalogue.proofs.Asking.{asked_risen, asked_works, asked_fails, asked_quiet}
 use Rattle.flow_d8.specs.Drainage.{AreFilledLevels}
@@ -39,18 +20,9 @@ use Rattle.watershed.specs.Questions.{IsAnswered, IsUnanswered}
 use Rattle.engine.specs.Told.{may_refuse as event_may_refuse}
 use Rattle.engine.specs.Outcomes.{Stays, Fails, TellsTile}
 use Rattle.drainage.proofs.Questions.Answered.{told, told_or_short}
-use Rattle.store.specs.Labelling.{IsSure}
-use Rattle.store.specs.Queried.{IsQueried}
 use Rattle.store.proofs.KeptPlanes.Labelled.{still_sure}
-use Rattle.catalogue.specs.Endings.{ends_any}
 use Rattle.catalogue.proofs.Presence.{present_iff}
-use Rattle.engine.specs.declared.event.Event.{Event}
-use Rattle.engine.specs.declared.event.Reply.{Reply}
 use Rattle.engine.proofs.Answered.{tells}
-use Rattle.engine.proofs.Questions.{IsQuestion}
-use Rattle.store.specs.StoreState.{members}
-use Rattle.store.specs.declared.store.Store.{Store}
-use Rattle.cow_tree.proofs.Uncommitted.{refused_as}
 use Rattle.store.proofs.Reading.QueryingPages.{no_tile_of}
 use Rattle.store.proofs.Calls.StoreCalls.{HasOnlyNow, asked, refused_it}
 

@@ -1,15 +1,7 @@
 -- The stored tile of a corner: its samples and its bytes are those of the mosaic's tile.
-use Rattle.std.proofs.Common.{◌≡◌, ℕ, zero, suc, ℤ, Bool, cond, IsTrue, List, [], ◌∷◌, map, Contains, sym, ap, ◌∙◌, subst, arith, Some}
-use Rattle.std.proofs.lemmas.List.Elements.{All-contains}
-use Rattle.lattice.specs.Corners.{Corner, is_before}
+use Rattle.store.proofs.Prelude.{All-contains, AllAfter, Bool, Contains, Corner, IsTrue, List, Point, Rising, Some, StoredTile, ℕ, ℤ, [], ap, arith, before_not_same, cond, corner_of, hgt_bytes, is_before, map, mosaic_of_tiles, plane_bytes, rising_tiles, same_from, samples_of_plane, subst, suc, sym, zero, ◌∙◌, ◌∷◌, ◌≡◌}
 use Rattle.lattice.specs.Mosaic.{Mosaic, IsMosaic, samples_among, samples_of}
-use Rattle.hgt.specs.Bytes.{hgt_bytes}
 use Rattle.hgt.proofs.BytesLemmas.{hgt_bytes-samples_in}
-use Rattle.catalogue.proofs.Mosaics.{corner_of, rising_tiles}
-use Rattle.lattice.proofs.CornerOrder.{before_not_same, same_from}
-use Rattle.lattice.proofs.Rising.{AllAfter, Rising}
-use Rattle.lattice.specs.declared.point.Point.{Point}
-use Rattle.cow_tree.specs.Stored.{StoredTile, mosaic_of_tiles, plane_bytes, samples_of_plane}
 use Rattle.store.proofs.Pages.{bytes_of_plane, length_plane}
 use Rattle.store.proofs.Reading.HeldTiles.{IsFilled, AreTilesOf, as_tile}
 

@@ -1,22 +1,14 @@
 -- Stored tiles as the tiles of a mosaic: what holds contents, and what staging makes of it.
-use Rattle.std.proofs.Common.{◌≡◌, ℕ, ◌*◌, ◌<◌, ◌≤◌, ℤ, Bool, true, false, cond, not, List, [], ◌∷◌, length, map, All, refl, sym, ap, ap₂, ◌∙◌, subst, arith}
-use Rattle.std.specs.List.{AllZip}
-use Rattle.std.proofs.lemmas.List.Elements.{All-nil, All-cons, All-head, All-tail, All-filter}
-use Rattle.lattice.specs.Corners.{Corner, is_before, same_corner}
-use Rattle.lattice.specs.Mosaic.{Tile, Mosaic, IsTile}
-use Rattle.page_codec.specs.Sizes.{pages_of}
+use Rattle.store.proofs.Prelude.{All, All-cons, All-filter, All-head, All-nil, All-tail, AllZip, AreWhole, Bool, Corner, HoldsTile, IsTile, List, Mosaic, StoredTile, Tile, ℕ, ℤ, [], ap, ap₂, arith, cond, corner_of, corners_of_stored, false, is_before, length, map, not, pages_of, pages_of_bytes, plane_bytes, refl, same_corner, stale_tile, subst, sym, true, with_tile, without_tile, ◌*◌, ◌<◌, ◌∙◌, ◌∷◌, ◌≡◌, ◌≤◌}
 use Rattle.hgt.specs.Bytes.{samples_in}
 use Rattle.hgt.proofs.BytesLemmas.{samples_are_samples_in, AreHgtBytes-samples_in}
 use Rattle.catalogue.specs.Tiles.{corners_of, added, without}
 use Rattle.catalogue.specs.Tiles as mosaics
-use Rattle.catalogue.proofs.Mosaics.{corner_of}
-use Rattle.cow_tree.specs.Stored.{StoredTile, AreWhole, plane_bytes, pages_of_bytes, without_tile, with_tile, stale_tile, corners_of_stored}
 use Rattle.cow_tree.proofs.Writes.Dropping.{filter-map}
 use Rattle.cow_tree.proofs.Writes.Planes.{plane_read_back, length-pages_of_bytes, whole_pages}
 pub use Rattle.derived.proofs.KeptTiles.{as_tile}
 use Rattle.derived.proofs.KeptTiles.{same_tiles, still_all}
 pub use Rattle.store.specs.Editing.{IsFilled, AreTilesOf}
-use Rattle.store.specs.Standing.{HoldsTile}
 use Rattle.store.proofs.Pages.{bytes_of_plane, length_plane, long_enough}
 
 -- ---- what holds tiles

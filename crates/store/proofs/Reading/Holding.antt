@@ -1,18 +1,5 @@
 -- What a store holds from one commit to the next.
-use Rattle.std.proofs.Common.{◌≡◌, ℕ, ◌+◌, List, All, refl, sym, ap, ap₂, ◌∙◌, subst, Ok}
-use Rattle.std.specs.List.{AllZip}
-use Rattle.page_codec.specs.Formats.{number_of}
-use Rattle.lattice.specs.Corners.{Corner}
-use Rattle.lattice.specs.declared.point.Point.{Point}
-use Rattle.lattice.specs.Mosaic.{Tile, Mosaic, IsTile, IsMosaic}
-use Rattle.edits.specs.declared.command.Command.{Command}
-use Rattle.edits.specs.Effect.{effect}
-use Rattle.engine.specs.State.{Contents, made_by}
-use Rattle.edits.specs.Touched.{stale_after}
-use Rattle.cow_tree.specs.Stored.{StoredTile, Stored, next_commit, mosaic_of_tiles}
-use Rattle.cow_tree.proofs.OneStored.{one_stored}
-use Rattle.derived.specs.Kept.{KeepRight, stale_corners}
-use Rattle.store.specs.Staling.{KeepFresh}
+use Rattle.store.proofs.Prelude.{All, AllZip, Command, Contents, Corner, IsMosaic, IsTile, KeepFresh, KeepRight, List, Mosaic, Ok, Point, Stored, StoredTile, Tile, ℕ, ap, ap₂, effect, made_by, mosaic_of_tiles, next_commit, number_of, one_stored, refl, stale_after, stale_corners, subst, sym, ◌+◌, ◌∙◌, ◌≡◌}
 use Rattle.store.specs.Standing.{HoldsTile, Holds, AreSame, StandsForOneContents}
 use Rattle.store.proofs.Reading.HeldTiles.{AreTilesOf, tiles_held, tiles_filled, filled_hold}
 use Rattle.store.proofs.KeptPlanes.Keeping.{right_next, stale_next}

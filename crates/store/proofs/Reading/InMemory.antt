@@ -1,26 +1,10 @@
 -- The commands of whole tiles in a state, by what the tree holds in memory.
-use Rattle.std.proofs.Common.{◌≡◌, ℕ, ◌-◌, length, false, List, [], ◌∷◌, map, refl, sym, ap, ap₂, ◌∙◌, Ok}
-use Rattle.std.proofs.lemmas.List.{length-map}
-use Rattle.disk.specs.Disk.{Image}
-use Rattle.disk.specs.declared.disk.Disk.{Ghosts}
-use Rattle.lattice.specs.Corners.{Corner}
-use Rattle.lattice.specs.Mosaic.{Mosaic}
+use Rattle.store.proofs.Prelude.{Command, Corner, Ghosts, Image, Info, IsInState, IsSound, List, Mosaic, Ok, State, TileLocation, Tree, ℕ, [], ap, ap₂, corners_of_stored, effect, false, last_number, length, length-map, map, number_of, refl, stale_in, sym, tile_in, ◌-◌, ◌∙◌, ◌∷◌, ◌≡◌}
 use Rattle.catalogue.specs.Tiles.{corners_of}
-use Rattle.edits.specs.declared.command.Command.{Command}
-use Rattle.edits.specs.Effect.{effect}
 use Rattle.engine.specs.Outcomes.{IsWorn, info_of}
-use Rattle.engine.specs.declared.info.Info.{Info}
 use Rattle.engine.proofs.Infos.{same_info}
-use Rattle.page_codec.specs.Formats.{number_of}
-use Rattle.derived.specs.Kept.{stale_in}
-use Rattle.engine.specs.State.{State, last_number}
-use Rattle.page_map.specs.TileLocations.{TileLocation}
-use Rattle.cow_tree.specs.Layout.{tile_in}
 use Rattle.page_map.specs.PageMaps.{corners_of_locations}
-use Rattle.cow_tree.specs.Stored.{corners_of_stored}
 use Rattle.cow_tree.specs.Trees.{disk_of, root_of, has_failed, corners_of as corners_under}
-use Rattle.cow_tree.specs.declared.tree.Tree.{Tree}
-use Rattle.store.specs.TreeStates.{IsSound, IsInState}
 use Rattle.store.proofs.Reading.HeldTiles.{corners_held}
 use Rattle.store.proofs.Reading.Holding.{held}
 

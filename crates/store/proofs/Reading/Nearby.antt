@@ -1,17 +1,7 @@
 -- Kept planes given up of the tiles that pass a test, corner by corner.
-use Rattle.std.proofs.Common.{◌≡◌, ℕ, ◌+◌, ◌<◌, ◌≤◌, Bool, true, false, ◌||◌, ◌&&◌, List, length, take, get_or, take_all, Contains, refl, sym, ap, ◌∙◌, subst}
-use Rattle.std.specs.List.{list_any}
-use Rattle.std.proofs.lemmas.Bool.{and_from}
+use Rattle.store.proofs.Prelude.{Bool, Contains, Corner, Ghosts, List, Stales, StoredTile, Tree, ℕ, and_from, ap, contains-map, corners_of, disk_of, false, get_or, length, list_any, refl, same_corner, same_from, same_says, staged_in, subst, sym, take, take_all, true, ◌&&◌, ◌+◌, ◌<◌, ◌||◌, ◌∙◌, ◌≡◌, ◌≤◌}
 use Rattle.std.proofs.lemmas.List.Folds.{list_any_at, list_any_none, list_any_more}
 use Rattle.std.proofs.Math.Bool.{or-false, and-true, and-false}
-use Rattle.disk.specs.declared.disk.Disk.{Ghosts}
-use Rattle.lattice.specs.Corners.{Corner, same_corner}
-use Rattle.lattice.proofs.CornerOrder.{same_says, same_from}
-use Rattle.cow_tree.specs.Stored.{StoredTile}
-use Rattle.cow_tree.specs.Trees.{disk_of, corners_of, staged_in}
-use Rattle.cow_tree.specs.declared.tree.Tree.{Tree}
-use Rattle.cow_tree.proofs.Listed.Adding.{contains-map}
-use Rattle.store.specs.Staling.{Stales}
 use Rattle.store.proofs.Reading.Finding.{stored_corner}
 use Rattle.store.proofs.Reading.InMemory.{corners_kept}
 use Rattle.store.proofs.Edits.Staled.{stales_on, stales_as}

@@ -1,27 +1,7 @@
 -- What a query leaves, by the tree before and after its reads.
-use Rattle.std.proofs.Common.{◌≡◌, ◌≢◌, ℕ, Bool, true, false, List, refl, sym, ap, ◌∙◌, subst, true≢false, None, Result, Ok, Err, IsErrOf, IfOk, IfErr, OnOk, OnErr}
-use Rattle.disk.specs.Disk.{Image, HasRisen}
-use Rattle.disk.specs.declared.disk.Disk.{Ghosts}
-use Rattle.lattice.specs.Mosaic.{Mosaic, IsMosaic}
-use Rattle.lattice.specs.declared.point.Point.{Point}
-use Rattle.lattice.specs.declared.refusal.Refusal.{Refusal}
-use Rattle.lattice.specs.declared.refusal.Refusal.TheVariants.{Device, Failed}
-use Rattle.catalogue.specs.Reading.{MayRefuse}
-use Rattle.engine.specs.Outcomes.{Stays, StaysFailed, Fails}
-use Rattle.engine.specs.State.{State, failing}
+use Rattle.store.proofs.Prelude.{Bool, Device, DrainageCache, Err, Failed, Fails, Ghosts, HasOnlyRead, HasRisen, IfErr, IfOk, Image, IsClean, IsErrOf, IsHeldOf, IsHolding, IsInState, IsMosaic, IsQueried, IsReadable, List, MayRefuse, Mosaic, None, Ok, OnErr, OnOk, Point, Refusal, Result, State, Stays, StaysFailed, StoredTile, Tree, ℕ, ap, disk_of, failing, false, has_failed, mosaic_of, mosaic_of_tiles, never_refused, refl, root_of, staged_in, subst, sym, true, true≢false, ◌∙◌, ◌≡◌, ◌≢◌}
 use Rattle.cow_tree.proofs.Clean.{still_clean as clean_still}
-use Rattle.cow_tree.proofs.ReadOnly.{never_refused}
 use Rattle.cow_tree.proofs.TreeReads.{still_readable as readable_still}
-use Rattle.cow_tree.specs.Reading.{mosaic_of, IsReadable, HasOnlyRead}
-use Rattle.cow_tree.specs.Stored.{StoredTile, mosaic_of_tiles}
-use Rattle.cow_tree.specs.Trees.{disk_of, root_of, has_failed, staged_in}
-use Rattle.cow_tree.specs.declared.tree.Tree.{Tree}
-use Rattle.drainage.specs.Between.{IsHeldOf}
-use Rattle.drainage.specs.declared.drainage_cache.DrainageCache.{DrainageCache}
-use Rattle.store.specs.Queried.{IsQueried}
-use Rattle.cow_tree.specs.Clean.{IsClean}
-use Rattle.store.specs.TreeStates.{IsInState}
-use Rattle.store.specs.Water.{IsHolding}
 use Rattle.store.proofs.Reading.HeldTiles.{AreTilesOf, whole_filled}
 use Rattle.store.proofs.Reading.Holding.{held}
 use Rattle.store.proofs.Reading.InMemory.{is_working}

@@ -1,30 +1,13 @@
 -- The bytes of a tile's plane, read page by page.
 use Rattle.std.proofs.Common.{◌≡◌, ⊎_elim, ℕ, zero, suc, ◌+◌, ◌-◌, ◌*◌, ◌<◌, ◌≤◌, ℤ, true, false, Some, None, List, [], ◌∷◌, ◌++◌, length, take, drop, min, Contains, refl, sym, ap, ◌∙◌, subst, arith, option_and_then, slice_get}
-use Rattle.std.specs.List.{concat}
+use Rattle.store.proofs.Prelude.{Corner, Ghosts, IsInState, IsTileOf, PlanePages, Rising, State, StoredTile, TileLocation, Tree, before_not_same, cases_lt, concat, concat-append, contains-map, false≢true, hgt_bytes, is_before, pages_of, plane_bytes, same_from, samples_of, tile_in}
 use Rattle.std.proofs.Math.Seq.{take-append-add}
-use Rattle.std.proofs.lemmas.Bool.{cases_lt, false≢true}
 use Rattle.std.proofs.lemmas.List.{append-nil, length-append, length-take, take_all, take_min, take-append-le, take-append-drop}
-use Rattle.std.proofs.lemmas.List.Folds.{concat-append}
-use Rattle.disk.specs.declared.disk.Disk.{Ghosts}
-use Rattle.lattice.specs.Corners.{Corner, is_before}
-use Rattle.lattice.specs.Mosaic.{samples_of}
-use Rattle.page_codec.specs.Sizes.{pages_of}
-use Rattle.hgt.specs.Bytes.{hgt_bytes}
-use Rattle.lattice.proofs.CornerOrder.{before_not_same, same_from}
-use Rattle.lattice.proofs.Rising.{Rising}
-use Rattle.page_map.specs.TileLocations.{TileLocation}
-use Rattle.cow_tree.specs.Layout.{tile_in}
 use Rattle.cow_tree.specs.Planes.{HasPage, stored_page, stored_plane}
 use Rattle.page_map.specs.declared.plane.Plane.{Plane}
-use Rattle.cow_tree.specs.Stored.{StoredTile, PlanePages, plane_bytes}
 use Rattle.cow_tree.specs.Trees.{root_of, has_failed, corners_of as corners_under, staged_in}
-use Rattle.cow_tree.specs.declared.tree.Tree.{Tree}
-use Rattle.cow_tree.proofs.Listed.Adding.{contains-map}
 use Rattle.cow_tree.proofs.Listed.Due.{located_tile}
 use Rattle.engine.proofs.Answered.{no_samples}
-use Rattle.engine.specs.State.{State}
-use Rattle.store.specs.Queried.{IsTileOf}
-use Rattle.store.specs.TreeStates.{IsInState}
 use Rattle.store.proofs.Reading.Finding.{stored_corner, after_contained, rising_stored, bytes_stored}
 use Rattle.store.proofs.Reading.InMemory.{corners_are}
 use Rattle.store.proofs.Pages.{joined_more}

@@ -1,23 +1,6 @@
 -- What is held of a mosaic's water stays right through the calls of a store.
-use Rattle.std.proofs.Common.{◌≡◌, ◌⊎◌, inl, inr, ℕ, Bool, Option, Some, None, sym, ap, subst, Result, Ok, Err, OnOk}
-use Rattle.disk.specs.declared.disk.Disk.{Ghosts}
-use Rattle.lattice.specs.Corners.{Corner}
-use Rattle.lattice.specs.Mosaic.{Mosaic}
-use Rattle.lattice.specs.declared.refusal.Refusal.{Refusal}
-use Rattle.lattice.specs.declared.refusal.Refusal.TheVariants.{Device, NoMemory, Failed, Worn, TooSmall, NotOld}
-use Rattle.edits.specs.declared.command.Command.{Command}
-use Rattle.edits.specs.Effect.{effect}
-use Rattle.engine.specs.Outcomes.{AppliesNot}
-use Rattle.engine.specs.State.{Contents, State, working}
-use Rattle.engine.specs.Steps.{StepsNot, Upgrades, UpgradesNot}
-use Rattle.cow_tree.specs.Trees.{disk_of, root_of}
-use Rattle.cow_tree.specs.declared.tree.Tree.{Tree}
-use Rattle.drainage.specs.Between.{IsHeldOf}
-use Rattle.drainage.specs.declared.drainage_cache.DrainageCache.{DrainageCache}
+use Rattle.store.proofs.Prelude.{AppliesNot, Bool, Command, Contents, Corner, Device, DrainageCache, Err, Failed, Ghosts, IsHeldOf, IsHolding, IsInState, IsUpgraded, Mosaic, NoMemory, None, NotOld, Ok, OnOk, Option, Refusal, Result, Some, State, StepsNot, TooSmall, Tree, Upgrades, UpgradesNot, Worn, ℕ, ap, disk_of, effect, inl, inr, root_of, subst, sym, upgrade_ending, working, ◌≡◌, ◌⊎◌}
 use Rattle.store.specs.Ended.{Ending, EndsAt, IsApplied, IsStepped, command_ending, step_ending}
-use Rattle.store.specs.TreeStates.{IsInState}
-use Rattle.store.specs.Upgraded.{IsUpgraded, upgrade_ending}
-use Rattle.store.specs.Water.{IsHolding}
 
 -- ---- commands
 

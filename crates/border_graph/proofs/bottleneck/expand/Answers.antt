@@ -1,6 +1,5 @@
 use Rattle.std.proofs.Common.{rules, arith, ◌≡◌, SFits, w16, ap₂, sym, ◌∙◌, subst, length, MatchOption, IfNone, to_z-of_z}
-use Rattle.border_graph.proofs.Words.{int_max, IsJoinedLevel, AreAllEdges, AreEdges, AreOfMosaic, IsPlacedLink, IsEnd}
-use Rattle.border_graph.proofs.Words.{AreRaised}
+use Rattle.border_graph.proofs.Prelude.{AreAllEdges, AreEdges, AreOfMosaic, AreRaised, IsEnd, IsJoinedLevel, IsPlacedLink, int_max}
 use Rattle.border_graph.proofs.SearchSteps.{end_at_outlet, end_at_known, followed_all}
 use Rattle.border_graph.proofs.bottleneck.expand.Goals as goal
 

@@ -1,5 +1,4 @@
-use Rattle.std.proofs.Common.{rules, arith, ◌<◌, ◌≤ℤ◌, inl, inr, w16, to_z, of_z, int_lt, get_or, pos, sym, ap, ◌∙◌, subst}
-use Rattle.border_graph.proofs.Words.{cases_eq, get_or_default, Edge}
+use Rattle.border_graph.proofs.Prelude.{Edge, ap, arith, cases_eq, get_or, get_or_default, inl, inr, int_lt, of_z, pos, rules, subst, sym, to_z, w16, ◌<◌, ◌∙◌, ◌≤ℤ◌}
 use Rattle.std.proofs.lemmas.Int.{to_z-of_z}
 use Rattle.lattice.proofs.IntTests.{lt_false}
 use Rattle.border_graph.proofs.bottleneck.has_no_lower.Goals as goal

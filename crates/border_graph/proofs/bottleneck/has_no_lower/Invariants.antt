@@ -1,5 +1,4 @@
-use Rattle.std.proofs.Common.{ℕ, ◌<◌, ◌≤ℤ◌, get_or}
-use Rattle.border_graph.specs.declared.edge_source.Edge.{Edge}
+use Rattle.border_graph.proofs.Prelude.{Edge, ℕ, get_or, ◌<◌, ◌≤ℤ◌}
 use Rattle.border_graph.proofs.bottleneck.has_no_lower.Given as goal
 
 abbrev pub invariant-loop-edge : goal.invariant-loop-edge

@@ -1,7 +1,5 @@
-use Rattle.std.proofs.Common.{rules, arith, ◌≡◌, ◌≤◌, ◌+◌, ◌++◌, ◌∷◌, [], ℕ, ℤ, ◌⊎◌, inl, inr, w16, List, Contains, Vec, Global, to_z, of_z, get_or, take, length, pos, false, true≢false, sym, ap, ◌∙◌, subst, All, to_z-of_z, take_all}
+use Rattle.border_graph.proofs.Prelude.{All, Contains, Global, HasLevel, List, Settled, Vec, ℕ, ℤ, [], ap, arith, false, get_or, inl, inr, length, of_z, pos, rules, subst, sym, take, take_all, to_z, to_z-of_z, true≢false, w16, ◌++◌, ◌+◌, ◌∙◌, ◌∷◌, ◌≡◌, ◌≤◌, ◌⊎◌}
 use Rattle.std.proofs.lemmas.List.Elements.{All-contains, All-more, All-weaker, Contains-append_left, Contains-get_or, Contains-push, Contains-push_cases}
-use Rattle.border_graph.specs.Bottleneck.{HasLevel}
-use Rattle.border_graph.specs.declared.bottleneck.Settled.{Settled}
 use Rattle.border_graph.proofs.bottleneck.list_alike.Goals as goal
 use Rattle.border_graph.proofs.bottleneck.list_alike.Goals.{then-has_level+in_ok-push, else-has_level}
 

@@ -1,5 +1,4 @@
-use Rattle.std.proofs.Common.{◌≡◌, ℕ, ◌⊎◌, Contains, take, All}
-use Rattle.border_graph.proofs.Words.{HasLevel, Settled}
+use Rattle.border_graph.proofs.Prelude.{All, Contains, HasLevel, Settled, ℕ, take, ◌≡◌, ◌⊎◌}
 use Rattle.border_graph.proofs.bottleneck.list_alike.Given as goal
 
 abbrev pub invariant-loop-one : goal.invariant-loop-one

@@ -1,11 +1,6 @@
-use Rattle.std.proofs.Common.{rules, true, ◌≡◌, ◌<◌, ◌≤ℤ◌, ◌^◌, ◌⊎◌, ℕ, ℤ, inl, inr, Contains, IsTrue, SFits, w16, refl, sym, subst, arith, to_z, of_z, List, [], ◌∷◌, map, IfSome, IfNone, to_z-of_z}
-use Rattle.border_graph.proofs.Words.{Contains-push_cases, err_from_is_err_and, void, IsJoinedLevel, Rim, AreOfMosaic}
-use Rattle.border_graph.proofs.Words.{node_number, AreAllEdges, IsReachedBelow, IsPlacedLink, IsAdded, is_among, IsNext}
-use Rattle.border_graph.proofs.Words.{Edge, Settled, IsEnd, HasLevel}
-use Rattle.border_graph.specs.Frontier.{NoneLeft}
+use Rattle.border_graph.proofs.Prelude.{AreAllEdges, AreOfMosaic, Contains, Contains-push_cases, Edge, HasLevel, IfNone, IfSome, IsAdded, IsEnd, IsExpanded, IsJoinedLevel, IsNext, IsPlacedLink, IsReachedBelow, IsSettledBy, IsTrue, List, NoneLeft, Rim, SFits, Settled, ℕ, ℤ, [], arith, err_from_is_err_and, inl, inr, is_among, map, node_number, of_z, refl, rules, subst, sym, to_z, to_z-of_z, true, void, w16, ◌<◌, ◌^◌, ◌∷◌, ◌≡◌, ◌≤ℤ◌, ◌⊎◌}
 use Rattle.border_graph.specs.Crests.{crest, LeadsOut}
 use Rattle.border_graph.proofs.Onward.{way_up}
-use Rattle.border_graph.specs.Bottleneck.{IsExpanded, IsSettledBy}
 use Rattle.border_graph.proofs.Crested.{below_crest, least_crest}
 use Rattle.border_graph.proofs.Forests.Left.{fewer_left}
 use Rattle.border_graph.proofs.Lowest.{low_placed}

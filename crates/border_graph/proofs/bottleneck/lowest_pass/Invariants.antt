@@ -1,7 +1,4 @@
-use Rattle.std.proofs.Common.{◌≡◌, ℕ, ℤ, List, [], ◌<◌, ◌≤ℤ◌, ◌^◌, ◌⊎◌, true, IsTrue, Contains}
-use Rattle.border_graph.proofs.Words.{Summary, Rim, AreOfMosaic, node_number, IsReachedBelow, IsPlacedLink, Settled}
-use Rattle.border_graph.proofs.Words.{is_among}
-use Rattle.border_graph.specs.Bottleneck.{IsSearching}
+use Rattle.border_graph.proofs.Prelude.{AreOfMosaic, Contains, IsPlacedLink, IsReachedBelow, IsSearching, IsTrue, List, Rim, Settled, Summary, ℕ, ℤ, [], is_among, node_number, true, ◌<◌, ◌^◌, ◌≡◌, ◌≤ℤ◌, ◌⊎◌}
 use Rattle.border_graph.proofs.Forests.Left.{left_below}
 use Rattle.border_graph.proofs.bottleneck.lowest_pass.Given as goal
 

@@ -1,5 +1,4 @@
-use Rattle.std.proofs.Common.{sym, ◌∙◌}
-use Rattle.border_graph.specs.Frontier.{is_among}
+use Rattle.border_graph.proofs.Prelude.{is_among, sym, ◌∙◌}
 use Rattle.border_graph.proofs.HeapOrders.{lowest_entry}
 use Rattle.border_graph.proofs.Forests.Next.{not_taken, was_taken, is_next, same_taken, others_still}
 use Rattle.border_graph.proofs.bottleneck.pop_unvisited.Goals as goal

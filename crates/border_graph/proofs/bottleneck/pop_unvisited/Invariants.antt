@@ -1,5 +1,4 @@
-use Rattle.std.proofs.Common.{◌≡◌, ℕ, ◌⊎◌, Contains, length, true}
-use Rattle.border_graph.proofs.Words.{is_among, Entry}
+use Rattle.border_graph.proofs.Prelude.{Contains, Entry, ℕ, is_among, length, true, ◌≡◌, ◌⊎◌}
 use Rattle.border_graph.proofs.bottleneck.pop_unvisited.Given as goal
 
 abbrev pub invariant-loop-entry : goal.invariant-loop-entry

@@ -1,5 +1,4 @@
-use Rattle.std.proofs.Common.{◌+◌, ◌<◌, ◌≤◌, pos, ℕ, List, [], Vec, Global, get_or, sym, ap, ◌∙◌, subst, arith}
-use Rattle.border_graph.proofs.Words.{Contains-get_or, Pass, roots, IsForestSoFar}
+use Rattle.border_graph.proofs.Prelude.{Contains-get_or, Global, IsForestSoFar, List, Pass, Vec, ℕ, [], ap, arith, get_or, pos, roots, subst, sym, ◌+◌, ◌<◌, ◌∙◌, ◌≤◌}
 use Rattle.border_graph.proofs.Forests.Kruskal.{none_kept, passed_over, kept_too, all_spanned, fewer_kept}
 use Rattle.border_graph.proofs.forest.keep.Goals as goal
 use Rattle.border_graph.proofs.forest.keep.Goals.{then-union+in_ok-push, else-union}

@@ -1,6 +1,4 @@
-use Rattle.std.proofs.Common.{◌+◌, get_or, List, Contains, sym, subst, arith}
-use Rattle.border_graph.proofs.Words.{Contains-permutation, IsPermutation-sym, Pass, SpanAll}
-use Rattle.border_graph.specs.Forest.{IsRisingBy}
+use Rattle.border_graph.proofs.Prelude.{Contains, Contains-permutation, IsPermutation-sym, IsRisingBy, List, Pass, SpanAll, arith, get_or, subst, sym, ◌+◌}
 use Rattle.border_graph.proofs.Forests.Kruskal.{rising_from, rises, span_moved}
 use Rattle.border_graph.proofs.forest.spanning_forest.Goals as goal
 

@@ -1,7 +1,5 @@
-use Rattle.std.proofs.Common.{inl, inr, arith, ◌≡◌, ◌≢◌, ◌⊎◌, ◌∙◌, map, length, sym, subst}
-use Rattle.border_graph.proofs.Words.{length-map, err_from_is_err_and}
+use Rattle.border_graph.proofs.Prelude.{Damaged, NoMemory, arith, err_from_is_err_and, inl, inr, length, length-map, map, subst, sym, ◌∙◌, ◌≡◌, ◌≢◌, ◌⊎◌}
 use Rattle.std.proofs.lemmas.Bool.{eqb-false}
-use Rattle.lattice.specs.declared.refusal.Refusal.TheVariants.{NoMemory, Damaged}
 use Rattle.border_graph.specs.Joins.{CannotBeJoined}
 use Rattle.border_graph.proofs.JoinedRims.{one_side, some_side, not_cut_off, leads_nowhere, rims_are_joined, rims_are_levelled}
 use Rattle.border_graph.proofs.joining.join.Goals as goal

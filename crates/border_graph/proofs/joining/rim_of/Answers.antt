@@ -1,6 +1,4 @@
-use Rattle.std.proofs.Common.{rules, SFits, w16, ◌∙◌, sym, subst, to_z-of_z}
-use Rattle.lattice.specs.Mosaic.{void}
-use Rattle.border_graph.specs.MosaicGraph.{IsLevelAt}
+use Rattle.border_graph.proofs.Prelude.{IsLevelAt, SFits, rules, subst, sym, to_z-of_z, void, w16, ◌∙◌}
 use Rattle.border_graph.proofs.MosaicGraphs.{each_more, one_longer}
 use Rattle.border_graph.proofs.joining.rim_of.Goals as goal
 

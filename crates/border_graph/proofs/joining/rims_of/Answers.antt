@@ -1,6 +1,5 @@
-use Rattle.std.proofs.Common.{◌∙◌, [], ◌∷◌, ap, map, subst}
+use Rattle.border_graph.proofs.Prelude.{IsRimAt, [], ap, map, subst, ◌∙◌, ◌∷◌}
 use Rattle.std.proofs.lemmas.List.{length-map, map-append}
-use Rattle.border_graph.specs.MosaicGraph.{IsRimAt}
 use Rattle.border_graph.proofs.MosaicGraphs.{each_more, one_longer}
 use Rattle.border_graph.proofs.joining.rims_of.Goals as goal
 

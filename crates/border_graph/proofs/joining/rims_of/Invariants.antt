@@ -1,5 +1,4 @@
-use Rattle.std.proofs.Common.{◌≡◌, length, map}
-use Rattle.border_graph.specs.MosaicGraph.{AreRimsAt}
+use Rattle.border_graph.proofs.Prelude.{AreRimsAt, length, map, ◌≡◌}
 use Rattle.border_graph.proofs.joining.rims_of.Given as goal
 
 abbrev pub invariant-loop-t : goal.invariant-loop-t

@@ -1,5 +1,4 @@
-use Rattle.std.proofs.Common.{ℕ, ◌≡◌, ◌<◌, ◌*◌, length}
-use Rattle.border_graph.specs.Joining.{summary_at}
+use Rattle.border_graph.proofs.Prelude.{ℕ, length, summary_at, ◌*◌, ◌<◌, ◌≡◌}
 use Rattle.border_graph.proofs.joining.side_of.Given as goal
 
 abbrev pub invariant-loop-t : goal.invariant-loop-t

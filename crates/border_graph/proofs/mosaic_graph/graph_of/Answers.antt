@@ -1,5 +1,4 @@
-use Rattle.std.proofs.Common.{◌≡◌, List, ap, ◌∙◌, subst}
-use Rattle.border_graph.proofs.Words.{Spill, RimPoint, IsReordered, Summary}
+use Rattle.border_graph.proofs.Prelude.{IsReordered, List, RimPoint, Spill, Summary, ap, subst, ◌∙◌, ◌≡◌}
 use Rattle.border_graph.proofs.mosaic_graph.graph_of.Goals as goal
 
 pub returns-clause-summary : goal.returns-clause-summary

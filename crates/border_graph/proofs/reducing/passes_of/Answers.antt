@@ -1,5 +1,4 @@
-use Rattle.std.proofs.Common.{◌≡◌, ℕ, List, length, get_or, pos, sym, subst, arith}
-use Rattle.border_graph.proofs.Words.{get_or_default, ArePassesOf, Pass}
+use Rattle.border_graph.proofs.Prelude.{ArePassesOf, List, Pass, ℕ, arith, get_or, get_or_default, length, pos, subst, sym, ◌≡◌}
 use Rattle.border_graph.proofs.Forests.Sufficing.{no_passes, one_more_pass}
 use Rattle.border_graph.proofs.reducing.passes_of.Goals as goal
 

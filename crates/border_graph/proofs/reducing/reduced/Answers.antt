@@ -1,6 +1,4 @@
-use Rattle.std.proofs.Common.{◌≡◌, ◌≤◌, ℕ, List, length, map, ap, sym, ◌∙◌, subst, refl, arith}
-use Rattle.border_graph.proofs.Words.{length-map, Spill, Summarizes, Summary, ArePassesOf}
-use Rattle.border_graph.specs.Reduced.{Suffice, spill_of}
+use Rattle.border_graph.proofs.Prelude.{ArePassesOf, List, Spill, Suffice, Summarizes, Summary, ℕ, ap, arith, length, length-map, map, refl, spill_of, subst, sym, ◌∙◌, ◌≡◌, ◌≤◌}
 use Rattle.border_graph.proofs.Forests.Sufficing.{summarizes_all, summarizes_less, forest_suffices}
 use Rattle.border_graph.proofs.reducing.reduced.Goals as goal
 

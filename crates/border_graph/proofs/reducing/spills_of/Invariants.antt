@@ -1,5 +1,4 @@
-use Rattle.std.proofs.Common.{◌≡◌, map, take}
-use Rattle.border_graph.specs.Reduced.{spill_of}
+use Rattle.border_graph.proofs.Prelude.{map, spill_of, take, ◌≡◌}
 use Rattle.border_graph.proofs.reducing.spills_of.Given as goal
 
 abbrev pub invariant-loop-pass : goal.invariant-loop-pass

@@ -1,6 +1,5 @@
-use Rattle.std.proofs.Common.{leb, ltb, rules}
+use Rattle.border_graph.proofs.Prelude.{Spill, leb, ltb, rules}
 use Rattle.std.proofs.lemmas.List.Sorted.{IsPartitionPoint-from_clause, IsPartitionedBy-leb, IsPartitionedBy-ltb}
-use Rattle.tile_flood.specs.declared.passing.Spill.{Spill}
 use Rattle.border_graph.proofs.RowSteps.{from-le-to, row_is}
 use Rattle.border_graph.proofs.rows.row.Goals as goal
 

@@ -1,5 +1,4 @@
-use Rattle.std.proofs.Common.{rules, SFits, w16, refl, sym, ap, ◌∙◌, to_z-of_z}
-use Rattle.border_graph.proofs.Words.{rim_point, RimPoint}
+use Rattle.border_graph.proofs.Prelude.{RimPoint, SFits, ap, refl, rim_point, rules, sym, to_z-of_z, w16, ◌∙◌}
 use Rattle.border_graph.proofs.RowSteps.{labels_more, labels_less}
 use Rattle.border_graph.proofs.rows.turn_labels.Goals as goal
 use Rattle.border_graph.proofs.rows.turn_labels.Goals.{then-from-number+in_ok-push, else-from-number}

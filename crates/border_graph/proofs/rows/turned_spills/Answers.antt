@@ -1,6 +1,4 @@
-use Rattle.std.proofs.Common.{◌≡◌, map, take, ap, ◌∙◌, arith, rules, take_all}
-use Rattle.border_graph.proofs.Words.{Spill, turned}
-use Rattle.std.proofs.lemmas.List.Sorted.{IsNonDecreasingBy-from_sort_by_key}
+use Rattle.border_graph.proofs.Prelude.{IsNonDecreasingBy-from_sort_by_key, Spill, ap, arith, map, rules, take, take_all, turned, ◌∙◌, ◌≡◌}
 use Rattle.border_graph.proofs.RowSteps.{all_turned}
 use Rattle.border_graph.proofs.rows.turned_spills.Goals as goal
 

@@ -1,5 +1,4 @@
-use Rattle.std.proofs.Common.{◌≡◌, map, take}
-use Rattle.border_graph.specs.Rows.{turned}
+use Rattle.border_graph.proofs.Prelude.{map, take, turned, ◌≡◌}
 use Rattle.border_graph.proofs.rows.turned_spills.Given as goal
 
 abbrev pub invariant-loop-spill : goal.invariant-loop-spill

@@ -1,6 +1,4 @@
-use Rattle.std.proofs.Common.{◌+◌, ◌*◌, ◌-◌, ◌<◌, ◌∙◌, rules, refl, sym, ap, subst, inr, SFits, w16, to_z-of_z}
-use Rattle.lattice.proofs.Samples.{index_below}
-use Rattle.tile_flood.proofs.Raised.{rim_number_below}
+use Rattle.border_graph.proofs.Prelude.{SFits, ap, index_below, inr, refl, rim_number_below, rules, subst, sym, to_z-of_z, w16, ◌*◌, ◌+◌, ◌-◌, ◌<◌, ◌∙◌}
 use Rattle.border_graph.proofs.Forests.Others.{too_many, one_told}
 use Rattle.border_graph.proofs.seams.edge_to_other.Goals as goal
 

@@ -1,5 +1,4 @@
-use Rattle.std.proofs.Common.{List, Contains, sym, subst, arith, rules, SFits, w16, to_z, of_z, to_z-of_z}
-use Rattle.border_graph.proofs.Words.{Corner, AreOthersTold}
+use Rattle.border_graph.proofs.Prelude.{AreOthersTold, Contains, Corner, List, SFits, arith, of_z, rules, subst, sym, to_z, to_z-of_z, w16}
 use Rattle.border_graph.proofs.Forests.Others.{one_more_told, all_told}
 use Rattle.border_graph.proofs.seams.edges_to_others.Goals as goal
 

@@ -1,8 +1,4 @@
-use Rattle.std.proofs.Common.{◌≡◌, ℕ, ℤ, ◌+◌, ◌*◌, ◌-◌, ◌∙◌, ◌==◌, inl, inr, false, not, true≢false, SFits, w16, of_z, to_z, rules, refl, sym, ap, subst, arith, to_z-of_z}
-use Rattle.border_graph.proofs.Words.{eqb_tells, Corner, point_of, void, rim_point, get_or_default, corner_at}
-use Rattle.border_graph.proofs.Words.{AreOthersTold}
-use Rattle.lattice.proofs.RimNumbers.{rim_point_of}
-use Rattle.border_graph.specs.TileGraph.{AreEdgesOut, AreEdgesAcross}
+use Rattle.border_graph.proofs.Prelude.{AreEdgesAcross, AreEdgesOut, AreOthersTold, Corner, SFits, ℕ, ℤ, ap, arith, corner_at, eqb_tells, false, get_or_default, inl, inr, not, of_z, point_of, refl, rim_point, rim_point_of, rules, subst, sym, to_z, to_z-of_z, true≢false, void, w16, ◌*◌, ◌+◌, ◌-◌, ◌==◌, ◌∙◌, ◌≡◌}
 use Rattle.border_graph.proofs.seams.list_edges.Goals as goal
 
 -- numbers and heights as they were computed

@@ -1,5 +1,4 @@
-use Rattle.std.proofs.Common.{◌≡◌, ℕ, ◌<◌}
-use Rattle.border_graph.specs.Others.{corner_at}
+use Rattle.border_graph.proofs.Prelude.{ℕ, corner_at, ◌<◌, ◌≡◌}
 use Rattle.border_graph.proofs.seams.place_of.Given as goal
 
 abbrev pub invariant-loop-place : goal.invariant-loop-place

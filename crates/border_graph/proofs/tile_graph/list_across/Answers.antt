@@ -1,5 +1,4 @@
-use Rattle.std.proofs.Common.{◌≡◌, ◌↔◌, Contains, List, rules, refl, SFits, w16, subst, to_z-of_z}
-use Rattle.tile_flood.specs.declared.passing.Spill.{Spill}
+use Rattle.border_graph.proofs.Prelude.{Contains, List, SFits, Spill, refl, rules, subst, to_z-of_z, w16, ◌↔◌, ◌≡◌}
 use Rattle.border_graph.proofs.Told.{edges_across}
 use Rattle.border_graph.proofs.tile_graph.list_across.Goals as goal
 

@@ -1,5 +1,4 @@
-use Rattle.std.proofs.Common.{◌≡◌, ◌↔◌, Contains, List, rules, SFits, w16, subst, to_z-of_z}
-use Rattle.tile_flood.specs.declared.passing.Spill.{Spill}
+use Rattle.border_graph.proofs.Prelude.{Contains, List, SFits, Spill, rules, subst, to_z-of_z, w16, ◌↔◌, ◌≡◌}
 use Rattle.border_graph.proofs.Told.{edges_out}
 use Rattle.border_graph.proofs.tile_graph.list_out.Goals as goal
 

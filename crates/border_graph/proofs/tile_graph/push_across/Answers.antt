@@ -1,5 +1,4 @@
-use Rattle.std.proofs.Common.{◌∙◌, [], ◌∷◌, pos, refl, sym, subst}
-use Rattle.border_graph.proofs.Words.{IsThere, across}
+use Rattle.border_graph.proofs.Prelude.{IsThere, [], across, pos, refl, subst, sym, ◌∙◌, ◌∷◌}
 use Rattle.border_graph.proofs.Listing.{listed_more, listed_less}
 use Rattle.border_graph.proofs.Told.{there_if, not_there_if}
 use Rattle.border_graph.proofs.tile_graph.push_across.Goals as goal

@@ -1,5 +1,4 @@
-use Rattle.std.proofs.Common.{[], ◌∷◌}
-use Rattle.border_graph.proofs.Words.{IsThere, AreListed, across}
+use Rattle.border_graph.proofs.Prelude.{AreListed, IsThere, [], across, ◌∷◌}
 use Rattle.border_graph.proofs.tile_graph.push_across.Given as goal
 
 abbrev pub invariant-loop-spill : goal.invariant-loop-spill

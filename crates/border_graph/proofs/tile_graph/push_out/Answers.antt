@@ -1,5 +1,4 @@
-use Rattle.std.proofs.Common.{◌≡◌, pos, refl}
-use Rattle.border_graph.proofs.Words.{OUT, out_at}
+use Rattle.border_graph.proofs.Prelude.{OUT, out_at, pos, refl, ◌≡◌}
 use Rattle.border_graph.proofs.Listing.{listed_more, listed_less}
 use Rattle.border_graph.proofs.tile_graph.push_out.Goals as goal
 use Rattle.border_graph.proofs.tile_graph.push_out.Goals.{then-spill+in_ok-push, else-spill}

@@ -1,5 +1,4 @@
-use Rattle.std.proofs.Common.{◌≡◌}
-use Rattle.border_graph.proofs.Words.{OUT, AreListed, out_at}
+use Rattle.border_graph.proofs.Prelude.{AreListed, OUT, out_at, ◌≡◌}
 use Rattle.border_graph.proofs.tile_graph.push_out.Given as goal
 
 abbrev pub invariant-loop-spill : goal.invariant-loop-spill

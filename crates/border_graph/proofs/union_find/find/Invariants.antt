@@ -1,6 +1,4 @@
-use Rattle.std.proofs.Common.{◌<◌, ◌≤◌, ℤ, List, length}
-use Rattle.border_graph.proofs.Words.{Pass, AreOver}
-use Rattle.border_graph.specs.Passes.{AreJoined}
+use Rattle.border_graph.proofs.Prelude.{AreJoined, AreOver, List, Pass, ℤ, length, ◌<◌, ◌≤◌}
 use Rattle.border_graph.proofs.Forests.Roots.{IsHigher}
 use Rattle.border_graph.proofs.union_find.find.Given as goal
 

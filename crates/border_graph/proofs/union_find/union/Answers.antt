@@ -1,6 +1,4 @@
-use Rattle.std.proofs.Common.{◌≡◌, ◌<◌, sym, ◌∙◌, subst, arith}
-use Rattle.border_graph.specs.Passes.{AreJoined}
-use Rattle.border_graph.specs.UnionFind.{roots}
+use Rattle.border_graph.proofs.Prelude.{AreJoined, arith, roots, subst, sym, ◌<◌, ◌∙◌, ◌≡◌}
 use Rattle.border_graph.proofs.Forests.Connected.{joined_turn, joined_on}
 use Rattle.border_graph.proofs.union_find.union.Goals as goal
 

@@ -1,8 +1,5 @@
-use Rattle.std.proofs.Common.{ap, ◌∙◌, arith, List}
-use Rattle.std.specs.Prelude.{count_by}
+use Rattle.catalogue.proofs.Prelude.{List, Step, ap, arith, count_by, is_adjacent, ◌∙◌}
 use Rattle.std.proofs.lemmas.List.{take_all}
-use Rattle.lattice.specs.declared.direction.Step.{Step}
-use Rattle.lattice.specs.Ground.{is_adjacent}
 use Rattle.catalogue.proofs.Degrees.{degree-reach}
 use Rattle.catalogue.proofs.adjacency.degree.Goals as goal
 

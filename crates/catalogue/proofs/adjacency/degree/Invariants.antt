@@ -1,7 +1,4 @@
-use Rattle.std.proofs.Common.{◌≡◌, ℕ, ◌≤◌, take, Ok}
-use Rattle.std.specs.Prelude.{count_by}
-use Rattle.lattice.specs.Ground.{is_adjacent}
-use Rattle.catalogue.specs.Readers.{OnlyReads}
+use Rattle.catalogue.proofs.Prelude.{Ok, OnlyReads, ℕ, count_by, is_adjacent, take, ◌≡◌, ◌≤◌}
 use Rattle.catalogue.proofs.adjacency.degree.Given as goal
 
 abbrev pub invariant-loop-step : goal.invariant-loop-step

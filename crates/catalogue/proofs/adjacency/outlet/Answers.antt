@@ -1,6 +1,4 @@
-use Rattle.std.proofs.Common.{◌≡◌, Err, false, true, ap, ◌∙◌}
-use Rattle.std.proofs.lemmas.Result.{err_from_is_err_and}
-use Rattle.lattice.specs.declared.refusal.Refusal.{Refusal}
+use Rattle.catalogue.proofs.Prelude.{Err, Refusal, ap, err_from_is_err_and, false, true, ◌∙◌, ◌≡◌}
 use Rattle.catalogue.proofs.Reading.{reads_as, reads_on, reads_refused}
 use Rattle.catalogue.proofs.adjacency.outlet.Goals as goal
 

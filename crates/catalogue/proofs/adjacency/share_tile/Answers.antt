@@ -1,12 +1,7 @@
 use Rattle.std.proofs.Common.{◌≡◌, false, List, ℕ, Option, Some, None, ◌∙◌, subst, sym}
 use Rattle.std.specs.Prelude.{Contains, IfSome, IfNone}
 use Rattle.std.specs.Option.{is_some}
-use Rattle.lattice.specs.Corners.{Corner}
-use Rattle.lattice.specs.Ground.{share_tile}
-use Rattle.lattice.specs.Lattice.{Holds}
-use Rattle.lattice.specs.Mosaic.{Mosaic, IsMosaic}
-use Rattle.lattice.specs.declared.point.Point.{Point}
-use Rattle.catalogue.specs.Tiles.{corners_of}
+use Rattle.catalogue.proofs.Prelude.{Corner, Holds, IsMosaic, Mosaic, Point, corners_of, share_tile}
 use Rattle.catalogue.proofs.Sharing.{shared_from}
 use Rattle.catalogue.proofs.adjacency.share_tile.Goals as goal
 

@@ -1,7 +1,4 @@
-use Rattle.std.proofs.Common.{ℕ, ◌<◌, get_or}
-use Rattle.std.specs.Prelude.{Contains}
-use Rattle.lattice.specs.Corners.{Corner}
-use Rattle.lattice.specs.Lattice.{Holds}
+use Rattle.catalogue.proofs.Prelude.{Contains, Corner, Holds, ℕ, get_or, ◌<◌}
 use Rattle.catalogue.proofs.adjacency.tile_of_both.Given as goal
 
 abbrev pub invariant-loop-corner : goal.invariant-loop-corner

@@ -1,8 +1,5 @@
 use Rattle.std.proofs.Common.{◌≡◌, ap, sym, ◌∙◌, subst, IsTrue, Some, true}
-use Rattle.std.proofs.lemmas.Bool.{false≢true, false_from_ne_true}
-use Rattle.std.proofs.lemmas.List.Elements.{All-contains}
-use Rattle.lattice.specs.Corners.{Corner, is_corner}
-use Rattle.catalogue.specs.Tiles.{is_listed}
+use Rattle.catalogue.proofs.Prelude.{All-contains, Corner, false_from_ne_true, false≢true, is_corner, is_listed}
 use Rattle.catalogue.proofs.Presence.{listed_from, listed_says}
 use Rattle.catalogue.proofs.Rows.{corner_at, named_present, named_absent, corner_at_is}
 use Rattle.catalogue.proofs.listing.present_at.Goals as goal

@@ -1,7 +1,6 @@
-use Rattle.std.proofs.Common.{List, length, sym, ◌∙◌, subst}
+use Rattle.catalogue.proofs.Prelude.{Corner, List, length, subst, sym, ◌∙◌}
 use Rattle.std.specs.List.{AllAdjacentBelow}
 use Rattle.std.proofs.lemmas.Result.{IfOk-weaker}
-use Rattle.lattice.specs.Corners.{Corner}
 use Rattle.lattice.specs.Lattice.{IsBefore}
 use Rattle.catalogue.proofs.listing.tiles.Goals as goal
 

@@ -1,10 +1,4 @@
-use Rattle.std.proofs.Common.{◌↔◌, refl, ap, sym, ◌∙◌, subst, List}
-use Rattle.std.specs.Prelude.{Contains}
-use Rattle.lattice.specs.Corners.{Corner}
-use Rattle.lattice.specs.Lattice.{Holds}
-use Rattle.lattice.specs.Height.{by_seam_rule}
-use Rattle.lattice.specs.declared.height.Height.TheVariants.{Outside}
-use Rattle.lattice.proofs.Rising.{Adjacent}
+use Rattle.catalogue.proofs.Prelude.{Adjacent, Contains, Corner, Holds, List, Outside, ap, by_seam_rule, refl, subst, sym, ◌↔◌, ◌∙◌}
 use Rattle.catalogue.proofs.Reading.{reads_nothing}
 use Rattle.catalogue.proofs.Holders.{itself, samples_from_holders}
 use Rattle.catalogue.proofs.seam_rule.height.Goals as goal

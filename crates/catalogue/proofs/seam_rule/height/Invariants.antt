@@ -1,10 +1,4 @@
-use Rattle.std.proofs.Common.{◌≡◌, drop, Ok, false}
-use Rattle.std.specs.List.{filter_map}
-use Rattle.lattice.specs.declared.height.Height.{Height}
-use Rattle.lattice.specs.Height.{height_of}
-use Rattle.lattice.specs.Ground.{is_height}
-use Rattle.catalogue.specs.Readers.{OnlyReads}
-use Rattle.catalogue.specs.SeamRule.{sample_in}
+use Rattle.catalogue.proofs.Prelude.{Height, Ok, OnlyReads, drop, false, filter_map, height_of, is_height, sample_in, ◌≡◌}
 use Rattle.catalogue.proofs.Sought.{height_from}
 use Rattle.catalogue.proofs.seam_rule.height.Given as goal
 

@@ -1,11 +1,7 @@
 use Rattle.std.proofs.Common.{ℤ, ap, sym, ◌∙◌, subst, rules, Some, List}
-use Rattle.std.specs.Prelude.{Contains}
-use Rattle.std.proofs.lemmas.Bool.{false≢true}
-use Rattle.std.proofs.lemmas.Int.{to_z-of_z}
+use Rattle.catalogue.proofs.Prelude.{Contains, Corner, Holds, IsIndexOf, false≢true, to_z-of_z}
 use mir.Syntax.{w16}
 use mir.Val.{SFits}
-use Rattle.lattice.specs.Corners.{Corner}
-use Rattle.lattice.specs.Lattice.{Holds, IsIndexOf}
 use Rattle.catalogue.proofs.OneTile.{corner_is, sample_in-absent, sample_in-outside, sample_in-read}
 use Rattle.catalogue.proofs.seam_rule.sample_at.Goals as goal
 

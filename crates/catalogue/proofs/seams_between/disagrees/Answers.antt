@@ -1,13 +1,6 @@
-use Rattle.std.proofs.Common.{◌≡◌, ◌↔◌, Err, false, true, ap, sym, ◌∙◌, subst, List}
-use Rattle.std.specs.Prelude.{Contains, None}
-use Rattle.lattice.specs.Corners.{Corner}
-use Rattle.lattice.specs.Lattice.{Holds}
-use Rattle.lattice.specs.Height.{differ}
-use Rattle.lattice.proofs.Rising.{Adjacent}
+use Rattle.catalogue.proofs.Prelude.{Adjacent, Contains, Corner, Err, Holds, List, None, Refusal, ap, differ, err_from_is_err_and, false, subst, sym, true, ◌↔◌, ◌∙◌, ◌≡◌}
 use Rattle.catalogue.proofs.Reading.{reads_nothing, reads_as, reads_on, reads_refused}
 use Rattle.catalogue.proofs.Holders.{itself, samples_from_holders}
-use Rattle.std.proofs.lemmas.Result.{err_from_is_err_and}
-use Rattle.lattice.specs.declared.refusal.Refusal.{Refusal}
 use Rattle.catalogue.proofs.seams_between.disagrees.Goals as goal
 
 pub loop-corner-init : goal.loop-corner-init

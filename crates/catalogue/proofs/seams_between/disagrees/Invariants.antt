@@ -1,9 +1,4 @@
-use Rattle.std.proofs.Common.{◌≡◌, drop, Ok, ℤ}
-use Rattle.std.specs.Prelude.{Option}
-use Rattle.std.specs.List.{filter_map}
-use Rattle.lattice.specs.Height.{disagrees}
-use Rattle.catalogue.specs.Readers.{OnlyReads}
-use Rattle.catalogue.specs.SeamRule.{sample_in}
+use Rattle.catalogue.proofs.Prelude.{Ok, OnlyReads, Option, ℤ, disagrees, drop, filter_map, sample_in, ◌≡◌}
 use Rattle.catalogue.proofs.Differing.{differ_from}
 use Rattle.catalogue.proofs.seams_between.disagrees.Given as goal
 

@@ -1,12 +1,6 @@
-use Rattle.std.proofs.Common.{◌↔◌, ap, sym, ◌∙◌, subst, List}
+use Rattle.catalogue.proofs.Prelude.{Adjacent, Contains, Corner, Holds, List, ap, is_first, is_present, subst, sym, ◌↔◌, ◌∙◌}
 use Rattle.std.proofs.lemmas.Bool.{cond-true, cond-false, false≢true, false_from_ne_true}
-use Rattle.lattice.specs.Mosaic.{is_present}
 use Rattle.catalogue.proofs.Presence.{present_iff}
-use Rattle.std.specs.Prelude.{Contains}
-use Rattle.lattice.specs.Corners.{Corner}
-use Rattle.lattice.specs.Lattice.{Holds}
-use Rattle.catalogue.specs.SeamCounting.{is_first}
-use Rattle.lattice.proofs.Rising.{Adjacent}
 use Rattle.catalogue.proofs.Holders.{itself}
 use Rattle.catalogue.proofs.PresentHolders.{present_holders_are, first_step}
 use Rattle.catalogue.proofs.seams_between.is_first_holder.Goals as goal

@@ -1,7 +1,4 @@
-use Rattle.std.proofs.Common.{◌≡◌, drop}
-use Rattle.std.specs.List.{filter}
-use Rattle.lattice.specs.Mosaic.{is_present}
-use Rattle.catalogue.specs.SeamCounting.{is_first, present_holders}
+use Rattle.catalogue.proofs.Prelude.{drop, filter, is_first, is_present, present_holders, ◌≡◌}
 use Rattle.catalogue.proofs.seams_between.is_first_holder.Given as goal
 
 abbrev pub invariant-loop-holder : goal.invariant-loop-holder

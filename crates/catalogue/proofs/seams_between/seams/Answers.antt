@@ -1,11 +1,6 @@
-use Rattle.std.proofs.Common.{◌≡◌, Err, ℤ, pos, negsuc, arith, ap, sym, ◌∙◌, subst}
-use Rattle.std.proofs.lemmas.Int.{ints}
-use Rattle.catalogue.specs.Seams.{IsSeamCount}
-use Rattle.catalogue.specs.SeamCounting.{seams_before}
+use Rattle.catalogue.proofs.Prelude.{Err, IsSeamCount, Refusal, ℤ, ap, arith, err_from_is_err_and, ints, negsuc, pos, seams_before, subst, sym, ◌∙◌, ◌≡◌}
 use Rattle.catalogue.proofs.Reading.{reads_nothing, reads_on}
 use Rattle.catalogue.proofs.SeamCounts.{seams_counted, seams-first, seams-last}
-use Rattle.std.proofs.lemmas.Result.{err_from_is_err_and}
-use Rattle.lattice.specs.declared.refusal.Refusal.{Refusal}
 use Rattle.catalogue.proofs.seams_between.seams.Goals as goal
 
 pub loop-lat-init : goal.loop-lat-init

@@ -1,6 +1,4 @@
-use Rattle.std.proofs.Common.{◌≡◌, ℕ, pos, negsuc, ◌+ℤ◌, ◌*ℤ◌, ◌≤ℤ◌, Ok}
-use Rattle.catalogue.specs.Readers.{OnlyReads}
-use Rattle.catalogue.specs.SeamCounting.{seams_before}
+use Rattle.catalogue.proofs.Prelude.{Ok, OnlyReads, ℕ, negsuc, pos, seams_before, ◌*ℤ◌, ◌+ℤ◌, ◌≡◌, ◌≤ℤ◌}
 use Rattle.catalogue.proofs.seams_between.seams.Given as goal
 
 abbrev pub invariant-loop-lat : goal.invariant-loop-lat

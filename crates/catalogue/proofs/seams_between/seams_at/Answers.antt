@@ -1,11 +1,8 @@
 use Rattle.std.proofs.Common.{◌≡◌, ℤ, cond, List, Option, Some, None, ap, sym, subst, ◌∙◌, add-zero}
 use mir.Syntax.{w16}
 use mir.Val.{SFits, to_z, of_z}
-use Rattle.lattice.specs.Corners.{Corner}
-use Rattle.lattice.specs.Mosaic.{Mosaic, IsMosaic}
-use Rattle.catalogue.specs.Tiles.{corners_of, is_listed}
+use Rattle.catalogue.proofs.Prelude.{Corner, IsMosaic, Mosaic, corners_of, is_listed, seams_before}
 use Rattle.catalogue.specs.Tables.{AreCorners}
-use Rattle.catalogue.specs.SeamCounting.{seams_before}
 use Rattle.catalogue.proofs.OneTile.{corners_are}
 use Rattle.catalogue.proofs.Rows.{corner_at, corner_at_is}
 use Rattle.catalogue.proofs.SeamCounts.{seams_ok, seams_none}

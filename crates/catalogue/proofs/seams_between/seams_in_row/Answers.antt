@@ -1,11 +1,7 @@
-use Rattle.std.proofs.Common.{◌≡◌, Err, ◌+◌, ℤ, pos, negsuc, arith, ap, ap₂, sym, ◌∙◌}
-use Rattle.std.proofs.lemmas.Int.{ints, to_z-of_z}
+use Rattle.catalogue.proofs.Prelude.{Err, Refusal, ℤ, ap, ap₂, arith, err_from_is_err_and, ints, negsuc, pos, seams_before, sym, to_z-of_z, ◌+◌, ◌∙◌, ◌≡◌}
 use mir.Syntax.{w16}
 use mir.Val.{to_z, of_z}
-use Rattle.catalogue.specs.SeamCounting.{seams_before}
 use Rattle.catalogue.proofs.SeamCounts.{seams-row}
-use Rattle.std.proofs.lemmas.Result.{err_from_is_err_and}
-use Rattle.lattice.specs.declared.refusal.Refusal.{Refusal}
 use Rattle.catalogue.proofs.Reading.{reads_on}
 use Rattle.catalogue.proofs.seams_between.seams_in_row.Goals as goal
 

@@ -1,9 +1,4 @@
-use Rattle.std.proofs.Common.{◌≡◌, ◌+◌, ◌-◌, ◌*◌, ◌<◌, cond, subst, ap, ap₂, sym, ◌∙◌, arith, add-zero}
-use Rattle.lattice.specs.Lattice.{point_of}
-use Rattle.lattice.specs.Mosaic.{Mosaic}
-use Rattle.lattice.specs.RimPoints.{IsRimPoint, rim_index}
-use Rattle.lattice.proofs.RimNumbers.{one_index, rim_index_is}
-use Rattle.catalogue.specs.SeamCounting.{is_own_seam}
+use Rattle.catalogue.proofs.Prelude.{IsRimPoint, Mosaic, add-zero, ap, ap₂, arith, cond, is_own_seam, one_index, point_of, rim_index, rim_index_is, subst, sym, ◌*◌, ◌+◌, ◌-◌, ◌<◌, ◌∙◌, ◌≡◌}
 use Rattle.catalogue.proofs.Reading.{reads_nothing, reads_on, reads_as}
 use Rattle.catalogue.proofs.SeamCounts.{tile_start, tile_step}
 use Rattle.catalogue.proofs.seams_between.seams_in_tile.Goals as goal

@@ -1,6 +1,4 @@
-use Rattle.std.proofs.Common.{◌≡◌, ℕ, ◌≤◌, Ok}
-use Rattle.catalogue.specs.Readers.{OnlyReads}
-use Rattle.catalogue.specs.SeamCounting.{own_seams_below}
+use Rattle.catalogue.proofs.Prelude.{Ok, OnlyReads, ℕ, own_seams_below, ◌≡◌, ◌≤◌}
 use Rattle.catalogue.proofs.seams_between.seams_in_tile.Given as goal
 
 abbrev pub invariant-loop-number : goal.invariant-loop-number

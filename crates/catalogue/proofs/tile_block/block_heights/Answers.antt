@@ -1,12 +1,4 @@
-use Rattle.std.proofs.Common.{◌≡◌, ℤ, List, length, drop, Ok, Err, sym, ap, ◌∙◌, subst}
-use Rattle.std.proofs.lemmas.Result.{err_from_is_err_and}
-use Rattle.std.specs.Prelude.{Contains}
-use Rattle.lattice.specs.Corners.{Corner}
-use Rattle.lattice.specs.Block.{AreHeightsOf}
-use Rattle.lattice.specs.Mosaic.{Mosaic}
-use Rattle.lattice.specs.declared.refusal.Refusal.{Refusal}
-use Rattle.catalogue.specs.Readers.{OnlyReads, reads_of}
-use Rattle.catalogue.specs.Reading.{AreSamplesOf}
+use Rattle.catalogue.proofs.Prelude.{AreHeightsOf, AreSamplesOf, Contains, Corner, Err, List, Mosaic, Ok, OnlyReads, Refusal, ℤ, ap, drop, err_from_is_err_and, length, reads_of, subst, sym, ◌∙◌, ◌≡◌}
 use Rattle.catalogue.proofs.Blocks.{written_over}
 use Rattle.catalogue.proofs.Reading.{reads_answered, reads_on, reads_for}
 use Rattle.catalogue.proofs.tile_block.block_heights.Goals as goal

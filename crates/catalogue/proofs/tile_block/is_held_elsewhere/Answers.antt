@@ -1,9 +1,4 @@
-use Rattle.std.proofs.Common.{◌≡◌, inl, inr, ap, sym, ◌∙◌, subst, arith, get_or, List, false, not}
-use Rattle.std.specs.Prelude.{Contains}
-use Rattle.std.proofs.lemmas.List.{get_or_read}
-use Rattle.std.proofs.lemmas.Bool.{cases_eq, false≢true, false_from_ne_true}
-use Rattle.lattice.specs.Corners.{Corner, same_corner}
-use Rattle.lattice.specs.Lattice.{Holds}
+use Rattle.catalogue.proofs.Prelude.{Contains, Corner, Holds, List, ap, arith, cases_eq, false, false_from_ne_true, false≢true, get_or, get_or_read, inl, inr, not, same_corner, subst, sym, ◌∙◌, ◌≡◌}
 use Rattle.catalogue.proofs.Elsewhere.{elsewhere_from, not_elsewhere}
 use Rattle.catalogue.proofs.tile_block.is_held_elsewhere.Goals as goal
 use Rattle.catalogue.proofs.tile_block.is_held_elsewhere.Goals.{else-ne-via-then-ne+else-present, else-ne-via-else-ne}

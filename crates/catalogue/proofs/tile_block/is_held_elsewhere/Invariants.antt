@@ -1,6 +1,4 @@
-use Rattle.std.proofs.Common.{◌≡◌, ℕ, ◌<◌, false, get_or}
-use Rattle.std.specs.Prelude.{Contains}
-use Rattle.lattice.specs.Corners.{Corner, same_corner}
+use Rattle.catalogue.proofs.Prelude.{Contains, Corner, ℕ, false, get_or, same_corner, ◌<◌, ◌≡◌}
 use Rattle.catalogue.proofs.tile_block.is_held_elsewhere.Given as goal
 
 abbrev pub invariant-loop-holder : goal.invariant-loop-holder

@@ -1,13 +1,5 @@
-use Rattle.std.proofs.Common.{◌≡◌, Err, ◌*◌, ◌<◌, false, List, sym, ap, ◌∙◌, subst}
-use Rattle.std.specs.Prelude.{Contains, slice_set}
-use Rattle.lattice.specs.Corners.{Corner}
-use Rattle.lattice.specs.Lattice.{point_of}
-use Rattle.lattice.specs.Height.{height_of}
-use Rattle.lattice.specs.Ground.{metres}
-use Rattle.catalogue.specs.Elsewhere.{is_held_elsewhere}
+use Rattle.catalogue.proofs.Prelude.{Contains, Corner, Err, List, Refusal, ap, err_from_is_err_and, false, height_of, is_held_elsewhere, metres, point_of, slice_set, subst, sym, ◌*◌, ◌<◌, ◌∙◌, ◌≡◌}
 use Rattle.catalogue.proofs.Blocks.{alone_set}
-use Rattle.std.proofs.lemmas.Result.{err_from_is_err_and}
-use Rattle.lattice.specs.declared.refusal.Refusal.{Refusal}
 use Rattle.catalogue.proofs.Reading.{reads_nothing, reads_as, reads_refused}
 use Rattle.catalogue.proofs.tile_block.put_at.Goals as goal
 

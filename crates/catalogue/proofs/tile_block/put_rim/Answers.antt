@@ -1,7 +1,5 @@
-use Rattle.std.proofs.Common.{◌≡◌, ◌-◌, ◌*◌, List, arith, sym, ap, ◌∙◌, subst}
+use Rattle.catalogue.proofs.Prelude.{Corner, IsRimPoint, List, ap, arith, subst, sym, ◌*◌, ◌-◌, ◌∙◌, ◌≡◌}
 use Rattle.std.specs.Prelude.{Contains, Ok}
-use Rattle.lattice.specs.Corners.{Corner}
-use Rattle.lattice.specs.RimPoints.{IsRimPoint}
 use Rattle.catalogue.proofs.Blocks.{IsPartly, partly_none, partly_step, partly_all}
 use Rattle.catalogue.proofs.Reading.{reads_nothing, reads_on}
 use Rattle.catalogue.proofs.tile_block.put_rim.Goals as goal

@@ -1,7 +1,5 @@
-use Rattle.std.proofs.Common.{◌≡◌, ◌*◌, length}
+use Rattle.catalogue.proofs.Prelude.{AreSamplesOf, OnlyReads, length, ◌*◌, ◌≡◌}
 use Rattle.std.specs.Prelude.{Ok}
-use Rattle.catalogue.specs.Readers.{OnlyReads}
-use Rattle.catalogue.specs.Reading.{AreSamplesOf}
 use Rattle.catalogue.proofs.Blocks.{IsPartly}
 use Rattle.catalogue.proofs.tile_block.put_rim.Given as goal
 

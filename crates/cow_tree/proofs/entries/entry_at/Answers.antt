@@ -1,8 +1,4 @@
-use Rattle.std.proofs.Common.{◌≡◌, Contains, sym, subst}
-use Rattle.page_codec.specs.Entries.{EntryValue, IsEntry}
-use Rattle.page_map.specs.TileLocations.{TileLocation}
-use Rattle.page_map.proofs.Lookup.{tile_at_corner}
-use Rattle.cow_tree.specs.Entries.{entry_of}
+use Rattle.cow_tree.proofs.Prelude.{Contains, EntryValue, IsEntry, TileLocation, entry_of, subst, sym, tile_at_corner, ◌≡◌}
 use Rattle.cow_tree.proofs.Listed.EntryTiles.{entry_is, entry_rules}
 use Rattle.cow_tree.proofs.entries.entry_at.Goals as goal
 use Rattle.cow_tree.proofs.entries.entry_at.Goals.{After-records_of}

@@ -1,9 +1,4 @@
-use Rattle.std.proofs.Common.{◌≡◌, ◌≤◌, map, ap, sym, subst, ◌∙◌, length, arith, All}
-use Rattle.std.proofs.lemmas.List.{take_all, length-map}
-use Rattle.page_codec.specs.Entries.{IsEntry}
-use Rattle.page_codec.specs.Roots.{AreInOrder}
-use Rattle.page_map.specs.TileLocations.{TileLocation}
-use Rattle.cow_tree.specs.Entries.{entry_of}
+use Rattle.cow_tree.proofs.Prelude.{All, AreInOrder, IsEntry, TileLocation, ap, arith, entry_of, length, length-map, map, subst, sym, take_all, ◌∙◌, ◌≡◌, ◌≤◌}
 use Rattle.cow_tree.proofs.Listed.EntryTiles.{entries_rules, entries_in_order, one_entry_more}
 use Rattle.cow_tree.proofs.entries.staged_entries.Goals as goal
 use Rattle.cow_tree.proofs.entries.staged_entries.Goals.{After-loop-corner}

@@ -1,5 +1,4 @@
-use Rattle.std.proofs.Common.{◌≡◌, map, take}
-use Rattle.cow_tree.specs.Entries.{entry_of}
+use Rattle.cow_tree.proofs.Prelude.{entry_of, map, take, ◌≡◌}
 use Rattle.cow_tree.proofs.entries.staged_entries.Given as goal
 
 abbrev pub invariant-loop-corner : goal.invariant-loop-corner

@@ -1,9 +1,7 @@
 use Rattle.std.proofs.Common.{◌∙◌, sym, ap, slice_index}
 use Rattle.std.proofs.lemmas.Option.{slice_get-get_or}
-use Rattle.page_map.specs.PageMaps.{is_unreached, page_if}
-use Rattle.page_map.specs.Locations.{listing_of}
+use Rattle.cow_tree.proofs.Prelude.{is_unreached, listing_of, page_if, written_before}
 use Rattle.cow_tree.specs.declared.listings.Listings.{Listings}
-use Rattle.cow_tree.specs.Listings.{written_before}
 use Rattle.cow_tree.proofs.listings.page_due.Goals as goal
 
 pub returns-in-All : goal.returns-in-All

@@ -1,5 +1,4 @@
-use Rattle.std.proofs.Common.{◌≡◌, ◌*◌, ℕ, min, take, drop, length, List, ap, ◌∙◌, arith}
-use Rattle.std.proofs.lemmas.List.{take_min}
+use Rattle.cow_tree.proofs.Prelude.{List, ℕ, ap, arith, drop, length, min, take, take_min, ◌*◌, ◌∙◌, ◌≡◌}
 use Rattle.cow_tree.proofs.listings.part.Goals as goal
 
 pub returns-clause-value : goal.returns-clause-value

@@ -1,13 +1,5 @@
-use Rattle.std.proofs.Common.{◌≡◌, ◌<◌, ◌≤◌, ℕ, List, Result, Ok, Err, length, sym, ap, ◌∙◌, subst, arith}
-use Rattle.page_map.proofs.Refused.{ended_with}
-use Rattle.lattice.specs.declared.refusal.Refusal.{Refusal}
-use Rattle.page_codec.specs.Formats.{Format}
-use Rattle.page_map.specs.Locations.{listing_of}
-use Rattle.roots.specs.declared.roots.Roots.{Roots}
-use Rattle.cow_tree.specs.Caches.{Agrees}
-use Rattle.cow_tree.specs.declared.cache.PageCache.{PageCache}
+use Rattle.cow_tree.proofs.Prelude.{Agrees, Err, Format, List, ListingPage, Ok, PageCache, Refusal, Result, Roots, WritesListing, ℕ, ap, arith, due_among, ended_with, length, listing_bytes, listing_of, plane_listing, subst, sym, written_before, ◌<◌, ◌∙◌, ◌≡◌, ◌≤◌}
 use Rattle.cow_tree.proofs.Cached.{written_agrees}
-use Rattle.cow_tree.specs.Listings.{ListingPage, WritesListing, due_among, listing_bytes, plane_listing, written_before}
 use Rattle.cow_tree.proofs.Listed.ListingPages.{none_listed}
 use Rattle.cow_tree.proofs.Writes.PageWrites.{one_written}
 use Rattle.cow_tree.proofs.Writes.PlaneWrites.{IsPlaneAt, plane_there, plane_is, no_plane, all_due, number_is, page_low, page_high, page_more, page_passed, page_refused}

@@ -1,7 +1,4 @@
-use Rattle.std.proofs.Common.{Ok, take}
-use Rattle.roots.specs.Roots.{disk_of}
-use Rattle.cow_tree.specs.Caches.{Agrees}
-use Rattle.cow_tree.specs.Listings.{WritesListing, due_among, plane_listing, written_before}
+use Rattle.cow_tree.proofs.Prelude.{Agrees, Ok, WritesListing, disk_of, due_among, plane_listing, take, written_before}
 use Rattle.cow_tree.proofs.listings.write_listing.Given as goal
 
 abbrev pub invariant-loop-i : goal.invariant-loop-i

@@ -1,11 +1,4 @@
-use Rattle.std.proofs.Common.{◌≡◌, ◌<◌, List, Contains, get_or, length, Result, Ok, Err, sym, ap, ◌∙◌, subst, arith}
-use Rattle.std.proofs.lemmas.List.{length-map}
-use Rattle.page_map.proofs.Refused.{ended_with}
-use Rattle.lattice.specs.Corners.{Corner}
-use Rattle.lattice.specs.declared.refusal.Refusal.{Refusal}
-use Rattle.page_map.specs.PageMaps.{corners_of_locations}
-use Rattle.page_map.specs.TileLocations.{TileLocation}
-use Rattle.cow_tree.specs.Listings.{ListingPage, WritesListing, due_among, tiles_listing, written_before}
+use Rattle.cow_tree.proofs.Prelude.{Contains, Corner, Err, List, ListingPage, Ok, Refusal, Result, TileLocation, WritesListing, ap, arith, corners_of_locations, due_among, ended_with, get_or, length, length-map, subst, sym, tiles_listing, written_before, ◌<◌, ◌∙◌, ◌≡◌}
 use Rattle.cow_tree.proofs.Listed.EntryTiles.{tile_at, corner_located}
 use Rattle.cow_tree.proofs.Listed.ListingPages.{none_listed}
 use Rattle.cow_tree.proofs.Writes.TileWrites.{first_all, one_more, one_refused}

@@ -1,7 +1,4 @@
-use Rattle.std.proofs.Common.{Ok, take}
-use Rattle.roots.specs.Roots.{disk_of}
-use Rattle.cow_tree.specs.Caches.{Agrees}
-use Rattle.cow_tree.specs.Listings.{WritesListing, due_among, tiles_listing, written_before}
+use Rattle.cow_tree.proofs.Prelude.{Agrees, Ok, WritesListing, disk_of, due_among, take, tiles_listing, written_before}
 use Rattle.cow_tree.proofs.listings.write_listings.Given as goal
 
 abbrev pub invariant-loop-corner : goal.invariant-loop-corner

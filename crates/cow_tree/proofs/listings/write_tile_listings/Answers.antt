@@ -1,7 +1,4 @@
-use Rattle.std.proofs.Common.{◌≡◌, Result, Err, sym, ◌∙◌, subst}
-use Rattle.page_map.proofs.Refused.{ended_with}
-use Rattle.lattice.specs.declared.refusal.Refusal.{Refusal}
-use Rattle.cow_tree.specs.Listings.{WritesListing, due_among, tile_listing, written_before}
+use Rattle.cow_tree.proofs.Prelude.{Err, Refusal, Result, WritesListing, due_among, ended_with, subst, sym, tile_listing, written_before, ◌∙◌, ◌≡◌}
 use Rattle.cow_tree.proofs.Listed.Due.{located_tile}
 use Rattle.cow_tree.proofs.Writes.TileWrites.{first_refused, second_refused, tile_written}
 use Rattle.cow_tree.proofs.listings.write_tile_listings.Goals as goal

@@ -1,12 +1,6 @@
-use Rattle.std.proofs.Common.{◌≡◌, ◌+◌, ◌-◌, ◌/◌, ◌<◌, ◌++◌, ℕ, List, Ok, Err, length, take, drop, get_or, min, below_more, refl, sym, ap, ◌∙◌, subst, arith}
+use Rattle.cow_tree.proofs.Prelude.{Err, Image, IsRecord, IsRefusedFor, List, NoneIndexed, NoneListed, Ok, PlaneLocation, ℕ, ap, arith, below_more, drop, get_or, index_pages_by, length, min, pages_of, part_of, record_bytes, refl, subst, sym, take, ◌++◌, ◌+◌, ◌-◌, ◌/◌, ◌<◌, ◌∙◌, ◌≡◌}
 use Rattle.std.proofs.Math.Seq.{take-append_seam}
 use Rattle.std.proofs.lemmas.List.{get_or_append_left, get_or_read}
-use Rattle.disk.specs.Disk.{Image}
-use Rattle.page_codec.specs.Records.{IsRecord, part_of, record_bytes}
-use Rattle.page_codec.specs.Sizes.{pages_of, index_pages_by}
-use Rattle.page_map.specs.Locations.{PlaneLocation}
-use Rattle.cow_tree.specs.Found.{NoneListed, NoneIndexed}
-use Rattle.cow_tree.specs.OverRoots.{IsRefusedFor}
 use Rattle.cow_tree.proofs.Listed.Indexed.{AreReadTo, within as index_within, read_more, part_same, part_read, none_indexed}
 use Rattle.cow_tree.proofs.ReadOnly.{refused_for, handed_on, read_on, works_ok, refused_again, read_well}
 use Rattle.cow_tree.proofs.opening.read_indexed.Goals as goal

@@ -1,7 +1,4 @@
-use Rattle.std.proofs.Common.{◌≡◌, ◌<◌, ℕ, false, length, drop, get_or}
-use Rattle.page_codec.specs.Records.{part_of, record_bytes}
-use Rattle.page_codec.specs.Sizes.{pages_of}
-use Rattle.roots.specs.Roots.{disk_of, has_failed}
+use Rattle.cow_tree.proofs.Prelude.{ℕ, disk_of, drop, false, get_or, has_failed, length, pages_of, part_of, record_bytes, ◌<◌, ◌≡◌}
 use Rattle.cow_tree.proofs.Listed.Indexed.{AreReadTo}
 use Rattle.cow_tree.proofs.ReadOnly.{HasRead}
 use Rattle.cow_tree.proofs.opening.read_indexed.Given as goal

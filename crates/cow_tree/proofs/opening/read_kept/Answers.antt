@@ -1,6 +1,4 @@
-use Rattle.std.proofs.Common.{ℕ, Err, subst, sym, Ok}
-use Rattle.disk.specs.Disk.{Image}
-use Rattle.cow_tree.specs.Found.{NonePlane, NoneKept}
+use Rattle.cow_tree.proofs.Prelude.{Err, Image, NoneKept, NonePlane, Ok, ℕ, subst, sym}
 use Rattle.cow_tree.proofs.ReadOnly.{refused_for, handed_on, refused_again, read_well, read_after}
 use Rattle.cow_tree.proofs.Reasons.{no_levels, no_labels}
 use Rattle.cow_tree.proofs.opening.read_kept.Goals as goal

@@ -1,6 +1,4 @@
-use Rattle.std.proofs.Common.{inl, inr, Err, refl, ap, sym, ◌∙◌}
-use Rattle.std.proofs.lemmas.Bool.{false≢true}
-use Rattle.lattice.specs.declared.refusal.Refusal.{Refusal}
+use Rattle.cow_tree.proofs.Prelude.{Err, Refusal, ap, false≢true, inl, inr, refl, sym, ◌∙◌}
 use Rattle.cow_tree.proofs.ReadOnly.{refused_again}
 use Rattle.cow_tree.proofs.opening.read_listed.Goals as goal
 

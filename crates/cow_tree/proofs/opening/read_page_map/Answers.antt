@@ -1,16 +1,5 @@
-use Rattle.std.proofs.Common.{◌≡◌, inl, inr, ⊎_elim, ℕ, ◌+◌, ◌<◌, List, [], ◌∷◌, ◌++◌, All, Ok, Err, length, get_or, map, take, false, sym, ap, ◌∙◌, subst}
-use Rattle.std.proofs.lemmas.List.Elements.{All-push}
-use Rattle.disk.specs.Disk.{Image}
-use Rattle.lattice.specs.Corners.{Corner}
-use Rattle.page_codec.specs.Entries.{EntryValue}
-use Rattle.page_codec.specs.Formats.{Format}
-use Rattle.page_codec.specs.Roots.{format_of}
+use Rattle.cow_tree.proofs.Prelude.{All, All-push, Corner, EntryValue, Err, Format, HasRecords, Image, KeepsPageRule, List, NoTileAt, Ok, TileLocation, ℕ, [], ap, entry_of, false, format_of, get_or, has_failed, inl, inr, length, map, subst, sym, take, ⊎_elim, ◌++◌, ◌+◌, ◌<◌, ◌∙◌, ◌∷◌, ◌≡◌}
 use Rattle.page_map.specs.PageMaps.{PageMapValue, tile_at}
-use Rattle.cow_tree.specs.Found.{NoTileAt}
-use Rattle.page_map.specs.TileLocations.{TileLocation, KeepsPageRule}
-use Rattle.cow_tree.specs.Entries.{entry_of}
-use Rattle.cow_tree.specs.Layout.{HasRecords}
-use Rattle.roots.specs.Roots.{has_failed}
 use Rattle.cow_tree.proofs.Listed.ReadTiles.{before_next, one_more, no_next_tile, no_rule}
 use Rattle.cow_tree.proofs.ReadOnly.{refused_for, handed_on, read_on, read_as, not_device, works_ok, refused_again, read_well}
 use Rattle.cow_tree.proofs.opening.read_page_map.Goals as goal

@@ -1,9 +1,4 @@
-use Rattle.std.proofs.Common.{◌≡◌, All, map, take, false}
-use Rattle.page_codec.specs.Roots.{format_of}
-use Rattle.page_map.specs.PageMaps.{IsPageMap, IsClean}
-use Rattle.cow_tree.specs.Entries.{entry_of}
-use Rattle.cow_tree.specs.Layout.{HasRecords}
-use Rattle.roots.specs.Roots.{disk_of, has_failed}
+use Rattle.cow_tree.proofs.Prelude.{All, HasRecords, IsClean, IsPageMap, disk_of, entry_of, false, format_of, has_failed, map, take, ◌≡◌}
 use Rattle.cow_tree.proofs.ReadOnly.{HasRead}
 use Rattle.cow_tree.proofs.opening.read_page_map.Given as goal
 

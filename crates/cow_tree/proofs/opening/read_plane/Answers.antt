@@ -1,12 +1,6 @@
-use Rattle.std.proofs.Common.{◌≡◌, ◌<◌, ℕ, List, IfOk, length, sym, ap, ◌∙◌, subst}
+use Rattle.cow_tree.proofs.Prelude.{IfOk, Image, IsIndexed, IsRecord, IsRefusedFor, List, NoneIndexed, NoneListed, NonePlane, Two, ℕ, ap, length, record_bytes, subst, sym, ◌<◌, ◌∙◌, ◌≡◌}
 use Rattle.std.proofs.lemmas.Result.{IfErr-weaker}
-use Rattle.disk.specs.Disk.{Image}
-use Rattle.page_codec.specs.declared.version.Version.TheVariants.{Two}
-use Rattle.page_codec.specs.Records.{IsRecord, record_bytes}
 use Rattle.page_codec.specs.Sizes.{listed_in}
-use Rattle.cow_tree.specs.Found.{NoneListed, NoneIndexed, NonePlane}
-use Rattle.cow_tree.specs.Layout.{IsIndexed}
-use Rattle.cow_tree.specs.OverRoots.{IsRefusedFor}
 use Rattle.cow_tree.proofs.Listed.Indexed.{second_read, none_behind}
 use Rattle.cow_tree.proofs.ReadOnly.{refused_for, handed_on, refused_again, read_well, read_after}
 use Rattle.cow_tree.proofs.Reasons.{none_listed}

@@ -1,7 +1,4 @@
-use Rattle.std.proofs.Common.{ℕ, Err, ap, subst, Ok}
-use Rattle.disk.specs.Disk.{Image}
-use Rattle.page_codec.specs.Entries.{EntryValue}
-use Rattle.cow_tree.specs.Found.{NonePlane, NoneKept}
+use Rattle.cow_tree.proofs.Prelude.{EntryValue, Err, Image, NoneKept, NonePlane, Ok, ℕ, ap, subst}
 use Rattle.cow_tree.proofs.ReadOnly.{refused_for, handed_on, refused_again, read_well, read_after}
 use Rattle.cow_tree.proofs.Reasons.{no_heights, no_kept}
 use Rattle.cow_tree.proofs.opening.read_planes.Goals as goal

@@ -1,6 +1,4 @@
-use Rattle.std.proofs.Common.{length, arith}
-use Rattle.cow_tree.specs.Trees.{staged_in}
-use Rattle.page_map.proofs.Lookup.{tile_at_corner}
+use Rattle.cow_tree.proofs.Prelude.{arith, length, staged_in, tile_at_corner}
 use Rattle.cow_tree.proofs.SampleReads.{part_read}
 use Rattle.cow_tree.proofs.TreeReads.{was_readable}
 use Rattle.cow_tree.proofs.samples.read_part.Goals as goal

@@ -1,11 +1,4 @@
-use Rattle.std.proofs.Common.{◌≡◌, ◌<◌, ◌≤◌, ◌++◌, ℕ, List, length, map, Result, Err, sym, ap, ap₂, ◌∙◌, subst, arith, Some}
-use Rattle.std.proofs.lemmas.List.{length-append}
-use Rattle.page_map.proofs.Refused.{ended_with}
-use Rattle.lattice.specs.declared.refusal.Refusal.{Refusal}
-use Rattle.page_map.specs.Locations.{times}
-use Rattle.page_map.proofs.Times.{all_numbers, times-append}
-use Rattle.cow_tree.specs.OverRoots.{WritesPages}
-use Rattle.cow_tree.specs.Stored.{PlanePages, pages_of_bytes}
+use Rattle.cow_tree.proofs.Prelude.{Err, List, PlanePages, Refusal, Result, Some, WritesPages, ℕ, all_numbers, ap, ap₂, arith, ended_with, length, length-append, map, pages_of_bytes, subst, sym, times, times-append, ◌++◌, ◌<◌, ◌∙◌, ◌≡◌, ◌≤◌}
 use Rattle.cow_tree.proofs.Listed.Counting.{at_times}
 use Rattle.cow_tree.proofs.Writes.PageWrites.{HasWritten, then_written, refused_within}
 use Rattle.cow_tree.proofs.Standing.{SameOn, All-front, All-back, map_same}

@@ -1,11 +1,5 @@
-use Rattle.std.proofs.Common.{◌≡◌, ℕ, ◌+◌, ◌*◌, ◌++◌, ◌∷◌, [], List, Result, Ok, Err, get_or, take, drop, below_more, sym, ap, ◌∙◌, subst, arith}
-use Rattle.std.proofs.lemmas.List.{drop-drop, take_all, take_more}
-use Rattle.page_map.proofs.Refused.{ended_with}
-use Rattle.lattice.specs.declared.refusal.Refusal.{Refusal}
-use Rattle.page_codec.specs.Numbers.{padded}
-use Rattle.roots.specs.Roots.{disk_of}
+use Rattle.cow_tree.proofs.Prelude.{Err, List, Ok, Refusal, Result, WritesPages, ℕ, [], ap, arith, below_more, disk_of, drop, drop-drop, ended_with, get_or, padded, subst, sym, take, take_all, take_more, ◌*◌, ◌++◌, ◌+◌, ◌∙◌, ◌∷◌, ◌≡◌}
 use Rattle.page_map.proofs.Occurrences.{once_apart}
-use Rattle.cow_tree.specs.OverRoots.{WritesPages}
 use Rattle.cow_tree.proofs.Listed.Counting.{take_few, times_first}
 use Rattle.cow_tree.proofs.Writes.PageWrites.{HasWritten, one_written, then_written, refused_within}
 use Rattle.cow_tree.proofs.Writes.WrittenPages.{all_written}

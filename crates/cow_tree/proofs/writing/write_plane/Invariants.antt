@@ -1,7 +1,5 @@
-use Rattle.std.proofs.Common.{◌≡◌, ◌<◌, ◌*◌, ℕ, drop, get_or, take}
-use Rattle.cow_tree.specs.Staged.{page_of_bytes}
+use Rattle.cow_tree.proofs.Prelude.{ℕ, disk_of, drop, get_or, page_of_bytes, take, ◌*◌, ◌<◌, ◌≡◌}
 use Rattle.cow_tree.proofs.Writes.PageWrites.{HasWritten}
-use Rattle.roots.specs.Roots.{disk_of}
 use Rattle.cow_tree.proofs.writing.write_plane.Given as goal
 
 abbrev pub invariant-loop-page : goal.invariant-loop-page

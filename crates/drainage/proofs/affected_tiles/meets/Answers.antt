@@ -1,6 +1,5 @@
 use Rattle.std.proofs.Common.{◌≡◌, ◌∙◌, ◌&&◌, true, pos, ◌+ℤ◌, ◌-ℤ◌, int_le, w64, to_z, of_z, sym, ap, ap₂, arith}
-use Rattle.std.proofs.lemmas.Int.{ints}
-use Rattle.lattice.proofs.IntTests.{le_true, le_from}
+use Rattle.drainage.proofs.Prelude.{ints, le_from, le_true}
 use Rattle.drainage.proofs.affected_tiles.meets.Goals as goal
 
 pub returns-then-value-from : goal.returns-then-value-from

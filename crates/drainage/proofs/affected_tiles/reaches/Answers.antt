@@ -1,8 +1,5 @@
-use Rattle.std.proofs.Common.{◌≡◌, ◌∙◌, ◌&&◌, ◌+◌, ◌-◌, ◌/◌, ◌%◌, ◌≤◌, ℕ, ℤ, pos, ◌+ℤ◌, ◌-ℤ◌, ◌*ℤ◌, int_le, Bool, w32, to_z, of_z, SFits, rules, sym, ap, ap₂, arith}
+use Rattle.drainage.proofs.Prelude.{Bool, Point, SFits, ℕ, ℤ, ap, ap₂, arith, int_le, ints, of_z, pos, reaches_along, rules, sym, to_z, to_z-of_z, w32, ◌%◌, ◌&&◌, ◌*ℤ◌, ◌+ℤ◌, ◌+◌, ◌-ℤ◌, ◌-◌, ◌/◌, ◌∙◌, ◌≡◌, ◌≤◌}
 use Rattle.std.proofs.Math.Nat.{zero-div, zero-mod}
-use Rattle.std.proofs.lemmas.Int.{ints, to_z-of_z}
-use Rattle.lattice.specs.declared.point.Point.{Point}
-use Rattle.drainage.specs.Reaching.{reaches_along}
 use Rattle.drainage.proofs.affected_tiles.reaches.Goals as goal
 
 module _ (n : ℕ) (corner value : ℤ) (far : ℕ) (from to as_from as_to : ℤ) (b : Bool) (side : 3 ≤ n) (edge : far ≡ n - 1 + 1) (from_is : as_from ≡ from) (to_is : as_to ≡ to) where

@@ -1,10 +1,4 @@
-use Rattle.std.proofs.Common.{Err, inl, inr, sym, ◌∙◌, subst, List}
-use Rattle.lattice.specs.Corners.{Corner}
-use Rattle.lattice.specs.declared.refusal.Refusal.TheVariants.{Outside, Void}
-use Rattle.catalogue.specs.Tiles.{corners_of}
-use Rattle.catalogue.proofs.Asking.{asked}
-use Rattle.catalogue.proofs.Reading.{reads_nothing, reads_as}
-use Rattle.drainage.specs.Asking.{IsHeldByNone}
+use Rattle.drainage.proofs.Prelude.{Corner, Err, IsHeldByNone, List, Outside, Void, asked, corners_of, inl, inr, reads_as, reads_nothing, subst, sym, ◌∙◌}
 use Rattle.drainage.proofs.Caches.Holders.{outside_says, ground_at}
 use Rattle.drainage.proofs.Questions.Questioned.{answered}
 use Rattle.drainage.proofs.asking.check_ground.Goals as goal

@@ -1,9 +1,4 @@
-use Rattle.std.proofs.Common.{◌≡◌, inl, inr, ap, sym, ◌∙◌, subst, arith, get_or, List}
-use Rattle.std.specs.Prelude.{Contains}
-use Rattle.std.proofs.lemmas.List.{get_or_read}
-use Rattle.std.proofs.lemmas.Bool.{cases_eq, false≢true}
-use Rattle.lattice.specs.Corners.{Corner}
-use Rattle.lattice.specs.Lattice.{Holds}
+use Rattle.drainage.proofs.Prelude.{Contains, Corner, Holds, List, ap, arith, cases_eq, false≢true, get_or, get_or_read, inl, inr, subst, sym, ◌∙◌, ◌≡◌}
 use Rattle.drainage.proofs.asking.present_holder.Goals as goal
 
 pub returns-then-present-clause-some : goal.returns-then-present-clause-some

@@ -1,6 +1,4 @@
-use Rattle.std.proofs.Common.{ℕ, ◌<◌, get_or}
-use Rattle.std.specs.Prelude.{Contains}
-use Rattle.lattice.specs.Corners.{Corner}
+use Rattle.drainage.proofs.Prelude.{Contains, Corner, ℕ, get_or, ◌<◌}
 use Rattle.drainage.proofs.asking.present_holder.Given as goal
 
 abbrev pub invariant-loop-corner : goal.invariant-loop-corner

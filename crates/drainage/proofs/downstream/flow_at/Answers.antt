@@ -1,11 +1,4 @@
-use Rattle.std.proofs.Common.{◌≤◌, List, length, sym, subst}
-use Rattle.std.specs.Prelude.{IfOk}
-use Rattle.lattice.specs.Corners.{Corner}
-use Rattle.lattice.specs.Ground.{terrain}
-use Rattle.lattice.specs.Limits.{most_tiles}
-use Rattle.lattice.specs.Mosaic.{Mosaic}
-use Rattle.flow_d8.specs.LevelsAround.{OnLevels}
-use Rattle.flow_d8.specs.Flows.{IsFlow}
+use Rattle.drainage.proofs.Prelude.{Corner, IfOk, IsFlow, List, Mosaic, OnLevels, length, most_tiles, subst, sym, terrain, ◌≤◌}
 use Rattle.drainage.proofs.Tiles.GroundAtHand.{ground_still}
 use Rattle.drainage.proofs.Questions.Questioned.{answered_here, asked_then}
 use Rattle.drainage.proofs.downstream.flow_at.Goals as goal

@@ -1,6 +1,4 @@
-use Rattle.std.proofs.Common.{◌≡◌, subst}
-use Rattle.lattice.specs.Ground.{terrain, is_sink}
-use Rattle.lattice.specs.Mosaic.{Mosaic}
+use Rattle.drainage.proofs.Prelude.{Mosaic, is_sink, subst, terrain, ◌≡◌}
 use Rattle.flow_d8.proofs.Sayings.Draining.{near_flow}
 use Rattle.drainage.proofs.Questions.Questioned.{answered_here}
 use Rattle.drainage.proofs.downstream.flow_by_levels.Goals as goal

@@ -1,9 +1,6 @@
 use Rattle.std.proofs.Common.{IsTrue, Ok, Option, length, subst, arith}
 use Rattle.std.specs.Prelude.{IfSome, ◌<◌}
-use Rattle.catalogue.proofs.Reading.{reads_on}
-use Rattle.lattice.specs.declared.point.Point.{Point}
-use Rattle.flow_d8.specs.FlowGrids.{IsAtHand}
-use Rattle.flow_d8.specs.Tiles.{OnGround}
+use Rattle.drainage.proofs.Prelude.{IsAtHand, OnGround, Point, reads_on}
 use Rattle.drainage.proofs.Questions.Questioned.{refused_after, asked_reads}
 use Rattle.drainage.proofs.Tiles.GroundAtHand.{met_ground}
 use Rattle.drainage.proofs.downstream.have_flat.Goals as goal

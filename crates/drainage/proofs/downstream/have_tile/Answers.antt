@@ -1,14 +1,4 @@
-use Rattle.std.proofs.Common.{◌≡◌, ◌<◌, List, length, sym, ◌∙◌, subst, arith, true≢false}
-use Rattle.std.specs.Prelude.{Contains}
-use Rattle.lattice.specs.Corners.{Corner}
-use Rattle.lattice.specs.Limits.{most_tiles}
-use Rattle.lattice.specs.Mosaic.{Mosaic}
-use Rattle.flow_d8.specs.Tiles.{Tiles}
-use Rattle.flow_d8.specs.declared.flow.Flow.{Flow}
-use Rattle.drainage.specs.declared.flow_cache.Slot.{Slot}
-use Rattle.drainage.specs.FlowCaches.{AreSlotsOf, IsCacheOf}
-use Rattle.flow_d8.specs.FlowGrids.{AreTileFlows, IsGridOf}
-use Rattle.drainage.specs.LevelRanges.{AreRangesOf}
+use Rattle.drainage.proofs.Prelude.{AreRangesOf, AreSlotsOf, AreTileFlows, Contains, Corner, Flow, IsCacheOf, IsGridOf, List, Mosaic, Slot, Tiles, arith, length, most_tiles, subst, sym, true≢false, ◌<◌, ◌∙◌, ◌≡◌}
 use Rattle.drainage.proofs.Caches.FlowCaches.{slots_push}
 use Rattle.flow_d8.proofs.Samples.GridFacts.{grid_push}
 use Rattle.drainage.proofs.Tiles.GroundAtHand.{some_holds, not_all}

@@ -1,14 +1,7 @@
 use Rattle.std.proofs.Common.{IsTrue, Ok, Option, sym, ◌∙◌, subst, true≢false}
 use Rattle.std.specs.Prelude.{IfSome, IfNone, ℕ}
-use Rattle.lattice.specs.Ground.{terrain}
-use Rattle.lattice.specs.declared.point.Point.{Point}
-use Rattle.catalogue.proofs.Reading.{reads_on}
-use Rattle.flow_d8.specs.Drainage.{CrossesFlat}
-use Rattle.flow_d8.specs.LevelsAround.{OnLevels}
-use Rattle.lattice.specs.Mosaic.{Mosaic}
-use Rattle.flow_d8.specs.Flows.{Drains, IsFlow}
+use Rattle.drainage.proofs.Prelude.{CrossesFlat, Drains, IsFlow, Mosaic, OnGround, OnLevels, Point, Tiles, reads_on, terrain}
 use Rattle.flow_d8.specs.FlowGrids.{IsAtHand, flow_of}
-use Rattle.flow_d8.specs.Tiles.{Tiles, OnGround}
 use Rattle.drainage.proofs.Caches.FlowCaches.{cache_resolved}
 use Rattle.drainage.proofs.Questions.Questioned.{refused_after, asked_reads, stopped}
 use Rattle.drainage.proofs.Tiles.GroundAtHand.{met_ground, settled}

@@ -1,8 +1,4 @@
-use Rattle.std.proofs.Common.{◌-◌, ◌≤◌, Ok, length}
-use Rattle.lattice.specs.Limits.{most_tiles}
-use Rattle.catalogue.specs.Readers.{OnlyReads}
-use Rattle.flow_d8.specs.FlowGrids.{IsAtHand}
-use Rattle.drainage.specs.Between.{AreFlowsFor, IsHeldFor}
+use Rattle.drainage.proofs.Prelude.{AreFlowsFor, IsAtHand, IsHeldFor, Ok, OnlyReads, length, most_tiles, ◌-◌, ◌≤◌}
 use Rattle.drainage.proofs.downstream.prepared_flow.Given as goal
 
 abbrev pub invariant-tiles : goal.invariant-tiles

@@ -1,5 +1,4 @@
-use Rattle.std.proofs.Common.{length, sym, ap, ◌∙◌, subst}
-use Rattle.flow_d8.specs.declared.grid.FlowGrid.{FlowGrid}
+use Rattle.drainage.proofs.Prelude.{FlowGrid, ap, length, subst, sym, ◌∙◌}
 use Rattle.drainage.specs.FlowCaches.{flow_bytes, flow_cache_right, past_right}
 use Rattle.drainage.proofs.Caches.FlowCaches.{same_cache, same_past}
 use Rattle.drainage.proofs.drainage_cache.flow_in.Goals as goal

@@ -1,5 +1,4 @@
-use Rattle.std.proofs.Common.{ℕ, ◌<◌}
-use Rattle.lattice.specs.Lattice.{Holds}
+use Rattle.drainage.proofs.Prelude.{Holds, ℕ, ◌<◌}
 use Rattle.drainage.specs.Flooded.{corner_at}
 use Rattle.drainage.proofs.filling.first_holder.Given as goal
 

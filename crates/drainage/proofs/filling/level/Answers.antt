@@ -1,6 +1,4 @@
-use Rattle.std.proofs.Common.{rules, sym, subst}
-use Rattle.lattice.specs.Mosaic.{Mosaic}
-use Rattle.drainage.specs.Between.{IsHeldOf}
+use Rattle.drainage.proofs.Prelude.{IsHeldOf, Mosaic, rules, subst, sym}
 use Rattle.drainage.proofs.Questions.Questioned.{short_here}
 use Rattle.drainage.proofs.filling.level.Goals as goal
 

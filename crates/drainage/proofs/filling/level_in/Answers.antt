@@ -1,26 +1,4 @@
-use Rattle.std.proofs.Common.{◌≡◌, ◌∙◌, ℤ, List, Result, Ok, rules, sym, ap, ap₂, subst, SFits, w16}
-use Rattle.std.specs.Prelude.{Option}
-use Rattle.std.specs.Int.{int_max}
-use Rattle.std.proofs.lemmas.Bool.{false≢true}
-use Rattle.std.proofs.lemmas.Bool.Decides.{Decides-int_eq}
-use Rattle.std.proofs.lemmas.Int.{to_z-of_z}
-use Rattle.lattice.specs.Corners.{Corner}
-use Rattle.lattice.specs.Mosaic.{Mosaic, void}
-use Rattle.lattice.specs.Ground.{metres, terrain}
-use Rattle.lattice.specs.Height.{height_of}
-use Rattle.lattice.specs.Terrain.{IsFilledLevel}
-use Rattle.lattice.specs.declared.refusal.Refusal.{Refusal}
-use Rattle.catalogue.specs.Readers.{OnlyReads}
-use Rattle.catalogue.specs.Tiles.{corners_of}
-use Rattle.catalogue.specs.declared.samples.Samples.{Ghosts}
-use Rattle.catalogue.proofs.Asking.{asked_refused}
-use Rattle.catalogue.proofs.Reading.{reads_as, reads_on}
-use Rattle.border_graph.specs.Joining.{Rim}
-use Rattle.border_graph.specs.Linking.{node_number}
-use Rattle.drainage.specs.Asking.{IsHeldByNone}
-use Rattle.drainage.specs.Holding.{Known, IsRimLevel, IsGroundNode, IsRight, IsGrown}
-use Rattle.drainage.specs.Kept.{right_still}
-use Rattle.drainage.specs.TileCaches.{known_of}
+use Rattle.drainage.proofs.Prelude.{Corner, Decides-int_eq, Ghosts, IsFilledLevel, IsGroundNode, IsGrown, IsHeldByNone, IsRight, IsRimLevel, Known, List, Mosaic, Ok, OnlyReads, Option, Refusal, Result, Rim, SFits, ℤ, ap, ap₂, asked_refused, corners_of, false≢true, height_of, int_max, known_of, metres, node_number, reads_as, reads_on, right_still, rules, subst, sym, terrain, to_z-of_z, void, w16, ◌∙◌, ◌≡◌}
 use Rattle.drainage.proofs.Questions.Filled.{void_there, no_height_there, level_inside, rim_there, level_over}
 use Rattle.drainage.proofs.Caches.Holders.{no_ground}
 use Rattle.drainage.proofs.Questions.Questioned.{answered, answered_here, asked_reads, refused_after, stopped}

@@ -1,13 +1,5 @@
 use Rattle.std.proofs.Common.{◌≡◌, ◌∙◌, ℕ, ◌+◌, ◌*◌, ◌-◌, ◌^◌, ◌≤◌, ◌==◌, ℤ, ◌⊎◌, ◌<◌, Contains, cond, List, rules, sym, ap, subst, SFits, w16}
-use Rattle.std.specs.Prelude.{Some, IfSome, IfNone}
-use Rattle.std.proofs.lemmas.Int.{to_z-of_z}
-use Rattle.border_graph.specs.Joining.{Rim}
-use Rattle.border_graph.specs.Linking.{node_number}
-use Rattle.border_graph.specs.Links.{IsJoinedLevel, IsWayBelow}
-use Rattle.border_graph.specs.Placed.{IsPlacedLink}
-use Rattle.drainage.specs.Holding.{IsRight, IsRimLevel, level_of}
-use Rattle.drainage.specs.Kept.{right_still}
-use Rattle.drainage.specs.TileCaches.{known_of}
+use Rattle.drainage.proofs.Prelude.{IfNone, IfSome, IsJoinedLevel, IsPlacedLink, IsRight, IsRimLevel, IsWayBelow, Rim, Some, known_of, level_of, node_number, right_still, to_z-of_z}
 use Rattle.drainage.proofs.Caches.Growing.{known_by}
 use Rattle.drainage.proofs.Flows.Found.{right_more, right_all, reached_later, start_is, found, found_later, never}
 use Rattle.drainage.proofs.RimPoints.Numbered.{of_fits}

@@ -1,11 +1,4 @@
-use Rattle.std.proofs.Common.{◌≤◌, IsTrue, List, length, refl, sym, ap, ◌∙◌, subst}
-use Rattle.lattice.specs.Corners.{Corner}
-use Rattle.lattice.specs.Ground.{is_ground, terrain}
-use Rattle.lattice.specs.Limits.{most_tiles}
-use Rattle.lattice.specs.Mosaic.{Mosaic}
-use Rattle.flow_d8.specs.LevelsAround.{OnLevels}
-use Rattle.flow_d8.specs.Flows.{IsFlow, direction_of}
-use Rattle.flow_d8.proofs.Sayings.Draining.{flow_direction}
+use Rattle.drainage.proofs.Prelude.{Corner, IsFlow, IsTrue, List, Mosaic, OnLevels, ap, direction_of, flow_direction, is_ground, length, most_tiles, refl, subst, sym, terrain, ◌∙◌, ◌≤◌}
 use Rattle.watershed.specs.Questions.{code_by}
 use Rattle.drainage.proofs.Questions.Questioned.{answered, asked_reads, asked_then, refused_after}
 use Rattle.drainage.proofs.Flows.Followed.{held_still}

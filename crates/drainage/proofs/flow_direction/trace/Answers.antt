@@ -1,11 +1,5 @@
-use Rattle.std.proofs.Common.{◌*◌, ◌≤◌, IsTrue, List, length, refl, sym, ap, ap₂, ◌∙◌, subst, arith}
-use Rattle.std.specs.Prelude.{IfOk}
-use Rattle.lattice.specs.Corners.{Corner}
-use Rattle.lattice.specs.Ground.{is_ground, terrain}
-use Rattle.lattice.specs.Limits.{most_tiles}
-use Rattle.lattice.specs.Mosaic.{Mosaic}
+use Rattle.drainage.proofs.Prelude.{Corner, IfOk, IsTrue, List, Mosaic, OnLevels, ap, ap₂, arith, is_ground, length, most_tiles, refl, subst, sym, terrain, ◌*◌, ◌∙◌, ◌≤◌}
 use Rattle.flow_d8.specs.FlowPath.{IsFlowPath}
-use Rattle.flow_d8.specs.LevelsAround.{OnLevels}
 use Rattle.flow_d8.proofs.Samples.Numbers.{few_samples}
 use Rattle.drainage.proofs.Questions.Questioned.{asked_then}
 use Rattle.drainage.proofs.Flows.Followed.{held_still}

@@ -1,8 +1,7 @@
 use Rattle.std.proofs.Common.{◌≢◌, List, [], ◌∷◌, ◌++◌, Contains, inl, inr, sym, subst, ⊎_elim}
 use Rattle.std.proofs.lemmas.List.Elements.{Contains-get_or, Contains-push, Contains-append_left, Contains-push_cases}
 use Rattle.std.proofs.lemmas.List.Quantifiers.{all_pairs_push}
-use Rattle.lattice.specs.declared.point.Point.{Point}
-use Rattle.drainage.specs.FlowPaths.{IsMarkedOnce}
+use Rattle.drainage.proofs.Prelude.{IsMarkedOnce, Point}
 use Rattle.drainage.proofs.flow_paths.add.Goals as goal
 
 pub returns-clause-once : goal.returns-clause-once

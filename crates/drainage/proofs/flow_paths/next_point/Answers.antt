@@ -1,11 +1,8 @@
 use Rattle.std.proofs.Common.{Option, sym, ◌∙◌, subst}
-use Rattle.lattice.specs.declared.direction.Dir.{Dir}
-use Rattle.lattice.specs.Ground.{terrain}
+use Rattle.drainage.proofs.Prelude.{Dir, flow_direction, mosaic_is_grid, terrain}
 use Rattle.flow_d8.specs.Drainage.{IsDirection}
 use Rattle.flow_d8.proofs.Mosaics.Fitting.{ground_fits}
 use Rattle.flow_d8.proofs.Paths.Following.{next_is}
-use Rattle.flow_d8.proofs.Mosaics.MosaicGrid.{mosaic_is_grid}
-use Rattle.flow_d8.proofs.Sayings.Draining.{flow_direction}
 use Rattle.drainage.proofs.flow_paths.next_point.Goals as goal
 
 pub returns-in_default-clause-next : goal.returns-in_default-clause-next

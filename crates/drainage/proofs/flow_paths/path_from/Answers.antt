@@ -1,19 +1,7 @@
 use Rattle.std.proofs.Common.{Vec, Global, Result, ◌≡◌, ◌⊎◌, ◌≤◌, ◌*◌, ℕ, inl, inr, ⊎_elim, arith, ap₂, IsTrue, Ok, Option, List, [], ◌∷◌, ◌++◌, length, sym, ap, ◌∙◌, subst}
-use Rattle.std.specs.Prelude.{IfErr, Contains}
-use Rattle.std.proofs.lemmas.Result.{err_from_is_err_and}
-use Rattle.lattice.specs.Corners.{Corner}
-use Rattle.lattice.specs.Ground.{is_ground, terrain}
-use Rattle.lattice.specs.Limits.{most_tiles}
-use Rattle.lattice.specs.Mosaic.{Mosaic}
-use Rattle.lattice.specs.declared.point.Point.{Point}
-use Rattle.lattice.specs.declared.refusal.Refusal.{Refusal}
-use Rattle.catalogue.specs.Endings.{ends_any}
-use Rattle.catalogue.specs.Tiles.{corners_of}
-use Rattle.catalogue.proofs.Reading.{reads_nothing, reads_on}
+use Rattle.drainage.proofs.Prelude.{Contains, Corner, IfErr, Mosaic, OnLevels, Point, Refusal, corners_of, ends_any, err_from_is_err_and, is_ground, mosaic_is_grid, most_tiles, reads_nothing, reads_on, terrain}
 use Rattle.flow_d8.specs.FlowSteps.{IsNext, IsFollowed}
-use Rattle.flow_d8.specs.LevelsAround.{OnLevels}
 use Rattle.flow_d8.proofs.Paths.Following.{followed_first, followed_more, followed_end}
-use Rattle.flow_d8.proofs.Mosaics.MosaicGrid.{mosaic_is_grid}
 use Rattle.flow_d8.proofs.Paths.OnePath.{goes_on}
 use Rattle.flow_d8.specs.PresentTiles.{sample_count}
 use Rattle.drainage.proofs.Questions.LevelFunctions.{level_function}

@@ -1,10 +1,4 @@
-use Rattle.std.proofs.Common.{◌-◌, ◌≤◌, Ok, length}
-use Rattle.lattice.specs.Ground.{terrain}
-use Rattle.catalogue.specs.Readers.{OnlyReads}
-use Rattle.flow_d8.specs.FlowSteps.{IsFollowed}
-use Rattle.flow_d8.specs.LevelsAround.{OnLevels}
-use Rattle.drainage.specs.Between.{IsHeldFor}
-use Rattle.drainage.specs.FlowPaths.{IsMarkedOnce}
+use Rattle.drainage.proofs.Prelude.{IsFollowed, IsHeldFor, IsMarkedOnce, Ok, OnLevels, OnlyReads, length, terrain, ◌-◌, ◌≤◌}
 use Rattle.drainage.proofs.flow_paths.path_from.Given as goal
 
 abbrev pub invariant-steps : goal.invariant-steps

@@ -1,17 +1,6 @@
-use Rattle.std.proofs.Common.{◌≡◌, ℤ, ◌≤ℤ◌, ◌<ℤ◌, List, sym, ap, ◌∙◌, subst, arith, rules, w32, of_z, to_z}
-use Rattle.std.specs.Prelude.{Option, Some, None, IfSome}
-use Rattle.std.proofs.lemmas.Int.{ints}
-use Rattle.lattice.specs.declared.height.Height.TheVariants.{At}
-use Rattle.lattice.specs.declared.point.Point.{Point}
-use Rattle.lattice.specs.Ground.{metres}
-use Rattle.lattice.specs.Height.{height_of}
-use Rattle.lattice.specs.Mosaic.{Mosaic}
-use Rattle.lattice.proofs.Levels.{≤ℤ_same}
+use Rattle.drainage.proofs.Prelude.{At, IfSome, IsHeldOf, List, Mosaic, NewHeight, None, Option, Point, Some, ℤ, ap, arith, height_of, ints, metres, of_z, patched, rules, subst, sym, to_z, w32, ≤ℤ_same, ◌<ℤ◌, ◌∙◌, ◌≡◌, ◌≤ℤ◌}
 use Rattle.edits.specs.declared.edit.Edit.{Edit}
-use Rattle.edits.specs.declared.edit.NewHeight.{NewHeight}
 use Rattle.edits.specs.Edits.{AreEarlier, TellsHeights, edit_made, with_heights}
-use Rattle.edits.specs.Effect.{patched}
-use Rattle.drainage.specs.Between.{IsHeldOf}
 use Rattle.drainage.specs.Beyond.{AreFlowsKept, AreLevelsKept, IsKeptBeyondEdit, IsKeptBeyondHeights, IsKeptUnchanged}
 use Rattle.drainage.specs.Spared.{one_lower}
 use Rattle.drainage.proofs.Changes.EditedBox.{differ_patched}

@@ -1,18 +1,5 @@
-use Rattle.std.proofs.lemmas.Int.{ints, to_z-of_z}
-use Rattle.std.proofs.Common.{rules, SFits, w16, to_z, of_z, inl, inr, ◌≡◌, ◌≢◌, ◌+◌, ◌<◌, ℕ, ℤ, List, length, get_or, take, pos, refl, sym, ap, ◌∙◌, subst, arith, true≢false}
-use Rattle.std.proofs.lemmas.List.{take_all}
-use Rattle.std.proofs.lemmas.List.Elements.{All-get_or}
-use Rattle.lattice.specs.declared.height.Height.TheVariants.{At}
-use Rattle.lattice.specs.Ground.{is_height}
-use Rattle.lattice.specs.Mosaic.{Mosaic, IsMosaic, IsSample, void}
-use Rattle.edits.specs.declared.edit.NewHeight.{NewHeight}
-use Rattle.edits.specs.Edits.{AreEarlier, with_heights}
+use Rattle.drainage.proofs.Prelude.{All-get_or, AreEarlier, AreFlowsKept, AreLevelsKept, AreSparing, At, DrainageCache, IsHeldOf, IsKeptBeyondHeights, IsKeptUnchanged, IsMosaic, IsSample, IsUnchanged, List, Mosaic, NewHeight, SFits, ℕ, ℤ, ap, arith, flow_cache_right, get_or, inl, inr, ints, is_height, length, levels_pass, of_z, past_right, pos, refl, rules, subst, sym, take, take_all, to_z, to_z-of_z, true≢false, void, w16, with_heights, ◌+◌, ◌<◌, ◌∙◌, ◌≡◌, ◌≢◌}
 use Rattle.edits.proofs.EditStale.{read_within}
-use Rattle.drainage.specs.Between.{IsHeldOf, levels_pass}
-use Rattle.drainage.specs.FlowCaches.{flow_cache_right, past_right}
-use Rattle.drainage.specs.Beyond.{AreFlowsKept, AreLevelsKept, IsKeptBeyondHeights, IsKeptUnchanged}
-use Rattle.drainage.specs.Spared.{AreSparing, IsUnchanged}
-use Rattle.drainage.specs.declared.drainage_cache.DrainageCache.{DrainageCache}
 use Rattle.drainage.proofs.Changes.Beyond.{all_kept, all_levels_kept, all_pass, all_unchanged, levels_kept, levels_kept_still, levels_spared, one_kept, pass_still, spared_by, tiles_kept}
 use Rattle.drainage.proofs.Changes.EditedBox.{differ_more, earlier_at, set_more, valid_more}
 use Rattle.drainage.proofs.Caches.FlowsKept.{one_flows_kept}

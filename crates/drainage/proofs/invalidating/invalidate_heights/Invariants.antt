@@ -1,9 +1,4 @@
-use Rattle.std.proofs.Common.{take}
-use Rattle.lattice.specs.Mosaic.{Mosaic, IsMosaic}
-use Rattle.edits.specs.Edits.{AreEarlier, with_heights}
-use Rattle.drainage.specs.Between.{IsHeldOf, levels_pass}
-use Rattle.drainage.specs.Beyond.{AreFlowsKept, AreLevelsKept, IsKeptBeyondHeights, IsKeptUnchanged}
-use Rattle.drainage.specs.Spared.{AreSparing}
+use Rattle.drainage.proofs.Prelude.{AreEarlier, AreFlowsKept, AreLevelsKept, AreSparing, IsHeldOf, IsKeptBeyondHeights, IsKeptUnchanged, IsMosaic, Mosaic, levels_pass, take, with_heights}
 use Rattle.drainage.proofs.invalidating.invalidate_heights.Given as goal
 
 abbrev pub invariant-loop-height : goal.invariant-loop-height

@@ -1,5 +1,4 @@
-use Rattle.catalogue.specs.Tiles.{with_sinks}
-use Rattle.edits.specs.Sinks.{with_point, without_point}
+use Rattle.drainage.proofs.Prelude.{with_point, with_sinks, without_point}
 use Rattle.drainage.proofs.Changes.Reached.{differ_with, differ_without, unmoved}
 use Rattle.drainage.proofs.Changes.SparedLevels.{declared_still, taken_back_still}
 use Rattle.drainage.proofs.invalidating.invalidate_near_sink.Goals as goal

@@ -1,6 +1,4 @@
-use Rattle.std.proofs.Common.{take}
-use Rattle.std.specs.Prelude.{All}
-use Rattle.drainage.specs.Spared.{IsUnchanged}
+use Rattle.drainage.proofs.Prelude.{All, IsUnchanged, take}
 use Rattle.drainage.proofs.invalidating.is_any_changed.Given as goal
 
 abbrev pub invariant-loop-one : goal.invariant-loop-one

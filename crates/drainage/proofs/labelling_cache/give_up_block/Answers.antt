@@ -1,9 +1,4 @@
-use Rattle.std.proofs.Common.{List, cond, sym, ap, ◌∙◌, subst}
-use Rattle.std.specs.Prelude.{All, insert, remove, is_ok}
-use Rattle.std.proofs.lemmas.List.Elements.{All-contains}
-use Rattle.drainage.specs.Holding.{IsEntered}
-use Rattle.drainage.specs.Room.{HasSide}
-use Rattle.drainage.specs.declared.labelling_cache.HeldLabelling.{HeldLabelling}
+use Rattle.drainage.proofs.Prelude.{All, All-contains, HasSide, HeldLabelling, IsEntered, List, ap, cond, insert, is_ok, remove, subst, sym, ◌∙◌}
 use Rattle.drainage.proofs.Caches.Caching.{all_among, all_inserted, inserted_or_not, removed_among, entered_among, entered_exchanged}
 use Rattle.drainage.proofs.labelling_cache.give_up_block.Goals as goal
 

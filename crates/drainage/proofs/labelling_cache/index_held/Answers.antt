@@ -1,5 +1,4 @@
-use Rattle.std.proofs.Common.{rules, IsTrue}
-use Rattle.lattice.specs.Corners.{is_corner}
+use Rattle.drainage.proofs.Prelude.{IsTrue, is_corner, rules}
 use Rattle.drainage.proofs.Changes.Noted.{held_there, held_not}
 use Rattle.drainage.proofs.labelling_cache.index_held.Goals as goal
 

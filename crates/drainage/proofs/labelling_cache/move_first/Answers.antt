@@ -1,7 +1,4 @@
-use Rattle.std.proofs.Common.{rules, ◌≡◌, Bool, true, List, ◌∷◌, cond, sym, ap, ◌∙◌, subst}
-use Rattle.std.specs.Prelude.{All, Contains, insert, remove, is_ok}
-use Rattle.std.proofs.lemmas.List.Elements.{All-cons, All-contains_itself}
-use Rattle.drainage.specs.declared.labelling_cache.HeldLabelling.{HeldLabelling}
+use Rattle.drainage.proofs.Prelude.{All, All-cons, All-contains_itself, Bool, Contains, HeldLabelling, List, ap, cond, insert, is_ok, remove, rules, subst, sym, true, ◌∙◌, ◌∷◌, ◌≡◌}
 use Rattle.drainage.proofs.Caches.Caching.{removed_among, moved_first}
 use Rattle.drainage.proofs.labelling_cache.move_first.Goals as goal
 use Rattle.drainage.proofs.labelling_cache.move_first.Goals.{After-insert}

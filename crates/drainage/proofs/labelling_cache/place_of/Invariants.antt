@@ -1,6 +1,4 @@
-use Rattle.std.proofs.Common.{◌≢◌, take}
-use Rattle.std.specs.Prelude.{All}
-use Rattle.drainage.specs.declared.labelling_cache.HeldLabelling.{HeldLabelling}
+use Rattle.drainage.proofs.Prelude.{All, HeldLabelling, take, ◌≢◌}
 use Rattle.drainage.proofs.labelling_cache.place_of.Given as goal
 
 abbrev pub invariant-loop-at : goal.invariant-loop-at

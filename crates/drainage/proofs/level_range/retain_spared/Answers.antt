@@ -1,9 +1,4 @@
-use Rattle.std.proofs.Common.{rules, SFits, w16, to_z, of_z, ◌≡◌, ◌≤◌, ℤ, inl, inr, length, ap, sym, ◌∙◌, subst, arith}
-use Rattle.std.proofs.lemmas.Bool.{cases_lt}
-use Rattle.std.proofs.lemmas.Int.{to_z-of_z}
-use Rattle.std.proofs.lemmas.List.{get_or_past}
-use Rattle.std.specs.Prelude.{None}
-use Rattle.drainage.specs.LevelRanges.{range_at, spared_of}
+use Rattle.drainage.proofs.Prelude.{None, SFits, ℤ, ap, arith, cases_lt, get_or_past, inl, inr, length, of_z, range_at, rules, spared_of, subst, sym, to_z, to_z-of_z, w16, ◌∙◌, ◌≡◌, ◌≤◌}
 use Rattle.drainage.proofs.level_range.retain_spared.Goals as goal
 
 pub returns : goal.returns

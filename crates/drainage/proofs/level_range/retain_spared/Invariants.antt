@@ -1,5 +1,4 @@
-use Rattle.std.proofs.Common.{◌≡◌, ℕ, ◌<◌, ◌≤◌, length}
-use Rattle.drainage.specs.LevelRanges.{range_at, spared_of}
+use Rattle.drainage.proofs.Prelude.{ℕ, length, range_at, spared_of, ◌<◌, ◌≡◌, ◌≤◌}
 use Rattle.drainage.proofs.level_range.retain_spared.Given as goal
 
 abbrev pub invariant-loop-block : goal.invariant-loop-block

@@ -1,5 +1,4 @@
-use Rattle.std.proofs.Common.{◌≡◌, ◌+◌, ◌*◌, length}
-use Rattle.drainage.specs.LevelRanges.{AreRangesTo}
+use Rattle.drainage.proofs.Prelude.{AreRangesTo, length, ◌*◌, ◌+◌, ◌≡◌}
 use Rattle.drainage.proofs.level_range.widen_row.Given as goal
 
 abbrev pub invariant-loop-column : goal.invariant-loop-column

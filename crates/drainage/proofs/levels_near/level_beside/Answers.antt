@@ -1,8 +1,5 @@
 use Rattle.std.proofs.Common.{◌≡◌, IsTrue, IsFalse, Option, ℤ, sym, ◌∙◌, subst}
-use Rattle.std.proofs.lemmas.Result.{IfOk-weaker}
-use Rattle.lattice.specs.Steps.{step}
-use Rattle.lattice.specs.Ground.{share_tile, terrain}
-use Rattle.flow_d8.specs.LevelsAround.{IsLevelAt, beside_of, OnLevels}
+use Rattle.drainage.proofs.Prelude.{IfOk-weaker, IsLevelAt, OnLevels, beside_of, share_tile, step, terrain}
 use Rattle.flow_d8.proofs.Steps.Nearby.{beside_unfit, beside_apart, told}
 use Rattle.drainage.proofs.Questions.Questioned.{answered_here}
 use Rattle.drainage.proofs.levels_near.level_beside.Goals as goal

@@ -1,13 +1,5 @@
 use Rattle.std.proofs.Common.{◌≡◌, ◌<◌, None, Ok, inl, inr, length, get_or, set, refl, ap, ◌∙◌, subst, arith, get_or-set_other, get_or-set_same, length-set}
-use Rattle.std.proofs.lemmas.Bool.{cases_eq}
-use Rattle.lattice.specs.declared.direction.Dir.TheVariants.{East}
-use Rattle.lattice.specs.Steps.{order_of, directions}
-use Rattle.lattice.specs.Mosaic.{Mosaic}
-use Rattle.lattice.specs.Ground.{terrain}
-use Rattle.catalogue.proofs.Reading.{reads_nothing, reads_on}
-use Rattle.flow_d8.specs.LevelsAround.{beside_of, OnLevels}
-use Rattle.flow_d8.proofs.Steps.Compass.{dir_at_place, order_below}
-use Rattle.flow_d8.proofs.Steps.Nearby.{all_around}
+use Rattle.drainage.proofs.Prelude.{East, Mosaic, OnLevels, all_around, beside_of, cases_eq, dir_at_place, directions, order_below, order_of, reads_nothing, reads_on, terrain}
 use Rattle.drainage.proofs.Questions.Questioned.{refused_after}
 use Rattle.drainage.proofs.Tiles.GroundAtHand.{ground_still}
 use Rattle.drainage.proofs.Questions.Questioned.{asked_reads, answered}

@@ -1,10 +1,5 @@
 use Rattle.std.proofs.Common.{◌≡◌, ◌<◌, None, Ok, length, get_or}
-use Rattle.lattice.specs.declared.direction.Dir.{Dir}
-use Rattle.lattice.specs.Steps.{order_of}
-use Rattle.lattice.specs.Ground.{terrain}
-use Rattle.catalogue.specs.Readers.{OnlyReads}
-use Rattle.flow_d8.specs.LevelsAround.{beside_of, OnLevels}
-use Rattle.drainage.specs.Between.{IsHeldFor}
+use Rattle.drainage.proofs.Prelude.{Dir, IsHeldFor, OnLevels, OnlyReads, beside_of, order_of, terrain}
 use Rattle.drainage.proofs.levels_near.levels_around.Given as goal
 
 abbrev pub invariant-loop-i : goal.invariant-loop-i

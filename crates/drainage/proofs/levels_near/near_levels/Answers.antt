@@ -1,10 +1,5 @@
 use Rattle.std.proofs.Common.{rules, SFits, w16, ◌≡◌, Option, ℤ, Ok, sym, ◌∙◌, subst, true≢false}
-use Rattle.std.proofs.lemmas.Int.{to_z-of_z}
-use Rattle.lattice.specs.Ground.{terrain}
-use Rattle.lattice.specs.Mosaic.{Mosaic}
-use Rattle.lattice.specs.Terrain.{IsFilledLevel}
-use Rattle.lattice.proofs.Levels.{level_is_unique}
-use Rattle.catalogue.proofs.Reading.{reads_on}
+use Rattle.drainage.proofs.Prelude.{IsFilledLevel, Mosaic, level_is_unique, reads_on, terrain, to_z-of_z}
 use Rattle.flow_d8.specs.LevelsAround.{IsLevelAt, OnLevels, around_of}
 use Rattle.drainage.proofs.Tiles.GroundAtHand.{ground_still}
 use Rattle.drainage.proofs.Questions.Questioned.{answered, answered_here, asked_reads, refused_after, stopped}

@@ -1,8 +1,6 @@
 use Rattle.std.proofs.Common.{rules, ◌≡◌, ◌+◌, ◌*◌, ◌-◌, ℤ, Some, sym, ap, ap₂, ◌∙◌, subst, SFits, w16}
-use Rattle.std.specs.Int.{int_max}
-use Rattle.std.proofs.lemmas.Int.{to_z-of_z}
+use Rattle.drainage.proofs.Prelude.{int_max, known_of, to_z-of_z}
 use Rattle.drainage.specs.Nearby.{IsToldOf}
-use Rattle.drainage.specs.TileCaches.{known_of}
 use Rattle.drainage.proofs.Flows.Around.{told_out, told_over}
 use Rattle.drainage.proofs.neighbourhood.level_in_tile.Goals as goal
 

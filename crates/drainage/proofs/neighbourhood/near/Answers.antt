@@ -1,13 +1,6 @@
 use Rattle.std.proofs.Common.{rules, SFits, w16, to_z, of_z, ◌<◌, ℤ, Some, None, inl, inr, length, get_or, set, ap, sym, ◌∙◌, subst, arith, get_or-set_other, get_or-set_same, length-set}
-use Rattle.std.proofs.lemmas.Bool.{cases_eq}
-use Rattle.std.proofs.lemmas.Int.{to_z-of_z}
-use Rattle.lattice.specs.declared.direction.Dir.TheVariants.{East}
-use Rattle.lattice.specs.Steps.{step, directions, order_of}
-use Rattle.flow_d8.proofs.Steps.Compass.{dir_at_place, order_below}
-use Rattle.lattice.specs.Corners.{Corner}
-use Rattle.tile_labellings.specs.TileLabellings.{IsTileLabelling}
+use Rattle.drainage.proofs.Prelude.{Corner, East, IsTileLabelling, cases_eq, dir_at_place, directions, known_of, order_below, order_of, step, to_z-of_z}
 use Rattle.drainage.specs.Nearby.{IsToldOf}
-use Rattle.drainage.specs.TileCaches.{known_of}
 use Rattle.drainage.proofs.Flows.Around.{near_is}
 use Rattle.drainage.proofs.neighbourhood.near.Goals as goal
 

@@ -1,8 +1,6 @@
 use Rattle.std.proofs.Common.{◌≡◌, ◌<◌, None, length, get_or}
-use Rattle.lattice.specs.declared.direction.Dir.{Dir}
-use Rattle.lattice.specs.Steps.{step, order_of}
+use Rattle.drainage.proofs.Prelude.{Dir, known_of, order_of, step}
 use Rattle.drainage.specs.Nearby.{IsToldOf}
-use Rattle.drainage.specs.TileCaches.{known_of}
 use Rattle.drainage.proofs.neighbourhood.near.Given as goal
 
 abbrev pub invariant-loop-i : goal.invariant-loop-i

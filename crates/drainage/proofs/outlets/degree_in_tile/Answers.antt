@@ -1,18 +1,7 @@
-use Rattle.std.proofs.Common.{◌≡◌, ℕ, ◌+◌, ◌<◌, Bool, true, false, pos, List, length, get_or, Ok, sym, ap, ◌∙◌, subst, arith}
-use Rattle.std.specs.Prelude.{count_by}
-use Rattle.std.proofs.lemmas.List.{take_all}
+use Rattle.drainage.proofs.Prelude.{Bool, East, IsGroundOf, List, Mosaic, Ok, Point, Step, ℕ, ap, arith, count_by, directions, false, get_or, is_adjacent, is_near, length, pos, reach_of, reads_as, reads_on, same_point, step, subst, sym, take_all, true, ◌+◌, ◌<◌, ◌∙◌, ◌≡◌}
 use Rattle.std.proofs.lemmas.List.Sums.{count_by_more_no, count_by_more_yes}
-use Rattle.lattice.specs.declared.direction.Dir.TheVariants.{East}
-use Rattle.lattice.specs.declared.direction.Step.{Step}
-use Rattle.lattice.specs.declared.point.Point.{Point}
-use Rattle.lattice.specs.Ground.{is_adjacent, is_near, same_point}
-use Rattle.lattice.specs.Mosaic.{Mosaic}
-use Rattle.lattice.specs.Steps.{step, directions}
-use Rattle.lattice.specs.Stepping.{reach_of}
 use Rattle.catalogue.proofs.Degrees.{degree-reach}
-use Rattle.catalogue.proofs.Reading.{reads_as, reads_on}
 use Rattle.flow_d8.proofs.Steps.Surfaces.{step_near, step_other}
-use Rattle.drainage.specs.Flooded.{IsGroundOf}
 use Rattle.drainage.proofs.Tiles.TileOutlets.{reach_from}
 use Rattle.drainage.proofs.outlets.degree_in_tile.Goals as goal
 use Rattle.drainage.proofs.outlets.degree_in_tile.Goals.{then-branch, else-branch}

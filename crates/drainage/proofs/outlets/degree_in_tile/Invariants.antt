@@ -1,9 +1,4 @@
-use Rattle.std.proofs.Common.{◌≡◌, ℕ, ◌≤◌, take, Ok}
-use Rattle.std.specs.Prelude.{count_by}
-use Rattle.lattice.specs.Ground.{is_adjacent}
-use Rattle.catalogue.specs.Readers.{OnlyReads}
-use Rattle.drainage.specs.Flooded.{IsGroundOf}
-use Rattle.drainage.specs.GroundCache.{AreRemembered}
+use Rattle.drainage.proofs.Prelude.{AreRemembered, IsGroundOf, Ok, OnlyReads, ℕ, count_by, is_adjacent, take, ◌≡◌, ◌≤◌}
 use Rattle.drainage.proofs.outlets.degree_in_tile.Given as goal
 
 abbrev pub invariant-loop-step : goal.invariant-loop-step

@@ -1,12 +1,6 @@
 use Rattle.std.proofs.Common.{◌≡◌, ℕ, not, inl, inr, List, sym, ap, ◌∙◌, subst, Contains}
 use Rattle.std.specs.Prelude.{nat_eq, slice_index}
-use Rattle.std.proofs.lemmas.Bool.Decides.{eqb_tells}
-use Rattle.lattice.specs.Corners.{Corner}
-use Rattle.lattice.specs.Lattice.{Holds, IsIndexOf}
-use Rattle.lattice.specs.Mosaic.{Mosaic}
-use Rattle.lattice.specs.declared.point.Point.{Point}
-use Rattle.lattice.proofs.Samples.{held_at}
-use Rattle.tile_flood.specs.Labelling.{NO_LABEL}
+use Rattle.drainage.proofs.Prelude.{Corner, Holds, IsIndexOf, Mosaic, NO_LABEL, Point, eqb_tells, held_at}
 use Rattle.drainage.proofs.Tiles.TileOutlets.{ground_by_label, void_by_label, beside_in_tile}
 use Rattle.drainage.specs.GroundCache.{AreRemembered, IsGroundIn}
 use Rattle.drainage.proofs.outlets.is_adjacent_to.Goals as goal

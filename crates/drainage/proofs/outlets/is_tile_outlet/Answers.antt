@@ -1,10 +1,5 @@
 use Rattle.std.proofs.Common.{◌≡◌, ◌≢◌, ℕ, List, sym, ap, ◌∙◌, subst, Contains}
-use Rattle.std.specs.Prelude.{nat_lt, slice_index}
-use Rattle.lattice.specs.Corners.{Corner}
-use Rattle.lattice.specs.Lattice.{IsIndexOf}
-use Rattle.lattice.proofs.Samples.{held_at}
-use Rattle.tile_flood.specs.Labelling.{NO_LABEL}
-use Rattle.drainage.specs.Flooded.{IsGroundOf}
+use Rattle.drainage.proofs.Prelude.{Corner, IsGroundOf, IsIndexOf, NO_LABEL, held_at, nat_lt, slice_index}
 use Rattle.drainage.proofs.Tiles.TileOutlets.{ground_by_label, void_by_label, outlet_if_ground, outlet_by_sink, outlet_by_degree}
 use Rattle.drainage.proofs.outlets.is_tile_outlet.Goals as goal
 

@@ -1,13 +1,4 @@
-use Rattle.std.proofs.Common.{◌≤◌, IsTrue, List, length, sym, ◌∙◌, subst}
-use Rattle.std.specs.Prelude.{IfOk}
-use Rattle.lattice.specs.Corners.{Corner}
-use Rattle.lattice.specs.Ground.{is_ground, terrain}
-use Rattle.lattice.specs.Limits.{most_tiles}
-use Rattle.lattice.specs.Mosaic.{Mosaic}
-use Rattle.catalogue.proofs.Asking.{asked_on, asked_refused}
-use Rattle.catalogue.proofs.Reading.{reads_as}
-use Rattle.flow_d8.specs.LevelsAround.{OnLevels}
-use Rattle.watershed.specs.FlowSource.{IsToldOf}
+use Rattle.drainage.proofs.Prelude.{Corner, IfOk, IsToldOf, IsTrue, List, Mosaic, OnLevels, asked_on, asked_refused, is_ground, length, most_tiles, reads_as, subst, sym, terrain, ◌∙◌, ◌≤◌}
 use Rattle.drainage.proofs.Flows.Followed.{held_still}
 use Rattle.drainage.proofs.Questions.Questioned.{answered, answered_here, refused_by}
 use Rattle.drainage.proofs.Questions.Told.{told_of, no_ground, drained_told, draining_tells}

@@ -1,10 +1,4 @@
-use Rattle.std.proofs.Common.{SFits, w16, to_z, of_z, rules, ◌≡◌, ℕ, ◌+◌, ◌*◌, ◌<◌, pos, length, inl, inr, sym, ap, ◌∙◌, subst, arith}
-use Rattle.std.specs.Prelude.{slice_index_or, slice_set}
-use Rattle.std.proofs.lemmas.Bool.{cases_lt}
-use Rattle.std.proofs.lemmas.Int.{to_z-of_z}
-use Rattle.std.proofs.lemmas.List.{length-set, get_or_default}
-use Rattle.lattice.specs.Mosaic.{void}
-use Rattle.flow_d8.specs.Preparing.{place_in}
+use Rattle.drainage.proofs.Prelude.{SFits, ℕ, ap, arith, cases_lt, get_or_default, inl, inr, length, length-set, of_z, place_in, pos, rules, slice_index_or, slice_set, subst, sym, to_z, to_z-of_z, void, w16, ◌*◌, ◌+◌, ◌<◌, ◌∙◌, ◌≡◌}
 use Rattle.drainage.proofs.Tiles.PaddedLevels.{below_product, copied_here, copied_other, place_within}
 use Rattle.drainage.proofs.preparing.copy_row.Goals as goal
 

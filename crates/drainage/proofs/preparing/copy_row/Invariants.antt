@@ -1,6 +1,5 @@
 use Rattle.std.specs.Prelude.{◌≡◌, ℕ, ◌+◌, ◌*◌, ◌<◌, length, slice_index_or}
-use Rattle.lattice.specs.Mosaic.{void}
-use Rattle.flow_d8.specs.Preparing.{place_in}
+use Rattle.drainage.proofs.Prelude.{place_in, void}
 use Rattle.drainage.proofs.preparing.copy_row.Given as goal
 
 abbrev pub invariant-loop-column : goal.invariant-loop-column

@@ -1,13 +1,4 @@
-use Rattle.std.proofs.Common.{SFits, w16, to_z, of_z, rules, ◌≡◌, ℕ, ◌+◌, ◌*◌, ◌/◌, ◌%◌, length, Ok, refl, sym, ap, ◌∙◌, subst}
-use Rattle.std.specs.Prelude.{slice_set}
-use Rattle.std.proofs.lemmas.Int.{to_z-of_z}
-use Rattle.std.proofs.lemmas.List.{length-set}
-use Rattle.lattice.specs.declared.point.Point.{Point}
-use Rattle.flow_d8.specs.Padded.{padded_point}
-use Rattle.drainage.specs.TileLevels.{IsLevelOrVoid}
-use Rattle.lattice.specs.Mosaic.{Mosaic}
-use Rattle.catalogue.proofs.Reading.{reads_nothing, reads_on}
-use Rattle.drainage.specs.Padded.{AreFilledTo, IsStrip}
+use Rattle.drainage.proofs.Prelude.{AreFilledTo, IsLevelOrVoid, IsStrip, Mosaic, Ok, Point, SFits, ℕ, ap, length, length-set, of_z, padded_point, reads_nothing, reads_on, refl, rules, slice_set, subst, sym, to_z, to_z-of_z, w16, ◌%◌, ◌*◌, ◌+◌, ◌/◌, ◌∙◌, ◌≡◌}
 use Rattle.drainage.proofs.Tiles.PaddedLevels.{fill_none, fill_more}
 use Rattle.drainage.proofs.Questions.Questioned.{answered, asked_reads, refused_after}
 use Rattle.drainage.proofs.preparing.fill.Goals as goal

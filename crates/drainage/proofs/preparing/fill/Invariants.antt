@@ -1,8 +1,5 @@
 use Rattle.std.specs.Prelude.{◌≡◌, Ok, length}
-use Rattle.catalogue.specs.Readers.{OnlyReads}
-use Rattle.drainage.specs.Holding.{IsRight}
-use Rattle.drainage.specs.Padded.{AreFilledTo}
-use Rattle.drainage.specs.TileCaches.{known_of}
+use Rattle.drainage.proofs.Prelude.{AreFilledTo, IsRight, OnlyReads, known_of}
 use Rattle.drainage.proofs.preparing.fill.Given as goal
 
 abbrev pub invariant-loop-number : goal.invariant-loop-number

@@ -1,8 +1,4 @@
-use Rattle.std.proofs.Common.{◌≡◌, ◌+◌, ◌*◌, Ok, refl, sym, ap, ◌∙◌, subst, arith}
-use Rattle.lattice.specs.Mosaic.{Mosaic}
-use Rattle.catalogue.proofs.Reading.{reads_nothing, reads_on}
-use Rattle.drainage.specs.Padded.{AreFilledTo, IsStrip, strip_of}
-use Rattle.drainage.specs.declared.preparing.Strip.{Strip}
+use Rattle.drainage.proofs.Prelude.{AreFilledTo, IsStrip, Mosaic, Ok, Strip, ap, arith, reads_nothing, reads_on, refl, strip_of, subst, sym, ◌*◌, ◌+◌, ◌∙◌, ◌≡◌}
 use Rattle.drainage.proofs.Tiles.PaddedLevels.{AreStripsTo, strips_none, strips_more, around_all}
 use Rattle.drainage.proofs.Questions.Questioned.{answered, asked_reads, refused_after}
 use Rattle.drainage.proofs.preparing.fill_around.Goals as goal

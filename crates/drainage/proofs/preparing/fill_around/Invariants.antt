@@ -1,7 +1,5 @@
 use Rattle.std.specs.Prelude.{◌≡◌, Ok, length}
-use Rattle.catalogue.specs.Readers.{OnlyReads}
-use Rattle.drainage.specs.Holding.{IsRight}
-use Rattle.drainage.specs.TileCaches.{known_of}
+use Rattle.drainage.proofs.Prelude.{IsRight, OnlyReads, known_of}
 use Rattle.drainage.proofs.Tiles.PaddedLevels.{AreStripsTo}
 use Rattle.drainage.proofs.preparing.fill_around.Given as goal
 

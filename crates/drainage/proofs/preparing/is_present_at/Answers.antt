@@ -1,7 +1,4 @@
-use Rattle.std.proofs.Common.{SFits, w16, ◌≡◌, ℤ, IsTrue, rules, ap₂, ◌∙◌, subst}
-use Rattle.std.proofs.lemmas.Int.{to_z-of_z}
-use Rattle.lattice.specs.Corners.{Corner, is_corner}
-use Rattle.lattice.specs.Mosaic.{is_present}
+use Rattle.drainage.proofs.Prelude.{Corner, IsTrue, SFits, ℤ, ap₂, is_corner, is_present, rules, subst, to_z-of_z, w16, ◌∙◌, ◌≡◌}
 use Rattle.drainage.proofs.Tiles.PaddedLevels.{told_present, none_present}
 use Rattle.drainage.proofs.preparing.is_present_at.Goals as goal
 

@@ -1,10 +1,4 @@
-use Rattle.std.proofs.Common.{rules, ◌≡◌, ◌+◌, ◌*◌, ◌++◌, ℤ, Ok, List, length, take, drop, sym, ap, ◌∙◌, subst}
-use Rattle.lattice.specs.Corners.{Corner}
-use Rattle.lattice.specs.Mosaic.{Mosaic}
-use Rattle.catalogue.proofs.Reading.{reads_on}
-use Rattle.tile_flood.specs.Raising.{AreTileLevels}
-use Rattle.flow_d8.specs.Padded.{ArePadded}
-use Rattle.drainage.specs.Padded.{IsTileCopied, IsFilledAround}
+use Rattle.drainage.proofs.Prelude.{ArePadded, AreTileLevels, Corner, IsFilledAround, IsTileCopied, List, Mosaic, Ok, ℤ, ap, drop, length, reads_on, rules, subst, sym, take, ◌*◌, ◌++◌, ◌+◌, ◌∙◌, ◌≡◌}
 use Rattle.drainage.proofs.Tiles.PaddedLevels.{all_padded, vec_back}
 use Rattle.drainage.proofs.Questions.Questioned.{answered, asked_reads, refused_after}
 use Rattle.drainage.proofs.preparing.padded_levels.Goals as goal

@@ -1,5 +1,4 @@
-use Rattle.std.proofs.Common.{◌+◌, ◌*◌, ◌<◌, ap, subst, arith}
-use Rattle.std.proofs.lemmas.Nat.{mul-le}
+use Rattle.drainage.proofs.Prelude.{ap, arith, mul-le, subst, ◌*◌, ◌+◌, ◌<◌}
 use Rattle.drainage.proofs.Tiles.PaddedLevels.{below_product}
 use Rattle.drainage.proofs.preparing.padded_place.Goals as goal
 

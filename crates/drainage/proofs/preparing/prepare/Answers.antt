@@ -1,10 +1,4 @@
-use Rattle.std.proofs.Common.{◌≡◌, ◌+◌, ◌*◌, List, ℤ, length, sym, ap, ◌∙◌, subst}
-use Rattle.std.specs.Prelude.{Contains}
-use Rattle.lattice.specs.Corners.{Corner}
-use Rattle.lattice.specs.Mosaic.{Mosaic}
-use Rattle.flow_d8.specs.FlowGrids.{AreTileFlows}
-use Rattle.drainage.specs.LevelRanges.{AreRanges, AreRangesOf}
-use Rattle.flow_d8.specs.Padded.{ArePadded}
+use Rattle.drainage.proofs.Prelude.{ArePadded, AreRanges, AreRangesOf, AreTileFlows, Contains, Corner, List, Mosaic, ℤ, ap, length, subst, sym, ◌*◌, ◌+◌, ◌∙◌, ◌≡◌}
 use Rattle.drainage.proofs.Caches.FlowCaches.{ranges_are}
 use Rattle.drainage.proofs.preparing.prepare.Goals as goal
 

@@ -1,7 +1,4 @@
-use Rattle.std.proofs.Common.{rules, w16, to_z, of_z, ℤ, pos, ◌+ℤ◌, ◌-ℤ◌, ◌≡◌, ap, ap₂, ◌∙◌}
-use Rattle.std.proofs.lemmas.Int.{to_z-of_z}
-use Rattle.lattice.specs.Corners.{Corner}
-use Rattle.lattice.specs.Mosaic.{Mosaic, is_present}
+use Rattle.drainage.proofs.Prelude.{Corner, Mosaic, ℤ, ap, ap₂, is_present, of_z, pos, rules, to_z, to_z-of_z, w16, ◌+ℤ◌, ◌-ℤ◌, ◌∙◌, ◌≡◌}
 use Rattle.drainage.proofs.preparing.sides_of.Goals as goal
 
 abbrev at : ℤ → ℤ → Corner

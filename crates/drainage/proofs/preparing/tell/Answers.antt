@@ -1,7 +1,4 @@
-use Rattle.std.proofs.Common.{List, sym, ◌∙◌, subst}
-use Rattle.std.specs.Prelude.{Contains}
-use Rattle.lattice.specs.Corners.{Corner}
-use Rattle.catalogue.proofs.Presence.{present_iff}
+use Rattle.drainage.proofs.Prelude.{Contains, Corner, List, present_iff, subst, sym, ◌∙◌}
 use Rattle.drainage.proofs.preparing.tell.Goals as goal
 
 pub returns-clause-flows : goal.returns-clause-flows

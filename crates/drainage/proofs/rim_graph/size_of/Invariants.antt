@@ -1,6 +1,4 @@
-use Rattle.std.proofs.Common.{◌≡◌, take}
-use Rattle.std.specs.Prelude.{sum_by}
-use Rattle.drainage.specs.Room.{graph_size}
+use Rattle.drainage.proofs.Prelude.{graph_size, sum_by, take, ◌≡◌}
 use Rattle.drainage.proofs.rim_graph.size_of.Given as goal
 
 abbrev pub invariant-loop-ways : goal.invariant-loop-ways

@@ -1,10 +1,4 @@
-use Rattle.std.proofs.Common.{rules, SFits, w16, to_z, of_z, ℤ, IsTrue, take, pos, refl, subst}
-use Rattle.std.specs.Prelude.{All}
-use Rattle.std.proofs.lemmas.Int.{to_z-of_z}
-use Rattle.std.proofs.lemmas.List.{take_all}
-use Rattle.std.proofs.lemmas.List.Elements.{All-more}
-use Rattle.edits.specs.declared.edit.NewHeight.{NewHeight}
-use Rattle.drainage.specs.Spared.{AreSparing, IsSparedBy}
+use Rattle.drainage.proofs.Prelude.{All, All-more, AreSparing, IsSparedBy, IsTrue, NewHeight, SFits, ℤ, of_z, pos, refl, rules, subst, take, take_all, to_z, to_z-of_z, w16}
 use Rattle.drainage.proofs.rims.is_reached.Goals as goal
 
 abbrev none : NewHeight

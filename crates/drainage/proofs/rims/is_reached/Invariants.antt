@@ -1,5 +1,4 @@
-use Rattle.std.proofs.Common.{take}
-use Rattle.drainage.specs.Spared.{AreSparing}
+use Rattle.drainage.proofs.Prelude.{AreSparing, take}
 use Rattle.drainage.proofs.rims.is_reached.Given as goal
 
 abbrev pub invariant-loop-height : goal.invariant-loop-height

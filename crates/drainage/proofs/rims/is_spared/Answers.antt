@@ -1,7 +1,4 @@
-use Rattle.std.proofs.Common.{rules, SFits, w16, to_z, of_z, ◌≢◌, ℤ, inl, inr, sym, ap, subst}
-use Rattle.std.proofs.lemmas.Int.{to_z-of_z}
-use Rattle.lattice.specs.Mosaic.{void}
-use Rattle.drainage.specs.Spared.{LiesApart}
+use Rattle.drainage.proofs.Prelude.{LiesApart, SFits, ℤ, ap, inl, inr, of_z, rules, subst, sym, to_z, to_z-of_z, void, w16, ◌≢◌}
 use Rattle.drainage.proofs.rims.is_spared.Goals as goal
 
 -- the heights and the level as they are passed on

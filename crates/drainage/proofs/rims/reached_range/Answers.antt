@@ -1,12 +1,5 @@
 use Rattle.std.proofs.Common.{rules, SFits, w16, to_z, of_z, ◌≡◌, ◌<◌, ℤ, Some, inl, inr, length, get_or, pos, sym, ap, ◌∙◌, subst}
-use Rattle.std.specs.Prelude.{All}
-use Rattle.std.proofs.lemmas.Int.{to_z-of_z}
-use Rattle.std.proofs.lemmas.List.{take_all}
-use Rattle.std.proofs.lemmas.List.Elements.{All-more}
-use Rattle.edits.specs.declared.edit.NewHeight.{NewHeight}
-use Rattle.drainage.specs.LevelRanges.{IsIn}
-use Rattle.drainage.specs.declared.level_range.LevelRange.{LevelRange}
-use Rattle.drainage.specs.Spared.{IsSpared, IsSparedBy}
+use Rattle.drainage.proofs.Prelude.{All, All-more, IsIn, IsSpared, IsSparedBy, LevelRange, NewHeight, take_all, to_z-of_z}
 use Rattle.drainage.proofs.rims.reached_range.Goals as goal
 use Rattle.drainage.proofs.rims.reached_range.Goals.{then-height, else-height}
 

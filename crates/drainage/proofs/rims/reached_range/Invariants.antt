@@ -1,7 +1,5 @@
 use Rattle.std.proofs.Common.{ℤ, take, Some}
-use Rattle.lattice.specs.Mosaic.{IsSample}
-use Rattle.drainage.specs.LevelRanges.{IsIn}
-use Rattle.drainage.specs.Spared.{AreSparing}
+use Rattle.drainage.proofs.Prelude.{AreSparing, IsIn, IsSample}
 use Rattle.drainage.proofs.rims.reached_range.Given as goal
 
 abbrev pub invariant-loop-height : goal.invariant-loop-height

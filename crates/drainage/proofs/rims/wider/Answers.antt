@@ -1,7 +1,4 @@
-use Rattle.std.proofs.Common.{rules, w16, to_z, of_z, ◌≢◌, ◌≤ℤ◌, inl, inr, arith}
-use Rattle.std.proofs.lemmas.Int.{ints}
-use Rattle.lattice.specs.Mosaic.{void}
-use Rattle.lattice.proofs.IntTests.{le_or_above}
+use Rattle.drainage.proofs.Prelude.{arith, inl, inr, ints, le_or_above, of_z, rules, to_z, void, w16, ◌≢◌, ◌≤ℤ◌}
 use Rattle.drainage.proofs.rims.wider.Goals as goal
 
 pub returns-clause-more : goal.returns-clause-more

@@ -1,13 +1,6 @@
-use Rattle.std.proofs.Common.{◌≡◌, ◌∙◌, ◌+◌, ◌-◌, ◌*◌, Ok, Err, ap, sym, subst, List, arith}
-use Rattle.std.proofs.lemmas.Result.{err_from_is_err_and}
-use Rattle.std.specs.Prelude.{Option, MatchOption}
-use Rattle.lattice.specs.Mosaic.{Mosaic}
-use Rattle.border_graph.specs.declared.summary.RimPoint.{RimPoint}
-use Rattle.lattice.specs.declared.refusal.Refusal.{Refusal}
+use Rattle.drainage.proofs.Prelude.{AreRimPointsIn, Err, HasOtherRimHeight, IsFlooded, IsRimPointIn, List, MatchOption, Mosaic, Ok, Option, Refusal, RimPoint, ap, arith, err_from_is_err_and, subst, sym, ◌*◌, ◌+◌, ◌-◌, ◌∙◌, ◌≡◌}
 use Rattle.catalogue.specs.Readers.{reads_of}
 use Rattle.catalogue.proofs.Reading.{reads_on, reads_as, reads_for}
-use Rattle.tile_labellings.specs.Labellings.{IsFlooded}
-use Rattle.drainage.specs.Flooded.{IsRimPointIn, HasOtherRimHeight, AreRimPointsIn}
 use Rattle.drainage.proofs.RimPoints.Summed.{one_more_point}
 use Rattle.drainage.proofs.summing.rim_of.Goals as goal
 

@@ -1,8 +1,5 @@
 use Rattle.std.specs.Prelude.{Ok}
-use Rattle.catalogue.specs.Readers.{OnlyReads}
-use Rattle.tile_labellings.specs.Labellings.{IsFlooded}
-use Rattle.drainage.specs.Flooded.{AreRimPointsIn}
-use Rattle.drainage.specs.GroundCache.{AreRemembered}
+use Rattle.drainage.proofs.Prelude.{AreRemembered, AreRimPointsIn, IsFlooded, OnlyReads}
 use Rattle.drainage.proofs.summing.rim_of.Given as goal
 
 abbrev pub invariant-loop-number : goal.invariant-loop-number

@@ -1,22 +1,5 @@
-use Rattle.std.proofs.Common.{◌≡◌, ◌∙◌, ℕ, ◌*◌, ◌<◌, ℤ, pos, true, ◌||◌, inl, inr, List, length, Err, rules, sym, ap, subst, to_z, of_z, SFits, w16}
-use Rattle.std.specs.Prelude.{Option, slice_index_or}
-use Rattle.std.specs.Ordering.{int_eq}
-use Rattle.std.proofs.lemmas.Bool.{false≢true, or_cases, or_parts}
-use Rattle.std.proofs.lemmas.Bool.Decides.{Decides-int_eq}
-use Rattle.std.proofs.lemmas.Int.{to_z-of_z}
-use Rattle.std.proofs.lemmas.List.{get_or_default}
-use Rattle.std.proofs.lemmas.Result.{err_from_is_err_and}
-use Rattle.lattice.specs.declared.refusal.Refusal.{Refusal}
-use Rattle.lattice.specs.Ground.{is_outlet, metres}
-use Rattle.lattice.specs.Height.{height_of}
-use Rattle.lattice.specs.Lattice.{point_of}
-use Rattle.lattice.specs.Mosaic.{Mosaic, void}
-use Rattle.lattice.specs.RimPoints.{IsRimPoint}
-use Rattle.border_graph.specs.declared.summary.RimPoint.{RimPoint}
-use Rattle.tile_labellings.specs.Labellings.{IsFlooded}
-use Rattle.catalogue.specs.Readers.{OnlyReads}
+use Rattle.drainage.proofs.Prelude.{AreRemembered, Decides-int_eq, Err, IsFlooded, IsRimPoint, List, Mosaic, OnlyReads, Option, Refusal, RimPoint, SFits, ℕ, ℤ, ap, err_from_is_err_and, false≢true, get_or_default, height_of, inl, inr, int_eq, is_outlet, length, metres, of_z, or_cases, or_parts, point_of, pos, rules, slice_index_or, subst, sym, to_z, to_z-of_z, true, void, w16, ◌*◌, ◌<◌, ◌||◌, ◌∙◌, ◌≡◌}
 use Rattle.catalogue.proofs.Reading.{reads_as, reads_on, reads_refused}
-use Rattle.drainage.specs.GroundCache.{AreRemembered}
 use Rattle.drainage.proofs.RimPoints.Summed.{rim_height}
 use Rattle.drainage.proofs.summing.rim_point.Goals as goal
 

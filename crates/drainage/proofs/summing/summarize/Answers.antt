@@ -1,11 +1,5 @@
-use Rattle.std.proofs.Common.{rules, ◌-◌, ◌*◌, sym, ap, ◌∙◌, subst}
-use Rattle.std.specs.Prelude.{MatchOption}
+use Rattle.drainage.proofs.Prelude.{AreRimPointsIn, AreSpills, HasOtherRimHeight, IsCurrent, IsSummaryOf, IsTileLabelling, LabelledGround, MatchOption, ap, labelled_of, rules, subst, sym, ◌*◌, ◌-◌, ◌∙◌}
 use Rattle.catalogue.proofs.Asking.{asked_by_reads}
-use Rattle.border_graph.specs.Joining.{IsSummaryOf}
-use Rattle.tile_flood.specs.Blocks.{LabelledGround}
-use Rattle.tile_flood.specs.Spills.{AreSpills}
-use Rattle.tile_labellings.specs.TileLabellings.{labelled_of, IsCurrent, IsTileLabelling}
-use Rattle.drainage.specs.Flooded.{HasOtherRimHeight, AreRimPointsIn}
 use Rattle.drainage.proofs.Questions.Questioned.{answered, passed_on, refused_by, short_here, stopped}
 use Rattle.drainage.proofs.RimPoints.Summed.{rim_holds, summary_is}
 use Rattle.drainage.proofs.summing.summarize.Goals as goal

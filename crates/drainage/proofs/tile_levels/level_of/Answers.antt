@@ -1,6 +1,4 @@
-use Rattle.std.proofs.Common.{SFits, w16, sym, subst}
-use Rattle.std.proofs.lemmas.Int.{to_z-of_z}
-use Rattle.drainage.specs.TileLevels.{IsLevelOrVoid}
+use Rattle.drainage.proofs.Prelude.{IsLevelOrVoid, SFits, subst, sym, to_z-of_z, w16}
 use Rattle.drainage.proofs.RimPoints.RimLevels.{level_or_void_is}
 use Rattle.drainage.proofs.tile_levels.level_of.Goals as goal
 

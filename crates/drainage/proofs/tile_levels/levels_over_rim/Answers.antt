@@ -1,7 +1,4 @@
-use Rattle.std.proofs.Common.{sym, subst}
-use Rattle.lattice.specs.Mosaic.{Mosaic}
-use Rattle.drainage.specs.Holding.{IsRight}
-use Rattle.drainage.specs.TileCaches.{known_of}
+use Rattle.drainage.proofs.Prelude.{IsRight, Mosaic, known_of, subst, sym}
 use Rattle.drainage.proofs.Caches.Growing.{known_by}
 use Rattle.drainage.proofs.Questions.Questioned.{passed_on, refused_by}
 use Rattle.drainage.proofs.Tiles.TileLevels.{is_there, entered_there, right_held, right_fewer, rim_filled, raised_asked, raised_causes}

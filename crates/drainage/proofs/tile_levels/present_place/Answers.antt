@@ -1,7 +1,4 @@
-use Rattle.std.proofs.Common.{◌≡◌, ◌<◌, pos, List, length, sym, ap, ◌∙◌, subst}
-use Rattle.std.proofs.lemmas.List.{get_or_default}
-use Rattle.lattice.specs.Corners.{Corner}
-use Rattle.border_graph.specs.Others.{corner_at}
+use Rattle.drainage.proofs.Prelude.{Corner, List, ap, corner_at, get_or_default, length, pos, subst, sym, ◌<◌, ◌∙◌, ◌≡◌}
 use Rattle.drainage.proofs.tile_levels.present_place.Goals as goal
 
 pub returns-in-Some-clause-place : goal.returns-in-Some-clause-place

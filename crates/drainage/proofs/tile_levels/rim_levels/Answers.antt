@@ -1,10 +1,4 @@
-use Rattle.std.proofs.Common.{rules, SFits, w16, to_z, of_z, ◌≡◌, ◌*◌, ◌-◌, ℤ, List, Ok, sym, ap, ◌∙◌, subst, arith}
-use Rattle.std.proofs.lemmas.Int.{to_z-of_z}
-use Rattle.lattice.specs.Lattice.{point_of}
-use Rattle.lattice.specs.Mosaic.{Mosaic}
-use Rattle.lattice.specs.RimPoints.{IsRimPoint}
-use Rattle.catalogue.proofs.Reading.{reads_nothing, reads_on}
-use Rattle.drainage.specs.TileLevels.{AreRimLevelsTo, IsLevelOrVoid}
+use Rattle.drainage.proofs.Prelude.{AreRimLevelsTo, IsLevelOrVoid, IsRimPoint, List, Mosaic, Ok, SFits, ℤ, ap, arith, of_z, point_of, reads_nothing, reads_on, rules, subst, sym, to_z, to_z-of_z, w16, ◌*◌, ◌-◌, ◌∙◌, ◌≡◌}
 use Rattle.drainage.proofs.RimPoints.RimLevels.{no_rim, rim_more, rim_whole}
 use Rattle.drainage.proofs.Questions.Questioned.{answered, asked_reads, refused_after, short_after, short_here}
 use Rattle.drainage.proofs.tile_levels.rim_levels.Goals as goal

@@ -1,8 +1,5 @@
 use Rattle.std.specs.Prelude.{Ok}
-use Rattle.catalogue.specs.Readers.{OnlyReads}
-use Rattle.drainage.specs.Holding.{IsRight}
-use Rattle.drainage.specs.TileCaches.{known_of}
-use Rattle.drainage.specs.TileLevels.{AreRimLevelsTo}
+use Rattle.drainage.proofs.Prelude.{AreRimLevelsTo, IsRight, OnlyReads, known_of}
 use Rattle.drainage.proofs.tile_levels.rim_levels.Given as goal
 
 abbrev pub invariant-loop-number : goal.invariant-loop-number

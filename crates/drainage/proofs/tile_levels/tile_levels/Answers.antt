@@ -1,10 +1,4 @@
-use Rattle.std.proofs.Common.{◌<◌, ◌≤◌, List, length, sym, ap, ◌∙◌, subst, arith}
-use Rattle.std.specs.Prelude.{IfOk}
-use Rattle.lattice.specs.Corners.{Corner}
-use Rattle.lattice.specs.Mosaic.{Mosaic}
-use Rattle.border_graph.specs.Others.{corner_at}
-use Rattle.catalogue.proofs.Asking.{asked_on, asked_passed}
-use Rattle.tile_flood.specs.Raising.{AreRimLevels, AreTileLevels}
+use Rattle.drainage.proofs.Prelude.{AreRimLevels, AreTileLevels, Corner, IfOk, List, Mosaic, ap, arith, asked_on, asked_passed, corner_at, length, subst, sym, ◌<◌, ◌∙◌, ◌≤◌}
 use Rattle.drainage.proofs.Questions.Questioned.{asked_reads, refused_by, stopped_here}
 use Rattle.drainage.proofs.tile_levels.tile_levels.Goals as goal
 

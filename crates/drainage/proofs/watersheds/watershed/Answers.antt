@@ -1,12 +1,4 @@
-use Rattle.std.proofs.Common.{◌≤◌, List, length, sym, subst}
-use Rattle.std.specs.Prelude.{IfOk}
-use Rattle.lattice.specs.Corners.{Corner}
-use Rattle.lattice.specs.Limits.{most_tiles}
-use Rattle.lattice.specs.Mosaic.{Mosaic}
-use Rattle.lattice.specs.Ground.{terrain}
-use Rattle.flow_d8.specs.FlowPath.{IsInWatershed}
-use Rattle.flow_d8.specs.LevelsAround.{OnLevels}
-use Rattle.watershed.specs.Runs.{AreRuns}
+use Rattle.drainage.proofs.Prelude.{AreRuns, Corner, IfOk, IsInWatershed, List, Mosaic, OnLevels, length, most_tiles, subst, sym, terrain, ◌≤◌}
 use Rattle.drainage.proofs.Questions.Questioned.{asked_then}
 use Rattle.drainage.proofs.Flows.Followed.{held_still}
 use Rattle.drainage.proofs.watersheds.watershed.Goals as goal

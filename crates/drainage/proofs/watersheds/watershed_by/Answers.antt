@@ -1,11 +1,4 @@
-use Rattle.std.proofs.Common.{rules, sym}
-use Rattle.std.specs.Prelude.{IfOk}
-use Rattle.std.proofs.lemmas.Result.{IfOk-weaker}
-use Rattle.lattice.specs.Ground.{terrain}
-use Rattle.catalogue.specs.Asked.{Asked}
-use Rattle.flow_d8.specs.FlowPath.{IsInWatershed}
-use Rattle.flow_d8.specs.LevelsAround.{OnLevels}
-use Rattle.watershed.specs.Runs.{AreRuns}
+use Rattle.drainage.proofs.Prelude.{AreRuns, Asked, IfOk, IfOk-weaker, IsInWatershed, OnLevels, rules, sym, terrain}
 use Rattle.drainage.proofs.Flows.Followed.{asked_by}
 use Rattle.drainage.proofs.watersheds.watershed_by.Goals as goal
 

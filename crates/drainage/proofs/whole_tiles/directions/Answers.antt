@@ -1,13 +1,4 @@
-use Rattle.std.proofs.Common.{rules, ◌≡◌, ◌*◌, ◌≤◌, ℕ, List, Ok, length, sym, ap, ◌∙◌, subst, arith}
-use Rattle.lattice.specs.Corners.{Corner}
-use Rattle.lattice.specs.Ground.{terrain}
-use Rattle.lattice.specs.Lattice.{point_of}
-use Rattle.lattice.specs.Limits.{most_tiles}
-use Rattle.lattice.specs.Mosaic.{Mosaic}
-use Rattle.catalogue.proofs.Reading.{reads_nothing, reads_on}
-use Rattle.flow_d8.specs.LevelsAround.{OnLevels}
-use Rattle.watershed.specs.FlowSource.{IsToldOf}
-use Rattle.watershed.specs.Questions.{IsCodeOrNone, AreCodesTo}
+use Rattle.drainage.proofs.Prelude.{AreCodesTo, Corner, IsCodeOrNone, IsToldOf, List, Mosaic, Ok, OnLevels, ℕ, ap, arith, length, most_tiles, point_of, reads_nothing, reads_on, rules, subst, sym, terrain, ◌*◌, ◌∙◌, ◌≡◌, ◌≤◌}
 use Rattle.drainage.proofs.Questions.Questioned.{answered, asked_reads, refused_after, short_after, short_here}
 use Rattle.drainage.proofs.Tiles.WholeTiles.{code_more, no_codes, told_code}
 use Rattle.drainage.proofs.whole_tiles.directions.Goals as goal

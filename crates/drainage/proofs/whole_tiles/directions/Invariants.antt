@@ -1,7 +1,5 @@
 use Rattle.std.specs.Prelude.{Ok}
-use Rattle.catalogue.specs.Readers.{OnlyReads}
-use Rattle.watershed.specs.Questions.{AreCodesTo}
-use Rattle.drainage.specs.Between.{IsHeldFor}
+use Rattle.drainage.proofs.Prelude.{AreCodesTo, IsHeldFor, OnlyReads}
 use Rattle.drainage.proofs.whole_tiles.directions.Given as goal
 
 abbrev pub invariant-loop-index : goal.invariant-loop-index

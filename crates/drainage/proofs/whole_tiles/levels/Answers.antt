@@ -1,9 +1,4 @@
-use Rattle.std.proofs.Common.{rules, sym, subst}
-use Rattle.std.specs.Prelude.{IfOk}
-use Rattle.lattice.specs.Corners.{Corner}
-use Rattle.lattice.specs.Mosaic.{Mosaic}
-use Rattle.tile_flood.specs.Raising.{AreTileLevels}
-use Rattle.drainage.specs.Between.{IsHeldOf}
+use Rattle.drainage.proofs.Prelude.{AreTileLevels, Corner, IfOk, IsHeldOf, Mosaic, rules, subst, sym}
 use Rattle.drainage.proofs.Questions.Questioned.{short_here}
 use Rattle.drainage.proofs.whole_tiles.levels.Goals as goal
 

@@ -1,8 +1,4 @@
-use Rattle.std.proofs.Common.{rules, ◌≡◌, ℕ, sym, ◌∙◌, subst}
-use Rattle.std.specs.Prelude.{IfOk}
-use Rattle.std.proofs.lemmas.Result.{IfOk-weaker}
-use Rattle.catalogue.specs.Asked.{Asked}
-use Rattle.lattice.specs.Ground.{terrain}
+use Rattle.drainage.proofs.Prelude.{Asked, IfOk, IfOk-weaker, ℕ, rules, subst, sym, terrain, ◌∙◌, ◌≡◌}
 use Rattle.watershed.specs.Counts.{AreUpstreamCounts}
 use Rattle.watershed.specs.Questions.{AreTileCounts}
 use Rattle.drainage.proofs.Flows.Followed.{asked_by}

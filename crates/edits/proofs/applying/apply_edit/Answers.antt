@@ -1,17 +1,8 @@
-use Rattle.std.proofs.Common.{◌∙◌, List, length, ap, sym, subst, arith, rules}
-use Rattle.std.proofs.lemmas.Bool.{false_from_ne_true}
-use Rattle.std.proofs.lemmas.Int.{to_z-of_z}
+use Rattle.edits.proofs.Prelude.{AreSinks, Edit, List, Point, ap, arith, corners_of, false_from_ne_true, is_present, length, patched, present_iff, rules, subst, sym, to_z-of_z, with_point, without_point, ◌∙◌}
 use mir.Syntax.{w16}
 use mir.Val.{SFits}
-use Rattle.lattice.specs.declared.point.Point.{Point}
-use Rattle.lattice.specs.Mosaic.{AreSinks, is_present}
-use Rattle.catalogue.specs.Tiles.{corners_of}
-use Rattle.catalogue.proofs.Presence.{present_iff}
-use Rattle.edits.specs.declared.edit.Edit.{Edit}
 use Rattle.edits.specs.declared.edit.Edit.TheVariants.{Add}
 use Rattle.edits.specs.Edits.{FitsIn, edit_made}
-use Rattle.edits.specs.Effect.{patched}
-use Rattle.edits.specs.Sinks.{with_point, without_point}
 use Rattle.edits.proofs.SinkLists.{length_with, sinks_without}
 use Rattle.edits.proofs.applying.apply_edit.Goals as goal
 

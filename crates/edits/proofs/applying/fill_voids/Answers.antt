@@ -1,11 +1,5 @@
-use Rattle.std.proofs.Common.{◌≡◌, ◌+◌, ◌*◌, ◌<◌, true, false, ◌&&◌, sym, ◌∙◌, ap, ap₂, subst, to_z, of_z, arith}
-use Rattle.std.proofs.lemmas.Int.{to_z-of_z}
+use Rattle.edits.proofs.Prelude.{IsMosaic, Mosaic, ap, ap₂, arith, false, filled, is_among, is_in_box, is_void_among, is_void_at, of_z, same_point, subst, sym, to_z, to_z-of_z, true, with_height, ◌&&◌, ◌*◌, ◌+◌, ◌<◌, ◌∙◌, ◌≡◌}
 use mir.Syntax.{w16}
-use Rattle.lattice.specs.Ground.{same_point}
-use Rattle.lattice.specs.Mosaic.{Mosaic, IsMosaic}
-use Rattle.edits.specs.Boxes.{filled, is_among, is_void_among}
-use Rattle.edits.specs.Edits.{with_height}
-use Rattle.edits.specs.Effect.{is_in_box, is_void_at}
 use Rattle.edits.proofs.BoxVoids.BoxPlaces.{among_all, among_more, among_none, not_among}
 use Rattle.edits.proofs.BoxVoids.Filling.{fill_alike, fill_ground, fill_more, fill_none, fill_void}
 use Rattle.edits.proofs.applying.fill_voids.Goals as goal

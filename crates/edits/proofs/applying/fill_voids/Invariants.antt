@@ -1,6 +1,4 @@
-use Rattle.std.proofs.Common.{◌≡◌}
-use Rattle.lattice.specs.Mosaic.{IsMosaic}
-use Rattle.edits.specs.Boxes.{filled, is_void_among}
+use Rattle.edits.proofs.Prelude.{IsMosaic, filled, is_void_among, ◌≡◌}
 use Rattle.edits.proofs.applying.fill_voids.Given as goal
 
 abbrev pub invariant-loop-k : goal.invariant-loop-k

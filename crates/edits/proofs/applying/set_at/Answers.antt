@@ -1,15 +1,6 @@
-use Rattle.std.proofs.Common.{◌≡◌, ◌∙◌, ◌*◌, ◌<◌, List, take, ap, sym, subst, to_z, of_z}
+use Rattle.edits.proofs.Prelude.{Corner, List, Mosaic, Place, ap, corners_of, of_z, present_iff, subst, sym, take, take_all, to_z, to_z-of_z, with_height, with_sample, ◌*◌, ◌<◌, ◌∙◌, ◌≡◌}
 use Rattle.std.specs.Prelude.{Contains}
-use Rattle.std.proofs.lemmas.Int.{to_z-of_z}
-use Rattle.std.proofs.lemmas.List.{take_all}
 use mir.Syntax.{w16}
-use Rattle.lattice.specs.Corners.{Corner}
-use Rattle.lattice.specs.Mosaic.{Mosaic}
-use Rattle.catalogue.specs.Tiles.{corners_of}
-use Rattle.catalogue.specs.Tables.{with_sample}
-use Rattle.catalogue.proofs.Presence.{present_iff}
-use Rattle.edits.specs.declared.places.Place.{Place}
-use Rattle.edits.specs.Edits.{with_height}
 use Rattle.edits.proofs.Placing.{placed, placed_corners, placed_edit, placed_next, placed_side, this_place, whole_tiles}
 use Rattle.edits.proofs.applying.set_at.Goals as goal
 

@@ -1,5 +1,4 @@
-use Rattle.std.proofs.Common.{◌≡◌, take}
-use Rattle.lattice.specs.Mosaic.{IsMosaic}
+use Rattle.edits.proofs.Prelude.{IsMosaic, take, ◌≡◌}
 use Rattle.edits.proofs.Placing.{placed}
 use Rattle.edits.proofs.applying.set_at.Given as goal
 

@@ -1,9 +1,6 @@
-use Rattle.std.proofs.Common.{◌∙◌, get_or, pos, ap, sym, rules}
-use Rattle.std.proofs.lemmas.Int.{to_z-of_z}
+use Rattle.edits.proofs.Prelude.{NewHeight, ap, get_or, pos, rules, sym, to_z-of_z, with_height, ◌∙◌}
 use mir.Syntax.{w16}
 use mir.Val.{SFits}
-use Rattle.edits.specs.declared.edit.NewHeight.{NewHeight}
-use Rattle.edits.specs.Edits.{with_height}
 use Rattle.edits.proofs.EditStale.{read_within}
 use Rattle.edits.proofs.Edited.{heights_next}
 use Rattle.edits.proofs.applying.set_heights.Goals as goal

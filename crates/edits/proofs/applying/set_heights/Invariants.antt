@@ -1,6 +1,4 @@
-use Rattle.std.proofs.Common.{◌≡◌, take}
-use Rattle.lattice.specs.Mosaic.{IsMosaic}
-use Rattle.edits.specs.Edits.{with_heights}
+use Rattle.edits.proofs.Prelude.{IsMosaic, take, with_heights, ◌≡◌}
 use Rattle.edits.proofs.applying.set_heights.Given as goal
 
 abbrev pub invariant-loop-height : goal.invariant-loop-height

@@ -1,18 +1,7 @@
-use Rattle.std.proofs.Common.{◌≡◌, true, sym, ◌∙◌, ℤ, pos, negsuc, List, ap, subst, rules, to_z, of_z}
+use Rattle.edits.proofs.Prelude.{Burn, Command, Corner, List, Patch, Point, Remove, Wall, ℤ, and_parts, ap, effect, goes_stale, holds_one, is_near_one, negsuc, of_z, patched, pos, rules, subst, sym, to_z, to_z-of_z, true, with_heights, without, ◌∙◌, ◌≡◌}
 use Rattle.std.specs.Prelude.{Ok, All, Contains, int_le}
-use Rattle.std.proofs.lemmas.Bool.{and_parts}
-use Rattle.std.proofs.lemmas.Int.{to_z-of_z}
 use mir.Syntax.{w16, w32}
 use mir.Val.{SFits}
-use Rattle.lattice.specs.Corners.{Corner}
-use Rattle.lattice.specs.declared.point.Point.{Point}
-use Rattle.catalogue.specs.Tiles.{without}
-use Rattle.edits.specs.declared.command.Command.{Command}
-use Rattle.edits.specs.declared.command.Command.TheVariants.{Remove, Patch, Burn, Wall}
-use Rattle.edits.specs.Edits.{with_heights}
-use Rattle.edits.specs.Effect.{effect, patched}
-use Rattle.edits.specs.Touched.{is_near_one}
-use Rattle.edits.specs.Touched.{goes_stale, holds_one}
 use Rattle.edits.proofs.EditStale.{stale_holders, stale_named, stale_voids}
 use Rattle.edits.proofs.edit.edit_of.Goals as goal
 

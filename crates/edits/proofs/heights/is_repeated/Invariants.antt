@@ -1,5 +1,4 @@
-use Rattle.std.proofs.Common.{◌≡◌, drop}
-use Rattle.edits.specs.Effect.{is_repeated}
+use Rattle.edits.proofs.Prelude.{drop, is_repeated, ◌≡◌}
 use Rattle.edits.proofs.heights.is_repeated.Given as goal
 
 abbrev pub invariant-loop-i : goal.invariant-loop-i

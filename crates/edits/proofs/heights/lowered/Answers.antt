@@ -1,9 +1,6 @@
-use Rattle.std.proofs.Common.{◌≡◌, ℤ, pos, true, arith, to_z, of_z}
+use Rattle.edits.proofs.Prelude.{ℤ, and_from, arith, ints, is_depth, of_z, pos, to_z, to_z-of_z, true, ◌≡◌}
 use Rattle.std.specs.Prelude.{nat_abs, int_le, ◌≤ℤ◌}
-use Rattle.std.proofs.lemmas.Int.{ints, to_z-of_z}
-use Rattle.std.proofs.lemmas.Bool.{and_from}
 use mir.Syntax.{w32}
-use Rattle.edits.specs.Effect.{is_depth}
 use Rattle.edits.proofs.NewHeights.{burn_made}
 use Rattle.edits.proofs.heights.lowered.Goals as goal
 

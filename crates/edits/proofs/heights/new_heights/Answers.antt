@@ -1,17 +1,7 @@
-use Rattle.std.proofs.Common.{rules, to_z, of_z, ℤ, negsuc, ◌-ℤ◌, true, false, ◌≢◌, ◌≡◌, ◌∙◌, ◌++◌, ◌∷◌, [], IsTrue, List, ap, ap₂, sym, subst, get_or, ◌+◌}
+use Rattle.edits.proofs.Prelude.{IsTrue, List, NewHeight, Point, Refusal, TooDeep, ℤ, [], ap, ap₂, depth_of, edit_points, edited_metres, err_from_is_err_and, false, get_or, negsuc, of_z, reads_on, refuses, rules, subst, sym, to_z, to_z-of_z, true, void, with_heights, ◌++◌, ◌+◌, ◌-ℤ◌, ◌∙◌, ◌∷◌, ◌≡◌, ◌≢◌}
 use Rattle.std.specs.Prelude.{Result, Ok, Err, IfErr, int_lt}
-use Rattle.std.proofs.lemmas.Result.{err_from_is_err_and}
-use Rattle.std.proofs.lemmas.Int.{to_z-of_z}
 use mir.Syntax.{w16}
 use mir.Val.{SFits}
-use Rattle.lattice.specs.declared.point.Point.{Point}
-use Rattle.lattice.specs.declared.refusal.Refusal.{Refusal}
-use Rattle.lattice.specs.declared.refusal.Refusal.TheVariants.{TooDeep}
-use Rattle.lattice.specs.Mosaic.{void}
-use Rattle.catalogue.proofs.Reading.{reads_on}
-use Rattle.edits.specs.declared.edit.NewHeight.{NewHeight}
-use Rattle.edits.specs.Edits.{with_heights}
-use Rattle.edits.specs.PointEdits.{edited_metres, depth_of, refuses, edit_points}
 use Rattle.edits.proofs.NewHeights.{HaveHeights, heights_more, heights_made, heights_earlier, ends_editing, deep_editing}
 use Rattle.edits.proofs.PointEditing.{origin, read_anyhow, height_not_void}
 use Rattle.edits.proofs.heights.new_heights.Goals as goal

@@ -1,10 +1,6 @@
-use Rattle.std.proofs.Common.{◌≡◌, ◌∙◌, pos, true, sym, ap, arith, to_z, of_z, negsuc, rules}
-use Rattle.std.specs.Prelude.{int_le}
-use Rattle.std.proofs.lemmas.Int.{ints, to_z-of_z}
-use Rattle.std.proofs.lemmas.Bool.{and_from}
+use Rattle.edits.proofs.Prelude.{and_from, ap, arith, int_le, ints, is_height, negsuc, of_z, pos, rules, sym, to_z, to_z-of_z, true, ◌∙◌, ◌≡◌}
 use mir.Syntax.{w16, w32}
 use mir.Val.{SFits}
-use Rattle.edits.specs.Effect.{is_height}
 use Rattle.edits.proofs.NewHeights.{wall_made}
 use Rattle.edits.proofs.heights.raised.Goals as goal
 

@@ -1,16 +1,6 @@
-use Rattle.std.proofs.Common.{◌≡◌, ◌∙◌, ◌&&◌, ℕ, false, List, ap, sym, subst, rules, to_z, of_z}
-use Rattle.std.specs.Prelude.{IfOk}
-use Rattle.std.proofs.lemmas.Int.{to_z-of_z}
-use Rattle.std.proofs.lemmas.Result.{IfOk-weaker}
+use Rattle.edits.proofs.Prelude.{AreSetOnce, Edit, IfOk, IfOk-weaker, List, NewHeight, Point, SetOnce, ℕ, ap, edit_made, false, is_in_box, is_named, is_repeated, is_void_at, of_z, patched, points_of, rules, subst, sym, to_z, to_z-of_z, ◌&&◌, ◌∙◌, ◌≡◌}
 use mir.Syntax.{w16}
 use mir.Val.{SFits}
-use Rattle.lattice.specs.declared.point.Point.{Point}
-use Rattle.edits.specs.Changes.{SetOnce}
-use Rattle.edits.specs.declared.edit.Edit.{Edit}
-use Rattle.edits.specs.declared.edit.NewHeight.{NewHeight}
-use Rattle.edits.specs.Edits.{edit_made, points_of}
-use Rattle.edits.specs.Effect.{is_in_box, is_named, is_repeated, is_void_at, patched}
-use Rattle.edits.specs.Plans.{AreSetOnce}
 use Rattle.edits.proofs.Plans.Planned.{where_ok}
 use Rattle.edits.proofs.Plans.Setting.{once_all, sets_all}
 use Rattle.edits.proofs.listing.changes_of.Goals as goal

@@ -1,10 +1,5 @@
-use Rattle.std.proofs.Common.{◌≡◌, ◌∙◌, ◌++◌, List, map, ap, subst, to_z, of_z}
-use Rattle.std.proofs.lemmas.Int.{to_z-of_z}
-use Rattle.std.proofs.lemmas.List.{take_all}
+use Rattle.edits.proofs.Prelude.{List, Place, Sets, ap, map, of_z, same_point, subst, take_all, to_z, to_z-of_z, ◌++◌, ◌∙◌, ◌≡◌}
 use mir.Syntax.{w16}
-use Rattle.lattice.specs.Ground.{same_point}
-use Rattle.edits.specs.declared.places.Place.{Place}
-use Rattle.edits.specs.Changes.{Sets}
 use Rattle.edits.proofs.Plans.Once.{set_to}
 use Rattle.edits.proofs.Plans.Setting.{sets_at, sets_fit}
 use Rattle.edits.proofs.listing.put.Goals as goal

@@ -1,10 +1,6 @@
-use Rattle.std.proofs.Common.{get_or, pos, subst, arith, rules}
-use Rattle.std.proofs.lemmas.Int.{to_z-of_z}
+use Rattle.edits.proofs.Prelude.{NewHeight, Sets, arith, get_or, pos, rules, same_point, subst, to_z-of_z}
 use mir.Syntax.{w16}
 use mir.Val.{SFits}
-use Rattle.lattice.specs.Ground.{same_point}
-use Rattle.edits.specs.Changes.{Sets}
-use Rattle.edits.specs.declared.edit.NewHeight.{NewHeight}
 use Rattle.edits.proofs.EditStale.{read_within}
 use Rattle.edits.proofs.Plans.Setting.{heights_more, heights_once}
 use Rattle.edits.proofs.listing.put_heights.Goals as goal

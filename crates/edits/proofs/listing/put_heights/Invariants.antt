@@ -1,8 +1,4 @@
-use Rattle.std.proofs.Common.{◌≡◌, false, ◌*◌, ◌≤◌, length, take}
-use Rattle.std.specs.List.{All}
-use Rattle.edits.specs.Changes.{CanBeSet, SetOnce}
-use Rattle.edits.specs.Edits.{points_of}
-use Rattle.edits.specs.Effect.{is_named, is_repeated}
+use Rattle.edits.proofs.Prelude.{All, CanBeSet, SetOnce, false, is_named, is_repeated, length, points_of, take, ◌*◌, ◌≡◌, ◌≤◌}
 use Rattle.edits.proofs.Plans.Setting.{GiveHeights}
 use Rattle.edits.proofs.listing.put_heights.Given as goal
 

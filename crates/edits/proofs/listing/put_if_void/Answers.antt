@@ -1,13 +1,7 @@
-use Rattle.std.proofs.Common.{◌≡◌, ◌∙◌, ◌&&◌, inl, inr, true, false, ap, sym, subst, to_z, of_z}
-use Rattle.std.proofs.lemmas.Int.{to_z-of_z}
+use Rattle.edits.proofs.Prelude.{Sets, and-true, ap, false, height_of, inl, inr, is_void_at, is_void_height, of_z, same_point, subst, sym, to_z, to_z-of_z, true, ◌&&◌, ◌∙◌, ◌≡◌}
 use Rattle.std.proofs.lemmas.Result.{on_ok_weaker}
-use Rattle.std.proofs.Math.Bool.{and-true}
 use mir.Syntax.{w16}
 use Rattle.lattice.specs.declared.height.Height.TheVariants as height
-use Rattle.lattice.specs.Height.{height_of}
-use Rattle.lattice.specs.Ground.{same_point}
-use Rattle.edits.specs.Changes.{Sets}
-use Rattle.edits.specs.Effect.{is_void_at, is_void_height}
 use Rattle.edits.proofs.BoxVoids.BoxPlaces.{not_void_is, void_is}
 use Rattle.edits.proofs.Plans.Setting.{fits_kept, sets_alike, sets_kept, sets_none}
 use Rattle.edits.proofs.listing.put_if_void.Goals as goal

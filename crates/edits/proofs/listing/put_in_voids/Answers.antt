@@ -1,18 +1,7 @@
 use Rattle.std.proofs.Common.{◌≡◌, ◌+◌, ◌*◌, ◌<◌, Bool, ◌&&◌, Err, List, [], sym, ◌∙◌, ap, subst, to_z, of_z, arith}
-use Rattle.std.proofs.lemmas.Bool.{and_parts}
-use Rattle.std.proofs.lemmas.Int.{to_z-of_z}
-use Rattle.std.proofs.lemmas.Result.{err_from_is_err_and}
+use Rattle.edits.proofs.Prelude.{Change, Mosaic, Point, Refusal, Sets, and_parts, err_from_is_err_and, is_among, is_in_box, is_void_among, is_void_at, reads_on, same_point, to_z-of_z}
 use mir.Syntax.{w16}
-use Rattle.lattice.specs.Ground.{same_point}
-use Rattle.lattice.specs.Mosaic.{Mosaic}
-use Rattle.lattice.specs.declared.point.Point.{Point}
-use Rattle.lattice.specs.declared.refusal.Refusal.{Refusal}
 use Rattle.catalogue.specs.Readers.{reads_of}
-use Rattle.catalogue.proofs.Reading.{reads_on}
-use Rattle.edits.specs.Boxes.{is_among, is_void_among}
-use Rattle.edits.specs.Changes.{Sets}
-use Rattle.edits.specs.Effect.{is_in_box, is_void_at}
-use Rattle.edits.specs.declared.change.Change.{Change}
 use Rattle.edits.proofs.BoxVoids.BoxPlaces.{among_all, among_none, among_with, not_among}
 use Rattle.edits.proofs.Plans.Setting.{sets_alike}
 use Rattle.edits.proofs.Plans.VoidsPut.{ArePut, none_put, put_on}

@@ -1,5 +1,4 @@
-use Rattle.std.proofs.Common.{[]}
-use Rattle.edits.specs.Boxes.{is_void_among}
+use Rattle.edits.proofs.Prelude.{[], is_void_among}
 use Rattle.edits.proofs.Plans.VoidsPut.{ArePut}
 use Rattle.edits.proofs.listing.put_in_voids.Given as goal
 

@@ -1,5 +1,4 @@
-use Rattle.std.proofs.Common.{rules, ◌≡◌, ◌∙◌, ℕ, ◌-ℤ◌, ◌&&◌, nat_abs, Bool, true, sym, ap, ap₂}
-use Rattle.std.specs.Prelude.{nat_lt}
+use Rattle.edits.proofs.Prelude.{Bool, ℕ, ap, ap₂, nat_abs, nat_lt, rules, sym, true, ◌&&◌, ◌-ℤ◌, ◌∙◌, ◌≡◌}
 use Rattle.std.proofs.lemmas.Bool.Decides.{Decides-ltb}
 use Rattle.edits.proofs.neighbours.are_neighbours.Goals as goal
 

@@ -1,11 +1,5 @@
-use Rattle.std.proofs.Common.{◌≡◌, ◌∙◌, ◌+◌, ◌++◌, ◌∷◌, [], ◌↔◌, List, take, ap, sym, subst, arith}
+use Rattle.edits.proofs.Prelude.{ArrayVec, Corner, Holds, List, Place, Rising, [], ap, arith, rising_from, subst, sym, take, take_all, take_more, ◌++◌, ◌+◌, ◌↔◌, ◌∙◌, ◌∷◌, ◌≡◌}
 use Rattle.std.specs.Prelude.{Contains}
-use Rattle.std.proofs.lemmas.List.{take_all, take_more}
-use Rattle.arrayvec.specs.ArrayVec.{ArrayVec}
-use Rattle.lattice.specs.Corners.{Corner}
-use Rattle.lattice.specs.Lattice.{Holds}
-use Rattle.edits.specs.declared.places.Place.{Place}
-use Rattle.lattice.proofs.Rising.{Rising, rising_from}
 use Rattle.edits.proofs.PlaceLemmas.{PlacesAmong, not_earlier, places_skip, places_push, places_all}
 use Rattle.edits.proofs.places.places_of.Goals as goal
 use Rattle.edits.proofs.places.places_of.Goals.{in-Some, in_default}

@@ -1,7 +1,4 @@
-use Rattle.std.proofs.Common.{subst}
-use Rattle.std.proofs.lemmas.Result.{IfOk-weaker}
-use Rattle.lattice.specs.Mosaic.{Mosaic}
-use Rattle.edits.specs.Plans.{AreSetOnce}
+use Rattle.edits.proofs.Prelude.{AreSetOnce, IfOk-weaker, Mosaic, subst}
 use Rattle.edits.proofs.Plans.Planned.{planned_once}
 use Rattle.edits.proofs.planning.plan.Goals as goal
 

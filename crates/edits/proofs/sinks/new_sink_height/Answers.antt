@@ -1,9 +1,4 @@
-use Rattle.std.proofs.Common.{◌≡◌, ◌<◌, ℕ, List, length, sym, ap, ◌∙◌, subst, arith}
-use Rattle.std.proofs.lemmas.Bool.{both_ways}
-use Rattle.lattice.specs.declared.point.Point.{Point}
-use Rattle.lattice.specs.Limits.{most_sinks}
-use Rattle.lattice.specs.Mosaic.{IsHeld, AreSinks}
-use Rattle.edits.specs.Sinks.{with_point}
+use Rattle.edits.proofs.Prelude.{AreSinks, IsHeld, List, Point, ℕ, ap, arith, both_ways, length, most_sinks, subst, sym, with_point, ◌<◌, ◌∙◌, ◌≡◌}
 use Rattle.edits.proofs.SinkLists.{outside_refused, sink_there, sinks_full, sink_made, sinks_with}
 use Rattle.edits.proofs.sinks.new_sink_height.Goals as goal
 

@@ -1,5 +1,4 @@
-use Rattle.std.proofs.Common.{◌≡◌, sym, ap, ◌∙◌}
-use Rattle.edits.specs.Sinks.{without_point}
+use Rattle.edits.proofs.Prelude.{ap, sym, without_point, ◌∙◌, ◌≡◌}
 use Rattle.edits.proofs.SinkLists.{no_sink, sink_left}
 use Rattle.edits.proofs.sinks.old_sink_height.Goals as goal
 

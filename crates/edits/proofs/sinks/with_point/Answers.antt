@@ -1,7 +1,4 @@
-use Rattle.std.proofs.Common.{rules, ◌≡◌, ◌+◌, Bool, List, ◌++◌, ◌∷◌, [], true, false, length, drop, get_or, pos, refl, sym, ap, ap₂, ◌∙◌, subst, arith}
-use Rattle.lattice.specs.declared.point.Point.{Point}
-use Rattle.lattice.specs.Points.{is_point_before}
-use Rattle.edits.specs.Sinks.{with_point}
+use Rattle.edits.proofs.Prelude.{Bool, List, Point, [], ap, ap₂, arith, drop, false, get_or, is_point_before, length, pos, refl, rules, subst, sym, true, with_point, ◌++◌, ◌+◌, ◌∙◌, ◌∷◌, ◌≡◌}
 use Rattle.edits.proofs.SinkLists.{rest_of, in_count, put_before, put_later, put_behind}
 use Rattle.edits.proofs.sinks.with_point.Goals as goal
 use Rattle.edits.proofs.sinks.with_point.Goals.{then-not-is_in+then-lt, else-not-is_in, else-not-is_in-via-then-not-is_in+else-lt, else-not-is_in-via-else-not-is_in}

@@ -1,5 +1,4 @@
-use Rattle.std.proofs.Common.{◌≡◌, ◌+◌, ◌++◌, drop, length}
-use Rattle.edits.specs.Sinks.{with_point}
+use Rattle.edits.proofs.Prelude.{drop, length, with_point, ◌++◌, ◌+◌, ◌≡◌}
 use Rattle.edits.proofs.SinkLists.{rest_of, in_count}
 use Rattle.edits.proofs.sinks.with_point.Given as goal
 

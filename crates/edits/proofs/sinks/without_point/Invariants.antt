@@ -1,5 +1,4 @@
-use Rattle.std.proofs.Common.{◌≡◌, ◌≤◌, ◌++◌, drop, length}
-use Rattle.edits.specs.Sinks.{without_point}
+use Rattle.edits.proofs.Prelude.{drop, length, without_point, ◌++◌, ◌≡◌, ◌≤◌}
 use Rattle.edits.proofs.sinks.without_point.Given as goal
 
 abbrev pub invariant-loop-other : goal.invariant-loop-other

@@ -1,10 +1,6 @@
-use Rattle.std.proofs.Common.{◌≡◌, ◌≤◌, inl, inr, true, ap, sym, ◌∙◌, subst, arith, get_or, List}
+use Rattle.edits.proofs.Prelude.{Corner, Holds, List, ap, are_neighbours, arith, cases_eq, false≢true, get_or, inl, inr, subst, sym, true, ◌∙◌, ◌≡◌, ◌≤◌}
 use Rattle.std.specs.Prelude.{Contains}
 use Rattle.std.proofs.lemmas.List.{get_or_read}
-use Rattle.std.proofs.lemmas.Bool.{cases_eq, false≢true}
-use Rattle.lattice.specs.Corners.{Corner}
-use Rattle.lattice.specs.Lattice.{Holds}
-use Rattle.edits.specs.Touched.{are_neighbours}
 use Rattle.edits.proofs.EditStale.{held_near, not_held_near}
 use Rattle.edits.proofs.stale.is_held_near.Goals as goal
 use Rattle.edits.proofs.stale.is_held_near.Goals.{else-present-via-then-present+else-are_neighbours, else-present-via-else-present}

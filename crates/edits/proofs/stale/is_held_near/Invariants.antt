@@ -1,7 +1,5 @@
-use Rattle.std.proofs.Common.{◌≡◌, ℕ, ◌<◌, get_or, true}
+use Rattle.edits.proofs.Prelude.{Corner, ℕ, are_neighbours, get_or, true, ◌<◌, ◌≡◌}
 use Rattle.std.specs.Prelude.{Contains}
-use Rattle.lattice.specs.Corners.{Corner}
-use Rattle.edits.specs.Touched.{are_neighbours}
 use Rattle.edits.proofs.stale.is_held_near.Given as goal
 
 abbrev pub invariant-loop-holder : goal.invariant-loop-holder

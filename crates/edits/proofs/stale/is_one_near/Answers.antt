@@ -1,9 +1,4 @@
-use Rattle.std.proofs.Common.{◌∙◌, ◌&&◌, ap, sym, get_or, pos}
-use Rattle.std.specs.List.{list_any}
-use Rattle.std.proofs.lemmas.List.{take_all}
-use Rattle.lattice.specs.Lattice.{holds}
-use Rattle.edits.specs.declared.edit.NewHeight.{NewHeight}
-use Rattle.edits.specs.Touched.{are_neighbours}
+use Rattle.edits.proofs.Prelude.{NewHeight, ap, are_neighbours, get_or, holds, list_any, pos, sym, take_all, ◌&&◌, ◌∙◌}
 use Rattle.edits.proofs.EditStale.{any_near, none_more, read_within}
 use Rattle.edits.proofs.BoxVoids.Voids.{any_from}
 use Rattle.edits.proofs.stale.is_one_near.Goals as goal

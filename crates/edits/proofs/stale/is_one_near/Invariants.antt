@@ -1,8 +1,4 @@
-use Rattle.std.proofs.Common.{◌≡◌, ◌&&◌, take, false}
-use Rattle.std.specs.List.{list_any}
-use Rattle.lattice.specs.Lattice.{holds}
-use Rattle.edits.specs.declared.edit.NewHeight.{NewHeight}
-use Rattle.edits.specs.Touched.{are_neighbours}
+use Rattle.edits.proofs.Prelude.{NewHeight, are_neighbours, false, holds, list_any, take, ◌&&◌, ◌≡◌}
 use Rattle.edits.proofs.stale.is_one_near.Given as goal
 
 abbrev pub invariant-loop-height : goal.invariant-loop-height

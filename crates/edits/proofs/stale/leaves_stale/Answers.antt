@@ -1,9 +1,5 @@
-use Rattle.std.proofs.Common.{◌∙◌, List, ap, sym}
-use Rattle.std.specs.List.{list_any}
-use Rattle.lattice.specs.Corners.{Corner}
-use Rattle.edits.specs.declared.edit.Edit.{Edit}
+use Rattle.edits.proofs.Prelude.{Corner, Edit, List, ap, are_neighbours, list_any, sym, ◌∙◌}
 use Rattle.edits.specs.Edits.{goes_stale_by}
-use Rattle.edits.specs.Touched.{are_neighbours}
 use Rattle.edits.proofs.stale.leaves_stale.Goals as goal
 
 pub returns-in-Voids : goal.returns-in-Voids

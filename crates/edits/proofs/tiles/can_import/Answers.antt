@@ -1,5 +1,4 @@
-use Rattle.std.proofs.Common.{◌≡◌, ◌∙◌, ◌*◌, length, ap, sym}
-use Rattle.std.proofs.lemmas.Bool.{both_ways}
+use Rattle.edits.proofs.Prelude.{ap, both_ways, length, sym, ◌*◌, ◌∙◌, ◌≡◌}
 use Rattle.edits.proofs.WholeTiles.{import_short, import_there, import_full, import_accepted}
 use Rattle.edits.proofs.tiles.can_import.Goals as goal
 

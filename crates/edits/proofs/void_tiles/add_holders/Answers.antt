@@ -1,8 +1,5 @@
-use Rattle.std.proofs.Common.{◌≡◌, ◌+◌, ◌++◌, ◌∷◌, [], List, take, inl, inr, ap, sym, ◌∙◌, subst, arith}
+use Rattle.edits.proofs.Prelude.{Contains-append_left, Contains-push, Contains-push_cases, Corner, List, [], ap, arith, inl, inr, subst, sym, take, take_all, take_more, ◌++◌, ◌+◌, ◌∙◌, ◌∷◌, ◌≡◌}
 use Rattle.std.specs.Prelude.{Contains}
-use Rattle.std.proofs.lemmas.List.{take_more, take_all}
-use Rattle.std.proofs.lemmas.List.Elements.{Contains-append_left, Contains-push, Contains-push_cases}
-use Rattle.lattice.specs.Corners.{Corner}
 use Rattle.edits.proofs.void_tiles.add_holders.Goals as goal
 
 pub loop-corner-preserved : goal.loop-corner-preserved

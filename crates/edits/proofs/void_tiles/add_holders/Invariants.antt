@@ -1,7 +1,5 @@
-use Rattle.std.proofs.Common.{◌≤◌, ◌+◌, take}
+use Rattle.edits.proofs.Prelude.{Corner, array_vec_len, take, ◌+◌, ◌≤◌}
 use Rattle.std.specs.Prelude.{Contains}
-use Rattle.lattice.specs.Corners.{Corner}
-use Rattle.arrayvec.specs.ArrayVec.{array_vec_len}
 use Rattle.edits.proofs.void_tiles.add_holders.Given as goal
 
 abbrev pub invariant-loop-corner : goal.invariant-loop-corner

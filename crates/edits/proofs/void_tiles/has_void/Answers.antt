@@ -1,11 +1,4 @@
-use Rattle.std.proofs.Common.{◌≡◌, ◌+◌, ◌*◌, ◌<◌, Bool, ◌&&◌, true, false, sym, ◌∙◌, ap, ap₂, subst, refl, arith}
-use Rattle.std.proofs.lemmas.Bool.{and_from, and_right, both_ways}
-use Rattle.lattice.specs.Ground.{same_point}
-use Rattle.lattice.specs.Lattice.{holds}
-use Rattle.lattice.specs.Mosaic.{Mosaic}
-use Rattle.lattice.specs.declared.point.Point.{Point}
-use Rattle.edits.specs.Boxes.{is_among}
-use Rattle.edits.specs.Effect.{is_box, is_in_box, is_void_at}
+use Rattle.edits.proofs.Prelude.{Bool, Mosaic, Point, and_from, and_right, ap, ap₂, arith, both_ways, false, holds, is_among, is_box, is_in_box, is_void_at, refl, same_point, subst, sym, true, ◌&&◌, ◌*◌, ◌+◌, ◌<◌, ◌∙◌, ◌≡◌}
 use Rattle.edits.proofs.BoxVoids.BoxPlaces.{alone, among_all, among_none, among_with, inside_at}
 use Rattle.edits.proofs.BoxVoids.Searching.{none_on, none_start}
 use Rattle.edits.proofs.BoxVoids.TilesFound.{tile_void}

@@ -1,7 +1,4 @@
-use Rattle.std.proofs.Common.{◌&&◌}
-use Rattle.lattice.specs.Lattice.{holds}
-use Rattle.edits.specs.Boxes.{is_among}
-use Rattle.edits.specs.Effect.{is_void_at}
+use Rattle.edits.proofs.Prelude.{holds, is_among, is_void_at, ◌&&◌}
 use Rattle.edits.proofs.BoxVoids.Searching.{NoneYet}
 use Rattle.edits.proofs.void_tiles.has_void.Given as goal
 

@@ -1,5 +1,4 @@
-use Rattle.std.proofs.Common.{inl, inr, to_z, of_z, rules}
-use Rattle.std.proofs.lemmas.Int.{to_z-of_z}
+use Rattle.edits.proofs.Prelude.{inl, inr, of_z, rules, to_z, to_z-of_z}
 use mir.Syntax.{w32}
 use mir.Val.{SFits}
 use Rattle.edits.proofs.BoxVoids.Overlapping.{some_corner, held_as}

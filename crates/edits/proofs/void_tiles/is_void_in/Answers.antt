@@ -1,9 +1,4 @@
-use Rattle.std.proofs.Common.{◌≡◌, ◌&&◌, true, false, refl, sym, ◌∙◌, ap}
-use Rattle.std.proofs.lemmas.Bool.{false_from_ne_true, false≢true}
-use Rattle.std.proofs.lemmas.Result.{IfOk-weaker}
-use Rattle.lattice.specs.Lattice.{holds}
-use Rattle.lattice.proofs.Samples.{holds_is}
-use Rattle.edits.specs.Effect.{is_void_at}
+use Rattle.edits.proofs.Prelude.{IfOk-weaker, ap, false, false_from_ne_true, false≢true, holds, holds_is, is_void_at, refl, sym, true, ◌&&◌, ◌∙◌, ◌≡◌}
 use Rattle.edits.proofs.void_tiles.is_void_in.Goals as goal
 
 pub returns-in-None-clause-void : goal.returns-in-None-clause-void

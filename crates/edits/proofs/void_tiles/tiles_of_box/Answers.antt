@@ -1,15 +1,5 @@
-use Rattle.std.proofs.Common.{◌≡◌, ◌∙◌, ◌⊎◌, inl, inr, ◌+◌, ◌++◌, ◌∷◌, [], true, false, List, take, ap, sym, subst}
+use Rattle.edits.proofs.Prelude.{ArrayVec, Corner, Holds, List, Mosaic, Point, Tile, [], ap, both_ways, corners_of, false, has_void_from, inl, inr, is_in_box, is_listed, reads_on, subst, sym, take, take_all, take_more, true, ◌++◌, ◌+◌, ◌∙◌, ◌∷◌, ◌≡◌, ◌⊎◌}
 use Rattle.std.specs.Prelude.{Contains, Ok}
-use Rattle.std.proofs.lemmas.Bool.{both_ways}
-use Rattle.std.proofs.lemmas.List.{take_more, take_all}
-use Rattle.arrayvec.specs.ArrayVec.{ArrayVec}
-use Rattle.lattice.specs.Corners.{Corner}
-use Rattle.lattice.specs.Lattice.{Holds}
-use Rattle.lattice.specs.Mosaic.{Tile, Mosaic}
-use Rattle.lattice.specs.declared.point.Point.{Point}
-use Rattle.catalogue.specs.Tiles.{corners_of, is_listed}
-use Rattle.catalogue.proofs.Reading.{reads_on}
-use Rattle.edits.specs.Effect.{has_void_from, is_in_box}
 use Rattle.edits.proofs.BoxVoids.TouchedTiles.{listed}
 use Rattle.edits.proofs.BoxVoids.TilesFound.{FindsTiles, finds_skip, finds_put, finds_all, test_true, test_false}
 use Rattle.edits.proofs.void_tiles.tiles_of_box.Goals as goal

@@ -1,11 +1,7 @@
-use Rattle.std.proofs.Common.{◌≡◌, ◌≢◌, ◌∙◌, ◌<◌, true, false, length, sym, subst, to_z, of_z, arith, List}
+use Rattle.edits.proofs.Prelude.{Corner, List, arith, array_vec_len, false, is_box, length, of_z, subst, sym, to_z, to_z-of_z, true, ◌<◌, ◌∙◌, ◌≡◌, ◌≢◌}
 use Rattle.std.specs.Prelude.{Contains, All}
-use Rattle.std.proofs.lemmas.Int.{to_z-of_z}
 use Rattle.std.proofs.lemmas.Bool.{eqb-true, eqb-false}
-use Rattle.arrayvec.specs.ArrayVec.{array_vec_len}
-use Rattle.lattice.specs.Corners.{Corner}
 use mir.Syntax.{w32}
-use Rattle.edits.specs.Effect.{is_box}
 use Rattle.edits.proofs.BoxVoids.Voids.{height_in, bad_box}
 use Rattle.edits.proofs.BoxVoids.TilesFound.{patch_made, patch_none}
 use Rattle.edits.proofs.void_tiles.tiles_to_patch.Goals as goal

@@ -1,6 +1,4 @@
-use Rattle.flow_d8.specs.Marks.{IsIn}
-use Rattle.flow_d8.specs.Tiles.{count_of}
-use Rattle.std.proofs.Common.{ℕ, ◌<◌, subst, arith}
+use Rattle.flow_d8.proofs.Prelude.{IsIn, ℕ, arith, count_of, subst, ◌<◌}
 use Rattle.flow_d8.proofs.Waves.Runs.{row_first, row_joined, flat_small, grows}
 use Rattle.flow_d8.proofs.collecting.add.Goals as goal
 

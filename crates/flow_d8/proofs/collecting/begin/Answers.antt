@@ -1,5 +1,4 @@
-use Rattle.std.proofs.Common.{◌<◌, ap, subst, arith}
-use Rattle.flow_d8.specs.declared.marks.Run.{Run}
+use Rattle.flow_d8.proofs.Prelude.{Run, ap, arith, subst, ◌<◌}
 use Rattle.flow_d8.proofs.Waves.Runs.{has_begun, flat_small}
 use Rattle.flow_d8.proofs.collecting.begin.Goals as goal
 

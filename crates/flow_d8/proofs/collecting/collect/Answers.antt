@@ -1,7 +1,5 @@
-use Rattle.std.proofs.Common.{◌≡◌, ◌++◌, [], ◌∷◌, ℕ, length, ⊎_elim, sym, ◌∙◌, subst, arith, IfSome, IfNone, slice_index_or}
-use Rattle.flow_d8.specs.Prelude.{Dir, Point, Unknown}
+use Rattle.flow_d8.proofs.Prelude.{AreWaiting, Dir, IfNone, IfSome, IsIn, IsMember, IsSettled, Point, Unknown, ℕ, [], arith, length, slice_index_or, subst, sym, ⊎_elim, ◌++◌, ◌∙◌, ◌∷◌, ◌≡◌}
 use Rattle.flow_d8.specs.Filled.{number_of}
-use Rattle.flow_d8.specs.Marks.{IsIn, IsMember, IsSettled, AreWaiting}
 use Rattle.flow_d8.specs.Resolution.{IsUnknownBeside}
 use Rattle.flow_d8.specs.Tiles.{by_of}
 use Rattle.flow_d8.proofs.Waves.Runs.{covers_still, covers_last, rows_before, row_last, found_listed, open_on}

@@ -1,5 +1,4 @@
-use Rattle.std.proofs.Common.{◌≡◌, ◌+◌, length, sum}
-use Rattle.flow_d8.specs.Marks.{IsMember, AreFound, AreWaiting, AreOpen}
+use Rattle.flow_d8.proofs.Prelude.{AreFound, AreOpen, AreWaiting, IsMember, length, sum, ◌+◌, ◌≡◌}
 use Rattle.flow_d8.proofs.collecting.collect.Given as goal
 
 abbrev pub invariant-runs : goal.invariant-runs

@@ -1,5 +1,4 @@
-use Rattle.std.proofs.Common.{inl, inr, arith}
-use Rattle.std.proofs.lemmas.Bool.{cases_eq}
+use Rattle.flow_d8.proofs.Prelude.{arith, cases_eq, inl, inr}
 use Rattle.flow_d8.proofs.Waves.Runs.{flat_small}
 use Rattle.flow_d8.proofs.collecting.free_row.Goals as goal
 

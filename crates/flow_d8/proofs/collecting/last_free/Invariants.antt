@@ -1,7 +1,5 @@
-use Rattle.std.proofs.Common.{◌≡◌, ℕ, ◌+◌, ◌<◌, ◌≤◌, slice_index_or}
+use Rattle.flow_d8.proofs.Prelude.{IsOfFlat, ℕ, mark_at, slice_index_or, ◌+◌, ◌<◌, ◌≡◌, ◌≤◌}
 use Rattle.flow_d8.specs.declared.flow.Flow.TheVariants.{Unknown}
-use Rattle.flow_d8.specs.Flows.{IsOfFlat}
-use Rattle.flow_d8.specs.Marks.{mark_at}
 use Rattle.flow_d8.proofs.collecting.last_free.Given as goal
 
 abbrev pub invariant-loop-on : goal.invariant-loop-on

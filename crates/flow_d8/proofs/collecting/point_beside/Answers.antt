@@ -1,5 +1,4 @@
-use Rattle.std.proofs.Common.{IsTrue, sym, subst}
-use Rattle.flow_d8.specs.Prelude.{step, fits_point}
+use Rattle.flow_d8.proofs.Prelude.{IsTrue, fits_point, step, subst, sym}
 use Rattle.flow_d8.proofs.Steps.StepFits.{step_fits}
 use Rattle.flow_d8.proofs.collecting.point_beside.Goals as goal
 

@@ -1,5 +1,4 @@
-use Rattle.std.proofs.Common.{suc, sym, ◌∙◌, subst}
-use Rattle.flow_d8.specs.Marks.{IsMember, IsSettled}
+use Rattle.flow_d8.proofs.Prelude.{IsMember, IsSettled, subst, suc, sym, ◌∙◌}
 use Rattle.flow_d8.proofs.Sayings.Said.{is_known}
 use Rattle.flow_d8.proofs.collecting.visit.Goals as goal
 

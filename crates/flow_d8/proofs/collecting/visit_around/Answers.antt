@@ -1,8 +1,5 @@
-use Rattle.std.proofs.Common.{inl, inr, subst, arith}
-use Rattle.std.proofs.lemmas.Bool.{cases_eq}
-use Rattle.flow_d8.specs.Prelude.{order_of}
+use Rattle.flow_d8.proofs.Prelude.{IsSettled, arith, cases_eq, inl, inr, order_of, subst}
 use Rattle.flow_d8.proofs.Steps.Compass.{dir_at_place, order_below}
-use Rattle.flow_d8.specs.Marks.{IsSettled}
 use Rattle.flow_d8.specs.Tiles.{by_of}
 use Rattle.flow_d8.proofs.Waves.Runs.{grows_same, grows_on, settled_on}
 use Rattle.flow_d8.proofs.collecting.visit_around.Goals as goal

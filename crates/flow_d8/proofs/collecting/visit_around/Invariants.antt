@@ -1,7 +1,5 @@
-use Rattle.std.proofs.Common.{◌<◌}
-use Rattle.flow_d8.specs.Prelude.{Dir, order_of}
+use Rattle.flow_d8.proofs.Prelude.{Dir, Grows, IsSettled, order_of, ◌<◌}
 use Rattle.flow_d8.specs.Tiles.{by_of}
-use Rattle.flow_d8.specs.Marks.{IsSettled, Grows}
 use Rattle.flow_d8.proofs.collecting.visit_around.Given as goal
 
 abbrev pub invariant-loop-i : goal.invariant-loop-i

@@ -1,8 +1,4 @@
-use Rattle.std.proofs.Common.{◌≡◌, ◌+◌, ◌-◌, ◌<◌, ℕ, inl, inr, sym, subst, arith, IfNone, slice_index_or}
-use Rattle.std.proofs.lemmas.Bool.{cases_eq, ltb-true}
-use Rattle.flow_d8.specs.Prelude.{Dir, Unknown}
-use Rattle.flow_d8.specs.Flows.{IsOfFlat}
-use Rattle.flow_d8.specs.Marks.{IsIn, IsSettled}
+use Rattle.flow_d8.proofs.Prelude.{Dir, IfNone, IsIn, IsOfFlat, IsSettled, Unknown, ℕ, arith, cases_eq, inl, inr, ltb-true, slice_index_or, subst, sym, ◌+◌, ◌-◌, ◌<◌, ◌≡◌}
 use Rattle.flow_d8.specs.Tiles.{count_of, by_of}
 use Rattle.flow_d8.proofs.Waves.Runs.{grows_same, grows_on, settled_on, next_settled, flat_small}
 use Rattle.flow_d8.proofs.collecting.visit_run.Goals as goal

@@ -1,7 +1,5 @@
-use Rattle.std.proofs.Common.{ℕ, ◌<◌, ◌≤◌}
-use Rattle.flow_d8.specs.Prelude.{Dir}
+use Rattle.flow_d8.proofs.Prelude.{Dir, Grows, IsSettled, ℕ, ◌<◌, ◌≤◌}
 use Rattle.flow_d8.specs.Tiles.{by_of}
-use Rattle.flow_d8.specs.Marks.{IsSettled, Grows}
 use Rattle.flow_d8.proofs.collecting.visit_run.Given as goal
 
 abbrev pub invariant-loop-k : goal.invariant-loop-k

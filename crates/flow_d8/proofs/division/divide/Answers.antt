@@ -1,5 +1,4 @@
-use Rattle.std.proofs.Common.{◌≡◌, ℕ, ◌+◌, ◌-◌, ◌*◌, ◌/◌, ◌%◌, ◌<◌, ◌≤◌, sym, ap, ◌∙◌, arith}
-use Rattle.std.proofs.lemmas.Nat.{mod-mul-add}
+use Rattle.flow_d8.proofs.Prelude.{ℕ, ap, arith, mod-mul-add, sym, ◌%◌, ◌*◌, ◌+◌, ◌-◌, ◌/◌, ◌<◌, ◌∙◌, ◌≡◌, ◌≤◌}
 use Rattle.flow_d8.proofs.division.divide.Goals as goal
 
 rest : (x d q : ℕ) → q * d ≤ x → x - q * d < d → x - q * d ≡ x % d

@@ -1,9 +1,5 @@
-use Rattle.std.proofs.Common.{◌≡◌, ℕ, ◌+◌, ◌*◌, ◌%◌, ◌<◌, true, length, sym, ap, ◌∙◌, subst, arith, slice_index_or}
+use Rattle.flow_d8.proofs.Prelude.{Dir, East, Flow, IsFlow, IsInner, Point, Unknown, ℕ, ap, arith, back_of, is_deep, length, place_by, slice_index_or, step, subst, sym, terrain, true, ◌%◌, ◌*◌, ◌+◌, ◌<◌, ◌∙◌, ◌≡◌}
 use Rattle.std.proofs.lemmas.Option.{IfSome_then}
-use Rattle.flow_d8.specs.Prelude.{Point, Dir, East, Flow, Unknown, step, terrain}
-use Rattle.flow_d8.specs.Filled.{is_deep}
-use Rattle.flow_d8.specs.Flows.{IsFlow}
-use Rattle.flow_d8.specs.Places.{IsInner, back_of, place_by}
 use Rattle.flow_d8.specs.Tiles.{count_of, place_of, by_of}
 use Rattle.flow_d8.proofs.Samples.DeepSteps.{deep_by, deep_inner_at}
 use Rattle.flow_d8.proofs.Sayings.Draining.{names_donor}

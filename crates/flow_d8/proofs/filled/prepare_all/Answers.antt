@@ -1,9 +1,7 @@
-use Rattle.std.proofs.Common.{◌≡◌, suc, ◌+◌, ◌<◌, [], ◌∷◌, ◌++◌, length, take, get_or, sym, ap, ap₂, ◌∙◌, subst, arith, List, Contains}
+use Rattle.flow_d8.proofs.Prelude.{AreTileFlows, Contains, List, [], ap, ap₂, arith, get_or, length, no_corner, subst, suc, sym, take, ◌++◌, ◌+◌, ◌<◌, ◌∙◌, ◌∷◌, ◌≡◌}
 use Rattle.std.proofs.Math.Seq.{take-suc}
 use Rattle.std.proofs.lemmas.List.Elements.{Contains-get_or}
 use Rattle.lattice.specs.Corners.{Corner}
-use Rattle.flow_d8.specs.FlowGrids.{AreTileFlows}
-use Rattle.flow_d8.specs.Tiles.{no_corner}
 use Rattle.flow_d8.proofs.Samples.GridFacts.{grid_push}
 use Rattle.flow_d8.proofs.filled.prepare_all.Goals as goal
 

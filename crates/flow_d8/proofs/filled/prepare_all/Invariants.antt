@@ -1,8 +1,5 @@
-use Rattle.std.proofs.Common.{◌≡◌, take}
+use Rattle.flow_d8.proofs.Prelude.{IsFilledOf, IsGridOf, filled_of, take, ◌≡◌}
 use Rattle.lattice.specs.Mosaic.{Mosaic, IsMosaic}
-use Rattle.flow_d8.specs.Filled.{IsFilledOf}
-use Rattle.flow_d8.specs.FlowGrids.{IsGridOf}
-use Rattle.flow_d8.specs.Levels.{filled_of}
 use Rattle.flow_d8.proofs.filled.prepare_all.Given as goal
 
 abbrev pub invariant-loop-tile : goal.invariant-loop-tile

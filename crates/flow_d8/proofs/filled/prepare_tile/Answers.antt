@@ -1,9 +1,4 @@
-use Rattle.std.proofs.Common.{◌≡◌, IsTrue, get_or, sym, ◌∙◌, subst}
-use Rattle.flow_d8.specs.Prelude.{Corner, is_present}
-use Rattle.flow_d8.specs.FlowGrids.{AreTileFlows}
-use Rattle.flow_d8.specs.Levels.{filled_of}
-use Rattle.flow_d8.specs.Padded.{ArePadded, IsPaddedTile}
-use Rattle.flow_d8.specs.Tiles.{no_corner}
+use Rattle.flow_d8.proofs.Prelude.{ArePadded, AreTileFlows, Corner, IsPaddedTile, IsTrue, filled_of, get_or, is_present, no_corner, subst, sym, ◌∙◌, ◌≡◌}
 use Rattle.flow_d8.proofs.Mosaics.LevelsOf.{padded_is, tile_present}
 use Rattle.flow_d8.proofs.filled.prepare_tile.Goals as goal
 

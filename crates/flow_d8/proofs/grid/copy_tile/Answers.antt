@@ -1,8 +1,4 @@
-use Rattle.std.proofs.Common.{◌≡◌, ◌≢◌, ℕ, ◌+◌, ◌*◌, ◌/◌, ◌<◌, List, length, get_or, set, inl, inr, sym, ap, ◌∙◌, arith}
-use Rattle.std.proofs.lemmas.Bool.{cases_eq}
-use Rattle.std.proofs.lemmas.List.{get_or-set_same, get_or-set_other, length-set}
-use Rattle.std.proofs.lemmas.Nat.{div-mul-add}
-use Rattle.flow_d8.specs.Prelude.{Flow, Unknown}
+use Rattle.flow_d8.proofs.Prelude.{Flow, List, Unknown, ℕ, ap, arith, cases_eq, div-mul-add, get_or, get_or-set_other, get_or-set_same, inl, inr, length, length-set, set, sym, ◌*◌, ◌+◌, ◌/◌, ◌<◌, ◌∙◌, ◌≡◌, ◌≢◌}
 use Rattle.flow_d8.proofs.grid.copy_tile.Goals as goal
 
 pub loop-i-preserved : goal.loop-i-preserved

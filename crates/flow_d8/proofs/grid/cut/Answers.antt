@@ -1,7 +1,5 @@
-use Rattle.std.proofs.Common.{◌≡◌, ℕ, ◌+◌, ◌*◌, ◌<◌, ◌≤◌, List, ◌++◌, length, take, drop, get_or, ap, ◌∙◌, subst, arith}
-use Rattle.std.proofs.lemmas.Grind.{rows}
+use Rattle.flow_d8.proofs.Prelude.{Flow, List, Unknown, ℕ, ap, arith, drop, get_or, length, rows, subst, take, ◌*◌, ◌++◌, ◌+◌, ◌<◌, ◌∙◌, ◌≡◌, ◌≤◌}
 use Rattle.std.proofs.lemmas.List.{get_or-take, length-take-le, with_items_is}
-use Rattle.flow_d8.specs.Prelude.{Flow, Unknown}
 use Rattle.flow_d8.proofs.grid.cut.Goals as goal
 
 within : (k e count a : ℕ) → k < count → e < a → k * a + e < count * a

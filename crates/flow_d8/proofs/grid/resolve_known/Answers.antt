@@ -1,9 +1,7 @@
-use Rattle.std.proofs.Common.{◌<◌, length, get_or, inl, inr, sym, ◌∙◌, subst, arith}
+use Rattle.flow_d8.proofs.Prelude.{IsFlow, arith, count_of, get_or, inl, inr, length, subst, sym, ◌<◌, ◌∙◌}
 use Rattle.flow_d8.specs.Filled.{number_of}
-use Rattle.flow_d8.specs.Flows.{IsFlow}
 use Rattle.flow_d8.specs.declared.flow.Flow.TheVariants.{Unknown}
 use Rattle.flow_d8.specs.Resolution.{IsOutcome, IsMetOnGround}
-use Rattle.flow_d8.specs.Tiles.{count_of}
 use Rattle.flow_d8.proofs.Samples.AtHand.{at_hand_below, sample_at_hand}
 use Rattle.flow_d8.proofs.Sayings.Draining.{drains_at, resolved_sample, known_still}
 use Rattle.flow_d8.proofs.Samples.TilePlaces.{place_number}

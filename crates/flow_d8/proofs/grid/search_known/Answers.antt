@@ -1,7 +1,5 @@
-use Rattle.std.proofs.Common.{◌≡◌, ◌<◌, IsTrue, length, sym, subst, arith, IfSome, slice_index_or}
-use Rattle.flow_d8.specs.Prelude.{step, Unknown}
+use Rattle.flow_d8.proofs.Prelude.{IfSome, IsTrue, LiesInside, Unknown, arith, length, slice_index_or, step, subst, sym, ◌<◌, ◌≡◌}
 use Rattle.flow_d8.specs.Filled.{number_of}
-use Rattle.flow_d8.specs.Flows.{LiesInside}
 use Rattle.flow_d8.specs.Resolution.{IsMissing}
 use Rattle.flow_d8.specs.Tiles.{place_of, by_of}
 use Rattle.flow_d8.proofs.Samples.AtHand.{at_hand_below}

@@ -1,6 +1,4 @@
-use Rattle.std.proofs.Common.{◌≡◌, ◌<◌, slice_index_or}
-use Rattle.flow_d8.specs.Prelude.{Dir, order_of, void}
-use Rattle.flow_d8.specs.Places.{place_by}
+use Rattle.flow_d8.proofs.Prelude.{Dir, order_of, place_by, slice_index_or, void, ◌<◌, ◌≡◌}
 use Rattle.flow_d8.proofs.local_flow.gap.Given as goal
 
 abbrev pub invariant-loop-i : goal.invariant-loop-i

@@ -1,9 +1,4 @@
-use Rattle.std.proofs.Common.{◌≡◌, ◌↔◌, ◌<◌, ℤ, ◌≤ℤ◌, ◌<ℤ◌, Bool, false, IsTrue, IsFalse, inl, inr, sym, ◌∙◌, arith, true≢false, subst, w16, to_z, of_z, slice_index_or, if◌then◌else◌}
-use Rattle.std.specs.Int.Signed.{mag}
-use Rattle.std.proofs.lemmas.Bool.{cases_Bool, cond-true, cond-false}
-use Rattle.std.proofs.lemmas.Int.{ints, to_z-of_z}
-use Rattle.flow_d8.specs.Prelude.{Point, Dir, Terrain, void}
-use Rattle.flow_d8.specs.LevelGrid.{level_beside, IsLevelGrid}
+use Rattle.flow_d8.proofs.Prelude.{Bool, Dir, IsFalse, IsLevelGrid, IsTrue, Point, Terrain, ℤ, arith, cases_Bool, cond-false, cond-true, false, if◌then◌else◌, inl, inr, ints, level_beside, mag, of_z, slice_index_or, subst, sym, to_z, to_z-of_z, true≢false, void, w16, ◌<ℤ◌, ◌<◌, ◌↔◌, ◌∙◌, ◌≡◌, ◌≤ℤ◌}
 use Rattle.flow_d8.proofs.Steps.SteepestStep.{none_lower, all_beside, beside_void, beside_level, steepest_of_all, none_of_all}
 use Rattle.flow_d8.proofs.local_flow.local_flow_at.Goals as goal
 

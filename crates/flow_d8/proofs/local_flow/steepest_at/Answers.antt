@@ -1,5 +1,4 @@
-use Rattle.std.proofs.Common.{◌≡◌, w16, to_z, of_z, sym, ◌∙◌}
-use Rattle.std.proofs.lemmas.Int.{to_z-of_z}
+use Rattle.flow_d8.proofs.Prelude.{of_z, sym, to_z, to_z-of_z, w16, ◌∙◌, ◌≡◌}
 use Rattle.lattice.specs.declared.direction.Dir.TheVariants.{East, SouthEast, South, SouthWest, West, NorthWest, North, NorthEast}
 use Rattle.flow_d8.proofs.Steps.SteepestStep.{begun}
 use Rattle.flow_d8.proofs.local_flow.steepest_at.Goals as goal

@@ -1,7 +1,4 @@
-use Rattle.std.proofs.Common.{inl, inr, ⊎_elim, ap, ◌∙◌, subst, arith, slice_index_or}
-use Rattle.std.proofs.lemmas.Bool.{cases_eq}
-use Rattle.flow_d8.specs.Marks.{mark_at, IsIn, no_run}
-use Rattle.flow_d8.specs.declared.marks.Run.{Run}
+use Rattle.flow_d8.proofs.Prelude.{IsIn, Run, ap, arith, cases_eq, inl, inr, mark_at, no_run, slice_index_or, subst, ⊎_elim, ◌∙◌}
 use Rattle.flow_d8.proofs.Waves.Runs.{in_or_not}
 use Rattle.flow_d8.proofs.marks.clear.Goals as goal
 

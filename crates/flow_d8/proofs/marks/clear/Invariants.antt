@@ -1,5 +1,4 @@
-use Rattle.std.proofs.Common.{◌≡◌, ℕ, ◌<◌, ◌≤◌, length, slice_index_or}
-use Rattle.flow_d8.specs.Marks.{IsMember, IsIn, no_run}
+use Rattle.flow_d8.proofs.Prelude.{IsIn, IsMember, ℕ, length, no_run, slice_index_or, ◌<◌, ◌≡◌, ◌≤◌}
 use Rattle.flow_d8.proofs.marks.clear.Given as goal
 
 abbrev pub invariant-loop-i : goal.invariant-loop-i

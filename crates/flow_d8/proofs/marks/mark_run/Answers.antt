@@ -1,8 +1,4 @@
-use Rattle.std.proofs.Common.{◌≡◌, ◌-◌, ◌<◌, ◌≤◌, length, inl, inr, ap, ◌∙◌, arith}
-use Rattle.std.proofs.lemmas.Bool.{cases_eq}
-use Rattle.std.proofs.lemmas.List.{get_or-set_same, get_or-set_other, length-set}
-use Rattle.std.proofs.lemmas.List.Sums.{sum_by-set}
-use Rattle.flow_d8.specs.Marks.{mark_at}
+use Rattle.flow_d8.proofs.Prelude.{ap, arith, cases_eq, get_or-set_other, get_or-set_same, inl, inr, length, length-set, mark_at, sum_by-set, ◌-◌, ◌<◌, ◌∙◌, ◌≡◌, ◌≤◌}
 use Rattle.flow_d8.proofs.marks.mark_run.Goals as goal
 
 pub loop-k-preserved : goal.loop-k-preserved

@@ -1,5 +1,4 @@
-use Rattle.std.proofs.Common.{◌≡◌, ℕ, ◌+◌, ◌-◌, ◌<◌, ◌≤◌, length, sum}
-use Rattle.flow_d8.specs.Marks.{mark_at, IsIn}
+use Rattle.flow_d8.proofs.Prelude.{IsIn, ℕ, length, mark_at, sum, ◌+◌, ◌-◌, ◌<◌, ◌≡◌, ◌≤◌}
 use Rattle.flow_d8.proofs.marks.mark_run.Given as goal
 
 abbrev pub invariant-loop-k : goal.invariant-loop-k

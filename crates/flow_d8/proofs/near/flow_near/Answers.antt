@@ -1,10 +1,6 @@
-use Rattle.std.proofs.Common.{◌≡◌, ℤ, IsTrue, inl, inr, ⊎_elim, refl, sym, ◌∙◌, subst, true≢false}
-use Rattle.std.proofs.lemmas.Bool.{cases_Bool, cond-true, cond-false}
-use Rattle.flow_d8.specs.Prelude.{terrain, is_ground, is_sink, Mosaic, Point, Flow, Unknown, NoGround, Outlet, To, Flat}
+use Rattle.flow_d8.proofs.Prelude.{Flat, Flow, IsFlowNear, IsLocal, IsTrue, Mosaic, NoGround, Outlet, Point, To, Unknown, ℤ, cases_Bool, cond-false, cond-true, inl, inr, is_ground, is_sink, refl, subst, sym, terrain, true≢false, ⊎_elim, ◌∙◌, ◌≡◌}
 use Rattle.flow_d8.proofs.Steps.Nearby.{level_grid}
 use Rattle.flow_d8.proofs.Mosaics.PointFlows.{edge_off, inner_is}
-use Rattle.flow_d8.specs.Flows.{IsFlowNear}
-use Rattle.flow_d8.specs.Preparing.{IsLocal}
 use Rattle.flow_d8.proofs.near.flow_near.Goals as goal
 
 -- what the levels around a ground point tell of it, but that it lies on a flat

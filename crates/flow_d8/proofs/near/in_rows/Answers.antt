@@ -1,7 +1,4 @@
-use Rattle.std.proofs.Common.{rules, SFits, w16, to_z, of_z, ◌≡◌, ℤ, None, sym, ap, ◌∙◌, slice_index_or}
-use Rattle.std.proofs.lemmas.Int.{to_z-of_z}
-use Rattle.std.proofs.lemmas.Bool.{cond-true}
-use Rattle.flow_d8.specs.Prelude.{East, SouthEast, South, SouthWest, West, NorthWest, North, NorthEast, void}
+use Rattle.flow_d8.proofs.Prelude.{East, None, North, NorthEast, NorthWest, SFits, South, SouthEast, SouthWest, West, ℤ, ap, cond-true, of_z, rules, slice_index_or, sym, to_z, to_z-of_z, void, w16, ◌∙◌, ◌≡◌}
 use Rattle.flow_d8.proofs.Steps.ThreeRows.{rows_shown, beside_read}
 use Rattle.flow_d8.proofs.near.in_rows.Goals as goal
 

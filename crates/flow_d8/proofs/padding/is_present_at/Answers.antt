@@ -1,8 +1,5 @@
-use Rattle.std.proofs.Common.{◌≡◌, ℤ, false, IsTrue, w16, to_z, of_z, sym, ap, ap₂, ◌∙◌, subst}
-use Rattle.std.specs.List.{list_any}
-use Rattle.std.proofs.lemmas.Int.{to_z-of_z}
+use Rattle.flow_d8.proofs.Prelude.{IsTrue, ℤ, ap, ap₂, false, filled_of, list_any, of_z, subst, sym, to_z, to_z-of_z, w16, ◌∙◌, ◌≡◌}
 use Rattle.lattice.specs.Corners.{Corner, is_corner, same_corner}
-use Rattle.flow_d8.specs.Levels.{filled_of}
 use Rattle.flow_d8.proofs.Mosaics.LevelsOf.{has_tile, no_such_corner}
 use Rattle.flow_d8.proofs.padding.is_present_at.Goals as goal
 

@@ -1,9 +1,6 @@
-use Rattle.std.proofs.Common.{◌≤◌, [], length, get_or, w16, to_z, of_z, sym, ap, ◌∙◌, arith}
-use Rattle.std.proofs.lemmas.Int.{to_z-of_z}
-use Rattle.std.proofs.lemmas.List.{get_or_past}
+use Rattle.flow_d8.proofs.Prelude.{[], ap, arith, filled_of, get_or, get_or_past, length, of_z, sym, to_z, to_z-of_z, w16, ◌∙◌, ◌≤◌}
 use Rattle.lattice.specs.Mosaic.{void}
 use Rattle.flow_d8.specs.Filled.{number_of}
-use Rattle.flow_d8.specs.Levels.{filled_of}
 use Rattle.flow_d8.proofs.Mosaics.LevelsOf.{level_by, any_sinks}
 use Rattle.flow_d8.proofs.padding.level_at.Goals as goal
 

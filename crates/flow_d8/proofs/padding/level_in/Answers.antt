@@ -1,8 +1,4 @@
-use Rattle.std.proofs.Common.{get_or, w16, sym, ap₂, ◌∙◌, subst}
-use Rattle.std.proofs.lemmas.Int.{to_z-of_z}
-use Rattle.flow_d8.specs.Levels.{filled_of, IsLevelIn}
-use Rattle.flow_d8.specs.Padded.{padded_point}
-use Rattle.flow_d8.specs.Tiles.{no_corner}
+use Rattle.flow_d8.proofs.Prelude.{IsLevelIn, ap₂, filled_of, get_or, no_corner, padded_point, subst, sym, to_z-of_z, w16, ◌∙◌}
 use Rattle.flow_d8.proofs.padding.level_in.Goals as goal
 
 pub returns : goal.returns

@@ -1,11 +1,5 @@
-use Rattle.std.proofs.Common.{◌≡◌, ◌+◌, ◌/◌, ◌%◌, [], ◌∷◌, ◌++◌, length, get_or, w16, to_z, of_z, inl, inr, sym, ap, ◌∙◌, subst, arith}
-use Rattle.std.proofs.lemmas.Int.{to_z-of_z}
-use Rattle.std.proofs.lemmas.Bool.{cases_lt}
-use Rattle.std.proofs.lemmas.List.{get_or-append-add, get_or_append_left, length-append}
+use Rattle.flow_d8.proofs.Prelude.{IsLevelIn, [], ap, arith, cases_lt, filled_of, get_or, get_or-append-add, get_or_append_left, inl, inr, length, length-append, no_corner, of_z, padded_point, subst, sym, to_z, to_z-of_z, w16, ◌%◌, ◌++◌, ◌+◌, ◌/◌, ◌∙◌, ◌∷◌, ◌≡◌}
 use Rattle.lattice.specs.Mosaic.{void}
-use Rattle.flow_d8.specs.Levels.{filled_of, IsLevelIn}
-use Rattle.flow_d8.specs.Padded.{padded_point}
-use Rattle.flow_d8.specs.Tiles.{no_corner}
 use Rattle.flow_d8.proofs.padding.padded_levels.Goals as goal
 
 pub loop-place-preserved : goal.loop-place-preserved

@@ -1,7 +1,5 @@
-use Rattle.std.proofs.Common.{◌≡◌, length, get_or, List}
+use Rattle.flow_d8.proofs.Prelude.{ArePaddedTo, List, filled_of, get_or, length, no_corner, ◌≡◌}
 use Rattle.lattice.specs.declared.point.Point.{Point}
-use Rattle.flow_d8.specs.Levels.{filled_of, ArePaddedTo}
-use Rattle.flow_d8.specs.Tiles.{no_corner}
 use Rattle.flow_d8.proofs.padding.padded_levels.Given as goal
 
 abbrev pub invariant-loop-place : goal.invariant-loop-place

@@ -1,10 +1,4 @@
-use Rattle.std.proofs.Common.{◌≡◌, ℤ, ◌<◌, pos, negsuc, ◌+ℤ◌, ◌-ℤ◌, ◌≤ℤ◌, ◌&&◌, IsTrue, w16, to_z, of_z, ap, ap₂, ◌∙◌, arith, int_le}
-use Rattle.std.specs.Int.Signed.{mag}
-use Rattle.std.proofs.lemmas.Bool.{and_parts}
-use Rattle.std.proofs.lemmas.Int.{ints, to_z-of_z}
-use Rattle.flow_d8.specs.Prelude.{Corner, is_corner, is_present}
-use Rattle.lattice.proofs.IntTests.{le_true}
-use Rattle.flow_d8.specs.Padded.{north_of_tile, east_of_tile, south_of_tile, west_of_tile}
+use Rattle.flow_d8.proofs.Prelude.{Corner, IsTrue, ℤ, and_parts, ap, ap₂, arith, east_of_tile, int_le, ints, is_corner, is_present, le_true, mag, negsuc, north_of_tile, of_z, pos, south_of_tile, to_z, to_z-of_z, w16, west_of_tile, ◌&&◌, ◌+ℤ◌, ◌-ℤ◌, ◌<◌, ◌∙◌, ◌≡◌, ◌≤ℤ◌}
 use Rattle.flow_d8.proofs.padding.sides.Goals as goal
 
 small : (a : ℤ) → negsuc 1000 ≤ℤ a → a ≤ℤ pos 1000 → mag a < 32768

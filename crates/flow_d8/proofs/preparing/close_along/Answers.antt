@@ -1,7 +1,4 @@
-use Rattle.std.proofs.Common.{◌≡◌, ℕ, ◌+◌, ◌-◌, ◌*◌, ℤ, false, List, sym, ap₂, subst, arith}
-use Rattle.flow_d8.specs.Prelude.{Dir, East, South, West, North, Flow}
-use Rattle.flow_d8.specs.declared.preparing.Sides.{Sides}
-use Rattle.flow_d8.specs.Preparing.{flow_in, IsClosedAt, along_of, IsClosedFlow, IsClosing}
+use Rattle.flow_d8.proofs.Prelude.{Dir, East, Flow, IsClosedAt, IsClosedFlow, IsClosing, List, North, Sides, South, West, ℕ, ℤ, along_of, ap₂, arith, false, flow_in, subst, sym, ◌*◌, ◌+◌, ◌-◌, ◌≡◌}
 use Rattle.flow_d8.proofs.Padded.Closing.{closed_still}
 use Rattle.flow_d8.proofs.preparing.close_along.Goals as goal
 

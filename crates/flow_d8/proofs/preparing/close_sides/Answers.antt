@@ -1,8 +1,4 @@
-use Rattle.std.proofs.Common.{ℕ, ◌<◌, ◌*◌, ◌+◌, inl, inr, arith}
-use Rattle.std.proofs.lemmas.Bool.{cases_lt}
-use Rattle.flow_d8.specs.Preparing.{IsClosedAt, along_of}
-use Rattle.flow_d8.specs.declared.preparing.Sides.{Sides}
-use Rattle.flow_d8.specs.Prelude.{Dir, SouthEast, SouthWest, NorthWest, NorthEast}
+use Rattle.flow_d8.proofs.Prelude.{Dir, IsClosedAt, NorthEast, NorthWest, Sides, SouthEast, SouthWest, ℕ, along_of, arith, cases_lt, inl, inr, ◌*◌, ◌+◌, ◌<◌}
 use Rattle.flow_d8.proofs.Padded.Closing.{closing_on, closed_still}
 use Rattle.flow_d8.proofs.preparing.close_sides.Goals as goal
 

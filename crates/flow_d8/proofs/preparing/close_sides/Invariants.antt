@@ -1,6 +1,5 @@
-use Rattle.std.proofs.Common.{ℕ, ◌+◌, ◌*◌, ◌<◌}
+use Rattle.flow_d8.proofs.Prelude.{IsClosedAt, IsClosedFlow, IsClosing, ℕ, along_of, flow_in, ◌*◌, ◌+◌, ◌<◌}
 use Rattle.lattice.specs.declared.direction.Dir.{Dir}
-use Rattle.flow_d8.specs.Preparing.{flow_in, IsClosing, IsClosedAt, along_of, IsClosedFlow}
 use Rattle.flow_d8.proofs.preparing.close_sides.Given as goal
 
 abbrev pub invariant-loop-i : goal.invariant-loop-i

@@ -1,7 +1,4 @@
-use Rattle.std.proofs.Common.{◌+◌, ◌*◌, ◌<◌, length, refl, sym, subst, arith, slice_set}
-use Rattle.std.proofs.lemmas.List.{get_or-set_same}
-use Rattle.std.proofs.lemmas.Nat.{mul-add-lt}
-use Rattle.flow_d8.specs.Places.{IsInner}
+use Rattle.flow_d8.proofs.Prelude.{IsInner, arith, get_or-set_same, length, mul-add-lt, refl, slice_set, subst, sym, ◌*◌, ◌+◌, ◌<◌}
 use Rattle.flow_d8.specs.declared.flow.Flow.TheVariants.{Unknown}
 use Rattle.flow_d8.specs.Preparing.{flow_in, IsClosedFlow, IsFlowWithout}
 use Rattle.flow_d8.proofs.Padded.PaddedPlaces.{inner_at}

@@ -1,9 +1,5 @@
-use Rattle.std.proofs.Common.{◌≡◌, ◌∙◌, ◌<◌, length, inl, inr, refl, sym, ap, subst, true≢false, slice_set}
-use Rattle.std.proofs.lemmas.Bool.{cases_eq}
-use Rattle.std.proofs.lemmas.List.{length-set, get_or-set_other, get_or-set_same}
+use Rattle.flow_d8.proofs.Prelude.{IsOfFlat, IsSinkPlace, ap, cases_eq, flow_in, get_or-set_other, get_or-set_same, inl, inr, length, length-set, refl, slice_set, subst, sym, true≢false, ◌<◌, ◌∙◌, ◌≡◌}
 use Rattle.flow_d8.specs.declared.flow.Flow.TheVariants.{Unknown, Outlet, Flat}
-use Rattle.flow_d8.specs.Flows.{IsOfFlat}
-use Rattle.flow_d8.specs.Preparing.{flow_in, IsSinkPlace}
 use Rattle.flow_d8.proofs.Padded.PaddedPlaces.{sink_below}
 use Rattle.flow_d8.proofs.preparing.drain.Goals as goal
 

@@ -1,5 +1,4 @@
-use Rattle.std.proofs.Common.{sym, subst, arith}
-use Rattle.flow_d8.specs.Preparing.{IsSinkPlace}
+use Rattle.flow_d8.proofs.Prelude.{IsSinkPlace, arith, subst, sym}
 use Rattle.flow_d8.proofs.preparing.drain_sinks.Goals as goal
 
 pub returns : goal.returns

@@ -1,6 +1,4 @@
-use Rattle.std.proofs.Common.{◌≡◌, ◌⊎◌, ℕ, ◌<◌, length, get_or}
-use Rattle.flow_d8.specs.Prelude.{Point, Outlet, Flat}
-use Rattle.flow_d8.specs.Preparing.{flow_in, IsSinkPlace, HasSink}
+use Rattle.flow_d8.proofs.Prelude.{Flat, HasSink, IsSinkPlace, Outlet, Point, ℕ, flow_in, get_or, length, ◌<◌, ◌≡◌, ◌⊎◌}
 use Rattle.flow_d8.proofs.preparing.drain_sinks.Given as goal
 
 abbrev pub invariant-loop-i : goal.invariant-loop-i

@@ -1,5 +1,4 @@
-use Rattle.std.proofs.Common.{refl, inl, subst}
-use Rattle.flow_d8.specs.Preparing.{IsEnd}
+use Rattle.flow_d8.proofs.Prelude.{IsEnd, inl, refl, subst}
 use Rattle.flow_d8.proofs.preparing.flat_flow.Goals as goal
 
 pub returns-then-are_flat_around : goal.returns-then-are_flat_around

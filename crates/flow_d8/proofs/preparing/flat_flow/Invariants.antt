@@ -1,6 +1,4 @@
-use Rattle.std.proofs.Common.{◌<◌}
-use Rattle.flow_d8.specs.Prelude.{order_of, Dir}
-use Rattle.flow_d8.specs.Preparing.{IsEndBeside}
+use Rattle.flow_d8.proofs.Prelude.{Dir, IsEndBeside, order_of, ◌<◌}
 use Rattle.flow_d8.proofs.preparing.flat_flow.Given as goal
 
 abbrev pub invariant-loop-i : goal.invariant-loop-i

@@ -1,5 +1,4 @@
-use Rattle.std.proofs.Common.{sym, subst, true≢false}
-use Rattle.flow_d8.specs.Preparing.{IsEnd}
+use Rattle.flow_d8.proofs.Prelude.{IsEnd, subst, sym, true≢false}
 use Rattle.flow_d8.proofs.preparing.leads_to_end.Goals as goal
 
 pub returns-then-is_flat : goal.returns-then-is_flat

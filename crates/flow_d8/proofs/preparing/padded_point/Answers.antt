@@ -1,5 +1,4 @@
-use Rattle.std.proofs.Common.{◌≡◌, ◌∙◌, ℤ, SFits, w32, to_z, of_z, pos, ◌+ℤ◌, ◌-ℤ◌, ap₂, arith, rules}
-use Rattle.std.proofs.lemmas.Int.{ints, to_z-of_z}
+use Rattle.flow_d8.proofs.Prelude.{SFits, ℤ, ap₂, arith, ints, of_z, pos, rules, to_z, to_z-of_z, w32, ◌+ℤ◌, ◌-ℤ◌, ◌∙◌, ◌≡◌}
 use Rattle.flow_d8.proofs.Padded.PaddedPlaces.{IsFirst, is_first, first_small, point_from}
 use Rattle.flow_d8.proofs.preparing.padded_point.Goals as goal
 

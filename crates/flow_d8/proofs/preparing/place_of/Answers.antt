@@ -1,6 +1,4 @@
-use Rattle.std.proofs.Common.{◌≡◌, ℕ, ◌+◌, ◌*◌, ◌+ℤ◌, ◌-ℤ◌, pos, SFits, w32, sym, subst, arith, rules}
-use Rattle.std.proofs.lemmas.Int.{ints, to_z-of_z}
-use Rattle.flow_d8.specs.Preparing.{IsSinkPlace}
+use Rattle.flow_d8.proofs.Prelude.{IsSinkPlace, SFits, ℕ, arith, ints, pos, rules, subst, sym, to_z-of_z, w32, ◌*◌, ◌+ℤ◌, ◌+◌, ◌-ℤ◌, ◌≡◌}
 use Rattle.flow_d8.proofs.Padded.PaddedPlaces.{IsFirst, is_first, sink_row, sink_column, sink_from, one_sink}
 use Rattle.flow_d8.proofs.preparing.place_of.Goals as goal
 

@@ -1,6 +1,4 @@
-use Rattle.std.proofs.Common.{◌≡◌, ◌∙◌, ◌*◌, ◌++◌, length, take, drop, sym, ap, subst, rules}
-use Rattle.flow_d8.specs.FlowGrids.{AreTileFlows}
-use Rattle.flow_d8.specs.Preparing.{AreEnded, IsClosing}
+use Rattle.flow_d8.proofs.Prelude.{AreEnded, AreTileFlows, IsClosing, ap, drop, length, rules, subst, sym, take, ◌*◌, ◌++◌, ◌∙◌, ◌≡◌}
 use Rattle.flow_d8.proofs.Padded.Closing.{vec_back}
 use Rattle.flow_d8.proofs.Padded.Prepared.{tile_of_side}
 use Rattle.flow_d8.proofs.preparing.prepare.Goals as goal

@@ -1,10 +1,5 @@
-use Rattle.std.proofs.Common.{◌≡◌, ◌∙◌, ◌+◌, ◌*◌, ◌/◌, ◌%◌, ◌<◌, [], ◌∷◌, ◌++◌, length, inl, inr, sym, ap, ap₂, subst, arith}
-use Rattle.std.proofs.lemmas.Bool.{cases_lt}
-use Rattle.std.proofs.lemmas.List.{get_or-append-add, get_or_append_left, length-append}
-use Rattle.std.proofs.lemmas.Nat.{div-mul-add, mod-mul-add}
-use Rattle.flow_d8.specs.Places.{IsInner}
+use Rattle.flow_d8.proofs.Prelude.{IsEnded, IsInner, [], ap, ap₂, arith, cases_lt, div-mul-add, flow_in, get_or-append-add, get_or_append_left, inl, inr, length, length-append, mod-mul-add, place_in, subst, sym, ◌%◌, ◌*◌, ◌++◌, ◌+◌, ◌/◌, ◌<◌, ◌∙◌, ◌∷◌, ◌≡◌}
 use Rattle.flow_d8.specs.declared.flow.Flow.TheVariants.{Unknown}
-use Rattle.flow_d8.specs.Preparing.{flow_in, IsEnded, place_in}
 use Rattle.flow_d8.proofs.Padded.PaddedPlaces.{inner_at}
 use Rattle.flow_d8.proofs.preparing.tell_row.Goals as goal
 

@@ -1,5 +1,4 @@
-use Rattle.std.proofs.Common.{◌≡◌, ◌+◌, ◌*◌, length}
-use Rattle.flow_d8.specs.Preparing.{AreEnded}
+use Rattle.flow_d8.proofs.Prelude.{AreEnded, length, ◌*◌, ◌+◌, ◌≡◌}
 use Rattle.flow_d8.proofs.preparing.tell_row.Given as goal
 
 abbrev pub invariant-loop-column : goal.invariant-loop-column

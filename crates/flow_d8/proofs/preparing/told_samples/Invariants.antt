@@ -1,5 +1,4 @@
-use Rattle.std.proofs.Common.{◌≡◌, ◌*◌, length}
-use Rattle.flow_d8.specs.Preparing.{AreEnded}
+use Rattle.flow_d8.proofs.Prelude.{AreEnded, length, ◌*◌, ◌≡◌}
 use Rattle.flow_d8.proofs.preparing.told_samples.Given as goal
 
 abbrev pub invariant-loop-row : goal.invariant-loop-row

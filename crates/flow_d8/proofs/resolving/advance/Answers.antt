@@ -1,8 +1,4 @@
-use Rattle.std.proofs.Common.{◌≡◌, ◌<◌, get_or, inl, inr, sym, subst, arith}
-use Rattle.std.proofs.lemmas.Bool.{cases_eq}
-use Rattle.flow_d8.specs.Prelude.{order_of}
-use Rattle.flow_d8.specs.Places.{back_of}
-use Rattle.flow_d8.specs.Marks.{mark_at, IsBack}
+use Rattle.flow_d8.proofs.Prelude.{IsBack, arith, back_of, cases_eq, get_or, inl, inr, mark_at, order_of, subst, sym, ◌<◌, ◌≡◌}
 use Rattle.flow_d8.specs.Tiles.{by_of}
 use Rattle.flow_d8.proofs.Steps.Compass.{dir_at_place, order_at, order_below}
 use Rattle.flow_d8.proofs.Steps.StepBack.{back_twice}

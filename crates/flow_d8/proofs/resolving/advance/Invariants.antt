@@ -1,9 +1,5 @@
-use Rattle.std.proofs.Common.{◌≡◌, ℕ, ◌<◌, length, slice_index_or}
-use Rattle.flow_d8.specs.Prelude.{Dir, order_of}
-use Rattle.flow_d8.specs.Places.{back_of}
+use Rattle.flow_d8.proofs.Prelude.{Advances, Dir, ℕ, back_of, length, mark_at, order_of, slice_index_or, ◌<◌, ◌≡◌}
 use Rattle.flow_d8.specs.Tiles.{by_of}
-use Rattle.flow_d8.specs.Marks.{mark_at}
-use Rattle.flow_d8.specs.Rounds.{Advances}
 use Rattle.flow_d8.proofs.resolving.advance.Given as goal
 
 abbrev pub invariant-loop-i : goal.invariant-loop-i

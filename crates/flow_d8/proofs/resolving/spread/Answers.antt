@@ -1,6 +1,4 @@
-use Rattle.std.proofs.Common.{refl, sym, ◌∙◌, subst, arith}
-use Rattle.flow_d8.specs.Marks.{Lists}
-use Rattle.flow_d8.specs.Rounds.{IsPassed}
+use Rattle.flow_d8.proofs.Prelude.{IsPassed, Lists, arith, refl, subst, sym, ◌∙◌}
 use Rattle.flow_d8.proofs.Waves.Advancing.{waves_begun, round_on, so_on, tells, waves_on, all_named}
 use Rattle.flow_d8.proofs.Samples.TwinFlows.{tells_same, tells_on}
 use Rattle.flow_d8.specs.Tiles.{by_of}

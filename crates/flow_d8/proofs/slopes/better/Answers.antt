@@ -1,5 +1,4 @@
-use Rattle.std.proofs.Common.{rules, SFits, w16, to_z, of_z, sym, ◌∙◌}
-use Rattle.std.proofs.lemmas.Int.{to_z-of_z}
+use Rattle.flow_d8.proofs.Prelude.{SFits, of_z, rules, sym, to_z, to_z-of_z, w16, ◌∙◌}
 use Rattle.flow_d8.proofs.Steps.SteepestStep.{taken_shown, left_shown}
 use Rattle.flow_d8.proofs.slopes.better.Goals as goal
 

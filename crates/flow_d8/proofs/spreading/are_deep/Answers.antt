@@ -1,7 +1,4 @@
-use Rattle.std.proofs.Common.{◌≡◌, ℕ, ◌+◌, ◌*◌, ◌%◌, ◌++◌, ◌∷◌, [], false, length, get_or, inl, inr, sym, ap, ◌∙◌, arith}
-use Rattle.std.proofs.lemmas.Bool.{cases_eq}
-use Rattle.std.proofs.lemmas.List.{get_or_append_left, get_or-append-add, length-append}
-use Rattle.flow_d8.specs.Filled.{is_deep}
+use Rattle.flow_d8.proofs.Prelude.{ℕ, [], ap, arith, cases_eq, false, get_or, get_or-append-add, get_or_append_left, inl, inr, is_deep, length, length-append, sym, ◌%◌, ◌*◌, ◌++◌, ◌+◌, ◌∙◌, ◌∷◌, ◌≡◌}
 use Rattle.flow_d8.proofs.spreading.are_deep.Goals as goal
 
 pub loop-i-preserved : goal.loop-i-preserved

@@ -1,5 +1,4 @@
-use Rattle.std.proofs.Common.{sym, subst}
-use Rattle.flow_d8.specs.Marks.{Begins}
+use Rattle.flow_d8.proofs.Prelude.{Begins, subst, sym}
 use Rattle.flow_d8.proofs.Waves.Listing.{longer_of}
 use Rattle.flow_d8.proofs.Waves.Starting.{begins_same, begun_at}
 use Rattle.flow_d8.proofs.spreading.begin_at.Goals as goal

@@ -1,8 +1,5 @@
-use Rattle.std.proofs.Common.{◌≡◌, inl, inr, sym, subst, arith, slice_index_or}
-use Rattle.std.proofs.lemmas.Bool.{cases_eq}
+use Rattle.flow_d8.proofs.Prelude.{IsBeside, arith, cases_eq, inl, inr, mark_at, slice_index_or, subst, sym, ◌≡◌}
 use Rattle.flow_d8.specs.declared.flow.Flow.TheVariants.{Unknown}
-use Rattle.flow_d8.specs.Flows.{IsBeside}
-use Rattle.flow_d8.specs.Marks.{mark_at}
 use Rattle.flow_d8.proofs.Waves.Starting.{begins_same, begins_on, member_still, zero_on}
 use Rattle.flow_d8.proofs.spreading.begin_run.Goals as goal
 

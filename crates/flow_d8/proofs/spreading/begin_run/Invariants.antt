@@ -1,7 +1,5 @@
-use Rattle.std.proofs.Common.{◌≡◌, ℕ, ◌<◌, slice_index_or}
+use Rattle.flow_d8.proofs.Prelude.{Begins, IsBeside, IsIn, ℕ, mark_at, slice_index_or, ◌<◌, ◌≡◌}
 use Rattle.flow_d8.specs.declared.flow.Flow.TheVariants.{Unknown}
-use Rattle.flow_d8.specs.Flows.{IsBeside}
-use Rattle.flow_d8.specs.Marks.{mark_at, IsIn, Begins}
 use Rattle.flow_d8.proofs.spreading.begin_run.Given as goal
 
 abbrev pub invariant-loop-k : goal.invariant-loop-k

@@ -1,7 +1,4 @@
-use Rattle.std.proofs.Common.{length, inl, inr, ⊎_elim, ap, ◌∙◌, subst, arith, slice_index_or}
-use Rattle.std.proofs.lemmas.Bool.{cases_eq}
-use Rattle.flow_d8.specs.Marks.{IsIn, no_run}
-use Rattle.flow_d8.specs.declared.marks.Run.{Run}
+use Rattle.flow_d8.proofs.Prelude.{IsIn, Run, ap, arith, cases_eq, inl, inr, length, no_run, slice_index_or, subst, ⊎_elim, ◌∙◌}
 use Rattle.flow_d8.proofs.Waves.Starting.{begins_same, begins_on, member_still, zero_on, first_begun}
 use Rattle.flow_d8.proofs.spreading.first_wave.Goals as goal
 

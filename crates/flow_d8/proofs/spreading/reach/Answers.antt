@@ -1,9 +1,4 @@
-use Rattle.std.proofs.Common.{◌≡◌, get_or, inl, inr, refl, sym, ap, ◌∙◌, subst, set, arith}
-use Rattle.std.proofs.lemmas.Bool.{cases_eq}
-use Rattle.std.proofs.lemmas.List.{get_or-set_same}
-use Rattle.flow_d8.specs.Prelude.{FlatTo}
-use Rattle.flow_d8.specs.Places.{back_of}
-use Rattle.flow_d8.specs.Marks.{mark_at, Reaches}
+use Rattle.flow_d8.proofs.Prelude.{FlatTo, Reaches, ap, arith, back_of, cases_eq, get_or, get_or-set_same, inl, inr, mark_at, refl, set, subst, sym, ◌∙◌, ◌≡◌}
 use Rattle.flow_d8.specs.Tiles.{by_of}
 use Rattle.flow_d8.proofs.Steps.StepBack.{back_twice}
 use Rattle.flow_d8.proofs.Waves.Listing.{IsLonger, longer_of}

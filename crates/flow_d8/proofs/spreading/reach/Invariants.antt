@@ -1,7 +1,5 @@
-use Rattle.std.proofs.Common.{◌≡◌, ℕ, ◌<◌, slice_index_or}
-use Rattle.flow_d8.specs.Places.{back_of}
+use Rattle.flow_d8.proofs.Prelude.{Reaches, ℕ, back_of, mark_at, slice_index_or, ◌<◌, ◌≡◌}
 use Rattle.flow_d8.specs.Tiles.{by_of}
-use Rattle.flow_d8.specs.Marks.{mark_at, Reaches}
 use Rattle.flow_d8.proofs.spreading.reach.Given as goal
 
 abbrev pub invariant-loop-i : goal.invariant-loop-i

@@ -1,7 +1,4 @@
-use Rattle.std.proofs.Common.{inl, inr, ap, subst, arith, slice_index_or}
-use Rattle.std.proofs.lemmas.Bool.{cases_eq}
-use Rattle.flow_d8.specs.Marks.{IsIn, no_run}
-use Rattle.flow_d8.specs.declared.marks.Run.{Run}
+use Rattle.flow_d8.proofs.Prelude.{IsIn, Run, ap, arith, cases_eq, inl, inr, no_run, slice_index_or, subst}
 use Rattle.flow_d8.proofs.Samples.TwinFlows.{tells_on}
 use Rattle.flow_d8.proofs.telling.tell.Goals as goal
 

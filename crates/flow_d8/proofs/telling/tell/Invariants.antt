@@ -1,8 +1,4 @@
-use Rattle.std.proofs.Common.{ℕ, ℤ, ◌<◌, slice_index_or}
-use Rattle.flow_d8.specs.Prelude.{Point, Terrain, Unknown}
-use Rattle.flow_d8.specs.Flows.{IsOfFlat, IsTold, AreFlows}
-use Rattle.flow_d8.specs.Marks.{IsIn, no_run}
-use Rattle.flow_d8.specs.Rounds.{Tells}
+use Rattle.flow_d8.proofs.Prelude.{AreFlows, IsIn, IsOfFlat, IsTold, Point, Tells, Terrain, Unknown, ℕ, ℤ, no_run, slice_index_or, ◌<◌}
 use Rattle.flow_d8.specs.Tiles.{place_of, IsSampleOf}
 use Rattle.flow_d8.proofs.telling.tell.Given as goal
 

@@ -1,5 +1,4 @@
-use Rattle.std.proofs.Common.{◌/◌, ◌*◌, length, inl, inr, arith}
-use Rattle.std.proofs.lemmas.Bool.{cases_eq}
+use Rattle.flow_d8.proofs.Prelude.{arith, cases_eq, inl, inr, length, ◌*◌, ◌/◌}
 use Rattle.flow_d8.proofs.Samples.Numbers.{tile_below}
 use Rattle.flow_d8.proofs.Samples.TilePlaces.{square_some}
 use Rattle.flow_d8.proofs.Samples.TwinFlows.{tells_on}

@@ -1,7 +1,4 @@
-use Rattle.std.proofs.Common.{ℕ, ℤ, ◌<◌, ◌/◌, ◌*◌, slice_index_or}
-use Rattle.flow_d8.specs.Prelude.{Point, Terrain, Unknown}
-use Rattle.flow_d8.specs.Flows.{IsOfFlat, IsTold, IsFlow, AreFlows}
-use Rattle.flow_d8.specs.Rounds.{Tells}
+use Rattle.flow_d8.proofs.Prelude.{AreFlows, IsFlow, IsOfFlat, IsTold, Point, Tells, Terrain, Unknown, ℕ, ℤ, slice_index_or, ◌*◌, ◌/◌, ◌<◌}
 use Rattle.flow_d8.specs.Tiles.{place_of, IsSampleOf}
 use Rattle.flow_d8.proofs.telling.tell_point.Given as goal
 

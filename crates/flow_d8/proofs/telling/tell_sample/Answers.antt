@@ -1,5 +1,4 @@
-use Rattle.std.proofs.Common.{set, sym, subst}
-use Rattle.flow_d8.specs.Rounds.{Tells}
+use Rattle.flow_d8.proofs.Prelude.{Tells, set, subst, sym}
 use Rattle.flow_d8.proofs.Samples.TwinFlows.{told_one}
 use Rattle.flow_d8.proofs.telling.tell_sample.Goals as goal
 

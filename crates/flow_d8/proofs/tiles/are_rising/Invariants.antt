@@ -1,5 +1,4 @@
-use Rattle.std.proofs.Common.{◌+◌, ◌<◌, ℕ, get_or}
-use Rattle.flow_d8.specs.Prelude.{Corner, IsBefore}
+use Rattle.flow_d8.proofs.Prelude.{Corner, IsBefore, ℕ, get_or, ◌+◌, ◌<◌}
 use Rattle.flow_d8.proofs.tiles.are_rising.Given as goal
 
 abbrev pub invariant-loop-i : goal.invariant-loop-i

@@ -1,7 +1,5 @@
-use Rattle.std.proofs.Common.{◌≡◌, ◌+◌, ◌*◌, length, get_or, sym, ap, ◌∙◌, subst, true≢false}
-use Rattle.std.proofs.lemmas.List.{get_or_default}
+use Rattle.flow_d8.proofs.Prelude.{ap, get_or, get_or_default, length, no_corner, subst, sym, true≢false, ◌*◌, ◌+◌, ◌∙◌, ◌≡◌}
 use Rattle.lattice.specs.Lattice.{IsIndexOf, Holds}
-use Rattle.flow_d8.specs.Tiles.{no_corner}
 use Rattle.flow_d8.proofs.Samples.TilePlaces.{found_at, passed_on, none_at}
 use Rattle.flow_d8.proofs.tiles.number.Goals as goal
 

@@ -1,5 +1,4 @@
-use Rattle.std.proofs.Common.{◌≡◌, ◌*◌, ◌/◌, ◌%◌, ◌<◌, length, get_or, sym, ap, ◌∙◌, subst}
-use Rattle.std.proofs.lemmas.List.{get_or_default}
+use Rattle.flow_d8.proofs.Prelude.{ap, get_or, get_or_default, length, subst, sym, ◌%◌, ◌*◌, ◌/◌, ◌<◌, ◌∙◌, ◌≡◌}
 use Rattle.lattice.specs.Lattice.{point_of}
 use Rattle.flow_d8.proofs.Samples.Numbers.{tile_below}
 use Rattle.flow_d8.specs.Tiles.{no_corner, place_of}

@@ -1,6 +1,5 @@
-use Rattle.std.proofs.Common.{ℕ, ◌<◌, IsTrue, slice_index_or}
+use Rattle.flow_d8.proofs.Prelude.{IsTrue, ℕ, no_corner, slice_index_or, ◌<◌}
 use Rattle.lattice.specs.Corners.{is_corner}
-use Rattle.flow_d8.specs.Tiles.{no_corner}
 use Rattle.flow_d8.proofs.tiles.see_corners.Given as goal
 
 abbrev pub invariant-loop-i : goal.invariant-loop-i

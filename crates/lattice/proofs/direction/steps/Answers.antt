@@ -1,9 +1,5 @@
-use Rattle.std.proofs.Common.{◌∙◌, ◌+◌, ◌++◌, List, ap, drop, arith}
-use Rattle.arrayvec.specs.ArrayVec.{ArrayVec, array_vec_len}
+use Rattle.lattice.proofs.Prelude.{ArrayVec, List, Step, ap, arith, array_vec_len, directions, drop, reach_of, ◌++◌, ◌+◌, ◌∙◌}
 use Rattle.lattice.specs.declared.direction.Dir.TheVariants.{East}
-use Rattle.lattice.specs.declared.direction.Step.{Step}
-use Rattle.lattice.specs.Steps.{directions}
-use Rattle.lattice.specs.Stepping.{reach_of}
 use Rattle.lattice.proofs.Reach.{taken, passed}
 use Rattle.lattice.proofs.direction.steps.Goals as goal
 use Rattle.lattice.proofs.direction.steps.Goals.{in-Some, in_default}

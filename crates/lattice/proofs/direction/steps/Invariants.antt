@@ -1,7 +1,4 @@
-use Rattle.std.proofs.Common.{◌≡◌, ◌≤◌, ◌++◌, drop}
-use Rattle.arrayvec.specs.ArrayVec.{array_vec_len}
-use Rattle.lattice.specs.Steps.{directions}
-use Rattle.lattice.specs.Stepping.{reach_of}
+use Rattle.lattice.proofs.Prelude.{array_vec_len, directions, drop, reach_of, ◌++◌, ◌≡◌, ◌≤◌}
 use Rattle.lattice.proofs.direction.steps.Given as goal
 
 -- what is found, then what the directions to come give, is the answer

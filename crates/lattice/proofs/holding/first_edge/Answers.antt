@@ -1,5 +1,4 @@
-use Rattle.std.proofs.Common.{◌≡◌, ◌∙◌, ap₂, pos, negsuc, ℤ, ◌*ℤ◌, ◌≤ℤ◌, arith, w64, to_z, of_z}
-use Rattle.std.proofs.lemmas.Int.{ints}
+use Rattle.lattice.proofs.Prelude.{ℤ, ap₂, arith, ints, negsuc, of_z, pos, to_z, w64, ◌*ℤ◌, ◌∙◌, ◌≡◌, ◌≤ℤ◌}
 use Rattle.lattice.proofs.Along.{first_within}
 use Rattle.lattice.proofs.holding.first_edge.Goals as goal
 

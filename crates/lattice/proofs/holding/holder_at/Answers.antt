@@ -1,9 +1,5 @@
 use Rattle.std.proofs.Common.{◌≡◌, ◌∙◌, ap₂, refl, sym, subst, SomeIff, w64, ℤ, SFits, rules}
-use Rattle.std.proofs.lemmas.Bool.{false≢true}
-use Rattle.std.proofs.lemmas.Int.{to_z-of_z}
-use Rattle.lattice.specs.Corners.{Corner}
-use Rattle.lattice.specs.Degrees.{corner_at}
-use Rattle.lattice.specs.Lattice.{Holds}
+use Rattle.lattice.proofs.Prelude.{Corner, Holds, corner_at, false≢true, to_z-of_z}
 use Rattle.lattice.proofs.holding.holder_at.Goals as goal
 
 pub returns-in_err-index_in : goal.returns-in_err-index_in

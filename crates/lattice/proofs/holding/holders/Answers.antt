@@ -1,9 +1,4 @@
-use Rattle.std.proofs.Common.{◌≡◌, ◌∙◌, ◌≤◌, ◌+◌, ◌-◌, ◌++◌, pos, ◌+ℤ◌, ◌-ℤ◌, ◌*ℤ◌, ◌≤ℤ◌, ◌<ℤ◌, List, length, ap, sym, subst, drop, arith, rules, SFits, w32, w64, to_z, of_z, ◌↔◌}
-use Rattle.std.specs.List.{Contains, AllAdjacentBelow}
-use Rattle.std.proofs.lemmas.Int.{ints, to_z-of_z}
-use Rattle.arrayvec.specs.ArrayVec.{ArrayVec, array_vec_len}
-use Rattle.lattice.specs.Corners.{Corner}
-use Rattle.lattice.specs.Lattice.{Holds, IsBefore}
+use Rattle.lattice.proofs.Prelude.{AllAdjacentBelow, ArrayVec, Contains, Corner, Holds, IsBefore, List, SFits, ap, arith, array_vec_len, drop, ints, length, of_z, pos, rules, subst, sym, to_z, to_z-of_z, w32, w64, ◌*ℤ◌, ◌++◌, ◌+ℤ◌, ◌+◌, ◌-ℤ◌, ◌-◌, ◌<ℤ◌, ◌↔◌, ◌∙◌, ◌≡◌, ◌≤ℤ◌, ◌≤◌}
 use Rattle.lattice.proofs.Kept.{kept, around, crossing, crossing_is, taken, passed, all_kept, kept_exactly, kept_in_order}
 use Rattle.lattice.proofs.holding.holders.Goals as goal
 use Rattle.lattice.proofs.holding.holders.Goals.{in-Some, in_default}

@@ -1,5 +1,4 @@
-use Rattle.std.proofs.Common.{◌≡◌, ◌≤◌, ◌++◌, drop}
-use Rattle.arrayvec.specs.ArrayVec.{array_vec_len}
+use Rattle.lattice.proofs.Prelude.{array_vec_len, drop, ◌++◌, ◌≡◌, ◌≤◌}
 use Rattle.lattice.proofs.Kept.{kept}
 use Rattle.lattice.proofs.holding.holders.Given as goal
 

@@ -1,7 +1,4 @@
-use Rattle.std.proofs.Common.{rules, ◌≡◌, ◌∙◌, ◌≤◌, ap, sym, subst, pos, ◌+ℤ◌, ◌*ℤ◌, ◌-◌, ◌*◌, ◌+◌, w16, w32, to_z, of_z, refl, SFits, IsTrue}
-use Rattle.std.proofs.lemmas.Int.{to_z-of_z}
-use Rattle.lattice.specs.Lattice.{IsIndexOf}
-use Rattle.lattice.specs.Corners.{Corner, is_corner}
+use Rattle.lattice.proofs.Prelude.{Corner, IsIndexOf, IsTrue, SFits, ap, is_corner, of_z, pos, refl, rules, subst, sym, to_z, to_z-of_z, w16, w32, ◌*ℤ◌, ◌*◌, ◌+ℤ◌, ◌+◌, ◌-◌, ◌∙◌, ◌≡◌, ◌≤◌}
 use Rattle.lattice.proofs.Samples.{held_at, index_from}
 use Rattle.lattice.proofs.holding.index_in.Goals as goal
 

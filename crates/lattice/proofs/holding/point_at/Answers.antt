@@ -1,8 +1,4 @@
-use Rattle.std.proofs.Common.{◌≡◌, ◌∙◌, ◌≤◌, ◌<◌, ◌-◌, ◌/◌, ◌%◌, ℕ, ℤ, pos, ◌+ℤ◌, ◌-ℤ◌, ◌*ℤ◌, ap, ap₂, sym, subst, arith, rules, SFits, w16, w32, to_z, of_z, IsTrue}
-use Rattle.std.proofs.lemmas.Int.{to_z-of_z}
-use Rattle.lattice.specs.Corners.{Corner, is_corner}
-use Rattle.lattice.specs.Lattice.{IsIndexOf, point_of}
-use Rattle.lattice.specs.declared.point.Point.{Point}
+use Rattle.lattice.proofs.Prelude.{Corner, IsIndexOf, IsTrue, Point, SFits, ℕ, ℤ, ap, ap₂, arith, is_corner, of_z, point_of, pos, rules, subst, sym, to_z, to_z-of_z, w16, w32, ◌%◌, ◌*ℤ◌, ◌+ℤ◌, ◌-ℤ◌, ◌-◌, ◌/◌, ◌<◌, ◌∙◌, ◌≡◌, ◌≤◌}
 use Rattle.lattice.proofs.Samples.{index_of_point, row_below, from_south}
 use Rattle.lattice.proofs.holding.point_at.Goals as goal
 

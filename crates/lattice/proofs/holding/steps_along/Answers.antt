@@ -1,5 +1,4 @@
-use Rattle.std.proofs.Common.{arith, ◌≡◌, ◌∙◌, ◌≤◌, ap, sym, subst, pos, ◌+ℤ◌, ◌-ℤ◌, ◌*ℤ◌, ◌≤ℤ◌, w16, w64, to_z, of_z, nat_abs}
-use Rattle.std.proofs.lemmas.Int.{ints, to_z-of_z}
+use Rattle.lattice.proofs.Prelude.{ap, arith, ints, nat_abs, of_z, pos, subst, sym, to_z, to_z-of_z, w16, w64, ◌*ℤ◌, ◌+ℤ◌, ◌-ℤ◌, ◌∙◌, ◌≡◌, ◌≤ℤ◌, ◌≤◌}
 use Rattle.lattice.proofs.IntTests.{le_true}
 use Rattle.lattice.proofs.Along.{no_farther, distance, distance_le, outside_below, outside_above}
 use Rattle.lattice.proofs.holding.steps_along.Goals as goal

@@ -1,6 +1,5 @@
-use Rattle.std.proofs.Common.{arith, ◌<◌}
+use Rattle.lattice.proofs.Prelude.{arith, index_of, ◌<◌}
 use Rattle.lattice.proofs.Samples.{index_of_point, index_below, point_at_index, index_of_held, held_at}
-use Rattle.lattice.specs.Lattice.{index_of}
 use Rattle.lattice.proofs.laws.index_and_point_are_inverse.Goals as goal
 
 pub returns-clause-point : goal.returns-clause-point

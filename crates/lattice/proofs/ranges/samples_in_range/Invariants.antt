@@ -1,5 +1,4 @@
-use Rattle.std.proofs.Common.{ℕ, ℤ, ◌<◌, get_or}
-use Rattle.lattice.specs.Mosaic.{IsSample}
+use Rattle.lattice.proofs.Prelude.{IsSample, ℕ, ℤ, get_or, ◌<◌}
 use Rattle.lattice.proofs.ranges.samples_in_range.Given as goal
 
 abbrev pub invariant-loop-sample : goal.invariant-loop-sample

@@ -1,8 +1,4 @@
-use Rattle.std.proofs.Common.{◌+◌, ◌++◌, ◌≤◌, ℕ, List, IsTrue, drop, refl, ap, ◌∙◌, subst, arith}
-use Rattle.std.proofs.lemmas.Bool.{false_from_ne_true, false≢true}
-use Rattle.arrayvec.specs.ArrayVec.{ArrayVec, array_vec_len}
-use Rattle.lattice.specs.SinkIndices.{sinks_in}
-use Rattle.lattice.specs.Corners.{is_corner}
+use Rattle.lattice.proofs.Prelude.{ArrayVec, IsTrue, List, ℕ, ap, arith, array_vec_len, drop, false_from_ne_true, false≢true, is_corner, refl, sinks_in, subst, ◌++◌, ◌+◌, ◌∙◌, ◌≤◌}
 use Rattle.lattice.proofs.Samples.{holds_is, index_is}
 use Rattle.lattice.proofs.SinkIndices.{index_found, none_found}
 use Rattle.lattice.proofs.sinks.sinks_in.Goals as goal

@@ -1,6 +1,4 @@
-use Rattle.std.proofs.Common.{◌≡◌, ◌≤◌, ◌++◌, drop}
-use Rattle.arrayvec.specs.ArrayVec.{array_vec_len}
-use Rattle.lattice.specs.SinkIndices.{sinks_in}
+use Rattle.lattice.proofs.Prelude.{array_vec_len, drop, sinks_in, ◌++◌, ◌≡◌, ◌≤◌}
 use Rattle.lattice.proofs.sinks.sinks_in.Given as goal
 
 -- what is found, then what the sinks to come give, is the answer

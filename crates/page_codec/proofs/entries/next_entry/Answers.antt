@@ -1,6 +1,4 @@
-use Rattle.std.proofs.Common.{◌≡◌, true}
-use Rattle.page_codec.specs.Roots.{EntryIsBefore}
-use Rattle.page_codec.specs.Headers.{Follows}
+use Rattle.page_codec.proofs.Prelude.{EntryIsBefore, Follows, true, ◌≡◌}
 use Rattle.page_codec.proofs.EntryBytes.{not_this}
 use Rattle.page_codec.proofs.entries.next_entry.Goals as goal
 

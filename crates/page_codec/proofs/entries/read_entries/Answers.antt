@@ -1,11 +1,4 @@
-use Rattle.std.proofs.Common.{◌≡◌, ◌<◌, ◌++◌, List, ℕ, true, length, sym, ap, subst, ◌∙◌, arith}
-use Rattle.std.specs.List.{flat_map}
-use Rattle.std.proofs.lemmas.List.{length_push}
-use Rattle.std.proofs.lemmas.List.Elements.{All-push}
-use Rattle.page_codec.specs.Numbers.{is_all_zero}
-use Rattle.page_codec.specs.Entries.{EntryValue, IsEntry, entry_bytes}
-use Rattle.page_codec.specs.Roots.{EntryIsBefore}
-use Rattle.page_codec.specs.Headers.{Follows}
+use Rattle.page_codec.proofs.Prelude.{All-push, EntryIsBefore, EntryValue, Follows, IsEntry, List, ℕ, ap, arith, entry_bytes, flat_map, is_all_zero, length, length_push, subst, sym, true, ◌++◌, ◌<◌, ◌∙◌, ◌≡◌}
 use Rattle.page_codec.proofs.EntryFields.{length-entry_bytes}
 use Rattle.page_codec.proofs.EntryBytes.{one_entry}
 use Rattle.page_codec.proofs.Ordered.{no_items, order_push, padded_are, padded_from_parts}

@@ -1,8 +1,4 @@
-use Rattle.std.proofs.Common.{◌≡◌, ◌+◌, ◌*◌, ◌++◌, length}
-use Rattle.std.specs.Prelude.{All}
-use Rattle.std.specs.List.{flat_map}
-use Rattle.page_codec.specs.Entries.{IsEntry, entry_bytes}
-use Rattle.page_codec.specs.Roots.{AreInOrder}
+use Rattle.page_codec.proofs.Prelude.{All, AreInOrder, IsEntry, entry_bytes, flat_map, length, ◌*◌, ◌++◌, ◌+◌, ◌≡◌}
 use Rattle.page_codec.proofs.entries.read_entries.Given as goal
 
 abbrev pub invariant-loop : goal.invariant-loop

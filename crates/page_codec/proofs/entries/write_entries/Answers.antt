@@ -1,8 +1,4 @@
-use Rattle.std.proofs.Common.{◌∙◌, ap}
-use Rattle.std.specs.List.{flat_map}
-use Rattle.std.proofs.lemmas.List.{take_all}
-use Rattle.page_codec.specs.Numbers.{padded}
-use Rattle.page_codec.specs.Entries.{entry_bytes}
+use Rattle.page_codec.proofs.Prelude.{ap, entry_bytes, flat_map, padded, take_all, ◌∙◌}
 use Rattle.page_codec.proofs.entries.write_entries.Goals as goal
 
 pub returns : goal.returns

@@ -1,6 +1,4 @@
-use Rattle.std.proofs.Common.{◌≡◌, ◌*◌, length, take}
-use Rattle.std.specs.List.{flat_map}
-use Rattle.page_codec.specs.Entries.{entry_bytes}
+use Rattle.page_codec.proofs.Prelude.{entry_bytes, flat_map, length, take, ◌*◌, ◌≡◌}
 use Rattle.page_codec.proofs.entries.write_entries.Given as goal
 
 abbrev pub invariant-loop-entry : goal.invariant-loop-entry

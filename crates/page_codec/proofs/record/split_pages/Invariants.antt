@@ -1,7 +1,5 @@
-use Rattle.std.proofs.Common.{◌≡◌, ◌+◌, ◌*◌, ◌++◌, length}
-use Rattle.std.specs.List.{flat_map}
+use Rattle.page_codec.proofs.Prelude.{IsRecord, flat_map, length, ◌*◌, ◌++◌, ◌+◌, ◌≡◌}
 use Rattle.page_codec.specs.Numbers.{u32_bytes}
-use Rattle.page_codec.specs.Records.{IsRecord}
 use Rattle.page_codec.proofs.record.split_pages.Given as goal
 
 abbrev pub invariant-loop : goal.invariant-loop

@@ -1,6 +1,4 @@
-use Rattle.std.proofs.Common.{ap, ◌∙◌}
-use Rattle.std.specs.List.{flat_map}
-use Rattle.std.proofs.lemmas.List.{take_all}
+use Rattle.page_codec.proofs.Prelude.{ap, flat_map, take_all, ◌∙◌}
 use Rattle.page_codec.specs.Numbers.{u32_bytes, padded}
 use Rattle.page_codec.specs.Records.{record_bytes}
 use Rattle.page_codec.proofs.record.write_pages.Goals as goal

@@ -1,5 +1,4 @@
-use Rattle.std.proofs.Common.{◌≡◌, ◌*◌, length, take}
-use Rattle.std.specs.List.{flat_map}
+use Rattle.page_codec.proofs.Prelude.{flat_map, length, take, ◌*◌, ◌≡◌}
 use Rattle.page_codec.specs.Numbers.{u32_bytes}
 use Rattle.page_codec.proofs.record.write_pages.Given as goal
 

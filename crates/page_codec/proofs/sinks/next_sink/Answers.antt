@@ -1,9 +1,4 @@
-use Rattle.std.proofs.Common.{◌≡◌, ◌∙◌, true, sym, subst, rules}
-use Rattle.std.specs.Int.{w32}
-use Rattle.std.specs.Int.RustNames.{FitsSigned}
-use Rattle.lattice.specs.Mosaic.{IsHeld}
-use Rattle.page_codec.specs.Sinks.{SinkIsBefore}
-use Rattle.page_codec.specs.Headers.{Follows}
+use Rattle.page_codec.proofs.Prelude.{FitsSigned, Follows, IsHeld, SinkIsBefore, rules, subst, sym, true, w32, ◌∙◌, ◌≡◌}
 use Rattle.page_codec.proofs.SinkBytes.{same_sink}
 use Rattle.page_codec.proofs.sinks.next_sink.Goals as goal
 

@@ -1,12 +1,5 @@
-use Rattle.std.proofs.Common.{◌≡◌, ◌<◌, ◌++◌, List, ℕ, true, length, sym, ap, subst, ◌∙◌, arith}
-use Rattle.std.specs.List.{flat_map}
-use Rattle.std.proofs.lemmas.List.{length_push}
-use Rattle.std.proofs.lemmas.List.Elements.{All-push}
-use Rattle.page_codec.specs.Numbers.{is_all_zero}
-use Rattle.lattice.specs.Mosaic.{IsHeld}
+use Rattle.page_codec.proofs.Prelude.{All-push, Follows, IsHeld, List, Point, ℕ, ap, arith, flat_map, is_all_zero, length, length_push, subst, sym, true, ◌++◌, ◌<◌, ◌∙◌, ◌≡◌}
 use Rattle.page_codec.specs.Sinks.{SinkIsBefore, sink_bytes}
-use Rattle.lattice.specs.declared.point.Point.{Point}
-use Rattle.page_codec.specs.Headers.{Follows}
 use Rattle.page_codec.proofs.SinkBytes.{one_sink, length-sink_bytes}
 use Rattle.page_codec.proofs.Ordered.{no_items, order_push, padded_are, padded_from_parts}
 use Rattle.page_codec.proofs.Items.{items_push}

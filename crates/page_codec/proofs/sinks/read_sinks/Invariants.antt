@@ -1,7 +1,4 @@
-use Rattle.std.proofs.Common.{◌≡◌, ◌+◌, ◌*◌, ◌++◌, length}
-use Rattle.std.specs.Prelude.{All}
-use Rattle.std.specs.List.{AllAdjacentBelow, flat_map}
-use Rattle.lattice.specs.Mosaic.{IsHeld}
+use Rattle.page_codec.proofs.Prelude.{All, AllAdjacentBelow, IsHeld, flat_map, length, ◌*◌, ◌++◌, ◌+◌, ◌≡◌}
 use Rattle.page_codec.specs.Sinks.{SinkIsBefore, sink_bytes}
 use Rattle.page_codec.proofs.sinks.read_sinks.Given as goal
 

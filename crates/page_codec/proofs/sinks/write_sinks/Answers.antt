@@ -1,7 +1,4 @@
-use Rattle.std.proofs.Common.{◌∙◌, ap}
-use Rattle.std.specs.List.{flat_map}
-use Rattle.std.proofs.lemmas.List.{take_all}
-use Rattle.page_codec.specs.Numbers.{padded}
+use Rattle.page_codec.proofs.Prelude.{ap, flat_map, padded, take_all, ◌∙◌}
 use Rattle.page_codec.specs.Sinks.{sink_bytes}
 use Rattle.page_codec.proofs.sinks.write_sinks.Goals as goal
 

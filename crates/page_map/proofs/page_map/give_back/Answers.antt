@@ -1,5 +1,4 @@
-use Rattle.std.proofs.Common.{List, subst, ◌∙◌}
-use Rattle.page_map.specs.TileEntries.{Entry}
+use Rattle.page_map.proofs.Prelude.{Entry, List, subst, ◌∙◌}
 use Rattle.page_map.proofs.Ending.{IsGivenBack, given_next, next_in_use}
 use Rattle.page_map.proofs.page_map.give_back.Goals as goal
 

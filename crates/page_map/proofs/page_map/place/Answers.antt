@@ -1,8 +1,4 @@
-use Rattle.std.proofs.Common.{◌≡◌, false, List, sym, subst, ◌∙◌}
-use Rattle.std.specs.Prelude.{is_some}
-use Rattle.std.specs.BTreeMap.{insert_entry}
-use Rattle.lattice.proofs.CornerOrder.{corner_cmp}
-use Rattle.page_map.specs.TileEntries.{no_planes, planes_at, AreAlike, Entry}
+use Rattle.page_map.proofs.Prelude.{AreAlike, Entry, List, corner_cmp, false, insert_entry, is_some, no_planes, planes_at, subst, sym, ◌∙◌, ◌≡◌}
 use Rattle.page_map.proofs.EntryInserts.{placed_alike}
 use Rattle.page_map.proofs.page_map.place.Goals as goal
 

@@ -1,6 +1,5 @@
-use Rattle.std.proofs.Common.{◌≡◌, ◌+◌, take, length}
+use Rattle.page_map.proofs.Prelude.{AreTaken, length, take, ◌+◌, ◌≡◌}
 use Rattle.std.specs.FinSet as set
-use Rattle.page_map.specs.FreePages.{AreTaken}
 use Rattle.page_map.proofs.pages.fresh_plane.Given as goal
 
 abbrev pub invariant-loop-page : goal.invariant-loop-page

@@ -1,5 +1,4 @@
-use Rattle.std.proofs.Common.{◌≡◌, ◌≢◌, ◌<◌, ◌∙◌, length, get_or, sym, false}
-use Rattle.std.proofs.lemmas.Bool.{false≢true}
+use Rattle.page_map.proofs.Prelude.{false, false≢true, get_or, length, sym, ◌<◌, ◌∙◌, ◌≡◌, ◌≢◌}
 use Rattle.page_map.proofs.GivenSoFar.{given_same, can_give, given_more, given_all}
 use Rattle.page_map.proofs.pages.give_differing.Goals as goal
 use Rattle.page_map.proofs.pages.give_differing.Goals.{then-not-stands_at, else-not-stands_at, After-stands_at}

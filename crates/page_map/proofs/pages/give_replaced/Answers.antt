@@ -1,6 +1,4 @@
-use Rattle.std.proofs.Common.{[], ◌∷◌}
-use Rattle.page_map.specs.Locations.{pages_behind}
-use Rattle.page_map.specs.FreePages.{differing, AreGiven}
+use Rattle.page_map.proofs.Prelude.{AreGiven, [], differing, pages_behind, ◌∷◌}
 use Rattle.page_map.proofs.FreeTimes.{in_use-head, rest_in_use_still, given-append}
 use Rattle.page_map.proofs.pages.give_replaced.Goals as goal
 use Rattle.page_map.proofs.pages.give_replaced.Goals.{After-give}

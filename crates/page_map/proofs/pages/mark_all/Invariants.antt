@@ -1,5 +1,4 @@
-use Rattle.std.proofs.Common.{take}
-use Rattle.page_map.specs.FreePages.{AreTaken}
+use Rattle.page_map.proofs.Prelude.{AreTaken, take}
 use Rattle.page_map.proofs.pages.mark_all.Given as goal
 
 abbrev pub invariant-loop-page : goal.invariant-loop-page

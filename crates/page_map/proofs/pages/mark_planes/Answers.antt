@@ -1,7 +1,5 @@
-use Rattle.std.proofs.Common.{◌≡◌, ◌++◌, Err}
+use Rattle.page_map.proofs.Prelude.{Err, pages_of_kept, pages_of_plane, ◌++◌, ◌≡◌}
 use Rattle.page_map.proofs.Refused.{ended_with}
-use Rattle.page_map.specs.Locations.{pages_of_plane}
-use Rattle.page_map.specs.TileLocations.{pages_of_kept}
 use Rattle.page_map.proofs.GivenSoFar.{marked_more, unmarked_first, unmarked_more}
 use Rattle.page_map.proofs.pages.mark_planes.Goals as goal
 

@@ -1,7 +1,5 @@
-use Rattle.std.proofs.Common.{◌≡◌, ◌≢◌, ◌<◌, length, get_or, refl, sym, ◌∙◌, arith}
-use Rattle.std.proofs.lemmas.Bool.{false≢true}
+use Rattle.page_map.proofs.Prelude.{arith, false≢true, get_or, length, pages_behind, refl, sym, ◌<◌, ◌∙◌, ◌≡◌, ◌≢◌}
 use Rattle.std.proofs.lemmas.List.{set-get_or}
-use Rattle.page_map.specs.Locations.{pages_behind}
 use Rattle.page_map.proofs.Times.{differing-less}
 use Rattle.page_map.proofs.Owning.{owned_already, owned_now, room_after}
 use Rattle.page_map.proofs.plane_entry.make_writable.Goals as goal

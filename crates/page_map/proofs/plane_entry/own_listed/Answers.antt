@@ -1,5 +1,4 @@
-use Rattle.std.proofs.Common.{arith}
-use Rattle.std.proofs.lemmas.List.{length-append}
+use Rattle.page_map.proofs.Prelude.{arith, length-append}
 use Rattle.page_map.proofs.Owning.{owned_alone, owned_listed}
 use Rattle.page_map.proofs.plane_entry.own_listed.Goals as goal
 use Rattle.page_map.proofs.plane_entry.own_listed.Goals.{then-index_page-count, else-index_page-count}

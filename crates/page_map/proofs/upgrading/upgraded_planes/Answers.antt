@@ -1,5 +1,4 @@
-use Rattle.page_map.specs.Locations.{listing_of}
-use Rattle.page_map.specs.Upgraded.{listing_of_kept}
+use Rattle.page_map.proofs.Prelude.{listing_of, listing_of_kept}
 use Rattle.page_map.proofs.FreeTimes.{taken-append}
 use Rattle.page_map.proofs.upgrading.upgraded_planes.Goals as goal
 

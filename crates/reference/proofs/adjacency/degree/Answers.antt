@@ -1,6 +1,5 @@
 use Rattle.std.proofs.Common.{◌∙◌, ap, count_by}
-use Rattle.lattice.specs.declared.direction.Step.{Step}
-use Rattle.lattice.specs.Ground.{is_adjacent}
+use Rattle.reference.proofs.Prelude.{Step, is_adjacent}
 use Rattle.catalogue.proofs.Degrees.{degree-reach}
 use Rattle.reference.proofs.adjacency.degree.Goals as goal
 

@@ -1,9 +1,4 @@
-use Rattle.std.proofs.Common.{◌≡◌, ◌∙◌, ap, ap₂, sym, subst, map, List, ℤ}
-use Rattle.std.proofs.lemmas.Result.{IfOk-weaker}
-use Rattle.std.specs.List.{All}
-use Rattle.lattice.specs.Corners.{Corner}
-use Rattle.lattice.specs.Mosaic.{Mosaic, Tile, IsTile, IsMosaic}
-use Rattle.reference.specs.Changes.{change_of}
+use Rattle.reference.proofs.Prelude.{All, Corner, IfOk-weaker, IsMosaic, IsTile, List, Mosaic, Tile, ℤ, ap, ap₂, change_of, map, subst, sym, ◌∙◌, ◌≡◌}
 use Rattle.reference.proofs.Kept.{edited_tile}
 use Rattle.reference.proofs.LoopLemmas.{all_mapped, mapped_more}
 use Rattle.reference.proofs.change.edited.Goals as goal

@@ -1,5 +1,4 @@
-use Rattle.std.proofs.Common.{◌≡◌, take, map}
-use Rattle.reference.specs.Changes.{change_of}
+use Rattle.reference.proofs.Prelude.{change_of, map, take, ◌≡◌}
 use Rattle.reference.proofs.Kept.{edited_tile}
 use Rattle.reference.proofs.change.edited.Given as goal
 

@@ -1,10 +1,4 @@
-use Rattle.std.proofs.Common.{◌≡◌, ◌∙◌, ◌<◌, length, get_or, sym, ap, ap₂, subst, [], ◌∷◌, ◌++◌, w16, to_z, of_z, pos, ℤ, ℕ, rules}
-use Rattle.std.proofs.lemmas.Int.{to_z-of_z}
-use Rattle.std.specs.List.{All}
-use Rattle.lattice.specs.Mosaic.{IsSample}
-use Rattle.lattice.specs.Lattice.{point_of}
-use Rattle.edits.specs.Effect.{changed_from}
-use Rattle.reference.specs.Changes.{change_of}
+use Rattle.reference.proofs.Prelude.{All, IsSample, ℕ, ℤ, [], ap, ap₂, change_of, changed_from, get_or, length, of_z, point_of, pos, rules, subst, sym, to_z, to_z-of_z, w16, ◌++◌, ◌<◌, ◌∙◌, ◌∷◌, ◌≡◌}
 use Rattle.reference.proofs.CommandLemmas.{changed_more, changed_end, push_step, push_end, sample_fits, fits_sample, point_there}
 use Rattle.reference.proofs.change.edited_samples.Goals as goal
 

@@ -1,7 +1,4 @@
-use Rattle.std.proofs.Common.{◌≡◌, ◌++◌, drop}
-use Rattle.edits.specs.Effect.{changed_from}
-use Rattle.lattice.specs.Lattice.{point_of}
-use Rattle.reference.specs.Changes.{change_of}
+use Rattle.reference.proofs.Prelude.{change_of, changed_from, drop, point_of, ◌++◌, ◌≡◌}
 use Rattle.reference.proofs.change.edited_samples.Given as goal
 
 abbrev pub invariant-loop-e : goal.invariant-loop-e

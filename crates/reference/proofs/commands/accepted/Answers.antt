@@ -1,8 +1,4 @@
-use Rattle.std.proofs.Common.{◌≡◌, ◌∙◌, Ok, sym, ap}
-use Rattle.std.proofs.lemmas.Result.{IfOk-weaker}
-use Rattle.edits.specs.Effect.{effect, edited}
-use Rattle.reference.specs.Changes.{change_of}
-use Rattle.lattice.specs.Mosaic.{Mosaic}
+use Rattle.reference.proofs.Prelude.{IfOk-weaker, Mosaic, Ok, ap, change_of, edited, effect, sym, ◌∙◌, ◌≡◌}
 use Rattle.reference.proofs.Accepted.{accepted_fits, accepted_edit}
 use Rattle.reference.proofs.commands.accepted.Goals as goal
 

@@ -1,14 +1,6 @@
-use Rattle.std.proofs.Common.{◌≡◌, ◌∙◌, ◌<◌, ◌+◌, ℕ, ℤ, List, length, drop, get_or, Bool, true, false, ap, sym, subst, rules, negsuc}
+use Rattle.reference.proofs.Prelude.{At, Bool, Height, List, Mosaic, Outside, Point, TooDeep, Void, ℕ, ℤ, ap, at_drop_more, drop, false, fault_at, first_fault, get_or, height_of, length, negsuc, rules, subst, sym, true, ◌+◌, ◌<◌, ◌∙◌, ◌≡◌}
 use Rattle.std.specs.Prelude.{◌-ℤ◌, int_lt, if◌then◌else◌, Some}
-use Rattle.std.proofs.lemmas.List.{at_drop_more}
 use Rattle.std.proofs.Math.Facts.{to_z-of_z}
-use Rattle.lattice.specs.declared.height.Height.{Height}
-use Rattle.lattice.specs.declared.height.Height.TheVariants.{At, Outside, Void}
-use Rattle.lattice.specs.declared.point.Point.{Point}
-use Rattle.lattice.specs.declared.refusal.Refusal.TheVariants.{TooDeep}
-use Rattle.lattice.specs.Height.{height_of}
-use Rattle.lattice.specs.Mosaic.{Mosaic}
-use Rattle.edits.specs.Effect.{fault_at, first_fault}
 use Rattle.reference.proofs.commands.first_fault.Goals as goal
 
 -- the points from some place on have the fault of all of them

@@ -1,5 +1,4 @@
-use Rattle.std.proofs.Common.{◌≡◌, drop}
-use Rattle.edits.specs.Effect.{first_fault}
+use Rattle.reference.proofs.Prelude.{drop, first_fault, ◌≡◌}
 use Rattle.reference.proofs.commands.first_fault.Given as goal
 
 abbrev pub invariant-loop-point : goal.invariant-loop-point

@@ -1,6 +1,4 @@
-use Rattle.std.proofs.Common.{sym, subst}
-use Rattle.std.specs.List.{All}
-use Rattle.lattice.specs.Mosaic.{IsTile}
+use Rattle.reference.proofs.Prelude.{All, IsTile, subst, sym}
 use Rattle.reference.proofs.commands.has_void.Goals as goal
 
 pub has_void_in-requires : goal.has_void_in-requires

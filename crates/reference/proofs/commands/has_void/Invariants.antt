@@ -1,6 +1,4 @@
-use Rattle.std.proofs.Common.{◌≡◌, drop}
-use Rattle.std.specs.List.{list_any}
-use Rattle.edits.specs.Effect.{has_void, has_void_from}
+use Rattle.reference.proofs.Prelude.{drop, has_void, has_void_from, list_any, ◌≡◌}
 use Rattle.reference.proofs.commands.has_void.Given as goal
 
 abbrev pub invariant-loop-tile : goal.invariant-loop-tile

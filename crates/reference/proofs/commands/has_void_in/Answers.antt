@@ -1,5 +1,4 @@
-use Rattle.std.proofs.Common.{◌∙◌, ◌+◌, ◌*◌, ◌<◌, true, false, ◌||◌, length, drop, sym, ap, subst}
-use Rattle.edits.specs.Effect.{has_void_from}
+use Rattle.reference.proofs.Prelude.{ap, drop, false, has_void_from, length, subst, sym, true, ◌*◌, ◌+◌, ◌<◌, ◌||◌, ◌∙◌}
 use Rattle.reference.proofs.CommandLemmas.{has_void_more, void_at, point_there}
 use Rattle.reference.proofs.commands.has_void_in.Goals as goal
 

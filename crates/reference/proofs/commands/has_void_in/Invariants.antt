@@ -1,5 +1,4 @@
-use Rattle.std.proofs.Common.{◌≡◌, drop}
-use Rattle.edits.specs.Effect.{has_void_from}
+use Rattle.reference.proofs.Prelude.{drop, has_void_from, ◌≡◌}
 use Rattle.reference.proofs.commands.has_void_in.Given as goal
 
 abbrev pub invariant-loop-e : goal.invariant-loop-e

@@ -1,7 +1,5 @@
-use Rattle.std.proofs.Common.{◌∙◌, sym, ap, subst, IsFalse, List}
-use Rattle.lattice.specs.Corners.{Corner}
+use Rattle.reference.proofs.Prelude.{Corner, IsFalse, List, ap, subst, sym, with_tile, ◌∙◌}
 use Rattle.lattice.specs.Mosaic.{Tile, IsMosaic, is_present}
-use Rattle.catalogue.specs.Tiles.{with_tile}
 use Rattle.catalogue.proofs.Mosaics.{mosaic-added}
 use Rattle.reference.proofs.commands.imported.Goals as goal
 

@@ -1,7 +1,4 @@
-use Rattle.std.proofs.Common.{◌≡◌, ◌∙◌, true, [], length, sym, ap, arith}
-use Rattle.std.proofs.lemmas.List.Sums.{position_or_len_is}
-use Rattle.lattice.specs.Corners.{Corner, is_before}
-use Rattle.lattice.specs.Mosaic.{Tile}
+use Rattle.reference.proofs.Prelude.{Corner, Tile, [], ap, arith, is_before, length, position_or_len_is, sym, true, ◌∙◌, ◌≡◌}
 use Rattle.reference.proofs.commands.place_of.Goals as goal
 
 pub returns-then-is_before-clause-value : goal.returns-then-is_before-clause-value

@@ -1,6 +1,4 @@
-use Rattle.std.proofs.Common.{◌≡◌, ◌<◌, ℕ, false, get_or}
-use Rattle.lattice.specs.Corners.{is_before}
-use Rattle.lattice.specs.Mosaic.{Tile}
+use Rattle.reference.proofs.Prelude.{Tile, ℕ, false, get_or, is_before, ◌<◌, ◌≡◌}
 use Rattle.reference.proofs.commands.place_of.Given as goal
 
 abbrev pub invariant-loop-i : goal.invariant-loop-i

@@ -1,11 +1,6 @@
-use Rattle.std.proofs.Common.{◌≡◌, ◌∙◌, ℤ, ap, sym, rules, to_z, of_z}
-use Rattle.std.proofs.lemmas.Int.{to_z-of_z}
+use Rattle.reference.proofs.Prelude.{Command, Patch, ℤ, ap, effect, of_z, refusal_of, rules, sym, to_z, to_z-of_z, ◌∙◌, ◌≡◌}
 use mir.Syntax.{w32}
 use mir.Val.{SFits}
-use Rattle.edits.specs.declared.command.Command.{Command}
-use Rattle.edits.specs.declared.command.Command.TheVariants.{Patch}
-use Rattle.edits.specs.Effect.{effect}
-use Rattle.reference.specs.Answers.{refusal_of}
 use Rattle.reference.proofs.commands.refusal.Goals as goal
 
 pub returns-in-Remove : goal.returns-in-Remove

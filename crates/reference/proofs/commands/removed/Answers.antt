@@ -1,6 +1,4 @@
-use Rattle.std.proofs.Common.{◌≡◌, ◌∙◌, ◌++◌, [], ◌∷◌, ap, sym, subst, filter, not, Bool, List}
-use Rattle.lattice.specs.Corners.{Corner, same_corner}
-use Rattle.lattice.specs.Mosaic.{Tile, IsMosaic}
+use Rattle.reference.proofs.Prelude.{Bool, Corner, IsMosaic, List, Tile, [], ap, filter, not, same_corner, subst, sym, ◌++◌, ◌∙◌, ◌∷◌, ◌≡◌}
 use Rattle.reference.proofs.LoopLemmas.{all_passed, passes_more, passes_same}
 use Rattle.reference.proofs.commands.removed.Goals.{then-not-is_same_corner+in_ok-copy+in_ok-push, else-not-is_same_corner}
 use Rattle.reference.proofs.commands.removed.Goals as goal

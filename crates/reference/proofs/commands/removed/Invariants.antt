@@ -1,5 +1,4 @@
-use Rattle.std.proofs.Common.{◌≡◌, filter, take, not}
-use Rattle.lattice.specs.Corners.{same_corner}
+use Rattle.reference.proofs.Prelude.{filter, not, same_corner, take, ◌≡◌}
 use Rattle.reference.proofs.commands.removed.Given as goal
 
 abbrev pub invariant-loop-tile : goal.invariant-loop-tile

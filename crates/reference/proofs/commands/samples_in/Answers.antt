@@ -1,9 +1,5 @@
-use Rattle.std.proofs.Common.{◌≡◌, ◌<◌, sym, subst, arith, append_assoc}
-use Rattle.std.proofs.lemmas.Grind.{common_steps}
+use Rattle.reference.proofs.Prelude.{All, IsSample, append_assoc, arith, common_steps, samples_in, subst, sym, ◌<◌, ◌≡◌}
 use Rattle.std.proofs.lemmas.List.Elements.{All-from_get_or}
-use Rattle.std.specs.List.{All}
-use Rattle.lattice.specs.Mosaic.{IsSample}
-use Rattle.hgt.specs.Bytes.{samples_in}
 use Rattle.hgt.proofs.BytesLemmas.{samples_in_are_samples}
 use Rattle.reference.proofs.CommandLemmas.{samples_in_more, samples_in_end}
 use Rattle.reference.proofs.commands.samples_in.Goals as goal

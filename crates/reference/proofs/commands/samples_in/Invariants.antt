@@ -1,5 +1,4 @@
-use Rattle.std.proofs.Common.{◌≡◌, ◌*◌, ◌++◌, drop}
-use Rattle.hgt.specs.Bytes.{samples_in}
+use Rattle.reference.proofs.Prelude.{drop, samples_in, ◌*◌, ◌++◌, ◌≡◌}
 use Rattle.reference.proofs.commands.samples_in.Given as goal
 
 abbrev pub invariant-loop-e : goal.invariant-loop-e

@@ -1,8 +1,5 @@
-use Rattle.std.proofs.Common.{◌∙◌, ◌*◌, sym, subst, IsTrue}
-use Rattle.std.specs.List.{All}
+use Rattle.reference.proofs.Prelude.{All, IsSample, IsTile, IsTrue, samples_in, subst, sym, ◌*◌, ◌∙◌}
 use Rattle.lattice.specs.Corners.{Corner, is_corner}
-use Rattle.lattice.specs.Mosaic.{IsTile, IsSample}
-use Rattle.hgt.specs.Bytes.{samples_in}
 use Rattle.hgt.proofs.BytesLemmas.{length-samples_in}
 use Rattle.reference.proofs.Kept.{same_tile}
 use Rattle.reference.proofs.commands.tile_of.Goals as goal

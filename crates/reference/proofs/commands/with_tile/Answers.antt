@@ -1,8 +1,4 @@
-use Rattle.std.proofs.Common.{◌≡◌, ◌∙◌, sym, ap, ap₂, ℕ, List}
-use Rattle.std.proofs.lemmas.List.{take_all}
-use Rattle.std.specs.List.{insert, position_or_len}
-use Rattle.lattice.specs.Corners.{Corner, is_before}
-use Rattle.lattice.specs.Mosaic.{Tile}
+use Rattle.reference.proofs.Prelude.{Corner, List, Tile, ℕ, ap, ap₂, insert, is_before, position_or_len, sym, take_all, ◌∙◌, ◌≡◌}
 use Rattle.reference.proofs.CommandLemmas.{with_tile_at}
 use Rattle.reference.proofs.LoopLemmas.{taken_more}
 use Rattle.reference.proofs.commands.with_tile.Goals as goal

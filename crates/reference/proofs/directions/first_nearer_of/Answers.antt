@@ -1,11 +1,4 @@
-use Rattle.std.proofs.Common.{◌∙◌, sym}
-use Rattle.std.proofs.lemmas.Bool.{false≢true}
-use Rattle.std.proofs.lemmas.List.Elements.{AllWithin-more}
-use Rattle.lattice.specs.declared.point.Point.{Point}
-use Rattle.lattice.specs.declared.direction.Step.{Step}
-use Rattle.lattice.specs.Ground.{terrain}
-use Rattle.flow_d8.specs.Drainage.{IsNearer}
-use Rattle.reference.specs.Levels.{level_of}
+use Rattle.reference.proofs.Prelude.{AllWithin-more, IsNearer, Point, Step, false≢true, level_of, sym, terrain, ◌∙◌}
 use Rattle.reference.proofs.DrainLemmas.{not_at}
 use Rattle.reference.proofs.directions.first_nearer_of.Goals as goal
 

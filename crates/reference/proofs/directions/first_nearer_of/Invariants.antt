@@ -1,7 +1,4 @@
-use Rattle.std.specs.List.{AllWithin}
-use Rattle.lattice.specs.Ground.{terrain}
-use Rattle.flow_d8.specs.Drainage.{IsNearer}
-use Rattle.reference.specs.Levels.{level_of}
+use Rattle.reference.proofs.Prelude.{AllWithin, IsNearer, level_of, terrain}
 use Rattle.reference.proofs.directions.first_nearer_of.Given as goal
 
 abbrev pub invariant-loop-step : goal.invariant-loop-step

@@ -1,6 +1,5 @@
-use Rattle.std.proofs.Common.{◌≡◌, ◌∙◌, ◌-◌, false, true, sym, arith}
+use Rattle.reference.proofs.Prelude.{arith, false, is_level, sym, true, ◌-◌, ◌∙◌, ◌≡◌}
 use Rattle.std.proofs.lemmas.Bool.{eqb-true, eq-eqb, false≢true, le-ltb}
-use Rattle.reference.specs.Flats.{is_level}
 use Rattle.reference.proofs.DrainLemmas.{nearer_from, nearer_less}
 use Rattle.reference.proofs.FlatLemmas.{level_from}
 use Rattle.std.proofs.Math.Dec.{ltb}

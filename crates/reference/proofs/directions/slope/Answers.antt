@@ -1,6 +1,5 @@
-use Rattle.std.proofs.Common.{◌≡◌, ◌∙◌, ◌<◌, ◌≤◌, ◌*◌, ◌⊎◌, inl, inr, ℕ, arith, ap, refl, sym, rules}
+use Rattle.reference.proofs.Prelude.{Dir, ℕ, ap, arith, inl, inr, refl, rules, sym, ◌*◌, ◌<◌, ◌∙◌, ◌≡◌, ◌≤◌, ◌⊎◌}
 use Rattle.std.proofs.Math.Nat.{mul-le-mul}
-use Rattle.lattice.specs.declared.direction.Dir.{Dir}
 use Rattle.lattice.specs.declared.direction.Dir.TheVariants as dir
 use Rattle.lattice.specs.Steps.{slope_of}
 use Rattle.reference.specs.Drains.{drop_of}

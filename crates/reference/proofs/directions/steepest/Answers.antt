@@ -1,7 +1,5 @@
 use Rattle.std.proofs.Common.{◌∙◌, ap, find}
-use Rattle.lattice.specs.declared.direction.Step.{Step}
-use Rattle.std.proofs.Common.{List}
-use Rattle.reference.specs.Drains.{is_steepest}
+use Rattle.reference.proofs.Prelude.{List, Step, is_steepest}
 use Rattle.reference.proofs.DrainLemmas.{steepest_found}
 use Rattle.reference.proofs.directions.steepest.Goals as goal
 

@@ -1,7 +1,4 @@
-use Rattle.std.proofs.Common.{◌∙◌, sym, true, false}
-use Rattle.std.specs.List.{find}
-use Rattle.std.proofs.lemmas.List.{at_drop_all}
-use Rattle.reference.specs.Drains.{is_steepest}
+use Rattle.reference.proofs.Prelude.{at_drop_all, false, find, is_steepest, sym, true, ◌∙◌}
 use Rattle.reference.proofs.LoopLemmas.{found_here}
 use Rattle.reference.proofs.directions.steepest_of.Goals as goal
 

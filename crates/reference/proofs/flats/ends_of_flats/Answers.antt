@@ -1,5 +1,4 @@
-use Rattle.std.proofs.Common.{◌∙◌, ap, sym}
-use Rattle.reference.specs.Flats.{is_end}
+use Rattle.reference.proofs.Prelude.{ap, is_end, sym, ◌∙◌}
 use Rattle.reference.proofs.LoopLemmas.{all_passed, passes_more, passes_same}
 use Rattle.reference.proofs.flats.ends_of_flats.Goals.{then-is_end+in_ok-push, else-is_end}
 use Rattle.reference.proofs.flats.ends_of_flats.Goals as goal

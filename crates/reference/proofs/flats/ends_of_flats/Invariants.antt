@@ -1,5 +1,4 @@
-use Rattle.std.proofs.Common.{◌≡◌, filter, take}
-use Rattle.reference.specs.Flats.{is_end}
+use Rattle.reference.proofs.Prelude.{filter, is_end, take, ◌≡◌}
 use Rattle.reference.proofs.flats.ends_of_flats.Given as goal
 
 abbrev pub invariant-loop-point : goal.invariant-loop-point

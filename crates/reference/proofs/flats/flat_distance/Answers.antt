@@ -1,11 +1,4 @@
-use Rattle.std.proofs.Common.{◌∙◌, ◌<◌, List, vec_len, filter, sym, ap, ap₂, subst}
-use Rattle.std.specs.List.{Contains, list_any}
-use Rattle.lattice.specs.declared.point.Point.{Point}
-use Rattle.lattice.specs.Ground.{terrain}
-use Rattle.flow_d8.specs.Drainage.{IsFlatDistance}
-use Rattle.edits.specs.Effect.{is_named}
-use Rattle.reference.specs.Levels.{level_of}
-use Rattle.reference.specs.Flats.{is_level, crossing}
+use Rattle.reference.proofs.Prelude.{Contains, IsFlatDistance, List, Point, ap, ap₂, crossing, filter, is_level, is_named, level_of, list_any, subst, sym, terrain, vec_len, ◌<◌, ◌∙◌}
 use Rattle.reference.proofs.FlatLemmas.{crossing_more, missed_more, first_round, named_is}
 use Rattle.reference.proofs.flats.flat_distance.Goals as goal
 

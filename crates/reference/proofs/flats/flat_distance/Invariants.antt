@@ -1,6 +1,4 @@
-use Rattle.std.proofs.Common.{◌≡◌, ◌<◌, ◌-◌, ◌^◌, ℕ, vec_len}
-use Rattle.std.specs.List.{Contains}
-use Rattle.reference.specs.Flats.{crossing}
+use Rattle.reference.proofs.Prelude.{Contains, ℕ, crossing, vec_len, ◌-◌, ◌<◌, ◌^◌, ◌≡◌}
 use Rattle.reference.proofs.flats.flat_distance.Given as goal
 
 abbrev pub invariant-rounds : goal.invariant-rounds

@@ -1,7 +1,4 @@
-use Rattle.std.proofs.Common.{◌∙◌, ap, sym}
-use Rattle.std.specs.List.{list_any}
-use Rattle.lattice.specs.declared.point.Point.{Point}
-use Rattle.reference.specs.Flats.{is_level}
+use Rattle.reference.proofs.Prelude.{Point, ap, is_level, list_any, sym, ◌∙◌}
 use Rattle.reference.proofs.LoopLemmas.{all_passed, passes_more, passes_same}
 use Rattle.reference.proofs.flats.points_beside.Goals.{then-is_beside+in_ok-push, else-is_beside}
 use Rattle.reference.proofs.flats.points_beside.Goals as goal

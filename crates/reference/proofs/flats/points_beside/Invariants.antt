@@ -1,6 +1,4 @@
-use Rattle.std.proofs.Common.{◌≡◌, filter, take}
-use Rattle.std.specs.List.{list_any}
-use Rattle.reference.specs.Flats.{is_level}
+use Rattle.reference.proofs.Prelude.{filter, is_level, list_any, take, ◌≡◌}
 use Rattle.reference.proofs.flats.points_beside.Given as goal
 
 abbrev pub invariant-loop-point : goal.invariant-loop-point

@@ -1,8 +1,4 @@
-use Rattle.std.proofs.Common.{◌≡◌, ◌∙◌, ◌<◌, List, Some, length, get_or, map, sym, ap, subst, w16, to_z, of_z}
-use Rattle.std.proofs.lemmas.Int.{to_z-of_z}
-use Rattle.std.specs.List.{All, Contains, sum_by}
-use Rattle.reference.specs.declared.levels.Cell.{Cell}
-use Rattle.reference.specs.Levels.{level_by, starting_cell}
+use Rattle.reference.proofs.Prelude.{All, Cell, Contains, List, Some, ap, get_or, length, level_by, map, of_z, starting_cell, subst, sum_by, sym, to_z, to_z-of_z, w16, ◌<◌, ◌∙◌, ◌≡◌}
 use Rattle.reference.proofs.CommandLemmas.{sample_fits}
 use Rattle.reference.proofs.LevelLemmas.{Lists, HasWay, IsLowOutlet, IsSettled, weight, lists_start, outlets_start, ways_start, way_lowered, outlet_lowered, lists_lowered, weight_lowered, same_lowered, none_from, match_none, filled, on_ground, are_filled}
 use Rattle.reference.proofs.levels.filled_levels.Goals as goal

@@ -1,10 +1,4 @@
-use Rattle.std.proofs.Common.{◌≡◌, ◌∙◌, ℤ, pos, Some, None, sym, ap, subst, rules, w16, SFits, to_z, of_z}
-use Rattle.std.proofs.lemmas.Int.{to_z-of_z}
-use Rattle.std.proofs.lemmas.List.{get_or_default}
-use Rattle.std.proofs.lemmas.List.Elements.{AllWithin-more}
-use Rattle.std.specs.List.{All}
-use Rattle.reference.specs.declared.levels.Cell.{Cell}
-use Rattle.reference.specs.Levels.{level_by}
+use Rattle.reference.proofs.Prelude.{All, AllWithin-more, Cell, None, SFits, Some, ℤ, ap, get_or_default, level_by, of_z, pos, rules, subst, sym, to_z, to_z-of_z, w16, ◌∙◌, ◌≡◌}
 use Rattle.reference.proofs.LevelLemmas.{none_from, match_none}
 use Rattle.reference.proofs.levels.find_lowering.Goals as goal
 

@@ -1,6 +1,4 @@
-use Rattle.std.proofs.Common.{◌≡◌, None}
-use Rattle.std.specs.List.{All, AllWithin}
-use Rattle.reference.specs.Levels.{level_by}
+use Rattle.reference.proofs.Prelude.{All, AllWithin, None, level_by, ◌≡◌}
 use Rattle.reference.proofs.levels.find_lowering.Given as goal
 
 abbrev pub invariant-loop-place : goal.invariant-loop-place

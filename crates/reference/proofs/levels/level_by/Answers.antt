@@ -1,6 +1,4 @@
-use Rattle.std.proofs.Common.{◌∙◌, ap, rules, w16, SFits}
-use Rattle.std.proofs.lemmas.Int.{to_z-of_z}
-use Rattle.lattice.specs.Ground.{metres}
+use Rattle.reference.proofs.Prelude.{SFits, ap, metres, rules, to_z-of_z, w16, ◌∙◌}
 use Rattle.reference.proofs.LevelLemmas.{by_near}
 use Rattle.reference.proofs.levels.level_by.Goals as goal
 

@@ -1,8 +1,4 @@
-use Rattle.std.proofs.Common.{◌≡◌, ◌∙◌, None, pos, sym, subst}
-use Rattle.std.proofs.lemmas.List.{get_or_default}
-use Rattle.std.proofs.lemmas.List.Elements.{AllWithin-more}
-use Rattle.reference.specs.declared.levels.Cell.{Cell}
-use Rattle.reference.specs.Levels.{level_by}
+use Rattle.reference.proofs.Prelude.{AllWithin-more, Cell, None, get_or_default, level_by, pos, subst, sym, ◌∙◌, ◌≡◌}
 use Rattle.reference.proofs.LevelLemmas.{none_from}
 use Rattle.reference.proofs.levels.lower_level.Goals as goal
 

@@ -1,6 +1,4 @@
-use Rattle.std.proofs.Common.{◌≡◌, None}
-use Rattle.std.specs.List.{AllWithin}
-use Rattle.reference.specs.Levels.{level_by}
+use Rattle.reference.proofs.Prelude.{AllWithin, None, level_by, ◌≡◌}
 use Rattle.reference.proofs.levels.lower_level.Given as goal
 
 abbrev pub invariant-loop-other : goal.invariant-loop-other

@@ -1,5 +1,4 @@
-use Rattle.std.proofs.Common.{◌≡◌, take, map}
-use Rattle.reference.specs.Levels.{starting_cell}
+use Rattle.reference.proofs.Prelude.{map, starting_cell, take, ◌≡◌}
 use Rattle.reference.proofs.levels.starting_cells.Given as goal
 
 abbrev pub invariant-loop-point : goal.invariant-loop-point

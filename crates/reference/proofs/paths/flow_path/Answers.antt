@@ -1,10 +1,4 @@
-use Rattle.std.proofs.Common.{IsTrue, List, [], ◌∷◌, ◌++◌, refl, sym, subst}
-use Rattle.lattice.specs.declared.point.Point.{Point}
-use Rattle.lattice.specs.Ground.{is_ground, terrain}
-use Rattle.lattice.specs.Steps.{step}
-use Rattle.flow_d8.specs.FlowPath.{IsFlowPath}
-use Rattle.reference.specs.Levels.{level_of}
-use Rattle.reference.specs.Drains.{DrainsBy}
+use Rattle.reference.proofs.Prelude.{DrainsBy, IsFlowPath, IsTrue, List, Point, [], is_ground, level_of, refl, step, subst, sym, terrain, ◌++◌, ◌∷◌}
 use Rattle.reference.proofs.PathLemmas.{LeadsHere, leads_further, drains_to_ground}
 use Rattle.reference.proofs.paths.flow_path.Goals as goal
 

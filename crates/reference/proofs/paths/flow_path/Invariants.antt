@@ -1,6 +1,4 @@
-use Rattle.std.proofs.Common.{◌-◌, ◌^◌, IsTrue, vec_len}
-use Rattle.lattice.specs.Ground.{is_ground, terrain}
-use Rattle.reference.specs.Levels.{level_of}
+use Rattle.reference.proofs.Prelude.{IsTrue, is_ground, level_of, terrain, vec_len, ◌-◌, ◌^◌}
 use Rattle.reference.proofs.PathLemmas.{LeadsHere}
 use Rattle.reference.proofs.paths.flow_path.Given as goal
 

@@ -1,7 +1,4 @@
-use Rattle.std.proofs.Common.{◌≡◌, ◌∙◌, IsTrue, sym, ap, subst, List}
-use Rattle.std.specs.List.{All, Contains}
-use Rattle.lattice.specs.declared.point.Point.{Point}
-use Rattle.lattice.specs.Ground.{is_ground}
+use Rattle.reference.proofs.Prelude.{All, Contains, IsTrue, List, Point, ap, is_ground, subst, sym, ◌∙◌, ◌≡◌}
 use Rattle.reference.proofs.CommandLemmas.{push_end}
 use Rattle.reference.proofs.PointLemmas.{append_step, among_more, among_end, among_solid, every_ground, ground_among}
 use Rattle.reference.proofs.points.ground_points.Goals as goal

@@ -1,5 +1,4 @@
-use Rattle.std.proofs.Common.{◌≡◌, ◌∙◌, ◌*◌, ◌++◌, ap, arith}
-use Rattle.reference.specs.Points.{tile_ground}
+use Rattle.reference.proofs.Prelude.{ap, arith, tile_ground, ◌*◌, ◌++◌, ◌∙◌, ◌≡◌}
 use Rattle.reference.proofs.CommandLemmas.{point_there}
 use Rattle.reference.proofs.PointLemmas.{push_more}
 use Rattle.reference.proofs.points.push_points.Goals as goal

@@ -1,5 +1,4 @@
-use Rattle.std.proofs.Common.{◌≡◌, ◌++◌}
-use Rattle.reference.specs.Points.{tile_ground}
+use Rattle.reference.proofs.Prelude.{tile_ground, ◌++◌, ◌≡◌}
 use Rattle.reference.proofs.points.push_points.Given as goal
 
 abbrev pub invariant-loop-e : goal.invariant-loop-e

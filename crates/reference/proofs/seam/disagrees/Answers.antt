@@ -1,8 +1,4 @@
-use Rattle.std.proofs.Common.{◌≡◌, ◌∙◌, ◌+◌, ap, sym, rules, false, true, drop, Some, to_z, of_z, w16}
-use Rattle.std.proofs.lemmas.Bool.{false_from_ne_true}
-use Rattle.std.proofs.lemmas.Bool.Decides.{Decides-int_eq}
-use Rattle.std.specs.Ordering.{int_eq}
-use Rattle.lattice.specs.Height.{differ}
+use Rattle.reference.proofs.Prelude.{Decides-int_eq, Some, ap, differ, drop, false, false_from_ne_true, int_eq, of_z, rules, sym, to_z, true, w16, ◌+◌, ◌∙◌, ◌≡◌}
 use Rattle.reference.proofs.SeamLemmas.{differ_from, told, told_again, told_first, told_past}
 use Rattle.reference.proofs.seam.disagrees.Goals.{in-Some+in-None, in-Some+in-Some-first+else-other-sample, in_default}
 use Rattle.reference.proofs.seam.disagrees.Goals as goal

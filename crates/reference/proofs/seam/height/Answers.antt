@@ -1,9 +1,4 @@
-use Rattle.std.proofs.Common.{◌≡◌, ◌∙◌, ◌+◌, ap, sym, rules, Bool, false, true, drop, to_z, of_z, w16}
-use Rattle.std.proofs.lemmas.Bool.{false_from_ne_true}
-use Rattle.std.proofs.lemmas.Bool.Decides.{Decides-int_eq}
-use Rattle.lattice.specs.declared.height.Height.TheVariants.{At}
-use Rattle.lattice.specs.Height.{by_seam_rule}
-use Rattle.lattice.specs.Mosaic.{is_void, void}
+use Rattle.reference.proofs.Prelude.{At, Bool, Decides-int_eq, ap, by_seam_rule, drop, false, false_from_ne_true, is_void, of_z, rules, sym, to_z, true, void, w16, ◌+◌, ◌∙◌, ◌≡◌}
 use Rattle.reference.proofs.SeamLemmas.{height_from, told, told_height, told_past, told_void}
 use Rattle.reference.proofs.seam.height.Goals.{in-Some+else-sample, in_default}
 use Rattle.reference.proofs.seam.height.Goals as goal

@@ -1,5 +1,4 @@
-use Rattle.std.proofs.Common.{◌≡◌, drop}
-use Rattle.lattice.specs.Height.{height_of}
+use Rattle.reference.proofs.Prelude.{drop, height_of, ◌≡◌}
 use Rattle.reference.proofs.SeamLemmas.{told, height_from}
 use Rattle.reference.proofs.seam.height.Given as goal
 

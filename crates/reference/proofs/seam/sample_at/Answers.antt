@@ -1,8 +1,5 @@
-use Rattle.std.proofs.Common.{◌≡◌, ◌∙◌, sym, ap, subst, rules, arith, get_or, w16, SFits}
-use Rattle.std.proofs.lemmas.Bool.{false≢true}
-use Rattle.std.proofs.lemmas.Int.{to_z-of_z}
+use Rattle.reference.proofs.Prelude.{SFits, ap, arith, false≢true, get_or, rules, subst, sym, to_z-of_z, void, w16, ◌∙◌, ◌≡◌}
 use Rattle.lattice.specs.Lattice.{index_of, Holds, IsIndexOf}
-use Rattle.lattice.specs.Mosaic.{void}
 use Rattle.lattice.proofs.Samples.{holds_is, index_is, held_at}
 use Rattle.reference.proofs.seam.sample_at.Goals as goal
 

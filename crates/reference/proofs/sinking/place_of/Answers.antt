@@ -1,8 +1,4 @@
-use Rattle.std.proofs.Common.{◌≡◌, ◌∙◌, ℕ, true, false, length, get_or, pos, below_more, sym, ap, arith}
-use Rattle.std.proofs.lemmas.List.{get_or_default}
-use Rattle.std.proofs.lemmas.List.Sums.{position_or_len_is}
-use Rattle.lattice.specs.declared.point.Point.{Point}
-use Rattle.lattice.specs.Points.{is_point_before}
+use Rattle.reference.proofs.Prelude.{Point, ℕ, ap, arith, below_more, false, get_or, get_or_default, is_point_before, length, pos, position_or_len_is, sym, true, ◌∙◌, ◌≡◌}
 use Rattle.reference.proofs.sinking.place_of.Goals as goal
 
 pub returns-then-is_point_before-clause-value : goal.returns-then-is_point_before-clause-value

@@ -1,6 +1,4 @@
-use Rattle.std.proofs.Common.{◌≡◌, ◌<◌, ℕ, false, get_or}
-use Rattle.lattice.specs.Points.{is_point_before}
-use Rattle.lattice.specs.declared.point.Point.{Point}
+use Rattle.reference.proofs.Prelude.{Point, ℕ, false, get_or, is_point_before, ◌<◌, ◌≡◌}
 use Rattle.reference.proofs.sinking.place_of.Given as goal
 
 abbrev pub invariant-loop-i : goal.invariant-loop-i

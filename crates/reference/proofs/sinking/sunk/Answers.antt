@@ -1,9 +1,4 @@
-use Rattle.std.proofs.Common.{List, sym, ap, ◌∙◌, subst}
-use Rattle.lattice.specs.Height.{height_of}
-use Rattle.lattice.specs.declared.point.Point.{Point}
-use Rattle.lattice.specs.Mosaic.{AreSinks}
-use Rattle.catalogue.specs.Tiles.{with_sinks}
-use Rattle.edits.specs.Sinks.{with_point}
+use Rattle.reference.proofs.Prelude.{AreSinks, List, Point, ap, height_of, subst, sym, with_point, with_sinks, ◌∙◌}
 use Rattle.edits.proofs.SinkLists.{sunk_makes}
 use Rattle.reference.proofs.Accepted.{accepted_sink}
 use Rattle.reference.proofs.sinking.sunk.Goals as goal

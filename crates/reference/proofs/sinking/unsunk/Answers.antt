@@ -1,8 +1,4 @@
-use Rattle.std.proofs.Common.{List, sym, ap, ◌∙◌, subst}
-use Rattle.lattice.specs.declared.point.Point.{Point}
-use Rattle.lattice.specs.Ground.{is_sink}
-use Rattle.lattice.specs.Mosaic.{AreSinks}
-use Rattle.catalogue.specs.Tiles.{with_sinks}
+use Rattle.reference.proofs.Prelude.{AreSinks, List, Point, ap, is_sink, subst, sym, with_sinks, ◌∙◌}
 use Rattle.edits.specs.Sinks.{without_point}
 use Rattle.edits.proofs.SinkLists.{unsunk_leaves}
 use Rattle.reference.proofs.Accepted.{accepted_unsink}

@@ -1,6 +1,4 @@
-use Rattle.std.proofs.Common.{◌∙◌, sym, ap₂, ℕ, List}
-use Rattle.std.specs.List.{insert}
-use Rattle.lattice.specs.declared.point.Point.{Point}
+use Rattle.reference.proofs.Prelude.{List, Point, ℕ, ap₂, insert, sym, ◌∙◌}
 use Rattle.reference.proofs.CommandLemmas.{with_point_at}
 use Rattle.reference.proofs.sinking.with_point.Goals as goal
 

@@ -1,6 +1,4 @@
-use Rattle.std.proofs.Common.{◌∙◌, ap, not, sym}
-use Rattle.lattice.specs.declared.point.Point.{Point}
-use Rattle.lattice.specs.Ground.{same_point}
+use Rattle.reference.proofs.Prelude.{Point, ap, not, same_point, sym, ◌∙◌}
 use Rattle.reference.proofs.LoopLemmas.{all_passed, passes_more, passes_same}
 use Rattle.reference.proofs.sinking.without_point.Goals.{then-not-is_same+in_ok-push, else-not-is_same}
 use Rattle.reference.proofs.sinking.without_point.Goals as goal

@@ -1,5 +1,4 @@
-use Rattle.std.proofs.Common.{◌≡◌, not, take, filter}
-use Rattle.lattice.specs.Ground.{same_point}
+use Rattle.reference.proofs.Prelude.{filter, not, same_point, take, ◌≡◌}
 use Rattle.reference.proofs.sinking.without_point.Given as goal
 
 abbrev pub invariant-loop-other : goal.invariant-loop-other

@@ -1,8 +1,4 @@
-use Rattle.std.proofs.Common.{pos, subst}
-use Rattle.std.proofs.lemmas.List.{get_or_default}
-use Rattle.std.proofs.lemmas.List.Elements.{AllWithin-more}
-use Rattle.lattice.specs.declared.point.Point.{Point}
-use Rattle.lattice.specs.Mosaic.{IsHeld}
+use Rattle.reference.proofs.Prelude.{AllWithin-more, IsHeld, Point, get_or_default, pos, subst}
 use Rattle.reference.proofs.sinks.are_held.Goals as goal
 
 pub loop-point-preserved : goal.loop-point-preserved

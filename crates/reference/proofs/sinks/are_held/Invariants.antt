@@ -1,5 +1,4 @@
-use Rattle.std.specs.List.{AllWithin}
-use Rattle.lattice.specs.Mosaic.{IsHeld}
+use Rattle.reference.proofs.Prelude.{AllWithin, IsHeld}
 use Rattle.reference.proofs.sinks.are_held.Given as goal
 
 abbrev pub invariant-loop-point : goal.invariant-loop-point

@@ -1,10 +1,7 @@
-use Rattle.std.proofs.Common.{rules, ℕ, Result}
-use Rattle.lattice.specs.Ground.{terrain}
-use Rattle.lattice.specs.declared.refusal.Refusal.{Refusal}
+use Rattle.store.proofs.Prelude.{Refusal, Result, ℕ, mosaic_of, rules, terrain}
 use Rattle.watershed.specs.Questions.{DrainsBy, IsAnswered}
 use Rattle.engine.specs.Outcomes.{Directs}
 use Rattle.engine.proofs.Answered.{directs}
-use Rattle.cow_tree.specs.Reading.{mosaic_of}
 use Rattle.store.proofs.Reading.AskedTrees.{of_levels, asked_of}
 use Rattle.store.proofs.asking.ask_direction.Goals as goal
 

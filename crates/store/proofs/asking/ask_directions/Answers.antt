@@ -1,6 +1,4 @@
-use Rattle.std.proofs.Common.{rules, ℕ, Result}
-use Rattle.std.specs.Global.{Vec}
-use Rattle.lattice.specs.declared.refusal.Refusal.{Refusal}
+use Rattle.store.proofs.Prelude.{Refusal, Result, Vec, ℕ, rules}
 use Rattle.watershed.specs.Questions.{AreTileDirections}
 use Rattle.store.proofs.Reading.AskedTrees.{tile_asked_of}
 use Rattle.store.proofs.asking.ask_directions.Goals as goal

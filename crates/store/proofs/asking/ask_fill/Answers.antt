@@ -1,7 +1,5 @@
-use Rattle.std.proofs.Common.{rules, ℤ, Result}
-use Rattle.lattice.specs.Ground.{terrain}
+use Rattle.store.proofs.Prelude.{Refusal, Result, ℤ, rules, terrain}
 use Rattle.lattice.specs.Terrain.{IsFilledLevel}
-use Rattle.lattice.specs.declared.refusal.Refusal.{Refusal}
 use Rattle.engine.specs.Outcomes.{Fills}
 use Rattle.engine.proofs.Answered.{fills}
 use Rattle.store.proofs.Reading.AskedTrees.{asked_of}

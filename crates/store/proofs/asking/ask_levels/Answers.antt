@@ -1,6 +1,4 @@
-use Rattle.std.proofs.Common.{rules, ℤ, Result}
-use Rattle.std.specs.Global.{Vec}
-use Rattle.lattice.specs.declared.refusal.Refusal.{Refusal}
+use Rattle.store.proofs.Prelude.{Refusal, Result, Vec, ℤ, rules}
 use Rattle.tile_flood.specs.Raising.{AreTileLevels}
 use Rattle.store.proofs.Reading.AskedTrees.{tile_asked_of}
 use Rattle.store.proofs.asking.ask_levels.Goals as goal

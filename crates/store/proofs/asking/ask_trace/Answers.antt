@@ -1,14 +1,7 @@
-use Rattle.std.proofs.Common.{rules, Result}
-use Rattle.std.specs.Global.{Vec}
-use Rattle.lattice.specs.Ground.{terrain}
-use Rattle.lattice.specs.declared.point.Point.{Point}
-use Rattle.lattice.specs.declared.refusal.Refusal.{Refusal}
+use Rattle.store.proofs.Prelude.{IsAnswered, Point, Refusal, Result, Vec, items_in, mosaic_of, rules, terrain}
 use Rattle.flow_d8.specs.FlowPath.{IsFlowPath}
-use Rattle.watershed.specs.Questions.{IsAnswered}
-use Rattle.engine.specs.Engines.{items_in}
 use Rattle.engine.specs.Outcomes.{Traces}
 use Rattle.engine.proofs.Answered.{traces}
-use Rattle.cow_tree.specs.Reading.{mosaic_of}
 use Rattle.store.proofs.Reading.AskedTrees.{listed, of_levels, asked_of}
 use Rattle.store.proofs.asking.ask_trace.Goals as goal
 

@@ -1,15 +1,9 @@
-use Rattle.std.proofs.Common.{rules, Result}
-use Rattle.std.specs.Global.{Vec}
-use Rattle.lattice.specs.Ground.{terrain}
-use Rattle.lattice.specs.declared.refusal.Refusal.{Refusal}
+use Rattle.store.proofs.Prelude.{IsAnswered, Refusal, Result, Vec, items_in, mosaic_of, rules, terrain}
 use Rattle.flow_d8.specs.FlowPath.{IsInWatershed}
-use Rattle.watershed.specs.Questions.{IsAnswered}
 use Rattle.watershed.specs.Runs.{AreRuns}
 use Rattle.watershed.specs.declared.runs.Run.{Run}
-use Rattle.engine.specs.Engines.{items_in}
 use Rattle.engine.specs.Outcomes.{Sheds}
 use Rattle.engine.proofs.Answered.{sheds}
-use Rattle.cow_tree.specs.Reading.{mosaic_of}
 use Rattle.store.proofs.Reading.AskedTrees.{listed, of_levels, asked_of}
 use Rattle.store.proofs.asking.ask_watershed.Goals as goal
 

@@ -1,12 +1,4 @@
-use Rattle.std.proofs.Common.{inl, inr, ⊎_elim, ℕ, ◌+◌, ◌<◌, ◌^◌, sym, ap, ◌∙◌, subst, Result, Ok, Err, OnOk}
-use Rattle.lattice.specs.declared.refusal.Refusal.{Refusal}
-use Rattle.page_codec.specs.Roots.{RootValue}
-use Rattle.cow_tree.specs.Stored.{Stored, next_commit}
-use Rattle.cow_tree.specs.Trees.{disk_of, root_of, sinks_of, staged_in}
-use Rattle.cow_tree.proofs.Steps.{on_ok}
-use Rattle.derived.specs.Steps.{Commits}
-use Rattle.store.specs.Ended.{IsApplied}
-use Rattle.store.specs.Staging.{IsStaged}
+use Rattle.store.proofs.Prelude.{Commits, Err, IsApplied, IsStaged, Ok, OnOk, Refusal, Result, RootValue, Stored, ℕ, ap, disk_of, inl, inr, next_commit, on_ok, root_of, sinks_of, staged_in, subst, sym, ⊎_elim, ◌+◌, ◌<◌, ◌^◌, ◌∙◌}
 use Rattle.store.proofs.Calls.Committed.{gives_up, fails_in_commit, commits_it}
 use Rattle.cow_tree.proofs.Uncommitted.{given_up, refused_as}
 use Rattle.store.proofs.committing.commit_staged.Goals as goal

@@ -1,6 +1,4 @@
-use Rattle.std.proofs.Common.{rules, ◌≡◌, ◌≤◌, ◌<◌, ◌/◌, ℕ, false, nat_eq, ◌∙◌, arith, Option, Some, None, IfNone, IsTrue}
-use Rattle.std.proofs.lemmas.Bool.{eqb-true, false_from_ne_true, false≢true}
-use Rattle.lattice.specs.Corners.{is_corner}
+use Rattle.store.proofs.Prelude.{IfNone, IsTrue, None, Option, Some, ℕ, arith, eqb-true, false, false_from_ne_true, false≢true, is_corner, nat_eq, rules, ◌/◌, ◌<◌, ◌∙◌, ◌≡◌, ◌≤◌}
 use Rattle.lattice.proofs.Samples.{index_below}
 use Rattle.store.proofs.Edits.NewHeights.{in_no_page, in_own_page}
 use Rattle.store.proofs.heights.page_from.Goals as goal

@@ -1,7 +1,5 @@
-use Rattle.std.proofs.Common.{◌≡◌, ⊎_elim, ◌+◌, ◌<◌, ℕ, ℤ, List, length, get_or, sym, ap, ◌∙◌, subst, arith}
+use Rattle.store.proofs.Prelude.{IsSample, List, NewHeight, ℕ, ℤ, ap, arith, get_or, length, subst, sym, ⊎_elim, ◌+◌, ◌<◌, ◌∙◌, ◌≡◌}
 use Rattle.std.proofs.lemmas.Bool.{cases_Bool, or_parts}
-use Rattle.lattice.specs.Mosaic.{IsSample}
-use Rattle.edits.specs.declared.edit.NewHeight.{NewHeight}
 use Rattle.store.proofs.Edits.NewHeights.{IsSetTo, all_set, height_passed, height_set, height_there}
 use Rattle.store.proofs.Pages.{with_bytes}
 use Rattle.store.proofs.Edits.VoidPages.{sample_passed}

@@ -1,5 +1,4 @@
-use Rattle.std.proofs.Common.{◌≡◌, false, IsTrue}
-use Rattle.lattice.specs.Corners.{is_corner}
+use Rattle.store.proofs.Prelude.{IsTrue, false, is_corner, ◌≡◌}
 use Rattle.store.proofs.Edits.NewHeights.{IsSetTo}
 use Rattle.store.proofs.heights.set_heights.Given as goal
 

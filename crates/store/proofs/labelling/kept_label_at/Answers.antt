@@ -1,7 +1,4 @@
-use Rattle.std.proofs.Common.{◌≡◌, ◌*◌, ◌<◌, ℕ, sym, ap, ◌∙◌, subst, option_map}
-use Rattle.page_codec.specs.Roots.{RootValue}
-use Rattle.cow_tree.specs.Reading.{mosaic_of}
-use Rattle.cow_tree.specs.Stored.{KeptPlanes, plane_bytes}
+use Rattle.store.proofs.Prelude.{KeptPlanes, RootValue, ℕ, ap, mosaic_of, option_map, plane_bytes, subst, sym, ◌*◌, ◌<◌, ◌∙◌, ◌≡◌}
 use Rattle.store.proofs.KeptPlanes.Labelled.{was_sure, keeps_there, labelled_by_bytes, least_height, failed_before, answered_whole}
 use Rattle.store.proofs.labelling.kept_label_at.Goals as goal
 

@@ -1,9 +1,4 @@
-use Rattle.std.proofs.Common.{◌≡◌, ℕ, List, sym, ap, ◌∙◌, subst, IfOk}
-use Rattle.page_codec.specs.Roots.{RootValue}
-use Rattle.tile_flood.specs.Kept.{labels_in, levels_in}
-use Rattle.tile_flood.specs.Labelling.{IsLabelling}
-use Rattle.cow_tree.specs.Reading.{mosaic_of}
-use Rattle.cow_tree.specs.Stored.{plane_bytes}
+use Rattle.store.proofs.Prelude.{IfOk, IsLabelling, List, RootValue, ℕ, ap, labels_in, levels_in, mosaic_of, plane_bytes, subst, sym, ◌∙◌, ◌≡◌}
 use Rattle.store.proofs.KeptPlanes.Labelled.{was_sure, keeps_there, flooded_by_bytes, least_height, failed_before, not_damaged}
 use Rattle.store.proofs.labelling.kept_labelling.Goals as goal
 

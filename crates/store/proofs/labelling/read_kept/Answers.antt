@@ -1,7 +1,4 @@
-use Rattle.std.proofs.Common.{◌≡◌, List, Ok, Err, ap, sym, subst, option_map}
-use Rattle.cow_tree.specs.Stored.{KeptPlanes, StoredTile, plane_bytes}
-use Rattle.page_codec.specs.Roots.{RootValue}
-use Rattle.store.specs.Queried.{IsTileOf}
+use Rattle.store.proofs.Prelude.{Err, IsTileOf, KeptPlanes, List, Ok, RootValue, StoredTile, ap, option_map, plane_bytes, subst, sym, ◌≡◌}
 use Rattle.store.proofs.KeptPlanes.Labelled.{reads_refused, reads_then}
 use Rattle.store.proofs.labelling.read_kept.Goals as goal
 

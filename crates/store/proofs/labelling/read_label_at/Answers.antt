@@ -1,8 +1,4 @@
-use Rattle.std.proofs.Common.{List, Ok, Err, sym, subst}
-use Rattle.cow_tree.specs.Stored.{StoredTile, plane_bytes}
-use Rattle.page_codec.specs.Roots.{RootValue}
-use Rattle.tile_labellings.specs.Spots.{StandsAt}
-use Rattle.store.specs.Queried.{IsTileOf}
+use Rattle.store.proofs.Prelude.{Err, IsTileOf, List, Ok, RootValue, StandsAt, StoredTile, plane_bytes, subst, sym}
 use Rattle.store.proofs.KeptPlanes.Labelled.{reads_refused, reads_then}
 use Rattle.store.proofs.labelling.read_label_at.Goals as goal
 

@@ -1,6 +1,4 @@
-use Rattle.std.proofs.Common.{◌/◌}
-use Rattle.cow_tree.specs.Trees.{staged_in}
-use Rattle.cow_tree.proofs.Steps.{on_ok}
+use Rattle.store.proofs.Prelude.{on_ok, staged_in, ◌/◌}
 use Rattle.store.proofs.Reading.QueryingPages.{page_of_tile}
 use Rattle.store.proofs.Edits.LabelsRead.{two_stand}
 use Rattle.store.proofs.labelling.read_value.Goals as goal

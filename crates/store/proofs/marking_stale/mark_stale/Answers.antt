@@ -1,10 +1,4 @@
-use Rattle.std.proofs.Common.{rules, arith, ◌≡◌, ◌+◌, ◌<◌, ◌≤◌, List, length, take, get_or, Contains, true, false, refl, sym, ap₂, ◌∙◌, subst}
-use Rattle.lattice.specs.Corners.{Corner}
-use Rattle.edits.specs.Edits.{goes_stale_by}
-use Rattle.cow_tree.specs.Trees.{root_of, corners_of}
-use Rattle.cow_tree.specs.declared.tree.Tree.{Tree}
-use Rattle.page_codec.specs.Roots.{RootValue}
-use Rattle.store.specs.Staling.{Stales}
+use Rattle.store.proofs.Prelude.{Contains, Corner, List, RootValue, Stales, Tree, ap₂, arith, corners_of, false, get_or, goes_stale_by, length, refl, root_of, rules, subst, sym, take, true, ◌+◌, ◌<◌, ◌∙◌, ◌≡◌, ◌≤◌}
 use Rattle.store.proofs.Reading.Nearby.{passes_first, first_more, first_same, first_all}
 use Rattle.store.proofs.Edits.Staled.{stales_none}
 use Rattle.store.proofs.marking_stale.mark_stale.Goals as goal

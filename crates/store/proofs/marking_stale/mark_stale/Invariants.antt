@@ -1,7 +1,4 @@
-use Rattle.std.proofs.Common.{take}
-use Rattle.cow_tree.specs.Trees.{root_of, corners_of}
-use Rattle.edits.specs.Edits.{goes_stale_by}
-use Rattle.store.specs.Staling.{Stales}
+use Rattle.store.proofs.Prelude.{Stales, corners_of, goes_stale_by, root_of, take}
 use Rattle.store.proofs.Reading.Nearby.{passes_first}
 use Rattle.store.proofs.marking_stale.mark_stale.Given as goal
 

@@ -1,15 +1,7 @@
 use Rattle.std.proofs.Common.{◌≡◌, ℕ, ◌+◌, ◌-◌, ◌*◌, ◌≤◌, min, List, ◌++◌, length, take, IsOk, Result, Ok, Err, is_ok, if◌then◌else◌, vec_len, sym, ap, ◌∙◌, subst, arith, length-take-le}
 use Rattle.std.proofs.lemmas.Result.{err_from_is_err_and}
-use Rattle.page_map.specs.PageMaps.{PageMapValue}
-use Rattle.page_map.specs.Planes.{HasPlane}
-use Rattle.page_codec.specs.Roots.{RootValue}
-use Rattle.page_codec.specs.Sizes.{pages_of}
-use Rattle.cow_tree.specs.Planes.{HasPage}
-use Rattle.cow_tree.specs.Reading.{read_again}
-use Rattle.cow_tree.specs.Stored.{StoredTile}
-use Rattle.cow_tree.specs.Trees.{staged_in}
+use Rattle.store.proofs.Prelude.{HasPage, HasPlane, PageMapValue, Refusal, RootValue, StoredTile, pages_of, read_again, staged_in}
 use Rattle.store.proofs.Reading.QueryingPages.{IsReadTo, read_more, all_read, page_of_tile}
-use Rattle.lattice.specs.declared.refusal.Refusal.{Refusal}
 use Rattle.store.proofs.queries.read_plane.Goals as goal
 
 pub scan_page-requires-clause-held : goal.scan_page-requires-clause-held

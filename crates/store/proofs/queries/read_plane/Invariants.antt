@@ -1,9 +1,4 @@
-use Rattle.std.proofs.Common.{◌≡◌, ◌*◌, ◌≤◌, Some, false, min, vec_len, vec_capacity}
-use Rattle.cow_tree.specs.Planes.{stored_plane}
-use Rattle.cow_tree.specs.Reading.{HasOnlyRead}
-use Rattle.cow_tree.specs.Stored.{PlanePages, StoredTile}
-use Rattle.cow_tree.specs.Trees.{disk_of, has_failed, staged_in}
-use Rattle.store.specs.Queried.{IsTileOf}
+use Rattle.store.proofs.Prelude.{HasOnlyRead, IsTileOf, PlanePages, Some, StoredTile, disk_of, false, has_failed, min, staged_in, stored_plane, vec_capacity, vec_len, ◌*◌, ◌≡◌, ◌≤◌}
 use Rattle.store.proofs.Reading.QueryingPages.{IsReadTo}
 use Rattle.store.proofs.queries.read_plane.Given as goal
 

@@ -1,7 +1,4 @@
-use Rattle.std.proofs.Common.{◌∙◌, ◌&&◌, ap, sym}
-use Rattle.std.proofs.lemmas.Result.{IfOk-weaker}
-use Rattle.catalogue.proofs.Reading.{reads_nothing}
-use Rattle.edits.specs.Effect.{is_void_at}
+use Rattle.store.proofs.Prelude.{IfOk-weaker, ap, is_void_at, reads_nothing, sym, ◌&&◌, ◌∙◌}
 use Rattle.store.proofs.rims.is_void_in_box.Goals as goal
 
 pub returns-then-not-is_in_box-clause-value : goal.returns-then-not-is_in_box-clause-value

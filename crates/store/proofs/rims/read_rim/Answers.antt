@@ -1,12 +1,7 @@
 use Rattle.std.proofs.Common.{◌≡◌, ◌≢◌, ◌<◌, ◌-◌, ◌*◌, ◌≤◌, ℕ, Bool, true, false, nat_eq, length, set, Ok, refl, sym, ap, ap₂, ◌∙◌, subst, arith, get_or-set_same, get_or-set_other, ◌&&◌, slice_index_or}
-use Rattle.std.proofs.lemmas.Bool.{eqb-true, eqb-false}
-use Rattle.lattice.specs.Lattice.{point_of}
-use Rattle.lattice.specs.Mosaic.{Mosaic}
-use Rattle.lattice.specs.RimPoints.{IsRimPoint}
-use Rattle.lattice.specs.declared.point.Point.{Point}
+use Rattle.store.proofs.Prelude.{IsRimPoint, Mosaic, Point, eqb-false, eqb-true, is_in_box, is_void_at, point_of}
 use Rattle.lattice.proofs.RimNumbers.{one_index}
 use Rattle.catalogue.proofs.Reading.{reads_as, reads_on}
-use Rattle.edits.specs.Effect.{is_in_box, is_void_at}
 use Rattle.store.proofs.rims.read_rim.Goals as goal
 
 pub loop-number-preserved : goal.loop-number-preserved

@@ -1,8 +1,4 @@
-use Rattle.std.proofs.Common.{◌≡◌, ◌-◌, ◌*◌, ◌<◌, ℕ, false, vec_len, Ok, ◌&&◌, slice_index_or}
-use Rattle.lattice.specs.Lattice.{point_of}
-use Rattle.lattice.specs.RimPoints.{IsRimPoint}
-use Rattle.catalogue.specs.Readers.{OnlyReads}
-use Rattle.edits.specs.Effect.{is_in_box, is_void_at}
+use Rattle.store.proofs.Prelude.{IsRimPoint, Ok, OnlyReads, ℕ, false, is_in_box, is_void_at, point_of, slice_index_or, vec_len, ◌&&◌, ◌*◌, ◌-◌, ◌<◌, ◌≡◌}
 use Rattle.store.proofs.rims.read_rim.Given as goal
 
 abbrev pub invariant-loop-number : goal.invariant-loop-number

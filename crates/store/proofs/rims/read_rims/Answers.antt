@@ -1,11 +1,5 @@
-use Rattle.std.proofs.Common.{◌≡◌, ◌-◌, ◌*◌, ◌++◌, List, [], ◌∷◌, All, map, vec_len, Ok, refl, sym, ap, ap₂, ◌∙◌, subst}
-use Rattle.std.proofs.lemmas.List.{take_more}
+use Rattle.store.proofs.Prelude.{All, AreRimVoids, Corner, List, Mosaic, Ok, RimVoids, [], ap, ap₂, map, reads_on, refl, subst, sym, take_more, vec_len, ◌*◌, ◌++◌, ◌-◌, ◌∙◌, ◌∷◌, ◌≡◌}
 use Rattle.std.proofs.lemmas.List.Elements.{All-push}
-use Rattle.lattice.specs.Corners.{Corner}
-use Rattle.lattice.specs.Mosaic.{Mosaic}
-use Rattle.catalogue.proofs.Reading.{reads_on}
-use Rattle.store.specs.Underway.{AreRimVoids}
-use Rattle.store.specs.declared.rims.RimVoids.{RimVoids}
 use Rattle.store.proofs.rims.read_rims.Goals as goal
 
 map_push : (rims : List RimVoids) (rim : RimVoids) → map (λ r. r.corner) (rims ++ rim ∷ []) ≡ map (λ r. r.corner) rims ++ rim.corner ∷ []

@@ -1,6 +1,4 @@
-use Rattle.std.proofs.Common.{◌≡◌, ◌-◌, ◌*◌, All, map, take, vec_len, Ok}
-use Rattle.catalogue.specs.Readers.{OnlyReads}
-use Rattle.store.specs.Underway.{AreRimVoids}
+use Rattle.store.proofs.Prelude.{All, AreRimVoids, Ok, OnlyReads, map, take, vec_len, ◌*◌, ◌-◌, ◌≡◌}
 use Rattle.store.proofs.rims.read_rims.Given as goal
 
 abbrev pub invariant-loop-corner : goal.invariant-loop-corner

@@ -1,7 +1,4 @@
-use Rattle.std.proofs.Common.{subst}
-use Rattle.cow_tree.proofs.Steps.{on_ok}
-use Rattle.store.specs.Sessions.{MakesCallsOf}
-use Rattle.store.specs.declared.store.Store.{Store}
+use Rattle.store.proofs.Prelude.{MakesCallsOf, Store, on_ok, subst}
 use Rattle.store.proofs.Calls.Runs.{calls_of_run}
 use Rattle.store.proofs.sessions.run_in_session.Goals as goal
 

@@ -1,5 +1,4 @@
-use Rattle.std.proofs.Common.{ℕ}
-use Rattle.disk.specs.Disk.{Image}
+use Rattle.store.proofs.Prelude.{Image, ℕ}
 use Rattle.disk.specs.FileDisk.{calls_of}
 use Rattle.disk.specs.FileMembers.{only_left}
 use Rattle.disk.specs.FileWorlds.{giving}

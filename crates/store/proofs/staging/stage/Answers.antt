@@ -1,40 +1,15 @@
-use Rattle.std.proofs.Common.{◌≡◌, ℕ, ℤ, pos, negsuc, List, Contains, length, Result, Ok, OnOk, refl, sym, ap, ◌∙◌, subst, arith, false, IsTrue, int_le}
-use Rattle.std.proofs.lemmas.Bool.{and_parts}
-use Rattle.std.proofs.lemmas.Int.{ints}
-use Rattle.std.proofs.lemmas.List.{length-map}
+use Rattle.store.proofs.Prelude.{AreTilesOf, AreVoidTiles, Contains, Corner, Device, Edit, FindsVoids, FitsIn, Ghosts, IsMade, IsTrue, KeepsBut, List, MakesPages, NewHeight, Ok, OnOk, OnlyNow, Patch, Point, Refusal, Result, StagesFew, StagesPages, Stored, StoredTile, Tree, ℕ, ℤ, and_parts, ap, arith, box_meets, edit_made, false, filled, heightened, in_memory, int_le, ints, keepers, le_true, length, length-map, mosaic_of, mosaic_of_tiles, negsuc, never_refused, on_ok, pages_met, pages_of, pages_of_bytes, pages_with, points_of, pos, refl, stale_tile, subst, sym, with_heights, with_sinks, ◌∙◌, ◌≡◌}
 use mir.Syntax.{w16}
 use mir.Val.{to_z, of_z}
-use Rattle.lattice.proofs.IntTests.{le_true}
 use Rattle.store.proofs.Edits.VoidPages.{sample_passed}
-use Rattle.lattice.specs.Corners.{Corner}
 use Rattle.lattice.specs.Mosaic.{Mosaic, AreSinks, IsMosaic, IsSample}
-use Rattle.lattice.specs.declared.point.Point.{Point}
-use Rattle.lattice.specs.declared.refusal.Refusal.{Refusal}
-use Rattle.lattice.specs.declared.refusal.Refusal.TheVariants.{Device}
-use Rattle.disk.specs.declared.disk.Disk.{Ghosts}
 use Rattle.lattice.proofs.Rising.{rising_from}
-use Rattle.catalogue.specs.Tiles.{with_sinks}
-use Rattle.page_codec.specs.Sizes.{pages_of}
-use Rattle.edits.specs.declared.edit.Edit.{Edit}
 use Rattle.edits.specs.declared.edit.Edit.TheVariants.{Add, Drop, Heights, Voids, Sink, Unsink}
-use Rattle.edits.specs.declared.edit.NewHeight.{NewHeight}
-use Rattle.edits.specs.Edits.{AreVoidTiles, FitsIn, FindsVoids, edit_made, points_of, with_heights}
 use Rattle.edits.specs.Effect.{edited, patched, is_height}
 use Rattle.edits.specs.Sinks.{with_point, without_point}
 use Rattle.edits.proofs.SinkLists.{length_with, sinks_without}
-use Rattle.cow_tree.specs.Reading.{mosaic_of}
-use Rattle.cow_tree.specs.Stored.{Stored, StoredTile, mosaic_of_tiles, pages_of_bytes, stale_tile}
 use Rattle.cow_tree.specs.Trees.{disk_of, root_of, has_failed, corners_of, sinks_of, staged_in, IsAt}
 use Rattle.cow_tree.specs.Uncommitted.{CommitsNothing, MakesNoCall}
-use Rattle.cow_tree.specs.declared.tree.Tree.{Tree}
-use Rattle.cow_tree.proofs.ReadOnly.{never_refused}
-use Rattle.cow_tree.proofs.Steps.{on_ok}
-use Rattle.store.specs.Editing.{IsMade, KeepsBut, AreTilesOf, MakesPages, StagesFew, StagesPages}
-use Rattle.store.specs.PagesMet.{pages_met, pages_with}
-use Rattle.store.specs.Staling.{keepers}
-use Rattle.store.specs.Underway.{box_meets, filled, heightened}
-use Rattle.store.specs.declared.voids.Patch.{Patch}
-use Rattle.cow_tree.proofs.Uncommitted.{in_memory, OnlyNow}
 use Rattle.store.proofs.Reading.HeldTiles.{imported, removed}
 use Rattle.store.proofs.Reading.Nearby.{there_listed}
 use Rattle.store.proofs.Calls.Made.{kept_as, kept_left, kept_with, with_others}

@@ -1,5 +1,4 @@
-use Rattle.std.proofs.Common.{arith}
-use Rattle.page_codec.specs.Sizes.{pages_of}
+use Rattle.store.proofs.Prelude.{arith, pages_of}
 use Rattle.store.proofs.Edits.PagesMet.{met_some}
 use Rattle.store.proofs.staging_pages.prepare_tile.Goals as goal
 

@@ -1,12 +1,5 @@
-use Rattle.std.proofs.Common.{◌+◌, ℕ, All, Contains, List, take, take_all, Result, Ok, Err, sym, subst, arith}
+use Rattle.store.proofs.Prelude.{All, Contains, Corner, Err, IsPrepared, List, Ok, Prepares, Refusal, Result, ℕ, arith, corners_of, pages_met, pages_met_in, pages_of, refused_as, subst, sym, take, take_all, ◌+◌}
 use Rattle.std.proofs.lemmas.List.Elements.{All-more, All-weaker}
-use Rattle.lattice.specs.Corners.{Corner}
-use Rattle.lattice.specs.declared.refusal.Refusal.{Refusal}
-use Rattle.page_codec.specs.Sizes.{pages_of}
-use Rattle.cow_tree.specs.Trees.{corners_of}
-use Rattle.store.specs.Editing.{IsPrepared, Prepares}
-use Rattle.store.specs.PagesMet.{pages_met_in, pages_met}
-use Rattle.cow_tree.proofs.Uncommitted.{refused_as}
 use Rattle.store.proofs.Edits.PagesMet.{met_front, met_more}
 use Rattle.store.proofs.KeptPlanes.StagingSteps.{none_prepared, prepares_on, prepares_within}
 use Rattle.store.proofs.staging_pages.prepare_tiles.Goals as goal

@@ -1,7 +1,4 @@
-use Rattle.std.proofs.Common.{Ok, take, All}
-use Rattle.page_codec.specs.Sizes.{pages_of}
-use Rattle.store.specs.Editing.{IsPrepared, Prepares}
-use Rattle.store.specs.PagesMet.{pages_met}
+use Rattle.store.proofs.Prelude.{All, IsPrepared, Ok, Prepares, pages_met, pages_of, take}
 use Rattle.store.proofs.staging_pages.prepare_tiles.Given as goal
 
 abbrev pub invariant-loop-corner : goal.invariant-loop-corner

@@ -1,20 +1,4 @@
-use Rattle.std.proofs.Common.{◌≡◌, ◌≤◌, ◌<◌, ◌+◌, ℕ, Bool, if◌then◌else◌, Result, Ok, Err, List, length, sym, ap, ◌∙◌, subst, arith}
-use Rattle.lattice.specs.Corners.{Corner}
-use Rattle.lattice.specs.Mosaic.{Mosaic}
-use Rattle.lattice.specs.declared.refusal.Refusal.{Refusal}
-use Rattle.page_codec.specs.Roots.{RootValue}
-use Rattle.page_codec.specs.Sizes.{pages_of}
-use Rattle.page_map.specs.PageMaps.{PageMapValue}
-use Rattle.page_map.specs.declared.plane.Plane.TheVariants.{Heights}
-use Rattle.page_map.proofs.Lookup.{tile_at_corner}
-use Rattle.cow_tree.specs.Planes.{HasPage}
-use Rattle.cow_tree.specs.Staged.{index_page_by, pages_due}
-use Rattle.cow_tree.specs.Stored.{StoredTile, with_page}
-use Rattle.cow_tree.specs.Trees.{disk_of, root_of, has_begun, records_due, staged_in, HasStaged}
-use Rattle.cow_tree.proofs.Steps.{ok_where, on_ok}
-use Rattle.store.specs.Editing.{MakesPages, index_pages_due, writes_begun}
-use Rattle.store.specs.Underway.{IsEdited, IsUnderway, Settles}
-use Rattle.cow_tree.proofs.Uncommitted.{refused_as, uncommitted_on}
+use Rattle.store.proofs.Prelude.{Bool, Corner, Err, HasPage, HasStaged, Heights, IsEdited, IsUnderway, List, MakesPages, Mosaic, Ok, PageMapValue, Refusal, Result, RootValue, Settles, StoredTile, ℕ, ap, arith, disk_of, has_begun, if◌then◌else◌, index_page_by, index_pages_due, length, ok_where, on_ok, pages_due, pages_of, records_due, refused_as, root_of, staged_in, subst, sym, tile_at_corner, uncommitted_on, with_page, writes_begun, ◌+◌, ◌<◌, ◌∙◌, ◌≡◌, ◌≤◌}
 use Rattle.store.proofs.Edits.EditingWrites.{page_written}
 use Rattle.store.proofs.KeptPlanes.StagingSteps.{one_page_due, only_device, page_read}
 use Rattle.store.proofs.Calls.Underway.{page_left, page_of, page_staged}

@@ -1,14 +1,4 @@
-use Rattle.std.proofs.Common.{◌≡◌, inl, ℕ, All, Contains, List, Result, Ok, Err, sym, ap, ◌∙◌, subst, arith}
-use Rattle.std.proofs.lemmas.List.Elements.{All-contains_itself}
-use Rattle.std.proofs.lemmas.Result.{IfErr-weaker}
-use Rattle.lattice.specs.Corners.{Corner}
-use Rattle.lattice.specs.declared.refusal.Refusal.{Refusal}
-use Rattle.page_codec.specs.Roots.{RootValue}
-use Rattle.page_codec.specs.Sizes.{pages_of}
-use Rattle.cow_tree.specs.Trees.{root_of, corners_of}
-use Rattle.store.specs.Editing.{IsPrepared, IsRefusedEarly, MakesPages, Prepares}
-use Rattle.store.specs.PagesMet.{pages_met}
-use Rattle.cow_tree.proofs.Uncommitted.{refused_as}
+use Rattle.store.proofs.Prelude.{All, All-contains_itself, Contains, Corner, Err, IfErr-weaker, IsPrepared, IsRefusedEarly, List, MakesPages, Ok, Prepares, Refusal, Result, RootValue, ℕ, ap, arith, corners_of, inl, pages_met, pages_of, refused_as, root_of, subst, sym, ◌∙◌, ◌≡◌}
 use Rattle.store.proofs.KeptPlanes.StagingSteps.{made_behind, pages_within, prepared_early, prepared_pages}
 use Rattle.store.proofs.staging_pages.stage_pages.Goals as goal
 

@@ -1,15 +1,4 @@
-use Rattle.std.proofs.Common.{◌≡◌, ◌⊎◌, ⊎_elim, inl, inr, ℕ, ◌+◌, ◌<◌, false, Contains, List, Result, Ok, Err, sym, ap, ◌∙◌, subst, arith}
-use Rattle.std.proofs.lemmas.Bool.{cases_lt}
-use Rattle.lattice.specs.Corners.{Corner}
-use Rattle.lattice.specs.Mosaic.{Mosaic}
-use Rattle.lattice.specs.declared.refusal.Refusal.{Refusal}
-use Rattle.page_codec.specs.Roots.{RootValue}
-use Rattle.page_codec.specs.Sizes.{pages_of}
-use Rattle.cow_tree.specs.Stored.{StoredTile}
-use Rattle.store.specs.Editing.{MakesPages}
-use Rattle.store.specs.PagesMet.{pages_met_in}
-use Rattle.store.specs.Underway.{IsSettled, IsUnderway}
-use Rattle.cow_tree.proofs.Uncommitted.{refused_as}
+use Rattle.store.proofs.Prelude.{Contains, Corner, Err, IsSettled, IsUnderway, List, MakesPages, Mosaic, Ok, Refusal, Result, RootValue, StoredTile, ℕ, ap, arith, cases_lt, false, inl, inr, pages_met_in, pages_of, refused_as, subst, sym, ⊎_elim, ◌+◌, ◌<◌, ◌∙◌, ◌≡◌, ◌⊎◌}
 use Rattle.store.proofs.Edits.PagesMet.{met_next, met_same, met_within}
 use Rattle.store.proofs.KeptPlanes.StagingSteps.{none_made, made_as, made_on, pages_within}
 use Rattle.store.proofs.Calls.Underway.{page_beyond, page_passed}

@@ -1,7 +1,4 @@
-use Rattle.std.proofs.Common.{◌≡◌, Ok, ◌<◌, ◌≤◌, ◌-◌}
-use Rattle.page_codec.specs.Sizes.{pages_of}
-use Rattle.store.specs.Editing.{MakesPages}
-use Rattle.store.specs.PagesMet.{pages_met_in}
+use Rattle.store.proofs.Prelude.{MakesPages, Ok, pages_met_in, pages_of, ◌-◌, ◌<◌, ◌≡◌, ◌≤◌}
 use Rattle.store.proofs.staging_pages.stage_tile.Given as goal
 
 abbrev pub invariant-pages : goal.invariant-pages

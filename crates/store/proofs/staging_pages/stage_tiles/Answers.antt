@@ -1,14 +1,4 @@
-use Rattle.std.proofs.Common.{◌≡◌, ◌⊎◌, ⊎_elim, inl, inr, ◌+◌, ℕ, Contains, List, [], ◌∷◌, ◌++◌, take, take_all, Result, Ok, Err, sym, ap, ◌∙◌, subst, arith}
-use Rattle.std.proofs.lemmas.List.{take_more}
-use Rattle.std.proofs.lemmas.List.Elements.{Contains-push_cases}
-use Rattle.lattice.specs.Corners.{Corner}
-use Rattle.lattice.specs.declared.refusal.Refusal.{Refusal}
-use Rattle.page_codec.specs.Roots.{RootValue}
-use Rattle.page_codec.specs.Sizes.{pages_of}
-use Rattle.cow_tree.specs.Trees.{corners_of}
-use Rattle.store.specs.Editing.{IsPrepared, MakesPages}
-use Rattle.store.specs.PagesMet.{pages_met_in, pages_met}
-use Rattle.cow_tree.proofs.Uncommitted.{refused_as}
+use Rattle.store.proofs.Prelude.{Contains, Contains-push_cases, Corner, Err, IsPrepared, List, MakesPages, Ok, Refusal, Result, RootValue, ℕ, [], ap, arith, corners_of, inl, inr, pages_met, pages_met_in, pages_of, refused_as, subst, sym, take, take_all, take_more, ⊎_elim, ◌++◌, ◌+◌, ◌∙◌, ◌∷◌, ◌≡◌, ◌⊎◌}
 use Rattle.store.proofs.Edits.PagesMet.{met_front, met_more}
 use Rattle.store.proofs.KeptPlanes.StagingSteps.{none_made, made_as, made_on, pages_within}
 use Rattle.store.proofs.staging_pages.stage_tiles.Goals as goal

@@ -1,7 +1,5 @@
 use Rattle.std.specs.Prelude.{IfSome}
-use Rattle.drainage.specs.Between.{IsHeldOf}
-use Rattle.tile_labellings.specs.Labellings.{IsFlooded}
-use Rattle.store.specs.TreeStates.{IsInState}
+use Rattle.store.proofs.Prelude.{IsFlooded, IsHeldOf, IsInState}
 use Rattle.store.proofs.KeptPlanes.SteppedTrees.{stepped_by}
 use Rattle.store.proofs.stepping.step_tree.Goals as goal
 

@@ -1,32 +1,13 @@
 use Rattle.std.proofs.Common.{◌≡◌, ◌≢◌, ⊎_elim, ℕ, ◌+◌, ◌≤◌, ◌<◌, ◌^◌, true≢false, refl, sym, ap, ◌∙◌, subst, arith, Some, Result, Ok, Err, IsTrue, IsFalse}
 use Rattle.std.proofs.lemmas.Bool.{le-leb}
 use Rattle.std.proofs.lemmas.Bool.Decides.{leb_tells}
-use Rattle.lattice.specs.declared.refusal.Refusal.{Refusal}
-use Rattle.lattice.specs.declared.refusal.Refusal.TheVariants.{Device, NoMemory, Failed, Worn, TooSmall, NotOld}
+use Rattle.store.proofs.Prelude.{Commits, CommitsNothing, Contents, Device, Ending, Failed, Holds, IsClean, IsInState, NoMemory, NotOld, One, Refusal, State, Stays, Stored, TooSmall, Tree, Two, Version, Worn, commits_after, device_or_not, disk_of, if_numbered, in_memory, last_number, never_refused, ok_where, refused_as, root_of}
 use Rattle.page_codec.specs.Formats.{number_of, upgraded as upgraded_format}
 use Rattle.page_codec.specs.Sizes.{sectors_asked}
-use Rattle.page_codec.specs.declared.version.Version.{Version}
-use Rattle.page_codec.specs.declared.version.Version.TheVariants.{One, Two}
 use Rattle.page_codec.specs.Roots.{RootValue, format_of}
-use Rattle.engine.specs.Outcomes.{Stays}
-use Rattle.engine.specs.State.{Contents, State, last_number, if_numbered}
 use Rattle.engine.specs.Steps.{IsOld, UpgradesNot as AnswersNot, upgraded}
-use Rattle.engine.proofs.Questions.{device_or_not}
-use Rattle.cow_tree.specs.Clean.{IsClean}
-use Rattle.cow_tree.specs.Stored.{Stored}
-use Rattle.cow_tree.specs.Trees.{disk_of, root_of}
-use Rattle.cow_tree.specs.Uncommitted.{CommitsNothing}
 use Rattle.cow_tree.specs.Upgrades.{MayUpgrade, UpgradesNot, upgraded_store}
-use Rattle.cow_tree.specs.declared.tree.Tree.{Tree}
-use Rattle.cow_tree.proofs.ReadOnly.{never_refused}
-use Rattle.cow_tree.proofs.Steps.{ok_where}
-use Rattle.derived.specs.Steps.{Commits}
-use Rattle.derived.proofs.Commits.{commits_after}
-use Rattle.store.specs.Ended.{Ending}
-use Rattle.store.specs.Standing.{Holds}
-use Rattle.store.specs.TreeStates.{IsInState}
 use Rattle.store.specs.Upgraded.{IsUpgraded, has_room, may_refuse_upgrade, upgrade_ending}
-use Rattle.cow_tree.proofs.Uncommitted.{in_memory, refused_as}
 use Rattle.store.proofs.Calls.Ended as ended
 use Rattle.store.proofs.Reading.InMemory.{is_working}
 use Rattle.store.proofs.upgrading.upgrade_tree.Goals as goal

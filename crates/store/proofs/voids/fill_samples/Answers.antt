@@ -1,6 +1,4 @@
-use Rattle.std.proofs.Common.{◌≡◌, ◌+◌, ◌*◌, ℕ, ℤ, true, false, List, length, sym, ap, ◌∙◌, subst, arith}
-use Rattle.lattice.specs.Mosaic.{IsSample}
-use Rattle.store.specs.Underway.{is_due, page_sample}
+use Rattle.store.proofs.Prelude.{IsSample, List, ℕ, ℤ, ap, arith, false, is_due, length, page_sample, subst, sym, true, ◌*◌, ◌+◌, ◌∙◌, ◌≡◌}
 use Rattle.store.proofs.Edits.NewHeights.{length_with_bytes}
 use Rattle.store.proofs.Pages.{with_bytes}
 use Rattle.store.proofs.Edits.VoidPages.{IsFilledTo, filled_more, filled_same, page_filled, sample_passed}

@@ -1,6 +1,4 @@
-use Rattle.std.proofs.Common.{ap, ap₂, ◌∙◌, ◌&&◌, int_le}
-use Rattle.lattice.specs.Lattice.{point_of}
-use Rattle.lattice.specs.declared.point.Point.{Point}
+use Rattle.store.proofs.Prelude.{Point, ap, ap₂, int_le, point_of, ◌&&◌, ◌∙◌}
 use Rattle.store.proofs.voids.has_rows.Goals as goal
 
 pub returns : goal.returns

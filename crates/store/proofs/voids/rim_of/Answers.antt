@@ -1,9 +1,4 @@
-use Rattle.std.proofs.Common.{◌≡◌, zero, suc, true, List, [], ◌∷◌, map, Contains, sym, ap, ◌∙◌, subst, arith, ◌||◌}
-use Rattle.lattice.specs.Corners.{Corner, same_corner}
-use Rattle.lattice.proofs.CornerOrder.{same_from, same_says}
-use Rattle.catalogue.specs.Tiles.{is_listed}
-use Rattle.store.specs.declared.rims.RimVoids.{RimVoids}
-use Rattle.std.proofs.lemmas.Bool.{or_right}
+use Rattle.store.proofs.Prelude.{Contains, Corner, List, RimVoids, [], ap, arith, is_listed, map, or_right, same_corner, same_from, same_says, subst, suc, sym, true, zero, ◌||◌, ◌∙◌, ◌∷◌, ◌≡◌}
 use Rattle.store.proofs.voids.rim_of.Goals as goal
 
 -- a rim that is there is that of a listed corner

@@ -1,6 +1,4 @@
-use Rattle.std.proofs.Common.{◌≡◌, false, map, take}
-use Rattle.catalogue.specs.Tiles.{is_listed}
-use Rattle.store.specs.declared.rims.RimVoids.{RimVoids}
+use Rattle.store.proofs.Prelude.{RimVoids, false, is_listed, map, take, ◌≡◌}
 use Rattle.store.proofs.voids.rim_of.Given as goal
 
 abbrev pub invariant-loop-rim : goal.invariant-loop-rim

@@ -1,27 +1,5 @@
-use Rattle.std.proofs.Common.{◌≡◌, ◌⊎◌, ⊎_elim, ◌+◌, ◌-◌, ◌*◌, inl, inr, ℕ, All, Contains, List, map, Result, Ok, Err, IfErr, OnOk, vec_len, refl, sym, ap, ap₂, ◌∙◌, subst, arith, IsTrue}
-use Rattle.std.proofs.lemmas.Result.{IfErr-weaker}
-use Rattle.disk.specs.declared.disk.Disk.{Ghosts}
-use Rattle.lattice.specs.Corners.{Corner}
-use Rattle.lattice.specs.Mosaic.{Mosaic, IsMosaic}
-use Rattle.lattice.specs.declared.refusal.Refusal.{Refusal}
-use Rattle.lattice.specs.declared.refusal.Refusal.TheVariants.{Device, NoMemory, Failed, Damaged}
-use Rattle.page_codec.specs.Roots.{RootValue}
-use Rattle.page_codec.specs.Sizes.{pages_of}
-use Rattle.catalogue.specs.Endings.{ends_any}
-use Rattle.catalogue.specs.Readers.{reads_of}
-use Rattle.cow_tree.specs.Reading.{IsReadable, mosaic_of}
-use Rattle.cow_tree.specs.Stored.{StoredTile, AreWhole, mosaic_of_tiles}
-use Rattle.cow_tree.specs.Trees.{root_of, has_failed, corners_of, sinks_of, staged_in}
-use Rattle.cow_tree.specs.declared.tree.Tree.{Tree}
-use Rattle.cow_tree.proofs.ReadOnly.{never_refused}
-use Rattle.edits.specs.Edits.{AreVoidTiles}
-use Rattle.store.specs.Editing.{MakesPages, IsRefusedEarly}
-use Rattle.store.specs.PagesMet.{pages_met}
-use Rattle.store.specs.Underway.{box_meets, filled, AreRimVoids, IsUnderway, Settles}
-use Rattle.store.specs.declared.rims.RimVoids.{RimVoids}
-use Rattle.store.specs.declared.voids.Patch.{Patch}
+use Rattle.store.proofs.Prelude.{All, AreRimVoids, AreVoidTiles, AreWhole, Contains, Corner, Damaged, Device, Err, Failed, Ghosts, IfErr, IfErr-weaker, IsMosaic, IsReadable, IsRefusedEarly, IsTrue, IsUnderway, List, MakesPages, Mosaic, NoMemory, Ok, OnOk, Patch, Refusal, Result, RimVoids, RootValue, Settles, StoredTile, Tree, ℕ, ap, ap₂, arith, box_meets, corners_of, ends_any, filled, has_failed, inl, inr, map, mosaic_of, mosaic_of_tiles, never_refused, pages_met, pages_of, reads_of, refl, refused_as, root_of, sinks_of, staged_in, subst, sym, vec_len, ⊎_elim, ◌*◌, ◌+◌, ◌-◌, ◌∙◌, ◌≡◌, ◌⊎◌}
 use Rattle.store.proofs.Edits.EditingReads.{reading, risen_read, fails_read, works_read}
-use Rattle.cow_tree.proofs.Uncommitted.{refused_as}
 use Rattle.store.proofs.KeptPlanes.StagingSteps.{only_read, pages_on, pages_within}
 use Rattle.store.proofs.Reading.Querying.{true_where}
 use Rattle.store.proofs.Calls.Underway.{whole_pages}

@@ -1,6 +1,4 @@
-use Rattle.std.proofs.Common.{arith, ◌<◌, ◌∙◌, length, length-set, ap, sym}
-use Rattle.std.proofs.lemmas.List.{ext_get_or, length-map}
-use Rattle.tile_flood.specs.Cells.{label_of, labels_of}
+use Rattle.tile_flood.proofs.Prelude.{ap, arith, ext_get_or, label_of, labels_of, length, length-map, length-set, sym, ◌<◌, ◌∙◌}
 use Rattle.tile_flood.proofs.InCells.{none, label_at, one_more}
 use Rattle.tile_flood.proofs.cells.labels_in.Goals as goal
 

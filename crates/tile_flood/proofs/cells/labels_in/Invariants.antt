@@ -1,5 +1,4 @@
-use Rattle.std.proofs.Common.{◌≡◌, ℕ, ◌<◌, length, slice_index_or}
-use Rattle.tile_flood.specs.Cells.{labels_of}
+use Rattle.tile_flood.proofs.Prelude.{ℕ, labels_of, length, slice_index_or, ◌<◌, ◌≡◌}
 use Rattle.tile_flood.proofs.cells.labels_in.Given as goal
 
 abbrev pub invariant-loop-e : goal.invariant-loop-e

@@ -1,6 +1,4 @@
-use Rattle.std.proofs.Common.{arith, rules, ◌<◌, ◌∙◌, length, length-set, ap, sym, SFits, w16, to_z, of_z, to_z-of_z}
-use Rattle.tile_flood.proofs.Words.{length-map, void, level_of, levels_of}
-use Rattle.std.proofs.lemmas.List.{ext_get_or}
+use Rattle.tile_flood.proofs.Prelude.{SFits, ap, arith, ext_get_or, length, length-map, length-set, level_of, levels_of, of_z, rules, sym, to_z, to_z-of_z, void, w16, ◌<◌, ◌∙◌}
 use Rattle.tile_flood.proofs.InCells.{none, level_at, one_more}
 use Rattle.tile_flood.proofs.cells.levels_in.Goals as goal
 

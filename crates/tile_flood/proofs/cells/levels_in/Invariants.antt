@@ -1,5 +1,4 @@
-use Rattle.std.proofs.Common.{◌≡◌, ℕ, ◌<◌, length, slice_index_or}
-use Rattle.tile_flood.proofs.Words.{void, levels_of}
+use Rattle.tile_flood.proofs.Prelude.{ℕ, length, levels_of, slice_index_or, void, ◌<◌, ◌≡◌}
 use Rattle.tile_flood.proofs.cells.levels_in.Given as goal
 
 abbrev pub invariant-loop-e : goal.invariant-loop-e

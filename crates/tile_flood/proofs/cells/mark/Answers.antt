@@ -1,5 +1,4 @@
-use Rattle.std.proofs.Common.{rules, ◌∙◌, set, ap, SFits, w16, to_z, of_z, to_z-of_z}
-use Rattle.tile_flood.proofs.Words.{Cell, levels_of}
+use Rattle.tile_flood.proofs.Prelude.{Cell, SFits, ap, levels_of, of_z, rules, set, to_z, to_z-of_z, w16, ◌∙◌}
 use Rattle.tile_flood.proofs.InCells.{set_levels, set_labels, set_cells}
 use Rattle.tile_flood.proofs.cells.mark.Goals as goal
 

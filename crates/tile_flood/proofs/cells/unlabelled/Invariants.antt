@@ -1,6 +1,4 @@
-use Rattle.std.proofs.Common.{◌≡◌, ℕ, ◌<◌, length, slice_index_or}
-use Rattle.tile_flood.specs.declared.cells.Cell.{Cell}
-use Rattle.tile_flood.specs.Cells.{IsFresh}
+use Rattle.tile_flood.proofs.Prelude.{Cell, IsFresh, ℕ, length, slice_index_or, ◌<◌, ◌≡◌}
 use Rattle.tile_flood.proofs.cells.unlabelled.Given as goal
 
 abbrev pub invariant-loop-e : goal.invariant-loop-e

@@ -1,5 +1,4 @@
-use Rattle.std.proofs.Common.{◌≡◌, ◌*◌, ◌∙◌, length}
-use Rattle.tile_flood.proofs.Words.{length-map, level_of, label_of, levels_of, labels_of}
+use Rattle.tile_flood.proofs.Prelude.{label_of, labels_of, length, length-map, level_of, levels_of, ◌*◌, ◌∙◌, ◌≡◌}
 use Rattle.tile_flood.proofs.Spreading.{seeding_start}
 use Rattle.tile_flood.proofs.flood.flood_cells.Goals as goal
 

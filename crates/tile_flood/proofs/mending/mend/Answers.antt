@@ -1,6 +1,4 @@
-use Rattle.std.proofs.Common.{◌≡◌, ◌*◌, ◌<◌, ℕ, ℤ, List, [], IsTrue, sym, subst, ◌∙◌, length, slice_index_or}
-use Rattle.tile_flood.proofs.Words.{is_solid, Affected, bare_block, is_marked, AreSpills, AreChangesListed}
-use Rattle.tile_flood.proofs.Words.{AreOffBorders, IsLabelling, AreCarried, Waits}
+use Rattle.tile_flood.proofs.Prelude.{Affected, AreCarried, AreChangesListed, AreOffBorders, AreSpills, IsLabelling, IsTrue, List, Waits, ℕ, ℤ, [], bare_block, is_marked, is_solid, length, slice_index_or, subst, sym, ◌*◌, ◌<◌, ◌∙◌, ◌≡◌}
 use Rattle.tile_flood.proofs.Squares.{of_block}
 use Rattle.tile_flood.proofs.Dependence.{full_at}
 use Rattle.tile_flood.proofs.ListedChanges.{none_changed}

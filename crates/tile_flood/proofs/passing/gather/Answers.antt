@@ -1,5 +1,4 @@
-use Rattle.std.proofs.Common.{◌≡◌, ◌+◌, ◌-◌, ◌≤◌, inl, inr, ℕ, List, slice_index, subst, arith}
-use Rattle.tile_flood.proofs.Words.{cases_lt}
+use Rattle.tile_flood.proofs.Prelude.{List, ℕ, arith, cases_lt, inl, inr, slice_index, subst, ◌+◌, ◌-◌, ◌≡◌, ◌≤◌}
 use Rattle.tile_flood.proofs.Passages.{met_still, found_still, found_at, none_there, beside_part}
 use Rattle.tile_flood.proofs.passing.gather.Goals as goal
 use Rattle.tile_flood.proofs.passing.gather.Goals.{then-not-are_alike+in_ok-gather_strip, else-not-are_alike}

@@ -1,5 +1,4 @@
-use Rattle.std.proofs.Common.{ℕ, ◌+◌, ◌-◌, ◌<◌, ◌≤◌}
-use Rattle.tile_flood.specs.Passing.{ArePassages, AreFoundStill, IsFound}
+use Rattle.tile_flood.proofs.Prelude.{AreFoundStill, ArePassages, IsFound, ℕ, ◌+◌, ◌-◌, ◌<◌, ◌≤◌}
 use Rattle.tile_flood.proofs.passing.gather.Given as goal
 
 abbrev pub invariant-strips : goal.invariant-strips

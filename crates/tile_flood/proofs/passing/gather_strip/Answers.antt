@@ -1,6 +1,5 @@
-use Rattle.std.proofs.Common.{arith, subst, ◌<◌, ◌≢◌, ◌*◌, ◌+◌}
+use Rattle.tile_flood.proofs.Prelude.{IsFound, IsNoPassage, IsPassage, arith, subst, ◌*◌, ◌+◌, ◌<◌, ◌≢◌}
 use borrow.Author.Count.{below_more}
-use Rattle.tile_flood.specs.Passing.{IsFound, IsPassage, IsNoPassage}
 use Rattle.tile_flood.proofs.Passages.{met_still, passages_more, found_now, found_still, none_there}
 use Rattle.tile_flood.proofs.passing.gather_strip.Goals as goal
 use Rattle.tile_flood.proofs.passing.gather_strip.Goals.{in-Some+in_ok-list, in_default}

@@ -1,5 +1,4 @@
-use Rattle.std.proofs.Common.{◌≡◌, ℤ, pos, ◌≤ℤ◌, int_lt, true, sym, ◌∙◌, subst, arith}
-use Rattle.tile_flood.proofs.Words.{ints, get_or_default, Spill}
+use Rattle.tile_flood.proofs.Prelude.{Spill, ℤ, arith, get_or_default, int_lt, ints, pos, subst, sym, true, ◌∙◌, ◌≡◌, ◌≤ℤ◌}
 use Rattle.tile_flood.proofs.Passages.{listed_in_place}
 use Rattle.tile_flood.proofs.passing.lower.Goals as goal
 

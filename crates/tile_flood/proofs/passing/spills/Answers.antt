@@ -1,6 +1,4 @@
-use Rattle.std.proofs.Common.{arith, ◌≡◌, ◌*◌, ◌∙◌, sym, subst}
-use Rattle.tile_flood.proofs.Words.{AreFoundBelow, AreSpills, block_of, IsLabelling}
-use Rattle.tile_flood.specs.Passing.{IsInOrder, AreFirsts}
+use Rattle.tile_flood.proofs.Prelude.{AreFirsts, AreFoundBelow, AreSpills, IsInOrder, IsLabelling, arith, block_of, subst, sym, ◌*◌, ◌∙◌, ◌≡◌}
 use Rattle.tile_flood.proofs.Passages.{rises, spills_in_order, spills_of_ground, no_lower}
 use Rattle.tile_flood.proofs.passing.spills.Goals as goal
 

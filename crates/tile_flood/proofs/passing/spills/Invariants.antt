@@ -1,5 +1,4 @@
-use Rattle.std.proofs.Common.{◌*◌}
-use Rattle.tile_flood.specs.Passing.{ArePassages, AreFoundBelow}
+use Rattle.tile_flood.proofs.Prelude.{AreFoundBelow, ArePassages, ◌*◌}
 use Rattle.tile_flood.proofs.passing.spills.Given as goal
 
 abbrev pub invariant-loop-i : goal.invariant-loop-i

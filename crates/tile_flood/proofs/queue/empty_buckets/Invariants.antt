@@ -1,5 +1,4 @@
-use Rattle.std.proofs.Common.{◌≡◌, length, map}
-use Rattle.tile_flood.specs.Waiting.{AreEmpty}
+use Rattle.tile_flood.proofs.Prelude.{AreEmpty, length, map, ◌≡◌}
 use Rattle.tile_flood.proofs.queue.empty_buckets.Given as goal
 
 abbrev pub invariant-loop : goal.invariant-loop

@@ -1,5 +1,4 @@
-use Rattle.std.proofs.Common.{arith, ◌≡◌, length}
-use Rattle.std.proofs.lemmas.Bool.Decides.{nat_tests}
+use Rattle.tile_flood.proofs.Prelude.{arith, length, nat_tests, ◌≡◌}
 use Rattle.tile_flood.proofs.Buckets.{next_empty, none_left}
 use Rattle.tile_flood.proofs.queue.first_in_use.Goals as goal
 

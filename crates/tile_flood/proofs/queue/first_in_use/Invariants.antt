@@ -1,5 +1,4 @@
-use Rattle.std.proofs.Common.{◌≡◌, ℕ, ◌<◌, ◌≤◌, [], map}
-use Rattle.tile_flood.specs.Waiting.{bucket}
+use Rattle.tile_flood.proofs.Prelude.{ℕ, [], bucket, map, ◌<◌, ◌≡◌, ◌≤◌}
 use Rattle.tile_flood.proofs.queue.first_in_use.Given as goal
 
 abbrev pub invariant-loop-number : goal.invariant-loop-number

@@ -1,5 +1,4 @@
-use Rattle.std.proofs.Common.{arith, rules, ◌≡◌, ◌*◌, ◌-◌, ◌++◌, ◌∷◌, [], inr, refl, sym, ap, ◌∙◌, subst, length, slice_index, slice_index_or, SFits, w16, to_z-of_z}
-use Rattle.tile_flood.proofs.Words.{void, raised_level}
+use Rattle.tile_flood.proofs.Prelude.{SFits, [], ap, arith, inr, length, raised_level, refl, rules, slice_index, slice_index_or, subst, sym, to_z-of_z, void, w16, ◌*◌, ◌++◌, ◌-◌, ◌∙◌, ◌∷◌, ◌≡◌}
 use Rattle.tile_flood.proofs.Raised.{rim_filled_levels, rim_filled_can, raised_more}
 use Rattle.tile_flood.proofs.raising.raise.Goals as goal
 

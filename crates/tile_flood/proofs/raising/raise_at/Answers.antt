@@ -1,5 +1,5 @@
 use Rattle.std.proofs.Common.{◌≡◌, ℤ, IsTrue, sym, ◌∙◌, subst, slice_index, slice_index_or, Option, IsSomeAnd}
-use Rattle.tile_flood.proofs.Words.{point_of, is_ground, terrain, void, IsFilledLevel, raised_level}
+use Rattle.tile_flood.proofs.Prelude.{IsFilledLevel, is_ground, point_of, raised_level, terrain, void}
 use Rattle.tile_flood.proofs.Raised.{rim_filled_at}
 use Rattle.tile_flood.proofs.raising.raise_at.Goals as goal
 

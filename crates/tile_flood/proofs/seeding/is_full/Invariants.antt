@@ -1,5 +1,4 @@
-use Rattle.std.proofs.Common.{ℕ, ◌<◌, ◌≤◌, ◌+◌, ◌*◌, IsTrue}
-use Rattle.tile_flood.proofs.Words.{is_solid, bare_block}
+use Rattle.tile_flood.proofs.Prelude.{IsTrue, ℕ, bare_block, is_solid, ◌*◌, ◌+◌, ◌<◌, ◌≤◌}
 use Rattle.tile_flood.proofs.seeding.is_full.Given as goal
 
 abbrev pub invariant-loop-j : goal.invariant-loop-j

@@ -1,5 +1,4 @@
-use Rattle.std.proofs.Common.{arith, ◌≡◌, ◌∙◌, length, sym, true≢false}
-use Rattle.std.proofs.lemmas.Bool.Decides.{nat_tests}
+use Rattle.tile_flood.proofs.Prelude.{arith, length, nat_tests, sym, true≢false, ◌∙◌, ◌≡◌}
 use Rattle.tile_flood.proofs.Buckets.{none_left}
 use Rattle.tile_flood.proofs.PlainRows.{plain_if}
 use Rattle.tile_flood.proofs.seeding.is_plain.Goals as goal

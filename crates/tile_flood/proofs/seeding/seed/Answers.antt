@@ -1,5 +1,4 @@
-use Rattle.std.proofs.Common.{arith, ◌≡◌, ◌*◌, subst}
-use Rattle.tile_flood.proofs.Words.{IsSeeding, block_of, levels_of, labels_of}
+use Rattle.tile_flood.proofs.Prelude.{IsSeeding, arith, block_of, labels_of, levels_of, subst, ◌*◌, ◌≡◌}
 use Rattle.tile_flood.proofs.Spreading.{seeding_end}
 use Rattle.tile_flood.proofs.seeding.seed.Goals as goal
 

@@ -1,5 +1,4 @@
-use Rattle.std.proofs.Common.{arith, rules, ◌≡◌, ℕ, ◌+◌, ◌*◌, ℤ, List, subst, ap, ◌∙◌, SFits, w16, to_z, of_z, to_z-of_z}
-use Rattle.tile_flood.proofs.Words.{is_exit, Queue, IsSeeding, levels_of, labels_of, block_of}
+use Rattle.tile_flood.proofs.Prelude.{IsSeeding, List, Queue, SFits, ℕ, ℤ, ap, arith, block_of, is_exit, labels_of, levels_of, of_z, rules, subst, to_z, to_z-of_z, w16, ◌*◌, ◌+◌, ◌∙◌, ◌≡◌}
 use Rattle.tile_flood.proofs.InCells.{own_labelled}
 use Rattle.tile_flood.proofs.Squares.{in_square}
 use Rattle.tile_flood.proofs.Spreading.{seeded, seeds_passed}

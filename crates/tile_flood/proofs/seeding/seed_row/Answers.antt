@@ -1,5 +1,4 @@
-use Rattle.std.proofs.Common.{arith, ◌≡◌, ◌+◌, ◌-◌, ◌*◌, subst}
-use Rattle.tile_flood.proofs.Words.{IsSeeding, block_of, levels_of, labels_of}
+use Rattle.tile_flood.proofs.Prelude.{IsSeeding, arith, block_of, labels_of, levels_of, subst, ◌*◌, ◌+◌, ◌-◌, ◌≡◌}
 use Rattle.tile_flood.proofs.PlainRows.{plain_at}
 use Rattle.tile_flood.proofs.Spreading.{seeds_passed}
 use Rattle.tile_flood.proofs.seeding.seed_row.Goals as goal

@@ -1,5 +1,4 @@
-use Rattle.std.proofs.Common.{◌+◌, ◌-◌, ◌*◌, ◌<◌}
-use Rattle.tile_flood.proofs.Words.{IsSeeding, block_of, levels_of, labels_of, AreCells}
+use Rattle.tile_flood.proofs.Prelude.{AreCells, IsSeeding, block_of, labels_of, levels_of, ◌*◌, ◌+◌, ◌-◌, ◌<◌}
 use Rattle.tile_flood.proofs.seeding.seed_row.Given as goal
 
 abbrev pub invariant-loop-from : goal.invariant-loop-from

@@ -1,6 +1,4 @@
-use Rattle.std.proofs.Common.{arith, rules, ◌<◌, ◌∙◌, ℕ, ℤ, List, length, slice_index, sym, subst, ap, SFits, w16, to_z-of_z}
-use Rattle.tile_flood.proofs.Words.{length-map, Cell, Queue, IsTaken, IsFlooding, IsSpreading, label_of, levels_of}
-use Rattle.tile_flood.proofs.Words.{labels_of, block_of}
+use Rattle.tile_flood.proofs.Prelude.{Cell, IsFlooding, IsSpreading, IsTaken, List, Queue, SFits, ℕ, ℤ, ap, arith, block_of, label_of, labels_of, length, length-map, levels_of, rules, slice_index, subst, sym, to_z-of_z, w16, ◌<◌, ◌∙◌}
 use Rattle.tile_flood.proofs.InCells.{none, label_in_cell}
 use Rattle.tile_flood.proofs.Spreading.{spread_begin, taken_below, flooding_end}
 use Rattle.tile_flood.proofs.settling.settle.Goals as goal

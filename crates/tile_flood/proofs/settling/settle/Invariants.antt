@@ -1,7 +1,4 @@
-use Rattle.std.proofs.Common.{◌+◌}
-use Rattle.tile_flood.proofs.Words.{IsFlooding, block_of, levels_of, labels_of, AreCells}
-use Rattle.tile_flood.specs.Waiting.{waiting}
-use Rattle.tile_flood.specs.Flooding.{unmarked}
+use Rattle.tile_flood.proofs.Prelude.{AreCells, IsFlooding, block_of, labels_of, levels_of, unmarked, waiting, ◌+◌}
 use Rattle.tile_flood.proofs.settling.settle.Given as goal
 
 abbrev pub invariant-loop-entry : goal.invariant-loop-entry

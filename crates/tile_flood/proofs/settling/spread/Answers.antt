@@ -1,5 +1,4 @@
-use Rattle.std.proofs.Common.{arith, ◌+◌, ◌/◌, inl, inr}
-use Rattle.tile_flood.proofs.Words.{cases_eq, levels_of, labels_of}
+use Rattle.tile_flood.proofs.Prelude.{arith, cases_eq, inl, inr, labels_of, levels_of, ◌+◌, ◌/◌}
 use Rattle.tile_flood.proofs.Squares.{linked_apart}
 use Rattle.tile_flood.proofs.Spreading.{spread_end}
 use Rattle.tile_flood.proofs.settling.spread.Goals as goal

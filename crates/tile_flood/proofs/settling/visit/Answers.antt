@@ -1,5 +1,4 @@
-use Rattle.std.proofs.Common.{arith, rules, slice_index_or, ap, sym, ◌∙◌, SFits, w16, to_z, of_z}
-use Rattle.tile_flood.proofs.Words.{void, levels_of, labels_of}
+use Rattle.tile_flood.proofs.Prelude.{SFits, ap, arith, labels_of, levels_of, of_z, rules, slice_index_or, sym, to_z, void, w16, ◌∙◌}
 use Rattle.tile_flood.proofs.InCells.{IsOpen, none, open_if, marked_unless_open, front_labelled}
 use Rattle.tile_flood.proofs.Spreading.{IsVisited, visited_as, passed_max, near_linked}
 use Rattle.tile_flood.proofs.settling.visit.Goals as goal

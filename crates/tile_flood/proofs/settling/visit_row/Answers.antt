@@ -1,5 +1,4 @@
-use Rattle.std.proofs.Common.{arith, ◌≡◌, ℕ, ◌+◌, ◌*◌, ◌-◌, ◌<◌, IsTrue, inl, inr, sym, subst}
-use Rattle.tile_flood.proofs.Words.{cases_eq, is_solid, bare_block, levels_of, labels_of, is_marked}
+use Rattle.tile_flood.proofs.Prelude.{IsTrue, ℕ, arith, bare_block, cases_eq, inl, inr, is_marked, is_solid, labels_of, levels_of, subst, sym, ◌*◌, ◌+◌, ◌-◌, ◌<◌, ◌≡◌}
 use Rattle.tile_flood.proofs.Squares.{linked_parts, linked_below, solid_below, rim_is_exit}
 use Rattle.tile_flood.proofs.Spreading.{outlet_marked}
 use Rattle.tile_flood.proofs.Runs.{run_near, run_of, outer_row}

@@ -1,10 +1,4 @@
-use Rattle.std.proofs.Common.{◌≡◌, ◌+◌, [], ◌∷◌, ◌++◌, Option, vec_len, refl, sym, ap, ◌∙◌, subst, arith}
-use Rattle.std.specs.Prelude.{MatchOption}
-use Rattle.std.specs.Option.{option_to_list}
-use Rattle.std.proofs.lemmas.List.{nil_from_length}
-use Rattle.lattice.specs.Ground.{terrain}
-use Rattle.watershed.specs.Counting.{IsTour}
-use Rattle.watershed.specs.declared.counting.Branch.{Branch}
+use Rattle.watershed.proofs.Prelude.{Branch, IsTour, MatchOption, Option, [], ap, arith, nil_from_length, option_to_list, refl, subst, sym, terrain, vec_len, ◌++◌, ◌+◌, ◌∙◌, ◌∷◌, ◌≡◌}
 use Rattle.watershed.proofs.Known.{known_still, still_on}
 use Rattle.watershed.proofs.Tours.{begun, finished, tour_begins, tour_skips, tour_returns, tour_ends}
 use Rattle.watershed.proofs.counting.count_from.Goals as goal

@@ -1,9 +1,4 @@
-use Rattle.std.proofs.Common.{ℤ, IsTrue}
-use Rattle.lattice.specs.declared.point.Point.{Point}
-use Rattle.lattice.specs.Ground.{is_ground, terrain}
-use Rattle.lattice.specs.Mosaic.{Mosaic}
-use Rattle.flow_d8.specs.Drainage.{AreFilledLevels}
-use Rattle.watershed.specs.Counting.{AreCounted, AreStillCounted, IsTour}
+use Rattle.watershed.proofs.Prelude.{AreCounted, AreFilledLevels, AreStillCounted, IsTour, IsTrue, Mosaic, Point, ℤ, is_ground, terrain}
 use Rattle.watershed.proofs.counting.count_from.Given as goal
 
 abbrev pub invariant-tour : goal.invariant-tour

@@ -1,8 +1,4 @@
-use Rattle.std.proofs.Common.{◌≡◌, ◌∙◌, ◌*◌, IsTrue, inl, inr, length, sym, subst, arith, get_or-set_same, true≢false}
-use Rattle.std.proofs.lemmas.Bool.{cases_Bool}
-use Rattle.lattice.specs.declared.point.Point.{Point}
-use Rattle.lattice.specs.Ground.{is_ground, terrain}
-use Rattle.watershed.specs.Counting.{IsCounted}
+use Rattle.watershed.proofs.Prelude.{IsCounted, IsTrue, Point, arith, cases_Bool, get_or-set_same, inl, inr, is_ground, length, subst, sym, terrain, true≢false, ◌*◌, ◌∙◌, ◌≡◌}
 use Rattle.watershed.proofs.Known.{counted_some, known_more, still_on}
 use Rattle.watershed.proofs.counting.count_sample.Goals as goal
 

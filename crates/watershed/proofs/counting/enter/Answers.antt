@@ -1,14 +1,4 @@
-use Rattle.std.proofs.Common.{◌≡◌, true, false, IsTrue, get_or, ⊎_elim, refl, sym, subst, arith}
-use Rattle.std.proofs.lemmas.Result.{IfOk-weaker}
-use Rattle.lattice.specs.declared.direction.Dir.{Dir}
-use Rattle.lattice.specs.declared.direction.Dir.TheVariants.{East}
-use Rattle.lattice.specs.Ground.{is_ground, terrain}
-use Rattle.lattice.specs.declared.point.Point.{Point}
-use Rattle.lattice.specs.Steps.{order_of, directions, step}
-use Rattle.flow_d8.proofs.Steps.Compass.{order_at, order_below}
-use Rattle.flow_d8.proofs.Mosaics.Fitting.{ground_fits}
-use Rattle.watershed.specs.Counting.{IsCounted, IsTour}
-use Rattle.watershed.specs.declared.counting.Branch.{Branch}
+use Rattle.watershed.proofs.Prelude.{Branch, Dir, East, IfOk-weaker, IsCounted, IsTour, IsTrue, Point, arith, directions, false, get_or, ground_fits, is_ground, order_at, order_below, order_of, refl, step, subst, sym, terrain, true, ⊎_elim, ◌≡◌}
 use Rattle.watershed.proofs.Tours.{begun, passed, added, waits, tour_stays, tour_enters}
 use Rattle.watershed.proofs.counting.enter.Goals as goal
 

@@ -1,9 +1,6 @@
 use Rattle.std.proofs.Common.{◌≡◌, ◌*◌, ◌<◌, ◌≤◌, inl, inr, ◌++◌, ℕ, IsTrue, List, length, take, drop, get_or, ⊎_elim, sym, ap, ◌∙◌, subst, arith, true≢false}
 use Rattle.std.proofs.Math.Seq.{take-append_seam}
-use Rattle.std.proofs.lemmas.Bool.{cases_eq}
-use Rattle.lattice.specs.Ground.{is_ground, terrain}
-use Rattle.lattice.specs.Lattice.{point_of}
-use Rattle.watershed.specs.Counting.{AreCounted}
+use Rattle.watershed.proofs.Prelude.{AreCounted, cases_eq, is_ground, point_of, terrain}
 use Rattle.watershed.proofs.counting.upstream_counts.Goals as goal
 
 -- what is written back over all of a list

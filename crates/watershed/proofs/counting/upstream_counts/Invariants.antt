@@ -1,10 +1,4 @@
-use Rattle.std.proofs.Common.{◌≡◌, ◌*◌, ◌<◌, ℕ, ℤ, IsTrue, length, get_or}
-use Rattle.lattice.specs.declared.point.Point.{Point}
-use Rattle.lattice.specs.Ground.{is_ground, terrain}
-use Rattle.lattice.specs.Lattice.{point_of}
-use Rattle.lattice.specs.Mosaic.{Mosaic}
-use Rattle.flow_d8.specs.Drainage.{AreFilledLevels}
-use Rattle.watershed.specs.Counting.{AreCounted}
+use Rattle.watershed.proofs.Prelude.{AreCounted, AreFilledLevels, IsTrue, Mosaic, Point, ℕ, ℤ, get_or, is_ground, length, point_of, terrain, ◌*◌, ◌<◌, ◌≡◌}
 use Rattle.watershed.proofs.counting.upstream_counts.Given as goal
 
 abbrev pub invariant-loop-index : goal.invariant-loop-index

@@ -1,7 +1,4 @@
-use Rattle.std.proofs.Common.{[], ◌∷◌, ◌++◌, inl, inr, refl, sym, ap, ◌∙◌, true≢false}
-use Rattle.lattice.specs.declared.point.Point.{Point}
-use Rattle.lattice.specs.Steps.{step}
-use Rattle.flow_d8.proofs.Mosaics.Fitting.{ground_fits}
+use Rattle.watershed.proofs.Prelude.{Point, [], ap, ground_fits, inl, inr, refl, step, sym, true≢false, ◌++◌, ◌∙◌, ◌∷◌}
 use Rattle.watershed.proofs.donors.add_donor.Goals as goal
 
 pub returns-then-not-is_donor : goal.returns-then-not-is_donor

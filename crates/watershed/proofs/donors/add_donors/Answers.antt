@@ -1,12 +1,5 @@
-use Rattle.std.proofs.Common.{◌+◌, ◌≡◌, ◌↔◌, IsTrue, false, get_or, sym, subst}
-use Rattle.lattice.specs.declared.direction.Dir.{Dir}
-use Rattle.lattice.specs.declared.direction.Dir.TheVariants.{East}
-use Rattle.lattice.specs.Steps.{order_of, directions, step}
+use Rattle.watershed.proofs.Prelude.{Dir, DrainsBack, East, IsToldOf, IsTrue, directions, false, get_or, order_at, order_below, order_of, step, subst, sym, terrain, ◌+◌, ◌↔◌, ◌≡◌}
 use Rattle.flow_d8.specs.declared.flow.Flow.TheVariants.{Unknown}
-use Rattle.watershed.specs.FlowSource.{IsToldOf}
-use Rattle.lattice.specs.Ground.{terrain}
-use Rattle.flow_d8.proofs.Steps.Compass.{order_at, order_below}
-use Rattle.flow_d8.specs.Donors.{DrainsBack}
 use Rattle.watershed.proofs.Feeding.{AreDonorsBy, none_yet, one_more, all_donors}
 use Rattle.watershed.proofs.donors.add_donors.Goals as goal
 

@@ -1,8 +1,4 @@
-use Rattle.std.proofs.Common.{ℤ}
-use Rattle.lattice.specs.declared.point.Point.{Point}
-use Rattle.lattice.specs.Ground.{terrain}
-use Rattle.lattice.specs.Mosaic.{Mosaic}
-use Rattle.flow_d8.specs.Donors.{DrainsBack}
+use Rattle.watershed.proofs.Prelude.{DrainsBack, Mosaic, Point, ℤ, terrain}
 use Rattle.watershed.proofs.Feeding.{AreDonorsBy}
 use Rattle.watershed.proofs.donors.add_donors.Given as goal
 

@@ -1,11 +1,4 @@
-use Rattle.std.proofs.Common.{◌≡◌, ◌+◌, ◌↔◌, Bool, false, IsTrue, List, length, set, get_or, inl, inr, refl, sym, ◌∙◌, subst, arith, get_or-set_other, get_or-set_same, length-set}
-use Rattle.std.proofs.lemmas.Bool.{cases_eq}
-use Rattle.lattice.specs.declared.direction.Dir.{Dir}
-use Rattle.lattice.specs.declared.direction.Dir.TheVariants.{East}
-use Rattle.lattice.specs.Ground.{terrain}
-use Rattle.lattice.specs.Steps.{order_of, directions}
-use Rattle.flow_d8.specs.Donors.{AreToldBy, DrainsBack}
-use Rattle.flow_d8.proofs.Steps.Compass.{order_at, order_below, same_order}
+use Rattle.watershed.proofs.Prelude.{AreToldBy, Bool, Dir, DrainsBack, East, IsTrue, List, arith, cases_eq, directions, false, get_or, get_or-set_other, get_or-set_same, inl, inr, length, length-set, order_at, order_below, order_of, refl, same_order, set, subst, sym, terrain, ◌+◌, ◌↔◌, ◌∙◌, ◌≡◌}
 use Rattle.watershed.proofs.donors.donors.Goals as goal
 
 -- one more direction is told

@@ -1,8 +1,4 @@
-use Rattle.std.proofs.Common.{◌≡◌, ℤ, length}
-use Rattle.lattice.specs.declared.point.Point.{Point}
-use Rattle.lattice.specs.Ground.{terrain}
-use Rattle.lattice.specs.Mosaic.{Mosaic}
-use Rattle.flow_d8.specs.Donors.{AreToldBy, DrainsBack}
+use Rattle.watershed.proofs.Prelude.{AreToldBy, DrainsBack, Mosaic, Point, ℤ, length, terrain, ◌≡◌}
 use Rattle.watershed.proofs.donors.donors.Given as goal
 
 abbrev pub invariant-loop-i : goal.invariant-loop-i

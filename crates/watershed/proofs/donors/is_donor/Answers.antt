@@ -1,10 +1,4 @@
-use Rattle.std.proofs.Common.{refl, sym, ◌∙◌, subst, true≢false}
-use Rattle.std.proofs.lemmas.Result.{IfOk-weaker}
-use Rattle.lattice.specs.declared.point.Point.{Point}
-use Rattle.lattice.specs.Ground.{terrain}
-use Rattle.lattice.specs.Steps.{step}
-use Rattle.flow_d8.proofs.Mosaics.Fitting.{ground_fits}
-use Rattle.watershed.specs.FlowSource.{IsToldOf}
+use Rattle.watershed.proofs.Prelude.{IfOk-weaker, IsToldOf, Point, ground_fits, refl, step, subst, sym, terrain, true≢false, ◌∙◌}
 use Rattle.watershed.proofs.Feeding.{back_drains, drains_back}
 use Rattle.watershed.proofs.donors.is_donor.Goals as goal
 

@@ -1,8 +1,4 @@
-use Rattle.std.proofs.Common.{◌≡◌, ◌⊎◌, inl, inr, ⊎_elim, sym, ◌∙◌, subst, true≢false}
-use Rattle.std.specs.Int.{bit_at}
-use Rattle.lattice.specs.declared.point.Point.{Point}
-use Rattle.watershed.specs.Marks.{IsRank}
-use Rattle.watershed.specs.Runs.{Cover}
+use Rattle.watershed.proofs.Prelude.{Cover, IsRank, Point, bit_at, inl, inr, subst, sym, true≢false, ⊎_elim, ◌∙◌, ◌≡◌, ◌⊎◌}
 use Rattle.watershed.proofs.Found.{runs_alike}
 use Rattle.watershed.proofs.Marked.{one_point, rank_before}
 use Rattle.watershed.proofs.marks.add_bit.Goals as goal

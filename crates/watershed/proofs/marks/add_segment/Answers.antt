@@ -1,7 +1,4 @@
-use Rattle.std.proofs.Common.{◌≡◌, ◌⊎◌, ◌+◌, ◌*◌, ◌%◌, inl, inr, ⊎_elim, sym, ap, ◌∙◌, arith}
-use Rattle.std.specs.Int.{bit_at}
-use Rattle.watershed.specs.Marks.{IsInSegment, IsRank}
-use Rattle.watershed.specs.Runs.{Cover}
+use Rattle.watershed.proofs.Prelude.{Cover, IsInSegment, IsRank, ap, arith, bit_at, inl, inr, sym, ⊎_elim, ◌%◌, ◌*◌, ◌+◌, ◌∙◌, ◌≡◌, ◌⊎◌}
 use Rattle.watershed.proofs.Found.{runs_alike}
 use Rattle.watershed.proofs.Marked.{own_runs, told_before, told_more}
 use Rattle.watershed.proofs.marks.add_segment.Goals as goal

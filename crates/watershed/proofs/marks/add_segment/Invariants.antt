@@ -1,6 +1,4 @@
-use Rattle.std.proofs.Common.{◌⊎◌}
-use Rattle.watershed.specs.Marks.{IsInSegment}
-use Rattle.watershed.specs.Runs.{AreRuns, Cover}
+use Rattle.watershed.proofs.Prelude.{AreRuns, Cover, IsInSegment, ◌⊎◌}
 use Rattle.watershed.proofs.marks.add_segment.Given as goal
 
 abbrev pub invariant-loop-i : goal.invariant-loop-i

@@ -1,6 +1,5 @@
-use Rattle.std.proofs.Common.{[], ◌∷◌, inl, inr, sym, ◌∙◌, true≢false}
+use Rattle.watershed.proofs.Prelude.{[], inl, inr, is_ground, sym, true≢false, ◌∙◌, ◌∷◌}
 use Rattle.std.proofs.lemmas.Bool.{cases_Bool, cond-true, cond-false}
-use Rattle.lattice.specs.Ground.{is_ground}
 use Rattle.watershed.proofs.search.start.Goals as goal
 
 pub returns-then-is_no_ground-clause-found : goal.returns-then-is_no_ground-clause-found

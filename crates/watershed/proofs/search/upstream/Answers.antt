@@ -1,10 +1,4 @@
-use Rattle.std.proofs.Common.{◌≡◌, ◌+◌, [], ◌∷◌, ◌++◌, inl, inr, ⊎_elim, Option, vec_len, sym, ap, ◌∙◌, subst, arith}
-use Rattle.std.specs.Prelude.{MatchOption, Contains}
-use Rattle.std.specs.Option.{option_to_list}
-use Rattle.std.proofs.lemmas.List.{nil_from_length}
-use Rattle.lattice.specs.declared.point.Point.{Point}
-use Rattle.lattice.specs.Ground.{terrain}
-use Rattle.watershed.specs.Marks.{IsMarked}
+use Rattle.watershed.proofs.Prelude.{Contains, IsMarked, MatchOption, Option, Point, [], ap, arith, inl, inr, nil_from_length, option_to_list, subst, sym, terrain, vec_len, ⊎_elim, ◌++◌, ◌+◌, ◌∙◌, ◌∷◌, ◌≡◌}
 use Rattle.watershed.proofs.Upstream.{IsSearching, begun, search_on, search_done}
 use Rattle.watershed.proofs.search.upstream.Goals as goal
 

@@ -1,8 +1,4 @@
-use Rattle.std.proofs.Common.{ℤ}
-use Rattle.lattice.specs.declared.point.Point.{Point}
-use Rattle.lattice.specs.Mosaic.{Mosaic}
-use Rattle.lattice.specs.Ground.{terrain}
-use Rattle.watershed.specs.Marks.{IsMarked, IsIndexed}
+use Rattle.watershed.proofs.Prelude.{IsIndexed, IsMarked, Mosaic, Point, ℤ, terrain}
 use Rattle.watershed.proofs.Upstream.{IsSearching}
 use Rattle.watershed.proofs.search.upstream.Given as goal
 

@@ -1,7 +1,4 @@
-use Rattle.std.proofs.Common.{sym, subst}
-use Rattle.std.proofs.lemmas.Result.{IfOk-weaker}
-use Rattle.lattice.specs.Ground.{terrain}
-use Rattle.lattice.proofs.Lawful.{terrain_is_lawful}
+use Rattle.watershed.proofs.Prelude.{IfOk-weaker, subst, sym, terrain, terrain_is_lawful}
 use Rattle.flow_d8.specs.Directions.{AreDirectionsOf}
 use Rattle.watershed.proofs.Upstream.{no_watershed}
 use Rattle.watershed.proofs.search.watershed.Goals as goal

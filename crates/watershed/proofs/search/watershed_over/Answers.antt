@@ -1,7 +1,4 @@
-use Rattle.lattice.specs.Ground.{terrain}
-use Rattle.lattice.proofs.Lawful.{terrain_is_lawful}
-use Rattle.flow_d8.specs.FlowPath.{IsInWatershed}
-use Rattle.watershed.specs.Marks.{IsMarked}
+use Rattle.watershed.proofs.Prelude.{IsInWatershed, IsMarked, terrain, terrain_is_lawful}
 use Rattle.watershed.proofs.Upstream.{found_is_watershed}
 use Rattle.watershed.proofs.Found.{runs_alike}
 use Rattle.watershed.proofs.search.watershed_over.Goals as goal

@@ -1,5 +1,4 @@
-use Rattle.std.proofs.Common.{subst, map, heap_items}
-use Rattle.border_graph.specs.Heaps.{IsAdded}
+use Rattle.border_graph.proofs.Prelude.{IsAdded, heap_items, map, subst}
 use Rattle.border_graph.proofs.Heaps.{added_to_heap}
 use Rattle.border_graph.proofs.lowest_first.LowestFirst.push.Goals as goal
 

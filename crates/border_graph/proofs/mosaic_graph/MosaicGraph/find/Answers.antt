@@ -1,5 +1,4 @@
-use Rattle.std.proofs.Common.{rules, SFits, w16, ℕ, ℤ, ◌<◌, inr, List, Contains, refl, sym, subst, IfSome, IfNone, to_z-of_z}
-use Rattle.border_graph.proofs.Words.{IsJoinedLevel, IsWayBelow, IsPlacedLink, IsGraphOf}
+use Rattle.border_graph.proofs.Prelude.{Contains, IfNone, IfSome, IsGraphOf, IsJoinedLevel, IsPlacedLink, IsWayBelow, List, SFits, ℕ, ℤ, inr, refl, rules, subst, sym, to_z-of_z, w16, ◌<◌}
 use Rattle.border_graph.proofs.mosaic_graph.MosaicGraph.find.Goals as goal
 
 pub returns-in_default-2-clause-refusal : goal.returns-in_default-2-clause-refusal

@@ -1,5 +1,4 @@
-use Rattle.std.proofs.Common.{rules, SFits, w16, to_z, of_z, sym, subst, to_z-of_z}
-use Rattle.border_graph.specs.MosaicGraph.{MosaicGraph, IsFound, graph_of}
+use Rattle.border_graph.proofs.Prelude.{IsFound, MosaicGraph, SFits, graph_of, of_z, rules, subst, sym, to_z, to_z-of_z, w16}
 use Rattle.border_graph.proofs.MosaicGraphs.{found_more}
 use Rattle.border_graph.proofs.mosaic_graph.MosaicGraph.know.Goals as goal
 

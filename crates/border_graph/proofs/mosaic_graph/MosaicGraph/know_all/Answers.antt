@@ -1,6 +1,4 @@
-use Rattle.std.proofs.Common.{rules, SFits, w16, get_or, sym, subst, to_z-of_z}
-use Rattle.std.proofs.lemmas.List.Elements.{Contains-get_or}
-use Rattle.border_graph.specs.MosaicGraph.{MosaicGraph, IsFound}
+use Rattle.border_graph.proofs.Prelude.{Contains-get_or, IsFound, MosaicGraph, SFits, get_or, rules, subst, sym, to_z-of_z, w16}
 use Rattle.border_graph.proofs.mosaic_graph.MosaicGraph.know_all.Goals as goal
 
 pub know-requires : goal.know-requires

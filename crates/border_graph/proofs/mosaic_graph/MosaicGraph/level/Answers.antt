@@ -1,6 +1,4 @@
-use Rattle.std.proofs.Common.{rules, SFits, w16, of_z, to_z, get_or, ◌≡◌, ◌≢◌, ◌∙◌, sym, ap, subst, to_z-of_z}
-use Rattle.lattice.specs.Mosaic.{void}
-use Rattle.border_graph.specs.MosaicGraph.{MosaicGraph, IsFound, graph_of}
+use Rattle.border_graph.proofs.Prelude.{IsFound, MosaicGraph, SFits, ap, get_or, graph_of, of_z, rules, subst, sym, to_z, to_z-of_z, void, w16, ◌∙◌, ◌≡◌, ◌≢◌}
 use Rattle.border_graph.proofs.mosaic_graph.MosaicGraph.level.Goals as goal
 
 pub returns-else-level : goal.returns-else-level

@@ -1,5 +1,5 @@
 use Rattle.std.proofs.Common.{rules, arith, inl, inr, ℤ, List, sym, ◌≡◌, ◌≤◌, ◌<◌, ◌+◌, ◌*◌, ◌-◌, ◌^◌, ℕ, pos, get_or, length, subst, ap, ◌∙◌, replicate}
-use Rattle.border_graph.proofs.Words.{cases_lt, Corner, void, Summary, summary_at, IsReordered, TileGraph}
+use Rattle.border_graph.proofs.Prelude.{Corner, IsReordered, Summary, TileGraph, cases_lt, summary_at, void}
 use Rattle.std.proofs.lemmas.List.{get_or-replicate, get_or_past, length-replicate}
 use Rattle.border_graph.proofs.MosaicGraphs.{IsGraphWith, no_graph, each_more, one_longer, are_reordered, whole_first}
 use Rattle.border_graph.proofs.mosaic_graph.MosaicGraph.new.Goals as goal

@@ -1,5 +1,4 @@
-use Rattle.std.proofs.Common.{◌≡◌, ℕ, ◌<◌, length, get_or}
-use Rattle.border_graph.proofs.Words.{summary_at, corner_at}
+use Rattle.border_graph.proofs.Prelude.{ℕ, corner_at, get_or, length, summary_at, ◌<◌, ◌≡◌}
 use Rattle.border_graph.proofs.MosaicGraphs.{IsGraphWith, no_graph}
 use Rattle.border_graph.proofs.mosaic_graph.MosaicGraph.new.Given as goal
 

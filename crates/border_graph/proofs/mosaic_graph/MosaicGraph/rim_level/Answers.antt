@@ -1,7 +1,4 @@
-use Rattle.std.proofs.Common.{rules, SFits, w16, of_z, to_z, ◌≡◌, ◌⊎◌, ◌+◌, ◌*◌, ◌-◌, ◌∙◌, inl, inr, refl, sym, ap, ap₂, subst, to_z-of_z}
-use Rattle.border_graph.proofs.Words.{int_max, err_from_is_err_and, void, Rim, rim_point, summary_at, node_number}
-use Rattle.border_graph.proofs.Words.{MosaicGraph}
-use Rattle.lattice.specs.declared.refusal.Refusal.TheVariants.{NoMemory, Damaged}
+use Rattle.border_graph.proofs.Prelude.{Damaged, MosaicGraph, NoMemory, Rim, SFits, ap, ap₂, err_from_is_err_and, inl, inr, int_max, node_number, of_z, refl, rim_point, rules, subst, summary_at, sym, to_z, to_z-of_z, void, w16, ◌*◌, ◌+◌, ◌-◌, ◌∙◌, ◌≡◌, ◌⊎◌}
 use Rattle.border_graph.specs.MosaicGraph.{IsFound, IsCutOff, LeadsNowhereFrom}
 use Rattle.border_graph.proofs.MosaicGraphs.{height_at, level_at}
 use Rattle.border_graph.proofs.mosaic_graph.MosaicGraph.rim_level.Goals as goal

@@ -1,5 +1,4 @@
-use Rattle.std.proofs.Common.{rules, ◌≤◌, ◌<◌, List, length, sym, subst}
-use Rattle.border_graph.proofs.Words.{Corner, IsGraphOf, AreTileEdges}
+use Rattle.border_graph.proofs.Prelude.{AreTileEdges, Corner, IsGraphOf, List, length, rules, subst, sym, ◌<◌, ◌≤◌}
 use Rattle.border_graph.proofs.MosaicGraphs.{no_edges, all_edges, exact_edges}
 use Rattle.border_graph.proofs.mosaic_graph.MosaicGraphEdgeSourceUnit.edges_from.Goals as goal
 

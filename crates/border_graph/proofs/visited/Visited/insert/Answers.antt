@@ -1,5 +1,4 @@
-use Rattle.std.proofs.Common.{◌≡◌, ◌==◌, true, cond, subst}
-use Rattle.border_graph.specs.Frontier.{is_among}
+use Rattle.border_graph.proofs.Prelude.{cond, is_among, subst, true, ◌==◌, ◌≡◌}
 use Rattle.border_graph.proofs.visited.Visited.insert.Goals as goal
 
 pub returns-clause-visited : goal.returns-clause-visited

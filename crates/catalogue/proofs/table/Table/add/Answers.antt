@@ -1,6 +1,5 @@
 use Rattle.std.proofs.Common.{ℤ, IsTrue, subst, List, All}
-use Rattle.lattice.specs.Corners.{is_corner}
-use Rattle.lattice.specs.Mosaic.{IsSample}
+use Rattle.catalogue.proofs.Prelude.{IsSample, is_corner}
 use Rattle.catalogue.proofs.Entries.{added_is, added_valid}
 use Rattle.catalogue.proofs.table.Table.add.Goals as goal
 

@@ -1,6 +1,4 @@
-use Rattle.std.proofs.Common.{◌≡◌, ap, sym, ◌∙◌, rules}
-use Rattle.std.specs.Map.{keys_of}
-use Rattle.catalogue.specs.Tiles.{corners_of}
+use Rattle.catalogue.proofs.Prelude.{ap, corners_of, keys_of, rules, sym, ◌∙◌, ◌≡◌}
 use Rattle.catalogue.proofs.Entries.{corners-tiles_in}
 use Rattle.catalogue.proofs.table.Table.corners.Goals as goal
 

@@ -1,7 +1,4 @@
-use Rattle.std.proofs.Common.{ℤ, ap, ◌∙◌}
-use Rattle.std.specs.Prelude.{option_map}
-use Rattle.std.specs.Global.{Vec}
-use Rattle.lattice.specs.Mosaic.{Mosaic, samples_of}
+use Rattle.catalogue.proofs.Prelude.{Mosaic, Vec, ℤ, ap, option_map, samples_of, ◌∙◌}
 use Rattle.catalogue.proofs.Entries.{samples-lookup, removed_is, removed_valid}
 use Rattle.catalogue.proofs.table.Table.remove.Goals as goal
 

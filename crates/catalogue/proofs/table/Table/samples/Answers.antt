@@ -1,7 +1,5 @@
 use Rattle.std.proofs.Common.{ℤ, ap, ◌∙◌, Some, List}
-use Rattle.std.specs.Prelude.{option_map}
-use Rattle.std.specs.Global.{Vec}
-use Rattle.lattice.specs.Mosaic.{Mosaic, samples_of}
+use Rattle.catalogue.proofs.Prelude.{Mosaic, Vec, option_map, samples_of}
 use Rattle.catalogue.proofs.Entries.{samples-lookup}
 use Rattle.catalogue.proofs.table.Table.samples.Goals as goal
 

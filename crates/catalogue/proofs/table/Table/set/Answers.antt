@@ -1,11 +1,7 @@
-use Rattle.std.proofs.Common.{ℤ, ap, arith}
-use Rattle.std.proofs.lemmas.Int.{to_z-of_z, ints}
-use Rattle.std.specs.Prelude.{slice_set}
-use Rattle.std.specs.Global.{Vec}
+use Rattle.catalogue.proofs.Prelude.{IsSample, Vec, ℤ, ap, arith, ints, slice_set, to_z-of_z}
 use Rattle.std.specs.Vec.{with_item}
 use mir.Syntax.{w16}
 use mir.Val.{to_z, of_z}
-use Rattle.lattice.specs.Mosaic.{IsSample}
 use Rattle.catalogue.proofs.Entries.{index_within, set_is, set_valid, found_somewhere}
 use Rattle.catalogue.proofs.table.Table.set.Goals as goal
 use Rattle.catalogue.proofs.table.Table.set.Goals.{in-Some, in_default}

@@ -1,6 +1,5 @@
-use Rattle.std.proofs.Common.{length, ap, sym, ◌∙◌}
+use Rattle.catalogue.proofs.Prelude.{ap, corners_of, length, sym, ◌∙◌}
 use Rattle.std.proofs.lemmas.Map.Entries.{length-keys_of}
-use Rattle.catalogue.specs.Tiles.{corners_of}
 use Rattle.catalogue.proofs.Entries.{corners-tiles_in}
 use Rattle.catalogue.proofs.table.TableSamples.count.Goals as goal
 

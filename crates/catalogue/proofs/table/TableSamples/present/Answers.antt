@@ -1,5 +1,4 @@
-use Rattle.std.proofs.Common.{◌≡◌, sym, ◌∙◌, subst}
-use Rattle.lattice.specs.Mosaic.{IsMosaic}
+use Rattle.catalogue.proofs.Prelude.{IsMosaic, subst, sym, ◌∙◌, ◌≡◌}
 use Rattle.catalogue.proofs.Entries.{found-present}
 use Rattle.catalogue.proofs.OneTile.{corners_are}
 use Rattle.catalogue.proofs.Presence.{present_iff, corners_in_order}

@@ -1,8 +1,6 @@
-use Rattle.std.proofs.Common.{◌<◌, ℤ, pos, sym, ◌∙◌, subst, rules}
-use Rattle.std.proofs.lemmas.Int.{to_z-of_z}
+use Rattle.catalogue.proofs.Prelude.{IsSampleOf, ℤ, pos, rules, subst, sym, to_z-of_z, ◌<◌, ◌∙◌}
 use mir.Syntax.{w16}
 use mir.Val.{SFits}
-use Rattle.catalogue.specs.Reading.{IsSampleOf}
 use Rattle.catalogue.proofs.Entries.{found-present, samples-found, index_within}
 use Rattle.catalogue.proofs.Presence.{present_iff}
 use Rattle.catalogue.proofs.Sampled.{sample_from}

@@ -1,6 +1,4 @@
-use Rattle.std.proofs.Common.{◌≡◌, ◌+◌, length, ℕ, List, Contains, refl, sym, ap, subst, ◌∙◌, slice_range}
-use Rattle.std.specs.Global.{Vec}
-use Rattle.lru.specs.LruCache.{LruCache}
+use Rattle.cow_tree.proofs.Prelude.{Contains, List, LruCache, Vec, ℕ, ap, length, refl, slice_range, subst, sym, ◌+◌, ◌∙◌, ◌≡◌}
 use Rattle.lru.proofs.CallerLemmas.{Contains-promoted}
 use Rattle.cow_tree.proofs.Cached.{found_there, held_before}
 use Rattle.cow_tree.proofs.cache.PageCache.find.Goals as goal

@@ -1,6 +1,4 @@
-use Rattle.std.proofs.Common.{ℕ, Contains, subst}
-use Rattle.std.specs.Global.{Vec}
-use Rattle.lru.specs.LruCache.{LruCache}
+use Rattle.cow_tree.proofs.Prelude.{Contains, LruCache, Vec, ℕ, subst}
 use Rattle.lru.proofs.CallerLemmas.{Contains-remove_entry}
 use Rattle.cow_tree.proofs.Cached.{gone, held_before}
 use Rattle.cow_tree.proofs.cache.PageCache.forget.Goals as goal

@@ -1,6 +1,4 @@
-use Rattle.std.proofs.Common.{inl, inr, ⊎_elim, ℕ, Contains, sym, ap, ◌∙◌, subst}
-use Rattle.std.specs.Global.{Vec}
-use Rattle.lru.specs.LruCache.{LruCache}
+use Rattle.cow_tree.proofs.Prelude.{Contains, LruCache, Vec, ℕ, ap, inl, inr, subst, sym, ⊎_elim, ◌∙◌}
 use Rattle.cow_tree.proofs.Cached.{there_or_put}
 use Rattle.cow_tree.proofs.Steps.{either_way}
 use Rattle.cow_tree.proofs.cache.PageCache.keep.Goals as goal

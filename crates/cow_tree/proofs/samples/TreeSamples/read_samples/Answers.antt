@@ -1,12 +1,5 @@
-use Rattle.std.proofs.Common.{◌≡◌, ℕ, ℤ, ◌+◌, ◌*◌, ◌≤◌, ◌-◌, List, length, Option, sym, ap, ◌∙◌, subst, arith, IsSomeAnd, slice_range}
-use Rattle.std.proofs.lemmas.List.{take_all}
-use Rattle.lattice.specs.Mosaic.{Mosaic, samples_of}
-use Rattle.page_codec.specs.Formats.{largest_side_of}
-use Rattle.page_codec.specs.Roots.{RootValue}
-use Rattle.cow_tree.specs.Layout.{tile_in}
+use Rattle.cow_tree.proofs.Prelude.{IsSomeAnd, List, Mosaic, Option, RootValue, StoredTile, ℕ, ℤ, ap, arith, largest_side_of, length, samples_of, samples_of_plane, slice_range, staged_in, subst, sym, take_all, tile_in, ◌*◌, ◌+◌, ◌-◌, ◌∙◌, ◌≡◌, ◌≤◌}
 use Rattle.cow_tree.specs.Reading.{read_again}
-use Rattle.cow_tree.specs.Stored.{StoredTile, samples_of_plane}
-use Rattle.cow_tree.specs.Trees.{staged_in}
 use Rattle.cow_tree.proofs.Listed.Adding.{contains-map}
 use Rattle.cow_tree.proofs.Listed.Due.{located_tile}
 use Rattle.cow_tree.proofs.SampleReads.{samples_are, read_further, length_further, samples_small}

@@ -1,6 +1,4 @@
-use Rattle.std.proofs.Common.{◌≡◌, ◌≤◌, ◌-◌, ◌+◌, ℤ, List, Some, false, length, take, slice_range}
-use Rattle.lattice.specs.Mosaic.{samples_of}
-use Rattle.cow_tree.specs.Reading.{mosaic_of, IsReadable, HasOnlyRead}
+use Rattle.cow_tree.proofs.Prelude.{HasOnlyRead, IsReadable, List, Some, ℤ, false, length, mosaic_of, samples_of, slice_range, take, ◌+◌, ◌-◌, ◌≡◌, ◌≤◌}
 use Rattle.cow_tree.specs.Trees.{has_failed}
 use Rattle.cow_tree.proofs.samples.TreeSamples.read_samples.Given as goal
 

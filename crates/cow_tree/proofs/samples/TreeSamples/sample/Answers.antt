@@ -2,13 +2,8 @@ use Rattle.std.proofs.Common.{◌≡◌, ◌<◌, ℕ, ℤ, pos, List, [], ◌�
 use Rattle.std.proofs.lemmas.Int.{to_z-of_z}
 use mir.Syntax.{w16}
 use mir.Val.{SFits}
-use Rattle.hgt.specs.Bytes.{samples_in}
+use Rattle.cow_tree.proofs.Prelude.{StoredTile, mosaic_of, samples_in, samples_of_plane, staged_in, tile_at_corner, tile_in}
 use Rattle.catalogue.specs.Reading.{IsSampleOf}
-use Rattle.cow_tree.specs.Layout.{tile_in}
-use Rattle.cow_tree.specs.Reading.{mosaic_of}
-use Rattle.cow_tree.specs.Stored.{StoredTile, samples_of_plane}
-use Rattle.cow_tree.specs.Trees.{staged_in}
-use Rattle.page_map.proofs.Lookup.{tile_at_corner}
 use Rattle.cow_tree.proofs.Listed.Adding.{contains-map}
 use Rattle.cow_tree.proofs.Listed.Due.{located_tile}
 use Rattle.cow_tree.proofs.SampleReads.{samples_are, as_many, part_read, one_sample}

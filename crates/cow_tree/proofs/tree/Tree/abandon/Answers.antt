@@ -1,8 +1,4 @@
-use Rattle.std.proofs.Common.{sym, ap, ◌∙◌}
-use Rattle.page_codec.specs.Roots.{RootValue}
-use Rattle.cow_tree.specs.Sinks.{SinksValue}
-use Rattle.cow_tree.specs.Stored.{Stored}
-use Rattle.page_map.specs.PageMaps.{PageMapValue}
+use Rattle.cow_tree.proofs.Prelude.{PageMapValue, RootValue, SinksValue, Stored, ap, sym, ◌∙◌}
 use Rattle.cow_tree.proofs.Clean.{is_clean}
 use Rattle.cow_tree.proofs.tree.Tree.abandon.Goals as goal
 

@@ -1,8 +1,4 @@
-use Rattle.std.proofs.Common.{◌≡◌, ap, ◌∙◌, arith}
-use Rattle.page_codec.specs.Formats.{upgraded}
-use Rattle.page_codec.specs.Roots.{format_of}
-use Rattle.page_codec.specs.Sizes.{sectors_asked}
-use Rattle.page_codec.specs.declared.version.Version.TheVariants.{One}
+use Rattle.cow_tree.proofs.Prelude.{One, ap, arith, format_of, sectors_asked, upgraded, ◌∙◌, ◌≡◌}
 use Rattle.cow_tree.proofs.tree.Tree.allow_upgrade.Goals as goal
 
 pub returns-then-number-clause-refused : goal.returns-then-number-clause-refused

@@ -1,20 +1,6 @@
-use Rattle.std.proofs.Common.{rules, ◌+◌, ◌≡◌, ◌≤◌, ◌⊎◌, inl, ℕ, List, length, map, refl, sym, ap, ap₂, ◌∙◌, subst, arith}
-use Rattle.disk.specs.Disk.{Image}
-use Rattle.disk.specs.Stops.{LeavesOnly, weaker}
-use Rattle.lattice.specs.declared.point.Point.{Point}
+use Rattle.cow_tree.proofs.Prelude.{AreStaged, Format, HasMoved, Image, IsAt, IsCurrent, IsReady, KeepsAll, LeavesOnly, List, PageMapValue, Point, RootValue, SamePages, Stands, StoresAt, ℕ, ap, ap₂, arith, due_among, entry_of, format_of, inl, length, map, numbers_of, pages_due, ready_current, refl, rules, stored_in, subst, sym, tile_in, tiles_listing, weaker, ◌+◌, ◌∙◌, ◌≡◌, ◌≤◌, ◌⊎◌}
 use Rattle.lattice.specs.Mosaic.{AreSinks}
-use Rattle.page_codec.specs.Formats.{Format}
-use Rattle.page_codec.specs.Roots.{RootValue, format_of}
-use Rattle.roots.specs.Roots.{IsReady, ready_current}
-use Rattle.roots.specs.Slots.{KeepsAll, SamePages, IsCurrent}
-use Rattle.roots.specs.Found.{HasMoved}
-use Rattle.page_map.specs.PageMaps.{PageMapValue}
-use Rattle.cow_tree.specs.Entries.{entry_of}
-use Rattle.cow_tree.specs.Layout.{stored_in, tile_in, StoresAt, Stands}
-use Rattle.cow_tree.specs.Listings.{due_among, numbers_of, tiles_listing}
-use Rattle.cow_tree.specs.Staged.{AreStaged, pages_due}
 use Rattle.cow_tree.specs.Stored.{Stored, next_commit}
-use Rattle.cow_tree.specs.Trees.{IsAt}
 use Rattle.cow_tree.proofs.Cached.{same_agrees}
 use Rattle.cow_tree.proofs.Commits.{next_root, few_in_all, few_in_part, lands, same_tiles, nothing_staged, committing}
 use Rattle.cow_tree.proofs.Clean.{is_clean}

@@ -1,5 +1,4 @@
-use Rattle.std.proofs.Common.{ap}
-use Rattle.cow_tree.specs.Sinks.{SinksValue}
+use Rattle.cow_tree.proofs.Prelude.{SinksValue, ap}
 use Rattle.cow_tree.proofs.tree.Tree.declare.Goals as goal
 
 pub returns-clause-sinks : goal.returns-clause-sinks

@@ -1,9 +1,4 @@
-use Rattle.std.proofs.Common.{List, None, map, sym, ap, ◌∙◌, subst, arith}
-use Rattle.page_codec.specs.Roots.{format_of}
-use Rattle.page_map.specs.PageMaps.{PageMapValue, corners_of_locations}
-use Rattle.page_map.specs.TileLocations.{TileLocation}
-use Rattle.cow_tree.specs.Layout.{tile_in, StoresAt}
-use Rattle.cow_tree.specs.Staged.{AreStaged}
+use Rattle.cow_tree.proofs.Prelude.{AreStaged, List, None, PageMapValue, StoresAt, TileLocation, ap, arith, corners_of_locations, format_of, map, subst, sym, tile_in, ◌∙◌}
 use Rattle.cow_tree.proofs.Listed.Due.{other_due}
 use Rattle.cow_tree.proofs.Writes.KeptDrops.{bared_tiles, other_corners, other_still, other_stays}
 use Rattle.cow_tree.proofs.tree.Tree.drop_kept.Goals as goal

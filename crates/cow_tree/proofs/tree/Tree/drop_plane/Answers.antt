@@ -1,11 +1,4 @@
-use Rattle.std.proofs.Common.{not, map, List, sym, ap, ◌∙◌, subst}
-use Rattle.page_codec.specs.Roots.{format_of}
-use Rattle.lattice.specs.Corners.{Corner, same_corner}
-use Rattle.page_map.specs.PageMaps.{PageMapValue, corners_of_locations}
-use Rattle.page_map.specs.TileLocations.{TileLocation}
-use Rattle.cow_tree.specs.Layout.{tile_in, StoresAt}
-use Rattle.cow_tree.specs.Staged.{AreStaged}
-use Rattle.cow_tree.specs.Stored.{StoredTile}
+use Rattle.cow_tree.proofs.Prelude.{AreStaged, Corner, List, PageMapValue, StoredTile, StoresAt, TileLocation, ap, corners_of_locations, format_of, map, not, same_corner, subst, sym, tile_in, ◌∙◌}
 use Rattle.cow_tree.proofs.Writes.Dropping.{filter-map, staged_without}
 use Rattle.cow_tree.proofs.Listed.Due.{without_due}
 use Rattle.cow_tree.proofs.tree.Tree.drop_plane.Goals as goal

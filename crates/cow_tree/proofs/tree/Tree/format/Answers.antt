@@ -1,5 +1,4 @@
-use Rattle.std.proofs.Common.{◌≤◌, ℕ, sym, subst}
-use Rattle.page_codec.specs.Sizes.{sectors_asked}
+use Rattle.cow_tree.proofs.Prelude.{ℕ, sectors_asked, subst, sym, ◌≤◌}
 use Rattle.cow_tree.proofs.Opened.{formatted_stands}
 use Rattle.cow_tree.proofs.Steps.{on_ok_both}
 use Rattle.cow_tree.proofs.tree.Tree.format.Goals as goal

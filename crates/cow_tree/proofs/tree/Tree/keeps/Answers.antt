@@ -1,7 +1,4 @@
-use Rattle.std.proofs.Common.{◌≡◌, Option, Some, None, refl, option_map}
-use Rattle.page_map.specs.declared.locations.KeptLocations.{KeptLocations}
-use Rattle.page_map.specs.declared.plane.Plane.TheVariants.{Levels}
-use Rattle.page_map.specs.Locations.{PlaneLocation}
+use Rattle.cow_tree.proofs.Prelude.{KeptLocations, Levels, None, Option, PlaneLocation, Some, option_map, refl, ◌≡◌}
 use Rattle.page_map.proofs.Lookup.{held_plane}
 use Rattle.cow_tree.proofs.tree.Tree.keeps.Goals as goal
 

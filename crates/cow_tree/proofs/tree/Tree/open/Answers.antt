@@ -1,8 +1,4 @@
-use Rattle.std.proofs.Common.{◌≡◌, All, ◌∙◌, subst, sym}
-use Rattle.disk.specs.Disk.{Image}
-use Rattle.page_codec.specs.Roots.{RootValue, format_of}
-use Rattle.cow_tree.specs.Layout.{HasRecords}
-use Rattle.disk.specs.Stops.{AddsNothing, nothing_twice}
+use Rattle.cow_tree.proofs.Prelude.{AddsNothing, All, HasRecords, Image, RootValue, format_of, nothing_twice, subst, sym, ◌∙◌, ◌≡◌}
 use Rattle.cow_tree.proofs.Clean.{is_clean}
 use Rattle.cow_tree.proofs.Opened.{opened, page_map_refuses, stands_opens}
 use Rattle.cow_tree.proofs.ReadOnly.{works_ok}

@@ -1,6 +1,4 @@
-use Rattle.std.proofs.Common.{◌≡◌, ◌≤◌, ◌<◌, ℕ, List, All, get_or, length, sym, ap, ◌∙◌, subst, arith}
-use Rattle.page_codec.specs.Formats.{Format}
-use Rattle.page_codec.specs.Sizes.{pages_of}
+use Rattle.cow_tree.proofs.Prelude.{All, Format, List, ℕ, ap, arith, get_or, length, pages_of, subst, sym, ◌<◌, ◌∙◌, ◌≡◌, ◌≤◌}
 use Rattle.cow_tree.proofs.PageReads.{plane_pages, whole_plane, page_there}
 use Rattle.cow_tree.proofs.tree.Tree.page_number.Goals as goal
 use Rattle.cow_tree.proofs.tree.Tree.page_number.Goals.{In-Some}

@@ -1,9 +1,4 @@
-use Rattle.std.proofs.Common.{◌≡◌, List, length, map, ap, sym, ◌∙◌, subst, arith}
-use Rattle.page_codec.specs.Roots.{format_of}
-use Rattle.page_map.specs.PageMaps.{PageMapValue, HasFreshHeights, corners_of_locations}
-use Rattle.page_map.specs.TileLocations.{TileLocation}
-use Rattle.cow_tree.specs.Layout.{tile_in, StoresAt}
-use Rattle.cow_tree.specs.Staged.{AreStaged, pages_due}
+use Rattle.cow_tree.proofs.Prelude.{AreStaged, HasFreshHeights, List, PageMapValue, StoresAt, TileLocation, ap, arith, corners_of_locations, format_of, length, map, pages_due, subst, sym, tile_in, ◌∙◌, ◌≡◌}
 use Rattle.cow_tree.proofs.Listed.Due.{prepared_due, prepared_due_same, prepared_located, prepared_still}
 use Rattle.cow_tree.proofs.Prepared.{prepared_tiles, prepared_corners, still_prepared}
 use Rattle.cow_tree.proofs.Steps.{on_ok, either_way}

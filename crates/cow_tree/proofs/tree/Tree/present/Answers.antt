@@ -1,6 +1,5 @@
-use Rattle.std.proofs.lemmas.List.Elements.{All-map}
+use Rattle.cow_tree.proofs.Prelude.{All-map, is_corner}
 use Rattle.std.specs.Prelude.{IsTrue}
-use Rattle.lattice.specs.Corners.{is_corner}
 use Rattle.cow_tree.proofs.Tiles.{corner_of, corners_adjacent}
 use Rattle.cow_tree.proofs.tree.Tree.present.Goals as goal
 

@@ -1,6 +1,4 @@
-use Rattle.std.proofs.Common.{rules, ◌≡◌, false, sym, subst, ◌∙◌, ap}
-use Rattle.disk.specs.Disk.{Image}
-use Rattle.cow_tree.specs.Caches.{Agrees}
+use Rattle.cow_tree.proofs.Prelude.{Agrees, Image, ap, false, rules, subst, sym, ◌∙◌, ◌≡◌}
 use Rattle.cow_tree.proofs.Cached.{fewer_agree, one_more_agrees}
 use Rattle.cow_tree.proofs.Steps.{ok_where_works}
 use Rattle.cow_tree.proofs.tree.Tree.read_bytes.Goals as goal

@@ -1,7 +1,4 @@
-use Rattle.std.proofs.Common.{◌+◌, ◌-◌, length, sym, subst, ◌∙◌, arith}
-use Rattle.std.proofs.lemmas.List.{take_all}
-use Rattle.cow_tree.specs.Planes.{HasPage}
-use Rattle.cow_tree.specs.Trees.{staged_in}
+use Rattle.cow_tree.proofs.Prelude.{HasPage, arith, length, staged_in, subst, sym, take_all, ◌+◌, ◌-◌, ◌∙◌}
 use Rattle.cow_tree.proofs.Steps.{on_ok}
 use Rattle.cow_tree.proofs.tree.Tree.read_page.Goals as goal
 

@@ -1,9 +1,4 @@
-use Rattle.std.proofs.Common.{◌≡◌, All, inl, inr, ⊎_elim, sym, ◌∙◌, subst}
-use Rattle.disk.specs.Disk.{Image}
-use Rattle.disk.specs.Stops.{AddsNothing, nothing_twice}
-use Rattle.lattice.specs.declared.refusal.Refusal.TheVariants.{Device}
-use Rattle.page_codec.specs.Roots.{RootValue, format_of}
-use Rattle.cow_tree.specs.Layout.{HasRecords}
+use Rattle.cow_tree.proofs.Prelude.{AddsNothing, All, Device, HasRecords, Image, RootValue, format_of, inl, inr, nothing_twice, subst, sym, ⊎_elim, ◌∙◌, ◌≡◌}
 use Rattle.cow_tree.proofs.Clean.{is_clean}
 use Rattle.cow_tree.proofs.Opened.{opened, page_map_refuses, stands_opens}
 use Rattle.cow_tree.proofs.ReadOnly.{works_ok, never_refused, handed_on}

@@ -1,6 +1,4 @@
-use Rattle.std.proofs.Common.{rules, ◌≡◌, false, sym, subst}
-use Rattle.disk.specs.Disk.{Image}
-use Rattle.cow_tree.specs.Caches.{Agrees}
+use Rattle.cow_tree.proofs.Prelude.{Agrees, Image, false, rules, subst, sym, ◌≡◌}
 use Rattle.cow_tree.proofs.Steps.{on_ok}
 use Rattle.cow_tree.proofs.tree.Tree.scan_page.Goals as goal
 

@@ -1,17 +1,7 @@
-use Rattle.std.proofs.Common.{[], ◌∷◌, Contains, ◌<◌, ◌≤◌, ◌+◌, ℕ, length, map, arith, refl, sym, ap, ◌∙◌, subst}
-use Rattle.page_codec.specs.Sizes.{pages_of}
-use Rattle.std.proofs.lemmas.Bool.{false≢true}
-use Rattle.std.proofs.lemmas.List.Elements.{All-cons, All-nil}
-use Rattle.page_codec.specs.Formats.{Format}
-use Rattle.page_codec.specs.Roots.{RootValue, format_of}
-use Rattle.page_map.specs.PageMaps.{PageMapValue, HasFreshHeights, corners_of_locations}
-use Rattle.page_map.specs.TileLocations.{reached}
-use Rattle.cow_tree.specs.Entries.{entry_of}
-use Rattle.cow_tree.specs.Staged.{index_page_by, pages_due}
+use Rattle.cow_tree.proofs.Prelude.{All-cons, All-nil, Contains, Format, HasFreshHeights, PageMapValue, RootValue, ℕ, [], ap, arith, corners_of_locations, ended_with, entry_of, false≢true, format_of, index_page_by, length, map, pages_due, pages_of, reached, refl, subst, sym, ◌+◌, ◌<◌, ◌∙◌, ◌∷◌, ◌≤◌}
 use Rattle.cow_tree.proofs.Steps.{corners_same, stage_pages, stage_stays, page_unreached, ok_where_works, on_ok_both, ok_where, only_device}
 use Rattle.cow_tree.proofs.Cached.{written_agrees}
 use Rattle.cow_tree.proofs.Listed.Due.{written_due, written_due_same, written_due_before, written_here, written_still}
-use Rattle.page_map.proofs.Refused.{ended_with}
 use Rattle.cow_tree.proofs.Writes.PageWrites.{one_written}
 use Rattle.cow_tree.proofs.Uncommitted.{refused_in_memory, wrote}
 use Rattle.cow_tree.proofs.tree.Tree.stage.Goals as goal

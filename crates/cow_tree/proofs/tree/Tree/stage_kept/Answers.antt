@@ -1,16 +1,8 @@
-use Rattle.std.proofs.Common.{◌≡◌, ◌+◌, ◌≤◌, ◌*◌, ◌++◌, length, Some, refl, ap, ◌∙◌, subst, arith}
-use Rattle.std.proofs.lemmas.List.{length-append}
-use Rattle.page_codec.specs.Formats.{Format}
-use Rattle.page_codec.specs.Roots.{format_of}
-use Rattle.page_codec.specs.Sizes.{index_pages_of, pages_of}
-use Rattle.page_map.specs.PageMaps.{PageMapValue, AreKept, AreWholeKept, corners_of_locations}
-use Rattle.page_map.specs.declared.locations.KeptLocations.{KeptLocations}
+use Rattle.cow_tree.proofs.Prelude.{AreKept, AreWholeKept, Format, KeptLocations, PageMapValue, Some, ap, arith, corners_of_locations, ended_with, format_of, index_pages_of, length, length-append, pages_due, pages_of, refl, subst, ◌*◌, ◌++◌, ◌+◌, ◌∙◌, ◌≡◌, ◌≤◌}
 use Rattle.cow_tree.specs.Kept.{planes_of_bytes}
-use Rattle.cow_tree.specs.Staged.{pages_due}
 use Rattle.cow_tree.proofs.Listed.Due.{kept_more}
 use Rattle.cow_tree.proofs.Writes.KeptDrops.{other_corners}
 use Rattle.cow_tree.proofs.Writes.KeptStaging.{locations_are, no_labels, no_levels, whole_planes, pages_low, pages_high, pages_once, pages_unreached, kept_staged, kept_stays}
-use Rattle.page_map.proofs.Refused.{ended_with}
 use Rattle.cow_tree.proofs.Steps.{on_ok, on_ok_both}
 use Rattle.cow_tree.proofs.Uncommitted.{refused_in_memory, wrote}
 use Rattle.cow_tree.proofs.tree.Tree.stage_kept.Goals as goal

@@ -1,16 +1,6 @@
-use Rattle.std.proofs.Common.{◌≡◌, ℕ, ◌+◌, ◌≤◌, ◌<◌, List, All, Contains, length, map, refl, sym, ap, ◌∙◌, subst}
-use Rattle.page_codec.specs.Formats.{Format}
-use Rattle.page_codec.specs.Roots.{format_of}
-use Rattle.disk.specs.Disk.{Image}
-use Rattle.page_map.specs.PageMaps.{PageMapValue, IsAdded}
-use Rattle.page_map.specs.TileLocations.{reached}
-use Rattle.page_map.specs.Locations.{times}
-use Rattle.cow_tree.specs.Staged.{pages_due}
-use Rattle.cow_tree.specs.Stored.{pages_of_bytes}
-use Rattle.page_codec.specs.Sizes.{index_pages_of}
+use Rattle.cow_tree.proofs.Prelude.{All, Contains, Format, Image, IsAdded, List, PageMapValue, ℕ, ap, ended_with, format_of, index_pages_of, length, map, pages_due, pages_of_bytes, reached, refl, subst, sym, times, ◌+◌, ◌<◌, ◌∙◌, ◌≡◌, ◌≤◌}
 use Rattle.cow_tree.proofs.Listed.Adding.{added_heights, pages_low, pages_high, pages_unreached, pages_once, plane_staged, plane_stays}
 use Rattle.cow_tree.proofs.Listed.Due.{added_corners, added_due, added_here}
-use Rattle.page_map.proofs.Refused.{ended_with}
 use Rattle.cow_tree.proofs.Steps.{on_ok, on_ok_both, ok_where}
 use Rattle.cow_tree.proofs.Uncommitted.{refused_in_memory, wrote}
 use Rattle.cow_tree.proofs.tree.Tree.stage_plane.Goals as goal

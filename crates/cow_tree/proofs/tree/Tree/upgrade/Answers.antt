@@ -1,23 +1,4 @@
-use Rattle.std.proofs.Common.{rules, ◌≡◌, ◌≤◌, ◌<◌, ◌+◌, ◌*◌, ◌^◌, ◌⊎◌, inl, ℕ, List, [], All, Contains, length, map, refl, sym, ap, ◌∙◌, subst, arith}
-use Rattle.disk.specs.Disk.{Image}
-use Rattle.disk.specs.Stops.{LeavesOnly, weaker}
-use Rattle.page_codec.specs.Formats.{upgraded}
-use Rattle.page_codec.specs.Roots.{RootValue, format_of}
-use Rattle.page_codec.specs.Sizes.{index_pages_of}
-use Rattle.roots.specs.Roots.{IsReady, ready_current}
-use Rattle.roots.specs.Slots.{KeepsAll, SamePages, IsCurrent}
-use Rattle.roots.specs.Found.{HasMoved}
-use Rattle.page_map.specs.PageMaps.{PageMapValue, is_unreached}
-use Rattle.page_map.specs.Locations.{times}
-use Rattle.page_map.specs.TileLocations.{TileLocation, reached}
-use Rattle.page_map.specs.Upgraded.{data_of, listings}
-use Rattle.page_map.proofs.KeptChanges.{length-filter-le}
-use Rattle.cow_tree.specs.Entries.{entry_of}
-use Rattle.cow_tree.specs.Layout.{stored_in, StoresAt, Stands}
-use Rattle.cow_tree.specs.Listings.{due_among, numbers_of, tiles_listing}
-use Rattle.cow_tree.specs.Staged.{AreStaged}
-use Rattle.cow_tree.specs.Stored.{Stored}
-use Rattle.cow_tree.specs.Trees.{IsAt}
+use Rattle.cow_tree.proofs.Prelude.{All, AreStaged, Contains, HasMoved, Image, IsAt, IsCurrent, IsReady, KeepsAll, LeavesOnly, List, PageMapValue, RootValue, SamePages, Stands, Stored, StoresAt, TileLocation, ℕ, [], ap, arith, data_of, due_among, entry_of, format_of, index_pages_of, inl, is_unreached, length, length-filter-le, listings, map, numbers_of, reached, ready_current, refl, rules, stored_in, subst, sym, tiles_listing, times, upgraded, weaker, ◌*◌, ◌+◌, ◌<◌, ◌^◌, ◌∙◌, ◌≡◌, ◌≤◌, ◌⊎◌}
 use Rattle.cow_tree.specs.Upgrades.{upgraded_store}
 use Rattle.cow_tree.proofs.Cached.{same_agrees}
 use Rattle.cow_tree.proofs.Commits.{lands, same_tiles, few_in_all, few_in_part, none_before, nothing_staged, committing}

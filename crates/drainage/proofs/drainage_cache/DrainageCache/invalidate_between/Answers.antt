@@ -1,9 +1,5 @@
-use Rattle.std.proofs.Common.{◌≡◌, refl, sym, ◌∙◌, subst}
-use Rattle.std.specs.Prelude.{Option, Some}
+use Rattle.drainage.proofs.Prelude.{IsNoHigher, Option, Some, TileCache, flow_cache_right, past_right, refl, subst, sym, ◌∙◌, ◌≡◌}
 use Rattle.drainage.specs.Between.{are_left, are_right}
-use Rattle.drainage.specs.FlowCaches.{flow_cache_right, past_right}
-use Rattle.drainage.specs.Spared.{IsNoHigher}
-use Rattle.drainage.specs.declared.tile_cache.TileCache.{TileCache}
 use Rattle.drainage.proofs.drainage_cache.DrainageCache.invalidate_between.Goals as goal
 
 pub returns-clause-left : goal.returns-clause-left

@@ -1,8 +1,6 @@
 use Rattle.std.proofs.Common.{◌≡◌, Some, sym, subst, rules}
-use Rattle.std.specs.Prelude.{Option, IfNone}
-use Rattle.tile_flood.specs.Blocks.{LabelledGround}
+use Rattle.drainage.proofs.Prelude.{IfNone, LabelledGround, Option, TileCache}
 use Rattle.drainage.specs.Between.{is_current_in}
-use Rattle.drainage.specs.declared.tile_cache.TileCache.{TileCache}
 use Rattle.drainage.proofs.drainage_cache.DrainageCache.labelling.Goals as goal
 
 pub returns-clause-none : goal.returns-clause-none

@@ -1,11 +1,4 @@
-use Rattle.std.proofs.Common.{rules, SFits, w16, to_z, of_z, ◌≡◌, ℤ, refl, sym, ◌∙◌, subst}
-use Rattle.std.specs.Prelude.{Option, Some}
-use Rattle.std.proofs.lemmas.Int.{to_z-of_z}
-use Rattle.drainage.specs.Between.{are_noted, are_right, levels_pass, AreFlowsLeft}
-use Rattle.drainage.specs.FlowCaches.{flow_cache_right}
-use Rattle.drainage.specs.Spared.{IsSpared}
-use Rattle.drainage.specs.declared.drainage_cache.DrainageCache.{DrainageCache}
-use Rattle.drainage.specs.declared.tile_cache.TileCache.{TileCache}
+use Rattle.drainage.proofs.Prelude.{AreFlowsLeft, DrainageCache, IsSpared, Option, SFits, Some, TileCache, ℤ, are_noted, are_right, flow_cache_right, levels_pass, of_z, refl, rules, subst, sym, to_z, to_z-of_z, w16, ◌∙◌, ◌≡◌}
 use Rattle.drainage.proofs.Caches.PastStill.{flows_left, flows_set}
 use Rattle.drainage.proofs.drainage_cache.DrainageCache.note_changed.Goals as goal
 

@@ -1,5 +1,4 @@
-use Rattle.std.proofs.Common.{inl, inr, sym, ◌∙◌, subst}
-use Rattle.drainage.specs.FlowCaches.{past_right}
+use Rattle.drainage.proofs.Prelude.{inl, inr, past_right, subst, sym, ◌∙◌}
 use Rattle.drainage.proofs.drainage_cache.DrainageCache.put_flow_cache.Goals as goal
 
 pub returns : goal.returns

@@ -1,7 +1,4 @@
-use Rattle.std.proofs.Common.{rules, SFits, w16, to_z, of_z, ℤ, refl, subst}
-use Rattle.std.specs.Prelude.{None, Some}
-use Rattle.std.proofs.lemmas.Int.{to_z-of_z}
-use Rattle.drainage.specs.FlowCaches.{AreSlotsSpared, IsPastTaken}
+use Rattle.drainage.proofs.Prelude.{AreSlotsSpared, IsPastTaken, None, SFits, Some, ℤ, of_z, refl, rules, subst, to_z, to_z-of_z, w16}
 use Rattle.drainage.proofs.drainage_cache.DrainageCache.retain_spared_flows.Goals as goal
 
 pub returns-in_default-clause-left : goal.returns-in_default-clause-left

@@ -1,7 +1,4 @@
-use Rattle.std.proofs.Common.{refl, subst}
-use Rattle.std.specs.Prelude.{Option, Some}
-use Rattle.drainage.specs.Between.{are_sparing}
-use Rattle.drainage.specs.declared.tile_cache.TileCache.{TileCache}
+use Rattle.drainage.proofs.Prelude.{Option, Some, TileCache, are_sparing, refl, subst}
 use Rattle.drainage.proofs.drainage_cache.DrainageCache.retain_spared_levels.Goals as goal
 
 pub returns : goal.returns

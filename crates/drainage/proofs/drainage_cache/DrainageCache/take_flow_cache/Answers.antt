@@ -1,5 +1,4 @@
-use Rattle.std.proofs.Common.{sym, subst}
-use Rattle.drainage.specs.FlowCaches.{flow_cache_right}
+use Rattle.drainage.proofs.Prelude.{flow_cache_right, subst, sym}
 use Rattle.drainage.proofs.drainage_cache.DrainageCache.take_flow_cache.Goals as goal
 
 pub returns-in-Some-clause-flows : goal.returns-in-Some-clause-flows

@@ -1,7 +1,4 @@
-use Rattle.std.proofs.Common.{refl, subst}
-use Rattle.std.specs.Prelude.{Option, Some}
-use Rattle.drainage.specs.declared.flow_cache.FlowCache.{FlowCache}
-use Rattle.drainage.specs.FlowCaches.{IsPastTaken}
+use Rattle.drainage.proofs.Prelude.{FlowCache, IsPastTaken, Option, Some, refl, subst}
 use Rattle.drainage.proofs.drainage_cache.DrainageCache.take_past.Goals as goal
 
 pub returns-clause-taken : goal.returns-clause-taken

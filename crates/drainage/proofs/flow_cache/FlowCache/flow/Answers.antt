@@ -1,8 +1,4 @@
-use Rattle.std.proofs.Common.{◌≡◌, ◌<◌, length, inl, inr, sym, ap, ◌∙◌, subst, arith}
-use Rattle.std.proofs.lemmas.Bool.{cases_lt}
-use Rattle.drainage.specs.FlowCaches.{IsLeftIn, IsPastOf}
-use Rattle.drainage.specs.Slots.{slot_ranges}
-use Rattle.drainage.specs.declared.flow_cache.FlowCache.{FlowCache}
+use Rattle.drainage.proofs.Prelude.{FlowCache, IsLeftIn, IsPastOf, ap, arith, cases_lt, inl, inr, length, slot_ranges, subst, sym, ◌<◌, ◌∙◌, ◌≡◌}
 use Rattle.drainage.proofs.flow_cache.FlowCache.flow.Goals as goal
 
 pub returns-in-Some-flow_in-clause-flow : goal.returns-in-Some-flow_in-clause-flow

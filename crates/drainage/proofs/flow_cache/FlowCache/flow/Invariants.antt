@@ -1,5 +1,4 @@
-use Rattle.std.proofs.Common.{◌≡◌, ℕ, ◌<◌}
-use Rattle.drainage.specs.FlowCaches.{IsLeftIn}
+use Rattle.drainage.proofs.Prelude.{IsLeftIn, ℕ, ◌<◌, ◌≡◌}
 use Rattle.drainage.proofs.flow_cache.FlowCache.flow.Given as goal
 
 abbrev pub invariant-loop-slot : goal.invariant-loop-slot

@@ -1,10 +1,6 @@
-use Rattle.std.proofs.Common.{◌≡◌, ◌<◌, length, get_or, sym, ◌∙◌, subst, true≢false}
-use Rattle.std.proofs.lemmas.List.{get_or_default}
-use Rattle.lattice.specs.Ground.{terrain}
+use Rattle.drainage.proofs.Prelude.{IsFlow, NoGround, Unknown, get_or, get_or_default, length, subst, sym, terrain, true≢false, ◌<◌, ◌∙◌, ◌≡◌}
 use Rattle.drainage.specs.FlowCaches.{IsLeftAt}
-use Rattle.flow_d8.specs.Flows.{IsFlow}
 use Rattle.flow_d8.specs.Tiles.{place_of}
-use Rattle.flow_d8.specs.declared.flow.Flow.TheVariants.{Unknown, NoGround}
 use Rattle.drainage.proofs.flow_cache.FlowCache.flow_in.Goals as goal
 
 pub returns-then-not-is_left-clause-none : goal.returns-then-not-is_left-clause-none

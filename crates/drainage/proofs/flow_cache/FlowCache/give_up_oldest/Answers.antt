@@ -1,5 +1,4 @@
-use Rattle.std.proofs.Common.{◌≡◌, ◌<◌, length, sym, subst, arith}
-use Rattle.drainage.specs.Slots.{slot_ranges}
+use Rattle.drainage.proofs.Prelude.{arith, length, slot_ranges, subst, sym, ◌<◌, ◌≡◌}
 use Rattle.drainage.proofs.Caches.FlowCaches.{slots_swap}
 use Rattle.flow_d8.proofs.Samples.GridFacts.{grid_swap}
 use Rattle.drainage.proofs.flow_cache.FlowCache.give_up_oldest.Goals as goal

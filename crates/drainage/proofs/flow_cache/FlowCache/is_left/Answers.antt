@@ -1,11 +1,5 @@
-use Rattle.std.proofs.Common.{◌≡◌, ◌*◌, ◌/◌, ◌%◌, ◌<◌, IsTrue, List, length, sym, ap, ◌∙◌, subst, arith}
-use Rattle.std.specs.Prelude.{◌↔◌, Option}
-use Rattle.drainage.specs.LevelRanges.{AreKnownAround}
-use Rattle.drainage.specs.Slots.{slot_ranges}
-use Rattle.drainage.specs.declared.level_range.LevelRange.{LevelRange}
+use Rattle.drainage.proofs.Prelude.{AreKnownAround, IsTrue, LevelRange, List, Option, ap, arith, length, slot_ranges, square_some, subst, sym, tile_below, ◌%◌, ◌*◌, ◌/◌, ◌<◌, ◌↔◌, ◌∙◌, ◌≡◌}
 use Rattle.drainage.proofs.Caches.FlowCaches.{slot_read}
-use Rattle.flow_d8.proofs.Samples.Numbers.{tile_below}
-use Rattle.flow_d8.proofs.Samples.TilePlaces.{square_some}
 use Rattle.drainage.proofs.flow_cache.FlowCache.is_left.Goals as goal
 
 pub returns : goal.returns

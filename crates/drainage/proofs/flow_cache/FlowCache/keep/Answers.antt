@@ -1,5 +1,4 @@
-use Rattle.std.proofs.Common.{ℕ, zero, suc, ◌*◌, ◌<◌, ◌≤◌, length, inl, inr, subst, arith}
-use Rattle.std.proofs.lemmas.Bool.{cases_eq}
+use Rattle.drainage.proofs.Prelude.{ℕ, arith, cases_eq, inl, inr, length, subst, suc, zero, ◌*◌, ◌<◌, ◌≤◌}
 use Rattle.drainage.proofs.flow_cache.FlowCache.keep.Goals as goal
 
 some_of : (count area most : ℕ) → most < count * area → 0 < count

@@ -1,6 +1,4 @@
-use Rattle.std.proofs.Common.{length}
-use Rattle.lattice.specs.Mosaic.{Mosaic}
-use Rattle.drainage.specs.FlowCaches.{IsCacheOf}
+use Rattle.drainage.proofs.Prelude.{IsCacheOf, Mosaic, length}
 use Rattle.drainage.proofs.flow_cache.FlowCache.keep.Given as goal
 
 abbrev pub invariant-tiles : goal.invariant-tiles

@@ -1,5 +1,4 @@
-use Rattle.std.proofs.Common.{List, length, ap, ◌∙◌, arith}
-use Rattle.lattice.specs.Corners.{Corner}
+use Rattle.drainage.proofs.Prelude.{Corner, List, ap, arith, length, ◌∙◌}
 use Rattle.flow_d8.proofs.Samples.GridFacts.{grid_none}
 use Rattle.drainage.proofs.flow_cache.FlowCache.new.Goals as goal
 

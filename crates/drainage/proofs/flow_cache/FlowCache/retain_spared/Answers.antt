@@ -1,13 +1,6 @@
-use Rattle.std.proofs.Common.{rules, SFits, w16, to_z, of_z, ◌≡◌, ◌<◌, ℤ, List, [], length, set, inl, inr, refl, sym, ◌∙◌, subst, arith}
-use Rattle.std.specs.Prelude.{Option}
+use Rattle.drainage.proofs.Prelude.{AreSpared, LevelRange, List, Option, SFits, Slot, ℤ, [], arith, cases_eq, cases_lt, inl, inr, length, of_z, refl, rules, set, slot_ranges, subst, sym, to_z, to_z-of_z, w16, ◌<◌, ◌∙◌, ◌≡◌}
 use Rattle.std.specs.Vec.{with_items}
-use Rattle.std.proofs.lemmas.Bool.{cases_lt, cases_eq}
-use Rattle.std.proofs.lemmas.Int.{to_z-of_z}
 use Rattle.std.proofs.lemmas.List.{length-set, with_items_is}
-use Rattle.drainage.specs.LevelRanges.{AreSpared}
-use Rattle.drainage.specs.Slots.{slot_ranges}
-use Rattle.drainage.specs.declared.flow_cache.Slot.{Slot}
-use Rattle.drainage.specs.declared.level_range.LevelRange.{LevelRange}
 use Rattle.drainage.proofs.Caches.FlowCaches.{slot_read, slot_past, slot_set_same, slot_set_other}
 use Rattle.drainage.proofs.flow_cache.FlowCache.retain_spared.Goals as goal
 

@@ -1,6 +1,4 @@
-use Rattle.std.proofs.Common.{◌≡◌, ℕ, ◌<◌, ◌≤◌, length}
-use Rattle.drainage.specs.LevelRanges.{AreSpared}
-use Rattle.drainage.specs.Slots.{slot_ranges}
+use Rattle.drainage.proofs.Prelude.{AreSpared, ℕ, length, slot_ranges, ◌<◌, ◌≡◌, ◌≤◌}
 use Rattle.drainage.proofs.flow_cache.FlowCache.retain_spared.Given as goal
 
 abbrev pub invariant-loop-slot : goal.invariant-loop-slot

@@ -1,7 +1,5 @@
 use Rattle.std.proofs.Common.{◌≡◌, ◌<◌, List, Option, Some, None, length, get_or, sym, ap, ◌∙◌, subst, arith}
-use Rattle.std.proofs.lemmas.List.{get_or_read}
-use Rattle.lattice.specs.declared.point.Point.{Point}
-use Rattle.lattice.proofs.SamePoints.{same_point_says}
+use Rattle.drainage.proofs.Prelude.{Point, get_or_read, same_point_says}
 use Rattle.drainage.specs.declared.ground_cache.GroundPoint.{GroundPoint}
 use Rattle.drainage.proofs.ground_cache.GroundCache.holds.Goals as goal
 

@@ -1,11 +1,4 @@
-use Rattle.std.proofs.Common.{◌≡◌, ℤ, true, false, refl, sym, subst, rules, SFits, w16, to_z, of_z}
-use Rattle.std.proofs.lemmas.Int.{to_z-of_z}
-use Rattle.std.proofs.lemmas.Bool.{both_ways}
-use Rattle.lattice.specs.Corners.{Corner}
-use Rattle.lattice.specs.Lattice.{IsIndexOf, holds}
-use Rattle.lattice.specs.Lattice.{point_of}
-use Rattle.border_graph.specs.Others.{corner_at}
-use Rattle.tile_labellings.specs.TileLabellings.{IsSetFrom}
+use Rattle.drainage.proofs.Prelude.{Corner, IsIndexOf, IsSetFrom, SFits, ℤ, both_ways, corner_at, false, holds, of_z, point_of, refl, rules, subst, sym, to_z, to_z-of_z, true, w16, ◌≡◌}
 use Rattle.drainage.proofs.Changes.Noted.{differ_at_index, set_at_index, labelling_elsewhere}
 use Rattle.drainage.proofs.labelling_cache.HeldLabelling.note_changed.Goals as goal
 

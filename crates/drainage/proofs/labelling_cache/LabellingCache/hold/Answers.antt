@@ -1,7 +1,4 @@
-use Rattle.std.proofs.Common.{List, sym, subst}
-use Rattle.std.specs.Prelude.{insert, is_ok}
-use Rattle.drainage.specs.Holding.{IsEntered}
-use Rattle.drainage.specs.declared.labelling_cache.HeldLabelling.{HeldLabelling}
+use Rattle.drainage.proofs.Prelude.{HeldLabelling, IsEntered, List, insert, is_ok, subst, sym}
 use Rattle.drainage.proofs.Caches.Caching.{entered_one, inserted_or_not}
 use Rattle.drainage.proofs.labelling_cache.LabellingCache.hold.Goals as goal
 

@@ -1,11 +1,5 @@
-use Rattle.std.proofs.Common.{◌≡◌, false, List, length, not, sym, ap, subst, arith}
-use Rattle.std.specs.Prelude.{◌↔◌, All, count_by}
-use Rattle.std.proofs.lemmas.List.Elements.{All-filter}
+use Rattle.drainage.proofs.Prelude.{All, All-filter, HasSide, HeldLabelling, IsHeldAt, List, ap, arith, count_by, false, has_block, is_reached, length, not, subst, sym, ◌↔◌, ◌≡◌}
 use Rattle.std.proofs.lemmas.List.Sums.{length-filter, count_by-le-length}
-use Rattle.drainage.specs.Holding.{IsHeldAt}
-use Rattle.drainage.specs.Reaching.{is_reached}
-use Rattle.drainage.specs.Room.{HasSide, has_block}
-use Rattle.drainage.specs.declared.labelling_cache.HeldLabelling.{HeldLabelling}
 use Rattle.drainage.proofs.Caches.Caching.{count_filtered, left_unreached}
 use Rattle.drainage.proofs.labelling_cache.LabellingCache.invalidate_between.Goals as goal
 

@@ -1,11 +1,5 @@
-use Rattle.std.proofs.Common.{◌≡◌, ◌<◌, ◌≤◌, true≢false, List, length, get_or, refl, sym, ◌∙◌, subst}
-use Rattle.std.specs.Prelude.{All}
-use Rattle.std.proofs.lemmas.List.{take_all}
-use Rattle.std.proofs.lemmas.List.Elements.{All-contains, All-more}
-use Rattle.tile_labellings.specs.TileLabellings.{IsBelow}
+use Rattle.drainage.proofs.Prelude.{All, All-contains, All-more, HeldLabelling, IsBelow, IsHeldAt, List, get_or, length, refl, subst, sym, take_all, true≢false, ◌<◌, ◌∙◌, ◌≡◌, ◌≤◌}
 use Rattle.lattice.proofs.Samples.{index_unique}
-use Rattle.drainage.specs.Holding.{IsHeldAt}
-use Rattle.drainage.specs.declared.labelling_cache.HeldLabelling.{HeldLabelling}
 use Rattle.drainage.proofs.Caches.Caching.{held_there}
 use Rattle.drainage.proofs.labelling_cache.LabellingCache.is_still.Goals as goal
 

@@ -1,10 +1,4 @@
-use Rattle.std.proofs.Common.{◌≡◌, ◌<◌, ◌≤◌, true≢false, List, length, get_or, refl, sym, ◌∙◌, subst}
-use Rattle.std.specs.Prelude.{All}
-use Rattle.std.proofs.lemmas.List.{take_all}
-use Rattle.std.proofs.lemmas.List.Elements.{All-contains, All-more}
-use Rattle.tile_labellings.specs.TileLabellings.{IsCurrent}
-use Rattle.drainage.specs.Holding.{IsHeldAt}
-use Rattle.drainage.specs.declared.labelling_cache.HeldLabelling.{HeldLabelling}
+use Rattle.drainage.proofs.Prelude.{All, All-contains, All-more, HeldLabelling, IsCurrent, IsHeldAt, List, get_or, length, refl, subst, sym, take_all, true≢false, ◌<◌, ◌∙◌, ◌≡◌, ◌≤◌}
 use Rattle.drainage.proofs.Caches.Caching.{held_there}
 use Rattle.drainage.proofs.labelling_cache.LabellingCache.labelling.Goals as goal
 use Rattle.drainage.proofs.labelling_cache.LabellingCache.labelling.Goals.{else-held-t-via-then-held-t+else-is_current, else-held-t-via-else-held-t}

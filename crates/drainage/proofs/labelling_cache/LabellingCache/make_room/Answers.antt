@@ -1,10 +1,5 @@
-use Rattle.std.proofs.Common.{◌≡◌, ◌-◌, ◌<◌, true, List, [], cond, sym, ap, subst, arith}
-use Rattle.std.specs.Prelude.{All, Contains, count_by, slice_index_or}
-use Rattle.std.proofs.lemmas.List.Elements.{All-take, All-contains_itself}
+use Rattle.drainage.proofs.Prelude.{All, All-contains_itself, All-take, Contains, HasSide, HeldLabelling, Kept, List, [], ap, arith, cond, count_by, has_block, slice_index_or, subst, sym, true, ◌-◌, ◌<◌, ◌≡◌}
 use Rattle.std.proofs.lemmas.List.Sums.{sum_by-take-le}
-use Rattle.tile_labellings.specs.declared.tile_labelling.TileLabelling.TheVariants.{Kept}
-use Rattle.drainage.specs.Room.{HasSide, has_block}
-use Rattle.drainage.specs.declared.labelling_cache.HeldLabelling.{HeldLabelling}
 use Rattle.drainage.proofs.Caches.Caching.{all_among, entered_among}
 use Rattle.drainage.proofs.labelling_cache.LabellingCache.make_room.Goals as goal
 use Rattle.drainage.proofs.labelling_cache.LabellingCache.make_room.Goals.{After-give_up_block}

@@ -1,9 +1,5 @@
-use Rattle.std.proofs.Common.{◌<◌, List, length, sym, ap, subst, cond, arith}
-use Rattle.std.specs.Prelude.{All, count_by, remove}
+use Rattle.drainage.proofs.Prelude.{All, HasSide, HeldLabelling, IsEntered, List, ap, arith, cond, count_by, has_block, length, remove, subst, sym, ◌<◌}
 use Rattle.std.proofs.lemmas.List.Sums.{sum_by-remove}
-use Rattle.drainage.specs.Holding.{IsEntered}
-use Rattle.drainage.specs.Room.{HasSide, has_block}
-use Rattle.drainage.specs.declared.labelling_cache.HeldLabelling.{HeldLabelling}
 use Rattle.drainage.proofs.Caches.Caching.{all_among, removed_among, entered_among}
 use Rattle.drainage.proofs.labelling_cache.LabellingCache.take.Goals as goal
 

@@ -1,5 +1,4 @@
-use Rattle.std.proofs.lemmas.List.Elements.{All-contains_itself}
-use Rattle.drainage.specs.Room.{HasSide}
+use Rattle.drainage.proofs.Prelude.{All-contains_itself, HasSide}
 use Rattle.drainage.proofs.Caches.Caching.{all_among}
 use Rattle.drainage.proofs.labelling_cache.LabellingCache.use_again.Goals as goal
 

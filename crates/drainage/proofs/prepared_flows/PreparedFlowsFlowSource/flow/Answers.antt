@@ -1,11 +1,4 @@
-use Rattle.std.proofs.Common.{sym, subst, ◌∙◌}
-use Rattle.std.proofs.lemmas.Result.{IfOk-weaker}
-use Rattle.lattice.specs.Ground.{terrain}
-use Rattle.lattice.specs.Mosaic.{Mosaic}
-use Rattle.flow_d8.specs.Drainage.{AreFilledLevels}
-use Rattle.flow_d8.specs.LevelsAround.{OnLevels}
-use Rattle.flow_d8.specs.declared.flow.Flow.{Flow}
-use Rattle.watershed.specs.FlowSource.{IsToldOf}
+use Rattle.drainage.proofs.Prelude.{AreFilledLevels, Flow, IfOk-weaker, IsToldOf, Mosaic, OnLevels, subst, sym, terrain, ◌∙◌}
 use Rattle.drainage.proofs.Questions.Told.{given_late}
 use Rattle.drainage.proofs.prepared_flows.PreparedFlowsFlowSource.flow.Goals as goal
 

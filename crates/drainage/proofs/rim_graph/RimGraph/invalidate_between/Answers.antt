@@ -1,7 +1,4 @@
-use Rattle.std.proofs.Common.{◌≡◌, ℕ, false, ◌+◌, ◌<◌, List, length, sym, ap, ap₂, ◌∙◌, subst, rules}
-use Rattle.std.proofs.lemmas.Bool.{both_ways}
-use Rattle.lattice.specs.Corners.{Corner}
-use Rattle.drainage.specs.Reaching.{is_reached}
+use Rattle.drainage.proofs.Prelude.{Corner, List, ℕ, ap, ap₂, both_ways, false, is_reached, length, rules, subst, sym, ◌+◌, ◌<◌, ◌∙◌, ◌≡◌}
 use Rattle.drainage.proofs.Changes.Invalidated.{AreGivenUp, one_spared, one_given_up, all_given_up}
 use Rattle.drainage.proofs.rim_graph.RimGraph.invalidate_between.Goals as goal
 use Rattle.drainage.proofs.rim_graph.RimGraph.invalidate_between.Goals.{then-is_reached, else-is_reached}

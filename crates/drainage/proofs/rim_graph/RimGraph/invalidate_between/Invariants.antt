@@ -1,5 +1,4 @@
-use Rattle.std.proofs.Common.{◌≡◌, ℕ, false}
-use Rattle.drainage.specs.Reaching.{is_reached}
+use Rattle.drainage.proofs.Prelude.{ℕ, false, is_reached, ◌≡◌}
 use Rattle.drainage.proofs.Changes.Invalidated.{AreGivenUp}
 use Rattle.drainage.proofs.rim_graph.RimGraph.invalidate_between.Given as goal
 

@@ -1,8 +1,7 @@
 use Rattle.std.proofs.Common.{◌≡◌, ◌∙◌, sym, ap, Some, None, arith}
-use Rattle.std.specs.Prelude.{sum_by}
+use Rattle.drainage.proofs.Prelude.{graph_size, sum_by}
 use Rattle.std.proofs.lemmas.List.Sums.{sum_by-set}
 use Rattle.border_graph.proofs.Forests.Sufficing.{summarizes_reordered}
-use Rattle.drainage.specs.Room.{graph_size}
 use Rattle.drainage.proofs.Caches.LoadingTiles.{some_there, none_there, still_told, only_told, told_more}
 use Rattle.drainage.proofs.rim_graph.RimGraph.learn.Goals as goal
 

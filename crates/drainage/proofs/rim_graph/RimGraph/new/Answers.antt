@@ -1,8 +1,6 @@
 use Rattle.std.proofs.Common.{◌≡◌, ◌+◌, ◌-◌, ◌*◌, ◌^◌, ◌<◌, [], ◌∷◌, length, List, sym, ◌∙◌, ap, subst, length-append, rules}
-use Rattle.std.specs.Prelude.{None, sum_by}
+use Rattle.drainage.proofs.Prelude.{Corner, None, graph_size, sum_by}
 use Rattle.std.proofs.lemmas.List.Sums.{sum_by_push}
-use Rattle.lattice.specs.Corners.{Corner}
-use Rattle.drainage.specs.Room.{graph_size}
 use Rattle.drainage.proofs.Caches.Caching.{none_held}
 use Rattle.drainage.proofs.Caches.FewTiles.{numbered}
 use Rattle.drainage.proofs.Caches.LoadingTiles.{none_told}

@@ -1,7 +1,4 @@
-use Rattle.std.proofs.Common.{◌≡◌, ℕ, length}
-use Rattle.std.specs.Prelude.{None, sum_by}
-use Rattle.drainage.specs.RimGraphs.{loaded_at}
-use Rattle.drainage.specs.Room.{graph_size}
+use Rattle.drainage.proofs.Prelude.{None, ℕ, graph_size, length, loaded_at, sum_by, ◌≡◌}
 use Rattle.drainage.proofs.rim_graph.RimGraph.new.Given as goal
 
 abbrev pub invariant-loop : goal.invariant-loop

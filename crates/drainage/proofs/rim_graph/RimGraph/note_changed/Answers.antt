@@ -1,7 +1,4 @@
-use Rattle.std.proofs.Common.{◌≡◌, ℕ, ◌+◌, ◌<◌, List, IsTrue, true≢false, length, sym, ap, ◌∙◌, subst, rules}
-use Rattle.std.specs.Prelude.{◌↔◌}
-use Rattle.lattice.specs.Corners.{Corner}
-use Rattle.drainage.specs.Invalidating.{KeepsSummary}
+use Rattle.drainage.proofs.Prelude.{Corner, IsTrue, KeepsSummary, List, ℕ, ap, length, rules, subst, sym, true≢false, ◌+◌, ◌<◌, ◌↔◌, ◌∙◌, ◌≡◌}
 use Rattle.drainage.proofs.Changes.Invalidated.{AreGivenUp, one_spared, one_given_up, all_given_up}
 use Rattle.drainage.proofs.rim_graph.RimGraph.note_changed.Goals as goal
 use Rattle.drainage.proofs.rim_graph.RimGraph.note_changed.Goals.{then-not-is_still, else-not-is_still}

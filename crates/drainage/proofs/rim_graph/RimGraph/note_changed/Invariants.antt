@@ -1,5 +1,4 @@
-use Rattle.std.proofs.Common.{◌≡◌}
-use Rattle.drainage.specs.Invalidating.{KeepsSummary}
+use Rattle.drainage.proofs.Prelude.{KeepsSummary, ◌≡◌}
 use Rattle.drainage.proofs.Changes.Invalidated.{AreGivenUp}
 use Rattle.drainage.proofs.rim_graph.RimGraph.note_changed.Given as goal
 

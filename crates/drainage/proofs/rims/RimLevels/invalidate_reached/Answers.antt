@@ -1,5 +1,4 @@
-use Rattle.std.proofs.Common.{◌≡◌, ◌+◌, ◌<◌, ◌≤◌, length, sym, ap, ◌∙◌, subst, rules}
-use Rattle.drainage.specs.Spared.{AreSparing}
+use Rattle.drainage.proofs.Prelude.{AreSparing, ap, length, rules, subst, sym, ◌+◌, ◌<◌, ◌∙◌, ◌≡◌, ◌≤◌}
 use Rattle.drainage.proofs.Changes.SparedLevels.{AreSpared, one_spared, one_given_up, all_seen}
 use Rattle.drainage.proofs.rims.RimLevels.invalidate_reached.Goals as goal
 use Rattle.drainage.proofs.rims.RimLevels.invalidate_reached.Goals.{then-may_change, else-may_change}

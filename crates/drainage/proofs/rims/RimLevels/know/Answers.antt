@@ -2,10 +2,7 @@ use Rattle.std.proofs.Common.{rules, SFits, w16, ◌≡◌, ◌==◌, ℕ, zero,
 use Rattle.std.specs.Prelude.{is_ok, not}
 use Rattle.std.proofs.Math.ListN.{replicate}
 use Rattle.std.proofs.lemmas.Bool.{cond-true}
-use Rattle.std.proofs.lemmas.Bool.Decides.{eqb_tells}
-use Rattle.std.proofs.lemmas.Int.{to_z-of_z}
-use Rattle.std.proofs.lemmas.List.{take_all}
-use Rattle.drainage.specs.Holding.{level_of}
+use Rattle.drainage.proofs.Prelude.{eqb_tells, level_of, take_all, to_z-of_z}
 use Rattle.drainage.specs.declared.rims.RimLevels.TheInside.{Inside}
 use Rattle.drainage.proofs.rims.RimLevels.know.Goals as goal
 use Rattle.drainage.proofs.rims.RimLevels.know.Goals.{else-place-len-via-then-place-len+else-is_err, else-place-len-via-else-place-len}

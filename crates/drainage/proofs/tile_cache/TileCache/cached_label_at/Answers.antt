@@ -1,6 +1,4 @@
-use Rattle.std.proofs.Common.{refl}
-use Rattle.drainage.specs.Holding.{IsGrown}
-use Rattle.drainage.specs.TileCaches.{known_of}
+use Rattle.drainage.proofs.Prelude.{IsGrown, known_of, refl}
 use Rattle.drainage.proofs.Caches.Growing.{known_by, grown_by, grown_fewer}
 use Rattle.drainage.proofs.Questions.Questioned.{passed_on, refused_by}
 use Rattle.drainage.proofs.Changes.Refreshed.{entered_there, is_there}

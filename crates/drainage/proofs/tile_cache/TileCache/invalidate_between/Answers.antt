@@ -1,10 +1,4 @@
-use Rattle.std.proofs.Common.{◌≡◌, false, List, subst}
-use Rattle.std.specs.Prelude.{◌↔◌}
-use Rattle.lattice.specs.Corners.{Corner}
-use Rattle.drainage.specs.Holding.{IsHeldAt}
-use Rattle.drainage.specs.Reaching.{is_reached}
-use Rattle.drainage.specs.Spared.{IsNoHigher}
-use Rattle.drainage.specs.TileCaches.{known_of}
+use Rattle.drainage.proofs.Prelude.{Corner, IsHeldAt, IsNoHigher, List, false, is_reached, known_of, subst, ◌↔◌, ◌≡◌}
 use Rattle.drainage.proofs.Caches.Growing.{known_by}
 use Rattle.drainage.proofs.Changes.Invalidated.{left_right}
 use Rattle.drainage.proofs.tile_cache.TileCache.invalidate_between.Goals as goal

@@ -1,15 +1,7 @@
-use Rattle.std.proofs.Common.{◌≡◌, Result, Ok, Err, List, refl, sym, subst}
+use Rattle.drainage.proofs.Prelude.{Err, Ghosts, HeldLabelling, IsEntered, IsGrown, Known, List, Mosaic, Ok, Refusal, Result, asked_on, known_of, reads_on, refl, subst, sym, ◌≡◌}
 use Rattle.std.specs.Prelude.{ℕ, ℤ, All, Contains, Option, IfOk, IfSome, OnOk}
-use Rattle.lattice.specs.Mosaic.{Mosaic}
-use Rattle.lattice.specs.declared.refusal.Refusal.{Refusal}
-use Rattle.catalogue.proofs.Asking.{asked_on}
-use Rattle.catalogue.proofs.Reading.{reads_on}
-use Rattle.catalogue.specs.declared.samples.Samples.{Ghosts}
 use Rattle.tile_labellings.specs.Spots.{IsLabelledAt}
-use Rattle.drainage.specs.Holding.{Known, IsEntered, IsGrown}
 use Rattle.drainage.specs.Kept.{grown_on, right_still}
-use Rattle.drainage.specs.TileCaches.{known_of}
-use Rattle.drainage.specs.declared.labelling_cache.HeldLabelling.{HeldLabelling}
 use Rattle.drainage.proofs.Caches.Caching.{entered_among}
 use Rattle.drainage.proofs.Caches.Growing.{grown_fewer}
 use Rattle.drainage.proofs.Questions.Questioned.{answered, answered_here, passed_on, refused_by}

@@ -1,7 +1,4 @@
-use Rattle.std.proofs.Common.{◌≡◌, List, subst}
-use Rattle.lattice.specs.Corners.{Corner}
-use Rattle.border_graph.specs.Others.{corner_at}
-use Rattle.tile_labellings.specs.TileLabellings.{IsTileLabelling}
+use Rattle.drainage.proofs.Prelude.{Corner, IsTileLabelling, List, corner_at, subst, ◌≡◌}
 use Rattle.drainage.proofs.tile_cache.TileCache.labelling.Goals as goal
 
 pub returns-clause-flooded : goal.returns-clause-flooded

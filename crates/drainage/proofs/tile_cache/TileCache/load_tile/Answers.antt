@@ -1,14 +1,4 @@
-use Rattle.std.proofs.Common.{ℕ, ◌≡◌, ◌<◌, ◌≤◌, ◌∙◌, Ok, Err, length, refl, sym, subst, arith, rules}
-use Rattle.lattice.specs.Corners.{Corner}
-use Rattle.lattice.specs.Mosaic.{Mosaic}
-use Rattle.catalogue.proofs.Asking.{asked_on}
-use Rattle.catalogue.proofs.Reading.{reads_on}
-use Rattle.border_graph.specs.Joining.{IsSummaryOf}
-use Rattle.tile_labellings.specs.TileLabellings.{IsTileLabelling}
-use Rattle.tile_labellings.specs.declared.tile_labelling.TileLabelling.{TileLabelling}
-use Rattle.drainage.specs.Holding.{IsEntered, IsRight, IsGrown}
-use Rattle.drainage.specs.declared.labelling_cache.LabellingCache.{LabellingCache}
-use Rattle.drainage.specs.TileCaches.{known_of}
+use Rattle.drainage.proofs.Prelude.{Corner, Err, IsEntered, IsGrown, IsRight, IsSummaryOf, IsTileLabelling, LabellingCache, Mosaic, Ok, TileLabelling, ℕ, arith, asked_on, known_of, length, reads_on, refl, rules, subst, sym, ◌<◌, ◌∙◌, ◌≡◌, ◌≤◌}
 use Rattle.drainage.proofs.Caches.Growing.{known_by, grown_by, grown_fewer}
 use Rattle.drainage.proofs.Questions.Questioned.{answered, answered_here, passed_on, refused_by, short_of_memory, stopped_here}
 use Rattle.drainage.proofs.Changes.Refreshed.{entered_there, is_there}

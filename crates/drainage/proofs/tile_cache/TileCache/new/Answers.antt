@@ -1,6 +1,5 @@
 use Rattle.std.proofs.Common.{◌≡◌, Some, None, sym, ◌∙◌}
-use Rattle.std.specs.Prelude.{Option}
-use Rattle.border_graph.specs.Others.{corner_at}
+use Rattle.drainage.proofs.Prelude.{Option, corner_at}
 use Rattle.drainage.proofs.tile_cache.TileCache.new.Goals as goal
 
 none_some : {A : Type 0} (a : A) → ◌≡◌ {A = Option A} None (Some a) → ⊥

@@ -1,15 +1,4 @@
-use Rattle.std.proofs.Common.{◌≡◌, ◌<◌, ℕ, true, false, List, length, inl, inr, refl, sym, ap, ◌∙◌, subst}
-use Rattle.std.specs.Prelude.{◌↔◌}
-use Rattle.lattice.specs.Corners.{Corner}
-use Rattle.lattice.specs.Ground.{is_height}
-use Rattle.lattice.specs.Lattice.{holds}
-use Rattle.border_graph.specs.Others.{corner_at}
-use Rattle.tile_labellings.specs.TileLabellings.{can_note, IsSetFrom}
-use Rattle.tile_labellings.specs.declared.tile_labelling.TileLabelling.{TileLabelling}
-use Rattle.drainage.specs.Holding.{IsEntered, IsHeldAt}
-use Rattle.drainage.specs.Invalidating.{IsHeldStill}
-use Rattle.drainage.specs.Reaching.{DifferAt}
-use Rattle.drainage.specs.TileCaches.{known_of}
+use Rattle.drainage.proofs.Prelude.{Corner, DifferAt, IsEntered, IsHeldAt, IsHeldStill, IsSetFrom, List, TileLabelling, ℕ, ap, can_note, corner_at, false, holds, inl, inr, is_height, known_of, length, refl, subst, sym, true, ◌<◌, ◌↔◌, ◌∙◌, ◌≡◌}
 use Rattle.drainage.proofs.Caches.Growing.{known_by}
 use Rattle.drainage.proofs.Changes.Invalidated.{noted_right}
 use Rattle.drainage.proofs.Changes.Reached.{unmoved}

@@ -1,8 +1,4 @@
-use Rattle.std.proofs.Common.{inl, inr, ◌*◌, ◌/◌, ◌-◌, ◌<◌, ◌≤◌, List, length, sym, subst, ◌∙◌, ap, arith}
-use Rattle.lattice.specs.Corners.{Corner}
-use Rattle.std.proofs.lemmas.Result.{err_from_is_err_and}
-use Rattle.drainage.specs.Holding.{IsRefused}
-use Rattle.drainage.specs.TileCaches.{known_of}
+use Rattle.drainage.proofs.Prelude.{Corner, IsRefused, List, ap, arith, err_from_is_err_and, inl, inr, known_of, length, subst, sym, ◌*◌, ◌-◌, ◌/◌, ◌<◌, ◌∙◌, ◌≤◌}
 use Rattle.drainage.proofs.Caches.Growing.{agrees_before}
 use Rattle.drainage.proofs.Questions.Questioned.{own_refused}
 use Rattle.drainage.proofs.RimPoints.Numbered.{of_fits, no_ways, told_ways, told_of}

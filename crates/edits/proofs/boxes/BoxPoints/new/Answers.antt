@@ -1,5 +1,4 @@
-use Rattle.std.proofs.Common.{◌≡◌, true, false, refl, rules, to_z, of_z}
-use Rattle.std.proofs.lemmas.Int.{to_z-of_z}
+use Rattle.edits.proofs.Prelude.{false, of_z, refl, rules, to_z, to_z-of_z, true, ◌≡◌}
 use mir.Syntax.{w32}
 use mir.Val.{SFits}
 use Rattle.edits.proofs.BoxVoids.Voids.{is_span, span_at, count_at, box_from, no_rows, no_columns}

@@ -1,6 +1,4 @@
-use Rattle.std.proofs.Common.{◌/◌, ◌<◌, ℕ, sym, subst, rules, arith}
-use Rattle.std.proofs.lemmas.Int.{ints, to_z-of_z}
-use Rattle.std.proofs.lemmas.Nat.{div_below}
+use Rattle.edits.proofs.Prelude.{ℕ, arith, div_below, ints, rules, subst, sym, to_z-of_z, ◌/◌, ◌<◌}
 use mir.Syntax.{w32}
 use mir.Val.{SFits}
 use Rattle.edits.proofs.boxes.BoxPoints.point.Goals as goal

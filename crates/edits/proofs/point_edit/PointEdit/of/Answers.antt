@@ -1,8 +1,5 @@
 use Rattle.std.proofs.Common.{◌≡◌, ℤ, pos, negsuc, ◌-ℤ◌, true, sym, subst, arith, w32, to_z, of_z}
-use Rattle.std.specs.Prelude.{int_lt}
-use Rattle.std.proofs.lemmas.Int.{ints}
-use Rattle.edits.specs.declared.point_edit.PointEdit.{PointEdit}
-use Rattle.edits.specs.PointEdits.{depth_of}
+use Rattle.edits.proofs.Prelude.{PointEdit, depth_of, int_lt, ints}
 use Rattle.edits.proofs.point_edit.PointEdit.of.Goals as goal
 
 pub returns-then-lowered-lt-LOWEST-clause-sample : goal.returns-then-lowered-lt-LOWEST-clause-sample

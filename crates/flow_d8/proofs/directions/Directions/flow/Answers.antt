@@ -1,8 +1,5 @@
-use Rattle.std.proofs.Common.{◌≡◌, ◌↔◌, IsFalse, sym, ap, ◌∙◌, subst}
-use Rattle.flow_d8.specs.Prelude.{is_ground, terrain, NoGround}
-use Rattle.flow_d8.specs.Drainage.{IsDirection}
+use Rattle.flow_d8.proofs.Prelude.{IsDirection, IsFalse, IsTellingAll, NoGround, ap, direction_of, is_ground, subst, sym, terrain, ◌↔◌, ◌∙◌, ◌≡◌}
 use Rattle.flow_d8.specs.Directions.{flow_at, flow_in}
-use Rattle.flow_d8.specs.Flows.{IsTellingAll, direction_of}
 use Rattle.flow_d8.proofs.Paths.Crossing.{told_in}
 use Rattle.flow_d8.proofs.Paths.Tracing.{none_is_off}
 use Rattle.flow_d8.proofs.directions.Directions.flow.Goals as goal

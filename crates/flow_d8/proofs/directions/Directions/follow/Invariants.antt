@@ -1,7 +1,4 @@
-use Rattle.std.proofs.Common.{◌≡◌, ℤ, ◌-◌, ◌<◌, ◌≤◌, IsTrue, length, slice_index_or}
-use Rattle.flow_d8.specs.Prelude.{Point, Mosaic, IsMosaic, is_ground, terrain}
-use Rattle.flow_d8.specs.Directions.{AreDirectionsOf, IsChain}
-use Rattle.flow_d8.specs.FlowSteps.{IsFollowed}
+use Rattle.flow_d8.proofs.Prelude.{AreDirectionsOf, IsChain, IsFollowed, IsMosaic, IsTrue, Mosaic, Point, ℤ, is_ground, length, slice_index_or, terrain, ◌-◌, ◌<◌, ◌≡◌, ◌≤◌}
 use Rattle.flow_d8.proofs.directions.Directions.follow.Given as goal
 
 abbrev pub invariant-steps : goal.invariant-steps

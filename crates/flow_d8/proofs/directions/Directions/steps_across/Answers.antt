@@ -1,7 +1,6 @@
-use Rattle.std.proofs.Common.{◌<◌, ◌≤◌, refl, sym, ◌∙◌, arith}
+use Rattle.flow_d8.proofs.Prelude.{arith, count_of, refl, sym, ◌<◌, ◌∙◌, ◌≤◌}
 use Rattle.flow_d8.specs.declared.flow.Flow.TheVariants.{Unknown, NoGround, Outlet, To, Beside, Flat}
 use Rattle.flow_d8.specs.Directions.{walk}
-use Rattle.flow_d8.specs.Tiles.{count_of}
 use Rattle.flow_d8.proofs.Paths.Crossing.{ends_here, ends_nowhere, walks_on, walked_all}
 use Rattle.flow_d8.proofs.directions.Directions.steps_across.Goals as goal
 

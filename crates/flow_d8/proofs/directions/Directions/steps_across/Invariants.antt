@@ -1,7 +1,6 @@
-use Rattle.std.proofs.Common.{◌≡◌, ◌-◌}
+use Rattle.flow_d8.proofs.Prelude.{count_of, ◌-◌, ◌≡◌}
 use Rattle.flow_d8.specs.Directions.{walk}
 use Rattle.flow_d8.proofs.Paths.Crossing.{and_more}
-use Rattle.flow_d8.specs.Tiles.{count_of}
 use Rattle.flow_d8.proofs.directions.Directions.steps_across.Given as goal
 
 abbrev pub invariant-loop-steps : goal.invariant-loop-steps

@@ -1,6 +1,5 @@
 use Rattle.std.proofs.Common.{Vec, Global, Result, Ok, Err, [], sym, ◌∙◌, true≢false, ◌≡◌, ℤ, IsFalse, IfOk}
-use Rattle.flow_d8.specs.Prelude.{is_ground, Mosaic, Point}
-use Rattle.flow_d8.specs.Directions.{AreDirectionsOf}
+use Rattle.flow_d8.proofs.Prelude.{AreDirectionsOf, Mosaic, Point, is_ground}
 use Rattle.flow_d8.proofs.Paths.Tracing.{ground_told, off_none}
 use Rattle.flow_d8.proofs.directions.Directions.trace.Goals as goal
 

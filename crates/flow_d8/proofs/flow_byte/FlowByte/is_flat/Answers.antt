@@ -1,5 +1,4 @@
-use Rattle.std.proofs.Common.{◌≡◌, ◌∙◌, sym, ap, arith}
-use Rattle.std.proofs.lemmas.Bool.Decides.{nat_tests}
+use Rattle.flow_d8.proofs.Prelude.{ap, arith, nat_tests, sym, ◌∙◌, ◌≡◌}
 use Rattle.flow_d8.specs.FlowBytes.{flow_at, byte_of, byte_of_flow_at}
 use Rattle.flow_d8.proofs.flow_byte.FlowByte.is_flat.Goals as goal
 

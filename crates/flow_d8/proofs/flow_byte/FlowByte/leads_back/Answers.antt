@@ -1,13 +1,8 @@
-use Rattle.std.proofs.Common.{◌≡◌, ℕ, ◌+◌, ◌%◌, ◌<◌, ◌≤◌, Some, refl, sym, ap, ◌∙◌, subst, arith}
+use Rattle.flow_d8.proofs.Prelude.{Beside, Dir, East, FlatTo, Flow, Some, To, ℕ, ap, arith, back_of, direction_of, nat_tests, none-some, order_of, refl, subst, sym, ◌%◌, ◌+◌, ◌<◌, ◌∙◌, ◌≡◌, ◌≤◌}
 use Rattle.std.specs.Prelude.{◌↔◌}
-use Rattle.std.proofs.lemmas.Bool.Decides.{nat_tests}
-use Rattle.std.proofs.lemmas.Option.{none-some}
 use denote.Enum.Declared.{tag_of}
 use Rattle.lattice.specs.contracts.direction.Dir.{the_type}
-use Rattle.flow_d8.specs.Prelude.{Dir, East, order_of, Flow, To, Beside, FlatTo}
 use Rattle.flow_d8.specs.FlowBytes.{flow_at, byte_of, byte_of_flow_at}
-use Rattle.flow_d8.specs.Flows.{direction_of}
-use Rattle.flow_d8.specs.Places.{back_of}
 use Rattle.flow_d8.proofs.Steps.Compass.{same_order}
 use Rattle.flow_d8.proofs.Steps.StepBack.{back_twice}
 use Rattle.flow_d8.proofs.flow_byte.FlowByte.leads_back.Goals as goal

@@ -1,11 +1,10 @@
-use Rattle.std.proofs.Common.{ℤ, List, subst}
+use Rattle.flow_d8.proofs.Prelude.{AreFlows, List, ℤ, subst}
 use Rattle.std.specs.Prelude.{IfSome}
 use Rattle.lattice.specs.Ground.{terrain}
 use Rattle.lattice.specs.Mosaic.{Mosaic}
 use Rattle.lattice.specs.declared.point.Point.{Point}
 use Rattle.flow_d8.specs.Donors.{AreToldBy, DrainsBack}
 use Rattle.flow_d8.specs.declared.flow.Flow.{Flow}
-use Rattle.flow_d8.specs.Flows.{AreFlows}
 use Rattle.flow_d8.specs.Tiles.{place_of}
 use Rattle.flow_d8.proofs.grid.FlowGrid.donors_around.Goals as goal
 

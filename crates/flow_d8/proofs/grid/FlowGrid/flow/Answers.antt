@@ -1,8 +1,5 @@
-use Rattle.std.proofs.Common.{◌≡◌, ◌<◌, List, get_or, sym, ap, ◌∙◌, subst, arith}
+use Rattle.flow_d8.proofs.Prelude.{Flow, IsFlow, List, Unknown, ap, arith, count_of, get_or, subst, sym, ◌<◌, ◌∙◌, ◌≡◌}
 use Rattle.flow_d8.specs.Filled.{number_of}
-use Rattle.flow_d8.specs.Prelude.{Flow, Unknown}
-use Rattle.flow_d8.specs.Flows.{IsFlow}
-use Rattle.flow_d8.specs.Tiles.{count_of}
 use Rattle.flow_d8.proofs.Samples.AtHand.{known_so}
 use Rattle.flow_d8.proofs.grid.FlowGrid.flow.Goals as goal
 

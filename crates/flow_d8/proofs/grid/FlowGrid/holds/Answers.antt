@@ -1,7 +1,5 @@
-use Rattle.std.proofs.Common.{◌≡◌, ◌<◌, arith}
-use Rattle.std.proofs.lemmas.Bool.Decides.{nat_tests}
+use Rattle.flow_d8.proofs.Prelude.{arith, count_of, nat_tests, ◌<◌, ◌≡◌}
 use Rattle.flow_d8.specs.Filled.{number_of}
-use Rattle.flow_d8.specs.Tiles.{count_of}
 use Rattle.flow_d8.proofs.Samples.AtHand.{at_hand_below, below_at_hand}
 use Rattle.flow_d8.proofs.grid.FlowGrid.holds.Goals as goal
 

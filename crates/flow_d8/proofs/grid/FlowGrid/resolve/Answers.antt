@@ -1,10 +1,4 @@
-use Rattle.std.proofs.Common.{◌≡◌, ℕ, get_or, List, ◌++◌, length, take, drop, sym, ◌∙◌, subst, IsTrue, IfOk, IfSome, IfNone}
-use Rattle.std.proofs.lemmas.List.{with_items_is}
-use Rattle.flow_d8.specs.Drainage.{CrossesFlat}
-use Rattle.flow_d8.specs.Prelude.{Flow, Unknown}
-use Rattle.flow_d8.specs.Flows.{AreFlows, Drains}
-use Rattle.flow_d8.specs.FlowGrids.{IsAtHand, flow_of}
-use Rattle.flow_d8.specs.Rounds.{Tells}
+use Rattle.flow_d8.proofs.Prelude.{AreFlows, CrossesFlat, Drains, Flow, IfNone, IfOk, IfSome, IsAtHand, IsTrue, List, Tells, Unknown, ℕ, drop, flow_of, get_or, length, subst, sym, take, with_items_is, ◌++◌, ◌∙◌, ◌≡◌}
 use Rattle.flow_d8.specs.Tiles.{OnGround, IsSampleOf, place_of}
 use Rattle.flow_d8.proofs.grid.FlowGrid.resolve.Goals as goal
 

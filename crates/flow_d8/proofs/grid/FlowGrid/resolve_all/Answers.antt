@@ -1,9 +1,5 @@
-use Rattle.std.proofs.Common.{◌≡◌, get_or, inl, inr, sym, ◌∙◌, subst, arith}
-use Rattle.std.proofs.lemmas.Bool.{cases_lt}
+use Rattle.flow_d8.proofs.Prelude.{AreCrossed, IsTellingAll, Tiles, arith, cases_lt, get_or, inl, inr, subst, sym, ◌∙◌, ◌≡◌}
 use Rattle.flow_d8.specs.declared.flow.Flow.TheVariants.{Unknown}
-use Rattle.flow_d8.specs.Flows.{IsTellingAll}
-use Rattle.flow_d8.specs.FlowGrids.{AreCrossed}
-use Rattle.flow_d8.specs.Tiles.{Tiles}
 use Rattle.flow_d8.proofs.Sayings.Told.{telling_still}
 use Rattle.flow_d8.proofs.grid.FlowGrid.resolve_all.Goals as goal
 

@@ -1,6 +1,5 @@
-use Rattle.std.proofs.Common.{◌≡◌, ◌<◌, ℕ, get_or, length}
+use Rattle.flow_d8.proofs.Prelude.{AreFlows, IsTellingAll, ℕ, get_or, length, ◌<◌, ◌≡◌}
 use Rattle.flow_d8.specs.declared.flow.Flow.TheVariants.{Unknown}
-use Rattle.flow_d8.specs.Flows.{IsTellingAll, AreFlows}
 use Rattle.flow_d8.specs.Tiles.{OnGround, place_of}
 use Rattle.flow_d8.proofs.grid.FlowGrid.resolve_all.Given as goal
 

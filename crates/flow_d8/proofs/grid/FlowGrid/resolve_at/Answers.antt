@@ -1,6 +1,4 @@
-use Rattle.std.proofs.Common.{subst, IsTrue, IfSome}
-use Rattle.flow_d8.specs.FlowGrids.{IsAtHand}
-use Rattle.flow_d8.specs.Tiles.{OnGround}
+use Rattle.flow_d8.proofs.Prelude.{IfSome, IsAtHand, IsTrue, OnGround, subst}
 use Rattle.flow_d8.proofs.grid.FlowGrid.resolve_at.Goals as goal
 
 pub returns-in-Some-clause-failed : goal.returns-in-Some-clause-failed

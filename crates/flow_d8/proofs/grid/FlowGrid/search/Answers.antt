@@ -1,6 +1,4 @@
-use Rattle.std.proofs.Common.{IsTrue, IfOk, IfSome, subst}
-use Rattle.flow_d8.specs.FlowGrids.{IsAtHand}
-use Rattle.flow_d8.specs.Tiles.{OnGround}
+use Rattle.flow_d8.proofs.Prelude.{IfOk, IfSome, IsAtHand, IsTrue, OnGround, subst}
 use Rattle.flow_d8.proofs.grid.FlowGrid.search.Goals as goal
 
 pub returns : goal.returns

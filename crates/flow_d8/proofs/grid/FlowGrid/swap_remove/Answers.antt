@@ -1,6 +1,4 @@
-use Rattle.std.proofs.Common.{◌≡◌, ℕ, ◌-◌, ◌*◌, List, length, ap, ◌∙◌, subst, arith}
-use Rattle.flow_d8.specs.Prelude.{Flow}
-use Rattle.flow_d8.specs.FlowGrids.{IsCut}
+use Rattle.flow_d8.proofs.Prelude.{Flow, IsCut, List, ℕ, ap, arith, length, subst, ◌*◌, ◌-◌, ◌∙◌, ◌≡◌}
 use Rattle.flow_d8.proofs.Samples.Slots.{whole_swap, known_swap, flows_swap}
 use Rattle.flow_d8.proofs.grid.FlowGrid.swap_remove.Goals as goal
 

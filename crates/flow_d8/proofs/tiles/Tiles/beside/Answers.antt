@@ -1,5 +1,4 @@
-use Rattle.std.proofs.Common.{IsTrue, sym, ap, ◌∙◌, subst}
-use Rattle.flow_d8.specs.Prelude.{step, fits_point}
+use Rattle.flow_d8.proofs.Prelude.{IsTrue, ap, fits_point, step, subst, sym, ◌∙◌}
 use Rattle.flow_d8.specs.Filled.{number_of}
 use Rattle.flow_d8.specs.Tiles.{place_of, by_of}
 use Rattle.flow_d8.proofs.Samples.TilePlaces.{unfit_past}

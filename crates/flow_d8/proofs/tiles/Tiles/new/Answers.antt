@@ -1,7 +1,4 @@
-use Rattle.std.proofs.Common.{ℕ, ◌<◌, IsTrue, List, length, get_or, subst, arith}
-use Rattle.std.specs.List.{AllAdjacentBelow}
-use Rattle.flow_d8.specs.Prelude.{Corner, is_corner, IsBefore}
-use Rattle.flow_d8.specs.Tiles.{no_corner}
+use Rattle.flow_d8.proofs.Prelude.{AllAdjacentBelow, Corner, IsBefore, IsTrue, List, ℕ, arith, get_or, is_corner, length, no_corner, subst, ◌<◌}
 use Rattle.flow_d8.proofs.Samples.Slots.{distinct_from_rising}
 use Rattle.flow_d8.proofs.tiles.Tiles.new.Goals as goal
 

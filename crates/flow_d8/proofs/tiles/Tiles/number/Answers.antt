@@ -1,6 +1,5 @@
-use Rattle.std.proofs.Common.{◌≡◌, ◌<◌, sym, ap₂, ◌∙◌, subst}
+use Rattle.flow_d8.proofs.Prelude.{IsFirst, ap₂, count_of, subst, sym, ◌<◌, ◌∙◌, ◌≡◌}
 use Rattle.flow_d8.specs.Filled.{number_of}
-use Rattle.flow_d8.specs.Tiles.{count_of, IsFirst}
 use Rattle.flow_d8.proofs.Samples.TilePlaces.{first_number}
 use Rattle.flow_d8.proofs.tiles.Tiles.number.Goals as goal
 

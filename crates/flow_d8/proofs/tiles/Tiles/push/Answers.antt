@@ -1,6 +1,5 @@
-use Rattle.std.proofs.Common.{◌≡◌, ℕ, ◌<◌, length, get_or, sym, subst}
+use Rattle.flow_d8.proofs.Prelude.{Tiles, ℕ, get_or, length, no_corner, subst, sym, ◌<◌, ◌≡◌}
 use Rattle.lattice.specs.Limits.{most_tiles}
-use Rattle.flow_d8.specs.Tiles.{Tiles, no_corner}
 use Rattle.flow_d8.proofs.Samples.Slots.{tiles_push}
 use Rattle.flow_d8.proofs.tiles.Tiles.push.Goals as goal
 

@@ -1,6 +1,4 @@
-use Rattle.std.proofs.Common.{◌≡◌, ℕ, ◌*◌, ◌+◌, IsTrue, subst, MatchOption, slice_index_or}
-use Rattle.flow_d8.specs.Prelude.{is_corner, Holds, IsIndexOf}
-use Rattle.flow_d8.specs.Tiles.{no_corner}
+use Rattle.flow_d8.proofs.Prelude.{Holds, IsIndexOf, IsTrue, MatchOption, ℕ, is_corner, no_corner, slice_index_or, subst, ◌*◌, ◌+◌, ◌≡◌}
 use Rattle.flow_d8.proofs.Samples.TwinFlows.{sample_told}
 use Rattle.flow_d8.proofs.tiles.Tiles.sample_in.Goals as goal
 

@@ -1,6 +1,4 @@
-use Rattle.std.proofs.Common.{rules, arith, ◌<◌, ◌^◌}
-use Rattle.std.specs.Int.{w16}
-use Rattle.std.specs.Int.RustNames.{FitsSigned}
+use Rattle.page_codec.proofs.Prelude.{FitsSigned, arith, rules, w16, ◌<◌, ◌^◌}
 use Rattle.page_codec.proofs.EntryFields.{none_spelled}
 use Rattle.page_codec.proofs.entry.Entry.parse.Goals as goal
 

@@ -1,7 +1,4 @@
-use Rattle.std.proofs.Common.{rules, arith}
-use Rattle.std.specs.Int.{w16}
-use Rattle.std.specs.Int.RustNames.{FitsSigned}
-use Rattle.std.proofs.lemmas.Int.{to_z-of_z}
+use Rattle.page_codec.proofs.Prelude.{FitsSigned, arith, rules, to_z-of_z, w16}
 use Rattle.page_codec.proofs.EntryFields.{fields_from_parts}
 use Rattle.page_codec.proofs.entry.Fields.read.Goals as goal
 

@@ -1,5 +1,4 @@
-use Rattle.std.proofs.Common.{◌≤◌, ◌<◌, ◌^◌, ◌∙◌, ◌+◌, length, ap, arith}
-use Rattle.page_codec.specs.Roots.{RootValue}
+use Rattle.page_codec.proofs.Prelude.{RootValue, ap, arith, length, ◌+◌, ◌<◌, ◌^◌, ◌∙◌, ◌≤◌}
 use Rattle.page_codec.proofs.Bodies.{next_rules}
 use Rattle.page_codec.proofs.root.Root.next.Goals as goal
 

@@ -1,10 +1,4 @@
-use Rattle.std.proofs.Common.{◌≡◌, ◌∙◌, ℕ, true, sym, ap, subst, arith}
-use Rattle.lattice.specs.Limits.{IsSide}
-use Rattle.lattice.specs.Mosaic.{AreSinks}
-use Rattle.page_codec.specs.declared.version.Version.{Version}
-use Rattle.page_codec.specs.Numbers.{is_all_zero}
-use Rattle.page_codec.specs.Formats.{Format}
-use Rattle.page_codec.specs.Roots.{RootValue, AreNumbers}
+use Rattle.page_codec.proofs.Prelude.{AreNumbers, AreSinks, Format, IsSide, RootValue, Version, ℕ, ap, arith, is_all_zero, subst, sym, true, ◌∙◌, ◌≡◌}
 use Rattle.page_codec.proofs.Bodies.{HasRoom, Splits, side_known, parts_at, body_is, numbers_from, format_in, body_from_parts}
 use Rattle.page_codec.proofs.root.Root.parse.Goals as goal
 

@@ -1,7 +1,4 @@
-use Rattle.std.proofs.Common.{◌∙◌, List, sym, subst}
-use Rattle.lattice.specs.declared.point.Point.{Point}
-use Rattle.lattice.specs.Mosaic.{AreSinks}
-use Rattle.page_codec.specs.Roots.{RootValue}
+use Rattle.page_codec.proofs.Prelude.{AreSinks, List, Point, RootValue, subst, sym, ◌∙◌}
 use Rattle.page_codec.proofs.Bodies.{other_sinks}
 use Rattle.page_codec.proofs.root.Root.with_sinks.Goals as goal
 

@@ -1,11 +1,6 @@
-use Rattle.std.proofs.Common.{◌++◌, List, ℕ, ap, ◌∙◌}
-use Rattle.std.specs.List.{flat_map}
-use Rattle.page_codec.specs.Numbers.{padded}
-use Rattle.page_codec.specs.Entries.{EntryValue, entry_bytes}
+use Rattle.page_codec.proofs.Prelude.{EntryValue, List, Point, RootValue, ℕ, ap, entry_bytes, flat_map, padded, ◌++◌, ◌∙◌}
 use Rattle.page_codec.specs.Sinks.{sink_bytes}
-use Rattle.page_codec.specs.Roots.{RootValue}
 use Rattle.page_codec.proofs.RootBytes.{root_from_puts}
-use Rattle.lattice.specs.declared.point.Point.{Point}
 use Rattle.page_codec.proofs.root.Root.write.Goals as goal
 
 pub returns : goal.returns

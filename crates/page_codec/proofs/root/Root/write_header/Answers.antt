@@ -1,6 +1,5 @@
-use Rattle.std.proofs.Common.{◌++◌, ℕ, ap, ◌∙◌}
+use Rattle.page_codec.proofs.Prelude.{ℕ, ap, number_of, ◌++◌, ◌∙◌}
 use Rattle.page_codec.specs.Numbers.{u32_bytes, zeros}
-use Rattle.page_codec.specs.Formats.{number_of}
 use Rattle.page_codec.specs.Roots.{magic}
 use Rattle.page_codec.proofs.RootBytes.{header_from_puts}
 use Rattle.page_codec.proofs.root.Root.write_header.Goals as goal

@@ -1,5 +1,4 @@
-use Rattle.std.proofs.Common.{◌+◌, ◌≤◌, ◌++◌, List, ℕ, length, refl, ap, ◌∙◌, arith}
-use Rattle.std.proofs.lemmas.List.{length-take}
+use Rattle.page_codec.proofs.Prelude.{List, ℕ, ap, arith, length, length-take, refl, ◌++◌, ◌+◌, ◌∙◌, ◌≤◌}
 use Rattle.page_codec.proofs.Padding.{put_front, put_padded}
 use Rattle.page_codec.proofs.writer.Writer.put.Goals as goal
 

@@ -1,5 +1,4 @@
-use Rattle.std.proofs.Common.{◌∷◌, [], ◌<◌, sym, subst}
-use Rattle.page_map.specs.FreePages.{FreePages, AreInUse}
+use Rattle.page_map.proofs.Prelude.{AreInUse, FreePages, [], subst, sym, ◌<◌, ◌∷◌}
 use Rattle.page_map.proofs.FreeTimes.{near_back, near_in_use, one_in_use}
 use Rattle.page_map.proofs.free_pages.FreePages.give.Goals as goal
 

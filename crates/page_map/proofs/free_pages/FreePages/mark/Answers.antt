@@ -1,5 +1,4 @@
-use Rattle.std.proofs.Common.{inr, refl, sym, ◌∙◌}
-use Rattle.std.proofs.lemmas.Bool.{false≢true}
+use Rattle.page_map.proofs.Prelude.{false≢true, inr, refl, sym, ◌∙◌}
 use Rattle.page_map.proofs.FreeTimes.{near_marked, not_near}
 use Rattle.page_map.proofs.free_pages.FreePages.mark.Goals as goal
 use Rattle.page_map.proofs.free_pages.FreePages.mark.Goals.{then-mark, else-mark}

@@ -1,8 +1,4 @@
-use Rattle.std.proofs.Common.{◌≡◌, ◌<◌, ap, sym, subst, arith}
-use Rattle.std.specs.FinSet.{len}
-use Rattle.page_alloc.specs.Pages.{PageSet, IsFree, IsPage, without_page}
-use Rattle.page_alloc.proofs.PageLemmas.{len-without}
-use Rattle.page_map.specs.FreePages.{FreePages}
+use Rattle.page_map.proofs.Prelude.{FreePages, IsFree, IsPage, PageSet, ap, arith, len, len-without, subst, sym, without_page, ◌<◌, ◌≡◌}
 use Rattle.page_map.proofs.FreeTimes.{near_marked}
 use Rattle.page_map.proofs.free_pages.FreePages.take.Goals as goal
 

@@ -1,6 +1,5 @@
-use Rattle.std.proofs.Common.{◌≤◌, length, ap, arith}
+use Rattle.page_map.proofs.Prelude.{PlaneLocation, ap, arith, length, pages_behind, ◌≤◌}
 use Rattle.std.proofs.lemmas.List.{length-take, take-append-drop}
-use Rattle.page_map.specs.Locations.{PlaneLocation, pages_behind}
 use Rattle.page_map.proofs.locations.PagedPlane.index_count.Goals as goal
 
 pub returns-clause-value : goal.returns-clause-value

@@ -1,6 +1,5 @@
-use Rattle.std.proofs.Common.{◌-◌, length, drop, ap, ◌∙◌, arith}
+use Rattle.page_map.proofs.Prelude.{PlaneLocation, ap, arith, drop, length, ◌-◌, ◌∙◌}
 use Rattle.std.proofs.lemmas.List.{length-drop, take_all}
-use Rattle.page_map.specs.Locations.{PlaneLocation}
 use Rattle.page_map.proofs.locations.PagedPlane.pages.Goals as goal
 
 pub returns : goal.returns

@@ -1,10 +1,4 @@
-use Rattle.std.proofs.Common.{◌≡◌, ◌≤◌, List, ◌∷◌, ◌++◌, length, sym, ap, ap₂, subst, ◌∙◌, arith, rules}
-use Rattle.std.specs.Prelude.{is_some}
-use Rattle.std.proofs.lemmas.List.{append-nil, length-map}
-use Rattle.lattice.specs.Corners.{Corner}
-use Rattle.page_map.specs.PageMaps.{PageMapValue, corners_of_locations}
-use Rattle.page_map.specs.TileLocations.{TileLocation}
-use Rattle.page_map.specs.TileEntries.{staged_tile, staged_tiles, Entry}
+use Rattle.page_map.proofs.Prelude.{Corner, Entry, List, PageMapValue, TileLocation, ap, append-nil, ap₂, arith, corners_of_locations, is_some, length, length-map, rules, staged_tile, staged_tiles, subst, sym, ◌++◌, ◌∙◌, ◌∷◌, ◌≡◌, ◌≤◌}
 use Rattle.page_map.proofs.Listing.{located_more, located_room, located_same, some_alike}
 use Rattle.page_map.proofs.page_map.PageMap.corners.Goals as goal
 use Rattle.page_map.proofs.page_map.PageMap.corners.Goals.{After-is_some, In-None}

@@ -1,6 +1,4 @@
-use Rattle.std.proofs.Common.{◌≡◌, ◌++◌}
-use Rattle.page_map.specs.PageMaps.{corners_of_locations}
-use Rattle.page_map.specs.TileEntries.{staged_tiles}
+use Rattle.page_map.proofs.Prelude.{corners_of_locations, staged_tiles, ◌++◌, ◌≡◌}
 use Rattle.page_map.proofs.page_map.PageMap.corners.Given as goal
 
 -- the corners so far, and those of the entries that are left, are all

@@ -1,9 +1,4 @@
-use Rattle.std.proofs.Common.{sym, subst, ap, ◌∙◌}
-use Rattle.std.specs.Option.{option_copied_mut}
-use Rattle.std.specs.Prelude.{None}
-use Rattle.page_map.specs.PageMaps.{PageMapValue, IsLocated, other_kept}
-use Rattle.page_map.specs.TileEntries.{IsKept, with_planes}
-use Rattle.page_map.specs.declared.tile_entry.TileEntry.{TileEntry}
+use Rattle.page_map.proofs.Prelude.{IsKept, IsLocated, None, PageMapValue, TileEntry, ap, option_copied_mut, other_kept, subst, sym, with_planes, ◌∙◌}
 use Rattle.page_map.proofs.PageMapRules.{mapped}
 use Rattle.page_map.proofs.Lookup.{some_entry}
 use Rattle.page_map.proofs.AtEntry.{in_use}

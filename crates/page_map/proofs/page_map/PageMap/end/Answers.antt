@@ -1,6 +1,4 @@
-use Rattle.std.proofs.Common.{◌≡◌, List, ap, ◌∙◌, map, rules}
-use Rattle.std.specs.Prelude.{filter}
-use Rattle.page_map.specs.TileEntries.{IsKept, ended_entry, ended_page_map, page_map_of, Entry}
+use Rattle.page_map.proofs.Prelude.{Entry, IsKept, List, ap, ended_entry, ended_page_map, filter, map, page_map_of, rules, ◌∙◌, ◌≡◌}
 use Rattle.page_map.proofs.PageMapRules.{mapped}
 use Rattle.page_map.proofs.Ending.{ended_left, is_left, kept_left, page_map_left}
 use Rattle.page_map.proofs.page_map.PageMap.end.Goals as goal

@@ -1,9 +1,4 @@
-use Rattle.std.proofs.Common.{◌≡◌, [], sym, ap, subst, ◌∙◌}
-use Rattle.std.specs.Option.{option_copied_mut}
-use Rattle.std.specs.Prelude.{OnErr, OnOk}
-use Rattle.std.specs.List.{flat_map}
-use Rattle.page_map.specs.PageMaps.{PageMapValue, AreKept, IsClean, IsLocated}
-use Rattle.page_map.specs.TileEntries.{IsKept, fresh_by, page_map_of}
+use Rattle.page_map.proofs.Prelude.{AreKept, IsClean, IsKept, IsLocated, OnErr, OnOk, PageMapValue, [], ap, flat_map, fresh_by, option_copied_mut, page_map_of, subst, sym, ◌∙◌, ◌≡◌}
 use Rattle.page_map.proofs.Room.{room_to_keep}
 use Rattle.page_map.proofs.Clean.{none_fresh}
 use Rattle.page_map.proofs.PageMapRules.{mapped}

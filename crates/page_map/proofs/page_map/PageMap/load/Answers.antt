@@ -1,12 +1,5 @@
-use Rattle.std.proofs.Common.{◌≡◌, ⊎_elim, inl, ◌<◌, [], ◌∷◌, ◌++◌, length, ap, sym, subst, ◌∙◌, inr}
-use Rattle.std.specs.Option.{option_copied_mut}
-use Rattle.std.specs.Prelude.{All}
+use Rattle.page_map.proofs.Prelude.{All, IsBefore, IsKept, IsWholeTile, KeepsPageRule, PageMapValue, TileEntry, [], ap, committed_tiles, inl, inr, length, option_copied_mut, page_map_of, staged_tiles, subst, sym, tile_at, with_planes, ⊎_elim, ◌++◌, ◌<◌, ◌∙◌, ◌∷◌, ◌≡◌}
 use Rattle.page_map.proofs.Refused.{ended_with}
-use Rattle.lattice.specs.Lattice.{IsBefore}
-use Rattle.page_map.specs.declared.tile_entry.TileEntry.{TileEntry}
-use Rattle.page_map.specs.TileLocations.{KeepsPageRule}
-use Rattle.page_map.specs.PageMaps.{PageMapValue, IsWholeTile, tile_at}
-use Rattle.page_map.specs.TileEntries.{committed_tiles, page_map_of, staged_tiles, with_planes, IsKept}
 use Rattle.page_map.proofs.PageMapRules.{mapped}
 use Rattle.page_map.proofs.Loading.{kept_loaded, page_map_loaded, rule_broken}
 use Rattle.page_map.proofs.page_map.PageMap.load.Goals as goal

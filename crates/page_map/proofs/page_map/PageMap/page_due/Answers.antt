@@ -1,9 +1,5 @@
-use Rattle.std.proofs.Common.{◌≡◌, sym, subst}
+use Rattle.page_map.proofs.Prelude.{HasPlaneAt, PageMapValue, is_unreached, listing_of, page_if, staged_tiles, subst, sym, ◌≡◌}
 use Rattle.std.specs.Prelude.{Contains, slice_index}
-use Rattle.page_map.specs.PageMaps.{PageMapValue, is_unreached, page_if}
-use Rattle.page_map.specs.Locations.{listing_of}
-use Rattle.page_map.specs.Planes.{HasPlaneAt}
-use Rattle.page_map.specs.TileEntries.{staged_tiles}
 use Rattle.page_map.proofs.Lookup.{located-from_tile, no_entry}
 use Rattle.page_map.proofs.DueListings.{page_due}
 use Rattle.page_map.proofs.page_map.PageMap.page_due.Goals as goal

@@ -1,8 +1,4 @@
-use Rattle.std.proofs.Common.{◌≡◌, sym, ap, subst, ◌∙◌}
-use Rattle.std.specs.Option.{option_copied_mut}
-use Rattle.std.specs.Prelude.{IfOk, OnErr}
-use Rattle.page_map.specs.PageMaps.{PageMapValue, IsLocated, HasFreshHeights, IsRewritten}
-use Rattle.page_map.specs.TileEntries.{IsKept, page_map_of}
+use Rattle.page_map.proofs.Prelude.{HasFreshHeights, IfOk, IsKept, IsLocated, IsRewritten, OnErr, PageMapValue, ap, option_copied_mut, page_map_of, subst, sym, ◌∙◌, ◌≡◌}
 use Rattle.page_map.proofs.PageMapRules.{mapped}
 use Rattle.page_map.proofs.Lookup.{some_entry}
 use Rattle.page_map.proofs.AtEntry.{heights_present, room, index_within, apart, staged_before, kept_rewritten, is_rewritten, same_heights}

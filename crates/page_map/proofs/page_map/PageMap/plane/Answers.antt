@@ -1,7 +1,4 @@
-use Rattle.std.proofs.Common.{sym, subst}
-use Rattle.std.specs.Prelude.{IfNone, IfSome}
-use Rattle.page_map.specs.PageMaps.{PageMapValue}
-use Rattle.page_map.specs.Planes.{HasPlane, HasPlaneAt}
+use Rattle.page_map.proofs.Prelude.{HasPlane, HasPlaneAt, IfNone, IfSome, PageMapValue, subst, sym}
 use Rattle.page_map.proofs.AtEntry.{plane_found, plane_none}
 use Rattle.page_map.proofs.Lookup.{located-from_tile, no_entry}
 use Rattle.page_map.proofs.page_map.PageMap.plane.Goals as goal

@@ -1,8 +1,4 @@
-use Rattle.std.proofs.Common.{sym, subst, ap, ◌∙◌}
-use Rattle.std.specs.Option.{option_copied_mut}
-use Rattle.page_map.specs.PageMaps.{PageMapValue, IsLocated, without_location}
-use Rattle.page_map.specs.TileEntries.{IsKept, with_planes}
-use Rattle.page_map.specs.declared.tile_entry.TileEntry.{TileEntry}
+use Rattle.page_map.proofs.Prelude.{IsKept, IsLocated, PageMapValue, TileEntry, ap, option_copied_mut, subst, sym, with_planes, without_location, ◌∙◌}
 use Rattle.page_map.proofs.PageMapRules.{mapped}
 use Rattle.page_map.proofs.Lookup.{some_entry}
 use Rattle.page_map.proofs.AtEntry.{in_use}

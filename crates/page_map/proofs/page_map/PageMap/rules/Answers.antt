@@ -1,5 +1,4 @@
-use Rattle.std.proofs.Common.{subst}
-use Rattle.page_map.specs.PageMaps.{PageMapValue, IsPageMap}
+use Rattle.page_map.proofs.Prelude.{IsPageMap, PageMapValue, subst}
 use Rattle.page_map.proofs.PageMapRules.{mapped}
 use Rattle.page_map.proofs.page_map.PageMap.rules.Goals as goal
 

@@ -1,8 +1,4 @@
-use Rattle.std.proofs.Common.{◌≡◌, ◌<◌, length, sym, ap, subst, ◌∙◌, arith}
-use Rattle.std.specs.Option.{option_copied_mut}
-use Rattle.page_map.specs.FreePages.{FreePages}
-use Rattle.page_map.specs.PageMaps.{PageMapValue, IsLocated, IsAdded}
-use Rattle.page_map.specs.TileEntries.{IsKept, page_map_of, staged_tiles}
+use Rattle.page_map.proofs.Prelude.{FreePages, IsAdded, IsKept, IsLocated, PageMapValue, ap, arith, length, option_copied_mut, page_map_of, staged_tiles, subst, sym, ◌<◌, ◌∙◌, ◌≡◌}
 use Rattle.page_map.proofs.Room.{room_for_tile}
 use Rattle.page_map.proofs.PageMapRules.{mapped}
 use Rattle.page_map.proofs.EntryInserts.{with_fresh}

@@ -1,15 +1,5 @@
-use Rattle.std.proofs.Common.{◌≡◌, ⊎_elim, ℕ, ◌+◌, ◌*◌, ◌≤◌, List, [], ◌∷◌, ◌++◌, Err, length, map, sym, ap, subst, ◌∙◌, arith}
-use Rattle.std.specs.FinSet.{len}
-use Rattle.std.specs.List.{AllByRecursion}
-use Rattle.std.proofs.lemmas.List.{append-nil}
+use Rattle.page_map.proofs.Prelude.{AllByRecursion, AreTaken, Entry, Err, Format, IsSound, IsWholeTile, KeepsPageRule, List, One, PageMapValue, ℕ, [], ap, append-nil, arith, committed_tiles, index_pages_of, len, length, map, sectors_asked, staged_tiles, subst, sym, tile_at, upgraded, ⊎_elim, ◌*◌, ◌++◌, ◌+◌, ◌∙◌, ◌∷◌, ◌≡◌, ◌≤◌}
 use Rattle.page_map.proofs.Refused.{ended_with}
-use Rattle.page_codec.specs.Formats.{Format, upgraded}
-use Rattle.page_codec.specs.Sizes.{index_pages_of, sectors_asked}
-use Rattle.page_codec.specs.declared.version.Version.TheVariants.{One}
-use Rattle.page_map.specs.PageMaps.{PageMapValue, IsWholeTile, tile_at}
-use Rattle.page_map.specs.FreePages.{AreTaken}
-use Rattle.page_map.specs.TileEntries.{committed_tiles, staged_tiles, Entry, IsSound}
-use Rattle.page_map.specs.TileLocations.{KeepsPageRule}
 use Rattle.page_map.specs.Upgraded.{IsUpgraded, data_of, listings}
 use Rattle.page_map.proofs.Clean.{none_fresh}
 use Rattle.page_map.proofs.Room.{room_to_upgrade}

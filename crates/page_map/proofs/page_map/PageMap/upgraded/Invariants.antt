@@ -1,11 +1,5 @@
-use Rattle.std.proofs.Common.{◌≡◌, ◌+◌, ◌*◌, ◌≤◌, ◌++◌, length, map}
+use Rattle.page_map.proofs.Prelude.{AllByRecursion, AreTaken, IsClean, IsPageMap, IsSound, committed_tiles, data_of, index_pages_of, length, listings, map, ◌*◌, ◌++◌, ◌+◌, ◌≡◌, ◌≤◌}
 use Rattle.std.specs.FinSet as set
-use Rattle.std.specs.List.{AllByRecursion}
-use Rattle.page_codec.specs.Sizes.{index_pages_of}
-use Rattle.page_map.specs.PageMaps.{IsPageMap, IsClean}
-use Rattle.page_map.specs.FreePages.{AreTaken}
-use Rattle.page_map.specs.TileEntries.{committed_tiles, IsSound}
-use Rattle.page_map.specs.Upgraded.{data_of, listings}
 use Rattle.page_map.proofs.page_map.PageMap.upgraded.Given as goal
 
 abbrev pub invariant-loop-corner : goal.invariant-loop-corner

@@ -1,6 +1,4 @@
-use Rattle.std.proofs.Common.{refl}
-use Rattle.page_map.specs.declared.plane_entry.Staged.TheVariants.{AsCommitted}
-use Rattle.page_map.specs.PlaneEntries.{fresh_in, pages_at}
+use Rattle.page_map.proofs.Prelude.{AsCommitted, fresh_in, pages_at, refl}
 use Rattle.page_map.proofs.FreeTimes.{in_use-last}
 use Rattle.page_map.proofs.PlaneChanges.{given_balanced}
 use Rattle.page_map.proofs.plane_entry.PlaneEntry.give_back.Goals as goal

@@ -1,8 +1,4 @@
-use Rattle.std.proofs.Common.{ap, subst, sym}
-use Rattle.std.specs.Prelude.{Some, None}
-use Rattle.page_map.specs.FreePages.{AreBalanced}
-use Rattle.page_map.specs.declared.plane_entry.Staged.{Staged}
-use Rattle.page_map.specs.PlaneEntries.{fresh_as, settled_plane, staged_as, used_in}
+use Rattle.page_map.proofs.Prelude.{AreBalanced, None, Some, Staged, ap, fresh_as, settled_plane, staged_as, subst, sym, used_in}
 use Rattle.page_map.proofs.PlaneChanges.{replaced_in_use, settled_balanced}
 use Rattle.page_map.proofs.plane_entry.PlaneEntry.give_committed.Goals as goal
 

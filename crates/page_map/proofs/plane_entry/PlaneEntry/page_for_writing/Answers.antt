@@ -1,7 +1,4 @@
-use Rattle.std.proofs.Common.{ap, sym, ◌∙◌, arith}
-use Rattle.page_map.specs.PlaneEntries.{behind_at}
-use Rattle.page_map.specs.Locations.{PlaneLocation, times}
-use Rattle.std.specs.Prelude.{Option}
+use Rattle.page_map.proofs.Prelude.{Option, PlaneLocation, ap, arith, behind_at, sym, times, ◌∙◌}
 use Rattle.page_map.proofs.PlaneChanges.{fresh_room, index_below, page_balanced, page_restaged}
 use Rattle.page_map.proofs.plane_entry.PlaneEntry.page_for_writing.Goals as goal
 

@@ -1,5 +1,4 @@
-use Rattle.std.proofs.Common.{[]}
-use Rattle.page_map.specs.PlaneEntries.{fresh_in}
+use Rattle.page_map.proofs.Prelude.{[], fresh_in}
 use Rattle.page_map.proofs.FreeTimes.{in_use-first, rest_in_use_still, given-append}
 use Rattle.page_map.proofs.tile_entry.TileEntry.drop_kept.Goals as goal
 

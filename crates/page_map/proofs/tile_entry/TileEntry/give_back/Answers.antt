@@ -1,5 +1,4 @@
-use Rattle.std.proofs.Common.{◌++◌}
-use Rattle.page_map.specs.PlaneEntries.{used_in}
+use Rattle.page_map.proofs.Prelude.{used_in, ◌++◌}
 use Rattle.page_map.proofs.FreeTimes.{balanced-append, in_use-first, rest_in_use_still}
 use Rattle.page_map.proofs.tile_entry.TileEntry.give_back.Goals as goal
 

@@ -1,8 +1,4 @@
-use Rattle.std.proofs.Common.{◌≡◌, ℕ, ◌∙◌, List, [], ◌++◌, ap₂, ap, refl, arith}
-use Rattle.page_map.specs.FreePages.{AreBalanced, AreInUse, FreePages, free_times, page_times}
-use Rattle.page_map.specs.declared.plane_entry.Staged.TheVariants.{Fresh}
-use Rattle.page_map.specs.Locations.{pages_behind, times}
-use Rattle.page_map.specs.PlaneEntries.{fresh_in, used_in}
+use Rattle.page_map.proofs.Prelude.{AreBalanced, AreInUse, FreePages, Fresh, List, ℕ, [], ap, ap₂, arith, free_times, fresh_in, page_times, pages_behind, refl, times, used_in, ◌++◌, ◌∙◌, ◌≡◌}
 use Rattle.page_map.proofs.Times.{differing-nil}
 use Rattle.page_map.proofs.FreeTimes.{balanced-append, balanced_same, in_use-first, in_use-last, rest_in_use_still}
 use Rattle.page_map.proofs.PlaneChanges.{nil_parts, taken_balanced, taken_fresh}

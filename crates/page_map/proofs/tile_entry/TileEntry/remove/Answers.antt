@@ -1,6 +1,4 @@
-use Rattle.std.proofs.Common.{[], refl}
-use Rattle.page_map.specs.PlaneEntries.{fresh_in}
-use Rattle.page_map.specs.TileEntries.{fresh_kept}
+use Rattle.page_map.proofs.Prelude.{[], fresh_in, fresh_kept, refl}
 use Rattle.page_map.proofs.FreeTimes.{in_use-first, rest_in_use_still, given-append}
 use Rattle.page_map.proofs.tile_entry.TileEntry.remove.Goals as goal
 

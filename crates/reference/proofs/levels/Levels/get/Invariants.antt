@@ -1,5 +1,4 @@
-use Rattle.std.proofs.Common.{◌≡◌, drop}
-use Rattle.reference.specs.Levels.{level_in}
+use Rattle.reference.proofs.Prelude.{drop, level_in, ◌≡◌}
 use Rattle.reference.proofs.levels.Levels.get.Given as goal
 
 abbrev pub invariant-loop-cell : goal.invariant-loop-cell

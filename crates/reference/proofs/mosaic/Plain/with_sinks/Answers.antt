@@ -1,8 +1,4 @@
-use Rattle.std.proofs.Common.{◌≡◌, ◌∙◌, ℕ, List, sym, ap, subst}
-use Rattle.std.proofs.lemmas.List.{take_all}
-use Rattle.lattice.specs.declared.point.Point.{Point}
-use Rattle.lattice.specs.Mosaic.{Tile, Mosaic, IsMosaic, AreSinks}
-use Rattle.catalogue.specs.Tiles.{with_sinks}
+use Rattle.reference.proofs.Prelude.{AreSinks, IsMosaic, List, Mosaic, Point, Tile, ℕ, ap, subst, sym, take_all, with_sinks, ◌∙◌, ◌≡◌}
 use Rattle.reference.proofs.LoopLemmas.{taken_more}
 use Rattle.reference.proofs.mosaic.Plain.with_sinks.Goals as goal
 

@@ -1,5 +1,4 @@
-use Rattle.std.proofs.Common.{rules, ◌≤◌, IsTrue}
-use Rattle.lattice.specs.Corners.{is_corner}
+use Rattle.store.proofs.Prelude.{IsTrue, is_corner, rules, ◌≤◌}
 use Rattle.store.proofs.Edits.NewHeights.{points_left}
 use Rattle.store.proofs.heights.PointHeightsPageEdit.next_page.Goals as goal
 

@@ -1,7 +1,4 @@
-use Rattle.std.proofs.Common.{take}
-use Rattle.edits.specs.Edits.{points_of}
-use Rattle.page_codec.specs.Sizes.{pages_of}
-use Rattle.store.specs.PagesMet.{has_point}
+use Rattle.store.proofs.Prelude.{has_point, pages_of, points_of, take}
 use Rattle.store.proofs.Edits.PagesMet.{IsFirst}
 use Rattle.store.proofs.heights.PointHeightsPageEdit.next_page.Given as goal
 

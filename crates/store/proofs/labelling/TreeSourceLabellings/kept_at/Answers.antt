@@ -1,9 +1,4 @@
-use Rattle.std.proofs.Common.{Ok, refl, ap}
-use Rattle.page_codec.specs.Roots.{RootValue}
-use Rattle.catalogue.proofs.Asking.{asked, asked_answer}
-use Rattle.catalogue.proofs.Reading.{reads_nothing}
-use Rattle.cow_tree.specs.Reading.{read_nothing}
-use Rattle.cow_tree.proofs.TreeReads.{same_mosaic}
+use Rattle.store.proofs.Prelude.{Ok, RootValue, ap, asked, asked_answer, read_nothing, reads_nothing, refl, same_mosaic}
 use Rattle.store.proofs.KeptPlanes.Labelled.{was_sure, may_refuse, not_ready}
 use Rattle.store.proofs.labelling.TreeSourceLabellings.kept_at.Goals as goal
 

@@ -1,7 +1,4 @@
-use Rattle.std.proofs.Common.{Ok, refl, ap}
-use Rattle.catalogue.proofs.Asking.{asked, asked_answer}
-use Rattle.page_codec.specs.Roots.{RootValue}
-use Rattle.cow_tree.proofs.TreeReads.{same_mosaic}
+use Rattle.store.proofs.Prelude.{Ok, RootValue, ap, asked, asked_answer, refl, same_mosaic}
 use Rattle.store.proofs.KeptPlanes.Labelled.{was_sure, may_refuse, not_ready}
 use Rattle.store.proofs.labelling.TreeSourceLabellings.labelling.Goals as goal
 

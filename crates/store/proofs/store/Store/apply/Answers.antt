@@ -1,44 +1,13 @@
-use Rattle.std.proofs.Common.{◌≡◌, ⊎_elim, inl, inr, ℕ, ◌+◌, ◌<◌, ◌≤◌, false, true, List, All, map, refl, sym, ap, ap₂, ◌∙◌, subst, arith, Result, Ok, Err, IfSome, IsTrue}
-use Rattle.std.proofs.lemmas.Bool.{both_ways}
-use Rattle.std.proofs.lemmas.Result.{IfErr-weaker}
-use Rattle.disk.specs.declared.disk.Disk.{Ghosts}
-use Rattle.lattice.specs.Corners.{Corner, is_corner}
-use Rattle.lattice.specs.Mosaic.{Mosaic, IsMosaic}
-use Rattle.lattice.specs.declared.refusal.Refusal.{Refusal}
-use Rattle.lattice.specs.declared.refusal.Refusal.TheVariants.{Device, Failed, Worn}
-use Rattle.page_codec.specs.Entries.{EntryValue}
-use Rattle.page_codec.specs.Formats.{number_of}
-use Rattle.page_codec.specs.Roots.{RootValue}
-use Rattle.engine.specs.State.{State}
-use Rattle.engine.specs.Told.{WritesFew}
+use Rattle.store.proofs.Prelude.{All, Command, CommitsNothing, Corner, Device, Edit, EntryValue, Err, Failed, Ghosts, HasOnlyRead, IfErr-weaker, IfSome, IsApplied, IsHeldOf, IsInState, IsMosaic, IsTrue, List, Mosaic, Ok, Refusal, Result, RootValue, State, StoredTile, Tree, Worn, WritesFew, ℕ, ap, ap₂, arith, both_ways, corners_of, device_or_not, disk_of, effect, false, goes_stale, has_failed, in_memory, inl, inr, is_corner, is_own, map, named_by, never_refused, number_of, on_ok, page_writes, pages_with, refl, refused_as, root_of, sinks_of, staged_in, staled, subst, sym, true, uncommitted_on, ⊎_elim, ◌+◌, ◌<◌, ◌∙◌, ◌≡◌, ◌≤◌}
 use Rattle.engine.specs.declared.event.Event.TheVariants as ask
-use Rattle.engine.proofs.Questions.{device_or_not}
-use Rattle.drainage.specs.Between.{IsHeldOf}
-use Rattle.edits.specs.declared.command.Command.{Command}
 use Rattle.edits.specs.declared.command.Command.TheVariants.{Import, Remove, Patch, Burn, Wall, Sink, Unsink}
-use Rattle.edits.specs.declared.edit.Edit.{Edit}
 use Rattle.edits.specs.declared.edit.Edit.TheVariants as edit
 use Rattle.edits.specs.Edits.{IsEditOf, FitsIn, HasRoom, FindsVoids, TellsHeights, edit_made, goes_stale_by}
-use Rattle.edits.specs.Effect.{effect}
 use Rattle.edits.specs.EffectLaws.{IsCommand}
-use Rattle.edits.specs.Plans.{is_own}
-use Rattle.edits.specs.Touched.{goes_stale}
 use Rattle.edits.proofs.AllStale.{near_itself}
-use Rattle.cow_tree.specs.Reading.{HasOnlyRead}
-use Rattle.cow_tree.specs.Stored.{StoredTile}
-use Rattle.cow_tree.specs.Trees.{disk_of, root_of, has_failed, corners_of, sinks_of, staged_in}
-use Rattle.cow_tree.specs.declared.tree.Tree.{Tree}
-use Rattle.cow_tree.proofs.ReadOnly.{never_refused}
-use Rattle.cow_tree.proofs.Steps.{on_ok}
-use Rattle.store.specs.Ended.{IsApplied}
 use Rattle.store.specs.Editing.{ComesIn, IsGiven, AreTilesOf}
-use Rattle.cow_tree.specs.Uncommitted.{CommitsNothing}
-use Rattle.store.specs.PagesMet.{named_by, page_writes, pages_with}
-use Rattle.store.specs.Staling.{staled}
-use Rattle.store.specs.TreeStates.{IsInState}
 use Rattle.store.proofs.Calls.Committed.{fails_before, failed_first, quiet, may_end_it}
 use Rattle.store.proofs.Edits.EditingReads.{reading, refused_so, risen_read, works_read, fails_read, quiet_read}
-use Rattle.cow_tree.proofs.Uncommitted.{in_memory, uncommitted_on, refused_as}
 use Rattle.store.proofs.Edits.EditingWrites.{named_written, none_named, none_written, staged_written}
 use Rattle.store.proofs.Reading.Holding.{held}
 use Rattle.store.proofs.Reading.InMemory.{is_working, worn_at}

@@ -1,6 +1,4 @@
-use Rattle.std.proofs.Common.{◌≡◌, false, sym, ◌∙◌, subst}
-use Rattle.page_codec.specs.Roots.{RootValue, IsRoot}
-use Rattle.cow_tree.specs.Trees.{corners_of, has_failed}
+use Rattle.store.proofs.Prelude.{IsRoot, RootValue, corners_of, false, has_failed, subst, sym, ◌∙◌, ◌≡◌}
 use Rattle.store.proofs.Reading.AskedTrees.{few_tiles}
 use Rattle.store.proofs.store.Store.check_working.Goals as goal
 

@@ -1,5 +1,4 @@
-use Rattle.std.proofs.Common.{ap, ◌∙◌}
-use Rattle.page_codec.specs.Roots.{RootValue}
+use Rattle.store.proofs.Prelude.{RootValue, ap, ◌∙◌}
 use Rattle.store.proofs.Calls.StoreCalls.{counts}
 use Rattle.store.proofs.store.Store.count.Goals as goal
 

@@ -1,14 +1,8 @@
-use Rattle.std.proofs.Common.{Result, refl, ap, ◌∙◌}
-use Rattle.std.proofs.lemmas.Result.{IfOk-weaker}
-use Rattle.lattice.specs.Height.{height_of}
-use Rattle.lattice.specs.Mosaic.{Mosaic}
+use Rattle.store.proofs.Prelude.{IfOk-weaker, IsQueried, Mosaic, Refusal, Result, State, ap, height_of, refl, ◌∙◌}
 use Rattle.lattice.specs.declared.height.Height.{Height}
-use Rattle.lattice.specs.declared.refusal.Refusal.{Refusal}
 use Rattle.engine.specs.Outcomes.{Elevates}
-use Rattle.engine.specs.State.{State}
 use Rattle.engine.specs.declared.event.Event.TheVariants as ask
 use Rattle.engine.proofs.Questions.{elevation_asked}
-use Rattle.store.specs.Queried.{IsQueried}
 use Rattle.store.proofs.Reading.Querying.{mosaic_at, stays_at, still_clean, still_readable, fails_so, answered, queried_by_disk, risen_for}
 use Rattle.store.proofs.Calls.StoreCalls.{asked, denied, only_device_may}
 use Rattle.store.proofs.store.Store.elevation.Goals as goal

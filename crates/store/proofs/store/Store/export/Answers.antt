@@ -1,14 +1,5 @@
-use Rattle.std.proofs.Common.{ℕ, Result, true≢false, refl, sym, ap, ◌∙◌, ◌≡◌, None, Ok, Err}
-use Rattle.std.specs.Global.{Vec}
-use Rattle.disk.specs.Disk.{HasRisen}
-use Rattle.lattice.specs.declared.refusal.Refusal.{Refusal}
-use Rattle.lattice.specs.declared.refusal.Refusal.TheVariants.{Device, NoMemory}
-use Rattle.engine.specs.State.{failing}
+use Rattle.store.proofs.Prelude.{Device, Err, HasRisen, IsQueried, NoMemory, None, Ok, Refusal, Result, Vec, ℕ, ap, failing, never_refused, refl, refused_as, sym, tile_at_corner, true≢false, ◌∙◌, ◌≡◌}
 use Rattle.engine.proofs.Questions.{export_asked}
-use Rattle.page_map.proofs.Lookup.{tile_at_corner}
-use Rattle.cow_tree.proofs.ReadOnly.{never_refused}
-use Rattle.store.specs.Queried.{IsQueried}
-use Rattle.cow_tree.proofs.Uncommitted.{refused_as}
 use Rattle.store.proofs.Reading.Querying.{queried_by_disk, stays_at, still_clean, still_at, failing_at, fails_so}
 use Rattle.store.proofs.Reading.AskedTrees.{no_tile}
 use Rattle.store.proofs.Reading.QueryingPages.{tile, tile_of, exported}

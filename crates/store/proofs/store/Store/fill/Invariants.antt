@@ -1,5 +1,4 @@
-use Rattle.cow_tree.specs.Reading.{mosaic_of}
-use Rattle.drainage.specs.Between.{IsHeldOf}
+use Rattle.store.proofs.Prelude.{IsHeldOf, mosaic_of}
 use Rattle.store.proofs.store.Store.fill.Given as goal
 
 -- what is held now is right

@@ -1,12 +1,5 @@
-use Rattle.std.proofs.Common.{◌≡◌, ◌-◌, ℕ, List, length, refl, sym, ap, ap₂, ◌∙◌}
-use Rattle.std.proofs.lemmas.List.{length-map}
-use Rattle.lattice.specs.Corners.{Corner}
-use Rattle.page_codec.specs.Entries.{EntryValue}
-use Rattle.page_codec.specs.Roots.{RootValue}
+use Rattle.store.proofs.Prelude.{Corner, EntryValue, Info, List, RootValue, ℕ, ap, ap₂, corners_of, length, length-map, refl, root_of, stale_in, sym, ◌-◌, ◌∙◌, ◌≡◌}
 use Rattle.engine.proofs.Questions.{info_asked}
-use Rattle.engine.specs.declared.info.Info.{Info}
-use Rattle.cow_tree.specs.Trees.{corners_of, root_of}
-use Rattle.derived.specs.Kept.{stale_in}
 use Rattle.store.proofs.Reading.InMemory.{info_is}
 use Rattle.store.proofs.Reading.Querying.{stays_at}
 use Rattle.store.proofs.Calls.StoreCalls.{denied, told_it}

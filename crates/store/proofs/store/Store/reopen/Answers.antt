@@ -1,11 +1,5 @@
-use Rattle.std.proofs.Common.{◌≡◌, true, ⊎_elim, refl, ap, Result, Ok, Err, OnErr, IfErr}
-use Rattle.std.proofs.lemmas.Result.{IfErr-weaker}
-use Rattle.lattice.specs.declared.refusal.Refusal.{Refusal}
-use Rattle.page_codec.specs.Roots.{RootValue}
-use Rattle.engine.specs.State.{State}
-use Rattle.cow_tree.specs.Trees.{root_of, has_failed}
+use Rattle.store.proofs.Prelude.{Err, IfErr, IfErr-weaker, IsAt, Ok, OnErr, Refusal, Result, RootValue, State, ap, has_failed, refl, root_of, true, ⊎_elim, ◌≡◌}
 use Rattle.cow_tree.proofs.Steps.{ok_where_works, either_way, on_ok_both}
-use Rattle.store.specs.Stores.{IsAt}
 use Rattle.store.proofs.Calls.Opened.{in_known, sized_as_known, refused_for}
 use Rattle.store.proofs.Calls.Reopening.{reopened}
 use Rattle.store.proofs.Calls.States.{fails_in}

@@ -1,15 +1,7 @@
-use Rattle.std.proofs.Common.{rules, ◌≡◌, ◌≤◌, ◌<◌, ◌+◌, ◌++◌, ◌∷◌, [], ℕ, List, length, true, refl, sym, ap, ◌∙◌, subst, arith, take, take_all, vec_len, vec_capacity}
+use Rattle.store.proofs.Prelude.{Calls, Event, Ghosts, Image, IsCall, List, Reply, Runs, Store, ℕ, [], ap, arith, length, members, refl, rules, subst, sym, take, take_all, true, vec_capacity, vec_len, ◌++◌, ◌+◌, ◌<◌, ◌∙◌, ◌∷◌, ◌≡◌, ◌≤◌}
 use Rattle.std.proofs.lemmas.List.{append-nil, append_assoc}
 use Rattle.std.specs.Result.{is_ok}
-use Rattle.disk.specs.Disk.{Image}
-use Rattle.disk.specs.declared.disk.Disk.{Ghosts}
-use Rattle.engine.specs.Engines.{Calls, IsCall}
-use Rattle.engine.specs.declared.event.Event.{Event}
-use Rattle.engine.specs.declared.event.Reply.{Reply}
 use Rattle.engine.proofs.Chains.{asked_more, last_more, step_more}
-use Rattle.store.specs.Calls.{Runs}
-use Rattle.store.specs.StoreState.{members}
-use Rattle.store.specs.declared.store.Store.{Store}
 use Rattle.store.proofs.Calls.Runs.{ran, known_then}
 use Rattle.store.proofs.store.Store.run.Goals as goal
 

@@ -1,7 +1,4 @@
-use Rattle.std.proofs.Common.{◌≡◌, ◌≤◌, ◌+◌, ◌++◌, List, length, take, vec_len, vec_capacity}
-use Rattle.engine.specs.Engines.{Calls, IsCall}
-use Rattle.engine.specs.declared.event.Reply.{Reply}
-use Rattle.store.specs.StoreState.{members}
+use Rattle.store.proofs.Prelude.{Calls, IsCall, List, Reply, length, members, take, vec_capacity, vec_len, ◌++◌, ◌+◌, ◌≡◌, ◌≤◌}
 use Rattle.store.proofs.store.Store.run.Given as goal
 
 -- there is room for the replies to come, and those so far are the store's

@@ -1,10 +1,5 @@
-use Rattle.std.proofs.Common.{ℕ, Result, subst}
-use Rattle.std.proofs.lemmas.Result.{IfOk-weaker}
-use Rattle.lattice.specs.Mosaic.{Mosaic}
-use Rattle.lattice.specs.declared.refusal.Refusal.{Refusal}
+use Rattle.store.proofs.Prelude.{CountsSeams, IfOk-weaker, Mosaic, Refusal, Result, State, ℕ, subst}
 use Rattle.catalogue.specs.Seams.{IsSeamCount}
-use Rattle.engine.specs.State.{State}
-use Rattle.store.specs.Queried.{CountsSeams}
 use Rattle.store.proofs.Reading.Querying.{mosaic_at, stays_at, still_clean, still_readable, fails_so, answered}
 use Rattle.store.proofs.store.Store.seams.Goals as goal
 

@@ -1,14 +1,7 @@
-use Rattle.std.proofs.Common.{Result, refl, sym, ◌∙◌, subst}
-use Rattle.std.specs.Global.{Vec}
-use Rattle.lattice.specs.declared.point.Point.{Point}
-use Rattle.lattice.specs.declared.refusal.Refusal.{Refusal}
-use Rattle.lattice.specs.declared.refusal.Refusal.TheVariants.{NoMemory}
-use Rattle.engine.specs.Engines.{IsCall, answered}
+use Rattle.store.proofs.Prelude.{IsCall, NoMemory, Point, Refusal, Result, Vec, answered, members, refl, refused_as, subst, sym, ◌∙◌}
 use Rattle.engine.specs.declared.event.Event.TheVariants as ask
 use Rattle.engine.specs.declared.event.Reply.TheVariants as reply
 use Rattle.engine.proofs.Questions.{sinks_asked}
-use Rattle.store.specs.StoreState.{members}
-use Rattle.cow_tree.proofs.Uncommitted.{refused_as}
 use Rattle.store.proofs.Reading.Querying.{stays_at}
 use Rattle.store.proofs.Calls.StoreCalls.{denied, refused_it, told_it}
 use Rattle.store.proofs.store.Store.sinks.Goals as goal

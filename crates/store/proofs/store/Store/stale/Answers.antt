@@ -1,7 +1,4 @@
-use Rattle.std.proofs.Common.{List, sym, ap, ◌∙◌, subst, Contains}
-use Rattle.lattice.specs.Corners.{Corner}
-use Rattle.catalogue.specs.Tiles.{is_listed}
-use Rattle.cow_tree.specs.Trees.{root_of}
+use Rattle.store.proofs.Prelude.{Contains, Corner, List, ap, is_listed, root_of, subst, sym, ◌∙◌}
 use Rattle.store.proofs.Reading.HeldTiles.{corners_held}
 use Rattle.store.proofs.Reading.Holding.{held}
 use Rattle.store.proofs.KeptPlanes.SteppedTiles.{stored_mosaic, stored_right}

@@ -1,16 +1,8 @@
-use Rattle.std.proofs.Common.{◌≡◌, ◌≤◌, ◌+◌, ◌*◌, if◌then◌else◌, refl, ap, ◌∙◌, subst, IsTrue, None, Option, Result, Ok, IfOk, nat_eq}
-use Rattle.std.specs.Option.{is_none}
-use Rattle.lattice.specs.Corners.{Corner}
-use Rattle.lattice.specs.declared.refusal.Refusal.{Refusal}
-use Rattle.page_codec.specs.Formats.{number_of}
+use Rattle.store.proofs.Prelude.{Corner, IfOk, IsTrue, None, Ok, One, Option, Refusal, Result, Tree, Two, Version, ap, disk_of, has_failed, if◌then◌else◌, is_none, nat_eq, number_of, refl, root_of, subst, ◌*◌, ◌+◌, ◌∙◌, ◌≡◌, ◌≤◌}
 use Rattle.page_codec.specs.Sizes.{index_pages_by, pages_of}
-use Rattle.page_codec.specs.declared.version.Version.{Version}
-use Rattle.page_codec.specs.declared.version.Version.TheVariants.{One, Two}
 use Rattle.engine.specs.declared.event.Event.TheVariants as ask
 use Rattle.engine.specs.declared.event.Reply.TheVariants as reply
 use Rattle.engine.proofs.Questions.{step_answered}
-use Rattle.cow_tree.specs.Trees.{disk_of, root_of, has_failed}
-use Rattle.cow_tree.specs.declared.tree.Tree.{Tree}
 use Rattle.store.proofs.Calls.StoreCalls.{ended}
 use Rattle.store.proofs.Reading.WaterHeld.{stepped_holding}
 use Rattle.store.proofs.store.Store.step.Goals as goal

@@ -1,8 +1,5 @@
-use Rattle.std.proofs.Common.{refl, map, sym, ap, ◌∙◌}
+use Rattle.store.proofs.Prelude.{EntryValue, NoMemory, RootValue, ap, map, refl, sym, ◌∙◌}
 use Rattle.std.proofs.lemmas.List.{take_all}
-use Rattle.lattice.specs.declared.refusal.Refusal.TheVariants.{NoMemory}
-use Rattle.page_codec.specs.Entries.{EntryValue}
-use Rattle.page_codec.specs.Roots.{RootValue}
 use Rattle.engine.proofs.Questions.{tiles_asked}
 use Rattle.store.proofs.Reading.InMemory.{corners_are}
 use Rattle.store.proofs.Reading.Querying.{stays_at}

@@ -1,8 +1,4 @@
-use Rattle.std.proofs.Common.{Err, refl, sym, ◌∙◌}
-use Rattle.lattice.specs.declared.refusal.Refusal.TheVariants.{Failed}
-use Rattle.cow_tree.specs.Trees.{disk_of, root_of}
-use Rattle.store.specs.TreeStates.{IsInState}
-use Rattle.store.specs.Upgraded.{upgrade_ending}
+use Rattle.store.proofs.Prelude.{Err, Failed, IsInState, disk_of, refl, root_of, sym, upgrade_ending, ◌∙◌}
 use Rattle.store.proofs.Calls.Ended.{had_failed}
 use Rattle.store.proofs.Reading.WaterHeld.{upgraded_holding}
 use Rattle.store.proofs.store.Store.upgrade.Goals as goal

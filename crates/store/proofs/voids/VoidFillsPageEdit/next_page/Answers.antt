@@ -1,5 +1,4 @@
-use Rattle.std.proofs.Common.{map}
-use Rattle.store.specs.declared.rims.RimVoids.{RimVoids}
+use Rattle.store.proofs.Prelude.{RimVoids, map}
 use Rattle.store.proofs.Edits.Patched.{fills_leave}
 use Rattle.store.proofs.voids.VoidFillsPageEdit.next_page.Goals as goal
 

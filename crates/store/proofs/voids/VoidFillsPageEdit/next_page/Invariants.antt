@@ -1,5 +1,4 @@
-use Rattle.std.proofs.Common.{◌≡◌, ℕ, ◌<◌, ◌≤◌, false}
-use Rattle.store.specs.Underway.{has_rows}
+use Rattle.store.proofs.Prelude.{ℕ, false, has_rows, ◌<◌, ◌≡◌, ◌≤◌}
 use Rattle.store.proofs.voids.VoidFillsPageEdit.next_page.Given as goal
 
 abbrev pub invariant-loop-index : goal.invariant-loop-index

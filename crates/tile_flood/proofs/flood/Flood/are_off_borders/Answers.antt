@@ -1,5 +1,4 @@
-use Rattle.std.proofs.Common.{◌≡◌, arith, ap, sym, subst, ◌∙◌, IsTrue, inl, inr, slice_index_or}
-use Rattle.tile_flood.proofs.Words.{cases_lt, get_or_default, is_beside, Affected}
+use Rattle.tile_flood.proofs.Prelude.{Affected, IsTrue, ap, arith, cases_lt, get_or_default, inl, inr, is_beside, slice_index_or, subst, sym, ◌∙◌, ◌≡◌}
 use Rattle.tile_flood.proofs.flood.Flood.are_off_borders.Goals as goal
 
 abbrev none : Affected

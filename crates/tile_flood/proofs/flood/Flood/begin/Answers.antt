@@ -1,5 +1,4 @@
-use Rattle.std.proofs.Common.{◌≡◌, arith, length, subst}
-use Rattle.tile_flood.specs.Suspects.{IsBeginning}
+use Rattle.tile_flood.proofs.Prelude.{IsBeginning, arith, length, subst, ◌≡◌}
 use Rattle.tile_flood.proofs.Steps.{begun, begin_end}
 use Rattle.tile_flood.proofs.ListedChanges.{listed_same, listed_twice}
 use Rattle.tile_flood.proofs.flood.Flood.begin.Goals as goal

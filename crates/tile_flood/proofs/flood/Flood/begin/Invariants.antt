@@ -1,4 +1,4 @@
-use Rattle.tile_flood.proofs.Words.{StayListed, IsBeginning}
+use Rattle.tile_flood.proofs.Prelude.{IsBeginning, StayListed}
 use Rattle.tile_flood.proofs.flood.Flood.begin.Given as goal
 
 abbrev pub invariant-loop-k : goal.invariant-loop-k

@@ -1,5 +1,4 @@
-use Rattle.std.proofs.Common.{◌<◌, ◌≤ℤ◌, IsTrue, to_z, of_z, refl, sym, ap, ◌∙◌, subst, inl, inr, rules, slice_index_or, SFits, w16, to_z-of_z}
-use Rattle.tile_flood.proofs.Words.{void, ≤ℤ_same, is_marked, Waits, IsIn, IsInOr}
+use Rattle.tile_flood.proofs.Prelude.{IsIn, IsInOr, IsTrue, SFits, Waits, ap, inl, inr, is_marked, of_z, refl, rules, slice_index_or, subst, sym, to_z, to_z-of_z, void, w16, ≤ℤ_same, ◌<◌, ◌∙◌, ◌≤ℤ◌}
 use Rattle.tile_flood.proofs.Steps.{mending_as, kept_state, reset_in}
 use Rattle.tile_flood.proofs.ListedChanges.{listed_as}
 use Rattle.tile_flood.proofs.flood.Flood.examine.Goals as goal

@@ -1,7 +1,6 @@
-use Rattle.std.proofs.Common.{◌≡◌, ◌<ℤ◌, ◌≤ℤ◌, ◌+ℤ◌, ℤ, pos, arith, rules, ap, ◌∙◌, sym, subst, inr, slice_index_or, SFits, w16, to_z, of_z}
+use Rattle.tile_flood.proofs.Prelude.{SFits, ℤ, ap, arith, inr, of_z, pos, rules, slice_index_or, subst, sym, to_z, void, w16, ◌+ℤ◌, ◌<ℤ◌, ◌∙◌, ◌≡◌, ◌≤ℤ◌}
 use Rattle.std.specs.Int.{int_min}
 use Rattle.std.proofs.lemmas.Int.{ints, clamps, to_z-of_z}
-use Rattle.lattice.specs.Mosaic.{void}
 use Rattle.tile_flood.proofs.flood.Flood.first_suspect.Goals as goal
 
 next_at_most : (level m v : ℤ) → m ≡ int_min level (pos 32766) → level <ℤ v → (m +ℤ pos 1) ≤ℤ v

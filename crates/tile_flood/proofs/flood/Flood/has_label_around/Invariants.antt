@@ -1,5 +1,4 @@
-use Rattle.std.proofs.Common.{◌≡◌, ℕ, ◌*◌, ◌<◌, IsTrue, slice_index}
-use Rattle.tile_flood.proofs.Words.{is_marked, IsInWindow}
+use Rattle.tile_flood.proofs.Prelude.{IsInWindow, IsTrue, ℕ, is_marked, slice_index, ◌*◌, ◌<◌, ◌≡◌}
 use Rattle.tile_flood.proofs.flood.Flood.has_label_around.Given as goal
 
 abbrev pub invariant-loop-d : goal.invariant-loop-d

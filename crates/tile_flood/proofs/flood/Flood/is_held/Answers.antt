@@ -1,7 +1,5 @@
-use Rattle.std.proofs.Common.{arith, ◌≡◌, ◌*◌, ◌/◌, ◌%◌, ◌+◌, ◌≤ℤ◌, ◌<ℤ◌, ◌-ℤ◌, pos, sym, ap, ◌∙◌, subst, inr, rules, slice_index, slice_index_or, SFits, w16, to_z, of_z}
-use Rattle.tile_flood.proofs.Words.{ints, void, is_exit, block_of, IsBesideWith}
+use Rattle.tile_flood.proofs.Prelude.{IsBesideWith, SFits, ap, arith, block_of, inr, ints, is_exit, le_true, of_z, pos, rules, slice_index, slice_index_or, subst, sym, to_z, void, w16, ◌%◌, ◌*◌, ◌+◌, ◌-ℤ◌, ◌/◌, ◌<ℤ◌, ◌∙◌, ◌≡◌, ◌≤ℤ◌}
 use Rattle.std.proofs.lemmas.Int.{to_z-of_z}
-use Rattle.lattice.proofs.IntTests.{le_true}
 use Rattle.tile_flood.proofs.Squares.{cell_of}
 use Rattle.tile_flood.proofs.Steps.{held_beside}
 use Rattle.tile_flood.proofs.flood.Flood.is_held.Goals as goal

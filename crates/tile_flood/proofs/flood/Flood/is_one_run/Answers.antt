@@ -1,6 +1,4 @@
-use Rattle.std.proofs.Common.{◌≡◌, ◌+◌, ◌%◌, ◌<◌, arith, sym, subst}
-use Rattle.tile_flood.specs.Affected.{IsInWindow}
-use Rattle.tile_flood.specs.Sparing.{IsRun, in_round}
+use Rattle.tile_flood.proofs.Prelude.{IsInWindow, IsRun, arith, in_round, subst, sym, ◌%◌, ◌+◌, ◌<◌, ◌≡◌}
 use Rattle.tile_flood.proofs.OneRun.{AreNear, run_begun, run_passed, run_on, run_whole}
 use Rattle.tile_flood.proofs.flood.Flood.is_one_run.Goals as goal
 use Rattle.tile_flood.proofs.flood.Flood.is_one_run.Goals.{then-is_around+else-not-are_near, else-is_around}

@@ -1,6 +1,5 @@
-use Rattle.std.proofs.Common.{◌≡◌, ◌<ℤ◌, arith, rules, ap, ◌∙◌, subst, slice_index_or, SFits, w16, to_z, of_z}
+use Rattle.tile_flood.proofs.Prelude.{SFits, ap, arith, of_z, rules, slice_index_or, subst, to_z, void, w16, ◌<ℤ◌, ◌∙◌, ◌≡◌}
 use Rattle.std.proofs.lemmas.Int.{ints, to_z-of_z}
-use Rattle.lattice.specs.Mosaic.{void}
 use Rattle.tile_flood.proofs.flood.Flood.is_spared.Goals as goal
 
 pub returns-then-is_above-clause-no_suspect : goal.returns-then-is_above-clause-no_suspect

@@ -1,5 +1,4 @@
-use Rattle.std.proofs.Common.{◌≤ℤ◌, sym, subst, rules, slice_index_or, SFits, w16, to_z-of_z}
-use Rattle.tile_flood.proofs.Words.{void, IsBesideWith}
+use Rattle.tile_flood.proofs.Prelude.{IsBesideWith, SFits, rules, slice_index_or, subst, sym, to_z-of_z, void, w16, ◌≤ℤ◌}
 use Rattle.tile_flood.proofs.Squares.{solid_below}
 use Rattle.tile_flood.proofs.Dependence.{beside_back}
 use Rattle.tile_flood.proofs.Steps.{max_second}

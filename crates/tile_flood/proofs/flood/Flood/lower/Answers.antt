@@ -1,5 +1,4 @@
-use Rattle.std.proofs.Common.{◌≡◌, ◌≤ℤ◌, ◌<ℤ◌, IsTrue, sym, ap, ◌∙◌, subst, inl, inr, rules, slice_index, slice_index_or, SFits, w16, to_z, of_z, to_z-of_z}
-use Rattle.tile_flood.proofs.Words.{void, is_marked, Waits, IsIn}
+use Rattle.tile_flood.proofs.Prelude.{IsIn, IsTrue, SFits, Waits, ap, inl, inr, is_marked, of_z, rules, slice_index, slice_index_or, subst, sym, to_z, to_z-of_z, void, w16, ◌<ℤ◌, ◌∙◌, ◌≡◌, ◌≤ℤ◌}
 use Rattle.tile_flood.proofs.Steps.{IsReached, lower_on}
 use Rattle.tile_flood.proofs.ListedChanges.{listed_as}
 use Rattle.tile_flood.proofs.flood.Flood.lower.Goals as goal

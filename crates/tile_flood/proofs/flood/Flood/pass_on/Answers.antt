@@ -1,6 +1,4 @@
-use Rattle.std.proofs.Common.{◌≡◌, ◌≤ℤ◌, arith, rules, sym, subst, ap, ◌∙◌, IsTrue, inl, inr, slice_index, slice_index_or, SFits, w16, to_z, of_z, to_z-of_z}
-use Rattle.tile_flood.proofs.Words.{int_max, cases_lt, void, is_solid, ≤ℤ_trans, bare_block, is_marked, IsInWindow}
-use Rattle.tile_flood.proofs.Words.{IsIn, IsInOr, IsMending}
+use Rattle.tile_flood.proofs.Prelude.{IsIn, IsInOr, IsInWindow, IsMending, IsTrue, SFits, ap, arith, bare_block, cases_lt, inl, inr, int_max, is_marked, is_solid, of_z, rules, slice_index, slice_index_or, subst, sym, to_z, to_z-of_z, void, w16, ≤ℤ_trans, ◌∙◌, ◌≡◌, ◌≤ℤ◌}
 use Rattle.tile_flood.proofs.Dependence.{one_window_point, window_point_of, window_beside}
 use Rattle.tile_flood.proofs.Steps.{mending_as, passed_on}
 use Rattle.tile_flood.proofs.ListedChanges.{listed_same, listed_twice}

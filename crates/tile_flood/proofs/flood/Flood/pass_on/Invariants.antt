@@ -1,6 +1,4 @@
-use Rattle.std.proofs.Common.{ℕ, ◌*◌, ◌<◌, ◌≤ℤ◌, IsTrue, slice_index_or}
-use Rattle.tile_flood.proofs.Words.{int_max, void, is_solid, bare_block, is_marked, IsInWindow, StayListed}
-use Rattle.tile_flood.specs.Suspects.{IsPassingOn}
+use Rattle.tile_flood.proofs.Prelude.{IsInWindow, IsPassingOn, IsTrue, StayListed, ℕ, bare_block, int_max, is_marked, is_solid, slice_index_or, void, ◌*◌, ◌<◌, ◌≤ℤ◌}
 use Rattle.tile_flood.proofs.flood.Flood.pass_on.Given as goal
 
 abbrev pub invariant-loop-d : goal.invariant-loop-d

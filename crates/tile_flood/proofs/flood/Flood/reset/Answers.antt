@@ -1,5 +1,4 @@
-use Rattle.std.proofs.Common.{◌*◌, ◌<◌, ◌⊎◌, ℕ, IsTrue, refl, sym, subst}
-use Rattle.tile_flood.proofs.Words.{is_beside, is_marked, IsIn}
+use Rattle.tile_flood.proofs.Prelude.{IsIn, IsTrue, ℕ, is_beside, is_marked, refl, subst, sym, ◌*◌, ◌<◌, ◌⊎◌}
 use Rattle.tile_flood.proofs.flood.Flood.reset.Goals as goal
 
 pub returns-clause-others : goal.returns-clause-others

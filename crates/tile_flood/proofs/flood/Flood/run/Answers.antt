@@ -1,5 +1,5 @@
 use Rattle.std.proofs.Common.{arith, ◌≡◌, ℕ, ℤ, List, ◌++◌, take, drop, length, sym, subst, ap, ◌∙◌}
-use Rattle.tile_flood.proofs.Words.{Block, Cell, block_of, AreCarried, levels_of, labels_of, IsLabelling}
+use Rattle.tile_flood.proofs.Prelude.{AreCarried, Block, Cell, IsLabelling, block_of, labels_of, levels_of}
 use Rattle.std.proofs.lemmas.Grind.{common_steps}
 use Rattle.std.proofs.Math.Seq.{take-append_seam}
 use Rattle.tile_flood.proofs.Squares.{of_block}

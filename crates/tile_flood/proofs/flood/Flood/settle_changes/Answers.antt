@@ -1,5 +1,4 @@
-use Rattle.std.proofs.Common.{ℕ, ℤ, List, arith, sym, subst, inl, slice_index_or}
-use Rattle.tile_flood.proofs.Words.{void, Waits, IsTaken, Affected, StayListed, IsIn, IsInOr}
+use Rattle.tile_flood.proofs.Prelude.{Affected, IsIn, IsInOr, IsTaken, List, StayListed, Waits, ℕ, ℤ, arith, inl, slice_index_or, subst, sym, void}
 use Rattle.tile_flood.proofs.Steps.{mended, mending_as, taken_in}
 use Rattle.tile_flood.proofs.ListedChanges.{listed_same, listed_twice}
 use Rattle.tile_flood.proofs.flood.Flood.settle_changes.Goals as goal

@@ -1,5 +1,4 @@
-use Rattle.tile_flood.specs.Affected.{StayListed}
-use Rattle.tile_flood.specs.Suspects.{AreMending}
+use Rattle.tile_flood.proofs.Prelude.{AreMending, StayListed}
 use Rattle.tile_flood.proofs.flood.Flood.settle_changes.Given as goal
 
 abbrev pub invariant-loop : goal.invariant-loop

@@ -1,5 +1,4 @@
-use Rattle.std.proofs.Common.{◌≡◌, ◌≤ℤ◌, ◌⊎◌, arith, rules, refl, sym, ◌∙◌, subst, IsTrue, inl, inr, slice_index, slice_index_or, SFits, w16, to_z, of_z, to_z-of_z}
-use Rattle.tile_flood.proofs.Words.{cases_lt, void, is_marked, IsInWindow, IsIn}
+use Rattle.tile_flood.proofs.Prelude.{IsIn, IsInWindow, IsTrue, SFits, arith, cases_lt, inl, inr, is_marked, of_z, refl, rules, slice_index, slice_index_or, subst, sym, to_z, to_z-of_z, void, w16, ◌∙◌, ◌≡◌, ◌≤ℤ◌, ◌⊎◌}
 use Rattle.tile_flood.proofs.Dependence.{one_window_point, window_point_of}
 use Rattle.tile_flood.proofs.flood.Flood.suspect_beside.Goals as goal
 use Rattle.tile_flood.proofs.flood.Flood.suspect_beside.Goals.{in-Some+in_ok-suspect_or_wait, in_default}

@@ -1,5 +1,4 @@
-use Rattle.std.proofs.Common.{ℕ, ◌*◌, ◌<◌, ◌≤ℤ◌, ◌≡◌, ◌⊎◌, IsTrue, slice_index, slice_index_or}
-use Rattle.tile_flood.proofs.Words.{void, WaitStill, is_marked, IsInWindow, IsIn}
+use Rattle.tile_flood.proofs.Prelude.{IsIn, IsInWindow, IsTrue, WaitStill, ℕ, is_marked, slice_index, slice_index_or, void, ◌*◌, ◌<◌, ◌≡◌, ◌≤ℤ◌, ◌⊎◌}
 use Rattle.tile_flood.proofs.flood.Flood.suspect_beside.Given as goal
 
 abbrev pub invariant-loop-d : goal.invariant-loop-d

@@ -1,5 +1,4 @@
-use Rattle.std.proofs.Common.{sym, subst}
-use Rattle.tile_flood.specs.Waiting.{Waits}
+use Rattle.tile_flood.proofs.Prelude.{Waits, subst, sym}
 use Rattle.tile_flood.proofs.flood.Flood.take_suspect.Goals as goal
 
 pub returns-in_default-pop-clause-none : goal.returns-in_default-pop-clause-none

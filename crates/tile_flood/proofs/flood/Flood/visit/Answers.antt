@@ -1,5 +1,4 @@
-use Rattle.std.proofs.Common.{◌≡◌, ◌≤ℤ◌, ◌<ℤ◌, not, refl, sym, ap, ◌∙◌, subst, rules, true≢false, slice_index_or, SFits, w16, to_z, of_z, to_z-of_z}
-use Rattle.tile_flood.proofs.Words.{void, Waits}
+use Rattle.tile_flood.proofs.Prelude.{SFits, Waits, ap, not, of_z, refl, rules, slice_index_or, subst, sym, to_z, to_z-of_z, true≢false, void, w16, ◌<ℤ◌, ◌∙◌, ◌≡◌, ◌≤ℤ◌}
 use Rattle.lattice.proofs.IntTests.{le_true, le_false}
 use Rattle.tile_flood.proofs.Spreading.{passed_max}
 use Rattle.tile_flood.proofs.Steps.{IsReached, mark_on, at_most_same}

@@ -1,6 +1,5 @@
-use Rattle.std.proofs.Common.{arith, rules, ◌≡◌, ◌++◌, pos, ◌-ℤ◌, length, map, sym, ap, ap₂, ◌∙◌, SFits, w16, to_z, of_z}
+use Rattle.tile_flood.proofs.Prelude.{HasBucket, IsExtended, Queue, SFits, ap, ap₂, arith, length, map, of_z, pos, rules, sym, to_z, w16, ◌++◌, ◌-ℤ◌, ◌∙◌, ◌≡◌}
 use Rattle.std.proofs.lemmas.Int.{ints, to_z-of_z}
-use Rattle.tile_flood.specs.Waiting.{Queue, HasBucket, IsExtended}
 use Rattle.tile_flood.proofs.Buckets.{from_level, extended_as}
 use Rattle.tile_flood.proofs.queue.Queue.extend.Goals as goal
 use Rattle.tile_flood.proofs.queue.Queue.extend.Goals.{After-level_below-self-inside}

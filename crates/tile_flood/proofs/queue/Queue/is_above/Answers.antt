@@ -1,6 +1,5 @@
-use Rattle.std.proofs.Common.{ℕ, ◌≡◌, ◌≤◌, ◌+ℤ◌, ◌<ℤ◌, pos, [], rules, ap, map, ◌∙◌, sym, subst, SFits, w16, to_z, of_z, to_z-of_z}
+use Rattle.tile_flood.proofs.Prelude.{SFits, Waits, ℕ, [], ap, bucket, map, of_z, pos, rules, subst, sym, to_z, to_z-of_z, w16, ◌+ℤ◌, ◌<ℤ◌, ◌∙◌, ◌≡◌, ◌≤◌}
 use Rattle.lattice.proofs.IntTests.{lt_true}
-use Rattle.tile_flood.specs.Waiting.{Waits, bucket}
 use Rattle.tile_flood.proofs.Buckets.{nobody, above_level}
 use Rattle.tile_flood.proofs.queue.Queue.is_above.Goals as goal
 

@@ -1,5 +1,4 @@
-use Rattle.std.proofs.Common.{◌≡◌, [], refl, map}
-use Rattle.tile_flood.specs.Waiting.{bucket}
+use Rattle.tile_flood.proofs.Prelude.{[], bucket, map, refl, ◌≡◌}
 use Rattle.tile_flood.proofs.Buckets.{none_in}
 use Rattle.tile_flood.proofs.queue.Queue.new.Goals as goal
 

@@ -1,5 +1,4 @@
-use Rattle.std.proofs.Common.{arith, rules, subst, SFits, w16, to_z, of_z, to_z-of_z}
-use Rattle.tile_flood.specs.Waiting.{IsJoined}
+use Rattle.tile_flood.proofs.Prelude.{IsJoined, SFits, arith, of_z, rules, subst, to_z, to_z-of_z, w16}
 use Rattle.tile_flood.proofs.Buckets.{joined_extended}
 use Rattle.tile_flood.proofs.queue.Queue.push.Goals as goal
 

@@ -1,8 +1,5 @@
-use Rattle.std.proofs.Common.{◌≡◌, ◌≢◌, ℕ, Some, inl, inr, false, sym, ap, ◌∙◌}
+use Rattle.watershed.proofs.Prelude.{Some, ℕ, ap, cases_Bool, false, inl, inr, is_at, nat_cmp, sym, ◌∙◌, ◌≡◌, ◌≢◌}
 use Rattle.std.specs.Option.{option_copied}
-use Rattle.std.specs.Ordering.{nat_cmp}
-use Rattle.std.specs.BTreeMap.{is_at}
-use Rattle.std.proofs.lemmas.Bool.{cases_Bool}
 use Rattle.watershed.proofs.Marked.{found_at, words_stay, indexed_more}
 use Rattle.watershed.proofs.marks.Marks.listed.Goals as goal
 

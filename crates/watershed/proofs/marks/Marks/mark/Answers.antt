@@ -1,7 +1,4 @@
-use Rattle.std.proofs.Common.{◌≡◌, ℕ, ◌+◌, ◌*◌, ◌/◌, ◌%◌, Some, get_or, inl, inr, ⊎_elim, refl, sym, ap, ◌∙◌, true≢false, arith}
-use Rattle.std.specs.Int.{bit_at}
-use Rattle.watershed.specs.declared.marks.Marks.{Marks}
-use Rattle.watershed.specs.Marks.{place_of, word_of, word_in}
+use Rattle.watershed.proofs.Prelude.{Marks, Some, ℕ, ap, arith, bit_at, get_or, inl, inr, place_of, refl, sym, true≢false, word_in, word_of, ⊎_elim, ◌%◌, ◌*◌, ◌+◌, ◌/◌, ◌∙◌, ◌≡◌}
 use Rattle.watershed.proofs.Marked.{marked_more, marked_alike, marked_by_rank, indexed_as}
 use Rattle.watershed.proofs.marks.Marks.mark.Goals as goal
 

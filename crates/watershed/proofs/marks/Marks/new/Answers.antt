@@ -1,9 +1,5 @@
-use Rattle.std.proofs.Common.{◌/◌, ◌%◌, length, sym, ap, ◌∙◌, arith}
+use Rattle.watershed.proofs.Prelude.{ap, arith, length, lookup, nat_cmp, none-some, sym, word_in, ◌%◌, ◌/◌, ◌∙◌}
 use Rattle.std.specs.BTreeMap.{get, is_at}
-use Rattle.std.specs.Map.{lookup}
-use Rattle.std.specs.Ordering.{nat_cmp}
-use Rattle.std.proofs.lemmas.Option.{none-some}
-use Rattle.watershed.specs.Marks.{word_in}
 use Rattle.watershed.proofs.Marked.{no_word, no_bit}
 use Rattle.watershed.proofs.marks.Marks.new.Goals as goal
 

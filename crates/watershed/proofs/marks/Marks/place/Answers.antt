@@ -1,5 +1,4 @@
-use Rattle.std.proofs.Common.{◌≡◌, ℕ, Some, refl, subst}
-use Rattle.watershed.specs.Marks.{place_of}
+use Rattle.watershed.proofs.Prelude.{Some, ℕ, place_of, refl, subst, ◌≡◌}
 use Rattle.watershed.proofs.Marked.{indexed_as}
 use Rattle.watershed.proofs.marks.Marks.place.Goals as goal
 

@@ -1,10 +1,7 @@
-use Rattle.std.proofs.Common.{ℕ, ◌<◌, ◌^◌, ◌⊎◌, List, length, rules, ap, subst, arith}
+use Rattle.watershed.proofs.Prelude.{AreRuns, Cover, IsInSegment, List, Point, ℕ, ap, arith, length, rules, subst, ◌<◌, ◌^◌, ◌⊎◌}
 use Rattle.std.specs.Cmp.{nat_cmp_total}
 use Rattle.std.specs.Map.Iter.{deref_pair}
 use Rattle.std.proofs.lemmas.Map.Iter.{btree_map_turn}
-use Rattle.lattice.specs.declared.point.Point.{Point}
-use Rattle.watershed.specs.Marks.{IsInSegment}
-use Rattle.watershed.specs.Runs.{AreRuns, Cover}
 use Rattle.watershed.proofs.Marked.{AreDrawn, IsMarkedBelow, own_runs, none_drawn, all_drawn, past, drawn_more}
 use Rattle.watershed.proofs.marks.Marks.runs.Goals as goal
 
