@@ -12,6 +12,7 @@ pub use Rattle.flow_d8.specs.Grid.{IsGrid}
 pub use Rattle.flow_d8.specs.LevelGrid.{IsLevelGrid, level_beside}
 pub use Rattle.flow_d8.specs.Levels.{ArePaddedTo, IsLevelIn, filled_of}
 pub use Rattle.flow_d8.specs.LevelsAround.{beside_of}
+pub use Rattle.flow_d8.specs.MarkWords.{mark_in, mark_of, marks_in}
 pub use Rattle.flow_d8.specs.Marks.{AreFound, AreOpen, AreWaiting, Begins, Grows, IsBack, IsFirstWave, IsIn, IsMember, IsSettled, Lists, Reaches, mark_at, no_run}
 pub use Rattle.flow_d8.specs.Padded.{ArePadded, IsPaddedTile, east_of_tile, north_of_tile, padded_point, south_of_tile, west_of_tile}
 pub use Rattle.flow_d8.specs.Places.{IsInner, IsShown, back_of, place_by}
@@ -22,7 +23,7 @@ pub use Rattle.flow_d8.specs.Rounds.{Advances, AreBegun, AreMarked, AreWavesOf, 
 pub use Rattle.flow_d8.specs.SteepestStep.{IsSteepestOf, LeadsDown, slope_in}
 pub use Rattle.flow_d8.specs.Tiles.{AreTiles, IsFirst, OnGround, Tiles, count_of, no_corner}
 pub use Rattle.flow_d8.specs.Waves.{IsAcross, IsStepped, LeadsToEnd}
-pub use Rattle.flow_d8.specs.declared.marks.Run.{Run}
+pub use Rattle.flow_d8.specs.declared.marks.SampleRun.{SampleRun}
 pub use Rattle.flow_d8.specs.declared.preparing.Sides.{Sides}
 pub use Rattle.flow_d8.specs.declared.slopes.Best.{Best}
 pub use Rattle.lattice.proofs.Along.{from_parts, parts}
@@ -40,6 +41,7 @@ pub use Rattle.std.proofs.lemmas.Bool.Decides.{nat_tests}
 pub use Rattle.std.proofs.lemmas.Grind.{rows}
 pub use Rattle.std.proofs.lemmas.Int.{ints, to_z-of_z}
 pub use Rattle.std.proofs.lemmas.List.{get_or-append-add, get_or-set_other, get_or-set_same, get_or_append_left, get_or_at, get_or_default, get_or_past, length-append, length-set, with_items_is}
+pub use Rattle.std.proofs.lemmas.List.FromFn.{get_or-map-range_with_len, length-map-range_with_len}
 pub use Rattle.std.proofs.lemmas.List.Sums.{sum_by-set}
 pub use Rattle.std.proofs.lemmas.Nat.{div-mul-add, mod-mul-add, mul-add-lt}
 pub use Rattle.std.proofs.lemmas.Option.{none-some, slice_get_read}

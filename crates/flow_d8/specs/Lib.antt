@@ -15,6 +15,7 @@ pub mod Waves
 pub mod Flows
 pub mod FlowBytes
 pub mod Component
+pub mod MarkWords
 pub mod Marks
 pub mod Rounds
 pub mod Tiles

@@ -1,7 +1,7 @@
 -- The marks of a search: 3 of places that aren't of the flat, 2 of those in no wave yet, 0 in a wave.
 use Rattle.std.specs.Prelude.{◌≡◌, ℕ, ◌+◌, ◌*◌, ◌%◌, ◌<◌, ◌≤◌, ◌⊎◌, ◌++◌, [], ◌∷◌, Bool, true, false, IsTrue, List, length, sum, slice_index_or}
 use Rattle.flow_d8.specs.Prelude.{Dir, order_of, Flow, Unknown, FlatTo}
-use Rattle.flow_d8.specs.declared.marks.Run.{Run}
+use Rattle.flow_d8.specs.declared.marks.SampleRun.{SampleRun}
 use Rattle.flow_d8.specs.Places.{back_of}
 use Rattle.flow_d8.specs.Filled.{is_deep}
 use Rattle.flow_d8.specs.Flows.{IsOfFlat, IsBeside}
@@ -26,26 +26,26 @@ abbrev pub IsBack : (ℕ → Dir → ℕ) → ℕ → ℕ → Type 0
 IsBack by count k = (d : Dir) → by k d < count → by (by k d) (back_of d) ≡ k
 
 -- the sample is one of the run's
-pub record IsIn (r : Run) (k : ℕ) : Type 0 where
+pub record IsIn (r : SampleRun) (k : ℕ) : Type 0 where
   pub from : r.first ≤ k
   pub to : k ≤ r.last
 
-abbrev pub no_run : Run
+abbrev pub no_run : SampleRun
 no_run = record { first = 0; last = 0 }
 
-abbrev pub Covers : List Run → ℕ → Type 0
+abbrev pub Covers : List SampleRun → ℕ → Type 0
 Covers runs k = (i : ℕ) × ((i < length runs) × IsIn (slice_index_or runs i no_run) k)
 
 -- samples of one tile's row, each deep in the tile, or one sample
-pub record IsRow (n : ℕ) (r : Run) : Type 0 where
+pub record IsRow (n : ℕ) (r : SampleRun) : Type 0 where
   pub some : r.first ≤ r.last
   pub deep : (r.last ≡ r.first) ⊎ ((k : ℕ) → IsIn r k → is_deep n (k % (n * n)) ≡ true)
 
-abbrev pub AreRows : ℕ → List Run → Type 0
+abbrev pub AreRows : ℕ → List SampleRun → Type 0
 AreRows n runs = (i : ℕ) → i < length runs → IsRow n (slice_index_or runs i no_run)
 
 -- the samples of the run get this mark
-pub record IsRunMarked (r : Run) (mark : ℕ) (marks new_marks : List ℕ) : Type 0 where
+pub record IsRunMarked (r : SampleRun) (mark : ℕ) (marks new_marks : List ℕ) : Type 0 where
   pub whole : length new_marks ≡ length marks
   pub here : (k : ℕ) → IsIn r k → mark_at new_marks k ≡ mark
   pub others : (k : ℕ) → (IsIn r k → ⊥) → mark_at new_marks k ≡ mark_at marks k
@@ -56,12 +56,12 @@ abbrev pub AreFlat : List Flow → List ℕ → Type 0
 AreFlat flows marks = (k : ℕ) → IsMember marks k → IsOfFlat (slice_index_or flows k Unknown)
 
 -- the runs have each member
-pub record AreListed (marks : List ℕ) (runs : List Run) : Type 0 where
+pub record AreListed (marks : List ℕ) (runs : List SampleRun) : Type 0 where
   pub listed : (k : ℕ) → IsMember marks k → Covers runs k
   pub small : (k : ℕ) → Covers runs k → k < length marks
 
 -- the members lie inside flats, each is the first sample of its point, and the runs have them
-pub record AreFound (tiles : Tiles) (flows : List Flow) (seed : ℕ) (marks : List ℕ) (runs : List Run) : Type 0 where
+pub record AreFound (tiles : Tiles) (flows : List Flow) (seed : ℕ) (marks : List ℕ) (runs : List SampleRun) : Type 0 where
   pub whole : length marks ≡ length flows
   pub two : (k : ℕ) → IsMember marks k → mark_at marks k ≡ 2
   pub flat : AreFlat flows marks
@@ -72,7 +72,7 @@ pub record AreFound (tiles : Tiles) (flows : List Flow) (seed : ℕ) (marks : Li
   pub rows : AreRows tiles.side runs
 
 -- the runs that wait are rows of members
-pub record AreWaiting (n : ℕ) (marks : List ℕ) (waiting : List Run) : Type 0 where
+pub record AreWaiting (n : ℕ) (marks : List ℕ) (waiting : List SampleRun) : Type 0 where
   pub members : (k : ℕ) → Covers waiting k → IsMember marks k
   pub rows : AreRows n waiting
 
@@ -82,13 +82,13 @@ pub record IsSettled (flows : List Flow) (marks : List ℕ) (k : ℕ) : Type 0 w
   pub member : IsOfFlat (slice_index_or flows k Unknown) → IsMember marks k
 
 -- a run is added to the members
-pub record IsRunAdded (r : Run) (marks : List ℕ) (runs waiting : List Run) (new_marks : List ℕ) (new_runs new_waiting : List Run) : Type 0 where
+pub record IsRunAdded (r : SampleRun) (marks : List ℕ) (runs waiting : List SampleRun) (new_marks : List ℕ) (new_runs new_waiting : List SampleRun) : Type 0 where
   pub marked : IsRunMarked r 2 marks new_marks
   pub listed : new_runs ≡ runs ++ r ∷ []
   pub awaited : new_waiting ≡ waiting ++ r ∷ []
 
 -- members are added, and their runs wait
-pub record Grows (tiles : Tiles) (flows : List Flow) (marks : List ℕ) (runs waiting : List Run) (new_marks : List ℕ) (new_runs new_waiting : List Run) : Type 0 where
+pub record Grows (tiles : Tiles) (flows : List Flow) (marks : List ℕ) (runs waiting : List SampleRun) (new_marks : List ℕ) (new_runs new_waiting : List SampleRun) : Type 0 where
   pub whole : length new_marks ≡ length marks
   pub kept : (k : ℕ) → IsMember marks k → IsMember new_marks k
   pub fresh : (k : ℕ) → IsMember new_marks k → IsMember marks k ⊎ Covers new_waiting k
@@ -99,11 +99,11 @@ pub record Grows (tiles : Tiles) (flows : List Flow) (marks : List ℕ) (runs wa
   pub fewer : sum new_marks + length new_waiting ≤ sum marks + length waiting
 
 -- around each member what lies inside a flat is a member, but for those that wait
-abbrev pub AreOpen : Tiles → List Flow → List ℕ → List Run → Type 0
+abbrev pub AreOpen : Tiles → List Flow → List ℕ → List SampleRun → Type 0
 AreOpen tiles flows marks waiting = (k : ℕ) → IsMember marks k → Covers waiting k ⊎ ((d : Dir) → IsSettled flows marks (by_of tiles k d))
 
 -- the members are listed, and around each what lies inside a flat is a member
-pub record AreCollected (tiles : Tiles) (flows : List Flow) (marks : List ℕ) (runs : List Run) (seed : ℕ) : Type 0 where
+pub record AreCollected (tiles : Tiles) (flows : List Flow) (marks : List ℕ) (runs : List SampleRun) (seed : ℕ) : Type 0 where
   pub begun : IsMember marks seed
   pub found : AreFound tiles flows seed marks runs
   pub closed : (k : ℕ) (d : Dir) → IsMember marks k → IsSettled flows marks (by_of tiles k d)

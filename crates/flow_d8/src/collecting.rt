@@ -12,7 +12,7 @@ ghost use Rattle.flow_d8.specs.Resolution.{IsMet, IsUnknownBeside};
 
 use crate::flow::{is_of_flat, is_unknown};
 use crate::flow_byte::FlowByte;
-use crate::marks::{FREE, MEMBER, Run, mark, mark_run};
+use crate::marks::{FREE, MEMBER, Marks, SampleRun, mark_run};
 use crate::tiles::{Stride, Tiles};
 use lattice::{DIRECTIONS, Dir, Point, neighbour};
 use std::alloc::AllocError;
@@ -21,9 +21,9 @@ use std::alloc::AllocError;
 pub(crate) fn begin(
     flows: &[FlowByte],
     tiles: &Tiles,
-    marks: &mut [u8],
-    runs: &mut Vec<Run>,
-    waiting: &mut Vec<Run>,
+    marks: &mut Marks,
+    runs: &mut Vec<SampleRun>,
+    waiting: &mut Vec<SampleRun>,
     seed: usize,
 ) -> Result<(), AllocError>
     requires tiles { length flows.now ≡ count_of tiles.now }
@@ -49,9 +49,9 @@ pub(crate) fn begin(
 pub(crate) fn collect(
     flows: &[FlowByte],
     tiles: &Tiles,
-    marks: &mut [u8],
-    runs: &mut Vec<Run>,
-    waiting: &mut Vec<Run>,
+    marks: &mut Marks,
+    runs: &mut Vec<SampleRun>,
+    waiting: &mut Vec<SampleRun>,
     seed: usize,
 ) -> Result<Option<Point>, AllocError>
     requires tiles { length flows.now ≡ count_of tiles.now }
@@ -77,10 +77,10 @@ pub(crate) fn collect(
 fn visit_run(
     flows: &[FlowByte],
     tiles: &Tiles,
-    marks: &mut [u8],
-    runs: &mut Vec<Run>,
-    waiting: &mut Vec<Run>,
-    run: Run,
+    marks: &mut Marks,
+    runs: &mut Vec<SampleRun>,
+    waiting: &mut Vec<SampleRun>,
+    run: SampleRun,
 ) -> Result<Option<Point>, AllocError>
     requires tiles { length flows.now ≡ count_of tiles.now }
     requires whole { length marks.old ≡ length flows.now }
@@ -110,9 +110,9 @@ fn visit_run(
 fn visit_around(
     flows: &[FlowByte],
     tiles: &Tiles,
-    marks: &mut [u8],
-    runs: &mut Vec<Run>,
-    waiting: &mut Vec<Run>,
+    marks: &mut Marks,
+    runs: &mut Vec<SampleRun>,
+    waiting: &mut Vec<SampleRun>,
     from: usize,
     deep: bool,
     is_next: bool,
@@ -153,9 +153,9 @@ fn visit_around(
 fn visit(
     flows: &[FlowByte],
     tiles: &Tiles,
-    marks: &mut [u8],
-    runs: &mut Vec<Run>,
-    waiting: &mut Vec<Run>,
+    marks: &mut Marks,
+    runs: &mut Vec<SampleRun>,
+    waiting: &mut Vec<SampleRun>,
     from: usize,
     direction: Dir,
     deep: bool,
@@ -171,7 +171,7 @@ fn visit(
     ensures unknown { IfOk result (λ known. IsFalse known → slice_index_or flows.now (by_of tiles.now from direction) Unknown ≡ Unknown) }
 {
     let to = tiles.step(from, direction, Stride::new(tiles.side(), direction), deep);
-    if mark(marks, to) != FREE {
+    if marks.mark(to) != FREE {
         return Ok(true);
     }
     if to >= flows.len() || is_unknown(flows, to) {
@@ -187,9 +187,9 @@ fn visit(
 fn add(
     flows: &[FlowByte],
     tiles: &Tiles,
-    marks: &mut [u8],
-    runs: &mut Vec<Run>,
-    waiting: &mut Vec<Run>,
+    marks: &mut Marks,
+    runs: &mut Vec<SampleRun>,
+    waiting: &mut Vec<SampleRun>,
     to: usize,
 ) -> Result<(), AllocError>
     requires tiles { length flows.now ≡ count_of tiles.now }
@@ -210,7 +210,7 @@ fn add(
 }
 
 /// The run of free samples inside flats around this one, where it lies deep in its tile of those that do; else it alone.
-pub(crate) fn free_row(flows: &[FlowByte], tiles: &Tiles, marks: &[u8], to: usize) -> Run
+pub(crate) fn free_row(flows: &[FlowByte], tiles: &Tiles, marks: &Marks, to: usize) -> SampleRun
     requires tiles { length flows.now ≡ count_of tiles.now }
     requires flat { IsOfFlat (slice_index_or flows.now to Unknown) }
     requires free { mark_at marks.now to ≡ 3 }
@@ -225,25 +225,25 @@ pub(crate) fn free_row(flows: &[FlowByte], tiles: &Tiles, marks: &[u8], to: usiz
     };
     let first = first_free(flows, marks, west, to);
     let last = last_free(flows, marks, to, east);
-    Run {
+    SampleRun {
         first: tiles.short(first),
         last: tiles.short(last),
     }
 }
 
 /// The run of this sample alone.
-pub(crate) fn one_run(tiles: &Tiles, k: usize) -> Run
+pub(crate) fn one_run(tiles: &Tiles, k: usize) -> SampleRun
     requires { k < count_of tiles.now }
     ensures { result ≡ record { first = k; last = k } }
 {
-    Run {
+    SampleRun {
         first: tiles.short(k),
         last: tiles.short(k),
     }
 }
 
 // The first of the samples from this one to that one from which on all are free and lie inside a flat.
-fn first_free(flows: &[FlowByte], marks: &[u8], from: usize, to: usize) -> usize
+fn first_free(flows: &[FlowByte], marks: &Marks, from: usize, to: usize) -> usize
     requires { from ≤ to }
     ensures from { from ≤ result }
     ensures to { result ≤ to }
@@ -259,7 +259,7 @@ fn first_free(flows: &[FlowByte], marks: &[u8], from: usize, to: usize) -> usize
 }
 
 // The last of the samples from this one to that one up to which all behind it are free and lie inside a flat.
-fn last_free(flows: &[FlowByte], marks: &[u8], from: usize, to: usize) -> usize
+fn last_free(flows: &[FlowByte], marks: &Marks, from: usize, to: usize) -> usize
     requires { from ≤ to }
     ensures from { from ≤ result }
     ensures to { result ≤ to }
@@ -276,20 +276,20 @@ fn last_free(flows: &[FlowByte], marks: &[u8], from: usize, to: usize) -> usize
 
 /// Whether the sample isn't marked, and lies inside a flat.
 #[inline(always)]
-pub(crate) fn is_free(flows: &[FlowByte], marks: &[u8], k: usize) -> bool
+pub(crate) fn is_free(flows: &[FlowByte], marks: &Marks, k: usize) -> bool
     ensures free { IsTrue result → mark_at marks.now k ≡ 3 }
     ensures flat { IsTrue result → IsOfFlat (slice_index_or flows.now k Unknown) }
     ensures small { IsTrue result → k < length flows.now }
 {
-    k < flows.len() && mark(marks, k) == FREE && is_of_flat(flows, k)
+    k < flows.len() && marks.mark(k) == FREE && is_of_flat(flows, k)
 }
 
 // Adds the run to the members, and to those that wait.
 fn add_run(
-    marks: &mut [u8],
-    runs: &mut Vec<Run>,
-    waiting: &mut Vec<Run>,
-    run: Run,
+    marks: &mut Marks,
+    runs: &mut Vec<SampleRun>,
+    waiting: &mut Vec<SampleRun>,
+    run: SampleRun,
 ) -> Result<(), AllocError>
     requires { run.last < length marks.old }
     ensures whole { length marks.new ≡ length marks.old }

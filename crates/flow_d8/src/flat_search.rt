@@ -7,7 +7,7 @@ ghost use Rattle.flow_d8.specs.Resolution.{IsMissing};
 
 use crate::collecting::{free_row, is_free, one_run, point_beside};
 use crate::flow_byte::FlowByte;
-use crate::marks::{FREE, MEMBER, Run};
+use crate::marks::{MEMBER, Marks, SampleRun};
 use crate::tiles::Tiles;
 use lattice::{DIRECTIONS, Point};
 use std::alloc::{AllocError, Global};
@@ -16,7 +16,7 @@ use std::alloc::{AllocError, Global};
 #[derive(Drop)]
 pub struct FlatSearch {
     // Which samples were gone over.
-    marks: Vec<u8>,
+    marks: Marks,
     // Samples from which it goes on.
     waiting: Vec<u32>,
 }
@@ -24,11 +24,11 @@ pub struct FlatSearch {
 impl FlatSearch {
     /// It goes on from no sample. Takes no memory.
     pub fn new(alloc: Global) -> FlatSearch
-        ensures gone_over { result.marks.items ≡ [] }
+        ensures gone_over { result.marks ≡ [] }
         ensures waiting { result.waiting.items ≡ [] }
     {
         FlatSearch {
-            marks: Vec::new(alloc),
+            marks: Marks::new(alloc),
             waiting: Vec::new(alloc),
         }
     }
@@ -45,7 +45,7 @@ pub(crate) fn search_flat(
     requires tiles { length flows.now ≡ count_of tiles.now }
     ensures met { IfOk result (λ met. IfSome met (IsMissing tiles.now flows.now)) }
 {
-    search.marks.resize(flows.len(), FREE)?;
+    search.marks.resize(flows.len())?;
     note(flows, tiles, search, tiles.number(from))?;
     for _ in 0..u64::MAX {
         let Some(k) = search.waiting.pop() else {
@@ -98,9 +98,9 @@ fn search_row(
     Ok(None)
 }
 
-fn go_over(marks: &mut [u8], run: Run) {
-    for k in run.first as usize..marks.len().min(run.last as usize + 1) {
-        marks[k] = MEMBER;
+fn go_over(marks: &mut Marks, run: SampleRun) {
+    for k in run.first as usize..run.last as usize + 1 {
+        marks.set(k, MEMBER);
     }
 }
 

@@ -19,7 +19,7 @@ use crate::donors::donors_around;
 use crate::flat_search::{FlatSearch, search_flat};
 use crate::flow::{Flow, flow_at};
 use crate::flow_byte::FlowByte;
-use crate::marks::Marks;
+use crate::marks::FreeMarks;
 use crate::resolving::{Resolution, resolve};
 use crate::tiles::Tiles;
 use lattice::{Corner, Dir, Point, Side};
@@ -31,7 +31,7 @@ pub struct FlowGrid {
     tiles: Tiles,
     // Slot after slot.
     flows: Vec<FlowByte>,
-    marks: Marks,
+    marks: FreeMarks,
     ghost whole: { length flows.items ≡ count_of tiles },
     ghost known: { AreKnown flows.items },
 }
@@ -45,7 +45,7 @@ impl FlowGrid {
         FlowGrid {
             tiles: Tiles::none(alloc, side),
             flows: Vec::new(alloc),
-            marks: Marks::new(alloc),
+            marks: FreeMarks::new(alloc),
         }
     }
 
@@ -260,7 +260,7 @@ impl FlowGrid {
 fn resolve_known(
     flows: &mut [FlowByte],
     tiles: &Tiles,
-    marks: &mut Marks,
+    marks: &mut FreeMarks,
     point: Point,
 ) -> Result<Option<Point>, AllocError>
     requires whole { length flows.old ≡ count_of tiles.now }

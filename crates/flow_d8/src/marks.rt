@@ -1,8 +1,11 @@
 //! Marks of samples: which of them a search has found.
-ghost use Rattle.std.specs.Prelude.{◌≡◌, ◌<◌, ℕ, OnOk, OnErr, length, slice_index_or};
+ghost use Rattle.std.specs.Prelude.{◌≡◌, ◌≢◌, ◌<◌, ◌≤◌, [], ℕ, OnOk, length, slice_index_or, slice_set};
+ghost use Rattle.std.specs.Int.{bit_at};
+ghost use Rattle.flow_d8.specs.MarkWords.{mark_of};
 ghost use Rattle.flow_d8.specs.Marks.{mark_at, AreFree, IsIn, IsRunMarked, AreListed};
 
 use std::alloc::{AllocError, Global};
+use std::marker::Model;
 
 pub(crate) const FREE: u8 = 3;
 
@@ -10,59 +13,143 @@ pub(crate) const MEMBER: u8 = 2;
 
 pub(crate) const REACHED: u8 = 0;
 
-/// Room for the marks of a search. Between two searches no mark is set.
+/// A mark of two bits for each of so many samples.
 #[derive(Drop)]
 pub(crate) struct Marks {
-    pub(crate) marks: Vec<u8>,
-    ghost free: { AreFree marks.items },
+    count: usize,
+    // Each of 32 samples.
+    words: Vec<u64>,
+}
+
+impl Model for Marks {
+    ghost use Rattle.std.specs.Prelude.{◌≡◌, ℕ, ◌+◌, ◌/◌, List, length};
+    ghost use Rattle.flow_d8.specs.MarkWords.{marks_in};
+
+    ghost Value = { List ℕ };
+
+    ghost view = { λ m. marks_in m.words.items m.count };
+
+    ghost invariant = { λ m. length m.words.items ≡ (m.count + 31) / 32 };
 }
 
 impl Marks {
-    /// Takes no memory.
-    pub(crate) fn new(alloc: Global) -> Marks {
+    /// Of no sample. Takes no memory.
+    pub(crate) fn new(alloc: Global) -> Marks
+        ensures { result ≡ [] }
+    {
         Marks {
-            marks: Vec::new(alloc),
+            count: 0,
+            words: Vec::new(alloc),
+        }
+    }
+
+    /// So many marks from then on. Those that come are free.
+    pub(crate) fn resize(&mut self, count: usize) -> Result<(), AllocError>
+        ensures free { AreFree self.old → AreFree self.new }
+        ensures kept { (k : ℕ) → k < count → mark_at self.new k ≡ mark_at self.old k }
+        ensures resized { OnOk result (length self.new ≡ count) }
+    {
+        let old = self.count;
+        self.words.resize(count.div_ceil(32), u64::MAX)?;
+        self.count = count;
+        // Where there were more samples once, the last word may have their marks yet.
+        for i in 0..32 {
+            self.set(old.saturating_add(i), FREE);
+        }
+        Ok(())
+    }
+
+    /// The mark of the sample; FREE past all samples.
+    #[inline(always)]
+    pub(crate) fn mark(&self, k: usize) -> u8
+        ensures { result ≡ mark_at self.now k }
+    {
+        if k < self.count {
+            ((self.words[k / 32] >> (2 * (k % 32))) % 4) as u8
+        } else {
+            FREE
+        }
+    }
+
+    /// Sets the mark of the sample, if there is such a sample.
+    #[inline(always)]
+    pub(crate) fn set(&mut self, k: usize, mark: u8)
+        requires { mark < 4 }
+        ensures { self.new ≡ slice_set self.old k mark }
+    {
+        if k < self.count {
+            self.words[k / 32] = with_mark(self.words[k / 32], k % 32, mark);
+        }
+    }
+
+    /// Where its memory is from.
+    pub(crate) fn allocator(&self) -> Global {
+        *self.words.allocator()
+    }
+}
+
+// The word with this mark at the place.
+#[inline(always)]
+fn with_mark(word: u64, place: usize, mark: u8) -> u64
+    requires place { place < 32 }
+    requires mark { mark < 4 }
+    ensures here { mark_of result place ≡ mark }
+    ensures others { (i : ℕ) → i < 32 → i ≢ place → mark_of result i ≡ mark_of word i }
+{
+    let low = with_bit(word, 2 * place, mark % 2);
+    with_bit(low, 2 * place + 1, mark / 2)
+}
+
+#[inline(always)]
+fn with_bit(word: u64, bit: usize, value: u8) -> u64
+    requires bit { bit < 64 }
+    requires value { value < 2 }
+    ensures here { bit_at result bit ≡ value }
+    ensures others { (i : ℕ) → i < 64 → i ≢ bit → bit_at result i ≡ bit_at word i }
+{
+    if value == 1 {
+        word | (1 << bit)
+    } else {
+        word & !(1 << bit)
+    }
+}
+
+/// Room for the marks of a search. Between two searches no mark is set.
+#[derive(Drop)]
+pub(crate) struct FreeMarks {
+    pub(crate) marks: Marks,
+    ghost free: { AreFree marks },
+}
+
+impl FreeMarks {
+    /// Takes no memory.
+    pub(crate) fn new(alloc: Global) -> FreeMarks {
+        FreeMarks {
+            marks: Marks::new(alloc),
         }
     }
 }
 
-/// So many marks.
-pub(crate) fn resize(marks: &mut Vec<u8>, count: usize) -> Result<(), AllocError>
-    requires { AreFree marks.old.items }
-    ensures free { AreFree marks.new.items }
-    ensures resized { OnOk result (length marks.new.items ≡ count) }
-    ensures failed { OnErr result (marks.new.items ≡ marks.old.items) }
-{
-    marks.resize(count, FREE)
-}
-
-/// The mark of the sample; FREE past all samples.
-#[inline(always)]
-pub(crate) fn mark(marks: &[u8], k: usize) -> u8
-    ensures { result ≡ mark_at marks.now k }
-{
-    if k < marks.len() { marks[k] } else { FREE }
-}
-
 /// Samples one after another in a row of a tile, all deep in it (two samples or more from its edges); or a single one.
 #[derive(Clone, Copy)]
-pub(crate) struct Run {
+pub(crate) struct SampleRun {
     pub(crate) first: u32,
     pub(crate) last: u32,
 }
 
 /// Marks the samples of the run.
-pub(crate) fn mark_run(marks: &mut [u8], run: Run, mark: u8)
-    requires { run.last < length marks.old }
+pub(crate) fn mark_run(marks: &mut Marks, run: SampleRun, mark: u8)
+    requires last { run.last < length marks.old }
+    requires mark { mark < 4 }
     ensures { IsRunMarked run mark marks.old marks.new }
 {
     for k in run.first as usize..run.last as usize + 1 {
-        marks[k] = mark;
+        marks.set(k, mark);
     }
 }
 
 /// Takes the marks of the runs away.
-pub(crate) fn clear(marks: &mut [u8], runs: &[Run])
+pub(crate) fn clear(marks: &mut Marks, runs: &[SampleRun])
     requires { AreListed marks.old runs.now }
     ensures free { AreFree marks.new }
     ensures whole { length marks.new ≡ length marks.old }
@@ -72,7 +159,7 @@ pub(crate) fn clear(marks: &mut [u8], runs: &[Run])
     }
 }
 
-fn clear_run(marks: &mut [u8], run: Run)
+fn clear_run(marks: &mut Marks, run: SampleRun)
     requires { (k : ℕ) → IsIn run k → k < length marks.old }
     ensures whole { length marks.new ≡ length marks.old }
     ensures here { (k : ℕ) → IsIn run k → mark_at marks.new k ≡ 3 }

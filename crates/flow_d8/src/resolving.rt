@@ -12,7 +12,7 @@ ghost use Rattle.flow_d8.specs.Rounds.{AreMarked, AreBegun, IsRound, Advances, I
 use crate::collecting::{begin, collect};
 use crate::flow::is_of_flat;
 use crate::flow_byte::FlowByte;
-use crate::marks::{Marks, Run, clear, resize};
+use crate::marks::{FreeMarks, Marks, SampleRun, clear};
 use crate::spreading::{are_deep, first_wave, reach};
 use crate::telling::tell;
 use crate::tiles::Tiles;
@@ -36,7 +36,7 @@ ghost use Rattle.flow_d8.specs.Resolution.{AreResolved, IsOutcome, IsMetOnGround
 pub(crate) fn resolve(
     flows: &mut [FlowByte],
     tiles: &Tiles,
-    marks: &mut Marks,
+    marks: &mut FreeMarks,
     point: Point,
 ) -> Result<Resolution, AllocError>
     requires { length flows.old ≡ count_of tiles.now }
@@ -45,12 +45,12 @@ pub(crate) fn resolve(
     ensures outcome { IfOk result (IsOutcome tiles.now (number_of tiles.now.side tiles.now.corners point) flows.old flows.new) }
     ensures ground { IfOk result (IsMetOnGround tiles.now flows.old) }
 {
-    let alloc = *marks.marks.allocator();
-    resize(&mut marks.marks, flows.len())?;
+    let alloc = marks.marks.allocator();
+    marks.marks.resize(flows.len())?;
     let outcome = resolve_marking(alloc, flows, tiles, &mut marks.marks, point);
     // After a failure marks may be left set, so room is made anew.
     if outcome.is_err() {
-        marks.marks = Vec::new(alloc);
+        marks.marks = Marks::new(alloc);
     }
     outcome
 }
@@ -60,7 +60,7 @@ fn resolve_marking(
     alloc: Global,
     flows: &mut [FlowByte],
     tiles: &Tiles,
-    marks: &mut [u8],
+    marks: &mut Marks,
     point: Point,
 ) -> Result<Resolution, AllocError>
     requires tiles { length flows.old ≡ count_of tiles.now }
@@ -86,8 +86,8 @@ fn resolve_listing(
     alloc: Global,
     flows: &mut [FlowByte],
     tiles: &Tiles,
-    marks: &mut [u8],
-    runs: &mut Vec<Run>,
+    marks: &mut Marks,
+    runs: &mut Vec<SampleRun>,
     seed: usize,
 ) -> Result<Resolution, AllocError>
     requires tiles { length flows.old ≡ count_of tiles.now }
@@ -115,9 +115,9 @@ fn resolve_members(
     alloc: Global,
     flows: &mut [FlowByte],
     tiles: &Tiles,
-    marks: &mut [u8],
+    marks: &mut Marks,
     seed: usize,
-    runs: &[Run],
+    runs: &[SampleRun],
 ) -> Result<(), AllocError>
     requires tiles { length flows.old ≡ count_of tiles.now }
     requires collected { AreCollected tiles.now flows.old marks.old runs.now seed }
@@ -140,13 +140,14 @@ fn spread(
     alloc: Global,
     flows: &mut [FlowByte],
     tiles: &Tiles,
-    marks: &mut [u8],
+    marks: &mut Marks,
     first: Vec<u32>,
 ) -> Result<(), AllocError>
     requires tiles { length flows.old ≡ count_of tiles.now }
     requires members { AreMarked flows.old (by_of tiles.now) marks.old }
     requires begun { AreBegun flows.old marks.old }
     requires round { IsRound (by_of tiles.now) marks.old marks.old first.items }
+    ensures whole { length marks.new ≡ length marks.old }
     ensures outside { (k : ℕ) → mark_at marks.old k ≡ 3 → mark_at marks.new k ≡ 3 }
     ensures tells { Tells flows.old flows.new }
     ensures kept { (k : ℕ) → mark_at marks.old k ≡ 3 → slice_index_or flows.new k Unknown ≡ slice_index_or flows.old k Unknown }
@@ -168,7 +169,7 @@ fn advance(
     alloc: Global,
     tiles: &Tiles,
     wave: &[u32],
-    marks: &mut [u8],
+    marks: &mut Marks,
     next: &mut Vec<u32>,
     flows: &mut [FlowByte],
 ) -> Result<(), AllocError>

@@ -8,7 +8,7 @@ ghost use Rattle.flow_d8.specs.Marks.{mark_at, IsBack, IsIn, Covers, IsMember, I
 
 use crate::flow::{Flow, back, is_beside};
 use crate::flow_byte::FlowByte;
-use crate::marks::{MEMBER, REACHED, Run, mark};
+use crate::marks::{MEMBER, Marks, REACHED, SampleRun};
 use crate::tiles::{Stride, Tiles};
 use lattice::Dir;
 use std::alloc::{AllocError, Global};
@@ -17,13 +17,14 @@ use std::alloc::{AllocError, Global};
 pub(crate) fn first_wave(
     alloc: Global,
     flows: &[FlowByte],
-    marks: &mut [u8],
-    runs: &[Run],
+    marks: &mut Marks,
+    runs: &[SampleRun],
 ) -> Result<Vec<u32>, AllocError>
     requires whole { length marks.old ≡ length flows.now }
     requires members { (k : ℕ) → Covers runs.now k → IsMember marks.old k }
     requires listed { (k : ℕ) → IsMember marks.old k → Covers runs.now k }
     requires two { (k : ℕ) → IsMember marks.old k → mark_at marks.old k ≡ 2 }
+    ensures whole { length marks.new ≡ length marks.old }
     ensures first { IfOk result (λ wave. IsFirstWave flows.now marks.old marks.new wave.items) }
     ensures outside { (k : ℕ) → mark_at marks.old k ≡ 3 → mark_at marks.new k ≡ 3 }
 {
@@ -36,9 +37,9 @@ pub(crate) fn first_wave(
 
 fn begin_run(
     flows: &[FlowByte],
-    marks: &mut [u8],
+    marks: &mut Marks,
     wave: &mut Vec<u32>,
-    run: Run,
+    run: SampleRun,
 ) -> Result<(), AllocError>
     requires whole { length marks.old ≡ length flows.now }
     requires members { (k : ℕ) → IsIn run k → IsMember marks.old k }
@@ -52,9 +53,10 @@ fn begin_run(
 }
 
 #[inline(always)]
+#[tactic(auto, using(crate::proofs::Waves::Starting::member_small))]
 fn begin_at(
     flows: &[FlowByte],
-    marks: &mut [u8],
+    marks: &mut Marks,
     wave: &mut Vec<u32>,
     k: usize,
 ) -> Result<(), AllocError>
@@ -68,7 +70,7 @@ fn begin_at(
         return Ok(());
     }
     wave.push(k as u32)?;
-    marks[k] = REACHED;
+    marks.set(k, REACHED);
     Ok(())
 }
 
@@ -90,7 +92,7 @@ pub(crate) fn reach(
     wave: &[u32],
     deep: &[bool],
     direction: Dir,
-    marks: &mut [u8],
+    marks: &mut Marks,
     next: &mut Vec<u32>,
     flows: &mut [FlowByte],
 ) -> Result<(), AllocError>
@@ -106,11 +108,11 @@ pub(crate) fn reach(
     let stride = Stride::new(tiles.side(), to_wave);
     for i in 0..wave.len() {
         let to = tiles.step(wave[i] as usize, to_wave, stride, deep[i]);
-        if mark(marks, to) != MEMBER {
+        if marks.mark(to) != MEMBER {
             continue;
         }
         next.push(tiles.short(to))?;
-        marks[to] = REACHED;
+        marks.set(to, REACHED);
         flows[to] = FlowByte::of(Flow::FlatTo(direction));
     }
     Ok(())

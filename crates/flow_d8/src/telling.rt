@@ -10,12 +10,12 @@ ghost use Rattle.flow_d8.specs.Tiles.{count_of, place_of, IsInTile, IsSampleOf};
 
 use crate::flow::{Flow, flow_at, is_of_flat, is_told};
 use crate::flow_byte::FlowByte;
-use crate::marks::Run;
+use crate::marks::SampleRun;
 use crate::tiles::Tiles;
 use lattice::Point;
 
 /// Tells the flows of the members at all samples of their points.
-pub(crate) fn tell(tiles: &Tiles, runs: &[Run], flows: &mut [FlowByte])
+pub(crate) fn tell(tiles: &Tiles, runs: &[SampleRun], flows: &mut [FlowByte])
     requires tiles { length flows.old ≡ count_of tiles.now }
     requires rows { AreRows tiles.now.side runs.now }
     requires small { (k : ℕ) → Covers runs.now k → k < length flows.old }
@@ -30,7 +30,7 @@ pub(crate) fn tell(tiles: &Tiles, runs: &[Run], flows: &mut [FlowByte])
 }
 
 // Tells the flow of the run's members at all samples of their points. A run that isn't deep is one sample.
-fn tell_run(tiles: &Tiles, run: Run, flows: &mut [FlowByte])
+fn tell_run(tiles: &Tiles, run: SampleRun, flows: &mut [FlowByte])
     requires tiles { length flows.old ≡ count_of tiles.now }
     requires row { IsRow tiles.now.side run }
     requires small { (k : ℕ) → IsIn run k → k < length flows.old }

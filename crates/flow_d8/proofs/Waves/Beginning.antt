@@ -1,5 +1,5 @@
 -- From a flat that is collected to its first wave.
-use Rattle.flow_d8.proofs.Prelude.{AreBegun, AreMarked, Connects, Dir, Flow, List, Run, Unknown, ℕ, arith, inl, inr, length, slice_index_or, subst, suc, sym, zero, ⊎_elim, ◌<◌, ◌∙◌, ◌≡◌, ◌⊎◌}
+use Rattle.flow_d8.proofs.Prelude.{AreBegun, AreMarked, Connects, Dir, Flow, List, SampleRun, Unknown, ℕ, arith, inl, inr, length, slice_index_or, subst, suc, sym, zero, ⊎_elim, ◌<◌, ◌∙◌, ◌≡◌, ◌⊎◌}
 use Rattle.flow_d8.specs.Marks.{mark_at, IsMember, IsSettled, AreCollected, IsFirstWave, IsBack}
 use Rattle.flow_d8.specs.Filled.{number_of}
 use Rattle.flow_d8.specs.Tiles.{Tiles, AreTiles, count_of, place_of, by_of}
@@ -7,7 +7,7 @@ use Rattle.flow_d8.proofs.Waves.Marking.{in_range}
 use Rattle.flow_d8.proofs.Samples.TilePlaces.{back}
 use Rattle.flow_d8.proofs.Sayings.Said.{decide_beside, is_known}
 
-module _ (t : Tiles) (valid : AreTiles t) (flows : List Flow) (size : length flows ≡ count_of t) (marks : List ℕ) (runs : List Run) (seed : ℕ) (new wave : List ℕ) (is : AreCollected t flows marks runs seed) (first : IsFirstWave flows marks new wave) where
+module _ (t : Tiles) (valid : AreTiles t) (flows : List Flow) (size : length flows ≡ count_of t) (marks : List ℕ) (runs : List SampleRun) (seed : ℕ) (new wave : List ℕ) (is : AreCollected t flows marks runs seed) (first : IsFirstWave flows marks new wave) where
   pub was_member : (k : ℕ) → IsMember new k → IsMember marks k
   was_member k member out = member (first.outside k out)
 

@@ -1,19 +1,19 @@
 -- Members that are added to a flat, run by run.
-use Rattle.flow_d8.proofs.Prelude.{Connects, Dir, East, Flow, IsOfFlat, List, North, NorthEast, NorthWest, Run, South, SouthEast, SouthWest, Unknown, West, ℕ, [], ap, arith, cases_eq, cases_lt, get_or, get_or-append-add, get_or_append_left, get_or_past, inl, inr, is_deep, length, length-append, order_of, place_by, refl, slice_index_or, subst, suc, sym, true, zero, ⊎_elim, ◌%◌, ◌*◌, ◌++◌, ◌+◌, ◌-◌, ◌<◌, ◌∙◌, ◌∷◌, ◌≡◌, ◌≤◌, ◌⊎◌}
+use Rattle.flow_d8.proofs.Prelude.{Connects, Dir, East, Flow, IsOfFlat, List, North, NorthEast, NorthWest, SampleRun, South, SouthEast, SouthWest, Unknown, West, ℕ, [], ap, arith, cases_eq, cases_lt, get_or, get_or-append-add, get_or_append_left, get_or_past, inl, inr, is_deep, length, length-append, order_of, place_by, refl, slice_index_or, subst, suc, sym, true, zero, ⊎_elim, ◌%◌, ◌*◌, ◌++◌, ◌+◌, ◌-◌, ◌<◌, ◌∙◌, ◌∷◌, ◌≡◌, ◌≤◌, ◌⊎◌}
 use Rattle.flow_d8.specs.Marks.{mark_at, AreFree, IsMember, IsIn, no_run, Covers, IsRow, AreRows, AreListed, AreFound, AreWaiting, AreOpen, IsRunAdded, IsSettled, Grows}
 use Rattle.flow_d8.specs.Tiles.{Tiles, AreTiles, count_of, by_of, IsFirst}
 use Rattle.flow_d8.proofs.Samples.DeepSteps.{deep_number, deep_by, deep_inner_at}
 use Rattle.flow_d8.proofs.Sayings.Said.{is_known}
 use Rattle.flow_d8.proofs.Waves.Starting.{member_small}
 
-pub in_or_not : (r : Run) (k : ℕ) → IsIn r k ⊎ (IsIn r k → ⊥)
+pub in_or_not : (r : SampleRun) (k : ℕ) → IsIn r k ⊎ (IsIn r k → ⊥)
 in_or_not r k = ⊎_elim
     (λ before. inr (λ is. absurd (omega (arith, before, is.from))))
     (λ from. ⊎_elim (λ past. inr (λ is. absurd (omega (arith, past, is.to)))) (λ to. inl (record { from = from; to = to })) (cases_lt r.last k))
     (cases_lt k r.first)
 
 -- a list with one more run
-module _ (old new : List Run) (r : Run) (is : new ≡ old ++ r ∷ []) where
+module _ (old new : List SampleRun) (r : SampleRun) (is : new ≡ old ++ r ∷ []) where
   pub one_more : length new ≡ length old + 1
   one_more = ap length is ∙ length-append old (r ∷ [])
 
@@ -27,15 +27,15 @@ module _ (old new : List Run) (r : Run) (is : new ≡ old ++ r ∷ []) where
       no_more n = omega arith
 
   pub covers_still : (k : ℕ) → Covers old k → Covers new k
-  covers_still k at = (at.0, (omega (arith, at.1.0, one_more), subst (λ (q : Run). IsIn q k) (sym (before at.0 at.1.0)) at.1.1))
+  covers_still k at = (at.0, (omega (arith, at.1.0, one_more), subst (λ (q : SampleRun). IsIn q k) (sym (before at.0 at.1.0)) at.1.1))
 
   pub covers_last : (k : ℕ) → IsIn r k → Covers new k
-  covers_last k in_it = (length old, (omega (arith, one_more), subst (λ (q : Run). IsIn q k) (sym last) in_it))
+  covers_last k in_it = (length old, (omega (arith, one_more), subst (λ (q : SampleRun). IsIn q k) (sym last) in_it))
 
   pub covers_either : (k : ℕ) → Covers new k → Covers old k ⊎ IsIn r k
   covers_either k at = elim (cases_eq at.0 (length old)) [
-    | inl same ↦ inr (subst (λ (q : Run). IsIn q k) (ap (λ i. get_or new i no_run) same ∙ last) at.1.1)
-    | inr other ↦ let small : at.0 < length old = omega (arith, at.1.0, one_more) in inl (at.0, (small, subst (λ (q : Run). IsIn q k) (before at.0 small) at.1.1))
+    | inl same ↦ inr (subst (λ (q : SampleRun). IsIn q k) (ap (λ i. get_or new i no_run) same ∙ last) at.1.1)
+    | inr other ↦ let small : at.0 < length old = omega (arith, at.1.0, one_more) in inl (at.0, (small, subst (λ (q : SampleRun). IsIn q k) (before at.0 small) at.1.1))
   ]
 
   pub rows_still : (n : ℕ) → AreRows n old → IsRow n r → AreRows n new
@@ -51,7 +51,7 @@ module _ (old new : List Run) (r : Run) (is : new ≡ old ++ r ∷ []) where
   row_last n are = subst (IsRow n) last (are (length old) (omega (arith, one_more)))
 
 -- the runs have the members still
-pub listed_within : (marks new : List ℕ) (runs : List Run) → AreListed marks runs → length new ≡ length marks → ((k : ℕ) → mark_at marks k ≡ 3 → mark_at new k ≡ 3) → AreListed new runs
+pub listed_within : (marks new : List ℕ) (runs : List SampleRun) → AreListed marks runs → length new ≡ length marks → ((k : ℕ) → mark_at marks k ≡ 3 → mark_at new k ≡ 3) → AreListed new runs
 listed_within marks new runs is whole outside = record { listed = λ k member. is.listed k (λ out. member (outside k out)); small = λ k covers. omega (arith, whole, is.small k covers) }
 
 -- a sample inside a flat is one of the array
@@ -59,7 +59,7 @@ pub flat_small : (flows : List Flow) (k : ℕ) → IsOfFlat (slice_index_or flow
 flat_small flows k flat = ⊎_elim (λ lt. lt) (λ ge. absurd (is_known (slice_index_or flows k Unknown) flat (get_or_past flows k Unknown ge))) (cases_lt k (length flows))
 
 -- before anything is found
-pub none_found : (t : Tiles) (flows : List Flow) (seed : ℕ) (marks : List ℕ) (runs : List Run) → length marks ≡ length flows → AreFree marks → length runs ≡ 0 → AreFound t flows seed marks runs
+pub none_found : (t : Tiles) (flows : List Flow) (seed : ℕ) (marks : List ℕ) (runs : List SampleRun) → length marks ≡ length flows → AreFree marks → length runs ≡ 0 → AreFound t flows seed marks runs
 none_found t flows seed marks runs whole free none = record {
   whole = whole;
   two = λ k member. absurd (member (free k));
@@ -72,7 +72,7 @@ none_found t flows seed marks runs whole free none = record {
 }
 
 -- a run is added
-module _ (t : Tiles) (flows : List Flow) (marks : List ℕ) (runs waiting : List Run) (new_marks : List ℕ) (new_runs new_waiting : List Run) (r : Run)
+module _ (t : Tiles) (flows : List Flow) (marks : List ℕ) (runs waiting : List SampleRun) (new_marks : List ℕ) (new_runs new_waiting : List SampleRun) (r : SampleRun)
     (row : IsRow t.side r) (added : IsRunAdded r marks runs waiting new_marks new_runs new_waiting) (free : (k : ℕ) → IsIn r k → mark_at marks k ≡ 3)
     (flat : (k : ℕ) → IsIn r k → IsOfFlat (slice_index_or flows k Unknown)) (first : (k : ℕ) → IsIn r k → IsFirst t k) where
   pub member_in : (k : ℕ) → IsIn r k → IsMember new_marks k
@@ -120,13 +120,13 @@ module _ (t : Tiles) (flows : List Flow) (marks : List ℕ) (runs waiting : List
   }
 
 -- the seed alone
-pub record HasBegun (t : Tiles) (flows : List Flow) (seed : ℕ) (marks : List ℕ) (runs waiting : List Run) : Type 0 where
+pub record HasBegun (t : Tiles) (flows : List Flow) (seed : ℕ) (marks : List ℕ) (runs waiting : List SampleRun) : Type 0 where
   pub begun : IsMember marks seed
   pub found : AreFound t flows seed marks runs
   pub awaited : AreWaiting t.side marks waiting
   pub unsettled : AreOpen t flows marks waiting
 
-pub has_begun : (t : Tiles) (flows : List Flow) (marks : List ℕ) (runs waiting : List Run) (new_marks : List ℕ) (new_runs new_waiting : List Run) (r : Run) (seed : ℕ) → r ≡ record { first = seed; last = seed }
+pub has_begun : (t : Tiles) (flows : List Flow) (marks : List ℕ) (runs waiting : List SampleRun) (new_marks : List ℕ) (new_runs new_waiting : List SampleRun) (r : SampleRun) (seed : ℕ) → r ≡ record { first = seed; last = seed }
     → IsRunAdded r marks runs waiting new_marks new_runs new_waiting → AreFree marks → length runs ≡ 0 → length waiting ≡ 0 → length marks ≡ length flows → IsOfFlat (slice_index_or flows seed Unknown) → IsFirst t seed
     → HasBegun t flows seed new_marks new_runs new_waiting
 has_begun t flows marks runs waiting new_marks new_runs new_waiting r seed is added free none none_waits whole flat first = record {
@@ -139,10 +139,10 @@ has_begun t flows marks runs waiting new_marks new_runs new_waiting r seed is ad
 }
   where
     low : r.first ≡ seed
-    low = ap (λ (q : Run). q.first) is
+    low = ap (λ (q : SampleRun). q.first) is
 
     high : r.last ≡ seed
-    high = ap (λ (q : Run). q.last) is
+    high = ap (λ (q : SampleRun). q.last) is
 
     one : (k : ℕ) → IsIn r k → k ≡ seed
     one k in_it = omega (arith, low, high, in_it.from, in_it.to)
@@ -159,17 +159,17 @@ has_begun t flows marks runs waiting new_marks new_runs new_waiting r seed is ad
     first_in : (k : ℕ) → IsIn r k → IsFirst t k
     first_in k in_it = subst (IsFirst t) (sym (one k in_it)) first
 
-pub found_listed : (t : Tiles) (flows : List Flow) (seed : ℕ) (marks : List ℕ) (runs : List Run) → AreFound t flows seed marks runs → AreListed marks runs
+pub found_listed : (t : Tiles) (flows : List Flow) (seed : ℕ) (marks : List ℕ) (runs : List SampleRun) → AreFound t flows seed marks runs → AreListed marks runs
 found_listed t flows seed marks runs is = record { listed = is.listed; small = λ k covers. member_small marks k (is.members k covers) }
 
-pub grows_same : (t : Tiles) (flows : List Flow) (marks : List ℕ) (runs waiting : List Run) → Grows t flows marks runs waiting marks runs waiting
+pub grows_same : (t : Tiles) (flows : List Flow) (marks : List ℕ) (runs waiting : List SampleRun) → Grows t flows marks runs waiting marks runs waiting
 grows_same t flows marks runs waiting = record { whole = refl; kept = λ k is. is; fresh = λ k is. inl is; waits = λ k is. is; flats = λ is. is; found = λ seed is. is; awaited = λ is. is; fewer = omega arith }
 
-module _ (t : Tiles) (flows : List Flow) (a : List ℕ) (ra wa : List Run) (b : List ℕ) (rb wb : List Run) (first : Grows t flows a ra wa b rb wb) where
+module _ (t : Tiles) (flows : List Flow) (a : List ℕ) (ra wa : List SampleRun) (b : List ℕ) (rb wb : List SampleRun) (first : Grows t flows a ra wa b rb wb) where
   pub settled_on : (k : ℕ) → IsSettled flows a k → IsSettled flows b k
   settled_on k is = record { known = is.known; member = λ flat. first.kept k (is.member flat) }
 
-  pub grows_on : (c : List ℕ) (rc wc : List Run) → Grows t flows b rb wb c rc wc → Grows t flows a ra wa c rc wc
+  pub grows_on : (c : List ℕ) (rc wc : List SampleRun) → Grows t flows b rb wb c rc wc → Grows t flows a ra wa c rc wc
   grows_on c rc wc then = record {
     whole = then.whole ∙ first.whole;
     kept = λ k is. then.kept k (first.kept k is);
@@ -182,7 +182,7 @@ module _ (t : Tiles) (flows : List Flow) (a : List ℕ) (ra wa : List Run) (b : 
   }
 
 -- a run that waited is settled
-pub open_on : (t : Tiles) (flows : List Flow) (marks : List ℕ) (runs waiting rest : List Run) (r : Run) (new : List ℕ) (new_runs new_waiting : List Run) → waiting ≡ rest ++ r ∷ [] → AreOpen t flows marks waiting
+pub open_on : (t : Tiles) (flows : List Flow) (marks : List ℕ) (runs waiting rest : List SampleRun) (r : SampleRun) (new : List ℕ) (new_runs new_waiting : List SampleRun) → waiting ≡ rest ++ r ∷ [] → AreOpen t flows marks waiting
     → Grows t flows marks runs rest new new_runs new_waiting → ((k : ℕ) (d : Dir) → IsIn r k → IsSettled flows new (by_of t k d)) → AreOpen t flows new new_waiting
 open_on t flows marks runs waiting rest r new new_runs new_waiting at was grows settled k member = ⊎_elim
     (λ old. ⊎_elim
@@ -193,7 +193,7 @@ open_on t flows marks runs waiting rest r new new_runs new_waiting at was grows 
     (grows.fresh k member)
 
 -- steps within a row that lies deep in its tile
-module _ (t : Tiles) (valid : AreTiles t) (flows : List Flow) (r : Run) (row : IsRow t.side r) (small : (k : ℕ) → IsIn r k → k < count_of t) (flat : (k : ℕ) → IsIn r k → IsOfFlat (slice_index_or flows k Unknown)) where
+module _ (t : Tiles) (valid : AreTiles t) (flows : List Flow) (r : SampleRun) (row : IsRow t.side r) (small : (k : ℕ) → IsIn r k → k < count_of t) (flat : (k : ℕ) → IsIn r k → IsOfFlat (slice_index_or flows k Unknown)) where
   abbrev Deep : ℕ → Type 0
   Deep k = is_deep t.side (k % (t.side * t.side)) ≡ true
 

@@ -1,4 +1,4 @@
-use Rattle.flow_d8.proofs.Prelude.{IsIn, Run, ap, arith, cases_eq, inl, inr, mark_at, no_run, slice_index_or, subst, ⊎_elim, ◌∙◌}
+use Rattle.flow_d8.proofs.Prelude.{IsIn, SampleRun, ap, arith, cases_eq, inl, inr, mark_at, no_run, slice_index_or, subst, ⊎_elim, ◌∙◌}
 use Rattle.flow_d8.proofs.Waves.Runs.{in_or_not}
 use Rattle.flow_d8.proofs.marks.clear.Goals as goal
 
@@ -11,7 +11,7 @@ clear_run-requires c k in_it = omega (arith, c.loop-i.invariant.whole, c.require
 pub loop-i-preserved : goal.loop-i-preserved
 loop-i-preserved c =
     let was = c.loop-i.invariant in
-    let run : Run = slice_index_or c.args.runs.now c.loop-i.i no_run in
+    let run : SampleRun = slice_index_or c.args.runs.now c.loop-i.i no_run in
     record {
       whole = c.clear_run.ensures.whole ∙ was.whole;
       left = λ k member. ⊎_elim
@@ -19,7 +19,7 @@ loop-i-preserved c =
           (λ apart.
           let at = was.left k (λ out. member (c.clear_run.ensures.others k apart ∙ out)) in
           elim (cases_eq at.0 c.loop-i.i) [
-            | inl same ↦ absurd (apart (subst (λ (r : Run). IsIn r k) (ap (λ i. slice_index_or c.args.runs.now i no_run) same) at.1.1.1))
+            | inl same ↦ absurd (apart (subst (λ (r : SampleRun). IsIn r k) (ap (λ i. slice_index_or c.args.runs.now i no_run) same) at.1.1.1))
             | inr other ↦ (at.0, (omega (arith, at.1.0), at.1.1))
           ])
           (in_or_not run k);

@@ -10,4 +10,4 @@ pub returns-in_err-push-clause-begins : goal.returns-in_err-push-clause-begins
 returns-in_err-push-clause-begins c = subst (λ w. Begins c.args.flows.now c.args.marks.now c.args.wave.now.items c.args.marks.now w) (sym c.in_err-push.ensures.items) (begins_same c.args.flows.now c.args.marks.now c.args.wave.now.items)
 
 pub returns-clause-begins : goal.returns-clause-begins
-returns-clause-begins c = begun_at c.args.flows.now c.args.marks.now c.args.wave.now.items c.push.new.self.items c.args.k (c.is_beside.ensures.0 c.if-not-is_beside.false) c.requires.member (longer_of c.args.wave.now.items c.push.new.self.items c.args.k c.in_ok-push.ensures.items)
+returns-clause-begins c = rw c.set.ensures (begun_at c.args.flows.now c.args.marks.now c.args.wave.now.items c.push.new.self.items c.args.k (c.is_beside.ensures.0 c.if-not-is_beside.false) c.requires.member (longer_of c.args.wave.now.items c.push.new.self.items c.args.k c.in_ok-push.ensures.items))

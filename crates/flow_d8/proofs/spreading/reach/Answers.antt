@@ -45,13 +45,13 @@ loop-i-preserved c =
     (reaches_one by marks next c.push.new.self.items flows from d home (omega (arith, was.reaches.whole, was.reaches.flows_whole, c.requires.whole)) two
     (subst (IsLonger next c.push.new.self.items) (c.short.ensures ∙ value) (longer_of next c.push.new.self.items c.short.result c.in_ok-push.ensures.items)) wave (c.loop-i.i, (c.loop-i-test.true, refl)))) in
     let here : mark_at (set marks c.step-to.result 0) to ≡ 0 = subst (λ n. mark_at (set marks n 0) to ≡ 0) (sym value) (get_or-set_same marks to 0 3 (in_range marks to 2 two (omega arith))) in
-    record {
+    rw c.set.ensures (record {
       reaches = reaches_on by wave d c.args.marks.now c.args.next.now.items c.args.flows.now marks next flows _ _ _ was.reaches step;
       passed = λ j less held. elim (cases_eq j c.loop-i.i) [
         | inl same ↦ absurd (omega (arith, here, subst (λ n. mark_at (set marks c.step-to.result 0) (by (get_or wave n 0) (back_of d)) ≡ 2) same held))
         | inr other ↦ was.passed j (omega arith) (reaches_two by wave d marks next flows _ _ _ step (by (get_or wave j 0) (back_of d)) held)
       ];
-    }
+    })
 
 pub returns-in_err-push-clause-reaches : goal.returns-in_err-push-clause-reaches
 returns-in_err-push-clause-reaches c =
