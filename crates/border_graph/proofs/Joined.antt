@@ -171,17 +171,17 @@ module _ (m : Mosaic) (is : IsMosaic m) (summaries : List Summary) (all : AreSum
     named_is e k n a label = one_rim_point m.side n.r a.e is.side_low (solid_below m.side of.heights n.r n.solid) a.inside n.rim a.rim (n.number ∙ (label ∙ sym a.number))
 
     module _ (level : ℤ) where
-      forth : (e : ℕ) (rest : List ℕ) → IsPath (block_terrain (block_of m.side of.heights of.sinks)) e rest → crest (block_terrain (block_of m.side of.heights of.sinks)) e rest ≤ℤ level →
+      start_has_way : (e : ℕ) (rest : List ℕ) → IsPath (block_terrain (block_of m.side of.heights of.sinks)) e rest → crest (block_terrain (block_of m.side of.heights of.sinks)) e rest ≤ℤ level →
           WayOut (terrain m) level (point_of m.side (summary_at summaries t).corner (end_of (block_terrain (block_of m.side of.heights of.sinks)) e rest)) → WayOut (terrain m) level (point_of m.side (summary_at summaries t).corner e)
-      forth e rest path low way =
+      start_has_way e rest path low way =
           let at : ℕ → Point = λ e. point_of m.side (summary_at summaries t).corner e in
           along (terrain m) level (at e) (map at rest) (path_onto (block_terrain (block_of m.side of.heights of.sinks)) (terrain m) at (is_rim m.side) part (block_is_lawful (block_of m.side of.heights of.sinks)) e rest path)
           (subst (λ v. v ≤ℤ level) (sym (crest_onto (block_terrain (block_of m.side of.heights of.sinks)) (terrain m) at (is_rim m.side) part (block_is_lawful (block_of m.side of.heights of.sinks)) e rest path)) low)
           (subst (λ p. WayOut (terrain m) level p) (sym (end_onto (block_terrain (block_of m.side of.heights of.sinks)) (terrain m) at (is_rim m.side) part (block_is_lawful (block_of m.side of.heights of.sinks)) e rest)) way)
 
-      home : (e : ℕ) (rest : List ℕ) → IsPath (block_terrain (block_of m.side of.heights of.sinks)) e rest → crest (block_terrain (block_of m.side of.heights of.sinks)) e rest ≤ℤ level →
+      end_has_way : (e : ℕ) (rest : List ℕ) → IsPath (block_terrain (block_of m.side of.heights of.sinks)) e rest → crest (block_terrain (block_of m.side of.heights of.sinks)) e rest ≤ℤ level →
           WayOut (terrain m) level (point_of m.side (summary_at summaries t).corner e) → WayOut (terrain m) level (point_of m.side (summary_at summaries t).corner (end_of (block_terrain (block_of m.side of.heights of.sinks)) e rest))
-      home e rest path low way =
+      end_has_way e rest path low way =
           let at : ℕ → Point = λ e. point_of m.side (summary_at summaries t).corner e in
           subst (λ p. WayOut (terrain m) level p) (end_onto (block_terrain (block_of m.side of.heights of.sinks)) (terrain m) at (is_rim m.side) part (block_is_lawful (block_of m.side of.heights of.sinks)) e rest)
           (back (terrain m) (terrain_is_lawful m) level (at e) (map at rest) (path_onto (block_terrain (block_of m.side of.heights of.sinks)) (terrain m) at (is_rim m.side) part (block_is_lawful (block_of m.side of.heights of.sinks)) e rest path)
@@ -189,11 +189,11 @@ module _ (m : Mosaic) (is : IsMosaic m) (summaries : List Summary) (all : AreSum
 
       to_named : (e : ℕ) (n : Named e) → slice_index_or of.levels e void ≤ℤ level →
           WayOut (terrain m) level (point_of m.side (summary_at summaries t).corner n.r) → WayOut (terrain m) level (point_of m.side (summary_at summaries t).corner e)
-      to_named e n low way = forth e n.rest n.path (subst (λ v. v ≤ℤ level) (sym n.crest_is) low) (subst (λ r. WayOut (terrain m) level (point_of m.side (summary_at summaries t).corner r)) (sym n.ends) way)
+      to_named e n low way = start_has_way e n.rest n.path (subst (λ v. v ≤ℤ level) (sym n.crest_is) low) (subst (λ r. WayOut (terrain m) level (point_of m.side (summary_at summaries t).corner r)) (sym n.ends) way)
 
       from_named : (e : ℕ) (n : Named e) → slice_index_or of.levels e void ≤ℤ level →
           WayOut (terrain m) level (point_of m.side (summary_at summaries t).corner e) → WayOut (terrain m) level (point_of m.side (summary_at summaries t).corner n.r)
-      from_named e n low way = subst (λ r. WayOut (terrain m) level (point_of m.side (summary_at summaries t).corner r)) n.ends (home e n.rest n.path (subst (λ v. v ≤ℤ level) (sym n.crest_is) low) way)
+      from_named e n low way = subst (λ r. WayOut (terrain m) level (point_of m.side (summary_at summaries t).corner r)) n.ends (end_has_way e n.rest n.path (subst (λ v. v ≤ℤ level) (sym n.crest_is) low) way)
 
       -- an inner outlet that is reached
       out_below : (e : ℕ) → IsTrue (is_solid (bare_block m.side of.heights) e) → slice_index of.labels e ≡ OUT → slice_index_or of.levels e void ≤ℤ level →
@@ -208,7 +208,7 @@ module _ (m : Mosaic) (is : IsMosaic m) (summaries : List Summary) (all : AreSum
           let crest_low : crest (block_terrain (block_of m.side of.heights of.sinks)) e rest ≤ℤ level = subst (λ v. v ≤ℤ level) (sym label.way.1.1.0) low in
           elim label.way.1.1.1.1 [
             | inl by_rim ↦ absurd (number_is_not_out (rim_number m.side last) (number_small last solid_last) (sym by_rim.1 ∙ out))
-            | inr inner ↦ forth e rest path crest_low (record {
+            | inr inner ↦ start_has_way e rest path crest_low (record {
               rest = [];
               out = record { path = ground_at last solid_last; outlet = inner_outlet_is_outlet m is (summary_at summaries t).corner (present t small) of.heights of.sinks of.block last inner.0 };
               below = subst (λ v. v ≤ℤ level) (part.heights last solid_last) (≤ℤ_trans (slice_index_or of.heights last void) (crest (block_terrain (block_of m.side of.heights of.sinks)) e rest) level (end-le_crest (block_terrain (block_of m.side of.heights of.sinks)) e rest) crest_low);
@@ -220,7 +220,7 @@ module _ (m : Mosaic) (is : IsMosaic m) (summaries : List Summary) (all : AreSum
           WayOut (terrain m) level (point_of m.side (summary_at summaries t).corner f) → WayOut (terrain m) level (point_of m.side (summary_at summaries t).corner e)
       over e f link low_e low_f way =
           let both = linked_parts m.side of.heights e f link in
-          forth e (f ∷ []) (link, both.to) (max-le (slice_index_or of.heights e void) (slice_index_or of.heights f void) level
+          start_has_way e (f ∷ []) (link, both.to) (max-le (slice_index_or of.heights e void) (slice_index_or of.heights f void) level
           (≤ℤ_trans (slice_index_or of.heights e void) (slice_index_or of.levels e void) level (height-le_level_at e both.from) low_e)
           (≤ℤ_trans (slice_index_or of.heights f void) (slice_index_or of.levels f void) level (height-le_level_at f both.to) low_f)) way
 

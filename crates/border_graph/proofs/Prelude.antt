@@ -8,7 +8,7 @@ pub use Rattle.border_graph.specs.Joining.{AreOfMosaic, AreSummaries, IsInnerLin
 pub use Rattle.border_graph.specs.Linking.{node_number}
 pub use Rattle.border_graph.specs.Links.{IsJoinedLevel, IsWayBelow}
 pub use Rattle.border_graph.specs.MosaicGraph.{AreReordered, AreRimsAt, IsCutOff, IsFound, IsGraphOf, IsLevelAt, IsRimAt, MosaicGraph, graph_of}
-pub use Rattle.border_graph.specs.Others.{AreApart, AreOthersTold, AreTileEdges, IsToOther, corner_at}
+pub use Rattle.border_graph.specs.Others.{AreApart, AddsOthers, AreTileEdges, IsToOther, corner_at}
 pub use Rattle.border_graph.specs.Passes.{AreJoined, IsPass, SpanAll}
 pub use Rattle.border_graph.specs.Placed.{IsPlacedLink}
 pub use Rattle.border_graph.specs.Reduced.{ArePassesOf, IsCrossing, IsLabelOf, Suffice, spill_of}

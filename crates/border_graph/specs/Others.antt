@@ -37,13 +37,14 @@ module _ (n : ℕ) (corners : List Corner) (t : ℕ) (p : Point) (height : ℤ) 
   abbrev pub IsOtherListed : Corner → List Edge → Type 0
   IsOtherListed c new = (u e : ℕ) → u < length corners → corner_at corners u ≡ c → t ≢ u → IsIndexOf n c p e → Contains new (record { level = height; to = node_number n (Rim u (rim_number n e)) })
 
-  pub record IsOtherTold (c : Corner) (old new : List Edge) : Type 0 where
+  -- that one was added, and none but edges to other tiles that hold the point
+  pub record AddsOther (c : Corner) (old new : List Edge) : Type 0 where
     pub still : AreListedStill old new
     pub only : (way : Edge) → Contains new way → Contains old way ⊎ IsToOther way
     pub listed : AreApart corners → IsOtherListed c new
 
   -- those in all other tiles that hold the point
-  pub record AreOthersTold (old new : List Edge) : Type 0 where
+  pub record AddsOthers (old new : List Edge) : Type 0 where
     pub still : AreListedStill old new
     pub only : (way : Edge) → Contains new way → Contains old way ⊎ IsToOther way
     pub listed : AreApart corners → (c : Corner) → IsOtherListed c new
@@ -58,4 +59,4 @@ pub record AreTileEdges (n : ℕ) (corners : List Corner) (ways : TileGraph) (t 
   pub index : ℕ
   pub rim : IsRimPoint n k index
   pub nothing : (rim_point ways.summary k).height ≡ void → new ≡ second
-  pub others : (rim_point ways.summary k).height ≢ void → AreOthersTold n corners t (point_of n (corner_at corners t) index) (rim_point ways.summary k).height second new
+  pub others : (rim_point ways.summary k).height ≢ void → AddsOthers n corners t (point_of n (corner_at corners t) index) (rim_point ways.summary k).height second new

@@ -25,6 +25,7 @@ pub record Suffice (size : ℕ) (all kept : List Spill) : Type 0 where
 abbrev pub label_of : ℕ → ℕ → ℕ
 label_of size place = if nat_eq place size then OUT else place
 
+-- a pass between places as the spill between their labels
 abbrev pub spill_of : ℕ → Pass → Spill
 spill_of size pass = record { a = label_of size pass.a; b = label_of size pass.b; level = pass.level }
 

@@ -46,8 +46,8 @@ pub fn lowest_pass<S, G: EdgeSource<S>>(
         → IfOk result (λ found. IfNone found ((rest : List EdgeOf) → LeadsOut (IsPlacedLink n summaries) start rest → ⊥)) }
     ensures not_joined { (n : ℕ) (summaries : List Summary) → G.fits graph.new n summaries
         → IfOk result (λ found. IfNone found ((level : ℤ) (rest : List ℕ) → IsWayBelow (IsPlacedLink n summaries) 0 level start rest → ⊥)) }
-    ensures told { (n : ℕ) (summaries : List Summary) → G.fits graph.new n summaries → AreOfMosaic n summaries
-        → IfOk result (λ found. IfSome found (λ level. (t : ℕ) → G.told graph.new t → G.told graph.old t ⊎ IsTileReached n (IsPlacedLink n summaries) start level t)) }
+    ensures asked { (n : ℕ) (summaries : List Summary) → G.fits graph.new n summaries → AreOfMosaic n summaries
+        → IfOk result (λ found. IfSome found (λ level. (t : ℕ) → G.asked graph.new t → G.asked graph.old t ⊎ IsTileReached n (IsPlacedLink n summaries) start level t)) }
     ensures refusal { IfErr result (G.refuses graph.old source.old graph.new source.new) }
     ensures fits { (n : ℕ) (summaries : List Summary) → G.fits graph.new n summaries → G.fits graph.old n summaries }
     ensures keeps { OnOk result (G.keeps graph.old source.old graph.new source.new) }
@@ -166,7 +166,7 @@ fn expand<S, G: EdgeSource<S>>(
         → IfOk result (λ found. IfNone found (IsExpanded (IsPlacedLink n summaries) (AreOfMosaic n summaries) visited.now frontier.old frontier.new entry)) }
     ensures listed { (n : ℕ) (summaries : List Summary) → G.fits graph.new n summaries
         → IfOk result (λ found. IfNone found (AreAllEdges (IsPlacedLink n summaries) entry.node edges.new.items)) }
-    ensures told { (n : ℕ) (summaries : List Summary) → G.fits graph.new n summaries → (t : ℕ) → G.told graph.new t → G.told graph.old t ⊎ IsOfTile n t entry.node }
+    ensures asked { (n : ℕ) (summaries : List Summary) → G.fits graph.new n summaries → (t : ℕ) → G.asked graph.new t → G.asked graph.old t ⊎ IsOfTile n t entry.node }
     ensures refusal { IfErr result (G.refuses graph.old source.old graph.new source.new) }
     ensures fits { (n : ℕ) (summaries : List Summary) → G.fits graph.new n summaries → G.fits graph.old n summaries }
     ensures keeps { OnOk result (G.keeps graph.old source.old graph.new source.new) }

@@ -33,7 +33,7 @@ pub trait EdgeSource<S> {
     ghost keeps: { Self → S → Self → S → Type 0 };
 
     /// The tiles that were asked for, by their place.
-    ghost told: { Self → ℕ → Type 0 };
+    ghost asked: { Self → ℕ → Type 0 };
 
     /// Calls that led from the old and its source to the new may have been refused so.
     ghost refuses: { Self → S → Self → S → Refusal → Type 0 };
@@ -54,7 +54,7 @@ pub trait EdgeSource<S> {
         ensures answer { (n : ℕ) (summaries : List Summary) → fits self.new n summaries → AreOfMosaic n summaries
             → IfOk result (λ known. MatchOption known (AreEdges (IsPlacedLink n summaries) node into.new.items) (IsJoinedLevel (IsPlacedLink n summaries) 0 node)) }
         ensures refusal { IfErr result (refuses self.old source.old self.new source.new) }
-        ensures told { (n : ℕ) (summaries : List Summary) → fits self.new n summaries → (t : ℕ) → told self.new t → told self.old t ⊎ IsOfTile n t node }
+        ensures asked { (n : ℕ) (summaries : List Summary) → fits self.new n summaries → (t : ℕ) → asked self.new t → asked self.old t ⊎ IsOfTile n t node }
 
         // What agrees with all that is known then agreed with what was known before.
         ensures fits { (n : ℕ) (summaries : List Summary) → fits self.new n summaries → fits self.old n summaries }

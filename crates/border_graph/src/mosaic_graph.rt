@@ -171,7 +171,7 @@ impl EdgeSource<()> for MosaicGraph {
 
     ghost keeps = { λ s a s' b. s' ≡ s };
 
-    ghost told = { λ s t. ⊥ };
+    ghost asked = { λ s t. ⊥ };
 
     ghost refuses = { λ s a s' b r. r ≡ NoMemory };
 

@@ -1,7 +1,7 @@
 //! The edges from a rim point in its tile and to the same point of other tiles, and the numbers of nodes.
 ghost use Rattle.std.specs.Prelude.{◌≡◌, ◌≢◌, ℕ, ◌+◌, ◌*◌, ◌-◌, ◌^◌, ◌<◌, ◌≤◌, ◌⊎◌, [], ◌∷◌, ◌++◌, IfErr, OnOk, IfSome, IfNone, length};
 ghost use Rattle.lattice.specs.declared.refusal.Refusal.TheVariants.{NoMemory, Damaged};
-ghost use Rattle.border_graph.specs.Others.{corner_at, AreTooMany, IsOtherTold, AreOthersTold, AreTileEdges};
+ghost use Rattle.border_graph.specs.Others.{corner_at, AreTooMany, AddsOther, AddsOthers, AreTileEdges};
 
 use crate::Edge;
 use crate::tile_graph::TileGraph;
@@ -57,7 +57,7 @@ fn edges_to_others(
     height: i16,
     into: &mut Vec<Edge>,
 ) -> Result<(), Refusal>
-    ensures edges { OnOk result (AreOthersTold side corners.now t point height into.old.items into.new.items) }
+    ensures edges { OnOk result (AddsOthers side corners.now t point height into.old.items into.new.items) }
     ensures refusal { IfErr result (λ r. (r ≡ NoMemory) ⊎ ((r ≡ Damaged) × AreTooMany side corners.now)) }
 {
     let holding = holders(side, point);
@@ -77,7 +77,7 @@ fn edge_to_other(
     corner: Corner,
     into: &mut Vec<Edge>,
 ) -> Result<(), Refusal>
-    ensures edge { OnOk result (IsOtherTold side corners.now t point height corner into.old.items into.new.items) }
+    ensures edge { OnOk result (AddsOther side corners.now t point height corner into.old.items into.new.items) }
     ensures refusal { IfErr result (λ r. (r ≡ NoMemory) ⊎ ((r ≡ Damaged) × AreTooMany side corners.now)) }
 {
     // The side is known to be in range once it was read.

@@ -8,6 +8,7 @@ use Rattle.flow_d8.specs.FlowGrids.{IsGridOf}
 use Rattle.flow_d8.specs.Flows.{IsFlow}
 use Rattle.flow_d8.specs.LevelsAround.{OnLevels}
 use Rattle.flow_d8.specs.Tiles.{Tiles, IsInTile, IsSampleOf, count_of, no_corner, place_of}
+use Rattle.flow_d8.specs.declared.flow.Flow.{Flow}
 use Rattle.flow_d8.specs.declared.flow.Flow.TheVariants.{Unknown}
 use Rattle.drainage.specs.LevelRanges.{range_at, is_range_spared, AreRangesOf, AreKnownAround, AreSpared}
 use Rattle.drainage.specs.Slots.{slot_ranges}
@@ -15,6 +16,10 @@ use Rattle.drainage.specs.Spared.{IsUnchanged}
 use Rattle.drainage.specs.declared.flow_cache.FlowCache.{FlowCache}
 use Rattle.drainage.specs.declared.flow_cache.Slot.{Slot}
 use Rattle.drainage.specs.declared.level_range.LevelRange.{LevelRange}
+
+-- where the point drains on the mosaic's filled levels
+abbrev pub IsFlowIn : Mosaic → Point → Flow → Type 0
+IsFlowIn m p flow = OnLevels m (λ level. IsFlow (terrain m) level p flow)
 
 -- those of each tile are right
 abbrev pub AreSlotsOf : Mosaic → Tiles → List Slot → Type 0

@@ -22,7 +22,7 @@ pub record Fits (side : ℕ) (corners : List Corner) (loaded : List (Option Tile
   pub whole : n ≡ mosaic.side
   pub same_side : n ≡ side
   pub same_corners : map (λ b. b.corner) summaries ≡ corners
-  pub tells : (t : ℕ) (ways : TileGraph) → loaded_at loaded t ≡ Some ways → (ways.side ≡ n) × (summary_at summaries t ≡ ways.summary)
+  pub agree : (t : ℕ) (ways : TileGraph) → loaded_at loaded t ≡ Some ways → (ways.side ≡ n) × (summary_at summaries t ≡ ways.summary)
 
 -- each tile that is loaded has this side, the corner of its place, and a summary of its corner's tile in the mosaic
 pub record AreLoaded (m : Mosaic) (side : ℕ) (corners : List Corner) (loaded : List (Option TileGraph)) : Type 0 where

@@ -1,14 +1,14 @@
 //! Where the water of one point goes, by the flows of the tiles at hand.
 ghost use Rattle.std.specs.Prelude.{◌≡◌, ◌≤◌, ◌<◌, IsTrue, IfOk, IfErr, OnOk, length};
 ghost use Rattle.lattice.specs.Limits.{most_tiles};
-ghost use Rattle.lattice.specs.Ground.{is_ground, terrain};
+ghost use Rattle.lattice.specs.Ground.{is_ground};
 ghost use Rattle.catalogue.specs.Asked.{Asked};
 ghost use Rattle.catalogue.specs.Endings.{ends_any};
-ghost use Rattle.flow_d8.specs.LevelsAround.{OnLevels};
-ghost use Rattle.flow_d8.specs.Flows.{IsFlow, Drains};
+ghost use Rattle.flow_d8.specs.Flows.{Drains};
 ghost use Rattle.flow_d8.specs.FlowGrids.{IsAtHand};
 ghost use Rattle.lattice.specs.declared.point.Point.{Point};
 ghost use Rattle.drainage.specs.Between.{AreFlowsFor, IsHeldFor};
+ghost use Rattle.drainage.specs.FlowCaches.{IsFlowIn};
 
 use crate::asking::present_holder;
 use crate::drainage_cache::DrainageCache;
@@ -21,7 +21,7 @@ use lattice::{MOST_TILES, Point, Refusal};
 use std::alloc::Global;
 use tile_labellings::Labellings;
 
-// For so many tiles that a flat reaches it is collected anew, since a search over it takes a byte for each sample at hand.
+// For so many tiles that a flat reaches it is collected anew, since a search over it takes two bits for each sample at hand.
 const FEW_TILES: usize = 3;
 
 /// Where the ground point drains: To, Beside, FlatTo or Outlet. Where that isn't held, its tile is prepared, and those over which
@@ -37,7 +37,7 @@ pub(crate) fn flow_at<S: Labellings>(
     requires held { IsHeldFor S.Samples samples.old held.old }
     requires few { length (S.corners samples.old) ≤ most_tiles }
     requires ground { S.is_honest samples.old → IsTrue (is_ground (S.mosaic samples.old) point) }
-    ensures flow { S.is_honest samples.new → IfOk result (λ flow. OnLevels (S.mosaic samples.old) (λ level. IsFlow (terrain (S.mosaic samples.old)) level point flow)) }
+    ensures flow { S.is_honest samples.new → IfOk result (IsFlowIn (S.mosaic samples.old) point) }
     ensures drains { IfOk result Drains }
     ensures held { IsHeldFor S.Samples samples.new held.new }
     ensures causes { IfErr result (λ r. IsTrue (ends_any r)) }
@@ -65,8 +65,8 @@ fn flow_by_levels<S: Labellings>(
 ) -> Result<Flow, Refusal>
     requires held { IsHeldFor S.Samples samples.old held.old }
     requires ground { S.is_honest samples.old → IsTrue (is_ground (S.mosaic samples.old) point) }
-    requires known { S.is_honest samples.old → OnLevels (S.mosaic samples.old) (λ level. IsFlow (terrain (S.mosaic samples.old)) level point known) }
-    ensures flow { S.is_honest samples.new → IfOk result (λ flow. OnLevels (S.mosaic samples.old) (λ level. IsFlow (terrain (S.mosaic samples.old)) level point flow)) }
+    requires known { S.is_honest samples.old → IsFlowIn (S.mosaic samples.old) point known }
+    ensures flow { S.is_honest samples.new → IfOk result (IsFlowIn (S.mosaic samples.old) point) }
     ensures held { IsHeldFor S.Samples samples.new held.new }
     ensures causes { IfErr result (λ r. IsTrue (ends_any r)) }
     ensures asked { Asked S.Samples samples.old samples.new result }
@@ -95,7 +95,7 @@ pub(crate) fn flow_by_tiles<S: Labellings>(
     requires held { IsHeldFor S.Samples samples.old held.old }
     requires few { length (S.corners samples.old) ≤ most_tiles }
     requires ground { S.is_honest samples.old → IsTrue (is_ground (S.mosaic samples.old) point) }
-    ensures flow { S.is_honest samples.new → IfOk result (λ flow. OnLevels (S.mosaic samples.old) (λ level. IsFlow (terrain (S.mosaic samples.old)) level point flow)) }
+    ensures flow { S.is_honest samples.new → IfOk result (IsFlowIn (S.mosaic samples.old) point) }
     ensures drains { IfOk result Drains }
     ensures held { IsHeldFor S.Samples samples.new held.new }
     ensures causes { IfErr result (λ r. IsTrue (ends_any r)) }
@@ -120,7 +120,7 @@ fn prepared_flow<S: Labellings>(
     requires few { length (S.corners samples.old) ≤ most_tiles }
     requires ground { S.is_honest samples.old → IsTrue (is_ground (S.mosaic samples.old) point) }
     requires right { AreFlowsFor S.Samples samples.old flows.old }
-    ensures flow { S.is_honest samples.new → IfOk result (λ flow. OnLevels (S.mosaic samples.old) (λ level. IsFlow (terrain (S.mosaic samples.old)) level point flow)) }
+    ensures flow { S.is_honest samples.new → IfOk result (IsFlowIn (S.mosaic samples.old) point) }
     ensures drains { IfOk result Drains }
     ensures right { AreFlowsFor S.Samples samples.new flows.new }
     ensures held { IsHeldFor S.Samples samples.new held.new }

@@ -24,9 +24,8 @@ ghost use Rattle.flow_d8.specs.LevelsAround.{IsNear, OnLevels};
 ghost use Rattle.lattice.specs.declared.refusal.Refusal.TheVariants.{NoMemory};
 ghost use Rattle.drainage.specs.Holding.{IsRight};
 ghost use Rattle.drainage.specs.Room.{most_flow_bytes};
-ghost use Rattle.drainage.specs.FlowCaches.{flow_bytes, flow_cache_right, past_right, IsCacheOf, IsOfMore, IsPastTaken};
+ghost use Rattle.drainage.specs.FlowCaches.{flow_bytes, flow_cache_right, past_right, IsCacheOf, IsFlowIn, IsOfMore, IsPastTaken};
 ghost use Rattle.drainage.specs.Reaching.{DifferAt, DifferBetween};
-ghost use Rattle.flow_d8.specs.Flows.{IsFlow};
 ghost use Rattle.flow_d8.specs.Donors.{AreToldBy, DrainsBack};
 ghost use Rattle.drainage.specs.Spared.{AreLevelsStill, IsNoHigher, IsSetTo, IsSpared};
 
@@ -191,7 +190,7 @@ impl DrainageCache {
     // What is known of where the point drains.
     pub(crate) fn flow(&mut self, point: Point) -> Flow
         ensures left { (m : Mosaic) → IsHeldOf m self.old → IsHeldOf m self.new }
-        ensures flow { (m : Mosaic) → IsHeldOf m self.old → OnLevels m (λ level. IsFlow (terrain m) level point result) }
+        ensures flow { (m : Mosaic) → IsHeldOf m self.old → IsFlowIn m point result }
     {
         let flow = flow_in(&mut self.flow_cache, point);
         if matches!(flow, Flow::Unknown) {
@@ -283,7 +282,7 @@ fn flow_in(held: &mut Option<FlowCache>, point: Point) -> Flow
     ensures bytes { flow_bytes held.new ≡ flow_bytes held.old }
     ensures cache { (m : Mosaic) → flow_cache_right m held.old → flow_cache_right m held.new }
     ensures past { (m : Mosaic) → past_right m held.old → past_right m held.new }
-    ensures flow { (m : Mosaic) → past_right m held.old → OnLevels m (λ level. IsFlow (terrain m) level point result) }
+    ensures flow { (m : Mosaic) → past_right m held.old → IsFlowIn m point result }
 {
     let Some(mut cache) = held.take() else {
         return Flow::Unknown;

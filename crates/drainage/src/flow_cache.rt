@@ -2,14 +2,12 @@
 ghost use Rattle.std.specs.Prelude.{◌≡◌, ◌≢◌, ◌≤◌, ◌<◌, ◌↔◌, ◌+◌, ◌*◌, ◌++◌, [], ◌∷◌, ℕ, ℤ, IsTrue, IfOk, IfSome, IfNone, OnOk, OnErr, length, slice_index_or};
 ghost use Rattle.lattice.specs.Lattice.{Holds};
 ghost use Rattle.lattice.specs.Limits.{most_tiles as most_at_hand};
-ghost use Rattle.lattice.specs.Ground.{terrain};
 ghost use Rattle.lattice.specs.Mosaic.{Mosaic};
 ghost use Rattle.lattice.specs.Terrain.{Terrain};
 ghost use Rattle.lattice.specs.declared.point.Point.{Point};
 ghost use Rattle.flow_d8.specs.Drainage.{CrossesFlat};
-ghost use Rattle.flow_d8.specs.Flows.{IsFlow, AreFlows, Drains};
+ghost use Rattle.flow_d8.specs.Flows.{AreFlows, Drains};
 ghost use Rattle.flow_d8.specs.FlowGrids.{AreKnown, AreFlowsIn, flow_of, IsAtHand};
-ghost use Rattle.flow_d8.specs.LevelsAround.{OnLevels};
 ghost use Rattle.flow_d8.specs.Tiles.{place_of, no_corner, OnGround};
 ghost use Rattle.flow_d8.specs.declared.flow.Flow.TheVariants.{Unknown};
 ghost use Rattle.drainage.specs.Slots.{slot_ranges};
@@ -43,7 +41,7 @@ pub(crate) struct FlowCache {
 }
 
 impl FlowCache {
-    ghost use Rattle.drainage.specs.FlowCaches.{AreSlotsSpared, IsCacheOf, IsPastOf, IsLeftAt, IsLeftIn, HasLeft};
+    ghost use Rattle.drainage.specs.FlowCaches.{AreSlotsSpared, IsCacheOf, IsFlowIn, IsPastOf, IsLeftAt, IsLeftIn, HasLeft};
 
     /// Nothing is held. Takes no memory.
     pub(crate) fn new(alloc: Global, side: Side) -> FlowCache
@@ -61,7 +59,7 @@ impl FlowCache {
     pub(crate) fn flow(&mut self, point: Point) -> Flow
         ensures grid { self.new.grid ≡ self.old.grid }
         ensures ranges { (i : ℕ) → slot_ranges self.new.slots.items i ≡ slot_ranges self.old.slots.items i }
-        ensures flow { (m : Mosaic) → IsPastOf m self.old → OnLevels m (λ level. IsFlow (terrain m) level point result) }
+        ensures flow { (m : Mosaic) → IsPastOf m self.old → IsFlowIn m point result }
         ensures found { HasLeft self.old point → result ≡ Unknown → ⊥ }
     {
         if let Some(flow) = self.flow_in(self.last, point) {
@@ -78,7 +76,7 @@ impl FlowCache {
 
     // What holds of the point in the tile of this slot, if there is one that holds it.
     fn flow_in(&self, slot: usize, point: Point) -> Option<Flow>
-        ensures flow { IfSome result (λ flow. (m : Mosaic) → IsPastOf m self.now → OnLevels m (λ level. IsFlow (terrain m) level point flow)) }
+        ensures flow { IfSome result (λ flow. (m : Mosaic) → IsPastOf m self.now → IsFlowIn m point flow) }
         ensures known { IfSome result (λ flow. flow ≡ Unknown → ⊥) }
         ensures none { slot < length self.now.grid.tiles.corners → IfNone result (IsLeftIn self.now point slot → ⊥) }
     {

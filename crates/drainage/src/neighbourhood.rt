@@ -6,7 +6,7 @@ ghost use Rattle.lattice.specs.Steps.{step};
 ghost use Rattle.border_graph.specs.Others.{corner_at};
 ghost use Rattle.tile_labellings.specs.Labellings.{IsFlooded};
 ghost use Rattle.drainage.specs.Holding.{IsRight};
-ghost use Rattle.drainage.specs.Nearby.{IsToldOf};
+ghost use Rattle.drainage.specs.Nearby.{IsKnownLevel};
 ghost use Rattle.drainage.specs.TileCaches.{known_of};
 
 use crate::filling::label_in;
@@ -49,7 +49,7 @@ fn level_beside(
     requires place { t < length tile_cache.now.rim_graph.corners.items }
     requires corner { corner_at tile_cache.now.rim_graph.corners.items t ≡ corner }
     requires held { (m : Mosaic) → IsRight m (known_of tile_cache.now) → IsFlooded m corner labelled.now }
-    ensures { IfSome result (λ level. IsToldOf (known_of tile_cache.now) t (step direction point) (Some level)) }
+    ensures { IfSome result (λ level. IsKnownLevel (known_of tile_cache.now) t (step direction point) (Some level)) }
 {
     let to = neighbour(point, direction)?;
     level_in_tile(tile_cache, t, corner, labelled, to)
@@ -67,7 +67,7 @@ fn level_in_tile(
     requires place { t < length tile_cache.now.rim_graph.corners.items }
     requires corner { corner_at tile_cache.now.rim_graph.corners.items t ≡ corner }
     requires held { (m : Mosaic) → IsRight m (known_of tile_cache.now) → IsFlooded m corner labelled.now }
-    ensures { IfSome result (λ level. IsToldOf (known_of tile_cache.now) t point (Some level)) }
+    ensures { IfSome result (λ level. IsKnownLevel (known_of tile_cache.now) t point (Some level)) }
 {
     let side = tile_cache.rim_graph.side;
     let index = index_in(side, corner, point)?;

@@ -24,7 +24,7 @@ use lattice::{Corner, Refusal, Side, VOID};
 use std::alloc::Global;
 use tile_labellings::Labellings;
 
-/// What a tile's levels and those around it tell.
+/// The flows and the ranges of a tile, by its levels and those around it.
 #[derive(Drop)]
 pub(crate) struct Prepared {
     /// The flows of its samples: of points inside flats, whether an end of their level lies beside them, and the first step to
@@ -34,7 +34,7 @@ pub(crate) struct Prepared {
     pub(crate) ranges: Vec<Option<LevelRange>>,
 }
 
-/// What the levels of the corner's tile, which is present, and those around it tell. What is found of levels is held then.
+/// Those of the corner's tile, which is present. What is found of levels is held then.
 ///
 /// It is refused as a level is.
 pub(crate) fn prepare<S: Labellings>(
@@ -54,13 +54,13 @@ pub(crate) fn prepare<S: Labellings>(
     ensures asked { Asked S.Samples samples.old samples.new result }
 {
     let levels = padded_at(alloc, samples, held, corner)?;
-    let flows = tell(alloc, samples, corner, &levels)?;
+    let flows = tile_flows(alloc, samples, corner, &levels)?;
     let ranges = level_ranges(alloc, samples.side(), &levels)?;
     Ok(Prepared { flows, ranges })
 }
 
 // The flows of the tile by its levels and those around it. NoMemory is the only refusal.
-fn tell<S: Samples>(
+fn tile_flows<S: Samples>(
     alloc: Global,
     samples: &S,
     corner: Corner,

@@ -207,7 +207,7 @@ impl<S: Labellings> EdgeSource<S> for TileCache {
 
     ghost keeps = { λ s a s' b. IsCarried S.Samples a b (known_of s) (known_of s') };
 
-    ghost told = { λ s t. (ways : TileGraph) × (loaded_at s.rim_graph.loaded.items t ≡ Some ways) };
+    ghost asked = { λ s t. (ways : TileGraph) × (loaded_at s.rim_graph.loaded.items t ≡ Some ways) };
 
     ghost refuses = { λ s a s' b r. IsRefused S.Samples a b (known_of s) (known_of s') r };
 

@@ -17,9 +17,9 @@ use Rattle.lines.specs.declared.language.Language.{Language}
 use Rattle.lines.specs.declared.request.Request.{Request}
 use Rattle.lines.specs.Requests.{asked, IsRequestOf}
 use Rattle.lines.specs.Words.{cut}
-use Rattle.lines.proofs.KeywordLemmas.{spelling-free, same_keyword}
+use Rattle.lines.proofs.KeywordLemmas.{spelling_has_no_space, same_keyword}
 use Rattle.lines.proofs.WordLemmas.{cut-spaced}
-use Rattle.lines.proofs.RequestLemmas.{asks_words, each_takes, takes_free}
+use Rattle.lines.proofs.RequestLemmas.{asks_words, each_takes, arguments_have_no_space}
 
 same_nat : (w : List ℕ) (m n : ℕ) → IsNat w m → IsNat w n → m ≡ n
 same_nat w m n h i = h.2 ∙ sym i.2
@@ -123,7 +123,7 @@ same_asked = each_takes (λ Asks. (args : List (List ℕ)) (a b : Asked) → Ask
 pub only_one : (language : Language) (line : List ℕ) (o : Option Request) → IsRequestOf language line o → IfSome o (λ r. (a : Asked) → LineAsks language line a → a ≡ asked r)
 only_one language line None h = tt
 only_one language line (Some r) (short, text, is_text, (keyword, args, e, takes, is_in)) = λ a asks.
-    let words = ap cut e ∙ cut-spaced (spelling keyword) args (spelling-free keyword) (takes_free keyword args (asked r) takes) in
+    let words = ap cut e ∙ cut-spaced (spelling keyword) args (spelling_has_no_space keyword) (arguments_have_no_space keyword args (asked r) takes) in
     let parts = asks_words language line text (spelling keyword) args a is_text words asks in
     same_asked keyword args a (asked r) (subst (λ (k : Keyword). Takes k args a) (same_keyword parts.0 keyword parts.1.0) parts.1.1.0) takes
 

@@ -72,15 +72,15 @@ keyword_at-spelling Quit = refl
 pub same_keyword : (j k : Keyword) → spelling j ≡ spelling k → j ≡ k
 same_keyword j k e = sym (keyword_at-spelling j) ∙ ap keyword_at e ∙ keyword_at-spelling k
 
-abbrev is_free : List ℕ → Bool
-is_free word = list_all (λ b. not (b == 32)) word
+abbrev has_no_space : List ℕ → Bool
+has_no_space word = list_all (λ b. not (b == 32)) word
 
-no_space : (word : List ℕ) → is_free word ≡ true → HasNoSpace word
+no_space : (word : List ℕ) → has_no_space word ≡ true → HasNoSpace word
 no_space word h = λ k d within is_space.
     let passes : not (get_or word k d == 32) ≡ true = AllPass-from_list_all (λ b. not (b == 32)) word h k d within in
     let fails : not (get_or word k d == 32) ≡ false = ap (λ b. not (b == 32)) is_space in
     cc
 
 -- no command word has a space
-pub spelling-free : (k : Keyword) → HasNoSpace (spelling k)
-spelling-free k = no_space (spelling k) (each_passes (λ j. is_free (spelling j)) refl k)
+pub spelling_has_no_space : (k : Keyword) → HasNoSpace (spelling k)
+spelling_has_no_space k = no_space (spelling k) (each_passes (λ j. has_no_space (spelling j)) refl k)

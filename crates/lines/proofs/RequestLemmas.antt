@@ -13,50 +13,50 @@ use Rattle.engine.specs.declared.event.Event.{Event}
 use Rattle.lines.specs.Grammar.{Asked, AsksImport, AsksOf, AsksBox, AsksAlong, AsksAt, AsksAlone, Takes, IsIn, AreInts, IsNat, IsInt, IsWord, spelling, IsTextOf, LineAsks, coordinates, spaced}
 use Rattle.lines.specs.Requests.{IsRequest, IsRequestOf}
 use Rattle.lines.specs.Words.{cut, HasNoSpace}
-use Rattle.lines.proofs.KeywordLemmas.{spelling-free, same_keyword}
-use Rattle.lines.proofs.WordLemmas.{AllFree, cut-spaced, spaced-cut, same_front}
+use Rattle.lines.proofs.KeywordLemmas.{spelling_has_no_space, same_keyword}
+use Rattle.lines.proofs.WordLemmas.{HaveNoSpace, cut-spaced, spaced-cut, same_front}
 
 -- ---- no argument has a space
 
-word_free : (w : List ℕ) → IsWord w → HasNoSpace w
-word_free w (some, bytes) = λ k d within space. let byte = bytes k d within in omega (arith, byte, space)
+word_has_no_space : (w : List ℕ) → IsWord w → HasNoSpace w
+word_has_no_space w (some, bytes) = λ k d within space. let byte = bytes k d within in omega (arith, byte, space)
 
-digits_free : (ds : List ℕ) → AllDigits 10 ds → HasNoSpace ds
-digits_free [] h = All-nil (λ b. b ≢ 32)
-digits_free (d ∷ ds) h =
-    All-cons (λ b. b ≢ 32) d ds (λ space. let digit = digit_from_value d h.0 in omega (arith, digit, space)) (digits_free ds h.1)
+digits_have_no_space : (ds : List ℕ) → AllDigits 10 ds → HasNoSpace ds
+digits_have_no_space [] h = All-nil (λ b. b ≢ 32)
+digits_have_no_space (d ∷ ds) h =
+    All-cons (λ b. b ≢ 32) d ds (λ space. let digit = digit_from_value d h.0 in omega (arith, digit, space)) (digits_have_no_space ds h.1)
 
-nat_free : (w : List ℕ) (n : ℕ) → IsNat w n → HasNoSpace w
-nat_free w n nat = digits_free w nat.0.1
+nat_has_no_space : (w : List ℕ) (n : ℕ) → IsNat w n → HasNoSpace w
+nat_has_no_space w n nat = digits_have_no_space w nat.0.1
 
-int_free : (w : List ℕ) (z : ℤ) → IsInt w z → HasNoSpace w
-int_free w z (inl (n, nat, e)) = nat_free w n nat
-int_free w z (inr (digits, n, e, nat, f)) =
-    subst HasNoSpace (sym e) (All-cons (λ b. b ≢ 32) 45 digits (λ space. omega arith) (nat_free digits n nat))
+int_has_no_space : (w : List ℕ) (z : ℤ) → IsInt w z → HasNoSpace w
+int_has_no_space w z (inl (n, nat, e)) = nat_has_no_space w n nat
+int_has_no_space w z (inr (digits, n, e, nat, f)) =
+    subst HasNoSpace (sym e) (All-cons (λ b. b ≢ 32) 45 digits (λ space. omega arith) (nat_has_no_space digits n nat))
 
-ints_free : (ws : List (List ℕ)) (zs : List ℤ) → AreInts ws zs → AllFree ws
-ints_free [] [] h = tt
-ints_free [] (z ∷ zs) h = absurd h
-ints_free (w ∷ ws) [] h = absurd h
-ints_free (w ∷ ws) (z ∷ zs) h = (int_free w z h.0, ints_free ws zs h.1)
+ints_have_no_space : (ws : List (List ℕ)) (zs : List ℤ) → AreInts ws zs → HaveNoSpace ws
+ints_have_no_space [] [] h = tt
+ints_have_no_space [] (z ∷ zs) h = absurd h
+ints_have_no_space (w ∷ ws) [] h = absurd h
+ints_have_no_space (w ∷ ws) (z ∷ zs) h = (int_has_no_space w z h.0, ints_have_no_space ws zs h.1)
 
-import_free : (args : List (List ℕ)) (a : Asked) → AsksImport args a → AllFree args
-import_free args a (name, digits, len, e, word, nat, is) = subst AllFree (sym e) (word_free name word, (nat_free digits len nat, tt))
+import_has_no_space : (args : List (List ℕ)) (a : Asked) → AsksImport args a → HaveNoSpace args
+import_has_no_space args a (name, digits, len, e, word, nat, is) = subst HaveNoSpace (sym e) (word_has_no_space name word, (nat_has_no_space digits len nat, tt))
 
-of_free : (event : Corner → Event) (args : List (List ℕ)) (a : Asked) → AsksOf event args a → AllFree args
-of_free event args a (name, e, word, is) = subst AllFree (sym e) (word_free name word, tt)
+of_has_no_space : (event : Corner → Event) (args : List (List ℕ)) (a : Asked) → AsksOf event args a → HaveNoSpace args
+of_has_no_space event args a (name, e, word, is) = subst HaveNoSpace (sym e) (word_has_no_space name word, tt)
 
-box_free : (event : Point → Point → ℤ → Event) (args : List (List ℕ)) (a : Asked) → AsksBox event args a → AllFree args
-box_free event args a (from, to, height, ints, is) = ints_free args _ ints
+box_has_no_space : (event : Point → Point → ℤ → Event) (args : List (List ℕ)) (a : Asked) → AsksBox event args a → HaveNoSpace args
+box_has_no_space event args a (from, to, height, ints, is) = ints_have_no_space args _ ints
 
-along_free : (event : ℤ → List Point → Event) (args : List (List ℕ)) (a : Asked) → AsksAlong event args a → AllFree args
-along_free event args a (number, points, ints, few, is) = ints_free args (number ∷ coordinates points) ints
+along_has_no_space : (event : ℤ → List Point → Event) (args : List (List ℕ)) (a : Asked) → AsksAlong event args a → HaveNoSpace args
+along_has_no_space event args a (number, points, ints, few, is) = ints_have_no_space args (number ∷ coordinates points) ints
 
-at_free : (event : Point → Event) (args : List (List ℕ)) (a : Asked) → AsksAt event args a → AllFree args
-at_free event args a (p, ints, is) = ints_free args _ ints
+at_has_no_space : (event : Point → Event) (args : List (List ℕ)) (a : Asked) → AsksAt event args a → HaveNoSpace args
+at_has_no_space event args a (p, ints, is) = ints_have_no_space args _ ints
 
-alone_free : (what : Asked) (args : List (List ℕ)) (a : Asked) → AsksAlone what args a → AllFree args
-alone_free what args a (e, is) = subst AllFree (sym e) tt
+alone_has_no_space : (what : Asked) (args : List (List ℕ)) (a : Asked) → AsksAlone what args a → HaveNoSpace args
+alone_has_no_space what args a (e, is) = subst HaveNoSpace (sym e) tt
 
 -- what holds of each kind of arguments holds of those of every command
 module _ (P : (List (List ℕ) → Asked → Type 0) → Type 0) (import_ : P AsksImport) (of : (event : Corner → Event) → P (AsksOf event)) (box : (event : Point → Point → ℤ → Event) → P (AsksBox event))
@@ -85,8 +85,8 @@ module _ (P : (List (List ℕ) → Asked → Type 0) → Type 0) (import_ : P As
   each_takes Info = alone _
   each_takes Quit = alone _
 
-pub takes_free : (keyword : Keyword) (args : List (List ℕ)) (a : Asked) → Takes keyword args a → AllFree args
-takes_free = each_takes (λ Asks. (args : List (List ℕ)) (a : Asked) → Asks args a → AllFree args) import_free of_free box_free along_free at_free alone_free
+pub arguments_have_no_space : (keyword : Keyword) (args : List (List ℕ)) (a : Asked) → Takes keyword args a → HaveNoSpace args
+arguments_have_no_space = each_takes (λ Asks. (args : List (List ℕ)) (a : Asked) → Asks args a → HaveNoSpace args) import_has_no_space of_has_no_space box_has_no_space along_has_no_space at_has_no_space alone_has_no_space
 
 -- ---- the text of a line, and its words
 
@@ -102,7 +102,7 @@ module _ (language : Language) where
       → (keyword : Keyword) × ((spelling keyword ≡ word) × (Takes keyword rest a × IsIn language keyword))
   asks_words line text word rest a is_text words (short, t, is_t, (keyword, args, e, takes, is_in)) =
       let same : spelling keyword ∷ args ≡ word ∷ rest =
-      sym (cut-spaced (spelling keyword) args (spelling-free keyword) (takes_free keyword args a takes))
+      sym (cut-spaced (spelling keyword) args (spelling_has_no_space keyword) (arguments_have_no_space keyword args a takes))
       ∙ ap cut (sym e ∙ same_text line t text is_t is_text) ∙ words in
       let first : spelling keyword ≡ word = cc in
       let others : args ≡ rest = cc in

@@ -23,20 +23,20 @@ drop_at text i h = rw add-one (drop-cons text i 0 h)
 
 -- the text cut at its first space
 pub cut-at : (text : List ℕ) (i : ℕ) → i < length text → get_or text i 0 ≡ 32 → HasNoSpace (take i text) → cut text ≡ take i text ∷ cut (drop (i + 1) text)
-cut-at text i h e free =
+cut-at text i h e no_space =
     let whole : text ≡ take i text ++ 32 ∷ drop (i + 1) text =
     sym (take-append-drop i text) ∙ ap (λ r. take i text ++ r) (drop_at text i h ∙ ap (λ b. b ∷ drop (i + 1) text) e) in
-    ap cut whole ∙ cut-append (take i text) (drop (i + 1) text) free
+    ap cut whole ∙ cut-append (take i text) (drop (i + 1) text) no_space
 
 -- each word is without a space
-abbrev pub AllFree : List (List ℕ) → Type 0
-AllFree [] = Unit {0}
-AllFree (w ∷ ws) = HasNoSpace w × AllFree ws
+abbrev pub HaveNoSpace : List (List ℕ) → Type 0
+HaveNoSpace [] = Unit {0}
+HaveNoSpace (w ∷ ws) = HasNoSpace w × HaveNoSpace ws
 
 -- words with a space between them are cut into these words
-pub cut-spaced : (word : List ℕ) (ws : List (List ℕ)) → HasNoSpace word → AllFree ws → cut (spaced word ws) ≡ word ∷ ws
-cut-spaced word [] h free = cut-one word h
-cut-spaced word (w ∷ ws) h free = cut-append word (spaced w ws) h ∙ ap (λ l. word ∷ l) (cut-spaced w ws free.0 free.1)
+pub cut-spaced : (word : List ℕ) (ws : List (List ℕ)) → HasNoSpace word → HaveNoSpace ws → cut (spaced word ws) ≡ word ∷ ws
+cut-spaced word [] h no_space = cut-one word h
+cut-spaced word (w ∷ ws) h no_space = cut-append word (spaced w ws) h ∙ ap (λ l. word ∷ l) (cut-spaced w ws no_space.0 no_space.1)
 
 -- what is cut into words is these words with a space between them
 abbrev joined : List (List ℕ) → List ℕ

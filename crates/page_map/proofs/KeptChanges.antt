@@ -116,13 +116,12 @@ module _ (format : Format) (entries : List Entry) (free : FreePages) (kept : IsK
         balanced_as given
         (λ p. omega (arith, times-append p (fresh_in s.levels) (fresh_in s.labels), used_parts p s, used_parts p bare, used_split p s.levels, used_split p s.labels, used_split p bare.levels, used_split p bare.labels))
 
-    pub kept_bared : IsKept format put now
-    kept_bared =
-        kept_as_put format entries free kept c s found bare now put puts
-        (changed_kept Dropped Dropped bare_balanced tt tt (bare_together (staged_plane s.heights)) (omega (arith, was_kept.kept_room, no_more_kept before (c, s) (c, bare) after (omega arith))))
-
-    pub is_bared : page_map_of format put now ≡ record (page_map_of format entries free) { staged = other_kept c None (staged_tiles entries) }
-    is_bared = changed_page_map Dropped Dropped bare_balanced tt tt (bare_together (staged_plane s.heights)) put puts
+    pub bared : (v : PageMapValue) → page_map_of format entries free ≡ v → IsKept format put now × (page_map_of format put now ≡ record v { staged = other_kept c None v.staged })
+    bared v is = (
+      kept_as_put format entries free kept c s found bare now put puts
+          (changed_kept Dropped Dropped bare_balanced tt tt (bare_together (staged_plane s.heights)) (omega (arith, was_kept.kept_room, no_more_kept before (c, s) (c, bare) after (omega arith)))),
+      changed_page_map Dropped Dropped bare_balanced tt tt (bare_together (staged_plane s.heights)) put puts ∙ ap (λ (x : PageMapValue). record x { staged = other_kept c None x.staged }) is,
+    )
 
   -- ---- with kept planes on fresh pages
   module _ (none : flat_map fresh_by entries ≡ []) where
@@ -195,23 +194,22 @@ module _ (format : Format) (entries : List Entry) (free : FreePages) (kept : IsK
     removed_tiles : staged_tiles (before ++ (c, without) ∷ after) ≡ without_location c (staged_tiles (before ++ (c, s) ∷ after))
     removed_tiles = staged_without before (c, s) after (rising_there format entries free kept c s found) tile.0 tile.1 (c, without) refl
 
-    pub kept_removed : IsKept format put now
-    kept_removed =
-        kept_as_put format entries free kept c s found without now put puts
-        (kept_change format before c s without after free now was_kept
-        (record {
-          corner = own.corner;
-          heights = record { committed = own.heights.committed; staged = tt };
-          levels = record { committed = own.levels.committed; staged = tt };
-          labels = record { committed = own.labels.committed; staged = tt };
-          committed = own.committed;
-          staged = tt;
-        })
-        (rw (same_committed_tiles before (c, s) (c, without) after refl) was_kept.committed_room)
-        (rw removed_tiles (let fewer = length-filter-le (λ t. not (is_at c t)) (staged_tiles (before ++ (c, s) ∷ after)) in omega (arith, fewer, was_kept.staged_room)))
-        (omega (arith, was_kept.kept_room, no_more_kept before (c, s) (c, without) after (omega arith))) without_balanced)
-
-    pub is_removed : page_map_of format put now ≡ record (page_map_of format entries free) { staged = without_location c (staged_tiles entries) }
-    is_removed =
-        at_page_map format entries free kept c s found without now put puts (λ (x y : PageMapValue). y ≡ record x { staged = without_location c x.staged })
-        (page_map_changed format before (c, s) (c, without) after free now without_balanced.same_range refl _ removed_tiles)
+    pub removed : (v : PageMapValue) → page_map_of format entries free ≡ v → IsKept format put now × (page_map_of format put now ≡ record v { staged = without_location c v.staged })
+    removed v is = (
+      kept_as_put format entries free kept c s found without now put puts
+          (kept_change format before c s without after free now was_kept
+          (record {
+            corner = own.corner;
+            heights = record { committed = own.heights.committed; staged = tt };
+            levels = record { committed = own.levels.committed; staged = tt };
+            labels = record { committed = own.labels.committed; staged = tt };
+            committed = own.committed;
+            staged = tt;
+          })
+          (rw (same_committed_tiles before (c, s) (c, without) after refl) was_kept.committed_room)
+          (rw removed_tiles (let fewer = length-filter-le (λ t. not (is_at c t)) (staged_tiles (before ++ (c, s) ∷ after)) in omega (arith, fewer, was_kept.staged_room)))
+          (omega (arith, was_kept.kept_room, no_more_kept before (c, s) (c, without) after (omega arith))) without_balanced),
+      at_page_map format entries free kept c s found without now put puts (λ (x y : PageMapValue). y ≡ record x { staged = without_location c x.staged })
+          (page_map_changed format before (c, s) (c, without) after free now without_balanced.same_range refl _ removed_tiles)
+          ∙ ap (λ (x : PageMapValue). record x { staged = without_location c x.staged }) is,
+    )

@@ -1,8 +1,8 @@
 -- The edges to the same point of other tiles, corner by corner.
 use Rattle.std.proofs.Common.{◌≡◌, ◌≢◌, ℕ, ◌+◌, ◌*◌, ◌-◌, ◌^◌, ◌<◌, ◌≤◌, ◌⊎◌, inl, inr, ℤ, List, [], ◌∷◌, ◌++◌, length, get_or, refl, sym, ap, ◌∙◌, subst, arith, Contains, mul-le-mul_right}
-use Rattle.border_graph.proofs.Prelude.{AreOthersTold, Corner, Edge, Point, Rim, cases_lt, corner_at, get_or_default, held_at, index_unique, node_number, rim_number}
+use Rattle.border_graph.proofs.Prelude.{AddsOthers, Corner, Edge, Point, Rim, cases_lt, corner_at, get_or_default, held_at, index_unique, node_number, rim_number}
 use Rattle.lattice.specs.Lattice.{Holds, IsIndexOf}
-use Rattle.border_graph.specs.Others.{AreApart, AreTooMany, IsToOther, IsOtherListed, IsOtherTold}
+use Rattle.border_graph.specs.Others.{AreApart, AreTooMany, IsToOther, IsOtherListed, AddsOther}
 use Rattle.border_graph.proofs.Listing.{still_more, last_has, before_or_last}
 
 -- more numbers than there are
@@ -18,8 +18,8 @@ too_many n corners u l small number past =
     within a size whole l le less past = omega arith
 
 module _ (n : ℕ) (corners : List Corner) (t : ℕ) (p : Point) (height : ℤ) (c : Corner) where
-  pub one_told : (u e : ℕ) → u < length corners → corner_at corners u ≡ c → t ≢ u → IsIndexOf n c p e → (old new : List Edge) (way : Edge) → way.to ≡ node_number n (Rim u (rim_number n e)) → way.level ≡ height → new ≡ old ++ way ∷ [] → IsOtherTold n corners t p height c old new
-  one_told u e small at other index old new way to level is = record {
+  pub one_added : (u e : ℕ) → u < length corners → corner_at corners u ≡ c → t ≢ u → IsIndexOf n c p e → (old new : List Edge) (way : Edge) → way.to ≡ node_number n (Rim u (rim_number n e)) → way.level ≡ height → new ≡ old ++ way ∷ [] → AddsOther n corners t p height c old new
+  one_added u e small at other index old new way to level is = record {
     still = still_more old old new way is (λ x has. has);
     only = λ x has. elim (before_or_last old new way x is has) [
       | inl before ↦ inl before
@@ -36,13 +36,13 @@ module _ (n : ℕ) (corners : List Corner) (t : ℕ) (p : Point) (height : ℤ) 
 
 module _ (n : ℕ) (corners : List Corner) (t : ℕ) (p : Point) (height : ℤ) where
   -- the first corners of a list
-  pub record AreToldOf (holding : List Corner) (count : ℕ) (old new : List Edge) : Type 0 where
+  pub record AddsThose (holding : List Corner) (count : ℕ) (old new : List Edge) : Type 0 where
     pub still : (way : Edge) → Contains old way → Contains new way
     pub only : (way : Edge) → Contains new way → Contains old way ⊎ IsToOther n corners t p height way
     pub listed : AreApart corners → (j : ℕ) (d : Corner) → j < count → IsOtherListed n corners t p height (get_or holding j d) new
 
-  pub one_more_told : (holding : List Corner) (i : ℕ) (item : Corner) (old mid new : List Edge) → i < length holding → item ≡ get_or holding i item → AreToldOf holding i old mid → IsOtherTold n corners t p height item mid new → AreToldOf holding (i + 1) old new
-  one_more_told holding i item old mid new small is was now = record {
+  pub one_more_added : (holding : List Corner) (i : ℕ) (item : Corner) (old mid new : List Edge) → i < length holding → item ≡ get_or holding i item → AddsThose holding i old mid → AddsOther n corners t p height item mid new → AddsThose holding (i + 1) old new
+  one_more_added holding i item old mid new small is was now = record {
     still = λ way has. now.still way (was.still way has);
     only = λ way has. elim (now.only way has) [ inr more ↦ inr more | inl before ↦ was.only way before ];
     listed = λ apart j d below. elim (cases_lt j i) [
@@ -54,12 +54,12 @@ module _ (n : ℕ) (corners : List Corner) (t : ℕ) (p : Point) (height : ℤ) 
     ];
   }
 
-  pub all_told : (holding : List Corner) (count : ℕ) (old new : List Edge) → length holding ≤ count → ((c : Corner) → Holds n c p → Contains holding c) → AreToldOf holding count old new → AreOthersTold n corners t p height old new
-  all_told holding count old new all exactly told = record {
-    still = told.still;
-    only = told.only;
+  pub all_added : (holding : List Corner) (count : ℕ) (old new : List Edge) → length holding ≤ count → ((c : Corner) → Holds n c p → Contains holding c) → AddsThose holding count old new → AddsOthers n corners t p height old new
+  all_added holding count old new all exactly added = record {
+    still = added.still;
+    only = added.only;
     listed = λ apart c u e small at other index.
         let found = exactly c (held_at n c p e index) in
         let inside : found.0 < length holding = found.1 in
-        subst (λ (d : Corner). IsOtherListed n corners t p height d new) found.2 (told.listed apart found.0 c (omega arith)) u e small at other index;
+        subst (λ (d : Corner). IsOtherListed n corners t p height d new) found.2 (added.listed apart found.0 c (omega arith)) u e small at other index;
   }

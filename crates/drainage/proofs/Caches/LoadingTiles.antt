@@ -11,7 +11,7 @@ fits_before g a b side corners loaded side' corners' loaded' n summaries kept fi
   whole = fits.whole;
   same_side = fits.same_side ∙ kept.same_side;
   same_corners = fits.same_corners ∙ kept.same_corners;
-  tells = λ t ways is. fits.tells t ways (kept.still t ways is);
+  agree = λ t ways is. fits.agree t ways (kept.still t ways is);
 }
 
 -- a place that is loaded

@@ -2,7 +2,7 @@
 use Rattle.std.proofs.Common.{◌≡◌, ◌≢◌, ℕ, ◌+◌, ◌*◌, ◌-◌, ◌<◌, ℤ, pos, Option, Some, None, IsTrue, List, length, get_or, slice_index, slice_index_or, refl, sym, subst}
 use Rattle.drainage.proofs.Prelude.{Contains, Corner, Dir, Holds, IsFlooded, IsIndexOf, IsMosaic, IsRight, IsRimLevel, Known, LabelledGround, Mosaic, NO_LABEL, OUT, Point, all_around, corner_at, corners_of, get_or_default, int_max, level_ground, level_is_unique, level_of, order_of, share_tile, shared_from, step, terrain, told, void}
 use Rattle.flow_d8.specs.LevelsAround.{IsNear}
-use Rattle.drainage.specs.Nearby.{IsToldOf}
+use Rattle.drainage.specs.Nearby.{IsKnownLevel}
 use Rattle.drainage.proofs.Questions.Filled.{level_inside, level_over}
 use Rattle.drainage.proofs.Flows.Found.{start_is}
 
@@ -22,14 +22,14 @@ module _ (known : Known) (p : Point) (t e : ℕ) (c : Corner) (small : t < lengt
   flooded m right = subst (λ (d : Corner). IsFlooded m d labelled) (sym place) (held m right)
 
   -- its label is OUT
-  pub told_out : label ≢ NO_LABEL → label ≡ OUT → IsToldOf known t p (Some level)
+  pub told_out : label ≢ NO_LABEL → label ≡ OUT → IsKnownLevel known t p (Some level)
   told_out ground out = record {
     held = holds;
     level = λ m is right. level_inside m is p known right known.corners refl t e (small, index_here) (corner_at known.corners t) at level label (labelled, (flooded m right, (level_is, label_is))) ground out;
   }
 
   -- or names a rim point whose level is known
-  pub told_over : label ≢ NO_LABEL → label ≢ OUT → (start : ℕ) (v : ℤ) → start ≡ 1 + t * (4 * (known.side - 1)) + label → level_of known.levels start ≡ Some v → IsToldOf known t p (Some (int_max level v))
+  pub told_over : label ≢ NO_LABEL → label ≢ OUT → (start : ℕ) (v : ℤ) → start ≡ 1 + t * (4 * (known.side - 1)) + label → level_of known.levels start ≡ Some v → IsKnownLevel known t p (Some (int_max level v))
   told_over ground named start v node known_there = record {
     held = holds;
     level = λ m is right. level_over m is p known right known.corners refl t e (small, index_here) (corner_at known.corners t) at level label (labelled, (flooded m right, (level_is, label_is))) ground named v
@@ -38,7 +38,7 @@ module _ (known : Known) (p : Point) (t e : ℕ) (c : Corner) (small : t < lengt
 
 -- such levels of a point and of those in all directions from it are those at it and around it
 pub near_is : (m : Mosaic) → IsMosaic m → (known : Known) → IsRight m known → (t : ℕ) → t < length known.corners → (p : Point) (height : ℤ) (around : List (Option ℤ)) → length around ≡ 8
-    → IsToldOf known t p (Some height) → ((d : Dir) → IsToldOf known t (step d p) (get_or around (order_of d) None)) → IsNear m p (record { height = height; around = around })
+    → IsKnownLevel known t p (Some height) → ((d : Dir) → IsKnownLevel known t (step d p) (get_or around (order_of d) None)) → IsNear m p (record { height = height; around = around })
 near_is m is known right t small p height around eight here each =
     let c = corner_at known.corners t in
     let filled_here = here.level m is right in

@@ -49,10 +49,10 @@ module _ (side : ℕ) (corners : List Corner) (loaded : List (Option TileGraph))
   told_ways ways is small old new empty listed =
       let t = (node - 1) / r in
       let k = (node - 1) % r' in
-      let tells = fits.tells t ways is in
+      let agree = fits.agree t ways is in
       let equal : side ≡ n = sym fits.same_side in
       let here : AreTileEdges n corners ways ((node - 1) / r) ((node - 1) % r') [] new = subst (λ s. AreTileEdges s corners ways ((node - 1) / r) ((node - 1) % r') [] new) equal (subst (λ (l : List Edge). AreTileEdges side corners ways ((node - 1) / r) ((node - 1) % r') l new) empty listed) in
-      let same : IsReordered (summary_at summaries ((node - 1) / r)) ways.summary = subst (IsReordered (summary_at summaries ((node - 1) / r))) tells.1 (record { corner = refl; rim = refl; spills = IsPermutation-refl (summary_at summaries ((node - 1) / r)).spills }) in
+      let same : IsReordered (summary_at summaries ((node - 1) / r)) ways.summary = subst (IsReordered (summary_at summaries ((node - 1) / r))) agree.1 (record { corner = refl; rim = refl; spills = IsPermutation-refl (summary_at summaries ((node - 1) / r)).spills }) in
       subst (λ x. AreEdges (IsPlacedLink n summaries) x new) (sym of_tile)
       (are_edges n summaries (of_fits fits) corners many (λ u _. corner_is u) t k (subst (λ v. t < v) many small) number ways same new here)
 

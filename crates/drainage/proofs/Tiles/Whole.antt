@@ -95,7 +95,7 @@ module _ (m : Mosaic) (is : IsMosaic m) (side : ℕ) (corners : List Corner) (lo
     whole = refl;
     same_side = sym ready.same_side;
     same_corners = same_corners;
-    tells = λ t ways at.
+    agree = λ t ways at.
         let below = told_below t ways at in
         (ready.tiles.sides t ways at ∙ ready.same_side, at_place t (record { corner = record { lat = pos 0; lon = pos 0 }; rim = []; spills = [] }) below ∙ (pick_is t below).tells ways at);
   }

@@ -16,7 +16,7 @@ pub rise-init : goal.rise-init
 rise-init g c = record {
   fits = λ n summaries fits. fits;
   keeps = g.met.G.EdgeSource.keeps_itself c.args.graph.now c.args.source.now;
-  told = λ n summaries fits t told. inl told;
+  asked = λ n summaries fits t asked. inl asked;
   none = c.requires.empty;
   settled = λ n summaries fits of one has. absurd (none one (subst (λ (l : List Settled). Contains l one) c.new-settled.ensures.items has));
   rising = λ n summaries fits. rising_first (IsPlacedLink n summaries) (AreOfMosaic n summaries) c.args.start (low_placed n summaries) c.requires.start c.new-visited.result c.new-visited.ensures c.push.new.self (record { crest = void; level = void; node = c.args.start })
@@ -60,8 +60,8 @@ returns-in-Some-2-clause-alike g c n summaries fits of x has =
           ],
         )
 
-pub returns-in-Some-2-clause-told : goal.returns-in-Some-2-clause-told
-returns-in-Some-2-clause-told g c n summaries fits of t told =
+pub returns-in-Some-2-clause-asked : goal.returns-in-Some-2-clause-asked
+returns-in-Some-2-clause-asked g c n summaries fits of t asked =
     let in_range : SFits w16 c.in-Some-2.level = search rules in
     let before = c.in_ok-level.ensures.fits n summaries fits in
     let next : IsNext c.rise.frontier c.rise.visited c.pop_unvisited.new.frontier c.pop_unvisited.new.visited c.in-Some.entry =
@@ -70,9 +70,9 @@ returns-in-Some-2-clause-told g c n summaries fits of t told =
     let end : IsEnd (IsPlacedLink n summaries) c.in-Some.entry c.in-Some-2.level = subst (λ found. IfSome found (IsEnd (IsPlacedLink n summaries) c.in-Some.entry)) c.in-Some-2.is (c.in_ok-level.ensures.ends n summaries fits of) in
     let up : (y : ℕ) → IsReachedBelow (IsPlacedLink n summaries) c.args.start c.in-Some.entry.crest y → IsReachedBelow (IsPlacedLink n summaries) c.args.start (to_z w16 (of_z w16 c.in-Some-2.level)) y =
     λ y way. (way.0, way_up (IsPlacedLink n summaries) y c.in-Some.entry.crest (to_z w16 (of_z w16 c.in-Some-2.level)) (subst (λ v. c.in-Some.entry.crest ≤ℤ v) (sym (to_z-of_z in_range)) end.high) c.args.start way.0 way.1) in
-    elim (c.in_ok-level.ensures.told n summaries fits t told) [
+    elim (c.in_ok-level.ensures.asked n summaries fits t asked) [
       | inr here ↦ inr (here.0, up (node_number n (Rim t here.0)) (subst (IsReachedBelow (IsPlacedLink n summaries) c.args.start c.in-Some.entry.crest) here.1 (rising.ways of c.in-Some.entry next.waited)))
-      | inl earlier ↦ elim (c.rise.invariant.told n summaries before t earlier) [
+      | inl earlier ↦ elim (c.rise.invariant.asked n summaries before t earlier) [
         | inl first ↦ inl first
         | inr at ↦ inr (at.0, up (node_number n (Rim t at.0)) (reached_below (IsPlacedLink n summaries) (AreOfMosaic n summaries) c.args.start c.rise.visited c.rise.frontier rising c.pop_unvisited.new.frontier c.pop_unvisited.new.visited c.in-Some.entry next of (node_number n (Rim t at.0)) at.1))
       ]
@@ -93,9 +93,9 @@ rise-preserved g c =
     record {
       fits = λ n summaries fits. c.rise.invariant.fits n summaries (c.in_ok-level.ensures.fits n summaries fits);
       keeps = g.met.G.EdgeSource.keeps_on c.args.graph.now c.rise.graph c.expand.new.graph c.args.source.now c.rise.source c.expand.new.source c.rise.invariant.keeps c.in_ok-level.ensures.keeps;
-      told = λ n summaries fits t told. elim (c.in_ok-level.ensures.told n summaries fits t told) [
+      asked = λ n summaries fits t asked. elim (c.in_ok-level.ensures.asked n summaries fits t asked) [
         | inr here ↦ inr (here.0, subst (λ y. is_among c.pop_unvisited.new.visited y ≡ true) here.1 (taken_now c.rise.visited c.pop_unvisited.new.visited c.in-Some.entry.node next.takes))
-        | inl before ↦ elim (c.rise.invariant.told n summaries (c.in_ok-level.ensures.fits n summaries fits) t before) [
+        | inl before ↦ elim (c.rise.invariant.asked n summaries (c.in_ok-level.ensures.fits n summaries fits) t before) [
           | inl first ↦ inl first
           | inr at ↦ inr (at.0, taken_still c.rise.visited c.pop_unvisited.new.visited c.in-Some.entry.node (node_number n (Rim t at.0)) next.takes at.1)
         ]

@@ -1,4 +1,4 @@
-use Rattle.border_graph.proofs.Prelude.{AreEdgesAcross, AreEdgesOut, AreOthersTold, Corner, SFits, ℕ, ℤ, ap, arith, corner_at, eqb_tells, false, get_or_default, inl, inr, not, of_z, point_of, refl, rim_point, rim_point_of, rules, subst, sym, to_z, to_z-of_z, true≢false, void, w16, ◌*◌, ◌+◌, ◌-◌, ◌==◌, ◌∙◌, ◌≡◌}
+use Rattle.border_graph.proofs.Prelude.{AreEdgesAcross, AreEdgesOut, AddsOthers, Corner, SFits, ℕ, ℤ, ap, arith, corner_at, eqb_tells, false, get_or_default, inl, inr, not, of_z, point_of, refl, rim_point, rim_point_of, rules, subst, sym, to_z, to_z-of_z, true≢false, void, w16, ◌*◌, ◌+◌, ◌-◌, ◌==◌, ◌∙◌, ◌≡◌}
 use Rattle.border_graph.proofs.seams.list_edges.Goals as goal
 
 -- numbers and heights as they were computed
@@ -53,7 +53,7 @@ returns-clause-edges c =
       index = c.rim_index.result;
       rim = c.rim_index.ensures;
       nothing = λ gap. absurd (c.if-height.false (ap (of_z w16) (c.height-height.ensures ∙ gap)));
-      others = λ full. subst (λ h. AreOthersTold c.args.side c.args.corners.now c.args.t (point_of c.args.side (corner_at c.args.corners.now c.args.t) c.rim_index.result) h c.edges_across.new.into.items c.edges_to_others.new.into.items) height
-          (subst (λ p. AreOthersTold c.args.side c.args.corners.now c.args.t p (to_z w16 (of_z w16 c.height-height.result)) c.edges_across.new.into.items c.edges_to_others.new.into.items)
+      others = λ full. subst (λ h. AddsOthers c.args.side c.args.corners.now c.args.t (point_of c.args.side (corner_at c.args.corners.now c.args.t) c.rim_index.result) h c.edges_across.new.into.items c.edges_to_others.new.into.items) height
+          (subst (λ p. AddsOthers c.args.side c.args.corners.now c.args.t p (to_z w16 (of_z w16 c.height-height.result)) c.edges_across.new.into.items c.edges_to_others.new.into.items)
           (c.point_at-point.ensures.value ∙ ap (λ (d : Corner). point_of c.args.side d c.rim_index.result) corner) c.in_ok-edges_to_others.ensures.edges);
     }

@@ -2,8 +2,8 @@ use Rattle.drainage.proofs.Prelude.{ArePadded, AreRanges, AreRangesOf, AreTileFl
 use Rattle.drainage.proofs.Caches.FlowCaches.{ranges_are}
 use Rattle.drainage.proofs.preparing.prepare.Goals as goal
 
-pub tell-requires : goal.tell-requires
-tell-requires g c =
+pub tile_flows-requires : goal.tile_flows-requires
+tile_flows-requires g c =
     let told = c.in_ok-levels.ensures in
     record { levels = ap (λ (l : List ℤ). length l) c.deref.ensures.value ∙ told.whole ∙ ap (λ n. (n + 4) * (n + 4)) (sym told.asked.reads.side) }
 

@@ -25,20 +25,20 @@ returns-in_default-corner-clause-all g c n summaries agrees = (returns-in_defaul
 pub returns-clause-all : goal.returns-clause-all
 returns-clause-all g c n summaries agrees = (returns-clause-answer g c n summaries agrees (of_fits agrees.fits)).all
 
-pub returns-in_err-load_tile-clause-told : goal.returns-in_err-load_tile-clause-told
-returns-in_err-load_tile-clause-told g c n summaries agrees =
+pub returns-in_err-load_tile-clause-asked : goal.returns-in_err-load_tile-clause-asked
+returns-in_err-load_tile-clause-asked g c n summaries agrees =
     let same = sym c.in_err-load_tile.ensures.grown.kept.same_side in
     told_of c.load_tile.new.self.rim_graph.side c.load_tile.new.self.rim_graph.corners.items c.load_tile.new.self.rim_graph.loaded.items n summaries agrees.fits c.args.node c.rim.result c.rim-2.result c.requires.node
     (subst (λ s. 3 ≤ s) same c.rim.ensures.low) (c.rim.ensures.value ∙ ap (λ s. 4 * (s - 1)) same) (c.rim-2.ensures.value ∙ ap (λ s. 4 * (s - 1)) same) c.args.self.now.rim_graph.loaded.items c.in_err-load_tile.ensures.only
 
-pub returns-in_err-list-clause-told : goal.returns-in_err-list-clause-told
-returns-in_err-list-clause-told g c n summaries agrees =
+pub returns-in_err-list-clause-asked : goal.returns-in_err-list-clause-asked
+returns-in_err-list-clause-asked g c n summaries agrees =
     let same = sym c.in_ok-load_tile.ensures.grown.kept.same_side in
     told_of c.load_tile.new.self.rim_graph.side c.load_tile.new.self.rim_graph.corners.items c.load_tile.new.self.rim_graph.loaded.items n summaries agrees.fits c.args.node c.rim.result c.rim-2.result c.requires.node
     (subst (λ s. 3 ≤ s) same c.rim.ensures.low) (c.rim.ensures.value ∙ ap (λ s. 4 * (s - 1)) same) (c.rim-2.ensures.value ∙ ap (λ s. 4 * (s - 1)) same) c.args.self.now.rim_graph.loaded.items c.in_ok-load_tile.ensures.only
 
-pub returns-clause-told : goal.returns-clause-told
-returns-clause-told g c n summaries agrees =
+pub returns-clause-asked : goal.returns-clause-asked
+returns-clause-asked g c n summaries agrees =
     let same = sym c.in_ok-load_tile.ensures.grown.kept.same_side in
     told_of c.load_tile.new.self.rim_graph.side c.load_tile.new.self.rim_graph.corners.items c.load_tile.new.self.rim_graph.loaded.items n summaries agrees.fits c.args.node c.rim.result c.rim-2.result c.requires.node
     (subst (λ s. 3 ≤ s) same c.rim.ensures.low) (c.rim.ensures.value ∙ ap (λ s. 4 * (s - 1)) same) (c.rim-2.ensures.value ∙ ap (λ s. 4 * (s - 1)) same) c.args.self.now.rim_graph.loaded.items c.in_ok-load_tile.ensures.only

@@ -1,5 +1,5 @@
 use Rattle.drainage.proofs.Prelude.{Contains, Corner, List, present_iff, subst, sym, ◌∙◌}
-use Rattle.drainage.proofs.preparing.tell.Goals as goal
+use Rattle.drainage.proofs.preparing.tile_flows.Goals as goal
 
 pub returns-clause-flows : goal.returns-clause-flows
 returns-clause-flows g c honest present padded =
