@@ -38,6 +38,7 @@ mod laws;
 mod listings;
 mod longer;
 mod opening;
+mod past_planes;
 mod samples;
 mod sinks;
 mod tree;

@@ -27,6 +27,7 @@ use crate::cache::PageCache;
 use crate::entries::staged_entries;
 use crate::listings::{Listings, write_listings};
 use crate::opening::read_page_map;
+use crate::past_planes::PastPlanes;
 use crate::sinks::Sinks;
 use crate::writing::{write_kept, write_plane};
 use arrayvec::ArrayVec;
@@ -51,6 +52,9 @@ pub struct Tree<D: Disk> {
     sinks: Sinks,
     // Pages that were read lately.
     cache: PageCache,
+    // Where planes of stale tiles lay. A reopening forgets it, so that a sector that can't be read any more, though nothing
+    // lies on it, fails the tree once.
+    past: PastPlanes,
     ghost sectors: { page_map.sectors ≡ D.Disk.size (disk_under roots) },
     ghost fits: { page_map.sectors < 2 ^ 32 },
     ghost format: { page_map.format ≡ format_of (root_under roots) },
@@ -124,6 +128,7 @@ impl<D: Disk> Tree<D> {
                 page_map,
                 sinks: Sinks::of(&root),
                 cache,
+                past: PastPlanes::new(alloc),
             }),
             Err(refusal) => Err(NotOpened {
                 disk: roots.into_disk(),
@@ -157,6 +162,7 @@ impl<D: Disk> Tree<D> {
         ensures sinks { OnOk result (sinks_of self.new ≡ (root_of self.new).sinks) }
     {
         self.cache.clear();
+        self.past.clear();
         let known = self.roots.current().copy();
         self.roots.reopen()?;
         let root = self.roots.current().copy();
@@ -341,6 +347,32 @@ impl<D: Disk> Tree<D> {
         }
         let number = self.page_number(c, plane, i);
         self.roots.read(number, into)
+    }
+
+    /// Whether it is known where levels and labels of the corner's tile lay before it went stale.
+    pub fn has_past(&self, c: Corner) -> bool {
+        self.past.page(c, Plane::Levels, 0).is_some()
+    }
+
+    /// Reads what stands where page `i` of a plane of the corner's tile lay before the tile went stale: the same, or what was
+    /// written since. Where that isn't known, nothing is read. Refused as [`Tree::read_page`] is.
+    pub fn read_past_page(
+        &mut self,
+        c: Corner,
+        plane: Plane,
+        i: u32,
+        into: &mut [u8; PAGE_BYTES],
+    ) -> Result<(), Refusal>
+        ensures reads { Reads D.Disk self.old self.new result }
+        ensures failed { has_failed self.old ≡ true → (result ≡ Err Failed) × (disk_of self.new ≡ disk_of self.old) }
+    {
+        if self.roots.has_failed() {
+            return Err(Refusal::Failed);
+        }
+        match self.past.page(c, plane, i) {
+            Some(number) if number < self.roots.sectors() => self.roots.read(number, into),
+            _ => Ok(()),
+        }
     }
 
     // Where page `i` of a plane lies, as the next commit will have it.
@@ -654,6 +686,12 @@ impl<D: Disk> Tree<D> {
         ensures at { (s : Stored) → IsAt D.Disk self.old s → IsAt D.Disk self.new s }
     {
         self.page_map.rules();
+        self.past.note(
+            self.alloc,
+            c,
+            self.page_map.plane(c, Plane::Levels),
+            self.page_map.plane(c, Plane::Labels),
+        );
         self.page_map.drop_kept(c);
     }
 }

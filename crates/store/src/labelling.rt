@@ -18,7 +18,7 @@ use catalogue::Samples;
 use cow_tree::{Plane, Tree};
 use disk::Disk;
 use lattice::{Corner, Point, Refusal, Side};
-use page_codec::VALUES_IN_PAGE;
+use page_codec::{PAGE_BYTES, VALUES_IN_PAGE, pages_in_plane};
 use std::alloc::Global;
 use std::marker::{Brand, PhantomData};
 use tile_flood::Labelled;
@@ -109,7 +109,8 @@ impl<'a, D: Disk, P: Premise> Labellings for TreeSource<'a, D, P> {
             let labelled = kept_labelling(alloc, self.tree, corner)?;
             Ok(TileLabelling::Kept(labelled))
         } else {
-            let block = flooded(alloc, self, corner)?;
+            let past = past_labelling(alloc, self.tree, corner)?;
+            let block = flooded(alloc, self, corner, past)?;
             Ok(TileLabelling::Flooded(block))
         }
     }
@@ -206,6 +207,52 @@ fn kept_labelling<D: Disk>(
     let side = tree.current().side();
     let kept = read_kept(alloc, tree, corner)?;
     labelled_from(alloc, side, &kept.levels, &kept.labels)
+}
+
+// What stands where the labelling of the corner's tile was kept before the tile went stale, where that is known: anything,
+// since its pages may have been written again.
+fn past_labelling<D: Disk>(
+    alloc: Global,
+    tree: &mut Tree<D>,
+    corner: Corner,
+) -> Result<Option<Labelled>, Refusal>
+    ensures refusal { IfErr result (λ r. IsTrue (ends_any r) × (r ≢ Damaged)) }
+    ensures reads { Consults D.Disk tree.old tree.new result }
+{
+    if tree.has_failed() {
+        return Err(Refusal::Failed);
+    }
+    if !tree.has_past(corner) {
+        return Ok(None);
+    }
+    let side = tree.current().side();
+    let levels = read_past(alloc, tree, corner, Plane::Levels)?;
+    let labels = read_past(alloc, tree, corner, Plane::Labels)?;
+    Ok(labelled_from(alloc, side, &levels, &labels).ok())
+}
+
+// As many bytes as a plane of the corner's tile has, from where it lay before the tile went stale.
+fn read_past<D: Disk>(
+    alloc: Global,
+    tree: &mut Tree<D>,
+    corner: Corner,
+    plane: Plane,
+) -> Result<Vec<u8>, Refusal>
+    requires { have_failed tree.old ≡ false }
+    ensures whole { IfOk result (λ bytes. vec_len bytes ≡ 2 * ((root_under tree.old).side * (root_under tree.old).side)) }
+    ensures refusal { IfErr result (λ r. IsTrue (ends_any r) × (r ≢ Damaged)) }
+    ensures reads { Reads D.Disk tree.old tree.new (reads_of result) }
+{
+    let side = tree.current().side();
+    let count = pages_in_plane(side);
+    let mut bytes = Vec::with_capacity(alloc, count as usize * PAGE_BYTES)?;
+    let mut page = [0; PAGE_BYTES];
+    for i in 0..count {
+        tree.read_past_page(corner, plane, i, &mut page)?;
+        bytes.extend_from_slice(&page)?;
+    }
+    bytes.truncate(side.file_bytes() as usize);
+    Ok(bytes)
 }
 
 // The bytes of the levels and the labels that are kept of the corner's tile.

@@ -11,6 +11,10 @@ pub mod Held
 pub mod Spared
 pub mod OneRun
 pub mod Steps
+pub mod Windows
+pub mod Standing
+pub mod Fitting
+pub mod Restored
 pub mod ListedChanges
 pub mod SameSpills
 pub mod Passages

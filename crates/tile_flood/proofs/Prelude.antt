@@ -26,7 +26,7 @@ pub use Rattle.tile_flood.specs.Carried.{AreCarried, AreRelaxed, IsCarriedBy, Is
 pub use Rattle.tile_flood.specs.Cells.{AreCells, IsFresh, label_of, labels_of, level_of, levels_of}
 pub use Rattle.tile_flood.specs.Flooding.{IsNear, IsOwnLabel, is_marked, unmarked}
 pub use Rattle.tile_flood.specs.Labelling.{IsLabelling, NO_LABEL, Names, OUT}
-pub use Rattle.tile_flood.specs.Passing.{AreFirsts, AreFoundBelow, AreFoundStill, ArePassages, IsFound, IsInOrder, IsNoPassage, IsPassage}
+pub use Rattle.tile_flood.specs.Passing.{AreFirsts, AreFoundBelow, AreFoundStill, AreGathered, ArePassages, IsFound, IsInOrder, IsNoPassage, IsPassage}
 pub use Rattle.tile_flood.specs.Raising.{raised_level}
 pub use Rattle.tile_flood.specs.RaisingLoop.{AreRaisedBelow}
 pub use Rattle.tile_flood.specs.Sparing.{HangTogether, IsAround, IsFirstSuspect, IsRun, LeadsAround, in_round}

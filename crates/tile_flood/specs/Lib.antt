@@ -14,3 +14,5 @@ pub mod Suspects
 pub mod Spreading
 pub mod Sparing
 pub mod Kept
+pub mod Restoring
+pub mod Planes

@@ -48,7 +48,7 @@ pub fn spills(alloc: Global, labelled: &Labelled) -> Result<Vec<Spill>, Refusal>
 }
 
 ghost use Rattle.tile_flood.specs.Spills.{AreSpills, HaveSameLabels};
-ghost use Rattle.tile_flood.specs.Passing.{IsPassage, IsNoPassage, AreFoundStill, AreBeside, ArePassages, IsFound, AreFoundBelow, IsListed, IsInOrder, AreFirsts};
+ghost use Rattle.tile_flood.specs.Passing.{IsPassage, IsNoPassage, AreBeside, AreGathered, ArePassages, AreFoundBelow, IsListed, IsInOrder, AreFirsts};
 
 // Gathers the places where water passes from the points of a row to later points.
 fn gather_row(
@@ -93,9 +93,8 @@ fn gather(
     requires places { length places.old ≡ PLACES }
     requires beside { AreBeside n e f count }
     requires passages { ArePassages n labelled.now.levels labelled.now.labels found.old.items }
-    ensures passages { OnOk result (ArePassages n labelled.now.levels labelled.now.labels found.new.items) }
-    ensures still { OnOk result (AreFoundStill found.old.items found.new.items) }
-    ensures found { OnOk result ((k : ℕ) → k < count → IsFound n labelled.now.levels labelled.now.labels found.new.items (e + k) (f + k)) }
+    ensures { OnOk result (AreGathered n labelled.now.levels labelled.now.labels
+        found.old.items found.new.items e f count) }
 {
     let mut from = 0;
     'strips: while from < count {
@@ -142,9 +141,8 @@ fn gather_strip(
     requires places { length places.old ≡ PLACES }
     requires beside { AreBeside n e f count }
     requires passages { ArePassages n labelled.now.levels labelled.now.labels found.old.items }
-    ensures passages { OnOk result (ArePassages n labelled.now.levels labelled.now.labels found.new.items) }
-    ensures still { OnOk result (AreFoundStill found.old.items found.new.items) }
-    ensures found { OnOk result ((k : ℕ) → k < count → IsFound n labelled.now.levels labelled.now.labels found.new.items (e + k) (f + k)) }
+    ensures { OnOk result (AreGathered n labelled.now.levels labelled.now.labels
+        found.old.items found.new.items e f count) }
 {
     let levels = labelled.levels();
     let labels = labelled.labels();

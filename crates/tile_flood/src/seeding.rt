@@ -115,7 +115,14 @@ fn seed_at(
 
 // True only where no point of the row in columns `from` up to `to`, without it, can be an outlet: no void lies there or
 // beside them, and the block has no sinks.
-fn is_plain(n: usize, heights: &[i16], sinks: &[u32], i: usize, from: usize, to: usize) -> bool
+pub(crate) fn is_plain(
+    n: usize,
+    heights: &[i16],
+    sinks: &[u32],
+    i: usize,
+    from: usize,
+    to: usize,
+) -> bool
     requires heights { AreHeights n heights.now }
     requires i { i < n }
     requires columns { (0 < from) × ((from ≤ to) × (to < n)) }

@@ -10,6 +10,8 @@ ghost use Rattle.lattice.specs.declared.refusal.Refusal.TheVariants.{NoMemory};
 ghost use Rattle.catalogue.specs.Readers.{OnlyReads, reads_of};
 ghost use Rattle.catalogue.specs.Reading.{MayRefuse};
 ghost use Rattle.tile_flood.specs.Blocks.{LabelledGround};
+ghost use Rattle.tile_flood.specs.Carried.{AreCarried};
+ghost use Rattle.tile_flood.specs.Labelling.{IsLabelling};
 ghost use Rattle.tile_flood.specs.Mending.{IsLabelledBefore};
 ghost use Rattle.tile_flood.specs.Spills.{AreSpills, HaveSameSpills};
 ghost use Rattle.tile_labellings.specs.Labellings.{AreHeldSpills, IsFlooded, IsFloodedTile, IsBlockBut};
@@ -21,7 +23,7 @@ use catalogue::{Samples, height};
 use lattice::{Corner, Height, Refusal, VOID, point_at};
 use std::alloc::Global;
 use std::marker::Model;
-use tile_flood::{Block, Flood, Labelled, Spill, mend, spills};
+use tile_flood::{Block, Flood, Labelled, Spill, mend, restore, spills};
 
 // So many points may have changed before the block is flooded anew: to mend for many takes as long as a flood.
 const MOST_CHANGED: usize = 64;
@@ -49,15 +51,15 @@ impl Model for FloodedBlock {
 }
 
 impl FloodedBlock {
-    /// Floods the block. NoMemory is the only refusal.
-    pub fn new(alloc: Global, block: Block) -> Result<FloodedBlock, Refusal>
+    /// The block with its labelling, which is restored from what is past, or flooded. NoMemory is the only refusal.
+    pub fn new(alloc: Global, block: Block, past: Option<Labelled>) -> Result<FloodedBlock, Refusal>
         ensures block { IfOk result (λ flooded. flooded.block ≡ block) }
         ensures side { IfOk result (λ flooded. flooded.labelled.side ≡ block.side) }
         ensures current { IfOk result (λ flooded. flooded.changed ≡ []) }
         ensures valid { IfOk result (λ flooded. (m : Mosaic) (c : Corner) → IsBlockBut m c [] block → IsFloodedTile m c flooded) }
         ensures refusal { IfErr result (λ r. r ≡ NoMemory) }
     {
-        let labelled = Flood::run(alloc, &block)?;
+        let labelled = labelled_of(alloc, &block, past)?;
         Ok(FloodedBlock {
             block,
             labelled,
@@ -172,6 +174,21 @@ impl FloodedBlock {
             spills: still_held(self.spills, mended.same_spills),
         }))
     }
+}
+
+// The labelling of the block: restored from this one, or flooded.
+fn labelled_of(alloc: Global, block: &Block, past: Option<Labelled>) -> Result<Labelled, Refusal>
+    ensures side { IfOk result (λ labelled. labelled.side ≡ block.now.side) }
+    ensures labelling { IfOk result (λ labelled. IsLabelling block.now labelled.levels labelled.labels) }
+    ensures carried { IfOk result (λ labelled. AreCarried block.now labelled.levels labelled.labels) }
+    ensures refusal { IfErr result (λ refusal. refusal ≡ NoMemory) }
+{
+    if let Some(past) = past {
+        if past.side() == block.side() {
+            return Ok(restore(alloc, block, past)?.labelled);
+        }
+    }
+    Flood::run(alloc, block)
 }
 
 // What is held of spills after a mending: those of before, where they are the same.

@@ -15,7 +15,7 @@ use crate::tile_labelling::TileLabelling;
 use catalogue::{Samples, Table, block_heights};
 use lattice::{Corner, Refusal, sinks_in};
 use std::alloc::Global;
-use tile_flood::Block;
+use tile_flood::{Block, Labelled};
 
 /// Samples of which the labelling of each tile can be had: by a flood, or because it was kept.
 pub trait Labellings: Samples {
@@ -44,12 +44,13 @@ pub trait Labellings: Samples {
         ensures asked { Asked Self.Samples self.old self.new result };
 }
 
-/// Floods the block of the corner's tile. It reads the tile's samples, and of its neighbours those on its rim. It is
-/// refused with NoMemory, or as a read of samples is.
+/// Floods the block of the corner's tile, or restores its labelling from this one, which may hold anything. It reads the
+/// tile's samples, and of its neighbours those on its rim. It is refused with NoMemory, or as a read of samples is.
 pub fn flooded<S: Samples>(
     alloc: Global,
     samples: &mut S,
     corner: Corner,
+    past: Option<Labelled>,
 ) -> Result<FloodedBlock, Refusal>
     requires { Contains (S.corners samples.old) corner }
     ensures valid { S.is_honest samples.new → IfOk result (IsFloodedTile (S.mosaic samples.old) corner) }
@@ -59,7 +60,7 @@ pub fn flooded<S: Samples>(
     ensures reads { OnlyReads S.Samples samples.old samples.new (reads_of result) }
 {
     let block = block_of(alloc, samples, corner)?;
-    FloodedBlock::new(alloc, block)
+    FloodedBlock::new(alloc, block, past)
 }
 
 // The block of the corner's tile.
@@ -81,7 +82,7 @@ fn block_of<S: Samples>(alloc: Global, samples: &mut S, corner: Corner) -> Resul
 
 impl Labellings for Table {
     fn labelling(&mut self, alloc: Global, corner: Corner) -> Result<TileLabelling, Refusal> {
-        Ok(TileLabelling::Flooded(flooded(alloc, self, corner)?))
+        Ok(TileLabelling::Flooded(flooded(alloc, self, corner, None)?))
     }
 
     // A table keeps no labellings.

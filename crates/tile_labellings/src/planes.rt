@@ -35,7 +35,7 @@ pub fn kept_planes<S: Samples>(
     ensures refusal { IfErr result (λ r. (r ≡ NoMemory) ⊎ MayRefuse (S.failures samples.old) (S.failures samples.new) r) }
     ensures reads { OnlyReads S.Samples samples.old samples.new (reads_of result) }
 {
-    let flooded = flooded(alloc, samples, corner)?;
+    let flooded = flooded(alloc, samples, corner, None)?;
     let planes = planes_of(alloc, flooded.labelled())?;
     Ok(planes)
 }

@@ -1,0 +1,71 @@
+//! Where levels and labels lay that were given up.
+
+use lattice::Corner;
+use page_map::{PagedPlane, Plane};
+use std::alloc::Global;
+
+// Of so many tiles it is known at most.
+const MOST_TILES: usize = 64;
+
+// The pages of the levels and of the labels of a tile that went stale.
+#[derive(Drop)]
+struct PastTile {
+    corner: Corner,
+    levels: Vec<u32>,
+    labels: Vec<u32>,
+}
+
+/// The pages where levels and labels of stale tiles lay. They may have been written again, so that they may hold anything.
+#[derive(Drop)]
+pub(crate) struct PastPlanes {
+    tiles: Vec<PastTile>,
+}
+
+impl PastPlanes {
+    pub(crate) fn new(alloc: Global) -> PastPlanes {
+        PastPlanes {
+            tiles: Vec::new(alloc),
+        }
+    }
+
+    pub(crate) fn clear(&mut self) {
+        self.tiles.clear();
+    }
+
+    /// Notes where the planes of the corner's tile lie, where it has them, and there is memory for it.
+    pub(crate) fn note(
+        &mut self,
+        alloc: Global,
+        corner: Corner,
+        levels: Option<&PagedPlane>,
+        labels: Option<&PagedPlane>,
+    ) {
+        let (Some(levels), Some(labels)) = (levels, labels) else {
+            return;
+        };
+        let (Ok(levels), Ok(labels)) = (
+            Vec::from_slice(alloc, levels.pages()),
+            Vec::from_slice(alloc, labels.pages()),
+        ) else {
+            return;
+        };
+        self.tiles.retain(|tile| tile.corner != corner);
+        self.tiles.truncate(MOST_TILES - 1);
+        let tile = PastTile {
+            corner,
+            levels,
+            labels,
+        };
+        let _ = self.tiles.insert(0, tile);
+    }
+
+    /// Where page `i` of a plane of the corner's tile lay.
+    pub(crate) fn page(&self, corner: Corner, plane: Plane, i: u32) -> Option<u32> {
+        let tile = self.tiles.iter().find(|tile| tile.corner == corner)?;
+        match plane {
+            Plane::Heights => None,
+            Plane::Levels => tile.levels.get(i as usize).copied(),
+            Plane::Labels => tile.labels.get(i as usize).copied(),
+        }
+    }
+}
