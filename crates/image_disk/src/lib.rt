@@ -27,14 +27,17 @@ pub struct ImageDisk<'a> {
     bytes: &'a [u8],
     failures: u64,
     writes: u64,
+    // Nothing fails but writes.
+    ghost faults: { failures ≡ writes },
 }
 
 impl<'a> ImageDisk<'a> {
-    ghost use Rattle.image_disk.specs.ImageDisks.{bytes_of};
+    ghost use Rattle.image_disk.specs.ImageDisks.{bytes_of, failures_of};
 
     /// These bytes as a disk. No call has failed yet.
     pub fn new(bytes: &'a [u8]) -> ImageDisk<'a>
-        ensures { bytes_of result ≡ bytes.now }
+        ensures bytes { bytes_of result ≡ bytes.now }
+        ensures failures { failures_of result ≡ 0 }
     {
         ImageDisk {
             bytes,

@@ -8,22 +8,20 @@ use Rattle.std.specs.Prelude.{Option, Some, None, IsTrue, is_some}
 use seplogic.Ra.Ura.{Ura}
 use mir.Syntax.{Dict, impl, tcons, tnil, dnil}
 use mir.Val.{Val, vptr, vstruct, vcons, vnil}
-use base.Fml.{Fml}
 use types.Logic.{Logic}
-use types.Kit.{Item, Goal, Seq, Step, step, ‵, ◌$◌, fjoin, fpack, feq_i}
+use types.Kit.{Item, Goal, Step, step, ‵, ◌$◌, fjoin, fpack, feq_i}
 use denote.Builtin.{RawPtr}
 use denote.Exit.{no}
 use denote.Param.{layout, arg}
 use denote.Param.Laws.{arg_laws}
 use mir.Raw.{raw as bare}
 use denote.RattleType.{RattleType, Valss}
-use denote.RawPtr.{Ptr, block_ptr}
+use denote.RawPtr.{block_ptr}
 use denote.Steps.{nothing}
 use denote.Struct.Struct.{within}
 use denote.Struct.Owning.{shape}
 use Rattle.core.specs.contracts.mem.manually_drop.ManuallyDrop as undropped
 use Rattle.core.proofs.mem.manually_drop.ManuallyDrop.TheLaws as undropped_laws
-use Rattle.core.specs.declared.mem.manually_drop.ManuallyDrop.{ManuallyDrop}
 use Rattle.std_alloc.specs.contracts.boxed.Box as boxed
 use Rattle.std_alloc.proofs.BoxSteps.Form.{Bx}
 use Rattle.std_heap.specs.contracts.Global as heap

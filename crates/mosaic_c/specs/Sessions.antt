@@ -8,6 +8,8 @@ use Rattle.engine.specs.Events.{Happens}
 use Rattle.engine.specs.State.{Contents, State}
 use Rattle.engine.specs.declared.event.Event.{Event}
 use Rattle.engine.specs.declared.event.Reply.{Reply}
+use Rattle.cow_tree.specs.Trees.{IsRefused}
+use Rattle.image_disk.specs.Images.{sectors_in, image_in}
 use Rattle.image_disk.specs.contracts.ImageDiskDisk.TheImpl.{ghosts}
 use Rattle.lines.specs.Telling as lines
 use Rattle.store.specs.Stores.{IsAt}
@@ -15,6 +17,7 @@ use Rattle.windows.specs.Lines.{AsksOnly, IsNoQuestion, IsPut}
 use Rattle.mosaic_c.specs.declared.session.Session.{Session}
 use Rattle.mosaic_c.specs.declared.handle.Handle.{Handle}
 
+-- there is a session, and its store has these contents
 abbrev pub IsOpenAt : Option Session → Contents → Type 0
 IsOpenAt None contents = ⊥
 IsOpenAt (Some session) contents = (s : State) × (IsAt ghosts session.store s × (s.contents ≡ contents))
@@ -22,6 +25,10 @@ IsOpenAt (Some session) contents = (s : State) × (IsAt ghosts session.store s �
 -- it holds a store of these contents
 abbrev pub HasIn : Handle → Contents → Type 0
 HasIn handle contents = IsOpenAt handle.kept.session contents
+
+-- the bytes are refused by this number as an image of a store is, where no call fails and memory is had
+abbrev pub IsRefusedBy : List ℕ → ℕ → Type 0
+IsRefusedBy bytes number = (why : Refusal) × (IsRefused (sectors_in bytes) (image_in bytes) why × (number ≡ number_of why))
 
 -- Whatever is answered, a store that was held is held with the contents that it had; and where that is 0, this is so of them.
 pub record Tells (old new : Handle) (number : ℕ) (Says : Contents → Type 0) : Type 0 where

@@ -1,6 +1,6 @@
 //! What C calls. Each but `mosaic_close` answers 0 or the number of a refusal. `include/mosaic.h` has units, shapes and
 //! refusals; nothing here asks more of the caller than it says.
-ghost use Rattle.std.specs.Prelude.{◌≡◌, ◌↔◌, ◌⊎◌, ℕ, nat_le, if◌then◌else◌, IsTrue, None, is_some, length};
+ghost use Rattle.std.specs.Prelude.{◌≡◌, ◌≢◌, ◌↔◌, ◌⊎◌, ℕ, nat_le, if◌then◌else◌, IsTrue, None, is_some, length};
 ghost use Rattle.lattice.specs.Corners.{Corner};
 ghost use Rattle.lattice.specs.declared.point.Point.{Point};
 ghost use Rattle.drainage.specs.TileLevels.{IsLevelOrVoid};
@@ -9,14 +9,14 @@ ghost use Rattle.image_disk.specs.Images.{sectors_in, image_in};
 ghost use Rattle.lattice.specs.Ground.{metres, terrain};
 ghost use Rattle.lattice.specs.Height.{height_of};
 ghost use Rattle.lattice.specs.Refusals.{number_of};
-ghost use Rattle.lattice.specs.declared.refusal.Refusal.TheVariants.{Device, Failed, NoMemory};
+ghost use Rattle.lattice.specs.declared.refusal.Refusal.TheVariants.{Failed, NoMemory};
 ghost use Rattle.lattice.specs.Terrain.{IsFilledLevel};
 ghost use Rattle.store.specs.Standing.{StandsFor};
 ghost use Rattle.tile_flood.specs.Raising.{AreTileLevels};
 ghost use Rattle.watershed.specs.Questions.{AreTileCounts, AreTileDirections, IsAnswered, IsCodeOrNone, DrainsBy};
 ghost use Rattle.windows.specs.Results.{OfAny, OfCopy, OfPoint, refused_corner};
 ghost use Rattle.windows.specs.Windows.{AreOfAll, IsCountAt, IsShed, refused_at_once};
-ghost use Rattle.mosaic_c.specs.Sessions.{HasIn, Tells, Told, ToldLine};
+ghost use Rattle.mosaic_c.specs.Sessions.{HasIn, IsRefusedBy, Tells, Told, ToldLine};
 
 use crate::handle::Handle;
 use crate::session::Session;
@@ -39,10 +39,11 @@ pub extern "C" fn mosaic_open(alloc: Global, held: &mut Handle, image: &'static 
         → HasIn held.new contents }
     ensures held { IsTrue (is_some held.new.kept.session) ↔ (result ≡ 0) }
 
-    // It is refused then only for memory, or for a call of the disk: an image's reads never fail.
+    // An image's reads never fail: it is refused then for memory alone, and else for that or for what it is.
     ensures sure { (side capacity : ℕ) (contents : Contents)
         → StandsFor (sectors_in image.now) side capacity (image_in image.now) contents
-        → (result ≡ 0) ⊎ ((result ≡ number_of Device) ⊎ (result ≡ number_of NoMemory)) }
+        → (result ≡ 0) ⊎ (result ≡ number_of NoMemory) }
+    ensures refused { result ≢ 0 → (result ≡ number_of NoMemory) ⊎ IsRefusedBy image.now result }
 {
     close(alloc, held);
     let store = match Store::open(alloc, ImageDisk::new(image)) {

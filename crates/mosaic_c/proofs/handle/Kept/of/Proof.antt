@@ -1,5 +1,5 @@
 -- `of` takes the place of the box's value, and what the box owned there.
-use Rattle.std.proofs.Common.{◌≡◌, ℕ, List, [], ◌∷◌, ◌++◌, refl, sym, ap, ◌∙◌}
+use Rattle.std.proofs.Common.{List, [], ◌∷◌, ◌++◌, refl, ap, ◌∙◌}
 use Rattle.std.specs.Prelude.{Some}
 use base.Fml.{ftrue, fsep, flft}
 use base.Fraction.{full_share}
@@ -9,10 +9,9 @@ use contract.Monad.{fact, fact_i}
 use contract.Running.{tables}
 use denote.Exit.{no}
 use denote.Param.NoDrop.{glues}
-use denote.RattleType.{owns}
 use denote.Builtin.{RawPtr}
 use denote.RawPtr.{Ptr, block_ptr, null_ptr, ptr_val, in_a_block}
-use denote.Signature.{plain, types_at}
+use denote.Signature.{plain}
 use denote.Steps.{nothing, only}
 use denote.Triple.Call.{calls_at}
 use denote.Triple.Clauses.{Lasts, lasts}

@@ -1,7 +1,7 @@
 -- `take` makes the box again, of what the block owned, and leaves none.
-use Rattle.std.proofs.Common.{◌≡◌, ℕ, List, [], ◌∷◌, refl, sym, ap, ◌∙◌, subst, MutBor}
+use Rattle.std.proofs.Common.{◌≡◌, List, [], ◌∷◌, refl, sym, ap, ◌∙◌, subst}
 use Rattle.std.specs.Prelude.{None, Some, Option, IsTrue, is_some}
-use base.Fml.{ftrue, fsep, flft}
+use base.Fml.{ftrue, flft}
 use base.Fraction.{full_share}
 use base.Logic.{emp, fst∗, id⊢, never}
 use contract.BorrowLft.{⊑_static, ◌⊑◌}
@@ -35,7 +35,6 @@ use Rattle.core.proofs.cell.Inside.{Good}
 use Rattle.core.proofs.mem.Facts.{says_two}
 use Rattle.std.proofs.VecSteps.Shapes.{after}
 use Rattle.std.proofs.raw_atomic.Walks.{proved}
-use Rattle.std_alloc.specs.Box.Ownership.{box_owns}
 use Rattle.std_alloc.proofs.BoxSteps.Form as box
 use Rattle.std_alloc.proofs.BoxSteps.Steps.{box_out, box_in}
 use Rattle.std_alloc.specs.contracts.boxed.Box.from_raw as g
