@@ -127,13 +127,6 @@ one_more d xs ys e v inside is before f below = elim (cases_eq f e) [
   | inr other ↦ get_or-set_other xs e f v d other ∙ before f (omega arith)
 ]
 
--- one more cell is written
-pub fresh_more : (heights : List ℤ) (cells : List Cell) (e : ℕ) (cell : Cell) → e < length cells → IsFresh heights e cell → ((f : ℕ) (d : Cell) → f < e → IsFresh heights f (get_or cells f d)) → (f : ℕ) (d : Cell) → f < e + 1 → IsFresh heights f (get_or (set cells e cell) f d)
-fresh_more heights cells e cell inside fresh before f d below = elim (cases_eq f e) [
-  | inl same ↦ subst (λ c. IsFresh heights f c) (sym (ap (λ k. get_or (set cells e cell) k d) same ∙ get_or-set_same cells e cell d inside)) (subst (λ k. IsFresh heights k cell) (sym same) fresh)
-  | inr other ↦ subst (λ c. IsFresh heights f c) (sym (get_or-set_other cells e f cell d other)) (before f d (omega arith))
-]
-
 -- the cells of a block before a flood
 module _ (heights : List ℤ) (cells : List Cell) (whole : length cells ≡ length heights) (fresh : (f : ℕ) (d : Cell) → f < length heights → IsFresh heights f (get_or cells f d)) where
   pub fresh_cells : AreCells heights cells

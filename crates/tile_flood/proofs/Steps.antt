@@ -375,9 +375,6 @@ held_beside n heights sinks levels labels e most ground inner on high found less
 pub taken_in : (levels : List ℤ) (queue queue' : Queue) (c : ℕ) (low : ℤ) → IsTaken queue queue' low c → (e : ℕ) → IsIn queue levels e → IsInOr queue' levels c low e
 taken_in levels queue queue' c low taken e w = elim (taken.others (get_or levels e void) e w) [ inl is ↦ inr (is.1, is.0) | inr left ↦ inl left ]
 
-pub at_most_same : (levels : List ℤ) → AreAtMost levels levels
-at_most_same levels e on = (on, ≤ℤ_same (get_or levels e void))
-
 -- what a point beside the popped has afterwards
 pub record IsReached (n : ℕ) (heights : List ℤ) (sinks : List ℕ) (levels levels' : List ℤ) (labels' : List ℕ) (queue' suspects' : Queue) (c : ℕ) (low : ℤ) (label y : ℕ) : Type 0 where
   pub state : IsPassingOn n heights sinks levels' labels' queue' suspects' c low label

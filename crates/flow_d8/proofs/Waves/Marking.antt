@@ -5,19 +5,6 @@ use Rattle.flow_d8.proofs.Waves.Listing.{IsLonger, lists_kept, lists_last, longe
 pub in_range : (marks : List ℕ) (k v : ℕ) → mark_at marks k ≡ v → v < 3 → k < length marks
 in_range marks k v is small = ⊎_elim (λ lt. lt) (λ ge. absurd (omega (arith, get_or_past marks k 3 ge))) (cases_lt k (length marks))
 
--- nothing is reached
-pub reaches_same : (by : ℕ → Dir → ℕ) (wave : List ℕ) (d : Dir) (marks next : List ℕ) (flows : List Flow) → Reaches by wave d marks next flows marks next flows
-reaches_same by wave d marks next flows = record {
-  whole = refl;
-  flows_whole = refl;
-  joined = λ k is. inl is;
-  others = λ k not. refl;
-  kept = λ k not. refl;
-  listed = λ k is. is;
-  reached = λ was. was;
-  fewer = omega arith;
-}
-
 -- what was in no wave after was in none before
 pub reaches_two : (by : ℕ → Dir → ℕ) (wave : List ℕ) (d : Dir) (marks next : List ℕ) (flows : List Flow) (new new_next : List ℕ) (new_flows : List Flow) → Reaches by wave d marks next flows new new_next new_flows
     → (k : ℕ) → mark_at new k ≡ 2 → mark_at marks k ≡ 2

@@ -5,9 +5,6 @@ use Rattle.flow_d8.proofs.Waves.Listing.{IsLonger, lists_kept, lists_last, lists
 pub member_small : (marks : List ℕ) (k : ℕ) → IsMember marks k → k < length marks
 member_small marks k member = ⊎_elim (λ lt. lt) (λ ge. absurd (member (get_or_past marks k 3 ge))) (cases_lt k (length marks))
 
-pub begins_same : (flows : List Flow) (marks wave : List ℕ) → Begins flows marks wave marks wave
-begins_same flows marks wave = record { whole = refl; changed = λ k. inl refl; kept = λ k is. is; listed = λ k is. inl is; only = λ k is. inl is }
-
 pub begun_at : (flows : List Flow) (marks wave longer : List ℕ) (k : ℕ) → IsBeside (slice_index_or flows k Unknown) → IsMember marks k → IsLonger wave longer k → Begins flows marks wave (set marks k 0) longer
 begun_at flows marks wave longer k beside member more = record {
   whole = length-set marks k 0;
@@ -51,15 +48,3 @@ module _ (flows : List Flow) (a wa b wb : List ℕ) (first : Begins flows a wa b
     listed = λ k zero. ⊎_elim (λ old. ⊎_elim (λ older. inl older) (λ lists. inr (then.kept k lists)) (first.listed k old)) (λ lists. inr lists) (then.listed k zero);
     only = λ k is. ⊎_elim (λ old. ⊎_elim (λ older. inl older) (λ zero. inr (⊎_elim (λ same. same ∙ zero) (λ now. now.1) (then.changed k))) (first.only k old)) (λ zero. inr zero) (then.only k is);
   }
-
--- from no wave to the first
-pub first_begun : (flows : List Flow) (marks none new wave : List ℕ) → length none ≡ 0 → ((k : ℕ) → IsMember marks k → mark_at marks k ≡ 2) → Begins flows marks none new wave
-    → ((k : ℕ) → IsMember marks k → IsBeside (slice_index_or flows k Unknown) → mark_at new k ≡ 0) → IsFirstWave flows marks new wave
-first_begun flows marks none new wave empty two begins here = record {
-  whole = begins.whole;
-  beside = here;
-  others = λ k member not. ⊎_elim (λ same. same ∙ two k member) (λ now. absurd (not now.0)) (begins.changed k);
-  outside = λ k out. ⊎_elim (λ same. same ∙ out) (λ now. absurd (now.2 out)) (begins.changed k);
-  listed = λ k zero. ⊎_elim (λ old. absurd (omega (arith, two k (λ out. absurd (omega arith))))) (λ lists. lists) (begins.listed k zero);
-  reached = λ i small. ⊎_elim (λ old. absurd (omega (arith, old.1.0))) (λ zero. zero) (begins.only _ (i, (small, refl)));
-}

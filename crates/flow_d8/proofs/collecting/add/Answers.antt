@@ -13,8 +13,5 @@ returns-clause-grows c =
     (row_first t c.tiles-valid.ensures.valid flows r has.row small has.flat c.args.to has.at c.requires.first)
     (λ seed found. row_joined t c.tiles-valid.ensures.valid flows r has.row small has.flat seed c.args.to has.at (c.requires.joined seed found))
 
-pub returns-clause-member : goal.returns-clause-member
-returns-clause-member c out = absurd (omega (arith, out, c.in_ok-add_run.ensures.added.marked.here c.args.to c.free_row-run.ensures.at))
-
 pub add_run-requires : goal.add_run-requires
 add_run-requires c = omega (arith, c.requires.whole, flat_small c.args.flows.now c.free_row-run.result.last (c.free_row-run.ensures.flat c.free_row-run.result.last (record { from = c.free_row-run.ensures.row.some; to = omega arith })))

@@ -1,18 +1,9 @@
-use Rattle.flow_d8.proofs.Prelude.{AreWaiting, Dir, IfNone, IfSome, IsIn, IsMember, IsSettled, Point, Unknown, ℕ, [], arith, length, slice_index_or, subst, sym, ⊎_elim, ◌++◌, ◌∙◌, ◌∷◌, ◌≡◌}
+use Rattle.flow_d8.proofs.Prelude.{AreWaiting, Dir, IfNone, IfSome, IsIn, IsMember, IsSettled, Point, Unknown, ℕ, [], slice_index_or, subst, sym, ◌++◌, ◌∙◌, ◌∷◌, ◌≡◌}
 use Rattle.flow_d8.specs.Filled.{number_of}
 use Rattle.flow_d8.specs.Resolution.{IsUnknownBeside}
 use Rattle.flow_d8.specs.Tiles.{by_of}
-use Rattle.flow_d8.proofs.Waves.Runs.{covers_still, covers_last, rows_before, row_last, found_listed, open_on}
+use Rattle.flow_d8.proofs.Waves.Runs.{covers_still, covers_last, rows_before, found_listed, open_on}
 use Rattle.flow_d8.proofs.collecting.collect.Goals as goal
-
-pub visit_run-requires-clause-row : goal.visit_run-requires-clause-row
-visit_run-requires-clause-row c = row_last c.pop.new.self.items c.runs.waiting.items c.in-Some.run' c.in-Some.ensures.items c.args.tiles.now.side c.runs.invariant.awaited.rows
-
-pub visit_run-requires-clause-members : goal.visit_run-requires-clause-members
-visit_run-requires-clause-members c k in_it = c.runs.invariant.awaited.members k (covers_last c.pop.new.self.items c.runs.waiting.items c.in-Some.run' c.in-Some.ensures.items k in_it)
-
-pub visit_run-requires-clause-flats : goal.visit_run-requires-clause-flats
-visit_run-requires-clause-flats c = c.runs.invariant.found.flat
 
 pub returns-in-Some-2-clause-listed : goal.returns-in-Some-2-clause-listed
 returns-in-Some-2-clause-listed c = found_listed c.args.tiles.now c.args.flows.now c.args.seed c.visit_run.new.marks c.visit_run.new.runs.items (c.in_ok-met.ensures.grows.found c.args.seed c.runs.invariant.found)
@@ -54,14 +45,4 @@ returns-in-Some-2-clause-met c =
     record {
       beside = (joined.0, k, beside.0, (joined.1, (c.runs.invariant.found.flat k member, beside.1.0)));
       nothing = subst (λ q. slice_index_or flows (number_of tiles.side tiles.corners q) Unknown ≡ Unknown) (sym beside.1.0) beside.1.1;
-    }
-
-pub returns-clause-collected : goal.returns-clause-collected
-returns-clause-collected c =
-    let was = c.runs.invariant in
-    let none : length c.runs.waiting.items ≡ 0 = omega (arith, c.in_default.ensures.cases.0, c.runs.waiting.ok.0) in
-    record {
-      begun = was.begun;
-      found = was.found;
-      closed = λ k d member. ⊎_elim (λ covers. absurd (omega (arith, none, covers.1.0))) (λ settled. settled d) (was.unsettled k member);
     }

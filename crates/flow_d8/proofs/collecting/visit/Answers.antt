@@ -1,11 +1,6 @@
-use Rattle.flow_d8.proofs.Prelude.{IsMember, IsSettled, subst, suc, sym, ◌∙◌}
+use Rattle.flow_d8.proofs.Prelude.{IsSettled, subst, suc, sym}
 use Rattle.flow_d8.proofs.Sayings.Said.{is_known}
 use Rattle.flow_d8.proofs.collecting.visit.Goals as goal
-
-pub returns-then-mark-ne-FREE-clause-settled : goal.returns-then-mark-ne-FREE-clause-settled
-returns-then-mark-ne-FREE-clause-settled c _ =
-    let member : IsMember c.args.marks.now c.step-to.result = λ out. c.if-mark-ne-FREE.true (c.mark.ensures ∙ out) in
-    subst (IsSettled c.args.flows.now c.args.marks.now) c.step-to.ensures.value (record { known = is_known _ (c.requires.flats c.step-to.result member); member = λ flat. member })
 
 pub add-requires-clause-joined : goal.add-requires-clause-joined
 add-requires-clause-joined c seed found =

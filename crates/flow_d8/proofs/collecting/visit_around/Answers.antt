@@ -1,29 +1,8 @@
 use Rattle.flow_d8.proofs.Prelude.{IsSettled, arith, cases_eq, inl, inr, order_of, subst}
-use Rattle.flow_d8.proofs.Steps.Compass.{dir_at_place, order_below}
+use Rattle.flow_d8.proofs.Steps.Compass.{dir_at_place}
 use Rattle.flow_d8.specs.Tiles.{by_of}
-use Rattle.flow_d8.proofs.Waves.Runs.{grows_same, grows_on, settled_on}
+use Rattle.flow_d8.proofs.Waves.Runs.{grows_on, settled_on}
 use Rattle.flow_d8.proofs.collecting.visit_around.Goals as goal
-
-pub loop-i-init : goal.loop-i-init
-loop-i-init c = record { grows = grows_same c.args.tiles.now c.args.flows.now c.args.marks.now c.args.runs.now.items c.args.waiting.now.items; settled = λ d less. absurd (omega arith) }
-
-pub loop-i-preserved-then-i-lt7 : goal.loop-i-preserved-then-i-lt7
-loop-i-preserved-then-i-lt7 c =
-    let was = c.loop-i.invariant in
-    record {
-      grows = was.grows;
-      settled = λ d less. elim (cases_eq (order_of d) c.loop-i.i) [
-        | inl same ↦ settled_on c.args.tiles.now c.args.flows.now c.args.marks.now c.args.runs.now.items c.args.waiting.now.items c.loop-i.marks c.loop-i.runs.items c.loop-i.waiting.items was.grows (by_of c.args.tiles.now c.args.from d)
-            (c.requires.next c.if-is_next.true d (omega (arith, same, c.if-i-ge2.true)) (omega (arith, same, c.if-i-lt7.true)))
-        | inr other ↦ was.settled d (omega arith)
-      ];
-    }
-
-pub visit-requires-clause-flats : goal.visit-requires-clause-flats
-visit-requires-clause-flats c = c.loop-i.invariant.grows.flats c.requires.flats
-
-pub visit-requires-clause-member : goal.visit-requires-clause-member
-visit-requires-clause-member c = c.loop-i.invariant.grows.kept c.args.from c.requires.member
 
 pub returns-then-not-branch-clause-grows : goal.returns-then-not-branch-clause-grows
 returns-then-not-branch-clause-grows c = grows_on c.args.tiles.now c.args.flows.now c.args.marks.now c.args.runs.now.items c.args.waiting.now.items c.loop-i.marks c.loop-i.runs.items c.loop-i.waiting.items c.loop-i.invariant.grows
@@ -42,6 +21,3 @@ loop-i-preserved c =
         | inr other ↦ settled_on t flows c.loop-i.marks c.loop-i.runs.items c.loop-i.waiting.items c.visit.new.marks c.visit.new.runs.items c.visit.new.waiting.items c.in_ok-visit.ensures.grows (by_of t c.args.from d) (was.settled d (omega arith))
       ];
     }
-
-pub returns-clause-settled : goal.returns-clause-settled
-returns-clause-settled c d = c.loop-i.invariant.settled d (omega (arith, order_below d, c.loop-i-test.false))

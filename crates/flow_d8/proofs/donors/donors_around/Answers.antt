@@ -1,4 +1,4 @@
-use Rattle.flow_d8.proofs.Prelude.{Dir, East, Flow, IsFlow, IsInner, Point, Unknown, ℕ, ap, arith, back_of, is_deep, length, place_by, slice_index_or, step, subst, sym, terrain, true, ◌%◌, ◌*◌, ◌+◌, ◌<◌, ◌∙◌, ◌≡◌}
+use Rattle.flow_d8.proofs.Prelude.{Dir, East, Flow, IsFlow, IsInner, Point, Unknown, ℕ, ap, arith, back_of, is_deep, length, place_by, slice_index_or, step, subst, sym, terrain, true, ◌%◌, ◌*◌, ◌<◌, ◌∙◌, ◌≡◌}
 use Rattle.std.proofs.lemmas.Option.{IfSome_then}
 use Rattle.flow_d8.specs.Tiles.{count_of, place_of, by_of}
 use Rattle.flow_d8.proofs.Samples.DeepSteps.{deep_by, deep_inner_at}

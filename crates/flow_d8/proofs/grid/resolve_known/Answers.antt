@@ -8,12 +8,6 @@ use Rattle.flow_d8.proofs.Samples.TilePlaces.{place_number}
 use Rattle.flow_d8.proofs.Sayings.Told.{twin_flat}
 use Rattle.flow_d8.proofs.grid.resolve_known.Goals as goal
 
-pub returns-in_err-met-clause-known : goal.returns-in_err-met-clause-known
-returns-in_err-met-clause-known c = known_still c.args.flows.now c.resolve.new.flows c.requires.known c.resolve.ensures.tells
-
-pub returns-in-Meets-clause-known : goal.returns-in-Meets-clause-known
-returns-in-Meets-clause-known c = known_still c.args.flows.now c.resolve.new.flows c.requires.known c.resolve.ensures.tells
-
 pub returns-in-Meets-clause-met : goal.returns-in-Meets-clause-met
 returns-in-Meets-clause-met c =
     let tiles = c.args.tiles.now in

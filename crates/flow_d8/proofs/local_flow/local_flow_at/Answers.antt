@@ -1,5 +1,5 @@
-use Rattle.flow_d8.proofs.Prelude.{Bool, Dir, IsFalse, IsLevelGrid, IsTrue, Point, Terrain, ℤ, arith, cases_Bool, cond-false, cond-true, false, if◌then◌else◌, inl, inr, ints, level_beside, mag, of_z, slice_index_or, subst, sym, to_z, to_z-of_z, true≢false, void, w16, ◌<ℤ◌, ◌<◌, ◌↔◌, ◌∙◌, ◌≡◌, ◌≤ℤ◌}
-use Rattle.flow_d8.proofs.Steps.SteepestStep.{none_lower, all_beside, beside_void, beside_level, steepest_of_all, none_of_all}
+use Rattle.flow_d8.proofs.Prelude.{Bool, IsFalse, IsLevelGrid, IsTrue, Point, Terrain, ℤ, arith, cases_Bool, cond-false, cond-true, false, if◌then◌else◌, inl, inr, slice_index_or, sym, true≢false, void, ◌↔◌, ◌∙◌, ◌≡◌}
+use Rattle.flow_d8.proofs.Steps.SteepestStep.{beside_void, beside_level, steepest_of_all, none_of_all}
 use Rattle.flow_d8.proofs.local_flow.local_flow_at.Goals as goal
 
 module _ (t : Terrain Point) (level : Point → ℤ) (p : Point) where
@@ -14,21 +14,6 @@ module _ (t : Terrain Point) (level : Point → ℤ) (p : Point) where
     | inl on ↦ absurd (levelled.some p on (sym (is ∙ cond-true (t.is_ground p) (level p) void on) ∙ none))
     | inr apart ↦ apart
   ]
-
-above_void : (a : ℤ) → mag a < 32768 → (a ≡ void → ⊥) → void <ℤ a
-above_void a fits some = grind (arith, ints)
-
-pub returns-then-is_void-clause-so : goal.returns-then-is_void-clause-so
-returns-then-is_void-clause-so c t level p levelled shown = void_of t level p (slice_index_or c.args.levels.now c.args.k void) levelled shown.here (c.is_void.ensures.0 c.if-is_void.true)
-
-pub returns-then-is_none_below-clause-so : goal.returns-then-is_none_below-clause-so
-returns-then-is_none_below-clause-so c t level p levelled shown =
-    let here = ground_of t level p (slice_index_or c.args.levels.now c.args.k void) shown.here c.is_void.result c.is_void.ensures c.if-is_void.false in
-    let is : to_z w16 (of_z w16 c.at.result) ≡ level p = to_z-of_z w16 c.at.result (record { sfits = c.at.type_inv }) ∙ c.at.ensures ∙ sym here.1 in
-    let high : (d : Dir) → level p ≤ℤ level_beside t level p d = λ d.
-    subst (λ v. v ≤ℤ level_beside t level p d) is (subst (λ v. to_z w16 (of_z w16 c.at.result) ≤ℤ v) (shown.around here.0 d) (c.is_none_below.ensures c.if-is_none_below.true d)) in
-    let some : void <ℤ level p = subst (λ v. void <ℤ v) (c.at.ensures ∙ sym here.1) (above_void c.at.result c.at.type_inv (λ none. levelled.some p here.0 (sym (c.at.ensures ∙ sym here.1) ∙ none))) in
-    (here.0, none_lower t level p levelled high, all_beside t level p levelled high some)
 
 pub returns-then-best-gt0-clause-so : goal.returns-then-best-gt0-clause-so
 returns-then-best-gt0-clause-so c t level p levelled shown =

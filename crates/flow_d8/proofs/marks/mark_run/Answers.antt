@@ -21,13 +21,3 @@ loop-k-preserved c =
           let at : mark_at marks k ≡ 3 = was.later k (omega arith) ∙ free k (record { from = c.loop-k.auto.k; to = in_run }) in
           omega (arith, was.fewer less free, at, less, c.loop-k.auto.k, sum_by-set (λ x. x) marks k c.args.mark 3 small);
     })
-
-pub returns : goal.returns
-returns c =
-    let was = c.loop-k.invariant in
-    record {
-      whole = was.whole;
-      here = λ j at. was.here j at.from (omega (arith, at.to, c.loop-k-test.false));
-      others = was.others;
-      fewer = λ some less free. omega (arith, was.fewer less free, some, c.loop-k-test.false);
-    }

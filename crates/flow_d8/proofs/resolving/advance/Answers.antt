@@ -1,23 +1,10 @@
-use Rattle.flow_d8.proofs.Prelude.{IsBack, arith, back_of, cases_eq, get_or, inl, inr, mark_at, order_of, subst, sym, ◌<◌, ◌≡◌}
+use Rattle.flow_d8.proofs.Prelude.{arith, back_of, cases_eq, get_or, inl, inr, mark_at, order_of, subst, sym, ◌<◌, ◌≡◌}
 use Rattle.flow_d8.specs.Tiles.{by_of}
 use Rattle.flow_d8.proofs.Steps.Compass.{dir_at_place, order_at, order_below}
 use Rattle.flow_d8.proofs.Steps.StepBack.{back_twice}
-use Rattle.flow_d8.proofs.Waves.Advancing.{advances_none, advances_on}
-use Rattle.flow_d8.proofs.Waves.Marking.{in_range, reaches_two}
+use Rattle.flow_d8.proofs.Waves.Advancing.{advances_on}
+use Rattle.flow_d8.proofs.Waves.Marking.{reaches_two}
 use Rattle.flow_d8.proofs.resolving.advance.Goals as goal
-
-pub loop-i-init : goal.loop-i-init
-loop-i-init c = record {
-  advances = advances_none (by_of c.args.tiles.now) c.args.marks.now c.args.wave.now c.args.flows.now c.requires.reached c.requires.frontier c.requires.back c.args.next.now.items c.requires.none;
-  passed = λ j d less small. absurd (omega arith);
-}
-
-pub reach-requires-clause-small : goal.reach-requires-clause-small
-reach-requires-clause-small c i small = omega (arith, in_range c.args.marks.now (get_or c.args.wave.now i 0) 0 (c.requires.reached i small) (omega arith), c.loop-i.invariant.advances.whole)
-
-pub reach-requires-clause-back : goal.reach-requires-clause-back
-reach-requires-clause-back c i small = subst (λ n. IsBack (by_of c.args.tiles.now) n (get_or c.args.wave.now i 0)) (sym c.loop-i.invariant.advances.whole)
-    (c.requires.back (get_or c.args.wave.now i 0) (λ out. absurd (omega (arith, c.requires.reached i small))))
 
 pub loop-i-preserved : goal.loop-i-preserved
 loop-i-preserved c =

@@ -1,4 +1,4 @@
-use Rattle.flow_d8.proofs.Prelude.{IsPassed, Lists, arith, refl, subst, sym, ◌∙◌}
+use Rattle.flow_d8.proofs.Prelude.{IsPassed, arith, refl, subst, ◌∙◌}
 use Rattle.flow_d8.proofs.Waves.Advancing.{waves_begun, round_on, so_on, tells, waves_on, all_named}
 use Rattle.flow_d8.proofs.Samples.TwinFlows.{tells_same, tells_on}
 use Rattle.flow_d8.specs.Tiles.{by_of}
@@ -11,9 +11,6 @@ waves-init c = record {
   round = c.requires.round;
   told = λ t level place full laid so. waves_begun c.args.flows.now (by_of c.args.tiles.now) c.args.marks.now c.requires.members t level place full laid so c.requires.begun;
 }
-
-pub advance-requires-clause-frontier : goal.advance-requires-clause-frontier
-advance-requires-clause-frontier c k d at_zero two = subst (λ wave. Lists wave k) (sym c.deref.ensures.value) (c.waves.invariant.round.frontier k d at_zero two)
 
 pub returns-in_err-advance-clause-tells : goal.returns-in_err-advance-clause-tells
 returns-in_err-advance-clause-tells c =

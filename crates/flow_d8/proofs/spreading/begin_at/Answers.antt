@@ -1,13 +1,6 @@
-use Rattle.flow_d8.proofs.Prelude.{Begins, subst, sym}
 use Rattle.flow_d8.proofs.Waves.Listing.{longer_of}
-use Rattle.flow_d8.proofs.Waves.Starting.{begins_same, begun_at}
+use Rattle.flow_d8.proofs.Waves.Starting.{begun_at}
 use Rattle.flow_d8.proofs.spreading.begin_at.Goals as goal
-
-pub returns-then-not-is_beside-clause-begins : goal.returns-then-not-is_beside-clause-begins
-returns-then-not-is_beside-clause-begins c = begins_same c.args.flows.now c.args.marks.now c.args.wave.now.items
-
-pub returns-in_err-push-clause-begins : goal.returns-in_err-push-clause-begins
-returns-in_err-push-clause-begins c = subst (λ w. Begins c.args.flows.now c.args.marks.now c.args.wave.now.items c.args.marks.now w) (sym c.in_err-push.ensures.items) (begins_same c.args.flows.now c.args.marks.now c.args.wave.now.items)
 
 pub returns-clause-begins : goal.returns-clause-begins
 returns-clause-begins c = rw c.set.ensures (begun_at c.args.flows.now c.args.marks.now c.args.wave.now.items c.push.new.self.items c.args.k (c.is_beside.ensures.0 c.if-not-is_beside.false) c.requires.member (longer_of c.args.wave.now.items c.push.new.self.items c.args.k c.in_ok-push.ensures.items))

@@ -1,14 +1,7 @@
 use Rattle.flow_d8.proofs.Prelude.{IsBeside, arith, cases_eq, inl, inr, mark_at, slice_index_or, subst, sym, ◌≡◌}
 use Rattle.flow_d8.specs.declared.flow.Flow.TheVariants.{Unknown}
-use Rattle.flow_d8.proofs.Waves.Starting.{begins_same, begins_on, member_still, zero_on}
+use Rattle.flow_d8.proofs.Waves.Starting.{begins_on, zero_on}
 use Rattle.flow_d8.proofs.spreading.begin_run.Goals as goal
-
-pub loop-k-init : goal.loop-k-init
-loop-k-init c = record { begins = begins_same c.args.flows.now c.args.marks.now c.args.wave.now.items; here = λ j at less beside. absurd (omega (arith, at.from)) }
-
-pub begin_at-requires-clause-member : goal.begin_at-requires-clause-member
-begin_at-requires-clause-member c = member_still c.args.flows.now c.args.marks.now c.args.wave.now.items c.loop-k.marks c.loop-k.wave.items c.loop-k.invariant.begins c.loop-k.k
-    (c.requires.members c.loop-k.k (record { from = c.loop-k.auto.k; to = omega (arith, c.loop-k-test.true) }))
 
 pub returns-in_err-begin_at-clause-begins : goal.returns-in_err-begin_at-clause-begins
 returns-in_err-begin_at-clause-begins c = begins_on c.args.flows.now c.args.marks.now c.args.wave.now.items c.loop-k.marks c.loop-k.wave.items c.loop-k.invariant.begins c.begin_at.new.marks c.begin_at.new.wave.items c.begin_at.ensures.begins
@@ -23,6 +16,3 @@ loop-k-preserved c =
         | inr other ↦ zero_on c.args.flows.now c.loop-k.marks c.loop-k.wave.items c.begin_at.new.marks c.begin_at.new.wave.items c.begin_at.ensures.begins j (was.here j at (omega arith) beside)
       ];
     }
-
-pub returns-clause-here : goal.returns-clause-here
-returns-clause-here c j at beside = c.loop-k.invariant.here j at (omega (arith, at.to, c.loop-k-test.false)) beside

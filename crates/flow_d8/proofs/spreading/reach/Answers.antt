@@ -2,14 +2,8 @@ use Rattle.flow_d8.proofs.Prelude.{FlatTo, Reaches, ap, arith, back_of, cases_eq
 use Rattle.flow_d8.specs.Tiles.{by_of}
 use Rattle.flow_d8.proofs.Steps.StepBack.{back_twice}
 use Rattle.flow_d8.proofs.Waves.Listing.{IsLonger, longer_of}
-use Rattle.flow_d8.proofs.Waves.Marking.{reaches_same, reaches_one, reaches_on, reaches_two, in_range}
+use Rattle.flow_d8.proofs.Waves.Marking.{reaches_one, reaches_on, reaches_two, in_range}
 use Rattle.flow_d8.proofs.spreading.reach.Goals as goal
-
-pub loop-i-init : goal.loop-i-init
-loop-i-init c = record {
-  reaches = reaches_same (by_of c.args.tiles.now) c.args.wave.now c.args.direction c.args.marks.now c.args.next.now.items c.args.flows.now;
-  passed = λ j less. absurd (omega arith);
-}
 
 pub loop-i-preserved-then-mark-ne-MEMBER : goal.loop-i-preserved-then-mark-ne-MEMBER
 loop-i-preserved-then-mark-ne-MEMBER c =
@@ -52,7 +46,3 @@ loop-i-preserved c =
         | inr other ↦ was.passed j (omega arith) (reaches_two by wave d marks next flows _ _ _ step (by (get_or wave j 0) (back_of d)) held)
       ];
     })
-
-pub returns-in_err-push-clause-reaches : goal.returns-in_err-push-clause-reaches
-returns-in_err-push-clause-reaches c =
-    subst (λ n. Reaches (by_of c.args.tiles.now) c.args.wave.now c.args.direction c.args.marks.now c.args.next.now.items c.args.flows.now c.loop-i.marks n c.loop-i.flows) (sym c.in_err-push.ensures.items) c.loop-i.invariant.reaches

@@ -17,6 +17,3 @@ loop-i-preserved c =
         | inr other ↦ by.tells.told e (was.twins j k e (omega arith) in_it told sample flat)
       ];
     }
-
-pub returns-clause-twins : goal.returns-clause-twins
-returns-clause-twins c k e covers told sample flat = c.loop-i.invariant.twins covers.0 k e (omega (arith, covers.1.0, c.loop-i-test.false)) covers.1.1 told sample flat

@@ -7,9 +7,6 @@ use Rattle.flow_d8.proofs.telling.tell_run.Goals as goal
 pub flow_at-flow-requires : goal.flow_at-flow-requires
 flow_at-flow-requires c = c.requires.small c.args.run.first (record { from = omega arith; to = c.requires.row.some })
 
-pub point-requires : goal.point-requires
-point-requires c = subst (λ n. c.args.run.first < n) c.requires.tiles (c.requires.small c.args.run.first (record { from = omega arith; to = c.requires.row.some }))
-
 pub returns-then-is_told-clause-facts : goal.returns-then-is_told-clause-facts
 returns-then-is_told-clause-facts c t level so =
     c.tell_point.ensures.facts t level (subst (λ q. IsFlow t level q c.flow_at-flow.result) (sym c.point.ensures) (subst (IsFlow t level (place_of c.args.tiles.now c.args.run.first)) (sym c.flow_at-flow.ensures) (so c.args.run.first))) so

@@ -1,5 +1,5 @@
 use Rattle.tile_flood.proofs.Prelude.{Cell, SFits, ap, levels_of, of_z, rules, set, to_z, to_z-of_z, w16, ◌∙◌}
-use Rattle.tile_flood.proofs.InCells.{set_levels, set_labels, set_cells}
+use Rattle.tile_flood.proofs.InCells.{set_levels, set_labels}
 use Rattle.tile_flood.proofs.cells.mark.Goals as goal
 
 pub returns-clause-levels : goal.returns-clause-levels
@@ -10,6 +10,3 @@ returns-clause-levels c =
 
 pub returns-clause-labels : goal.returns-clause-labels
 returns-clause-labels c = set_labels c.args.cells.now c.args.e (record { level = to_z w16 (of_z w16 c.args.level); label = c.args.label }) c.requires.labelled.0 c.requires.labelled.1
-
-pub returns-clause-cells : goal.returns-clause-cells
-returns-clause-cells c = set_cells c.args.cells.now c.args.e (record { level = to_z w16 (of_z w16 c.args.level); label = c.args.label }) c.requires.labelled.0 c.requires.labelled.1 c.requires.inside

@@ -1,16 +1,6 @@
-use Rattle.tile_flood.proofs.Prelude.{SFits, [], ap, arith, inr, length, raised_level, refl, rules, slice_index, slice_index_or, subst, sym, to_z-of_z, void, w16, ◌*◌, ◌++◌, ◌-◌, ◌∙◌, ◌∷◌, ◌≡◌}
+use Rattle.tile_flood.proofs.Prelude.{SFits, [], ap, arith, inr, length, raised_level, rules, slice_index, slice_index_or, subst, sym, to_z-of_z, void, w16, ◌*◌, ◌++◌, ◌-◌, ◌∙◌, ◌∷◌, ◌≡◌}
 use Rattle.tile_flood.proofs.Raised.{rim_filled_levels, rim_filled_can, raised_more}
 use Rattle.tile_flood.proofs.raising.raise.Goals as goal
-
-pub returns-in_default-clause-refusal : goal.returns-in_default-clause-refusal
-returns-in_default-clause-refusal c =
-    let levels = c.args.labelled.now.levels in
-    let labels = c.args.labelled.now.labels in
-    let at : c.raised.result ≡ raised_level c.args.rim.now (slice_index_or levels c.loop-e.e void) (slice_index labels c.loop-e.e) =
-    subst (λ ls. c.raised.result ≡ raised_level c.args.rim.now (slice_index_or ls c.loop-e.e void) (slice_index labels c.loop-e.e)) c.levels-levels.ensures.value
-    (subst (λ bs. c.raised.result ≡ raised_level c.args.rim.now (slice_index_or c.levels-levels.result.now c.loop-e.e void) (slice_index bs c.loop-e.e)) c.labels-labels.ensures.value c.raised.ensures) in
-    let size : length c.levels-levels.result.now ≡ c.args.labelled.now.side * c.args.labelled.now.side = ap length c.levels-levels.ensures.value ∙ c.levels-levels.ensures.whole in
-    inr (refl, inr (c.loop-e.e, (omega arith, sym at ∙ c.in_default.is)))
 
 pub returns-in_default-clause-not_damaged : goal.returns-in_default-clause-not_damaged
 returns-in_default-clause-not_damaged c =

@@ -1,7 +1,7 @@
-use Rattle.std.proofs.Common.{◌≢◌, ◌+◌, ◌*◌, ◌<◌, ◌∙◌, [], IsTrue, arith, inl, inr, sym, subst, slice_index}
-use Rattle.tile_flood.proofs.Prelude.{IsOwnLabel, NO_LABEL, block_of, is_solid}
+use Rattle.std.proofs.Common.{◌≢◌, ◌+◌, ◌*◌, ◌<◌, ◌∙◌, [], IsTrue, arith, inl, inr, sym, slice_index}
+use Rattle.tile_flood.proofs.Prelude.{NO_LABEL, block_of, is_solid}
 use Rattle.tile_flood.proofs.Squares.{in_square, not_void_if}
-use Rattle.tile_flood.proofs.Fitting.{exit_fits, gap_at, ground_at, inner_fits}
+use Rattle.tile_flood.proofs.Fitting.{gap_at, ground_at, inner_fits}
 use Rattle.tile_flood.proofs.Standing.{stand_on}
 use Rattle.tile_flood.proofs.restoring.look_at.Goals as goal
 
@@ -26,16 +26,6 @@ pub returns-else-label_at-own-clause-standing : goal.returns-else-label_at-own-c
 returns-else-label_at-own-clause-standing c =
     stand_on c.args.planes.now.n c.args.planes.now.heights.now c.args.planes.now.sinks.now c.args.planes.now.levels.now c.args.planes.now.labels.now c.args.stands.now (c.args.i * c.args.planes.now.n + c.args.j) _ c.requires.standing (in_square c.args.planes.now.n c.args.i c.args.j c.requires.cell.0 c.requires.cell.1)
     (λ _. ([], inr (inl c.in-Some.ensures.outlet)))
-
-pub returns-then-label_at-own-clause-fitting : goal.returns-then-label_at-own-clause-fitting
-returns-then-label_at-own-clause-fitting c ok =
-    let e = c.args.i * c.args.planes.now.n + c.args.j in
-    let b = block_of c.args.planes.now.n c.args.planes.now.heights.now c.args.planes.now.sinks.now in
-    let named : slice_index c.args.planes.now.labels.now e ≢ NO_LABEL = λ is. c.if-label_at.false (c.label_at-else-not-has_level-3.ensures ∙ is) in
-    exit_fits c.args.planes.now.n c.args.planes.now.heights.now c.args.planes.now.sinks.now c.args.planes.now.levels.now c.args.planes.now.labels.now c.list_unless.new.points.items e c.in-Some.ensures.outlet
-    (not_void_if c.args.planes.now.levels.now e (sym c.has_level-2.ensures ∙ c.if-not-has_level-3.false)) named
-    (subst (IsOwnLabel b e) (sym c.if-label_at-own.true ∙ c.label_at-in-Some.ensures) c.in-Some.ensures.label)
-    (elim (c.list_unless.ensures.listed ok) [ inl is ↦ inr (c.is_own_level.ensures is) | inr listed ↦ inl listed ])
 
 pub returns-clause-fitting : goal.returns-clause-fitting
 returns-clause-fitting c ok =

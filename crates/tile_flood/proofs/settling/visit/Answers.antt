@@ -1,10 +1,7 @@
 use Rattle.tile_flood.proofs.Prelude.{SFits, ap, arith, labels_of, levels_of, of_z, rules, slice_index_or, sym, to_z, void, w16, ◌∙◌}
-use Rattle.tile_flood.proofs.InCells.{IsOpen, none, open_if, marked_unless_open, front_labelled}
+use Rattle.tile_flood.proofs.InCells.{none, open_if, marked_unless_open, front_labelled}
 use Rattle.tile_flood.proofs.Spreading.{IsVisited, visited_as, passed_max, near_linked}
 use Rattle.tile_flood.proofs.settling.visit.Goals as goal
-
-opened : (c : goal.After-higher) → IsOpen c.args.n c.args.heights.now c.args.cells.now c.args.e
-opened c = open_if c.args.n c.args.heights.now c.args.cells.now c.args.e c.requires.heights.whole c.requires.cells c.requires.e c.cell_at-cell.result (c.cell_at-cell.ensures none) (sym c.is_open.ensures ∙ c.if-is_open.true)
 
 pub mark-requires-clause-labelled : goal.mark-requires-clause-labelled
 mark-requires-clause-labelled c = front_labelled c.args.n c.args.heights.now c.args.sinks.now c.args.cells.now c.args.queue.now c.args.popped.point c.args.popped.level c.args.popped.label c.requires.heights.whole c.requires.cells c.requires.state

@@ -1,4 +1,4 @@
-use Rattle.flow_d8.proofs.Prelude.{IsDirection, IsFalse, IsTellingAll, NoGround, ap, direction_of, is_ground, subst, sym, terrain, ◌↔◌, ◌∙◌, ◌≡◌}
+use Rattle.flow_d8.proofs.Prelude.{IsFalse, IsTellingAll, NoGround, ap, is_ground, subst, sym, ◌↔◌, ◌∙◌, ◌≡◌}
 use Rattle.flow_d8.specs.Directions.{flow_at, flow_in}
 use Rattle.flow_d8.proofs.Paths.Crossing.{told_in}
 use Rattle.flow_d8.proofs.Paths.Tracing.{none_is_off}
@@ -9,12 +9,6 @@ returns-clause-all c =
     let d = c.args.self.now in
     let same : c.flow_at.result ≡ flow_in d c.args.point = c.flow_at.ensures.value ∙ ap (λ k. flow_at d k) c.number.ensures in
     subst IsTellingAll (sym same) (told_in d c.flow_at.ensures.valid c.args.point)
-
-pub returns-clause-on_ground : goal.returns-clause-on_ground
-returns-clause-on_ground c m level are solid =
-    let d = c.args.self.now in
-    let same : c.flow_at.result ≡ flow_in d c.args.point = c.flow_at.ensures.value ∙ ap (λ k. flow_at d k) c.number.ensures in
-    subst (λ f. IsDirection (terrain m) level c.args.point (direction_of f)) (sym same) (are.direction c.args.point solid)
 
 pub returns-clause-elsewhere : goal.returns-clause-elsewhere
 returns-clause-elsewhere c m level are =

@@ -1,27 +1,12 @@
-use Rattle.std.proofs.Common.{Vec, Global, List, [], ◌∷◌, ◌++◌, ◌-◌, ◌<◌, inl, inr, ⊎_elim, length, get_or, length-append, refl, sym, ap, ◌∙◌, subst, arith, ◌≡◌, ◌⊎◌, Result, IfErr}
+use Rattle.std.proofs.Common.{Vec, Global, List, [], ◌∷◌, ◌-◌, inl, inr, ⊎_elim, length, get_or, length-append, sym, ap, ◌∙◌, subst, arith, ◌≡◌, ◌⊎◌, Result, IfErr}
 use Rattle.std.proofs.lemmas.Result.{err_from_is_err_and}
 use Rattle.flow_d8.specs.Prelude.{Point, Refusal, NoMemory, Damaged, terrain}
 use Rattle.flow_d8.specs.Directions.{AreOfNoMosaic, IsChain}
 use Rattle.flow_d8.specs.FlowSteps.{IsFollowed}
 use Rattle.flow_d8.proofs.Paths.Chains.{chain_longer, chain_once, ends_with}
-use Rattle.flow_d8.proofs.Paths.Following.{followed_first}
-use Rattle.flow_d8.proofs.Mosaics.MosaicGrid.{mosaic_is_grid}
 use Rattle.flow_d8.proofs.Paths.OnePath.{goes_on_in}
 use Rattle.flow_d8.proofs.Paths.Tracing.{follow_more, follow_end, ground_held, told_ground}
 use Rattle.flow_d8.proofs.directions.Directions.follow.Goals as goal
-
-pub steps-init : goal.steps-init
-steps-init c = record {
-  chain = subst (IsChain c.args.self.now) (sym first) (λ i x small. absurd (omega arith));
-  ends = subst (λ (l : List Point). (x : Point) → get_or l (length l - 1) x ≡ c.args.point) (sym first) (λ x. refl);
-  some = subst (λ (l : List Point). 0 < length l) (sym first) (omega arith);
-  short = c.in_ok-add.ensures.short;
-  followed = λ m level is are solid.
-      subst (λ (l : List Point). IsFollowed (terrain m) level c.args.point c.args.point l) (sym first) (followed_first (terrain m) (mosaic_is_grid m is) level c.args.point solid);
-}
-  where
-    first : c.add.new.path.items ≡ c.args.point ∷ []
-    first = c.in_ok-add.ensures.path ∙ ap (λ (l : List Point). l ++ c.args.point ∷ []) c.new-path.ensures.items
 
 pub steps-preserved : goal.steps-preserved
 steps-preserved c = record {
@@ -40,22 +25,6 @@ returns-clause-once c = chain_once c.args.self.now c.steps.path.items c.steps.in
 
 pub returns-clause-path : goal.returns-clause-path
 returns-clause-path c = λ m level is are solid. follow_end m level c.args.self.now is are c.args.point c.steps.last c.steps.path.items c.in_default.ensures.off (c.steps.invariant.followed m level is are solid)
-
-pub returns-in_err-add-clause-refusal : goal.returns-in_err-add-clause-refusal
-returns-in_err-add-clause-refusal c =
-    let d = c.args.self.now in
-    let whole = c.count-most.ensures.valid in
-    let p = err_from_is_err_and c.from_residual.result c.from_residual.ensures.1 in
-    subst (λ (r : Result (Vec Point Global) Refusal). IfErr r (λ r. (r ≡ NoMemory) ⊎ ((r ≡ Damaged) × AreOfNoMosaic d))) (sym p.1)
-    (⊎_elim (λ is. inl (p.2 ∙ is)) (λ is. inr (
-      p.2 ∙ is.0,
-      λ m level mosaic filled are.
-          let solid = told_ground m level d are whole c.args.point c.requires in
-          goes_on_in m mosaic level filled d.tiles.side d.tiles.corners whole.valid.side_low (ground_held m level d are whole) c.args.point c.args.point [] solid
-          (followed_first (terrain m) (mosaic_is_grid m mosaic) level c.args.point solid)
-          (inr (omega (arith, is.1, ap length c.new-path.ensures.items, c.count-most.ensures.value))),
-    ))
-    c.in_err-add.ensures.refusal)
 
 pub returns-in_err-add-2-clause-refusal : goal.returns-in_err-add-2-clause-refusal
 returns-in_err-add-2-clause-refusal c =

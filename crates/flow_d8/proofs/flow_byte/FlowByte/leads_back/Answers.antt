@@ -1,8 +1,8 @@
-use Rattle.flow_d8.proofs.Prelude.{Beside, Dir, East, FlatTo, Flow, Some, To, ℕ, ap, arith, back_of, direction_of, nat_tests, none-some, order_of, refl, subst, sym, ◌%◌, ◌+◌, ◌<◌, ◌∙◌, ◌≡◌, ◌≤◌}
+use Rattle.flow_d8.proofs.Prelude.{Beside, Dir, East, FlatTo, Flow, Some, To, ℕ, ap, arith, back_of, direction_of, nat_tests, order_of, refl, sym, ◌%◌, ◌+◌, ◌∙◌, ◌≡◌, ◌≤◌}
 use Rattle.std.specs.Prelude.{◌↔◌}
 use denote.Enum.Declared.{tag_of}
 use Rattle.lattice.specs.contracts.direction.Dir.{the_type}
-use Rattle.flow_d8.specs.FlowBytes.{flow_at, byte_of, byte_of_flow_at}
+use Rattle.flow_d8.specs.FlowBytes.{byte_of, byte_of_flow_at}
 use Rattle.flow_d8.proofs.Steps.Compass.{same_order}
 use Rattle.flow_d8.proofs.Steps.StepBack.{back_twice}
 use Rattle.flow_d8.proofs.flow_byte.FlowByte.leads_back.Goals as goal
@@ -35,18 +35,6 @@ by_eights (To e) d low = named e d (4 + order_of e) (to_back e)
 by_eights (Beside e) d low = named e d (12 + order_of e) (beside_back e)
 by_eights (FlatTo e) d low = named e d (20 + order_of e) (flat_back e)
 by_eights _ d low = absurd (omega arith)
-
--- the others have the first four bytes
-names_none : (f : Flow) (d : Dir) → byte_of f < 4 → direction_of f ≡ Some (back_of d) → ⊥
-names_none (To e) d small names = omega arith
-names_none (Beside e) d small names = omega arith
-names_none (FlatTo e) d small names = omega arith
-names_none _ d small names = none-some (back_of d) names
-
-pub returns-then-self-lt4 : goal.returns-then-self-lt4
-returns-then-self-lt4 c =
-    let byte : byte_of c.args.self ≡ c.self.inside.byte = ap byte_of (sym c.self.view_is) ∙ byte_of_flow_at c.self.inside.byte c.self.invariant in
-    (λ no. absurd (cc), λ names. absurd (names_none c.args.self c.args.direction (omega (arith, byte, c.if-self-lt4.true)) names))
 
 pub returns : goal.returns
 returns c =

@@ -1,4 +1,4 @@
-use Rattle.flow_d8.proofs.Prelude.{Flat, Flow, IsTellingAll, Unknown, ap, arith, byte_of, byte_of_flow_at, nat_tests, refl, subst, sym, ◌∙◌, ◌≡◌, ◌≢◌}
+use Rattle.flow_d8.proofs.Prelude.{Flat, Flow, IsTellingAll, Unknown, ap, arith, byte_of, byte_of_flow_at, nat_tests, refl, sym, ◌∙◌, ◌≡◌, ◌≢◌}
 use Rattle.flow_d8.proofs.flow_byte.FlowByte.tells_all.Goals as goal
 
 tells : (f : Flow) → byte_of f ≢ 0 → byte_of f ≢ 3 → IsTellingAll f

@@ -1,5 +1,5 @@
-use Rattle.flow_d8.proofs.Prelude.{AreFlows, CrossesFlat, Drains, Flow, IfNone, IfOk, IfSome, IsAtHand, IsTrue, List, Tells, Unknown, ℕ, drop, flow_of, get_or, length, subst, sym, take, with_items_is, ◌++◌, ◌∙◌, ◌≡◌}
-use Rattle.flow_d8.specs.Tiles.{OnGround, IsSampleOf, place_of}
+use Rattle.flow_d8.proofs.Prelude.{AreFlows, CrossesFlat, Drains, Flow, IfNone, IfOk, IfSome, IsAtHand, IsTrue, List, ℕ, drop, flow_of, length, subst, sym, take, with_items_is, ◌++◌, ◌∙◌, ◌≡◌}
+use Rattle.flow_d8.specs.Tiles.{OnGround, place_of}
 use Rattle.flow_d8.proofs.grid.FlowGrid.resolve.Goals as goal
 
 pub returns-clause-flows : goal.returns-clause-flows
@@ -23,19 +23,3 @@ returns-clause-drains c =
     let same : take s.flows.len (ws ++ drop (length ws) s.flows.items) ≡ ws = with_items_is s.flows ws (c.resolve_known.ensures.whole ∙ c.deref_mut.ensures.len) in
     subst (λ (n : List Flow). IfOk c.resolve_known.result (λ met. IfNone met (IsAtHand s.tiles p → OnGround s.tiles s.flows.items (λ t level. IsTrue (t.is_ground p) → (j : ℕ) → CrossesFlat t level p j → Drains (flow_of s.tiles n p))))) (sym same)
     (subst (λ (l : List Flow). IfOk c.resolve_known.result (λ met. IfNone met (IsAtHand s.tiles p → OnGround s.tiles l (λ t level. IsTrue (t.is_ground p) → (j : ℕ) → CrossesFlat t level p j → Drains (flow_of s.tiles ws p))))) c.deref_mut.ensures.value c.resolve_known.ensures.drains)
-
-pub returns-clause-samples : goal.returns-clause-samples
-returns-clause-samples c =
-    let s = c.args.self.now in
-    let p = c.args.point in
-    let ws = c.resolve_known.new.flows in
-    let same : take s.flows.len (ws ++ drop (length ws) s.flows.items) ≡ ws = with_items_is s.flows ws (c.resolve_known.ensures.whole ∙ c.deref_mut.ensures.len) in
-    subst (λ (n : List Flow). IfOk c.resolve_known.result (λ met. IfNone met ((k : ℕ) → IsSampleOf s.tiles p k → OnGround s.tiles s.flows.items (λ t level. IsTrue (t.is_ground p) → (j : ℕ) → CrossesFlat t level p j → Drains (get_or n k Unknown))))) (sym same)
-    (subst (λ (l : List Flow). IfOk c.resolve_known.result (λ met. IfNone met ((k : ℕ) → IsSampleOf s.tiles p k → OnGround s.tiles l (λ t level. IsTrue (t.is_ground p) → (j : ℕ) → CrossesFlat t level p j → Drains (get_or ws k Unknown))))) c.deref_mut.ensures.value c.resolve_known.ensures.samples)
-
-pub returns-clause-tells : goal.returns-clause-tells
-returns-clause-tells c =
-    let s = c.args.self.now in
-    let ws = c.resolve_known.new.flows in
-    let same : take s.flows.len (ws ++ drop (length ws) s.flows.items) ≡ ws = with_items_is s.flows ws (c.resolve_known.ensures.whole ∙ c.deref_mut.ensures.len) in
-    subst (λ (n : List Flow). Tells s.flows.items n) (sym same) (subst (λ (l : List Flow). Tells l ws) c.deref_mut.ensures.value c.resolve_known.ensures.tells)

@@ -1,6 +1,6 @@
 use Rattle.tile_flood.proofs.Prelude.{IsBeginning, arith, length, subst, ◌≡◌}
 use Rattle.tile_flood.proofs.Steps.{begun, begin_end}
-use Rattle.tile_flood.proofs.ListedChanges.{listed_same, listed_twice}
+use Rattle.tile_flood.proofs.ListedChanges.{listed_same}
 use Rattle.tile_flood.proofs.flood.Flood.begin.Goals as goal
 
 pub loop-k-init : goal.loop-k-init
@@ -9,15 +9,6 @@ loop-k-init c =
     record {
       state = begun c.args.n c.args.heights.now c.args.sinks.now c.args.points.now s.levels.items s.labels.items s.queue s.suspects c.requires.before;
       listed = listed_same c.args.n c.args.heights.now s.levels.items s.labels.items c.args.affected.now.items;
-    }
-
-pub loop-k-preserved : goal.loop-k-preserved
-loop-k-preserved c =
-    let s = c.args.self.now in
-    let a = c.in_ok-begin_at.ensures in
-    record {
-      state = a.state;
-      listed = listed_twice c.args.n c.args.heights.now s.levels.items c.loop-k.self.levels.items c.begin_at.new.self.levels.items s.labels.items c.loop-k.self.labels.items c.begin_at.new.self.labels.items c.args.affected.now.items c.loop-k.affected.items c.begin_at.new.affected.items c.loop-k.invariant.listed a.listed;
     }
 
 pub returns-clause-state : goal.returns-clause-state

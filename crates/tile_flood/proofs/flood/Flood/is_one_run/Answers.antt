@@ -1,10 +1,7 @@
 use Rattle.tile_flood.proofs.Prelude.{IsInWindow, IsRun, arith, in_round, subst, sym, ◌%◌, ◌+◌, ◌<◌, ◌≡◌}
-use Rattle.tile_flood.proofs.OneRun.{AreNear, run_begun, run_passed, run_on, run_whole}
+use Rattle.tile_flood.proofs.OneRun.{AreNear, run_passed, run_on, run_whole}
 use Rattle.tile_flood.proofs.flood.Flood.is_one_run.Goals as goal
 use Rattle.tile_flood.proofs.flood.Flood.is_one_run.Goals.{then-is_around+else-not-are_near, else-is_around}
-
-pub loop-k-init : goal.loop-k-init
-loop-k-init c = let s = c.args.self.now in run_begun c.args.n s.levels.items s.labels.items c.args.e c.args.start
 
 pub loop-k-preserved : goal.loop-k-preserved
 loop-k-preserved c =

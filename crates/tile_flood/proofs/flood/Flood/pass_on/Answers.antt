@@ -1,5 +1,5 @@
 use Rattle.tile_flood.proofs.Prelude.{IsIn, IsInOr, IsInWindow, IsMending, IsTrue, SFits, ap, arith, bare_block, cases_lt, inl, inr, int_max, is_marked, is_solid, of_z, rules, slice_index, slice_index_or, subst, sym, to_z, to_z-of_z, void, w16, ≤ℤ_trans, ◌∙◌, ◌≡◌, ◌≤ℤ◌}
-use Rattle.tile_flood.proofs.Dependence.{one_window_point, window_point_of, window_beside}
+use Rattle.tile_flood.proofs.Dependence.{one_window_point, window_point_of}
 use Rattle.tile_flood.proofs.Steps.{mending_as, passed_on}
 use Rattle.tile_flood.proofs.ListedChanges.{listed_same, listed_twice}
 use Rattle.tile_flood.proofs.flood.Flood.pass_on.Goals as goal
@@ -14,9 +14,6 @@ returns-then-not-is_current-clause-state c =
       | inl waits ↦ inl waits
       | inr taken ↦ absurd (c.is_current.ensures.stale c.if-not-is_current.true (subst (λ z. IsTrue (is_marked s.levels.items z)) taken.0 on) (ap (λ z. slice_index_or s.levels.items z void) (sym taken.0) ∙ taken.1))
     ])
-
-pub visit-requires-clause-beside : goal.visit-requires-clause-beside
-visit-requires-clause-beside c = window_beside c.args.n c.args.entry.point c.loop-d.d c.in-Some.e (omega arith) c.in-Some.ensures.some
 
 pub loop-d-init : goal.loop-d-init
 loop-d-init c =

@@ -1,6 +1,6 @@
 use Rattle.tile_flood.proofs.Prelude.{Affected, IsIn, IsInOr, IsTaken, List, StayListed, Waits, ℕ, ℤ, arith, inl, slice_index_or, subst, sym, void}
 use Rattle.tile_flood.proofs.Steps.{mended, mending_as, taken_in}
-use Rattle.tile_flood.proofs.ListedChanges.{listed_same, listed_twice}
+use Rattle.tile_flood.proofs.ListedChanges.{listed_twice}
 use Rattle.tile_flood.proofs.flood.Flood.settle_changes.Goals as goal
 use Rattle.tile_flood.proofs.flood.Flood.settle_changes.Goals.{In_default-pop, in-Some+in_ok-examine, in_default+in-Some-pop+in_ok-pass_on}
 
@@ -14,9 +14,6 @@ examine-requires-clause-state c =
     rw (a.levels, a.labels, a.queue)
     (mending_as c.args.n c.args.heights.now c.args.sinks.now levels s.labels.items (IsIn s.queue levels) (IsIn s.suspects levels) (IsIn s.queue levels) (IsInOr q' levels entry.point entry.level) c.loop.invariant.state
     (λ e on is. taken_in levels s.suspects q' entry.point entry.level c.in-Some.ensures.taken e is) (λ x y on link w. inl w))
-
-pub loop-init : goal.loop-init
-loop-init c = record { state = c.requires.state; listed = listed_same c.args.n c.args.heights.now c.args.self.now.levels.items c.args.self.now.labels.items c.args.affected.now.items }
 
 pub pass_on-requires-clause-state : goal.pass_on-requires-clause-state
 pass_on-requires-clause-state c =
@@ -42,12 +39,6 @@ returns-in_default-pop-clause-mended c done =
     rw (a.levels, a.labels)
     (mended c.args.n c.args.heights.now c.args.sinks.now levels s.labels.items (IsIn s.queue levels) (IsIn s.suspects levels) (IsIn s.queue levels) (IsIn s.suspects levels) c.loop.invariant.state (omega arith)
     (λ e w. nobody (goal.at.returns-in_default-pop-clause-mended c).In_default-pop (slice_index_or levels e void) e w) (λ e is. none (slice_index_or levels e void) e is))
-
-pub returns-in_default-pop-clause-listed : goal.returns-in_default-pop-clause-listed
-returns-in_default-pop-clause-listed c =
-    let s = c.args.self.now in
-    subst (λ ls. StayListed c.args.n c.args.heights.now s.levels.items s.labels.items c.args.affected.now.items ls c.take_suspect.new.self.labels.items c.loop.affected.items) (sym c.in_default.ensures.levels)
-    (subst (λ bs. StayListed c.args.n c.args.heights.now s.levels.items s.labels.items c.args.affected.now.items c.loop.self.levels.items bs c.loop.affected.items) (sym c.in_default.ensures.labels) c.loop.invariant.listed)
 
 pub loop-preserved : goal.loop-preserved
 loop-preserved c =

@@ -1,17 +1,7 @@
-use Rattle.tile_flood.proofs.Prelude.{IsIn, IsInWindow, IsTrue, SFits, arith, cases_lt, inl, inr, is_marked, of_z, refl, rules, slice_index, slice_index_or, subst, sym, to_z, to_z-of_z, void, w16, ◌∙◌, ◌≡◌, ◌≤ℤ◌, ◌⊎◌}
+use Rattle.tile_flood.proofs.Prelude.{IsIn, IsInWindow, IsTrue, SFits, arith, cases_lt, inl, inr, is_marked, of_z, rules, slice_index, slice_index_or, subst, sym, to_z, to_z-of_z, void, w16, ◌∙◌, ◌≡◌, ◌≤ℤ◌, ◌⊎◌}
 use Rattle.tile_flood.proofs.Dependence.{one_window_point, window_point_of}
 use Rattle.tile_flood.proofs.flood.Flood.suspect_beside.Goals as goal
 use Rattle.tile_flood.proofs.flood.Flood.suspect_beside.Goals.{in-Some+in_ok-suspect_or_wait, in_default}
-
-pub loop-d-init : goal.loop-d-init
-loop-d-init c = record {
-  levels = refl;
-  labels = refl;
-  waiting = λ l e w. w;
-  suspect = λ l e w. w;
-  suspected = λ j y less small spot on label level. absurd (omega arith);
-  others = λ wanted j y less small spot on. absurd (omega arith);
-}
 
 pub loop-d-preserved : goal.loop-d-preserved
 loop-d-preserved c =

@@ -1,16 +1,9 @@
-use Rattle.tile_flood.proofs.Prelude.{SFits, Waits, ap, not, of_z, refl, rules, slice_index_or, subst, sym, to_z, to_z-of_z, true≢false, void, w16, ◌<ℤ◌, ◌∙◌, ◌≡◌, ◌≤ℤ◌}
-use Rattle.lattice.proofs.IntTests.{le_true, le_false}
+use Rattle.tile_flood.proofs.Prelude.{SFits, Waits, ap, not, of_z, refl, rules, slice_index_or, subst, sym, to_z, void, w16, ◌∙◌}
 use Rattle.tile_flood.proofs.Spreading.{passed_max}
-use Rattle.tile_flood.proofs.Steps.{IsReached, mark_on, at_most_same}
+use Rattle.tile_flood.proofs.Steps.{IsReached, mark_on}
 use Rattle.tile_flood.proofs.ListedChanges.{marked_listed}
 use Rattle.tile_flood.proofs.flood.Flood.visit.Goals as goal
 use Rattle.tile_flood.proofs.flood.Flood.visit.Goals.{In_ok-mark}
-
-pub returns-then-not-is_ground-clause-at_most : goal.returns-then-not-is_ground-clause-at_most
-returns-then-not-is_ground-clause-at_most c = at_most_same c.args.self.now.levels.items
-
-pub returns-then-not-is_ground-clause-reached : goal.returns-then-not-is_ground-clause-reached
-returns-then-not-is_ground-clause-reached c solid = absurd (true≢false (sym solid ∙ (sym c.is_ground.ensures ∙ c.if-not-is_ground.true)))
 
 marked : (c : In_ok-mark) → IsReached c.args.n c.args.heights.now c.args.sinks.now c.args.self.now.levels.items c.mark.new.self.levels.items c.mark.new.self.labels.items c.mark.new.self.queue c.mark.new.self.suspects c.args.popped.point c.args.popped.level c.args.popped.label c.args.e
 marked c =
@@ -36,38 +29,3 @@ returns-then-is_unmarked c =
       listed = marked_listed c.args.n c.args.heights.now s.levels.items c.mark.new.self.levels.items s.labels.items c.mark.new.self.labels.items c.args.affected.now.items c.args.e (to_z w16 (of_z w16 c.higher-level.result)) c.args.popped.label
           (sym c.is_ground.ensures ∙ c.if-not-is_ground.false) (ap not (sym c.is_unmarked.ensures ∙ c.if-is_unmarked.true)) a.levels a.labels;
     }
-
-pub returns-then-level-at-clause-at_most : goal.returns-then-level-at-clause-at_most
-returns-then-level-at-clause-at_most c = at_most_same c.args.self.now.levels.items
-
-pub returns-then-level-at-clause-reached : goal.returns-then-level-at-clause-reached
-returns-then-level-at-clause-reached c _ =
-    let levels = c.args.self.now.levels.items in
-    let e = c.args.e in
-    let fits_height : SFits w16 c.at.result = search rules in
-    let fits_low : SFits w16 c.args.popped.level = search rules in
-    let fits_new : SFits w16 c.higher-level.result = search rules in
-    let fits_at : SFits w16 c.at-2.result = search rules in
-    let new = passed_max c.higher-level.result c.at.result c.args.popped.level (slice_index_or c.args.heights.now e void) fits_new fits_height fits_low c.higher-level.ensures c.at.ensures in
-    let old : to_z w16 (of_z w16 c.at-2.result) ≡ slice_index_or levels e void = to_z-of_z fits_at ∙ (c.at-2.ensures ∙ ap (λ ls. slice_index_or ls e void) c.deref.ensures.value) in (
-      ap not (sym c.is_unmarked.ensures ∙ c.if-is_unmarked.false),
-      subst (λ v. slice_index_or levels e void ≤ℤ v) new (subst (λ l. l ≤ℤ to_z w16 (of_z w16 c.higher-level.result)) old (le_true (to_z w16 (of_z w16 c.at-2.result)) (to_z w16 (of_z w16 c.higher-level.result)) c.if-level-at.true)),
-    )
-
-pub lower-requires-clause-marked : goal.lower-requires-clause-marked
-lower-requires-clause-marked c = ap not (sym c.is_unmarked.ensures ∙ c.if-is_unmarked.false)
-
-pub lower-requires-clause-level : goal.lower-requires-clause-level
-lower-requires-clause-level c =
-    let fits_height : SFits w16 c.at.result = search rules in
-    let fits_low : SFits w16 c.args.popped.level = search rules in
-    let fits_new : SFits w16 c.higher-level.result = search rules in
-    passed_max c.higher-level.result c.at.result c.args.popped.level (slice_index_or c.args.heights.now c.args.e void) fits_new fits_height fits_low c.higher-level.ensures c.at.ensures
-
-pub lower-requires-clause-lower : goal.lower-requires-clause-lower
-lower-requires-clause-lower c =
-    let levels = c.args.self.now.levels.items in
-    let e = c.args.e in
-    let fits_at : SFits w16 c.at-2.result = search rules in
-    let old : to_z w16 (of_z w16 c.at-2.result) ≡ slice_index_or levels e void = to_z-of_z fits_at ∙ (c.at-2.ensures ∙ ap (λ ls. slice_index_or ls e void) c.deref.ensures.value) in
-    subst (λ l. to_z w16 (of_z w16 c.higher-level.result) <ℤ l) old (le_false (to_z w16 (of_z w16 c.at-2.result)) (to_z w16 (of_z w16 c.higher-level.result)) c.if-level-at.false)

@@ -1,6 +1,6 @@
-use Rattle.tile_flood.proofs.Prelude.{SFits, Waits, ℕ, [], ap, bucket, map, of_z, pos, rules, subst, sym, to_z, to_z-of_z, w16, ◌+ℤ◌, ◌<ℤ◌, ◌∙◌, ◌≡◌, ◌≤◌}
+use Rattle.tile_flood.proofs.Prelude.{SFits, ap, of_z, pos, rules, subst, to_z, to_z-of_z, w16, ◌+ℤ◌, ◌<ℤ◌, ◌∙◌, ◌≡◌}
 use Rattle.lattice.proofs.IntTests.{lt_true}
-use Rattle.tile_flood.proofs.Buckets.{nobody, above_level}
+use Rattle.tile_flood.proofs.Buckets.{above_level}
 use Rattle.tile_flood.proofs.queue.Queue.is_above.Goals as goal
 
 pub returns-in-Some : goal.returns-in-Some
@@ -13,9 +13,3 @@ returns-in-Some c less =
     let at : to_z w16 (of_z w16 c.level_of.result) ≡ q.least +ℤ pos k = to_z-of_z fits ∙ c.level_of.ensures ∙ ap (λ l. l +ℤ pos k) (to_z-of_z fits_least) in
     above_level (λ b. b.items) q.least c.deref.result.now q.buckets.items q.lowest k c.args.self.now c.args.level c.self.view_is c.deref.ensures.value c.self.invariant.1 c.in-Some.ensures.first
     (subst (λ l. c.args.level <ℤ l) at (subst (λ l. l <ℤ to_z w16 (of_z w16 c.level_of.result)) (to_z-of_z fits_level) (lt_true (to_z w16 (of_z w16 c.args.level)) (to_z w16 (of_z w16 c.level_of.result)) less)))
-
-pub returns-in-None : goal.returns-in-None
-returns-in-None c always l e w =
-    let q = c.self.inside in
-    absurd (nobody q.least (map (λ b. b.items) q.buckets.items) q.lowest c.self.invariant.1 (subst (λ xs. (b : ℕ) → q.lowest ≤ b → bucket (map (λ v. v.items) xs) b ≡ []) c.deref.ensures.value c.in-None.ensures.none)
-    l e (subst (λ s. Waits s l e) (sym c.self.view_is) w))
