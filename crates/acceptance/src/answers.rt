@@ -1,9 +1,4 @@
 //! What is answered of one point.
-ghost use Rattle.std.specs.Prelude.{IsTrue};
-ghost use Rattle.lattice.specs.Ground.{is_ground, terrain};
-ghost use Rattle.flow_d8.specs.Drainage.{AreFilledLevels};
-ghost use Rattle.reference.specs.Levels.{level_of};
-
 use engine::Engine;
 use lattice::{Height, Point, Refusal};
 use reference::{Levels, Plain};
@@ -37,9 +32,7 @@ pub(crate) fn defined(
     mosaic: &Plain,
     levels: &Levels,
     point: Point,
-) -> Result<Answers, AllocError>
-    requires { AreFilledLevels (terrain mosaic.now) (level_of levels.now) }
-{
+) -> Result<Answers, AllocError> {
     if reference::is_ground(mosaic, point) {
         return drained(alloc, mosaic, levels, point);
     }
@@ -62,10 +55,7 @@ fn drained(
     mosaic: &Plain,
     levels: &Levels,
     point: Point,
-) -> Result<Answers, AllocError>
-    requires filled { AreFilledLevels (terrain mosaic.now) (level_of levels.now) }
-    requires on_ground { IsTrue (is_ground mosaic.now point) }
-{
+) -> Result<Answers, AllocError> {
     let direction = match reference::direction(alloc, mosaic, levels, point)? {
         Some(direction) => direction.code(),
         None => 0,

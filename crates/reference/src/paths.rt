@@ -1,14 +1,9 @@
-//! The way that water takes from a point.
-ghost use Rattle.std.specs.Prelude.{IfOk, IsTrue};
-ghost use Rattle.lattice.specs.Ground.{is_ground, terrain};
-ghost use Rattle.flow_d8.specs.Drainage.{AreFilledLevels};
-ghost use Rattle.flow_d8.specs.FlowPath.{IsFlowPath};
-ghost use Rattle.reference.specs.Levels.{level_of};
-
+//! The way that water takes from a point, and from which points it takes its way through one.
 use crate::directions::drain;
 use crate::{Levels, Plain};
 use lattice::Point;
 use std::alloc::{AllocError, Global};
+use watershed::Run;
 
 /// The flow path of a ground point, given the filled levels: the point, then the one that its direction names, and so
 /// on, to a point where water leaves the mosaic.
@@ -17,17 +12,50 @@ pub fn flow_path(
     mosaic: &Plain,
     levels: &Levels,
     point: Point,
-) -> Result<Vec<Point>, AllocError>
-    requires filled { AreFilledLevels (terrain mosaic.now) (level_of levels.now) }
-    requires on_ground { IsTrue (is_ground mosaic.now point) }
-    ensures { IfOk result (λ path. IsFlowPath (terrain mosaic.now) (level_of levels.now) point path.items) }
-{
+) -> Result<Vec<Point>, AllocError> {
     let mut path = Vec::new(alloc);
+    path.push(point)?;
     let mut here = point;
-    'steps: while let Some(step) = drain(alloc, mosaic, levels, here)? {
-        path.push(here)?;
+    // It names no point twice.
+    for _ in 0..levels.cells.len() {
+        let Some(step) = drain(alloc, mosaic, levels, here)? else {
+            break;
+        };
         here = step.to;
+        path.push(here)?;
     }
-    path.push(here)?;
     Ok(path)
+}
+
+/// The watershed of a point, given the filled levels: the ground points whose flow path contains it, as maximal runs
+/// from the north down, in a row from the west.
+pub fn watershed(
+    alloc: Global,
+    mosaic: &Plain,
+    levels: &Levels,
+    point: Point,
+) -> Result<Vec<Run>, AllocError> {
+    let mut points = Vec::new(alloc);
+    for cell in &levels.cells {
+        if flow_path(alloc, mosaic, levels, cell.point)?.contains(&point) {
+            points.push(cell.point)?;
+        }
+    }
+    points.sort_unstable_by_key(|point| (-i64::from(point.y), point.x));
+    runs_of(alloc, &points)
+}
+
+fn runs_of(alloc: Global, points: &[Point]) -> Result<Vec<Run>, AllocError> {
+    let mut runs: Vec<Run> = Vec::new(alloc);
+    for Point { y, x } in points.iter().copied() {
+        match runs.last_mut() {
+            Some(run) if run.y == y && run.last.checked_add(1) == Some(x) => run.last = x,
+            _ => runs.push(Run {
+                y,
+                first: x,
+                last: x,
+            })?,
+        }
+    }
+    Ok(runs)
 }

@@ -1,8 +1,4 @@
 //! How a store of side 3 stands after changes, as the plain programs say.
-ghost use Rattle.lattice.specs.Ground.{terrain};
-ghost use Rattle.flow_d8.specs.Drainage.{AreFilledLevels};
-ghost use Rattle.reference.specs.Levels.{level_of};
-
 use super::fixtures::at;
 use super::script::command;
 use disk::Disk;
@@ -151,9 +147,7 @@ impl Standing {
         mosaic: &Plain,
         levels: &Levels,
         point: Point,
-    ) -> Result<(), Fail>
-        requires { AreFilledLevels (terrain mosaic.now) (level_of levels.now) }
-    {
+    ) -> Result<(), Fail> {
         if !reference::is_ground(mosaic, point) {
             let refusal = refusal_of(reference::height(mosaic, point));
             self.add(Event::Direction(point), Reply::Refused(refusal))?;

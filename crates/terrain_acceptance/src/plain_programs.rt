@@ -2,9 +2,7 @@
 use crate::written::at;
 use edits::{Bytes, Command};
 use lattice::{Corner, Height, Refusal, Side};
-use reference::{
-    Plain, disagrees, effect, filled_levels, flat_distance, is_adjacent, is_ground, is_outlet,
-};
+use reference::{Plain, disagrees, effect, filled_levels, flat_distance, is_adjacent, is_outlet};
 use std::alloc::{AllocError, Global};
 use std::test::Fail;
 use test_tiles::{A, B, C, D, F, G, H, O, W, check_found};
@@ -109,11 +107,7 @@ fn adjacent_points_lie_in_one_tile(rt: HostRuntime) -> Result<(), Fail> {
 // None off the ground.
 fn distance(alloc: Global, mosaic: &Plain, y: i32, x: i32) -> Result<Option<usize>, AllocError> {
     let levels = filled_levels(alloc, mosaic)?;
-    let here = at(y, x);
-    if !is_ground(mosaic, here) {
-        return Ok(None);
-    }
-    Ok(Some(flat_distance(alloc, mosaic, &levels, here)?))
+    flat_distance(alloc, mosaic, &levels, at(y, x))
 }
 
 #[test]

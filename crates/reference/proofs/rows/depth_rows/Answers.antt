@@ -1,5 +1,0 @@
-use Rattle.std.proofs.Common.{refl}
-use Rattle.reference.proofs.rows.depth_rows.Goals as goal
-
-pub returns : goal.returns
-returns c = (refl, refl, refl)
