@@ -7,6 +7,7 @@ pub mod Layout
 pub mod Listings
 pub mod Longer
 pub mod OverRoots
+pub mod Past
 pub mod Planes
 pub mod Reading
 pub mod Sinks

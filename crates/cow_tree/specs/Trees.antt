@@ -1,5 +1,5 @@
 -- What contracts see of a tree.
-use Rattle.std.specs.Prelude.{◌≡◌, ◌⊎◌, ℕ, Bool, List, length, map, Result, Ok, Err}
+use Rattle.std.specs.Prelude.{◌≡◌, ◌⊎◌, ℕ, Bool, List, Option, length, map, Result, Ok, Err}
 use Rattle.disk.specs.Disk.{Image}
 use Rattle.disk.specs.declared.disk.Disk.{Ghosts}
 use Rattle.lattice.specs.Corners.{Corner}
@@ -18,6 +18,7 @@ use Rattle.page_map.specs.Planes.{HasPlane}
 use Rattle.cow_tree.specs.Staged.{AreStaged, pages_due}
 use Rattle.roots.specs.Roots.{IsReady, disk_of as disk_under, root_of as root_under, has_begun as have_begun, has_failed as have_failed}
 use Rattle.cow_tree.specs.OverRoots.{EachStores}
+use Rattle.cow_tree.specs.Past.{past_page, on_disk}
 use Rattle.cow_tree.specs.declared.tree.Tree.{Tree}
 
 module _ {D : Type 0} {g : Ghosts D} where
@@ -47,6 +48,10 @@ module _ {D : Type 0} {g : Ghosts D} where
   -- the declared sinks as the next commit will have them, in the order of points; held in memory too
   abbrev pub sinks_of : Tree D g → List Point
   sinks_of tree = tree.sinks.points
+
+  -- the sector where page i of a plane of the corner's tile lay, as far as it is known
+  abbrev pub past_sector : Tree D g → Corner → Plane → ℕ → Option ℕ
+  past_sector tree c plane i = on_disk (g.size (disk_of tree)) (past_page tree.past.tiles.items c plane i)
 
   -- the corner has such a plane
   abbrev pub Holds : Tree D g → Corner → Plane → Type 0

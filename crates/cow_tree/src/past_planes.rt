@@ -1,4 +1,6 @@
 //! Where levels and labels lay that were given up.
+ghost use Rattle.std.specs.Prelude.{◌≡◌, MatchOption, None, Some};
+ghost use Rattle.cow_tree.specs.Past.{past_page, past_pages, past_tile};
 
 use lattice::Corner;
 use page_map::{PagedPlane, Plane};
@@ -13,6 +15,18 @@ struct PastTile {
     corner: Corner,
     levels: Vec<u32>,
     labels: Vec<u32>,
+}
+
+impl PastTile {
+    fn pages(&self, plane: Plane) -> &[u32]
+        ensures { result.now ≡ past_pages self.now plane }
+    {
+        match plane {
+            Plane::Heights => &[],
+            Plane::Levels => &self.levels,
+            Plane::Labels => &self.labels,
+        }
+    }
 }
 
 /// The pages where levels and labels of stale tiles lay. They may have been written again, so that they may hold anything.
@@ -60,12 +74,21 @@ impl PastPlanes {
     }
 
     /// Where page `i` of a plane of the corner's tile lay.
-    pub(crate) fn page(&self, corner: Corner, plane: Plane, i: u32) -> Option<u32> {
-        let tile = self.tiles.iter().find(|tile| tile.corner == corner)?;
-        match plane {
-            Plane::Heights => None,
-            Plane::Levels => tile.levels.get(i as usize).copied(),
-            Plane::Labels => tile.labels.get(i as usize).copied(),
+    pub(crate) fn page(&self, corner: Corner, plane: Plane, i: u32) -> Option<u32>
+        ensures { result ≡ past_page self.now.tiles.items corner plane i }
+    {
+        let tile = self.tile(corner)?;
+        tile.pages(plane).get(i as usize).copied()
+    }
+
+    fn tile(&self, corner: Corner) -> Option<&PastTile>
+        ensures { MatchOption result (past_tile self.now.tiles.items corner ≡ None) (λ t. past_tile self.now.tiles.items corner ≡ Some t.now) }
+    {
+        for tile in &self.tiles {
+            if tile.corner == corner {
+                return Some(tile);
+            }
         }
+        None
     }
 }

@@ -66,7 +66,7 @@ pub struct Tree<D: Disk> {
 impl<D: Disk> Tree<D> {
     ghost use Rattle.cow_tree.specs.Clean.{IsClean};
     ghost use Rattle.cow_tree.specs.Reading.{Reads};
-    ghost use Rattle.cow_tree.specs.Trees.{disk_of, root_of, page_map_of, has_failed, has_begun, corners_of, sinks_of, Holds, HasStaged, IsUnstaged, records_due, disk_after, staged_in, IsAt, MayRefuse};
+    ghost use Rattle.cow_tree.specs.Trees.{disk_of, root_of, past_sector, page_map_of, has_failed, has_begun, corners_of, sinks_of, Holds, HasStaged, IsUnstaged, records_due, disk_after, staged_in, IsAt, MayRefuse};
     ghost use Rattle.cow_tree.specs.Uncommitted.{CommitsNothing, MakesNoCall, Returns};
 
     /// Makes an empty store of this format on a disk. A fault before the Ok may leave anything.
@@ -349,30 +349,26 @@ impl<D: Disk> Tree<D> {
         self.roots.read(number, into)
     }
 
-    /// Whether it is known where levels and labels of the corner's tile lay before it went stale.
-    pub fn has_past(&self, c: Corner) -> bool {
-        self.past.page(c, Plane::Levels, 0).is_some()
+    /// The sector where page `i` of levels or labels of the corner's tile lay before the tile went stale, where that is known.
+    /// What stands there now may be anything.
+    pub fn past_sector(&self, c: Corner, plane: Plane, i: u32) -> Option<u32>
+        ensures { result ≡ past_sector self.now c plane i }
+    {
+        let sector = self.past.page(c, plane, i)?;
+        (sector < self.roots.sectors()).then_some(sector)
     }
 
-    /// Reads what stands where page `i` of a plane of the corner's tile lay before the tile went stale: the same, or what was
-    /// written since. Where that isn't known, nothing is read. Refused as [`Tree::read_page`] is.
-    pub fn read_past_page(
-        &mut self,
-        c: Corner,
-        plane: Plane,
-        i: u32,
-        into: &mut [u8; PAGE_BYTES],
-    ) -> Result<(), Refusal>
+    /// Reads a sector as it stands, whatever it holds. Refused as [`Tree::read_page`] is.
+    pub fn read_sector(&mut self, sector: u32, into: &mut [u8; PAGE_BYTES]) -> Result<(), Refusal>
+        requires { sector < D.size (disk_of self.old) }
         ensures reads { Reads D.Disk self.old self.new result }
+        ensures bytes { D.honest (disk_of self.new) → OnOk result (into.new ≡ D.seen (disk_of self.old) sector) }
         ensures failed { has_failed self.old ≡ true → (result ≡ Err Failed) × (disk_of self.new ≡ disk_of self.old) }
     {
         if self.roots.has_failed() {
             return Err(Refusal::Failed);
         }
-        match self.past.page(c, plane, i) {
-            Some(number) if number < self.roots.sectors() => self.roots.read(number, into),
-            _ => Ok(()),
-        }
+        self.roots.read(sector, into)
     }
 
     // Where page `i` of a plane lies, as the next commit will have it.

@@ -26,9 +26,6 @@ eq_true a b e = (Decides-int_eq a b).0 e
 pub eq_from : (a b : ℤ) → a ≡ b → int_eq a b ≡ true
 eq_from a b h = (Decides-int_eq a b).1 h
 
-pub eq_false : (a b : ℤ) → int_eq a b ≡ false → (a <ℤ b) ⊎ (b <ℤ a)
-eq_false a b e = grind (arith, ints)
-
 pub int_eq-swap : (a b : ℤ) → int_eq a b ≡ int_eq b a
 int_eq-swap a b = grind (arith, ints)
 

@@ -222,7 +222,7 @@ fn past_labelling<D: Disk>(
     if tree.has_failed() {
         return Err(Refusal::Failed);
     }
-    if !tree.has_past(corner) {
+    if tree.past_sector(corner, Plane::Levels, 0).is_none() {
         return Ok(None);
     }
     let side = tree.current().side();
@@ -248,11 +248,28 @@ fn read_past<D: Disk>(
     let mut bytes = Vec::with_capacity(alloc, count as usize * PAGE_BYTES)?;
     let mut page = [0; PAGE_BYTES];
     for i in 0..count {
-        tree.read_past_page(corner, plane, i, &mut page)?;
+        read_past_page(tree, corner, plane, i, &mut page)?;
         bytes.extend_from_slice(&page)?;
     }
     bytes.truncate(side.file_bytes() as usize);
     Ok(bytes)
+}
+
+// Reads what stands where page `i` of a plane of the corner's tile lay; nothing where that isn't known.
+fn read_past_page<D: Disk>(
+    tree: &mut Tree<D>,
+    corner: Corner,
+    plane: Plane,
+    i: u32,
+    into: &mut [u8; PAGE_BYTES],
+) -> Result<(), Refusal>
+    requires { have_failed tree.old ≡ false }
+    ensures reads { Reads D.Disk tree.old tree.new result }
+{
+    match tree.past_sector(corner, plane, i) {
+        Some(sector) => tree.read_sector(sector, into),
+        None => Ok(()),
+    }
 }
 
 // The bytes of the levels and the labels that are kept of the corner's tile.

@@ -11,15 +11,6 @@ use Rattle.std.proofs.lemmas.List.{get_or_append_left, get_or-replicate, length-
 use Rattle.std.proofs.lemmas.Nat.Bits.{bit_at-zero}
 use Rattle.watershed.proofs.Found.{runs_alike}
 
-pos_same : (a b : ℕ) → pos a ≡ pos b → a ≡ b
-pos_same a b e = cc
-
-pub one_rank : (p : Point) (n m : ℕ) → IsRank p n → IsRank p m → n ≡ m
-one_rank p n m first then =
-    let rows : n / 4294967296 ≡ m / 4294967296 = let a = first.row in let b = then.row in pos_same (n / 4294967296) (m / 4294967296) (omega (arith, ints)) in
-    let columns : n % 4294967296 ≡ m % 4294967296 = pos_same (n % 4294967296) (m % 4294967296) (sym first.column ∙ then.column) in
-    omega arith
-
 pub one_point : (p q : Point) (n : ℕ) → IsRank p n → IsRank q n → p ≡ q
 one_point p q n first then = same_place p q (let a = first.row in let b = then.row in omega (arith, ints)) (let a = first.column in let b = then.column in omega (arith, ints))
 
@@ -35,11 +26,6 @@ rank_before q p n m first then less = elim (cases_eq (n / 4294967296) (m / 42949
       let rows : n / 4294967296 < m / 4294967296 = omega arith in
       inl (let a = first.row in let b = then.row in omega (arith, ints))
 ]
-
--- the words of no list are 0
-pub no_word : (o : Option ℕ) (k : ℕ) → word_in [] o k ≡ 0
-no_word None k = refl
-no_word (Some place) k = refl
 
 pub no_bit : (bits i : ℕ) → bits ≡ 0 → bit_at bits i ≡ 1 → ⊥
 no_bit bits i none on = let zero_bit : bit_at bits i ≡ 0 = ap (λ n. bit_at n i) none ∙ bit_at-zero i in absurd (omega arith)
@@ -94,18 +80,6 @@ module _ (old new : Marks) (point : Point) (r : ℕ) (is : IsRank point r) (inde
 -- marks with the same words are the same
 pub marked_alike : (a b : Marks) → ((n : ℕ) → word_of a n ≡ word_of b n) → (p : Point) → IsMarked a p → IsMarked b p
 marked_alike a b same p marked = record { rank = marked.rank; is = marked.is; set = ap (λ w. bit_at w (marked.rank % 64)) (sym (same marked.rank)) ∙ marked.set }
-
-pub indexed_as : (old new : Marks) → ((number : ℕ) → place_of new number ≡ place_of old number) → length new.words.items ≡ length old.words.items → new.numbers.items ≡ old.numbers.items → IsIndexed old → IsIndexed new
-indexed_as old new places whole numbers indexed = record {
-  whole = whole ∙ indexed.whole ∙ ap (λ l. length l * 64) (sym numbers);
-  small = λ k low. subst (λ l. get_or l k 0 < 2 ^ 52) (sym numbers) (indexed.small k (subst (λ l. k < length l) numbers low));
-  listed = λ number q at. subst (λ l. (q < length l) × (get_or l q 0 ≡ number)) (sym numbers) (indexed.listed number q (sym (places number) ∙ at));
-  each = λ k low. places (get_or new.numbers.items k 0) ∙ ap (λ l. place_of old (get_or l k 0)) numbers ∙ indexed.each k (subst (λ l. k < length l) numbers low);
-}
-
--- whether the point is marked
-pub marked_by_rank : (marks : Marks) (p : Point) (r : ℕ) → IsRank p r → IsMarked marks p → bit_at (word_of marks r) (r % 64) ≡ 1
-marked_by_rank marks p r is marked = subst (λ n. bit_at (word_of marks n) (n % 64) ≡ 1) (one_rank p marked.rank r marked.is is) marked.set
 
 -- a segment without a mark is added
 module _ (old new : Marks) (number : ℕ) (indexed : IsIndexed old) (absent : place_of old number ≡ None) (low : number < 2 ^ 52)

@@ -8,16 +8,6 @@ use Rattle.std.proofs.lemmas.List.Sums.{sum_by-cons}
 use Rattle.tile_labellings.specs.TileLabellings.{labelled_of, is_flooded, can_note, IsSetFrom, IsTileLabelling}
 use Rattle.drainage.specs.Invalidating.{IsNoted, IsHeldStill}
 
--- none is held of one place more
-pub none_held : {A : Type 0} (held new : List (Option A)) → new ≡ held ++ None ∷ [] → ((t : ℕ) → get_or held t None ≡ None) → (t : ℕ) → get_or new t None ≡ None
-none_held {A} held new is none t = ap (λ (l : List (Option A)). get_or l t None) is ∙ by held none t
-  where
-    by : (held : List (Option A)) → ((t : ℕ) → get_or held t None ≡ None) → (t : ℕ) → get_or (held ++ None ∷ []) t None ≡ None
-    by [] none zero = refl
-    by [] none (suc t) = refl
-    by (o ∷ rest) none zero = none 0
-    by (o ∷ rest) none (suc t) = by rest (λ u. none (suc u)) t
-
 -- ---- elements of lists
 
 module _ {A : Type 0} where

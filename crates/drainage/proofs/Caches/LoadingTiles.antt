@@ -70,7 +70,3 @@ module _ (side : ℕ) (corners : List Corner) (loaded : List (Option TileGraph))
       | inr other ↦ r.summaries u w (sym (get_or-set_other loaded t u (Some ways) None other) ∙ is)
     ];
   }
-
--- no other place is loaded
-pub only_told : (loaded : List (Option TileGraph)) (t : ℕ) (ways : TileGraph) (u : ℕ) (w : TileGraph) → u ≢ t → loaded_at (slice_set loaded t (Some ways)) u ≡ Some w → loaded_at loaded u ≡ Some w
-only_told loaded t ways u w other is = sym (get_or-set_other loaded t u (Some ways) None other) ∙ is

@@ -49,10 +49,6 @@ pub own_ended : {S T : Type 0} (g : Ghosts S) (a b : S) (r : Refusal) (Q : Type 
 own_ended {S} {T} g a b r Q reads (inl memory) never = subst (λ (x : Refusal). Asked {T = T} g a b (Err x)) (sym memory) (wanting g a b reads)
 own_ended {S} {T} g a b r Q reads (inr (damaged, q)) never = subst (λ (x : Refusal). Asked {T = T} g a b (Err x)) (sym damaged) (stopped g a b reads (λ honest. never honest q))
 
-pub own_cause : (r : Refusal) (Q : Type 0) → (r ≡ NoMemory) ⊎ ((r ≡ Damaged) × Q) → IsTrue (ends_any r)
-own_cause r Q (inl memory) = subst (λ (x : Refusal). IsTrue (ends_any x)) (sym memory) refl
-own_cause r Q (inr (damaged, q)) = subst (λ (x : Refusal). IsTrue (ends_any x)) (sym damaged) refl
-
 -- a question ended after reads, if not with an answer then for want of memory
 pub short_of_memory : {S T : Type 0} (g : Ghosts S) (a b : S) (result : Result T Refusal) → OnlyReads {T = Unit {0}} g a b (Ok tt) → IfErr result (λ r. r ≡ NoMemory) → Asked g a b result
 short_of_memory {S} {T} g a b (Ok x) reads none = answered g a b x reads

@@ -61,9 +61,6 @@ module _ (n row column : ℕ) (now : List ℤ) (v : ℤ) (inside : column < n) w
           let columns_same = one_column (n + 4) (r + 2) (s + 2) (row + 2) (column + 2) (omega arith) (omega arith) same in
           apart (omega (arith, rows_same)) (omega (arith, columns_same))
 
-pub place_within : (n row column : ℕ) → row < n → column < n → place_in n row column < (n + 4) * (n + 4)
-place_within n row column up left = mul-add-lt (row + 2) (n + 4) (column + 2) (n + 4) (omega arith) (omega arith)
-
 module _ (m : Mosaic) (c : Corner) where
   abbrev n : ℕ
   n = m.side

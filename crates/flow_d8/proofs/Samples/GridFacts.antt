@@ -5,17 +5,6 @@ use Rattle.flow_d8.specs.Tiles.{Tiles, count_of, no_corner, place_of, OnGround}
 use Rattle.flow_d8.proofs.Mosaics.FullTerrain.{mosaic_is_full}
 use Rattle.flow_d8.proofs.Samples.Slots.{longer, as_before, at_end}
 
--- no tile is at hand
-pub grid_none : (m : Mosaic) (tiles : Tiles) (flows : List Flow) → tiles.side ≡ m.side → tiles.corners ≡ [] → length flows ≡ count_of tiles → IsGridOf m tiles flows
-grid_none m tiles flows side none whole = record {
-  same_side = side;
-  present = λ i small. absurd (let e : length tiles.corners ≡ 0 = ap (λ (l : List Corner). length l) none in omega (arith, small, e));
-  told = λ level filled k. subst (IsFlow (terrain m) level (place_of tiles k)) (sym (get_or_past flows k Unknown (empty k))) tt;
-}
-  where
-    nothing : (a : ℕ) → 0 * a ≡ 0
-    nothing a = omega arith
-
     no_count : length flows ≡ 0
     no_count = whole ∙ ap (λ (l : List Corner). length l * (tiles.side * tiles.side)) none ∙ nothing (tiles.side * tiles.side)
 

@@ -3,17 +3,6 @@ use Rattle.catalogue.proofs.Sharing.{not_shared}
 use Rattle.catalogue.proofs.adjacency.tile_of_both.Goals as goal
 use Rattle.catalogue.proofs.adjacency.tile_of_both.Goals.{else-present-via-then-present+else-is_some, else-present-via-else-present}
 
-pub returns-then-is_some-clause-some : goal.returns-then-is_some-clause-some
-returns-then-is_some-clause-some g c =
-    let corner : Corner = c.corner-item.result in
-    let among = subst (λ (cs : List Corner). Contains cs corner) c.as_slice-corner-items.ensures.value (c.loop-corner.corner-index, c.loop-corner-test.true, sym c.corner-item.is) in (
-      c.present.ensures.answer.0 c.if-present.true,
-      (
-        subst (λ n. Holds n corner c.args.p) c.side-side.ensures ((c.holders-corners.ensures.exactly corner).0 among),
-        subst (λ n. Holds n corner c.args.q) c.side-side.ensures (c.index_in.ensures.held.0 (sym c.is_some.ensures ∙ c.if-is_some.true)),
-      ),
-    )
-
 pub loop-corner-preserved : goal.loop-corner-preserved
 loop-corner-preserved g c k d below present held =
     let items = c.as_slice-corner-items.result.now in

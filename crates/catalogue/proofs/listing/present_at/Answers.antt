@@ -12,16 +12,6 @@ returns-in_err-corner-clause-answer g c corners =
     c.in_err-corner.ensures (subst (λ (p : Corner). IsTrue (is_corner p)) (sym at) (All-contains (λ (d : Corner). IsTrue (is_corner d)) cs (corner_at c.args.lat c.args.lon) corners (listed_says (corner_at c.args.lat c.args.lon) cs there)))) in
     c.from_residual.ensures ∙ named_absent cs c.args.lat c.args.lon absent
 
-pub returns-in_err-corner-clause-in_order : goal.returns-in_err-corner-clause-in_order
-returns-in_err-corner-clause-in_order g c corner =
-    let at = corner_at_is c.args.lat c.args.lon c.ranges.lat c.ranges.lon in
-    absurd (c.in_err-corner.ensures (subst (λ (p : Corner). IsTrue (is_corner p)) (sym at) corner))
-
-pub returns-in_err-corner-clause-whole_degrees : goal.returns-in_err-corner-clause-whole_degrees
-returns-in_err-corner-clause-whole_degrees g c corner =
-    let at = corner_at_is c.args.lat c.args.lon c.ranges.lat c.ranges.lon in
-    absurd (c.in_err-corner.ensures (subst (λ (p : Corner). IsTrue (is_corner p)) (sym at) corner))
-
 pub returns-then-present-clause-answer : goal.returns-then-present-clause-answer
 returns-then-present-clause-answer g c corners =
     let cs = g.S.Samples.corners c.args.samples.now in

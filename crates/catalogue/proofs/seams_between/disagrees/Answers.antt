@@ -1,5 +1,5 @@
-use Rattle.catalogue.proofs.Prelude.{Adjacent, Contains, Corner, Err, Holds, List, None, Refusal, ap, differ, err_from_is_err_and, false, subst, sym, true, ◌↔◌, ◌∙◌, ◌≡◌}
-use Rattle.catalogue.proofs.Reading.{reads_nothing, reads_as, reads_on, reads_refused}
+use Rattle.catalogue.proofs.Prelude.{Adjacent, Contains, Corner, Holds, List, None, ap, differ, subst, sym, ◌↔◌, ◌∙◌}
+use Rattle.catalogue.proofs.Reading.{reads_nothing}
 use Rattle.catalogue.proofs.Holders.{itself, samples_from_holders}
 use Rattle.catalogue.proofs.seams_between.disagrees.Goals as goal
 
@@ -18,15 +18,3 @@ loop-corner-init g c =
           (subst (Adjacent itself) (sym items) c.holders-corners.ensures.in_order)
           (subst (λ (cs : List Corner). (d : Corner) → Contains cs d ↔ Holds m.side d c.args.point) (sym items) exactly)));
     }
-
-pub returns-in_err-sample-clause-reads : goal.returns-in_err-sample-clause-reads
-returns-in_err-sample-clause-reads g c =
-    let p = err_from_is_err_and c.from_residual.result c.from_residual.ensures.1 in
-    let ended : c.from_residual.result ≡ Err c.in_err-sample.field-0.0 = p.1 ∙ ap (λ (r : Refusal). Err r) p.2 in
-    rw ended (reads_refused g.S.Samples c.args.samples.now c.sample_at.new.samples c.in_err-sample.field-0.0 (reads_on g.S.Samples g.met.S.Samples.keeps_on c.args.samples.now c.loop-corner.samples c.sample_at.new.samples _ _ c.loop-corner.invariant.reads c.in_err-sample.ensures.reads))
-
-pub returns-in-Some-first-clause-reads : goal.returns-in-Some-first-clause-reads
-returns-in-Some-first-clause-reads g c = reads_as g.S.Samples c.args.samples.now _ _ true (reads_on g.S.Samples g.met.S.Samples.keeps_on c.args.samples.now c.loop-corner.samples _ _ _ c.loop-corner.invariant.reads c.in_ok-sample.ensures.reads)
-
-pub returns-clause-reads : goal.returns-clause-reads
-returns-clause-reads g c = reads_as g.S.Samples c.args.samples.now c.loop-corner.samples _ false c.loop-corner.invariant.reads

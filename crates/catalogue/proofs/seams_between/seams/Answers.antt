@@ -1,5 +1,5 @@
-use Rattle.catalogue.proofs.Prelude.{Err, IsSeamCount, Refusal, ℤ, ap, arith, err_from_is_err_and, ints, negsuc, pos, seams_before, subst, sym, ◌∙◌, ◌≡◌}
-use Rattle.catalogue.proofs.Reading.{reads_nothing, reads_on}
+use Rattle.catalogue.proofs.Prelude.{IsSeamCount, ℤ, ap, arith, ints, negsuc, pos, seams_before, subst, sym, ◌∙◌, ◌≡◌}
+use Rattle.catalogue.proofs.Reading.{reads_nothing}
 use Rattle.catalogue.proofs.SeamCounts.{seams_counted, seams-first, seams-last}
 use Rattle.catalogue.proofs.seams_between.seams.Goals as goal
 
@@ -22,12 +22,3 @@ returns-clause-value g c honest_after =
     let lat : c.loop-lat.lat ≡ pos 90 = omega (arith, ints) in
     let counted = c.loop-lat.invariant.count honest_after ∙ ap (λ (y : ℤ). seams_before m y (negsuc 179)) (c.loop-lat.lat-is ∙ lat) ∙ seams-last m valid in
     subst (IsSeamCount m) (sym counted) (seams_counted m valid)
-
-pub returns-in_err-count-clause-reads : goal.returns-in_err-count-clause-reads
-returns-in_err-count-clause-reads g c =
-    let p = err_from_is_err_and c.from_residual.result c.from_residual.ensures.1 in
-    let ended : c.from_residual.result ≡ Err c.in_err-count.field-0.0 = p.1 ∙ ap (λ (r : Refusal). Err r) p.2 in
-    rw ended (reads_on g.S.Samples g.met.S.Samples.keeps_on c.args.samples.now c.loop-lat.samples _ _ (Err c.in_err-count.field-0.0) c.loop-lat.invariant.reads c.in_err-count.ensures.reads)
-
-pub returns-clause-reads : goal.returns-clause-reads
-returns-clause-reads g c = c.loop-lat.invariant.reads

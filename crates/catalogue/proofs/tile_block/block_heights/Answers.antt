@@ -1,4 +1,4 @@
-use Rattle.catalogue.proofs.Prelude.{AreHeightsOf, AreSamplesOf, Contains, Corner, Err, List, Mosaic, Ok, OnlyReads, Refusal, ℤ, ap, drop, err_from_is_err_and, length, reads_of, subst, sym, ◌∙◌, ◌≡◌}
+use Rattle.catalogue.proofs.Prelude.{AreHeightsOf, AreSamplesOf, Err, List, Mosaic, Ok, OnlyReads, Refusal, ℤ, ap, drop, err_from_is_err_and, length, reads_of, subst, sym, ◌∙◌, ◌≡◌}
 use Rattle.catalogue.proofs.Blocks.{written_over}
 use Rattle.catalogue.proofs.Reading.{reads_answered, reads_on, reads_for}
 use Rattle.catalogue.proofs.tile_block.block_heights.Goals as goal
@@ -26,35 +26,3 @@ returns-in_err-put_rim-clause-reads g c =
     reads_answered g.S.Samples c.args.samples.now c.read_samples.new.self tt told.ready told.never_refuses told.side told.corners told.sinks told.failures told.honest told.mosaic told.keeps in
     rw ended (reads_on g.S.Samples g.met.S.Samples.keeps_on c.args.samples.now c.read_samples.new.self c.put_rim.new.samples tt (reads_of {T = Unit {0}} (Err c.in_err-put_rim.field-0.0)) read
     (reads_for g.S.Samples c.read_samples.new.self c.put_rim.new.samples (Err c.in_err-put_rim.field-0.0) c.in_err-put_rim.ensures.reads))
-
-pub returns-in_err-read_samples-clause-reads : goal.returns-in_err-read_samples-clause-reads
-returns-in_err-read_samples-clause-reads g c =
-    let p = err_from_is_err_and c.from_residual-in_err-read_samples.result c.from_residual-in_err-read_samples.ensures.1 in
-    let ended : c.from_residual-in_err-read_samples.result ≡ Err c.in_err-read_samples.field-0.0 = p.1 ∙ ap (λ (r : Refusal). Err r) p.2 in
-    let told = c.in_err-read_samples.ensures in
-    let read : OnlyReads {T = Unit {0}} g.S.Samples c.args.samples.now c.read_samples.new.self (Err c.in_err-read_samples.field-0.0) = record {
-      refusal = told.refusal;
-      only_device = told.only_device;
-      ready = λ _. tt;
-      unready = told.unready;
-      answers = told.answers;
-      never_refuses = told.never_refuses;
-      side = told.side;
-      corners = told.corners;
-      sinks = told.sinks;
-      failures = told.failures;
-      honest = told.honest;
-      mosaic = told.mosaic;
-      keeps = told.keeps;
-    } in
-    rw ended (reads_for g.S.Samples c.args.samples.now c.read_samples.new.self (Err c.in_err-read_samples.field-0.0) read)
-
-pub returns-clause-reads : goal.returns-clause-reads
-returns-clause-reads g c =
-    let told = c.in_ok-read_samples.ensures in
-    let read : OnlyReads {T = Unit {0}} g.S.Samples c.args.samples.now c.read_samples.new.self (Ok tt) =
-    reads_answered g.S.Samples c.args.samples.now c.read_samples.new.self tt told.ready told.never_refuses told.side told.corners told.sinks told.failures told.honest told.mosaic told.keeps in
-    reads_on g.S.Samples g.met.S.Samples.keeps_on c.args.samples.now c.read_samples.new.self c.put_rim.new.samples tt (Ok tt) read c.in_ok-put_rim.ensures.reads
-
-pub put_rim-requires-clause-present : goal.put_rim-requires-clause-present
-put_rim-requires-clause-present g c = subst (λ (cs : List Corner). Contains cs c.args.corner) (sym c.in_ok-read_samples.ensures.corners) c.requires

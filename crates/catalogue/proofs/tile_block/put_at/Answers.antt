@@ -1,6 +1,5 @@
-use Rattle.catalogue.proofs.Prelude.{Contains, Corner, Err, List, Refusal, ap, err_from_is_err_and, false, height_of, is_held_elsewhere, metres, point_of, slice_set, subst, sym, ◌*◌, ◌<◌, ◌∙◌, ◌≡◌}
+use Rattle.catalogue.proofs.Prelude.{Contains, Corner, List, ap, false, height_of, is_held_elsewhere, metres, point_of, slice_set, subst, sym, ◌*◌, ◌<◌, ◌∙◌, ◌≡◌}
 use Rattle.catalogue.proofs.Blocks.{alone_set}
-use Rattle.catalogue.proofs.Reading.{reads_nothing, reads_as, reads_refused}
 use Rattle.catalogue.proofs.tile_block.put_at.Goals as goal
 
 pub returns-else-is_held_elsewhere-clause-height : goal.returns-else-is_held_elsewhere-clause-height
@@ -16,15 +15,3 @@ returns-else-is_held_elsewhere-clause-height g c honest either =
     ap (is_held_elsewhere m c.args.corner) (sym point) ∙ sym (c.is_held_elsewhere.ensures honest) ∙ c.if-is_held_elsewhere.false in
     alone_set m c.args.corner c.args.index c.args.heights.now (laws.is_mosaic now honest) there small none either
     ∙ ap (λ n. slice_set c.args.heights.now c.args.index (metres (height_of m (point_of n c.args.corner c.args.index)))) side
-
-pub returns-in_err-height-clause-reads : goal.returns-in_err-height-clause-reads
-returns-in_err-height-clause-reads g c =
-    let p = err_from_is_err_and c.from_residual.result c.from_residual.ensures.1 in
-    let ended : c.from_residual.result ≡ Err c.in_err-height.field-0.0 = p.1 ∙ ap (λ (r : Refusal). Err r) p.2 in
-    rw ended (reads_refused g.S.Samples c.args.samples.now _ c.in_err-height.field-0.0 c.in_err-height.ensures.reads)
-
-pub returns-in_ok-height-clause-reads : goal.returns-in_ok-height-clause-reads
-returns-in_ok-height-clause-reads g c = reads_as g.S.Samples c.args.samples.now _ _ tt c.in_ok-height.ensures.reads
-
-pub returns-else-is_held_elsewhere-clause-reads : goal.returns-else-is_held_elsewhere-clause-reads
-returns-else-is_held_elsewhere-clause-reads g c = reads_nothing g.S.Samples g.met.S.Samples.keeps_itself c.args.samples.now tt

@@ -1,10 +1,7 @@
-use Rattle.drainage.proofs.Prelude.{FlowGrid, ap, length, subst, sym, ◌∙◌}
-use Rattle.drainage.specs.FlowCaches.{flow_bytes, flow_cache_right, past_right}
+use Rattle.drainage.proofs.Prelude.{subst, sym}
+use Rattle.drainage.specs.FlowCaches.{flow_cache_right, past_right}
 use Rattle.drainage.proofs.Caches.FlowCaches.{same_cache, same_past}
 use Rattle.drainage.proofs.drainage_cache.flow_in.Goals as goal
-
-pub returns-clause-bytes : goal.returns-clause-bytes
-returns-clause-bytes c = ap (λ (g : FlowGrid). length g.flows.items) c.flow-flow.ensures.grid ∙ ap flow_bytes c.in-Some.ensures.value
 
 pub returns-clause-cache : goal.returns-clause-cache
 returns-clause-cache c m right = same_cache m c.in-Some.cache c.flow-flow.new.self c.flow-flow.ensures.grid c.flow-flow.ensures.ranges (subst (flow_cache_right m) (sym c.in-Some.ensures.value) right)

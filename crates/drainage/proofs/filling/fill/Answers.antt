@@ -1,12 +1,5 @@
 use Rattle.drainage.proofs.Questions.Questioned.{asked_reads, refused_after}
-use Rattle.drainage.proofs.Flows.Followed.{held_still}
 use Rattle.drainage.proofs.filling.fill.Goals as goal
-
-pub returns-in_err-check_ground-clause-held : goal.returns-in_err-check_ground-clause-held
-returns-in_err-check_ground-clause-held g c = held_still g.S.Samples c.args.samples.now c.check_ground.new.samples _ c.args.held.now c.in_err-check_ground.ensures.asked.reads c.requires.held
-
-pub level-requires : goal.level-requires
-level-requires g c = record { held = held_still g.S.Samples c.args.samples.now c.check_ground.new.samples _ c.args.held.now c.in_ok-check_ground.ensures.asked.reads c.requires.held }
 
 pub returns-in_err-level-clause-asked : goal.returns-in_err-level-clause-asked
 returns-in_err-level-clause-asked g c =

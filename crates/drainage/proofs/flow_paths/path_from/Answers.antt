@@ -1,11 +1,11 @@
-use Rattle.std.proofs.Common.{Vec, Global, Result, ◌≡◌, ◌⊎◌, ◌≤◌, ◌*◌, ℕ, inl, inr, ⊎_elim, arith, ap₂, IsTrue, Ok, Option, List, [], ◌∷◌, ◌++◌, length, sym, ap, ◌∙◌, subst}
-use Rattle.drainage.proofs.Prelude.{Contains, Corner, IfErr, Mosaic, OnLevels, Point, Refusal, corners_of, ends_any, err_from_is_err_and, is_ground, mosaic_is_grid, most_tiles, reads_nothing, reads_on, terrain}
+use Rattle.std.proofs.Common.{◌≡◌, ◌⊎◌, ◌≤◌, ◌*◌, ℕ, inl, inr, ⊎_elim, arith, ap₂, IsTrue, Ok, Option, List, [], length, sym, ap, ◌∙◌, subst}
+use Rattle.drainage.proofs.Prelude.{Contains, Corner, Mosaic, OnLevels, Point, corners_of, is_ground, mosaic_is_grid, most_tiles, reads_nothing, reads_on, terrain}
 use Rattle.flow_d8.specs.FlowSteps.{IsNext, IsFollowed}
 use Rattle.flow_d8.proofs.Paths.Following.{followed_first, followed_more, followed_end}
 use Rattle.flow_d8.proofs.Paths.OnePath.{goes_on}
 use Rattle.flow_d8.specs.PresentTiles.{sample_count}
 use Rattle.drainage.proofs.Questions.LevelFunctions.{level_function}
-use Rattle.drainage.proofs.Questions.Questioned.{answered, asked_reads, own_cause, own_ended, refused_after, refused_by}
+use Rattle.drainage.proofs.Questions.Questioned.{answered, asked_reads, own_ended, refused_after, refused_by}
 use Rattle.drainage.proofs.flow_paths.path_from.Goals as goal
 
 pub add-requires : goal.add-requires
@@ -20,18 +20,6 @@ add-requires g c =
   where
     nowhere : (p : Point) → Contains [] p → ⊥
     nowhere p at = omega (arith, at.1)
-
-pub steps-init : goal.steps-init
-steps-init g c = record {
-  reads = reads_nothing g.S.Samples g.met.S.Samples.keeps_itself c.args.samples.now (tt {0});
-  held = c.requires.held;
-  marked_once = c.in_ok-add.ensures.once;
-  short = c.in_ok-add.ensures.short;
-  followed = λ honest level filled.
-      let m = g.S.Samples.mosaic c.args.samples.now in
-      subst (λ (l : List Point). IsFollowed (terrain m) level c.args.point c.args.point l) (sym (c.in_ok-add.ensures.path ∙ ap (λ (l : List Point). l ++ c.args.point ∷ []) c.new-path.ensures.items))
-      (followed_first (terrain m) (mosaic_is_grid m (g.met.S.Samples.is_mosaic c.args.samples.now honest)) level c.args.point (c.requires.ground honest));
-}
 
 pub next_point-requires : goal.next_point-requires
 next_point-requires g c =
@@ -70,16 +58,6 @@ steps-preserved g c =
 module _ (m : Mosaic) (n : ℕ) (corners : List Corner) (side : n ≡ m.side) (all : corners_of m ≡ corners) (most : ℕ) (is : most ≡ length corners * (n * n)) where
   few : sample_count m ≡ most
   few = ap₂ (λ k a. k * (a * a)) (ap length all) (sym side) ∙ sym is
-
-pub returns-in_err-add-clause-causes : goal.returns-in_err-add-clause-causes
-returns-in_err-add-clause-causes g c =
-    let p = err_from_is_err_and c.from_residual.result c.from_residual.ensures.1 in
-    subst (λ (r : Result (Vec Point Global) Refusal). IfErr r (λ e. IsTrue (ends_any e))) (sym p.1) (subst (λ (e : Refusal). IsTrue (ends_any e)) (sym p.2) (own_cause c.in_err-add.field-0.0 (Contains c.new-path.result.items c.args.point ⊎ (c.args.most ≤ length c.new-path.result.items)) c.in_err-add.ensures.refusal))
-
-pub returns-in_err-add-2-clause-causes : goal.returns-in_err-add-2-clause-causes
-returns-in_err-add-2-clause-causes g c =
-    let p = err_from_is_err_and c.from_residual-in_err-add-2.result c.from_residual-in_err-add-2.ensures.1 in
-    subst (λ (r : Result (Vec Point Global) Refusal). IfErr r (λ e. IsTrue (ends_any e))) (sym p.1) (subst (λ (e : Refusal). IsTrue (ends_any e)) (sym p.2) (own_cause c.in_err-add-2.field-0.0 (Contains c.steps.path.items c.in-Some.to ⊎ (c.args.most ≤ length c.steps.path.items)) c.in_err-add-2.ensures.refusal))
 
 pub returns-in_err-add-clause-asked : goal.returns-in_err-add-clause-asked
 returns-in_err-add-clause-asked g c =

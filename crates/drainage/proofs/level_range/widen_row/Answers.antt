@@ -1,4 +1,4 @@
-use Rattle.drainage.proofs.Prelude.{arith, get_or, length, length-set, rules, set, subst, sym, void, ◌*◌, ◌+◌, ◌<◌, ◌≡◌}
+use Rattle.drainage.proofs.Prelude.{arith, get_or, length, rules, set, subst, sym, void, ◌*◌, ◌+◌, ◌<◌, ◌≡◌}
 use Rattle.drainage.specs.LevelRanges.{block_of, range_at, with_level, AreRangesTo}
 use Rattle.drainage.proofs.Changes.LevelRanges.{one_more}
 use Rattle.drainage.proofs.level_range.widen_row.Goals as goal

@@ -1,23 +1,7 @@
-use Rattle.std.proofs.Common.{◌≡◌, ◌<◌, None, Ok, inl, inr, length, get_or, set, refl, ap, ◌∙◌, subst, arith, get_or-set_other, get_or-set_same, length-set}
-use Rattle.drainage.proofs.Prelude.{East, Mosaic, OnLevels, all_around, beside_of, cases_eq, dir_at_place, directions, order_below, order_of, reads_nothing, reads_on, terrain}
-use Rattle.drainage.proofs.Questions.Questioned.{refused_after}
-use Rattle.drainage.proofs.Tiles.GroundAtHand.{ground_still}
+use Rattle.std.proofs.Common.{◌≡◌, ◌<◌, None, Ok, inl, inr, length, get_or, set, ap, ◌∙◌, subst, arith, get_or-set_other, get_or-set_same, length-set}
+use Rattle.drainage.proofs.Prelude.{East, Mosaic, OnLevels, all_around, beside_of, cases_eq, dir_at_place, directions, order_below, order_of, reads_on, terrain}
 use Rattle.drainage.proofs.Questions.Questioned.{asked_reads, answered}
 use Rattle.drainage.proofs.levels_near.levels_around.Goals as goal
-
-pub loop-i-init : goal.loop-i-init
-loop-i-init g c = record {
-  reads = reads_nothing g.S.Samples g.met.S.Samples.keeps_itself c.args.samples.now (tt {0});
-  held = c.requires.held;
-  eight = refl;
-  levels = λ honest level filled d below. absurd (omega (arith, below));
-}
-
-pub level_beside-requires : goal.level_beside-requires
-level_beside-requires g c = record {
-  held = c.loop-i.invariant.held;
-  ground = ground_still g.S.Samples c.args.samples.now c.loop-i.samples (Ok (tt {0})) c.args.point c.loop-i.invariant.reads c.requires.ground;
-}
 
 pub loop-i-preserved : goal.loop-i-preserved
 loop-i-preserved g c =
@@ -42,10 +26,6 @@ loop-i-preserved g c =
             | inr other ↦ get_or-set_other found i (order_of d) v None other ∙ inv.levels before level filled d (omega arith)
           ];
     }
-
-pub returns-in_err-found-clause-asked : goal.returns-in_err-found-clause-asked
-returns-in_err-found-clause-asked g c =
-    refused_after g.S.Samples g.met.S.Samples.keeps_on c.args.samples.now c.loop-i.samples c.level_beside.new.samples c.from_residual.result c.in_err-found.field-0.0 c.from_residual.ensures.1 c.loop-i.invariant.reads c.in_err-found.ensures.asked
 
 pub returns-clause-around : goal.returns-clause-around
 returns-clause-around g c honest level filled =

@@ -1,32 +1,11 @@
-use Rattle.std.proofs.Common.{rules, SFits, w16, ◌≡◌, Option, ℤ, Ok, sym, ◌∙◌, subst, true≢false}
-use Rattle.drainage.proofs.Prelude.{IsFilledLevel, Mosaic, level_is_unique, reads_on, terrain, to_z-of_z}
+use Rattle.std.proofs.Common.{rules, SFits, w16, ◌≡◌, Option, ℤ, sym, ◌∙◌, subst}
+use Rattle.drainage.proofs.Prelude.{IsFilledLevel, Mosaic, level_is_unique, terrain, to_z-of_z}
 use Rattle.flow_d8.specs.LevelsAround.{IsLevelAt, OnLevels, around_of}
-use Rattle.drainage.proofs.Tiles.GroundAtHand.{ground_still}
-use Rattle.drainage.proofs.Questions.Questioned.{answered, answered_here, asked_reads, refused_after, stopped}
+use Rattle.drainage.proofs.Questions.Questioned.{answered_here, asked_reads, refused_after}
 use Rattle.drainage.proofs.levels_near.near_levels.Goals as goal
-
-pub returns-in-Some-clause-near : goal.returns-in-Some-clause-near
-returns-in-Some-clause-near g c honest = let a = c.args.samples.now in c.in-Some.ensures (g.S.Samples.mosaic a) (g.met.S.Samples.is_mosaic a honest) (c.requires.held honest)
 
 pub returns-in-Some-clause-asked : goal.returns-in-Some-clause-asked
 returns-in-Some-clause-asked g c = answered_here g.S.Samples g.met.S.Samples.keeps_itself c.args.samples.now _
-
-pub returns-in_default-2-clause-asked : goal.returns-in_default-2-clause-asked
-returns-in_default-2-clause-asked g c =
-    let a = c.args.samples.now in
-    let b = c.level.new.samples in
-    let p = c.args.point in
-    let e = c.in_ok-height.ensures in
-    let m = g.S.Samples.mosaic a in
-    stopped g.S.Samples a b (asked_reads g.S.Samples a b _ e.asked)
-    (λ honest.
-    let off = subst (λ (o : Option ℤ). IsLevelAt m p o) c.in_default-2.is (e.level honest) in
-    true≢false (sym (c.requires.ground (e.asked.reads.honest honest)) ∙ off))
-
-pub levels_around-requires : goal.levels_around-requires
-levels_around-requires g c =
-    let e = c.in_ok-height.ensures in
-    record { held = e.held; ground = ground_still g.S.Samples c.args.samples.now c.level.new.samples e.asked.read c.args.point e.asked.reads c.requires.ground }
 
 pub returns-in_err-around-clause-asked : goal.returns-in_err-around-clause-asked
 returns-in_err-around-clause-asked g c =
@@ -50,9 +29,3 @@ returns-clause-near g c honest =
       here = λ level filled. level_is_unique (terrain m) p (level p) height (filled p solid) at_point ∙ sym (to_z-of_z w16 height fits);
       around_it = subst (λ (n : Mosaic). OnLevels n (λ level. c.in_ok-around.around ≡ around_of (terrain n) level p)) (c.in_ok-height.ensures.asked.reads.mosaic mid) (c.in_ok-around.ensures.around honest);
     }
-
-pub returns-clause-asked : goal.returns-clause-asked
-returns-clause-asked g c =
-    answered g.S.Samples c.args.samples.now c.levels_around.new.samples _
-    (reads_on g.S.Samples g.met.S.Samples.keeps_on c.args.samples.now c.level.new.samples c.levels_around.new.samples tt (Ok tt) (asked_reads g.S.Samples c.args.samples.now c.level.new.samples _ c.in_ok-height.ensures.asked)
-    (asked_reads g.S.Samples c.level.new.samples c.levels_around.new.samples _ c.in_ok-around.ensures.asked))

@@ -1,7 +1,7 @@
-use Rattle.drainage.proofs.Prelude.{Corner, IfOk, IsToldOf, IsTrue, List, Mosaic, OnLevels, asked_on, asked_refused, is_ground, length, most_tiles, reads_as, subst, sym, terrain, ◌∙◌, ◌≤◌}
+use Rattle.drainage.proofs.Prelude.{Corner, IfOk, IsToldOf, IsTrue, List, Mosaic, OnLevels, asked_refused, is_ground, length, most_tiles, reads_as, subst, sym, terrain, ◌∙◌, ◌≤◌}
 use Rattle.drainage.proofs.Flows.Followed.{held_still}
 use Rattle.drainage.proofs.Questions.Questioned.{answered, answered_here, refused_by}
-use Rattle.drainage.proofs.Questions.Told.{told_of, no_ground, drained_told, draining_tells}
+use Rattle.drainage.proofs.Questions.Told.{told_of, drained_told, draining_tells}
 use Rattle.drainage.proofs.prepared_flows.flow_anywhere.Goals as goal
 
 pub returns-then-drains-clause-flow : goal.returns-then-drains-clause-flow
@@ -26,11 +26,6 @@ returns-in_err-is_ground-clause-asked g c =
     let b = c.is_ground.new.samples in
     let r = c.in_err-is_ground.field-0.0 in
     refused_by g.S.Samples a b c.from_residual.result r c.from_residual.ensures.1 (asked_refused g.S.Samples a b r c.in_err-is_ground.ensures.reads)
-
-pub returns-then-not-branch-clause-flow : goal.returns-then-not-branch-clause-flow
-returns-then-not-branch-clause-flow g c honest level filled =
-    let m = g.S.Samples.mosaic c.args.samples.now in
-    no_ground m level c.args.point (sym (c.in_ok-is_ground.ensures.value honest) ∙ c.if-not-branch.true)
 
 pub returns-then-not-branch-clause-held : goal.returns-then-not-branch-clause-held
 returns-then-not-branch-clause-held g c =
@@ -60,7 +55,3 @@ returns-clause-flow g c honest =
     let mid = c.flow_by_tiles.ensures.asked.reads.honest honest in
     subst (λ (m : Mosaic). IfOk c.flow_by_tiles.result (λ flow. OnLevels m (λ level. IsToldOf (terrain m) level c.args.point flow))) (e.reads.mosaic mid)
     (drained_told (g.S.Samples.mosaic c.is_ground.new.samples) c.args.point c.flow_by_tiles.result (c.flow_by_tiles.ensures.flow honest) c.flow_by_tiles.ensures.drains)
-
-pub returns-clause-asked : goal.returns-clause-asked
-returns-clause-asked g c =
-    asked_on g.S.Samples g.met.S.Samples.keeps_on c.args.samples.now c.is_ground.new.samples c.flow_by_tiles.new.samples c.in_ok-is_ground.field-0 c.flow_by_tiles.result c.in_ok-is_ground.ensures.reads c.flow_by_tiles.ensures.asked

@@ -1,18 +1,7 @@
-use Rattle.drainage.proofs.Prelude.{AreFilledTo, IsLevelOrVoid, IsStrip, Mosaic, Ok, Point, SFits, ℕ, ap, length, length-set, of_z, padded_point, reads_nothing, reads_on, refl, rules, slice_set, subst, sym, to_z, to_z-of_z, w16, ◌%◌, ◌*◌, ◌+◌, ◌/◌, ◌∙◌, ◌≡◌}
-use Rattle.drainage.proofs.Tiles.PaddedLevels.{fill_none, fill_more}
-use Rattle.drainage.proofs.Questions.Questioned.{answered, asked_reads, refused_after}
+use Rattle.drainage.proofs.Prelude.{AreFilledTo, IsLevelOrVoid, IsStrip, Mosaic, Ok, Point, SFits, ℕ, ap, length, length-set, of_z, padded_point, reads_on, rules, slice_set, subst, sym, to_z, to_z-of_z, w16, ◌%◌, ◌*◌, ◌+◌, ◌/◌, ◌∙◌, ◌≡◌}
+use Rattle.drainage.proofs.Tiles.PaddedLevels.{fill_more}
+use Rattle.drainage.proofs.Questions.Questioned.{answered, asked_reads}
 use Rattle.drainage.proofs.preparing.fill.Goals as goal
-
-pub loop-number-init : goal.loop-number-init
-loop-number-init g c = record {
-  reads = reads_nothing g.S.Samples g.met.S.Samples.keeps_itself c.args.samples.now (tt {0});
-  right = c.requires.right;
-  whole = refl;
-  filled = λ honest.
-      let a = c.args.samples.now in
-      let m = g.S.Samples.mosaic a in
-      fill_none m c.args.corner c.args.strip (subst (λ n. IsStrip n c.args.strip) (sym (g.met.S.Samples.same_side a honest)) c.requires.strip) c.args.levels.now;
-}
 
 pub loop-number-preserved : goal.loop-number-preserved
 loop-number-preserved g c =
@@ -51,7 +40,3 @@ loop-number-preserved g c =
 
 pub returns-clause-asked : goal.returns-clause-asked
 returns-clause-asked g c = answered g.S.Samples c.args.samples.now c.loop-number.samples _ c.loop-number.invariant.reads
-
-pub returns-in_err-level-clause-asked : goal.returns-in_err-level-clause-asked
-returns-in_err-level-clause-asked g c =
-    refused_after g.S.Samples g.met.S.Samples.keeps_on c.args.samples.now c.loop-number.samples c.level_of.new.samples c.from_residual.result c.in_err-level.field-0.0 c.from_residual.ensures.1 c.loop-number.invariant.reads c.in_err-level.ensures.asked

@@ -1,24 +1,7 @@
-use Rattle.drainage.proofs.Prelude.{AreFilledTo, IsStrip, Mosaic, Ok, Strip, ap, arith, reads_nothing, reads_on, refl, strip_of, subst, sym, ◌*◌, ◌+◌, ◌∙◌, ◌≡◌}
-use Rattle.drainage.proofs.Tiles.PaddedLevels.{AreStripsTo, strips_none, strips_more, around_all}
-use Rattle.drainage.proofs.Questions.Questioned.{answered, asked_reads, refused_after}
+use Rattle.drainage.proofs.Prelude.{AreFilledTo, Mosaic, Ok, Strip, ap, arith, reads_on, strip_of, subst, sym, ◌*◌, ◌∙◌, ◌≡◌}
+use Rattle.drainage.proofs.Tiles.PaddedLevels.{AreStripsTo, strips_more, around_all}
+use Rattle.drainage.proofs.Questions.Questioned.{answered, asked_reads}
 use Rattle.drainage.proofs.preparing.fill_around.Goals as goal
-
-pub loop-number-init : goal.loop-number-init
-loop-number-init g c = record {
-  reads = reads_nothing g.S.Samples g.met.S.Samples.keeps_itself c.args.samples.now (tt {0});
-  right = c.requires.right;
-  whole = refl;
-  filled = λ honest. strips_none (g.S.Samples.mosaic c.args.samples.now) c.args.corner c.args.levels.now;
-}
-
-pub fill-requires : goal.fill-requires
-fill-requires g c =
-    let so = c.loop-number.invariant in
-    record {
-      right = so.right;
-      levels = so.whole ∙ c.requires.levels ∙ ap (λ n. (n + 4) * (n + 4)) (sym so.reads.side);
-      strip = subst (λ n. IsStrip n c.strip_at-strip.result) c.side.ensures c.strip_at-strip.ensures.fits;
-    }
 
 pub loop-number-preserved : goal.loop-number-preserved
 loop-number-preserved g c =
@@ -44,10 +27,6 @@ loop-number-preserved g c =
           strips_more m c.args.corner (laws.is_mosaic a first).side_low c.args.levels.now now new k (so.filled mid)
           (subst (λ (s : Strip). AreFilledTo m c.args.corner s (s.rows * s.columns) now new) strip more);
     }
-
-pub returns-in_err-fill-clause-asked : goal.returns-in_err-fill-clause-asked
-returns-in_err-fill-clause-asked g c =
-    refused_after g.S.Samples g.met.S.Samples.keeps_on c.args.samples.now c.loop-number.samples c.fill.new.samples c.from_residual.result c.in_err-fill.field-0.0 c.from_residual.ensures.1 c.loop-number.invariant.reads c.in_err-fill.ensures.asked
 
 pub returns-clause-filled : goal.returns-clause-filled
 returns-clause-filled g c honest =

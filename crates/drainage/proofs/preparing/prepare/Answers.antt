@@ -1,16 +1,6 @@
-use Rattle.drainage.proofs.Prelude.{ArePadded, AreRanges, AreRangesOf, AreTileFlows, Contains, Corner, List, Mosaic, ℤ, ap, length, subst, sym, ◌*◌, ◌+◌, ◌∙◌, ◌≡◌}
+use Rattle.drainage.proofs.Prelude.{ArePadded, AreRanges, AreRangesOf, AreTileFlows, Contains, Corner, List, Mosaic, ℤ, subst, sym, ◌+◌, ◌∙◌, ◌≡◌}
 use Rattle.drainage.proofs.Caches.FlowCaches.{ranges_are}
 use Rattle.drainage.proofs.preparing.prepare.Goals as goal
-
-pub tile_flows-requires : goal.tile_flows-requires
-tile_flows-requires g c =
-    let told = c.in_ok-levels.ensures in
-    record { levels = ap (λ (l : List ℤ). length l) c.deref.ensures.value ∙ told.whole ∙ ap (λ n. (n + 4) * (n + 4)) (sym told.asked.reads.side) }
-
-pub level_ranges-requires : goal.level_ranges-requires
-level_ranges-requires g c =
-    let told = c.in_ok-levels.ensures in
-    ap (λ (l : List ℤ). length l) c.deref-2.ensures.value ∙ told.whole ∙ ap (λ n. (n + 4) * (n + 4)) (sym told.asked.reads.side ∙ sym c.side.ensures)
 
 pub returns-clause-flows : goal.returns-clause-flows
 returns-clause-flows g c honest =
@@ -22,9 +12,6 @@ returns-clause-flows g c honest =
     let present = subst (λ (cs : List Corner). Contains cs corner) (sym reads.corners) c.requires.present in
     let padded = subst (λ (m : Mosaic). ArePadded m corner c.deref.result.now) (sym (reads.mosaic honest)) (subst (λ (l : List ℤ). ArePadded (g.S.Samples.mosaic a) corner l) (sym c.deref.ensures.value) (told.levels honest)) in
     subst (λ (m : Mosaic). AreTileFlows m corner c.in_ok-flows.flows.items) (reads.mosaic honest) (c.in_ok-flows.ensures.flows honest present padded)
-
-pub returns-clause-whole : goal.returns-clause-whole
-returns-clause-whole g c = subst (λ n. length c.in_ok-flows.flows.items ≡ n * n) c.in_ok-levels.ensures.asked.reads.side c.in_ok-flows.ensures.whole
 
 pub returns-clause-ranges : goal.returns-clause-ranges
 returns-clause-ranges g c honest =

@@ -1,6 +1,5 @@
-use Rattle.drainage.proofs.Prelude.{AreRimPointsIn, Err, HasOtherRimHeight, IsFlooded, IsRimPointIn, List, MatchOption, Mosaic, Ok, Option, Refusal, RimPoint, ap, arith, err_from_is_err_and, subst, sym, ◌*◌, ◌+◌, ◌-◌, ◌∙◌, ◌≡◌}
-use Rattle.catalogue.specs.Readers.{reads_of}
-use Rattle.catalogue.proofs.Reading.{reads_on, reads_as, reads_for}
+use Rattle.drainage.proofs.Prelude.{AreRimPointsIn, HasOtherRimHeight, IsFlooded, IsRimPointIn, List, MatchOption, Mosaic, Ok, Option, RimPoint, ap, arith, subst, sym, ◌*◌, ◌+◌, ◌-◌, ◌∙◌, ◌≡◌}
+use Rattle.catalogue.proofs.Reading.{reads_on, reads_as}
 use Rattle.drainage.proofs.RimPoints.Summed.{one_more_point}
 use Rattle.drainage.proofs.summing.rim_of.Goals as goal
 
@@ -21,19 +20,6 @@ loop-number-preserved g c =
           (subst (λ (m : Mosaic). IsRimPointIn m c.args.corner c.args.labelled.now.labels c.loop-number.number c.in-Some.point) (so.reads.mosaic mid) here)
           (so.points mid flooded));
     }
-
-pub returns-in_err-point-clause-reads : goal.returns-in_err-point-clause-reads
-returns-in_err-point-clause-reads g c =
-    let r = c.in_err-point.field-0.0 in
-    let p = err_from_is_err_and c.from_residual-in_err-point.result c.from_residual-in_err-point.ensures.1 in
-    let ended : c.from_residual-in_err-point.result ≡ Err r = p.1 ∙ ap (λ (why : Refusal). Err why) p.2 in
-    rw ended (reads_on g.S.Samples g.met.S.Samples.keeps_on c.args.samples.now c.loop-number.samples c.rim_point.new.samples tt (reads_of {T = Option RimPoint} (Err r))
-    c.loop-number.invariant.reads (reads_for g.S.Samples c.loop-number.samples c.rim_point.new.samples (Err r) c.in_err-point.ensures.reads))
-
-pub returns-in_default-clause-reads : goal.returns-in_default-clause-reads
-returns-in_default-clause-reads g c =
-    reads_on g.S.Samples g.met.S.Samples.keeps_on c.args.samples.now c.loop-number.samples c.rim_point.new.samples tt (Ok tt)
-    c.loop-number.invariant.reads (reads_as g.S.Samples c.loop-number.samples c.rim_point.new.samples c.in_ok-point.field-0 tt c.in_ok-point.ensures.reads)
 
 pub returns-clause-rim : goal.returns-clause-rim
 returns-clause-rim g c honest flooded =

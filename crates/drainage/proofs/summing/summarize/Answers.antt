@@ -1,6 +1,5 @@
 use Rattle.drainage.proofs.Prelude.{AreRimPointsIn, AreSpills, HasOtherRimHeight, IsCurrent, IsSummaryOf, IsTileLabelling, LabelledGround, MatchOption, ap, labelled_of, rules, subst, sym, ◌*◌, ◌-◌, ◌∙◌}
-use Rattle.catalogue.proofs.Asking.{asked_by_reads}
-use Rattle.drainage.proofs.Questions.Questioned.{answered, passed_on, refused_by, short_here, stopped}
+use Rattle.drainage.proofs.Questions.Questioned.{answered, short_here, stopped}
 use Rattle.drainage.proofs.RimPoints.Summed.{rim_holds, summary_is}
 use Rattle.drainage.proofs.summing.summarize.Goals as goal
 
@@ -38,14 +37,6 @@ returns-in_default-clause-asked g c current is =
     subst (λ found. MatchOption found (HasOtherRimHeight m c.args.corner labelled.levels)
     (λ rim. AreRimPointsIn m c.args.corner labelled.labels rim.items (4 * (g.S.Samples.side_of a - 1)))) c.in_default.is (c.in_ok-rim.ensures.rim honest flooded) in
     rim_holds m c.args.corner labelled flooded other)
-
-pub returns-in_err-rim-clause-asked : goal.returns-in_err-rim-clause-asked
-returns-in_err-rim-clause-asked g c current is =
-    let a = c.args.samples.now in
-    let d = c.rim_of.new.samples in
-    let r = c.in_err-rim.field-0.0 in
-    refused_by g.S.Samples a d c.from_residual-in_err-rim.result r c.from_residual-in_err-rim.ensures.1
-    (passed_on g.S.Samples a d c.rim_of.result r c.in_err-rim.was (asked_by_reads g.S.Samples a d _ _ c.rim_of.result c.rim_of.ensures.reads c.rim_of.ensures.refusal))
 
 pub returns-in_err-spills-clause-asked : goal.returns-in_err-spills-clause-asked
 returns-in_err-spills-clause-asked g c current is = short_here g.S.Samples g.met.S.Samples.keeps_itself c.args.samples.now c.from_residual.result (search rules)

@@ -1,7 +1,7 @@
 use Rattle.drainage.proofs.Prelude.{IsRight, Mosaic, known_of, subst, sym}
 use Rattle.drainage.proofs.Caches.Growing.{known_by}
 use Rattle.drainage.proofs.Questions.Questioned.{passed_on, refused_by}
-use Rattle.drainage.proofs.Tiles.TileLevels.{is_there, entered_there, right_held, right_fewer, rim_filled, raised_asked, raised_causes}
+use Rattle.drainage.proofs.Tiles.TileLevels.{is_there, entered_there, right_held, right_fewer, rim_filled, raised_asked}
 use Rattle.drainage.proofs.tile_levels.levels_over_rim.Goals as goal
 
 pub returns-in_err-labelling-clause-right : goal.returns-in_err-labelling-clause-right
@@ -49,9 +49,6 @@ returns-clause-right g c honest =
     subst (λ (m : Mosaic). IsRight m (known_by c.args.tile_cache.now.rim_graph c.hold.new.self c.args.tile_cache.now.levels)) (sym (made.mosaic honest))
     (right_held g.S.Samples a is known c.args.t c.args.corner c.requires.place (c.requires.corner before) (c.requires.right before) same c.hold.new.self.held.items c.in_ok-labelling.labelling valid
     (λ m d u there entered. c.hold.ensures.entered m d u there (made.left m d u entered)))
-
-pub returns-clause-causes : goal.returns-clause-causes
-returns-clause-causes g c = raised_causes g.S.Samples c.args.samples.now c.current_labelling.new.samples _ c.raise-levels.result c.raise-levels.ensures.refusal
 
 pub returns-clause-asked : goal.returns-clause-asked
 returns-clause-asked g c =

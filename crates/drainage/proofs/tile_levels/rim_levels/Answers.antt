@@ -1,16 +1,7 @@
-use Rattle.drainage.proofs.Prelude.{AreRimLevelsTo, IsLevelOrVoid, IsRimPoint, List, Mosaic, Ok, SFits, ℤ, ap, arith, of_z, point_of, reads_nothing, reads_on, rules, subst, sym, to_z, to_z-of_z, w16, ◌*◌, ◌-◌, ◌∙◌, ◌≡◌}
-use Rattle.drainage.proofs.RimPoints.RimLevels.{no_rim, rim_more, rim_whole}
+use Rattle.drainage.proofs.Prelude.{AreRimLevelsTo, IsLevelOrVoid, IsRimPoint, Mosaic, Ok, SFits, ap, arith, of_z, point_of, reads_on, rules, subst, sym, to_z, to_z-of_z, w16, ◌*◌, ◌-◌, ◌∙◌, ◌≡◌}
+use Rattle.drainage.proofs.RimPoints.RimLevels.{rim_more, rim_whole}
 use Rattle.drainage.proofs.Questions.Questioned.{answered, asked_reads, refused_after, short_after, short_here}
 use Rattle.drainage.proofs.tile_levels.rim_levels.Goals as goal
-
-pub loop-number-init : goal.loop-number-init
-loop-number-init g c = record {
-  reads = reads_nothing g.S.Samples g.met.S.Samples.keeps_itself c.args.samples.now (tt {0});
-  right = c.requires.right;
-  levels = λ honest.
-      let m = g.S.Samples.mosaic c.args.samples.now in
-      subst (λ (l : List ℤ). AreRimLevelsTo m c.args.corner 0 l) (sym c.in_ok-rim.ensures.items) (no_rim m (g.met.S.Samples.is_mosaic c.args.samples.now honest) c.args.corner);
-}
 
 pub loop-number-preserved : goal.loop-number-preserved
 loop-number-preserved g c =

@@ -1,4 +1,4 @@
-use Rattle.drainage.proofs.Prelude.{AreTileLevels, Corner, IfOk, IsHeldOf, Mosaic, rules, subst, sym}
+use Rattle.drainage.proofs.Prelude.{IsHeldOf, Mosaic, rules, subst, sym}
 use Rattle.drainage.proofs.Questions.Questioned.{short_here}
 use Rattle.drainage.proofs.whole_tiles.levels.Goals as goal
 
@@ -17,7 +17,3 @@ returns-clause-held g c honest =
     let m = g.S.Samples.mosaic c.tile_levels-levels.new.samples in
     let left = c.in_ok-tile_cache.ensures.left (g.S.Samples.mosaic c.args.samples.now) (c.requires.held (read.honest honest)) in
     c.put.ensures m (c.tile_levels-levels.ensures.right honest) (subst (λ (n : Mosaic). IsHeldOf n c.take.new.self) (sym (read.mosaic honest)) left)
-
-pub returns-clause-levels : goal.returns-clause-levels
-returns-clause-levels g c honest =
-    subst (λ (d : Corner). IfOk c.tile_levels-levels.result (λ levels. AreTileLevels (g.S.Samples.mosaic c.args.samples.now) d levels.items)) c.in_ok-t.ensures.place.1 (c.tile_levels-levels.ensures.levels honest)

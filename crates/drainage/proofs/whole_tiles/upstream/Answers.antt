@@ -1,11 +1,7 @@
-use Rattle.drainage.proofs.Prelude.{Asked, IfOk, IfOk-weaker, ℕ, rules, subst, sym, terrain, ◌∙◌, ◌≡◌}
+use Rattle.drainage.proofs.Prelude.{IfOk, IfOk-weaker, ℕ, rules, subst, sym, terrain, ◌∙◌, ◌≡◌}
 use Rattle.watershed.specs.Counts.{AreUpstreamCounts}
 use Rattle.watershed.specs.Questions.{AreTileCounts}
-use Rattle.drainage.proofs.Flows.Followed.{asked_by}
 use Rattle.drainage.proofs.whole_tiles.upstream.Goals as goal
-
-pub upstream_counts-requires : goal.upstream_counts-requires
-upstream_counts-requires g c = (c.requires.held, c.requires.few)
 
 pub returns-clause-counts : goal.returns-clause-counts
 returns-clause-counts g c =
@@ -19,11 +15,4 @@ returns-clause-counts g c =
     let side : c.side-side.result ≡ m.side = c.side-side.ensures ∙ sym (g.met.S.Samples.same_side now (follows.2 honest)) in
     subst (λ (n : ℕ). AreUpstreamCounts (terrain m) level n c.args.corner counts.items) side (told m level (honest, (sym (follows.3 honest), filled)) filled))
     c.upstream_counts.ensures.counts in
-    search rules
-
-pub returns-clause-asked : goal.returns-clause-asked
-returns-clause-asked g c =
-    let a = c.args.samples.now in
-    let new = c.upstream_counts.new.flows in
-    let is : Asked g.S.Samples a new.samples.now c.upstream_counts.result = asked_by g.S.Samples a new.samples.now c.upstream_counts.result c.upstream_counts.ensures.keeps c.upstream_counts.ensures.refusal in
     search rules

@@ -1,6 +1,6 @@
-use Rattle.std.proofs.Common.{◌≡◌, ◌+◌, ◌*◌, ◌-◌, ◌/◌, ◌≤◌, ◌<◌, ℕ, refl, subst, sym, arith}
+use Rattle.std.proofs.Common.{◌≡◌, ◌+◌, ◌*◌, ◌-◌, ◌/◌, ◌≤◌, ℕ, refl, subst, arith}
 use Rattle.lattice.specs.RimPoints.{IsRimPoint}
-use Rattle.lattice.proofs.RimNumbers.{at_cell, Top, Bottom, West, East}
+use Rattle.lattice.proofs.RimNumbers.{at_cell, Top, West, East}
 use Rattle.lattice.proofs.rim.rim_index.Goals as goal
 
 -- a rim point of a tile of as many samples as the code computes with
@@ -15,16 +15,6 @@ returns-then-number-n c =
     let side : 3 ≤ n = omega (arith, same, c.samples-n.ensures.low) in
     let top = c.if-number-n.true in
     of_side n c.args.side k k same (at_cell n 0 k k k side (omega arith) top (omega arith) (Top refl refl))
-
-pub returns-then-number-n-2 : goal.returns-then-number-n-2
-returns-then-number-n-2 c =
-    let n = c.samples-n.result in
-    let k = c.args.number in
-    let same : n ≡ c.args.side = c.samples-n.ensures.value in
-    let side : 3 ≤ n = omega (arith, same, c.samples-n.ensures.low) in
-    let within : k < 4 * (n - 1) = subst (λ m. k < 4 * (m - 1)) (sym same) c.requires in
-    let below = c.if-number-n-2.true in
-    of_side n c.args.side k _ same (at_cell n (n - 1) (k - n - 2 * (n - 2)) k ((n - 1) * n + (k - n - 2 * (n - 2))) side (omega arith) (omega arith) refl (Bottom (omega arith) (omega arith) (omega arith)))
 
 pub returns-then-number-n-eq0 : goal.returns-then-number-n-eq0
 returns-then-number-n-eq0 c =

@@ -5,8 +5,8 @@ use Rattle.store.proofs.labelling.past_labelling.Goals as goal
 pub returns-then-has_failed-clause-reads : goal.returns-then-has_failed-clause-reads
 returns-then-has_failed-clause-reads g c = failed_before g.D.Disk g.met.D.Disk.only_now c.args.tree.now (sym c.has_failed.ensures ∙ c.if-has_failed.true)
 
-pub returns-then-not-has_past-clause-reads : goal.returns-then-not-has_past-clause-reads
-returns-then-not-has_past-clause-reads g c =
+pub returns-then-is_none-clause-reads : goal.returns-then-is_none-clause-reads
+returns-then-is_none-clause-reads g c =
     let tree = c.args.tree.now in
     record {
       read = Ok tt;

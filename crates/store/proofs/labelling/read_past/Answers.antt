@@ -7,7 +7,7 @@ loop-i-preserved g c =
     let so_far = c.loop-i.invariant in
     let reads = c.in_ok-read_past_page.ensures.reads in
     record {
-      keeps = read_again g.D.Disk c.args.tree.now c.loop-i.tree c.read_past_page.new.self so_far.keeps reads.keeps;
+      keeps = read_again g.D.Disk c.args.tree.now c.loop-i.tree c.read_past_page.new.tree so_far.keeps reads.keeps;
       works = reads.not_failed;
       long = omega (arith, c.in_ok-extend_from_slice.ensures.len, c.read_past_page.array_long, so_far.long);
     }
@@ -29,11 +29,11 @@ returns-in_err-read_past_page-clause-reads g c =
     let so_far = c.loop-i.invariant in
     let read = c.in_err-read_past_page.ensures.reads in
     let why = c.in_err-read_past_page.field-0.0 in
-    reads_refused d c.args.tree.now c.read_past_page.new.self c.from_residual-in_err-read_past_page.result why c.from_residual-in_err-read_past_page.ensures.1 (read.only_device so_far.works)
-    (reads_then d c.args.tree.now c.loop-i.tree c.read_past_page.new.self (Err why) (read_so_far d c.args.tree.now c.loop-i.tree so_far.keeps so_far.works) read)
+    reads_refused d c.args.tree.now c.read_past_page.new.tree c.from_residual-in_err-read_past_page.result why c.from_residual-in_err-read_past_page.ensures.1 (read.only_device so_far.works)
+    (reads_then d c.args.tree.now c.loop-i.tree c.read_past_page.new.tree (Err why) (read_so_far d c.args.tree.now c.loop-i.tree so_far.keeps so_far.works) read)
 
 pub returns-in_err-extend_from_slice-clause-reads : goal.returns-in_err-extend_from_slice-clause-reads
 returns-in_err-extend_from_slice-clause-reads g c =
     let reads = c.in_ok-read_past_page.ensures.reads in
     rw (refused_as c.from_residual-in_err-extend_from_slice.result NoMemory c.from_residual-in_err-extend_from_slice.ensures.1)
-    (read_so_far g.D.Disk c.args.tree.now c.read_past_page.new.self (read_again g.D.Disk c.args.tree.now c.loop-i.tree c.read_past_page.new.self c.loop-i.invariant.keeps reads.keeps) reads.not_failed)
+    (read_so_far g.D.Disk c.args.tree.now c.read_past_page.new.tree (read_again g.D.Disk c.args.tree.now c.loop-i.tree c.read_past_page.new.tree c.loop-i.invariant.keeps reads.keeps) reads.not_failed)

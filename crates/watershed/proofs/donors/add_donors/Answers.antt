@@ -1,10 +1,6 @@
-use Rattle.watershed.proofs.Prelude.{Dir, DrainsBack, East, IsToldOf, IsTrue, directions, false, get_or, order_at, order_below, order_of, step, subst, sym, terrain, ◌+◌, ◌↔◌, ◌≡◌}
-use Rattle.flow_d8.specs.declared.flow.Flow.TheVariants.{Unknown}
-use Rattle.watershed.proofs.Feeding.{AreDonorsBy, none_yet, one_more, all_donors}
+use Rattle.watershed.proofs.Prelude.{Dir, DrainsBack, East, IsTrue, directions, false, get_or, order_at, order_below, order_of, subst, sym, terrain, ◌+◌, ◌↔◌, ◌≡◌}
+use Rattle.watershed.proofs.Feeding.{AreDonorsBy, one_more, all_donors}
 use Rattle.watershed.proofs.donors.add_donors.Goals as goal
-
-pub loop-i-init : goal.loop-i-init
-loop-i-init g c m level tells = none_yet (DrainsBack (terrain m) level c.args.point) c.args.point c.args.found.now.items
 
 pub loop-i-preserved : goal.loop-i-preserved
 loop-i-preserved g c m level tells =

@@ -1,4 +1,4 @@
-use Rattle.watershed.proofs.Prelude.{AreToldBy, Bool, Dir, DrainsBack, East, IsTrue, List, arith, cases_eq, directions, false, get_or, get_or-set_other, get_or-set_same, inl, inr, length, length-set, order_at, order_below, order_of, refl, same_order, set, subst, sym, terrain, ◌+◌, ◌↔◌, ◌∙◌, ◌≡◌}
+use Rattle.watershed.proofs.Prelude.{AreToldBy, Bool, Dir, DrainsBack, East, IsTrue, List, arith, cases_eq, directions, false, get_or, get_or-set_other, get_or-set_same, inl, inr, length, length-set, order_at, order_below, order_of, same_order, set, subst, sym, terrain, ◌+◌, ◌↔◌, ◌∙◌, ◌≡◌}
 use Rattle.watershed.proofs.donors.donors.Goals as goal
 
 -- one more direction is told
@@ -10,15 +10,6 @@ told_more Has told d is whole so_far here = λ e below. elim (cases_eq (order_of
   | inr other ↦
       subst (λ b. IsTrue b ↔ Has e) (sym (get_or-set_other told (order_of d) (order_of e) is false other)) (so_far e (omega arith))
 ]
-
-pub loop-i-init : goal.loop-i-init
-loop-i-init g c = record {
-  ready = c.requires;
-  follows = g.met.F.FlowSource.follows_itself c.args.flows.now c.requires;
-  keeps = g.met.F.FlowSource.keeps_itself c.args.flows.now;
-  whole = refl;
-  told = λ m level tells d below. absurd (omega arith);
-}
 
 pub loop-i-preserved : goal.loop-i-preserved
 loop-i-preserved g c =

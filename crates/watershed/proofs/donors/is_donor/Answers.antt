@@ -1,4 +1,4 @@
-use Rattle.watershed.proofs.Prelude.{IfOk-weaker, IsToldOf, Point, ground_fits, refl, step, subst, sym, terrain, true≢false, ◌∙◌}
+use Rattle.watershed.proofs.Prelude.{IsToldOf, Point, ground_fits, step, subst, sym, terrain, true≢false}
 use Rattle.watershed.proofs.Feeding.{back_drains, drains_back}
 use Rattle.watershed.proofs.donors.is_donor.Goals as goal
 

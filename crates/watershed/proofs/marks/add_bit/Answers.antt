@@ -1,13 +1,7 @@
-use Rattle.watershed.proofs.Prelude.{Cover, IsRank, Point, bit_at, inl, inr, subst, sym, true≢false, ⊎_elim, ◌∙◌, ◌≡◌, ◌⊎◌}
+use Rattle.watershed.proofs.Prelude.{Cover, IsRank, Point, bit_at, inl, inr, subst, sym, ⊎_elim, ◌≡◌, ◌⊎◌}
 use Rattle.watershed.proofs.Found.{runs_alike}
 use Rattle.watershed.proofs.Marked.{one_point, rank_before}
 use Rattle.watershed.proofs.marks.add_bit.Goals as goal
-
-pub returns-then-not-has_bit : goal.returns-then-not-has_bit
-returns-then-not-has_bit c =
-    let old = c.args.runs.now.items in
-    runs_alike (Cover old) (λ q. Cover old q ⊎ ((bit_at c.args.bits c.args.bit ≡ 1) × IsRank q c.args.rank)) old
-    (λ q. ((λ has. inl has), (λ told. ⊎_elim (λ has. has) (λ new. absurd (true≢false (sym (c.has_bit.ensures.1 new.0) ∙ c.if-not-has_bit.true))) told))) c.requires.runs
 
 pub add_point-requires-clause-past : goal.add_point-requires-clause-past
 add_point-requires-clause-past c q has = let before = c.requires.past q has in rank_before q c.point_at.result before.0 c.args.rank before.1.0 c.point_at.ensures before.1.1

@@ -1,14 +1,7 @@
 use Rattle.watershed.proofs.Prelude.{Cover, IsInSegment, IsRank, ap, arith, bit_at, inl, inr, sym, ⊎_elim, ◌%◌, ◌*◌, ◌+◌, ◌∙◌, ◌≡◌, ◌⊎◌}
 use Rattle.watershed.proofs.Found.{runs_alike}
-use Rattle.watershed.proofs.Marked.{own_runs, told_before, told_more}
+use Rattle.watershed.proofs.Marked.{told_before, told_more}
 use Rattle.watershed.proofs.marks.add_segment.Goals as goal
-
-pub loop-i-init : goal.loop-i-init
-loop-i-init c = runs_alike (Cover c.args.runs.now.items) (λ q. Cover c.args.runs.now.items q ⊎ IsInSegment c.args.words.now c.args.number c.args.place 0 q) c.args.runs.now.items
-    (λ q. ((λ has. inl has), (λ told. ⊎_elim (λ has. has) (λ new. let low = new.low in absurd (omega arith)) told))) c.requires.runs
-
-pub add_bit-requires-clause-runs : goal.add_bit-requires-clause-runs
-add_bit-requires-clause-runs c = own_runs (λ q. Cover c.args.runs.now.items q ⊎ IsInSegment c.args.words.now c.args.number c.args.place c.loop-i.i q) c.loop-i.runs.items c.loop-i.invariant
 
 pub add_bit-requires-clause-past : goal.add_bit-requires-clause-past
 add_bit-requires-clause-past c q has = ⊎_elim

@@ -3,9 +3,6 @@ use Rattle.watershed.proofs.Upstream.{found_is_watershed}
 use Rattle.watershed.proofs.Found.{runs_alike}
 use Rattle.watershed.proofs.search.watershed_over.Goals as goal
 
-pub runs-requires : goal.runs-requires
-runs-requires g c = c.in_ok-marks.ensures.indexed
-
 pub returns-clause-runs : goal.returns-clause-runs
 returns-clause-runs g c m level tells =
     let p = c.args.point in

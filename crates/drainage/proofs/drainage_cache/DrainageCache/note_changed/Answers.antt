@@ -7,11 +7,6 @@ flows_as : (was is : ℤ) (held left : DrainageCache) → SFits w16 was → SFit
 flows_as was is held left had fits are =
     subst (λ (u : ℤ). AreFlowsLeft u is held left) (to_z-of_z w16 was had) (subst (λ (v : ℤ). AreFlowsLeft (to_z w16 (of_z w16 was)) v held left) (to_z-of_z w16 is fits) are)
 
-pub returns-in_default-clause-flows : goal.returns-in_default-clause-flows
-returns-in_default-clause-flows c =
-    let h = c.args.height.now in
-    flows_as h.was h.metres c.args.self.now c.retain_spared_flows.new.self (search rules) (search rules) c.retain_spared_flows.ensures.left
-
 pub returns-clause-flows : goal.returns-clause-flows
 returns-clause-flows c =
     let h = c.args.height.now in

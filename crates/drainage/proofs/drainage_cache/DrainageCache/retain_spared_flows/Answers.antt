@@ -1,8 +1,5 @@
-use Rattle.drainage.proofs.Prelude.{AreSlotsSpared, IsPastTaken, None, SFits, Some, ℤ, of_z, refl, rules, subst, to_z, to_z-of_z, w16}
+use Rattle.drainage.proofs.Prelude.{AreSlotsSpared, IsPastTaken, SFits, Some, ℤ, of_z, refl, rules, subst, to_z, to_z-of_z, w16}
 use Rattle.drainage.proofs.drainage_cache.DrainageCache.retain_spared_flows.Goals as goal
-
-pub returns-in_default-clause-left : goal.returns-in_default-clause-left
-returns-in_default-clause-left c = (None, (subst (IsPastTaken c.args.self.now.flow_cache c.args.self.now.past_flows) c.in_default.is c.take_past.ensures.taken, c.take_past.ensures.past_flows))
 
 pub returns-clause-left : goal.returns-clause-left
 returns-clause-left c =

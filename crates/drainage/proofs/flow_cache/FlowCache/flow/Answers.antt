@@ -1,4 +1,4 @@
-use Rattle.drainage.proofs.Prelude.{FlowCache, IsLeftIn, IsPastOf, ap, arith, cases_lt, inl, inr, length, slot_ranges, subst, sym, ◌<◌, ◌∙◌, ◌≡◌}
+use Rattle.drainage.proofs.Prelude.{FlowCache, IsLeftIn, IsPastOf, ap, arith, cases_lt, inl, inr, length, subst, sym, ◌<◌, ◌≡◌}
 use Rattle.drainage.proofs.flow_cache.FlowCache.flow.Goals as goal
 
 pub returns-in-Some-flow_in-clause-flow : goal.returns-in-Some-flow_in-clause-flow

@@ -1,12 +1,6 @@
-use Rattle.drainage.proofs.Prelude.{IsFlow, NoGround, Unknown, get_or, get_or_default, length, subst, sym, terrain, true≢false, ◌<◌, ◌∙◌, ◌≡◌}
-use Rattle.drainage.specs.FlowCaches.{IsLeftAt}
+use Rattle.drainage.proofs.Prelude.{IsFlow, NoGround, Unknown, get_or, get_or_default, length, subst, sym, terrain, ◌<◌, ◌∙◌, ◌≡◌}
 use Rattle.flow_d8.specs.Tiles.{place_of}
 use Rattle.drainage.proofs.flow_cache.FlowCache.flow_in.Goals as goal
-
-pub returns-then-not-is_left-clause-none : goal.returns-then-not-is_left-clause-none
-returns-then-not-is_left-clause-none c small left =
-    let same = c.in_ok-number.ensures.some.1 left.0 left.1.0 left.1.1 in
-    absurd (true≢false (sym (c.is_left.ensures.1 (subst (IsLeftAt c.args.self.now) same left.1.2)) ∙ c.if-not-is_left.true))
 
 pub returns-clause-flow : goal.returns-clause-flow
 returns-clause-flow c m right level filled =

@@ -1,20 +1,6 @@
-use Rattle.drainage.proofs.Prelude.{All, All-contains, All-more, HeldLabelling, IsBelow, IsHeldAt, List, get_or, length, refl, subst, sym, take_all, true≢false, ◌<◌, ◌∙◌, ◌≡◌, ◌≤◌}
+use Rattle.drainage.proofs.Prelude.{All, All-contains, All-more, HeldLabelling, IsBelow, List, get_or, length, refl, subst, sym, take_all, true≢false, ◌<◌, ◌∙◌, ◌≡◌, ◌≤◌}
 use Rattle.lattice.proofs.Samples.{index_unique}
-use Rattle.drainage.proofs.Caches.Caching.{held_there}
 use Rattle.drainage.proofs.labelling_cache.LabellingCache.is_still.Goals as goal
-
-pub returns-then-is_below-clause-yes : goal.returns-then-is_below-clause-yes
-returns-then-is_below-clause-yes c done =
-    let one = c.held-item.result in
-    let is = c.is_below.ensures.0 c.if-is_below.true in
-    record {
-      labelling = one.labelling;
-      held = subst (λ (l : List HeldLabelling). IsHeldAt l c.args.t one.labelling) c.deref-held-items.ensures.value
-          (held_there c.deref-held-items.result.now c.loop-held.held-index one c.args.t c.loop-held-test.true c.held-item.is is.0);
-      index = c.in-Some.index;
-      point = c.in-Some.ensures.some.0;
-      below = is.1;
-    }
 
 pub loop-held-preserved : goal.loop-held-preserved
 loop-held-preserved c =

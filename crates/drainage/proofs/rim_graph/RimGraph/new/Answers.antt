@@ -1,17 +1,8 @@
-use Rattle.std.proofs.Common.{◌≡◌, ◌+◌, ◌-◌, ◌*◌, ◌^◌, ◌<◌, [], ◌∷◌, length, List, sym, ◌∙◌, ap, subst, length-append, rules}
-use Rattle.drainage.proofs.Prelude.{Corner, None, graph_size, sum_by}
-use Rattle.std.proofs.lemmas.List.Sums.{sum_by_push}
-use Rattle.drainage.proofs.Caches.Caching.{none_held}
+use Rattle.std.proofs.Common.{◌≡◌, ◌+◌, ◌-◌, ◌*◌, ◌^◌, ◌<◌, length, List, sym, ◌∙◌, subst, rules}
+use Rattle.drainage.proofs.Prelude.{Corner}
 use Rattle.drainage.proofs.Caches.FewTiles.{numbered}
 use Rattle.drainage.proofs.Caches.LoadingTiles.{none_told}
 use Rattle.drainage.proofs.rim_graph.RimGraph.new.Goals as goal
-
-pub loop-preserved : goal.loop-preserved
-loop-preserved g c = record {
-  whole = ap length c.in_ok-push.ensures.pushed ∙ length-append c.loop.loaded.items (None ∷ []) ∙ ap (λ n. n + 1) c.loop.invariant.whole;
-  none = none_held c.loop.loaded.items c.push.new.items.items c.in_ok-push.ensures.pushed c.loop.invariant.none;
-  empty = ap (sum_by graph_size) c.in_ok-push.ensures.pushed ∙ sum_by_push graph_size c.loop.loaded.items None ∙ ap (λ n. n + 0) c.loop.invariant.empty;
-}
 
 pub returns-clause-ready : goal.returns-clause-ready
 returns-clause-ready g c honest =

@@ -1,4 +1,4 @@
-use Rattle.drainage.proofs.Prelude.{Corner, IsTrue, KeepsSummary, List, ℕ, ap, length, rules, subst, sym, true≢false, ◌+◌, ◌<◌, ◌↔◌, ◌∙◌, ◌≡◌}
+use Rattle.drainage.proofs.Prelude.{Corner, IsTrue, KeepsSummary, List, ℕ, ap, length, rules, subst, sym, true≢false, ◌+◌, ◌<◌, ◌↔◌, ◌∙◌}
 use Rattle.drainage.proofs.Changes.Invalidated.{AreGivenUp, one_spared, one_given_up, all_given_up}
 use Rattle.drainage.proofs.rim_graph.RimGraph.note_changed.Goals as goal
 use Rattle.drainage.proofs.rim_graph.RimGraph.note_changed.Goals.{then-not-is_still, else-not-is_still}

@@ -1,5 +1,5 @@
-use Rattle.drainage.proofs.Prelude.{IsNoHigher, ap, length, rules, subst, sym, ◌+◌, ◌<◌, ◌∙◌, ◌≡◌, ◌≤◌}
-use Rattle.drainage.proofs.Changes.SparedLevels.{AreSpared, one_spared, one_given_up, all_seen}
+use Rattle.drainage.proofs.Prelude.{IsNoHigher, ap, length, rules, subst, sym, ◌+◌, ◌<◌, ◌∙◌, ◌≡◌}
+use Rattle.drainage.proofs.Changes.SparedLevels.{AreSpared, one_spared, one_given_up}
 use Rattle.drainage.proofs.rims.RimLevels.invalidate_above.Goals as goal
 use Rattle.drainage.proofs.rims.RimLevels.invalidate_above.Goals.{then-is_above, else-is_above}
 
@@ -15,14 +15,3 @@ loop-x-preserved c =
       | else-is_above w ↦ subst (AreSpared (IsNoHigher c.args.most) was (c.loop-x.x + 1)) (sym w.self-is)
           (one_spared (IsNoHigher c.args.most) was c.loop-x.x c.loop-x.self c.at.result (sym c.at.ensures) so (c.is_above.ensures.no w.if-is_above.false))
     ]
-
-pub returns-clause-whole : goal.returns-clause-whole
-returns-clause-whole c = c.loop-x.invariant.whole
-
-pub returns-clause-levels : goal.returns-clause-levels
-returns-clause-levels c x level =
-    let was = c.args.self.now in
-    let so = c.loop-x.invariant in
-    let many : length c.self.inside.levels.items ≡ length was = ap length c.self.view_is in
-    let whole : length c.loop-x.self ≤ c.loop-x.x = (let last = c.loop-x-test.false in let size = c.len-x-end.ensures in let same = so.whole in search rules) in
-    (all_seen (IsNoHigher c.args.most) was c.loop-x.x c.loop-x.self whole so x level, λ had. so.kept x level had.0 had.1)

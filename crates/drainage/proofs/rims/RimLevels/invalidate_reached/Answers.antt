@@ -17,9 +17,6 @@ loop-x-preserved c =
           (one_spared spared was c.loop-x.x c.loop-x.self c.at.result (sym c.at.ensures) so (c.may_change.ensures.no w.if-may_change.false))
     ]
 
-pub returns-clause-whole : goal.returns-clause-whole
-returns-clause-whole c = c.loop-x.invariant.whole
-
 pub returns-clause-levels : goal.returns-clause-levels
 returns-clause-levels c x level =
     let was = c.args.self.now in

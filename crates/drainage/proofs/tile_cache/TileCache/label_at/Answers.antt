@@ -5,12 +5,8 @@ use Rattle.drainage.specs.Kept.{grown_on, right_still}
 use Rattle.drainage.proofs.Caches.Caching.{entered_among}
 use Rattle.drainage.proofs.Caches.Growing.{grown_fewer}
 use Rattle.drainage.proofs.Questions.Questioned.{answered, answered_here, passed_on, refused_by}
-use Rattle.drainage.proofs.Changes.Refreshed.{entered_there, is_there}
+use Rattle.drainage.proofs.Changes.Refreshed.{is_there}
 use Rattle.drainage.proofs.tile_cache.TileCache.label_at.Goals as goal
-
-pub returns-in-Some-clause-label_at : goal.returns-in-Some-clause-label_at
-returns-in-Some-clause-label_at g c honest right =
-    c.in-Some.ensures.some (g.S.Samples.mosaic c.args.samples.now) c.args.corner (entered_there g.S.Samples c.args.samples.now (known_of c.args.self.now) c.args.t c.args.corner c.requires.place c.requires.corner right)
 
 pub returns-in-Some-clause-asked : goal.returns-in-Some-clause-asked
 returns-in-Some-clause-asked g c right = answered_here g.S.Samples g.met.S.Samples.keeps_itself c.args.samples.now c.in-Some.label_at

@@ -1,4 +1,4 @@
-use Rattle.std.proofs.Common.{◌≡◌, ℕ, ℤ, IsTrue, sym, ◌∙◌, rules, subst, SFits, w16, to_z, of_z}
+use Rattle.std.proofs.Common.{◌≡◌, ℕ, ℤ, sym, ◌∙◌, rules, subst, SFits, w16, to_z, of_z}
 use Rattle.std.proofs.lemmas.Bool.{and_parts}
 use Rattle.std.proofs.lemmas.Int.{to_z-of_z}
 use Rattle.tile_labellings.specs.TileLabellings.{IsBelow, IsTileLabelling}

@@ -3,12 +3,6 @@ use Rattle.std.specs.Option.{option_copied}
 use Rattle.watershed.proofs.Marked.{found_at, words_stay, indexed_more}
 use Rattle.watershed.proofs.marks.Marks.listed.Goals as goal
 
-pub returns-in-Some-clause-there : goal.returns-in-Some-clause-there
-returns-in-Some-clause-there c = sym c.get.ensures.value ∙ ap option_copied c.in-Some.is
-
-pub returns-clause-there : goal.returns-clause-there
-returns-clause-there c = c.in_ok-insert.ensures.updates.1
-
 -- another number is kept apart
 apart : (number q : ℕ) → q ≢ number → is_at (nat_cmp number) q ≡ false
 apart number q other = elim (cases_Bool (is_at (nat_cmp number) q)) [

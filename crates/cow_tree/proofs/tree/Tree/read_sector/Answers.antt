@@ -1,7 +1,7 @@
 use Rattle.std.proofs.Common.{rules, ◌≡◌, false, sym, subst}
 use Rattle.disk.specs.Disk.{Image}
 use Rattle.cow_tree.specs.Caches.{Agrees}
-use Rattle.cow_tree.proofs.tree.Tree.read_past_page.Goals as goal
+use Rattle.cow_tree.proofs.tree.Tree.read_sector.Goals as goal
 
 pub invariant_of-self-clause-cached : goal.invariant_of-self-clause-cached
 invariant_of-self-clause-cached g c honest works =
