@@ -1,4 +1,5 @@
 -- The levels of rim points that are found over the graph of a mosaic are the filled levels of its rims.
+use Rattle.std.proofs.Common.{rules}
 use Rattle.border_graph.proofs.Prelude.{AreOfMosaic, AreReordered, AreRimsAt, AreSummaries, IsCutOff, IsFalse, IsFilledLevel, IsGraphOf, IsJoinedLevel, IsLink, IsMosaic, IsPlacedLink, IsRimAt, IsRimNumberOf, IsThere, IsWayBelow, List, Mosaic, MosaicGraph, Node, Outlet, Rim, RimPoint, Summary, ℕ, ℤ, [], ap, arith, cases_lt, eq_or_not, get_or, get_or_past, height-le_level, inl, inr, int_max, is_ground, le-max_left, length, map, max-le, node_number, not_void, nowhere, point_of, refl, rim_number, rim_number_below, rim_point, slice_index_or, solid_if, subst, summary_at, sym, terrain, true≢false, void, ≤ℤ_antisym, ≤ℤ_same, ◌*◌, ◌-◌, ◌<◌, ◌∙◌, ◌∷◌, ◌≡◌, ◌≢◌, ◌≤ℤ◌, ◌≤◌}
 use Rattle.tile_flood.specs.Raising.{AreRimLevels}
 use Rattle.border_graph.specs.Joins.{IsSideOf, HaveNoSide, AreJoined, AreLevelled, LeadsNowhere}
@@ -14,9 +15,7 @@ module _ (g : MosaicGraph) (n : ℕ) (summaries : List Summary) (side : g.side �
   height_same t k small = ap (λ (r : List RimPoint). (get_or r k nowhere).height) (moved.each t small).rim
 
   there_before : (t k : ℕ) → IsThere g.side g.summaries t k → IsThere n summaries t k
-  there_before t k there =
-      let small : t < length summaries = subst (λ v. t < v) moved.whole there.tile in
-      record { tile = small; number = subst (λ v. k < 4 * (v - 1)) side there.number; solid = λ gap. there.solid (height_same t k small ∙ gap) }
+  there_before t k there = search rules
 
   -- each ground rim point has a level
   pub rims_are_levelled : IsSideOf n summaries → (rims : List (List ℤ)) → AreRimsAt g rims (length summaries) → AreLevelled summaries rims

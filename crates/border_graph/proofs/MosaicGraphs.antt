@@ -1,4 +1,5 @@
 -- The graph of a mosaic as its fields hold it: a graph of each tile, and levels of nodes.
+use Rattle.std.proofs.Common.{rules}
 use Rattle.border_graph.proofs.Prelude.{AreAllEdges, AreEdges, AreOfMosaic, AreTileEdges, Corner, Edge, IsGraphOf, IsPlacedLink, IsReordered, List, MosaicGraph, Rim, SFits, Summary, TileGraph, ℕ, ℤ, [], ap, arith, cases_eq, cases_lt, corner_at, get_or, get_or-map, get_or-set_other, get_or-set_same, get_or_default, graph_of, inl, inr, int_max, ints, le-max_right, length, length-append, length-map, node_number, pos, rim_point, set, subst, summary_at, sym, void, w16, ≤ℤ_antisym, ◌*◌, ◌++◌, ◌+◌, ◌-◌, ◌<◌, ◌^◌, ◌∙◌, ◌∷◌, ◌≡◌, ◌≢◌, ◌≤ℤ◌, ◌≤◌}
 use Rattle.std.proofs.Math.ListN.{get_or-append}
 use Rattle.std.proofs.Math.Seq.{get_or-append_seam}
@@ -65,11 +66,7 @@ above h fits = omega (arith, ints)
 
 -- the level of a ground rim point
 pub level_at : (g : MosaicGraph) (t k : ℕ) (level h v : ℤ) → (rim_point (summary_at g.summaries t) k).height ≡ h → SFits w16 h → h ≢ void → IsFound g (node_number g.side (Rim t k)) level → v ≡ int_max level h → IsLevelAt g t k v
-level_at g t k level h v height fits full found is = record {
-  none = λ gap. absurd (full (sym height ∙ gap));
-  some = λ _ same. full (≤ℤ_antisym h void (subst (λ w. h ≤ℤ w) (sym is ∙ same) (le-max_right level h)) (above h fits));
-  found = λ _. (level, (found, is ∙ ap (int_max level) (sym height)));
-}
+level_at g t k level h v height fits full found is = search rules
 
 -- one level more
 pub found_more : (side : ℕ) (corners : List Corner) (graphs : List TileGraph) (levels : List ℤ) (node : ℕ) (level : ℤ) → node < length levels → IsFound (graph_of side graphs) node level → IsWhole side corners graphs levels → IsWhole side corners graphs (set levels node level)

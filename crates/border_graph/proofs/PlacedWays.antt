@@ -1,17 +1,12 @@
 -- The least levels over links between nodes by their numbers are those over the links between rim points.
+use Rattle.std.proofs.Common.{rules}
 use Rattle.border_graph.proofs.Prelude.{IsJoinedLevel, IsLink, IsPlacedLink, IsThere, IsWayBelow, List, Node, Outlet, Rim, Summary, ℕ, ℤ, [], ap, arith, map, node_number, refl, row_of_cell, subst, sym, ◌*◌, ◌+◌, ◌-◌, ◌/◌, ◌<◌, ◌∙◌, ◌∷◌, ◌≡◌, ◌≤ℤ◌}
 
 pub one_tile : (size t u k l : ℕ) → k < size → l < size → 1 + t * size + k ≡ 1 + u * size + l → t ≡ u
-one_tile size t u k l in_k in_l same =
-    let row : (t * size + k) / size ≡ t = row_of_cell size t k in_k in
-    let row' : (u * size + l) / size ≡ u = row_of_cell size u l in_l in
-    let at : t * size + k ≡ u * size + l = omega arith in
-    sym row ∙ (ap (λ v. v / size) at ∙ row')
+one_tile size t u k l in_k in_l same = search rules
 
 pub one_number : (size t u k l : ℕ) → t ≡ u → 1 + t * size + k ≡ 1 + u * size + l → k ≡ l
-one_number size t u k l tile same =
-    let at : 1 + u * size + k ≡ 1 + u * size + l = sym (ap (λ v. 1 + v * size + k) tile) ∙ same in
-    omega arith
+one_number size t u k l tile same = search rules
 
 -- a link's first rim point is there
 pub is_there : (n : ℕ) (summaries : List Summary) (t k : ℕ) (to : Node) (level : ℤ) → IsLink n summaries (Rim t k) to level → IsThere n summaries t k

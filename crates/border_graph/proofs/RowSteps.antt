@@ -1,4 +1,5 @@
 -- Rows of spills by the labels that they lead from.
+use Rattle.std.proofs.Common.{rules}
 use Rattle.std.proofs.Common.{◌≡◌, ℕ, ◌+◌, ◌-◌, ◌<◌, ◌≤◌, inl, inr, pos, true, false, List, [], ◌∷◌, ◌++◌, length, map, drop, get_or, refl, sym, ap, ◌∙◌, subst, arith, Contains, leb, ltb, leb-true, leb-false, ltb-true, ltb-false, length-drop, ◌↔◌, ◌*◌, slice_range}
 use Rattle.border_graph.proofs.Prelude.{Contains-append_left, Contains-permutation, Contains-push, Contains-push_cases, IsPermutation-sym, Spill, Summary, cases_lt, get_or-map, length-map, rim_point, turned}
 use Rattle.std.specs.List.Sorted.{IsPartitionPoint, IsPermutation}
@@ -95,11 +96,4 @@ module _ (n : ℕ) (b : Summary) (i : ℕ) (old mid : List Spill) (so : AreLabel
       alike x y a b level = subst (λ v. x ≡ record { a = v; b = y.b; level = y.level }) a (subst (λ v. x ≡ record { a = x.a; b = v; level = y.level }) b (subst (λ v. x ≡ record { a = x.a; b = x.b; level = v }) level refl))
 
   pub labels_less : ((link : Spill) → link.b ≡ i → IsFromLabel n b link → ⊥) → AreLabelsTurned n b (i + 1) old mid
-  labels_less none = record {
-    still = so.still;
-    each = so.each;
-    labels = λ x small label. elim (cases_lt x.b i) [
-      | inl earlier ↦ so.labels x earlier label
-      | inr later ↦ absurd (none x (let s = small in omega arith) label)
-    ];
-  }
+  labels_less none = search rules

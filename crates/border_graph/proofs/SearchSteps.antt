@@ -1,5 +1,6 @@
 -- The steps of a bottleneck search from a start over links: what is visited next ends a least path (after the correctness
 -- argument of Barnes, Lehman and Mulla 2014).
+use Rattle.std.proofs.Common.{rules}
 use Rattle.std.proofs.Common.{◌≡◌, ℕ, zero, suc, ◌+◌, ◌<◌, ◌≤◌, ◌⊎◌, inl, inr, ℤ, ◌≤ℤ◌, ◌<ℤ◌, true, false, IsTrue, List, [], ◌∷◌, length, get_or, refl, sym, ap, ◌∙◌, subst, arith, true≢false, Contains}
 use Rattle.border_graph.proofs.Prelude.{AreAllEdges, AreEdges, AreRaised, Contains-get_or, Edge, Entry, IsAdded, IsEnd, IsJoinedLevel, IsNext, IsReachedBelow, IsWayBelow, NoneLeft, Settled, cases_Bool, cases_eq, cases_lt, get_or_default, int_max, ints, is_among, le-max_left, le-max_right, max-le, void, ≤ℤ_same, ≤ℤ_trans}
 use Rattle.std.proofs.lemmas.Int.{clamps}
@@ -57,13 +58,7 @@ alike_at L two start x level joined some first from = record {
 -- the node of an entry was settled, with all its links
 pub settled_by : (L : ℕ → ℕ → ℤ → Type 0) (start : ℕ) (entry : Entry) (edges : List Edge) (one : Settled) → AreAllEdges L entry.node edges → IsSettledBy entry edges one → 0 < entry.node → IsReachedBelow L start entry.crest entry.node
     → (0 < one.node) × (IsReachedBelow L start one.crest one.node × (IsTrue one.has_no_lower → (y : ℕ) (level : ℤ) → L one.node y level → one.crest ≤ℤ level))
-settled_by L start entry edges one all by some reached = (
-  subst (λ v. 0 < v) (sym by.node) some,
-  (
-    subst (λ v. IsReachedBelow L start v one.node) (sym by.crest) (subst (IsReachedBelow L start entry.crest) (sym by.node) reached),
-    λ yes y level link. subst (λ v. v ≤ℤ level) (sym by.crest) (by.no_lower yes (record { level = level; to = y }) (all y level (subst (λ v. L v y level) by.node link))),
-  ),
-)
+settled_by L start entry edges one all by some reached = search rules
 
 waits_up : (frontier : List Entry) (x : ℕ) (low high : ℤ) → low ≤ℤ high → WaitsBelow frontier x low → WaitsBelow frontier x high
 waits_up frontier x low high le w = record { entry = w.entry; waits = w.waits; node = w.node; low = ≤ℤ_trans w.entry.crest low high w.low le }

@@ -1,4 +1,5 @@
 -- Levels and labels of a block have their spills.
+use Rattle.std.proofs.Common.{rules}
 use Rattle.std.proofs.Common.{◌≡◌, ℕ, zero, suc, ◌+◌, ◌*◌, ◌/◌, ◌%◌, ◌<◌, ◌⊎◌, inl, inr, ℤ, ◌≤ℤ◌, List, [], ◌∷◌, get_or, slice_index, slice_index_or, min, max, refl, sym, ap, ◌∙◌, subst, arith, true≢false, int_le, All, Contains, AllPairs}
 use Rattle.border_graph.proofs.Prelude.{All-contains, Contains-append_right, Contains-get_or, Spill, bare_block, cases_Bool, cases_eq, cases_lt, int_max, ints, is_linked, linked_parts, solid_below, void, ≤ℤ_same}
 use Rattle.std.proofs.lemmas.List.Kept.{AllPairs-cons}
@@ -19,13 +20,7 @@ same_on : (p q r : Spill) → HaveSameLabels p q → HaveSameLabels q r → Have
 same_on p q r one other = record { same_a = one.same_a ∙ other.same_a; same_b = one.same_b ∙ other.same_b }
 
 same_or_not : (p q : Spill) → HaveSameLabels p q ⊎ (¬ HaveSameLabels p q)
-same_or_not p q = elim (cases_eq p.a q.a) [
-  | inr apart ↦ inr (λ same. apart same.same_a)
-  | inl a ↦ elim (cases_eq p.b q.b) [
-    | inr apart ↦ inr (λ same. apart same.same_b)
-    | inl b ↦ inl (record { same_a = a; same_b = b })
-  ]
-]
+same_or_not p q = search rules
 
 lower_or_not : (a b : ℤ) → (a ≤ℤ b) ⊎ (b ≤ℤ a)
 lower_or_not a b = elim (cases_Bool (int_le a b)) [ inl le ↦ inl (le_true a b le) | inr above ↦ inr (let more = le_false a b above in omega (arith, ints)) ]

@@ -1,5 +1,6 @@
 -- The edges from a rim point, as they are listed of its tile and of the others that hold the point, are all its links; and
 -- where the tiles are those of a mosaic, no others.
+use Rattle.std.proofs.Common.{rules}
 use Rattle.border_graph.proofs.Prelude.{AreAllEdges, AreApart, AreEdges, AreOfMosaic, AreSummaries, AreTileEdges, Contains, Contains-permutation, Corner, Edge, IsIndexOf, IsLink, IsMosaic, IsPermutation-sym, IsPlacedLink, IsReordered, IsRimNumberOf, IsSharedLink, IsThere, IsToOther, IsTrue, List, Mosaic, Node, Outlet, Point, Rim, RimPoint, Spill, Summary, TileGraph, ℕ, ℤ, [], ap, arith, cases_Bool, corner_at, eq_or_not, get_or, inl, inner_only, inr, is_ground, is_rim, length, node_number, nowhere, one_index, one_rim_point, point_of, pos, refl, rim_number, rim_point, rising_from, subst, summary_at, sym, void, ◌*◌, ◌+◌, ◌-◌, ◌<◌, ◌∙◌, ◌∷◌, ◌≡◌, ◌≢◌, ◌≤◌}
 use Rattle.lattice.proofs.Samples.{index_below, index_unique, index_of_point, held_at, point_at_index}
 use Rattle.border_graph.specs.Sharing.{AreInOrder, IsOfRim}
@@ -49,10 +50,7 @@ module _ (n : ℕ) (low : 3 ≤ n) (summaries : List Summary) (order : AreInOrde
   height_is = ap (λ (r : List RimPoint). (get_or r k nowhere).height) (sym told.rim)
 
   before_others : (way : Edge) → Contains listed.second way → Contains new way
-  before_others way has = elim (eq_or_not (rim_point ways.summary k).height void) [
-    | inl gap ↦ subst (λ (l : List Edge). Contains l way) (sym (listed.nothing gap)) has
-    | inr full ↦ (listed.others full).still way has
-  ]
+  before_others way has = search rules
 
   sum_is : (a l : ℕ) → a + (1 + l) ≡ 1 + a + l
   sum_is a l = omega arith

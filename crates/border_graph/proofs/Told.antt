@@ -1,4 +1,5 @@
 -- The edges inside a tile, as they are listed of the rows of its rim points.
+use Rattle.std.proofs.Common.{rules}
 use Rattle.std.proofs.Common.{◌≡◌, ℕ, zero, suc, ◌+◌, inl, inr, ℤ, List, [], ◌∷◌, length, refl, sym, ap, ◌∙◌, subst, arith, Contains, IsTrue, IsFalse, true, false, true≢false, ◌↔◌, ◌⊎◌, Option, Some, None, IfSome, IfNone, is_some}
 use Rattle.border_graph.proofs.Prelude.{AreListed, Edge, IsInnerLink, IsLabelLink, IsLink, IsOutletLink, IsSpillLink, IsThere, OUT, Rim, RimPoint, Spill, Summary, across, cases_Bool, cases_eq, out_at, rim_point, turned}
 use Rattle.border_graph.specs.TileGraph.{AreTileRows, AreEdgesOut, AreEdgesAcross}
@@ -83,16 +84,10 @@ module _ (n : ℕ) (b : Summary) (k : ℕ) where
       edge_is s way on at inner = (s.b, (ap (λ (w : Edge). w.to) at, (there, (on, inl (refl, subst (IsInnerLink n (b ∷ []) 0 k s.b) (sym (ap (λ (w : Edge). w.level) at)) inner)))))
 
       from_back : (s : Spill) → Contains back s → s.a ≡ k → IsInnerLink n (b ∷ []) 0 k s.b s.level
-      from_back s has from = elim (rows.turned.each s has) [
-        | inl spill ↦ inr (inr (inr (subst (Contains b.spills) (spill_is (turned s) s.b k s.level refl from refl) spill)))
-        | inr name ↦ inr (inl (record { names = name.label.names ∙ from; height = name.label.height }))
-      ]
+      from_back s has from = search rules
 
       from_own : (s : Spill) → s ≡ own → IsInnerLink n (b ∷ []) 0 k s.b s.level
-      from_own s same = inl (record {
-        names = ap (λ (p : RimPoint). p.label) is ∙ (sym label ∙ sym (ap (λ (x : Spill). x.b) same));
-        height = at_height s.level (ap (λ (x : Spill). x.level) same);
-      })
+      from_own s same = search rules
 
       own_listed : (l : ℕ) (level : ℤ) → IsThere n (b ∷ []) 0 l → (rim_point b k).label ≡ l → (rim_point b k).height ≡ level → Contains new (record { level = level; to = first + (1 + l) })
       own_listed l level on names at =

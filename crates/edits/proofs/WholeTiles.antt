@@ -36,8 +36,3 @@ module _ (m : Mosaic) (cs : List Corner) (same : corners_of m ≡ cs) (c : Corne
     import_accepted absent room =
         let some_room : nat_lt (length m.tiles) capacity ≡ true = lt-ltb (length m.tiles) capacity (omega (arith, count_is)) in
         rw (whole_is, present_is ∙ absent, some_room) refl
-
-pub import_short : (m : Mosaic) (c : Corner) (capacity : ℕ) (bytes : List ℕ) → (length bytes ≡ 2 * (m.side * m.side) → ⊥) → effect capacity m (Import c bytes) ≡ Err BadLength
-import_short m c capacity bytes other =
-    let wrong : nat_eq (length bytes) (2 * (m.side * m.side)) ≡ false = false_from_ne_true (nat_eq (length bytes) (2 * (m.side * m.side))) (λ e. other (eqb-true (length bytes) (2 * (m.side * m.side)) e)) in
-    rw wrong refl

@@ -49,27 +49,6 @@ has_room r rules =
       sinks_fit = omega (arith, n.few);
     }
 
--- the rules hold of the root of the next commit
-pub next_rules : (r : RootValue) → IsRoot r → (count : ℕ) (points : List Point) (entries : List EntryValue)
-    → r.number + 1 < 2 ^ 64 → count ≤ r.number → AreSinks r.side points → length entries ≤ r.capacity → All IsEntry entries → AreInOrder entries
-    → IsRoot (record r { number = r.number + 1; count = count; sinks = points; entries = entries })
-next_rules r rules count points entries number before sinks room each order =
-    record {
-      numbers = record { format = rules.numbers.format; known = rules.numbers.known; room = room; fits = number; before = omega arith; few = sinks.few };
-      entries = each;
-      in_order = order;
-      sinks = sinks;
-    }
-
--- and of the root with other sinks
-pub other_sinks : (r : RootValue) → IsRoot r → (points : List Point) → AreSinks r.side points → IsRoot (record r { sinks = points })
-other_sinks r rules points sinks = record {
-  numbers = record { format = rules.numbers.format; known = rules.numbers.known; room = rules.numbers.room; fits = rules.numbers.fits; before = rules.numbers.before; few = sinks.few };
-  entries = rules.entries;
-  in_order = rules.in_order;
-  sinks = sinks;
-}
-
 length-numbers : (h : Header) → length (numbers_of h) ≡ 32
 unfolding number_bytes
 length-numbers h = simp (length-append, length-u32_bytes, length-u64_bytes) refl

@@ -10,15 +10,6 @@ use Rattle.page_codec.specs.declared.entry.Fields.{Fields}
 use Rattle.page_codec.specs.Fields.{AreFieldsOf}
 use Rattle.page_codec.proofs.Fields.{same_i16, same_u32, length-i16_bytes, length-u32_bytes}
 
--- five fields that follow each other, and nothing behind them
-pub fields_from_parts : (bytes a b c d e : List ℕ) (lat lon : ℤ) (heights levels labels : ℕ)
-    → bytes ≡ i16_bytes lat ++ a → a ≡ i16_bytes lon ++ b → b ≡ u32_bytes heights ++ c → c ≡ u32_bytes levels ++ d → d ≡ u32_bytes labels ++ e
-    → length e ≡ 0 → bytes ≡ field_bytes lat lon heights levels labels
-unfolding field_bytes
-fields_from_parts bytes a b c d e lat lon heights levels labels p q r s t none =
-    let e-nil : e ≡ [] = nil_from_length e none in
-    cc
-
 -- the fields of an entry fit their bytes
 pub lat_fits : (c : Corner) → IsTrue (is_corner c) → FitsSigned w16 c.lat
 lat_fits c corner = record { sfits = grind (arith, ints, corner) }

@@ -84,10 +84,6 @@ in_use-first xs ys a in_use p = omega (arith, times-append p xs ys, in_use p)
 pub in_use-last : (xs ys : List ℕ) (a : FreePages) → AreInUse (xs ++ ys) a → AreInUse ys a
 in_use-last xs ys a in_use p = omega (arith, times-append p xs ys, in_use p)
 
--- the first of pages in use can be given back
-pub in_use-head : (x : ℕ) (xs : List ℕ) (a : FreePages) → AreInUse (x ∷ xs) a → AreInUse (x ∷ []) a
-in_use-head x xs a in_use p = omega (arith, in_use p)
-
 -- ---- pages used in place of others
 pub balanced_same : (xs : List ℕ) (a : FreePages) → AreBalanced xs xs a a
 balanced_same xs a = record { same_range = refl; each = λ p. refl }

@@ -31,9 +31,6 @@ module _ (pages others : List ℕ) (i : ℕ) (old now : FreePages) (so_far : IsG
       each = λ p. omega (arith, differing_more p pages others i below apart, so_far.each p, given.each p);
     })
 
-pub given_all : (pages others : List ℕ) (i : ℕ) (old now : FreePages) → length pages ≤ i → IsGivenTo pages others i old now → AreGiven (differing pages others) old now
-given_all pages others i old now done so_far = subst (λ (l : List ℕ). AreBalanced (differing pages others) (differing l (drop i others)) old now) (drop_all i pages done) so_far
-
 -- a page that is no longer free, or never was, and all before it that were taken out
 pub taken_more : (pages : List ℕ) (i : ℕ) (old now new : FreePages) → i < length pages → AreTaken (take i pages) old now → AreTaken (get_or pages i 0 ∷ []) now new
     → AreTaken (take (i + 1) pages) old new
@@ -54,13 +51,6 @@ unmarked_here pages i old now why below so_far (inr (damaged, used)) =
 -- a list that is filled with pages as they are taken
 pub taken_set : (pages : List ℕ) (i page : ℕ) (old now new : FreePages) → i < length pages → AreTaken (take i pages) old now → AreTaken (page ∷ []) now new → AreTaken (take (i + 1) (set pages i page)) old new
 taken_set pages i page old now new below so_far one_more = rw (take_more_set pages i page below) (taken-append (take i pages) (page ∷ []) old now new so_far one_more)
-
--- a page for a record, taken after the pages of the plane
-pub taken_plane : (pages : List ℕ) (i page : ℕ) (old now new : FreePages) → length pages ≤ i → AreTaken (take i pages) old now → AreTaken (page ∷ []) now new → AreTaken (page ∷ pages) old new
-taken_plane pages i page old now new done all record_taken = record {
-  same_range = record_taken.same_range ∙ all.same_range;
-  each = λ p. let whole : times p (take i pages) ≡ times p pages = ap (times p) (take_all i pages done) in omega (arith, whole, all.each p, record_taken.each p);
-}
 
 -- ---- lists of pages marked one after the other
 module _ {A : Type 0} (xs ys : List ℕ) (old now new : FreePages) (first : AreTaken xs old now) where

@@ -51,13 +51,6 @@ used_balanced old new was now same balanced = balanced_as balanced (λ p. (let c
 pub already_fresh : (e : PlaneEntry) (location : PlaneLocation) → e.staged ≡ Fresh location → IsRecordRestaged e e
 already_fresh e location is = record { location = location; record_page = location.record_page; had = ap (staged_as e.committed) is; has = is }
 
-pub fresh_room : (e : PlaneEntry) (location : PlaneLocation) (left : ℕ) → e.staged ≡ Fresh location → HasRoom e left
-    → length (pages_behind location) ≤ length (differing (pages_behind location) (behind_at e.committed)) + left
-fresh_room e location left is room =
-    let there : IfSome (Some location) (λ l. length (pages_of_plane l) ≤ length (fresh_as e.committed (Fresh location)) + left) =
-    subst (λ (g : Staged). IfSome (staged_as e.committed g) (λ l. length (pages_of_plane l) ≤ length (fresh_as e.committed g) + left)) is room in
-    omega (arith, there)
-
 module _ (e : PlaneEntry) (was : PlaneLocation) (is : e.staged ≡ AsCommitted) (some : e.committed ≡ Some was) where
   pub committed_room : (left : ℕ) → HasRoom e left → length (pages_of_plane was) ≤ left
   committed_room left room =

@@ -1,16 +1,12 @@
 -- Counts of sets of points: of one point, and of two sets that lie apart.
+use Rattle.std.proofs.Common.{rules}
 use Rattle.std.proofs.Common.{◌≡◌, ◌≢◌, ◌⊎◌, ◌↔◌, ◌+◌, ◌-◌, ◌<◌, ℕ, List, [], ◌∷◌, ◌++◌, length, get_or, Contains, inl, inr, ⊎_elim, refl, sym, ◌∙◌, subst, arith, length-append}
 use Rattle.watershed.proofs.Prelude.{AllPairs, IsCountOf, Point, cases_lt}
 use Rattle.std.proofs.lemmas.List.{get_or_append_left, get_or-append_right, get_or_default}
 use Rattle.std.proofs.lemmas.List.Elements.{Contains-append_left, Contains-append_right, Contains-append_cases, Contains-push_cases, Contains-push}
 
 pub count_alike : (A B : Point → Type 0) (k : ℕ) → ((p : Point) → A p ↔ B p) → IsCountOf A k → IsCountOf B k
-count_alike A B k same of = record {
-  points = of.points;
-  once = of.once;
-  all = λ p. ((λ has. (same p).0 ((of.all p).0 has)), (λ b. (of.all p).1 ((same p).1 b)));
-  count = of.count;
-}
+count_alike A B k same of = search rules
 
 pub count_one : (A : Point → Type 0) (p : Point) → ((x : Point) → A x ↔ (x ≡ p)) → IsCountOf A 1
 count_one A p alone = record {

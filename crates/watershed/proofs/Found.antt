@@ -1,4 +1,5 @@
 -- The runs of sets that have the same points.
+use Rattle.std.proofs.Common.{rules}
 use Rattle.watershed.proofs.Prelude.{AreRuns, List, Point, Run, [], arith, refl, ≤ℤ_same, ◌↔◌, ◌∷◌, ◌≡◌}
 
 -- a set of no points has no run
@@ -10,8 +11,4 @@ empty_runs inside (r ∷ rest) are none =
 
 -- a set that has the same points has the same runs
 pub runs_alike : (inside other : Point → Type 0) (runs : List Run) → ((x : Point) → inside x ↔ other x) → AreRuns inside runs → AreRuns other runs
-runs_alike inside other runs same are = record {
-  covers = λ x. ((λ any. (same x).0 ((are.covers x).0 any)), (λ within. (are.covers x).1 ((same x).1 within)));
-  full = are.full;
-  in_order = are.in_order;
-}
+runs_alike inside other runs same are = search rules

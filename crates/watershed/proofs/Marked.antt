@@ -1,4 +1,5 @@
 -- The points that are marked: each by its rank, as segments are added and bits are set.
+use Rattle.std.proofs.Common.{rules}
 use Rattle.std.proofs.Common.{◌≡◌, ◌≢◌, ℕ, zero, suc, ◌+◌, ◌*◌, ◌^◌, ◌/◌, ◌%◌, ◌<◌, ◌≤◌, pos, ◌⊎◌, ◌↔◌, inl, inr, ⊎_elim, Option, Some, None, List, [], ◌∷◌, ◌++◌, length, get_or, replicate, refl, sym, ap, ◌∙◌, subst, arith, true, true≢false, length-append}
 use Rattle.watershed.proofs.Prelude.{AreRuns, Cover, IsBefore, IsInSegment, IsIndexed, IsMarked, IsRank, Marks, Point, Run, bit_at, cases_Bool, cases_eq, cond-false, get_or-append_seam, ints, is_at, none-some, place_of, same_place, word_in, word_of}
 use Rattle.std.specs.Map.{lookup, keys_of}
@@ -15,17 +16,7 @@ pub one_point : (p q : Point) (n : ℕ) → IsRank p n → IsRank q n → p ≡ 
 one_point p q n first then = same_place p q (let a = first.row in let b = then.row in omega (arith, ints)) (let a = first.column in let b = then.column in omega (arith, ints))
 
 pub rank_before : (q p : Point) (n m : ℕ) → IsRank q n → IsRank p m → n < m → IsBefore q p
-rank_before q p n m first then less = elim (cases_eq (n / 4294967296) (m / 4294967296)) [
-  | inl row ↦
-      let columns : n % 4294967296 < m % 4294967296 = omega arith in
-      inr (
-        (let a = first.row in let b = then.row in let same : pos (n / 4294967296) ≡ pos (m / 4294967296) = ap pos row in omega (arith, ints)),
-        (let a = first.column in let b = then.column in omega (arith, ints)),
-      )
-  | inr other ↦
-      let rows : n / 4294967296 < m / 4294967296 = omega arith in
-      inl (let a = first.row in let b = then.row in omega (arith, ints))
-]
+rank_before q p n m first then less = search rules
 
 pub no_bit : (bits i : ℕ) → bits ≡ 0 → bit_at bits i ≡ 1 → ⊥
 no_bit bits i none on = let zero_bit : bit_at bits i ≡ 0 = ap (λ n. bit_at n i) none ∙ bit_at-zero i in absurd (omega arith)
@@ -58,9 +49,7 @@ module _ (old new : Marks) (point : Point) (r : ℕ) (is : IsRank point r) (inde
   ]
 
   stays : (n : ℕ) → n ≢ r → bit_at (word_of new n) (n % 64) ≡ bit_at (word_of old n) (n % 64)
-  stays n other =
-      let o = place_of old (n / 4096) in
-      ap (λ w. bit_at w (n % 64)) (new_word n o refl) ∙ other_at n other o refl ∙ ap (λ w. bit_at w (n % 64)) (sym (old_word n o refl))
+  stays n other = search (rules, place_of, bit_at, new_word, other_at, old_word)
 
   pub marked_more : (p : Point) → IsMarked new p ↔ (IsMarked old p ⊎ (p ≡ point))
   marked_more p = (
@@ -171,30 +160,7 @@ module _ (words : List ℕ) (number place i : ℕ) (small : i < 4096) where
   told_before q has = (has.rank, (has.is, (let same = has.segment in let low = has.low in omega arith)))
 
   pub told_more : (q : Point) → IsInSegment words number place (i + 1) q ↔ (IsInSegment words number place i q ⊎ ((bit_at (get_or words (place * 64 + i / 64) 0) (i % 64) ≡ 1) × IsRank q (number * 4096 + i)))
-  told_more q = (
-    (λ has. elim (cases_eq (has.rank % 4096) i) [
-      | inl this ↦
-          let same = has.segment in
-          let rank : has.rank ≡ number * 4096 + i = omega arith in
-          let word : has.rank / 64 % 64 ≡ i / 64 = omega arith in
-          let bit : has.rank % 64 ≡ i % 64 = omega arith in
-          inr (ap (λ k. bit_at (get_or words (place * 64 + k) 0) (i % 64)) (sym word) ∙ ap (bit_at (get_or words (place * 64 + has.rank / 64 % 64) 0)) (sym bit) ∙ has.set, subst (IsRank q) rank has.is)
-      | inr other ↦ inl (record { rank = has.rank; is = has.is; segment = has.segment; low = (let low = has.low in omega arith); set = has.set })
-    ]),
-    (λ told. ⊎_elim
-        (λ has. record { rank = has.rank; is = has.is; segment = has.segment; low = (let low = has.low in omega arith); set = has.set })
-        (λ new.
-        let word : (number * 4096 + i) / 64 % 64 ≡ i / 64 = omega arith in
-        let bit : (number * 4096 + i) % 64 ≡ i % 64 = omega arith in
-        record {
-          rank = number * 4096 + i;
-          is = new.1;
-          segment = omega arith;
-          low = omega arith;
-          set = ap (λ k. bit_at (get_or words (place * 64 + k) 0) ((number * 4096 + i) % 64)) word ∙ ap (bit_at (get_or words (place * 64 + i / 64) 0)) bit ∙ new.0;
-        })
-        told),
-  )
+  told_more q = search rules
 
 -- the marked points of the segments before this one
 pub record IsMarkedBelow (marks : Marks) (bound : ℕ) (p : Point) : Type 0 where

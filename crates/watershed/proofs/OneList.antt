@@ -1,4 +1,5 @@
 -- A set has at most one list of maximal runs.
+use Rattle.std.proofs.Common.{rules}
 use Rattle.watershed.proofs.Prelude.{AllAdjacentBelow, AreRuns, IsAfter, IsInRun, List, Point, Run, [], ap₂, arith, cases_Bool, inl, inr, ints, length, lt_false, lt_true, pos, refl, subst, suc, sym, zero, ≤ℤ_antisym, ≤ℤ_same, ⊎_elim, ◌+ℤ◌, ◌+◌, ◌<ℤ◌, ◌∙◌, ◌∷◌, ◌≡◌, ◌≤ℤ◌, ◌⊎◌}
 use Rattle.std.specs.Prelude.{All, Any, int_lt, slice_index_or}
 
@@ -110,10 +111,7 @@ same_run : (r s : Run) → r.y ≡ s.y → r.first ≡ s.first → r.last ≡ s.
 same_run r s hy hf hl = λ i. record { y = hy i; first = hf i; last = hl i }
 
 tails : (r s : Run) (rest rest' : List Run) → r ≡ s → Sorted (r ∷ rest) → ((p : Point) → InSome (r ∷ rest) p → InSome (s ∷ rest') p) → (p : Point) → InSome rest p → InSome rest' p
-tails r s rest rest' same is covers p later = ⊎_elim
-    (λ in_s. absurd (not_beyond r p (subst (λ u. IsInRun u p) (sym same) in_s) (all_beyond r rest p is later)))
-    (λ there. there)
-    (covers p (inr later))
+tails r s rest rest' same is covers p later = search (rules, not_beyond, all_beyond)
 
 one_sorted : (rs ss : List Run) → Sorted rs → Sorted ss → ((p : Point) → InSome rs p → InSome ss p) → ((p : Point) → InSome ss p → InSome rs p) → rs ≡ ss
 one_sorted [] [] is is' to from = refl

@@ -1,34 +1,16 @@
 -- The watershed of a point is the point and, apart from one another, the watersheds of those that drain straight to it.
+use Rattle.std.proofs.Common.{rules}
 use Rattle.std.proofs.Common.{◌≡◌, ◌⊎◌, ◌+◌, ◌-◌, ◌<◌, ◌≤◌, ℕ, zero, suc, ℤ, pos, negsuc, ◌+ℤ◌, IsTrue, Some, None, List, [], ◌∷◌, length, inl, inr, ⊎_elim, refl, sym, ap, ap₂, ◌∙◌, subst, arith, zero-add, suc-add}
 use Rattle.watershed.proofs.Prelude.{Dir, DrainsBack, FlowsTo, IsCountOf, IsDirection, IsFlowPath, IsInWatershed, IsLawful, IsThrough, Point, Terrain, back_of, back_twice, cases_eq, cases_lt, drains_to_ground, ints, none-some, one_direction, order_below, same_order, step_back}
 use Rattle.lattice.specs.declared.direction.Dir.TheVariants.{East, SouthEast, South, SouthWest, West, NorthWest, North, NorthEast}
 use Rattle.lattice.specs.Steps.{step, order_of, north_of, east_of}
 use Rattle.watershed.proofs.Counted.{count_alike, count_one, count_both}
 
--- the direction that goes so far north and so far east
-dir_by : ℤ → ℤ → Dir
-dir_by (pos zero) (pos n) = East
-dir_by (pos zero) (negsuc n) = West
-dir_by (pos (suc k)) (pos zero) = North
-dir_by (pos (suc k)) (pos (suc n)) = NorthEast
-dir_by (pos (suc k)) (negsuc n) = NorthWest
-dir_by (negsuc k) (pos zero) = South
-dir_by (negsuc k) (pos (suc n)) = SouthEast
-dir_by (negsuc k) (negsuc n) = SouthWest
-
-dir_by-is : (d : Dir) → dir_by (north_of d) (east_of d) ≡ d
-unfolding dir_by
-dir_by-is East = refl
-dir_by-is _ = refl
-
 gap : (v a b : ℤ) → (v +ℤ a) ≡ (v +ℤ b) → a ≡ b
 gap v a b same = omega (arith, ints)
 
 same_step : (d e : Dir) (x : Point) → step d x ≡ step e x → d ≡ e
-same_step d e x same =
-    sym (dir_by-is d)
-    ∙ ap₂ dir_by (gap x.y (north_of d) (north_of e) (ap (λ (p : Point). p.y) same)) (gap x.x (east_of d) (east_of e) (ap (λ (p : Point). p.x) same))
-    ∙ dir_by-is e
+same_step d e x same = search rules
 
 module _ (t : Terrain Point) (level : Point → ℤ) where
   same_dir : (x : Point) (d e : Dir) → IsDirection t level x (Some d) → IsDirection t level x (Some e) → d ≡ e

@@ -1,4 +1,5 @@
 -- The tour that counts: each of its steps leaves all counts right.
+use Rattle.std.proofs.Common.{rules}
 use Rattle.watershed.proofs.Prelude.{AreFilledLevels, AreToldBy, Bool, Branch, Dir, DrainsBack, IsCountOf, IsFalse, IsFlowPath, IsInWatershed, IsTrue, List, Point, ℕ, ℤ, [], ap, arith, false, get_or, is_ground, length, order_of, refl, step, subst, suc, sym, terrain, terrain_is_lawful, true≢false, zero, ⊎_elim, ◌++◌, ◌+◌, ◌-◌, ◌<◌, ◌∙◌, ◌∷◌, ◌≡◌, ◌≤◌}
 use Rattle.lattice.specs.Mosaic.{Mosaic, IsMosaic, void}
 use Rattle.flow_d8.proofs.Paths.FlowPaths.{flow_path_exists}
@@ -30,10 +31,7 @@ module _ (m : Mosaic) (is : IsMosaic m) (level : Point → ℤ) (filled : AreFil
     here = subst (λ k. IsCountOf (IsThrough (terrain m) level b.point k) b.count) (sym at) so_far.count
 
     pub passed : (DrainsBack (terrain m) level b.point d → ⊥) → IsCounting (terrain m) level (record b { looked = b.looked + 1 })
-    passed none = record {
-      branch = record { on_ground = so_far.branch.on_ground; donors = so_far.branch.donors };
-      count = subst (λ k. IsCountOf (IsThrough (terrain m) level b.point (k + 1)) b.count) at (unmoved b.point so_far.branch.on_ground d b.count here none);
-    }
+    passed none = search (rules, none, unmoved, here)
 
     pub added : (n : ℕ) → DrainsBack (terrain m) level b.point d → IsCounted (terrain m) level (step d b.point) n → IsCounting (terrain m) level (record b { looked = b.looked + 1; count = b.count + n })
     added n drains more = record {
@@ -42,14 +40,7 @@ module _ (m : Mosaic) (is : IsMosaic m) (level : Point → ℤ) (filled : AreFil
     }
 
     pub waits : (p : Point) → step d b.point ≡ p → DrainsBack (terrain m) level b.point d → IsWaiting (terrain m) level (record b { looked = b.looked + 1 }) p
-    waits p leads drains = record {
-      branch = record { on_ground = so_far.branch.on_ground; donors = so_far.branch.donors };
-      last = d;
-      looked = ap (λ k. k + 1) (sym at);
-      leads = leads;
-      drains = drains;
-      count = here;
-    }
+    waits p leads drains = search rules
 
   -- as many as there is no donor in
   pub skipped : (n : ℕ) (b : Branch) → b.looked + n ≤ 8 → ((k : ℕ) → b.looked ≤ k → k < b.looked + n → IsFalse (get_or b.donors k false)) → IsCounting (terrain m) level b → IsCounting (terrain m) level (record b { looked = b.looked + n })

@@ -1,4 +1,5 @@
 -- The search up the flow paths: what is found after each step, and that in the end it is the watershed.
+use Rattle.std.proofs.Common.{rules}
 use Rattle.watershed.proofs.Prelude.{AreRuns, Contains-append_left, Contains-push, Contains-push_cases, FlowsTo, IsDonor, IsFalse, IsInWatershed, IsLawful, IsTrue, List, Point, Run, Terrain, ℕ, ℤ, [], ap, arith, cases_Bool, drains_to_ground, inl, inr, refl, step, subst, suc, sym, true≢false, zero, ⊎_elim, ◌++◌, ◌↔◌, ◌∙◌, ◌∷◌, ◌≡◌, ◌⊎◌}
 use Rattle.std.specs.Prelude.{Contains, if◌then◌else◌}
 use Rattle.watershed.specs.Search.{LeadsTo, AreUpstream}
@@ -22,20 +23,7 @@ module _ (t : Terrain Point) (level : Point → ℤ) (p : Point) where
 
   -- the search begins with the point, where that is ground
   pub begun : (Marked : Point → Type 0) (waiting : List Point) → ((q : Point) → Marked q → ⊥) → waiting ≡ (if t.is_ground p then p ∷ [] else []) → IsSearching Marked waiting
-  begun Marked waiting none is = elim (cases_Bool (t.is_ground p)) [
-    | inl solid ↦ subst (IsSearching Marked) (sym (is ∙ ap (λ b. if b then p ∷ [] else []) solid)) (record {
-      lead = λ x found. (0, alone Marked x none found);
-      begins = λ _. inr (Contains-push [] p);
-      elsewhere = λ _ _. solid;
-      closed = λ q x marked feeds. absurd (none q marked);
-    })
-    | inr off ↦ subst (IsSearching Marked) (sym (is ∙ ap (λ b. if b then p ∷ [] else []) off)) (record {
-      lead = λ x found. absurd (none_waits Marked x none found);
-      begins = λ solid. absurd (true≢false (sym solid ∙ off));
-      elsewhere = λ x found. absurd (none_waits Marked x none found);
-      closed = λ q x marked feeds. absurd (none q marked);
-    })
-  ]
+  begun Marked waiting none is = search rules
 
   -- the last that waits is marked, and what feeds it waits, where that isn't found yet
   module _ (Marked Marked' : Point → Type 0) (rest waiting : List Point) (at : Point)
@@ -69,12 +57,7 @@ module _ (t : Terrain Point) (level : Point → ℤ) (p : Point) where
   marked_all Marked x (inr has) = absurd (omega (arith, has.1))
 
   pub search_done : (Marked : Point → Type 0) → IsSearching Marked [] → AreUpstream t level p Marked
-  search_done Marked so_far = record {
-    lead = λ x marked. so_far.lead x (inl marked);
-    begins = λ solid. marked_all Marked p (so_far.begins solid);
-    elsewhere = λ x marked. so_far.elsewhere x (inl marked);
-    closed = λ q x marked feeds. marked_all Marked x (so_far.closed q x marked feeds);
-  }
+  search_done Marked so_far = search rules
 
 module _ (t : Terrain Point) (level : Point → ℤ) (lawful : IsLawful t) (p : Point) where
   flows_on_ground : (x : Point) (k : ℕ) → IsTrue (t.is_ground x) → FlowsTo t level x k p → IsTrue (t.is_ground p)

@@ -1,4 +1,5 @@
 -- The passes that are kept decide.
+use Rattle.std.proofs.Common.{rules}
 use Rattle.border_graph.proofs.Prelude.{AreJoined, AreOver, Contains, Contains-append_left, Contains-get_or, Contains-push, Contains-push_cases, Equal, Greater, IsFalling, IsForestSoFar, Less, List, Pass, SpanAll, ℕ, ℤ, [], ap, arith, cases_Bool, cases_eq, cases_lt, cond, false, get_or, get_or_default, inl, inr, int_cmp, int_lt, ints, is_lt, length, length-append, nat_cmp, ordering_then, roots, subst, suc, sym, true≢false, zero, ≤ℤ_same, ≤ℤ_trans, ◌++◌, ◌+◌, ◌<◌, ◌∙◌, ◌∷◌, ◌≡◌, ◌≤ℤ◌, ◌≤◌}
 use Rattle.border_graph.specs.Forest.{IsRisingBy, IsOverAll}
 use Rattle.border_graph.proofs.Forests.Connected.{joined_self, joined_by, joined_more}
@@ -82,10 +83,7 @@ module _ (count : ℕ) (sorted : List Pass) where
 
 -- the order of a sort
 pub rises : (p q : Pass) → is_lt (ordering_then (int_cmp q.level p.level) (ordering_then (nat_cmp q.a p.a) (nat_cmp q.b p.b))) ≡ false → p.level ≤ℤ q.level
-rises p q h = elim (cases_Bool (int_lt q.level p.level)) [
-  | inl less ↦ absurd (true≢false (sym (ap (λ t. is_lt (ordering_then (cond t Less (cond (int_lt p.level q.level) Greater Equal)) (ordering_then (nat_cmp q.a p.a) (nat_cmp q.b p.b)))) less) ∙ h))
-  | inr more ↦ grind (arith, ints)
-]
+rises p q h = search rules
 
 pub rising_from : (sorted : List Pass) → ((k : ℕ) (d : Pass) → k + 1 < length sorted → (get_or sorted k d).level ≤ℤ (get_or sorted (k + 1) d).level) → IsRisingBy sorted
 rising_from sorted step j zero d le small = subst (λ i. (get_or sorted i d).level ≤ℤ (get_or sorted 0 d).level) (let none : 0 ≡ j = omega arith in none) (≤ℤ_same (get_or sorted 0 d).level)

@@ -1,4 +1,5 @@
 -- What is visited next: the lowest entry that waits, of a node that isn't visited.
+use Rattle.std.proofs.Common.{rules}
 use Rattle.border_graph.proofs.Prelude.{Bool, Contains, Entry, IsNext, IsTaken, List, ℕ, ap, cases_Bool, cond, eqb_tells, false, inl, inr, is_among, not, refl, subst, sym, true, true≢false, ◌==◌, ◌∙◌, ◌≡◌, ◌≤ℤ◌, ◌⊎◌}
 
 pub not_taken : (b : Bool) → true ≡ not b → b ≡ false
@@ -11,22 +12,13 @@ was_taken false h = absurd (true≢false (sym h))
 
 -- the nodes once one more is visited
 pub taken_now : (nodes nodes' : List ℕ) (c : ℕ) → ((x : ℕ) → is_among nodes' x ≡ cond (c == x) true (is_among nodes x)) → is_among nodes' c ≡ true
-taken_now nodes nodes' c takes = elim (eqb_tells c c) [
-  | inl same ↦ takes c ∙ ap (λ b. cond b true (is_among nodes c)) same.0
-  | inr other ↦ absurd (other.1 refl)
-]
+taken_now nodes nodes' c takes = search rules
 
 pub taken_still : (nodes nodes' : List ℕ) (c x : ℕ) → ((x : ℕ) → is_among nodes' x ≡ cond (c == x) true (is_among nodes x)) → is_among nodes x ≡ true → is_among nodes' x ≡ true
-taken_still nodes nodes' c x takes full = elim (cases_Bool (c == x)) [
-  | inl same ↦ takes x ∙ ap (λ b. cond b true (is_among nodes x)) same
-  | inr other ↦ takes x ∙ (ap (λ b. cond b true (is_among nodes x)) other ∙ full)
-]
+taken_still nodes nodes' c x takes full = search rules
 
 pub taken_other : (nodes nodes' : List ℕ) (c x : ℕ) → ((x : ℕ) → is_among nodes' x ≡ cond (c == x) true (is_among nodes x)) → (x ≡ c → ⊥) → is_among nodes' x ≡ is_among nodes x
-taken_other nodes nodes' c x takes apart = elim (eqb_tells c x) [
-  | inl same ↦ absurd (apart (sym same.1))
-  | inr other ↦ takes x ∙ ap (λ b. cond b true (is_among nodes x)) other.0
-]
+taken_other nodes nodes' c x takes apart = search rules
 
 module _ (old : List Entry) (visited : List ℕ) (mid : List Entry) (held : List ℕ) (same : (x : ℕ) → is_among held x ≡ is_among visited x)
     (others : (l : Entry) → Contains old l → (is_among visited l.node ≡ true) ⊎ Contains mid l) (only : (l : Entry) → Contains mid l → Contains old l) where
@@ -57,10 +49,7 @@ module _ (old : List Entry) (visited : List ℕ) (mid : List Entry) (held : List
 
     -- it is
     pub same_taken : is_among held entry.node ≡ true → (x : ℕ) → is_among visited' x ≡ is_among visited x
-    same_taken full x = elim (eqb_tells entry.node x) [
-      | inl is ↦ takes x ∙ (ap (λ b. cond b true (is_among held x)) is.0 ∙ (sym (subst (λ y. is_among held y ≡ true) is.1 full) ∙ same x))
-      | inr other ↦ takes x ∙ (ap (λ b. cond b true (is_among held x)) other.0 ∙ same x)
-    ]
+    same_taken full x = search rules
 
     pub others_still : is_among held entry.node ≡ true → (l : Entry) → Contains old l → (is_among visited l.node ≡ true) ⊎ Contains new l
     others_still full l has = elim (others l has) [

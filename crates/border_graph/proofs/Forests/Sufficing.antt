@@ -1,4 +1,5 @@
 -- The spills that a spanning forest keeps suffice.
+use Rattle.std.proofs.Common.{rules}
 use Rattle.border_graph.proofs.Prelude.{ArePassesOf, Contains, Contains-append_left, Contains-permutation, Contains-push, Contains-push_cases, Corner, IsPass, IsPermutation-sym, IsReordered, IsSummaryOf, IsWayBelow, List, Mosaic, OUT, Pass, RimPoint, SpanAll, Spill, Summarizes, Summary, ℕ, ℤ, [], ap, ap₂, arith, cases_eq, cases_lt, get_or, inl, inr, length, map, refl, subst, suc, sym, zero, ≤ℤ_same, ◌++◌, ◌+◌, ◌<◌, ◌∙◌, ◌∷◌, ◌≡◌, ◌⊎◌}
 use Rattle.border_graph.specs.Reduced.{IsCrossing, IsLabelOf, Suffice, label_of, spill_of, IsPassListed}
 
@@ -118,11 +119,7 @@ summarizes_all m b is = record { all = b.spills; of = is; kept = suffice_all (le
 
 -- .. and of those that suffice
 pub summarizes_less : (m : Mosaic) (b less : Summary) → less.corner ≡ b.corner → less.rim ≡ b.rim → Suffice (length b.rim) b.spills less.spills → IsSummaryOf m b → Summarizes m less
-summarizes_less m b less corner rim suffice is = record {
-  all = b.spills;
-  of = subst (IsSummaryOf m) (ap₂ (λ (c : Corner) (r : List RimPoint). record { corner = c; rim = r; spills = b.spills }) (sym corner) (sym rim)) is;
-  kept = subst (λ (r : List RimPoint). Suffice (length r) b.spills less.spills) (sym rim) suffice;
-}
+summarizes_less m b less corner rim suffice is = search rules
 
 -- .. and of the same in another order
 pub summarizes_reordered : (m : Mosaic) (b b' : Summary) → IsReordered b b' → Summarizes m b → Summarizes m b'

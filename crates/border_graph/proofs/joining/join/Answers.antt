@@ -1,7 +1,7 @@
 use Rattle.border_graph.proofs.Prelude.{Damaged, NoMemory, arith, err_from_is_err_and, inl, inr, length, length-map, map, subst, sym, ◌∙◌, ◌≡◌, ◌≢◌, ◌⊎◌}
 use Rattle.std.proofs.lemmas.Bool.{eqb-false}
 use Rattle.border_graph.specs.Joins.{CannotBeJoined}
-use Rattle.border_graph.proofs.JoinedRims.{one_side, some_side, not_cut_off, leads_nowhere, rims_are_joined, rims_are_levelled}
+use Rattle.border_graph.proofs.JoinedRims.{one_side, some_side, not_cut_off, leads_nowhere, rims_are_joined}
 use Rattle.border_graph.proofs.joining.join.Goals as goal
 
 pub returns-in_default-clause-not_damaged : goal.returns-in_default-clause-not_damaged
@@ -13,10 +13,6 @@ returns-clause-levels c m is all =
     let none : length summaries ≢ 0 = eqb-false (length summaries) 0 (sym c.is_empty.ensures ∙ c.if-is_empty.false) in
     rims_are_joined m is summaries all c.in_ok-graph.graph (c.in_ok-graph.ensures.side ∙ one_side m is summaries all c.in-Some.side c.in-Some.ensures.low (omega arith) c.in-Some.ensures.some) c.in_ok-graph.ensures.summaries
     (map (λ v. v.items) c.in_ok-joined.joined.items) (length-map c.in_ok-joined.joined.items (λ v. v.items) ∙ c.in_ok-joined.ensures.whole) c.in_ok-joined.ensures.rims
-
-pub returns-clause-levelled : goal.returns-clause-levelled
-returns-clause-levelled c =
-    rims_are_levelled c.in_ok-graph.graph c.in-Some.side c.args.summaries.now c.in_ok-graph.ensures.side c.in_ok-graph.ensures.summaries c.in-Some.ensures.some (map (λ v. v.items) c.in_ok-joined.joined.items) c.in_ok-joined.ensures.rims
 
 pub returns-in_err-joined-clause-not_damaged : goal.returns-in_err-joined-clause-not_damaged
 returns-in_err-joined-clause-not_damaged c m is all =

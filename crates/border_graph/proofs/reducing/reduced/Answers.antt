@@ -1,4 +1,4 @@
-use Rattle.border_graph.proofs.Prelude.{ArePassesOf, List, Spill, Suffice, Summarizes, Summary, ℕ, ap, arith, length, length-map, map, refl, spill_of, subst, sym, ◌∙◌, ◌≡◌, ◌≤◌}
+use Rattle.border_graph.proofs.Prelude.{ArePassesOf, List, Spill, Suffice, Summarizes, ℕ, ap, length, map, refl, spill_of, subst, sym, ◌∙◌, ◌≡◌}
 use Rattle.border_graph.proofs.Forests.Sufficing.{summarizes_all, summarizes_less, forest_suffices}
 use Rattle.border_graph.proofs.reducing.reduced.Goals as goal
 
@@ -15,11 +15,3 @@ returns-clause-right c m is =
     let suffice = forest_suffices size b.spills c.in_ok-passes.passes.items kept of c.in_ok-kept.ensures.span less (c.in_ok-spills.ensures ∙ ap (map (spill_of size)) c.deref.ensures.value) in
     let rim : length c.rim-count.result.now ≡ length b.rim = ap length c.rim-count.ensures in
     subst (Summarizes m) (sym c.with_spills.ensures) (summarizes_less m b (record b { spills = less }) refl refl (subst (λ (n : ℕ). Suffice n b.spills less) rim suffice) is)
-
-pub returns-clause-few : goal.returns-clause-few
-returns-clause-few c _ =
-    let fewer = c.in_ok-kept.ensures.fewer (omega arith) in
-    let rim : length c.rim-count.result.now ≡ length c.args.summary.rim = ap length c.rim-count.ensures in
-    let many : length c.in_ok-spills.spills.items ≡ length c.in_ok-kept.kept.items =
-    ap length c.in_ok-spills.ensures ∙ (length-map c.deref.result.now (spill_of (length c.rim-count.result.now)) ∙ ap length c.deref.ensures.value) in
-    subst (λ (s : Summary). length s.spills ≤ length c.args.summary.rim) (sym c.with_spills.ensures) (omega (arith, fewer, rim, many))

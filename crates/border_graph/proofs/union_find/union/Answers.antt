@@ -1,11 +1,6 @@
-use Rattle.border_graph.proofs.Prelude.{AreJoined, arith, roots, subst, sym, ◌<◌, ◌∙◌, ◌≡◌}
+use Rattle.border_graph.proofs.Prelude.{AreJoined, subst, sym}
 use Rattle.border_graph.proofs.Forests.Connected.{joined_turn, joined_on}
 use Rattle.border_graph.proofs.union_find.union.Goals as goal
-
-pub returns-then-one-other-clause-no_more : goal.returns-then-one-other-clause-no_more
-returns-then-one-other-clause-no_more c =
-    let other = subst (λ n. roots n c.find-other.new.parent ≡ roots n c.find-one.new.parent) c.find-one.ensures.whole c.find-other.ensures.as_many in
-    omega arith
 
 pub returns-then-one-other-clause-over : goal.returns-then-one-other-clause-over
 returns-then-one-other-clause-over c passes level joined over = c.find-other.ensures.over passes level (c.find-one.ensures.over passes level over)
@@ -14,18 +9,6 @@ pub returns-then-one-other-clause-together : goal.returns-then-one-other-clause-
 returns-then-one-other-clause-together c false_ passes level over =
     joined_on passes level c.args.a c.find-one.result c.args.b (c.find-one.ensures.joined passes level over)
     (subst (λ v. AreJoined passes level v c.args.b) (sym c.if-one-other.true) (joined_turn passes level c.args.b c.find-other.result (c.find-other.ensures.joined passes level (c.find-one.ensures.over passes level over))))
-
-pub returns-clause-fewer : goal.returns-clause-fewer
-returns-clause-fewer c true_ =
-    let other = subst (λ n. roots n c.find-other.new.parent ≡ roots n c.find-one.new.parent) c.find-one.ensures.whole c.find-other.ensures.as_many in
-    let less = subst (λ n. roots n c.link_roots.new.parent < roots n c.find-other.new.parent) (c.find-other.ensures.whole ∙ c.find-one.ensures.whole) c.link_roots.ensures.fewer in
-    omega arith
-
-pub returns-clause-no_more : goal.returns-clause-no_more
-returns-clause-no_more c =
-    let other = subst (λ n. roots n c.find-other.new.parent ≡ roots n c.find-one.new.parent) c.find-one.ensures.whole c.find-other.ensures.as_many in
-    let less = subst (λ n. roots n c.link_roots.new.parent < roots n c.find-other.new.parent) (c.find-other.ensures.whole ∙ c.find-one.ensures.whole) c.link_roots.ensures.fewer in
-    omega arith
 
 pub returns-clause-over : goal.returns-clause-over
 returns-clause-over c passes level joined over =

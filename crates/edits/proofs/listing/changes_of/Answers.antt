@@ -1,7 +1,6 @@
-use Rattle.edits.proofs.Prelude.{AreSetOnce, Edit, IfOk, IfOk-weaker, List, NewHeight, Point, SetOnce, ℕ, ap, edit_made, false, is_in_box, is_named, is_repeated, is_void_at, of_z, patched, points_of, rules, subst, sym, to_z, to_z-of_z, ◌&&◌, ◌∙◌, ◌≡◌}
+use Rattle.edits.proofs.Prelude.{AreSetOnce, Edit, IfOk, IfOk-weaker, Point, SetOnce, ℕ, ap, edit_made, is_in_box, is_void_at, of_z, patched, rules, subst, sym, to_z, to_z-of_z, ◌&&◌, ◌∙◌}
 use mir.Syntax.{w16}
 use mir.Val.{SFits}
-use Rattle.edits.proofs.Plans.Planned.{where_ok}
 use Rattle.edits.proofs.Plans.Setting.{once_all, sets_all}
 use Rattle.edits.proofs.listing.changes_of.Goals as goal
 
@@ -33,15 +32,3 @@ returns-in-Voids-clause-once g c = λ honest.
     (IfOk-weaker c.put_in_voids.result _ _
     (λ changes sets. subst (λ (k : ℕ). SetOnce k test changes.items) (sym (laws.same_side old (c.put_in_voids.ensures.reads.honest honest))) (once_all n (g.S.Samples.corners old) test _ changes.items sets))
     (c.put_in_voids.ensures.sets honest))
-
-pub returns-in-Heights-clause-once : goal.returns-in-Heights-clause-once
-returns-in-Heights-clause-once g c = λ honest.
-    let laws = g.met.S.Samples in
-    let old = c.args.samples.now in
-    let m = g.S.Samples.mosaic old in
-    let hs : List NewHeight = c.in-Heights.heights.items in
-    let result = c.put_heights.result in
-    let says = subst (λ (l : List NewHeight). is_repeated (points_of l) ≡ false → IfOk result (λ changes. SetOnce (g.S.Samples.side_of old) (is_named (points_of l)) changes.items)) c.as_slice.ensures.value c.put_heights.ensures.once in
-    subst (λ (e : Edit). IfOk result (λ changes. AreSetOnce m e changes.items)) (sym c.in-Heights.is)
-    (where_ok result (is_repeated (points_of hs) ≡ false) (λ changes. SetOnce m.side (is_named (points_of hs)) changes.items)
-    (λ apart. IfOk-weaker result _ _ (λ changes once. subst (λ (k : ℕ). SetOnce k (is_named (points_of hs)) changes.items) (sym (laws.same_side old honest)) once) (says apart)))

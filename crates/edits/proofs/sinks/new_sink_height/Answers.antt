@@ -1,5 +1,5 @@
-use Rattle.edits.proofs.Prelude.{AreSinks, IsHeld, List, Point, ℕ, ap, arith, both_ways, length, most_sinks, subst, sym, with_point, ◌<◌, ◌∙◌, ◌≡◌}
-use Rattle.edits.proofs.SinkLists.{outside_refused, sink_there, sinks_full, sink_made, sinks_with}
+use Rattle.edits.proofs.Prelude.{AreSinks, IsHeld, List, Point, ℕ, arith, both_ways, length, most_sinks, subst, sym, with_point, ◌<◌, ◌∙◌, ◌≡◌}
+use Rattle.edits.proofs.SinkLists.{outside_refused, sinks_with}
 use Rattle.edits.proofs.sinks.new_sink_height.Goals as goal
 
 pub returns-then-not-is_held-clause-refused : goal.returns-then-not-is_held-clause-refused
@@ -9,33 +9,6 @@ returns-then-not-is_held-clause-refused g c = λ honest own.
     let side : c.side.result ≡ m.side = c.side.ensures ∙ sym (g.met.S.Samples.same_side now honest) in
     outside_refused m c.args.point (g.met.S.Samples.is_mosaic now honest)
     (λ held. both_ways c.is_held.result c.if-not-is_held.true (c.is_held.ensures.1 (subst (λ (n : ℕ). IsHeld n c.args.point) (sym side) held)))
-
-pub returns-then-is_among-clause-refused : goal.returns-then-is_among-clause-refused
-returns-then-is_among-clause-refused g c = λ honest own.
-    let old = c.args.samples.now in
-    let m = g.S.Samples.mosaic old in
-    let reads = c.in_ok-metres.ensures.reads in
-    let are : m.sinks ≡ c.sinks-sinks.result.now = g.met.S.Samples.same_sinks old (reads.honest honest) ∙ sym reads.sinks ∙ sym c.sinks-sinks.ensures.sinks in
-    sink_there m c.args.point c.sinks-sinks.result.now are c.in_ok-metres.metres (c.in_ok-metres.ensures.metres honest) (sym c.is_among.ensures ∙ c.if-is_among.true)
-
-pub returns-then-sinks-ge-MOST_SINKS-clause-refused : goal.returns-then-sinks-ge-MOST_SINKS-clause-refused
-returns-then-sinks-ge-MOST_SINKS-clause-refused g c = λ honest own.
-    let old = c.args.samples.now in
-    let m = g.S.Samples.mosaic old in
-    let reads = c.in_ok-metres.ensures.reads in
-    let are : m.sinks ≡ c.sinks-sinks.result.now = g.met.S.Samples.same_sinks old (reads.honest honest) ∙ sym reads.sinks ∙ sym c.sinks-sinks.ensures.sinks in
-    sinks_full m c.args.point c.sinks-sinks.result.now are c.in_ok-metres.metres (c.in_ok-metres.ensures.metres honest) (sym c.is_among.ensures ∙ c.if-is_among.false) c.if-sinks-ge-MOST_SINKS.true
-
-pub returns-clause-made : goal.returns-clause-made
-returns-clause-made g c = λ honest.
-    let old = c.args.samples.now in
-    let m = g.S.Samples.mosaic old in
-    let reads = c.in_ok-metres.ensures.reads in
-    let are : m.sinks ≡ c.sinks-sinks.result.now = g.met.S.Samples.same_sinks old (reads.honest honest) ∙ sym reads.sinks ∙ sym c.sinks-sinks.ensures.sinks in
-    let few = c.if-sinks-ge-MOST_SINKS.false in
-    let room : length c.sinks-sinks.result.now < most_sinks = omega (arith, few) in
-    sink_made m c.args.point c.sinks-sinks.result.now are c.in_ok-metres.metres (c.in_ok-metres.ensures.metres honest) (sym c.is_among.ensures ∙ c.if-is_among.false) room
-    (with_point c.args.point m.sinks) (ap (with_point c.args.point) are)
 
 pub returns-clause-fits : goal.returns-clause-fits
 returns-clause-fits g c =

@@ -1,4 +1,4 @@
-use Rattle.edits.proofs.Prelude.{Bool, Mosaic, Point, and_from, and_right, ap, ap₂, arith, both_ways, false, holds, is_among, is_box, is_in_box, is_void_at, refl, same_point, subst, sym, true, ◌&&◌, ◌*◌, ◌+◌, ◌<◌, ◌∙◌, ◌≡◌}
+use Rattle.edits.proofs.Prelude.{Bool, Mosaic, Point, and_from, and_right, ap, ap₂, arith, false, holds, is_among, is_in_box, is_void_at, refl, same_point, sym, true, ◌&&◌, ◌*◌, ◌+◌, ◌<◌, ◌∙◌, ◌≡◌}
 use Rattle.edits.proofs.BoxVoids.BoxPlaces.{alone, among_all, among_none, among_with, inside_at}
 use Rattle.edits.proofs.BoxVoids.Searching.{none_on, none_start}
 use Rattle.edits.proofs.BoxVoids.TilesFound.{tile_void}
@@ -28,10 +28,6 @@ loop-k-preserved g c =
     (λ m q. among_with from to box c.in-Some.ensures.some.1 p k below c.point.ensures (test m) q)
     c.args.samples.now c.loop-k.samples c.is_void_in.new.samples c.loop-k.invariant c.in_ok-is_void_in.ensures.reads
     (λ honest q. alone (test mid) p false (ap (λ n. holds n c.args.corner p && is_void_at mid p) (sym c.loop-k.invariant.reads.side) ∙ sym (c.in_ok-is_void_in.ensures.void honest) ∙ c.if-branch.false) q ∙ and_right (same_point q p) false refl)
-
-pub returns-in_default-clause-void : goal.returns-in_default-clause-void
-returns-in_default-clause-void g c honest t there same =
-    absurd (both_ways (is_box (g.S.Samples.side_of c.args.samples.now) c.args.from c.args.to) (subst (λ n. is_box n c.args.from c.args.to ≡ false) c.side.ensures c.in_default.ensures.none) c.requires.size)
 
 pub returns-then-branch-clause-void : goal.returns-then-branch-clause-void
 returns-then-branch-clause-void g c honest t there same =

@@ -27,11 +27,6 @@ loop-preserved c =
       behind = omega (arith, c.loop.invariant.behind, c.split_at.ensures.back_len);
     })
 
-pub returns-then-is_zero-clause-sinks : goal.returns-then-is_zero-clause-sinks
-returns-then-is_zero-clause-sinks c =
-    let so = c.loop.invariant in
-    record { few = omega (arith, so.len, c.requires.count); in_order = so.in_order; held = so.each }
-
 pub returns-then-is_zero-clause-spelled : goal.returns-then-is_zero-clause-spelled
 returns-then-is_zero-clause-spelled c =
     let zero : is_all_zero c.loop.rest.now ≡ true = cc in

@@ -1,5 +1,5 @@
 use Rattle.page_map.proofs.Prelude.{false, false≢true, get_or, length, sym, ◌<◌, ◌∙◌, ◌≡◌, ◌≢◌}
-use Rattle.page_map.proofs.GivenSoFar.{given_same, can_give, given_more, given_all}
+use Rattle.page_map.proofs.GivenSoFar.{given_same, can_give, given_more}
 use Rattle.page_map.proofs.pages.give_differing.Goals as goal
 use Rattle.page_map.proofs.pages.give_differing.Goals.{then-not-stands_at, else-not-stands_at, After-stands_at}
 
@@ -17,6 +17,3 @@ loop-i-preserved c = elim c.if-not-stands_at.branch [
       let there = c.stands_at.ensures.0 w.if-not-stands_at.false in
       rw w.free-is (given_same _ _ _ _ _ c.loop-i.invariant c.loop-i-test.true there.0 there.1)
 ]
-
-pub returns : goal.returns
-returns c = given_all _ _ _ _ _ c.loop-i-test.false c.loop-i.invariant

@@ -1,10 +1,7 @@
 use Rattle.page_map.proofs.Prelude.{AreGiven, [], differing, pages_behind, ◌∷◌}
-use Rattle.page_map.proofs.FreeTimes.{in_use-head, rest_in_use_still, given-append}
+use Rattle.page_map.proofs.FreeTimes.{rest_in_use_still, given-append}
 use Rattle.page_map.proofs.pages.give_replaced.Goals as goal
 use Rattle.page_map.proofs.pages.give_replaced.Goals.{After-give}
-
-pub give-requires : goal.give-requires
-give-requires c = rw c.record_page.ensures (in_use-head _ _ _ c.requires)
 
 record_given : (c : After-give) → AreGiven (c.args.plane.now.record_page ∷ []) c.args.free.now c.give.new.self
 record_given c = rw c.record_page.ensures at c.give.ensures

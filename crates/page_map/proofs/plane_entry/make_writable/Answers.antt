@@ -1,16 +1,7 @@
-use Rattle.page_map.proofs.Prelude.{arith, false≢true, get_or, length, pages_behind, refl, sym, ◌<◌, ◌∙◌, ◌≡◌, ◌≢◌}
-use Rattle.std.proofs.lemmas.List.{set-get_or}
+use Rattle.page_map.proofs.Prelude.{arith, false≢true, get_or, length, pages_behind, sym, ◌<◌, ◌∙◌, ◌≡◌, ◌≢◌}
 use Rattle.page_map.proofs.Times.{differing-less}
 use Rattle.page_map.proofs.Owning.{owned_already, owned_now, room_after}
 use Rattle.page_map.proofs.plane_entry.make_writable.Goals as goal
-
-pub returns-then-not-stands_at-clause-moved : goal.returns-then-not-stands_at-clause-moved
-returns-then-not-stands_at-clause-moved c =
-    record {
-      same_record = refl;
-      same_count = refl;
-      moved = rw c.behind.ensures (sym (set-get_or (pages_behind c.args.location.now) c.args.at 0));
-    }
 
 pub returns-then-not-stands_at-clause-owned : goal.returns-then-not-stands_at-clause-owned
 returns-then-not-stands_at-clause-owned c =

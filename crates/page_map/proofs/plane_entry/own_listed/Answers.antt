@@ -1,11 +1,7 @@
-use Rattle.page_map.proofs.Prelude.{arith, length-append}
+use Rattle.page_map.proofs.Prelude.{arith}
 use Rattle.page_map.proofs.Owning.{owned_alone, owned_listed}
 use Rattle.page_map.proofs.plane_entry.own_listed.Goals as goal
 use Rattle.page_map.proofs.plane_entry.own_listed.Goals.{then-index_page-count, else-index_page-count}
-
-pub overflow_add-count : goal.overflow_add-count
-overflow_add-count c =
-    omega (arith, c.index_count-count.ensures.value, c.index_count-count.ensures.fits, c.requires.index, length-append c.args.location.now.index_pages c.args.location.now.pages)
 
 pub returns : goal.returns
 returns c = elim c.if-index_page-count.branch [

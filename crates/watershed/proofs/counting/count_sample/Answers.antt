@@ -1,3 +1,4 @@
+use Rattle.std.proofs.Common.{rules}
 use Rattle.watershed.proofs.Prelude.{IsCounted, IsTrue, Point, arith, cases_Bool, get_or-set_same, inl, inr, is_ground, length, subst, sym, terrain, true≢false, ◌*◌, ◌∙◌, ◌≡◌}
 use Rattle.watershed.proofs.Known.{counted_some, known_more, still_on}
 use Rattle.watershed.proofs.counting.count_sample.Goals as goal
@@ -17,9 +18,4 @@ returns-clause-counted g c m level tells filled known =
     (known_more (terrain m) level c.args.side c.args.corner c.count_from.new.counts c.args.index c.in_ok-count.count (c.count_from.auto.counts ∙ c.requires.whole) so_far.right c.requires.index count)
 
 pub returns-clause-known : goal.returns-clause-known
-returns-clause-known g c m level tells filled known on none =
-    let told = c.in_ok-count.ensures in
-    let at = c.point_at-point.ensures.value in
-    let count = told.count m level tells filled known (subst (λ (p : Point). IsTrue (is_ground m p)) (sym at) on) in
-    let whole : length c.count_from.new.counts ≡ c.args.side * c.args.side = c.count_from.auto.counts ∙ c.requires.whole in
-    counted_some (terrain m) level c.point_at-point.result c.in_ok-count.count count (sym (get_or-set_same c.count_from.new.counts c.args.index c.in_ok-count.count 0 (omega (arith, c.requires.index))) ∙ none)
+returns-clause-known g c m level tells filled known on none = search (rules, is_ground, counted_some, get_or-set_same)

@@ -1,15 +1,10 @@
+use Rattle.std.proofs.Common.{rules}
 use Rattle.watershed.proofs.Prelude.{AreToldBy, Bool, Dir, DrainsBack, East, IsTrue, List, arith, cases_eq, directions, false, get_or, get_or-set_other, get_or-set_same, inl, inr, length, length-set, order_at, order_below, order_of, same_order, set, subst, sym, terrain, ◌+◌, ◌↔◌, ◌∙◌, ◌≡◌}
 use Rattle.watershed.proofs.donors.donors.Goals as goal
 
 -- one more direction is told
 told_more : (Has : Dir → Type 0) (told : List Bool) (d : Dir) (is : Bool) → length told ≡ 8 → AreToldBy Has told (order_of d) → IsTrue is ↔ Has d → AreToldBy Has (set told (order_of d) is) (order_of d + 1)
-told_more Has told d is whole so_far here = λ e below. elim (cases_eq (order_of e) (order_of d)) [
-  | inl this ↦
-      subst (λ f. IsTrue (get_or (set told (order_of d) is) (order_of f) false) ↔ Has f) (sym (same_order e d this))
-      (subst (λ b. IsTrue b ↔ Has d) (sym (get_or-set_same told (order_of d) is false (omega (arith, order_below d)))) here)
-  | inr other ↦
-      subst (λ b. IsTrue b ↔ Has e) (sym (get_or-set_other told (order_of d) (order_of e) is false other)) (so_far e (omega arith))
-]
+told_more Has told d is whole so_far here = search (rules, order_of, set, same_order, get_or-set_same, order_below, get_or-set_other)
 
 pub loop-i-preserved : goal.loop-i-preserved
 loop-i-preserved g c =

@@ -1,17 +1,10 @@
+use Rattle.std.proofs.Common.{rules}
 use Rattle.watershed.proofs.Prelude.{Contains, IsMarked, MatchOption, Option, Point, [], ap, arith, inl, inr, nil_from_length, option_to_list, subst, sym, terrain, vec_len, ⊎_elim, ◌++◌, ◌+◌, ◌∙◌, ◌∷◌, ◌≡◌}
 use Rattle.watershed.proofs.Upstream.{IsSearching, begun, search_on, search_done}
 use Rattle.watershed.proofs.search.upstream.Goals as goal
 
 pub search-init : goal.search-init
-search-init g c =
-    let told = c.in_ok-waiting.ensures in
-    record {
-      ready = told.ready;
-      follows = told.follows;
-      keeps = told.keeps;
-      indexed = c.new-marks.ensures.indexed;
-      searching = λ m level tells. begun (terrain m) level c.args.point (IsMarked c.new-marks.result) c.in_ok-waiting.waiting.items c.new-marks.ensures.none (told.found m level tells);
-    }
+search-init g c = search (rules, begun)
 
 pub search-preserved : goal.search-preserved
 search-preserved g c =
@@ -43,8 +36,4 @@ search-preserved g c =
     }
 
 pub returns-clause-found : goal.returns-clause-found
-returns-clause-found g c m level tells =
-    let waiting = c.search.waiting in
-    let cases = subst (λ (o : Option Point). MatchOption o ((vec_len waiting ≡ 0) × (vec_len c.pop.new.self ≡ 0)) (λ _. vec_len c.pop.new.self + 1 ≡ vec_len waiting)) c.in_default.is c.pop.ensures.cases in
-    let none : waiting.items ≡ [] = nil_from_length waiting.items (omega (arith, cases.0, waiting.ok.0)) in
-    search_done (terrain m) level c.args.point (IsMarked c.search.marks) (subst (IsSearching (terrain m) level c.args.point (IsMarked c.search.marks)) none (c.search.invariant.searching m level tells))
+returns-clause-found g c m level tells = search (rules, vec_len, nil_from_length, search_done)

@@ -1,7 +1,7 @@
 use Rattle.std.proofs.Common.{rules, arith, inl, inr, ℤ, List, sym, ◌≡◌, ◌≤◌, ◌<◌, ◌+◌, ◌*◌, ◌-◌, ◌^◌, ℕ, pos, get_or, length, subst, ap, ◌∙◌, replicate}
 use Rattle.border_graph.proofs.Prelude.{Corner, IsReordered, Summary, TileGraph, cases_lt, summary_at, void}
 use Rattle.std.proofs.lemmas.List.{get_or-replicate, get_or_past, length-replicate}
-use Rattle.border_graph.proofs.MosaicGraphs.{IsGraphWith, no_graph, each_more, one_longer, are_reordered, whole_first}
+use Rattle.border_graph.proofs.MosaicGraphs.{IsGraphWith, no_graph, each_more, one_longer, whole_first}
 use Rattle.border_graph.proofs.mosaic_graph.MosaicGraph.new.Goals as goal
 
 room_is : (a nodes : ℕ) → nodes ≡ 1 + a + 0 → nodes < 2 ^ 32 → 1 + a < 2 ^ 32
@@ -37,11 +37,3 @@ invariant_of-result c =
     let none : (x : ℕ) → get_or c.in_ok-levels.levels.items x void ≡ void = λ x. subst (λ (l : List ℤ). get_or l x void ≡ void) (sym (c.in_ok-levels.ensures.items_if_clones_equal (λ y same. same))) (void_in c.in-Some.nodes x) in
     whole_first c.args.side c.loop-t.graphs.items summaries c.loop-t.t last below so.whole so.graphs c.loop-t.corners.items c.in_ok-levels.levels.items so.many so.places
     (room_is (length summaries * (4 * (c.args.side - 1))) c.in-Some.nodes at fits) none
-
-pub returns-clause-summaries : goal.returns-clause-summaries
-returns-clause-summaries c =
-    let so = c.loop-t.invariant in
-    let summaries = c.args.summaries.now in
-    let last : length summaries ≤ c.loop-t.t = (let done = c.loop-t-test.false in search rules) in
-    let below : c.loop-t.t ≤ length summaries = search rules in
-    are_reordered c.args.side c.loop-t.graphs.items summaries c.loop-t.t last below so.whole so.graphs

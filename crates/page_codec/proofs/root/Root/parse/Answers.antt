@@ -1,5 +1,5 @@
-use Rattle.page_codec.proofs.Prelude.{AreNumbers, AreSinks, Format, IsSide, RootValue, Version, ℕ, ap, arith, is_all_zero, subst, sym, true, ◌∙◌, ◌≡◌}
-use Rattle.page_codec.proofs.Bodies.{HasRoom, Splits, side_known, parts_at, body_is, numbers_from, format_in, body_from_parts}
+use Rattle.page_codec.proofs.Prelude.{AreNumbers, AreSinks, Format, RootValue, Version, ℕ, ap, arith, is_all_zero, subst, sym, true, ◌∙◌, ◌≡◌}
+use Rattle.page_codec.proofs.Bodies.{HasRoom, Splits, parts_at, body_is, numbers_from, format_in, body_from_parts}
 use Rattle.page_codec.proofs.root.Root.parse.Goals as goal
 
 pub returns-then-not-is_zero-clause-none : goal.returns-then-not-is_zero-clause-none
@@ -26,13 +26,6 @@ returns-in_err-entries-clause-none c = rw c.from_residual-in_err-entries.ensures
     let is = body_is h _ _ _ _ _ _ r room parts rules spelled in
     c.in_err-entries.ensures.none r.entries (sym is.same.tiles_are) rules.entries rules.in_order is.entries_are)
 
-pub read_sinks-requires : goal.read_sinks-requires
-read_sinks-requires c = record {
-  side = subst IsSide (sym c.side.ensures.value) (side_known c.in_ok-format.format c.side.ensures.rules);
-  count = c.in_ok-format.ensures.0.few;
-  bytes = omega arith;
-}
-
 pub returns-in_err-sinks-clause-none : goal.returns-in_err-sinks-clause-none
 returns-in_err-sinks-clause-none c = rw c.from_residual-in_err-sinks.ensures (λ r rules version spelled.
     let h = c.split.result.0 in
@@ -41,18 +34,6 @@ returns-in_err-sinks-clause-none c = rw c.from_residual-in_err-sinks.ensures (λ
     let is = body_is h _ _ _ _ _ _ r room parts rules spelled in
     let side : r.side ≡ c.side.result = sym (c.side.ensures.value ∙ ap (λ (f : Format). f.side) c.in_ok-format.ensures.1 ∙ is.same.side_is) in
     c.in_err-sinks.ensures.none r.sinks (sym is.same.sinks_are) (subst (λ (n : ℕ). AreSinks n r.sinks) side rules.sinks) is.sinks_are)
-
-pub invariant_of-result : goal.invariant_of-result
-invariant_of-result c =
-    let h = c.split.result.0 in
-    let free : is_all_zero c.split_at.result.0.now ≡ true = cc in
-    let entries = c.in_ok-entries.ensures in
-    let sinks = c.in_ok-sinks.ensures in
-    let parts : Splits _ _ _ _ c.split_at-2.result.0.now c.split_at-2.result.1.now h = record { whole = c.requires.body; numbers = c.split.ensures.parts; free_bytes = c.split_at.ensures.by_index.0; free_len = c.split_at.ensures.front_len; rooms = c.split_at-2.ensures.by_index.0; entries_len = c.split_at-2.ensures.front_len } in
-    let side : c.side.result ≡ h.side = c.side.ensures.value ∙ ap (λ (f : Format). f.side) c.in_ok-format.ensures.1 in
-    let points = subst (λ (n : ℕ). AreSinks n c.in_ok-sinks.sinks.items) side sinks.sinks in
-    let made = ap (λ (f : Format). let r : RootValue = record { version = f.version; side = f.side; capacity = f.capacity; number = h.number; count = h.count; sinks = c.in_ok-sinks.sinks.items; entries = c.in_ok-entries.entries.items } in r) c.in_ok-format.ensures.1 in
-    (body_from_parts c.args.version h _ _ _ _ _ _ _ _ c.in_ok-format.ensures.0 parts free entries.len entries.each entries.in_order entries.spelled sinks.len points sinks.spelled _ made).0
 
 pub returns-clause-found : goal.returns-clause-found
 returns-clause-found c =

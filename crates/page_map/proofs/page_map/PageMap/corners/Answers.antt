@@ -1,4 +1,4 @@
-use Rattle.page_map.proofs.Prelude.{Corner, Entry, List, PageMapValue, TileLocation, ap, append-nil, ap₂, arith, corners_of_locations, is_some, length, length-map, rules, staged_tile, staged_tiles, subst, sym, ◌++◌, ◌∙◌, ◌∷◌, ◌≡◌, ◌≤◌}
+use Rattle.page_map.proofs.Prelude.{Corner, Entry, List, PageMapValue, TileLocation, ap, arith, corners_of_locations, is_some, length, length-map, staged_tile, staged_tiles, subst, sym, ◌++◌, ◌∙◌, ◌∷◌, ◌≡◌, ◌≤◌}
 use Rattle.page_map.proofs.Listing.{located_more, located_room, located_same, some_alike}
 use Rattle.page_map.proofs.page_map.PageMap.corners.Goals as goal
 use Rattle.page_map.proofs.page_map.PageMap.corners.Goals.{After-is_some, In-None}
@@ -21,11 +21,6 @@ few c =
     subst (λ (v : PageMapValue). length (corners_of_locations v.staged) ≤ v.format.capacity) c.self.view_is
     (omega (arith, c.self.invariant.staged_room, length-map (staged_tiles c.self.inside.entries.entries) (λ (t : TileLocation). t.corner)))
 
-pub loop-corner-init : goal.loop-corner-init
-loop-corner-init c =
-    let start : c.into_iter-corner-iterator.result ≡ c.self.inside.entries.entries = search rules in
-    ap₂ (λ (xs : List Corner) (es : List Entry). xs ++ corners_of_locations (staged_tiles es)) c.new-corners.ensures start ∙ ap (λ (v : PageMapValue). corners_of_locations v.staged) c.self.view_is
-
 pub push-requires : goal.push-requires
 push-requires c =
     let at = (goal.at.push-requires c).After-is_some in
@@ -43,14 +38,3 @@ pub loop-corner-preserved : goal.loop-corner-preserved
 loop-corner-preserved c =
     let at = (goal.at.loop-corner-preserved c).After-is_some in
     located_same c.loop-corner.corners.items (all at) (here at) c.next.new.self (so_far at) (tested at ∙ c.if-is_some.false)
-
-listed : (c : In-None) → c.loop-corner.corners.items ≡ corners_of_locations c.args.self.now.staged
-listed c =
-    sym (append-nil c.loop-corner.corners.items)
-    ∙ subst (λ (l : List Entry). c.loop-corner.corners.items ++ corners_of_locations (staged_tiles l) ≡ corners_of_locations c.args.self.now.staged) c.in-None.ensures.steps.0 c.loop-corner.invariant
-
-pub returns-clause-value : goal.returns-clause-value
-returns-clause-value c = listed c
-
-pub returns-clause-room : goal.returns-clause-room
-returns-clause-room c = omega (arith, ap length (listed c), few c)

@@ -3,7 +3,7 @@ use Rattle.page_map.proofs.Refused.{ended_with}
 use Rattle.page_map.specs.Upgraded.{IsUpgraded, data_of, listings}
 use Rattle.page_map.proofs.Clean.{none_fresh}
 use Rattle.page_map.proofs.Room.{room_to_upgrade}
-use Rattle.page_map.proofs.UpgradedTiles.{all_before, data_more, fresh_listings, left_after, no_more, room_below, room_next, rule, taken_more}
+use Rattle.page_map.proofs.UpgradedTiles.{all_before, data_more, fresh_listings, left_after, room_below, room_next, rule, taken_more}
 use Rattle.page_map.proofs.page_map.PageMap.upgraded.Goals as goal
 
 pub upgraded_planes-requires-clause-room : goal.upgraded_planes-requires-clause-room
@@ -86,26 +86,6 @@ loop-corner-preserved-in-Some-committed c =
           (taken_more format entries free c.self.invariant clean made c.in-Some.corner.now c.in-Some.entry.now c.next.new.self alike c.in-Some-committed.heights c.in-Some-committed.is new same c.loop-corner.free c.upgraded_planes.new.free here.taken c.in_ok-planes.ensures.taken);
       left = subst (λ (x : PageMapValue). len free.free ≤ len c.upgraded_planes.new.free.free + 3 * (1 + index_pages_of c.upgraded-format.result) * length x.committed) (sym loaded)
           (left_after format entries free c.self.invariant clean made c.in-Some.corner.now c.in-Some.entry.now c.next.new.self alike c.in-Some-committed.heights c.in-Some-committed.is new same (3 * (1 + index_pages_of c.upgraded-format.result)) (len c.loop-corner.free.free) (len c.upgraded_planes.new.free.free) here.left c.in_ok-planes.ensures.left);
-    }
-
-pub loop-corner-preserved : goal.loop-corner-preserved
-loop-corner-preserved c =
-    let format = c.self.inside.format in
-    let entries = c.self.inside.entries.entries in
-    let free = c.self.inside.free in
-    let clean : staged_tiles entries ≡ committed_tiles entries = subst (λ (v : PageMapValue). v.staged ≡ v.committed) (sym c.self.view_is) c.requires.clean in
-    let made = c.loop-corner.page_map.committed in
-    let alike = subst (λ (l : List Entry). map data_of made ++ map data_of (committed_tiles l) ≡ map data_of (committed_tiles entries)) c.in-Some.ensures.steps c.loop-corner.invariant.alike in
-    let here = c.loop-corner.invariant in
-    record {
-      rules = here.rules;
-      sectors = here.sectors;
-      format = here.format;
-      clean = here.clean;
-      alike = no_more format entries free c.self.invariant clean made c.in-Some.corner.now c.in-Some.entry.now c.next.new.self alike c.in_default.is;
-      sound = (subst (λ (l : List Entry). AllByRecursion (IsSound format) l) c.in-Some.ensures.steps here.sound).1;
-      taken = here.taken;
-      left = here.left;
     }
 
 pub returns-clause-upgraded : goal.returns-clause-upgraded

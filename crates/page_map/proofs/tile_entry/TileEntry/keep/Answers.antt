@@ -5,12 +5,6 @@ use Rattle.page_map.proofs.PlaneChanges.{nil_parts, taken_balanced, taken_fresh}
 use Rattle.page_map.proofs.tile_entry.TileEntry.keep.Goals as goal
 use Rattle.page_map.proofs.tile_entry.TileEntry.keep.Goals.{In-Ok}
 
-pub fresh_plane-requires : goal.fresh_plane-requires
-fresh_plane-requires c = omega (arith, c.requires.room, c.index_pages-index_pages.ensures, c.data_pages-pages.ensures.value)
-
-pub fresh_plane-requires-2 : goal.fresh_plane-requires-2
-fresh_plane-requires-2 c = omega (arith, c.requires.room, c.in_ok-levels.ensures.left, c.index_pages-index_pages.ensures, c.data_pages-pages.ensures.value)
-
 module _ (c : In-Ok) where
   kept_in_use : AreInUse (used_in c.args.self.now.levels ++ used_in c.args.self.now.labels) c.args.free.now
   kept_in_use = in_use-last (used_in c.args.self.now.heights) (used_in c.args.self.now.levels ++ used_in c.args.self.now.labels) c.args.free.now c.requires.in_use

@@ -1,4 +1,4 @@
-use Rattle.page_map.proofs.Prelude.{[], fresh_in, fresh_kept, refl}
+use Rattle.page_map.proofs.Prelude.{[], fresh_in, fresh_kept}
 use Rattle.page_map.proofs.FreeTimes.{in_use-first, rest_in_use_still, given-append}
 use Rattle.page_map.proofs.tile_entry.TileEntry.remove.Goals as goal
 
@@ -7,9 +7,6 @@ restage-requires c = in_use-first (fresh_in c.args.self.now.heights) (fresh_kept
 
 pub drop_kept-requires : goal.drop_kept-requires
 drop_kept-requires c = rest_in_use_still (fresh_in c.args.self.now.heights) [] (fresh_kept c.args.self.now) c.args.free.now c.restage.new.free c.restage.ensures.given c.requires
-
-pub returns-clause-removed : goal.returns-clause-removed
-returns-clause-removed c = rw (c.drop_kept.ensures.dropped, c.restage.ensures.staged) refl
 
 pub returns-clause-given : goal.returns-clause-given
 returns-clause-given c = given-append (fresh_in c.args.self.now.heights) (fresh_kept c.args.self.now) c.args.free.now c.restage.new.free _ c.restage.ensures.given c.drop_kept.ensures.given

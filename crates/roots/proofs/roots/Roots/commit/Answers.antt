@@ -6,14 +6,9 @@ use Rattle.roots.specs.Roots.{IsReady}
 use Rattle.roots.specs.Slots.{IsAt, KeepsAll}
 use Rattle.roots.specs.Found.{HasMoved}
 use Rattle.roots.proofs.Answered.{noted_ok, noted_works}
-use Rattle.roots.proofs.Begun.{begun_for_root}
 use Rattle.roots.proofs.Filled.{committing, committed}
 use Rattle.roots.proofs.roots.Roots.commit.Goals as goal
 use Rattle.roots.proofs.roots.Roots.commit.Goals.{After-noted}
-
-pub returns-in_err-begin-clause-any_moment : goal.returns-in_err-begin-clause-any_moment
-returns-in_err-begin-clause-any_moment g c honest ready =
-    begun_for_root g.D.Disk c.args.self.now.disk c.begin.new.self.disk c.args.self.now.root (c.begin.ensures.any_moment honest ready) c.args.root.now
 
 -- the slot is filled
 leaves : (g : _) (c : After-noted g) (honest : g.D.Disk.honest c.fill_slot-answer.new.disk) (ready : IsReady g.D.Disk c.args.self.now)

@@ -3,14 +3,10 @@ use Rattle.disk.specs.Disk.{Image, TornAt}
 use Rattle.disk.specs.Stops.{LeavesOnly, by_call}
 use Rattle.page_codec.specs.Roots.{RootValue}
 use Rattle.roots.specs.Slots.{KeepsBut}
-use Rattle.roots.proofs.Begun.{begun_for_page, then_written}
+use Rattle.roots.proofs.Begun.{then_written}
 use Rattle.roots.proofs.Answered.{noted_works}
 use Rattle.roots.proofs.Turns.{page_torn, page_kept}
 use Rattle.roots.proofs.roots.Roots.write.Goals as goal
-
-pub returns-in_err-begin-clause-any_moment : goal.returns-in_err-begin-clause-any_moment
-returns-in_err-begin-clause-any_moment g c honest ready =
-    begun_for_page g.D.Disk c.args.self.now.disk c.begin.new.self.disk c.args.self.now.root (c.begin.ensures.any_moment honest ready) c.args.p
 
 pub returns-clause-any_moment : goal.returns-clause-any_moment
 returns-clause-any_moment g c honest ready =

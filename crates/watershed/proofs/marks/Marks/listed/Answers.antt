@@ -1,3 +1,4 @@
+use Rattle.std.proofs.Common.{rules}
 use Rattle.watershed.proofs.Prelude.{Some, ℕ, ap, cases_Bool, false, inl, inr, is_at, nat_cmp, sym, ◌∙◌, ◌≡◌, ◌≢◌}
 use Rattle.std.specs.Option.{option_copied}
 use Rattle.watershed.proofs.Marked.{found_at, words_stay, indexed_more}
@@ -5,10 +6,7 @@ use Rattle.watershed.proofs.marks.Marks.listed.Goals as goal
 
 -- another number is kept apart
 apart : (number q : ℕ) → q ≢ number → is_at (nat_cmp number) q ≡ false
-apart number q other = elim (cases_Bool (is_at (nat_cmp number) q)) [
-  | inl this ↦ absurd (other (sym (found_at number q this)))
-  | inr far ↦ far
-]
+apart number q other = search (rules, cases_Bool, is_at, nat_cmp, found_at)
 
 pub returns-clause-same : goal.returns-clause-same
 returns-clause-same c =
