@@ -1,4 +1,5 @@
 -- Reads, and a question after them, are a question.
+use Rattle.std.proofs.Common.{rules}
 use Rattle.std.proofs.Common.{◌≡◌, ◌≢◌, ℕ, ◌⊎◌, inl, inr, Result, Ok, Err, refl, sym, ◌∙◌, ap, subst}
 use Rattle.std.specs.Prelude.{IsOk, IfErr, OnOk, IsErrOf}
 use Rattle.catalogue.proofs.Prelude.{Ghosts, MayRefuse, OnlyReads, Refusal, reads_of}
@@ -37,13 +38,7 @@ module _ {S : Type 0} (g : Ghosts S) where
   -- a question after reads that were answered
   pub asked_on : {T U : Type 0} (keeps_on : (a b c : S) → g.keeps a b → g.keeps b c → g.keeps a c) (a b c : S) (x : T) (result : Result U Refusal)
       → OnlyReads {T = T} g a b (Ok x) → Asked g b c result → Asked g a c result
-  asked_on keeps_on a b c x result first then_ = record {
-    read = then_.read;
-    reads = reads_on g keeps_on a b c x then_.read first then_.reads;
-    passed = then_.passed;
-    own = then_.own;
-    sound = λ honest ready. then_.sound honest (first.ready ready);
-  }
+  asked_on keeps_on a b c x result first then_ = search rules
 
   -- a call that is refused for want of memory, or as a read of it was
   pub asked_by_reads : {T : Type 0} (a b : S) (before now : ℕ) (result : Result T Refusal) → OnlyReads g a b (reads_of result) → IfErr result (λ r. (r ≡ NoMemory) ⊎ MayRefuse before now r)

@@ -1,4 +1,5 @@
 -- The heights of a tile's points, and what is adjacent to them, depend on the tile and its neighbours alone.
+use Rattle.std.proofs.Common.{rules}
 use Rattle.std.proofs.Common.{◌≡◌, ℕ, zero, suc, ◌+◌, ◌-◌, ◌*◌, ◌<◌, ◌≤◌, ◌⊎◌, inl, inr, ℤ, pos, ◌+ℤ◌, ◌-ℤ◌, ◌*ℤ◌, nat_abs, Bool, true, false, cond, not, ◌&&◌, ◌||◌, IsTrue, List, [], ◌∷◌, map, Option, Some, None, refl, sym, ◌∙◌, ap, ap₂, subst, arith}
 use Rattle.catalogue.proofs.Prelude.{AllAfter, Corner, Dir, Height, IsMosaic, Mosaic, Point, Rising, Tile, after_from, after_later, by_lt_z, by_seam_rule, count_by, directions, filter, height_of, holds_is, ints, is_before, is_corner, list_any, nat_lt, point_of_held, rising-filter, same_corner, same_from, same_says, sample_at, samples_among, samples_of, step}
 use Rattle.std.proofs.Math.Path.{fun_ext}
@@ -79,12 +80,7 @@ same_tiles (x ∷ xs) (y ∷ ys) xr yr same = by (same_corner x.corner y.corner)
         sym (ap (λ b. cond b (Some x.samples) (samples_among xs d)) other) ∙ same d ∙ ap (λ b. cond b (Some y.samples) (samples_among ys d)) other_too
 
     heads : x.corner ≡ y.corner → x ≡ y
-    heads corners =
-        let first = first_among x xs in
-        let second : samples_among (y ∷ ys) x.corner ≡ Some y.samples = ap (samples_among (y ∷ ys)) corners ∙ first_among y ys in
-        let here = same x.corner in
-        let samples : x.samples ≡ y.samples = cc in
-        ap₂ (λ (c : Corner) (l : List ℤ). record { corner = c; samples = l }) corners samples
+    heads corners = search rules
 
     by : (b : Bool) → same_corner x.corner y.corner ≡ b → (a : Bool) → is_before x.corner y.corner ≡ a → (((d : Corner) → samples_among xs d ≡ samples_among ys d) → xs ≡ ys) → x ∷ xs ≡ y ∷ ys
     by true here a _ rest =

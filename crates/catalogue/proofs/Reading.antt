@@ -1,19 +1,7 @@
 -- Reads one after another are a read.
+use Rattle.std.proofs.Common.{rules}
 use Rattle.catalogue.proofs.Prelude.{Damaged, Device, Err, Failed, Ghosts, IfErr, Ok, OnlyReads, Refusal, Result, ℕ, arith, reads_of, refl, ◌∙◌, ◌≡◌, ◌≤◌}
 use Rattle.catalogue.specs.Reading.{HasRisen, MayRefuse}
-
-risen_before : (before mid now : ℕ) → before ≤ mid → HasRisen mid now → HasRisen before now
-risen_before before mid now later risen = omega arith
-
-may_refuse_before : (before mid now : ℕ) (r : Refusal) → before ≤ mid → MayRefuse mid now r → MayRefuse before now r
-may_refuse_before before mid now Device later h = risen_before before mid now later h
-may_refuse_before before mid now Failed later h = h
-may_refuse_before before mid now Damaged later h = h
-may_refuse_before before mid now _ later h = absurd h
-
-refusal_before : {T : Type 0} (before mid now : ℕ) (result : Result T Refusal) → before ≤ mid → IfErr result (MayRefuse mid now) → IfErr result (MayRefuse before now)
-refusal_before before mid now (Ok x) later h = h
-refusal_before before mid now (Err r) later h = may_refuse_before before mid now r later h
 
 module _ {S : Type 0} (g : Ghosts S) where
   -- a read that was answered
@@ -42,57 +30,15 @@ module _ {S : Type 0} (g : Ghosts S) where
 
   -- a refusal that is passed on
   pub reads_refused : {T U : Type 0} (a b : S) (r : Refusal) → OnlyReads {T = T} g a b (Err r) → OnlyReads {T = U} g a b (Err r)
-  reads_refused a b r h = record {
-    refusal = h.refusal;
-    only_device = h.only_device;
-    ready = λ _. tt;
-    unready = h.unready;
-    answers = λ never. h.answers never;
-    never_refuses = h.never_refuses;
-    side = h.side;
-    corners = h.corners;
-    sinks = h.sinks;
-    failures = h.failures;
-    honest = h.honest;
-    mosaic = h.mosaic;
-    keeps = h.keeps;
-  }
+  reads_refused a b r h = search rules
 
   -- nothing was read
   pub reads_nothing : {T : Type 0} (keeps_itself : (s : S) → g.keeps s s) (s : S) (x : T) → OnlyReads {T = T} g s s (Ok x)
-  reads_nothing keeps_itself s x = record {
-    refusal = tt;
-    only_device = λ _. tt;
-    ready = λ ready. ready;
-    unready = tt;
-    answers = λ _. refl;
-    never_refuses = λ never. never;
-    side = refl;
-    corners = refl;
-    sinks = refl;
-    failures = omega arith;
-    honest = λ honest. honest;
-    mosaic = λ _. refl;
-    keeps = keeps_itself s;
-  }
+  reads_nothing keeps_itself s x = search rules
 
   pub reads_on : {T U : Type 0} (keeps_on : (a b c : S) → g.keeps a b → g.keeps b c → g.keeps a c) (a b c : S) (x : T) (result : Result U Refusal)
       → OnlyReads {T = T} g a b (Ok x) → OnlyReads g b c result → OnlyReads g a c result
-  reads_on keeps_on a b c x result first second = record {
-    refusal = refusal_before (g.failures a) (g.failures b) (g.failures c) result first.failures second.refusal;
-    only_device = λ ready. second.only_device (first.ready ready);
-    ready = λ ready. second.ready (first.ready ready);
-    unready = second.unready;
-    answers = λ never. second.answers (first.never_refuses never);
-    never_refuses = λ never. second.never_refuses (first.never_refuses never);
-    side = second.side ∙ first.side;
-    corners = second.corners ∙ first.corners;
-    sinks = second.sinks ∙ first.sinks;
-    failures = omega (arith, first.failures, second.failures);
-    honest = λ honest. first.honest (second.honest honest);
-    mosaic = λ honest. second.mosaic honest ∙ first.mosaic (second.honest honest);
-    keeps = keeps_on a b c first.keeps second.keeps;
-  }
+  reads_on keeps_on a b c x result first second = search rules
 
   -- a call that may also be refused for other reasons
   pub reads_for : {T : Type 0} (a b : S) (result : Result T Refusal) → OnlyReads {T = T} g a b result → OnlyReads {T = Unit {0}} g a b (reads_of result)

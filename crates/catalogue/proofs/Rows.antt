@@ -1,4 +1,5 @@
 -- The corners one after another, row by row from the south.
+use Rattle.std.proofs.Common.{rules}
 use Rattle.std.proofs.Common.{◌≡◌, ℤ, pos, negsuc, ◌+ℤ◌, ◌≤ℤ◌, ◌<ℤ◌, Bool, true, false, cond, ◌&&◌, ◌||◌, IsTrue, List, [], ◌∷◌, ◌++◌, refl, sym, ◌∙◌, ap, ap₂, subst, arith, inl, inr}
 use Rattle.catalogue.proofs.Prelude.{All, All-head, All-tail, AllAfter, Corner, None, Option, Rising, Some, after_later, and_parts, by_lt_z, corners_before, false_from_ne_true, filter, int_le, ints, is_before, is_corner, is_listed, same_corner, same_tests, to_z-of_z}
 use mir.Syntax.{w16}
@@ -8,11 +9,7 @@ use Rattle.lattice.proofs.CornerOrder.{Below, before_says, before_from, same_say
 use Rattle.catalogue.proofs.Holders.{itself, not_listed}
 
 pub corner_range : (c : Corner) → IsTrue (is_corner c) → (negsuc 89 ≤ℤ c.lat) × (c.lat ≤ℤ pos 89) × (negsuc 179 ≤ℤ c.lon) × (c.lon ≤ℤ pos 179)
-corner_range c corner =
-    let three = and_parts (int_le (negsuc 89) c.lat && int_le c.lat (pos 89) && int_le (negsuc 179) c.lon) (int_le c.lon (pos 179)) corner in
-    let two = and_parts (int_le (negsuc 89) c.lat && int_le c.lat (pos 89)) (int_le (negsuc 179) c.lon) three.0 in
-    let one = and_parts (int_le (negsuc 89) c.lat) (int_le c.lat (pos 89)) two.0 in
-    (le_true _ _ one.0, le_true _ _ one.1, le_true _ _ two.1, le_true _ _ three.1)
+corner_range c corner = search rules
 
 abbrev pub corner_at : ℤ → ℤ → Corner
 corner_at lat lon = record { lat = lat; lon = lon }

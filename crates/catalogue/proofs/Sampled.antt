@@ -1,4 +1,5 @@
 -- What a read of a sample gives.
+use Rattle.std.proofs.Common.{rules}
 use Rattle.catalogue.proofs.Prelude.{AreSamplesOf, Corner, IsSampleOf, IsSomeAnd, List, Mosaic, Option, Some, ℕ, ℤ, drop, get_or, length, refl, samples_of, slice_get, slice_range, subst, sym, take, ◌+◌, ◌-◌, ◌<◌, ◌≡◌}
 use Rattle.std.proofs.lemmas.Option.{slice_get_read}
 
@@ -9,5 +10,4 @@ sample_from m c i s samples found within read =
 -- what a part of a tile's samples gives, of the length that was asked for
 pub samples_from : (m : Mosaic) (c : Corner) (first count : ℕ) (part samples : List ℤ) → samples_of m c ≡ Some samples → length part ≡ count
     → part ≡ take (first + count - first) (drop first samples) → AreSamplesOf m c first part
-samples_from m c first count part samples found long is =
-    subst (λ (o : Option (List ℤ)). IsSomeAnd o (λ all. slice_range all first (first + length part) ≡ part)) (sym found) (rw long (sym is))
+samples_from m c first count part samples found long is = search rules

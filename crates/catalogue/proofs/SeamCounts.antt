@@ -1,4 +1,5 @@
 -- How many points disagree: counted tile by tile, each at the first present tile that holds it.
+use Rattle.std.proofs.Common.{rules}
 use Rattle.std.proofs.Common.{◌≡◌, ℕ, zero, suc, ◌+◌, ◌-◌, ◌*◌, ◌<◌, ℤ, pos, negsuc, ◌+ℤ◌, Bool, true, false, cond, ◌&&◌, ◌||◌, IsTrue, List, [], ◌∷◌, ◌++◌, length, map, refl, sym, ◌∙◌, ap, ap₂, subst, arith, add-one, add-zero, zero-add, inl, inr}
 use Rattle.std.specs.Prelude.{Some, None, Result, Ok, Err, IfOk, sum_by, count_by, All, nat_lt}
 use Rattle.catalogue.proofs.Prelude.{All-head, All-tail, AllAfter, Corner, Holds, IsMosaic, IsSeamCount, Mosaic, Point, Refusal, Rising, Tile, corners_before, corners_of, differ, disagrees, filter, holds, index_of, is_corner, is_listed, is_rim, point_of, rim_index, rim_number, same_comm, same_corner, same_from, same_point, same_says, sample_at}
@@ -26,8 +27,7 @@ rim_point m c k = point_of m.side c (rim_index m.side k)
 pub tile_step : (m : Mosaic) (c : Corner) (e count new : ℕ) (answer : Bool) → count ≡ own_seams_below m c e → answer ≡ is_own_seam m c (rim_point m c e)
     → new ≡ count + cond answer 1 0 → new ≡ own_seams_below m c (e + 1)
 unfolding own_seams_below
-tile_step m c e count new answer so_far told is =
-    rw add-one (is ∙ ap₂ (λ (n : ℕ) (b : Bool). n + cond b 1 0) so_far told)
+tile_step m c e count new answer so_far told is = search rules
 
 pub tile_start : (m : Mosaic) (c : Corner) → 0 ≡ own_seams_below m c 0
 unfolding own_seams_below

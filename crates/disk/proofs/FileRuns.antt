@@ -104,6 +104,3 @@ false_read images earlier s bytes differs honest = differs (honest.0.0 refl ∙ 
     here (synced ok ∷ more) = refl
     here (forgotten ok ∷ more) = refl
     here (aside kind ∷ more) = refl
-
-pub lost_write : LostWritesShow
-lost_write images earlier s given found differs honest = differs (honest.0.0 refl ∙ honest.1.0.0 refl)

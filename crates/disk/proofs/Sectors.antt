@@ -20,11 +20,6 @@ got_more [] more i h = cc
 got_more (call ∷ calls) more zero h = refl
 got_more (call ∷ calls) more (suc i) h = got_more calls more i h
 
-pub recorded_within : (calls : List Call) (i : ℕ) → is_write (slice_get calls i) ≡ true → i < length calls
-recorded_within [] i h = absurd (cc h)
-recorded_within (call ∷ calls) zero h = omega arith
-recorded_within (call ∷ calls) (suc i) h = omega (arith, recorded_within calls i h)
-
 newest : (calls : List Call) (call : Call) → slice_get (calls ++ call ∷ []) (length calls) ≡ Some call
 newest [] call = refl
 newest (first ∷ calls) call = newest calls call

@@ -1,4 +1,5 @@
 -- A value between the two edges of a tile, as a test, as two inequalities and as a number of steps.
+use Rattle.std.proofs.Common.{rules}
 use Rattle.std.proofs.Common.{◌≡◌, ℕ, suc, ◌*◌, ◌≤◌, ℤ, pos, negsuc, ◌+ℤ◌, ◌-ℤ◌, ◌*ℤ◌, ◌≤ℤ◌, ◌<ℤ◌, int_le, nat_abs, IsTrue, IsFalse, arith, inl, inr}
 use Rattle.lattice.proofs.Prelude.{and_from, and_parts, cases_Bool, ints, is_along, mul-le-mul_left}
 use Rattle.lattice.proofs.IntTests.{le_true, le_from}
@@ -17,17 +18,10 @@ pub distance_is : (low v : ℤ) (k : ℕ) → v ≡ low +ℤ pos k → nat_abs (
 distance_is low v k e = grind (arith, ints)
 
 pub parts : (m : ℕ) (corner v : ℤ) → IsTrue (is_along (pos m) corner v) → ((corner *ℤ pos m) ≤ℤ v) × (v ≤ℤ (corner *ℤ pos m +ℤ pos m))
-parts m corner v e =
-    let both = and_parts (int_le (corner *ℤ pos m) v) (int_le v (corner *ℤ pos m +ℤ pos m)) e in
-    (le_true (corner *ℤ pos m) v both.0, le_true v (corner *ℤ pos m +ℤ pos m) both.1)
+parts m corner v e = search rules
 
 pub from_parts : (m : ℕ) (corner v : ℤ) → (corner *ℤ pos m) ≤ℤ v → v ≤ℤ (corner *ℤ pos m +ℤ pos m) → IsTrue (is_along (pos m) corner v)
-from_parts m corner v low high =
-    and_from (int_le (corner *ℤ pos m) v) (int_le v (corner *ℤ pos m +ℤ pos m)) (le_from (corner *ℤ pos m) v low) (le_from v (corner *ℤ pos m +ℤ pos m) high)
-
--- so many steps above the first edge, and no more than to the other
-pub from_steps : (m : ℕ) (corner v : ℤ) (k : ℕ) → k ≤ m → v ≡ corner *ℤ pos m +ℤ pos k → IsTrue (is_along (pos m) corner v)
-from_steps m corner v k small e = from_parts m corner v (omega (arith, ints)) (omega (arith, ints))
+from_parts m corner v low high = search rules
 
 pub steps : (m : ℕ) (corner v : ℤ) → IsTrue (is_along (pos m) corner v) → (k : ℕ) × ((k ≤ m) × (v ≡ corner *ℤ pos m +ℤ pos k))
 steps m corner v e =
@@ -37,16 +31,10 @@ steps m corner v e =
 
 -- below the first edge, or beyond the other
 pub outside_below : (m : ℕ) (corner v : ℤ) → v <ℤ (corner *ℤ pos m) → IsFalse (is_along (pos m) corner v)
-outside_below m corner v low = elim (cases_Bool (is_along (pos m) corner v)) [
-  | inl held ↦ let within = parts m corner v held in absurd (omega (arith, ints))
-  | inr out ↦ out
-]
+outside_below m corner v low = search rules
 
 pub outside_above : (m : ℕ) (corner v : ℤ) → (corner *ℤ pos m +ℤ pos m) <ℤ v → IsFalse (is_along (pos m) corner v)
-outside_above m corner v high = elim (cases_Bool (is_along (pos m) corner v)) [
-  | inl held ↦ let within = parts m corner v held in absurd (omega (arith, ints))
-  | inr out ↦ out
-]
+outside_above m corner v high = search rules
 
 -- the first edge of a tile, of any corner that fits its type
 pub first_within : (corner : ℤ) (m : ℕ) → negsuc 32767 ≤ℤ corner → corner ≤ℤ pos 32767 → m ≤ 3600 → (negsuc 117964799 ≤ℤ (corner *ℤ pos m)) × ((corner *ℤ pos m) ≤ℤ pos 117961200)

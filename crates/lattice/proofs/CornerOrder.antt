@@ -1,4 +1,5 @@
 -- The order of corners, and which two are the same.
+use Rattle.std.proofs.Common.{rules}
 use Rattle.lattice.proofs.Prelude.{Decides-int_eq, ℤ, and_from, and_parts, ap, ap₂, arith, by_lt_z, false, false_from_ne_true, false≢true, inl, inr, ints, or_cases, or_left, or_right, refl, sym, true, ◌&&◌, ◌<ℤ◌, ◌∙◌, ◌≡◌, ◌⊎◌}
 use Rattle.std.specs.Prelude.{int_lt}
 use Rattle.std.specs.Ordering.{int_eq, int_cmp, ordering_then, MatchOrdering}
@@ -13,13 +14,7 @@ abbrev pub Below : Corner → Corner → Type 0
 Below a b = (a.lat <ℤ b.lat) ⊎ ((a.lat ≡ b.lat) × (a.lon <ℤ b.lon))
 
 pub before_says : (a b : Corner) → is_before a b ≡ true → Below a b
-before_says a b e =
-    elim (or_cases (int_lt a.lat b.lat) (int_eq a.lat b.lat && int_lt a.lon b.lon) e) [
-      | inl below ↦ inl (lt_true a.lat b.lat below)
-      | inr level ↦
-          let both = and_parts (int_eq a.lat b.lat) (int_lt a.lon b.lon) level in
-          inr ((Decides-int_eq a.lat b.lat).0 both.0, lt_true a.lon b.lon both.1)
-    ]
+before_says a b e = search rules
 
 pub before_from : (a b : Corner) → Below a b → is_before a b ≡ true
 before_from a b (inl below) = or_left (int_lt a.lat b.lat) (int_eq a.lat b.lat && int_lt a.lon b.lon) (lt_from a.lat b.lat below)
@@ -28,9 +23,7 @@ before_from a b (inr level) =
     (and_from (int_eq a.lat b.lat) (int_lt a.lon b.lon) ((Decides-int_eq a.lat b.lat).1 level.0) (lt_from a.lon b.lon level.1))
 
 pub same_says : (a b : Corner) → same_corner a b ≡ true → a ≡ b
-same_says a b e =
-    let both = and_parts (int_eq a.lat b.lat) (int_eq a.lon b.lon) e in
-    ap₂ (λ (y x : ℤ). record { lat = y; lon = x }) ((Decides-int_eq a.lat b.lat).0 both.0) ((Decides-int_eq a.lon b.lon).0 both.1)
+same_says a b e = search rules
 
 pub same_from : (a b : Corner) → a ≡ b → same_corner a b ≡ true
 same_from a b e = and_from (int_eq a.lat b.lat) (int_eq a.lon b.lon) ((Decides-int_eq a.lat b.lat).1 (ap (λ (c : Corner). c.lat) e)) ((Decides-int_eq a.lon b.lon).1 (ap (λ (c : Corner). c.lon) e))

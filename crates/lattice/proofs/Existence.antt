@@ -1,5 +1,6 @@
 -- A point of a finite terrain that has a path to an outlet has a filled level: for each level it can be found out
 -- whether a path of no greater crest leads out, by marking points until no more are added.
+use Rattle.std.proofs.Common.{rules}
 use Rattle.lattice.proofs.Prelude.{Bool, IsFilledLevel, IsLawful, IsTrue, LeadsOut, List, Terrain, ℕ, ℤ, [], ap, arith, cond, crest, false, inl, inr, int_le, ints, length, list_any, nat_abs, not, pos, refl, suc, sym, true, true≢false, zero, ⊎_elim, ◌&&◌, ◌+◌, ◌-ℤ◌, ◌<ℤ◌, ◌<◌, ◌||◌, ◌∙◌, ◌∷◌, ◌≡◌, ◌≤ℤ◌, ◌≤◌, ◌⊎◌}
 use Rattle.std.proofs.lemmas.Bool.{cases_Bool, and_parts, and_from, or_cases, or_left, or_right, not-true}
 use Rattle.lattice.proofs.IntTests.{le_true, le_from, le_or_above}
@@ -75,14 +76,7 @@ module _ {P : Type 0} (t : Terrain P) (law : IsLawful t) (points : List P)
 
     start_is_sound : IsSound lower_outlet
     unfolding lower_outlet
-    start_is_sound = record {
-      sound = λ x h. let parts = and_parts (t.is_outlet x) (int_le (t.height x) low) h in record {
-        rest = [];
-        out = record { path = law.outlet_ground x parts.0; outlet = parts.0 };
-        below = le_true (t.height x) low parts.1;
-      };
-      outlets = λ x h. h;
-    }
+    start_is_sound = search rules
 
     expanded_is_sound : (marked : P → Bool) → IsSound marked → IsSound (expanded marked)
     unfolding expanded

@@ -1,4 +1,5 @@
 -- What the tests of whole numbers tell.
+use Rattle.std.proofs.Common.{rules}
 use Rattle.std.proofs.Common.{◌≡◌, ◌≢◌, ℤ, ◌≤ℤ◌, ◌<ℤ◌, ◌⊎◌, inl, inr, int_le, int_lt, true, false, true≢false, sym, ◌∙◌, arith}
 use Rattle.lattice.proofs.Prelude.{Decides-int_eq, cases_Bool, int_eq, ints}
 
@@ -30,10 +31,7 @@ pub int_eq-swap : (a b : ℤ) → int_eq a b ≡ int_eq b a
 int_eq-swap a b = grind (arith, ints)
 
 pub eq_or_not : (a b : ℤ) → (a ≡ b) ⊎ (a ≢ b)
-eq_or_not a b = elim (cases_Bool (int_eq a b)) [
-  | inl same ↦ inl (eq_true a b same)
-  | inr other ↦ inr (λ same. true≢false (sym (eq_from a b same) ∙ other))
-]
+eq_or_not a b = search rules
 
 pub le_or_above : (a b : ℤ) → (a ≤ℤ b) ⊎ (b <ℤ a)
 le_or_above a b = elim (cases_Bool (int_le a b)) [ inl le ↦ inl (le_true a b le) | inr above ↦ inr (le_false a b above) ]

@@ -1,5 +1,6 @@
 -- Points off the rim of a tile: there is a row above and below each, and a column on either side, and no other tile
 -- holds one.
+use Rattle.std.proofs.Common.{rules}
 use Rattle.lattice.proofs.Prelude.{Corner, Holds, IsIndexOf, IsSampleAt, Point, ℕ, ℤ, ap, ap₂, arith, div-mul-add, false, ints, is_rim, mod-mul-add, nat_eq, pos, subst, sym, ◌%◌, ◌*ℤ◌, ◌*◌, ◌+ℤ◌, ◌+◌, ◌-◌, ◌/◌, ◌<◌, ◌||◌, ◌∙◌, ◌≡◌, ◌≢◌, ◌≤◌}
 use Rattle.std.proofs.lemmas.Bool.{or_parts, eqb-false}
 use Rattle.lattice.proofs.Samples.{row_below, index_below}
@@ -13,17 +14,7 @@ pub record IsInner (n e : ℕ) : Type 0 where
   pub after : e % n + 2 ≤ n
 
 pub inner_if : (n e : ℕ) → 3 ≤ n → e < n * n → is_rim n e ≡ false → IsInner n e
-inner_if n e side small off =
-    let three = or_parts (nat_eq (e / n) 0 || nat_eq (e / n + 1) n || nat_eq (e % n) 0) (nat_eq (e % n + 1) n) off in
-    let two = or_parts (nat_eq (e / n) 0 || nat_eq (e / n + 1) n) (nat_eq (e % n) 0) three.0 in
-    let one = or_parts (nat_eq (e / n) 0) (nat_eq (e / n + 1) n) two.0 in
-    let row : e / n < n = row_below n e (omega arith) small in
-    let column : e % n < n = omega arith in
-    let north : e / n ≢ 0 = eqb-false (e / n) 0 one.0 in
-    let south : e / n + 1 ≢ n = eqb-false (e / n + 1) n one.1 in
-    let west : e % n ≢ 0 = eqb-false (e % n) 0 two.1 in
-    let east : e % n + 1 ≢ n = eqb-false (e % n + 1) n three.1 in
-    record { above = omega arith; below = omega arith; before = omega arith; after = omega arith }
+inner_if n e side small off = search rules
 
 -- a tile that holds a point inside the corner's tile is that tile
 pub inner_holder : (n : ℕ) (c d : Corner) (p : Point) (i j : ℕ) → IsSampleAt n c i j p → 0 < i → i < n - 1 → 0 < j → j < n - 1 → Holds n d p → d ≡ c

@@ -1,5 +1,6 @@
 -- The tiles that hold a point are among the four next to it: those kept of the four by the test are the holders, in
 -- the order of tiles.
+use Rattle.std.proofs.Common.{rules}
 use Rattle.std.proofs.Common.{◌≡◌, ◌∙◌, ℕ, ◌+◌, ◌-◌, ◌/◌, ◌<◌, ◌≤◌, ◌⊎◌, inl, inr, ℤ, pos, negsuc, ◌+ℤ◌, ◌*◌, ◌-ℤ◌, ◌*ℤ◌, ◌≤ℤ◌, ◌<ℤ◌, int_lt, ◌↔◌, Bool, true, IsTrue, ◌&&◌, List, [], ◌∷◌, ◌++◌, length, map, get_or, drop, refl, sym, ap, ap₂, append_assoc, append-nil, add-one, drop-cons, arith}
 use Rattle.std.specs.List.{Contains, AllPairs, AllAdjacentBelow, filter}
 use Rattle.lattice.proofs.Prelude.{Corner, Holds, IsBefore, Point, corner_at, holds, ints, is_along, is_corner}
@@ -35,8 +36,7 @@ around lat lon = crossing (lat -ℤ pos 1) lat (lon -ℤ pos 1) lon
 
 pub crossing_is : (south north west east lat lon : ℤ) → north ≡ lat → east ≡ lon → south ≡ lat -ℤ pos 1 → west ≡ lon -ℤ pos 1 →
     crossing south north west east ≡ around lat lon
-crossing_is south north west east lat lon n e s w =
-    ap₂ (λ (a b : ℤ). crossing a b west east) s n ∙ ap₂ (λ (a b : ℤ). crossing (lat -ℤ pos 1) lat a b) w e
+crossing_is south north west east lat lon n e s w = search rules
 
 unfoldable pub kept : ℕ → Point → List Degrees → List Corner
 kept n p cs = filter (is_held n p) (map corner_at cs)
@@ -99,30 +99,8 @@ kept_exactly n p lat lon side y_from y_to x_from x_to c = (
       contains_filtered (is_held n p) (map corner_at (around lat lon)) c here ((held_is n p c side).1 held),
 )
 
-before_by_lat : (a b : Corner) → a.lat <ℤ b.lat → IsBefore a b
-before_by_lat a b less = grind (arith, ints)
-
-before_by_lon : (lat west east : ℤ) → west <ℤ east → IsBefore (record { lat = lat; lon = west }) (record { lat = lat; lon = east })
-before_by_lon lat west east less = grind (arith, ints)
-
 around_rises : (lat lon : ℤ) → AllPairs IsBefore (map corner_at (around lat lon))
-around_rises lat lon =
-    let south_west : Corner = record { lat = lat -ℤ pos 1; lon = lon -ℤ pos 1 } in
-    let south_east : Corner = record { lat = lat -ℤ pos 1; lon = lon } in
-    let north_west : Corner = record { lat = lat; lon = lon -ℤ pos 1 } in
-    let north_east : Corner = record { lat = lat; lon = lon } in
-    let south : (lat -ℤ pos 1) <ℤ lat = omega (arith, ints) in
-    let west : (lon -ℤ pos 1) <ℤ lon = omega (arith, ints) in
-    AllPairs-cons IsBefore south_west (south_east ∷ north_west ∷ north_east ∷ [])
-    (All-cons (IsBefore south_west) south_east (north_west ∷ north_east ∷ []) (before_by_lon (lat -ℤ pos 1) (lon -ℤ pos 1) lon west)
-    (All-cons (IsBefore south_west) north_west (north_east ∷ []) (before_by_lat south_west north_west south)
-    (All-cons (IsBefore south_west) north_east [] (before_by_lat south_west north_east south) (All-nil (IsBefore south_west)))))
-    (AllPairs-cons IsBefore south_east (north_west ∷ north_east ∷ [])
-    (All-cons (IsBefore south_east) north_west (north_east ∷ []) (before_by_lat south_east north_west south)
-    (All-cons (IsBefore south_east) north_east [] (before_by_lat south_east north_east south) (All-nil (IsBefore south_east))))
-    (AllPairs-cons IsBefore north_west (north_east ∷ [])
-    (All-cons (IsBefore north_west) north_east [] (before_by_lon lat (lon -ℤ pos 1) lon west) (All-nil (IsBefore north_west)))
-    (AllPairs-cons IsBefore north_east [] (All-nil (IsBefore north_east)) (λ i j d _ small. absurd (omega arith)))))
+around_rises lat lon = search rules
 
 pub kept_in_order : (n : ℕ) (p : Point) (lat lon : ℤ) → AllAdjacentBelow IsBefore (kept n p (around lat lon)) (length (kept n p (around lat lon)))
 unfolding kept

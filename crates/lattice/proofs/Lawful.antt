@@ -1,4 +1,5 @@
 -- Adjacency is between ground points and goes both ways, and outlets are ground: on a mosaic and in a block.
+use Rattle.std.proofs.Common.{rules}
 use Rattle.lattice.proofs.Prelude.{Bool, IsLawful, IsTrue, List, Mosaic, Point, Tile, ℕ, ℤ, [], and_from, and_parts, ap, ap₂, arith, false, holds, ints, list_any, nat_abs, not, or_cases, refl, true, ⊎_elim, ◌%◌, ◌&&◌, ◌+◌, ◌-ℤ◌, ◌/◌, ◌||◌, ◌∙◌, ◌∷◌, ◌≡◌}
 use Rattle.std.specs.Prelude.{nat_lt, nat_le, nat_eq}
 use Rattle.std.proofs.lemmas.Bool.Decides.{nat_tests}
@@ -15,16 +16,10 @@ pub record AllFive (a b c d e : Bool) : Type 0 where
   pub fifth : e ≡ true
 
 pub five_parts : (a b c d e : Bool) → (a && b && c && d && e) ≡ true → AllFive a b c d e
-five_parts a b c d e h =
-    let one = and_parts (a && b && c && d) e h in
-    let two = and_parts (a && b && c) d one.0 in
-    let three = and_parts (a && b) c two.0 in
-    let four = and_parts a b three.0 in
-    record { first = four.0; second = four.1; third = three.1; fourth = two.1; fifth = one.1 }
+five_parts a b c d e h = search rules
 
 pub five_from : (a b c d e : Bool) → AllFive a b c d e → (a && b && c && d && e) ≡ true
-five_from a b c d e h =
-    and_from (a && b && c && d) e (and_from (a && b && c) d (and_from (a && b) c (and_from a b h.first h.second) h.third) h.fourth) h.fifth
+five_from a b c d e h = search rules
 
 nat_abs-swap : (a b : ℤ) → nat_abs (a -ℤ b) ≡ nat_abs (b -ℤ a)
 nat_abs-swap a b = omega (arith, ints)
@@ -60,9 +55,6 @@ terrain_is_lawful m = record {
   outlet_ground = λ p h. (and_parts (is_ground m p) _ h).0;
 }
 
-nat_eq-swap : (a b : ℕ) → nat_eq a b ≡ nat_eq b a
-nat_eq-swap a b = grind (arith, nat_tests)
-
 turned : (a b c d : Bool) → (a && b && c && d) ≡ (b && a && d && c)
 turned a b c d = ap₂ (λ x y. x && y) (ap₂ (λ x y. x && y) (and_comm a b) refl) refl ∙ rest (b && a)
   where
@@ -70,35 +62,15 @@ turned a b c d = ap₂ (λ x y. x && y) (ap₂ (λ x y. x && y) (and_comm a b) r
     rest true = and_comm c d
     rest false = refl
 
-beside-swap : (n e f : ℕ) → is_beside n e f ≡ is_beside n f e
-beside-swap n e f = turned (nat_le (e / n) (f / n + 1)) (nat_le (f / n) (e / n + 1)) (nat_le (e % n) (f % n + 1)) (nat_le (f % n) (e % n + 1))
-
 module _ (b : Block) where
   linked_parts : (e f : ℕ) → IsTrue (is_linked b e f) → AllFive (is_solid b e) (is_solid b f) (not (nat_eq e f)) (is_beside b.side e f) true
   linked_parts e f h = five_parts (is_solid b e) (is_solid b f) (not (nat_eq e f)) (is_beside b.side e f) true (and_from (is_linked b e f) true h refl)
 
   linked_both_ways : (e f : ℕ) → IsTrue (is_linked b e f) → IsTrue (is_linked b f e)
-  linked_both_ways e f h =
-      let parts = linked_parts e f h in
-      (and_parts (is_linked b f e) true (five_from (is_solid b f) (is_solid b e) (not (nat_eq f e)) (is_beside b.side f e) true
-      (record {
-        first = parts.second;
-        second = parts.first;
-        third = ap not (nat_eq-swap f e) ∙ parts.third;
-        fourth = beside-swap b.side f e ∙ parts.fourth;
-        fifth = refl;
-      }))).0
+  linked_both_ways e f h = search rules
 
   exit_is_solid : (e : ℕ) → IsTrue (is_exit b e) → IsTrue (is_solid b e)
-  exit_is_solid e h =
-      ⊎_elim (λ rim. (and_parts (is_solid b e) (is_rim b.side e) rim).0)
-      (λ inner. (and_parts (is_solid b e) (not (is_rim b.side e)) (and_parts (is_solid b e && not (is_rim b.side e)) _ inner).0).0)
-      (or_cases (is_solid b e && is_rim b.side e) (is_inner_outlet b e) h)
+  exit_is_solid e h = search rules
 
   pub block_is_lawful : IsLawful (block_terrain b)
-  block_is_lawful = record {
-    from_ground = λ e f h. (linked_parts e f h).first;
-    to_ground = λ e f h. (linked_parts e f h).second;
-    both_ways = linked_both_ways;
-    outlet_ground = exit_is_solid;
-  }
+  block_is_lawful = search rules

@@ -1,4 +1,5 @@
 -- Rim points and their numbers: each number below four times the side less one is that of one rim point.
+use Rattle.std.proofs.Common.{rules}
 use Rattle.std.proofs.Common.{◌≡◌, ◌≢◌, ℕ, ◌+◌, ◌*◌, ◌-◌, ◌/◌, ◌%◌, ◌<◌, ◌≤◌, inl, inr, cond, IsTrue, ◌||◌, refl, sym, ap, ap₂, ◌∙◌, subst, arith, nat_eq, nat_lt}
 use Rattle.std.proofs.lemmas.Bool.{cond-true, cond-false, eqb-true, ne_eqb, eq-eqb, or_cases, or_left, or_right, cases_lt, cases_eq, lt-ltb, le-ltb}
 use Rattle.lattice.specs.Block.{is_rim, rim_number}
@@ -14,12 +15,10 @@ module _ (n e : ℕ) where
   bottom_number later end = cond-false (nat_eq (e / n) 0) _ _ (ne_eqb (e / n) 0 later) ∙ cond-true (nat_eq (e / n + 1) n) _ _ (eq-eqb (e / n + 1) n end)
 
   west_number : e / n ≢ 0 → e / n + 1 ≢ n → e % n ≡ 0 → rim_number n e ≡ n + 2 * (e / n - 1)
-  west_number later more west = cond-false (nat_eq (e / n) 0) _ _ (ne_eqb (e / n) 0 later) ∙ (cond-false (nat_eq (e / n + 1) n) _ _ (ne_eqb (e / n + 1) n more)
-      ∙ (ap (λ c. n + 2 * (e / n - 1) + c) (cond-true (nat_eq (e % n) 0) 0 1 (eq-eqb (e % n) 0 west)) ∙ omega arith))
+  west_number later more west = search rules
 
   east_number : e / n ≢ 0 → e / n + 1 ≢ n → e % n ≢ 0 → rim_number n e ≡ n + 2 * (e / n - 1) + 1
-  east_number later more east = cond-false (nat_eq (e / n) 0) _ _ (ne_eqb (e / n) 0 later) ∙ (cond-false (nat_eq (e / n + 1) n) _ _ (ne_eqb (e / n + 1) n more)
-      ∙ ap (λ c. n + 2 * (e / n - 1) + c) (cond-false (nat_eq (e % n) 0) 0 1 (ne_eqb (e % n) 0 east)))
+  east_number later more east = search rules
 
 -- where a rim point with a number lies
 pub data Lies (n row column number : ℕ) : Type 0 where

@@ -1,14 +1,12 @@
 -- When two points are the same.
+use Rattle.std.proofs.Common.{rules}
 use Rattle.lattice.proofs.Prelude.{Decides-int_eq, Point, ℤ, and_from, and_parts, ap, ap₂, int_eq, same_point, true, ◌≡◌}
 
 pub same_place : (p q : Point) → p.y ≡ q.y → p.x ≡ q.x → p ≡ q
 same_place p q y x = ap₂ (λ (v u : ℤ). record { y = v; x = u }) y x
 
 pub same_point_says : (p q : Point) → same_point p q ≡ true → p ≡ q
-same_point_says p q e =
-    let both = and_parts (int_eq p.y q.y) (int_eq p.x q.x) e in
-    same_place p q ((Decides-int_eq p.y q.y).0 both.0) ((Decides-int_eq p.x q.x).0 both.1)
+same_point_says p q e = search rules
 
 pub same_point_from : (p q : Point) → p ≡ q → same_point p q ≡ true
-same_point_from p q e =
-    and_from (int_eq p.y q.y) (int_eq p.x q.x) ((Decides-int_eq p.y q.y).1 (ap (λ (r : Point). r.y) e)) ((Decides-int_eq p.x q.x).1 (ap (λ (r : Point). r.x) e))
+same_point_from p q e = search rules

@@ -1,8 +1,9 @@
 -- Samples, indices and points of one tile: each index of the tile is that of one point, and each point that the tile
 -- holds has one index.
+use Rattle.std.proofs.Common.{rules}
 use Rattle.lattice.proofs.Prelude.{Corner, Holds, IsIndexOf, IsSampleAt, IsTrue, Point, ℕ, ℤ, and_from, and_parts, ap, ap₂, arith, div-mul-add, holds, index_of, ints, is_along, is_corner, mod-mul-add, mul-add-lt, nat_abs, point_of, pos, refl, subst, sym, ◌%◌, ◌*ℤ◌, ◌*◌, ◌+ℤ◌, ◌+◌, ◌-ℤ◌, ◌-◌, ◌/◌, ◌<◌, ◌↔◌, ◌∙◌, ◌≡◌, ◌≤◌}
 use Rattle.std.proofs.lemmas.Grind.{rows}
-use Rattle.lattice.proofs.Along.{from_steps, steps, distance_is}
+use Rattle.lattice.proofs.Along.{steps, distance_is}
 
 -- the sample so many steps north and east of the south-west one
 pub sample_from : (n : ℕ) (c : Corner) (p : Point) (north east : ℕ) → 3 ≤ n → north ≤ n - 1 → east ≤ n - 1 →
@@ -11,13 +12,7 @@ sample_from n c p north east side north_in east_in y x = record { row = omega ar
 
 pub along_of_sample : (n : ℕ) (c : Corner) (p : Point) (i j : ℕ) → IsSampleAt n c i j p →
     IsTrue (is_along (pos (n - 1)) c.lat p.y) × IsTrue (is_along (pos (n - 1)) c.lon p.x)
-along_of_sample n c p i j s =
-    let row : i < n = s.row in
-    let column : j < n = s.column in
-    let y : p.y +ℤ pos i ≡ c.lat *ℤ pos (n - 1) +ℤ pos (n - 1) = s.y in (
-      from_steps (n - 1) c.lat p.y (n - 1 - i) (omega arith) (omega (arith, ints)),
-      from_steps (n - 1) c.lon p.x j (omega arith) s.x,
-    )
+along_of_sample n c p i j s = search rules
 
 pub along_of_holds : (n : ℕ) (c : Corner) (p : Point) → Holds n c p →
     IsTrue (is_along (pos (n - 1)) c.lat p.y) × IsTrue (is_along (pos (n - 1)) c.lon p.x)
@@ -93,8 +88,7 @@ point_of_held n c e some corner small = held_at n c (point_of n c e) e (index_of
 
 pub index_from : (n : ℕ) (c : Corner) (p : Point) (north east : ℕ) → 3 ≤ n → IsTrue (is_corner c) → north ≤ n - 1 → east ≤ n - 1 →
     p.y ≡ c.lat *ℤ pos (n - 1) +ℤ pos north → p.x ≡ c.lon *ℤ pos (n - 1) +ℤ pos east → IsIndexOf n c p ((n - 1 - north) * n + east)
-index_from n c p north east side corner north_in east_in y x =
-    record { corner = corner; sample = (n - 1 - north, east, (sample_from n c p north east side north_in east_in y x, refl)) }
+index_from n c p north east side corner north_in east_in y x = search rules
 
 -- there and back
 pub index_of_point_is : (n : ℕ) (c : Corner) (e : ℕ) → 0 < n → IsTrue (is_corner c) → e < n * n → index_of n c (point_of n c e) ≡ e

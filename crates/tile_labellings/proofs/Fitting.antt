@@ -1,4 +1,5 @@
 -- The marks of a valid labelling fit each other.
+use Rattle.std.proofs.Common.{rules}
 use Rattle.std.proofs.Common.{◌≡◌, ◌≢◌, inl, inr, ℕ, ◌+◌, ◌-◌, ◌*◌, ◌<◌, ◌≤◌, ℤ, ◌≤ℤ◌, IsTrue, List, [], ◌∷◌, ◌++◌, length, length-append, get_or, slice_index, Some, None, sym, ap, ◌∙◌, subst, arith, true≢false, nat_eq}
 use Rattle.std.proofs.lemmas.Bool.{cases_Bool, cases_lt, cond-true, cond-false, eqb-true, eqb-false}
 use Rattle.std.proofs.lemmas.Bool.Decides.{Decides-int_eq}
@@ -73,19 +74,7 @@ one_more_level n levels rim count e level low here is done = record {
 -- ---- a label that goes with some level goes with any
 
 pub any_level : (rim : List ℤ) (label : ℕ) (level other : ℤ) → level ≢ void → other ≢ void → raised_level rim level label ≢ None → raised_level rim other label ≢ None
-any_level rim label level other full full' some none = elim (cases_Bool (nat_eq label NO_LABEL)) [
-  | inl gap ↦ some (cond-true (nat_eq label NO_LABEL) _ _ gap ∙ cond-false (is_void level) _ _ (not_void level full))
-  | inr named ↦ elim (cases_Bool (nat_eq label OUT)) [
-    | inl out ↦ none_is_some (sym (raised_out rim other label (eqb-true label OUT out) full') ∙ none)
-    | inr inner ↦ elim (cases_Bool (is_void (get_or rim label void))) [
-      | inl gone ↦ some
-          (cond-false (nat_eq label NO_LABEL) _ _ named
-          ∙ (cond-false (is_void level) _ _ (not_void level full) ∙ (cond-false (nat_eq label OUT) _ _ inner ∙ cond-true (is_void (get_or rim label void)) _ _ gone)))
-      | inr there ↦ none_is_some
-          (sym (raised_over rim other label (eqb-false label NO_LABEL named) full' (eqb-false label OUT inner) (λ same. true≢false (sym ((Decides-int_eq (get_or rim label void) void).1 same) ∙ there))) ∙ none)
-    ]
-  ]
-]
+any_level rim label level other full full' some none = search rules
 
 -- one more point goes with its label
 pub one_more_fits : (rim levels : List ℤ) (labels : List ℕ) (k : ℕ) → raised_level rim (get_or levels k void) (slice_index labels k) ≢ None → ((e : ℕ) → e < k → raised_level rim (get_or levels e void) (slice_index labels e) ≢ None)

@@ -1,4 +1,5 @@
 -- A labelling stays that of its tile where a point changes its height below its level.
+use Rattle.std.proofs.Common.{rules}
 use Rattle.std.proofs.Common.{◌≡◌, ◌≢◌, ℕ, ◌*◌, ◌<◌, ℤ, ◌≤ℤ◌, ◌<ℤ◌, IsTrue, List, length, set, get_or, inl, inr, refl, sym, ap, ◌∙◌, subst, arith, nat_lt, lt-ltb, true≢false, get_or-set_same, get_or-set_other}
 use Rattle.std.specs.Prelude.{Contains}
 use Rattle.std.proofs.lemmas.Bool.{cases_Bool, cases_eq, and_from}
@@ -25,13 +26,7 @@ no_level was level less is none = absurd (omega (arith, ints))
 
 -- a point below its level is ground
 below_is_ground : (b : Block) (labelled : LabelledGround) (e : ℕ) → IsLabelling b labelled.levels labelled.labels → e < b.side * b.side → get_or b.heights e void <ℤ get_or labelled.levels e void → IsTrue (is_solid b e)
-below_is_ground b labelled e labelling small below = elim (cases_Bool (is_solid b e)) [
-  | inl solid ↦ solid
-  | inr gap ↦ absurd (elim (eq_or_not (get_or b.heights e void) void) [
-    | inl none ↦ no_level (get_or b.heights e void) (get_or labelled.levels e void) below none (labelling.void_points e small gap).0
-    | inr some ↦ true≢false (sym (and_from (nat_lt e (b.side * b.side)) (is_marked b.heights e) (lt-ltb e (b.side * b.side) small) (test_if (get_or b.heights e void) some)) ∙ gap)
-  ])
-]
+below_is_ground b labelled e labelling small below = search rules
 
 module _ (m new : Mosaic) (c : Corner) (e : ℕ) (differ : DifferAt c e m new) (labelled : LabelledGround) (is : IsFlooded m c labelled) where
   abbrev b : Block
@@ -44,14 +39,7 @@ module _ (m new : Mosaic) (c : Corner) (e : ℕ) (differ : DifferAt c e m new) (
   heights_of heights = (z : ℕ) → z < m.side * m.side → get_or heights z void ≡ metres (height_of new (point_of m.side c z))
 
   block_of_new : (heights : List ℤ) → length heights ≡ m.side * m.side → heights_of heights → IsBlockOf new c (block_of b.side heights b.sinks)
-  block_of_new heights whole values = record {
-    side = of_tile.side ∙ sym differ.side;
-    heights = record {
-      whole = whole ∙ ap (λ n. n * n) (sym differ.side);
-      values = subst (λ n. (z : ℕ) → z < n * n → get_or heights z void ≡ metres (height_of new (point_of n c z))) (sym differ.side) values;
-    };
-    sinks = subst (λ n. (z : ℕ) → z < n * n → is_sink_at b z ≡ is_sink new (point_of n c z)) (sym differ.side) (λ z small. of_tile.sinks z small ∙ sym (differ.sinks z small));
-  }
+  block_of_new heights whole values = search rules
 
   -- heights of the changed tile whose ground is the same, and which differ at the point alone
   pub record AreHeightsStill (heights : List ℤ) : Type 0 where

@@ -1,4 +1,5 @@
 -- A block whose labelling is mended: its heights are read anew one by one, and then it is that of its tile.
+use Rattle.std.proofs.Common.{rules}
 use Rattle.std.proofs.Common.{◌≡◌, ◌≢◌, ℕ, ◌+◌, ◌*◌, ◌<◌, ◌≤◌, ◌⊎◌, inl, inr, ℤ, ◌≤ℤ◌, ◌<ℤ◌, ◌++◌, IsTrue, List, [], ◌∷◌, length, get_or, set, refl, sym, ap, ◌∙◌, subst, arith, get_or-set_same, get_or-set_other}
 use Rattle.std.specs.Prelude.{Contains}
 use Rattle.std.proofs.lemmas.Bool.{cases_eq}
@@ -135,14 +136,6 @@ one_read m c changed k b new e h d below at is value so =
     ]
 
 pub all_read : (m : Mosaic) (c : Corner) (changed : List ℕ) (k : ℕ) (b : Block) → length changed ≤ k → AreRead m c changed k b → IsBlockBut m c [] b
-all_read m c changed k b end so = record {
-  side = so.side;
-  whole = so.whole;
-  heights = λ e small. elim (so.heights e small) [
-    | inl right ↦ inl right
-    | inr left ↦ (let from = left.1 in let below = left.2 in absurd (omega arith))
-  ];
-  sinks = so.sinks;
-}
+all_read m c changed k b end so = search rules
 
 -- ---- a block none of whose heights may have changed

@@ -2,7 +2,7 @@ use Rattle.std.proofs.Common.{◌≡◌, ◌++◌, [], ◌∷◌, rules, arith, 
 use Rattle.std.proofs.lemmas.Grind.{common_steps}
 use Rattle.disk.specs.Record.{blank, settled_with, left_content}
 use Rattle.disk.specs.declared.memory.Call.TheVariants.{StoppedAt}
-use Rattle.disk.proofs.Replay.{unmoved_elapses, replay_last, stopped_at_here, stopped_at_shut, stopped_at_others, stopped_at_none, stopped_at_elapses}
+use Rattle.disk.proofs.Replay.{unmoved_elapses, replay_last, stopped_at_here, stopped_at_others, stopped_at_none, stopped_at_elapses}
 use Rattle.disk.proofs.Sectors.{stopped_at_replays}
 use Rattle.disk.proofs.memory.MemDisk.stop_at.Goals as goal
 
@@ -30,6 +30,3 @@ returns-clause-may c = stopped_at_none c.args.self.now.calls.items c.push.new.se
 
 pub returns-clause-time : goal.returns-clause-time
 returns-clause-time c = stopped_at_elapses c.args.self.now.calls.items c.push.new.self.items c.args.s c.args.torn (search rules)
-
-pub returns-clause-settled : goal.returns-clause-settled
-returns-clause-settled c = stopped_at_shut c.args.self.now.calls.items c.push.new.self.items c.args.s c.args.torn (search rules)
