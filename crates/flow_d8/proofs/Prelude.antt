@@ -13,7 +13,7 @@ pub use Rattle.flow_d8.specs.LevelGrid.{IsLevelGrid, level_beside}
 pub use Rattle.flow_d8.specs.Levels.{ArePaddedTo, IsLevelIn, filled_of}
 pub use Rattle.flow_d8.specs.LevelsAround.{beside_of}
 pub use Rattle.flow_d8.specs.MarkWords.{mark_in, mark_of, marks_in}
-pub use Rattle.flow_d8.specs.Marks.{AreFound, AreOpen, AreWaiting, Begins, Grows, IsBack, IsFirstWave, IsIn, IsMember, IsSettled, Lists, Reaches, mark_at, no_run}
+pub use Rattle.flow_d8.specs.Marks.{AreFound, Begins, IsBack, IsFirstWave, IsIn, IsMember, IsSettled, Lists, Reaches, mark_at, no_run}
 pub use Rattle.flow_d8.specs.Padded.{ArePadded, IsPaddedTile, east_of_tile, north_of_tile, padded_point, south_of_tile, west_of_tile}
 pub use Rattle.flow_d8.specs.Places.{IsInner, IsShown, back_of, place_by}
 pub use Rattle.flow_d8.specs.Prelude.{Beside, Corner, Dir, East, Flat, FlatTo, Flow, Holds, IsBefore, IsFilledLevel, IsIndexOf, IsLawful, IsMosaic, IsTile, Mosaic, NoGround, North, NorthEast, NorthWest, Outlet, Point, South, SouthEast, SouthWest, Terrain, Tile, To, Unknown, West, directions, east_of, fits_number, fits_point, holds, index_of, is_adjacent, is_along, is_corner, is_ground, is_near, is_present, is_sink, is_void, largest_side, most_tiles, north_of, order_of, point_of, same_corner, same_point, share_tile, step, terrain, void}

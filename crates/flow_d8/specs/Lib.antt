@@ -17,6 +17,7 @@ pub mod FlowBytes
 pub mod Component
 pub mod MarkWords
 pub mod Marks
+pub mod Members
 pub mod Rounds
 pub mod Tiles
 pub mod Strides

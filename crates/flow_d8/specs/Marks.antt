@@ -1,5 +1,5 @@
 -- The marks of a search: 3 of places that aren't of the flat, 2 of those in no wave yet, 0 in a wave.
-use Rattle.std.specs.Prelude.{◌≡◌, ℕ, ◌+◌, ◌*◌, ◌%◌, ◌<◌, ◌≤◌, ◌⊎◌, ◌++◌, [], ◌∷◌, Bool, true, false, IsTrue, List, length, sum, slice_index_or}
+use Rattle.std.specs.Prelude.{◌≡◌, ℕ, ◌+◌, ◌*◌, ◌%◌, ◌<◌, ◌≤◌, ◌⊎◌, Bool, true, false, IsTrue, List, length, sum, slice_index_or}
 use Rattle.flow_d8.specs.Prelude.{Dir, order_of, Flow, Unknown, FlatTo}
 use Rattle.flow_d8.specs.declared.marks.SampleRun.{SampleRun}
 use Rattle.flow_d8.specs.Places.{back_of}
@@ -51,10 +51,6 @@ pub record IsRunMarked (r : SampleRun) (mark : ℕ) (marks new_marks : List ℕ)
   pub others : (k : ℕ) → (IsIn r k → ⊥) → mark_at new_marks k ≡ mark_at marks k
   pub fewer : r.first ≤ r.last → mark < 3 → ((k : ℕ) → IsIn r k → mark_at marks k ≡ 3) → sum new_marks < sum marks
 
--- the members lie inside flats
-abbrev pub AreFlat : List Flow → List ℕ → Type 0
-AreFlat flows marks = (k : ℕ) → IsMember marks k → IsOfFlat (slice_index_or flows k Unknown)
-
 -- the runs have each member
 pub record AreListed (marks : List ℕ) (runs : List SampleRun) : Type 0 where
   pub listed : (k : ℕ) → IsMember marks k → Covers runs k
@@ -64,43 +60,17 @@ pub record AreListed (marks : List ℕ) (runs : List SampleRun) : Type 0 where
 pub record AreFound (tiles : Tiles) (flows : List Flow) (seed : ℕ) (marks : List ℕ) (runs : List SampleRun) : Type 0 where
   pub whole : length marks ≡ length flows
   pub two : (k : ℕ) → IsMember marks k → mark_at marks k ≡ 2
-  pub flat : AreFlat flows marks
+  pub flat : (k : ℕ) → IsMember marks k → IsOfFlat (slice_index_or flows k Unknown)
   pub first : (k : ℕ) → IsMember marks k → IsFirst tiles k
   pub joined : (k : ℕ) → IsMember marks k → (n : ℕ) × Connects flows (by_of tiles) seed n k
   pub listed : (k : ℕ) → IsMember marks k → Covers runs k
   pub members : (k : ℕ) → Covers runs k → IsMember marks k
   pub rows : AreRows tiles.side runs
 
--- the runs that wait are rows of members
-pub record AreWaiting (n : ℕ) (marks : List ℕ) (waiting : List SampleRun) : Type 0 where
-  pub members : (k : ℕ) → Covers waiting k → IsMember marks k
-  pub rows : AreRows n waiting
-
 -- something is known of the place, and if it lies inside a flat it is a member
 pub record IsSettled (flows : List Flow) (marks : List ℕ) (k : ℕ) : Type 0 where
   pub known : slice_index_or flows k Unknown ≡ Unknown → ⊥
   pub member : IsOfFlat (slice_index_or flows k Unknown) → IsMember marks k
-
--- a run is added to the members
-pub record IsRunAdded (r : SampleRun) (marks : List ℕ) (runs waiting : List SampleRun) (new_marks : List ℕ) (new_runs new_waiting : List SampleRun) : Type 0 where
-  pub marked : IsRunMarked r 2 marks new_marks
-  pub listed : new_runs ≡ runs ++ r ∷ []
-  pub awaited : new_waiting ≡ waiting ++ r ∷ []
-
--- members are added, and their runs wait
-pub record Grows (tiles : Tiles) (flows : List Flow) (marks : List ℕ) (runs waiting : List SampleRun) (new_marks : List ℕ) (new_runs new_waiting : List SampleRun) : Type 0 where
-  pub whole : length new_marks ≡ length marks
-  pub kept : (k : ℕ) → IsMember marks k → IsMember new_marks k
-  pub fresh : (k : ℕ) → IsMember new_marks k → IsMember marks k ⊎ Covers new_waiting k
-  pub waits : (k : ℕ) → Covers waiting k → Covers new_waiting k
-  pub flats : AreFlat flows marks → AreFlat flows new_marks
-  pub found : (seed : ℕ) → AreFound tiles flows seed marks runs → AreFound tiles flows seed new_marks new_runs
-  pub awaited : AreWaiting tiles.side marks waiting → AreWaiting tiles.side new_marks new_waiting
-  pub fewer : sum new_marks + length new_waiting ≤ sum marks + length waiting
-
--- around each member what lies inside a flat is a member, but for those that wait
-abbrev pub AreOpen : Tiles → List Flow → List ℕ → List SampleRun → Type 0
-AreOpen tiles flows marks waiting = (k : ℕ) → IsMember marks k → Covers waiting k ⊎ ((d : Dir) → IsSettled flows marks (by_of tiles k d))
 
 -- the members are listed, and around each what lies inside a flat is a member
 pub record AreCollected (tiles : Tiles) (flows : List Flow) (marks : List ℕ) (runs : List SampleRun) (seed : ℕ) : Type 0 where

@@ -1,5 +1,5 @@
 //! The samples of a flat.
-ghost use Rattle.std.specs.Prelude.{◌≡◌, ℕ, ◌+◌, ◌<◌, ◌≤◌, ◌*◌, ◌%◌, ◌⊎◌, true, IsTrue, IsFalse, IfOk, IfSome, IfNone, OnOk, OnErr, length, slice_index_or};
+ghost use Rattle.std.specs.Prelude.{◌≡◌, ℕ, ◌+◌, ◌<◌, ◌≤◌, ◌*◌, ◌%◌, true, IsTrue, IsFalse, IfOk, IfSome, IfNone, OnOk, length, slice_index_or};
 ghost use Rattle.lattice.specs.declared.direction.Dir.{Dir};
 ghost use Rattle.lattice.specs.Steps.{step, order_of};
 ghost use Rattle.flow_d8.specs.Filled.{is_deep};
@@ -7,227 +7,164 @@ ghost use Rattle.flow_d8.specs.Tiles.{count_of, place_of, by_of, IsFirst};
 ghost use Rattle.flow_d8.specs.declared.flow.Flow.TheVariants.{Unknown};
 ghost use Rattle.flow_d8.specs.Flows.{IsOfFlat};
 ghost use Rattle.flow_d8.specs.Component.{Connects};
-ghost use Rattle.flow_d8.specs.Marks.{mark_at, AreFree, IsMember, IsIn, IsRow, AreFlat, AreListed, AreFound, AreWaiting, AreOpen, IsRunMarked, IsRunAdded, IsSettled, Grows, AreCollected};
-ghost use Rattle.flow_d8.specs.Resolution.{IsMet, IsUnknownBeside};
+ghost use Rattle.flow_d8.specs.Marks.{mark_at, AreFree, IsMember, IsIn, IsRow, AreListed, AreCollected, no_run};
+ghost use Rattle.flow_d8.specs.Members.{AreFoundIn, IsSettledBeside, Grows};
+ghost use Rattle.flow_d8.specs.Resolution.{IsMet};
 
 use crate::flow::{is_of_flat, is_unknown};
 use crate::flow_byte::FlowByte;
 use crate::marks::{FREE, MEMBER, Marks, SampleRun, mark_run};
+use crate::tile_flows::TileFlows;
 use crate::tiles::{Stride, Tiles};
 use lattice::{DIRECTIONS, Dir, Point, neighbour};
 use std::alloc::AllocError;
 
-/// Marks the seed, from which the samples of its flat are found.
-pub(crate) fn begin(
-    flows: &[FlowByte],
-    tiles: &Tiles,
-    marks: &mut Marks,
-    runs: &mut Vec<SampleRun>,
-    waiting: &mut Vec<SampleRun>,
-    seed: usize,
-) -> Result<(), AllocError>
-    requires tiles { length flows.now ≡ count_of tiles.now }
-    requires whole { length marks.old ≡ length flows.now }
-    requires free { AreFree marks.old }
-    requires none { length runs.old.items ≡ 0 }
-    requires none_waits { length waiting.old.items ≡ 0 }
-    requires flat { IsOfFlat (slice_index_or flows.now seed Unknown) }
-    requires first { IsFirst tiles.now seed }
-    ensures whole { length marks.new ≡ length marks.old }
-    ensures begun { OnOk result (IsMember marks.new seed) }
-    ensures found { OnOk result (AreFound tiles.now flows.now seed marks.new runs.new.items) }
-    ensures awaited { OnOk result (AreWaiting tiles.now.side marks.new waiting.new.items) }
-    ensures unsettled { OnOk result (AreOpen tiles.now flows.now marks.new waiting.new.items) }
-{
-    let run = one_run(tiles, seed);
-    add_run(marks, runs, waiting, run)?;
-    Ok(())
+/// The samples of the seed's flat that were found. The runs have them in the order in which they were found.
+#[derive(Drop)]
+pub(crate) struct Members {
+    pub(crate) seed: usize,
+    pub(crate) marks: Marks,
+    pub(crate) runs: Vec<SampleRun>,
 }
 
-/// Takes the waiting runs one after another, marks the samples of the flat that lie around each, and lists their runs.
-/// `seed` only tells contracts which flat it is. Stops at a point of which nothing is known, and gives it.
-pub(crate) fn collect(
-    flows: &[FlowByte],
-    tiles: &Tiles,
-    marks: &mut Marks,
-    runs: &mut Vec<SampleRun>,
-    waiting: &mut Vec<SampleRun>,
-    seed: usize,
-) -> Result<Option<Point>, AllocError>
-    requires tiles { length flows.now ≡ count_of tiles.now }
-    requires begun { IsMember marks.old seed }
-    requires found { AreFound tiles.now flows.now seed marks.old runs.old.items }
-    requires awaited { AreWaiting tiles.now.side marks.old waiting.old.items }
-    requires unsettled { AreOpen tiles.now flows.now marks.old waiting.old.items }
-    ensures whole { length marks.new ≡ length marks.old }
-    ensures listed { OnOk result (AreListed marks.new runs.new.items) }
-    ensures collected { IfOk result (λ met. IfNone met (AreCollected tiles.now flows.now marks.new runs.new.items seed)) }
-    ensures met { IfOk result (λ met. IfSome met (IsMet tiles.now flows.now seed)) }
-{
-    'runs: while let Some(run) = waiting.pop() {
-        if let Some(met) = visit_run(flows, tiles, marks, runs, waiting, run)? {
-            return Ok(Some(met));
+impl Members {
+    /// Finds the samples of the flat, around one run after another. Stops at a point of which nothing is known, and gives it.
+    pub(crate) fn collect(&mut self, known: &TileFlows) -> Result<Option<Point>, AllocError>
+        requires whole { length self.old.marks ≡ length known.now.flows.now }
+        requires free { AreFree self.old.marks }
+        requires none { length self.old.runs.items ≡ 0 }
+        requires flat { IsOfFlat (slice_index_or known.now.flows.now self.old.seed Unknown) }
+        requires first { IsFirst known.now.tiles.now self.old.seed }
+        ensures listed { OnOk result (AreListed self.new.marks self.new.runs.items) }
+        ensures collected { IfOk result (λ met. IfNone met (AreCollected known.now.tiles.now known.now.flows.now self.new.marks self.new.runs.items self.old.seed)) }
+        ensures met { IfOk result (λ met. IfSome met (IsMet known.now.tiles.now known.now.flows.now self.old.seed)) }
+    {
+        self.add(known, self.seed)?;
+        let mut i = 0;
+        'runs: while i < self.runs.len() {
+            if let Some(met) = self.visit_run(known, i)? {
+                return Ok(Some(met));
+            }
+            i += 1;
         }
+        Ok(None)
     }
-    Ok(None)
-}
 
-// Adds what lies inside a flat around the samples of the run. Gives a point around them of which nothing is known, if there is one.
-#[inline(never)]
-fn visit_run(
-    flows: &[FlowByte],
-    tiles: &Tiles,
-    marks: &mut Marks,
-    runs: &mut Vec<SampleRun>,
-    waiting: &mut Vec<SampleRun>,
-    run: SampleRun,
-) -> Result<Option<Point>, AllocError>
-    requires tiles { length flows.now ≡ count_of tiles.now }
-    requires whole { length marks.old ≡ length flows.now }
-    requires row { IsRow tiles.now.side run }
-    requires members { (k : ℕ) → IsIn run k → IsMember marks.old k }
-    requires flats { AreFlat flows.now marks.old }
-    ensures whole { length marks.new ≡ length marks.old }
-    ensures grows { OnOk result (Grows tiles.now flows.now marks.old runs.old.items waiting.old.items marks.new runs.new.items waiting.new.items) }
-    ensures settled { IfOk result (λ met. IfNone met ((k : ℕ) (d : Dir) → IsIn run k → IsSettled flows.now marks.new (by_of tiles.now k d))) }
-    ensures met { IfOk result (λ met. IfSome met (λ q. (k : ℕ) × (IsIn run k × IsUnknownBeside tiles.now flows.now k q))) }
-{
-    // That these are valid tiles (`AreTiles`) is told by this call.
-    let _valid = tiles.tiles();
-    let first = run.first as usize;
-    let deep = tiles.is_deep(first);
-    for k in first..run.last as usize + 1 {
-        if let Some(met) = visit_around(flows, tiles, marks, runs, waiting, k, deep, k > first)? {
-            return Ok(Some(met));
+    // Adds what lies inside the flat around the samples of the run. Gives a point around them of which nothing is known, if there
+    // is one.
+    #[inline(never)]
+    fn visit_run(&mut self, known: &TileFlows, i: usize) -> Result<Option<Point>, AllocError>
+        requires found { AreFoundIn known.now self.old }
+        requires run { i < length self.old.runs.items }
+        ensures grows { OnOk result (Grows known.now self.old self.new) }
+        ensures settled { IfOk result (λ met. IfNone met ((k : ℕ) (d : Dir) → IsIn (slice_index_or self.old.runs.items i no_run) k → IsSettledBeside known.now self.new k d)) }
+        ensures met { IfOk result (λ met. IfSome met (IsMet known.now.tiles.now known.now.flows.now self.new.seed)) }
+    {
+        let run = self.runs[i];
+        let first = run.first as usize;
+        let deep = known.tiles.is_deep(first);
+        for k in first..run.last as usize + 1 {
+            if let Some(met) = self.visit_around(known, k, deep, k > first)? {
+                return Ok(Some(met));
+            }
         }
+        Ok(None)
     }
-    Ok(None)
-}
 
-// Adds what lies inside a flat around the sample. What lies around it but eastwards may be known to be settled. Gives the first
-// point around it of which nothing is known, if there is one.
-#[inline(always)]
-fn visit_around(
-    flows: &[FlowByte],
-    tiles: &Tiles,
-    marks: &mut Marks,
-    runs: &mut Vec<SampleRun>,
-    waiting: &mut Vec<SampleRun>,
-    from: usize,
-    deep: bool,
-    is_next: bool,
-) -> Result<Option<Point>, AllocError>
-    requires tiles { length flows.now ≡ count_of tiles.now }
-    requires whole { length marks.old ≡ length flows.now }
-    requires flats { AreFlat flows.now marks.old }
-    requires member { IsMember marks.old from }
-    requires deep { IsTrue deep → is_deep tiles.now.side (from % (tiles.now.side * tiles.now.side)) ≡ true }
-    requires next { IsTrue is_next → (d : Dir) → 2 ≤ order_of d → order_of d < 7 → IsSettled flows.now marks.old (by_of tiles.now from d) }
-    ensures whole { length marks.new ≡ length marks.old }
-    ensures grows { OnOk result (Grows tiles.now flows.now marks.old runs.old.items waiting.old.items marks.new runs.new.items waiting.new.items) }
-    ensures settled { IfOk result (λ met. IfNone met ((d : Dir) → IsSettled flows.now marks.new (by_of tiles.now from d))) }
-    ensures met { IfOk result (λ met. IfSome met (IsUnknownBeside tiles.now flows.now from)) }
-{
-    for i in 0..8 {
-        if is_next && 2 <= i && i < 7 {
-            continue;
+    // Adds what lies inside the flat around the member. What lies around it but eastwards may be known to be settled. Gives the
+    // first point around it of which nothing is known, if there is one.
+    #[inline(always)]
+    fn visit_around(
+        &mut self,
+        known: &TileFlows,
+        from: usize,
+        deep: bool,
+        is_next: bool,
+    ) -> Result<Option<Point>, AllocError>
+        requires found { AreFoundIn known.now self.old }
+        requires member { IsMember self.old.marks from }
+        requires deep { IsTrue deep → is_deep known.now.tiles.now.side (from % (known.now.tiles.now.side * known.now.tiles.now.side)) ≡ true }
+        requires next { IsTrue is_next → (d : Dir) → 2 ≤ order_of d → order_of d < 7 → IsSettledBeside known.now self.old from d }
+        ensures grows { OnOk result (Grows known.now self.old self.new) }
+        ensures settled { IfOk result (λ met. IfNone met ((d : Dir) → IsSettledBeside known.now self.new from d)) }
+        ensures met { IfOk result (λ met. IfSome met (IsMet known.now.tiles.now known.now.flows.now self.new.seed)) }
+    {
+        for i in 0..8 {
+            if is_next && 2 <= i && i < 7 {
+                continue;
+            }
+            if !self.visit(known, from, DIRECTIONS[i], deep)? {
+                return Ok(Some(point_beside(known.tiles, from, DIRECTIONS[i])));
+            }
         }
-        if !visit(
-            flows,
-            tiles,
-            marks,
-            runs,
-            waiting,
-            from,
-            DIRECTIONS[i],
-            deep,
-        )? {
-            return Ok(Some(point_beside(tiles, from, DIRECTIONS[i])));
+        Ok(None)
+    }
+
+    // Adds the sample one step away where it lies inside a flat. Whether something is known of it.
+    #[inline(always)]
+    fn visit(
+        &mut self,
+        known: &TileFlows,
+        from: usize,
+        direction: Dir,
+        deep: bool,
+    ) -> Result<bool, AllocError>
+        requires found { AreFoundIn known.now self.old }
+        requires member { IsMember self.old.marks from }
+        requires deep { IsTrue deep → is_deep known.now.tiles.now.side (from % (known.now.tiles.now.side * known.now.tiles.now.side)) ≡ true }
+        ensures grows { OnOk result (Grows known.now self.old self.new) }
+        ensures settled { IfOk result (λ is_known. IsTrue is_known → IsSettledBeside known.now self.new from direction) }
+        ensures unknown { IfOk result (λ is_known. IsFalse is_known → slice_index_or known.now.flows.now (by_of known.now.tiles.now from direction) Unknown ≡ Unknown) }
+    {
+        let stride = Stride::new(known.tiles.side(), direction);
+        let to = known.tiles.step(from, direction, stride, deep);
+        if self.marks.mark(to) != FREE {
+            return Ok(true);
         }
+        if to >= known.flows.len() || is_unknown(known.flows, to) {
+            return Ok(false);
+        }
+        if is_of_flat(known.flows, to) {
+            self.add(known, to)?;
+        }
+        Ok(true)
     }
-    Ok(None)
-}
 
-// Adds the sample one step away where it lies inside a flat. Whether something is known of it.
-#[inline(always)]
-fn visit(
-    flows: &[FlowByte],
-    tiles: &Tiles,
-    marks: &mut Marks,
-    runs: &mut Vec<SampleRun>,
-    waiting: &mut Vec<SampleRun>,
-    from: usize,
-    direction: Dir,
-    deep: bool,
-) -> Result<bool, AllocError>
-    requires tiles { length flows.now ≡ count_of tiles.now }
-    requires whole { length marks.old ≡ length flows.now }
-    requires flats { AreFlat flows.now marks.old }
-    requires member { IsMember marks.old from }
-    requires deep { IsTrue deep → is_deep tiles.now.side (from % (tiles.now.side * tiles.now.side)) ≡ true }
-    ensures whole { length marks.new ≡ length marks.old }
-    ensures grows { OnOk result (Grows tiles.now flows.now marks.old runs.old.items waiting.old.items marks.new runs.new.items waiting.new.items) }
-    ensures settled { IfOk result (λ known. IsTrue known → IsSettled flows.now marks.new (by_of tiles.now from direction)) }
-    ensures unknown { IfOk result (λ known. IsFalse known → slice_index_or flows.now (by_of tiles.now from direction) Unknown ≡ Unknown) }
-{
-    let to = tiles.step(from, direction, Stride::new(tiles.side(), direction), deep);
-    if marks.mark(to) != FREE {
-        return Ok(true);
+    // Adds the sample, and those beside it in its row that lie deep in its tile, as it does.
+    fn add(&mut self, known: &TileFlows, to: usize) -> Result<(), AllocError>
+        requires found { AreFoundIn known.now self.old }
+        requires first { IsFirst known.now.tiles.now to }
+        requires flat { IsOfFlat (slice_index_or known.now.flows.now to Unknown) }
+        requires free { mark_at self.old.marks to ≡ 3 }
+        requires joined { (n : ℕ) × Connects known.now.flows.now (by_of known.now.tiles.now) self.old.seed n to }
+        ensures grows { OnOk result (Grows known.now self.old self.new) }
+        ensures member { OnOk result (IsMember self.new.marks to) }
+    {
+        let run = free_row(known, &self.marks, to);
+        self.runs.push(run)?;
+        mark_run(&mut self.marks, run, MEMBER);
+        Ok(())
     }
-    if to >= flows.len() || is_unknown(flows, to) {
-        return Ok(false);
-    }
-    if is_of_flat(flows, to) {
-        add(flows, tiles, marks, runs, waiting, to)?;
-    }
-    Ok(true)
-}
-
-// Adds the sample, and those beside it in its row that lie deep in its tile, as it does.
-fn add(
-    flows: &[FlowByte],
-    tiles: &Tiles,
-    marks: &mut Marks,
-    runs: &mut Vec<SampleRun>,
-    waiting: &mut Vec<SampleRun>,
-    to: usize,
-) -> Result<(), AllocError>
-    requires tiles { length flows.now ≡ count_of tiles.now }
-    requires whole { length marks.old ≡ length flows.now }
-    requires to { to < length marks.old }
-    requires first { IsFirst tiles.now to }
-    requires flat { IsOfFlat (slice_index_or flows.now to Unknown) }
-    requires free { mark_at marks.old to ≡ 3 }
-    requires joined { (seed : ℕ) → AreFound tiles.now flows.now seed marks.old runs.old.items → (n : ℕ) × Connects flows.now (by_of tiles.now) seed n to }
-    ensures whole { length marks.new ≡ length marks.old }
-    ensures grows { OnOk result (Grows tiles.now flows.now marks.old runs.old.items waiting.old.items marks.new runs.new.items waiting.new.items) }
-    ensures member { OnOk result (IsMember marks.new to) }
-{
-    let _valid = tiles.tiles();
-    let run = free_row(flows, tiles, marks, to);
-    add_run(marks, runs, waiting, run)?;
-    Ok(())
 }
 
 /// The run of free samples inside flats around this one, where it lies deep in its tile of those that do; else it alone.
-pub(crate) fn free_row(flows: &[FlowByte], tiles: &Tiles, marks: &Marks, to: usize) -> SampleRun
-    requires tiles { length flows.now ≡ count_of tiles.now }
-    requires flat { IsOfFlat (slice_index_or flows.now to Unknown) }
+pub(crate) fn free_row(known: &TileFlows, marks: &Marks, to: usize) -> SampleRun
+    requires flat { IsOfFlat (slice_index_or known.now.flows.now to Unknown) }
     requires free { mark_at marks.now to ≡ 3 }
-    requires to { to < count_of tiles.now }
-    ensures row { IsRow tiles.now.side result }
+    requires to { to < count_of known.now.tiles.now }
+    ensures row { IsRow known.now.tiles.now.side result }
     ensures at { IsIn result to }
-    ensures flat { (k : ℕ) → IsIn result k → IsOfFlat (slice_index_or flows.now k Unknown) }
+    ensures flat { (k : ℕ) → IsIn result k → IsOfFlat (slice_index_or known.now.flows.now k Unknown) }
     ensures free { (k : ℕ) → IsIn result k → mark_at marks.now k ≡ 3 }
 {
-    let Some((west, east)) = tiles.deep_row(to) else {
-        return one_run(tiles, to);
+    let Some((west, east)) = known.tiles.deep_row(to) else {
+        return one_run(known.tiles, to);
     };
-    let first = first_free(flows, marks, west, to);
-    let last = last_free(flows, marks, to, east);
+    let first = first_free(known.flows, marks, west, to);
+    let last = last_free(known.flows, marks, to, east);
     SampleRun {
-        first: tiles.short(first),
-        last: tiles.short(last),
+        first: known.tiles.short(first),
+        last: known.tiles.short(last),
     }
 }
 
@@ -282,23 +219,6 @@ pub(crate) fn is_free(flows: &[FlowByte], marks: &Marks, k: usize) -> bool
     ensures small { IsTrue result → k < length flows.now }
 {
     k < flows.len() && marks.mark(k) == FREE && is_of_flat(flows, k)
-}
-
-// Adds the run to the members, and to those that wait.
-fn add_run(
-    marks: &mut Marks,
-    runs: &mut Vec<SampleRun>,
-    waiting: &mut Vec<SampleRun>,
-    run: SampleRun,
-) -> Result<(), AllocError>
-    requires { run.last < length marks.old }
-    ensures whole { length marks.new ≡ length marks.old }
-    ensures added { OnOk result (IsRunAdded run marks.old runs.old.items waiting.old.items marks.new runs.new.items waiting.new.items) }
-{
-    runs.push(run)?;
-    waiting.push(run)?;
-    mark_run(marks, run, MEMBER);
-    Ok(())
 }
 
 /// The point one step from the sample.

@@ -21,6 +21,7 @@ use crate::flow::{Flow, flow_at};
 use crate::flow_byte::FlowByte;
 use crate::marks::FreeMarks;
 use crate::resolving::{Resolution, resolve};
+use crate::tile_flows::TileFlows;
 use crate::tiles::Tiles;
 use lattice::{Corner, Dir, Point, Side};
 use std::alloc::{AllocError, Global};
@@ -294,7 +295,7 @@ fn search_known(
     ensures met { IfOk result (λ met. IfSome met (λ p. (IsAtHand tiles.now p → ⊥) × OnGround tiles.now flows.now (λ t level. IsTrue (t.is_ground p)))) }
 {
     let _valid = tiles.tiles();
-    match search_flat(flows, tiles, search, from)? {
+    match search_flat(&TileFlows { tiles, flows }, search, from)? {
         Some(met) => Ok(Some(met)),
         None => Ok(None),
     }

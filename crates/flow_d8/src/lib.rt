@@ -37,6 +37,7 @@ mod resolving;
 mod slopes;
 mod spreading;
 mod telling;
+mod tile_flows;
 mod tiles;
 
 pub use directions::Directions;

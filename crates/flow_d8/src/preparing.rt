@@ -28,6 +28,15 @@ pub struct Sides {
     pub west: bool,
 }
 
+// The levels of a tile and of two rows and columns around it, and its sides.
+#[derive(Drop)]
+struct Padded<'a> {
+    side: Side,
+    levels: &'a [i16],
+    sides: &'a Sides,
+    ghost whole: { length levels.now ≡ (side + 4) * (side + 4) },
+}
+
 /// The flows of the tile's samples, by the filled levels of the tile and of two rows and columns around it (void where a
 /// point isn't ground), its sides and the declared sinks. Of points inside flats it is told whether an end of their level
 /// lies beside them, and the first step to one.
@@ -44,31 +53,35 @@ pub fn prepare(
     ensures known { IfOk result (λ flows. AreKnown flows.items) }
     ensures flows { IfOk result (λ flows. (m : Mosaic) → IsMosaic m → m.side ≡ side → IsPaddedTile m corner levels.now sides.now sinks.now → AreTileFlows m corner flows.items) }
 {
+    let tile = Padded {
+        side,
+        levels,
+        sides,
+    };
     let mut around = vec![in alloc; FlowByte::of(Flow::Unknown); levels.len()]?;
-    tell_around(side, corner, levels, sinks, &mut around);
-    let mut flows = told_samples(alloc, side, levels, &around)?;
-    close_sides(side, levels, sides, &mut flows);
+    tell_around(&tile, corner, sinks, &mut around);
+    let mut flows = told_samples(alloc, &tile, &around)?;
+    close_sides(&tile, &mut flows);
     Ok(flows)
 }
 
 // The flows of the tile's places and those one around it.
-fn tell_around(side: Side, corner: Corner, levels: &[i16], sinks: &[Point], flows: &mut [FlowByte])
-    requires levels { length levels.now ≡ (side + 4) * (side + 4) }
-    requires flows { length flows.old ≡ length levels.now }
+fn tell_around(tile: &Padded, corner: Corner, sinks: &[Point], flows: &mut [FlowByte])
+    requires { length flows.old ≡ length tile.now.levels.now }
     ensures whole { length flows.new ≡ length flows.old }
-    ensures told { AreSunkFlows side corner levels.now sinks.now flows.new }
+    ensures told { AreSunkFlows tile.now.side corner tile.now.levels.now sinks.now flows.new }
 {
-    tell_places(side, levels, flows);
-    drain_sinks(side, corner, sinks, flows);
+    tell_places(tile, flows);
+    drain_sinks(tile.side, corner, sinks, flows);
 }
 
-fn tell_places(side: Side, levels: &[i16], flows: &mut [FlowByte])
-    requires levels { length levels.now ≡ (side + 4) * (side + 4) }
-    requires flows { length flows.old ≡ length levels.now }
+fn tell_places(tile: &Padded, flows: &mut [FlowByte])
+    requires { length flows.old ≡ length tile.now.levels.now }
     ensures whole { length flows.new ≡ length flows.old }
-    ensures told { (k : ℕ) → IsInner (side + 4) (length levels.now) k → IsPlaceFlow levels.now (side + 4) k (flow_in flows.new k) }
+    ensures told { (k : ℕ) → IsInner (tile.now.side + 4) (length tile.now.levels.now) k → IsPlaceFlow tile.now.levels.now (tile.now.side + 4) k (flow_in flows.new k) }
 {
-    let width = width(side);
+    let levels = tile.levels;
+    let width = width(tile.side);
     for k in width + 1..levels.len() - (width + 1) {
         flows[k] = FlowByte::of(local_flow_at(levels, width, k));
     }
@@ -172,39 +185,36 @@ fn width(side: Side) -> usize
 // The flows of the tile's samples, by those of its places and the places around it.
 fn told_samples(
     alloc: Global,
-    side: Side,
-    levels: &[i16],
+    tile: &Padded,
     around: &[FlowByte],
 ) -> Result<Vec<FlowByte>, AllocError>
-    requires levels { length levels.now ≡ (side + 4) * (side + 4) }
-    requires around { length around.now ≡ length levels.now }
-    ensures whole { IfOk result (λ flows. length flows.items ≡ side * side) }
-    ensures ended { IfOk result (λ flows. AreEnded side levels.now around.now (side * side) flows.items) }
+    requires { length around.now ≡ length tile.now.levels.now }
+    ensures whole { IfOk result (λ flows. length flows.items ≡ tile.now.side * tile.now.side) }
+    ensures ended { IfOk result (λ flows. AreEnded tile.now.side tile.now.levels.now around.now (tile.now.side * tile.now.side) flows.items) }
 {
-    let mut flows = Vec::with_capacity(alloc, side.area() as usize)?;
-    for row in 0..side.samples() as usize {
-        tell_row(side, levels, around, row, &mut flows)?;
+    let mut flows = Vec::with_capacity(alloc, tile.side.area() as usize)?;
+    for row in 0..tile.side.samples() as usize {
+        tell_row(tile, around, row, &mut flows)?;
     }
     Ok(flows)
 }
 
 fn tell_row(
-    side: Side,
-    levels: &[i16],
+    tile: &Padded,
     around: &[FlowByte],
     row: usize,
     flows: &mut Vec<FlowByte>,
 ) -> Result<(), AllocError>
-    requires levels { length levels.now ≡ (side + 4) * (side + 4) }
-    requires around { length around.now ≡ length levels.now }
-    requires row { row < side }
-    requires before { length flows.old.items ≡ row * side }
-    requires ended { AreEnded side levels.now around.now (row * side) flows.old.items }
-    ensures whole { IfOk result (λ done. length flows.new.items ≡ (row + 1) * side) }
-    ensures ended { IfOk result (λ done. AreEnded side levels.now around.now ((row + 1) * side) flows.new.items) }
+    requires around { length around.now ≡ length tile.now.levels.now }
+    requires row { row < tile.now.side }
+    requires before { length flows.old.items ≡ row * tile.now.side }
+    requires ended { AreEnded tile.now.side tile.now.levels.now around.now (row * tile.now.side) flows.old.items }
+    ensures whole { IfOk result (λ done. length flows.new.items ≡ (row + 1) * tile.now.side) }
+    ensures ended { IfOk result (λ done. AreEnded tile.now.side tile.now.levels.now around.now ((row + 1) * tile.now.side) flows.new.items) }
 {
-    let n = side.samples() as usize;
-    let width = width(side);
+    let levels = tile.levels;
+    let n = tile.side.samples() as usize;
+    let width = width(tile.side);
     let first = (row + 2) * width + 2;
     for column in 0..n {
         let flow = ended_flow(levels, around, width, first + column);
@@ -288,58 +298,48 @@ fn is_end(flow: Flow) -> bool
 
 // Tells the samples on edges over which no tile is present without the levels over these: there a point of the tile around
 // the corner may lie beside one that it isn't adjacent to.
-fn close_sides(side: Side, levels: &[i16], sides: &Sides, flows: &mut [FlowByte])
-    requires levels { length levels.now ≡ (side + 4) * (side + 4) }
-    requires flows { length flows.old ≡ side * side }
-    ensures closing { IsClosing side levels.now sides.now flows.old flows.new }
-    ensures told { (d : Dir) (r s : ℕ) → IsClosedAt side sides.now d r s → IsClosedFlow side levels.now sides.now (r * side + s) (flow_in flows.new (r * side + s)) }
+fn close_sides(tile: &Padded, flows: &mut [FlowByte])
+    requires { length flows.old ≡ tile.now.side * tile.now.side }
+    ensures closing { IsClosing tile.now.side tile.now.levels.now tile.now.sides.now flows.old flows.new }
+    ensures told { (d : Dir) (r s : ℕ) → IsClosedAt tile.now.side tile.now.sides.now d r s → IsClosedFlow tile.now.side tile.now.levels.now tile.now.sides.now (r * tile.now.side + s) (flow_in flows.new (r * tile.now.side + s)) }
 {
-    let n = side.samples() as usize;
+    let n = tile.side.samples() as usize;
     for i in 1..n - 1 {
-        close_along(side, levels, sides, i, flows);
+        close_along(tile, i, flows);
     }
 }
 
 // Tells the samples so far along the edges.
-fn close_along(side: Side, levels: &[i16], sides: &Sides, i: usize, flows: &mut [FlowByte])
-    requires levels { length levels.now ≡ (side + 4) * (side + 4) }
-    requires flows { length flows.old ≡ side * side }
+fn close_along(tile: &Padded, i: usize, flows: &mut [FlowByte])
+    requires flows { length flows.old ≡ tile.now.side * tile.now.side }
     requires some { 0 < i }
-    requires inside { i + 1 < side }
-    ensures closing { IsClosing side levels.now sides.now flows.old flows.new }
-    ensures told { (d : Dir) (r s : ℕ) → IsClosedAt side sides.now d r s → along_of d r s ≡ i → IsClosedFlow side levels.now sides.now (r * side + s) (flow_in flows.new (r * side + s)) }
+    requires inside { i + 1 < tile.now.side }
+    ensures closing { IsClosing tile.now.side tile.now.levels.now tile.now.sides.now flows.old flows.new }
+    ensures told { (d : Dir) (r s : ℕ) → IsClosedAt tile.now.side tile.now.sides.now d r s → along_of d r s ≡ i → IsClosedFlow tile.now.side tile.now.levels.now tile.now.sides.now (r * tile.now.side + s) (flow_in flows.new (r * tile.now.side + s)) }
 {
-    let last = side.samples() as usize - 1;
-    close_unless(sides.north, side, levels, sides, Dir::North, 0, i, flows);
-    close_unless(sides.east, side, levels, sides, Dir::East, i, last, flows);
-    close_unless(sides.south, side, levels, sides, Dir::South, last, i, flows);
-    close_unless(sides.west, side, levels, sides, Dir::West, i, 0, flows);
+    let last = tile.side.samples() as usize - 1;
+    close_unless(tile.sides.north, tile, Dir::North, (0, i), flows);
+    close_unless(tile.sides.east, tile, Dir::East, (i, last), flows);
+    close_unless(tile.sides.south, tile, Dir::South, (last, i), flows);
+    close_unless(tile.sides.west, tile, Dir::West, (i, 0), flows);
 }
 
-fn close_unless(
-    is_open: bool,
-    side: Side,
-    levels: &[i16],
-    sides: &Sides,
-    over: Dir,
-    row: usize,
-    column: usize,
-    flows: &mut [FlowByte],
-)
-    requires levels { length levels.now ≡ (side + 4) * (side + 4) }
-    requires flows { length flows.old ≡ side * side }
-    requires row { row < side }
-    requires column { column < side }
-    requires closed { is_open ≡ false → IsClosedAt side sides.now over row column }
-    ensures closing { IsClosing side levels.now sides.now flows.old flows.new }
-    ensures told { is_open ≡ false → IsClosedFlow side levels.now sides.now (row * side + column) (flow_in flows.new (row * side + column)) }
+// Tells the sample in the row and the column, on this edge, unless a tile is present over it.
+fn close_unless(is_open: bool, tile: &Padded, over: Dir, at: (usize, usize), flows: &mut [FlowByte])
+    requires flows { length flows.old ≡ tile.now.side * tile.now.side }
+    requires row { at.0 < tile.now.side }
+    requires column { at.1 < tile.now.side }
+    requires closed { is_open ≡ false → IsClosedAt tile.now.side tile.now.sides.now over at.0 at.1 }
+    ensures closing { IsClosing tile.now.side tile.now.levels.now tile.now.sides.now flows.old flows.new }
+    ensures told { is_open ≡ false → IsClosedFlow tile.now.side tile.now.levels.now tile.now.sides.now (at.0 * tile.now.side + at.1) (flow_in flows.new (at.0 * tile.now.side + at.1)) }
 {
     if is_open {
         return;
     }
-    let n = side.samples() as usize;
-    let width = width(side);
-    let flow = flow_without(levels, width, over, (row + 2) * width + (column + 2));
+    let (row, column) = at;
+    let n = tile.side.samples() as usize;
+    let width = width(tile.side);
+    let flow = flow_without(tile.levels, width, over, (row + 2) * width + (column + 2));
     flows[row * n + column] = FlowByte::of(flow);
 }
 

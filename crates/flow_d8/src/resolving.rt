@@ -1,5 +1,5 @@
 //! Flats resolved by waves.
-ghost use Rattle.std.specs.Prelude.{◌≡◌, ℕ, ◌<◌, IsTrue, IfOk, OnOk, length, slice_index_or};
+ghost use Rattle.std.specs.Prelude.{◌≡◌, ℕ, ◌<◌, IfOk, OnOk, length, slice_index_or};
 ghost use Rattle.lattice.specs.declared.direction.Dir.{Dir};
 ghost use Rattle.flow_d8.specs.Drainage.{CrossesFlat};
 ghost use Rattle.flow_d8.specs.Filled.{number_of};
@@ -9,15 +9,17 @@ ghost use Rattle.flow_d8.specs.Flows.{IsOfFlat, AreFlows, Names};
 ghost use Rattle.flow_d8.specs.Marks.{mark_at, AreFree, IsBack, IsMember, Lists, AreListed, AreCollected};
 ghost use Rattle.flow_d8.specs.Rounds.{AreMarked, AreBegun, IsRound, Advances, IsPassed, OnTerrains, Tells};
 
-use crate::collecting::{begin, collect};
+use crate::collecting::Members;
 use crate::flow::is_of_flat;
 use crate::flow_byte::FlowByte;
 use crate::marks::{FreeMarks, Marks, SampleRun, clear};
-use crate::spreading::{are_deep, first_wave, reach};
+use crate::spreading::{Wave, are_deep, first_wave, reach};
 use crate::telling::tell;
+use crate::tile_flows::TileFlows;
 use crate::tiles::Tiles;
 use lattice::{DIRECTIONS, Point};
-use std::alloc::{AllocError, Global};
+use std::alloc::AllocError;
+use std::mem;
 
 /// What came of resolving the flat of a point.
 pub(crate) enum Resolution {
@@ -45,79 +47,58 @@ pub(crate) fn resolve(
     ensures outcome { IfOk result (IsOutcome tiles.now (number_of tiles.now.side tiles.now.corners point) flows.old flows.new) }
     ensures ground { IfOk result (IsMetOnGround tiles.now flows.old) }
 {
-    let alloc = marks.marks.allocator();
-    marks.marks.resize(flows.len())?;
-    let outcome = resolve_marking(alloc, flows, tiles, &mut marks.marks, point);
-    // After a failure marks may be left set, so room is made anew.
-    if outcome.is_err() {
-        marks.marks = Marks::new(alloc);
-    }
-    outcome
-}
-
-// The same over marks of the right length, none of them set.
-fn resolve_marking(
-    alloc: Global,
-    flows: &mut [FlowByte],
-    tiles: &Tiles,
-    marks: &mut Marks,
-    point: Point,
-) -> Result<Resolution, AllocError>
-    requires tiles { length flows.old ≡ count_of tiles.now }
-    requires whole { length marks.old ≡ length flows.old }
-    requires free { AreFree marks.old }
-    ensures free { OnOk result (AreFree marks.new) }
-    ensures tells { Tells flows.old flows.new }
-    ensures facts { OnGround tiles.now flows.old (λ t level. AreFlows t level (place_of tiles.now) flows.new) }
-    ensures outcome { IfOk result (IsOutcome tiles.now (number_of tiles.now.side tiles.now.corners point) flows.old flows.new) }
-{
     let seed = tiles.number(point);
     if seed >= flows.len() || !is_of_flat(flows, seed) {
         return Ok(Resolution::NotFlat);
     }
-    let mut runs = Vec::new(alloc);
-    let outcome = resolve_listing(alloc, flows, tiles, marks, &mut runs, seed)?;
-    clear(marks, &runs);
+    let alloc = marks.marks.allocator();
+    marks.marks.resize(flows.len())?;
+    // After a failure marks may be left set, so room is made anew.
+    let mut members = Members {
+        seed,
+        marks: mem::replace(&mut marks.marks, Marks::new(alloc)),
+        runs: Vec::new(alloc),
+    };
+    let outcome = resolve_flat(flows, tiles, &mut members)?;
+    clear(&mut members.marks, &members.runs);
+    marks.marks = members.marks;
     Ok(outcome)
 }
 
-// The same, where the runs of the samples that it leaves marked are listed.
-fn resolve_listing(
-    alloc: Global,
+// Resolves the flat of the seed, of which no member was found yet. The runs have the samples that it leaves marked.
+fn resolve_flat(
     flows: &mut [FlowByte],
     tiles: &Tiles,
-    marks: &mut Marks,
-    runs: &mut Vec<SampleRun>,
-    seed: usize,
+    members: &mut Members,
 ) -> Result<Resolution, AllocError>
     requires tiles { length flows.old ≡ count_of tiles.now }
-    requires whole { length marks.old ≡ length flows.old }
-    requires free { AreFree marks.old }
-    requires none { length runs.old.items ≡ 0 }
-    requires seed { IsOfFlat (slice_index_or flows.old seed Unknown) }
-    requires first { IsFirst tiles.now seed }
-    ensures listed { OnOk result (AreListed marks.new runs.new.items) }
+    requires whole { length members.old.marks ≡ length flows.old }
+    requires free { AreFree members.old.marks }
+    requires none { length members.old.runs.items ≡ 0 }
+    requires seed { IsOfFlat (slice_index_or flows.old members.old.seed Unknown) }
+    requires first { IsFirst tiles.now members.old.seed }
+    ensures listed { OnOk result (AreListed members.new.marks members.new.runs.items) }
     ensures tells { Tells flows.old flows.new }
     ensures facts { OnGround tiles.now flows.old (λ t level. AreFlows t level (place_of tiles.now) flows.new) }
-    ensures outcome { IfOk result (IsOutcome tiles.now seed flows.old flows.new) }
+    ensures outcome { IfOk result (IsOutcome tiles.now members.old.seed flows.old flows.new) }
 {
-    let mut waiting = Vec::new(alloc);
-    begin(flows, tiles, marks, runs, &mut waiting, seed)?;
-    if let Some(met) = collect(flows, tiles, marks, runs, &mut waiting, seed)? {
+    // That these are valid tiles (`AreTiles`) is told by this call.
+    let _valid = tiles.tiles();
+    let seed = members.seed;
+    if let Some(met) = members.collect(&TileFlows { tiles, flows })? {
         return Ok(Resolution::Meets(met));
     }
-    resolve_members(alloc, flows, tiles, marks, seed, runs)?;
+    resolve_members(flows, tiles, &mut members.marks, &members.runs, seed)?;
     Ok(Resolution::Resolved)
 }
 
 // Resolves the members that were collected, and tells their flows in each tile that holds their points.
 fn resolve_members(
-    alloc: Global,
     flows: &mut [FlowByte],
     tiles: &Tiles,
     marks: &mut Marks,
-    seed: usize,
     runs: &[SampleRun],
+    seed: usize,
 ) -> Result<(), AllocError>
     requires tiles { length flows.old ≡ count_of tiles.now }
     requires collected { AreCollected tiles.now flows.old marks.old runs.now seed }
@@ -129,24 +110,23 @@ fn resolve_members(
 {
     // That these are valid tiles (`AreTiles`) is told by this call.
     let _valid = tiles.tiles();
-    let wave = first_wave(alloc, flows, marks, runs)?;
-    spread(alloc, flows, tiles, marks, wave)?;
+    let wave = first_wave(flows, marks, runs)?;
+    spread(flows, tiles, marks, wave)?;
     tell(tiles, runs, flows);
     Ok(())
 }
 
 // Resolves the members, from those beside an end on.
 fn spread(
-    alloc: Global,
     flows: &mut [FlowByte],
     tiles: &Tiles,
     marks: &mut Marks,
-    first: Vec<u32>,
+    mut wave: Vec<u32>,
 ) -> Result<(), AllocError>
     requires tiles { length flows.old ≡ count_of tiles.now }
     requires members { AreMarked flows.old (by_of tiles.now) marks.old }
     requires begun { AreBegun flows.old marks.old }
-    requires round { IsRound (by_of tiles.now) marks.old marks.old first.items }
+    requires round { IsRound (by_of tiles.now) marks.old marks.old wave.items }
     ensures whole { length marks.new ≡ length marks.old }
     ensures outside { (k : ℕ) → mark_at marks.old k ≡ 3 → mark_at marks.new k ≡ 3 }
     ensures tells { Tells flows.old flows.new }
@@ -154,10 +134,9 @@ fn spread(
     ensures facts { OnTerrains flows.old (by_of tiles.now) (λ t level place. AreFlows t level place flows.new) }
     ensures resolved { OnOk result ((k : ℕ) → IsMember marks.old k → OnTerrains flows.old (by_of tiles.now) (λ t level place. (j : ℕ) → CrossesFlat t level (place k) j → (d : Dir) × Names (slice_index_or flows.new k Unknown) d)) }
 {
-    let mut wave = first;
     'waves: while wave.len() > 0 {
-        let mut next = Vec::new(alloc);
-        advance(alloc, tiles, &wave, marks, &mut next, flows)?;
+        let mut next = Vec::new(marks.allocator());
+        advance(tiles, &wave, marks, &mut next, flows)?;
         wave = next;
     }
     Ok(())
@@ -166,25 +145,29 @@ fn spread(
 // Directs and marks the next wave. Directions are tried in their order, so that each sample gets the first that leads to the
 // wave.
 fn advance(
-    alloc: Global,
     tiles: &Tiles,
-    wave: &[u32],
+    samples: &[u32],
     marks: &mut Marks,
     next: &mut Vec<u32>,
     flows: &mut [FlowByte],
 ) -> Result<(), AllocError>
     requires tiles { length flows.old ≡ count_of tiles.now }
     requires whole { length marks.old ≡ length flows.old }
-    requires reached { (i : ℕ) → i < length wave.now → mark_at marks.old (slice_index_or wave.now i 0) ≡ 0 }
-    requires frontier { (k : ℕ) (d : Dir) → mark_at marks.old k ≡ 0 → mark_at marks.old (by_of tiles.now k d) ≡ 2 → Lists wave.now k }
+    requires reached { (i : ℕ) → i < length samples.now → mark_at marks.old (slice_index_or samples.now i 0) ≡ 0 }
+    requires frontier { (k : ℕ) (d : Dir) → mark_at marks.old k ≡ 0 → mark_at marks.old (by_of tiles.now k d) ≡ 2 → Lists samples.now k }
     requires back { (k : ℕ) → IsMember marks.old k → IsBack (by_of tiles.now) (length marks.old) k }
     requires none { length next.old.items ≡ 0 }
     ensures advances { Advances (by_of tiles.now) marks.old flows.old marks.new next.new.items flows.new }
-    ensures passed { OnOk result (IsPassed (by_of tiles.now) marks.new wave.now) }
+    ensures passed { OnOk result (IsPassed (by_of tiles.now) marks.new samples.now) }
 {
-    let deep = are_deep(alloc, tiles, wave)?;
+    let deep = are_deep(marks.allocator(), tiles, samples)?;
+    let wave = Wave {
+        tiles,
+        samples,
+        deep: &deep,
+    };
     for i in 0..8 {
-        reach(tiles, wave, &deep, DIRECTIONS[i], marks, next, flows)?;
+        reach(&wave, DIRECTIONS[i], marks, next, flows)?;
     }
     Ok(())
 }

@@ -15,7 +15,6 @@ use std::alloc::{AllocError, Global};
 
 /// Marks those of the members that lie beside an end.
 pub(crate) fn first_wave(
-    alloc: Global,
     flows: &[FlowByte],
     marks: &mut Marks,
     runs: &[SampleRun],
@@ -28,7 +27,7 @@ pub(crate) fn first_wave(
     ensures first { IfOk result (λ wave. IsFirstWave flows.now marks.old marks.new wave.items) }
     ensures outside { (k : ℕ) → mark_at marks.old k ≡ 3 → mark_at marks.new k ≡ 3 }
 {
-    let mut wave = Vec::new(alloc);
+    let mut wave = Vec::new(marks.allocator());
     for i in 0..runs.len() {
         begin_run(flows, marks, &mut wave, runs[i])?;
     }
@@ -85,29 +84,36 @@ pub(crate) fn are_deep(alloc: Global, tiles: &Tiles, wave: &[u32]) -> Result<Vec
     Ok(deep)
 }
 
+/// A wave of samples, and of each whether it lies deep in its tile.
+#[derive(Drop)]
+pub(crate) struct Wave<'a> {
+    pub(crate) tiles: &'a Tiles,
+    pub(crate) samples: &'a [u32],
+    pub(crate) deep: &'a [bool],
+    ghost depths: { AreDeep tiles.now.side samples.now (length samples.now) deep.now },
+}
+
 /// Reaches the members in no wave whose step in the direction leads to the wave: lists them, and directs them by that step.
 #[inline(never)]
 pub(crate) fn reach(
-    tiles: &Tiles,
-    wave: &[u32],
-    deep: &[bool],
+    wave: &Wave,
     direction: Dir,
     marks: &mut Marks,
     next: &mut Vec<u32>,
     flows: &mut [FlowByte],
 ) -> Result<(), AllocError>
-    requires deep { AreDeep tiles.now.side wave.now (length wave.now) deep.now }
-    requires tiles { length marks.old ≡ count_of tiles.now }
+    requires tiles { length marks.old ≡ count_of wave.now.tiles.now }
     requires whole { length flows.old ≡ length marks.old }
-    requires small { (i : ℕ) → i < length wave.now → slice_index_or wave.now i 0 < length marks.old }
-    requires back { (i : ℕ) → i < length wave.now → IsBack (by_of tiles.now) (length marks.old) (slice_index_or wave.now i 0) }
-    ensures reaches { Reaches (by_of tiles.now) wave.now direction marks.old next.old.items flows.old marks.new next.new.items flows.new }
-    ensures passed { OnOk result ((i : ℕ) → i < length wave.now → mark_at marks.new (by_of tiles.now (slice_index_or wave.now i 0) (back_of direction)) ≡ 2 → ⊥) }
+    requires small { (i : ℕ) → i < length wave.now.samples.now → slice_index_or wave.now.samples.now i 0 < length marks.old }
+    requires back { (i : ℕ) → i < length wave.now.samples.now → IsBack (by_of wave.now.tiles.now) (length marks.old) (slice_index_or wave.now.samples.now i 0) }
+    ensures reaches { Reaches (by_of wave.now.tiles.now) wave.now.samples.now direction marks.old next.old.items flows.old marks.new next.new.items flows.new }
+    ensures passed { OnOk result ((i : ℕ) → i < length wave.now.samples.now → mark_at marks.new (by_of wave.now.tiles.now (slice_index_or wave.now.samples.now i 0) (back_of direction)) ≡ 2 → ⊥) }
 {
+    let (tiles, samples, deep) = (wave.tiles, wave.samples, wave.deep);
     let to_wave = back(direction);
     let stride = Stride::new(tiles.side(), to_wave);
-    for i in 0..wave.len() {
-        let to = tiles.step(wave[i] as usize, to_wave, stride, deep[i]);
+    for i in 0..samples.len() {
+        let to = tiles.step(samples[i] as usize, to_wave, stride, deep[i]);
         if marks.mark(to) != MEMBER {
             continue;
         }

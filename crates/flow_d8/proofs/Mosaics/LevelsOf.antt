@@ -1,4 +1,5 @@
 -- Levels of all tiles, told of one of them and of what lies around it.
+use Rattle.std.proofs.Common.{rules}
 use Rattle.flow_d8.proofs.Prelude.{AreCrossed, AreFilledLevels, ArePadded, ArePaddedTo, AreTiles, Bool, Corner, IsAtHand, IsFilledLevel, IsLevelIn, IsMosaic, IsTrue, List, Mosaic, Point, Tiles, ℕ, ℤ, [], ap, ap₂, arith, cases_Bool, div-mul-add, false, filled_of, get_or, get_or_default, inl, inr, is_corner, is_ground, is_present, is_void, length, list_any, mod-mul-add, mul-add-lt, no_corner, not, padded_point, refl, same_corner, same_from, same_says, slice_get_read, slice_index_or, subst, suc, sym, terrain, true, true≢false, void, ◌%◌, ◌*◌, ◌+◌, ◌/◌, ◌<◌, ◌||◌, ◌∙◌, ◌∷◌, ◌≡◌}
 use Rattle.lattice.proofs.IntTests.{eq_true}
 use Rattle.flow_d8.specs.Filled.{Filled, AreLevels, IsFilledOf, number_of}
@@ -32,13 +33,7 @@ module _ (f : Filled) (whole : AreLevels f) where
 
 -- whichever sinks are declared
 pub any_sinks : (t : Tiles) (levels : List ℤ) (a b : List Point) → AreLevels (filled_of t levels a) → AreLevels (filled_of t levels b)
-any_sinks t levels a b are = record {
-  side_low = are.side_low;
-  side_high = are.side_high;
-  few = are.few;
-  in_order = are.in_order;
-  whole = are.whole;
-}
+any_sinks t levels a b are = search rules
 
 -- a tile's levels and those around it are padded
 pub padded_is : (m : Mosaic) → IsMosaic m → (f : Filled) (c : Corner) (levels : List ℤ) → IsFilledOf m f → length levels ≡ (f.side + 4) * (f.side + 4) → ArePaddedTo f c (length levels) levels → ArePadded m c levels

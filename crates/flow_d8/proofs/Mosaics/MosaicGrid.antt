@@ -1,4 +1,5 @@
 -- The terrain of a mosaic is a grid: adjacent points are a step apart, and no ground is as low as the void.
+use Rattle.std.proofs.Common.{rules}
 use Rattle.std.proofs.Common.{◌≡◌, ℕ, suc, ◌<◌, ℤ, pos, negsuc, ◌+ℤ◌, ◌-ℤ◌, ◌≤ℤ◌, ◌⊎◌, inl, inr, ⊎_elim, true, false, not, List, [], ◌∷◌, sym, ap₂, ◌∙◌, subst, arith, nat_abs, true≢false, nat_lt, int_lt, All, filter, slice_index_or, if◌then◌else◌, cond, map, length}
 use Rattle.flow_d8.proofs.Prelude.{IsGrid, five_parts, get_or_past, int_eq, ints, terrain_is_lawful, ≤ℤ_same}
 use Rattle.std.proofs.lemmas.Bool.{ltb-true, not-true, cases_Bool, cases_lt, and_parts, and_from}
@@ -6,13 +7,7 @@ use Rattle.flow_d8.specs.Prelude.{Point, Dir, East, SouthEast, South, SouthWest,
 use Rattle.lattice.proofs.IntTests.{lt_true, lt_false, eq_from}
 
 shifted : (a b : ℤ) → nat_abs (a -ℤ b) < 2 → (b ≡ a +ℤ pos 0) ⊎ ((b ≡ a +ℤ pos 1) ⊎ (b ≡ a +ℤ negsuc 0))
-shifted a b near = elim (cases_Bool (int_lt a b)) [
-  | inl up ↦ let gt = lt_true a b up in inr (inl (omega (arith, ints)))
-  | inr not_up ↦ let le = lt_false a b not_up in elim (cases_Bool (int_lt b a)) [
-    | inl down ↦ let lt = lt_true b a down in inr (inr (omega (arith, ints)))
-    | inr not_down ↦ let ge = lt_false b a not_down in inl (omega (arith, ints))
-  ]
-]
+shifted a b near = search rules
 
 at : (q : Point) (y x : ℤ) → q.y ≡ y → q.x ≡ x → q ≡ record { y = y; x = x }
 at q y x hy hx = ap₂ (λ (v w : ℤ). record { y = v; x = w }) hy hx

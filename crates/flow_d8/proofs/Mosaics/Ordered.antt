@@ -1,5 +1,6 @@
 -- Where two terrains have the same outlets at points of a region, and from there the same steps down and across, water drains
 -- from there alike.
+use Rattle.std.proofs.Common.{rules}
 use Rattle.flow_d8.proofs.Prelude.{CrossesFlat, HasLower, IsAcross, IsDirection, IsFirstNearer, IsFlatDistance, IsFlow, IsLower, IsNearer, IsSteepest, LiesInside, None, Option, Some, ℕ, ℤ, ap₂, drop_by, inl, inr, nat_abs, suc, sym, zero, ⊎_elim, ◌-ℤ◌, ◌∙◌, ◌≡◌}
 use Rattle.lattice.specs.declared.point.Point.{Point}
 use Rattle.lattice.specs.declared.direction.Dir.{Dir}
@@ -55,15 +56,7 @@ module _ (In : Point → Type 0) where
     same_drop d low = ap₂ (λ a b. nat_abs (a -ℤ b)) (sym same) (sym (around (step d x) low))
 
     steepest_on : (d : Dir) → IsSteepest t k x d → IsSteepest u l x d
-    steepest_on d steep = record {
-      lower = is.lower x (step d x) here steep.lower;
-      steepest = λ e low.
-          let was_low = is.higher x (step e x) here low in
-          sym (ap₂ (λ a b. is_steeper e a d b) (same_drop e was_low) (same_drop d steep.lower)) ∙ steep.steepest e was_low;
-      first = λ e low before.
-          let was_low = is.higher x (step e x) here low in
-          sym (ap₂ (λ a b. is_steeper d a e b) (same_drop d steep.lower) (same_drop e was_low)) ∙ steep.first e was_low before;
-    }
+    steepest_on d steep = search rules
 
     inside_too : u.is_ground x ≡ t.is_ground x → LiesInside t k x → LiesInside u l x
     inside_too ground lies = record { ground = ground ∙ lies.ground; inside = λ ends. lies.inside (crosses_too u t l k (other_way t u k l is) 0 x here ends) }

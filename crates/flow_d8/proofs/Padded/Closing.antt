@@ -1,4 +1,5 @@
 -- Samples on closed edges, told one after another.
+use Rattle.std.proofs.Common.{rules}
 use Rattle.flow_d8.proofs.Prelude.{IsClosedFlow, IsClosing, List, Sides, ℕ, ℤ, ap, drop, flow_in, inl, inr, length, subst, sym, take, ⊎_elim, ◌++◌, ◌∙◌, ◌≡◌}
 use Rattle.std.proofs.Math.Seq.{take-append_seam}
 use Rattle.flow_d8.specs.declared.flow.Flow.{Flow}
@@ -8,10 +9,7 @@ module _ (n : ℕ) (levels : List ℤ) (sides : Sides) where
   closed_still old new closing e at = ⊎_elim (λ same. subst (IsClosedFlow n levels sides e) (sym same) at) (λ told. told) (closing.each e)
 
   pub closing_on : (first old new : List Flow) → IsClosing n levels sides first old → IsClosing n levels sides old new → IsClosing n levels sides first new
-  closing_on first old new was more = record {
-    whole = more.whole ∙ was.whole;
-    each = λ e. ⊎_elim (λ same. ⊎_elim (λ before. inl (same ∙ before)) (λ at. inr (closed_still old new more e at)) (was.each e)) (λ told. inr told) (more.each e);
-  }
+  closing_on first old new was more = search rules
 
 -- what is written through a slice of a whole list is the list
 pub vec_back : (len : ℕ) (new items : List Flow) → length new ≡ length items → len ≡ length items → take len (new ++ drop (length new) items) ≡ new

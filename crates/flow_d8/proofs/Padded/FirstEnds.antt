@@ -1,4 +1,5 @@
 -- Inside a flat, beside an end of its level: the first step to one is the direction.
+use Rattle.std.proofs.Common.{rules}
 use Rattle.flow_d8.proofs.Prelude.{CrossesFlat, Dir, IsAcross, IsDirection, IsFalse, IsFlatDistance, IsNearer, IsStepped, LeadsToEnd, Point, Some, Terrain, ℕ, ℤ, arith, cases_Bool, inl, inr, order_of, step, subst, suc, zero, ⊎_elim, ◌≡◌, ◌≤◌}
 use Rattle.flow_d8.proofs.Paths.Unique.{one_distance}
 
@@ -24,11 +25,7 @@ module _ (t : Terrain Point) (level : Point → ℤ) (x : Point) (inside : Cross
       least (suc j) other = omega arith
 
   nearer_by : (d : Dir) → LeadsToEnd t level x d → IsNearer t level x (step d x)
-  nearer_by d leads = record {
-    beside = leads.across.beside;
-    same_level = leads.across.same_level;
-    nearer = (0, (record { crosses = leads.end; least = λ j other. omega arith }, one (crosses_by d leads)));
-  }
+  nearer_by d leads = search rules
 
   leads_if : (d e : Dir) → LeadsToEnd t level x d → IsNearer t level x (step e x) → LeadsToEnd t level x e
   leads_if d e leads near =

@@ -1,4 +1,5 @@
 -- Flows told by a padded tile are so of the mosaic.
+use Rattle.std.proofs.Common.{rules}
 use Rattle.flow_d8.proofs.Prelude.{AreFilledLevels, AreTileFlows, Beside, Bool, Contains, Corner, CrossesFlat, Dir, East, Flat, FlatTo, Flow, IsFalse, IsFlow, IsInner, IsLevelGrid, IsMosaic, IsPaddedTile, IsShown, IsStepped, IsTrue, LeadsToEnd, LiesInside, List, Mosaic, NoGround, North, NorthEast, NorthWest, Outlet, Point, Sides, South, SouthEast, SouthWest, To, Unknown, West, ℕ, ℤ, [], ap, ap₂, arith, cases_Bool, cases_eq, cases_lt, cond-false, cond-true, east_of, east_of_tile, eq_or_not, false, from_parts, if◌then◌else◌, inl, inr, ints, is_adjacent, is_ground, is_present, is_sink, le_or_above, level_beside, level_is_unique, list_any, lt_false, lt_true, north_of, north_of_tile, or_cases, or_left, or_right, padded_point, place_by, point_of, pos, refl, same_point, share_tile, south_of_tile, step, subst, suc, sym, terrain, true, true≢false, void, west_of_tile, zero, ⊎_elim, ◌%◌, ◌*ℤ◌, ◌*◌, ◌+ℤ◌, ◌+◌, ◌-ℤ◌, ◌-◌, ◌/◌, ◌<ℤ◌, ◌<◌, ◌↔◌, ◌∙◌, ◌∷◌, ◌≡◌, ◌≤◌, ◌⊎◌}
 use Rattle.lattice.proofs.SamePoints.{same_place, same_point_says, same_point_from}
 use Rattle.lattice.proofs.Samples.{row_below}
@@ -92,10 +93,7 @@ module _ (m : Mosaic) (is : IsMosaic m) (c : Corner) (levels : List ℤ) (sides 
 
     -- what isn't ground, or shares no tile, isn't adjacent
     apart_void : (d : Dir) → IsFalse (is_ground m (step d p)) → IsFalse (is_adjacent m p (step d p))
-    apart_void d none = elim (cases_Bool (is_adjacent m p (step d p))) [
-      | inl on ↦ absurd (true≢false (sym (grid.lawful.to_ground p (step d p) on) ∙ none))
-      | inr off ↦ off
-    ]
+    apart_void d none = search rules
 
     apart_tiles : (d : Dir) → (IsTrue (share_tile m p (step d p)) → ⊥) → IsFalse (is_adjacent m p (step d p))
     apart_tiles d none = elim (cases_Bool (is_adjacent m p (step d p))) [
@@ -242,13 +240,7 @@ module _ (m : Mosaic) (is : IsMosaic m) (c : Corner) (levels : List ℤ) (sides 
 
     -- at an end of the row or column, or between
     spot : (k : ℕ) → k < n → ((k ≡ 0) ⊎ (k ≡ n - 1)) ⊎ ((0 < k) × (k < n - 1))
-    spot k small = elim (cases_eq k 0) [
-      | inl first ↦ inl (inl first)
-      | inr other ↦ elim (cases_eq k (n - 1)) [
-        | inl last ↦ inl (inr last)
-        | inr inner ↦ inr (omega arith, omega arith)
-      ]
-    ]
+    spot k small = search rules
 
     module _ (d : Dir) where
       abbrev q : Point

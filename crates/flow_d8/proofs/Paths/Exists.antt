@@ -1,4 +1,5 @@
 -- Each ground point has a flat distance and a direction.
+use Rattle.std.proofs.Common.{rules}
 use Rattle.flow_d8.proofs.Prelude.{AreFilledLevels, Best, CrossesFlat, HasLower, IsDirection, IsFalse, IsFirstNearer, IsFlatDistance, IsGrid, IsNearer, IsSteepest, IsSteepestOf, IsStepped, IsTrue, LeadsDown, List, None, Option, Some, ℕ, ℤ, [], arith, cases_Bool, cases_eq, cases_lt, cases_order, eq_or_not, inl, inr, int_lt, lt_false, lt_true, refl, slope_in, subst, suc, sym, true≢false, zero, ⊎_elim, ◌+◌, ◌<◌, ◌∙◌, ◌∷◌, ◌≡◌, ◌≤ℤ◌, ◌≤◌, ◌⊎◌}
 use Rattle.flow_d8.specs.Prelude.{Point, Dir, East, step, order_of, Terrain, LeadsOut, crest}
 use Rattle.lattice.proofs.Levels.{le-max_right, ≤ℤ_trans, ≤ℤ_same, ≤ℤ_antisym}
@@ -49,13 +50,7 @@ module _ (t : Terrain Point) (bottom : ℤ) (grid : IsGrid t bottom) (level : Po
     crosses : CrossesFlat t level y k
 
   decide_beyond : (x : Point) (k : ℕ) (y : Point) → (CrossesFlat t level y k ⊎ (CrossesFlat t level y k → ⊥)) → Beyond x k y ⊎ (Beyond x k y → ⊥)
-  decide_beyond x k y known = elim (cases_Bool (t.is_adjacent x y)) [
-    | inl on ↦ ⊎_elim
-        (λ same. ⊎_elim (λ yes. inl (record { beside = on; same_level = same; crosses = yes })) (λ no. inr (λ h. no h.crosses)) known)
-        (λ other. inr (λ h. other h.same_level))
-        (eq_or_not (level y) (level x))
-    | inr off ↦ inr (λ h. true≢false (sym h.beside ∙ off))
-  ]
+  decide_beyond x k y known = search rules
 
   decide_crosses : (k : ℕ) (x : Point) → CrossesFlat t level x k ⊎ (CrossesFlat t level x k → ⊥)
   decide_crosses zero x = end_or_inside t level stepped x

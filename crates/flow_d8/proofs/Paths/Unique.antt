@@ -1,4 +1,5 @@
 -- A point has at most one flat distance and at most one direction.
+use Rattle.std.proofs.Common.{rules}
 use Rattle.flow_d8.proofs.Prelude.{Dir, IsDirection, IsFirstNearer, IsFlatDistance, IsSteepest, None, Option, Point, Some, Terrain, ℕ, ℤ, ap, arith, cases_order, inl, inr, order_of, refl, step, sym, true≢false, ⊎_elim, ◌<◌, ◌∙◌, ◌≡◌}
 use Rattle.flow_d8.proofs.Steps.Compass.{same_order}
 
@@ -11,9 +12,7 @@ module _ (t : Terrain Point) (level : Point → ℤ) where
   not_both x d e hd he before = true≢false (sym (he.first d hd.lower before) ∙ hd.steepest e he.lower)
 
   one_steepest : (x : Point) (d e : Dir) → IsSteepest t level x d → IsSteepest t level x e → d ≡ e
-  one_steepest x d e hd he = ⊎_elim (λ same. same_order d e same)
-      (λ other. ⊎_elim (λ before. absurd (not_both x d e hd he before)) (λ after. absurd (not_both x e d he hd after)) other)
-      (cases_order (order_of d) (order_of e))
+  one_steepest x d e hd he = search rules
 
   one_first : (x : Point) (d e : Dir) → IsFirstNearer t level x d → IsFirstNearer t level x e → d ≡ e
   one_first x d e hd he = same_order d e (omega (arith, hd.first e he.nearer, he.first d hd.nearer))

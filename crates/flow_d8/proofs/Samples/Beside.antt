@@ -1,25 +1,15 @@
 -- Around a point off the rim of a tile lie points of that tile, at the places around its own, and no other tile holds it.
+use Rattle.std.proofs.Common.{rules}
 use Rattle.flow_d8.proofs.Prelude.{Corner, Dir, East, Holds, IsIndexOf, North, NorthEast, NorthWest, Point, South, SouthEast, SouthWest, West, ℕ, and_parts, ap, arith, div-mul-add, east_of, ints, is_deep, mod-mul-add, nat_le, nat_tests, north_of, place_by, pos, step, subst, sym, true, ◌%◌, ◌&&◌, ◌*ℤ◌, ◌*◌, ◌+ℤ◌, ◌+◌, ◌-ℤ◌, ◌-◌, ◌/◌, ◌<◌, ◌∙◌, ◌≡◌, ◌≤ℤ◌, ◌≤◌}
 use Rattle.lattice.proofs.Interior.{IsInner, inner_holder}
 
-le_said : (a b : ℕ) → nat_le a b ≡ true → a ≤ b
-le_said a b h = grind (arith, nat_tests)
-
 -- the row and the column of what lies two samples from the edges
 pub deep_says : (n e : ℕ) → is_deep n e ≡ true → (2 ≤ e / n) × (e / n + 3 ≤ n) × (2 ≤ e % n) × (e % n + 3 ≤ n)
-deep_says n e test =
-    let q = e / n in
-    let r = e % n in
-    let one = and_parts (nat_le 2 q && nat_le (q + 3) n && nat_le 2 r) (nat_le (r + 3) n) test in
-    let two = and_parts (nat_le 2 q && nat_le (q + 3) n) (nat_le 2 r) one.0 in
-    let three = and_parts (nat_le 2 q) (nat_le (q + 3) n) two.0 in
-    (le_said 2 q three.0, le_said (q + 3) n three.1, le_said 2 r two.1, le_said (r + 3) n one.1)
+deep_says n e test = search rules
 
 -- it lies off the rim
 pub deep_inner : (n e : ℕ) → is_deep n e ≡ true → IsInner n e
-deep_inner n e test =
-    let said = deep_says n e test in
-    record { above = omega (arith, said.0); below = omega (arith, said.1); before = omega (arith, said.2); after = omega (arith, said.3) }
+deep_inner n e test = search rules
 
 inner_at : (n e i j : ℕ) → e ≡ i * n + j → 1 ≤ i → i + 2 ≤ n → 1 ≤ j → j + 2 ≤ n → IsInner n e
 inner_at n e i j is above below before after =

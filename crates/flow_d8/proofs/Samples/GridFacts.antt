@@ -5,12 +5,6 @@ use Rattle.flow_d8.specs.Tiles.{Tiles, count_of, no_corner, place_of, OnGround}
 use Rattle.flow_d8.proofs.Mosaics.FullTerrain.{mosaic_is_full}
 use Rattle.flow_d8.proofs.Samples.Slots.{longer, as_before, at_end}
 
-    no_count : length flows ≡ 0
-    no_count = whole ∙ ap (λ (l : List Corner). length l * (tiles.side * tiles.side)) none ∙ nothing (tiles.side * tiles.side)
-
-    empty : (k : ℕ) → length flows ≤ k
-    empty k = omega (arith, no_count)
-
 -- a tile comes to hand
 pub grid_push : (m : Mosaic) (tiles new : Tiles) (flows bytes new_flows : List Flow) (c : Corner) → new.side ≡ tiles.side → new.corners ≡ tiles.corners ++ c ∷ [] → Contains (corners_of m) c → AreTileFlows m c bytes
     → ((t : Terrain Point) (level : Point → ℤ) → AreFlowsIn t level tiles.side c bytes → AreFlows t level (place_of tiles) flows → AreFlows t level (place_of new) new_flows)

@@ -1,4 +1,5 @@
 -- The samples of a point in several tiles.
+use Rattle.std.proofs.Common.{rules}
 use Rattle.flow_d8.proofs.Prelude.{Beside, Corner, Flat, FlatTo, Flow, Holds, IsIndexOf, IsOfFlat, IsTold, IsTrue, List, MatchOption, None, Option, Point, Some, Tells, Unknown, ℕ, ap, ap₂, arith, cases_eq, div-mul-add, get_or, get_or-set_other, get_or-set_same, index_of, inl, inr, is_corner, length, length-set, mod-mul-add, mul-le-mul_right, point_of, refl, set, slice_index_or, subst, suc, sym, ◌%◌, ◌*◌, ◌+◌, ◌/◌, ◌<◌, ◌∙◌, ◌≡◌, ◌≤◌, ◌⊎◌}
 use Rattle.lattice.proofs.Samples.{index_is, index_below, point_of_held, index_of_point_is, point_at_index}
 use Rattle.flow_d8.proofs.Samples.Inside.{tile_and_index}
@@ -83,9 +84,4 @@ pub tells_same : (a : List Flow) → Tells a a
 tells_same a = record { whole = refl; kept = λ e not. refl; flat = λ e is. is; told = λ e is. is }
 
 pub tells_on : (a b c : List Flow) → Tells a b → Tells b c → Tells a c
-tells_on a b c first then = record {
-  whole = then.whole ∙ first.whole;
-  kept = λ e not. let same = first.kept e not in then.kept e (λ is. not (subst IsOfFlat same is)) ∙ same;
-  flat = λ e is. then.flat e (first.flat e is);
-  told = λ e is. then.told e (first.told e is);
-}
+tells_on a b c first then = search rules

@@ -1,4 +1,5 @@
 -- What a flow that tells where its point drains says, and that it does so once a flat is resolved.
+use Rattle.std.proofs.Common.{rules}
 use Rattle.flow_d8.proofs.Prelude.{AreFlows, AreKnown, Beside, CrossesFlat, Dir, Drains, Flat, FlatTo, Flow, IsDirection, IsFalse, IsFlow, IsFlowNear, IsFull, IsMosaic, IsOfFlat, IsTellingAll, IsTrue, List, Mosaic, Names, NoGround, None, Outlet, Point, Some, Tells, Terrain, To, Unknown, ℕ, ℤ, ap, direction_of, get_or, inl, is_ground, length, none-some, refl, slice_index_or, step, subst, sym, terrain, terrain_is_lawful, true≢false, ⊎_elim, ◌<◌, ◌∙◌, ◌≡◌}
 use Rattle.std.specs.Prelude.{◌↔◌}
 use Rattle.flow_d8.specs.Filled.{number_of}
@@ -60,19 +61,9 @@ near_flow t level p Outlet is = is
 near_flow t level p (To d) is = is
 near_flow t level p _ is = absurd is
 
--- known of a ground point, and not left on a flat, it tells where the point drains
-drains_unless : (t : Terrain Point) (level : Point → ℤ) (p : Point) (f : Flow) → IsFlow t level p f → IsTrue (t.is_ground p) → (f ≡ Unknown → ⊥) → (f ≡ Flat → ⊥) → Drains f
-drains_unless t level p Unknown is ground known left = absurd (known refl)
-drains_unless t level p NoGround is ground known left = absurd (true≢false (sym ground ∙ is))
-drains_unless t level p Flat is ground known left = absurd (left refl)
-drains_unless t level p _ is ground known left = tt
-
 -- what was known is known still
 pub known_still : (old new : List Flow) → AreKnown old → Tells old new → AreKnown new
-known_still old new known tells k small unknown = ⊎_elim
-    (λ on. subst IsOfFlat unknown (tells.flat k on))
-    (λ off. known k (subst (λ n. k < n) tells.whole small) (sym (tells.kept k off) ∙ unknown))
-    (decide_flat (get_or old k Unknown))
+known_still old new known tells k small unknown = search rules
 
 module _ (tiles : Tiles) (valid : AreTiles tiles) (p : Point) (old new : List Flow) where
   abbrev seed : ℕ
@@ -83,13 +74,7 @@ module _ (tiles : Tiles) (valid : AreTiles tiles) (p : Point) (old new : List Fl
       → ((e : ℕ) → (IsOfFlat (slice_index_or old e Unknown) → ⊥) → slice_index_or new e Unknown ≡ slice_index_or old e Unknown)
       → (t : Terrain Point) (level : Point → ℤ) → AreFlows t level (place_of tiles) new → IsTrue (t.is_ground p)
       → (IsOfFlat (slice_index_or old k Unknown) → (d : Dir) × Names (slice_index_or new k Unknown) d) → Drains (slice_index_or new k Unknown)
-  drains_at k at whole known kept t level are ground named =
-      drains_unless t level p (get_or new k Unknown) (subst (λ q. IsFlow t level q (get_or new k Unknown)) at.here (are k)) ground
-      (known k (subst (λ n. k < n) (sym whole) at.small))
-      (λ left. ⊎_elim
-      (λ flat. let name = named flat in subst (λ f. Names f name.0) left name.1)
-      (λ off. off (subst IsOfFlat (sym left ∙ kept k off) tt))
-      (decide_flat (get_or old k Unknown)))
+  drains_at k at whole known kept t level are ground named = search rules
 
   pub resolved_sample : AreResolved tiles seed old new → seed < count_of tiles → (k : ℕ) → IsSampleOf tiles p k → (t : Terrain Point) (level : Point → ℤ) → IsFull t → AreFlows t level (place_of tiles) old → (j : ℕ) → CrossesFlat t level p j
       → IsOfFlat (slice_index_or old k Unknown) → (d : Dir) × Names (slice_index_or new k Unknown) d

@@ -1,26 +1,12 @@
 -- Samples that tell all, and what tells that a grid is no ground's.
+use Rattle.std.proofs.Common.{rules}
 use Rattle.flow_d8.proofs.Prelude.{Beside, Flat, FlatTo, Flow, IsFlow, IsOfFlat, IsTellingAll, IsTold, LiesInside, List, NoGround, Outlet, Point, Tells, Terrain, To, Unknown, ℕ, ℤ, get_or, inl, inr, refl, slice_index_or, step, subst, sym, true≢false, ⊎_elim, ◌∙◌, ◌≡◌}
 use Rattle.flow_d8.proofs.Sayings.Said.{inside_of}
 use Rattle.flow_d8.proofs.Samples.TwinFlows.{decide_flat}
 
-flat_told : (f : Flow) → IsOfFlat f → IsTellingAll f → IsTold f
-flat_told Unknown flat all = absurd all
-flat_told (Beside d) flat all = tt
-flat_told Flat flat all = absurd all
-flat_told (FlatTo d) flat all = tt
-flat_told _ flat all = absurd flat
-
-told_tells : (f : Flow) → IsTold f → IsTellingAll f
-told_tells (Beside d) is = tt
-told_tells (FlatTo d) is = tt
-told_tells _ is = absurd is
-
 -- what tells all does so still
 pub telling_still : (old new : List Flow) → Tells old new → (k : ℕ) → IsTellingAll (slice_index_or old k Unknown) → IsTellingAll (slice_index_or new k Unknown)
-telling_still old new tells k all = ⊎_elim
-    (λ flat. told_tells (get_or new k Unknown) (tells.told k (flat_told (get_or old k Unknown) flat all)))
-    (λ off. subst IsTellingAll (sym (tells.kept k off)) all)
-    (decide_flat (get_or old k Unknown))
+telling_still old new tells k all = search rules
 
 module _ (t : Terrain Point) (level : Point → ℤ) (p : Point) where
   -- of two samples of a point of which something is known both lie inside a flat, or none

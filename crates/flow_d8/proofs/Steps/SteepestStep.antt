@@ -1,4 +1,5 @@
 -- The steepest way down, found one direction after another.
+use Rattle.std.proofs.Common.{rules}
 use Rattle.flow_d8.proofs.Prelude.{Best, HasLower, IsFalse, IsLevelGrid, IsLower, IsSteepest, IsSteepestOf, IsTrue, LeadsDown, ℕ, ℤ, ap, arith, drop_by, inl, inr, ints, le_or_above, level_beside, nat_abs, slope_in, subst, suc, sym, zero, ⊎_elim, ◌*◌, ◌+◌, ◌-ℤ◌, ◌<ℤ◌, ◌<◌, ◌∙◌, ◌≡◌, ◌≤ℤ◌, ◌≤◌, ◌⊎◌}
 use Rattle.std.proofs.lemmas.Bool.{cases_eq, cases_Bool, cond-true, cond-false, lt-ltb, le-ltb}
 use Rattle.flow_d8.specs.Prelude.{Point, Dir, SouthEast, SouthWest, NorthWest, NorthEast, step, order_of, slope_of, Terrain, void}
@@ -51,22 +52,10 @@ module _ (t : Terrain Point) (level : Point → ℤ) (p : Point) where
         }
 
     pub left : slope ≤ best.slope → IsSteepestOf t level p (order_of d + 1) best
-    left less = record {
-      steepest = λ e below low. ⊎_elim
-          (λ this. subst (λ g. slope_in t level p g ≤ best.slope) (sym this) (let low_d : LeadsDown t level p d = subst (LeadsDown t level p) this low in omega (arith, slope_down low_d)))
-          (λ before. is.steepest e before low) (this_or_before d e below);
-      down = is.down;
-      is = is.is;
-      first = is.first;
-    }
+    left less = search rules
 
   pub begun : (d : Dir) → IsSteepestOf t level p 0 (record { slope = 0; direction = d })
-  begun d = record {
-    steepest = λ e below low. absurd (omega arith);
-    down = λ much. absurd (omega arith);
-    is = λ much. absurd (omega arith);
-    first = λ much. absurd (omega arith);
-  }
+  begun d = search rules
 
   module _ (best : Best) (is : IsSteepestOf t level p 8 best) where
     pub steepest_of_all : 0 < best.slope → IsSteepest t level p best.direction
@@ -114,14 +103,7 @@ module _ (t : Terrain Point) (level : Point → ℤ) (p : Point) where
           ∙ ap (λ v. slope_of d (nat_abs (v -ℤ beside))) (sym here) ∙ ap (λ v. slope_of d (nat_abs (level p -ℤ v))) there
 
       down_slope : 0 < slope → LeadsDown t level p d
-      down_slope much = elim (cases_Bool (t.is_adjacent p (step d p))) [
-        | inl on ↦
-            let there : beside ≡ level (step d p) = shown ∙ beside_there d on in
-            ⊎_elim (λ high. absurd (omega (arith, none (inr high))))
-            (λ below. record { beside = on; below = subst (λ v. v <ℤ level p) there (subst (λ v. beside <ℤ v) (sym here) below) })
-            (le_or_above height beside)
-        | inr off ↦ absurd (omega (arith, none (inl (shown ∙ beside_none d off))))
-      ]
+      down_slope much = search rules
 
       module _ (best : Best) (is : IsSteepestOf t level p (order_of d) best) where
         pub taken_shown : best.slope < slope → IsSteepestOf t level p (order_of d + 1) (record { slope = slope; direction = d })

@@ -1,4 +1,5 @@
 -- A step from a sample's point leads to a point whose coordinates are numbers of 32 bits.
+use Rattle.std.proofs.Common.{rules}
 use Rattle.flow_d8.proofs.Prelude.{Corner, Dir, IsIndexOf, IsTrue, Point, ℕ, ℤ, and_from, arith, east_of, fits_number, fits_point, get_or, index_of_point, int_le, ints, largest_side, le_from, length, negsuc, north_of, point_of, pos, step, ◌%◌, ◌*◌, ◌+ℤ◌, ◌-◌, ◌/◌, ◌<◌, ◌≤ℤ◌, ◌≤◌}
 use Rattle.flow_d8.proofs.Samples.Beside.{near}
 use Rattle.flow_d8.proofs.Samples.Numbers.{corner_near, tile_below}
@@ -6,9 +7,7 @@ use Rattle.flow_d8.specs.Tiles.{Tiles, AreTiles, count_of, no_corner, place_of}
 use Rattle.flow_d8.proofs.Samples.TilePlaces.{square_some}
 
 fits : (v by : ℤ) → negsuc 1000000 ≤ℤ v → v ≤ℤ pos 1000000 → pos 0 ≤ℤ (by +ℤ pos 1) → by ≤ℤ pos 1 → IsTrue (fits_number (v +ℤ by))
-fits v by low high back on = and_from (int_le (negsuc 2147483647) (v +ℤ by)) (int_le (v +ℤ by) (pos 2147483647))
-    (le_from (negsuc 2147483647) (v +ℤ by) (omega (arith, ints, low, high, back, on)))
-    (le_from (v +ℤ by) (pos 2147483647) (omega (arith, ints, low, high, back, on)))
+fits v by low high back on = search rules
 
 index_fits : (n : ℕ) (c : Corner) (p : Point) (e : ℕ) → n ≤ largest_side → IsIndexOf n c p e → (d : Dir) → IsTrue (fits_point (step d p))
 index_fits n c p e most index d =

@@ -1,4 +1,5 @@
 -- Nine levels in three rows, of which each is a point's or that of the point beside it.
+use Rattle.std.proofs.Common.{rules}
 use Rattle.flow_d8.proofs.Prelude.{Dir, East, IsShown, MatchOption, North, NorthEast, NorthWest, Option, Point, South, SouthEast, SouthWest, Terrain, West, ℤ, [], beside_of, cases_Bool, cond-false, cond-true, if◌then◌else◌, inl, inr, level_beside, place_by, slice_index_or, step, subst, sym, void, ◌∙◌, ◌∷◌, ◌≡◌}
 use Rattle.flow_d8.proofs.Steps.Nearby.{beside_there, beside_none}
 
@@ -20,7 +21,4 @@ module _ (t : Terrain Point) (level : Point → ℤ) (p : Point) where
 
   -- the level beside it, or void, as it is read from what is beside it
   pub beside_read : (d : Dir) (found : Option ℤ) (v : ℤ) → found ≡ beside_of t level p d → MatchOption found (v ≡ void) (λ w. v ≡ w) → v ≡ level_beside t level p d
-  beside_read d found v is read = elim (cases_Bool (t.is_adjacent p (step d p))) [
-    | inl on ↦ subst (λ o. MatchOption o (v ≡ void) (λ w. v ≡ w)) (is ∙ beside_there t level p d on) read ∙ sym (cond-true (t.is_adjacent p (step d p)) (level (step d p)) void on)
-    | inr off ↦ subst (λ o. MatchOption o (v ≡ void) (λ w. v ≡ w)) (is ∙ beside_none t level p d off) read ∙ sym (cond-false (t.is_adjacent p (step d p)) (level (step d p)) void off)
-  ]
+  beside_read d found v is read = search rules

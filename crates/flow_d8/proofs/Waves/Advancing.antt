@@ -1,4 +1,5 @@
 -- From one wave to the next.
+use Rattle.std.proofs.Common.{rules}
 use Rattle.flow_d8.proofs.Prelude.{Advances, AreBegun, AreFlows, AreLaid, AreMarked, AreWavesOf, CrossesFlat, Dir, FlatTo, Flow, IsFlow, IsFull, IsOfFlat, IsPassed, IsRound, IsTold, IsTrue, LiesInside, List, Names, Point, Tells, Terrain, Unknown, ℕ, ℤ, ap, arith, back_of, cases_eq, cases_lt, get_or, get_or_past, inl, inr, length, order_of, refl, slice_index_or, step, subst, suc, sym, zero, ⊎_elim, ◌<◌, ◌∙◌, ◌≡◌, ◌≤◌, ◌⊎◌}
 use Rattle.flow_d8.specs.Marks.{mark_at, IsMember, Lists, IsBack, Reaches, IsDirected}
 use Rattle.flow_d8.proofs.Waves.WaveLaw.{AreMembers, Leads, direction, grown, settled}
@@ -77,10 +78,7 @@ module _ (flows : List Flow) (by : ℕ → Dir → ℕ) (members : List ℕ) (ma
     outside = outside_of by marks old_flows new next new_flows go
 
     was_two_in : (k : ℕ) → mark_at new k ≡ 2 → mark_at marks k ≡ 2
-    was_two_in k two = elim (cases_eq (mark_at members k) 3) [
-      | inl out ↦ absurd (omega (arith, outside k (is.outside k out)))
-      | inr member ↦ ⊎_elim (λ at_zero. absurd (omega (arith, old k at_zero))) (λ old. old) (is.member k member)
-    ]
+    was_two_in k two = search rules
 
     -- what lies beside a wave comes into the next
     comes : IsPassed by new wave → (k : ℕ) (d : Dir) → IsMember members k → mark_at marks k ≡ 2 → mark_at marks (by k d) ≡ 0 → mark_at new k ≡ 0
@@ -93,21 +91,7 @@ module _ (flows : List Flow) (by : ℕ → Dir → ℕ) (members : List ℕ) (ma
         (go.joined k two)
 
     pub round_on : IsPassed by new wave → IsRound by members new next
-    round_on passed = record {
-      whole = go.whole ∙ is.whole;
-      member = λ k member. ⊎_elim (λ at_zero. inl (old k at_zero)) (λ two. ⊎_elim (λ still. inr still) (λ now. inl now.0) (go.joined k two)) (is.member k member);
-      outside = λ k out. outside k (is.outside k out);
-      reached = go.reached;
-      frontier = λ k d at_zero two. elim (cases_eq (mark_at members k) 3) [
-        | inl out ↦ absurd (omega (arith, outside k (is.outside k out)))
-        | inr member ↦ ⊎_elim
-            (λ before.
-            let at = is.frontier k d before (was_two_in (by k d) two) in
-            absurd (passed at.0 d at.1.0 (ap (mark_at new) (ap (λ n. by n d) at.1.1) ∙ two)))
-            (λ two_before. ⊎_elim (λ still. absurd (omega arith)) (λ now. now.1.1) (go.joined k two_before))
-            (is.member k member)
-      ];
-    }
+    round_on passed = search rules
 
     pub tells : Tells flows old_flows → Tells old_flows new_flows
     tells was = record {

@@ -1,4 +1,5 @@
 -- From a flat that is collected to its first wave.
+use Rattle.std.proofs.Common.{rules}
 use Rattle.flow_d8.proofs.Prelude.{AreBegun, AreMarked, Connects, Dir, Flow, List, SampleRun, Unknown, ℕ, arith, inl, inr, length, slice_index_or, subst, suc, sym, zero, ⊎_elim, ◌<◌, ◌∙◌, ◌≡◌, ◌⊎◌}
 use Rattle.flow_d8.specs.Marks.{mark_at, IsMember, IsSettled, AreCollected, IsFirstWave, IsBack}
 use Rattle.flow_d8.specs.Filled.{number_of}
@@ -35,12 +36,7 @@ module _ (t : Tiles) (valid : AreTiles t) (flows : List Flow) (size : length flo
       small k member = omega (arith, size, is.found.whole, in_range marks k 2 (is.found.two k member) (omega arith))
 
   pub begun : AreBegun flows new
-  begun = record {
-    beside = λ k member yes. first.beside k (was_member k member) yes;
-    only = λ k at_zero.
-        let member : IsMember new k = λ out. absurd (omega arith) in
-        ⊎_elim (λ yes. yes) (λ no. absurd (omega (arith, first.others k (was_member k member) no))) (decide_beside (slice_index_or flows k Unknown));
-  }
+  begun = search rules
 
 -- of what steps over the flat of a member lead to something is known, and it is a member where it lies inside a flat
 pub connected : (flows : List Flow) (by : ℕ → Dir → ℕ) (marks : List ℕ) → AreMarked flows by marks → (seed : ℕ) → IsMember marks seed → (n k : ℕ) → Connects flows by seed n k → IsSettled flows marks k

@@ -1,4 +1,5 @@
 -- Lists of samples that grow, one by one.
+use Rattle.std.proofs.Common.{rules}
 use Rattle.flow_d8.proofs.Prelude.{List, Lists, ℕ, [], ap, arith, cases_eq, get_or, get_or-append-add, get_or_append_left, inl, inr, length, length-append, subst, sym, ◌++◌, ◌+◌, ◌<◌, ◌∙◌, ◌∷◌, ◌≡◌, ◌⊎◌}
 
 -- a list with one more
@@ -26,13 +27,7 @@ lists_last old new v more = (length old, (omega (arith, more.longer), more.last)
 
 -- what holds of each of a longer list
 pub longer_all : (P : ℕ → Type 0) (old new : List ℕ) (v : ℕ) → IsLonger old new v → ((i : ℕ) → i < length old → P (get_or old i 0)) → P v → (i : ℕ) → i < length new → P (get_or new i 0)
-longer_all P old new v more was here i small = elim (cases_eq i (length old)) [
-  | inl last ↦ subst P (sym (ap (λ j. get_or new j 0) last ∙ more.last)) here
-  | inr other ↦ let before : i < length old = omega (arith, small, more.longer) in subst P (sym (more.kept i before)) (was i before)
-]
+longer_all P old new v more was here i small = search rules
 
 pub lists_either : (old new : List ℕ) (v k : ℕ) → IsLonger old new v → Lists new k → Lists old k ⊎ (k ≡ v)
-lists_either old new v k more at = elim (cases_eq at.0 (length old)) [
-  | inl last ↦ inr (sym at.1.1 ∙ ap (λ i. get_or new i 0) last ∙ more.last)
-  | inr other ↦ let before : at.0 < length old = omega (arith, at.1.0, more.longer) in inl (at.0, (before, sym (more.kept at.0 before) ∙ at.1.1))
-]
+lists_either old new v k more at = search rules

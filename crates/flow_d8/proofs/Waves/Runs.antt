@@ -1,16 +1,17 @@
 -- Members that are added to a flat, run by run.
-use Rattle.flow_d8.proofs.Prelude.{Connects, Dir, East, Flow, IsOfFlat, List, North, NorthEast, NorthWest, SampleRun, South, SouthEast, SouthWest, Unknown, West, ℕ, [], ap, arith, cases_eq, cases_lt, get_or, get_or-append-add, get_or_append_left, get_or_past, inl, inr, is_deep, length, length-append, order_of, place_by, refl, slice_index_or, subst, suc, sym, true, zero, ⊎_elim, ◌%◌, ◌*◌, ◌++◌, ◌+◌, ◌-◌, ◌<◌, ◌∙◌, ◌∷◌, ◌≡◌, ◌≤◌, ◌⊎◌}
-use Rattle.flow_d8.specs.Marks.{mark_at, AreFree, IsMember, IsIn, no_run, Covers, IsRow, AreRows, AreListed, AreFound, AreWaiting, AreOpen, IsRunAdded, IsSettled, Grows}
+use Rattle.std.proofs.Common.{rules}
+use Rattle.flow_d8.proofs.Prelude.{Connects, Dir, East, Flow, IsOfFlat, List, North, NorthEast, NorthWest, SampleRun, South, SouthEast, SouthWest, Unknown, West, ℕ, [], ap, arith, cases_eq, cases_lt, get_or, get_or-append-add, get_or_append_left, get_or_default, get_or_past, inl, inr, is_deep, length, length-append, order_of, place_by, refl, slice_index_or, subst, suc, sym, true, zero, ⊎_elim, ◌%◌, ◌*◌, ◌++◌, ◌+◌, ◌-◌, ◌<◌, ◌∙◌, ◌∷◌, ◌≡◌, ◌≤◌, ◌⊎◌}
+use Rattle.flow_d8.specs.Marks.{mark_at, IsMember, IsIn, no_run, Covers, IsRow, IsRunMarked, AreRows, AreListed, IsSettled}
+use Rattle.flow_d8.specs.Members.{AreFoundIn, IsSettledBeside, Grows}
+use Rattle.flow_d8.specs.declared.collecting.Members.{Members}
+use Rattle.flow_d8.specs.declared.tile_flows.TileFlows.{TileFlows}
 use Rattle.flow_d8.specs.Tiles.{Tiles, AreTiles, count_of, by_of, IsFirst}
 use Rattle.flow_d8.proofs.Samples.DeepSteps.{deep_number, deep_by, deep_inner_at}
 use Rattle.flow_d8.proofs.Sayings.Said.{is_known}
 use Rattle.flow_d8.proofs.Waves.Starting.{member_small}
 
 pub in_or_not : (r : SampleRun) (k : ℕ) → IsIn r k ⊎ (IsIn r k → ⊥)
-in_or_not r k = ⊎_elim
-    (λ before. inr (λ is. absurd (omega (arith, before, is.from))))
-    (λ from. ⊎_elim (λ past. inr (λ is. absurd (omega (arith, past, is.to)))) (λ to. inl (record { from = from; to = to })) (cases_lt r.last k))
-    (cases_lt k r.first)
+in_or_not r k = search rules
 
 -- a list with one more run
 module _ (old new : List SampleRun) (r : SampleRun) (is : new ≡ old ++ r ∷ []) where
@@ -44,12 +45,6 @@ module _ (old new : List SampleRun) (r : SampleRun) (is : new ≡ old ++ r ∷ [
     | inr other ↦ let small_before : i < length old = omega (arith, small, one_more) in subst (IsRow n) (sym (before i small_before)) (was i small_before)
   ]
 
-  pub rows_before : (n : ℕ) → AreRows n new → AreRows n old
-  rows_before n are i small = subst (IsRow n) (before i small) (are i (omega (arith, small, one_more)))
-
-  pub row_last : (n : ℕ) → AreRows n new → IsRow n r
-  row_last n are = subst (IsRow n) last (are (length old) (omega (arith, one_more)))
-
 -- the runs have the members still
 pub listed_within : (marks new : List ℕ) (runs : List SampleRun) → AreListed marks runs → length new ≡ length marks → ((k : ℕ) → mark_at marks k ≡ 3 → mark_at new k ≡ 3) → AreListed new runs
 listed_within marks new runs is whole outside = record { listed = λ k member. is.listed k (λ out. member (outside k out)); small = λ k covers. omega (arith, whole, is.small k covers) }
@@ -58,139 +53,64 @@ listed_within marks new runs is whole outside = record { listed = λ k member. i
 pub flat_small : (flows : List Flow) (k : ℕ) → IsOfFlat (slice_index_or flows k Unknown) → k < length flows
 flat_small flows k flat = ⊎_elim (λ lt. lt) (λ ge. absurd (is_known (slice_index_or flows k Unknown) flat (get_or_past flows k Unknown ge))) (cases_lt k (length flows))
 
--- before anything is found
-pub none_found : (t : Tiles) (flows : List Flow) (seed : ℕ) (marks : List ℕ) (runs : List SampleRun) → length marks ≡ length flows → AreFree marks → length runs ≡ 0 → AreFound t flows seed marks runs
-none_found t flows seed marks runs whole free none = record {
-  whole = whole;
-  two = λ k member. absurd (member (free k));
-  flat = λ k member. absurd (member (free k));
-  first = λ k member. absurd (member (free k));
-  joined = λ k member. absurd (member (free k));
-  listed = λ k member. absurd (member (free k));
-  members = λ k covers. absurd (omega (arith, none, covers.1.0));
-  rows = λ i small. absurd (omega (arith, none));
-}
-
 -- a run is added
-module _ (t : Tiles) (flows : List Flow) (marks : List ℕ) (runs waiting : List SampleRun) (new_marks : List ℕ) (new_runs new_waiting : List SampleRun) (r : SampleRun)
-    (row : IsRow t.side r) (added : IsRunAdded r marks runs waiting new_marks new_runs new_waiting) (free : (k : ℕ) → IsIn r k → mark_at marks k ≡ 3)
-    (flat : (k : ℕ) → IsIn r k → IsOfFlat (slice_index_or flows k Unknown)) (first : (k : ℕ) → IsIn r k → IsFirst t k) where
-  pub member_in : (k : ℕ) → IsIn r k → IsMember new_marks k
-  member_in k in_it out = absurd (omega (arith, out, added.marked.here k in_it))
+module _ (t : TileFlows) (old new : Members) (r : SampleRun) (row : IsRow t.tiles.now.side r) (marked : IsRunMarked r 2 old.marks new.marks) (listed : new.runs.items ≡ old.runs.items ++ r ∷ [])
+    (free : (k : ℕ) → IsIn r k → mark_at old.marks k ≡ 3) (flat : (k : ℕ) → IsIn r k → IsOfFlat (slice_index_or t.flows.now k Unknown)) (first : (k : ℕ) → IsIn r k → IsFirst t.tiles.now k) where
+  pub member_in : (k : ℕ) → IsIn r k → IsMember new.marks k
+  member_in k in_it out = absurd (omega (arith, out, marked.here k in_it))
 
-  kept : (k : ℕ) → IsMember marks k → IsMember new_marks k
-  kept k member out = ⊎_elim (λ in_it. member (free k in_it)) (λ apart. member (sym (added.marked.others k apart) ∙ out)) (in_or_not r k)
+  kept : (k : ℕ) → IsMember old.marks k → IsMember new.marks k
+  kept k member out = ⊎_elim (λ in_it. member (free k in_it)) (λ apart. member (sym (marked.others k apart) ∙ out)) (in_or_not r k)
 
-  pub was : (k : ℕ) → IsMember new_marks k → IsMember marks k ⊎ IsIn r k
-  was k member = ⊎_elim (λ in_it. inr in_it) (λ apart. inl (λ out. member (added.marked.others k apart ∙ out))) (in_or_not r k)
+  was : (k : ℕ) → IsMember new.marks k → IsMember old.marks k ⊎ IsIn r k
+  was k member = ⊎_elim (λ in_it. inr in_it) (λ apart. inl (λ out. member (marked.others k apart ∙ out))) (in_or_not r k)
 
-  two_on : ((k : ℕ) → IsMember marks k → mark_at marks k ≡ 2) → (k : ℕ) → IsMember new_marks k → mark_at new_marks k ≡ 2
-  two_on two k member = ⊎_elim (λ in_it. added.marked.here k in_it)
-      (λ apart. added.marked.others k apart ∙ two k (λ out. member (added.marked.others k apart ∙ out)))
-      (in_or_not r k)
-
-  pub found_on : (seed : ℕ) → AreFound t flows seed marks runs → ((k : ℕ) → IsIn r k → (n : ℕ) × Connects flows (by_of t) seed n k) → AreFound t flows seed new_marks new_runs
-  found_on seed is joined = record {
-    whole = added.marked.whole ∙ is.whole;
-    two = two_on is.two;
-    flat = λ k member. ⊎_elim (is.flat k) (flat k) (was k member);
-    first = λ k member. ⊎_elim (is.first k) (first k) (was k member);
-    joined = λ k member. ⊎_elim (is.joined k) (joined k) (was k member);
-    listed = λ k member. ⊎_elim (λ old. covers_still runs new_runs r added.listed k (is.listed k old)) (covers_last runs new_runs r added.listed k) (was k member);
-    members = λ k covers. ⊎_elim (λ old. kept k (is.members k old)) (member_in k) (covers_either runs new_runs r added.listed k covers);
-    rows = rows_still runs new_runs r added.listed t.side is.rows row;
-  }
-
-  pub waiting_on : AreWaiting t.side marks waiting → AreWaiting t.side new_marks new_waiting
-  waiting_on is = record {
-    members = λ k covers. ⊎_elim (λ old. kept k (is.members k old)) (member_in k) (covers_either waiting new_waiting r added.awaited k covers);
-    rows = rows_still waiting new_waiting r added.awaited t.side is.rows row;
-  }
-
-  pub grows : ((seed : ℕ) → AreFound t flows seed marks runs → (k : ℕ) → IsIn r k → (n : ℕ) × Connects flows (by_of t) seed n k) → Grows t flows marks runs waiting new_marks new_runs new_waiting
-  grows joined = record {
-    whole = added.marked.whole;
+  pub grows : AreFoundIn t old → new.seed ≡ old.seed → ((k : ℕ) → IsIn r k → (n : ℕ) × Connects t.flows.now (by_of t.tiles.now) old.seed n k) → Grows t old new
+  grows is same joined = record {
+    seed = same;
+    found = record {
+      whole = marked.whole ∙ is.whole;
+      two = λ k member. ⊎_elim (λ in_it. marked.here k in_it)
+          (λ apart. marked.others k apart ∙ is.two k (λ out. member (marked.others k apart ∙ out)))
+          (in_or_not r k);
+      flat = λ k member. ⊎_elim (is.flat k) (flat k) (was k member);
+      first = λ k member. ⊎_elim (is.first k) (first k) (was k member);
+      joined = λ k member. subst (λ s. (n : ℕ) × Connects t.flows.now (by_of t.tiles.now) s n k) (sym same) (⊎_elim (is.joined k) (joined k) (was k member));
+      listed = λ k member. ⊎_elim (λ before. covers_still old.runs.items new.runs.items r listed k (is.listed k before)) (covers_last old.runs.items new.runs.items r listed k) (was k member);
+      members = λ k covers. ⊎_elim (λ before. kept k (is.members k before)) (member_in k) (covers_either old.runs.items new.runs.items r listed k covers);
+      rows = rows_still old.runs.items new.runs.items r listed t.tiles.now.side is.rows row;
+    };
     kept = kept;
-    fresh = λ k member. ⊎_elim (λ old. inl old) (λ in_it. inr (covers_last waiting new_waiting r added.awaited k in_it)) (was k member);
-    flats = λ is k member. ⊎_elim (is k) (flat k) (was k member);
-    waits = covers_still waiting new_waiting r added.awaited;
-    found = λ seed is. found_on seed is (joined seed is);
-    awaited = waiting_on;
-    fewer = omega (arith, added.marked.fewer row.some (omega arith) free, one_more waiting new_waiting r added.awaited);
+    runs = λ i small. (omega (arith, small, one_more old.runs.items new.runs.items r listed), before old.runs.items new.runs.items r listed i small);
+    fewer = omega (arith, marked.fewer row.some (omega arith) free, one_more old.runs.items new.runs.items r listed);
   }
 
--- the seed alone
-pub record HasBegun (t : Tiles) (flows : List Flow) (seed : ℕ) (marks : List ℕ) (runs waiting : List SampleRun) : Type 0 where
-  pub begun : IsMember marks seed
-  pub found : AreFound t flows seed marks runs
-  pub awaited : AreWaiting t.side marks waiting
-  pub unsettled : AreOpen t flows marks waiting
+pub found_listed : (t : TileFlows) (m : Members) → AreFoundIn t m → AreListed m.marks m.runs.items
+found_listed t m is = record { listed = is.listed; small = λ k covers. member_small m.marks k (is.members k covers) }
 
-pub has_begun : (t : Tiles) (flows : List Flow) (marks : List ℕ) (runs waiting : List SampleRun) (new_marks : List ℕ) (new_runs new_waiting : List SampleRun) (r : SampleRun) (seed : ℕ) → r ≡ record { first = seed; last = seed }
-    → IsRunAdded r marks runs waiting new_marks new_runs new_waiting → AreFree marks → length runs ≡ 0 → length waiting ≡ 0 → length marks ≡ length flows → IsOfFlat (slice_index_or flows seed Unknown) → IsFirst t seed
-    → HasBegun t flows seed new_marks new_runs new_waiting
-has_begun t flows marks runs waiting new_marks new_runs new_waiting r seed is added free none none_waits whole flat first = record {
-  begun = member_in t flows marks runs waiting new_marks new_runs new_waiting r row added (λ k in_it. free k) flat_in first_in seed here;
-  found = found_on t flows marks runs waiting new_marks new_runs new_waiting r row added (λ k in_it. free k) flat_in first_in seed (none_found t flows seed marks runs whole free none) (λ k in_it. (0, sym (one k in_it)));
-  awaited = waiting_on t flows marks runs waiting new_marks new_runs new_waiting r row added (λ k in_it. free k) flat_in first_in
-      (record { members = λ k covers. absurd (omega (arith, none_waits, covers.1.0)); rows = λ i small. absurd (omega (arith, none_waits)) });
-  unsettled = λ k member. ⊎_elim (λ old. absurd (old (free k))) (λ in_it. inl (covers_last waiting new_waiting r added.awaited k in_it))
-      (was t flows marks runs waiting new_marks new_runs new_waiting r row added (λ j in_j. free j) flat_in first_in k member);
-}
-  where
-    low : r.first ≡ seed
-    low = ap (λ (q : SampleRun). q.first) is
+-- one of the runs
+module _ (t : TileFlows) (m : Members) (is : AreFoundIn t m) (i : ℕ) (small : i < length m.runs.items) (r : SampleRun) (at : r ≡ slice_index_or m.runs.items i r) where
+  pub run_at : r ≡ slice_index_or m.runs.items i no_run
+  run_at = at ∙ get_or_default m.runs.items i r no_run small
 
-    high : r.last ≡ seed
-    high = ap (λ (q : SampleRun). q.last) is
+  pub run_row : IsRow t.tiles.now.side r
+  run_row = subst (IsRow t.tiles.now.side) (sym run_at) (is.rows i small)
 
-    one : (k : ℕ) → IsIn r k → k ≡ seed
-    one k in_it = omega (arith, low, high, in_it.from, in_it.to)
+  pub run_member : (k : ℕ) → IsIn r k → IsMember m.marks k
+  run_member k in_it = is.members k (i, (small, subst (λ (q : SampleRun). IsIn q k) run_at in_it))
 
-    here : IsIn r seed
-    here = record { from = omega (arith, low); to = omega (arith, high) }
+module _ (t : TileFlows) (a b : Members) (first : Grows t a b) where
+  pub settled_on : (k : ℕ) (d : Dir) → IsSettledBeside t a k d → IsSettledBeside t b k d
+  settled_on k d is = record { known = is.known; member = λ flat. first.kept (by_of t.tiles.now k d) (is.member flat) }
 
-    row : IsRow t.side r
-    row = record { some = omega (arith, low, high); deep = inl (high ∙ sym low) }
-
-    flat_in : (k : ℕ) → IsIn r k → IsOfFlat (slice_index_or flows k Unknown)
-    flat_in k in_it = subst (λ n. IsOfFlat (slice_index_or flows n Unknown)) (sym (one k in_it)) flat
-
-    first_in : (k : ℕ) → IsIn r k → IsFirst t k
-    first_in k in_it = subst (IsFirst t) (sym (one k in_it)) first
-
-pub found_listed : (t : Tiles) (flows : List Flow) (seed : ℕ) (marks : List ℕ) (runs : List SampleRun) → AreFound t flows seed marks runs → AreListed marks runs
-found_listed t flows seed marks runs is = record { listed = is.listed; small = λ k covers. member_small marks k (is.members k covers) }
-
-pub grows_same : (t : Tiles) (flows : List Flow) (marks : List ℕ) (runs waiting : List SampleRun) → Grows t flows marks runs waiting marks runs waiting
-grows_same t flows marks runs waiting = record { whole = refl; kept = λ k is. is; fresh = λ k is. inl is; waits = λ k is. is; flats = λ is. is; found = λ seed is. is; awaited = λ is. is; fewer = omega arith }
-
-module _ (t : Tiles) (flows : List Flow) (a : List ℕ) (ra wa : List SampleRun) (b : List ℕ) (rb wb : List SampleRun) (first : Grows t flows a ra wa b rb wb) where
-  pub settled_on : (k : ℕ) → IsSettled flows a k → IsSettled flows b k
-  settled_on k is = record { known = is.known; member = λ flat. first.kept k (is.member flat) }
-
-  pub grows_on : (c : List ℕ) (rc wc : List SampleRun) → Grows t flows b rb wb c rc wc → Grows t flows a ra wa c rc wc
-  grows_on c rc wc then = record {
-    whole = then.whole ∙ first.whole;
+  pub grows_on : (c : Members) → Grows t b c → Grows t a c
+  grows_on c then = record {
+    seed = then.seed ∙ first.seed;
+    found = then.found;
     kept = λ k is. then.kept k (first.kept k is);
-    fresh = λ k is. ⊎_elim (λ old. ⊎_elim (λ older. inl older) (λ covers. inr (then.waits k covers)) (first.fresh k old)) (λ covers. inr covers) (then.fresh k is);
-    waits = λ k is. then.waits k (first.waits k is);
-    flats = λ is. then.flats (first.flats is);
-    found = λ seed is. then.found seed (first.found seed is);
-    awaited = λ is. then.awaited (first.awaited is);
+    runs = λ i small. let there = first.runs i small in let on = then.runs i there.0 in (on.0, on.1 ∙ there.1);
     fewer = omega (arith, first.fewer, then.fewer);
   }
-
--- a run that waited is settled
-pub open_on : (t : Tiles) (flows : List Flow) (marks : List ℕ) (runs waiting rest : List SampleRun) (r : SampleRun) (new : List ℕ) (new_runs new_waiting : List SampleRun) → waiting ≡ rest ++ r ∷ [] → AreOpen t flows marks waiting
-    → Grows t flows marks runs rest new new_runs new_waiting → ((k : ℕ) (d : Dir) → IsIn r k → IsSettled flows new (by_of t k d)) → AreOpen t flows new new_waiting
-open_on t flows marks runs waiting rest r new new_runs new_waiting at was grows settled k member = ⊎_elim
-    (λ old. ⊎_elim
-    (λ covers. ⊎_elim (λ in_rest. inl (grows.waits k in_rest)) (λ in_it. inr (λ d. settled k d in_it)) (covers_either rest waiting r at k covers))
-    (λ before. inr (λ d. settled_on t flows marks runs rest new new_runs new_waiting grows (by_of t k d) (before d)))
-    (was k old))
-    (λ covers. inl covers)
-    (grows.fresh k member)
 
 -- steps within a row that lies deep in its tile
 module _ (t : Tiles) (valid : AreTiles t) (flows : List Flow) (r : SampleRun) (row : IsRow t.side r) (small : (k : ℕ) → IsIn r k → k < count_of t) (flat : (k : ℕ) → IsIn r k → IsOfFlat (slice_index_or flows k Unknown)) where

@@ -1,4 +1,5 @@
 -- Members beside an end come into the first wave.
+use Rattle.std.proofs.Common.{rules}
 use Rattle.flow_d8.proofs.Prelude.{Begins, Flow, IsBeside, IsFirstWave, IsMember, List, Lists, Unknown, ℕ, ap, arith, cases_eq, cases_lt, get_or-set_other, get_or-set_same, get_or_past, inl, inr, length, length-set, mark_at, refl, set, slice_index_or, subst, sym, ⊎_elim, ◌<◌, ◌∙◌, ◌≡◌, ◌⊎◌}
 use Rattle.flow_d8.proofs.Waves.Listing.{IsLonger, lists_kept, lists_last, lists_either}
 
@@ -38,13 +39,4 @@ module _ (flows : List Flow) (a wa b wb : List ℕ) (first : Begins flows a wa b
   zero_on k zero = ⊎_elim (λ same. same ∙ zero) (λ now. now.1) (first.changed k)
 
   pub begins_on : (c wc : List ℕ) → Begins flows b wb c wc → Begins flows a wa c wc
-  begins_on c wc then = record {
-    whole = then.whole ∙ first.whole;
-    changed = λ k. ⊎_elim
-        (λ same. ⊎_elim (λ old. inl (same ∙ old)) (λ now. inr (now.0, same ∙ now.1, now.2)) (first.changed k))
-        (λ now. inr (now.0, now.1, member_before k now.2))
-        (then.changed k);
-    kept = λ k is. then.kept k (first.kept k is);
-    listed = λ k zero. ⊎_elim (λ old. ⊎_elim (λ older. inl older) (λ lists. inr (then.kept k lists)) (first.listed k old)) (λ lists. inr lists) (then.listed k zero);
-    only = λ k is. ⊎_elim (λ old. ⊎_elim (λ older. inl older) (λ zero. inr (⊎_elim (λ same. same ∙ zero) (λ now. now.1) (then.changed k))) (first.only k old)) (λ zero. inr zero) (then.only k is);
-  }
+  begins_on c wc then = search rules

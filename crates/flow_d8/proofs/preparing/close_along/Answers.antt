@@ -26,7 +26,7 @@ module _ (n : ℕ) (levels : List ℤ) (sides : Sides) where
 
 pub returns-clause-told : goal.returns-clause-told
 returns-clause-told c d r s at same =
-    along c.args.side c.args.levels.now c.args.sides.now c.args.i (c.samples.result - 1) (omega (arith, c.samples.ensures.value))
+    along c.args.tile.now.side c.args.tile.now.levels.now c.args.tile.now.sides.now c.args.i (c.samples.result - 1) (omega (arith, c.samples.ensures.value))
     c.close_unless.new.flows c.close_unless-2.new.flows c.close_unless-3.new.flows c.close_unless-4.new.flows
     c.close_unless-2.ensures.closing c.close_unless-3.ensures.closing c.close_unless-4.ensures.closing
     d r s at same c.close_unless.ensures.told c.close_unless-2.ensures.told c.close_unless-3.ensures.told c.close_unless-4.ensures.told

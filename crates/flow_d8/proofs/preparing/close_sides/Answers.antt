@@ -9,4 +9,4 @@ along_below n sides NorthEast r s at = absurd at
 along_below n sides _ r s at = at.3
 
 pub returns-clause-told : goal.returns-clause-told
-returns-clause-told c d r s at = c.loop-i.invariant.told d r s at (omega (arith, along_below c.args.side c.args.sides.now d r s at, c.loop-i-test.false, c.samples-n.ensures.value))
+returns-clause-told c d r s at = c.loop-i.invariant.told d r s at (omega (arith, along_below c.args.tile.now.side c.args.tile.now.sides.now d r s at, c.loop-i-test.false, c.samples-n.ensures.value))

@@ -10,7 +10,7 @@ pub loop-i-preserved : goal.loop-i-preserved
 loop-i-preserved c =
     let was = c.loop-i.invariant in
     let by = by_of c.args.tiles.now in
-    let wave = c.args.wave.now in
+    let wave = c.args.samples.now in
     record {
       advances = advances_on by c.args.marks.now wave c.args.flows.now c.requires.reached c.requires.frontier c.requires.back c.loop-i.marks c.loop-i.next.items c.loop-i.flows was.advances _
           (λ j e less small. was.passed j e (subst (λ n. order_of e < n) (order_at c.loop-i.i _ c.loop-i-test.true) less) small)
@@ -25,10 +25,10 @@ loop-i-preserved c =
 pub returns-in_err-reach-clause-advances : goal.returns-in_err-reach-clause-advances
 returns-in_err-reach-clause-advances c =
     let was = c.loop-i.invariant in
-    advances_on (by_of c.args.tiles.now) c.args.marks.now c.args.wave.now c.args.flows.now c.requires.reached c.requires.frontier c.requires.back c.loop-i.marks c.loop-i.next.items c.loop-i.flows was.advances _
+    advances_on (by_of c.args.tiles.now) c.args.marks.now c.args.samples.now c.args.flows.now c.requires.reached c.requires.frontier c.requires.back c.loop-i.marks c.loop-i.next.items c.loop-i.flows was.advances _
     (λ j e less small. was.passed j e (subst (λ n. order_of e < n) (order_at c.loop-i.i _ c.loop-i-test.true) less) small)
     c.reach.new.marks c.reach.new.next.items c.reach.new.flows c.reach.ensures.reaches
 
 pub returns-clause-passed : goal.returns-clause-passed
 returns-clause-passed c j d small two = c.loop-i.invariant.passed j (back_of d) (omega (arith, order_below (back_of d), c.loop-i-test.false)) small
-    (subst (λ e. mark_at c.loop-i.marks (by_of c.args.tiles.now (get_or c.args.wave.now j 0) e) ≡ 2) (sym (back_twice d)) two)
+    (subst (λ e. mark_at c.loop-i.marks (by_of c.args.tiles.now (get_or c.args.samples.now j 0) e) ≡ 2) (sym (back_twice d)) two)

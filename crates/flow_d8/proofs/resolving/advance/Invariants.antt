@@ -5,5 +5,5 @@ use Rattle.flow_d8.proofs.resolving.advance.Given as goal
 abbrev pub invariant-loop-i : goal.invariant-loop-i
 invariant-loop-i l = record {
   advances : Advances (by_of l.tiles) l.fn.marks l.fn.flows l.marks l.next.items l.flows;
-  passed : (j : ℕ) (d : Dir) → order_of d < l.i → j < length l.wave → mark_at l.marks (by_of l.tiles (slice_index_or l.wave j 0) (back_of d)) ≡ 2 → ⊥;
+  passed : (j : ℕ) (d : Dir) → order_of d < l.i → j < length l.samples → mark_at l.marks (by_of l.tiles (slice_index_or l.samples j 0) (back_of d)) ≡ 2 → ⊥;
 }

@@ -8,8 +8,8 @@ use Rattle.flow_d8.proofs.spreading.reach.Goals as goal
 pub loop-i-preserved-then-mark-ne-MEMBER : goal.loop-i-preserved-then-mark-ne-MEMBER
 loop-i-preserved-then-mark-ne-MEMBER c =
     let was = c.loop-i.invariant in
-    let by = by_of c.args.tiles.now in
-    let wave = c.args.wave.now in
+    let by = by_of c.args.wave.now.tiles.now in
+    let wave = c.args.wave.now.samples.now in
     let value = c.step-to.ensures.value ∙ ap (by (get_or wave c.loop-i.i 0)) c.back-to_wave.ensures in
     record {
       reaches = was.reaches;
@@ -22,8 +22,8 @@ loop-i-preserved-then-mark-ne-MEMBER c =
 pub loop-i-preserved : goal.loop-i-preserved
 loop-i-preserved c =
     let was = c.loop-i.invariant in
-    let by = by_of c.args.tiles.now in
-    let wave = c.args.wave.now in
+    let by = by_of c.args.wave.now.tiles.now in
+    let wave = c.args.wave.now.samples.now in
     let d = c.args.direction in
     let from = get_or wave c.loop-i.i 0 in
     let to = by from (back_of d) in
