@@ -1,4 +1,5 @@
 -- What a disk stands for that was formatted, or opened.
+use Rattle.std.proofs.Common.{rules}
 use Rattle.cow_tree.proofs.Prelude.{A, All-nil, AreStaged, Format, Ghosts, IsClean, IsEntry, IsPageMap, IsReady, IsRefusedFor, KeepsPageRule, PageMapValue, Refusal, TileLocation, Tree, entry_of, false≢true, ready_current, sectors_asked}
 use Rattle.std.proofs.Common.{zero, suc, ◌∷◌, lit<, ◌≡◌, ◌⊎◌, inl, inr, ⊎_elim, ℕ, ◌<◌, ◌≤◌, Ok, Err, List, [], All, map, refl, sym, ap, ◌∙◌, subst, arith}
 use Rattle.disk.specs.Disk.{Image, Only}
@@ -15,19 +16,7 @@ use Rattle.cow_tree.proofs.Commits.{nothing_staged}
 use Rattle.cow_tree.proofs.Steps.{stores_along}
 
 pub formatted_stands : (n : ℕ) (format : Format) (root : RootValue) (seen image : Image) → root ≡ empty_root format → IsCurrent root seen → image ≡ seen → sectors_asked format ≤ n → Stands n image (no_tiles format)
-formatted_stands n format root seen image is_root current same room = (
-  empty_root format,
-  [],
-  record {
-    laid_out = record {
-      store = (subst (λ (i : Image). IsCurrent (empty_root format) i) (sym same) (subst (λ (r : RootValue). IsCurrent r seen) is_root current), room);
-      entries = refl;
-      records = All-nil (HasRecords format image);
-      page_rule = record { low = All-nil (λ p. 4 ≤ p); high = All-nil (λ p. p < n); once = λ p. omega arith };
-    };
-    stands = refl;
-  },
-)
+formatted_stands n format root seen image is_root current same room = search rules
 
 -- the tiles of a page_map that was read
 pub opened_stores : (n : ℕ) (root : RootValue) (page_map : PageMapValue) (image : Image) → IsCurrent root image → IsPageMap page_map → page_map.sectors ≡ n → page_map.format ≡ format_of root → map entry_of page_map.committed ≡ root.entries → All (HasRecords (format_of root) image) page_map.committed
@@ -43,8 +32,7 @@ opened_stores n root page_map image current rules sectors format entries records
 }
 
 pub clean_staged : (n : ℕ) (root : RootValue) (page_map : PageMapValue) (image : Image) → IsClean page_map → StoresAt n root page_map.committed (stored_in image root page_map.committed) image → AreStaged (format_of root) page_map.committed page_map.staged image
-clean_staged n root page_map image clean stores =
-    subst (λ (tiles : List TileLocation). AreStaged (format_of root) page_map.committed tiles image) (sym clean) (nothing_staged n root page_map.committed (stored_in image root page_map.committed) image stores)
+clean_staged n root page_map image clean stores = search rules
 
 -- a tree that was just read from the image stands for what the image holds
 pub opened : {D : Type 0} (g : Ghosts D) (tree : Tree D g) (n : ℕ) (image : Image) → IsReady g tree.roots → g.size tree.roots.disk ≡ n → g.seen tree.roots.disk ≡ image → Only image (g.may tree.roots.disk)
@@ -71,9 +59,7 @@ opened g tree n image ready size seen only here rules clean records =
 
 -- the refusals of opening
 pub records_refuse : (n : ℕ) (image : Image) (root : RootValue) (why : Refusal) → StoresOpen → OpensAs n image (Ok root) → (n < sectors_asked (format_of root)) ⊎ IsRefusedFor ((tiles : List TileLocation) → ¬ IsLaidOut n image root tiles) why → MayRefuse n image why
-records_refuse n image root why law opens refused =
-    ⊎_elim (λ small. let store = (law n image root).0 opens in absurd (omega (arith, small, store.1)))
-    (λ other. ⊎_elim (λ device. inl device) (λ rest. ⊎_elim (λ memory. inr (inl memory)) (λ damaged. inr (inr (inr (damaged.0, (root, (opens, damaged.1)))))) rest) other) refused
+records_refuse n image root why law opens refused = search rules
 
 -- .. where the roots opened as this root, and the image was read from then on
 pub page_map_refuses : (n m : ℕ) (image read : Image) (root known : RootValue) (why : Refusal) (Fault : Type 0) → m ≡ n → read ≡ image → root ≡ known → ¬ Fault → Fault ⊎ OpensAs n image (Ok known)

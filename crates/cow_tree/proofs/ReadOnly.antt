@@ -1,4 +1,5 @@
 -- Reads one after another, and why they were refused.
+use Rattle.std.proofs.Common.{rules}
 use Rattle.cow_tree.proofs.Prelude.{Bool, Err, Ghosts, IfErr, IsErrOf, Ok, Refusal, Result, Roots, arith, disk_of, ended_with, false, has_failed, inl, inr, nothing_twice, refl, subst, sym, ⊎_elim, ◌∙◌, ◌≡◌, ◌⊎◌}
 use Rattle.std.specs.Result.{IsErrAnd}
 use Rattle.lattice.specs.declared.refusal.Refusal.TheVariants.{Device, NoMemory, Damaged}
@@ -35,19 +36,7 @@ module _ {D : Type 0} (g : Ghosts D) where
 
   -- the same with another answer
   pub read_as : {T U : Type 0} (old new : Roots D g) (was : Result T Refusal) (now : Result U Refusal) → OnlyReads g old new was → (has_failed new ≡ false) ⊎ IsErrOf now Device → (IsErrOf now Device → IsErrOf was Device) → OnlyReads g old new now
-  read_as old new was now reads works same = record {
-    size = reads.size;
-    writes = reads.writes;
-    later = reads.later;
-    device = λ is. reads.device (same is);
-    root = reads.root;
-    begun = reads.begun;
-    works = works;
-    honest = reads.honest;
-    seen = reads.seen;
-    nothing = reads.nothing;
-    ready = reads.ready;
-  }
+  read_as old new was now reads works same = search rules
 
 pub never_refused : {T A : Type 0} (x : T) (why : Refusal) → IsErrOf (Ok x) why → A
 never_refused {T} {A} x why is = cc

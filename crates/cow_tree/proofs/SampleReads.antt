@@ -128,14 +128,6 @@ pub length_further : (into part : List ℤ) (done end : ℕ) → done ≤ end �
 length_further into part done end le within long =
     omega (arith, length-append (take done into) (part ++ drop (end - done) (drop done into)), length-append part (drop (end - done) (drop done into)), length-take done into, length-drop (end - done) (drop done into), length-drop done into)
 
--- a tile has few samples by either version
-pub samples_small : (version : Version) (n : ℕ) → n ≤ largest_side_of version → n * n ≤ 12967201
-samples_small version n le = let small : n ≤ largest_side = by version le in let square : n * n ≤ n * largest_side = mul-le-mul_left n small in omega arith
-  where
-    by : (v : Version) → n ≤ largest_side_of v → n ≤ largest_side
-    by One below = omega (arith, below)
-    by Two below = below
-
 -- one sample
 pub one_sample : (m : Mosaic) (c : Corner) (samples : List ℤ) (i : ℕ) (into : List ℤ) (s : ℤ) → samples_of m c ≡ Some samples → i < length samples → length into ≡ 1 → s ≡ get_or into 0 s → slice_range samples i (i + length into) ≡ into → IsSomeAnd (samples_of m c) (λ all. slice_get all i ≡ Some s)
 one_sample m c samples i into s found lt long is read =

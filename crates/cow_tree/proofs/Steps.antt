@@ -1,4 +1,5 @@
 -- The steps of staging and of a commit, over page_map and images.
+use Rattle.std.proofs.Common.{rules}
 use Rattle.cow_tree.proofs.Prelude.{All, All-weaker, AreStaged, Bool, Contains, Corner, Device, Err, Format, IfErr, Image, IsErrOf, List, NoMemory, Ok, OnErr, OnOk, Refusal, Result, RootValue, SamePagesBut, Stands, Stored, StoresAt, TileLocation, ℕ, any_none, ap, arith, false, length, list_any, map, moved_plane, pages_of, reached, refl, subst, sym, tile_in, times, true, with_page, ◌/◌, ◌<◌, ◌==◌, ◌∙◌, ◌≡◌, ◌≤◌}
 use Rattle.page_map.specs.PageMaps.{PageMapValue, IsPageMap, IsRewritten, IsLocated, IsWholeTile, corners_of_locations, with_page_location}
 use Rattle.cow_tree.proofs.Listed.CornerChanges.{corners_still}
@@ -66,8 +67,7 @@ on_ok_both (Err e) f p q = tt
 
 -- the same under other names
 pub stores_along : (n m : ℕ) (root root' : RootValue) (tiles tiles' : List TileLocation) (s : Stored) (image : Image) → m ≡ n → root' ≡ root → tiles' ≡ tiles → StoresAt n root tiles s image → StoresAt m root' tiles' s image
-stores_along n m root root' tiles tiles' s image e f h stores =
-    subst (λ (k : ℕ). StoresAt k root' tiles' s image) (sym e) (subst (λ (r : RootValue). StoresAt n r tiles' s image) (sym f) (subst (λ (ts : List TileLocation). StoresAt n root ts s image) (sym h) stores))
+stores_along n m root root' tiles tiles' s image e f h stores = search rules
 
 -- what holds anyway holds where the call answered Ok
 pub ok_where : {T E : Type 0} {P : Type 0} (r : Result T E) → P → OnOk r P

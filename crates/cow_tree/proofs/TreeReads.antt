@@ -1,4 +1,5 @@
 -- What a read leaves of a tree.
+use Rattle.std.proofs.Common.{rules}
 use Rattle.cow_tree.proofs.Prelude.{AreWhole, Ghosts, HasOnlyRead, IsMosaic, IsReadable, List, Point, RootValue, Tree, ap, ap₂, mosaic_of, mosaic_of_tiles, subst, sym, ◌∙◌, ◌≡◌}
 use Rattle.cow_tree.specs.Trees.{disk_of, root_of, sinks_of, staged_in}
 
@@ -9,15 +10,7 @@ module _ {D : Type 0} (g : Ghosts D) (old new : Tree D g) (kept : HasOnlyRead g 
       ∙ ap (mosaic_of_tiles (root_of old).side (sinks_of old)) (kept.staged honest)
 
   pub was_readable : IsReadable g new → IsReadable g old
-  was_readable readable = record {
-    honest = kept.honest readable.honest;
-    pages = subst AreWhole (kept.staged readable.honest) readable.pages;
-    valid = subst IsMosaic (same_mosaic readable.honest) readable.valid;
-  }
+  was_readable readable = search rules
 
   pub still_readable : g.honest (disk_of new) → IsReadable g old → IsReadable g new
-  still_readable honest was = record {
-    honest = honest;
-    pages = subst AreWhole (sym (kept.staged honest)) was.pages;
-    valid = subst IsMosaic (sym (same_mosaic honest)) was.valid;
-  }
+  still_readable honest was = search rules

@@ -1,4 +1,5 @@
 -- Calls that commit nothing: one, and one after another.
+use Rattle.std.proofs.Common.{rules}
 use Rattle.std.proofs.Common.{◌≡◌, false, true, List, All, Contains, Result, Ok, Err, OnOk, IsErrOf, refl, sym, ap, ◌∙◌, subst, arith, ℕ, IsErrAnd, is_err}
 use Rattle.disk.specs.Disk.{Image, HasRisen}
 use Rattle.cow_tree.proofs.Prelude.{AreStaged, Device, EachStores, Ghosts, HasOnlyRead, LeavesOnly, NoMemory, PageMapValue, Refusal, RootValue, Roots, Stands, Stored, StoresAt, Tree, WritesPages, format_of, in_turn, nothing_done, reached, weaker}
@@ -32,14 +33,7 @@ module _ {D : Type 0} (g : Ghosts D) where
 
   -- what makes no call of the disk commits nothing
   pub not_called : {T : Type 0} (old new : Tree D g) (result : Result T Refusal) → MakesNoCall old new → OnOk result (has_failed new ≡ false) → (IsErrOf result Device → ⊥) → Returns g old new result
-  not_called old new result makes works other = record {
-    size = ap g.size makes.disk;
-    later = let same = ap g.failures makes.disk in omega (arith, same);
-    device = λ is. absurd (other is);
-    works = works;
-    fails = λ is. absurd (other is);
-    honest = subst g.honest makes.disk;
-  }
+  not_called old new result makes works other = search rules
 
   pub in_memory : {T : Type 0} (old new : Tree D g) (result : Result T Refusal) → OnlyNow → MakesNoCall old new → has_failed old ≡ false → (g.honest (disk_of old) → (s : Stored) → IsAt g old s → IsAt g new s)
       → (IsErrOf result Device → ⊥) → CommitsNothing g old new result
@@ -55,14 +49,7 @@ module _ {D : Type 0} (g : Ghosts D) where
 
   -- a call after one that wasn't refused
   pub returns_on : {T U : Type 0} (old mid new : Tree D g) (x : T) (result : Result U Refusal) → Returns g old mid (Ok x) → Returns g mid new result → Returns g old new result
-  returns_on old mid new x result first second = record {
-    size = second.size ∙ first.size;
-    later = omega (arith, first.later, second.later);
-    device = λ is. let risen = second.device is in omega (arith, risen, first.later);
-    works = second.works;
-    fails = second.fails;
-    honest = λ h. first.honest (second.honest h);
-  }
+  returns_on old mid new x result first second = search rules
 
   pub uncommitted_on : {T U : Type 0} (old mid new : Tree D g) (x : T) (result : Result U Refusal) → CommitsNothing g old mid (Ok x) → CommitsNothing g mid new result → CommitsNothing g old new result
   uncommitted_on old mid new x result first second =
@@ -96,22 +83,11 @@ module _ {D : Type 0} (g : Ghosts D) where
   -- reading commits nothing
   pub reading : {T : Type 0} (old new : Tree D g) → HasOnlyRead g old new → (result : Result T Refusal) → (IsErrOf result Device → HasRisen (g.failures (disk_of old)) (g.failures (disk_of new))) → (IsErrOf result Device → has_failed new ≡ true)
       → OnOk result (has_failed new ≡ false) → CommitsNothing g old new result
-  reading old new keeps result device failed works = record {
-    returns = record { size = keeps.size; later = keeps.later; device = device; works = works; fails = failed; honest = keeps.honest };
-    root = keeps.root;
-    at = keeps.at;
-    run = λ honest s at.
-        weaker g (disk_of old) (disk_of new) (g.may (disk_of old)) (λ image. Stands (g.size (disk_of old)) image s) (each_stands old s at) (keeps.nothing honest).run;
-  }
+  reading old new keeps result device failed works = search rules
 
   -- a tree with the same roots and the same pages
   at_same : (old new : Tree D g) → new.roots ≡ old.roots → new.page_map ≡ old.page_map → (s : Stored) → IsAt g old s → IsAt g new s
-  at_same old new roots page_map s is = record {
-    ready = subst (IsReady g) (sym roots) is.ready;
-    each = subst (λ (r : Roots D g). EachStores g r new.page_map.committed s) (sym roots) (subst (λ (m : PageMapValue). EachStores g old.roots m.committed s) (sym page_map) is.each);
-    staged = subst (λ (r : Roots D g). AreStaged (format_of (root_under r)) new.page_map.committed new.page_map.staged (g.seen (disk_under r))) (sym roots)
-        (subst (λ (m : PageMapValue). AreStaged (format_of old.roots.root) m.committed m.staged (g.seen (disk_of old))) (sym page_map) is.staged);
-  }
+  at_same old new roots page_map s is = search rules
 
   -- a call that was refused for memory, before any call of the disk
   pub refused_in_memory : {T : Type 0} (old new : Tree D g) (result : Result T Refusal) (why : Refusal) → OnlyNow → new.roots ≡ old.roots → new.page_map ≡ old.page_map → has_failed old ≡ false

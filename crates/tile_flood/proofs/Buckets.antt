@@ -1,4 +1,5 @@
 -- What waits when one bucket of the queue changes.
+use Rattle.std.proofs.Common.{rules}
 use Rattle.std.proofs.Common.{◌≡◌, ◌≢◌, ℕ, zero, suc, ◌+◌, ◌<◌, ◌≤◌, ℤ, pos, ◌+ℤ◌, ◌-ℤ◌, ◌≤ℤ◌, ◌<ℤ◌, nat_abs, sum_by, List, [], ◌∷◌, ◌++◌, length, map, get_or, set, ◌⊎◌, inl, inr, Contains, refl, sym, ap, ap₂, ◌∙◌, ◌-◌, subst, arith, length-set, get_or-set_same, get_or-set_other, length-append}
 use Rattle.tile_flood.proofs.Prelude.{cases_eq, cases_lt, ints}
 use Rattle.std.proofs.lemmas.List.{get_or_default, get_or_past, get_or_append_left, get_or-append-add, get_or-append_right, map-append}
@@ -99,17 +100,7 @@ joined_extended old between new level e extended joined = record {
 }
 
 pub nobody : (least : ℤ) (bs : List (List ℕ)) (k : ℕ) → AreEmptyBelow bs k → ((b : ℕ) → k ≤ b → bucket bs b ≡ []) → (l : ℤ) (f : ℕ) → Waits (from_level least bs) l f → ⊥
-nobody least bs k low high l f w = elim (cases_lt w.0 k) [
-  | inl below ↦ none_in f (bucket bs w.0) (low w.0 below) w.1.1
-  | inr above ↦ none_in f (bucket bs w.0) (high w.0 above) w.1.1
-]
-
--- a level below that of the first bucket in use is below all that waits
-pub all_above : (least : ℤ) (bs : List (List ℕ)) (k : ℕ) (level : ℤ) → AreEmptyBelow bs k → level <ℤ (least +ℤ pos k) → (l : ℤ) (f : ℕ) → Waits (from_level least bs) l f → level <ℤ l
-all_above least bs k level low under l f w = elim (cases_lt w.0 k) [
-  | inl below ↦ absurd (none_in f (bucket bs w.0) (low w.0 below) w.1.1)
-  | inr above ↦ let at = w.1.0 in omega (arith, ints)
-]
+nobody least bs k low high l f w = search rules
 
 pub none_left : {X : Type 0} (xs : List X) → length xs ≡ 0 → xs ≡ []
 none_left [] none = refl
@@ -255,8 +246,7 @@ module _ {V : Type 0} (items : V → List ℕ) where
   -- all that waits is above a level below the first bucket in use
   pub above_level : (least : ℤ) (xs ys : List V) (start k : ℕ) (queue : Queue) (level : ℤ) → from_level least (map items ys) ≡ queue → xs ≡ ys → AreEmptyBelow (map items ys) start →
       ((b : ℕ) → start ≤ b → b < k → bucket (map items xs) b ≡ []) → level <ℤ (least +ℤ pos k) → (l : ℤ) (f : ℕ) → Waits queue l f → level <ℤ l
-  above_level least xs ys start k queue level same alike empty next under =
-      subst (λ q. (l : ℤ) (f : ℕ) → Waits q l f → level <ℤ l) same (all_above least (map items ys) k level (empty_below ys start k empty (empty_between xs ys start k alike next)) under)
+  above_level least xs ys start k queue level same alike empty next under = search rules
 
   -- somebody waits at the level of a bucket in use
   pub somebody : (least : ℤ) (xs ys : List V) (k : ℕ) (queue : Queue) (level : ℤ) → from_level least (map items ys) ≡ queue → xs ≡ ys → level ≡ least +ℤ pos k → 0 < length (bucket (map items xs) k) → (e : ℕ) × Waits queue level e

@@ -1,4 +1,5 @@
 -- What a labelling keeps when a height changes, and that carried levels that no link can lower are a labelling.
+use Rattle.std.proofs.Common.{rules}
 use Rattle.std.proofs.Common.{◌≡◌, ◌≢◌, ℕ, ◌+◌, ◌*◌, ◌/◌, ◌%◌, ◌<◌, ◌≤◌, ℤ, ◌≤ℤ◌, Bool, true, false, not, ◌-◌, IsTrue, List, [], ◌∷◌, length, get_or, set, get_or-set_other, get_or-set_same, slice_index, inl, inr, refl, sym, ap, ap₂, ◌∙◌, subst, arith, true≢false, ◌&&◌, ◌||◌, nat_eq, nat_lt, lt-ltb}
 use Rattle.tile_flood.proofs.Prelude.{AreCarried, AreRelaxed, IsCarriedBy, IsFilledLevel, IsInWindow, IsLabelling, IsPath, LeadsOut, Names, and_from, around, bare_block, block_is_lawful, block_of, block_terrain, cases_Bool, cases_eq, cases_lt, crest, end_of, get_or_past, int_max, is_beside, is_exit, is_inner_outlet, is_linked, is_marked, is_rim, is_sink_at, is_solid, is_void, le-max_left, le-max_right, list_all, max-le, max_one_of, void, ≤ℤ_same, ≤ℤ_trans}
 use Rattle.tile_flood.specs.Labelling.{IsLabelAt, OUT}
@@ -84,10 +85,7 @@ module _ (n : ℕ) (heights : List ℤ) (sinks : List ℕ) (e : ℕ) (h : ℤ) (
   still_ground = and_from (nat_lt e (n * n)) (is_marked (set heights e h) e) (lt-ltb e (n * n) (solid_below n heights e ground)) (test_if (get_or (set heights e h) e void) (subst (λ v. v ≢ void) (sym (get_or-set_same heights e h void inside)) full))
 
   pub same_ground : (z : ℕ) → is_solid (block_of n heights sinks) z ≡ is_solid (block_of n (set heights e h) sinks) z
-  same_ground z = elim (cases_eq z e) [
-    | inl same ↦ subst (λ x. is_solid (block_of n heights sinks) x ≡ is_solid (block_of n (set heights e h) sinks) x) (sym same) (ground ∙ sym still_ground)
-    | inr other ↦ ap (λ v. nat_lt z (n * n) && not (is_void v)) (sym (get_or-set_other heights e z h void other))
-  ]
+  same_ground z = search rules
 
 -- a point beside e is one of its nine
 pub window_point_of : (n e y : ℕ) → IsTrue (is_beside n e y) → (d : ℕ) × ((d < 9) × IsInWindow n e d y)
@@ -103,23 +101,17 @@ window_point_of n e y beside =
 
 -- and its points lie beside it
 pub window_beside : (n e d z : ℕ) → d < 9 → IsInWindow n e d z → IsTrue (is_beside n e z)
-window_beside n e d z small spot =
-    beside_if n e z (record { north = omega arith; south = omega arith; west = omega arith; east = omega arith })
+window_beside n e d z small spot = search rules
 
 pub beside_itself : (n e : ℕ) → IsTrue (is_beside n e e)
 beside_itself n e = beside_if n e e (record { north = omega arith; south = omega arith; west = omega arith; east = omega arith })
 
 pub beside_back : (n e f : ℕ) → IsTrue (is_beside n e f) → IsTrue (is_beside n f e)
-beside_back n e f beside =
-    let a = apart_of n e f beside in
-    beside_if n f e (record { north = omega arith; south = omega arith; west = omega arith; east = omega arith })
+beside_back n e f beside = search rules
 
 -- of one number there is one
 pub one_window_point : (n e d y z : ℕ) → IsInWindow n e d y → IsInWindow n e d z → y ≡ z
-one_window_point n e d y z a b =
-    let row : y / n ≡ z / n = omega arith in
-    let column : y % n ≡ z % n = omega arith in
-    cell_of n y ∙ (ap₂ (λ r q. r * n + q) row column ∙ sym (cell_of n z))
+one_window_point n e d y z a b = search rules
 
 pub max_mono : (a b c d : ℤ) → a ≤ℤ c → b ≤ℤ d → int_max a b ≤ℤ int_max c d
 max_mono a b c d ac bd = max-le a b (int_max c d) (≤ℤ_trans a c (int_max c d) ac (le-max_left c d)) (≤ℤ_trans b d (int_max c d) bd (le-max_right c d))

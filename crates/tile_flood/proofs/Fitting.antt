@@ -1,4 +1,5 @@
 -- When a point's level and label fit.
+use Rattle.std.proofs.Common.{rules}
 use Rattle.std.proofs.Common.{◌≡◌, ◌≢◌, ℕ, ◌+◌, ◌-◌, ◌*◌, ◌<◌, ◌≤◌, ℤ, ◌⊎◌, false, IsTrue, List, Contains, get_or, slice_index, inl, inr, arith, sym, subst, ◌∙◌, true≢false, ap₂, nat_lt, int_eq, ◌&&◌}
 use Rattle.tile_flood.proofs.Prelude.{Decides-int_eq, IsOwnLabel, NO_LABEL, bare_block, block_is_lawful, block_of, cases_Bool, cases_lt, is_exit, is_marked, is_solid, void}
 use Rattle.tile_flood.proofs.Squares.{not_void_if, solid_if}
@@ -24,22 +25,10 @@ module _ (n : ℕ) (heights : List ℤ) (sinks : List ℕ) (levels : List ℤ) (
   }
 
   pub exit_fits : (e : ℕ) → IsTrue (is_exit (block_of n heights sinks) e) → get_or levels e void ≢ void → slice_index labels e ≢ NO_LABEL → IsOwnLabel (block_of n heights sinks) e (slice_index labels e) → Contains points e ⊎ (get_or levels e void ≡ get_or heights e void) → IsFitting n heights sinks levels labels points e
-  exit_fits e out full named own fits =
-      let solid : IsTrue (is_solid (block_of n heights sinks) e) = (block_is_lawful (block_of n heights sinks)).outlet_ground e out in
-      record {
-        void_point = λ gap. absurd (true≢false (sym solid ∙ gap));
-        ground = λ _. (full, named);
-        exit = λ _. own;
-        level = λ _. elim fits [ inl listed ↦ inl listed | inr is ↦ inr ((λ _. is), (λ inner. absurd (true≢false (sym out ∙ inner)))) ];
-      }
+  exit_fits e out full named own fits = search rules
 
   pub inner_fits : (e : ℕ) → IsTrue (is_solid (block_of n heights sinks) e) → is_exit (block_of n heights sinks) e ≡ false → get_or levels e void ≢ void → slice_index labels e ≢ NO_LABEL → Contains points e ⊎ IsLeast n heights levels e → IsFitting n heights sinks levels labels points e
-  inner_fits e solid inner full named fits = record {
-    void_point = λ gap. absurd (true≢false (sym solid ∙ gap));
-    ground = λ _. (full, named);
-    exit = λ out. absurd (true≢false (sym out ∙ inner));
-    level = λ _. elim fits [ inl listed ↦ inl listed | inr is ↦ inr ((λ out. absurd (true≢false (sym out ∙ inner))), (λ _. is)) ];
-  }
+  inner_fits e solid inner full named fits = search rules
 
   pub settled_fits : (e : ℕ) → e < n * n → is_exit (block_of n heights sinks) e ≡ false → IsSettled n heights levels labels e → IsFitting n heights sinks levels labels points e
   settled_fits e small inner is = inner_fits e (solid_if n heights e small (off_void (get_or heights e void) is.0.ground)) inner is.0.full is.0.named (inr is.1)
@@ -54,12 +43,7 @@ module _ (n : ℕ) (heights : List ℤ) (sinks : List ℕ) (levels : List ℤ) (
 
 -- where more are listed
 pub still_fits : (n : ℕ) (heights : List ℤ) (sinks : List ℕ) (levels : List ℤ) (labels : List ℕ) (points points' : List ℕ) (e : ℕ) → ((z : ℕ) → Contains points z → Contains points' z) → IsFitting n heights sinks levels labels points e → IsFitting n heights sinks levels labels points' e
-still_fits n heights sinks levels labels points points' e kept is = record {
-  void_point = is.void_point;
-  ground = is.ground;
-  exit = is.exit;
-  level = λ solid. elim (is.level solid) [ inl listed ↦ inl (kept e listed) | inr fit ↦ inr fit ];
-}
+still_fits n heights sinks levels labels points points' e kept is = search rules
 
 pub next_fits : (n : ℕ) (heights : List ℤ) (sinks : List ℕ) (levels : List ℤ) (labels : List ℕ) (points points' : List ℕ) (i j : ℕ) → AreFitting n heights sinks levels labels points (i * n + j) → ((z : ℕ) → Contains points z → Contains points' z) → IsFitting n heights sinks levels labels points' (i * n + j) → AreFitting n heights sinks levels labels points' (i * n + (j + 1))
 next_fits n heights sinks levels labels points points' i j are kept last = span_fits n heights sinks levels labels points' i j (j + 1) (λ e less. still_fits n heights sinks levels labels points points' e kept (are e less))

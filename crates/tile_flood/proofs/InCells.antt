@@ -1,4 +1,5 @@
 -- The levels and the labels that stand in cells.
+use Rattle.std.proofs.Common.{rules}
 use Rattle.tile_flood.proofs.Prelude.{AreCells, Cell, Decides-int_eq, IsOwnLabel, IsSpreading, IsTrue, List, NO_LABEL, Queue, ℕ, ℤ, and_from, ap, arith, bare_block, block_of, cases_Bool, cases_eq, cases_lt, cond-false, cond-true, eq-eqb, eqb-true, false, get_or, get_or-set_other, get_or-set_same, get_or_default, get_or_past, inl, inr, is_marked, is_solid, label_of, labels_of, length, length-map, length-set, level_of, levels_of, lt-ltb, nat_eq, nat_lt, ne_eqb, not, pos, set, slice_index, subst, sym, true, true≢false, void, ◌*◌, ◌+◌, ◌<◌, ◌∙◌, ◌≡◌, ◌≢◌}
 use Rattle.std.proofs.lemmas.List.{get_or-map, map-set}
 use Rattle.lattice.specs.Limits.{IsSide}
@@ -12,14 +13,10 @@ abbrev pub none : Cell
 none = record { level = pos 0; label = 0 }
 
 pub void_if : (cell : Cell) → cell.label ≡ OPEN → (level_of cell ≡ void) × (label_of cell ≡ NO_LABEL)
-void_if cell is =
-    let test = eq-eqb cell.label OPEN is in
-    (cond-true (nat_eq cell.label OPEN) void cell.level test, cond-true (nat_eq cell.label OPEN) NO_LABEL cell.label test)
+void_if cell is = search rules
 
 pub value_if : (cell : Cell) → cell.label ≢ OPEN → (level_of cell ≡ cell.level) × (label_of cell ≡ cell.label)
-value_if cell other =
-    let test = ne_eqb cell.label OPEN other in
-    (cond-false (nat_eq cell.label OPEN) void cell.level test, cond-false (nat_eq cell.label OPEN) NO_LABEL cell.label test)
+value_if cell other = search rules
 
 module _ (cells : List Cell) (e : ℕ) (d : Cell) (inside : e < length cells) where
   pub level_at : get_or (levels_of cells) e void ≡ level_of (get_or cells e d)
@@ -122,10 +119,7 @@ label_in_cell cells e inside on = label_at cells e none inside ∙ (value_if (ge
 
 -- what agrees with a list before place e agrees with it one place further
 pub one_more : {X : Type 0} (d : X) (xs ys : List X) (e : ℕ) (v : X) → e < length xs → v ≡ get_or ys e d → ((f : ℕ) → f < e → get_or xs f d ≡ get_or ys f d) → (f : ℕ) → f < e + 1 → get_or (set xs e v) f d ≡ get_or ys f d
-one_more d xs ys e v inside is before f below = elim (cases_eq f e) [
-  | inl same ↦ ap (λ k. get_or (set xs e v) k d) same ∙ (get_or-set_same xs e v d inside ∙ (is ∙ ap (λ k. get_or ys k d) (sym same)))
-  | inr other ↦ get_or-set_other xs e f v d other ∙ before f (omega arith)
-]
+one_more d xs ys e v inside is before f below = search rules
 
 -- the cells of a block before a flood
 module _ (heights : List ℤ) (cells : List Cell) (whole : length cells ≡ length heights) (fresh : (f : ℕ) (d : Cell) → f < length heights → IsFresh heights f (get_or cells f d)) where
@@ -147,15 +141,7 @@ module _ (heights : List ℤ) (cells : List Cell) (whole : length cells ≡ leng
   }
 
   values : (e : ℕ) → e < length heights → (level_of (get_or cells e none) ≡ void) × (label_of (get_or cells e none) ≡ NO_LABEL)
-  values e below =
-      let f = fresh e none below in
-      elim (cases_Bool (is_marked heights e)) [
-        | inl on ↦ void_if (get_or cells e none) (f.ground on)
-        | inr off ↦
-            let gap = f.gap off in
-            let v = value_if (get_or cells e none) (λ is. absurd (omega arith)) in
-            (v.0 ∙ (f.level ∙ unmarked_void heights e off), v.1 ∙ gap)
-      ]
+  values e below = search rules
 
   pub fresh_level : (e : ℕ) → get_or (levels_of cells) e void ≡ void
   fresh_level e = elim (cases_lt e (length heights)) [

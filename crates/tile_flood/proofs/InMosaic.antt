@@ -1,5 +1,6 @@
 -- A block is a part of its mosaic: what is adjacent to an inner point lies in its own tile, a path leaves the tile only
 -- at its rim, and an inner outlet is an outlet of the mosaic.
+use Rattle.std.proofs.Common.{rules}
 use Rattle.std.proofs.Common.{◌≡◌, ◌≢◌, ℕ, suc, ◌+◌, ◌*◌, ◌-◌, ◌/◌, ◌%◌, ◌<◌, ◌≤◌, inl, inr, ℤ, pos, ◌+ℤ◌, ◌-ℤ◌, ◌*ℤ◌, Bool, true, false, not, cond, IsTrue, ◌&&◌, ◌||◌, List, [], ◌∷◌, get_or, refl, sym, ap, ap₂, ◌∙◌, subst, arith, true≢false, nat_abs, nat_eq, All, nat_lt}
 use Rattle.std.specs.List.{list_any, list_all}
 use Rattle.tile_flood.proofs.Prelude.{IsBlockOf, around, bare_block, block_of, block_terrain, ints, is_exit, is_inner_outlet, is_linked, is_rim, is_sink_at, is_solid}
@@ -75,9 +76,6 @@ eight_ones : (a b c d e f g h : ℕ) → a ≤ 1 → b ≤ 1 → c ≤ 1 → d �
     (1 ≤ a) × ((1 ≤ b) × ((1 ≤ c) × ((1 ≤ d) × ((1 ≤ e) × ((1 ≤ f) × ((1 ≤ g) × (1 ≤ h)))))))
 eight_ones a b c d e f g h la lb lc ld le lf lg lh all = (omega arith, (omega arith, (omega arith, (omega arith, (omega arith, (omega arith, (omega arith, omega arith)))))))
 
-sum_of_ones : (a b c d e f g h : ℕ) → 1 ≤ a → 1 ≤ b → 1 ≤ c → 1 ≤ d → 1 ≤ e → 1 ≤ f → 1 ≤ g → 1 ≤ h → 8 ≤ 0 + a + b + c + d + e + f + g + h
-sum_of_ones a b c d e f g h la lb lc ld le lf lg lh = omega arith
-
 pub eight_from_degree : (m : Mosaic) (p : Point) → 8 ≤ degree_of m p → AllEight (λ d. is_adjacent m p (step d p))
 eight_from_degree m p h =
     let adjacent : Dir → ℕ = λ d. cond (is_adjacent m p (step d p)) 1 0 in
@@ -95,8 +93,7 @@ eight_from_degree m p h =
     }
 
 pub degree_from_eight : (m : Mosaic) (p : Point) → AllEight (λ d. is_adjacent m p (step d p)) → 8 ≤ degree_of m p
-degree_from_eight m p all = sum_of_ones _ _ _ _ _ _ _ _ (one_if _ all.east) (one_if _ all.south_east) (one_if _ all.south) (one_if _ all.south_west)
-    (one_if _ all.west) (one_if _ all.north_west) (one_if _ all.north) (one_if _ all.north_east)
+degree_from_eight m p all = search rules
 
 -- the cell of the block that lies in a direction, and its row and column
 offset : ℕ → ℕ → Dir → ℕ

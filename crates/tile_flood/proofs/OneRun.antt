@@ -1,4 +1,5 @@
 -- What is found to be one run round a point hangs together.
+use Rattle.std.proofs.Common.{rules}
 use Rattle.tile_flood.proofs.Prelude.{HangTogether, IsInWindow, IsRun, IsTrue, List, ℕ, ℤ, [], ap, arith, cases_eq, cases_lt, inl, inr, is_beside, refl, subst, sym, ◌%◌, ◌++◌, ◌+◌, ◌-◌, ◌/◌, ◌<◌, ◌∙◌, ◌∷◌, ◌≡◌, ◌≢◌, ◌≤◌, ◌⊎◌}
 use Rattle.tile_flood.specs.Sparing.{IsAround, LeadsAround, IsSeen, in_round}
 use Rattle.tile_flood.proofs.Squares.{beside_if}
@@ -12,8 +13,7 @@ pub record AreNear (c d : ℕ) : Type 0 where
   pub east : d % 3 ≤ c % 3 + 1
 
 near_beside : (n p c d y z : ℕ) → IsInWindow n p c y → IsInWindow n p d z → AreNear c d → IsTrue (is_beside n y z)
-near_beside n p c d y z at_y at_z near =
-    beside_if n y z (record { north = omega arith; south = omega arith; west = omega arith; east = omega arith })
+near_beside n p c d y z at_y at_z near = search rules
 
 -- each place of the window but its centre is one round it
 place_of : (d : ℕ) → d < 9 → d ≢ 4 → (r : ℕ) × ((r < 8) × (in_round r ≡ d))
@@ -74,11 +74,7 @@ module _ (n : ℕ) (levels : List ℤ) (labels : List ℕ) (p start : ℕ) where
   on_to z (h ∷ way) f g leads beside around = (leads.0, (leads.1.0, on_to h way f g leads.1.1 beside around))
 
   pub run_begun : IsRun n levels labels p start 0 4
-  run_begun = record {
-    small = omega arith;
-    end = inl (refl, λ z seen. let before = seen.before in absurd (omega arith));
-    together = λ z f seen other. let before = seen.before in absurd (omega arith);
-  }
+  run_begun = search rules
 
   module _ (k last : ℕ) (run : IsRun n levels labels p start k last) where
     -- nobody is at the next place

@@ -1,7 +1,7 @@
 -- Where water passes between labels: each two adjacent points are met once, and the lowest place between two labels is
 -- the first in order.
 use Rattle.std.proofs.Common.{◌≡◌, ◌≢◌, ℕ, ◌+◌, ◌*◌, ◌-◌, ◌/◌, ◌%◌, ◌<◌, ◌≤◌, ◌⊎◌, inl, inr, ℤ, ◌≤ℤ◌, false, not, IsTrue, ◌&&◌, List, [], ◌∷◌, ◌++◌, length, get_or, set, get_or-set_same, get_or-set_other, length-set, slice_index, refl, sym, ap, ap₂, ◌∙◌, subst, arith, true≢false, cond, int_lt, nat_eq, All, Contains, Less, Equal, Greater, AllPairs, IsPermutation, mul-le-mul_right}
-use Rattle.tile_flood.proofs.Prelude.{AreFoundBelow, AreFoundStill, AreGathered, ArePassages, AreSpills, Decides-int_eq, IsFound, IsLabelling, Spill, bare_block, block_is_lawful, block_of, block_terrain, cases_Bool, cases_eq, cases_lt, eq-eqb, get_or-eq_default, get_or_default, int_max, ints, is_beside, is_linked, is_marked, is_solid, ne_eqb, not-true, void, ≤ℤ_same, ≤ℤ_trans}
+use Rattle.tile_flood.proofs.Prelude.{AreFoundBelow, AreFoundStill, ArePassages, AreSpills, Decides-int_eq, IsFound, IsLabelling, Spill, bare_block, block_is_lawful, block_of, block_terrain, cases_Bool, cases_eq, cases_lt, eq-eqb, get_or-eq_default, get_or_default, int_max, ints, is_beside, is_linked, is_marked, is_solid, ne_eqb, not-true, void, ≤ℤ_same, ≤ℤ_trans}
 use Rattle.std.specs.Ordering.{int_eq, is_lt, nat_cmp, int_cmp, ordering_then}
 use Rattle.std.specs.Cmp.{nat_cmp_is}
 use Rattle.std.proofs.lemmas.List.Quantifiers.{all_pairs_push}
@@ -87,19 +87,6 @@ module _ (n i : ℕ) (above : i + 1 < n) where
     apart = omega arith;
   }
 
--- some of them
-pub beside_part : (n e f count from width : ℕ) → AreBeside n e f count → from + width ≤ count → AreBeside n (e + from) (f + from) width
-beside_part n e f count from width all inside =
-    let first = all.first in let second = all.second in let apart = all.apart in record {
-      first = omega arith;
-      second = omega arith;
-      beside = λ k less.
-          let at : e + (from + k) ≡ e + from + k = omega arith in
-          let at' : f + (from + k) ≡ f + from + k = omega arith in
-          subst (λ x. IsTrue (is_beside n x (f + from + k))) at (subst (λ y. IsTrue (is_beside n (e + (from + k)) y)) at' (all.beside (from + k) (omega arith)));
-      apart = omega arith;
-    }
-
 -- what was met is met still
 pub met_still : (old new : List Spill) (p : Spill) → AreFoundStill old new → IsMetBy old p → IsMetBy new p
 met_still old new p still (q, (has, (same, low))) =
@@ -181,18 +168,6 @@ module _ (n : ℕ) (levels : List ℤ) (labels : List ℕ) where
   -- the same points, as other sums
   pub found_at : (found : List Spill) (e f x y : ℕ) → e ≡ x → f ≡ y → IsFound n levels labels found x y → IsFound n levels labels found e f
   found_at found e f x y ex fy h = subst (λ v. IsFound n levels labels found v f) (sym ex) (subst (λ v. IsFound n levels labels found x v) (sym fy) h)
-
-  -- what lies between more points is gathered after what lay between the first
-  pub gathered_more : (old mid new : List Spill) (e f from width : ℕ) → AreGathered n levels labels old mid e f from → AreGathered n levels labels mid new (e + from) (f + from) width
-      → AreGathered n levels labels old new e f (from + width)
-  gathered_more old mid new e f from width one two = record {
-    passages = two.passages;
-    still = λ p has. met_still mid new p two.still (one.still p has);
-    found = λ k below. elim (cases_lt k from) [
-      | inl before ↦ found_still mid new (e + k) (f + k) two.still (one.found k before)
-      | inr after ↦ found_at new (e + k) (f + k) (e + from + (k - from)) (f + from + (k - from)) (omega arith) (omega arith) (two.found (k - from) (omega arith))
-    ];
-  }
 
   -- the points of a row: with those of the row, and of the next one
   pub row_found : (found : List Spill) (i : ℕ) → i < n →

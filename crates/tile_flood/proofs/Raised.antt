@@ -1,4 +1,5 @@
 -- Raising gives the filled levels of the mosaic at all points of a tile.
+use Rattle.std.proofs.Common.{rules}
 use Rattle.std.proofs.Common.{◌≡◌, ◌≢◌, ℕ, ◌+◌, ◌*◌, ◌-◌, ◌/◌, ◌%◌, ◌<◌, ◌≤◌, inl, inr, ℤ, ◌≤ℤ◌, Bool, true, false, cond, IsTrue, IsFalse, List, [], ◌∷◌, ◌++◌, length, length-append, get_or, slice_index, refl, sym, ap, ◌∙◌, subst, arith, true≢false, nat_eq, Some, None}
 use Rattle.tile_flood.proofs.Prelude.{AreRaisedBelow, Corner, Decides-int_eq, IsFilledLevel, IsLabelling, IsMosaic, IsPath, Mosaic, NO_LABEL, OUT, bare_block, block_is_lawful, block_of, block_terrain, cases_Bool, cases_lt, cond-false, cond-true, crest, end_of, eq-eqb, get_or-append, get_or-append_seam, get_or-eq_default, height-le_level, height_of, inner_if, int_max, is_exit, is_ground, is_inner_outlet, is_present, is_rim, is_solid, is_void, metres, ne_eqb, point_of, raised_level, terrain, terrain_is_lawful, void, ≤ℤ_antisym, ≤ℤ_same}
 use borrow.Author.Count.{below_more}
@@ -39,15 +40,10 @@ module _ (rim : List ℤ) (level : ℤ) (label : ℕ) where
       ∙ cond-false (is_void (get_or rim label void)) _ _ (not_void (get_or rim label void) there)))
 
   pub raised_out : label ≡ OUT → level ≢ void → raised_level rim level label ≡ Some level
-  raised_out out full =
-      cond-false (nat_eq label NO_LABEL) _ _ (ap (λ l. nat_eq l NO_LABEL) out)
-      ∙ (cond-false (is_void level) _ _ (not_void level full)
-      ∙ cond-true (nat_eq label OUT) _ _ (eq-eqb label OUT out))
+  raised_out out full = search rules
 
   pub raised_void : label ≡ NO_LABEL → level ≡ void → raised_level rim level label ≡ Some void
-  raised_void none gap =
-      cond-true (nat_eq label NO_LABEL) _ _ (eq-eqb label NO_LABEL none)
-      ∙ cond-true (is_void level) _ _ ((Decides-int_eq level void).1 gap)
+  raised_void none gap = search rules
 
 -- heights of a block are numbers of 16 bits
 module _ (m : Mosaic) (is : IsMosaic m) (c : Corner) (heights : List ℤ) (of : AreHeightsOf m c heights) where

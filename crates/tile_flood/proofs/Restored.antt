@@ -1,5 +1,6 @@
 -- Where each point's level fits or the point is listed, and each point stands, the levels and labels are a labelling of the block
 -- as it was before, carried to each point.
+use Rattle.std.proofs.Common.{rules}
 use Rattle.std.proofs.Common.{All, ◌≡◌, ◌≢◌, ℕ, zero, suc, ◌*◌, ◌<◌, ◌≤◌, ℤ, pos, ◌+ℤ◌, ◌<ℤ◌, ◌≤ℤ◌, true, false, not, IsTrue, List, [], ◌∷◌, Contains, length, length-set, get_or, set, get_or-set_other, get_or-set_same, slice_index, inl, inr, refl, sym, ap, ap₂, ◌∙◌, subst, arith, true≢false, ◌&&◌, ◌⊎◌, nat_lt}
 use Rattle.std.proofs.lemmas.List.Elements.{All-get_or, Contains-append_cases, Contains-append_right}
 use Rattle.tile_flood.proofs.Buckets.{none_in}
@@ -90,10 +91,7 @@ module _ (n : ℕ) (heights : List ℤ) (sinks : List ℕ) (levels : List ℤ) (
         on_level e solid = solid_if n levels e (solid_below n heights e solid) (off_void (get_or levels e void) (full_at e solid))
 
         no_void : (e : ℕ) → (nat_lt e (n * n) && not (is_void void)) ≡ false
-        no_void e = elim (cases_Bool (nat_lt e (n * n))) [
-          | inl h ↦ ap₂ (λ a b. a && not b) h ((Decides-int_eq void void).1 refl)
-          | inr h ↦ ap₂ (λ a b. a && not b) h ((Decides-int_eq void void).1 refl)
-        ]
+        no_void e = search rules
 
     exit_now : (e : ℕ) → IsTrue (is_exit (block_of n heights₀ sinks) e) → IsTrue (is_exit (block_of n heights sinks) e)
     exit_now e out = sym (same_exit n heights₀ heights sinks same e) ∙ out

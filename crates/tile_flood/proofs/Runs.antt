@@ -1,4 +1,5 @@
 -- Three points after one another, in the row of a point or in one beside it: which of them are near the point.
+use Rattle.std.proofs.Common.{rules}
 use Rattle.tile_flood.proofs.Prelude.{IsNear, IsTrue, ℕ, ap, arith, cases_eq, cases_lt, eq-eqb, inl, inr, is_beside, is_rim, mod-lt, mul-le-mul_right, nat_eq, or_left, or_right, ◌%◌, ◌*◌, ◌+◌, ◌-◌, ◌/◌, ◌<◌, ◌||◌, ◌∙◌, ◌≡◌, ◌≤◌, ◌⊎◌}
 use Rattle.tile_flood.proofs.Squares.{cell_of, row_of_cell, column_of_cell, row_below, beside_if, apart_of}
 
@@ -9,12 +10,10 @@ module _ (n e : ℕ) where
       (or_left (nat_eq (e / n) 0 || nat_eq (e / n + 1) n) (nat_eq (e % n) 0) (or_left (nat_eq (e / n) 0) (nat_eq (e / n + 1) n) (eq-eqb (e / n) 0 h)))
 
   bottom : e / n + 1 ≡ n → IsTrue (is_rim n e)
-  bottom h = or_left (nat_eq (e / n) 0 || nat_eq (e / n + 1) n || nat_eq (e % n) 0) (nat_eq (e % n + 1) n)
-      (or_left (nat_eq (e / n) 0 || nat_eq (e / n + 1) n) (nat_eq (e % n) 0) (or_right (nat_eq (e / n) 0) (nat_eq (e / n + 1) n) (eq-eqb (e / n + 1) n h)))
+  bottom h = search rules
 
   west : e % n ≡ 0 → IsTrue (is_rim n e)
-  west h = or_left (nat_eq (e / n) 0 || nat_eq (e / n + 1) n || nat_eq (e % n) 0) (nat_eq (e % n + 1) n)
-      (or_right (nat_eq (e / n) 0 || nat_eq (e / n + 1) n) (nat_eq (e % n) 0) (eq-eqb (e % n) 0 h))
+  west h = search rules
 
   east : e % n + 1 ≡ n → IsTrue (is_rim n e)
   east h = or_right (nat_eq (e / n) 0 || nat_eq (e / n + 1) n || nat_eq (e % n) 0) (nat_eq (e % n + 1) n) (eq-eqb (e % n + 1) n h)

@@ -1,4 +1,5 @@
 -- Where all that a mending affected lies off the borders between labels, the spills are those of before.
+use Rattle.std.proofs.Common.{rules}
 use Rattle.tile_flood.proofs.Prelude.{Affected, AreCarried, AreChangesListed, AreOffBorders, AreSpills, IsLabelling, IsListed, IsTrue, List, Meets, Spill, ℕ, ℤ, ap₂, arith, bare_block, block_of, cases_Bool, get_or, inl, inr, int_eq, int_max, is_beside, is_marked, is_solid, length, not-true, slice_index, subst, sym, void, ◌∙◌, ◌≡◌, ◌≢◌, ◌⊎◌}
 use Rattle.tile_flood.proofs.Squares.{linked_parts, linked_from, solid_height, solid_below, solid_if, test_if}
 use Rattle.tile_flood.proofs.Dependence.{full_at, beside_itself, beside_back}
@@ -6,10 +7,7 @@ use Rattle.tile_flood.proofs.Passages.{not_void}
 
 -- a point with a level is ground
 ground_if : (n : ℕ) (heights : List ℤ) (sinks : List ℕ) (levels : List ℤ) (labels : List ℕ) → IsLabelling (block_of n heights sinks) levels labels → (e : ℕ) → IsTrue (is_solid (bare_block n levels) e) → IsTrue (is_solid (bare_block n heights) e)
-ground_if n heights sinks levels labels is e on = elim (cases_Bool (is_solid (bare_block n heights) e)) [
-  | inl solid ↦ solid
-  | inr off ↦ absurd (solid_height n levels e on (is.void_points e (solid_below n levels e on) off).0)
-]
+ground_if n heights sinks levels labels is e on = search rules
 
 -- where each point of a labelling keeps its level and its label in another, or those beside it have its label, labels meet there still
 meets_as : (n : ℕ) (levels levels' : List ℤ) (labels labels' : List ℕ) →

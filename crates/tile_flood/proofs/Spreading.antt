@@ -1,5 +1,6 @@
 -- The steps of a flood of a whole block: one of a labelling that is mended, where nothing is suspect and no level is lowered
 -- (after the correctness argument of Barnes, Lehman and Mulla 2014).
+use Rattle.std.proofs.Common.{rules}
 use Rattle.tile_flood.proofs.Prelude.{AreCarried, Decides-int_eq, IsFlooding, IsIn, IsInOr, IsJoined, IsLabelling, IsOwnLabel, IsSeed, IsSeeding, IsSpreading, IsTaken, IsTrue, List, NO_LABEL, Names, Queue, SFits, Waits, ℕ, ℤ, [], ap, ap₂, arith, bare_block, block_is_lawful, block_of, cases_eq, cases_lt, cond, false, get_or, get_or-set_same, inl, inr, int_eq, int_max, is_exit, is_linked, is_marked, is_solid, le-max_left, length, length-set, ne_eqb, not, not-true, of_z, refl, set, slice_index, subst, sum_by-set, sym, to_z, to_z-of_z, true≢false, void, w16, ≤ℤ_same, ≤ℤ_trans, ◌*◌, ◌+◌, ◌<◌, ◌∙◌, ◌≡◌, ◌≢◌, ◌≤ℤ◌, ◌≤◌}
 use Rattle.tile_flood.specs.Flooding.{unmarked, lack, AreMarkedStill, IsNear}
 use Rattle.tile_flood.specs.Spreading.{no_suspects, HaveLevels}
@@ -237,5 +238,4 @@ visited_as n heights sinks levels levels' labels labels' queue queue' c low e v 
 
 pub passed_max : (r h low g : ℤ) → SFits w16 r → SFits w16 h → SFits w16 low → r ≡ int_max (to_z w16 (of_z w16 h)) (to_z w16 (of_z w16 low)) → h ≡ g →
     to_z w16 (of_z w16 r) ≡ int_max g low
-passed_max r h low g fr fh fl is same =
-    to_z-of_z fr ∙ (is ∙ (ap₂ int_max (to_z-of_z fh ∙ same) (to_z-of_z fl)))
+passed_max r h low g fr fh fl is same = search rules

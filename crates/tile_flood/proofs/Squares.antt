@@ -1,12 +1,9 @@
 -- Points of a block: rows and columns, adjacency, outlets, and a way out of each ground point.
-use Rattle.std.proofs.Common.{◌≡◌, ◌≢◌, ℕ, zero, suc, ◌+◌, ◌*◌, ◌-◌, ◌/◌, ◌%◌, ◌<◌, ◌≤◌, ℤ, false, not, IsTrue, ◌&&◌, ◌||◌, List, [], ◌∷◌, get_or, sym, ap, ◌∙◌, subst, arith, true≢false, nat_le, nat_lt, nat_eq, mod-lt, inl, inr, int_eq}
-use Rattle.tile_flood.proofs.Prelude.{Block, Decides-int_eq, LeadsOut, and_from, around, bare_block, block_of, block_terrain, cases_Bool, is_beside, is_exit, is_inner_outlet, is_linked, is_marked, is_rim, is_sink_at, is_solid, list_all, ne_eqb, or_left, or_right, void}
+use Rattle.std.proofs.Common.{rules}
+use Rattle.std.proofs.Common.{◌≡◌, ◌≢◌, ℕ, zero, suc, ◌+◌, ◌*◌, ◌-◌, ◌/◌, ◌%◌, ◌<◌, ◌≤◌, ℤ, false, not, IsTrue, ◌&&◌, ◌||◌, List, [], ◌∷◌, get_or, sym, ap, ◌∙◌, arith, true≢false, nat_le, nat_lt, nat_eq, mod-lt, inl, inr, int_eq}
+use Rattle.tile_flood.proofs.Prelude.{Decides-int_eq, LeadsOut, and_from, around, bare_block, block_of, block_terrain, cases_Bool, is_beside, is_exit, is_inner_outlet, is_linked, is_marked, is_rim, is_sink_at, is_solid, list_all, ne_eqb, or_left, or_right, void}
 use Rattle.std.proofs.lemmas.Bool.{and_parts, ltb-true, lt-ltb, leb-true, le-leb, and_left, and_right, eqb-false, or_parts}
 use Rattle.std.proofs.lemmas.Nat.{rows}
-
--- what is so of the block with these parts is so of a block that has them
-pub of_block : (P : Block → Type 0) (b : Block) (n : ℕ) (heights : List ℤ) (sinks : List ℕ) → n ≡ b.side → heights ≡ b.heights → sinks ≡ b.sinks → P (block_of n heights sinks) → P b
-of_block P b n heights sinks side is_heights is_sinks is = subst (λ k. P (block_of k b.heights b.sinks)) side (subst (λ hs. P (block_of n hs b.sinks)) is_heights (subst (λ ss. P (block_of n heights ss)) is_sinks is))
 
 pub not_void_if : (levels : List ℤ) (e : ℕ) → IsTrue (is_marked levels e) → get_or levels e void ≢ void
 not_void_if levels e on h = absurd (true≢false (sym on ∙ ap not ((Decides-int_eq (get_or levels e void) void).1 h)))
@@ -21,16 +18,10 @@ pub record Linked (n : ℕ) (heights : List ℤ) (e f : ℕ) : Type 0 where
   pub beside : IsTrue (is_beside n e f)
 
 pub linked_parts : (n : ℕ) (heights : List ℤ) (e f : ℕ) → IsTrue (is_linked (bare_block n heights) e f) → Linked n heights e f
-linked_parts n heights e f h =
-    let p = and_parts (is_solid (bare_block n heights) e && is_solid (bare_block n heights) f && not (nat_eq e f)) (is_beside n e f) h in
-    let q = and_parts (is_solid (bare_block n heights) e && is_solid (bare_block n heights) f) (not (nat_eq e f)) p.0 in
-    let r = and_parts (is_solid (bare_block n heights) e) (is_solid (bare_block n heights) f) q.0 in
-    record { from = r.0; to = r.1; apart = q.1; beside = p.1 }
+linked_parts n heights e f h = search rules
 
 pub linked_from : (n : ℕ) (heights : List ℤ) (e f : ℕ) → Linked n heights e f → IsTrue (is_linked (bare_block n heights) e f)
-linked_from n heights e f l =
-    and_from (is_solid (bare_block n heights) e && is_solid (bare_block n heights) f && not (nat_eq e f)) (is_beside n e f)
-    (and_from (is_solid (bare_block n heights) e && is_solid (bare_block n heights) f) (not (nat_eq e f)) (and_from (is_solid (bare_block n heights) e) (is_solid (bare_block n heights) f) l.from l.to) l.apart) l.beside
+linked_from n heights e f l = search rules
 
 pub solid_height : (n : ℕ) (heights : List ℤ) (e : ℕ) → IsTrue (is_solid (bare_block n heights) e) → get_or heights e void ≢ void
 solid_height n heights e h = not_void_if heights e (and_parts (nat_lt e (n * n)) (is_marked heights e) h).1
@@ -67,21 +58,13 @@ pub record Apart (n c z : ℕ) : Type 0 where
   pub east : z % n ≤ c % n + 1
 
 pub apart_of : (n c z : ℕ) → IsTrue (is_beside n c z) → Apart n c z
-apart_of n c z h =
-    let p = and_parts (nat_le (c / n) (z / n + 1) && nat_le (z / n) (c / n + 1) && nat_le (c % n) (z % n + 1)) (nat_le (z % n) (c % n + 1)) h in
-    let q = and_parts (nat_le (c / n) (z / n + 1) && nat_le (z / n) (c / n + 1)) (nat_le (c % n) (z % n + 1)) p.0 in
-    let r = and_parts (nat_le (c / n) (z / n + 1)) (nat_le (z / n) (c / n + 1)) q.0 in
-    record { north = leb-true (c / n) (z / n + 1) r.0; south = leb-true (z / n) (c / n + 1) r.1; west = leb-true (c % n) (z % n + 1) q.1; east = leb-true (z % n) (c % n + 1) p.1 }
+apart_of n c z h = search rules
 
 pub linked_apart : (n : ℕ) (heights : List ℤ) (c z : ℕ) → IsTrue (is_linked (bare_block n heights) c z) → Apart n c z
 linked_apart n heights c z h = apart_of n c z (linked_parts n heights c z h).beside
 
 pub beside_if : (n c z : ℕ) → Apart n c z → IsTrue (is_beside n c z)
-beside_if n c z a =
-    and_from (nat_le (c / n) (z / n + 1) && nat_le (z / n) (c / n + 1) && nat_le (c % n) (z % n + 1)) (nat_le (z % n) (c % n + 1))
-    (and_from (nat_le (c / n) (z / n + 1) && nat_le (z / n) (c / n + 1)) (nat_le (c % n) (z % n + 1))
-    (and_from (nat_le (c / n) (z / n + 1)) (nat_le (z / n) (c / n + 1)) (le-leb (c / n) (z / n + 1) a.north) (le-leb (z / n) (c / n + 1) a.south))
-    (le-leb (c % n) (z % n + 1) a.west)) (le-leb (z % n) (c % n + 1) a.east)
+beside_if n c z a = search rules
 
 -- the point above one that isn't in the first row
 pub record North (n e : ℕ) : Type 0 where
@@ -103,12 +86,7 @@ north n e some high =
     }
 
 inner_high : (n e : ℕ) → is_rim n e ≡ false → 1 ≤ e / n
-inner_high n e inner =
-    let a = (or_parts (nat_eq (e / n) 0 || nat_eq (e / n + 1) n || nat_eq (e % n) 0) (nat_eq (e % n + 1) n) inner).0 in
-    let b = (or_parts (nat_eq (e / n) 0 || nat_eq (e / n + 1) n) (nat_eq (e % n) 0) a).0 in
-    let d = (or_parts (nat_eq (e / n) 0) (nat_eq (e / n + 1) n) b).0 in
-    let f : e / n ≢ 0 = eqb-false (e / n) 0 d in
-    omega arith
+inner_high n e inner = search rules
 
 linked_north : (n : ℕ) (heights : List ℤ) (e : ℕ) → 0 < n → is_rim n e ≡ false → IsTrue (is_solid (bare_block n heights) e) → IsTrue (is_solid (bare_block n heights) (e - n)) → IsTrue (is_linked (bare_block n heights) e (e - n))
 linked_north n heights e some inner solid above =
@@ -129,8 +107,7 @@ module _ (n : ℕ) (heights : List ℤ) (sinks : List ℕ) (e : ℕ) where
   -- off the rim, beside a void or a sink itself
   pub inner_at : IsTrue (is_solid (bare_block n heights) e) → is_rim n e ≡ false →
       IsTrue (not (list_all (is_solid (bare_block n heights)) (around n e)) || is_sink_at (block_of n heights sinks) e) → IsTrue (is_inner_outlet (block_of n heights sinks) e)
-  inner_at solid off out = and_from (is_solid (bare_block n heights) e && not (is_rim n e)) (not (list_all (is_solid (bare_block n heights)) (around n e)) || is_sink_at (block_of n heights sinks) e)
-      (and_from (is_solid (bare_block n heights) e) (not (is_rim n e)) solid (ap not off)) out
+  inner_at solid off out = search rules
 
   -- off the rim, beside a void
   inner_from : IsTrue (is_solid (bare_block n heights) e) → is_rim n e ≡ false → list_all (is_solid (bare_block n heights)) (around n e) ≡ false → IsTrue (is_inner_outlet (block_of n heights sinks) e)

@@ -1,4 +1,5 @@
 -- Points that stand: where another is marked that does, all that are marked still stand.
+use Rattle.std.proofs.Common.{rules}
 use Rattle.std.proofs.Common.{◌≡◌, ℕ, zero, suc, ◌++◌, ◌⊎◌, length, Contains, ◌*◌, ◌<◌, ℤ, Bool, true, false, List, [], ◌∷◌, get_or, set, length-set, get_or-set_other, get_or-set_same, inl, inr, refl, arith, sym, subst, ◌∙◌}
 use Rattle.std.proofs.lemmas.List.Elements.{Contains-append_cases, Contains-append_left, Contains-append_right}
 use Rattle.tile_flood.proofs.Prelude.{cases_eq}
@@ -30,10 +31,7 @@ module _ (n : ℕ) (heights : List ℤ) (sinks : List ℕ) (levels : List ℤ) (
   stand_above stands e b are small by = stand_on stands e b are small (λ on. elim (by on) [ inl was ↦ are.each e was | inr down ↦ ([], inr (inr down)) ])
 
 pub still_stands : (n : ℕ) (stands : List Bool) (e f : ℕ) → length stands ≡ n * n → f < n * n → get_or stands e false ≡ true → get_or (set stands f true) e false ≡ true
-still_stands n stands e f whole small was = elim (cases_eq e f) [
-  | inl at ↦ subst (λ z. get_or (set stands f true) z false ≡ true) (sym at) (get_or-set_same stands f true false (subst (λ k. f < k) (sym whole) small))
-  | inr other ↦ get_or-set_other stands f e true false other ∙ was
-]
+still_stands n stands e f whole small was = search rules
 
 -- a point that was marked now joins those that are listed
 pub reached_push : (n : ℕ) (stands : List Bool) (reached reached' : List ℕ) (f : ℕ) → length stands ≡ n * n → f < n * n → AreReached n stands reached → reached' ≡ reached ++ f ∷ [] → AreReached n (set stands f true) reached'

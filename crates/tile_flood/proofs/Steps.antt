@@ -1,5 +1,6 @@
 -- The steps by which a labelling is mended.
-use Rattle.tile_flood.proofs.Prelude.{AreCarried, AreRelaxed, Contains, HangTogether, IsBeginning, IsBesideWith, IsCarriedBy, IsFalse, IsFirstSuspect, IsHeldBy, IsHeldUp, IsIn, IsInOr, IsLabelling, IsMending, IsOwnLabel, IsSeed, IsTaken, IsTrue, List, NO_LABEL, Names, Queue, WaitStill, Waits, ℕ, ℤ, [], ap, arith, block_is_lawful, block_of, block_terrain, cases_Bool, cases_eq, clamps, false, get_or, get_or-set_other, get_or-set_same, inl, inr, int_max, ints, is_beside, is_exit, is_linked, is_marked, is_solid, length, length-set, max-le, ne_eqb, not, refl, set, slice_index, subst, sym, true≢false, void, ≤ℤ_same, ≤ℤ_trans, ◌*◌, ◌+◌, ◌/◌, ◌<ℤ◌, ◌<◌, ◌∙◌, ◌∷◌, ◌≡◌, ◌≢◌, ◌≤ℤ◌, ◌⊎◌}
+use Rattle.std.proofs.Common.{rules}
+use Rattle.tile_flood.proofs.Prelude.{AreCarried, AreRelaxed, Contains, HangTogether, IsBeginning, IsBesideWith, IsCarriedBy, IsFalse, IsFirstSuspect, IsHeldBy, IsHeldUp, IsIn, IsInOr, IsLabelling, IsMending, IsOwnLabel, IsSeed, IsTaken, IsTrue, List, NO_LABEL, Names, Queue, WaitStill, Waits, ℕ, ℤ, [], ap, arith, block_is_lawful, block_of, block_terrain, cases_Bool, cases_eq, clamps, false, get_or, get_or-set_other, get_or-set_same, inl, inr, int_max, ints, is_beside, is_exit, is_linked, is_marked, is_solid, length, length-set, max-le, ne_eqb, not, refl, set, slice_index, subst, sym, true≢false, void, ≤ℤ_trans, ◌*◌, ◌+◌, ◌/◌, ◌<ℤ◌, ◌<◌, ◌∙◌, ◌∷◌, ◌≡◌, ◌≢◌, ◌≤ℤ◌, ◌⊎◌}
 use Rattle.lattice.proofs.Levels.{all_marked, max_one_of}
 use Rattle.lattice.proofs.IntTests.{le_or_above, eq_or_not}
 use Rattle.tile_flood.specs.Mending.{IsLabelledBefore}
@@ -144,12 +145,7 @@ module _ (n : ℕ) (heights heights' : List ℤ) (sinks : List ℕ) (levels : Li
       full_if way none = solid_height n heights' y ((block_is_lawful (block_of n heights' sinks)).outlet_ground y way.0) (sym way.1.0 ∙ none)
 
       seed : IsTrue (is_exit (block_of n heights' sinks) y) × ((l ≡ get_or heights' y void) × IsOwnLabel (block_of n heights' sinks) y a) → IsSeed (block_of n heights' sinks) (set levels y l) (set labels y a) y
-      seed way = record {
-        exit = way.0;
-        level = level_here ∙ way.1.0;
-        names = subst (λ b. Names (block_of n heights' sinks) b y) (sym label_here) way.1.1.names;
-        inner_outlet = λ out. label_here ∙ way.1.1.inner_outlet out;
-      }
+      seed way = search rules
 
 -- beside y all that has its label, from this level on, is suspect
 abbrev pub AreSuspectBeside : (n : ℕ) (labels : List ℕ) (levels' : List ℤ) (labels' : List ℕ) (suspects' : Queue) (y : ℕ) (from : ℤ) → Type 0
@@ -382,10 +378,7 @@ pub record IsReached (n : ℕ) (heights : List ℤ) (sinks : List ℕ) (levels l
   pub reached : IsTrue (is_marked levels' y) × (get_or levels' y void ≤ℤ int_max (get_or heights y void) low)
 
 pub marked_solid_full : (h low v : ℤ) → h ≢ void → low ≢ void → v ≡ int_max h low → v ≢ void
-marked_solid_full h low v h_full low_full is none = elim (max_one_of h low) [
-  | inl first ↦ h_full (sym first ∙ (sym is ∙ none))
-  | inr second ↦ low_full (sym second ∙ (sym is ∙ none))
-]
+marked_solid_full h low v h_full low_full is none = search rules
 
 module _ (n : ℕ) (heights : List ℤ) (sinks : List ℕ) (levels : List ℤ) (labels : List ℕ) (queue queue' suspects suspects' : Queue) (c : ℕ) (low : ℤ) (label y : ℕ) (v : ℤ) (a : ℕ)
     (s : IsPassingOn n heights sinks levels labels queue suspects c low label) (solid : IsTrue (is_solid (block_of n heights sinks) y)) (beside : IsTrue (is_beside n c y)) (is : v ≡ int_max (get_or heights y void) low)
@@ -403,10 +396,7 @@ module _ (n : ℕ) (heights : List ℤ) (sinks : List ℕ) (levels : List ℤ) (
   suspects_on = in_still levels labels y v a suspects suspects' still
 
   waiting_on : (e : ℕ) → e ≢ y → IsInOr queue levels c low e → IsInOr queue' (set levels y v) c low e
-  waiting_on e other w = elim w [
-    | inl before ↦ inl (in_still levels labels y v a queue queue' others e other before)
-    | inr taken ↦ inr (taken.0, level_else levels labels y v a e other ∙ taken.1)
-  ]
+  waiting_on e other w = search rules
 
   y_waits : IsInOr queue' (set levels y v) c low y
   y_waits = inl (subst (λ l. Waits queue' l y) (sym y_level) waits)
@@ -436,9 +426,7 @@ module _ (n : ℕ) (heights : List ℤ) (sinks : List ℕ) (levels : List ℤ) (
 
   in_set : (levels' : List ℤ) (labels' : List ℕ) → levels' ≡ set levels y v → labels' ≡ set labels y a → IsMending n heights sinks (set levels y v) (set labels y a) (IsInOr queue' (set levels y v) c low) (IsIn suspects' (set levels y v)) →
       IsMending n heights sinks levels' labels' (IsInOr queue' levels' c low) (IsIn suspects' levels')
-  in_set levels' labels' at_levels at_labels state =
-      subst (λ ls. IsMending n heights sinks ls labels' (IsInOr queue' ls c low) (IsIn suspects' ls)) (sym at_levels)
-      (subst (λ bs. IsMending n heights sinks (set levels y v) bs (IsInOr queue' (set levels y v) c low) (IsIn suspects' (set levels y v))) (sym at_labels) state)
+  in_set levels' labels' at_levels at_labels state = search rules
 
   -- an open point is marked
   pub mark_on : (levels' : List ℤ) (labels' : List ℕ) → is_marked levels y ≡ false → a ≡ label → levels' ≡ set levels y v → labels' ≡ set labels y a → IsReached n heights sinks levels levels' labels' queue' suspects' c low label y

@@ -15,4 +15,5 @@ pub mod Spreading
 pub mod Sparing
 pub mod Kept
 pub mod Restoring
-pub mod Planes
+pub mod Views
+pub mod Floods

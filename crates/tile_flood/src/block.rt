@@ -1,6 +1,7 @@
 //! The ground of a block.
 ghost use Rattle.std.specs.Prelude.{◌≡◌, ◌*◌, ◌<◌, length, slice_set, SomeIff};
 
+use crate::views::BlockView;
 use arrayvec::ArrayVec;
 use lattice::{MOST_SINKS, Side};
 use std::marker::Model;
@@ -39,6 +40,18 @@ impl Block {
             })
         } else {
             None
+        }
+    }
+
+    ghost use Rattle.tile_flood.specs.Views.{viewed_block};
+
+    pub(crate) fn view(&self) -> BlockView<'_>
+        ensures { viewed_block result ≡ self.now }
+    {
+        BlockView {
+            n: self.side.samples() as usize,
+            heights: &self.heights,
+            sinks: self.sinks.as_slice(),
         }
     }
 

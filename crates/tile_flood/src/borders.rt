@@ -1,28 +1,26 @@
 //! Whether what a mending affected lies off the borders between labels.
 ghost use Rattle.std.specs.Prelude.{◌≡◌, ◌<◌, ◌*◌, ℕ, IsTrue, length, slice_index, slice_index_or};
-ghost use Rattle.lattice.specs.Limits.{IsSide};
 ghost use Rattle.lattice.specs.Block.{is_beside};
 ghost use Rattle.tile_flood.specs.Flooding.{is_marked};
+ghost use Rattle.tile_flood.specs.Restoring.{AreMarks};
 ghost use Rattle.tile_flood.specs.Affected.{AreOffBorders};
 ghost use Rattle.tile_flood.specs.declared.affected.Affected.{Affected};
 
-use crate::affected::{Affected, window_point};
+use crate::affected::window_point;
 use crate::flood::Flood;
 use crate::values::label_at;
 
 impl Flood {
     // Whether each affected point has the label that it had, and so has each point with a level beside it: then no border
     // between labels changed, nor a level beside one.
-    pub(crate) fn are_off_borders(&self, n: usize, affected: &[Affected]) -> bool
-        requires side { IsSide n }
-        requires small { n * n < 4294967296 }
-        requires levels { length self.now.levels.items ≡ n * n }
-        requires labels { length self.now.labels.items ≡ n * n }
-        requires inside { (j : ℕ) (d : Affected) → j < length affected.now → (slice_index_or affected.now j d).point < n * n }
-        ensures { IsTrue result → AreOffBorders n self.now.levels.items self.now.labels.items affected.now (length affected.now) }
+    pub(crate) fn are_off_borders(&self, n: usize) -> bool
+        requires marks { AreMarks n self.now.levels.items self.now.labels.items }
+        requires inside { (j : ℕ) (d : Affected) → j < length self.now.affected.items → (slice_index_or self.now.affected.items j d).point < n * n }
+        ensures { IsTrue result → AreOffBorders n self.now.levels.items self.now.labels.items self.now.affected.items (length self.now.affected.items) }
     {
-        for k in 0..affected.len() {
-            if !self.has_label_around(n, affected[k].point as usize, affected[k].label) {
+        for k in 0..self.affected.len() {
+            let affected = self.affected[k];
+            if !self.has_label_around(n, affected.point as usize, affected.label) {
                 return false;
             }
         }
@@ -31,10 +29,7 @@ impl Flood {
 
     // Whether the point and each point with a level beside it have this label.
     fn has_label_around(&self, n: usize, point: usize, label: u16) -> bool
-        requires side { IsSide n }
-        requires small { n * n < 4294967296 }
-        requires levels { length self.now.levels.items ≡ n * n }
-        requires labels { length self.now.labels.items ≡ n * n }
+        requires marks { AreMarks n self.now.levels.items self.now.labels.items }
         requires point { point < n * n }
         ensures { IsTrue result → (z : ℕ) → z < n * n → IsTrue (is_beside n point z) → IsTrue (is_marked self.now.levels.items z) → slice_index self.now.labels.items z ≡ label }
     {

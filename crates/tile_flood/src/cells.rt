@@ -21,17 +21,27 @@ pub(crate) struct Cell {
     pub(crate) label: u16,
 }
 
+/// A point that was taken from a queue, with the level and the label that it passes on.
+#[derive(Clone, Copy)]
+pub(crate) struct PoppedCell {
+    pub(crate) point: usize,
+    pub(crate) level: i16,
+    pub(crate) label: u16,
+}
+
+// The level and the label of a void, and of a point that lost its own.
+pub(crate) const VOID_CELL: Cell = Cell {
+    level: VOID,
+    label: NO_LABEL,
+};
+
 // The points of a block of these heights, none with a label yet.
 pub(crate) fn unlabelled(alloc: Global, heights: &[i16]) -> Result<Vec<Cell>, AllocError>
     ensures cells { IfOk result (λ cells. AreCells heights.now cells.items) }
     ensures no_level { IfOk result (λ cells. (e : ℕ) → slice_index_or (levels_of cells.items) e void ≡ void) }
     ensures no_label { IfOk result (λ cells. (e : ℕ) → e < length heights.now → slice_index (labels_of cells.items) e ≡ no_label) }
 {
-    let none = Cell {
-        level: VOID,
-        label: NO_LABEL,
-    };
-    let mut cells = vec![in alloc; none; heights.len()]?;
+    let mut cells = vec![in alloc; VOID_CELL; heights.len()]?;
     for e in 0..heights.len() {
         cells[e] = fresh_cell(heights, e);
     }

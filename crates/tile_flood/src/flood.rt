@@ -5,11 +5,12 @@ ghost use Rattle.lattice.specs.Mosaic.{void};
 ghost use Rattle.lattice.specs.declared.refusal.Refusal.TheVariants.{NoMemory};
 ghost use Rattle.tile_flood.specs.Labelling.{IsLabelling, NO_LABEL as no_label};
 ghost use Rattle.tile_flood.specs.Carried.{AreCarried};
-ghost use Rattle.tile_flood.specs.Blocks.{block_of, AreHeights};
+ghost use Rattle.tile_flood.specs.Views.{viewed_block};
 ghost use Rattle.tile_flood.specs.Waiting.{IsJoined};
 ghost use Rattle.tile_flood.specs.Cells.{levels_of, labels_of, AreCells};
 ghost use Rattle.tile_flood.specs.Flooding.{is_marked};
 
+use crate::affected::Affected;
 use crate::block::Block;
 use crate::cells::{Cell, labels_in, levels_in, unlabelled};
 use crate::labelled::Labelled;
@@ -17,17 +18,20 @@ use crate::queue::Queue;
 use crate::seeding::seed;
 use crate::settling::settle;
 use crate::values::has_level;
+use crate::views::BlockView;
 use lattice::{Refusal, VOID};
 use std::alloc::{AllocError, Global};
 
 /// A flood of a block: water rises from its outlets inwards, over the lowest points first. Its state while a labelling
-/// is mended: levels and labels, the points that wait to pass theirs on, and those whose own may not stand any more.
+/// is mended: levels and labels, the points that wait to pass theirs on, those whose own may not stand any more, and those
+/// of which either changed.
 #[derive(Drop)]
 pub struct Flood {
     pub(crate) levels: Vec<i16>,
     pub(crate) labels: Vec<u16>,
     pub(crate) queue: Queue,
     pub(crate) suspects: Queue,
+    pub(crate) affected: Vec<Affected>,
 }
 
 impl Flood {
@@ -40,14 +44,12 @@ impl Flood {
         ensures carried { IfOk result (λ labelled. AreCarried block.now labelled.levels labelled.labels) }
         ensures refusal { IfErr result (λ refusal. refusal ≡ NoMemory) }
     {
-        let side = block.side();
-        let n = side.samples() as usize;
-        let heights = block.heights();
-        let mut cells = unlabelled(alloc, heights)?;
-        flood_cells(alloc, n, heights, block.sinks(), &mut cells)?;
+        let view = block.view();
+        let mut cells = unlabelled(alloc, view.heights)?;
+        flood_cells(alloc, &view, &mut cells)?;
         let levels = levels_in(alloc, &cells)?;
         let labels = labels_in(alloc, &cells)?;
-        Ok(Labelled::of_flood(side, levels, labels))
+        Ok(Labelled::of_flood(block.side(), levels, labels))
     }
 
     pub(crate) fn is_unmarked(&self, e: usize) -> bool
@@ -73,6 +75,7 @@ impl Flood {
         ensures labels { OnOk result (self.new.labels.items ≡ slice_set self.old.labels.items e label) }
         ensures joined { OnOk result (IsJoined self.old.queue self.new.queue level e) }
         ensures suspects { OnOk result (self.new.suspects ≡ self.old.suspects) }
+        ensures affected { OnOk result (self.new.affected ≡ self.old.affected) }
     {
         self.queue.push(level, e as u32)?;
         self.levels[e] = level;
@@ -82,22 +85,15 @@ impl Flood {
 }
 
 // Floods a block where no point has a label yet. What waits is given back at the end.
-fn flood_cells(
-    alloc: Global,
-    n: usize,
-    heights: &[i16],
-    sinks: &[u32],
-    cells: &mut [Cell],
-) -> Result<(), AllocError>
-    requires heights { AreHeights n heights.now }
-    requires cells { AreCells heights.now cells.old }
+fn flood_cells(alloc: Global, block: &BlockView, cells: &mut [Cell]) -> Result<(), AllocError>
+    requires cells { AreCells block.now.heights.now cells.old }
     requires no_level { (e : ℕ) → slice_index_or (levels_of cells.old) e void ≡ void }
-    requires no_label { (e : ℕ) → e < n * n → slice_index (labels_of cells.old) e ≡ no_label }
-    ensures { OnOk result (IsLabelling (block_of n heights.now sinks.now) (levels_of cells.new) (labels_of cells.new)
-        × AreCarried (block_of n heights.now sinks.now) (levels_of cells.new) (labels_of cells.new)) }
+    requires no_label { (e : ℕ) → e < block.now.n * block.now.n → slice_index (labels_of cells.old) e ≡ no_label }
+    ensures { OnOk result (IsLabelling (viewed_block block.now) (levels_of cells.new) (labels_of cells.new)
+        × AreCarried (viewed_block block.now) (levels_of cells.new) (labels_of cells.new)) }
 {
     let mut queue = Queue::full(alloc)?;
-    seed(n, heights, sinks, cells, &mut queue)?;
-    settle(n, heights, sinks, cells, &mut queue)?;
+    seed(block, cells, &mut queue)?;
+    settle(block, cells, &mut queue)?;
     Ok(())
 }

@@ -1,9 +1,12 @@
 //! The levels and labels of a block.
-ghost use Rattle.std.specs.Prelude.{◌≡◌, ◌*◌, length, SomeIff};
+ghost use Rattle.std.specs.Prelude.{◌≡◌, ◌*◌, ℕ, ℤ, [], length, SomeIff};
+ghost use Rattle.tile_flood.specs.Waiting.{Waits};
 
 use crate::flood::Flood;
 use crate::queue::Queue;
+use crate::views::LabelledView;
 use lattice::Side;
+use std::alloc::Global;
 use std::marker::Model;
 
 /// The label of a point that reaches an inner outlet: a ground point off the rim with a void among the eight around it.
@@ -61,17 +64,30 @@ impl Labelled {
         }
     }
 
-    pub(crate) fn into_flood(self, queue: Queue, suspects: Queue) -> Flood
+    // A flood where no point waits, and none is suspect or affected; most will wait at about this level.
+    pub(crate) fn into_flood(self, alloc: Global, level: i16) -> Flood
         ensures levels { result.levels.items ≡ self.levels }
         ensures labels { result.labels.items ≡ self.labels }
-        ensures queue { result.queue ≡ queue }
-        ensures suspects { result.suspects ≡ suspects }
+        ensures nobody { (l : ℤ) (e : ℕ) → Waits result.queue l e → ⊥ }
+        ensures no_suspect { (l : ℤ) (e : ℕ) → Waits result.suspects l e → ⊥ }
+        ensures affected { result.affected.items ≡ [] }
     {
         Flood {
             levels: self.levels,
             labels: self.labels,
-            queue,
-            suspects,
+            queue: Queue::new(alloc, level),
+            suspects: Queue::new(alloc, level),
+            affected: Vec::new(alloc),
+        }
+    }
+
+    pub(crate) fn view(&self) -> LabelledView<'_>
+        ensures { self.now ≡ record { side = result.n; levels = result.levels.now; labels = result.labels.now } }
+    {
+        LabelledView {
+            n: self.side.samples() as usize,
+            levels: &self.levels,
+            labels: &self.labels,
         }
     }
 

@@ -23,7 +23,6 @@ mod mending;
 mod outlets;
 mod passing;
 mod passing_on;
-mod planes;
 mod queue;
 mod raising;
 mod restoring;
@@ -32,6 +31,7 @@ mod settling;
 mod sparing;
 mod suspects;
 mod values;
+mod views;
 mod waiting;
 
 pub use block::Block;

@@ -6,18 +6,17 @@ ghost use Rattle.tile_flood.specs.Labelling.{IsLabelling};
 ghost use Rattle.tile_flood.specs.Carried.{AreCarried};
 ghost use Rattle.tile_flood.specs.Mending.{IsLabelledBefore};
 ghost use Rattle.tile_flood.specs.Spills.{HaveSameSpills};
-ghost use Rattle.tile_flood.specs.Blocks.{block_of, AreHeights};
+ghost use Rattle.tile_flood.specs.Views.{viewed_block};
 ghost use Rattle.tile_flood.specs.Waiting.{Waits};
-ghost use Rattle.tile_flood.specs.Affected.{StayListed};
-ghost use Rattle.tile_flood.specs.Suspects.{AreMending, IsBeginning};
+ghost use Rattle.tile_flood.specs.Floods.{AreMendingIn, IsBeginningIn, StayListedIn};
 
-use crate::affected::Affected;
 use crate::block::Block;
+use crate::cells::{Cell, VOID_CELL};
 use crate::flood::Flood;
-use crate::labelled::{Labelled, NO_LABEL};
+use crate::labelled::Labelled;
 use crate::outlets::own_label;
-use crate::queue::Queue;
 use crate::values::at;
+use crate::views::BlockView;
 use lattice::{Refusal, VOID};
 use std::alloc::{AllocError, Global};
 
@@ -50,26 +49,22 @@ pub fn mend(
     ensures spills { IfOk result (λ mended. IsTrue mended.same_spills → HaveSameSpills labelled mended.labelled) }
     ensures refusal { IfErr result (λ refusal. refusal ≡ NoMemory) }
 {
-    let side = block.side();
-    let n = side.samples() as usize;
-    let heights = block.heights();
-    let sinks = block.sinks();
-    let least = first_level(&labelled, points);
-    let mut flood = labelled.into_flood(Queue::new(alloc, least), Queue::new(alloc, least));
-    let mut affected = Vec::new(alloc);
-    flood.begin(n, heights, sinks, points, &mut affected)?;
+    let view = block.view();
+    let level = first_level(&labelled, points);
+    let mut flood = labelled.into_flood(alloc, level);
+    flood.begin(&view, points)?;
     // Where a large part of the block changes, to flood anew takes less.
-    let most = heights.len() / 4 + FEW;
-    if !flood.settle_changes(n, heights, sinks, &mut affected, most)? {
+    let most = view.heights.len() / 4 + FEW;
+    if !flood.settle_changes(&view, most)? {
         let labelled = Flood::run(alloc, block)?;
         return Ok(Mended {
             labelled,
             same_spills: false,
         });
     }
-    let same_spills = flood.are_off_borders(n, &affected);
+    let same_spills = flood.are_off_borders(view.n);
     Ok(Mended {
-        labelled: Labelled::of_flood(side, flood.levels, flood.labels),
+        labelled: Labelled::of_flood(block.side(), flood.levels, flood.labels),
         same_spills,
     })
 }
@@ -87,60 +82,43 @@ fn first_level(labelled: &Labelled, points: &[u32]) -> i16
 
 impl Flood {
     // Resets each of the points that is above its level now, or is a way out with another height; all beside the others wait.
-    fn begin(
-        &mut self,
-        n: usize,
-        heights: &[i16],
-        sinks: &[u32],
-        points: &[u32],
-        affected: &mut Vec<Affected>,
-    ) -> Result<(), AllocError>
-        requires heights { AreHeights n heights.now }
-        requires before { IsLabelledBefore (block_of n heights.now sinks.now) points.now self.old.levels.items self.old.labels.items }
+    fn begin(&mut self, block: &BlockView, points: &[u32]) -> Result<(), AllocError>
+        requires before { IsLabelledBefore (viewed_block block.now) points.now self.old.levels.items self.old.labels.items }
         requires nobody { (l : ℤ) (e : ℕ) → Waits self.old.queue l e → ⊥ }
         requires no_suspect { (l : ℤ) (e : ℕ) → Waits self.old.suspects l e → ⊥ }
-        ensures state { OnOk result (AreMending n heights.now sinks.now self.new.levels.items self.new.labels.items self.new.queue self.new.suspects) }
-        ensures listed { OnOk result (StayListed n heights.now self.old.levels.items self.old.labels.items affected.old.items self.new.levels.items self.new.labels.items affected.new.items) }
+        ensures state { OnOk result (AreMendingIn block.now self.new) }
+        ensures listed { OnOk result (StayListedIn block.now self.old self.new) }
     {
         for k in 0..points.len() {
-            self.begin_at(n, heights, sinks, points, k, affected)?;
+            self.begin_at(block, points, k)?;
         }
         Ok(())
     }
 
     // The same for the point with this number in the list, if it is ground and wasn't reset before.
-    fn begin_at(
-        &mut self,
-        n: usize,
-        heights: &[i16],
-        sinks: &[u32],
-        points: &[u32],
-        k: usize,
-        affected: &mut Vec<Affected>,
-    ) -> Result<(), AllocError>
-        requires heights { AreHeights n heights.now }
+    fn begin_at(&mut self, block: &BlockView, points: &[u32], k: usize) -> Result<(), AllocError>
         requires k { k < length points.now }
-        requires state { IsBeginning n heights.now sinks.now points.now self.old.levels.items self.old.labels.items self.old.queue self.old.suspects k }
-        ensures state { OnOk result (IsBeginning n heights.now sinks.now points.now self.new.levels.items self.new.labels.items self.new.queue self.new.suspects (k + 1)) }
-        ensures listed { OnOk result (StayListed n heights.now self.old.levels.items self.old.labels.items affected.old.items self.new.levels.items self.new.labels.items affected.new.items) }
+        requires state { IsBeginningIn block.now points.now self.old k }
+        ensures state { OnOk result (IsBeginningIn block.now points.now self.new (k + 1)) }
+        ensures listed { OnOk result (StayListedIn block.now self.old self.new) }
     {
         let e = points[k] as usize;
         if !self.is_marked(e) {
             return Ok(());
         }
-        let height = at(heights, e);
-        let level = at(&self.levels, e);
-        if let Some(label) = own_label(n, heights, sinks, e / n, e % n) {
-            self.reset(n, e, height, label, level, affected)?;
+        let own = at(&self.levels, e);
+        let level = at(block.heights, e);
+        if let Some(label) = own_label(block, e / block.n, e % block.n) {
+            self.reset(block.n, e, Cell { level, label }, own)?;
             return Ok(());
         }
-        if level < height {
-            let from = self.first_suspect(n, e);
-            self.reset(n, e, VOID, NO_LABEL, from, affected)?;
+        if own < level {
+            let from = self.first_suspect(block.n, e);
+            self.reset(block.n, e, VOID_CELL, from)?;
             return Ok(());
         }
         // No point with a level has this label: all beside it wait.
-        self.suspect_beside(n, e, level, NO_LABEL, true)?;
+        self.suspect_beside(block.n, e, VOID_CELL, true)?;
         Ok(())
     }
 }

@@ -3,40 +3,39 @@ ghost use Rattle.std.specs.Prelude.{nat_eq, ◌≡◌, false, ◌+◌, ◌*◌, 
 ghost use Rattle.std.specs.List.{list_all, list_any};
 ghost use Rattle.lattice.specs.Limits.{IsSide};
 ghost use Rattle.lattice.specs.Block.{is_solid, is_exit, is_rim, rim_number, around};
-ghost use Rattle.tile_flood.specs.Blocks.{block_of, bare_block, AreHeights};
+ghost use Rattle.tile_flood.specs.Views.{viewed_block};
 ghost use Rattle.tile_flood.specs.Flooding.{IsOwnLabel};
 
 use crate::labelled::OUT;
+use crate::views::BlockView;
 use lattice::VOID;
 
 // The label that an outlet of the block starts with, where the point in row i and column j is one.
-pub(crate) fn own_label(n: usize, heights: &[i16], sinks: &[u32], i: usize, j: usize) -> Option<u16>
-    requires heights { AreHeights n heights.now }
-    requires cell { (i < n) × (j < n) }
-    ensures none { IfNone result (is_exit (block_of n heights.now sinks.now) (i * n + j) ≡ false) }
-    ensures outlet { IfSome result (λ _. IsTrue (is_exit (block_of n heights.now sinks.now) (i * n + j))) }
-    ensures label { IfSome result (λ label. IsOwnLabel (block_of n heights.now sinks.now) (i * n + j) label) }
+pub(crate) fn own_label(block: &BlockView, i: usize, j: usize) -> Option<u16>
+    requires cell { (i < block.now.n) × (j < block.now.n) }
+    ensures none { IfNone result (is_exit (viewed_block block.now) (i * block.now.n + j) ≡ false) }
+    ensures outlet { IfSome result (λ _. IsTrue (is_exit (viewed_block block.now) (i * block.now.n + j))) }
+    ensures label { IfSome result (λ label. IsOwnLabel (viewed_block block.now) (i * block.now.n + j) label) }
 {
-    let e = i * n + j;
-    if !is_ground(n, heights, e) {
+    let e = i * block.n + j;
+    if !is_ground(block, e) {
         return None;
     }
-    if is_on_rim(n, i, j) {
-        return Some(number_of(n, i, j));
+    if is_on_rim(block.n, i, j) {
+        return Some(number_of(block.n, i, j));
     }
-    if is_enclosed(n, heights, e) && !is_sink(sinks, e) {
+    if is_enclosed(block, e) && !is_sink(block.sinks, e) {
         None
     } else {
         Some(OUT)
     }
 }
 
-pub(crate) fn is_ground(n: usize, heights: &[i16], e: usize) -> bool
-    requires heights { AreHeights n heights.now }
-    requires e { e < n * n }
-    ensures { result ≡ is_solid (bare_block n heights.now) e }
+pub(crate) fn is_ground(block: &BlockView, e: usize) -> bool
+    requires e { e < block.now.n * block.now.n }
+    ensures { result ≡ is_solid (viewed_block block.now) e }
 {
-    heights[e] != VOID
+    block.heights[e] != VOID
 }
 
 fn is_on_rim(n: usize, i: usize, j: usize) -> bool
@@ -64,20 +63,19 @@ fn number_of(n: usize, i: usize, j: usize) -> u16
 }
 
 #[tactic(auto, using(crate::proofs::PlainRows::inner_reach))]
-fn is_enclosed(n: usize, heights: &[i16], e: usize) -> bool
-    requires heights { AreHeights n heights.now }
-    requires e { e < n * n }
-    requires inner { is_rim n e ≡ false }
-    ensures { result ≡ list_all (is_solid (bare_block n heights.now)) (around n e) }
+fn is_enclosed(block: &BlockView, e: usize) -> bool
+    requires e { e < block.now.n * block.now.n }
+    requires inner { is_rim block.now.n e ≡ false }
+    ensures { result ≡ list_all (is_solid (viewed_block block.now)) (around block.now.n e) }
 {
-    is_ground(n, heights, e - n - 1)
-        && is_ground(n, heights, e - n)
-        && is_ground(n, heights, e - n + 1)
-        && is_ground(n, heights, e - 1)
-        && is_ground(n, heights, e + 1)
-        && is_ground(n, heights, e + n - 1)
-        && is_ground(n, heights, e + n)
-        && is_ground(n, heights, e + n + 1)
+    is_ground(block, e - block.n - 1)
+        && is_ground(block, e - block.n)
+        && is_ground(block, e - block.n + 1)
+        && is_ground(block, e - 1)
+        && is_ground(block, e + 1)
+        && is_ground(block, e + block.n - 1)
+        && is_ground(block, e + block.n)
+        && is_ground(block, e + block.n + 1)
 }
 
 fn is_sink(sinks: &[u32], e: usize) -> bool

@@ -9,6 +9,7 @@ ghost use Rattle.tile_flood.specs.declared.passing.Spill.{Spill as SpillOf};
 
 use crate::labelled::Labelled;
 use crate::values::{has_level, higher_of};
+use crate::views::LabelledView;
 use lattice::Refusal;
 use std::alloc::{AllocError, Global};
 
@@ -36,72 +37,64 @@ pub fn spills(alloc: Global, labelled: &Labelled) -> Result<Vec<Spill>, Refusal>
     ensures of_any { IfOk result (λ spills. AreSpills labelled.now.side labelled.now.levels labelled.now.levels labelled.now.labels spills.items) }
     ensures refusal { IfErr result (λ refusal. refusal ≡ NoMemory) }
 {
-    let n = labelled.side().samples() as usize;
-    let mut table = vec![in alloc; 0; PLACES]?;
-    let places: &mut [usize] = &mut table;
-    let mut found = Vec::new(alloc);
-    for i in 0..n {
-        gather_row(n, labelled, i, &mut found, places)?;
+    let view = labelled.view();
+    let mut passages = Passages {
+        found: Vec::new(alloc),
+        places: vec![in alloc; 0; PLACES]?,
+    };
+    for i in 0..view.n {
+        gather_row(&view, i, &mut passages)?;
     }
-    found.sort()?;
-    Ok(first_of_each(alloc, &found)?)
+    passages.found.sort()?;
+    Ok(first_of_each(alloc, &passages.found)?)
 }
 
 ghost use Rattle.tile_flood.specs.Spills.{AreSpills, HaveSameLabels};
 ghost use Rattle.tile_flood.specs.Passing.{IsPassage, IsNoPassage, AreBeside, AreGathered, ArePassages, AreFoundBelow, IsListed, IsInOrder, AreFirsts};
 
 // Gathers the places where water passes from the points of a row to later points.
-fn gather_row(
-    n: usize,
-    labelled: &Labelled,
-    i: usize,
-    found: &mut Vec<Spill>,
-    places: &mut [usize],
-) -> Result<(), AllocError>
-    requires side { (n ≡ labelled.now.side) × IsSide n }
-    requires small { n * n < 4294967296 }
-    requires places { length places.old ≡ PLACES }
-    requires row { i < n }
-    requires passages { ArePassages n labelled.now.levels labelled.now.labels found.old.items }
-    requires before { AreFoundBelow n labelled.now.levels labelled.now.labels found.old.items (i * n) }
-    ensures passages { OnOk result (ArePassages n labelled.now.levels labelled.now.labels found.new.items) }
-    ensures upto { OnOk result (AreFoundBelow n labelled.now.levels labelled.now.labels found.new.items ((i + 1) * n)) }
+fn gather_row(labelled: &LabelledView, i: usize, passages: &mut Passages) -> Result<(), AllocError>
+    requires row { i < labelled.now.n }
+    requires passages { ArePassages labelled.now.n labelled.now.levels.now labelled.now.labels.now passages.old.found.items }
+    requires before { AreFoundBelow labelled.now.n labelled.now.levels.now labelled.now.labels.now passages.old.found.items (i * labelled.now.n) }
+    ensures passages { OnOk result (ArePassages labelled.now.n labelled.now.levels.now labelled.now.labels.now passages.new.found.items) }
+    ensures upto { OnOk result (AreFoundBelow labelled.now.n labelled.now.levels.now labelled.now.labels.now passages.new.found.items ((i + 1) * labelled.now.n)) }
 {
+    let n = labelled.n;
     let west = i * n;
-    gather(n, labelled, west, west + 1, n - 1, found, places)?;
+    gather(labelled, west, west + 1, n - 1, passages)?;
     if i + 1 == n {
         return Ok(());
     }
-    gather(n, labelled, west, west + n, n, found, places)?;
-    gather(n, labelled, west, west + n + 1, n - 1, found, places)?;
-    gather(n, labelled, west + 1, west + n, n - 1, found, places)?;
+    gather(labelled, west, west + n, n, passages)?;
+    gather(labelled, west, west + n + 1, n - 1, passages)?;
+    gather(labelled, west + 1, west + n, n - 1, passages)?;
     Ok(())
 }
 
 // Gathers the places where water passes between the points from e on and those from f on.
 fn gather(
-    n: usize,
-    labelled: &Labelled,
+    labelled: &LabelledView,
     e: usize,
     f: usize,
     count: usize,
-    found: &mut Vec<Spill>,
-    places: &mut [usize],
+    passages: &mut Passages,
 ) -> Result<(), AllocError>
-    requires side { n ≡ labelled.now.side }
-    requires small { n * n < 4294967296 }
-    requires places { length places.old ≡ PLACES }
-    requires beside { AreBeside n e f count }
-    requires passages { ArePassages n labelled.now.levels labelled.now.labels found.old.items }
-    ensures { OnOk result (AreGathered n labelled.now.levels labelled.now.labels
-        found.old.items found.new.items e f count) }
+    requires beside { AreBeside labelled.now.n e f count }
+    requires passages { ArePassages labelled.now.n labelled.now.levels.now labelled.now.labels.now passages.old.found.items }
+    ensures { OnOk result (AreGathered labelled.now.n labelled.now.levels.now labelled.now.labels.now
+        passages.old.found.items passages.new.found.items e f count) }
 {
     let mut from = 0;
     'strips: while from < count {
         let width = STRIP.min(count - from);
         // Most neighbours have one label.
-        if !are_alike(labelled.labels(), e + from, f + from, width) {
-            gather_strip(n, labelled, e + from, f + from, width, found, places)?;
+        if !are_alike(labelled.labels, e + from, f + from, width) {
+            for k in from..from + width {
+                if let Some(passage) = passage(labelled.levels, labelled.labels, e + k, f + k) {
+                    passages.list(passage)?;
+                }
+            }
         }
         from += width;
     }
@@ -126,49 +119,32 @@ fn are_alike(labels: &[u16], e: usize, f: usize, width: usize) -> bool
     alike
 }
 
-// Gathers them one after another.
-fn gather_strip(
-    n: usize,
-    labelled: &Labelled,
-    e: usize,
-    f: usize,
-    count: usize,
-    found: &mut Vec<Spill>,
-    places: &mut [usize],
-) -> Result<(), AllocError>
-    requires side { n ≡ labelled.now.side }
-    requires small { n * n < 4294967296 }
-    requires places { length places.old ≡ PLACES }
-    requires beside { AreBeside n e f count }
-    requires passages { ArePassages n labelled.now.levels labelled.now.labels found.old.items }
-    ensures { OnOk result (AreGathered n labelled.now.levels labelled.now.labels
-        found.old.items found.new.items e f count) }
-{
-    let levels = labelled.levels();
-    let labels = labelled.labels();
-    for k in 0..count {
-        if let Some(passage) = passage(levels, labels, e + k, f + k) {
-            list(found, places, passage)?;
-        }
-    }
-    Ok(())
+ghost use Rattle.tile_flood.specs.declared.passing.TheConstants.{PLACES};
+
+// The passages that were found, and the places at which pairs of labels were listed lately.
+#[derive(Drop)]
+struct Passages {
+    found: Vec<Spill>,
+    places: Vec<usize>,
+    ghost remembered: { length places.items ≡ PLACES },
 }
 
-// Lists the passage. Where one between the same labels was listed lately, that one is lowered to it, so that few are listed
-// twice.
-fn list(found: &mut Vec<Spill>, places: &mut [usize], passage: Spill) -> Result<(), AllocError>
-    requires { length places.old ≡ PLACES }
-    ensures { OnOk result (IsListed found.old.items found.new.items passage) }
-{
-    let remembered = (61 * passage.a as usize + passage.b as usize) % PLACES;
-    let place = places[remembered];
-    if place < found.len() && have_same_labels(found[place], passage) {
-        lower(found, place, passage);
-        return Ok(());
+impl Passages {
+    // Lists the passage. Where one between the same labels was listed lately, that one is lowered to it, so that few are
+    // listed twice.
+    fn list(&mut self, passage: Spill) -> Result<(), AllocError>
+        ensures { OnOk result (IsListed self.old.found.items self.new.found.items passage) }
+    {
+        let remembered = (61 * passage.a as usize + passage.b as usize) % PLACES;
+        let place = self.places[remembered];
+        if place < self.found.len() && have_same_labels(self.found[place], passage) {
+            lower(&mut self.found, place, passage);
+            return Ok(());
+        }
+        self.places[remembered] = self.found.len();
+        self.found.push(passage)?;
+        Ok(())
     }
-    places[remembered] = found.len();
-    found.push(passage)?;
-    Ok(())
 }
 
 // Puts the passage in the place of one between the same labels, unless it is higher.

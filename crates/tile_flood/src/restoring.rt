@@ -7,7 +7,7 @@ ghost use Rattle.lattice.specs.declared.refusal.Refusal.TheVariants.{NoMemory};
 ghost use Rattle.tile_flood.specs.Carried.{AreCarried};
 ghost use Rattle.tile_flood.specs.Labelling.{IsLabelling};
 ghost use Rattle.tile_flood.specs.Mending.{IsLabelledBefore};
-ghost use Rattle.tile_flood.specs.Planes.{AreFittingIn, AreStandingIn, IsFittingIn, StandStillIn};
+ghost use Rattle.tile_flood.specs.Views.{AreFittingIn, AreStandingIn, IsFittingIn, StandStillIn};
 ghost use Rattle.tile_flood.specs.Restoring.{AreReached, HoldsUp, IsAbove, IsRelaxedTo, IsSettled};
 ghost use Rattle.tile_flood.specs.Spills.{HaveSameSpills};
 
@@ -16,9 +16,9 @@ use crate::flood::Flood;
 use crate::labelled::{Labelled, NO_LABEL};
 use crate::mending::{Mended, mend};
 use crate::outlets::own_label;
-use crate::planes::Planes;
 use crate::seeding::is_plain;
 use crate::values::{at, has_level, label_at};
+use crate::views::Planes;
 use arrayvec::ArrayVec;
 use lattice::{Refusal, VOID, samples_in_range};
 use std::alloc::{AllocError, Global};
@@ -61,16 +61,14 @@ fn changed_points(
     ensures { IfOk result (λ found. IfSome found (λ points. IsLabelledBefore block.now points.items labelled.now.levels labelled.now.labels)) }
 {
     let planes = Planes {
-        n: block.side().samples() as usize,
-        heights: block.heights(),
-        sinks: block.sinks(),
+        block: block.view(),
         levels: labelled.levels(),
         labels: labelled.labels(),
     };
     samples_in_range(planes.levels);
-    let mut stands = vec![in alloc; false; planes.heights.len()]?;
+    let mut stands = vec![in alloc; false; planes.block.heights.len()]?;
     let mut points = ArrayVec::new();
-    for i in 0..planes.n {
+    for i in 0..planes.block.n {
         if !look_at_row(&planes, i, &mut stands, &mut points) {
             return Ok(None);
         }
@@ -100,55 +98,29 @@ fn look_at_row(
     stands: &mut [bool],
     points: &mut ArrayVec<u32, MOST_CHANGED>,
 ) -> bool
-    requires i { i < planes.now.n }
+    requires i { i < planes.now.block.n }
     requires standing { AreStandingIn planes.now stands.old }
-    requires fitting { AreFittingIn planes.now points.old.items (i * planes.now.n) }
+    requires fitting { AreFittingIn planes.now points.old.items (i * planes.now.block.n) }
     ensures standing { AreStandingIn planes.now stands.new }
-    ensures fitting { IsTrue result → AreFittingIn planes.now points.new.items ((i + 1) * planes.now.n) }
+    ensures fitting { IsTrue result → AreFittingIn planes.now points.new.items ((i + 1) * planes.now.block.n) }
 {
     mark_lower(planes, i, stands);
     if !look_at(planes, i, 0, stands, points) {
         return false;
     }
     let mut from = 1;
-    while from < planes.n - 1 {
-        let to = (from + SPAN).min(planes.n - 1);
-        if !look_at_span(planes, i, from, to, stands, points) {
-            return false;
+    while from < planes.block.n - 1 {
+        let to = (from + SPAN).min(planes.block.n - 1);
+        if !is_plain(&planes.block, i, from, to) || !are_settled(planes, i, from, to) {
+            for j in from..to {
+                if !look_at(planes, i, j, stands, points) {
+                    return false;
+                }
+            }
         }
         from = to;
     }
-    look_at(planes, i, planes.n - 1, stands, points)
-}
-
-// Lists the points of the columns from the one up to the other, without it, whose levels don't fit, and marks those that stand
-// as outlets.
-fn look_at_span(
-    planes: &Planes,
-    i: usize,
-    from: usize,
-    to: usize,
-    stands: &mut [bool],
-    points: &mut ArrayVec<u32, MOST_CHANGED>,
-) -> bool
-    requires i { i < planes.now.n }
-    requires columns { (0 < from) × ((from ≤ to) × (to < planes.now.n)) }
-    requires standing { AreStandingIn planes.now stands.old }
-    requires fitting { AreFittingIn planes.now points.old.items (i * planes.now.n + from) }
-    ensures standing { AreStandingIn planes.now stands.new }
-    ensures fitting { IsTrue result → AreFittingIn planes.now points.new.items (i * planes.now.n + to) }
-{
-    if is_plain(planes.n, planes.heights, planes.sinks, i, from, to)
-        && are_settled(planes, i, from, to)
-    {
-        return true;
-    }
-    for j in from..to {
-        if !look_at(planes, i, j, stands, points) {
-            return false;
-        }
-    }
-    true
+    look_at(planes, i, planes.block.n - 1, stands, points)
 }
 
 // Lists the point, unless its level fits, and marks that it stands, where it is an outlet, or a void. False where it can't have the
@@ -160,35 +132,33 @@ fn look_at(
     stands: &mut [bool],
     points: &mut ArrayVec<u32, MOST_CHANGED>,
 ) -> bool
-    requires cell { (i < planes.now.n) × (j < planes.now.n) }
+    requires cell { (i < planes.now.block.n) × (j < planes.now.block.n) }
     requires standing { AreStandingIn planes.now stands.old }
     ensures standing { AreStandingIn planes.now stands.new }
     ensures kept { (z : ℕ) → Contains points.old.items z → Contains points.new.items z }
-    ensures fitting { IsTrue result → IsFittingIn planes.now points.new.items (i * planes.now.n + j) }
+    ensures fitting { IsTrue result → IsFittingIn planes.now points.new.items (i * planes.now.block.n + j) }
 {
-    let e = i * planes.n + j;
-    if !has_level(planes.heights, e) {
+    let e = i * planes.block.n + j;
+    if !has_level(planes.block.heights, e) {
         stands[e] = true;
         return !has_level(planes.levels, e) && label_at(planes.labels, e) == NO_LABEL;
     }
     if !has_level(planes.levels, e) || label_at(planes.labels, e) == NO_LABEL {
         return false;
     }
-    if let Some(own) = own_label(planes.n, planes.heights, planes.sinks, i, j) {
+    if let Some(own) = own_label(&planes.block, i, j) {
         stands[e] = true;
-        return label_at(planes.labels, e) == own
-            && list_unless(is_own_level(planes.heights, planes.levels, e), e, points);
+        return label_at(planes.labels, e) == own && list_unless(is_own_level(planes, e), e, points);
     }
     let is_settled = are_settled(planes, i, j, j + 1);
     list_unless(is_settled, e, points)
 }
 
-fn is_own_level(heights: &[i16], levels: &[i16], e: usize) -> bool
-    requires heights { e < length heights.now }
-    requires levels { e < length levels.now }
-    ensures { IsTrue result → slice_index_or levels.now e void ≡ slice_index_or heights.now e void }
+fn is_own_level(planes: &Planes, e: usize) -> bool
+    requires { e < planes.now.block.n * planes.now.block.n }
+    ensures { IsTrue result → slice_index_or planes.now.levels.now e void ≡ slice_index_or planes.now.block.heights.now e void }
 {
-    at(levels, e) == at(heights, e)
+    at(planes.levels, e) == at(planes.block.heights, e)
 }
 
 // Lists the point, unless its level fits. False where there is no room.
@@ -203,21 +173,21 @@ fn list_unless(fits: bool, e: usize, points: &mut ArrayVec<u32, MOST_CHANGED>) -
 // Whether these points are inside the block, and each is ground with a level that fits: its height and the levels around it
 // give it.
 fn are_settled(planes: &Planes, i: usize, from: usize, to: usize) -> bool
-    requires i { i < planes.now.n }
+    requires i { i < planes.now.block.n }
     requires columns { from ≤ to }
-    ensures { IsTrue result → (j : ℕ) → from ≤ j → j < to → IsSettled planes.now.n planes.now.heights.now planes.now.levels.now planes.now.labels.now (i * planes.now.n + j) }
+    ensures { IsTrue result → (j : ℕ) → from ≤ j → j < to → IsSettled planes.now.block.n planes.now.block.heights.now planes.now.levels.now planes.now.labels.now (i * planes.now.block.n + j) }
 {
-    if i == 0 || i + 1 >= planes.n || from == 0 || to >= planes.n {
+    if i == 0 || i + 1 >= planes.block.n || from == 0 || to >= planes.block.n {
         return false;
     }
-    let e = i * planes.n + from;
+    let e = i * planes.block.n + from;
     let count = to - from;
-    if !are_above(planes.heights, planes.levels, planes.labels, e, count) {
+    if !are_above(planes, e, count) {
         return false;
     }
     for d in 0..9 {
-        let f = e - planes.n - 1 + d / 3 * planes.n + d % 3;
-        if !are_relaxed(planes.heights, planes.levels, e, f, count) {
+        let f = e - planes.block.n - 1 + d / 3 * planes.block.n + d % 3;
+        if !are_relaxed(planes, e, f, count) {
             return false;
         }
     }
@@ -225,89 +195,84 @@ fn are_settled(planes: &Planes, i: usize, from: usize, to: usize) -> bool
 }
 
 // Whether so many points from this one on are ground, with labels, and none is higher than its level.
-fn are_above(heights: &[i16], levels: &[i16], labels: &[u16], e: usize, count: usize) -> bool
-    requires heights { e + count ≤ length heights.now }
-    requires levels { e + count ≤ length levels.now }
-    requires labels { e + count ≤ length labels.now }
-    ensures { IsTrue result → (k : ℕ) → k < count → IsAbove heights.now levels.now labels.now (e + k) }
+fn are_above(planes: &Planes, e: usize, count: usize) -> bool
+    requires { e + count ≤ planes.now.block.n * planes.now.block.n }
+    ensures { IsTrue result → (k : ℕ) → k < count → IsAbove planes.now.block.heights.now planes.now.levels.now planes.now.labels.now (e + k) }
 {
     let mut above = true;
     for k in 0..count {
         above = above
-            & (at(heights, e + k) != VOID)
-            & (at(levels, e + k) != VOID)
-            & (label_at(labels, e + k) != NO_LABEL)
-            & (at(levels, e + k) >= at(heights, e + k));
+            & (at(planes.block.heights, e + k) != VOID)
+            & (at(planes.levels, e + k) != VOID)
+            & (label_at(planes.labels, e + k) != NO_LABEL)
+            & (at(planes.levels, e + k) >= at(planes.block.heights, e + k));
     }
     above
 }
 
 // Whether the level of each of so many points from e on is no higher than its height, or the level of that as far from f.
-fn are_relaxed(heights: &[i16], levels: &[i16], e: usize, f: usize, count: usize) -> bool
-    requires heights { e + count ≤ length heights.now }
-    requires levels { e + count ≤ length levels.now }
-    requires beside { f + count ≤ length levels.now }
-    ensures { IsTrue result → (k : ℕ) → k < count → IsRelaxedTo heights.now levels.now (e + k) (f + k) }
+fn are_relaxed(planes: &Planes, e: usize, f: usize, count: usize) -> bool
+    requires inside { e + count ≤ planes.now.block.n * planes.now.block.n }
+    requires beside { f + count ≤ planes.now.block.n * planes.now.block.n }
+    ensures { IsTrue result → (k : ℕ) → k < count → IsRelaxedTo planes.now.block.heights.now planes.now.levels.now (e + k) (f + k) }
 {
     let mut relaxed = true;
     for k in 0..count {
-        relaxed = relaxed & is_relaxed_to(heights, levels, e + k, f + k);
+        relaxed = relaxed & is_relaxed_to(planes, e + k, f + k);
     }
     relaxed
 }
 
-fn is_relaxed_to(heights: &[i16], levels: &[i16], e: usize, f: usize) -> bool
-    requires heights { e < length heights.now }
-    requires levels { (e < length levels.now) × (f < length levels.now) }
-    ensures { IsTrue result → IsRelaxedTo heights.now levels.now e f }
+fn is_relaxed_to(planes: &Planes, e: usize, f: usize) -> bool
+    requires { (e < planes.now.block.n * planes.now.block.n) × (f < planes.now.block.n * planes.now.block.n) }
+    ensures { IsTrue result → IsRelaxedTo planes.now.block.heights.now planes.now.levels.now e f }
 {
-    (at(levels, e) <= at(heights, e)) | (at(levels, e) <= at(levels, f))
+    (at(planes.levels, e) <= at(planes.block.heights, e))
+        | (at(planes.levels, e) <= at(planes.levels, f))
 }
 
 // Marks those points inside the block in a row that have a lower point beside them with their label.
 fn mark_lower(planes: &Planes, i: usize, stands: &mut [bool])
-    requires i { i < planes.now.n }
-    requires standing { length stands.old ≡ planes.now.n * planes.now.n }
-    ensures whole { length stands.new ≡ planes.now.n * planes.now.n }
+    requires i { i < planes.now.block.n }
+    requires standing { length stands.old ≡ planes.now.block.n * planes.now.block.n }
     ensures standing { StandStillIn planes.now stands.old stands.new }
 {
-    if i == 0 || i + 1 >= planes.n {
+    if i == 0 || i + 1 >= planes.block.n {
         return;
     }
-    let e = i * planes.n + 1;
-    let count = planes.n - 2;
+    let e = i * planes.block.n + 1;
+    let count = planes.block.n - 2;
     for d in 0..9 {
-        let f = e - planes.n - 1 + d / 3 * planes.n + d % 3;
+        let f = e - planes.block.n - 1 + d / 3 * planes.block.n + d % 3;
         mark_above(planes, e, f, count, stands);
     }
 }
 
 // Marks those of so many points from e on of which that as far from f has their label and a lower level.
 fn mark_above(planes: &Planes, e: usize, f: usize, count: usize, stands: &mut [bool])
-    requires inside { (e + count ≤ planes.now.n * planes.now.n) × (f + count ≤ planes.now.n * planes.now.n) }
-    requires beside { (k : ℕ) → k < count → IsTrue (is_beside planes.now.n (e + k) (f + k)) }
-    requires standing { length stands.old ≡ planes.now.n * planes.now.n }
-    ensures whole { length stands.new ≡ planes.now.n * planes.now.n }
+    requires inside { (e + count ≤ planes.now.block.n * planes.now.block.n) × (f + count ≤ planes.now.block.n * planes.now.block.n) }
+    requires beside { (k : ℕ) → k < count → IsTrue (is_beside planes.now.block.n (e + k) (f + k)) }
+    requires standing { length stands.old ≡ planes.now.block.n * planes.now.block.n }
     ensures standing { StandStillIn planes.now stands.old stands.new }
 {
     for k in 0..count {
-        stands[e + k] = stands[e + k] | is_over(planes.levels, planes.labels, e + k, f + k);
+        stands[e + k] = stands[e + k] | is_over(planes, e + k, f + k);
     }
 }
 
 // Whether e has f's label and a higher level.
-fn is_over(levels: &[i16], labels: &[u16], e: usize, f: usize) -> bool
-    requires levels { (e < length levels.now) × (f < length levels.now) }
-    requires labels { (e < length labels.now) × (f < length labels.now) }
-    ensures { IsTrue result → (slice_index_or levels.now f void <ℤ slice_index_or levels.now e void) × (slice_index labels.now f ≡ slice_index labels.now e) }
+fn is_over(planes: &Planes, e: usize, f: usize) -> bool
+    requires { (e < planes.now.block.n * planes.now.block.n) × (f < planes.now.block.n * planes.now.block.n) }
+    ensures { IsTrue result → (slice_index_or planes.now.levels.now f void <ℤ slice_index_or planes.now.levels.now e void) × (slice_index planes.now.labels.now f ≡ slice_index planes.now.labels.now e) }
 {
-    (at(levels, f) < at(levels, e)) & (label_at(labels, f) == label_at(labels, e))
+    (at(planes.levels, f) < at(planes.levels, e))
+        & (label_at(planes.labels, f) == label_at(planes.labels, e))
 }
 
 // Marks all that stand by the marked points; whether all points are marked then.
 fn do_all_stand(alloc: Global, planes: &Planes, stands: &mut [bool]) -> Result<bool, AllocError>
-    requires stands { length stands.old ≡ planes.now.n * planes.now.n }
-    ensures all { IfOk result (λ all. IsTrue all → (e : ℕ) → e < planes.now.n * planes.now.n → slice_index_or stands.new e false ≡ true) }
+    requires stands { length stands.old ≡ planes.now.block.n * planes.now.block.n }
+    ensures all { IfOk result (λ all. IsTrue all → (e : ℕ) → e < planes.now.block.n * planes.now.block.n → slice_index_or stands.new e false ≡ true) }
     ensures standing { OnOk result (StandStillIn planes.now stands.old stands.new) }
 {
     let mut reached = Vec::new(alloc);
@@ -324,11 +289,10 @@ fn stand_from(
     stands: &mut [bool],
     reached: &mut Vec<u32>,
 ) -> Result<(), AllocError>
-    requires stands { length stands.old ≡ planes.now.n * planes.now.n }
-    requires e { e < planes.now.n * planes.now.n }
-    requires reached { AreReached planes.now.n stands.old reached.old.items }
-    ensures whole { length stands.new ≡ planes.now.n * planes.now.n }
-    ensures reached { OnOk result (AreReached planes.now.n stands.new reached.new.items) }
+    requires stands { length stands.old ≡ planes.now.block.n * planes.now.block.n }
+    requires e { e < planes.now.block.n * planes.now.block.n }
+    requires reached { AreReached planes.now.block.n stands.old reached.old.items }
+    ensures reached { OnOk result (AreReached planes.now.block.n stands.new reached.new.items) }
     ensures standing { OnOk result (StandStillIn planes.now stands.old stands.new) }
 {
     if stands[e] || !is_beside_standing(planes, stands, e) {
@@ -342,21 +306,15 @@ fn stand_from(
 
 // Whether a point beside this one stands, with its level and its label.
 fn is_beside_standing(planes: &Planes, stands: &[bool], e: usize) -> bool
-    requires stands { length stands.now ≡ planes.now.n * planes.now.n }
-    requires e { e < planes.now.n * planes.now.n }
-    ensures { IsTrue result → (f : ℕ) × HoldsUp planes.now.n planes.now.levels.now planes.now.labels.now stands.now e f }
+    requires stands { length stands.now ≡ planes.now.block.n * planes.now.block.n }
+    requires e { e < planes.now.block.n * planes.now.block.n }
+    ensures { IsTrue result → (f : ℕ) × HoldsUp planes.now.block.n planes.now.levels.now planes.now.labels.now stands.now e f }
 {
-    let Some(from) = window_start(planes.n, e) else {
+    let Some(from) = window_start(planes.block.n, e) else {
         return false;
     };
     for d in 0..9 {
-        if stands_alike(
-            planes.levels,
-            planes.labels,
-            stands,
-            e,
-            from + d / 3 * planes.n + d % 3,
-        ) {
+        if stands_alike(planes, stands, e, from + d / 3 * planes.block.n + d % 3) {
             return true;
         }
     }
@@ -379,21 +337,21 @@ fn window_start(n: usize, e: usize) -> Option<usize>
 }
 
 // Whether f stands, and has the level and the label of e.
-fn stands_alike(levels: &[i16], labels: &[u16], stands: &[bool], e: usize, f: usize) -> bool
-    requires levels { (e < length levels.now) × (f < length levels.now) }
-    requires labels { (e < length labels.now) × (f < length labels.now) }
+fn stands_alike(planes: &Planes, stands: &[bool], e: usize, f: usize) -> bool
+    requires inside { (e < planes.now.block.n * planes.now.block.n) × (f < planes.now.block.n * planes.now.block.n) }
     requires stands { f < length stands.now }
-    ensures { IsTrue result → (slice_index_or stands.now f false ≡ true) × ((slice_index_or levels.now f void ≡ slice_index_or levels.now e void) × (slice_index labels.now f ≡ slice_index labels.now e)) }
+    ensures { IsTrue result → (slice_index_or stands.now f false ≡ true) × ((slice_index_or planes.now.levels.now f void ≡ slice_index_or planes.now.levels.now e void) × (slice_index planes.now.labels.now f ≡ slice_index planes.now.labels.now e)) }
 {
-    stands[f] && at(levels, e) == at(levels, f) && label_at(labels, e) == label_at(labels, f)
+    stands[f]
+        && at(planes.levels, e) == at(planes.levels, f)
+        && label_at(planes.labels, e) == label_at(planes.labels, f)
 }
 
 // Marks all that stand by the points that are listed; none is listed in the end.
 fn spread(planes: &Planes, stands: &mut [bool], reached: &mut Vec<u32>) -> Result<(), AllocError>
-    requires stands { length stands.old ≡ planes.now.n * planes.now.n }
-    requires reached { AreReached planes.now.n stands.old reached.old.items }
-    ensures whole { length stands.new ≡ planes.now.n * planes.now.n }
-    ensures reached { OnOk result (AreReached planes.now.n stands.new reached.new.items) }
+    requires stands { length stands.old ≡ planes.now.block.n * planes.now.block.n }
+    requires reached { AreReached planes.now.block.n stands.old reached.old.items }
+    ensures reached { OnOk result (AreReached planes.now.block.n stands.new reached.new.items) }
     ensures standing { OnOk result (StandStillIn planes.now stands.old stands.new) }
 {
     // No point is listed twice.
@@ -413,18 +371,17 @@ fn spread_from(
     stands: &mut [bool],
     reached: &mut Vec<u32>,
 ) -> Result<(), AllocError>
-    requires stands { length stands.old ≡ planes.now.n * planes.now.n }
-    requires e { e < planes.now.n * planes.now.n }
-    requires reached { AreReached planes.now.n stands.old (e ∷ reached.old.items) }
-    ensures whole { length stands.new ≡ planes.now.n * planes.now.n }
-    ensures reached { OnOk result (AreReached planes.now.n stands.new (e ∷ reached.new.items)) }
+    requires stands { length stands.old ≡ planes.now.block.n * planes.now.block.n }
+    requires e { e < planes.now.block.n * planes.now.block.n }
+    requires reached { AreReached planes.now.block.n stands.old (e ∷ reached.old.items) }
+    ensures reached { OnOk result (AreReached planes.now.block.n stands.new (e ∷ reached.new.items)) }
     ensures standing { OnOk result (StandStillIn planes.now stands.old stands.new) }
 {
-    let Some(from) = window_start(planes.n, e) else {
+    let Some(from) = window_start(planes.block.n, e) else {
         return Ok(());
     };
     for d in 0..9 {
-        let f = from + d / 3 * planes.n + d % 3;
+        let f = from + d / 3 * planes.block.n + d % 3;
         spread_to(planes, e, f, stands, reached)?;
     }
     Ok(())
@@ -438,16 +395,15 @@ fn spread_to(
     stands: &mut [bool],
     reached: &mut Vec<u32>,
 ) -> Result<(), AllocError>
-    requires stands { length stands.old ≡ planes.now.n * planes.now.n }
-    requires e { e < planes.now.n * planes.now.n }
-    requires f { f < planes.now.n * planes.now.n }
-    requires beside { IsTrue (is_beside planes.now.n e f) }
-    requires reached { AreReached planes.now.n stands.old (e ∷ reached.old.items) }
-    ensures whole { length stands.new ≡ planes.now.n * planes.now.n }
-    ensures reached { OnOk result (AreReached planes.now.n stands.new (e ∷ reached.new.items)) }
+    requires stands { length stands.old ≡ planes.now.block.n * planes.now.block.n }
+    requires e { e < planes.now.block.n * planes.now.block.n }
+    requires f { f < planes.now.block.n * planes.now.block.n }
+    requires beside { IsTrue (is_beside planes.now.block.n e f) }
+    requires reached { AreReached planes.now.block.n stands.old (e ∷ reached.old.items) }
+    ensures reached { OnOk result (AreReached planes.now.block.n stands.new (e ∷ reached.new.items)) }
     ensures standing { OnOk result (StandStillIn planes.now stands.old stands.new) }
 {
-    if stands[f] || !stands_alike(planes.levels, planes.labels, stands, f, e) {
+    if stands[f] || !stands_alike(planes, stands, f, e) {
         return Ok(());
     }
     stands[f] = true;

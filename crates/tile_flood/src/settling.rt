@@ -3,38 +3,28 @@ ghost use Rattle.std.specs.Prelude.{◌≡◌, ◌<◌, ◌*◌, ◌+◌, ◌/�
 ghost use Rattle.lattice.specs.Block.{is_solid, is_linked};
 ghost use Rattle.tile_flood.specs.Labelling.{IsLabelling};
 ghost use Rattle.tile_flood.specs.Carried.{AreCarried};
-ghost use Rattle.tile_flood.specs.Blocks.{block_of, bare_block, AreHeights};
+ghost use Rattle.tile_flood.specs.Views.{viewed_block};
 ghost use Rattle.tile_flood.specs.Waiting.{waiting};
 ghost use Rattle.tile_flood.specs.Cells.{levels_of, labels_of, AreCells};
 ghost use Rattle.tile_flood.specs.Flooding.{is_marked, unmarked, AreMarkedStill, IsNear};
 ghost use Rattle.tile_flood.specs.Spreading.{IsFlooding, IsSpreading};
 
-use crate::cells::{Cell, cell_at, is_open, mark};
+use crate::cells::{Cell, PoppedCell, cell_at, is_open, mark};
 use crate::queue::Queue;
 use crate::values::higher;
+use crate::views::BlockView;
 use std::alloc::AllocError;
-
-// The point that spreads, with its level and its label.
-#[derive(Clone, Copy)]
-struct PoppedCell {
-    point: usize,
-    level: i16,
-    label: u16,
-}
 
 // Lets each point that waits spread, until none does.
 pub(crate) fn settle(
-    n: usize,
-    heights: &[i16],
-    sinks: &[u32],
+    block: &BlockView,
     cells: &mut [Cell],
     queue: &mut Queue,
 ) -> Result<(), AllocError>
-    requires heights { AreHeights n heights.now }
-    requires cells { AreCells heights.now cells.old }
-    requires state { IsFlooding (block_of n heights.now sinks.now) (levels_of cells.old) (labels_of cells.old) queue.old }
-    ensures { OnOk result (IsLabelling (block_of n heights.now sinks.now) (levels_of cells.new) (labels_of cells.new)
-        × AreCarried (block_of n heights.now sinks.now) (levels_of cells.new) (labels_of cells.new)) }
+    requires cells { AreCells block.now.heights.now cells.old }
+    requires state { IsFlooding (viewed_block block.now) (levels_of cells.old) (labels_of cells.old) queue.old }
+    ensures { OnOk result (IsLabelling (viewed_block block.now) (levels_of cells.new) (labels_of cells.new)
+        × AreCarried (viewed_block block.now) (levels_of cells.new) (labels_of cells.new)) }
 {
     while let Some(entry) = queue.pop() {
         let point = entry.point as usize;
@@ -43,30 +33,27 @@ pub(crate) fn settle(
             level: entry.level,
             label: cell_at(cells, point).label,
         };
-        spread(n, heights, sinks, cells, queue, popped)?;
+        spread(block, cells, queue, popped)?;
     }
     Ok(())
 }
 
 // Marks all points beside the popped point.
 fn spread(
-    n: usize,
-    heights: &[i16],
-    sinks: &[u32],
+    block: &BlockView,
     cells: &mut [Cell],
     queue: &mut Queue,
     popped: PoppedCell,
 ) -> Result<(), AllocError>
-    requires heights { AreHeights n heights.now }
-    requires cells { AreCells heights.now cells.old }
-    requires state { IsSpreading (block_of n heights.now sinks.now) (levels_of cells.old) (labels_of cells.old) queue.old popped.point popped.level popped.label }
-    ensures cells { OnOk result (AreCells heights.now cells.new) }
-    ensures state { OnOk result (IsFlooding (block_of n heights.now sinks.now) (levels_of cells.new) (labels_of cells.new) queue.new) }
+    requires cells { AreCells block.now.heights.now cells.old }
+    requires state { IsSpreading (viewed_block block.now) (levels_of cells.old) (labels_of cells.old) queue.old popped.point popped.level popped.label }
+    ensures cells { OnOk result (AreCells block.now.heights.now cells.new) }
+    ensures state { OnOk result (IsFlooding (viewed_block block.now) (levels_of cells.new) (labels_of cells.new) queue.new) }
     ensures count { OnOk result (unmarked (levels_of cells.new) + waiting queue.new ≡ unmarked (levels_of cells.old) + waiting queue.old) }
 {
-    visit_row(n, heights, sinks, cells, queue, popped, 0)?;
-    visit_row(n, heights, sinks, cells, queue, popped, 1)?;
-    visit_row(n, heights, sinks, cells, queue, popped, 2)?;
+    visit_row(block, cells, queue, popped, 0)?;
+    visit_row(block, cells, queue, popped, 1)?;
+    visit_row(block, cells, queue, popped, 2)?;
     Ok(())
 }
 
@@ -75,32 +62,29 @@ fn spread(
 // Where there are no three such points, none is left to mark.
 #[inline(always)]
 fn visit_row(
-    n: usize,
-    heights: &[i16],
-    sinks: &[u32],
+    block: &BlockView,
     cells: &mut [Cell],
     queue: &mut Queue,
     popped: PoppedCell,
     i: usize,
 ) -> Result<(), AllocError>
-    requires heights { AreHeights n heights.now }
-    requires cells { AreCells heights.now cells.old }
-    requires state { IsSpreading (block_of n heights.now sinks.now) (levels_of cells.old) (labels_of cells.old) queue.old popped.point popped.level popped.label }
+    requires cells { AreCells block.now.heights.now cells.old }
+    requires state { IsSpreading (viewed_block block.now) (levels_of cells.old) (labels_of cells.old) queue.old popped.point popped.level popped.label }
     requires i { i < 3 }
-    ensures cells { OnOk result (AreCells heights.now cells.new) }
-    ensures state { OnOk result (IsSpreading (block_of n heights.now sinks.now) (levels_of cells.new) (labels_of cells.new) queue.new popped.point popped.level popped.label) }
+    ensures cells { OnOk result (AreCells block.now.heights.now cells.new) }
+    ensures state { OnOk result (IsSpreading (viewed_block block.now) (levels_of cells.new) (labels_of cells.new) queue.new popped.point popped.level popped.label) }
     ensures still { OnOk result (AreMarkedStill (levels_of cells.old) (levels_of cells.new)) }
     ensures count { OnOk result (unmarked (levels_of cells.new) + waiting queue.new ≡ unmarked (levels_of cells.old) + waiting queue.old) }
-    ensures marked { OnOk result ((z : ℕ) → IsTrue (is_linked (bare_block n heights.now) popped.point z) → z / n + 1 ≡ popped.point / n + i → IsTrue (is_marked (levels_of cells.new) z)) }
+    ensures marked { OnOk result ((z : ℕ) → IsTrue (is_linked (viewed_block block.now) popped.point z) → z / block.now.n + 1 ≡ popped.point / block.now.n + i → IsTrue (is_marked (levels_of cells.new) z)) }
 {
-    let from = popped.point + i * n;
-    if from <= n || from >= cells.len() + n - 1 {
+    let from = popped.point + i * block.n;
+    if from <= block.n || from >= cells.len() + block.n - 1 {
         return Ok(());
     }
-    let west = from - n - 1;
-    visit(n, heights, sinks, cells, queue, popped, west)?;
-    visit(n, heights, sinks, cells, queue, popped, west + 1)?;
-    visit(n, heights, sinks, cells, queue, popped, west + 2)?;
+    let west = from - block.n - 1;
+    visit(block, cells, queue, popped, west)?;
+    visit(block, cells, queue, popped, west + 1)?;
+    visit(block, cells, queue, popped, west + 2)?;
     Ok(())
 }
 
@@ -108,24 +92,21 @@ fn visit_row(
 // level, if it is open, and lets it wait.
 #[inline(always)]
 fn visit(
-    n: usize,
-    heights: &[i16],
-    sinks: &[u32],
+    block: &BlockView,
     cells: &mut [Cell],
     queue: &mut Queue,
     popped: PoppedCell,
     e: usize,
 ) -> Result<(), AllocError>
-    requires heights { AreHeights n heights.now }
-    requires cells { AreCells heights.now cells.old }
-    requires state { IsSpreading (block_of n heights.now sinks.now) (levels_of cells.old) (labels_of cells.old) queue.old popped.point popped.level popped.label }
-    requires e { e < n * n }
-    requires near { IsNear n popped.point e }
-    ensures cells { OnOk result (AreCells heights.now cells.new) }
-    ensures state { OnOk result (IsSpreading (block_of n heights.now sinks.now) (levels_of cells.new) (labels_of cells.new) queue.new popped.point popped.level popped.label) }
+    requires cells { AreCells block.now.heights.now cells.old }
+    requires state { IsSpreading (viewed_block block.now) (levels_of cells.old) (labels_of cells.old) queue.old popped.point popped.level popped.label }
+    requires e { e < block.now.n * block.now.n }
+    requires near { IsNear block.now.n popped.point e }
+    ensures cells { OnOk result (AreCells block.now.heights.now cells.new) }
+    ensures state { OnOk result (IsSpreading (viewed_block block.now) (levels_of cells.new) (labels_of cells.new) queue.new popped.point popped.level popped.label) }
     ensures still { OnOk result (AreMarkedStill (levels_of cells.old) (levels_of cells.new)) }
     ensures count { OnOk result (unmarked (levels_of cells.new) + waiting queue.new ≡ unmarked (levels_of cells.old) + waiting queue.old) }
-    ensures marked { OnOk result (IsTrue (is_solid (bare_block n heights.now) e) → IsTrue (is_marked (levels_of cells.new) e)) }
+    ensures marked { OnOk result (IsTrue (is_solid (viewed_block block.now) e) → IsTrue (is_marked (levels_of cells.new) e)) }
 {
     let cell = cell_at(cells, e);
     if is_open(cell) {

@@ -1,8 +1,8 @@
 //! Raised points around which hangs together what hung on them: there no point of their level need be suspect.
 ghost use Rattle.std.specs.Prelude.{◌≡◌, ◌<◌, ◌≤◌, ◌+◌, ◌*◌, ◌/◌, ◌%◌, ℕ, false, IsTrue, length, slice_index_or};
-ghost use Rattle.lattice.specs.Limits.{IsSide};
 ghost use Rattle.lattice.specs.Mosaic.{void};
 ghost use Rattle.tile_flood.specs.Flooding.{is_marked};
+ghost use Rattle.tile_flood.specs.Restoring.{AreMarks};
 ghost use Rattle.tile_flood.specs.Affected.{IsInWindow};
 ghost use Rattle.tile_flood.specs.Suspects.{IsIn};
 ghost use Rattle.tile_flood.specs.Sparing.{IsAround, HangTogether, IsFirstSuspect, in_round};
@@ -14,10 +14,7 @@ use crate::values::{at, label_at};
 impl Flood {
     // The level from which on points beside this one, with its label, are suspect where it is opened.
     pub(crate) fn first_suspect(&self, n: usize, e: usize) -> i16
-        requires side { IsSide n }
-        requires small { n * n < 4294967296 }
-        requires levels { length self.now.levels.items ≡ n * n }
-        requires labels { length self.now.labels.items ≡ n * n }
+        requires marks { AreMarks n self.now.levels.items self.now.labels.items }
         requires e { e < n * n }
         ensures { IsFirstSuspect n self.now.levels.items self.now.labels.items self.now.suspects e result }
     {
@@ -32,10 +29,7 @@ impl Flood {
     // Whether the points of its level may stay as they are where this one is opened: it isn't suspect, and from each point
     // around it that has its label, at most at its level, a way over such points leads to each other one.
     fn is_spared(&self, n: usize, e: usize) -> bool
-        requires side { IsSide n }
-        requires small { n * n < 4294967296 }
-        requires levels { length self.now.levels.items ≡ n * n }
-        requires labels { length self.now.labels.items ≡ n * n }
+        requires marks { AreMarks n self.now.levels.items self.now.labels.items }
         requires e { e < n * n }
         ensures together { IsTrue result → HangTogether n self.now.levels.items self.now.labels.items e }
         ensures no_suspect { IsTrue result → IsIn self.now.suspects self.now.levels.items e → ⊥ }
@@ -45,10 +39,7 @@ impl Flood {
 
     // Whether those around the point are one run, from some of them on.
     fn hang_together(&self, n: usize, e: usize) -> bool
-        requires side { IsSide n }
-        requires small { n * n < 4294967296 }
-        requires levels { length self.now.levels.items ≡ n * n }
-        requires labels { length self.now.labels.items ≡ n * n }
+        requires marks { AreMarks n self.now.levels.items self.now.labels.items }
         requires e { e < n * n }
         ensures { IsTrue result → HangTogether n self.now.levels.items self.now.labels.items e }
     {
@@ -62,10 +53,7 @@ impl Flood {
 
     // Whether, from this place on round the point, each of them lies beside the one before it.
     fn is_one_run(&self, n: usize, e: usize, start: usize) -> bool
-        requires side { IsSide n }
-        requires small { n * n < 4294967296 }
-        requires levels { length self.now.levels.items ≡ n * n }
-        requires labels { length self.now.labels.items ≡ n * n }
+        requires marks { AreMarks n self.now.levels.items self.now.labels.items }
         requires e { e < n * n }
         requires start { start < 8 }
         ensures { IsTrue result → HangTogether n self.now.levels.items self.now.labels.items e }
@@ -86,10 +74,7 @@ impl Flood {
 
     // Whether the d-th point of the window around e is another one with its label, at most at its level.
     fn is_around(&self, n: usize, e: usize, d: usize) -> bool
-        requires side { IsSide n }
-        requires small { n * n < 4294967296 }
-        requires levels { length self.now.levels.items ≡ n * n }
-        requires labels { length self.now.labels.items ≡ n * n }
+        requires marks { AreMarks n self.now.levels.items self.now.labels.items }
         requires e { e < n * n }
         requires d { d < 9 }
         ensures around { IsTrue result → (z : ℕ) × (IsInWindow n e d z × IsAround n self.now.levels.items self.now.labels.items e z) }

@@ -1,21 +1,21 @@
 //! Points whose levels and labels may not stand any more: they do where a lower point beside them holds them.
 ghost use Rattle.std.specs.Prelude.{◌≡◌, ◌<◌, ◌≤ℤ◌, ◌<ℤ◌, ◌*◌, ◌⊎◌, ◌++◌, ◌∷◌, [], ℕ, ℤ, false, OnOk, IfSome, IfNone, IsTrue, length, slice_set, slice_index, slice_index_or};
-ghost use Rattle.lattice.specs.Limits.{IsSide};
 ghost use Rattle.lattice.specs.Mosaic.{void};
 ghost use Rattle.lattice.specs.Block.{is_solid, is_exit, is_beside};
-ghost use Rattle.tile_flood.specs.Blocks.{block_of, AreHeights};
+ghost use Rattle.tile_flood.specs.Views.{viewed_block};
 ghost use Rattle.tile_flood.specs.Flooding.{is_marked};
+ghost use Rattle.tile_flood.specs.Restoring.{AreMarks};
 ghost use Rattle.tile_flood.specs.Waiting.{Waits, WaitStill, IsTaken};
-ghost use Rattle.tile_flood.specs.Affected.{StayListed};
-ghost use Rattle.tile_flood.specs.Suspects.{IsHeldUp, IsMending, AreMending, IsIn, IsInOr, IsBesideWith};
+ghost use Rattle.tile_flood.specs.Suspects.{IsHeldUp, IsIn, IsInOr, IsBesideWith};
+ghost use Rattle.tile_flood.specs.Floods.{IsMendingIn, AreMendingIn, StayListedIn};
 
 use crate::affected::{Affected, window_point};
+use crate::cells::{Cell, VOID_CELL};
 use crate::flood::Flood;
-use crate::labelled::NO_LABEL;
 use crate::outlets::own_label;
 use crate::queue::QueueEntry;
 use crate::values::{at, label_at};
-use lattice::VOID;
+use crate::views::BlockView;
 use std::alloc::AllocError;
 
 impl Flood {
@@ -24,6 +24,7 @@ impl Flood {
         ensures levels { self.new.levels.items ≡ self.old.levels.items }
         ensures labels { self.new.labels.items ≡ self.old.labels.items }
         ensures queue { self.new.queue ≡ self.old.queue }
+        ensures affected { self.new.affected ≡ self.old.affected }
         ensures taken { IfSome result (λ entry. IsTaken self.old.suspects self.new.suspects entry.level entry.point) }
         ensures same { IfNone result (self.new.suspects ≡ self.old.suspects) }
         ensures none { IfNone result (((l : ℤ) (e : ℕ) → Waits self.old.queue l e → ⊥) → (l : ℤ) (e : ℕ) → Waits self.old.suspects l e → ⊥) }
@@ -41,28 +42,20 @@ impl Flood {
     }
 
     // Lets a point wait that was suspect at this level, where it is held there; else takes its level and its label.
-    pub(crate) fn examine(
-        &mut self,
-        n: usize,
-        heights: &[i16],
-        sinks: &[u32],
-        entry: QueueEntry,
-        affected: &mut Vec<Affected>,
-    ) -> Result<(), AllocError>
-        requires heights { AreHeights n heights.now }
-        requires state { IsMending n heights.now sinks.now self.old.levels.items self.old.labels.items (IsIn self.old.queue self.old.levels.items) (IsInOr self.old.suspects self.old.levels.items entry.point entry.level) }
-        ensures state { OnOk result (AreMending n heights.now sinks.now self.new.levels.items self.new.labels.items self.new.queue self.new.suspects) }
-        ensures listed { OnOk result (StayListed n heights.now self.old.levels.items self.old.labels.items affected.old.items self.new.levels.items self.new.labels.items affected.new.items) }
+    pub(crate) fn examine(&mut self, block: &BlockView, entry: QueueEntry) -> Result<(), AllocError>
+        requires state { IsMendingIn block.now self.old (IsIn self.old.queue self.old.levels.items) (IsInOr self.old.suspects self.old.levels.items entry.point entry.level) }
+        ensures state { OnOk result (AreMendingIn block.now self.new) }
+        ensures listed { OnOk result (StayListedIn block.now self.old self.new) }
     {
         if !self.is_current(entry) {
             return Ok(());
         }
         let e = entry.point as usize;
-        if self.is_held(n, heights, sinks, e) {
+        if self.is_held(block, e) {
             self.queue.push(entry.level, entry.point)?;
             return Ok(());
         }
-        self.reset(n, e, VOID, NO_LABEL, entry.level, affected)?;
+        self.reset(block.n, e, VOID_CELL, entry.level)?;
         Ok(())
     }
 
@@ -82,32 +75,27 @@ impl Flood {
 
     // Whether the point is a way out, or its level and its label stand by a lower point beside it. At an equal level two
     // points could hold each other.
-    fn is_held(&self, n: usize, heights: &[i16], sinks: &[u32], e: usize) -> bool
-        requires heights { AreHeights n heights.now }
-        requires levels { length self.now.levels.items ≡ n * n }
-        requires labels { length self.now.labels.items ≡ n * n }
-        requires ground { (z : ℕ) → IsTrue (is_marked self.now.levels.items z) → IsTrue (is_solid (block_of n heights.now sinks.now) z) }
+    fn is_held(&self, block: &BlockView, e: usize) -> bool
+        requires marks { AreMarks block.now.n self.now.levels.items self.now.labels.items }
+        requires ground { (z : ℕ) → IsTrue (is_marked self.now.levels.items z) → IsTrue (is_solid (viewed_block block.now) z) }
         requires marked { IsTrue (is_marked self.now.levels.items e) }
-        requires e { e < n * n }
-        ensures held { IsTrue result → IsTrue (is_exit (block_of n heights.now sinks.now) e) ⊎ ((z : ℕ) × (IsHeldUp n heights.now sinks.now self.now.levels.items self.now.labels.items e z × (slice_index_or self.now.levels.items z void <ℤ slice_index_or self.now.levels.items e void))) }
-        ensures inner { result ≡ false → is_exit (block_of n heights.now sinks.now) e ≡ false }
+        requires e { e < block.now.n * block.now.n }
+        ensures held { IsTrue result → IsTrue (is_exit (viewed_block block.now) e) ⊎ ((z : ℕ) × (IsHeldUp block.now.n block.now.heights.now block.now.sinks.now self.now.levels.items self.now.labels.items e z × (slice_index_or self.now.levels.items z void <ℤ slice_index_or self.now.levels.items e void))) }
+        ensures inner { result ≡ false → is_exit (viewed_block block.now) e ≡ false }
     {
         let level = at(&self.levels, e);
-        match own_label(n, heights, sinks, e / n, e % n) {
+        match own_label(block, e / block.n, e % block.n) {
             Some(_) => true,
             None => {
-                at(heights, e) <= level
-                    && self.has_beside(n, e, label_at(&self.labels, e), level - 1)
+                at(block.heights, e) <= level
+                    && self.has_beside(block.n, e, label_at(&self.labels, e), level - 1)
             }
         }
     }
 
     // Whether a point with this label and at most this level lies beside the point.
     pub(crate) fn has_beside(&self, n: usize, point: usize, label: u16, most: i16) -> bool
-        requires side { IsSide n }
-        requires small { n * n < 4294967296 }
-        requires levels { length self.now.levels.items ≡ n * n }
-        requires labels { length self.now.labels.items ≡ n * n }
+        requires marks { AreMarks n self.now.levels.items self.now.labels.items }
         requires point { point < n * n }
         ensures { IsTrue result → IsBesideWith n self.now.levels.items self.now.labels.items point label most }
     {
@@ -124,53 +112,34 @@ impl Flood {
         false
     }
 
-    // Gives the point this level and this label, or none, and lists it with the label that it had. What has that label beside
-    // it, from the level `from` on, is suspect from now on, and all else beside it waits.
+    // Gives the point the level and the label of the cell, and lists it with the label that it had. What has that label beside
+    // it, from this level on, is suspect from now on, and all else beside it waits.
     pub(crate) fn reset(
         &mut self,
         n: usize,
         e: usize,
+        cell: Cell,
         level: i16,
-        label: u16,
-        from: i16,
-        affected: &mut Vec<Affected>,
     ) -> Result<(), AllocError>
-        requires side { IsSide n }
-        requires small { n * n < 4294967296 }
-        requires levels { length self.old.levels.items ≡ n * n }
-        requires labels { length self.old.labels.items ≡ n * n }
+        requires marks { AreMarks n self.old.levels.items self.old.labels.items }
         requires e { e < n * n }
-        ensures levels { OnOk result (self.new.levels.items ≡ slice_set self.old.levels.items e level) }
-        ensures labels { OnOk result (self.new.labels.items ≡ slice_set self.old.labels.items e label) }
-        ensures affected { OnOk result (affected.new.items ≡ affected.old.items ++ record { point = e; label = slice_index self.old.labels.items e } ∷ []) }
+        ensures levels { OnOk result (self.new.levels.items ≡ slice_set self.old.levels.items e cell.level) }
+        ensures labels { OnOk result (self.new.labels.items ≡ slice_set self.old.labels.items e cell.label) }
+        ensures affected { OnOk result (self.new.affected.items ≡ self.old.affected.items ++ record { point = e; label = slice_index self.old.labels.items e } ∷ []) }
         ensures waiting { OnOk result (WaitStill self.old.queue self.new.queue) }
         ensures suspect { OnOk result (WaitStill self.old.suspects self.new.suspects) }
         ensures suspected { OnOk result ((y : ℕ) → y < n * n → IsTrue (is_beside n e y) → IsTrue (is_marked self.new.levels.items y) → slice_index self.new.labels.items y ≡ slice_index self.old.labels.items e
-            → from ≤ℤ slice_index_or self.new.levels.items y void → IsIn self.new.suspects self.new.levels.items y) }
+            → level ≤ℤ slice_index_or self.new.levels.items y void → IsIn self.new.suspects self.new.levels.items y) }
         ensures others { OnOk result ((y : ℕ) → y < n * n → IsTrue (is_beside n e y) → IsTrue (is_marked self.new.levels.items y) → IsIn self.new.queue self.new.levels.items y ⊎ IsIn self.new.suspects self.new.levels.items y) }
     {
-        let own = label_at(&self.labels, e);
-        self.list_affected(e, affected)?;
-        self.levels[e] = level;
-        self.labels[e] = label;
-        self.suspect_beside(n, e, from, own, true)?;
-        Ok(())
-    }
-
-    // Lists the point, with its label.
-    pub(crate) fn list_affected(
-        &self,
-        e: usize,
-        affected: &mut Vec<Affected>,
-    ) -> Result<(), AllocError>
-        requires small { e < 4294967296 }
-        requires labels { e < length self.now.labels.items }
-        ensures { OnOk result (affected.new.items ≡ affected.old.items ++ record { point = e; label = slice_index self.now.labels.items e } ∷ []) }
-    {
-        affected.push(Affected {
+        let label = label_at(&self.labels, e);
+        self.affected.push(Affected {
             point: e as u32,
-            label: label_at(&self.labels, e),
+            label,
         })?;
+        self.levels[e] = cell.level;
+        self.labels[e] = cell.label;
+        self.suspect_beside(n, e, Cell { level, label }, true)?;
         Ok(())
     }
 }

@@ -1,5 +1,5 @@
 //! Blocks that were flooded, whose labellings are mended where heights change.
-ghost use Rattle.std.specs.Prelude.{◌≡◌, ◌<◌, ◌≤◌, ◌⊎◌, ◌&&◌, ℕ, ℤ, [], true, false, Contains, IfOk, IfErr, IfSome, IsTrue, IsFalse, length, slice_set, slice_index_or};
+ghost use Rattle.std.specs.Prelude.{◌≡◌, ◌<◌, ◌≤◌, ◌⊎◌, ◌&&◌, ℕ, ℤ, [], true, false, Contains, IfOk, IfErr, IfSome, Ok, Some, IsTrue, IsFalse, length, slice_set, slice_index_or};
 ghost use Rattle.lattice.specs.Block.{Block, is_solid};
 ghost use Rattle.lattice.specs.Corners.{Corner};
 ghost use Rattle.lattice.specs.Ground.{metres};
@@ -144,6 +144,7 @@ impl FloodedBlock {
         ensures right { S.is_honest samples.new → IsBlockBut (S.mosaic samples.old) corner self.changed self.block
             → IfOk result (λ found. IfSome found (IsFloodedTile (S.mosaic samples.old) corner)) }
         ensures current { IfOk result (λ found. IfSome found (λ mended. mended.changed ≡ [])) }
+        ensures unchanged { self.changed ≡ [] → result ≡ Ok (Some self) }
         ensures side { IfOk result (λ found. IfSome found (λ mended. mended.labelled.side ≡ self.labelled.side)) }
         ensures refusal { IfErr result (λ r. (r ≡ NoMemory) ⊎ MayRefuse (S.failures samples.old) (S.failures samples.new) r) }
         ensures reads { OnlyReads S.Samples samples.old samples.new (reads_of result) }

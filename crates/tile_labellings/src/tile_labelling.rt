@@ -1,5 +1,5 @@
 //! What is held of a tile's labelling.
-ghost use Rattle.std.specs.Prelude.{◌≡◌, ◌≢◌, ◌<◌, ◌<ℤ◌, ◌≤ℤ◌, ◌⊎◌, ◌↔◌, true, false, IfErr, IfOk, IfSome, IsTrue, length, slice_index_or};
+ghost use Rattle.std.specs.Prelude.{◌≡◌, ◌≢◌, ◌<◌, ◌<ℤ◌, ◌≤ℤ◌, ◌⊎◌, ◌↔◌, true, false, IfErr, IfNone, IfOk, IfSome, Ok, Some, IsTrue, length, slice_index_or};
 ghost use Rattle.lattice.specs.Corners.{Corner};
 ghost use Rattle.lattice.specs.Lattice.{point_of};
 ghost use Rattle.lattice.specs.Mosaic.{Mosaic, void};
@@ -115,6 +115,7 @@ impl TileLabelling {
     ) -> Result<Option<TileLabelling>, Refusal>
         ensures valid { S.is_honest samples.new → IsTileLabelling (S.mosaic samples.old) corner self → IfOk result (λ found. IfSome found (IsTileLabelling (S.mosaic samples.old) corner)) }
         ensures current { IfOk result (λ found. IfSome found IsCurrent) }
+        ensures unchanged { IsCurrent self → (labelled_of self).side ≡ S.side_of samples.old → result ≡ Ok (Some self) }
         ensures side { IfOk result (λ found. IfSome found (λ refreshed. (labelled_of refreshed).side ≡ S.side_of samples.old)) }
         ensures refusal { IfErr result (λ r. (r ≡ NoMemory) ⊎ MayRefuse (S.failures samples.old) (S.failures samples.new) r) }
         ensures reads { OnlyReads S.Samples samples.old samples.new (reads_of result) }
@@ -138,6 +139,7 @@ impl TileLabelling {
         ensures valid { IfSome result (λ left. (m : Mosaic) (c : Corner) → IsTileLabelling m c self → IsTileLabelling m c left) }
         ensures labelled { IfSome result (λ left. labelled_of left ≡ labelled_of self) }
         ensures kept { IfSome result (λ left. is_flooded left ≡ false) }
+        ensures current { IfNone result (IsCurrent self → ⊥) }
     {
         if !self.is_current() {
             return None;

@@ -63,9 +63,6 @@ tile_at [] k c lt is = absurd (omega (arith, lt))
 tile_at (t ∷ rest) zero c lt is = (t, (omega arith, (refl, sym is)))
 tile_at (t ∷ rest) (suc k) c lt is = let next = tile_at rest k c (omega (arith, lt)) is in (next.0, (omega (arith, next.1.0), next.1.1))
 
-pub corner_located : (tiles : List TileLocation) (k : ℕ) (c : Corner) → k < length (corners_of_locations tiles) → c ≡ get_or (corners_of_locations tiles) k c → IsLocated c tiles
-corner_located tiles k c lt is = (k, lt, sym is)
-
 pub one_entry_more : (tiles : List TileLocation) (k : ℕ) (c : Corner) (entries : List EntryValue) (e : EntryValue) → k < length (corners_of_locations tiles) → c ≡ get_or (corners_of_locations tiles) k c
     → entries ≡ map entry_of (take k tiles) → ((t : TileLocation) → Contains tiles t → t.corner ≡ c → e ≡ entry_of t) → entries ++ e ∷ [] ≡ map entry_of (take (k + 1) tiles)
 one_entry_more tiles k c entries e lt is so_far named =

@@ -1,4 +1,5 @@
 -- Pages written one after another.
+use Rattle.std.proofs.Common.{rules}
 use Rattle.cow_tree.proofs.Prelude.{All-head, Bool, Contains, Device, EachStores, Err, Ghosts, IfErr, Image, KeepsBut, List, Ok, OnErr, OnOk, Refusal, Result, Roots, SamePagesBut, StoresAt, WritesPages, ℕ, [], apart_head, arith, false, false≢true, if◌then◌else◌, length, length-append, reached, refl, subst, sym, times, times-append, true, ◌++◌, ◌+◌, ◌∙◌, ◌∷◌, ◌≡◌, ◌≤◌}
 use Rattle.disk.specs.Stops.{LeavesOnly, HasCause, in_turn, nothing_done, weaker}
 use Rattle.roots.specs.Roots.{disk_of, root_of, has_begun, has_failed, IsReady}
@@ -21,21 +22,7 @@ few_counted false before now few = omega (arith, few)
 
 -- none yet
 pub nothing_written : {D : Type 0} (g : Ghosts D) → ((disk : D) (c : Image) → g.honest disk → g.since disk (g.moment disk) c → g.may disk c) → (roots : Roots D g) → has_failed roots ≡ false → HasWritten g [] roots roots
-nothing_written g only_now roots works = record {
-  size = refl;
-  cause = record { later = omega arith; failed = λ is. absurd (false≢true is) };
-  refused = tt;
-  few = omega arith;
-  writes = omega arith;
-  honest = λ is. is;
-  root = refl;
-  works = works;
-  failed = tt;
-  ready = λ _ was. was;
-  others = λ _ p low none. refl;
-  any_moment = λ honest was tiles s none each.
-      weaker g (disk_of roots) (disk_of roots) (g.may (disk_of roots)) (StoresAt (g.size (disk_of roots)) (root_of roots) tiles s) each (nothing_done g (disk_of roots) (only_now (disk_of roots)) honest).run;
-}
+nothing_written g only_now roots works = search rules
 
 module _ {D : Type 0} (g : Ghosts D) where
   -- one page

@@ -20,9 +20,6 @@ returns-in_default-clause-listed g c t among at =
     (sym (no_plane c.args.page_map.now c.rules.ensures c.args.corner c.args.name c.in_default.ensures.none t among at))
     (none_listed g.D.Disk g.met.D.Disk.only_now c.args.roots.now c.requires.not_failed)
 
-pub loop-i-init : goal.loop-i-init
-loop-i-init g c = record { listed = none_listed g.D.Disk g.met.D.Disk.only_now c.args.roots.now c.requires.not_failed; cached = λ honest agrees. agrees }
-
 pub write-requires-clause-page : goal.write-requires-clause-page
 write-requires-clause-page g c =
     let at = (goal.at.write-requires-clause-page g c).After-page_due in

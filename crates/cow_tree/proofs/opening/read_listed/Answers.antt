@@ -1,5 +1,5 @@
-use Rattle.cow_tree.proofs.Prelude.{Err, Ok, Refusal, ap, false≢true, inl, inr, refl, sym, ◌∙◌}
-use Rattle.cow_tree.proofs.ReadOnly.{HasRead, read_as, read_well, refused_again}
+use Rattle.cow_tree.proofs.Prelude.{Ok, inl}
+use Rattle.cow_tree.proofs.ReadOnly.{HasRead, read_as, read_well}
 use Rattle.cow_tree.proofs.opening.read_listed.Goals as goal
 use Rattle.cow_tree.proofs.opening.read_listed.Goals.{In_ok-read}
 
@@ -25,22 +25,3 @@ returns-in-Ok-clause-reads g c = read_well g.D.Disk c.args.roots.now c.read.new.
 pub returns-in-Err-clause-reads : goal.returns-in-Err-clause-reads
 returns-in-Err-clause-reads g c =
     read_as g.D.Disk c.args.roots.now c.read.new.self (Ok tt) _ (has_read g (goal.at.returns-in-Err-clause-reads g c).In_ok-read) (inl c.in_ok-read.ensures.not_failed) (λ is. cc)
-
-pub returns-in_err-read-clause-reads : goal.returns-in_err-read-clause-reads
-returns-in_err-read-clause-reads g c =
-    let why : Refusal = c.in_err-read.field-0.0 in
-    let refused = c.in_err-read.ensures in
-    refused_again g.D.Disk {T = Unit {0}} c.args.roots.now c.read.new.self why c.from_residual.result c.from_residual.ensures.1
-    (record {
-      size = refused.size;
-      writes = refused.writes;
-      later = refused.cause.later;
-      device = λ is. refused.cause.failed refl;
-      root = refused.root;
-      begun = refused.begun;
-      works = inr (ap (λ (r : Refusal). Err r) refused.refused);
-      honest = λ h. (refused.nothing h).honest;
-      seen = refused.seen;
-      nothing = refused.nothing;
-      ready = λ h r w. absurd (false≢true (sym w ∙ refused.failed));
-    })

@@ -2,7 +2,7 @@ use Rattle.cow_tree.proofs.Prelude.{IfOk, Image, IsIndexed, IsRecord, IsRefusedF
 use Rattle.std.proofs.lemmas.Result.{IfErr-weaker}
 use Rattle.page_codec.specs.Sizes.{listed_in}
 use Rattle.cow_tree.proofs.Listed.Indexed.{second_read, none_behind}
-use Rattle.cow_tree.proofs.ReadOnly.{refused_for, handed_on, refused_again, read_well, read_after}
+use Rattle.cow_tree.proofs.ReadOnly.{refused_for, handed_on}
 use Rattle.cow_tree.proofs.Reasons.{none_listed}
 use Rattle.cow_tree.proofs.opening.read_plane.Goals as goal
 use Rattle.cow_tree.proofs.opening.read_plane.Goals.{After-read_indexed}
@@ -55,15 +55,3 @@ returns-in-Two-clause-refused g c honest =
     (subst (λ (n : ℕ). NoneIndexed c.args.format n (d.seen old) (index g at honest)) c.in_ok-listed.ensures.reads.size
     (subst (λ (i : Image). NoneIndexed c.args.format (d.size mid) i (index g at honest)) (c.in_ok-listed.ensures.reads.seen (first g at honest)) none))) refused)
     (c.read_indexed.ensures.refused honest)
-
-pub returns-in_err-listed-clause-reads : goal.returns-in_err-listed-clause-reads
-returns-in_err-listed-clause-reads g c =
-    refused_again g.D.Disk c.args.roots.now c.read_listed.new.roots c.in_err-listed.field-0.0 c.from_residual.result c.from_residual.ensures.1
-    c.in_err-listed.ensures.reads
-
-pub returns-in-One-clause-reads : goal.returns-in-One-clause-reads
-returns-in-One-clause-reads g c = read_well g.D.Disk c.args.roots.now c.read_listed.new.roots c.in_ok-listed.listed _ c.in_ok-listed.ensures.reads
-
-pub returns-in-Two-clause-reads : goal.returns-in-Two-clause-reads
-returns-in-Two-clause-reads g c =
-    read_after g.D.Disk c.args.roots.now c.read_listed.new.roots c.read_indexed.new.roots c.in_ok-listed.listed c.read_indexed.result c.in_ok-listed.ensures.reads c.read_indexed.ensures.reads

@@ -1,5 +1,5 @@
-use Rattle.cow_tree.proofs.Prelude.{EntryValue, Err, Image, NoneKept, NonePlane, Ok, ℕ, ap, subst}
-use Rattle.cow_tree.proofs.ReadOnly.{refused_for, handed_on, refused_again, read_well, read_after}
+use Rattle.cow_tree.proofs.Prelude.{EntryValue, Err, Image, NoneKept, NonePlane, ℕ, ap, subst}
+use Rattle.cow_tree.proofs.ReadOnly.{refused_for, handed_on, refused_again, read_after}
 use Rattle.cow_tree.proofs.Reasons.{no_heights, no_kept}
 use Rattle.cow_tree.proofs.opening.read_planes.Goals as goal
 
@@ -21,17 +21,7 @@ returns-in_err-kept-clause-refused g c honest =
     (subst (λ (i : Image). NoneKept c.args.format (d.size c.read_plane.new.roots.disk) i c.args.entry.now.kept) (first.seen (c.in_err-kept.ensures.reads.honest honest))
     (subst (NoneKept c.args.format (d.size c.read_plane.new.roots.disk) (d.seen c.read_plane.new.roots.disk)) (ap (λ (e : EntryValue). e.kept) c.entry.view_is) none)))) (c.in_err-kept.ensures.refused honest))
 
-pub returns-in_err-heights-clause-reads : goal.returns-in_err-heights-clause-reads
-returns-in_err-heights-clause-reads g c =
-    refused_again g.D.Disk c.args.roots.now c.read_plane.new.roots c.in_err-heights.field-0.0 c.from_residual.result c.from_residual.ensures.1
-    c.in_err-heights.ensures.reads
-
 pub returns-in_err-kept-clause-reads : goal.returns-in_err-kept-clause-reads
 returns-in_err-kept-clause-reads g c =
     refused_again g.D.Disk c.args.roots.now c.read_kept.new.roots c.in_err-kept.field-0.0 c.from_residual-in_err-kept.result c.from_residual-in_err-kept.ensures.1
     (read_after g.D.Disk c.args.roots.now c.read_plane.new.roots c.read_kept.new.roots c.in_ok-heights.heights (Err c.in_err-kept.field-0.0) c.in_ok-heights.ensures.reads c.in_err-kept.ensures.reads)
-
-pub returns-clause-reads : goal.returns-clause-reads
-returns-clause-reads g c =
-    read_well g.D.Disk c.args.roots.now c.read_kept.new.roots c.in_ok-kept.kept _
-    (read_after g.D.Disk c.args.roots.now c.read_plane.new.roots c.read_kept.new.roots c.in_ok-heights.heights (Ok c.in_ok-kept.kept) c.in_ok-heights.ensures.reads c.in_ok-kept.ensures.reads)

@@ -1,32 +1,60 @@
-use Rattle.tile_flood.proofs.Prelude.{List, ℕ, arith, inr, refl, slice_index, subst, ≤ℤ_same, ◌+◌, ◌≡◌, ◌≤◌}
-use Rattle.tile_flood.proofs.Passages.{gathered_more, none_there, beside_part}
+use Rattle.tile_flood.proofs.Prelude.{cases_lt, inl, ◌-◌, arith, inr, subst, ◌*◌, ◌+◌, ◌<◌, ◌≡◌, ◌≢◌, IsFound, AreGathered}
+use borrow.Author.Count.{below_more}
+use Rattle.tile_flood.proofs.Passages.{found_at, none_there, met_still, passages_more, found_now, found_still}
 use Rattle.tile_flood.proofs.passing.gather.Goals as goal
-use Rattle.tile_flood.proofs.passing.gather.Goals.{then-not-are_alike+in_ok-gather_strip, else-not-are_alike}
+use Rattle.tile_flood.proofs.passing.gather.Goals.{in-Some+in_ok-list, in_default, then-not-are_alike+else-loop-k-test, else-not-are_alike}
 
-pub gather_strip-requires-clause-beside : goal.gather_strip-requires-clause-beside
-gather_strip-requires-clause-beside c =
-    let within : c.strips.from + c.min-width.result ≤ c.args.count = omega (arith, c.min-width.ensures, c.strips.invariant.0) in
-    beside_part c.args.n c.args.e c.args.f c.args.count c.strips.from c.min-width.result c.requires.beside within
+pub loop-k-preserved : goal.loop-k-preserved
+loop-k-preserved c =
+    let n = c.args.labelled.now.n in
+    let levels = c.args.labelled.now.levels.now in
+    let labels = c.args.labelled.now.labels.now in
+    let k = c.loop-k.k in
+    let in_e : c.args.e + k < n * n = omega arith in
+    let in_f : c.args.f + k < n * n = omega arith in
+    let other : c.args.e + k ≢ c.args.f + k = omega arith in
+    elim c.match-passage.branch [
+      | in-Some+in_ok-list w ↦ rw w.passages-is (
+          let passage = w.in-Some.ensures.some in
+          let listed = w.in_ok-list.ensures in
+          record {
+            passages = passages_more n levels labels c.loop-k.passages.found.items w.list.new.self.found.items w.in-Some.passage (c.args.e + k) (c.args.f + k) listed c.loop-k.invariant.passages
+                in_e in_f other (c.requires.beside.beside k (omega arith)) passage;
+            still = λ p has. met_still c.loop-k.passages.found.items w.list.new.self.found.items p listed.still (c.loop-k.invariant.still p has);
+            found = below_more (λ j. IsFound n levels labels w.list.new.self.found.items (c.args.e + j) (c.args.f + j)) k
+                (λ j less. found_still n levels labels c.loop-k.passages.found.items w.list.new.self.found.items (c.args.e + j) (c.args.f + j) listed.still (c.loop-k.invariant.found j less))
+                (found_now n levels labels c.loop-k.passages.found.items w.list.new.self.found.items w.in-Some.passage (c.args.e + k) (c.args.f + k) listed passage);
+          })
+      | in_default w ↦ rw w.passages-is (record {
+        passages = c.loop-k.invariant.passages;
+        still = c.loop-k.invariant.still;
+        found = below_more (λ j. IsFound n levels labels c.loop-k.passages.found.items (c.args.e + j) (c.args.f + j)) k c.loop-k.invariant.found
+            (none_there n levels labels c.loop-k.passages.found.items (c.args.e + k) (c.args.f + k) w.in_default.ensures.none);
+      })
+    ]
 
 pub strips-preserved : goal.strips-preserved
 strips-preserved c =
-    let n = c.args.n in
-    let levels = c.args.labelled.now.levels in
-    let labels = c.args.labelled.now.labels in
+    let n = c.args.labelled.now.n in
+    let levels = c.args.labelled.now.levels.now in
+    let labels = c.args.labelled.now.labels.now in
     let from = c.strips.from in
-    let width = c.min-width.result in
-    let was = c.strips.found.items in
+    let found = c.strips.passages.found.items in
     let so_far = c.strips.invariant.1 in
-    let within : from + width ≤ c.args.count = omega (arith, c.min-width.ensures, c.strips.invariant.0) in
     elim c.if-not-are_alike.branch [
-      | then-not-are_alike+in_ok-gather_strip w ↦ rw w.found-is (within, gathered_more n levels labels c.args.found.now.items was w.gather_strip.new.found.items c.args.e c.args.f from width so_far w.in_ok-gather_strip.ensures)
-      | else-not-are_alike w ↦ rw w.found-is (
-        within,
-        gathered_more n levels labels c.args.found.now.items was was c.args.e c.args.f from width so_far (record {
+      | then-not-are_alike+else-loop-k-test w ↦
+          let end : w.loop-k.k ≡ from + c.min-width.result = omega arith in
+          rw w.passages-is (omega (arith, c.min-width.ensures, c.strips.invariant.0), subst (AreGathered n levels labels c.args.passages.now.found.items w.loop-k.passages.found.items c.args.e c.args.f) end w.loop-k.invariant)
+      | else-not-are_alike w ↦ rw w.passages-is (
+        omega (arith, c.min-width.ensures, c.strips.invariant.0),
+        record {
           passages = so_far.passages;
-          still = λ p has. (p, (has, (record { same_a = refl; same_b = refl }, ≤ℤ_same p.level)));
-          found = λ k below. none_there n levels labels was (c.args.e + from + k) (c.args.f + from + k)
-              (inr (inr (subst (λ (ls : List ℕ). slice_index ls (c.args.e + from + k) ≡ slice_index ls (c.args.f + from + k)) c.labels.ensures.value (c.are_alike.ensures w.if-not-are_alike.false k below))));
-        }),
+          still = so_far.still;
+          found = λ k below. elim (cases_lt k from) [
+            | inl before ↦ so_far.found k before
+            | inr after ↦ found_at n levels labels found (c.args.e + k) (c.args.f + k) (c.args.e + from + (k - from)) (c.args.f + from + (k - from)) (omega arith) (omega arith)
+                (none_there n levels labels found _ _ (inr (inr (c.are_alike.ensures w.if-not-are_alike.false (k - from) (omega arith)))))
+          ];
+        },
       )
     ]

@@ -1,4 +1,5 @@
-use Rattle.tile_flood.proofs.Prelude.{AreFirsts, AreFoundBelow, AreSpills, IsInOrder, IsLabelling, arith, block_of, subst, sym, ◌*◌, ◌∙◌, ◌≡◌}
+use Rattle.tile_flood.proofs.Prelude.{AreFirsts, AreFoundBelow, AreSpills, IsInOrder, IsLabelling, arith, block_of, subst, sym, ◌*◌, ◌≡◌}
+use Rattle.tile_flood.specs.Blocks.{LabelledGround}
 use Rattle.tile_flood.proofs.Passages.{rises, spills_in_order, spills_of_ground, no_lower}
 use Rattle.tile_flood.proofs.passing.spills.Goals as goal
 
@@ -10,15 +11,12 @@ first_of_each-requires c =
 
 pub returns-clause-of_any : goal.returns-clause-of_any
 returns-clause-of_any c =
-    let n = c.samples-n.result in
-    let levels = c.args.labelled.now.levels in
-    let labels = c.args.labelled.now.labels in
+    let v = c.view-view.result in
     let firsts = c.in_ok-first_of_each.field-0.items in
-    let same : n ≡ c.args.labelled.now.side = c.samples-n.ensures.value ∙ c.side.ensures in
-    let at_end : c.loop-i.i ≡ n = omega arith in
-    subst (λ s. AreSpills s levels levels labels firsts) same
-    (spills_in_order n levels labels c.loop-i.found.items c.sort.new.self.items firsts c.loop-i.invariant.passages
-    (subst (λ i. AreFoundBelow n levels labels c.loop-i.found.items (i * n)) at_end c.loop-i.invariant.before)
+    let at_end : c.loop-i.i ≡ v.n = omega arith in
+    subst (λ (g : LabelledGround). AreSpills g.side g.levels g.levels g.labels firsts) (sym c.view-view.ensures)
+    (spills_in_order v.n v.levels.now v.labels.now c.loop-i.passages.found.items c.sort.new.self.items firsts c.loop-i.invariant.passages
+    (subst (λ i. AreFoundBelow v.n v.levels.now v.labels.now c.loop-i.passages.found.items (i * v.n)) at_end c.loop-i.invariant.before)
     c.in_ok-sort.ensures.permutation (subst (λ l. AreFirsts l firsts) c.deref.ensures.value c.in_ok-first_of_each.ensures))
 
 pub returns-clause-spills : goal.returns-clause-spills

@@ -6,16 +6,14 @@ use Rattle.tile_flood.proofs.restoring.are_settled.Goals as goal
 
 pub are_relaxed-requires-clause-beside : goal.are_relaxed-requires-clause-beside
 are_relaxed-requires-clause-beside c =
-    let inside = (is_inside c.args.planes.now.n c.args.i c.args.from (c.args.to - c.args.from) c.loop-d.d (omega arith) (omega arith) (omega arith) (omega arith) c.loop-d-test.true).beside in
-    let whole = c.args.planes.now.marks.levels_whole in
-    omega arith
+    (is_inside c.args.planes.now.block.n c.args.i c.args.from (c.args.to - c.args.from) c.loop-d.d (omega arith) (omega arith) (omega arith) (omega arith) c.loop-d-test.true).beside
 
 pub returns : goal.returns
 returns c done j low high =
-    let n = c.args.planes.now.n in
+    let n = c.args.planes.now.block.n in
     let i = c.args.i in
     let from = c.args.from in
-    let heights = c.args.planes.now.heights.now in
+    let heights = c.args.planes.now.block.heights.now in
     let levels = c.args.planes.now.levels.now in
     let k : ℕ = j - from in
     let few : k < c.args.to - from = omega arith in

@@ -1,29 +1,50 @@
 use Rattle.std.proofs.Common.{◌≡◌, ◌+◌, ◌-◌, ◌*◌, arith, subst}
 use Rattle.tile_flood.specs.Restoring.{AreFitting}
-use Rattle.tile_flood.proofs.Fitting.{next_fits}
+use Rattle.tile_flood.proofs.Squares.{in_square}
+use Rattle.tile_flood.proofs.Fitting.{next_fits, settled_fits, span_fits}
 use Rattle.tile_flood.proofs.restoring.look_at_row.Goals as goal
 
 pub look_at-requires-clause-standing : goal.look_at-requires-clause-standing
-look_at-requires-clause-standing c = c.mark_lower.ensures.standing c.args.planes.now.heights.now c.args.planes.now.sinks.now c.requires.standing
+look_at-requires-clause-standing c = c.mark_lower.ensures.standing c.args.planes.now.block.heights.now c.args.planes.now.block.sinks.now c.requires.standing
 
 pub loop-from-init : goal.loop-from-init
 loop-from-init c =
-    let side = c.args.planes.now.ground.side.0 in
-    let first : c.args.i * c.args.planes.now.n ≡ c.args.i * c.args.planes.now.n + 0 = omega arith in
+    let side = c.args.planes.now.block.whole.side.0 in
+    let first : c.args.i * c.args.planes.now.block.n ≡ c.args.i * c.args.planes.now.block.n + 0 = omega arith in
     record {
       low = omega arith;
       inside = omega arith;
       standing = c.look_at.ensures.standing;
-      fitting = next_fits c.args.planes.now.n c.args.planes.now.heights.now c.args.planes.now.sinks.now c.args.planes.now.levels.now c.args.planes.now.labels.now c.args.points.now.items c.look_at.new.points.items c.args.i 0
-          (subst (AreFitting c.args.planes.now.n c.args.planes.now.heights.now c.args.planes.now.sinks.now c.args.planes.now.levels.now c.args.planes.now.labels.now c.args.points.now.items) first c.requires.fitting) c.look_at.ensures.kept (c.look_at.ensures.fitting c.if-not-look_at.false);
+      fitting = next_fits c.args.planes.now.block.n c.args.planes.now.block.heights.now c.args.planes.now.block.sinks.now c.args.planes.now.levels.now c.args.planes.now.labels.now c.args.points.now.items c.look_at.new.points.items c.args.i 0
+          (subst (AreFitting c.args.planes.now.block.n c.args.planes.now.block.heights.now c.args.planes.now.block.sinks.now c.args.planes.now.levels.now c.args.planes.now.labels.now c.args.points.now.items) first c.requires.fitting) c.look_at.ensures.kept (c.look_at.ensures.fitting c.if-not-look_at.false);
+    }
+
+pub loop-j-preserved : goal.loop-j-preserved
+loop-j-preserved c = record {
+  standing = c.look_at-in-loop-j.ensures.standing;
+  fitting = next_fits c.args.planes.now.block.n c.args.planes.now.block.heights.now c.args.planes.now.block.sinks.now c.args.planes.now.levels.now c.args.planes.now.labels.now c.loop-j.points.items c.look_at-in-loop-j.new.points.items c.args.i c.loop-j.j c.loop-j.invariant.fitting c.look_at-in-loop-j.ensures.kept (c.look_at-in-loop-j.ensures.fitting c.if-not-look_at-2.false);
+}
+
+pub loop-from-preserved : goal.loop-from-preserved
+loop-from-preserved c =
+    let n = c.args.planes.now.block.n in
+    let i = c.args.i in
+    let inv = c.loop-from.invariant in
+    record {
+      low = omega arith;
+      inside = omega arith;
+      standing = inv.standing;
+      fitting = span_fits n c.args.planes.now.block.heights.now c.args.planes.now.block.sinks.now c.args.planes.now.levels.now c.args.planes.now.labels.now c.loop-from.points.items i c.loop-from.from c.min-to.result inv.fitting
+          (λ j low high. settled_fits n c.args.planes.now.block.heights.now c.args.planes.now.block.sinks.now c.args.planes.now.levels.now c.args.planes.now.labels.now c.loop-from.points.items (i * n + j) (in_square n i j c.requires.i (omega arith))
+          (c.is_plain.ensures c.if-not-is_plain.false j low high) (c.are_settled.ensures c.if-not-are_settled.false j low high));
     }
 
 pub returns-clause-fitting : goal.returns-clause-fitting
 returns-clause-fitting c ok =
-    let n = c.args.planes.now.n in
+    let n = c.args.planes.now.block.n in
     let i = c.args.i in
     let last : i * n + c.loop-from.from ≡ i * n + (n - 1) = omega arith in
     let end : i * n + ((n - 1) + 1) ≡ (i + 1) * n = omega arith in
-    subst (AreFitting n c.args.planes.now.heights.now c.args.planes.now.sinks.now c.args.planes.now.levels.now c.args.planes.now.labels.now c.look_at-2.new.points.items) end
-    (next_fits n c.args.planes.now.heights.now c.args.planes.now.sinks.now c.args.planes.now.levels.now c.args.planes.now.labels.now c.loop-from.points.items c.look_at-2.new.points.items i (n - 1)
-    (subst (AreFitting n c.args.planes.now.heights.now c.args.planes.now.sinks.now c.args.planes.now.levels.now c.args.planes.now.labels.now c.loop-from.points.items) last c.loop-from.invariant.fitting) c.look_at-2.ensures.kept (c.look_at-2.ensures.fitting ok))
+    subst (AreFitting n c.args.planes.now.block.heights.now c.args.planes.now.block.sinks.now c.args.planes.now.levels.now c.args.planes.now.labels.now c.look_at-2.new.points.items) end
+    (next_fits n c.args.planes.now.block.heights.now c.args.planes.now.block.sinks.now c.args.planes.now.levels.now c.args.planes.now.labels.now c.loop-from.points.items c.look_at-2.new.points.items i (n - 1)
+    (subst (AreFitting n c.args.planes.now.block.heights.now c.args.planes.now.block.sinks.now c.args.planes.now.levels.now c.args.planes.now.labels.now c.loop-from.points.items) last c.loop-from.invariant.fitting) c.look_at-2.ensures.kept (c.look_at-2.ensures.fitting ok))

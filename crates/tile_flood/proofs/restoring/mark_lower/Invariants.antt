@@ -1,9 +1,5 @@
-use Rattle.std.proofs.Common.{◌≡◌, ◌*◌, length}
-use Rattle.tile_flood.specs.Restoring.{StandStill}
+use Rattle.tile_flood.specs.Views.{StandStillIn}
 use Rattle.tile_flood.proofs.restoring.mark_lower.Given as goal
 
 abbrev pub invariant-loop-d : goal.invariant-loop-d
-invariant-loop-d l = record {
-  whole : length l.stands ≡ l.planes.n * l.planes.n;
-  standing : StandStill l.planes.n l.planes.levels.now l.planes.labels.now l.fn.stands l.stands;
-}
+invariant-loop-d l = StandStillIn l.planes l.fn.stands l.stands

@@ -2,7 +2,6 @@ use Rattle.tile_flood.proofs.restoring.spread_from.Goals as goal
 
 pub loop-d-preserved : goal.loop-d-preserved
 loop-d-preserved c = record {
-  whole = c.spread_to.ensures.whole;
   reached = c.in_ok-spread_to.ensures.reached;
   standing = λ heights sinks are. c.in_ok-spread_to.ensures.standing heights sinks (c.loop-d.invariant.standing heights sinks are);
 }

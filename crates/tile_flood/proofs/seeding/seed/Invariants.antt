@@ -3,6 +3,6 @@ use Rattle.tile_flood.proofs.seeding.seed.Given as goal
 
 abbrev pub invariant-loop-i : goal.invariant-loop-i
 invariant-loop-i l = record {
-  cells : AreCells l.heights l.cells;
-  state : IsSeeding (block_of l.n l.heights l.sinks) (levels_of l.cells) (labels_of l.cells) l.queue (l.i * l.n);
+  cells : AreCells l.block.heights.now l.cells;
+  state : IsSeeding (block_of l.block.n l.block.heights.now l.block.sinks.now) (levels_of l.cells) (labels_of l.cells) l.queue (l.i * l.block.n);
 }

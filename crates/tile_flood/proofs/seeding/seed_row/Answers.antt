@@ -10,16 +10,27 @@ loop-from-preserved c =
       low = omega arith;
       inside = omega arith;
       cells = inv.cells;
-      state = seeds_passed c.args.n c.args.heights.now c.args.sinks.now (levels_of c.loop-from.cells) (labels_of c.loop-from.cells) c.loop-from.queue (c.args.i * c.args.n + c.loop-from.from) (c.args.i * c.args.n + c.min-to.result) inv.state (omega arith)
-          (λ e from below. plain_at c.args.n c.args.heights.now c.args.sinks.now c.args.i c.loop-from.from c.min-to.result e from below (c.is_plain.ensures c.if-not-is_plain.false));
+      state = seeds_passed c.args.block.now.n c.args.block.now.heights.now c.args.block.now.sinks.now (levels_of c.loop-from.cells) (labels_of c.loop-from.cells) c.loop-from.queue (c.args.i * c.args.block.now.n + c.loop-from.from) (c.args.i * c.args.block.now.n + c.min-to.result) inv.state (omega arith)
+          (λ e from below. plain_at c.args.block.now.n c.args.block.now.heights.now c.args.block.now.sinks.now c.args.i c.loop-from.from c.min-to.result e from below (c.is_plain.ensures c.if-not-is_plain.false));
+    }
+
+pub loop-from-preserved-after-loop-j : goal.loop-from-preserved-after-loop-j
+loop-from-preserved-after-loop-j c =
+    let end : c.loop-j.j ≡ c.min-to.result = omega arith in
+    let inv = c.loop-j.invariant in
+    record {
+      low = omega arith;
+      inside = omega arith;
+      cells = inv.cells;
+      state = subst (λ j. IsSeeding (block_of c.args.block.now.n c.args.block.now.heights.now c.args.block.now.sinks.now) (levels_of c.loop-j.cells) (labels_of c.loop-j.cells) c.loop-j.queue (c.args.i * c.args.block.now.n + j)) end inv.state;
     }
 
 pub seed_at-requires-2-clause-state : goal.seed_at-requires-2-clause-state
 seed_at-requires-2-clause-state c =
-    let end : c.args.i * c.args.n + c.loop-from.from ≡ c.args.i * c.args.n + (c.args.n - 1) = omega arith in
-    subst (IsSeeding (block_of c.args.n c.args.heights.now c.args.sinks.now) (levels_of c.loop-from.cells) (labels_of c.loop-from.cells) c.loop-from.queue) end c.loop-from.invariant.state
+    let end : c.args.i * c.args.block.now.n + c.loop-from.from ≡ c.args.i * c.args.block.now.n + (c.args.block.now.n - 1) = omega arith in
+    subst (IsSeeding (block_of c.args.block.now.n c.args.block.now.heights.now c.args.block.now.sinks.now) (levels_of c.loop-from.cells) (labels_of c.loop-from.cells) c.loop-from.queue) end c.loop-from.invariant.state
 
 pub returns-clause-state : goal.returns-clause-state
 returns-clause-state c =
-    let end : c.args.i * c.args.n + ((c.args.n - 1) + 1) ≡ (c.args.i + 1) * c.args.n = omega arith in
-    subst (IsSeeding (block_of c.args.n c.args.heights.now c.args.sinks.now) (levels_of c.seed_at-2.new.cells) (labels_of c.seed_at-2.new.cells) c.seed_at-2.new.queue) end c.in_ok-seed_at-2.ensures.state
+    let end : c.args.i * c.args.block.now.n + ((c.args.block.now.n - 1) + 1) ≡ (c.args.i + 1) * c.args.block.now.n = omega arith in
+    subst (IsSeeding (block_of c.args.block.now.n c.args.block.now.heights.now c.args.block.now.sinks.now) (levels_of c.seed_at-2.new.cells) (labels_of c.seed_at-2.new.cells) c.seed_at-2.new.queue) end c.in_ok-seed_at-3.ensures.state

@@ -3,8 +3,8 @@ use Rattle.tile_flood.proofs.settling.settle.Given as goal
 
 abbrev pub invariant-loop-entry : goal.invariant-loop-entry
 invariant-loop-entry l = record {
-  cells : AreCells l.heights l.cells;
-  state : IsFlooding (block_of l.n l.heights l.sinks) (levels_of l.cells) (labels_of l.cells) l.queue;
+  cells : AreCells l.block.heights.now l.cells;
+  state : IsFlooding (block_of l.block.n l.block.heights.now l.block.sinks.now) (levels_of l.cells) (labels_of l.cells) l.queue;
 }
 
 abbrev pub decreases-loop-entry : goal.decreases-loop-entry

@@ -5,11 +5,11 @@ use Rattle.tile_flood.proofs.settling.spread.Goals as goal
 
 pub returns-clause-state : goal.returns-clause-state
 returns-clause-state c =
-    let n = c.args.n in
-    let heights = c.args.heights.now in
+    let n = c.args.block.now.n in
+    let heights = c.args.block.now.heights.now in
     let point = c.args.popped.point in
     let cells' = c.visit_row-3.new.cells in
-    spread_end n heights c.args.sinks.now (levels_of cells') (labels_of cells') c.visit_row-3.new.queue point c.args.popped.level c.args.popped.label c.in_ok-visit_row-3.ensures.state
+    spread_end n heights c.args.block.now.sinks.now (levels_of cells') (labels_of cells') c.visit_row-3.new.queue point c.args.popped.level c.args.popped.label c.in_ok-visit_row-3.ensures.state
     (λ z link.
     let apart = linked_apart n heights point z link in
     elim (cases_eq (z / n + 1) (point / n)) [

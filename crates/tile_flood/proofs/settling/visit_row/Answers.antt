@@ -3,37 +3,37 @@ use Rattle.tile_flood.proofs.Squares.{linked_parts, linked_below, solid_below, r
 use Rattle.tile_flood.proofs.Spreading.{outlet_marked}
 use Rattle.tile_flood.proofs.Runs.{run_near, run_of, outer_row}
 use Rattle.tile_flood.proofs.settling.visit_row.Goals as goal
-use Rattle.tile_flood.proofs.settling.visit_row.Goals.{then-from-n-via-then-from-n, then-from-n-via-else-from-n+then-from-cells}
+use Rattle.tile_flood.proofs.settling.visit_row.Goals.{then-from-block-via-then-from-block, then-from-block-via-else-from-block+then-from-cells}
 
 pub visit-requires-clause-near : goal.visit-requires-clause-near
-visit-requires-clause-near c = let low = c.if-from-n.false in run_near c.args.n c.args.popped.point c.args.i 0 (c.args.popped.point + c.args.i * c.args.n - c.args.n - 1) c.requires.heights.side.0 c.requires.i (omega arith) (omega arith)
+visit-requires-clause-near c = let low = c.if-from-block.false in run_near c.args.block.now.n c.args.popped.point c.args.i 0 (c.args.popped.point + c.args.i * c.args.block.now.n - c.args.block.now.n - 1) c.args.block.now.whole.side.0 c.requires.i (omega arith) (omega arith)
 
 pub visit-requires-2-clause-near : goal.visit-requires-2-clause-near
-visit-requires-2-clause-near c = let low = c.if-from-n.false in run_near c.args.n c.args.popped.point c.args.i 1 (c.args.popped.point + c.args.i * c.args.n - c.args.n - 1 + 1) c.requires.heights.side.0 c.requires.i (omega arith) (omega arith)
+visit-requires-2-clause-near c = let low = c.if-from-block.false in run_near c.args.block.now.n c.args.popped.point c.args.i 1 (c.args.popped.point + c.args.i * c.args.block.now.n - c.args.block.now.n - 1 + 1) c.args.block.now.whole.side.0 c.requires.i (omega arith) (omega arith)
 
 pub visit-requires-3-clause-near : goal.visit-requires-3-clause-near
-visit-requires-3-clause-near c = let low = c.if-from-n.false in run_near c.args.n c.args.popped.point c.args.i 2 (c.args.popped.point + c.args.i * c.args.n - c.args.n - 1 + 2) c.requires.heights.side.0 c.requires.i (omega arith) (omega arith)
+visit-requires-3-clause-near c = let low = c.if-from-block.false in run_near c.args.block.now.n c.args.popped.point c.args.i 2 (c.args.popped.point + c.args.i * c.args.block.now.n - c.args.block.now.n - 1 + 2) c.args.block.now.whole.side.0 c.requires.i (omega arith) (omega arith)
 
 pub returns-clause-still : goal.returns-clause-still
 returns-clause-still c e on = c.in_ok-visit-3.ensures.still e (c.in_ok-visit-2.ensures.still e (c.in_ok-visit.ensures.still e on))
 
-pub returns-then-from-n-clause-marked : goal.returns-then-from-n-clause-marked
-returns-then-from-n-clause-marked c z link row =
-    let n = c.args.n in
-    let heights = c.args.heights.now in
+pub returns-then-from-block-clause-marked : goal.returns-then-from-block-clause-marked
+returns-then-from-block-clause-marked c z link row =
+    let n = c.args.block.now.n in
+    let heights = c.args.block.now.heights.now in
     let l = linked_parts n heights c.args.popped.point z link in
     let inside : c.args.popped.point < n * n = solid_below n heights c.args.popped.point l.from in
-    let rim = outer_row n c.args.popped.point c.args.i z c.requires.heights.side.0 inside (linked_below n heights c.args.popped.point z link) row
-    (elim c.then-from-n.branch [
-      | then-from-n-via-then-from-n w ↦ let low = w.if-from-n.true in inl (omega arith)
-      | then-from-n-via-else-from-n+then-from-cells w ↦ let high = w.if-from-cells.true in inr (omega arith)
+    let rim = outer_row n c.args.popped.point c.args.i z c.args.block.now.whole.side.0 inside (linked_below n heights c.args.popped.point z link) row
+    (elim c.then-from-block.branch [
+      | then-from-block-via-then-from-block w ↦ let low = w.if-from-block.true in inl (omega arith)
+      | then-from-block-via-else-from-block+then-from-cells w ↦ let high = w.if-from-cells.true in inr (omega arith)
     ]) in
-    outlet_marked n heights c.args.sinks.now (levels_of c.args.cells.now) (labels_of c.args.cells.now) c.args.queue.now c.args.popped.point c.args.popped.level c.args.popped.label c.requires.state z (rim_is_exit n heights c.args.sinks.now z l.to rim)
+    outlet_marked n heights c.args.block.now.sinks.now (levels_of c.args.cells.now) (labels_of c.args.cells.now) c.args.queue.now c.args.popped.point c.args.popped.level c.args.popped.label c.requires.state z (rim_is_exit n heights c.args.block.now.sinks.now z l.to rim)
 
 pub returns-clause-marked : goal.returns-clause-marked
 returns-clause-marked c z link row =
-    let n = c.args.n in
-    let heights = c.args.heights.now in
+    let n = c.args.block.now.n in
+    let heights = c.args.block.now.heights.now in
     let point = c.args.popped.point in
     let l = linked_parts n heights point z link in
     let found = run_of n point c.args.i z l.beside row in

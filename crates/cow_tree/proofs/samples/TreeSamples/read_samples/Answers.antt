@@ -1,30 +1,10 @@
-use Rattle.cow_tree.proofs.Prelude.{IsSomeAnd, List, Mosaic, Option, RootValue, StoredTile, ℕ, ℤ, ap, arith, largest_side_of, length, samples_of, samples_of_plane, slice_range, staged_in, subst, sym, take_all, tile_in, ◌*◌, ◌+◌, ◌-◌, ◌∙◌, ◌≡◌, ◌≤◌}
+use Rattle.cow_tree.proofs.Prelude.{IsSomeAnd, List, Mosaic, Option, StoredTile, ℕ, ℤ, ap, arith, length, samples_of, samples_of_plane, slice_range, staged_in, subst, sym, take_all, tile_in, ◌+◌, ◌-◌, ◌∙◌, ◌≡◌, ◌≤◌}
 use Rattle.cow_tree.specs.Reading.{read_again}
 use Rattle.cow_tree.proofs.Listed.Adding.{contains-map}
 use Rattle.cow_tree.proofs.Listed.Due.{located_tile}
-use Rattle.cow_tree.proofs.SampleReads.{samples_are, read_further, length_further, samples_small}
+use Rattle.cow_tree.proofs.SampleReads.{samples_are, read_further, length_further}
 use Rattle.cow_tree.proofs.TreeReads.{was_readable, same_mosaic}
 use Rattle.cow_tree.proofs.samples.TreeSamples.read_samples.Goals as goal
-
-pub overflow_cast-at : goal.overflow_cast-at
-overflow_cast-at g c =
-    let root = c.current.result.now in
-    let side : c.side-side.result ≡ root.side = c.side-side.ensures.value in
-    let same : root.side ≡ c.args.self.now.roots.root.side = ap (λ (r : RootValue). r.side) c.current.ensures in
-    let high : root.side ≤ largest_side_of root.version = subst (λ (n : ℕ). n ≤ largest_side_of root.version) side c.side-side.ensures.high in
-    let small : root.side * root.side ≤ 12967201 = samples_small root.version root.side high in
-    let small_here : c.args.self.now.roots.root.side * c.args.self.now.roots.root.side ≤ 12967201 = subst (λ (n : ℕ). n * n ≤ 12967201) same small in
-    omega (arith, small_here, c.requires.range)
-
-pub overflow_add-at : goal.overflow_add-at
-overflow_add-at g c =
-    let root = c.current.result.now in
-    let side : c.side-side.result ≡ root.side = c.side-side.ensures.value in
-    let same : root.side ≡ c.args.self.now.roots.root.side = ap (λ (r : RootValue). r.side) c.current.ensures in
-    let high : root.side ≤ largest_side_of root.version = subst (λ (n : ℕ). n ≤ largest_side_of root.version) side c.side-side.ensures.high in
-    let small : root.side * root.side ≤ 12967201 = samples_small root.version root.side high in
-    let small_here : c.args.self.now.roots.root.side * c.args.self.now.roots.root.side ≤ 12967201 = subst (λ (n : ℕ). n * n ≤ 12967201) same small in
-    omega (arith, small_here, c.requires.range)
 
 pub loop-done-preserved : goal.loop-done-preserved
 loop-done-preserved g c =

@@ -1,5 +1,4 @@
-use Rattle.cow_tree.proofs.Prelude.{AreStaged, Format, HasMoved, Image, IsAt, IsCurrent, IsReady, KeepsAll, LeavesOnly, List, PageMapValue, Point, RootValue, SamePages, Stands, StoresAt, ℕ, ap, ap₂, arith, due_among, entry_of, format_of, inl, length, map, numbers_of, pages_due, ready_current, refl, rules, stored_in, subst, sym, tile_in, tiles_listing, weaker, ◌+◌, ◌∙◌, ◌≡◌, ◌≤◌, ◌⊎◌}
-use Rattle.lattice.specs.Mosaic.{AreSinks}
+use Rattle.cow_tree.proofs.Prelude.{AreStaged, Format, HasMoved, Image, IsAt, IsCurrent, IsReady, KeepsAll, LeavesOnly, List, PageMapValue, Point, RootValue, SamePages, Stands, StoresAt, ℕ, ap, ap₂, arith, due_among, entry_of, format_of, inl, length, map, numbers_of, pages_due, ready_current, refl, rules, stored_in, subst, sym, tile_in, tiles_listing, weaker, ◌∙◌, ◌≡◌, ◌≤◌, ◌⊎◌}
 use Rattle.cow_tree.specs.Stored.{Stored, next_commit}
 use Rattle.cow_tree.proofs.Cached.{same_agrees}
 use Rattle.cow_tree.proofs.Commits.{next_root, few_in_all, few_in_part, lands, same_tiles, nothing_staged, committing}
@@ -8,11 +7,6 @@ use Rattle.cow_tree.proofs.Listed.ListingPages.{due_are, due_unreached}
 use Rattle.cow_tree.proofs.Steps.{stands, stores_along}
 use Rattle.cow_tree.proofs.tree.Tree.commit.Goals as goal
 use Rattle.cow_tree.proofs.tree.Tree.commit.Goals.{After-write_listings, After-commit}
-
-pub with_sinks-root-requires : goal.with_sinks-root-requires
-with_sinks-root-requires g c =
-    subst (λ (r : RootValue). AreSinks r.side c.points.result.now) (sym (c.next.ensures ∙ ap (λ (r : RootValue). record r { number = r.number + 1; count = c.args.count; entries = c.staged_entries-entries.result.items }) c.current.ensures))
-    (subst (AreSinks c.args.self.now.roots.root.side) (sym c.points.ensures.value) (subst (λ (n : ℕ). AreSinks n c.args.self.now.sinks.points) c.args.self.now.declared c.points.ensures.valid))
 
 -- what a commit writes besides its root
 module _ (g : _) (c : After-write_listings g) where

@@ -1,4 +1,4 @@
-use Rattle.cow_tree.proofs.Prelude.{AddsNothing, All, HasRecords, Image, RootValue, format_of, nothing_twice, subst, sym, ◌∙◌, ◌≡◌}
+use Rattle.cow_tree.proofs.Prelude.{All, HasRecords, Image, RootValue, format_of, nothing_twice, subst, sym, ◌∙◌, ◌≡◌}
 use Rattle.cow_tree.proofs.Clean.{is_clean}
 use Rattle.cow_tree.proofs.Opened.{opened, page_map_refuses, stands_opens}
 use Rattle.cow_tree.proofs.ReadOnly.{works_ok}
@@ -37,16 +37,3 @@ pub returns-in-Ok-read_page_map-clause-nothing : goal.returns-in-Ok-read_page_ma
 returns-in-Ok-read_page_map-clause-nothing g c honest =
     let reads = c.in-Ok-read_page_map.ensures.reads in
     nothing_twice g.D.Disk c.args.disk c.in_ok-roots.roots.disk c.read_page_map.new.roots.disk (c.in_ok-roots.ensures.nothing (reads.honest honest)) (reads.nothing honest)
-
-pub returns-in-Err-clause-nothing : goal.returns-in-Err-clause-nothing
-returns-in-Err-clause-nothing g c honest =
-    let d = g.D.Disk in
-    let reads = c.in-Err.ensures.reads in
-    let now_honest = subst d.honest c.into_disk.ensures honest in
-    subst (AddsNothing d c.args.disk) (sym c.into_disk.ensures)
-    (nothing_twice d c.args.disk c.in_ok-roots.roots.disk c.read_page_map.new.roots.disk (c.in_ok-roots.ensures.nothing (reads.honest now_honest)) (reads.nothing now_honest))
-
-pub returns-in-Ok-read_page_map-clause-durable : goal.returns-in-Ok-read_page_map-clause-durable
-returns-in-Ok-read_page_map-clause-durable g c honest image may =
-    let reads = c.in-Ok-read_page_map.ensures.reads in
-    c.in_ok-roots.ensures.durable (reads.honest honest) image ((reads.nothing honest).run.now image may) ∙ sym (reads.seen honest)

@@ -1,7 +1,7 @@
-use Rattle.cow_tree.proofs.Prelude.{AddsNothing, All, Device, HasRecords, Image, RootValue, format_of, inl, inr, nothing_twice, subst, sym, ⊎_elim, ◌∙◌, ◌≡◌}
+use Rattle.cow_tree.proofs.Prelude.{AddsNothing, All, Device, HasRecords, Image, RootValue, format_of, nothing_twice, subst, sym, ◌∙◌, ◌≡◌}
 use Rattle.cow_tree.proofs.Clean.{is_clean}
 use Rattle.cow_tree.proofs.Opened.{opened, page_map_refuses, stands_opens}
-use Rattle.cow_tree.proofs.ReadOnly.{works_ok, never_refused, handed_on}
+use Rattle.cow_tree.proofs.ReadOnly.{works_ok, never_refused}
 use Rattle.cow_tree.proofs.tree.Tree.reopen.Goals as goal
 
 pub returns-in-Ok-clause-at : goal.returns-in-Ok-clause-at
@@ -37,19 +37,6 @@ returns-in-Err-clause-sure g c honest s is =
     let start = c.args.self.now.roots in
     stands_opens (g.D.Disk.size start.disk) (g.D.Disk.seen start.disk) s c.in-Err.refusal is (returns-in-Err-clause-refused g c honest)
 
-pub returns-in_err-reopen-clause-refusals : goal.returns-in_err-reopen-clause-refusals
-returns-in_err-reopen-clause-refusals g c =
-    handed_on _ c.from_residual.result c.in_err-reopen.field-0.0 c.from_residual.ensures.1 (inl c.in_err-reopen.ensures.refused)
-
-pub returns-in_err-reopen-clause-refused : goal.returns-in_err-reopen-clause-refused
-returns-in_err-reopen-clause-refused g c honest =
-    let why = c.in_err-reopen.field-0.0 in
-    handed_on _ c.from_residual.result why c.from_residual.ensures.1 (⊎_elim (λ device. (let is : why ≡ Device = cc in inl is)) (λ opens. inr (inr (inl opens))) (c.in_err-reopen.ensures.opens honest))
-
-pub returns-in_err-reopen-clause-sure : goal.returns-in_err-reopen-clause-sure
-returns-in_err-reopen-clause-sure g c honest s (root, tiles, stores) =
-    handed_on _ c.from_residual.result c.in_err-reopen.field-0.0 c.from_residual.ensures.1 (inl (c.in_err-reopen.ensures.store honest root stores.laid_out.store))
-
 pub returns-in-Ok-clause-nothing : goal.returns-in-Ok-clause-nothing
 returns-in-Ok-clause-nothing g c honest =
     let reads = c.in-Ok.ensures.reads in
@@ -62,8 +49,3 @@ returns-in-Err-clause-nothing g c honest =
     let now_honest = subst d.honest c.fail.ensures.disk honest in
     subst (AddsNothing d c.args.self.now.roots.disk) (sym c.fail.ensures.disk)
     (nothing_twice d c.args.self.now.roots.disk c.reopen.new.self.disk c.read_page_map.new.roots.disk (c.in_ok-reopen.ensures.nothing (reads.honest now_honest)) (reads.nothing now_honest))
-
-pub returns-in-Ok-clause-durable : goal.returns-in-Ok-clause-durable
-returns-in-Ok-clause-durable g c honest image may =
-    let reads = c.in-Ok.ensures.reads in
-    c.in_ok-reopen.ensures.durable (reads.honest honest) image ((reads.nothing honest).run.now image may) ∙ sym (reads.seen honest)

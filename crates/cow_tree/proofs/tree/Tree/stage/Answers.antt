@@ -1,9 +1,9 @@
-use Rattle.cow_tree.proofs.Prelude.{All-cons, All-nil, Contains, Format, HasFreshHeights, PageMapValue, RootValue, ℕ, [], ap, arith, corners_of_locations, ended_with, entry_of, false≢true, format_of, index_page_by, length, map, pages_due, pages_of, reached, refl, subst, sym, ◌+◌, ◌<◌, ◌∙◌, ◌∷◌, ◌≤◌}
-use Rattle.cow_tree.proofs.Steps.{corners_same, stage_pages, stage_stays, page_unreached, ok_where_works, on_ok_both, ok_where, only_device}
+use Rattle.cow_tree.proofs.Prelude.{All-cons, All-nil, Contains, Format, PageMapValue, RootValue, ℕ, [], ap, corners_of_locations, entry_of, format_of, index_page_by, length, map, pages_due, pages_of, reached, subst, sym, ◌+◌, ◌<◌, ◌∙◌, ◌∷◌, ◌≤◌}
+use Rattle.cow_tree.proofs.Steps.{corners_same, stage_pages, stage_stays, page_unreached, ok_where_works, on_ok_both, ok_where}
 use Rattle.cow_tree.proofs.Cached.{written_agrees}
 use Rattle.cow_tree.proofs.Listed.Due.{written_due, written_due_same, written_due_before, written_here, written_still}
 use Rattle.cow_tree.proofs.Writes.PageWrites.{one_written}
-use Rattle.cow_tree.proofs.Uncommitted.{refused_in_memory, wrote}
+use Rattle.cow_tree.proofs.Uncommitted.{wrote}
 use Rattle.cow_tree.proofs.tree.Tree.stage.Goals as goal
 
 pub returns-clause-corners : goal.returns-clause-corners
@@ -38,29 +38,6 @@ returns-clause-uncommitted g c =
     on_ok_both c.write.result
     (λ same written. stage_stays old.page_map new_page_map c.args.c c.args.i c.in_ok-number.number c.args.page.now (d.seen old.roots.disk) (d.seen c.write.new.self.disk) c.rules.ensures c.in_ok-number.ensures.rules rw (format_of old.roots.root) c.requires.present index same written is.staged)
     (wrote_it.others honest) (wrote_it.written honest))
-
-pub returns-in_err-number-clause-uncommitted : goal.returns-in_err-number-clause-uncommitted
-returns-in_err-number-clause-uncommitted g c =
-    refused_in_memory g.D.Disk c.args.self.now _ c.from_residual.result c.in_err-number.field-0.0 g.met.D.Disk.only_now refl c.in_err-number.ensures.unchanged c.requires.not_failed
-    (ended_with c.from_residual.result c.in_err-number.field-0.0 c.from_residual.ensures.1) c.in_err-number.ensures.refused
-
-pub returns-in_err-number-clause-sure : goal.returns-in_err-number-clause-sure
-returns-in_err-number-clause-sure g c had _ = false≢true (c.in_err-number.ensures.sure had)
-
-pub returns-in_err-number-clause-due : goal.returns-in_err-number-clause-due
-returns-in_err-number-clause-due g c = let due = ap (λ (x : PageMapValue). length (pages_due x)) c.in_err-number.ensures.unchanged in omega (arith, due)
-
-pub returns-in_err-number-clause-due_same : goal.returns-in_err-number-clause-due_same
-returns-in_err-number-clause-due_same g c had = let due = ap (λ (x : PageMapValue). length (pages_due x)) c.in_err-number.ensures.unchanged in omega (arith, due)
-
-pub returns-in_err-number-clause-due_before : goal.returns-in_err-number-clause-due_before
-returns-in_err-number-clause-due_before g c = let due = ap (λ (x : PageMapValue). length (pages_due x)) c.in_err-number.ensures.unchanged in omega (arith, due)
-
-pub returns-in_err-number-clause-still_staged : goal.returns-in_err-number-clause-still_staged
-returns-in_err-number-clause-still_staged g c other had = subst (HasFreshHeights other) (sym c.in_err-number.ensures.unchanged) had
-
-pub returns-clause-sure : goal.returns-clause-sure
-returns-clause-sure g c had = only_device c.write.result c.write.ensures.refused
 
 pub returns-clause-due : goal.returns-clause-due
 returns-clause-due g c =

@@ -1,10 +1,10 @@
-use Rattle.cow_tree.proofs.Prelude.{AreKept, AreWholeKept, Format, KeptLocations, PageMapValue, Some, ap, arith, corners_of_locations, ended_with, format_of, index_pages_of, length, length-append, pages_due, pages_of, refl, subst, ◌*◌, ◌++◌, ◌+◌, ◌∙◌, ◌≡◌, ◌≤◌}
+use Rattle.cow_tree.proofs.Prelude.{AreKept, AreWholeKept, Format, KeptLocations, PageMapValue, Some, ap, arith, corners_of_locations, format_of, index_pages_of, length, length-append, pages_due, pages_of, subst, ◌*◌, ◌++◌, ◌+◌, ◌∙◌, ◌≡◌, ◌≤◌}
 use Rattle.cow_tree.specs.Kept.{planes_of_bytes}
 use Rattle.cow_tree.proofs.Listed.Due.{kept_more}
 use Rattle.cow_tree.proofs.Writes.KeptDrops.{other_corners}
 use Rattle.cow_tree.proofs.Writes.KeptStaging.{locations_are, no_labels, no_levels, whole_planes, pages_low, pages_high, pages_once, pages_unreached, kept_staged, kept_stays}
 use Rattle.cow_tree.proofs.Steps.{on_ok, on_ok_both}
-use Rattle.cow_tree.proofs.Uncommitted.{refused_in_memory, wrote}
+use Rattle.cow_tree.proofs.Uncommitted.{wrote}
 use Rattle.cow_tree.proofs.tree.Tree.stage_kept.Goals as goal
 use Rattle.cow_tree.proofs.tree.Tree.stage_kept.Goals.{In-Some-plane}
 
@@ -76,9 +76,6 @@ returns-clause-due g c =
     subst (λ (f : Format). length (pages_due new) ≤ length (pages_due old.page_map) + 2 * (1 + index_pages_of f)) old.format
     (kept_more old.page_map new c.args.c c.in_ok-keep.ensures.kept c.rules.ensures c.requires.present)
 
-pub returns-in_err-keep-clause-due : goal.returns-in_err-keep-clause-due
-returns-in_err-keep-clause-due g c = let due = ap (λ (x : PageMapValue). length (pages_due x)) c.in_err-keep.ensures.unchanged in omega (arith, due)
-
 pub returns-clause-staged : goal.returns-clause-staged
 returns-clause-staged g c honest s is =
     let here = (goal.at.returns-clause-staged g c).In-Some-plane in
@@ -103,8 +100,3 @@ returns-clause-uncommitted g c =
     (λ others. kept_stays (old g here) (new g here) c.args.c c.in_ok-keep.ensures.rules c.rules.ensures (anew g here) c.requires.unstaged c.requires.present (kept g here) (kept_is g here)
     (d.seen before.roots.disk) (d.seen c.write_kept.new.roots.disk) others (format_of before.roots.root) is.staged)
     (c.write_kept.ensures.writes.others honest))
-
-pub returns-in_err-keep-clause-uncommitted : goal.returns-in_err-keep-clause-uncommitted
-returns-in_err-keep-clause-uncommitted g c =
-    refused_in_memory g.D.Disk c.args.self.now _ c.from_residual.result c.in_err-keep.field-0.0 g.met.D.Disk.only_now refl c.in_err-keep.ensures.unchanged c.requires.not_failed
-    (ended_with c.from_residual.result c.in_err-keep.field-0.0 c.from_residual.ensures.1) c.in_err-keep.ensures.refused

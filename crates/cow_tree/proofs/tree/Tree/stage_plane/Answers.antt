@@ -1,8 +1,8 @@
-use Rattle.cow_tree.proofs.Prelude.{All, Contains, Format, Image, IsAdded, List, PageMapValue, ℕ, ap, ended_with, format_of, index_pages_of, length, map, pages_due, pages_of_bytes, reached, refl, subst, sym, times, ◌+◌, ◌<◌, ◌∙◌, ◌≡◌, ◌≤◌}
+use Rattle.cow_tree.proofs.Prelude.{All, Contains, Format, Image, IsAdded, List, PageMapValue, ℕ, ap, format_of, index_pages_of, length, map, pages_due, pages_of_bytes, reached, subst, sym, times, ◌+◌, ◌<◌, ◌∙◌, ◌≡◌, ◌≤◌}
 use Rattle.cow_tree.proofs.Listed.Adding.{added_heights, pages_low, pages_high, pages_unreached, pages_once, plane_staged, plane_stays}
 use Rattle.cow_tree.proofs.Listed.Due.{added_corners, added_due, added_here}
 use Rattle.cow_tree.proofs.Steps.{on_ok, on_ok_both, ok_where}
-use Rattle.cow_tree.proofs.Uncommitted.{refused_in_memory, wrote}
+use Rattle.cow_tree.proofs.Uncommitted.{wrote}
 use Rattle.cow_tree.proofs.tree.Tree.stage_plane.Goals as goal
 use Rattle.cow_tree.proofs.tree.Tree.stage_plane.Goals.{After-pages}
 
@@ -73,11 +73,6 @@ returns-clause-uncommitted g c =
     (λ others. plane_stays (old g here) (new g here) c.args.c c.in_ok-tile_for_writing.ensures.rules (added g here) c.in-Some.plane.now c.in-Some.ensures.found a b c.args.bytes.now
     (subst (λ (pages : List ℕ). SameElsewhere pages a b) c.pages.ensures others) (format_of before.roots.root) is.staged)
     (c.write_plane.ensures.writes.others honest))
-
-pub returns-in_err-tile_for_writing-clause-uncommitted : goal.returns-in_err-tile_for_writing-clause-uncommitted
-returns-in_err-tile_for_writing-clause-uncommitted g c =
-    refused_in_memory g.D.Disk c.args.self.now _ c.from_residual.result c.in_err-tile_for_writing.field-0.0 g.met.D.Disk.only_now refl c.in_err-tile_for_writing.ensures.unchanged c.requires.not_failed
-    (ended_with c.from_residual.result c.in_err-tile_for_writing.field-0.0 c.from_residual.ensures.1) c.in_err-tile_for_writing.ensures.refused
 
 pub returns-clause-corners : goal.returns-clause-corners
 returns-clause-corners g c = ok_where c.write_plane.result (added_corners c.args.self.now.page_map c.tile_for_writing.new.self c.args.c c.in_ok-tile_for_writing.ensures.added)

@@ -8,7 +8,7 @@ pub returns-then-has_beside : goal.returns-then-has_beside
 returns-then-has_beside c =
     let s = c.args.self.now in
     let fits : SFits w16 c.args.level = search rules in
-    subst (λ l. IsBesideWith c.args.n s.levels.items s.labels.items c.args.e c.label_at-own.result l) (to_z-of_z fits) (c.has_beside.ensures c.if-has_beside.true)
+    subst (λ l. IsBesideWith c.args.block.now.n s.levels.items s.labels.items c.args.e c.label_at-own.result l) (to_z-of_z fits) (c.has_beside.ensures c.if-has_beside.true)
 
 pub returns : goal.returns
 returns c =
@@ -16,10 +16,10 @@ returns c =
     let popped = c.args.popped.point in (
       popped,
       (
-        solid_below c.args.n c.args.heights.now popped (s.state.ground popped s.marked),
+        solid_below c.args.block.now.n c.args.block.now.heights.now popped (s.state.ground popped s.marked),
         (
-          beside_back c.args.n popped c.args.e c.requires.beside,
-          (s.marked, (s.named, subst (λ l. l ≤ℤ c.args.level) (sym s.level) (max_second (slice_index_or c.args.heights.now c.args.e void) c.args.popped.level c.args.level c.requires.level))),
+          beside_back c.args.block.now.n popped c.args.e c.requires.beside,
+          (s.marked, (s.named, subst (λ l. l ≤ℤ c.args.level) (sym s.level) (max_second (slice_index_or c.args.block.now.heights.now c.args.e void) c.args.popped.level c.args.level c.requires.level))),
         ),
       ),
     )

@@ -1,8 +1,8 @@
 use Rattle.std.proofs.Common.{arith, ◌≡◌, ℕ, ℤ, List, ◌++◌, take, drop, length, sym, subst, ap, ◌∙◌}
-use Rattle.tile_flood.proofs.Prelude.{AreCarried, Block, Cell, IsLabelling, block_of, labels_of, levels_of}
+use Rattle.tile_flood.proofs.Prelude.{AreCarried, Block, Cell, IsLabelling, labels_of, levels_of}
 use Rattle.std.proofs.lemmas.Grind.{common_steps}
 use Rattle.std.proofs.Math.Seq.{take-append_seam}
-use Rattle.tile_flood.proofs.Squares.{of_block}
+use Rattle.tile_flood.specs.Views.{viewed_block}
 use Rattle.tile_flood.proofs.flood.Flood.run.Goals as goal
 use Rattle.tile_flood.proofs.flood.Flood.run.Goals.{After-of_flood}
 
@@ -15,10 +15,9 @@ module _ (c : After-of_flood) where
   abbrev cells : List Cell
   cells = c.flood_cells.new.cells
 
-  answered : (P : Block → List ℤ → List ℕ → Type 0) → P (block_of c.samples-n.result c.heights-heights.result.now c.sinks.result.now) (levels_of cells) (labels_of cells) → P c.args.block.now c.of_flood.result.levels c.of_flood.result.labels
+  answered : (P : Block → List ℤ → List ℕ → Type 0) → P (viewed_block c.view-view.result) (levels_of cells) (labels_of cells) → P c.args.block.now c.of_flood.result.levels c.of_flood.result.labels
   answered P flooded =
       let b = c.args.block.now in
-      let side : c.samples-n.result ≡ b.side = c.samples-n.ensures.value ∙ c.side-side.ensures in
       let long : c.in_ok-cells.cells.len ≡ length cells = grind (arith, common_steps) in
       let back = all_written c.in_ok-cells.cells.len cells (drop (length cells) c.in_ok-cells.cells.items) long in
       let levels : c.in_ok-levels.levels.items ≡ levels_of cells = c.in_ok-levels.ensures ∙ ap levels_of (c.deref.ensures.value ∙ back) in
@@ -26,7 +25,7 @@ module _ (c : After-of_flood) where
       rw c.of_flood.ensures
       (subst (λ ls. P b ls c.in_ok-labels.labels.items) (sym levels)
       (subst (λ bs. P b (levels_of cells) bs) (sym labels)
-      (of_block (λ k. P k (levels_of cells) (labels_of cells)) b c.samples-n.result c.heights-heights.result.now c.sinks.result.now side c.heights-heights.ensures.value c.sinks.ensures flooded)))
+      (subst (λ k. P k (levels_of cells) (labels_of cells)) c.view-view.ensures flooded)))
 
 pub returns-clause-labelling : goal.returns-clause-labelling
 returns-clause-labelling c = answered (goal.at.returns-clause-labelling c).After-of_flood IsLabelling c.in_ok-flood_cells.ensures.0

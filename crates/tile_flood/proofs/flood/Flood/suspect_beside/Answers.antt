@@ -1,4 +1,4 @@
-use Rattle.tile_flood.proofs.Prelude.{IsIn, IsInWindow, IsTrue, SFits, arith, cases_lt, inl, inr, is_marked, of_z, rules, slice_index, slice_index_or, subst, sym, to_z, to_z-of_z, void, w16, ◌∙◌, ◌≡◌, ◌≤ℤ◌, ◌⊎◌}
+use Rattle.tile_flood.proofs.Prelude.{IsIn, IsInWindow, IsTrue, arith, cases_lt, inl, inr, is_marked, slice_index, slice_index_or, subst, sym, void, ◌∙◌, ◌≡◌, ◌≤ℤ◌, ◌⊎◌}
 use Rattle.tile_flood.proofs.Dependence.{one_window_point, window_point_of}
 use Rattle.tile_flood.proofs.flood.Flood.suspect_beside.Goals as goal
 use Rattle.tile_flood.proofs.flood.Flood.suspect_beside.Goals.{in-Some+in_ok-suspect_or_wait, in_default}
@@ -10,8 +10,8 @@ loop-d-preserved c =
     let d = c.loop-d.d in
     let levels = c.args.self.now.levels.items in
     let labels = c.args.self.now.labels.items in
-    let label = c.args.label in
-    let v = to_z w16 (of_z w16 c.args.level) in
+    let label = c.args.cell.label in
+    let v = c.args.cell.level in
     elim c.match-window_point.branch [
       | in-Some+in_ok-suspect_or_wait w ↦
           let a = w.in_ok-suspect_or_wait.ensures in
@@ -23,6 +23,7 @@ loop-d-preserved c =
             labels = a.labels ∙ i.labels;
             waiting = λ l f waited. a.waiting l f (i.waiting l f waited);
             suspect = λ l f was. a.suspect l f (i.suspect l f was);
+            affected = a.affected ∙ i.affected;
             suspected = λ j y less small spot on named high. elim (cases_lt j d) [
               | inl before ↦ a.suspect (slice_index_or levels y void) y (i.suspected j y before small spot on named high)
               | inr ge ↦
@@ -50,6 +51,7 @@ loop-d-preserved c =
         labels = i.labels;
         waiting = i.waiting;
         suspect = i.suspect;
+        affected = i.affected;
         suspected = λ j y less small spot on named high. elim (cases_lt j d) [
           | inl before ↦ i.suspected j y before small spot on named high
           | inr ge ↦ let same : j ≡ d = omega arith in absurd (w.in_default.ensures.none y small (subst (λ k. IsInWindow n c.args.point k y) same spot))
@@ -64,8 +66,7 @@ loop-d-preserved c =
 pub returns-clause-suspected : goal.returns-clause-suspected
 returns-clause-suspected c y small beside on named high =
     let spot = window_point_of c.args.n c.args.point y beside in
-    let fits : SFits w16 c.args.level = search rules in
-    c.loop-d.invariant.suspected spot.0 y (omega arith) small spot.1.1 on named (subst (λ v. v ≤ℤ slice_index_or c.args.self.now.levels.items y void) (sym (to_z-of_z fits)) high)
+    c.loop-d.invariant.suspected spot.0 y (omega arith) small spot.1.1 on named high
 
 pub returns-clause-others : goal.returns-clause-others
 returns-clause-others c wanted y small beside on = let spot = window_point_of c.args.n c.args.point y beside in let low = spot.1.0 in c.loop-d.invariant.others wanted spot.0 y (omega arith) small spot.1.1 on
