@@ -73,7 +73,7 @@ pub use Rattle.flow_d8.specs.declared.flow.Flow.TheVariants.{Beside, Flat, FlatT
 pub use Rattle.flow_d8.specs.declared.grid.FlowGrid.{FlowGrid}
 pub use Rattle.lattice.proofs.IntTests.{le_from, le_or_above, le_true}
 pub use Rattle.lattice.proofs.Lawful.{block_is_lawful, terrain_is_lawful}
-pub use Rattle.lattice.proofs.Levels.{level_is_unique, ≤ℤ_same}
+pub use Rattle.lattice.proofs.Levels.{level_is_unique}
 pub use Rattle.lattice.proofs.Multiples.{some_side}
 pub use Rattle.lattice.proofs.SamePoints.{same_place, same_point_says}
 pub use Rattle.lattice.proofs.Samples.{held_at, holds_is, row_below}

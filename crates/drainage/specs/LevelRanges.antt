@@ -1,6 +1,6 @@
 -- The levels of a tile and those around it, by blocks of 32 rows and 32 columns, and what of them a change leaves (this
 -- product's own profile).
-use Rattle.std.specs.Prelude.{◌≡◌, ◌≢◌, ◌⊎◌, ℕ, ◌+◌, ◌*◌, ◌/◌, ◌%◌, ◌<◌, ◌≤◌, ℤ, pos, ◌≤ℤ◌, ◌<ℤ◌, int_lt, IsTrue, Bool, ◌&&◌, ◌||◌, not, if◌then◌else◌, List, Option, Some, None, length, slice_index_or}
+use Rattle.std.specs.Prelude.{◌≡◌, ◌≢◌, ◌⊎◌, ℕ, ◌+◌, ◌*◌, ◌/◌, ◌%◌, ◌<◌, ◌≤◌, ℤ, pos, ◌≤ℤ◌, int_lt, IsTrue, Bool, ◌&&◌, ◌||◌, not, if◌then◌else◌, List, Option, Some, None, length, slice_index_or}
 use Rattle.std.specs.Int.{int_max, int_min}
 use Rattle.std.specs.Ordering.{int_eq}
 use Rattle.lattice.specs.Corners.{Corner}

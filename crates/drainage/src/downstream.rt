@@ -130,7 +130,11 @@ fn prepared_flow<S: Labellings>(
     have_tile(alloc, samples, held, flows, point)?;
     let most = flows.grid.count().saturating_add(FEW_TILES);
     'tiles: while let Some(met) = flows.resolve(point)? {
-        have_flat(alloc, samples, held, flows, met, most)?;
+        have_tile(alloc, samples, held, flows, met)?;
+        if flows.grid.count() <= most {
+            continue;
+        }
+        have_flat(alloc, samples, held, flows, met)?;
     }
     let flow = flows.grid.flow(point);
     if !flow.drains() {
@@ -139,37 +143,32 @@ fn prepared_flow<S: Labellings>(
     Ok(flow)
 }
 
-// A tile that holds the ground point is at hand from then on, and, where more than `most` are then, those over which its flat
-// goes: one search over the flat, that goes on in each tile that comes to hand.
+// The tiles over which the flat of the point goes are at hand from then on: one search over the flat, that goes on in each tile
+// that comes to hand.
 fn have_flat<S: Labellings>(
     alloc: Global,
     samples: &mut S,
     held: &mut DrainageCache,
     flows: &mut FlowCache,
     point: Point,
-    most: usize,
 ) -> Result<(), Refusal>
     requires held { IsHeldFor S.Samples samples.old held.old }
     requires few { length (S.corners samples.old) ≤ most_tiles }
-    requires ground { S.is_honest samples.old → IsTrue (is_ground (S.mosaic samples.old) point) }
+    requires bounded { length flows.old.grid.tiles.corners ≤ most_tiles }
     requires right { AreFlowsFor S.Samples samples.old flows.old }
     ensures kept { (p : Point) → IsAtHand flows.old.grid.tiles p → IsAtHand flows.new.grid.tiles p }
-    ensures more { OnOk result ((IsAtHand flows.old.grid.tiles point → ⊥) → length flows.old.grid.tiles.corners < length flows.new.grid.tiles.corners) }
+    ensures more { OnOk result (length flows.old.grid.tiles.corners ≤ length flows.new.grid.tiles.corners) }
     ensures bounded { length flows.new.grid.tiles.corners ≤ most_tiles }
     ensures right { AreFlowsFor S.Samples samples.new flows.new }
     ensures held { IsHeldFor S.Samples samples.new held.new }
     ensures causes { IfErr result (λ r. IsTrue (ends_any r)) }
     ensures asked { Asked S.Samples samples.old samples.new result }
 {
-    have_tile(alloc, samples, held, flows, point)?;
-    if flows.grid.count() <= most {
-        return Ok(());
-    }
     let mut search = FlatSearch::new(alloc);
     let mut last = point;
-    'tiles: while let Some(met) = flows.grid.search(&mut search, last)? {
-        have_tile(alloc, samples, held, flows, met)?;
-        last = met;
+    'tiles: while let Some(next) = flows.grid.search(&mut search, last)? {
+        have_tile(alloc, samples, held, flows, next)?;
+        last = next;
     }
     Ok(())
 }

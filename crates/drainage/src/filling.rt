@@ -95,8 +95,7 @@ pub(crate) fn level_in<S: Labellings>(
     let Some((t, index)) = holder_of(side, &tile_cache.rim_graph.corners, last, point) else {
         return Ok(None);
     };
-    let corner = tile_cache.rim_graph.corners[t];
-    let (level, label) = tile_cache.label_at(alloc, samples, t, corner, index)?;
+    let (level, label) = tile_cache.label_at(alloc, samples, t, index)?;
     if label == NO_LABEL {
         if !is_height(samples, point, VOID)? {
             return Err(Refusal::Damaged);

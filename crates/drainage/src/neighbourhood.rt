@@ -31,28 +31,11 @@ pub(crate) fn near(tile_cache: &TileCache, point: Point) -> Option<Near>
     let height = level_in_tile(tile_cache, t, corner, labelled, point)?;
     let mut around = [None; 8];
     for i in 0..8 {
-        let level = level_beside(tile_cache, t, corner, labelled, point, DIRECTIONS[i])?;
+        let to = neighbour(point, DIRECTIONS[i])?;
+        let level = level_in_tile(tile_cache, t, corner, labelled, to)?;
         around[i] = Some(level);
     }
     Some(Near { height, around })
-}
-
-// The level of the point in the direction, as that of a point in the tile.
-fn level_beside(
-    tile_cache: &TileCache,
-    t: usize,
-    corner: Corner,
-    labelled: &Labelled,
-    point: Point,
-    direction: Dir,
-) -> Option<i16>
-    requires place { t < length tile_cache.now.rim_graph.corners.items }
-    requires corner { corner_at tile_cache.now.rim_graph.corners.items t ≡ corner }
-    requires held { (m : Mosaic) → IsRight m (known_of tile_cache.now) → IsFlooded m corner labelled.now }
-    ensures { IfSome result (λ level. IsKnownLevel (known_of tile_cache.now) t (step direction point) (Some level)) }
-{
-    let to = neighbour(point, direction)?;
-    level_in_tile(tile_cache, t, corner, labelled, to)
 }
 
 // The filled level of the point, where the tile with this place, corner and labelling holds it, and the level of the rim

@@ -17,7 +17,8 @@ ghost use Rattle.drainage.specs.TileCaches.{known_of};
 use crate::drainage_cache::DrainageCache;
 use crate::level_range::{LevelRange, level_ranges};
 use crate::tile_cache::TileCache;
-use crate::tile_levels::{level_of, present_place, tile_levels};
+use crate::tile_levels::level_of;
+use crate::whole_tiles::levels;
 use catalogue::Samples;
 use flow_d8::{FlowByte, Sides, padded_point};
 use lattice::{Corner, Refusal, Side, VOID};
@@ -121,40 +122,19 @@ fn padded_at<S: Labellings>(
     ensures causes { IfErr result (λ r. IsTrue (ends_any r)) }
     ensures asked { Asked S.Samples samples.old samples.new result }
 {
-    let t = present_place(samples, corner)?;
-    let mut tile_cache = held.take(alloc, samples)?;
-    let levels = padded_levels(alloc, samples, &mut tile_cache, t, corner);
-    held.put(tile_cache);
-    levels
-}
-
-// Those of the tile with this place and corner.
-fn padded_levels<S: Labellings>(
-    alloc: Global,
-    samples: &mut S,
-    tile_cache: &mut TileCache,
-    t: usize,
-    corner: Corner,
-) -> Result<Vec<i16>, Refusal>
-    requires right { S.is_honest samples.old → IsRight (S.mosaic samples.old) (known_of tile_cache.old) }
-    requires place { t < length (S.corners samples.old) }
-    requires corner { corner_at (S.corners samples.old) t ≡ corner }
-    ensures levels { S.is_honest samples.new → IfOk result (λ levels. ArePadded (S.mosaic samples.old) corner levels.items) }
-    ensures whole { IfOk result (λ levels. length levels.items ≡ (S.side_of samples.old + 4) * (S.side_of samples.old + 4)) }
-    ensures right { S.is_honest samples.new → IsRight (S.mosaic samples.new) (known_of tile_cache.new) }
-    ensures causes { IfErr result (λ r. IsTrue (ends_any r)) }
-    ensures asked { Asked S.Samples samples.old samples.new result }
-{
-    let tile = tile_levels(alloc, samples, tile_cache, t)?;
+    let tile = levels(alloc, samples, held, corner)?;
     let side = samples.side();
     if tile.len() != side.area() as usize {
         return Err(Refusal::Damaged);
     }
     let width = side.samples() as usize + 4;
-    let mut levels = vec![in alloc; VOID; width * width]?;
-    copy_tile(side, &tile, &mut levels);
-    fill_around(alloc, samples, tile_cache, corner, &mut levels)?;
-    Ok(levels)
+    let mut padded = vec![in alloc; VOID; width * width]?;
+    copy_tile(side, &tile, &mut padded);
+    let mut tile_cache = held.take(alloc, samples)?;
+    let filled = fill_around(alloc, samples, &mut tile_cache, corner, &mut padded);
+    held.put(tile_cache);
+    filled?;
+    Ok(padded)
 }
 
 // Copies the tile's levels to their places.
@@ -209,9 +189,16 @@ fn fill_around<S: Labellings>(
     ensures causes { IfErr result (λ r. IsTrue (ends_any r)) }
     ensures asked { Asked S.Samples samples.old samples.new result }
 {
+    let side = samples.side();
     for number in 0..4 {
-        let strip = strip_at(samples.side(), number);
-        fill(alloc, samples, tile_cache, corner, strip, levels)?;
+        let strip = strip_at(side, number);
+        for at in 0..strip.rows * strip.columns {
+            let row = strip.row + at / strip.columns;
+            let column = strip.column + at % strip.columns;
+            let point = padded_point(side, corner, row, column);
+            let level = level_of(alloc, samples, tile_cache, point)?;
+            levels[padded_place(side, row, column)] = level;
+        }
     }
     Ok(())
 }
@@ -248,35 +235,6 @@ fn strip_at(side: Side, number: usize) -> Strip
             columns: 2,
         },
     }
-}
-
-// Fills some rows and columns with the levels of their points.
-fn fill<S: Labellings>(
-    alloc: Global,
-    samples: &mut S,
-    tile_cache: &mut TileCache,
-    corner: Corner,
-    strip: Strip,
-    levels: &mut [i16],
-) -> Result<(), Refusal>
-    requires right { S.is_honest samples.old → IsRight (S.mosaic samples.old) (known_of tile_cache.old) }
-    requires levels { length levels.old ≡ (S.side_of samples.old + 4) * (S.side_of samples.old + 4) }
-    requires strip { IsStrip (S.side_of samples.old) strip }
-    ensures filled { S.is_honest samples.new → OnOk result (AreFilledTo (S.mosaic samples.old) corner strip (strip.rows * strip.columns) levels.old levels.new) }
-    ensures whole { length levels.new ≡ length levels.old }
-    ensures right { S.is_honest samples.new → IsRight (S.mosaic samples.new) (known_of tile_cache.new) }
-    ensures causes { IfErr result (λ r. IsTrue (ends_any r)) }
-    ensures asked { Asked S.Samples samples.old samples.new result }
-{
-    let side = samples.side();
-    for number in 0..strip.rows * strip.columns {
-        let row = strip.row + number / strip.columns;
-        let column = strip.column + number % strip.columns;
-        let point = padded_point(side, corner, row, column);
-        let level = level_of(alloc, samples, tile_cache, point)?;
-        levels[padded_place(side, row, column)] = level;
-    }
-    Ok(())
 }
 
 // The place in this row and column.

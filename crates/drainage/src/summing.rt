@@ -16,7 +16,7 @@ ghost use Rattle.drainage.specs.GroundCache.{AreRemembered};
 
 use crate::ground_cache::GroundCache;
 use crate::heights::is_height;
-use crate::outlets::is_tile_outlet;
+use crate::outlets::{LabelledTile, is_tile_outlet};
 use border_graph::{RimPoint, Summary};
 use catalogue::Samples;
 use lattice::{Corner, Point, Refusal, point_at, push, rim_index};
@@ -70,18 +70,11 @@ fn rim_of<S: Samples>(
     ensures reads { OnlyReads S.Samples samples.old samples.new (reads_of result) }
 {
     let count = labelled.side().rim();
+    let tile = LabelledTile { corner, labelled };
     let mut ground_cache = GroundCache::new(alloc)?;
     let mut rim = Vec::new(alloc);
     for number in 0..count {
-        let Some(point) = rim_point(
-            samples,
-            corner,
-            labelled,
-            is_flooded,
-            &mut ground_cache,
-            number,
-        )?
-        else {
+        let Some(point) = rim_point(samples, &tile, is_flooded, &mut ground_cache, number)? else {
             return Ok(None);
         };
         push(&mut rim, point)?;
@@ -93,32 +86,31 @@ fn rim_of<S: Samples>(
 // there is none.
 fn rim_point<S: Samples>(
     samples: &mut S,
-    corner: Corner,
-    labelled: &Labelled,
+    tile: &LabelledTile,
     is_flooded: bool,
     ground_cache: &mut GroundCache,
     number: u32,
 ) -> Result<Option<RimPoint>, Refusal>
-    requires labelled_side { labelled.now.side ≡ S.side_of samples.old }
-    requires present { Contains (S.corners samples.old) corner }
+    requires labelled_side { tile.now.labelled.now.side ≡ S.side_of samples.old }
+    requires present { Contains (S.corners samples.old) tile.now.corner }
     requires ground_cache { S.is_honest samples.old → AreRemembered (S.mosaic samples.old) ground_cache.old }
     requires number { number < 4 * (S.side_of samples.old - 1) }
-    ensures point { S.is_honest samples.new → IsFlooded (S.mosaic samples.old) corner labelled.now → IfOk result (λ found. MatchOption found (HasOtherRimHeight (S.mosaic samples.old) corner labelled.now.levels)
-        (λ point. IsRimPointIn (S.mosaic samples.old) corner labelled.now.labels number point)) }
+    ensures point { S.is_honest samples.new → IsFlooded (S.mosaic samples.old) tile.now.corner tile.now.labelled.now → IfOk result (λ found. MatchOption found (HasOtherRimHeight (S.mosaic samples.old) tile.now.corner tile.now.labelled.now.levels)
+        (λ point. IsRimPointIn (S.mosaic samples.old) tile.now.corner tile.now.labelled.now.labels number point)) }
     ensures ground_cache { S.is_honest samples.new → OnOk result (AreRemembered (S.mosaic samples.new) ground_cache.new) }
     ensures reads { OnlyReads S.Samples samples.old samples.new result }
 {
-    let side = labelled.side();
+    let side = tile.labelled.side();
     let index = rim_index(side, number);
-    let point = point_at(side, corner, index);
-    let level = labelled.levels()[index as usize];
+    let point = point_at(side, tile.corner, index);
+    let level = tile.labelled.levels()[index as usize];
     if !is_rim_height(samples, point, level, is_flooded)? {
         return Ok(None);
     }
-    let is_outlet = is_tile_outlet(samples, corner, labelled, ground_cache, point, index)?;
+    let is_outlet = is_tile_outlet(samples, tile, ground_cache, point, index)?;
     Ok(Some(RimPoint {
         height: level,
-        label: labelled.labels()[index as usize],
+        label: tile.labelled.labels()[index as usize],
         outlet: is_outlet,
     }))
 }

@@ -138,20 +138,18 @@ impl TileCache {
         Ok(())
     }
 
-    /// The level and the label of the point with this index in the tile with this place and corner: by a labelling that is
-    /// held; read from the kept planes, a page each; or by a labelling that is read or made, and held from then on.
+    /// The level and the label of the point with this index in the tile with this place: by a labelling that is held; read from
+    /// the kept planes, a page each; or by a labelling that is read or made, and held from then on.
     pub(crate) fn label_at<S: Labellings>(
         &mut self,
         alloc: Global,
         samples: &mut S,
         t: usize,
-        corner: Corner,
         index: u32,
     ) -> Result<(i16, u16), Refusal>
         requires place { t < length self.old.rim_graph.corners.items }
-        requires corner { corner_at self.old.rim_graph.corners.items t ≡ corner }
         requires index { index < self.old.rim_graph.side * self.old.rim_graph.side }
-        ensures label_at { S.is_honest samples.new → IsRight (S.mosaic samples.old) (known_of self.old) → IfOk result (λ label_at. IsLabelledAt (S.mosaic samples.old) corner index label_at.0 label_at.1) }
+        ensures label_at { S.is_honest samples.new → IsRight (S.mosaic samples.old) (known_of self.old) → IfOk result (λ label_at. IsLabelledAt (S.mosaic samples.old) (corner_at self.old.rim_graph.corners.items t) index label_at.0 label_at.1) }
         ensures grown { IsGrown S.Samples samples.old samples.new (known_of self.old) (known_of self.new) }
         ensures reads { OnOk result (OnlyReads {T = Unit {0}} S.Samples samples.old samples.new (Ok tt)) }
         ensures asked { (S.is_honest samples.new → IsRight (S.mosaic samples.old) (known_of self.old)) → Asked S.Samples samples.old samples.new result }
@@ -160,31 +158,10 @@ impl TileCache {
         if let Some(label_at) = self.labellings.label_at(t, index) {
             return Ok(label_at);
         }
+        let corner = self.rim_graph.corners[t];
         if let Some(label_at) = kept_label_at(samples, &mut self.labellings, t, corner, index)? {
             return Ok(label_at);
         }
-        self.cached_label_at(alloc, samples, t, corner, index)
-    }
-
-    // The level and the label of the point with this index in the tile with this place and corner, by a labelling that is
-    // held from then on.
-    fn cached_label_at<S: Labellings>(
-        &mut self,
-        alloc: Global,
-        samples: &mut S,
-        t: usize,
-        corner: Corner,
-        index: u32,
-    ) -> Result<(i16, u16), Refusal>
-        requires place { t < length self.old.rim_graph.corners.items }
-        requires corner { corner_at self.old.rim_graph.corners.items t ≡ corner }
-        requires index { index < self.old.rim_graph.side * self.old.rim_graph.side }
-        ensures label_at { S.is_honest samples.new → IsRight (S.mosaic samples.old) (known_of self.old) → IfOk result (λ label_at. IsLabelledAt (S.mosaic samples.old) corner index label_at.0 label_at.1) }
-        ensures grown { IsGrown S.Samples samples.old samples.new (known_of self.old) (known_of self.new) }
-        ensures reads { OnOk result (OnlyReads {T = Unit {0}} S.Samples samples.old samples.new (Ok tt)) }
-        ensures asked { (S.is_honest samples.new → IsRight (S.mosaic samples.old) (known_of self.old)) → Asked S.Samples samples.old samples.new result }
-        ensures causes { IfErr result (λ r. IsTrue (ends_any r)) }
-    {
         let labelling = current_labelling(alloc, samples, &mut self.labellings, t, corner)?;
         let label_at = label_in(labelling.labelled(), index);
         self.labellings.hold(t, labelling);

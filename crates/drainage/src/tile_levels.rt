@@ -20,41 +20,31 @@ use std::alloc::Global;
 use tile_flood::raise;
 use tile_labellings::Labellings;
 
-/// The place of the corner among the present ones. NoMemory is the only refusal.
-pub(crate) fn present_place<S: Samples>(samples: &S, corner: Corner) -> Result<usize, Refusal>
-    requires present { Contains (S.corners samples.now) corner }
-    ensures place { IfOk result (λ t. (t < length (S.corners samples.now)) × (corner_at (S.corners samples.now) t ≡ corner)) }
-    ensures refusal { IfErr result (λ r. r ≡ NoMemory) }
-{
-    let corners = samples.present_corners()?;
-    match place_of(&corners, corner) {
-        Some(t) => Ok(t),
-        None => Err(Refusal::Damaged),
-    }
-}
-
-/// The filled levels of all points of the tile with this place, row by row from the north; void where a point isn't ground.
-/// Its rim points are asked one by one; the levels of the others follow from the tile's labelling in one pass.
+/// The filled levels of all points of the corner's tile, which is present, row by row from the north; void where a point isn't
+/// ground. Its rim points are asked one by one; the levels of the others follow from the tile's labelling in one pass.
 ///
 /// It is refused as a level is.
 pub(crate) fn tile_levels<S: Labellings>(
     alloc: Global,
     samples: &mut S,
     tile_cache: &mut TileCache,
-    t: usize,
+    corner: Corner,
 ) -> Result<Vec<i16>, Refusal>
     requires right { S.is_honest samples.old → IsRight (S.mosaic samples.old) (known_of tile_cache.old) }
-    requires place { t < length (S.corners samples.old) }
-    ensures levels { S.is_honest samples.new → IfOk result (λ levels. AreTileLevels (S.mosaic samples.old) (corner_at (S.corners samples.old) t) levels.items) }
+    requires present { Contains (S.corners samples.old) corner }
+    ensures levels { S.is_honest samples.new → IfOk result (λ levels. AreTileLevels (S.mosaic samples.old) corner levels.items) }
     ensures right { S.is_honest samples.new → IsRight (S.mosaic samples.new) (known_of tile_cache.new) }
     ensures causes { IfErr result (λ r. IsTrue (ends_any r)) }
     ensures asked { Asked S.Samples samples.old samples.new result }
 {
-    let Some(corner) = tile_cache.rim_graph.corner(t) else {
+    let rim = rim_levels(alloc, samples, tile_cache, corner)?;
+    let Some(t) = place_of(&tile_cache.rim_graph.corners, corner) else {
         return Err(Refusal::Damaged);
     };
-    let rim = rim_levels(alloc, samples, tile_cache, corner)?;
-    levels_over_rim(alloc, samples, tile_cache, t, corner, &rim)
+    let labelling = current_labelling(alloc, samples, &mut tile_cache.labellings, t, corner)?;
+    let levels = raise(alloc, labelling.labelled(), &rim);
+    tile_cache.labellings.hold(t, labelling);
+    levels
 }
 
 // The filled levels of the corner's rim points, by rim number; void where a point isn't ground.
@@ -114,28 +104,4 @@ fn level_or_void(found: Option<i16>) -> i16
         Some(level) => level,
         None => VOID,
     }
-}
-
-// The filled levels of the tile with this place and corner, by those of its rim.
-fn levels_over_rim<S: Labellings>(
-    alloc: Global,
-    samples: &mut S,
-    tile_cache: &mut TileCache,
-    t: usize,
-    corner: Corner,
-    rim: &[i16],
-) -> Result<Vec<i16>, Refusal>
-    requires right { S.is_honest samples.old → IsRight (S.mosaic samples.old) (known_of tile_cache.old) }
-    requires place { t < length (S.corners samples.old) }
-    requires corner { S.is_honest samples.old → corner_at (S.corners samples.old) t ≡ corner }
-    requires rim { S.is_honest samples.old → AreRimLevels (S.mosaic samples.old) corner rim.now }
-    ensures levels { S.is_honest samples.new → IfOk result (λ levels. AreTileLevels (S.mosaic samples.old) corner levels.items) }
-    ensures right { S.is_honest samples.new → IsRight (S.mosaic samples.new) (known_of tile_cache.new) }
-    ensures causes { IfErr result (λ r. IsTrue (ends_any r)) }
-    ensures asked { Asked S.Samples samples.old samples.new result }
-{
-    let labelling = current_labelling(alloc, samples, &mut tile_cache.labellings, t, corner)?;
-    let levels = raise(alloc, labelling.labelled(), rim);
-    tile_cache.labellings.hold(t, labelling);
-    levels
 }

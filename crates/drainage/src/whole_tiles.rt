@@ -11,7 +11,7 @@ ghost use Rattle.drainage.specs.WholeTiles.{code_told};
 use crate::drainage_cache::DrainageCache;
 use crate::flow_direction::code;
 use crate::prepared_flows::{PreparedFlows, flow_anywhere};
-use crate::tile_levels::{present_place, tile_levels};
+use crate::tile_levels::tile_levels;
 use flow_d8::Flow;
 use lattice::{Corner, Refusal, point_at, push};
 use std::alloc::Global;
@@ -39,9 +39,8 @@ pub fn levels<S: Labellings>(
     ensures asked { Asked S.Samples samples.old samples.new result }
     ensures held { IsHeldFor S.Samples samples.new held.new }
 {
-    let t = present_place(samples, corner)?;
     let mut tile_cache = held.take(alloc, samples)?;
-    let levels = tile_levels(alloc, samples, &mut tile_cache, t);
+    let levels = tile_levels(alloc, samples, &mut tile_cache, corner);
     held.put(tile_cache);
     levels
 }

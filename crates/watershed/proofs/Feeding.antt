@@ -12,9 +12,6 @@ module _ (Drains : Dir → Type 0) (p : Point) (start : List Point) where
     pub kept : (x : Point) → Contains start x → Contains found x
     pub all : (d : Dir) → order_of d < k → Drains d → Contains found (step d p)
 
-  pub none_yet : AreDonorsBy start 0
-  none_yet = record { drain = λ x has. inl has; kept = λ x has. has; all = λ d below drains. absurd (omega arith) }
-
   pub one_more : (old new : List Point) (d : Dir) → AreDonorsBy old (order_of d) → IsDonorAdded Drains p d old new → AreDonorsBy new (order_of d + 1)
   one_more old new d by (inl added) = subst (λ l. AreDonorsBy l (order_of d + 1)) (sym added.0) (record {
     drain = λ x has. ⊎_elim (λ before. by.drain x before) (λ this. inr (d, (this, added.1))) (Contains-push_cases old (step d p) x has);

@@ -31,7 +31,6 @@ pub use Rattle.std.proofs.lemmas.Result.{IfOk-weaker}
 pub use Rattle.std.specs.BTreeMap.{is_at}
 pub use Rattle.std.specs.Int.{bit_at}
 pub use Rattle.std.specs.List.{AllAdjacentBelow, AllPairs}
-pub use Rattle.std.specs.Map.{lookup}
 pub use Rattle.std.specs.Option.{option_to_list}
 pub use Rattle.std.specs.Ordering.{nat_cmp}
 pub use Rattle.std.specs.Prelude.{Contains, MatchOption, int_lt}

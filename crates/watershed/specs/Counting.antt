@@ -1,6 +1,5 @@
 -- The tour up the flow paths that counts: what is known of samples, and of the points on the way to the one at hand.
 use Rattle.std.specs.Prelude.{◌≡◌, ◌⊎◌, ◌+◌, ◌*◌, ◌<◌, ◌≤◌, ℕ, zero, suc, ℤ, Bool, false, IsTrue, IsFalse, List, [], ◌∷◌, ◌++◌, slice_index_or}
-use Rattle.lattice.specs.Corners.{Corner}
 use Rattle.lattice.specs.Lattice.{point_of}
 use Rattle.lattice.specs.declared.point.Point.{Point}
 use Rattle.lattice.specs.declared.direction.Dir.{Dir}
@@ -10,6 +9,7 @@ use Rattle.flow_d8.specs.FlowPath.{IsInWatershed}
 use Rattle.watershed.specs.Counts.{IsCountOf}
 use Rattle.flow_d8.specs.Donors.{AreToldBy, DrainsBack}
 use Rattle.watershed.specs.declared.counting.Branch.{Branch}
+use Rattle.watershed.specs.declared.tile_counts.TileCounts.{TileCounts}
 
 -- from one direction on it is the first that is told, or there is none
 pub record IsNext (told : List Bool) (from next : ℕ) : Type 0 where
@@ -28,9 +28,9 @@ module _ (t : Terrain Point) (level : Point → ℤ) where
     pub on_ground : IsTrue (t.is_ground p)
     pub count : IsCountOf (IsInWatershed t level p) k
 
-  -- what is known of the samples of the corner's tile; 0 where nothing is
-  abbrev pub AreCounted : ℕ → Corner → List ℕ → Type 0
-  AreCounted n c counts = (e : ℕ) → e < n * n → (slice_index_or counts e 0 ≡ 0) ⊎ IsCounted (point_of n c e) (slice_index_or counts e 0)
+  -- what is known of the samples of the tile; 0 where nothing is
+  abbrev pub AreCounted : TileCounts → Type 0
+  AreCounted k = (e : ℕ) → e < k.side * k.side → (slice_index_or k.counts.items e 0 ≡ 0) ⊎ IsCounted (point_of k.side k.corner e) (slice_index_or k.counts.items e 0)
 
   pub record IsBranch (b : Branch) : Type 0 where
     pub on_ground : IsTrue (t.is_ground b.point)
@@ -61,6 +61,6 @@ module _ (t : Terrain Point) (level : Point → ℤ) where
     pub waiting : AreWaiting first depth branches at.point
 
   -- what was known is known still, and all that is known is right
-  pub record AreStillCounted (n : ℕ) (c : Corner) (old new : List ℕ) : Type 0 where
-    pub right : AreCounted n c new
-    pub still : (e : ℕ) → e < n * n → slice_index_or new e 0 ≡ 0 → slice_index_or old e 0 ≡ 0
+  pub record AreStillCounted (old new : TileCounts) : Type 0 where
+    pub right : AreCounted new
+    pub still : (e : ℕ) → slice_index_or new.counts.items e 0 ≡ 0 → slice_index_or old.counts.items e 0 ≡ 0

@@ -4,7 +4,6 @@ ghost use Rattle.lattice.specs.Corners.{Corner};
 ghost use Rattle.lattice.specs.Ground.{is_ground, terrain};
 ghost use Rattle.lattice.specs.Lattice.{point_of};
 ghost use Rattle.lattice.specs.Mosaic.{Mosaic};
-ghost use Rattle.lattice.specs.Terrain.{Terrain};
 ghost use Rattle.lattice.specs.declared.point.Point.{Point};
 ghost use Rattle.lattice.specs.declared.refusal.Refusal.TheVariants.{NoMemory};
 ghost use Rattle.flow_d8.specs.Drainage.{AreFilledLevels};
@@ -14,9 +13,8 @@ ghost use Rattle.watershed.specs.Counting.{AreCounted, AreStillCounted, IsCounte
 use crate::donors::donors;
 use crate::flow_source::FlowSource;
 use crate::search::is_no_ground;
-use lattice::{
-    Corner, DIRECTIONS, MOST_TILES, Point, Refusal, Side, index_in, neighbour, point_at, push,
-};
+use crate::tile_counts::TileCounts;
+use lattice::{Corner, DIRECTIONS, MOST_TILES, Point, Refusal, Side, neighbour, point_at, push};
 use std::alloc::Global;
 
 /// Of each sample of the corner's tile how many ground points have its point on their flow path, itself among them: so many as
@@ -38,44 +36,46 @@ pub fn upstream_counts<F: FlowSource>(
     ensures refusal { IfErr result (F.refuses flows.old flows.new) }
 {
     let area = side.area();
-    let mut counts = vec![in alloc; 0; area as usize]?;
+    let mut counts = TileCounts {
+        side,
+        corner,
+        counts: vec![in alloc; 0; area as usize]?,
+    };
     for index in 0..area {
-        count_sample(alloc, flows, side, corner, &mut counts, index)?;
+        count_sample(alloc, flows, &mut counts, index)?;
     }
-    Ok(counts)
+    Ok(counts.counts)
 }
 
 // Counts what drains through the sample's point, where that isn't known yet.
 fn count_sample<F: FlowSource>(
     alloc: Global,
     flows: &mut F,
-    side: Side,
-    corner: Corner,
-    counts: &mut [u32],
+    counts: &mut TileCounts,
     index: u32,
 ) -> Result<(), Refusal>
     requires ready { F.is_ready flows.old }
-    requires whole { length counts.old ≡ side * side }
-    requires index { index < side * side }
+    requires index { index < counts.old.side * counts.old.side }
     ensures counted { OnOk result ((m : Mosaic) (level : Point → ℤ) → F.tells flows.new m level → AreFilledLevels (terrain m) level
-        → AreCounted (terrain m) level side corner counts.old → AreStillCounted (terrain m) level side corner counts.old counts.new) }
+        → AreCounted (terrain m) level counts.old → AreStillCounted (terrain m) level counts.old counts.new) }
+    ensures tile { (counts.new.side ≡ counts.old.side) × (counts.new.corner ≡ counts.old.corner) }
     ensures known { OnOk result ((m : Mosaic) (level : Point → ℤ) → F.tells flows.new m level → AreFilledLevels (terrain m) level
-        → AreCounted (terrain m) level side corner counts.old → IsTrue (is_ground m (point_of side corner index)) → slice_index_or counts.new index 0 ≡ 0 → ⊥) }
+        → AreCounted (terrain m) level counts.old → IsTrue (is_ground m (point_of counts.old.side counts.old.corner index)) → slice_index_or counts.new.counts.items index 0 ≡ 0 → ⊥) }
     ensures ready { OnOk result (F.is_ready flows.new) }
     ensures follows { F.follows flows.old flows.new }
     ensures keeps { OnOk result (F.keeps flows.old flows.new) }
     ensures refusal { IfErr result (F.refuses flows.old flows.new) }
 {
-    if counts[index as usize] > 0 {
+    if counts.counts[index as usize] > 0 {
         return Ok(());
     }
-    let point = point_at(side, corner, index);
+    let point = point_at(counts.side, counts.corner, index);
     let flow = flows.flow(alloc, point)?;
     if is_no_ground(flow) {
         return Ok(());
     }
-    let count = count_from(alloc, flows, side, corner, counts, point)?;
-    counts[index as usize] = count;
+    let count = count_from(alloc, flows, counts, point)?;
+    counts.counts[index as usize] = count;
     Ok(())
 }
 
@@ -138,17 +138,15 @@ impl CycleCheck {
 fn count_from<F: FlowSource>(
     alloc: Global,
     flows: &mut F,
-    side: Side,
-    corner: Corner,
-    counts: &mut [u32],
+    counts: &mut TileCounts,
     first: Point,
 ) -> Result<u32, Refusal>
     requires ready { F.is_ready flows.old }
-    requires whole { length counts.old ≡ side * side }
     ensures count { IfOk result (λ count. (m : Mosaic) (level : Point → ℤ) → F.tells flows.new m level → AreFilledLevels (terrain m) level
-        → AreCounted (terrain m) level side corner counts.old → IsTrue (is_ground m first) → IsCounted (terrain m) level first count) }
+        → AreCounted (terrain m) level counts.old → IsTrue (is_ground m first) → IsCounted (terrain m) level first count) }
     ensures counted { OnOk result ((m : Mosaic) (level : Point → ℤ) → F.tells flows.new m level → AreFilledLevels (terrain m) level
-        → AreCounted (terrain m) level side corner counts.old → IsTrue (is_ground m first) → AreStillCounted (terrain m) level side corner counts.old counts.new) }
+        → AreCounted (terrain m) level counts.old → IsTrue (is_ground m first) → AreStillCounted (terrain m) level counts.old counts.new) }
+    ensures tile { (counts.new.side ≡ counts.old.side) × (counts.new.corner ≡ counts.old.corner) }
     ensures ready { OnOk result (F.is_ready flows.new) }
     ensures follows { F.follows flows.old flows.new }
     ensures keeps { OnOk result (F.keeps flows.old flows.new) }
@@ -161,12 +159,12 @@ fn count_from<F: FlowSource>(
         point: first,
         length: 1,
     };
-    let mut left = MOST_TILES as usize * side.area() as usize * 2;
+    let mut left = MOST_TILES as usize * counts.side.area() as usize * 2;
     'tour: while left > 0 {
         left -= 1;
         at.looked = next_donor(&at.donors, at.looked);
         if at.looked < 8 {
-            at = enter(alloc, flows, side, corner, counts, at, &mut waiting)?;
+            at = enter(alloc, flows, counts, at, &mut waiting)?;
             if check.finds(at, waiting.len()) {
                 return Err(Refusal::NoMemory);
             }
@@ -175,7 +173,7 @@ fn count_from<F: FlowSource>(
         let Some(below) = waiting.pop() else {
             return Ok(at.count);
         };
-        set_count(side, corner, counts, at.point, at.count);
+        counts.set(at.point, at.count);
         at = below.with(at.count)?;
     }
     Err(Refusal::NoMemory)
@@ -198,18 +196,15 @@ fn next_donor(donors: &[bool; 8], from: u8) -> u8
 fn enter<F: FlowSource>(
     alloc: Global,
     flows: &mut F,
-    side: Side,
-    corner: Corner,
-    counts: &[u32],
+    counts: &TileCounts,
     at: Branch,
     waiting: &mut Vec<Branch>,
 ) -> Result<Branch, Refusal>
     requires ready { F.is_ready flows.old }
-    requires whole { length counts.now ≡ side * side }
     requires looked { at.looked < 8 }
     requires donor { IsTrue (slice_index_or at.donors at.looked false) }
     ensures tour { IfOk result (λ next. (m : Mosaic) (level : Point → ℤ) → F.tells flows.new m level → AreFilledLevels (terrain m) level
-        → AreCounted (terrain m) level side corner counts.now → (first : Point) → IsTour (terrain m) level first at waiting.old.items → IsTour (terrain m) level first next waiting.new.items) }
+        → AreCounted (terrain m) level counts.now → (first : Point) → IsTour (terrain m) level first at waiting.old.items → IsTour (terrain m) level first next waiting.new.items) }
     ensures ready { OnOk result (F.is_ready flows.new) }
     ensures follows { F.follows flows.old flows.new }
     ensures keeps { OnOk result (F.keeps flows.old flows.new) }
@@ -222,32 +217,11 @@ fn enter<F: FlowSource>(
     let Some(donor) = neighbour(at.point, DIRECTIONS[at.looked as usize]) else {
         return Ok(next);
     };
-    let count = count_at(side, corner, counts, donor);
+    let count = counts.at(donor);
     if count > 0 {
         return next.with(count);
     }
     let donors = donors(alloc, flows, donor)?;
     push(waiting, next)?;
     Ok(Branch::of(donor, donors))
-}
-
-// What is known of the point; 0 where nothing is.
-fn count_at(side: Side, corner: Corner, counts: &[u32], point: Point) -> u32
-    requires { length counts.now ≡ side * side }
-    ensures { (t : Terrain Point) (level : Point → ℤ) → AreCounted t level side corner counts.now → (result ≡ 0) ⊎ IsCounted t level point result }
-{
-    match index_in(side, corner, point) {
-        Some(index) => counts[index as usize],
-        None => 0,
-    }
-}
-
-// Keeps the count of the point, where the tile holds it.
-fn set_count(side: Side, corner: Corner, counts: &mut [u32], point: Point, count: u32)
-    requires { length counts.old ≡ side * side }
-    ensures { (t : Terrain Point) (level : Point → ℤ) → AreCounted t level side corner counts.old → IsCounted t level point count → AreStillCounted t level side corner counts.old counts.new }
-{
-    if let Some(index) = index_in(side, corner, point) {
-        counts[index as usize] = count;
-    }
 }

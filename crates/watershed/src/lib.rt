@@ -17,6 +17,7 @@ mod laws;
 mod marks;
 mod runs;
 mod search;
+mod tile_counts;
 
 pub use counting::upstream_counts;
 pub use flow_source::FlowSource;

@@ -1,6 +1,6 @@
 -- Lists of labellings that are held, and of what is held or isn't.
 use Rattle.drainage.proofs.Prelude.{Bool, Corner, DifferAt, HasSide, HeldLabelling, IsEntered, IsHeldAt, LabelledGround, List, Mosaic, NewHeight, TileLabelling, ℕ, [], ap, arith, cond, corner_at, drop, false, get_or, has_block, holds, inl, inr, length, not, refl, subst, suc, sym, take, true, zero, ◌++◌, ◌<◌, ◌∙◌, ◌∷◌, ◌≡◌, ◌≤◌, ◌⊎◌}
-use Rattle.std.specs.Prelude.{◌↔◌, Option, None, IsTrue, All, Contains, filter, count_by, insert, remove}
+use Rattle.std.specs.Prelude.{◌↔◌, IsTrue, All, Contains, filter, count_by, insert, remove}
 use Rattle.std.specs.List.Retain.{RetainsInTurn}
 use Rattle.std.proofs.lemmas.List.Elements.{All-cons, All-head, All-tail, All-append, All-take, All-drop, All-filter, All-weaker, All-contains, All-contains_itself, Contains-append_left, Contains-append_right, filter_passes}
 use Rattle.std.proofs.lemmas.List.Filters.{sum_by-filter_both}

@@ -1,6 +1,6 @@
 -- Where points drain is kept, height after height, near levels that none of them moves.
-use Rattle.std.proofs.Common.{◌≡◌, ◌⊎◌, ℕ, ℤ, ◌<◌, true, inl, inr, Option, Some, None, List, length, get_or, refl, sym, ap, ◌∙◌, subst}
-use Rattle.drainage.proofs.Prelude.{All-get_or, AreFlowsKept, AreFlowsLeft, DrainageCache, FlowCache, IsUnchanged, LevelRange, NewHeight, if◌then◌else◌, is_range_spared, range_at, slot_ranges, spared_of}
+use Rattle.std.proofs.Common.{◌≡◌, ◌⊎◌, ℕ, ◌<◌, true, inl, inr, Option, Some, None, List, length, get_or, sym, ap, ◌∙◌, subst}
+use Rattle.drainage.proofs.Prelude.{All-get_or, AreFlowsKept, AreFlowsLeft, DrainageCache, FlowCache, IsUnchanged, LevelRange, NewHeight, if◌then◌else◌, is_range_spared, spared_of}
 use Rattle.drainage.specs.FlowCaches.{IsPastTaken, are_ranges_kept, are_spared}
 
 module _ (heights : List NewHeight) (i : ℕ) (h : NewHeight) (below : i < length heights) (is_h : h ≡ get_or heights i h) (changes : IsUnchanged h → ⊥) where

@@ -1,5 +1,5 @@
 -- What is known of tiles as they are loaded one after another.
-use Rattle.drainage.proofs.Prelude.{AreKept, AreLoaded, Corner, Fits, Ghosts, List, Mosaic, Summarizes, Summary, TileGraph, ℕ, ap, cases_eq, corner_at, false, get_or, get_or-set_other, get_or-set_same, get_or_default, inl, inr, length, length-set, loaded_at, refl, subst, sym, true, true≢false, ◌<◌, ◌∙◌, ◌≡◌, ◌≢◌}
+use Rattle.drainage.proofs.Prelude.{AreKept, AreLoaded, Corner, Fits, Ghosts, List, Mosaic, Summarizes, Summary, TileGraph, ℕ, ap, cases_eq, corner_at, get_or, get_or-set_other, get_or-set_same, get_or_default, inl, inr, length, length-set, loaded_at, subst, sym, true, true≢false, ◌<◌, ◌∙◌, ◌≡◌}
 use Rattle.std.specs.Prelude.{Option, Some, None, is_some, slice_set}
 
 pub fits_before : {S : Type 0} (g : Ghosts S) (a b : S) (side : ℕ) (corners : List Corner) (loaded : List (Option TileGraph)) (side' : ℕ) (corners' : List Corner) (loaded' : List (Option TileGraph)) (n : ℕ) (summaries : List Summary)
@@ -22,13 +22,6 @@ some_there loaded t o small is some = by o some (get_or_default loaded t None o 
     by None some is = absurd (true≢false (sym some))
     by (Some ways) some is = (ways, is)
 
-pub none_there : (loaded : List (Option TileGraph)) (t : ℕ) (o : Option TileGraph) → t < length loaded → o ≡ get_or loaded t o → is_some o ≡ false → loaded_at loaded t ≡ None
-none_there loaded t o small is off = get_or_default loaded t None o small ∙ (sym is ∙ by o off)
-  where
-    by : (p : Option TileGraph) → is_some p ≡ false → p ≡ None
-    by None off = refl
-    by (Some ways) off = absurd (true≢false off)
-
 pub some_is : (a b : TileGraph) → ◌≡◌ {A = Option TileGraph} (Some a) (Some b) → a ≡ b
 some_is a b e = cc
 
@@ -44,15 +37,9 @@ none_told m side corners loaded whole none = record {
 }
 
 -- one tile more
-module _ (side : ℕ) (corners : List Corner) (loaded : List (Option TileGraph)) (t : ℕ) (c : Corner) (ways : TileGraph) (inside : t < length loaded) (was : loaded_at loaded t ≡ None) where
-  other_still : (u : ℕ) (w : TileGraph) → loaded_at loaded u ≡ Some w → u ≢ t
-  other_still u w is equal = not_both w (sym was ∙ (ap (loaded_at loaded) (sym equal) ∙ is))
-
+module _ (side : ℕ) (corners : List Corner) (loaded : List (Option TileGraph)) (t : ℕ) (c : Corner) (ways : TileGraph) (inside : t < length loaded) where
   this : (u : ℕ) (w : TileGraph) → u ≡ t → loaded_at (slice_set loaded t (Some ways)) u ≡ Some w → ways ≡ w
   this u w here is = some_is ways w (sym (get_or-set_same loaded t (Some ways) None inside) ∙ (ap (loaded_at (slice_set loaded t (Some ways))) (sym here) ∙ is))
-
-  pub still_told : (u : ℕ) (w : TileGraph) → loaded_at loaded u ≡ Some w → loaded_at (slice_set loaded t (Some ways)) u ≡ Some w
-  still_told u w is = get_or-set_other loaded t u (Some ways) None (other_still u w is) ∙ is
 
   pub told_more : (m : Mosaic) → corner_at corners t ≡ c → ways.side ≡ side → ways.summary.corner ≡ c → Summarizes m ways.summary → AreLoaded m side corners loaded → AreLoaded m side corners (slice_set loaded t (Some ways))
   told_more m place same corner summary r = record {

@@ -1,8 +1,8 @@
 -- The summary of a tile stays where a point changes its height below its level in the tile.
-use Rattle.drainage.proofs.Prelude.{At, Bool, Corner, DifferAt, Flooded, Height, IsFilledLevel, IsFlooded, IsIndexOf, IsLabelling, IsSummaryOf, IsTrue, Kept, LabelledGround, List, Mosaic, Point, Spill, Summarizes, Summary, Terrain, TileLabelling, ℕ, ℤ, ap, arith, block_of, cases_Bool, false, fun_ext, get_or, height_of, inl, inr, ints, is_ground, is_outlet, is_void, length, level_is_unique, ltb-true, metres, nat_lt, not, point_of, refl, rim_point, slice_index, slice_index_or, solid_if, subst, sym, void, ◌&&◌, ◌*◌, ◌-◌, ◌<ℤ◌, ◌<◌, ◌||◌, ◌∙◌, ◌≡◌, ◌≢◌, ◌≤ℤ◌}
+use Rattle.drainage.proofs.Prelude.{At, Bool, Corner, DifferAt, Flooded, IsFilledLevel, IsFlooded, IsIndexOf, IsLabelling, IsSummaryOf, IsTrue, Kept, LabelledGround, List, Mosaic, Point, Spill, Summarizes, Summary, Terrain, TileLabelling, ℕ, ℤ, ap, arith, block_of, cases_Bool, false, fun_ext, height_of, inl, inr, ints, is_ground, is_outlet, is_void, level_is_unique, ltb-true, metres, nat_lt, not, point_of, refl, rim_point, slice_index, slice_index_or, solid_if, subst, sym, void, ◌&&◌, ◌*◌, ◌-◌, ◌<ℤ◌, ◌<◌, ◌||◌, ◌∙◌, ◌≡◌, ◌≢◌, ◌≤ℤ◌}
 use Rattle.std.specs.List.{list_all}
 use Rattle.std.proofs.lemmas.List.{get_or_default, same_lists}
-use Rattle.lattice.specs.Block.{Block, IsBlockOf, block_terrain, is_solid, is_exit, is_rim, is_sink_at, around, rim_number}
+use Rattle.lattice.specs.Block.{IsBlockOf, block_terrain, is_solid, is_exit, is_rim, is_sink_at, around, rim_number}
 use Rattle.tile_flood.specs.Spills.{AreSpills, Meets}
 use Rattle.tile_flood.proofs.Dependence.{same_link}
 use Rattle.tile_flood.proofs.Passages.{not_void}

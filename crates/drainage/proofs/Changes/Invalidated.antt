@@ -1,5 +1,5 @@
 -- What is left of what was known is right for the mosaic as it changed; and lists whose elements are given up one by one.
-use Rattle.drainage.proofs.Prelude.{AreLevelsStill, AreReady, Bool, Corner, DifferAt, DifferBetween, IsEntered, IsRight, IsRimLevel, IsSetFrom, IsTileLabelling, Known, List, Mosaic, NewHeight, Point, Summarizes, TileGraph, ℕ, ℤ, [], ap, arith, cases_eq, corner_at, corners_of, false, get_or, get_or-set_other, get_or-set_same, inl, inr, is_reached, length, length-set, level_of, loaded_at, or_parts, reaches, subst, suc, sym, true, zero, ◌*◌, ◌+◌, ◌-◌, ◌<◌, ◌^◌, ◌∙◌, ◌∷◌, ◌≡◌, ◌≤◌}
+use Rattle.drainage.proofs.Prelude.{AreLevelsStill, AreReady, Corner, DifferAt, DifferBetween, IsEntered, IsRight, IsRimLevel, IsSetFrom, IsTileLabelling, Known, List, Mosaic, NewHeight, Point, Summarizes, TileGraph, ℕ, ℤ, [], ap, arith, cases_eq, corner_at, corners_of, false, get_or, get_or-set_other, get_or-set_same, inl, inr, is_reached, length, length-set, level_of, loaded_at, or_parts, reaches, subst, suc, sym, zero, ◌*◌, ◌+◌, ◌-◌, ◌<◌, ◌^◌, ◌∙◌, ◌∷◌, ◌≡◌, ◌≤◌}
 use Rattle.std.specs.Prelude.{◌↔◌, Option, Some, None, slice_set, nat_lt, not}
 use Rattle.drainage.specs.Invalidating.{IsLeftOf, IsNotedOf}
 use Rattle.drainage.proofs.Changes.BelowSummaries.{summarizes_below}

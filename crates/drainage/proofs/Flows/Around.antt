@@ -15,9 +15,6 @@ module _ (known : Known) (p : Point) (t e : ℕ) (c : Corner) (small : t < lengt
   holds : Holds known.side (corner_at known.corners t) p
   holds = record { corner = index_here.corner; sample = (index_here.sample.0, index_here.sample.1, index_here.sample.2.0) }
 
-  at : corner_at known.corners t ≡ get_or known.corners t (corner_at known.corners t)
-  at = sym (get_or_default known.corners t (corner_at known.corners t) (record { lat = pos 0; lon = pos 0 }) small)
-
   flooded : (m : Mosaic) → IsRight m known → IsFlooded m (corner_at known.corners t) labelled
   flooded m right = subst (λ (d : Corner). IsFlooded m d labelled) (sym place) (held m right)
 
@@ -25,14 +22,14 @@ module _ (known : Known) (p : Point) (t e : ℕ) (c : Corner) (small : t < lengt
   pub told_out : label ≢ NO_LABEL → label ≡ OUT → IsKnownLevel known t p (Some level)
   told_out ground out = record {
     held = holds;
-    level = λ m is right. level_inside m is p known right known.corners refl t e (small, index_here) (corner_at known.corners t) at level label (labelled, (flooded m right, (level_is, label_is))) ground out;
+    level = λ m is right. level_inside m is p known right known.corners refl t e (small, index_here) level label (labelled, (flooded m right, (level_is, label_is))) ground out;
   }
 
   -- or names a rim point whose level is known
   pub told_over : label ≢ NO_LABEL → label ≢ OUT → (start : ℕ) (v : ℤ) → start ≡ 1 + t * (4 * (known.side - 1)) + label → level_of known.levels start ≡ Some v → IsKnownLevel known t p (Some (int_max level v))
   told_over ground named start v node known_there = record {
     held = holds;
-    level = λ m is right. level_over m is p known right known.corners refl t e (small, index_here) (corner_at known.corners t) at level label (labelled, (flooded m right, (level_is, label_is))) ground named v
+    level = λ m is right. level_over m is p known right known.corners refl t e (small, index_here) level label (labelled, (flooded m right, (level_is, label_is))) ground named v
         (subst (λ x. IsRimLevel m known.corners x v) (start_is m known t label start right node) (right.levels start v known_there));
   }
 

@@ -1,5 +1,5 @@
 -- Questions one after another, and what their refusals are.
-use Rattle.drainage.proofs.Prelude.{Asked, Damaged, Err, Ghosts, IsGrown, IsRefused, IsRight, IsTrue, Known, NoMemory, Ok, OnlyReads, Refusal, Result, ap, asked, asked_on, asked_passed, ends_any, err_from_is_err_and, inl, inr, reads_as, reads_nothing, reads_on, refl, subst, sym, ◌∙◌, ◌≡◌, ◌⊎◌}
+use Rattle.drainage.proofs.Prelude.{Asked, Damaged, Err, Ghosts, IsGrown, IsRefused, IsRight, Known, NoMemory, Ok, OnlyReads, Refusal, Result, ap, asked, asked_on, asked_passed, err_from_is_err_and, inl, inr, reads_as, reads_nothing, reads_on, refl, subst, sym, ◌∙◌, ◌≡◌, ◌⊎◌}
 use Rattle.std.specs.Prelude.{IfErr, IsErrAnd}
 
 -- each read of a question that was answered was answered

@@ -47,20 +47,6 @@ strip_fits n side (suc zero) = record { rows = omega arith; columns = omega arit
 strip_fits n side (suc (suc zero)) = record { rows = omega arith; columns = omega arith; some = omega arith }
 strip_fits n side (suc (suc (suc u))) = record { rows = omega arith; columns = omega arith; some = omega arith }
 
--- a level of the tile copied to its place
-module _ (n row column : ℕ) (now : List ℤ) (v : ℤ) (inside : column < n) where
-  pub copied_here : place_in n row column < length now → slice_index_or (slice_set now (place_in n row column) v) (place_in n row column) void ≡ v
-  copied_here within = get_or-set_same now (place_in n row column) v void within
-
-  pub copied_other : (r s : ℕ) → s < n → (r ≡ row → s ≡ column → ⊥) → slice_index_or (slice_set now (place_in n row column) v) (place_in n r s) void ≡ slice_index_or now (place_in n r s) void
-  copied_other r s small apart = get_or-set_other now (place_in n row column) (place_in n r s) v void other
-    where
-      other : place_in n r s ≡ place_in n row column → ⊥
-      other same =
-          let rows_same = one_row (n + 4) (r + 2) (s + 2) (row + 2) (column + 2) (omega arith) (omega arith) same in
-          let columns_same = one_column (n + 4) (r + 2) (s + 2) (row + 2) (column + 2) (omega arith) (omega arith) same in
-          apart (omega (arith, rows_same)) (omega (arith, columns_same))
-
 module _ (m : Mosaic) (c : Corner) where
   abbrev n : ℕ
   n = m.side
@@ -87,9 +73,6 @@ module _ (m : Mosaic) (c : Corner) where
     ]
 
   module _ (strip : Strip) (is : IsStrip n strip) where
-    pub fill_none : (levels : List ℤ) → AreFilledTo m c strip 0 levels levels
-    fill_none levels = record { whole = refl; kept = λ i j small right. right; right = λ a b low. absurd (omega (arith, low)) }
-
     pub fill_more : (old now : List ℤ) (number : ℕ) (v : ℤ) → number < strip.rows * strip.columns → length old ≡ width * width
         → IsLevelOrVoid m (padded_point n c (strip.row + number / strip.columns) (strip.column + number % strip.columns)) v → AreFilledTo m c strip number old now
         → AreFilledTo m c strip (number + 1) old (slice_set now ((strip.row + number / strip.columns) * width + (strip.column + number % strip.columns)) v)
@@ -125,9 +108,6 @@ module _ (m : Mosaic) (c : Corner) where
     pub whole : length new_levels ≡ length levels
     pub kept : (i j : ℕ) → j < width → IsPlaceRight m c levels i j → IsPlaceRight m c new_levels i j
     pub right : (u a b : ℕ) → u < count → a < (strip_of n u).rows → b < (strip_of n u).columns → IsPlaceRight m c new_levels ((strip_of n u).row + a) ((strip_of n u).column + b)
-
-  pub strips_none : (levels : List ℤ) → AreStripsTo 0 levels levels
-  strips_none levels = record { whole = refl; kept = λ i j small right. right; right = λ u a b low. absurd (omega (arith, low)) }
 
   pub strips_more : 3 ≤ n → (old now new : List ℤ) (u : ℕ) → AreStripsTo u old now → AreFilledTo m c (strip_of n u) ((strip_of n u).rows * (strip_of n u).columns) now new → AreStripsTo (u + 1) old new
   strips_more side old now new u was more = record {

@@ -4,23 +4,8 @@ use Rattle.tile_flood.specs.Raising.{AreRimLevels, IsRimFilled}
 use Rattle.drainage.proofs.Questions.Questioned.{answered, stopped, wanting}
 use Rattle.drainage.proofs.Changes.Refreshed as refreshed
 
--- a tile by its place among those of the samples
-module _ {S : Type 0} (g : Ghosts S) (a : S) (is : IsMosaic (g.mosaic a)) (known : Known) (t : ℕ) (c : Corner) (place : t < length (g.corners a)) (at : corner_at (g.corners a) t ≡ c) (right : IsRight (g.mosaic a) known) (same : corners_of (g.mosaic a) ≡ g.corners a) where
-  all : known.corners ≡ g.corners a
-  all = right.ready.all ∙ same
-
-  place_here : t < length known.corners
-  place_here = subst (λ (cs : List Corner). t < length cs) (sym all) place
-
-  at_here : corner_at known.corners t ≡ c
-  at_here = ap (λ (cs : List Corner). corner_at cs t) all ∙ at
-
-  pub is_there : Contains (g.corners a) c
-  is_there = refreshed.is_there g a known t c place_here at_here right same
-
-  pub entered_there : IsEntered (g.mosaic a) c known.labellings t
-  entered_there = refreshed.entered_there g a known t c place_here at_here right
-
+-- a tile by its place
+module _ {S : Type 0} (g : Ghosts S) (a : S) (is : IsMosaic (g.mosaic a)) (known : Known) (t : ℕ) (c : Corner) (place : t < length known.corners) (at : corner_at known.corners t ≡ c) (right : IsRight (g.mosaic a) known) (same : corners_of (g.mosaic a) ≡ g.corners a) where
   -- what is held of tiles is right, with another labelling of this one
   pub right_held : (labellings : List HeldLabelling) (labelling : TileLabelling) → IsTileLabelling (g.mosaic a) c labelling
       → ((m : Mosaic) (d : Corner) (u : ℕ) → (u ≡ t → IsTileLabelling m d labelling) → IsEntered m d known.labellings u → IsEntered m d labellings u)
@@ -28,7 +13,7 @@ module _ {S : Type 0} (g : Ghosts S) (a : S) (is : IsMosaic (g.mosaic a)) (known
   right_held labellings labelling valid held = record {
     ready = right.ready;
     labellings = λ u. held (g.mosaic a) (corner_at known.corners u) u
-        (λ here. subst (λ (d : Corner). IsTileLabelling (g.mosaic a) d labelling) (sym (ap (λ k. corner_at known.corners k) here ∙ at_here)) valid) (right.labellings u);
+        (λ here. subst (λ (d : Corner). IsTileLabelling (g.mosaic a) d labelling) (sym (ap (λ k. corner_at known.corners k) here ∙ at)) valid) (right.labellings u);
     levels = right.levels;
   }
 
@@ -41,7 +26,7 @@ module _ {S : Type 0} (g : Ghosts S) (a : S) (is : IsMosaic (g.mosaic a)) (known
   rim_filled labelled rim flooded levels = record {
     mosaic = is;
     side = flooded.side;
-    present = (present_iff (g.mosaic a) c).1 (subst (λ (cs : List Corner). Contains cs c) (sym same) is_there);
+    present = (present_iff (g.mosaic a) c).1 (subst (λ (cs : List Corner). Contains cs c) (sym same) (refreshed.is_there g a known t c place at right same));
     labelled = flooded.valid;
     rim_levels = levels;
   }

@@ -18,9 +18,6 @@ module _ (m : Mosaic) (is : IsMosaic m) where
   }
 
   module _ (c : Corner) where
-    pub no_codes : AreCodesTo m c 0 []
-    no_codes = record { whole = refl; each = λ e below. absurd (omega arith) }
-
     -- one more
     pub code_more : (old new : List ℕ) (k code : ℕ) → new ≡ old ++ code ∷ [] → IsCodeOrNone m (point_of m.side c k) code → AreCodesTo m c k old → AreCodesTo m c (k + 1) new
     code_more old new k code grown this are = record {

@@ -1,4 +1,4 @@
-use Rattle.drainage.proofs.Prelude.{AreFlowsFor, IsAtHand, IsHeldFor, Ok, OnlyReads, Point, length, most_tiles, ◌-◌, ◌<◌, ◌≤◌}
+use Rattle.drainage.proofs.Prelude.{AreFlowsFor, IsAtHand, IsHeldFor, Ok, OnlyReads, Point, length, most_tiles, ◌-◌, ◌≤◌}
 use Rattle.drainage.proofs.downstream.have_flat.Given as goal
 
 abbrev pub invariant-tiles : goal.invariant-tiles
@@ -7,7 +7,7 @@ invariant-tiles g l = record {
   held : IsHeldFor g.S.Samples l.samples l.held;
   right : AreFlowsFor g.S.Samples l.samples l.flows;
   kept : (p : Point) → IsAtHand l.fn.flows.grid.tiles p → IsAtHand l.flows.grid.tiles p;
-  more : (IsAtHand l.fn.flows.grid.tiles l.fn.point → ⊥) → length l.fn.flows.grid.tiles.corners < length l.flows.grid.tiles.corners;
+  more : length l.fn.flows.grid.tiles.corners ≤ length l.flows.grid.tiles.corners;
   bounded : length l.flows.grid.tiles.corners ≤ most_tiles;
 }
 

@@ -1,49 +1,69 @@
 use Rattle.std.proofs.Common.{IsTrue, Ok, Option, sym, ◌∙◌, subst, true≢false}
 use Rattle.std.specs.Prelude.{IfSome, IfNone, ℕ}
-use Rattle.drainage.proofs.Prelude.{CrossesFlat, Drains, IsFlow, Mosaic, OnGround, OnLevels, Point, Tiles, reads_on, terrain}
+use Rattle.drainage.proofs.Prelude.{CrossesFlat, Drains, IsCacheOf, IsFlow, Mosaic, OnGround, OnLevels, OnlyReads, Point, Tiles, reads_on, terrain}
 use Rattle.flow_d8.specs.FlowGrids.{IsAtHand, flow_of}
 use Rattle.drainage.proofs.Caches.FlowCaches.{cache_resolved}
 use Rattle.drainage.proofs.Questions.Questioned.{refused_after, asked_reads, stopped}
 use Rattle.drainage.proofs.Tiles.GroundAtHand.{met_ground, settled}
 use Rattle.drainage.proofs.downstream.prepared_flow.Goals as goal
+use Rattle.drainage.proofs.downstream.prepared_flow.Goals.{After-resolve, In_ok-have_tile-2}
+
+-- the flat is resolved in what is right
+module _ (g : _) (c : After-resolve g) where
+  right : g.S.Samples.is_honest c.tiles.samples → IsCacheOf (g.S.Samples.mosaic c.tiles.samples) c.resolve.new.self
+  right honest = cache_resolved (g.S.Samples.mosaic c.tiles.samples) (g.met.S.Samples.is_mosaic c.tiles.samples honest) c.tiles.flows c.resolve.new.self c.resolve.ensures.tiles c.resolve.ensures.flows c.resolve.ensures.slots (c.tiles.invariant.right honest)
 
 pub returns-in_err-met-clause-right : goal.returns-in_err-met-clause-right
-returns-in_err-met-clause-right g c honest =
-    let b = c.tiles.samples in
-    cache_resolved (g.S.Samples.mosaic b) (g.met.S.Samples.is_mosaic b honest) c.tiles.flows c.resolve.new.self c.resolve.ensures.tiles c.resolve.ensures.flows c.resolve.ensures.slots (c.tiles.invariant.right honest)
+returns-in_err-met-clause-right g c = right g (goal.at.returns-in_err-met-clause-right g c).After-resolve
 
-pub have_flat-requires-clause-ground : goal.have_flat-requires-clause-ground
-have_flat-requires-clause-ground g c honest =
+pub have_tile-requires-in-Some-clause-ground : goal.have_tile-requires-in-Some-clause-ground
+have_tile-requires-in-Some-clause-ground g c honest =
     let b = c.tiles.samples in
     let old = c.tiles.flows.grid in
     let said = subst (λ (o : Option Point). IfSome o (λ p. (IsAtHand old.tiles p → ⊥) × OnGround old.tiles old.flows.items (λ t level. IsTrue (t.is_ground p)))) c.in-Some.is c.in_ok-met.ensures.met in
     met_ground (g.S.Samples.mosaic b) (g.met.S.Samples.is_mosaic b honest) old.tiles old.flows.items c.in-Some.met (c.tiles.invariant.right honest).grid said.1
 
-pub have_flat-requires-clause-right : goal.have_flat-requires-clause-right
-have_flat-requires-clause-right g c honest =
-    let b = c.tiles.samples in
-    cache_resolved (g.S.Samples.mosaic b) (g.met.S.Samples.is_mosaic b honest) c.tiles.flows c.resolve.new.self c.resolve.ensures.tiles c.resolve.ensures.flows c.resolve.ensures.slots (c.tiles.invariant.right honest)
+pub have_tile-requires-in-Some-clause-right : goal.have_tile-requires-in-Some-clause-right
+have_tile-requires-in-Some-clause-right g c = right g (goal.at.have_tile-requires-in-Some-clause-right g c).After-resolve
+
+-- what is so once the tile that was met is at hand
+module _ (g : _) (c : In_ok-have_tile-2 g) where
+  reads : OnlyReads {T = Unit {0}} g.S.Samples c.args.samples.now c.have_tile-in-Some.new.samples (Ok tt)
+  reads = reads_on g.S.Samples g.met.S.Samples.keeps_on c.args.samples.now c.tiles.samples c.have_tile-in-Some.new.samples tt (Ok tt) c.tiles.invariant.reads
+      (asked_reads g.S.Samples c.tiles.samples c.have_tile-in-Some.new.samples _ c.in_ok-have_tile-2.ensures.asked)
+
+  at_hand : IsAtHand c.have_tile-in-Some.new.flows.grid.tiles c.args.point
+  at_hand = c.in_ok-have_tile-2.ensures.kept c.args.point (subst (λ (t : Tiles). IsAtHand t c.args.point) (sym c.resolve.ensures.tiles) c.tiles.invariant.at_hand)
+
+pub tiles-preserved-then-count-most : goal.tiles-preserved-then-count-most
+tiles-preserved-then-count-most g c =
+    let e = c.in_ok-have_tile-2.ensures in
+    let met = (goal.at.tiles-preserved-then-count-most g c).In_ok-have_tile-2 in
+    record { reads = reads g met; held = e.held; right = e.right; at_hand = at_hand g met; bounded = e.bounded }
 
 pub tiles-preserved : goal.tiles-preserved
 tiles-preserved g c =
     let e = c.in_ok-have_flat.ensures in
-    let so = c.tiles.invariant in
+    let met = (goal.at.tiles-preserved g c).In_ok-have_tile-2 in
     record {
-      reads = reads_on g.S.Samples g.met.S.Samples.keeps_on c.args.samples.now c.tiles.samples c.have_flat.new.samples tt (Ok tt) so.reads (asked_reads g.S.Samples c.tiles.samples c.have_flat.new.samples _ e.asked);
+      reads = reads_on g.S.Samples g.met.S.Samples.keeps_on c.args.samples.now c.have_tile-in-Some.new.samples c.have_flat.new.samples tt (Ok tt) (reads g met) (asked_reads g.S.Samples c.have_tile-in-Some.new.samples c.have_flat.new.samples _ e.asked);
       held = e.held;
       right = e.right;
-      at_hand = e.kept c.args.point (subst (λ (t : Tiles). IsAtHand t c.args.point) (sym c.resolve.ensures.tiles) so.at_hand);
+      at_hand = e.kept c.args.point (at_hand g met);
       bounded = e.bounded;
     }
 
+pub returns-in_err-have_tile-2-clause-asked : goal.returns-in_err-have_tile-2-clause-asked
+returns-in_err-have_tile-2-clause-asked g c =
+    refused_after g.S.Samples g.met.S.Samples.keeps_on c.args.samples.now c.tiles.samples c.have_tile-in-Some.new.samples c.from_residual-in_err-have_tile-2.result c.in_err-have_tile-2.field-0.0 c.from_residual-in_err-have_tile-2.ensures.1 c.tiles.invariant.reads c.in_err-have_tile-2.ensures.asked
+
 pub returns-in_err-have_flat-clause-asked : goal.returns-in_err-have_flat-clause-asked
 returns-in_err-have_flat-clause-asked g c =
-    refused_after g.S.Samples g.met.S.Samples.keeps_on c.args.samples.now c.tiles.samples c.have_flat.new.samples c.from_residual-in_err-have_flat.result c.in_err-have_flat.field-0.0 c.from_residual-in_err-have_flat.ensures.1 c.tiles.invariant.reads c.in_err-have_flat.ensures.asked
+    refused_after g.S.Samples g.met.S.Samples.keeps_on c.args.samples.now c.have_tile-in-Some.new.samples c.have_flat.new.samples c.from_residual-in_err-have_flat.result c.in_err-have_flat.field-0.0 c.from_residual-in_err-have_flat.ensures.1
+    (reads g (goal.at.returns-in_err-have_flat-clause-asked g c).In_ok-have_tile-2) c.in_err-have_flat.ensures.asked
 
 pub returns-then-not-drains-clause-right : goal.returns-then-not-drains-clause-right
-returns-then-not-drains-clause-right g c honest =
-    let b = c.tiles.samples in
-    cache_resolved (g.S.Samples.mosaic b) (g.met.S.Samples.is_mosaic b honest) c.tiles.flows c.resolve.new.self c.resolve.ensures.tiles c.resolve.ensures.flows c.resolve.ensures.slots (c.tiles.invariant.right honest)
+returns-then-not-drains-clause-right g c = right g (goal.at.returns-then-not-drains-clause-right g c).After-resolve
 
 pub returns-then-not-drains-clause-asked : goal.returns-then-not-drains-clause-asked
 returns-then-not-drains-clause-asked g c =
@@ -66,15 +86,10 @@ returns-then-not-drains-clause-asked g c =
 pub returns-clause-flow : goal.returns-clause-flow
 returns-clause-flow g c honest level filled =
     let b = c.tiles.samples in
-    let old = c.tiles.flows.grid in
-    let new = c.resolve.new.self.grid in
-    let so = c.tiles.invariant in
-    let right = cache_resolved (g.S.Samples.mosaic b) (g.met.S.Samples.is_mosaic b honest) c.tiles.flows c.resolve.new.self c.resolve.ensures.tiles c.resolve.ensures.flows c.resolve.ensures.slots (so.right honest) in
+    let grid = (right g (goal.at.returns-clause-flow g c).After-resolve honest).grid in
     let said : OnLevels (g.S.Samples.mosaic b) (λ level. IsFlow (terrain (g.S.Samples.mosaic b)) level c.args.point c.flow-flow.result) =
-    λ level filled. c.flow-flow.ensures.says (terrain (g.S.Samples.mosaic b)) level (right.grid.told level filled) in
-    subst (λ (n : Mosaic). OnLevels n (λ level. IsFlow (terrain n) level c.args.point c.flow-flow.result)) (so.reads.mosaic honest) said level filled
+    λ level filled. c.flow-flow.ensures.says (terrain (g.S.Samples.mosaic b)) level (grid.told level filled) in
+    subst (λ (n : Mosaic). OnLevels n (λ level. IsFlow (terrain n) level c.args.point c.flow-flow.result)) (c.tiles.invariant.reads.mosaic honest) said level filled
 
 pub returns-clause-right : goal.returns-clause-right
-returns-clause-right g c honest =
-    let b = c.tiles.samples in
-    cache_resolved (g.S.Samples.mosaic b) (g.met.S.Samples.is_mosaic b honest) c.tiles.flows c.resolve.new.self c.resolve.ensures.tiles c.resolve.ensures.flows c.resolve.ensures.slots (c.tiles.invariant.right honest)
+returns-clause-right g c = right g (goal.at.returns-clause-right g c).After-resolve

@@ -46,7 +46,7 @@ returns-then-not-branch-clause-asked g c =
     let mid = seen.reads.honest honest in
     let before = spotted.reads.honest mid in
     let none = no_height_there (g.S.Samples.mosaic a) (g.met.S.Samples.is_mosaic a before) c.args.point (known_of c.args.tile_cache.now) (c.requires.right before) c.deref.result.now c.deref.ensures.value c.in-Some.t c.in-Some.index c.in-Some.ensures.some
-    c.index-corner.result.now c.index-corner.ensures c.in_ok-level.level c.in_ok-level.label (spotted.label_at mid (c.requires.right before)) c.if-label.true in
+    c.in_ok-level.level c.in_ok-level.label (spotted.label_at mid (c.requires.right before)) c.if-label.true in
     let same : metres (height_of (g.S.Samples.mosaic b) c.args.point) ≡ void = ap (λ (m : Mosaic). metres (height_of m c.args.point)) (spotted.reads.mosaic mid) ∙ none in
     false≢true (sym c.if-not-branch.true ∙ (seen.value honest ∙ (Decides-int_eq void _).1 (sym same))))
 
@@ -57,7 +57,7 @@ returns-then-label-clause-level g c honest =
     let mid = c.in_ok-is_height.ensures.reads.honest honest in
     let before = spotted.reads.honest mid in
     void_there (g.S.Samples.mosaic a) (g.met.S.Samples.is_mosaic a before) c.args.point (known_of c.args.tile_cache.now) (c.requires.right before) c.deref.result.now c.deref.ensures.value c.in-Some.t c.in-Some.index c.in-Some.ensures.some
-    c.index-corner.result.now c.index-corner.ensures c.in_ok-level.level c.in_ok-level.label (spotted.label_at mid (c.requires.right before)) c.if-label.true
+    c.in_ok-level.level c.in_ok-level.label (spotted.label_at mid (c.requires.right before)) c.if-label.true
 
 pub returns-then-label-clause-right : goal.returns-then-label-clause-right
 returns-then-label-clause-right g c honest =
@@ -82,7 +82,7 @@ returns-then-label-2-clause-level g c honest =
     let in_range : SFits w16 c.in_ok-level.level = search rules in
     subst (IsFilledLevel (terrain m) c.args.point) (sym (to_z-of_z w16 c.in_ok-level.level in_range))
     (level_inside m (g.met.S.Samples.is_mosaic a before) c.args.point (known_of c.args.tile_cache.now) (c.requires.right before) c.deref.result.now c.deref.ensures.value c.in-Some.t c.in-Some.index c.in-Some.ensures.some
-    c.index-corner.result.now c.index-corner.ensures c.in_ok-level.level c.in_ok-level.label (spotted.label_at honest (c.requires.right before)) c.if-label.false c.if-label-2.true)
+    c.in_ok-level.level c.in_ok-level.label (spotted.label_at honest (c.requires.right before)) c.if-label.false c.if-label-2.true)
 
 pub returns-then-label-2-clause-asked : goal.returns-then-label-2-clause-asked
 returns-then-label-2-clause-asked g c = answered g.S.Samples c.args.samples.now c.label_at.new.samples _ c.in_ok-level.ensures.reads
@@ -95,7 +95,7 @@ rim_level-requires-clause-there g c honest =
     subst (λ (m : Mosaic). IsGroundNode m c.label_at.new.self.rim_graph.corners.items c.in-Some.t c.in_ok-level.label) (sym (spotted.reads.mosaic honest))
     (subst (λ (cs : List Corner). IsGroundNode (g.S.Samples.mosaic a) cs c.in-Some.t c.in_ok-level.label) (sym spotted.grown.kept.same_corners)
     (rim_there (g.S.Samples.mosaic a) (g.met.S.Samples.is_mosaic a before) c.args.point (known_of c.args.tile_cache.now) (c.requires.right before) c.deref.result.now c.deref.ensures.value c.in-Some.t c.in-Some.index c.in-Some.ensures.some
-    c.index-corner.result.now c.index-corner.ensures c.in_ok-level.level c.in_ok-level.label (spotted.label_at honest (c.requires.right before)) c.if-label.false c.if-label-2.false))
+    c.in_ok-level.level c.in_ok-level.label (spotted.label_at honest (c.requires.right before)) c.if-label.false c.if-label-2.false))
 
 pub returns-in_err-over-clause-asked : goal.returns-in_err-over-clause-asked
 returns-in_err-over-clause-asked g c =
@@ -118,7 +118,7 @@ returns-clause-level g c honest =
     (subst (λ (cs : List Corner). IsRimLevel (g.S.Samples.mosaic c.label_at.new.samples) cs (node_number (g.S.Samples.mosaic c.label_at.new.samples).side (Rim c.in-Some.t c.in_ok-level.label)) c.in_ok-over.over) spotted.grown.kept.same_corners (c.in_ok-over.ensures.level honest)) in
     subst (IsFilledLevel (terrain m) c.args.point) (sym higher ∙ sym (to_z-of_z w16 c.max.result in_range))
     (level_over m (g.met.S.Samples.is_mosaic a before) c.args.point w (c.requires.right before) c.deref.result.now c.deref.ensures.value c.in-Some.t c.in-Some.index c.in-Some.ensures.some
-    c.index-corner.result.now c.index-corner.ensures c.in_ok-level.level c.in_ok-level.label (spotted.label_at mid (c.requires.right before)) c.if-label.false c.if-label-2.false c.in_ok-over.over rim)
+    c.in_ok-level.level c.in_ok-level.label (spotted.label_at mid (c.requires.right before)) c.if-label.false c.if-label-2.false c.in_ok-over.over rim)
 
 pub returns-clause-asked : goal.returns-clause-asked
 returns-clause-asked g c =

@@ -8,8 +8,8 @@ pub level_in_tile-requires-clause-held : goal.level_in_tile-requires-clause-held
 level_in_tile-requires-clause-held c m right =
     c.in_ok-labelled.ensures.flooded m c.in_ok-corner.corner (λ x at. subst (λ (d : Corner). IsTileLabelling m d x) c.in_ok-corner.ensures.some.1 (right.labellings c.in_ok-t.t x at))
 
-pub level_beside-requires-clause-held : goal.level_beside-requires-clause-held
-level_beside-requires-clause-held c m right =
+pub level_in_tile-requires-in-loop-i-clause-held : goal.level_in_tile-requires-in-loop-i-clause-held
+level_in_tile-requires-in-loop-i-clause-held c m right =
     c.in_ok-labelled.ensures.flooded m c.in_ok-corner.corner (λ x at. subst (λ (d : Corner). IsTileLabelling m d x) c.in_ok-corner.ensures.some.1 (right.labellings c.in_ok-t.t x at))
 
 pub loop-i-preserved : goal.loop-i-preserved
@@ -18,7 +18,8 @@ loop-i-preserved c =
     let known = known_of c.args.tile_cache.now in
     let in_range : SFits w16 c.in_ok-level.level = search rules in
     let v = Some (to_z w16 (of_z w16 c.in_ok-level.level)) in
-    let beside = subst (λ (l : ℤ). IsKnownLevel known c.in_ok-t.t (step (get_or directions i East) c.args.point) (Some l)) (sym (to_z-of_z w16 c.in_ok-level.level in_range)) c.in_ok-level.ensures in
+    let beside = subst (λ (l : ℤ). IsKnownLevel known c.in_ok-t.t (step (get_or directions i East) c.args.point) (Some l)) (sym (to_z-of_z w16 c.in_ok-level.level in_range))
+    (subst (λ p. IsKnownLevel known c.in_ok-t.t p (Some c.in_ok-level.level)) c.in_ok-to.ensures.1 c.in_ok-level.ensures) in
     let around = c.loop-i.around in
     let inv = c.loop-i.invariant in
     let within : i < length around = let small = c.loop-i-test.true in let eight = inv.eight in omega arith in

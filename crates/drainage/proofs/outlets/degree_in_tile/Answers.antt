@@ -47,7 +47,7 @@ loop-step-preserved g c =
           let same = so.reads.mosaic mid in
           let was = so.count mid of in
           let here : c.in_ok-is_adjacent_to.field-0 ≡ f (g.S.Samples.mosaic a) (get_or items k no_step) =
-          c.in_ok-is_adjacent_to.ensures.value honest (subst (λ (m : Mosaic). IsGroundOf m c.args.corner c.args.labelled.now c.args.point) (sym same) of) ∙ ap (λ (m : Mosaic). f m (get_or items k no_step)) same in
+          c.in_ok-is_adjacent_to.ensures.value honest (subst (λ (m : Mosaic). IsGroundOf m c.args.tile.now.corner c.args.tile.now.labelled.now c.args.point) (sym same) of) ∙ ap (λ (m : Mosaic). f m (get_or items k no_step)) same in
           elim c.if-branch.branch [
             | then-branch w ↦ w.count-is ∙ (ap (λ n. n + 1) was ∙ sym (count_by_more_yes (f (g.S.Samples.mosaic a)) items k no_step small (sym here ∙ w.if-branch.true)))
             | else-branch w ↦ w.count-is ∙ (was ∙ sym (count_by_more_no (f (g.S.Samples.mosaic a)) items k no_step small (sym here ∙ w.if-branch.false)))

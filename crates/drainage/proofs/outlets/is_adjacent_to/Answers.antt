@@ -11,14 +11,14 @@ returns-in-Some-clause-value g c honest of =
     let m = g.S.Samples.mosaic now in
     let is = g.met.S.Samples.is_mosaic now honest in
     let e = c.in-Some.index in
-    let labels = c.args.labelled.now.labels in
+    let labels = c.args.tile.now.labelled.now.labels in
     let side : c.side.result ≡ m.side = c.side.ensures ∙ (c.requires.labelled_side ∙ sym (g.met.S.Samples.same_side now honest)) in
-    let at : IsIndexOf m.side c.args.corner c.args.to e = subst (λ n. IsIndexOf n c.args.corner c.args.to e) side c.in-Some.ensures.index in
-    let there = subst (λ (cs : List Corner). Contains cs c.args.corner) (sym (g.met.S.Samples.same_corners now honest)) c.requires.present in
-    let beside = beside_in_tile m is c.args.point c.args.to of.ground c.requires.near c.requires.other c.args.corner there of.held (held_at m.side c.args.corner c.args.to e at) in
+    let at : IsIndexOf m.side c.args.tile.now.corner c.args.to e = subst (λ n. IsIndexOf n c.args.tile.now.corner c.args.to e) side c.in-Some.ensures.index in
+    let there = subst (λ (cs : List Corner). Contains cs c.args.tile.now.corner) (sym (g.met.S.Samples.same_corners now honest)) c.requires.present in
+    let beside = beside_in_tile m is c.args.point c.args.to of.ground c.requires.near c.requires.other c.args.tile.now.corner there of.held (held_at m.side c.args.tile.now.corner c.args.to e at) in
     ap (λ (l : List ℕ). not (nat_eq (slice_index l e) NO_LABEL)) c.labels.ensures.value ∙ (elim (eqb_tells (slice_index labels e) NO_LABEL) [
-      | inl none ↦ ap not none.0 ∙ sym (void_by_label m is c.args.corner there c.args.labelled.now of.flooded c.args.to e at none.1)
-      | inr some ↦ ap not some.0 ∙ sym (ground_by_label m is c.args.corner there c.args.labelled.now of.flooded c.args.to e at some.1)
+      | inl none ↦ ap not none.0 ∙ sym (void_by_label m is c.args.tile.now.corner there c.args.tile.now.labelled.now of.flooded c.args.to e at none.1)
+      | inr some ↦ ap not some.0 ∙ sym (ground_by_label m is c.args.tile.now.corner there c.args.tile.now.labelled.now of.flooded c.args.to e at some.1)
     ] ∙ sym beside)
 
 pub returns-then-holds-clause-value : goal.returns-then-holds-clause-value

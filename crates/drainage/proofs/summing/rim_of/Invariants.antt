@@ -6,5 +6,5 @@ abbrev pub invariant-loop-number : goal.invariant-loop-number
 invariant-loop-number g l = record {
   reads : OnlyReads {T = Unit {0}} g.S.Samples l.fn.samples l.samples (Ok tt);
   ground_cache : g.S.Samples.is_honest l.samples → AreRemembered (g.S.Samples.mosaic l.samples) l.ground_cache;
-  points : g.S.Samples.is_honest l.samples → IsFlooded (g.S.Samples.mosaic l.fn.samples) l.corner l.labelled → AreRimPointsIn (g.S.Samples.mosaic l.fn.samples) l.corner l.labelled.labels l.rim.items l.number;
+  points : g.S.Samples.is_honest l.samples → IsFlooded (g.S.Samples.mosaic l.fn.samples) l.fn.corner l.labelled → AreRimPointsIn (g.S.Samples.mosaic l.fn.samples) l.fn.corner l.labelled.labels l.rim.items l.number;
 }

@@ -15,11 +15,11 @@ returns-then-not-branch-clause-point g c honest _ =
     let rim = c.rim_index-index.ensures in
     let seen = c.in_ok-is_rim_height.ensures in
     let side : c.side-side.result ≡ m.side = c.side-side.ensures ∙ (c.requires.labelled_side ∙ sym (g.met.S.Samples.same_side a (seen.reads.honest honest))) in
-    let point : c.point_at-point.result ≡ point_of m.side c.args.corner e = c.point_at-point.ensures.value ∙ ap (λ n. point_of n c.args.corner e) side in
+    let point : c.point_at-point.result ≡ point_of m.side c.args.tile.now.corner e = c.point_at-point.ensures.value ∙ ap (λ n. point_of n c.args.tile.now.corner e) side in
     let levels = c.levels.ensures in
     let small : e < length c.levels.result.now = subst (λ k. e < k) (sym (ap length levels.value ∙ (levels.whole ∙ ap (λ n. n * n) (sym c.side-side.ensures)))) rim.small in
     let fits : SFits w16 (slice_index_or c.levels.result.now e (pos 0)) = search rules in
-    let level = same_level c.levels.result.now c.args.labelled.now.levels e small levels.value fits in
+    let level = same_level c.levels.result.now c.args.tile.now.labelled.now.levels e small levels.value fits in
     record {
       number = c.args.number;
       index = e;
@@ -48,22 +48,22 @@ returns-clause-point g c honest flooded =
     let seen = c.in_ok-is_rim_height.ensures.reads in
     let mid = c.in_ok-is_outlet.ensures.reads.honest honest in
     let side : c.side-side.result ≡ m.side = c.side-side.ensures ∙ (c.requires.labelled_side ∙ sym (g.met.S.Samples.same_side a (seen.honest mid))) in
-    let point : c.point_at-point.result ≡ point_of m.side c.args.corner e = c.point_at-point.ensures.value ∙ ap (λ n. point_of n c.args.corner e) side in
+    let point : c.point_at-point.result ≡ point_of m.side c.args.tile.now.corner e = c.point_at-point.ensures.value ∙ ap (λ n. point_of n c.args.tile.now.corner e) side in
     let levels = c.levels.ensures in
     let small : e < length c.levels.result.now = subst (λ k. e < k) (sym (ap length levels.value ∙ (levels.whole ∙ ap (λ n. n * n) (sym c.side-side.ensures)))) rim.small in
     let fits : SFits w16 (slice_index_or c.levels.result.now e (pos 0)) = search rules in
-    let level = same_level c.levels.result.now c.args.labelled.now.levels e small levels.value fits in
+    let level = same_level c.levels.result.now c.args.tile.now.labelled.now.levels e small levels.value fits in
     let on : IsRimPoint m.side c.args.number e = subst (λ n. IsRimPoint n c.args.number e) side (record { small = rim.small; rim = rim.rim; number = rim.number }) in
     let seen_true : c.args.is_flooded || int_eq (to_z w16 (of_z w16 (slice_index_or c.levels.result.now e (pos 0)))) (metres (height_of m c.point_at-point.result)) ≡ true = sym (c.in_ok-is_rim_height.ensures.value mid) ∙ c.if-not-branch.false in
     record {
       index = e;
       number = on;
       height = elim (or_cases c.args.is_flooded (int_eq (to_z w16 (of_z w16 (slice_index_or c.levels.result.now e (pos 0)))) (metres (height_of m c.point_at-point.result))) seen_true) [
-        | inl sure ↦ level ∙ rim_height m c.args.corner c.args.labelled.now flooded c.args.number e on
+        | inl sure ↦ level ∙ rim_height m c.args.tile.now.corner c.args.tile.now.labelled.now flooded c.args.number e on
         | inr same ↦ (Decides-int_eq _ _).0 same ∙ ap (λ p. metres (height_of m p)) point
       ];
       label = search rules;
-      outlet = c.in_ok-is_outlet.ensures.value honest (subst (λ (s : Mosaic). IsFlooded s c.args.corner c.args.labelled.now) (sym (seen.mosaic mid)) flooded) ∙ (ap (λ (s : Mosaic). is_outlet s c.point_at-point.result) (seen.mosaic mid) ∙ ap (is_outlet m) point);
+      outlet = c.in_ok-is_outlet.ensures.value honest (subst (λ (s : Mosaic). IsFlooded s c.args.tile.now.corner c.args.tile.now.labelled.now) (sym (seen.mosaic mid)) flooded) ∙ (ap (λ (s : Mosaic). is_outlet s c.point_at-point.result) (seen.mosaic mid) ∙ ap (is_outlet m) point);
     }
 
 pub returns-clause-reads : goal.returns-clause-reads

@@ -2,14 +2,11 @@ use Rattle.drainage.proofs.Prelude.{IsHeldOf, Mosaic, rules, subst, sym}
 use Rattle.drainage.proofs.Questions.Questioned.{short_here}
 use Rattle.drainage.proofs.whole_tiles.levels.Goals as goal
 
-pub returns-in_err-t-clause-asked : goal.returns-in_err-t-clause-asked
-returns-in_err-t-clause-asked g c = short_here g.S.Samples g.met.S.Samples.keeps_itself c.args.samples.now c.from_residual.result (search rules)
-
 pub returns-in_err-tile_cache-clause-held : goal.returns-in_err-tile_cache-clause-held
 returns-in_err-tile_cache-clause-held g c honest = c.take.ensures.left (g.S.Samples.mosaic c.args.samples.now) (c.requires.held honest)
 
 pub returns-in_err-tile_cache-clause-asked : goal.returns-in_err-tile_cache-clause-asked
-returns-in_err-tile_cache-clause-asked g c = short_here g.S.Samples g.met.S.Samples.keeps_itself c.args.samples.now c.from_residual-in_err-tile_cache.result (search rules)
+returns-in_err-tile_cache-clause-asked g c = short_here g.S.Samples g.met.S.Samples.keeps_itself c.args.samples.now c.from_residual.result (search rules)
 
 pub returns-clause-held : goal.returns-clause-held
 returns-clause-held g c honest =

@@ -11,10 +11,11 @@ tour-init g c =
       ready = told.ready;
       follows = told.follows;
       keeps = told.keeps;
+      tile = (refl, refl);
       tour = λ m level tells filled known solid.
           let is = g.met.F.FlowSource.is_mosaic c.donors.new.flows m level tells in
           let counting = begun m is level filled first solid c.in_ok-donors.donors (told.donors m level tells) in (
-            known_still (terrain m) level c.args.side c.args.corner c.args.counts.now known,
+            known_still (terrain m) level c.args.counts.now known,
             subst (λ (b : Branch). IsTour (terrain m) level first b c.new-waiting.result.items) (sym c.of-at.ensures)
                 (subst (IsTour (terrain m) level first _) (sym c.new-waiting.ensures.items) (tour_begins m is level filled first _ refl counting)),
           );
@@ -32,6 +33,7 @@ tour-preserved-then-at-lt8 g c =
       ready = told.ready;
       follows = laws.follows_on first old new inv.follows told.follows;
       keeps = laws.keeps_on first old new inv.keeps told.keeps;
+      tile = inv.tile;
       tour = λ m level tells filled known solid.
           let so_far = inv.tour m level (laws.told_before old new m level told.follows tells) filled known solid in
           let is = laws.is_mosaic new m level tells in
@@ -60,13 +62,14 @@ tour-preserved g c =
       ready = inv.ready;
       follows = inv.follows;
       keeps = inv.keeps;
+      tile = (c.set.ensures.tile.0 ∙ inv.tile.0, c.set.ensures.tile.1 ∙ inv.tile.1);
       tour = λ m level tells filled known solid.
           let is = g.met.F.FlowSource.is_mosaic c.tour.flows m level tells in
           let so_far = inv.tour m level tells filled known solid in
           let skipped = tour_skips m is level filled c.args.first c.tour.at c.next_donor.result c.tour.waiting.items so_far.1 c.next_donor.ensures in
           let counted = finished m is level filled at c.if-at-lt8.false skipped.counting in
-          let more = c.set_count.ensures (terrain m) level so_far.0.right counted in (
-            still_on (terrain m) level c.args.side c.args.corner c.args.counts.now c.tour.counts c.set_count.new.counts so_far.0 more,
+          let more = c.set.ensures.counted (terrain m) level so_far.0.right counted in (
+            still_on (terrain m) level c.args.counts.now c.tour.counts c.set.new.self so_far.0 more,
             subst (λ (b : Branch). IsTour (terrain m) level c.args.first b rest) (sym c.in_ok-at-2.ensures.counted)
                 (tour_returns m is level filled c.args.first at below c.tour.waiting.items rest skipped was c.if-at-lt8.false),
           );

@@ -1,4 +1,4 @@
-use Rattle.watershed.proofs.Prelude.{AreCounted, AreFilledLevels, AreStillCounted, IsTour, IsTrue, Mosaic, Point, ℤ, is_ground, terrain}
+use Rattle.watershed.proofs.Prelude.{AreCounted, AreFilledLevels, AreStillCounted, IsTour, IsTrue, Mosaic, Point, ℤ, is_ground, terrain, ◌≡◌}
 use Rattle.watershed.proofs.counting.count_from.Given as goal
 
 abbrev pub invariant-tour : goal.invariant-tour
@@ -6,8 +6,9 @@ invariant-tour g l = record {
   ready : g.F.FlowSource.is_ready l.flows;
   follows : g.F.FlowSource.follows l.fn.flows l.flows;
   keeps : g.F.FlowSource.keeps l.fn.flows l.flows;
-  tour : (m : Mosaic) (level : Point → ℤ) → g.F.FlowSource.tells l.flows m level → AreFilledLevels (terrain m) level → AreCounted (terrain m) level l.side l.corner l.fn.counts → IsTrue (is_ground m l.fn.first)
-      → AreStillCounted (terrain m) level l.side l.corner l.fn.counts l.counts × IsTour (terrain m) level l.fn.first l.at l.waiting.items;
+  tile : (l.counts.side ≡ l.fn.counts.side) × (l.counts.corner ≡ l.fn.counts.corner);
+  tour : (m : Mosaic) (level : Point → ℤ) → g.F.FlowSource.tells l.flows m level → AreFilledLevels (terrain m) level → AreCounted (terrain m) level l.fn.counts → IsTrue (is_ground m l.fn.first)
+      → AreStillCounted (terrain m) level l.fn.counts l.counts × IsTour (terrain m) level l.fn.first l.at l.waiting.items;
 }
 
 abbrev pub decreases-tour : goal.decreases-tour

@@ -1,5 +1,6 @@
-use Rattle.std.proofs.Common.{rules}
-use Rattle.watershed.proofs.Prelude.{IsCounted, IsTrue, Point, arith, cases_Bool, get_or-set_same, inl, inr, is_ground, length, subst, sym, terrain, true≢false, ◌*◌, ◌∙◌, ◌≡◌}
+use Rattle.lattice.specs.Lattice.{IsIndexOf}
+use Rattle.watershed.proofs.Prelude.{IsTrue, Point, arith, cases_Bool, get_or-set_same, inl, inr, is_ground, subst, sym, terrain, true≢false, ◌*◌, ◌<◌, ◌∙◌}
+use Rattle.std.proofs.Common.{subst₂}
 use Rattle.watershed.proofs.Known.{counted_some, known_more, still_on}
 use Rattle.watershed.proofs.counting.count_sample.Goals as goal
 
@@ -13,9 +14,12 @@ returns-clause-counted g c m level tells filled known =
       | inr off ↦ absurd (true≢false (sym (c.is_no_ground.ensures.1 (flow.elsewhere.1 off)) ∙ c.if-is_no_ground.false))
     ] in
     let so_far = told.counted m level tells filled known solid in
-    let count = subst (λ (p : Point). IsCounted (terrain m) level p c.in_ok-count.count) c.point_at-point.ensures.value (told.count m level tells filled known solid) in
-    still_on (terrain m) level c.args.side c.args.corner c.args.counts.now c.count_from.new.counts _ so_far
-    (known_more (terrain m) level c.args.side c.args.corner c.count_from.new.counts c.args.index c.in_ok-count.count (c.count_from.auto.counts ∙ c.requires.whole) so_far.right c.requires.index count)
+    still_on (terrain m) level c.args.counts.now c.count_from.new.counts _ so_far
+    (known_more (terrain m) level c.count_from.new.counts c.point_at-point.result c.args.index c.in_ok-count.count _ (subst₂ (λ n k. IsIndexOf n k c.point_at-point.result c.args.index) (sym told.tile.0) (sym told.tile.1) c.point_at-point.ensures.index) so_far.right (told.count m level tells filled known solid))
 
 pub returns-clause-known : goal.returns-clause-known
-returns-clause-known g c m level tells filled known on none = search (rules, is_ground, counted_some, get_or-set_same)
+returns-clause-known g c m level tells filled known on none =
+    let within = subst (λ n. c.args.index < n * n) (sym c.in_ok-count.ensures.tile.0) c.requires.index in
+    let told = c.in_ok-count.ensures in
+    let count = told.count m level tells filled known (subst (λ (p : Point). IsTrue (is_ground m p)) (sym c.point_at-point.ensures.value) on) in
+    counted_some (terrain m) level c.point_at-point.result c.in_ok-count.count count (sym (get_or-set_same c.count_from.new.counts.counts.items c.args.index c.in_ok-count.count 0 (omega (arith, within, c.count_from.new.counts.whole))) ∙ none)

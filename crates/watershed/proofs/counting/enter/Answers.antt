@@ -18,10 +18,9 @@ returns-then-count-gt0-clause-tour g c = IfOk-weaker c.with.result _ _
     let d : Dir = get_or directions at.looked East in
     let place : order_of d ≡ at.looked = order_at at.looked East c.requires.looked in
     let is = g.met.F.FlowSource.is_mosaic c.args.flows.now m level tells in
-    let told : get_or at.donors (order_of d) false ≡ true = subst (λ k. get_or at.donors k false ≡ true) (sym place) c.requires.donor in
-    let drains = (tour.counting.branch.donors d (order_below d)).0 told in
-    let count = c.count_at-count.result in
-    let counted : IsCounted (terrain m) level c.in-Some.donor count = ⊎_elim (λ none. absurd (omega (arith, none, c.if-count-gt0.true))) (λ some. some) (c.count_at-count.ensures (terrain m) level known) in
+    let drains = (tour.counting.branch.donors d (order_below d)).0 (subst (λ k. get_or at.donors k false ≡ true) (sym place) c.requires.donor) in
+    let count = c.at-count.result in
+    let counted : IsCounted (terrain m) level c.in-Some.donor count = ⊎_elim (λ none. absurd (omega (arith, none, c.if-count-gt0.true))) (λ some. some) (c.at-count.ensures (terrain m) level known) in
     subst (λ (b : Branch). IsTour (terrain m) level first b c.args.waiting.now.items) (sym is_next)
     (tour_stays m is level filled first at _ c.args.waiting.now.items refl tour
     (added m is level filled at d place tour.counting count drains (subst (λ (q : Point). IsCounted (terrain m) level q count) c.in-Some.ensures.1 counted))))
@@ -34,8 +33,7 @@ returns-clause-tour g c m level tells filled known first tour =
     let d : Dir = get_or directions at.looked East in
     let place : order_of d ≡ at.looked = order_at at.looked East c.requires.looked in
     let is = laws.is_mosaic c.donors.new.flows m level tells in
-    let told : get_or at.donors (order_of d) false ≡ true = subst (λ k. get_or at.donors k false ≡ true) (sym place) c.requires.donor in
-    let drains = (tour.counting.branch.donors d (order_below d)).0 told in
+    let drains = (tour.counting.branch.donors d (order_below d)).0 (subst (λ k. get_or at.donors k false ≡ true) (sym place) c.requires.donor) in
     let donor = c.in-Some.donor in
     let leads : step d at.point ≡ donor = sym c.in-Some.ensures.1 in
     let solid : IsTrue (is_ground m donor) = subst (λ (q : Point). IsTrue (is_ground m q)) leads drains.0 in

@@ -1,0 +1,40 @@
+//! What is known of how many points drain through each sample of a tile.
+ghost use Rattle.std.specs.Prelude.{◌≡◌, ◌*◌, length};
+
+use lattice::{Corner, Point, Side, index_in};
+
+/// The counts of the tile's samples, row by row from the north, west first; 0 where nothing is known.
+#[derive(Drop)]
+pub(crate) struct TileCounts {
+    pub(crate) side: Side,
+    pub(crate) corner: Corner,
+    pub(crate) counts: Vec<u32>,
+    ghost whole: { length counts.items ≡ side * side },
+}
+
+impl TileCounts {
+    ghost use Rattle.std.specs.Prelude.{◌≡◌, ◌⊎◌, ℤ};
+    ghost use Rattle.lattice.specs.Terrain.{Terrain};
+    ghost use Rattle.lattice.specs.declared.point.Point.{Point};
+    ghost use Rattle.watershed.specs.Counting.{AreCounted, AreStillCounted, IsCounted};
+
+    /// What is known of the point; 0 where nothing is.
+    pub(crate) fn at(&self, point: Point) -> u32
+        ensures { (t : Terrain Point) (level : Point → ℤ) → AreCounted t level self.now → (result ≡ 0) ⊎ IsCounted t level point result }
+    {
+        match index_in(self.side, self.corner, point) {
+            Some(index) => self.counts[index as usize],
+            None => 0,
+        }
+    }
+
+    /// Keeps the count of the point, where the tile holds it.
+    pub(crate) fn set(&mut self, point: Point, count: u32)
+        ensures tile { (self.new.side ≡ self.old.side) × (self.new.corner ≡ self.old.corner) }
+        ensures counted { (t : Terrain Point) (level : Point → ℤ) → AreCounted t level self.old → IsCounted t level point count → AreStillCounted t level self.old self.new }
+    {
+        if let Some(index) = index_in(self.side, self.corner, point) {
+            self.counts[index as usize] = count;
+        }
+    }
+}
