@@ -1,5 +1,5 @@
 -- The names that many proofs of this crate cite, passed on from one place. Declares nothing.
-pub use Rattle.border_graph.specs.Bottleneck.{AreRaised, HasLevel, IsEnd, IsExpanded, IsSearching, IsSettledBy}
+pub use Rattle.border_graph.specs.Bottleneck.{AreRaised, HasLevel, IsEnd, IsSearching, IsSettledBy}
 pub use Rattle.border_graph.specs.Edges.{AreAllEdges, AreEdges, IsReachedBelow}
 pub use Rattle.border_graph.specs.Forest.{IsForestSoFar, IsRisingBy}
 pub use Rattle.border_graph.specs.Frontier.{IsNext, NoneLeft, is_among}

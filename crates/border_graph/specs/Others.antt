@@ -1,5 +1,5 @@
 -- The edges from a rim point, in its tile and to the same point of other tiles, as they are listed.
-use Rattle.std.specs.Prelude.{◌≡◌, ◌≢◌, ℕ, ◌+◌, ◌-◌, ◌*◌, ◌^◌, ◌<◌, ◌≤◌, ℤ, pos, ◌⊎◌, List, Contains, length, slice_index_or}
+use Rattle.std.specs.Prelude.{◌≡◌, ◌≢◌, ℕ, ◌+◌, ◌-◌, ◌*◌, ◌^◌, ◌<◌, ◌≤◌, ℤ, pos, ◌⊎◌, List, Option, IfSome, MatchOption, Contains, length, slice_index_or}
 use Rattle.lattice.specs.declared.point.Point.{Point}
 use Rattle.lattice.specs.Corners.{Corner}
 use Rattle.lattice.specs.Lattice.{IsIndexOf, point_of}
@@ -37,17 +37,23 @@ module _ (n : ℕ) (corners : List Corner) (t : ℕ) (p : Point) (height : ℤ) 
   abbrev pub IsOtherListed : Corner → List Edge → Type 0
   IsOtherListed c new = (u e : ℕ) → u < length corners → corner_at corners u ≡ c → t ≢ u → IsIndexOf n c p e → Contains new (record { level = height; to = node_number n (Rim u (rim_number n e)) })
 
-  -- that one was added, and none but edges to other tiles that hold the point
-  pub record AddsOther (c : Corner) (old new : List Edge) : Type 0 where
-    pub still : AreListedStill old new
-    pub only : (way : Edge) → Contains new way → Contains old way ⊎ IsToOther way
-    pub listed : AreApart corners → IsOtherListed c new
-
   -- those in all other tiles that hold the point
   pub record AddsOthers (old new : List Edge) : Type 0 where
     pub still : AreListedStill old new
     pub only : (way : Edge) → Contains new way → Contains old way ⊎ IsToOther way
     pub listed : AreApart corners → (c : Corner) → IsOtherListed c new
+
+-- the node of the point in the tile of the corner, where that is another tile that holds it
+pub record IsOtherNode (n : ℕ) (corners : List Corner) (t : ℕ) (p : Point) (c : Corner) (found : Option ℕ) : Type 0 where
+  pub only : (height : ℤ) → IfSome found (λ to. IsToOther n corners t p height (record { level = height; to = to }))
+  pub all : AreApart corners → (u e : ℕ) → u < length corners → corner_at corners u ≡ c → t ≢ u → IsIndexOf n c p e → MatchOption found ⊥ (λ to. to ≡ node_number n (Rim u (rim_number n e)))
+
+-- the edges from a rim point of a tile to the same point of the others, unless it is void
+pub record AreEdgesToOthers (n : ℕ) (corners : List Corner) (ways : TileGraph) (t k : ℕ) (old new : List Edge) : Type 0 where
+  pub index : ℕ
+  pub rim : IsRimPoint n k index
+  pub nothing : (rim_point ways.summary k).height ≡ void → new ≡ old
+  pub others : (rim_point ways.summary k).height ≢ void → AddsOthers n corners t (point_of n (corner_at corners t) index) (rim_point ways.summary k).height old new
 
 -- the edges from a rim point of a tile, listed one kind after another
 pub record AreTileEdges (n : ℕ) (corners : List Corner) (ways : TileGraph) (t k : ℕ) (old new : List Edge) : Type 0 where

@@ -3,12 +3,12 @@ ghost use Rattle.std.specs.Prelude.{◌≡◌, ℕ, ℤ, ◌<◌, ◌⊎◌, Lis
 ghost use Rattle.border_graph.specs.Links.{IsJoinedLevel, IsWayBelow};
 ghost use Rattle.border_graph.specs.Summaries.{Summary};
 ghost use Rattle.border_graph.specs.Joining.{AreOfMosaic};
-ghost use Rattle.border_graph.specs.Edges.{AreAllEdges, IsTileReached};
+ghost use Rattle.border_graph.specs.Edges.{AreAllEdges, AreEdges, IsTileReached};
 ghost use Rattle.border_graph.specs.Placed.{IsPlacedLink, IsOfTile};
 ghost use Rattle.border_graph.specs.Crests.{LeadsOut, IsLeastCrest};
 ghost use Rattle.border_graph.specs.declared.edge_source.Edge.{Edge as EdgeOf};
 ghost use Rattle.border_graph.specs.Frontier.{IsNext, NoneLeft};
-ghost use Rattle.border_graph.specs.Bottleneck.{IsExpanded, IsEnd, AreRaised, IsSettledBy, HasLevel, raised};
+ghost use Rattle.border_graph.specs.Bottleneck.{IsEnd, AreRaised, IsSettledBy, HasLevel, raised};
 ghost use Rattle.border_graph.specs.declared.bottleneck.Settled.{Settled as SettledOf};
 
 use crate::frontier::{Entry, Frontier};
@@ -62,18 +62,11 @@ pub fn lowest_pass<S, G: EdgeSource<S>>(
     })?;
     'rise: while let Some(entry) = pop_unvisited(&mut frontier, &mut visited)? {
         let mut edges = Vec::new(alloc);
-        if let Some(level) = expand(
-            alloc,
-            graph,
-            source,
-            entry,
-            &visited,
-            &mut frontier,
-            &mut edges,
-        )? {
+        if let Some(level) = expand(alloc, graph, source, entry, &mut edges)? {
             list_alike(&settled, level, alike)?;
             return Ok(Some(level));
         }
+        push_all(entry, &edges, &visited, &mut frontier)?;
         settle(&mut settled, entry, &edges)?;
     }
     Ok(None)
@@ -148,22 +141,21 @@ fn pop_unvisited(
     Ok(None)
 }
 
-// Lists the edges from the entry's node, and puts each node on the frontier to which one leads, unless it is visited. Or,
-// where that is the outlet node or its level is known, the least crest of the paths on from there that go through it.
+// Lists the edges from the entry's node. Or, where that is the outlet node or its level is known, the least crest of the
+// paths on from there that go through it.
 fn expand<S, G: EdgeSource<S>>(
     alloc: Global,
     graph: &mut G,
     source: &mut S,
     entry: Entry,
-    visited: &Visited,
-    frontier: &mut Frontier,
     edges: &mut Vec<Edge>,
 ) -> Result<Option<i16>, Refusal>
     requires empty { edges.old.items ≡ [] }
     ensures ends { (n : ℕ) (summaries : List Summary) → G.fits graph.new n summaries → AreOfMosaic n summaries
         → IfOk result (λ found. IfSome found (IsEnd (IsPlacedLink n summaries) entry)) }
-    ensures followed { (n : ℕ) (summaries : List Summary) → G.fits graph.new n summaries
-        → IfOk result (λ found. IfNone found (IsExpanded (IsPlacedLink n summaries) (AreOfMosaic n summaries) visited.now frontier.old frontier.new entry)) }
+    ensures inner { IfOk result (λ found. IfNone found (0 < entry.node)) }
+    ensures exactly { (n : ℕ) (summaries : List Summary) → G.fits graph.new n summaries → AreOfMosaic n summaries
+        → IfOk result (λ found. IfNone found (AreEdges (IsPlacedLink n summaries) entry.node edges.new.items)) }
     ensures listed { (n : ℕ) (summaries : List Summary) → G.fits graph.new n summaries
         → IfOk result (λ found. IfNone found (AreAllEdges (IsPlacedLink n summaries) entry.node edges.new.items)) }
     ensures asked { (n : ℕ) (summaries : List Summary) → G.fits graph.new n summaries → (t : ℕ) → G.asked graph.new t → G.asked graph.old t ⊎ IsOfTile n t entry.node }
@@ -177,7 +169,6 @@ fn expand<S, G: EdgeSource<S>>(
     if let Some(level) = graph.edges_from(alloc, source, entry.node, edges)? {
         return Ok(Some(entry.crest.max(level)));
     }
-    push_all(entry, edges, visited, frontier)?;
     Ok(None)
 }
 

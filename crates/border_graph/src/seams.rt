@@ -1,7 +1,7 @@
 //! The edges from a rim point in its tile and to the same point of other tiles, and the numbers of nodes.
-ghost use Rattle.std.specs.Prelude.{◌≡◌, ◌≢◌, ℕ, ◌+◌, ◌*◌, ◌-◌, ◌^◌, ◌<◌, ◌≤◌, ◌⊎◌, [], ◌∷◌, ◌++◌, IfErr, OnOk, IfSome, IfNone, length};
+ghost use Rattle.std.specs.Prelude.{◌≡◌, ◌≢◌, ℕ, ◌+◌, ◌*◌, ◌-◌, ◌^◌, ◌<◌, ◌≤◌, ◌⊎◌, [], ◌∷◌, ◌++◌, IfOk, IfErr, OnOk, IfSome, IfNone, length};
 ghost use Rattle.lattice.specs.declared.refusal.Refusal.TheVariants.{NoMemory, Damaged};
-ghost use Rattle.border_graph.specs.Others.{corner_at, AreTooMany, AddsOther, AddsOthers, AreTileEdges};
+ghost use Rattle.border_graph.specs.Others.{corner_at, AreTooMany, IsOtherNode, AreEdgesToOthers, AreTileEdges};
 
 use crate::Edge;
 use crate::tile_graph::TileGraph;
@@ -37,65 +37,68 @@ pub fn list_edges(
     let first = last - 1 - side.rim();
     graph.edges_out(k, into)?;
     graph.edges_across(first, k, into)?;
+    edges_to_others(corners, graph, t, k, into)?;
+    Ok(())
+}
+
+// Lists the edges from the rim point to the same point of the other tiles that hold it, unless it is void.
+//
+// Damaged where there are more rim points than numbers for them. Otherwise NoMemory is the only refusal.
+fn edges_to_others(
+    corners: &[Corner],
+    graph: &TileGraph,
+    t: usize,
+    k: u32,
+    into: &mut Vec<Edge>,
+) -> Result<(), Refusal>
+    requires number { k < 4 * (graph.now.side - 1) }
+    requires place { t < length corners.now }
+    ensures edges { OnOk result (AreEdgesToOthers graph.now.side corners.now graph.now t k into.old.items into.new.items) }
+    ensures refusal { IfErr result (λ r. (r ≡ NoMemory) ⊎ ((r ≡ Damaged) × AreTooMany graph.now.side corners.now)) }
+{
+    let side = graph.side();
+    let point = point_at(side, corners[t], rim_index(side, k));
     let height = graph.height(k);
     if height == VOID {
         return Ok(());
     }
-    let point = point_at(side, corners[t], rim_index(side, k));
-    edges_to_others(side, corners, t, point, height, into)?;
-    Ok(())
-}
-
-// Lists the edges from a point of a tile to the same point of the others that hold it, at its height in metres.
-//
-// Damaged where there are more rim points than numbers for them. Otherwise NoMemory is the only refusal.
-fn edges_to_others(
-    side: Side,
-    corners: &[Corner],
-    t: usize,
-    point: Point,
-    height: i16,
-    into: &mut Vec<Edge>,
-) -> Result<(), Refusal>
-    ensures edges { OnOk result (AddsOthers side corners.now t point height into.old.items into.new.items) }
-    ensures refusal { IfErr result (λ r. (r ≡ NoMemory) ⊎ ((r ≡ Damaged) × AreTooMany side corners.now)) }
-{
     let holding = holders(side, point);
     for corner in holding.as_slice() {
-        edge_to_other(side, corners, t, point, height, *corner, into)?;
+        if let Some(to) = other_node(side, corners, t, point, *corner)? {
+            add(into, Edge { level: height, to })?;
+        }
     }
     Ok(())
 }
 
-// Lists the edge to the same point of the tile at the corner, where there is one and it is another.
-fn edge_to_other(
+// The node of the point in the tile at the corner, where there is one that holds it and it is another than this.
+//
+// Damaged where there are more rim points than numbers for them, which is the only refusal.
+fn other_node(
     side: Side,
     corners: &[Corner],
     t: usize,
     point: Point,
-    height: i16,
     corner: Corner,
-    into: &mut Vec<Edge>,
-) -> Result<(), Refusal>
-    ensures edge { OnOk result (AddsOther side corners.now t point height corner into.old.items into.new.items) }
-    ensures refusal { IfErr result (λ r. (r ≡ NoMemory) ⊎ ((r ≡ Damaged) × AreTooMany side corners.now)) }
+) -> Result<Option<u32>, Refusal>
+    ensures node { IfOk result (IsOtherNode side corners.now t point corner) }
+    ensures refusal { IfErr result (λ r. (r ≡ Damaged) × AreTooMany side corners.now) }
 {
     // The side is known to be in range once it was read.
     let _edge = side.edge();
     let Some(u) = place_of(corners, corner) else {
-        return Ok(());
+        return Ok(None);
     };
     if u == t {
-        return Ok(());
+        return Ok(None);
     }
     let Some(index) = index_in(side, corner, point) else {
-        return Ok(());
+        return Ok(None);
     };
     let Some(to) = node_at(side, u, rim_number(side, index)) else {
         return Err(Refusal::Damaged);
     };
-    add(into, Edge { level: height, to })?;
-    Ok(())
+    Ok(Some(to))
 }
 
 // One edge more.

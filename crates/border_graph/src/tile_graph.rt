@@ -4,7 +4,7 @@ ghost use Rattle.lattice.specs.declared.refusal.Refusal.TheVariants.{NoMemory};
 ghost use Rattle.tile_flood.specs.Labelling.{OUT as OUT_LABEL};
 ghost use Rattle.border_graph.specs.Joining.{IsThere, rim_point};
 ghost use Rattle.border_graph.specs.Reordered.{IsReordered};
-ghost use Rattle.border_graph.specs.TileGraph.{out_at, across, AreListed, AreTileRows, AreEdgesOut, AreEdgesAcross};
+ghost use Rattle.border_graph.specs.TileGraph.{out_at, across, AreListed, AreEdgesOut, AreEdgesAcross};
 
 use crate::Edge;
 use crate::rows::{ground_rim_point, row, turned_spills};
@@ -81,7 +81,17 @@ impl TileGraph {
         requires { k < 4 * (self.now.side - 1) }
         ensures { OnOk result (AreEdgesOut self.now.side self.now.summary k into.old.items into.new.items) }
     {
-        list_out(self.side, &self.summary, &self.back, k, into)
+        let Some(point) = ground_rim_point(self.side, &self.summary, k) else {
+            return Ok(());
+        };
+        let own = Spill {
+            a: k as u16,
+            b: exit_of(point),
+            level: point.height,
+        };
+        push_out(&[own], into)?;
+        push_out(row(self.summary.spills(), k as u16), into)?;
+        Ok(())
     }
 
     /// Lists the edges from the rim point with this number to the others of its tile, whose nodes are numbered from
@@ -91,33 +101,21 @@ impl TileGraph {
         requires room { first + 4 * (self.now.side - 1) < 2 ^ 32 }
         ensures { OnOk result (AreEdgesAcross self.now.side self.now.summary k first into.old.items into.new.items) }
     {
-        list_across(self.side, &self.summary, &self.back, first, k, into)
+        let Some(point) = ground_rim_point(self.side, &self.summary, k) else {
+            return Ok(());
+        };
+        let label = Spill {
+            a: k as u16,
+            b: point.label,
+            level: point.height,
+        };
+        push_across(self.side, &self.summary, first, &[label], into)?;
+        let spills = row(self.summary.spills(), k as u16);
+        push_across(self.side, &self.summary, first, spills, into)?;
+        let back = row(&self.back, k as u16);
+        push_across(self.side, &self.summary, first, back, into)?;
+        Ok(())
     }
-}
-
-// Lists the edges from a rim point to the outlet node.
-fn list_out(
-    side: Side,
-    summary: &Summary,
-    back: &[Spill],
-    k: u32,
-    into: &mut Vec<Edge>,
-) -> Result<(), AllocError>
-    requires number { k < 4 * (side - 1) }
-    requires rows { AreTileRows side summary.now back.now }
-    ensures { OnOk result (AreEdgesOut side summary.now k into.old.items into.new.items) }
-{
-    let Some(point) = ground_rim_point(side, summary, k) else {
-        return Ok(());
-    };
-    let own = Spill {
-        a: k as u16,
-        b: exit_of(point),
-        level: point.height,
-    };
-    push_out(&[own], into)?;
-    push_out(row(summary.spills(), k as u16), into)?;
-    Ok(())
 }
 
 // OUT for an outlet of the mosaic, else the point's label.
@@ -148,34 +146,6 @@ fn out_at(spill: Spill) -> Edge
         level: spill.level,
         to: 0,
     }
-}
-
-// Lists the edges from a rim point to the others of its tile.
-fn list_across(
-    side: Side,
-    summary: &Summary,
-    back: &[Spill],
-    first: u32,
-    k: u32,
-    into: &mut Vec<Edge>,
-) -> Result<(), AllocError>
-    requires number { k < 4 * (side - 1) }
-    requires room { first + 4 * (side - 1) < 2 ^ 32 }
-    requires rows { AreTileRows side summary.now back.now }
-    ensures { OnOk result (AreEdgesAcross side summary.now k first into.old.items into.new.items) }
-{
-    let Some(point) = ground_rim_point(side, summary, k) else {
-        return Ok(());
-    };
-    let label = Spill {
-        a: k as u16,
-        b: point.label,
-        level: point.height,
-    };
-    push_across(side, summary, first, &[label], into)?;
-    push_across(side, summary, first, row(summary.spills(), k as u16), into)?;
-    push_across(side, summary, first, row(back, k as u16), into)?;
-    Ok(())
 }
 
 // Lists an edge to each ground rim point that a spill of the row leads to.

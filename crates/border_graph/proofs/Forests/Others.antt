@@ -1,8 +1,8 @@
 -- The edges to the same point of other tiles, corner by corner.
-use Rattle.std.proofs.Common.{◌≡◌, ◌≢◌, ℕ, ◌+◌, ◌*◌, ◌-◌, ◌^◌, ◌<◌, ◌≤◌, ◌⊎◌, inl, inr, ℤ, List, [], ◌∷◌, ◌++◌, length, get_or, refl, sym, ap, ◌∙◌, subst, arith, Contains, mul-le-mul_right}
+use Rattle.std.proofs.Common.{◌≡◌, ◌≢◌, ℕ, ◌+◌, ◌*◌, ◌-◌, ◌^◌, ◌<◌, ◌≤◌, ◌⊎◌, inl, inr, ℤ, List, [], ◌∷◌, ◌++◌, length, get_or, refl, sym, ap, ◌∙◌, subst, arith, Contains, None, Some, mul-le-mul_right}
 use Rattle.border_graph.proofs.Prelude.{AddsOthers, Corner, Edge, Point, Rim, cases_lt, corner_at, get_or_default, held_at, index_unique, node_number, rim_number}
 use Rattle.lattice.specs.Lattice.{Holds, IsIndexOf}
-use Rattle.border_graph.specs.Others.{AreApart, AreTooMany, IsToOther, IsOtherListed, AddsOther}
+use Rattle.border_graph.specs.Others.{AreApart, AreTooMany, IsToOther, IsOtherListed, IsOtherNode}
 use Rattle.border_graph.proofs.Listing.{still_more, last_has, before_or_last}
 
 -- more numbers than there are
@@ -17,31 +17,47 @@ too_many n corners u l small number past =
     within : (a size whole l : ℕ) → a + size ≤ whole → l < size → 2 ^ 32 ≤ 1 + a + l → 2 ^ 32 ≤ 1 + whole
     within a size whole l le less past = omega arith
 
-module _ (n : ℕ) (corners : List Corner) (t : ℕ) (p : Point) (height : ℤ) (c : Corner) where
-  pub one_added : (u e : ℕ) → u < length corners → corner_at corners u ≡ c → t ≢ u → IsIndexOf n c p e → (old new : List Edge) (way : Edge) → way.to ≡ node_number n (Rim u (rim_number n e)) → way.level ≡ height → new ≡ old ++ way ∷ [] → AddsOther n corners t p height c old new
-  one_added u e small at other index old new way to level is = record {
+pub one_node : (n : ℕ) (corners : List Corner) (t : ℕ) (p : Point) (c : Corner) (u e to : ℕ) → u < length corners → corner_at corners u ≡ c → t ≢ u → IsIndexOf n c p e → to ≡ node_number n (Rim u (rim_number n e)) → IsOtherNode n corners t p c (Some to)
+one_node n corners t p c u e to small at other index is = record {
+  only = λ height. record { tile = u; small = small; apart = other; index = e; at = subst (λ d. IsIndexOf n d p e) (sym at) index; to = is; level = refl };
+  all = λ apart v f v_small v_at v_other v_index.
+      let tile : u ≡ v = apart u v small v_small (at ∙ sym v_at) in
+      let place : e ≡ f = index_unique n c p e f index v_index in
+      is ∙ (ap (λ x. node_number n (Rim x (rim_number n e))) tile ∙ ap (λ x. node_number n (Rim v (rim_number n x))) place);
+}
+
+module _ (n : ℕ) (corners : List Corner) (t : ℕ) (p : Point) (height : ℤ) where
+  -- the edge to the node of a corner was added, if there is one
+  pub record AddsOther (c : Corner) (old new : List Edge) : Type 0 where
+    pub still : (way : Edge) → Contains old way → Contains new way
+    pub only : (way : Edge) → Contains new way → Contains old way ⊎ IsToOther n corners t p height way
+    pub listed : AreApart corners → IsOtherListed n corners t p height c new
+
+  pub none_added : (c : Corner) (ways : List Edge) → IsOtherNode n corners t p c None → AddsOther c ways ways
+  none_added c ways node = record {
+    still = λ way has. has;
+    only = λ way has. inl has;
+    listed = λ apart u e small at other index. absurd (node.all apart u e small at other index);
+  }
+
+  pub one_added : (c : Corner) (to : ℕ) (old new : List Edge) (way : Edge) → way ≡ record { level = height; to = to } → new ≡ old ++ way ∷ [] → IsOtherNode n corners t p c (Some to) → AddsOther c old new
+  one_added c to old new way at is node = record {
     still = still_more old old new way is (λ x has. has);
     only = λ x has. elim (before_or_last old new way x is has) [
       | inl before ↦ inl before
-      | inr last ↦ inr (record { tile = u; small = small; apart = other; index = e; at = subst (λ d. IsIndexOf n d p e) (sym at) index; to = ap (λ (w : Edge). w.to) last ∙ to; level = ap (λ (w : Edge). w.level) last ∙ level })
+      | inr last ↦ inr (subst (IsToOther n corners t p height) (sym (last ∙ at)) (node.only height))
     ];
-    listed = λ apart v f v_small v_at v_other v_index.
-        let tile : u ≡ v = apart u v small v_small (at ∙ sym v_at) in
-        let place : e ≡ f = index_unique n c p e f index v_index in
-        subst (λ (w : Edge). Contains new w) (ends way (node_number n (Rim v (rim_number n f))) (to ∙ (ap (λ x. node_number n (Rim x (rim_number n e))) tile ∙ ap (λ x. node_number n (Rim v (rim_number n x))) place)) level) (last_has old new way is);
+    listed = λ apart u e small there other index.
+        subst (λ x. Contains new (record { level = height; to = x })) (node.all apart u e small there other index) (subst (λ (w : Edge). Contains new w) at (last_has old new way is));
   }
-    where
-      ends : (w : Edge) (x : ℕ) → w.to ≡ x → w.level ≡ height → w ≡ record { level = height; to = x }
-      ends w x at_x at_height = subst (λ l. w ≡ record { level = l; to = x }) at_height (subst (λ y. w ≡ record { level = w.level; to = y }) at_x refl)
 
-module _ (n : ℕ) (corners : List Corner) (t : ℕ) (p : Point) (height : ℤ) where
   -- the first corners of a list
   pub record AddsThose (holding : List Corner) (count : ℕ) (old new : List Edge) : Type 0 where
     pub still : (way : Edge) → Contains old way → Contains new way
     pub only : (way : Edge) → Contains new way → Contains old way ⊎ IsToOther n corners t p height way
     pub listed : AreApart corners → (j : ℕ) (d : Corner) → j < count → IsOtherListed n corners t p height (get_or holding j d) new
 
-  pub one_more_added : (holding : List Corner) (i : ℕ) (item : Corner) (old mid new : List Edge) → i < length holding → item ≡ get_or holding i item → AddsThose holding i old mid → AddsOther n corners t p height item mid new → AddsThose holding (i + 1) old new
+  pub one_more_added : (holding : List Corner) (i : ℕ) (item : Corner) (old mid new : List Edge) → i < length holding → item ≡ get_or holding i item → AddsThose holding i old mid → AddsOther item mid new → AddsThose holding (i + 1) old new
   one_more_added holding i item old mid new small is was now = record {
     still = λ way has. now.still way (was.still way has);
     only = λ way has. elim (now.only way has) [ inr more ↦ inr more | inl before ↦ was.only way before ];

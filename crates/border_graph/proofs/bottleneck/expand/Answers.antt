@@ -1,6 +1,6 @@
-use Rattle.std.proofs.Common.{rules, arith, ◌≡◌, SFits, w16, ap₂, sym, ◌∙◌, subst, length, MatchOption, IfNone, to_z-of_z}
-use Rattle.border_graph.proofs.Prelude.{AreAllEdges, AreEdges, AreOfMosaic, AreRaised, IsEnd, IsJoinedLevel, IsPlacedLink, int_max}
-use Rattle.border_graph.proofs.SearchSteps.{end_at_outlet, end_at_known, followed_all}
+use Rattle.std.proofs.Common.{rules, ◌≡◌, SFits, w16, ap₂, sym, ◌∙◌, subst, MatchOption, IfNone, to_z-of_z}
+use Rattle.border_graph.proofs.Prelude.{AreAllEdges, AreEdges, IsEnd, IsJoinedLevel, IsPlacedLink, int_max}
+use Rattle.border_graph.proofs.SearchSteps.{end_at_outlet, end_at_known}
 use Rattle.border_graph.proofs.bottleneck.expand.Goals as goal
 
 pub returns-then-entry-eq0-clause-ends : goal.returns-then-entry-eq0-clause-ends
@@ -21,9 +21,6 @@ pub returns-clause-listed : goal.returns-clause-listed
 returns-clause-listed g c n summaries fits =
     subst (λ known. IfNone known (AreAllEdges (IsPlacedLink n summaries) c.args.entry.node c.edges_from.new.into.items)) c.in_default.is (c.in_ok-level.ensures.all n summaries fits)
 
-pub returns-clause-followed : goal.returns-clause-followed
-returns-clause-followed g c n summaries fits =
-    followed_all (IsPlacedLink n summaries) (AreOfMosaic n summaries) c.args.visited.now c.args.frontier.now c.push_all.new.frontier c.args.entry c.edges_from.new.into.items (let other = c.if-entry-eq0.false in omega arith)
-    (returns-clause-listed g c n summaries fits)
-    (λ of. subst (λ known. MatchOption known (AreEdges (IsPlacedLink n summaries) c.args.entry.node c.edges_from.new.into.items) (IsJoinedLevel (IsPlacedLink n summaries) 0 c.args.entry.node)) c.in_default.is (c.in_ok-level.ensures.answer n summaries fits of))
-    (subst (λ found. AreRaised found (length found) c.args.entry c.args.visited.now c.args.frontier.now c.push_all.new.frontier) c.deref.ensures.value c.in_ok-push_all.ensures)
+pub returns-clause-exactly : goal.returns-clause-exactly
+returns-clause-exactly g c n summaries fits of =
+    subst (λ known. MatchOption known (AreEdges (IsPlacedLink n summaries) c.args.entry.node c.edges_from.new.into.items) (IsJoinedLevel (IsPlacedLink n summaries) 0 c.args.entry.node)) c.in_default.is (c.in_ok-level.ensures.answer n summaries fits of)

@@ -1,11 +1,11 @@
-use Rattle.border_graph.proofs.Prelude.{AreAllEdges, AreOfMosaic, Contains, Contains-push_cases, Edge, HasLevel, IfNone, IfSome, IsAdded, IsEnd, IsExpanded, IsJoinedLevel, IsNext, IsPlacedLink, IsReachedBelow, IsSettledBy, IsTrue, List, NoneLeft, Rim, SFits, Settled, ℕ, ℤ, [], arith, err_from_is_err_and, inl, inr, is_among, map, node_number, of_z, refl, rules, subst, sym, to_z, to_z-of_z, true, void, w16, ◌<◌, ◌^◌, ◌∷◌, ◌≡◌, ◌≤ℤ◌, ◌⊎◌}
+use Rattle.border_graph.proofs.Prelude.{AreAllEdges, AreEdges, AreOfMosaic, AreRaised, Contains, Contains-push_cases, Edge, HasLevel, IfNone, IfSome, IsAdded, IsEnd, IsJoinedLevel, IsNext, IsPlacedLink, IsReachedBelow, IsSettledBy, IsTrue, List, NoneLeft, Rim, SFits, Settled, Summary, ℕ, ℤ, [], arith, err_from_is_err_and, inl, inr, is_among, length, map, node_number, of_z, refl, rules, subst, sym, to_z, to_z-of_z, true, void, w16, ◌<◌, ◌^◌, ◌∷◌, ◌≡◌, ◌≤ℤ◌, ◌⊎◌}
 use Rattle.border_graph.specs.Crests.{crest, LeadsOut}
 use Rattle.border_graph.proofs.Onward.{way_up}
 use Rattle.border_graph.proofs.Crested.{below_crest, least_crest}
 use Rattle.border_graph.proofs.Forests.Left.{fewer_left}
 use Rattle.border_graph.proofs.Lowest.{low_placed}
 use Rattle.border_graph.proofs.Forests.Next.{taken_now, taken_still, taken_other}
-use Rattle.border_graph.proofs.SearchSteps.{IsTwoWay, alike, alike_at, settled_by, rising_first, no_way, reached_below, ended, risen}
+use Rattle.border_graph.proofs.SearchSteps.{IsTwoWay, alike, alike_at, settled_by, followed_all, rising_first, no_way, reached_below, ended, risen}
 use Rattle.border_graph.proofs.Turned.{two_way}
 use Rattle.border_graph.proofs.bottleneck.lowest_pass.Goals as goal
 
@@ -90,6 +90,8 @@ pub rise-preserved : goal.rise-preserved
 rise-preserved g c =
     let next : IsNext c.rise.frontier c.rise.visited c.pop_unvisited.new.frontier c.pop_unvisited.new.visited c.in-Some.entry =
     subst (λ found. IfSome found (IsNext c.rise.frontier c.rise.visited c.pop_unvisited.new.frontier c.pop_unvisited.new.visited)) c.in-Some.is c.in_ok-entry.ensures.next in
+    let inner : 0 < c.in-Some.entry.node = subst (λ found. IfNone found (0 < c.in-Some.entry.node)) c.in_default-2.is c.in_ok-level.ensures.inner in
+    let listed = λ (n : ℕ) (summaries : List Summary) (fits : g.G.EdgeSource.fits c.expand.new.graph n summaries). subst (λ found. IfNone found (AreAllEdges (IsPlacedLink n summaries) c.in-Some.entry.node c.expand.new.edges.items)) c.in_default-2.is (c.in_ok-level.ensures.listed n summaries fits) in
     record {
       fits = λ n summaries fits. c.rise.invariant.fits n summaries (c.in_ok-level.ensures.fits n summaries fits);
       keeps = g.met.G.EdgeSource.keeps_on c.args.graph.now c.rise.graph c.expand.new.graph c.args.source.now c.rise.source c.expand.new.source c.rise.invariant.keeps c.in_ok-level.ensures.keeps;
@@ -103,19 +105,19 @@ rise-preserved g c =
       none = c.rise.invariant.none;
       settled = λ n summaries fits of one has.
           let before = c.in_ok-level.ensures.fits n summaries fits in
-          let followed = subst (λ found. IfNone found (IsExpanded (IsPlacedLink n summaries) (AreOfMosaic n summaries) c.pop_unvisited.new.visited c.pop_unvisited.new.frontier c.expand.new.frontier c.in-Some.entry)) c.in_default-2.is (c.in_ok-level.ensures.followed n summaries fits) in
-          let listed = subst (λ found. IfNone found (AreAllEdges (IsPlacedLink n summaries) c.in-Some.entry.node c.expand.new.edges.items)) c.in_default-2.is (c.in_ok-level.ensures.listed n summaries fits) in
           let last = c.in_ok-settle.ensures.1.1 in
           elim (Contains-push_cases c.rise.settled.items c.in_ok-settle.ensures.0 one (subst (λ (l : List Settled). Contains l one) c.in_ok-settle.ensures.1.0 has)) [
             | inl earlier ↦ c.rise.invariant.settled n summaries before of one earlier
             | inr here ↦ subst (λ (s : Settled). (0 < s.node) × (IsReachedBelow (IsPlacedLink n summaries) c.args.start s.crest s.node × (IsTrue s.has_no_lower → (y : ℕ) (level : ℤ) → IsPlacedLink n summaries s.node y level → s.crest ≤ℤ level))) here
-                (settled_by (IsPlacedLink n summaries) c.args.start c.in-Some.entry c.expand.new.edges.items c.in_ok-settle.ensures.0 listed
-                (subst (λ (l : List Edge). IsSettledBy c.in-Some.entry l c.in_ok-settle.ensures.0) c.deref-in-Some.ensures.value last) followed.inner ((c.rise.invariant.rising n summaries before).ways of c.in-Some.entry next.waited))
+                (settled_by (IsPlacedLink n summaries) c.args.start c.in-Some.entry c.expand.new.edges.items c.in_ok-settle.ensures.0 (listed n summaries fits)
+                (subst (λ (l : List Edge). IsSettledBy c.in-Some.entry l c.in_ok-settle.ensures.0) c.deref-in-Some-2.ensures.value last) inner ((c.rise.invariant.rising n summaries before).ways of c.in-Some.entry next.waited))
           ];
       rising = λ n summaries fits.
           let before = c.in_ok-level.ensures.fits n summaries fits in
-          risen (IsPlacedLink n summaries) (AreOfMosaic n summaries) c.args.start c.rise.visited c.rise.frontier (c.rise.invariant.rising n summaries before) c.pop_unvisited.new.frontier c.pop_unvisited.new.visited c.in-Some.entry next c.expand.new.frontier
-          (subst (λ found. IfNone found (IsExpanded (IsPlacedLink n summaries) (AreOfMosaic n summaries) c.pop_unvisited.new.visited c.pop_unvisited.new.frontier c.expand.new.frontier c.in-Some.entry)) c.in_default-2.is (c.in_ok-level.ensures.followed n summaries fits));
+          risen (IsPlacedLink n summaries) (AreOfMosaic n summaries) c.args.start c.rise.visited c.rise.frontier (c.rise.invariant.rising n summaries before) c.pop_unvisited.new.frontier c.pop_unvisited.new.visited c.in-Some.entry next c.push_all.new.frontier
+          (followed_all (IsPlacedLink n summaries) (AreOfMosaic n summaries) c.pop_unvisited.new.visited c.pop_unvisited.new.frontier c.push_all.new.frontier c.in-Some.entry c.expand.new.edges.items inner (listed n summaries fits)
+          (λ of. subst (λ found. IfNone found (AreEdges (IsPlacedLink n summaries) c.in-Some.entry.node c.expand.new.edges.items)) c.in_default-2.is (c.in_ok-level.ensures.exactly n summaries fits of))
+          (subst (λ (l : List Edge). AreRaised l (length l) c.in-Some.entry c.pop_unvisited.new.visited c.pop_unvisited.new.frontier c.push_all.new.frontier) c.deref-in-Some.ensures.value c.in_ok-push_all.ensures));
     }
 
 pub returns-in_err-level-clause-refusal : goal.returns-in_err-level-clause-refusal
@@ -126,14 +128,17 @@ returns-in_err-level-clause-refusal g c =
 
 pub returns-in_err-list_alike-clause-refusal : goal.returns-in_err-list_alike-clause-refusal
 returns-in_err-list_alike-clause-refusal g c =
-    let keeps = g.met.G.EdgeSource.keeps_on c.args.graph.now c.rise.graph c.expand.new.graph c.args.source.now c.rise.source c.expand.new.source c.rise.invariant.keeps c.in_ok-level.ensures.keeps in
-    let out = g.met.G.EdgeSource.runs_out c.args.graph.now c.expand.new.graph c.args.source.now c.expand.new.source keeps in
+    let out = g.met.G.EdgeSource.runs_out _ _ _ _ (g.met.G.EdgeSource.keeps_on _ _ _ _ _ _ c.rise.invariant.keeps c.in_ok-level.ensures.keeps) in
+    search rules
+
+pub returns-in_err-push_all-clause-refusal : goal.returns-in_err-push_all-clause-refusal
+returns-in_err-push_all-clause-refusal g c =
+    let out = g.met.G.EdgeSource.runs_out _ _ _ _ (g.met.G.EdgeSource.keeps_on _ _ _ _ _ _ c.rise.invariant.keeps c.in_ok-level.ensures.keeps) in
     search rules
 
 pub returns-in_err-settle-clause-refusal : goal.returns-in_err-settle-clause-refusal
 returns-in_err-settle-clause-refusal g c =
-    let keeps = g.met.G.EdgeSource.keeps_on c.args.graph.now c.rise.graph c.expand.new.graph c.args.source.now c.rise.source c.expand.new.source c.rise.invariant.keeps c.in_ok-level.ensures.keeps in
-    let out = g.met.G.EdgeSource.runs_out c.args.graph.now c.expand.new.graph c.args.source.now c.expand.new.source keeps in
+    let out = g.met.G.EdgeSource.runs_out _ _ _ _ (g.met.G.EdgeSource.keeps_on _ _ _ _ _ _ c.rise.invariant.keeps c.in_ok-level.ensures.keeps) in
     search rules
 
 pub returns-clause-not_joined : goal.returns-clause-not_joined
