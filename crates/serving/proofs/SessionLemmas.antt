@@ -1,4 +1,5 @@
 -- Items that are read one after another, and what is written for them.
+use Rattle.std.proofs.Common.{rules}
 use Rattle.std.proofs.Common.{◌≡◌, ◌≢◌, ℕ, List, [], ◌∷◌, ◌++◌, length, Option, Some, None, refl, sym, ap, ◌∙◌, subst, append_assoc, arith, inl, inr, ◌⊎◌, ◌<◌}
 use Rattle.std.specs.Prelude.{IfSome, flat_map, All, Contains, Result, Ok, Err, Vec, option_map, nat_le, if◌then◌else◌, Bool, true, false}
 use Rattle.std.specs.declared.alloc.Global.{Global}
@@ -133,14 +134,12 @@ module _ (language : Language) where
   pub holds_whole : (text : List ℕ) (q : Option Request) (p : Option (Vec ℕ Global)) (e : Extent) (bytes : List ℕ) → IsLine text → (Whole ≡ Cut → text ≢ []) → AsksFor language text (option_map asked q)
       → Stored p bytes → Reaches e (length bytes) (payload_len (option_map asked q))
       → Holds language (record { request = q; payload = p; extent = e }) (record { line = text; fed = Whole; asked = option_map asked q; payload = bytes })
-  holds_whole text q p e bytes line some right stored came =
-      record { asked = refl; payload = stored; item = record { line = line; some = some; asked = right; came = came } }
+  holds_whole text q p e bytes line some right stored came = search rules
 
   -- an item whose line the end of the input ended
   pub holds_cut : (text : List ℕ) (q : Option Request) → IsLine text → text ≢ [] → AsksFor language text (option_map asked q)
       → Holds language (record { request = q; payload = None; extent = Cut }) (record { line = text; fed = Cut; asked = option_map asked q; payload = [] })
-  holds_cut text q line some right =
-      record { asked = refl; payload = tt; item = record { line = line; some = (λ _. some); asked = right; came = (refl, refl) } }
+  holds_cut text q line some right = search rules
 
   -- nothing is to come
   pub ends_none : (ahead : List ℕ) (r old : Option (List ℕ)) → Consumes old (prepend_known ahead r) [] → ahead ≡ [] → IsAtEnd r → IfSome old (λ input. Ends language input [])

@@ -1,4 +1,5 @@
 -- What follows from the turn of one item.
+use Rattle.std.proofs.Common.{rules}
 use Rattle.std.proofs.Common.{◌≡◌, ℕ, Bool, true, false, true≢false, IsTrue, List, [], ◌∷◌, refl, sym, ap, ◌∙◌, subst, arith, inl, inr}
 use Rattle.std.specs.Prelude.{Option, Some, None}
 use Rattle.std.proofs.lemmas.Bool.{both_ways}
@@ -117,9 +118,7 @@ module _ {E : Type 0} (g : Ghosts E) (is : IsEngine g) where
     at_same = subst (λ (e : E). g.is_at e s) (sym same) at
 
     leaves_same : g.is_honest new → g.leaves_only old new (s ∷ s ∷ [])
-    leaves_same honest =
-        subst (λ (e : E). g.leaves_only old e (s ∷ s ∷ [])) (sym same)
-        (is.laws.weaker old old (s ∷ []) (s ∷ s ∷ []) (λ t one. Contains-append_left (s ∷ []) (s ∷ []) t one) (is.laws.stays old s (subst g.is_honest same honest) at))
+    leaves_same honest = search rules
 
   -- the state after a turn
   turn_leaves : (turn : Turn) (old new : E) (text : List ℕ) → Turns g.called turn old text new → g.is_honest new → (s : State) → g.is_at old s

@@ -1,4 +1,5 @@
 -- Bytes and samples of a plane by its pages.
+use Rattle.std.proofs.Common.{rules}
 use Rattle.store.proofs.Prelude.{All, IsPage, List, PlanePages, Some, ℕ, ℤ, [], ap, arith, concat, concat-append, get_or, get_or_from_slice_get, high_byte, length, low_byte, plane_bytes, refl, sample_of, samples_of_plane, set, slice_get, slice_get_within, subst, suc, sym, take, zero, ◌*◌, ◌++◌, ◌+◌, ◌-◌, ◌<◌, ◌∙◌, ◌∷◌, ◌≡◌, ◌≤◌}
 use Rattle.std.proofs.Math.ListN.{get_or-append}
 use Rattle.std.proofs.Math.Seq.{get_or-append_right}
@@ -52,11 +53,7 @@ abbrev pub with_bytes : ℕ → ℤ → List ℕ → List ℕ
 with_bytes j s page = set (set page (2 * j) (high_byte s)) (2 * j + 1) (low_byte s)
 
 pub page_with_bytes : (j : ℕ) (s : ℤ) (page : List ℕ) → IsPage page → IsPage (with_bytes j s page)
-page_with_bytes j s page is = record {
-  whole = length-set (set page (2 * j) (high_byte s)) (2 * j + 1) (low_byte s) ∙ length-set page (2 * j) (high_byte s) ∙ is.whole;
-  bytes = All-set IsByte (set page (2 * j) (high_byte s)) (2 * j + 1) (low_byte s) (byte-low_byte s)
-      (All-set IsByte page (2 * j) (high_byte s) (byte-high_byte s) is.bytes);
-}
+page_with_bytes j s page is = search rules
 
 module _ (pages : PlanePages) (i j e : ℕ) (all : All IsPage pages) (within : i < length pages) (here : e ≡ 2048 * i + j) (below : j < 2048) where
   high_at : 4096 * i + 2 * j ≡ 2 * e

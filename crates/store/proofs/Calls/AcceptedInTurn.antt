@@ -1,4 +1,5 @@
 -- What some commands make of contents, and then others.
+use Rattle.std.proofs.Common.{rules}
 use Rattle.store.proofs.Prelude.{ComesBy, Command, Contents, IsMadeOf, List, Mosaic, Since, ℕ, [], ap, arith, doubted_too, inl, inr, length, length-append, made_by, refl, subst, sym, ◌++◌, ◌+◌, ◌∙◌, ◌∷◌, ◌≡◌}
 use Rattle.std.specs.Prelude.{Ok, Option, Some, unwrap_or}
 use Rattle.edits.specs.Effect.{effect, unless_refused, after, accepted}
@@ -35,11 +36,7 @@ module _ (capacity : ℕ) where
   as_well a b c commands comes mosaic count = record { mosaic = mosaic ∙ comes.mosaic; none_refused = comes.none_refused; count = count ∙ comes.count }
 
   by_one : (a b : Contents) (c : Command) (new : Mosaic) → effect capacity a.mosaic c ≡ Ok new → b ≡ made_by a c new → ComesBy capacity a (c ∷ []) b
-  by_one a b c new makes is = subst (λ (x : Contents). ComesBy capacity a (c ∷ []) x) (sym is) (record {
-    mosaic = sym (rw makes refl);
-    none_refused = rw makes refl;
-    count = refl;
-  })
+  by_one a b c new makes is = search rules
 
   -- one command more
   pub one_more : (a b made : Contents) (commands : List Command) (c : Command) (new : Mosaic) → ComesBy capacity a commands b → effect capacity b.mosaic c ≡ Ok new → made ≡ made_by b c new → ComesBy capacity a (commands ++ c ∷ []) made

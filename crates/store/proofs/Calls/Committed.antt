@@ -1,4 +1,5 @@
 -- A command by the trees that it goes through: what commits nothing, and the commit of what was staged.
+use Rattle.std.proofs.Common.{rules}
 use Rattle.store.proofs.Prelude.{AppliesNot, Command, Commits, CommitsNothing, Contents, Device, Err, Failed, Ghosts, Holds, IsApplied, IsInState, IsStaged, IsTrue, Mosaic, NoMemory, Ok, Refusal, Result, RootValue, State, Stored, Tree, Worn, ℕ, ap, arith, command_ending, commits_after, disk_of, effect, ends_any, false, has_failed, in_doubt, is_own, last_number, made_by, may_end, next_commit, or_right, refl, root_of, sinks_of, staged_in, subst, sym, true, unless_refused, ⊎_elim, ◌+◌, ◌<◌, ◌^◌, ◌∙◌, ◌≡◌, ◌≢◌, ◌⊎◌}
 use Rattle.engine.specs.Told.{may_refuse_command}
 use Rattle.store.proofs.Calls.Ended as ended
@@ -46,11 +47,6 @@ gives_up g old new command works r done why clean =
     (subst (λ (x : Refusal). IsTrue (may_refuse_command command x)) (sym no_room.0) (ends_command command NoMemory refl)) no_room.2
     (λ honest s at. subst (λ (x : Refusal). AppliesNot (root_of old).capacity s command x s) (sym no_room.0) (no_memory (root_of old).capacity s command (is_working g old works s at))))
     why
-
--- .. for a store that had failed
-pub failed_first : {D : Type 0} (g : Ghosts D) (tree : Tree D g) (command : Command) → has_failed tree ≡ true → IsApplied g command (Err Failed) tree tree
-failed_first g tree command had =
-    ended.had_failed g (command_ending (root_of tree).capacity command) tree (λ s. IsInState g tree s) (λ s at. at) had (ends_command command Failed refl) (λ s failed. record { failed = failed; same = refl })
 
 -- ---- the commit
 

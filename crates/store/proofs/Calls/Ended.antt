@@ -1,4 +1,5 @@
 -- A call that may commit, by the trees that it goes through: what commits nothing, and a commit of other contents.
+use Rattle.std.proofs.Common.{rules}
 use Rattle.store.proofs.Prelude.{Bool, Commits, Contents, Device, Ending, EndsAt, Err, Failed, Ghosts, Holds, IfErr, IfErr-weaker, IfOk, IfOk-weaker, Image, IsInState, IsTrue, LeavesOr, None, Ok, OnErr, OnOk, Option, Refusal, Result, RootValue, Some, Stands, StandsFor, StandsForState, State, Stored, Tree, Version, ℕ, ap, ap₂, disk_of, failing, false, has_failed, if_numbered, if◌then◌else◌, inl, inr, known_by, last_number, lt-ltb, never_refused, no_call_yet, not_called, number_of, ok_where, refl, refusal_is, root_of, settled_at, sinks_of, staged_in, sym, true, true≢false, working, ⊎_elim, ◌<◌, ◌∙◌, ◌≡◌, ◌≢◌, ◌⊎◌}
 use Rattle.disk.specs.Stops.{LeavesOnly, weaker}
 use Rattle.engine.specs.Steps.{Commits as IsCommit}
@@ -10,10 +11,7 @@ use Rattle.store.proofs.Calls.States.{fails_in, stays_in}
 -- what is known by a root of the same version
 pub known_as : (was root : RootValue) (count number : ℕ) → root.version ≡ was.version → root.count ≡ count → root.number ≡ number
     → known_by root ≡ record (known_by was) { count = count; number = number }
-known_as was root count number version counted numbered =
-    ap (λ (v : Version). record { version = number_of v; count = root.count; number = root.number }) version
-    ∙ ap (λ (k : ℕ). record { version = number_of was.version; count = k; number = root.number }) counted
-    ∙ ap (λ (n : ℕ). record { version = number_of was.version; count = count; number = n }) numbered
+known_as was root count number version counted numbered = search rules
 
 -- an answer that is no fault
 abbrev pub IsNoFault : {T : Type 0} → Result T Refusal → Type 0
@@ -31,14 +29,7 @@ is_doubted was made less = ap (λ (b : Bool). if b then Some made else None) (lt
 
 -- the same call, told by another answer
 returned_as : {D T U : Type 0} (g : Ghosts D) (old new : Tree D g) (was : Result U Refusal) (now : Result T Refusal) → Returns g old new was → (now ≡ Err Device → was ≡ Err Device) → OnOk now (has_failed new ≡ false) → Returns g old new now
-returned_as g old new was now is same works = record {
-  size = is.size;
-  later = is.later;
-  device = λ e. is.device (same e);
-  works = works;
-  fails = λ e. is.fails (same e);
-  honest = is.honest;
-}
+returned_as g old new was now is same works = search rules
 
 -- from each state by the test
 module _ {D T : Type 0} (g : Ghosts D) (ending : Ending T) (old new : Tree D g) (works : has_failed old ≡ false) (Was : State → Type 0) (leads : (s : State) → Was s → IsInState g old s) where
@@ -165,10 +156,7 @@ module _ {D T : Type 0} (g : Ghosts D) (ending : Ending T) (old new : Tree D g) 
 
   -- the state that a commit of these contents makes, where a number was left for it
   pub commits_made : (made : State → Contents) (s : State) → Was s → s.contents.number < last_number → IsCommit s (made s) (working (made s))
-  commits_made made s was room =
-      let at = leads s was in
-      let now : s.failed ≡ false = is_working g old works s at in
-      record { working = now; room = room; made_is = ap₂ (λ (f : Bool) (d : Option Contents). record { contents = made s; failed = f; doubt = d }) (sym now) (sym (at.sound works).no_doubt) }
+  commits_made made s was room = search rules
 
 -- a store that had failed
 pub had_failed : {D T : Type 0} (g : Ghosts D) (ending : Ending T) (tree : Tree D g) (Was : State → Type 0) → ((s : State) → Was s → IsInState g tree s) → has_failed tree ≡ true → IsTrue (ending.may_refuse Failed)

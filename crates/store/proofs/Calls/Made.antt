@@ -21,9 +21,6 @@ kept_with made new tiles comes none t there =
 
 -- ---- what the tiles are
 
-pub with_others : (n : ℕ) (tiles : List StoredTile) (m : Mosaic) (sinks : List Point) → AreTilesOf n tiles m → AreTilesOf n tiles (with_sinks sinks m)
-with_others n tiles m sinks are = record { mosaic = ap (with_sinks sinks) are.mosaic; filled = are.filled }
-
 -- ---- the next commit holds it
 
 module _ {D : Type 0} (g : Ghosts D) (old marked mid : Tree D g) (works : has_failed old ≡ false) (command : Command) (s : State) (at : IsInState g old s) (made : Edit) where

@@ -1,4 +1,5 @@
 -- What a call of a store leaves of what was accepted: a stop inside it finds the contents before it or after it.
+use Rattle.std.proofs.Common.{rules}
 use Rattle.store.proofs.Prelude.{Bool, Command, Corner, CountsSeams, Device, Event, Failed, Mosaic, NoMemory, NoTile, NotOld, Outside, Point, Refusal, Reply, TooSmall, Void, Worn, ℕ, [], ap, effect, false, inl, inr, refl, subst, sym, true, true≢false, ⊎_elim, ◌++◌, ◌∙◌, ◌∷◌, ◌≡◌, ◌⊎◌}
 use Rattle.std.specs.Prelude.{Result, Ok, Err, Some, None, Option, unwrap_or, nat_lt, if◌then◌else◌, IsFalse}
 use Rattle.engine.specs.State.{Contents, State, working, failing, made_by, would_make, if_numbered, in_doubt, last_number}
@@ -85,8 +86,7 @@ module _ (capacity : ℕ) where
         (λ c. ⊎_elim (λ same. subst (λ (x : Contents). MayHold s x) (sym same) held) (λ doubt. absurd (not_some c doubt))))
 
     pub not_opened : (t : State) → t ≡ record s { failed = true } → Moves found without (Knows found since) s t
-    not_opened t is = subst (λ (u : State). Moves found without (Knows found since) s u) (sym is)
-        (at_most (Knows found since) (record s { failed = true }) (record { known = knows.known; doubted = knows.doubted; sober = λ failed. absurd (true≢false failed) }) (λ c may. may))
+    not_opened t is = search rules
 
     -- ---- a commit was made, or is in doubt
 
@@ -125,14 +125,7 @@ module _ (capacity : ℕ) where
 
       pub commits : (after : Since) (t : State) (c : Contents) → t ≡ record s { contents = c } → ComesBy capacity found after.done c → after.doubt ≡ since.doubt → IsMadeOf capacity found without c
           → Moves found without (Knows found after) s t
-      commits after t c is comes same_doubt made = subst (λ (u : State). Moves found without (Knows found after) s u) (sym is) (record {
-        next = record { known = comes; doubted = λ d some. absurd (not_some d (sym (knows.sober works).0 ∙ some)); sober = λ failed. ((knows.sober failed).0, same_doubt ∙ (knows.sober failed).1) };
-        one = s.contents;
-        other = c;
-        either = λ d. ⊎_elim (λ before. inl (no_doubt d before)) (λ after. inr (⊎_elim (λ same. same) (λ doubt. absurd (not_some d (sym (knows.sober works).0 ∙ doubt))) after));
-        one_made = now_made;
-        other_made = made;
-      })
+      commits after t c is comes same_doubt made = search rules
 
   -- in this state the call may have its answer and leave that one, whether the disk has room for the second version or not
   abbrev pub CallHappens : Bool → State → Call → State → Type 0

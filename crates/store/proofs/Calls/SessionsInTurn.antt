@@ -1,4 +1,5 @@
 -- Sessions, one after another: by what each of them leaves, and what each opening finds of it.
+use Rattle.std.proofs.Common.{rules}
 use Rattle.store.proofs.Prelude.{ComesBy, Command, Contains-push_cases, Contents, Err, Ghosts, IfErr, Image, IsMadeOf, LeavesStates, List, Ok, Result, Since, StandsFor, StandsForOne, StandsForState, State, Store, ℕ, [], arith, has_room, inl, inr, none_asked, refl, subst, sym, working, ⊎_elim, ◌++◌, ◌∙◌, ◌∷◌, ◌≡◌, ◌≤◌, ◌⊎◌}
 use Rattle.engine.specs.declared.event.Event.TheVariants as ask
 use Rattle.engine.specs.declared.event.Reply.TheVariants as reply
@@ -40,9 +41,7 @@ same_one a b c d e f size side capacity states image stands = rw (← size, ← 
 
 -- it stands for one of two that these all are
 either_of : (sectors side capacity : ℕ) (image : Image) (c a b : Contents) → (c ≡ a) ⊎ (c ≡ b) → StandsFor sectors side capacity image c → StandsFor sectors side capacity image a ⊎ StandsFor sectors side capacity image b
-either_of sectors side capacity image c a b is stands = ⊎_elim
-    (λ same. inl (subst (λ (x : Contents). StandsFor sectors side capacity image x) same stands))
-    (λ same. inr (subst (λ (x : Contents). StandsFor sectors side capacity image x) same stands)) is
+either_of sectors side capacity image c a b is stands = search rules
 
 same_size : (n m side capacity : ℕ) → n ≡ m → (image : Image) (a b : Contents) → StandsFor n side capacity image a ⊎ StandsFor n side capacity image b → StandsFor m side capacity image a ⊎ StandsFor m side capacity image b
 same_size n m side capacity is image a b stands = subst (λ (k : ℕ). StandsFor k side capacity image a ⊎ StandsFor k side capacity image b) is stands
@@ -82,8 +81,7 @@ module _ {D : Type 0} (g : Ghosts D) (only_now : (disk : D) (image : Image) → 
 
   -- a state that a stop may leave on the disk now
   held_now : (store : Store D g) (size : ℕ) (s : State) → Found store size s → (image : Image) → g.may (disk_of store) image → (c : Contents) × (MayHold s c × StandsFor size side capacity image c)
-  held_now store size s found image may = stands_held size side capacity image s
-      (same_stands (g.size (disk_of store)) (side_of store) (capacity_of store) size side capacity found.same_size found.same_side found.same_capacity image s (found.at.in_state.images image may))
+  held_now store size s found image may = search rules
 
   -- a state that it leads to, as the call happens, and what a stop leaves
   record Leads (old new : Store D g) (call : Call) (s : State) : Type 0 where

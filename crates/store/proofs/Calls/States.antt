@@ -1,4 +1,5 @@
 -- The states of a store whose tree knows the same root, before a call and after it.
+use Rattle.std.proofs.Common.{rules}
 use Rattle.store.proofs.Prelude.{Contents, Ghosts, Holds, Image, IsInState, IsSound, None, RootValue, StandsFor, StandsForState, State, Tree, ℕ, ap, failing, false, inl, inr, number_of, refl, stale_in, subst, sym, true, true≢false, ◌∙◌, ◌≡◌}
 use Rattle.std.proofs.lemmas.Option.{none-some}
 use Rattle.cow_tree.specs.Trees.{disk_of, root_of, has_failed, sinks_of, staged_in, IsAt as IsTreeAt}
@@ -9,32 +10,12 @@ module _ {D : Type 0} (g : Ghosts D) (old new : Tree D g) (root : root_of new �
 
   -- one of the same contents
   same_contents : (t : State) → t.contents ≡ s.contents → ((image : Image) → g.may (disk_of new) image → Stands t image) → has_failed new ≡ t.failed → (has_failed new ≡ false → IsSound g new t) → IsInState g new t
-  same_contents t same images failed sound = record {
-    images = λ image may.
-        subst (λ (r : RootValue). StandsForState (g.size (disk_of new)) r.side r.capacity image t) (sym root)
-        (subst (λ (n : ℕ). StandsForState n (root_of old).side (root_of old).capacity image t) (sym size) (images image may));
-    side_is = ap (λ (c : Contents). c.mosaic.side) same ∙ at.side_is ∙ ap (λ (r : RootValue). r.side) (sym root);
-    version = ap (λ (r : RootValue). number_of r.version) root ∙ at.version ∙ ap (λ (c : Contents). c.version) (sym same);
-    count = ap (λ (r : RootValue). r.count) root ∙ at.count ∙ ap (λ (c : Contents). c.count) (sym same);
-    number = ap (λ (r : RootValue). r.number) root ∙ at.number ∙ ap (λ (c : Contents). c.number) (sym same);
-    stale = ap stale_in root ∙ at.stale ∙ ap (λ (c : Contents). c.stale) (sym same);
-    failed_is = failed;
-    sound = sound;
-  }
+  same_contents t same images failed sound = search rules
 
   -- the same, of a tree that works
   pub stays_in : has_failed new ≡ false → s.failed ≡ false → ((image : Image) → g.may (disk_of new) image → Stands s image) → (sound : IsSound g old s)
       → IsTreeAt g new sound.stored → staged_in g new ≡ sound.stored.tiles → sinks_of new ≡ sound.stored.sinks → IsInState g new s
-  stays_in works working images sound tree tiles sinks =
-      same_contents s refl images (works ∙ sym working)
-      (λ _. record {
-        stored = sound.stored;
-        tree = tree;
-        holds = subst (λ (r : RootValue). Holds r.side r.capacity sound.stored s.contents) (sym root) sound.holds;
-        nothing_staged = tiles;
-        none_declared = sinks;
-        no_doubt = sound.no_doubt;
-      })
+  stays_in works working images sound tree tiles sinks = search rules
 
   -- one in which it failed
   pub fails_in : has_failed new ≡ true → (t : State) → t.contents ≡ s.contents → t.failed ≡ true → ((image : Image) → g.may (disk_of new) image → Stands t image) → IsInState g new t

@@ -1,4 +1,5 @@
 -- The calls of a store as calls of an engine: questions, and what may commit.
+use Rattle.std.proofs.Common.{rules}
 use Rattle.store.proofs.Prelude.{Bool, Command, Corner, Device, Err, Event, Failed, Ghosts, Happens, IfErr, IfErr-weaker, IfOk, Image, IsCall, IsErrAnd, IsTrue, LeavesStates, NoMemory, Ok, OnErr, OnOk, Refusal, Reply, Result, RootValue, StandsForOne, State, StaysFailed, Store, Vec, ℕ, [], allowed, answered, ap, arith, both_ways, false, inl, known_by, members, no_call_yet, not_called, nothing_done, number_of, refl, refused_as, subst, sym, true, ⊎_elim, ◌∙◌, ◌∷◌, ◌≡◌, ◌≢◌}
 use Rattle.disk.specs.Stops.{LeavesOnly, weaker as weaker_on, nothing_done as nothing_done_on}
 use Rattle.catalogue.specs.Tiles.{corners_of}
@@ -84,8 +85,7 @@ module _ {D : Type 0} (g : Ghosts D) (only_now : HasOnlyNow g) (store : Store D 
 
     pub refused_it : has_failed store ≡ false → (r : Refusal) → r ≢ Device → r ≢ Failed → IsTrue (may_refuse event r)
         → (g.honest (disk_of store) → (s : State) → IsAt g store s → Answers s (Err r) s) → IsCall (members g) store event (reply.Refused r) store
-    refused_it works r no_device no_failure may says =
-        asked g store store is (Err r) may (unread (Err r) (other_refusal r no_device) tt (λ _ other. (no_failure, works)) (λ had. absurd (both_ways (has_failed store) works had))) (λ honest s at. (s, (at, says honest s at)))
+    refused_it works r no_device no_failure may says = search rules
 
     -- by one that has failed
     pub denied : IsTrue (may_refuse event Failed) → ((s : State) → StaysFailed s s → Answers s (Err Failed) s)
@@ -100,18 +100,7 @@ pub only_device_may : {T : Type 0} (event : Event) → IsTrue (may_refuse event 
 only_device_may event may result = IfErr-weaker result _ _ (λ r is. subst (λ (x : Refusal). IsTrue (may_refuse event x)) (sym is) may)
 
 pub counts : {D : Type 0} (g : Ghosts D) → HasOnlyNow g → (store : Store D g) (k : ℕ) → k ≡ (root_of store).count → IsCall (members g) store ask.Count (reply.Count k) store
-counts g only_now store k known = record {
-  side = λ _. refl;
-  capacity = λ _. refl;
-  sectors = refl;
-  told = record { matches = tt; says = λ _. (k, refl); had_failed = λ e. cc; after_is = refl };
-  failures = record { later = omega arith; device = λ e. cc };
-  writes = record { few = refl; refused = λ r is other. refl };
-  known = (known, refl);
-  honest = λ h. h;
-  takes = λ h s at. (refl, refl);
-  happens = λ h s at. (s, (at, (known ∙ at.in_state.count, refl), nothing_done store s (s ∷ []) (λ image. only_now (disk_of store) image) h at));
-}
+counts g only_now store k known = search rules
 
 -- ---- what may commit
 

@@ -41,7 +41,3 @@ quiet_read (Err Device) P only ready = λ other. absurd (other refl)
 quiet_read (Err Failed) P only ready = λ other. absurd (let e : Failed ≡ Device = only in cc)
 quiet_read (Err Damaged) P only ready = λ other. absurd (let e : Damaged ≡ Device = only in cc)
 quiet_read (Err r) P only ready = λ other. ((λ e. cc), ready)
-
--- a read leaves staged what is staged
-pub still_staged_by : {D : Type 0} (g : Ghosts D) (old new : Tree D g) → HasOnlyRead g old new → (c : Corner) → HasStaged old c → HasStaged new c
-still_staged_by g old new keeps c staged = subst (λ (page_map : PageMapValue). HasFreshHeights c page_map) (sym keeps.page_map) staged

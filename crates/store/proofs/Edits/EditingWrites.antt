@@ -109,8 +109,3 @@ none_written version side (Wall h points) before now same = omega (arith, same)
 none_written version side (Sink p) before now same = omega (arith, same)
 none_written version side (Unsink p) before now same = omega (arith, same)
 none_written version side _ before now same = tt
-
-pub none_named : (command : Command) (version : Version) (side : ℕ) (corners : List Corner) (before now : ℕ) → now ≡ before → IfSome (named_by command) (λ points. now ≤ before + page_writes version (pages_with side corners points))
-none_named (Burn depth points) version side corners before now same = omega (arith, same)
-none_named (Wall h points) version side corners before now same = omega (arith, same)
-none_named _ version side corners before now same = tt

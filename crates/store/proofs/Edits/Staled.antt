@@ -1,4 +1,5 @@
 -- Trees of which kept planes were given up.
+use Rattle.std.proofs.Common.{rules}
 use Rattle.store.proofs.Prelude.{Bool, Contains, Corner, Ghosts, List, StoredTile, Tree, ℕ, [], ap, ap₂, arith, cond, false, refl, staged_in, stale_tile, suc, true, ◌+◌, ◌||◌, ◌∙◌, ◌∷◌, ◌≡◌, ◌≤◌}
 use Rattle.cow_tree.proofs.Uncommitted.{no_call_twice, no_call_yet}
 use Rattle.store.specs.Staling.{staled_in, staled, ChangesTiles, Stales}
@@ -14,10 +15,7 @@ staled_as f h (t ∷ rest) same =
     (staled_as f h rest (λ u there. same u (suc there.0, omega (arith, there.1), there.2)))
 
 twice_in : (f h : Corner → Bool) (t : StoredTile) → staled_in h (staled_in f t) ≡ staled_in (λ p. f p || h p) t
-twice_in f h t = elim (f t.corner) as (λ b. staled_in h (cond b (stale_tile t.corner t.heights) t) ≡ cond (b || h t.corner) (stale_tile t.corner t.heights) t) [
-  | true ↦ elim (h t.corner) as (λ b. cond b (stale_tile t.corner t.heights) (stale_tile t.corner t.heights) ≡ stale_tile t.corner t.heights) [ true ↦ refl | false ↦ refl ]
-  | false ↦ refl
-]
+twice_in f h t = search rules
 
 staled_twice : (f h : Corner → Bool) (tiles : List StoredTile) → staled h (staled f tiles) ≡ staled (λ p. f p || h p) tiles
 staled_twice f h [] = refl
@@ -42,14 +40,7 @@ module _ {D : Type 0} (g : Ghosts D) where
 
   -- so many records and more, by what makes the same of the tiles that are there
   pub changes_as : (makes others : List StoredTile → List StoredTile) (r q : ℕ) (a b : Tree D g) → r ≤ q → makes (staged_in g a) ≡ others (staged_in g a) → ChangesTiles g makes r a b → ChangesTiles g others q a b
-  changes_as makes others r q a b less same changes = record {
-    no_call = changes.no_call;
-    corners = changes.corners;
-    sinks = changes.sinks;
-    due = omega (arith, changes.due, less);
-    staged = changes.staged ∙ same;
-    at = changes.at;
-  }
+  changes_as makes others r q a b less same changes = search rules
 
   pub stales_none : (tree : Tree D g) → Stales g (λ p. false) tree tree
   stales_none tree = changes_none (staled (λ p. false)) 0 tree (none_staled (staged_in g tree))

@@ -1,4 +1,5 @@
 -- A page whose voids are filled.
+use Rattle.std.proofs.Common.{rules}
 use Rattle.std.proofs.Common.{◌≡◌, ◌≢◌, ◌⊎◌, inl, inr, ℕ, ◌+◌, ◌*◌, ◌<◌, ◌≤◌, ℤ, pos, negsuc, Bool, true, false, cond, not, List, length, get_or, set, Contains, nat_eq, refl, sym, ap, ap₂, ◌∙◌, subst, arith, ◌&&◌, ◌||◌, nat_lt, FitsSigned}
 use Rattle.std.proofs.lemmas.Int.{to_z-of_z, ints}
 use mir.Syntax.{w16}
@@ -31,11 +32,7 @@ module _ (page : List ℕ) (j : ℕ) (s : ℤ) where
       ∙ sample_of_bytes s is
 
   pub sample_beside : (k : ℕ) → k ≢ j → page_sample (with_bytes j s page) k ≡ page_sample page k
-  sample_beside k other =
-      let once : List ℕ = set page (2 * j) (high_byte s) in
-      ap₂ sample_of
-      (get_or-set_other once (2 * j + 1) (2 * k) (low_byte s) 0 (λ e. omega (arith, e)) ∙ get_or-set_other page (2 * j) (2 * k) (high_byte s) 0 (λ e. other (omega (arith, e))))
-      (get_or-set_other once (2 * j + 1) (2 * k + 1) (low_byte s) 0 (λ e. other (omega (arith, e))) ∙ get_or-set_other page (2 * j) (2 * k + 1) (high_byte s) 0 (λ e. omega (arith, e)))
+  sample_beside k other = search rules
 
 -- ---- which samples are filled
 

@@ -1,4 +1,5 @@
 -- Labellings that are kept are right where the store's tree is sure; and reads of the tree one after another.
+use Rattle.std.proofs.Common.{rules}
 use Rattle.std.proofs.Common.{◌≡◌, ◌≢◌, ◌⊎◌, inl, inr, ℕ, ℤ, ◌≤ℤ◌, false, true, List, Contains, Option, Some, None, Result, Ok, Err, refl, sym, ap, ◌∙◌, subst, true≢false, arith, IsOk, IfOk, IfErr, IfSome, IsErrOf, IsErrAnd, OnOk, OnErr, option_map, slice_index, slice_index_or}
 use Rattle.store.proofs.Prelude.{All-contains, AreRight, Corner, Damaged, Device, Failed, Ghosts, HasOnlyRead, HasPlane, HasRisen, Image, IsFlooded, IsInState, IsLabelling, IsMosaic, IsTileOf, KeepRight, KeptPlanes, MayRefuse, Mosaic, NoMemory, Reads, Refusal, State, StoredTile, TileLocation, Tree, contains-map, disk_of, has_failed, mosaic_of, read_again, read_nothing, reads_of, refused_as, root_of, sinks_of, staged_in, void}
 use Rattle.page_map.specs.declared.locations.KeptLocations.{KeptLocations}
@@ -153,14 +154,7 @@ module _ {D : Type 0} (g : Ghosts D) where
 
   -- reads of which none was refused
   pub read_so_far : (old new : Tree D g) → HasOnlyRead g old new → has_failed new ≡ false → Reads {T = Unit {0}} g old new (Ok tt)
-  read_so_far old new keeps works = record {
-    keeps = keeps;
-    refused = tt;
-    device = λ e. absurd (cc);
-    only_device = λ _. tt;
-    not_failed = works;
-    failed = tt;
-  }
+  read_so_far old new keeps works = search rules
 
   pub reads_then : {T : Type 0} (a b c : Tree D g) (result : Result T Refusal) → Reads {T = Unit {0}} g a b (Ok tt) → Reads g b c result → Reads g a c result
   reads_then a b c result first second = record {

@@ -1,6 +1,7 @@
 -- Pages staged one after another, and what has the memory for them.
+use Rattle.std.proofs.Common.{rules}
 use Rattle.store.proofs.Prelude.{Bool, CommitsNothing, Corner, Device, Err, Ghosts, HasOnlyRead, IfErr, IsErrOf, IsRefusedEarly, IsSettled, IsUnderway, List, MakesPages, Mosaic, NoMemory, Ok, OnErr, OnOk, One, OnlyNow, PageMapValue, Point, Prepares, Reads, Refusal, Result, RootValue, Settles, StagesPages, StoredTile, Tree, Two, Version, ℕ, ℤ, ap, ap₂, arith, disk_of, false, has_begun, has_failed, if◌then◌else◌, in_memory, index_page_by, index_pages_due, inr, length, never_refused, ok_where, on_ok, pages_due, records_due, refl, refusal_is, root_of, staged_in, subst, sym, true, uncommitted_on, writes_begun, ⊎_elim, ◌+◌, ◌∙◌, ◌≡◌, ◌≤◌, ◌⊎◌}
-use Rattle.store.proofs.Edits.EditingReads.{reading, still_staged_by}
+use Rattle.store.proofs.Edits.EditingReads.{reading}
 use Rattle.store.proofs.Calls.Underway.{advances_none, advances_on}
 use Rattle.store.proofs.Edits.Staled.{changes_as, changes_none, changes_on}
 
@@ -8,10 +9,6 @@ use Rattle.store.proofs.Edits.Staled.{changes_as, changes_none, changes_on}
 index_pages_on : (version : Version) (p q : ℕ) → index_pages_due version p + index_pages_due version q ≡ index_pages_due version (p + q)
 index_pages_on One p q = refl
 index_pages_on Two p q = refl
-
-index_pages_more : (version : Version) (p q : ℕ) → p ≤ q → index_pages_due version p ≤ index_pages_due version q
-index_pages_more One p q less = omega arith
-index_pages_more Two p q less = less
 
 -- the index page of one page
 pub one_page_due : (version : Version) → index_page_by version ≡ index_pages_due version 1
@@ -42,15 +39,7 @@ module _ {D : Type 0} (g : Ghosts D) where
   }
 
   pub pages_within : {T : Type 0} (p r q s : ℕ) (old new : Tree D g) (result : Result T Refusal) → p ≤ q → r ≤ s → StagesPages g p r old new result → StagesPages g q s old new result
-  pages_within p r q s old new result fewer less done = record {
-    uncommitted = done.uncommitted;
-    corners = done.corners;
-    sinks = done.sinks;
-    still_staged = done.still_staged;
-    writes = omega (arith, done.writes, fewer);
-    begun = on_ok result (λ begun. omega (arith, begun, fewer)) done.begun;
-    due = on_ok result (λ due. omega (arith, due, less, index_pages_more (root_of old).version p q fewer)) done.due;
-  }
+  pages_within p r q s old new result fewer less done = search rules
 
   pub prepares_on : {T U : Type 0} (r s : ℕ) (old mid new : Tree D g) (x : T) (result : Result U Refusal) → Prepares g r old mid (Ok x) → Prepares g s mid new result → Prepares g (r + s) old new result
   prepares_on r s old mid new x result first second = record {
@@ -82,24 +71,10 @@ module _ {D : Type 0} (g : Ghosts D) where
 
   -- what was only read is none staged
   pub only_read : {T : Type 0} (p r : ℕ) (old new : Tree D g) (result : Result T Refusal) → HasOnlyRead g old new → CommitsNothing g old new result → StagesPages g p r old new result
-  only_read p r old new result keeps read =
-      let writes = keeps.writes in
-      let same = same_begun old new keeps.writes keeps.begun in
-      let due : records_due new ≡ records_due old = ap (λ (page_map : PageMapValue). length (pages_due page_map)) keeps.page_map in
-      record {
-        uncommitted = read;
-        corners = keeps.corners;
-        sinks = keeps.sinks;
-        still_staged = still_staged_by g old new keeps;
-        writes = omega (arith, writes);
-        begun = ok_where result (omega (arith, same));
-        due = ok_where result (omega (arith, due));
-      }
+  only_read p r old new result keeps read = search rules
 
   pub page_read : {T : Type 0} (p r : ℕ) (old new : Tree D g) (result : Result T Refusal) → Reads g old new result → StagesPages g p r old new result
-  page_read p r old new result reads =
-      only_read p r old new result reads.keeps
-      (reading g old new reads.keeps result reads.device (λ is. subst (λ (e : Result _ Refusal). OnErr e (has_failed new ≡ true)) is reads.failed) reads.not_failed)
+  page_read p r old new result reads = search rules
 
   module _ (only_now : OnlyNow g) where
     -- .. and stages no page

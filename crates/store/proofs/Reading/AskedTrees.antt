@@ -31,14 +31,6 @@ pub listed : {X A : Type 0} (Answers : Result (List X) Refusal → Type 0) (resu
 listed Answers (Ok xs) is = is
 listed Answers (Err r) is = is
 
--- no more tiles than a root has room for
-pub few_tiles : (cs : List Corner) (root : RootValue) → cs ≡ map (λ e. e.corner) root.entries → IsRoot root → length cs ≤ most_tiles
-few_tiles cs root same rules =
-    let count : length cs ≡ length root.entries = ap length same ∙ length-map root.entries (λ (e : EntryValue). e.corner) in
-    let room = rules.numbers.room in
-    let high = rules.numbers.format.capacity_high in
-    omega (arith, count, room, high)
-
 module _ {D : Type 0} (g : Ghosts D) (old new : Tree D g) (works : has_failed old ≡ false) (keeps : HasOnlyRead g old new) (honest : g.honest (disk_of new)) (s : State) (at : IsInState g old s) where
   abbrev here : Mosaic
   here = s.contents.mosaic

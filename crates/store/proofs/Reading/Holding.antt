@@ -1,4 +1,5 @@
 -- What a store holds from one commit to the next.
+use Rattle.std.proofs.Common.{rules}
 use Rattle.store.proofs.Prelude.{All, AllZip, Command, Contents, Corner, IsMosaic, IsTile, KeepFresh, KeepRight, List, Mosaic, Ok, Point, Stored, StoredTile, Tile, ℕ, ap, ap₂, effect, made_by, mosaic_of_tiles, next_commit, number_of, one_stored, refl, stale_after, stale_corners, subst, sym, ◌+◌, ◌∙◌, ◌≡◌}
 use Rattle.store.specs.Standing.{HoldsTile, Holds, AreSame, StandsForOneContents}
 use Rattle.store.proofs.Reading.HeldTiles.{AreTilesOf, tiles_held, tiles_filled, filled_hold}
@@ -45,10 +46,7 @@ holds_with side capacity stored c command new sinks tiles holds makes are_sinks 
 -- ---- an image stands for at most one
 
 same_contents : (a b : Contents) → a.version ≡ b.version → a.mosaic ≡ b.mosaic → a.count ≡ b.count → a.number ≡ b.number → a.stale ≡ b.stale → a ≡ b
-same_contents a b version mosaic count number stale =
-    ap₂ (λ (v : ℕ) (m : Mosaic). record { version = v; mosaic = m; count = a.count; number = a.number; stale = a.stale }) version mosaic
-    ∙ ap (λ (k : ℕ). record { version = b.version; mosaic = b.mosaic; count = k; number = a.number; stale = a.stale }) count
-    ∙ ap₂ (λ (k : ℕ) (l : List Corner). record { version = b.version; mosaic = b.mosaic; count = b.count; number = k; stale = l }) number stale
+same_contents a b version mosaic count number stale = search rules
 
 one_held : (side capacity other_side other_capacity : ℕ) (stored : Stored) (a b : Contents) → Holds side capacity stored a → Holds other_side other_capacity stored b
     → AreSame side capacity a other_side other_capacity b

@@ -1,4 +1,5 @@
 -- The commands of whole tiles in a state, by what the tree holds in memory.
+use Rattle.std.proofs.Common.{rules}
 use Rattle.store.proofs.Prelude.{Command, Corner, Ghosts, Image, Info, IsInState, IsSound, List, Mosaic, Ok, State, TileLocation, Tree, ℕ, [], ap, ap₂, corners_of_stored, effect, false, last_number, length, length-map, map, number_of, refl, stale_in, sym, tile_in, ◌-◌, ◌∙◌, ◌∷◌, ◌≡◌}
 use Rattle.catalogue.specs.Tiles.{corners_of}
 use Rattle.engine.specs.Outcomes.{IsWorn, info_of}
@@ -41,8 +42,4 @@ module _ {D : Type 0} (g : Ghosts D) (tree : Tree D g) (works : has_failed tree 
       (fresh ∙ ap₂ (λ (a b : ℕ). a - b) (ap length corners_are ∙ length-map s.contents.mosaic.tiles (λ t. t.corner)) (ap length at.stale)) (stale ∙ ap length at.stale)
 
   pub worn_at : (command : Command) (made : Mosaic) → effect capacity s.contents.mosaic command ≡ Ok made → (root_of tree).number ≡ last_number → IsWorn capacity s command s
-  worn_at command made makes worn = record {
-    stays = record { working = is_working; same = refl };
-    accepted = (made, makes);
-    worn = sym at.number ∙ worn;
-  }
+  worn_at command made makes worn = search rules

@@ -1,4 +1,5 @@
 -- What is held of a mosaic's water stays right through the calls of a store.
+use Rattle.std.proofs.Common.{rules}
 use Rattle.store.proofs.Prelude.{AppliesNot, Bool, Command, Contents, Corner, Device, DrainageCache, Err, Failed, Ghosts, IsHeldOf, IsHolding, IsInState, IsUpgraded, Mosaic, NoMemory, None, NotOld, Ok, OnOk, Option, Refusal, Result, Some, State, StepsNot, TooSmall, Tree, Upgrades, UpgradesNot, Worn, ℕ, ap, disk_of, effect, inl, inr, root_of, subst, sym, upgrade_ending, working, ◌≡◌, ◌⊎◌}
 use Rattle.store.specs.Ended.{Ending, EndsAt, IsApplied, IsStepped, command_ending, step_ending}
 
@@ -100,9 +101,7 @@ module _ {D : Type 0} (g : Ghosts D) (old new : Tree D g) where
   pub done_holding : (was now : DrainageCache) (c : Command) (result : Result ℕ Refusal)
       → (g.honest (disk_of new) → (s : State) → IsInState g old s → IsHeldOf s.contents.mosaic was → IsLeftBy (root_of old).capacity s.contents.mosaic c result now)
       → IsApplied g c result old new → EndsAt g (command_ending (root_of old).capacity c) result old new (λ s. IsHolding g old was s) (λ t. IsHolding g new now t)
-  done_holding was now c result left =
-      ended_holding (command_ending (root_of old).capacity c) was now result (λ s. IsInState g old s) (λ s at. at.in_state)
-      (λ honest s t at right happens. left_right (root_of old).capacity s t c result now (left honest s at right) happens)
+  done_holding was now c result left = search rules
 
   -- a command that is refused, and leaves what is held
   pub unchanged_holding : (held : DrainageCache) (c : Command) (result : Result ℕ Refusal) {r : Refusal} → result ≡ Err r

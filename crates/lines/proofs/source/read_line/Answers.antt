@@ -1,4 +1,4 @@
-use Rattle.std.proofs.Common.{rules, arith, ◌≡◌, ◌≢◌, ◌++◌, take, ◌+◌, length, length-drop, [], ap, ◌∙◌}
+use Rattle.std.proofs.Common.{rules, arith, ◌≡◌, ◌≢◌, ◌++◌, take, ◌+◌, length, [], ap, ◌∙◌}
 use Rattle.std.proofs.lemmas.List.{drop_all}
 use Rattle.std.proofs.lemmas.List.Elements.{All-append}
 use Rattle.lines.proofs.AheadLemmas.{Consumes-rest, Consumes-feed}
@@ -29,10 +29,3 @@ loop-ahead-preserved g c =
       omega (arith, c.take-in-None.ensures.spent, c.in_ok-make_ready.ensures.kept, before.3),
       Consumes-rest _ _ ahead _ _ _ _ before.0 before.4 c.make_ready.ensures.taken spent,
     )
-
-pub returns-in-Some-clause-near : goal.returns-in-Some-clause-near
-returns-in-Some-clause-near g c whole =
-    let ahead = c.make_ready.new.self.bytes in
-    let same : c.bytes-bytes.result.now ≡ ahead = search rules in
-    let found = rw same at c.in-Some.ensures in
-    omega (arith, ap length c.take.ensures.bytes, length-drop (c.in-Some.end + 1) ahead, ap length same, c.bytes-bytes.ensures.chunk, found.0)

@@ -1,4 +1,3 @@
-use Rattle.std.proofs.Common.{Err}
 use Rattle.std.proofs.lemmas.Result.{err_from_is_err_and}
 use Rattle.serving.proofs.OutputLemmas.{breaks_first, in_turn}
 use Rattle.serving.proofs.output.write_reply.Goals as goal

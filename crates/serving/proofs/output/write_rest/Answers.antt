@@ -1,19 +1,10 @@
-use Rattle.std.proofs.Common.{arith, ◌≡◌, ◌<◌, ◌+◌, ◌++◌, ◌∙◌, List, ℕ, [], Ok, Err, length, length-append, ap, sym, refl, subst, true≢false}
+use Rattle.std.proofs.Common.{◌≡◌, ◌+◌, ◌++◌, ◌∙◌, List, ℕ, [], Ok, Err, ap, sym, refl, subst}
 use Rattle.std.proofs.KnownBytes.{Appends-nil}
 use Rattle.std.proofs.lemmas.Result.{err_from_is_err_and}
 use Rattle.serving.specs.Writing.{WritesAll}
 use Rattle.serving.specs.declared.output.OutputFault.{OutputFault}
 use Rattle.serving.proofs.OutputLemmas.{breaks_first, in_turn}
 use Rattle.serving.proofs.output.write_rest.Goals as goal
-
-pub loop-rest-smaller : goal.loop-rest-smaller
-loop-rest-smaller g c =
-    let part = c.next_part-part.result.items in
-    let left = c.next_part-part.new.self in
-    let size : length (part ++ left) ≡ length part + length left = length-append part left in
-    let whole : length (part ++ left) ≡ length c.loop-rest.rest = ap length c.next_part-part.ensures.next in
-    let some : 0 < length part = c.next_part-part.ensures.some (λ none. true≢false (sym (c.is_made.ensures.1 none) ∙ c.loop-rest-test.true)) in
-    omega (arith, size, whole, some)
 
 pub loop-rest-preserved : goal.loop-rest-preserved
 loop-rest-preserved g c = λ r s more.

@@ -1,4 +1,4 @@
-use Rattle.std.proofs.Common.{rules, refl, ap, ◌∙◌, ◌≡◌, [], ◌++◌, ⊎_elim, inl, inr}
+use Rattle.std.proofs.Common.{rules, refl, ap, ◌∙◌, ◌≡◌, [], ◌++◌, ⊎_elim, inl}
 use Rattle.std.specs.Prelude.{Ok, Err}
 use Rattle.engine.specs.Runs.{last_of}
 use Rattle.lines.specs.Ahead.{to_come}
@@ -63,22 +63,6 @@ returns-in-Err-clause-calls g c =
             c.args.language _ _ _ _ c.args.engine.now (before.0 ++ calls.0) (Err c.in-Err.fault) outcome,
       ),
     )
-
-pub returns-in-Ok-End-clause-output : goal.returns-in-Ok-End-clause-output
-returns-in-Ok-End-clause-output g c =
-    let step = c.in-Ok-End.ensures.output in
-    record {
-      told = ⊎_elim (λ none. inl (none ∙ c.items.invariant.0)) (λ told. absurd (cc)) step.told;
-      caused = λ told. absurd (cc);
-    }
-
-pub returns-in-Err-clause-output : goal.returns-in-Err-clause-output
-returns-in-Err-clause-output g c =
-    let step = c.in-Err.ensures.output in
-    record {
-      told = ⊎_elim (λ none. inl (none ∙ c.items.invariant.0)) (λ told. inr (cc)) step.told;
-      caused = λ told. step.caused (cc);
-    }
 
 pub returns-in-Ok-End-clause-end : goal.returns-in-Ok-End-clause-end
 returns-in-Ok-End-clause-end g c =

@@ -1,4 +1,4 @@
-use Rattle.std.proofs.Common.{rules, ◌≡◌, ◌≢◌, [], ◌∷◌, ◌++◌, Some, inl, inr, refl, sym, ◌∙◌, subst}
+use Rattle.std.proofs.Common.{rules, ◌≡◌, ◌≢◌, [], ◌∷◌, ◌++◌, Some, inr, refl, sym, ◌∙◌, subst}
 use Rattle.std.specs.Prelude.{option_map}
 use Rattle.std.specs.Io.KnownBytes.{IsAtEnd}
 use Rattle.std.proofs.KnownBytes.{Appends-nil}
@@ -83,14 +83,6 @@ returns-clause-calls g c =
         ],
       ),
     )
-
-pub returns-then-is_over-clause-end : goal.returns-then-is_over-clause-end
-returns-then-is_over-clause-end g c ended =
-    let line = c.in-Ok.ensures.ok in
-    let over = (c.is_over.ensures line.0 line.2).0 c.if-is_over.true in
-    let none : c.read_line.new.ahead.bytes ≡ [] = search rules in
-    let end : IsAtEnd (g.R.Read.remaining c.read_line.new.reader) = search rules in
-    inl (none, end)
 
 pub returns-clause-end : goal.returns-clause-end
 returns-clause-end g c ended =

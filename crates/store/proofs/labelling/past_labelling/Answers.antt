@@ -1,4 +1,4 @@
-use Rattle.store.proofs.Prelude.{Ok, false, read_nothing, rules, sym, ◌∙◌, ◌≡◌}
+use Rattle.store.proofs.Prelude.{Ok, false, read_nothing, rules, sym, ◌∙◌}
 use Rattle.store.proofs.KeptPlanes.Labelled.{failed_before, read_so_far, reads_then}
 use Rattle.store.proofs.labelling.past_labelling.Goals as goal
 

@@ -1,4 +1,4 @@
-use Rattle.store.proofs.Prelude.{Contains, Corner, List, RootValue, Stales, Tree, ap₂, arith, corners_of, false, get_or, goes_stale_by, length, refl, root_of, rules, subst, sym, take, true, ◌+◌, ◌<◌, ◌∙◌, ◌≡◌, ◌≤◌}
+use Rattle.store.proofs.Prelude.{Corner, List, RootValue, Stales, Tree, ap₂, arith, corners_of, false, get_or, goes_stale_by, length, refl, root_of, rules, subst, sym, take, true, ◌+◌, ◌<◌, ◌∙◌, ◌≡◌, ◌≤◌}
 use Rattle.store.proofs.Reading.Nearby.{passes_first, first_more, first_same, first_all}
 use Rattle.store.proofs.Edits.Staled.{stales_none}
 use Rattle.store.proofs.marking_stale.mark_stale.Goals as goal
@@ -6,11 +6,6 @@ use Rattle.store.proofs.marking_stale.mark_stale.Goals.{then-is_stale, else-is_s
 
 pub loop-corner-init : goal.loop-corner-init
 loop-corner-init g c = stales_none g.D.Disk c.args.tree.now
-
-pub drop_kept-requires : goal.drop_kept-requires
-drop_kept-requires g c =
-    let listed = c.as_slice-corner-items.ensures.value ∙ c.corners-corners.ensures.corners in
-    subst (λ (cs : List Corner). Contains cs c.corner-item.result) (listed ∙ sym c.loop-corner.invariant.corners) (c.loop-corner.corner-index, c.loop-corner-test.true, sym c.corner-item.is)
 
 pub loop-corner-preserved : goal.loop-corner-preserved
 loop-corner-preserved g c =

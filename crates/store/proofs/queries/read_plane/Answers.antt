@@ -1,11 +1,8 @@
-use Rattle.std.proofs.Common.{◌≡◌, ℕ, ◌+◌, ◌-◌, ◌*◌, ◌≤◌, min, List, ◌++◌, length, take, IsOk, Result, Ok, Err, is_ok, if◌then◌else◌, vec_len, sym, ap, ◌∙◌, subst, arith, length-take-le}
+use Rattle.std.proofs.Common.{◌≡◌, ℕ, ◌+◌, ◌-◌, ◌*◌, min, List, ◌++◌, length, take, IsOk, Result, Ok, Err, is_ok, if◌then◌else◌, vec_len, sym, ap, ◌∙◌, subst, arith, length-take-le}
 use Rattle.std.proofs.lemmas.Result.{err_from_is_err_and}
-use Rattle.store.proofs.Prelude.{HasPage, HasPlane, PageMapValue, Refusal, RootValue, StoredTile, pages_of, read_again, staged_in}
+use Rattle.store.proofs.Prelude.{HasPage, Refusal, RootValue, StoredTile, pages_of, read_again, staged_in}
 use Rattle.store.proofs.Reading.QueryingPages.{IsReadTo, read_more, all_read, page_of_tile}
 use Rattle.store.proofs.queries.read_plane.Goals as goal
-
-pub scan_page-requires-clause-held : goal.scan_page-requires-clause-held
-scan_page-requires-clause-held g c = subst (λ (page_map : PageMapValue). HasPlane page_map.staged c.args.corner c.args.plane) (sym c.loop-i.invariant.keeps.page_map) c.requires.held
 
 -- a choice by a result that is Ok
 grown_items : {A E B : Type 0} (r : Result A E) (new more same : B) → new ≡ (if is_ok r then more else same) → IsOk r → new ≡ more
@@ -52,15 +49,6 @@ returns-clause-bytes g c honest t pages is has =
     let count : c.loop-i.i ≡ pages_of n = ended ∙ c.pages_in_plane-i-end.ensures.value ∙ ap pages_of side in
     all_read n pages bytes (subst (λ (k : ℕ). IsReadTo (2 * (n * n)) pages k bytes) count
     (subst (λ (k : ℕ). IsReadTo k pages c.loop-i.i bytes) len (c.loop-i.invariant.read honest t pages is has)))
-
-pub returns-clause-whole : goal.returns-clause-whole
-returns-clause-whole g c =
-    let n : ℕ = c.args.tree.now.roots.root.side in
-    let side : c.side-side.result ≡ n = c.side-side.ensures.value ∙ ap (λ (r : RootValue). r.side) c.current.ensures in
-    let len : c.file_bytes-len.result ≡ 2 * (n * n) = c.file_bytes-len.ensures.value ∙ ap (λ (k : ℕ). 2 * (k * k)) side in
-    let ended : c.loop-i.i ≡ c.pages_in_plane-i-end.result = omega (arith, c.loop-i-test.false, c.loop-i.auto.i-end) in
-    let enough : 2 * (n * n) ≤ 4096 * c.pages_in_plane-i-end.result = subst (λ (k : ℕ). 2 * (k * k) ≤ 4096 * c.pages_in_plane-i-end.result) side c.pages_in_plane-i-end.ensures.least.enough in
-    omega (arith, c.loop-i.invariant.upto, len, ended, enough)
 
 pub returns-in_err-scan_page-clause-reads : goal.returns-in_err-scan_page-clause-reads
 returns-in_err-scan_page-clause-reads g c =

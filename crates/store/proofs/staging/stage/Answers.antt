@@ -1,10 +1,10 @@
-use Rattle.store.proofs.Prelude.{AreTilesOf, AreVoidTiles, Contains, Corner, Device, Edit, FindsVoids, FitsIn, Ghosts, IsMade, IsTrue, KeepsBut, List, MakesPages, NewHeight, Ok, OnOk, OnlyNow, Patch, Point, Refusal, Result, StagesFew, StagesPages, Stored, StoredTile, Tree, ℕ, ℤ, and_parts, ap, arith, box_meets, edit_made, false, filled, heightened, in_memory, int_le, ints, keepers, le_true, length, length-map, mosaic_of, mosaic_of_tiles, negsuc, never_refused, on_ok, pages_met, pages_of, pages_of_bytes, pages_with, points_of, pos, refl, stale_tile, subst, sym, with_heights, with_sinks, ◌∙◌, ◌≡◌}
+use Rattle.store.proofs.Prelude.{AreTilesOf, AreVoidTiles, Contains, Corner, Device, Edit, FindsVoids, FitsIn, Ghosts, IsMade, IsTrue, KeepsBut, List, MakesPages, NewHeight, Ok, OnOk, OnlyNow, Patch, Point, Refusal, Result, StagesFew, StagesPages, Stored, StoredTile, Tree, ℕ, ℤ, and_parts, ap, arith, box_meets, edit_made, false, filled, heightened, in_memory, int_le, ints, keepers, le_true, length, length-map, mosaic_of, mosaic_of_tiles, negsuc, never_refused, on_ok, pages_met, pages_of, pages_of_bytes, pages_with, points_of, pos, refl, stale_tile, subst, sym, with_heights, ◌∙◌, ◌≡◌}
 use mir.Syntax.{w16}
 use mir.Val.{to_z, of_z}
 use Rattle.store.proofs.Edits.VoidPages.{sample_passed}
 use Rattle.lattice.specs.Mosaic.{Mosaic, AreSinks, IsMosaic, IsSample}
 use Rattle.lattice.proofs.Rising.{rising_from}
-use Rattle.edits.specs.declared.edit.Edit.TheVariants.{Add, Drop, Heights, Voids, Sink, Unsink}
+use Rattle.edits.specs.declared.edit.Edit.TheVariants.{Add, Drop, Heights, Voids}
 use Rattle.edits.specs.Effect.{edited, patched, is_height}
 use Rattle.edits.specs.Sinks.{with_point, without_point}
 use Rattle.edits.proofs.SinkLists.{length_with, sinks_without}
@@ -12,7 +12,7 @@ use Rattle.cow_tree.specs.Trees.{disk_of, root_of, has_failed, corners_of, sinks
 use Rattle.cow_tree.specs.Uncommitted.{CommitsNothing, MakesNoCall}
 use Rattle.store.proofs.Reading.HeldTiles.{imported, removed}
 use Rattle.store.proofs.Reading.Nearby.{there_listed}
-use Rattle.store.proofs.Calls.Made.{kept_as, kept_left, kept_with, with_others}
+use Rattle.store.proofs.Calls.Made.{kept_as, kept_left, kept_with}
 use Rattle.store.proofs.Edits.NewHeights.{heights_made, sinks_kept}
 use Rattle.store.proofs.Edits.PagesMet.{pages_few}
 use Rattle.store.proofs.Calls.Underway.{all_settled, underway_first}
@@ -41,15 +41,6 @@ made_tiles {result} d old new n made fits p done honest s m at fit valid are =
 -- what makes no call of the disk commits nothing
 done_in_memory : {D : Type 0} (d : Ghosts D) → OnlyNow d → (old new : Tree D d) → MakesNoCall old new → has_failed old ≡ false → ((s : Stored) → IsAt d old s → IsAt d new s) → CommitsNothing {T = Unit {0}} d old new (Ok tt)
 done_in_memory d only_now old new makes works at = in_memory d old new (Ok tt) only_now makes works (λ _. at) (λ refused. never_refused (tt {0}) Device refused)
-
--- only the sinks are others
-declared : {D : Type 0} (d : Ghosts D) (old new : Tree D d) (m : Mosaic) (made : Edit) (sinks : List Point) → edit_made made m ≡ with_sinks sinks m → AreTilesOf (root_of old).side (staged_in d old) m → staged_in d new ≡ staged_in d old
-    → sinks_of new ≡ sinks → IsMade d made m old new
-declared d old new m made sinks is are staged now = record {
-  tiles = subst (AreTilesOf (root_of old).side (staged_in d new)) (sym is) (subst (λ (ts : List StoredTile). AreTilesOf (root_of old).side ts (with_sinks sinks m)) (sym staged) (with_others (root_of old).side (staged_in d old) m sinks are));
-  sinks = now ∙ ap (λ (x : Mosaic). x.sinks) (sym is);
-  kept = kept_as made (staged_in d old) (staged_in d new) (ap keepers staged);
-}
 
 pub drop_plane-requires-clause-settled : goal.drop_plane-requires-clause-settled
 drop_plane-requires-clause-settled g c = c.requires.unstaged c.in-Drop.corner
@@ -146,18 +137,6 @@ returns-in-Heights-clause-made g c honest s m at valid are sinks finds =
     })
     (made_tiles d old new n (λ x. heightened heights) (λ x. Unit {0}) (pages_with n (corners_of old) (points_of heights)) c.stage_pages.ensures.makes honest s m at tt valid are))
 
--- the pages of their tiles with a row of the box
-pub returns-in-Voids-clause-few : goal.returns-in-Voids-clause-few
-returns-in-Voids-clause-few g c =
-    let d = g.D.Disk in
-    let old = c.args.tree.now in
-    let new = c.stage_voids.new.tree in
-    let n : ℕ = (root_of old).side in
-    let patch : Patch = record { from = c.in-Voids.from; to = c.in-Voids.to; height = c.in-Voids.height } in
-    subst (λ (e : Edit). StagesFew d e old new c.stage_voids.result) (sym c.in-Voids.is)
-    (subst (λ (tiles : List Corner). StagesPages d (pages_met (box_meets n patch tiles) (pages_of n) (corners_of old)) (pages_met (box_meets n patch tiles) (pages_of n) (corners_of old)) old new c.stage_voids.result)
-    c.as_slice-in-Voids.ensures.value c.stage_voids.ensures.makes.pages)
-
 pub returns-in-Voids-clause-made : goal.returns-in-Voids-clause-made
 returns-in-Voids-clause-made g c honest s m at valid are sinks finds =
     let d = g.D.Disk in
@@ -188,18 +167,3 @@ returns-in-Sink-clause-uncommitted g c = let is = c.declare.ensures in done_in_m
 
 pub returns-in-Unsink-clause-uncommitted : goal.returns-in-Unsink-clause-uncommitted
 returns-in-Unsink-clause-uncommitted g c = let is = c.declare-in-Unsink.ensures in done_in_memory g.D.Disk g.met.D.Disk.only_now c.args.tree.now c.declare-in-Unsink.new.self is.no_call c.requires.works is.at
-
-pub returns-in-Sink-clause-made : goal.returns-in-Sink-clause-made
-returns-in-Sink-clause-made g c honest s m at valid are sinks finds =
-    let is = c.declare.ensures in
-    let p : Point = c.in-Sink.point in
-    subst (λ (e : Edit). IsMade g.D.Disk e m c.args.tree.now c.declare.new.self) (sym c.in-Sink.is)
-    (declared g.D.Disk c.args.tree.now c.declare.new.self m (Sink p c.in-Sink.metres) (with_point p m.sinks) refl are is.staged (is.sinks ∙ c.deref.ensures.0 ∙ c.with_point-sinks.ensures ∙ ap (with_point p) (c.sinks.ensures.value ∙ sinks)))
-
-pub returns-in-Unsink-clause-made : goal.returns-in-Unsink-clause-made
-returns-in-Unsink-clause-made g c honest s m at valid are sinks finds =
-    let is = c.declare-in-Unsink.ensures in
-    let p : Point = c.in-Unsink.point in
-    subst (λ (e : Edit). IsMade g.D.Disk e m c.args.tree.now c.declare-in-Unsink.new.self) (sym c.in-Unsink.is)
-    (declared g.D.Disk c.args.tree.now c.declare-in-Unsink.new.self m (Unsink p c.in-Unsink.metres) (without_point p m.sinks) refl are is.staged
-    (is.sinks ∙ c.deref-in-Unsink.ensures.0 ∙ c.without_point-sinks.ensures ∙ ap (without_point p) (c.sinks-in-Unsink.ensures.value ∙ sinks)))

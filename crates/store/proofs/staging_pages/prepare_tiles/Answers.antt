@@ -1,19 +1,13 @@
-use Rattle.store.proofs.Prelude.{All, Contains, Corner, Err, IsPrepared, List, Ok, Prepares, Refusal, Result, ℕ, arith, corners_of, pages_met, pages_met_in, pages_of, refused_as, subst, sym, take, take_all, ◌+◌}
+use Rattle.store.proofs.Prelude.{Contains, Corner, Err, IsPrepared, List, Ok, Prepares, Refusal, Result, ℕ, arith, corners_of, pages_met, pages_met_in, pages_of, refused_as, subst, sym, take, ◌+◌}
 use Rattle.std.proofs.lemmas.List.Elements.{All-more, All-weaker}
 use Rattle.store.proofs.Edits.PagesMet.{met_front, met_more}
-use Rattle.store.proofs.KeptPlanes.StagingSteps.{none_prepared, prepares_on, prepares_within}
+use Rattle.store.proofs.KeptPlanes.StagingSteps.{prepares_on, prepares_within}
 use Rattle.store.proofs.staging_pages.prepare_tiles.Goals as goal
 
 pub prepare_tile-requires-clause-present : goal.prepare_tile-requires-clause-present
 prepare_tile-requires-clause-present g c =
     subst (λ (cs : List Corner). Contains cs c.corner-item.result) (sym c.loop-corner.invariant.prepares.changes.corners)
     (subst (Contains (corners_of c.args.tree.now)) (sym c.corner-item.is) (c.requires.present c.loop-corner.corner-index c.corner-item.result c.loop-corner-test.true))
-
-pub loop-corner-init : goal.loop-corner-init
-loop-corner-init g c = record {
-  prepares = none_prepared g.D.Disk 0 c.args.tree.now;
-  prepared = λ k d below. absurd (omega (arith, below));
-}
 
 pub returns-in_err-prepare_tile-clause-prepares : goal.returns-in_err-prepare_tile-clause-prepares
 returns-in_err-prepare_tile-clause-prepares g c =
@@ -58,14 +52,3 @@ loop-corner-preserved g c =
           (All-weaker (IsPrepared meets (pages_of n) mid) (IsPrepared meets (pages_of n) new) (λ e was i below met. is.prepares.still_staged e (was i below met)) (take k corners) so.prepared)
           (subst (IsPrepared meets (pages_of n) new) c.corner-item.is is.prepared);
     }
-
-pub returns-clause-prepares : goal.returns-clause-prepares
-returns-clause-prepares g c =
-    let ok : Result (Unit {0}) Refusal = Ok tt in
-    subst (λ (l : List Corner). Prepares g.D.Disk (pages_met (g.E.PageEdit.meets c.args.edit.now c.args.side) (pages_of c.args.side) l) c.args.tree.now c.loop-corner.tree ok)
-    (take_all c.loop-corner.corner-index c.args.corners.now c.loop-corner-test.false) c.loop-corner.invariant.prepares
-
-pub returns-clause-prepared : goal.returns-clause-prepared
-returns-clause-prepared g c =
-    subst (λ (l : List Corner). All (IsPrepared (g.E.PageEdit.meets c.args.edit.now c.args.side) (pages_of c.args.side) c.loop-corner.tree) l)
-    (take_all c.loop-corner.corner-index c.args.corners.now c.loop-corner-test.false) c.loop-corner.invariant.prepared

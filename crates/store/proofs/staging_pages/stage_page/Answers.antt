@@ -1,4 +1,4 @@
-use Rattle.store.proofs.Prelude.{Bool, Corner, Err, HasPage, HasStaged, Heights, IsEdited, IsUnderway, List, MakesPages, Mosaic, Ok, PageMapValue, Refusal, Result, RootValue, Settles, StoredTile, ℕ, ap, arith, disk_of, has_begun, if◌then◌else◌, index_page_by, index_pages_due, length, ok_where, on_ok, pages_due, pages_of, records_due, refused_as, root_of, staged_in, subst, sym, tile_at_corner, uncommitted_on, with_page, writes_begun, ◌+◌, ◌<◌, ◌∙◌, ◌≡◌, ◌≤◌}
+use Rattle.store.proofs.Prelude.{Bool, Corner, Err, HasPage, HasStaged, Heights, IsEdited, IsUnderway, List, MakesPages, Mosaic, Ok, PageMapValue, Refusal, Result, RootValue, Settles, StoredTile, ℕ, ap, arith, disk_of, has_begun, if◌then◌else◌, index_page_by, index_pages_due, length, ok_where, on_ok, pages_due, records_due, refused_as, root_of, staged_in, subst, sym, tile_at_corner, uncommitted_on, with_page, writes_begun, ◌+◌, ◌∙◌, ◌≡◌, ◌≤◌}
 use Rattle.store.proofs.Edits.EditingWrites.{page_written}
 use Rattle.store.proofs.KeptPlanes.StagingSteps.{one_page_due, only_device, page_read}
 use Rattle.store.proofs.Calls.Underway.{page_left, page_of, page_staged}
@@ -7,12 +7,6 @@ use Rattle.store.proofs.staging_pages.stage_page.Goals.{After-edit_page}
 
 pub read_page-requires-clause-held : goal.read_page-requires-clause-held
 read_page-requires-clause-held g c = tile_at_corner c.args.corner c.args.tree.now.page_map.staged c.requires.present
-
-pub read_page-requires-clause-index : goal.read_page-requires-clause-index
-read_page-requires-clause-index g c = subst (λ (n : ℕ). c.args.index < pages_of n) c.requires.side c.requires.index
-
-pub stage-requires-clause-index : goal.stage-requires-clause-index
-stage-requires-clause-index g c = subst (λ (n : ℕ). c.args.index < pages_of n) (c.requires.side ∙ sym (ap (λ (r : RootValue). r.side) c.in_ok-read_page.ensures.reads.keeps.root)) c.requires.index
 
 -- the page alone
 abbrev Here : Corner → ℕ → Corner → ℕ → Type 0

@@ -1,9 +1,6 @@
-use Rattle.store.proofs.Prelude.{All, All-contains_itself, Contains, Corner, Err, IfErr-weaker, IsPrepared, IsRefusedEarly, List, MakesPages, Ok, Prepares, Refusal, Result, RootValue, ℕ, ap, arith, corners_of, inl, pages_met, pages_of, refused_as, root_of, subst, sym, ◌∙◌, ◌≡◌}
-use Rattle.store.proofs.KeptPlanes.StagingSteps.{made_behind, pages_within, prepared_early, prepared_pages}
+use Rattle.store.proofs.Prelude.{All, All-contains_itself, Contains, Corner, Err, List, MakesPages, Ok, Prepares, Refusal, Result, RootValue, ℕ, ap, arith, corners_of, pages_met, pages_of, refused_as, root_of, subst, sym, ◌∙◌, ◌≡◌}
+use Rattle.store.proofs.KeptPlanes.StagingSteps.{made_behind, pages_within, prepared_pages}
 use Rattle.store.proofs.staging_pages.stage_pages.Goals as goal
-
-pub prepare_tiles-requires-clause-made_for : goal.prepare_tiles-requires-clause-made_for
-prepare_tiles-requires-clause-made_for g c = subst (λ (n : ℕ). g.E.PageEdit.is_for c.args.edit.now n) (sym (c.side-side.ensures.value ∙ ap (λ (r : RootValue). r.side) c.current.ensures)) c.requires.made_for
 
 pub prepare_tiles-requires-clause-present : goal.prepare_tiles-requires-clause-present
 prepare_tiles-requires-clause-present g c =
@@ -27,32 +24,11 @@ returns-in_err-prepare_tiles-clause-makes g c =
     (sym (refused_as c.from_residual.result r c.from_residual.ensures.1))
     (record { pages = pages_within d 0 q q q old new err (omega arith) (omega arith) (prepared_pages d g.met.D.Disk.only_now q old new err c.requires.works done); set = λ honest s m at fit under. tt })
 
-pub returns-in_err-prepare_tiles-clause-refused : goal.returns-in_err-prepare_tiles-clause-refused
-returns-in_err-prepare_tiles-clause-refused g c =
-    let d = g.D.Disk in
-    let n : ℕ = c.side-side.result in
-    let r : Refusal = c.in_err-prepare_tiles.field-0.0 in
-    let err : Result (Unit {0}) Refusal = Err r in
-    subst (λ (result : Result (Unit {0}) Refusal). IsRefusedEarly d c.args.tree.now c.prepare_tiles.new.tree result) (sym (refused_as c.from_residual.result r c.from_residual.ensures.1))
-    (prepared_early d (pages_met (g.E.PageEdit.meets c.args.edit.now n) (pages_of n) c.as_slice.result.now) c.args.tree.now c.prepare_tiles.new.tree err c.requires.works c.in_err-prepare_tiles.ensures.prepares)
-
-pub stage_tiles-requires-clause-side : goal.stage_tiles-requires-clause-side
-stage_tiles-requires-clause-side g c =
-    c.side-side.ensures.value ∙ ap (λ (r : RootValue). r.side) c.current.ensures ∙ sym (ap (λ (r : RootValue). r.side) c.in_ok-prepare_tiles.ensures.prepares.changes.no_call.root)
-
-pub stage_tiles-requires-clause-made_for : goal.stage_tiles-requires-clause-made_for
-stage_tiles-requires-clause-made_for g c = subst (λ (n : ℕ). g.E.PageEdit.is_for c.args.edit.now n) (sym (c.side-side.ensures.value ∙ ap (λ (r : RootValue). r.side) c.current.ensures)) c.requires.made_for
-
 pub stage_tiles-requires-clause-present : goal.stage_tiles-requires-clause-present
 stage_tiles-requires-clause-present g c =
     let old = c.args.tree.now in
     subst (λ (cs : List Corner). All (Contains cs) c.as_slice-2.result.now) (sym c.in_ok-prepare_tiles.ensures.prepares.changes.corners)
     (subst (λ (cs : List Corner). All (Contains (corners_of old)) cs) (sym (c.as_slice-2.ensures.value ∙ c.corners-corners.ensures.corners)) (All-contains_itself (corners_of old)))
-
-pub stage_tiles-requires-clause-prepared : goal.stage_tiles-requires-clause-prepared
-stage_tiles-requires-clause-prepared g c =
-    let n : ℕ = c.side-side.result in
-    subst (λ (cs : List Corner). All (IsPrepared (g.E.PageEdit.meets c.args.edit.now n) (pages_of n) c.prepare_tiles.new.tree) cs) (c.as_slice.ensures.value ∙ sym c.as_slice-2.ensures.value) c.in_ok-prepare_tiles.ensures.prepared
 
 pub returns-clause-makes : goal.returns-clause-makes
 returns-clause-makes g c =
@@ -75,6 +51,3 @@ returns-clause-makes g c =
     (subst (λ (cs : List Corner). MakesPages d c.side-side.result made fits (λ e i. Contains cs e) (pages_met (meets c.side-side.result) (pages_of c.side-side.result) cs) 0 mid new c.stage_tiles.result)
     (c.as_slice-2.ensures.value ∙ c.corners-corners.ensures.corners) c.stage_tiles.ensures.makes) in
     made_behind d g.met.D.Disk.only_now n made fits (λ e i. Contains (corners_of old) e) q q old mid new c.stage_tiles.result c.requires.works first second
-
-pub returns-clause-refused : goal.returns-clause-refused
-returns-clause-refused g c = IfErr-weaker c.stage_tiles.result _ _ (λ r device. inl device) c.stage_tiles.ensures.refused

@@ -1,6 +1,6 @@
-use Rattle.store.proofs.Prelude.{Contains, Corner, Err, IsSettled, IsUnderway, List, MakesPages, Mosaic, Ok, Refusal, Result, RootValue, StoredTile, ℕ, ap, arith, cases_lt, false, inl, inr, pages_met_in, pages_of, refused_as, subst, sym, ⊎_elim, ◌+◌, ◌<◌, ◌∙◌, ◌≡◌, ◌⊎◌}
+use Rattle.store.proofs.Prelude.{Corner, Err, IsSettled, IsUnderway, List, MakesPages, Mosaic, Ok, Refusal, Result, StoredTile, ℕ, arith, cases_lt, false, inl, inr, pages_met_in, pages_of, refused_as, subst, sym, ⊎_elim, ◌+◌, ◌<◌, ◌≡◌, ◌⊎◌}
 use Rattle.store.proofs.Edits.PagesMet.{met_next, met_same, met_within}
-use Rattle.store.proofs.KeptPlanes.StagingSteps.{none_made, made_as, made_on, pages_within}
+use Rattle.store.proofs.KeptPlanes.StagingSteps.{made_as, made_on, pages_within}
 use Rattle.store.proofs.Calls.Underway.{page_beyond, page_passed}
 use Rattle.store.proofs.staging_pages.stage_tile.Goals as goal
 use Rattle.store.proofs.staging_pages.stage_tile.Goals.{After-next_page}
@@ -11,24 +11,6 @@ passed_settled : (g : _) (c : After-next_page g) → (m : Mosaic) → g.E.PageEd
 passed_settled g c m fit tiles under d at i out =
     subst (λ (q : Corner). IsSettled c.args.side (g.E.PageEdit.made c.args.edit.now m) tiles q i) (sym at)
     (page_passed c.args.side (g.E.PageEdit.made c.args.edit.now m) m tiles under c.args.corner i (λ t there corner. c.next_page.ensures.leaves m under.valid under.side fit t there corner i out))
-
-pub pages-init : goal.pages-init
-pages-init g c = record {
-  within = omega arith;
-  makes = none_made g.D.Disk g.met.D.Disk.only_now c.args.side (g.E.PageEdit.made c.args.edit.now) (g.E.PageEdit.fits c.args.edit.now) (λ d i. (d ≡ c.args.corner) × (i < 0)) c.args.tree.now c.requires.works
-      (λ d i is. absurd (let below = is.1 in omega (arith, below)));
-}
-
-pub stage_page-requires-clause-side : goal.stage_page-requires-clause-side
-stage_page-requires-clause-side g c = c.requires.side ∙ sym (ap (λ (r : RootValue). r.side) c.pages.invariant.makes.pages.uncommitted.root)
-
-pub stage_page-requires-clause-present : goal.stage_page-requires-clause-present
-stage_page-requires-clause-present g c = subst (λ (cs : List Corner). Contains cs c.args.corner) (sym c.pages.invariant.makes.pages.corners) c.requires.present
-
-pub stage_page-requires-clause-prepared : goal.stage_page-requires-clause-prepared
-stage_page-requires-clause-prepared g c =
-    let met = c.in-Some.ensures.met in
-    c.pages.invariant.makes.pages.still_staged c.args.corner (c.requires.prepared c.in-Some.index met.1 met.2)
 
 pub returns-in_err-stage_page-clause-makes : goal.returns-in_err-stage_page-clause-makes
 returns-in_err-stage_page-clause-makes g c =
@@ -78,13 +60,6 @@ pages-preserved g c =
           (made_on d g.met.D.Disk.only_now n made fits (λ d k. (d ≡ corner) × (k < from)) (λ d k. (d ≡ corner) × (k ≡ i)) (pages_met_in meets from) 1 old c.pages.tree new tt ok
           c.pages.invariant.makes c.in_ok-stage_page.ensures.makes);
     }
-
-pub pages-smaller : goal.pages-smaller
-pages-smaller g c =
-    let met = c.in-Some.ensures.met in
-    let from = met.0 in
-    let below = met.1 in
-    omega (arith, from, below)
 
 pub returns-clause-makes : goal.returns-clause-makes
 returns-clause-makes g c =

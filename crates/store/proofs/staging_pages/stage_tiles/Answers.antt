@@ -1,26 +1,12 @@
-use Rattle.store.proofs.Prelude.{Contains, Contains-push_cases, Corner, Err, IsPrepared, List, MakesPages, Ok, Refusal, Result, RootValue, ℕ, [], ap, arith, corners_of, inl, inr, pages_met, pages_met_in, pages_of, refused_as, subst, sym, take, take_all, take_more, ⊎_elim, ◌++◌, ◌+◌, ◌∙◌, ◌∷◌, ◌≡◌, ◌⊎◌}
+use Rattle.store.proofs.Prelude.{Contains, Contains-push_cases, Corner, Err, List, MakesPages, Ok, Refusal, Result, ℕ, [], ap, arith, corners_of, inl, inr, pages_met, pages_met_in, pages_of, refused_as, subst, sym, take, take_all, take_more, ⊎_elim, ◌++◌, ◌+◌, ◌∙◌, ◌∷◌, ◌≡◌, ◌⊎◌}
 use Rattle.store.proofs.Edits.PagesMet.{met_front, met_more}
-use Rattle.store.proofs.KeptPlanes.StagingSteps.{none_made, made_as, made_on, pages_within}
+use Rattle.store.proofs.KeptPlanes.StagingSteps.{made_as, made_on, pages_within}
 use Rattle.store.proofs.staging_pages.stage_tiles.Goals as goal
-
-pub stage_tile-requires-clause-side : goal.stage_tile-requires-clause-side
-stage_tile-requires-clause-side g c = c.requires.side ∙ sym (ap (λ (r : RootValue). r.side) c.loop-corner.invariant.pages.uncommitted.root)
 
 pub stage_tile-requires-clause-present : goal.stage_tile-requires-clause-present
 stage_tile-requires-clause-present g c =
     subst (λ (cs : List Corner). Contains cs c.corner-item.result) (sym c.loop-corner.invariant.pages.corners)
     (subst (Contains (corners_of c.args.tree.now)) (sym c.corner-item.is) (c.requires.present c.loop-corner.corner-index c.corner-item.result c.loop-corner-test.true))
-
-pub stage_tile-requires-clause-prepared : goal.stage_tile-requires-clause-prepared
-stage_tile-requires-clause-prepared g c i below met =
-    c.loop-corner.invariant.pages.still_staged c.corner-item.result
-    (subst (IsPrepared (g.E.PageEdit.meets c.args.edit.now c.args.side) (pages_of c.args.side) c.args.tree.now) (sym c.corner-item.is)
-    (c.requires.prepared c.loop-corner.corner-index c.corner-item.result c.loop-corner-test.true) i below met)
-
-pub loop-corner-init : goal.loop-corner-init
-loop-corner-init g c =
-    none_made g.D.Disk g.met.D.Disk.only_now c.args.side (g.E.PageEdit.made c.args.edit.now) (g.E.PageEdit.fits c.args.edit.now) (λ d i. Contains [] d) c.args.tree.now c.requires.works
-    (λ d i there. let below = there.1 in absurd (omega (arith, below)))
 
 pub returns-in_err-stage_tile-clause-makes : goal.returns-in_err-stage_tile-clause-makes
 returns-in_err-stage_tile-clause-makes g c =

@@ -1,7 +1,7 @@
-use Rattle.std.proofs.Common.{◌≡◌, ◌≢◌, ⊎_elim, ℕ, ◌+◌, ◌≤◌, ◌<◌, ◌^◌, true≢false, refl, sym, ap, ◌∙◌, subst, arith, Some, Result, Ok, Err, IsTrue, IsFalse}
+use Rattle.std.proofs.Common.{◌≡◌, ◌≢◌, ⊎_elim, ℕ, ◌+◌, ◌≤◌, ◌<◌, ◌^◌, refl, sym, ap, ◌∙◌, subst, arith, Some, Result, Ok, Err, IsTrue, IsFalse}
 use Rattle.std.proofs.lemmas.Bool.{le-leb}
 use Rattle.std.proofs.lemmas.Bool.Decides.{leb_tells}
-use Rattle.store.proofs.Prelude.{Commits, CommitsNothing, Contents, Device, Ending, Failed, Holds, IsClean, IsInState, NoMemory, NotOld, One, Refusal, State, Stays, Stored, TooSmall, Tree, Two, Version, Worn, commits_after, device_or_not, disk_of, if_numbered, in_memory, last_number, never_refused, ok_where, refused_as, root_of}
+use Rattle.store.proofs.Prelude.{Commits, CommitsNothing, Contents, Device, Ending, Failed, Holds, IsInState, NoMemory, NotOld, One, Refusal, State, Stays, Stored, TooSmall, Tree, Two, Version, Worn, commits_after, device_or_not, disk_of, if_numbered, in_memory, last_number, never_refused, ok_where, refused_as, root_of}
 use Rattle.page_codec.specs.Formats.{number_of, upgraded as upgraded_format}
 use Rattle.page_codec.specs.Sizes.{sectors_asked}
 use Rattle.page_codec.specs.Roots.{RootValue, format_of}
@@ -165,10 +165,3 @@ returns-clause-upgraded g c =
     ended.commits_it d (ending g after) tree c.upgrade.new.self c.requires.works (λ s. IsInState d tree s) (λ s at. at) (λ s. upgraded s.contents) upgraded_store (holds g after) tt done
     (record { version = does.version; count = c.upgrade.ensures.count ∙ ap (λ (r : RootValue). r.count) gave.no_call.root; number = done.number }) refl (g.met.D.Disk.seen_may (disk_of c.upgrade.new.self))
     (λ h s at. (old_at g after s at may, ended.commits_made d (ending g after) tree c.upgrade.new.self c.requires.works (λ z. IsInState d tree z) (λ z is. is) (λ z. upgraded z.contents) s at (number_at g after may s at)))
-
--- nothing is staged in it then, where it hasn't failed
-pub returns-in_err-upgrade-clause-clean : goal.returns-in_err-upgrade-clause-clean
-returns-in_err-upgrade-clause-clean g c works =
-    let does = c.in_err-upgrade.ensures in
-    ⊎_elim (λ device. absurd (true≢false (sym (does.returns.fails (ap (λ (x : Refusal). Err x) device)) ∙ works)))
-    (λ other. subst (λ (tree : Tree _ g.D.Disk). IsClean tree) (sym (does.unchanged other)) c.abandon.ensures.clean) (device_or_not c.in_err-upgrade.field-0.0)

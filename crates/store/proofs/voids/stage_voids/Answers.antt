@@ -1,58 +1,8 @@
-use Rattle.store.proofs.Prelude.{All, AreRimVoids, AreVoidTiles, AreWhole, Contains, Corner, Damaged, Device, Err, Failed, Ghosts, IfErr, IfErr-weaker, IsMosaic, IsReadable, IsRefusedEarly, IsTrue, IsUnderway, List, MakesPages, Mosaic, NoMemory, Ok, OnOk, Patch, Refusal, Result, RimVoids, RootValue, Settles, StoredTile, Tree, ℕ, ap, ap₂, arith, box_meets, corners_of, ends_any, filled, has_failed, inl, inr, map, mosaic_of, mosaic_of_tiles, never_refused, pages_met, pages_of, reads_of, refl, refused_as, root_of, sinks_of, staged_in, subst, sym, vec_len, ⊎_elim, ◌*◌, ◌+◌, ◌-◌, ◌∙◌, ◌≡◌, ◌⊎◌}
-use Rattle.store.proofs.Edits.EditingReads.{reading, risen_read, fails_read, works_read}
+use Rattle.store.proofs.Prelude.{All, AreRimVoids, AreVoidTiles, AreWhole, Contains, Corner, Device, IsMosaic, IsReadable, IsUnderway, List, MakesPages, Mosaic, Ok, OnOk, Refusal, Result, RimVoids, RootValue, Settles, StoredTile, ℕ, ap, ap₂, arith, box_meets, corners_of, filled, map, mosaic_of, mosaic_of_tiles, never_refused, pages_met, pages_of, root_of, sinks_of, staged_in, subst, sym, ◌+◌, ◌-◌, ◌∙◌, ◌≡◌}
+use Rattle.store.proofs.Edits.EditingReads.{reading}
 use Rattle.store.proofs.KeptPlanes.StagingSteps.{only_read, pages_on, pages_within}
-use Rattle.store.proofs.Reading.Querying.{true_where}
 use Rattle.store.proofs.Calls.Underway.{whole_pages}
 use Rattle.store.proofs.voids.stage_voids.Goals as goal
-
-ended : {P : Type 0} (r : Refusal) → IsTrue (ends_any r) → IfErr (reads_of {T = Unit {0}} (Err r)) (λ x. x ≡ Device) → OnOk (reads_of {T = Unit {0}} (Err r)) P → (r ≡ Device) ⊎ ((r ≡ NoMemory) × P)
-ended Device cause only works = inl refl
-ended NoMemory cause only works = inr (refl, works)
-ended Failed cause only works = absurd (let e : Failed ≡ Device = only in cc)
-ended Damaged cause only works = absurd (let e : Damaged ≡ Device = only in cc)
-ended _ cause only works = absurd (cc)
-
--- what the tree was at, and its voids
-abbrev Fits : {D : Type 0} (d : Ghosts D) → Tree D d → Patch → List Corner → Mosaic → Type 0
-Fits d old patch tiles m = (mosaic_of d old ≡ m) × AreVoidTiles m patch.from patch.to tiles
-
-pub returns-in_err-rims-clause-makes : goal.returns-in_err-rims-clause-makes
-returns-in_err-rims-clause-makes g c =
-    let d = g.D.Disk in
-    let old = c.args.tree.now in
-    let new = c.read_rims.new.samples in
-    let n : ℕ = (root_of old).side in
-    let q : ℕ = pages_met (box_meets n c.args.patch c.args.tiles.now) (pages_of n) (corners_of old) in
-    let r : Refusal = c.in_err-rims.field-0.0 in
-    let reads = c.in_err-rims.ensures.reads in
-    let err : Result (Unit {0}) Refusal = Err r in
-    subst (λ (result : Result (Unit {0}) Refusal). MakesPages d n (λ m. filled m c.args.patch) (Fits d old c.args.patch c.args.tiles.now) (λ e i. Contains (corners_of old) e) q q old new result)
-    (sym (refused_as c.from_residual.result r c.from_residual.ensures.1))
-    (record {
-      pages = only_read d q q old new err reads.keeps
-          (reading d old new reads.keeps err (risen_read err _ _ reads.refusal) (λ is. true_where (has_failed new) (fails_read err _ reads.unready is)) (works_read err _ (reads.ready c.requires.works)));
-      set = λ honest s m at fit under. tt;
-    })
-
-pub returns-in_err-rims-clause-refused : goal.returns-in_err-rims-clause-refused
-returns-in_err-rims-clause-refused g c =
-    let d = g.D.Disk in
-    let old = c.args.tree.now in
-    let new = c.read_rims.new.samples in
-    let r : Refusal = c.in_err-rims.field-0.0 in
-    let is = c.in_err-rims.ensures in
-    let err : Result (Unit {0}) Refusal = Err r in
-    subst (λ (result : Result (Unit {0}) Refusal). IsRefusedEarly d old new result) (sym (refused_as c.from_residual.result r c.from_residual.ensures.1))
-    (⊎_elim (λ device. inl device) (λ memory. inr (memory.0, memory.1, is.reads.keeps.writes)) (ended r is.causes (is.reads.only_device c.requires.works) (is.reads.ready c.requires.works)))
-
-pub stage_pages-requires-clause-made_for : goal.stage_pages-requires-clause-made_for
-stage_pages-requires-clause-made_for g c =
-    subst (λ (rims : List RimVoids). All (λ r. vec_len r.voids ≡ 4 * ((root_of c.read_rims.new.samples).side - 1)) rims) (sym c.deref.ensures.value)
-    (subst (λ (root : RootValue). All (λ r. vec_len r.voids ≡ 4 * (root.side - 1)) c.in_ok-rims.rims.items) (sym c.in_ok-rims.ensures.reads.keeps.root) c.in_ok-rims.ensures.whole)
-
-pub returns-clause-refused : goal.returns-clause-refused
-returns-clause-refused g c =
-    IfErr-weaker c.stage_pages.result _ _ (λ r. ⊎_elim (λ device. inl device) (λ memory. inr (memory.0, memory.1, memory.2 ∙ c.in_ok-rims.ensures.reads.keeps.writes))) c.stage_pages.ensures.refused
 
 pub returns-clause-makes : goal.returns-clause-makes
 returns-clause-makes g c =

@@ -1,14 +1,14 @@
-use Rattle.store.proofs.Prelude.{All, Command, CommitsNothing, Corner, Device, Edit, EntryValue, Err, Failed, Ghosts, HasOnlyRead, IfErr-weaker, IfSome, IsApplied, IsHeldOf, IsInState, IsMosaic, IsTrue, List, Mosaic, Ok, Refusal, Result, RootValue, State, StoredTile, Tree, Worn, WritesFew, ℕ, ap, ap₂, arith, both_ways, corners_of, device_or_not, disk_of, effect, false, goes_stale, has_failed, in_memory, inl, inr, is_corner, is_own, map, named_by, never_refused, number_of, on_ok, page_writes, pages_with, refl, refused_as, root_of, sinks_of, staged_in, staled, subst, sym, true, uncommitted_on, ⊎_elim, ◌+◌, ◌<◌, ◌∙◌, ◌≡◌, ◌≤◌}
+use Rattle.store.proofs.Prelude.{All, Command, CommitsNothing, Corner, Device, Edit, EntryValue, Err, Ghosts, HasOnlyRead, IfErr-weaker, IfSome, IsApplied, IsHeldOf, IsInState, IsMosaic, IsTrue, List, Mosaic, Ok, Refusal, Result, RootValue, State, StoredTile, Tree, Worn, WritesFew, ℕ, ap, ap₂, arith, both_ways, corners_of, device_or_not, disk_of, effect, false, goes_stale, has_failed, in_memory, inl, inr, is_corner, is_own, map, named_by, never_refused, number_of, on_ok, page_writes, pages_with, refl, refused_as, root_of, sinks_of, staged_in, staled, subst, sym, true, uncommitted_on, ⊎_elim, ◌+◌, ◌<◌, ◌∙◌, ◌≡◌, ◌≤◌}
 use Rattle.engine.specs.declared.event.Event.TheVariants as ask
 use Rattle.edits.specs.declared.command.Command.TheVariants.{Import, Remove, Patch, Burn, Wall, Sink, Unsink}
 use Rattle.edits.specs.declared.edit.Edit.TheVariants as edit
-use Rattle.edits.specs.Edits.{IsEditOf, FitsIn, HasRoom, FindsVoids, TellsHeights, edit_made, goes_stale_by}
+use Rattle.edits.specs.Edits.{IsEditOf, FindsVoids, TellsHeights, edit_made, goes_stale_by}
 use Rattle.edits.specs.EffectLaws.{IsCommand}
 use Rattle.edits.proofs.AllStale.{near_itself}
 use Rattle.store.specs.Editing.{ComesIn, IsGiven, AreTilesOf}
-use Rattle.store.proofs.Calls.Committed.{fails_before, failed_first, quiet, may_end_it}
+use Rattle.store.proofs.Calls.Committed.{fails_before, quiet, may_end_it}
 use Rattle.store.proofs.Edits.EditingReads.{reading, refused_so, risen_read, works_read, fails_read, quiet_read}
-use Rattle.store.proofs.Edits.EditingWrites.{named_written, none_named, none_written, staged_written}
+use Rattle.store.proofs.Edits.EditingWrites.{named_written, none_written, staged_written}
 use Rattle.store.proofs.Reading.Holding.{held}
 use Rattle.store.proofs.Reading.InMemory.{is_working, worn_at}
 use Rattle.store.proofs.KeptPlanes.Keeping.{staled_held}
@@ -20,29 +20,7 @@ use Rattle.store.proofs.Edits.Staled.{staled_as}
 use Rattle.store.proofs.Reading.WaterHeld.{done_holding, left_by, unchanged_holding}
 use Rattle.store.proofs.store.Store.apply.Goals as goal
 
-pub returns-then-has_failed-clause-call : goal.returns-then-has_failed-clause-call
-returns-then-has_failed-clause-call g c =
-    let d = g.D.Disk in
-    let store = c.args.self.now in
-    let tree = store.tree in
-    let command = c.args.command.now in
-    let had : has_failed tree ≡ true = sym c.has_failed.ensures ∙ c.if-has_failed.true in
-    commanded d g.met.D.Disk.only_now store store command (Err Failed) (unchanged_holding d tree tree store.held command (Err Failed) refl (failed_first d tree command had))
-    (none_written (number_of (root_of tree).version) (root_of tree).side command (d.writes (disk_of tree)) (d.writes (disk_of tree)) refl) (λ _. (refl, (refl, had)))
-
 -- ---- the pages that a burn or a wall writes
-
-pub returns-in_err-edit-clause-pages : goal.returns-in_err-edit-clause-pages
-returns-in_err-edit-clause-pages g c works =
-    let d = g.D.Disk in
-    let old = c.args.self.now.tree in
-    none_named c.args.command.now (root_of old).version (root_of old).side (map (λ (e : EntryValue). e.corner) (root_of old).entries) (d.writes (disk_of old)) (d.writes (disk_of c.edit_of.new.samples)) c.in_err-edit.ensures.reads.keeps.writes
-
-pub returns-then-number-clause-pages : goal.returns-then-number-clause-pages
-returns-then-number-clause-pages g c works =
-    let d = g.D.Disk in
-    let old = c.args.self.now.tree in
-    none_named c.args.command.now (root_of old).version (root_of old).side (map (λ (e : EntryValue). e.corner) (root_of old).entries) (d.writes (disk_of old)) (d.writes (disk_of c.edit_of.new.samples)) c.in_ok-edit.ensures.reads.keeps.writes
 
 pub returns-clause-pages : goal.returns-clause-pages
 returns-clause-pages g c works =
@@ -248,27 +226,6 @@ stage-staged-requires-clause-unstaged g c =
     let works : has_failed old ≡ false = sym c.has_failed.ensures ∙ c.if-has_failed.false in
     let clean = still_clean d old c.edit_of.new.samples works c.in_ok-edit.ensures.reads.keeps c.args.self.now.clean (c.in_ok-edit.ensures.reads.ready works) in
     none_staged d c.mark_stale.new.tree (let due = c.mark_stale.ensures.due in omega (arith, due, clean.none_due))
-
-pub stage-staged-requires-clause-fits : goal.stage-staged-requires-clause-fits
-stage-staged-requires-clause-fits g c =
-    let marks = c.mark_stale.ensures in
-    let keeps = c.in_ok-edit.ensures.reads.keeps in
-    let old = c.args.self.now.tree in
-    let marked = c.mark_stale.new.tree in
-    let made : Edit = c.in_ok-edit.edit in
-    subst (λ (n : ℕ). FitsIn n (corners_of marked) (sinks_of marked) made) (sym (ap (λ (r : RootValue). r.side) (marks.no_call.root ∙ keeps.root)))
-    (subst (λ (cs : List Corner). FitsIn (root_of old).side cs (sinks_of marked) made) (sym (marks.corners ∙ keeps.corners))
-    (subst (λ sinks. FitsIn (root_of old).side (corners_of old) sinks made) (sym (marks.sinks ∙ keeps.sinks)) c.in_ok-edit.ensures.fits))
-
-pub stage-staged-requires-clause-room : goal.stage-staged-requires-clause-room
-stage-staged-requires-clause-room g c =
-    let marks = c.mark_stale.ensures in
-    let keeps = c.in_ok-edit.ensures.reads.keeps in
-    let old = c.args.self.now.tree in
-    let marked = c.mark_stale.new.tree in
-    let made : Edit = c.in_ok-edit.edit in
-    subst (λ (n : ℕ). HasRoom n (corners_of marked) made) (c.capacity-capacity.ensures.value ∙ ap (λ (x : RootValue). x.capacity) (c.current.ensures ∙ sym (marks.no_call.root ∙ keeps.root)))
-    (subst (λ (cs : List Corner). HasRoom c.capacity-capacity.result cs made) (sym (marks.corners ∙ keeps.corners)) c.in_ok-edit.ensures.room)
 
 pub invariant_of-self : goal.invariant_of-self
 invariant_of-self g c = record {

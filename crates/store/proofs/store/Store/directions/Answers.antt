@@ -1,12 +1,7 @@
 use Rattle.std.proofs.Common.{refl}
 use Rattle.engine.proofs.Questions.{directions_asked}
 use Rattle.store.proofs.Reading.AskedTrees.{no_tile, water_asked}
-use Rattle.store.proofs.Calls.StoreCalls.{denied}
 use Rattle.store.proofs.store.Store.directions.Goals as goal
-
-pub returns-in_err-check_working-clause-call : goal.returns-in_err-check_working-clause-call
-returns-in_err-check_working-clause-call g c =
-    denied g.D.Disk g.met.D.Disk.only_now c.args.self.now (directions_asked c.args.corner) refl (λ s is. is) c.from_residual.result c.in_err-check_working.field-0.0 c.from_residual.ensures.1 c.in_err-check_working.ensures.failed
 
 pub returns-in_err-check_present-clause-call : goal.returns-in_err-check_present-clause-call
 returns-in_err-check_present-clause-call g c =

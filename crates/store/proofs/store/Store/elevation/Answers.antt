@@ -4,7 +4,7 @@ use Rattle.engine.specs.Outcomes.{Elevates}
 use Rattle.engine.specs.declared.event.Event.TheVariants as ask
 use Rattle.engine.proofs.Questions.{elevation_asked}
 use Rattle.store.proofs.Reading.Querying.{mosaic_at, stays_at, still_clean, still_readable, fails_so, answered, queried_by_disk, risen_for}
-use Rattle.store.proofs.Calls.StoreCalls.{asked, denied, only_device_may}
+use Rattle.store.proofs.Calls.StoreCalls.{asked, only_device_may}
 use Rattle.store.proofs.store.Store.elevation.Goals as goal
 
 pub invariant_of-self : goal.invariant_of-self
@@ -14,10 +14,6 @@ invariant_of-self g c =
     let new = c.height.new.samples in
     let keeps = c.height.ensures.reads.keeps in
     record { clean = still_clean d old.tree new c.in_ok-check_working.ensures.works keeps old.clean }
-
-pub returns-in_err-check_working-clause-call : goal.returns-in_err-check_working-clause-call
-returns-in_err-check_working-clause-call g c =
-    denied g.D.Disk g.met.D.Disk.only_now c.args.self.now (elevation_asked c.args.point) refl (λ s is. is) c.from_residual.result c.in_err-check_working.field-0.0 c.from_residual.ensures.1 c.in_err-check_working.ensures.failed
 
 pub returns-clause-call : goal.returns-clause-call
 returns-clause-call g c =

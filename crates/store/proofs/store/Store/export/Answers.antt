@@ -3,12 +3,8 @@ use Rattle.engine.proofs.Questions.{export_asked}
 use Rattle.store.proofs.Reading.Querying.{queried_by_disk, stays_at, still_clean, still_at, failing_at, fails_so}
 use Rattle.store.proofs.Reading.AskedTrees.{no_tile}
 use Rattle.store.proofs.Reading.QueryingPages.{tile, tile_of, exported}
-use Rattle.store.proofs.Calls.StoreCalls.{asked, asked_in_vain, denied, refused_it}
+use Rattle.store.proofs.Calls.StoreCalls.{asked, asked_in_vain, refused_it}
 use Rattle.store.proofs.store.Store.export.Goals as goal
-
-pub returns-in_err-check_working-clause-call : goal.returns-in_err-check_working-clause-call
-returns-in_err-check_working-clause-call g c =
-    denied g.D.Disk g.met.D.Disk.only_now c.args.self.now (export_asked c.args.corner) refl (λ s is. is) c.from_residual.result c.in_err-check_working.field-0.0 c.from_residual.ensures.1 c.in_err-check_working.ensures.failed
 
 pub returns-in_err-check_present-clause-call : goal.returns-in_err-check_present-clause-call
 returns-in_err-check_present-clause-call g c =

@@ -1,13 +1,9 @@
-use Rattle.store.proofs.Prelude.{Corner, EntryValue, Info, List, RootValue, ℕ, ap, ap₂, corners_of, length, length-map, refl, root_of, stale_in, sym, ◌-◌, ◌∙◌, ◌≡◌}
+use Rattle.store.proofs.Prelude.{Corner, EntryValue, Info, List, RootValue, ℕ, ap, ap₂, corners_of, length, length-map, root_of, stale_in, sym, ◌-◌, ◌∙◌, ◌≡◌}
 use Rattle.engine.proofs.Questions.{info_asked}
 use Rattle.store.proofs.Reading.InMemory.{info_is}
 use Rattle.store.proofs.Reading.Querying.{stays_at}
-use Rattle.store.proofs.Calls.StoreCalls.{denied, told_it}
+use Rattle.store.proofs.Calls.StoreCalls.{told_it}
 use Rattle.store.proofs.store.Store.info.Goals as goal
-
-pub returns-in_err-check_working : goal.returns-in_err-check_working
-returns-in_err-check_working g c =
-    denied g.D.Disk g.met.D.Disk.only_now c.args.self.now info_asked refl (λ s is. is) c.from_residual.result c.in_err-check_working.field-0.0 c.from_residual.ensures.1 c.in_err-check_working.ensures.failed
 
 pub returns : goal.returns
 returns g c =

@@ -1,13 +1,10 @@
 use Rattle.store.proofs.Prelude.{Err, IfErr, IfErr-weaker, IsAt, Ok, OnErr, Refusal, Result, RootValue, State, ap, has_failed, refl, root_of, true, ⊎_elim, ◌≡◌}
-use Rattle.cow_tree.proofs.Steps.{ok_where_works, either_way, on_ok_both}
+use Rattle.cow_tree.proofs.Steps.{either_way, on_ok_both}
 use Rattle.store.proofs.Calls.Opened.{in_known, sized_as_known, refused_for}
 use Rattle.store.proofs.Calls.Reopening.{reopened}
 use Rattle.store.proofs.Calls.States.{fails_in}
 use Rattle.store.proofs.Reading.WaterHeld.{known_holding}
 use Rattle.store.proofs.store.Store.reopen.Goals as goal
-
-pub invariant_of-self : goal.invariant_of-self
-invariant_of-self g c = record { clean = λ works. ok_where_works c.reopen.result _ c.reopen.ensures.failed works c.reopen.ensures.clean }
 
 on_err : {T X : Type 0} (result : Result T Refusal) (A B : Type 0) → OnErr result A → OnErr result B → (A → B → X) → IfErr result (λ r. X)
 on_err (Ok x) A B first second both = tt

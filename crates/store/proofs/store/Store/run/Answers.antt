@@ -1,19 +1,9 @@
-use Rattle.store.proofs.Prelude.{Calls, Event, Ghosts, Image, IsCall, List, Reply, Runs, Store, ℕ, [], ap, arith, length, members, refl, rules, subst, sym, take, take_all, true, vec_capacity, vec_len, ◌++◌, ◌+◌, ◌<◌, ◌∙◌, ◌∷◌, ◌≡◌, ◌≤◌}
-use Rattle.std.proofs.lemmas.List.{append-nil, append_assoc}
+use Rattle.store.proofs.Prelude.{Calls, Event, Ghosts, Image, IsCall, List, Reply, Runs, Store, ℕ, [], ap, arith, length, members, subst, sym, take, take_all, true, vec_capacity, vec_len, ◌++◌, ◌+◌, ◌<◌, ◌∙◌, ◌∷◌, ◌≡◌, ◌≤◌}
+use Rattle.std.proofs.lemmas.List.{append_assoc}
 use Rattle.std.specs.Result.{is_ok}
 use Rattle.engine.proofs.Chains.{asked_more, last_more, step_more}
 use Rattle.store.proofs.Calls.Runs.{ran, known_then}
 use Rattle.store.proofs.store.Store.run.Goals as goal
-
-with_none : (xs ys : List Reply) → xs ≡ ys → xs ≡ ys ++ []
-with_none xs ys same = same ∙ sym (append-nil ys)
-
-pub loop-event-init : goal.loop-event-init
-loop-event-init g c =
-    let out = c.try_reserve.new.self in
-    let events = c.args.events.now in
-    let room : vec_len out + length events ≤ vec_capacity out + 0 = search rules in
-    (room, ([], (with_none out.items c.args.out.now.items c.try_reserve.ensures.items, ([], (refl, tt)))))
 
 pub loop-event-preserved : goal.loop-event-preserved
 loop-event-preserved g c =

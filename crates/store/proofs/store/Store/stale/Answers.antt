@@ -1,11 +1,8 @@
-use Rattle.store.proofs.Prelude.{Contains, Corner, List, ap, is_listed, root_of, subst, sym, ◌∙◌}
+use Rattle.store.proofs.Prelude.{Contains, Corner, List, root_of, subst, sym}
 use Rattle.store.proofs.Reading.HeldTiles.{corners_held}
 use Rattle.store.proofs.Reading.Holding.{held}
 use Rattle.store.proofs.KeptPlanes.SteppedTiles.{stored_mosaic, stored_right}
 use Rattle.store.proofs.store.Store.stale.Goals as goal
-
-pub returns-clause-state : goal.returns-clause-state
-returns-clause-state g c s at = c.stale.ensures.value ∙ ap (is_listed c.args.corner) at.in_state.stale
 
 pub returns-clause-fresh : goal.returns-clause-fresh
 returns-clause-fresh g c honest works s at present fresh =

@@ -1,4 +1,4 @@
-use Rattle.store.proofs.Prelude.{Corner, IfOk, IsTrue, None, Ok, One, Option, Refusal, Result, Tree, Two, Version, ap, disk_of, has_failed, if◌then◌else◌, is_none, nat_eq, number_of, refl, root_of, subst, ◌*◌, ◌+◌, ◌∙◌, ◌≡◌, ◌≤◌}
+use Rattle.store.proofs.Prelude.{One, Tree, Two, Version, ap, disk_of, has_failed, if◌then◌else◌, is_none, nat_eq, number_of, refl, root_of, subst, ◌*◌, ◌+◌, ◌∙◌, ◌≡◌, ◌≤◌}
 use Rattle.page_codec.specs.Sizes.{index_pages_by, pages_of}
 use Rattle.engine.specs.declared.event.Event.TheVariants as ask
 use Rattle.engine.specs.declared.event.Reply.TheVariants as reply
@@ -20,18 +20,3 @@ returns-clause-call g c =
     ended d g.met.D.Disk.only_now c.args.self.now _ ask.Step reply.Stepped step_answered is_none c.step_tree.result (stepped_holding d old new c.args.self.now.held c.step_tree.result c.step_tree.ensures.stepped)
     (subst (λ (v : Version). d.writes (disk_of new) ≤ d.writes (disk_of old) + (2 * (1 + index_pages_by v (pages_of (root_of old).side) + pages_of (root_of old).side) + 3)) (by_number (root_of old).version) c.step_tree.ensures.writes)
     (λ fails. ((failed fails).0, (ap (λ (t : Tree _ d). disk_of t) (failed fails).1, ap (λ (t : Tree _ d). has_failed t) (failed fails).1 ∙ fails)))
-
-pub returns-clause-last_known : goal.returns-clause-last_known
-returns-clause-last_known g c = c.step_tree.ensures.stepped.last_known
-
-pub returns-clause-idle : goal.returns-clause-idle
-returns-clause-idle g c none =
-    let d = g.D.Disk in
-    let old = c.args.self.now.tree in
-    let new = c.step_tree.new.tree in
-    let so : IfOk {E = Refusal} (Ok None) (λ (tile : Option Corner). IsTrue (is_none tile) → d.writes (disk_of new) ≡ d.writes (disk_of old)) =
-    subst (λ (answer : Result (Option Corner) Refusal). IfOk answer (λ tile. IsTrue (is_none tile) → d.writes (disk_of new) ≡ d.writes (disk_of old))) none c.step_tree.ensures.stepped.idle in
-    so refl
-
-pub returns-clause-failed : goal.returns-clause-failed
-returns-clause-failed g c fails = ap (λ (t : Tree _ g.D.Disk). disk_of t) (c.step_tree.ensures.failed fails).1

@@ -3,12 +3,8 @@ use Rattle.std.proofs.lemmas.List.{take_all}
 use Rattle.engine.proofs.Questions.{tiles_asked}
 use Rattle.store.proofs.Reading.InMemory.{corners_are}
 use Rattle.store.proofs.Reading.Querying.{stays_at}
-use Rattle.store.proofs.Calls.StoreCalls.{denied, refused_it, told_it}
+use Rattle.store.proofs.Calls.StoreCalls.{refused_it, told_it}
 use Rattle.store.proofs.store.Store.tiles.Goals as goal
-
-pub returns-in_err-check_working : goal.returns-in_err-check_working
-returns-in_err-check_working g c =
-    denied g.D.Disk g.met.D.Disk.only_now c.args.self.now tiles_asked refl (λ s is. is) c.from_residual.result c.in_err-check_working.field-0.0 c.from_residual.ensures.1 c.in_err-check_working.ensures.failed
 
 pub returns-then-is_err : goal.returns-then-is_err
 returns-then-is_err g c =

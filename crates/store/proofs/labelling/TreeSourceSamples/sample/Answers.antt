@@ -1,5 +1,0 @@
-use Rattle.store.proofs.KeptPlanes.Labelled.{was_sure}
-use Rattle.store.proofs.labelling.TreeSourceSamples.sample.Goals as goal
-
-pub returns-clause-honest : goal.returns-clause-honest
-returns-clause-honest g c sure = (was_sure g.D.Disk c.args.self.now.tree.now c.sample.new.self c.sample.ensures.keeps sure.0, sure.1)
