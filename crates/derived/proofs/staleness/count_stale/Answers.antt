@@ -1,6 +1,5 @@
-use Rattle.std.proofs.Common.{arith, ◌≡◌, ◌≤◌, ◌+◌, ℕ, Bool, true, false, filter, length, not, take, ap, sym, ◌∙◌, List}
+use Rattle.std.proofs.Common.{arith, ◌≡◌, ◌+◌, ℕ, Bool, true, false, filter, length, not, take, ap, sym, ◌∙◌}
 use Rattle.std.specs.Option.{is_none}
-use Rattle.std.proofs.lemmas.List.{length-map, take_all}
 use Rattle.page_codec.specs.Entries.{EntryValue}
 use Rattle.derived.proofs.KeptTiles.{one_counted}
 use Rattle.derived.proofs.staleness.count_stale.Goals.{else-is_none, then-is_none}
@@ -19,9 +18,3 @@ loop-entry-preserved c =
       | else-is_none w ↦ let more : stale_to (i + 1) ≡ stale_to i + 0 = next false c.loop-entry-test.true c.entry-item.is (ap is_stale (sym c.entry.view_is) ∙ ap not (c.is_none.ensures ∙ ap not w.if-is_none.false)) in
           (omega (arith, w.count-is, before, more), omega (arith, c.loop-entry.invariant.1, w.count-is))
     ]
-
-pub returns : goal.returns
-returns c =
-    let entries = c.args.entries.now in
-    c.loop-entry.invariant.0 ∙ ap (λ (es : List EntryValue). length (filter (λ e. is_none e.kept) es)) (take_all c.loop-entry.entry-index entries c.loop-entry-test.false)
-    ∙ sym (length-map (filter (λ (e : EntryValue). is_none e.kept) entries) (λ e. e.corner))

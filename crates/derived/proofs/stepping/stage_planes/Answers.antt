@@ -1,8 +1,7 @@
 use Rattle.std.proofs.Common.{◌≡◌, ◌*◌, ◌<◌, ℕ, List, All, length, sym, ap, ◌∙◌, subst, arith}
-use Rattle.std.specs.Prelude.{Result, Ok, Err, Contains}
+use Rattle.std.specs.Prelude.{Ok, Contains}
 use Rattle.lattice.specs.Corners.{Corner}
 use Rattle.lattice.specs.Mosaic.{Mosaic}
-use Rattle.lattice.specs.declared.refusal.Refusal.{Refusal}
 use Rattle.lattice.specs.declared.refusal.Refusal.TheVariants.{Device}
 use Rattle.page_codec.specs.Roots.{RootValue}
 use Rattle.tile_flood.specs.Kept.{AreKeptOf}
@@ -15,7 +14,7 @@ use Rattle.cow_tree.specs.declared.tree.Tree.{Tree}
 use Rattle.cow_tree.proofs.ReadOnly.{never_refused}
 use Rattle.cow_tree.proofs.Steps.{on_ok}
 use Rattle.cow_tree.proofs.TreeReads.{still_readable}
-use Rattle.cow_tree.proofs.Uncommitted.{reading, refusal_is, refused_as, uncommitted_on}
+use Rattle.cow_tree.proofs.Uncommitted.{reading, uncommitted_on}
 use Rattle.derived.specs.Kept.{AreRight}
 use Rattle.derived.proofs.KeptTiles.{planes_right, stale_present}
 use Rattle.derived.proofs.stepping.stage_planes.Goals as goal
@@ -60,21 +59,6 @@ module _ (g : _) (c : After-stage_kept g) where
   done =
       let planes = c.in_ok-planes.planes in
       reading g.D.Disk old mid c.tile_planes.ensures.reads (Ok planes) (λ is. never_refused planes Device is) (λ is. never_refused planes Device is) c.in_ok-planes.ensures.works
-
-pub stage_kept-requires-clause-levels : goal.stage_kept-requires-clause-levels
-stage_kept-requires-clause-levels g c =
-    subst (λ (r : RootValue). length c.deref-3.result.now ≡ 2 * (r.side * r.side)) (sym c.tile_planes.ensures.reads.root) (omega (arith, c.deref-3.ensures.len, c.in_ok-planes.ensures.levels))
-
-pub stage_kept-requires-clause-labels : goal.stage_kept-requires-clause-labels
-stage_kept-requires-clause-labels g c =
-    subst (λ (r : RootValue). length c.deref-4.result.now ≡ 2 * (r.side * r.side)) (sym c.tile_planes.ensures.reads.root) (omega (arith, c.deref-4.ensures.len, c.in_ok-planes.ensures.labels))
-
-pub returns-in_err-planes-clause-uncommitted : goal.returns-in_err-planes-clause-uncommitted
-returns-in_err-planes-clause-uncommitted g c =
-    let r : Refusal = c.in_err-planes.field-0.0 in
-    let refused = c.in_err-planes.ensures in
-    subst (λ (result : Result (Unit {0}) Refusal). CommitsNothing g.D.Disk c.args.tree.now c.tile_planes.new.tree result) (sym (refused_as c.from_residual.result r c.from_residual.ensures.1))
-    (reading g.D.Disk c.args.tree.now c.tile_planes.new.tree c.tile_planes.ensures.reads (Err r) (λ is. refused.device (ap (λ (x : Refusal). Err x) (refusal_is r is))) (λ is. refused.failed (ap (λ (x : Refusal). Err x) (refusal_is r is))) tt)
 
 pub returns-clause-uncommitted : goal.returns-clause-uncommitted
 returns-clause-uncommitted g c =
