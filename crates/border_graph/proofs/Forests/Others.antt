@@ -34,11 +34,7 @@ module _ (n : ℕ) (corners : List Corner) (t : ℕ) (p : Point) (height : ℤ) 
     pub listed : AreApart corners → IsOtherListed n corners t p height c new
 
   pub none_added : (c : Corner) (ways : List Edge) → IsOtherNode n corners t p c None → AddsOther c ways ways
-  none_added c ways node = record {
-    still = λ way has. has;
-    only = λ way has. inl has;
-    listed = λ apart u e small at other index. absurd (node.all apart u e small at other index);
-  }
+  none_added c ways node = record { still = λ way has. has; only = λ way has. inl has; listed = λ apart u e small at other index. absurd (node.all apart u e small at other index) }
 
   pub one_added : (c : Corner) (to : ℕ) (old new : List Edge) (way : Edge) → way ≡ record { level = height; to = to } → new ≡ old ++ way ∷ [] → IsOtherNode n corners t p c (Some to) → AddsOther c old new
   one_added c to old new way at is node = record {
