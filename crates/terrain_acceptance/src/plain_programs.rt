@@ -83,8 +83,9 @@ fn outlets_lie_on_rims_and_around_voids(rt: HostRuntime) -> Result<(), Fail> {
 #[test]
 fn tiles_are_in_order(rt: HostRuntime) -> Result<(), Fail> {
     let two = mosaic(rt.alloc(), 3, &[(0, 0, &A), (-1, -1, &A)])?;
-    assert!(rt; two.tiles().len() == 2);
-    assert!(rt; two.tiles()[0].corner() == Corner { lat: -1, lon: -1 });
+    let tiles = two.tiles();
+    assert!(rt; tiles.len() == 2);
+    assert!(rt; tiles[0].corner() == Corner { lat: -1, lon: -1 });
     Ok(())
 }
 
