@@ -81,23 +81,18 @@ fn is_box(mosaic: &Plain, from: Point, to: Point) -> bool {
 
 // Some point of the box is void.
 fn has_void(mosaic: &Plain, from: Point, to: Point) -> bool {
-    for y in from.y..=to.y {
-        for x in from.x..=to.x {
-            if height(mosaic, Point { y, x }) == Height::Void {
-                return true;
-            }
-        }
-    }
-    false
+    (from.y..=to.y).any(|y| has_void_in_row(mosaic, y, from.x, to.x))
+}
+
+fn has_void_in_row(mosaic: &Plain, y: i32, first: i32, last: i32) -> bool {
+    (first..=last).any(|x| height(mosaic, Point { y, x }) == Height::Void)
 }
 
 // What is wrong with the points of a burn of this depth, or with those of a wall: one is named twice; or the first that is
 // outside, void, or too low once the depth is taken off.
 fn fault(mosaic: &Plain, depth: i32, points: &[Point]) -> Option<Refusal> {
-    for (place, point) in points.iter().enumerate() {
-        if points[..place].contains(point) {
-            return Some(Refusal::Repeated);
-        }
+    if is_repeated(points) {
+        return Some(Refusal::Repeated);
     }
     for point in points {
         match height(mosaic, *point) {
@@ -110,6 +105,16 @@ fn fault(mosaic: &Plain, depth: i32, points: &[Point]) -> Option<Refusal> {
         }
     }
     None
+}
+
+// Some point is named twice.
+fn is_repeated(points: &[Point]) -> bool {
+    for (place, point) in points.iter().enumerate() {
+        if points[..place].contains(point) {
+            return true;
+        }
+    }
+    false
 }
 
 fn refusal_of_sink(mosaic: &Plain, point: Point) -> Option<Refusal> {
@@ -157,11 +162,15 @@ fn samples_in(alloc: Global, bytes: &[u8]) -> Result<Vec<i16>, AllocError> {
 // Changes each sample of each tile as the command says of its point.
 fn edit(mosaic: &Plain, command: &Command, new: &mut Plain) {
     for tile in &mut new.tiles {
-        for index in 0..mosaic.side.area() {
-            let point = point_at(mosaic.side, tile.corner, index);
-            if let Some(sample) = tile.samples.get_mut(index as usize) {
-                *sample = edited(mosaic, command, point).unwrap_or(*sample);
-            }
+        edit_tile(mosaic, command, tile);
+    }
+}
+
+fn edit_tile(mosaic: &Plain, command: &Command, tile: &mut PlainTile) {
+    for index in 0..mosaic.side.area() {
+        let point = point_at(mosaic.side, tile.corner, index);
+        if let Some(sample) = tile.samples.get_mut(index as usize) {
+            *sample = edited(mosaic, command, point).unwrap_or(*sample);
         }
     }
 }

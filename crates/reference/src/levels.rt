@@ -1,7 +1,7 @@
 //! Filled levels by repeated relaxation: outlets have their heights, and as long as some point's level can be given or
 //! lowered through a neighbour's, it is (Barnes, Lehman and Mulla 2014 for what the filled level is).
 use crate::heights::metres_at;
-use crate::{Plain, is_adjacent, is_outlet};
+use crate::{Plain, PlainTile, is_adjacent, is_outlet};
 use lattice::{Point, point_at};
 use std::alloc::{AllocError, Global};
 
@@ -41,24 +41,28 @@ pub fn filled_levels(alloc: Global, mosaic: &Plain) -> Result<Levels, AllocError
 
 // Each ground point once: the outlets at their heights, and all others without a level.
 fn starting_cells(alloc: Global, mosaic: &Plain) -> Result<Vec<Cell>, AllocError> {
-    let mut cells: Vec<Cell> = Vec::new(alloc);
+    let mut cells = Vec::new(alloc);
     for tile in &mosaic.tiles {
-        for index in 0..mosaic.side.area() {
-            let point = point_at(mosaic.side, tile.corner, index);
-            if cells.iter().any(|cell| cell.point == point) {
-                continue;
-            }
-            if let Some(height) = metres_at(mosaic, point) {
-                let level = is_outlet(mosaic, point).then_some(height);
-                cells.push(Cell {
-                    point,
-                    height,
-                    level,
-                })?;
-            }
-        }
+        push_cells(mosaic, tile, &mut cells)?;
     }
     Ok(cells)
+}
+
+// Adds those of a tile that no tile before has.
+fn push_cells(mosaic: &Plain, tile: &PlainTile, cells: &mut Vec<Cell>) -> Result<(), AllocError> {
+    for index in 0..mosaic.side.area() {
+        let point = point_at(mosaic.side, tile.corner, index);
+        let is_new = !cells.iter().any(|cell| cell.point == point);
+        if let (true, Some(height)) = (is_new, metres_at(mosaic, point)) {
+            let level = is_outlet(mosaic, point).then_some(height);
+            cells.push(Cell {
+                point,
+                height,
+                level,
+            })?;
+        }
+    }
+    Ok(())
 }
 
 // Lowers each level that a neighbour's lowers; false where there is none.

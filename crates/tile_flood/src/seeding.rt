@@ -83,7 +83,7 @@ fn seed_at(
 }
 
 // True only where no point of the row in columns `from` up to `to`, without it, can be an outlet: no void lies there or
-// beside them, and the block has no block.sinks.
+// beside them, and the block has no sinks.
 pub(crate) fn is_plain(block: &BlockView, i: usize, from: usize, to: usize) -> bool
     requires i { i < block.now.n }
     requires columns { (0 < from) × ((from ≤ to) × (to < block.now.n)) }
