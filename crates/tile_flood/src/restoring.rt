@@ -16,7 +16,7 @@ use crate::flood::Flood;
 use crate::labelled::{Labelled, NO_LABEL};
 use crate::mending::{Mended, mend};
 use crate::outlets::own_label;
-use crate::seeding::is_plain;
+use crate::seeding::{Span, is_plain};
 use crate::values::{at, has_level, label_at};
 use crate::views::Planes;
 use arrayvec::ArrayVec;
@@ -111,16 +111,37 @@ fn look_at_row(
     let mut from = 1;
     while from < planes.block.n - 1 {
         let to = (from + SPAN).min(planes.block.n - 1);
-        if !is_plain(&planes.block, i, from, to) || !are_settled(planes, i, from, to) {
-            for j in from..to {
-                if !look_at(planes, i, j, stands, points) {
-                    return false;
-                }
-            }
+        if !look_at_span(planes, Span { row: i, from, to }, stands, points) {
+            return false;
         }
         from = to;
     }
     look_at(planes, i, planes.block.n - 1, stands, points)
+}
+
+// Lists the points of the span whose levels don't fit, and marks those that stand as outlets.
+fn look_at_span(
+    planes: &Planes,
+    span: Span,
+    stands: &mut [bool],
+    points: &mut ArrayVec<u32, MOST_CHANGED>,
+) -> bool
+    requires row { span.row < planes.now.block.n }
+    requires columns { (0 < span.from) × ((span.from ≤ span.to) × (span.to < planes.now.block.n)) }
+    requires standing { AreStandingIn planes.now stands.old }
+    requires fitting { AreFittingIn planes.now points.old.items (span.row * planes.now.block.n + span.from) }
+    ensures standing { AreStandingIn planes.now stands.new }
+    ensures fitting { IsTrue result → AreFittingIn planes.now points.new.items (span.row * planes.now.block.n + span.to) }
+{
+    if is_plain(&planes.block, span) && are_settled(planes, span) {
+        return true;
+    }
+    for j in span.from..span.to {
+        if !look_at(planes, span.row, j, stands, points) {
+            return false;
+        }
+    }
+    true
 }
 
 // Lists the point, unless its level fits, and marks that it stands, where it is an outlet, or a void. False where it can't have the
@@ -150,8 +171,12 @@ fn look_at(
         stands[e] = true;
         return label_at(planes.labels, e) == own && list_unless(is_own_level(planes, e), e, points);
     }
-    let is_settled = are_settled(planes, i, j, j + 1);
-    list_unless(is_settled, e, points)
+    let alone = Span {
+        row: i,
+        from: j,
+        to: j + 1,
+    };
+    list_unless(are_settled(planes, alone), e, points)
 }
 
 fn is_own_level(planes: &Planes, e: usize) -> bool
@@ -170,18 +195,19 @@ fn list_unless(fits: bool, e: usize, points: &mut ArrayVec<u32, MOST_CHANGED>) -
     fits || points.try_push(e as u32).is_ok()
 }
 
-// Whether these points are inside the block, and each is ground with a level that fits: its height and the levels around it
-// give it.
-fn are_settled(planes: &Planes, i: usize, from: usize, to: usize) -> bool
-    requires i { i < planes.now.block.n }
-    requires columns { from ≤ to }
-    ensures { IsTrue result → (j : ℕ) → from ≤ j → j < to → IsSettled planes.now.block.n planes.now.block.heights.now planes.now.levels.now planes.now.labels.now (i * planes.now.block.n + j) }
+// Whether the span is inside the block, and each point of it is ground with a level that fits: its height and the levels around
+// it give it.
+fn are_settled(planes: &Planes, span: Span) -> bool
+    requires row { span.row < planes.now.block.n }
+    requires columns { span.from ≤ span.to }
+    ensures { IsTrue result → (j : ℕ) → span.from ≤ j → j < span.to → IsSettled planes.now.block.n planes.now.block.heights.now planes.now.levels.now planes.now.labels.now (span.row * planes.now.block.n + j) }
 {
-    if i == 0 || i + 1 >= planes.block.n || from == 0 || to >= planes.block.n {
+    let i = span.row;
+    if i == 0 || i + 1 >= planes.block.n || span.from == 0 || span.to >= planes.block.n {
         return false;
     }
-    let e = i * planes.block.n + from;
-    let count = to - from;
+    let e = i * planes.block.n + span.from;
+    let count = span.to - span.from;
     if !are_above(planes, e, count) {
         return false;
     }

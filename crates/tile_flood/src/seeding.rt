@@ -15,6 +15,14 @@ use std::alloc::AllocError;
 // How many columns are looked at together; most such spans have no outlet.
 const SPAN: usize = 64;
 
+/// A part of a row: the columns from `from` up to `to`, without it.
+#[derive(Clone, Copy)]
+pub(crate) struct Span {
+    pub(crate) row: usize,
+    pub(crate) from: usize,
+    pub(crate) to: usize,
+}
+
 // Marks the outlets, each at its own height and with its own label.
 pub(crate) fn seed(
     block: &BlockView,
@@ -49,14 +57,33 @@ fn seed_row(
     let mut from = 1;
     while from < block.n - 1 {
         let to = (from + SPAN).min(block.n - 1);
-        if !is_plain(block, i, from, to) {
-            for j in from..to {
-                seed_at(block, cells, queue, i, j)?;
-            }
+        let span = Span { row: i, from, to };
+        if !is_plain(block, span) {
+            seed_span(block, cells, queue, span)?;
         }
         from = to;
     }
     seed_at(block, cells, queue, i, block.n - 1)?;
+    Ok(())
+}
+
+// Marks the outlets of a span.
+fn seed_span(
+    block: &BlockView,
+    cells: &mut [Cell],
+    queue: &mut Queue,
+    span: Span,
+) -> Result<(), AllocError>
+    requires row { span.row < block.now.n }
+    requires columns { (span.from ≤ span.to) × (span.to < block.now.n) }
+    requires cells { AreCells block.now.heights.now cells.old }
+    requires state { IsSeeding (viewed_block block.now) (levels_of cells.old) (labels_of cells.old) queue.old (span.row * block.now.n + span.from) }
+    ensures cells { OnOk result (AreCells block.now.heights.now cells.new) }
+    ensures state { OnOk result (IsSeeding (viewed_block block.now) (levels_of cells.new) (labels_of cells.new) queue.new (span.row * block.now.n + span.to)) }
+{
+    for j in span.from..span.to {
+        seed_at(block, cells, queue, span.row, j)?;
+    }
     Ok(())
 }
 
@@ -82,18 +109,18 @@ fn seed_at(
     Ok(())
 }
 
-// True only where no point of the row in columns `from` up to `to`, without it, can be an outlet: no void lies there or
-// beside them, and the block has no sinks.
-pub(crate) fn is_plain(block: &BlockView, i: usize, from: usize, to: usize) -> bool
-    requires i { i < block.now.n }
-    requires columns { (0 < from) × ((from ≤ to) × (to < block.now.n)) }
-    ensures { IsTrue result → IsPlainSpan (viewed_block block.now) i from to }
+// True only where no point of the span can be an outlet: no void lies there or beside it, and the block has no sinks.
+pub(crate) fn is_plain(block: &BlockView, span: Span) -> bool
+    requires row { span.row < block.now.n }
+    requires columns { (0 < span.from) × ((span.from ≤ span.to) × (span.to < block.now.n)) }
+    ensures { IsTrue result → IsPlainSpan (viewed_block block.now) span.row span.from span.to }
 {
+    let i = span.row;
     if !block.sinks.is_empty() || i == 0 || i + 1 == block.n {
         return false;
     }
-    let west = from - 1;
-    let east = to + 1;
+    let west = span.from - 1;
+    let east = span.to + 1;
     is_full(block, i - 1, west, east)
         && is_full(block, i, west, east)
         && is_full(block, i + 1, west, east)

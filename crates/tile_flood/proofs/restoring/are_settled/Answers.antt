@@ -6,17 +6,17 @@ use Rattle.tile_flood.proofs.restoring.are_settled.Goals as goal
 
 pub are_relaxed-requires-clause-beside : goal.are_relaxed-requires-clause-beside
 are_relaxed-requires-clause-beside c =
-    (is_inside c.args.planes.now.block.n c.args.i c.args.from (c.args.to - c.args.from) c.loop-d.d (omega arith) (omega arith) (omega arith) (omega arith) c.loop-d-test.true).beside
+    (is_inside c.args.planes.now.block.n c.args.span.row c.args.span.from (c.args.span.to - c.args.span.from) c.loop-d.d (omega arith) (omega arith) (omega arith) (omega arith) c.loop-d-test.true).beside
 
 pub returns : goal.returns
 returns c done j low high =
     let n = c.args.planes.now.block.n in
-    let i = c.args.i in
-    let from = c.args.from in
+    let i = c.args.span.row in
+    let from = c.args.span.from in
     let heights = c.args.planes.now.block.heights.now in
     let levels = c.args.planes.now.levels.now in
     let k : ℕ = j - from in
-    let few : k < c.args.to - from = omega arith in
+    let few : k < c.args.span.to - from = omega arith in
     let at : (i * n + from) + k ≡ i * n + j = omega arith in
     let above : IsAbove heights levels c.args.planes.now.labels.now (i * n + j) = subst (IsAbove heights levels c.args.planes.now.labels.now) at (c.are_above.ensures c.if-not-are_above.false k few) in
     let first : 1 ≤ i = omega arith in

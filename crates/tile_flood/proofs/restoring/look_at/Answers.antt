@@ -35,4 +35,4 @@ returns-clause-fitting c ok =
     let named : slice_index c.args.planes.now.labels.now e ≢ NO_LABEL = λ is. c.if-label_at.false (c.label_at-else-not-has_level-3.ensures ∙ is) in
     inner_fits c.args.planes.now.block.n c.args.planes.now.block.heights.now c.args.planes.now.block.sinks.now c.args.planes.now.levels.now c.args.planes.now.labels.now c.list_unless-2.new.points.items e solid c.in_default.ensures.none
     (not_void_if c.args.planes.now.levels.now e (sym c.has_level-2.ensures ∙ c.if-not-has_level-3.false)) named
-    (elim (c.list_unless-2.ensures.listed ok) [ inl is ↦ inr (c.are_settled-is_settled.ensures is c.args.j (omega arith) (omega arith)).1 | inr listed ↦ inl listed ])
+    (elim (c.list_unless-2.ensures.listed ok) [ inl is ↦ inr (c.are_settled.ensures is c.args.j (omega arith) (omega arith)).1 | inr listed ↦ inl listed ])

@@ -19,26 +19,6 @@ loop-from-init c =
           (subst (AreFitting c.args.planes.now.block.n c.args.planes.now.block.heights.now c.args.planes.now.block.sinks.now c.args.planes.now.levels.now c.args.planes.now.labels.now c.args.points.now.items) first c.requires.fitting) c.look_at.ensures.kept (c.look_at.ensures.fitting c.if-not-look_at.false);
     }
 
-pub loop-j-preserved : goal.loop-j-preserved
-loop-j-preserved c = record {
-  standing = c.look_at-in-loop-j.ensures.standing;
-  fitting = next_fits c.args.planes.now.block.n c.args.planes.now.block.heights.now c.args.planes.now.block.sinks.now c.args.planes.now.levels.now c.args.planes.now.labels.now c.loop-j.points.items c.look_at-in-loop-j.new.points.items c.args.i c.loop-j.j c.loop-j.invariant.fitting c.look_at-in-loop-j.ensures.kept (c.look_at-in-loop-j.ensures.fitting c.if-not-look_at-2.false);
-}
-
-pub loop-from-preserved : goal.loop-from-preserved
-loop-from-preserved c =
-    let n = c.args.planes.now.block.n in
-    let i = c.args.i in
-    let inv = c.loop-from.invariant in
-    record {
-      low = omega arith;
-      inside = omega arith;
-      standing = inv.standing;
-      fitting = span_fits n c.args.planes.now.block.heights.now c.args.planes.now.block.sinks.now c.args.planes.now.levels.now c.args.planes.now.labels.now c.loop-from.points.items i c.loop-from.from c.min-to.result inv.fitting
-          (λ j low high. settled_fits n c.args.planes.now.block.heights.now c.args.planes.now.block.sinks.now c.args.planes.now.levels.now c.args.planes.now.labels.now c.loop-from.points.items (i * n + j) (in_square n i j c.requires.i (omega arith))
-          (c.is_plain.ensures c.if-not-is_plain.false j low high) (c.are_settled.ensures c.if-not-are_settled.false j low high));
-    }
-
 pub returns-clause-fitting : goal.returns-clause-fitting
 returns-clause-fitting c ok =
     let n = c.args.planes.now.block.n in

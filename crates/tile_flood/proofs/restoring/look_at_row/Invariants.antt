@@ -10,8 +10,5 @@ invariant-loop-from l = record {
   fitting : AreFittingIn l.planes l.points.items (l.i * l.planes.block.n + l.from);
 }
 
-abbrev pub invariant-loop-j : goal.invariant-loop-j
-invariant-loop-j l = record { standing : AreStandingIn l.planes l.stands; fitting : AreFittingIn l.planes l.points.items (l.i * l.planes.block.n + l.j) }
-
 abbrev pub decreases-loop-from : goal.decreases-loop-from
 decreases-loop-from l = l.planes.block.n - l.from

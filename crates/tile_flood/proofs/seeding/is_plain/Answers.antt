@@ -11,7 +11,7 @@ returns-then-is_full-2 c below =
     let high = columns.1.1 in
     let none : length c.args.block.now.sinks.now ≡ 0 = grind (arith, nat_tests) in
     elim c.if-is_full.branch [
-      | then-is_full w ↦ plain_if c.args.block.now.n c.args.block.now.heights.now c.args.block.now.sinks.now c.args.i c.args.from c.args.to (none_left c.args.block.now.sinks.now none) (omega arith) (omega arith) low high
+      | then-is_full w ↦ plain_if c.args.block.now.n c.args.block.now.heights.now c.args.block.now.sinks.now c.args.span.row c.args.span.from c.args.span.to (none_left c.args.block.now.sinks.now none) (omega arith) (omega arith) low high
           (c.is_full.ensures w.if-is_full.true) (w.is_full-then-is_full.ensures (sym w.value-is ∙ c.if-is_full-2.true)) (c.is_full-then-is_full-2.ensures below)
       | else-is_full w ↦ absurd (true≢false (sym c.if-is_full-2.true ∙ w.value-is ∙ w.if-is_full.false))
     ]

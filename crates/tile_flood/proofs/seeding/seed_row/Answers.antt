@@ -14,17 +14,6 @@ loop-from-preserved c =
           (λ e from below. plain_at c.args.block.now.n c.args.block.now.heights.now c.args.block.now.sinks.now c.args.i c.loop-from.from c.min-to.result e from below (c.is_plain.ensures c.if-not-is_plain.false));
     }
 
-pub loop-from-preserved-after-loop-j : goal.loop-from-preserved-after-loop-j
-loop-from-preserved-after-loop-j c =
-    let end : c.loop-j.j ≡ c.min-to.result = omega arith in
-    let inv = c.loop-j.invariant in
-    record {
-      low = omega arith;
-      inside = omega arith;
-      cells = inv.cells;
-      state = subst (λ j. IsSeeding (block_of c.args.block.now.n c.args.block.now.heights.now c.args.block.now.sinks.now) (levels_of c.loop-j.cells) (labels_of c.loop-j.cells) c.loop-j.queue (c.args.i * c.args.block.now.n + j)) end inv.state;
-    }
-
 pub seed_at-requires-2-clause-state : goal.seed_at-requires-2-clause-state
 seed_at-requires-2-clause-state c =
     let end : c.args.i * c.args.block.now.n + c.loop-from.from ≡ c.args.i * c.args.block.now.n + (c.args.block.now.n - 1) = omega arith in
@@ -33,4 +22,4 @@ seed_at-requires-2-clause-state c =
 pub returns-clause-state : goal.returns-clause-state
 returns-clause-state c =
     let end : c.args.i * c.args.block.now.n + ((c.args.block.now.n - 1) + 1) ≡ (c.args.i + 1) * c.args.block.now.n = omega arith in
-    subst (IsSeeding (block_of c.args.block.now.n c.args.block.now.heights.now c.args.block.now.sinks.now) (levels_of c.seed_at-2.new.cells) (labels_of c.seed_at-2.new.cells) c.seed_at-2.new.queue) end c.in_ok-seed_at-3.ensures.state
+    subst (IsSeeding (block_of c.args.block.now.n c.args.block.now.heights.now c.args.block.now.sinks.now) (levels_of c.seed_at-2.new.cells) (labels_of c.seed_at-2.new.cells) c.seed_at-2.new.queue) end c.in_ok-seed_at-2.ensures.state

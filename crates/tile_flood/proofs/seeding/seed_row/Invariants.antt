@@ -9,11 +9,5 @@ invariant-loop-from l = record {
   state : IsSeeding (block_of l.block.n l.block.heights.now l.block.sinks.now) (levels_of l.cells) (labels_of l.cells) l.queue (l.i * l.block.n + l.from);
 }
 
-abbrev pub invariant-loop-j : goal.invariant-loop-j
-invariant-loop-j l = record {
-  cells : AreCells l.block.heights.now l.cells;
-  state : IsSeeding (block_of l.block.n l.block.heights.now l.block.sinks.now) (levels_of l.cells) (labels_of l.cells) l.queue (l.i * l.block.n + l.j);
-}
-
 abbrev pub decreases-loop-from : goal.decreases-loop-from
 decreases-loop-from l = l.block.n - l.from
