@@ -1,6 +1,0 @@
-pub mod Summed
-pub mod Numbered
-pub mod RimNodes
-pub mod Agreeing
-pub mod RimLevels
-pub mod Apart
