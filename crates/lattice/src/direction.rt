@@ -1,5 +1,5 @@
-//! The eight directions, their codes and their slopes (O'Callaghan and Mark 1984).
-ghost use Rattle.std.specs.Prelude.{◌≡◌, ◌≤◌, ◌*◌, ◌↔◌, ◌+ℤ◌, IsTrue, SomeIff};
+//! The eight directions, their codes and the steps from a point (O'Callaghan and Mark 1984).
+ghost use Rattle.std.specs.Prelude.{◌≡◌, ◌+ℤ◌, IsTrue, SomeIff};
 
 use crate::Point;
 use arrayvec::ArrayVec;
@@ -18,7 +18,7 @@ pub enum Dir {
     NorthEast,
 }
 
-ghost use Rattle.lattice.specs.Steps.{code_of, directions, north_of, east_of, slope_of, is_steeper};
+ghost use Rattle.lattice.specs.Steps.{code_of, directions, north_of, east_of};
 
 /// The eight directions, in the order of their codes.
 pub const DIRECTIONS: [Dir; 8] = [
@@ -105,25 +105,4 @@ pub fn steps(point: Point) -> ArrayVec<Step, 8>
         }
     }
     found
-}
-
-/// Whether the first of two drops of filled level is steeper than the second: each is taken over one step, and diagonal
-/// steps are longer by the square root of 2. Drops are in metres, at most 65534.
-pub fn steeper(direction: Dir, drop: u32, other: Dir, other_drop: u32) -> bool
-    requires drop { drop ≤ 65534 }
-    requires other_drop { other_drop ≤ 65534 }
-    ensures { IsTrue result ↔ IsTrue (is_steeper direction drop other other_drop) }
-{
-    slope(direction, drop) > slope(other, other_drop)
-}
-
-fn slope(direction: Dir, drop: u32) -> u64
-    requires { drop ≤ 65534 }
-    ensures { result ≡ slope_of direction drop }
-{
-    let square = u64::from(drop) * u64::from(drop);
-    match direction {
-        Dir::East | Dir::South | Dir::West | Dir::North => 2 * square,
-        _ => square,
-    }
 }

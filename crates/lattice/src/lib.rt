@@ -30,7 +30,7 @@ mod side;
 mod sinks;
 
 pub use corner::Corner;
-pub use direction::{DIRECTIONS, Dir, Step, neighbour, steeper, steps};
+pub use direction::{DIRECTIONS, Dir, Step, neighbour, steps};
 pub use ground_laws::{
     blocks_are_lawful, filled_levels_are_unique, filled_levels_exist, heights_make_a_block,
     terrains_are_lawful, ways_out_exist,

@@ -1,7 +1,7 @@
 //! Corners, sides, points, steps and refusals, by rows worked by hand.
 use lattice::{
     Corner, DIRECTIONS, Dir, Point, Refusal, Side, Step, holders, index_in, point_at, sinks_in,
-    steeper, steps,
+    steps,
 };
 use std::test::Fail;
 use test_tiles::{check_found, check_row};
@@ -164,15 +164,6 @@ fn no_step_leads_off_the_lattice(rt: HostRuntime) {
         x: i32::MIN,
     };
     assert!(rt; steps(least).len() == 3);
-}
-
-#[test]
-fn diagonal_steps_are_longer(rt: HostRuntime) {
-    // 2 * 8 * 8 is more than 10 * 10, and 2 * 7 * 7 is less.
-    assert!(rt; steeper(Dir::East, 8, Dir::SouthEast, 10));
-    assert!(rt; !steeper(Dir::East, 7, Dir::SouthEast, 10));
-    assert!(rt; !steeper(Dir::East, 4, Dir::North, 4));
-    assert!(rt; steeper(Dir::North, 65_534, Dir::NorthEast, 65_534));
 }
 
 const REFUSALS: [(Refusal, u8, &str); 28] = [
