@@ -5,3 +5,4 @@ pub mod Searching
 pub mod TilesFound
 pub mod TouchedTiles
 pub mod Voids
+pub mod VoidPoints

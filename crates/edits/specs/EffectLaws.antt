@@ -1,5 +1,5 @@
 -- Laws of the effect of a command: what it makes, and what it leaves.
-use Rattle.std.specs.Prelude.{◌≡◌, ℕ, ◌<◌, ◌≤◌, IsTrue, IsFalse, Ok, List, All, Contains, length}
+use Rattle.std.specs.Prelude.{◌≡◌, ◌↔◌, ℕ, ◌<◌, ◌≤◌, IsTrue, IsFalse, Ok, List, All, Contains, length}
 use Rattle.std.specs.List.{AllAdjacentBelow}
 use Rattle.lattice.specs.Corners.{Corner, is_corner}
 use Rattle.lattice.specs.declared.point.Point.{Point}
@@ -11,7 +11,7 @@ use Rattle.lattice.specs.Mosaic.{Tile, Mosaic, IsMosaic}
 use Rattle.catalogue.specs.Tiles.{corners_of}
 use Rattle.edits.specs.declared.command.Command.{Command}
 use Rattle.edits.specs.declared.command.Command.TheVariants.{Import}
-use Rattle.edits.specs.Effect.{effect}
+use Rattle.edits.specs.Effect.{effect, has_void, is_in_box, is_void_at}
 use Rattle.edits.specs.Touched.{is_touched, goes_stale, stale_after}
 
 -- as a command can be given: a corner is that of a tile, and a byte has eight bits
@@ -58,3 +58,8 @@ FreshSinksStay = (capacity : ℕ) (m : Mosaic) (c : Command) (new : Mosaic) (p :
 abbrev pub FreshBlocksStay : Type 0
 FreshBlocksStay = (capacity : ℕ) (m : Mosaic) (c : Command) (new : Mosaic) (p : Corner) (b : Block) → IsMosaic m → effect capacity m c ≡ Ok new →
     Contains (corners_of m) p → IsFalse (goes_stale m c p) → IsBlockOf m p b → IsBlockOf new p b
+
+-- a patch has something to fill exactly where some point of its box is void
+abbrev pub BoxesHaveVoidPoints : Type 0
+BoxesHaveVoidPoints = (m : Mosaic) (from to : Point) → IsMosaic m →
+    IsTrue (has_void m from to) ↔ ((p : Point) × IsTrue (is_in_box from to p) × IsTrue (is_void_at m p))

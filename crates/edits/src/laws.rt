@@ -1,5 +1,5 @@
 //! Laws of the effect of a command. Each function says its law in its contract, and does nothing.
-ghost use Rattle.edits.specs.EffectLaws.{CommandsMakeMosaics, CommandsKeepTheSide, CommandsKeepTheCapacity, UntouchedTilesStay, StaleTilesArePresent, StaleTilesAreInOrder, FreshHeightsStay, FreshSinksStay, FreshBlocksStay};
+ghost use Rattle.edits.specs.EffectLaws.{BoxesHaveVoidPoints, CommandsMakeMosaics, CommandsKeepTheSide, CommandsKeepTheCapacity, UntouchedTilesStay, StaleTilesArePresent, StaleTilesAreInOrder, FreshHeightsStay, FreshSinksStay, FreshBlocksStay};
 ghost use Rattle.edits.specs.Sinks.{SinksMakeMosaics, SinksLeaveMosaics};
 
 /// A command that isn't refused makes a mosaic of the same side, of no more tiles than may be present.
@@ -25,6 +25,12 @@ pub fn fresh_blocks_stay()
     ensures heights { FreshHeightsStay }
     ensures sinks { FreshSinksStay }
     ensures blocks { FreshBlocksStay }
+{}
+
+/// The test by which a patch is refused as NothingVoid looks at samples of present tiles; it finds one exactly where some point of
+/// the box is void.
+pub fn boxes_have_void_points()
+    ensures { BoxesHaveVoidPoints }
 {}
 
 /// A sink that is declared, or taken back, makes a mosaic with the same tiles.

@@ -35,8 +35,8 @@ pub use change::{Change, TileSamples};
 pub use command::{Bytes, Command};
 pub use edit::{Edit, NewHeight, edit_of};
 pub use laws::{
-    commands_make_mosaics, fresh_blocks_stay, sinks_make_mosaics, stale_tiles_are_present,
-    untouched_tiles_stay,
+    boxes_have_void_points, commands_make_mosaics, fresh_blocks_stay, sinks_make_mosaics,
+    stale_tiles_are_present, untouched_tiles_stay,
 };
 pub use neighbours::are_neighbours;
 pub use planning::plan;
