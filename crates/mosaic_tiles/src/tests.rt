@@ -9,7 +9,7 @@ use std::fs;
 use std::marker::Brand;
 use std::process::Abort;
 use std::test::Fail;
-use test_tiles::lines_of;
+use test_tiles::{V, check_row, lines_of};
 use watershed::Run;
 
 fn owned(alloc: Global, words: &[&str]) -> Result<Vec<String>, AllocError> {
@@ -141,93 +141,117 @@ fn samples_as_their_points(rt: HostRuntime) -> Result<(), Fail> {
     check_points(&rt, alloc, &mut table)
 }
 
+/// The file of the store that the rows make.
+const STORE: &str = "mosaic_tiles_test";
+
+/// Where the rows make files: of levels, directions and upstream counts, and the store's.
+const FILES: [&str; 4] = ["./N00E000.hgt", "./N00E000.dir", "./N00E000.acc", STORE];
+
+/// A run of the program on what the runs before it left: its words, its input as lines, and how it ends, with a line.
+struct Row {
+    words: &'static [&'static str],
+    input: &'static [&'static str],
+    status: u8,
+    written: &'static str,
+}
+
+/// No input, and words that ask for nothing.
+const BAD_WORDS: Row = Row {
+    words: &[],
+    input: &[],
+    status: 2,
+    written: "mosaic: bad arguments",
+};
+
+// A store with a tile, a file of each layer, and then what is refused.
+const ROWS: [Row; 11] = [
+    Row {
+        words: &["format", STORE, "3", "2"],
+        status: 0,
+        written: "OK 0",
+        ..BAD_WORDS
+    },
+    Row {
+        words: &["serve", STORE],
+        input: &["import N00E000 $V"],
+        status: 0,
+        written: "OK 1",
+    },
+    Row {
+        words: &["write", STORE, "levels", "all", "."],
+        status: 0,
+        written: "OK 1",
+        ..BAD_WORDS
+    },
+    Row {
+        words: &["write", STORE, "directions", "n00e000", "."],
+        status: 0,
+        written: "OK 1",
+        ..BAD_WORDS
+    },
+    Row {
+        words: &["write", STORE, "upstream", "all", "."],
+        status: 0,
+        written: "OK 1",
+        ..BAD_WORDS
+    },
+    Row {
+        words: &["write", STORE, "levels", "all", "."],
+        status: 1,
+        written: "mosaic: cannot open ./N00E000.hgt",
+        ..BAD_WORDS
+    },
+    Row {
+        words: &["write", STORE, "directions", "N01E000", "."],
+        status: 1,
+        written: "ERR 5 NoTile",
+        ..BAD_WORDS
+    },
+    Row {
+        words: &["write", STORE, "heights", "all", "."],
+        ..BAD_WORDS
+    },
+    Row {
+        words: &["write", STORE, "levels", "all", "-"],
+        ..BAD_WORDS
+    },
+    Row {
+        words: &["write", STORE, "levels", "."],
+        ..BAD_WORDS
+    },
+    Row {
+        words: &["write", "no\nstore", "levels", "all", "."],
+        status: 1,
+        written: "mosaic: cannot open no?store",
+        ..BAD_WORDS
+    },
+];
+
+/// Takes these files away, those that are there.
+fn clear_files(rt: &HostRuntime) {
+    for file in FILES {
+        let _ = fs::remove_file(rt, file);
+    }
+}
+
+/// Runs the rows one after another.
+fn check_rows(rt: &HostRuntime) -> Result<(), Fail> {
+    for row in &ROWS {
+        let holds = ends(rt, row.words, row.input, row.status, &[row.written])?;
+        check_row(&row.words, holds)?;
+    }
+    Ok(())
+}
+
 #[test]
 fn files_of_tiles(rt: HostRuntime) -> Result<(), Fail> {
-    let store = "mosaic_tiles_test";
-    let files = ["./N00E000.hgt", "./N00E000.dir", "./N00E000.acc", store];
-    for file in files {
-        let _ = fs::remove_file(&rt, file);
-    }
-    let lines = ["import N00E000 $V"];
-    let all = [
-        ends(&rt, &["format", store, "3", "2"], &[], 0, &["OK 0"])?,
-        ends(&rt, &["serve", store], &lines, 0, &["OK 1"])?,
-        ends(
-            &rt,
-            &["write", store, "levels", "all", "."],
-            &[],
-            0,
-            &["OK 1"],
-        )?,
-        ends(
-            &rt,
-            &["write", store, "directions", "n00e000", "."],
-            &[],
-            0,
-            &["OK 1"],
-        )?,
-        ends(
-            &rt,
-            &["write", store, "upstream", "all", "."],
-            &[],
-            0,
-            &["OK 1"],
-        )?,
-        ends(
-            &rt,
-            &["write", store, "levels", "all", "."],
-            &[],
-            1,
-            &["mosaic: cannot open ./N00E000.hgt"],
-        )?,
-        ends(
-            &rt,
-            &["write", store, "directions", "N01E000", "."],
-            &[],
-            1,
-            &["ERR 5 NoTile"],
-        )?,
-        ends(
-            &rt,
-            &["write", store, "heights", "all", "."],
-            &[],
-            2,
-            &["mosaic: bad arguments"],
-        )?,
-        ends(
-            &rt,
-            &["write", store, "levels", "all", "-"],
-            &[],
-            2,
-            &["mosaic: bad arguments"],
-        )?,
-        ends(
-            &rt,
-            &["write", store, "levels", "."],
-            &[],
-            2,
-            &["mosaic: bad arguments"],
-        )?,
-        ends(
-            &rt,
-            &["write", "no\nstore", "levels", "all", "."],
-            &[],
-            1,
-            &["mosaic: cannot open no?store"],
-        )?,
-    ];
-    for (row, holds) in all.iter().enumerate() {
-        assert!(rt; *holds, "files of tiles, {row}");
-    }
-    assert_eq!(rt;
-        fs::read(&rt, files[0])?.as_slice(),
-        test_tiles::V.as_slice()
-    );
+    clear_files(&rt);
+    check_rows(&rt)?;
+    let [levels, directions, upstream, _] = FILES;
+    assert_eq!(rt; fs::read(&rt, levels)?.as_slice(), V.as_slice());
     let codes: &[u8] = &[0, 0, 0, 0, 255, 0, 0, 0, 0];
-    assert_eq!(rt; fs::read(&rt, files[1])?.as_slice(), codes);
-    assert_eq!(rt; fs::read(&rt, files[2])?.len(), 36);
-    for file in files {
-        fs::remove_file(&rt, file)?;
-    }
+    assert_eq!(rt; fs::read(&rt, directions)?.as_slice(), codes);
+    assert_eq!(rt; fs::read(&rt, upstream)?.len(), 36);
+    clear_files(&rt);
     Ok(())
 }

@@ -2,7 +2,7 @@
 //! words for what no line asks: `seams`, `commits`, and `stale`, which lists the stale tiles as `tiles` lists all. In a text
 //! `$` and a letter stand for a tile.
 use super::fixtures::empty_store;
-use disk::Disk;
+use disk::{Disk, MemDisk};
 use edits::{Bytes, Command};
 use engine::{Event, Reply};
 use hgt::name_of;
@@ -14,12 +14,14 @@ use std::process::Abort;
 use std::str::from_utf8;
 use std::test::Fail;
 use store::Store;
-use test_tiles::{Said, expand, lines_of, split_payload};
+use test_tiles::{Said, check_row, expand, lines_of, split_payload};
 
-/// What a session of tiles of side 3 shows, how many there is room for, and its texts with their answers.
+/// What a session of tiles of side 3 shows, how many there is room for, the lines that are done first, and its texts with
+/// their answers. `acceptance` compares what is replied to the lines that are done first.
 pub(crate) struct Session<'a> {
     pub(crate) shows: &'a str,
     pub(crate) capacity: u32,
+    pub(crate) before: &'a [&'a str],
     pub(crate) said: &'a [Said<'a>],
 }
 
@@ -43,7 +45,7 @@ fn check_session(
     session: &Session,
 ) -> Result<(), Fail> {
     let shows = session.shows;
-    let mut store = empty_store(alloc, version, session.capacity)?;
+    let mut store = prepared_store(alloc, version, session)?;
     for (text, wanted) in session.said {
         let answer = answer(alloc, &mut store, text)?;
         let is_right = answer == lines_of(alloc, &[*wanted])?;
@@ -54,6 +56,16 @@ fn check_session(
         );
     }
     Ok(())
+}
+
+// A new store of this version, with what is done before the session's texts.
+fn prepared_store(alloc: Global, version: u32, session: &Session) -> Result<Store<MemDisk>, Fail> {
+    let mut store = empty_store(alloc, version, session.capacity)?;
+    for line in session.before {
+        let reply = served(alloc, &mut store, line)?;
+        check_row(&(session.shows, version, *line), reply.starts_with(b"OK"))?;
+    }
+    Ok(store)
 }
 
 /// Whether the store answers each text so, one after another.

@@ -9,33 +9,39 @@ use std::alloc::Global;
 use std::test::Fail;
 use test_tiles::Said;
 
-const STEPS: [Session; 2] = [
+const STEPS: [Session; 3] = [
     Session {
         shows: "a tile beside another makes that stale",
         capacity: 4,
-        said: &[
-            ("import N00E000 $G", "OK 1"),
-            ("step", "OK N00E000"),
-            ("import N00E001 $H", "OK 2"),
-            ("stale", "OK 2 N00E000 N00E001"),
-            ("step", "OK N00E000"),
-            ("step", "OK N00E001"),
-            ("stale", "OK 0"),
-            ("commits", "OK 6"),
+        before: &["import N00E000 $G", "step", "import N00E001 $H"],
+        said: &[("stale", "OK 2 N00E000 N00E001")],
+    },
+    Session {
+        shows: "steps leave no tile stale, and each is a commit",
+        capacity: 4,
+        before: &[
+            "import N00E000 $G",
+            "step",
+            "import N00E001 $H",
+            "step",
+            "step",
         ],
+        said: &[("stale", "OK 0"), ("commits", "OK 6")],
     },
     Session {
         shows: "a wall that raises nothing leaves the same tiles stale",
         capacity: 4,
+        before: &[
+            "import N00E000 $B",
+            "import N00E001 $D",
+            "import N00E002 $D",
+            "import N00E003 $C",
+            "step",
+            "step",
+            "step",
+            "step",
+        ],
         said: &[
-            ("import N00E000 $B", "OK 1"),
-            ("import N00E001 $D", "OK 2"),
-            ("import N00E002 $D", "OK 3"),
-            ("import N00E003 $C", "OK 4"),
-            ("step", "OK N00E000"),
-            ("step", "OK N00E001"),
-            ("step", "OK N00E002"),
-            ("step", "OK N00E003"),
             ("wall 1 1 8", "OK 5"),
             ("stale", "OK 2 N00E002 N00E003"),
             ("elev 1 8", "OK 3"),

@@ -12,6 +12,7 @@ pub(super) fn serves(rt: &HostRuntime, path: &str, said: &[Said]) -> bool {
     }
 }
 
+// The lines only make the store: what is asked is what `check` finds of them in the file, which it opens anew.
 #[test]
 fn what_check_tells(rt: HostRuntime) -> Result<(), Fail> {
     let m = cleared(&rt, "server_test_check");
