@@ -1,6 +1,5 @@
 mod Prelude
 pub mod Caches
-pub mod RimPoints
 pub mod Questions
 pub mod Changes
 pub mod Flows

@@ -13,9 +13,12 @@ use lattice::{Corner, Height, Point, Refusal, holders};
 
 /// Refused where the point isn't ground, as the questions about water are. It reads the point alone.
 pub(crate) fn check_ground<S: Samples>(samples: &mut S, point: Point) -> Result<(), Refusal>
-    ensures on_ground { S.is_honest samples.new → IsOk result → IsTrue (is_ground (S.mosaic samples.old) point) }
-    ensures outside { IsErrOf result Outside ↔ IsHeldByNone (S.side_of samples.old) (S.corners samples.old) point }
-    ensures void { S.is_honest samples.new → IsErrOf result Void → height_of (S.mosaic samples.old) point ≡ height_is.Void }
+    ensures on_ground { S.is_honest samples.new → IsOk result
+        → IsTrue (is_ground (S.mosaic samples.old) point) }
+    ensures outside { IsErrOf result Outside
+        ↔ IsHeldByNone (S.side_of samples.old) (S.corners samples.old) point }
+    ensures void { S.is_honest samples.new → IsErrOf result Void
+        → height_of (S.mosaic samples.old) point ≡ height_is.Void }
     ensures causes { IfErr result (λ r. IsTrue (may_refuse r)) }
     ensures asked { Asked S.Samples samples.old samples.new result }
 {
@@ -30,8 +33,10 @@ pub(crate) fn check_ground<S: Samples>(samples: &mut S, point: Point) -> Result<
 
 // Whether some present tile holds the point.
 fn is_held<S: Samples>(samples: &S, point: Point) -> bool
-    ensures held { IsTrue result → IsHeldByNone (S.side_of samples.now) (S.corners samples.now) point → ⊥ }
-    ensures none { (IsTrue result → ⊥) → IsHeldByNone (S.side_of samples.now) (S.corners samples.now) point }
+    ensures held { IsTrue result
+        → IsHeldByNone (S.side_of samples.now) (S.corners samples.now) point → ⊥ }
+    ensures none { (IsTrue result → ⊥)
+        → IsHeldByNone (S.side_of samples.now) (S.corners samples.now) point }
 {
     match present_holder(samples, point) {
         Some(_) => true,
@@ -42,7 +47,8 @@ fn is_held<S: Samples>(samples: &S, point: Point) -> bool
 /// The first of the present tiles that hold the point.
 pub(crate) fn present_holder<S: Samples>(samples: &S, point: Point) -> Option<Corner>
     ensures none { IfNone result (IsHeldByNone (S.side_of samples.now) (S.corners samples.now) point) }
-    ensures some { IfSome result (λ corner. Contains (S.corners samples.now) corner × Holds (S.side_of samples.now) corner point) }
+    ensures some { IfSome result (λ corner. Contains (S.corners samples.now) corner
+        × Holds (S.side_of samples.now) corner point) }
 {
     let corners = holders(samples.side(), point);
     for corner in corners.as_slice() {

@@ -157,7 +157,8 @@ fn have_flat<S: Labellings>(
     requires bounded { length flows.old.grid.tiles.corners ≤ most_tiles }
     requires right { AreFlowsFor S.Samples samples.old flows.old }
     ensures kept { (p : Point) → IsAtHand flows.old.grid.tiles p → IsAtHand flows.new.grid.tiles p }
-    ensures more { OnOk result (length flows.old.grid.tiles.corners ≤ length flows.new.grid.tiles.corners) }
+    ensures more { OnOk result (length flows.old.grid.tiles.corners
+        ≤ length flows.new.grid.tiles.corners) }
     ensures bounded { length flows.new.grid.tiles.corners ≤ most_tiles }
     ensures right { AreFlowsFor S.Samples samples.new flows.new }
     ensures held { IsHeldFor S.Samples samples.new held.new }
@@ -187,7 +188,8 @@ fn have_tile<S: Labellings>(
     requires right { AreFlowsFor S.Samples samples.old flows.old }
     ensures at_hand { OnOk result (IsAtHand flows.new.grid.tiles point) }
     ensures kept { (p : Point) → IsAtHand flows.old.grid.tiles p → IsAtHand flows.new.grid.tiles p }
-    ensures more { OnOk result ((IsAtHand flows.old.grid.tiles point → ⊥) → length flows.old.grid.tiles.corners < length flows.new.grid.tiles.corners) }
+    ensures more { OnOk result ((IsAtHand flows.old.grid.tiles point → ⊥)
+        → length flows.old.grid.tiles.corners < length flows.new.grid.tiles.corners) }
     ensures bounded { length flows.new.grid.tiles.corners ≤ most_tiles }
     ensures right { AreFlowsFor S.Samples samples.new flows.new }
     ensures held { IsHeldFor S.Samples samples.new held.new }

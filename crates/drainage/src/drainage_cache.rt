@@ -13,7 +13,7 @@
 //! - A sink that comes or goes: the same for its point, but levels of rim points below its ground stay.
 //! - A tile that comes or goes, a reopening: everything.
 //! - A step, which keeps a labelling that a question left, or floods the tile; an upgrade: nothing.
-ghost use Rattle.std.specs.Prelude.{◌≡◌, ◌↔◌, ◌⊎◌, ◌+◌, ◌≤◌, None, IsTrue, IfOk, IfErr, IfSome, IfNone, length};
+ghost use Rattle.std.specs.Prelude.{◌≡◌, ◌↔◌, ◌⊎◌, ◌+◌, ◌≤◌, None, Some, Ok, IsTrue, IfOk, IfErr, IfSome, IfNone, length};
 ghost use Rattle.lattice.specs.Height.{height_of};
 ghost use Rattle.lattice.specs.Mosaic.{Mosaic, IsMosaic};
 ghost use Rattle.lattice.specs.declared.height.Height.TheVariants.{At};
@@ -93,7 +93,8 @@ impl DrainageCache {
     /// it becomes. Takes no memory.
     pub fn invalidate_between(&mut self, from: Point, to: Point, most: Option<i32>)
         ensures left { IsLeftHeld from to (IsNoHigher most) self.old self.new }
-        ensures right { (m new : Mosaic) → DifferBetween m new from to → AreLevelsStill (IsNoHigher most) m new → IsHeldOf m self.old → IsHeldOf new self.new }
+        ensures right { (m new : Mosaic) → DifferBetween m new from to
+            → AreLevelsStill (IsNoHigher most) m new → IsHeldOf m self.old → IsHeldOf new self.new }
     {
         self.invalidate_flows();
         let Some(mut tile_cache) = self.tile_cache.take() else {
@@ -124,8 +125,11 @@ impl DrainageCache {
     pub fn note_changed(&mut self, height: &NewHeight)
         ensures left { IsNotedHeld height.now self.old self.new }
         ensures still { (m : Mosaic) → IsHeldOf m self.old → IsHeldOf m self.new }
-        ensures right { (m new : Mosaic) → IsMosaic m → DifferAt m new height.now.point → height_of m height.now.point ≡ At height.now.was → IsSetTo m new height.now.point height.now.metres
-            → levels_pass (IsSpared height.now.was height.now.metres) self.old.tile_cache → IsHeldOf m self.old → IsHeldOf new self.new }
+        ensures right { (m new : Mosaic) → IsMosaic m → DifferAt m new height.now.point
+            → height_of m height.now.point ≡ At height.now.was
+            → IsSetTo m new height.now.point height.now.metres
+            → levels_pass (IsSpared height.now.was height.now.metres) self.old.tile_cache
+            → IsHeldOf m self.old → IsHeldOf new self.new }
         ensures flows { AreFlowsLeft height.now.was height.now.metres self.old self.new }
         ensures flow_cache { self.new.flow_cache ≡ None }
     {
@@ -139,9 +143,11 @@ impl DrainageCache {
 
     /// The labelling of the corner's tile, where it is held and none of its heights may have changed since.
     pub fn labelling(&self, corner: Corner) -> Option<&Labelled>
-        ensures flooded { (m : Mosaic) → IsHeldOf m self.now → IfSome result (λ labelled. IsFlooded m corner labelled.now) }
+        ensures flooded { (m : Mosaic) → IsHeldOf m self.now
+            → IfSome result (λ labelled. IsFlooded m corner labelled.now) }
         ensures some { IfSome result (λ labelled. IsCurrentOf self.now corner labelled.now) }
-        ensures none { IfNone result ((labelled : LabelledGround) → IsCurrentOf self.now corner labelled → ⊥) }
+        ensures none { IfNone result ((labelled : LabelledGround)
+            → IsCurrentOf self.now corner labelled → ⊥) }
     {
         let tile_cache = self.tile_cache.as_ref()?;
         tile_cache.labelling(corner)
@@ -227,6 +233,7 @@ impl DrainageCache {
     pub(crate) fn take_flow_cache(&mut self, alloc: Global, side: Side) -> FlowCache
         ensures flows { (m : Mosaic) → side ≡ m.side → IsHeldOf m self.old → IsCacheOf m result }
         ensures left { (m : Mosaic) → IsHeldOf m self.old → IsHeldOf m self.new }
+        ensures held { IfSome self.old.flow_cache (λ cache. result ≡ cache) }
     {
         match self.flow_cache.take() {
             Some(flow_cache) => flow_cache,
@@ -236,7 +243,8 @@ impl DrainageCache {
 
     // Holds this of tiles' flows, as far as there is room for it.
     pub(crate) fn put_flow_cache(&mut self, flow_cache: FlowCache)
-        ensures { (m : Mosaic) → IsCacheOf m flow_cache → IsHeldOf m self.old → IsHeldOf m self.new }
+        ensures { (m : Mosaic) → IsCacheOf m flow_cache → IsHeldOf m self.old
+            → IsHeldOf m self.new }
     {
         let mut kept = flow_cache;
         kept.keep(MOST_FLOW_BYTES);
@@ -259,8 +267,12 @@ impl DrainageCache {
         alloc: Global,
         samples: &S,
     ) -> Result<TileCache, Refusal>
-        ensures right { S.is_honest samples.now → IsHeldOf (S.mosaic samples.now) self.old → IfOk result (λ w. IsRight (S.mosaic samples.now) (known_of w)) }
+        ensures right { S.is_honest samples.now → IsHeldOf (S.mosaic samples.now) self.old
+            → IfOk result (λ w. IsRight (S.mosaic samples.now) (known_of w)) }
         ensures left { (m : Mosaic) → IsHeldOf m self.old → IsHeldOf m self.new }
+        ensures held { IfSome self.old.tile_cache (λ w. result ≡ Ok w) }
+        ensures flows { (self.new.flow_cache ≡ self.old.flow_cache)
+            × (self.new.past_flows ≡ self.old.past_flows) }
         ensures refusal { IfErr result (λ r. r ≡ NoMemory) }
     {
         match self.tile_cache.take() {
@@ -271,7 +283,11 @@ impl DrainageCache {
 
     // Holds this of levels.
     pub(crate) fn put(&mut self, tile_cache: TileCache)
-        ensures { (m : Mosaic) → IsRight m (known_of tile_cache) → IsHeldOf m self.old → IsHeldOf m self.new }
+        ensures right { (m : Mosaic) → IsRight m (known_of tile_cache) → IsHeldOf m self.old
+            → IsHeldOf m self.new }
+        ensures held { self.new.tile_cache ≡ Some tile_cache }
+        ensures flows { (self.new.flow_cache ≡ self.old.flow_cache)
+            × (self.new.past_flows ≡ self.old.past_flows) }
     {
         self.tile_cache = Some(tile_cache);
     }

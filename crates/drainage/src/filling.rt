@@ -39,9 +39,12 @@ pub fn fill<S: Labellings>(
     point: Point,
 ) -> Result<i16, Refusal>
     requires held { IsHeldFor S.Samples samples.old held.old }
-    ensures level { S.is_honest samples.new → IfOk result (λ level. IsFilledLevel (terrain (S.mosaic samples.old)) point level) }
-    ensures outside { IsErrOf result Outside ↔ IsHeldByNone (S.side_of samples.old) (S.corners samples.old) point }
-    ensures void { S.is_honest samples.new → IsErrOf result Void → height_of (S.mosaic samples.old) point ≡ height_is.Void }
+    ensures level { S.is_honest samples.new
+        → IfOk result (λ level. IsFilledLevel (terrain (S.mosaic samples.old)) point level) }
+    ensures outside { IsErrOf result Outside
+        ↔ IsHeldByNone (S.side_of samples.old) (S.corners samples.old) point }
+    ensures void { S.is_honest samples.new → IsErrOf result Void
+        → height_of (S.mosaic samples.old) point ≡ height_is.Void }
     ensures causes { IfErr result (λ r. IsTrue (may_refuse r)) }
     ensures asked { Asked S.Samples samples.old samples.new result }
     ensures held { IsHeldFor S.Samples samples.new held.new }
@@ -64,7 +67,8 @@ pub fn level<S: Labellings>(
     point: Point,
 ) -> Result<Option<i16>, Refusal>
     requires held { IsHeldFor S.Samples samples.old held.old }
-    ensures level { S.is_honest samples.new → IfOk result (λ found. MatchOption found (IsFalse (is_ground (S.mosaic samples.old) point)) (λ level. IsFilledLevel (terrain (S.mosaic samples.old)) point level)) }
+    ensures level { S.is_honest samples.new
+        → IfOk result (λ found. MatchOption found (IsFalse (is_ground (S.mosaic samples.old) point)) (λ level. IsFilledLevel (terrain (S.mosaic samples.old)) point level)) }
     ensures held { IsHeldFor S.Samples samples.new held.new }
     ensures causes { IfErr result (λ r. IsTrue (ends_any r)) }
     ensures asked { Asked S.Samples samples.old samples.new result }
@@ -84,9 +88,12 @@ pub(crate) fn level_in<S: Labellings>(
     tile_cache: &mut TileCache,
     point: Point,
 ) -> Result<Option<i16>, Refusal>
-    requires right { S.is_honest samples.old → IsRight (S.mosaic samples.old) (known_of tile_cache.old) }
-    ensures level { S.is_honest samples.new → IfOk result (λ found. MatchOption found (IsFalse (is_ground (S.mosaic samples.old) point)) (λ level. IsFilledLevel (terrain (S.mosaic samples.old)) point level)) }
-    ensures right { S.is_honest samples.new → IsRight (S.mosaic samples.new) (known_of tile_cache.new) }
+    requires right { S.is_honest samples.old
+        → IsRight (S.mosaic samples.old) (known_of tile_cache.old) }
+    ensures level { S.is_honest samples.new
+        → IfOk result (λ found. MatchOption found (IsFalse (is_ground (S.mosaic samples.old) point)) (λ level. IsFilledLevel (terrain (S.mosaic samples.old)) point level)) }
+    ensures right { S.is_honest samples.new
+        → IsRight (S.mosaic samples.new) (known_of tile_cache.new) }
     ensures causes { IfErr result (λ r. IsTrue (ends_any r)) }
     ensures asked { Asked S.Samples samples.old samples.new result }
 {
@@ -119,10 +126,14 @@ fn rim_level<S: Labellings>(
     number: u16,
 ) -> Result<i16, Refusal>
     requires place { t < length tile_cache.old.rim_graph.corners.items }
-    requires right { S.is_honest samples.old → IsRight (S.mosaic samples.old) (known_of tile_cache.old) }
-    requires there { S.is_honest samples.old → IsGroundNode (S.mosaic samples.old) tile_cache.old.rim_graph.corners.items t number }
-    ensures level { S.is_honest samples.new → IfOk result (IsRimLevel (S.mosaic samples.old) tile_cache.old.rim_graph.corners.items (node_number (S.mosaic samples.old).side (Rim t number))) }
-    ensures right { S.is_honest samples.new → IsRight (S.mosaic samples.new) (known_of tile_cache.new) }
+    requires right { S.is_honest samples.old
+        → IsRight (S.mosaic samples.old) (known_of tile_cache.old) }
+    requires there { S.is_honest samples.old
+        → IsGroundNode (S.mosaic samples.old) tile_cache.old.rim_graph.corners.items t number }
+    ensures level { S.is_honest samples.new
+        → IfOk result (IsRimLevel (S.mosaic samples.old) tile_cache.old.rim_graph.corners.items (node_number (S.mosaic samples.old).side (Rim t number))) }
+    ensures right { S.is_honest samples.new
+        → IsRight (S.mosaic samples.new) (known_of tile_cache.new) }
     ensures causes { IfErr result (λ r. IsTrue (ends_any r)) }
     ensures asked { Asked S.Samples samples.old samples.new result }
 {
@@ -143,7 +154,8 @@ fn rim_level<S: Labellings>(
 
 // The level and the label of the point with this index.
 pub(crate) fn label_in(labelled: &Labelled, index: u32) -> Option<(i16, u16)>
-    ensures some { IfSome result (λ label_at. (label_at.0 ≡ slice_index_or labelled.now.levels index void) × (label_at.1 ≡ slice_index labelled.now.labels index)) }
+    ensures some { IfSome result (λ label_at. (label_at.0 ≡ slice_index_or labelled.now.levels index void)
+        × (label_at.1 ≡ slice_index labelled.now.labels index)) }
     ensures none { IfNone result (labelled.now.side * labelled.now.side ≤ index) }
 {
     if index >= labelled.side().area() {
@@ -157,7 +169,8 @@ pub(crate) fn label_in(labelled: &Labelled, index: u32) -> Option<(i16, u16)>
 // The number of the first of the tiles that holds the point, and the point's index in it.
 fn first_holder(side: Side, corners: &[Corner], point: Point) -> Option<(usize, u32)>
     ensures none { IfNone result (IsHeldByNone side corners.now point) }
-    ensures some { IfSome result (λ r. (r.0 < length corners.now) × IsIndexOf side (corner_at corners.now r.0) point r.1) }
+    ensures some { IfSome result (λ r. (r.0 < length corners.now)
+        × IsIndexOf side (corner_at corners.now r.0) point r.1) }
 {
     for (number, corner) in corners.iter().enumerate() {
         if let Some(index) = index_in(side, *corner, point) {
@@ -170,7 +183,8 @@ fn first_holder(side: Side, corners: &[Corner], point: Point) -> Option<(usize, 
 // A tile that holds the point, and the point's index in it: the last one that was asked, where that holds it.
 fn holder_of(side: Side, corners: &[Corner], last: usize, point: Point) -> Option<(usize, u32)>
     ensures none { IfNone result (IsHeldByNone side corners.now point) }
-    ensures some { IfSome result (λ r. (r.0 < length corners.now) × IsIndexOf side (corner_at corners.now r.0) point r.1) }
+    ensures some { IfSome result (λ r. (r.0 < length corners.now)
+        × IsIndexOf side (corner_at corners.now r.0) point r.1) }
 {
     if last < corners.len() {
         if let Some(index) = index_in(side, corners[last], point) {

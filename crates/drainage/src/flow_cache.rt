@@ -58,7 +58,8 @@ impl FlowCache {
     /// What is told of the point, by a tile that holds it; Unknown where none does, or what it told may not hold any more.
     pub(crate) fn flow(&mut self, point: Point) -> Flow
         ensures grid { self.new.grid ≡ self.old.grid }
-        ensures ranges { (i : ℕ) → slot_ranges self.new.slots.items i ≡ slot_ranges self.old.slots.items i }
+        ensures ranges { (i : ℕ)
+            → slot_ranges self.new.slots.items i ≡ slot_ranges self.old.slots.items i }
         ensures flow { (m : Mosaic) → IsPastOf m self.old → IsFlowIn m point result }
         ensures found { HasLeft self.old point → result ≡ Unknown → ⊥ }
     {
@@ -76,9 +77,11 @@ impl FlowCache {
 
     // What holds of the point in the tile of this slot, if there is one that holds it.
     fn flow_in(&self, slot: usize, point: Point) -> Option<Flow>
-        ensures flow { IfSome result (λ flow. (m : Mosaic) → IsPastOf m self.now → IsFlowIn m point flow) }
+        ensures flow { IfSome result (λ flow. (m : Mosaic) → IsPastOf m self.now
+            → IsFlowIn m point flow) }
         ensures known { IfSome result (λ flow. flow ≡ Unknown → ⊥) }
-        ensures none { slot < length self.now.grid.tiles.corners → IfNone result (IsLeftIn self.now point slot → ⊥) }
+        ensures none { slot < length self.now.grid.tiles.corners
+            → IfNone result (IsLeftIn self.now point slot → ⊥) }
     {
         let number = self.grid.sample_in(slot, point)?;
         if !self.is_left(number) {
@@ -101,7 +104,8 @@ impl FlowCache {
     fn touch(&mut self, slot: usize)
         requires { slot < length self.old.slots.items }
         ensures grid { self.new.grid ≡ self.old.grid }
-        ensures ranges { (i : ℕ) → slot_ranges self.new.slots.items i ≡ slot_ranges self.old.slots.items i }
+        ensures ranges { (i : ℕ)
+            → slot_ranges self.new.slots.items i ≡ slot_ranges self.old.slots.items i }
     {
         self.clock = self.clock.saturating_add(1);
         self.slots[slot].used = self.clock;
@@ -116,17 +120,28 @@ impl FlowCache {
         ranges: Vec<Option<LevelRange>>,
     ) -> Result<(), AllocError>
         requires few { length self.old.grid.tiles.corners < most_at_hand }
-        requires other { (i : ℕ) → i < length self.old.grid.tiles.corners → slice_index_or self.old.grid.tiles.corners i no_corner ≡ corner → ⊥ }
+        requires other { (i : ℕ) → i < length self.old.grid.tiles.corners
+            → slice_index_or self.old.grid.tiles.corners i no_corner ≡ corner → ⊥ }
         requires whole { length flows.now ≡ self.old.grid.tiles.side * self.old.grid.tiles.side }
         requires known { AreKnown flows.now }
         ensures side { self.new.grid.tiles.side ≡ self.old.grid.tiles.side }
-        ensures corners { OnOk result (self.new.grid.tiles.corners ≡ self.old.grid.tiles.corners ++ corner ∷ []) }
-        ensures kept { (p : Point) → IsAtHand self.old.grid.tiles p → IsAtHand self.new.grid.tiles p }
-        ensures here { OnOk result ((p : Point) → Holds self.old.grid.tiles.side corner p → IsAtHand self.new.grid.tiles p) }
-        ensures flows { OnOk result ((t : Terrain Point) (level : Point → ℤ) → AreFlowsIn t level self.old.grid.tiles.side corner flows.now
-            → AreFlows t level (place_of self.old.grid.tiles) self.old.grid.flows.items → AreFlows t level (place_of self.new.grid.tiles) self.new.grid.flows.items) }
-        ensures slots { OnOk result ((slot_ranges self.new.slots.items (length self.old.grid.tiles.corners) ≡ ranges.items) × ((i : ℕ) → i < length self.old.grid.tiles.corners → slot_ranges self.new.slots.items i ≡ slot_ranges self.old.slots.items i)) }
-        ensures failed { OnErr result ((self.new.grid.tiles ≡ self.old.grid.tiles) × (self.new.grid.flows.items ≡ self.old.grid.flows.items) × (self.new.slots.items ≡ self.old.slots.items)) }
+        ensures corners { OnOk result (self.new.grid.tiles.corners ≡ self.old.grid.tiles.corners
+            ++ corner ∷ []) }
+        ensures kept { (p : Point) → IsAtHand self.old.grid.tiles p
+            → IsAtHand self.new.grid.tiles p }
+        ensures here { OnOk result ((p : Point) → Holds self.old.grid.tiles.side corner p
+            → IsAtHand self.new.grid.tiles p) }
+        ensures flows { OnOk result ((t : Terrain Point) (level : Point → ℤ)
+            → AreFlowsIn t level self.old.grid.tiles.side corner flows.now
+            → AreFlows t level (place_of self.old.grid.tiles) self.old.grid.flows.items
+            → AreFlows t level (place_of self.new.grid.tiles) self.new.grid.flows.items) }
+        ensures slots { OnOk result ((slot_ranges self.new.slots.items (length self.old.grid.tiles.corners)
+            ≡ ranges.items)
+            × ((i : ℕ) → i < length self.old.grid.tiles.corners
+            → slot_ranges self.new.slots.items i ≡ slot_ranges self.old.slots.items i)) }
+        ensures failed { OnErr result ((self.new.grid.tiles ≡ self.old.grid.tiles)
+            × (self.new.grid.flows.items ≡ self.old.grid.flows.items)
+            × (self.new.slots.items ≡ self.old.slots.items)) }
     {
         self.clock = self.clock.saturating_add(1);
         let slot = Slot {
@@ -148,9 +163,12 @@ impl FlowCache {
         ensures tiles { self.new.grid.tiles ≡ self.old.grid.tiles }
         ensures slots { self.new.slots.items ≡ self.old.slots.items }
         ensures flows { OnGround self.old.grid.tiles self.old.grid.flows.items (λ t level. AreFlows t level (place_of self.new.grid.tiles) self.new.grid.flows.items) }
-        ensures met { IfOk result (λ met. IfSome met (λ p. (IsAtHand self.old.grid.tiles p → ⊥) × OnGround self.old.grid.tiles self.old.grid.flows.items (λ t level. IsTrue (t.is_ground p)))) }
-        ensures drains { IfOk result (λ met. IfNone met (IsAtHand self.old.grid.tiles point → OnGround self.old.grid.tiles self.old.grid.flows.items (λ t level. IsTrue (t.is_ground point)
-            → (j : ℕ) → CrossesFlat t level point j → Drains (flow_of self.new.grid.tiles self.new.grid.flows.items point)))) }
+        ensures met { IfOk result (λ met. IfSome met (λ p. (IsAtHand self.old.grid.tiles p → ⊥)
+            × OnGround self.old.grid.tiles self.old.grid.flows.items (λ t level. IsTrue (t.is_ground p)))) }
+        ensures drains { IfOk result (λ met. IfNone met (IsAtHand self.old.grid.tiles point
+            → OnGround self.old.grid.tiles self.old.grid.flows.items (λ t level. IsTrue (t.is_ground point)
+            → (j : ℕ) → CrossesFlat t level point j
+            → Drains (flow_of self.new.grid.tiles self.new.grid.flows.items point)))) }
     {
         self.grid.resolve(point)
     }
@@ -179,7 +197,8 @@ impl FlowCache {
     fn give_up_oldest(&mut self)
         requires { 0 < length self.old.grid.tiles.corners }
         ensures side { self.new.grid.tiles.side ≡ self.old.grid.tiles.side }
-        ensures count { length self.new.grid.tiles.corners + 1 ≡ length self.old.grid.tiles.corners }
+        ensures count { length self.new.grid.tiles.corners + 1
+            ≡ length self.old.grid.tiles.corners }
         ensures flows { (m : Mosaic) → IsCacheOf m self.old → IsCacheOf m self.new }
     {
         let slot = self.oldest();
@@ -207,8 +226,10 @@ impl FlowCache {
 fn remove_slot(slots: &mut Vec<Slot>, slot: usize)
     requires { slot < length slots.old.items }
     ensures count { length slots.new.items + 1 ≡ length slots.old.items }
-    ensures moved { slot < length slots.new.items → slot_ranges slots.new.items slot ≡ slot_ranges slots.old.items (length slots.new.items) }
-    ensures kept { (i : ℕ) → i ≢ slot → i < length slots.new.items → slot_ranges slots.new.items i ≡ slot_ranges slots.old.items i }
+    ensures moved { slot < length slots.new.items
+        → slot_ranges slots.new.items slot ≡ slot_ranges slots.old.items (length slots.new.items) }
+    ensures kept { (i : ℕ) → i ≢ slot → i < length slots.new.items
+        → slot_ranges slots.new.items i ≡ slot_ranges slots.old.items i }
 {
     let _ = slots.swap_remove(slot);
 }

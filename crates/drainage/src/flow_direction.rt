@@ -36,11 +36,16 @@ pub fn direction<S: Labellings>(
 ) -> Result<u8, Refusal>
     requires held { IsHeldFor S.Samples samples.old held.old }
     requires few { length (S.corners samples.old) ≤ most_tiles }
-    ensures direction { S.is_honest samples.new → IfOk result (λ code. (level : Point → ℤ) → AreFilledLevels (terrain (S.mosaic samples.old)) level
+    ensures direction { S.is_honest samples.new
+        → IfOk result (λ code. (level : Point → ℤ)
+        → AreFilledLevels (terrain (S.mosaic samples.old)) level
         → DrainsBy (terrain (S.mosaic samples.old)) level point code) }
-    ensures on_ground { S.is_honest samples.new → IsOk result → IsTrue (is_ground (S.mosaic samples.old) point) }
-    ensures outside { IsErrOf result Outside ↔ IsHeldByNone (S.side_of samples.old) (S.corners samples.old) point }
-    ensures void { S.is_honest samples.new → IsErrOf result Void → height_of (S.mosaic samples.old) point ≡ height_is.Void }
+    ensures on_ground { S.is_honest samples.new → IsOk result
+        → IsTrue (is_ground (S.mosaic samples.old) point) }
+    ensures outside { IsErrOf result Outside
+        ↔ IsHeldByNone (S.side_of samples.old) (S.corners samples.old) point }
+    ensures void { S.is_honest samples.new → IsErrOf result Void
+        → height_of (S.mosaic samples.old) point ≡ height_is.Void }
     ensures causes { IfErr result (λ r. IsTrue (may_refuse r)) }
     ensures asked { Asked S.Samples samples.old samples.new result }
     ensures held { IsHeldFor S.Samples samples.new held.new }
@@ -63,13 +68,18 @@ pub fn trace<S: Labellings>(
 ) -> Result<Vec<Point>, Refusal>
     requires held { IsHeldFor S.Samples samples.old held.old }
     requires few { length (S.corners samples.old) ≤ most_tiles }
-    ensures path { S.is_honest samples.new → IfOk result (λ path. (level : Point → ℤ) → AreFilledLevels (terrain (S.mosaic samples.old)) level
+    ensures path { S.is_honest samples.new
+        → IfOk result (λ path. (level : Point → ℤ)
+        → AreFilledLevels (terrain (S.mosaic samples.old)) level
         → IsFlowPath (terrain (S.mosaic samples.old)) level point path.items) }
     ensures once { IfOk result (λ path. AllPairs (λ p q. p ≢ q) path.items) }
     ensures short { IfOk result (λ path. length path.items ≤ length (S.corners samples.old) * (S.side_of samples.old * S.side_of samples.old)) }
-    ensures on_ground { S.is_honest samples.new → IsOk result → IsTrue (is_ground (S.mosaic samples.old) point) }
-    ensures outside { IsErrOf result Outside ↔ IsHeldByNone (S.side_of samples.old) (S.corners samples.old) point }
-    ensures void { S.is_honest samples.new → IsErrOf result Void → height_of (S.mosaic samples.old) point ≡ height_is.Void }
+    ensures on_ground { S.is_honest samples.new → IsOk result
+        → IsTrue (is_ground (S.mosaic samples.old) point) }
+    ensures outside { IsErrOf result Outside
+        ↔ IsHeldByNone (S.side_of samples.old) (S.corners samples.old) point }
+    ensures void { S.is_honest samples.new → IsErrOf result Void
+        → height_of (S.mosaic samples.old) point ≡ height_is.Void }
     ensures causes { IfErr result (λ r. IsTrue (may_refuse r)) }
     ensures asked { Asked S.Samples samples.old samples.new result }
     ensures held { IsHeldFor S.Samples samples.new held.new }

@@ -48,7 +48,8 @@ impl GroundCache {
 
     /// Whether the ground point `to` was seen in a present tile that holds the other point too.
     pub(crate) fn holds(&self, side: Side, point: Point, to: Point) -> bool
-        ensures { IsTrue result → (tile : Corner) × (IsRemembered self.now to tile × Holds side tile point) }
+        ensures { IsTrue result
+            → (tile : Corner) × (IsRemembered self.now to tile × Holds side tile point) }
     {
         let place = place_of(to);
         if place >= self.seen.len() {
@@ -62,7 +63,8 @@ impl GroundCache {
 
     /// Remembers the ground point, and the tile.
     pub(crate) fn remember(&mut self, point: Point, tile: Corner)
-        ensures { (p : Point) (c : Corner) → IsRemembered self.new p c → ((p ≡ point) × (c ≡ tile)) ⊎ IsRemembered self.old p c }
+        ensures { (p : Point) (c : Corner) → IsRemembered self.new p c
+            → ((p ≡ point) × (c ≡ tile)) ⊎ IsRemembered self.old p c }
     {
         let place = place_of(point);
         if place < self.seen.len() {

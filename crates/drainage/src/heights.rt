@@ -15,7 +15,8 @@ pub(crate) fn is_height<S: Samples>(
     point: Point,
     metres: i16,
 ) -> Result<bool, Refusal>
-    ensures value { S.is_honest samples.new → IfOk result (λ answer. answer ≡ int_eq metres (metres_of (height_of (S.mosaic samples.old) point))) }
+    ensures value { S.is_honest samples.new
+        → IfOk result (λ answer. answer ≡ int_eq metres (metres_of (height_of (S.mosaic samples.old) point))) }
     ensures reads { OnlyReads S.Samples samples.old samples.new result }
 {
     match height(samples, point)? {

@@ -20,7 +20,8 @@ use lattice::Point;
 /// right for the mosaic before the edit and, where this has the heights that the edit tells, after it alike.
 pub fn invalidate_edit(held: &mut DrainageCache, edit: &Edit)
     ensures still { (m : Mosaic) → IsMosaic m → IsHeldOf m held.old → IsHeldOf m held.new }
-    ensures changed { (m : Mosaic) → IsMosaic m → TellsHeights m edit.now → IsHeldOf m held.old → IsHeldOf (edit_made edit.now m) held.new }
+    ensures changed { (m : Mosaic) → IsMosaic m → TellsHeights m edit.now → IsHeldOf m held.old
+        → IsHeldOf (edit_made edit.now m) held.new }
 
     // What is held of a tile that the edit doesn't reach is kept, and so are levels of rim points that new heights can't change,
     // and where points drain near such levels; and all that is held where each point gets the height that it has.
@@ -43,7 +44,8 @@ pub fn invalidate_edit(held: &mut DrainageCache, edit: &Edit)
 // Notes that these points get new heights, where these are others than they had.
 fn invalidate_heights(held: &mut DrainageCache, heights: &[NewHeight])
     ensures still { (m : Mosaic) → IsMosaic m → IsHeldOf m held.old → IsHeldOf m held.new }
-    ensures changed { (m : Mosaic) → IsMosaic m → AreEarlier heights.now m → IsHeldOf m held.old → IsHeldOf (with_heights heights.now m) held.new }
+    ensures changed { (m : Mosaic) → IsMosaic m → AreEarlier heights.now m → IsHeldOf m held.old
+        → IsHeldOf (with_heights heights.now m) held.new }
     ensures kept { IsKeptBeyondHeights heights.now held.old held.new }
     ensures levels { AreLevelsKept heights.now held.old held.new }
     ensures flows { AreFlowsKept heights.now held.old held.new }
@@ -75,8 +77,12 @@ fn is_any_changed(heights: &[NewHeight]) -> bool
 // below that changes; and as it comes, none as high.
 fn invalidate_near_sink(held: &mut DrainageCache, point: Point, most: Option<i32>)
     ensures still { (m : Mosaic) → IsMosaic m → IsHeldOf m held.old → IsHeldOf m held.new }
-    ensures declared { (m : Mosaic) → IsMosaic m → IfSome most (λ level. level ≤ℤ metres (height_of m point)) → IsHeldOf m held.old → IsHeldOf (with_sinks (with_point point m.sinks) m) held.new }
-    ensures taken_back { (m : Mosaic) → IsMosaic m → IfSome most (λ level. level <ℤ metres (height_of m point)) → IsHeldOf m held.old → IsHeldOf (with_sinks (without_point point m.sinks) m) held.new }
+    ensures declared { (m : Mosaic) → IsMosaic m
+        → IfSome most (λ level. level ≤ℤ metres (height_of m point)) → IsHeldOf m held.old
+        → IsHeldOf (with_sinks (with_point point m.sinks) m) held.new }
+    ensures taken_back { (m : Mosaic) → IsMosaic m
+        → IfSome most (λ level. level <ℤ metres (height_of m point)) → IsHeldOf m held.old
+        → IsHeldOf (with_sinks (without_point point m.sinks) m) held.new }
     ensures kept { IsLeftHeld point point (IsNoHigher most) held.old held.new }
 {
     held.invalidate_between(point, point, most);

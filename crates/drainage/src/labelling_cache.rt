@@ -57,7 +57,9 @@ impl HeldLabelling {
 
     // Whether it is that of the tile with this place, and its levels stay as the point with this index gets this height.
     fn is_below(&self, t: usize, index: u32, height: &NewHeight) -> bool
-        ensures { IsTrue result ↔ ((self.now.place ≡ t) × IsBelow self.now.labelling index height.now.was height.now.metres) }
+        ensures { IsTrue result
+            ↔ ((self.now.place ≡ t)
+            × IsBelow self.now.labelling index height.now.was height.now.metres) }
     {
         self.place == t && self.labelling.is_below(index, height.was, height.metres)
     }
@@ -80,8 +82,10 @@ pub(crate) struct LabellingCache {
 impl LabellingCache {
     /// None of so many tiles is held. NoMemory is the only refusal.
     pub(crate) fn new(alloc: Global, side: Side, count: usize) -> Result<LabellingCache, Refusal>
-        ensures none { IfOk result (λ cache. (t : ℕ) (l : TileLabelling) → IsHeldAt cache.held.items t l → ⊥) }
-        ensures entered { IfOk result (λ cache. (m : Mosaic) (c : Corner) (t : ℕ) → IsEntered m c cache.held.items t) }
+        ensures none { IfOk result (λ cache. (t : ℕ) (l : TileLabelling)
+            → IsHeldAt cache.held.items t l → ⊥) }
+        ensures entered { IfOk result (λ cache. (m : Mosaic) (c : Corner) (t : ℕ)
+            → IsEntered m c cache.held.items t) }
         ensures side { IfOk result (λ cache. cache.side ≡ side) }
         ensures refusal { IfErr result (λ r. r ≡ NoMemory) }
     {
@@ -106,7 +110,9 @@ impl LabellingCache {
     pub(crate) fn label_at(&mut self, t: usize, index: u32) -> Option<(i16, u16)>
         ensures same { All (Contains self.old.held.items) self.new.held.items }
         ensures side { self.new.side ≡ self.old.side }
-        ensures some { IfSome result (λ label_at. (m : Mosaic) (c : Corner) → IsEntered m c self.old.held.items t → IsLabelledAt m c index label_at.0 label_at.1) }
+        ensures some { IfSome result (λ label_at. (m : Mosaic) (c : Corner)
+            → IsEntered m c self.old.held.items t
+            → IsLabelledAt m c index label_at.0 label_at.1) }
     {
         self.use_again(t);
         let labelled = self.labelling(t)?;
@@ -132,9 +138,12 @@ impl LabellingCache {
 
     /// The labelling of the tile with this place, where one is held of which no height may have changed since.
     pub(crate) fn labelling(&self, t: usize) -> Option<&Labelled>
-        ensures some { IfSome result (λ labelled. (l : TileLabelling) × IsHeldAt self.now.held.items t l × IsCurrent l × (labelled.now ≡ labelled_of l)) }
-        ensures none { IfNone result ((l : TileLabelling) → IsHeldAt self.now.held.items t l → IsCurrent l → ⊥) }
-        ensures flooded { IfSome result (λ labelled. (m : Mosaic) (c : Corner) → IsEntered m c self.now.held.items t → IsFlooded m c labelled.now) }
+        ensures some { IfSome result (λ labelled. (l : TileLabelling)
+            × IsHeldAt self.now.held.items t l × IsCurrent l × (labelled.now ≡ labelled_of l)) }
+        ensures none { IfNone result ((l : TileLabelling) → IsHeldAt self.now.held.items t l
+            → IsCurrent l → ⊥) }
+        ensures flooded { IfSome result (λ labelled. (m : Mosaic) (c : Corner)
+            → IsEntered m c self.now.held.items t → IsFlooded m c labelled.now) }
     {
         for held in &self.held {
             if held.place == t && held.labelling.is_current() {
@@ -159,7 +168,8 @@ impl LabellingCache {
     pub(crate) fn take(&mut self, t: usize) -> Option<TileLabelling>
         ensures some { IfSome result (IsHeldAt self.old.held.items t) }
         ensures none { IfNone result ((l : TileLabelling) → IsHeldAt self.old.held.items t l → ⊥) }
-        ensures left { (m : Mosaic) (c : Corner) (u : ℕ) → IsEntered m c self.old.held.items u → IsEntered m c self.new.held.items u }
+        ensures left { (m : Mosaic) (c : Corner) (u : ℕ) → IsEntered m c self.old.held.items u
+            → IsEntered m c self.new.held.items u }
         ensures side { self.new.side ≡ self.old.side }
     {
         let at = place_of(&self.held, t)?;
@@ -169,7 +179,9 @@ impl LabellingCache {
 
     /// Holds the labelling of the tile with this place, where it is of the side, and there is memory for it.
     pub(crate) fn hold(&mut self, t: usize, labelling: TileLabelling)
-        ensures entered { (m : Mosaic) (c : Corner) (u : ℕ) → (u ≡ t → IsTileLabelling m c labelling) → IsEntered m c self.old.held.items u → IsEntered m c self.new.held.items u }
+        ensures entered { (m : Mosaic) (c : Corner) (u : ℕ)
+            → (u ≡ t → IsTileLabelling m c labelling) → IsEntered m c self.old.held.items u
+            → IsEntered m c self.new.held.items u }
         ensures side { self.new.side ≡ self.old.side }
     {
         if labelling.labelled().side() != self.side {
@@ -187,7 +199,8 @@ impl LabellingCache {
 
     // Gives up what there is no room for beside one tile more.
     fn make_room(&mut self)
-        ensures entered { (m : Mosaic) (c : Corner) (u : ℕ) → IsEntered m c self.old.held.items u → IsEntered m c self.new.held.items u }
+        ensures entered { (m : Mosaic) (c : Corner) (u : ℕ) → IsEntered m c self.old.held.items u
+            → IsEntered m c self.new.held.items u }
         ensures room { length self.new.held.items < most_labellings self.new.side }
         ensures block { count_by has_block self.new.held.items < most_blocks self.new.side }
         ensures side { self.new.side ≡ self.old.side }
@@ -206,7 +219,9 @@ impl LabellingCache {
         from: Point,
         to: Point,
     )
-        ensures left { (t : ℕ) (l : TileLabelling) → IsHeldAt self.new.held.items t l ↔ (IsHeldAt self.old.held.items t l × (is_reached side corners.now from to t ≡ false)) }
+        ensures left { (t : ℕ) (l : TileLabelling)
+            → IsHeldAt self.new.held.items t l
+            ↔ (IsHeldAt self.old.held.items t l × (is_reached side corners.now from to t ≡ false)) }
         ensures side { self.new.side ≡ self.old.side }
     {
         retain_unreached(&mut self.held, side, corners, from, to);
@@ -215,9 +230,16 @@ impl LabellingCache {
     /// The point may have this height from then on: of each tile that holds it this is noted, to mend its labelling once that
     /// is asked for, or the labelling is given up, unless a kept one stays as it is.
     pub(crate) fn note_changed(&mut self, side: Side, corners: &[Corner], height: &NewHeight)
-        ensures noted { (m new : Mosaic) (t : ℕ) → DifferAt m new height.now.point → IsSetFrom m new height.now.point height.now.was height.now.metres → m.side ≡ side → IsEntered m (corner_at corners.now t) self.old.held.items t → IsEntered new (corner_at corners.now t) self.new.held.items t }
-        ensures kept { (t : ℕ) → t < length corners.now → holds side (corner_at corners.now t) height.now.point ≡ false → (l : TileLabelling) → IsHeldAt self.new.held.items t l ↔ IsHeldAt self.old.held.items t l }
-        ensures mended { (t : ℕ) → t < length corners.now → (l : TileLabelling) → IsHeldAt self.old.held.items t l → can_note l ≡ true → IsHeldStill self.new.held.items t l }
+        ensures noted { (m new : Mosaic) (t : ℕ) → DifferAt m new height.now.point
+            → IsSetFrom m new height.now.point height.now.was height.now.metres → m.side ≡ side
+            → IsEntered m (corner_at corners.now t) self.old.held.items t
+            → IsEntered new (corner_at corners.now t) self.new.held.items t }
+        ensures kept { (t : ℕ) → t < length corners.now
+            → holds side (corner_at corners.now t) height.now.point ≡ false → (l : TileLabelling)
+            → IsHeldAt self.new.held.items t l ↔ IsHeldAt self.old.held.items t l }
+        ensures mended { (t : ℕ) → t < length corners.now → (l : TileLabelling)
+            → IsHeldAt self.old.held.items t l → can_note l ≡ true
+            → IsHeldStill self.new.held.items t l }
         ensures side { self.new.side ≡ self.old.side }
     {
         retain_noted(&mut self.held, side, corners, height);
@@ -271,10 +293,12 @@ fn move_first(held: &mut Vec<HeldLabelling>, at: usize)
 // Gives up the block of the one with this index, so that its labelling can't be mended any more.
 fn give_up_block(held: &mut Vec<HeldLabelling>, at: usize)
     requires { at < length held.old.items }
-    ensures entered { (m : Mosaic) (c : Corner) (u : ℕ) → IsEntered m c held.old.items u → IsEntered m c held.new.items u }
+    ensures entered { (m : Mosaic) (c : Corner) (u : ℕ) → IsEntered m c held.old.items u
+        → IsEntered m c held.new.items u }
     ensures sides { (n : ℕ) → All (HasSide n) held.old.items → All (HasSide n) held.new.items }
     ensures count { length held.new.items ≤ length held.old.items }
-    ensures blocks { (d : HeldLabelling) → has_block (slice_index_or held.old.items at d) ≡ true → count_by has_block held.new.items < count_by has_block held.old.items }
+    ensures blocks { (d : HeldLabelling) → has_block (slice_index_or held.old.items at d) ≡ true
+        → count_by has_block held.new.items < count_by has_block held.old.items }
 {
     let one = held.remove(at);
     if let Some(labelling) = one.labelling.without_block() {
@@ -292,7 +316,8 @@ fn give_up_block(held: &mut Vec<HeldLabelling>, at: usize)
 // Where as many blocks are held as there is room for, the index of the one that was used the longest ago.
 fn oldest_block(held: &[HeldLabelling], room: usize) -> Option<usize>
     requires { 0 < room }
-    ensures some { IfSome result (λ at. (at < length held.now) × ((d : HeldLabelling) → has_block (slice_index_or held.now at d) ≡ true)) }
+    ensures some { IfSome result (λ at. (at < length held.now)
+        × ((d : HeldLabelling) → has_block (slice_index_or held.now at d) ≡ true)) }
     ensures none { IfNone result (count_by has_block held.now < room) }
 {
     let mut count = 0;
@@ -322,9 +347,15 @@ fn retain_unreached(
 
 // The point may have this height from then on: keeps those of which this is noted, where their tiles hold it.
 fn retain_noted(held: &mut Vec<HeldLabelling>, side: Side, corners: &[Corner], height: &NewHeight)
-    ensures noted { (m new : Mosaic) (t : ℕ) → DifferAt m new height.now.point → IsSetFrom m new height.now.point height.now.was height.now.metres → m.side ≡ side → IsEntered m (corner_at corners.now t) held.old.items t → IsEntered new (corner_at corners.now t) held.new.items t }
-    ensures kept { (t : ℕ) → t < length corners.now → holds side (corner_at corners.now t) height.now.point ≡ false → (l : TileLabelling) → IsHeldAt held.new.items t l ↔ IsHeldAt held.old.items t l }
-    ensures mended { (t : ℕ) → t < length corners.now → (l : TileLabelling) → IsHeldAt held.old.items t l → can_note l ≡ true → IsHeldStill held.new.items t l }
+    ensures noted { (m new : Mosaic) (t : ℕ) → DifferAt m new height.now.point
+        → IsSetFrom m new height.now.point height.now.was height.now.metres → m.side ≡ side
+        → IsEntered m (corner_at corners.now t) held.old.items t
+        → IsEntered new (corner_at corners.now t) held.new.items t }
+    ensures kept { (t : ℕ) → t < length corners.now
+        → holds side (corner_at corners.now t) height.now.point ≡ false → (l : TileLabelling)
+        → IsHeldAt held.new.items t l ↔ IsHeldAt held.old.items t l }
+    ensures mended { (t : ℕ) → t < length corners.now → (l : TileLabelling)
+        → IsHeldAt held.old.items t l → can_note l ≡ true → IsHeldStill held.new.items t l }
     ensures sides { (n : ℕ) → All (HasSide n) held.old.items → All (HasSide n) held.new.items }
     ensures count { length held.new.items ≤ length held.old.items }
     ensures blocks { count_by has_block held.new.items ≤ count_by has_block held.old.items }
@@ -334,7 +365,8 @@ fn retain_noted(held: &mut Vec<HeldLabelling>, side: Side, corners: &[Corner], h
 
 // The index of the point in the corner's tile, where that holds it.
 fn index_held(side: Side, corner: Corner, point: Point) -> Option<u32>
-    ensures some { IfSome result (λ e. IsIndexOf side corner point e × (holds side corner point ≡ true)) }
+    ensures some { IfSome result (λ e. IsIndexOf side corner point e
+        × (holds side corner point ≡ true)) }
     ensures none { IfNone result (holds side corner point ≡ false) }
 {
     // That these are a side and a corner is told by their fields.
@@ -371,7 +403,8 @@ fn most_blocks(side: Side) -> usize
 
 // Where among these one of the tile with this place stands.
 fn place_of(held: &[HeldLabelling], t: usize) -> Option<usize>
-    ensures some { IfSome result (λ at. (at < length held.now) × ((d : HeldLabelling) → (slice_index_or held.now at d).place ≡ t)) }
+    ensures some { IfSome result (λ at. (at < length held.now)
+        × ((d : HeldLabelling) → (slice_index_or held.now at d).place ≡ t)) }
     ensures none { IfNone result (All (λ one. one.place ≢ t) held.now) }
 {
     for (at, one) in held.iter().enumerate() {

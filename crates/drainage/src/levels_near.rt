@@ -49,7 +49,8 @@ fn levels_around<S: Labellings>(
 ) -> Result<[Option<i16>; 8], Refusal>
     requires held { IsHeldFor S.Samples samples.old held.old }
     requires ground { S.is_honest samples.old → IsTrue (is_ground (S.mosaic samples.old) point) }
-    ensures around { S.is_honest samples.new → IfOk result (λ around. OnLevels (S.mosaic samples.old) (λ level. around ≡ around_of (terrain (S.mosaic samples.old)) level point)) }
+    ensures around { S.is_honest samples.new
+        → IfOk result (λ around. OnLevels (S.mosaic samples.old) (λ level. around ≡ around_of (terrain (S.mosaic samples.old)) level point)) }
     ensures held { IsHeldFor S.Samples samples.new held.new }
     ensures causes { IfErr result (λ r. IsTrue (ends_any r)) }
     ensures asked { Asked S.Samples samples.old samples.new result }
@@ -71,7 +72,8 @@ fn level_beside<S: Labellings>(
 ) -> Result<Option<i16>, Refusal>
     requires held { IsHeldFor S.Samples samples.old held.old }
     requires ground { S.is_honest samples.old → IsTrue (is_ground (S.mosaic samples.old) point) }
-    ensures beside { S.is_honest samples.new → IfOk result (λ found. OnLevels (S.mosaic samples.old) (λ level. found ≡ beside_of (terrain (S.mosaic samples.old)) level point direction)) }
+    ensures beside { S.is_honest samples.new
+        → IfOk result (λ found. OnLevels (S.mosaic samples.old) (λ level. found ≡ beside_of (terrain (S.mosaic samples.old)) level point direction)) }
     ensures held { IsHeldFor S.Samples samples.new held.new }
     ensures causes { IfErr result (λ r. IsTrue (ends_any r)) }
     ensures asked { Asked S.Samples samples.old samples.new result }

@@ -20,7 +20,8 @@ use tile_flood::{Labelled, NO_LABEL, OUT};
 /// held, which marks none as a void, and the levels of the rim points that their labels name are known. So it is of nearly
 /// every point of a tile that was asked about before.
 pub(crate) fn near(tile_cache: &TileCache, point: Point) -> Option<Near>
-    ensures { (m : Mosaic) → IsMosaic m → IsRight m (known_of tile_cache.now) → IfSome result (IsNear m point) }
+    ensures { (m : Mosaic) → IsMosaic m → IsRight m (known_of tile_cache.now)
+        → IfSome result (IsNear m point) }
 {
     let side = tile_cache.rim_graph.side;
     let t = tile_cache
@@ -49,7 +50,8 @@ fn level_in_tile(
 ) -> Option<i16>
     requires place { t < length tile_cache.now.rim_graph.corners.items }
     requires corner { corner_at tile_cache.now.rim_graph.corners.items t ≡ corner }
-    requires held { (m : Mosaic) → IsRight m (known_of tile_cache.now) → IsFlooded m corner labelled.now }
+    requires held { (m : Mosaic) → IsRight m (known_of tile_cache.now)
+        → IsFlooded m corner labelled.now }
     ensures { IfSome result (λ level. IsKnownLevel (known_of tile_cache.now) t point (Some level)) }
 {
     let side = tile_cache.rim_graph.side;

@@ -31,11 +31,15 @@ pub(crate) fn is_tile_outlet<S: Samples>(
 ) -> Result<bool, Refusal>
     requires labelled_side { tile.now.labelled.now.side ≡ S.side_of samples.old }
     requires present { Contains (S.corners samples.old) tile.now.corner }
-    requires ground_cache { S.is_honest samples.old → AreRemembered (S.mosaic samples.old) ground_cache.old }
+    requires ground_cache { S.is_honest samples.old
+        → AreRemembered (S.mosaic samples.old) ground_cache.old }
     requires index { IsIndexOf (S.side_of samples.old) tile.now.corner point index }
     requires inside { index < S.side_of samples.old * S.side_of samples.old }
-    ensures value { S.is_honest samples.new → IsFlooded (S.mosaic samples.old) tile.now.corner tile.now.labelled.now → IfOk result (λ answer. answer ≡ is_outlet (S.mosaic samples.old) point) }
-    ensures ground_cache { S.is_honest samples.new → OnOk result (AreRemembered (S.mosaic samples.new) ground_cache.new) }
+    ensures value { S.is_honest samples.new
+        → IsFlooded (S.mosaic samples.old) tile.now.corner tile.now.labelled.now
+        → IfOk result (λ answer. answer ≡ is_outlet (S.mosaic samples.old) point) }
+    ensures ground_cache { S.is_honest samples.new
+        → OnOk result (AreRemembered (S.mosaic samples.new) ground_cache.new) }
     ensures reads { OnlyReads S.Samples samples.old samples.new result }
 {
     if tile.labelled.labels()[index as usize] == NO_LABEL {
@@ -57,9 +61,13 @@ fn degree_in_tile<S: Samples>(
 ) -> Result<u32, Refusal>
     requires labelled_side { tile.now.labelled.now.side ≡ S.side_of samples.old }
     requires present { Contains (S.corners samples.old) tile.now.corner }
-    requires ground_cache { S.is_honest samples.old → AreRemembered (S.mosaic samples.old) ground_cache.old }
-    ensures value { S.is_honest samples.new → IsGroundOf (S.mosaic samples.old) tile.now.corner tile.now.labelled.now point → IfOk result (λ count. count ≡ degree_of (S.mosaic samples.old) point) }
-    ensures ground_cache { S.is_honest samples.new → OnOk result (AreRemembered (S.mosaic samples.new) ground_cache.new) }
+    requires ground_cache { S.is_honest samples.old
+        → AreRemembered (S.mosaic samples.old) ground_cache.old }
+    ensures value { S.is_honest samples.new
+        → IsGroundOf (S.mosaic samples.old) tile.now.corner tile.now.labelled.now point
+        → IfOk result (λ count. count ≡ degree_of (S.mosaic samples.old) point) }
+    ensures ground_cache { S.is_honest samples.new
+        → OnOk result (AreRemembered (S.mosaic samples.new) ground_cache.new) }
     ensures reads { OnlyReads S.Samples samples.old samples.new result }
 {
     let reach = steps(point);
@@ -82,11 +90,15 @@ fn is_adjacent_to<S: Samples>(
 ) -> Result<bool, Refusal>
     requires labelled_side { tile.now.labelled.now.side ≡ S.side_of samples.old }
     requires present { Contains (S.corners samples.old) tile.now.corner }
-    requires ground_cache { S.is_honest samples.old → AreRemembered (S.mosaic samples.old) ground_cache.old }
+    requires ground_cache { S.is_honest samples.old
+        → AreRemembered (S.mosaic samples.old) ground_cache.old }
     requires near { is_near point to ≡ true }
     requires other { same_point point to ≡ false }
-    ensures value { S.is_honest samples.new → IsGroundOf (S.mosaic samples.old) tile.now.corner tile.now.labelled.now point → IfOk result (λ answer. answer ≡ is_adjacent (S.mosaic samples.old) point to) }
-    ensures ground_cache { S.is_honest samples.new → OnOk result (AreRemembered (S.mosaic samples.new) ground_cache.new) }
+    ensures value { S.is_honest samples.new
+        → IsGroundOf (S.mosaic samples.old) tile.now.corner tile.now.labelled.now point
+        → IfOk result (λ answer. answer ≡ is_adjacent (S.mosaic samples.old) point to) }
+    ensures ground_cache { S.is_honest samples.new
+        → OnOk result (AreRemembered (S.mosaic samples.new) ground_cache.new) }
     ensures reads { OnlyReads S.Samples samples.old samples.new result }
 {
     if let Some(index) = index_in(tile.labelled.side(), tile.corner, to) {

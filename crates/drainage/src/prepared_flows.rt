@@ -31,12 +31,18 @@ pub(crate) struct PreparedFlows<'a, 'b, S: Labellings> {
 }
 
 impl<'a, 'b, S: Labellings> FlowSource for PreparedFlows<'a, 'b, S> {
-    ghost tells = { λ flows m level. S.is_honest flows.samples.now × ((m ≡ S.mosaic flows.samples.now) × AreFilledLevels (terrain m) level) };
+    ghost tells = { λ flows m level. S.is_honest flows.samples.now
+        × ((m ≡ S.mosaic flows.samples.now) × AreFilledLevels (terrain m) level) };
 
-    ghost is_ready = { λ flows. IsHeldFor S.Samples flows.samples.now flows.held.now × (length (S.corners flows.samples.now) ≤ most_tiles) };
+    ghost is_ready = { λ flows. IsHeldFor S.Samples flows.samples.now flows.held.now
+        × (length (S.corners flows.samples.now) ≤ most_tiles) };
 
     // They are the same samples, and what is held is right for them.
-    ghost follows = { λ old new. (new.samples.ghost_name ≡ old.samples.ghost_name) × (new.held.ghost_name ≡ old.held.ghost_name) × (S.is_honest new.samples.now → S.is_honest old.samples.now) × (S.is_honest new.samples.now → S.mosaic new.samples.now ≡ S.mosaic old.samples.now) × IsHeldFor S.Samples new.samples.now new.held.now };
+    ghost follows = { λ old new. (new.samples.ghost_name ≡ old.samples.ghost_name)
+        × (new.held.ghost_name ≡ old.held.ghost_name)
+        × (S.is_honest new.samples.now → S.is_honest old.samples.now)
+        × (S.is_honest new.samples.now → S.mosaic new.samples.now ≡ S.mosaic old.samples.now)
+        × IsHeldFor S.Samples new.samples.now new.held.now };
 
     ghost keeps = { λ old new. AreRead S.Samples old.samples.now new.samples.now };
 

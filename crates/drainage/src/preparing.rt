@@ -46,10 +46,13 @@ pub(crate) fn prepare<S: Labellings>(
 ) -> Result<Prepared, Refusal>
     requires held { IsHeldFor S.Samples samples.old held.old }
     requires present { Contains (S.corners samples.old) corner }
-    ensures flows { S.is_honest samples.new → IfOk result (λ prepared. AreTileFlows (S.mosaic samples.old) corner prepared.flows.items) }
-    ensures whole { IfOk result (λ prepared. length prepared.flows.items ≡ S.side_of samples.old * S.side_of samples.old) }
+    ensures flows { S.is_honest samples.new
+        → IfOk result (λ prepared. AreTileFlows (S.mosaic samples.old) corner prepared.flows.items) }
+    ensures whole { IfOk result (λ prepared. length prepared.flows.items
+        ≡ S.side_of samples.old * S.side_of samples.old) }
     ensures known { IfOk result (λ prepared. AreKnown prepared.flows.items) }
-    ensures ranges { S.is_honest samples.new → IfOk result (λ prepared. AreRangesOf (S.side_of samples.old) (S.mosaic samples.old) corner prepared.ranges.items) }
+    ensures ranges { S.is_honest samples.new
+        → IfOk result (λ prepared. AreRangesOf (S.side_of samples.old) (S.mosaic samples.old) corner prepared.ranges.items) }
     ensures held { IsHeldFor S.Samples samples.new held.new }
     ensures causes { IfErr result (λ r. IsTrue (ends_any r)) }
     ensures asked { Asked S.Samples samples.old samples.new result }
@@ -68,7 +71,9 @@ fn tile_flows<S: Samples>(
     levels: &[i16],
 ) -> Result<Vec<FlowByte>, Refusal>
     requires levels { length levels.now ≡ (S.side_of samples.now + 4) * (S.side_of samples.now + 4) }
-    ensures flows { S.is_honest samples.now → Contains (S.corners samples.now) corner → ArePadded (S.mosaic samples.now) corner levels.now → IfOk result (λ flows. AreTileFlows (S.mosaic samples.now) corner flows.items) }
+    ensures flows { S.is_honest samples.now → Contains (S.corners samples.now) corner
+        → ArePadded (S.mosaic samples.now) corner levels.now
+        → IfOk result (λ flows. AreTileFlows (S.mosaic samples.now) corner flows.items) }
     ensures whole { IfOk result (λ flows. length flows.items ≡ S.side_of samples.now * S.side_of samples.now) }
     ensures known { IfOk result (λ flows. AreKnown flows.items) }
     ensures refusal { IfErr result (λ r. r ≡ NoMemory) }
@@ -98,7 +103,8 @@ fn sides_of<S: Samples>(samples: &S, corner: Corner) -> Sides
 }
 
 fn is_present_at<S: Samples>(samples: &S, lat: i16, lon: i16) -> bool
-    ensures { S.is_honest samples.now → result ≡ is_present (S.mosaic samples.now) (record { lat = lat; lon = lon }) }
+    ensures { S.is_honest samples.now
+        → result ≡ is_present (S.mosaic samples.now) (record { lat = lat; lon = lon }) }
 {
     match Corner::new(lat, lon) {
         Some(corner) => samples.present(corner),
@@ -116,7 +122,8 @@ fn padded_at<S: Labellings>(
 ) -> Result<Vec<i16>, Refusal>
     requires held { IsHeldFor S.Samples samples.old held.old }
     requires present { Contains (S.corners samples.old) corner }
-    ensures levels { S.is_honest samples.new → IfOk result (λ levels. ArePadded (S.mosaic samples.old) corner levels.items) }
+    ensures levels { S.is_honest samples.new
+        → IfOk result (λ levels. ArePadded (S.mosaic samples.old) corner levels.items) }
     ensures whole { IfOk result (λ levels. length levels.items ≡ (S.side_of samples.old + 4) * (S.side_of samples.old + 4)) }
     ensures held { IsHeldFor S.Samples samples.new held.new }
     ensures causes { IfErr result (λ r. IsTrue (ends_any r)) }
@@ -181,11 +188,14 @@ fn fill_around<S: Labellings>(
     corner: Corner,
     levels: &mut [i16],
 ) -> Result<(), Refusal>
-    requires right { S.is_honest samples.old → IsRight (S.mosaic samples.old) (known_of tile_cache.old) }
+    requires right { S.is_honest samples.old
+        → IsRight (S.mosaic samples.old) (known_of tile_cache.old) }
     requires levels { length levels.old ≡ (S.side_of samples.old + 4) * (S.side_of samples.old + 4) }
-    ensures filled { S.is_honest samples.new → OnOk result (IsFilledAround (S.mosaic samples.old) corner levels.old levels.new) }
+    ensures filled { S.is_honest samples.new
+        → OnOk result (IsFilledAround (S.mosaic samples.old) corner levels.old levels.new) }
     ensures whole { length levels.new ≡ length levels.old }
-    ensures right { S.is_honest samples.new → IsRight (S.mosaic samples.new) (known_of tile_cache.new) }
+    ensures right { S.is_honest samples.new
+        → IsRight (S.mosaic samples.new) (known_of tile_cache.new) }
     ensures causes { IfErr result (λ r. IsTrue (ends_any r)) }
     ensures asked { Asked S.Samples samples.old samples.new result }
 {

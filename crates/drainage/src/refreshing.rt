@@ -28,15 +28,19 @@ pub(crate) fn current_labelling<S: Labellings>(
     t: usize,
     corner: Corner,
 ) -> Result<TileLabelling, Refusal>
-    ensures valid { S.is_honest samples.new → IsEntered (S.mosaic samples.old) corner labellings.old.held.items t → IfOk result (IsTileLabelling (S.mosaic samples.old) corner) }
+    ensures valid { S.is_honest samples.new
+        → IsEntered (S.mosaic samples.old) corner labellings.old.held.items t
+        → IfOk result (IsTileLabelling (S.mosaic samples.old) corner) }
     ensures current { IfOk result IsCurrent }
     ensures side { IfOk result (λ labelling. (labelled_of labelling).side ≡ S.side_of samples.old) }
     ensures present { OnOk result (Contains (S.corners samples.old) corner) }
-    ensures left { (m : Mosaic) (c : Corner) (u : ℕ) → IsEntered m c labellings.old.held.items u → IsEntered m c labellings.new.held.items u }
+    ensures left { (m : Mosaic) (c : Corner) (u : ℕ) → IsEntered m c labellings.old.held.items u
+        → IsEntered m c labellings.new.held.items u }
     ensures same_side { labellings.new.side ≡ labellings.old.side }
     ensures honest { S.is_honest samples.new → S.is_honest samples.old }
     ensures mosaic { S.is_honest samples.new → S.mosaic samples.new ≡ S.mosaic samples.old }
-    ensures asked { (S.is_honest samples.new → Contains (S.corners samples.old) corner) → Asked S.Samples samples.old samples.new result }
+    ensures asked { (S.is_honest samples.new → Contains (S.corners samples.old) corner)
+        → Asked S.Samples samples.old samples.new result }
     ensures reads { OnOk result (OnlyReads {T = Unit {0}} S.Samples samples.old samples.new (Ok tt)) }
     ensures causes { IfErr result (λ r. IsTrue (ends_any r)) }
 {
@@ -62,10 +66,12 @@ pub(crate) fn kept_label_at<S: Labellings>(
     corner: Corner,
     index: u32,
 ) -> Result<Option<(i16, u16)>, Refusal>
-    ensures label_at { S.is_honest samples.new → IfOk result (λ found. IfSome found (λ label_at. IsLabelledAt (S.mosaic samples.old) corner index label_at.0 label_at.1)) }
+    ensures label_at { S.is_honest samples.new
+        → IfOk result (λ found. IfSome found (λ label_at. IsLabelledAt (S.mosaic samples.old) corner index label_at.0 label_at.1)) }
     ensures same { labellings.new.held.items ≡ labellings.old.held.items }
     ensures same_side { labellings.new.side ≡ labellings.old.side }
-    ensures asked { (S.is_honest samples.new → Contains (S.corners samples.old) corner) → Asked S.Samples samples.old samples.new result }
+    ensures asked { (S.is_honest samples.new → Contains (S.corners samples.old) corner)
+        → Asked S.Samples samples.old samples.new result }
     ensures reads { OnOk result (OnlyReads {T = Unit {0}} S.Samples samples.old samples.new (Ok tt)) }
     ensures honest { S.is_honest samples.new → S.is_honest samples.old }
     ensures mosaic { S.is_honest samples.new → S.mosaic samples.new ≡ S.mosaic samples.old }
@@ -93,12 +99,17 @@ fn refreshed<S: Samples>(
     t: usize,
     corner: Corner,
 ) -> Result<Option<TileLabelling>, Refusal>
-    ensures valid { S.is_honest samples.new → IsEntered (S.mosaic samples.old) corner labellings.old.held.items t → IfOk result (λ found. IfSome found (IsTileLabelling (S.mosaic samples.old) corner)) }
+    ensures valid { S.is_honest samples.new
+        → IsEntered (S.mosaic samples.old) corner labellings.old.held.items t
+        → IfOk result (λ found. IfSome found (IsTileLabelling (S.mosaic samples.old) corner)) }
     ensures current { IfOk result (λ found. IfSome found IsCurrent) }
-    ensures side { IfOk result (λ found. IfSome found (λ refreshed. (labelled_of refreshed).side ≡ S.side_of samples.old)) }
-    ensures left { (m : Mosaic) (c : Corner) (u : ℕ) → IsEntered m c labellings.old.held.items u → IsEntered m c labellings.new.held.items u }
+    ensures side { IfOk result (λ found. IfSome found (λ refreshed. (labelled_of refreshed).side
+        ≡ S.side_of samples.old)) }
+    ensures left { (m : Mosaic) (c : Corner) (u : ℕ) → IsEntered m c labellings.old.held.items u
+        → IsEntered m c labellings.new.held.items u }
     ensures same_side { labellings.new.side ≡ labellings.old.side }
-    ensures refusal { IfErr result (λ r. (r ≡ NoMemory) ⊎ MayRefuse (S.failures samples.old) (S.failures samples.new) r) }
+    ensures refusal { IfErr result (λ r. (r ≡ NoMemory)
+        ⊎ MayRefuse (S.failures samples.old) (S.failures samples.new) r) }
     ensures reads { OnlyReads S.Samples samples.old samples.new (reads_of result) }
 {
     let Some(held) = labellings.take(t) else {

@@ -33,7 +33,8 @@ pub(crate) struct RimGraph {
 impl RimGraph {
     /// Water has come to none of the tiles. NoMemory is the only refusal.
     pub(crate) fn new<S: Samples>(alloc: Global, samples: &S) -> Result<RimGraph, Refusal>
-        ensures ready { S.is_honest samples.now → IfOk result (λ s. AreReady (S.mosaic samples.now) s.side s.corners.items s.loaded.items) }
+        ensures ready { S.is_honest samples.now
+            → IfOk result (λ s. AreReady (S.mosaic samples.now) s.side s.corners.items s.loaded.items) }
         ensures refusal { IfErr result (λ r. r ≡ NoMemory) }
     {
         let side = samples.side();
@@ -51,7 +52,8 @@ impl RimGraph {
 
     // The corner of the tile with this place.
     pub(crate) fn corner(&self, t: usize) -> Option<Corner>
-        ensures some { IfSome result (λ c. (t < length self.now.corners.items) × (corner_at self.now.corners.items t ≡ c)) }
+        ensures some { IfSome result (λ c. (t < length self.now.corners.items)
+            × (corner_at self.now.corners.items t ≡ c)) }
         ensures none { IfNone result (length self.now.corners.items ≤ t) }
     {
         let corner = self.corners.get(t)?;
@@ -62,13 +64,19 @@ impl RimGraph {
     /// how low water gets out.
     pub(crate) fn learn(&mut self, alloc: Global, t: usize, summary: Summary) -> Result<(), Refusal>
         requires inside { t < length self.old.loaded.items }
-        ensures loaded { OnOk result ((ways : TileGraphOf) × (loaded_at self.new.loaded.items t ≡ Some ways)) }
-        ensures only { (u : ℕ) (ways : TileGraphOf) → u ≢ t → loaded_at self.new.loaded.items u ≡ Some ways → loaded_at self.old.loaded.items u ≡ Some ways }
+        ensures loaded { OnOk result ((ways : TileGraphOf)
+            × (loaded_at self.new.loaded.items t ≡ Some ways)) }
+        ensures only { (u : ℕ) (ways : TileGraphOf) → u ≢ t
+            → loaded_at self.new.loaded.items u ≡ Some ways
+            → loaded_at self.old.loaded.items u ≡ Some ways }
         ensures side { self.new.side ≡ self.old.side }
         ensures corners { self.new.corners.items ≡ self.old.corners.items }
-        ensures still { (u : ℕ) (ways : TileGraphOf) → loaded_at self.old.loaded.items u ≡ Some ways → loaded_at self.new.loaded.items u ≡ Some ways }
-        ensures right { (m : Mosaic) → corner_at self.old.corners.items t ≡ summary.corner → IsSummaryOf m summary
-            → AreLoaded m self.old.side self.old.corners.items self.old.loaded.items → AreLoaded m self.old.side self.old.corners.items self.new.loaded.items }
+        ensures still { (u : ℕ) (ways : TileGraphOf) → loaded_at self.old.loaded.items u ≡ Some ways
+            → loaded_at self.new.loaded.items u ≡ Some ways }
+        ensures right { (m : Mosaic) → corner_at self.old.corners.items t ≡ summary.corner
+            → IsSummaryOf m summary
+            → AreLoaded m self.old.side self.old.corners.items self.old.loaded.items
+            → AreLoaded m self.old.side self.old.corners.items self.new.loaded.items }
         ensures refusal { IfErr result (λ r. r ≡ NoMemory) }
     {
         if self.loaded[t].is_some() {
@@ -88,8 +96,10 @@ impl RimGraph {
         ensures side { self.new.side ≡ self.old.side }
         ensures corners { self.new.corners.items ≡ self.old.corners.items }
         ensures whole { length self.new.loaded.items ≡ length self.old.loaded.items }
-        ensures loaded { (t : ℕ) (ways : TileGraphOf) → loaded_at self.new.loaded.items t ≡ Some ways
-            ↔ ((loaded_at self.old.loaded.items t ≡ Some ways) × (is_reached self.old.side self.old.corners.items from to t ≡ false)) }
+        ensures loaded { (t : ℕ) (ways : TileGraphOf)
+            → loaded_at self.new.loaded.items t ≡ Some ways
+            ↔ ((loaded_at self.old.loaded.items t ≡ Some ways)
+            × (is_reached self.old.side self.old.corners.items from to t ≡ false)) }
     {
         for t in 0..self.loaded.len() {
             if is_reached(self.side, &self.corners, from, to, t) {
@@ -104,8 +114,10 @@ impl RimGraph {
         ensures side { self.new.side ≡ self.old.side }
         ensures corners { self.new.corners.items ≡ self.old.corners.items }
         ensures whole { length self.new.loaded.items ≡ length self.old.loaded.items }
-        ensures loaded { (t : ℕ) (ways : TileGraphOf) → loaded_at self.new.loaded.items t ≡ Some ways
-            ↔ ((loaded_at self.old.loaded.items t ≡ Some ways) × KeepsSummary self.old.side self.old.corners.items labellings.now.held.items height.now t) }
+        ensures loaded { (t : ℕ) (ways : TileGraphOf)
+            → loaded_at self.new.loaded.items t ≡ Some ways
+            ↔ ((loaded_at self.old.loaded.items t ≡ Some ways)
+            × KeepsSummary self.old.side self.old.corners.items labellings.now.held.items height.now t) }
     {
         for t in 0..self.loaded.len() {
             if !self.is_still(labellings, height, t) {
@@ -116,7 +128,8 @@ impl RimGraph {
 
     // Whether the graph of the tile with this place stays as the point gets this height.
     fn is_still(&self, labellings: &LabellingCache, height: &NewHeight, t: usize) -> bool
-        ensures { IsTrue result ↔ KeepsSummary self.now.side self.now.corners.items labellings.now.held.items height.now t }
+        ensures { IsTrue result
+            ↔ KeepsSummary self.now.side self.now.corners.items labellings.now.held.items height.now t }
     {
         if !is_reached(self.side, &self.corners, height.point, height.point, t) {
             return true;
@@ -141,10 +154,14 @@ impl RimGraph {
     pub(crate) fn list(&self, t: usize, k: u32, into: &mut Vec<Edge>) -> Result<(), Refusal>
         requires number { k < 4 * (self.now.side - 1) }
         requires place { t < length self.now.corners.items }
-        ensures ways { OnOk result ((ways : TileGraphOf) → loaded_at self.now.loaded.items t ≡ Some ways
+        ensures ways { OnOk result ((ways : TileGraphOf)
+            → loaded_at self.now.loaded.items t ≡ Some ways
             → AreTileEdges self.now.side self.now.corners.items ways t k into.old.items into.new.items) }
-        ensures refusal { IfErr result (λ r. (r ≡ NoMemory) ⊎ ((r ≡ Damaged) × ((ways : TileGraphOf) → loaded_at self.now.loaded.items t ≡ Some ways
-            → (ways.side ≢ self.now.side) ⊎ AreTooMany self.now.side self.now.corners.items))) }
+        ensures refusal { IfErr result (λ r. (r ≡ NoMemory)
+            ⊎ ((r ≡ Damaged)
+            × ((ways : TileGraphOf) → loaded_at self.now.loaded.items t ≡ Some ways
+            → (ways.side ≢ self.now.side)
+            ⊎ AreTooMany self.now.side self.now.corners.items))) }
     {
         let Some(loaded) = self.loaded.get(t) else {
             return Err(Refusal::Damaged);

@@ -53,7 +53,9 @@ impl RimLevels {
 
     /// Gives up the levels that are higher than this one, in metres, or all where it is none. Takes no memory.
     pub(crate) fn invalidate_above(&mut self, most: Option<i32>)
-        ensures levels { (x : ℕ) (level : ℤ) → level_of self.new x ≡ Some level ↔ ((level_of self.old x ≡ Some level) × IsNoHigher most level) }
+        ensures levels { (x : ℕ) (level : ℤ)
+            → level_of self.new x ≡ Some level
+            ↔ ((level_of self.old x ≡ Some level) × IsNoHigher most level) }
         ensures whole { length self.new ≡ length self.old }
     {
         for x in 0..self.levels.len() {
@@ -66,7 +68,9 @@ impl RimLevels {
     /// Gives up the levels that may change as ground points get other heights than they had, one after another, in one pass.
     /// Takes no memory.
     pub(crate) fn invalidate_reached(&mut self, heights: &[NewHeight])
-        ensures levels { (x : ℕ) (level : ℤ) → level_of self.new x ≡ Some level ↔ ((level_of self.old x ≡ Some level) × AreSparing heights.now level) }
+        ensures levels { (x : ℕ) (level : ℤ)
+            → level_of self.new x ≡ Some level
+            ↔ ((level_of self.old x ≡ Some level) × AreSparing heights.now level) }
         ensures whole { length self.new ≡ length self.old }
     {
         let range = reached_range(heights);
@@ -96,7 +100,8 @@ impl RimLevels {
     /// Knows the level of the node from then on. NoMemory is the only refusal, also of a node that no mosaic of 240 tiles
     /// has.
     pub(crate) fn know(&mut self, node: u32, level: i16) -> Result<(), Refusal>
-        ensures known { OnOk result ((x : ℕ) → level_of self.new x ≡ cond (node == x) (Some level) (level_of self.old x)) }
+        ensures known { OnOk result ((x : ℕ)
+            → level_of self.new x ≡ cond (node == x) (Some level) (level_of self.old x)) }
         ensures few { length self.old ≤ most_rim_levels → length self.new ≤ most_rim_levels }
         ensures refusal { IfErr result (λ r. (r ≡ NoMemory) × (self.new ≡ self.old)) }
     {
@@ -113,8 +118,10 @@ impl RimLevels {
 
     /// Knows the level of the nodes from then on, or of some of them where it is refused. NoMemory is the only refusal.
     pub(crate) fn know_all(&mut self, nodes: &[u32], level: i16) -> Result<(), Refusal>
-        ensures known { OnOk result ((x : ℕ) → Contains nodes.now x → level_of self.new x ≡ Some level) }
-        ensures only { (x : ℕ) (found : ℤ) → level_of self.new x ≡ Some found → (level_of self.old x ≡ Some found) ⊎ (Contains nodes.now x × (found ≡ level)) }
+        ensures known { OnOk result ((x : ℕ) → Contains nodes.now x
+            → level_of self.new x ≡ Some level) }
+        ensures only { (x : ℕ) (found : ℤ) → level_of self.new x ≡ Some found
+            → (level_of self.old x ≡ Some found) ⊎ (Contains nodes.now x × (found ≡ level)) }
         ensures few { length self.old ≤ most_rim_levels → length self.new ≤ most_rim_levels }
         ensures refusal { IfErr result (λ r. r ≡ NoMemory) }
     {
@@ -141,7 +148,8 @@ fn is_above(most: Option<i32>, level: Option<i16>) -> bool
 
 // From the least to the greatest of the heights that change, and of those that they become: no level out of it may change.
 fn reached_range(heights: &[NewHeight]) -> LevelRange
-    ensures { (level : ℤ) → IsSample level → (IsIn (Some result) level → ⊥) → AreSparing heights.now level }
+    ensures { (level : ℤ) → IsSample level → (IsIn (Some result) level → ⊥)
+        → AreSparing heights.now level }
 {
     let mut range = LevelRange {
         least: i16::MAX,
@@ -157,8 +165,10 @@ fn reached_range(heights: &[NewHeight]) -> LevelRange
 
 // The range with the levels that may change as a ground point of the one height gets the other.
 fn wider(range: LevelRange, was: i16, is: i16) -> LevelRange
-    ensures before { (level : ℤ) → IsSample level → IsIn (Some range) level → IsIn (Some result) level }
-    ensures more { (level : ℤ) → IsSample level → (IsIn (Some result) level → ⊥) → IsSpared was is level }
+    ensures before { (level : ℤ) → IsSample level → IsIn (Some range) level
+        → IsIn (Some result) level }
+    ensures more { (level : ℤ) → IsSample level → (IsIn (Some result) level → ⊥)
+        → IsSpared was is level }
 {
     if is == VOID {
         return LevelRange {
@@ -174,7 +184,8 @@ fn wider(range: LevelRange, was: i16, is: i16) -> LevelRange
 
 // Whether the level, if there is one, may change as the points get their heights, which change no level out of the range.
 fn may_change(heights: &[NewHeight], range: LevelRange, level: Option<i16>) -> bool
-    requires { (level : ℤ) → IsSample level → (IsIn (Some range) level → ⊥) → AreSparing heights.now level }
+    requires { (level : ℤ) → IsSample level → (IsIn (Some range) level → ⊥)
+        → AreSparing heights.now level }
     ensures yes { IsTrue result → IfSome level (λ l. AreSparing heights.now l → ⊥) }
     ensures no { IsFalse result → IfSome level (AreSparing heights.now) }
 {

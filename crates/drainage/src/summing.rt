@@ -38,9 +38,13 @@ pub(crate) fn summarize<S: Samples>(
     requires present { Contains (S.corners samples.old) corner }
     ensures corner { IfOk result (λ b. b.corner ≡ corner) }
     ensures same { labelling.new ≡ labelling.old }
-    ensures border { S.is_honest samples.new → IsCurrent labelling.old → IsTileLabelling (S.mosaic samples.old) corner labelling.old → IfOk result (IsSummaryOf (S.mosaic samples.old)) }
+    ensures border { S.is_honest samples.new → IsCurrent labelling.old
+        → IsTileLabelling (S.mosaic samples.old) corner labelling.old
+        → IfOk result (IsSummaryOf (S.mosaic samples.old)) }
     ensures causes { IfErr result (λ r. IsTrue (ends_any r)) }
-    ensures asked { IsCurrent labelling.old → (S.is_honest samples.new → IsTileLabelling (S.mosaic samples.old) corner labelling.old) → Asked S.Samples samples.old samples.new result }
+    ensures asked { IsCurrent labelling.old
+        → (S.is_honest samples.new → IsTileLabelling (S.mosaic samples.old) corner labelling.old)
+        → Asked S.Samples samples.old samples.new result }
     ensures reads { OnOk result (OnlyReads {T = Unit {0}} S.Samples samples.old samples.new (Ok tt)) }
     ensures honest { S.is_honest samples.new → S.is_honest samples.old }
     ensures mosaic { S.is_honest samples.new → S.mosaic samples.new ≡ S.mosaic samples.old }
@@ -64,9 +68,10 @@ fn rim_of<S: Samples>(
 ) -> Result<Option<Vec<RimPoint>>, Refusal>
     requires labelled_side { labelled.now.side ≡ S.side_of samples.old }
     requires present { Contains (S.corners samples.old) corner }
-    ensures rim { S.is_honest samples.new → IsFlooded (S.mosaic samples.old) corner labelled.now → IfOk result (λ found. MatchOption found (HasOtherRimHeight (S.mosaic samples.old) corner labelled.now.levels)
-        (λ rim. AreRimPointsIn (S.mosaic samples.old) corner labelled.now.labels rim.items (4 * (S.side_of samples.old - 1)))) }
-    ensures refusal { IfErr result (λ r. (r ≡ NoMemory) ⊎ MayRefuse (S.failures samples.old) (S.failures samples.new) r) }
+    ensures rim { S.is_honest samples.new → IsFlooded (S.mosaic samples.old) corner labelled.now
+        → IfOk result (λ found. MatchOption found (HasOtherRimHeight (S.mosaic samples.old) corner labelled.now.levels) (λ rim. AreRimPointsIn (S.mosaic samples.old) corner labelled.now.labels rim.items (4 * (S.side_of samples.old - 1)))) }
+    ensures refusal { IfErr result (λ r. (r ≡ NoMemory)
+        ⊎ MayRefuse (S.failures samples.old) (S.failures samples.new) r) }
     ensures reads { OnlyReads S.Samples samples.old samples.new (reads_of result) }
 {
     let count = labelled.side().rim();
@@ -93,11 +98,14 @@ fn rim_point<S: Samples>(
 ) -> Result<Option<RimPoint>, Refusal>
     requires labelled_side { tile.now.labelled.now.side ≡ S.side_of samples.old }
     requires present { Contains (S.corners samples.old) tile.now.corner }
-    requires ground_cache { S.is_honest samples.old → AreRemembered (S.mosaic samples.old) ground_cache.old }
+    requires ground_cache { S.is_honest samples.old
+        → AreRemembered (S.mosaic samples.old) ground_cache.old }
     requires number { number < 4 * (S.side_of samples.old - 1) }
-    ensures point { S.is_honest samples.new → IsFlooded (S.mosaic samples.old) tile.now.corner tile.now.labelled.now → IfOk result (λ found. MatchOption found (HasOtherRimHeight (S.mosaic samples.old) tile.now.corner tile.now.labelled.now.levels)
-        (λ point. IsRimPointIn (S.mosaic samples.old) tile.now.corner tile.now.labelled.now.labels number point)) }
-    ensures ground_cache { S.is_honest samples.new → OnOk result (AreRemembered (S.mosaic samples.new) ground_cache.new) }
+    ensures point { S.is_honest samples.new
+        → IsFlooded (S.mosaic samples.old) tile.now.corner tile.now.labelled.now
+        → IfOk result (λ found. MatchOption found (HasOtherRimHeight (S.mosaic samples.old) tile.now.corner tile.now.labelled.now.levels) (λ point. IsRimPointIn (S.mosaic samples.old) tile.now.corner tile.now.labelled.now.labels number point)) }
+    ensures ground_cache { S.is_honest samples.new
+        → OnOk result (AreRemembered (S.mosaic samples.new) ground_cache.new) }
     ensures reads { OnlyReads S.Samples samples.old samples.new result }
 {
     let side = tile.labelled.side();
@@ -122,7 +130,8 @@ fn is_rim_height<S: Samples>(
     level: i16,
     is_flooded: bool,
 ) -> Result<bool, Refusal>
-    ensures value { S.is_honest samples.new → IfOk result (λ answer. answer ≡ (is_flooded || int_eq level (metres_of (height_of (S.mosaic samples.old) point)))) }
+    ensures value { S.is_honest samples.new
+        → IfOk result (λ answer. answer ≡ (is_flooded || int_eq level (metres_of (height_of (S.mosaic samples.old) point)))) }
     ensures reads { OnlyReads S.Samples samples.old samples.new result }
 {
     if is_flooded {

@@ -48,7 +48,8 @@ impl TileCache {
 
     /// Nothing is found yet. NoMemory is the only refusal.
     pub(crate) fn new<S: Samples>(alloc: Global, samples: &S) -> Result<TileCache, Refusal>
-        ensures right { S.is_honest samples.now → IfOk result (λ w. IsRight (S.mosaic samples.now) (known_of w)) }
+        ensures right { S.is_honest samples.now
+            → IfOk result (λ w. IsRight (S.mosaic samples.now) (known_of w)) }
         ensures refusal { IfErr result (λ r. r ≡ NoMemory) }
     {
         let rim_graph = RimGraph::new(alloc, samples)?;
@@ -65,7 +66,9 @@ impl TileCache {
     /// `most`, in metres, or all. Takes no memory.
     pub(crate) fn invalidate_between(&mut self, from: Point, to: Point, most: Option<i32>)
         ensures left { IsLeftOf (is_reached self.old.rim_graph.side self.old.rim_graph.corners.items from to) (IsNoHigher most) (known_of self.old) (known_of self.new) }
-        ensures right { (m new : Mosaic) → DifferBetween m new from to → AreLevelsStill (IsNoHigher most) m new → IsRight m (known_of self.old) → IsRight new (known_of self.new) }
+        ensures right { (m new : Mosaic) → DifferBetween m new from to
+            → AreLevelsStill (IsNoHigher most) m new → IsRight m (known_of self.old)
+            → IsRight new (known_of self.new) }
     {
         self.levels.invalidate_above(most);
         let side = self.rim_graph.side;
@@ -87,9 +90,14 @@ impl TileCache {
     /// spares each.
     pub(crate) fn note_changed(&mut self, height: &NewHeight)
         ensures left { IsNotedOf height.now (known_of self.old) (known_of self.new) }
-        ensures still { (m : Mosaic) → IsRight m (known_of self.old) → IsRight m (known_of self.new) }
-        ensures right { (m new : Mosaic) → DifferAt m new height.now.point → height_of m height.now.point ≡ At height.now.was → IsSetTo m new height.now.point height.now.metres
-            → ((x : ℕ) (level : ℤ) → level_of self.old.levels x ≡ Some level → IsSpared height.now.was height.now.metres level) → IsRight m (known_of self.old) → IsRight new (known_of self.new) }
+        ensures still { (m : Mosaic) → IsRight m (known_of self.old)
+            → IsRight m (known_of self.new) }
+        ensures right { (m new : Mosaic) → DifferAt m new height.now.point
+            → height_of m height.now.point ≡ At height.now.was
+            → IsSetTo m new height.now.point height.now.metres
+            → ((x : ℕ) (level : ℤ) → level_of self.old.levels x ≡ Some level
+            → IsSpared height.now.was height.now.metres level)
+            → IsRight m (known_of self.old) → IsRight new (known_of self.new) }
     {
         let side = self.rim_graph.side;
         self.rim_graph.note_changed(&self.labellings, height);
@@ -99,9 +107,11 @@ impl TileCache {
 
     /// The labelling of the corner's tile, where it is held and none of its heights may have changed since.
     pub(crate) fn labelling(&self, corner: Corner) -> Option<&Labelled>
-        ensures flooded { (m : Mosaic) → IsRight m (known_of self.now) → IfSome result (λ labelled. IsFlooded m corner labelled.now) }
+        ensures flooded { (m : Mosaic) → IsRight m (known_of self.now)
+            → IfSome result (λ labelled. IsFlooded m corner labelled.now) }
         ensures some { IfSome result (λ labelled. IsCurrentIn (known_of self.now) corner labelled.now) }
-        ensures none { IfNone result ((labelled : LabelledGround) → IsCurrentIn (known_of self.now) corner labelled → ⊥) }
+        ensures none { IfNone result ((labelled : LabelledGround)
+            → IsCurrentIn (known_of self.now) corner labelled → ⊥) }
     {
         let t = place_of(&self.rim_graph.corners, corner)?;
         let labelled = self.labellings.labelling(t)?;
@@ -118,11 +128,16 @@ impl TileCache {
     ) -> Result<(), Refusal>
         requires place { t < length self.old.rim_graph.corners.items }
         requires corner { corner_at self.old.rim_graph.corners.items t ≡ corner }
-        ensures loaded { OnOk result ((ways : TileGraphOf) × (loaded_at self.new.rim_graph.loaded.items t ≡ Some ways)) }
-        ensures only { (u : ℕ) (ways : TileGraphOf) → u ≢ t → loaded_at self.new.rim_graph.loaded.items u ≡ Some ways → loaded_at self.old.rim_graph.loaded.items u ≡ Some ways }
+        ensures loaded { OnOk result ((ways : TileGraphOf)
+            × (loaded_at self.new.rim_graph.loaded.items t ≡ Some ways)) }
+        ensures only { (u : ℕ) (ways : TileGraphOf) → u ≢ t
+            → loaded_at self.new.rim_graph.loaded.items u ≡ Some ways
+            → loaded_at self.old.rim_graph.loaded.items u ≡ Some ways }
         ensures grown { IsGrown S.Samples samples.old samples.new (known_of self.old) (known_of self.new) }
         ensures reads { OnOk result (OnlyReads {T = Unit {0}} S.Samples samples.old samples.new (Ok tt)) }
-        ensures asked { (S.is_honest samples.new → IsRight (S.mosaic samples.old) (known_of self.old)) → Asked S.Samples samples.old samples.new result }
+        ensures asked { (S.is_honest samples.new
+            → IsRight (S.mosaic samples.old) (known_of self.old))
+            → Asked S.Samples samples.old samples.new result }
         ensures causes { IfErr result (λ r. IsTrue (ends_any r)) }
     {
         if t >= self.rim_graph.loaded.len() {
@@ -149,10 +164,14 @@ impl TileCache {
     ) -> Result<(i16, u16), Refusal>
         requires place { t < length self.old.rim_graph.corners.items }
         requires index { index < self.old.rim_graph.side * self.old.rim_graph.side }
-        ensures label_at { S.is_honest samples.new → IsRight (S.mosaic samples.old) (known_of self.old) → IfOk result (λ label_at. IsLabelledAt (S.mosaic samples.old) (corner_at self.old.rim_graph.corners.items t) index label_at.0 label_at.1) }
+        ensures label_at { S.is_honest samples.new
+            → IsRight (S.mosaic samples.old) (known_of self.old)
+            → IfOk result (λ label_at. IsLabelledAt (S.mosaic samples.old) (corner_at self.old.rim_graph.corners.items t) index label_at.0 label_at.1) }
         ensures grown { IsGrown S.Samples samples.old samples.new (known_of self.old) (known_of self.new) }
         ensures reads { OnOk result (OnlyReads {T = Unit {0}} S.Samples samples.old samples.new (Ok tt)) }
-        ensures asked { (S.is_honest samples.new → IsRight (S.mosaic samples.old) (known_of self.old)) → Asked S.Samples samples.old samples.new result }
+        ensures asked { (S.is_honest samples.new
+            → IsRight (S.mosaic samples.old) (known_of self.old))
+            → Asked S.Samples samples.old samples.new result }
         ensures causes { IfErr result (λ r. IsTrue (ends_any r)) }
     {
         if let Some(label_at) = self.labellings.label_at(t, index) {
@@ -184,7 +203,8 @@ impl<S: Labellings> EdgeSource<S> for TileCache {
 
     ghost keeps = { λ s a s' b. IsCarried S.Samples a b (known_of s) (known_of s') };
 
-    ghost asked = { λ s t. (ways : TileGraph) × (loaded_at s.rim_graph.loaded.items t ≡ Some ways) };
+    ghost asked = { λ s t. (ways : TileGraph)
+        × (loaded_at s.rim_graph.loaded.items t ≡ Some ways) };
 
     ghost refuses = { λ s a s' b r. IsRefused S.Samples a b (known_of s) (known_of s') r };
 

@@ -30,10 +30,13 @@ pub(crate) fn tile_levels<S: Labellings>(
     tile_cache: &mut TileCache,
     corner: Corner,
 ) -> Result<Vec<i16>, Refusal>
-    requires right { S.is_honest samples.old → IsRight (S.mosaic samples.old) (known_of tile_cache.old) }
+    requires right { S.is_honest samples.old
+        → IsRight (S.mosaic samples.old) (known_of tile_cache.old) }
     requires present { Contains (S.corners samples.old) corner }
-    ensures levels { S.is_honest samples.new → IfOk result (λ levels. AreTileLevels (S.mosaic samples.old) corner levels.items) }
-    ensures right { S.is_honest samples.new → IsRight (S.mosaic samples.new) (known_of tile_cache.new) }
+    ensures levels { S.is_honest samples.new
+        → IfOk result (λ levels. AreTileLevels (S.mosaic samples.old) corner levels.items) }
+    ensures right { S.is_honest samples.new
+        → IsRight (S.mosaic samples.new) (known_of tile_cache.new) }
     ensures causes { IfErr result (λ r. IsTrue (ends_any r)) }
     ensures asked { Asked S.Samples samples.old samples.new result }
 {
@@ -54,9 +57,12 @@ fn rim_levels<S: Labellings>(
     tile_cache: &mut TileCache,
     corner: Corner,
 ) -> Result<Vec<i16>, Refusal>
-    requires right { S.is_honest samples.old → IsRight (S.mosaic samples.old) (known_of tile_cache.old) }
-    ensures levels { S.is_honest samples.new → IfOk result (λ rim. AreRimLevels (S.mosaic samples.old) corner rim.items) }
-    ensures right { S.is_honest samples.new → IsRight (S.mosaic samples.new) (known_of tile_cache.new) }
+    requires right { S.is_honest samples.old
+        → IsRight (S.mosaic samples.old) (known_of tile_cache.old) }
+    ensures levels { S.is_honest samples.new
+        → IfOk result (λ rim. AreRimLevels (S.mosaic samples.old) corner rim.items) }
+    ensures right { S.is_honest samples.new
+        → IsRight (S.mosaic samples.new) (known_of tile_cache.new) }
     ensures causes { IfErr result (λ r. IsTrue (ends_any r)) }
     ensures asked { Asked S.Samples samples.old samples.new result }
 {
@@ -87,9 +93,12 @@ pub(crate) fn level_of<S: Labellings>(
     tile_cache: &mut TileCache,
     point: Point,
 ) -> Result<i16, Refusal>
-    requires right { S.is_honest samples.old → IsRight (S.mosaic samples.old) (known_of tile_cache.old) }
-    ensures level { S.is_honest samples.new → IfOk result (IsLevelOrVoid (S.mosaic samples.old) point) }
-    ensures right { S.is_honest samples.new → IsRight (S.mosaic samples.new) (known_of tile_cache.new) }
+    requires right { S.is_honest samples.old
+        → IsRight (S.mosaic samples.old) (known_of tile_cache.old) }
+    ensures level { S.is_honest samples.new
+        → IfOk result (IsLevelOrVoid (S.mosaic samples.old) point) }
+    ensures right { S.is_honest samples.new
+        → IsRight (S.mosaic samples.new) (known_of tile_cache.new) }
     ensures causes { IfErr result (λ r. IsTrue (ends_any r)) }
     ensures asked { Asked S.Samples samples.old samples.new result }
 {

@@ -34,11 +34,16 @@ pub fn watershed<S: Labellings>(
 ) -> Result<Vec<Run>, Refusal>
     requires held { IsHeldFor S.Samples samples.old held.old }
     requires few { length (S.corners samples.old) ≤ most_tiles }
-    ensures runs { S.is_honest samples.new → IfOk result (λ runs. (level : Point → ℤ) → AreFilledLevels (terrain (S.mosaic samples.old)) level
+    ensures runs { S.is_honest samples.new
+        → IfOk result (λ runs. (level : Point → ℤ)
+        → AreFilledLevels (terrain (S.mosaic samples.old)) level
         → AreRuns (IsInWatershed (terrain (S.mosaic samples.old)) level point) runs.items) }
-    ensures on_ground { S.is_honest samples.new → IsOk result → IsTrue (is_ground (S.mosaic samples.old) point) }
-    ensures outside { IsErrOf result Outside ↔ IsHeldByNone (S.side_of samples.old) (S.corners samples.old) point }
-    ensures void { S.is_honest samples.new → IsErrOf result Void → height_of (S.mosaic samples.old) point ≡ height_is.Void }
+    ensures on_ground { S.is_honest samples.new → IsOk result
+        → IsTrue (is_ground (S.mosaic samples.old) point) }
+    ensures outside { IsErrOf result Outside
+        ↔ IsHeldByNone (S.side_of samples.old) (S.corners samples.old) point }
+    ensures void { S.is_honest samples.new → IsErrOf result Void
+        → height_of (S.mosaic samples.old) point ≡ height_is.Void }
     ensures causes { IfErr result (λ r. IsTrue (may_refuse r)) }
     ensures asked { Asked S.Samples samples.old samples.new result }
     ensures held { IsHeldFor S.Samples samples.new held.new }
@@ -56,8 +61,8 @@ fn watershed_by<S: Labellings>(
 ) -> Result<Vec<Run>, Refusal>
     requires held { IsHeldFor S.Samples samples.old held.old }
     requires few { length (S.corners samples.old) ≤ most_tiles }
-    ensures runs { S.is_honest samples.new → IfOk result (λ runs. OnLevels (S.mosaic samples.old)
-        (λ level. AreRuns (IsInWatershed (terrain (S.mosaic samples.old)) level point) runs.items)) }
+    ensures runs { S.is_honest samples.new
+        → IfOk result (λ runs. OnLevels (S.mosaic samples.old) (λ level. AreRuns (IsInWatershed (terrain (S.mosaic samples.old)) level point) runs.items)) }
     ensures causes { IfErr result (λ r. IsTrue (ends_any r)) }
     ensures asked { Asked S.Samples samples.old samples.new result }
     ensures held { IsHeldFor S.Samples samples.new held.new }

@@ -34,7 +34,8 @@ pub fn levels<S: Labellings>(
 ) -> Result<Vec<i16>, Refusal>
     requires held { IsHeldFor S.Samples samples.old held.old }
     requires present { Contains (S.corners samples.old) corner }
-    ensures levels { S.is_honest samples.new → IfOk result (λ levels. AreTileLevels (S.mosaic samples.old) corner levels.items) }
+    ensures levels { S.is_honest samples.new
+        → IfOk result (λ levels. AreTileLevels (S.mosaic samples.old) corner levels.items) }
     ensures causes { IfErr result (λ r. IsTrue (ends_any r)) }
     ensures asked { Asked S.Samples samples.old samples.new result }
     ensures held { IsHeldFor S.Samples samples.new held.new }
@@ -58,7 +59,8 @@ pub fn directions<S: Labellings>(
 ) -> Result<Vec<u8>, Refusal>
     requires held { IsHeldFor S.Samples samples.old held.old }
     requires few { length (S.corners samples.old) ≤ most_tiles }
-    ensures directions { S.is_honest samples.new → IfOk result (λ codes. AreTileDirections (S.mosaic samples.old) corner codes.items) }
+    ensures directions { S.is_honest samples.new
+        → IfOk result (λ codes. AreTileDirections (S.mosaic samples.old) corner codes.items) }
     ensures causes { IfErr result (λ r. IsTrue (ends_any r)) }
     ensures asked { Asked S.Samples samples.old samples.new result }
     ensures held { IsHeldFor S.Samples samples.new held.new }
@@ -87,7 +89,8 @@ pub fn upstream<S: Labellings>(
 ) -> Result<Vec<u32>, Refusal>
     requires held { IsHeldFor S.Samples samples.old held.old }
     requires few { length (S.corners samples.old) ≤ most_tiles }
-    ensures counts { S.is_honest samples.new → IfOk result (λ counts. AreTileCounts (S.mosaic samples.old) corner counts.items) }
+    ensures counts { S.is_honest samples.new
+        → IfOk result (λ counts. AreTileCounts (S.mosaic samples.old) corner counts.items) }
     ensures causes { IfErr result (λ r. IsTrue (ends_any r)) }
     ensures asked { Asked S.Samples samples.old samples.new result }
     ensures held { IsHeldFor S.Samples samples.new held.new }

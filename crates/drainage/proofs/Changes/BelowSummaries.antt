@@ -11,7 +11,7 @@ use Rattle.tile_labellings.proofs.KeptStill.{AreHeightsStill, heights_still}
 use Rattle.drainage.proofs.Questions.Asked.{is_at}
 use Rattle.drainage.proofs.Changes.Noted.{differ_at_index, set_at_index}
 use Rattle.drainage.proofs.Changes.SparedLevels.{ground_still, outlet_still}
-use Rattle.drainage.proofs.RimPoints.Summed.{rim_level}
+use Rattle.drainage.proofs.Tiles.Summed.{rim_level}
 use Rattle.drainage.proofs.Changes.Unchanged.{not_void_at, unchanged_summary}
 
 -- ---- two valid labellings of one tile have the same levels

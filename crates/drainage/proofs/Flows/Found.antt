@@ -1,8 +1,8 @@
 -- The level of a rim point, as it is found and known from then on.
 use Rattle.std.proofs.Common.{◌≡◌, ◌∙◌, ℕ, ◌+◌, ◌*◌, ◌-◌, ◌<◌, ◌==◌, ◌⊎◌, Contains, inl, inr, ℤ, cond, List, length, sym, ap, subst}
 use Rattle.drainage.proofs.Prelude.{Agrees, Corner, Ghosts, IsGroundNode, IsGrown, IsJoinedLevel, IsMosaic, IsPlacedLink, IsRight, IsRimLevel, IsWayBelow, Known, Mosaic, Option, Rim, Some, Summary, eqb_tells, level_of, node_number}
-use Rattle.drainage.proofs.RimPoints.Agreeing.{all_agree}
-use Rattle.drainage.proofs.RimPoints.RimNodes.{filled_by_joined, rim_level_of, way_out}
+use Rattle.drainage.proofs.Tiles.Agreeing.{all_agree}
+use Rattle.drainage.proofs.Tiles.RimNodes.{filled_by_joined, rim_level_of, way_out}
 use Rattle.drainage.proofs.Tiles.Whole.{summaries}
 
 -- one level more is known

@@ -5,7 +5,7 @@ use Rattle.drainage.proofs.Prelude.{AreReady, Corner, IsBlockOf, IsFalse, IsFill
 use Rattle.tile_flood.proofs.InMosaic.{block_is_part, ground_is, solid_is_ground, inner_outlet_is_outlet}
 use Rattle.tile_flood.proofs.Parts.{level_of_part, level_at_outlet}
 use Rattle.tile_flood.proofs.Squares.{solid_below}
-use Rattle.drainage.proofs.RimPoints.RimNodes.{filled_by_joined}
+use Rattle.drainage.proofs.Tiles.RimNodes.{filled_by_joined}
 use Rattle.drainage.proofs.Tiles.Whole.{summaries}
 
 -- a point whose label isn't that of a void

@@ -2,7 +2,7 @@
 use Rattle.std.proofs.Common.{◌≡◌, ◌≢◌, ℕ, ◌<◌, ℤ, IsTrue, List, length, slice_index, slice_index_or, refl, sym, ◌∙◌, subst}
 use Rattle.drainage.proofs.Prelude.{Corner, Height, IsFalse, IsFilledLevel, IsFlooded, IsGroundNode, IsIndexOf, IsMosaic, IsRight, IsRimLevel, Known, LabelledGround, Mosaic, NO_LABEL, OUT, Point, Rim, corner_at, height_of, int_max, is_ground, is_height, metres, node_number, point_of, terrain, void}
 use Rattle.lattice.specs.declared.height.Height.TheVariants.{Outside, Void, At}
-use Rattle.drainage.proofs.RimPoints.Agreeing.{joined_at}
+use Rattle.drainage.proofs.Tiles.Agreeing.{joined_at}
 use Rattle.drainage.proofs.Questions.Asked.{IsAt, is_at}
 use Rattle.drainage.proofs.Flows.Over.{ground_by_label, void_by_label, out_level, ground_node, over_level}
 

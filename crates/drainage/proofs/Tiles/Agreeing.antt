@@ -1,6 +1,6 @@
 -- Where what is known is right, the summaries of all tiles agree with it.
 use Rattle.drainage.proofs.Prelude.{Agrees, IsJoinedLevel, IsMosaic, IsPlacedLink, IsRight, IsRimLevel, Known, Mosaic, ℕ, ℤ, subst, sym}
-use Rattle.drainage.proofs.RimPoints.RimNodes.{joined_by_filled}
+use Rattle.drainage.proofs.Tiles.RimNodes.{joined_by_filled}
 use Rattle.drainage.proofs.Tiles.Whole.{summaries, all_fit}
 
 module _ (m : Mosaic) (is : IsMosaic m) (known : Known) (right : IsRight m known) where

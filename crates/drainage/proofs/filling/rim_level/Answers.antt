@@ -2,9 +2,9 @@ use Rattle.std.proofs.Common.{◌≡◌, ◌∙◌, ℕ, ◌+◌, ◌*◌, ◌-�
 use Rattle.drainage.proofs.Prelude.{IfNone, IfSome, IsJoinedLevel, IsPlacedLink, IsRight, IsRimLevel, IsWayBelow, Rim, Some, known_of, level_of, node_number, right_still, to_z-of_z}
 use Rattle.drainage.proofs.Caches.Growing.{known_by}
 use Rattle.drainage.proofs.Flows.Found.{right_more, right_all, reached_later, start_is, found, found_later, never}
-use Rattle.drainage.proofs.RimPoints.Numbered.{of_fits}
+use Rattle.drainage.proofs.Tiles.Numbered.{of_fits}
 use Rattle.drainage.proofs.Questions.Questioned.{answered, answered_here, stopped, stopped_here}
-use Rattle.drainage.proofs.RimPoints.RimNodes.{node_there}
+use Rattle.drainage.proofs.Tiles.RimNodes.{node_there}
 use Rattle.drainage.proofs.filling.rim_level.Goals as goal
 use Rattle.drainage.proofs.filling.rim_level.Goals.{After-know_all}
 

@@ -12,7 +12,7 @@ held : (g : _) (c : After-put g) → IsHeldFor g.S.Samples c.fill_around-filled.
 held g c honest =
     let read = c.fill_around-filled.ensures.asked.reads in
     let left = c.in_ok-tile_cache.ensures.left (g.S.Samples.mosaic c.levels.new.samples) (c.in_ok-tile.ensures.held (read.honest honest)) in
-    c.put.ensures (g.S.Samples.mosaic c.fill_around-filled.new.samples) (c.fill_around-filled.ensures.right honest) (subst (λ (n : Mosaic). IsHeldOf n c.take.new.self) (sym (read.mosaic honest)) left)
+    c.put.ensures.right (g.S.Samples.mosaic c.fill_around-filled.new.samples) (c.fill_around-filled.ensures.right honest) (subst (λ (n : Mosaic). IsHeldOf n c.take.new.self) (sym (read.mosaic honest)) left)
 
 pub returns-in_err-filled-clause-held : goal.returns-in_err-filled-clause-held
 returns-in_err-filled-clause-held g c = held g (goal.at.returns-in_err-filled-clause-held g c).After-put

@@ -1,6 +1,6 @@
 use Rattle.drainage.proofs.Prelude.{AreRimPointsIn, HasOtherRimHeight, IsFlooded, IsRimPointIn, List, MatchOption, Mosaic, Ok, Option, RimPoint, ap, arith, subst, sym, ◌*◌, ◌+◌, ◌-◌, ◌∙◌, ◌≡◌}
 use Rattle.catalogue.proofs.Reading.{reads_on, reads_as}
-use Rattle.drainage.proofs.RimPoints.Summed.{one_more_point}
+use Rattle.drainage.proofs.Tiles.Summed.{one_more_point}
 use Rattle.drainage.proofs.summing.rim_of.Goals as goal
 
 pub loop-number-preserved : goal.loop-number-preserved

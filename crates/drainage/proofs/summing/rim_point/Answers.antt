@@ -1,6 +1,6 @@
 use Rattle.drainage.proofs.Prelude.{AreRemembered, Decides-int_eq, Err, IsFlooded, IsRimPoint, List, Mosaic, OnlyReads, Option, Refusal, RimPoint, SFits, ℕ, ℤ, ap, err_from_is_err_and, false≢true, get_or_default, height_of, inl, inr, int_eq, is_outlet, length, metres, of_z, or_cases, or_parts, point_of, pos, rules, slice_index_or, subst, sym, to_z, to_z-of_z, true, void, w16, ◌*◌, ◌<◌, ◌||◌, ◌∙◌, ◌≡◌}
 use Rattle.catalogue.proofs.Reading.{reads_as, reads_on, reads_refused}
-use Rattle.drainage.proofs.RimPoints.Summed.{rim_height}
+use Rattle.drainage.proofs.Tiles.Summed.{rim_height}
 use Rattle.drainage.proofs.summing.rim_point.Goals as goal
 
 -- a level as it was read

@@ -1,6 +1,6 @@
 use Rattle.drainage.proofs.Prelude.{AreRimPointsIn, AreSpills, HasOtherRimHeight, IsCurrent, IsSummaryOf, IsTileLabelling, LabelledGround, MatchOption, ap, labelled_of, rules, subst, sym, ◌*◌, ◌-◌, ◌∙◌}
 use Rattle.drainage.proofs.Questions.Questioned.{answered, short_here, stopped}
-use Rattle.drainage.proofs.RimPoints.Summed.{rim_holds, summary_is}
+use Rattle.drainage.proofs.Tiles.Summed.{rim_holds, summary_is}
 use Rattle.drainage.proofs.summing.summarize.Goals as goal
 
 pub returns-clause-border : goal.returns-clause-border

@@ -1,5 +1,5 @@
 use Rattle.drainage.proofs.Prelude.{IsLevelOrVoid, SFits, subst, sym, to_z-of_z, w16}
-use Rattle.drainage.proofs.RimPoints.RimLevels.{level_or_void_is}
+use Rattle.drainage.proofs.Tiles.RimLevels.{level_or_void_is}
 use Rattle.drainage.proofs.tile_levels.level_of.Goals as goal
 
 pub returns-clause-level : goal.returns-clause-level

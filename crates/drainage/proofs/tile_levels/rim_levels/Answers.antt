@@ -1,5 +1,5 @@
 use Rattle.drainage.proofs.Prelude.{AreRimLevelsTo, IsLevelOrVoid, IsRimPoint, Mosaic, Ok, SFits, ap, arith, of_z, point_of, reads_on, rules, subst, sym, to_z, to_z-of_z, w16, ◌*◌, ◌-◌, ◌∙◌, ◌≡◌}
-use Rattle.drainage.proofs.RimPoints.RimLevels.{rim_more, rim_whole}
+use Rattle.drainage.proofs.Tiles.RimLevels.{rim_more, rim_whole}
 use Rattle.drainage.proofs.Questions.Questioned.{answered, asked_reads, refused_after, short_after, short_here}
 use Rattle.drainage.proofs.tile_levels.rim_levels.Goals as goal
 

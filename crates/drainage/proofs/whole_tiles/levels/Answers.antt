@@ -13,4 +13,4 @@ returns-clause-held g c honest =
     let read = c.tile_levels-levels.ensures.asked.reads in
     let m = g.S.Samples.mosaic c.tile_levels-levels.new.samples in
     let left = c.in_ok-tile_cache.ensures.left (g.S.Samples.mosaic c.args.samples.now) (c.requires.held (read.honest honest)) in
-    c.put.ensures m (c.tile_levels-levels.ensures.right honest) (subst (λ (n : Mosaic). IsHeldOf n c.take.new.self) (sym (read.mosaic honest)) left)
+    c.put.ensures.right m (c.tile_levels-levels.ensures.right honest) (subst (λ (n : Mosaic). IsHeldOf n c.take.new.self) (sym (read.mosaic honest)) left)

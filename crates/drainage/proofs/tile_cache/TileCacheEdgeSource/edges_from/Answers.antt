@@ -1,7 +1,7 @@
 use Rattle.drainage.proofs.Prelude.{Corner, IsRefused, List, ap, arith, err_from_is_err_and, inl, inr, known_of, length, subst, sym, ◌*◌, ◌-◌, ◌/◌, ◌<◌, ◌∙◌, ◌≤◌}
 use Rattle.drainage.proofs.Caches.Growing.{agrees_before}
 use Rattle.drainage.proofs.Questions.Questioned.{own_refused}
-use Rattle.drainage.proofs.RimPoints.Numbered.{of_fits, no_ways, told_ways, told_of}
+use Rattle.drainage.proofs.Tiles.Numbered.{of_fits, no_ways, told_ways, told_of}
 use Rattle.drainage.proofs.tile_cache.TileCacheEdgeSource.edges_from.Goals as goal
 
 pub returns-in_default-corner-clause-answer : goal.returns-in_default-corner-clause-answer
