@@ -36,20 +36,29 @@ pub fn lowest_pass<S, G: EdgeSource<S>>(
 ) -> Result<Option<i16>, Refusal>
     requires start { 0 < start }
     requires empty { alike.old.items ≡ [] }
-    ensures level { (n : ℕ) (summaries : List Summary) → G.fits graph.new n summaries → AreOfMosaic n summaries
+    ensures level { (n : ℕ) (summaries : List Summary) → G.fits graph.new n summaries
+        → AreOfMosaic n summaries
         → IfOk result (λ found. IfSome found (IsLeastCrest (IsPlacedLink n summaries) start)) }
-    ensures joined { (n : ℕ) (summaries : List Summary) → G.fits graph.new n summaries → AreOfMosaic n summaries
+    ensures joined { (n : ℕ) (summaries : List Summary) → G.fits graph.new n summaries
+        → AreOfMosaic n summaries
         → IfOk result (λ found. IfSome found (IsJoinedLevel (IsPlacedLink n summaries) 0 start)) }
-    ensures alike { (n : ℕ) (summaries : List Summary) → G.fits graph.new n summaries → AreOfMosaic n summaries
-        → IfOk result (λ found. IfSome found (λ level. (x : ℕ) → Contains alike.new.items x → (0 < x) × IsJoinedLevel (IsPlacedLink n summaries) 0 x level)) }
+    ensures alike { (n : ℕ) (summaries : List Summary) → G.fits graph.new n summaries
+        → AreOfMosaic n summaries
+        → IfOk result (λ found. IfSome found (λ level. (x : ℕ) → Contains alike.new.items x
+        → (0 < x) × IsJoinedLevel (IsPlacedLink n summaries) 0 x level)) }
     ensures none { (n : ℕ) (summaries : List Summary) → G.fits graph.new n summaries
-        → IfOk result (λ found. IfNone found ((rest : List EdgeOf) → LeadsOut (IsPlacedLink n summaries) start rest → ⊥)) }
+        → IfOk result (λ found. IfNone found ((rest : List EdgeOf)
+        → LeadsOut (IsPlacedLink n summaries) start rest → ⊥)) }
     ensures not_joined { (n : ℕ) (summaries : List Summary) → G.fits graph.new n summaries
-        → IfOk result (λ found. IfNone found ((level : ℤ) (rest : List ℕ) → IsWayBelow (IsPlacedLink n summaries) 0 level start rest → ⊥)) }
-    ensures asked { (n : ℕ) (summaries : List Summary) → G.fits graph.new n summaries → AreOfMosaic n summaries
-        → IfOk result (λ found. IfSome found (λ level. (t : ℕ) → G.asked graph.new t → G.asked graph.old t ⊎ IsTileReached n (IsPlacedLink n summaries) start level t)) }
+        → IfOk result (λ found. IfNone found ((level : ℤ) (rest : List ℕ)
+        → IsWayBelow (IsPlacedLink n summaries) 0 level start rest → ⊥)) }
+    ensures asked { (n : ℕ) (summaries : List Summary) → G.fits graph.new n summaries
+        → AreOfMosaic n summaries
+        → IfOk result (λ found. IfSome found (λ level. (t : ℕ) → G.asked graph.new t
+        → G.asked graph.old t ⊎ IsTileReached n (IsPlacedLink n summaries) start level t)) }
     ensures refusal { IfErr result (G.refuses graph.old source.old graph.new source.new) }
-    ensures fits { (n : ℕ) (summaries : List Summary) → G.fits graph.new n summaries → G.fits graph.old n summaries }
+    ensures fits { (n : ℕ) (summaries : List Summary) → G.fits graph.new n summaries
+        → G.fits graph.old n summaries }
     ensures keeps { OnOk result (G.keeps graph.old source.old graph.new source.new) }
 {
     let mut visited = Visited::new(alloc);
@@ -82,7 +91,9 @@ pub(crate) struct Settled {
 
 // The node of the entry is settled, from which these edges lead.
 fn settle(settled: &mut Vec<Settled>, entry: Entry, edges: &[Edge]) -> Result<(), AllocError>
-    ensures { OnOk result ((one : SettledOf) × ((settled.new.items ≡ settled.old.items ++ one ∷ []) × IsSettledBy entry edges.now one)) }
+    ensures { OnOk result ((one : SettledOf)
+        × ((settled.new.items ≡ settled.old.items ++ one ∷ [])
+        × IsSettledBy entry edges.now one)) }
 {
     settled.push(Settled {
         node: entry.node,
@@ -95,7 +106,8 @@ fn settle(settled: &mut Vec<Settled>, entry: Entry, edges: &[Edge]) -> Result<()
 // Whether no edge is lower than the crest.
 fn has_no_lower(edges: &[Edge], crest: i16) -> bool
     ensures yes { IsTrue result → (edge : EdgeOf) → Contains edges.now edge → crest ≤ℤ edge.level }
-    ensures no { IsFalse result → (edge : EdgeOf) × (Contains edges.now edge × (edge.level <ℤ crest)) }
+    ensures no { IsFalse result
+        → (edge : EdgeOf) × (Contains edges.now edge × (edge.level <ℤ crest)) }
 {
     for edge in edges {
         if edge.level < crest {
@@ -107,8 +119,12 @@ fn has_no_lower(edges: &[Edge], crest: i16) -> bool
 
 // Lists the settled nodes that have the level that the start has.
 fn list_alike(settled: &[Settled], level: i16, into: &mut Vec<u32>) -> Result<(), AllocError>
-    ensures only { OnOk result ((x : ℕ) → Contains into.new.items x → Contains into.old.items x ⊎ ((one : SettledOf) × (Contains settled.now one × ((one.node ≡ x) × HasLevel one level)))) }
-    ensures all { OnOk result ((one : SettledOf) → Contains settled.now one → HasLevel one level → Contains into.new.items one.node) }
+    ensures only { OnOk result ((x : ℕ) → Contains into.new.items x
+        → Contains into.old.items x
+        ⊎ ((one : SettledOf)
+        × (Contains settled.now one × ((one.node ≡ x) × HasLevel one level)))) }
+    ensures all { OnOk result ((one : SettledOf) → Contains settled.now one → HasLevel one level
+        → Contains into.new.items one.node) }
 {
     for one in settled {
         if has_level(*one, level) {
@@ -151,16 +167,20 @@ fn expand<S, G: EdgeSource<S>>(
     edges: &mut Vec<Edge>,
 ) -> Result<Option<i16>, Refusal>
     requires empty { edges.old.items ≡ [] }
-    ensures ends { (n : ℕ) (summaries : List Summary) → G.fits graph.new n summaries → AreOfMosaic n summaries
+    ensures ends { (n : ℕ) (summaries : List Summary) → G.fits graph.new n summaries
+        → AreOfMosaic n summaries
         → IfOk result (λ found. IfSome found (IsEnd (IsPlacedLink n summaries) entry)) }
     ensures inner { IfOk result (λ found. IfNone found (0 < entry.node)) }
-    ensures exactly { (n : ℕ) (summaries : List Summary) → G.fits graph.new n summaries → AreOfMosaic n summaries
+    ensures exactly { (n : ℕ) (summaries : List Summary) → G.fits graph.new n summaries
+        → AreOfMosaic n summaries
         → IfOk result (λ found. IfNone found (AreEdges (IsPlacedLink n summaries) entry.node edges.new.items)) }
     ensures listed { (n : ℕ) (summaries : List Summary) → G.fits graph.new n summaries
         → IfOk result (λ found. IfNone found (AreAllEdges (IsPlacedLink n summaries) entry.node edges.new.items)) }
-    ensures asked { (n : ℕ) (summaries : List Summary) → G.fits graph.new n summaries → (t : ℕ) → G.asked graph.new t → G.asked graph.old t ⊎ IsOfTile n t entry.node }
+    ensures asked { (n : ℕ) (summaries : List Summary) → G.fits graph.new n summaries → (t : ℕ)
+        → G.asked graph.new t → G.asked graph.old t ⊎ IsOfTile n t entry.node }
     ensures refusal { IfErr result (G.refuses graph.old source.old graph.new source.new) }
-    ensures fits { (n : ℕ) (summaries : List Summary) → G.fits graph.new n summaries → G.fits graph.old n summaries }
+    ensures fits { (n : ℕ) (summaries : List Summary) → G.fits graph.new n summaries
+        → G.fits graph.old n summaries }
     ensures keeps { OnOk result (G.keeps graph.old source.old graph.new source.new) }
 {
     if entry.node == 0 {

@@ -51,23 +51,28 @@ pub trait EdgeSource<S> {
         requires empty { into.old.items ≡ [] }
         ensures all { (n : ℕ) (summaries : List Summary) → fits self.new n summaries
             → IfOk result (λ known. IfNone known (AreAllEdges (IsPlacedLink n summaries) node into.new.items)) }
-        ensures answer { (n : ℕ) (summaries : List Summary) → fits self.new n summaries → AreOfMosaic n summaries
+        ensures answer { (n : ℕ) (summaries : List Summary) → fits self.new n summaries
+            → AreOfMosaic n summaries
             → IfOk result (λ known. MatchOption known (AreEdges (IsPlacedLink n summaries) node into.new.items) (IsJoinedLevel (IsPlacedLink n summaries) 0 node)) }
         ensures refusal { IfErr result (refuses self.old source.old self.new source.new) }
-        ensures asked { (n : ℕ) (summaries : List Summary) → fits self.new n summaries → (t : ℕ) → asked self.new t → asked self.old t ⊎ IsOfTile n t node }
+        ensures asked { (n : ℕ) (summaries : List Summary) → fits self.new n summaries → (t : ℕ)
+            → asked self.new t → asked self.old t ⊎ IsOfTile n t node }
 
         // What agrees with all that is known then agreed with what was known before.
-        ensures fits { (n : ℕ) (summaries : List Summary) → fits self.new n summaries → fits self.old n summaries }
+        ensures fits { (n : ℕ) (summaries : List Summary) → fits self.new n summaries
+            → fits self.old n summaries }
         ensures keeps { OnOk result (keeps self.old source.old self.new source.new) };
 
     /// To do nothing keeps it.
     ghost keeps_itself: { (s : Self) (a : S) → keeps s a s a };
 
     /// Calls one after another keep it.
-    ghost keeps_on: { (s s' s'' : Self) (a b c : S) → keeps s a s' b → keeps s' b s'' c → keeps s a s'' c };
+    ghost keeps_on: { (s s' s'' : Self) (a b c : S) → keeps s a s' b → keeps s' b s'' c
+        → keeps s a s'' c };
 
     /// A refusal in the last of several calls is one in all of them.
-    ghost refuses_on: { (s s' s'' : Self) (a b c : S) (r : Refusal) → keeps s a s' b → refuses s' b s'' c r → refuses s a s'' c r };
+    ghost refuses_on: { (s s' s'' : Self) (a b c : S) (r : Refusal) → keeps s a s' b
+        → refuses s' b s'' c r → refuses s a s'' c r };
 
     /// Memory may run out after any calls.
     ghost runs_out: { (s s' : Self) (a b : S) → keeps s a s' b → refuses s a s' b NoMemory };

@@ -17,9 +17,12 @@ use std::alloc::Global;
 /// Damaged where no side has as many rim points as each of the summaries, and where from a ground rim point no links
 /// lead out. Summaries of valid labellings are never Damaged. Otherwise NoMemory is the only refusal.
 pub fn join(alloc: Global, summaries: &[Summary]) -> Result<Vec<Vec<i16>>, Refusal>
-    ensures levels { (m : Mosaic) → IsMosaic m → AreSummaries m summaries.now → IfOk result (λ joined. AreJoined m summaries.now (map (λ v. v.items) joined.items)) }
-    ensures not_damaged { (m : Mosaic) → IsMosaic m → AreSummaries m summaries.now → IfErr result (λ refusal. refusal ≡ NoMemory) }
-    ensures refusal { IfErr result (λ refusal. (refusal ≡ NoMemory) ⊎ ((refusal ≡ Damaged) × CannotBeJoined summaries.now)) }
+    ensures levels { (m : Mosaic) → IsMosaic m → AreSummaries m summaries.now
+        → IfOk result (λ joined. AreJoined m summaries.now (map (λ v. v.items) joined.items)) }
+    ensures not_damaged { (m : Mosaic) → IsMosaic m → AreSummaries m summaries.now
+        → IfErr result (λ refusal. refusal ≡ NoMemory) }
+    ensures refusal { IfErr result (λ refusal. (refusal ≡ NoMemory)
+        ⊎ ((refusal ≡ Damaged) × CannotBeJoined summaries.now)) }
     ensures levelled { IfOk result (λ joined. AreLevelled summaries.now (map (λ v. v.items) joined.items)) }
 {
     if summaries.is_empty() {

@@ -98,7 +98,8 @@ impl MosaicGraph {
         requires some { 0 < node }
         ensures same { OnOk result (self.new ≡ self.old) }
         ensures level { IfOk result (IsFound self.old node) }
-        ensures refusal { IfErr result (λ r. (r ≡ NoMemory) ⊎ ((r ≡ Damaged) × LeadsNowhereFrom self.old node)) }
+        ensures refusal { IfErr result (λ r. (r ≡ NoMemory)
+            ⊎ ((r ≡ Damaged) × LeadsNowhereFrom self.old node)) }
     {
         if let Some(level) = self.level(node) {
             return Ok(level);

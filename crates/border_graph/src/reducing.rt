@@ -17,7 +17,8 @@ use tile_flood::{OUT, Spill};
 pub fn reduced(alloc: Global, summary: Summary) -> Result<Summary, Refusal>
     ensures corner { IfOk result (λ less. less.corner ≡ summary.corner) }
     ensures right { (m : Mosaic) → IsSummaryOf m summary → IfOk result (Summarizes m) }
-    ensures few { IfOk result (λ less. length summary.rim < 65535 → length less.spills ≤ length summary.rim) }
+    ensures few { IfOk result (λ less. length summary.rim < 65535
+        → length less.spills ≤ length summary.rim) }
     ensures refusal { IfErr result (λ r. r ≡ NoMemory) }
 {
     let count = summary.rim().len();

@@ -72,7 +72,8 @@ fn turned(spill: Spill) -> Spill
 /// The rim point with this number in a tile of this side, where it is ground.
 pub(crate) fn ground_rim_point(side: Side, summary: &Summary, k: u32) -> Option<RimPoint>
     ensures none { IfNone result (IsThere side (summary.now ∷ []) 0 k → ⊥) }
-    ensures some { IfSome result (λ point. IsThere side (summary.now ∷ []) 0 k × (rim_point summary.now k ≡ point)) }
+    ensures some { IfSome result (λ point. IsThere side (summary.now ∷ []) 0 k
+        × (rim_point summary.now k ≡ point)) }
 {
     if k >= side.rim() {
         return None;

@@ -26,7 +26,8 @@ pub fn list_edges(
     requires number { k < 4 * (side - 1) }
     requires place { t < length corners.now }
     ensures edges { OnOk result (AreTileEdges side corners.now graph.now t k into.old.items into.new.items) }
-    ensures refusal { IfErr result (λ r. (r ≡ NoMemory) ⊎ ((r ≡ Damaged) × ((graph.now.side ≢ side) ⊎ AreTooMany side corners.now))) }
+    ensures refusal { IfErr result (λ r. (r ≡ NoMemory)
+        ⊎ ((r ≡ Damaged) × ((graph.now.side ≢ side) ⊎ AreTooMany side corners.now))) }
 {
     if graph.side() != side {
         return Err(Refusal::Damaged);
@@ -54,7 +55,8 @@ fn edges_to_others(
     requires number { k < 4 * (graph.now.side - 1) }
     requires place { t < length corners.now }
     ensures edges { OnOk result (AreEdgesToOthers graph.now.side corners.now graph.now t k into.old.items into.new.items) }
-    ensures refusal { IfErr result (λ r. (r ≡ NoMemory) ⊎ ((r ≡ Damaged) × AreTooMany graph.now.side corners.now)) }
+    ensures refusal { IfErr result (λ r. (r ≡ NoMemory)
+        ⊎ ((r ≡ Damaged) × AreTooMany graph.now.side corners.now)) }
 {
     let side = graph.side();
     let point = point_at(side, corners[t], rim_index(side, k));
@@ -111,9 +113,11 @@ fn add(into: &mut Vec<Edge>, edge: Edge) -> Result<(), AllocError>
 
 /// Where among the corners this one stands.
 pub fn place_of(corners: &[Corner], corner: Corner) -> Option<usize>
-    ensures some { IfSome result (λ u. (u < length corners.now) × (corner_at corners.now u ≡ corner)) }
+    ensures some { IfSome result (λ u. (u < length corners.now)
+        × (corner_at corners.now u ≡ corner)) }
     ensures first { IfSome result (λ u. (v : ℕ) → v < u → corner_at corners.now v ≡ corner → ⊥) }
-    ensures none { IfNone result ((u : ℕ) → u < length corners.now → corner_at corners.now u ≡ corner → ⊥) }
+    ensures none { IfNone result ((u : ℕ) → u < length corners.now
+        → corner_at corners.now u ≡ corner → ⊥) }
 {
     for (place, found) in corners.iter().enumerate() {
         if *found == corner {

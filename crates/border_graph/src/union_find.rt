@@ -9,7 +9,8 @@ use std::alloc::{AllocError, Global};
 /// So many nodes, each of which is a root.
 pub(crate) fn singletons(alloc: Global, count: usize) -> Result<Vec<usize>, AllocError>
     ensures whole { IfOk result (λ parent. length parent.items ≡ count) }
-    ensures roots { IfOk result (λ parent. (x : ℕ) → x < count → slice_index_or parent.items x 0 ≡ x) }
+    ensures roots { IfOk result (λ parent. (x : ℕ) → x < count
+        → slice_index_or parent.items x 0 ≡ x) }
 {
     let mut parent = Vec::new(alloc);
     for x in 0..count {
@@ -29,8 +30,10 @@ fn find(parent: &mut [usize], from: usize) -> usize
     ensures falling { IsFalling parent.new }
     ensures same { (x : ℕ) → IsRoot parent.old x → IsRoot parent.new x }
     ensures as_many { roots (length parent.old) parent.new ≡ roots (length parent.old) parent.old }
-    ensures over { (passes : List PassOf) (level : ℤ) → AreOver passes level parent.old → AreOver passes level parent.new }
-    ensures joined { (passes : List PassOf) (level : ℤ) → AreOver passes level parent.old → AreJoined passes level from result }
+    ensures over { (passes : List PassOf) (level : ℤ) → AreOver passes level parent.old
+        → AreOver passes level parent.new }
+    ensures joined { (passes : List PassOf) (level : ℤ) → AreOver passes level parent.old
+        → AreJoined passes level from result }
 {
     let mut x = from;
     'up: while parent[x] != x {
@@ -47,10 +50,13 @@ pub(crate) fn union(parent: &mut [usize], a: usize, b: usize) -> bool
     requires falling { IsFalling parent.old }
     ensures whole { length parent.new ≡ length parent.old }
     ensures falling { IsFalling parent.new }
-    ensures fewer { result ≡ true → roots (length parent.old) parent.new < roots (length parent.old) parent.old }
+    ensures fewer { result ≡ true
+        → roots (length parent.old) parent.new < roots (length parent.old) parent.old }
     ensures no_more { roots (length parent.old) parent.new ≤ roots (length parent.old) parent.old }
-    ensures over { (passes : List PassOf) (level : ℤ) → AreJoined passes level a b → AreOver passes level parent.old → AreOver passes level parent.new }
-    ensures together { result ≡ false → (passes : List PassOf) (level : ℤ) → AreOver passes level parent.old → AreJoined passes level a b }
+    ensures over { (passes : List PassOf) (level : ℤ) → AreJoined passes level a b
+        → AreOver passes level parent.old → AreOver passes level parent.new }
+    ensures together { result ≡ false → (passes : List PassOf) (level : ℤ)
+        → AreOver passes level parent.old → AreJoined passes level a b }
 {
     let one = find(parent, a);
     let other = find(parent, b);
@@ -70,7 +76,8 @@ fn link_roots(parent: &mut [usize], one: usize, other: usize)
     ensures whole { length parent.new ≡ length parent.old }
     ensures falling { IsFalling parent.new }
     ensures fewer { roots (length parent.old) parent.new < roots (length parent.old) parent.old }
-    ensures over { (passes : List PassOf) (level : ℤ) → AreJoined passes level one other → AreOver passes level parent.old → AreOver passes level parent.new }
+    ensures over { (passes : List PassOf) (level : ℤ) → AreJoined passes level one other
+        → AreOver passes level parent.old → AreOver passes level parent.new }
 {
     if one < other {
         set_parent(parent, other, one);
@@ -88,7 +95,8 @@ fn set_parent(parent: &mut [usize], later: usize, earlier: usize)
     ensures whole { length parent.new ≡ length parent.old }
     ensures falling { IsFalling parent.new }
     ensures fewer { roots (length parent.old) parent.new < roots (length parent.old) parent.old }
-    ensures over { (passes : List PassOf) (level : ℤ) → AreJoined passes level later earlier → AreOver passes level parent.old → AreOver passes level parent.new }
+    ensures over { (passes : List PassOf) (level : ℤ) → AreJoined passes level later earlier
+        → AreOver passes level parent.old → AreOver passes level parent.new }
 {
     parent[later] = earlier;
 }

@@ -33,7 +33,8 @@ impl Visited {
     /// Visits the node. Whether it wasn't visited before.
     pub(crate) fn insert(&mut self, node: u32) -> Result<bool, AllocError>
         ensures fresh { IfOk result (λ fresh. fresh ≡ not (is_among self.old node)) }
-        ensures visited { OnOk result ((x : ℕ) → is_among self.new x ≡ cond (node == x) (not false) (is_among self.old x)) }
+        ensures visited { OnOk result ((x : ℕ)
+            → is_among self.new x ≡ cond (node == x) (not false) (is_among self.old x)) }
     {
         let fresh = self.nodes.insert(node)?;
         Ok(fresh)

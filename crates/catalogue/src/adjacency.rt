@@ -10,7 +10,8 @@ use lattice::{Corner, Height, Point, Refusal, holders, index_in, steps};
 /// Whether the two points are adjacent: both have a height, they are at most one row and one column apart and aren't
 /// the same, and some one present tile holds both.
 pub fn adjacent<S: Samples>(samples: &mut S, p: Point, q: Point) -> Result<bool, Refusal>
-    ensures value { S.is_honest samples.new → IfOk result (λ answer. answer ≡ is_adjacent (S.mosaic samples.old) p q) }
+    ensures value { S.is_honest samples.new
+        → IfOk result (λ answer. answer ≡ is_adjacent (S.mosaic samples.old) p q) }
     ensures reads { OnlyReads S.Samples samples.old samples.new result }
 {
     if p == q || !is_near(p, q) || !share_tile(samples, p, q) {
@@ -24,7 +25,8 @@ pub fn adjacent<S: Samples>(samples: &mut S, p: Point, q: Point) -> Result<bool,
 
 /// How many points are adjacent to the point, at most eight.
 pub fn degree<S: Samples>(samples: &mut S, point: Point) -> Result<u32, Refusal>
-    ensures value { S.is_honest samples.new → IfOk result (λ count. count ≡ degree_of (S.mosaic samples.old) point) }
+    ensures value { S.is_honest samples.new
+        → IfOk result (λ count. count ≡ degree_of (S.mosaic samples.old) point) }
     ensures reads { OnlyReads S.Samples samples.old samples.new result }
 {
     let reach = steps(point);
@@ -39,7 +41,8 @@ pub fn degree<S: Samples>(samples: &mut S, point: Point) -> Result<u32, Refusal>
 
 /// Whether water can leave at the point: it has a height, and is declared a sink or has fewer than eight adjacent points.
 pub fn outlet<S: Samples>(samples: &mut S, point: Point) -> Result<bool, Refusal>
-    ensures value { S.is_honest samples.new → IfOk result (λ answer. answer ≡ is_outlet (S.mosaic samples.old) point) }
+    ensures value { S.is_honest samples.new
+        → IfOk result (λ answer. answer ≡ is_outlet (S.mosaic samples.old) point) }
     ensures reads { OnlyReads S.Samples samples.old samples.new result }
 {
     if !is_ground(samples, point)? {
@@ -61,7 +64,8 @@ pub fn is_sink<S: Samples>(samples: &S, point: Point) -> bool
 
 /// Whether the point has a height. It is refused as a read may be.
 pub fn is_ground<S: Samples>(samples: &mut S, point: Point) -> Result<bool, Refusal>
-    ensures value { S.is_honest samples.new → IfOk result (λ answer. answer ≡ ground (S.mosaic samples.old) point) }
+    ensures value { S.is_honest samples.new
+        → IfOk result (λ answer. answer ≡ ground (S.mosaic samples.old) point) }
     ensures reads { OnlyReads S.Samples samples.old samples.new result }
 {
     let height = height(samples, point)?;
@@ -84,8 +88,10 @@ pub fn share_tile<S: Samples>(samples: &S, p: Point, q: Point) -> bool
 
 /// A present tile that holds both points, where there is one.
 pub fn tile_of_both<S: Samples>(samples: &S, p: Point, q: Point) -> Option<Corner>
-    ensures some { IfSome result (λ c. Contains (S.corners samples.now) c × (Holds (S.side_of samples.now) c p × Holds (S.side_of samples.now) c q)) }
-    ensures none { S.is_honest samples.now → IfNone result (shared (S.mosaic samples.now) p q ≡ false) }
+    ensures some { IfSome result (λ c. Contains (S.corners samples.now) c
+        × (Holds (S.side_of samples.now) c p × Holds (S.side_of samples.now) c q)) }
+    ensures none { S.is_honest samples.now
+        → IfNone result (shared (S.mosaic samples.now) p q ≡ false) }
 {
     let side = samples.side();
     let corners = holders(side, p);

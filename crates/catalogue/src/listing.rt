@@ -12,7 +12,8 @@ use lattice::{Corner, Refusal};
 
 /// The corners of the present tiles, in order. NoMemory is the only refusal.
 pub fn tiles<S: Samples>(samples: &S) -> Result<Vec<Corner>, Refusal>
-    ensures corners { S.is_honest samples.now → IfOk result (λ found. found.items ≡ corners_of (S.mosaic samples.now)) }
+    ensures corners { S.is_honest samples.now
+        → IfOk result (λ found. found.items ≡ corners_of (S.mosaic samples.now)) }
 
     // The same on any disk.
     ensures known { IfOk result (λ found. found.items ≡ S.corners samples.now) }
@@ -28,7 +29,8 @@ pub(crate) fn present_at<S: Samples>(samples: &S, lat: i16, lon: i16) -> Option<
         → result ≡ (if is_listed (record { lat = lat; lon = lon }) (S.corners samples.now) then Some (record { lat = lat; lon = lon }) else None) }
     ensures in_order { IsTrue (is_corner (record { lat = lat; lon = lon }))
         → AllAdjacentBelow IsBefore (S.corners samples.now) (length (S.corners samples.now)) }
-    ensures whole_degrees { IsTrue (is_corner (record { lat = lat; lon = lon })) → AreCorners (S.corners samples.now) }
+    ensures whole_degrees { IsTrue (is_corner (record { lat = lat; lon = lon }))
+        → AreCorners (S.corners samples.now) }
 {
     let corner = Corner::new(lat, lon)?;
     if samples.present(corner) {

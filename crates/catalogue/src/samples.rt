@@ -75,7 +75,8 @@ pub trait Samples {
     fn sample(&mut self, c: Corner, i: u32) -> Result<i16, Refusal>
         requires present { Contains (corners self.old) c }
         requires index { i < side_of self.old * side_of self.old }
-        ensures sample { is_honest self.new → IfOk result (λ s. IsSampleOf (mosaic self.old) c i s) }
+        ensures sample { is_honest self.new
+            → IfOk result (λ s. IsSampleOf (mosaic self.old) c i s) }
 
         // On any disk a refusal is Device, and then the count of failures has risen, or Failed or Damaged.
         ensures refusal { IfErr result (MayRefuse (failures self.old) (failures self.new)) }
@@ -103,7 +104,8 @@ pub trait Samples {
     fn read_samples(&mut self, c: Corner, first: u32, into: &mut [i16]) -> Result<(), Refusal>
         requires present { Contains (corners self.old) c }
         requires range { first + length into.old ≤ side_of self.old * side_of self.old }
-        ensures samples { is_honest self.new → OnOk result (AreSamplesOf (mosaic self.old) c first into.new) }
+        ensures samples { is_honest self.new
+            → OnOk result (AreSamplesOf (mosaic self.old) c first into.new) }
         ensures length { length into.new ≡ length into.old }
 
         // On any disk a refusal is Device, and then the count of failures has risen, or Failed or Damaged.

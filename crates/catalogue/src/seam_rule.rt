@@ -10,7 +10,8 @@ use lattice::{Corner, Height, Point, Refusal, VOID, holders, index_in};
 /// The height of the point: the first sample that isn't void among those of the present tiles that hold it, in the
 /// order of tiles. Tiles that share an edge may disagree there.
 pub fn height<S: Samples>(samples: &mut S, point: Point) -> Result<Height, Refusal>
-    ensures value { S.is_honest samples.new → IfOk result (λ h. h ≡ height_of (S.mosaic samples.old) point) }
+    ensures value { S.is_honest samples.new
+        → IfOk result (λ h. h ≡ height_of (S.mosaic samples.old) point) }
     ensures reads { OnlyReads S.Samples samples.old samples.new result }
 {
     let mut found = Height::Outside;
@@ -31,7 +32,8 @@ pub(crate) fn sample_at<S: Samples>(
     corner: Corner,
     point: Point,
 ) -> Result<Option<i16>, Refusal>
-    ensures value { S.is_honest samples.new → IfOk result (λ found. found ≡ sample_in (S.mosaic samples.old) corner point) }
+    ensures value { S.is_honest samples.new
+        → IfOk result (λ found. found ≡ sample_in (S.mosaic samples.old) corner point) }
     ensures reads { OnlyReads S.Samples samples.old samples.new result }
 {
     if !samples.present(corner) {

@@ -14,7 +14,8 @@ use lattice::{Corner, Point, Refusal, holders, point_at, rim_index};
 /// How many points disagree: two present tiles hold the point with different samples. A void counts as a sample, and
 /// each point counts once.
 pub fn seams<S: Samples>(samples: &mut S) -> Result<u64, Refusal>
-    ensures value { S.is_honest samples.new → IfOk result (λ count. IsSeamCount (S.mosaic samples.old) count) }
+    ensures value { S.is_honest samples.new
+        → IfOk result (λ count. IsSeamCount (S.mosaic samples.old) count) }
     ensures reads { OnlyReads S.Samples samples.old samples.new result }
 {
     let mut count = 0;
@@ -55,7 +56,8 @@ fn seams_at<S: Samples>(samples: &mut S, lat: i16, lon: i16) -> Result<u64, Refu
 
 // How many disagreeing points have the corner's tile as their first present one.
 fn seams_in_tile<S: Samples>(samples: &mut S, corner: Corner) -> Result<u64, Refusal>
-    ensures value { S.is_honest samples.new → IfOk result (λ count. count ≡ seams_of (S.mosaic samples.old) corner) }
+    ensures value { S.is_honest samples.new
+        → IfOk result (λ count. count ≡ seams_of (S.mosaic samples.old) corner) }
     ensures few { IfOk result (λ count. count ≤ 14400) }
     ensures reads { OnlyReads S.Samples samples.old samples.new result }
 {
@@ -86,7 +88,8 @@ fn is_own_seam<S: Samples>(samples: &mut S, corner: Corner, index: u32) -> Resul
 
 // Whether the corner's tile is the first present one that holds the point.
 fn is_first_holder<S: Samples>(samples: &S, corner: Corner, point: Point) -> bool
-    ensures { S.is_honest samples.now → result ≡ is_first corner (present_holders (S.mosaic samples.now) point) }
+    ensures { S.is_honest samples.now
+        → result ≡ is_first corner (present_holders (S.mosaic samples.now) point) }
 {
     let corners = holders(samples.side(), point);
     for holder in corners.as_slice() {
@@ -99,7 +102,8 @@ fn is_first_holder<S: Samples>(samples: &S, corner: Corner, point: Point) -> boo
 
 // Whether two present tiles hold the point with different samples.
 fn disagrees<S: Samples>(samples: &mut S, point: Point) -> Result<bool, Refusal>
-    ensures value { S.is_honest samples.new → IfOk result (λ answer. answer ≡ differing (S.mosaic samples.old) point) }
+    ensures value { S.is_honest samples.new
+        → IfOk result (λ answer. answer ≡ differing (S.mosaic samples.old) point) }
     ensures reads { OnlyReads S.Samples samples.old samples.new result }
 {
     let corners = holders(samples.side(), point);

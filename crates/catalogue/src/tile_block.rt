@@ -27,10 +27,12 @@ pub fn block_heights<S: Samples>(
     corner: Corner,
 ) -> Result<Vec<i16>, Refusal>
     requires { Contains (S.corners samples.old) corner }
-    ensures heights { S.is_honest samples.new → IfOk result (λ heights. AreHeightsOf (S.mosaic samples.old) corner heights.items) }
+    ensures heights { S.is_honest samples.new
+        → IfOk result (λ heights. AreHeightsOf (S.mosaic samples.old) corner heights.items) }
     ensures whole { IfOk result (λ heights. vec_len heights ≡ S.side_of samples.old * S.side_of samples.old) }
     ensures samples { IfOk result (λ heights. All IsSample heights.items) }
-    ensures refusal { IfErr result (λ r. (r ≡ NoMemory) ⊎ MayRefuse (S.failures samples.old) (S.failures samples.new) r) }
+    ensures refusal { IfErr result (λ r. (r ≡ NoMemory)
+        ⊎ MayRefuse (S.failures samples.old) (S.failures samples.new) r) }
     ensures reads { OnlyReads S.Samples samples.old samples.new (reads_of result) }
 {
     let mut heights = vec![in alloc; 0; samples.side().area() as usize]?;
@@ -68,8 +70,7 @@ fn put_at<S: Samples>(
     requires whole { length heights.old ≡ S.side_of samples.old * S.side_of samples.old }
     ensures height { S.is_honest samples.new
         → IsOwnOrHeight (S.mosaic samples.old) corner index (slice_index_or heights.old index void)
-        → OnOk result (heights.new
-        ≡ slice_set heights.old index (metres_of (height_of (S.mosaic samples.old) (point_of (S.side_of samples.old) corner index)))) }
+        → OnOk result (heights.new ≡ slice_set heights.old index (metres_of (height_of (S.mosaic samples.old) (point_of (S.side_of samples.old) corner index)))) }
     ensures reads { OnlyReads S.Samples samples.old samples.new result }
 {
     let point = point_at(samples.side(), corner, index);
@@ -82,7 +83,8 @@ fn put_at<S: Samples>(
 
 // Whether a present tile other than the corner's holds the point.
 fn is_held_elsewhere<S: Samples>(samples: &S, corner: Corner, point: Point) -> bool
-    ensures { S.is_honest samples.now → result ≡ held_elsewhere (S.mosaic samples.now) corner point }
+    ensures { S.is_honest samples.now
+        → result ≡ held_elsewhere (S.mosaic samples.now) corner point }
 {
     let corners = holders(samples.side(), point);
     for holder in corners.as_slice() {

@@ -36,8 +36,12 @@ impl PageCache {
     /// Whether the page is held; then as many of its bytes as there is room for are copied, those from `from` on.
     pub(crate) fn find(&mut self, number: u32, from: usize, into: &mut [u8]) -> bool
         requires { from + length into.old ≤ 4096 }
-        ensures kept { (page : ℕ) (bytes : List ℕ) → IsHeld self.new page bytes → IsHeld self.old page bytes }
-        ensures found { result ≡ true → (bytes : List ℕ) × (IsHeld self.old number bytes × ((length bytes ≡ 4096) × (slice_range bytes from (from + length into.old) ≡ into.new))) }
+        ensures kept { (page : ℕ) (bytes : List ℕ) → IsHeld self.new page bytes
+            → IsHeld self.old page bytes }
+        ensures found { result ≡ true
+            → (bytes : List ℕ) × (IsHeld self.old number bytes
+            × ((length bytes ≡ 4096)
+            × (slice_range bytes from (from + length into.old) ≡ into.new))) }
         ensures length { length into.new ≡ length into.old }
     {
         self.pages.promote(&number);
@@ -64,7 +68,8 @@ impl PageCache {
 
     /// No longer holds the page.
     pub(crate) fn forget(&mut self, number: u32)
-        ensures kept { (page : ℕ) (bytes : List ℕ) → IsHeld self.new page bytes → IsHeld self.old page bytes }
+        ensures kept { (page : ℕ) (bytes : List ℕ) → IsHeld self.new page bytes
+            → IsHeld self.old page bytes }
         ensures gone { (bytes : List ℕ) → ¬ IsHeld self.new number bytes }
     {
         // That no page is held twice is told by how many there are.

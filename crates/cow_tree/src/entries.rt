@@ -33,7 +33,8 @@ pub(crate) fn staged_entries(page_map: &PageMap) -> ArrayVec<Entry, ROOT_ENTRIES
 fn entry_at(page_map: &PageMap, c: Corner) -> Entry
     requires fits { page_map.now.sectors < 2 ^ 32 }
     requires present { IsLocated c page_map.now.staged }
-    ensures { (t : TileLocation) → Contains page_map.now.staged t → t.corner ≡ c → result ≡ entry_of t }
+    ensures { (t : TileLocation) → Contains page_map.now.staged t → t.corner ≡ c
+        → result ≡ entry_of t }
 {
     page_map.rules();
     let Some(heights) = page_map.plane(c, Plane::Heights) else {

@@ -128,7 +128,8 @@ fn write_listing<D: Disk>(
     requires sectors { page_map.now.sectors ≡ D.size (disk_of roots.old) }
     ensures listed { (t : TileLocation) → Contains page_map.now.staged t → t.corner ≡ corner
         → WritesListing D.Disk (due_among (written_before which page_map.now) (named_listing page_map.now.format name t)) roots.old roots.new result }
-    ensures cached { D.honest (disk_of roots.new) → Agrees cache.old (D.seen (disk_of roots.old)) → OnOk result (Agrees cache.new (D.seen (disk_of roots.new))) }
+    ensures cached { D.honest (disk_of roots.new) → Agrees cache.old (D.seen (disk_of roots.old))
+        → OnOk result (Agrees cache.new (D.seen (disk_of roots.new))) }
 {
     page_map.rules();
     let Some(plane) = page_map.plane(corner, name) else {
@@ -156,7 +157,8 @@ fn write_tile_listings<D: Disk>(
     requires present { IsLocated corner page_map.now.staged }
     ensures listed { (t : TileLocation) → Contains page_map.now.staged t → t.corner ≡ corner
         → WritesListing D.Disk (due_among (written_before which page_map.now) (tile_listing page_map.now.format t)) roots.old roots.new result }
-    ensures cached { D.honest (disk_of roots.new) → Agrees cache.old (D.seen (disk_of roots.old)) → OnOk result (Agrees cache.new (D.seen (disk_of roots.new))) }
+    ensures cached { D.honest (disk_of roots.new) → Agrees cache.old (D.seen (disk_of roots.old))
+        → OnOk result (Agrees cache.new (D.seen (disk_of roots.new))) }
 {
     page_map.rules();
     write_listing(roots, cache, page_map, which, corner, Plane::Heights)?;
@@ -174,7 +176,8 @@ pub(crate) fn write_listings<D: Disk>(
     requires not_failed { has_failed roots.old ≡ false }
     requires sectors { page_map.now.sectors ≡ D.size (disk_of roots.old) }
     ensures listed { WritesListing D.Disk (due_among (written_before which page_map.now) (tiles_listing page_map.now.format page_map.now.staged)) roots.old roots.new result }
-    ensures cached { D.honest (disk_of roots.new) → Agrees cache.old (D.seen (disk_of roots.old)) → OnOk result (Agrees cache.new (D.seen (disk_of roots.new))) }
+    ensures cached { D.honest (disk_of roots.new) → Agrees cache.old (D.seen (disk_of roots.old))
+        → OnOk result (Agrees cache.new (D.seen (disk_of roots.new))) }
 {
     page_map.rules();
     let corners = page_map.corners();

@@ -35,8 +35,10 @@ fn read_listed<D: Disk>(
     ensures reads { OnlyReads D.Disk roots.old roots.new result }
     ensures refusals { IfErr result IsRefusalOfTree }
     ensures count { IfOk result (λ pages. IsRecord count pages.items) }
-    ensures listed { D.honest (disk_of roots.new) → IfOk result (λ pages. D.seen (disk_of roots.old) page ≡ record_bytes pages.items) }
-    ensures refused { D.honest (disk_of roots.new) → IfErr result (IsRefusedFor (NoneListed (D.size (disk_of roots.old)) (D.seen (disk_of roots.old)) page count)) }
+    ensures listed { D.honest (disk_of roots.new)
+        → IfOk result (λ pages. D.seen (disk_of roots.old) page ≡ record_bytes pages.items) }
+    ensures refused { D.honest (disk_of roots.new)
+        → IfErr result (IsRefusedFor (NoneListed (D.size (disk_of roots.old)) (D.seen (disk_of roots.old)) page count)) }
 {
     if page < FIXED_SECTORS || roots.sectors() <= page {
         return Err(Refusal::Damaged);
@@ -66,7 +68,8 @@ fn read_indexed<D: Disk>(
     ensures pages { IfOk result (λ plane. length plane.pages ≡ pages_of format.side) }
     ensures each { IfOk result (λ plane. All (λ p. p < 2 ^ 32) plane.pages) }
     ensures indexed { D.honest (disk_of roots.new)
-        → IfOk result (λ plane. (t : ℕ) → t < length plane.index_pages → IsIndexed (D.seen (disk_of roots.old)) plane t) }
+        → IfOk result (λ plane. (t : ℕ) → t < length plane.index_pages
+        → IsIndexed (D.seen (disk_of roots.old)) plane t) }
     ensures refused { D.honest (disk_of roots.new)
         → IfErr result (IsRefusedFor (NoneIndexed format (D.size (disk_of roots.old)) (D.seen (disk_of roots.old)) index.items)) }
 {
@@ -92,10 +95,12 @@ fn read_plane<D: Disk>(
     requires not_failed { has_failed roots.old ≡ false }
     ensures reads { OnlyReads D.Disk roots.old roots.new result }
     ensures refusals { IfErr result IsRefusalOfTree }
-    ensures record { D.honest (disk_of roots.new) → IfOk result (λ plane. HasRecord format (D.seen (disk_of roots.old)) plane) }
+    ensures record { D.honest (disk_of roots.new)
+        → IfOk result (λ plane. HasRecord format (D.seen (disk_of roots.old)) plane) }
     ensures at { IfOk result (λ plane. plane.record_page ≡ record_page) }
     ensures whole { IfOk result (IsWholePlane format) }
-    ensures refused { D.honest (disk_of roots.new) → IfErr result (IsRefusedFor (NonePlane format (D.size (disk_of roots.old)) (D.seen (disk_of roots.old)) record_page)) }
+    ensures refused { D.honest (disk_of roots.new)
+        → IfErr result (IsRefusedFor (NonePlane format (D.size (disk_of roots.old)) (D.seen (disk_of roots.old)) record_page)) }
 {
     let listed = read_listed(roots, record_page, format.listed())?;
     let behind = Vec::from_slice(alloc, listed.as_slice())?;
@@ -115,10 +120,12 @@ fn read_kept<D: Disk>(
     requires not_failed { has_failed roots.old ≡ false }
     ensures reads { OnlyReads D.Disk roots.old roots.new result }
     ensures refusals { IfErr result IsRefusalOfTree }
-    ensures records { D.honest (disk_of roots.new) → IfOk result (λ locations. IfSome locations (HaveKeptRecords format (D.seen (disk_of roots.old)))) }
+    ensures records { D.honest (disk_of roots.new)
+        → IfOk result (λ locations. IfSome locations (HaveKeptRecords format (D.seen (disk_of roots.old)))) }
     ensures entry { IfOk result (λ locations. entry_of_kept locations ≡ kept) }
     ensures whole { IfOk result (λ locations. IfSome locations (AreWholeKept format)) }
-    ensures refused { D.honest (disk_of roots.new) → IfErr result (IsRefusedFor (NoneKept format (D.size (disk_of roots.old)) (D.seen (disk_of roots.old)) kept)) }
+    ensures refused { D.honest (disk_of roots.new)
+        → IfErr result (IsRefusedFor (NoneKept format (D.size (disk_of roots.old)) (D.seen (disk_of roots.old)) kept)) }
 {
     let Some(kept) = kept else {
         return Ok(None);
@@ -138,10 +145,12 @@ fn read_planes<D: Disk>(
     requires not_failed { has_failed roots.old ≡ false }
     ensures reads { OnlyReads D.Disk roots.old roots.new result }
     ensures refusals { IfErr result IsRefusalOfTree }
-    ensures records { D.honest (disk_of roots.new) → IfOk result (λ planes. HasRecords format (D.seen (disk_of roots.old)) (tile_at entry.now.corner planes)) }
+    ensures records { D.honest (disk_of roots.new)
+        → IfOk result (λ planes. HasRecords format (D.seen (disk_of roots.old)) (tile_at entry.now.corner planes)) }
     ensures entry { IfOk result (λ planes. entry_of (tile_at entry.now.corner planes) ≡ entry.now) }
     ensures whole { IfOk result (λ planes. IsWholeTile format (tile_at entry.now.corner planes)) }
-    ensures refused { D.honest (disk_of roots.new) → IfErr result (IsRefusedFor (NoTileAt format (D.size (disk_of roots.old)) (D.seen (disk_of roots.old)) entry.now)) }
+    ensures refused { D.honest (disk_of roots.new)
+        → IfErr result (IsRefusedFor (NoTileAt format (D.size (disk_of roots.old)) (D.seen (disk_of roots.old)) entry.now)) }
 {
     let heights = read_plane(alloc, roots, format, entry.heights)?;
     let kept = read_kept(alloc, roots, format, entry.kept)?;
@@ -163,10 +172,12 @@ pub(crate) fn read_page_map<D: Disk>(
     ensures fits { IfOk result (λ page_map. page_map.sectors < 2 ^ 32) }
     ensures entries { IfOk result (λ page_map. map entry_of page_map.committed ≡ root.now.entries) }
     ensures clean { IfOk result IsClean }
-    ensures records { D.honest (disk_of roots.new) → IfOk result (λ page_map. All (HasRecords (format_of root.now) (D.seen (disk_of roots.old))) page_map.committed) }
+    ensures records { D.honest (disk_of roots.new)
+        → IfOk result (λ page_map. All (HasRecords (format_of root.now) (D.seen (disk_of roots.old))) page_map.committed) }
     ensures refused { D.honest (disk_of roots.new)
         → IfErr result (λ why. (D.size (disk_of roots.old) < sectors_asked (format_of root.now))
-        ⊎ IsRefusedFor ((tiles : List TileLocation) → ¬ IsLaidOut (D.size (disk_of roots.old)) (D.seen (disk_of roots.old)) root.now tiles) why) }
+        ⊎ IsRefusedFor ((tiles : List TileLocation)
+        → ¬ IsLaidOut (D.size (disk_of roots.old)) (D.seen (disk_of roots.old)) root.now tiles) why) }
 {
     let format = root.format();
     let entries = root.entries();

@@ -82,7 +82,8 @@ impl PastPlanes {
     }
 
     fn tile(&self, corner: Corner) -> Option<&PastTile>
-        ensures { MatchOption result (past_tile self.now.tiles.items corner ≡ None) (λ t. past_tile self.now.tiles.items corner ≡ Some t.now) }
+        ensures { MatchOption result (past_tile self.now.tiles.items corner ≡ None) (λ t. past_tile self.now.tiles.items corner
+            ≡ Some t.now) }
     {
         for tile in &self.tiles {
             if tile.corner == corner {

@@ -23,7 +23,8 @@ fn read_part<D: Disk>(
     requires one_page { first % 2048 + length into.old ≤ 2048 }
     requires range { first + length into.old ≤ (root_of tree.old).side * (root_of tree.old).side }
     ensures reads { Reads D.Disk tree.old tree.new result }
-    ensures samples { IsReadable D.Disk tree.new → OnOk result ((all : List ℤ) → samples_of (mosaic_of D.Disk tree.old) c ≡ Some all
+    ensures samples { IsReadable D.Disk tree.new
+        → OnOk result ((all : List ℤ) → samples_of (mosaic_of D.Disk tree.old) c ≡ Some all
         → slice_range all first (first + length into.new) ≡ into.new) }
     ensures length { length into.new ≡ length into.old }
 {

@@ -60,7 +60,8 @@ pub struct Tree<D: Disk> {
     ghost format: { page_map.format ≡ format_of (root_under roots) },
     ghost entries: { map entry_of page_map.committed ≡ (root_under roots).entries },
     ghost declared: { sinks.side ≡ (root_under roots).side },
-    ghost cached: { D.Disk.honest (disk_under roots) → have_failed roots ≡ false → Agrees cache (D.Disk.seen (disk_under roots)) },
+    ghost cached: { D.Disk.honest (disk_under roots) → have_failed roots ≡ false
+        → Agrees cache (D.Disk.seen (disk_under roots)) },
 }
 
 impl<D: Disk> Tree<D> {
@@ -82,7 +83,9 @@ impl<D: Disk> Tree<D> {
         ensures refused { IfErr result (λ refusal. refusal ≡ Device) }
         ensures writes { D.writes disk.new ≤ D.writes disk.old + 4 }
         ensures honest { D.honest disk.new → D.honest disk.old }
-        ensures formatted { D.honest disk.new → OnOk result ((image : Image) → D.may disk.new image → Stands (D.size disk.new) image (no_tiles format)) }
+        ensures formatted { D.honest disk.new
+            → OnOk result ((image : Image) → D.may disk.new image
+            → Stands (D.size disk.new) image (no_tiles format)) }
     {
         Roots::format(disk, &Root::empty(format))
     }
@@ -98,16 +101,22 @@ impl<D: Disk> Tree<D> {
         ensures writes { D.writes (disk_after result) ≡ D.writes disk }
         ensures later { D.failures disk ≤ D.failures (disk_after result) }
         ensures refusals { IfErr result (λ e. IsRefusalOfTree e.refusal) }
-        ensures device { IfErr result (λ e. e.refusal ≡ Device → HasRisen (D.failures disk) (D.failures e.disk)) }
-        ensures nothing { D.honest (disk_after result) → AddsNothing D.Disk disk (disk_after result) }
+        ensures device { IfErr result (λ e. e.refusal ≡ Device
+            → HasRisen (D.failures disk) (D.failures e.disk)) }
+        ensures nothing { D.honest (disk_after result)
+            → AddsNothing D.Disk disk (disk_after result) }
         ensures at { IfOk result (λ tree. D.honest (disk_of tree)
-            → (s : Stored) × (Stands (D.size disk) (D.seen disk) s × (IsAt D.Disk tree s × (staged_in D.Disk tree ≡ s.tiles)))) }
-        ensures refused { D.honest (disk_after result) → IfErr result (λ e. MayRefuse (D.size disk) (D.seen disk) e.refusal) }
+            → (s : Stored) × (Stands (D.size disk) (D.seen disk) s
+            × (IsAt D.Disk tree s × (staged_in D.Disk tree ≡ s.tiles)))) }
+        ensures refused { D.honest (disk_after result)
+            → IfErr result (λ e. MayRefuse (D.size disk) (D.seen disk) e.refusal) }
 
         // An image that stands for something is refused only for the disk or for memory.
-        ensures sure { D.honest (disk_after result) → (s : Stored) → Stands (D.size disk) (D.seen disk) s
+        ensures sure { D.honest (disk_after result) → (s : Stored)
+            → Stands (D.size disk) (D.seen disk) s
             → IfErr result (λ e. (e.refusal ≡ Device) ⊎ (e.refusal ≡ NoMemory)) }
-        ensures durable { D.honest (disk_after result) → OnOk result (Only (D.seen (disk_after result)) (D.may (disk_after result))) }
+        ensures durable { D.honest (disk_after result)
+            → OnOk result (Only (D.seen (disk_after result)) (D.may (disk_after result))) }
         ensures not_failed { IfOk result (λ tree. has_failed tree ≡ false) }
         ensures not_begun { IfOk result (λ tree. has_begun tree ≡ false) }
         ensures clean { IfOk result IsClean }
@@ -144,16 +153,23 @@ impl<D: Disk> Tree<D> {
         ensures writes { D.writes (disk_of self.new) ≡ D.writes (disk_of self.old) }
         ensures later { D.failures (disk_of self.old) ≤ D.failures (disk_of self.new) }
         ensures refusals { IfErr result IsRefusalOfTree }
-        ensures device { IsErrOf result Device → HasRisen (D.failures (disk_of self.old)) (D.failures (disk_of self.new)) }
-        ensures nothing { D.honest (disk_of self.new) → AddsNothing D.Disk (disk_of self.old) (disk_of self.new) }
+        ensures device { IsErrOf result Device
+            → HasRisen (D.failures (disk_of self.old)) (D.failures (disk_of self.new)) }
+        ensures nothing { D.honest (disk_of self.new)
+            → AddsNothing D.Disk (disk_of self.old) (disk_of self.new) }
         ensures at { D.honest (disk_of self.new)
-            → OnOk result ((s : Stored) × (Stands (D.size (disk_of self.old)) (D.seen (disk_of self.old)) s × (IsAt D.Disk self.new s × (staged_in D.Disk self.new ≡ s.tiles)))) }
-        ensures refused { D.honest (disk_of self.new) → IfErr result (MayRefuse (D.size (disk_of self.old)) (D.seen (disk_of self.old))) }
+            → OnOk result ((s : Stored)
+            × (Stands (D.size (disk_of self.old)) (D.seen (disk_of self.old)) s
+            × (IsAt D.Disk self.new s × (staged_in D.Disk self.new ≡ s.tiles)))) }
+        ensures refused { D.honest (disk_of self.new)
+            → IfErr result (MayRefuse (D.size (disk_of self.old)) (D.seen (disk_of self.old))) }
 
         // An image that stands for something is refused only for the disk or for memory.
-        ensures sure { D.honest (disk_of self.new) → (s : Stored) → Stands (D.size (disk_of self.old)) (D.seen (disk_of self.old)) s
+        ensures sure { D.honest (disk_of self.new) → (s : Stored)
+            → Stands (D.size (disk_of self.old)) (D.seen (disk_of self.old)) s
             → IfErr result (λ refusal. (refusal ≡ Device) ⊎ (refusal ≡ NoMemory)) }
-        ensures durable { D.honest (disk_of self.new) → OnOk result (Only (D.seen (disk_of self.new)) (D.may (disk_of self.new))) }
+        ensures durable { D.honest (disk_of self.new)
+            → OnOk result (Only (D.seen (disk_of self.new)) (D.may (disk_of self.new))) }
         ensures not_failed { OnOk result (has_failed self.new ≡ false) }
         ensures not_begun { OnOk result (has_begun self.new ≡ false) }
         ensures failed { OnErr result (has_failed self.new ≡ true) }
@@ -269,8 +285,10 @@ impl<D: Disk> Tree<D> {
         requires held { Holds self.old c plane }
         requires index { i < pages_of (root_of self.old).side }
         ensures reads { Reads D.Disk self.old self.new result }
-        ensures page { D.honest (disk_of self.new) → OnOk result (HasPage (staged_in D.Disk self.old) c plane i into.new) }
-        ensures failed { has_failed self.old ≡ true → (result ≡ Err Failed) × (disk_of self.new ≡ disk_of self.old) }
+        ensures page { D.honest (disk_of self.new)
+            → OnOk result (HasPage (staged_in D.Disk self.old) c plane i into.new) }
+        ensures failed { has_failed self.old ≡ true
+            → (result ≡ Err Failed) × (disk_of self.new ≡ disk_of self.old) }
     {
         self.read_bytes(c, plane, i, 0, into)
     }
@@ -289,7 +307,10 @@ impl<D: Disk> Tree<D> {
         requires index { i < pages_of (root_of self.old).side }
         requires inside { from + 2 ≤ 4096 }
         ensures reads { Reads D.Disk self.old self.new result }
-        ensures two { D.honest (disk_of self.new) → OnOk result ((bytes : List ℕ) × (HasPage (staged_in D.Disk self.old) c plane i bytes × (slice_range bytes from (from + 2) ≡ into.new))) }
+        ensures two { D.honest (disk_of self.new)
+            → OnOk result ((bytes : List ℕ)
+            × (HasPage (staged_in D.Disk self.old) c plane i bytes
+            × (slice_range bytes from (from + 2) ≡ into.new))) }
     {
         self.read_bytes(c, plane, i, from, into)
     }
@@ -307,9 +328,14 @@ impl<D: Disk> Tree<D> {
         requires index { i < pages_of (root_of self.old).side }
         requires inside { from + length into.old ≤ 4096 }
         ensures reads { Reads D.Disk self.old self.new result }
-        ensures bytes { D.honest (disk_of self.new) → OnOk result ((bytes : List ℕ) × (HasPage (staged_in D.Disk self.old) c plane i bytes × ((length bytes ≡ 4096) × (slice_range bytes from (from + length into.old) ≡ into.new)))) }
+        ensures bytes { D.honest (disk_of self.new)
+            → OnOk result ((bytes : List ℕ)
+            × (HasPage (staged_in D.Disk self.old) c plane i bytes
+            × ((length bytes ≡ 4096)
+            × (slice_range bytes from (from + length into.old) ≡ into.new)))) }
         ensures length { length into.new ≡ length into.old }
-        ensures failed { has_failed self.old ≡ true → (result ≡ Err Failed) × (disk_of self.new ≡ disk_of self.old) }
+        ensures failed { has_failed self.old ≡ true
+            → (result ≡ Err Failed) × (disk_of self.new ≡ disk_of self.old) }
     {
         if self.roots.has_failed() {
             return Err(Refusal::Failed);
@@ -339,8 +365,10 @@ impl<D: Disk> Tree<D> {
         requires held { Holds self.old c plane }
         requires index { i < pages_of (root_of self.old).side }
         ensures reads { Reads D.Disk self.old self.new result }
-        ensures page { D.honest (disk_of self.new) → OnOk result (HasPage (staged_in D.Disk self.old) c plane i into.new) }
-        ensures failed { has_failed self.old ≡ true → (result ≡ Err Failed) × (disk_of self.new ≡ disk_of self.old) }
+        ensures page { D.honest (disk_of self.new)
+            → OnOk result (HasPage (staged_in D.Disk self.old) c plane i into.new) }
+        ensures failed { has_failed self.old ≡ true
+            → (result ≡ Err Failed) × (disk_of self.new ≡ disk_of self.old) }
     {
         if self.roots.has_failed() {
             return Err(Refusal::Failed);
@@ -362,8 +390,10 @@ impl<D: Disk> Tree<D> {
     pub fn read_sector(&mut self, sector: u32, into: &mut [u8; PAGE_BYTES]) -> Result<(), Refusal>
         requires { sector < D.size (disk_of self.old) }
         ensures reads { Reads D.Disk self.old self.new result }
-        ensures bytes { D.honest (disk_of self.new) → OnOk result (into.new ≡ D.seen (disk_of self.old) sector) }
-        ensures failed { has_failed self.old ≡ true → (result ≡ Err Failed) × (disk_of self.new ≡ disk_of self.old) }
+        ensures bytes { D.honest (disk_of self.new)
+            → OnOk result (into.new ≡ D.seen (disk_of self.old) sector) }
+        ensures failed { has_failed self.old ≡ true
+            → (result ≡ Err Failed) × (disk_of self.new ≡ disk_of self.old) }
     {
         if self.roots.has_failed() {
             return Err(Refusal::Failed);
@@ -377,7 +407,8 @@ impl<D: Disk> Tree<D> {
         requires index { i < pages_of (root_of self.now).side }
         ensures low { 4 ≤ result }
         ensures high { result < D.size (disk_of self.now) }
-        ensures page { (image : Image) (bytes : List ℕ) → bytes ≡ image result → HasPage (map (tile_in image) (page_map_of self.now).staged) c plane i bytes }
+        ensures page { (image : Image) (bytes : List ℕ) → bytes ≡ image result
+            → HasPage (map (tile_in image) (page_map_of self.now).staged) c plane i bytes }
     {
         self.page_map.rules();
         match self.page_map.plane(c, plane) {
@@ -401,22 +432,28 @@ impl<D: Disk> Tree<D> {
         requires index { i < pages_of (root_of self.old).side }
         ensures uncommitted { CommitsNothing D.Disk self.old self.new result }
         ensures refused { IfErr result (λ refusal. (refusal ≡ Device) ⊎ (refusal ≡ NoMemory)) }
-        ensures writes { D.writes (disk_of self.new) ≤ D.writes (disk_of self.old) + (if has_begun self.old then 1 else 2) }
+        ensures writes { D.writes (disk_of self.new) ≤ D.writes (disk_of self.old)
+            + (if has_begun self.old then 1 else 2) }
         ensures corners { corners_of self.new ≡ corners_of self.old }
         ensures sinks { sinks_of self.new ≡ sinks_of self.old }
         ensures works { has_failed self.new ≡ false ⊎ IsErrOf result Device }
         ensures begun { OnOk result (has_begun self.new ≡ true) }
         ensures unchanged { IsErrOf result NoMemory → disk_of self.new ≡ disk_of self.old }
-        ensures same { IsErrOf result NoMemory → staged_in D.Disk self.new ≡ staged_in D.Disk self.old }
+        ensures same { IsErrOf result NoMemory
+            → staged_in D.Disk self.new ≡ staged_in D.Disk self.old }
 
         // Heights that were staged before ask for no memory, and for no further record. By the second version one more index
         // page may be due.
         ensures sure { HasStaged self.old c → ¬ IsErrOf result NoMemory }
-        ensures due { records_due self.new ≤ records_due self.old + (1 + index_page_by (root_of self.old).version) }
-        ensures due_same { HasStaged self.old c → records_due self.new ≤ records_due self.old + index_page_by (root_of self.old).version }
+        ensures due { records_due self.new ≤ records_due self.old
+            + (1 + index_page_by (root_of self.old).version) }
+        ensures due_same { HasStaged self.old c
+            → records_due self.new ≤ records_due self.old
+            + index_page_by (root_of self.old).version }
         ensures due_before { records_due self.old ≤ records_due self.new }
         ensures has_staged { OnOk result (HasStaged self.new c) }
-        ensures still_staged { (other : Corner) → HasStaged self.old other → HasStaged self.new other }
+        ensures still_staged { (other : Corner) → HasStaged self.old other
+            → HasStaged self.new other }
 
         // The page is staged, and nothing else.
         ensures staged { D.honest (disk_of self.new) → (s : Stored) → IsAt D.Disk self.old s
@@ -443,7 +480,8 @@ impl<D: Disk> Tree<D> {
         ensures due { records_due self.new ≤ records_due self.old + 1 }
         ensures due_same { HasStaged self.old c → records_due self.new ≡ records_due self.old }
         ensures has_staged { OnOk result (HasStaged self.new c) }
-        ensures still_staged { (other : Corner) → HasStaged self.old other → HasStaged self.new other }
+        ensures still_staged { (other : Corner) → HasStaged self.old other
+            → HasStaged self.new other }
         ensures at { (s : Stored) → IsAt D.Disk self.old s → IsAt D.Disk self.new s }
     {
         self.page_map.rules();
@@ -460,16 +498,19 @@ impl<D: Disk> Tree<D> {
         requires whole { length bytes.now ≡ 2 * ((root_of self.old).side * (root_of self.old).side) }
         ensures uncommitted { CommitsNothing D.Disk self.old self.new result }
         ensures refused { IfErr result (λ refusal. (refusal ≡ Device) ⊎ (refusal ≡ NoMemory)) }
-        ensures writes { D.writes (disk_of self.new) ≤ D.writes (disk_of self.old) + pages_of (root_of self.old).side + (if has_begun self.old then 0 else 1) }
+        ensures writes { D.writes (disk_of self.new) ≤ D.writes (disk_of self.old)
+            + pages_of (root_of self.old).side + (if has_begun self.old then 0 else 1) }
         ensures works { has_failed self.new ≡ false ⊎ IsErrOf result Device }
         ensures unchanged { IsErrOf result NoMemory → disk_of self.new ≡ disk_of self.old }
-        ensures same { IsErrOf result NoMemory → staged_in D.Disk self.new ≡ staged_in D.Disk self.old }
+        ensures same { IsErrOf result NoMemory
+            → staged_in D.Disk self.new ≡ staged_in D.Disk self.old }
         ensures corners { OnOk result (corners_of self.new ≡ with_corner c (corners_of self.old)) }
         ensures same_corners { IsErrOf result NoMemory → corners_of self.new ≡ corners_of self.old }
         ensures sinks { sinks_of self.new ≡ sinks_of self.old }
         ensures begun { OnOk result (D.writes (disk_of self.new) + (if has_begun self.new then 0 else 1)
             ≤ D.writes (disk_of self.old) + pages_of (root_of self.old).side + (if has_begun self.old then 0 else 1)) }
-        ensures due { OnOk result (records_due self.new ≡ records_due self.old + (1 + index_pages_of (format_of (root_of self.old)))) }
+        ensures due { OnOk result (records_due self.new ≡ records_due self.old
+            + (1 + index_pages_of (format_of (root_of self.old)))) }
         ensures has_staged { OnOk result (HasStaged self.new c) }
 
         // The tile is staged, and nothing else.
@@ -495,7 +536,8 @@ impl<D: Disk> Tree<D> {
         requires labels { length labels.now ≡ 2 * ((root_of self.old).side * (root_of self.old).side) }
         ensures uncommitted { CommitsNothing D.Disk self.old self.new result }
         ensures refused { IfErr result (λ refusal. (refusal ≡ Device) ⊎ (refusal ≡ NoMemory)) }
-        ensures writes { D.writes (disk_of self.new) ≤ D.writes (disk_of self.old) + 2 * pages_of (root_of self.old).side + (if has_begun self.old then 0 else 1) }
+        ensures writes { D.writes (disk_of self.new) ≤ D.writes (disk_of self.old)
+            + 2 * pages_of (root_of self.old).side + (if has_begun self.old then 0 else 1) }
         ensures begun { OnOk result (D.writes (disk_of self.new) + (if has_begun self.new then 0 else 1)
             ≤ D.writes (disk_of self.old) + 2 * pages_of (root_of self.old).side + (if has_begun self.old then 0 else 1)) }
         ensures corners { corners_of self.new ≡ corners_of self.old }
@@ -503,7 +545,8 @@ impl<D: Disk> Tree<D> {
         ensures works { has_failed self.new ≡ false ⊎ IsErrOf result Device }
         ensures unchanged { IsErrOf result NoMemory → disk_of self.new ≡ disk_of self.old }
         ensures same { IsErrOf result NoMemory → page_map_of self.new ≡ page_map_of self.old }
-        ensures due { records_due self.new ≤ records_due self.old + 2 * (1 + index_pages_of (format_of (root_of self.old))) }
+        ensures due { records_due self.new ≤ records_due self.old
+            + 2 * (1 + index_pages_of (format_of (root_of self.old))) }
 
         // The levels and labels are staged, and nothing else.
         ensures staged { D.honest (disk_of self.new) → (s : Stored) → IsAt D.Disk self.old s
@@ -530,7 +573,8 @@ impl<D: Disk> Tree<D> {
         requires count { count ≤ (root_of self.old).number }
         ensures returns { Returns D.Disk self.old self.new result }
         ensures refused { IfErr result (λ refusal. refusal ≡ Device) }
-        ensures writes { D.writes (disk_of self.new) ≤ D.writes (disk_of self.old) + records_due self.old + (if has_begun self.old then 2 else 3) }
+        ensures writes { D.writes (disk_of self.new) ≤ D.writes (disk_of self.old)
+            + records_due self.old + (if has_begun self.old then 2 else 3) }
         ensures corners { corners_of self.new ≡ corners_of self.old }
         ensures sinks { sinks_of self.new ≡ sinks_of self.old }
         ensures failed { OnErr result (has_failed self.new ≡ true) }
@@ -550,8 +594,8 @@ impl<D: Disk> Tree<D> {
         ensures durable { D.honest (disk_of self.new)
             → OnOk result (Only (D.seen (disk_of self.new)) (D.may (disk_of self.new))) }
         ensures any_moment { D.honest (disk_of self.new) → (s : Stored) → IsAt D.Disk self.old s
-            → LeavesOnly D.Disk (disk_of self.old) (disk_of self.new)
-            (λ image. Stands (D.size (disk_of self.old)) image s ⊎ Stands (D.size (disk_of self.old)) image (next_commit s (sinks_of self.old) (staged_in D.Disk self.old) count)) }
+            → LeavesOnly D.Disk (disk_of self.old) (disk_of self.new) (λ image. Stands (D.size (disk_of self.old)) image s
+            ⊎ Stands (D.size (disk_of self.old)) image (next_commit s (sinks_of self.old) (staged_in D.Disk self.old) count)) }
     {
         self.page_map.rules();
         let entries = staged_entries(&self.page_map);
@@ -585,7 +629,8 @@ impl<D: Disk> Tree<D> {
         ensures refused { IfErr result (UpgradesNot (D.size (disk_of self.old)) (root_of self.old)) }
         ensures allowed { OnOk result (MayUpgrade (D.size (disk_of self.old)) (root_of self.old)) }
         ensures unchanged { IfErr result (λ why. why ≢ Device → self.new ≡ self.old) }
-        ensures writes { D.writes (disk_of self.new) ≤ D.writes (disk_of self.old) + most_upgrade_writes (root_of self.old) }
+        ensures writes { D.writes (disk_of self.new) ≤ D.writes (disk_of self.old)
+            + most_upgrade_writes (root_of self.old) }
         ensures last_known { OnErr result (root_of self.new ≡ root_of self.old) }
         ensures version { OnOk result ((root_of self.new).version ≡ Two) }
         ensures number { OnOk result ((root_of self.new).number ≡ (root_of self.old).number + 1) }
@@ -604,8 +649,8 @@ impl<D: Disk> Tree<D> {
         ensures durable { D.honest (disk_of self.new)
             → OnOk result (Only (D.seen (disk_of self.new)) (D.may (disk_of self.new))) }
         ensures any_moment { D.honest (disk_of self.new) → (s : Stored) → IsAt D.Disk self.old s
-            → LeavesOnly D.Disk (disk_of self.old) (disk_of self.new)
-            (λ image. Stands (D.size (disk_of self.old)) image s ⊎ Stands (D.size (disk_of self.old)) image (upgraded_store s)) }
+            → LeavesOnly D.Disk (disk_of self.old) (disk_of self.new) (λ image. Stands (D.size (disk_of self.old)) image s
+            ⊎ Stands (D.size (disk_of self.old)) image (upgraded_store s)) }
     {
         self.allow_upgrade()?;
         let page_map = self.page_map.upgraded()?;
@@ -642,9 +687,12 @@ impl<D: Disk> Tree<D> {
         ensures no_call { MakesNoCall self.old self.new }
         ensures clean { IsClean self.new }
         ensures sinks { sinks_of self.new ≡ (root_of self.new).sinks }
-        ensures at { D.honest (disk_of self.old) → (s : Stored) → IsAt D.Disk self.old s → IsAt D.Disk self.new s }
-        ensures committed { D.honest (disk_of self.old) → (s : Stored) → IsAt D.Disk self.old s → staged_in D.Disk self.new ≡ s.tiles }
-        ensures undeclared { D.honest (disk_of self.old) → (s : Stored) → IsAt D.Disk self.old s → sinks_of self.new ≡ s.sinks }
+        ensures at { D.honest (disk_of self.old) → (s : Stored) → IsAt D.Disk self.old s
+            → IsAt D.Disk self.new s }
+        ensures committed { D.honest (disk_of self.old) → (s : Stored) → IsAt D.Disk self.old s
+            → staged_in D.Disk self.new ≡ s.tiles }
+        ensures undeclared { D.honest (disk_of self.old) → (s : Stored) → IsAt D.Disk self.old s
+            → sinks_of self.new ≡ s.sinks }
     {
         self.cache.clear();
         self.page_map.rollback();
@@ -677,7 +725,8 @@ impl<D: Disk> Tree<D> {
         ensures corners { corners_of self.new ≡ corners_of self.old }
         ensures sinks { sinks_of self.new ≡ sinks_of self.old }
         ensures due { records_due self.new ≤ records_due self.old }
-        ensures still_staged { (other : Corner) → HasStaged self.old other → HasStaged self.new other }
+        ensures still_staged { (other : Corner) → HasStaged self.old other
+            → HasStaged self.new other }
         ensures staged { staged_in D.Disk self.new ≡ made_stale c (staged_in D.Disk self.old) }
         ensures at { (s : Stored) → IsAt D.Disk self.old s → IsAt D.Disk self.new s }
     {

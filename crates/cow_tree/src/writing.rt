@@ -47,7 +47,8 @@ pub(crate) fn write_plane<D: Disk>(
     requires distinct { (p : ℕ) → times p pages.now ≤ 1 }
     ensures writes { WritesPages D.Disk pages.now roots.old roots.new result }
     ensures written { D.honest (disk_of roots.new)
-        → OnOk result (map (D.seen (disk_of roots.new)) pages.now ≡ pages_of_bytes (length pages.now) bytes.now) }
+        → OnOk result (map (D.seen (disk_of roots.new)) pages.now
+        ≡ pages_of_bytes (length pages.now) bytes.now) }
 {
     let mut rest = bytes;
     for page in pages {
@@ -71,8 +72,10 @@ pub(crate) fn write_kept<D: Disk>(
     requires high { All (λ p. p < D.size (disk_of roots.old)) (levels_at.now.pages ++ labels_at.now.pages) }
     requires distinct { (p : ℕ) → times p (levels_at.now.pages ++ labels_at.now.pages) ≤ 1 }
     ensures writes { WritesPages D.Disk (levels_at.now.pages ++ labels_at.now.pages) roots.old roots.new result }
-    ensures written { D.honest (disk_of roots.new) → (n : ℕ) → length levels_at.now.pages ≡ pages_of n → length labels_at.now.pages ≡ pages_of n
-        → OnOk result (kept_in (D.seen (disk_of roots.new)) (Some (record { levels = levels_at.now; labels = labels_at.now })) ≡ Some (planes_of_bytes n levels.now labels.now)) }
+    ensures written { D.honest (disk_of roots.new) → (n : ℕ)
+        → length levels_at.now.pages ≡ pages_of n → length labels_at.now.pages ≡ pages_of n
+        → OnOk result (kept_in (D.seen (disk_of roots.new)) (Some (record { levels = levels_at.now; labels = labels_at.now }))
+        ≡ Some (planes_of_bytes n levels.now labels.now)) }
 {
     write_plane(roots, levels_at.pages(), levels)?;
     write_plane(roots, labels_at.pages(), labels)

@@ -19,8 +19,9 @@ pub fn stale<D: Disk>(tree: &Tree<D>, corner: Corner) -> bool
     ensures value { result ≡ is_listed corner (stale_in (root_of tree.now)) }
 
     // Of a present tile that isn't stale a valid labelling is kept.
-    ensures kept { D.honest (disk_of tree.now) → (s : Stored) → IsAt D.Disk tree.now s → KeepsRight s
-        → Contains (corners_of_stored s.tiles) corner → result ≡ false → IsFresh s corner }
+    ensures kept { D.honest (disk_of tree.now) → (s : Stored) → IsAt D.Disk tree.now s
+        → KeepsRight s → Contains (corners_of_stored s.tiles) corner → result ≡ false
+        → IsFresh s corner }
 {
     is_stale(tree.current().entries(), corner)
 }

@@ -35,12 +35,14 @@ pub fn step<D: Disk>(
     at: Option<Corner>,
     labelled: Option<&Labelled>,
 ) -> Result<Option<Corner>, Refusal>
-    ensures stepped { has_failed tree.old ≡ false → HasStepped D.Disk (λ m. IfSome at (λ c. IfSome labelled.entry (λ l. IsFlooded m c l.now))) tree.old tree.new result }
+    ensures stepped { has_failed tree.old ≡ false
+        → HasStepped D.Disk (λ m. IfSome at (λ c. IfSome labelled.entry (λ l. IsFlooded m c l.now))) tree.old tree.new result }
 
     ensures clean { has_failed tree.new ≡ false → IsClean tree.new }
 
     // It writes two planes with what lists their pages, a root and two gates at most, on any disk.
-    ensures writes { D.writes (disk_of tree.new) ≤ D.writes (disk_of tree.old) + (2 * plane_pages_of (format_of (root_of tree.old)) + 3) }
+    ensures writes { D.writes (disk_of tree.new) ≤ D.writes (disk_of tree.old)
+        + (2 * plane_pages_of (format_of (root_of tree.old)) + 3) }
 
     // A tree that failed makes no call of the disk, and stays failed.
     ensures failed { has_failed tree.old ≡ true → (result ≡ Err Failed) × (tree.new ≡ tree.old) }
@@ -70,7 +72,8 @@ fn labelling_of<'a>(
     side: Side,
     corner: Corner,
 ) -> Option<&'a Labelled>
-    ensures { IfSome result (λ l. (at ≡ Some corner) × (labelled.entry ≡ Some l) × (l.now.side ≡ side)) }
+    ensures { IfSome result (λ l. (at ≡ Some corner) × (labelled.entry ≡ Some l)
+        × (l.now.side ≡ side)) }
 {
     let labelled = labelled?;
     if at == Some(corner) && labelled.side() == side {
@@ -105,15 +108,21 @@ fn stage_planes<D: Disk>(
     requires side { IfSome labelled (λ l. l.now.side ≡ (root_of tree.old).side) }
     ensures uncommitted { CommitsNothing D.Disk tree.old tree.new result }
     ensures refused { IfErr result (λ r. (r ≡ Device) ⊎ (r ≡ NoMemory)) }
-    ensures no_memory { IsErrOf result NoMemory → (has_failed tree.new ≡ false) × (page_map_of tree.new ≡ page_map_of tree.old) × (D.writes (disk_of tree.new) ≡ D.writes (disk_of tree.old)) }
+    ensures no_memory { IsErrOf result NoMemory
+        → (has_failed tree.new ≡ false) × (page_map_of tree.new ≡ page_map_of tree.old)
+        × (D.writes (disk_of tree.new) ≡ D.writes (disk_of tree.old)) }
     ensures sinks { sinks_of tree.new ≡ sinks_of tree.old }
-    ensures writes { D.writes (disk_of tree.new) ≤ D.writes (disk_of tree.old) + (2 * plane_pages_of (format_of (root_of tree.old)) + 1) }
+    ensures writes { D.writes (disk_of tree.new) ≤ D.writes (disk_of tree.old)
+        + (2 * plane_pages_of (format_of (root_of tree.old)) + 1) }
 
     // .. and so much with the commit.
-    ensures few { OnOk result (D.writes (disk_of tree.new) + records_due tree.new + (if has_begun tree.new then 2 else 3) ≤ D.writes (disk_of tree.old) + (2 * plane_pages_of (format_of (root_of tree.old)) + 3)) }
-    ensures staged { D.honest (disk_of tree.new) → (s : Stored) → IsAt D.Disk tree.old s → IsReadable D.Disk tree.old
+    ensures few { OnOk result (D.writes (disk_of tree.new) + records_due tree.new + (if has_begun tree.new then 2 else 3)
+        ≤ D.writes (disk_of tree.old) + (2 * plane_pages_of (format_of (root_of tree.old)) + 3)) }
+    ensures staged { D.honest (disk_of tree.new) → (s : Stored) → IsAt D.Disk tree.old s
+        → IsReadable D.Disk tree.old
         → IfSome labelled.entry (λ l. IsFlooded (mosaic_of D.Disk tree.old) corner l.now)
-        → OnOk result ((kept : KeptPages) × AreRight (mosaic_of D.Disk tree.old) corner kept × (staged_in D.Disk tree.new ≡ with_kept corner kept (staged_in D.Disk tree.old))) }
+        → OnOk result ((kept : KeptPages) × AreRight (mosaic_of D.Disk tree.old) corner kept
+        × (staged_in D.Disk tree.new ≡ with_kept corner kept (staged_in D.Disk tree.old))) }
 {
     let planes = tile_planes(alloc, tree, corner, labelled)?;
     bytes_in_range(&planes.levels);
@@ -132,13 +141,16 @@ fn tile_planes<D: Disk>(
     requires present { Contains (corners_of tree.old) corner }
     requires side { IfSome labelled (λ l. l.now.side ≡ (root_of tree.old).side) }
     ensures reads { HasOnlyRead D.Disk tree.old tree.new }
-    ensures device { IsErrOf result Device → HasRisen (D.failures (disk_of tree.old)) (D.failures (disk_of tree.new)) }
+    ensures device { IsErrOf result Device
+        → HasRisen (D.failures (disk_of tree.old)) (D.failures (disk_of tree.new)) }
     ensures failed { IsErrOf result Device → has_failed tree.new ≡ true }
     ensures works { OnOk result (has_failed tree.new ≡ false) }
-    ensures refusal { IfErr result (λ r. (r ≡ Device) ⊎ ((r ≡ NoMemory) × (has_failed tree.new ≡ false))) }
+    ensures refusal { IfErr result (λ r. (r ≡ Device)
+        ⊎ ((r ≡ NoMemory) × (has_failed tree.new ≡ false))) }
     ensures levels { IfOk result (λ planes. vec_len planes.levels ≡ 2 * ((root_of tree.old).side * (root_of tree.old).side)) }
     ensures labels { IfOk result (λ planes. vec_len planes.labels ≡ 2 * ((root_of tree.old).side * (root_of tree.old).side)) }
-    ensures right { IsReadable D.Disk tree.new → IfSome labelled.entry (λ l. IsFlooded (mosaic_of D.Disk tree.old) corner l.now)
+    ensures right { IsReadable D.Disk tree.new
+        → IfSome labelled.entry (λ l. IsFlooded (mosaic_of D.Disk tree.old) corner l.now)
         → IfOk result (λ planes. AreKeptOf (mosaic_of D.Disk tree.old) corner planes.levels.items planes.labels.items) }
 {
     match labelled {

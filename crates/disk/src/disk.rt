@@ -109,5 +109,6 @@ pub trait Disk {
         → honest disk → t ≤ moment disk → may disk c → since disk t c };
 
     /// Since the present moment there is no other.
-    ghost only_now: { (disk : Self) (c : Image) → honest disk → since disk (moment disk) c → may disk c };
+    ghost only_now: { (disk : Self) (c : Image) → honest disk → since disk (moment disk) c
+        → may disk c };
 }

@@ -77,7 +77,8 @@ impl<D: Disk, F: Faults> FaultyDisk<D, F> {
         ensures due { result ≡ F.is_due (faults_of self.old) call }
         ensures later { faults_of self.new ≡ F.later (faults_of self.old) call }
         ensures inner { inner_of self.new ≡ inner_of self.old }
-        ensures refused { result ≡ true → all_failures D.Disk self.new ≡ counted (all_failures D.Disk self.old) }
+        ensures refused { result ≡ true
+            → all_failures D.Disk self.new ≡ counted (all_failures D.Disk self.old) }
         ensures passed { result ≡ false → self.new.refused ≡ self.old.refused }
         ensures refused_writes { self.new.refused_writes ≡ self.old.refused_writes }
     {
@@ -124,9 +125,12 @@ impl<D: Disk, F: Faults> Disk for FaultyDisk<D, F> {
         ensures failures { CountsFault (all_failures D.Disk self.old) (all_failures D.Disk self.new) result }
         ensures writes { all_writes D.Disk self.new ≡ all_writes D.Disk self.old }
         ensures honest { D.honest (inner_of self.new) → D.honest (inner_of self.old) }
-        ensures read { D.honest (inner_of self.new) → OnOk result (into.new ≡ D.seen (inner_of self.old) s) }
-        ensures seen { D.honest (inner_of self.new) → D.seen (inner_of self.new) ≡ D.seen (inner_of self.old) }
-        ensures may { D.honest (inner_of self.new) → NoneNew (D.may (inner_of self.old)) (D.may (inner_of self.new)) }
+        ensures read { D.honest (inner_of self.new)
+            → OnOk result (into.new ≡ D.seen (inner_of self.old) s) }
+        ensures seen { D.honest (inner_of self.new)
+            → D.seen (inner_of self.new) ≡ D.seen (inner_of self.old) }
+        ensures may { D.honest (inner_of self.new)
+            → NoneNew (D.may (inner_of self.old)) (D.may (inner_of self.new)) }
         ensures time { D.honest (inner_of self.new)
             → Elapses (D.moment (inner_of self.old)) (D.moment (inner_of self.new))
             (D.since (inner_of self.old)) (D.since (inner_of self.new)) Nothing }
@@ -137,7 +141,8 @@ impl<D: Disk, F: Faults> Disk for FaultyDisk<D, F> {
             → CountsFault (D.failures (inner_of self.old)) (D.failures (inner_of self.new)) result }
         ensures passed_writes { D.writes (inner_of self.new) ≡ D.writes (inner_of self.old) }
         ensures fault { F.is_due (faults_of self.old) Read ≡ true → IsErr result }
-        ensures untouched { F.is_due (faults_of self.old) Read ≡ true → inner_of self.new ≡ inner_of self.old }
+        ensures untouched { F.is_due (faults_of self.old) Read ≡ true
+            → inner_of self.new ≡ inner_of self.old }
     {
         if self.is_refused(CallKind::Read) {
             return Err(Fault);
@@ -151,14 +156,14 @@ impl<D: Disk, F: Faults> Disk for FaultyDisk<D, F> {
         ensures failures { CountsFault (all_failures D.Disk self.old) (all_failures D.Disk self.new) result }
         ensures writes { all_writes D.Disk self.new ≡ counted (all_writes D.Disk self.old) }
         ensures honest { D.honest (inner_of self.new) → D.honest (inner_of self.old) }
-        ensures written { D.honest (inner_of self.new) → OnOk result (D.seen (inner_of self.new) s ≡ from.now) }
+        ensures written { D.honest (inner_of self.new)
+            → OnOk result (D.seen (inner_of self.new) s ≡ from.now) }
         ensures others { D.honest (inner_of self.new)
             → SameBut s (D.seen (inner_of self.old)) (D.seen (inner_of self.new)) }
         ensures may { D.honest (inner_of self.new)
             → NoneNew (TornAt s (D.may (inner_of self.old))) (D.may (inner_of self.new)) }
         ensures time { D.honest (inner_of self.new)
-            → Elapses (D.moment (inner_of self.old)) (D.moment (inner_of self.new))
-            (D.since (inner_of self.old)) (D.since (inner_of self.new)) (TornAt s (D.may (inner_of self.old))) }
+            → Elapses (D.moment (inner_of self.old)) (D.moment (inner_of self.new)) (D.since (inner_of self.old)) (D.since (inner_of self.new)) (TornAt s (D.may (inner_of self.old))) }
 
         // A call that isn't due to fail has the answer of the disk behind it. One that is due does nothing there.
         ensures later { faults_of self.new ≡ F.later (faults_of self.old) Write }
@@ -167,7 +172,8 @@ impl<D: Disk, F: Faults> Disk for FaultyDisk<D, F> {
         ensures passed_writes { F.is_due (faults_of self.old) Write ≡ false
             → D.writes (inner_of self.new) ≡ counted (D.writes (inner_of self.old)) }
         ensures fault { F.is_due (faults_of self.old) Write ≡ true → IsErr result }
-        ensures untouched { F.is_due (faults_of self.old) Write ≡ true → inner_of self.new ≡ inner_of self.old }
+        ensures untouched { F.is_due (faults_of self.old) Write ≡ true
+            → inner_of self.new ≡ inner_of self.old }
     {
         if self.is_refused(CallKind::Write) {
             self.refused_writes = self.refused_writes.saturating_add(1);
@@ -183,7 +189,8 @@ impl<D: Disk, F: Faults> Disk for FaultyDisk<D, F> {
         ensures honest { D.honest (inner_of self.new) → D.honest (inner_of self.old) }
         ensures durable { D.honest (inner_of self.new)
             → OnOk result (Only (D.seen (inner_of self.old)) (D.may (inner_of self.new))) }
-        ensures may { D.honest (inner_of self.new) → NoneNew (D.may (inner_of self.old)) (D.may (inner_of self.new)) }
+        ensures may { D.honest (inner_of self.new)
+            → NoneNew (D.may (inner_of self.old)) (D.may (inner_of self.new)) }
         ensures time { D.honest (inner_of self.new)
             → Elapses (D.moment (inner_of self.old)) (D.moment (inner_of self.new))
             (D.since (inner_of self.old)) (D.since (inner_of self.new)) Nothing }
@@ -194,7 +201,8 @@ impl<D: Disk, F: Faults> Disk for FaultyDisk<D, F> {
             → CountsFault (D.failures (inner_of self.old)) (D.failures (inner_of self.new)) result }
         ensures passed_writes { D.writes (inner_of self.new) ≡ D.writes (inner_of self.old) }
         ensures fault { F.is_due (faults_of self.old) Sync ≡ true → IsErr result }
-        ensures untouched { F.is_due (faults_of self.old) Sync ≡ true → inner_of self.new ≡ inner_of self.old }
+        ensures untouched { F.is_due (faults_of self.old) Sync ≡ true
+            → inner_of self.new ≡ inner_of self.old }
     {
         if self.is_refused(CallKind::Sync) {
             return Err(Fault);

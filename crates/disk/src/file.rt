@@ -74,7 +74,8 @@ impl<W: World> FileDisk<W> {
         ensures calls { IfOk result (λ disk. calls_of disk ≡ []) }
 
         // At most one sector was written before, with the bytes that it had.
-        ensures opening { IfOk result (λ disk. (found : Option ℕ) × IsOpening found (opening_of disk)) }
+        ensures opening { IfOk result (λ disk. (found : Option ℕ)
+            × IsOpening found (opening_of disk)) }
         ensures failures { IfOk result (λ disk. failures_of disk ≡ 0) }
         ensures writes { IfOk result (λ disk. writes_of disk ≡ 0) }
     {
@@ -226,9 +227,12 @@ impl<W: World> Disk for FileDisk<W> {
         ensures failures { CountsFault (failures_of self.old) (failures_of self.new) result }
         ensures writes { writes_of self.new ≡ writes_of self.old }
         ensures honest { IsHonestFor W.image self.new → IsHonestFor W.image self.old }
-        ensures read { IsHonestFor W.image self.new → OnOk result (into.new ≡ seen_for W.image self.old s) }
-        ensures seen { IsHonestFor W.image self.new → seen_for W.image self.new ≡ seen_for W.image self.old }
-        ensures may { IsHonestFor W.image self.new → NoneNew (LeftFor W.image self.old) (LeftFor W.image self.new) }
+        ensures read { IsHonestFor W.image self.new
+            → OnOk result (into.new ≡ seen_for W.image self.old s) }
+        ensures seen { IsHonestFor W.image self.new
+            → seen_for W.image self.new ≡ seen_for W.image self.old }
+        ensures may { IsHonestFor W.image self.new
+            → NoneNew (LeftFor W.image self.old) (LeftFor W.image self.new) }
         ensures time { IsHonestFor W.image self.new
             → Elapses (moment_of self.old) (moment_of self.new)
             (LeftSinceFor W.image self.old) (LeftSinceFor W.image self.new) Nothing }
@@ -246,14 +250,14 @@ impl<W: World> Disk for FileDisk<W> {
         ensures failures { CountsFault (failures_of self.old) (failures_of self.new) result }
         ensures writes { writes_of self.new ≡ counted (writes_of self.old) }
         ensures honest { IsHonestFor W.image self.new → IsHonestFor W.image self.old }
-        ensures written { IsHonestFor W.image self.new → OnOk result (seen_for W.image self.new s ≡ from.now) }
+        ensures written { IsHonestFor W.image self.new
+            → OnOk result (seen_for W.image self.new s ≡ from.now) }
         ensures others { IsHonestFor W.image self.new
             → SameBut s (seen_for W.image self.old) (seen_for W.image self.new) }
         ensures may { IsHonestFor W.image self.new
             → NoneNew (TornAt s (LeftFor W.image self.old)) (LeftFor W.image self.new) }
         ensures time { IsHonestFor W.image self.new
-            → Elapses (moment_of self.old) (moment_of self.new)
-            (LeftSinceFor W.image self.old) (LeftSinceFor W.image self.new) (TornAt s (LeftFor W.image self.old)) }
+            → Elapses (moment_of self.old) (moment_of self.new) (LeftSinceFor W.image self.old) (LeftSinceFor W.image self.new) (TornAt s (LeftFor W.image self.old)) }
 
         // The record gains this call with its own answer, behind that which notes the sector, and no other.
         ensures recorded { calls_of self.new ≡ writing s (is_ok result) from.now (calls_of self.old) }
@@ -270,7 +274,8 @@ impl<W: World> Disk for FileDisk<W> {
         ensures honest { IsHonestFor W.image self.new → IsHonestFor W.image self.old }
         ensures durable { IsHonestFor W.image self.new
             → OnOk result (Only (seen_for W.image self.old) (LeftFor W.image self.new)) }
-        ensures may { IsHonestFor W.image self.new → NoneNew (LeftFor W.image self.old) (LeftFor W.image self.new) }
+        ensures may { IsHonestFor W.image self.new
+            → NoneNew (LeftFor W.image self.old) (LeftFor W.image self.new) }
         ensures time { IsHonestFor W.image self.new
             → Elapses (moment_of self.old) (moment_of self.new)
             (LeftSinceFor W.image self.old) (LeftSinceFor W.image self.new) Nothing }

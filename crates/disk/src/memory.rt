@@ -78,7 +78,8 @@ impl MemDisk {
         ensures sectors { sectors_of self.new ≡ sectors_of self.old }
         ensures failures { failures_of self.new ≡ failures_of self.old }
         ensures writes { writes_of self.new ≡ writes_of self.old }
-        ensures left { OnOk result ((state_of self.new).seen s ≡ left_by torn (state_of self.old) s) }
+        ensures left { OnOk result ((state_of self.new).seen s
+            ≡ left_by torn (state_of self.old) s) }
         ensures settled { OnOk result ((state_of self.new).unsettled s ≡ false) }
         ensures others { SameBut s (state_of self.old).seen (state_of self.new).seen }
         ensures state { OnOk result (state_of self.new ≡ after_stop_at s torn (state_of self.old)) }
@@ -174,8 +175,7 @@ impl Disk for MemDisk {
         ensures written { OnOk result ((state_of self.new).seen s ≡ from.now) }
         ensures others { SameBut s (state_of self.old).seen (state_of self.new).seen }
         ensures may { NoneNew (TornAt s (MayLeave (state_of self.old))) (MayLeave (state_of self.new)) }
-        ensures time { Elapses (moment_of self.old) (moment_of self.new) (since_of self.old) (since_of self.new)
-            (TornAt s (MayLeave (state_of self.old))) }
+        ensures time { Elapses (moment_of self.old) (moment_of self.new) (since_of self.old) (since_of self.new) (TornAt s (MayLeave (state_of self.old))) }
         ensures state { OnOk result (state_of self.new ≡ after_write s from.now (state_of self.old)) }
         ensures refused { OnErr result (calls_of self.new ≡ calls_of self.old) }
     {

@@ -15,7 +15,8 @@ pub fn write_through<D: Disk>(disk: &mut D, s: u32, bytes: &[u8; 4096]) -> Resul
     ensures honest { D.honest disk.new → D.honest disk.old }
     ensures durable { D.honest disk.new → OnOk result (Only (D.seen disk.new) (D.may disk.new)) }
     ensures written { D.honest disk.new → OnOk result (D.seen disk.new s ≡ bytes.now) }
-    ensures others { D.honest disk.new → OnOk result (SameBut s (D.seen disk.old) (D.seen disk.new)) }
+    ensures others { D.honest disk.new
+        → OnOk result (SameBut s (D.seen disk.old) (D.seen disk.new)) }
     ensures any_moment { D.honest disk.new
         → LeavesOnly D.Disk disk.old disk.new (TornAt s (D.may disk.old)) }
 {

@@ -21,7 +21,8 @@ impl BoxPoints {
     /// Those of the box, where its corners are in order and fewer than a side's points apart each way.
     pub(crate) fn new(side: Side, from: Point, to: Point) -> Option<BoxPoints>
         ensures none { IfNone result (is_box side from to ≡ false) }
-        ensures some { IfSome result (λ points. (is_box side from to ≡ true) × ArePointsOf from to points) }
+        ensures some { IfSome result (λ points. (is_box side from to ≡ true)
+            × ArePointsOf from to points) }
     {
         let rows = span(side, from.y, to.y)?;
         let columns = span(side, from.x, to.x)?;
@@ -62,8 +63,11 @@ fn along(first: i32, steps: u64) -> i32
 
 // How many samples there are from the one to the other, ends included, if they are in order and at most a side.
 fn span(side: Side, first: i32, last: i32) -> Option<u32>
-    ensures none { IfNone result ((int_le first last && int_lt (last -ℤ first) (pos side)) ≡ false) }
-    ensures some { IfSome result (λ k. ((int_le first last && int_lt (last -ℤ first) (pos side)) ≡ true) × (last +ℤ pos 1 ≡ first +ℤ pos k) × (0 < k)) }
+    ensures none { IfNone result ((int_le first last && int_lt (last -ℤ first) (pos side))
+        ≡ false) }
+    ensures some { IfSome result (λ k. ((int_le first last && int_lt (last -ℤ first) (pos side))
+        ≡ true)
+        × (last +ℤ pos 1 ≡ first +ℤ pos k) × (0 < k)) }
 {
     let apart = i64::from(last) - i64::from(first);
     if apart < 0 || i64::from(side.samples()) <= apart {

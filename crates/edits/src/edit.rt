@@ -68,10 +68,14 @@ pub fn edit_of<'a, S: Samples>(
     capacity: u32,
     command: &'a Command,
 ) -> Result<Edit<'a>, Refusal>
-    ensures made { S.is_honest samples.new → IfOk result (λ edit. effect capacity (S.mosaic samples.old) command.now ≡ Ok (edit_made edit (S.mosaic samples.old))) }
+    ensures made { S.is_honest samples.new
+        → IfOk result (λ edit. effect capacity (S.mosaic samples.old) command.now
+        ≡ Ok (edit_made edit (S.mosaic samples.old))) }
 
     // A refusal of the command's own tests is the one that the effect gives.
-    ensures refused { S.is_honest samples.new → IfErr result (λ r. IsTrue (is_own command.now r) → effect capacity (S.mosaic samples.old) command.now ≡ Err r) }
+    ensures refused { S.is_honest samples.new
+        → IfErr result (λ r. IsTrue (is_own command.now r)
+        → effect capacity (S.mosaic samples.old) command.now ≡ Err r) }
 
     // Any other is of a read.
     ensures causes { IfErr result (λ r. IsTrue (may_end command.now r)) }
@@ -86,7 +90,10 @@ pub fn edit_of<'a, S: Samples>(
 
     // The points of a burn or a wall, and a sink, have the heights that are told.
     ensures heights { S.is_honest samples.new → IfOk result (TellsHeights (S.mosaic samples.old)) }
-    ensures stale { S.is_honest samples.new → IfOk result (λ edit. (p : Corner) → goes_stale_by (S.side_of samples.old) (S.corners samples.old) edit p ≡ goes_stale (S.mosaic samples.old) command.now p) }
+    ensures stale { S.is_honest samples.new
+        → IfOk result (λ edit. (p : Corner)
+        → goes_stale_by (S.side_of samples.old) (S.corners samples.old) edit p
+        ≡ goes_stale (S.mosaic samples.old) command.now p) }
     ensures reads { OnlyReads S.Samples samples.old samples.new (reads_of result) }
 {
     match command {

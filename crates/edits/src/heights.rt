@@ -23,12 +23,17 @@ pub(crate) fn lowered<S: Samples>(
     depth: i32,
     points: &ArrayVec<Point, 64>,
 ) -> Result<ArrayVec<NewHeight, 64>, Refusal>
-    ensures made { (capacity : ℕ) → S.is_honest samples.new → IfOk result (λ heights. effect capacity (S.mosaic samples.old) (Burn depth points.now) ≡ Ok (with_heights heights.items (S.mosaic samples.old))) }
-    ensures refused { (capacity : ℕ) → S.is_honest samples.new → IfErr result (λ r. IsTrue (is_own (Burn depth points.now) r) → effect capacity (S.mosaic samples.old) (Burn depth points.now) ≡ Err r) }
+    ensures made { (capacity : ℕ) → S.is_honest samples.new
+        → IfOk result (λ heights. effect capacity (S.mosaic samples.old) (Burn depth points.now)
+        ≡ Ok (with_heights heights.items (S.mosaic samples.old))) }
+    ensures refused { (capacity : ℕ) → S.is_honest samples.new
+        → IfErr result (λ r. IsTrue (is_own (Burn depth points.now) r)
+        → effect capacity (S.mosaic samples.old) (Burn depth points.now) ≡ Err r) }
     ensures causes { IfErr result (λ r. IsTrue (may_end (Burn depth points.now) r)) }
     ensures memory { IfErr result (λ r. r ≢ NoMemory) }
     ensures points { IfOk result (λ heights. points_of heights.items ≡ points.now.items) }
-    ensures earlier { S.is_honest samples.new → IfOk result (λ heights. AreEarlier heights.items (S.mosaic samples.old)) }
+    ensures earlier { S.is_honest samples.new
+        → IfOk result (λ heights. AreEarlier heights.items (S.mosaic samples.old)) }
     ensures reads { OnlyReads S.Samples samples.old samples.new (reads_of result) }
 {
     if depth < 1 || DEEPEST < depth {
@@ -43,12 +48,17 @@ pub(crate) fn raised<S: Samples>(
     height: i32,
     points: &ArrayVec<Point, 64>,
 ) -> Result<ArrayVec<NewHeight, 64>, Refusal>
-    ensures made { (capacity : ℕ) → S.is_honest samples.new → IfOk result (λ heights. effect capacity (S.mosaic samples.old) (Wall height points.now) ≡ Ok (with_heights heights.items (S.mosaic samples.old))) }
-    ensures refused { (capacity : ℕ) → S.is_honest samples.new → IfErr result (λ r. IsTrue (is_own (Wall height points.now) r) → effect capacity (S.mosaic samples.old) (Wall height points.now) ≡ Err r) }
+    ensures made { (capacity : ℕ) → S.is_honest samples.new
+        → IfOk result (λ heights. effect capacity (S.mosaic samples.old) (Wall height points.now)
+        ≡ Ok (with_heights heights.items (S.mosaic samples.old))) }
+    ensures refused { (capacity : ℕ) → S.is_honest samples.new
+        → IfErr result (λ r. IsTrue (is_own (Wall height points.now) r)
+        → effect capacity (S.mosaic samples.old) (Wall height points.now) ≡ Err r) }
     ensures causes { IfErr result (λ r. IsTrue (may_end (Wall height points.now) r)) }
     ensures memory { IfErr result (λ r. r ≢ NoMemory) }
     ensures points { IfOk result (λ heights. points_of heights.items ≡ points.now.items) }
-    ensures earlier { S.is_honest samples.new → IfOk result (λ heights. AreEarlier heights.items (S.mosaic samples.old)) }
+    ensures earlier { S.is_honest samples.new
+        → IfOk result (λ heights. AreEarlier heights.items (S.mosaic samples.old)) }
     ensures reads { OnlyReads S.Samples samples.old samples.new (reads_of result) }
 {
     if height < LOWEST || HIGHEST < height {
@@ -63,12 +73,17 @@ fn new_heights<S: Samples>(
     points: &ArrayVec<Point, 64>,
     point_edit: PointEdit,
 ) -> Result<ArrayVec<NewHeight, 64>, Refusal>
-    ensures made { S.is_honest samples.new → IfOk result (λ heights. edit_points point_edit (S.mosaic samples.old) points.now.items ≡ Ok (with_heights heights.items (S.mosaic samples.old))) }
-    ensures refused { S.is_honest samples.new → IfErr result (λ r. IsTrue (refuses point_edit r) → edit_points point_edit (S.mosaic samples.old) points.now.items ≡ Err r) }
+    ensures made { S.is_honest samples.new
+        → IfOk result (λ heights. edit_points point_edit (S.mosaic samples.old) points.now.items
+        ≡ Ok (with_heights heights.items (S.mosaic samples.old))) }
+    ensures refused { S.is_honest samples.new
+        → IfErr result (λ r. IsTrue (refuses point_edit r)
+        → edit_points point_edit (S.mosaic samples.old) points.now.items ≡ Err r) }
     ensures causes { IfErr result (λ r. IsTrue (refuses point_edit r || ends_any r)) }
     ensures memory { IfErr result (λ r. r ≢ NoMemory) }
     ensures points { IfOk result (λ heights. points_of heights.items ≡ points.now.items) }
-    ensures earlier { S.is_honest samples.new → IfOk result (λ heights. AreEarlier heights.items (S.mosaic samples.old)) }
+    ensures earlier { S.is_honest samples.new
+        → IfOk result (λ heights. AreEarlier heights.items (S.mosaic samples.old)) }
     ensures reads { OnlyReads S.Samples samples.old samples.new (reads_of result) }
 {
     let points = points.as_slice();
@@ -90,8 +105,10 @@ fn new_heights<S: Samples>(
 
 /// The height of the point, which has to have one.
 pub(crate) fn ground<S: Samples>(samples: &mut S, point: Point) -> Result<i16, Refusal>
-    ensures metres { S.is_honest samples.new → IfOk result (λ h. height_of (S.mosaic samples.old) point ≡ height_is.At h) }
-    ensures refused { S.is_honest samples.new → IfErr result (λ r. fault_of (height_of (S.mosaic samples.old) point) r) }
+    ensures metres { S.is_honest samples.new
+        → IfOk result (λ h. height_of (S.mosaic samples.old) point ≡ height_is.At h) }
+    ensures refused { S.is_honest samples.new
+        → IfErr result (λ r. fault_of (height_of (S.mosaic samples.old) point) r) }
     ensures causes { IfErr result (λ r. IsTrue (is_groundless r || ends_any r)) }
     ensures memory { IfErr result (λ r. r ≢ NoMemory) }
     ensures reads { OnlyReads S.Samples samples.old samples.new (reads_of result) }

@@ -23,8 +23,11 @@ pub(crate) fn changes_of<S: Samples>(
     edit: &Edit,
 ) -> Result<Vec<Change>, Refusal>
     requires { FitsIn (S.side_of samples.old) (S.corners samples.old) (S.sinks_of samples.old) edit.now }
-    ensures changes { S.is_honest samples.new → IfOk result (λ changes. all_changed changes.items (S.mosaic samples.old) ≡ edit_made edit.now (S.mosaic samples.old)) }
-    ensures once { S.is_honest samples.new → IfOk result (λ changes. AreSetOnce (S.mosaic samples.old) edit.now changes.items) }
+    ensures changes { S.is_honest samples.new
+        → IfOk result (λ changes. all_changed changes.items (S.mosaic samples.old)
+        ≡ edit_made edit.now (S.mosaic samples.old)) }
+    ensures once { S.is_honest samples.new
+        → IfOk result (λ changes. AreSetOnce (S.mosaic samples.old) edit.now changes.items) }
     ensures causes { IfErr result (λ r. IsTrue (ends_any r)) }
     ensures fits { IfOk result (λ changes. All (CanBeMade (S.side_of samples.old) (S.corners samples.old) (S.sinks_of samples.old)) changes.items) }
     ensures few { IfOk result (λ changes. AreFewOf edit.now (vec_len changes)) }
@@ -72,8 +75,11 @@ fn put_heights<S: Samples>(
     samples: &S,
     heights: &[NewHeight],
 ) -> Result<Vec<Change>, Refusal>
-    ensures changes { S.is_honest samples.now → IfOk result (λ changes. all_changed changes.items (S.mosaic samples.now) ≡ with_heights heights.now (S.mosaic samples.now)) }
-    ensures once { is_repeated (points_of heights.now) ≡ false → IfOk result (λ changes. SetOnce (S.side_of samples.now) (is_named (points_of heights.now)) changes.items) }
+    ensures changes { S.is_honest samples.now
+        → IfOk result (λ changes. all_changed changes.items (S.mosaic samples.now)
+        ≡ with_heights heights.now (S.mosaic samples.now)) }
+    ensures once { is_repeated (points_of heights.now) ≡ false
+        → IfOk result (λ changes. SetOnce (S.side_of samples.now) (is_named (points_of heights.now)) changes.items) }
     ensures refusal { IfErr result (λ r. r ≡ NoMemory) }
     ensures fits { IfOk result (λ changes. All (CanBeSet (S.side_of samples.now) (S.corners samples.now)) changes.items) }
     ensures few { IfOk result (λ changes. vec_len changes ≤ 4 * length heights.now) }
@@ -94,7 +100,8 @@ fn put_in_voids<S: Samples>(
     sample: i16,
 ) -> Result<Vec<Change>, Refusal>
     requires { IsTrue (is_box (S.side_of samples.old) from to) }
-    ensures sets { S.is_honest samples.new → IfOk result (λ changes. Sets (S.side_of samples.old) (S.corners samples.old) (λ p. is_in_box from to p && is_void_at (S.mosaic samples.old) p) sample [] changes.items) }
+    ensures sets { S.is_honest samples.new
+        → IfOk result (λ changes. Sets (S.side_of samples.old) (S.corners samples.old) (λ p. is_in_box from to p && is_void_at (S.mosaic samples.old) p) sample [] changes.items) }
     ensures causes { IfErr result (λ r. IsTrue (ends_any r)) }
     ensures fits { IfOk result (λ changes. All (CanBeSet (S.side_of samples.old) (S.corners samples.old)) changes.items) }
     ensures reads { OnlyReads S.Samples samples.old samples.new (reads_of result) }
@@ -116,9 +123,11 @@ fn put_if_void<S: Samples>(
     sample: i16,
     changes: &mut Vec<Change>,
 ) -> Result<(), Refusal>
-    ensures sets { S.is_honest samples.new → OnOk result (Sets (S.side_of samples.old) (S.corners samples.old) (λ q. same_point q point && is_void_at (S.mosaic samples.old) q) sample changes.old.items changes.new.items) }
+    ensures sets { S.is_honest samples.new
+        → OnOk result (Sets (S.side_of samples.old) (S.corners samples.old) (λ q. same_point q point && is_void_at (S.mosaic samples.old) q) sample changes.old.items changes.new.items) }
     ensures causes { IfErr result (λ r. IsTrue (ends_any r)) }
-    ensures fits { OnOk result (All (CanBeSet (S.side_of samples.old) (S.corners samples.old)) changes.old.items → All (CanBeSet (S.side_of samples.old) (S.corners samples.old)) changes.new.items) }
+    ensures fits { OnOk result (All (CanBeSet (S.side_of samples.old) (S.corners samples.old)) changes.old.items
+        → All (CanBeSet (S.side_of samples.old) (S.corners samples.old)) changes.new.items) }
     ensures reads { OnlyReads S.Samples samples.old samples.new (reads_of result) }
 {
     match height(samples, point)? {
@@ -136,7 +145,8 @@ fn put<S: Samples>(
 ) -> Result<(), Refusal>
     ensures sets { OnOk result (Sets (S.side_of samples.now) (S.corners samples.now) (λ q. same_point q point) sample changes.old.items changes.new.items) }
     ensures refusal { IfErr result (λ r. r ≡ NoMemory) }
-    ensures fits { OnOk result (All (CanBeSet (S.side_of samples.now) (S.corners samples.now)) changes.old.items → All (CanBeSet (S.side_of samples.now) (S.corners samples.now)) changes.new.items) }
+    ensures fits { OnOk result (All (CanBeSet (S.side_of samples.now) (S.corners samples.now)) changes.old.items
+        → All (CanBeSet (S.side_of samples.now) (S.corners samples.now)) changes.new.items) }
     ensures few { OnOk result (length changes.new.items ≤ length changes.old.items + 4) }
 {
     for place in places_of(samples, point).as_slice() {

@@ -33,8 +33,10 @@ pub(crate) fn places_of<S: Samples>(samples: &S, point: Point) -> ArrayVec<Place
 
 // The point's index in the corner's tile, where that is present and holds it.
 fn index_among<S: Samples>(samples: &S, corner: Corner, point: Point) -> Option<u32>
-    ensures held { IfSome result (λ e. Contains (S.corners samples.now) corner × IsIndexOf (S.side_of samples.now) corner point e) }
-    ensures none { IfNone result (Contains (S.corners samples.now) corner → Holds (S.side_of samples.now) corner point → ⊥) }
+    ensures held { IfSome result (λ e. Contains (S.corners samples.now) corner
+        × IsIndexOf (S.side_of samples.now) corner point e) }
+    ensures none { IfNone result (Contains (S.corners samples.now) corner
+        → Holds (S.side_of samples.now) corner point → ⊥) }
 {
     if !samples.present(corner) {
         return None;

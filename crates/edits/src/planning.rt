@@ -21,13 +21,18 @@ pub fn plan<S: Samples>(
     capacity: u32,
     command: &Command,
 ) -> Result<Vec<Change>, Refusal>
-    ensures changes { S.is_honest samples.new → IfOk result (λ changes. effect capacity (S.mosaic samples.old) command.now ≡ Ok (all_changed changes.items (S.mosaic samples.old))) }
+    ensures changes { S.is_honest samples.new
+        → IfOk result (λ changes. effect capacity (S.mosaic samples.old) command.now
+        ≡ Ok (all_changed changes.items (S.mosaic samples.old))) }
 
     // No sample is listed twice, and none but those that the command sets.
-    ensures once { S.is_honest samples.new → IfOk result (λ changes. SetsOnce (S.mosaic samples.old) command.now changes.items) }
+    ensures once { S.is_honest samples.new
+        → IfOk result (λ changes. SetsOnce (S.mosaic samples.old) command.now changes.items) }
 
     // A refusal of the command's own tests is the one that the effect gives.
-    ensures refused { S.is_honest samples.new → IfErr result (λ r. IsTrue (is_own command.now r) → effect capacity (S.mosaic samples.old) command.now ≡ Err r) }
+    ensures refused { S.is_honest samples.new
+        → IfErr result (λ r. IsTrue (is_own command.now r)
+        → effect capacity (S.mosaic samples.old) command.now ≡ Err r) }
 
     // Any other is of a read, or for want of memory.
     ensures causes { IfErr result (λ r. IsTrue (may_end command.now r)) }

@@ -26,7 +26,9 @@ impl PointEdit {
     // What the height becomes; TooDeep where that is below the lowest height.
     pub(crate) fn of(self, metres: i16) -> Result<i16, Refusal>
         ensures sample { IfOk result (λ s. s ≡ edited_metres self metres) }
-        ensures deep { metres ≢ void → MatchResult result (λ s. int_lt (metres -ℤ depth_of self) (negsuc 32766) ≡ false) (λ r. int_lt (metres -ℤ depth_of self) (negsuc 32766) ≡ true) }
+        ensures deep { metres ≢ void
+            → MatchResult result (λ s. int_lt (metres -ℤ depth_of self) (negsuc 32766) ≡ false) (λ r. int_lt (metres -ℤ depth_of self) (negsuc 32766)
+            ≡ true) }
         ensures refusal { IfErr result (λ r. (r ≡ TooDeep) × IsTrue (is_fault self r)) }
     {
         match self {

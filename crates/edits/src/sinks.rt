@@ -21,9 +21,13 @@ use lattice::{Height, MOST_SINKS, Point, Refusal, is_held};
 /// The height of the point, in metres, where it may be declared a sink: it has to be ground and no sink, and not as many may be
 /// declared as may be. The samples are only read.
 pub(crate) fn new_sink_height<S: Samples>(samples: &mut S, point: Point) -> Result<i16, Refusal>
-    ensures made { S.is_honest samples.new → OnOk result (sunk (S.mosaic samples.old) point ≡ Ok (with_sinks (with_point point (S.mosaic samples.old).sinks) (S.mosaic samples.old))) }
-    ensures height { S.is_honest samples.new → IfOk result (λ metres. height_of (S.mosaic samples.old) point ≡ At metres) }
-    ensures refused { S.is_honest samples.new → IfErr result (λ r. IsTrue (refuses_sink r) → sunk (S.mosaic samples.old) point ≡ Err r) }
+    ensures made { S.is_honest samples.new
+        → OnOk result (sunk (S.mosaic samples.old) point
+        ≡ Ok (with_sinks (with_point point (S.mosaic samples.old).sinks) (S.mosaic samples.old))) }
+    ensures height { S.is_honest samples.new
+        → IfOk result (λ metres. height_of (S.mosaic samples.old) point ≡ At metres) }
+    ensures refused { S.is_honest samples.new
+        → IfErr result (λ r. IsTrue (refuses_sink r) → sunk (S.mosaic samples.old) point ≡ Err r) }
     ensures fits { OnOk result (AreSinks (S.side_of samples.old) (with_point point (S.sinks_of samples.old))) }
 
     // Any other refusal is of a read.
@@ -50,9 +54,15 @@ pub(crate) fn old_sink_height<S: Samples>(
     samples: &mut S,
     point: Point,
 ) -> Result<Option<i16>, Refusal>
-    ensures made { S.is_honest samples.new → OnOk result (unsunk (S.mosaic samples.old) point ≡ Ok (with_sinks (without_point point (S.mosaic samples.old).sinks) (S.mosaic samples.old))) }
-    ensures height { S.is_honest samples.new → IfOk result (λ found. IfSome found (λ metres. height_of (S.mosaic samples.old) point ≡ At metres)) }
-    ensures refused { S.is_honest samples.new → IfErr result (λ r. IsTrue (is_own (Unsink point) r) → unsunk (S.mosaic samples.old) point ≡ Err r) }
+    ensures made { S.is_honest samples.new
+        → OnOk result (unsunk (S.mosaic samples.old) point
+        ≡ Ok (with_sinks (without_point point (S.mosaic samples.old).sinks) (S.mosaic samples.old))) }
+    ensures height { S.is_honest samples.new
+        → IfOk result (λ found. IfSome found (λ metres. height_of (S.mosaic samples.old) point
+        ≡ At metres)) }
+    ensures refused { S.is_honest samples.new
+        → IfErr result (λ r. IsTrue (is_own (Unsink point) r)
+        → unsunk (S.mosaic samples.old) point ≡ Err r) }
     ensures causes { IfErr result (λ r. IsTrue (may_end (Unsink point) r)) }
     ensures memory { IfErr result (λ r. r ≢ NoMemory) }
     ensures reads { OnlyReads S.Samples samples.old samples.new (reads_of result) }

@@ -25,9 +25,12 @@ pub fn can_import<S: Samples>(
     ensures room { OnOk result (length (S.corners samples.now) < capacity) }
 
     // Of whatever mosaic has this side and these tiles.
-    ensures accepted { (m : Mosaic) → m.side ≡ S.side_of samples.now → corners_of m ≡ S.corners samples.now
-        → OnOk result (effect capacity m (Import corner bytes.now) ≡ Ok (added (record { corner = corner; samples = samples_in bytes.now }) m)) }
-    ensures refused { (m : Mosaic) → m.side ≡ S.side_of samples.now → corners_of m ≡ S.corners samples.now
+    ensures accepted { (m : Mosaic) → m.side ≡ S.side_of samples.now
+        → corners_of m ≡ S.corners samples.now
+        → OnOk result (effect capacity m (Import corner bytes.now)
+        ≡ Ok (added (record { corner = corner; samples = samples_in bytes.now }) m)) }
+    ensures refused { (m : Mosaic) → m.side ≡ S.side_of samples.now
+        → corners_of m ≡ S.corners samples.now
         → IfErr result (λ r. effect capacity m (Import corner bytes.now) ≡ Err r) }
     ensures causes { IfErr result (λ r. IsTrue (is_own (Import corner bytes.now) r)) }
 {
@@ -46,8 +49,10 @@ pub fn can_import<S: Samples>(
 /// Whether a removal is accepted: else NoTile. No sample is read.
 pub fn can_remove<S: Samples>(samples: &S, corner: Corner) -> Result<(), Refusal>
     ensures present { OnOk result (Contains (S.corners samples.now) corner) }
-    ensures accepted { (capacity : ℕ) (m : Mosaic) → corners_of m ≡ S.corners samples.now → OnOk result (effect capacity m (Remove corner) ≡ Ok (without corner m)) }
-    ensures refused { (capacity : ℕ) (m : Mosaic) → corners_of m ≡ S.corners samples.now → IfErr result (λ r. effect capacity m (Remove corner) ≡ Err r) }
+    ensures accepted { (capacity : ℕ) (m : Mosaic) → corners_of m ≡ S.corners samples.now
+        → OnOk result (effect capacity m (Remove corner) ≡ Ok (without corner m)) }
+    ensures refused { (capacity : ℕ) (m : Mosaic) → corners_of m ≡ S.corners samples.now
+        → IfErr result (λ r. effect capacity m (Remove corner) ≡ Err r) }
     ensures causes { IfErr result (λ r. IsTrue (is_own (Remove corner) r)) }
 {
     if !samples.present(corner) {

@@ -26,14 +26,19 @@ pub(crate) fn tiles_to_patch<S: Samples>(
     to: Point,
     height: i32,
 ) -> Result<ArrayVec<Corner, 16>, Refusal>
-    ensures made { (capacity : ℕ) → S.is_honest samples.new → OnOk result (effect capacity (S.mosaic samples.old) (Patch from to height) ≡ Ok (patched from to height (S.mosaic samples.old))) }
-    ensures refused { (capacity : ℕ) → S.is_honest samples.new → IfErr result (λ r. IsTrue (is_own (Patch from to height) r) → effect capacity (S.mosaic samples.old) (Patch from to height) ≡ Err r) }
+    ensures made { (capacity : ℕ) → S.is_honest samples.new
+        → OnOk result (effect capacity (S.mosaic samples.old) (Patch from to height)
+        ≡ Ok (patched from to height (S.mosaic samples.old))) }
+    ensures refused { (capacity : ℕ) → S.is_honest samples.new
+        → IfErr result (λ r. IsTrue (is_own (Patch from to height) r)
+        → effect capacity (S.mosaic samples.old) (Patch from to height) ≡ Err r) }
     ensures causes { IfErr result (λ r. IsTrue (may_end (Patch from to height) r)) }
     ensures memory { IfErr result (λ r. r ≢ NoMemory) }
     ensures height { OnOk result (IsTrue (is_height height)) }
     ensures size { OnOk result (IsTrue (is_box (S.side_of samples.old) from to)) }
     ensures tiles { IfOk result (λ tiles. AreTiles (S.corners samples.old) tiles.items) }
-    ensures voids { S.is_honest samples.new → IfOk result (λ tiles. AreVoidTiles (S.mosaic samples.old) from to tiles.items) }
+    ensures voids { S.is_honest samples.new
+        → IfOk result (λ tiles. AreVoidTiles (S.mosaic samples.old) from to tiles.items) }
     ensures reads { OnlyReads S.Samples samples.old samples.new (reads_of result) }
 {
     if height < LOWEST || HIGHEST < height {
@@ -57,7 +62,8 @@ fn tiles_of_box<S: Samples>(
 ) -> Result<ArrayVec<Corner, 16>, Refusal>
     requires { IsTrue (is_box (S.side_of samples.old) from to) }
     ensures tiles { IfOk result (λ tiles. ArePresent (S.corners samples.old) tiles.items) }
-    ensures voids { S.is_honest samples.new → IfOk result (λ tiles. AreVoidTiles (S.mosaic samples.old) from to tiles.items) }
+    ensures voids { S.is_honest samples.new
+        → IfOk result (λ tiles. AreVoidTiles (S.mosaic samples.old) from to tiles.items) }
     ensures causes { IfErr result (λ r. IsTrue (ends_any r)) }
     ensures memory { IfErr result (λ r. r ≢ NoMemory) }
     ensures reads { OnlyReads S.Samples samples.old samples.new (reads_of result) }
@@ -77,7 +83,8 @@ fn tiles_of_box<S: Samples>(
 // more than once.
 fn holders_of_box(side: Side, from: Point, to: Point) -> ArrayVec<Corner, 16>
     requires { IsTrue (is_box side from to) }
-    ensures { (c : Corner) (p : Point) → IsTrue (is_in_box from to p) → Holds side c p → Contains result.items c }
+    ensures { (c : Corner) (p : Point) → IsTrue (is_in_box from to p) → Holds side c p
+        → Contains result.items c }
 {
     // That a side is at least 3 is told by its methods.
     let _edge = side.edge();
@@ -110,7 +117,10 @@ fn has_void<S: Samples>(
 ) -> Result<bool, Refusal>
     requires present { Contains (S.corners samples.old) corner }
     requires size { IsTrue (is_box (S.side_of samples.old) from to) }
-    ensures void { S.is_honest samples.new → IfOk result (λ some. (t : Tile) → Contains (S.mosaic samples.old).tiles t → t.corner ≡ corner → some ≡ has_void_from (S.mosaic samples.old) from to t.corner 0 t.samples) }
+    ensures void { S.is_honest samples.new
+        → IfOk result (λ some. (t : Tile) → Contains (S.mosaic samples.old).tiles t
+        → t.corner ≡ corner
+        → some ≡ has_void_from (S.mosaic samples.old) from to t.corner 0 t.samples) }
     ensures causes { IfErr result (λ r. IsTrue (ends_any r)) }
     ensures memory { IfErr result (λ r. r ≢ NoMemory) }
     ensures reads { OnlyReads S.Samples samples.old samples.new (reads_of result) }
@@ -128,7 +138,9 @@ fn has_void<S: Samples>(
 
 // Whether the corner's tile holds the point, and its height is void. Of other points nothing is read.
 fn is_void_in<S: Samples>(samples: &mut S, corner: Corner, point: Point) -> Result<bool, Refusal>
-    ensures void { S.is_honest samples.new → IfOk result (λ b. b ≡ (holds (S.side_of samples.old) corner point && is_void_at (S.mosaic samples.old) point)) }
+    ensures void { S.is_honest samples.new
+        → IfOk result (λ b. b ≡ (holds (S.side_of samples.old) corner point
+        && is_void_at (S.mosaic samples.old) point)) }
     ensures causes { IfErr result (λ r. IsTrue (ends_any r)) }
     ensures memory { IfErr result (λ r. r ≢ NoMemory) }
     ensures reads { OnlyReads S.Samples samples.old samples.new (reads_of result) }
@@ -145,7 +157,8 @@ fn is_void_in<S: Samples>(samples: &mut S, corner: Corner, point: Point) -> Resu
 
 // Whether the height of the point is void.
 fn is_void<S: Samples>(samples: &mut S, point: Point) -> Result<bool, Refusal>
-    ensures void { S.is_honest samples.new → IfOk result (λ b. b ≡ is_void_at (S.mosaic samples.old) point) }
+    ensures void { S.is_honest samples.new
+        → IfOk result (λ b. b ≡ is_void_at (S.mosaic samples.old) point) }
     ensures causes { IfErr result (λ r. IsTrue (ends_any r)) }
     ensures memory { IfErr result (λ r. r ≢ NoMemory) }
     ensures reads { OnlyReads S.Samples samples.old samples.new (reads_of result) }

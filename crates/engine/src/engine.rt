@@ -183,11 +183,13 @@ pub trait Engine {
 
     /// One run, and then another.
     ghost in_turn: { (first mid last : Self) (states more : List State)
-        → leaves_only first mid states → leaves_only mid last more → leaves_only first last (states ++ more) };
+        → leaves_only first mid states → leaves_only mid last more
+        → leaves_only first last (states ++ more) };
 
     /// A run that leaves one of these states leaves one of those among which they all are.
     ghost weaker: { (first last : Self) (states more : List State)
-        → ((s : State) → Contains states s → Contains more s) → leaves_only first last states → leaves_only first last more };
+        → ((s : State) → Contains states s → Contains more s) → leaves_only first last states
+        → leaves_only first last more };
 
     /// A state's tiles have the engine's side.
     ghost same_side: { (e : Self) (s : State) → is_at e s → s.contents.mosaic.side ≡ side_of e };

@@ -57,7 +57,9 @@ impl Members {
         requires found { AreFoundIn known.now self.old }
         requires run { i < length self.old.runs.items }
         ensures grows { OnOk result (Grows known.now self.old self.new) }
-        ensures settled { IfOk result (λ met. IfNone met ((k : ℕ) (d : Dir) → IsIn (slice_index_or self.old.runs.items i no_run) k → IsSettledBeside known.now self.new k d)) }
+        ensures settled { IfOk result (λ met. IfNone met ((k : ℕ) (d : Dir)
+            → IsIn (slice_index_or self.old.runs.items i no_run) k
+            → IsSettledBeside known.now self.new k d)) }
         ensures met { IfOk result (λ met. IfSome met (IsMet known.now.tiles.now known.now.flows.now self.new.seed)) }
     {
         let run = self.runs[i];
@@ -83,10 +85,13 @@ impl Members {
     ) -> Result<Option<Point>, AllocError>
         requires found { AreFoundIn known.now self.old }
         requires member { IsMember self.old.marks from }
-        requires deep { IsTrue deep → is_deep known.now.tiles.now.side (from % (known.now.tiles.now.side * known.now.tiles.now.side)) ≡ true }
-        requires next { IsTrue is_next → (d : Dir) → 2 ≤ order_of d → order_of d < 7 → IsSettledBeside known.now self.old from d }
+        requires deep { IsTrue deep
+            → is_deep known.now.tiles.now.side (from % (known.now.tiles.now.side * known.now.tiles.now.side)) ≡ true }
+        requires next { IsTrue is_next → (d : Dir) → 2 ≤ order_of d → order_of d < 7
+            → IsSettledBeside known.now self.old from d }
         ensures grows { OnOk result (Grows known.now self.old self.new) }
-        ensures settled { IfOk result (λ met. IfNone met ((d : Dir) → IsSettledBeside known.now self.new from d)) }
+        ensures settled { IfOk result (λ met. IfNone met ((d : Dir)
+            → IsSettledBeside known.now self.new from d)) }
         ensures met { IfOk result (λ met. IfSome met (IsMet known.now.tiles.now known.now.flows.now self.new.seed)) }
     {
         for i in 0..8 {
@@ -111,10 +116,13 @@ impl Members {
     ) -> Result<bool, AllocError>
         requires found { AreFoundIn known.now self.old }
         requires member { IsMember self.old.marks from }
-        requires deep { IsTrue deep → is_deep known.now.tiles.now.side (from % (known.now.tiles.now.side * known.now.tiles.now.side)) ≡ true }
+        requires deep { IsTrue deep
+            → is_deep known.now.tiles.now.side (from % (known.now.tiles.now.side * known.now.tiles.now.side)) ≡ true }
         ensures grows { OnOk result (Grows known.now self.old self.new) }
-        ensures settled { IfOk result (λ is_known. IsTrue is_known → IsSettledBeside known.now self.new from direction) }
-        ensures unknown { IfOk result (λ is_known. IsFalse is_known → slice_index_or known.now.flows.now (by_of known.now.tiles.now from direction) Unknown ≡ Unknown) }
+        ensures settled { IfOk result (λ is_known. IsTrue is_known
+            → IsSettledBeside known.now self.new from direction) }
+        ensures unknown { IfOk result (λ is_known. IsFalse is_known
+            → slice_index_or known.now.flows.now (by_of known.now.tiles.now from direction) Unknown ≡ Unknown) }
     {
         let stride = Stride::new(known.tiles.side(), direction);
         let to = known.tiles.step(from, direction, stride, deep);
@@ -136,7 +144,8 @@ impl Members {
         requires first { IsFirst known.now.tiles.now to }
         requires flat { IsOfFlat (slice_index_or known.now.flows.now to Unknown) }
         requires free { mark_at self.old.marks to ≡ 3 }
-        requires joined { (n : ℕ) × Connects known.now.flows.now (by_of known.now.tiles.now) self.old.seed n to }
+        requires joined { (n : ℕ)
+            × Connects known.now.flows.now (by_of known.now.tiles.now) self.old.seed n to }
         ensures grows { OnOk result (Grows known.now self.old self.new) }
         ensures member { OnOk result (IsMember self.new.marks to) }
     {
@@ -154,7 +163,8 @@ pub(crate) fn free_row(known: &TileFlows, marks: &Marks, to: usize) -> SampleRun
     requires to { to < count_of known.now.tiles.now }
     ensures row { IsRow known.now.tiles.now.side result }
     ensures at { IsIn result to }
-    ensures flat { (k : ℕ) → IsIn result k → IsOfFlat (slice_index_or known.now.flows.now k Unknown) }
+    ensures flat { (k : ℕ) → IsIn result k
+        → IsOfFlat (slice_index_or known.now.flows.now k Unknown) }
     ensures free { (k : ℕ) → IsIn result k → mark_at marks.now k ≡ 3 }
 {
     let Some((west, east)) = known.tiles.deep_row(to) else {

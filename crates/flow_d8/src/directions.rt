@@ -69,8 +69,11 @@ impl Directions {
     pub fn flow(&self, point: Point) -> Flow
         ensures value { result ≡ flow_in self.now point }
         ensures all { IsTellingAll result }
-        ensures on_ground { (m : Mosaic) (level : Point → ℤ) → AreDirectionsOf m level self.now → IsTrue (is_ground m point) → IsDirection (terrain m) level point (direction_of result) }
-        ensures elsewhere { (m : Mosaic) (level : Point → ℤ) → AreDirectionsOf m level self.now → (result ≡ NoGround) ↔ IsFalse (is_ground m point) }
+        ensures on_ground { (m : Mosaic) (level : Point → ℤ) → AreDirectionsOf m level self.now
+            → IsTrue (is_ground m point)
+            → IsDirection (terrain m) level point (direction_of result) }
+        ensures elsewhere { (m : Mosaic) (level : Point → ℤ) → AreDirectionsOf m level self.now
+            → (result ≡ NoGround) ↔ IsFalse (is_ground m point) }
         ensures whole { AreWhole self.now }
     {
         self.flow_at(self.number(point))
@@ -80,10 +83,15 @@ impl Directions {
     /// Empty where the point isn't ground. It is refused for want of memory, or with Damaged where these are no mosaic's
     /// directions. Whatever they are, it has no point twice.
     pub fn trace(&self, point: Point) -> Result<Vec<Point>, Refusal>
-        ensures path { IfOk result (λ path. (m : Mosaic) (level : Point → ℤ) → IsMosaic m → AreDirectionsOf m level self.now → IsTrue (is_ground m point) → IsFlowPath (terrain m) level point path.items) }
-        ensures elsewhere { IfOk result (λ path. (m : Mosaic) (level : Point → ℤ) → AreDirectionsOf m level self.now → IsFalse (is_ground m point) → path.items ≡ []) }
+        ensures path { IfOk result (λ path. (m : Mosaic) (level : Point → ℤ) → IsMosaic m
+            → AreDirectionsOf m level self.now → IsTrue (is_ground m point)
+            → IsFlowPath (terrain m) level point path.items) }
+        ensures elsewhere { IfOk result (λ path. (m : Mosaic) (level : Point → ℤ)
+            → AreDirectionsOf m level self.now → IsFalse (is_ground m point)
+            → path.items ≡ []) }
         ensures once { IfOk result (λ path. AllPairs (λ p q. p ≢ q) path.items) }
-        ensures refusal { IfErr result (λ r. (r ≡ NoMemory) ⊎ ((r ≡ Damaged) × AreOfNoMosaic self.now)) }
+        ensures refusal { IfErr result (λ r. (r ≡ NoMemory)
+            ⊎ ((r ≡ Damaged) × AreOfNoMosaic self.now)) }
     {
         let alloc = self.allocator();
         if !self.is_told(point) {
@@ -95,9 +103,12 @@ impl Directions {
     // The point, the one that it drains to, and so on.
     fn follow(&self, alloc: Global, point: Point) -> Result<Vec<Point>, Refusal>
         requires { flow_in self.now point ≡ NoGround → ⊥ }
-        ensures path { IfOk result (λ path. (m : Mosaic) (level : Point → ℤ) → IsMosaic m → AreDirectionsOf m level self.now → IsTrue (is_ground m point) → IsFlowPath (terrain m) level point path.items) }
+        ensures path { IfOk result (λ path. (m : Mosaic) (level : Point → ℤ) → IsMosaic m
+            → AreDirectionsOf m level self.now → IsTrue (is_ground m point)
+            → IsFlowPath (terrain m) level point path.items) }
         ensures once { IfOk result (λ path. AllPairs (λ p q. p ≢ q) path.items) }
-        ensures refusal { IfErr result (λ r. (r ≡ NoMemory) ⊎ ((r ≡ Damaged) × AreOfNoMosaic self.now)) }
+        ensures refusal { IfErr result (λ r. (r ≡ NoMemory)
+            ⊎ ((r ≡ Damaged) × AreOfNoMosaic self.now)) }
     {
         let most = self.count();
         let mut path = Vec::new(alloc);
@@ -113,7 +124,8 @@ impl Directions {
     // The point that it drains to.
     fn next(&self, point: Point) -> Option<Point>
         ensures to { IfSome result (LeadsTo self.now point) }
-        ensures off { IfNone result ((d : Dir) → direction_in self.now point ≡ Some d → IsTrue (fits_point (step d point)) → ⊥) }
+        ensures off { IfNone result ((d : Dir) → direction_in self.now point ≡ Some d
+            → IsTrue (fits_point (step d point)) → ⊥) }
     {
         let direction = self.direction(point)?;
         neighbour(point, direction)
@@ -186,7 +198,8 @@ impl Directions {
 fn add(path: &mut Vec<Point>, point: Point, most: usize) -> Result<(), Refusal>
     ensures path { OnOk result (path.new.items ≡ path.old.items ++ point ∷ []) }
     ensures short { OnOk result (length path.new.items ≤ most) }
-    ensures refusal { IfErr result (λ r. (r ≡ NoMemory) ⊎ ((r ≡ Damaged) × (most ≤ length path.old.items))) }
+    ensures refusal { IfErr result (λ r. (r ≡ NoMemory)
+        ⊎ ((r ≡ Damaged) × (most ≤ length path.old.items))) }
 {
     if path.len() >= most {
         return Err(Refusal::Damaged);

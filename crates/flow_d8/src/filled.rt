@@ -66,8 +66,11 @@ impl Filled {
     /// The directions of all ground points, from their filled levels. Damaged where the levels aren't the filled levels
     /// of any mosaic; the other refusal is NoMemory.
     pub fn directions(&self) -> Result<Directions, Refusal>
-        ensures found { IfOk result (λ d. (m : Mosaic) (level : Point → ℤ) → IsMosaic m → AreFilledLevels (terrain m) level → IsFilledOf m self.now → AreDirectionsOf m level d) }
-        ensures refusal { IfErr result (λ r. (r ≡ NoMemory) ⊎ ((r ≡ Damaged) × IsOfNoMosaic self.now)) }
+        ensures found { IfOk result (λ d. (m : Mosaic) (level : Point → ℤ) → IsMosaic m
+            → AreFilledLevels (terrain m) level → IsFilledOf m self.now
+            → AreDirectionsOf m level d) }
+        ensures refusal { IfErr result (λ r. (r ≡ NoMemory)
+            ⊎ ((r ≡ Damaged) × IsOfNoMosaic self.now)) }
         ensures size { IfOk result (λ d. length d.drains ≡ length self.now.levels) }
     {
         let alloc = *self.levels.allocator();
@@ -112,7 +115,9 @@ fn prepare_all(
     requires side { grid.old.tiles.side ≡ tiles.now.side }
     requires none { grid.old.tiles.corners ≡ [] }
     ensures tiles { OnOk result (grid.new.tiles ≡ tiles.now) }
-    ensures told { OnOk result ((m : Mosaic) → IsMosaic m → IsFilledOf m (filled_of tiles.now levels.now sinks.now) → IsGridOf m grid.new.tiles grid.new.flows.items) }
+    ensures told { OnOk result ((m : Mosaic) → IsMosaic m
+        → IsFilledOf m (filled_of tiles.now levels.now sinks.now)
+        → IsGridOf m grid.new.tiles grid.new.flows.items) }
 {
     for tile in 0..tiles.tiles() {
         let flows = prepare_tile(alloc, tiles, levels, sinks, tile)?;
@@ -133,7 +138,9 @@ fn prepare_tile(
     requires tile { tile < length tiles.now.corners }
     ensures whole { IfOk result (λ flows. length flows.items ≡ tiles.now.side * tiles.now.side) }
     ensures known { IfOk result (λ flows. AreKnown flows.items) }
-    ensures flows { IfOk result (λ flows. (m : Mosaic) → IsMosaic m → IsFilledOf m (filled_of tiles.now levels.now sinks.now) → AreTileFlows m (slice_index_or tiles.now.corners tile no_corner) flows.items) }
+    ensures flows { IfOk result (λ flows. (m : Mosaic) → IsMosaic m
+        → IsFilledOf m (filled_of tiles.now levels.now sinks.now)
+        → AreTileFlows m (slice_index_or tiles.now.corners tile no_corner) flows.items) }
 {
     let corner = tiles.corner(tile);
     let padded = padded_levels(alloc, tiles, levels, tile)?;

@@ -68,7 +68,9 @@ impl FlowGrid {
     /// What is known of the point; Unknown where no tile at hand holds it.
     pub fn flow(&self, point: Point) -> Flow
         ensures value { result ≡ flow_of self.now.tiles self.now.flows.items point }
-        ensures says { (t : Terrain Point) (level : Point → ℤ) → AreFlows t level (place_of self.now.tiles) self.now.flows.items → IsFlow t level point result }
+        ensures says { (t : Terrain Point) (level : Point → ℤ)
+            → AreFlows t level (place_of self.now.tiles) self.now.flows.items
+            → IsFlow t level point result }
     {
         // That these are valid tiles (`AreTiles`) is told by this call.
         let _valid = self.tiles.tiles();
@@ -128,8 +130,12 @@ impl FlowGrid {
 
     /// The sample of the point in the tile of this slot, if there is one that holds it.
     pub fn sample_in(&self, slot: usize, point: Point) -> Option<usize>
-        ensures some { IfSome result (λ k. IsSampleOf self.now.tiles point k × ((e : ℕ) → IsInTile self.now.tiles slot e → IsSampleOf self.now.tiles point e → e ≡ k)) }
-        ensures none { slot < length self.now.tiles.corners → IfNone result ((k : ℕ) → IsInTile self.now.tiles slot k → IsSampleOf self.now.tiles point k → ⊥) }
+        ensures some { IfSome result (λ k. IsSampleOf self.now.tiles point k
+            × ((e : ℕ) → IsInTile self.now.tiles slot e → IsSampleOf self.now.tiles point e
+            → e ≡ k)) }
+        ensures none { slot < length self.now.tiles.corners
+            → IfNone result ((k : ℕ) → IsInTile self.now.tiles slot k
+            → IsSampleOf self.now.tiles point k → ⊥) }
     {
         if slot >= self.tiles.tiles() {
             return None;
@@ -153,11 +159,17 @@ impl FlowGrid {
     pub fn resolve(&mut self, point: Point) -> Result<Option<Point>, AllocError>
         ensures tiles { self.new.tiles ≡ self.old.tiles }
         ensures flows { OnGround self.old.tiles self.old.flows.items (λ t level. AreFlows t level (place_of self.new.tiles) self.new.flows.items) }
-        ensures met { IfOk result (λ met. IfSome met (λ p. (IsAtHand self.old.tiles p → ⊥) × OnGround self.old.tiles self.old.flows.items (λ t level. IsTrue (t.is_ground p)))) }
-        ensures drains { IfOk result (λ met. IfNone met (IsAtHand self.old.tiles point → OnGround self.old.tiles self.old.flows.items (λ t level. IsTrue (t.is_ground point)
-            → (j : ℕ) → CrossesFlat t level point j → Drains (flow_of self.new.tiles self.new.flows.items point)))) }
-        ensures samples { IfOk result (λ met. IfNone met ((k : ℕ) → IsSampleOf self.old.tiles point k → OnGround self.old.tiles self.old.flows.items (λ t level. IsTrue (t.is_ground point)
-            → (j : ℕ) → CrossesFlat t level point j → Drains (slice_index_or self.new.flows.items k Unknown)))) }
+        ensures met { IfOk result (λ met. IfSome met (λ p. (IsAtHand self.old.tiles p → ⊥)
+            × OnGround self.old.tiles self.old.flows.items (λ t level. IsTrue (t.is_ground p)))) }
+        ensures drains { IfOk result (λ met. IfNone met (IsAtHand self.old.tiles point
+            → OnGround self.old.tiles self.old.flows.items (λ t level. IsTrue (t.is_ground point)
+            → (j : ℕ) → CrossesFlat t level point j
+            → Drains (flow_of self.new.tiles self.new.flows.items point)))) }
+        ensures samples { IfOk result (λ met. IfNone met ((k : ℕ)
+            → IsSampleOf self.old.tiles point k
+            → OnGround self.old.tiles self.old.flows.items (λ t level. IsTrue (t.is_ground point)
+            → (j : ℕ) → CrossesFlat t level point j
+            → Drains (slice_index_or self.new.flows.items k Unknown)))) }
         ensures tells { Tells self.old.flows.items self.new.flows.items }
     {
         resolve_known(&mut self.flows, &self.tiles, &mut self.marks, point)
@@ -166,7 +178,8 @@ impl FlowGrid {
     /// Goes on with a search over a flat, from the point too, to a point that the flat reaches: no tile at hand holds it. None where
     /// it found none; whether there is one `resolve` tells.
     pub fn search(&self, search: &mut FlatSearch, from: Point) -> Result<Option<Point>, AllocError>
-        ensures met { IfOk result (λ met. IfSome met (λ p. (IsAtHand self.now.tiles p → ⊥) × OnGround self.now.tiles self.now.flows.items (λ t level. IsTrue (t.is_ground p)))) }
+        ensures met { IfOk result (λ met. IfSome met (λ p. (IsAtHand self.now.tiles p → ⊥)
+            × OnGround self.now.tiles self.now.flows.items (λ t level. IsTrue (t.is_ground p)))) }
     {
         search_known(&self.flows, &self.tiles, search, from)
     }
@@ -177,7 +190,9 @@ impl FlowGrid {
         ensures tiles { self.new.tiles ≡ self.old.tiles }
         ensures flows { OnGround self.old.tiles self.old.flows.items (λ t level. AreFlows t level (place_of self.new.tiles) self.new.flows.items) }
         ensures told { IfOk result (λ done. IsTrue done → AreTold self.new.flows.items) }
-        ensures failed { IfOk result (λ done. IsFalse done → OnGround self.old.tiles self.old.flows.items (λ t level. AreCrossed self.old.tiles t level → ⊥)) }
+        ensures failed { IfOk result (λ done. IsFalse done
+            → OnGround self.old.tiles self.old.flows.items (λ t level. AreCrossed self.old.tiles t level
+            → ⊥)) }
     {
         for k in 0..self.flows.len() {
             if !self.resolve_at(k)? {
@@ -193,8 +208,11 @@ impl FlowGrid {
         ensures tiles { self.new.tiles ≡ self.old.tiles }
         ensures flows { OnGround self.old.tiles self.old.flows.items (λ t level. AreFlows t level (place_of self.new.tiles) self.new.flows.items) }
         ensures tells { Tells self.old.flows.items self.new.flows.items }
-        ensures told { IfOk result (λ told. IsTrue told → IsTellingAll (slice_index_or self.new.flows.items k Unknown)) }
-        ensures failed { IfOk result (λ told. IsFalse told → OnGround self.old.tiles self.old.flows.items (λ t level. AreCrossed self.old.tiles t level → ⊥)) }
+        ensures told { IfOk result (λ told. IsTrue told
+            → IsTellingAll (slice_index_or self.new.flows.items k Unknown)) }
+        ensures failed { IfOk result (λ told. IsFalse told
+            → OnGround self.old.tiles self.old.flows.items (λ t level. AreCrossed self.old.tiles t level
+            → ⊥)) }
     {
         if self.tells_all_at(k) {
             return Ok(true);
@@ -217,16 +235,22 @@ impl FlowGrid {
     /// memory for it.
     pub fn push(&mut self, corner: Corner, flows: &[FlowByte]) -> Result<(), AllocError>
         requires few { length self.old.tiles.corners < most_tiles }
-        requires other { (i : ℕ) → i < length self.old.tiles.corners → slice_index_or self.old.tiles.corners i no_corner ≡ corner → ⊥ }
+        requires other { (i : ℕ) → i < length self.old.tiles.corners
+            → slice_index_or self.old.tiles.corners i no_corner ≡ corner → ⊥ }
         requires whole { length flows.now ≡ self.old.tiles.side * self.old.tiles.side }
         requires known { AreKnown flows.now }
         ensures side { self.new.tiles.side ≡ self.old.tiles.side }
-        ensures corners { OnOk result (self.new.tiles.corners ≡ self.old.tiles.corners ++ corner ∷ []) }
+        ensures corners { OnOk result (self.new.tiles.corners ≡ self.old.tiles.corners
+            ++ corner ∷ []) }
         ensures kept { (p : Point) → IsAtHand self.old.tiles p → IsAtHand self.new.tiles p }
-        ensures here { OnOk result ((p : Point) → Holds self.old.tiles.side corner p → IsAtHand self.new.tiles p) }
-        ensures flows { OnOk result ((t : Terrain Point) (level : Point → ℤ) → AreFlowsIn t level self.old.tiles.side corner flows.now
-            → AreFlows t level (place_of self.old.tiles) self.old.flows.items → AreFlows t level (place_of self.new.tiles) self.new.flows.items) }
-        ensures failed { OnErr result ((self.new.tiles ≡ self.old.tiles) × (self.new.flows.items ≡ self.old.flows.items)) }
+        ensures here { OnOk result ((p : Point) → Holds self.old.tiles.side corner p
+            → IsAtHand self.new.tiles p) }
+        ensures flows { OnOk result ((t : Terrain Point) (level : Point → ℤ)
+            → AreFlowsIn t level self.old.tiles.side corner flows.now
+            → AreFlows t level (place_of self.old.tiles) self.old.flows.items
+            → AreFlows t level (place_of self.new.tiles) self.new.flows.items) }
+        ensures failed { OnErr result ((self.new.tiles ≡ self.old.tiles)
+            × (self.new.flows.items ≡ self.old.flows.items)) }
     {
         let _valid = self.tiles.tiles();
         let count = self.flows.len();
@@ -245,8 +269,12 @@ impl FlowGrid {
         requires { slot < length self.old.tiles.corners }
         ensures side { self.new.tiles.side ≡ self.old.tiles.side }
         ensures count { length self.new.tiles.corners + 1 ≡ length self.old.tiles.corners }
-        ensures moved { slot < length self.new.tiles.corners → slice_index_or self.new.tiles.corners slot no_corner ≡ slice_index_or self.old.tiles.corners (length self.new.tiles.corners) no_corner }
-        ensures kept { (i : ℕ) → i ≢ slot → i < length self.new.tiles.corners → slice_index_or self.new.tiles.corners i no_corner ≡ slice_index_or self.old.tiles.corners i no_corner }
+        ensures moved { slot < length self.new.tiles.corners
+            → slice_index_or self.new.tiles.corners slot no_corner
+            ≡ slice_index_or self.old.tiles.corners (length self.new.tiles.corners) no_corner }
+        ensures kept { (i : ℕ) → i ≢ slot → i < length self.new.tiles.corners
+            → slice_index_or self.new.tiles.corners i no_corner
+            ≡ slice_index_or self.old.tiles.corners i no_corner }
         ensures flows { StayFlows self.old.tiles self.old.flows.items self.new.tiles self.new.flows.items }
     {
         let area = self.tiles.side().area() as usize;
@@ -269,11 +297,14 @@ fn resolve_known(
     ensures whole { length flows.new ≡ length flows.old }
     ensures known { AreKnown flows.new }
     ensures flows { OnGround tiles.now flows.old (λ t level. AreFlows t level (place_of tiles.now) flows.new) }
-    ensures met { IfOk result (λ met. IfSome met (λ p. (IsAtHand tiles.now p → ⊥) × OnGround tiles.now flows.old (λ t level. IsTrue (t.is_ground p)))) }
-    ensures drains { IfOk result (λ met. IfNone met (IsAtHand tiles.now point → OnGround tiles.now flows.old (λ t level. IsTrue (t.is_ground point)
-        → (j : ℕ) → CrossesFlat t level point j → Drains (flow_of tiles.now flows.new point)))) }
-    ensures samples { IfOk result (λ met. IfNone met ((k : ℕ) → IsSampleOf tiles.now point k → OnGround tiles.now flows.old (λ t level. IsTrue (t.is_ground point)
-        → (j : ℕ) → CrossesFlat t level point j → Drains (slice_index_or flows.new k Unknown)))) }
+    ensures met { IfOk result (λ met. IfSome met (λ p. (IsAtHand tiles.now p → ⊥)
+        × OnGround tiles.now flows.old (λ t level. IsTrue (t.is_ground p)))) }
+    ensures drains { IfOk result (λ met. IfNone met (IsAtHand tiles.now point
+        → OnGround tiles.now flows.old (λ t level. IsTrue (t.is_ground point) → (j : ℕ)
+        → CrossesFlat t level point j → Drains (flow_of tiles.now flows.new point)))) }
+    ensures samples { IfOk result (λ met. IfNone met ((k : ℕ) → IsSampleOf tiles.now point k
+        → OnGround tiles.now flows.old (λ t level. IsTrue (t.is_ground point) → (j : ℕ)
+        → CrossesFlat t level point j → Drains (slice_index_or flows.new k Unknown)))) }
     ensures tells { Tells flows.old flows.new }
 {
     let _valid = tiles.tiles();
@@ -292,7 +323,8 @@ fn search_known(
 ) -> Result<Option<Point>, AllocError>
     requires whole { length flows.now ≡ count_of tiles.now }
     requires known { AreKnown flows.now }
-    ensures met { IfOk result (λ met. IfSome met (λ p. (IsAtHand tiles.now p → ⊥) × OnGround tiles.now flows.now (λ t level. IsTrue (t.is_ground p)))) }
+    ensures met { IfOk result (λ met. IfSome met (λ p. (IsAtHand tiles.now p → ⊥)
+        × OnGround tiles.now flows.now (λ t level. IsTrue (t.is_ground p)))) }
 {
     let _valid = tiles.tiles();
     match search_flat(&TileFlows { tiles, flows }, search, from)? {

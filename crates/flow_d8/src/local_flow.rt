@@ -19,7 +19,8 @@ use lattice::{DIRECTIONS, Dir, VOID};
 #[inline(always)]
 pub(crate) fn local_flow_at(levels: &[i16], width: usize, k: usize) -> Flow
     requires { IsInner width (length levels.now) k }
-    ensures so { (t : Terrain Point) (level : Point → ℤ) (p : Point) → IsLevelGrid t level → IsShown t level levels.now width p k → IsLocal t level p result }
+    ensures so { (t : Terrain Point) (level : Point → ℤ) (p : Point) → IsLevelGrid t level
+        → IsShown t level levels.now width p k → IsLocal t level p result }
     ensures none { result ≡ NoGround → level_in levels.now k ≡ void }
     ensures full { result ≡ Flat → (d : Dir) → level_in levels.now (place_by width k d) ≡ void → ⊥ }
     ensures plain { IsPlain result }
@@ -45,7 +46,8 @@ pub(crate) fn local_flow_at(levels: &[i16], width: usize, k: usize) -> Flow
 #[inline(always)]
 fn is_none_below(levels: &[i16], width: usize, k: usize, height: i16) -> bool
     requires { IsInner width (length levels.now) k }
-    ensures { IsTrue result → (d : Dir) → height ≤ℤ slice_index_or levels.now (place_by width k d) void }
+    ensures { IsTrue result → (d : Dir)
+        → height ≤ℤ slice_index_or levels.now (place_by width k d) void }
 {
     height <= at(levels, k - width)
         && height <= at(levels, k + width)
@@ -81,7 +83,8 @@ fn steepest_at(levels: &[i16], width: usize, k: usize) -> Best
 #[inline(never)]
 fn gap(levels: &[i16], width: usize, k: usize) -> Option<Dir>
     requires { IsInner width (length levels.now) k }
-    ensures { MatchOption result ((d : Dir) → slice_index_or levels.now (place_by width k d) void ≡ void → ⊥) (λ d. slice_index_or levels.now (place_by width k d) void ≡ void) }
+    ensures { MatchOption result ((d : Dir) → slice_index_or levels.now (place_by width k d) void ≡ void → ⊥) (λ d. slice_index_or levels.now (place_by width k d) void
+        ≡ void) }
 {
     for i in 0..8 {
         if is_void(levels, place(width, k, DIRECTIONS[i], levels.len())) {

@@ -16,7 +16,8 @@ use lattice::VOID;
 
 /// Where the ground point with these levels drains: To or Outlet; Unknown where it lies inside a flat.
 pub fn flow_near(near: &Near, is_sink: bool) -> Flow
-    ensures { (m : Mosaic) (p : Point) → IsMosaic m → IsNear m p near.now → is_sink ≡ is_declared m p → OnLevels m (λ level. IsFlowNear (terrain m) level p result) }
+    ensures { (m : Mosaic) (p : Point) → IsMosaic m → IsNear m p near.now
+        → is_sink ≡ is_declared m p → OnLevels m (λ level. IsFlowNear (terrain m) level p result) }
 {
     match local_flow_at(&in_rows(near), 3, 4) {
         Flow::Flat => flat_flow(is_sink),
@@ -32,7 +33,9 @@ fn flat_flow(is_sink: bool) -> Flow
 
 // The levels in three rows from the north; void where no point is adjacent.
 fn in_rows(near: &Near) -> [i16; 9]
-    ensures { (t : Terrain Point) (level : Point → ℤ) (p : Point) → IsTrue (t.is_ground p) → level p ≡ near.now.height → near.now.around ≡ around_of t level p → IsShown t level result 3 p 4 }
+    ensures { (t : Terrain Point) (level : Point → ℤ) (p : Point) → IsTrue (t.is_ground p)
+        → level p ≡ near.now.height → near.now.around ≡ around_of t level p
+        → IsShown t level result 3 p 4 }
 {
     let around = near.around;
     [

@@ -24,7 +24,8 @@ pub(crate) fn padded_levels(
     requires levels { AreLevels (filled_of tiles.now levels.now []) }
     requires tile { tile < length tiles.now.corners }
     ensures whole { IfOk result (λ padded. length padded.items ≡ (tiles.now.side + 4) * (tiles.now.side + 4)) }
-    ensures padded { IfOk result (λ padded. (sinks : List Point) → ArePaddedTo (filled_of tiles.now levels.now sinks) (slice_index_or tiles.now.corners tile no_corner) (length padded.items) padded.items) }
+    ensures padded { IfOk result (λ padded. (sinks : List Point)
+        → ArePaddedTo (filled_of tiles.now levels.now sinks) (slice_index_or tiles.now.corners tile no_corner) (length padded.items) padded.items) }
 {
     let width = tiles.side().samples() as usize + 4;
     let mut padded = Vec::with_capacity(alloc, width * width)?;
@@ -40,7 +41,8 @@ fn level_in(tiles: &Tiles, levels: &[i16], tile: usize, row: usize, column: usiz
     requires tile { tile < length tiles.now.corners }
     requires row { row < tiles.now.side + 4 }
     requires column { column < tiles.now.side + 4 }
-    ensures { (sinks : List Point) → IsLevelIn (filled_of tiles.now levels.now sinks) (point_in tiles.now.side (slice_index_or tiles.now.corners tile no_corner) row column) result }
+    ensures { (sinks : List Point)
+        → IsLevelIn (filled_of tiles.now levels.now sinks) (point_in tiles.now.side (slice_index_or tiles.now.corners tile no_corner) row column) result }
 {
     let point = padded_point(tiles.side(), tiles.corner(tile), row, column);
     level_at(tiles, levels, point)
@@ -70,7 +72,8 @@ fn level(levels: &[i16], number: usize) -> i16
 
 /// Whether the tiles across the edges of the corner's are among these.
 pub(crate) fn sides(tiles: &Tiles, corner: Corner) -> Sides
-    ensures { (m : Mosaic) (levels : List ℤ) (sinks : List Point) → IsMosaic m → IsFilledOf m (filled_of tiles.now levels sinks) → AreSides m corner result }
+    ensures { (m : Mosaic) (levels : List ℤ) (sinks : List Point) → IsMosaic m
+        → IsFilledOf m (filled_of tiles.now levels sinks) → AreSides m corner result }
 {
     Sides {
         north: is_present_at(tiles, corner.lat + 1, corner.lon),
@@ -81,7 +84,9 @@ pub(crate) fn sides(tiles: &Tiles, corner: Corner) -> Sides
 }
 
 fn is_present_at(tiles: &Tiles, lat: i16, lon: i16) -> bool
-    ensures { (m : Mosaic) (levels : List ℤ) (sinks : List Point) → IsMosaic m → IsFilledOf m (filled_of tiles.now levels sinks) → result ≡ is_present m (record { lat = lat; lon = lon }) }
+    ensures { (m : Mosaic) (levels : List ℤ) (sinks : List Point) → IsMosaic m
+        → IsFilledOf m (filled_of tiles.now levels sinks)
+        → result ≡ is_present m (record { lat = lat; lon = lon }) }
 {
     let _valid = tiles.tiles();
     match Corner::new(lat, lon) {

@@ -51,7 +51,9 @@ pub fn prepare(
     requires { length levels.now ≡ (side + 4) * (side + 4) }
     ensures whole { IfOk result (λ flows. length flows.items ≡ side * side) }
     ensures known { IfOk result (λ flows. AreKnown flows.items) }
-    ensures flows { IfOk result (λ flows. (m : Mosaic) → IsMosaic m → m.side ≡ side → IsPaddedTile m corner levels.now sides.now sinks.now → AreTileFlows m corner flows.items) }
+    ensures flows { IfOk result (λ flows. (m : Mosaic) → IsMosaic m → m.side ≡ side
+        → IsPaddedTile m corner levels.now sides.now sinks.now
+        → AreTileFlows m corner flows.items) }
 {
     let tile = Padded {
         side,
@@ -78,7 +80,8 @@ fn tell_around(tile: &Padded, corner: Corner, sinks: &[Point], flows: &mut [Flow
 fn tell_places(tile: &Padded, flows: &mut [FlowByte])
     requires { length flows.old ≡ length tile.now.levels.now }
     ensures whole { length flows.new ≡ length flows.old }
-    ensures told { (k : ℕ) → IsInner (tile.now.side + 4) (length tile.now.levels.now) k → IsPlaceFlow tile.now.levels.now (tile.now.side + 4) k (flow_in flows.new k) }
+    ensures told { (k : ℕ) → IsInner (tile.now.side + 4) (length tile.now.levels.now) k
+        → IsPlaceFlow tile.now.levels.now (tile.now.side + 4) k (flow_in flows.new k) }
 {
     let levels = tile.levels;
     let width = width(tile.side);
@@ -119,7 +122,8 @@ fn is_flat(flows: &[FlowByte], k: usize) -> bool
 
 // The place of the point, in the tile or one around it.
 fn place_of(side: Side, corner: Corner, point: Point) -> Option<usize>
-    ensures { MatchOption result ((k : ℕ) → IsSinkPlace side corner point k → ⊥) (λ k. IsSinkPlace side corner point k × ((j : ℕ) → IsSinkPlace side corner point j → j ≡ k)) }
+    ensures { MatchOption result ((k : ℕ) → IsSinkPlace side corner point k → ⊥) (λ k. IsSinkPlace side corner point k
+        × ((j : ℕ) → IsSinkPlace side corner point j → j ≡ k)) }
 {
     // That the side is from 3 to 3601 samples is told by this call.
     let _small = side.samples();
@@ -138,7 +142,8 @@ fn place_along(from: i32, to: i32) -> i64
 
 // The row or column, where it isn't the first or the last.
 fn inner_place(side: Side, place: i64) -> Option<usize>
-    ensures { MatchOption result ((k : ℕ) → 1 ≤ k → k < side + 3 → place ≡ pos k → ⊥) (λ k. (1 ≤ k) × (k < side + 3) × (place ≡ pos k)) }
+    ensures { MatchOption result ((k : ℕ) → 1 ≤ k → k < side + 3 → place ≡ pos k → ⊥) (λ k. (1 ≤ k)
+        × (k < side + 3) × (place ≡ pos k)) }
 {
     if place < 1 {
         return None;
@@ -240,7 +245,8 @@ fn ended_flow(levels: &[i16], around: &[FlowByte], width: usize, k: usize) -> Fl
 fn flat_flow(levels: &[i16], around: &[FlowByte], width: usize, k: usize) -> Flow
     requires inner { IsInner width (length levels.now) k }
     requires around { length around.now ≡ length levels.now }
-    ensures { ((result ≡ Flat) × ((d : Dir) → IsEndBeside levels.now around.now width k d → ⊥)) ⊎ ((d : Dir) × ((result ≡ Beside d) × IsFirstEndBeside levels.now around.now width k d)) }
+    ensures { ((result ≡ Flat) × ((d : Dir) → IsEndBeside levels.now around.now width k d → ⊥))
+        ⊎ ((d : Dir) × ((result ≡ Beside d) × IsFirstEndBeside levels.now around.now width k d)) }
 {
     if are_flat_around(around, width, k) {
         return Flow::Flat;
@@ -279,7 +285,9 @@ fn leads_to_end(levels: &[i16], around: &[FlowByte], k: usize, to: usize) -> boo
     requires k { k < length levels.now }
     requires to { to < length levels.now }
     requires around { length around.now ≡ length levels.now }
-    ensures { IsTrue result ↔ ((slice_index_or levels.now to void ≡ slice_index_or levels.now k void) × IsEnd (flow_in around.now to)) }
+    ensures { IsTrue result
+        ↔ ((slice_index_or levels.now to void ≡ slice_index_or levels.now k void)
+        × IsEnd (flow_in around.now to)) }
 {
     if is_flat(around, to) {
         return false;
@@ -301,7 +309,8 @@ fn is_end(flow: Flow) -> bool
 fn close_sides(tile: &Padded, flows: &mut [FlowByte])
     requires { length flows.old ≡ tile.now.side * tile.now.side }
     ensures closing { IsClosing tile.now.side tile.now.levels.now tile.now.sides.now flows.old flows.new }
-    ensures told { (d : Dir) (r s : ℕ) → IsClosedAt tile.now.side tile.now.sides.now d r s → IsClosedFlow tile.now.side tile.now.levels.now tile.now.sides.now (r * tile.now.side + s) (flow_in flows.new (r * tile.now.side + s)) }
+    ensures told { (d : Dir) (r s : ℕ) → IsClosedAt tile.now.side tile.now.sides.now d r s
+        → IsClosedFlow tile.now.side tile.now.levels.now tile.now.sides.now (r * tile.now.side + s) (flow_in flows.new (r * tile.now.side + s)) }
 {
     let n = tile.side.samples() as usize;
     for i in 1..n - 1 {
@@ -315,7 +324,9 @@ fn close_along(tile: &Padded, i: usize, flows: &mut [FlowByte])
     requires some { 0 < i }
     requires inside { i + 1 < tile.now.side }
     ensures closing { IsClosing tile.now.side tile.now.levels.now tile.now.sides.now flows.old flows.new }
-    ensures told { (d : Dir) (r s : ℕ) → IsClosedAt tile.now.side tile.now.sides.now d r s → along_of d r s ≡ i → IsClosedFlow tile.now.side tile.now.levels.now tile.now.sides.now (r * tile.now.side + s) (flow_in flows.new (r * tile.now.side + s)) }
+    ensures told { (d : Dir) (r s : ℕ) → IsClosedAt tile.now.side tile.now.sides.now d r s
+        → along_of d r s ≡ i
+        → IsClosedFlow tile.now.side tile.now.levels.now tile.now.sides.now (r * tile.now.side + s) (flow_in flows.new (r * tile.now.side + s)) }
 {
     let last = tile.side.samples() as usize - 1;
     close_unless(tile.sides.north, tile, Dir::North, (0, i), flows);
@@ -331,7 +342,8 @@ fn close_unless(is_open: bool, tile: &Padded, over: Dir, at: (usize, usize), flo
     requires column { at.1 < tile.now.side }
     requires closed { is_open ≡ false → IsClosedAt tile.now.side tile.now.sides.now over at.0 at.1 }
     ensures closing { IsClosing tile.now.side tile.now.levels.now tile.now.sides.now flows.old flows.new }
-    ensures told { is_open ≡ false → IsClosedFlow tile.now.side tile.now.levels.now tile.now.sides.now (at.0 * tile.now.side + at.1) (flow_in flows.new (at.0 * tile.now.side + at.1)) }
+    ensures told { is_open ≡ false
+        → IsClosedFlow tile.now.side tile.now.levels.now tile.now.sides.now (at.0 * tile.now.side + at.1) (flow_in flows.new (at.0 * tile.now.side + at.1)) }
 {
     if is_open {
         return;
@@ -356,7 +368,9 @@ fn levels_without(levels: &[i16], width: usize, over: Dir, k: usize) -> [i16; 9]
     requires { IsInner width (length levels.now) k }
     ensures whole { length result ≡ 9 }
     ensures here { slice_index_or result 4 void ≡ slice_index_or levels.now k void }
-    ensures around { (d : Dir) → slice_index_or result (place_by 3 4 d) void ≡ (if leads_over over d then void else slice_index_or levels.now (place_by width k d) void) }
+    ensures around { (d : Dir)
+        → slice_index_or result (place_by 3 4 d) void
+        ≡ (if leads_over over d then void else slice_index_or levels.now (place_by width k d) void) }
 {
     [
         level_without(levels, width, over, k, Dir::NorthWest),

@@ -130,9 +130,13 @@ fn spread(
     ensures whole { length marks.new ≡ length marks.old }
     ensures outside { (k : ℕ) → mark_at marks.old k ≡ 3 → mark_at marks.new k ≡ 3 }
     ensures tells { Tells flows.old flows.new }
-    ensures kept { (k : ℕ) → mark_at marks.old k ≡ 3 → slice_index_or flows.new k Unknown ≡ slice_index_or flows.old k Unknown }
+    ensures kept { (k : ℕ) → mark_at marks.old k ≡ 3
+        → slice_index_or flows.new k Unknown ≡ slice_index_or flows.old k Unknown }
     ensures facts { OnTerrains flows.old (by_of tiles.now) (λ t level place. AreFlows t level place flows.new) }
-    ensures resolved { OnOk result ((k : ℕ) → IsMember marks.old k → OnTerrains flows.old (by_of tiles.now) (λ t level place. (j : ℕ) → CrossesFlat t level (place k) j → (d : Dir) × Names (slice_index_or flows.new k Unknown) d)) }
+    ensures resolved { OnOk result ((k : ℕ) → IsMember marks.old k
+        → OnTerrains flows.old (by_of tiles.now) (λ t level place. (j : ℕ)
+        → CrossesFlat t level (place k) j
+        → (d : Dir) × Names (slice_index_or flows.new k Unknown) d)) }
 {
     'waves: while wave.len() > 0 {
         let mut next = Vec::new(marks.allocator());
@@ -153,8 +157,10 @@ fn advance(
 ) -> Result<(), AllocError>
     requires tiles { length flows.old ≡ count_of tiles.now }
     requires whole { length marks.old ≡ length flows.old }
-    requires reached { (i : ℕ) → i < length samples.now → mark_at marks.old (slice_index_or samples.now i 0) ≡ 0 }
-    requires frontier { (k : ℕ) (d : Dir) → mark_at marks.old k ≡ 0 → mark_at marks.old (by_of tiles.now k d) ≡ 2 → Lists samples.now k }
+    requires reached { (i : ℕ) → i < length samples.now
+        → mark_at marks.old (slice_index_or samples.now i 0) ≡ 0 }
+    requires frontier { (k : ℕ) (d : Dir) → mark_at marks.old k ≡ 0
+        → mark_at marks.old (by_of tiles.now k d) ≡ 2 → Lists samples.now k }
     requires back { (k : ℕ) → IsMember marks.old k → IsBack (by_of tiles.now) (length marks.old) k }
     requires none { length next.old.items ≡ 0 }
     ensures advances { Advances (by_of tiles.now) marks.old flows.old marks.new next.new.items flows.new }

@@ -20,8 +20,10 @@ pub(crate) struct Best {
 #[inline(always)]
 pub(crate) fn better(levels: &[i16], place: usize, height: i16, best: Best, direction: Dir) -> Best
     requires { place < length levels.now }
-    ensures { (t : Terrain Point) (level : Point → ℤ) (p : Point) → IsLevelGrid t level → slice_index_or levels.now place void ≡ level_beside t level p direction → level p ≡ height
-        → IsSteepestOf t level p (order_of direction) best → IsSteepestOf t level p (order_of direction + 1) result }
+    ensures { (t : Terrain Point) (level : Point → ℤ) (p : Point) → IsLevelGrid t level
+        → slice_index_or levels.now place void ≡ level_beside t level p direction → level p ≡ height
+        → IsSteepestOf t level p (order_of direction) best
+        → IsSteepestOf t level p (order_of direction + 1) result }
 {
     let slope = slope_to(height, direction, at(levels, place));
     if slope > best.slope {
@@ -44,7 +46,8 @@ pub(crate) fn at(levels: &[i16], place: usize) -> i16
 #[inline(always)]
 fn slope_to(height: i16, direction: Dir, beside: i16) -> u64
     ensures none { (beside ≡ void) ⊎ (height ≤ℤ beside) → result ≡ 0 }
-    ensures some { (beside ≡ void → ⊥) → beside <ℤ height → result ≡ slope_of direction (nat_abs (height -ℤ beside)) }
+    ensures some { (beside ≡ void → ⊥) → beside <ℤ height
+        → result ≡ slope_of direction (nat_abs (height -ℤ beside)) }
 {
     if beside == VOID || beside >= height {
         return 0;

@@ -43,7 +43,8 @@ fn begin_run(
     requires whole { length marks.old ≡ length flows.now }
     requires members { (k : ℕ) → IsIn run k → IsMember marks.old k }
     ensures begins { Begins flows.now marks.old wave.old.items marks.new wave.new.items }
-    ensures here { OnOk result ((k : ℕ) → IsIn run k → IsBeside (slice_index_or flows.now k Unknown) → mark_at marks.new k ≡ 0) }
+    ensures here { OnOk result ((k : ℕ) → IsIn run k → IsBeside (slice_index_or flows.now k Unknown)
+        → mark_at marks.new k ≡ 0) }
 {
     for k in run.first as usize..run.last as usize + 1 {
         begin_at(flows, marks, wave, k)?;
@@ -63,7 +64,8 @@ fn begin_at(
     requires member { IsMember marks.old k }
     requires short { k < 4294967296 }
     ensures begins { Begins flows.now marks.old wave.old.items marks.new wave.new.items }
-    ensures here { OnOk result (IsBeside (slice_index_or flows.now k Unknown) → mark_at marks.new k ≡ 0) }
+    ensures here { OnOk result (IsBeside (slice_index_or flows.now k Unknown)
+        → mark_at marks.new k ≡ 0) }
 {
     if !is_beside(flows, k) {
         return Ok(());
@@ -104,10 +106,14 @@ pub(crate) fn reach(
 ) -> Result<(), AllocError>
     requires tiles { length marks.old ≡ count_of wave.now.tiles.now }
     requires whole { length flows.old ≡ length marks.old }
-    requires small { (i : ℕ) → i < length wave.now.samples.now → slice_index_or wave.now.samples.now i 0 < length marks.old }
-    requires back { (i : ℕ) → i < length wave.now.samples.now → IsBack (by_of wave.now.tiles.now) (length marks.old) (slice_index_or wave.now.samples.now i 0) }
+    requires small { (i : ℕ) → i < length wave.now.samples.now
+        → slice_index_or wave.now.samples.now i 0 < length marks.old }
+    requires back { (i : ℕ) → i < length wave.now.samples.now
+        → IsBack (by_of wave.now.tiles.now) (length marks.old) (slice_index_or wave.now.samples.now i 0) }
     ensures reaches { Reaches (by_of wave.now.tiles.now) wave.now.samples.now direction marks.old next.old.items flows.old marks.new next.new.items flows.new }
-    ensures passed { OnOk result ((i : ℕ) → i < length wave.now.samples.now → mark_at marks.new (by_of wave.now.tiles.now (slice_index_or wave.now.samples.now i 0) (back_of direction)) ≡ 2 → ⊥) }
+    ensures passed { OnOk result ((i : ℕ) → i < length wave.now.samples.now
+        → mark_at marks.new (by_of wave.now.tiles.now (slice_index_or wave.now.samples.now i 0) (back_of direction)) ≡ 2
+        → ⊥) }
 {
     let (tiles, samples, deep) = (wave.tiles, wave.samples, wave.deep);
     let to_wave = back(direction);

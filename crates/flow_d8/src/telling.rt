@@ -20,9 +20,13 @@ pub(crate) fn tell(tiles: &Tiles, runs: &[SampleRun], flows: &mut [FlowByte])
     requires rows { AreRows tiles.now.side runs.now }
     requires small { (k : ℕ) → Covers runs.now k → k < length flows.old }
     ensures tells { Tells flows.old flows.new }
-    ensures facts { (t : Terrain Point) (level : Point → ℤ) → AreFlows t level (place_of tiles.now) flows.old → AreFlows t level (place_of tiles.now) flows.new }
-    ensures twins { (k e : ℕ) → Covers runs.now k → IsTold (slice_index_or flows.old k Unknown) → IsSampleOf tiles.now (place_of tiles.now k) e
-        → IsOfFlat (slice_index_or flows.old e Unknown) → IsTold (slice_index_or flows.new e Unknown) }
+    ensures facts { (t : Terrain Point) (level : Point → ℤ)
+        → AreFlows t level (place_of tiles.now) flows.old
+        → AreFlows t level (place_of tiles.now) flows.new }
+    ensures twins { (k e : ℕ) → Covers runs.now k → IsTold (slice_index_or flows.old k Unknown)
+        → IsSampleOf tiles.now (place_of tiles.now k) e
+        → IsOfFlat (slice_index_or flows.old e Unknown)
+        → IsTold (slice_index_or flows.new e Unknown) }
 {
     for i in 0..runs.len() {
         tell_run(tiles, runs[i], flows);
@@ -35,9 +39,13 @@ fn tell_run(tiles: &Tiles, run: SampleRun, flows: &mut [FlowByte])
     requires row { IsRow tiles.now.side run }
     requires small { (k : ℕ) → IsIn run k → k < length flows.old }
     ensures tells { Tells flows.old flows.new }
-    ensures facts { (t : Terrain Point) (level : Point → ℤ) → AreFlows t level (place_of tiles.now) flows.old → AreFlows t level (place_of tiles.now) flows.new }
-    ensures twins { (k e : ℕ) → IsIn run k → IsTold (slice_index_or flows.old k Unknown) → IsSampleOf tiles.now (place_of tiles.now k) e
-        → IsOfFlat (slice_index_or flows.old e Unknown) → IsTold (slice_index_or flows.new e Unknown) }
+    ensures facts { (t : Terrain Point) (level : Point → ℤ)
+        → AreFlows t level (place_of tiles.now) flows.old
+        → AreFlows t level (place_of tiles.now) flows.new }
+    ensures twins { (k e : ℕ) → IsIn run k → IsTold (slice_index_or flows.old k Unknown)
+        → IsSampleOf tiles.now (place_of tiles.now k) e
+        → IsOfFlat (slice_index_or flows.old e Unknown)
+        → IsTold (slice_index_or flows.new e Unknown) }
 {
     // That these are valid tiles (`AreTiles`) is told by this call.
     let _valid = tiles.tiles();
@@ -56,8 +64,12 @@ fn tell_point(tiles: &Tiles, point: Point, flow: Flow, flows: &mut [FlowByte])
     requires tiles { length flows.old ≡ count_of tiles.now }
     requires told { IsTold flow }
     ensures tells { Tells flows.old flows.new }
-    ensures facts { (t : Terrain Point) (level : Point → ℤ) → IsFlow t level point flow → AreFlows t level (place_of tiles.now) flows.old → AreFlows t level (place_of tiles.now) flows.new }
-    ensures twins { (e : ℕ) → IsSampleOf tiles.now point e → IsOfFlat (slice_index_or flows.old e Unknown) → IsTold (slice_index_or flows.new e Unknown) }
+    ensures facts { (t : Terrain Point) (level : Point → ℤ) → IsFlow t level point flow
+        → AreFlows t level (place_of tiles.now) flows.old
+        → AreFlows t level (place_of tiles.now) flows.new }
+    ensures twins { (e : ℕ) → IsSampleOf tiles.now point e
+        → IsOfFlat (slice_index_or flows.old e Unknown)
+        → IsTold (slice_index_or flows.new e Unknown) }
 {
     for i in 0..tiles.tiles() {
         tell_in(tiles, i, point, flow, flows);
@@ -69,8 +81,12 @@ fn tell_in(tiles: &Tiles, tile: usize, point: Point, flow: Flow, flows: &mut [Fl
     requires tile { tile < length tiles.now.corners }
     requires told { IsTold flow }
     ensures tells { Tells flows.old flows.new }
-    ensures facts { (t : Terrain Point) (level : Point → ℤ) → IsFlow t level point flow → AreFlows t level (place_of tiles.now) flows.old → AreFlows t level (place_of tiles.now) flows.new }
-    ensures twins { (e : ℕ) → IsInTile tiles.now tile e → IsSampleOf tiles.now point e → IsOfFlat (slice_index_or flows.old e Unknown) → IsTold (slice_index_or flows.new e Unknown) }
+    ensures facts { (t : Terrain Point) (level : Point → ℤ) → IsFlow t level point flow
+        → AreFlows t level (place_of tiles.now) flows.old
+        → AreFlows t level (place_of tiles.now) flows.new }
+    ensures twins { (e : ℕ) → IsInTile tiles.now tile e → IsSampleOf tiles.now point e
+        → IsOfFlat (slice_index_or flows.old e Unknown)
+        → IsTold (slice_index_or flows.new e Unknown) }
 {
     if let Some(e) = tiles.sample_in(tile, point) {
         tell_sample(flows, e, flow);
@@ -81,9 +97,12 @@ fn tell_sample(flows: &mut [FlowByte], e: usize, flow: Flow)
     requires e { e < length flows.old }
     requires told { IsTold flow }
     ensures tells { Tells flows.old flows.new }
-    ensures others { (k : ℕ) → (k ≡ e → ⊥) → slice_index_or flows.new k Unknown ≡ slice_index_or flows.old k Unknown }
-    ensures here { IsOfFlat (slice_index_or flows.old e Unknown) → slice_index_or flows.new e Unknown ≡ flow }
-    ensures not_here { (IsOfFlat (slice_index_or flows.old e Unknown) → ⊥) → slice_index_or flows.new e Unknown ≡ slice_index_or flows.old e Unknown }
+    ensures others { (k : ℕ) → (k ≡ e → ⊥)
+        → slice_index_or flows.new k Unknown ≡ slice_index_or flows.old k Unknown }
+    ensures here { IsOfFlat (slice_index_or flows.old e Unknown)
+        → slice_index_or flows.new e Unknown ≡ flow }
+    ensures not_here { (IsOfFlat (slice_index_or flows.old e Unknown) → ⊥)
+        → slice_index_or flows.new e Unknown ≡ slice_index_or flows.old e Unknown }
 {
     if is_of_flat(flows, e) {
         flows[e] = FlowByte::of(flow);

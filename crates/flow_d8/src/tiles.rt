@@ -71,7 +71,8 @@ impl Tiles {
     /// The corner's tile comes after the others.
     pub(crate) fn push(&mut self, corner: Corner) -> Result<(), AllocError>
         requires few { length self.old.corners < most_tiles }
-        requires other { (i : ℕ) → i < length self.old.corners → slice_index_or self.old.corners i no_corner ≡ corner → ⊥ }
+        requires other { (i : ℕ) → i < length self.old.corners
+            → slice_index_or self.old.corners i no_corner ≡ corner → ⊥ }
         ensures side { self.new.side ≡ self.old.side }
         ensures pushed { OnOk result (self.new.corners ≡ self.old.corners ++ corner ∷ []) }
         ensures failed { OnErr result (self.new ≡ self.old) }
@@ -87,8 +88,12 @@ impl Tiles {
         requires { slot < length self.old.corners }
         ensures side { self.new.side ≡ self.old.side }
         ensures count { length self.new.corners + 1 ≡ length self.old.corners }
-        ensures moved { slot < length self.new.corners → slice_index_or self.new.corners slot no_corner ≡ slice_index_or self.old.corners (length self.new.corners) no_corner }
-        ensures kept { (i : ℕ) → i ≢ slot → i < length self.new.corners → slice_index_or self.new.corners i no_corner ≡ slice_index_or self.old.corners i no_corner }
+        ensures moved { slot < length self.new.corners
+            → slice_index_or self.new.corners slot no_corner
+            ≡ slice_index_or self.old.corners (length self.new.corners) no_corner }
+        ensures kept { (i : ℕ) → i ≢ slot → i < length self.new.corners
+            → slice_index_or self.new.corners i no_corner
+            ≡ slice_index_or self.old.corners i no_corner }
     {
         let _given_up = self.corners.swap_remove(slot);
     }
@@ -134,7 +139,8 @@ impl Tiles {
     /// The sample of the point in this one of the tiles, if that holds it.
     pub(crate) fn sample_in(&self, tile: usize, point: Point) -> Option<usize>
         requires { tile < length self.now.corners }
-        ensures { MatchOption result ((e : ℕ) → IsInTile self.now tile e → IsSampleOf self.now point e → ⊥) (λ k. IsSampleOf self.now point k × ((e : ℕ) → IsInTile self.now tile e → IsSampleOf self.now point e → e ≡ k)) }
+        ensures { MatchOption result ((e : ℕ) → IsInTile self.now tile e → IsSampleOf self.now point e → ⊥) (λ k. IsSampleOf self.now point k
+            × ((e : ℕ) → IsInTile self.now tile e → IsSampleOf self.now point e → e ≡ k)) }
     {
         sample_of(self.side(), self.corners(), tile, point)
     }
@@ -190,7 +196,9 @@ impl Tiles {
     /// The first and the last of the samples around this one, in its row, that lie deep in its tile, where it does.
     pub(crate) fn deep_row(&self, k: usize) -> Option<(usize, usize)>
         requires { k < count_of self.now }
-        ensures { IfSome result (λ row. (row.0 ≤ k) × (k ≤ row.1) × ((j : ℕ) → row.0 ≤ j → j ≤ row.1 → is_deep self.now.side (j % (self.now.side * self.now.side)) ≡ true)) }
+        ensures { IfSome result (λ row. (row.0 ≤ k) × (k ≤ row.1)
+            × ((j : ℕ) → row.0 ≤ j → j ≤ row.1
+            → is_deep self.now.side (j % (self.now.side * self.now.side)) ≡ true)) }
     {
         let side = self.side();
         let n = side.samples() as usize;
@@ -208,7 +216,8 @@ impl Tiles {
     pub(crate) fn step(&self, k: usize, direction: Dir, stride: Stride, deep: bool) -> usize
         requires k { k < count_of self.now }
         requires stride { IsStride self.now.side direction stride }
-        requires deep { IsTrue deep → is_deep self.now.side (k % (self.now.side * self.now.side)) ≡ true }
+        requires deep { IsTrue deep
+            → is_deep self.now.side (k % (self.now.side * self.now.side)) ≡ true }
         ensures value { result ≡ by_of self.now k direction }
         ensures first { result < count_of self.now → IsFirst self.now result }
     {
@@ -265,7 +274,9 @@ fn sample_of(side: Side, corners: &[Corner], tile: usize, point: Point) -> Optio
     requires few { length corners.now ≤ most_tiles }
     requires tile { tile < length corners.now }
     ensures corner { IsTrue (is_corner (slice_index_or corners.now tile no_corner)) }
-    ensures sample { MatchOption result (Holds side (slice_index_or corners.now tile no_corner) point → ⊥) (λ k. (e : ℕ) × (IsIndexOf side (slice_index_or corners.now tile no_corner) point e × (k ≡ tile * (side * side) + e))) }
+    ensures sample { MatchOption result (Holds side (slice_index_or corners.now tile no_corner) point → ⊥) (λ k. (e : ℕ)
+        × (IsIndexOf side (slice_index_or corners.now tile no_corner) point e
+        × (k ≡ tile * (side * side) + e))) }
 {
     let area = side.area() as usize;
     let corner = corners[tile];
@@ -346,7 +357,8 @@ fn are_rising(corners: &[Corner]) -> bool
 }
 
 fn see_corners(corners: &[Corner])
-    ensures { (i : ℕ) → i < length corners.now → IsTrue (is_corner (slice_index_or corners.now i no_corner)) }
+    ensures { (i : ℕ) → i < length corners.now
+        → IsTrue (is_corner (slice_index_or corners.now i no_corner)) }
 {
     for i in 0..corners.len() {
         let _latitude = latitude(corners[i]);

@@ -66,7 +66,8 @@ fn number(digits: &[u8]) -> Option<u16>
 /// `/`). The base name has at least 11 bytes and ends in `.hgt` in any case; any other is `BadName`.
 pub fn file_name(text: &[u8]) -> Result<Corner, Refusal>
     ensures ok { IfOk result (λ c. IsFileName text.now c) }
-    ensures err { IfErr result (λ r. (r ≡ Refusal.BadName) × ((c : Corner) → ¬ IsFileName text.now c)) }
+    ensures err { IfErr result (λ r. (r ≡ Refusal.BadName)
+        × ((c : Corner) → ¬ IsFileName text.now c)) }
 {
     let base = after_slash(text);
     if base.len() < 11 || !base[base.len() - 4..].eq_ignore_ascii_case(b".hgt") {

@@ -104,7 +104,8 @@ fn degrees_below(edge: u32, value: i32) -> i64
 // How many samples the value lies north (or east) of a tile's first edge, where it lies within the tile.
 fn steps_along(edge: u32, corner: i16, value: i32) -> Option<u32>
     requires edge { edge ≤ 3600 }
-    ensures { MatchOption result (IsFalse (is_along (pos edge) corner value)) (λ k. (k ≤ edge) × (value ≡ corner *ℤ pos edge +ℤ pos k)) }
+    ensures { MatchOption result (IsFalse (is_along (pos edge) corner value)) (λ k. (k ≤ edge)
+        × (value ≡ corner *ℤ pos edge +ℤ pos k)) }
 {
     let steps = i64::from(value) - first_edge(edge, corner);
     if 0 <= steps && steps <= i64::from(edge) {

@@ -3,8 +3,8 @@ ghost use Rattle.std.specs.Prelude.{◌≡◌, ◌<◌, MatchOption, All, ◌≢
 
 /// Where the byte first is.
 pub fn place_of(byte: u8, bytes: &[u8]) -> Option<usize>
-    ensures { MatchOption result (All (λ b. b ≢ byte) bytes.now)
-        (λ i. (i < length bytes.now) × (slice_index bytes.now i ≡ byte) × All (λ b. b ≢ byte) (take i bytes.now)) }
+    ensures { MatchOption result (All (λ b. b ≢ byte) bytes.now) (λ i. (i < length bytes.now)
+        × (slice_index bytes.now i ≡ byte) × All (λ b. b ≢ byte) (take i bytes.now)) }
 {
     bytes.iter().position(|&b| b == byte)
 }

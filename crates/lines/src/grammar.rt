@@ -104,8 +104,9 @@ fn is_word(word: &[u8]) -> bool
 
 /// The one argument, as a WORD, and the corner of the tile that it names, if it names one.
 fn tile(mut arguments: Words<'_>) -> Option<Option<Corner>>
-    ensures { MatchOption result ((w : List ℕ) → arguments.entry ≡ w ∷ [] → IsWord w → ⊥)
-        (λ corner. (w : List ℕ) × (arguments.entry ≡ w ∷ []) × IsWord w × MatchOption corner (NamesNone w) (λ c. IsName w c)) }
+    ensures { MatchOption result ((w : List ℕ) → arguments.entry ≡ w ∷ [] → IsWord w → ⊥) (λ corner. (w : List ℕ)
+        × (arguments.entry ≡ w ∷ []) × IsWord w
+        × MatchOption corner (NamesNone w) (λ c. IsName w c)) }
 {
     let name = arguments.next()?;
     if arguments.next().is_some() || !is_word(name) {
@@ -129,8 +130,9 @@ fn import(mut arguments: Words<'_>) -> Option<Request<'_>>
 
 /// What `patch Y0 X0 Y1 X1 HEIGHT` asks for; None for other arguments.
 fn patch(arguments: Words<'_>) -> Option<Event>
-    ensures { MatchOption result ((from to : Point) (height : ℤ) → AreInts arguments.entry (from.y ∷ from.x ∷ to.y ∷ to.x ∷ height ∷ []) → ⊥)
-        (λ event. (from to : Point) × (height : ℤ) × AreInts arguments.entry (from.y ∷ from.x ∷ to.y ∷ to.x ∷ height ∷ []) × (event ≡ ask.Do (Patch from to height))) }
+    ensures { MatchOption result ((from to : Point) (height : ℤ) → AreInts arguments.entry (from.y ∷ from.x ∷ to.y ∷ to.x ∷ height ∷ []) → ⊥) (λ event. (from to : Point)
+        × (height : ℤ) × AreInts arguments.entry (from.y ∷ from.x ∷ to.y ∷ to.x ∷ height ∷ [])
+        × (event ≡ ask.Do (Patch from to height))) }
 {
     let numbers = integers(arguments)?;
     let numbers = numbers.as_slice();
@@ -166,8 +168,8 @@ fn point(arguments: Words<'_>) -> Option<Point>
 
 /// The number and the 1 to 64 points that the arguments `NUMBER Y X ..` name; None for other arguments.
 fn number_and_points(arguments: Words<'_>) -> Option<(i32, ArrayVec<Point, MOST_POINTS>)>
-    ensures { MatchOption result ((z : ℤ) (ps : List Point) → AreInts arguments.entry (z ∷ coordinates ps) → IsPointCount (length ps) → ⊥)
-        (λ r. AreInts arguments.entry (r.0 ∷ coordinates r.1.items) × IsPointCount (length r.1.items)) }
+    ensures { MatchOption result ((z : ℤ) (ps : List Point) → AreInts arguments.entry (z ∷ coordinates ps) → IsPointCount (length ps) → ⊥) (λ r. AreInts arguments.entry (r.0 ∷ coordinates r.1.items)
+        × IsPointCount (length r.1.items)) }
 {
     let numbers = integers(arguments)?;
     match numbers.as_slice() {
@@ -200,7 +202,8 @@ fn points(numbers: &[i32]) -> Option<ArrayVec<Point, MOST_POINTS>>
 
 /// The request, where no argument stands beside the command.
 fn alone<'a>(mut arguments: Words<'_>, request: Request<'a>) -> Option<Request<'a>>
-    ensures { MatchOption result (arguments.entry ≢ []) (λ r. (r ≡ request.entry) × (arguments.entry ≡ [])) }
+    ensures { MatchOption result (arguments.entry ≢ []) (λ r. (r ≡ request.entry)
+        × (arguments.entry ≡ [])) }
 {
     match arguments.next() {
         None => Some(request),

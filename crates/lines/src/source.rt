@@ -67,7 +67,8 @@ impl Model for Ahead {
 
     ghost view = { λ a. record { bytes = drop a.start (take a.end (bytes_of a.room)); reads = a.reads } };
 
-    ghost invariant = { λ a. (a.start ≤ a.end) × (a.end ≤ length (bytes_of a.room)) × is_usable (length (bytes_of a.room)) };
+    ghost invariant = { λ a. (a.start ≤ a.end) × (a.end ≤ length (bytes_of a.room))
+        × is_usable (length (bytes_of a.room)) };
 }
 
 impl Ahead {
@@ -219,7 +220,8 @@ pub fn read_line<R: Read>(
 ) -> Result<Extent, ReadFault>
     ensures ok { IfOk result (λ extent. (text : List ℕ) × IsLine text × (line.new ≡ kept text)
         × Taken ahead.old (R.remaining reader.old) ahead.new (R.remaining reader.new) (text ++ line_feed extent)) }
-    ensures cut { result ≡ Ok Extent.Cut → (ahead.new.bytes ≡ []) × IsAtEnd (R.remaining reader.new) }
+    ensures cut { result ≡ Ok Extent.Cut
+        → (ahead.new.bytes ≡ []) × IsAtEnd (R.remaining reader.new) }
     ensures near { result ≡ Ok Extent.Whole → IsNear ahead.new.bytes }
     ensures spent { OnOk result (weight ahead.new < weight ahead.old) }
     ensures err { OnErr result ((text : List ℕ) × IsLine text
@@ -260,7 +262,8 @@ pub fn read_payload<R: Read>(
     requires room { len ≤ vec_capacity payload.old }
     ensures ok { IfOk result (λ extent. Reaches extent (vec_len payload.new) len
         × Taken ahead.old (R.remaining reader.old) ahead.new (R.remaining reader.new) payload.new.items) }
-    ensures cut { result ≡ Ok Extent.Cut → (ahead.new.bytes ≡ []) × IsAtEnd (R.remaining reader.new) }
+    ensures cut { result ≡ Ok Extent.Cut
+        → (ahead.new.bytes ≡ []) × IsAtEnd (R.remaining reader.new) }
     ensures spent { OnOk result (weight ahead.new ≤ weight ahead.old) }
     ensures err { OnErr result ((vec_len payload.new < len)
         × Taken ahead.old (R.remaining reader.old) ahead.new (R.remaining reader.new) payload.new.items) }
@@ -287,7 +290,8 @@ pub fn skip_payload<R: Read>(
 ) -> Result<Extent, ReadFault>
     ensures ok { IfOk result (λ extent. (bytes : List ℕ) × Reaches extent (length bytes) len
         × Taken ahead.old (R.remaining reader.old) ahead.new (R.remaining reader.new) bytes) }
-    ensures cut { result ≡ Ok Extent.Cut → (ahead.new.bytes ≡ []) × IsAtEnd (R.remaining reader.new) }
+    ensures cut { result ≡ Ok Extent.Cut
+        → (ahead.new.bytes ≡ []) × IsAtEnd (R.remaining reader.new) }
     ensures spent { OnOk result (weight ahead.new ≤ weight ahead.old) }
     ensures err { OnErr result ((bytes : List ℕ) × (length bytes < len)
         × Taken ahead.old (R.remaining reader.old) ahead.new (R.remaining reader.new) bytes) }

@@ -230,7 +230,8 @@ fn extend(line: &mut ArrayVec<u8, LONGEST_LINE>, more: &[u8])
 fn extend_number(line: &mut ArrayVec<u8, LONGEST_LINE>, word: &[u8], number: u64)
     requires { length line.old.items + length word.now + LONGEST_NUMBER ≤ LONGEST_LINE }
     ensures told { line.new.items ≡ line.old.items ++ word.now ++ decimal number }
-    ensures short { length line.new.items ≤ length line.old.items + length word.now + LONGEST_NUMBER }
+    ensures short { length line.new.items ≤ length line.old.items + length word.now
+        + LONGEST_NUMBER }
 {
     let mut buffer = Buffer::new();
     extend(line, word);

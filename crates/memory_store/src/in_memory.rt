@@ -28,12 +28,15 @@ pub fn store_in_memory(
     ensures capacity { IfOk result (λ store. capacity_of store ≡ capacity) }
     ensures sectors { IfOk result (λ store. sectors_of (disk_of store) ≡ sectors) }
     ensures bad_side { (result ≡ Err BadSide) ↔ ((side < 3) ⊎ (largest_side < side)) }
-    ensures bad_capacity { (result ≡ Err BadCapacity) ↔ ((3 ≤ side) × (side ≤ largest_side) × ((capacity < 1) ⊎ (most_tiles < capacity))) }
+    ensures bad_capacity { (result ≡ Err BadCapacity)
+        ↔ ((3 ≤ side) × (side ≤ largest_side) × ((capacity < 1) ⊎ (most_tiles < capacity))) }
     ensures too_small { (result ≡ Err TooSmall)
-        ↔ ((3 ≤ side) × (side ≤ largest_side) × (1 ≤ capacity) × (capacity ≤ most_tiles) × (sectors < sectors_asked (format_2 side capacity))) }
+        ↔ ((3 ≤ side) × (side ≤ largest_side) × (1 ≤ capacity) × (capacity ≤ most_tiles)
+        × (sectors < sectors_asked (format_2 side capacity))) }
 
     // Where there is room, it is refused only for want of memory, of its own or of the disk's.
-    ensures sure { 3 ≤ side → side ≤ largest_side → 1 ≤ capacity → capacity ≤ most_tiles → sectors_asked (format_2 side capacity) ≤ sectors
+    ensures sure { 3 ≤ side → side ≤ largest_side → 1 ≤ capacity → capacity ≤ most_tiles
+        → sectors_asked (format_2 side capacity) ≤ sectors
         → IfErr result (λ r. (r ≡ Device) ⊎ (r ≡ NoMemory)) }
 {
     let wanted = Format::new(Version::Two, side, capacity)?;

@@ -39,7 +39,8 @@ pub fn run_two_sessions(
 ) -> Result<Store<FuseDisk<MemDisk>>, Refusal>
     // Each session asked its events, and was cut off as said; then what was left was opened. What each of the three openings
     // finds is as [`store::sessions_compose`] says.
-    ensures accepted { IfOk result (λ opened. (early late : List Reply) × (between after : MemDisk) × (out.new.items ≡ out.old.items ++ early ++ late)
+    ensures accepted { IfOk result (λ opened. (early late : List Reply) × (between after : MemDisk)
+        × (out.new.items ≡ out.old.items ++ early ++ late)
         × (one : WasCutOff ⟦<FuseDisk<MemDisk> as Disk>⟧ disk first.entry.passes first.entry.events.now first.entry.torn early between)
         × (other : WasCutOff ⟦<FuseDisk<MemDisk> as Disk>⟧ between second.entry.passes second.entry.events.now second.entry.torn late after)
         × FindsAccepted ⟦<FuseDisk<MemDisk> as Disk>⟧ disk after one.session other.session opened) }
@@ -63,7 +64,8 @@ fn run_cut_session(
     plan: CutSession<'_>,
     out: &mut Vec<Reply>,
 ) -> Result<MemDisk, Refusal>
-    ensures cut_off { IfOk result (λ left. (answers : List Reply) × (out.new.items ≡ out.old.items ++ answers)
+    ensures cut_off { IfOk result (λ left. (answers : List Reply)
+        × (out.new.items ≡ out.old.items ++ answers)
         × WasCutOff ⟦<FuseDisk<MemDisk> as Disk>⟧ disk plan.entry.passes plan.entry.events.now plan.entry.torn answers left) }
     ensures refused { IfErr result (λ r. r ≡ NoMemory) }
 {
@@ -84,9 +86,12 @@ fn run_session(
     events: &[Event],
     out: &mut Vec<Reply>,
 ) -> Result<FuseDisk<MemDisk>, Refusal>
-    ensures session { IfOk result (λ left. (answers : List Reply) × (out.new.items ≡ out.old.items ++ answers)
-        × ((session : Session ⟦<FuseDisk<MemDisk> as Disk>⟧) × IsSession ⟦<FuseDisk<MemDisk> as Disk>⟧ session
-        × (first_disk ⟦<FuseDisk<MemDisk> as Disk>⟧ session ≡ disk) × (last_disk ⟦<FuseDisk<MemDisk> as Disk>⟧ session ≡ left)
+    ensures session { IfOk result (λ left. (answers : List Reply)
+        × (out.new.items ≡ out.old.items ++ answers)
+        × ((session : Session ⟦<FuseDisk<MemDisk> as Disk>⟧)
+        × IsSession ⟦<FuseDisk<MemDisk> as Disk>⟧ session
+        × (first_disk ⟦<FuseDisk<MemDisk> as Disk>⟧ session ≡ disk)
+        × (last_disk ⟦<FuseDisk<MemDisk> as Disk>⟧ session ≡ left)
         × AsksEvents ⟦<FuseDisk<MemDisk> as Disk>⟧ session events.now answers)) }
     ensures refused { IfErr result (λ r. r ≡ NoMemory) }
 {

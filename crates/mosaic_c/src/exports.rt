@@ -118,8 +118,8 @@ pub extern "C" fn mosaic_direction(
     x: i32,
     into: &mut u8,
 ) -> u8
-    ensures { let p : Point = record { y = y; x = x } in Told held.old held.new result into.new None
-        (λ m answer. OfPoint m p (λ code. IsAnswered m p (λ level. DrainsBy (terrain m) level p code)) answer) }
+    ensures { let p : Point = record { y = y; x = x } in
+        Told held.old held.new result into.new None (λ m answer. OfPoint m p (λ code. IsAnswered m p (λ level. DrainsBy (terrain m) level p code)) answer) }
 {
     tell(alloc, held, &Direction(Point { y, x }), &mut [], into)
 }
@@ -136,8 +136,8 @@ pub extern "C" fn mosaic_watershed(
     count: &mut u64,
     into: &mut [u8],
 ) -> u8
-    ensures { let p : Point = record { y = y; x = x } in Told held.old held.new result count.new (refused_at_once window.now (length into.old))
-        (λ m answer. OfPoint m p (IsShed m p window.now into.new) answer) }
+    ensures { let p : Point = record { y = y; x = x } in
+        Told held.old held.new result count.new (refused_at_once window.now (length into.old)) (λ m answer. OfPoint m p (IsShed m p window.now into.new) answer) }
 {
     tell(
         alloc,
@@ -157,8 +157,7 @@ pub extern "C" fn mosaic_heights(
     window: &Window,
     into: &mut [i16],
 ) -> u8
-    ensures { Told held.old held.new result (tt {0}) (refused_at_once window.now (length into.old))
-        (λ m answer. OfAny (λ _. AreOfAll window.now (λ p h. h ≡ metres (height_of m p)) into.new) answer) }
+    ensures { Told held.old held.new result (tt {0}) (refused_at_once window.now (length into.old)) (λ m answer. OfAny (λ _. AreOfAll window.now (λ p h. h ≡ metres (height_of m p)) into.new) answer) }
 {
     tell(alloc, held, &Each(Elevation, *window), into, &mut ())
 }
@@ -203,8 +202,8 @@ pub extern "C" fn mosaic_tile_levels(
     lon: i16,
     into: &mut [i16],
 ) -> u8
-    ensures { let c : Corner = record { lat = lat; lon = lon } in Told held.old held.new result (tt {0}) (refused_corner c)
-        (λ m answer. OfCopy m c (AreTileLevels m c) into.new answer) }
+    ensures { let c : Corner = record { lat = lat; lon = lon } in
+        Told held.old held.new result (tt {0}) (refused_corner c) (λ m answer. OfCopy m c (AreTileLevels m c) into.new answer) }
 {
     tell(alloc, held, &Tile(Level, lat, lon), into, &mut ())
 }
@@ -218,8 +217,8 @@ pub extern "C" fn mosaic_tile_directions(
     lon: i16,
     into: &mut [u8],
 ) -> u8
-    ensures { let c : Corner = record { lat = lat; lon = lon } in Told held.old held.new result (tt {0}) (refused_corner c)
-        (λ m answer. OfCopy m c (AreTileDirections m c) into.new answer) }
+    ensures { let c : Corner = record { lat = lat; lon = lon } in
+        Told held.old held.new result (tt {0}) (refused_corner c) (λ m answer. OfCopy m c (AreTileDirections m c) into.new answer) }
 {
     tell(alloc, held, &Tile(Course, lat, lon), into, &mut ())
 }
@@ -233,8 +232,8 @@ pub extern "C" fn mosaic_upstream(
     lon: i16,
     into: &mut [u32],
 ) -> u8
-    ensures { let c : Corner = record { lat = lat; lon = lon } in Told held.old held.new result (tt {0}) (refused_corner c)
-        (λ m answer. OfCopy m c (AreTileCounts m c) into.new answer) }
+    ensures { let c : Corner = record { lat = lat; lon = lon } in
+        Told held.old held.new result (tt {0}) (refused_corner c) (λ m answer. OfCopy m c (AreTileCounts m c) into.new answer) }
 {
     tell(alloc, held, &Tile(Upstream, lat, lon), into, &mut ())
 }

@@ -50,7 +50,8 @@ pub struct Handle {
 impl Handle {
     /// The session that is held, if there is one. The handle is left empty.
     pub(crate) fn take(&mut self, alloc: Global) -> Option<Box<ManuallyDrop<Session>>>
-        ensures session { option_map (λ b. manually_drop_value b.value) result ≡ self.old.kept.session }
+        ensures session { option_map (λ b. manually_drop_value b.value) result
+            ≡ self.old.kept.session }
         ensures left { self.new.kept.session ≡ None }
     {
         if self.held {

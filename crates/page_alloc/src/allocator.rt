@@ -41,7 +41,8 @@ impl Pages {
     /// All pages of a disk of `total` sectors, each of them free. None where there is no memory for them.
     pub fn new(alloc: Global, total: u32) -> Option<Pages>
         ensures total { IfSome result (λ pages. pages.total ≡ total) }
-        ensures all_free { IfSome result (λ pages. (page : ℕ) → IsFree pages page ↔ IsPage total page) }
+        ensures all_free { IfSome result (λ pages. (page : ℕ)
+            → IsFree pages page ↔ IsPage total page) }
         ensures count { IfSome result (λ pages. set.len pages.free ≡ total - FIRST_PAGE) }
     {
         let words = vec![in alloc; 0; total.div_ceil(64) as usize].ok()?;

@@ -16,7 +16,8 @@ pub(crate) fn is_set(words: &[u64], bit: usize) -> bool
 /// Sets bit `bit`, and leaves every other.
 pub(crate) fn set(words: &mut [u64], bit: usize)
     requires { bit / 64 < length words.old }
-    ensures { (other : ℕ) → has_bit words.new other ≡ (nat_eq other bit || has_bit words.old other) }
+    ensures { (other : ℕ)
+        → has_bit words.new other ≡ (nat_eq other bit || has_bit words.old other) }
 {
     words[bit / WORD_BITS] |= 1 << (bit % WORD_BITS);
 }
@@ -24,7 +25,8 @@ pub(crate) fn set(words: &mut [u64], bit: usize)
 /// Clears bit `bit`, and leaves every other.
 pub(crate) fn clear(words: &mut [u64], bit: usize)
     requires { bit / 64 < length words.old }
-    ensures { (other : ℕ) → has_bit words.new other ≡ (not (nat_eq other bit) && has_bit words.old other) }
+    ensures { (other : ℕ)
+        → has_bit words.new other ≡ (not (nat_eq other bit) && has_bit words.old other) }
 {
     words[bit / WORD_BITS] &= !(1 << (bit % WORD_BITS));
 }
@@ -46,7 +48,8 @@ pub(crate) fn next_set(words: &[u64], from: usize) -> Option<usize>
 fn next_word(words: &[u64], from: usize) -> Option<usize>
     ensures in_range { IfSome result (λ word. word < length words.now) }
     ensures found { IfSome result (λ word. slice_index words.now word ≢ 0) }
-    ensures none { IfNone result ((word : ℕ) → from ≤ word → word < length words.now → slice_index words.now word ≡ 0) }
+    ensures none { IfNone result ((word : ℕ) → from ≤ word → word < length words.now
+        → slice_index words.now word ≡ 0) }
 {
     (from..words.len()).find(|word| words[*word] != 0)
 }

@@ -24,7 +24,8 @@ pub(crate) fn read_entries(bytes: &[u8], tiles: u32) -> Option<ArrayVec<Entry, R
     ensures each { IfSome result (λ found. All IsEntry found.items) }
     ensures in_order { IfSome result (λ found. AreInOrder found.items) }
     ensures spelled { IfSome result (λ found. bytes.now ≡ padded ENTRIES_BYTES (flat_map entry_bytes found.items)) }
-    ensures none { IfNone result ((entries : List EntryValue) → length entries ≡ tiles → All IsEntry entries → AreInOrder entries
+    ensures none { IfNone result ((entries : List EntryValue) → length entries ≡ tiles
+        → All IsEntry entries → AreInOrder entries
         → bytes.now ≡ padded ENTRIES_BYTES (flat_map entry_bytes entries) → ⊥) }
 {
     let mut entries = ArrayVec::new();
@@ -44,7 +45,8 @@ fn next_entry(bytes: &[u8], entries: &[Entry]) -> Option<Entry>
     ensures entry { IfSome result IsEntry }
     ensures follows { IfSome result (λ found. Follows EntryIsBefore entries.now found) }
     ensures spelled { IfSome result (λ found. bytes.now ≡ entry_bytes found) }
-    ensures none { IfNone result ((entry : EntryValue) → IsEntry entry → Follows EntryIsBefore entries.now entry → bytes.now ≡ entry_bytes entry → ⊥) }
+    ensures none { IfNone result ((entry : EntryValue) → IsEntry entry
+        → Follows EntryIsBefore entries.now entry → bytes.now ≡ entry_bytes entry → ⊥) }
 {
     let entry = Entry::parse(bytes)?;
     if !follows(entries, &entry) {

@@ -52,7 +52,8 @@ impl Entry {
     /// The entry that these bytes spell.
     pub fn read(bytes: &[u8; ENTRY_BYTES]) -> Result<Entry, Damaged>
         ensures found { IfOk result (λ entry. IsEntry entry × (bytes.now ≡ entry_bytes entry)) }
-        ensures only { (entry : EntryValue) → IsEntry entry → bytes.now ≡ entry_bytes entry → result ≡ Ok entry }
+        ensures only { (entry : EntryValue) → IsEntry entry → bytes.now ≡ entry_bytes entry
+            → result ≡ Ok entry }
         ensures rule { IfErr result (λ damaged. damaged ≡ Rule) }
     {
         Entry::parse(bytes).ok_or(Damaged::Rule)
@@ -62,7 +63,8 @@ impl Entry {
     pub(crate) fn parse(bytes: &[u8]) -> Option<Entry>
         requires { length bytes.now ≡ ENTRY_BYTES }
         ensures found { IfSome result (λ entry. IsEntry entry × (bytes.now ≡ entry_bytes entry)) }
-        ensures none { IfNone result ((entry : EntryValue) → IsEntry entry → bytes.now ≡ entry_bytes entry → ⊥) }
+        ensures none { IfNone result ((entry : EntryValue) → IsEntry entry
+            → bytes.now ≡ entry_bytes entry → ⊥) }
     {
         Fields::read(bytes).entry()
     }
@@ -138,7 +140,8 @@ impl Fields {
     // The entry that has these fields.
     fn entry(self) -> Option<Entry>
         ensures found { IfSome result (λ entry. IsEntry entry × AreFieldsOf self entry) }
-        ensures none { IfNone result ((entry : EntryValue) → IsEntry entry → AreFieldsOf self entry → ⊥) }
+        ensures none { IfNone result ((entry : EntryValue) → IsEntry entry → AreFieldsOf self entry
+            → ⊥) }
     {
         let corner = Corner::new(self.lat, self.lon)?;
         if self.heights == NONE {

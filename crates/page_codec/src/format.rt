@@ -37,10 +37,13 @@ impl Format {
     /// version and 3601 by the second. Else it is refused as BadCapacity where there is no such capacity.
     pub fn new(version: Version, side: u32, capacity: u32) -> Result<Format, Refusal>
         ensures made { IfOk result (λ format. format ≡ record { version = version; side = side; capacity = capacity }) }
-        ensures good { IsOk result ↔ IsFormat (record { version = version; side = side; capacity = capacity }) }
-        ensures bad_side { IsErrOf result BadSide ↔ ¬ ((3 ≤ side) × (side ≤ largest_side_of version)) }
+        ensures good { IsOk result
+            ↔ IsFormat (record { version = version; side = side; capacity = capacity }) }
+        ensures bad_side { IsErrOf result BadSide
+            ↔ ¬ ((3 ≤ side) × (side ≤ largest_side_of version)) }
         ensures bad_capacity { IsErrOf result BadCapacity
-            ↔ ((3 ≤ side) × (side ≤ largest_side_of version) × ¬ ((1 ≤ capacity) × (capacity ≤ MAX_CAPACITY))) }
+            ↔ ((3 ≤ side) × (side ≤ largest_side_of version)
+            × ¬ ((1 ≤ capacity) × (capacity ≤ MAX_CAPACITY))) }
     {
         let side = Side::new(side)
             .filter(|side| side.samples() <= version.largest_side())

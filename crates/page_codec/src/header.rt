@@ -50,9 +50,7 @@ impl Header {
     /// The format, where the numbers keep the rules of a root of this version.
     pub(crate) fn format(&self, version: Version) -> Option<Format>
         requires { IsKnown version }
-        ensures { SomeIff result
-            (AreNumbers (record { version = version; side = self.now.side; capacity = self.now.capacity }) self.now.tiles self.now.number self.now.count self.now.sinks)
-            (record { version = version; side = self.now.side; capacity = self.now.capacity }) }
+        ensures { SomeIff result (AreNumbers (record { version = version; side = self.now.side; capacity = self.now.capacity }) self.now.tiles self.now.number self.now.count self.now.sinks) (record { version = version; side = self.now.side; capacity = self.now.capacity }) }
     {
         let format = Format::new(version, self.side, self.capacity).ok()?;
         let is_valid = self.tiles <= self.capacity

@@ -6,8 +6,10 @@ ghost use Rattle.page_codec.specs.Roots.{RootValue, IsRoot, root_bytes};
 
 /// Bytes spell one root, one entry and one record of so many pages at the most. It does nothing: its contract is the law.
 pub fn one_value_a_spelling()
-    ensures entries { (a b : EntryValue) → IsEntry a → IsEntry b → entry_bytes a ≡ entry_bytes b → a ≡ b }
-    ensures records { (count : ℕ) (a b : List ℕ) → IsRecord count a → IsRecord count b → record_bytes a ≡ record_bytes b → a ≡ b }
+    ensures entries { (a b : EntryValue) → IsEntry a → IsEntry b → entry_bytes a ≡ entry_bytes b
+        → a ≡ b }
+    ensures records { (count : ℕ) (a b : List ℕ) → IsRecord count a → IsRecord count b
+        → record_bytes a ≡ record_bytes b → a ≡ b }
     ensures roots { (a b : RootValue) → IsRoot a → IsRoot b → root_bytes a ≡ root_bytes b → a ≡ b }
     ensures whole { (a : RootValue) → IsRoot a → length (root_bytes a) ≡ 4096 }
 {}

@@ -28,8 +28,10 @@ impl Record {
     /// the store's format.
     pub fn read(bytes: &[u8; PAGE_BYTES], count: u32) -> Result<Record, Damaged>
         requires { count ≤ RECORD_PAGES }
-        ensures found { IfOk result (λ read. IsRecord count read.pages.items × (bytes.now ≡ record_bytes read.pages.items)) }
-        ensures only { (pages : List ℕ) → IsRecord count pages → bytes.now ≡ record_bytes pages → IsOkAnd result (λ read. read.pages.items ≡ pages) }
+        ensures found { IfOk result (λ read. IsRecord count read.pages.items
+            × (bytes.now ≡ record_bytes read.pages.items)) }
+        ensures only { (pages : List ℕ) → IsRecord count pages → bytes.now ≡ record_bytes pages
+            → IsOkAnd result (λ read. read.pages.items ≡ pages) }
         ensures rule { IfErr result (λ damaged. damaged ≡ Rule) }
     {
         Ok(Record {
@@ -49,8 +51,10 @@ impl IndexPage {
     /// The index page of so many page numbers that these bytes spell. How many they are isn't in the bytes.
     pub fn read(bytes: &[u8; PAGE_BYTES], count: u32) -> Result<IndexPage, Damaged>
         requires { count ≤ RECORD_PAGES }
-        ensures found { IfOk result (λ read. IsRecord count read.pages.items × (bytes.now ≡ record_bytes read.pages.items)) }
-        ensures only { (pages : List ℕ) → IsRecord count pages → bytes.now ≡ record_bytes pages → IsOkAnd result (λ read. read.pages.items ≡ pages) }
+        ensures found { IfOk result (λ read. IsRecord count read.pages.items
+            × (bytes.now ≡ record_bytes read.pages.items)) }
+        ensures only { (pages : List ℕ) → IsRecord count pages → bytes.now ≡ record_bytes pages
+            → IsOkAnd result (λ read. read.pages.items ≡ pages) }
         ensures rule { IfErr result (λ damaged. damaged ≡ Rule) }
     {
         Ok(IndexPage {
@@ -69,8 +73,10 @@ impl IndexPage {
 // Page numbers, and zeros behind them.
 fn read_pages(bytes: &[u8; PAGE_BYTES], count: u32) -> Result<ArrayVec<u32, RECORD_PAGES>, Damaged>
     requires { count ≤ RECORD_PAGES }
-    ensures found { IfOk result (λ pages. IsRecord count pages.items × (bytes.now ≡ record_bytes pages.items)) }
-    ensures only { (pages : List ℕ) → IsRecord count pages → bytes.now ≡ record_bytes pages → IsOkAnd result (λ read. read.items ≡ pages) }
+    ensures found { IfOk result (λ pages. IsRecord count pages.items
+        × (bytes.now ≡ record_bytes pages.items)) }
+    ensures only { (pages : List ℕ) → IsRecord count pages → bytes.now ≡ record_bytes pages
+        → IsOkAnd result (λ read. read.items ≡ pages) }
     ensures rule { IfErr result (λ damaged. damaged ≡ Rule) }
 {
     let (pages, rest) = split_pages(bytes, count);

@@ -188,11 +188,14 @@ impl Root {
     /// The root that these bytes spell.
     pub fn read(bytes: &[u8; PAGE_BYTES]) -> Result<Root, Damaged>
         ensures found { IfOk result (λ root. IsRoot root × (bytes.now ≡ root_bytes root)) }
-        ensures only { (root : RootValue) → IsRoot root → bytes.now ≡ root_bytes root → result ≡ Ok root }
+        ensures only { (root : RootValue) → IsRoot root → bytes.now ≡ root_bytes root
+            → result ≡ Ok root }
         ensures magic { IsErrOf result reason.Magic ↔ ¬ HasMagic bytes.now }
-        ensures version { IsErrOf result reason.Version ↔ (HasMagic bytes.now × ¬ HasKnownVersion bytes.now) }
+        ensures version { IsErrOf result reason.Version
+            ↔ (HasMagic bytes.now × ¬ HasKnownVersion bytes.now) }
         ensures rule { IsErrOf result reason.Rule
-            ↔ (HasMagic bytes.now × HasKnownVersion bytes.now × ((root : RootValue) → IsRoot root → bytes.now ≢ root_bytes root)) }
+            ↔ (HasMagic bytes.now × HasKnownVersion bytes.now
+            × ((root : RootValue) → IsRoot root → bytes.now ≢ root_bytes root)) }
     {
         let rest = behind_magic(bytes)?;
         let (version, body) = behind_version(rest)?;
@@ -203,8 +206,10 @@ impl Root {
     fn parse(version: Version, body: &[u8]) -> Option<Root>
         requires known { IsKnown version }
         requires body { length body.now ≡ BODY_BYTES }
-        ensures found { IfSome result (λ root. IsRoot root × (root.version ≡ version) × (body.now ≡ body_bytes root)) }
-        ensures none { IfNone result ((root : RootValue) → IsRoot root → root.version ≡ version → body.now ≡ body_bytes root → ⊥) }
+        ensures found { IfSome result (λ root. IsRoot root × (root.version ≡ version)
+            × (body.now ≡ body_bytes root)) }
+        ensures none { IfNone result ((root : RootValue) → IsRoot root → root.version ≡ version
+            → body.now ≡ body_bytes root → ⊥) }
     {
         let (header, rest) = Header::split(body);
         let (free, rest) = rest.split_at(FREE_BYTES);
@@ -277,7 +282,8 @@ fn behind_version(rest: &[u8]) -> Result<(Version, &[u8]), Damaged>
     ensures found { IfOk result (λ found. rest.now ≡ u32_bytes (number_of found.0) ++ found.1.now) }
     ensures len { IfOk result (λ found. length found.1.now + 4 ≡ length rest.now) }
     ensures none { IfErr result (λ damaged. (damaged ≡ reason.Version)
-        × ((version : Version) → IsKnown version → take 4 rest.now ≢ u32_bytes (number_of version))) }
+        × ((version : Version) → IsKnown version
+        → take 4 rest.now ≢ u32_bytes (number_of version))) }
 {
     let (number, body) = split_u32(rest);
     let Some(version) = Version::of(number) else {

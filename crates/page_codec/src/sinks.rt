@@ -53,7 +53,8 @@ fn next_sink(bytes: &[u8], side: Side, sinks: &[Point]) -> Option<Point>
     ensures held { IfSome result (IsHeld side) }
     ensures follows { IfSome result (λ found. Follows SinkIsBefore sinks.now found) }
     ensures spelled { IfSome result (λ found. bytes.now ≡ sink_bytes found) }
-    ensures none { IfNone result ((sink : Point) → IsHeld side sink → Follows SinkIsBefore sinks.now sink → bytes.now ≡ sink_bytes sink → ⊥) }
+    ensures none { IfNone result ((sink : Point) → IsHeld side sink
+        → Follows SinkIsBefore sinks.now sink → bytes.now ≡ sink_bytes sink → ⊥) }
 {
     let sink = read_point(bytes);
     if !may_follow(side, sinks, sink) {

@@ -18,7 +18,8 @@ impl Version {
     pub fn of(number: u32) -> Option<Version>
         ensures known { IfSome result IsKnown }
         ensures found { IfSome result (λ version. number ≡ number_of version) }
-        ensures none { IfNone result ((version : Version) → IsKnown version → number ≢ number_of version) }
+        ensures none { IfNone result ((version : Version) → IsKnown version
+            → number ≢ number_of version) }
     {
         match number {
             1 => Some(Version::One),

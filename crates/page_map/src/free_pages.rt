@@ -39,7 +39,8 @@ impl FreePages {
         requires low { 4 ≤ window }
         requires within { window ≤ sectors }
         ensures range { IfOk result (λ free. free.range ≡ record { sectors = sectors; window = window }) }
-        ensures all_free { IfOk result (λ free. (p : ℕ) → free_times free p ≡ page_times free.range p) }
+        ensures all_free { IfOk result (λ free. (p : ℕ)
+            → free_times free p ≡ page_times free.range p) }
         ensures refused { IfErr result (λ refusal. refusal ≡ NoMemory) }
     {
         let near = Pages::new(alloc, window).ok_or(Refusal::NoMemory)?;
@@ -75,7 +76,8 @@ impl FreePages {
     /// this disk; and with NoMemory.
     pub(crate) fn mark(&mut self, page: u32) -> Result<(), Refusal>
         ensures marked { OnOk result (AreTaken (page ∷ []) self.old self.new) }
-        ensures refused { IfErr result (λ refusal. (refusal ≡ NoMemory) ⊎ ((refusal ≡ Damaged) × (free_times self.old page ≡ 0))) }
+        ensures refused { IfErr result (λ refusal. (refusal ≡ NoMemory)
+            ⊎ ((refusal ≡ Damaged) × (free_times self.old page ≡ 0))) }
     {
         if page < self.near.total() {
             return if self.near.mark(page) {

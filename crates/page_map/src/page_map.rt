@@ -84,7 +84,9 @@ impl PageMap {
         requires whole { IsWholeTile self.format (tile_at corner planes) }
         ensures loaded { IfOk result (λ page_map. page_map ≡ record self { committed = self.committed ++ tile_at corner planes ∷ []; staged = self.committed ++ tile_at corner planes ∷ [] }) }
         ensures rules { IfOk result IsPageMap }
-        ensures refused { IfErr result (λ refusal. (refusal ≡ NoMemory) ⊎ ((refusal ≡ Damaged) × ¬ KeepsPageRule self.sectors (self.committed ++ tile_at corner planes ∷ []))) }
+        ensures refused { IfErr result (λ refusal. (refusal ≡ NoMemory)
+            ⊎ ((refusal ≡ Damaged)
+            × ¬ KeepsPageRule self.sectors (self.committed ++ tile_at corner planes ∷ []))) }
     {
         corner_in_range(corner);
         let PageMap {
@@ -193,7 +195,8 @@ impl PageMap {
     /// A page of what lists a plane of the corner's staged tile, by its number, where it is still to be written: no
     /// committed tile reaches it.
     pub fn page_due(&self, c: Corner, plane: Plane, i: usize) -> Option<u32>
-        ensures { (location : PlaneLocation) → HasPlaneAt self.now.staged c plane location → i < length (listing_of location)
+        ensures { (location : PlaneLocation) → HasPlaneAt self.now.staged c plane location
+            → i < length (listing_of location)
             → result ≡ page_if (is_unreached self.now.committed (slice_index (listing_of location) i)) (slice_index (listing_of location) i) }
     {
         let entry = self.entries.get(&c)?;

@@ -20,7 +20,8 @@ pub(crate) fn fresh_plane(
 ) -> Result<PagedPlane, Refusal>
     requires { index_pages + pages + 1 ≤ set.len free.old.free }
     ensures taken { IfOk result (λ plane. AreTaken (pages_of_plane plane) free.old free.new) }
-    ensures left { IfOk result (λ plane. set.len free.new.free + (index_pages + pages + 1) ≡ set.len free.old.free) }
+    ensures left { IfOk result (λ plane. set.len free.new.free + (index_pages + pages + 1)
+        ≡ set.len free.old.free) }
     ensures index_pages { IfOk result (λ plane. length plane.index_pages ≡ index_pages) }
     ensures pages { IfOk result (λ plane. length plane.pages ≡ pages) }
     ensures refused { IfErr result (λ refusal. refusal ≡ NoMemory) }

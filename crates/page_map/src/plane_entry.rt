@@ -79,7 +79,8 @@ impl PlaneEntry {
         requires room { HasRoom self.old (set.len free.old.free) }
         requires present { IsSome (staged_plane self.old) }
         requires index { IfSome (staged_plane self.old) (λ location. i < length location.pages) }
-        requires apart { (p : ℕ) → times p (behind_at self.old.committed) + free_times free.old p ≤ 1 }
+        requires apart { (p : ℕ)
+            → times p (behind_at self.old.committed) + free_times free.old p ≤ 1 }
         ensures staged { IfOk result (λ page. IsPageRestaged i page self.old self.new) }
         ensures committed { self.new.committed ≡ self.old.committed }
         ensures balanced { AreBalanced (fresh_in self.old) (fresh_in self.new) free.old free.new }
@@ -126,8 +127,10 @@ impl PlaneEntry {
 
     /// A page of what lists the plane's pages, by its number, unless it is the committed one.
     pub(crate) fn page_due(&self, i: usize) -> Option<u32>
-        ensures same { listed_at i self.now.committed ≡ listed_at i (staged_plane self.now) → result ≡ None }
-        ensures other { listed_at i self.now.committed ≢ listed_at i (staged_plane self.now) → result ≡ listed_at i (staged_plane self.now) }
+        ensures same { listed_at i self.now.committed ≡ listed_at i (staged_plane self.now)
+            → result ≡ None }
+        ensures other { listed_at i self.now.committed ≢ listed_at i (staged_plane self.now)
+            → result ≡ listed_at i (staged_plane self.now) }
     {
         let page = listing_page(self.location(), i);
         let committed = listing_page(self.committed.as_ref(), i);
@@ -253,7 +256,8 @@ fn with_fresh_record(
 /// Page `i` of the plane, and the index page that lists it where there is one: each is moved to a free page where the
 /// committed plane has it at the same index.
 fn own_listed(location: &mut PagedPlane, committed: &[u32], i: usize, free: &mut FreePages) -> u32
-    requires room { length (pages_behind location.old) ≤ length (differing (pages_behind location.old) committed.now) + set.len free.old.free }
+    requires room { length (pages_behind location.old)
+        ≤ length (differing (pages_behind location.old) committed.now) + set.len free.old.free }
     requires index { i < length location.old.pages }
     requires apart { (p : ℕ) → times p committed.now + free_times free.old p ≤ 1 }
     ensures { IsOwnedPage committed.now i result location.old location.new free.old free.new }
@@ -273,12 +277,14 @@ fn make_writable(
     at: usize,
     free: &mut FreePages,
 ) -> u32
-    requires room { length (pages_behind location.old) ≤ length (differing (pages_behind location.old) committed.now) + set.len free.old.free }
+    requires room { length (pages_behind location.old)
+        ≤ length (differing (pages_behind location.old) committed.now) + set.len free.old.free }
     requires index { at < length (pages_behind location.old) }
     requires apart { (p : ℕ) → times p committed.now + free_times free.old p ≤ 1 }
     ensures moved { IsMovedBehind at result location.old location.new }
     ensures owned { IsOwned committed.now result (pages_behind location.old) (pages_behind location.new) free.old free.new }
-    ensures left { length (pages_behind location.new) ≤ length (differing (pages_behind location.new) committed.now) + set.len free.new.free }
+    ensures left { length (pages_behind location.new)
+        ≤ length (differing (pages_behind location.new) committed.now) + set.len free.new.free }
 {
     let page = location.behind()[at];
     if !stands_at(page, at, committed) {

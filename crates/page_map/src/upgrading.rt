@@ -30,8 +30,10 @@ pub(crate) fn upgraded_planes(
     requires whole { HaveAllPages format.side (tile_planes heights.now entry.now.levels.committed entry.now.labels.committed) }
     requires room { 3 * (1 + index_pages_of format) ≤ set.len free.old.free }
     ensures taken { IfOk result (λ new. AreTaken (listing_of new.heights ++ listing_of_kept new.kept) free.old free.new) }
-    ensures left { IfOk result (λ new. set.len free.old.free ≤ set.len free.new.free + 3 * (1 + index_pages_of format)) }
-    ensures same_pages { IfOk result (λ new. (c : Corner) → data_of (tile_at c new) ≡ data_of (tile_at c (tile_planes heights.now entry.now.levels.committed entry.now.labels.committed))) }
+    ensures left { IfOk result (λ new. set.len free.old.free ≤ set.len free.new.free
+        + 3 * (1 + index_pages_of format)) }
+    ensures same_pages { IfOk result (λ new. (c : Corner)
+        → data_of (tile_at c new) ≡ data_of (tile_at c (tile_planes heights.now entry.now.levels.committed entry.now.labels.committed))) }
     ensures whole { IfOk result (λ new. (c : Corner) → IsWholeTile format (tile_at c new)) }
     ensures refused { IfErr result (λ refusal. refusal ≡ NoMemory) }
 {
@@ -49,7 +51,8 @@ fn upgraded_kept(
     requires whole { IfSome (kept_of entry.now.levels.committed entry.now.labels.committed) (KeptHaveAllPages format.side) }
     requires room { 2 * (1 + index_pages_of format) ≤ set.len free.old.free }
     ensures taken { IfOk result (λ new. AreTaken (listing_of_kept new) free.old free.new) }
-    ensures left { IfOk result (λ new. set.len free.old.free ≤ set.len free.new.free + 2 * (1 + index_pages_of format)) }
+    ensures left { IfOk result (λ new. set.len free.old.free ≤ set.len free.new.free
+        + 2 * (1 + index_pages_of format)) }
     ensures same_pages { IfOk result (λ new. data_of_kept new ≡ data_of_kept (kept_of entry.now.levels.committed entry.now.labels.committed)) }
     ensures whole { IfOk result (λ new. IfSome new (AreWholeKept format)) }
     ensures refused { IfErr result (λ refusal. refusal ≡ NoMemory) }
@@ -74,7 +77,8 @@ fn upgraded_plane(
     requires whole { HasAllPages format.side plane.now }
     requires room { 1 + index_pages_of format ≤ set.len free.old.free }
     ensures taken { IfOk result (λ new. AreTaken (listing_of new) free.old free.new) }
-    ensures left { IfOk result (λ new. set.len free.old.free ≡ set.len free.new.free + (1 + index_pages_of format)) }
+    ensures left { IfOk result (λ new. set.len free.old.free ≡ set.len free.new.free
+        + (1 + index_pages_of format)) }
     ensures same_pages { IfOk result (λ new. new.pages ≡ plane.now.pages) }
     ensures whole { IfOk result (IsWholePlane format) }
     ensures refused { IfErr result (λ refusal. refusal ≡ NoMemory) }

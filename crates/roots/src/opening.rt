@@ -40,7 +40,8 @@ fn read_gate<D: Disk>(disk: &mut D, slot: Slot) -> Result<bool, Fault>
     requires { 4 ≤ D.size disk.old }
     ensures only_reads { OnlyReads D.Disk disk.old disk.new }
     ensures cause { HasCause (D.failures disk.old) (D.failures disk.new) result }
-    ensures opened { D.honest disk.new → IfOk result (λ opened. is_open (D.seen disk.old (gate slot)) ≡ opened) }
+    ensures opened { D.honest disk.new
+        → IfOk result (λ opened. is_open (D.seen disk.old (gate slot)) ≡ opened) }
 {
     let mut bytes = [0; PAGE_BYTES];
     disk.read(slot.gate(), &mut bytes)?;
@@ -56,7 +57,8 @@ fn read_root<D: Disk>(
     requires { 4 ≤ D.size disk.old }
     ensures only_reads { OnlyReads D.Disk disk.old disk.new }
     ensures cause { HasCause (D.failures disk.old) (D.failures disk.new) result }
-    ensures held { D.honest disk.new → IfOk result (λ held. HoldsBehind opened slot (D.seen disk.old) held) }
+    ensures held { D.honest disk.new
+        → IfOk result (λ held. HoldsBehind opened slot (D.seen disk.old) held) }
 {
     if !opened {
         return Ok(None);

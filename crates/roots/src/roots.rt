@@ -83,8 +83,10 @@ impl<D: Disk> Roots<D> {
         ensures writes { D.writes disk.new ≤ D.writes disk.old + 4 }
         ensures honest { D.honest disk.new → D.honest disk.old }
         ensures formatted { D.honest disk.new → OnOk result (IsCurrent root.now (D.seen disk.new)) }
-        ensures pages { D.honest disk.new → OnOk result (SamePages (D.seen disk.old) (D.seen disk.new)) }
-        ensures durable { D.honest disk.new → OnOk result (Only (D.seen disk.new) (D.may disk.new)) }
+        ensures pages { D.honest disk.new
+            → OnOk result (SamePages (D.seen disk.old) (D.seen disk.new)) }
+        ensures durable { D.honest disk.new
+            → OnOk result (Only (D.seen disk.new) (D.may disk.new)) }
     {
         device(write_only(disk, root))
     }
@@ -100,15 +102,19 @@ impl<D: Disk> Roots<D> {
         ensures writes { D.writes (disk_after result) ≡ D.writes disk }
         ensures later { D.failures disk ≤ D.failures (disk_after result) }
         ensures refused { IfErr result (λ e. IsRefusalOfOpening e.refusal) }
-        ensures device { opened_as result ≡ Err Device → HasRisen (D.failures disk) (D.failures (disk_after result)) }
-        ensures nothing { D.honest (disk_after result) → AddsNothing D.Disk disk (disk_after result) }
+        ensures device { opened_as result ≡ Err Device
+            → HasRisen (D.failures disk) (D.failures (disk_after result)) }
+        ensures nothing { D.honest (disk_after result)
+            → AddsNothing D.Disk disk (disk_after result) }
 
         // Where no call fails, the answer is the one that the image asks for.
         ensures opens { D.honest (disk_after result)
-            → (opened_as result ≡ Err Device) ⊎ OpensAs (D.size disk) (D.seen disk) (opened_as result) }
-        ensures store { D.honest (disk_after result) → (root : RootValue) → HoldsStore (D.size disk) (D.seen disk) root
-            → IfErr result (λ e. e.refusal ≡ Device) }
-        ensures seen { D.honest (disk_after result) → OnOk result (D.seen (disk_after result) ≡ D.seen disk) }
+            → (opened_as result ≡ Err Device)
+            ⊎ OpensAs (D.size disk) (D.seen disk) (opened_as result) }
+        ensures store { D.honest (disk_after result) → (root : RootValue)
+            → HoldsStore (D.size disk) (D.seen disk) root → IfErr result (λ e. e.refusal ≡ Device) }
+        ensures seen { D.honest (disk_after result)
+            → OnOk result (D.seen (disk_after result) ≡ D.seen disk) }
         ensures ready { IfOk result (λ roots. D.honest (disk_of roots) → IsReady D.Disk roots) }
         ensures durable { D.honest (disk_after result)
             → OnOk result (Only (D.seen (disk_after result)) (D.may (disk_after result))) }
@@ -142,12 +148,15 @@ impl<D: Disk> Roots<D> {
         ensures writes { D.writes (disk_of self.new) ≡ D.writes (disk_of self.old) }
         ensures later { D.failures (disk_of self.old) ≤ D.failures (disk_of self.new) }
         ensures refused { IfErr result IsRefusalOfOpening }
-        ensures device { IsErrOf result Device → HasRisen (D.failures (disk_of self.old)) (D.failures (disk_of self.new)) }
-        ensures nothing { D.honest (disk_of self.new) → AddsNothing D.Disk (disk_of self.old) (disk_of self.new) }
-        ensures opens { D.honest (disk_of self.new) → IsErrOf result Device
-            ⊎ OpensAs (D.size (disk_of self.old)) (D.seen (disk_of self.old)) (reopened_as result (root_of self.new)) }
+        ensures device { IsErrOf result Device
+            → HasRisen (D.failures (disk_of self.old)) (D.failures (disk_of self.new)) }
+        ensures nothing { D.honest (disk_of self.new)
+            → AddsNothing D.Disk (disk_of self.old) (disk_of self.new) }
+        ensures opens { D.honest (disk_of self.new)
+            → IsErrOf result Device ⊎ OpensAs (D.size (disk_of self.old)) (D.seen (disk_of self.old)) (reopened_as result (root_of self.new)) }
         ensures store { D.honest (disk_of self.new) → (root : RootValue)
-            → HoldsStore (D.size (disk_of self.old)) (D.seen (disk_of self.old)) root → IfErr result (λ refusal. refusal ≡ Device) }
+            → HoldsStore (D.size (disk_of self.old)) (D.seen (disk_of self.old)) root
+            → IfErr result (λ refusal. refusal ≡ Device) }
         ensures seen { D.honest (disk_of self.new)
             → OnOk result (D.seen (disk_of self.new) ≡ D.seen (disk_of self.old)) }
         ensures ready { D.honest (disk_of self.new) → OnOk result (IsReady D.Disk self.new) }
@@ -231,10 +240,14 @@ impl<D: Disk> Roots<D> {
         ensures refused { IfErr result (λ refusal. refusal ≡ Device) }
         ensures writes { D.writes (disk_of self.new) ≡ D.writes (disk_of self.old) }
         ensures root { root_of self.new ≡ root_of self.old }
-        ensures read { D.honest (disk_of self.new) → OnOk result (into.new ≡ D.seen (disk_of self.old) p) }
-        ensures seen { D.honest (disk_of self.new) → D.seen (disk_of self.new) ≡ D.seen (disk_of self.old) }
-        ensures nothing { D.honest (disk_of self.new) → AddsNothing D.Disk (disk_of self.old) (disk_of self.new) }
-        ensures ready { D.honest (disk_of self.new) → IsReady D.Disk self.old → OnOk result (IsReady D.Disk self.new) }
+        ensures read { D.honest (disk_of self.new)
+            → OnOk result (into.new ≡ D.seen (disk_of self.old) p) }
+        ensures seen { D.honest (disk_of self.new)
+            → D.seen (disk_of self.new) ≡ D.seen (disk_of self.old) }
+        ensures nothing { D.honest (disk_of self.new)
+            → AddsNothing D.Disk (disk_of self.old) (disk_of self.new) }
+        ensures ready { D.honest (disk_of self.new) → IsReady D.Disk self.old
+            → OnOk result (IsReady D.Disk self.new) }
         ensures not_failed { OnOk result (has_failed self.new ≡ false) }
         ensures begun { has_begun self.new ≡ has_begun self.old }
         ensures failed { OnErr result (has_failed self.new ≡ true) }
@@ -250,10 +263,12 @@ impl<D: Disk> Roots<D> {
         ensures size { D.size (disk_of self.new) ≡ D.size (disk_of self.old) }
         ensures cause { HasCause (D.failures (disk_of self.old)) (D.failures (disk_of self.new)) result }
         ensures refused { IfErr result (λ refusal. refusal ≡ Device) }
-        ensures writes { D.writes (disk_of self.new) ≤ D.writes (disk_of self.old) + (if has_begun self.old then 0 else 1) }
+        ensures writes { D.writes (disk_of self.new) ≤ D.writes (disk_of self.old)
+            + (if has_begun self.old then 0 else 1) }
         ensures honest { D.honest (disk_of self.new) → D.honest (disk_of self.old) }
         ensures root { root_of self.new ≡ root_of self.old }
-        ensures ready { D.honest (disk_of self.new) → IsReady D.Disk self.old → OnOk result (IsReady D.Disk self.new) }
+        ensures ready { D.honest (disk_of self.new) → IsReady D.Disk self.old
+            → OnOk result (IsReady D.Disk self.new) }
         ensures pages { D.honest (disk_of self.new)
             → OnOk result (SamePages (D.seen (disk_of self.old)) (D.seen (disk_of self.new))) }
 
@@ -262,7 +277,8 @@ impl<D: Disk> Roots<D> {
             → LeavesOnly D.Disk (disk_of self.old) (disk_of self.new) (KeepsAll (root_of self.old) (D.may (disk_of self.old))) }
         ensures not_failed { OnOk result (has_failed self.new ≡ false) }
         ensures begun { OnOk result (has_begun self.new ≡ true) }
-        ensures begun_before { has_begun self.old ≡ true → IsOk result × (disk_of self.new ≡ disk_of self.old) }
+        ensures begun_before { has_begun self.old ≡ true
+            → IsOk result × (disk_of self.new ≡ disk_of self.old) }
         ensures failed { OnErr result (has_failed self.new ≡ true) }
     {
         if !self.other_open {
@@ -284,12 +300,16 @@ impl<D: Disk> Roots<D> {
         ensures size { D.size (disk_of self.new) ≡ D.size (disk_of self.old) }
         ensures cause { HasCause (D.failures (disk_of self.old)) (D.failures (disk_of self.new)) result }
         ensures refused { IfErr result (λ refusal. refusal ≡ Device) }
-        ensures writes { D.writes (disk_of self.new) ≤ D.writes (disk_of self.old) + (if has_begun self.old then 1 else 2) }
-        ensures one_write { has_begun self.old ≡ true → D.writes (disk_of self.new) ≡ counted (D.writes (disk_of self.old)) }
+        ensures writes { D.writes (disk_of self.new) ≤ D.writes (disk_of self.old)
+            + (if has_begun self.old then 1 else 2) }
+        ensures one_write { has_begun self.old ≡ true
+            → D.writes (disk_of self.new) ≡ counted (D.writes (disk_of self.old)) }
         ensures honest { D.honest (disk_of self.new) → D.honest (disk_of self.old) }
         ensures root { root_of self.new ≡ root_of self.old }
-        ensures ready { D.honest (disk_of self.new) → IsReady D.Disk self.old → OnOk result (IsReady D.Disk self.new) }
-        ensures written { D.honest (disk_of self.new) → OnOk result (D.seen (disk_of self.new) p ≡ from.now) }
+        ensures ready { D.honest (disk_of self.new) → IsReady D.Disk self.old
+            → OnOk result (IsReady D.Disk self.new) }
+        ensures written { D.honest (disk_of self.new)
+            → OnOk result (D.seen (disk_of self.new) p ≡ from.now) }
         ensures others { D.honest (disk_of self.new)
             → OnOk result (SamePagesBut p (D.seen (disk_of self.old)) (D.seen (disk_of self.new))) }
         ensures one_sector { D.honest (disk_of self.new) → has_begun self.old ≡ true
@@ -316,11 +336,13 @@ impl<D: Disk> Roots<D> {
         ensures size { D.size (disk_of self.new) ≡ D.size (disk_of self.old) }
         ensures cause { HasCause (D.failures (disk_of self.old)) (D.failures (disk_of self.new)) result }
         ensures refused { IfErr result (λ refusal. refusal ≡ Device) }
-        ensures writes { D.writes (disk_of self.new) ≤ D.writes (disk_of self.old) + (if has_begun self.old then 2 else 3) }
+        ensures writes { D.writes (disk_of self.new) ≤ D.writes (disk_of self.old)
+            + (if has_begun self.old then 2 else 3) }
         ensures honest { D.honest (disk_of self.new) → D.honest (disk_of self.old) }
         ensures root { OnOk result (root_of self.new ≡ root.now) }
         ensures last_known { OnErr result (root_of self.new ≡ root_of self.old) }
-        ensures ready { D.honest (disk_of self.new) → IsReady D.Disk self.old → OnOk result (IsReady D.Disk self.new) }
+        ensures ready { D.honest (disk_of self.new) → IsReady D.Disk self.old
+            → OnOk result (IsReady D.Disk self.new) }
         ensures durable { D.honest (disk_of self.new)
             → OnOk result (Only (D.seen (disk_of self.new)) (D.may (disk_of self.new))) }
         ensures pages { D.honest (disk_of self.new)
@@ -328,8 +350,8 @@ impl<D: Disk> Roots<D> {
 
         // A stop at any moment leaves the current root with its pages, or the new one with all that was written.
         ensures any_moment { D.honest (disk_of self.new) → IsReady D.Disk self.old
-            → LeavesOnly D.Disk (disk_of self.old) (disk_of self.new)
-            (λ image. KeepsAll (root_of self.old) (D.may (disk_of self.old)) image ⊎ HasMoved root.now (D.seen (disk_of self.old)) image) }
+            → LeavesOnly D.Disk (disk_of self.old) (disk_of self.new) (λ image. KeepsAll (root_of self.old) (D.may (disk_of self.old)) image
+            ⊎ HasMoved root.now (D.seen (disk_of self.old)) image) }
         ensures not_failed { OnOk result (has_failed self.new ≡ false) }
         ensures not_begun { OnOk result (has_begun self.new ≡ false) }
         ensures failed { OnErr result (has_failed self.new ≡ true) }

@@ -27,8 +27,10 @@ pub(crate) fn fill_slot<D: Disk>(disk: &mut D, slot: Slot, root: &Root) -> Resul
     ensures writes { D.writes disk.new ≤ D.writes disk.old + 2 }
     ensures honest { D.honest disk.new → D.honest disk.old }
     ensures durable { D.honest disk.new → OnOk result (Only (D.seen disk.new) (D.may disk.new)) }
-    ensures root { D.honest disk.new → OnOk result (IsSpelledBy root.now (D.seen disk.new (root_sector slot))) }
-    ensures opened { D.honest disk.new → OnOk result (is_open (D.seen disk.new (gate slot)) ≡ true) }
+    ensures root { D.honest disk.new
+        → OnOk result (IsSpelledBy root.now (D.seen disk.new (root_sector slot))) }
+    ensures opened { D.honest disk.new
+        → OnOk result (is_open (D.seen disk.new (gate slot)) ≡ true) }
     ensures others { D.honest disk.new → OnOk result ((k : ℕ) → k ≢ gate slot → k ≢ root_sector slot
         → D.seen disk.old k ≡ D.seen disk.new k) }
     ensures any_moment { D.honest disk.new
@@ -46,7 +48,8 @@ pub(crate) fn write_only<D: Disk>(disk: &mut D, root: &Root) -> Result<(), Fault
     ensures writes { D.writes disk.new ≤ D.writes disk.old + 4 }
     ensures honest { D.honest disk.new → D.honest disk.old }
     ensures formatted { D.honest disk.new → OnOk result (IsAt A false root.now (D.seen disk.new)) }
-    ensures pages { D.honest disk.new → OnOk result (SamePages (D.seen disk.old) (D.seen disk.new)) }
+    ensures pages { D.honest disk.new
+        → OnOk result (SamePages (D.seen disk.old) (D.seen disk.new)) }
     ensures durable { D.honest disk.new → OnOk result (Only (D.seen disk.new) (D.may disk.new)) }
 {
     disk.write(Slot::A.gate(), &closed_gate())?;

@@ -223,8 +223,7 @@ fn text<'a>(found: &ArgMatches<'a>, name: &str) -> Option<&'a str>
 
 /// The NAT of this name.
 fn number(found: &ArgMatches<'_>, name: &str) -> Option<u32>
-    ensures { MatchOption result ((n : ℕ) → IsNatIn (first_of name.now (rows_of (found_of found.now))) n → ⊥)
-        (IsNatIn (first_of name.now (rows_of (found_of found.now)))) }
+    ensures { MatchOption result ((n : ℕ) → IsNatIn (first_of name.now (rows_of (found_of found.now))) n → ⊥) (IsNatIn (first_of name.now (rows_of (found_of found.now)))) }
 {
     let text = found.get_str(name)?;
     natural(text.as_bytes())

@@ -154,7 +154,8 @@ fn format<P: Places, O: Output>(
 
 /// The format of a new store.
 fn format_of(side: u32, capacity: u32) -> Result<Format, Refusal>
-    ensures taken { IfOk result (λ format. IsTaken side capacity × (format ≡ format_2 side capacity)) }
+    ensures taken { IfOk result (λ format. IsTaken side capacity
+        × (format ≡ format_2 side capacity)) }
     ensures refused { IfErr result (IsRefusedFor side capacity) }
 {
     Format::new(Version::Two, side, capacity)

@@ -73,7 +73,8 @@ pub fn serve_store<D: Disk, R: Read, O: Output>(
     reader: &mut R,
     writer: &mut O,
 ) -> (D, u8)
-    ensures { (sessions : List (Session D.Disk)) × ServesLines D.Disk language disk result.0 sessions (R.remaining reader.old) (R.remaining reader.new) (O.stream writer.old) (O.stream writer.new) result.1 }
+    ensures { (sessions : List (Session D.Disk))
+        × ServesLines D.Disk language disk result.0 sessions (R.remaining reader.old) (R.remaining reader.new) (O.stream writer.old) (O.stream writer.new) result.1 }
 {
     let mut store = match open_session(alloc, disk) {
         Ok(store) => store,
@@ -90,7 +91,8 @@ pub fn grow_and_upgrade<D: Disk + Lengthen, O: Output>(
     disk: D,
     writer: &mut O,
 ) -> (D, u8)
-    ensures { (sessions : List (Session D.Disk)) × GrowsAndUpgrades D.Disk disk result.0 sessions (O.stream writer.old) (O.stream writer.new) result.1 }
+    ensures { (sessions : List (Session D.Disk))
+        × GrowsAndUpgrades D.Disk disk result.0 sessions (O.stream writer.old) (O.stream writer.new) result.1 }
 {
     let store = match open_session(alloc, disk) {
         Ok(store) => store,
@@ -106,7 +108,8 @@ pub fn grow_and_upgrade<D: Disk + Lengthen, O: Output>(
 
 /// Makes the store on a disk one of the second version. It hands the disk back, with the exit status.
 pub fn upgrade_store<D: Disk, O: Output>(alloc: Global, disk: D, writer: &mut O) -> (D, u8)
-    ensures { (sessions : List (Session D.Disk)) × UpgradesStore D.Disk disk result.0 sessions (O.stream writer.old) (O.stream writer.new) result.1 }
+    ensures { (sessions : List (Session D.Disk))
+        × UpgradesStore D.Disk disk result.0 sessions (O.stream writer.old) (O.stream writer.new) result.1 }
 {
     let mut store = match open_session(alloc, disk) {
         Ok(store) => store,
@@ -128,7 +131,8 @@ fn upgrade_counted<D: Disk>(store: &mut Store<D>) -> Result<u64, Refusal>
 /// Reports on the store on a disk: how many commands it accepted and commits it made, its tiles, and how many points of
 /// seams disagree. It hands the disk back, with the exit status.
 pub fn check_store<D: Disk, O: Output>(alloc: Global, disk: D, writer: &mut O) -> (D, u8)
-    ensures { (sessions : List (Session D.Disk)) × ChecksStore D.Disk disk result.0 sessions (O.stream writer.old) (O.stream writer.new) result.1 }
+    ensures { (sessions : List (Session D.Disk))
+        × ChecksStore D.Disk disk result.0 sessions (O.stream writer.old) (O.stream writer.new) result.1 }
 {
     let mut store = match open_session(alloc, disk) {
         Ok(store) => store,

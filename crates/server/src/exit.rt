@@ -76,7 +76,8 @@ pub(crate) fn reply_text<O: Output>(writer: &mut O, text: &[u8]) -> u8
 
 /// Tells of a write that failed, and answers the exit status.
 fn end_writing<O: Output>(writer: &mut O) -> u8
-    ensures { (was : Stream) (text : List ℕ) → Puts was (O.stream writer.old) text → EndsReplying text was (O.stream writer.new) result }
+    ensures { (was : Stream) (text : List ℕ) → Puts was (O.stream writer.old) text
+        → EndsReplying text was (O.stream writer.new) result }
 {
     if writer.has_failed() {
         return end_with(writer, fault_line(ServeFault::Output), REFUSED);

@@ -58,7 +58,8 @@ fn extend_tiles<D: Disk>(
     store: &Store<D>,
     corners: &[Corner],
 ) -> Result<(), AllocError>
-    ensures { OnOk result (text.new.items ≡ text.old.items ++ flat_map (tile_line (stale_in (root_of store.now))) corners.now) }
+    ensures { OnOk result (text.new.items ≡ text.old.items
+        ++ flat_map (tile_line (stale_in (root_of store.now))) corners.now) }
 {
     for corner in corners {
         text.extend_from_slice(name_text(*corner).as_bytes())?;
@@ -81,7 +82,8 @@ fn extend_number(
     number: u64,
     after: &[u8],
 ) -> Result<(), AllocError>
-    ensures { OnOk result (text.new.items ≡ text.old.items ++ before.now ++ decimal number ++ after.now) }
+    ensures { OnOk result (text.new.items ≡ text.old.items ++ before.now ++ decimal number
+        ++ after.now) }
 {
     let mut buffer = Buffer::new();
     text.extend_from_slice(before)?;

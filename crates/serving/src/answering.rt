@@ -22,9 +22,10 @@ fn answer_import<E: Engine>(
     payload: Option<Vec<u8>>,
     extent: Extent,
 ) -> Text
-    ensures { (bytes : List ℕ) → Stored payload bytes
-        → (extent ≡ Extent.Whole → length bytes ≡ len) → (extent ≡ Extent.Cut → (length bytes < len) ⊎ (length bytes ≡ 0))
-        → (turn : Turn) × ImportComesTo (E.side_of engine.old) name.now len bytes turn × Turns E.called turn engine.old result engine.new }
+    ensures { (bytes : List ℕ) → Stored payload bytes → (extent ≡ Extent.Whole → length bytes ≡ len)
+        → (extent ≡ Extent.Cut → (length bytes < len) ⊎ (length bytes ≡ 0))
+        → (turn : Turn) × ImportComesTo (E.side_of engine.old) name.now len bytes turn
+        × Turns E.called turn engine.old result engine.new }
 {
     let Ok(corner) = name_of(name) else {
         return Text::refused(Refusal::BadName);
@@ -43,7 +44,8 @@ fn answer_import<E: Engine>(
 /// Answers an item.
 pub(crate) fn answer<E: Engine>(alloc: Global, engine: &mut E, item: KeptItem<'_>) -> Text
     requires { (language : Language) × (i : Item) × Holds language item i }
-    ensures { (language : Language) (i : Item) → Holds language item.entry i → Replied E.called E.side_of engine.old i result engine.new }
+    ensures { (language : Language) (i : Item) → Holds language item.entry i
+        → Replied E.called E.side_of engine.old i result engine.new }
 {
     let KeptItem {
         request,

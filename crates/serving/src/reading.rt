@@ -25,7 +25,8 @@ pub struct KeptItem<'a> {
 
 /// What the line asks for, if it is in the language and not too long.
 fn request_in(language: Language, line: &Line) -> Option<Request<'_>>
-    ensures { (text : List ℕ) → line.now ≡ kept text → AsksFor language text (option_map asked result) }
+    ensures { (text : List ℕ) → line.now ≡ kept text
+        → AsksFor language text (option_map asked result) }
 {
     request_of(language, line.bytes()?)
 }
@@ -48,9 +49,11 @@ fn read_or_skip_payload<R: Read>(
     ahead: &mut Ahead,
     reader: &mut R,
 ) -> Result<(Option<Vec<u8>>, Extent), ReadFault>
-    ensures ok { IfOk result (λ p. (bytes : List ℕ) × Stored p.0 bytes × Reaches p.1 (length bytes) len
+    ensures ok { IfOk result (λ p. (bytes : List ℕ) × Stored p.0 bytes
+        × Reaches p.1 (length bytes) len
         × Taken ahead.old (R.remaining reader.old) ahead.new (R.remaining reader.new) bytes) }
-    ensures cut { IfOk result (λ p. p.1 ≡ Extent.Cut → (ahead.new.bytes ≡ []) × IsAtEnd (R.remaining reader.new)) }
+    ensures cut { IfOk result (λ p. p.1 ≡ Extent.Cut
+        → (ahead.new.bytes ≡ []) × IsAtEnd (R.remaining reader.new)) }
     ensures spent { OnOk result (weight ahead.new ≤ weight ahead.old) }
     ensures err { OnErr result ((bytes : List ℕ) × (length bytes < len)
         × Taken ahead.old (R.remaining reader.old) ahead.new (R.remaining reader.new) bytes) }
@@ -83,16 +86,22 @@ pub(crate) fn read_item<'a, R: Read>(
     reader: &mut R,
 ) -> Result<KeptItem<'a>, ReadFault>
     requires { fed ≡ Extent.Cut → (ahead.old.bytes ≡ []) × IsAtEnd (R.remaining reader.old) }
-    ensures ok { IfOk result (λ item. (text : List ℕ) → line.now ≡ kept text → IsLine text → (fed ≡ Extent.Cut → text ≢ [])
+    ensures ok { IfOk result (λ item. (text : List ℕ) → line.now ≡ kept text → IsLine text
+        → (fed ≡ Extent.Cut → text ≢ [])
         → (i : Item) × Holds language item i × (i.line ≡ text) × (i.fed ≡ fed)
         × Taken ahead.old (R.remaining reader.old) ahead.new (R.remaining reader.new) i.payload) }
-    ensures cut { IfOk result (λ item. item.extent ≡ Extent.Cut → (ahead.new.bytes ≡ []) × IsAtEnd (R.remaining reader.new)) }
+    ensures cut { IfOk result (λ item. item.extent ≡ Extent.Cut
+        → (ahead.new.bytes ≡ []) × IsAtEnd (R.remaining reader.new)) }
     ensures spent { OnOk result (weight ahead.new ≤ weight ahead.old) }
-    ensures err { OnErr result ((fed ≡ Extent.Whole) × ((text : List ℕ) → line.now ≡ kept text
-        → (bytes : List ℕ) × (a : Option Asked) × AsksFor language text a × (length bytes < payload_len a)
+    ensures err { OnErr result ((fed ≡ Extent.Whole)
+        × ((text : List ℕ) → line.now ≡ kept text
+        → (bytes : List ℕ) × (a : Option Asked) × AsksFor language text a
+        × (length bytes < payload_len a)
         × Taken ahead.old (R.remaining reader.old) ahead.new (R.remaining reader.new) bytes)) }
     ensures none_ahead { OnErr result (ahead.new.bytes ≡ []) }
-    ensures quit { IfOk result (λ item. fed ≡ Extent.Whole → option_map asked item.request ≡ Some AskQuit → (ahead.new ≡ ahead.old) × (reader.new ≡ reader.old)) }
+    ensures quit { IfOk result (λ item. fed ≡ Extent.Whole
+        → option_map asked item.request ≡ Some AskQuit
+        → (ahead.new ≡ ahead.old) × (reader.new ≡ reader.old)) }
 {
     let request = request_in(language, line);
     let (payload, extent) = match fed {
@@ -114,14 +123,16 @@ pub(crate) fn read_item<'a, R: Read>(
 
 /// Whether the input ended before this line began.
 pub(crate) fn is_over(fed: Extent, line: &Line) -> bool
-    ensures { (text : List ℕ) → line.now ≡ kept text → IsTrue result ↔ ((fed ≡ Extent.Cut) × (text ≡ [])) }
+    ensures { (text : List ℕ) → line.now ≡ kept text
+        → IsTrue result ↔ ((fed ≡ Extent.Cut) × (text ≡ [])) }
 {
     fed == Extent::Cut && line.is_empty()
 }
 
 /// Whether no further item is read after this one.
 pub fn is_last(item: &KeptItem<'_>) -> bool
-    ensures { IsTrue result ↔ ((item.now.extent ≡ Extent.Cut) ⊎ (option_map asked item.now.request ≡ Some AskQuit)) }
+    ensures { IsTrue result
+        ↔ ((item.now.extent ≡ Extent.Cut) ⊎ (option_map asked item.now.request ≡ Some AskQuit)) }
 {
     item.extent == Extent::Cut || matches!(item.request, Some(Request::Quit))
 }

@@ -45,12 +45,13 @@ fn step<R: Read, O: Output, E: Engine>(
     writer: &mut O,
     engine: &mut E,
 ) -> Result<Next, ServeFault>
-    ensures calls { (engines : List E) × ((last_of engine.old engines ≡ engine.new)
-        × Steps language (Answers E.Engine) (to_come ahead.old (R.remaining reader.old)) (to_come ahead.new (R.remaining reader.new))
-        (O.stream writer.old).contents (O.stream writer.new).contents engine.old engines result) }
+    ensures calls { (engines : List E)
+        × ((last_of engine.old engines ≡ engine.new)
+        × Steps language (Answers E.Engine) (to_come ahead.old (R.remaining reader.old)) (to_come ahead.new (R.remaining reader.new)) (O.stream writer.old).contents (O.stream writer.new).contents engine.old engines result) }
     ensures output { TellsFailure (O.stream writer.old) (O.stream writer.new) result }
     ensures left { OnOk result (HasLeft (O.stream writer.old) (O.stream writer.new)) }
-    ensures end { result ≡ Ok Next.End → EndsReading language (to_come ahead.old (R.remaining reader.old)) ahead.new.bytes (R.remaining reader.new) }
+    ensures end { result ≡ Ok Next.End
+        → EndsReading language (to_come ahead.old (R.remaining reader.old)) ahead.new.bytes (R.remaining reader.new) }
     ensures spent { result ≡ Ok Next.More → weight ahead.new < weight ahead.old }
     ensures none_ahead { result ≡ Err ServeFault.Input → ahead.new.bytes ≡ [] }
 {
@@ -99,7 +100,8 @@ pub fn serve<R: Read, O: Output, E: Engine>(
     writer: &mut O,
     engine: &mut E,
 ) -> Result<(), ServeFault>
-    ensures calls { (engines : List E) × ((last_of engine.old engines ≡ engine.new)
+    ensures calls { (engines : List E)
+        × ((last_of engine.old engines ≡ engine.new)
         × Serves E.Engine Plain (R.remaining reader.old) (R.remaining reader.new) (O.stream writer.old).contents (O.stream writer.new).contents engine.old engines result) }
     ensures end { OnOk result (ReadsNoFurther Plain (R.remaining reader.old) (R.remaining reader.new)) }
     ensures output { TellsFailure (O.stream writer.old) (O.stream writer.new) result }
@@ -116,7 +118,8 @@ pub fn serve_lines<R: Read, O: Output, E: Engine>(
     writer: &mut O,
     engine: &mut E,
 ) -> Result<(), ServeFault>
-    ensures calls { (engines : List E) × ((last_of engine.old engines ≡ engine.new)
+    ensures calls { (engines : List E)
+        × ((last_of engine.old engines ≡ engine.new)
         × Serves E.Engine language (R.remaining reader.old) (R.remaining reader.new) (O.stream writer.old).contents (O.stream writer.new).contents engine.old engines result) }
     ensures end { OnOk result (ReadsNoFurther language (R.remaining reader.old) (R.remaining reader.new)) }
     ensures output { TellsFailure (O.stream writer.old) (O.stream writer.new) result }

@@ -28,8 +28,10 @@ impl<D: Disk> Store<D> {
         ensures last_known { OnErr result (root_of self.new ≡ root_of self.old) }
 
         // Of the heights a burn or a wall writes each page that holds one of its points, and no page twice.
-        ensures pages { has_failed self.old ≡ false → IfSome (named_by command.now) (λ points. D.writes (disk_of self.new)
-            ≤ D.writes (disk_of self.old) + page_writes (root_of self.old).version (pages_with (root_of self.old).side (map (λ e. e.corner) (root_of self.old).entries) points)) }
+        ensures pages { has_failed self.old ≡ false
+            → IfSome (named_by command.now) (λ points. D.writes (disk_of self.new)
+            ≤ D.writes (disk_of self.old)
+            + page_writes (root_of self.old).version (pages_with (root_of self.old).side (map (λ e. e.corner) (root_of self.old).entries) points)) }
 
         // A store that failed makes no call of the disk.
         ensures failed { has_failed self.old ≡ true → disk_of self.new ≡ disk_of self.old }

@@ -20,7 +20,8 @@ pub(crate) fn commit_staged<D: Disk>(
     ensures honest { D.honest (disk_of tree.new) → D.honest (disk_of tree.old) }
     ensures last_known { OnErr result (root_of tree.new ≡ root_of tree.old) }
     ensures clean { has_failed tree.new ≡ false → IsClean tree.new }
-    ensures writes { OnOk staged (D.writes (disk_of tree.new) ≤ D.writes (disk_of tree.old) + records_due tree.old + (if has_begun tree.old then 2 else 3)) }
+    ensures writes { OnOk staged (D.writes (disk_of tree.new) ≤ D.writes (disk_of tree.old)
+        + records_due tree.old + (if has_begun tree.old then 2 else 3)) }
     ensures unwritten { OnErr staged (D.writes (disk_of tree.new) ≡ D.writes (disk_of tree.old)) }
 {
     if let Err(refusal) = staged {

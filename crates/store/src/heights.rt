@@ -58,7 +58,8 @@ impl<'a> PageEdit for PointHeights<'a> {
 // The earlier one of the pages.
 fn earlier(next: Option<u32>, page: u32) -> u32
     ensures only { IfNone next (result ≡ page) }
-    ensures least { IfSome next (λ k. (result ≤ k) × (result ≤ page) × ((result ≡ k) ⊎ (result ≡ page))) }
+    ensures least { IfSome next (λ k. (result ≤ k) × (result ≤ page)
+        × ((result ≡ k) ⊎ (result ≡ page))) }
 {
     match next {
         Some(before) => before.min(page),
@@ -68,7 +69,8 @@ fn earlier(next: Option<u32>, page: u32) -> u32
 
 // The page of the corner's heights that the point's sample lies in, where it is this one or a later one.
 fn page_from(side: Side, corner: Corner, point: Point, from: u32) -> Option<u32>
-    ensures some { IfSome result (λ k. (from ≤ k) × (k < pages_of side) × ((i : ℕ) → is_in_page side corner i point ≡ nat_eq k i)) }
+    ensures some { IfSome result (λ k. (from ≤ k) × (k < pages_of side)
+        × ((i : ℕ) → is_in_page side corner i point ≡ nat_eq k i)) }
     ensures none { IfNone result ((i : ℕ) → from ≤ i → is_in_page side corner i point ≡ false) }
 {
     let index = index_in(side, corner, point)?;
@@ -87,7 +89,8 @@ fn set_heights(
     page_index: u32,
     page: &mut [u8; PAGE_BYTES],
 ) -> bool
-    ensures edited { IsTrue (is_corner corner) → IsEdited side (heightened heights.now) corner page_index page.old page.new }
+    ensures edited { IsTrue (is_corner corner)
+        → IsEdited side (heightened heights.now) corner page_index page.old page.new }
     ensures left { result ≡ false → page.new ≡ page.old }
 {
     let mut is_set = false;
@@ -103,7 +106,8 @@ fn set_heights(
 // Sets the sample. Answers whether it was another before.
 fn set_sample(page: &mut [u8; PAGE_BYTES], at: usize, metres: i16) -> bool
     requires { at < 2048 }
-    ensures set { result ≡ true → page.new ≡ slice_set (slice_set page.old (2 * at) (high_byte metres)) (2 * at + 1) (low_byte metres) }
+    ensures set { result ≡ true
+        → page.new ≡ slice_set (slice_set page.old (2 * at) (high_byte metres)) (2 * at + 1) (low_byte metres) }
     ensures left { result ≡ false → (page.new ≡ page.old) × (page_sample page.old at ≡ metres) }
 {
     if sample(page, at) == metres {
@@ -115,7 +119,8 @@ fn set_sample(page: &mut [u8; PAGE_BYTES], at: usize, metres: i16) -> bool
 
 // Where in this page of the corner's tile the point's sample stands, if it stands there.
 fn place_in(side: Side, corner: Corner, page_index: u32, point: Point) -> Option<usize>
-    ensures some { IfSome result (λ at. (at < 2048) × IsIndexOf side corner point (2048 * page_index + at)) }
+    ensures some { IfSome result (λ at. (at < 2048)
+        × IsIndexOf side corner point (2048 * page_index + at)) }
     ensures none { IfNone result ((e : ℕ) → IsIndexOf side corner point e → e / 2048 ≢ page_index) }
 {
     let index = index_in(side, corner, point)?;

@@ -52,7 +52,8 @@ impl<'a, D: Disk, P: Premise> Samples for TreeSource<'a, D, P> {
     ghost is_honest = { λ asked. IsSure D.Disk asked.tree.now × P.holds };
 
     // It is the same tree, of which nothing was changed.
-    ghost keeps = { λ old new. (new.tree.ghost_name ≡ old.tree.ghost_name) × HasOnlyRead D.Disk old.tree.now new.tree.now };
+    ghost keeps = { λ old new. (new.tree.ghost_name ≡ old.tree.ghost_name)
+        × HasOnlyRead D.Disk old.tree.now new.tree.now };
 
     ghost failures = { λ asked. D.failures (disk_under asked.tree.now) };
 
@@ -134,7 +135,8 @@ fn kept_label_at<D: Disk>(
     requires levels { Holds tree.old corner Levels }
     requires labels { Holds tree.old corner Labels }
     requires index { index < (root_under tree.old).side * (root_under tree.old).side }
-    ensures label_at { IsSure D.Disk tree.new → IfOk result (λ label_at. IsLabelledAt (mosaic_of D.Disk tree.old) corner index label_at.0 label_at.1) }
+    ensures label_at { IsSure D.Disk tree.new
+        → IfOk result (λ label_at. IsLabelledAt (mosaic_of D.Disk tree.old) corner index label_at.0 label_at.1) }
     ensures sound { IsSure D.Disk tree.new → result ≢ Err Damaged }
     ensures causes { IfErr result (λ r. IsTrue (ends_any r)) }
     ensures reads { Consults D.Disk tree.old tree.new result }
@@ -157,8 +159,10 @@ fn read_label_at<D: Disk>(
     requires levels { Holds tree.old corner Levels }
     requires labels { Holds tree.old corner Labels }
     requires index { index < (root_under tree.old).side * (root_under tree.old).side }
-    ensures level { D.honest (disk_under tree.new) → IfOk result (λ two. IsKeptValue (root_under tree.old).side (staged_in D.Disk tree.old) corner Levels index two.0) }
-    ensures label { D.honest (disk_under tree.new) → IfOk result (λ two. IsKeptValue (root_under tree.old).side (staged_in D.Disk tree.old) corner Labels index two.1) }
+    ensures level { D.honest (disk_under tree.new)
+        → IfOk result (λ two. IsKeptValue (root_under tree.old).side (staged_in D.Disk tree.old) corner Levels index two.0) }
+    ensures label { D.honest (disk_under tree.new)
+        → IfOk result (λ two. IsKeptValue (root_under tree.old).side (staged_in D.Disk tree.old) corner Labels index two.1) }
     ensures refusal { IfErr result (λ r. IsTrue (ends_any r) × (r ≢ Damaged)) }
     ensures reads { Reads D.Disk tree.old tree.new (reads_of result) }
 {
@@ -180,7 +184,8 @@ fn read_value<D: Disk>(
     requires held { Holds tree.old corner plane }
     requires index { index < (root_under tree.old).side * (root_under tree.old).side }
     ensures reads { Reads D.Disk tree.old tree.new result }
-    ensures value { D.honest (disk_under tree.new) → OnOk result (IsKeptValue (root_under tree.old).side (staged_in D.Disk tree.old) corner plane index into.new) }
+    ensures value { D.honest (disk_under tree.new)
+        → OnOk result (IsKeptValue (root_under tree.old).side (staged_in D.Disk tree.old) corner plane index into.new) }
 {
     let page = index / VALUES_IN_PAGE;
     let from = 2 * (index % VALUES_IN_PAGE) as usize;
@@ -195,7 +200,8 @@ fn kept_labelling<D: Disk>(
 ) -> Result<Labelled, Refusal>
     requires levels { Holds tree.old corner Levels }
     requires labels { Holds tree.old corner Labels }
-    ensures flooded { IsSure D.Disk tree.new → IfOk result (IsFlooded (mosaic_of D.Disk tree.old) corner) }
+    ensures flooded { IsSure D.Disk tree.new
+        → IfOk result (IsFlooded (mosaic_of D.Disk tree.old) corner) }
     ensures sound { IsSure D.Disk tree.new → result ≢ Err Damaged }
     ensures side { IfOk result (λ labelled. labelled.side ≡ (root_under tree.old).side) }
     ensures causes { IfErr result (λ r. IsTrue (ends_any r)) }
@@ -281,9 +287,13 @@ fn read_kept<D: Disk>(
     requires works { have_failed tree.old ≡ false }
     requires levels { Holds tree.old corner Levels }
     requires labels { Holds tree.old corner Labels }
-    ensures level_bytes { D.honest (disk_under tree.new) → IfOk result (λ planes. (t : StoredTile) (kept : KeptPages) → IsTileOf (staged_in D.Disk tree.old) corner t → t.kept ≡ Some kept
+    ensures level_bytes { D.honest (disk_under tree.new)
+        → IfOk result (λ planes. (t : StoredTile) (kept : KeptPages)
+        → IsTileOf (staged_in D.Disk tree.old) corner t → t.kept ≡ Some kept
         → planes.levels.items ≡ plane_bytes (root_under tree.old).side kept.levels) }
-    ensures label_bytes { D.honest (disk_under tree.new) → IfOk result (λ planes. (t : StoredTile) (kept : KeptPages) → IsTileOf (staged_in D.Disk tree.old) corner t → t.kept ≡ Some kept
+    ensures label_bytes { D.honest (disk_under tree.new)
+        → IfOk result (λ planes. (t : StoredTile) (kept : KeptPages)
+        → IsTileOf (staged_in D.Disk tree.old) corner t → t.kept ≡ Some kept
         → planes.labels.items ≡ plane_bytes (root_under tree.old).side kept.labels) }
 
     // On any disk both are whole.

@@ -26,23 +26,29 @@ pub(crate) trait PageEdit {
     /// The first page of the corner's heights that it meets, from this one on.
     fn next_page(&self, side: Side, corner: Corner, from: u32) -> Option<u32>
         requires { is_for self.now side }
-        ensures met { IfSome result (λ i. (from ≤ i) × (i < pages_of side) × (meets self.now side corner i ≡ true)) }
-        ensures passed { IfSome result (λ end. (i : ℕ) → from ≤ i → i < end → meets self.now side corner i ≡ false) }
-        ensures none { IfNone result ((i : ℕ) → from ≤ i → i < pages_of side → meets self.now side corner i ≡ false) }
+        ensures met { IfSome result (λ i. (from ≤ i) × (i < pages_of side)
+            × (meets self.now side corner i ≡ true)) }
+        ensures passed { IfSome result (λ end. (i : ℕ) → from ≤ i → i < end
+            → meets self.now side corner i ≡ false) }
+        ensures none { IfNone result ((i : ℕ) → from ≤ i → i < pages_of side
+            → meets self.now side corner i ≡ false) }
 
         // A page that it doesn't meet is left.
-        ensures leaves { (m : Mosaic) → IsMosaic m → m.side ≡ side → fits self.now m → (t : Tile) → Contains m.tiles t → t.corner ≡ corner
-            → (i : ℕ) → meets self.now side corner i ≡ false → LeavesPage side (made self.now m) corner i };
+        ensures leaves { (m : Mosaic) → IsMosaic m → m.side ≡ side → fits self.now m → (t : Tile)
+            → Contains m.tiles t → t.corner ≡ corner → (i : ℕ)
+            → meets self.now side corner i ≡ false → LeavesPage side (made self.now m) corner i };
 
     /// Edits a page of the corner's heights that it meets. Answers whether it set a sample.
     fn edit_page(&self, side: Side, corner: Corner, index: u32, page: &mut [u8; PAGE_BYTES]) -> bool
         requires made_for { is_for self.now side }
         requires index { index < pages_of side }
         requires met { meets self.now side corner index ≡ true }
-        ensures edited { (m : Mosaic) → IsMosaic m → m.side ≡ side → fits self.now m → IsPageOf side (made self.now m) m corner index page.old
+        ensures edited { (m : Mosaic) → IsMosaic m → m.side ≡ side → fits self.now m
+            → IsPageOf side (made self.now m) m corner index page.old
             → IsEdited side (made self.now m) corner index page.old page.new }
         ensures left { result ≡ false → page.new ≡ page.old }
 
         // To edit it twice is to edit it once.
-        ensures once { (m : Mosaic) (p : Point) (s : ℤ) → made self.now m p (made self.now m p s) ≡ made self.now m p s };
+        ensures once { (m : Mosaic) (p : Point) (s : ℤ)
+            → made self.now m p (made self.now m p s) ≡ made self.now m p s };
 }

@@ -184,7 +184,8 @@ impl<D: Disk> Store<D> {
     // Refused where the corner's tile isn't there.
     fn check_present(&self, corner: Corner) -> Result<(), Refusal>
         ensures present { OnOk result (Contains (corners_of self.now.tree) corner) }
-        ensures refused { IfErr result (λ r. (r ≡ NoTile) × (Contains (corners_of self.now.tree) corner → ⊥)) }
+        ensures refused { IfErr result (λ r. (r ≡ NoTile)
+            × (Contains (corners_of self.now.tree) corner → ⊥)) }
     {
         if self.tree.present(corner) {
             Ok(())
@@ -219,9 +220,12 @@ pub(crate) fn read_plane<D: Disk>(
     requires works { have_failed tree.old ≡ false }
     requires held { Holds tree.old corner plane }
     requires empty { vec_len bytes.old ≡ 0 }
-    requires room { 2 * ((root_under tree.old).side * (root_under tree.old).side) ≤ vec_capacity bytes.old }
+    requires room { 2 * ((root_under tree.old).side * (root_under tree.old).side)
+        ≤ vec_capacity bytes.old }
     ensures reads { Reads D.Disk tree.old tree.new result }
-    ensures bytes { D.honest (disk_under tree.new) → OnOk result ((t : StoredTile) (pages : PlanePages) → IsTileOf (staged_in D.Disk tree.old) corner t → stored_plane plane t ≡ Some pages
+    ensures bytes { D.honest (disk_under tree.new)
+        → OnOk result ((t : StoredTile) (pages : PlanePages)
+        → IsTileOf (staged_in D.Disk tree.old) corner t → stored_plane plane t ≡ Some pages
         → bytes.new.items ≡ plane_bytes (root_under tree.old).side pages) }
     ensures whole { OnOk result (vec_len bytes.new ≡ 2 * ((root_under tree.old).side * (root_under tree.old).side)) }
 {

@@ -25,7 +25,8 @@ pub(crate) fn read_rims<S: Samples>(
     tiles: &[Corner],
     patch: Patch,
 ) -> Result<Vec<RimVoids>, Refusal>
-    ensures voids { S.is_honest samples.new → IfOk result (λ rims. All (AreRimVoids (S.mosaic samples.old) patch) rims.items) }
+    ensures voids { S.is_honest samples.new
+        → IfOk result (λ rims. All (AreRimVoids (S.mosaic samples.old) patch) rims.items) }
     ensures whole { IfOk result (λ rims. All (λ rim. vec_len rim.voids ≡ 4 * (S.side_of samples.old - 1)) rims.items) }
     ensures corners { IfOk result (λ rims. map (λ rim. rim.corner) rims.items ≡ tiles.now) }
     ensures causes { IfErr result (λ r. IsTrue (ends_any r)) }
@@ -49,7 +50,8 @@ fn read_rim<S: Samples>(
     corner: Corner,
     patch: Patch,
 ) -> Result<RimVoids, Refusal>
-    ensures voids { S.is_honest samples.new → IfOk result (AreRimVoids (S.mosaic samples.old) patch) }
+    ensures voids { S.is_honest samples.new
+        → IfOk result (AreRimVoids (S.mosaic samples.old) patch) }
     ensures whole { IfOk result (λ rim. vec_len rim.voids ≡ 4 * (S.side_of samples.old - 1)) }
     ensures corner { IfOk result (λ rim. rim.corner ≡ corner) }
     ensures causes { IfErr result (λ r. IsTrue (ends_any r)) }
@@ -67,7 +69,9 @@ fn read_rim<S: Samples>(
 
 // Whether the point is one of the box and its height by the seam rule void. Of other points nothing is read.
 fn is_void_in_box<S: Samples>(samples: &mut S, patch: Patch, point: Point) -> Result<bool, Refusal>
-    ensures value { S.is_honest samples.new → IfOk result (λ b. b ≡ (is_in_box patch.from patch.to point && is_void_at (S.mosaic samples.old) point)) }
+    ensures value { S.is_honest samples.new
+        → IfOk result (λ b. b ≡ (is_in_box patch.from patch.to point
+        && is_void_at (S.mosaic samples.old) point)) }
     ensures reads { OnlyReads S.Samples samples.old samples.new result }
 {
     if !is_in_box(patch, point) {
@@ -78,7 +82,8 @@ fn is_void_in_box<S: Samples>(samples: &mut S, patch: Patch, point: Point) -> Re
 
 // Whether the point's height by the seam rule is void.
 fn is_void_at<S: Samples>(samples: &mut S, point: Point) -> Result<bool, Refusal>
-    ensures value { S.is_honest samples.new → IfOk result (λ b. b ≡ is_void_at (S.mosaic samples.old) point) }
+    ensures value { S.is_honest samples.new
+        → IfOk result (λ b. b ≡ is_void_at (S.mosaic samples.old) point) }
     ensures reads { OnlyReads S.Samples samples.old samples.new result }
 {
     match height(samples, point)? {

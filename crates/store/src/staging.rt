@@ -32,8 +32,9 @@ pub(crate) fn stage<D: Disk>(
     ensures refused { IsRefusedEarly D.Disk tree.old tree.new result }
     ensures given { IsGiven edit.now }
     ensures few { StagesFew D.Disk edit.now tree.old tree.new result }
-    ensures made { D.honest (disk_of tree.new) → (s : Stored) (m : Mosaic) → IsAt D.Disk tree.old s → IsMosaic m
-        → AreTilesOf (root_of tree.old).side (staged_in D.Disk tree.old) m → sinks_of tree.old ≡ m.sinks → FindsVoids m edit.now
+    ensures made { D.honest (disk_of tree.new) → (s : Stored) (m : Mosaic) → IsAt D.Disk tree.old s
+        → IsMosaic m → AreTilesOf (root_of tree.old).side (staged_in D.Disk tree.old) m
+        → sinks_of tree.old ≡ m.sinks → FindsVoids m edit.now
         → OnOk result (IsMade D.Disk edit.now m tree.old tree.new) }
 {
     match edit {

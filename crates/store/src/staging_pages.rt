@@ -21,7 +21,8 @@ use page_codec::PAGE_BYTES;
 pub(crate) fn stage_pages<D: Disk, E: PageEdit>(tree: &mut Tree<D>, edit: &E) -> Result<(), Refusal>
     requires works { has_failed tree.old ≡ false }
     requires made_for { E.is_for edit.now (root_of tree.old).side }
-    ensures makes { let n : ℕ = (root_of tree.old).side in let pages : ℕ = pages_met (E.meets edit.now n) (pages_of n) (corners_of tree.old) in
+    ensures makes { let n : ℕ = (root_of tree.old).side in
+        let pages : ℕ = pages_met (E.meets edit.now n) (pages_of n) (corners_of tree.old) in
         MakesPages D.Disk n (E.made edit.now) (E.fits edit.now) (λ c i. Contains (corners_of tree.old) c) pages pages tree.old tree.new result }
     ensures refused { IsRefusedEarly D.Disk tree.old tree.new result }
 
@@ -86,8 +87,7 @@ fn stage_tiles<D: Disk, E: PageEdit>(
     requires made_for { E.is_for edit.now side }
     requires present { All (Contains (corners_of tree.old)) corners.now }
     requires prepared { All (IsPrepared (E.meets edit.now side) (pages_of side) tree.old) corners.now }
-    ensures makes { MakesPages D.Disk side (E.made edit.now) (E.fits edit.now) (λ c i. Contains corners.now c)
-        (pages_met (E.meets edit.now side) (pages_of side) corners.now) 0 tree.old tree.new result }
+    ensures makes { MakesPages D.Disk side (E.made edit.now) (E.fits edit.now) (λ c i. Contains corners.now c) (pages_met (E.meets edit.now side) (pages_of side) corners.now) 0 tree.old tree.new result }
     ensures refused { IfErr result (λ r. r ≡ Device) }
 {
     for corner in corners {

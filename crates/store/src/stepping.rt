@@ -30,7 +30,8 @@ impl<D: Disk> Store<D> {
     /// It writes two planes with what lists their pages, a root and two gates at most, on any disk.
     pub fn step(&mut self) -> Result<Option<Corner>, Refusal>
         ensures call { IsCall (members D.Disk) self.old ask.Step (answered reply.Stepped result) self.new }
-        ensures idle { result ≡ Ok None → D.writes (disk_of self.new) ≡ D.writes (disk_of self.old) }
+        ensures idle { result ≡ Ok None
+            → D.writes (disk_of self.new) ≡ D.writes (disk_of self.old) }
         ensures last_known { OnErr result (root_of self.new ≡ root_of self.old) }
 
         // A store that failed makes no call of the disk.
@@ -48,7 +49,8 @@ fn step_tree<D: Disk>(
 ) -> Result<Option<Corner>, Refusal>
     ensures stepped { IsStepped D.Disk (λ m. IsHeldOf m held.now) result tree.old tree.new }
     ensures clean { have_failed tree.new ≡ false → IsClean tree.new }
-    ensures writes { D.writes (disk_under tree.new) ≤ D.writes (disk_under tree.old) + (2 * plane_pages_of (format_of (root_under tree.old)) + 3) }
+    ensures writes { D.writes (disk_under tree.new) ≤ D.writes (disk_under tree.old)
+        + (2 * plane_pages_of (format_of (root_under tree.old)) + 3) }
     ensures failed { have_failed tree.old ≡ true → (result ≡ Err Failed) × (tree.new ≡ tree.old) }
 {
     match next_stale(tree) {

@@ -52,7 +52,8 @@ impl<D: Disk> Store<D> {
     pub fn format(disk: &mut D, side: u32, capacity: u32) -> Result<(), Refusal>
         ensures formats { Formats D.Disk Two side capacity disk.old disk.new result }
         ensures formatted { D.honest disk.new
-            → OnOk result ((image : Image) → D.may disk.new image → StandsFor (D.size disk.new) side capacity image (fresh side)) }
+            → OnOk result ((image : Image) → D.may disk.new image
+            → StandsFor (D.size disk.new) side capacity image (fresh side)) }
     {
         format_as(disk, Version::Two, side, capacity)
     }
@@ -61,7 +62,8 @@ impl<D: Disk> Store<D> {
     pub fn format_1(disk: &mut D, side: u32, capacity: u32) -> Result<(), Refusal>
         ensures formats { Formats D.Disk One side capacity disk.old disk.new result }
         ensures formatted { D.honest disk.new
-            → OnOk result ((image : Image) → D.may disk.new image → StandsFor (D.size disk.new) side capacity image (fresh_1 side)) }
+            → OnOk result ((image : Image) → D.may disk.new image
+            → StandsFor (D.size disk.new) side capacity image (fresh_1 side)) }
     {
         format_as(disk, Version::One, side, capacity)
     }
@@ -87,7 +89,8 @@ impl<D: Disk> Store<D> {
             → IfErr result (λ e. (e.refusal ≡ Device) ⊎ (e.refusal ≡ NoMemory)) }
 
         // On any image it is refused as the roots and records ask.
-        ensures refused { D.honest (disk_after result) → IfErr result (λ e. MayRefuse (D.size disk) (D.seen disk) e.refusal) }
+        ensures refused { D.honest (disk_after result)
+            → IfErr result (λ e. MayRefuse (D.size disk) (D.seen disk) e.refusal) }
     {
         match Tree::open(alloc, disk) {
             Ok(tree) => Ok(Store {
@@ -107,7 +110,8 @@ impl<D: Disk> Store<D> {
         ensures last_known { OnErr result (root_of self.new ≡ root_of self.old) }
 
         // Nothing is written, and a stop at any moment leaves nothing new.
-        ensures nothing { D.honest (disk_of self.new) → AddsNothing D.Disk (disk_of self.old) (disk_of self.new) }
+        ensures nothing { D.honest (disk_of self.new)
+            → AddsNothing D.Disk (disk_of self.old) (disk_of self.new) }
     {
         self.held.invalidate();
         self.tree.reopen()
@@ -140,11 +144,13 @@ impl<D: Disk> Store<D> {
     /// Whether the corner has a tile of which no levels and labels are kept, as last known.
     pub fn stale(&self, corner: Corner) -> bool
         ensures value { result ≡ is_listed corner (stale_in (root_of self.now)) }
-        ensures state { (s : State) → IsAt D.Disk self.now s → result ≡ is_listed corner s.contents.stale }
+        ensures state { (s : State) → IsAt D.Disk self.now s
+            → result ≡ is_listed corner s.contents.stale }
 
         // Of a present tile that isn't stale a valid labelling of its block is kept.
-        ensures fresh { D.honest (disk_of self.now) → has_failed self.now ≡ false → (s : State) → IsAt D.Disk self.now s
-            → Contains (corners_of s.contents.mosaic) corner → result ≡ false → KeepsFresh D.Disk self.now s.contents.mosaic corner }
+        ensures fresh { D.honest (disk_of self.now) → has_failed self.now ≡ false → (s : State)
+            → IsAt D.Disk self.now s → Contains (corners_of s.contents.mosaic) corner
+            → result ≡ false → KeepsFresh D.Disk self.now s.contents.mosaic corner }
     {
         derived::stale(&self.tree, corner)
     }
@@ -189,7 +195,8 @@ fn format_as<D: Disk>(
     requires known { IsKnown version }
     ensures formats { Formats D.Disk version side capacity disk.old disk.new result }
     ensures formatted { D.honest disk.new
-        → OnOk result ((image : Image) → D.may disk.new image → Stands (D.size disk.new) image (no_tiles (format_by version side capacity))) }
+        → OnOk result ((image : Image) → D.may disk.new image
+        → Stands (D.size disk.new) image (no_tiles (format_by version side capacity))) }
 {
     let format = Format::new(version, side, capacity)?;
     if disk.sectors() < format.sectors() {

@@ -23,10 +23,12 @@ impl<D: Disk> Store<D> {
         ensures upgraded { HasUpgraded D.Disk self.old self.new result }
 
         // It writes the records and index pages of three planes a tile, a root and two gates at most, on any disk.
-        ensures writes { D.writes (disk_of self.new) ≤ D.writes (disk_of self.old) + most_upgrade_writes (root_of self.old) }
+        ensures writes { D.writes (disk_of self.new) ≤ D.writes (disk_of self.old)
+            + most_upgrade_writes (root_of self.old) }
 
         // A store that failed makes no call of the disk, and stays failed.
-        ensures failed { has_failed self.old ≡ true → (result ≡ Err Failed) × (disk_of self.new ≡ disk_of self.old) }
+        ensures failed { has_failed self.old ≡ true
+            → (result ≡ Err Failed) × (disk_of self.new ≡ disk_of self.old) }
         ensures still_failed { has_failed self.old ≡ true → has_failed self.new ≡ true }
     {
         if self.tree.has_failed() {
@@ -41,7 +43,8 @@ fn upgrade_tree<D: Disk>(tree: &mut Tree<D>) -> Result<(), Refusal>
     requires works { have_failed tree.old ≡ false }
     ensures upgraded { IsUpgraded D.Disk result tree.old tree.new }
     ensures clean { have_failed tree.new ≡ false → IsClean tree.new }
-    ensures writes { D.writes (disk_under tree.new) ≤ D.writes (disk_under tree.old) + most_upgrade_writes (root_under tree.old) }
+    ensures writes { D.writes (disk_under tree.new) ≤ D.writes (disk_under tree.old)
+        + most_upgrade_writes (root_under tree.old) }
 {
     // Between two calls nothing is staged.
     tree.abandon();

@@ -41,9 +41,9 @@ pub(crate) fn stage_voids<D: Disk>(
 ) -> Result<(), Refusal>
     requires works { has_failed tree.old ≡ false }
     // Of these tiles each page with a row of the box is staged, once at most.
-    ensures makes { let n : ℕ = (root_of tree.old).side in let pages : ℕ = pages_met (box_meets n patch tiles.now) (pages_of n) (corners_of tree.old) in
-        MakesPages D.Disk n (λ m. filled m patch) (λ m. (mosaic_of D.Disk tree.old ≡ m) × AreVoidTiles m patch.from patch.to tiles.now) (λ c i. Contains (corners_of tree.old) c)
-        pages pages tree.old tree.new result }
+    ensures makes { let n : ℕ = (root_of tree.old).side in
+        let pages : ℕ = pages_met (box_meets n patch tiles.now) (pages_of n) (corners_of tree.old) in
+        MakesPages D.Disk n (λ m. filled m patch) (λ m. (mosaic_of D.Disk tree.old ≡ m) × AreVoidTiles m patch.from patch.to tiles.now) (λ c i. Contains (corners_of tree.old) c) pages pages tree.old tree.new result }
     ensures refused { IsRefusedEarly D.Disk tree.old tree.new result }
 {
     let rims = read_rims(alloc, tree, tiles, patch)?;
@@ -66,7 +66,8 @@ impl<'a> PageEdit for VoidFills<'a> {
     ghost made = { λ edit m. filled m edit.patch };
 
     // The rims are right, and those of all tiles with a void in the box.
-    ghost fits = { λ edit m. All (AreRimVoids m edit.patch) edit.rims.now × AreVoidTiles m edit.patch.from edit.patch.to (map (λ rim. rim.corner) edit.rims.now) };
+    ghost fits = { λ edit m. All (AreRimVoids m edit.patch) edit.rims.now
+        × AreVoidTiles m edit.patch.from edit.patch.to (map (λ rim. rim.corner) edit.rims.now) };
 
     ghost is_for = { λ edit n. All (λ rim. vec_len rim.voids ≡ 4 * (n - 1)) edit.rims.now };
 
@@ -98,7 +99,8 @@ impl<'a> PageEdit for VoidFills<'a> {
 
 // What is known of the rim of the corner's tile.
 fn rim_of(rims: &[RimVoids], corner: Corner) -> Option<&RimVoids>
-    ensures some { IfSome result (λ rim. Contains rims.now rim.now × (rim.now.corner ≡ corner) × (is_listed corner (map (λ r. r.corner) rims.now) ≡ true)) }
+    ensures some { IfSome result (λ rim. Contains rims.now rim.now × (rim.now.corner ≡ corner)
+        × (is_listed corner (map (λ r. r.corner) rims.now) ≡ true)) }
     ensures none { IfNone result (is_listed corner (map (λ r. r.corner) rims.now) ≡ false) }
 {
     for rim in rims {
@@ -149,7 +151,8 @@ fn fill_samples(
 ) -> bool
     requires whole { vec_len rim.now.voids ≡ 4 * (side - 1) }
     requires index { index < pages_of side }
-    ensures edited { (m : Mosaic) → IsMosaic m → m.side ≡ side → AreRimVoids m patch rim.now → IsPageOf side (filled m patch) m rim.now.corner index page.old
+    ensures edited { (m : Mosaic) → IsMosaic m → m.side ≡ side → AreRimVoids m patch rim.now
+        → IsPageOf side (filled m patch) m rim.now.corner index page.old
         → IsEdited side (filled m patch) rim.now.corner index page.old page.new }
     ensures left { result ≡ false → page.new ≡ page.old }
 {
@@ -203,7 +206,8 @@ fn holds_void(side: Side, page: &[u8; PAGE_BYTES], first: u32, at: u32) -> bool
 fn is_void_of_box(side: Side, rim: &RimVoids, patch: Patch, index: u32) -> bool
     requires index { index < side * side }
     requires whole { vec_len rim.now.voids ≡ 4 * (side - 1) }
-    ensures { result ≡ (is_in_box patch.from patch.to (point_of side rim.now.corner index) && is_void_by_rim side rim.now index) }
+    ensures { result ≡ (is_in_box patch.from patch.to (point_of side rim.now.corner index)
+        && is_void_by_rim side rim.now index) }
 {
     is_in_box(patch, point_at(side, rim.corner, index)) && rim.is_void(side, index)
 }

@@ -15,8 +15,10 @@ impl Flood {
     // between labels changed, nor a level beside one.
     pub(crate) fn are_off_borders(&self, n: usize) -> bool
         requires marks { AreMarks n self.now.levels.items self.now.labels.items }
-        requires inside { (j : ℕ) (d : Affected) → j < length self.now.affected.items → (slice_index_or self.now.affected.items j d).point < n * n }
-        ensures { IsTrue result → AreOffBorders n self.now.levels.items self.now.labels.items self.now.affected.items (length self.now.affected.items) }
+        requires inside { (j : ℕ) (d : Affected) → j < length self.now.affected.items
+            → (slice_index_or self.now.affected.items j d).point < n * n }
+        ensures { IsTrue result
+            → AreOffBorders n self.now.levels.items self.now.labels.items self.now.affected.items (length self.now.affected.items) }
     {
         for k in 0..self.affected.len() {
             let affected = self.affected[k];
@@ -31,7 +33,9 @@ impl Flood {
     fn has_label_around(&self, n: usize, point: usize, label: u16) -> bool
         requires marks { AreMarks n self.now.levels.items self.now.labels.items }
         requires point { point < n * n }
-        ensures { IsTrue result → (z : ℕ) → z < n * n → IsTrue (is_beside n point z) → IsTrue (is_marked self.now.levels.items z) → slice_index self.now.labels.items z ≡ label }
+        ensures { IsTrue result → (z : ℕ) → z < n * n → IsTrue (is_beside n point z)
+            → IsTrue (is_marked self.now.levels.items z)
+            → slice_index self.now.labels.items z ≡ label }
     {
         for d in 0..9 {
             if let Some(e) = window_point(n, point, d) {

@@ -38,8 +38,10 @@ pub(crate) const VOID_CELL: Cell = Cell {
 // The points of a block of these heights, none with a label yet.
 pub(crate) fn unlabelled(alloc: Global, heights: &[i16]) -> Result<Vec<Cell>, AllocError>
     ensures cells { IfOk result (λ cells. AreCells heights.now cells.items) }
-    ensures no_level { IfOk result (λ cells. (e : ℕ) → slice_index_or (levels_of cells.items) e void ≡ void) }
-    ensures no_label { IfOk result (λ cells. (e : ℕ) → e < length heights.now → slice_index (labels_of cells.items) e ≡ no_label) }
+    ensures no_level { IfOk result (λ cells. (e : ℕ)
+        → slice_index_or (levels_of cells.items) e void ≡ void) }
+    ensures no_label { IfOk result (λ cells. (e : ℕ) → e < length heights.now
+        → slice_index (labels_of cells.items) e ≡ no_label) }
 {
     let mut cells = vec![in alloc; VOID_CELL; heights.len()]?;
     for e in 0..heights.len() {
@@ -84,7 +86,8 @@ pub(crate) fn mark(
     requires labelled { (label ≢ no_label) × (label ≢ open_label) }
     ensures levels { OnOk result (levels_of cells.new ≡ slice_set (levels_of cells.old) e level) }
     ensures labels { OnOk result (labels_of cells.new ≡ slice_set (labels_of cells.old) e label) }
-    ensures cells { OnOk result ((heights : List ℤ) → AreCells heights cells.old → AreCells heights cells.new) }
+    ensures cells { OnOk result ((heights : List ℤ) → AreCells heights cells.old
+        → AreCells heights cells.new) }
     ensures joined { OnOk result (IsJoined queue.old queue.new level e) }
     ensures count { OnOk result (waiting queue.new ≡ waiting queue.old + 1) }
 {

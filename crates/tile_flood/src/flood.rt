@@ -88,7 +88,8 @@ impl Flood {
 fn flood_cells(alloc: Global, block: &BlockView, cells: &mut [Cell]) -> Result<(), AllocError>
     requires cells { AreCells block.now.heights.now cells.old }
     requires no_level { (e : ℕ) → slice_index_or (levels_of cells.old) e void ≡ void }
-    requires no_label { (e : ℕ) → e < block.now.n * block.now.n → slice_index (labels_of cells.old) e ≡ no_label }
+    requires no_label { (e : ℕ) → e < block.now.n * block.now.n
+        → slice_index (labels_of cells.old) e ≡ no_label }
     ensures { OnOk result (IsLabelling (viewed_block block.now) (levels_of cells.new) (labels_of cells.new)
         × AreCarried (viewed_block block.now) (levels_of cells.new) (labels_of cells.new)) }
 {

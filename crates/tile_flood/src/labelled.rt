@@ -32,7 +32,8 @@ impl Model for Labelled {
 
     ghost view = { λ l. record { side = l.side; levels = l.levels.items; labels = l.labels.items } };
 
-    ghost invariant = { λ l. (length l.levels.items ≡ l.side * l.side) × (length l.labels.items ≡ l.side * l.side) };
+    ghost invariant = { λ l. (length l.levels.items ≡ l.side * l.side)
+        × (length l.labels.items ≡ l.side * l.side) };
 }
 
 impl Labelled {

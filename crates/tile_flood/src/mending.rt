@@ -46,7 +46,8 @@ pub fn mend(
     ensures side { IfOk result (λ mended. mended.labelled.side ≡ block.now.side) }
     ensures labelling { IfOk result (λ mended. IsLabelling block.now mended.labelled.levels mended.labelled.labels) }
     ensures carried { IfOk result (λ mended. AreCarried block.now mended.labelled.levels mended.labelled.labels) }
-    ensures spills { IfOk result (λ mended. IsTrue mended.same_spills → HaveSameSpills labelled mended.labelled) }
+    ensures spills { IfOk result (λ mended. IsTrue mended.same_spills
+        → HaveSameSpills labelled mended.labelled) }
     ensures refusal { IfErr result (λ refusal. refusal ≡ NoMemory) }
 {
     let view = block.view();
@@ -71,7 +72,8 @@ pub fn mend(
 
 // The level of the first of the points.
 fn first_level(labelled: &Labelled, points: &[u32]) -> i16
-    ensures { 0 < length points.now → result ≡ slice_index_or labelled.now.levels (slice_index points.now 0) void }
+    ensures { 0 < length points.now
+        → result ≡ slice_index_or labelled.now.levels (slice_index points.now 0) void }
 {
     if points.is_empty() {
         return VOID;

@@ -32,7 +32,8 @@ const STRIP: usize = 16;
 /// label too. NoMemory is the only refusal: of labels that aren't a valid labelling these are the spills between the
 /// points that have a level.
 pub fn spills(alloc: Global, labelled: &Labelled) -> Result<Vec<Spill>, Refusal>
-    ensures spills { (b : Block) → All IsSample b.heights → b.side ≡ labelled.now.side → IsLabelling b labelled.now.levels labelled.now.labels
+    ensures spills { (b : Block) → All IsSample b.heights → b.side ≡ labelled.now.side
+        → IsLabelling b labelled.now.levels labelled.now.labels
         → IfOk result (λ spills. AreSpills labelled.now.side b.heights labelled.now.levels labelled.now.labels spills.items) }
     ensures of_any { IfOk result (λ spills. AreSpills labelled.now.side labelled.now.levels labelled.now.levels labelled.now.labels spills.items) }
     ensures refusal { IfErr result (λ refusal. refusal ≡ NoMemory) }
@@ -82,8 +83,7 @@ fn gather(
 ) -> Result<(), AllocError>
     requires beside { AreBeside labelled.now.n e f count }
     requires passages { ArePassages labelled.now.n labelled.now.levels.now labelled.now.labels.now passages.old.found.items }
-    ensures { OnOk result (AreGathered labelled.now.n labelled.now.levels.now labelled.now.labels.now
-        passages.old.found.items passages.new.found.items e f count) }
+    ensures { OnOk result (AreGathered labelled.now.n labelled.now.levels.now labelled.now.labels.now passages.old.found.items passages.new.found.items e f count) }
 {
     let mut from = 0;
     'strips: while from < count {
@@ -107,7 +107,8 @@ fn are_alike(labels: &[u16], e: usize, f: usize, width: usize) -> bool
     requires e { e + width ≤ length labels.now }
     requires f { f + width ≤ length labels.now }
     requires width { width ≤ STRIP }
-    ensures { IsTrue result → (k : ℕ) → k < width → slice_index labels.now (e + k) ≡ slice_index labels.now (f + k) }
+    ensures { IsTrue result → (k : ℕ) → k < width
+        → slice_index labels.now (e + k) ≡ slice_index labels.now (f + k) }
 {
     if width < STRIP {
         return false;

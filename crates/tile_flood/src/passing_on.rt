@@ -28,7 +28,8 @@ impl Flood {
         most: usize,
     ) -> Result<bool, AllocError>
         requires state { AreMendingIn block.now self.old }
-        ensures mended { IfOk result (λ done. IsTrue done → IsLabelling (viewed_block block.now) self.new.levels.items self.new.labels.items
+        ensures mended { IfOk result (λ done. IsTrue done
+            → IsLabelling (viewed_block block.now) self.new.levels.items self.new.labels.items
             × AreCarried (viewed_block block.now) self.new.levels.items self.new.labels.items) }
         ensures listed { OnOk result (StayListedIn block.now self.old self.new) }
     {
@@ -74,7 +75,10 @@ impl Flood {
         requires state { IsPassingOnIn block.now self.old popped.point popped.level popped.label }
         ensures state { OnOk result (IsPassingOnIn block.now self.new popped.point popped.level popped.label) }
         ensures at_most { OnOk result (AreAtMost self.old.levels.items self.new.levels.items) }
-        ensures reached { OnOk result (IsTrue (is_solid (viewed_block block.now) e) → IsTrue (is_marked self.new.levels.items e) × (slice_index_or self.new.levels.items e void ≤ℤ int_max (slice_index_or block.now.heights.now e void) popped.level)) }
+        ensures reached { OnOk result (IsTrue (is_solid (viewed_block block.now) e)
+            → IsTrue (is_marked self.new.levels.items e)
+            × (slice_index_or self.new.levels.items e void
+            ≤ℤ int_max (slice_index_or block.now.heights.now e void) popped.level)) }
         ensures listed { OnOk result (StayListedIn block.now self.old self.new) }
     {
         if !is_ground(block, e) {
@@ -109,7 +113,9 @@ impl Flood {
         requires state { IsPassingOnIn block.now self.old popped.point popped.level popped.label }
         ensures state { OnOk result (IsPassingOnIn block.now self.new popped.point popped.level popped.label) }
         ensures at_most { OnOk result (AreAtMost self.old.levels.items self.new.levels.items) }
-        ensures reached { OnOk result (IsTrue (is_marked self.new.levels.items e) × (slice_index_or self.new.levels.items e void ≤ℤ int_max (slice_index_or block.now.heights.now e void) popped.level)) }
+        ensures reached { OnOk result (IsTrue (is_marked self.new.levels.items e)
+            × (slice_index_or self.new.levels.items e void
+            ≤ℤ int_max (slice_index_or block.now.heights.now e void) popped.level)) }
         ensures listed { OnOk result (StayListedIn block.now self.old self.new) }
     {
         let own = Cell {

@@ -34,7 +34,8 @@ impl Model for Queue {
 
     ghost view = { λ q. record { least = q.least; buckets = map (λ b. b.items) q.buckets.items } };
 
-    ghost invariant = { λ q. ((q.least +ℤ pos (length q.buckets.items)) ≤ℤ pos 32768) × AreEmptyBelow (map (λ b. b.items) q.buckets.items) q.lowest };
+    ghost invariant = { λ q. ((q.least +ℤ pos (length q.buckets.items)) ≤ℤ pos 32768)
+        × AreEmptyBelow (map (λ b. b.items) q.buckets.items) q.lowest };
 }
 
 impl Queue {
@@ -128,7 +129,8 @@ impl Queue {
 
     /// The lowest level at which a point waits.
     pub(crate) fn lowest_level(&mut self) -> Option<i16>
-        ensures found { MatchOption result ((level : ℤ) (e : ℕ) → Waits self.old level e → ⊥) (λ level. (e : ℕ) × Waits self.old level e) }
+        ensures found { MatchOption result ((level : ℤ) (e : ℕ) → Waits self.old level e → ⊥) (λ level. (e : ℕ)
+            × Waits self.old level e) }
         ensures same { self.new ≡ self.old }
     {
         let Some(lowest) = first_in_use(&self.buckets, self.lowest) else {
@@ -162,10 +164,12 @@ ghost use Rattle.tile_flood.specs.Waiting.{bucket, AreEmpty};
 
 // The first bucket that isn't empty, from this one on.
 fn first_in_use(buckets: &[Vec<u32>], from: usize) -> Option<usize>
-    ensures none { IfNone result ((b : ℕ) → from ≤ b → bucket (map (λ v. v.items) buckets.now) b ≡ []) }
+    ensures none { IfNone result ((b : ℕ) → from ≤ b
+        → bucket (map (λ v. v.items) buckets.now) b ≡ []) }
     ensures in_range { IfSome result (λ k. k < length buckets.now) }
     ensures in_use { IfSome result (λ k. 0 < length (bucket (map (λ v. v.items) buckets.now) k)) }
-    ensures first { IfSome result (λ k. (b : ℕ) → from ≤ b → b < k → bucket (map (λ v. v.items) buckets.now) b ≡ []) }
+    ensures first { IfSome result (λ k. (b : ℕ) → from ≤ b → b < k
+        → bucket (map (λ v. v.items) buckets.now) b ≡ []) }
 {
     for number in from..buckets.len() {
         if !buckets[number].is_empty() {

@@ -21,13 +21,16 @@ use std::alloc::{AllocError, Global};
 /// rim point that is void, and where only one of level and label is that of a void point. A valid labelling of the
 /// block with the filled levels of its rim is never Damaged. Otherwise NoMemory is the only refusal.
 pub fn raise(alloc: Global, labelled: &Labelled, rim: &[i16]) -> Result<Vec<i16>, Refusal>
-    ensures filled { (m : Mosaic) (c : Corner) → IsRimFilled m c labelled.now.side labelled.now.levels labelled.now.labels rim.now
+    ensures filled { (m : Mosaic) (c : Corner)
+        → IsRimFilled m c labelled.now.side labelled.now.levels labelled.now.labels rim.now
         → IfOk result (λ filled. AreTileLevels m c filled.items) }
-    ensures not_damaged { (m : Mosaic) (c : Corner) → IsRimFilled m c labelled.now.side labelled.now.levels labelled.now.labels rim.now
+    ensures not_damaged { (m : Mosaic) (c : Corner)
+        → IsRimFilled m c labelled.now.side labelled.now.levels labelled.now.labels rim.now
         → IfErr result (λ refusal. refusal ≡ NoMemory) }
     ensures value { IfOk result (λ filled. AreRaised labelled.now.side labelled.now.levels labelled.now.labels rim.now filled.items) }
     ensures refusal { IfErr result (λ refusal. (refusal ≡ NoMemory)
-        ⊎ ((refusal ≡ Damaged) × CannotBeRaised labelled.now.side labelled.now.levels labelled.now.labels rim.now)) }
+        ⊎ ((refusal ≡ Damaged)
+        × CannotBeRaised labelled.now.side labelled.now.levels labelled.now.labels rim.now)) }
 {
     let side = labelled.side();
     if rim.len() != 4 * (side.samples() as usize - 1) {
@@ -49,8 +52,10 @@ pub fn raise(alloc: Global, labelled: &Labelled, rim: &[i16]) -> Result<Vec<i16>
 /// -32768 where the point is void, and None where it can't be raised. Takes no memory.
 pub fn raise_at(labelled: &Labelled, rim: &[i16], index: u32) -> Option<i16>
     requires { index < labelled.now.side * labelled.now.side }
-    ensures filled { (m : Mosaic) (c : Corner) → IsRimFilled m c labelled.now.side labelled.now.levels labelled.now.labels rim.now
-        → IsSomeAnd result (λ level. IsTrue (is_ground m (point_of m.side c index)) → IsFilledLevel (terrain m) (point_of m.side c index) level) }
+    ensures filled { (m : Mosaic) (c : Corner)
+        → IsRimFilled m c labelled.now.side labelled.now.levels labelled.now.labels rim.now
+        → IsSomeAnd result (λ level. IsTrue (is_ground m (point_of m.side c index))
+        → IsFilledLevel (terrain m) (point_of m.side c index) level) }
     ensures value { result ≡ raised_level rim.now (slice_index_or labelled.now.levels index void) (slice_index labelled.now.labels index) }
 {
     let levels = labelled.levels();

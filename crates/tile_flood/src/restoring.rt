@@ -37,7 +37,8 @@ pub fn restore(alloc: Global, block: &Block, labelled: Labelled) -> Result<Mende
     ensures side { IfOk result (λ mended. mended.labelled.side ≡ block.now.side) }
     ensures labelling { IfOk result (λ mended. IsLabelling block.now mended.labelled.levels mended.labelled.labels) }
     ensures carried { IfOk result (λ mended. AreCarried block.now mended.labelled.levels mended.labelled.labels) }
-    ensures spills { IfOk result (λ mended. IsTrue mended.same_spills → HaveSameSpills labelled mended.labelled) }
+    ensures spills { IfOk result (λ mended. IsTrue mended.same_spills
+        → HaveSameSpills labelled mended.labelled) }
     ensures refusal { IfErr result (λ refusal. refusal ≡ NoMemory) }
 {
     if let Some(points) = changed_points(alloc, block, &labelled)? {
@@ -81,7 +82,8 @@ fn changed_points(
 }
 
 fn are_all(stands: &[bool]) -> bool
-    ensures { IsTrue result → (e : ℕ) → e < length stands.now → slice_index_or stands.now e false ≡ true }
+    ensures { IsTrue result → (e : ℕ) → e < length stands.now
+        → slice_index_or stands.now e false ≡ true }
 {
     let mut all = true;
     for e in 0..stands.len() {
@@ -102,7 +104,8 @@ fn look_at_row(
     requires standing { AreStandingIn planes.now stands.old }
     requires fitting { AreFittingIn planes.now points.old.items (i * planes.now.block.n) }
     ensures standing { AreStandingIn planes.now stands.new }
-    ensures fitting { IsTrue result → AreFittingIn planes.now points.new.items ((i + 1) * planes.now.block.n) }
+    ensures fitting { IsTrue result
+        → AreFittingIn planes.now points.new.items ((i + 1) * planes.now.block.n) }
 {
     mark_lower(planes, i, stands);
     if !look_at(planes, i, 0, stands, points) {
@@ -129,9 +132,11 @@ fn look_at_span(
     requires row { span.row < planes.now.block.n }
     requires columns { (0 < span.from) × ((span.from ≤ span.to) × (span.to < planes.now.block.n)) }
     requires standing { AreStandingIn planes.now stands.old }
-    requires fitting { AreFittingIn planes.now points.old.items (span.row * planes.now.block.n + span.from) }
+    requires fitting { AreFittingIn planes.now points.old.items (span.row * planes.now.block.n
+        + span.from) }
     ensures standing { AreStandingIn planes.now stands.new }
-    ensures fitting { IsTrue result → AreFittingIn planes.now points.new.items (span.row * planes.now.block.n + span.to) }
+    ensures fitting { IsTrue result
+        → AreFittingIn planes.now points.new.items (span.row * planes.now.block.n + span.to) }
 {
     if is_plain(&planes.block, span) && are_settled(planes, span) {
         return true;
@@ -157,7 +162,8 @@ fn look_at(
     requires standing { AreStandingIn planes.now stands.old }
     ensures standing { AreStandingIn planes.now stands.new }
     ensures kept { (z : ℕ) → Contains points.old.items z → Contains points.new.items z }
-    ensures fitting { IsTrue result → IsFittingIn planes.now points.new.items (i * planes.now.block.n + j) }
+    ensures fitting { IsTrue result
+        → IsFittingIn planes.now points.new.items (i * planes.now.block.n + j) }
 {
     let e = i * planes.block.n + j;
     if !has_level(planes.block.heights, e) {
@@ -181,7 +187,9 @@ fn look_at(
 
 fn is_own_level(planes: &Planes, e: usize) -> bool
     requires { e < planes.now.block.n * planes.now.block.n }
-    ensures { IsTrue result → slice_index_or planes.now.levels.now e void ≡ slice_index_or planes.now.block.heights.now e void }
+    ensures { IsTrue result
+        → slice_index_or planes.now.levels.now e void
+        ≡ slice_index_or planes.now.block.heights.now e void }
 {
     at(planes.levels, e) == at(planes.block.heights, e)
 }
@@ -200,7 +208,8 @@ fn list_unless(fits: bool, e: usize, points: &mut ArrayVec<u32, MOST_CHANGED>) -
 fn are_settled(planes: &Planes, span: Span) -> bool
     requires row { span.row < planes.now.block.n }
     requires columns { span.from ≤ span.to }
-    ensures { IsTrue result → (j : ℕ) → span.from ≤ j → j < span.to → IsSettled planes.now.block.n planes.now.block.heights.now planes.now.levels.now planes.now.labels.now (span.row * planes.now.block.n + j) }
+    ensures { IsTrue result → (j : ℕ) → span.from ≤ j → j < span.to
+        → IsSettled planes.now.block.n planes.now.block.heights.now planes.now.levels.now planes.now.labels.now (span.row * planes.now.block.n + j) }
 {
     let i = span.row;
     if i == 0 || i + 1 >= planes.block.n || span.from == 0 || span.to >= planes.block.n {
@@ -223,7 +232,8 @@ fn are_settled(planes: &Planes, span: Span) -> bool
 // Whether so many points from this one on are ground, with labels, and none is higher than its level.
 fn are_above(planes: &Planes, e: usize, count: usize) -> bool
     requires { e + count ≤ planes.now.block.n * planes.now.block.n }
-    ensures { IsTrue result → (k : ℕ) → k < count → IsAbove planes.now.block.heights.now planes.now.levels.now planes.now.labels.now (e + k) }
+    ensures { IsTrue result → (k : ℕ) → k < count
+        → IsAbove planes.now.block.heights.now planes.now.levels.now planes.now.labels.now (e + k) }
 {
     let mut above = true;
     for k in 0..count {
@@ -240,7 +250,8 @@ fn are_above(planes: &Planes, e: usize, count: usize) -> bool
 fn are_relaxed(planes: &Planes, e: usize, f: usize, count: usize) -> bool
     requires inside { e + count ≤ planes.now.block.n * planes.now.block.n }
     requires beside { f + count ≤ planes.now.block.n * planes.now.block.n }
-    ensures { IsTrue result → (k : ℕ) → k < count → IsRelaxedTo planes.now.block.heights.now planes.now.levels.now (e + k) (f + k) }
+    ensures { IsTrue result → (k : ℕ) → k < count
+        → IsRelaxedTo planes.now.block.heights.now planes.now.levels.now (e + k) (f + k) }
 {
     let mut relaxed = true;
     for k in 0..count {
@@ -250,7 +261,8 @@ fn are_relaxed(planes: &Planes, e: usize, f: usize, count: usize) -> bool
 }
 
 fn is_relaxed_to(planes: &Planes, e: usize, f: usize) -> bool
-    requires { (e < planes.now.block.n * planes.now.block.n) × (f < planes.now.block.n * planes.now.block.n) }
+    requires { (e < planes.now.block.n * planes.now.block.n)
+        × (f < planes.now.block.n * planes.now.block.n) }
     ensures { IsTrue result → IsRelaxedTo planes.now.block.heights.now planes.now.levels.now e f }
 {
     (at(planes.levels, e) <= at(planes.block.heights, e))
@@ -276,7 +288,8 @@ fn mark_lower(planes: &Planes, i: usize, stands: &mut [bool])
 
 // Marks those of so many points from e on of which that as far from f has their label and a lower level.
 fn mark_above(planes: &Planes, e: usize, f: usize, count: usize, stands: &mut [bool])
-    requires inside { (e + count ≤ planes.now.block.n * planes.now.block.n) × (f + count ≤ planes.now.block.n * planes.now.block.n) }
+    requires inside { (e + count ≤ planes.now.block.n * planes.now.block.n)
+        × (f + count ≤ planes.now.block.n * planes.now.block.n) }
     requires beside { (k : ℕ) → k < count → IsTrue (is_beside planes.now.block.n (e + k) (f + k)) }
     requires standing { length stands.old ≡ planes.now.block.n * planes.now.block.n }
     ensures standing { StandStillIn planes.now stands.old stands.new }
@@ -288,8 +301,11 @@ fn mark_above(planes: &Planes, e: usize, f: usize, count: usize, stands: &mut [b
 
 // Whether e has f's label and a higher level.
 fn is_over(planes: &Planes, e: usize, f: usize) -> bool
-    requires { (e < planes.now.block.n * planes.now.block.n) × (f < planes.now.block.n * planes.now.block.n) }
-    ensures { IsTrue result → (slice_index_or planes.now.levels.now f void <ℤ slice_index_or planes.now.levels.now e void) × (slice_index planes.now.labels.now f ≡ slice_index planes.now.labels.now e) }
+    requires { (e < planes.now.block.n * planes.now.block.n)
+        × (f < planes.now.block.n * planes.now.block.n) }
+    ensures { IsTrue result
+        → (slice_index_or planes.now.levels.now f void <ℤ slice_index_or planes.now.levels.now e void) × (slice_index planes.now.labels.now f
+        ≡ slice_index planes.now.labels.now e) }
 {
     (at(planes.levels, f) < at(planes.levels, e))
         & (label_at(planes.labels, f) == label_at(planes.labels, e))
@@ -298,7 +314,9 @@ fn is_over(planes: &Planes, e: usize, f: usize) -> bool
 // Marks all that stand by the marked points; whether all points are marked then.
 fn do_all_stand(alloc: Global, planes: &Planes, stands: &mut [bool]) -> Result<bool, AllocError>
     requires stands { length stands.old ≡ planes.now.block.n * planes.now.block.n }
-    ensures all { IfOk result (λ all. IsTrue all → (e : ℕ) → e < planes.now.block.n * planes.now.block.n → slice_index_or stands.new e false ≡ true) }
+    ensures all { IfOk result (λ all. IsTrue all → (e : ℕ)
+        → e < planes.now.block.n * planes.now.block.n
+        → slice_index_or stands.new e false ≡ true) }
     ensures standing { OnOk result (StandStillIn planes.now stands.old stands.new) }
 {
     let mut reached = Vec::new(alloc);
@@ -334,7 +352,8 @@ fn stand_from(
 fn is_beside_standing(planes: &Planes, stands: &[bool], e: usize) -> bool
     requires stands { length stands.now ≡ planes.now.block.n * planes.now.block.n }
     requires e { e < planes.now.block.n * planes.now.block.n }
-    ensures { IsTrue result → (f : ℕ) × HoldsUp planes.now.block.n planes.now.levels.now planes.now.labels.now stands.now e f }
+    ensures { IsTrue result
+        → (f : ℕ) × HoldsUp planes.now.block.n planes.now.levels.now planes.now.labels.now stands.now e f }
 {
     let Some(from) = window_start(planes.block.n, e) else {
         return false;
@@ -352,7 +371,9 @@ fn window_start(n: usize, e: usize) -> Option<usize>
     requires side { IsSide n }
     requires small { n * n < 4294967296 }
     requires e { e < n * n }
-    ensures { IfSome result (λ from. (d : ℕ) → d < 9 → (from + d / 3 * n + d % 3 < n * n) × IsTrue (is_beside n e (from + d / 3 * n + d % 3))) }
+    ensures { IfSome result (λ from. (d : ℕ) → d < 9
+        → (from + d / 3 * n + d % 3 < n * n)
+        × IsTrue (is_beside n e (from + d / 3 * n + d % 3))) }
 {
     let i = e / n;
     let j = e % n;
@@ -364,9 +385,14 @@ fn window_start(n: usize, e: usize) -> Option<usize>
 
 // Whether f stands, and has the level and the label of e.
 fn stands_alike(planes: &Planes, stands: &[bool], e: usize, f: usize) -> bool
-    requires inside { (e < planes.now.block.n * planes.now.block.n) × (f < planes.now.block.n * planes.now.block.n) }
+    requires inside { (e < planes.now.block.n * planes.now.block.n)
+        × (f < planes.now.block.n * planes.now.block.n) }
     requires stands { f < length stands.now }
-    ensures { IsTrue result → (slice_index_or stands.now f false ≡ true) × ((slice_index_or planes.now.levels.now f void ≡ slice_index_or planes.now.levels.now e void) × (slice_index planes.now.labels.now f ≡ slice_index planes.now.labels.now e)) }
+    ensures { IsTrue result
+        → (slice_index_or stands.now f false ≡ true)
+        × ((slice_index_or planes.now.levels.now f void
+        ≡ slice_index_or planes.now.levels.now e void)
+        × (slice_index planes.now.labels.now f ≡ slice_index planes.now.labels.now e)) }
 {
     stands[f]
         && at(planes.levels, e) == at(planes.levels, f)

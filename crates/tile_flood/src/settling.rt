@@ -49,7 +49,8 @@ fn spread(
     requires state { IsSpreading (viewed_block block.now) (levels_of cells.old) (labels_of cells.old) queue.old popped.point popped.level popped.label }
     ensures cells { OnOk result (AreCells block.now.heights.now cells.new) }
     ensures state { OnOk result (IsFlooding (viewed_block block.now) (levels_of cells.new) (labels_of cells.new) queue.new) }
-    ensures count { OnOk result (unmarked (levels_of cells.new) + waiting queue.new ≡ unmarked (levels_of cells.old) + waiting queue.old) }
+    ensures count { OnOk result (unmarked (levels_of cells.new) + waiting queue.new
+        ≡ unmarked (levels_of cells.old) + waiting queue.old) }
 {
     visit_row(block, cells, queue, popped, 0)?;
     visit_row(block, cells, queue, popped, 1)?;
@@ -74,8 +75,12 @@ fn visit_row(
     ensures cells { OnOk result (AreCells block.now.heights.now cells.new) }
     ensures state { OnOk result (IsSpreading (viewed_block block.now) (levels_of cells.new) (labels_of cells.new) queue.new popped.point popped.level popped.label) }
     ensures still { OnOk result (AreMarkedStill (levels_of cells.old) (levels_of cells.new)) }
-    ensures count { OnOk result (unmarked (levels_of cells.new) + waiting queue.new ≡ unmarked (levels_of cells.old) + waiting queue.old) }
-    ensures marked { OnOk result ((z : ℕ) → IsTrue (is_linked (viewed_block block.now) popped.point z) → z / block.now.n + 1 ≡ popped.point / block.now.n + i → IsTrue (is_marked (levels_of cells.new) z)) }
+    ensures count { OnOk result (unmarked (levels_of cells.new) + waiting queue.new
+        ≡ unmarked (levels_of cells.old) + waiting queue.old) }
+    ensures marked { OnOk result ((z : ℕ)
+        → IsTrue (is_linked (viewed_block block.now) popped.point z)
+        → z / block.now.n + 1 ≡ popped.point / block.now.n + i
+        → IsTrue (is_marked (levels_of cells.new) z)) }
 {
     let from = popped.point + i * block.n;
     if from <= block.n || from >= cells.len() + block.n - 1 {
@@ -105,8 +110,10 @@ fn visit(
     ensures cells { OnOk result (AreCells block.now.heights.now cells.new) }
     ensures state { OnOk result (IsSpreading (viewed_block block.now) (levels_of cells.new) (labels_of cells.new) queue.new popped.point popped.level popped.label) }
     ensures still { OnOk result (AreMarkedStill (levels_of cells.old) (levels_of cells.new)) }
-    ensures count { OnOk result (unmarked (levels_of cells.new) + waiting queue.new ≡ unmarked (levels_of cells.old) + waiting queue.old) }
-    ensures marked { OnOk result (IsTrue (is_solid (viewed_block block.now) e) → IsTrue (is_marked (levels_of cells.new) e)) }
+    ensures count { OnOk result (unmarked (levels_of cells.new) + waiting queue.new
+        ≡ unmarked (levels_of cells.old) + waiting queue.old) }
+    ensures marked { OnOk result (IsTrue (is_solid (viewed_block block.now) e)
+        → IsTrue (is_marked (levels_of cells.new) e)) }
 {
     let cell = cell_at(cells, e);
     if is_open(cell) {

@@ -31,7 +31,8 @@ impl Flood {
     fn is_spared(&self, n: usize, e: usize) -> bool
         requires marks { AreMarks n self.now.levels.items self.now.labels.items }
         requires e { e < n * n }
-        ensures together { IsTrue result → HangTogether n self.now.levels.items self.now.labels.items e }
+        ensures together { IsTrue result
+            → HangTogether n self.now.levels.items self.now.labels.items e }
         ensures no_suspect { IsTrue result → IsIn self.now.suspects self.now.levels.items e → ⊥ }
     {
         self.suspects.is_above(at(&self.levels, e)) && self.hang_together(n, e)
@@ -77,8 +78,11 @@ impl Flood {
         requires marks { AreMarks n self.now.levels.items self.now.labels.items }
         requires e { e < n * n }
         requires d { d < 9 }
-        ensures around { IsTrue result → (z : ℕ) × (IsInWindow n e d z × IsAround n self.now.levels.items self.now.labels.items e z) }
-        ensures none { result ≡ false → (z : ℕ) → IsInWindow n e d z → IsAround n self.now.levels.items self.now.labels.items e z → ⊥ }
+        ensures around { IsTrue result
+            → (z : ℕ) × (IsInWindow n e d z
+            × IsAround n self.now.levels.items self.now.labels.items e z) }
+        ensures none { result ≡ false → (z : ℕ) → IsInWindow n e d z
+            → IsAround n self.now.levels.items self.now.labels.items e z → ⊥ }
     {
         let Some(z) = window_point(n, e, d) else {
             return false;

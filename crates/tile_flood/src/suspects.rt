@@ -27,7 +27,8 @@ impl Flood {
         ensures affected { self.new.affected ≡ self.old.affected }
         ensures taken { IfSome result (λ entry. IsTaken self.old.suspects self.new.suspects entry.level entry.point) }
         ensures same { IfNone result (self.new.suspects ≡ self.old.suspects) }
-        ensures none { IfNone result (((l : ℤ) (e : ℕ) → Waits self.old.queue l e → ⊥) → (l : ℤ) (e : ℕ) → Waits self.old.suspects l e → ⊥) }
+        ensures none { IfNone result (((l : ℤ) (e : ℕ) → Waits self.old.queue l e → ⊥)
+            → (l : ℤ) (e : ℕ) → Waits self.old.suspects l e → ⊥) }
     {
         let suspect = self.suspects.lowest_level()?;
         if let Some(waiting) = self.queue.lowest_level() {
@@ -62,9 +63,11 @@ impl Flood {
     // Whether the point has a level still, that one.
     pub(crate) fn is_current(&self, entry: QueueEntry) -> bool
         ensures current { IsTrue result → IsTrue (is_marked self.now.levels.items entry.point) }
-        ensures level { IsTrue result → slice_index_or self.now.levels.items entry.point void ≡ entry.level }
+        ensures level { IsTrue result
+            → slice_index_or self.now.levels.items entry.point void ≡ entry.level }
         ensures inside { IsTrue result → entry.point < length self.now.levels.items }
-        ensures stale { result ≡ false → IsTrue (is_marked self.now.levels.items entry.point) → slice_index_or self.now.levels.items entry.point void ≡ entry.level → ⊥ }
+        ensures stale { result ≡ false → IsTrue (is_marked self.now.levels.items entry.point)
+            → slice_index_or self.now.levels.items entry.point void ≡ entry.level → ⊥ }
     {
         let e = entry.point as usize;
         if !self.is_marked(e) {
@@ -77,10 +80,16 @@ impl Flood {
     // points could hold each other.
     fn is_held(&self, block: &BlockView, e: usize) -> bool
         requires marks { AreMarks block.now.n self.now.levels.items self.now.labels.items }
-        requires ground { (z : ℕ) → IsTrue (is_marked self.now.levels.items z) → IsTrue (is_solid (viewed_block block.now) z) }
+        requires ground { (z : ℕ) → IsTrue (is_marked self.now.levels.items z)
+            → IsTrue (is_solid (viewed_block block.now) z) }
         requires marked { IsTrue (is_marked self.now.levels.items e) }
         requires e { e < block.now.n * block.now.n }
-        ensures held { IsTrue result → IsTrue (is_exit (viewed_block block.now) e) ⊎ ((z : ℕ) × (IsHeldUp block.now.n block.now.heights.now block.now.sinks.now self.now.levels.items self.now.labels.items e z × (slice_index_or self.now.levels.items z void <ℤ slice_index_or self.now.levels.items e void))) }
+        ensures held { IsTrue result
+            → IsTrue (is_exit (viewed_block block.now) e)
+            ⊎ ((z : ℕ)
+            × (IsHeldUp block.now.n block.now.heights.now block.now.sinks.now self.now.levels.items self.now.labels.items e z
+            × (slice_index_or self.now.levels.items z void
+            <ℤ slice_index_or self.now.levels.items e void))) }
         ensures inner { result ≡ false → is_exit (viewed_block block.now) e ≡ false }
     {
         let level = at(&self.levels, e);
@@ -97,7 +106,8 @@ impl Flood {
     pub(crate) fn has_beside(&self, n: usize, point: usize, label: u16, most: i16) -> bool
         requires marks { AreMarks n self.now.levels.items self.now.labels.items }
         requires point { point < n * n }
-        ensures { IsTrue result → IsBesideWith n self.now.levels.items self.now.labels.items point label most }
+        ensures { IsTrue result
+            → IsBesideWith n self.now.levels.items self.now.labels.items point label most }
     {
         for d in 0..9 {
             if let Some(e) = window_point(n, point, d) {
@@ -125,12 +135,19 @@ impl Flood {
         requires e { e < n * n }
         ensures levels { OnOk result (self.new.levels.items ≡ slice_set self.old.levels.items e cell.level) }
         ensures labels { OnOk result (self.new.labels.items ≡ slice_set self.old.labels.items e cell.label) }
-        ensures affected { OnOk result (self.new.affected.items ≡ self.old.affected.items ++ record { point = e; label = slice_index self.old.labels.items e } ∷ []) }
+        ensures affected { OnOk result (self.new.affected.items ≡ self.old.affected.items
+            ++ record { point = e; label = slice_index self.old.labels.items e } ∷ []) }
         ensures waiting { OnOk result (WaitStill self.old.queue self.new.queue) }
         ensures suspect { OnOk result (WaitStill self.old.suspects self.new.suspects) }
-        ensures suspected { OnOk result ((y : ℕ) → y < n * n → IsTrue (is_beside n e y) → IsTrue (is_marked self.new.levels.items y) → slice_index self.new.labels.items y ≡ slice_index self.old.labels.items e
-            → level ≤ℤ slice_index_or self.new.levels.items y void → IsIn self.new.suspects self.new.levels.items y) }
-        ensures others { OnOk result ((y : ℕ) → y < n * n → IsTrue (is_beside n e y) → IsTrue (is_marked self.new.levels.items y) → IsIn self.new.queue self.new.levels.items y ⊎ IsIn self.new.suspects self.new.levels.items y) }
+        ensures suspected { OnOk result ((y : ℕ) → y < n * n → IsTrue (is_beside n e y)
+            → IsTrue (is_marked self.new.levels.items y)
+            → slice_index self.new.labels.items y ≡ slice_index self.old.labels.items e
+            → level ≤ℤ slice_index_or self.new.levels.items y void
+            → IsIn self.new.suspects self.new.levels.items y) }
+        ensures others { OnOk result ((y : ℕ) → y < n * n → IsTrue (is_beside n e y)
+            → IsTrue (is_marked self.new.levels.items y)
+            → IsIn self.new.queue self.new.levels.items y
+            ⊎ IsIn self.new.suspects self.new.levels.items y) }
     {
         let label = label_at(&self.labels, e);
         self.affected.push(Affected {

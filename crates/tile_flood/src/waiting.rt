@@ -30,8 +30,15 @@ impl Flood {
         ensures waiting { OnOk result (WaitStill self.old.queue self.new.queue) }
         ensures suspect { OnOk result (WaitStill self.old.suspects self.new.suspects) }
         ensures affected { OnOk result (self.new.affected ≡ self.old.affected) }
-        ensures suspected { OnOk result ((y : ℕ) → y < n * n → IsTrue (is_beside n point y) → IsTrue (is_marked self.old.levels.items y) → slice_index self.old.labels.items y ≡ cell.label → cell.level ≤ℤ slice_index_or self.old.levels.items y void → IsIn self.new.suspects self.old.levels.items y) }
-        ensures others { OnOk result (IsTrue others_wait → (y : ℕ) → y < n * n → IsTrue (is_beside n point y) → IsTrue (is_marked self.old.levels.items y) → IsIn self.new.queue self.old.levels.items y ⊎ IsIn self.new.suspects self.old.levels.items y) }
+        ensures suspected { OnOk result ((y : ℕ) → y < n * n → IsTrue (is_beside n point y)
+            → IsTrue (is_marked self.old.levels.items y)
+            → slice_index self.old.labels.items y ≡ cell.label
+            → cell.level ≤ℤ slice_index_or self.old.levels.items y void
+            → IsIn self.new.suspects self.old.levels.items y) }
+        ensures others { OnOk result (IsTrue others_wait → (y : ℕ) → y < n * n
+            → IsTrue (is_beside n point y) → IsTrue (is_marked self.old.levels.items y)
+            → IsIn self.new.queue self.old.levels.items y
+            ⊎ IsIn self.new.suspects self.old.levels.items y) }
     {
         for d in 0..9 {
             if let Some(e) = window_point(n, point, d) {
@@ -51,8 +58,14 @@ impl Flood {
         ensures waiting { OnOk result (WaitStill self.old.queue self.new.queue) }
         ensures suspect { OnOk result (WaitStill self.old.suspects self.new.suspects) }
         ensures affected { OnOk result (self.new.affected ≡ self.old.affected) }
-        ensures suspected { OnOk result (IsTrue (is_marked self.old.levels.items e) → slice_index self.old.labels.items e ≡ cell.label → cell.level ≤ℤ slice_index_or self.old.levels.items e void → IsIn self.new.suspects self.old.levels.items e) }
-        ensures others { OnOk result (IsTrue others_wait → IsTrue (is_marked self.old.levels.items e) → IsIn self.new.queue self.old.levels.items e ⊎ IsIn self.new.suspects self.old.levels.items e) }
+        ensures suspected { OnOk result (IsTrue (is_marked self.old.levels.items e)
+            → slice_index self.old.labels.items e ≡ cell.label
+            → cell.level ≤ℤ slice_index_or self.old.levels.items e void
+            → IsIn self.new.suspects self.old.levels.items e) }
+        ensures others { OnOk result (IsTrue others_wait
+            → IsTrue (is_marked self.old.levels.items e)
+            → IsIn self.new.queue self.old.levels.items e
+            ⊎ IsIn self.new.suspects self.old.levels.items e) }
     {
         if self.is_unmarked(e) {
             return Ok(());

@@ -56,7 +56,8 @@ impl FloodedBlock {
         ensures block { IfOk result (λ flooded. flooded.block ≡ block) }
         ensures side { IfOk result (λ flooded. flooded.labelled.side ≡ block.side) }
         ensures current { IfOk result (λ flooded. flooded.changed ≡ []) }
-        ensures valid { IfOk result (λ flooded. (m : Mosaic) (c : Corner) → IsBlockBut m c [] block → IsFloodedTile m c flooded) }
+        ensures valid { IfOk result (λ flooded. (m : Mosaic) (c : Corner) → IsBlockBut m c [] block
+            → IsFloodedTile m c flooded) }
         ensures refusal { IfErr result (λ r. r ≡ NoMemory) }
     {
         let labelled = labelled_of(alloc, &block, past)?;
@@ -72,7 +73,8 @@ impl FloodedBlock {
     /// The labelling of the block as it was flooded, or mended the last time.
     pub fn labelled(&self) -> &Labelled
         ensures value { result.now ≡ self.now.labelled }
-        ensures flooded { (m : Mosaic) (c : Corner) → self.now.changed ≡ [] → IsBlockBut m c self.now.changed self.now.block → IsFlooded m c self.now.labelled }
+        ensures flooded { (m : Mosaic) (c : Corner) → self.now.changed ≡ []
+            → IsBlockBut m c self.now.changed self.now.block → IsFlooded m c self.now.labelled }
     {
         &self.labelled
     }
@@ -95,7 +97,8 @@ impl FloodedBlock {
     /// Gives up the block. What is left can't be mended.
     pub fn into_labelled(self) -> Labelled
         ensures value { result ≡ self.labelled }
-        ensures flooded { (m : Mosaic) (c : Corner) → self.changed ≡ [] → IsBlockBut m c self.changed self.block → IsFlooded m c result }
+        ensures flooded { (m : Mosaic) (c : Corner) → self.changed ≡ []
+            → IsBlockBut m c self.changed self.block → IsFlooded m c result }
     {
         self.labelled
     }
@@ -141,12 +144,14 @@ impl FloodedBlock {
         samples: &mut S,
         corner: Corner,
     ) -> Result<Option<FloodedBlock>, Refusal>
-        ensures right { S.is_honest samples.new → IsBlockBut (S.mosaic samples.old) corner self.changed self.block
+        ensures right { S.is_honest samples.new
+            → IsBlockBut (S.mosaic samples.old) corner self.changed self.block
             → IfOk result (λ found. IfSome found (IsFloodedTile (S.mosaic samples.old) corner)) }
         ensures current { IfOk result (λ found. IfSome found (λ mended. mended.changed ≡ [])) }
         ensures unchanged { self.changed ≡ [] → result ≡ Ok (Some self) }
         ensures side { IfOk result (λ found. IfSome found (λ mended. mended.labelled.side ≡ self.labelled.side)) }
-        ensures refusal { IfErr result (λ r. (r ≡ NoMemory) ⊎ MayRefuse (S.failures samples.old) (S.failures samples.new) r) }
+        ensures refusal { IfErr result (λ r. (r ≡ NoMemory)
+            ⊎ MayRefuse (S.failures samples.old) (S.failures samples.new) r) }
         ensures reads { OnlyReads S.Samples samples.old samples.new (reads_of result) }
     {
         if self.changed.len() == 0 {
@@ -194,7 +199,8 @@ fn labelled_of(alloc: Global, block: &Block, past: Option<Labelled>) -> Result<L
 
 // What is held of spills after a mending: those of before, where they are the same.
 fn still_held(spills: Option<Vec<Spill>>, are_same: bool) -> Option<Vec<Spill>>
-    ensures { (old new : LabelledGround) → (IsTrue are_same → HaveSameSpills old new) → AreHeldSpills old spills → AreHeldSpills new result }
+    ensures { (old new : LabelledGround) → (IsTrue are_same → HaveSameSpills old new)
+        → AreHeldSpills old spills → AreHeldSpills new result }
 {
     if are_same {
         return spills;
@@ -213,10 +219,13 @@ fn read_changed<S: Samples>(
     points: &mut ArrayVec<u32, MOST_CHANGED>,
 ) -> Result<bool, Refusal>
     requires before { IsLabelledBefore block.old points.old.items labelled.now.levels labelled.now.labels }
-    ensures before { IfOk result (λ done. IsTrue done → IsLabelledBefore block.new points.new.items labelled.now.levels labelled.now.labels) }
+    ensures before { IfOk result (λ done. IsTrue done
+        → IsLabelledBefore block.new points.new.items labelled.now.levels labelled.now.labels) }
     ensures side { IfOk result (λ done. IsTrue done → block.new.side ≡ block.old.side) }
-    ensures right { S.is_honest samples.new → IsBlockBut (S.mosaic samples.old) corner changed.now block.old
-        → IfOk result (λ done. IsTrue done → IsBlockBut (S.mosaic samples.old) corner [] block.new) }
+    ensures right { S.is_honest samples.new
+        → IsBlockBut (S.mosaic samples.old) corner changed.now block.old
+        → IfOk result (λ done. IsTrue done
+        → IsBlockBut (S.mosaic samples.old) corner [] block.new) }
     ensures reads { OnlyReads S.Samples samples.old samples.new result }
 {
     for k in 0..changed.len() {
@@ -238,7 +247,11 @@ fn read_height<S: Samples>(
     index: u32,
     block: &mut Block,
 ) -> Result<Option<i16>, Refusal>
-    ensures updated { IfOk result (λ found. IfSome found (λ was. (was ≡ slice_index_or block.old.heights index void) × ((h : ℤ) × (IsUpdated block.old index h block.new × (S.is_honest samples.new → h ≡ metres (height_of (S.mosaic samples.old) (point_of block.old.side corner index))))))) }
+    ensures updated { IfOk result (λ found. IfSome found (λ was. (was ≡ slice_index_or block.old.heights index void)
+        × ((h : ℤ)
+        × (IsUpdated block.old index h block.new
+        × (S.is_honest samples.new
+        → h ≡ metres (height_of (S.mosaic samples.old) (point_of block.old.side corner index))))))) }
     ensures reads { OnlyReads S.Samples samples.old samples.new result }
 {
     let side = block.side();
@@ -265,7 +278,8 @@ fn list_unless_below(
     was: i16,
     points: &mut ArrayVec<u32, MOST_CHANGED>,
 ) -> bool
-    ensures { IsTrue result → IsListedUnlessBelow labelled.now.levels block.now.heights index was points.old.items points.new.items }
+    ensures { IsTrue result
+        → IsListedUnlessBelow labelled.now.levels block.now.heights index was points.old.items points.new.items }
 {
     let e = index as usize;
     let level = level_or_void(labelled.levels(), e);

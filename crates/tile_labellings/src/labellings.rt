@@ -25,9 +25,11 @@ pub trait Labellings: Samples {
     /// the samples can be read on.
     fn labelling(&mut self, alloc: Global, corner: Corner) -> Result<TileLabelling, Refusal>
         requires { Contains (Self.corners self.old) corner }
-        ensures valid { Self.is_honest self.new → IfOk result (IsTileLabelling (Self.mosaic self.old) corner) }
+        ensures valid { Self.is_honest self.new
+            → IfOk result (IsTileLabelling (Self.mosaic self.old) corner) }
         ensures current { IfOk result IsCurrent }
-        ensures side { IfOk result (λ labelling. (labelled_of labelling).side ≡ Self.side_of self.old) }
+        ensures side { IfOk result (λ labelling. (labelled_of labelling).side
+            ≡ Self.side_of self.old) }
         ensures causes { IfErr result (λ r. IsTrue (ends_any r)) }
         ensures asked { Asked Self.Samples self.old self.new result };
 
@@ -39,7 +41,8 @@ pub trait Labellings: Samples {
     fn kept_at(&mut self, corner: Corner, index: u32) -> Result<Option<(i16, u16)>, Refusal>
         requires corner { Contains (Self.corners self.old) corner }
         requires index { index < Self.side_of self.old * Self.side_of self.old }
-        ensures valid { Self.is_honest self.new → IfOk result (λ found. IfSome found (λ label_at. IsLabelledAt (Self.mosaic self.old) corner index label_at.0 label_at.1)) }
+        ensures valid { Self.is_honest self.new
+            → IfOk result (λ found. IfSome found (λ label_at. IsLabelledAt (Self.mosaic self.old) corner index label_at.0 label_at.1)) }
         ensures causes { IfErr result (λ r. IsTrue (ends_any r)) }
         ensures asked { Asked Self.Samples self.old self.new result };
 }
@@ -53,10 +56,12 @@ pub fn flooded<S: Samples>(
     past: Option<Labelled>,
 ) -> Result<FloodedBlock, Refusal>
     requires { Contains (S.corners samples.old) corner }
-    ensures valid { S.is_honest samples.new → IfOk result (IsFloodedTile (S.mosaic samples.old) corner) }
+    ensures valid { S.is_honest samples.new
+        → IfOk result (IsFloodedTile (S.mosaic samples.old) corner) }
     ensures current { IfOk result (λ flooded. flooded.changed ≡ []) }
     ensures side { IfOk result (λ flooded. flooded.labelled.side ≡ S.side_of samples.old) }
-    ensures refusal { IfErr result (λ r. (r ≡ NoMemory) ⊎ MayRefuse (S.failures samples.old) (S.failures samples.new) r) }
+    ensures refusal { IfErr result (λ r. (r ≡ NoMemory)
+        ⊎ MayRefuse (S.failures samples.old) (S.failures samples.new) r) }
     ensures reads { OnlyReads S.Samples samples.old samples.new (reads_of result) }
 {
     let block = block_of(alloc, samples, corner)?;
@@ -66,9 +71,11 @@ pub fn flooded<S: Samples>(
 // The block of the corner's tile.
 fn block_of<S: Samples>(alloc: Global, samples: &mut S, corner: Corner) -> Result<Block, Refusal>
     requires { Contains (S.corners samples.old) corner }
-    ensures ground { S.is_honest samples.new → IfOk result (λ block. IsBlockOf (S.mosaic samples.old) corner block) }
+    ensures ground { S.is_honest samples.new
+        → IfOk result (λ block. IsBlockOf (S.mosaic samples.old) corner block) }
     ensures side { IfOk result (λ block. block.side ≡ S.side_of samples.old) }
-    ensures refusal { IfErr result (λ r. (r ≡ NoMemory) ⊎ MayRefuse (S.failures samples.old) (S.failures samples.new) r) }
+    ensures refusal { IfErr result (λ r. (r ≡ NoMemory)
+        ⊎ MayRefuse (S.failures samples.old) (S.failures samples.new) r) }
     ensures reads { OnlyReads S.Samples samples.old samples.new (reads_of result) }
 {
     let heights = block_heights(alloc, samples, corner)?;

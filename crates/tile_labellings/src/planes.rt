@@ -27,12 +27,14 @@ pub fn kept_planes<S: Samples>(
     corner: Corner,
 ) -> Result<KeptPlanes, Refusal>
     requires { Contains (S.corners samples.old) corner }
-    ensures kept { S.is_honest samples.new → IfOk result (λ planes. AreKeptOf (S.mosaic samples.old) corner planes.levels.items planes.labels.items) }
+    ensures kept { S.is_honest samples.new
+        → IfOk result (λ planes. AreKeptOf (S.mosaic samples.old) corner planes.levels.items planes.labels.items) }
 
     // On any disk both are whole.
     ensures levels { IfOk result (λ planes. vec_len planes.levels ≡ 2 * (S.side_of samples.old * S.side_of samples.old)) }
     ensures labels { IfOk result (λ planes. vec_len planes.labels ≡ 2 * (S.side_of samples.old * S.side_of samples.old)) }
-    ensures refusal { IfErr result (λ r. (r ≡ NoMemory) ⊎ MayRefuse (S.failures samples.old) (S.failures samples.new) r) }
+    ensures refusal { IfErr result (λ r. (r ≡ NoMemory)
+        ⊎ MayRefuse (S.failures samples.old) (S.failures samples.new) r) }
     ensures reads { OnlyReads S.Samples samples.old samples.new (reads_of result) }
 {
     let flooded = flooded(alloc, samples, corner, None)?;

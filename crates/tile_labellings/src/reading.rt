@@ -31,7 +31,9 @@ pub fn labelled_from(
     ensures levels { IfOk result (λ labelled. labelled.levels ≡ levels_in levels.now) }
     ensures labels { IfOk result (λ labelled. labelled.labels ≡ labels_in labels.now) }
     ensures fit { IfOk result (λ labelled. DoMarksFit labelled.side labelled.levels labelled.labels) }
-    ensures sound { (b : Block) → b.side ≡ side → IsLabelling b (levels_in levels.now) (labels_in labels.now) → ((e : ℕ) → void ≤ℤ slice_index_or b.heights e void) → IfErr result (λ r. r ≡ NoMemory) }
+    ensures sound { (b : Block) → b.side ≡ side
+        → IsLabelling b (levels_in levels.now) (labels_in labels.now)
+        → ((e : ℕ) → void ≤ℤ slice_index_or b.heights e void) → IfErr result (λ r. r ≡ NoMemory) }
     ensures refusal { IfErr result (λ r. (r ≡ NoMemory) ⊎ (r ≡ Damaged)) }
 {
     let levels = levels_from(alloc, levels)?;
@@ -52,11 +54,15 @@ pub fn labelled_from(
 /// Damaged where no labelling of ground has such marks, which is the only refusal: one of them alone is that of a void, or
 /// the label is neither OUT nor the number of a rim point. Whether that rim point has a level isn't seen.
 pub fn labelled_at(side: Side, level: &[u8; 2], label: &[u8; 2]) -> Result<(i16, u16), Refusal>
-    ensures level { IfOk result (λ label_at. (bytes : List ℕ) (e : ℕ) → StandsAt bytes e level.now → slice_index_or (levels_in bytes) e void ≡ label_at.0) }
-    ensures label { IfOk result (λ label_at. (bytes : List ℕ) (e : ℕ) → StandsAt bytes e label.now → slice_index (labels_in bytes) e ≡ label_at.1) }
+    ensures level { IfOk result (λ label_at. (bytes : List ℕ) (e : ℕ) → StandsAt bytes e level.now
+        → slice_index_or (levels_in bytes) e void ≡ label_at.0) }
+    ensures label { IfOk result (λ label_at. (bytes : List ℕ) (e : ℕ) → StandsAt bytes e label.now
+        → slice_index (labels_in bytes) e ≡ label_at.1) }
     ensures fit { IfOk result (λ label_at. DoMarksFitAt side label_at.0 label_at.1) }
-    ensures sound { (b : Block) (levels labels : List ℕ) (e : ℕ) → b.side ≡ side → IsLabelling b (levels_in levels) (labels_in labels) → ((z : ℕ) → void ≤ℤ slice_index_or b.heights z void)
-        → e < side * side → StandsAt levels e level.now → StandsAt labels e label.now → IsOk result }
+    ensures sound { (b : Block) (levels labels : List ℕ) (e : ℕ) → b.side ≡ side
+        → IsLabelling b (levels_in levels) (labels_in labels)
+        → ((z : ℕ) → void ≤ℤ slice_index_or b.heights z void) → e < side * side
+        → StandsAt levels e level.now → StandsAt labels e label.now → IsOk result }
     ensures refusal { IfErr result (λ r. r ≡ Damaged) }
 {
     let level = level_from(level);
@@ -98,8 +104,12 @@ fn rim_levels(alloc: Global, labelled: &Labelled) -> Result<Vec<i16>, AllocError
 fn do_marks_fit(labelled: &Labelled, rim: &[i16]) -> bool
     ensures low { 3 ≤ labelled.now.side }
     ensures high { labelled.now.side ≤ largest_side }
-    ensures yes { IsTrue result → (e : ℕ) → e < labelled.now.side * labelled.now.side → raised_level rim.now (slice_index_or labelled.now.levels e void) (slice_index labelled.now.labels e) ≢ None }
-    ensures no { (IsTrue result → ⊥) → (e : ℕ) × ((e < labelled.now.side * labelled.now.side) × (raised_level rim.now (slice_index_or labelled.now.levels e void) (slice_index labelled.now.labels e) ≡ None)) }
+    ensures yes { IsTrue result → (e : ℕ) → e < labelled.now.side * labelled.now.side
+        → raised_level rim.now (slice_index_or labelled.now.levels e void) (slice_index labelled.now.labels e) ≢ None }
+    ensures no { (IsTrue result → ⊥)
+        → (e : ℕ) × ((e < labelled.now.side * labelled.now.side)
+        × (raised_level rim.now (slice_index_or labelled.now.levels e void) (slice_index labelled.now.labels e)
+        ≡ None)) }
 {
     let levels = labelled.levels();
     let labels = labelled.labels();

@@ -29,7 +29,8 @@ impl TileLabelling {
     /// The levels and labels; those of the tile where no height may have changed since they were made.
     pub fn labelled(&self) -> &Labelled
         ensures value { result.now ≡ labelled_of self.now }
-        ensures flooded { (m : Mosaic) (c : Corner) → IsCurrent self.now → IsTileLabelling m c self.now → IsFlooded m c result.now }
+        ensures flooded { (m : Mosaic) (c : Corner) → IsCurrent self.now
+            → IsTileLabelling m c self.now → IsFlooded m c result.now }
     {
         match self {
             TileLabelling::Kept(labelled) => labelled,
@@ -92,7 +93,9 @@ impl TileLabelling {
     /// where that can't be noted: then the labelling is to be given up. A flooded block has room for 64 such points; a kept
     /// labelling stays valid where the point lay below its level and doesn't rise above it. Takes no memory.
     pub fn note_changed(&mut self, index: u32, was: i16, to: i16) -> bool
-        ensures noted { IsTrue result → (m new : Mosaic) (c : Corner) → DifferAt c index m new → IsSetFrom m new (point_of m.side c index) was to → IsTileLabelling m c self.old → IsTileLabelling new c self.new }
+        ensures noted { IsTrue result → (m new : Mosaic) (c : Corner) → DifferAt c index m new
+            → IsSetFrom m new (point_of m.side c index) was to → IsTileLabelling m c self.old
+            → IsTileLabelling new c self.new }
         ensures labelled { IsTrue result → labelled_of self.new ≡ labelled_of self.old }
         ensures flooded { is_flooded self.new ≡ is_flooded self.old }
         ensures room { can_note self.old ≡ true → IsTrue result }
@@ -113,11 +116,15 @@ impl TileLabelling {
         samples: &mut S,
         corner: Corner,
     ) -> Result<Option<TileLabelling>, Refusal>
-        ensures valid { S.is_honest samples.new → IsTileLabelling (S.mosaic samples.old) corner self → IfOk result (λ found. IfSome found (IsTileLabelling (S.mosaic samples.old) corner)) }
+        ensures valid { S.is_honest samples.new → IsTileLabelling (S.mosaic samples.old) corner self
+            → IfOk result (λ found. IfSome found (IsTileLabelling (S.mosaic samples.old) corner)) }
         ensures current { IfOk result (λ found. IfSome found IsCurrent) }
-        ensures unchanged { IsCurrent self → (labelled_of self).side ≡ S.side_of samples.old → result ≡ Ok (Some self) }
-        ensures side { IfOk result (λ found. IfSome found (λ refreshed. (labelled_of refreshed).side ≡ S.side_of samples.old)) }
-        ensures refusal { IfErr result (λ r. (r ≡ NoMemory) ⊎ MayRefuse (S.failures samples.old) (S.failures samples.new) r) }
+        ensures unchanged { IsCurrent self → (labelled_of self).side ≡ S.side_of samples.old
+            → result ≡ Ok (Some self) }
+        ensures side { IfOk result (λ found. IfSome found (λ refreshed. (labelled_of refreshed).side
+            ≡ S.side_of samples.old)) }
+        ensures refusal { IfErr result (λ r. (r ≡ NoMemory)
+            ⊎ MayRefuse (S.failures samples.old) (S.failures samples.new) r) }
         ensures reads { OnlyReads S.Samples samples.old samples.new (reads_of result) }
     {
         if self.labelled().side() != samples.side() {
@@ -136,7 +143,8 @@ impl TileLabelling {
 
     /// The labelling without its block, so that it can't be mended; None where heights may have changed already.
     pub fn without_block(self) -> Option<TileLabelling>
-        ensures valid { IfSome result (λ left. (m : Mosaic) (c : Corner) → IsTileLabelling m c self → IsTileLabelling m c left) }
+        ensures valid { IfSome result (λ left. (m : Mosaic) (c : Corner) → IsTileLabelling m c self
+            → IsTileLabelling m c left) }
         ensures labelled { IfSome result (λ left. labelled_of left ≡ labelled_of self) }
         ensures kept { IfSome result (λ left. is_flooded left ≡ false) }
         ensures current { IfNone result (IsCurrent self → ⊥) }

@@ -29,7 +29,8 @@ pub fn upstream_counts<F: FlowSource>(
     corner: Corner,
 ) -> Result<Vec<u32>, Refusal>
     requires { F.is_ready flows.old }
-    ensures counts { IfOk result (λ counts. (m : Mosaic) (level : Point → ℤ) → F.tells flows.new m level → AreFilledLevels (terrain m) level
+    ensures counts { IfOk result (λ counts. (m : Mosaic) (level : Point → ℤ)
+        → F.tells flows.new m level → AreFilledLevels (terrain m) level
         → AreUpstreamCounts (terrain m) level side corner counts.items) }
     ensures follows { F.follows flows.old flows.new }
     ensures keeps { OnOk result (F.keeps flows.old flows.new) }
@@ -56,11 +57,14 @@ fn count_sample<F: FlowSource>(
 ) -> Result<(), Refusal>
     requires ready { F.is_ready flows.old }
     requires index { index < counts.old.side * counts.old.side }
-    ensures counted { OnOk result ((m : Mosaic) (level : Point → ℤ) → F.tells flows.new m level → AreFilledLevels (terrain m) level
-        → AreCounted (terrain m) level counts.old → AreStillCounted (terrain m) level counts.old counts.new) }
+    ensures counted { OnOk result ((m : Mosaic) (level : Point → ℤ) → F.tells flows.new m level
+        → AreFilledLevels (terrain m) level → AreCounted (terrain m) level counts.old
+        → AreStillCounted (terrain m) level counts.old counts.new) }
     ensures tile { (counts.new.side ≡ counts.old.side) × (counts.new.corner ≡ counts.old.corner) }
-    ensures known { OnOk result ((m : Mosaic) (level : Point → ℤ) → F.tells flows.new m level → AreFilledLevels (terrain m) level
-        → AreCounted (terrain m) level counts.old → IsTrue (is_ground m (point_of counts.old.side counts.old.corner index)) → slice_index_or counts.new.counts.items index 0 ≡ 0 → ⊥) }
+    ensures known { OnOk result ((m : Mosaic) (level : Point → ℤ) → F.tells flows.new m level
+        → AreFilledLevels (terrain m) level → AreCounted (terrain m) level counts.old
+        → IsTrue (is_ground m (point_of counts.old.side counts.old.corner index))
+        → slice_index_or counts.new.counts.items index 0 ≡ 0 → ⊥) }
     ensures ready { OnOk result (F.is_ready flows.new) }
     ensures follows { F.follows flows.old flows.new }
     ensures keeps { OnOk result (F.keeps flows.old flows.new) }
@@ -142,10 +146,14 @@ fn count_from<F: FlowSource>(
     first: Point,
 ) -> Result<u32, Refusal>
     requires ready { F.is_ready flows.old }
-    ensures count { IfOk result (λ count. (m : Mosaic) (level : Point → ℤ) → F.tells flows.new m level → AreFilledLevels (terrain m) level
-        → AreCounted (terrain m) level counts.old → IsTrue (is_ground m first) → IsCounted (terrain m) level first count) }
-    ensures counted { OnOk result ((m : Mosaic) (level : Point → ℤ) → F.tells flows.new m level → AreFilledLevels (terrain m) level
-        → AreCounted (terrain m) level counts.old → IsTrue (is_ground m first) → AreStillCounted (terrain m) level counts.old counts.new) }
+    ensures count { IfOk result (λ count. (m : Mosaic) (level : Point → ℤ)
+        → F.tells flows.new m level → AreFilledLevels (terrain m) level
+        → AreCounted (terrain m) level counts.old → IsTrue (is_ground m first)
+        → IsCounted (terrain m) level first count) }
+    ensures counted { OnOk result ((m : Mosaic) (level : Point → ℤ) → F.tells flows.new m level
+        → AreFilledLevels (terrain m) level → AreCounted (terrain m) level counts.old
+        → IsTrue (is_ground m first)
+        → AreStillCounted (terrain m) level counts.old counts.new) }
     ensures tile { (counts.new.side ≡ counts.old.side) × (counts.new.corner ≡ counts.old.corner) }
     ensures ready { OnOk result (F.is_ready flows.new) }
     ensures follows { F.follows flows.old flows.new }
@@ -203,8 +211,10 @@ fn enter<F: FlowSource>(
     requires ready { F.is_ready flows.old }
     requires looked { at.looked < 8 }
     requires donor { IsTrue (slice_index_or at.donors at.looked false) }
-    ensures tour { IfOk result (λ next. (m : Mosaic) (level : Point → ℤ) → F.tells flows.new m level → AreFilledLevels (terrain m) level
-        → AreCounted (terrain m) level counts.now → (first : Point) → IsTour (terrain m) level first at waiting.old.items → IsTour (terrain m) level first next waiting.new.items) }
+    ensures tour { IfOk result (λ next. (m : Mosaic) (level : Point → ℤ) → F.tells flows.new m level
+        → AreFilledLevels (terrain m) level → AreCounted (terrain m) level counts.now
+        → (first : Point) → IsTour (terrain m) level first at waiting.old.items
+        → IsTour (terrain m) level first next waiting.new.items) }
     ensures ready { OnOk result (F.is_ready flows.new) }
     ensures follows { F.follows flows.old flows.new }
     ensures keeps { OnOk result (F.keeps flows.old flows.new) }

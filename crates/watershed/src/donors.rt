@@ -22,7 +22,9 @@ pub(crate) fn add_donors<F: FlowSource>(
 ) -> Result<(), Refusal>
     requires { F.is_ready flows.old }
     ensures donors { OnOk result ((m : Mosaic) (level : Point → ℤ) → F.tells flows.new m level
-        → (x : Point) → Contains found.new.items x ↔ (Contains found.old.items x ⊎ IsDonor (terrain m) level x point)) }
+        → (x : Point)
+        → Contains found.new.items x
+        ↔ (Contains found.old.items x ⊎ IsDonor (terrain m) level x point)) }
     ensures ready { OnOk result (F.is_ready flows.new) }
     ensures follows { F.follows flows.old flows.new }
     ensures keeps { OnOk result (F.keeps flows.old flows.new) }
@@ -42,8 +44,8 @@ pub(crate) fn donors<F: FlowSource>(
     point: Point,
 ) -> Result<[bool; 8], Refusal>
     requires { F.is_ready flows.old }
-    ensures donors { IfOk result (λ donors. (m : Mosaic) (level : Point → ℤ) → F.tells flows.new m level
-        → AreToldBy (DrainsBack (terrain m) level point) donors 8) }
+    ensures donors { IfOk result (λ donors. (m : Mosaic) (level : Point → ℤ)
+        → F.tells flows.new m level → AreToldBy (DrainsBack (terrain m) level point) donors 8) }
     ensures ready { OnOk result (F.is_ready flows.new) }
     ensures follows { F.follows flows.old flows.new }
     ensures keeps { OnOk result (F.keeps flows.old flows.new) }
@@ -67,7 +69,8 @@ fn is_donor<F: FlowSource>(
     direction: Dir,
 ) -> Result<bool, Refusal>
     requires { F.is_ready flows.old }
-    ensures donor { IfOk result (λ donor. (m : Mosaic) (level : Point → ℤ) → F.tells flows.new m level
+    ensures donor { IfOk result (λ donor. (m : Mosaic) (level : Point → ℤ)
+        → F.tells flows.new m level
         → IsTrue donor ↔ DrainsBack (terrain m) level point direction) }
     ensures ready { OnOk result (F.is_ready flows.new) }
     ensures follows { F.follows flows.old flows.new }

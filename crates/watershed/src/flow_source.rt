@@ -32,8 +32,8 @@ pub trait FlowSource {
     /// Where the point drains; NoGround where it isn't ground.
     fn flow(&mut self, alloc: Global, point: Point) -> Result<Flow, Refusal>
         requires { is_ready self.old }
-        ensures flow { IfOk result (λ flow. (m : Mosaic) (level : Point → ℤ) → tells self.new m level
-            → IsToldOf (terrain m) level point flow) }
+        ensures flow { IfOk result (λ flow. (m : Mosaic) (level : Point → ℤ)
+            → tells self.new m level → IsToldOf (terrain m) level point flow) }
         ensures ready { OnOk result (is_ready self.new) }
         ensures follows { follows self.old self.new }
         ensures keeps { OnOk result (keeps self.old self.new) }
@@ -50,7 +50,8 @@ pub trait FlowSource {
     ghost is_mosaic: { (a : Self) (m : Mosaic) (level : Point → ℤ) → tells a m level → IsMosaic m };
 
     /// What is told after calls was told before them.
-    ghost told_before: { (a b : Self) (m : Mosaic) (level : Point → ℤ) → follows a b → tells b m level → tells a m level };
+    ghost told_before: { (a b : Self) (m : Mosaic) (level : Point → ℤ) → follows a b
+        → tells b m level → tells a m level };
 
     /// No call is a run of calls.
     ghost follows_itself: { (a : Self) → is_ready a → follows a a };

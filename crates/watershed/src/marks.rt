@@ -52,7 +52,8 @@ impl Marks {
         requires { IsIndexed self.old }
         ensures again { IfOk result (λ fresh. IsFalse fresh → IsMarked self.old point) }
         ensures fresh { IfOk result (λ fresh. IsTrue fresh → IsMarked self.old point → ⊥) }
-        ensures marked { OnOk result ((p : Point) → IsMarked self.new p ↔ (IsMarked self.old p ⊎ (p ≡ point))) }
+        ensures marked { OnOk result ((p : Point)
+            → IsMarked self.new p ↔ (IsMarked self.old p ⊎ (p ≡ point))) }
         ensures indexed { OnOk result (IsIndexed self.new) }
     {
         let rank = rank(point);
@@ -82,7 +83,8 @@ impl Marks {
 
     // Where the segment with this number stands, where that is noted.
     fn hinted(&self, hint: usize, number: u64) -> Option<usize>
-        ensures { IfSome result (λ place. (place < length self.now.numbers.items) × (slice_index_or self.now.numbers.items place 0 ≡ number)) }
+        ensures { IfSome result (λ place. (place < length self.now.numbers.items)
+            × (slice_index_or self.now.numbers.items place 0 ≡ number)) }
     {
         let place = *self.hints.get(hint)?;
         let found = *self.numbers.get(place)?;
@@ -132,7 +134,8 @@ fn add_segment(
     requires number { number < 2 ^ 52 }
     requires place { place * 64 + 64 ≤ length words.now }
     requires runs { AreRuns (Cover runs.old.items) runs.old.items }
-    requires past { (q : Point) → Cover runs.old.items q → (n : ℕ) × (IsRank q n × (n < number * 4096)) }
+    requires past { (q : Point) → Cover runs.old.items q
+        → (n : ℕ) × (IsRank q n × (n < number * 4096)) }
     ensures { OnOk result (AreRuns (λ q. Cover runs.old.items q ⊎ IsInSegment words.now number place 4096 q) runs.new.items) }
 {
     for i in 0..SEGMENT {
@@ -206,8 +209,11 @@ fn set_bit(words: &mut Vec<u64>, k: usize, bit: u32) -> bool
     requires bit { bit < 64 }
     ensures again { IsFalse result ↔ (bit_at (slice_index_or words.old.items k 0) bit ≡ 1) }
     ensures set { bit_at (slice_index_or words.new.items k 0) bit ≡ 1 }
-    ensures others { (i : ℕ) → i ≢ bit → bit_at (slice_index_or words.new.items k 0) i ≡ bit_at (slice_index_or words.old.items k 0) i }
-    ensures apart { (j : ℕ) → j ≢ k → slice_index_or words.new.items j 0 ≡ slice_index_or words.old.items j 0 }
+    ensures others { (i : ℕ) → i ≢ bit
+        → bit_at (slice_index_or words.new.items k 0) i
+        ≡ bit_at (slice_index_or words.old.items k 0) i }
+    ensures apart { (j : ℕ) → j ≢ k
+        → slice_index_or words.new.items j 0 ≡ slice_index_or words.old.items j 0 }
     ensures whole { length words.new.items ≡ length words.old.items }
 {
     let bits = words[k];

@@ -24,10 +24,12 @@ use std::alloc::Global;
 /// The watershed of the point: the ground points whose flow path contains it, as maximal runs, from the north down, in
 /// a row from the west. Empty where the point isn't ground. NoMemory is the only refusal.
 pub fn watershed(alloc: Global, directions: &Directions, point: Point) -> Result<Vec<Run>, Refusal>
-    ensures runs { IfOk result (λ runs. (m : Mosaic) (level : Point → ℤ) → IsMosaic m → AreDirectionsOf m level directions.now
+    ensures runs { IfOk result (λ runs. (m : Mosaic) (level : Point → ℤ) → IsMosaic m
+        → AreDirectionsOf m level directions.now
         → AreRuns (IsInWatershed (terrain m) level point) runs.items) }
-    ensures elsewhere { IfOk result (λ runs. (m : Mosaic) (level : Point → ℤ) → IsMosaic m → AreDirectionsOf m level directions.now
-        → IsFalse (is_ground m point) → runs.items ≡ []) }
+    ensures elsewhere { IfOk result (λ runs. (m : Mosaic) (level : Point → ℤ) → IsMosaic m
+        → AreDirectionsOf m level directions.now → IsFalse (is_ground m point)
+        → runs.items ≡ []) }
     ensures refusal { IfErr result (λ r. r ≡ NoMemory) }
 {
     let mut held = DirectionGrid { directions };
@@ -57,8 +59,8 @@ pub fn watershed_over<F: FlowSource>(
 // tells otherwise, the search goes on from each point once all the same, and ends.
 fn upstream<F: FlowSource>(alloc: Global, flows: &mut F, point: Point) -> Result<Marks, Refusal>
     requires { F.is_ready flows.old }
-    ensures found { IfOk result (λ marks. (m : Mosaic) (level : Point → ℤ) → F.tells flows.new m level
-        → AreUpstream (terrain m) level point (IsMarked marks)) }
+    ensures found { IfOk result (λ marks. (m : Mosaic) (level : Point → ℤ)
+        → F.tells flows.new m level → AreUpstream (terrain m) level point (IsMarked marks)) }
     ensures indexed { IfOk result IsIndexed }
     ensures follows { F.follows flows.old flows.new }
     ensures keeps { OnOk result (F.keeps flows.old flows.new) }
@@ -88,9 +90,12 @@ fn visit<F: FlowSource>(
     requires ready { F.is_ready flows.old }
     requires indexed { IsIndexed marks.old }
     ensures once { OnOk result ((IsMarked marks.old point × (waiting.new.items ≡ waiting.old.items))
-        ⊎ ((IsMarked marks.old point → ⊥) × ((m : Mosaic) (level : Point → ℤ) → F.tells flows.new m level
-        → (x : Point) → Contains waiting.new.items x ↔ (Contains waiting.old.items x ⊎ IsDonor (terrain m) level x point)))) }
-    ensures marked { OnOk result ((p : Point) → IsMarked marks.new p ↔ (IsMarked marks.old p ⊎ (p ≡ point))) }
+        ⊎ ((IsMarked marks.old point → ⊥)
+        × ((m : Mosaic) (level : Point → ℤ) → F.tells flows.new m level → (x : Point)
+        → Contains waiting.new.items x
+        ↔ (Contains waiting.old.items x ⊎ IsDonor (terrain m) level x point)))) }
+    ensures marked { OnOk result ((p : Point)
+        → IsMarked marks.new p ↔ (IsMarked marks.old p ⊎ (p ≡ point))) }
     ensures indexed { OnOk result (IsIndexed marks.new) }
     ensures ready { OnOk result (F.is_ready flows.new) }
     ensures follows { F.follows flows.old flows.new }
@@ -107,7 +112,8 @@ fn visit<F: FlowSource>(
 // The point, where it is ground.
 fn start<F: FlowSource>(alloc: Global, flows: &mut F, point: Point) -> Result<Vec<Point>, Refusal>
     requires { F.is_ready flows.old }
-    ensures found { IfOk result (λ found. (m : Mosaic) (level : Point → ℤ) → F.tells flows.new m level
+    ensures found { IfOk result (λ found. (m : Mosaic) (level : Point → ℤ)
+        → F.tells flows.new m level
         → found.items ≡ (if is_ground m point then point ∷ [] else [])) }
     ensures ready { OnOk result (F.is_ready flows.new) }
     ensures follows { F.follows flows.old flows.new }

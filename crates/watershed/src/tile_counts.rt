@@ -20,7 +20,8 @@ impl TileCounts {
 
     /// What is known of the point; 0 where nothing is.
     pub(crate) fn at(&self, point: Point) -> u32
-        ensures { (t : Terrain Point) (level : Point → ℤ) → AreCounted t level self.now → (result ≡ 0) ⊎ IsCounted t level point result }
+        ensures { (t : Terrain Point) (level : Point → ℤ) → AreCounted t level self.now
+            → (result ≡ 0) ⊎ IsCounted t level point result }
     {
         match index_in(self.side, self.corner, point) {
             Some(index) => self.counts[index as usize],
@@ -31,7 +32,8 @@ impl TileCounts {
     /// Keeps the count of the point, where the tile holds it.
     pub(crate) fn set(&mut self, point: Point, count: u32)
         ensures tile { (self.new.side ≡ self.old.side) × (self.new.corner ≡ self.old.corner) }
-        ensures counted { (t : Terrain Point) (level : Point → ℤ) → AreCounted t level self.old → IsCounted t level point count → AreStillCounted t level self.old self.new }
+        ensures counted { (t : Terrain Point) (level : Point → ℤ) → AreCounted t level self.old
+            → IsCounted t level point count → AreStillCounted t level self.old self.new }
     {
         if let Some(index) = index_in(self.side, self.corner, point) {
             self.counts[index as usize] = count;

@@ -52,8 +52,9 @@ fn put_tile<E: Engine>(
 ) -> Result<(), Refusal>
     requires { refused_at_once window (length into.old) ≡ None }
     ensures whole { length into.new ≡ length into.old }
-    ensures tells { Tells E.Engine engine.old engine.new 0 (refusal_of result)
-        (λ m. m.side ≡ side → IsTrue (is_present m corner) → OfAny (λ _. ArePut m window corner into.old into.new) result) }
+    ensures tells { Tells E.Engine engine.old engine.new 0 (refusal_of result) (λ m. m.side ≡ side
+        → IsTrue (is_present m corner)
+        → OfAny (λ _. ArePut m window corner into.old into.new) result) }
 {
     if !meets(window, side, corner, into.len()) {
         return Ok(());
@@ -101,7 +102,8 @@ fn put_row(window: Window, run: Run, side: Side, corner: Corner, counts: &[u32],
     ensures whole { length into.new ≡ length into.old }
     ensures put { (k : ℕ) → k < length into.old → IsInRun run (point_in window k)
         → slice_index into.new k ≡ count_or side corner counts.now (point_in window k) (slice_index into.old k) }
-    ensures left { (k : ℕ) → k < length into.old → ¬ IsInRun run (point_in window k) → slice_index into.new k ≡ slice_index into.old k }
+    ensures left { (k : ℕ) → k < length into.old → ¬ IsInRun run (point_in window k)
+        → slice_index into.new k ≡ slice_index into.old k }
 {
     let len = into.len();
     let (from, to) = window.numbers_in(run, len);

@@ -19,8 +19,8 @@ pub fn ask<E: Engine>(
     line: &[u8],
     into: &mut [u8],
 ) -> Result<usize, Refusal>
-    ensures { MatchResult result (λ count. IsReplied E.Engine engine.old engine.new line.now into.new count)
-        (λ r. IsNoQuestion line.now r × (engine.new ≡ engine.old)) }
+    ensures { MatchResult result (λ count. IsReplied E.Engine engine.old engine.new line.now into.new count) (λ r. IsNoQuestion line.now r
+        × (engine.new ≡ engine.old)) }
 {
     let event = question_of(line)?;
     let text = format_reply(alloc, engine.answer(&event));
@@ -48,7 +48,8 @@ const MOST_BYTES: usize = 2048;
 
 // The event, unless it changes what is stored.
 fn only_question(event: Event) -> Result<Event, Refusal>
-    ensures { MatchResult result (λ asked. (asked ≡ event) × OnlyAsks event) (λ r. (r ≡ BadLine) × (OnlyAsks event → ⊥)) }
+    ensures { MatchResult result (λ asked. (asked ≡ event) × OnlyAsks event) (λ r. (r ≡ BadLine)
+        × (OnlyAsks event → ⊥)) }
 {
     match event {
         Event::Do(_) | Event::Step | Event::Reopen => Err(Refusal::BadLine),
@@ -80,7 +81,8 @@ fn put_rest(mut rest: Rest<'_>, into: &mut [u8]) -> usize
 // Puts more bytes behind so many, where there is room for them.
 fn put_bytes(bytes: &[u8], at: usize, into: &mut [u8]) -> usize
     ensures counted { result ≡ min (at + length bytes.now) 18446744073709551615 }
-    ensures put { at + length bytes.now ≤ length into.old → take (at + length bytes.now) into.new ≡ take at into.old ++ bytes.now }
+    ensures put { at + length bytes.now ≤ length into.old
+        → take (at + length bytes.now) into.new ≡ take at into.old ++ bytes.now }
 {
     let to = at.saturating_add(bytes.len());
     if to <= into.len() {

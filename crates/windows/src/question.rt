@@ -28,6 +28,5 @@ pub trait Question {
         engine: &mut E,
         into: &mut [Self::Element],
     ) -> Result<Self::Answer, Refusal>
-        ensures { Asked E.Engine engine.old engine.new (refused_first self.now (length into.old)) (count self.now) (refusal_of result)
-            (λ m. says self.now m into.new result) };
+        ensures { Asked E.Engine engine.old engine.new (refused_first self.now (length into.old)) (count self.now) (refusal_of result) (λ m. says self.now m into.new result) };
 }

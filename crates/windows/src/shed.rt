@@ -50,8 +50,10 @@ fn mark(window: Window, runs: &[Run], into: &mut [u8])
 fn mark_run(window: Window, run: Run, into: &mut [u8])
     requires { refused_at_once window (length into.old) ≡ None }
     ensures whole { length into.new ≡ length into.old }
-    ensures marked { (k : ℕ) → k < length into.old → IsInRun run (point_in window k) → slice_index into.new k ≡ 1 }
-    ensures left { (k : ℕ) → k < length into.old → ¬ IsInRun run (point_in window k) → slice_index into.new k ≡ slice_index into.old k }
+    ensures marked { (k : ℕ) → k < length into.old → IsInRun run (point_in window k)
+        → slice_index into.new k ≡ 1 }
+    ensures left { (k : ℕ) → k < length into.old → ¬ IsInRun run (point_in window k)
+        → slice_index into.new k ≡ slice_index into.old k }
 {
     let (from, to) = window.numbers_in(run, into.len());
     for k in from..to {

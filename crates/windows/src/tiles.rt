@@ -87,7 +87,8 @@ impl<V: TileValues> Question for Tile<V> {
 
 // Copies the values, if there are as many as the slice has elements.
 fn copy<T: Copy>(values: &[T], into: &mut [T]) -> Result<(), Refusal>
-    ensures { MatchResult result (λ _. into.new ≡ values.now) (λ r. (r ≡ BadLength) × (length values.now ≢ length into.new)) }
+    ensures { MatchResult result (λ _. into.new ≡ values.now) (λ r. (r ≡ BadLength)
+        × (length values.now ≢ length into.new)) }
 {
     if values.len() != into.len() {
         return Err(Refusal::BadLength);

@@ -118,8 +118,8 @@ fn put<V: PointValue, E: Engine>(
     requires inside { k < length into.old }
     requires askable { refused_at_once window (length into.old) ≡ None }
     ensures whole { length into.new ≡ length into.old }
-    ensures tells { Tells E.Engine engine.old engine.new 1 (refusal_of result)
-        (λ m. OfAny (λ _. AreTo window (V.is m) k into.old → AreTo window (V.is m) (suc k) into.new) result) }
+    ensures tells { Tells E.Engine engine.old engine.new 1 (refusal_of result) (λ m. OfAny (λ _. AreTo window (V.is m) k into.old
+        → AreTo window (V.is m) (suc k) into.new) result) }
 {
     into[k] = V::at(engine, window.point(k, into.len()))?;
     Ok(())

@@ -65,7 +65,8 @@ impl Window {
         requires { refused_at_once self len ≡ None }
         ensures ordered { result.0 ≤ result.1 }
         ensures within { result.1 ≤ len }
-        ensures exact { (k : ℕ) → k < len → ((result.0 ≤ k) × (k < result.1)) ↔ IsInRun run (point_in self k) }
+        ensures exact { (k : ℕ) → k < len
+            → ((result.0 ≤ k) × (k < result.1)) ↔ IsInRun run (point_in self k) }
     {
         let Some(row) = ahead(run.y, self.north) else {
             return (0, 0);
