@@ -41,7 +41,7 @@ def main():
     options = parser.parse_args()
     try:
         run(options)
-    except MosaicError as error:
+    except (MosaicError, ValueError) as error:
         sys.exit(f"variants: {error}")
 
 
@@ -49,8 +49,13 @@ def run(options):
     latitude, west, east = options.numbers
     with open_store(options.store, options.program) as store:
         (y, first), (_, last) = store.point_of(latitude, west), store.point_of(latitude, east)
+        if last < first:
+            raise ValueError(f"{west:g} lies east of {east:g}: give the road's western end first")
         road = [(y, x) for x in range(first, last + 1)]
-        lowest, at = min((store.elevation(y, x) or 0, x) for y, x in road)
+        heights = {x: store.elevation(y, x) for y, x in road}
+        if None in heights.values():
+            raise ValueError(f"the road crosses a void: give it heights by mosaic-hydrology {options.store} voids FILE, or take another road")
+        lowest, at = min((height, x) for x, height in heights.items())
         print(f"the road's lowest ground: {lowest} m at point {y} {at}")
         start, found = time.monotonic(), []
         for height, culvert, depth in variants(lowest, at):

@@ -1,4 +1,4 @@
-"""A session for asyncio: each method of `Session`, awaited, by threads of its own.
+"""A session for asyncio: the questions and commands of `Session`, to be awaited, by a thread of its own.
 
     async with open_store("region/store") as store:
         y, x = store.point_of(37.5, -105.25)
@@ -39,6 +39,7 @@ class Session:
         self._begin = begin
         self._worker = ThreadPoolExecutor(1, "mosaic")
         self._session: sessions.Session | None = None
+        self._capacity: int | None = None
 
     async def __aenter__(self) -> Session:
         begun = self._worker.submit(self._begun)
@@ -55,6 +56,7 @@ class Session:
         session = self._begin()
         try:
             session.side  # from now on it is known without a question
+            self._capacity = session.capacity
         except BaseException:
             session.close()
             raise
@@ -79,6 +81,16 @@ class Session:
         return await asyncio.get_running_loop().run_in_executor(self._worker, functools.partial(act, *given, **named))
 
     # ---- the store, known without a question ----
+
+    @property
+    def side(self) -> int:
+        """The side of each tile, in samples."""
+        return self.blocking.side
+
+    @property
+    def capacity(self) -> int | None:
+        """The greatest number of tiles; None where the program doesn't tell it, as `mosaic` doesn't."""
+        return self._capacity
 
     def point_of(self, latitude: float, longitude: float) -> Point:
         """The point that is nearest to a place in degrees, north and east positive."""
@@ -137,6 +149,9 @@ class Session:
 
     async def export(self, name: str) -> bytes:
         return await self._call(self.blocking.export, name)
+
+    async def tile(self, name: str) -> Any:
+        return await self._call(self.blocking.tile, name)
 
     async def levels(self, name: str) -> Any:
         return await self._call(self.blocking.levels, name)

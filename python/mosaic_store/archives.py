@@ -14,6 +14,7 @@ import zipfile
 import zlib
 from collections.abc import Iterable, Iterator
 from dataclasses import dataclass
+from typing import NoReturn
 
 from .errors import MosaicError
 from .lattice import Corner, corner_of
@@ -81,25 +82,36 @@ class Trouble:
 
 
 def files_below(paths: Iterable[str]) -> list[pathlib.Path]:
-    """The files that paths name, and those in the folders that they name, in order. MosaicError where there is none."""
+    """The files that paths name, and those in the folders that they name, in order.
+
+    MosaicError where there is none, or where a folder can't be read: what lies in it would be missing without a word.
+    """
     found: list[pathlib.Path] = []
     for path in map(pathlib.Path, paths):
-        if not path.exists():
-            raise MosaicError(f"{path}: no such file or folder: check the path")
-        found += sorted(_below(path)) if path.is_dir() else [path]
+        try:
+            if not path.exists():
+                raise MosaicError(f"{path}: no such file or folder: check the path")
+            found += sorted(_below(path)) if path.is_dir() else [path]
+        except OSError as fault:
+            shown = fault.filename or path
+            raise MosaicError(f"{shown}: not read: {_reason(fault)}: ask its owner, change its mode, or name the others alone") from None
     return list(dict.fromkeys(found))
 
 
 def _below(folder: pathlib.Path) -> Iterator[pathlib.Path]:
     """The files below a folder, through links to folders too, each folder once."""
     seen: set[tuple[int, int]] = set()
-    for place, folders, names in os.walk(folder, followlinks=True):
+    for place, folders, names in os.walk(folder, onerror=_raised, followlinks=True):
         at = os.stat(place)
         if (at.st_dev, at.st_ino) in seen:
             folders.clear()
             continue
         seen.add((at.st_dev, at.st_ino))
         yield from (path for path in (pathlib.Path(place, name) for name in names) if path.is_file() and not _is_shadow(path.name))
+
+
+def _raised(fault: OSError) -> NoReturn:
+    raise fault
 
 
 def sources_of(path: pathlib.Path) -> Iterator[Source | Trouble]:

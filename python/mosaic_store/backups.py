@@ -6,15 +6,20 @@ what the store had: tiles, sinks, kept levels, the count.
 
 from __future__ import annotations
 
+import contextlib
 import errno
 import os
 import pathlib
 import tempfile
+from typing import BinaryIO
 
-from .errors import StoreExists
+from .errors import CannotOpen, StoreExists
 from .files import sync_folder
 
 _AT_ONCE = 1 << 22
+
+_NO_LINKS = (errno.EPERM, errno.EOPNOTSUPP, errno.ENOSYS, errno.EMLINK)
+"""What a file system without hard links, as exFAT, answers where one is asked for."""
 
 
 def copy_file(source: str, target: str) -> None:
@@ -22,19 +27,46 @@ def copy_file(source: str, target: str) -> None:
     place = pathlib.Path(target)
     if os.path.lexists(place):
         raise StoreExists(f"{target}: a file is there already: take another path, or remove it first")
-    with open(source, "rb") as file, tempfile.NamedTemporaryFile(dir=place.parent, prefix=f".{place.name}.", delete=False) as copy:
+    if not place.parent.is_dir():
+        raise CannotOpen(f"{target}: cannot be made: there is no folder {place.parent}: make it first")
+    with open(source, "rb") as file:
         try:
-            _copy(file.fileno(), copy.fileno())
-            os.fsync(copy.fileno())
-            os.chmod(copy.name, os.stat(source).st_mode & 0o777)
-            os.link(copy.name, place)  # unlike a renaming, it replaces nothing
-            sync_folder(place.parent)
+            _copy_whole(file, place)
         except FileExistsError:
             raise StoreExists(f"{target}: a file is there already: take another path, or remove it first") from None
         except OSError as fault:
             raise OSError(fault.errno, os.strerror(fault.errno or 0), target) from None
+
+
+def _copy_whole(source: BinaryIO, place: pathlib.Path) -> None:
+    """Copies an open file to a place where there is none, under another name first. FileExistsError where there is one."""
+    with tempfile.NamedTemporaryFile(dir=place.parent, prefix=f".{place.name}.", delete=False) as copy:
+        try:
+            _copy(source.fileno(), copy.fileno())
+            os.fsync(copy.fileno())
+            with contextlib.suppress(PermissionError):  # a file system may have no such modes
+                os.chmod(copy.name, os.fstat(source.fileno()).st_mode & 0o777)
+            _name(copy.name, place)
+            sync_folder(place.parent)
         finally:
-            os.unlink(copy.name)
+            with contextlib.suppress(FileNotFoundError):
+                os.unlink(copy.name)
+
+
+def _name(made: str, place: pathlib.Path) -> None:
+    """Gives a file its name, and replaces nothing, as a renaming by itself would."""
+    try:
+        os.link(made, place)
+        return
+    except OSError as fault:
+        if fault.errno not in _NO_LINKS:
+            raise
+    os.close(os.open(place, os.O_CREAT | os.O_EXCL | os.O_WRONLY))
+    try:
+        os.replace(made, place)
+    except BaseException:
+        os.unlink(place)
+        raise
 
 
 def _copy(source: int, target: int) -> None:

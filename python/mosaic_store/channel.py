@@ -1,8 +1,9 @@
 """The pipes to a program that serves lines: what is sent and what is read never wait for each other.
 
 One rule keeps commands whole. A program that loses its writer takes what came after the last line's end as a line, so
-half of a command would be another command. A line is therefore written by one call of at most PIPE_BUF bytes, which a
-pipe takes whole or not at all; a payload that is cut is refused by the program.
+half of a command would be another command. A command's line is therefore written by one call of at most PIPE_BUF bytes,
+which a pipe takes whole or not at all; a payload that is cut is refused by the program. Questions go many at a time: half of
+one is another one at most, and changes nothing.
 """
 
 from __future__ import annotations
@@ -144,7 +145,7 @@ class Channel:
         self._read += data
 
     def _write(self) -> None:
-        """Writes what the pipe takes. Each piece of at most PIPE_BUF bytes goes whole or not at all."""
+        """Writes what the pipe takes. A piece of at most PIPE_BUF bytes, as each command's line, goes whole or not at all."""
         while self._unsent:
             piece = self._unsent[0]
             try:

@@ -69,7 +69,7 @@ class Refusal(MosaicError):
 
 class BadLine(Refusal):
     number, word = 1, "BadLine"
-    cause, cure = "the line isn't in the grammar", "tell us: this package should have refused it before it was sent"
+    cause, cure = "the line isn't in the grammar", "ask what this program takes: whole tiles and `info` need mosaic-tiles beside `mosaic`"
 
 
 class BadName(Refusal):

@@ -67,7 +67,8 @@ def _write_ascii(path: str, array: Array, window: Window, side: int, no_data: in
     }
     with open(path, "w", encoding="ascii") as file:
         file.writelines(f"{word} {value}\n" for word, value in head.items())
-        file.writelines(" ".join(map(str, row)) + "\n" for row in array.tolist())
+        # Row by row: the whole numbers of a large raster would take many times its own memory.
+        file.writelines(" ".join(map(str, row.tolist())) + "\n" for row in array)
 
 
 def _rasterio() -> Any:

@@ -7,14 +7,15 @@ They need numpy.
 from __future__ import annotations
 
 import heapq
-from collections.abc import Callable, Sequence
+import math
+from collections.abc import Callable, Mapping, Sequence
 from dataclasses import dataclass
 from typing import TYPE_CHECKING
 
 from . import lines
 from .directions import reaching
 from .errors import BadArgument
-from .lattice import VOID, Point, Run, Window
+from .lattice import METRES_A_DEGREE, VOID, Point, Run, Window
 from .network import Network
 from .rasters import STEPS, Heights, heights_of, place_in, ring
 from .samples import array_of, bytes_of, needed_numpy
@@ -167,12 +168,12 @@ class Earthwork:
     """Cubic metres that are heaped up."""
 
 
-def earthwork(before: Heights, after: Heights) -> Earthwork:
-    """The cut and the fill between two terrains of one window; points that are void in one of them count in neither."""
-    numpy = needed_numpy()
-    both = before.ground & after.ground
-    change = numpy.where(both, after.samples.astype(numpy.int64) - before.samples, 0) * before.cell_areas()
-    return Earthwork(abs(float(change[change < 0].sum())), float(change[change > 0].sum()))
+def earthwork(before: Mapping[Point, int], after: Mapping[Point, int], side: int) -> Earthwork:
+    """The cut and the fill between the heights of points before and after; those that one of them lacks count in neither."""
+    length = METRES_A_DEGREE / (side - 1)
+    areas = {point: length**2 * math.cos(math.radians(point.y / (side - 1))) for point in before.keys() & after.keys()}
+    changes = [(after[point] - before[point]) * area for point, area in areas.items()]
+    return Earthwork(math.fsum(-change for change in changes if change < 0), math.fsum(change for change in changes if change > 0))
 
 
 def runs_of(mask: Array, window: Window) -> list[Run]:

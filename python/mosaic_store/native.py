@@ -14,10 +14,11 @@ from __future__ import annotations
 import ctypes
 import fcntl
 import mmap
+import operator
 import os
 import pathlib
 from collections.abc import Callable
-from typing import TYPE_CHECKING, Any
+from typing import TYPE_CHECKING, Any, SupportsIndex
 
 from .errors import REFUSALS, BadArgument, CannotOpen, MosaicError, StoreBusy
 from .lattice import Corner, Window, corner_of
@@ -43,8 +44,29 @@ class _Window(ctypes.Structure):
     _fields_ = (("north", ctypes.c_int32), ("west", ctypes.c_int32), ("rows", ctypes.c_uint32), ("columns", ctypes.c_uint32))
 
 
+def _at(y: int, x: int) -> tuple[int, int]:
+    """A point as the library takes it."""
+    return _within(y, -(1 << 31), 1 << 31), _within(x, -(1 << 31), 1 << 31)
+
+
 def _asked(window: Window) -> _Window:
-    return _Window(window.y1, window.x0, window.height, window.width)
+    """A window as the library takes it."""
+    if window.height < 1 or window.width < 1:
+        size = f"{window.height} high and {window.width} wide"
+        raise BadArgument(f"a window is 1 point and more each way, not {size}: give its south-west end first")
+    return _Window(*_at(window.y1, window.x0), _within(window.height, 1, 1 << 32), _within(window.width, 1, 1 << 32))
+
+
+def _within(value: SupportsIndex, least: int, end: int) -> int:
+    """A whole number from `least` to before `end`."""
+    try:
+        number = operator.index(value)
+    except TypeError:
+        raise BadArgument(f"a whole number is needed, not {value!r}") from None
+    # ctypes would take it for another number without a word.
+    if not least <= number < end:
+        raise BadArgument(f"a number from {least} to {end - 1} is needed, not {number}")
+    return number
 
 
 # A reply is first given so many bytes, and else those that it has.
@@ -169,17 +191,18 @@ class Image:
 
     def fill(self, y: int, x: int) -> int:
         """The filled level of a point."""
-        return self._number(self._library.mosaic_fill, ctypes.c_int16, y, x)
+        return self._number(self._library.mosaic_fill, ctypes.c_int16, *_at(y, x))
 
     def direction(self, y: int, x: int) -> int:
         """The code of a point's direction, 0 where water leaves the mosaic."""
-        return self._number(self._library.mosaic_direction, ctypes.c_uint8, y, x)
+        return self._number(self._library.mosaic_direction, ctypes.c_uint8, *_at(y, x))
 
     def watershed(self, y: int, x: int, window: Window) -> tuple[Array, int]:
         """Which points of a window drain through a point, as uint8 of 1 and 0, and how many points do at all."""
+        outlet, asked = _at(y, x), _asked(window)
         into = self._numpy.empty((window.height, window.width), dtype="uint8")
         points = ctypes.c_uint64()
-        self._call(self._library.mosaic_watershed, y, x, ctypes.byref(_asked(window)), ctypes.byref(points), into.ctypes.data, into.size)
+        self._call(self._library.mosaic_watershed, *outlet, ctypes.byref(asked), ctypes.byref(points), into.ctypes.data, into.size)
         return into, int(points.value)
 
     def ask(self, line: str) -> bytes:
@@ -224,12 +247,13 @@ class Image:
         return self._of_tile(self._library.mosaic_upstream, name, "uint32")
 
     def _of_window(self, function: Callable[..., int], window: Window, kind: str) -> Array:
+        asked = _asked(window)
         into = self._numpy.empty((window.height, window.width), dtype=kind)
-        self._call(function, ctypes.byref(_asked(window)), into.ctypes.data, into.size)
+        self._call(function, ctypes.byref(asked), into.ctypes.data, into.size)
         return into
 
     def _of_tile(self, function: Callable[..., int], name: str | Corner, kind: str) -> Array:
-        corner = corner_of(name) if isinstance(name, str) else name
+        corner = corner_of(name if isinstance(name, str) else name.name)
         if corner is None:
             raise BadArgument(f"{name!r} is no tile's name")
         into = self._numpy.empty((self.side, self.side), dtype=kind)

@@ -9,7 +9,8 @@ from typing import TYPE_CHECKING, Any
 
 from .archives import Unreadable
 from .areas import Drained, downstream, drained, inlets, lacking, with_areas
-from .lattice import MOST_TILES, Corner, Point, degrees_of
+from .errors import BadSide, MosaicError
+from .lattice import GREATEST_SIDE, LEAST_SIDE, MOST_TILES, Corner, Point, degrees_of
 from .loading import Found
 from .samples import array_of
 from .session import open_store
@@ -31,10 +32,14 @@ def plan(
     most: int = MOST_TILES,
     program: PathLike | None = None,
 ) -> Split:
-    """How tiles that were found in folders are cut into stores. Each is read once."""
+    """How tiles that were found in folders are cut into stores. Each is read once. MosaicError where none has the side."""
     side = found.shape(side, most).side
+    if not LEAST_SIDE <= side <= GREATEST_SIDE:
+        raise BadSide()
     lengths = (None, 2 * side**2)
     corners = {source.corner for source in found.sources if source.corner is not None and source.length in lengths}
+    if not corners:
+        raise MosaicError(f"no file is a tile of side {side}, of {2 * side**2} bytes: leave --side out, or give the side that they have")
     return planned(_read(found, side), corners, side, every, margin, most, program)
 
 

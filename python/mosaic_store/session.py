@@ -38,7 +38,7 @@ from .errors import (
 from .lattice import GREATEST_SIDE, LEAST_SIDE, Direction, Place, Point, degrees_of, point_of
 from .questions import Command, Numbers, Question, Watershed
 from .samples import array_of, bytes_of, codes_of, counts_of
-from .stores import PathLike, Report, cannot_open, check_store, find_server
+from .stores import PathLike, Report, cannot_open, check_store, find_server, path_word
 from .trials import Tiles, Trial
 
 if TYPE_CHECKING:
@@ -103,7 +103,8 @@ class Session:
         """The side of each tile, in samples. It never changes, and is asked for once."""
         if self._side is None:
             try:
-                self._side = self.info().side
+                told = self.info()
+                self._side, self._capacity = told.side, told.capacity
             except BadLine:
                 self._side = self._side_by_boxes()
         return self._side
@@ -319,7 +320,7 @@ class Session:
 
         Heights of every tile and the sinks are then as before. The count k goes up by the edits and by those that take
         them back, and the tiles touched and their neighbours are stale. The edits are on the drive meanwhile: where
-        this process ends inside, they stay.
+        this process is killed inside, or ended by a signal that it doesn't make an exception, they stay.
         """
         with self._lock:
             trial = self.begin_trial()
@@ -523,7 +524,7 @@ def open_store(
     """
     if not os.path.isfile(path):
         raise cannot_open(path)
-    session = _session(["serve", os.fsencode(path)], path, program, timeout, restart)
+    session = _session(["serve", path_word(path)], path, program, timeout, restart)
     session._start(wait)
     return session
 

@@ -64,12 +64,12 @@ def format_store(path: PathLike, side: int, capacity: int, program: PathLike | N
 
     StoreExists where a file is there, BadSide or BadCapacity out of range, CannotOpen where no file can be made.
     """
-    run_program(["format", os.fsencode(path), str(_count(side)), str(_count(capacity))], path, program)
+    run_program(["format", path_word(path), str(_count(side)), str(_count(capacity))], path, program)
 
 
 def check_store(path: PathLike, program: PathLike | None = None) -> Report:
     """What a store holds. It is read whole."""
-    lines = run_program(["check", os.fsencode(path)], path, program)
+    lines = run_program(["check", path_word(path)], path, program)
     try:
         (_, count, _, commits), (_, seams) = lines[0].split(), lines[-1].split()
         tiles = {name: kept == "fresh" for name, kept in map(str.split, lines[1:-1])}
@@ -80,11 +80,17 @@ def check_store(path: PathLike, program: PathLike | None = None) -> Report:
 
 def upgrade_store(path: PathLike, program: PathLike | None = None) -> int:
     """Makes a store of version 1 one of version 2; how many commands it has accepted. NotOld where it is one already."""
-    lines = run_program(["upgrade", os.fsencode(path)], path, program)
+    lines = run_program(["upgrade", path_word(path)], path, program)
     try:
         return int(lines[0].removeprefix("OK "))
     except (IndexError, ValueError):
         raise BadReply(f"OK and a number were due, and {lines} came") from None
+
+
+def path_word(path: PathLike) -> bytes:
+    """A path as a word that the program takes: it takes none that begins with -."""
+    word = os.fsencode(path)
+    return b"./" + word if word.startswith(b"-") else word
 
 
 def cannot_open(path: PathLike, fault: OSError | None = None) -> CannotOpen:

@@ -374,6 +374,8 @@ def keeper(file):
 
 
 def main():
+    if any(word.startswith("-") for word in sys.argv[1:]):
+        told("mosaic: bad arguments", 2)
     word, path, *rest = sys.argv[1:]
     if word == "table":
         side, capacity = int(path), int(rest[0])

@@ -29,6 +29,7 @@ class Awaited(InFolder, unittest.IsolatedAsyncioTestCase):
     async def test_every_method_answers_as_the_other_session_does(self):
         async with aio.open_store(self.path, PROGRAM) as store:
             self.assertEqual(store.blocking._side, 11)  # known before a point is asked for
+            self.assertEqual((store.side, store.capacity), (11, store.blocking.capacity))
             y, x = store.point_of(0.5, 0.5)
             self.assertEqual(store.degrees_of(y, x), (0.5, 0.5))
             answers = [

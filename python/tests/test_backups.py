@@ -1,7 +1,9 @@
 """mosaic-backup and mosaic-info: a store's copy is the store; what it holds is told in lines."""
 
+import errno
 import os
 import unittest
+import unittest.mock
 
 from mosaic_store import BadArgument, StoreExists, check_store, memory_table, open_store
 
@@ -33,11 +35,23 @@ class Backups(InFolder):
         self.assertIn("4 tiles, count 4", done.stdout)
         self.refused(self.command("backup", path, "copy"), "is there already")
         self.refused(self.command("backup", "none", "other"), "no such file")
+        self.refused(self.command("backup", path, "none/other"), "none/other: cannot be made: there is no folder none")
         self.refused(self.command("backup", path, "other", most_bytes=300), "other: File too large")
         self.assertEqual(sorted(os.listdir(self.folder)), ["copy", "store"])
         told = self.command("info", "copy").stdout
         for line in ("side 11 samples, 10 points a degree", "tiles 4: 0 fresh, 4 stale", "count 4, ", "bounds 0 0 to 2 2 degrees"):
             self.assertIn(line, told)
+
+    def test_where_there_are_no_hard_links(self) -> None:
+        """As on exFAT, which has no modes either: a copy replaces nothing there, too."""
+        path, copy = self.store(SIDE), self.folder / "copy"
+        none = PermissionError(errno.EPERM, "Operation not permitted")
+        with open_store(path, PROGRAM) as session, unittest.mock.patch("os.link", side_effect=none), unittest.mock.patch("os.chmod", side_effect=none):
+            self.assertEqual(session.backup(copy), 4)
+            with unittest.mock.patch("os.path.lexists", return_value=False), self.assertRaises(StoreExists):
+                session.backup(copy)  # it came just now
+        self.assertEqual(check_store(copy, PROGRAM), check_store(path, PROGRAM))
+        self.assertEqual(sorted(os.listdir(self.folder)), ["copy", "store"])
 
     def test_what_a_served_store_holds(self) -> None:
         path = self.store(SIDE)

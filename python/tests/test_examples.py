@@ -241,6 +241,17 @@ class Variants(InFolder):
         self.assertRegex(done.stdout, r"50 variants in [\d.]+ s\nleast water: \d+ m, with a road of \d+ m")
         self.assertEqual(self.image(path), before)
 
+    def test_bad_input(self):
+        path = self.store(21)
+        for words, told in (
+            (("0.5", "0.9", "0.6"), "0.9 lies east of 0.6"),
+            (("95", "0.6", "0.9"), "a latitude lies"),
+            (("0.15", "0.05", "0.5"), "crosses a void"),
+        ):
+            script = PYTHON / "examples" / "variants.py"
+            done = subprocess.run([sys.executable, script, path, *words, "--program", PROGRAM], capture_output=True, text=True, timeout=A_WHILE, check=False)
+            self.refused(done, told)
+
     @staticmethod
     def image(path):
         with open_store(path, PROGRAM) as store:

@@ -1,10 +1,11 @@
 """Networks of windows, beside the program's own watersheds; reservoirs, heights above streams and voids, worked by hand."""
 
 import json
+import signal
 import struct
 import unittest
 
-from mosaic_store import BadArgument, Point, Window, memory_table, open_store
+from mosaic_store import BadArgument, Point, Window, format_store, memory_table, open_store
 
 from .support import A_WHILE, PROGRAM, InFolder, needs
 
@@ -133,6 +134,58 @@ class Commands(InFolder):
         ]
         (self.folder / "lines.geojson").write_text(json.dumps({"type": "FeatureCollection", "features": features}))
 
+    def test_what_drawing_programs_write(self) -> None:
+        """Points of many parts, whole numbers with a point, properties without a value; what is no point is passed by, and told."""
+        path = self.store(SIDE)
+        self.write("outlets", {"type": "MultiPoint", "coordinates": [[0.5, 0.5], [1.2, 0.7]]}, {"type": "Polygon", "coordinates": []}, name="two")
+        told = self.hydrology(path, "catchments", "areas.geojson", "--outlets", "outlets.geojson")
+        self.assertTrue(told.endswith("2 catchments; 1 feature was passed by, without a point\n"), told)
+        self.assertEqual([feature["properties"]["name"] for feature in self.features("areas.geojson")], ["two", "two"])
+        for height, wanted in ((None, 900), (1200.0, 1200)):
+            self.write("points", {"type": "Point", "coordinates": [0.5, 0.5, 7]}, {"type": "LineString", "coordinates": []}, height=height)
+            self.assertIn("1 feature was passed by", self.hydrology(path, "edit", "points.geojson", "--wall", "900"))
+            with open_store(path, PROGRAM) as store:
+                self.assertEqual(store.elevation(5, 5), wanted)
+
+    def write(self, file: str, *geometries: object, **properties: object) -> None:
+        """A file of features that have these properties."""
+        features = [{"type": "Feature", "properties": properties, "geometry": geometry} for geometry in geometries]
+        (self.folder / f"{file}.geojson").write_text(json.dumps({"type": "FeatureCollection", "features": features}))
+
+    def test_bad_files(self) -> None:
+        """Each is told in a line with its file and its place there."""
+        path = self.store(SIDE)
+        (self.folder / "latin.csv").write_bytes("latitude,longitude,name\n0.5,0.5,Mühle\n".encode("latin-1"))
+        (self.folder / "words.csv").write_text("latitude,longitude\n0.5,0.5\n0.5,east\n")
+        (self.folder / "far.csv").write_text("latitude,longitude\n0.5,0.5\n0.5,55\n")
+        (self.folder / "none.csv").write_text("y,x\n")
+        (self.folder / "null.geojson").write_text('{"type": "FeatureCollection", "features": null}')
+        point = {"type": "Point", "coordinates": [0.5, 0.5]}
+        self.write("nowhere", point, {"type": "Point"})
+        self.write("line", point, {"type": "LineString", "coordinates": None})
+        self.write("text", point, {"type": "LineString", "coordinates": [["0.5", "0.5"], [1, 1]]})
+        self.write("tall", point, height="tall")
+        self.write("off", point, {"type": "Point", "coordinates": [55, 0.5]})
+        for name, told in (
+            ("latin.csv", "latin.csv: its text isn't UTF-8"),
+            ("words.csv", "words.csv: line 3 tells no place"),
+            ("far.csv", "far.csv: line 3: no tile holds 0.5 N 55 E"),
+            ("none.csv", "none.csv: it names no place"),
+            ("null.geojson", "null.geojson: not read as GeoJSON: it has no list of features"),
+            ("nowhere.geojson", "nowhere.geojson: feature 2: a place is two numbers"),
+            ("off.geojson", "off.geojson: feature 2: no tile holds"),
+        ):
+            with self.subTest(name):
+                self.refused(self.command("hydrology", path, "catchments", "x.geojson", "--outlets", name), told)
+        for name, told in (
+            ("line.geojson", "line.geojson: feature 2: its coordinates are a list, not None"),
+            ("text.geojson", "text.geojson: feature 2: a place is two numbers, longitude and latitude, not ['0.5', '0.5']"),
+            ("tall.geojson", "tall.geojson: feature 1: height is a whole number of metres, not 'tall'"),
+            ("off.geojson", "off.geojson: feature 2: no tile holds"),
+        ):
+            with self.subTest(name):
+                self.refused(self.command("hydrology", path, "edit", name, "--wall", "9"), told)
+
     def test_voids_and_a_reservoir(self) -> None:
         path = self.store(SIDE)
         self.assertIn("1 voids", self.hydrology(path, "voids", "voids.geojson"))
@@ -151,16 +204,43 @@ class Commands(InFolder):
         with open_store(path, PROGRAM) as store:
             self.assertEqual([store.export(name) for name in store.tiles()], images)
 
-    def at_import(self, act: str) -> str:
-        """A program that does something else in place of a session's first import, and ends."""
+    def test_a_reservoir_that_is_ended_midway(self) -> None:
+        """A signal ends the command once the dam is built, and the dam is taken back."""
+        path = str(self.folder / "valley")
+        format_store(path, 41, 1, PROGRAM)
+        with open_store(path, PROGRAM) as store:
+            store.import_tile("N00E000", valley(41))
+        dam = ["--points", "--dam", "5", "30", "35", "30", "--crest", "160", "--before", "20", "29"]
+        for number, count in ((signal.SIGTERM, 3), (signal.SIGHUP, 5)):
+            ending = self.at("fill", f"server.kill(); server.wait(); os.kill(os.getppid(), {number:d}); sys.stdin.read()")
+            done = self.command("hydrology", path, "reservoir", "stages.csv", *dam, "--program", ending)
+            self.assertEqual((done.returncode, done.stdout, done.stderr), (128 + number, "", ""))
+            self.assertEqual(self.images(path), {"N00E000": valley(41)})
+            with open_store(path, PROGRAM) as store:
+                self.assertGreaterEqual(store.count(), count)
+
+    def test_edits_that_are_not_measured(self) -> None:
+        """Where it can't be told what they moved they are taken back."""
+        path = self.store(SIDE)
+        before = self.images(path)
+        self.write("points", {"type": "Point", "coordinates": [0.5, 0.5]})
+        dying = self.at("elev", "server.kill()", after="wall")
+        self.refused(self.command("hydrology", path, "edit", "points.geojson", "--wall", "900", "--program", dying), "what was acknowledged stands")
+        self.assertEqual(self.images(path), before)
+
+    def at(self, word: str, act: str, after: str = "") -> str:
+        """A program that does something else in place of a session's first such line, after one of another word, and ends."""
+        (self.folder / "met").unlink(missing_ok=True)
         return self.script(f"""
 import pathlib, signal, subprocess
 met = pathlib.Path({str(self.folder / "met")!r})
 if sys.argv[1] != "serve" or met.exists():
     os.execv({PROGRAM!r}, [{PROGRAM!r}, *sys.argv[1:]])
 with subprocess.Popen([{PROGRAM!r}, *sys.argv[1:]], stdin=subprocess.PIPE) as server:
+    seen = False
     while line := sys.stdin.buffer.readline():
-        if line.startswith(b"import"):
+        seen = seen or line.startswith({after.encode()!r})
+        if seen and line.startswith({word.encode()!r}):
             met.touch()
             {act}
             break
@@ -176,7 +256,7 @@ with subprocess.Popen([{PROGRAM!r}, *sys.argv[1:]], stdin=subprocess.PIPE) as se
         """The tile that was taken out is put back as it was."""
         path = self.store(SIDE)
         before = self.images(path)
-        done = self.command("hydrology", path, "voids", "voids.geojson", "--program", self.at_import("server.kill()"))
+        done = self.command("hydrology", path, "voids", "voids.geojson", "--program", self.at("import", "server.kill()"))
         self.refused(done, "what was acknowledged stands")
         self.assertEqual(self.images(path), before)
         self.assertEqual([*self.folder.glob("*voids*")], [])
@@ -185,7 +265,7 @@ with subprocess.Popen([{PROGRAM!r}, *sys.argv[1:]], stdin=subprocess.PIPE) as se
         """The tile that was taken out lies beside the store, with its voids filled, and is put back from there."""
         path, other = self.store(SIDE), self.store(SIDE, name="other")
         words = [path, "voids", "voids.geojson"]
-        killing = self.at_import("os.kill(os.getppid(), signal.SIGKILL)")
+        killing = self.at("import", "os.kill(os.getppid(), signal.SIGKILL)")
         self.assertEqual(self.command("hydrology", *words, "--program", killing).returncode, -9)
         self.assertEqual(list(self.images(path)), ["N00E001", "N01E000", "N01E001"])
         self.refused(self.command("hydrology", *words), f"mosaic-load {path} {path}.voids")
@@ -209,6 +289,7 @@ with subprocess.Popen([{PROGRAM!r}, *sys.argv[1:]], stdin=subprocess.PIPE) as se
             (("accumulation", "x.png"), ".tif (GeoTIFF) or .asc"),
             (("accumulation", "x.asc", "--points", "--window", "0", "0", "9999", "9999"), "100,000,000 points, and the most for accumulation is 20,000,000"),
             (("flooded", "x.geojson", "--points", "--window", "0", "0", "9999", "9999"), "give a smaller --window"),
+            (("voids", "x.geojson", "--points", "--window", "0", "0", "9999", "9999"), "the most for voids is 50,000,000"),
         ):
             with self.subTest(words):
                 self.refused(self.command("hydrology", path, *words), told)

@@ -4,9 +4,11 @@ import gzip
 import os
 import pathlib
 import unittest
+import unittest.mock
 import zipfile
 
-from mosaic_store import Corner, check_store, format_store, open_store
+from mosaic_store import Corner, MosaicError, check_store, format_store, open_store
+from mosaic_store.loading import find
 
 from .support import PROGRAM, InFolder, hills, needs
 
@@ -196,6 +198,20 @@ with subprocess.Popen([{PROGRAM!r}, *sys.argv[1:]], stdin=subprocess.PIPE) as se
         self.assertNotIn("Traceback", done.stderr)
         self.assertEqual(self.exports(store), {"N00E000": one})
 
+    def test_a_folder_that_may_not_be_read(self):
+        """It is told: tiles in it would be missing without a word."""
+        closed = self.folder / "closed"
+        closed.mkdir()
+        scandir = os.scandir
+
+        def scanned(folder):
+            if pathlib.Path(folder) == closed:
+                raise PermissionError(13, "Permission denied", str(folder))
+            return scandir(folder)
+
+        with unittest.mock.patch("os.scandir", scanned), self.assertRaisesRegex(MosaicError, f"^{closed}: not read: Permission denied: .*mode"):
+            find([str(self.folder)])
+
     def test_full(self):
         files, store = self.folder / "files", str(self.folder / "store")
         files.mkdir()
@@ -254,6 +270,8 @@ with subprocess.Popen([{PROGRAM!r}, *sys.argv[1:]], stdin=subprocess.PIPE) as se
         self.refused(self.load(store, "nowhere"), "no such file or folder")
         self.refused(self.load(store, str(empty)), "nothing to load")
         self.refused(self.load(store), "needed", status=2)
+        (empty / "N40W109.zip").write_bytes(b"PK\3\4 cut short")
+        self.refused(self.load(store, str(empty)), "N40W109.zip: not read as a zip", "fetch it again")
         (empty / "N00E000.hgt").write_bytes(b"ab")
         self.refused(self.load(store, str(empty)), "nothing to make a store of")
         self.refused(self.load(store, "--from", str(self.folder / "none")), "no such file")

@@ -3,8 +3,8 @@
 import subprocess
 import unittest
 
-from mosaic_store import Corner, Window, errors, find_server, open_store
-from mosaic_store.native import LibraryNotFound, load_library, open_image
+from mosaic_store import BadArgument, Corner, Window, errors, find_server, open_store
+from mosaic_store.native import Image, LibraryNotFound, load_library, open_image
 
 from .support import IS_REAL, PROGRAM, InFolder, needs
 
@@ -17,6 +17,38 @@ def _is_there() -> bool:
     except LibraryNotFound:
         return False
     return IS_REAL
+
+
+class Asked:
+    """In place of the library: answers nothing, and notes what it is asked."""
+
+    def __init__(self):
+        self.names = []
+
+    def __getattr__(self, name):
+        return lambda *_: self.names.append(name) or 0
+
+
+@needs("numpy")
+class Numbers(InFolder):
+    def test_what_the_library_would_take_for_another_number(self):
+        path, library, inside = self.folder / "any", Asked(), Window(0, 0, 1, 1)
+        path.touch()
+        with Image(path, library) as image:
+            for ask, *arguments in (
+                (image.fill, 2**32, 0),
+                (image.fill, 0, 1.5),
+                (image.direction, 0, -(2**31) - 1),
+                (image.watershed, 0, 2**31, inside),
+                (image.watershed, 0, 0, Window(1, 0, 0, 0)),
+                (image.levels, Window(2**32, 0, 2**32, 0)),
+                (image.heights, Window(-(2**32), 0, 0, 0)),
+                (image.directions, Window(0, 5, 0, 4)),
+                (image.tile_levels, Corner(2**16, 0)),
+            ):
+                with self.subTest(arguments), self.assertRaises(BadArgument):
+                    ask(*arguments)
+        self.assertEqual(library.names, ["mosaic_open", "mosaic_close"])
 
 
 @needs("numpy")

@@ -1,6 +1,7 @@
 """Windows as arrays and as files, beside answers point by point and what GDAL reads."""
 
 import struct
+import tracemalloc
 import unittest
 
 from mosaic_store import Refusal, Window, memory_table, open_store
@@ -121,6 +122,17 @@ class Files(InFolder):
             self.refused(self.command("raster", path, "heights", name, most_bytes=300), f"{name}: not written")
         self.assertEqual([file.name for file in self.folder.iterdir()], ["store"])
 
+    def test_a_large_one_is_written_row_by_row(self):
+        import numpy
+
+        from mosaic_store.grids import write_grid
+
+        array = numpy.zeros((400, 4000), numpy.int32)
+        tracemalloc.start()
+        self.addCleanup(tracemalloc.stop)
+        write_grid(str(self.folder / "x.asc"), array, Window(0, 0, 399, 3999), SIDE, 0, "nothing")
+        self.assertLess(tracemalloc.get_traced_memory()[1], array.nbytes)
+
     def test_bad_input(self):
         path = self.store(SIDE)
 
@@ -131,6 +143,8 @@ class Files(InFolder):
         off = raster(path, "heights", "x.asc", "--window", "5", "5", "6", "6")
         self.refused(off, "off the tiles", "from 0 N 0 E to 2 N 2 E")
         self.refused(raster(path, "heights", "x.asc", "--window", "1", "1", "0", "0"), "out of order")
+        for end, told in (("1e300", "at most nine digits"), ("999999999", "the most for heights is 2,000,000,000")):
+            self.refused(raster(path, "heights", "x.asc", "--points", "--window", "0", "0", end, end), told)
         self.refused(raster("none", "heights", "x.asc"), "no such file")
         self.refused(raster(path, "colours", "x.asc"), "invalid choice", status=2)
         self.assertEqual([file.name for file in self.folder.iterdir()], ["store"])

@@ -1,5 +1,6 @@
 """Sessions: each word, each refusal, many questions, threads, deaths."""
 
+import contextlib
 import itertools
 import os
 import random
@@ -242,6 +243,15 @@ class Stores(InFolder):
         self.assertFalse((self.folder / "other").exists())
         with self.assertRaises(CannotOpen):
             format_store(self.folder / "no" / "folder", 11, 4, PROGRAM)
+
+    def test_a_path_that_begins_as_an_option_does(self):
+        """The program takes no word that begins with -."""
+        with contextlib.chdir(self.folder):
+            format_store("-store", 3, 1, PROGRAM)
+            with open_store(b"-store", PROGRAM) as store:
+                store.import_tile("N00E000", THREE)
+                self.assertEqual(store.report().count, 1)
+            self.assertEqual(check_store("-store", PROGRAM).count, 1)
 
     def test_what_cannot_be_opened(self):
         (self.folder / "text").write_text("no store\n" * 3000)

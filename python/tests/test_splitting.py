@@ -213,9 +213,9 @@ class Commands(InFolder):
 
     def test_more_tiles_than_a_store_takes(self) -> None:
         files = self.files({name: data for name, data in hills(5, 16, 16).items()})
-        done = self.command("load", "stores", files)
+        done = self.command("load", "new/stores", files)
         self.assertIn("256 tiles of 5 x 5 samples", done.stdout)
-        split = read_split(self.folder / "stores")
+        split = read_split(self.folder / "new" / "stores")
         self.assertTrue(all(len(names) <= 240 for names in split.stores.values()))
         self.assertEqual(done.returncode, 1 if split.too_large else 0, done.stderr)
 
@@ -225,11 +225,14 @@ class Commands(InFolder):
         self.refused(self.command("split", "stores", files, "--most", "241"), "1 to 240 tiles")
         self.refused(self.command("split", "stores", files, "--every", "3"), "take a divisor of 4")
         self.refused(self.command("split", "stores", files, "--margin", "0"), "1 step and more")
+        self.refused(self.command("split", "stores", files, "--side", "3601"), "no file is a tile of side 3601")
+        self.refused(self.command("split", "stores", files, "--side", "1"), "from 3 to 3601")
         self.refused(self.command("split", "stores", files, "--at", "1", "1"), "or a place is told", status=2)
         self.refused(self.command("split", "stores", "nowhere"), "no such file or folder")
         self.assertEqual(self.command("split", "stores", files).returncode, 0)
         self.refused(self.command("split", "stores", "--at", "91", "1"), "a latitude lies")
         self.refused(self.command("split", "stores", "--at", "1.5", "1", "--points"), "whole numbers")
+        self.refused(self.command("split", "stores", "--at", "1e300", "1", "--points"), "at most nine digits")
         (self.folder / "stores" / "split.geojson").write_text("{}")
         self.refused(self.command("split", "stores"), "not read as a split")
 

@@ -7,6 +7,7 @@ import http.client
 import json
 import os
 import signal
+import socket
 import threading
 import unittest
 import unittest.mock
@@ -20,7 +21,7 @@ from mosaic_store.stores import find_program
 from mosaic_store import lines
 
 from .browser import Browser, needs_browser
-from .support import A_WHILE, needs
+from .support import A_WHILE, InFolder, needs
 
 try:
     import numpy as np
@@ -337,6 +338,14 @@ class Served(unittest.TestCase):
         self.assertEqual((status, b"no height" in told), (409, True), told)
         told = self.post("try", {"kind": "burn", "amount": 5, "line": [[2, 60]]})
         self.assertEqual((told["before"]["level"], told["after"]["level"]), (230, 225))
+
+
+class Commands(InFolder):
+    @needs("numpy")
+    def test_a_port_in_use(self) -> None:
+        with socket.create_server(("127.0.0.1", 0)) as taken:
+            port = str(taken.getsockname()[1])
+            self.refused(self.command("view", self.store(), "--port", port), f"port {port} can't be listened at: Address already in use", "--port")
 
 
 if __name__ == "__main__":

@@ -202,10 +202,12 @@ class Answers(InFolder):
         async def told(program):
             async with aio.memory_table(3, 1, program) as table:
                 await table.import_tile("N00E000", THREE)
-                return [(await ask("N00E000")).tolist() for ask in (table.levels, table.directions, table.upstream)]
+                self.assertEqual((table.side, table.capacity), (3, 1))
+                return [(await ask("N00E000")).tolist() for ask in (table.tile, table.levels, table.directions, table.upstream)]
 
+        tile = [[9, 9, 9], [9, 1, 9], [9, 9, 5]]
         levels, codes, counts = [[9, 9, 9], [9, 5, 9], [9, 9, 5]], [[2, 4, 8], [1, 2, 4], [128, 1, 0]], [[1, 1, 1], [1, 6, 1], [1, 1, 9]]
-        wanted = [levels, codes, counts]
+        wanted = [tile, levels, codes, counts]
         for way, program in self.ways().items():
             with self.subTest(way):
                 self.assertEqual(asyncio.run(told(program)), wanted)

@@ -1,6 +1,7 @@
 """What the commands have in common: arguments, errors in one line, files written whole, progress.
 
-A command ends with 0 where all was done, 1 where something was refused or failed, 2 for arguments that it can't read.
+A command ends with 0 where all was done, 1 where something was refused or failed, 2 for arguments that it can't read. Where
+a signal ends it, the status is 128 and the signal's number, and it takes back first what a trial of it has edited.
 """
 
 from __future__ import annotations
@@ -10,9 +11,12 @@ import contextlib
 import io
 import os
 import pathlib
+import signal
 import sys
+import threading
 import time
 from collections.abc import Callable, Iterator, Sequence
+from types import FrameType
 from typing import NoReturn
 
 from ..errors import MosaicError, Refusal, SessionDied
@@ -30,6 +34,12 @@ MOST_POINTS = 50_000_000
 """The most points of a window whose water is asked for."""
 
 _SECONDS_BETWEEN_LINES = 10.0
+
+_ENDING = (signal.SIGTERM, signal.SIGHUP)
+"""Signals that end a process at once, where it does nothing against it."""
+
+_BEYOND_LINES = 1_000_000_000
+"""The least number that no line can carry."""
 
 
 class CommandError(MosaicError):
@@ -94,6 +104,7 @@ def add_window(made: argparse.ArgumentParser) -> None:
 
 def run(name: str, body: Callable[[], int]) -> int:
     """Runs a command; its status. What stops it is told in one line."""
+    _end_in_order()
     if isinstance(sys.stdout, io.TextIOWrapper):
         sys.stdout.reconfigure(errors="backslashreplace")  # names of files are any bytes
     try:
@@ -114,6 +125,23 @@ def run(name: str, body: Callable[[], int]) -> int:
     except KeyboardInterrupt:
         _stopped(name, "interrupted")
         return INTERRUPTED
+
+
+def _end_in_order() -> None:
+    """Has signals raise SystemExit, so that trials are taken back, and files that aren't whole are taken away.
+
+    One that is ignored stays so, as SIGHUP under nohup. Only the main thread may set what signals do.
+    """
+    if threading.current_thread() is threading.main_thread():
+        for number in _ENDING:
+            if signal.getsignal(number) == signal.SIG_DFL:
+                signal.signal(number, _end)
+
+
+def _end(number: int, _: FrameType | None) -> NoReturn:
+    for each in _ENDING:
+        signal.signal(each, signal.SIG_IGN)  # another one would break off what this one takes back
+    raise SystemExit(128 + number)
 
 
 def _stopped(name: str, message: str) -> int:
@@ -145,9 +173,14 @@ def _point_told(numbers: Sequence[float], session: Session, as_points: bool) -> 
         except ValueError as fault:
             hint = _hint(numbers, session) or "; with --points numbers are points of the lattice"
             raise CommandError(f"{fault}{hint}") from None
-    if not all(float(number).is_integer() for number in numbers):
+    return whole_point(numbers)
+
+
+def whole_point(numbers: Sequence[float]) -> Point:
+    """The point of the lattice that two numbers are."""
+    if not all(float(number).is_integer() and abs(number) < _BEYOND_LINES for number in numbers):
         shown = " ".join(f"{number:g}" for number in numbers)
-        raise CommandError(f"points are whole numbers y x, not {shown}: leave --points out for degrees")
+        raise CommandError(f"points are whole numbers y x of at most nine digits, not {shown}: leave --points out for degrees")
     return Point(*map(int, numbers))
 
 

@@ -6,19 +6,20 @@ import argparse
 import contextlib
 import csv
 import functools
-import io
+import itertools
 import json
 import os
 import pathlib
 import sys
-from collections.abc import Callable, Iterator, Sequence
-from typing import TYPE_CHECKING, Any
+from collections.abc import Callable, Iterable, Iterator, Sequence
+from typing import TYPE_CHECKING
 
 from .. import lines
 from ..files import sync_folder
 from ..geojson import Feature, collection, line_feature, points_feature
 from ..grids import check_format, write_grid
-from ..lattice import Point, Window
+from ..lattice import Point
+from ..questions import Elevation
 from ..samples import needed_numpy
 from ..session import Session
 from .frame import (
@@ -36,6 +37,7 @@ from .frame import (
     window_given,
     written_whole,
 )
+from .given import Outlet, features_of, outlets_of, told_at
 
 if TYPE_CHECKING:
     from ..network import Network
@@ -67,7 +69,7 @@ DESCRIPTION = """What drains where in a window of a store. It needs numpy.
                                                        is taken out and imported again; STORE.voids has it meanwhile
 
 Numbers are degrees north and east; with --points they are points y x of the lattice. A window has at most 20 million points, that of
-a flood 50 million."""
+a flood or of voids 50 million; edit takes lines of any length, of a file in degrees, and leaves nothing of them where it fails."""
 
 NO_ACCUMULATION = 0
 
@@ -157,7 +159,8 @@ def _catchments(session: Session, options: argparse.Namespace) -> str:
 
     if options.outlets is None:
         raise CommandError("catchments take --outlets, a .csv or a .geojson of places")
-    places = [(point_given(numbers, session, as_points), carried) for numbers, as_points, carried in _places(options.outlets)]
+    given, others = outlets_of(options.outlets)
+    places = [(_point_at(outlet, session), outlet.carried) for outlet in given]
     network = _network(session, options)
     outlets = [(network.snapped(point, options.reach, options.threshold), carried) for point, carried in places]
     labels = network.catchments([outlet for outlet, _ in outlets])
@@ -171,40 +174,13 @@ def _catchments(session: Session, options: argparse.Namespace) -> str:
         features.append(points_feature(runs, session.side, {**carried, **own, **drained, "y": outlet.y, "x": outlet.x}))
     _write_json(options.file, features)
     dry = sum(counts[network.cell(outlet)] < options.threshold for outlet, _ in outlets) if options.reach else 0
-    return f"{len(features)} catchments" + (f"; {dry} without a stream within {options.reach} steps stay where they are" if dry else "")
+    stayed = f"; {dry} without a stream within {options.reach} steps stay where they are" if dry else ""
+    return f"{len(features)} catchments{stayed}{_passed_by(others, 'a point')}"
 
 
-def _places(path: str) -> Iterator[tuple[tuple[float, float], bool, dict[str, Any]]]:
-    """The places of a file, whether they are points of the lattice, and what else stands with each."""
-    text = pathlib.Path(path).read_text(encoding="utf-8-sig")
-    if path.lower().endswith((".geojson", ".json")):
-        for feature in _features(path, text):
-            geometry = feature.get("geometry") or {}
-            if geometry.get("type") == "Point":
-                longitude, latitude = geometry["coordinates"][:2]
-                yield (latitude, longitude), False, dict(feature.get("properties") or {})
-        return
-    for number, row in enumerate(csv.DictReader(io.StringIO(text)), 2):
-        words = {name.strip().lower(): name for name in row if name}
-        for pair in (("latitude", "longitude"), ("lat", "lon"), ("y", "x")):
-            if all(word in words for word in pair):
-                try:
-                    numbers = float(row[words[pair[0]]]), float(row[words[pair[1]]])
-                except (TypeError, ValueError):
-                    raise CommandError(f"{path}: line {number} tells no place: {pair[0]} and {pair[1]} are numbers") from None
-                yield numbers, pair == ("y", "x"), {name: value for name, value in row.items() if name not in (words[pair[0]], words[pair[1]])}
-                break
-        else:
-            raise CommandError(f"{path}: it has no columns latitude and longitude, nor y and x")
-
-
-def _features(path: str, text: str) -> list[dict[str, Any]]:
-    try:
-        found = json.loads(text)
-    except (ValueError, RecursionError):
-        raise CommandError(f"{path}: not read as GeoJSON") from None
-    features = found.get("features", [found]) if isinstance(found, dict) else []
-    return [feature for feature in features if isinstance(feature, dict)]
+def _point_at(outlet: Outlet, session: Session) -> Point:
+    with told_at(outlet.at):
+        return point_given(outlet.numbers, session, outlet.as_points)
 
 
 def _flooded(session: Session, options: argparse.Namespace) -> str:
@@ -271,7 +247,6 @@ def _reservoir(session: Session, options: argparse.Namespace) -> str:
 
 def _edit(session: Session, options: argparse.Namespace) -> str:
     from ..hydrology import earthwork
-    from ..rasters import heights_of
 
     if (options.wall is None) == (options.burn is None):
         raise CommandError("lines are edited by --wall or by --burn")
@@ -279,17 +254,23 @@ def _edit(session: Session, options: argparse.Namespace) -> str:
     amounts, others = _amounts(session, options)
     if not amounts:
         raise CommandError(f"{options.file}: it has no point and no line")
-    ys, xs = zip(*amounts)
-    window = Window(min(ys), min(xs), max(ys), max(xs))
-    before = heights_of(session, window)
+    before = _heights(session, amounts)
     with session.trial() as trial:
         for amount in sorted(set(amounts.values())):
             for part in lines.commands([point for point, own in amounts.items() if own == amount]):
                 act(amount, part)
+        # Before they are kept: where it can't be told what they moved, they are taken back.
+        moved = earthwork(before, _heights(session, amounts), session.side)
         trial.keep()
-    moved = earthwork(before, heights_of(session, window))
-    passed_by = f"; {others} features are neither points nor lines, and were passed by" if others else ""
-    return f"{len(amounts)} points were edited, {moved.cut:.0f} m3 cut, {moved.fill:.0f} m3 filled{passed_by}"
+    told = _passed_by(others, "a point or a line")
+    return f"{len(amounts)} points were edited, {moved.cut:.0f} m3 cut, {moved.fill:.0f} m3 filled{told}"
+
+
+def _heights(session: Session, points: Iterable[Point]) -> dict[Point, int]:
+    """The heights of points; what is void or in no tile is left out, and is refused when it is edited."""
+    asked = list(points)
+    answers = zip(asked, session.ask_many(Elevation(*point) for point in asked))
+    return {point: answer for point, answer in answers if isinstance(answer, int)}
 
 
 def _amounts(session: Session, options: argparse.Namespace) -> tuple[dict[Point, int], int]:
@@ -298,31 +279,26 @@ def _amounts(session: Session, options: argparse.Namespace) -> tuple[dict[Point,
 
     kind, given = ("height", options.wall) if options.burn is None else ("depth", options.burn)
     amounts: dict[Point, int] = {}
-    others = 0
-    for feature in _features(options.file, pathlib.Path(options.file).read_text(encoding="utf-8-sig")):
-        amount = (feature.get("properties") or {}).get(kind, given)
-        if type(amount) is not int:
-            raise CommandError(f"{options.file}: {kind} is a whole number of metres, not {amount}")
-        found = _lines(feature)
-        others += not found
-        for line in found:
-            points = lines.points_along([point_given((latitude, longitude), session, False) for longitude, latitude, *_ in line])
-            for point in widened(points, options.width):
-                amounts[point] = max(amount, amounts.get(point, amount))
-    return amounts, others
+    features = features_of(options.file)
+    for feature in features:
+        with told_at(feature.at):
+            amount = feature.whole(kind, given)
+            drawn = [lines.points_along([point_given(place, session, False) for place in line]) for line in feature.lines]
+        points = widened(list(itertools.chain(*drawn)), options.width)
+        amounts.update((point, max(amount, amounts.get(point, amount))) for point in points)
+    return amounts, sum(not feature.lines for feature in features)
 
 
-def _lines(feature: dict[str, Any]) -> list[Any]:
-    geometry = feature.get("geometry") or {}
-    coordinates: Any = geometry.get("coordinates")
-    lines: dict[str | None, list[Any]] = {"Point": [[coordinates]], "LineString": [coordinates], "MultiLineString": coordinates}
-    return lines.get(geometry.get("type"), [])
+def _passed_by(others: int, what: str) -> str:
+    """How many features of a file were left out, for what they lack; empty where none was."""
+    return f"; {others} feature{' was' if others == 1 else 's were'} passed by, without {what}" if others else ""
 
 
 def _voids(session: Session, options: argparse.Namespace) -> str:
     from ..hydrology import filled_voids
 
     window = window_given(options.window, session, options.points)
+    check_size(window, options.what)
     with written_whole(options.file) as path, _tiles_beside(options.store, session) as save, session.trial() as trial:
         runs = filled_voids(session, window, options.most, save)
         count = sum(run.last - run.first + 1 for run in runs)

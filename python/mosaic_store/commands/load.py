@@ -61,15 +61,29 @@ def _load(options: argparse.Namespace) -> int:
 def _from_files(options: argparse.Namespace) -> int:
     found = find(options.paths)
     if not found.sources:
-        raise CommandError(f"no HGT file and no archive of one in {', '.join(options.paths)}: nothing to load")
+        raise _nothing(options, found)
     if is_split(options.store):
         return _into_stores(options, found)
-    if len(found.corners) > MOST_TILES and options.capacity is None and not os.path.lexists(options.store):
+    if len(found.corners) > MOST_TILES and options.capacity is None and _is_free(options.store):
         _plan(options, found)
         return _into_stores(options, found)
     with _opened(options, found.shape) as session:
         outcomes = load(session, found, _change(options))
         return _done(outcomes, len(found.sources) + len(found.troubles), _files(found), session, options)
+
+
+def _is_free(path: str) -> bool:
+    """Whether a folder of stores may be made: nothing is there, or an empty folder, as a run leaves it that fails at its plan."""
+    return not os.path.lexists(path) or (os.path.isdir(path) and not os.listdir(path))
+
+
+def _nothing(options: argparse.Namespace, found: Found) -> CommandError:
+    """Why there is nothing to load: what is wrong with the archives, where there are some."""
+    where = ", ".join(options.paths)
+    broken = [f"{trouble.shown}: {trouble.cause}: {trouble.cure}" for trouble in found.troubles if trouble.cure]
+    for line in broken[:-1]:
+        print(f"{NAME}: {line}", file=sys.stderr)
+    return CommandError(broken[-1] if broken else f"no HGT file and no archive of one in {where}: nothing to load")
 
 
 def _change(options: argparse.Namespace) -> Change:
@@ -85,8 +99,8 @@ def _plan(options: argparse.Namespace, found: Found) -> None:
     """Cuts more tiles than a store takes into several stores, in a folder."""
     from ..regions import plan, shown_plan
 
+    os.makedirs(options.store, exist_ok=True)  # before the plan, which takes its time
     split = plan(found, options.side, program=options.program)
-    os.mkdir(options.store)
     split.write(options.store)
     print(f"{options.store}: " + "\n".join(shown_plan(split)), flush=True)
 

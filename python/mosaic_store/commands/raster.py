@@ -16,6 +16,7 @@ from ..samples import needed_numpy
 from ..session import Session
 from .frame import (
     DONE,
+    MOST_POINTS,
     Progress,
     add_places,
     add_window,
@@ -32,6 +33,10 @@ if TYPE_CHECKING:
     from ..samples import Array
 
 NAME = "mosaic-raster"
+
+MOST_HEIGHTS = 2_000_000_000
+"""The most points of a window of heights: a GeoTIFF has at most 4 GB."""
+
 DESCRIPTION = """Writes a window of a store as a raster: .tif for GeoTIFF, which needs rasterio, .asc for ESRI ASCII.
 
   heights     metres, by the seam rule
@@ -40,7 +45,8 @@ DESCRIPTION = """Writes a window of a store as a raster: .tif for GeoTIFF, which
   directions  where water goes: 1 E, 2 SE, 4 S, 8 SW, 16 W, 32 NW, 64 N, 128 NE, 0 off the mosaic
 
 All but heights are asked in windows of at most 50 million points: of whole tiles at once where mosaic-tiles lies beside the
-program, else by a question for each pit of the window, and for each point of a flat that reaches beyond it."""
+program, else by a question for each pit of the window, and for each point of a flat that reaches beyond it. A window of heights
+has at most 2000 million points."""
 
 
 def main(arguments: Sequence[str] | None = None) -> int:
@@ -64,8 +70,7 @@ def _write(options: argparse.Namespace) -> int:
     progress = Progress(NAME, 0, "questions")
     with opened(options.store, options.program) as session, written_whole(options.output) as path:
         window = window_given(options.window, session, options.points)
-        if options.what != "heights":
-            check_size(window, options.what)
+        check_size(window, options.what, MOST_HEIGHTS if options.what == "heights" else MOST_POINTS)
         heights = heights_of(session, window)
         array, no_data = LAYERS[options.what](session, heights, progress.tell_of)
         write_grid(path, array, window, session.side, no_data, options.what)

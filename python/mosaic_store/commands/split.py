@@ -13,7 +13,7 @@ from ..loading import find
 from ..regions import find_areas, plan, shown_areas, shown_plan
 from ..samples import needed_numpy
 from ..splitting import Split, is_split, read_split
-from .frame import DONE, CommandError, Progress, add_places, parser, run
+from .frame import DONE, CommandError, Progress, add_places, parser, run, whole_point
 
 NAME = "mosaic-split"
 DESCRIPTION = """Cuts a region of more tiles than a store takes into stores along its divides. It needs numpy.
@@ -93,15 +93,13 @@ def _route(options: argparse.Namespace) -> int:
 
 
 def _point(options: argparse.Namespace, split: Split) -> Point:
-    y, x = options.at
-    if not options.points:
-        try:
-            return point_of(y, x, split.side)
-        except ValueError as fault:
-            raise CommandError(str(fault)) from None
-    if not (y.is_integer() and x.is_integer()):
-        raise CommandError(f"points are whole numbers y x, not {y:g} {x:g}: leave --points out for degrees")
-    return Point(int(y), int(x))
+    if options.points:
+        return whole_point(options.at)
+    latitude, longitude = options.at
+    try:
+        return point_of(latitude, longitude, split.side)
+    except ValueError as fault:
+        raise CommandError(str(fault)) from None
 
 
 if __name__ == "__main__":

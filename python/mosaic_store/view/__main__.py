@@ -7,10 +7,15 @@ import functools
 import pathlib
 import sys
 import webbrowser
+from typing import TYPE_CHECKING
 
 from ..commands.frame import DONE, CommandError, Parser, parser, run
 from ..samples import cure_for
 from ..session import memory_table, open_store
+
+if TYPE_CHECKING:
+    from .server import MapServer
+    from .workbench import Workbench
 
 NAME = "mosaic-view"
 
@@ -35,7 +40,6 @@ def arguments() -> Parser:
 
 def _serve(options: argparse.Namespace) -> int:
     try:
-        from .server import MapServer
         from .workbench import BadRequest, Workbench
     except ImportError as missing:
         raise CommandError(f"pictures need numpy ({missing}): {cure_for('numpy')}") from None
@@ -46,7 +50,7 @@ def _serve(options: argparse.Namespace) -> int:
         except BadRequest as bad:
             raise CommandError(str(bad)) from None
         try:
-            with MapServer(workbench, options.port) as server:
+            with _listening(workbench, options.port) as server:
                 print(server.url, flush=True)
                 if options.browser:
                     webbrowser.open(server.url)
@@ -56,6 +60,15 @@ def _serve(options: argparse.Namespace) -> int:
         finally:
             workbench.close()
     return DONE
+
+
+def _listening(workbench: Workbench, at: int) -> MapServer:
+    from .server import MapServer
+
+    try:
+        return MapServer(workbench, at)
+    except OSError as fault:
+        raise CommandError(f"port {at} can't be listened at: {fault.strerror or fault}: name another by --port, or leave that out") from None
 
 
 def port(text: str) -> int:

@@ -1,0 +1,164 @@
+"""What files give to a command: outlets as CSV or GeoJSON, lines as GeoJSON.
+
+What is wrong with one is told in a line, with its file, the number of the feature or the line, and the cure.
+"""
+
+from __future__ import annotations
+
+import contextlib
+import csv
+import io
+import json
+import pathlib
+from collections.abc import Iterator
+from dataclasses import dataclass
+from typing import Any
+
+from .frame import CommandError
+
+Numbers = tuple[float, float]
+
+_PAIRS = (("latitude", "longitude"), ("lat", "lon"), ("y", "x"))
+
+
+@dataclass(frozen=True)
+class Outlet:
+    """A place of a file of outlets."""
+
+    at: str
+    """Its file, and its feature or its line."""
+    numbers: Numbers
+    """Latitude and longitude, or y and x."""
+    as_points: bool
+    """Whether they are y and x."""
+    carried: dict[str, Any]
+    """What else stands with it."""
+
+
+@dataclass(frozen=True)
+class Drawn:
+    """A feature of a GeoJSON."""
+
+    at: str
+    """Its file and its number."""
+    properties: dict[str, Any]
+    lines: list[list[Numbers]]
+    """Its lines, in latitude and longitude, each point a line of one place; none where it is neither points nor lines."""
+    is_points: bool
+
+    def whole(self, name: str, otherwise: int) -> int:
+        """A property that is a whole number of metres; `otherwise` where it has no value, which programs write as null."""
+        value = self.properties.get(name)
+        if value is None:
+            return otherwise
+        if type(value) is int or (type(value) is float and value.is_integer()):
+            return int(value)
+        raise CommandError(f"{name} is a whole number of metres, not {value!r}: mend it, or leave it out")
+
+
+@contextlib.contextmanager
+def told_at(place: str) -> Iterator[None]:
+    """Names a place in a file in what stops the command inside."""
+    try:
+        yield
+    except CommandError as fault:
+        raise CommandError(f"{place}: {fault}") from None
+
+
+def outlets_of(path: str) -> tuple[list[Outlet], int]:
+    """The outlets of a file, one at least, and how many of its features are no points."""
+    others = 0
+    if path.lower().endswith((".geojson", ".json")):
+        features = features_of(path)
+        points = [feature for feature in features if feature.is_points]
+        others = len(features) - len(points)
+        outlets = [Outlet(each.at, place, False, each.properties) for each in points for line in each.lines for place in line]
+    else:
+        outlets = list(_rows(path))
+    if not outlets:
+        raise CommandError(f"{path}: it names no place: give points, each a feature or a line of its own")
+    return outlets, others
+
+
+def features_of(path: str) -> list[Drawn]:
+    """The features of a GeoJSON, in their order."""
+    try:
+        found = json.loads(_text(path))
+    except (ValueError, RecursionError):
+        raise CommandError(f"{path}: not read as GeoJSON: save it as that") from None
+    listed = found.get("features", [found]) if isinstance(found, dict) else None
+    if not isinstance(listed, list):
+        raise CommandError(f"{path}: not read as GeoJSON: it has no list of features: save it as a FeatureCollection")
+    return [_drawn(f"{path}: feature {number}", feature) for number, feature in enumerate(listed, 1)]
+
+
+def _drawn(at: str, feature: Any) -> Drawn:
+    with told_at(at):
+        if not isinstance(feature, dict):
+            raise CommandError("it is no feature: remove it")
+        # A geometry may stand for itself, without a feature around it.
+        geometry, properties = feature.get("geometry", feature) or {}, feature.get("properties") or {}
+        if not (isinstance(geometry, dict) and isinstance(properties, dict)):
+            raise CommandError("its geometry and its properties are objects: mend or remove it")
+        kind = geometry.get("type")
+        return Drawn(at, properties, _lines(kind, geometry.get("coordinates")), kind in ("Point", "MultiPoint"))
+
+
+def _lines(kind: Any, coordinates: Any) -> list[list[Numbers]]:
+    if kind == "Point":
+        return [[_place(coordinates)]]
+    if kind == "MultiPoint":
+        return [[_place(each)] for each in _listed(coordinates)]
+    if kind == "LineString":
+        return _lines("MultiLineString", [coordinates])
+    if kind == "MultiLineString":
+        lines = [[_place(each) for each in _listed(line)] for line in _listed(coordinates)]
+        return [line for line in lines if line]
+    return []
+
+
+def _listed(coordinates: Any) -> list[Any]:
+    if not isinstance(coordinates, list):
+        raise CommandError(f"its coordinates are a list, not {coordinates!r}: mend or remove it")
+    return coordinates
+
+
+def _place(position: Any) -> Numbers:
+    """The latitude and the longitude of a position."""
+    with contextlib.suppress(OverflowError):  # a whole number may have any length
+        if isinstance(position, list) and len(position) >= 2 and all(type(number) in (int, float) for number in position[:2]):
+            return float(position[1]), float(position[0])
+    shown = repr(position)
+    raise CommandError(f"a place is two numbers, longitude and latitude, not {shown[:60]}: mend or remove it")
+
+
+def _rows(path: str) -> Iterator[Outlet]:
+    """The outlets of a CSV."""
+    reader = csv.DictReader(io.StringIO(_text(path)))
+    try:
+        words = {name.strip().lower(): name for name in reader.fieldnames or ()}
+        pair = next((pair for pair in _PAIRS if all(word in words for word in pair)), None)
+        if pair is None:
+            raise CommandError(f"{path}: it has no columns latitude and longitude, nor y and x: name them in its first line, with commas between")
+        for row in reader:
+            yield _outlet(f"{path}: line {reader.line_num}", row, pair, words)
+    except csv.Error as fault:
+        raise CommandError(f"{path}: line {reader.line_num}: not read as CSV: {fault}: save it anew") from None
+
+
+def _outlet(at: str, row: dict[Any, Any], pair: tuple[str, str], words: dict[str, str]) -> Outlet:
+    names = [words[word] for word in pair]
+    try:
+        latitude, longitude = (float(row[name]) for name in names)
+    except (TypeError, ValueError):
+        raise CommandError(f"{at} tells no place: {pair[0]} and {pair[1]} are numbers: mend or remove it") from None
+    # What stands beyond the last column has no name, and is no property.
+    carried = {name: value for name, value in row.items() if name is not None and name not in names}
+    return Outlet(at, (latitude, longitude), pair == ("y", "x"), carried)
+
+
+def _text(path: str) -> str:
+    try:
+        return pathlib.Path(path).read_text(encoding="utf-8-sig")
+    except UnicodeDecodeError:
+        raise CommandError(f"{path}: its text isn't UTF-8: save it in that encoding") from None
