@@ -1,6 +1,8 @@
 pub mod BoxPlaces
 pub mod Filling
 pub mod Overlapping
+pub mod OwnSamples
+pub mod RowsRead
 pub mod Searching
 pub mod TilesFound
 pub mod TouchedTiles

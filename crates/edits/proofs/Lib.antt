@@ -15,5 +15,6 @@ mod Plans
 mod PointEditing
 mod Repeats
 pub mod SinkLists
+pub mod StepsWithin
 mod Untouched
 mod WholeTiles

@@ -1,4 +1,3 @@
 pub mod Once
-pub mod Planned
 pub mod Setting
 pub mod VoidsPut

@@ -1,6 +1,6 @@
 -- Points that are named twice.
-use Rattle.std.proofs.Common.{◌≡◌, ℕ, ◌+◌, ◌<◌, ◌≤◌, Bool, true, false, ◌||◌, List, length, get_or, take, drop, length-drop, ◌-◌, sym, ◌∙◌, ap, arith}
-use Rattle.edits.proofs.Prelude.{Point, at_drop_all, at_drop_more, is_named, is_repeated, or_left, take_all}
+use Rattle.std.proofs.Common.{◌≡◌, ℕ, ◌+◌, ◌<◌, ◌||◌, List, length, get_or, take, drop, length-drop, ◌-◌, ap, arith}
+use Rattle.edits.proofs.Prelude.{Point, at_drop_more, is_named, is_repeated, take_all}
 
 turn : (ps : List Point) (i : ℕ) (d : Point) → i < length ps → is_repeated (drop i ps) ≡ is_named (drop (i + 1) ps) (get_or ps i d) || is_repeated (drop (i + 1) ps)
 turn ps i d within = at_drop_more is_repeated ps i d within

@@ -1,7 +1,7 @@
 -- The effect of the commands of whole tiles, by what the code asks.
 use Rattle.std.proofs.Common.{◌≡◌, ℕ, ◌*◌, ◌<◌, ◌≤◌, ◌↔◌, Bool, true, false, IsTrue, List, length, nat_eq, nat_lt, refl, sym, ◌∙◌, ap, subst, arith}
-use Rattle.edits.proofs.Prelude.{BadLength, Contains, Corner, Err, Full, Import, Mosaic, NoTile, Ok, Remove, TileThere, added, corners_of, effect, is_present, length-map, present_iff, samples_in, without}
-use Rattle.std.proofs.lemmas.Bool.{false≢true, false_from_ne_true, eqb-true, eq-eqb, lt-ltb, le-ltb}
+use Rattle.edits.proofs.Prelude.{Contains, Corner, Err, Full, Import, Mosaic, NoTile, Ok, Remove, TileThere, added, corners_of, effect, is_present, length-map, present_iff, samples_in, without}
+use Rattle.std.proofs.lemmas.Bool.{false≢true, false_from_ne_true, eq-eqb, lt-ltb, le-ltb}
 
 module _ (m : Mosaic) (cs : List Corner) (same : corners_of m ≡ cs) (c : Corner) (present : Bool) (says : IsTrue present ↔ Contains cs c) where
   pub present_is : is_present m c ≡ present

@@ -1,5 +1,5 @@
 -- Boxes point by point.
-use Rattle.std.specs.Prelude.{◌≡◌, ℕ, ◌+◌, ◌*◌, ◌/◌, ◌%◌, ℤ, pos, ◌+ℤ◌, ◌-ℤ◌, nat_abs, nat_lt, Bool, true, false, ◌&&◌, if◌then◌else◌}
+use Rattle.std.specs.Prelude.{◌≡◌, ℕ, ◌+◌, ◌*◌, ◌/◌, ◌%◌, ℤ, pos, ◌+ℤ◌, ◌-ℤ◌, nat_abs, nat_lt, Bool, ◌&&◌, if◌then◌else◌}
 use Rattle.lattice.specs.declared.point.Point.{Point}
 use Rattle.lattice.specs.Mosaic.{Mosaic}
 use Rattle.edits.specs.Effect.{edited, is_in_box, is_void_at}
@@ -25,11 +25,6 @@ is_among from to columns k p = is_in_box from to p && nat_lt (box_place from col
 
 abbrev pub is_void_among : Mosaic → Point → Point → (columns k : ℕ) → Point → Bool
 is_void_among m from to columns k p = is_among from to columns k p && is_void_at m p
-
--- whether the test passes at some point
-abbrev pub IsSomewhere : (Point → Bool) → Bool → Type 0
-IsSomewhere test true = (p : Point) × (test p ≡ true)
-IsSomewhere test false = (p : Point) → test p ≡ false
 
 -- the mosaic with this sample at each point that passes the test, in every present tile that holds it
 abbrev pub filled : (Point → Bool) → ℤ → Mosaic → Mosaic

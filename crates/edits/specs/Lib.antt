@@ -8,3 +8,4 @@ pub mod Plans
 pub mod Sinks
 pub mod Touched
 pub mod PointEdits
+pub mod TileRows

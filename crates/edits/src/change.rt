@@ -32,13 +32,6 @@ impl TileSamples {
     {
         &self.samples
     }
-
-    /// The samples back; takes no memory.
-    pub fn into_vec(self) -> Vec<i16>
-        ensures { result.items ≡ self }
-    {
-        self.samples
-    }
 }
 
 /// One change of a mosaic.

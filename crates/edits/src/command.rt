@@ -33,13 +33,6 @@ impl Bytes {
     {
         &self.bytes
     }
-
-    /// The bytes back; takes no memory.
-    pub fn into_vec(self) -> Vec<u8>
-        ensures { result.items ≡ self }
-    {
-        self.bytes
-    }
 }
 
 /// A command of a store. Heights and depths are in metres.

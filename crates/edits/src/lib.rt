@@ -26,6 +26,7 @@ mod point_edit;
 mod room;
 mod sinks;
 mod stale;
+mod steps;
 mod tiles;
 mod void_tiles;
 

@@ -1,23 +1,29 @@
 //! The tiles that a patch changes: those with a void point in its box.
-ghost use Rattle.std.specs.Prelude.{◌≡◌, ◌≢◌, ◌≤◌, ◌+◌, ◌&&◌, ℕ, Ok, Err, Contains, IsTrue, IfOk, IfErr, OnOk};
-ghost use Rattle.lattice.specs.Corners.{Corner};
-ghost use Rattle.lattice.specs.Lattice.{Holds, holds};
+ghost use Rattle.std.specs.Prelude.{◌≡◌, ◌≢◌, ◌≤◌, ◌+◌, ◌*◌, ◌<◌, ℕ, Ok, Err, Contains, IsTrue, IsFalse, IfOk, IfErr, OnOk, length};
+ghost use Rattle.std.specs.List.{AllPairs};
+ghost use Rattle.lattice.specs.Corners.{Corner, same_corner};
+ghost use Rattle.lattice.specs.Lattice.{Holds};
 ghost use Rattle.lattice.specs.Mosaic.{Tile};
 ghost use Rattle.lattice.specs.declared.point.Point.{Point};
 ghost use Rattle.lattice.specs.declared.refusal.Refusal.TheVariants.{NoMemory};
 ghost use Rattle.arrayvec.specs.ArrayVec.{array_vec_len};
 ghost use Rattle.catalogue.specs.Endings.{ends_any};
 ghost use Rattle.catalogue.specs.Readers.{OnlyReads, reads_of};
+ghost use Rattle.catalogue.specs.Reading.{AreSamplesOf, IsSampleOf};
 ghost use Rattle.edits.specs.Edits.{ArePresent, AreTiles, AreVoidTiles};
 ghost use Rattle.edits.specs.Effect.{effect, has_void_from, is_box, is_height, is_in_box, is_void_at, patched};
 ghost use Rattle.edits.specs.Plans.{is_own, may_end};
+ghost use Rattle.edits.specs.TileRows.{HasVoid, is_void_at_index};
 ghost use Rattle.edits.specs.declared.command.Command.TheVariants.{Patch};
 
 use crate::boxes::BoxPoints;
 use crate::point_edit::{HIGHEST, LOWEST};
+use crate::steps::steps_within;
 use arrayvec::ArrayVec;
 use catalogue::{Samples, height};
-use lattice::{Corner, Height, Point, Refusal, Side, corner_in_range, holders, index_in};
+use lattice::{
+    Corner, Height, LARGEST_SIDE, Point, Refusal, Side, VOID, holders, point_at, samples_in_range,
+};
 
 /// The present tiles with a void point in the box of a patch.
 pub(crate) fn tiles_to_patch<S: Samples>(
@@ -71,20 +77,19 @@ fn tiles_of_box<S: Samples>(
     let mut tiles = ArrayVec::new();
     let corners = holders_of_box(samples.side(), from, to);
     for corner in corners.as_slice() {
-        let is_new = samples.present(*corner) && !tiles.as_slice().contains(corner);
-        if is_new && has_void(samples, *corner, from, to)? {
+        if samples.present(*corner) && has_void(samples, *corner, from, to)? {
             tiles.push(*corner);
         }
     }
     Ok(tiles)
 }
 
-// All tiles that hold a point of the box: as it is no wider than a tile, they hold one of its corners. A tile may be named
-// more than once.
+// All tiles that hold a point of the box, each once: as it is no wider than a tile, they hold one of its corners.
 fn holders_of_box(side: Side, from: Point, to: Point) -> ArrayVec<Corner, 16>
     requires { IsTrue (is_box side from to) }
-    ensures { (c : Corner) (p : Point) → IsTrue (is_in_box from to p) → Holds side c p
+    ensures all { (c : Corner) (p : Point) → IsTrue (is_in_box from to p) → Holds side c p
         → Contains result.items c }
+    ensures once { AllPairs (λ c d. IsFalse (same_corner c d)) result.items }
 {
     // That a side is at least 3 is told by its methods.
     let _edge = side.edge();
@@ -96,19 +101,24 @@ fn holders_of_box(side: Side, from: Point, to: Point) -> ArrayVec<Corner, 16>
     corners
 }
 
-// Adds the tiles that hold the point.
+// Adds the tiles that hold the point, but for those that are named already: each of them is gone over once.
 fn add_holders(side: Side, point: Point, corners: &mut ArrayVec<Corner, 16>)
-    requires { array_vec_len corners.old ≤ 12 }
+    requires room { array_vec_len corners.old ≤ 12 }
+    requires once { AllPairs (λ c d. IsFalse (same_corner c d)) corners.old.items }
     ensures kept { (c : Corner) → Contains corners.old.items c → Contains corners.new.items c }
     ensures added { (c : Corner) → Holds side c point → Contains corners.new.items c }
+    ensures once { AllPairs (λ c d. IsFalse (same_corner c d)) corners.new.items }
     ensures few { array_vec_len corners.new ≤ array_vec_len corners.old + 4 }
 {
     for corner in holders(side, point).as_slice() {
-        corners.push(*corner);
+        if !corners.as_slice().contains(corner) {
+            corners.push(*corner);
+        }
     }
 }
 
-// Whether the corner's present tile has a void point in the box.
+// Whether the corner's present tile has a void point in the box. It goes over the points alone that both hold, a row
+// of the tile at a time.
 fn has_void<S: Samples>(
     samples: &mut S,
     corner: Corner,
@@ -125,34 +135,88 @@ fn has_void<S: Samples>(
     ensures memory { IfErr result (λ r. r ≢ NoMemory) }
     ensures reads { OnlyReads S.Samples samples.old samples.new (reads_of result) }
 {
-    let Some(points) = BoxPoints::new(samples.side(), from, to) else {
-        return Ok(false);
-    };
-    for k in 0..points.len() {
-        if is_void_in(samples, corner, points.point(k))? {
+    let side = samples.side();
+    let rows = steps_within(side, corner.lat, from.y, to.y);
+    let columns = steps_within(side, corner.lon, from.x, to.x);
+    let mut own = [0; LARGEST_SIDE as usize];
+    for row in 0..rows.count {
+        let first = (side.edge() - rows.first - row) * side.samples() + columns.first;
+        if has_void_in_row(samples, corner, first, &mut own[..columns.count as usize])? {
             return Ok(true);
         }
     }
     Ok(false)
 }
 
-// Whether the corner's tile holds the point, and its height is void. Of other points nothing is read.
-fn is_void_in<S: Samples>(samples: &mut S, corner: Corner, point: Point) -> Result<bool, Refusal>
+// Whether one of the samples of the corner's present tile, from the index on and as many as there is room for, lies at a
+// void point. They are read at once.
+fn has_void_in_row<S: Samples>(
+    samples: &mut S,
+    corner: Corner,
+    first: u32,
+    own: &mut [i16],
+) -> Result<bool, Refusal>
+    requires present { Contains (S.corners samples.old) corner }
+    requires range { first + length own.old ≤ S.side_of samples.old * S.side_of samples.old }
     ensures void { S.is_honest samples.new
-        → IfOk result (λ b. b ≡ (holds (S.side_of samples.old) corner point
-        && is_void_at (S.mosaic samples.old) point)) }
+        → IfOk result (HasVoid (S.mosaic samples.old) corner first (length own.old)) }
+    ensures length { length own.new ≡ length own.old }
     ensures causes { IfErr result (λ r. IsTrue (ends_any r)) }
     ensures memory { IfErr result (λ r. r ≢ NoMemory) }
     ensures reads { OnlyReads S.Samples samples.old samples.new (reads_of result) }
 {
-    let side = samples.side();
-    // That a side is at least 3 is told by its methods.
-    let _edge = side.edge();
-    corner_in_range(corner);
-    match index_in(side, corner, point) {
-        Some(_) => is_void(samples, point),
-        None => Ok(false),
+    samples.read_samples(corner, first, own)?;
+    has_void_among(samples, corner, first, own)
+}
+
+// Whether one of these samples of the corner's present tile, from the index on, lies at a void point.
+fn has_void_among<S: Samples>(
+    samples: &mut S,
+    corner: Corner,
+    first: u32,
+    own: &[i16],
+) -> Result<bool, Refusal>
+    requires present { Contains (S.corners samples.old) corner }
+    requires range { first + length own.now ≤ S.side_of samples.old * S.side_of samples.old }
+    ensures void { S.is_honest samples.new
+        → AreSamplesOf (S.mosaic samples.old) corner first own.now
+        → IfOk result (HasVoid (S.mosaic samples.old) corner first (length own.now)) }
+    ensures causes { IfErr result (λ r. IsTrue (ends_any r)) }
+    ensures memory { IfErr result (λ r. r ≢ NoMemory) }
+    ensures reads { OnlyReads S.Samples samples.old samples.new (reads_of result) }
+{
+    // That an index fits its type is told by the number of a tile's samples.
+    let _area = samples.side().area();
+    samples_in_range(own);
+    for k in 0..own.len() {
+        if is_void_sample(samples, corner, first + k as u32, own[k])? {
+            return Ok(true);
+        }
     }
+    Ok(false)
+}
+
+// Whether this sample of the corner's present tile, the one at the index, lies at a void point. Where it isn't void, no
+// more is its point, and no tile is asked.
+fn is_void_sample<S: Samples>(
+    samples: &mut S,
+    corner: Corner,
+    index: u32,
+    own: i16,
+) -> Result<bool, Refusal>
+    requires index { index < S.side_of samples.old * S.side_of samples.old }
+    ensures void { S.is_honest samples.new
+        → IsSampleOf (S.mosaic samples.old) corner index own
+        → IfOk result (λ b. b ≡ is_void_at_index (S.mosaic samples.old) corner index) }
+    ensures causes { IfErr result (λ r. IsTrue (ends_any r)) }
+    ensures memory { IfErr result (λ r. r ≢ NoMemory) }
+    ensures reads { OnlyReads S.Samples samples.old samples.new (reads_of result) }
+{
+    if own != VOID {
+        return Ok(false);
+    }
+    let point = point_at(samples.side(), corner, index);
+    is_void(samples, point)
 }
 
 // Whether the height of the point is void.

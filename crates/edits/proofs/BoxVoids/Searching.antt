@@ -1,20 +1,21 @@
--- Looking for a void point, point by point.
-use Rattle.edits.proofs.Prelude.{Bool, Ghosts, Mosaic, Ok, OnlyReads, Point, ap, ap₂, false, reads_nothing, reads_on, sym, ◌||◌, ◌∙◌, ◌≡◌}
+-- Looking for a void sample, one after another.
+use Rattle.edits.proofs.Prelude.{Ghosts, Mosaic, Ok, OnlyReads, arith, cases_eq, inl, inr, reads_nothing, reads_on, subst, sym, ℕ, ◌+◌, ◌<◌}
 
--- no point that was looked at passed the test
-pub record NoneYet {S : Type 0} (g : Ghosts S) (test : Mosaic → Point → Bool) (old now : S) : Type 0 where
+-- so much is said of each of the first numbers, by samples that were read
+pub record EachSoFar {S : Type 0} (g : Ghosts S) (P : Mosaic → ℕ → Type 0) (k : ℕ) (old now : S) : Type 0 where
   pub reads : OnlyReads {T = Unit {0}} g old now (Ok tt)
-  pub none : g.is_honest now → (p : Point) → test (g.mosaic old) p ≡ false
+  pub each : g.is_honest now → (i : ℕ) → i < k → P (g.mosaic old) i
 
-module _ {S : Type 0} (g : Ghosts S) where
-  pub none_start : ((s : S) → g.keeps s s) → (test : Mosaic → Point → Bool) → ((m : Mosaic) (p : Point) → test m p ≡ false) → (s : S) → NoneYet g test s s
-  none_start keeps_itself test none s = record { reads = reads_nothing g keeps_itself s tt; none = λ _. none (g.mosaic s) }
+module _ {S : Type 0} (g : Ghosts S) (P : Mosaic → ℕ → Type 0) where
+  pub each_start : ((s : S) → g.keeps s s) → (s : S) → EachSoFar g P 0 s s
+  each_start keeps_itself s = record { reads = reads_nothing g keeps_itself s tt; each = λ _ i below. absurd (omega (arith, below)) }
 
-  pub none_on : ((a b c : S) → g.keeps a b → g.keeps b c → g.keeps a c) → (first second both : Mosaic → Point → Bool) → ((m : Mosaic) (p : Point) → both m p ≡ (first m p || second m p)) →
-      (old mid now : S) → NoneYet g first old mid → OnlyReads {T = Unit {0}} g mid now (Ok tt) → (g.is_honest now → (p : Point) → second (g.mosaic mid) p ≡ false) → NoneYet g both old now
-  none_on keeps_on first second both joined old mid now so read none = record {
+  pub each_on : ((a b c : S) → g.keeps a b → g.keeps b c → g.keeps a c) → (k : ℕ) (old mid now : S) → EachSoFar g P k old mid → OnlyReads {T = Unit {0}} g mid now (Ok tt)
+      → (g.is_honest now → P (g.mosaic mid) k) → EachSoFar g P (k + 1) old now
+  each_on keeps_on k old mid now so read next = record {
     reads = reads_on g keeps_on old mid now tt (Ok tt) so.reads read;
-    none = λ honest p.
-        let was = read.honest honest in
-        joined (g.mosaic old) p ∙ ap₂ (λ (a b : Bool). a || b) (so.none was p) (ap (λ (m : Mosaic). second m p) (sym (so.reads.mosaic was)) ∙ none honest p);
+    each = λ honest i below. elim (cases_eq i k) [
+      | inl this ↦ subst (λ (j : ℕ). P (g.mosaic old) j) (sym this) (subst (λ (m : Mosaic). P m k) (so.reads.mosaic (read.honest honest)) (next honest))
+      | inr before ↦ so.each (read.honest honest) i (omega (arith, below, before))
+    ];
   }

@@ -1,46 +1,39 @@
 -- Which tiles have a void point in a box, tile by tile.
-use Rattle.edits.proofs.Prelude.{All, All-contains, All-push, Bool, Contains, Contains-get_or, Corner, Ghosts, Holds, IsMosaic, IsTile, List, Mosaic, NothingVoid, OnlyReads, Patch, Point, Tile, ℕ, ℤ, [], all_pairs_push, and_from, and_parts, ap, arith, both_ways, corners_of, effect, false, false_from_ne_true, false≢true, get_or, has_void, has_void_from, holds, index_of, inl, inr, is_box, is_height, is_in_box, is_listed, is_void_at, length, length-append, list_any-append, patched, point_of, pos, refl, same_corner, same_from, same_says, subst, sym, true, ◌&&◌, ◌++◌, ◌<◌, ◌||◌, ◌∙◌, ◌∷◌, ◌≡◌, ◌≤◌, ◌⊎◌}
-use Rattle.std.specs.Prelude.{Ok, Err, IsFalse, not}
+use Rattle.edits.proofs.Prelude.{All, All-contains, All-push, AllPairs, Bool, Contains, Contains-get_or, Corner, Ghosts, Holds, IsMosaic, IsTile, List, Mosaic, NothingVoid, OnlyReads, Patch, Point, Tile, ℕ, ℤ, [], all_pairs_push, and_parts, ap, ap₂, arith, both_ways, corners_of, effect, false, false_from_ne_true, false≢true, get_or, has_void, has_void_from, inl, inr, is_box, is_height, is_in_box, is_listed, is_void_at, length, length-append, list_any-append, or_cases, or_left, or_right, patched, point_of, pos, refl, same_corner, same_from, same_says, sym, take, true, ◌&&◌, ◌++◌, ◌<◌, ◌||◌, ◌∙◌, ◌∷◌, ◌≡◌, ◌≤◌, ◌⊎◌}
+use Rattle.std.specs.Prelude.{Ok, Err, IsFalse}
 use Rattle.std.proofs.Math.Bool.{or-true, and-false, or-false}
-use Rattle.lattice.proofs.Samples.{holds_is, index_of_below, point_of_index, point_of_held}
-use Rattle.edits.specs.Boxes.{IsSomewhere}
+use Rattle.std.proofs.lemmas.List.{get_or-take, get_or_default, length-take-le}
+use Rattle.lattice.proofs.Samples.{point_of_held}
 use Rattle.edits.specs.Edits.{ArePresent, AreVoidTiles}
-use Rattle.edits.proofs.BoxVoids.TouchedTiles.{void_says, void_from, some_edge}
-use Rattle.edits.proofs.BoxVoids.Voids.{any_says, any_from, tile_at, is_void_within}
+use Rattle.edits.proofs.BoxVoids.TouchedTiles.{void_says, some_edge}
+use Rattle.edits.proofs.BoxVoids.Voids.{any_says, any_from, tile_at}
 
--- what is said of the points of the box that a tile holds is said of the tile
-module _ (m : Mosaic) (valid : IsMosaic m) (from to : Point) (corner : Corner) where
-  abbrev is_void_here : Point → Bool
-  is_void_here p = is_in_box from to p && (holds m.side corner p && is_void_at m p)
+-- ---- corners, none twice
 
-  pub tile_void : (b : Bool) → IsSomewhere is_void_here b → (t : Tile) → Contains m.tiles t → t.corner ≡ corner → b ≡ has_void_from m from to t.corner 0 t.samples
-  tile_void b somewhere t there same = by b somewhere
-    where
-      tile : IsTile m.side t
-      tile = All-contains (IsTile m.side) m.tiles t valid.tiles there
+abbrev pub AreOnce : List Corner → Type 0
+AreOnce corners = AllPairs (λ c d. IsFalse (same_corner c d)) corners
 
-      held_is : (p : Point) → holds m.side corner p ≡ holds m.side t.corner p
-      held_is p = ap (λ (c : Corner). holds m.side c p) (sym same)
+pub once_push : (corners : List Corner) (c : Corner) → AreOnce corners → is_listed c corners ≡ false → AreOnce (corners ++ c ∷ [])
+once_push corners c once fresh = all_pairs_push (λ d e. IsFalse (same_corner d e)) corners c once apart
+  where
+    apart : (k : ℕ) (d : Corner) → k < length corners → same_corner (get_or corners k d) c ≡ false
+    apart k d below = false_from_ne_true (same_corner (get_or corners k d) c) (λ same. both_ways (is_listed c corners) fresh (any_from (λ e. same_corner e c) corners (get_or corners k d) (Contains-get_or corners k d below) same))
 
-      by : (b : Bool) → IsSomewhere is_void_here b → b ≡ has_void_from m from to t.corner 0 t.samples
-      by true (p, found) =
-          let parts = and_parts (is_in_box from to p) (holds m.side corner p && is_void_at m p) found in
-          let inside = and_parts (holds m.side corner p) (is_void_at m p) parts.1 in
-          let held : Holds m.side t.corner p = (holds_is m.side t.corner p valid.side_low tile.corner).0 (sym (held_is p) ∙ inside.0) in
-          let void : is_void_within m from to p ≡ true = and_from (is_in_box from to p) (is_void_at m p) parts.0 inside.1 in
-          sym (void_from m valid from to t tile (index_of m.side t.corner p, (index_of_below m.side t.corner p held, ap (is_void_within m from to) (point_of_index m.side t.corner p held) ∙ void)))
-      by false none = sym (false_from_ne_true (has_void_from m from to t.corner 0 t.samples) (λ some.
-          let one = void_says m valid from to t tile some in
-          let p = point_of m.side t.corner one.0 in
-          let parts = and_parts (is_in_box from to p) (is_void_at m p) one.1.1 in
-          let held : Holds m.side t.corner p = point_of_held m.side t.corner one.0 (some_edge m.side valid.side_low) tile.corner one.1.0 in
-          let inside = held_is p ∙ (holds_is m.side t.corner p valid.side_low tile.corner).1 held in
-          both_ways (is_void_here p) (none p) (and_from (is_in_box from to p) (holds m.side corner p && is_void_at m p) parts.0 (and_from (holds m.side corner p) (is_void_at m p) inside parts.1))))
+-- the corner at a place isn't among those before it
+pub not_before : (corners : List Corner) (i : ℕ) (c : Corner) → AreOnce corners → i < length corners → c ≡ get_or corners i c → is_listed c (take i corners) ≡ false
+not_before corners i c once below here = false_from_ne_true (is_listed c (take i corners)) (λ some.
+    let found = any_says (λ d. same_corner d c) (take i corners) some in
+    let k = found.1.0.0 in
+    let before : k < i = let within = found.1.0.1 in let long = length-take-le i corners (omega arith) in omega (arith, within, long) in
+    let at : get_or corners k c ≡ found.0 = get_or_default corners k c found.0 (omega arith) ∙ sym (get_or-take i corners k found.0 before) ∙ found.1.0.2 in
+    both_ways (same_corner (get_or corners k c) (get_or corners i c)) (once k i c before below)
+    (ap₂ same_corner at (sym here) ∙ found.1.1))
 
 -- of these tiles, those that were looked at and have a void point in the box were found
 pub record FindsTiles {S : Type 0} (g : Ghosts S) (from to : Point) (looked : List Corner) (old now : S) (tiles : List Corner) : Type 0 where
   pub reads : OnlyReads {T = Unit {0}} g old now (Ok tt)
   pub present : ArePresent (g.corners old) tiles
+  pub among : (c : Corner) → is_listed c tiles ≡ true → is_listed c looked ≡ true
   pub finds : g.is_honest now → (t : Tile) → Contains (g.mosaic old).tiles t → is_listed t.corner tiles ≡ (is_listed t.corner looked && has_void_from (g.mosaic old) from to t.corner 0 t.samples)
   pub few : length tiles ≤ length looked
 
@@ -54,46 +47,49 @@ module _ {S : Type 0} (g : Ghosts S) (from to : Point) where
     other_tile a true v false is no_ = is
     other_tile a false v false is no_ = is
 
-    -- it isn't present, or was found before, or has no void there
-    pub finds_skip : (g.is_honest now → (t : Tile) → Contains (g.mosaic old).tiles t → t.corner ≡ c → (is_listed c tiles ≡ true) ⊎ (has_void_from (g.mosaic old) from to t.corner 0 t.samples ≡ false)) →
+    among_more : (p : Corner) → is_listed p tiles ≡ true → is_listed p (looked ++ c ∷ []) ≡ true
+    among_more p named = listed_more looked p ∙ or_left (is_listed p looked) (same_corner c p) (so.among p named)
+
+    -- it isn't present, or has no void there
+    pub finds_skip : (g.is_honest now → (t : Tile) → Contains (g.mosaic old).tiles t → t.corner ≡ c → has_void_from (g.mosaic old) from to t.corner 0 t.samples ≡ false) →
         FindsTiles g from to (looked ++ c ∷ []) old now tiles
-    finds_skip why = record {
+    finds_skip none = record {
       reads = reads;
       present = so.present;
-      finds = λ honest t there. by t (same_corner c t.corner) refl (so.finds (still honest) t there) (why honest t there) ∙ ap (λ (b : Bool). b && has_void_from (g.mosaic old) from to t.corner 0 t.samples) (sym (listed_more looked t.corner));
+      among = among_more;
+      finds = λ honest t there. by t (same_corner c t.corner) refl (so.finds (still honest) t there) (none honest t there) ∙ ap (λ (b : Bool). b && has_void_from (g.mosaic old) from to t.corner 0 t.samples) (sym (listed_more looked t.corner));
       few = let more = length-append looked (c ∷ []) in omega (arith, so.few, more);
     }
       where
-        this : (a l v s : Bool) → a ≡ (l && v) → s ≡ true → (a ≡ true) ⊎ (v ≡ false) → a ≡ ((l || s) && v)
-        this a true v s is yes_ known = is
-        this a false v true is yes_ (inl found) = let contrary : false ≡ true = sym is ∙ found in cc
-        this a false v true is yes_ (inr none) = is ∙ sym none
-        this a false v false is yes_ known = cc
+        this : (a l v s : Bool) → a ≡ (l && v) → v ≡ false → a ≡ ((l || s) && v)
+        this a l true s is no_ = absurd (false≢true (sym no_))
+        this a true false s is no_ = is
+        this a false false s is no_ = is ∙ sym (and-false s)
 
         by : (t : Tile) (b : Bool) → same_corner c t.corner ≡ b → is_listed t.corner tiles ≡ (is_listed t.corner looked && has_void_from (g.mosaic old) from to t.corner 0 t.samples)
-            → (t.corner ≡ c → (is_listed c tiles ≡ true) ⊎ (has_void_from (g.mosaic old) from to t.corner 0 t.samples ≡ false))
+            → (t.corner ≡ c → has_void_from (g.mosaic old) from to t.corner 0 t.samples ≡ false)
             → is_listed t.corner tiles ≡ ((is_listed t.corner looked || same_corner c t.corner) && has_void_from (g.mosaic old) from to t.corner 0 t.samples)
         by t true same is known =
-            let at : t.corner ≡ c = sym (same_says c t.corner same) in
-            this (is_listed t.corner tiles) (is_listed t.corner looked) (has_void_from (g.mosaic old) from to t.corner 0 t.samples) (same_corner c t.corner) is same
-            (subst (λ (d : Corner). (is_listed d tiles ≡ true) ⊎ (has_void_from (g.mosaic old) from to t.corner 0 t.samples ≡ false)) (sym at) (known at))
+            this (is_listed t.corner tiles) (is_listed t.corner looked) (has_void_from (g.mosaic old) from to t.corner 0 t.samples) (same_corner c t.corner) is (known (sym (same_says c t.corner same)))
         by t false apart is known = other_tile (is_listed t.corner tiles) (is_listed t.corner looked) (has_void_from (g.mosaic old) from to t.corner 0 t.samples) (same_corner c t.corner) is apart
 
     -- it is found
-    pub finds_put : Contains (g.corners old) c → is_listed c tiles ≡ false → (g.is_honest now → (t : Tile) → Contains (g.mosaic old).tiles t → t.corner ≡ c → has_void_from (g.mosaic old) from to t.corner 0 t.samples ≡ true) →
+    pub finds_put : Contains (g.corners old) c → is_listed c looked ≡ false → (g.is_honest now → (t : Tile) → Contains (g.mosaic old).tiles t → t.corner ≡ c → has_void_from (g.mosaic old) from to t.corner 0 t.samples ≡ true) →
         FindsTiles g from to (looked ++ c ∷ []) old now (tiles ++ c ∷ [])
     finds_put there fresh void = record {
       reads = reads;
       present = record {
         present = All-push (Contains (g.corners old)) tiles c so.present.present there;
-        once = all_pairs_push (λ d e. IsFalse (same_corner d e)) tiles c so.present.once (λ k d below. apart k d below);
+        once = once_push tiles c so.present.once (false_from_ne_true (is_listed c tiles) (λ named. both_ways (is_listed c looked) fresh (so.among c named)));
       };
+      among = λ p named. among_put p (or_cases (is_listed p tiles) (same_corner c p) (sym (listed_more tiles p) ∙ named));
       finds = λ honest t is_there. listed_more tiles t.corner ∙ by t (same_corner c t.corner) refl (so.finds (still honest) t is_there) (void honest t is_there) ∙ ap (λ (b : Bool). b && has_void_from (g.mosaic old) from to t.corner 0 t.samples) (sym (listed_more looked t.corner));
       few = let more = length-append looked (c ∷ []) in let put = length-append tiles (c ∷ []) in omega (arith, so.few, more, put);
     }
       where
-        apart : (k : ℕ) (d : Corner) → k < length tiles → same_corner (get_or tiles k d) c ≡ false
-        apart k d below = false_from_ne_true (same_corner (get_or tiles k d) c) (λ same. both_ways (is_listed c tiles) fresh (any_from (λ e. same_corner e c) tiles (get_or tiles k d) (Contains-get_or tiles k d below) same))
+        among_put : (p : Corner) → (is_listed p tiles ≡ true) ⊎ (same_corner c p ≡ true) → is_listed p (looked ++ c ∷ []) ≡ true
+        among_put p (inl before) = among_more p before
+        among_put p (inr this) = listed_more looked p ∙ or_right (is_listed p looked) (same_corner c p) this
 
         this : (a l v s : Bool) → s ≡ true → v ≡ true → (a || s) ≡ ((l || s) && v)
         this a l true true is void = or-true a ∙ sym (ap (λ (b : Bool). b && true) (or-true l))
@@ -160,12 +156,3 @@ module _ (m : Mosaic) (from to : Point) (tiles : List Corner) (voids : AreVoidTi
 
   pub patch_none : (capacity : ℕ) (h : ℤ) → is_height h ≡ true → is_box m.side from to ≡ true → length tiles ≡ 0 → effect capacity m (Patch from to h) ≡ Err NothingVoid
   patch_none capacity h in_range box_ none = rw (in_range, box_, no_tile none) refl
-
--- what the tests of a tile say
-pub test_true : (a b : Bool) → a ≡ not b → a ≡ true → b ≡ false
-test_true a true is yes_ = cc
-test_true a false is yes_ = refl
-
-pub test_false : (a b : Bool) → a ≡ not b → a ≡ false → b ≡ true
-test_false a true is no_ = refl
-test_false a false is no_ = cc

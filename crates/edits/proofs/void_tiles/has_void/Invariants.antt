@@ -1,6 +1,8 @@
-use Rattle.edits.proofs.Prelude.{holds, is_among, is_void_at, ◌&&◌}
-use Rattle.edits.proofs.BoxVoids.Searching.{NoneYet}
+use Rattle.edits.proofs.Prelude.{false, ◌*◌, ◌+◌}
+use Rattle.std.specs.Prelude.{◌-◌}
+use Rattle.edits.specs.TileRows.{HasVoid}
+use Rattle.edits.proofs.BoxVoids.Searching.{EachSoFar}
 use Rattle.edits.proofs.void_tiles.has_void.Given as goal
 
-abbrev pub invariant-loop-k : goal.invariant-loop-k
-invariant-loop-k g l = NoneYet g.S.Samples (λ m p. is_among l.fn.from l.fn.to l.points.columns l.k p && (holds (g.S.Samples.side_of l.fn.samples) l.corner p && is_void_at m p)) l.fn.samples l.samples
+abbrev pub invariant-loop-row : goal.invariant-loop-row
+invariant-loop-row g l = EachSoFar g.S.Samples (λ m i. HasVoid m l.corner ((l.side - 1 - l.rows.first - i) * l.side + l.columns.first) l.columns.count false) l.row l.fn.samples l.samples

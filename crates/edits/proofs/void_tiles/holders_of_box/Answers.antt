@@ -4,8 +4,8 @@ use mir.Val.{SFits}
 use Rattle.edits.proofs.BoxVoids.Overlapping.{some_corner, held_as}
 use Rattle.edits.proofs.void_tiles.holders_of_box.Goals as goal
 
-pub returns : goal.returns
-returns c = λ corner p within held.
+pub returns-clause-all : goal.returns-clause-all
+returns-clause-all c = λ corner p within held.
     let n = c.args.side in
     let from = c.args.from in
     let to = c.args.to in
