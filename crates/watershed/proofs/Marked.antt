@@ -1,7 +1,7 @@
 -- The points that are marked: each by its rank, as segments are added and bits are set.
 use Rattle.std.proofs.Common.{rules}
-use Rattle.std.proofs.Common.{◌≡◌, ◌≢◌, ℕ, zero, suc, ◌+◌, ◌*◌, ◌^◌, ◌/◌, ◌%◌, ◌<◌, ◌≤◌, pos, ◌⊎◌, ◌↔◌, inl, inr, ⊎_elim, Option, Some, None, List, [], ◌∷◌, ◌++◌, length, get_or, replicate, refl, sym, ap, ◌∙◌, subst, arith, true, true≢false, length-append}
-use Rattle.watershed.proofs.Prelude.{AreRuns, Cover, IsBefore, IsInSegment, IsIndexed, IsMarked, IsRank, Marks, Point, Run, bit_at, cases_Bool, cases_eq, cond-false, get_or-append_seam, ints, is_at, none-some, place_of, same_place, word_in, word_of}
+use Rattle.std.proofs.Common.{◌≡◌, ◌≢◌, ℕ, zero, suc, ◌+◌, ◌*◌, ◌^◌, ◌/◌, ◌%◌, ◌<◌, ◌≤◌, ◌⊎◌, ◌↔◌, inl, inr, ⊎_elim, Option, Some, None, List, [], ◌∷◌, ◌++◌, length, get_or, replicate, refl, sym, ap, ◌∙◌, subst, arith, true, true≢false, length-append}
+use Rattle.watershed.proofs.Prelude.{AreRuns, Cover, IsBefore, IsInSegment, IsInWord, IsIndexed, IsMarked, IsRank, Marks, Point, Run, bit_at, cases_Bool, cases_eq, cond-false, get_or-append_seam, ints, is_at, none-some, place_of, same_place, word_in, word_of}
 use Rattle.std.specs.Map.{lookup, keys_of}
 use Rattle.std.specs.List.Sorted.{IsStrictlySortedBy}
 use Rattle.std.specs.Ordering.{nat_cmp, is_eq}
@@ -154,13 +154,50 @@ module _ (old new : Marks) (number : ℕ) (indexed : IsIndexed old) (absent : pl
 pub own_runs : (inside : Point → Type 0) (runs : List Run) → AreRuns inside runs → AreRuns (Cover runs) runs
 own_runs inside runs are = record { covers = λ q. ((λ has. has), (λ has. has)); full = are.full; in_order = are.in_order }
 
--- the first points of a segment, as one more is told
-module _ (words : List ℕ) (number place i : ℕ) (small : i < 4096) where
-  pub told_before : (q : Point) → IsInSegment words number place i q → (n : ℕ) × (IsRank q n × (n < number * 4096 + i))
-  told_before q has = (has.rank, (has.is, (let same = has.segment in let low = has.low in omega arith)))
+-- the first words of a segment, as one more is added
+module _ (words : List ℕ) (number place i : ℕ) (small : i < 64) where
+  pub segment_before : (q : Point) → IsInSegment words number place (i * 64) q → (n : ℕ) × (IsRank q n × (n < number * 4096 + i * 64))
+  segment_before q has = (has.rank, (has.is, (let same = has.segment in let low = has.low in omega arith)))
 
-  pub told_more : (q : Point) → IsInSegment words number place (i + 1) q ↔ (IsInSegment words number place i q ⊎ ((bit_at (get_or words (place * 64 + i / 64) 0) (i % 64) ≡ 1) × IsRank q (number * 4096 + i)))
-  told_more q = search rules
+  pub segment_more : (q : Point) → IsInSegment words number place ((i + 1) * 64) q ↔ (IsInSegment words number place (i * 64) q ⊎ IsInWord (get_or words (place * 64 + i) 0) (number * 4096 + i * 64) 64 q)
+  segment_more q = (
+    (λ has. elim (cases_eq (has.rank / 64 % 64) i) [
+      | inl this ↦ inr (record {
+        bit = has.rank % 64;
+        is = subst (IsRank q) (let same = has.segment in omega arith) has.is;
+        low = omega arith;
+        set = ap (λ k. bit_at (get_or words (place * 64 + k) 0) (has.rank % 64)) (sym this) ∙ has.set;
+      })
+      | inr other ↦ inl (record { rank = has.rank; is = has.is; segment = has.segment; low = (let low = has.low in omega arith); set = has.set })
+    ]),
+    (λ has. ⊎_elim
+        (λ before. record { rank = before.rank; is = before.is; segment = before.segment; low = (let low = before.low in omega arith); set = before.set })
+        (λ new. let low = new.low in let rank = number * 4096 + i * 64 + new.bit in let bit : rank % 64 ≡ new.bit = omega arith in let word : rank / 64 % 64 ≡ i = omega arith in record {
+          rank = rank;
+          is = new.is;
+          segment = omega arith;
+          low = omega arith;
+          set = ap (λ k. bit_at (get_or words (place * 64 + k) 0) (rank % 64)) word ∙ ap (bit_at (get_or words (place * 64 + i) 0)) bit ∙ new.set;
+        })
+        has),
+  )
+
+-- the first points of a word, as one more is added
+module _ (bits first i : ℕ) where
+  pub word_before : (q : Point) → IsInWord bits first i q → (n : ℕ) × (IsRank q n × (n < first + i))
+  word_before q has = (first + has.bit, (has.is, (let low = has.low in omega arith)))
+
+  pub word_more : (q : Point) → IsInWord bits first (i + 1) q ↔ (IsInWord bits first i q ⊎ ((bit_at bits i ≡ 1) × IsRank q (first + i)))
+  word_more q = (
+    (λ has. elim (cases_eq has.bit i) [
+      | inl this ↦ inr (subst (λ k. bit_at bits k ≡ 1) this has.set, subst (λ k. IsRank q (first + k)) this has.is)
+      | inr other ↦ inl (record { bit = has.bit; is = has.is; low = (let low = has.low in omega arith); set = has.set })
+    ]),
+    (λ has. ⊎_elim
+        (λ before. record { bit = before.bit; is = before.is; low = (let low = before.low in omega arith); set = before.set })
+        (λ new. record { bit = i; is = new.1; low = omega arith; set = new.0 })
+        has),
+  )
 
 -- the marked points of the segments before this one
 pub record IsMarkedBelow (marks : Marks) (bound : ℕ) (p : Point) : Type 0 where

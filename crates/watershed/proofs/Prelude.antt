@@ -37,7 +37,7 @@ pub use Rattle.std.specs.Prelude.{Contains, MatchOption, int_lt}
 pub use Rattle.watershed.specs.Counting.{AreCounted, AreStillCounted, IsCounted, IsThrough, IsTour}
 pub use Rattle.watershed.specs.Counts.{IsCountOf}
 pub use Rattle.watershed.specs.FlowSource.{IsToldOf}
-pub use Rattle.watershed.specs.Marks.{IsInSegment, IsIndexed, IsMarked, IsRank, place_of, word_in, word_of}
+pub use Rattle.watershed.specs.Marks.{IsInSegment, IsInWord, IsIndexed, IsMarked, IsRank, place_of, word_in, word_of}
 pub use Rattle.watershed.specs.Runs.{AreRuns, Cover, IsAfter, IsBefore, IsInRun}
 pub use Rattle.watershed.specs.declared.counting.Branch.{Branch}
 pub use Rattle.watershed.specs.declared.marks.Marks.{Marks}

@@ -1,6 +1,6 @@
 -- The search up the flow paths: what is found after each step, and that in the end it is the watershed.
 use Rattle.std.proofs.Common.{rules}
-use Rattle.watershed.proofs.Prelude.{AreRuns, Contains-append_left, Contains-push, Contains-push_cases, FlowsTo, IsDonor, IsFalse, IsInWatershed, IsLawful, IsTrue, List, Point, Run, Terrain, ℕ, ℤ, [], ap, arith, cases_Bool, drains_to_ground, inl, inr, refl, step, subst, suc, sym, true≢false, zero, ⊎_elim, ◌++◌, ◌↔◌, ◌∙◌, ◌∷◌, ◌≡◌, ◌⊎◌}
+use Rattle.watershed.proofs.Prelude.{AreRuns, Contains-append_left, Contains-push, Contains-push_cases, FlowsTo, IsDonor, IsFalse, IsInWatershed, IsLawful, IsTrue, List, Point, Run, Terrain, ℕ, ℤ, [], arith, drains_to_ground, inl, inr, refl, step, subst, suc, sym, true≢false, zero, ⊎_elim, ◌++◌, ◌↔◌, ◌∙◌, ◌∷◌, ◌≡◌, ◌⊎◌}
 use Rattle.std.specs.Prelude.{Contains, if◌then◌else◌}
 use Rattle.watershed.specs.Search.{LeadsTo, AreUpstream}
 use Rattle.watershed.proofs.Found.{empty_runs}

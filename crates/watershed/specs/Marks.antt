@@ -43,3 +43,10 @@ pub record IsInSegment (words : List ℕ) (number place count : ℕ) (p : Point)
   pub segment : rank / 4096 ≡ number
   pub low : rank % 4096 < count
   pub set : bit_at (slice_index_or words (place * 64 + rank / 64 % 64) 0) (rank % 64) ≡ 1
+
+-- it is one of so many points from a rank on, and its bit is set in the word
+pub record IsInWord (bits first count : ℕ) (p : Point) : Type 0 where
+  pub bit : ℕ
+  pub is : IsRank p (first + bit)
+  pub low : bit < count
+  pub set : bit_at bits bit ≡ 1

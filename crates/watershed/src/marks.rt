@@ -2,7 +2,7 @@
 ghost use Rattle.std.specs.Prelude.{◌≡◌, ◌≢◌, ◌↔◌, ◌⊎◌, ◌<◌, ◌≤◌, ◌+◌, ◌*◌, ◌/◌, ◌%◌, ◌^◌, ℕ, Some, IsTrue, IsFalse, IfOk, IfSome, OnOk, length, slice_index_or};
 ghost use Rattle.std.specs.Int.{bit_at};
 ghost use Rattle.lattice.specs.declared.point.Point.{Point};
-ghost use Rattle.watershed.specs.Marks.{IsRank, IsMarked, IsIndexed, IsInSegment, place_of, word_of};
+ghost use Rattle.watershed.specs.Marks.{IsRank, IsMarked, IsIndexed, IsInSegment, IsInWord, place_of, word_of};
 ghost use Rattle.watershed.specs.Runs.{AreRuns, Cover};
 
 use crate::runs::{Run, add_point};
@@ -138,9 +138,26 @@ fn add_segment(
         → (n : ℕ) × (IsRank q n × (n < number * 4096)) }
     ensures { OnOk result (AreRuns (λ q. Cover runs.old.items q ⊎ IsInSegment words.now number place 4096 q) runs.new.items) }
 {
-    for i in 0..SEGMENT {
-        let bits = word_at(words, place * WORDS + (i / 64) as usize);
-        add_bit(runs, bits, (i % 64) as u32, number * SEGMENT + i)?;
+    for i in 0..WORDS {
+        let bits = word_at(words, place * WORDS + i);
+        add_word(runs, bits, number * SEGMENT + i as u64 * 64)?;
+    }
+    Ok(())
+}
+
+// Adds the points whose bits are set in a word, of which the lowest is that of the point with the rank `first`.
+fn add_word(runs: &mut Vec<Run>, bits: u64, first: u64) -> Result<(), AllocError>
+    requires small { first + 64 ≤ 2 ^ 64 }
+    requires runs { AreRuns (Cover runs.old.items) runs.old.items }
+    requires past { (q : Point) → Cover runs.old.items q → (n : ℕ) × (IsRank q n × (n < first)) }
+    ensures { OnOk result (AreRuns (λ q. Cover runs.old.items q ⊎ IsInWord bits first 64 q) runs.new.items) }
+{
+    // A row of a river's watershed has points in one or two of its segment's words.
+    if bits == 0 {
+        return Ok(());
+    }
+    for bit in 0..64 {
+        add_bit(runs, bits, bit as u32, first + bit)?;
     }
     Ok(())
 }

@@ -1,5 +1,5 @@
 use Rattle.std.proofs.Common.{rules}
-use Rattle.watershed.proofs.Prelude.{AreToldBy, Bool, Dir, DrainsBack, East, IsTrue, List, arith, cases_eq, directions, false, get_or, get_or-set_other, get_or-set_same, inl, inr, length, length-set, order_at, order_below, order_of, same_order, set, subst, sym, terrain, ◌+◌, ◌↔◌, ◌∙◌, ◌≡◌}
+use Rattle.watershed.proofs.Prelude.{AreToldBy, Bool, Dir, DrainsBack, East, IsTrue, List, arith, directions, get_or, get_or-set_other, get_or-set_same, length, length-set, order_at, order_below, order_of, same_order, set, subst, sym, terrain, ◌+◌, ◌↔◌, ◌∙◌, ◌≡◌}
 use Rattle.watershed.proofs.donors.donors.Goals as goal
 
 -- one more direction is told

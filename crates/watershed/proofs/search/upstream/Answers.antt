@@ -1,5 +1,5 @@
 use Rattle.std.proofs.Common.{rules}
-use Rattle.watershed.proofs.Prelude.{Contains, IsMarked, MatchOption, Option, Point, [], ap, arith, inl, inr, nil_from_length, option_to_list, subst, sym, terrain, vec_len, ⊎_elim, ◌++◌, ◌+◌, ◌∙◌, ◌∷◌, ◌≡◌}
+use Rattle.watershed.proofs.Prelude.{Contains, IsMarked, Option, Point, [], ap, inl, inr, nil_from_length, option_to_list, subst, sym, terrain, vec_len, ⊎_elim, ◌++◌, ◌∙◌, ◌∷◌, ◌≡◌}
 use Rattle.watershed.proofs.Upstream.{IsSearching, begun, search_on, search_done}
 use Rattle.watershed.proofs.search.upstream.Goals as goal
 

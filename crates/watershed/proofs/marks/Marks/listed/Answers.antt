@@ -1,5 +1,5 @@
 use Rattle.std.proofs.Common.{rules}
-use Rattle.watershed.proofs.Prelude.{Some, ℕ, ap, cases_Bool, false, inl, inr, is_at, nat_cmp, sym, ◌∙◌, ◌≡◌, ◌≢◌}
+use Rattle.watershed.proofs.Prelude.{Some, ℕ, ap, cases_Bool, false, is_at, nat_cmp, sym, ◌∙◌, ◌≡◌, ◌≢◌}
 use Rattle.std.specs.Option.{option_copied}
 use Rattle.watershed.proofs.Marked.{found_at, words_stay, indexed_more}
 use Rattle.watershed.proofs.marks.Marks.listed.Goals as goal
