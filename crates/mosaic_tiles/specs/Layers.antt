@@ -1,5 +1,5 @@
 -- What is written of a tile, and of which tiles (this product's own profile).
-use Rattle.std.specs.Prelude.{◌≡◌, ◌⊎◌, ℕ, ℤ, ◌<◌, List, [], ◌∷◌, ◌++◌, All, Any, String, Result, Ok, Err, codes, length, map, string_bytes}
+use Rattle.std.specs.Prelude.{◌≡◌, ◌≢◌, ◌⊎◌, ℕ, ℤ, ◌<◌, List, [], ◌∷◌, ◌++◌, All, Any, String, Result, Ok, Err, codes, length, map, string_bytes}
 use Rattle.std.specs.Global.{Global, Vec}
 use Rattle.std.specs.List.{AllZip}
 use Rattle.lattice.specs.Corners.{Corner}
@@ -43,6 +43,10 @@ each_tile = codes "all"
 -- each is the name of the corner in its place
 abbrev pub AreNames : List (List ℕ) → List Corner → Type 0
 AreNames names corners = AllZip IsName names corners
+
+-- so many tiles are asked for, where they are named
+abbrev pub IsCountAsked : List (List ℕ) → ℕ → Type 0
+IsCountAsked names count = names ≢ each_tile ∷ [] → count ≡ length names
 
 -- .. or why these give none: want of memory, or one of them is no tile's name
 abbrev pub RefusesNames : List (String Global) → Refusal → Type 0

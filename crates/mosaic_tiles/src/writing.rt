@@ -1,12 +1,13 @@
 //! Levels, directions and upstream counts of tiles, as files.
-ghost use Rattle.std.specs.Prelude.{ℕ, Result};
+ghost use Rattle.std.specs.Prelude.{ℕ, Result, IfOk, map, string_bytes};
 ghost use Rattle.mosaic_tiles.specs.Endings.{EndsWriting};
+ghost use Rattle.mosaic_tiles.specs.Layers.{IsCountAsked};
 
 use crate::layers::{Layer, Writing, corners_of, layer_bytes};
 use disk::FileDisk;
 use hgt::name_text;
 use lattice::{Corner, Refusal};
-use server::{MakeFault, Output, end_command, end_with, refuse, tell_fault};
+use server::{MakeFault, Output, ServeFault, end_command, end_fault, refuse, tell_fault};
 use std::alloc::Global;
 use std::fs::{self, File};
 use std::io::Write;
@@ -23,11 +24,18 @@ pub enum Fault {
     Output,
 }
 
+impl From<Refusal> for Fault {
+    fn from(refusal: Refusal) -> Fault {
+        Fault::Refused(refusal)
+    }
+}
+
 /// Writes what was asked for, and answers the exit status. It tells how many files it wrote; on standard error it tells each
 /// as it is done. No file that is there is written over.
 pub fn write_tiles<O: Output>(rt: &HostRuntime, asked: &Writing<'_>, writer: &mut O) -> u8
     ensures { (written : Result ℕ Fault)
-        × EndsWriting written (O.stream writer.old) (O.stream writer.new) result }
+        × (IfOk written (IsCountAsked (map string_bytes asked.now.names.now))
+        × EndsWriting written (O.stream writer.old) (O.stream writer.new) result) }
 {
     let written = write_all(rt, asked);
     end_writing(rt.alloc(), written, writer)
@@ -41,11 +49,14 @@ fn end_writing<O: Output>(alloc: Global, written: Result<u64, Fault>, writer: &m
         Ok(count) => end_command(writer, Ok(count)),
         Err(Fault::Refused(refusal)) => refuse(writer, refusal),
         Err(Fault::Path(path)) => tell_fault(alloc, path.as_str(), MakeFault::Closed, writer),
-        Err(Fault::Output) => end_with(writer, b"mosaic: output fault\n", 1),
+        Err(Fault::Output) => end_fault(writer, ServeFault::Output),
     }
 }
 
-fn write_all(rt: &HostRuntime, asked: &Writing<'_>) -> Result<u64, Fault> {
+/// Makes the files, and answers how many.
+fn write_all(rt: &HostRuntime, asked: &Writing<'_>) -> Result<u64, Fault>
+    ensures { IfOk result (IsCountAsked (map string_bytes asked.now.names.now)) }
+{
     let Ok(disk) = FileDisk::<Brand>::open(rt, asked.path) else {
         return Err(named(rt, asked.path));
     };
@@ -53,14 +64,13 @@ fn write_all(rt: &HostRuntime, asked: &Writing<'_>) -> Result<u64, Fault> {
         Ok(store) => store,
         Err(refused) => return Err(Fault::Refused(refused.refusal)),
     };
-    let corners = corners_of(rt.alloc(), &store, asked.names).map_err(Fault::Refused)?;
-    let mut count: u64 = 0;
-    for corner in &corners {
-        write_tile(rt, &mut store, asked, *corner)?;
-        count = count.saturating_add(1);
-        let _ = eprintln!(rt; "{} {count} of {}", name_text(*corner), corners.len());
+    let corners = corners_of(rt.alloc(), &store, asked.names)?;
+    let count = corners.len();
+    for i in 0..count {
+        write_tile(rt, &mut store, asked, corners[i])?;
+        let _ = eprintln!(rt; "{} {} of {count}", name_text(corners[i]), i + 1);
     }
-    Ok(count)
+    Ok(count as u64)
 }
 
 /// Makes one file.
@@ -70,7 +80,7 @@ fn write_tile(
     asked: &Writing<'_>,
     corner: Corner,
 ) -> Result<(), Fault> {
-    let bytes = layer_bytes(rt.alloc(), store, asked.layer, corner).map_err(Fault::Refused)?;
+    let bytes = layer_bytes(rt.alloc(), store, asked.layer, corner)?;
     let ending = match asked.layer {
         Layer::Levels => "hgt",
         Layer::Directions => "dir",

@@ -9,7 +9,7 @@ abbrev failure : ServeFault → Result (Unit {0}) ServeFault
 failure fault = Err fault
 
 -- a stream has failed, and a line was put that tells which
-pub ends_failed : (fault : ServeFault) (old new : Stream) (line : List ℕ) (status : ℕ) → status ≡ 1 → line ≡ fault_line fault → Puts old new line
+pub ends_failed : (fault : ServeFault) (old new : Stream) (status : ℕ) → status ≡ 1 → Puts old new (fault_line fault)
     → (failure fault ≡ failure Output → HasFailed old) → EndsSession (Err fault) old new status
-ends_failed Input old new line status is same puts caused = (subst (Puts old new) same puts, is)
-ends_failed Output old new line status is same puts caused = (caused refl, subst (Puts old new) same puts, is)
+ends_failed Input old new status is puts caused = (puts, is)
+ends_failed Output old new status is puts caused = (caused refl, puts, is)

@@ -10,11 +10,13 @@ use lines::Text;
 use serving::{Output, ServeFault};
 use std::alloc::{AllocError, Global};
 
-/// The exit statuses: done; refused, or a stream failed; other words than the program takes.
+/// The exit status where all was done.
 const DONE: u8 = 0;
 
+/// The exit status after a refusal, or where a stream failed.
 pub const REFUSED: u8 = 1;
 
+/// The exit status where the words aren't those that the program takes.
 pub const BAD_WORDS: u8 = 2;
 
 /// Ends a session, and answers the exit status.
@@ -24,7 +26,7 @@ pub(crate) fn end_session<O: Output>(writer: &mut O, served: Result<(), ServeFau
 {
     match served {
         Ok(()) => reply_text(writer, b""),
-        Err(fault) => end_with(writer, fault_line(fault), REFUSED),
+        Err(fault) => end_fault(writer, fault),
     }
 }
 
@@ -80,13 +82,13 @@ fn end_writing<O: Output>(writer: &mut O) -> u8
         → EndsReplying text was (O.stream writer.new) result }
 {
     if writer.has_failed() {
-        return end_with(writer, fault_line(ServeFault::Output), REFUSED);
+        return end_fault(writer, ServeFault::Output);
     }
     DONE
 }
 
 /// The line that tells which stream failed.
-pub(crate) fn fault_line(fault: ServeFault) -> &'static [u8]
+fn fault_line(fault: ServeFault) -> &'static [u8]
     ensures { result.now ≡ fault_line fault }
 {
     match fault {
@@ -103,8 +105,16 @@ pub fn refuse<O: Output>(writer: &mut O, refusal: Refusal) -> u8
     REFUSED
 }
 
+/// Tells which stream failed, and answers the exit status.
+pub fn end_fault<O: Output>(writer: &mut O, fault: ServeFault) -> u8
+    ensures status { result ≡ 1 }
+    ensures line { Puts (O.stream writer.old) (O.stream writer.new) (fault_line fault) }
+{
+    end_with(writer, fault_line(fault), REFUSED)
+}
+
 /// Ends with a line of the program's own.
-pub fn end_with<O: Output>(writer: &mut O, line: &[u8], status: u8) -> u8
+pub(crate) fn end_with<O: Output>(writer: &mut O, line: &[u8], status: u8) -> u8
     ensures status { result ≡ status }
     ensures line { Puts (O.stream writer.old) (O.stream writer.new) line.now }
 {

@@ -10,4 +10,4 @@ returns-in-Err-Path g c =
     rw (c.in-Err-Path.is, c.in-Err-Path.field-0-is) told
 
 pub returns-in-Err-Output : goal.returns-in-Err-Output
-returns-in-Err-Output g c = rw (c.in-Err-Output.is, c.in-Err-Output.field-0-is) (c.end_with.ensures.line, c.end_with.ensures.status)
+returns-in-Err-Output g c = rw (c.in-Err-Output.is, c.in-Err-Output.field-0-is) (c.end_fault.ensures.line, c.end_fault.ensures.status)

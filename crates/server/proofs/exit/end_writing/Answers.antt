@@ -1,13 +1,13 @@
-use Rattle.std.proofs.Common.{inl, inr, refl, subst}
+use Rattle.std.proofs.Common.{inl, inr, refl}
 use Rattle.std.proofs.lemmas.Bool.{both_ways}
-use Rattle.serving.specs.Outputs.{HasFailed, Puts}
+use Rattle.serving.specs.Outputs.{HasFailed}
 use Rattle.serving.proofs.OutputLemmas.{none_failed, put_whole}
 use Rattle.server.proofs.exit.end_writing.Goals as goal
 
 pub returns-then-has_failed : goal.returns-then-has_failed
 returns-then-has_failed g c was text put =
     let mid = g.O.Output.stream c.args.writer.now in
-    inr (mid, put, c.has_failed.ensures.0 c.if-has_failed.true, subst (Puts mid (g.O.Output.stream c.end_with.new.writer)) c.fault_line.ensures c.end_with.ensures.line, c.end_with.ensures.status)
+    inr (mid, put, c.has_failed.ensures.0 c.if-has_failed.true, c.end_fault.ensures.line, c.end_fault.ensures.status)
 
 pub returns : goal.returns
 returns g c was text put =
