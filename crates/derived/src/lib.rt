@@ -4,7 +4,7 @@
 //! is so after a step, whatever the step answers and whenever it is stopped; and a present tile that isn't stale keeps one.
 //!
 //! ```
-//! let stepped = step(alloc, &mut tree, None, None)?;     // floods the least stale tile, and keeps that; None where none is
+//! let stepped = step(alloc, &mut tree, None, None)?;     // floods a stale tile, and keeps that; None where none is
 //! let fresh = !stale(&tree, corner);
 //! ```
 #![tactic(auto)]

@@ -23,8 +23,8 @@ use std::alloc::Global;
 use tile_flood::Labelled;
 use tile_labellings::{KeptPlanes, kept_planes, planes_of};
 
-/// Keeps levels and labels of the first stale tile and names it, or answers none where no tile is stale. Where a labelling is
-/// given, which is of the tile at `at`, and that is the first stale tile, they are those of the labelling; else the tile is
+/// Keeps levels and labels of a stale tile and names it, or answers none where no tile is stale. Where a labelling is
+/// given, which is of the tile at `at`, and that tile is the one, they are those of the labelling; else it is
 /// flooded. A step is a commit at the same count of commands. What was staged before is given up.
 ///
 /// Refused with Failed, with Worn where the commit number can't grow, or for the disk or for memory, which is had before

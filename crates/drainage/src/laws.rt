@@ -11,8 +11,9 @@ pub fn level_functions_exist()
 
 /// At any time no more than 512 MiB are held, at any side: four bytes a sample for the labelling of a tile, and two more with
 /// its block; a byte a sample that tells where its point drains; twelve at most for each rim point and each spill of a tile's
-/// graph; four for the level of a rim point. The labellings are all of tiles with the mosaic's side. Not among them is the room
-/// for marks in which flats are resolved: two bits a sample of the tiles whose directions are held, once a flat was met.
+/// graph; four for the level of a rim point. The labellings are all of tiles with the mosaic's side. Not among them are
+/// the spills beside a held block, some 90 KB at 1201 samples; the ranges of levels of a tile whose directions are held, some 30
+/// KB; and the room for marks in which flats are resolved, two bits a sample of these tiles, once a flat was met.
 pub fn what_is_held_is_bounded()
     ensures { (held : DrainageCache) → HoldsFew held }
 {}

@@ -22,7 +22,7 @@ use lattice::{Corner, Refusal};
 use std::alloc::Global;
 
 impl<D: Disk> Store<D> {
-    /// Keeps the levels and labels of the first stale tile and names it, or answers none where no tile is stale. Where a
+    /// Keeps the levels and labels of a stale tile and names it, or answers none where no tile is stale. Where a
     /// question left the tile's labelling held, that is kept; else the tile is flooded. A step is a commit, and no command.
     /// Refused with Failed, with Worn where the commit number can't grow, or for the disk or for memory, which is had before
     /// the first write. A stop at any moment leaves the store as it was, or with those planes.
@@ -41,7 +41,7 @@ impl<D: Disk> Store<D> {
     }
 }
 
-// Keeps the levels and labels of the first stale tile, those of what is held where it is held.
+// Keeps the levels and labels of a stale tile, those of what is held where it is held.
 fn step_tree<D: Disk>(
     alloc: Global,
     tree: &mut Tree<D>,

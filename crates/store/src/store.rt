@@ -103,7 +103,7 @@ impl<D: Disk> Store<D> {
     }
 
     /// Opens the disk again, as after a fault: all that was held in memory is forgotten. It comes to the contents that were
-    /// last known, or to those of the commit in doubt. Where it is refused, what was last known stays, and the store has
+    /// last known, or to those of the commit in doubt. Refused as `open` is: what was last known stays then, and the store has
     /// failed.
     pub fn reopen(&mut self) -> Result<(), Refusal>
         ensures call { IsCall (members D.Disk) self.old ask.Reopen (answered (λ u. reply.Reopened) result) self.new }
