@@ -1,10 +1,13 @@
 """What the measurements have in common: the tools, conversations with the program, and stores of tiles."""
 
+import atexit
 import importlib.machinery
 import importlib.util
 import pathlib
+import shutil
 import subprocess
 import sys
+import tempfile
 import time
 
 BENCH = pathlib.Path(__file__).resolve().parent
@@ -19,6 +22,15 @@ def loaded(name):
     module = importlib.util.module_from_spec(importlib.util.spec_from_loader(name, loader))
     loader.exec_module(module)
     return module
+
+
+def folder_for(keep):
+    """The folder that --keep names, or one that is taken away at the end, also of a run that fails."""
+    folder = pathlib.Path(keep or tempfile.mkdtemp(prefix="bench-")).resolve()
+    folder.mkdir(parents=True, exist_ok=True)
+    if not keep:
+        atexit.register(shutil.rmtree, folder, ignore_errors=True)
+    return folder
 
 
 def build(folder):

@@ -190,8 +190,9 @@ class Calls:
 
     def run_with(self, words, given, added):
         """Runs the words with these in the environment: the status and the output."""
-        environment = {**os.environ, "LD_PRELOAD": str(self.library), **{name: str(value) for name, value in added.items()}}
-        done = subprocess.run(words, input=given, stdout=subprocess.PIPE, env=environment, timeout=60)
+        # By its name in the folder that it is run in: a path with a space would be read as two.
+        environment = {**os.environ, "LD_PRELOAD": f"./{self.library.name}", **{name: str(value) for name, value in added.items()}}
+        done = subprocess.run(words, input=given, stdout=subprocess.PIPE, cwd=self.library.parent, env=environment, timeout=60)
         return done.returncode, done.stdout
 
 

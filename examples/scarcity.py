@@ -39,9 +39,10 @@ class ScarceMemory:
         """Runs the words with the request of this number refused, the first being 1, or none where it is 0: the status, the
         output, and whether so many requests were made."""
         self.told.unlink(missing_ok=True)
-        added = {"LD_PRELOAD": str(self.library), "REFUSED": str(number), "REFUSED_TOLD": str(self.told)} if number else {}
+        # By its name in the folder that it is run in: a path with a space would be read as two.
+        added = {"LD_PRELOAD": f"./{self.library.name}", "REFUSED": str(number), "REFUSED_TOLD": str(self.told)} if number else {}
         environment = {**os.environ, **added}
-        done = subprocess.run(words, input=given, stdout=subprocess.PIPE, stderr=subprocess.STDOUT, env=environment, timeout=60)
+        done = subprocess.run(words, input=given, stdout=subprocess.PIPE, stderr=subprocess.STDOUT, cwd=self.library.parent, env=environment, timeout=60)
         met = self.told.exists()
         self.refused += met
         return done.returncode, done.stdout, met
