@@ -63,12 +63,14 @@ class Session:
         return session
 
     async def __aexit__(self, *_: object) -> None:
-        await self.close()
+        try:
+            await self.close()
+        finally:
+            self._worker.shutdown(wait=False)
 
     async def close(self) -> None:
         """Ends the program once what was asked is answered."""
         await self._call(self.blocking.close)
-        self._worker.shutdown(wait=False)
 
     @property
     def blocking(self) -> sessions.Session:
@@ -194,7 +196,12 @@ class Session:
 
         Other tasks aren't kept waiting: what they edit meanwhile belongs to the trial, and is taken back with it.
         """
-        trial = await self._call(self.blocking.begin_trial)
+        begun = self._worker.submit(self.blocking.begin_trial)
+        try:
+            trial = await asyncio.wrap_future(begun)
+        except BaseException:
+            begun.add_done_callback(_end_begun)  # it may begin all the same, where this task was cancelled
+            raise
         try:
             yield trial
         finally:
@@ -214,6 +221,11 @@ class Session:
 def _close_begun(begun: Future[sessions.Session]) -> None:
     if not begun.cancelled() and begun.exception() is None:
         begun.result().close()
+
+
+def _end_begun(begun: Future[Trial]) -> None:
+    if not begun.cancelled() and begun.exception() is None:
+        begun.result().keep()
 
 
 class Readers:

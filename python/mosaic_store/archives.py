@@ -11,7 +11,6 @@ import os
 import pathlib
 import re
 import zipfile
-import zlib
 from collections.abc import Iterable, Iterator
 from dataclasses import dataclass
 from typing import NoReturn
@@ -65,7 +64,7 @@ class Source:
                     return member.read(most + 1)
             with gzip.open(self.path) if _is(self.path.name, ".gz") else open(self.path, "rb") as file:
                 return file.read(most + 1)
-        except (OSError, EOFError, ValueError, zipfile.BadZipFile, zlib.error, RuntimeError, NotImplementedError) as fault:
+        except Exception as fault:  # each way of packing has errors of its own, and a broken archive may come to any
             raise _unreadable(self.shown, fault) from None
 
 

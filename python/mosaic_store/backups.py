@@ -74,9 +74,9 @@ def _copy(source: int, target: int) -> None:
     os.ftruncate(target, size)
     end = 0
     while (start := _next_data(source, end)) is not None:
-        end = os.lseek(source, start, os.SEEK_HOLE)
-        for at in range(start, end, _AT_ONCE):
-            os.pwrite(target, os.pread(source, min(_AT_ONCE, end - at), at), at)
+        at, end = start, os.lseek(source, start, os.SEEK_HOLE)
+        while at < end and (piece := os.pread(source, min(_AT_ONCE, end - at), at)):
+            at += os.pwrite(target, piece, at)  # a drive that gets full takes a part, and refuses the rest when it comes
 
 
 def _next_data(file: int, at: int) -> int | None:

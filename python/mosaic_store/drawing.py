@@ -12,6 +12,7 @@ from typing import TYPE_CHECKING, Any
 
 from . import shading
 from .errors import BadArgument
+from .geojson import square_kilometres
 from .lattice import METRES_A_DEGREE, Point, degrees_of
 from .questions import Watershed
 from .rasters import Heights
@@ -45,6 +46,8 @@ class Scene:
     """Of standing water, in metres, of the heights' shape."""
     path: Sequence[Point] = field(default_factory=list)
     road: Sequence[Point] = field(default_factory=list)
+    road_name: str = "road"
+    """What the legend calls it."""
 
     @property
     def extent(self) -> tuple[float, float, float, float]:
@@ -76,7 +79,7 @@ def draw(scene: Scene, path: str) -> None:
         _draw_lines(axes, scene)
         _draw_scale(axes, scene)
         _draw_degrees(axes)
-        axes.set_title(scene.title, fontsize=10)
+        axes.set_title(scene.title, fontsize=10, parse_math=False)
         _draw_heights(figure, axes, scene)
         _draw_legend(axes, scene)
         figure.savefig(path, dpi=_DOTS_AN_INCH, bbox_inches="tight", pad_inches=0.15)
@@ -140,7 +143,7 @@ def _draw_lines(axes: Any, scene: Scene) -> None:
         axes.plot(*_line(scene.path, side), color=PATH, linewidth=1.6, label=f"flow path, {len(scene.path):,} points")
     if scene.road:
         axes.plot(*_line(scene.road, side), color="white", linewidth=4.0, solid_capstyle="butt")
-        axes.plot(*_line(scene.road, side), color=ROAD, linewidth=2.2, solid_capstyle="butt", label="road")
+        axes.plot(*_line(scene.road, side), color=ROAD, linewidth=2.2, solid_capstyle="butt", label=scene.road_name)
     if scene.outlet is not None:
         place = degrees_of(scene.outlet, side)
         style = {"marker": "o", "markersize": 7, "markeredgecolor": "black", "linestyle": "none"}
@@ -203,7 +206,7 @@ def _draw_legend(axes: Any, scene: Scene) -> None:
     marks, names = axes.get_legend_handles_labels()
     if scene.watershed is not None:
         marks.append(_patches().Patch(color=_hex(WATERSHED), alpha=0.7))
-        names.append(f"watershed, {scene.watershed.cells:,} points (some {_shown_area(scene)})")
+        names.append(f"watershed, {scene.watershed.cells:,} points ({_shown_area(scene)})")
     if scene.depths is not None and scene.depths.max() > 0:
         marks.append(_patches().Patch(color=_hex(DEEP)))
         names.append(f"standing water, at most {scene.depths.max()} m deep")
@@ -215,10 +218,8 @@ def _draw_legend(axes: Any, scene: Scene) -> None:
 
 
 def _shown_area(scene: Scene) -> str:
-    """The area of the watershed, with cells as narrow as they are in the picture's middle."""
-    cells = 0 if scene.watershed is None else scene.watershed.cells
-    metres = METRES_A_DEGREE / (scene.heights.side - 1)
-    area = cells * metres * metres * scene.narrowing / 1e6
+    """The area of the watershed, by latitude."""
+    area = 0.0 if scene.watershed is None else square_kilometres(scene.watershed.runs, scene.heights.side)
     return f"{area:,.0f} km²" if area >= 100 else f"{area:.3g} km²"
 
 

@@ -27,7 +27,7 @@ def watershed_feature(watershed: Watershed, outlet: Point, side: int) -> Feature
 def points_feature(runs: Sequence[Run], side: int, properties: dict[str, Any]) -> Feature:
     """Points, given as maximal runs, as a MultiPolygon around their cells. Its property `km2` is their area by latitude."""
     coordinates = [[_degrees_of_ring(ring, side) for ring in polygon.rings] for polygon in polygons_of(runs)]
-    return _feature("MultiPolygon", coordinates, {**properties, "km2": round(_square_kilometres(runs, side), 4)})
+    return _feature("MultiPolygon", coordinates, {**properties, "km2": round(square_kilometres(runs, side), 4)})
 
 
 def trace_feature(path: Sequence[Point], side: int) -> Feature:
@@ -57,7 +57,8 @@ def _feature(kind: str, coordinates: Any, properties: dict[str, Any]) -> Feature
     return {"type": "Feature", "properties": properties, "geometry": {"type": kind, "coordinates": coordinates}}
 
 
-def _square_kilometres(runs: Sequence[Run], side: int) -> float:
+def square_kilometres(runs: Sequence[Run], side: int) -> float:
+    """The area of the cells of some runs, by their latitude."""
     length = METRES_A_DEGREE / (side - 1) / 1000
     return sum((last - first + 1) * math.cos(math.radians(y / (side - 1))) for y, first, last in runs) * length * length
 

@@ -108,13 +108,11 @@ def _stages(terrain: Heights, reached: Array, spills_at: int) -> list[Stage]:
     numpy = needed_numpy()
     inside = reached < spills_at
     areas = numpy.broadcast_to(terrain.cell_areas(), reached.shape)[inside]
-    levels, heights = reached[inside], terrain.samples[inside].astype(numpy.int64)
+    heights = terrain.samples[inside].astype(numpy.int64)
     lowest = int(heights.min(initial=spills_at))
-    stages = []
-    for level in range(lowest, spills_at + 1):
-        wet = levels < level  # what lies behind a sill of this very level isn't reached
-        stages.append(Stage(level, float(areas[wet].sum()), float(((level - heights[wet]) * areas[wet]).sum())))
-    return stages
+    wet_from = reached[inside] + 1 - lowest  # what lies behind a sill of this very level isn't reached
+    wet, heaped = (numpy.bincount(wet_from, each, spills_at + 1 - lowest).cumsum() for each in (areas, areas * (heights - lowest)))
+    return [Stage(lowest + deep, area, deep * area - below) for deep, (area, below) in enumerate(zip(wet.tolist(), heaped.tolist()))]
 
 
 def heights_above_stream(network: Network, threshold: int) -> Array:
@@ -178,12 +176,21 @@ def earthwork(before: Mapping[Point, int], after: Mapping[Point, int], side: int
 
 def runs_of(mask: Array, window: Window) -> list[Run]:
     """The points of a mask of a window as maximal runs, from the north, then from the west."""
+    return runs_of_each(mask.astype("int8") - 1, 1, window)[0]
+
+
+def runs_of_each(labels: Array, count: int, window: Window) -> list[list[Run]]:
+    """Of each number below `count` the points of a window that have it, as `runs_of` tells them; -1 stands for none."""
     numpy = needed_numpy()
-    padded = numpy.pad(mask.astype(numpy.int8), ((0, 0), (1, 1)))
-    rows, firsts = numpy.nonzero(numpy.diff(padded, axis=1) == 1)
-    _, ends = numpy.nonzero(numpy.diff(padded, axis=1) == -1)
-    ys, xs = window.y1 - rows, window.x0 + firsts
-    return [Run(y, first, first + last - at - 1) for y, first, at, last in zip(ys.tolist(), xs.tolist(), firsts.tolist(), ends.tolist())]
+    padded = numpy.pad(labels, ((0, 0), (1, 1)), constant_values=-1)
+    begins = padded[:, 1:] != padded[:, :-1]
+    rows, firsts = numpy.nonzero(begins & (padded[:, 1:] >= 0))
+    _, ends = numpy.nonzero(begins & (padded[:, :-1] >= 0))
+    runs: list[list[Run]] = [[] for _ in range(count)]
+    numbers, ys, wests, easts = (part.tolist() for part in (labels[rows, firsts], window.y1 - rows, window.x0 + firsts, window.x0 + ends - 1))
+    for number, y, first, last in zip(numbers, ys, wests, easts):
+        runs[number].append(Run(y, first, last))
+    return runs
 
 
 def widened(points: Sequence[Point], width: int) -> list[Point]:
@@ -195,7 +202,7 @@ def widened(points: Sequence[Point], width: int) -> list[Point]:
 
 
 def without_voids(samples: Array, void: Array, most: int) -> Array:
-    """Samples in which each void has the mean of the heights on its rim, by the inverse square of the distance.
+    """Samples in which each void has the mean of the heights on its rim, by the inverse square of the distance in points.
 
     Of each part of voids that hangs together; one that reaches the samples' edge, or has more than `most` points, is left.
     Heights of the rim are those before it, so that the parts' order makes no difference.

@@ -16,7 +16,7 @@ from .directions import levels_and_directions
 from .errors import BadArgument, BadReply
 from .geojson import Feature, line_feature
 from .lattice import METRES_A_DEGREE, Direction, Point, Window, corners_of
-from .questions import FlowDirection, WatershedOf
+from .questions import FlowDirection
 from .rasters import NO_DIRECTION, STEPS, Heights, Told, heights_of
 from .samples import needed_numpy
 from .session import Session
@@ -63,7 +63,7 @@ class Network:
         return Point(self.window.y1 - row, self.window.x0 + column)
 
     def step_lengths(self) -> Array:
-        """How long the step out of each cell is in metres, float64; 0 where water leaves the mosaic there."""
+        """How long the step out of each cell is in metres, float64; 0 where water leaves the window there."""
         numpy = needed_numpy()
         length = METRES_A_DEGREE / (self.heights.side - 1)
         widths = (length * numpy.cos(numpy.radians(self.heights.ys / (self.heights.side - 1))))[:, None]
@@ -71,7 +71,7 @@ class Network:
         for number, (north, east) in enumerate(STEPS):
             step = numpy.hypot(north * length, east * widths)
             lengths = numpy.where(self.codes == 1 << number, step, lengths)
-        return lengths
+        return numpy.where(self.receivers.reshape(self.shape) != NOWHERE, lengths, 0.0)
 
     @functools.cached_property
     def counts(self) -> Array:
@@ -103,11 +103,13 @@ class Network:
     def catchments(self, outlets: Sequence[Point]) -> Array:
         """Of each point the first of some outlets that its flow path comes to, by number: int32; -1 where it comes to none.
 
-        So catchments are nested, and no point is in two.
+        So catchments are nested, and no point is in two. BadArgument where an outlet has no height.
         """
         numpy = needed_numpy()
         own = numpy.full(self.receivers.size + 1, NOWHERE, numpy.int32)
         for number, outlet in reversed(list(enumerate(outlets))):
+            if self.codes.ravel()[self.cell(outlet)] == NO_DIRECTION:
+                raise BadArgument(f"nothing drains to the point {outlet.y} {outlet.x}, which has no height: choose another one")
             own[self.cell(outlet)] = number
         return own[self._first_of(own[:-1] != NOWHERE)].reshape(self.shape)
 
@@ -116,20 +118,23 @@ class Network:
 
         Of several the one that most drain through; the point itself where there is none.
         """
-        counts = self.counts.ravel()
+        numpy = needed_numpy()
         row, column = divmod(self.cell(point), self.window.width)
-        rows = range(max(0, row - reach), min(self.window.height, row + reach + 1))
-        columns = range(max(0, column - reach), min(self.window.width, column + reach + 1))
-        near = [(max(abs(r - row), abs(c - column)), -counts[r * self.window.width + c], r * self.window.width + c) for r in rows for c in columns]
-        found = min((place for place in near if -place[1] >= threshold), default=None)
-        return point if found is None else self.point(found[2])
+        top, left = max(0, row - reach), max(0, column - reach)
+        near = self.counts[top : row + reach + 1, left : column + reach + 1]
+        rows, columns = numpy.nonzero(near >= threshold)
+        if not rows.size:
+            return point
+        steps = numpy.maximum(abs(rows + top - row), abs(columns + left - column))
+        first = numpy.lexsort((-near[rows, columns], steps))[0]
+        return Point(self.window.y1 - top - int(rows[first]), self.window.x0 + left + int(columns[first]))
 
     @functools.cached_property
     def path_lengths(self) -> Array:
         """Of each point how long its flow path in the window is, in metres: float64."""
         numpy = needed_numpy()
         ahead = numpy.append(self.receivers, NOWHERE)
-        lengths = numpy.where(self.receivers != NOWHERE, self.step_lengths().ravel(), 0.0)
+        lengths = self.step_lengths().ravel()
         cells = numpy.flatnonzero(self.receivers != NOWHERE)
         for _ in _turns(self.receivers.size):
             if not cells.size:
@@ -154,8 +159,9 @@ class Network:
     def nearest_stream(self, threshold: int) -> Array:
         """Of each ground point the cell of the first point on its flow path that `threshold` points drain through: int64.
 
-        -1 where its path leaves the window before one.
+        -1 where its path leaves the window before one. BadArgument where `threshold` is less than 1.
         """
+        _check_threshold(threshold)
         return self._first_of((self.counts >= threshold).ravel()).reshape(self.shape)
 
     def _first_of(self, stops: Array) -> Array:
@@ -234,8 +240,8 @@ def _summed_by_turns(receivers: Array, values: Array) -> Array:
 
 
 def _turns(cells: int) -> Iterator[None]:
-    """As many turns as a way through all cells takes, where each goes twice as far as the one before."""
-    yield from itertools.repeat(None, cells.bit_length() + 1)
+    """As many turns as a way through all cells takes, where each goes twice as far as the one before, and two that find its end."""
+    yield from itertools.repeat(None, cells.bit_length() + 2)
     raise BadReply("the directions of the window go round")
 
 
@@ -275,14 +281,12 @@ def _entering(session: Session, heights: Heights) -> dict[int, int]:
     ring = [point for point in _around(window) if not present.isdisjoint(corners_of(point, heights.side))]
     found = session.ask_many(FlowDirection(*point) for point in ring)
     ways = ((point, way.onward(point)) for point, way in zip(ring, found) if isinstance(way, Direction))
-    inward = [(point, at) for point, at in ways if at is not None and window.holds(at)]
-    sheds = session.ask_many(WatershedOf(*point) for point, _ in inward)
     counts: dict[int, int] = {}
-    for (_, at), shed in zip(inward, sheds):
-        if isinstance(shed, Exception):
-            raise shed
-        cell = heights.cell(at)
-        counts[cell] = counts.get(cell, 0) + shed.cells
+    for point, at in ways:
+        if at is not None and window.holds(at):
+            cell = heights.cell(at)
+            # One at a time: where a river crosses the edge again and again, each has those above it, and all take much memory.
+            counts[cell] = counts.get(cell, 0) + session.watershed(*point).cells
     return counts
 
 
@@ -311,8 +315,10 @@ class Reach:
 
     points: list[Point]
     """From above; the last is the confluence or the end."""
+    last: Point
+    """Its last own point: the one before the confluence, or the end."""
     order: int
-    """Its order after Strahler: 1 from a source, one more where two of the same order meet."""
+    """Its order after Strahler: 1 from a source, or where it enters the window; one more where two of the same order meet."""
     length: float
     """In metres."""
     drained: int
@@ -322,8 +328,7 @@ class Reach:
 def streams(network: Network, threshold: int) -> list[Reach]:
     """The streams of a window: the points that `threshold` points and more drain through, reach by reach, from above."""
     numpy = needed_numpy()
-    if threshold < 1:
-        raise BadArgument("a stream begins where 1 point and more drains through")
+    _check_threshold(threshold)
     counts = network.counts.ravel()
     receivers, lengths = network.receivers, network.step_lengths().ravel()
     found = numpy.flatnonzero(counts >= threshold)
@@ -334,16 +339,21 @@ def streams(network: Network, threshold: int) -> list[Reach]:
         met = above.pop(cell, [])
         stream = met[0] if len(met) == 1 else _Open.at(cell, met)
         if len(met) > 1:
-            reaches += [part.ended(network, cell, int(counts[part.cells[-1]])) for part in met]
+            reaches += [part.ended(network, cell) for part in met]
         if len(met) == 1:
             stream.cells.append(cell)
         to = int(receivers[cell])
         stream.length += float(lengths[cell])
         if to == NOWHERE:
-            reaches.append(stream.ended(network, None, int(counts[cell])))
+            reaches.append(stream.ended(network, None))
         else:
             above.setdefault(to, []).append(stream)
     return reaches
+
+
+def _check_threshold(threshold: int) -> None:
+    if threshold < 1:
+        raise BadArgument("a stream begins where 1 point and more drains through")
 
 
 def stream_features(network: Network, threshold: int) -> list[Feature]:
@@ -358,7 +368,7 @@ def stream_features(network: Network, threshold: int) -> list[Feature]:
                 "order": reach.order,
                 "length_m": round(reach.length, 1),
                 "points": reach.drained,
-                "km2": round(float(areas[network.cell(reach.points[max(0, len(reach.points) - 2)])]), 4),
+                "km2": round(float(areas[network.cell(reach.last)]), 4),
             },
         )
         for reach in streams(network, threshold)
@@ -380,6 +390,7 @@ class _Open:
         order = 1 if not orders else orders[0] + (len(orders) > 1 and orders[0] == orders[1])
         return _Open([cell], order, 0.0)
 
-    def ended(self, network: Network, confluence: int | None, drained: int) -> Reach:
-        cells = self.cells if confluence is None else [*self.cells, confluence]
-        return Reach([network.point(cell) for cell in cells], self.order, self.length, drained)
+    def ended(self, network: Network, confluence: int | None) -> Reach:
+        cells, last = self.cells if confluence is None else [*self.cells, confluence], self.cells[-1]
+        points = [network.point(cell) for cell in cells]
+        return Reach(points, network.point(last), self.order, self.length, int(network.counts.ravel()[last]))

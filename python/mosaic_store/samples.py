@@ -38,7 +38,7 @@ def _square(data: bytes, stored: str, kind: str) -> Array:
 
 def bytes_of(data: bytes | bytearray | memoryview | Array) -> bytes:
     """The HGT bytes of a tile: bytes as they are, or an array of whole numbers of shape (side, side)."""
-    if isinstance(data, (bytes, bytearray, memoryview)):
+    if isinstance(data, (bytes, bytearray)) or (isinstance(data, memoryview) and data.itemsize == 1):
         return bytes(data)
     numpy = needed_numpy()
     array = numpy.asarray(data)

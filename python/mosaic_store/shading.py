@@ -23,10 +23,10 @@ _DARKEST, _BRIGHTEST = 0.25, 1.45
 _SLANT = math.sqrt(0.5)
 
 
-def relief(ringed: Array, lowest: int, highest: int, metres_east: float, metres_north: float) -> Array:
+def relief(ringed: Array, lowest: int, highest: int, metres_east: float | Array, metres_north: float) -> Array:
     """Colours of all but the outermost ring of heights: floats of shape (rows, columns, 3), `NO_DATA` where there is none.
 
-    The distances of two points are in metres.
+    The distances of two points are in metres; that eastwards may be one of each row, of shape (rows, 1).
     """
     numpy = needed_numpy()
     heights = ringed[1:-1, 1:-1]
@@ -37,7 +37,7 @@ def relief(ringed: Array, lowest: int, highest: int, metres_east: float, metres_
     return colours.clip(0, 255)
 
 
-def _brightness(ringed: Array, metres_east: float, metres_north: float) -> Array:
+def _brightness(ringed: Array, metres_east: float | Array, metres_north: float) -> Array:
     """How bright each inner point is, 1 where the ground is level; a neighbour without a height counts as high as the point."""
     numpy = needed_numpy()
     heights = ringed[1:-1, 1:-1].astype(float)

@@ -2,9 +2,8 @@
 
 from __future__ import annotations
 
-from .errors import Refusal
 from .lattice import Direction, Point, Window
-from .questions import FlowDirection, WatershedOf
+from .questions import FlowDirection
 from .session import Session
 
 FARTHEST = 50
@@ -23,9 +22,5 @@ def snapped(session: Session, point: Point, reach: int) -> Point:
     directions = session.ask_many(FlowDirection(*at) for at in near)
     ways = ((at, way.onward(at)) for at, way in zip(near, directions) if isinstance(way, Direction))
     ends = [at for at, onward in ways if onward is None or not window.holds(onward)]
-    sizes = {}
-    for at, found in zip(ends, session.ask_many(WatershedOf(*at) for at in ends)):
-        if isinstance(found, Refusal):
-            raise found
-        sizes[at] = found.cells
+    sizes = {at: session.watershed(*at).cells for at in ends}
     return min(sizes, key=lambda at: (-sizes[at], max(abs(at.y - point.y), abs(at.x - point.x))), default=point)

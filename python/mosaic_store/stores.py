@@ -93,7 +93,7 @@ def path_word(path: PathLike) -> bytes:
     return b"./" + word if word.startswith(b"-") else word
 
 
-def cannot_open(path: PathLike, fault: OSError | None = None) -> CannotOpen:
+def cannot_open(path: PathLike) -> CannotOpen:
     """Why the file of a store can't be opened, as an exception with its cause and cure."""
     shown = os.fsdecode(path)
     if not _is_text(path):
@@ -106,7 +106,7 @@ def cannot_open(path: PathLike, fault: OSError | None = None) -> CannotOpen:
         return CannotOpen(f"{shown}: no right to read and write it: ask its owner, or change its mode")
     if _is_locked(path):
         return StoreBusy(f"{shown}: another program has it open: end that one first, or ask through it")
-    return CannotOpen(f"{shown}: cannot be opened" + (f": {fault.strerror}" if fault is not None else ""))
+    return StoreBusy(f"{shown}: another program had it open until now, or its file system takes no locks: try again")
 
 
 def run_program(words: Sequence[str | bytes], path: PathLike, program: PathLike | None = None) -> list[str]:

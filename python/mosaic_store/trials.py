@@ -129,8 +129,12 @@ class Trial:
         present = set(session.tiles())
         now = {name: session.export(name) if name in present else None for name in self._before}
         changed = [name for name, data in self._before.items() if now[name] != data]
-        removed: list[Command] = [Remove(name) for name in changed if name in present]
-        return removed + [Import(name, data) for name in changed if (data := self._before[name]) is not None]
+        commands: list[Command] = [Remove(name) for name in changed if self._before[name] is None]
+        for name in changed:  # one after another: wherever this ends, one tile at most is away
+            if (data := self._before[name]) is not None:
+                commands += [Remove(name)] * (name in present)
+                commands.append(Import(name, data))
+        return commands
 
     def _by_points(self) -> list[Command] | None:
         """The burns and walls that give points their heights back; None where these can't, or are too many."""

@@ -1,9 +1,11 @@
 """The session for asyncio: the same answers, many readers, and an event loop that goes on meanwhile."""
 
 import asyncio
+import threading
 import unittest
+import unittest.mock
 
-from mosaic_store import BadArgument, aio, errors, open_store, questions
+from mosaic_store import BadArgument, SessionDied, aio, errors, open_store, questions
 
 from .support import A_WHILE, PROGRAM, InFolder
 
@@ -114,6 +116,27 @@ class Awaited(InFolder, unittest.IsolatedAsyncioTestCase):
             await opening
         go.touch()
         await asyncio.to_thread(self.wait_for, ended)
+
+    async def test_a_trial_whose_beginning_is_given_up(self):
+        """It begins all the same, once its task was cancelled, and is ended: another one can begin."""
+        async with aio.memory_table(3, 1, PROGRAM) as table:
+            asked, go, sinks = threading.Event(), threading.Event(), table.blocking.sinks
+            with unittest.mock.patch.object(table.blocking, "sinks", lambda: asked.set() or go.wait() and sinks()):
+                beginning = asyncio.create_task(table.trial().__aenter__())
+                await asyncio.to_thread(asked.wait)
+                beginning.cancel()
+                with self.assertRaises(asyncio.CancelledError):
+                    await beginning
+                go.set()
+                await table.count()
+            async with table.trial() as trial:
+                self.assertTrue(trial.is_open)
+
+    async def test_it_is_closed_twice(self):
+        async with aio.memory_table(3, 1, PROGRAM) as table:
+            await table.close()
+            with self.assertRaisesRegex(SessionDied, "closed"):
+                await table.count()
 
     async def test_what_cannot_be_opened(self):
         with self.assertRaises(errors.CannotOpen):

@@ -53,6 +53,13 @@ class Backups(InFolder):
         self.assertEqual(check_store(copy, PROGRAM), check_store(path, PROGRAM))
         self.assertEqual(sorted(os.listdir(self.folder)), ["copy", "store"])
 
+    def test_a_drive_that_takes_less_at_a_time(self) -> None:
+        """As one that gets full does: what it doesn't take is written again, or refused."""
+        path, copy, pwrite = self.store(SIDE), self.folder / "copy", os.pwrite
+        with open_store(path, PROGRAM) as session, unittest.mock.patch("os.pwrite", lambda file, data, at: pwrite(file, data[:100], at)):
+            session.backup(copy)
+        self.assertEqual(copy.read_bytes(), (self.folder / "store").read_bytes())
+
     def test_what_a_served_store_holds(self) -> None:
         path = self.store(SIDE)
         with open_store(path, PROGRAM) as session:

@@ -18,7 +18,7 @@ class Drawing(InFolder):
     def test_pictures(self):
         path = self.store(21)
         words = ["--watershed", "0", "1", "--trace", "1.5", "1.5", "--water", "--road", "0.5", "0.2", "0.5", "1.4"]
-        done = self.draw(path, "all.png", *words, "--title", "Hills")
+        done = self.draw(path, "all.png", *words, "--title", r"Hills of $5 \hills $")
         self.assertEqual((done.returncode, done.stderr), (0, ""))
         with open_store(path, PROGRAM) as store:
             self.assertIn(f"{store.watershed(0, 20).cells} points drain to 0 N 1 E", done.stdout)

@@ -2,10 +2,12 @@
 
 import json
 import math
+import os
 import random
 import shutil
 import subprocess
 import unittest
+from concurrent.futures import ThreadPoolExecutor
 
 from mosaic_store import Run, format_store, memory_table, open_store
 from mosaic_store.geojson import tile_feature, trace_feature, watershed_feature
@@ -116,6 +118,20 @@ class Features(InFolder):
             wanted = store.watershed(*snapped(store, Point(12, 9), 3)).cells
         done = self.command("geojson", path, "watershed", "12", "9", "--points", "--snap", "3")
         self.assertEqual(json.loads(done.stdout)["features"][0]["properties"]["cells"], wanted)
+
+    def test_what_is_no_plain_file_stays(self):
+        """A pipe takes what is written; of a link the file that it leads to is replaced."""
+        path = self.store(11)
+        os.mkfifo(self.folder / "pipe")
+        os.symlink("file", self.folder / "link")
+        wanted = self.command("geojson", path, "tiles").stdout
+        with ThreadPoolExecutor(1) as threads:
+            read = threads.submit((self.folder / "pipe").read_text)
+            for name in ("pipe", "link"):
+                self.assertEqual(self.command("geojson", path, "tiles", "-o", name).returncode, 0)
+            self.assertEqual(read.result(), wanted)
+        self.assertEqual((self.folder / "file").read_text(), wanted)
+        self.assertEqual(os.readlink(self.folder / "link"), "file")
 
     @unittest.skipUnless(shutil.which("ogrinfo"), "gdal-bin isn't installed")
     def test_gdal_finds_it_valid(self):

@@ -1,11 +1,13 @@
 """Networks of windows, beside the program's own watersheds; reservoirs, heights above streams and voids, worked by hand."""
 
 import json
+import math
 import signal
 import struct
 import unittest
 
 from mosaic_store import BadArgument, Point, Window, format_store, memory_table, open_store
+from mosaic_store.lattice import METRES_A_DEGREE
 
 from .support import A_WHILE, PROGRAM, InFolder, needs
 
@@ -67,6 +69,22 @@ class Networks(InFolder):
             above = sorted((other.order for other in reaches if other.points[-1] == reach.points[0] and other is not reach), reverse=True)
             wanted = 1 if not above else above[0] + (above[0] == above[1])
             self.assertEqual(reach.order, wanted)
+
+    def test_a_stream_that_ends(self) -> None:
+        """At the last point, and at a window's edge: its length is that of its line, its area that of what drains through its end."""
+        from mosaic_store.network import network_of, stream_features
+
+        with memory_table(3, 1, PROGRAM) as table:
+            # All drains to the middle row, three points a column, and there to the east.
+            table.import_tile("N60E000", struct.pack(">9h", 9, 9, 9, 3, 2, 1, 9, 9, 9))
+            step = METRES_A_DEGREE / 2
+            column = step**2 * math.fsum(math.cos(math.radians(latitude)) for latitude in (60, 60.5, 61)) / 1e6
+            for last in (0, 1, 2):
+                (stream,) = stream_features(network_of(table, Window(120, 0, 122, last)), 3)
+                own = stream["properties"]
+                self.assertEqual(own["points"], 3 * (last + 1))
+                self.assertAlmostEqual(own["km2"], column * (last + 1), delta=0.001)
+                self.assertAlmostEqual(own["length_m"], last * step * math.cos(math.radians(60.5)), delta=0.1)
 
     @staticmethod
     def goes_on(network, reach) -> bool:
@@ -277,6 +295,7 @@ with subprocess.Popen([{PROGRAM!r}, *sys.argv[1:]], stdin=subprocess.PIPE) as se
     def test_bad_input(self) -> None:
         path = self.store(SIDE)
         (self.folder / "bad.csv").write_text("name,y\nford,5\n")
+        (self.folder / "void.csv").write_text("y,x\n5,5\n3,2\n")
         for words, told in (
             (("catchments", "x.geojson"), "--outlets"),
             (("catchments", "x.geojson", "--outlets", "bad.csv"), "no columns"),
@@ -285,6 +304,11 @@ with subprocess.Popen([{PROGRAM!r}, *sys.argv[1:]], stdin=subprocess.PIPE) as se
             (("edit", "bad.csv", "--wall", "5"), "not read as GeoJSON"),
             (("edit", "bad.csv"), "--wall or by --burn"),
             (("streams", "x.geojson", "--threshold", "0"), "1 point and more"),
+            (("above", "x.asc", "--threshold", "0"), "1 point and more"),
+            (("catchments", "x.geojson", "--outlets", "void.csv"), "point 3 2, which has no height"),
+            (("catchments", "x.geojson", "--outlets", "void.csv", "--reach", "-1"), "0 steps and more"),
+            (("path", "x.geojson", "--points", "--at", "3", "2"), "point 3 2, which has no height"),
+            (("path", "none/x.geojson"), "there is no folder none"),
             (("reservoir", "x.csv", "--dam", "1", "1", "1", "2", "--crest", "9", "--before", "1", "1", "--picture", "x.doc"), "ends in"),
             (("accumulation", "x.png"), ".tif (GeoTIFF) or .asc"),
             (("accumulation", "x.asc", "--points", "--window", "0", "0", "9999", "9999"), "100,000,000 points, and the most for accumulation is 20,000,000"),
@@ -329,6 +353,10 @@ class Planning(unittest.TestCase):
             self.assertEqual([above[20 - up, 30] for up in range(4)], [0, 5, 10, 15])
             figures = longest_path(network, Point(20, 40))
             self.assertEqual((figures.points[-1], figures.fall), (Point(20, 40), 180))
+            for last in (5, 10):  # a window in which one path takes all cells
+                row = network_of(table, Window(20, 0, 20, last))
+                self.assertEqual(heights_above_stream(row, int(row.counts.max())).tolist(), [[2 * (last - x) for x in range(last + 1)]])
+                self.assertEqual(longest_path(row, Point(20, last)).points, [Point(20, x) for x in range(last + 1)])
 
     def test_voids_are_filled_from_their_rim(self) -> None:
         from mosaic_store.hydrology import filled_voids

@@ -177,11 +177,12 @@ with subprocess.Popen([{PROGRAM!r}, *sys.argv[1:]], stdin=subprocess.PIPE) as se
         (files / "N00E000b.hgt").write_bytes(other)  # N00E000b is no name
         (files / "n00e000 (2).hgt").write_bytes(other)
         (files / "N01E000.hgt").write_bytes(hills(9, 1, 1)["N00E000"])
-        with zipfile.ZipFile(files / "bad.zip", "w") as archive:
-            archive.writestr("N05E005.hgt", other)
-        damaged = bytearray((files / "bad.zip").read_bytes())
-        damaged[45:50] = b"\1\2\3\4\5"
-        (files / "bad.zip").write_bytes(damaged)
+        for name, kind in (("bad", zipfile.ZIP_STORED), ("bad by LZMA", zipfile.ZIP_LZMA)):
+            with zipfile.ZipFile(files / f"{name}.zip", "w", kind) as archive:
+                archive.writestr("N05E005.hgt", other)
+            damaged = bytearray((files / f"{name}.zip").read_bytes())
+            damaged[45:50] = b"\1\2\3\4\5"
+            (files / f"{name}.zip").write_bytes(damaged)
         with zipfile.ZipFile(files / "empty.zip", "w") as archive:
             archive.writestr("about.txt", "nothing")
         (files / "N07E007.hgt.gz").write_bytes(gzip.compress(bytes(10**7)))
@@ -191,7 +192,7 @@ with subprocess.Popen([{PROGRAM!r}, *sys.argv[1:]], stdin=subprocess.PIPE) as se
         os.symlink("nowhere", files / "gone.hgt")
         done = self.load(store, str(files))
         self.assertEqual(done.returncode, 1)
-        told = ["with other samples", "a tile of 9 x 9 samples", "bad.zip:N05E005.hgt: failed: not read"]
+        told = ["with other samples", "a tile of 9 x 9 samples", "bad.zip:N05E005.hgt: failed: not read", "bad by LZMA.zip:N05E005.hgt: failed: not read"]
         told += ["bomb.zip:N06E006.hgt: failed: 10000000 or more", "N07E007.hgt.gz: failed: 51 or more bytes", "E008.hgt.gz: failed"]
         for words in (*told, "without an HGT", "tells no tile"):
             self.assertIn(words, done.stderr)

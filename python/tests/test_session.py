@@ -290,6 +290,21 @@ class Stores(InFolder):
                 self.assertEqual(other.count(), 4)
             closing.join()
 
+    def test_a_store_that_is_let_go_of_meanwhile(self):
+        """It is busy for the program, and free again once it is asked why the program didn't open it: it is waited for, too."""
+        path, met = self.store(), self.folder / "met"
+        busy_at_first = self.script(f"""
+if os.path.exists({str(met)!r}):
+    os.execv({PROGRAM!r}, [{PROGRAM!r}, *sys.argv[1:]])
+open({str(met)!r}, "w").close()
+print("mosaic: cannot open", sys.argv[2])
+sys.exit(1)""")
+        with self.assertRaises(StoreBusy):
+            open_store(path, busy_at_first)
+        met.unlink()
+        with open_store(path, busy_at_first, wait=A_WHILE) as store:
+            self.assertEqual(store.count(), 4)
+
     def test_bytes_in_paths(self):
         path = self.folder / "st\xe9re of mine"
         format_store(path, 3, 1, PROGRAM)

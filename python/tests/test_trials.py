@@ -7,7 +7,7 @@ import threading
 import unittest
 import unittest.mock
 
-from mosaic_store import BadArgument, SessionDied, errors, open_store
+from mosaic_store import BadArgument, SessionDied, errors, open_store, questions
 
 from .support import PROGRAM, InFolder
 
@@ -62,6 +62,16 @@ class Trials(InFolder):
             session.wall(3000, [(y, 10) for y in range(11)] + [(10, x) for x in range(11, 20)])
         self.assertEqual(self.image(), before)
         self.assertEqual(session.export("N00E001"), own)
+
+    def test_tiles_are_put_back_one_after_another(self):
+        """Wherever that ends, one tile at most is away."""
+        session = self.session
+        with session.trial() as trial:
+            for name in ("N00E000", "N01E001"):
+                session.remove(name)
+                session.import_tile(name, bytes(2 * SIDE**2))
+            self.assertEqual([type(command) for command in trial.inverse()], [questions.Remove, questions.Import] * 2)
+        self.assertEqual(self.image(), self.before)
 
     def test_heights_are_given_back_by_edits(self):
         """Where the tiles agree and had heights, no tile leaves the store to be imported again."""

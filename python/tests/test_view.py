@@ -5,6 +5,7 @@ from __future__ import annotations
 import contextlib
 import http.client
 import json
+import math
 import os
 import signal
 import socket
@@ -15,7 +16,7 @@ import zlib
 from typing import Any, NamedTuple
 
 from mosaic_store.errors import ProgramNotFound
-from mosaic_store.lattice import VOID, Point
+from mosaic_store.lattice import METRES_A_DEGREE, VOID, Point
 from mosaic_store.session import memory_table
 from mosaic_store.stores import find_program
 from mosaic_store import lines
@@ -92,6 +93,23 @@ class Pictures(unittest.TestCase):
         heights, held = region.heights(Grid(2, 1, 3, 5, 1))
         self.assertEqual(heights.tolist(), [[2, 30, 31, 32, VOID], [5, 6, 34, 35, VOID], [8, 9, 37, 38, VOID]])
         self.assertEqual(held[0].tolist(), [True, True, True, True, False])
+
+
+    def test_a_tile_that_is_edited_while_it_is_read(self) -> None:
+        """What was read of it then isn't held."""
+        tile = np.arange(9, dtype=">i2")
+
+        def export(name: str) -> bytes:
+            data = tile.tobytes()
+            if not tile[0]:
+                tile[0] = 5
+                region.forget(region.corners)
+            return data
+
+        region = Region(3, ["N00E000"], export)
+        (corner,) = region.corners
+        self.assertEqual([int(region.tile(corner)[0, 0]) for _ in range(2)], [0, 5])
+        self.assertEqual(int(region.overview(corner)[0, 0]), 5)
 
 
 class Request(NamedTuple):
@@ -198,7 +216,10 @@ class Served(unittest.TestCase):
 
     def test_a_watershed_has_its_points(self) -> None:
         told = self.post("watershed", {"y": 20, "x": 80})
-        self.assertEqual((told["cells"], told["box"]["left"]), (self.session.watershed(20, 80).cells, 0))
+        found = self.session.watershed(20, 80)
+        self.assertEqual((told["cells"], told["box"]["left"]), (found.cells, 0))
+        area = math.fsum(math.cos(math.radians(y / (SIDE - 1))) for y, _ in found.points()) * (METRES_A_DEGREE / (SIDE - 1) / 1000) ** 2
+        self.assertAlmostEqual(told["km2"], area)
 
     def test_an_outlet_is_moved_to_the_stream(self) -> None:
         """The valley's stream runs along y = 20: of the points within 3 steps of (22, 60) most drain to (20, 63)."""

@@ -10,7 +10,7 @@ from collections.abc import Sequence
 from typing import TYPE_CHECKING
 
 from ..drawing import Scene, draw, range_of
-from ..lattice import Point, Window, degrees_of
+from ..lattice import Point, degrees_of
 from ..questions import Watershed
 from ..rasters import Heights, depths_of, heights_of, levels_of
 from ..session import Session
@@ -28,6 +28,7 @@ from .frame import (
     point_given,
     run,
     shown_place,
+    window_around,
     window_given,
     written_whole,
 )
@@ -37,7 +38,6 @@ if TYPE_CHECKING:
 
 NAME = "mosaic-draw"
 MOST_POINTS = 1201  # a whole tile of 3 arc seconds
-_LEAST_MARGIN = 20
 DESCRIPTION = f"""Draws a window of a store: shaded heights with degrees, a scale and a legend, on them what is asked for.
 
   mosaic-draw STORE river.png --watershed 37.5 -105.25
@@ -88,7 +88,7 @@ def _scene(session: Session, options: argparse.Namespace) -> Scene:
     path = [] if options.trace is None else session.trace(*point_given(options.trace, session, options.points))
     window = window_given(options.window, session, options.points)
     if options.window is None:
-        window = _around(window, [*road, *path, *_ends(watershed)])
+        window = window_around(window, [*road, *path, *_ends(watershed)])
     every = -(-max(window.height, window.width) // MOST_POINTS)
     if options.water and every > 1:
         raise CommandError(
@@ -104,16 +104,6 @@ def _scene(session: Session, options: argparse.Namespace) -> Scene:
 
 def _ends(watershed: Watershed | None) -> list[Point]:
     return [] if watershed is None else [Point(y, x) for y, first, last in watershed.runs for x in (first, last)]
-
-
-def _around(whole: Window, points: Sequence[Point]) -> Window:
-    """The window around what is drawn, a tenth wider on each side; the whole one where nothing is."""
-    if not points:
-        return whole
-    ys, xs = zip(*points)
-    margin = max(_LEAST_MARGIN, (max(ys) - min(ys)) // 10, (max(xs) - min(xs)) // 10)
-    south, west = max(whole.y0, min(ys) - margin), max(whole.x0, min(xs) - margin)
-    return Window(south, west, min(whole.y1, max(ys) + margin), min(whole.x1, max(xs) + margin))
 
 
 def _levels(session: Session, heights: Heights) -> Array:

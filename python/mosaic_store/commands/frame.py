@@ -19,7 +19,7 @@ from collections.abc import Callable, Iterator, Sequence
 from types import FrameType
 from typing import NoReturn
 
-from ..errors import MosaicError, Refusal, SessionDied
+from ..errors import MosaicError, Outside, Refusal, SessionDied
 from ..files import replacing
 from ..lattice import Place, Point, Window, corners_named, degrees_of
 from ..session import Session, open_store
@@ -32,6 +32,9 @@ DONE, FAILED, BAD_ARGUMENTS, INTERRUPTED = 0, 1, 2, 130
 
 MOST_POINTS = 50_000_000
 """The most points of a window whose water is asked for."""
+
+_LEAST_MARGIN = 20
+"""The fewest points that a picture's window has around what is drawn."""
 
 _SECONDS_BETWEEN_LINES = 10.0
 
@@ -186,11 +189,11 @@ def whole_point(numbers: Sequence[float]) -> Point:
 
 def _check_held(numbers: Sequence[float], point: Point, session: Session) -> None:
     """A CommandError in the words of the place that was given, where no tile holds it."""
-    windows = tile_windows(session)
-    if any(window.holds(point) for window in windows):
-        return
-    tiles = shown_window(Window.around(windows), session.side)
-    raise CommandError(f"no tile holds {shown_place(Place(*numbers))}: the tiles lie {tiles}{_hint(numbers, session)}")
+    try:
+        session.elevation(*point)
+    except Outside:
+        tiles = shown_window(extent_of(session), session.side)
+        raise CommandError(f"no tile holds {shown_place(Place(*numbers))}: the tiles lie {tiles}{_hint(numbers, session)}") from None
 
 
 def _hint(numbers: Sequence[float], session: Session) -> str:
@@ -224,6 +227,16 @@ def window_given(numbers: Sequence[float] | None, session: Session, as_points: b
         reach = shown_window(extent, session.side)
         raise CommandError(f"the window lies off the tiles, which reach {reach}: choose one there")
     return window
+
+
+def window_around(whole: Window, points: Sequence[Point]) -> Window:
+    """The window around what is drawn, a tenth wider on each side; the whole one where nothing is."""
+    if not points:
+        return whole
+    ys, xs = zip(*points)
+    margin = max(_LEAST_MARGIN, (max(ys) - min(ys)) // 10, (max(xs) - min(xs)) // 10)
+    south, west = max(whole.y0, min(ys) - margin), max(whole.x0, min(xs) - margin)
+    return Window(south, west, min(whole.y1, max(ys) + margin), min(whole.x1, max(xs) + margin))
 
 
 def check_size(window: Window, what: str, most: int = MOST_POINTS) -> None:
@@ -264,16 +277,25 @@ def check_picture(name: str) -> None:
         raise CommandError(f"{name}: the name of a picture ends in {', '.join(FORMS)}")
 
 
-@contextlib.contextmanager
-def written_whole(path: str) -> Iterator[str]:
-    """The name of a file to write beside `path`, which takes its place once it was written; a failure leaves nothing."""
+def check_place(path: str) -> None:
+    """A CommandError where no file of this name can be made."""
     target = pathlib.Path(path)
     if target.is_dir():
         raise CommandError(f"{path}: is a folder: give the name of a file in it")
     if not target.parent.is_dir():
         raise CommandError(f"{path}: there is no folder {target.parent}: make it first")
+
+
+@contextlib.contextmanager
+def written_whole(path: str) -> Iterator[str]:
+    """The name of a file to write beside `path`, which takes its place once it was written; a failure leaves nothing.
+
+    A pipe or a device stays, and takes what is written as it comes.
+    """
+    check_place(path)
+    is_file = not os.path.exists(path) or os.path.isfile(path)
     try:
-        with replacing(target) as made:
+        with replacing(path) if is_file else contextlib.nullcontext(path) as made:
             yield made
     except BrokenPipeError:
         raise

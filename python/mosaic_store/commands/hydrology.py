@@ -3,6 +3,7 @@
 from __future__ import annotations
 
 import argparse
+import collections
 import contextlib
 import csv
 import functools
@@ -29,11 +30,13 @@ from .frame import (
     add_places,
     add_window,
     check_picture,
+    check_place,
     check_size,
     opened,
     parser,
     point_given,
     run,
+    window_around,
     window_given,
     written_whole,
 )
@@ -49,7 +52,8 @@ DESCRIPTION = """What drains where in a window of a store. It needs numpy.
   mosaic-hydrology STORE above hand.tif --threshold 1000
                                                        metres above the nearest stream on each point's flow path
   mosaic-hydrology STORE streams streams.geojson --threshold 1000
-                                                       reaches with order (Strahler), length, drained points and km2
+                                                       reaches with order (Strahler; 1 where a stream enters the window),
+                                                       length, drained points and km2
   mosaic-hydrology STORE catchments areas.geojson --outlets culverts.csv --reach 5
                                                        nested catchments; columns latitude and longitude (or y and x), or a
                                                        GeoJSON of points; all other columns are carried on
@@ -69,7 +73,8 @@ DESCRIPTION = """What drains where in a window of a store. It needs numpy.
                                                        is taken out and imported again; STORE.voids has it meanwhile
 
 Numbers are degrees north and east; with --points they are points y x of the lattice. A window has at most 20 million points, that of
-a flood or of voids 50 million; edit takes lines of any length, of a file in degrees, and leaves nothing of them where it fails."""
+a flood or of voids 50 million; what drains into one from outside counts in km2 as wide as where it enters. edit takes lines of any
+length, of a file in degrees, and leaves nothing of them where it fails."""
 
 NO_ACCUMULATION = 0
 
@@ -91,13 +96,13 @@ def _parsed(arguments: Sequence[str] | None) -> argparse.Namespace:
     add_places(made)
     made.add_argument("--threshold", type=int, default=1000, metavar="POINTS", help="a stream is what so many points drain through; 1000")
     made.add_argument("--outlets", metavar="FILE", help="the outlets of catchments: .csv or .geojson")
-    made.add_argument("--reach", type=int, default=0, metavar="STEPS", help="moves each outlet to the nearest stream within so many steps")
+    made.add_argument("--reach", type=int, default=0, metavar="STEPS", help="moves each outlet, and the end of a path, to the nearest stream within so many steps")
     made.add_argument("--depths", type=int, nargs="+", default=[1], metavar="METRES", help="the least depths of the bands of a flood")
     made.add_argument("--at", type=float, nargs=2, metavar=("LATITUDE", "LONGITUDE"), help="the end of a path")
     made.add_argument("--dam", type=float, nargs="+", default=[], metavar="PLACE", help="the corners of a dam, two numbers each")
     made.add_argument("--crest", type=int, metavar="METRES", help="the height of a dam's crest")
     made.add_argument("--before", type=float, nargs=2, metavar=("LATITUDE", "LONGITUDE"), help="a place before the dam, under water")
-    made.add_argument("--picture", metavar="FILE", help="a picture of the full reservoir: .png, .svg or .pdf")
+    made.add_argument("--picture", metavar="FILE", help="a picture of the full reservoir and what is around it: .png, .svg or .pdf")
     made.add_argument("--most", type=int, default=10_000, metavar="POINTS", help="a void of more points is left; 10000")
     made.add_argument("--wall", type=int, metavar="METRES", help="raises lines to this height, or to a feature's property `height`")
     made.add_argument("--burn", type=int, metavar="METRES", help="lowers lines by this depth, or by a feature's property `depth`")
@@ -107,9 +112,23 @@ def _parsed(arguments: Sequence[str] | None) -> argparse.Namespace:
 
 def _run(options: argparse.Namespace) -> int:
     needed_numpy()
+    _check(options)
     with opened(options.store, options.program) as session:
         print(f"{options.file}: {WORKS[options.what](session, options)}")
     return DONE
+
+
+def _check(options: argparse.Namespace) -> None:
+    """A CommandError where nothing can come of the arguments, before anything is asked for."""
+    for name in (None if options.what == "edit" else options.file, options.picture):
+        if name is not None:
+            check_place(name)
+    if options.threshold < 1:
+        raise CommandError("a stream begins where 1 point and more drains through")
+    if options.reach < 0:
+        raise CommandError(f"an outlet moves by 0 steps and more, not {options.reach}")
+    if min(options.depths) < 1:
+        raise CommandError("depths are 1 metre and more")
 
 
 def _network(session: Session, options: argparse.Namespace) -> Network:
@@ -155,7 +174,7 @@ def _streams(session: Session, options: argparse.Namespace) -> str:
 
 
 def _catchments(session: Session, options: argparse.Namespace) -> str:
-    from ..hydrology import runs_of
+    from ..hydrology import runs_of_each
 
     if options.outlets is None:
         raise CommandError("catchments take --outlets, a .csv or a .geojson of places")
@@ -166,8 +185,7 @@ def _catchments(session: Session, options: argparse.Namespace) -> str:
     labels = network.catchments([outlet for outlet, _ in outlets])
     counts, areas = network.counts.ravel(), network.drained_area.ravel()
     features = []
-    for number, (outlet, carried) in enumerate(outlets):
-        runs = runs_of(labels == number, network.window)
+    for (outlet, carried), runs in zip(outlets, runs_of_each(labels, len(outlets), network.window)):
         cell = network.cell(outlet)
         own = {"what": "catchment", "cells": sum(run.last - run.first + 1 for run in runs)}
         drained = {"drained_points": int(counts[cell]), "drained_km2": round(float(areas[cell]), 4)}
@@ -194,8 +212,6 @@ def _flooded(session: Session, options: argparse.Namespace) -> str:
     depths = depths_of(heights, levels_of(session, heights, progress.tell_of))
     progress.clear()
     bounds = sorted(set(options.depths))
-    if bounds[0] < 1:
-        raise CommandError("depths are 1 metre and more")
     features = []
     for least, next_one in zip(bounds, [*bounds[1:], 1 << 17]):
         runs = runs_of((least <= depths) & (depths < next_one), window)
@@ -212,17 +228,19 @@ def _path(session: Session, options: argparse.Namespace) -> str:
     if options.at is None:
         raise CommandError("a path takes --at, the place where it ends")
     end = point_given(options.at, session, options.points)
-    figures = longest_path(_network(session, options), end)
+    network = _network(session, options)
+    figures = longest_path(network, network.snapped(end, options.reach, options.threshold))
     told = {"length_m": round(figures.length, 1), "fall_m": figures.fall, "slope": round(figures.slope, 6)}
     minutes = round(figures.minutes, 1) if figures.fall > 0 else None
     _write_json(options.file, [line_feature(figures.points, session.side, {"what": "longest path", **told, "minutes": minutes})])
-    return f"{figures.length / 1000:.2f} km, {figures.fall} m of fall, time of concentration {minutes} minutes (Kirpich)"
+    time = "no time of concentration" if minutes is None else f"time of concentration {minutes} minutes (Kirpich)"
+    return f"{figures.length / 1000:.2f} km, {figures.fall} m of fall, {time}"
 
 
 def _reservoir(session: Session, options: argparse.Namespace) -> str:
     from ..drawing import Scene, draw
-    from ..hydrology import reservoir
-    from ..rasters import heights_of
+    from ..hydrology import reservoir, runs_of
+    from ..rasters import heights_of, place_in
 
     if len(options.dam) < 4 or len(options.dam) % 2 or options.crest is None or options.before is None:
         raise CommandError("a reservoir takes --dam with two places and more, --crest and --before")
@@ -238,7 +256,10 @@ def _reservoir(session: Session, options: argparse.Namespace) -> str:
         rows.writerow(["level_m", "area_km2", "volume_m3"])
         rows.writerows((stage.level, f"{stage.area / 1e6:.6f}", f"{stage.volume:.0f}") for stage in found.stages)
     if options.picture is not None:
-        scene = Scene(heights_of(session, window), f"full at {found.spills_at} m", depths=found.depths, road=corners)
+        wet = [Point(run.y, x) for run in runs_of(found.depths > 0, window) for x in (run.first, run.last)]
+        shown = window if options.window else window_around(window, [*corners, *wet])
+        depths = found.depths[place_in(window, shown)]
+        scene = Scene(heights_of(session, shown), f"full at {found.spills_at} m", depths=depths, road=corners, road_name="dam")
         with written_whole(options.picture) as path:
             draw(scene, path)
     full = found.stages[-1]
@@ -255,9 +276,12 @@ def _edit(session: Session, options: argparse.Namespace) -> str:
     if not amounts:
         raise CommandError(f"{options.file}: it has no point and no line")
     before = _heights(session, amounts)
+    points_of = collections.defaultdict(list)
+    for point, amount in amounts.items():
+        points_of[amount].append(point)
     with session.trial() as trial:
-        for amount in sorted(set(amounts.values())):
-            for part in lines.commands([point for point, own in amounts.items() if own == amount]):
+        for amount in sorted(points_of):
+            for part in lines.commands(points_of[amount]):
                 act(amount, part)
         # Before they are kept: where it can't be told what they moved, they are taken back.
         moved = earthwork(before, _heights(session, amounts), session.side)

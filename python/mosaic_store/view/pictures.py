@@ -21,13 +21,14 @@ EXAGGERATED = 2.5
 """How many times steeper than it is the terrain is shaded."""
 
 
-def relief(heights: Samples, held: NDArray[np.bool_], metres: float, lowest: int, highest: int) -> Colours:
+def relief(heights: Samples, held: NDArray[np.bool_], east: NDArray[np.float64], north: float, lowest: int, highest: int) -> Colours:
     """Shaded relief of all but the outermost ring of a grid, lit from the north-west.
 
-    `metres` is the distance of two points of the grid; points that no tile holds are transparent.
+    `east` and `north` are the distances of two points of the grid in metres, eastwards of each row, of shape (rows, 1). Points
+    that no tile holds are transparent.
     """
-    steep = metres / EXAGGERATED
-    return opaque(shading.relief(heights, lowest, highest, steep, steep), np.where(held[1:-1, 1:-1], 255, 0))
+    colours = shading.relief(heights, lowest, highest, east / EXAGGERATED, north / EXAGGERATED)
+    return opaque(colours, np.where(held[1:-1, 1:-1], 255, 0))
 
 
 def water(depths: NDArray[np.int32]) -> Colours:

@@ -51,6 +51,8 @@ class Region:
         self._most_tiles = max(4, most_bytes // (2 * side * side))
         self._tiles: OrderedDict[Corner, Samples] = OrderedDict()
         self._overviews: dict[Corner, Samples] = {}
+        self.edits = 0
+        """How often tiles were edited: what was read before isn't held after."""
 
     def bounds(self) -> Window:
         """The least box of points that has all tiles in it."""
@@ -68,6 +70,7 @@ class Region:
     def forget(self, corners: Iterable[Corner]) -> None:
         """Lets go of the samples of tiles that were edited."""
         with self._lock:
+            self.edits += 1
             for corner in corners:
                 self._tiles.pop(corner, None)
                 self._overviews.pop(corner, None)
@@ -79,10 +82,12 @@ class Region:
             if held is not None:
                 self._tiles.move_to_end(corner)
                 return held
+            edits = self.edits
         samples = array_of(self._export(corner.name))
         with self._lock:
-            self._tiles[corner] = samples
-            self._overviews[corner] = samples[::OVERVIEW_STEP, ::OVERVIEW_STEP].copy()
+            if edits == self.edits:
+                self._tiles[corner] = samples
+                self._overviews[corner] = samples[::OVERVIEW_STEP, ::OVERVIEW_STEP].copy()
             while len(self._tiles) > self._most_tiles:
                 self._tiles.popitem(last=False)
         return samples

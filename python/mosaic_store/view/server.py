@@ -21,7 +21,6 @@ from http import HTTPStatus
 from http.server import BaseHTTPRequestHandler, ThreadingHTTPServer
 from importlib.resources import files
 from typing import Any
-from urllib.parse import urlsplit
 
 from ..errors import BadArgument, Refusal
 from .workbench import BadRequest, Workbench
@@ -135,7 +134,7 @@ class _Handler(BaseHTTPRequestHandler):
         if "Transfer-Encoding" in self.headers or len(self.headers.get_all("Content-Length", [])) > 1:
             self._fail(HTTPStatus.BAD_REQUEST, "a request tells its length, once")
             return None
-        token, slash, rest = urlsplit(self.path).path.removeprefix("/").partition("/")
+        token, slash, rest = self.path.partition("?")[0].removeprefix("/").partition("/")
         if not slash or not secrets.compare_digest(token.encode(), self.server.token.encode()):
             self._fail(HTTPStatus.NOT_FOUND, "there is nothing at this path; open the address that mosaic-view printed")
             return None
@@ -144,7 +143,7 @@ class _Handler(BaseHTTPRequestHandler):
     def _words(self) -> Mapping[str, Any] | None:
         """The request's body, which has to be a JSON object; None where the request was refused already."""
         length = self.headers.get("Content-Length", "")
-        if self.headers.get_content_type() != "application/json" or not length.isascii() or not length.isdigit() or int(length) > MOST_BYTES:
+        if self.headers.get_content_type() != "application/json" or not re.fullmatch("[0-9]{1,9}", length) or int(length) > MOST_BYTES:
             self._fail(HTTPStatus.BAD_REQUEST, f"a request is JSON of at most {MOST_BYTES} bytes")
             return None
         body = self.rfile.read(int(length))

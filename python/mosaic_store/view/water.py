@@ -16,6 +16,8 @@ class Water:
     """Depths of standing water in metres, one for each point of a window."""
 
     depths: NDArray[np.int32]
+    areas: NDArray[np.float64]
+    """Of the cells of each row, in square metres, of shape (rows, 1)."""
 
     @property
     def points(self) -> int:
@@ -29,10 +31,10 @@ class Water:
 
     @property
     def volume(self) -> int:
-        """The sum of all depths: metres times points."""
-        return int(self.depths.sum())
+        """In cubic metres."""
+        return round(float((self.depths * self.areas).sum()))
 
 
 def standing_water(session: Session, heights: Heights) -> Water:
     """The water on a window; none where there is no ground."""
-    return Water(np.maximum(depths_of(heights, levels_of(session, heights)), 0))
+    return Water(np.maximum(depths_of(heights, levels_of(session, heights)), 0), heights.cell_areas())

@@ -23,7 +23,7 @@ import numpy as np
 from .. import lines
 from ..commands.raster import LAYERS
 from ..errors import MosaicError, SessionDied
-from ..geojson import Feature, collection, trace_feature, watershed_feature
+from ..geojson import Feature, collection, square_kilometres, trace_feature, watershed_feature
 from ..grids import write_grid
 from ..lattice import METRES_A_DEGREE, VOID, Point, Window
 from ..network import network_of, stream_features
@@ -187,7 +187,7 @@ class Workbench:
             raise BadRequest("there is no picture at this zoom")
         key = (layer, zoom, row, column)
         with self._lock:
-            held = self._pictures.get(key)
+            held, edits = self._pictures.get(key), self.region.edits
         if held is not None:
             return held
         step = 1 << zoom
@@ -195,7 +195,8 @@ class Workbench:
         grid = Grid(row * span + span - step, column * span, PIXELS, PIXELS, step)
         drawn = pictures.png(self._relief(grid) if layer == "relief" else self._standing(grid))
         with self._lock:
-            self._pictures[key] = drawn
+            if edits == self.region.edits:
+                self._pictures[key] = drawn
             while len(self._pictures) > 512:
                 self._pictures.popitem(last=False)
         return drawn
@@ -203,7 +204,9 @@ class Workbench:
     def _relief(self, grid: Grid) -> pictures.Colours:
         ring = Grid(grid.top + grid.step, grid.left - grid.step, grid.rows + 2, grid.columns + 2, grid.step)
         heights, held = self.region.heights(ring)
-        return pictures.relief(heights, held, self._metres(grid.step), self.lowest, self.highest)
+        north = self._metres(grid.step)
+        east = north * np.cos(np.radians(grid.ys() / (self.region.side - 1))).clip(0.01)[:, None]
+        return pictures.relief(heights, held, east, north, self.lowest, self.highest)
 
     def _standing(self, grid: Grid) -> pictures.Colours:
         return pictures.water(standing_water(self._store, self.region.window_of(grid)).depths)
@@ -235,7 +238,7 @@ class Workbench:
         }
 
     def watershed(self, point: Point, snap: int = 0) -> dict[str, Any]:
-        """The watershed of a point, moved to the stream within some steps: how many points it has, and a picture with its box."""
+        """The watershed of a point, moved to the stream within some steps: its points, its area, and a picture with its box."""
         y, x = self._inside(point)
         if snap:
             y, x = snapped(self._store, point, snap)
@@ -247,7 +250,8 @@ class Workbench:
         for row, first, last in zip((top - runs[:, 0]) // step, (runs[:, 1] - left) // step, (runs[:, 2] - left) // step):
             marked[row, first : last + 1] = True
         box = {"top": int(top), "left": int(left), "rows": marked.shape[0] * step, "columns": marked.shape[1] * step}
-        return {"y": y, "x": x, "cells": found.cells, "box": box, "picture": as_url(pictures.mask(marked, WATERSHED, 120))}
+        picture = as_url(pictures.mask(marked, WATERSHED, 120))
+        return {"y": y, "x": x, "cells": found.cells, "km2": square_kilometres(found.runs, self.region.side), "box": box, "picture": picture}
 
     def geojson(self, point: Point, what: object) -> Feature:
         """The "watershed" or the flow "path" of a point, as a file holds it."""

@@ -233,19 +233,14 @@ function showPoint() {
     rows.push(["Filled level", `${asked.level} m`], ["Standing water", `${asked.level - asked.height} m`]);
     rows.push(["Flows", flowsTo(asked.direction)], ["Flow path", pointsOf(asked.steps)]);
   }
-  if (watershed) rows.push(["Watershed", `${watershed.cells.toLocaleString("en")} points, ${squareKilometres(watershed.cells, asked.y)} km²`]);
+  if (watershed) rows.push(["Watershed", `${watershed.cells.toLocaleString("en")} points, ${squareKilometres(watershed)} km²`]);
   byId("point").replaceChildren(...rows.flatMap(([name, value]) => [term("dt", name), term("dd", value)]));
   byId("watershed").disabled = byId("save-path").disabled = asked.height === null;
   byId("save-watershed").disabled = watershed === null;
 }
 
-// The square metres that a point of a latitude stands for.
-function squareMetres(y) {
-  return region.metres ** 2 * Math.cos((y / (region.side - 1) * Math.PI) / 180);
-}
-
-function squareKilometres(points, y) {
-  return Number((points * squareMetres(y) / 1e6).toPrecision(3)).toLocaleString("en");
+function squareKilometres(area) {
+  return Number(area.km2.toPrecision(3)).toLocaleString("en");
 }
 
 function flowsTo(direction) {
@@ -267,7 +262,7 @@ async function askWatershed(snap) {
   watershed = { ...told, image: await imageOf(told.picture) };
   showPoint();
   const moved = steps ? `; its outlet was moved ${steps} step${steps > 1 ? "s" : ""} to where most drains to` : "";
-  return `Watershed of ${told.cells.toLocaleString("en")} points, ${squareKilometres(told.cells, asked.y)} km²${moved}`;
+  return `Watershed of ${told.cells.toLocaleString("en")} points, ${squareKilometres(told)} km²${moved}`;
 }
 
 // Has the browser save the watershed or the path that is shown.
@@ -296,8 +291,8 @@ function shownWindow() {
 async function askStreams() {
   const threshold = Number(byId("threshold").value);
   takeStreams(await request("streams", { window: shownWindow(), threshold }));
-  const orders = streams.features.map(({ properties }) => properties.order);
-  return `${orders.length} reaches of order ${Math.max(0, ...orders)} at most, where ${threshold} points and more drain through`;
+  const most = streams.features.reduce((most, { properties }) => Math.max(most, properties.order), 0);
+  return `${streams.features.length} reaches of order ${most} at most, where ${threshold} points and more drain through`;
 }
 
 function takeStreams(told) {
@@ -410,11 +405,10 @@ function showTrial() {
   showLine();
   if (!trial) return;
   byId("trial").scrollIntoView({ block: "nearest" });
-  const cubicMetres = (water) => Math.round(water.volume * squareMetres(trial.box.top));
   const rows = [
     ["Points under water", (water) => water.points],
     ["Deepest, m", (water) => water.deepest],
-    ["Volume, m³", cubicMetres],
+    ["Volume, m³", (water) => water.volume],
     ["Level at the line, m", (water) => water.level],
   ];
   byId("effects").replaceChildren(...rows.map(([name, told]) => {
