@@ -44,7 +44,7 @@ DESCRIPTION = f"""Draws a window of a store: shaded heights with degrees, a scal
   mosaic-draw STORE pond.png --window 0.12 0.32 0.17 0.37 --water --road 0.1525 0.3275 0.1525 0.3525
 
 Without --window it is the one around what is asked for, or all tiles. One of more than {MOST_POINTS} points one way is thinned.
-Standing water takes a question for each pit of the window, and isn't drawn in thinned ones."""
+Standing water isn't drawn in thinned ones; where mosaic-tiles isn't beside the program, it takes a question for each pit."""
 
 
 def main(arguments: Sequence[str] | None = None) -> int:
@@ -56,7 +56,7 @@ def _parsed(arguments: Sequence[str] | None) -> argparse.Namespace:
     made = parser(NAME, DESCRIPTION)
     made.add_argument("store")
     made.add_argument("picture", help="the file to write: .png, .svg or .pdf")
-    add_window(made)
+    add_window(made, "what is around the rest, or all tiles,")
     place = ("LATITUDE", "LONGITUDE")
     made.add_argument("--watershed", nargs=2, type=float, metavar=place, help="the watershed of a place, its outlet")
     made.add_argument("--trace", nargs=2, type=float, metavar=place, help="the flow path of a place")

@@ -94,14 +94,14 @@ def outlet_given(numbers: Sequence[float], session: Session, options: argparse.N
     return snapped(session, point, options.snap) if options.snap else point
 
 
-def add_window(made: argparse.ArgumentParser) -> None:
-    """Lets a window be given."""
+def add_window(made: argparse.ArgumentParser, otherwise: str = "all tiles") -> None:
+    """Lets a window be given; `otherwise` says which it is else."""
     made.add_argument(
         "--window",
         nargs=4,
         type=float,
         metavar=("SOUTH", "WEST", "NORTH", "EAST"),
-        help="the window, ends included; all tiles without it",
+        help=f"the window, ends included; {otherwise} without it",
     )
 
 
