@@ -28,6 +28,10 @@ class StoreBusy(CannotOpen):
     """Another program has the store open."""
 
 
+class NoCauseSeen(CannotOpen):
+    """The program didn't open the store, and nothing tells why: it may be well when it is tried again."""
+
+
 class StoreExists(MosaicError):
     """A file is there where a store was to be made."""
 

@@ -28,6 +28,7 @@ from .errors import (
     BadName,
     BadReply,
     Device,
+    NoCauseSeen,
     NothingVoid,
     Refusal,
     SessionDied,
@@ -399,7 +400,7 @@ class Session:
             try:
                 self._start_once()
                 return
-            except StoreBusy:
+            except (StoreBusy, NoCauseSeen):
                 if time.monotonic() >= until:
                     raise
                 time.sleep(_BUSY_PAUSE)

@@ -11,7 +11,7 @@ from collections.abc import Sequence
 from dataclasses import dataclass
 from typing import Union
 
-from .errors import BadArgument, BadReply, CannotOpen, ProgramNotFound, StoreBusy, StoreExists, refusal_of
+from .errors import BadArgument, BadReply, CannotOpen, NoCauseSeen, ProgramNotFound, StoreBusy, StoreExists, refusal_of
 
 PathLike = Union[str, bytes, "os.PathLike[str]", "os.PathLike[bytes]"]
 
@@ -106,7 +106,7 @@ def cannot_open(path: PathLike) -> CannotOpen:
         return CannotOpen(f"{shown}: no right to read and write it: ask its owner, or change its mode")
     if _is_locked(path):
         return StoreBusy(f"{shown}: another program has it open: end that one first, or ask through it")
-    return StoreBusy(f"{shown}: another program had it open until now, or its file system takes no locks: try again")
+    return NoCauseSeen(f"{shown}: another program had it open until now, the drive failed a call, or takes no locks: try again")
 
 
 def run_program(words: Sequence[str | bytes], path: PathLike, program: PathLike | None = None) -> list[str]:

@@ -299,7 +299,7 @@ if os.path.exists({str(met)!r}):
 open({str(met)!r}, "w").close()
 print("mosaic: cannot open", sys.argv[2])
 sys.exit(1)""")
-        with self.assertRaises(StoreBusy):
+        with self.assertRaises(CannotOpen):
             open_store(path, busy_at_first)
         met.unlink()
         with open_store(path, busy_at_first, wait=A_WHILE) as store:
