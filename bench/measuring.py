@@ -1,10 +1,9 @@
 """What the measurements have in common: the tools, conversations with the program, and stores of tiles."""
 
 import atexit
-import importlib.machinery
-import importlib.util
 import pathlib
 import shutil
+import signal
 import subprocess
 import sys
 import tempfile
@@ -12,33 +11,31 @@ import time
 
 BENCH = pathlib.Path(__file__).resolve().parent
 ROOT = BENCH.parent
+sys.path.append(str(ROOT / "examples"))
+
+import running
+
 MB = 1 << 20
 OF_TILES = ("export", "levels", "directions", "upstream")
 
 
-def loaded(name):
-    """A measurement as a module."""
-    loader = importlib.machinery.SourceFileLoader(name, str(BENCH / name))
-    module = importlib.util.module_from_spec(importlib.util.spec_from_loader(name, loader))
-    loader.exec_module(module)
-    return module
-
-
 def folder_for(keep):
-    """The folder that --keep names, or one that is taken away at the end, also of a run that fails."""
+    """The folder that --keep names, or one that is taken away at the end, also of a run that fails or is ended by SIGTERM."""
     folder = pathlib.Path(keep or tempfile.mkdtemp(prefix="bench-")).resolve()
     folder.mkdir(parents=True, exist_ok=True)
     if not keep:
         atexit.register(shutil.rmtree, folder, ignore_errors=True)
+        signal.signal(signal.SIGTERM, lambda *_: sys.exit(143))
+    elif any(folder.iterdir()) and not (folder / "terrain").is_file():
+        sys.exit(f"bench: {folder} isn't empty, and no measurement left it: name a new folder")
     return folder
 
 
 def build(folder):
     """Builds the C++ tools into the folder, and the program; answers the program's path."""
     for name in ("terrain", "reference"):
-        subprocess.run(["g++", "-O2", "-std=c++17", "-o", folder / name, BENCH / f"{name}.cpp"], check=True)
-    program = subprocess.run([ROOT / "examples" / "program"], check=True, stdout=subprocess.PIPE, text=True)
-    return pathlib.Path(program.stdout.strip())
+        running.compiled(name, folder)
+    return pathlib.Path(running.program())
 
 
 def made(program, path, side, capacity):

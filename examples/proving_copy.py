@@ -3,8 +3,12 @@
 import contextlib
 import os
 import pathlib
+import re
 import shutil
-import tempfile
+import subprocess
+import sys
+
+from running import scratch
 
 ROOT = pathlib.Path(__file__).resolve().parent.parent
 
@@ -21,10 +25,40 @@ def link_kept(copy):
 @contextlib.contextmanager
 def proving_copy():
     """The folder of the copy, which goes at the end. It has no wrong bodies."""
-    with tempfile.TemporaryDirectory() as name:
-        copy = pathlib.Path(name)
+    if shutil.which("rt") is None:
+        sys.exit("examples: the toolchain's command `rt` isn't found: it has to be on PATH")
+    with scratch() as folder:
+        copy = folder / "copy"
         shutil.copytree(ROOT / "crates", copy / "crates", ignore=shutil.ignore_patterns("out", "must-fail", "wrong-bodies"))
         link_kept(copy)
         shutil.copy(ROOT / "crates.txt", copy)
         shutil.copy(ROOT / "HANDLES", copy)
         yield copy
+
+
+def told(words, folder):
+    """A command's status, and what it writes."""
+    done = subprocess.run(words, cwd=folder, stdout=subprocess.PIPE, stderr=subprocess.STDOUT, stdin=subprocess.DEVNULL, text=True, errors="replace")
+    return done.returncode, done.stdout
+
+
+def not_proved(copy, crate):
+    """Why a crate of the copy isn't proved; None where it is."""
+    status, output = told(["rt", "check", "--jobs", "1"], copy / "crates" / crate)
+    lines = output.splitlines()
+    if status == 0 and any(line.startswith("logic=proved") for line in lines):
+        return None
+    return next((line for line in lines if re.search(r": error|^error", line)), lines[-1] if lines else "no output")[:200]
+
+
+def edits_in(folder):
+    """What lies in a folder of edits, but for what is only to be read."""
+    return sorted(path for path in folder.iterdir() if path.suffix != ".md")
+
+
+def crates_asked(script, kind):
+    """The crates that have a folder of this kind, or those that the command line names of them."""
+    every = sorted(path.parent.name for path in (ROOT / "crates").glob(f"*/{kind}"))
+    if unknown := set(sys.argv[1:]) - set(every):
+        sys.exit(f"examples/{script}: no {kind} in {' '.join(sorted(unknown))}. They are in {' '.join(every)}")
+    return sys.argv[1:] or every
