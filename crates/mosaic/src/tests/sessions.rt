@@ -16,23 +16,32 @@ pub(super) fn serves(rt: &HostRuntime, path: &str, said: &[Said]) -> bool {
 #[test]
 fn what_check_tells(rt: HostRuntime) -> Result<(), Fail> {
     let m = cleared(&rt, "server_test_check");
-    let said = [
+    let stepped = [
         ("import N00E000 $G", "OK 1"),
+        ("step", "OK N00E000"),
+        ("step", "OK none"),
         ("import N00E001 $H", "OK 2"),
+        ("step", "OK N00E000"),
+        ("step", "OK N00E001"),
+        ("step", "OK none"),
+    ];
+    let both_fresh = b"count 2 commits 6\nN00E000 fresh\nN00E001 fresh\nseams 1\n";
+    let walled = [
         ("import N00E002 $D", "OK 3"),
         ("import N00E003 $C", "OK 4"),
-        ("step", "OK N00E000"),
         ("step", "OK N00E001"),
         ("step", "OK N00E002"),
         ("step", "OK N00E003"),
         ("wall 5 1 8", "OK 5"),
     ];
-    let report =
-        b"count 5 commits 10\nN00E000 fresh\nN00E001 fresh\nN00E002 stale\nN00E003 stale\nseams 2\n";
+    let two_stale =
+        b"count 5 commits 12\nN00E000 fresh\nN00E001 fresh\nN00E002 stale\nN00E003 stale\nseams 2\n";
     let all = [
         ends(&rt, &["format", m, "3", "4"], b"", 0, b"OK 0\n"),
-        serves(&rt, m, &said),
-        ends(&rt, &["check", m], b"", 0, report),
+        serves(&rt, m, &stepped),
+        ends(&rt, &["check", m], b"", 0, both_fresh),
+        serves(&rt, m, &walled),
+        ends(&rt, &["check", m], b"", 0, two_stale),
     ];
     assert_all(&rt, &all, "what check tells");
     fs::remove_file(&rt, m)?;
