@@ -24,7 +24,7 @@ Questions that wait at the same moment are asked together. A command that was an
 is killed, the service begins it anew and asks again only what doesn't stand; where the service is killed, start it again.
 A refusal is status 404 where the point has no answer, 503 where the store failed, else 409, with its number and word; what
 can't be read is 400, what is asked of another name than this machine's own, or by a page of another site, is 403, and who
-takes longer than a minute for a request is let go. Each of these is a line on standard error.
+takes longer than a minute for a request, or to take an answer, is let go. Each of these is a line on standard error.
 """
 
 import argparse
@@ -123,7 +123,7 @@ class Service:
             with contextlib.suppress(ConnectionError):
                 await send(writer, 400, {"error": str(error)}, last=True)
         except (asyncio.IncompleteReadError, asyncio.TimeoutError, ConnectionError):
-            pass  # it left, or sent nothing for too long
+            pass  # it left, or sent or took nothing for too long
         finally:
             writer.close()
 
@@ -252,7 +252,11 @@ async def send(writer, status, answer, last=False):
     ending = "Connection: close\r\n" if last else ""
     head = f"HTTP/1.1 {status} -\r\nContent-Type: application/{kind}\r\nContent-Length: {len(body)}\r\n{ending}\r\n"
     writer.write(head.encode() + body)
-    await writer.drain()
+    try:
+        await asyncio.wait_for(writer.drain(), SECONDS_TO_SEND)
+    except asyncio.TimeoutError:
+        writer.transport.abort()  # else what it doesn't take stays in memory
+        raise ConnectionAbortedError from None
 
 
 def told(answer):

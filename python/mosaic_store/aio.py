@@ -17,7 +17,7 @@ from concurrent.futures import Future, ThreadPoolExecutor
 from typing import Any, ParamSpec, TypeVar
 
 from . import session as sessions
-from .errors import BadArgument, Refusal
+from .errors import BadArgument, Refusal, SessionDied
 from .lattice import Direction, Place, Point
 from .questions import Command, Numbers, Question, Watershed
 from .stores import PathLike, Report
@@ -32,7 +32,8 @@ class Session:
     """A session that is awaited. Made by `open_store` or `memory_table`, to be used in an `async with`.
 
     Its one thread asks one line at a time, in the order in which they were awaited, so that no event loop waits for the
-    program. A task that is cancelled stops waiting; the line that it asked is answered all the same, and a command made.
+    program. A task that is cancelled stops waiting: a line that was sent is answered all the same, and a command made, and one
+    whose turn hasn't come isn't sent.
     """
 
     def __init__(self, begin: Callable[[], sessions.Session]) -> None:
@@ -70,7 +71,7 @@ class Session:
 
     async def close(self) -> None:
         """Ends the program once what was asked is answered."""
-        await self._call(self.blocking.close)
+        await asyncio.shield(self._call(self.blocking.close))
 
     @property
     def blocking(self) -> sessions.Session:
@@ -80,7 +81,11 @@ class Session:
         return self._session
 
     async def _call(self, act: Callable[Given, Result], *given: Given.args, **named: Given.kwargs) -> Result:
-        return await asyncio.get_running_loop().run_in_executor(self._worker, functools.partial(act, *given, **named))
+        try:
+            asked = asyncio.get_running_loop().run_in_executor(self._worker, functools.partial(act, *given, **named))
+        except RuntimeError:  # its thread has ended
+            raise SessionDied("the session is closed") from None
+        return await asked
 
     # ---- the store, known without a question ----
 
@@ -250,7 +255,7 @@ class Readers:
     async def end(self) -> None:
         """Waits until all that was asked is answered."""
         if self._asking is not None:
-            await self._asking
+            await asyncio.shield(self._asking)  # others may wait for answers when this task is cancelled
 
     async def _ask_waiting(self) -> None:
         """Asks what waits, as much at a time as there is."""

@@ -40,8 +40,7 @@ class Source:
     @property
     def shown(self) -> str:
         """Its path, and its name in the archive after a colon, in characters that any terminal shows."""
-        name = str(self.path) if self.member is None else f"{self.path}:{self.member}"
-        return name.encode("utf-8", "backslashreplace").decode()
+        return _shown(str(self.path) if self.member is None else f"{self.path}:{self.member}")
 
     @property
     def corner(self) -> Corner | None:
@@ -123,7 +122,7 @@ def sources_of(path: pathlib.Path) -> Iterator[Source | Trouble]:
     elif _is(name, ".zip"):
         yield from _members(path)
     else:
-        yield Trouble(str(path), "no HGT file, and no archive of them", "")
+        yield Trouble(_shown(str(path)), "no HGT file, and no archive of them", "")
 
 
 def _members(path: pathlib.Path) -> Iterator[Source | Trouble]:
@@ -131,17 +130,22 @@ def _members(path: pathlib.Path) -> Iterator[Source | Trouble]:
         with zipfile.ZipFile(path) as archive:
             held = [entry for entry in archive.infolist() if _is(entry.filename, ".hgt") and not _is_shadow(entry.filename)]
     except (OSError, zipfile.BadZipFile, NotImplementedError, ValueError) as fault:
-        yield Trouble(str(path), f"not read as a zip: {_reason(fault)}", "fetch it again")
+        yield Trouble(_shown(str(path)), f"not read as a zip: {_reason(fault)}", "fetch it again")
         return
     for entry in held:
         yield Source(path, entry.filename, entry.file_size)
     if not held:
-        yield Trouble(str(path), "a zip without an HGT file", "")
+        yield Trouble(_shown(str(path)), "a zip without an HGT file", "")
 
 
 def _is_shadow(name: str) -> bool:
     """Whether a Mac wrote it beside a file, under its name, with what it knows of it."""
     return name.rsplit("/", 1)[-1].startswith("._")
+
+
+def _shown(name: str) -> str:
+    """A name in characters that any terminal shows, in one line."""
+    return "".join(letter if letter.isprintable() else ascii(letter)[1:-1] for letter in name)
 
 
 def _is(name: str, ending: str) -> bool:

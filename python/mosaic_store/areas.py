@@ -19,11 +19,12 @@ from collections.abc import Iterable, Iterator, Mapping, Sequence
 from dataclasses import dataclass
 from typing import TYPE_CHECKING, TypeVar
 
-from .errors import Refusal, Void
+from .directions import directions_at
+from .errors import Refusal
 from .geojson import Feature, points_feature
 from .hydrology import runs_of
 from .lattice import VOID, Corner, Direction, Point, Run, Window, corners_named, corners_of
-from .questions import FlowDirection, Question, Trace, WatershedOf
+from .questions import Question, Trace, WatershedOf
 from .rasters import STEPS, grown, ring
 from .samples import needed_numpy
 from .session import Session
@@ -72,7 +73,7 @@ def drained(session: Session, region: Iterable[str]) -> Drained:
     side = session.side
     tiles = set(corners_named(session.tiles()))
     cut = _cut(tiles, set(corners_named(region)) - tiles, side)
-    directions = _directions(session, sorted(cut | _possible_outlets(session)))
+    directions = directions_at(session, sorted(cut | _possible_outlets(session)))
     next_of_cut = {point: directions[point].onward(point) for point in cut if point in directions}
     last_of_cut = [point for point, after in next_of_cut.items() if after not in cut]
     leaving = _rows(_sheds(session, last_of_cut))
@@ -106,7 +107,7 @@ def downstream(session: Session, points: Iterable[Point]) -> Array:
     front = set(points)
     while len(front) > _FEW:
         found |= front
-        directions = _directions(session, sorted(front))
+        directions = directions_at(session, sorted(front))
         front = {after for point, direction in directions.items() if (after := direction.onward(point)) is not None} - found
     found.update(*_answers(session, (Trace(*point) for point in sorted(front))))
     return _as_runs(sorted(found))
@@ -213,17 +214,6 @@ def _possible_outlets(session: Session) -> set[Point]:
         void = session.tile(corner.name) == VOID
         rows, columns = numpy.nonzero((grown(void) | ring(void.shape)) & ~void)
         found |= {Point(window.y1 - row, window.x0 + column) for row, column in zip(rows.tolist(), columns.tolist())}
-    return found
-
-
-def _directions(session: Session, points: Sequence[Point]) -> dict[Point, Direction]:
-    """The direction of each point that is ground."""
-    found = {}
-    for point, direction in zip(points, session.pipeline(FlowDirection(*point) for point in points)):
-        if isinstance(direction, Direction):
-            found[point] = direction
-        elif not isinstance(direction, Void):
-            raise direction
     return found
 
 

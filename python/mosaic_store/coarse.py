@@ -11,9 +11,10 @@ from collections.abc import Iterable, Iterator
 from dataclasses import dataclass
 from typing import TYPE_CHECKING
 
+from .directions import directions_at
 from .errors import BadArgument, Refusal
 from .lattice import MOST_TILES, VOID, Corner, Direction, Point, Run, Window
-from .questions import FlowDirection, WatershedOf
+from .questions import WatershedOf
 from .rasters import grown, place_in, ring
 from .samples import needed_numpy
 from .session import Session, memory_table
@@ -131,8 +132,7 @@ def _beside_none(coarse: Coarse) -> list[Point]:
 
 
 def _basins(table: Session, candidates: list[Point]) -> Iterator[CoarseBasin]:
-    directions = table.ask_many(FlowDirection(*point) for point in candidates)
-    outlets = [point for point, found in zip(candidates, directions) if found is Direction.OFF]
+    outlets = [point for point, found in directions_at(table, candidates).items() if found is Direction.OFF]
     for outlet, shed in zip(outlets, table.pipeline(WatershedOf(*outlet) for outlet in outlets)):
         if isinstance(shed, Refusal):
             raise shed

@@ -8,9 +8,11 @@ the window are asked of the program. Where whole tiles are told at once they are
 
 from __future__ import annotations
 
+from collections.abc import Sequence
 from typing import TYPE_CHECKING
 
-from .lattice import Window
+from .errors import Outside, Void
+from .lattice import Direction, Point, Window
 from .questions import FlowDirection
 from .rasters import (
     NO_DIRECTION,
@@ -32,6 +34,17 @@ from .session import Session
 
 if TYPE_CHECKING:
     from .samples import Array
+
+
+def directions_at(session: Session, points: Sequence[Point]) -> dict[Point, Direction]:
+    """The direction of each of some points that is ground. Any other refusal than that one isn't is raised."""
+    found = {}
+    for point, direction in zip(points, session.pipeline(FlowDirection(*point) for point in points)):
+        if isinstance(direction, Direction):
+            found[point] = direction
+        elif not isinstance(direction, (Outside, Void)):
+            raise direction
+    return found
 
 
 def directions_of(session: Session, heights: Heights, told: Told | None = None) -> Array:

@@ -70,6 +70,9 @@ class Refusal(MosaicError):
         shown = line if len(line) <= 60 else f"{line[:40]} .. {line[-16:]}"
         super().__init__(f"{self.number} {self.word}: {self.cause}" + (f" ({shown})" if line else ""))
 
+    def __reduce__(self) -> tuple[type[Refusal], tuple[str]]:
+        return type(self), (self.line,)  # made anew where another process answers it: its message is made of the line
+
 
 class BadLine(Refusal):
     number, word = 1, "BadLine"

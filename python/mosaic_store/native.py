@@ -23,6 +23,7 @@ from typing import TYPE_CHECKING, Any, SupportsIndex
 from .errors import REFUSALS, BadArgument, CannotOpen, MosaicError, StoreBusy
 from .lattice import Corner, Window, corner_of
 from .samples import needed_numpy
+from .stores import cannot_open
 
 if TYPE_CHECKING:
     import numpy
@@ -129,6 +130,8 @@ class Image:
         self._bytes: Any = self._numpy.zeros(0, dtype=self._numpy.uint8)
         self._map: mmap.mmap | None = None
         self._file: int | None = None
+        if not os.path.isfile(path):
+            raise cannot_open(path)
         try:
             file = os.open(path, os.O_RDONLY)
         except OSError as error:

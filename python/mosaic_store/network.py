@@ -12,11 +12,10 @@ from collections.abc import Iterator, Mapping, Sequence
 from dataclasses import dataclass
 from typing import TYPE_CHECKING
 
-from .directions import levels_and_directions
+from .directions import directions_at, levels_and_directions
 from .errors import BadArgument, BadReply
 from .geojson import Feature, line_feature
 from .lattice import METRES_A_DEGREE, Direction, Point, Window, corners_of
-from .questions import FlowDirection
 from .rasters import NO_DIRECTION, STEPS, Heights, Told, heights_of
 from .samples import needed_numpy
 from .session import Session
@@ -279,8 +278,7 @@ def _entering(session: Session, heights: Heights) -> dict[int, int]:
     """How many points drain into each cell of a window from points outside that lie beside it."""
     window, present = heights.window, set(heights.corners)
     ring = [point for point in _around(window) if not present.isdisjoint(corners_of(point, heights.side))]
-    found = session.ask_many(FlowDirection(*point) for point in ring)
-    ways = ((point, way.onward(point)) for point, way in zip(ring, found) if isinstance(way, Direction))
+    ways = ((point, way.onward(point)) for point, way in directions_at(session, ring).items())
     counts: dict[int, int] = {}
     for point, at in ways:
         if at is not None and window.holds(at):

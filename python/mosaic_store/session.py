@@ -435,7 +435,7 @@ class Session:
         channel = self._living()
         command: Command | None = question if isinstance(question, Command) else None
         earlier = self._in_doubt
-        self._in_doubt = command or earlier
+        self._in_doubt = earlier or command  # a store that failed at the earlier one takes no other
         try:
             channel.send(_end(line), command.payload() if command is not None else b"")
             answer = _replied(question, line, channel.line(), channel)

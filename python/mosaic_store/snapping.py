@@ -2,8 +2,8 @@
 
 from __future__ import annotations
 
-from .lattice import Direction, Point, Window
-from .questions import FlowDirection
+from .directions import directions_at
+from .lattice import Point, Window
 from .session import Session
 
 FARTHEST = 50
@@ -18,9 +18,7 @@ def snapped(session: Session, point: Point, reach: int) -> Point:
     """
     y, x = point
     window = Window(y - reach, x - reach, y + reach, x + reach)
-    near = list(window.points())
-    directions = session.ask_many(FlowDirection(*at) for at in near)
-    ways = ((at, way.onward(at)) for at, way in zip(near, directions) if isinstance(way, Direction))
+    ways = ((at, way.onward(at)) for at, way in directions_at(session, list(window.points())).items())
     ends = [at for at, onward in ways if onward is None or not window.holds(onward)]
     sizes = {at: session.watershed(*at).cells for at in ends}
     return min(sizes, key=lambda at: (-sizes[at], max(abs(at.y - point.y), abs(at.x - point.x))), default=point)

@@ -14,10 +14,10 @@ from collections import defaultdict
 from collections.abc import Callable, Iterator, Mapping
 from typing import TYPE_CHECKING
 
-from .errors import BadArgument
+from .errors import BadArgument, Failed, SessionDied
 from .lattice import GREATEST_HEIGHT, MOST_POINTS, VOID, Corner, Point, corner_of, corners_of
 from .lines import commands
-from .questions import Burn, Command, Elevation, Import, Patch, Remove, Unsink, Wall
+from .questions import Burn, Command, Elevation, Import, Patch, Remove, Sinks, Unsink, Wall
 
 if TYPE_CHECKING:
     from .session import Session
@@ -56,7 +56,8 @@ class Trial:
     def take_back(self) -> None:
         """Gives every touched tile its samples and the store its sinks as they were, and ends the trial.
 
-        May be called again where it failed midway: only what differs is put back.
+        A session that died or is failed is begun anew for it. May be called again where it failed midway: only what differs is
+        put back.
         """
         session = self._session
         with session._lock:
@@ -64,7 +65,7 @@ class Trial:
                 raise BadArgument("this trial has ended")
             session._trial = None  # what takes edits back is no edit of the trial
             try:
-                if session.pid is None:
+                if not _is_well(session):
                     session.reopen()
                 for command in self.inverse():
                     session.ask(command)
@@ -163,6 +164,14 @@ class Trial:
             session.unsink(*sink)
         for sink in sorted(before - now):
             session.sink(*sink)
+
+
+def _is_well(session: Session) -> bool:
+    """Whether a session's program lives, and the drive has failed at no call of it."""
+    try:
+        return not isinstance(session.ask_many([Sinks()])[0], Failed)
+    except SessionDied:
+        return False
 
 
 def _sample(data: bytes, corner: Corner, point: Point) -> int:

@@ -132,11 +132,51 @@ class Awaited(InFolder, unittest.IsolatedAsyncioTestCase):
             async with table.trial() as trial:
                 self.assertTrue(trial.is_open)
 
+    async def test_a_closing_that_is_given_up(self):
+        """The program is ended all the same, once what was asked is answered."""
+        asked, go, store = threading.Event(), threading.Event(), aio.open_store(self.path, PROGRAM)
+
+        async def use():
+            async with store:
+                with unittest.mock.patch.object(store.blocking, "count", lambda: asked.set() or go.wait()):
+                    await store.count()
+
+        using = asyncio.create_task(use())
+        await asyncio.to_thread(asked.wait)
+        for _ in range(2):  # it leaves the question, and then the closing
+            using.cancel()
+            for _ in range(5):
+                await asyncio.sleep(0)
+        go.set()
+        with self.assertRaises(asyncio.CancelledError):
+            await using
+        await asyncio.to_thread(store._worker.shutdown)
+        self.assertIsNone(store.blocking.pid)
+
+    async def test_who_gives_up_its_readers_leaves_others_theirs(self):
+        """What another task has asked by them is answered."""
+        asked, go = threading.Event(), threading.Event()
+        async with aio.memory_table(3, 1, PROGRAM) as table:
+            readers, many = aio.Readers(table), table.blocking.ask_many
+            with unittest.mock.patch.object(table.blocking, "ask_many", lambda asks: asked.set() or go.wait() and many(asks)):
+                answer = asyncio.create_task(readers.ask(questions.Count()))
+                await asyncio.to_thread(asked.wait)
+                ending = asyncio.create_task(readers.end())
+                await asyncio.sleep(0)
+                ending.cancel()
+                with self.assertRaises(asyncio.CancelledError):
+                    await ending
+                go.set()
+                await asyncio.wait([answer], timeout=A_WHILE if readers._asking else 0)
+                self.assertEqual(answer.done() and answer.result(), 0)
+
     async def test_it_is_closed_twice(self):
         async with aio.memory_table(3, 1, PROGRAM) as table:
             await table.close()
             with self.assertRaisesRegex(SessionDied, "closed"):
                 await table.count()
+        with self.assertRaisesRegex(SessionDied, "closed"):
+            await table.count()
 
     async def test_what_cannot_be_opened(self):
         with self.assertRaises(errors.CannotOpen):

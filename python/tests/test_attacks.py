@@ -69,7 +69,7 @@ class Attacked:
     @property
     def patience(self) -> int:
         """How many seconds the server gives a request: as few as show that it ends, where that is what is tested."""
-        return 1 if self.id().endswith("test_who_is_slow_is_let_go") else A_WHILE
+        return 1 if self.id().endswith("_is_let_go") else A_WHILE
 
     def request(self, attack: Attack) -> bytes:
         if attack.raw is not None:
@@ -135,6 +135,18 @@ class Attacked:
         finally:
             for connection in slow:
                 connection.close()
+        self.assertEqual(self.elevation(), self.before)
+
+    def test_who_takes_no_answer_is_let_go(self) -> None:
+        """It asks on and on, and reads nothing: what it hasn't taken isn't kept for ever."""
+        asks = 1000 * self.request(Attack("", (), line="GET /trace?y=5&x=5 HTTP/1.1" if self.kind == "service" else "GET BASE/map.js HTTP/1.1"))
+        with socket.socket() as connection:
+            connection.setsockopt(socket.SOL_SOCKET, socket.SO_RCVBUF, 2048)
+            connection.connect(("127.0.0.1", self.port))
+            connection.settimeout(A_WHILE)
+            with self.assertRaises((BrokenPipeError, ConnectionResetError)):
+                while True:
+                    connection.sendall(asks)
         self.assertEqual(self.elevation(), self.before)
 
     @staticmethod

@@ -6,10 +6,11 @@ import os
 import random
 import shutil
 import subprocess
+import sys
 import unittest
 from concurrent.futures import ThreadPoolExecutor
 
-from mosaic_store import Run, format_store, memory_table, open_store
+from mosaic_store import Run, errors, format_store, memory_table, open_store
 from mosaic_store.geojson import tile_feature, trace_feature, watershed_feature
 from mosaic_store.lattice import Corner, Point
 from mosaic_store.polygons import doubled_area, polygons_of
@@ -105,6 +106,12 @@ class Features(InFolder):
         tiles = self.command("geojson", path, "tiles")
         self.assertEqual(len(json.loads(tiles.stdout)["features"]), 4)
 
+    def test_a_direction_that_memory_is_refused_for(self):
+        """It isn't taken for that of a point without ground, which would leave an outlet off its stream without a word."""
+        scarce = self.script("for line in sys.stdin: print('OK 0' if line == 'count\\n' else 'ERR 21 NoMemory', flush=True)")
+        with memory_table(3, 1, scarce) as table, self.assertRaises(errors.NoMemory):
+            snapped(table, Point(1, 1), 1)
+
     def test_snapping(self):
         """The best of all points near, as asked one by one."""
         path = self.store(21)
@@ -144,6 +151,24 @@ class Features(InFolder):
             self.skipTest("GDAL has no SpatiaLite here")
         self.assertIn("fine (Integer) = 1", done.stdout, done.stderr)
 
+    def test_standard_output_that_takes_nothing(self):
+        """Of a full drive a line tells, of a reader that is gone none: the status is 1 where what was told was lost."""
+        path, surroundings = self.store(), self.surroundings()
+        surroundings.pop("PYTHONUNBUFFERED", None)
+        read, gone = os.pipe()
+        os.close(read)
+        self.addCleanup(os.close, gone)
+        with open("/dev/full", "wb") as full:
+            for words in ("info", path), ("geojson", path, "tiles"):
+                for to, lines in (full, ["a file: No space left on device"]), (gone, []):
+                    with self.subTest(words=words, lines=lines):
+                        done = subprocess.run(
+                            [sys.executable, "-m", "mosaic_store", *words], env=surroundings, stdout=to, stderr=subprocess.PIPE, text=True, check=False
+                        )
+                        self.assertEqual((done.returncode, done.stderr.splitlines()), (1, [f"mosaic-{words[0]}: {line}" for line in lines]))
+        shell = ["bash", "-c", '"$@" >&-', "bash", sys.executable, "-m", "mosaic_store", "geojson", path, "tiles"]
+        self.refused(subprocess.run(shell, env=surroundings, capture_output=True, text=True, check=False), "--output")
+
     def test_bad_input(self):
         path = self.store(11)
 
@@ -165,6 +190,8 @@ class Features(InFolder):
         self.refused(geojson(path, "trace", "here", "there"), "invalid float", status=2)
         self.refused(geojson(path, "tiles", "-o", "no/folder/x.json"), "make it first")
         self.refused(geojson(path, "tiles", "-o", "."), "is a folder")
+        os.symlink(path, self.folder / "link")
+        self.refused(geojson(path, "tiles", "-o", "link"), "link: is the store")
         with open_store(path, PROGRAM):
             self.refused(geojson(path, "tiles"), "another program has it open")
         self.refused(geojson(path, "watershed", "5", "5", "-o", "w.geojson"), "no tile holds")

@@ -203,6 +203,7 @@ class Commands(InFolder):
         ):
             with self.subTest(name):
                 self.refused(self.command("hydrology", path, "edit", name, "--wall", "9"), told)
+        self.refused(self.command("hydrology", path, "flooded", path), "is the store")
 
     def test_voids_and_a_reservoir(self) -> None:
         path = self.store(SIDE)
@@ -223,19 +224,22 @@ class Commands(InFolder):
             self.assertEqual([store.export(name) for name in store.tiles()], images)
 
     def test_a_reservoir_that_is_ended_midway(self) -> None:
-        """A signal ends the command once the dam is built, and the dam is taken back."""
+        """A signal ends the command once the dam is built, and the dam is taken back, whatever other signal comes meanwhile."""
         path = str(self.folder / "valley")
         format_store(path, 41, 1, PROGRAM)
         with open_store(path, PROGRAM) as store:
             store.import_tile("N00E000", valley(41))
         dam = ["--points", "--dam", "5", "30", "35", "30", "--crest", "160", "--before", "20", "29"]
-        for number, count in ((signal.SIGTERM, 3), (signal.SIGHUP, 5)):
-            ending = self.at("fill", f"server.kill(); server.wait(); os.kill(os.getppid(), {number:d}); sys.stdin.read()")
+        rows = ((signal.SIGTERM, signal.SIGINT, ""), (signal.SIGHUP, signal.SIGTERM, ""), (signal.SIGINT, signal.SIGINT, "interrupted"))
+        for count, (number, other, told) in enumerate(rows, 1):
+            killed = f"server.kill(); server.wait(); os.kill(os.getppid(), {number:d}); sys.stdin.read()"
+            ending = self.at("fill", killed, later=f"os.kill(os.getppid(), {other:d})")
             done = self.command("hydrology", path, "reservoir", "stages.csv", *dam, "--program", ending)
-            self.assertEqual((done.returncode, done.stdout, done.stderr), (128 + number, "", ""))
+            shown = f"mosaic-hydrology: {told}\n" if told else ""
+            self.assertEqual((done.returncode, done.stdout, done.stderr), (128 + number, "", shown))
             self.assertEqual(self.images(path), {"N00E000": valley(41)})
             with open_store(path, PROGRAM) as store:
-                self.assertGreaterEqual(store.count(), count)
+                self.assertGreaterEqual(store.count(), 1 + 2 * count)
 
     def test_edits_that_are_not_measured(self) -> None:
         """Where it can't be told what they moved they are taken back."""
@@ -246,13 +250,17 @@ class Commands(InFolder):
         self.refused(self.command("hydrology", path, "edit", "points.geojson", "--wall", "900", "--program", dying), "what was acknowledged stands")
         self.assertEqual(self.images(path), before)
 
-    def at(self, word: str, act: str, after: str = "") -> str:
-        """A program that does something else in place of a session's first such line, after one of another word, and ends."""
+    def at(self, word: str, act: str, after: str = "", later: str = "") -> str:
+        """A program that does something else in place of a session's first such line, after one of another word, and ends.
+
+        Begun again it does what comes `later` first, and then serves as it should.
+        """
         (self.folder / "met").unlink(missing_ok=True)
         return self.script(f"""
 import pathlib, signal, subprocess
 met = pathlib.Path({str(self.folder / "met")!r})
 if sys.argv[1] != "serve" or met.exists():
+    {later}
     os.execv({PROGRAM!r}, [{PROGRAM!r}, *sys.argv[1:]])
 with subprocess.Popen([{PROGRAM!r}, *sys.argv[1:]], stdin=subprocess.PIPE) as server:
     seen = False

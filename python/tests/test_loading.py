@@ -189,11 +189,15 @@ with subprocess.Popen([{PROGRAM!r}, *sys.argv[1:]], stdin=subprocess.PIPE) as se
         (files / "N08E008.hgt.gz").write_bytes(gzip.compress(other)[:-9])
         with zipfile.ZipFile(files / "bomb.zip", "w", zipfile.ZIP_DEFLATED) as archive:
             archive.writestr("N06E006.hgt", bytes(10**7))
+        with zipfile.ZipFile(files / "a name.zip", "w") as archive:
+            archive.writestr("red\x1b[31m N09E009.hgt", b"2")
+        (files / "of two\nlines.txt").touch()
         os.symlink("nowhere", files / "gone.hgt")
         done = self.load(store, str(files))
         self.assertEqual(done.returncode, 1)
         told = ["with other samples", "a tile of 9 x 9 samples", "bad.zip:N05E005.hgt: failed: not read", "bad by LZMA.zip:N05E005.hgt: failed: not read"]
         told += ["bomb.zip:N06E006.hgt: failed: 10000000 or more", "N07E007.hgt.gz: failed: 51 or more bytes", "E008.hgt.gz: failed"]
+        told += [r"a name.zip:red\x1b[31m N09E009.hgt: failed: 1 bytes", r"of two\nlines.txt: passed by"]
         for words in (*told, "without an HGT", "tells no tile"):
             self.assertIn(words, done.stderr)
         self.assertNotIn("Traceback", done.stderr)

@@ -50,6 +50,11 @@ class Numbers(InFolder):
                     ask(*arguments)
         self.assertEqual(library.names, ["mosaic_open", "mosaic_close"])
 
+    def test_what_is_no_file(self):
+        for path in (self.folder, self.folder / "none"):
+            with self.subTest(path), self.assertRaises(errors.CannotOpen):
+                Image(path, Asked())
+
 
 @needs("numpy")
 @unittest.skipUnless(_is_there(), "libmosaic, or the program, isn't there")

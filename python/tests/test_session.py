@@ -3,6 +3,7 @@
 import contextlib
 import itertools
 import os
+import pickle
 import random
 import shutil
 import signal
@@ -79,6 +80,8 @@ class Words(unittest.TestCase):
         for number, kind in errors.REFUSALS.items():
             self.assertEqual((kind.number, kind.word), (number, kind.__name__))
             self.assertTrue(kind.cause and kind.cure, kind)
+            again = pickle.loads(pickle.dumps(kind("fill 9 9")))  # as a pool of processes hands it on
+            self.assertEqual((type(again), again.line, str(again)), (kind, "fill 9 9", str(kind("fill 9 9"))))
 
     def test_each_refusal_and_the_next_answer(self):
         """Each refusal that lines reach, and after each one the replies are still in step."""
@@ -414,6 +417,20 @@ class Deaths(InFolder):
                 self.assertEqual(session.count(), 4)
                 recovery = session.reopen()
                 self.assertEqual((recovery.in_doubt, recovery.stands), (questions.Wall(5, ((1, 1),)), stands))
+
+    def test_a_drive_that_failed_before_the_program_dies(self):
+        """The command that it failed at stands after all; the one that the program died of is asked again."""
+        store, runs = self.folder / "text", self.folder / "runs"
+        store.write_text("a store")
+        program = self.script(
+            f"runs = open({str(runs)!r}, 'a+'); runs.write('x'); runs.flush(); runs.seek(0); again = len(runs.read()) > 1\n"
+            "said = {'count': 'OK 5', 'burn': 'OK 6'} if again else {'count': 'OK 4', 'wall': 'ERR 20 Device'}\n"
+            "for line in sys.stdin: print(said[line.split()[0]] if line.split()[0] in said else sys.exit(1), flush=True)\n"
+        )
+        with open_store(store, program, restart=True) as session:
+            with self.assertRaises(errors.Device):
+                session.wall(5, [(1, 1)])
+            self.assertEqual(session.burn(1, [(2, 2)]), 6)
 
     def test_closed_and_begun_anew(self):
         store = open_store(self.store(), PROGRAM)

@@ -174,6 +174,34 @@ class Trials(InFolder):
             os.kill(session.pid, signal.SIGKILL)
             session.fill(1, 1)
         self.assertEqual(self.image(), self.before)
+        with session.trial():
+            session.burn(1, [(5, 5)])
+            os.kill(session.pid, signal.SIGKILL)
+            session._channel.process.wait()  # before anything is asked of it
+        self.assertEqual(self.image(), self.before)
+
+    def test_the_drive_fails_inside(self):
+        """The edits made before are taken back, too, where the store opens again."""
+        failed = self.folder / "failed"
+        failing = self.script(
+            "import subprocess\n"
+            f"with subprocess.Popen([{PROGRAM!r}, *sys.argv[1:]], stdin=subprocess.PIPE, bufsize=0) as server:\n"
+            "    while line := sys.stdin.buffer.readline():\n"
+            f"        if line.startswith(b'wall 2001 ') and not os.path.exists({str(failed)!r}):\n"
+            f"            open({str(failed)!r}, 'w').close()\n"
+            "            break\n"
+            "        server.stdin.write(line)\n"
+            "if line:\n"
+            "    print('ERR 20 Device', flush=True)\n"
+            "    while sys.stdin.readline(): print('ERR 22 Failed', flush=True)\n"
+        )
+        self.session.close()
+        with open_store(self.folder / "store", failing) as session:
+            with self.assertRaises(errors.Device), session.trial():
+                session.wall(2000, [(5, 5)])
+                session.wall(2001, [(6, 6)])
+        with open_store(self.folder / "store", PROGRAM) as self.session:
+            self.assertEqual(self.image(), self.before)
 
     def test_other_threads_wait(self):
         session, seen = self.session, []

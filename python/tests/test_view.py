@@ -352,6 +352,48 @@ class Served(unittest.TestCase):
             browser.press("try")
             browser.wait_for_text("Level at the line, m\t160\t190")
 
+    @needs_browser
+    def test_a_browser_asks_another_point_meanwhile(self) -> None:
+        """A watershed that is answered late isn't shown as that of the point that was asked since."""
+        searched, go, watershed = threading.Event(), threading.Event(), self.bench.watershed
+        self.bench.watershed = lambda *given: searched.set() or go.wait() and watershed(*given)
+        with Browser(self.server.url + "#at=20,40,0.1&ask=25,10") as browser:
+            browser.value("byId('snap').value = 0")
+            browser.press("watershed")
+            searched.wait()
+            browser.value("ask({ y: 20, x: 39 }) && null")
+            browser.wait_for_text("y 20, x 39")
+            go.set()
+            browser.wait_for_text("Another point was asked meanwhile")
+            self.assertTrue(browser.value("byId('save-watershed').disabled && watershed === null"))
+
+    @needs_browser
+    def test_a_browser_undoes_once(self) -> None:
+        """Pressed again before it is answered, the button takes back no second edit."""
+        for height in (180, 190):
+            self.copy()
+            self.post("try", {"kind": "wall", "amount": height, "line": [[20, 39]]})
+            self.post("keep", {})
+        begun, go, undo = threading.Event(), threading.Event(), self.bench.undo
+        self.bench.undo = lambda: begun.set() or go.wait() and undo()
+        with Browser(self.server.url) as browser:
+            browser.press("undo")
+            begun.wait()
+            browser.value("byId('undo').click()")
+            go.set()
+            browser.wait_for_text("The last edit was undone")
+            browser.wait_for("!byId('undo').disabled")
+        self.assertEqual(self.session.elevation(20, 39), 180)
+
+    def test_a_sink_without_ground_is_no_hindrance(self) -> None:
+        """A sink stays declared where its tile is gone, and counts for nothing: the store can be copied, and trials made."""
+        self.session.sink(20, 70)
+        self.session.remove("N00E001")
+        with contextlib.closing(Workbench("valley", self.session, lambda: memory_table(SIDE, 4))) as bench:
+            self.assertEqual(bench.copy()["done"], 1)
+            told = bench.try_edit(edit_in({"kind": "wall", "amount": 190, "line": [[20, 20]]}))
+        self.assertEqual(told["after"]["level"], 190)
+
     def test_a_trial_that_is_refused_leaves_nothing(self) -> None:
         self.copy()
         line = [[2, x] for x in (70, 2)]

@@ -38,8 +38,8 @@ _LEAST_MARGIN = 20
 
 _SECONDS_BETWEEN_LINES = 10.0
 
-_ENDING = (signal.SIGTERM, signal.SIGHUP)
-"""Signals that end a process at once, where it does nothing against it."""
+_ENDING = (signal.SIGINT, signal.SIGTERM, signal.SIGHUP)
+"""Signals that end a command."""
 
 _BEYOND_LINES = 1_000_000_000
 """The least number that no line can carry."""
@@ -111,7 +111,9 @@ def run(name: str, body: Callable[[], int]) -> int:
     if isinstance(sys.stdout, io.TextIOWrapper):
         sys.stdout.reconfigure(errors="backslashreplace")  # names of files are any bytes
     try:
-        return body()
+        status = body()
+        print(end="", flush=True)  # what can't be told is a failure, too
+        return status
     except Refusal as refusal:
         return _stopped(name, f"{refusal}: {refusal.cure}")
     except SessionDied as death:
@@ -119,7 +121,6 @@ def run(name: str, body: Callable[[], int]) -> int:
     except MosaicError as error:
         return _stopped(name, str(error))
     except BrokenPipeError:
-        os.dup2(os.open(os.devnull, os.O_WRONLY), sys.stdout.fileno())
         return FAILED
     except OSError as error:
         return _stopped(name, f"{error.filename or 'a file'}: {error.strerror or error}")
@@ -128,23 +129,35 @@ def run(name: str, body: Callable[[], int]) -> int:
     except KeyboardInterrupt:
         _stopped(name, "interrupted")
         return INTERRUPTED
+    finally:
+        _let_go_of_output()
 
 
 def _end_in_order() -> None:
-    """Has signals raise SystemExit, so that trials are taken back, and files that aren't whole are taken away.
+    """Has signals raise exceptions, so that trials are taken back, and files that aren't whole are taken away.
 
     One that is ignored stays so, as SIGHUP under nohup. Only the main thread may set what signals do.
     """
     if threading.current_thread() is threading.main_thread():
         for number in _ENDING:
-            if signal.getsignal(number) == signal.SIG_DFL:
+            if signal.getsignal(number) in (signal.SIG_DFL, signal.default_int_handler):
                 signal.signal(number, _end)
 
 
 def _end(number: int, _: FrameType | None) -> NoReturn:
     for each in _ENDING:
         signal.signal(each, signal.SIG_IGN)  # another one would break off what this one takes back
+    if number == signal.SIGINT:
+        raise KeyboardInterrupt
     raise SystemExit(128 + number)
+
+
+def _let_go_of_output() -> None:
+    """Python writes at its end what standard output hasn't taken, and tells of it in lines of its own where it can't."""
+    try:
+        print(end="", flush=True)
+    except OSError:
+        os.dup2(os.open(os.devnull, os.O_WRONLY), sys.stdout.fileno())
 
 
 def _stopped(name: str, message: str) -> int:
@@ -277,9 +290,11 @@ def check_picture(name: str) -> None:
         raise CommandError(f"{name}: the name of a picture ends in {', '.join(FORMS)}")
 
 
-def check_place(path: str) -> None:
-    """A CommandError where no file of this name can be made."""
+def check_place(path: str, store: str | None = None) -> None:
+    """A CommandError where no file of this name can be made, or where it is the store, which it would replace."""
     target = pathlib.Path(path)
+    if store is not None and target.exists() and os.path.exists(store) and target.samefile(store):
+        raise CommandError(f"{path}: is the store: name another file")
     if target.is_dir():
         raise CommandError(f"{path}: is a folder: give the name of a file in it")
     if not target.parent.is_dir():

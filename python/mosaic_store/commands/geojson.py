@@ -11,7 +11,7 @@ from collections.abc import Sequence
 from ..geojson import Feature, collection, tile_feature, trace_feature, watershed_feature
 from ..lattice import corners_named
 from ..session import Session
-from .frame import DONE, add_places, add_snap, check_place, opened, outlet_given, parser, point_given, run, written_whole
+from .frame import DONE, CommandError, add_places, add_snap, check_place, opened, outlet_given, parser, point_given, run, written_whole
 
 NAME = "mosaic-geojson"
 DESCRIPTION = """Writes watersheds, flow paths or the outlines of a store's tiles as GeoJSON, in degrees.
@@ -47,7 +47,9 @@ def _parsed(arguments: Sequence[str] | None) -> argparse.Namespace:
 
 def _write(options: argparse.Namespace) -> int:
     if options.output is not None:
-        check_place(options.output)
+        check_place(options.output, options.store)
+    elif sys.stdout is None:
+        raise CommandError("standard output is closed: name a file by --output")
     with opened(options.store, options.program) as session:
         text = json.dumps(collection(_features(session, options)), separators=(",", ":")) + "\n"
     if options.output is None:

@@ -122,7 +122,7 @@ def _check(options: argparse.Namespace) -> None:
     """A CommandError where nothing can come of the arguments, before anything is asked for."""
     for name in (None if options.what == "edit" else options.file, options.picture):
         if name is not None:
-            check_place(name)
+            check_place(name, options.store)
     if options.threshold < 1:
         raise CommandError("a stream begins where 1 point and more drains through")
     if options.reach < 0:

@@ -8,6 +8,7 @@ are answered in between, and it can be given up.
 from __future__ import annotations
 
 import base64
+import contextlib
 import dataclasses
 import pathlib
 import tempfile
@@ -22,7 +23,7 @@ import numpy as np
 
 from .. import lines
 from ..commands.raster import LAYERS
-from ..errors import MosaicError, SessionDied
+from ..errors import MosaicError, Outside, SessionDied, Void
 from ..geojson import Feature, collection, square_kilometres, trace_feature, watershed_feature
 from ..grids import write_grid
 from ..lattice import METRES_A_DEGREE, VOID, Point, Window
@@ -400,7 +401,8 @@ class Workbench:
                         break
                 if not self._uncopied:
                     for y, x in set(self._store.sinks()) - set(self._copied.sinks()):
-                        self._copied.sink(y, x)
+                        with contextlib.suppress(Outside, Void):  # where there is no ground a sink counts for nothing
+                            self._copied.sink(y, x)
             except BaseException:
                 self._drop_copy()
                 raise

@@ -256,10 +256,12 @@ function term(kind, text) {
 async function askWatershed(snap) {
   const from = asked;
   const told = await request("watershed", { y: from.y, x: from.x, snap });
+  const image = await imageOf(told.picture);
+  if (asked !== from) return "Another point was asked meanwhile: search its watershed";
   const steps = Math.max(Math.abs(told.y - from.y), Math.abs(told.x - from.x));
   if (steps) await ask({ y: told.y, x: told.x });
   rememberPlace();
-  watershed = { ...told, image: await imageOf(told.picture) };
+  watershed = { ...told, image };
   showPoint();
   const moved = steps ? `; its outlet was moved ${steps} step${steps > 1 ? "s" : ""} to where most drains to` : "";
   return `Watershed of ${told.cells.toLocaleString("en")} points, ${squareKilometres(told)} km²${moved}`;
@@ -418,8 +420,19 @@ function showTrial() {
   }));
 }
 
-// Ends a trial by "keep" or "discard", or takes the last edit back by "undo".
+// Ends a trial by "keep" or "discard", or takes the last edit back by "undo": once, however often its button is pressed meanwhile.
 async function change(path) {
+  const buttons = ["keep", "discard", "undo"].map(byId);
+  for (const button of buttons) button.disabled = true;
+  try {
+    return await changed(path);
+  } finally {
+    for (const button of buttons) button.disabled = false;
+    byId("undo").disabled = trial !== null;
+  }
+}
+
+async function changed(path) {
   const { count } = await request(path, {});
   trial = null;
   line = [];
