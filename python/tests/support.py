@@ -42,6 +42,12 @@ channel._SECONDS_TO_END = session._SECONDS_TO_FREE = A_WHILE
 PROGRAM = _chosen()
 IS_REAL = PROGRAM != FAKE
 
+_HEARS_SIGNALS = """signal.signal(signal.SIGINT, signal.default_int_handler)
+for number in (signal.SIGTERM, signal.SIGHUP):
+    signal.signal(number, signal.SIG_DFL)
+"""
+"""Tests that are run by nohup, or in the background of a shell, hand on signals that are ignored."""
+
 _HOW_FAR = re.compile(r"^mosaic-\w+: \d+ of (at most )?\d+ (stores|questions|levels asked|tiles flooded|done)\n", re.M)
 """What a command tells that takes more than ten seconds, as it may on a loaded machine."""
 
@@ -138,7 +144,7 @@ class InFolder(unittest.TestCase):
     def command(self, name: str, *words: str, most_bytes: int | None = None) -> subprocess.CompletedProcess[str]:
         """Runs a command of the package; how far it is isn't in what it tells. No file grows past so many bytes, if that is told."""
         limit = f"resource.setrlimit(resource.RLIMIT_FSIZE, ({most_bytes}, {most_bytes}))\n" if most_bytes else ""
-        script = f"import resource, sys\n{limit}from mosaic_store.__main__ import main\nsys.exit(main())"
+        script = f"import resource, signal, sys\n{_HEARS_SIGNALS}{limit}from mosaic_store.__main__ import main\nsys.exit(main())"
         done = subprocess.run(
             [sys.executable, "-c", script, name, *words],
             cwd=self.folder,
