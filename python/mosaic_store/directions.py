@@ -37,7 +37,7 @@ if TYPE_CHECKING:
 
 
 def directions_at(session: Session, points: Sequence[Point]) -> dict[Point, Direction]:
-    """The direction of each of some points that is ground. Any other refusal than that one isn't is raised."""
+    """The direction of each of the points that is ground. Those outside or void are left out; any other refusal is raised."""
     found = {}
     for point, direction in zip(points, session.pipeline(FlowDirection(*point) for point in points)):
         if isinstance(direction, Direction):
