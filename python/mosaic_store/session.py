@@ -266,14 +266,15 @@ class Session:
     def backup(self, path: PathLike) -> int:
         """Copies the store's file to another, whole, between two commands; the count that the copy has.
 
-        Other threads wait until it is done. StoreExists where a file of that name is there.
+        Where a command is in doubt the copy tells whether it has it. Other threads wait until it is done. StoreExists where a
+        file of that name is there.
         """
         with self._lock:
             if self._path is None:
                 raise BadArgument("a table in memory has no file to copy")
             count = self.count()
             copy_file(os.fsdecode(self._path), os.fsdecode(path))
-            return count
+            return count if self._in_doubt is None else check_store(path, self._words[0]).count
 
     def report(self) -> Report:
         """What `check_store` tells, fresh and stale tiles too: of a copy, made beside the store for it and taken away."""
@@ -525,7 +526,8 @@ def open_store(
     """
     if not os.path.isfile(path):
         raise cannot_open(path)
-    session = _session(["serve", path_word(path)], path, program, timeout, restart)
+    place = os.path.abspath(os.fsdecode(path))  # this process may work in another folder when the program is begun anew
+    session = _session(["serve", path_word(place)], place, program, timeout, restart)
     session._start(wait)
     return session
 
@@ -546,7 +548,8 @@ def memory_table(
 def _session(
     words: list[Union[str, bytes]], path: PathLike | None, program: PathLike | None, timeout: float | None, restart: bool
 ) -> Session:
-    return Session([find_server(program), *words], path, timeout, restart)
+    server = find_server(program)
+    return Session([os.path.abspath(server) if os.path.dirname(server) else server, *words], path, timeout, restart)
 
 
 def _end(line: str) -> bytes:

@@ -313,6 +313,7 @@ with subprocess.Popen([{PROGRAM!r}, *sys.argv[1:]], stdin=subprocess.PIPE) as se
             (("edit", "bad.csv"), "--wall or by --burn"),
             (("streams", "x.geojson", "--threshold", "0"), "1 point and more"),
             (("above", "x.asc", "--threshold", "0"), "1 point and more"),
+            (("voids", "x.geojson", "--most", "0"), "1 point and more"),
             (("catchments", "x.geojson", "--outlets", "void.csv"), "point 3 2, which has no height"),
             (("catchments", "x.geojson", "--outlets", "void.csv", "--reach", "-1"), "0 steps and more"),
             (("path", "x.geojson", "--points", "--at", "3", "2"), "point 3 2, which has no height"),

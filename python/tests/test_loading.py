@@ -287,6 +287,7 @@ with subprocess.Popen([{PROGRAM!r}, *sys.argv[1:]], stdin=subprocess.PIPE) as se
         self.refused(self.load(str(empty), str(empty)), "no regular file")
         self.refused(self.load(store, str(empty), "--side", "2", "--capacity", "1"), "32 BadSide", "from 3 to 3601")
         self.refused(self.load(store, str(empty), "--side", "5", "--capacity", "0"), "33 BadCapacity")
+        self.refused(self.load(store, str(empty), "--fill-voids", "0"), "1 point and more")
         self.assertFalse(pathlib.Path(store).exists())
         with open_store(there, PROGRAM) as session:
             self.refused(self.load(there, str(empty)), "another program has it open")

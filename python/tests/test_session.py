@@ -256,6 +256,16 @@ class Stores(InFolder):
                 self.assertEqual(store.report().count, 1)
             self.assertEqual(check_store("-store", PROGRAM).count, 1)
 
+    def test_a_process_that_goes_to_another_folder(self):
+        """A session begun anew, its program and its copies are found from there, too."""
+        self.store(name="relative")
+        program = os.path.relpath(PROGRAM, self.folder)
+        with contextlib.chdir(self.folder), open_store("relative", program) as store:
+            with contextlib.chdir("/"):
+                os.kill(store.pid, signal.SIGKILL)
+                self.assertEqual(store.reopen().count, 4)
+                self.assertEqual(store.backup(self.folder / "copy"), 4)
+
     def test_what_cannot_be_opened(self):
         (self.folder / "text").write_text("no store\n" * 3000)
         for path, kind, words in (
@@ -396,12 +406,13 @@ class Deaths(InFolder):
             self.assertEqual((store.elevation(*point), store.count()), (height - burns, 4 + burns))
 
     def test_a_drive_that_failed(self):
-        """A command that was answered 20 stays in doubt, whatever is asked before the store is opened again."""
+        """A command that was answered 20 stays in doubt, whatever is asked before the store is opened again. A copy tells of it."""
         store, runs = self.folder / "text", self.folder / "runs"
         store.write_text("a store")
         for then, stands in ((5, True), (4, False)):
             runs.write_text("")
             program = self.script(
+                f"if sys.argv[1] == 'check': sys.exit(print('count {then} commits 9\\nseams 0'))\n"
                 f"runs = open({str(runs)!r}, 'a+'); runs.write('x'); runs.flush(); runs.seek(0); again = len(runs.read()) > 1\n"
                 "for line in sys.stdin:\n"
                 "    word = line.split()[0]\n"
@@ -414,7 +425,7 @@ class Deaths(InFolder):
                 for ask in (lambda: session.fill(1, 1), lambda: session.burn(1, [(2, 2)])):
                     with self.assertRaises(errors.Failed):
                         ask()
-                self.assertEqual(session.count(), 4)
+                self.assertEqual((session.count(), session.backup(self.folder / f"copy{then}")), (4, then))
                 recovery = session.reopen()
                 self.assertEqual((recovery.in_doubt, recovery.stands), (questions.Wall(5, ((1, 1),)), stands))
 

@@ -125,6 +125,8 @@ def _check(options: argparse.Namespace) -> None:
             check_place(name, options.store)
     if options.threshold < 1:
         raise CommandError("a stream begins where 1 point and more drains through")
+    if options.most < 1:
+        raise CommandError("voids of 1 point and more are filled")
     if options.reach < 0:
         raise CommandError(f"an outlet moves by 0 steps and more, not {options.reach}")
     if min(options.depths) < 1:

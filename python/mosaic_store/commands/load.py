@@ -55,6 +55,8 @@ def _parsed(arguments: Sequence[str] | None) -> argparse.Namespace:
 
 
 def _load(options: argparse.Namespace) -> int:
+    if options.fill_voids is not None and options.fill_voids < 1:
+        raise CommandError("voids of 1 point and more are filled")
     return _from_files(options) if options.paths else _from_store(options)
 
 
