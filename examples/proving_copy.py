@@ -1,4 +1,4 @@
-"""A copy of the crates in which edits are tried, with what earlier checks kept."""
+"""A copy of the crates in which edits are tried, with what earlier checks kept. What it proves serves all crates that are tried in it."""
 
 import contextlib
 import os
