@@ -91,7 +91,7 @@ module _ (g : Ghosts CutDisk) (side capacity : ℕ) (was : Contents) where
   by_calls : (calls : List (Made g)) (found : List Command) (since : Since) (Then : List Command → Since → Type 0) → EachFindsIn (λ (one : Unit {0}). g) side capacity was tt calls found since Then
       → (now : List Command) × ((known : Since) × Then now known)
   by_calls [] found since Then is = (found, (since, is))
-  by_calls (made ∷ more) found since Then is =
+  by_calls (made ∷ more) found since Then (answered, is) =
       let (now, (known, rest)) = by_call made.call made.store found since (λ now known. EachFindsIn (λ (one : Unit {0}). g) side capacity was tt more now known Then) is in
       by_calls more now known Then rest
 

@@ -1,6 +1,6 @@
 -- Sessions of a store, one after another: each is begun by an opening, and ends, is refused, or is stopped (a power cut) at
 -- any moment (this product's own profile).
-use Rattle.std.specs.Prelude.{◌≡◌, ◌⊎◌, ◌≤◌, ℕ, true, false, List, [], ◌∷◌, ◌++◌, Result, Ok, IfOk, IfErr}
+use Rattle.std.specs.Prelude.{◌≡◌, ◌⊎◌, ◌≤◌, ℕ, Bool, true, false, List, [], ◌∷◌, ◌++◌, Result, Ok, IfOk, IfErr}
 use Rattle.disk.specs.Disk.{Image, HasRisen}
 use Rattle.disk.specs.Stops.{AddsNothing}
 use Rattle.disk.specs.declared.disk.Disk.{Ghosts}
@@ -8,7 +8,9 @@ use Rattle.lattice.specs.declared.refusal.Refusal.{Refusal}
 use Rattle.lattice.specs.declared.refusal.Refusal.TheVariants.{Device, NoMemory}
 use Rattle.edits.specs.declared.command.Command.{Command}
 use Rattle.engine.specs.Engines.{IsCall}
+use Rattle.engine.specs.Events.{Happens}
 use Rattle.engine.specs.State.{Contents, State, working}
+use Rattle.engine.specs.Steps.{Upgrades}
 use Rattle.engine.specs.declared.event.Event.{Event}
 use Rattle.engine.specs.declared.event.Event.TheVariants as ask
 use Rattle.engine.specs.declared.event.Reply.{Reply}
@@ -40,6 +42,20 @@ known_by since call = since
 abbrev pub known_without : Since → Call → Since
 known_without since (Asked (ask.Do c) answer) = doubted_too since c
 known_without since call = since
+
+-- in this state the call may have its answer and leave that one, whether the disk has room for the second version or not
+abbrev pub CallHappens : ℕ → Bool → State → Call → State → Type 0
+CallHappens capacity has_room s (Asked event answer) t = Happens capacity s event answer t
+CallHappens capacity has_room s (Upgraded result) t = Upgrades has_room s result t
+CallHappens capacity has_room s (CountedSeams result) t = CountsSeams s result t
+
+-- the answer is one that the definitions give on the mosaic after these commands
+pub record IsAnswered (capacity : ℕ) (was : Contents) (commands : List Command) (call : Call) : Type 0 where
+  pub before : State
+  pub after : State
+  pub has_room : Bool
+  pub comes_by : ComesBy capacity was commands before.contents
+  pub happens : CallHappens capacity has_room before call after
 
 module _ {D : Type 0} (g : Ghosts D) where
   -- each image that the disk may hold stands for these contents
@@ -174,7 +190,7 @@ module _ {I D : Type 0} (gs : I → Ghosts D) where
 
     abbrev pub EachFindsIn : (i : I) → List (Made (gs i)) → (found : List Command) → Since → (List Command → Since → Type 0) → Type 0
     EachFindsIn i [] found since Then = Then found since
-    EachFindsIn i (made ∷ more) found since Then = FindsBy i made.call made.store found since (λ now known. EachFindsIn i more now known Then)
+    EachFindsIn i (made ∷ more) found since Then = IsAnswered capacity was (found ++ since.done) made.call × FindsBy i made.call made.store found since (λ now known. EachFindsIn i more now known Then)
 
     -- each opening finds more, or is refused as a call of the disk failed, or for memory
     abbrev pub EachFinds : (found : List Command) → Since → List Visit → Type 0

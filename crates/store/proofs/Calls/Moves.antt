@@ -9,7 +9,7 @@ use Rattle.engine.specs.Events.{Happens, Reopens, ReopensNot}
 use Rattle.engine.specs.declared.event.Event.TheVariants as ask
 use Rattle.engine.specs.declared.event.Reply.TheVariants as reply
 use Rattle.store.specs.Accepted.{Since, none_asked, done_too, doubted_too, ComesBy, IsMadeOf}
-use Rattle.store.specs.Sessions.{Call, Asked, Upgraded, CountedSeams, known_by, known_without}
+use Rattle.store.specs.Sessions.{Call, Asked, Upgraded, CountedSeams, CallHappens, known_by, known_without}
 use Rattle.store.proofs.Calls.AcceptedInTurn.{by_none, as_well, one_more, still_doubted}
 
 -- the contents are those of the state, or of its commit in doubt
@@ -126,12 +126,6 @@ module _ (capacity : ℕ) where
       pub commits : (after : Since) (t : State) (c : Contents) → t ≡ record s { contents = c } → ComesBy capacity found after.done c → after.doubt ≡ since.doubt → IsMadeOf capacity found without c
           → Moves found without (Knows found after) s t
       commits after t c is comes same_doubt made = search rules
-
-  -- in this state the call may have its answer and leave that one, whether the disk has room for the second version or not
-  abbrev pub CallHappens : Bool → State → Call → State → Type 0
-  CallHappens has_room s (Asked event answer) t = Happens capacity s event answer t
-  CallHappens has_room s (Upgraded result) t = Upgrades has_room s result t
-  CallHappens has_room s (CountedSeams result) t = CountsSeams s result t
 
   -- what is known after a call
   abbrev pub IsKnownBy : Contents → Since → Call → State → Type 0
@@ -308,7 +302,7 @@ module _ (capacity : ℕ) where
     upgrades_not has_room NoMemory is = read is.same
     upgrades_not has_room r is = absurd is
 
-    pub moved : (has_room : Bool) (call : Call) → CallHappens has_room s call t → Moves found (known_without since call) (IsKnownBy found since call) s t
+    pub moved : (has_room : Bool) (call : Call) → CallHappens capacity has_room s call t → Moves found (known_without since call) (IsKnownBy found since call) s t
     moved has_room (Asked event answer) is = happened event answer is
     moved has_room (Upgraded (Ok u)) is = committed (upgraded s.contents) is.1 refl refl
     moved has_room (Upgraded (Err r)) is = upgrades_not has_room r is

@@ -1,17 +1,17 @@
 -- Sessions, one after another: by what each of them leaves, and what each opening finds of it.
 use Rattle.std.proofs.Common.{rules}
-use Rattle.store.proofs.Prelude.{ComesBy, Command, Contains-push_cases, Contents, Err, Ghosts, IfErr, Image, IsMadeOf, LeavesStates, List, Ok, Result, Since, StandsFor, StandsForOne, StandsForState, State, Store, ℕ, [], arith, has_room, inl, inr, none_asked, refl, subst, sym, working, ⊎_elim, ◌++◌, ◌∙◌, ◌∷◌, ◌≡◌, ◌≤◌, ◌⊎◌}
+use Rattle.store.proofs.Prelude.{Bool, ComesBy, Command, Contains-push_cases, Contents, Err, Ghosts, IfErr, Image, IsMadeOf, LeavesStates, List, Ok, Result, Since, StandsFor, StandsForOne, StandsForState, State, Store, ℕ, [], arith, has_room, inl, inr, none_asked, refl, subst, sym, working, ⊎_elim, ◌++◌, ◌∙◌, ◌∷◌, ◌≡◌, ◌≤◌, ◌⊎◌}
 use Rattle.engine.specs.declared.event.Event.TheVariants as ask
 use Rattle.engine.specs.declared.event.Reply.TheVariants as reply
 use Rattle.cow_tree.specs.Longer.{AgreesBelow}
 use Rattle.cow_tree.proofs.LongerDisks.{stands_where_longer}
 use Rattle.roots.specs.declared.roots.NotOpened.{NotOpened}
-use Rattle.store.specs.Sessions.{Call, Asked, Upgraded, CountedSeams, known_by, known_without, HoldsEither, IsOpening, IsRefusedWithCause, IsMade, Made, AreMade, last_store, Unopened, Ended, Stopped, MayLeave, TakesOver, Visit, AreSessions, InTurn, FindsMore, FindsBy, EachFindsIn, EachFinds, SessionsCompose}
+use Rattle.store.specs.Sessions.{Call, CallHappens, IsAnswered, Asked, Upgraded, CountedSeams, known_by, known_without, HoldsEither, IsOpening, IsRefusedWithCause, IsMade, Made, AreMade, last_store, Unopened, Ended, Stopped, MayLeave, TakesOver, Visit, AreSessions, InTurn, FindsMore, FindsBy, EachFindsIn, EachFinds, SessionsCompose}
 use Rattle.store.specs.StoreRuns.{same_stands}
 use Rattle.store.specs.Stores.{disk_of, root_of, side_of, capacity_of, disk_after, IsAt}
 use Rattle.store.proofs.Calls.AcceptedInTurn.{by_none, comes_by_both}
 use Rattle.store.proofs.Calls.StoreCalls.{ended_leaves, question_leaves}
-use Rattle.store.proofs.Calls.Moves.{MayHold, Moves, Knows, IsKnownBy, CallHappens, known_first, held_made, moved, one_of_two, second_held, second_of}
+use Rattle.store.proofs.Calls.Moves.{MayHold, Moves, Knows, IsKnownBy, known_first, held_made, moved, one_of_two, second_held, second_of}
 
 -- on a longer disk whose first sectors are the same
 longer_stands : (sectors more side capacity : ℕ) (image longer : Image) (c : Contents) → sectors ≤ more → AgreesBelow sectors image longer → StandsFor sectors side capacity image c → StandsFor more side capacity longer c
@@ -75,6 +75,8 @@ module _ {D : Type 0} (g : Ghosts D) (only_now : (disk : D) (image : Image) → 
   -- what one call comes to
   record CallLeaves (old new : Store D g) (call : Call) (size : ℕ) (e : Contents) (since : Since) (s : State) : Type 0 where
     after : State
+    room : Bool
+    happens : CallHappens capacity room s call after
     found : Found new size after
     moves : Moves capacity e (known_without since call) (IsKnownBy capacity e since call) s after
     leaves : (image : Image) → g.since (disk_of new) (g.moment (disk_of old)) image → (c : Contents) × ((MayHold s c ⊎ MayHold after c) × StandsFor size side capacity image c)
@@ -111,6 +113,8 @@ module _ {D : Type 0} (g : Ghosts D) (only_now : (disk : D) (image : Image) → 
       let room = has_room (g.size (disk_of old)) (root_of old) in
       record {
         after = to.after;
+        room = room;
+        happens = subst (λ (n : ℕ). CallHappens n room s call to.after) found.same_capacity to.happens;
         found = record { at = to.at; same_side = leaves.side ∙ found.same_side; same_capacity = leaves.capacity ∙ found.same_capacity; same_size = leaves.size ∙ found.same_size };
         moves = moved capacity e since s to.after knows room call (subst (λ (n : ℕ). CallHappens n room s call to.after) found.same_capacity to.happens);
         leaves = λ image left. one_stands size side capacity image s to.after
@@ -195,9 +199,11 @@ module _ {I D : Type 0} (gs : I → Ghosts D) (only_now : (i : I) (disk : D) (im
       → EachFindsIn gs side capacity was i calls found since Then
   found_in i store [] made honest size found c comes since s knows at Then go_on = go_on found c since s comes knows at
   found_in i store (call ∷ more) (one, made) honest size found c comes since s knows at Then go_on =
-      let by = one_call (gs i) (only_now i) side capacity store call.store call.call one (honest_first (gs i) (only_now i) side capacity call.store more made honest) size c since s knows at in
-      found_by i call.call call.store size found c comes since by.after by.moves.next by.found (λ now known. EachFindsIn gs side capacity was i more now known Then)
-      (λ now e later comes_now knows_now. found_in i call.store more made honest size now e comes_now later by.after knows_now by.found Then go_on)
+      let by = one_call (gs i) (only_now i) side capacity store call.store call.call one (honest_first (gs i) (only_now i) side capacity call.store more made honest) size c since s knows at in (
+        record { before = s; after = by.after; has_room = by.room; comes_by = comes_by_both capacity was c s.contents found since.done comes knows.known; happens = by.happens },
+        found_by i call.call call.store size found c comes since by.after by.moves.next by.found (λ now known. EachFindsIn gs side capacity was i more now known Then)
+            (λ now e later comes_now knows_now. found_in i call.store more made honest size now e comes_now later by.after knows_now by.found Then go_on),
+      )
 
   -- one of the two was found, and the calls were made
   found_in_session : (i : I) (disk : D) (store : Store D (gs i)) (calls : List (Made (gs i))) → IsOpening (gs i) disk (Ok store) → AreMade (gs i) store calls → (gs i).honest (disk_of (last_store (gs i) store calls))
