@@ -3,7 +3,7 @@ use engine::Engine;
 use lattice::{Height, Point, Refusal};
 use reference::{Levels, Plain};
 use std::alloc::{AllocError, Global};
-use watershed::Run;
+use water::Run;
 
 /// The answers to all queries of a point.
 #[derive(Debug, PartialEq, Drop)]

@@ -12,7 +12,7 @@ use std::io::{self, Read};
 use std::str::from_utf8;
 use std::test::Fail;
 use test_tiles::{check_found, check_row};
-use watershed::Run;
+use water::Run;
 
 /// Gives one byte a read, and fails once `good` bytes were given.
 #[derive(Drop)]

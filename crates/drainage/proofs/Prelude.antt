@@ -36,7 +36,7 @@ pub use Rattle.drainage.specs.Room.{HasSide, graph_size, has_block}
 pub use Rattle.drainage.specs.Slots.{slot_ranges}
 pub use Rattle.drainage.specs.Spared.{AreLevelsStill, AreSparing, IsNoHigher, IsSetTo, IsSpared, IsSparedBy, IsUnchanged, LiesApart}
 pub use Rattle.drainage.specs.TileCaches.{known_of}
-pub use Rattle.drainage.specs.TileLevels.{AreRimLevelsTo, IsLevelOrVoid}
+pub use Rattle.drainage.specs.TileLevels.{AreRimLevelsTo}
 pub use Rattle.drainage.specs.declared.drainage_cache.DrainageCache.{DrainageCache}
 pub use Rattle.drainage.specs.declared.flow_cache.FlowCache.{FlowCache}
 pub use Rattle.drainage.specs.declared.flow_cache.Slot.{Slot}
@@ -51,17 +51,13 @@ pub use Rattle.edits.specs.Effect.{patched}
 pub use Rattle.edits.specs.Sinks.{with_point, without_point}
 pub use Rattle.edits.specs.declared.edit.NewHeight.{NewHeight}
 pub use Rattle.flow_d8.proofs.Mosaics.FullTerrain.{mosaic_is_full}
-pub use Rattle.flow_d8.proofs.Mosaics.MosaicGrid.{mosaic_is_grid}
 pub use Rattle.flow_d8.proofs.Padded.PaddedPlaces.{one_column, one_row}
 pub use Rattle.flow_d8.proofs.Samples.Numbers.{tile_below}
 pub use Rattle.flow_d8.proofs.Samples.Slots.{as_before, at_end, longer}
 pub use Rattle.flow_d8.proofs.Samples.TilePlaces.{square_some}
 pub use Rattle.flow_d8.proofs.Sayings.Draining.{flow_direction}
-pub use Rattle.flow_d8.proofs.Steps.Compass.{dir_at_place, order_below}
-pub use Rattle.flow_d8.proofs.Steps.Nearby.{all_around, level_ground, told}
-pub use Rattle.flow_d8.specs.Drainage.{AreFilledLevels, CrossesFlat}
+pub use Rattle.flow_d8.proofs.Steps.Nearby.{all_around, told}
 pub use Rattle.flow_d8.specs.FlowGrids.{AreTileFlows, IsAtHand, IsGridOf}
-pub use Rattle.flow_d8.specs.FlowPath.{IsInWatershed}
 pub use Rattle.flow_d8.specs.FlowSteps.{IsFollowed}
 pub use Rattle.flow_d8.specs.Flows.{AreFlows, Drains, IsFlow, direction_of}
 pub use Rattle.flow_d8.specs.LevelsAround.{IsLevelAt, OnLevels, beside_of}
@@ -115,13 +111,18 @@ pub use Rattle.tile_flood.proofs.Raised.{rim_number_below}
 pub use Rattle.tile_flood.proofs.Squares.{solid_if}
 pub use Rattle.tile_flood.specs.Blocks.{LabelledGround, bare_block, block_of}
 pub use Rattle.tile_flood.specs.Labelling.{IsLabelling, NO_LABEL, OUT}
-pub use Rattle.tile_flood.specs.Raising.{AreRimLevels, AreTileLevels}
+pub use Rattle.tile_flood.specs.Raising.{AreRimLevels}
 pub use Rattle.tile_flood.specs.Spills.{AreSpills}
 pub use Rattle.tile_flood.specs.declared.passing.Spill.{Spill}
 pub use Rattle.tile_labellings.specs.Labellings.{IsFlooded}
 pub use Rattle.tile_labellings.specs.TileLabellings.{IsBelow, IsCurrent, IsSetFrom, IsTileLabelling, can_note, labelled_of}
 pub use Rattle.tile_labellings.specs.declared.tile_labelling.TileLabelling.{TileLabelling}
 pub use Rattle.tile_labellings.specs.declared.tile_labelling.TileLabelling.TheVariants.{Flooded, Kept}
+pub use Rattle.water.proofs.Compass.{dir_at_place, order_below}
+pub use Rattle.water.proofs.MosaicGrid.{level_ground, mosaic_is_grid}
+pub use Rattle.water.specs.Drainage.{AreFilledLevels, CrossesFlat}
+pub use Rattle.water.specs.FlowPath.{IsInWatershed}
+pub use Rattle.water.specs.Questions.{AreCodesTo, IsCodeOrNone}
+pub use Rattle.water.specs.Runs.{AreRuns}
+pub use Rattle.water.specs.TileLevels.{AreTileLevels, IsLevelOrVoid}
 pub use Rattle.watershed.specs.FlowSource.{IsToldOf}
-pub use Rattle.watershed.specs.Questions.{AreCodesTo, IsCodeOrNone}
-pub use Rattle.watershed.specs.Runs.{AreRuns}

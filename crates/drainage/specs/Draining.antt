@@ -3,7 +3,7 @@ use Rattle.std.specs.Prelude.{ℤ}
 use Rattle.lattice.specs.declared.point.Point.{Point}
 use Rattle.lattice.specs.Mosaic.{Mosaic, IsMosaic}
 use Rattle.lattice.specs.Ground.{terrain}
-use Rattle.flow_d8.specs.Drainage.{AreFilledLevels}
+use Rattle.water.specs.Drainage.{AreFilledLevels}
 
 -- on every mosaic some function gives the filled levels of all ground points
 abbrev pub LevelFunctionsExist : Type 0

@@ -4,7 +4,7 @@ use Rattle.lattice.specs.Corners.{Corner}
 use Rattle.lattice.specs.Mosaic.{Mosaic, void}
 use Rattle.flow_d8.specs.Padded.{padded_point}
 use Rattle.flow_d8.specs.Preparing.{place_in}
-use Rattle.drainage.specs.TileLevels.{IsLevelOrVoid}
+use Rattle.water.specs.TileLevels.{IsLevelOrVoid}
 use Rattle.drainage.specs.declared.preparing.Strip.{Strip}
 
 -- the place in this row and column has the level of its point

@@ -3,7 +3,7 @@ use Rattle.std.specs.Prelude.{ℕ}
 use Rattle.flow_d8.specs.declared.flow.Flow.{Flow}
 use Rattle.flow_d8.specs.declared.flow.Flow.TheVariants.{NoGround}
 use Rattle.flow_d8.specs.Flows.{direction_of}
-use Rattle.watershed.specs.Questions.{code_by}
+use Rattle.water.specs.Questions.{code_by}
 
 -- the direction's code of what tells all of a point
 abbrev pub code_told : Flow → ℕ

@@ -5,7 +5,7 @@ ghost use Rattle.lattice.specs.Limits.{most_tiles as most_at_hand};
 ghost use Rattle.lattice.specs.Mosaic.{Mosaic};
 ghost use Rattle.lattice.specs.Terrain.{Terrain};
 ghost use Rattle.lattice.specs.declared.point.Point.{Point};
-ghost use Rattle.flow_d8.specs.Drainage.{CrossesFlat};
+ghost use Rattle.water.specs.Drainage.{CrossesFlat};
 ghost use Rattle.flow_d8.specs.Flows.{AreFlows, Drains};
 ghost use Rattle.flow_d8.specs.FlowGrids.{AreKnown, AreFlowsIn, flow_of, IsAtHand};
 ghost use Rattle.flow_d8.specs.Tiles.{place_of, no_corner, OnGround};

@@ -8,9 +8,9 @@ ghost use Rattle.lattice.specs.Ground.{is_ground, terrain};
 ghost use Rattle.lattice.specs.declared.height.Height.TheVariants as height_is;
 ghost use Rattle.lattice.specs.declared.refusal.Refusal.TheVariants.{Outside, Void};
 ghost use Rattle.catalogue.specs.Asked.{Asked};
-ghost use Rattle.flow_d8.specs.Drainage.{AreFilledLevels};
-ghost use Rattle.flow_d8.specs.FlowPath.{IsFlowPath};
-ghost use Rattle.watershed.specs.Questions.{code_by, DrainsBy};
+ghost use Rattle.water.specs.Drainage.{AreFilledLevels};
+ghost use Rattle.water.specs.FlowPath.{IsFlowPath};
+ghost use Rattle.water.specs.Questions.{code_by, DrainsBy};
 ghost use Rattle.drainage.specs.Asking.{IsHeldByNone, may_refuse};
 ghost use Rattle.drainage.specs.Between.{IsHeldFor};
 

@@ -6,7 +6,7 @@ ghost use Rattle.lattice.specs.Ground.{is_ground, terrain};
 ghost use Rattle.lattice.specs.declared.refusal.Refusal.TheVariants.{NoMemory, Damaged};
 ghost use Rattle.catalogue.specs.Asked.{Asked};
 ghost use Rattle.catalogue.specs.Endings.{ends_any};
-ghost use Rattle.flow_d8.specs.FlowPath.{IsFlowPath};
+ghost use Rattle.water.specs.FlowPath.{IsFlowPath};
 ghost use Rattle.flow_d8.specs.FlowSteps.{IsNext};
 ghost use Rattle.flow_d8.specs.LevelsAround.{OnLevels};
 ghost use Rattle.drainage.specs.Between.{IsHeldFor};

@@ -6,7 +6,7 @@ ghost use Rattle.lattice.specs.Ground.{terrain};
 ghost use Rattle.lattice.specs.Mosaic.{Mosaic, IsMosaic};
 ghost use Rattle.catalogue.specs.Asked.{Asked};
 ghost use Rattle.catalogue.specs.Endings.{ends_any};
-ghost use Rattle.flow_d8.specs.Drainage.{AreFilledLevels};
+ghost use Rattle.water.specs.Drainage.{AreFilledLevels};
 ghost use Rattle.flow_d8.specs.LevelsAround.{OnLevels};
 ghost use Rattle.watershed.specs.FlowSource.{IsToldOf};
 ghost use Rattle.drainage.specs.Between.{IsHeldFor};

@@ -7,11 +7,11 @@ ghost use Rattle.lattice.specs.Ground.{is_ground, terrain};
 ghost use Rattle.lattice.specs.declared.height.Height.TheVariants as height_is;
 ghost use Rattle.lattice.specs.declared.refusal.Refusal.TheVariants.{Outside, Void};
 ghost use Rattle.catalogue.specs.Asked.{Asked};
-ghost use Rattle.flow_d8.specs.Drainage.{AreFilledLevels};
+ghost use Rattle.water.specs.Drainage.{AreFilledLevels};
 ghost use Rattle.catalogue.specs.Endings.{ends_any};
-ghost use Rattle.flow_d8.specs.FlowPath.{IsInWatershed};
+ghost use Rattle.water.specs.FlowPath.{IsInWatershed};
 ghost use Rattle.flow_d8.specs.LevelsAround.{OnLevels};
-ghost use Rattle.watershed.specs.Runs.{AreRuns};
+ghost use Rattle.water.specs.Runs.{AreRuns};
 ghost use Rattle.drainage.specs.Asking.{IsHeldByNone, may_refuse};
 ghost use Rattle.drainage.specs.Between.{IsHeldFor};
 
@@ -21,7 +21,8 @@ use crate::prepared_flows::PreparedFlows;
 use lattice::{Point, Refusal};
 use std::alloc::Global;
 use tile_labellings::Labellings;
-use watershed::{Run, watershed_over};
+use water::Run;
+use watershed::watershed_over;
 
 /// The watershed of the point: the ground points whose flow path contains it, as maximal runs, north first, west first.
 /// Only the tiles on the water's ways out from its points and from those around them, and around those of their flats, are

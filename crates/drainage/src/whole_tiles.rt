@@ -3,8 +3,8 @@ ghost use Rattle.std.specs.Prelude.{◌≡◌, ◌≤◌, IsTrue, IfOk, IfErr, C
 ghost use Rattle.lattice.specs.Limits.{most_tiles};
 ghost use Rattle.catalogue.specs.Asked.{Asked};
 ghost use Rattle.catalogue.specs.Endings.{ends_any};
-ghost use Rattle.tile_flood.specs.Raising.{AreTileLevels};
-ghost use Rattle.watershed.specs.Questions.{AreTileCounts, AreTileDirections};
+ghost use Rattle.water.specs.TileLevels.{AreTileLevels};
+ghost use Rattle.water.specs.Questions.{AreTileCounts, AreTileDirections};
 ghost use Rattle.drainage.specs.Between.{IsHeldFor};
 ghost use Rattle.drainage.specs.WholeTiles.{code_told};
 

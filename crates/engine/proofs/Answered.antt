@@ -11,10 +11,10 @@ use Rattle.lattice.specs.Mosaic.{Mosaic, is_present, samples_of}
 use Rattle.lattice.specs.Ground.{terrain}
 use Rattle.catalogue.specs.Tiles.{corners_of}
 use Rattle.catalogue.proofs.Presence.{present_iff, some-samples}
-use Rattle.flow_d8.specs.FlowPath.{IsFlowPath, IsInWatershed}
-use Rattle.watershed.specs.declared.runs.Run.{Run}
-use Rattle.watershed.specs.Runs.{AreRuns}
-use Rattle.watershed.specs.Questions.{DrainsBy, IsAnswered, IsUnanswered}
+use Rattle.water.specs.FlowPath.{IsFlowPath, IsInWatershed}
+use Rattle.water.specs.declared.run.Run.{Run}
+use Rattle.water.specs.Runs.{AreRuns}
+use Rattle.water.specs.Questions.{DrainsBy, IsAnswered, IsUnanswered}
 use Rattle.engine.specs.State.{State}
 use Rattle.engine.specs.Engines.{items_in}
 use Rattle.engine.specs.Outcomes.{Stays, AnswersNot, TellsTile, Fills, Directs, Traces, Sheds}

@@ -9,11 +9,11 @@ use Rattle.lattice.specs.declared.refusal.Refusal.{Refusal}
 use Rattle.lattice.specs.declared.refusal.Refusal.TheVariants.{Device, Failed}
 use Rattle.catalogue.specs.Reading.{HasRisen}
 use Rattle.edits.specs.declared.command.Command.{Command}
-use Rattle.watershed.specs.declared.runs.Run.{Run}
+use Rattle.water.specs.declared.run.Run.{Run}
 use Rattle.engine.specs.Engines.{answered, items_in}
 use Rattle.engine.specs.Events.{SaysFailed, fails_after, Happens}
-use Rattle.tile_flood.specs.Raising.{AreTileLevels}
-use Rattle.watershed.specs.Questions.{AreTileCounts, AreTileDirections}
+use Rattle.water.specs.TileLevels.{AreTileLevels}
+use Rattle.water.specs.Questions.{AreTileCounts, AreTileDirections}
 use Rattle.engine.specs.Outcomes.{Elevates, Exports, TellsTile, Lists, ListsSinks, Informs, Fills, Directs, Traces, Sheds}
 use Rattle.engine.specs.State.{State}
 use Rattle.engine.specs.Told.{Matches, may_refuse, IsTold, IsCounted, WritesFew, IsWritten, Known, Knows}

@@ -2,8 +2,8 @@
 use Rattle.std.specs.Prelude.{◌≡◌, ◌⊎◌, ℕ, Bool, true, false, Some, Ok, Err}
 use Rattle.lattice.specs.declared.refusal.Refusal.{Refusal}
 use Rattle.lattice.specs.declared.refusal.Refusal.TheVariants.{Device, NoMemory, Failed}
-use Rattle.tile_flood.specs.Raising.{AreTileLevels}
-use Rattle.watershed.specs.Questions.{AreTileCounts, AreTileDirections}
+use Rattle.water.specs.TileLevels.{AreTileLevels}
+use Rattle.water.specs.Questions.{AreTileCounts, AreTileDirections}
 use Rattle.engine.specs.Outcomes.{Applies, Elevates, Exports, TellsTile, Lists, ListsSinks, Informs, Fills, Directs, Traces, Sheds}
 use Rattle.engine.specs.State.{Contents, State, working}
 use Rattle.engine.specs.Steps.{Steps}

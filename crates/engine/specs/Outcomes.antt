@@ -14,10 +14,10 @@ use Rattle.lattice.specs.Terrain.{IsFilledLevel}
 use Rattle.hgt.specs.Bytes.{hgt_bytes}
 use Rattle.edits.specs.declared.command.Command.{Command}
 use Rattle.edits.specs.Effect.{effect}
-use Rattle.flow_d8.specs.FlowPath.{IsFlowPath, IsInWatershed}
-use Rattle.watershed.specs.declared.runs.Run.{Run}
-use Rattle.watershed.specs.Runs.{AreRuns}
-use Rattle.watershed.specs.Questions.{IsAnswered, DrainsBy}
+use Rattle.water.specs.FlowPath.{IsFlowPath, IsInWatershed}
+use Rattle.water.specs.declared.run.Run.{Run}
+use Rattle.water.specs.Runs.{AreRuns}
+use Rattle.water.specs.Questions.{IsAnswered, DrainsBy}
 use Rattle.engine.specs.State.{Contents, State, last_number, made_by, in_doubt, failing}
 use Rattle.engine.specs.declared.info.Info.{Info}
 

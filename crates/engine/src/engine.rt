@@ -11,7 +11,7 @@ ghost use Rattle.engine.specs.declared.event.Reply.TheVariants as reply;
 use crate::{Event, Info, Reply};
 use edits::Command;
 use lattice::{Corner, Height, Point, Refusal, Side};
-use watershed::Run;
+use water::Run;
 
 /// A store, as far as lines need it.
 ///

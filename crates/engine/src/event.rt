@@ -3,7 +3,7 @@
 use crate::Info;
 use edits::Command;
 use lattice::{Corner, Height, Point, Refusal};
-use watershed::Run;
+use water::Run;
 
 /// One thing that a store is asked.
 #[derive(Drop)]

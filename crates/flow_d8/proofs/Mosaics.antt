@@ -1,5 +1,4 @@
 -- What a mosaic is as a terrain, and its filled levels.
-pub mod MosaicGrid
 pub mod PointFlows
 pub mod FilledOf
 pub mod Fitting

@@ -1,7 +1,4 @@
 -- The direction of each point and its flow path.
-pub mod Unique
-pub mod Exists
-pub mod FlowPaths
 pub mod OnePath
 pub mod Following
 pub mod Crossing

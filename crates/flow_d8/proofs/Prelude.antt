@@ -1,14 +1,11 @@
 -- The names that many proofs of this crate cite, passed on from one place. Declares nothing.
 pub use Rattle.flow_d8.specs.Component.{Connects}
 pub use Rattle.flow_d8.specs.Directions.{AreDirectionsOf, Directions, IsChain}
-pub use Rattle.flow_d8.specs.Drainage.{AreFilledLevels, CrossesFlat, HasLower, IsDirection, IsFirstNearer, IsFlatDistance, IsLower, IsNearer, IsSteepest, drop_by}
 pub use Rattle.flow_d8.specs.Filled.{AreLevels, Filled, IsFilledOf, is_deep, is_held, is_holder}
 pub use Rattle.flow_d8.specs.FlowBytes.{byte_of, byte_of_flow_at}
 pub use Rattle.flow_d8.specs.FlowGrids.{AreCrossed, AreFlowsIn, AreKnown, AreTileFlows, IsAtHand, IsCut, IsGridOf, flow_of}
-pub use Rattle.flow_d8.specs.FlowPath.{IsFlowPath}
 pub use Rattle.flow_d8.specs.FlowSteps.{IsFollowed}
 pub use Rattle.flow_d8.specs.Flows.{AreFlows, AreLaid, Drains, IsBeside, IsFlow, IsFlowNear, IsFull, IsOfFlat, IsTellingAll, IsTold, LiesInside, Names, direction_of}
-pub use Rattle.flow_d8.specs.Grid.{IsGrid}
 pub use Rattle.flow_d8.specs.LevelGrid.{IsLevelGrid, level_beside}
 pub use Rattle.flow_d8.specs.Levels.{ArePaddedTo, IsLevelIn, filled_of}
 pub use Rattle.flow_d8.specs.LevelsAround.{beside_of}
@@ -20,9 +17,8 @@ pub use Rattle.flow_d8.specs.Prelude.{Beside, Corner, Dir, East, Flat, FlatTo, F
 pub use Rattle.flow_d8.specs.Preparing.{AreEnded, HasSink, IsClosedAt, IsClosedFlow, IsClosing, IsEnd, IsEndBeside, IsEnded, IsLocal, IsSinkPlace, along_of, flow_in, place_in}
 pub use Rattle.flow_d8.specs.PresentTiles.{corners_of}
 pub use Rattle.flow_d8.specs.Rounds.{Advances, AreBegun, AreMarked, AreWavesOf, IsPassed, IsRound, Tells}
-pub use Rattle.flow_d8.specs.SteepestStep.{IsSteepestOf, LeadsDown, slope_in}
 pub use Rattle.flow_d8.specs.Tiles.{AreTiles, IsFirst, OnGround, Tiles, count_of, no_corner}
-pub use Rattle.flow_d8.specs.Waves.{IsAcross, IsStepped, LeadsToEnd}
+pub use Rattle.flow_d8.specs.Waves.{IsAcross, LeadsToEnd}
 pub use Rattle.flow_d8.specs.declared.marks.SampleRun.{SampleRun}
 pub use Rattle.flow_d8.specs.declared.preparing.Sides.{Sides}
 pub use Rattle.flow_d8.specs.declared.slopes.Best.{Best}
@@ -48,3 +44,7 @@ pub use Rattle.std.proofs.lemmas.Option.{none-some, slice_get_read}
 pub use Rattle.std.specs.Int.Signed.{mag}
 pub use Rattle.std.specs.List.{AllAdjacentBelow, AllPairs, list_any}
 pub use Rattle.std.specs.Ordering.{int_eq}
+pub use Rattle.water.specs.Drainage.{AreFilledLevels, CrossesFlat, HasLower, IsDirection, IsFirstNearer, IsFlatDistance, IsLower, IsNearer, IsSteepest, drop_by}
+pub use Rattle.water.specs.FlowPath.{IsFlowPath}
+pub use Rattle.water.specs.Grid.{IsGrid, IsStepped}
+pub use Rattle.water.specs.SteepestStep.{IsSteepestOf, LeadsDown, slope_in}

@@ -1,5 +1,4 @@
 -- Directions, steps between points, and what lies around a point.
-pub mod Compass
 pub mod SteepestStep
 pub mod Surfaces
 pub mod StepBack

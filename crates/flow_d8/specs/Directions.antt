@@ -1,7 +1,7 @@
 -- Where each point of a mosaic drains, kept by the numbers of samples.
 use Rattle.std.specs.Prelude.{◌≡◌, ◌<◌, ◌+◌, ℕ, zero, suc, ℤ, IsTrue, IsFalse, Option, Some, None, List, length, slice_index_or}
 use Rattle.flow_d8.specs.Prelude.{Point, Dir, step, fits_point, Mosaic, IsMosaic, is_ground, terrain, Flow, NoGround, Outlet, To, Beside, FlatTo}
-use Rattle.flow_d8.specs.Drainage.{AreFilledLevels, IsFlatDistance, IsDirection}
+use Rattle.water.specs.Drainage.{AreFilledLevels, IsFlatDistance, IsDirection}
 use Rattle.flow_d8.specs.Filled.{number_of}
 use Rattle.flow_d8.specs.Flows.{direction_of}
 use Rattle.flow_d8.specs.FlowGrids.{AreTold}

@@ -1,7 +1,7 @@
 -- The points that drain straight to a point, by their directions from it.
 use Rattle.std.specs.Prelude.{◌≡◌, ◌↔◌, ◌<◌, ℕ, ℤ, Bool, false, IsTrue, Some, List, slice_index_or}
 use Rattle.flow_d8.specs.Prelude.{Point, Dir, step, order_of, Terrain, Flow}
-use Rattle.flow_d8.specs.Drainage.{IsDirection}
+use Rattle.water.specs.Drainage.{IsDirection}
 use Rattle.flow_d8.specs.Flows.{IsTellingAll, direction_of}
 use Rattle.flow_d8.specs.Places.{back_of}
 

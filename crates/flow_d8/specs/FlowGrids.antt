@@ -4,7 +4,7 @@ use Rattle.flow_d8.specs.Prelude.{Corner, Holds, point_of, terrain, Mosaic, Terr
 use Rattle.flow_d8.specs.Filled.{number_of}
 use Rattle.flow_d8.specs.LevelsAround.{OnLevels}
 use Rattle.flow_d8.specs.PresentTiles.{corners_of}
-use Rattle.flow_d8.specs.Drainage.{CrossesFlat}
+use Rattle.water.specs.Drainage.{CrossesFlat}
 use Rattle.flow_d8.specs.Flows.{IsFlow, IsTellingAll, AreFlows}
 use Rattle.flow_d8.specs.Tiles.{Tiles, no_corner, place_of}
 

@@ -1,8 +1,8 @@
 -- A flow path on its way.
 use Rattle.std.specs.Prelude.{◌≡◌, ℤ, ◌++◌, ◌∷◌, IsTrue, List, Option, Some, None, MatchOption}
 use Rattle.flow_d8.specs.Prelude.{Point, Dir, step, Terrain}
-use Rattle.flow_d8.specs.Drainage.{IsDirection}
-use Rattle.flow_d8.specs.FlowPath.{IsFlowPath}
+use Rattle.water.specs.Drainage.{IsDirection}
+use Rattle.water.specs.FlowPath.{IsFlowPath}
 
 module _ (t : Terrain Point) (level : Point → ℤ) where
   -- the point that p drains to, or none where it drains off the mosaic

@@ -2,7 +2,7 @@
 use Rattle.std.specs.Prelude.{◌≡◌, ℤ, IsTrue, IsFalse, if◌then◌else◌, List, Option, Some, None, MatchOption, map}
 use Rattle.flow_d8.specs.Prelude.{Point, Dir, step, directions, Terrain, IsFilledLevel, Mosaic, is_ground, terrain}
 use Rattle.flow_d8.specs.declared.levels_around.Near.{Near}
-use Rattle.flow_d8.specs.Drainage.{AreFilledLevels}
+use Rattle.water.specs.Drainage.{AreFilledLevels}
 
 -- the point's filled level, or none where it isn't ground
 abbrev pub IsLevelAt : Mosaic → Point → Option ℤ → Type 0

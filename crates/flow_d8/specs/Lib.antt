@@ -1,10 +1,5 @@
 pub mod Prelude
-pub mod Drainage
-pub mod FlowPath
-pub mod Grid
-pub mod DrainageLaws
 pub mod LevelGrid
-pub mod SteepestStep
 pub mod Places
 pub mod Filled
 pub mod Surface

@@ -2,7 +2,7 @@
 use Rattle.std.specs.Prelude.{◌≡◌, ℕ, ◌+◌, ◌-◌, ◌<◌, ◌≤◌, ℤ, IsTrue, if◌then◌else◌, List, slice_index_or}
 use Rattle.flow_d8.specs.Prelude.{Point, Dir, East, SouthEast, South, SouthWest, West, NorthWest, North, NorthEast, Terrain, void}
 use Rattle.flow_d8.specs.declared.slopes.Best.{Best}
-use Rattle.flow_d8.specs.SteepestStep.{IsSteepestOf}
+use Rattle.water.specs.SteepestStep.{IsSteepestOf}
 use Rattle.flow_d8.specs.LevelGrid.{level_beside, IsLevelGrid}
 
 -- where a step leads, in rows of this width
@@ -39,4 +39,4 @@ pub record IsShown (t : Terrain Point) (level : Point → ℤ) (levels : List �
 
 abbrev pub IsBestAt : List ℤ → ℕ → ℕ → Best → Type 0
 IsBestAt levels width k best = (t : Terrain Point) (level : Point → ℤ) (p : Point) → IsLevelGrid t level → level p ≡ slice_index_or levels k void
-    → ((d : Dir) → slice_index_or levels (place_by width k d) void ≡ level_beside t level p d) → IsSteepestOf t level p 8 best
+    → ((d : Dir) → slice_index_or levels (place_by width k d) void ≡ level_beside t level p d) → IsSteepestOf t level p 8 best.slope best.direction

@@ -1,7 +1,7 @@
 -- What the levels around a tile's samples tell of their flows.
 use Rattle.std.specs.Prelude.{◌≡◌, ℕ, ◌+◌, ◌*◌, ◌/◌, ◌%◌, ◌<◌, ◌≤◌, ◌⊎◌, ℤ, pos, int_lt, Bool, false, IsTrue, IsFalse, if◌then◌else◌, List, length, Contains, slice_index_or}
 use Rattle.flow_d8.specs.Prelude.{Corner, void, step, order_of, north_of, east_of, Terrain, Point, Dir, East, South, West, North, Flow, Unknown, NoGround, Outlet, To, Beside, Flat, FlatTo}
-use Rattle.flow_d8.specs.Drainage.{HasLower, IsSteepest}
+use Rattle.water.specs.Drainage.{HasLower, IsSteepest}
 use Rattle.flow_d8.specs.LevelGrid.{IsLevelGrid, level_beside}
 use Rattle.flow_d8.specs.Places.{place_by, IsInner, IsShown}
 use Rattle.flow_d8.specs.declared.preparing.Sides.{Sides}

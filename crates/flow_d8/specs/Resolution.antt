@@ -1,7 +1,7 @@
 -- What comes of resolving the flat of a sample.
 use Rattle.std.specs.Prelude.{◌≡◌, ℕ, IsTrue, List, slice_index_or}
 use Rattle.flow_d8.specs.Prelude.{Point, Dir, step, Flow, Unknown}
-use Rattle.flow_d8.specs.Drainage.{CrossesFlat}
+use Rattle.water.specs.Drainage.{CrossesFlat}
 use Rattle.flow_d8.specs.Filled.{number_of}
 use Rattle.flow_d8.specs.declared.resolving.Resolution.{Resolution}
 use Rattle.flow_d8.specs.declared.resolving.Resolution.TheVariants.{Resolved, NotFlat, Meets}

@@ -1,7 +1,7 @@
 -- What holds between two waves.
 use Rattle.std.specs.Prelude.{◌≡◌, ℕ, suc, ◌+◌, ◌<◌, ◌≤◌, ◌⊎◌, ◌↔◌, ℤ, List, length, sum, slice_index_or}
 use Rattle.flow_d8.specs.Prelude.{Point, Dir, Terrain, Flow, Unknown}
-use Rattle.flow_d8.specs.Drainage.{CrossesFlat}
+use Rattle.water.specs.Drainage.{CrossesFlat}
 use Rattle.flow_d8.specs.Flows.{IsOfFlat, IsBeside, IsTold, IsFull, AreFlows, AreLaid, Names}
 use Rattle.flow_d8.specs.Marks.{mark_at, IsMember, Lists, IsSettled, IsDirected, IsBack}
 

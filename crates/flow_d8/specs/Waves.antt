@@ -1,12 +1,7 @@
--- Steps between adjacent points, and those across a flat that lead out of it.
+-- Steps across a flat, and those that lead out of it.
 use Rattle.std.specs.Prelude.{◌≡◌, ℤ, IsTrue}
-use Rattle.flow_d8.specs.Prelude.{Point, Dir, step, Terrain, IsLawful}
-use Rattle.flow_d8.specs.Drainage.{CrossesFlat}
-
--- adjacency is between ground points and goes both ways, and adjacent points are a step apart
-pub record IsStepped (t : Terrain Point) : Type 0 where
-  pub lawful : IsLawful t
-  pub steps : (x y : Point) → IsTrue (t.is_adjacent x y) → (d : Dir) × (y ≡ step d x)
+use Rattle.flow_d8.specs.Prelude.{Point, Dir, step, Terrain}
+use Rattle.water.specs.Drainage.{CrossesFlat}
 
 module _ (t : Terrain Point) (level : Point → ℤ) where
   -- y is adjacent to x and has its level

@@ -4,7 +4,7 @@ ghost use Rattle.lattice.specs.Ground.{terrain};
 ghost use Rattle.lattice.specs.Mosaic.{Mosaic, IsMosaic};
 ghost use Rattle.lattice.specs.declared.point.Point.{Point};
 ghost use Rattle.lattice.specs.declared.refusal.Refusal.TheVariants.{NoMemory, Damaged};
-ghost use Rattle.flow_d8.specs.Drainage.{AreFilledLevels};
+ghost use Rattle.water.specs.Drainage.{AreFilledLevels};
 ghost use Rattle.flow_d8.specs.Filled.{AreLevels, IsFilledOf, IsOfNoMosaic};
 ghost use Rattle.flow_d8.specs.Directions.{AreDirectionsOf};
 ghost use Rattle.flow_d8.specs.FlowGrids.{AreKnown, AreTileFlows, IsGridOf};

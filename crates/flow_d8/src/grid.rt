@@ -6,7 +6,7 @@ ghost use Rattle.lattice.specs.Limits.{most_tiles};
 ghost use Rattle.lattice.specs.Mosaic.{Mosaic};
 ghost use Rattle.lattice.specs.Terrain.{Terrain};
 ghost use Rattle.lattice.specs.declared.point.Point.{Point};
-ghost use Rattle.flow_d8.specs.Drainage.{CrossesFlat};
+ghost use Rattle.water.specs.Drainage.{CrossesFlat};
 ghost use Rattle.flow_d8.specs.Filled.{number_of};
 ghost use Rattle.flow_d8.specs.declared.flow.Flow.TheVariants.{Unknown, NoGround};
 ghost use Rattle.flow_d8.specs.Flows.{IsOfFlat, IsFlow, IsTellingAll, AreFlows, Drains};

@@ -1,7 +1,7 @@
 //! Where water flows: D-8 directions on filled levels, flats crossed the shortest way, flow paths (O'Callaghan and Mark
 //! 1984).
 //!
-//! The layer above rests on this: each ground point of a mosaic has exactly one direction and one flow path.
+//! The layer above rests on this: the directions and paths that are found are those of the definitions (crate `water`).
 //!
 //! What is known of where a sample's point drains is one byte (`Flow`), a fact about the mosaic by itself. `prepare` tells
 //! the bytes of a tile from its filled levels and those of two rows around it: all but the directions of points inside flats
@@ -26,7 +26,6 @@ mod flat_search;
 mod flow;
 mod flow_byte;
 mod grid;
-mod laws;
 mod levels_around;
 mod local_flow;
 mod marks;
@@ -46,10 +45,6 @@ pub use flat_search::FlatSearch;
 pub use flow::{Flow, back};
 pub use flow_byte::FlowByte;
 pub use grid::FlowGrid;
-pub use laws::{
-    directions_are_unique, flat_distances_are_unique, flow_paths_are_unique,
-    watersheds_follow_flow_paths,
-};
 pub use levels_around::Near;
 pub use near::flow_near;
 pub use preparing::{Sides, padded_point, prepare};

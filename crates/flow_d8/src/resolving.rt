@@ -1,7 +1,7 @@
 //! Flats resolved by waves.
 ghost use Rattle.std.specs.Prelude.{◌≡◌, ℕ, ◌<◌, IfOk, OnOk, length, slice_index_or};
 ghost use Rattle.lattice.specs.declared.direction.Dir.{Dir};
-ghost use Rattle.flow_d8.specs.Drainage.{CrossesFlat};
+ghost use Rattle.water.specs.Drainage.{CrossesFlat};
 ghost use Rattle.flow_d8.specs.Filled.{number_of};
 ghost use Rattle.flow_d8.specs.Tiles.{count_of, place_of, by_of, IsFirst, OnGround};
 ghost use Rattle.flow_d8.specs.declared.flow.Flow.TheVariants.{Unknown};

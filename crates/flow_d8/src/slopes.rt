@@ -5,7 +5,7 @@ ghost use Rattle.lattice.specs.Steps.{order_of, slope_of};
 ghost use Rattle.lattice.specs.Terrain.{Terrain};
 ghost use Rattle.lattice.specs.Mosaic.{void};
 ghost use Rattle.flow_d8.specs.LevelGrid.{IsLevelGrid, level_beside};
-ghost use Rattle.flow_d8.specs.SteepestStep.{IsSteepestOf};
+ghost use Rattle.water.specs.SteepestStep.{IsSteepestOf};
 
 use lattice::{Dir, VOID};
 
@@ -22,8 +22,8 @@ pub(crate) fn better(levels: &[i16], place: usize, height: i16, best: Best, dire
     requires { place < length levels.now }
     ensures { (t : Terrain Point) (level : Point → ℤ) (p : Point) → IsLevelGrid t level
         → slice_index_or levels.now place void ≡ level_beside t level p direction → level p ≡ height
-        → IsSteepestOf t level p (order_of direction) best
-        → IsSteepestOf t level p (order_of direction + 1) result }
+        → IsSteepestOf t level p (order_of direction) best.slope best.direction
+        → IsSteepestOf t level p (order_of direction + 1) result.slope result.direction }
 {
     let slope = slope_to(height, direction, at(levels, place));
     if slope > best.slope {

@@ -14,7 +14,7 @@ use std::process::Abort;
 use std::test::Fail;
 use store::{Event, Reply, Store};
 use test_tiles::B;
-use watershed::Run;
+use water::Run;
 
 /// More calls of the disk than an opening and a query make.
 const MANY_CALLS: u64 = 120;

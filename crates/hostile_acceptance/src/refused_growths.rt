@@ -12,7 +12,7 @@ use std::alloc::Global;
 use std::test::Fail;
 use store::{Event, Reply, Store};
 use test_tiles::{A, V};
-use watershed::Run;
+use water::Run;
 
 const MIDDLE: Point = Point { y: 1, x: 1 };
 

@@ -10,8 +10,8 @@ use Rattle.lattice.specs.declared.refusal.Refusal.{Refusal}
 use Rattle.lattice.specs.Refusals.{number_of, word_of}
 use Rattle.engine.specs.declared.info.Info.{Info}
 use Rattle.hgt.specs.Names.{name_bytes}
-use Rattle.watershed.specs.Runs.{run_count}
-use Rattle.watershed.specs.declared.runs.Run.{Run}
+use Rattle.water.specs.Runs.{run_count}
+use Rattle.water.specs.declared.run.Run.{Run}
 
 -- a line with its LF
 abbrev pub line_of : List ℕ → List ℕ

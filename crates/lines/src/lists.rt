@@ -4,14 +4,14 @@ ghost use Rattle.std.specs.Fmt.{signed_decimal};
 ghost use Rattle.std.specs.List.{sum_by};
 ghost use Rattle.lines.specs.Held.{text_left};
 ghost use Rattle.lines.specs.Replies.{line_of, name_after_space, point_line, run_line, spaced_names};
-ghost use Rattle.watershed.specs.Runs.{run_count};
+ghost use Rattle.water.specs.Runs.{run_count};
 
 use arrayvec::ArrayVec;
 use hgt::name_text;
 use itoa::Buffer;
 use lattice::{Corner, Point};
 use std::marker::Model;
-use watershed::Run;
+use water::Run;
 
 /// Room for the part of a text that is made at once, in bytes.
 const PART_BYTES: usize = 3072;

@@ -12,7 +12,7 @@ use hgt::name_text;
 use itoa::{Buffer, Integer};
 use lattice::{Corner, Point, Refusal};
 use std::marker::Model;
-use watershed::Run;
+use water::Run;
 
 /// Room for a number.
 const LONGEST_NUMBER: usize = 40;

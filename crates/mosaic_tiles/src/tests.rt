@@ -10,7 +10,7 @@ use std::marker::Brand;
 use std::process::Abort;
 use std::test::Fail;
 use test_tiles::{V, check_row, lines_of};
-use watershed::Run;
+use water::Run;
 
 fn owned(alloc: Global, words: &[&str]) -> Result<Vec<String>, AllocError> {
     let mut list = Vec::new(alloc);

@@ -3,7 +3,7 @@ use crate::directions::drain;
 use crate::{Levels, Plain};
 use lattice::Point;
 use std::alloc::{AllocError, Global};
-use watershed::Run;
+use water::Run;
 
 /// The flow path of a ground point, given the filled levels: the point, then the one that its direction names, and so
 /// on, to a point where water leaves the mosaic.

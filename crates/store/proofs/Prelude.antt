@@ -113,4 +113,4 @@ pub use Rattle.tile_flood.specs.Kept.{labels_in, levels_in}
 pub use Rattle.tile_flood.specs.Labelling.{IsLabelling}
 pub use Rattle.tile_labellings.specs.Labellings.{IsFlooded}
 pub use Rattle.tile_labellings.specs.Spots.{StandsAt}
-pub use Rattle.watershed.specs.Questions.{IsAnswered}
+pub use Rattle.water.specs.Questions.{IsAnswered}

@@ -6,8 +6,8 @@ ghost use Rattle.std.specs.Prelude.{◌≡◌, ◌≢◌, ◌≤◌, length, fal
 ghost use Rattle.std.specs.List.{AllPairs};
 ghost use Rattle.lattice.specs.Limits.{most_tiles};
 ghost use Rattle.engine.specs.Engines.{items_in};
-ghost use Rattle.tile_flood.specs.Raising.{AreTileLevels};
-ghost use Rattle.watershed.specs.Questions.{AreTileCounts, AreTileDirections};
+ghost use Rattle.water.specs.TileLevels.{AreTileLevels};
+ghost use Rattle.water.specs.Questions.{AreTileCounts, AreTileDirections};
 ghost use Rattle.engine.specs.Outcomes.{Fills, Directs, TellsTile, Traces, Sheds};
 ghost use Rattle.engine.specs.Told.{may_refuse};
 ghost use Rattle.engine.specs.declared.event.Event.TheVariants as ask;
@@ -23,7 +23,7 @@ use drainage::DrainageCache;
 use lattice::{Corner, Point, Refusal};
 use std::alloc::Global;
 use std::marker::PhantomData;
-use watershed::Run;
+use water::Run;
 
 // The filled level of the point.
 pub(crate) fn ask_fill<D: Disk, P: Premise>(

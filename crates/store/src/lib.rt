@@ -51,4 +51,4 @@ pub use laws::{images_stand_for_one_contents, pages_are_written_once};
 pub use page_codec::{Format, Version};
 pub use sessions::{open_session, run_in_session, sessions_compose, upgrade_in_session};
 pub use store::Store;
-pub use watershed::Run;
+pub use water::Run;

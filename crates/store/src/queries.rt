@@ -25,7 +25,7 @@ use engine::Info;
 use lattice::{Corner, Height, Point, Refusal};
 use page_codec::{PAGE_BYTES, pages_in_plane};
 use std::marker::Brand;
-use watershed::Run;
+use water::Run;
 
 impl<D: Disk> Store<D> {
     /// The height of a point, in metres where it is ground. Refused with Failed or Device.

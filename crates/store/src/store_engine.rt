@@ -11,7 +11,7 @@ use disk::Disk;
 use edits::Command;
 use engine::{Engine, Info};
 use lattice::{Corner, Height, Point, Refusal, Side};
-use watershed::Run;
+use water::Run;
 
 impl<D: Disk> Engine for Store<D> {
     ghost use Rattle.engine.specs.Engines.{IsCall};

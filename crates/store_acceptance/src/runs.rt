@@ -8,7 +8,7 @@ use std::alloc::Global;
 use std::test::Fail;
 use store::{Event, Reply, Store};
 use test_tiles::{A, check_found};
-use watershed::Run;
+use water::Run;
 
 // How many calls opening a store of the first version with one tile makes: a sync, both gates, both roots and the record.
 const CALLS_TO_OPEN: u64 = 6;

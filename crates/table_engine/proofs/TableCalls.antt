@@ -15,7 +15,7 @@ use Rattle.drainage.proofs.Questions.Answered.{told_or_short}
 use Rattle.edits.specs.declared.command.Command.{Command}
 use Rattle.edits.specs.declared.command.Command.TheVariants.{Import, Remove, Patch, Burn, Wall, Sink, Unsink}
 use Rattle.edits.specs.Effect.{effect}
-use Rattle.watershed.specs.Questions.{IsUnanswered}
+use Rattle.water.specs.Questions.{IsUnanswered}
 use Rattle.engine.specs.declared.event.Event.{Event}
 use Rattle.engine.specs.declared.event.Event.TheVariants as ask
 use Rattle.engine.specs.declared.event.Reply.{Reply}

@@ -15,4 +15,4 @@ pub use edits::{ArrayVec, Bytes, Command};
 pub use engine::{Engine, Event, Reply};
 pub use lattice::{Corner, Height, Point, Refusal, Side};
 pub use table_engine::TableEngine;
-pub use watershed::Run;
+pub use water::Run;

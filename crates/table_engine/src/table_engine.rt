@@ -13,7 +13,7 @@ use engine::{Engine, Info};
 use lattice::{Corner, Height, MOST_TILES, Point, Refusal, Side, push};
 use std::alloc::Global;
 use std::marker::Model;
-use watershed::Run;
+use water::Run;
 
 /// A mosaic held in memory. It refuses for want of memory, and never fails. It keeps no planes: a step names a tile, which
 /// is fresh until a command leaves it stale again.

@@ -1,6 +1,6 @@
 //! Points and runs as rows write them.
 use lattice::Point;
-use watershed::Run;
+use water::Run;
 
 pub(crate) fn at(y: i32, x: i32) -> Point {
     Point { y, x }

@@ -5,7 +5,8 @@ use Rattle.tile_flood.proofs.Prelude.{AreRaisedBelow, Corner, Decides-int_eq, Is
 use borrow.Author.Count.{below_more}
 use Rattle.lattice.specs.Block.{AreHeightsOf, IsBlockOf, rim_number}
 use Rattle.lattice.specs.Limits.{largest_side}
-use Rattle.tile_flood.specs.Raising.{AreRimLevels, AreTileLevels, IsRimFilled, AreRaised, CannotBeRaised}
+use Rattle.tile_flood.specs.Raising.{AreRimLevels, IsRimFilled, AreRaised, CannotBeRaised}
+use Rattle.water.specs.TileLevels.{AreTileLevels}
 use Rattle.tile_flood.proofs.Parts.{level_of_part, level_at_outlet}
 use Rattle.tile_flood.proofs.InMosaic.{block_is_part, ground_is, inner_outlet_is_outlet}
 use Rattle.tile_flood.proofs.Passages.{not_void, solid_has_level}

@@ -18,12 +18,6 @@ pub record AreRimLevels (m : Mosaic) (c : Corner) (rim : List ℤ) : Type 0 wher
       IsFilledLevel (terrain m) (point_of m.side c e) (slice_index_or rim (rim_number m.side e) void)
   pub void_points : (e : ℕ) → e < m.side * m.side → IsTrue (is_rim m.side e) → IsFalse (is_ground m (point_of m.side c e)) → slice_index_or rim (rim_number m.side e) void ≡ void
 
--- and those at all points of the corner's tile, by index, void where a point has no height
-pub record AreTileLevels (m : Mosaic) (c : Corner) (levels : List ℤ) : Type 0 where
-  pub whole : length levels ≡ m.side * m.side
-  pub filled : (e : ℕ) → e < m.side * m.side → IsTrue (is_ground m (point_of m.side c e)) → IsFilledLevel (terrain m) (point_of m.side c e) (slice_index_or levels e void)
-  pub void_points : (e : ℕ) → e < m.side * m.side → IsFalse (is_ground m (point_of m.side c e)) → slice_index_or levels e void ≡ void
-
 -- levels and labels that are a valid labelling of the block of the corner's tile, and the filled levels of its rim
 pub record IsRimFilled (m : Mosaic) (c : Corner) (n : ℕ) (levels : List ℤ) (labels : List ℕ) (rim : List ℤ) : Type 0 where
   pub mosaic : IsMosaic m

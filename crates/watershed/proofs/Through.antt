@@ -3,7 +3,7 @@ use Rattle.std.proofs.Common.{rules}
 use Rattle.std.proofs.Common.{◌≡◌, ◌⊎◌, ◌+◌, ◌-◌, ◌<◌, ◌≤◌, ℕ, zero, suc, ℤ, ◌+ℤ◌, IsTrue, Some, None, List, [], ◌∷◌, length, inl, inr, ⊎_elim, refl, sym, ap, ◌∙◌, subst, arith, zero-add, suc-add}
 use Rattle.watershed.proofs.Prelude.{Dir, DrainsBack, FlowsTo, IsCountOf, IsDirection, IsFlowPath, IsInWatershed, IsLawful, IsThrough, Point, Terrain, back_of, back_twice, cases_eq, cases_lt, drains_to_ground, ints, none-some, one_direction, order_below, same_order, step_back}
 use Rattle.lattice.specs.Steps.{step, order_of}
-use Rattle.watershed.proofs.Counted.{count_alike, count_one, count_both}
+use Rattle.water.proofs.Counted.{count_alike, count_one, count_both}
 
 gap : (v a b : ℤ) → (v +ℤ a) ≡ (v +ℤ b) → a ≡ b
 gap v a b same = omega (arith, ints)

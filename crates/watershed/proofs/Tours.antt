@@ -2,9 +2,9 @@
 use Rattle.std.proofs.Common.{rules}
 use Rattle.watershed.proofs.Prelude.{AreFilledLevels, AreToldBy, Bool, Branch, Dir, DrainsBack, IsCountOf, IsFalse, IsFlowPath, IsInWatershed, IsTrue, List, Point, ℕ, ℤ, [], ap, arith, false, get_or, is_ground, length, order_of, refl, step, subst, suc, sym, terrain, terrain_is_lawful, true≢false, zero, ⊎_elim, ◌++◌, ◌+◌, ◌-◌, ◌<◌, ◌∙◌, ◌∷◌, ◌≡◌, ◌≤◌}
 use Rattle.lattice.specs.Mosaic.{Mosaic, IsMosaic, void}
-use Rattle.flow_d8.proofs.Paths.FlowPaths.{flow_path_exists}
-use Rattle.flow_d8.proofs.Mosaics.MosaicGrid.{mosaic_is_grid}
-use Rattle.flow_d8.proofs.Steps.Compass.{dir_at, order_below, order_of-dir_at}
+use Rattle.water.proofs.FlowPaths.{flow_path_exists}
+use Rattle.water.proofs.MosaicGrid.{mosaic_is_grid}
+use Rattle.water.proofs.Compass.{dir_at, order_below, order_of-dir_at}
 use Rattle.watershed.specs.Counting.{IsThrough, IsCounted, IsCounting, IsWaiting, AreWaiting, IsNext, IsTour}
 use Rattle.watershed.proofs.Through.{count_begins, count_grows, count_stays, count_ends}
 

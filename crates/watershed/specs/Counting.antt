@@ -5,8 +5,8 @@ use Rattle.lattice.specs.declared.point.Point.{Point}
 use Rattle.lattice.specs.declared.direction.Dir.{Dir}
 use Rattle.lattice.specs.Steps.{step, order_of}
 use Rattle.lattice.specs.Terrain.{Terrain}
-use Rattle.flow_d8.specs.FlowPath.{IsInWatershed}
-use Rattle.watershed.specs.Counts.{IsCountOf}
+use Rattle.water.specs.FlowPath.{IsInWatershed}
+use Rattle.water.specs.Counts.{IsCountOf}
 use Rattle.flow_d8.specs.Donors.{AreToldBy, DrainsBack}
 use Rattle.watershed.specs.declared.counting.Branch.{Branch}
 use Rattle.watershed.specs.declared.tile_counts.TileCounts.{TileCounts}

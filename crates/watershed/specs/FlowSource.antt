@@ -2,7 +2,7 @@
 use Rattle.std.specs.Prelude.{◌≡◌, ◌↔◌, ℤ, IsTrue, IsFalse}
 use Rattle.lattice.specs.declared.point.Point.{Point}
 use Rattle.lattice.specs.Terrain.{Terrain}
-use Rattle.flow_d8.specs.Drainage.{IsDirection}
+use Rattle.water.specs.Drainage.{IsDirection}
 use Rattle.flow_d8.specs.declared.flow.Flow.{Flow}
 use Rattle.flow_d8.specs.declared.flow.Flow.TheVariants.{NoGround}
 use Rattle.flow_d8.specs.Flows.{direction_of}

@@ -1,10 +1,5 @@
-pub mod Runs
-pub mod RunsLaws
 pub mod Search
-pub mod Questions
 pub mod Feeding
 pub mod Marks
 pub mod FlowSource
-pub mod Counts
 pub mod Counting
-pub mod CountLaws

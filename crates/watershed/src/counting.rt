@@ -6,8 +6,8 @@ ghost use Rattle.lattice.specs.Lattice.{point_of};
 ghost use Rattle.lattice.specs.Mosaic.{Mosaic};
 ghost use Rattle.lattice.specs.declared.point.Point.{Point};
 ghost use Rattle.lattice.specs.declared.refusal.Refusal.TheVariants.{NoMemory};
-ghost use Rattle.flow_d8.specs.Drainage.{AreFilledLevels};
-ghost use Rattle.watershed.specs.Counts.{AreUpstreamCounts};
+ghost use Rattle.water.specs.Drainage.{AreFilledLevels};
+ghost use Rattle.water.specs.Counts.{AreUpstreamCounts};
 ghost use Rattle.watershed.specs.Counting.{AreCounted, AreStillCounted, IsCounted, IsNext, IsTour};
 
 use crate::donors::donors;

@@ -3,12 +3,13 @@ ghost use Rattle.std.specs.Prelude.{◌≡◌, ◌≢◌, ◌↔◌, ◌⊎◌, 
 ghost use Rattle.std.specs.Int.{bit_at};
 ghost use Rattle.lattice.specs.declared.point.Point.{Point};
 ghost use Rattle.watershed.specs.Marks.{IsRank, IsMarked, IsIndexed, IsInSegment, IsInWord, place_of, word_of};
-ghost use Rattle.watershed.specs.Runs.{AreRuns, Cover};
+ghost use Rattle.water.specs.Runs.{AreRuns, Cover};
 
-use crate::runs::{Run, add_point};
+use crate::runs::add_point;
 use lattice::Point;
 use std::alloc::{AllocError, Global};
 use std::collections::BTreeMap;
+use water::Run;
 
 // How many points a row has.
 const ROW: u64 = 4_294_967_296;

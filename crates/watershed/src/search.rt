@@ -6,9 +6,9 @@ ghost use Rattle.lattice.specs.Mosaic.{Mosaic, IsMosaic};
 ghost use Rattle.lattice.specs.Ground.{is_ground, terrain};
 ghost use Rattle.flow_d8.specs.Directions.{AreDirectionsOf};
 ghost use Rattle.flow_d8.specs.Donors.{IsDonor};
-ghost use Rattle.flow_d8.specs.FlowPath.{IsInWatershed};
+ghost use Rattle.water.specs.FlowPath.{IsInWatershed};
 ghost use Rattle.flow_d8.specs.declared.flow.Flow.TheVariants.{NoGround};
-ghost use Rattle.watershed.specs.Runs.{AreRuns};
+ghost use Rattle.water.specs.Runs.{AreRuns};
 ghost use Rattle.watershed.specs.Search.{AreUpstream};
 ghost use Rattle.watershed.specs.Marks.{IsMarked, IsIndexed};
 
@@ -16,10 +16,10 @@ use crate::direction_grid::DirectionGrid;
 use crate::donors::add_donors;
 use crate::flow_source::FlowSource;
 use crate::marks::Marks;
-use crate::runs::Run;
 use flow_d8::{Directions, Flow};
 use lattice::{Point, Refusal};
 use std::alloc::Global;
+use water::Run;
 
 /// The watershed of the point: the ground points whose flow path contains it, as maximal runs, from the north down, in
 /// a row from the west. Empty where the point isn't ground. NoMemory is the only refusal.

@@ -6,11 +6,11 @@ use Rattle.std.proofs.lemmas.List.{get_or_default}
 use Rattle.lattice.specs.Ground.{terrain}
 use Rattle.lattice.specs.Mosaic.{Mosaic}
 use Rattle.lattice.specs.declared.point.Point.{Point}
-use Rattle.watershed.specs.CountLaws.{points_in}
-use Rattle.watershed.specs.Runs.{Cover, IsInRun}
-use Rattle.watershed.specs.declared.runs.Run.{Run}
+use Rattle.water.specs.CountLaws.{points_in}
+use Rattle.water.specs.Runs.{Cover, IsInRun}
+use Rattle.water.specs.declared.run.Run.{Run}
 use Rattle.std.specs.Global.{Vec}
-use Rattle.watershed.proofs.OneCount.{count_of_runs}
+use Rattle.water.proofs.OneCount.{count_of_runs}
 use Rattle.windows.specs.Windows.{AreOfAll, IsMark, IsShed}
 use Rattle.windows.specs.declared.window.Window.{Window}
 use Rattle.windows.proofs.Told.{AreRunsOf}

@@ -5,8 +5,8 @@ use Rattle.std.proofs.lemmas.Nat.{div_below, mod_below, div-mul-add, mod-mul-add
 use Rattle.std.proofs.lemmas.Int.{ints, to_z-of_z}
 use Rattle.std.proofs.lemmas.Bool.Decides.{nat_tests}
 use Rattle.lattice.specs.declared.refusal.Refusal.TheVariants.{BadLength, BadBox}
-use Rattle.watershed.specs.Runs.{IsInRun}
-use Rattle.watershed.specs.declared.runs.Run.{Run}
+use Rattle.water.specs.Runs.{IsInRun}
+use Rattle.water.specs.declared.run.Run.{Run}
 use Rattle.windows.specs.Windows.{point_in, is_beyond, refused_at_once}
 use Rattle.windows.specs.declared.window.Window.{Window}
 

@@ -13,12 +13,12 @@ use Rattle.lattice.specs.declared.point.Point.{Point}
 use Rattle.lattice.specs.declared.height.Height.{Height}
 use Rattle.lattice.specs.declared.refusal.Refusal.{Refusal}
 use Rattle.lattice.specs.declared.refusal.Refusal.TheVariants.{BadName, BadLength, NoTile, Outside, Void, Device, NoMemory, Failed}
-use Rattle.flow_d8.specs.FlowPath.{IsInWatershed}
-use Rattle.flow_d8.proofs.Steps.Nearby.{level_ground}
-use Rattle.drainage.specs.TileLevels.{IsLevelOrVoid}
-use Rattle.watershed.specs.Questions.{IsAnswered, DrainsBy, IsCodeOrNone, AreTileCounts}
-use Rattle.watershed.specs.Runs.{AreRuns}
-use Rattle.watershed.specs.declared.runs.Run.{Run}
+use Rattle.water.specs.FlowPath.{IsInWatershed}
+use Rattle.water.proofs.MosaicGrid.{level_ground}
+use Rattle.water.specs.TileLevels.{IsLevelOrVoid}
+use Rattle.water.specs.Questions.{IsAnswered, DrainsBy, IsCodeOrNone, AreTileCounts}
+use Rattle.water.specs.Runs.{AreRuns}
+use Rattle.water.specs.declared.run.Run.{Run}
 use Rattle.engine.specs.Engines.{IsCall, answered, items_in}
 use Rattle.engine.specs.Events.{Happens, SaysFailed}
 use Rattle.engine.specs.Members.{members}

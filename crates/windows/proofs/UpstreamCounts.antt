@@ -18,10 +18,10 @@ use Rattle.lattice.specs.Mosaic.{Mosaic, Tile, is_present}
 use Rattle.lattice.specs.declared.point.Point.{Point}
 use Rattle.lattice.specs.declared.refusal.Refusal.{Refusal}
 use Rattle.lattice.specs.declared.refusal.Refusal.TheVariants.{NoTile}
-use Rattle.watershed.specs.Counts.{IsUpstreamCount}
-use Rattle.watershed.specs.Questions.{AreTileCounts}
-use Rattle.watershed.specs.Runs.{IsInRun}
-use Rattle.watershed.specs.declared.runs.Run.{Run}
+use Rattle.water.specs.Counts.{IsUpstreamCount}
+use Rattle.water.specs.Questions.{AreTileCounts}
+use Rattle.water.specs.Runs.{IsInRun}
+use Rattle.water.specs.declared.run.Run.{Run}
 use Rattle.windows.proofs.Marks.{decided}
 use Rattle.windows.specs.Results.{OfAny, OfTile}
 use Rattle.windows.specs.Windows.{AreOfAll, ArePut, IsCountAt, count_or, point_in}

@@ -7,9 +7,9 @@ use Rattle.lattice.specs.Mosaic.{Mosaic}
 use Rattle.lattice.specs.declared.point.Point.{Point}
 use Rattle.lattice.specs.declared.refusal.Refusal.{Refusal}
 use Rattle.lattice.specs.declared.refusal.Refusal.TheVariants.{BadLength, BadBox}
-use Rattle.flow_d8.specs.Drainage.{AreFilledLevels}
-use Rattle.flow_d8.specs.FlowPath.{IsInWatershed}
-use Rattle.watershed.specs.Counts.{IsUpstreamCount}
+use Rattle.water.specs.Drainage.{AreFilledLevels}
+use Rattle.water.specs.FlowPath.{IsInWatershed}
+use Rattle.water.specs.Counts.{IsUpstreamCount}
 use Rattle.windows.specs.declared.window.Window.{Window}
 
 -- the point of this number, row by row from the north-west

@@ -3,7 +3,7 @@ ghost use Rattle.std.specs.Prelude.{◌≡◌, ◌<◌, ◌≤◌, ℕ, IsTrue, 
 ghost use Rattle.lattice.specs.Corners.{is_corner};
 ghost use Rattle.lattice.specs.Lattice.{IsSampleAt, holds};
 ghost use Rattle.lattice.specs.Mosaic.{is_present};
-ghost use Rattle.watershed.specs.Runs.{IsInRun};
+ghost use Rattle.water.specs.Runs.{IsInRun};
 ghost use Rattle.windows.specs.Results.{OfAny};
 ghost use Rattle.windows.specs.Telling.{Tells, refusal_of};
 ghost use Rattle.windows.specs.Windows.{AreOfAll, ArePut, IsCountAt, count_or, point_in, refused_at_once};
@@ -12,7 +12,7 @@ use crate::Window;
 use crate::question::Question;
 use engine::Engine;
 use lattice::{Corner, Point, Refusal, Side, corner_in_range, index_in, point_at};
-use watershed::Run;
+use water::Run;
 
 /// How many points drain through each of a window's points, itself among them; 0 where it isn't ground. Each tile that has points
 /// of the window is asked once.

@@ -2,7 +2,7 @@
 ghost use Rattle.std.specs.Prelude.{None};
 ghost use Rattle.lattice.specs.Ground.{terrain};
 ghost use Rattle.lattice.specs.Terrain.{IsFilledLevel};
-ghost use Rattle.watershed.specs.Questions.{IsAnswered, DrainsBy};
+ghost use Rattle.water.specs.Questions.{IsAnswered, DrainsBy};
 ghost use Rattle.windows.specs.Results.{OfPoint};
 
 use crate::question::Question;

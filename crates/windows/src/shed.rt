@@ -1,7 +1,7 @@
 //! Which points of a window drain through a point.
 ghost use Rattle.std.specs.Prelude.{◌≡◌, ◌<◌, ℕ, None, min, length, slice_index};
-ghost use Rattle.watershed.specs.CountLaws.{points_in};
-ghost use Rattle.watershed.specs.Runs.{Cover, IsInRun};
+ghost use Rattle.water.specs.CountLaws.{points_in};
+ghost use Rattle.water.specs.Runs.{Cover, IsInRun};
 ghost use Rattle.windows.specs.Results.{OfPoint};
 ghost use Rattle.windows.specs.Windows.{AreOfAll, IsMark, IsShed, point_in, refused_at_once};
 
@@ -9,7 +9,7 @@ use crate::Window;
 use crate::question::Question;
 use engine::Engine;
 use lattice::{Point, Refusal};
-use watershed::Run;
+use water::Run;
 
 /// The watershed of a point: for each of the window's points 1 where it drains through the point, else 0. The answer is how
 /// many points drain through it, in the window or not. Refused as `Each` is, and with Outside or Void.

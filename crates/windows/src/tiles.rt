@@ -3,8 +3,8 @@ ghost use Rattle.std.specs.Prelude.{◌≡◌, ◌≢◌, List, MatchResult, Res
 ghost use Rattle.lattice.specs.Corners.{Corner};
 ghost use Rattle.lattice.specs.Mosaic.{Mosaic};
 ghost use Rattle.lattice.specs.declared.refusal.Refusal.TheVariants.{BadLength};
-ghost use Rattle.tile_flood.specs.Raising.{AreTileLevels};
-ghost use Rattle.watershed.specs.Questions.{AreTileCounts, AreTileDirections};
+ghost use Rattle.water.specs.TileLevels.{AreTileLevels};
+ghost use Rattle.water.specs.Questions.{AreTileCounts, AreTileDirections};
 ghost use Rattle.windows.specs.Results.{OfTile, OfCopy, refused_corner};
 ghost use Rattle.windows.specs.Telling.{Tells, refusal_of};
 

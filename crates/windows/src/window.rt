@@ -1,12 +1,12 @@
 //! Windows of the lattice.
 ghost use Rattle.std.specs.Prelude.{◌≡◌, ◌<◌, ◌≤◌, ◌↔◌, ◌<ℤ◌, ◌≤ℤ◌, ◌+ℤ◌, ◌-ℤ◌, ℕ, FitsSigned, MatchOption, None, pos};
-ghost use Rattle.watershed.specs.Runs.{IsInRun};
+ghost use Rattle.water.specs.Runs.{IsInRun};
 ghost use Rattle.std.specs.Int.{w32};
 ghost use Rattle.windows.specs.Telling.{refusal_of};
 ghost use Rattle.windows.specs.Windows.{point_in, is_beyond, refused_at_once};
 
 use lattice::{Point, Refusal};
-use watershed::Run;
+use water::Run;
 
 /// A window of the lattice: its north-west point, how many rows it has, which go southwards, and how many columns.
 #[repr(C)]

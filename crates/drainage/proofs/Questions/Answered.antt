@@ -6,7 +6,7 @@ use Rattle.drainage.proofs.Prelude.{AreFilledLevels, IsMosaic, Mosaic, Point, Re
 use Rattle.lattice.specs.declared.height.Height.TheVariants as height
 use Rattle.lattice.specs.declared.refusal.Refusal.TheVariants.{Outside, Void, Device, NoMemory, Failed, Damaged}
 use Rattle.catalogue.specs.Asked.{IsOwnRefusal}
-use Rattle.watershed.specs.Questions.{IsAnswered, IsUnanswered}
+use Rattle.water.specs.Questions.{IsAnswered, IsUnanswered}
 use Rattle.drainage.specs.Asking.{IsHeldByNone, may_refuse}
 use Rattle.drainage.proofs.Caches.Holders.{outside_from}
 

@@ -5,7 +5,7 @@ use Rattle.lattice.proofs.BoolTests.{same_tests}
 use Rattle.flow_d8.specs.Surface.{level_at, has_level}
 use Rattle.flow_d8.proofs.Samples.Numbers.{seat_of, holder_holds, index_small}
 use Rattle.flow_d8.proofs.Steps.Surfaces.{level_held, at_level}
-use Rattle.flow_d8.proofs.Mosaics.MosaicGrid.{mosaic_is_grid}
+use Rattle.water.proofs.MosaicGrid.{mosaic_is_grid}
 
 -- a height isn't void
 some_sample : (s : ℤ) (later : List ℤ) (b : Bool) → is_void s ≡ b → (IsTrue (is_height (first_height later)) → is_void (metres (first_height later)) ≡ false)

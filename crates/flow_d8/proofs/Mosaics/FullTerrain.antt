@@ -2,7 +2,7 @@
 use Rattle.flow_d8.proofs.Prelude.{IsFull, inl, inr, nat_lt, sym, true≢false, ⊎_elim, ◌||◌, ◌∙◌}
 use Rattle.std.proofs.lemmas.Bool.{and_cases, cases_Bool, or_parts}
 use Rattle.flow_d8.specs.Prelude.{step, Mosaic, IsMosaic, is_ground, is_adjacent, degree_of, is_sink, terrain}
-use Rattle.flow_d8.proofs.Mosaics.MosaicGrid.{mosaic_is_grid}
+use Rattle.water.proofs.MosaicGrid.{mosaic_is_grid}
 use Rattle.flow_d8.proofs.Mosaics.PointFlows.{fewer}
 
 pub mosaic_is_full : (m : Mosaic) → IsMosaic m → IsFull (terrain m)

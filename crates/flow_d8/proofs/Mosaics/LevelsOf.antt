@@ -5,8 +5,8 @@ use Rattle.lattice.proofs.IntTests.{eq_true}
 use Rattle.flow_d8.specs.Filled.{Filled, AreLevels, IsFilledOf, number_of}
 use Rattle.flow_d8.specs.Surface.{level_at, has_level}
 use Rattle.flow_d8.proofs.Mosaics.FilledOf.{any_corner, filled_at, ground_held, ground_same}
-use Rattle.flow_d8.proofs.Paths.Exists.{distance_exists}
-use Rattle.flow_d8.proofs.Mosaics.MosaicGrid.{mosaic_is_grid}
+use Rattle.water.proofs.Exists.{distance_exists}
+use Rattle.water.proofs.MosaicGrid.{mosaic_is_grid}
 use Rattle.flow_d8.proofs.Samples.Numbers.{number_below}
 use Rattle.flow_d8.proofs.Samples.Inside.{any_at}
 use Rattle.flow_d8.proofs.Steps.Surfaces.{at_level}

@@ -1,7 +1,7 @@
 -- Inside a flat, beside an end of its level: the first step to one is the direction.
 use Rattle.std.proofs.Common.{rules}
 use Rattle.flow_d8.proofs.Prelude.{CrossesFlat, Dir, IsAcross, IsDirection, IsFalse, IsFlatDistance, IsNearer, IsStepped, LeadsToEnd, Point, Some, Terrain, ℕ, ℤ, arith, cases_Bool, inl, inr, order_of, step, subst, suc, zero, ⊎_elim, ◌≡◌, ◌≤◌}
-use Rattle.flow_d8.proofs.Paths.Unique.{one_distance}
+use Rattle.water.proofs.Unique.{one_distance}
 
 module _ (t : Terrain Point) (level : Point → ℤ) (x : Point) (inside : CrossesFlat t level x 0 → ⊥) where
   pub crosses_by : (d : Dir) → LeadsToEnd t level x d → CrossesFlat t level x 1

@@ -3,7 +3,7 @@ use Rattle.std.proofs.Common.{rules}
 use Rattle.flow_d8.proofs.Prelude.{AreFilledLevels, AreTileFlows, Beside, Bool, Contains, Corner, CrossesFlat, Dir, East, Flat, FlatTo, Flow, IsFalse, IsFlow, IsInner, IsLevelGrid, IsMosaic, IsPaddedTile, IsShown, IsStepped, IsTrue, LeadsToEnd, LiesInside, List, Mosaic, NoGround, North, NorthEast, NorthWest, Outlet, Point, Sides, South, SouthEast, SouthWest, To, Unknown, West, ℕ, ℤ, [], ap, ap₂, arith, cases_Bool, cases_eq, cases_lt, cond-false, cond-true, east_of, east_of_tile, eq_or_not, false, from_parts, if◌then◌else◌, inl, inr, ints, is_adjacent, is_ground, is_present, is_sink, le_or_above, level_beside, level_is_unique, list_any, lt_false, lt_true, north_of, north_of_tile, or_cases, or_left, or_right, padded_point, place_by, point_of, pos, refl, same_point, share_tile, south_of_tile, step, subst, suc, sym, terrain, true, true≢false, void, west_of_tile, zero, ⊎_elim, ◌%◌, ◌*ℤ◌, ◌*◌, ◌+ℤ◌, ◌+◌, ◌-ℤ◌, ◌-◌, ◌/◌, ◌<ℤ◌, ◌<◌, ◌↔◌, ◌∙◌, ◌∷◌, ◌≡◌, ◌≤◌, ◌⊎◌}
 use Rattle.lattice.proofs.SamePoints.{same_place, same_point_says, same_point_from}
 use Rattle.lattice.proofs.Samples.{row_below}
-use Rattle.flow_d8.proofs.Steps.Compass.{first_dir}
+use Rattle.water.proofs.Compass.{first_dir}
 use Rattle.flow_d8.proofs.Steps.Nearby.{one_step, in_one_tile, level_grid, never_void}
 use Rattle.flow_d8.proofs.Mosaics.PointFlows.{edge_off, inner_is}
 use Rattle.flow_d8.specs.Preparing.{flow_in, level_in, IsLocal, IsPlain, IsEnd, HasSink, IsSunkFlow, AreSunkFlows, IsEndBeside, IsFirstEndBeside, IsEnded, AreEnded, place_in, leads_over, IsClosedAt, IsClosedFlow, IsClosing}

@@ -1,10 +1,10 @@
 -- The walk along the steps across a flat is as long as the point's flat distance.
 use Rattle.flow_d8.proofs.Prelude.{AreFilledLevels, AreFlows, Beside, CrossesFlat, Dir, Flat, FlatTo, Flow, IsAtHand, IsFalse, IsFlatDistance, IsFlow, IsFlowPath, IsMosaic, IsTellingAll, IsTrue, List, Mosaic, NoGround, None, Option, Outlet, Point, Some, Terrain, To, Unknown, ℕ, ℤ, [], ap, arith, cases_Bool, cases_lt, get_or, get_or_default, get_or_past, inl, inr, is_ground, is_held, length, refl, step, subst, suc, sym, terrain, true≢false, void, zero, ⊎_elim, ◌+◌, ◌-◌, ◌<◌, ◌∙◌, ◌∷◌, ◌≡◌, ◌≤◌}
-use Rattle.flow_d8.proofs.Paths.FlowPaths.{flow_path_exists}
-use Rattle.flow_d8.proofs.Mosaics.MosaicGrid.{mosaic_is_grid}
+use Rattle.water.proofs.FlowPaths.{flow_path_exists}
+use Rattle.water.proofs.MosaicGrid.{mosaic_is_grid}
 use Rattle.flow_d8.proofs.Samples.Numbers.{number_past}
 use Rattle.flow_d8.proofs.Paths.OnePath.{no_point_twice, ground_along, no_more_than_samples}
-use Rattle.flow_d8.proofs.Paths.Unique.{one_distance}
+use Rattle.water.proofs.Unique.{one_distance}
 use Rattle.flow_d8.specs.Directions.{Directions, AreWhole, AreDirectionsOf, number_in, flow_at, flow_in, one_more, after, across, walk}
 use Rattle.flow_d8.specs.Tiles.{count_of, place_of, by_of}
 use Rattle.flow_d8.proofs.Samples.AtHand.{at_hand_below, known_so}

@@ -2,7 +2,7 @@
 use Rattle.std.proofs.Common.{ℤ, IsTrue, Option, Some, None, List, [], ◌∷◌, ◌++◌, refl, sym, ⊎_elim, subst, append_assoc, SomeIff}
 use Rattle.std.proofs.lemmas.List.{append-nil}
 use Rattle.flow_d8.proofs.Prelude.{Dir, IsDirection, IsFlowPath, IsGrid, IsLawful, Point, Terrain, fits_point, step, void}
-use Rattle.flow_d8.proofs.Paths.FlowPaths.{from_next}
+use Rattle.water.proofs.FlowPaths.{from_next}
 use Rattle.flow_d8.specs.FlowSteps.{IsNext, IsFollowed}
 
 -- a step of a flow path is to ground

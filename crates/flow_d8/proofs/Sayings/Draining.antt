@@ -7,7 +7,7 @@ use Rattle.flow_d8.specs.Tiles.{Tiles, AreTiles, IsSampleOf, count_of, place_of}
 use Rattle.flow_d8.specs.Resolution.{AreResolved}
 use Rattle.flow_d8.proofs.Samples.TilePlaces.{place_number}
 use Rattle.flow_d8.proofs.Samples.TwinFlows.{decide_flat}
-use Rattle.flow_d8.proofs.Paths.Unique.{one_direction}
+use Rattle.water.proofs.Unique.{one_direction}
 
 -- the flow names the point's direction
 pub flow_direction : (t : Terrain Point) (level : Point → ℤ) (p : Point) (f : Flow) → IsFlow t level p f → Drains f → IsDirection t level p (direction_of f)

@@ -3,11 +3,12 @@ use Rattle.flow_d8.proofs.Prelude.{AreFilledLevels, IsFalse, IsLevelGrid, IsTrue
 use Rattle.std.proofs.lemmas.List.{same_lists, get_or_default}
 use Rattle.flow_d8.specs.Prelude.{Point, Dir, East, step, order_of, fits_point, Terrain, IsPath, IsFilledLevel, Mosaic, IsMosaic, void, is_void, samples_at, height_of, is_ground, same_point, is_near, share_tile, is_adjacent, terrain, metres}
 use Rattle.lattice.proofs.Lawful.{five_parts, five_from, terrain_is_lawful}
-use Rattle.flow_d8.proofs.Steps.Compass.{dir_at, order_of-dir_at}
+use Rattle.water.proofs.Compass.{dir_at, order_of-dir_at}
 use Rattle.flow_d8.proofs.Steps.Surfaces.{step_near, step_other}
 use Rattle.flow_d8.proofs.Mosaics.Fitting.{ground_fits}
 use Rattle.flow_d8.proofs.Mosaics.FilledOf.{ground_not_void, above_void}
-use Rattle.flow_d8.proofs.Mosaics.MosaicGrid.{mosaic_is_grid}
+use Rattle.water.proofs.MosaicGrid.{mosaic_is_grid}
+use Rattle.water.proofs.MosaicGrid.{level_ground}
 use Rattle.flow_d8.specs.LevelsAround.{IsLevelAt, beside_of, around_of}
 
 module _ (t : Terrain Point) (level : Point → ℤ) (p : Point) where
@@ -30,14 +31,6 @@ module _ (t : Terrain Point) (level : Point → ℤ) (p : Point) where
       get_or_default around k d None small
       ∙ ap (λ i. get_or around i None) (sym is) ∙ each (dir_at k) ∙ sym (in_place (dir_at k)) ∙ ap (λ i. get_or (around_of t level p) i None) is
       ∙ get_or_default (around_of t level p) k None d (omega arith))
-
--- a point with a filled level is ground
-pub level_ground : (m : Mosaic) → (p : Point) (v : ℤ) → IsFilledLevel (terrain m) p v → IsTrue (is_ground m p)
-level_ground m p v filled = from filled.reached.0 filled.reached.1.0.path
-  where
-    from : (rest : List Point) → IsPath (terrain m) p rest → IsTrue (is_ground m p)
-    from [] path = path
-    from (y ∷ rest) path = (terrain_is_lawful m).from_ground p y path.0
 
 -- ground one step away is adjacent where some tile holds both points
 pub one_step : (m : Mosaic) (p : Point) (d : Dir) → IsTrue (is_ground m p) → IsTrue (is_ground m (step d p)) → IsTrue (share_tile m p (step d p)) → IsTrue (is_adjacent m p (step d p))

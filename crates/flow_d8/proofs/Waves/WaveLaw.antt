@@ -1,7 +1,8 @@
 -- Waves over the points of flats, or over places that stand for them.
 use Rattle.flow_d8.proofs.Prelude.{CrossesFlat, Dir, HasLower, IsDirection, IsFalse, IsFlatDistance, IsLawful, IsLower, IsNearer, IsStepped, IsTrue, Point, Some, Terrain, ℕ, ℤ, arith, cases_Bool, cases_order, false, inl, inr, int_lt, ints, lt_false, lt_true, order_of, step, subst, suc, sym, true≢false, zero, ⊎_elim, ◌<◌, ◌↔◌, ◌∙◌, ◌≡◌, ◌≤◌, ◌⊎◌}
-use Rattle.flow_d8.proofs.Steps.Compass.{first_dir}
-use Rattle.flow_d8.proofs.Paths.Unique.{one_distance}
+use Rattle.water.proofs.Compass.{first_dir}
+use Rattle.water.proofs.Ends.{end_or_inside}
+use Rattle.water.proofs.Unique.{one_distance}
 
 at_most_or_more : (a b : ℕ) → (a ≤ b) ⊎ (b < a)
 at_most_or_more a b = ⊎_elim (λ same. inl (omega arith)) (λ other. ⊎_elim (λ lt. inl (omega arith)) (λ gt. inr gt) other) (cases_order a b)
@@ -17,31 +18,6 @@ module _ (t : Terrain Point) (level : Point → ℤ) where
       omega (arith, ints)
 
 module _ (t : Terrain Point) (level : Point → ℤ) (is : IsStepped t) where
-  pub decide_lower : (x y : Point) → IsLower t level x y ⊎ (IsLower t level x y → ⊥)
-  decide_lower x y = elim (cases_Bool (t.is_adjacent x y)) [
-    | inl on ↦ elim (cases_Bool (int_lt (level y) (level x))) [
-      | inl below ↦ inl (record { beside = on; below = lt_true (level y) (level x) below })
-      | inr not ↦ inr (λ h. let lt = h.below in let ge = lt_false (level y) (level x) not in absurd (omega (arith, ints)))
-    ]
-    | inr off ↦ inr (λ h. true≢false (sym h.beside ∙ off))
-  ]
-
-  decide_has_lower : (x : Point) → HasLower t level x ⊎ (HasLower t level x → ⊥)
-  decide_has_lower x = ⊎_elim
-      (λ found. inl (step found.0 x, found.1.has))
-      (λ none. inr (λ low. let way = is.steps x low.0 low.1.beside in none way.0 (subst (IsLower t level x) way.1 low.1)))
-      (first_dir (λ d. IsLower t level x (step d x)) (λ d. decide_lower x (step d x)))
-
-  -- water goes down or leaves there, or it lies inside a flat
-  pub end_or_inside : (x : Point) → CrossesFlat t level x 0 ⊎ (CrossesFlat t level x 0 → ⊥)
-  end_or_inside x = ⊎_elim
-      (λ low. inl (inl low))
-      (λ none. elim (cases_Bool (t.is_outlet x)) [
-        | inl out ↦ inl (inr out)
-        | inr not ↦ inr (λ end. ⊎_elim none (λ out. true≢false (sym out ∙ not)) end)
-      ])
-      (decide_has_lower x)
-
   module _ (A : Type 0) (place : A → Point) (beside : A → Dir → A) (Within : A → Type 0) where
     pub record AreMembers : Type 0 where
       pub inside : (a : A) → Within a → CrossesFlat t level (place a) 0 → ⊥
@@ -130,7 +106,7 @@ module _ (t : Terrain Point) (level : Point → ℤ) (is : IsStepped t) where
                 reached = (waves (beside a way.0) wb).1 (j, (subst (λ p. CrossesFlat t level p j) (way.1 ∙ sym (members.there a way.0 w)) crosses.1.2, omega arith));
               },
             ))
-            (end_or_inside crosses.0)
+            (end_or_inside t level is crosses.0)
 
         pub grown : (New : A → Type 0) → 1 ≤ k → ((a : A) → Within a → New a ↔ (Reached a ⊎ ((d : Dir) × Leads Reached a d))) → AreWaves New (suc k)
         grown New some by a w = (
@@ -154,4 +130,4 @@ module _ (t : Terrain Point) (level : Point → ℤ) (is : IsStepped t) where
               within = wb;
               reached = settled some still j (beside a way.0) wb (subst (λ p. CrossesFlat t level p j) (way.1 ∙ sym (members.there a way.0 w)) crosses.1.2);
             }))
-            (end_or_inside crosses.0)
+            (end_or_inside t level is crosses.0)

@@ -15,8 +15,8 @@ use Rattle.lattice.specs.declared.height.Height.TheVariants as height
 use Rattle.catalogue.specs.Asked.{Asked}
 use Rattle.catalogue.specs.declared.samples.Samples.{Ghosts as Samples}
 use Rattle.catalogue.proofs.Asking.{asked_risen, asked_works, asked_fails, asked_quiet}
-use Rattle.flow_d8.specs.Drainage.{AreFilledLevels}
-use Rattle.watershed.specs.Questions.{IsAnswered, IsUnanswered}
+use Rattle.water.specs.Drainage.{AreFilledLevels}
+use Rattle.water.specs.Questions.{IsAnswered, IsUnanswered}
 use Rattle.engine.specs.Told.{may_refuse as event_may_refuse}
 use Rattle.engine.specs.Outcomes.{Stays, Fails, TellsTile}
 use Rattle.drainage.proofs.Questions.Answered.{told, told_or_short}

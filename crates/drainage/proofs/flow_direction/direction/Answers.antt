@@ -1,5 +1,5 @@
 use Rattle.drainage.proofs.Prelude.{IsFlow, Mosaic, OnLevels, ap, direction_of, flow_direction, subst, terrain, ◌∙◌}
-use Rattle.watershed.specs.Questions.{code_by}
+use Rattle.water.specs.Questions.{code_by}
 use Rattle.drainage.proofs.Questions.Questioned.{asked_reads, refused_after}
 use Rattle.drainage.proofs.flow_direction.direction.Goals as goal
 

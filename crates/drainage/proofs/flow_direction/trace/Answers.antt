@@ -1,5 +1,5 @@
 use Rattle.drainage.proofs.Prelude.{IfOk, Mosaic, OnLevels, subst, terrain}
-use Rattle.flow_d8.specs.FlowPath.{IsFlowPath}
+use Rattle.water.specs.FlowPath.{IsFlowPath}
 use Rattle.drainage.proofs.Questions.Questioned.{asked_then}
 use Rattle.drainage.proofs.flow_direction.trace.Goals as goal
 

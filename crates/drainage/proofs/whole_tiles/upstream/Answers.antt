@@ -1,6 +1,6 @@
 use Rattle.drainage.proofs.Prelude.{IfOk, IfOk-weaker, ℕ, rules, subst, sym, terrain, ◌∙◌, ◌≡◌}
-use Rattle.watershed.specs.Counts.{AreUpstreamCounts}
-use Rattle.watershed.specs.Questions.{AreTileCounts}
+use Rattle.water.specs.Counts.{AreUpstreamCounts}
+use Rattle.water.specs.Questions.{AreTileCounts}
 use Rattle.drainage.proofs.whole_tiles.upstream.Goals as goal
 
 pub returns-clause-counts : goal.returns-clause-counts

@@ -1,6 +1,6 @@
 use Rattle.flow_d8.proofs.Prelude.{of_z, sym, to_z, to_z-of_z, w16, ◌∙◌, ◌≡◌}
 use Rattle.lattice.specs.declared.direction.Dir.TheVariants.{East, SouthEast, South, SouthWest, West, NorthWest, North, NorthEast}
-use Rattle.flow_d8.proofs.Steps.SteepestStep.{begun}
+use Rattle.water.proofs.SteepestStep.{begun}
 use Rattle.flow_d8.proofs.local_flow.steepest_at.Goals as goal
 
 pub returns : goal.returns

@@ -1,6 +1,6 @@
 use Rattle.std.proofs.Common.{◌≡◌, ◌≤◌, ◌*◌, take}
 use Rattle.std.specs.List.{sum_by}
-use Rattle.watershed.specs.Runs.{run_count}
+use Rattle.water.specs.Runs.{run_count}
 use Rattle.lines.proofs.lists.point_count.Given as goal
 
 abbrev pub invariant-loop-run : goal.invariant-loop-run

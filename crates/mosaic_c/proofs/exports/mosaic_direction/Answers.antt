@@ -1,6 +1,6 @@
 use Rattle.std.proofs.Common.{rules, SFits, w32, None}
 use Rattle.lattice.specs.Ground.{terrain}
-use Rattle.watershed.specs.Questions.{IsAnswered, DrainsBy}
+use Rattle.water.specs.Questions.{IsAnswered, DrainsBy}
 use Rattle.windows.specs.Results.{OfPoint}
 use Rattle.mosaic_c.specs.Sessions.{Told}
 use Rattle.mosaic_c.proofs.Answered.{of_point}

@@ -1,5 +1,5 @@
 use Rattle.std.proofs.Common.{rules, SFits, w16}
-use Rattle.watershed.specs.Questions.{AreTileCounts}
+use Rattle.water.specs.Questions.{AreTileCounts}
 use Rattle.windows.specs.Results.{OfCopy, refused_corner}
 use Rattle.mosaic_c.specs.Sessions.{Told}
 use Rattle.mosaic_c.proofs.Answered.{of_corner}

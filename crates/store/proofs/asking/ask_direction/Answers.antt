@@ -1,5 +1,5 @@
 use Rattle.store.proofs.Prelude.{Refusal, Result, ℕ, mosaic_of, rules, terrain}
-use Rattle.watershed.specs.Questions.{DrainsBy, IsAnswered}
+use Rattle.water.specs.Questions.{DrainsBy, IsAnswered}
 use Rattle.engine.specs.Outcomes.{Directs}
 use Rattle.engine.proofs.Answered.{directs}
 use Rattle.store.proofs.Reading.AskedTrees.{of_levels, asked_of}

@@ -1,5 +1,5 @@
 use Rattle.store.proofs.Prelude.{Refusal, Result, Vec, ℕ, rules}
-use Rattle.watershed.specs.Questions.{AreTileDirections}
+use Rattle.water.specs.Questions.{AreTileDirections}
 use Rattle.store.proofs.Reading.AskedTrees.{tile_asked_of}
 use Rattle.store.proofs.asking.ask_directions.Goals as goal
 

@@ -1,5 +1,5 @@
 use Rattle.store.proofs.Prelude.{Refusal, Result, Vec, ℤ, rules}
-use Rattle.tile_flood.specs.Raising.{AreTileLevels}
+use Rattle.water.specs.TileLevels.{AreTileLevels}
 use Rattle.store.proofs.Reading.AskedTrees.{tile_asked_of}
 use Rattle.store.proofs.asking.ask_levels.Goals as goal
 

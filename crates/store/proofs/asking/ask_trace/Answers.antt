@@ -1,5 +1,5 @@
 use Rattle.store.proofs.Prelude.{IsAnswered, Point, Refusal, Result, Vec, items_in, mosaic_of, rules, terrain}
-use Rattle.flow_d8.specs.FlowPath.{IsFlowPath}
+use Rattle.water.specs.FlowPath.{IsFlowPath}
 use Rattle.engine.specs.Outcomes.{Traces}
 use Rattle.engine.proofs.Answered.{traces}
 use Rattle.store.proofs.Reading.AskedTrees.{listed, of_levels, asked_of}

@@ -1,5 +1,5 @@
 use Rattle.store.proofs.Prelude.{Refusal, Result, Vec, ℕ, rules}
-use Rattle.watershed.specs.Questions.{AreTileCounts}
+use Rattle.water.specs.Questions.{AreTileCounts}
 use Rattle.store.proofs.Reading.AskedTrees.{tile_asked_of}
 use Rattle.store.proofs.asking.ask_upstream.Goals as goal
 

@@ -1,7 +1,7 @@
 use Rattle.store.proofs.Prelude.{IsAnswered, Refusal, Result, Vec, items_in, mosaic_of, rules, terrain}
-use Rattle.flow_d8.specs.FlowPath.{IsInWatershed}
-use Rattle.watershed.specs.Runs.{AreRuns}
-use Rattle.watershed.specs.declared.runs.Run.{Run}
+use Rattle.water.specs.FlowPath.{IsInWatershed}
+use Rattle.water.specs.Runs.{AreRuns}
+use Rattle.water.specs.declared.run.Run.{Run}
 use Rattle.engine.specs.Outcomes.{Sheds}
 use Rattle.engine.proofs.Answered.{sheds}
 use Rattle.store.proofs.Reading.AskedTrees.{listed, of_levels, asked_of}

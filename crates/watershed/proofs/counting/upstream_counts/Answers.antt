@@ -1,5 +1,5 @@
 use Rattle.std.proofs.Common.{◌*◌, ◌<◌, inl, inr, ⊎_elim, sym, ◌∙◌, subst, arith, true≢false}
-use Rattle.watershed.specs.Counts.{AreUpstreamCounts}
+use Rattle.water.specs.Counts.{AreUpstreamCounts}
 use Rattle.watershed.proofs.Prelude.{cases_eq, terrain}
 use Rattle.watershed.proofs.counting.upstream_counts.Goals as goal
 

@@ -3,7 +3,7 @@ use Rattle.std.specs.Global.{Vec}
 use Rattle.std.proofs.lemmas.Result.{err_from_is_err_and}
 use Rattle.lattice.specs.declared.refusal.Refusal.{Refusal}
 use Rattle.lattice.specs.Mosaic.{is_present}
-use Rattle.watershed.specs.Questions.{AreTileCounts}
+use Rattle.water.specs.Questions.{AreTileCounts}
 use Rattle.windows.specs.Results.{OfAny, OfTile}
 use Rattle.windows.specs.Telling.{Tells, refusal_of}
 use Rattle.windows.specs.Windows.{ArePut, count_or, point_in}

@@ -1,5 +1,5 @@
 use Rattle.std.proofs.Common.{◌≡◌, min, take}
-use Rattle.watershed.specs.CountLaws.{points_in}
+use Rattle.water.specs.CountLaws.{points_in}
 use Rattle.windows.proofs.shed.count_points.Given as goal
 
 abbrev pub invariant-loop-run : goal.invariant-loop-run

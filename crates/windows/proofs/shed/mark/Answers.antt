@@ -1,6 +1,6 @@
 use Rattle.std.proofs.Common.{rules, ◌≡◌, ◌<◌, length, get_or, sym, ◌∙◌, subst, arith}
 use Rattle.std.proofs.lemmas.List.{get_or_default}
-use Rattle.watershed.specs.Runs.{Cover}
+use Rattle.water.specs.Runs.{Cover}
 use Rattle.windows.specs.Windows.{IsMark, point_in}
 use Rattle.windows.proofs.Marks.{CoverTo, all_of, one_more}
 use Rattle.windows.proofs.Numbers.{sized}

@@ -1,5 +1,5 @@
 use Rattle.flow_d8.proofs.Prelude.{arith, cases_eq, inl, inr, order_of, slice_index_or, subst, sym, Unknown, ◌≡◌}
-use Rattle.flow_d8.proofs.Steps.Compass.{dir_at_place}
+use Rattle.water.proofs.Compass.{dir_at_place}
 use Rattle.flow_d8.specs.Filled.{number_of}
 use Rattle.flow_d8.specs.Members.{IsSettledBeside}
 use Rattle.flow_d8.specs.Tiles.{by_of}

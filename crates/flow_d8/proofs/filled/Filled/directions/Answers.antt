@@ -1,8 +1,8 @@
 use Rattle.flow_d8.proofs.Prelude.{AreCrossed, AreDirectionsOf, AreFilledLevels, AreLevels, Directions, Filled, IsAtHand, IsFilledOf, List, Point, Tiles, ℤ, ap, ap₂, filled_of, inr, refl, subst, sym, terrain, void, ◌∙◌, ◌≡◌}
 use Rattle.flow_d8.specs.Surface.{level_at}
-use Rattle.flow_d8.proofs.Paths.Exists.{distance_exists}
+use Rattle.water.proofs.Exists.{distance_exists}
 use Rattle.flow_d8.proofs.Mosaics.FilledOf.{filled_at}
-use Rattle.flow_d8.proofs.Mosaics.MosaicGrid.{mosaic_is_grid}
+use Rattle.water.proofs.MosaicGrid.{mosaic_is_grid}
 use Rattle.flow_d8.proofs.Paths.Crossing.{are_directions}
 use Rattle.flow_d8.proofs.Mosaics.FullTerrain.{mosaic_is_full}
 use Rattle.flow_d8.proofs.Mosaics.LevelsOf.{hand_in, crossed_in}

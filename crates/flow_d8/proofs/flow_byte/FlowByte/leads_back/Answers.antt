@@ -3,7 +3,7 @@ use Rattle.std.specs.Prelude.{◌↔◌}
 use denote.Enum.Declared.{tag_of}
 use Rattle.lattice.specs.contracts.direction.Dir.{the_type}
 use Rattle.flow_d8.specs.FlowBytes.{byte_of, byte_of_flow_at}
-use Rattle.flow_d8.proofs.Steps.Compass.{same_order}
+use Rattle.water.proofs.Compass.{same_order}
 use Rattle.flow_d8.proofs.Steps.StepBack.{back_twice}
 use Rattle.flow_d8.proofs.flow_byte.FlowByte.leads_back.Goals as goal
 

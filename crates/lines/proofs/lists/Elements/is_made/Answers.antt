@@ -6,7 +6,7 @@ use Rattle.lines.specs.Held.{text_left}
 use Rattle.lines.specs.Replies.{line_of, point_line, run_line}
 use Rattle.lines.proofs.lists.Elements.is_made.Goals as goal
 use Rattle.std.specs.Fmt.{signed_decimal}
-use Rattle.watershed.specs.declared.runs.Run.{Run}
+use Rattle.water.specs.declared.run.Run.{Run}
 
 -- a line has an LF
 line_some : (text : List ℕ) → 0 < length (line_of text)

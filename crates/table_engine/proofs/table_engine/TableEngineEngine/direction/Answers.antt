@@ -1,4 +1,4 @@
-use Rattle.watershed.specs.Questions.{DrainsBy}
+use Rattle.water.specs.Questions.{DrainsBy}
 use Rattle.lattice.specs.Ground.{terrain}
 use Rattle.drainage.proofs.Questions.Answered.{told_of_levels}
 use Rattle.engine.specs.declared.event.Event.TheVariants as ask

@@ -1,5 +1,5 @@
 use Rattle.std.proofs.lemmas.Bool.{both_ways}
-use Rattle.tile_flood.specs.Raising.{AreTileLevels}
+use Rattle.water.specs.TileLevels.{AreTileLevels}
 use Rattle.engine.proofs.Questions.{levels_asked}
 use Rattle.table_engine.proofs.TableCalls.{absent_told, tile_told}
 use Rattle.table_engine.proofs.table_engine.TableEngineEngine.levels.Goals as goal

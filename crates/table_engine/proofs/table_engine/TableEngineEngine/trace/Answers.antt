@@ -1,4 +1,4 @@
-use Rattle.flow_d8.specs.FlowPath.{IsFlowPath}
+use Rattle.water.specs.FlowPath.{IsFlowPath}
 use Rattle.lattice.specs.Ground.{terrain}
 use Rattle.drainage.proofs.Questions.Answered.{told_of_levels}
 use Rattle.engine.specs.declared.event.Event.TheVariants as ask

@@ -1,5 +1,5 @@
 use Rattle.std.proofs.lemmas.Bool.{both_ways}
-use Rattle.watershed.specs.Questions.{AreTileCounts}
+use Rattle.water.specs.Questions.{AreTileCounts}
 use Rattle.engine.proofs.Questions.{upstream_asked}
 use Rattle.table_engine.proofs.TableCalls.{absent_told, tile_told}
 use Rattle.table_engine.proofs.table_engine.TableEngineEngine.upstream.Goals as goal

@@ -1,5 +1,5 @@
-use Rattle.flow_d8.specs.FlowPath.{IsInWatershed}
-use Rattle.watershed.specs.Runs.{AreRuns}
+use Rattle.water.specs.FlowPath.{IsInWatershed}
+use Rattle.water.specs.Runs.{AreRuns}
 use Rattle.lattice.specs.Ground.{terrain}
 use Rattle.drainage.proofs.Questions.Answered.{told_of_levels}
 use Rattle.engine.specs.declared.event.Event.TheVariants as ask

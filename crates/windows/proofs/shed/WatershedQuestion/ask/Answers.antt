@@ -1,9 +1,9 @@
 use Rattle.std.proofs.Common.{◌≡◌, List, None, Result, min, length, sym, ap, ◌∙◌, subst}
 use Rattle.std.specs.Global.{Vec}
 use Rattle.lattice.specs.declared.refusal.Refusal.{Refusal}
-use Rattle.watershed.specs.CountLaws.{points_in}
-use Rattle.watershed.specs.Runs.{Cover}
-use Rattle.watershed.specs.declared.runs.Run.{Run}
+use Rattle.water.specs.CountLaws.{points_in}
+use Rattle.water.specs.Runs.{Cover}
+use Rattle.water.specs.declared.run.Run.{Run}
 use Rattle.windows.specs.Results.{OfPoint}
 use Rattle.windows.specs.Telling.{Tells, refusal_of}
 use Rattle.windows.specs.Windows.{AreOfAll, IsMark, refused_at_once}

@@ -1,6 +1,6 @@
 use Rattle.std.proofs.Common.{rules, SFits, w16, sym, subst}
 use Rattle.std.proofs.lemmas.Int.{to_z-of_z}
-use Rattle.drainage.specs.TileLevels.{IsLevelOrVoid}
+use Rattle.water.specs.TileLevels.{IsLevelOrVoid}
 use Rattle.windows.proofs.Told.{fill_told, level_told}
 use Rattle.windows.proofs.values.LevelPointValue.at.Goals as goal
 

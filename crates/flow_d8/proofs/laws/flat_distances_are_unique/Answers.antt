@@ -1,8 +1,0 @@
-use Rattle.flow_d8.specs.Prelude.{terrain, void}
-use Rattle.flow_d8.proofs.Mosaics.MosaicGrid.{mosaic_is_grid}
-use Rattle.flow_d8.proofs.Paths.Exists.{distance_exists}
-use Rattle.flow_d8.proofs.Paths.Unique.{one_distance}
-use Rattle.flow_d8.proofs.laws.flat_distances_are_unique.Goals as goal
-
-pub returns : goal.returns
-returns c = λ m level is filled x solid. (distance_exists (terrain m) void (mosaic_is_grid m is) level filled x solid, one_distance (terrain m) level x)

@@ -1,0 +1,10 @@
+pub mod Compass
+pub mod MosaicGrid
+pub mod Unique
+pub mod Ends
+pub mod SteepestStep
+pub mod Exists
+pub mod FlowPaths
+pub mod OneList
+pub mod Counted
+pub mod OneCount

@@ -1,0 +1,9 @@
+use Rattle.lattice.specs.Ground.{terrain}
+use Rattle.lattice.specs.Mosaic.{void}
+use Rattle.water.proofs.MosaicGrid.{mosaic_is_grid}
+use Rattle.water.proofs.Exists.{direction_exists}
+use Rattle.water.proofs.Unique.{one_direction}
+use Rattle.water.proofs.drainage_laws.directions_are_unique.Goals as goal
+
+pub returns : goal.returns
+returns c = λ m level is filled x solid. (direction_exists (terrain m) void (mosaic_is_grid m is) level filled x solid, one_direction (terrain m) level x)

@@ -1,0 +1,11 @@
+pub mod Grid
+pub mod Drainage
+pub mod SteepestStep
+pub mod FlowPath
+pub mod DrainageLaws
+pub mod TileLevels
+pub mod Runs
+pub mod RunsLaws
+pub mod Counts
+pub mod CountLaws
+pub mod Questions

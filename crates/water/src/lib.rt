@@ -1,0 +1,17 @@
+//! What an answer about water means: the filled levels of a tile, the direction of a point, its flow path, its watershed as runs of
+//! samples, how many points drain through it. No algorithm stands here.
+//!
+//! The layers above rest on this: each ground point of a mosaic has exactly one direction and one flow path, a set of points one list
+//! of runs, and a point one count, that of its watershed's runs.
+#![tactic(auto)]
+
+mod drainage_laws;
+mod laws;
+mod run;
+
+pub use drainage_laws::{
+    directions_are_unique, flat_distances_are_unique, flow_paths_are_unique,
+    watersheds_follow_flow_paths,
+};
+pub use laws::{counts_are_of_watersheds, counts_are_unique, runs_are_unique};
+pub use run::Run;

@@ -1,5 +1,0 @@
-use Rattle.watershed.proofs.OneCount.{one_upstream_count}
-use Rattle.watershed.proofs.laws.counts_are_unique.Goals as goal
-
-pub returns : goal.returns
-returns c = one_upstream_count

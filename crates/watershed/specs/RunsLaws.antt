@@ -1,9 +1,0 @@
--- The law of runs.
-use Rattle.std.specs.Prelude.{◌≡◌, Bool, IsTrue, List}
-use Rattle.lattice.specs.declared.point.Point.{Point}
-use Rattle.watershed.specs.declared.runs.Run.{Run}
-use Rattle.watershed.specs.Runs.{AreRuns}
-
--- the maximal runs of a set are one list
-abbrev pub RunsAreUnique : Type 0
-RunsAreUnique = (inside : Point → Bool) (runs others : List Run) → AreRuns (λ p. IsTrue (inside p)) runs → AreRuns (λ p. IsTrue (inside p)) others → runs ≡ others
