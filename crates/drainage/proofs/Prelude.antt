@@ -58,14 +58,11 @@ pub use Rattle.flow_d8.proofs.Samples.TilePlaces.{square_some}
 pub use Rattle.flow_d8.proofs.Sayings.Draining.{flow_direction}
 pub use Rattle.flow_d8.proofs.Steps.Nearby.{all_around, told}
 pub use Rattle.flow_d8.specs.FlowGrids.{AreTileFlows, IsAtHand, IsGridOf}
-pub use Rattle.flow_d8.specs.FlowSteps.{IsFollowed}
-pub use Rattle.flow_d8.specs.Flows.{AreFlows, Drains, IsFlow, direction_of}
+pub use Rattle.flow_d8.specs.Flows.{AreFlows, IsFlow}
 pub use Rattle.flow_d8.specs.LevelsAround.{IsLevelAt, OnLevels, beside_of}
 pub use Rattle.flow_d8.specs.Padded.{ArePadded, padded_point}
 pub use Rattle.flow_d8.specs.Preparing.{place_in}
 pub use Rattle.flow_d8.specs.Tiles.{AreDistinct, OnGround, Tiles, no_corner}
-pub use Rattle.flow_d8.specs.declared.flow.Flow.{Flow}
-pub use Rattle.flow_d8.specs.declared.flow.Flow.TheVariants.{Beside, Flat, FlatTo, NoGround, Outlet, To, Unknown}
 pub use Rattle.flow_d8.specs.declared.grid.FlowGrid.{FlowGrid}
 pub use Rattle.lattice.proofs.IntTests.{le_from, le_or_above, le_true}
 pub use Rattle.lattice.proofs.Lawful.{block_is_lawful, terrain_is_lawful}
@@ -122,7 +119,11 @@ pub use Rattle.water.proofs.Compass.{dir_at_place, order_below}
 pub use Rattle.water.proofs.MosaicGrid.{level_ground, mosaic_is_grid}
 pub use Rattle.water.specs.Drainage.{AreFilledLevels, CrossesFlat}
 pub use Rattle.water.specs.FlowPath.{IsInWatershed}
+pub use Rattle.water.specs.FlowSource.{IsToldOf}
+pub use Rattle.water.specs.FlowSteps.{IsFollowed}
+pub use Rattle.water.specs.Flows.{Drains, direction_of}
 pub use Rattle.water.specs.Questions.{AreCodesTo, IsCodeOrNone}
 pub use Rattle.water.specs.Runs.{AreRuns}
 pub use Rattle.water.specs.TileLevels.{AreTileLevels, IsLevelOrVoid}
-pub use Rattle.watershed.specs.FlowSource.{IsToldOf}
+pub use Rattle.water.specs.declared.flow.Flow.{Flow}
+pub use Rattle.water.specs.declared.flow.Flow.TheVariants.{Beside, Flat, FlatTo, NoGround, Outlet, To, Unknown}

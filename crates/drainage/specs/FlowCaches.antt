@@ -8,8 +8,8 @@ use Rattle.flow_d8.specs.FlowGrids.{IsGridOf}
 use Rattle.flow_d8.specs.Flows.{IsFlow}
 use Rattle.flow_d8.specs.LevelsAround.{OnLevels}
 use Rattle.flow_d8.specs.Tiles.{Tiles, IsInTile, IsSampleOf, count_of, no_corner, place_of}
-use Rattle.flow_d8.specs.declared.flow.Flow.{Flow}
-use Rattle.flow_d8.specs.declared.flow.Flow.TheVariants.{Unknown}
+use Rattle.water.specs.declared.flow.Flow.{Flow}
+use Rattle.water.specs.declared.flow.Flow.TheVariants.{Unknown}
 use Rattle.drainage.specs.LevelRanges.{range_at, is_range_spared, AreRangesOf, AreKnownAround, AreSpared}
 use Rattle.drainage.specs.Slots.{slot_ranges}
 use Rattle.drainage.specs.Spared.{IsUnchanged}

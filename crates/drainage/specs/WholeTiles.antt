@@ -1,8 +1,8 @@
 -- What is told of all samples of a tile.
 use Rattle.std.specs.Prelude.{ℕ}
-use Rattle.flow_d8.specs.declared.flow.Flow.{Flow}
-use Rattle.flow_d8.specs.declared.flow.Flow.TheVariants.{NoGround}
-use Rattle.flow_d8.specs.Flows.{direction_of}
+use Rattle.water.specs.declared.flow.Flow.{Flow}
+use Rattle.water.specs.declared.flow.Flow.TheVariants.{NoGround}
+use Rattle.water.specs.Flows.{direction_of}
 use Rattle.water.specs.Questions.{code_by}
 
 -- the direction's code of what tells all of a point

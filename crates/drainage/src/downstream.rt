@@ -4,7 +4,7 @@ ghost use Rattle.lattice.specs.Limits.{most_tiles};
 ghost use Rattle.lattice.specs.Ground.{is_ground};
 ghost use Rattle.catalogue.specs.Asked.{Asked};
 ghost use Rattle.catalogue.specs.Endings.{ends_any};
-ghost use Rattle.flow_d8.specs.Flows.{Drains};
+ghost use Rattle.water.specs.Flows.{Drains};
 ghost use Rattle.flow_d8.specs.FlowGrids.{IsAtHand};
 ghost use Rattle.lattice.specs.declared.point.Point.{Point};
 ghost use Rattle.drainage.specs.Between.{AreFlowsFor, IsHeldFor};
@@ -16,10 +16,11 @@ use crate::flow_cache::{FlowCache, MOST_FLOW_BYTES};
 use crate::levels_near::near_levels;
 use crate::preparing::prepare;
 use catalogue::is_sink;
-use flow_d8::{FlatSearch, Flow, flow_near};
+use flow_d8::{FlatSearch, flow_near};
 use lattice::{MOST_TILES, Point, Refusal};
 use std::alloc::Global;
 use tile_labellings::Labellings;
+use water::Flow;
 
 // For so many tiles that a flat reaches it is collected anew, since a search over it takes two bits for each sample at hand.
 const FEW_TILES: usize = 3;

@@ -26,7 +26,7 @@ ghost use Rattle.drainage.specs.Holding.{IsRight};
 ghost use Rattle.drainage.specs.Room.{most_flow_bytes};
 ghost use Rattle.drainage.specs.FlowCaches.{flow_bytes, flow_cache_right, past_right, IsCacheOf, IsFlowIn, IsOfMore, IsPastTaken};
 ghost use Rattle.drainage.specs.Reaching.{DifferAt, DifferBetween};
-ghost use Rattle.flow_d8.specs.Donors.{AreToldBy, DrainsBack};
+ghost use Rattle.water.specs.Donors.{AreToldBy, DrainsBack};
 ghost use Rattle.drainage.specs.Spared.{AreLevelsStill, IsNoHigher, IsSetTo, IsSpared};
 
 use crate::flow_cache::{FlowCache, MOST_FLOW_BYTES};
@@ -34,10 +34,11 @@ use crate::neighbourhood::near;
 use crate::tile_cache::TileCache;
 use catalogue::Samples;
 use edits::NewHeight;
-use flow_d8::{Flow, Near};
+use flow_d8::Near;
 use lattice::{Corner, MOST_TILES, Point, Refusal, Side};
 use std::alloc::Global;
 use tile_flood::Labelled;
+use water::Flow;
 
 // How many questions a tile answers by the levels around their points before it is prepared.
 const MOST_BY_LEVELS: u32 = 256;

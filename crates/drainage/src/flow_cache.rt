@@ -6,16 +6,18 @@ ghost use Rattle.lattice.specs.Mosaic.{Mosaic};
 ghost use Rattle.lattice.specs.Terrain.{Terrain};
 ghost use Rattle.lattice.specs.declared.point.Point.{Point};
 ghost use Rattle.water.specs.Drainage.{CrossesFlat};
-ghost use Rattle.flow_d8.specs.Flows.{AreFlows, Drains};
+ghost use Rattle.flow_d8.specs.Flows.{AreFlows};
+ghost use Rattle.water.specs.Flows.{Drains};
 ghost use Rattle.flow_d8.specs.FlowGrids.{AreKnown, AreFlowsIn, flow_of, IsAtHand};
 ghost use Rattle.flow_d8.specs.Tiles.{place_of, no_corner, OnGround};
-ghost use Rattle.flow_d8.specs.declared.flow.Flow.TheVariants.{Unknown};
+ghost use Rattle.water.specs.declared.flow.Flow.TheVariants.{Unknown};
 ghost use Rattle.drainage.specs.Slots.{slot_ranges};
 
 use crate::level_range::{LevelRange, are_known_around, retain_spared};
-use flow_d8::{Flow, FlowByte, FlowGrid};
+use flow_d8::{FlowByte, FlowGrid};
 use lattice::{Corner, Point, Side};
 use std::alloc::{AllocError, Global};
+use water::Flow;
 
 /// As many bytes are held at most, one a sample.
 pub(crate) const MOST_FLOW_BYTES: usize = 139 << 20;

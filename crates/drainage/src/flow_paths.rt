@@ -7,7 +7,7 @@ ghost use Rattle.lattice.specs.declared.refusal.Refusal.TheVariants.{NoMemory, D
 ghost use Rattle.catalogue.specs.Asked.{Asked};
 ghost use Rattle.catalogue.specs.Endings.{ends_any};
 ghost use Rattle.water.specs.FlowPath.{IsFlowPath};
-ghost use Rattle.flow_d8.specs.FlowSteps.{IsNext};
+ghost use Rattle.water.specs.FlowSteps.{IsNext};
 ghost use Rattle.flow_d8.specs.LevelsAround.{OnLevels};
 ghost use Rattle.drainage.specs.Between.{IsHeldFor};
 ghost use Rattle.drainage.specs.FlowPaths.{IsMarkedOnce};

@@ -8,7 +8,7 @@ ghost use Rattle.catalogue.specs.Asked.{Asked};
 ghost use Rattle.catalogue.specs.Endings.{ends_any};
 ghost use Rattle.water.specs.Drainage.{AreFilledLevels};
 ghost use Rattle.flow_d8.specs.LevelsAround.{OnLevels};
-ghost use Rattle.watershed.specs.FlowSource.{IsToldOf};
+ghost use Rattle.water.specs.FlowSource.{IsToldOf};
 ghost use Rattle.drainage.specs.Between.{IsHeldFor};
 ghost use Rattle.drainage.specs.Following.{AreRead, IsStopped, ran_out, stopped_on};
 ghost use Rattle.catalogue.proofs.Reading.{reads_nothing, reads_on};
@@ -17,11 +17,10 @@ ghost use Rattle.std.specs.Prelude.{Ok};
 use crate::downstream::flow_by_tiles;
 use crate::drainage_cache::DrainageCache;
 use catalogue::is_ground;
-use flow_d8::Flow;
 use lattice::{Point, Refusal};
 use std::alloc::Global;
 use tile_labellings::Labellings;
-use watershed::FlowSource;
+use water::{Flow, FlowSource};
 
 /// The flows of samples, of which tiles are prepared where they aren't held.
 #[derive(Drop)]

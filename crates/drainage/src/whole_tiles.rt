@@ -12,10 +12,10 @@ use crate::drainage_cache::DrainageCache;
 use crate::flow_direction::code;
 use crate::prepared_flows::{PreparedFlows, flow_anywhere};
 use crate::tile_levels::tile_levels;
-use flow_d8::Flow;
 use lattice::{Corner, Refusal, point_at, push};
 use std::alloc::Global;
 use tile_labellings::Labellings;
+use water::Flow;
 use watershed::upstream_counts;
 
 // The code of a sample whose point isn't ground.

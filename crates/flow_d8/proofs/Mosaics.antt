@@ -1,7 +1,6 @@
 -- What a mosaic is as a terrain, and its filled levels.
 pub mod PointFlows
 pub mod FilledOf
-pub mod Fitting
 pub mod FullTerrain
 pub mod SharedTiles
 pub mod LevelsOf

@@ -1,6 +1,5 @@
 -- The direction of each point and its flow path.
 pub mod OnePath
-pub mod Following
 pub mod Crossing
 pub mod Tracing
 pub mod Chains

@@ -1,7 +1,6 @@
 -- Directions, steps between points, and what lies around a point.
 pub mod SteepestStep
 pub mod Surfaces
-pub mod StepBack
 pub mod Nearby
 pub mod ThreeRows
 pub mod StepFits

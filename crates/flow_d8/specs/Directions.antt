@@ -3,7 +3,7 @@ use Rattle.std.specs.Prelude.{◌≡◌, ◌<◌, ◌+◌, ℕ, zero, suc, ℤ, 
 use Rattle.flow_d8.specs.Prelude.{Point, Dir, step, fits_point, Mosaic, IsMosaic, is_ground, terrain, Flow, NoGround, Outlet, To, Beside, FlatTo}
 use Rattle.water.specs.Drainage.{AreFilledLevels, IsFlatDistance, IsDirection}
 use Rattle.flow_d8.specs.Filled.{number_of}
-use Rattle.flow_d8.specs.Flows.{direction_of}
+use Rattle.water.specs.Flows.{direction_of}
 use Rattle.flow_d8.specs.FlowGrids.{AreTold}
 use Rattle.flow_d8.specs.Tiles.{Tiles, AreTiles, count_of, by_of}
 

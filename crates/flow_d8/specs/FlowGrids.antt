@@ -5,7 +5,8 @@ use Rattle.flow_d8.specs.Filled.{number_of}
 use Rattle.flow_d8.specs.LevelsAround.{OnLevels}
 use Rattle.flow_d8.specs.PresentTiles.{corners_of}
 use Rattle.water.specs.Drainage.{CrossesFlat}
-use Rattle.flow_d8.specs.Flows.{IsFlow, IsTellingAll, AreFlows}
+use Rattle.flow_d8.specs.Flows.{IsFlow, AreFlows}
+use Rattle.water.specs.Flows.{IsTellingAll}
 use Rattle.flow_d8.specs.Tiles.{Tiles, no_corner, place_of}
 
 -- something is known of each

@@ -27,26 +27,6 @@ Names (Beside d) e = d ≡ e
 Names (FlatTo d) e = d ≡ e
 Names _ e = ⊥
 
--- the flow tells where the point drains
-abbrev pub Drains : Flow → Type 0
-Drains Unknown = ⊥
-Drains NoGround = ⊥
-Drains Flat = ⊥
-Drains _ = Unit {0}
-
--- the flow tells where the point drains, or that it isn't ground
-abbrev pub IsTellingAll : Flow → Type 0
-IsTellingAll Unknown = ⊥
-IsTellingAll Flat = ⊥
-IsTellingAll _ = Unit {0}
-
--- the direction that it names, if it names one
-abbrev pub direction_of : Flow → Option Dir
-direction_of (To d) = Some d
-direction_of (Beside d) = Some d
-direction_of (FlatTo d) = Some d
-direction_of _ = None
-
 -- adjacent points are a step apart, and a ground point inside a flat has eight of them
 pub record IsFull (t : Terrain Point) : Type 0 where
   pub stepped : IsStepped t

@@ -4,7 +4,6 @@ pub mod Places
 pub mod Filled
 pub mod Surface
 pub mod LevelsAround
-pub mod FlowSteps
 pub mod PresentTiles
 pub mod Waves
 pub mod Flows
@@ -18,7 +17,6 @@ pub mod Tiles
 pub mod Strides
 pub mod Resolution
 pub mod FlowGrids
-pub mod Donors
 pub mod Padded
 pub mod Preparing
 pub mod Levels

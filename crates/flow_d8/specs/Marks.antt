@@ -2,7 +2,7 @@
 use Rattle.std.specs.Prelude.{◌≡◌, ℕ, ◌+◌, ◌*◌, ◌%◌, ◌<◌, ◌≤◌, ◌⊎◌, Bool, true, false, IsTrue, List, length, sum, slice_index_or}
 use Rattle.flow_d8.specs.Prelude.{Dir, order_of, Flow, Unknown, FlatTo}
 use Rattle.flow_d8.specs.declared.marks.SampleRun.{SampleRun}
-use Rattle.flow_d8.specs.Places.{back_of}
+use Rattle.water.specs.Flows.{back_of}
 use Rattle.flow_d8.specs.Filled.{is_deep}
 use Rattle.flow_d8.specs.Flows.{IsOfFlat, IsBeside}
 use Rattle.flow_d8.specs.Component.{Connects}

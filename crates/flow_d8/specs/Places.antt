@@ -16,17 +16,6 @@ place_by width k NorthWest = k - width - 1
 place_by width k North = k - width
 place_by width k NorthEast = k - width + 1
 
--- the direction of the step back
-abbrev pub back_of : Dir → Dir
-back_of East = West
-back_of SouthEast = NorthWest
-back_of South = North
-back_of SouthWest = NorthEast
-back_of West = East
-back_of NorthWest = SouthEast
-back_of North = South
-back_of NorthEast = SouthWest
-
 -- the place isn't in the first row or the last, nor at the end beside them
 pub record IsInner (width count k : ℕ) : Type 0 where
   pub before : width + 1 ≤ k

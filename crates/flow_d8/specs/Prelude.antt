@@ -1,6 +1,4 @@
 -- The words of the lattice, and the flows, under one name.
-pub use Rattle.flow_d8.specs.declared.flow.Flow.{Flow}
-pub use Rattle.flow_d8.specs.declared.flow.Flow.TheVariants.{Beside, Flat, FlatTo, NoGround, Outlet, To, Unknown}
 pub use Rattle.lattice.specs.Corners.{Corner, is_corner, same_corner}
 pub use Rattle.lattice.specs.Ground.{degree_of, is_adjacent, is_ground, is_height, is_near, is_sink, metres, same_point, share_tile, terrain}
 pub use Rattle.lattice.specs.Height.{by_seam_rule, first_height, height_of, sample_at, samples_at}
@@ -16,3 +14,5 @@ pub use Rattle.lattice.specs.declared.height.Height.TheVariants.{At}
 pub use Rattle.lattice.specs.declared.point.Point.{Point}
 pub use Rattle.lattice.specs.declared.refusal.Refusal.{Refusal}
 pub use Rattle.lattice.specs.declared.refusal.Refusal.TheVariants.{Damaged, NoMemory}
+pub use Rattle.water.specs.declared.flow.Flow.{Flow}
+pub use Rattle.water.specs.declared.flow.Flow.TheVariants.{Beside, Flat, FlatTo, NoGround, Outlet, To, Unknown}

@@ -4,7 +4,7 @@ ghost use Rattle.lattice.specs.declared.direction.Dir.{Dir};
 ghost use Rattle.lattice.specs.Steps.{step, order_of};
 ghost use Rattle.flow_d8.specs.Filled.{is_deep};
 ghost use Rattle.flow_d8.specs.Tiles.{count_of, place_of, by_of, IsFirst};
-ghost use Rattle.flow_d8.specs.declared.flow.Flow.TheVariants.{Unknown};
+ghost use Rattle.water.specs.declared.flow.Flow.TheVariants.{Unknown};
 ghost use Rattle.flow_d8.specs.Flows.{IsOfFlat};
 ghost use Rattle.flow_d8.specs.Component.{Connects};
 ghost use Rattle.flow_d8.specs.Marks.{mark_at, AreFree, IsMember, IsIn, IsRow, AreListed, AreCollected, no_run};

@@ -11,16 +11,16 @@ ghost use Rattle.lattice.specs.declared.refusal.Refusal.TheVariants.{NoMemory, D
 ghost use Rattle.water.specs.Drainage.{IsDirection};
 ghost use Rattle.water.specs.FlowPath.{IsFlowPath};
 ghost use Rattle.flow_d8.specs.Directions.{AreDirectionsOf, AreOfNoMosaic, AreWhole, LeadsTo, direction_in, distance_in, flow_at, flow_in, number_in, walk};
-ghost use Rattle.flow_d8.specs.Flows.{IsTellingAll, direction_of};
+ghost use Rattle.water.specs.Flows.{IsTellingAll, direction_of};
 ghost use Rattle.flow_d8.specs.FlowGrids.{AreTold};
 ghost use Rattle.flow_d8.specs.Tiles.{count_of, by_of};
-ghost use Rattle.flow_d8.specs.declared.flow.Flow.TheVariants.{Unknown, NoGround};
+ghost use Rattle.water.specs.declared.flow.Flow.TheVariants.{Unknown, NoGround};
 
-use crate::flow::Flow;
 use crate::grid::FlowGrid;
 use lattice::{Dir, Point, Refusal, neighbour};
 use std::alloc::{AllocError, Global};
 use std::marker::Model;
+use water::Flow;
 
 /// Where each ground point of a mosaic drains, and how far it lies from the way out of its flat.
 #[derive(Drop)]

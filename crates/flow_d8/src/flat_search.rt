@@ -1,7 +1,7 @@
 //! Points of a flat's tiles that aren't at hand.
 ghost use Rattle.std.specs.Prelude.{◌≡◌, [], IfOk, IfSome, slice_index_or};
 ghost use Rattle.flow_d8.specs.Flows.{IsOfFlat};
-ghost use Rattle.flow_d8.specs.declared.flow.Flow.TheVariants.{Unknown};
+ghost use Rattle.water.specs.declared.flow.Flow.TheVariants.{Unknown};
 ghost use Rattle.flow_d8.specs.Resolution.{IsMissing};
 
 use crate::collecting::{free_row, is_free, one_run, point_beside};

@@ -1,12 +1,12 @@
 //! A flow in one byte.
 ghost use Rattle.std.specs.Prelude.{◌≡◌, ◌↔◌, IsTrue, Some};
-ghost use Rattle.flow_d8.specs.declared.flow.Flow.TheVariants.{Flat};
-ghost use Rattle.flow_d8.specs.Flows.{IsTellingAll, direction_of};
-ghost use Rattle.flow_d8.specs.Places.{back_of};
+ghost use Rattle.water.specs.declared.flow.Flow.TheVariants.{Flat};
+ghost use Rattle.water.specs.Flows.{IsTellingAll, direction_of};
+ghost use Rattle.water.specs.Flows.{back_of};
 
-use crate::flow::Flow;
 use lattice::Dir;
 use std::marker::Model;
+use water::Flow;
 
 /// A flow in one byte.
 #[derive(Clone, Copy)]
@@ -17,7 +17,7 @@ pub struct FlowByte {
 impl Model for FlowByte {
     ghost use Rattle.std.specs.Prelude.{◌<◌};
     ghost use Rattle.std.proofs.Common.{ap};
-    ghost use Rattle.flow_d8.specs.declared.flow.Flow.{Flow};
+    ghost use Rattle.water.specs.declared.flow.Flow.{Flow};
 
     ghost Value = { Flow };
 

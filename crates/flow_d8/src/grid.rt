@@ -8,16 +8,17 @@ ghost use Rattle.lattice.specs.Terrain.{Terrain};
 ghost use Rattle.lattice.specs.declared.point.Point.{Point};
 ghost use Rattle.water.specs.Drainage.{CrossesFlat};
 ghost use Rattle.flow_d8.specs.Filled.{number_of};
-ghost use Rattle.flow_d8.specs.declared.flow.Flow.TheVariants.{Unknown, NoGround};
-ghost use Rattle.flow_d8.specs.Flows.{IsOfFlat, IsFlow, IsTellingAll, AreFlows, Drains};
+ghost use Rattle.water.specs.declared.flow.Flow.TheVariants.{Unknown, NoGround};
+ghost use Rattle.flow_d8.specs.Flows.{IsOfFlat, IsFlow, AreFlows};
+ghost use Rattle.water.specs.Flows.{IsTellingAll, Drains};
 ghost use Rattle.flow_d8.specs.Rounds.{Tells};
 ghost use Rattle.flow_d8.specs.Tiles.{AreTiles, count_of, place_of, by_of, no_corner, IsInTile, IsSampleOf, OnGround};
 ghost use Rattle.flow_d8.specs.FlowGrids.{AreKnown, AreFlowsIn, AreMoved, IsCut, AreTold, AreCrossed, StayFlows, flow_of, IsAtHand};
-ghost use Rattle.flow_d8.specs.Donors.{AreToldBy, DrainsBack};
+ghost use Rattle.water.specs.Donors.{AreToldBy, DrainsBack};
 
 use crate::donors::donors_around;
 use crate::flat_search::{FlatSearch, search_flat};
-use crate::flow::{Flow, flow_at};
+use crate::flow::flow_at;
 use crate::flow_byte::FlowByte;
 use crate::marks::FreeMarks;
 use crate::resolving::{Resolution, resolve};
@@ -25,6 +26,7 @@ use crate::tile_flows::TileFlows;
 use crate::tiles::Tiles;
 use lattice::{Corner, Dir, Point, Side};
 use std::alloc::{AllocError, Global};
+use water::Flow;
 
 /// Tiles at hand, each in a slot, and of each of their samples what is known of where its point drains.
 #[derive(Drop)]

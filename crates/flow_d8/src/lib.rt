@@ -18,6 +18,7 @@
 #![tactic(auto)]
 
 mod collecting;
+mod direction_grid;
 mod directions;
 mod division;
 mod donors;
@@ -39,10 +40,10 @@ mod telling;
 mod tile_flows;
 mod tiles;
 
+pub use direction_grid::DirectionGrid;
 pub use directions::Directions;
 pub use filled::Filled;
 pub use flat_search::FlatSearch;
-pub use flow::{Flow, back};
 pub use flow_byte::FlowByte;
 pub use grid::FlowGrid;
 pub use levels_around::Near;

@@ -4,15 +4,15 @@ ghost use Rattle.lattice.specs.declared.direction.Dir.{Dir};
 ghost use Rattle.lattice.specs.Mosaic.{void};
 ghost use Rattle.lattice.specs.declared.point.Point.{Point};
 ghost use Rattle.lattice.specs.Terrain.{Terrain};
-ghost use Rattle.flow_d8.specs.declared.flow.Flow.TheVariants.{NoGround, Flat};
+ghost use Rattle.water.specs.declared.flow.Flow.TheVariants.{NoGround, Flat};
 ghost use Rattle.flow_d8.specs.LevelGrid.{IsLevelGrid};
 ghost use Rattle.flow_d8.specs.Places.{place_by, IsInner, IsShown, IsBestAt};
 ghost use Rattle.flow_d8.specs.Preparing.{IsLocal, IsPlain, level_in};
 
-use crate::flow::Flow;
 use crate::slopes::{Best, at, better};
 use crate::tiles::place;
 use lattice::{DIRECTIONS, Dir, VOID};
+use water::Flow;
 
 /// Where the point at this place drains, by the levels at it and around it in rows of this width: To; Outlet where no level is lower
 /// and some direction has none; Flat where all eight have one; NoGround.

@@ -6,13 +6,13 @@ ghost use Rattle.lattice.specs.Mosaic.{Mosaic, IsMosaic, void};
 ghost use Rattle.lattice.specs.Terrain.{Terrain};
 ghost use Rattle.flow_d8.specs.LevelsAround.{around_of, IsNear, OnLevels};
 ghost use Rattle.flow_d8.specs.Places.{IsShown};
-ghost use Rattle.flow_d8.specs.declared.flow.Flow.TheVariants.{Unknown, Outlet};
+ghost use Rattle.water.specs.declared.flow.Flow.TheVariants.{Unknown, Outlet};
 ghost use Rattle.flow_d8.specs.Flows.{IsFlowNear};
 
-use crate::flow::Flow;
 use crate::levels_around::Near;
 use crate::local_flow::local_flow_at;
 use lattice::VOID;
+use water::Flow;
 
 /// Where the ground point with these levels drains: To or Outlet; Unknown where it lies inside a flat.
 pub fn flow_near(near: &Near, is_sink: bool) -> Flow

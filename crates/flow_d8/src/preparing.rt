@@ -7,17 +7,17 @@ ghost use Rattle.lattice.specs.declared.point.Point.{Point};
 ghost use Rattle.lattice.specs.declared.direction.Dir.{Dir};
 ghost use Rattle.lattice.specs.declared.direction.Dir.TheVariants.{North, East, South, West};
 ghost use Rattle.flow_d8.specs.Places.{place_by, IsInner};
-ghost use Rattle.flow_d8.specs.declared.flow.Flow.TheVariants.{Unknown, Outlet, Flat, Beside};
+ghost use Rattle.water.specs.declared.flow.Flow.TheVariants.{Unknown, Outlet, Flat, Beside};
 ghost use Rattle.flow_d8.specs.FlowGrids.{AreKnown, AreTileFlows};
 ghost use Rattle.flow_d8.specs.Padded.{IsPaddedTile, padded_point as point_in};
 ghost use Rattle.flow_d8.specs.Preparing.{flow_in, IsLocal, IsPlain, IsEnd, IsPlaceFlow, IsSinkPlace, IsDrainedAt, AreDrained, AreSunkFlows, IsEndBeside, IsFirstEndBeside, IsEnded, AreEnded, place_in, leads_over, IsFlowWithout, IsClosedAt, along_of, IsClosedFlow, IsClosing};
 
-use crate::flow::Flow;
 use crate::flow_byte::FlowByte;
 use crate::local_flow::local_flow_at;
 use crate::tiles::place;
 use lattice::{Corner, DIRECTIONS, Dir, Point, Side, VOID, point_at};
 use std::alloc::{AllocError, Global};
+use water::Flow;
 
 /// Whether the tiles across the edges of a tile are present.
 #[derive(Clone, Copy, Debug, PartialEq, Eq)]

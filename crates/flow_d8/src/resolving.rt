@@ -4,7 +4,7 @@ ghost use Rattle.lattice.specs.declared.direction.Dir.{Dir};
 ghost use Rattle.water.specs.Drainage.{CrossesFlat};
 ghost use Rattle.flow_d8.specs.Filled.{number_of};
 ghost use Rattle.flow_d8.specs.Tiles.{count_of, place_of, by_of, IsFirst, OnGround};
-ghost use Rattle.flow_d8.specs.declared.flow.Flow.TheVariants.{Unknown};
+ghost use Rattle.water.specs.declared.flow.Flow.TheVariants.{Unknown};
 ghost use Rattle.flow_d8.specs.Flows.{IsOfFlat, AreFlows, Names};
 ghost use Rattle.flow_d8.specs.Marks.{mark_at, AreFree, IsBack, IsMember, Lists, AreListed, AreCollected};
 ghost use Rattle.flow_d8.specs.Rounds.{AreMarked, AreBegun, IsRound, Advances, IsPassed, OnTerrains, Tells};

@@ -1,17 +1,18 @@
 //! Waves over a flat.
 ghost use Rattle.std.specs.Prelude.{◌≡◌, ℕ, ◌<◌, IfOk, OnOk, length, slice_index_or};
 ghost use Rattle.flow_d8.specs.Tiles.{count_of, by_of};
-ghost use Rattle.flow_d8.specs.declared.flow.Flow.TheVariants.{Unknown};
+ghost use Rattle.water.specs.declared.flow.Flow.TheVariants.{Unknown};
 ghost use Rattle.flow_d8.specs.Flows.{IsBeside};
-ghost use Rattle.flow_d8.specs.Places.{back_of};
+ghost use Rattle.water.specs.Flows.{back_of};
 ghost use Rattle.flow_d8.specs.Marks.{mark_at, IsBack, IsIn, Covers, IsMember, IsFirstWave, Begins, AreDeep, Reaches};
 
-use crate::flow::{Flow, back, is_beside};
+use crate::flow::is_beside;
 use crate::flow_byte::FlowByte;
 use crate::marks::{MEMBER, Marks, REACHED, SampleRun};
 use crate::tiles::{Stride, Tiles};
 use lattice::Dir;
 use std::alloc::{AllocError, Global};
+use water::{Flow, back};
 
 /// Marks those of the members that lie beside an end.
 pub(crate) fn first_wave(

@@ -2,17 +2,18 @@
 ghost use Rattle.std.specs.Prelude.{◌≡◌, ℕ, ℤ, ◌<◌, length, slice_index_or};
 ghost use Rattle.lattice.specs.declared.point.Point.{Point};
 ghost use Rattle.lattice.specs.Terrain.{Terrain};
-ghost use Rattle.flow_d8.specs.declared.flow.Flow.TheVariants.{Unknown};
+ghost use Rattle.water.specs.declared.flow.Flow.TheVariants.{Unknown};
 ghost use Rattle.flow_d8.specs.Flows.{IsOfFlat, IsTold, IsFlow, AreFlows};
 ghost use Rattle.flow_d8.specs.Marks.{IsIn, Covers, IsRow, AreRows};
 ghost use Rattle.flow_d8.specs.Rounds.{Tells};
 ghost use Rattle.flow_d8.specs.Tiles.{count_of, place_of, IsInTile, IsSampleOf};
 
-use crate::flow::{Flow, flow_at, is_of_flat, is_told};
+use crate::flow::{flow_at, is_of_flat, is_told};
 use crate::flow_byte::FlowByte;
 use crate::marks::SampleRun;
 use crate::tiles::Tiles;
 use lattice::Point;
+use water::Flow;
 
 /// Tells the flows of the members at all samples of their points.
 pub(crate) fn tell(tiles: &Tiles, runs: &[SampleRun], flows: &mut [FlowByte])

@@ -2,7 +2,7 @@
 use arrayvec::ArrayVec;
 use catalogue::{Samples, Table, height};
 use edits::{Bytes, Command, apply_edit, edit_of};
-use flow_d8::Filled;
+use flow_d8::{DirectionGrid, Filled};
 use hgt::{name_of, name_text, samples};
 use lattice::{Corner, Height, Point, Refusal, Side, holders, index_in};
 use reference::{Plain, effect, filled_levels};
@@ -11,7 +11,7 @@ use std::test::Fail;
 use test_tiles::{A, A_SAMPLES};
 use tile_flood::{Block, Flood, spills};
 use tile_labellings::{kept_planes, labelled_from};
-use watershed::watershed;
+use watershed::watershed_over;
 
 const CENTRE: Point = Point { y: 1, x: 1 };
 
@@ -95,7 +95,10 @@ fn directions_of_levels(rt: HostRuntime) -> Result<(), Fail> {
     let path = directions.trace(point)?;
     assert!(rt; path.as_slice() == [CENTRE, Point { y: 0, x: 2 }].as_slice());
 
-    let runs = watershed(alloc, &directions, point)?;
+    let mut flows = DirectionGrid {
+        directions: &directions,
+    };
+    let runs = watershed_over(alloc, &mut flows, point)?;
     assert!(rt; runs.len() == 3);
     Ok(())
 }

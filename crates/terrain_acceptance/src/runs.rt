@@ -1,11 +1,12 @@
 //! Watersheds over filled levels, by rows worked by hand.
 use crate::flow::found;
 use crate::written::{are_runs, at};
-use flow_d8::Directions;
+use flow_d8::{DirectionGrid, Directions};
 use lattice::VOID;
 use std::alloc::Global;
 use std::test::Fail;
 use test_tiles::check_row;
+use watershed::watershed_over;
 
 /// A point, and the runs of its watershed: y, the first x and the last.
 type Shed<'a> = (i32, i32, &'a [(i32, i32, i32)]);
@@ -51,7 +52,7 @@ const ROWS: [Row; 4] = [
 
 fn check_sheds(alloc: Global, directions: &Directions, row: &Row) -> Result<(), Fail> {
     for (y, x, runs) in row.sheds {
-        let found = watershed::watershed(alloc, directions, at(*y, *x))?;
+        let found = watershed_over(alloc, &mut DirectionGrid { directions }, at(*y, *x))?;
         check_row(&(row.shows, found.as_slice()), are_runs(&found, runs))?;
     }
     Ok(())

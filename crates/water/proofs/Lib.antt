@@ -5,6 +5,9 @@ pub mod Ends
 pub mod SteepestStep
 pub mod Exists
 pub mod FlowPaths
+pub mod Following
+pub mod StepBack
+pub mod Fitting
 pub mod OneList
 pub mod Counted
 pub mod OneCount

@@ -2,6 +2,10 @@ pub mod Grid
 pub mod Drainage
 pub mod SteepestStep
 pub mod FlowPath
+pub mod FlowSteps
+pub mod Flows
+pub mod Donors
+pub mod FlowSource
 pub mod DrainageLaws
 pub mod TileLevels
 pub mod Runs

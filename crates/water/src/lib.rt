@@ -6,6 +6,8 @@
 #![tactic(auto)]
 
 mod drainage_laws;
+mod flow;
+mod flow_source;
 mod laws;
 mod run;
 
@@ -13,5 +15,7 @@ pub use drainage_laws::{
     directions_are_unique, flat_distances_are_unique, flow_paths_are_unique,
     watersheds_follow_flow_paths,
 };
+pub use flow::{Flow, back};
+pub use flow_source::FlowSource;
 pub use laws::{counts_are_of_watersheds, counts_are_unique, runs_are_unique};
 pub use run::Run;

@@ -1,8 +1,8 @@
 -- The points that drain straight to a point, found one direction after another.
 use Rattle.watershed.proofs.Prelude.{Contains-append_left, Contains-push, Contains-push_cases, Dir, DrainsBack, IsDirection, IsDonor, IsToldOf, IsTrue, List, Point, Some, Terrain, ℕ, ℤ, [], ap, arith, back_of, back_twice, cases_Bool, cases_eq, inl, inr, none-some, one_direction, order_below, order_of, same_order, step, step_back, subst, sym, ⊎_elim, ◌++◌, ◌+◌, ◌<◌, ◌∙◌, ◌∷◌, ◌≡◌, ◌≤◌}
 use Rattle.std.specs.Prelude.{Contains, ◌↔◌, ◌⊎◌}
-use Rattle.flow_d8.specs.Flows.{direction_of}
-use Rattle.flow_d8.specs.declared.flow.Flow.{Flow}
+use Rattle.water.specs.Flows.{direction_of}
+use Rattle.water.specs.declared.flow.Flow.{Flow}
 use Rattle.watershed.specs.Feeding.{IsDonorAdded}
 
 module _ (Drains : Dir → Type 0) (p : Point) (start : List Point) where

@@ -1,9 +1,4 @@
 -- The names that many proofs of this crate cite, passed on from one place. Declares nothing.
-pub use Rattle.flow_d8.proofs.Mosaics.Fitting.{ground_fits}
-pub use Rattle.flow_d8.proofs.Paths.Following.{drains_to_ground}
-pub use Rattle.flow_d8.proofs.Steps.StepBack.{back_twice, step_back}
-pub use Rattle.flow_d8.specs.Donors.{AreToldBy, DrainsBack, IsDonor}
-pub use Rattle.flow_d8.specs.Places.{back_of}
 pub use Rattle.lattice.proofs.IntTests.{lt_false, lt_true}
 pub use Rattle.lattice.proofs.Lawful.{terrain_is_lawful}
 pub use Rattle.lattice.proofs.Levels.{≤ℤ_antisym, ≤ℤ_same}
@@ -31,14 +26,19 @@ pub use Rattle.std.specs.Option.{option_to_list}
 pub use Rattle.std.specs.Ordering.{nat_cmp}
 pub use Rattle.std.specs.Prelude.{Contains, MatchOption, int_lt}
 pub use Rattle.water.proofs.Compass.{order_at, order_below, same_order}
+pub use Rattle.water.proofs.Fitting.{ground_fits}
+pub use Rattle.water.proofs.Following.{drains_to_ground}
+pub use Rattle.water.proofs.StepBack.{back_twice, step_back}
 pub use Rattle.water.proofs.Unique.{one_direction}
 pub use Rattle.water.specs.Counts.{IsCountOf}
+pub use Rattle.water.specs.Donors.{AreToldBy, DrainsBack, IsDonor}
 pub use Rattle.water.specs.Drainage.{AreFilledLevels, IsDirection}
 pub use Rattle.water.specs.FlowPath.{FlowsTo, IsFlowPath, IsInWatershed}
+pub use Rattle.water.specs.FlowSource.{IsToldOf}
+pub use Rattle.water.specs.Flows.{back_of}
 pub use Rattle.water.specs.Runs.{AreRuns, Cover, IsAfter, IsBefore, IsInRun}
 pub use Rattle.water.specs.declared.run.Run.{Run}
 pub use Rattle.watershed.specs.Counting.{AreCounted, AreStillCounted, IsCounted, IsThrough, IsTour}
-pub use Rattle.watershed.specs.FlowSource.{IsToldOf}
 pub use Rattle.watershed.specs.Marks.{IsInSegment, IsInWord, IsIndexed, IsMarked, IsRank, place_of, word_in, word_of}
 pub use Rattle.watershed.specs.declared.counting.Branch.{Branch}
 pub use Rattle.watershed.specs.declared.marks.Marks.{Marks}

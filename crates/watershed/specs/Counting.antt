@@ -7,7 +7,7 @@ use Rattle.lattice.specs.Steps.{step, order_of}
 use Rattle.lattice.specs.Terrain.{Terrain}
 use Rattle.water.specs.FlowPath.{IsInWatershed}
 use Rattle.water.specs.Counts.{IsCountOf}
-use Rattle.flow_d8.specs.Donors.{AreToldBy, DrainsBack}
+use Rattle.water.specs.Donors.{AreToldBy, DrainsBack}
 use Rattle.watershed.specs.declared.counting.Branch.{Branch}
 use Rattle.watershed.specs.declared.tile_counts.TileCounts.{TileCounts}
 

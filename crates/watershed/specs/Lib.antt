@@ -1,5 +1,4 @@
 pub mod Search
 pub mod Feeding
 pub mod Marks
-pub mod FlowSource
 pub mod Counting

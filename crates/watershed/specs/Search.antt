@@ -2,7 +2,7 @@
 use Rattle.std.specs.Prelude.{◌≡◌, ℕ, zero, suc, ℤ, IsTrue}
 use Rattle.lattice.specs.declared.point.Point.{Point}
 use Rattle.lattice.specs.Terrain.{Terrain}
-use Rattle.flow_d8.specs.Donors.{IsDonor}
+use Rattle.water.specs.Donors.{IsDonor}
 
 module _ (t : Terrain Point) (level : Point → ℤ) where
   -- so many such steps lead from x to p

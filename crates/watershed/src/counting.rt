@@ -11,11 +11,11 @@ ghost use Rattle.water.specs.Counts.{AreUpstreamCounts};
 ghost use Rattle.watershed.specs.Counting.{AreCounted, AreStillCounted, IsCounted, IsNext, IsTour};
 
 use crate::donors::donors;
-use crate::flow_source::FlowSource;
 use crate::search::is_no_ground;
 use crate::tile_counts::TileCounts;
 use lattice::{Corner, DIRECTIONS, MOST_TILES, Point, Refusal, Side, neighbour, point_at, push};
 use std::alloc::Global;
+use water::FlowSource;
 
 /// Of each sample of the corner's tile how many ground points have its point on their flow path, itself among them: so many as
 /// the watershed of the point has. 0 where it isn't ground. Row by row from the north, west first.

@@ -3,15 +3,14 @@ ghost use Rattle.std.specs.Prelude.{◌≡◌, ◌↔◌, ◌⊎◌, ℤ, IsTrue
 ghost use Rattle.lattice.specs.declared.point.Point.{Point};
 ghost use Rattle.lattice.specs.Ground.{terrain};
 ghost use Rattle.lattice.specs.Mosaic.{Mosaic, IsMosaic};
-ghost use Rattle.flow_d8.specs.Donors.{AreToldBy, DrainsBack, IsDonor};
-ghost use Rattle.flow_d8.specs.Flows.{direction_of};
-ghost use Rattle.flow_d8.specs.Places.{back_of};
+ghost use Rattle.water.specs.Donors.{AreToldBy, DrainsBack, IsDonor};
+ghost use Rattle.water.specs.Flows.{direction_of};
+ghost use Rattle.water.specs.Flows.{back_of};
 ghost use Rattle.watershed.specs.Feeding.{IsDonorAdded};
 
-use crate::flow_source::FlowSource;
-use flow_d8::{Flow, back};
 use lattice::{DIRECTIONS, Dir, Point, Refusal, neighbour};
 use std::alloc::{AllocError, Global};
+use water::{Flow, FlowSource, back};
 
 /// Adds the points that drain straight to this one.
 pub(crate) fn add_donors<F: FlowSource>(

@@ -4,39 +4,21 @@ ghost use Rattle.lattice.specs.declared.point.Point.{Point};
 ghost use Rattle.lattice.specs.declared.refusal.Refusal.TheVariants.{NoMemory};
 ghost use Rattle.lattice.specs.Mosaic.{Mosaic, IsMosaic};
 ghost use Rattle.lattice.specs.Ground.{is_ground, terrain};
-ghost use Rattle.flow_d8.specs.Directions.{AreDirectionsOf};
-ghost use Rattle.flow_d8.specs.Donors.{IsDonor};
+ghost use Rattle.water.specs.Donors.{IsDonor};
 ghost use Rattle.water.specs.FlowPath.{IsInWatershed};
-ghost use Rattle.flow_d8.specs.declared.flow.Flow.TheVariants.{NoGround};
+ghost use Rattle.water.specs.declared.flow.Flow.TheVariants.{NoGround};
 ghost use Rattle.water.specs.Runs.{AreRuns};
 ghost use Rattle.watershed.specs.Search.{AreUpstream};
 ghost use Rattle.watershed.specs.Marks.{IsMarked, IsIndexed};
 
-use crate::direction_grid::DirectionGrid;
 use crate::donors::add_donors;
-use crate::flow_source::FlowSource;
 use crate::marks::Marks;
-use flow_d8::{Directions, Flow};
 use lattice::{Point, Refusal};
 use std::alloc::Global;
-use water::Run;
+use water::{Flow, FlowSource, Run};
 
 /// The watershed of the point: the ground points whose flow path contains it, as maximal runs, from the north down, in
-/// a row from the west. Empty where the point isn't ground. NoMemory is the only refusal.
-pub fn watershed(alloc: Global, directions: &Directions, point: Point) -> Result<Vec<Run>, Refusal>
-    ensures runs { IfOk result (λ runs. (m : Mosaic) (level : Point → ℤ) → IsMosaic m
-        → AreDirectionsOf m level directions.now
-        → AreRuns (IsInWatershed (terrain m) level point) runs.items) }
-    ensures elsewhere { IfOk result (λ runs. (m : Mosaic) (level : Point → ℤ) → IsMosaic m
-        → AreDirectionsOf m level directions.now → IsFalse (is_ground m point)
-        → runs.items ≡ []) }
-    ensures refusal { IfErr result (λ r. r ≡ NoMemory) }
-{
-    let mut held = DirectionGrid { directions };
-    watershed_over(alloc, &mut held, point)
-}
-
-/// The watershed of the point, by flows that are asked for as the search comes to their points.
+/// a row from the west. Empty where the point isn't ground. Flows are asked for as the search comes to their points.
 ///
 /// It is refused as a flow is, or for want of memory.
 pub fn watershed_over<F: FlowSource>(

@@ -1,8 +1,9 @@
 -- What flows that tell all say of a point to who searches over them.
 use Rattle.std.proofs.Common.{◌≡◌, ℤ, Bool, IsFalse, Option, Some, None, List, Result, Ok, Err, refl, sym, ◌∙◌, subst, true≢false}
 use Rattle.drainage.proofs.Prelude.{AreFilledLevels, Beside, Flat, FlatTo, Flow, IfOk, IfSome, IsToldOf, Mosaic, NoGround, OnLevels, Outlet, Point, Refusal, To, Unknown, is_ground, terrain}
-use Rattle.flow_d8.specs.Donors.{AreToldBy, DrainsBack}
-use Rattle.flow_d8.specs.Flows.{IsFlow, IsTellingAll, Drains}
+use Rattle.water.specs.Donors.{AreToldBy, DrainsBack}
+use Rattle.flow_d8.specs.Flows.{IsFlow}
+use Rattle.water.specs.Flows.{IsTellingAll, Drains}
 use Rattle.flow_d8.proofs.Sayings.Draining.{telling_direction, telling_ground}
 
 pub draining_tells : (f : Flow) → Drains f → IsTellingAll f

@@ -6,8 +6,8 @@ use Rattle.lattice.specs.declared.point.Point.{Point}
 use Rattle.lattice.specs.declared.direction.Dir.{Dir}
 use Rattle.lattice.specs.Steps.{step, is_steeper}
 use Rattle.lattice.specs.Terrain.{Terrain}
-use Rattle.flow_d8.specs.declared.flow.Flow.{Flow}
-use Rattle.flow_d8.specs.declared.flow.Flow.TheVariants.{Unknown, NoGround, Outlet, To, Beside, Flat, FlatTo}
+use Rattle.water.specs.declared.flow.Flow.{Flow}
+use Rattle.water.specs.declared.flow.Flow.TheVariants.{Unknown, NoGround, Outlet, To, Beside, Flat, FlatTo}
 
 module _ (In : Point → Type 0) where
   pub record AreInOrder (t u : Terrain Point) (k l : Point → ℤ) : Type 0 where

@@ -2,7 +2,7 @@
 use Rattle.std.proofs.Common.{rules}
 use Rattle.flow_d8.proofs.Prelude.{IsClosedFlow, IsClosing, List, Sides, ℕ, ℤ, ap, drop, flow_in, inl, inr, length, subst, sym, take, ⊎_elim, ◌++◌, ◌∙◌, ◌≡◌}
 use Rattle.std.proofs.Math.Seq.{take-append_seam}
-use Rattle.flow_d8.specs.declared.flow.Flow.{Flow}
+use Rattle.water.specs.declared.flow.Flow.{Flow}
 
 module _ (n : ℕ) (levels : List ℤ) (sides : Sides) where
   pub closed_still : (old new : List Flow) → IsClosing n levels sides old new → (e : ℕ) → IsClosedFlow n levels sides e (flow_in old e) → IsClosedFlow n levels sides e (flow_in new e)

@@ -1,6 +1,6 @@
 -- Places of a padded tile: the places and points around each.
 use Rattle.flow_d8.proofs.Prelude.{Corner, Dir, East, IsIndexOf, IsInner, IsSinkPlace, IsTrue, North, NorthEast, NorthWest, Point, South, SouthEast, SouthWest, West, ℕ, ap, ap₂, arith, div-mul-add, east_of, ints, is_corner, mod-mul-add, mul-add-lt, mul-le-mul_right, negsuc, north_of, padded_point, place_by, pos, refl, same_place, step, suc, sym, zero, ◌%◌, ◌*ℤ◌, ◌*◌, ◌+ℤ◌, ◌+◌, ◌-ℤ◌, ◌-◌, ◌/◌, ◌<◌, ◌∙◌, ◌≡◌, ◌≤ℤ◌, ◌≤◌}
-use Rattle.flow_d8.proofs.Samples.Numbers.{corner_near}
+use Rattle.water.proofs.Fitting.{corner_near}
 use Rattle.flow_d8.proofs.Mosaics.SharedTiles.{IsClose}
 
 -- the row and the column one step away

@@ -10,7 +10,7 @@ use Rattle.flow_d8.specs.Filled.{is_holder, is_held, number_of}
 use Rattle.flow_d8.specs.PresentTiles.{corners_of, sample_count}
 use Rattle.flow_d8.proofs.Mosaics.FilledOf.{any_corner}
 use Rattle.water.proofs.FlowPaths.{one_flow_path, flow_path_exists}
-use Rattle.flow_d8.proofs.Paths.Following.{drains_to_ground}
+use Rattle.water.proofs.Following.{drains_to_ground}
 use Rattle.water.proofs.MosaicGrid.{mosaic_is_grid}
 use Rattle.flow_d8.proofs.Samples.Numbers.{number_below, number_injective}
 

@@ -1,9 +1,9 @@
 -- A trace on its way: what leads from its first point to the last one so far.
 use Rattle.flow_d8.proofs.Prelude.{Beside, Dir, Flat, FlatTo, Flow, IsDirection, IsFalse, IsFlowPath, IsFollowed, IsMosaic, IsTellingAll, IsTrue, List, Mosaic, NoGround, None, Option, Outlet, Point, Some, To, Unknown, ℕ, ℤ, [], arith, cases_Bool, cases_lt, count_of, direction_of, fits_point, get_or_past, inl, inr, is_ground, is_held, length, none-some, refl, step, subst, suc, sym, terrain, zero, ⊎_elim, ◌++◌, ◌<◌, ◌↔◌, ◌∙◌, ◌∷◌, ◌≡◌}
-use Rattle.flow_d8.proofs.Paths.Following.{followed_more, followed_end}
+use Rattle.water.proofs.Following.{followed_more, followed_end}
 use Rattle.flow_d8.proofs.Samples.Numbers.{number_past}
 use Rattle.water.proofs.MosaicGrid.{mosaic_is_grid}
-use Rattle.flow_d8.proofs.Mosaics.Fitting.{ground_fits}
+use Rattle.water.proofs.Fitting.{ground_fits}
 use Rattle.flow_d8.specs.Directions.{Directions, AreWhole, AreDirectionsOf, number_in, flow_at, flow_in, direction_in, distance_in, walk}
 use Rattle.flow_d8.proofs.Paths.Crossing.{told_in, walk_is, walk_nowhere}
 

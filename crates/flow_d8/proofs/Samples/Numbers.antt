@@ -110,44 +110,6 @@ number_injective n (c ∷ rest) p q side hp hq same = elim (cases_Bool (is_holde
     less : (j k : ℕ) → n * n + j ≡ n * n + k → j ≡ k
     less j k e = omega arith
 
-scaled : (a : ℤ) (m : ℕ) → m ≤ 3600 → negsuc 179 ≤ℤ a → a ≤ℤ pos 180 → (negsuc 648000 ≤ℤ (a *ℤ pos m)) × ((a *ℤ pos m) ≤ℤ pos 648000)
-scaled (pos x) m small low high =
-    let small_x : x ≤ 180 = omega (arith, ints) in
-    let one : x * m ≤ 180 * m = mul-le-mul_right m small_x in
-    (omega (arith, ints), omega (arith, ints))
-scaled (negsuc x) m small low high =
-    let small_x : suc x ≤ 180 = omega (arith, ints) in
-    let one : suc x * m ≤ 180 * m = mul-le-mul_right m small_x in
-    (omega (arith, ints), omega (arith, ints))
-
--- where the tile of a corner begins
-pub corner_near : (n : ℕ) (c : Corner) → n ≤ largest_side → IsTrue (is_corner c)
-    → ((negsuc 648000 ≤ℤ (c.lat *ℤ pos (n - 1))) × ((c.lat *ℤ pos (n - 1)) ≤ℤ pos 648000)) × ((negsuc 648000 ≤ℤ (c.lon *ℤ pos (n - 1))) × ((c.lon *ℤ pos (n - 1)) ≤ℤ pos 648000))
-corner_near n c most is =
-    let first = and_parts (int_le (negsuc 89) c.lat && int_le c.lat (pos 89) && int_le (negsuc 179) c.lon) (int_le c.lon (pos 179)) is in
-    let second = and_parts (int_le (negsuc 89) c.lat && int_le c.lat (pos 89)) (int_le (negsuc 179) c.lon) first.0 in
-    let third = and_parts (int_le (negsuc 89) c.lat) (int_le c.lat (pos 89)) second.0 in
-    let west : negsuc 179 ≤ℤ c.lon = le_true _ _ second.1 in
-    let east : c.lon ≤ℤ pos 179 = le_true _ _ first.1 in
-    let south : negsuc 89 ≤ℤ c.lat = le_true _ _ third.0 in
-    let north : c.lat ≤ℤ pos 89 = le_true _ _ third.1 in
-    let edge : n - 1 ≤ 3600 = omega arith in
-    (scaled c.lat (n - 1) edge (omega (arith, ints)) (omega (arith, ints)), scaled c.lon (n - 1) edge (omega (arith, ints)) (omega (arith, ints)))
-
--- a held point's coordinates fit
-pub held_fits : (n : ℕ) (c : Corner) (p : Point) → 3 ≤ n → n ≤ largest_side → is_holder n c p ≡ true → IsTrue (fits_point p)
-held_fits n c p side most both =
-    let is = (and_parts (is_corner c) (holds n c p) both).0 in
-    let on = (and_parts (is_corner c) (holds n c p) both).1 in
-    let near = corner_near n c most is in
-    let along = and_parts (is_along (pos (n - 1)) c.lat p.y) (is_along (pos (n - 1)) c.lon p.x) on in
-    let y = parts (n - 1) c.lat p.y along.0 in
-    let x = parts (n - 1) c.lon p.x along.1 in
-    and_from (fits_number p.y) (fits_number p.x) (fits p.y (omega (arith, ints, y.0, near.0.0)) (omega (arith, ints, y.1, near.0.1))) (fits p.x (omega (arith, ints, x.0, near.1.0)) (omega (arith, ints, x.1, near.1.1)))
-  where
-    fits : (v : ℤ) → negsuc 2147483647 ≤ℤ v → v ≤ℤ pos 2147483647 → IsTrue (fits_number v)
-    fits v low high = and_from (int_le (negsuc 2147483647) v) (int_le v (pos 2147483647)) (le_from (negsuc 2147483647) v low) (le_from v (pos 2147483647) high)
-
 pub tile_below : (a count number : ℕ) → 0 < a → number < count * a → number / a < count
 tile_below a count number some small = grind (arith, rows)
 

@@ -3,8 +3,9 @@ use Rattle.flow_d8.proofs.Prelude.{AreLaid, Corner, Dir, Holds, IsBack, IsIndexO
 use Rattle.std.proofs.Math.Seq.{drop-cons}
 use Rattle.std.proofs.lemmas.List.{length-drop}
 use Rattle.flow_d8.specs.Filled.{is_holder, is_held, number_of}
-use Rattle.flow_d8.proofs.Samples.Numbers.{number-here, number-later, number-none, number_past, holds_holder, holder_holds, seat_of, held_fits, point_at_number}
-use Rattle.flow_d8.proofs.Steps.StepBack.{step_back}
+use Rattle.water.proofs.Fitting.{held_fits}
+use Rattle.flow_d8.proofs.Samples.Numbers.{number-here, number-later, number-none, number_past, holds_holder, holder_holds, seat_of, point_at_number}
+use Rattle.water.proofs.StepBack.{step_back}
 use Rattle.flow_d8.specs.Tiles.{Tiles, AreTiles, count_of, no_corner, place_of, by_of, IsFirst}
 
 module _ (n : ℕ) (side : 3 ≤ n) (corners : List Corner) (p : Point) (i : ℕ) (passed : number_of n corners p ≡ i * (n * n) + number_of n (drop i corners) p) where

@@ -5,7 +5,7 @@ use Rattle.flow_d8.specs.Prelude.{Point, Dir, East, step, order_of, fits_point, 
 use Rattle.lattice.proofs.Lawful.{five_parts, five_from, terrain_is_lawful}
 use Rattle.water.proofs.Compass.{dir_at, order_of-dir_at}
 use Rattle.flow_d8.proofs.Steps.Surfaces.{step_near, step_other}
-use Rattle.flow_d8.proofs.Mosaics.Fitting.{ground_fits}
+use Rattle.water.proofs.Fitting.{ground_fits}
 use Rattle.flow_d8.proofs.Mosaics.FilledOf.{ground_not_void, above_void}
 use Rattle.water.proofs.MosaicGrid.{mosaic_is_grid}
 use Rattle.water.proofs.MosaicGrid.{level_ground}

@@ -2,7 +2,8 @@
 use Rattle.std.proofs.Common.{rules}
 use Rattle.flow_d8.proofs.Prelude.{Corner, Dir, IsIndexOf, IsTrue, Point, ℕ, ℤ, and_from, arith, east_of, fits_number, fits_point, get_or, index_of_point, int_le, ints, largest_side, le_from, length, negsuc, north_of, point_of, pos, step, ◌%◌, ◌*◌, ◌+ℤ◌, ◌-◌, ◌/◌, ◌<◌, ◌≤ℤ◌, ◌≤◌}
 use Rattle.flow_d8.proofs.Samples.Beside.{near}
-use Rattle.flow_d8.proofs.Samples.Numbers.{corner_near, tile_below}
+use Rattle.water.proofs.Fitting.{corner_near}
+use Rattle.flow_d8.proofs.Samples.Numbers.{tile_below}
 use Rattle.flow_d8.specs.Tiles.{Tiles, AreTiles, count_of, no_corner, place_of}
 use Rattle.flow_d8.proofs.Samples.TilePlaces.{square_some}
 

@@ -1,8 +1,8 @@
 use Rattle.std.proofs.Common.{Option, sym, ◌∙◌, subst}
 use Rattle.drainage.proofs.Prelude.{Dir, flow_direction, mosaic_is_grid, terrain}
 use Rattle.water.specs.Drainage.{IsDirection}
-use Rattle.flow_d8.proofs.Mosaics.Fitting.{ground_fits}
-use Rattle.flow_d8.proofs.Paths.Following.{next_is}
+use Rattle.water.proofs.Fitting.{ground_fits}
+use Rattle.water.proofs.Following.{next_is}
 use Rattle.drainage.proofs.flow_paths.next_point.Goals as goal
 
 pub returns-in_default-clause-next : goal.returns-in_default-clause-next

@@ -1,7 +1,7 @@
 use Rattle.std.proofs.Common.{◌≡◌, ◌⊎◌, ◌≤◌, ◌*◌, ℕ, inl, inr, ⊎_elim, arith, ap₂, IsTrue, Ok, Option, List, [], length, sym, ap, ◌∙◌, subst}
 use Rattle.drainage.proofs.Prelude.{Contains, Corner, Mosaic, OnLevels, Point, corners_of, is_ground, mosaic_is_grid, most_tiles, reads_nothing, reads_on, terrain}
-use Rattle.flow_d8.specs.FlowSteps.{IsNext, IsFollowed}
-use Rattle.flow_d8.proofs.Paths.Following.{followed_first, followed_more, followed_end}
+use Rattle.water.specs.FlowSteps.{IsNext, IsFollowed}
+use Rattle.water.proofs.Following.{followed_first, followed_more, followed_end}
 use Rattle.flow_d8.proofs.Paths.OnePath.{goes_on}
 use Rattle.flow_d8.specs.PresentTiles.{sample_count}
 use Rattle.drainage.proofs.Questions.LevelFunctions.{level_function}

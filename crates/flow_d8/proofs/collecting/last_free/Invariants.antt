@@ -1,5 +1,5 @@
 use Rattle.flow_d8.proofs.Prelude.{IsOfFlat, ℕ, mark_at, slice_index_or, ◌+◌, ◌<◌, ◌≡◌, ◌≤◌}
-use Rattle.flow_d8.specs.declared.flow.Flow.TheVariants.{Unknown}
+use Rattle.water.specs.declared.flow.Flow.TheVariants.{Unknown}
 use Rattle.flow_d8.proofs.collecting.last_free.Given as goal
 
 abbrev pub invariant-loop-on : goal.invariant-loop-on

@@ -1,6 +1,6 @@
 use Rattle.flow_d8.proofs.Prelude.{IsFlow, arith, count_of, get_or, inl, inr, length, subst, sym, ◌<◌, ◌∙◌}
 use Rattle.flow_d8.specs.Filled.{number_of}
-use Rattle.flow_d8.specs.declared.flow.Flow.TheVariants.{Unknown}
+use Rattle.water.specs.declared.flow.Flow.TheVariants.{Unknown}
 use Rattle.flow_d8.specs.Resolution.{IsOutcome, IsMetOnGround}
 use Rattle.flow_d8.proofs.Samples.AtHand.{at_hand_below, sample_at_hand}
 use Rattle.flow_d8.proofs.Sayings.Draining.{drains_at, resolved_sample, known_still}

@@ -1,5 +1,5 @@
 use Rattle.flow_d8.proofs.Prelude.{IsInner, arith, get_or-set_same, length, mul-add-lt, refl, slice_set, subst, sym, ◌*◌, ◌+◌, ◌<◌}
-use Rattle.flow_d8.specs.declared.flow.Flow.TheVariants.{Unknown}
+use Rattle.water.specs.declared.flow.Flow.TheVariants.{Unknown}
 use Rattle.flow_d8.specs.Preparing.{flow_in, IsClosedFlow, IsFlowWithout}
 use Rattle.flow_d8.proofs.Padded.PaddedPlaces.{inner_at}
 use Rattle.flow_d8.proofs.preparing.close_unless.Goals as goal

@@ -1,5 +1,5 @@
 use Rattle.flow_d8.proofs.Prelude.{IsOfFlat, IsSinkPlace, ap, cases_eq, flow_in, get_or-set_other, get_or-set_same, inl, inr, length, length-set, refl, slice_set, subst, sym, true≢false, ◌<◌, ◌∙◌, ◌≡◌}
-use Rattle.flow_d8.specs.declared.flow.Flow.TheVariants.{Unknown, Outlet, Flat}
+use Rattle.water.specs.declared.flow.Flow.TheVariants.{Unknown, Outlet, Flat}
 use Rattle.flow_d8.proofs.Padded.PaddedPlaces.{sink_below}
 use Rattle.flow_d8.proofs.preparing.drain.Goals as goal
 

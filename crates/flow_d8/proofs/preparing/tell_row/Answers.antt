@@ -1,5 +1,5 @@
 use Rattle.flow_d8.proofs.Prelude.{IsEnded, IsInner, [], ap, ap₂, arith, cases_lt, div-mul-add, flow_in, get_or-append-add, get_or_append_left, inl, inr, length, length-append, mod-mul-add, place_in, subst, sym, ◌%◌, ◌*◌, ◌++◌, ◌+◌, ◌/◌, ◌<◌, ◌∙◌, ◌∷◌, ◌≡◌}
-use Rattle.flow_d8.specs.declared.flow.Flow.TheVariants.{Unknown}
+use Rattle.water.specs.declared.flow.Flow.TheVariants.{Unknown}
 use Rattle.flow_d8.proofs.Padded.PaddedPlaces.{inner_at}
 use Rattle.flow_d8.proofs.preparing.tell_row.Goals as goal
 

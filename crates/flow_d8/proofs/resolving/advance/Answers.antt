@@ -1,7 +1,7 @@
 use Rattle.flow_d8.proofs.Prelude.{arith, back_of, cases_eq, get_or, inl, inr, mark_at, order_of, subst, sym, ◌<◌, ◌≡◌}
 use Rattle.flow_d8.specs.Tiles.{by_of}
 use Rattle.water.proofs.Compass.{dir_at_place, order_at, order_below}
-use Rattle.flow_d8.proofs.Steps.StepBack.{back_twice}
+use Rattle.water.proofs.StepBack.{back_twice}
 use Rattle.flow_d8.proofs.Waves.Advancing.{advances_on}
 use Rattle.flow_d8.proofs.Waves.Marking.{reaches_two}
 use Rattle.flow_d8.proofs.resolving.advance.Goals as goal

@@ -1,5 +1,5 @@
 use Rattle.flow_d8.proofs.Prelude.{AreLaid, AreMarked, CrossesFlat, IsMember, IsTold, LiesInside, ℕ, arith, length, slice_index_or, subst, sym}
-use Rattle.flow_d8.specs.declared.flow.Flow.TheVariants.{Unknown}
+use Rattle.water.specs.declared.flow.Flow.TheVariants.{Unknown}
 use Rattle.flow_d8.specs.Tiles.{place_of, by_of}
 use Rattle.flow_d8.proofs.Waves.Beginning.{marked, seed_member, connected, was_member}
 use Rattle.flow_d8.proofs.Sayings.Said.{inside_of, told_inside, named_told, told_is}

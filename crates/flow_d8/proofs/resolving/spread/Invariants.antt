@@ -1,5 +1,5 @@
 use Rattle.flow_d8.proofs.Prelude.{ℕ, length, mark_at, slice_index_or, sum, ◌+◌, ◌≡◌}
-use Rattle.flow_d8.specs.declared.flow.Flow.TheVariants.{Unknown}
+use Rattle.water.specs.declared.flow.Flow.TheVariants.{Unknown}
 use Rattle.flow_d8.specs.Rounds.{IsRound, AreWavesOf, OnTerrains, Tells}
 use Rattle.flow_d8.specs.Tiles.{by_of}
 use Rattle.flow_d8.proofs.resolving.spread.Given as goal

@@ -1,5 +1,5 @@
 use Rattle.flow_d8.proofs.Prelude.{IsBeside, arith, cases_eq, inl, inr, mark_at, slice_index_or, subst, sym, ◌≡◌}
-use Rattle.flow_d8.specs.declared.flow.Flow.TheVariants.{Unknown}
+use Rattle.water.specs.declared.flow.Flow.TheVariants.{Unknown}
 use Rattle.flow_d8.proofs.Waves.Starting.{begins_on, zero_on}
 use Rattle.flow_d8.proofs.spreading.begin_run.Goals as goal
 

@@ -1,5 +1,5 @@
 use Rattle.flow_d8.proofs.Prelude.{Begins, IsBeside, IsIn, ℕ, mark_at, slice_index_or, ◌<◌, ◌≡◌}
-use Rattle.flow_d8.specs.declared.flow.Flow.TheVariants.{Unknown}
+use Rattle.water.specs.declared.flow.Flow.TheVariants.{Unknown}
 use Rattle.flow_d8.proofs.spreading.begin_run.Given as goal
 
 abbrev pub invariant-loop-k : goal.invariant-loop-k

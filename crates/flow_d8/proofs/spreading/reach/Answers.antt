@@ -1,6 +1,6 @@
 use Rattle.flow_d8.proofs.Prelude.{FlatTo, Reaches, ap, arith, back_of, cases_eq, get_or, get_or-set_same, inl, inr, mark_at, refl, set, subst, sym, ◌∙◌, ◌≡◌}
 use Rattle.flow_d8.specs.Tiles.{by_of}
-use Rattle.flow_d8.proofs.Steps.StepBack.{back_twice}
+use Rattle.water.proofs.StepBack.{back_twice}
 use Rattle.flow_d8.proofs.Waves.Listing.{IsLonger, longer_of}
 use Rattle.flow_d8.proofs.Waves.Marking.{reaches_one, reaches_on, reaches_two, in_range}
 use Rattle.flow_d8.proofs.spreading.reach.Goals as goal

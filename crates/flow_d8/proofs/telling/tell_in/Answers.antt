@@ -1,5 +1,5 @@
 use Rattle.flow_d8.proofs.Prelude.{IsFlow, cases_eq, inl, inr, slice_index_or, subst, sym, ⊎_elim}
-use Rattle.flow_d8.specs.declared.flow.Flow.TheVariants.{Unknown}
+use Rattle.water.specs.declared.flow.Flow.TheVariants.{Unknown}
 use Rattle.flow_d8.specs.Tiles.{place_of}
 use Rattle.flow_d8.proofs.Samples.TwinFlows.{decide_flat}
 use Rattle.flow_d8.proofs.telling.tell_in.Goals as goal

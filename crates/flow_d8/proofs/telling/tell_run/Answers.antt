@@ -1,5 +1,5 @@
 use Rattle.flow_d8.proofs.Prelude.{IsFlow, IsTold, arith, is_deep, slice_index_or, subst, sym, true, true≢false, ⊎_elim, ◌%◌, ◌*◌, ◌<◌, ◌∙◌, ◌≡◌}
-use Rattle.flow_d8.specs.declared.flow.Flow.TheVariants.{Unknown}
+use Rattle.water.specs.declared.flow.Flow.TheVariants.{Unknown}
 use Rattle.flow_d8.specs.Tiles.{place_of, count_of, IsSampleOf}
 use Rattle.flow_d8.proofs.Samples.DeepSteps.{deep_alone}
 use Rattle.flow_d8.proofs.telling.tell_run.Goals as goal

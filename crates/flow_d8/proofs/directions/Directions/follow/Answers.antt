@@ -2,7 +2,7 @@ use Rattle.std.proofs.Common.{Vec, Global, List, [], ◌∷◌, ◌-◌, inl, in
 use Rattle.std.proofs.lemmas.Result.{err_from_is_err_and}
 use Rattle.flow_d8.specs.Prelude.{Point, Refusal, NoMemory, Damaged, terrain}
 use Rattle.flow_d8.specs.Directions.{AreOfNoMosaic, IsChain}
-use Rattle.flow_d8.specs.FlowSteps.{IsFollowed}
+use Rattle.water.specs.FlowSteps.{IsFollowed}
 use Rattle.flow_d8.proofs.Paths.Chains.{chain_longer, chain_once, ends_with}
 use Rattle.flow_d8.proofs.Paths.OnePath.{goes_on_in}
 use Rattle.flow_d8.proofs.Paths.Tracing.{follow_more, follow_end, ground_held, told_ground}

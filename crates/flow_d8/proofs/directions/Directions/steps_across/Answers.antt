@@ -1,5 +1,5 @@
 use Rattle.flow_d8.proofs.Prelude.{arith, count_of, refl, sym, ◌<◌, ◌∙◌, ◌≤◌}
-use Rattle.flow_d8.specs.declared.flow.Flow.TheVariants.{Unknown, NoGround, Outlet, To, Beside, Flat}
+use Rattle.water.specs.declared.flow.Flow.TheVariants.{Unknown, NoGround, Outlet, To, Beside, Flat}
 use Rattle.flow_d8.specs.Directions.{walk}
 use Rattle.flow_d8.proofs.Paths.Crossing.{ends_here, ends_nowhere, walks_on, walked_all}
 use Rattle.flow_d8.proofs.directions.Directions.steps_across.Goals as goal

@@ -4,7 +4,7 @@ use denote.Enum.Declared.{tag_of}
 use Rattle.lattice.specs.contracts.direction.Dir.{the_type}
 use Rattle.flow_d8.specs.FlowBytes.{byte_of, byte_of_flow_at}
 use Rattle.water.proofs.Compass.{same_order}
-use Rattle.flow_d8.proofs.Steps.StepBack.{back_twice}
+use Rattle.water.proofs.StepBack.{back_twice}
 use Rattle.flow_d8.proofs.flow_byte.FlowByte.leads_back.Goals as goal
 
 tag_is : (d : Dir) → tag_of the_type d ≡ order_of d

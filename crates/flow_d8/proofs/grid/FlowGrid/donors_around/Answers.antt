@@ -3,8 +3,8 @@ use Rattle.std.specs.Prelude.{IfSome}
 use Rattle.lattice.specs.Ground.{terrain}
 use Rattle.lattice.specs.Mosaic.{Mosaic}
 use Rattle.lattice.specs.declared.point.Point.{Point}
-use Rattle.flow_d8.specs.Donors.{AreToldBy, DrainsBack}
-use Rattle.flow_d8.specs.declared.flow.Flow.{Flow}
+use Rattle.water.specs.Donors.{AreToldBy, DrainsBack}
+use Rattle.water.specs.declared.flow.Flow.{Flow}
 use Rattle.flow_d8.specs.Tiles.{place_of}
 use Rattle.flow_d8.proofs.grid.FlowGrid.donors_around.Goals as goal
 

@@ -1,5 +1,5 @@
 use Rattle.flow_d8.proofs.Prelude.{AreCrossed, IsTellingAll, Tiles, arith, cases_lt, get_or, inl, inr, subst, sym, ◌∙◌, ◌≡◌}
-use Rattle.flow_d8.specs.declared.flow.Flow.TheVariants.{Unknown}
+use Rattle.water.specs.declared.flow.Flow.TheVariants.{Unknown}
 use Rattle.flow_d8.proofs.Sayings.Told.{telling_still}
 use Rattle.flow_d8.proofs.grid.FlowGrid.resolve_all.Goals as goal
 

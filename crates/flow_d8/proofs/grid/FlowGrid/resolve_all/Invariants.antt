@@ -1,5 +1,5 @@
 use Rattle.flow_d8.proofs.Prelude.{AreFlows, IsTellingAll, ℕ, get_or, length, ◌<◌, ◌≡◌}
-use Rattle.flow_d8.specs.declared.flow.Flow.TheVariants.{Unknown}
+use Rattle.water.specs.declared.flow.Flow.TheVariants.{Unknown}
 use Rattle.flow_d8.specs.Tiles.{OnGround, place_of}
 use Rattle.flow_d8.proofs.grid.FlowGrid.resolve_all.Given as goal
 

@@ -5,10 +5,10 @@ ghost use Rattle.lattice.specs.declared.refusal.Refusal.{Refusal};
 ghost use Rattle.lattice.specs.declared.refusal.Refusal.TheVariants.{NoMemory};
 ghost use Rattle.lattice.specs.Ground.{terrain};
 ghost use Rattle.lattice.specs.Mosaic.{Mosaic, IsMosaic};
-ghost use Rattle.flow_d8.specs.Donors.{AreToldBy, DrainsBack};
-ghost use Rattle.watershed.specs.FlowSource.{IsToldOf};
+ghost use Rattle.water.specs.Donors.{AreToldBy, DrainsBack};
+ghost use Rattle.water.specs.FlowSource.{IsToldOf};
 
-use flow_d8::Flow;
+use crate::flow::Flow;
 use lattice::{Point, Refusal};
 use std::alloc::Global;
 

@@ -3,9 +3,9 @@ use Rattle.std.specs.Prelude.{◌≡◌, ◌↔◌, ℤ, IsTrue, IsFalse}
 use Rattle.lattice.specs.declared.point.Point.{Point}
 use Rattle.lattice.specs.Terrain.{Terrain}
 use Rattle.water.specs.Drainage.{IsDirection}
-use Rattle.flow_d8.specs.declared.flow.Flow.{Flow}
-use Rattle.flow_d8.specs.declared.flow.Flow.TheVariants.{NoGround}
-use Rattle.flow_d8.specs.Flows.{direction_of}
+use Rattle.water.specs.declared.flow.Flow.{Flow}
+use Rattle.water.specs.declared.flow.Flow.TheVariants.{NoGround}
+use Rattle.water.specs.Flows.{direction_of}
 
 -- the flow names the direction of a ground point, and says of every other that it is none
 pub record IsToldOf (t : Terrain Point) (level : Point → ℤ) (p : Point) (flow : Flow) : Type 0 where

@@ -6,17 +6,17 @@ ghost use Rattle.lattice.specs.Mosaic.{Mosaic, IsMosaic};
 ghost use Rattle.lattice.specs.declared.point.Point.{Point};
 ghost use Rattle.lattice.specs.declared.refusal.Refusal.TheVariants.{NoMemory};
 ghost use Rattle.flow_d8.specs.Directions.{AreDirectionsOf};
-ghost use Rattle.watershed.specs.FlowSource.{IsToldOf};
+ghost use Rattle.water.specs.FlowSource.{IsToldOf};
 
-use crate::flow_source::FlowSource;
-use flow_d8::{Directions, Flow};
+use crate::directions::Directions;
 use lattice::{Point, Refusal};
 use std::alloc::Global;
+use water::{Flow, FlowSource};
 
 /// Directions of all points.
 #[derive(Drop)]
-pub(crate) struct DirectionGrid<'a> {
-    pub(crate) directions: &'a Directions,
+pub struct DirectionGrid<'a> {
+    pub directions: &'a Directions,
 }
 
 impl<'a> FlowSource for DirectionGrid<'a> {

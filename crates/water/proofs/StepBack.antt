@@ -1,5 +1,11 @@
 -- A step and the step back.
-use Rattle.flow_d8.proofs.Prelude.{Dir, East, Point, ℤ, ap₂, arith, back_of, east_of, ints, north_of, pos, refl, step, ◌+ℤ◌, ◌≡◌}
+use Rattle.lattice.specs.declared.direction.Dir.{Dir}
+use Rattle.lattice.specs.declared.direction.Dir.TheVariants.{East}
+use Rattle.lattice.specs.declared.point.Point.{Point}
+use Rattle.std.proofs.Common.{ℤ, ap₂, arith, pos, refl, ◌+ℤ◌, ◌≡◌}
+use Rattle.water.specs.Flows.{back_of}
+use Rattle.lattice.specs.Steps.{east_of, north_of, step}
+use Rattle.std.proofs.lemmas.Int.{ints}
 
 there : (v a b : ℤ) → a +ℤ b ≡ pos 0 → ((v +ℤ a) +ℤ b) ≡ v
 there v a b zero_sum = omega (arith, ints)

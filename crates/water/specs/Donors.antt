@@ -1,9 +1,13 @@
 -- The points that drain straight to a point, by their directions from it.
 use Rattle.std.specs.Prelude.{◌≡◌, ◌↔◌, ◌<◌, ℕ, ℤ, Bool, false, IsTrue, Some, List, slice_index_or}
-use Rattle.flow_d8.specs.Prelude.{Point, Dir, step, order_of, Terrain, Flow}
+use Rattle.lattice.specs.declared.point.Point.{Point}
+use Rattle.lattice.specs.declared.direction.Dir.{Dir}
+use Rattle.lattice.specs.Steps.{step, order_of}
+use Rattle.lattice.specs.Terrain.{Terrain}
+use Rattle.water.specs.declared.flow.Flow.{Flow}
 use Rattle.water.specs.Drainage.{IsDirection}
-use Rattle.flow_d8.specs.Flows.{IsTellingAll, direction_of}
-use Rattle.flow_d8.specs.Places.{back_of}
+use Rattle.water.specs.Flows.{IsTellingAll, direction_of}
+use Rattle.water.specs.Flows.{back_of}
 
 -- x is ground that drains straight to y
 pub record IsDonor (t : Terrain Point) (level : Point → ℤ) (x y : Point) : Type 0 where

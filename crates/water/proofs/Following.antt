@@ -1,9 +1,17 @@
 -- One step of a flow path after another.
 use Rattle.std.proofs.Common.{ℤ, IsTrue, Option, Some, None, List, [], ◌∷◌, ◌++◌, refl, sym, ⊎_elim, subst, append_assoc, SomeIff}
 use Rattle.std.proofs.lemmas.List.{append-nil}
-use Rattle.flow_d8.proofs.Prelude.{Dir, IsDirection, IsFlowPath, IsGrid, IsLawful, Point, Terrain, fits_point, step, void}
+use Rattle.lattice.specs.declared.direction.Dir.{Dir}
+use Rattle.water.specs.Drainage.{IsDirection}
+use Rattle.water.specs.FlowPath.{IsFlowPath}
+use Rattle.water.specs.Grid.{IsGrid}
+use Rattle.lattice.specs.Terrain.{IsLawful, Terrain}
+use Rattle.lattice.specs.declared.point.Point.{Point}
+use Rattle.lattice.specs.Stepping.{fits_point}
+use Rattle.lattice.specs.Steps.{step}
+use Rattle.lattice.specs.Mosaic.{void}
 use Rattle.water.proofs.FlowPaths.{from_next}
-use Rattle.flow_d8.specs.FlowSteps.{IsNext, IsFollowed}
+use Rattle.water.specs.FlowSteps.{IsNext, IsFollowed}
 
 -- a step of a flow path is to ground
 pub drains_to_ground : (t : Terrain Point) → IsLawful t → (level : Point → ℤ) (p : Point) (d : Dir) → IsDirection t level p (Some d) → IsTrue (t.is_ground (step d p))

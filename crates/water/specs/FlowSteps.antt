@@ -1,6 +1,9 @@
 -- A flow path on its way.
 use Rattle.std.specs.Prelude.{◌≡◌, ℤ, ◌++◌, ◌∷◌, IsTrue, List, Option, Some, None, MatchOption}
-use Rattle.flow_d8.specs.Prelude.{Point, Dir, step, Terrain}
+use Rattle.lattice.specs.declared.point.Point.{Point}
+use Rattle.lattice.specs.declared.direction.Dir.{Dir}
+use Rattle.lattice.specs.Steps.{step}
+use Rattle.lattice.specs.Terrain.{Terrain}
 use Rattle.water.specs.Drainage.{IsDirection}
 use Rattle.water.specs.FlowPath.{IsFlowPath}
 
