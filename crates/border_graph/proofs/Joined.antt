@@ -9,10 +9,10 @@ use Rattle.lattice.proofs.Levels.{height-le_level, height-le_crest, level_is_uni
 use Rattle.lattice.proofs.Lawful.{terrain_is_lawful, block_is_lawful, five_parts}
 use Rattle.lattice.proofs.Samples.{index_of_point, holds_is, point_of_index, index_of_below, index_of_point_is, point_of_held}
 use Rattle.lattice.proofs.FilledLevels.{filled_level_exists}
-use Rattle.tile_flood.specs.Spills.{Meets, IsSpill}
-use Rattle.tile_flood.proofs.Parts.{IsPart, path_onto, crest_onto, end_onto, end-le_crest, way_in_part}
-use Rattle.tile_flood.proofs.InMosaic.{block_is_part, ground_is, inner_outlet_is_outlet, adjacent_in_tile}
-use Rattle.tile_flood.proofs.Squares.{solid_height, solid_if, rim_is_exit}
+use Rattle.labelling.specs.Spills.{Meets, IsSpill}
+use Rattle.labelling.proofs.Parts.{IsPart, path_onto, crest_onto, end_onto, end-le_crest, way_in_part}
+use Rattle.labelling.proofs.InMosaic.{block_is_part, ground_is, inner_outlet_is_outlet, adjacent_in_tile}
+use Rattle.labelling.proofs.Squares.{solid_height, solid_if, rim_is_exit}
 use Rattle.border_graph.specs.Links.{IsLinkBelow}
 use Rattle.border_graph.proofs.Onward.{way_up}
 use Rattle.lattice.proofs.CornerOrder.{same_from}

@@ -1,7 +1,7 @@
 -- The levels of rim points that are found over the graph of a mosaic are the filled levels of its rims.
 use Rattle.std.proofs.Common.{rules}
 use Rattle.border_graph.proofs.Prelude.{AreOfMosaic, AreReordered, AreRimsAt, AreSummaries, IsCutOff, IsFalse, IsFilledLevel, IsGraphOf, IsJoinedLevel, IsLink, IsMosaic, IsPlacedLink, IsRimAt, IsRimNumberOf, IsThere, IsWayBelow, List, Mosaic, MosaicGraph, Node, Outlet, Rim, RimPoint, Summary, ℕ, ℤ, [], ap, arith, cases_lt, eq_or_not, get_or, get_or_past, height-le_level, inl, inr, int_max, is_ground, le-max_left, length, map, max-le, node_number, not_void, nowhere, point_of, refl, rim_number, rim_number_below, rim_point, slice_index_or, solid_if, subst, summary_at, sym, terrain, true≢false, void, ≤ℤ_antisym, ≤ℤ_same, ◌*◌, ◌-◌, ◌<◌, ◌∙◌, ◌∷◌, ◌≡◌, ◌≢◌, ◌≤ℤ◌, ◌≤◌}
-use Rattle.tile_flood.specs.Raising.{AreRimLevels}
+use Rattle.labelling.specs.Raising.{AreRimLevels}
 use Rattle.border_graph.specs.Joins.{IsSideOf, HaveNoSide, AreJoined, AreLevelled, LeadsNowhere}
 use Rattle.border_graph.proofs.Joined.{of, there_at, ground_at, solid_at, joined_is_filled, is_joined, are_in_order}
 use Rattle.border_graph.proofs.PlacedWays.{joined_over_links, to_placed}

@@ -8,7 +8,7 @@ pub use Rattle.border_graph.specs.Joining.{AreOfMosaic, AreSummaries, IsInnerLin
 pub use Rattle.border_graph.specs.Linking.{node_number}
 pub use Rattle.border_graph.specs.Links.{IsJoinedLevel, IsWayBelow}
 pub use Rattle.border_graph.specs.MosaicGraph.{AreReordered, AreRimsAt, IsCutOff, IsFound, IsGraphOf, IsLevelAt, IsRimAt, MosaicGraph, graph_of}
-pub use Rattle.border_graph.specs.Others.{AreApart, AddsOthers, AreTileEdges, IsToOther, corner_at}
+pub use Rattle.border_graph.specs.Others.{AddsOthers, AreApart, AreTileEdges, IsToOther, corner_at}
 pub use Rattle.border_graph.specs.Passes.{AreJoined, IsPass, SpanAll}
 pub use Rattle.border_graph.specs.Placed.{IsPlacedLink}
 pub use Rattle.border_graph.specs.Reduced.{ArePassesOf, IsCrossing, IsLabelOf, Suffice, spill_of}
@@ -23,6 +23,12 @@ pub use Rattle.border_graph.specs.declared.edge_source.Edge.{Edge}
 pub use Rattle.border_graph.specs.declared.frontier.Entry.{Entry}
 pub use Rattle.border_graph.specs.declared.pass.Pass.{Pass}
 pub use Rattle.border_graph.specs.declared.summary.RimPoint.{RimPoint}
+pub use Rattle.labelling.proofs.Heights.{lowest_height, rim_number_below}
+pub use Rattle.labelling.proofs.Passages.{not_void}
+pub use Rattle.labelling.proofs.Squares.{linked_parts, row_of_cell, solid_below, solid_if}
+pub use Rattle.labelling.specs.Blocks.{bare_block, block_of}
+pub use Rattle.labelling.specs.Labelling.{OUT}
+pub use Rattle.labelling.specs.declared.spill.Spill.{Spill}
 pub use Rattle.lattice.proofs.IntTests.{eq_or_not}
 pub use Rattle.lattice.proofs.Interior.{inner_only}
 pub use Rattle.lattice.proofs.Lawful.{block_is_lawful}
@@ -52,9 +58,3 @@ pub use Rattle.std.proofs.lemmas.Result.{err_from_is_err_and}
 pub use Rattle.std.specs.Int.{int_max}
 pub use Rattle.std.specs.List.{list_any}
 pub use Rattle.std.specs.Ordering.{int_cmp, is_lt, nat_cmp, ordering_then}
-pub use Rattle.tile_flood.proofs.Passages.{not_void}
-pub use Rattle.tile_flood.proofs.Raised.{lowest_height, rim_number_below}
-pub use Rattle.tile_flood.proofs.Squares.{linked_parts, row_of_cell, solid_below, solid_if}
-pub use Rattle.tile_flood.specs.Blocks.{bare_block, block_of}
-pub use Rattle.tile_flood.specs.Labelling.{OUT}
-pub use Rattle.tile_flood.specs.declared.passing.Spill.{Spill}

@@ -4,11 +4,11 @@ use Rattle.std.proofs.Common.{◌≡◌, ℕ, zero, suc, ◌+◌, ◌*◌, ◌/�
 use Rattle.border_graph.proofs.Prelude.{All-contains, Contains-append_right, Contains-get_or, Spill, bare_block, cases_Bool, cases_eq, cases_lt, int_max, ints, is_linked, linked_parts, solid_below, void, ≤ℤ_same}
 use Rattle.std.proofs.lemmas.List.Kept.{AllPairs-cons}
 use Rattle.lattice.proofs.IntTests.{le_true, le_false}
-use Rattle.tile_flood.specs.Spills.{HaveSameLabels, AreSpills}
-use Rattle.tile_flood.specs.Passing.{IsPassage, IsListed, ArePassages, IsFound}
-use Rattle.tile_flood.proofs.Squares.{in_square, linked_below, solid_height, test_if, row_of_cell, column_of_cell}
-use Rattle.tile_flood.proofs.Held.{apart_if}
-use Rattle.tile_flood.proofs.Passages.{listed_last, passages_more, found_still, found_now, spills_are}
+use Rattle.labelling.specs.Spills.{HaveSameLabels, AreSpills}
+use Rattle.labelling.specs.Passing.{IsPassage, IsListed, ArePassages, IsFound}
+use Rattle.labelling.proofs.Squares.{in_square, linked_below, solid_height, test_if, row_of_cell, column_of_cell}
+use Rattle.labelling.proofs.Squares.{apart_if}
+use Rattle.labelling.proofs.Passages.{listed_last, passages_more, found_still, found_now, spills_are}
 
 abbrev Once : List Spill → Type 0
 Once spills = AllPairs (λ p q. ¬ HaveSameLabels p q) spills

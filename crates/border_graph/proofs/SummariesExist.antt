@@ -7,9 +7,9 @@ use Rattle.lattice.specs.RimPoints.{rim_index}
 use Rattle.lattice.proofs.Existence.{level_exists}
 use Rattle.lattice.proofs.RimNumbers.{rim_index_of_number}
 use Rattle.lattice.proofs.SinkIndices.{block_from}
-use Rattle.tile_flood.specs.Labelling.{IsLabelling, IsLabelAt, NO_LABEL}
-use Rattle.tile_flood.proofs.Passages.{spills_of_ground}
-use Rattle.tile_flood.proofs.Squares.{leads}
+use Rattle.labelling.specs.Labelling.{IsLabelling, IsLabelAt, NO_LABEL}
+use Rattle.labelling.proofs.Passages.{spills_of_ground}
+use Rattle.labelling.proofs.Squares.{leads}
 use Rattle.border_graph.proofs.Tabulated.{tabulated, length-tabulated, at_number, among_numbers}
 use Rattle.border_graph.proofs.SpillsExist.{spills_exist}
 

@@ -1,7 +1,7 @@
 -- Ways out of a terrain of no more than a level.
 use Rattle.border_graph.proofs.Prelude.{IsFilledLevel, List, ℤ, end_of, int_max, max-le, subst, sym, ≤ℤ_antisym, ≤ℤ_same, ≤ℤ_trans, ◌≤ℤ◌}
 use Rattle.lattice.specs.Terrain.{Terrain, IsPath, crest, LeadsOut, IsLawful}
-use Rattle.tile_flood.proofs.Parts.{go_on, go_back}
+use Rattle.labelling.proofs.Parts.{go_on, go_back}
 
 module _ {P : Type 0} (t : Terrain P) where
   -- water leaves from the point at no more than the level

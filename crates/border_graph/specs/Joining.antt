@@ -7,13 +7,13 @@ use Rattle.lattice.specs.Lattice.{point_of}
 use Rattle.lattice.specs.Mosaic.{Mosaic, IsMosaic, void}
 use Rattle.lattice.specs.Ground.{is_ground, is_outlet}
 use Rattle.lattice.specs.Block.{IsBlockOf, is_rim, rim_number}
-use Rattle.tile_flood.specs.Blocks.{block_of}
-use Rattle.tile_flood.specs.Labelling.{IsLabelling, OUT, NO_LABEL}
-use Rattle.tile_flood.specs.Spills.{AreSpills}
+use Rattle.labelling.specs.Blocks.{block_of}
+use Rattle.labelling.specs.Labelling.{IsLabelling, OUT, NO_LABEL}
+use Rattle.labelling.specs.Spills.{AreSpills}
 use Rattle.border_graph.specs.declared.summary.RimPoint.{RimPoint}
 use Rattle.border_graph.specs.Summaries.{Summary}
 use Rattle.border_graph.specs.Reduced.{Suffice}
-use Rattle.tile_flood.specs.declared.passing.Spill.{Spill}
+use Rattle.labelling.specs.declared.spill.Spill.{Spill}
 
 -- a rim number that isn't there
 abbrev pub nowhere : RimPoint

@@ -2,7 +2,7 @@
 use Rattle.std.specs.Prelude.{◌≡◌, ◌≢◌, ◌⊎◌, ℕ, ◌-◌, ◌*◌, ◌<◌, ℤ, List, [], length, slice_index_or}
 use Rattle.lattice.specs.Limits.{IsSide}
 use Rattle.lattice.specs.Mosaic.{Mosaic, void}
-use Rattle.tile_flood.specs.Raising.{AreRimLevels}
+use Rattle.labelling.specs.Raising.{AreRimLevels}
 use Rattle.border_graph.specs.Summaries.{Summary}
 use Rattle.border_graph.specs.Links.{IsWayBelow}
 use Rattle.border_graph.specs.Joining.{Node, Outlet, Rim, summary_at, rim_point, IsThere, IsLink}

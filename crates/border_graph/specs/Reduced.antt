@@ -1,7 +1,7 @@
 -- Fewer spills of a tile, over which water gets as low (this product's own profile).
 use Rattle.std.specs.Prelude.{◌≡◌, ◌≢◌, ℕ, ◌+◌, ◌<◌, ◌⊎◌, ◌++◌, ◌∷◌, [], ℤ, List, Contains, nat_eq, if◌then◌else◌, slice_index_or}
-use Rattle.tile_flood.specs.declared.passing.Spill.{Spill}
-use Rattle.tile_flood.specs.Labelling.{OUT}
+use Rattle.labelling.specs.declared.spill.Spill.{Spill}
+use Rattle.labelling.specs.Labelling.{OUT}
 use Rattle.border_graph.specs.Links.{IsWayBelow}
 use Rattle.border_graph.specs.Passes.{AreInside}
 use Rattle.border_graph.specs.declared.pass.Pass.{Pass}

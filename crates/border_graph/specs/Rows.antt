@@ -1,6 +1,6 @@
 -- The spills of a tile, either way, by the labels that they lead from.
 use Rattle.std.specs.Prelude.{◌≢◌, ℕ, ◌<◌, ◌⊎◌, List, [], ◌∷◌, Contains}
-use Rattle.tile_flood.specs.declared.passing.Spill.{Spill}
+use Rattle.labelling.specs.declared.spill.Spill.{Spill}
 use Rattle.border_graph.specs.Summaries.{Summary}
 use Rattle.border_graph.specs.Joining.{IsThere, IsLabelLink}
 

@@ -1,7 +1,7 @@
 -- What callers see of a tile's summary.
 use Rattle.std.specs.Prelude.{List}
 use Rattle.lattice.specs.Corners.{Corner}
-use Rattle.tile_flood.specs.declared.passing.Spill.{Spill}
+use Rattle.labelling.specs.declared.spill.Spill.{Spill}
 use Rattle.border_graph.specs.declared.summary.RimPoint.{RimPoint}
 
 -- a tile's corner, the points of its rim by rim number, and the spills between its labels

@@ -2,7 +2,7 @@
 use Rattle.std.specs.Prelude.{◌≡◌, ℕ, ◌+◌, ◌<◌, ℤ, ◌⊎◌, List, [], ◌∷◌, Contains, slice_index_or}
 use Rattle.std.specs.List.Sorted.{IsNonDecreasingBy}
 use Rattle.lattice.specs.Limits.{IsSide}
-use Rattle.tile_flood.specs.declared.passing.Spill.{Spill}
+use Rattle.labelling.specs.declared.spill.Spill.{Spill}
 use Rattle.border_graph.specs.Summaries.{Summary}
 use Rattle.border_graph.specs.Joining.{Outlet, Rim, IsLink}
 use Rattle.border_graph.specs.Rows.{AreTurned}

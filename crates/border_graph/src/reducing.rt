@@ -8,9 +8,9 @@ ghost use Rattle.border_graph.specs.Reduced.{ArePassesOf, IsPassListed, IsLabelO
 use crate::forest::spanning_forest;
 use crate::pass::Pass;
 use crate::summary::Summary;
+use labelling::{OUT, Spill};
 use lattice::Refusal;
 use std::alloc::{AllocError, Global};
-use tile_flood::{OUT, Spill};
 
 /// The summary with no more spills than the tile has rim points: a least spanning forest of them, over which water gets from
 /// each label to the others and out as low as over all. NoMemory is the only refusal.

@@ -1,14 +1,14 @@
 //! The spills of a tile, either way, by the labels that they lead from.
 ghost use Rattle.std.specs.Prelude.{◌≡◌, ◌<◌, ◌*◌, ◌-◌, ◌↔◌, [], ◌∷◌, Contains, IfOk, OnOk, IfSome, IfNone};
 ghost use Rattle.std.specs.List.Sorted.{IsNonDecreasingBy};
-ghost use Rattle.tile_flood.specs.declared.passing.Spill.{Spill as SpillOf};
+ghost use Rattle.labelling.specs.declared.spill.Spill.{Spill as SpillOf};
 ghost use Rattle.border_graph.specs.Joining.{IsThere, rim_point};
 ghost use Rattle.border_graph.specs.Rows.{turned, AreTurned, AreLabelsTurned};
 
 use crate::summary::{RimPoint, Summary};
+use labelling::Spill;
 use lattice::{Side, VOID};
 use std::alloc::{AllocError, Global};
-use tile_flood::Spill;
 
 /// Those of the spills that lead from this label, where they are in the order of their first labels.
 pub(crate) fn row(spills: &[Spill], label: u16) -> &[Spill]

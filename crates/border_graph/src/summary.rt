@@ -1,10 +1,10 @@
 //! What the tiles around need to know of a tile.
 ghost use Rattle.std.specs.Prelude.{◌≡◌, IfOk};
 
+use labelling::Spill;
 use lattice::Corner;
 use std::alloc::AllocError;
 use std::marker::Model;
-use tile_flood::Spill;
 
 /// A point on the rim of a block: its height in metres, -32768 where it is void, its label, and whether it is an outlet
 /// of the mosaic.
@@ -33,7 +33,7 @@ impl Model for Summary {
 
 impl Summary {
     ghost use Rattle.std.specs.List.Sorted.{IsNonDecreasingBy};
-    ghost use Rattle.tile_flood.specs.declared.passing.Spill.{Spill as SpillOf};
+    ghost use Rattle.labelling.specs.declared.spill.Spill.{Spill as SpillOf};
     ghost use Rattle.border_graph.specs.Reordered.{IsReordered};
 
     /// What the tile at this corner tells: its rim points, by number, and the spills between its labels.

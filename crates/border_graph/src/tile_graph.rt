@@ -1,7 +1,7 @@
 //! The edges inside one tile.
 ghost use Rattle.std.specs.Prelude.{◌≡◌, ◌+◌, ◌-◌, ◌*◌, ◌^◌, ◌<◌, [], ◌∷◌, IfOk, IfErr, OnOk, IsTrue, IsFalse, length};
 ghost use Rattle.lattice.specs.declared.refusal.Refusal.TheVariants.{NoMemory};
-ghost use Rattle.tile_flood.specs.Labelling.{OUT as OUT_LABEL};
+ghost use Rattle.labelling.specs.Labelling.{OUT as OUT_LABEL};
 ghost use Rattle.border_graph.specs.Joining.{IsThere, rim_point};
 ghost use Rattle.border_graph.specs.Reordered.{IsReordered};
 ghost use Rattle.border_graph.specs.TileGraph.{out_at, across, AreListed, AreEdgesOut, AreEdgesAcross};
@@ -9,10 +9,10 @@ ghost use Rattle.border_graph.specs.TileGraph.{out_at, across, AreListed, AreEdg
 use crate::Edge;
 use crate::rows::{ground_rim_point, row, turned_spills};
 use crate::summary::{RimPoint, Summary};
+use labelling::{OUT, Spill};
 use lattice::{Refusal, Side, VOID};
 use std::alloc::{AllocError, Global};
 use std::marker::Model;
-use tile_flood::{OUT, Spill};
 
 /// A tile's summary, with the edges between the points of its rim, and from them to the outlet node: what leads from a
 /// label stands together, and beside the summary at most six bytes are held for each spill and each rim point that isn't

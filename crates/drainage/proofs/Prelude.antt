@@ -64,6 +64,13 @@ pub use Rattle.flow_d8.specs.Padded.{ArePadded, padded_point}
 pub use Rattle.flow_d8.specs.Preparing.{place_in}
 pub use Rattle.flow_d8.specs.Tiles.{AreDistinct, OnGround, Tiles, no_corner}
 pub use Rattle.flow_d8.specs.declared.grid.FlowGrid.{FlowGrid}
+pub use Rattle.labelling.proofs.Heights.{rim_number_below}
+pub use Rattle.labelling.proofs.Squares.{solid_if}
+pub use Rattle.labelling.specs.Blocks.{LabelledGround, bare_block, block_of}
+pub use Rattle.labelling.specs.Labelling.{IsLabelling, NO_LABEL, OUT}
+pub use Rattle.labelling.specs.Raising.{AreRimLevels}
+pub use Rattle.labelling.specs.Spills.{AreSpills}
+pub use Rattle.labelling.specs.declared.spill.Spill.{Spill}
 pub use Rattle.lattice.proofs.IntTests.{le_from, le_or_above, le_true}
 pub use Rattle.lattice.proofs.Lawful.{block_is_lawful, terrain_is_lawful}
 pub use Rattle.lattice.proofs.Levels.{level_is_unique}
@@ -104,13 +111,6 @@ pub use Rattle.std.specs.Int.{int_max, int_min}
 pub use Rattle.std.specs.List.{filter, list_any}
 pub use Rattle.std.specs.Ordering.{int_eq}
 pub use Rattle.std.specs.Prelude.{All, Contains, IfErr, IfNone, IfOk, IfSome, IsFalse, MatchOption, None, OnOk, Option, Some, count_by, if◌then◌else◌, insert, int_lt, is_ok, nat_lt, remove, slice_index, slice_index_or, slice_set, sum_by, ◌↔◌}
-pub use Rattle.tile_flood.proofs.Raised.{rim_number_below}
-pub use Rattle.tile_flood.proofs.Squares.{solid_if}
-pub use Rattle.tile_flood.specs.Blocks.{LabelledGround, bare_block, block_of}
-pub use Rattle.tile_flood.specs.Labelling.{IsLabelling, NO_LABEL, OUT}
-pub use Rattle.tile_flood.specs.Raising.{AreRimLevels}
-pub use Rattle.tile_flood.specs.Spills.{AreSpills}
-pub use Rattle.tile_flood.specs.declared.passing.Spill.{Spill}
 pub use Rattle.tile_labellings.specs.Labellings.{IsFlooded}
 pub use Rattle.tile_labellings.specs.TileLabellings.{IsBelow, IsCurrent, IsSetFrom, IsTileLabelling, can_note, labelled_of}
 pub use Rattle.tile_labellings.specs.declared.tile_labelling.TileLabelling.{TileLabelling}

@@ -4,7 +4,7 @@ use Rattle.lattice.specs.Corners.{Corner}
 use Rattle.lattice.specs.Mosaic.{Mosaic}
 use Rattle.lattice.specs.declared.point.Point.{Point}
 use Rattle.catalogue.specs.declared.samples.Samples.{Ghosts}
-use Rattle.tile_flood.specs.Blocks.{LabelledGround}
+use Rattle.labelling.specs.Blocks.{LabelledGround}
 use Rattle.edits.specs.declared.edit.NewHeight.{NewHeight}
 use Rattle.drainage.specs.FlowCaches.{are_spared, flow_bytes, flow_cache_right, past_right, IsCacheOf, IsPastTaken}
 use Rattle.drainage.specs.declared.flow_cache.FlowCache.{FlowCache}

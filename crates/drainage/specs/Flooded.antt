@@ -7,7 +7,7 @@ use Rattle.lattice.specs.Lattice.{Holds, point_of}
 use Rattle.lattice.specs.Mosaic.{Mosaic, void}
 use Rattle.lattice.specs.Ground.{is_ground, is_outlet, metres}
 use Rattle.lattice.specs.Height.{height_of}
-use Rattle.tile_flood.specs.Blocks.{LabelledGround}
+use Rattle.labelling.specs.Blocks.{LabelledGround}
 use Rattle.tile_labellings.specs.Labellings.{IsFlooded}
 use Rattle.border_graph.specs.declared.summary.RimPoint.{RimPoint}
 use Rattle.border_graph.specs.Joining.{nowhere}

@@ -14,7 +14,7 @@ use Rattle.border_graph.specs.Joining.{Rim}
 use Rattle.border_graph.specs.Links.{IsJoinedLevel}
 use Rattle.border_graph.specs.Linking.{node_number}
 use Rattle.border_graph.specs.Summaries.{Summary}
-use Rattle.tile_flood.specs.Blocks.{LabelledGround}
+use Rattle.labelling.specs.Blocks.{LabelledGround}
 use Rattle.tile_labellings.specs.TileLabellings.{labelled_of, IsCurrent, IsTileLabelling}
 use Rattle.tile_labellings.specs.declared.tile_labelling.TileLabelling.{TileLabelling}
 use Rattle.lattice.specs.Corners.{Corner}

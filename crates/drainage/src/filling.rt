@@ -22,9 +22,10 @@ use crate::drainage_cache::DrainageCache;
 use crate::heights::is_height;
 use crate::tile_cache::TileCache;
 use border_graph::{lowest_pass, node_at};
+use labelling::{NO_LABEL, OUT};
 use lattice::{Corner, Point, Refusal, Side, VOID, index_in};
 use std::alloc::Global;
-use tile_flood::{Labelled, NO_LABEL, OUT};
+use tile_flood::Labelled;
 use tile_labellings::Labellings;
 
 /// The filled level of the point, in metres: the least, over all paths to an outlet, of the greatest height on the path.

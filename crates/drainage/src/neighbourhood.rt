@@ -13,8 +13,9 @@ use crate::filling::label_in;
 use crate::tile_cache::TileCache;
 use border_graph::node_at;
 use flow_d8::Near;
+use labelling::{NO_LABEL, OUT};
 use lattice::{Corner, DIRECTIONS, Dir, Point, index_in, neighbour};
-use tile_flood::{Labelled, NO_LABEL, OUT};
+use tile_flood::Labelled;
 
 /// The filled level of a ground point and those of the points around it, where they all lie in one tile whose labelling is
 /// held, which marks none as a void, and the levels of the rim points that their labels name are known. So it is of nearly

@@ -9,8 +9,9 @@ ghost use Rattle.drainage.specs.GroundCache.{AreRemembered};
 
 use crate::ground_cache::GroundCache;
 use catalogue::{Samples, is_ground, is_sink, tile_of_both};
+use labelling::NO_LABEL;
 use lattice::{Corner, Point, Refusal, index_in, steps};
-use tile_flood::{Labelled, NO_LABEL};
+use tile_flood::Labelled;
 
 /// A tile with its labelling.
 #[derive(Drop)]

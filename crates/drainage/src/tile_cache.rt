@@ -3,7 +3,7 @@ ghost use Rattle.std.specs.Prelude.{◌≡◌, ◌≢◌, ◌-◌, ◌*◌, ◌<
 ghost use Rattle.catalogue.specs.Asked.{Asked};
 ghost use Rattle.catalogue.specs.Endings.{ends_any};
 ghost use Rattle.catalogue.specs.Readers.{OnlyReads};
-ghost use Rattle.tile_flood.specs.Blocks.{LabelledGround};
+ghost use Rattle.labelling.specs.Blocks.{LabelledGround};
 ghost use Rattle.tile_labellings.specs.Labellings.{IsFlooded};
 ghost use Rattle.tile_labellings.specs.Spots.{IsLabelledAt};
 ghost use Rattle.lattice.specs.Height.{height_of};

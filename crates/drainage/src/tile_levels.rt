@@ -5,7 +5,7 @@ ghost use Rattle.lattice.specs.declared.refusal.Refusal.TheVariants.{NoMemory};
 ghost use Rattle.catalogue.specs.Asked.{Asked};
 ghost use Rattle.catalogue.specs.Endings.{ends_any};
 ghost use Rattle.border_graph.specs.Others.{corner_at};
-ghost use Rattle.tile_flood.specs.Raising.{AreRimLevels};
+ghost use Rattle.labelling.specs.Raising.{AreRimLevels};
 ghost use Rattle.water.specs.TileLevels.{AreTileLevels};
 ghost use Rattle.drainage.specs.Holding.{IsRight};
 ghost use Rattle.drainage.specs.TileCaches.{known_of};

@@ -49,6 +49,7 @@ pub use Rattle.engine.specs.declared.event.Event.{Event}
 pub use Rattle.engine.specs.declared.event.Reply.{Reply}
 pub use Rattle.engine.specs.declared.info.Info.{Info}
 pub use Rattle.hgt.specs.Bytes.{hgt_bytes, high_byte, low_byte, sample_of}
+pub use Rattle.labelling.specs.Labelling.{IsLabelling}
 pub use Rattle.lattice.proofs.CornerOrder.{before_not_same, same_from, same_says}
 pub use Rattle.lattice.proofs.IntTests.{le_true}
 pub use Rattle.lattice.proofs.Rising.{AllAfter, Rising}
@@ -110,7 +111,6 @@ pub use Rattle.store.specs.declared.rims.RimVoids.{RimVoids}
 pub use Rattle.store.specs.declared.store.Store.{Store}
 pub use Rattle.store.specs.declared.voids.Patch.{Patch}
 pub use Rattle.tile_flood.specs.Kept.{labels_in, levels_in}
-pub use Rattle.tile_flood.specs.Labelling.{IsLabelling}
 pub use Rattle.tile_labellings.specs.Labellings.{IsFlooded}
 pub use Rattle.tile_labellings.specs.Spots.{StandsAt}
 pub use Rattle.water.specs.Questions.{IsAnswered}

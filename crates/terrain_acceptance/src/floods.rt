@@ -1,10 +1,11 @@
 //! Levels, labels and spills of one block, by blocks worked by hand, row by row from the north.
 use arrayvec::ArrayVec;
+use labelling::{NO_LABEL, OUT, Spill};
 use lattice::{Refusal, Side, VOID};
 use std::alloc::Global;
 use std::test::Fail;
 use test_tiles::{A_SAMPLES, check_found, check_row};
-use tile_flood::{Block, Flood, Labelled, NO_LABEL, OUT, Spill, raise, spills};
+use tile_flood::{Block, Flood, Labelled, raise, spills};
 
 fn block(alloc: Global, side: u32, heights: &[i16], sinks: &[u32]) -> Result<Block, Refusal> {
     let side = Side::new(side).ok_or(Refusal::BadSide)?;

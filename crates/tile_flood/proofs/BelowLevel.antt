@@ -1,7 +1,7 @@
 -- A point whose height stays below its level changes no level and no label.
 use Rattle.tile_flood.proofs.Prelude.{AreCarried, AreRelaxed, Block, IsLabelling, IsMending, IsPath, IsTrue, LeadsOut, List, Names, ℕ, ℤ, [], arith, block_of, block_terrain, cases_eq, clamps, crest, end_of, get_or, get_or-set_other, get_or-set_same, inl, inr, int_max, ints, is_exit, is_solid, length, refl, set, slice_index, subst, sym, void, ≤ℤ_antisym, ≤ℤ_same, ◌<ℤ◌, ◌<◌, ◌∙◌, ◌∷◌, ◌≡◌, ◌≢◌, ◌≤ℤ◌}
 use Rattle.lattice.proofs.Multiples.{some_side}
-use Rattle.tile_flood.proofs.Squares.{linked_parts, solid_below}
+use Rattle.labelling.proofs.Squares.{linked_parts, solid_below}
 use Rattle.tile_flood.proofs.Dependence.{same_exit, same_inner, same_link, same_names, labelling_relaxed, relaxed_least, max_mono}
 use Rattle.tile_flood.proofs.Held.{not_below}
 use Rattle.tile_flood.proofs.Steps.{labelled_state, heights_state, mended}

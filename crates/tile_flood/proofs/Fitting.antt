@@ -2,7 +2,7 @@
 use Rattle.std.proofs.Common.{rules}
 use Rattle.std.proofs.Common.{◌≡◌, ◌≢◌, ℕ, ◌+◌, ◌-◌, ◌*◌, ◌<◌, ◌≤◌, ℤ, ◌⊎◌, false, IsTrue, List, Contains, get_or, slice_index, inl, inr, arith, sym, subst, ◌∙◌, true≢false, ap₂, nat_lt, int_eq, ◌&&◌}
 use Rattle.tile_flood.proofs.Prelude.{Decides-int_eq, IsOwnLabel, NO_LABEL, bare_block, block_is_lawful, block_of, cases_Bool, cases_lt, is_exit, is_marked, is_solid, void}
-use Rattle.tile_flood.proofs.Squares.{not_void_if, solid_if}
+use Rattle.labelling.proofs.Squares.{not_void_if, solid_if}
 use Rattle.tile_flood.specs.Restoring.{AreFitting, IsFitting, IsLeast, IsSettled}
 
 pub off_void : (v : ℤ) → v ≢ void → int_eq v void ≡ false

@@ -1,5 +1,6 @@
 -- Labels that are carried but for suspects, while a labelling is mended.
 use Rattle.tile_flood.proofs.Prelude.{AreRelaxed, IsCarriedBy, IsFalse, IsHeldBy, IsHeldUp, IsSeed, IsTrue, List, Names, ℕ, ℤ, [], ap, arith, block_is_lawful, block_of, cases_Bool, cases_eq, clamps, eqb-false, get_or, get_or-set_other, get_or-set_same, inl, inr, int_eq, int_max, ints, is_exit, is_linked, is_marked, is_solid, length, nat_eq, not, refl, set, slice_index, subst, sym, true≢false, void, ≤ℤ_antisym, ≤ℤ_same, ≤ℤ_trans, ◌<ℤ◌, ◌<◌, ◌∙◌, ◌∷◌, ◌≡◌, ◌≢◌, ◌≤ℤ◌, ◌⊎◌}
+use Rattle.labelling.proofs.Squares.{apart_if}
 use Rattle.tile_flood.proofs.Dependence.{same_exit, same_inner, same_link, same_names}
 
 -- y is on the way from e on
@@ -12,9 +13,6 @@ below_max h l m le = omega (arith, ints, clamps)
 
 pub first_below : (h l m : ℤ) → int_max h l ≤ℤ m → h ≤ℤ m
 first_below h l m le = omega (arith, ints, clamps)
-
-pub apart_if : (z y : ℕ) → IsTrue (not (nat_eq z y)) → z ≡ y → ⊥
-apart_if z y apart is = elim (cases_Bool (nat_eq z y)) [ inl is_so ↦ true≢false (sym apart ∙ ap not is_so) | inr isnt ↦ eqb-false z y isnt is ]
 
 pub not_below : (l m : ℤ) → l ≤ℤ m → m <ℤ l → ⊥
 not_below l m le lt = absurd (omega (arith, ints))

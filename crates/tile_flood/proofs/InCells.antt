@@ -6,8 +6,8 @@ use Rattle.lattice.specs.Limits.{IsSide}
 use Rattle.tile_flood.specs.Cells.{OPEN, IsFresh}
 use Rattle.tile_flood.proofs.Steps.{unmarked_void}
 use Rattle.tile_flood.proofs.Spreading.{spreader_solid}
-use Rattle.tile_flood.proofs.Squares.{not_void_if, test_if, solid_height, solid_below}
-use Rattle.tile_flood.proofs.Raised.{rim_number_below}
+use Rattle.labelling.proofs.Squares.{not_void_if, test_if, solid_height, solid_below}
+use Rattle.labelling.proofs.Heights.{rim_number_below}
 
 abbrev pub none : Cell
 none = record { level = pos 0; label = 0 }

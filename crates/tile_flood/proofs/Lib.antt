@@ -1,6 +1,5 @@
 mod Prelude
 pub mod Buckets
-pub mod Squares
 pub mod Spreading
 pub mod InCells
 pub mod Runs
@@ -17,7 +16,4 @@ pub mod Fitting
 pub mod Restored
 pub mod ListedChanges
 pub mod SameSpills
-pub mod Passages
-pub mod Parts
-pub mod InMosaic
 pub mod Raised

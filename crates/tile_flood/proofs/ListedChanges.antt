@@ -1,6 +1,6 @@
 -- What a mending changes is listed, with the label that it had.
 use Rattle.tile_flood.proofs.Prelude.{Affected, AreChangesListed, IsListed, IsTrue, List, StayListed, ℕ, ℤ, [], ap, arith, bare_block, cases_eq, cases_lt, false, get_or, get_or-append, get_or-append_seam, get_or-set_other, inl, inr, is_marked, is_solid, length, length-append, refl, set, slice_index, subst, sym, void, ◌*◌, ◌++◌, ◌+◌, ◌<◌, ◌∙◌, ◌∷◌, ◌≡◌, ◌≢◌}
-use Rattle.tile_flood.proofs.Squares.{not_void_if}
+use Rattle.labelling.proofs.Squares.{not_void_if}
 use Rattle.tile_flood.proofs.Steps.{unmarked_void}
 
 -- nothing has changed yet

@@ -1,7 +1,7 @@
 -- Runs of points of a row in which none can be an outlet.
 use Rattle.tile_flood.proofs.Prelude.{Bool, IsTrue, List, ℕ, ℤ, [], and_from, ap, arith, around, bare_block, block_of, false, inner_if, is_exit, is_rim, is_sink_at, is_solid, list_all, mul-le-mul_right, nat_eq, ne_eqb, not, refl, subst, sym, true, ◌%◌, ◌&&◌, ◌*◌, ◌+◌, ◌-◌, ◌/◌, ◌<◌, ◌||◌, ◌≡◌, ◌≤◌}
 use Rattle.tile_flood.specs.Flooding.{IsFullSpan, IsPlainSpan}
-use Rattle.tile_flood.proofs.Squares.{row_of_cell, column_of_cell, cell_of}
+use Rattle.labelling.proofs.Squares.{row_of_cell, column_of_cell, cell_of}
 
 none_of : (a b d e : Bool) → a ≡ false → b ≡ false → d ≡ false → e ≡ false → (a || b || d || e) ≡ false
 none_of a b d e p q r s = rw (p, q, r, s) refl

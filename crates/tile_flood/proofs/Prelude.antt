@@ -1,4 +1,10 @@
 -- The names that many proofs of this crate cite, passed on from one place. Declares nothing.
+pub use Rattle.labelling.specs.Blocks.{bare_block, block_of, is_marked}
+pub use Rattle.labelling.specs.Labelling.{IsLabelling, NO_LABEL, Names, OUT}
+pub use Rattle.labelling.specs.Passing.{AreFirsts, AreFoundBelow, AreFoundStill, AreGathered, ArePassages, IsFound, IsInOrder, IsNoPassage, IsPassage}
+pub use Rattle.labelling.specs.Raising.{raised_level}
+pub use Rattle.labelling.specs.Spills.{AreSpills, Meets}
+pub use Rattle.labelling.specs.declared.spill.Spill.{Spill}
 pub use Rattle.lattice.proofs.IntTests.{le_or_above, le_true}
 pub use Rattle.lattice.proofs.Interior.{inner_if}
 pub use Rattle.lattice.proofs.Lawful.{block_is_lawful, terrain_is_lawful}
@@ -21,19 +27,13 @@ pub use Rattle.std.proofs.lemmas.List.Sums.{sum_by-set}
 pub use Rattle.std.specs.Int.{int_max}
 pub use Rattle.std.specs.List.{list_all}
 pub use Rattle.tile_flood.specs.Affected.{AreChangesListed, AreOffBorders, IsInWindow, IsListed, StayListed}
-pub use Rattle.tile_flood.specs.Blocks.{bare_block, block_of}
 pub use Rattle.tile_flood.specs.Carried.{AreCarried, AreRelaxed, IsCarriedBy, IsSeed}
 pub use Rattle.tile_flood.specs.Cells.{AreCells, IsFresh, label_of, labels_of, level_of, levels_of}
-pub use Rattle.tile_flood.specs.Flooding.{IsNear, IsOwnLabel, is_marked, unmarked}
-pub use Rattle.tile_flood.specs.Labelling.{IsLabelling, NO_LABEL, Names, OUT}
-pub use Rattle.tile_flood.specs.Passing.{AreFirsts, AreFoundBelow, AreFoundStill, AreGathered, ArePassages, IsFound, IsInOrder, IsNoPassage, IsPassage}
-pub use Rattle.tile_flood.specs.Raising.{raised_level}
+pub use Rattle.tile_flood.specs.Flooding.{IsNear, IsOwnLabel, unmarked}
 pub use Rattle.tile_flood.specs.RaisingLoop.{AreRaisedBelow}
 pub use Rattle.tile_flood.specs.Sparing.{HangTogether, IsAround, IsFirstSuspect, IsRun, LeadsAround, in_round}
-pub use Rattle.tile_flood.specs.Spills.{AreSpills, Meets}
 pub use Rattle.tile_flood.specs.Spreading.{IsFlooding, IsSeeding, IsSpreading}
 pub use Rattle.tile_flood.specs.Suspects.{AreMending, IsBeginning, IsBesideWith, IsHeldBy, IsHeldUp, IsIn, IsInOr, IsMending, IsPassingOn}
 pub use Rattle.tile_flood.specs.Waiting.{AreEmpty, HasBucket, IsExtended, IsJoined, IsTaken, Queue, WaitStill, Waits, bucket, waiting}
 pub use Rattle.tile_flood.specs.declared.affected.Affected.{Affected}
 pub use Rattle.tile_flood.specs.declared.cells.Cell.{Cell}
-pub use Rattle.tile_flood.specs.declared.passing.Spill.{Spill}

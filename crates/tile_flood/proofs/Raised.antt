@@ -5,31 +5,15 @@ use Rattle.tile_flood.proofs.Prelude.{AreRaisedBelow, Corner, Decides-int_eq, Is
 use borrow.Author.Count.{below_more}
 use Rattle.lattice.specs.Block.{AreHeightsOf, IsBlockOf, rim_number}
 use Rattle.lattice.specs.Limits.{largest_side}
-use Rattle.tile_flood.specs.Raising.{AreRimLevels, IsRimFilled, AreRaised, CannotBeRaised}
+use Rattle.labelling.specs.Raising.{AreRimLevels, IsRimFilled, AreRaised, CannotBeRaised}
 use Rattle.water.specs.TileLevels.{AreTileLevels}
-use Rattle.tile_flood.proofs.Parts.{level_of_part, level_at_outlet}
-use Rattle.tile_flood.proofs.InMosaic.{block_is_part, ground_is, inner_outlet_is_outlet}
-use Rattle.tile_flood.proofs.Passages.{not_void, solid_has_level}
+use Rattle.labelling.proofs.Parts.{level_of_part, level_at_outlet}
+use Rattle.labelling.proofs.InMosaic.{block_is_part, ground_is, inner_outlet_is_outlet}
+use Rattle.labelling.proofs.Passages.{not_void, solid_has_level}
 use Rattle.lattice.proofs.SampleRange.{metres_are_sample}
 use Rattle.lattice.proofs.RimNumbers.{number_below}
-use Rattle.tile_flood.proofs.Squares.{solid_below, solid_height}
-
--- rim points have numbers below four times the side less one
-pub rim_number_below : (n e : ℕ) → 3 ≤ n → e < n * n → rim_number n e < 4 * (n - 1)
-rim_number_below n e side small = elim (cases_Bool (is_rim n e)) [
-  | inl rim ↦ number_below n (rim_number n e) e side (record { small = small; rim = rim; number = refl })
-  | inr off ↦
-      let inner = inner_if n e side small off in
-      let last : ℕ = n + 2 * (n - 2) + e % n in
-      let middle : ℕ = n + 2 * (e / n - 1) + cond (nat_eq (e % n) 0) 0 1 in
-      let one : cond (nat_eq (e % n) 0) 0 1 ≤ 1 = at_most_one (nat_eq (e % n) 0) in
-      subst (λ v. v < 4 * (n - 1)) (sym (cond-false (nat_eq (e / n) 0) e (cond (nat_eq (e / n + 1) n) last middle) (ne_eqb (e / n) 0 (λ h. absurd (omega arith)))
-      ∙ cond-false (nat_eq (e / n + 1) n) last middle (ne_eqb (e / n + 1) n (λ h. absurd (omega arith))))) (omega arith)
-]
-  where
-    at_most_one : (b : Bool) → cond b 0 1 ≤ 1
-    at_most_one true = omega arith
-    at_most_one false = omega arith
+use Rattle.labelling.proofs.Heights.{lowest_height, rim_number_below}
+use Rattle.labelling.proofs.Squares.{solid_below, solid_height}
 
 -- what a label and a level are raised to
 module _ (rim : List ℤ) (level : ℤ) (label : ℕ) where
@@ -45,14 +29,6 @@ module _ (rim : List ℤ) (level : ℤ) (label : ℕ) where
 
   pub raised_void : label ≡ NO_LABEL → level ≡ void → raised_level rim level label ≡ Some void
   raised_void none gap = search rules
-
--- heights of a block are numbers of 16 bits
-module _ (m : Mosaic) (is : IsMosaic m) (c : Corner) (heights : List ℤ) (of : AreHeightsOf m c heights) where
-  pub lowest_height : (e : ℕ) → void ≤ℤ get_or heights e void
-  lowest_height e = elim (cases_lt e (length heights)) [
-    | inl inside ↦ subst (λ v. void ≤ℤ v) (sym (of.values e (subst (λ k. e < k) of.whole inside))) (metres_are_sample m (point_of m.side c e) is).0
-    | inr beyond ↦ subst (λ v. void ≤ℤ v) (sym (get_or-eq_default heights void beyond)) (≤ℤ_same void)
-  ]
 
 module _ (m : Mosaic) (is : IsMosaic m) (c : Corner) (present : IsTrue (is_present m c)) (heights : List ℤ) (sinks : List ℕ) (of : IsBlockOf m c (block_of m.side heights sinks))
     (levels : List ℤ) (labels : List ℕ) (labelling : IsLabelling (block_of m.side heights sinks) levels labels) (rim : List ℤ) (rims : AreRimLevels m c rim) where

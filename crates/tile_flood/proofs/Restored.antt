@@ -10,7 +10,7 @@ use Rattle.lattice.specs.Mosaic.{IsSample}
 use Rattle.tile_flood.proofs.Prelude.{Decides-int_eq, IsHeldBy, IsHeldUp, IsMending, IsSeed, block_is_lawful, block_of, cases_Bool, cases_eq, cases_lt, clamps, get_or_past, int_max, ints, is_exit, is_solid, is_void, le-max_left, max-le, ne_eqb, void}
 use Rattle.tile_flood.specs.Mending.{IsLabelledBefore}
 use Rattle.tile_flood.specs.Restoring.{AreFitting, IsAlike, IsLeast, StandsBy}
-use Rattle.tile_flood.proofs.Squares.{not_void_if, test_if, linked_parts, linked_from, solid_below, solid_if}
+use Rattle.labelling.proofs.Squares.{not_void_if, test_if, linked_parts, linked_from, solid_below, solid_if}
 use Rattle.tile_flood.proofs.Dependence.{same_inner, same_exit, same_names, beside_back}
 use Rattle.tile_flood.proofs.Steps.{at_most_as, mended, unmarked_void}
 

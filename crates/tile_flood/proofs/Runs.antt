@@ -1,7 +1,7 @@
 -- Three points after one another, in the row of a point or in one beside it: which of them are near the point.
 use Rattle.std.proofs.Common.{rules}
 use Rattle.tile_flood.proofs.Prelude.{IsNear, IsTrue, ℕ, ap, arith, cases_eq, cases_lt, eq-eqb, inl, inr, is_beside, is_rim, mod-lt, mul-le-mul_right, nat_eq, or_left, or_right, ◌%◌, ◌*◌, ◌+◌, ◌-◌, ◌/◌, ◌<◌, ◌||◌, ◌∙◌, ◌≡◌, ◌≤◌, ◌⊎◌}
-use Rattle.tile_flood.proofs.Squares.{cell_of, row_of_cell, column_of_cell, row_below, beside_if, apart_of}
+use Rattle.labelling.proofs.Squares.{cell_of, row_of_cell, column_of_cell, row_below, beside_if, apart_of}
 
 -- the four edges of the rim
 module _ (n e : ℕ) where

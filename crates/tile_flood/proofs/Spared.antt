@@ -1,8 +1,9 @@
 -- What hung on a point at its own level is held without it, where all hang together around it.
 use Rattle.tile_flood.proofs.Prelude.{HangTogether, IsAround, IsFalse, IsHeldBy, IsHeldUp, IsMending, IsTrue, LeadsAround, List, ℕ, ℤ, [], ap, arith, block_of, cases_eq, clamps, get_or, inl, inr, int_max, ints, is_beside, is_exit, is_linked, is_marked, le_or_above, ne_eqb, not, refl, subst, sym, true≢false, void, ◌∙◌, ◌∷◌, ◌≢◌, ◌≤ℤ◌, ◌⊎◌}
-use Rattle.tile_flood.proofs.Squares.{test_if, not_void_if, linked_parts, linked_from, solid_below}
+use Rattle.labelling.proofs.Squares.{test_if, not_void_if, linked_parts, linked_from, solid_below}
 use Rattle.tile_flood.proofs.Dependence.{beside_back}
-use Rattle.tile_flood.proofs.Held.{Passes, passes_by, first_below, below_max, apart_if}
+use Rattle.tile_flood.proofs.Held.{Passes, passes_by, first_below, below_max}
+use Rattle.labelling.proofs.Squares.{apart_if}
 
 max_on : (h g m p : ℤ) → h ≤ℤ m → g ≤ℤ p → p ≤ℤ m → int_max h g ≤ℤ m
 max_on h g m p own le on = omega (arith, ints, clamps)

@@ -5,7 +5,7 @@ use Rattle.tile_flood.proofs.Prelude.{AreCarried, Decides-int_eq, IsFlooding, Is
 use Rattle.tile_flood.specs.Flooding.{unmarked, lack, AreMarkedStill, IsNear}
 use Rattle.tile_flood.specs.Spreading.{no_suspects, HaveLevels}
 use Rattle.tile_flood.proofs.Buckets.{none_in}
-use Rattle.tile_flood.proofs.Squares.{rim_is_exit, not_void_if, test_if, linked_parts, linked_from, solid_height, solid_below}
+use Rattle.labelling.proofs.Squares.{rim_is_exit, not_void_if, test_if, linked_parts, linked_from, solid_height, solid_below}
 use Rattle.tile_flood.proofs.Dependence.{max_mono}
 use Rattle.tile_flood.proofs.Held.{level_else, label_else, marked_else, seed_anew}
 use Rattle.tile_flood.proofs.Steps.{unmarked_void, in_still, taken_in, mending_as, mark_on, mended, at_most_as, max_second}

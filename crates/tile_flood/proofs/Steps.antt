@@ -6,9 +6,10 @@ use Rattle.lattice.proofs.IntTests.{le_or_above, eq_or_not}
 use Rattle.tile_flood.specs.Mending.{IsLabelledBefore}
 use Rattle.tile_flood.specs.Affected.{IsAmong}
 use Rattle.tile_flood.specs.Suspects.{AreMending, IsPassingOn, AreAtMost}
-use Rattle.tile_flood.proofs.Squares.{not_void_if, test_if, linked_parts, linked_from, solid_height, solid_below, leads}
+use Rattle.labelling.proofs.Squares.{not_void_if, test_if, linked_parts, linked_from, solid_height, solid_below, leads}
 use Rattle.tile_flood.proofs.Dependence.{same_exit, same_inner, same_link, same_names, full_at, solid_at, filled_if, label_at, relaxed_least, labelling_relaxed, same_ground, solid_inside, beside_itself, beside_back}
-use Rattle.tile_flood.proofs.Held.{level_else, label_else, marked_else, not_below, held_lowered, held_marked, held_kept, held_reset, seed_anew, carried_end, first_below, below_max, apart_if, beside_anew}
+use Rattle.tile_flood.proofs.Held.{level_else, label_else, marked_else, not_below, held_lowered, held_marked, held_kept, held_reset, seed_anew, carried_end, first_below, below_max, beside_anew}
+use Rattle.labelling.proofs.Squares.{apart_if}
 use Rattle.tile_flood.proofs.Spared.{held_off}
 
 pub at_most_as : (l m : ℤ) → l ≡ m → l ≤ℤ m

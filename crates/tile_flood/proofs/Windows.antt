@@ -1,7 +1,7 @@
 -- The nine points of a window around a point inside a block, by their offsets.
 use Rattle.std.proofs.Common.{mul-le-mul_right, ◌≡◌, ℕ, ◌+◌, ◌-◌, ◌*◌, ◌/◌, ◌%◌, ◌<◌, ◌≤◌, IsTrue, ap, ◌∙◌, subst, arith}
 use Rattle.tile_flood.proofs.Prelude.{IsInWindow, is_beside}
-use Rattle.tile_flood.proofs.Squares.{cell_of, column_of_cell, row_of_cell}
+use Rattle.labelling.proofs.Squares.{cell_of, column_of_cell, row_of_cell}
 use Rattle.tile_flood.proofs.Dependence.{window_beside}
 
 pub window_index : (n e d x : ℕ) → IsInWindow n e d x → x + n + 1 ≡ e + (d / 3) * n + d % 3

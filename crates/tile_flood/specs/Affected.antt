@@ -3,8 +3,8 @@ use Rattle.std.specs.Prelude.{◌≡◌, ℕ, ◌+◌, ◌*◌, ◌/◌, ◌%◌
 use Rattle.lattice.specs.Mosaic.{void}
 use Rattle.lattice.specs.Block.{is_solid, is_beside}
 use Rattle.tile_flood.specs.declared.affected.Affected.{Affected}
-use Rattle.tile_flood.specs.Blocks.{bare_block}
-use Rattle.tile_flood.specs.Flooding.{is_marked}
+use Rattle.labelling.specs.Blocks.{bare_block}
+use Rattle.labelling.specs.Blocks.{is_marked}
 
 -- z is the d-th of the nine points of the window around e, row by row
 abbrev pub IsInWindow : ℕ → ℕ → ℕ → ℕ → Type 0

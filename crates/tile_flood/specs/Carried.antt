@@ -3,7 +3,7 @@ use Rattle.std.specs.Prelude.{◌≡◌, ◌≢◌, ℕ, ℤ, ◌≤ℤ◌, IsTr
 use Rattle.std.specs.Int.{int_max}
 use Rattle.lattice.specs.Mosaic.{void}
 use Rattle.lattice.specs.Block.{Block, is_solid, is_linked, is_exit, is_inner_outlet}
-use Rattle.tile_flood.specs.Labelling.{Names, OUT}
+use Rattle.labelling.specs.Labelling.{Names, OUT}
 
 module _ (b : Block) (levels : List ℤ) (labels : List ℕ) where
   -- a way out at its own height, with its own label

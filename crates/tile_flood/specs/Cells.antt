@@ -2,8 +2,8 @@
 use Rattle.std.specs.Prelude.{◌≡◌, ◌≢◌, ℕ, ◌<◌, ℤ, IsTrue, false, List, map, length, slice_index_or, nat_eq, if◌then◌else◌}
 use Rattle.lattice.specs.Mosaic.{void}
 use Rattle.tile_flood.specs.declared.cells.Cell.{Cell}
-use Rattle.tile_flood.specs.Labelling.{NO_LABEL}
-use Rattle.tile_flood.specs.Flooding.{is_marked}
+use Rattle.labelling.specs.Labelling.{NO_LABEL}
+use Rattle.labelling.specs.Blocks.{is_marked}
 
 -- the label of a ground point that has none yet
 abbrev pub OPEN : ℕ

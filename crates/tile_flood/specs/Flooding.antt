@@ -3,12 +3,9 @@ use Rattle.std.specs.Prelude.{◌≡◌, ℕ, ◌+◌, ◌*◌, ◌<◌, ◌≤�
 use Rattle.std.specs.Ordering.{int_eq}
 use Rattle.lattice.specs.Mosaic.{void}
 use Rattle.lattice.specs.Block.{Block, is_solid, is_exit, is_inner_outlet, is_rim, is_beside}
-use Rattle.tile_flood.specs.Blocks.{bare_block}
-use Rattle.tile_flood.specs.Labelling.{Names, OUT}
-
--- the point has its level
-abbrev pub is_marked : List ℤ → ℕ → Bool
-is_marked levels e = not (int_eq (slice_index_or levels e void) void)
+use Rattle.labelling.specs.Blocks.{bare_block}
+use Rattle.labelling.specs.Blocks.{is_marked}
+use Rattle.labelling.specs.Labelling.{Names, OUT}
 
 abbrev pub lack : ℤ → ℕ
 lack level = cond (int_eq level void) 1 0

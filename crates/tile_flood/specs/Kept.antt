@@ -3,7 +3,7 @@ use Rattle.std.specs.Prelude.{ℕ, ◌+◌, ◌*◌, ℤ, pos, ◌-ℤ◌, nat_l
 use Rattle.lattice.specs.Block.{Block, IsBlockOf}
 use Rattle.lattice.specs.Corners.{Corner}
 use Rattle.lattice.specs.Mosaic.{Mosaic}
-use Rattle.tile_flood.specs.Labelling.{IsLabelling}
+use Rattle.labelling.specs.Labelling.{IsLabelling}
 
 -- the numbers of 16 bits that stand in a plane's bytes, the least significant byte first: its labels
 abbrev pub labels_in : List ℕ → List ℕ

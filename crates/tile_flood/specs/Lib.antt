@@ -1,11 +1,6 @@
-pub mod Labelling
 pub mod Carried
-pub mod Spills
-pub mod Passing
-pub mod Raising
 pub mod RaisingLoop
 pub mod Waiting
-pub mod Blocks
 pub mod Flooding
 pub mod Cells
 pub mod Mending

@@ -2,8 +2,8 @@
 use Rattle.std.specs.Prelude.{◌≡◌, ℕ, ℤ, IsTrue, List, Contains, slice_index_or, ◌⊎◌}
 use Rattle.lattice.specs.Mosaic.{void}
 use Rattle.lattice.specs.Block.{Block, is_solid}
-use Rattle.tile_flood.specs.Blocks.{block_of}
-use Rattle.tile_flood.specs.Labelling.{IsLabelling}
+use Rattle.labelling.specs.Blocks.{block_of}
+use Rattle.labelling.specs.Labelling.{IsLabelling}
 use Rattle.tile_flood.specs.Carried.{AreCarried}
 
 -- the levels and labels are a valid labelling, carried to each point, of a block that differs from this one at most in the

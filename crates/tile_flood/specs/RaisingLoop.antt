@@ -1,7 +1,7 @@
 -- Of the loop that raises a tile's levels: how far it has come.
 use Rattle.std.specs.Prelude.{◌≡◌, ℕ, ◌<◌, ℤ, List, length, slice_index, slice_index_or, Some}
 use Rattle.lattice.specs.Mosaic.{void}
-use Rattle.tile_flood.specs.Raising.{raised_level}
+use Rattle.labelling.specs.Raising.{raised_level}
 
 module _ (n : ℕ) (levels : List ℤ) (labels : List ℕ) (rim : List ℤ) where
   -- the first so many levels are raised

@@ -3,9 +3,9 @@ use Rattle.std.specs.Prelude.{◌≡◌, ◌≢◌, ℕ, ◌*◌, ◌<◌, ℤ, 
 use Rattle.lattice.specs.Limits.{IsSide}
 use Rattle.lattice.specs.Mosaic.{void}
 use Rattle.lattice.specs.Block.{is_solid, is_exit, is_beside}
-use Rattle.tile_flood.specs.Blocks.{block_of}
+use Rattle.labelling.specs.Blocks.{block_of}
 use Rattle.tile_flood.specs.Flooding.{IsOwnLabel}
-use Rattle.tile_flood.specs.Labelling.{NO_LABEL}
+use Rattle.labelling.specs.Labelling.{NO_LABEL}
 
 -- a level and a label for each point of a block of this side; the indices of its points are numbers of 32 bits
 pub record AreMarks (n : ℕ) (levels : List ℤ) (labels : List ℕ) : Type 0 where

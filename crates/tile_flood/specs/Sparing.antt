@@ -2,7 +2,7 @@
 use Rattle.std.specs.Prelude.{◌≡◌, ◌≢◌, ℕ, ◌+◌, ◌*◌, ◌%◌, ◌<◌, ℤ, ◌≤ℤ◌, ◌<ℤ◌, ◌⊎◌, IsTrue, nat_eq, if◌then◌else◌, List, [], ◌∷◌, slice_index, slice_index_or}
 use Rattle.lattice.specs.Mosaic.{void}
 use Rattle.lattice.specs.Block.{is_beside}
-use Rattle.tile_flood.specs.Flooding.{is_marked}
+use Rattle.labelling.specs.Blocks.{is_marked}
 use Rattle.tile_flood.specs.Waiting.{Queue}
 use Rattle.tile_flood.specs.Affected.{IsInWindow}
 use Rattle.tile_flood.specs.Suspects.{IsIn}

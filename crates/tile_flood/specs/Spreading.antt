@@ -4,10 +4,10 @@ use Rattle.std.specs.Prelude.{◌≡◌, ℕ, ◌*◌, ◌<◌, ◌≤◌, ℤ, 
 use Rattle.std.specs.Int.{int_max}
 use Rattle.lattice.specs.Mosaic.{void}
 use Rattle.lattice.specs.Block.{Block, is_exit}
-use Rattle.tile_flood.specs.Labelling.{NO_LABEL}
+use Rattle.labelling.specs.Labelling.{NO_LABEL}
 use Rattle.tile_flood.specs.Carried.{IsSeed}
 use Rattle.tile_flood.specs.Waiting.{Queue, Waits}
-use Rattle.tile_flood.specs.Flooding.{is_marked}
+use Rattle.labelling.specs.Blocks.{is_marked}
 use Rattle.tile_flood.specs.Suspects.{AreMending, IsPassingOn}
 
 -- a flood has no suspects

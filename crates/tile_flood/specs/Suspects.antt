@@ -3,11 +3,11 @@ use Rattle.std.specs.Prelude.{◌≡◌, ◌≢◌, ℕ, ◌*◌, ◌<◌, ℤ, 
 use Rattle.std.specs.Int.{int_max}
 use Rattle.lattice.specs.Mosaic.{void}
 use Rattle.lattice.specs.Block.{is_solid, is_linked, is_exit, is_beside}
-use Rattle.tile_flood.specs.Blocks.{block_of}
-use Rattle.tile_flood.specs.Labelling.{NO_LABEL}
+use Rattle.labelling.specs.Blocks.{block_of}
+use Rattle.labelling.specs.Labelling.{NO_LABEL}
 use Rattle.tile_flood.specs.Carried.{IsSeed}
 use Rattle.tile_flood.specs.Waiting.{Queue, Waits}
-use Rattle.tile_flood.specs.Flooding.{is_marked}
+use Rattle.labelling.specs.Blocks.{is_marked}
 use Rattle.tile_flood.specs.Affected.{IsAmong}
 
 -- e's level and label stand where f has its own

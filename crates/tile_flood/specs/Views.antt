@@ -1,7 +1,7 @@
 -- The block that a view shows, and what is said in Restoring, of the planes that a function is given.
 use Rattle.std.specs.Prelude.{ℕ, Bool, List}
 use Rattle.lattice.specs.Block.{Block}
-use Rattle.tile_flood.specs.Blocks.{block_of}
+use Rattle.labelling.specs.Blocks.{block_of}
 use Rattle.tile_flood.specs.Restoring.{AreFitting, AreStanding, IsFitting, StandStill}
 use Rattle.tile_flood.specs.declared.views.BlockView.{BlockView}
 use Rattle.tile_flood.specs.declared.views.Planes.{Planes}

@@ -1,7 +1,7 @@
 //! Whether what a mending affected lies off the borders between labels.
 ghost use Rattle.std.specs.Prelude.{◌≡◌, ◌<◌, ◌*◌, ℕ, IsTrue, length, slice_index, slice_index_or};
 ghost use Rattle.lattice.specs.Block.{is_beside};
-ghost use Rattle.tile_flood.specs.Flooding.{is_marked};
+ghost use Rattle.labelling.specs.Blocks.{is_marked};
 ghost use Rattle.tile_flood.specs.Restoring.{AreMarks};
 ghost use Rattle.tile_flood.specs.Affected.{AreOffBorders};
 ghost use Rattle.tile_flood.specs.declared.affected.Affected.{Affected};

@@ -1,13 +1,13 @@
 //! What a flood knows of the points of a block, in one array: what is read and written of a point lies in one place.
 ghost use Rattle.std.specs.Prelude.{◌≡◌, ◌≢◌, ◌+◌, ◌<◌, ℕ, ℤ, List, IfOk, OnOk, length, slice_set, slice_index, slice_index_or};
 ghost use Rattle.lattice.specs.Mosaic.{void};
-ghost use Rattle.tile_flood.specs.Labelling.{NO_LABEL as no_label};
+ghost use Rattle.labelling.specs.Labelling.{NO_LABEL as no_label};
 ghost use Rattle.tile_flood.specs.Waiting.{waiting, IsJoined};
 ghost use Rattle.tile_flood.specs.Cells.{OPEN as open_label, levels_of, labels_of, AreCells};
 
-use crate::labelled::NO_LABEL;
 use crate::queue::Queue;
 use crate::values::{at, has_level};
+use labelling::NO_LABEL;
 use lattice::VOID;
 use std::alloc::{AllocError, Global};
 
@@ -97,7 +97,7 @@ pub(crate) fn mark(
 }
 
 ghost use Rattle.std.specs.Prelude.{nat_eq, false, IsTrue};
-ghost use Rattle.tile_flood.specs.Flooding.{is_marked};
+ghost use Rattle.labelling.specs.Blocks.{is_marked};
 ghost use Rattle.tile_flood.specs.Cells.{level_of, label_of};
 
 // The cell of the point e.

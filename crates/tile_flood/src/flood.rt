@@ -3,12 +3,12 @@ ghost use Rattle.std.specs.Prelude.{◌≡◌, ◌<◌, ℕ, ◌*◌, ◌+◌, I
 ghost use Rattle.std.specs.Ordering.{int_eq};
 ghost use Rattle.lattice.specs.Mosaic.{void};
 ghost use Rattle.lattice.specs.declared.refusal.Refusal.TheVariants.{NoMemory};
-ghost use Rattle.tile_flood.specs.Labelling.{IsLabelling, NO_LABEL as no_label};
+ghost use Rattle.labelling.specs.Labelling.{IsLabelling, NO_LABEL as no_label};
 ghost use Rattle.tile_flood.specs.Carried.{AreCarried};
 ghost use Rattle.tile_flood.specs.Views.{viewed_block};
 ghost use Rattle.tile_flood.specs.Waiting.{IsJoined};
 ghost use Rattle.tile_flood.specs.Cells.{levels_of, labels_of, AreCells};
-ghost use Rattle.tile_flood.specs.Flooding.{is_marked};
+ghost use Rattle.labelling.specs.Blocks.{is_marked};
 
 use crate::affected::Affected;
 use crate::block::Block;

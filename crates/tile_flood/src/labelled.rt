@@ -9,12 +9,6 @@ use lattice::Side;
 use std::alloc::Global;
 use std::marker::Model;
 
-/// The label of a point that reaches an inner outlet: a ground point off the rim with a void among the eight around it.
-pub const OUT: u16 = 0xFFFF;
-
-/// The label of a void point.
-pub const NO_LABEL: u16 = 0xFFFE;
-
 /// A level and a label for each point of a block, row by row from the north-west corner: levels in metres, -32768 at
 /// void points; labels are numbers of rim points, in row order from the north-west, or `OUT`, or `NO_LABEL`.
 #[derive(Drop)]
@@ -26,7 +20,7 @@ pub struct Labelled {
 
 impl Model for Labelled {
     ghost use Rattle.std.specs.Prelude.{◌≡◌, ◌*◌, length};
-    ghost use Rattle.tile_flood.specs.Blocks.{LabelledGround};
+    ghost use Rattle.labelling.specs.Blocks.{LabelledGround};
 
     ghost Value = { LabelledGround };
 

@@ -36,8 +36,8 @@ mod waiting;
 
 pub use block::Block;
 pub use flood::Flood;
-pub use labelled::{Labelled, NO_LABEL, OUT};
+pub use labelled::Labelled;
 pub use mending::{Mended, mend};
-pub use passing::{Spill, spills};
+pub use passing::spills;
 pub use raising::{raise, raise_at};
 pub use restoring::restore;

@@ -2,10 +2,10 @@
 ghost use Rattle.std.specs.Prelude.{◌≡◌, ◌<◌, ◌+◌, ℕ, ℤ, IfOk, IfErr, OnOk, IsTrue, length, slice_index, slice_index_or};
 ghost use Rattle.lattice.specs.Mosaic.{void};
 ghost use Rattle.lattice.specs.declared.refusal.Refusal.TheVariants.{NoMemory};
-ghost use Rattle.tile_flood.specs.Labelling.{IsLabelling};
+ghost use Rattle.labelling.specs.Labelling.{IsLabelling};
 ghost use Rattle.tile_flood.specs.Carried.{AreCarried};
 ghost use Rattle.tile_flood.specs.Mending.{IsLabelledBefore};
-ghost use Rattle.tile_flood.specs.Spills.{HaveSameSpills};
+ghost use Rattle.labelling.specs.Spills.{HaveSameSpills};
 ghost use Rattle.tile_flood.specs.Views.{viewed_block};
 ghost use Rattle.tile_flood.specs.Waiting.{Waits};
 ghost use Rattle.tile_flood.specs.Floods.{AreMendingIn, IsBeginningIn, StayListedIn};

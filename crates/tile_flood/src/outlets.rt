@@ -6,8 +6,8 @@ ghost use Rattle.lattice.specs.Block.{is_solid, is_exit, is_rim, rim_number, aro
 ghost use Rattle.tile_flood.specs.Views.{viewed_block};
 ghost use Rattle.tile_flood.specs.Flooding.{IsOwnLabel};
 
-use crate::labelled::OUT;
 use crate::views::BlockView;
+use labelling::OUT;
 use lattice::VOID;
 
 // The label that an outlet of the block starts with, where the point in row i and column j is one.

@@ -4,23 +4,15 @@ ghost use Rattle.lattice.specs.Block.{Block};
 ghost use Rattle.lattice.specs.Limits.{IsSide};
 ghost use Rattle.lattice.specs.Mosaic.{IsSample};
 ghost use Rattle.lattice.specs.declared.refusal.Refusal.TheVariants.{NoMemory};
-ghost use Rattle.tile_flood.specs.Labelling.{IsLabelling};
-ghost use Rattle.tile_flood.specs.declared.passing.Spill.{Spill as SpillOf};
+ghost use Rattle.labelling.specs.Labelling.{IsLabelling};
+ghost use Rattle.labelling.specs.declared.spill.Spill.{Spill as SpillOf};
 
 use crate::labelled::Labelled;
 use crate::values::{has_level, higher_of};
 use crate::views::LabelledView;
+use labelling::Spill;
 use lattice::Refusal;
 use std::alloc::{AllocError, Global};
-
-/// At which level, in metres, water passes between what drains to two labels of one block, the lower number first:
-/// the least, over adjacent points with these labels, of the greater of their levels.
-#[derive(Clone, Copy, Debug, PartialEq, Eq, PartialOrd, Ord)]
-pub struct Spill {
-    pub a: u16,
-    pub b: u16,
-    pub level: i16,
-}
 
 // How many places are remembered at which pairs of labels were listed.
 const PLACES: usize = 4096;
@@ -50,8 +42,8 @@ pub fn spills(alloc: Global, labelled: &Labelled) -> Result<Vec<Spill>, Refusal>
     Ok(first_of_each(alloc, &passages.found)?)
 }
 
-ghost use Rattle.tile_flood.specs.Spills.{AreSpills, HaveSameLabels};
-ghost use Rattle.tile_flood.specs.Passing.{IsPassage, IsNoPassage, AreBeside, AreGathered, ArePassages, AreFoundBelow, IsListed, IsInOrder, AreFirsts};
+ghost use Rattle.labelling.specs.Spills.{AreSpills, HaveSameLabels};
+ghost use Rattle.labelling.specs.Passing.{IsPassage, IsNoPassage, AreBeside, AreGathered, ArePassages, AreFoundBelow, IsListed, IsInOrder, AreFirsts};
 
 // Gathers the places where water passes from the points of a row to later points.
 fn gather_row(labelled: &LabelledView, i: usize, passages: &mut Passages) -> Result<(), AllocError>

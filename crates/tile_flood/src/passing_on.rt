@@ -4,9 +4,9 @@ ghost use Rattle.std.specs.Int.{int_max};
 ghost use Rattle.lattice.specs.Mosaic.{void};
 ghost use Rattle.lattice.specs.Block.{is_solid, is_beside};
 ghost use Rattle.tile_flood.specs.Views.{viewed_block};
-ghost use Rattle.tile_flood.specs.Labelling.{IsLabelling};
+ghost use Rattle.labelling.specs.Labelling.{IsLabelling};
 ghost use Rattle.tile_flood.specs.Carried.{AreCarried};
-ghost use Rattle.tile_flood.specs.Flooding.{is_marked};
+ghost use Rattle.labelling.specs.Blocks.{is_marked};
 ghost use Rattle.tile_flood.specs.Suspects.{IsIn, IsInOr, IsBesideWith, AreAtMost};
 ghost use Rattle.tile_flood.specs.Floods.{IsMendingIn, AreMendingIn, IsPassingOnIn, StayListedIn};
 

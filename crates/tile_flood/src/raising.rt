@@ -6,11 +6,12 @@ ghost use Rattle.lattice.specs.Lattice.{point_of};
 ghost use Rattle.lattice.specs.Ground.{is_ground, terrain};
 ghost use Rattle.lattice.specs.Terrain.{IsFilledLevel};
 ghost use Rattle.lattice.specs.declared.refusal.Refusal.TheVariants.{NoMemory, Damaged};
-ghost use Rattle.tile_flood.specs.Raising.{IsRimFilled, AreRaised, CannotBeRaised, raised_level};
+ghost use Rattle.labelling.specs.Raising.{IsRimFilled, AreRaised, CannotBeRaised, raised_level};
 ghost use Rattle.water.specs.TileLevels.{AreTileLevels};
 
-use crate::labelled::{Labelled, NO_LABEL, OUT};
+use crate::labelled::Labelled;
 use crate::values::at;
+use labelling::{NO_LABEL, OUT};
 use lattice::{Refusal, VOID};
 use std::alloc::{AllocError, Global};
 

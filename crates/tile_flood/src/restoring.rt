@@ -5,21 +5,22 @@ ghost use Rattle.lattice.specs.Limits.{IsSide};
 ghost use Rattle.lattice.specs.Mosaic.{void};
 ghost use Rattle.lattice.specs.declared.refusal.Refusal.TheVariants.{NoMemory};
 ghost use Rattle.tile_flood.specs.Carried.{AreCarried};
-ghost use Rattle.tile_flood.specs.Labelling.{IsLabelling};
+ghost use Rattle.labelling.specs.Labelling.{IsLabelling};
 ghost use Rattle.tile_flood.specs.Mending.{IsLabelledBefore};
 ghost use Rattle.tile_flood.specs.Views.{AreFittingIn, AreStandingIn, IsFittingIn, StandStillIn};
 ghost use Rattle.tile_flood.specs.Restoring.{AreReached, HoldsUp, IsAbove, IsRelaxedTo, IsSettled};
-ghost use Rattle.tile_flood.specs.Spills.{HaveSameSpills};
+ghost use Rattle.labelling.specs.Spills.{HaveSameSpills};
 
 use crate::block::Block;
 use crate::flood::Flood;
-use crate::labelled::{Labelled, NO_LABEL};
+use crate::labelled::Labelled;
 use crate::mending::{Mended, mend};
 use crate::outlets::own_label;
 use crate::seeding::{Span, is_plain};
 use crate::values::{at, has_level, label_at};
 use crate::views::Planes;
 use arrayvec::ArrayVec;
+use labelling::NO_LABEL;
 use lattice::{Refusal, VOID, samples_in_range};
 use std::alloc::{AllocError, Global};
 

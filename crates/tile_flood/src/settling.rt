@@ -1,12 +1,13 @@
 //! Labelled points spread to the points beside them, the lowest level first.
 ghost use Rattle.std.specs.Prelude.{◌≡◌, ◌<◌, ◌*◌, ◌+◌, ◌/◌, ℕ, OnOk, IsTrue, length, slice_index};
 ghost use Rattle.lattice.specs.Block.{is_solid, is_linked};
-ghost use Rattle.tile_flood.specs.Labelling.{IsLabelling};
+ghost use Rattle.labelling.specs.Labelling.{IsLabelling};
 ghost use Rattle.tile_flood.specs.Carried.{AreCarried};
 ghost use Rattle.tile_flood.specs.Views.{viewed_block};
 ghost use Rattle.tile_flood.specs.Waiting.{waiting};
 ghost use Rattle.tile_flood.specs.Cells.{levels_of, labels_of, AreCells};
-ghost use Rattle.tile_flood.specs.Flooding.{is_marked, unmarked, AreMarkedStill, IsNear};
+ghost use Rattle.labelling.specs.Blocks.{is_marked};
+ghost use Rattle.tile_flood.specs.Flooding.{unmarked, AreMarkedStill, IsNear};
 ghost use Rattle.tile_flood.specs.Spreading.{IsFlooding, IsSpreading};
 
 use crate::cells::{Cell, PoppedCell, cell_at, is_open, mark};

@@ -1,7 +1,7 @@
 //! Raised points around which hangs together what hung on them: there no point of their level need be suspect.
 ghost use Rattle.std.specs.Prelude.{◌≡◌, ◌<◌, ◌≤◌, ◌+◌, ◌*◌, ◌/◌, ◌%◌, ℕ, false, IsTrue, length, slice_index_or};
 ghost use Rattle.lattice.specs.Mosaic.{void};
-ghost use Rattle.tile_flood.specs.Flooding.{is_marked};
+ghost use Rattle.labelling.specs.Blocks.{is_marked};
 ghost use Rattle.tile_flood.specs.Restoring.{AreMarks};
 ghost use Rattle.tile_flood.specs.Affected.{IsInWindow};
 ghost use Rattle.tile_flood.specs.Suspects.{IsIn};

@@ -3,7 +3,7 @@ ghost use Rattle.std.specs.Prelude.{◌≡◌, ◌<◌, ◌≤ℤ◌, ◌<ℤ◌
 ghost use Rattle.lattice.specs.Mosaic.{void};
 ghost use Rattle.lattice.specs.Block.{is_solid, is_exit, is_beside};
 ghost use Rattle.tile_flood.specs.Views.{viewed_block};
-ghost use Rattle.tile_flood.specs.Flooding.{is_marked};
+ghost use Rattle.labelling.specs.Blocks.{is_marked};
 ghost use Rattle.tile_flood.specs.Restoring.{AreMarks};
 ghost use Rattle.tile_flood.specs.Waiting.{Waits, WaitStill, IsTaken};
 ghost use Rattle.tile_flood.specs.Suspects.{IsHeldUp, IsIn, IsInOr, IsBesideWith};

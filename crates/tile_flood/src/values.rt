@@ -2,7 +2,7 @@
 ghost use Rattle.std.specs.Prelude.{◌≡◌, ◌<◌, length, slice_index, slice_index_or};
 ghost use Rattle.std.specs.Int.{int_max};
 ghost use Rattle.lattice.specs.Mosaic.{void};
-ghost use Rattle.tile_flood.specs.Flooding.{is_marked};
+ghost use Rattle.labelling.specs.Blocks.{is_marked};
 
 use lattice::VOID;
 

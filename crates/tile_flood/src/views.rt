@@ -1,5 +1,5 @@
 //! Blocks and labellings as the functions of this crate read them.
-ghost use Rattle.tile_flood.specs.Blocks.{AreHeights};
+ghost use Rattle.labelling.specs.Blocks.{AreHeights};
 ghost use Rattle.tile_flood.specs.Restoring.{AreMarks};
 
 /// A block's side, its heights and its sinks.

@@ -2,7 +2,7 @@
 ghost use Rattle.std.specs.Prelude.{◌≡◌, ◌<◌, ◌≤ℤ◌, ◌*◌, ◌⊎◌, ℕ, OnOk, IsTrue, length, slice_index, slice_index_or};
 ghost use Rattle.lattice.specs.Mosaic.{void};
 ghost use Rattle.lattice.specs.Block.{is_beside};
-ghost use Rattle.tile_flood.specs.Flooding.{is_marked};
+ghost use Rattle.labelling.specs.Blocks.{is_marked};
 ghost use Rattle.tile_flood.specs.Restoring.{AreMarks};
 ghost use Rattle.tile_flood.specs.Waiting.{WaitStill};
 ghost use Rattle.tile_flood.specs.Suspects.{IsIn};

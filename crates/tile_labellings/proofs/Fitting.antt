@@ -12,12 +12,13 @@ use Rattle.lattice.specs.Terrain.{end_of}
 use Rattle.lattice.specs.Limits.{largest_side}
 use Rattle.lattice.proofs.Lawful.{block_is_lawful}
 use Rattle.lattice.proofs.RimNumbers.{one_index}
-use Rattle.tile_flood.specs.Blocks.{block_of, bare_block}
-use Rattle.tile_flood.specs.Labelling.{IsLabelling, OUT, NO_LABEL}
-use Rattle.tile_flood.specs.Raising.{raised_level}
-use Rattle.tile_flood.proofs.Passages.{not_void, solid_has_level}
-use Rattle.tile_flood.proofs.Raised.{rim_number_below, raised_over, raised_out, raised_void}
-use Rattle.tile_flood.proofs.Squares.{solid_below}
+use Rattle.labelling.specs.Blocks.{block_of, bare_block}
+use Rattle.labelling.specs.Labelling.{IsLabelling, OUT, NO_LABEL}
+use Rattle.labelling.specs.Raising.{raised_level}
+use Rattle.labelling.proofs.Passages.{not_void, solid_has_level}
+use Rattle.labelling.proofs.Heights.{rim_number_below}
+use Rattle.tile_flood.proofs.Raised.{raised_over, raised_out, raised_void}
+use Rattle.labelling.proofs.Squares.{solid_below}
 use Rattle.tile_labellings.specs.Labellings.{AreLevelsOfRim}
 
 none_is_some : {A : Type 0} {x : A} → Some x ≡ None → ⊥

@@ -12,12 +12,12 @@ use Rattle.lattice.specs.Height.{height_of}
 use Rattle.lattice.specs.Lattice.{point_of}
 use Rattle.lattice.specs.Mosaic.{Mosaic, void}
 use Rattle.lattice.proofs.IntTests.{eq_or_not}
-use Rattle.tile_flood.specs.Blocks.{LabelledGround, block_of}
-use Rattle.tile_flood.specs.Flooding.{is_marked}
-use Rattle.tile_flood.specs.Labelling.{IsLabelling}
+use Rattle.labelling.specs.Blocks.{LabelledGround, block_of}
+use Rattle.labelling.specs.Blocks.{is_marked}
+use Rattle.labelling.specs.Labelling.{IsLabelling}
 use Rattle.tile_flood.proofs.BelowLevel.{labelling_still}
 use Rattle.tile_flood.proofs.Dependence.{same_ground}
-use Rattle.tile_flood.proofs.Squares.{test_if}
+use Rattle.labelling.proofs.Squares.{test_if}
 use Rattle.tile_labellings.specs.Labellings.{FloodedGround, IsFlooded, IsFloodedTile}
 use Rattle.tile_labellings.specs.TileLabellings.{DifferAt, IsBelowLevel, IsSetFrom}
 

@@ -7,12 +7,12 @@ use Rattle.lattice.specs.Block.{block_terrain, is_solid, rim_number}
 use Rattle.lattice.specs.Mosaic.{void}
 use Rattle.lattice.specs.Terrain.{end_of}
 use Rattle.lattice.proofs.Lawful.{block_is_lawful}
-use Rattle.tile_flood.specs.Blocks.{block_of, bare_block}
+use Rattle.labelling.specs.Blocks.{block_of, bare_block}
 use Rattle.tile_flood.specs.Kept.{labels_in, levels_in, signed}
-use Rattle.tile_flood.specs.Labelling.{IsLabelling, OUT, NO_LABEL}
-use Rattle.tile_flood.proofs.Passages.{solid_has_level}
-use Rattle.tile_flood.proofs.Raised.{rim_number_below}
-use Rattle.tile_flood.proofs.Squares.{solid_below}
+use Rattle.labelling.specs.Labelling.{IsLabelling, OUT, NO_LABEL}
+use Rattle.labelling.proofs.Passages.{solid_has_level}
+use Rattle.labelling.proofs.Heights.{rim_number_below}
+use Rattle.labelling.proofs.Squares.{solid_below}
 use Rattle.lattice.specs.Limits.{largest_side}
 use Rattle.tile_labellings.specs.Spots.{DoMarksFitAt, StandsAt}
 

@@ -11,7 +11,7 @@ use Rattle.lattice.specs.Ground.{metres, is_sink}
 use Rattle.lattice.specs.Height.{height_of}
 use Rattle.lattice.specs.Lattice.{point_of}
 use Rattle.lattice.specs.Mosaic.{Mosaic, void}
-use Rattle.tile_flood.specs.Blocks.{LabelledGround, block_of}
+use Rattle.labelling.specs.Blocks.{LabelledGround, block_of}
 use Rattle.tile_flood.specs.Mending.{IsLabelledBefore}
 use Rattle.tile_flood.proofs.BelowLevel.{carried_still, labelling_still}
 use Rattle.tile_flood.proofs.Dependence.{same_ground, solid_inside}

@@ -8,12 +8,12 @@ use Rattle.lattice.specs.Mosaic.{Mosaic, void}
 use Rattle.lattice.specs.Block.{Block, IsBlockOf, is_rim, is_sink_at, rim_number}
 use Rattle.lattice.specs.Ground.{is_sink, metres}
 use Rattle.lattice.specs.Height.{height_of}
-use Rattle.tile_flood.specs.Blocks.{LabelledGround}
+use Rattle.labelling.specs.Blocks.{LabelledGround}
 use Rattle.tile_flood.specs.Carried.{AreCarried}
-use Rattle.tile_flood.specs.Labelling.{IsLabelling}
-use Rattle.tile_flood.specs.Raising.{raised_level}
-use Rattle.tile_flood.specs.Spills.{AreSpills}
-use Rattle.tile_flood.specs.declared.passing.Spill.{Spill}
+use Rattle.labelling.specs.Labelling.{IsLabelling}
+use Rattle.labelling.specs.Raising.{raised_level}
+use Rattle.labelling.specs.Spills.{AreSpills}
+use Rattle.labelling.specs.declared.spill.Spill.{Spill}
 
 -- a valid labelling of the block of the corner's tile
 pub record IsFlooded (m : Mosaic) (c : Corner) (labelled : LabelledGround) : Type 0 where

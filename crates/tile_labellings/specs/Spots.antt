@@ -2,8 +2,8 @@
 use Rattle.std.specs.Prelude.{◌≡◌, ◌≢◌, ℕ, ◌+◌, ◌*◌, ◌-◌, ◌<◌, ◌↔◌, ◌⊎◌, ℤ, List, slice_index, slice_index_or, slice_range}
 use Rattle.lattice.specs.Corners.{Corner}
 use Rattle.lattice.specs.Mosaic.{Mosaic, void}
-use Rattle.tile_flood.specs.Blocks.{LabelledGround}
-use Rattle.tile_flood.specs.Labelling.{OUT, NO_LABEL}
+use Rattle.labelling.specs.Blocks.{LabelledGround}
+use Rattle.labelling.specs.Labelling.{OUT, NO_LABEL}
 use Rattle.tile_labellings.specs.Labellings.{IsFlooded}
 
 -- these are the two bytes of the value with this index in a plane of such bytes

@@ -7,7 +7,7 @@ use Rattle.lattice.specs.Lattice.{point_of}
 use Rattle.lattice.specs.Mosaic.{Mosaic, void}
 use Rattle.lattice.specs.declared.height.Height.TheVariants.{At}
 use Rattle.lattice.specs.declared.point.Point.{Point}
-use Rattle.tile_flood.specs.Blocks.{LabelledGround}
+use Rattle.labelling.specs.Blocks.{LabelledGround}
 use Rattle.tile_labellings.specs.Labellings.{IsFlooded, IsFloodedTile}
 use Rattle.tile_labellings.specs.declared.tile_labelling.TileLabelling.{TileLabelling}
 use Rattle.tile_labellings.specs.declared.tile_labelling.TileLabelling.TheVariants.{Kept, Flooded}

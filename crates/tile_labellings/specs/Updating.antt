@@ -2,7 +2,7 @@
 use Rattle.std.specs.Prelude.{◌≡◌, ◌≢◌, ℕ, ◌<◌, ◌<ℤ◌, ◌≤ℤ◌, ◌++◌, ◌∷◌, [], ◌⊎◌, ℤ, IsTrue, List, length, slice_set, slice_index_or}
 use Rattle.lattice.specs.Block.{Block, is_solid}
 use Rattle.lattice.specs.Mosaic.{void}
-use Rattle.tile_flood.specs.Blocks.{block_of}
+use Rattle.labelling.specs.Blocks.{block_of}
 
 -- the block has this height at the point, which was ground and is, and else is as it was
 pub record IsUpdated (b : Block) (e : ℕ) (h : ℤ) (new : Block) : Type 0 where

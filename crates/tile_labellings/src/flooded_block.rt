@@ -9,21 +9,22 @@ ghost use Rattle.lattice.specs.Mosaic.{Mosaic, void};
 ghost use Rattle.lattice.specs.declared.refusal.Refusal.TheVariants.{NoMemory};
 ghost use Rattle.catalogue.specs.Readers.{OnlyReads, reads_of};
 ghost use Rattle.catalogue.specs.Reading.{MayRefuse};
-ghost use Rattle.tile_flood.specs.Blocks.{LabelledGround};
+ghost use Rattle.labelling.specs.Blocks.{LabelledGround};
 ghost use Rattle.tile_flood.specs.Carried.{AreCarried};
-ghost use Rattle.tile_flood.specs.Labelling.{IsLabelling};
+ghost use Rattle.labelling.specs.Labelling.{IsLabelling};
 ghost use Rattle.tile_flood.specs.Mending.{IsLabelledBefore};
-ghost use Rattle.tile_flood.specs.Spills.{AreSpills, HaveSameSpills};
+ghost use Rattle.labelling.specs.Spills.{AreSpills, HaveSameSpills};
 ghost use Rattle.tile_labellings.specs.Labellings.{AreHeldSpills, IsFlooded, IsFloodedTile, IsBlockBut};
 ghost use Rattle.tile_labellings.specs.TileLabellings.{most_changed};
 ghost use Rattle.tile_labellings.specs.Updating.{IsUpdated, IsListedUnlessBelow};
 
 use arrayvec::ArrayVec;
 use catalogue::{Samples, height};
+use labelling::Spill;
 use lattice::{Corner, Height, Refusal, VOID, point_at};
 use std::alloc::Global;
 use std::marker::Model;
-use tile_flood::{Block, Flood, Labelled, Spill, mend, restore, spills};
+use tile_flood::{Block, Flood, Labelled, mend, restore, spills};
 
 // So many points may have changed before the block is flooded anew: to mend for many takes as long as a flood.
 const MOST_CHANGED: usize = 64;

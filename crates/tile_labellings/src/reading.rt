@@ -5,15 +5,16 @@ ghost use Rattle.lattice.specs.Limits.{largest_side};
 ghost use Rattle.lattice.specs.Mosaic.{void};
 ghost use Rattle.lattice.specs.declared.refusal.Refusal.TheVariants.{NoMemory, Damaged};
 ghost use Rattle.tile_flood.specs.Kept.{labels_in, levels_in};
-ghost use Rattle.tile_flood.specs.Labelling.{IsLabelling};
-ghost use Rattle.tile_flood.specs.Raising.{raised_level};
+ghost use Rattle.labelling.specs.Labelling.{IsLabelling};
+ghost use Rattle.labelling.specs.Raising.{raised_level};
 ghost use Rattle.tile_labellings.specs.Labellings.{AreLevelsOfRim, DoMarksFit};
 ghost use Rattle.tile_labellings.specs.Spots.{DoMarksFitAt, StandsAt};
 
 use crate::bytes::{label_from, labels_from, level_from, levels_from};
+use labelling::{NO_LABEL, OUT};
 use lattice::{Refusal, Side, VOID, rim_index};
 use std::alloc::{AllocError, Global};
-use tile_flood::{Labelled, NO_LABEL, OUT, raise_at};
+use tile_flood::{Labelled, raise_at};
 
 /// The labelling that the bytes of a tile's kept planes say.
 ///

@@ -6,15 +6,16 @@ ghost use Rattle.lattice.specs.Mosaic.{Mosaic, void};
 ghost use Rattle.lattice.specs.declared.refusal.Refusal.TheVariants.{NoMemory};
 ghost use Rattle.catalogue.specs.Readers.{OnlyReads, reads_of};
 ghost use Rattle.catalogue.specs.Reading.{MayRefuse};
-ghost use Rattle.tile_flood.specs.Spills.{AreSpills};
+ghost use Rattle.labelling.specs.Spills.{AreSpills};
 ghost use Rattle.tile_labellings.specs.Labellings.{IsFlooded};
 ghost use Rattle.tile_labellings.specs.TileLabellings.{IsBelowLevel};
 
 use crate::flooded_block::FloodedBlock;
 use catalogue::Samples;
+use labelling::Spill;
 use lattice::{Corner, Refusal, VOID};
 use std::alloc::Global;
-use tile_flood::{Labelled, Spill, spills};
+use tile_flood::{Labelled, spills};
 
 /// The labelling of a tile: as it was kept, valid but maybe not to be mended; or of its block as it was flooded.
 #[derive(Drop)]

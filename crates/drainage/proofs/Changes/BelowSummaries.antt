@@ -3,9 +3,9 @@ use Rattle.drainage.proofs.Prelude.{At, Bool, Corner, DifferAt, Flooded, IsFille
 use Rattle.std.specs.List.{list_all}
 use Rattle.std.proofs.lemmas.List.{get_or_default, same_lists}
 use Rattle.lattice.specs.Block.{IsBlockOf, block_terrain, is_solid, is_exit, is_rim, is_sink_at, around, rim_number}
-use Rattle.tile_flood.specs.Spills.{AreSpills, Meets}
+use Rattle.labelling.specs.Spills.{AreSpills, Meets}
 use Rattle.tile_flood.proofs.Dependence.{same_link}
-use Rattle.tile_flood.proofs.Passages.{not_void}
+use Rattle.labelling.proofs.Passages.{not_void}
 use Rattle.tile_labellings.specs.TileLabellings.{labelled_of, DifferAt as DifferAtIndex, IsBelow, IsBelowLevel, IsSetFrom, IsStill, IsTileLabelling}
 use Rattle.tile_labellings.proofs.KeptStill.{AreHeightsStill, heights_still}
 use Rattle.drainage.proofs.Questions.Asked.{is_at}

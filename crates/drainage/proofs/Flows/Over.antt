@@ -2,9 +2,9 @@
 -- label names.
 use Rattle.std.proofs.Common.{◌≡◌, ◌≢◌, ℕ, ◌*◌, ◌-◌, ◌<◌, inl, inr, ℤ, pos, Bool, true, false, IsTrue, List, length, slice_index, slice_index_or, refl, sym, ◌∙◌, subst, arith, Contains}
 use Rattle.drainage.proofs.Prelude.{AreReady, Corner, IsBlockOf, IsFalse, IsFilledLevel, IsFlooded, IsGroundNode, IsJoinedLevel, IsLabelling, IsMosaic, IsPath, IsPlacedLink, LabelledGround, Mosaic, NO_LABEL, OUT, Option, Rim, TileGraph, bare_block, block_is_lawful, block_of, block_terrain, corner_at, crest, end_of, get_or_default, int_max, is_ground, is_present, is_rim, is_solid, node_number, point_of, present_iff, rim_number, rim_number_below, terrain, terrain_is_lawful, void}
-use Rattle.tile_flood.proofs.InMosaic.{block_is_part, ground_is, solid_is_ground, inner_outlet_is_outlet}
-use Rattle.tile_flood.proofs.Parts.{level_of_part, level_at_outlet}
-use Rattle.tile_flood.proofs.Squares.{solid_below}
+use Rattle.labelling.proofs.InMosaic.{block_is_part, ground_is, solid_is_ground, inner_outlet_is_outlet}
+use Rattle.labelling.proofs.Parts.{level_of_part, level_at_outlet}
+use Rattle.labelling.proofs.Squares.{solid_below}
 use Rattle.drainage.proofs.Tiles.RimNodes.{filled_by_joined}
 use Rattle.drainage.proofs.Tiles.Whole.{summaries}
 

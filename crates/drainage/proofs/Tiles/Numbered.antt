@@ -2,7 +2,7 @@
 use Rattle.std.proofs.Common.{◌≡◌, ◌≢◌, ◌⊎◌, inl, inr, ℕ, ◌+◌, ◌*◌, ◌-◌, ◌/◌, ◌%◌, ◌<◌, ◌≤◌, List, [], length, pos, refl, sym, ap, ap₂, ◌∙◌, subst, arith, mod-lt}
 use Rattle.drainage.proofs.Prelude.{Corner, Fits, Option, Some, Summary, TileGraph, cases_eq, get_or-map, length-map, loaded_at, node_number}
 use Rattle.std.proofs.lemmas.List.Sorted.{IsPermutation-refl}
-use Rattle.tile_flood.proofs.Squares.{cell_of}
+use Rattle.labelling.proofs.Squares.{cell_of}
 use Rattle.border_graph.specs.Joining.{Rim, AreOfMosaic, summary_at}
 use Rattle.border_graph.specs.Edges.{AreEdges}
 use Rattle.border_graph.specs.Others.{corner_at, AreTileEdges}

@@ -3,9 +3,9 @@ use Rattle.std.proofs.Common.{◌≡◌, ℕ, ◌+◌, ◌*◌, ◌-◌, ◌<◌
 use Rattle.drainage.proofs.Prelude.{AreRimPointsIn, AreSpills, Block, Corner, Decides-int_eq, HasOtherRimHeight, IsBlockOf, IsFlooded, IsLabelling, IsMosaic, IsRimPoint, IsRimPointIn, LabelledGround, Mosaic, RimPoint, Spill, bare_block, block_is_lawful, block_of, block_terrain, cases_Bool, cases_lt, get_or_append_left, height_of, int_eq, is_outlet, is_rim, is_solid, metres, point_of, rim_number, slice_index, slice_index_or, void}
 use Rattle.std.proofs.Math.Seq.{get_or-append_seam}
 use Rattle.lattice.proofs.Levels.{level_is_unique, level_of_outlet}
-use Rattle.tile_flood.proofs.Passages.{spills_of_ground}
-use Rattle.tile_flood.proofs.Raised.{rim_number_below, lowest_height}
-use Rattle.tile_flood.proofs.Squares.{rim_is_exit, solid_if}
+use Rattle.labelling.proofs.Passages.{spills_of_ground}
+use Rattle.labelling.proofs.Heights.{rim_number_below, lowest_height}
+use Rattle.labelling.proofs.Squares.{rim_is_exit, solid_if}
 use Rattle.border_graph.specs.Joining.{nowhere, IsRimOf, IsSummaryOf}
 use Rattle.lattice.proofs.RimNumbers.{one_rim_point}
 

@@ -1,6 +1,6 @@
 -- The levels of a whole tile, from its labelling and those of its rim.
 use Rattle.drainage.proofs.Prelude.{Asked, Contains, Corner, Damaged, Err, Ghosts, HeldLabelling, IfErr, IsEntered, IsFlooded, IsMosaic, IsRight, IsTileLabelling, IsTrue, Known, LabelledGround, List, Mosaic, NoMemory, Ok, OnlyReads, Refusal, Result, TileLabelling, ℕ, ℤ, ap, corner_at, corners_of, ends_any, inl, inr, length, present_iff, refl, subst, sym, ◌<◌, ◌∙◌, ◌≡◌, ◌⊎◌}
-use Rattle.tile_flood.specs.Raising.{AreRimLevels, IsRimFilled}
+use Rattle.labelling.specs.Raising.{AreRimLevels, IsRimFilled}
 use Rattle.drainage.proofs.Questions.Questioned.{answered, stopped, wanting}
 use Rattle.drainage.proofs.Changes.Refreshed as refreshed
 

@@ -6,9 +6,9 @@ use Rattle.page_map.specs.declared.locations.KeptLocations.{KeptLocations}
 use Rattle.page_map.specs.Locations.{PlaneLocation}
 use Rattle.page_map.specs.declared.plane.Plane.TheVariants.{Levels}
 use Rattle.tile_labellings.specs.Spots.{IsLabelledAt, StandsAt}
-use Rattle.tile_flood.specs.Blocks.{LabelledGround}
+use Rattle.labelling.specs.Blocks.{LabelledGround}
 use Rattle.tile_flood.specs.Kept.{AreKeptOf, labels_in, levels_in}
-use Rattle.tile_flood.proofs.Raised.{lowest_height}
+use Rattle.labelling.proofs.Heights.{lowest_height}
 use Rattle.cow_tree.specs.Layout.{tile_in, kept_in}
 use Rattle.cow_tree.proofs.TreeReads.{same_mosaic, was_readable}
 use Rattle.store.specs.Labelling.{IsSure, Consults}

@@ -1,5 +1,5 @@
 use Rattle.drainage.proofs.Prelude.{AreTileLevels, Contains, Corner, Err, IfOk, IsRight, IsTileLabelling, List, Mosaic, Ok, OnlyReads, asked_on, corner_at, get_or_default, known_of, length, pos, subst, sym, ◌<◌, ◌∙◌, ◌≡◌}
-use Rattle.tile_flood.specs.Raising.{AreRimLevels, IsRimFilled}
+use Rattle.labelling.specs.Raising.{AreRimLevels, IsRimFilled}
 use Rattle.drainage.proofs.Caches.Growing.{known_by}
 use Rattle.drainage.proofs.Changes.Refreshed.{entered_there}
 use Rattle.drainage.proofs.Questions.Questioned.{asked_reads, passed_on, refused_by, stopped}

@@ -1,5 +1,5 @@
 use Rattle.std.proofs.Common.{rules}
-use Rattle.tile_flood.proofs.Squares.{row_of_cell, column_of_cell}
+use Rattle.labelling.proofs.Squares.{row_of_cell, column_of_cell}
 use Rattle.tile_flood.proofs.outlets.is_on_rim.Goals as goal
 
 pub returns-then-j-eq0 : goal.returns-then-j-eq0

@@ -1,5 +1,5 @@
 use Rattle.std.proofs.Common.{arith, sym, ◌∙◌, true≢false}
-use Rattle.tile_flood.proofs.Passages.{first_taken, same_passed}
+use Rattle.labelling.proofs.Passages.{first_taken, same_passed}
 use Rattle.tile_flood.proofs.passing.first_of_each.Goals as goal
 use Rattle.tile_flood.proofs.passing.first_of_each.Goals.{then-k-eq0+in_ok-push, then-k-eq0-via-then-k-eq0, then-k-eq0-via-else-k-eq0+then-not-have_same_labels, else-k-eq0+else-not-have_same_labels}
 

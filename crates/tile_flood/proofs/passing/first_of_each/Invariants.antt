@@ -1,4 +1,4 @@
-use Rattle.tile_flood.specs.Passing.{AreFirstsBelow}
+use Rattle.labelling.specs.Passing.{AreFirstsBelow}
 use Rattle.tile_flood.proofs.passing.first_of_each.Given as goal
 
 abbrev pub invariant-loop-k : goal.invariant-loop-k

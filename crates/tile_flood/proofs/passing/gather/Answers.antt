@@ -1,6 +1,6 @@
 use Rattle.tile_flood.proofs.Prelude.{cases_lt, inl, ◌-◌, arith, inr, subst, ◌*◌, ◌+◌, ◌<◌, ◌≡◌, ◌≢◌, IsFound, AreGathered}
 use borrow.Author.Count.{below_more}
-use Rattle.tile_flood.proofs.Passages.{found_at, none_there, met_still, passages_more, found_now, found_still}
+use Rattle.labelling.proofs.Passages.{found_at, none_there, met_still, passages_more, found_now, found_still}
 use Rattle.tile_flood.proofs.passing.gather.Goals as goal
 use Rattle.tile_flood.proofs.passing.gather.Goals.{in-Some+in_ok-list, in_default, then-not-are_alike+else-loop-k-test, else-not-are_alike}
 

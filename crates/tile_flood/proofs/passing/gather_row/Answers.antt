@@ -1,5 +1,5 @@
 use Rattle.tile_flood.proofs.Prelude.{AreFoundStill, arith, ◌+◌, ◌≡◌}
-use Rattle.tile_flood.proofs.Passages.{met_still, found_still, row_found, beside_east, beside_south, beside_south_east, beside_south_west}
+use Rattle.labelling.proofs.Passages.{met_still, found_still, row_found, beside_east, beside_south, beside_south_east, beside_south_west}
 use Rattle.tile_flood.proofs.passing.gather_row.Goals as goal
 
 pub gather-requires-clause-beside : goal.gather-requires-clause-beside

@@ -1,5 +1,5 @@
 use Rattle.tile_flood.proofs.Prelude.{Spill, ℤ, arith, get_or_default, int_lt, ints, pos, subst, sym, true, ◌∙◌, ◌≡◌, ◌≤ℤ◌}
-use Rattle.tile_flood.proofs.Passages.{listed_in_place}
+use Rattle.labelling.proofs.Passages.{listed_in_place}
 use Rattle.tile_flood.proofs.passing.lower.Goals as goal
 
 at_most : (a b : ℤ) → int_lt a b ≡ true → a ≤ℤ b

@@ -1,6 +1,6 @@
 use Rattle.tile_flood.proofs.Prelude.{AreFirsts, AreFoundBelow, AreSpills, IsInOrder, IsLabelling, arith, block_of, subst, sym, ◌*◌, ◌≡◌}
-use Rattle.tile_flood.specs.Blocks.{LabelledGround}
-use Rattle.tile_flood.proofs.Passages.{rises, spills_in_order, spills_of_ground, no_lower}
+use Rattle.labelling.specs.Blocks.{LabelledGround}
+use Rattle.labelling.proofs.Passages.{rises, spills_in_order, spills_of_ground, no_lower}
 use Rattle.tile_flood.proofs.passing.spills.Goals as goal
 
 pub first_of_each-requires : goal.first_of_each-requires

@@ -1,6 +1,6 @@
 use Rattle.std.proofs.Common.{◌≢◌, ◌+◌, ◌*◌, ◌<◌, ◌∙◌, [], IsTrue, arith, inl, inr, sym, slice_index}
 use Rattle.tile_flood.proofs.Prelude.{NO_LABEL, block_of, is_solid}
-use Rattle.tile_flood.proofs.Squares.{in_square, not_void_if}
+use Rattle.labelling.proofs.Squares.{in_square, not_void_if}
 use Rattle.tile_flood.proofs.Fitting.{gap_at, ground_at, inner_fits}
 use Rattle.tile_flood.proofs.Standing.{stand_on}
 use Rattle.tile_flood.proofs.restoring.look_at.Goals as goal

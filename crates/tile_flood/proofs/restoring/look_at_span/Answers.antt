@@ -1,5 +1,5 @@
 use Rattle.std.proofs.Common.{arith, ◌+◌, ◌*◌}
-use Rattle.tile_flood.proofs.Squares.{in_square}
+use Rattle.labelling.proofs.Squares.{in_square}
 use Rattle.tile_flood.proofs.Fitting.{next_fits, settled_fits, span_fits}
 use Rattle.tile_flood.proofs.restoring.look_at_span.Goals as goal
 

@@ -1,6 +1,6 @@
 use Rattle.std.proofs.Common.{◌≡◌, ◌+◌, ◌-◌, ◌*◌, ◌/◌, ◌%◌, ℕ, IsTrue, arith, subst, sym}
 use Rattle.tile_flood.proofs.Prelude.{is_beside}
-use Rattle.tile_flood.proofs.Squares.{cell_of}
+use Rattle.labelling.proofs.Squares.{cell_of}
 use Rattle.tile_flood.proofs.Windows.{index_beside, is_inside}
 use Rattle.tile_flood.proofs.restoring.window_start.Goals as goal
 

@@ -1,6 +1,6 @@
 use Rattle.tile_flood.proofs.Prelude.{IsSeeding, List, Queue, SFits, ℕ, ℤ, ap, arith, block_of, is_exit, labels_of, levels_of, of_z, rules, subst, to_z, to_z-of_z, w16, ◌*◌, ◌+◌, ◌∙◌, ◌≡◌}
 use Rattle.tile_flood.proofs.InCells.{own_labelled}
-use Rattle.tile_flood.proofs.Squares.{in_square}
+use Rattle.labelling.proofs.Squares.{in_square}
 use Rattle.tile_flood.proofs.Spreading.{seeded, seeds_passed}
 use Rattle.tile_flood.proofs.seeding.seed_at.Goals as goal
 

@@ -1,5 +1,5 @@
 use Rattle.tile_flood.proofs.Prelude.{arith, cases_eq, inl, inr, labels_of, levels_of, ◌+◌, ◌/◌}
-use Rattle.tile_flood.proofs.Squares.{linked_apart}
+use Rattle.labelling.proofs.Squares.{linked_apart}
 use Rattle.tile_flood.proofs.Spreading.{spread_end}
 use Rattle.tile_flood.proofs.settling.spread.Goals as goal
 

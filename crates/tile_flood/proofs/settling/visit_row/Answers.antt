@@ -1,5 +1,5 @@
 use Rattle.tile_flood.proofs.Prelude.{IsTrue, ℕ, arith, bare_block, cases_eq, inl, inr, is_marked, is_solid, labels_of, levels_of, subst, sym, ◌*◌, ◌+◌, ◌-◌, ◌<◌, ◌≡◌}
-use Rattle.tile_flood.proofs.Squares.{linked_parts, linked_below, solid_below, rim_is_exit}
+use Rattle.labelling.proofs.Squares.{linked_parts, linked_below, solid_below, rim_is_exit}
 use Rattle.tile_flood.proofs.Spreading.{outlet_marked}
 use Rattle.tile_flood.proofs.Runs.{run_near, run_of, outer_row}
 use Rattle.tile_flood.proofs.settling.visit_row.Goals as goal

@@ -7,8 +7,8 @@ use Rattle.lattice.specs.Height.{height_of}
 use Rattle.lattice.specs.Lattice.{point_of}
 use Rattle.lattice.specs.Mosaic.{void}
 use Rattle.lattice.specs.declared.point.Point.{Point}
-use Rattle.tile_flood.specs.Flooding.{is_marked}
-use Rattle.tile_flood.proofs.Squares.{test_if}
+use Rattle.labelling.specs.Blocks.{is_marked}
+use Rattle.labelling.proofs.Squares.{test_if}
 use Rattle.tile_labellings.proofs.flooded_block.read_height.Goals as goal
 
 pub returns-clause-updated : goal.returns-clause-updated

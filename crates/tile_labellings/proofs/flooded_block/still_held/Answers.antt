@@ -1,8 +1,8 @@
 use Rattle.std.specs.Prelude.{Option, Some, None}
 use Rattle.std.specs.Global.{Vec}
-use Rattle.tile_flood.specs.Blocks.{LabelledGround}
-use Rattle.tile_flood.specs.Spills.{HaveSameSpills}
-use Rattle.tile_flood.specs.declared.passing.Spill.{Spill}
+use Rattle.labelling.specs.Blocks.{LabelledGround}
+use Rattle.labelling.specs.Spills.{HaveSameSpills}
+use Rattle.labelling.specs.declared.spill.Spill.{Spill}
 use Rattle.tile_labellings.specs.Labellings.{AreHeldSpills}
 use Rattle.tile_labellings.proofs.flooded_block.still_held.Goals as goal
 

@@ -3,7 +3,7 @@ use Rattle.std.specs.Option.{is_some}
 use Rattle.std.specs.Prelude.{not}
 use Rattle.std.proofs.lemmas.List.{get_or_default}
 use Rattle.lattice.specs.Mosaic.{void}
-use Rattle.tile_flood.specs.Raising.{raised_level}
+use Rattle.labelling.specs.Raising.{raised_level}
 use Rattle.tile_labellings.proofs.Fitting.{any_level, one_more_fits}
 use Rattle.tile_labellings.proofs.reading.do_marks_fit.Goals as goal
 use Rattle.tile_labellings.proofs.reading.do_marks_fit.Goals.{then-label-known+else-is_none+then-level-2, then-label-known+else-is_none+else-level-2, else-label-known+else-level}

@@ -1,6 +1,6 @@
 use Rattle.std.proofs.Common.{◌≢◌, ℕ, ◌<◌, ℤ, None, slice_index, slice_index_or}
 use Rattle.lattice.specs.Mosaic.{void}
-use Rattle.tile_flood.specs.Raising.{raised_level}
+use Rattle.labelling.specs.Raising.{raised_level}
 use Rattle.tile_labellings.proofs.reading.do_marks_fit.Given as goal
 
 abbrev pub invariant-loop-index : goal.invariant-loop-index

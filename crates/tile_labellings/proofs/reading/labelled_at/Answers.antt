@@ -1,8 +1,8 @@
 use Rattle.std.proofs.Common.{ℕ, ℤ, get_or, true≢false, sym, ◌∙◌, subst, rules, SFits, w16}
 use Rattle.std.proofs.lemmas.Int.{to_z-of_z}
-use Rattle.tile_flood.specs.Blocks.{block_of}
+use Rattle.labelling.specs.Blocks.{block_of}
 use Rattle.tile_flood.specs.Kept.{labels_in, levels_in}
-use Rattle.tile_flood.specs.Labelling.{IsLabelling}
+use Rattle.labelling.specs.Labelling.{IsLabelling}
 use Rattle.lattice.specs.Mosaic.{void}
 use Rattle.tile_labellings.specs.Spots.{DoMarksFitAt}
 use Rattle.tile_labellings.proofs.LabelledAt.{label_there, level_there, spot_fits}

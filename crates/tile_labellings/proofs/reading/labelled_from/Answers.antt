@@ -1,7 +1,7 @@
 use Rattle.std.proofs.Common.{ℕ, ℤ, List, true≢false, sym, ◌∙◌, subst}
-use Rattle.tile_flood.specs.Blocks.{LabelledGround, block_of}
+use Rattle.labelling.specs.Blocks.{LabelledGround, block_of}
 use Rattle.tile_flood.specs.Kept.{levels_in}
-use Rattle.tile_flood.specs.Labelling.{IsLabelling}
+use Rattle.labelling.specs.Labelling.{IsLabelling}
 use Rattle.tile_labellings.specs.Labellings.{AreLevelsOfRim}
 use Rattle.tile_labellings.proofs.Fitting.{marks_fit}
 use Rattle.tile_labellings.proofs.reading.labelled_from.Goals as goal

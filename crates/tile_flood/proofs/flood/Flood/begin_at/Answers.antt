@@ -1,6 +1,6 @@
 use Rattle.tile_flood.proofs.Prelude.{IsFirstSuspect, IsOwnLabel, IsTrue, SFits, ap, block_of, get_or_default, inl, inr, is_exit, of_z, refl, rules, slice_index, slice_index_or, subst, sym, to_z, to_z-of_z, void, w16, ≤ℤ_same, ◌%◌, ◌*◌, ◌+◌, ◌/◌, ◌<◌, ◌∙◌, ◌≡◌, ◌≤ℤ◌}
 use Rattle.lattice.proofs.IntTests.{lt_false}
-use Rattle.tile_flood.proofs.Squares.{cell_of}
+use Rattle.labelling.proofs.Squares.{cell_of}
 use Rattle.tile_flood.proofs.Steps.{begin_passed, begin_reset, begin_waits}
 use Rattle.tile_flood.proofs.ListedChanges.{listed_as}
 use Rattle.tile_flood.proofs.flood.Flood.begin_at.Goals as goal

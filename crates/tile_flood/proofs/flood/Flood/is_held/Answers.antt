@@ -1,6 +1,6 @@
 use Rattle.tile_flood.proofs.Prelude.{IsBesideWith, SFits, ap, arith, block_of, inr, ints, is_exit, le_true, of_z, pos, rules, slice_index, slice_index_or, subst, sym, to_z, void, w16, ◌%◌, ◌*◌, ◌+◌, ◌-ℤ◌, ◌/◌, ◌<ℤ◌, ◌∙◌, ◌≡◌, ◌≤ℤ◌}
 use Rattle.std.proofs.lemmas.Int.{to_z-of_z}
-use Rattle.tile_flood.proofs.Squares.{cell_of}
+use Rattle.labelling.proofs.Squares.{cell_of}
 use Rattle.tile_flood.proofs.Steps.{held_beside}
 use Rattle.tile_flood.proofs.flood.Flood.is_held.Goals as goal
 

@@ -1,5 +1,5 @@
 use Rattle.tile_flood.proofs.Prelude.{IsBesideWith, SFits, rules, slice_index_or, subst, sym, to_z-of_z, void, w16, ◌≤ℤ◌}
-use Rattle.tile_flood.proofs.Squares.{solid_below}
+use Rattle.labelling.proofs.Squares.{solid_below}
 use Rattle.tile_flood.proofs.Dependence.{beside_back}
 use Rattle.tile_flood.proofs.Steps.{max_second}
 use Rattle.tile_flood.proofs.flood.Flood.label_for.Goals as goal

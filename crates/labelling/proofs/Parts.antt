@@ -1,5 +1,10 @@
 -- A part of a terrain: what is reached inside it, and the filled level of its points (for any terrain).
-use Rattle.tile_flood.proofs.Prelude.{Bool, IsFalse, IsFilledLevel, IsPath, IsTrue, LeadsOut, List, ℤ, [], ap, ap₂, arith, cases_Bool, clamps, crest, end_of, inl, inr, int_max, ints, le-max_left, map, max-le, refl, subst, sym, ≤ℤ_antisym, ≤ℤ_same, ≤ℤ_trans, ◌∙◌, ◌∷◌, ◌≡◌, ◌≤ℤ◌}
+use Rattle.std.proofs.Common.{Bool, IsFalse, IsTrue, List, ℤ, [], ap, ap₂, arith, inl, inr, map, refl, subst, sym, ◌∙◌, ◌∷◌, ◌≡◌, ◌≤ℤ◌}
+use Rattle.lattice.specs.Terrain.{IsFilledLevel, IsPath, LeadsOut, crest, end_of}
+use Rattle.std.proofs.lemmas.Bool.{cases_Bool}
+use Rattle.std.proofs.lemmas.Int.{clamps, ints}
+use Rattle.std.specs.Int.{int_max}
+use Rattle.lattice.proofs.Levels.{le-max_left, max-le, ≤ℤ_antisym, ≤ℤ_same, ≤ℤ_trans}
 use Rattle.lattice.specs.Terrain.{Terrain, IsLawful}
 use Rattle.lattice.proofs.Levels.{le-max_right, height-le_crest, level_of_outlet}
 

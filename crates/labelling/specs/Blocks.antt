@@ -2,6 +2,9 @@
 use Rattle.std.specs.Prelude.{◌≡◌, ℕ, ◌*◌, ◌<◌, ℤ, List, [], length}
 use Rattle.lattice.specs.Limits.{IsSide}
 use Rattle.lattice.specs.Block.{Block}
+use Rattle.std.specs.Prelude.{Bool, false, not, slice_index_or}
+use Rattle.std.specs.Ordering.{int_eq}
+use Rattle.lattice.specs.Mosaic.{void}
 
 -- a block's side, and a level and a label for each of its points, row by row from the north-west
 pub record LabelledGround : Type 0 where
@@ -22,3 +25,7 @@ pub record AreHeights (n : ℕ) (heights : List ℤ) : Type 0 where
   pub side : IsSide n
   pub small : n * n < 4294967296
   pub whole : length heights ≡ n * n
+
+-- the point has its level
+abbrev pub is_marked : List ℤ → ℕ → Bool
+is_marked levels e = not (int_eq (slice_index_or levels e void) void)

@@ -5,8 +5,8 @@ use Rattle.std.specs.Int.{int_max}
 use Rattle.std.specs.List.{AllPairs}
 use Rattle.lattice.specs.Mosaic.{void}
 use Rattle.lattice.specs.Block.{is_linked}
-use Rattle.tile_flood.specs.Blocks.{LabelledGround, bare_block}
-use Rattle.tile_flood.specs.declared.passing.Spill.{Spill}
+use Rattle.labelling.specs.Blocks.{LabelledGround, bare_block}
+use Rattle.labelling.specs.declared.spill.Spill.{Spill}
 
 -- between the same two labels
 pub record HaveSameLabels (p q : Spill) : Type 0 where

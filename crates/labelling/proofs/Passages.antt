@@ -1,7 +1,21 @@
 -- Where water passes between labels: each two adjacent points are met once, and the lowest place between two labels is
 -- the first in order.
 use Rattle.std.proofs.Common.{◌≡◌, ◌≢◌, ℕ, ◌+◌, ◌*◌, ◌-◌, ◌/◌, ◌%◌, ◌<◌, ◌≤◌, ◌⊎◌, inl, inr, ℤ, ◌≤ℤ◌, false, not, IsTrue, ◌&&◌, List, [], ◌∷◌, ◌++◌, length, get_or, set, get_or-set_same, get_or-set_other, length-set, slice_index, refl, sym, ap, ap₂, ◌∙◌, subst, arith, true≢false, cond, int_lt, nat_eq, All, Contains, Less, Equal, Greater, AllPairs, IsPermutation, mul-le-mul_right}
-use Rattle.tile_flood.proofs.Prelude.{AreFoundBelow, AreFoundStill, ArePassages, AreSpills, Decides-int_eq, IsFound, IsLabelling, Spill, bare_block, block_is_lawful, block_of, block_terrain, cases_Bool, cases_eq, cases_lt, eq-eqb, get_or-eq_default, get_or_default, int_max, ints, is_beside, is_linked, is_marked, is_solid, ne_eqb, not-true, void, ≤ℤ_same, ≤ℤ_trans}
+use Rattle.labelling.specs.Passing.{AreFoundBelow, AreFoundStill, ArePassages, IsFound}
+use Rattle.labelling.specs.Spills.{AreSpills}
+use Rattle.std.proofs.lemmas.Bool.Decides.{Decides-int_eq}
+use Rattle.labelling.specs.Labelling.{IsLabelling}
+use Rattle.labelling.specs.declared.spill.Spill.{Spill}
+use Rattle.labelling.specs.Blocks.{bare_block, block_of, is_marked}
+use Rattle.lattice.proofs.Lawful.{block_is_lawful}
+use Rattle.lattice.specs.Block.{block_terrain, is_beside, is_linked, is_solid}
+use Rattle.std.proofs.lemmas.Bool.{cases_Bool, cases_eq, cases_lt, eq-eqb, ne_eqb, not-true}
+use Rattle.std.proofs.Math.ListN.{get_or-eq_default}
+use Rattle.std.proofs.lemmas.List.{get_or_default}
+use Rattle.std.specs.Int.{int_max}
+use Rattle.std.proofs.lemmas.Int.{ints}
+use Rattle.lattice.specs.Mosaic.{void}
+use Rattle.lattice.proofs.Levels.{≤ℤ_same, ≤ℤ_trans}
 use Rattle.std.specs.Ordering.{int_eq, is_lt, nat_cmp, int_cmp, ordering_then}
 use Rattle.std.specs.Cmp.{nat_cmp_is}
 use Rattle.std.proofs.lemmas.List.Quantifiers.{all_pairs_push}
@@ -9,9 +23,9 @@ use Rattle.std.proofs.lemmas.List.Elements.{Contains-get_or, Contains-append_lef
 use Rattle.std.proofs.lemmas.List.Sorted.{Contains-permutation, IsPermutation-sym}
 use Rattle.lattice.specs.Mosaic.{IsSample}
 use Rattle.lattice.proofs.Levels.{height-le_level, max-swap}
-use Rattle.tile_flood.specs.Spills.{Meets, HaveSameLabels}
-use Rattle.tile_flood.specs.Passing.{IsPassage, IsNoPassage, IsMetBy, IsListed, AreBeside, IsInOrder, AreFirsts, AreFirstsBelow, HasLowerLabels}
-use Rattle.tile_flood.proofs.Squares.{linked_parts, linked_from, linked_apart, beside_if, solid_below, solid_if, row_of_cell, column_of_cell, cell_of, row_below, test_if, solid_height}
+use Rattle.labelling.specs.Spills.{Meets, HaveSameLabels}
+use Rattle.labelling.specs.Passing.{IsPassage, IsNoPassage, IsMetBy, IsListed, AreBeside, IsInOrder, AreFirsts, AreFirstsBelow, HasLowerLabels}
+use Rattle.labelling.proofs.Squares.{linked_parts, linked_from, linked_apart, beside_if, solid_below, solid_if, row_of_cell, column_of_cell, cell_of, row_below, test_if, solid_height}
 
 differ : (e f : ℕ) → IsTrue (not (nat_eq e f)) → e ≢ f
 differ e f h same = absurd (true≢false (sym h ∙ ap not (ap (nat_eq e) (sym same) ∙ eq-eqb e e refl)))

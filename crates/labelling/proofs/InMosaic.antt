@@ -3,7 +3,9 @@
 use Rattle.std.proofs.Common.{rules}
 use Rattle.std.proofs.Common.{◌≡◌, ◌≢◌, ℕ, suc, ◌+◌, ◌*◌, ◌-◌, ◌/◌, ◌%◌, ◌<◌, ◌≤◌, inl, inr, ℤ, pos, ◌+ℤ◌, ◌-ℤ◌, ◌*ℤ◌, Bool, true, false, not, cond, IsTrue, ◌&&◌, ◌||◌, List, [], ◌∷◌, get_or, refl, sym, ap, ap₂, ◌∙◌, subst, arith, true≢false, nat_abs, nat_eq, All, nat_lt}
 use Rattle.std.specs.List.{list_any, list_all}
-use Rattle.tile_flood.proofs.Prelude.{IsBlockOf, around, bare_block, block_of, block_terrain, ints, is_exit, is_inner_outlet, is_linked, is_rim, is_sink_at, is_solid}
+use Rattle.lattice.specs.Block.{IsBlockOf, around, block_terrain, is_exit, is_inner_outlet, is_linked, is_rim, is_sink_at, is_solid}
+use Rattle.labelling.specs.Blocks.{bare_block, block_of}
+use Rattle.std.proofs.lemmas.Int.{ints}
 use Rattle.std.proofs.lemmas.Bool.{cases_Bool, and_parts, and_from, or_cases, or_left, or_right, ltb-true, lt-ltb, ltb-false, eqb-true, ne_eqb, not-true, eq-eqb}
 use Rattle.lattice.specs.declared.point.Point.{Point}
 use Rattle.lattice.specs.declared.height.Height.{Height}
@@ -22,8 +24,8 @@ use Rattle.lattice.proofs.Interior.{IsInner, inner_if}
 use Rattle.lattice.proofs.Samples.{holds_is, point_of_held, index_of_point_is, point_of_index, index_of_below}
 use Rattle.lattice.proofs.Lawful.{five_parts, five_from, terrain_is_lawful}
 use Rattle.lattice.proofs.BoolTests.{one_at_most}
-use Rattle.tile_flood.proofs.Parts.{IsPart}
-use Rattle.tile_flood.proofs.Squares.{in_square, inner_at, linked_parts, linked_from, linked_apart, Apart, beside_if, solid_below, row_of_cell, column_of_cell, cell_of, rim_is_exit, inner_is_exit}
+use Rattle.labelling.proofs.Parts.{IsPart}
+use Rattle.labelling.proofs.Squares.{in_square, inner_at, linked_parts, linked_from, linked_apart, Apart, beside_if, solid_below, row_of_cell, column_of_cell, cell_of, rim_is_exit, inner_is_exit}
 
 -- a point is ground where its height in metres isn't that of a void
 ground_by_metres : (samples : List ℤ) → is_height (by_seam_rule samples) ≡ not (is_void (metres (by_seam_rule samples)))

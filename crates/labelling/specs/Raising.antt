@@ -8,7 +8,7 @@ use Rattle.lattice.specs.Mosaic.{Mosaic, IsMosaic, is_present, void, is_void}
 use Rattle.lattice.specs.Ground.{is_ground, terrain}
 use Rattle.lattice.specs.Terrain.{IsFilledLevel}
 use Rattle.lattice.specs.Block.{Block, IsBlockOf, is_rim, rim_number}
-use Rattle.tile_flood.specs.Labelling.{IsLabelling, OUT, NO_LABEL}
+use Rattle.labelling.specs.Labelling.{IsLabelling, OUT, NO_LABEL}
 
 -- the levels are those to which water rises in the whole mosaic at the rim points of the corner's tile, by rim number,
 -- void where a rim point has no height

@@ -1,7 +1,13 @@
 -- Points of a block: rows and columns, adjacency, outlets, and a way out of each ground point.
 use Rattle.std.proofs.Common.{rules}
 use Rattle.std.proofs.Common.{◌≡◌, ◌≢◌, ℕ, zero, suc, ◌+◌, ◌*◌, ◌-◌, ◌/◌, ◌%◌, ◌<◌, ◌≤◌, ℤ, false, not, IsTrue, ◌&&◌, ◌||◌, List, [], ◌∷◌, get_or, sym, ap, ◌∙◌, arith, true≢false, nat_le, nat_lt, nat_eq, mod-lt, inl, inr, int_eq}
-use Rattle.tile_flood.proofs.Prelude.{Decides-int_eq, LeadsOut, and_from, around, bare_block, block_of, block_terrain, cases_Bool, is_beside, is_exit, is_inner_outlet, is_linked, is_marked, is_rim, is_sink_at, is_solid, list_all, ne_eqb, or_left, or_right, void}
+use Rattle.std.proofs.lemmas.Bool.Decides.{Decides-int_eq}
+use Rattle.lattice.specs.Terrain.{LeadsOut}
+use Rattle.std.proofs.lemmas.Bool.{and_from, cases_Bool, ne_eqb, or_left, or_right}
+use Rattle.lattice.specs.Block.{around, block_terrain, is_beside, is_exit, is_inner_outlet, is_linked, is_rim, is_sink_at, is_solid}
+use Rattle.labelling.specs.Blocks.{bare_block, block_of, is_marked}
+use Rattle.std.specs.List.{list_all}
+use Rattle.lattice.specs.Mosaic.{void}
 use Rattle.std.proofs.lemmas.Bool.{and_parts, ltb-true, lt-ltb, leb-true, le-leb, and_left, and_right, eqb-false, or_parts}
 use Rattle.std.proofs.lemmas.Nat.{rows}
 
@@ -137,3 +143,6 @@ leads n heights sinks (suc k) e some low solid = elim (cases_Bool (is_rim n e)) 
     )
   ]
 ]
+
+pub apart_if : (z y : ℕ) → IsTrue (not (nat_eq z y)) → z ≡ y → ⊥
+apart_if z y apart is = elim (cases_Bool (nat_eq z y)) [ inl is_so ↦ true≢false (sym apart ∙ ap not is_so) | inr isnt ↦ eqb-false z y isnt is ]

@@ -4,10 +4,10 @@ use Rattle.std.specs.Int.{int_max}
 use Rattle.std.specs.List.{AllPairs}
 use Rattle.lattice.specs.Mosaic.{void}
 use Rattle.lattice.specs.Block.{is_linked, is_beside}
-use Rattle.tile_flood.specs.Blocks.{bare_block}
-use Rattle.tile_flood.specs.declared.passing.Spill.{Spill}
-use Rattle.tile_flood.specs.Flooding.{is_marked}
-use Rattle.tile_flood.specs.Spills.{Meets, HaveSameLabels}
+use Rattle.labelling.specs.Blocks.{bare_block}
+use Rattle.labelling.specs.declared.spill.Spill.{Spill}
+use Rattle.labelling.specs.Blocks.{is_marked}
+use Rattle.labelling.specs.Spills.{Meets, HaveSameLabels}
 
 -- two points with levels and different labels: between which labels water passes there, and at which level
 pub record IsPassage (levels : List ℤ) (labels : List ℕ) (e f : ℕ) (p : Spill) : Type 0 where

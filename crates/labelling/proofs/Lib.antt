@@ -1,0 +1,5 @@
+pub mod Squares
+pub mod Parts
+pub mod InMosaic
+pub mod Passages
+pub mod Heights
