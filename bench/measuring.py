@@ -11,7 +11,7 @@ import time
 
 BENCH = pathlib.Path(__file__).resolve().parent
 ROOT = BENCH.parent
-sys.path.append(str(ROOT / "examples"))
+sys.path.append(str(ROOT / "tools"))
 
 import running
 

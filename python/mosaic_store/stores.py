@@ -38,7 +38,7 @@ def find_program(program: PathLike | None = None) -> str:
     found = os.environ.get("MOSAIC") or shutil.which("mosaic") or (str(built) if built.is_file() else None)
     if found is None:
         raise ProgramNotFound(
-            "the program `mosaic` wasn't found: install it, or build it with examples/program, or name it in MOSAIC"
+            "the program `mosaic` wasn't found: install it, or build it with tools/program, or name it in MOSAIC"
         )
     return found
 

@@ -214,7 +214,7 @@ class OnTheService(Attacked, InFolder):
         # As the example is, but for how long it waits.
         script = self.folder / "service.py"
         script.write_text(
-            f"import sys\nsys.path[:0] = [{str(PYTHON)!r}, {str(PYTHON / 'examples')!r}]\nimport service\n"
+            f"import sys\nsys.path[:0] = [{str(PYTHON)!r}, {str(PYTHON.parent / 'examples')!r}]\nimport service\n"
             f"service.SECONDS_TO_SEND = {self.patience}\nservice.main()\n"
         )
         words = [sys.executable, "-B", script, store, "--port", "0", "--program", PROGRAM]

@@ -24,7 +24,7 @@ class Service(InFolder):
     def start(self, path):
         """Starts the service; its process, its port, and the process of its program."""
         process = subprocess.Popen(
-            [sys.executable, PYTHON / "examples" / "service.py", path, "--port", "0", "--program", PROGRAM],
+            [sys.executable, PYTHON.parent / "examples" / "service.py", path, "--port", "0", "--program", PROGRAM],
             stdout=subprocess.PIPE,
             stderr=self.log_file(),
             text=True,
@@ -235,7 +235,7 @@ class Variants(InFolder):
     def test_fifty(self):
         path = self.store(21)
         before = self.image(path)
-        words = [sys.executable, PYTHON / "examples" / "variants.py", path, "0.5", "0.6", "0.9", "--program", PROGRAM]
+        words = [sys.executable, PYTHON.parent / "examples" / "variants.py", path, "0.5", "0.6", "0.9", "--program", PROGRAM]
         done = subprocess.run(words, capture_output=True, text=True, timeout=A_WHILE, check=False)
         self.assertEqual((done.returncode, done.stderr), (0, ""))
         self.assertRegex(done.stdout, r"50 variants in [\d.]+ s\nleast water: \d+ m, with a road of \d+ m")
@@ -248,7 +248,7 @@ class Variants(InFolder):
             (("95", "0.6", "0.9"), "a latitude lies"),
             (("0.15", "0.05", "0.5"), "crosses a void"),
         ):
-            script = PYTHON / "examples" / "variants.py"
+            script = PYTHON.parent / "examples" / "variants.py"
             done = subprocess.run([sys.executable, script, path, *words, "--program", PROGRAM], capture_output=True, text=True, timeout=A_WHILE, check=False)
             self.refused(done, told)
 

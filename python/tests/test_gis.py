@@ -98,7 +98,7 @@ class Feedback:
 
 @needs("numpy", "rasterio")
 class Qgis(InFolder):
-    """By stubs of what the script takes of QGIS; `examples/check gis` runs it in QGIS itself, where that is installed."""
+    """By stubs of what the script takes of QGIS; `./test gis` runs it in QGIS itself, where that is installed."""
 
     def setUp(self) -> None:
         super().setUp()

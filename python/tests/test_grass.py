@@ -50,7 +50,7 @@ def has_heights() -> bool:
 
 @needs("numpy")
 @unittest.skipUnless(shutil.which("grass"), "grass isn't installed: apt-get install grass-core")
-@unittest.skipUnless(IS_REAL, "the program mosaic isn't built: examples/program builds it")
+@unittest.skipUnless(IS_REAL, "the program mosaic isn't built: tools/program builds it")
 @unittest.skipUnless(has_heights(), "matplotlib's heights aren't installed: apt-get install python-matplotlib-data")
 class BesideGrass(InFolder):
     """GRASS goes its own way over flats and through depressions, so that cells differ; where water is and what drains mustn't."""

@@ -124,7 +124,7 @@ class Request(NamedTuple):
 
 
 @unittest.skipIf(np is None, "numpy isn't installed: apt-get install python3-numpy")
-@unittest.skipUnless(has_program(), "the program mosaic isn't built: examples/program builds it")
+@unittest.skipUnless(has_program(), "the program mosaic isn't built: tools/program builds it")
 class Served(unittest.TestCase):
     def setUp(self) -> None:
         self.session = memory_table(SIDE, 4)

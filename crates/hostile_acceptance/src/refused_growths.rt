@@ -1,5 +1,5 @@
 //! Calls of a store of either version, each made until it is answered. With ample memory none is refused.
-//! `examples/scarce_calls` runs the last two tests again and again, with each request for memory refused in turn.
+//! `tests/scarce_calls` runs the last two tests again and again, with each request for memory refused in turn.
 use crate::asserting::assert_row;
 use crate::good_images::{EAST, HERE, burn, import, wall};
 use crate::stores::{

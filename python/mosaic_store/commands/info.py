@@ -18,7 +18,7 @@ NAME = "mosaic-info"
 DESCRIPTION = """Tells a store's version, side, capacity, count of accepted commands, tiles (fresh and stale) and bounds. mosaic-tiles tells
 it; where that isn't beside the program version and capacity are left out, and the store is read whole. `mosaic check` tells which
 tiles are stale. Where another program serves the store, that one's session tells all this: Session.info of the package, or GET
-/info of python/examples/service.py.
+/info of examples/service.py.
 
   mosaic-info STORE"""
 

@@ -1,4 +1,4 @@
-"""What the examples and the measurements have in common: the program's path, tools in C++, a script as a module, a folder of a run."""
+"""What the examples, the tests and the measurements have in common: the program's path, tools in C++, a script as a module, a folder of a run."""
 
 import contextlib
 import importlib.machinery
@@ -11,12 +11,12 @@ import subprocess
 import sys
 import tempfile
 
-EXAMPLES = pathlib.Path(__file__).resolve().parent
+TOOLS = pathlib.Path(__file__).resolve().parent
 
 
 def program(name="mosaic"):
     """The path of a program, proved and built where that is due; empty where MOSAIC names a program with none of this name beside it."""
-    built = subprocess.run([EXAMPLES / "program", name], stdout=subprocess.PIPE, text=True)
+    built = subprocess.run([TOOLS / "program", name], stdout=subprocess.PIPE, text=True)
     if built.returncode != 0:  # and it has told why
         sys.exit(1)
     return built.stdout.strip()
@@ -27,7 +27,7 @@ def compiled(name, folder):
     compiler = os.environ.get("CXX") or next(filter(shutil.which, ["c++", "g++", "clang++"]), None)
     if compiler is None:
         sys.exit(f"bench/{name}.cpp is needed, and no compiler for C++ is found")
-    subprocess.run([compiler, "-O2", "-std=c++17", "-o", folder / name, EXAMPLES.parent / "bench" / f"{name}.cpp"], check=True)
+    subprocess.run([compiler, "-O2", "-std=c++17", "-o", folder / name, TOOLS.parent / "bench" / f"{name}.cpp"], check=True)
     return folder / name
 
 

@@ -1,4 +1,4 @@
-/* Asks the library for what it refuses, and writes the numbers: cc -Iinclude examples/refused.c -lmosaic -o refused; ./refused STORE
+/* Asks the library for what it refuses, and writes the numbers: cc -Iinclude tests/refused.c -lmosaic -o refused; ./refused STORE
  * STORE is a store of tiles of side 3 that has N00E000 alone. */
 #include "mosaic.h"
 #include <stdio.h>

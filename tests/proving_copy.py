@@ -8,6 +8,8 @@ import shutil
 import subprocess
 import sys
 
+sys.path.append(str(pathlib.Path(__file__).resolve().parents[1] / "tools"))
+
 from running import scratch
 
 ROOT = pathlib.Path(__file__).resolve().parent.parent
@@ -26,7 +28,7 @@ def link_kept(copy):
 def proving_copy():
     """The folder of the copy, which goes at the end. It has no wrong bodies."""
     if shutil.which("rt") is None:
-        sys.exit("examples: the toolchain's command `rt` isn't found: it has to be on PATH")
+        sys.exit("tests: the toolchain's command `rt` isn't found: it has to be on PATH")
     with scratch() as folder:
         copy = folder / "copy"
         shutil.copytree(ROOT / "crates", copy / "crates", ignore=shutil.ignore_patterns("out", "must-fail", "wrong-bodies"))
@@ -60,5 +62,5 @@ def crates_asked(script, kind):
     """The crates that have a folder of this kind, or those that the command line names of them."""
     every = sorted(path.parent.name for path in (ROOT / "crates").glob(f"*/{kind}"))
     if unknown := set(sys.argv[1:]) - set(every):
-        sys.exit(f"examples/{script}: no {kind} in {' '.join(sorted(unknown))}. They are in {' '.join(every)}")
+        sys.exit(f"tests/{script}: no {kind} in {' '.join(sorted(unknown))}. They are in {' '.join(every)}")
     return sys.argv[1:] or every

@@ -37,7 +37,7 @@ import signal
 import sys
 import urllib.parse
 
-sys.path.insert(0, str(pathlib.Path(__file__).resolve().parents[1]))  # this package, also where it isn't installed
+sys.path.insert(0, str(pathlib.Path(__file__).resolve().parents[1] / "python"))  # the package, also where it isn't installed
 
 from mosaic_store import Command, MosaicError, Refusal, StoreExists, errors, open_store, point_of, questions
 

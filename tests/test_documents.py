@@ -1,0 +1,87 @@
+"""The documents: what is told in several places is the same, and what they name is there."""
+
+import re
+import shutil
+import unittest
+
+from support import ROOT, output
+
+ROW = re.compile(r"^\|? *(\d+) *\| *(\w+) *\|", re.M)
+SPECS = re.compile(r"^\| (`.+?) \| (.+?) \|$", re.M)
+CITED = re.compile(r"^(?:pub )?use Rattle\.(\w+)\.specs\.(\w+)\.", re.M)
+
+
+def text_of(name):
+    return (ROOT / name).read_text()
+
+
+class Documents(unittest.TestCase):
+    def test_refusals(self):
+        numbers = {word: int(number) for word, number in re.findall(r"Refusal::(\w+) => (\d+),", text_of("crates/lattice/src/refusal.rt"))}
+        rows = sorted((number, word) for word, number in numbers.items())
+        self.assertEqual(len(rows), 28)
+        for found in (ROW.findall(text_of("docs/messages.md")), re.findall(r"^(\d+)\|(\w+)\|", text_of("man/mosaic.1"), re.M)):
+            self.assertEqual([(int(number), word) for number, word in found], rows)
+
+    def test_lines(self):
+        listed, whole = (text_of("docs/lines.md").partition(f"## {title}")[2].partition("\n## ")[0] for title in ("Commands and queries", "Whole tiles"))
+        described = text_of("man/mosaic.1").partition(".SH LINES")[2].partition(".SH ")[0]
+        words = re.findall(r"^\| `(\w+)[^|]*\|[^|]*\| `OK", listed, re.M)
+        self.assertEqual(re.findall(r'^\.TP\n\.BI? "?(\w+)', described, re.M), words)
+        words = re.findall(r"^\| `(\w+) WORD` \|", whole, re.M)
+        self.assertEqual(re.findall(r'^\.BI "(\w+) " NAME$', text_of("man/mosaic-tiles.1"), re.M), words)
+
+    def test_versions(self):
+        version = text_of("VERSION").strip()
+        for name in ("man/mosaic.1", "man/mosaic-tiles.1"):
+            self.assertIn(f'"mosaic {version}"', text_of(name))
+        self.assertIn(f"\n## {version} ", text_of("CHANGELOG.md"))
+        self.assertIn(f'VERSION = "{version}"\n', text_of("python/mosaic_store/version.py"))
+
+    def test_links(self):
+        missing = []
+        for path in [*ROOT.glob("*.md"), *(ROOT / "docs").glob("*.md"), ROOT / "bench/README.md", ROOT / "python/README.md"]:
+            for link in re.findall(r"\]\(([^)#:]+)(?:#[^)]*)?\)", path.read_text()):
+                missing += [] if (path.parent / link).exists() else [f"{path.name}: {link}"]
+        self.assertEqual(missing, [])
+
+    def test_root_examples(self):
+        """The lines of each root comment's example stand in one function of a crate of tests, or of the program, in their order."""
+        crates = ROOT / "crates"
+        texts = [path.read_text() for crate in [*crates.glob("*acceptance"), crates / "mosaic"] for path in crate.glob("src/**/*.rt")]
+        functions = [packed(function) for text in texts for function in text.split("\n}\n")]
+        missing = []
+        for path in sorted(crates.glob("*/src/lib.rt")):
+            for example in re.findall(r"//! ```\n(.*?)//! ```", path.read_text(), re.S):
+                wanted = re.compile(".*".join(re.escape(packed(line[3:])) for line in example.splitlines()))
+                missing += [] if any(map(wanted.search, functions)) else [path.parent.parent.name]
+        self.assertEqual(missing, [])
+
+    def test_definitions(self):
+        """Of the files of definitions that docs/definitions.md lists first each cites those alone that it lists."""
+        first, second = (listed_specs(table) for table in text_of("docs/definitions.md").split("\n| Crate | Files |\n")[1:3])
+        cited = {name for crate, file in first for name in CITED.findall(text_of(f"crates/{crate}/specs/{file}.antt"))}
+        ours = {(crate, file) for crate, file in cited if file != "declared" and (ROOT / "crates" / crate).is_dir()}
+        self.assertEqual((sorted(ours - first - second), sorted(second - ours)), ([], []))
+
+
+class Kit(unittest.TestCase):
+    @unittest.skipUnless(shutil.which("rt"), "`rt` isn't here, and README's line on the prover can't be compared with it")
+    def test_prover(self):
+        """README names the prover that the repository is proved with."""
+        (named,) = re.findall(r"`(logic [0-9a-f]+)`", text_of("README.md"))
+        self.assertEqual(named, output("rt", "version").strip().partition(" ")[2])
+
+
+def listed_specs(table):
+    """The crates and files of a table: several crates of a row have their files apart by semicolons."""
+    found = set()
+    for crates, files in SPECS.findall(table.partition("\n\n")[0]):
+        for crate, group in zip(re.findall(r"`(\w+)`", crates), files.split("; ")):
+            found |= {(crate, file) for file in group.split(", ")}
+    return found
+
+
+def packed(code):
+    """Without comments and layout."""
+    return re.sub(r",([)\]}])", r"\1", re.sub(r"\s", "", re.sub(r"//.*", "", code)))

@@ -1,0 +1,43 @@
+"""The examples for GDAL and for QGIS's Processing, each in its tool: the levels of a tile, as rows of text."""
+
+import os
+import pathlib
+import shutil
+import subprocess
+
+from client import Session
+from support import A_TILE, EXAMPLES, ROOT, Case, needs, output, python_that_has, rows_of
+
+WANTED = [[9, 9, 9], [9, 5, 9], [9, 9, 5]]
+
+
+class Gis(Case):
+    @classmethod
+    def setUpClass(cls):
+        super().setUpClass()
+        cls.store = cls.folder / "gis.store"
+        output(cls.program, "format", cls.store, "3", "1")
+        with Session(cls.program, "serve", cls.store) as session:
+            session.ask("import N00E000 18", A_TILE)
+
+    def surroundings(self, python):
+        """QGIS takes the library of the first Python on PATH, and ends by a signal where that isn't its own."""
+        own = {"PYTHONPATH": str(ROOT / "python"), "QGIS_CUSTOM_CONFIG_PATH": str(self.folder), "QT_QPA_PLATFORM": "offscreen"}
+        return os.environ | own | {"PATH": f"{pathlib.Path(python).parent}:{os.environ['PATH']}"}
+
+    def test_gdal(self):
+        python, raster = python_that_has("osgeo.gdal, numpy", "python3-gdal python3-numpy"), self.folder / "gdal.asc"
+        output(python, EXAMPLES / "raster_by_gdal.py", self.store, "levels", "N00E000", raster, "AAIGrid", env=self.surroundings(python))
+        self.assertEqual(rows_of(raster), WANTED)
+
+    def test_qgis(self):
+        needs("qgis_process", "qgis")
+        python, raster = python_that_has("numpy", "python3-numpy"), self.folder / "qgis.asc"
+        scripts = self.folder / "profiles/default/processing/scripts"
+        scripts.mkdir(parents=True)
+        shutil.copy(EXAMPLES / "qgis_window.py", scripts)
+        # Debian's script of that name gives the program beside it an option of QGIS's own, which it refuses.
+        tool = shutil.which("qgis_process.bin") or "qgis_process"
+        words = ["--", f"STORE={self.store}", "WHAT=1", "WINDOW=0,1,0,1 [EPSG:4326]", f"RASTER={raster}"]
+        output(tool, "run", "script:mosaic_window", *words, env=self.surroundings(python), stderr=subprocess.DEVNULL)
+        self.assertEqual(rows_of(raster), WANTED)
