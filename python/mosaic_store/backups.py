@@ -8,12 +8,14 @@ from __future__ import annotations
 
 import contextlib
 import errno
+import fcntl
 import os
 import pathlib
 import tempfile
+from collections.abc import Iterator
 from typing import BinaryIO
 
-from .errors import CannotOpen, StoreExists
+from .errors import CannotOpen, StoreBusy, StoreExists
 from .files import sync_folder
 
 _AT_ONCE = 1 << 22
@@ -36,6 +38,25 @@ def copy_file(source: str, target: str) -> None:
             raise StoreExists(f"{target}: a file is there already: take another path, or remove it first") from None
         except OSError as fault:
             raise OSError(fault.errno, os.strerror(fault.errno or 0), target) from None
+
+
+def is_read_only(path: str) -> bool:
+    """Whether a file may be read by this process, and not written."""
+    return os.path.isfile(path) and os.access(path, os.R_OK) and not os.access(path, os.W_OK)
+
+
+@contextlib.contextmanager
+def copied(path: str) -> Iterator[str]:
+    """A copy of a store's file for a while, in a temporary folder. StoreBusy where another program has the store open."""
+    with tempfile.TemporaryDirectory(prefix="mosaic-") as folder, open(path, "rb") as file:
+        try:
+            fcntl.flock(file, fcntl.LOCK_SH | fcntl.LOCK_NB)
+        except BlockingIOError:
+            raise StoreBusy(f"{path}: another program has it open: end that one first, or ask through it") from None
+        copy = os.path.join(folder, "store")
+        copy_file(path, copy)
+        os.chmod(copy, 0o600)
+        yield copy
 
 
 def _copy_whole(source: BinaryIO, place: pathlib.Path) -> None:

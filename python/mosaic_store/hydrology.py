@@ -6,6 +6,7 @@ They need numpy.
 
 from __future__ import annotations
 
+import dataclasses
 import heapq
 import math
 from collections.abc import Callable, Mapping, Sequence
@@ -15,11 +16,12 @@ from typing import TYPE_CHECKING
 from . import lines
 from .directions import reaching
 from .errors import BadArgument
-from .lattice import METRES_A_DEGREE, VOID, Point, Run, Window
+from .lattice import METRES_A_DEGREE, VOID, Corner, Point, Run, Window, corners_named, corners_of
 from .network import Network
 from .rasters import STEPS, Heights, heights_of, place_in, ring
 from .samples import array_of, bytes_of, needed_numpy
-from .session import Session
+from .session import Session, memory_table
+from .stores import PathLike
 
 if TYPE_CHECKING:
     from .samples import Array
@@ -49,18 +51,16 @@ class Reservoir:
     """Of each point of the window the depth of the full reservoir in metres, int32; 0 outside it."""
 
 
-def reservoir(session: Session, window: Window, dam: Sequence[Point], crest: int, before: Point) -> Reservoir:
+def reservoir(session: Session, window: Window, dam: Sequence[Point], crest: int, before: Point, program: PathLike | None = None) -> Reservoir:
     """What a dam along a line of corners holds back, with its crest at a height in metres, at a point before it.
 
-    The dam is built in a trial, so that the store is afterwards as it was. The reservoir has to lie in the window.
+    The dam is built in a table in memory; the store is only asked. The reservoir has to lie in the window. `program` is the
+    program that makes the table, as `open_store` takes it.
     """
     line = lines.points_along(dam)
-    with session.trial():
-        for part in lines.commands(line):
-            session.wall(crest, part)
-        spills_at = session.fill(*before)
-        heights = heights_of(session, window)
+    heights = _with_wall(heights_of(session, window), line, crest)
     start = heights.cell(before)
+    spills_at = _spill(session, line, crest, before, program)
     ground = int(heights.samples.ravel()[start])
     if ground == spills_at:
         place = f"{before.y} {before.x}, where the ground is {ground} m high"
@@ -75,6 +75,47 @@ def reservoir(session: Session, window: Window, dam: Sequence[Point], crest: int
     # It fills from its lowest point, which needn't be the one before the dam.
     reached = _reached(heights.samples, int(depths.argmax()), spills_at - 1)
     return Reservoir(_stages(heights, reached, spills_at), spills_at, depths)
+
+
+def _with_wall(heights: Heights, line: Sequence[Point], crest: int) -> Heights:
+    """The heights of a window once a line is raised to a height."""
+    samples = heights.samples.copy()
+    flat = samples.reshape(-1)
+    cells = [heights.cell(point) for point in line if heights.window.holds(point)]
+    flat[cells] = needed_numpy().maximum(flat[cells], crest)
+    return dataclasses.replace(heights, samples=samples)
+
+
+def _spill(session: Session, line: Sequence[Point], crest: int, before: Point, program: PathLike | None) -> int:
+    """The filled level of a point once a line is a wall, from a table of the tiles around both, and of more until it is sure.
+
+    Water leaves such a table at its edge, so that its level is never more than the store's. It is the store's where what
+    leaves goes on from there in the store at that level, past the wall.
+    """
+    present, side = set(corners_named(session.tiles())), session.side
+    session.elevation(*before)  # a refusal, where no tile holds it
+    taken = {corner for point in (*line, before) for corner in corners_of(point, side)} & present
+    wall = set(line)
+    while True:
+        with memory_table(side, len(taken), program) as table:
+            _copy_part(session, table, taken)
+            for part in lines.commands(line):
+                table.wall(crest, part)
+            level, end = table.fill(*before), table.trace(*before)[-1]
+        wider = taken | {Corner(a + north, b + east) for a, b in taken for north, east in STEPS} & present
+        if wider == taken or (session.fill(*end) <= level and wall.isdisjoint(session.trace(*end))):
+            return level
+        taken = wider
+
+
+def _copy_part(session: Session, table: Session, corners: set[Corner]) -> None:
+    """Copies tiles to a table, with the heights that their points have in the store, and the sinks on them."""
+    windows = [corner.window(session.side) for corner in sorted(corners)]
+    for corner, window in zip(sorted(corners), windows):
+        table.import_tile(corner.name, heights_of(session, window).samples)
+    for sink in session.sinks():
+        if any(window.holds(sink) for window in windows):
+            table.sink(*sink)
 
 
 _FAR = 1 << 20

@@ -40,7 +40,7 @@ from .lattice import GREATEST_SIDE, LEAST_SIDE, Direction, Place, Point, degrees
 from .questions import Command, Numbers, Question, Watershed
 from .samples import array_of, bytes_of, codes_of, counts_of
 from .stores import PathLike, Report, cannot_open, check_store, find_server, path_word
-from .trials import Tiles, Trial
+from .trials import Tiles, Trial, TrialBlock
 
 if TYPE_CHECKING:
     from .samples import Array
@@ -312,8 +312,7 @@ class Session:
 
     # ---- trials ----
 
-    @contextlib.contextmanager
-    def trial(self) -> Iterator[Trial]:
+    def trial(self) -> TrialBlock:
         """Edits inside are taken back exactly at the end, unless `keep` was called. Other threads wait meanwhile.
 
             with store.trial():
@@ -322,15 +321,10 @@ class Session:
 
         Heights of every tile and the sinks are then as before. The count k goes up by the edits and by those that take
         them back, and the tiles touched and their neighbours are stale. The edits are on the drive meanwhile: where
-        this process is killed inside, or ended by a signal that it doesn't make an exception, they stay.
+        this process is killed inside they stay. SIGINT, SIGTERM and SIGHUP end the block as an exception does, and wait
+        while the edits are taken back.
         """
-        with self._lock:
-            trial = self.begin_trial()
-            try:
-                yield trial
-            finally:
-                if trial.is_open:
-                    trial.take_back()
+        return TrialBlock(self)
 
     def begin_trial(self) -> Trial:
         """A trial that is ended by hand, from any thread, by its `keep` or `take_back`. One at a time.

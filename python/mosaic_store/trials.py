@@ -12,12 +12,14 @@ import itertools
 import math
 from collections import defaultdict
 from collections.abc import Callable, Iterator, Mapping
+from types import TracebackType
 from typing import TYPE_CHECKING
 
 from .errors import BadArgument, Failed, SessionDied
 from .lattice import GREATEST_HEIGHT, MOST_POINTS, VOID, Corner, Point, corner_of, corners_of
 from .lines import commands
 from .questions import Burn, Command, Elevation, Import, Patch, Remove, Sinks, Unsink, Wall
+from .signals import Held
 
 if TYPE_CHECKING:
     from .session import Session
@@ -57,8 +59,16 @@ class Trial:
         """Gives every touched tile its samples and the store its sinks as they were, and ends the trial.
 
         A session that died or is failed is begun anew for it. May be called again where it failed midway: only what differs is
-        put back.
+        put back. A signal that ends the program waits until it is done.
         """
+        held = Held(Trial.take_back)
+        try:
+            held.start()
+            self._take_back()
+        finally:
+            held.end()
+
+    def _take_back(self) -> None:
         session = self._session
         with session._lock:
             if not self.is_open:
@@ -164,6 +174,34 @@ class Trial:
             session.unsink(*sink)
         for sink in sorted(before - now):
             session.sink(*sink)
+
+
+class TrialBlock:
+    """A trial for a `with`: what isn't kept is taken back at its end, whatever ends it. Made by `Session.trial`."""
+
+    def __init__(self, session: Session) -> None:
+        self._session = session
+        self._held = Held(TrialBlock.__enter__, TrialBlock.__exit__)
+        self._trial: Trial | None = None
+
+    def __enter__(self) -> Trial:
+        self._session._lock.acquire()
+        try:
+            self._held.start()
+            self._trial = self._session.begin_trial()
+            return self._trial
+        except BaseException:
+            self._session._lock.release()
+            self._held.end()
+            raise
+
+    def __exit__(self, kind: type[BaseException] | None, error: BaseException | None, trace: TracebackType | None) -> None:
+        try:
+            if self._trial is not None and self._trial.is_open:
+                self._trial.take_back()
+        finally:
+            self._session._lock.release()
+            self._held.end()
 
 
 def _is_well(session: Session) -> bool:

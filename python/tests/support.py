@@ -141,8 +141,13 @@ class InFolder(unittest.TestCase):
         """The environment of another program, which finds the package and talks to the same `mosaic`."""
         return {**os.environ, "PYTHONPATH": str(PYTHON), "MOSAIC": PROGRAM}
 
-    def command(self, name: str, *words: str, most_bytes: int | None = None) -> subprocess.CompletedProcess[str]:
-        """Runs a command of the package; how far it is isn't in what it tells. No file grows past so many bytes, if that is told."""
+    def command(
+        self, name: str, *words: str, most_bytes: int | None = None, user: int | None = None
+    ) -> subprocess.CompletedProcess[str]:
+        """Runs a command of the package; how far it is isn't in what it tells.
+
+        No file grows past so many bytes, if that is given; `user` is another user's number.
+        """
         limit = f"resource.setrlimit(resource.RLIMIT_FSIZE, ({most_bytes}, {most_bytes}))\n" if most_bytes else ""
         script = f"import resource, signal, sys\n{_HEARS_SIGNALS}{limit}from mosaic_store.__main__ import main\nsys.exit(main())"
         done = subprocess.run(
@@ -154,6 +159,7 @@ class InFolder(unittest.TestCase):
             text=True,
             timeout=A_WHILE,
             check=False,
+            user=user,
         )
         done.stderr = _HOW_FAR.sub("", done.stderr)
         return done

@@ -2,6 +2,9 @@
 
 import json
 import math
+import os
+import pathlib
+import random
 import signal
 import struct
 import unittest
@@ -9,7 +12,7 @@ import unittest
 from mosaic_store import BadArgument, Point, Window, format_store, memory_table, open_store
 from mosaic_store.lattice import METRES_A_DEGREE
 
-from .support import A_WHILE, PROGRAM, InFolder, needs
+from .support import A_WHILE, PROGRAM, InFolder, hills, needs
 
 SIDE = 11
 
@@ -96,8 +99,8 @@ class Networks(InFolder):
 class Commands(InFolder):
     """Each work writes a file that others read, and tells what it found in a line."""
 
-    def hydrology(self, *words: str):
-        done = self.command("hydrology", *words)
+    def hydrology(self, *words: str, user: int | None = None):
+        done = self.command("hydrology", *words, user=user)
         self.assertEqual((done.returncode, done.stderr), (0, ""))
         return done.stdout
 
@@ -132,10 +135,11 @@ class Commands(InFolder):
         # Where two lines cross the deeper one counts, once; what is dug is told.
         self.lines([[0.2, 0.5], [0.4, 0.5]], [[0.3, 0.4], [0.3, 0.6]], depth=7)
         told = self.hydrology(path, "edit", "lines.geojson", "--burn", "5")
+        self.assertIn("tiles flooded", told, "no question has to do it afterwards")
         with open_store(path, PROGRAM) as store:
             self.assertEqual([store.elevation(5, x) for x in (2, 3, 4)], [895, 893, 895])
         cells = (2 * 5 + 3 * 7) * (111_195 / 10) ** 2
-        self.assertAlmostEqual(float(told.split()[-6]) / cells, 1, delta=0.02)
+        self.assertAlmostEqual(float(told.splitlines()[0].split()[-6]) / cells, 1, delta=0.02)
         # A line that leaves the tiles has none of them made.
         self.lines([[0.2, 0.5], [0.4, 0.5]], [[1.9, 0.5], [2.9, 0.5]])
         with open_store(path, PROGRAM) as store:
@@ -223,23 +227,34 @@ class Commands(InFolder):
         with open_store(path, PROGRAM) as store:
             self.assertEqual([store.export(name) for name in store.tiles()], images)
 
-    def test_a_reservoir_that_is_ended_midway(self) -> None:
-        """A signal ends the command once the dam is built, and the dam is taken back, whatever other signal comes meanwhile."""
+    def test_a_reservoir_is_a_question(self) -> None:
+        """The store's file stays as it is, also where a signal ends it, and may be one that this user can only read."""
         path = str(self.folder / "valley")
         format_store(path, 41, 1, PROGRAM)
         with open_store(path, PROGRAM) as store:
             store.import_tile("N00E000", valley(41))
+            store.step()
+        before = (self.folder / "valley").read_bytes()
         dam = ["--points", "--dam", "5", "30", "35", "30", "--crest", "160", "--before", "20", "29"]
-        rows = ((signal.SIGTERM, signal.SIGINT, ""), (signal.SIGHUP, signal.SIGTERM, ""), (signal.SIGINT, signal.SIGINT, "interrupted"))
-        for count, (number, other, told) in enumerate(rows, 1):
-            killed = f"server.kill(); server.wait(); os.kill(os.getppid(), {number:d}); sys.stdin.read()"
-            ending = self.at("fill", killed, later=f"os.kill(os.getppid(), {other:d})")
+        told = self.hydrology(path, "reservoir", "stages.csv", *dam)
+        self.assertTrue(told.startswith("stages.csv: it spills at 160 m, with "), told)
+        self.assertEqual((self.folder / "valley").read_bytes(), before)
+        for number, shown in ((signal.SIGTERM, ""), (signal.SIGHUP, ""), (signal.SIGINT, "mosaic-hydrology: interrupted\n")):
+            ending = self.at("export", f"os.kill(os.getppid(), {number:d}); sys.stdin.read()")
             done = self.command("hydrology", path, "reservoir", "stages.csv", *dam, "--program", ending)
-            shown = f"mosaic-hydrology: {told}\n" if told else ""
             self.assertEqual((done.returncode, done.stdout, done.stderr), (128 + number, "", shown))
-            self.assertEqual(self.images(path), {"N00E000": valley(41)})
-            with open_store(path, PROGRAM) as store:
-                self.assertGreaterEqual(store.count(), 1 + 2 * count)
+            self.assertEqual((self.folder / "valley").read_bytes(), before)
+
+    @unittest.skipIf(os.getuid(), "another user is taken by root alone")
+    def test_a_store_that_may_only_be_read(self) -> None:
+        path = pathlib.Path(self.store(SIDE))
+        path.chmod(0o444)
+        self.folder.chmod(0o777)
+        before = path.read_bytes()
+        self.hydrology(str(path), "accumulation", "points.asc", user=65534)
+        self.write("points", {"type": "Point", "coordinates": [0.5, 0.5]})
+        self.refused(self.command("hydrology", str(path), "edit", "points.geojson", "--wall", "900", user=65534), "no right to read and write it")
+        self.assertEqual(path.read_bytes(), before)
 
     def test_edits_that_are_not_measured(self) -> None:
         """Where it can't be told what they moved they are taken back."""
@@ -337,7 +352,7 @@ class Planning(unittest.TestCase):
         with memory_table(41, 1, PROGRAM) as table:
             table.import_tile("N00E000", valley(41))
             network = network_of(table, Window(0, 0, 40, 40))
-            found = reservoir(table, network.window, [Point(5, 30), Point(35, 30)], 160, Point(20, 29))
+            found = reservoir(table, network.window, [Point(5, 30), Point(35, 30)], 160, Point(20, 29), PROGRAM)
             self.assertEqual(table.elevation(20, 30), 140)
             areas = network.heights.cell_areas().ravel()
             height = {(y, x): 200 - 2 * x + 5 * abs(y - 20) for y in range(41) for x in range(30)}
@@ -346,10 +361,31 @@ class Planning(unittest.TestCase):
                 self.assertAlmostEqual(stage.area, sum(areas[40 - y] for y, _ in wet), delta=1)
                 self.assertAlmostEqual(stage.volume, sum(areas[40 - y] * depth for (y, _), depth in wet.items()), delta=1)
             self.assertEqual((found.spills_at, found.stages[-1].level, found.depths.max()), (160, 160, 18))
-            higher = reservoir(table, network.window, [Point(5, 30), Point(35, 30)], 160, Point(20, 25))
+            higher = reservoir(table, network.window, [Point(5, 30), Point(35, 30)], 160, Point(20, 25), PROGRAM)
             self.assertEqual(higher.stages, found.stages, "it fills from its lowest point, whichever point it is asked at")
             with self.assertRaisesRegex(BadArgument, "no water stands before the dam at 35 29"):
-                reservoir(table, network.window, [Point(5, 30), Point(35, 30)], 160, Point(35, 29))
+                reservoir(table, network.window, [Point(5, 30), Point(35, 30)], 160, Point(35, 29), PROGRAM)
+
+    def test_a_dam_in_a_table_of_some_tiles(self) -> None:
+        """Its water stands as high as it does where the dam is built among all tiles, also where it spills into others."""
+        from mosaic_store.hydrology import _spill
+        from mosaic_store.lines import points_along
+
+        chance = random.Random(5)
+        with memory_table(SIDE, 9, PROGRAM) as table:
+            for name, data in hills(SIDE, 3, 3).items():
+                table.import_tile(name, data)
+            table.sink(17, 21)
+            for _ in range(60):
+                ends = [Point(chance.randrange(31), chance.randrange(31)) for _ in range(3)]
+                dam, before = points_along(ends[:2]), ends[2]
+                crest = chance.randrange(300, 480)
+                if Point(3, 2) in (*dam, before):
+                    continue
+                with table.trial():
+                    table.wall(crest, dam)
+                    level = table.fill(*before)
+                self.assertEqual(_spill(table, dam, crest, before, PROGRAM), level, (ends, crest))
 
     def test_heights_above_a_stream(self) -> None:
         from mosaic_store.hydrology import heights_above_stream, longest_path

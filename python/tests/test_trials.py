@@ -1,15 +1,18 @@
 """Trials: what is taken back, what is kept."""
 
+import contextlib
 import os
 import signal
 import struct
+import subprocess
+import sys
 import threading
 import unittest
 import unittest.mock
 
-from mosaic_store import BadArgument, SessionDied, errors, open_store, questions
+from mosaic_store import BadArgument, SessionDied, errors, open_store, questions, signals, trials
 
-from .support import PROGRAM, InFolder
+from .support import A_WHILE, PROGRAM, InFolder
 
 SIDE = 11
 
@@ -166,6 +169,101 @@ class Trials(InFolder):
             with self.assertRaises(errors.NoSink):
                 session.unsink(8, 8)
         self.assertEqual((session.tiles(), session.sinks()), (["N00E001", "N01E000", "N01E001"], self.before[1]))
+
+    def test_signals_wait_while_edits_are_taken_back(self):
+        """Before each question of it: the edits are taken back all the same, and then the signal is met."""
+        for number in (signal.SIGINT, signal.SIGTERM, signal.SIGHUP):
+            for by_hand in (False, True):
+                at = 0
+                while self.is_met_at(at, number, by_hand):
+                    self.assertEqual(self.image(), self.before, (number, by_hand, at))
+                    at += 1
+                self.assertGreater(at, 3, "questions were asked while the edits were taken back")
+
+    def is_met_at(self, at, number, by_hand):
+        """Sends a signal before a question of a trial's end, by its number; whether there was such a question."""
+        session, asked, met, seen = self.session, [], [], type(self.session)._asked
+
+        def spied(*question):
+            asked.append(question)
+            if len(asked) == at + 1:
+                signal.raise_signal(number)
+                self.assertEqual(met, [], "it waits")
+            return seen(session, *question)
+
+        def meet(number, _):
+            met.append(number)
+            raise InterruptedError
+
+        before = signal.signal(number, meet)
+        try:
+            with contextlib.suppress(InterruptedError), contextlib.ExitStack() as block:
+                trial = session.begin_trial() if by_hand else block.enter_context(session.trial())
+                session.wall(2000, [(10, x) for x in range(21)])
+                session.unsink(7, 7)
+                session._asked = spied
+                if by_hand:
+                    trial.take_back()
+        finally:
+            signal.signal(number, before)
+            session.__dict__.pop("_asked", None)
+        self.assertEqual(met, [number] * (len(asked) > at))
+        return bool(met)
+
+    def test_a_signal_between_any_two_steps(self):
+        """Whichever step of a trial's beginning or end it comes at, the store is afterwards as it was, and no trial is open."""
+        at = 0
+        while self.has_step(at):
+            self.assertEqual(self.image(), self.before, at)
+            self.session.begin_trial().keep()
+            at += 3
+        self.assertGreater(at, 200)
+
+    def has_step(self, at):
+        """Makes a trial, with SIGINT at a step of its own code, by its number; whether there was such a step."""
+        steps = 0
+
+        def trace(frame, event, _):
+            nonlocal steps
+            if frame.f_code.co_filename not in (trials.__file__, signals.__file__) or frame.f_code.co_name == "inverse":
+                return None
+            frame.f_trace_opcodes = True
+            steps += event == "opcode"
+            if steps == at + 1:
+                sys.settrace(None)
+                signal.raise_signal(signal.SIGINT)
+            return trace
+
+        before = signal.signal(signal.SIGINT, signal.default_int_handler)
+        try:
+            with contextlib.suppress(KeyboardInterrupt):
+                sys.settrace(trace)
+                with self.session.trial():
+                    sys.settrace(None)
+                    self.session.wall(2000, [(5, 5)])
+                    sys.settrace(trace)
+        finally:
+            sys.settrace(None)
+            signal.signal(signal.SIGINT, before)
+        return steps > at
+
+    def test_a_signal_whose_action_is_the_systems(self):
+        """A program that sets nothing for it takes its edits back, and is ended by it then."""
+        self.session.close()
+        script = (
+            "import os, signal, sys\n"
+            "from mosaic_store import open_store\n"
+            "signal.signal(signal.SIGTERM, signal.SIG_DFL)\n"
+            "with open_store(sys.argv[1]) as store:\n"
+            "    with store.trial():\n"
+            "        store.wall(2000, [(5, 5)])\n"
+            "        os.kill(os.getpid(), signal.SIGTERM)\n"
+            "        store.wall(2001, [(6, 6)])\n"
+        )
+        done = subprocess.run([sys.executable, "-c", script, self.folder / "store"], env=self.surroundings(), check=False)
+        self.assertEqual(done.returncode, -signal.SIGTERM)
+        with open_store(self.folder / "store", PROGRAM, wait=A_WHILE) as self.session:
+            self.assertEqual(self.image(), self.before)
 
     def test_the_program_dies_inside(self):
         session = self.session

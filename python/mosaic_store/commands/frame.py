@@ -19,6 +19,7 @@ from collections.abc import Callable, Iterator, Sequence
 from types import FrameType
 from typing import NoReturn
 
+from ..backups import copied, is_read_only
 from ..errors import MosaicError, Outside, Refusal, SessionDied
 from ..files import replacing
 from ..lattice import Place, Point, Window, corners_named, degrees_of
@@ -166,12 +167,29 @@ def _stopped(name: str, message: str) -> int:
 
 
 @contextlib.contextmanager
-def opened(path: str, program: str | None) -> Iterator[Session]:
-    """A session with a store that has a tile."""
-    with open_store(path, program) as session:
+def opened(path: str, program: str | None, edits: bool = False) -> Iterator[Session]:
+    """A session with a store that has a tile. Where it may only be read, and nothing is to be edited, with a copy of it."""
+    with contextlib.ExitStack() as kept:
+        served = path if edits or not is_read_only(path) else kept.enter_context(copied(path))
+        session = kept.enter_context(open_store(served, program))
         if not session.tiles():
             raise CommandError(f"{path}: the store has no tile: load some with mosaic-load")
         yield session
+
+
+def flood(session: Session, name: str) -> None:
+    """Floods each stale tile and keeps its levels, so that no question has to."""
+    start = time.monotonic()
+    progress = Progress(name, f"at most {len(session.tiles())}", "tiles flooded")
+    flooded = 0
+    try:
+        while session.step() is not None:
+            flooded += 1
+            progress.tell(flooded)
+    finally:
+        progress.clear()
+        if flooded:
+            print(f"{flooded} tile{'' if flooded == 1 else 's'} flooded in {time.monotonic() - start:.1f} s, and their levels kept", flush=True)
 
 
 def point_given(numbers: Sequence[float], session: Session, as_points: bool) -> Point:

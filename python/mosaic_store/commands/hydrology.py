@@ -32,6 +32,7 @@ from .frame import (
     check_picture,
     check_place,
     check_size,
+    flood,
     opened,
     parser,
     point_given,
@@ -62,8 +63,8 @@ DESCRIPTION = """What drains where in a window of a store. It needs numpy.
   mosaic-hydrology STORE path path.geojson --at 37.5 -105.25
                                                        the longest flow path to a place: slope, time of concentration
   mosaic-hydrology STORE reservoir stages.csv --dam 37.5 -105.25 37.52 -105.25 --crest 2100 --before 37.51 -105.26
-                                                       level, area and volume behind a dam, which stands in the store for
-                                                       a moment; --picture dam.png draws the full reservoir
+                                                       level, area and volume behind a dam that stands in a table in
+                                                       memory; --picture dam.png draws the full reservoir
   mosaic-hydrology STORE edit roads.geojson --wall 1200 --width 3
                                                        raises (--wall) or lowers (--burn) the lines of a GeoJSON in the store:
                                                        all of them, or none where one is refused
@@ -113,8 +114,11 @@ def _parsed(arguments: Sequence[str] | None) -> argparse.Namespace:
 def _run(options: argparse.Namespace) -> int:
     needed_numpy()
     _check(options)
-    with opened(options.store, options.program) as session:
-        print(f"{options.file}: {WORKS[options.what](session, options)}")
+    edits = options.what in EDITS
+    with opened(options.store, options.program, edits) as session:
+        print(f"{options.file}: {WORKS[options.what](session, options)}", flush=True)
+        if edits:
+            flood(session, NAME)
     return DONE
 
 
@@ -252,7 +256,7 @@ def _reservoir(session: Session, options: argparse.Namespace) -> str:
         check_picture(options.picture)
     window = window_given(options.window, session, options.points)
     check_size(window, options.what, MOST_OF_A_NETWORK)
-    found = reservoir(session, window, corners, options.crest, before)
+    found = reservoir(session, window, corners, options.crest, before, options.program)
     with written_whole(options.file) as path, open(path, "w", newline="", encoding="ascii") as file:
         rows = csv.writer(file)
         rows.writerow(["level_m", "area_km2", "volume_m3"])
@@ -383,6 +387,9 @@ WORKS: dict[str, Callable[[Session, argparse.Namespace], str]] = {
     "edit": _edit,
     "voids": _voids,
 }
+
+EDITS = ("edit", "voids")
+"""The works that change the store."""
 
 
 if __name__ == "__main__":

@@ -16,7 +16,7 @@ from ..loading import Change, Found, Kind, Outcome, Shape, copy, find, load, roo
 from ..session import Session, open_store
 from ..splitting import FILE, is_split, read_split
 from ..stores import format_store
-from .frame import DONE, FAILED, CommandError, Progress, parser, run
+from .frame import DONE, FAILED, CommandError, Progress, flood, parser, run
 
 NAME = "mosaic-load"
 DESCRIPTION = """Imports HGT files and archives of them (.hgt, .zip, .hgt.gz, names in any case), folders with all below them.
@@ -174,23 +174,8 @@ def _done(outcomes: Iterable[Outcome], total: int, what: str, session: Session, 
     """Takes all in, and floods what is stale then; the status."""
     status = _summed_up(outcomes, total, what, session)
     if not options.no_step:
-        _flood(session)
+        flood(session, NAME)
     return status
-
-
-def _flood(session: Session) -> None:
-    """Floods each stale tile and keeps its levels."""
-    start = time.monotonic()
-    progress = Progress(NAME, f"at most {len(session.tiles())}", "tiles flooded")
-    flooded = 0
-    try:
-        while session.step() is not None:
-            flooded += 1
-            progress.tell(flooded)
-    finally:
-        progress.clear()
-        if flooded:
-            print(f"{flooded} tile{'' if flooded == 1 else 's'} flooded in {time.monotonic() - start:.1f} s, and their levels kept", flush=True)
 
 
 def _summed_up(outcomes: Iterable[Outcome], total: int, what: str, session: Session) -> int:
