@@ -95,6 +95,10 @@ class Session:
         self._tiles_known: tuple[int, Tiles] = 0, {}
         """Some tiles as they were at a count: those of the last trial that was taken back."""
         self._is_closed = False
+        self._turn = threading.Lock()
+        self._asking = 0
+        """The thread whose call is asked just now; 0 where none is."""
+        self._is_interrupted = False
         self._takes_whole_tiles: bool | None = None
 
     # ---- the store ----
@@ -368,6 +372,16 @@ class Session:
         """The same as `reopen`."""
         return self.reopen()
 
+    def interrupt(self, thread: int) -> None:
+        """Ends the program where it is asked by a thread just now: that call is a SessionDied, and isn't asked again.
+
+        The next call begins a session with `restart` anew. Only for questions: a command may stand or not.
+        """
+        with self._turn:
+            if self._asking == thread and self._channel is not None:
+                self._is_interrupted = True
+                self._channel.process.kill()
+
     def close(self) -> None:
         """Ends the program by the end of its input. What was acknowledged stays, a trial that wasn't taken back too."""
         with self._lock:
@@ -456,15 +470,25 @@ class Session:
         """What `ask` answers. A session with `restart` is begun anew where it dies, and asked again what doesn't stand."""
         for _ in range(_MOST_RESTARTS):
             try:
-                return ask()
+                return self._interruptibly(ask)
             except SessionDied:
-                if not self._restart or self._is_closed or self._path is None:
+                if not self._restart or self._is_closed or self._path is None or self._is_interrupted:
                     raise
             with contextlib.suppress(SessionDied):  # it may die while it opens
                 recovery = self.reopen()
                 if recovery.stands and recovery.in_doubt is question:
                     return cast(Result, recovery.count)
         return ask()
+
+    def _interruptibly(self, ask: Callable[[], Result]) -> Result:
+        """What `ask` answers; meanwhile `interrupt` reaches it."""
+        with self._turn:
+            self._asking, self._is_interrupted = threading.get_ident(), False
+        try:
+            return ask()
+        finally:
+            with self._turn:
+                self._asking = 0
 
     def _pipelined(self, batch: list[Question[Answer]], lines: list[str]) -> list[Answer | Refusal]:
         channel = self._living()

@@ -117,9 +117,24 @@ class Browser:
         self.wait_for(f"{button} && {button}.offsetParent && !{button}.disabled")
         self.value(f"{button}.scrollIntoView()")
         box = self.value(f"{button}.getBoundingClientRect().toJSON()")
-        x, y = box["x"] + box["width"] / 2, box["y"] + box["height"] / 2
+        self.click(box["x"] + box["width"] / 2, box["y"] + box["height"] / 2)
+
+    def click(self, x: float, y: float) -> None:
+        """Presses the mouse at a place of the window."""
         for kind in ("mousePressed", "mouseReleased"):
             self._ask("Input.dispatchMouseEvent", type=kind, x=x, y=y, button="left", clickCount=1)
+
+    def key(self, key: str) -> None:
+        """Presses a key."""
+        code = {"Enter": 13, "ArrowLeft": 37, "Tab": 9}.get(key, 0)
+        for kind in ("keyDown", "keyUp"):
+            self._ask("Input.dispatchKeyEvent", type=kind, key=key, windowsVirtualKeyCode=code)
+
+    def upload(self, name: str, path: str) -> None:
+        """Chooses a file for the input of an id."""
+        node = self._ask("DOM.getDocument")["root"]["nodeId"]
+        found = self._ask("DOM.querySelector", nodeId=node, selector=f"#{name}")
+        self._ask("DOM.setFileInputFiles", files=[path], nodeId=found["nodeId"])
 
     def picture(self) -> bytes:
         """What it shows, as a PNG."""

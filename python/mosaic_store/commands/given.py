@@ -81,9 +81,14 @@ def outlets_of(path: str) -> tuple[list[Outlet], int]:
 
 
 def features_of(path: str) -> list[Drawn]:
-    """The features of a GeoJSON, in their order."""
+    """The features of a file of GeoJSON, in their order."""
+    return features_in(_text(path), path)
+
+
+def features_in(text: str, path: str) -> list[Drawn]:
+    """The features of GeoJSON, in their order; `path` names it where it is refused."""
     try:
-        found = json.loads(_text(path))
+        found = json.loads(text)
     except (ValueError, RecursionError):
         raise CommandError(f"{path}: not read as GeoJSON: save it as that") from None
     listed = found.get("features", [found]) if isinstance(found, dict) else None

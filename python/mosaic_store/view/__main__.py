@@ -12,6 +12,7 @@ from typing import TYPE_CHECKING
 from ..commands.frame import DONE, CommandError, Parser, parser, run
 from ..samples import cure_for
 from ..session import memory_table, open_store
+from .base import base_of
 
 if TYPE_CHECKING:
     from .server import MapServer
@@ -20,8 +21,8 @@ if TYPE_CHECKING:
 NAME = "mosaic-view"
 
 DESCRIPTION = """A map of a store in the browser: shaded relief; click a point for its height, filled level, flow path and
-watershed; draw a road as a wall or a culvert as a burn, see the water before and after, then keep the edit or take it back,
-or undo it later while the map is up.
+watershed; draw roads as walls and culverts as burns, see the water before and after, then keep the edits or take them back, or
+undo them later while the map is up. After they are kept or undone, stale tiles are flooded in the background.
 The page is served on the loopback alone, at an address that only this program prints. It ends at Ctrl-C."""
 
 
@@ -34,19 +35,22 @@ def arguments() -> Parser:
     made = parser(NAME, DESCRIPTION)
     made.add_argument("store", help="the store's file")
     made.add_argument("--port", type=port, default=0, help="the port to listen at; without it any that is free")
+    made.add_argument("--base", type=base, metavar="URL", help="a base map's XYZ template, as https://tile.example/{z}/{x}/{y}.png")
     made.add_argument("--browser", action="store_true", help="open the page in the browser")
     return made
 
 
 def _serve(options: argparse.Namespace) -> int:
     try:
-        from .workbench import BadRequest, Workbench
+        from .requests import BadRequest
+        from .workbench import Workbench
     except ImportError as missing:
         raise CommandError(f"pictures need numpy ({missing}): {cure_for('numpy')}") from None
     with open_store(options.store, options.program, wait=1, restart=True) as session:
         name = pathlib.Path(options.store).name
         try:
-            workbench = Workbench(name, session, lambda: memory_table(session.side, len(session.tiles()), options.program))
+            capacity = len(session.tiles())
+            workbench = Workbench(name, session, lambda: memory_table(session.side, capacity, options.program), options.base)
         except BadRequest as bad:
             raise CommandError(str(bad)) from None
         try:
@@ -69,6 +73,14 @@ def _listening(workbench: Workbench, at: int) -> MapServer:
         return MapServer(workbench, at)
     except OSError as fault:
         raise CommandError(f"port {at} can't be listened at: {fault.strerror or fault}: name another by --port, or leave that out") from None
+
+
+def base(text: str) -> str:
+    try:
+        base_of(text)
+    except ValueError as fault:
+        raise argparse.ArgumentTypeError(str(fault)) from None
+    return text
 
 
 def port(text: str) -> int:

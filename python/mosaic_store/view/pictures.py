@@ -9,7 +9,8 @@ import numpy as np
 from numpy.typing import NDArray
 
 from .. import shading
-from .region import Samples
+from ..lattice import METRES_A_DEGREE
+from .region import Grid, Region
 
 Colours = NDArray[np.uint8]
 """Rows of pixels, the north first; each pixel is red, green, blue and, where there is a fourth, how opaque it is."""
@@ -17,23 +18,26 @@ Colours = NDArray[np.uint8]
 DEEPEST_SHADE = 50
 """The depth, in metres, from which water is drawn in the darkest blue: one scale for all pictures."""
 
+SHALLOW, DEEP = (128, 226, 232), (0, 84, 96)
+"""Water's colours on the map: greener blues than those of streams and flow paths."""
+
 EXAGGERATED = 2.5
 """How many times steeper than it is the terrain is shaded."""
 
 
-def relief(heights: Samples, held: NDArray[np.bool_], east: NDArray[np.float64], north: float, lowest: int, highest: int) -> Colours:
-    """Shaded relief of all but the outermost ring of a grid, lit from the north-west.
-
-    `east` and `north` are the distances of two points of the grid in metres, eastwards of each row, of shape (rows, 1). Points
-    that no tile holds are transparent.
-    """
-    colours = shading.relief(heights, lowest, highest, east / EXAGGERATED, north / EXAGGERATED)
-    return opaque(colours, np.where(held[1:-1, 1:-1], 255, 0))
+def relief_of(region: Region, grid: Grid, lowest: int, highest: int) -> Colours:
+    """Shaded relief of a grid, lit from the north-west. Points that no tile holds are transparent."""
+    ring = Grid(grid.top + grid.step, grid.left - grid.step, grid.rows + 2, grid.columns + 2, grid.step)
+    heights, held = region.heights(ring)
+    north = METRES_A_DEGREE / (region.side - 1) * grid.step / EXAGGERATED
+    east = north * np.cos(np.radians(grid.ys() / (region.side - 1))).clip(0.01)[:, None]
+    return opaque(shading.relief(heights, lowest, highest, east, north), np.where(held[1:-1, 1:-1], 255, 0))
 
 
 def water(depths: NDArray[np.int32]) -> Colours:
     """Standing water by its depth in metres: transparent where there is none, the darker the deeper it is."""
-    return opaque(shading.water(depths, DEEPEST_SHADE), np.where(depths > 0, 215, 0))
+    share = np.sqrt(np.clip(depths / DEEPEST_SHADE, 0, 1))[..., None]
+    return opaque(np.array(SHALLOW, float) + np.subtract(DEEP, SHALLOW) * share, np.where(depths > 0, 225, 0))
 
 
 def opaque(colours: NDArray[np.float64], opacity: NDArray[np.int64]) -> Colours:

@@ -112,6 +112,11 @@ class Region:
             lay(functools.partial(source, corner), corner.window(self.side), ys, xs, heights, held, coarse)
         return heights, held
 
+    @staticmethod
+    def grid(window: Window) -> Grid:
+        """The points of a window."""
+        return Grid(window.y1, window.x0, window.height, window.width, 1)
+
     def window_of(self, grid: Grid) -> Heights:
         """The heights on a grid of single points, as questions of a whole window take them."""
         window = Window(grid.top - grid.rows + 1, grid.left, grid.top, grid.left + grid.columns - 1)

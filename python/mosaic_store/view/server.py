@@ -4,6 +4,9 @@ Every path begins with a token that is drawn at each start and told to nobody bu
 page of another site can guess one. Besides, the name that a browser asked for has to be the loopback's, so that no other
 name can be pointed at it, a page's origin has to be this server, and what changes something has to come as JSON with a header
 that only this page sends. Whoever takes longer than a minute for a request is let go.
+
+Each answer to a page tells the state that the workbench has, by which pages see that they are out of date. A question whose page
+goes away, or cancels it, is ended.
 """
 
 from __future__ import annotations
@@ -13,28 +16,38 @@ import functools
 import json
 import re
 import secrets
+import select
 import socket
 import sys
 import threading
-from collections.abc import Callable, Mapping
+from collections.abc import Callable, Iterator, Mapping
 from http import HTTPStatus
 from http.server import BaseHTTPRequestHandler, ThreadingHTTPServer
 from importlib.resources import files
 from typing import Any
 
 from ..errors import BadArgument, Refusal
-from .workbench import BadRequest, Workbench
+from .base import base_of
+from .requests import BadRequest
+from .workbench import Cancelled, Workbench
 
-MOST_BYTES = 1 << 16
+MOST_BYTES = 1 << 22
 """The longest body that a request may have."""
+
+SECONDS_BETWEEN_LOOKS = 0.1
+"""How often a question looks whether its page still waits."""
+
+QUESTIONS = ("ask", "watershed", "geojson", "streams", "raster", "try")
+"""What may be ended midway."""
 
 PAGE_FILES = {
     "": ("index.html", "text/html; charset=utf-8"),
     "map.js": ("map.js", "text/javascript; charset=utf-8"),
+    "panel.js": ("panel.js", "text/javascript; charset=utf-8"),
     "style.css": ("style.css", "text/css; charset=utf-8"),
 }
 
-POLICY = "default-src 'none'; img-src 'self' data: blob:; script-src 'self'; style-src 'self'; connect-src 'self'; form-action 'none'; frame-ancestors 'none'; base-uri 'none'"
+POLICY = "default-src 'none'; img-src 'self' data: blob:{base}; script-src 'self'; style-src 'self'; connect-src 'self'; form-action 'none'; frame-ancestors 'none'; base-uri 'none'"
 
 
 class MapServer(ThreadingHTTPServer):
@@ -46,6 +59,7 @@ class MapServer(ThreadingHTTPServer):
         super().__init__(("127.0.0.1", port), _Handler)
         self.workbench = workbench
         self.token = secrets.token_urlsafe(18)
+        self.policy = POLICY.format(base=f" {base_of(workbench.base)}" if workbench.base else "")
 
     def handle_error(self, request: Any, client_address: Any) -> None:
         """A page that went away while it was answered is no fault of anybody's; what else may come is told in a line."""
@@ -73,8 +87,12 @@ class _Handler(BaseHTTPRequestHandler):
     sys_version = ""
     timeout = 60
 
+    _is_own = False
+    """Whether the request comes from the page."""
+
     def handle_one_request(self) -> None:
         """One request, which has to be there within the timeout as a whole: else who sends a byte now and then stays for ever."""
+        self._is_own = False
         self._late = threading.Timer(self.timeout, self._let_go)
         self._late.daemon = True
         self._late.start()
@@ -99,12 +117,14 @@ class _Handler(BaseHTTPRequestHandler):
             name, kind = PAGE_FILES[path]
             self._send(HTTPStatus.OK, (files(__package__) / "page" / name).read_bytes(), kind)
             return
-        picture = re.fullmatch(r"(relief|standing)/(\d{1,2})/(-?\d{1,7})/(-?\d{1,7})\.png", path)
+        picture = re.fullmatch(r"(relief|store|trial)/(\d{1,2})/(-?\d{1,7})/(-?\d{1,7})\.png", path)
         if picture:
             layer, zoom, row, column = picture.groups()
             self._answer(lambda: self.server.workbench.picture(layer, int(zoom), int(row), int(column)), "image/png")
         elif path == "region":
             self._answer(self.server.workbench.describe)
+        elif path == "state":
+            self._answer(lambda: self.server.workbench.state)
         else:
             self._fail(HTTPStatus.NOT_FOUND, "there is nothing at this path")
 
@@ -115,13 +135,38 @@ class _Handler(BaseHTTPRequestHandler):
         if self.headers.get("X-Mosaic") != self.server.token:
             self._fail(HTTPStatus.FORBIDDEN, "this request isn't the page's own")
             return
-        act = self.server.workbench.acts().get(path)
-        if act is None:
+        if path not in self.server.workbench.acts():
             self._fail(HTTPStatus.NOT_FOUND, "there is nothing at this path")
             return
         words = self._words()
         if words is not None:
-            self._answer(functools.partial(act, words))
+            with self._watched(path) as left:
+                self._answer(functools.partial(self.server.workbench.acts(left)[path], words))
+
+    @contextlib.contextmanager
+    def _watched(self, path: str) -> Iterator[Callable[[], bool]]:
+        """Whether the page has gone meanwhile; a question of it to the store is ended then."""
+        left, done = threading.Event(), threading.Event()
+        thread = threading.get_ident()
+
+        def watch() -> None:
+            while not done.wait(SECONDS_BETWEEN_LOOKS):
+                if self._has_left():
+                    left.set()
+                    self.server.workbench.interrupt(thread)
+
+        if path in QUESTIONS:
+            threading.Thread(target=watch, daemon=True).start()
+        try:
+            yield left.is_set
+        finally:
+            done.set()
+
+    def _has_left(self) -> bool:
+        try:
+            return bool(select.select([self.connection], [], [], 0)[0]) and not self.connection.recv(1, socket.MSG_PEEK)
+        except (OSError, ValueError):
+            return True
 
     def _path(self) -> str | None:
         """What follows the token in the path asked for; None where the request was refused already."""
@@ -138,6 +183,7 @@ class _Handler(BaseHTTPRequestHandler):
         if not slash or not secrets.compare_digest(token.encode(), self.server.token.encode()):
             self._fail(HTTPStatus.NOT_FOUND, "there is nothing at this path; open the address that mosaic-view printed")
             return None
+        self._is_own = True
         return rest
 
     def _words(self) -> Mapping[str, Any] | None:
@@ -160,7 +206,10 @@ class _Handler(BaseHTTPRequestHandler):
     def _answer(self, act: Callable[[], Any], kind: str = "application/octet-stream") -> None:
         try:
             answer = act()
-        except (BadRequest, BadArgument) as bad:
+        except Cancelled:
+            self.close_connection = True
+            return
+        except (BadRequest, BadArgument, ValueError) as bad:
             self._fail(HTTPStatus.BAD_REQUEST, str(bad))
             return
         except Refusal as refusal:
@@ -185,11 +234,13 @@ class _Handler(BaseHTTPRequestHandler):
             "Content-Type": kind,
             "Content-Length": str(len(body)),
             "Cache-Control": "no-store",
-            "Content-Security-Policy": POLICY,
+            "Content-Security-Policy": self.server.policy,
             "Cross-Origin-Resource-Policy": "same-origin",
             "Referrer-Policy": "no-referrer",
             "X-Content-Type-Options": "nosniff",
         }
+        if self._is_own:
+            headers["X-Mosaic-State"] = self.server.workbench.state
         if self.close_connection:
             headers["Connection"] = "close"
         for name, value in headers.items():

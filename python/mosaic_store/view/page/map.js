@@ -1,11 +1,10 @@
 "use strict";
-// The map: pictures of terrain by tiles of 256 pixels, a flow path, a watershed, and a line that is being drawn.
+// The map: pictures of terrain by tiles of 256 pixels, and what is drawn over them.
 // A point is {y, x} on the lattice of samples: y grows northwards, x eastwards.
 
 const PIXELS = 256;
 const MOST_ZOOM = 16;
-const PLACE = /^\s*([-+]?\d+(?:\.\d+)?)\s*°?\s*([NS]?)[\s,]+([-+]?\d+(?:\.\d+)?)\s*°?\s*([EW]?)\s*$/;
-const token = location.pathname.split("/")[1];
+const COLOURS = { path: "#0b3d91", stream: "#1f4fd8", sink: "#7b2cbf", wall: "#c1121f", burn: "#e07a00", patch: "#5f6b73", watershed: "#d63c2c", frame: "#14507a" };
 const byId = (id) => document.getElementById(id);
 const canvas = byId("map");
 const pen = canvas.getContext("2d");
@@ -16,41 +15,15 @@ let asked = null;
 let watershed = null;
 let trial = null;
 let streams = null;
-let isCancelled = false;
+let drafts = [];
 let line = [];
-let version = 0;
 const pictures = new Map();
 
-// ---- Requests
-
-async function request(path, words) {
-  const options = words === undefined ? {} : {
-    method: "POST",
-    headers: { "Content-Type": "application/json", "X-Mosaic": token },
-    body: JSON.stringify(words),
-  };
-  const answer = await fetch(path, options);
-  const isJson = answer.headers.get("Content-Type") === "application/json";
-  const told = await (isJson ? answer.json() : answer.blob());
-  if (!answer.ok) throw new Error(told.error);
-  return told;
-}
-
-// Tells what is done, then what came of it: the words that the act answers.
-async function working(text, act) {
-  say(text);
-  try {
-    say(await act() || "");
-  } catch (fault) {
-    say(fault.message, true);
-  }
-  draw();
-}
-
-function say(text, isFault = false) {
-  byId("status").textContent = text;
-  byId("status").classList.toggle("fault", isFault);
-}
+const tool = () => document.querySelector("input[name=tool]:checked").value;
+// Which terrain is shown: that of the trial under way, or the store's.
+const shown = () => (trial ? document.querySelector("input[name=shown]:checked").value : "store");
+// What an answer tells of the terrain that is shown; null where the point is void there.
+const shownOf = (answer) => answer && answer[shown()];
 
 // ---- Places
 
@@ -67,8 +40,12 @@ const pointAt = (across, down) => ({
   x: Math.floor(left() + across * eastPerPixel()),
 });
 const middle = () => pointAt(canvas.clientWidth / 2, canvas.clientHeight / 2);
-const pointsOf = (count) => `${count.toLocaleString("en")} point${count === 1 ? "" : "s"}`;
-const degrees = (value, positive, negative) => `${Math.abs(value).toFixed(5)}° ${value < 0 ? negative : positive}`;
+
+function showBox([south, west, north, east]) {
+  [view.y, view.x] = [(south + north) / 2, (west + east) / 2];
+  const needed = Math.max((north - south) / canvas.clientHeight, ((east - west) * narrow()) / canvas.clientWidth) * 1.05;
+  view.pointsPerPixel = Math.min(2 ** MOST_ZOOM, Math.max(1 / 16, needed));
+}
 
 // ---- Pictures
 
@@ -77,29 +54,24 @@ function zoomOfView() {
   return Math.min(MOST_ZOOM, Math.max(0, zoom));
 }
 
-function picture(layer, zoom, row, column) {
-  const path = `${layer}/${zoom}/${row}/${column}.png?${version}`;
+// A picture of a path, which may not be there yet.
+function picture(path, failed) {
   let image = pictures.get(path);
   if (!image) {
     if (pictures.size > 600) pictures.delete(pictures.keys().next().value);
     image = new Image();
     image.onload = draw;
-    image.onerror = () => say("A picture of the map wasn't answered: load the page anew", true);
+    image.onerror = failed;
     image.src = path;
     pictures.set(path, image);
   }
-  return image.complete && image.naturalWidth > 0 ? image : null;
+  return image;
 }
 
-// Draws the pictures of a layer; none of it within a box of points where one is left out. Answers whether all are there.
-function drawLayer(layer, zoom, leftOut = null) {
-  pen.save();
-  if (leftOut) {
-    pen.beginPath();
-    pen.rect(0, 0, canvas.clientWidth, canvas.clientHeight);
-    pen.rect(...pixelsOf(leftOut));
-    pen.clip("evenodd");
-  }
+const isThere = (image) => image.complete && image.naturalWidth > 0;
+
+// Draws the pictures of a layer, and a sign where one isn't there yet. Answers whether all are there.
+function drawLayer(layer, zoom, sign) {
   let isWhole = true;
   const span = PIXELS * 2 ** zoom;
   const [south, west, north, east] = region.bounds;
@@ -109,12 +81,14 @@ function drawLayer(layer, zoom, leftOut = null) {
   const highColumn = Math.floor(Math.min(east, left() + canvas.clientWidth * eastPerPixel()) / span);
   for (let row = lowRow; row <= highRow; row++) {
     for (let column = lowColumn; column <= highColumn; column++) {
-      const image = picture(layer, zoom, row, column);
-      if (image) drawBox(image, { top: row * span + span - 2 ** zoom, left: column * span, size: span });
-      isWhole &&= image !== null;
+      const box = { top: row * span + span - 2 ** zoom, left: column * span, size: span };
+      const path = `${layer}/${zoom}/${row}/${column}.png?${layer === "trial" ? region.state : region.count}`;
+      const image = picture(path, () => { say("A picture of the map wasn't answered: load the page anew", true); draw(); });
+      if (isThere(image)) drawBox(image, box);
+      else if (sign) drawSign(box, image.complete ? "not answered" : sign);
+      isWhole &&= isThere(image);
     }
   }
-  pen.restore();
   return isWhole;
 }
 
@@ -128,6 +102,50 @@ function drawBox(image, box) {
   pen.drawImage(image, ...pixelsOf(box));
 }
 
+// Stands for a picture that isn't there yet.
+function drawSign(box, text) {
+  const [across, down, width, height] = pixelsOf(box);
+  pen.fillStyle = "#dfe5e9";
+  pen.fillRect(across, down, width, height);
+  pen.strokeStyle = "#b9c4cb";
+  pen.lineWidth = 1;
+  pen.strokeRect(across + 0.5, down + 0.5, width - 1, height - 1);
+  pen.fillStyle = "#4a5a65";
+  pen.textAlign = "center";
+  pen.font = "13px system-ui, sans-serif";
+  pen.fillText(text, across + width / 2, down + height / 2);
+}
+
+// The base map: tiles of 256 pixels in Web Mercator, each in strips, as its rows aren't equally high here.
+function drawBase() {
+  const degree = region.side - 1, strips = 8;
+  const zoom = Math.min(19, Math.max(0, Math.round(Math.log2((360 * degree) / (PIXELS * eastPerPixel())))));
+  const count = 2 ** zoom;
+  const rowOf = (y) => (0.5 - Math.asinh(Math.tan((Math.max(-85, Math.min(85, y / degree)) * Math.PI) / 180)) / (2 * Math.PI)) * count;
+  const downOfRow = (row) => Math.round(downOf(((Math.atan(Math.sinh(Math.PI * (1 - (2 * row) / count))) * 180) / Math.PI) * degree - 0.5));
+  const columnOf = (x) => ((x / degree + 180) / 360) * count;
+  const acrossOfColumn = (column) => Math.round(acrossOf(((column / count) * 360 - 180) * degree + 0.5));
+  const lastColumn = Math.min(count - 1, Math.floor(columnOf(left() + canvas.clientWidth * eastPerPixel())));
+  const lastRow = Math.min(count - 1, Math.floor(rowOf(top_() - canvas.clientHeight * view.pointsPerPixel)));
+  pen.globalCompositeOperation = "multiply";
+  for (let row = Math.max(0, Math.floor(rowOf(top_()))); row <= lastRow; row++) {
+    for (let column = Math.max(0, Math.floor(columnOf(left()))); column <= lastColumn; column++) {
+      const named = { z: zoom, x: column, y: row };
+      const image = picture(region.base.replace(/\{([zxy])\}/g, (_, name) => named[name]), null);
+      if (isThere(image)) drawStrips(image, strips, acrossOfColumn(column), acrossOfColumn(column + 1), (strip) => downOfRow(row + strip / strips));
+    }
+  }
+  pen.globalCompositeOperation = "source-over";
+}
+
+function drawStrips(image, strips, west, east, downOfStrip) {
+  const high = image.naturalHeight / strips;
+  for (let strip = 0; strip < strips; strip++) {
+    const [upper, lower] = [downOfStrip(strip), downOfStrip(strip + 1)];
+    pen.drawImage(image, 0, strip * high, image.naturalWidth, high, west, upper, east - west, lower - upper);
+  }
+}
+
 function draw() {
   const sharp = window.devicePixelRatio || 1;
   canvas.width = Math.round(canvas.clientWidth * sharp);
@@ -135,36 +153,69 @@ function draw() {
   pen.setTransform(sharp, 0, 0, sharp, 0, 0);
   pen.imageSmoothingEnabled = false;
   if (!region) return;
-  drawLayer("relief", zoomOfView());
+  drawLayer("relief", zoomOfView(), "loading …");
+  if (region.base && byId("base").checked) drawBase();
   const hasWater = byId("standing").checked && view.pointsPerPixel <= 1;
-  byId("finding").hidden = !hasWater || drawLayer("standing", 0, trial && trial.box);
+  byId("finding").hidden = !hasWater || drawLayer(shown(), 0);
   byId("depths").hidden = !hasWater && !trial;
-  if (watershed) drawBox(watershed.image, watershed.box);
+  if (shownOf(watershed)) drawBox(shownOf(watershed).image, shownOf(watershed).box);
   if (streams) drawStreams();
-  if (trial) drawBox(trial.images[shown()], trial.box);
-  drawSinks();
-  if (asked && asked.path) drawPath(asked.path.map(([y, x]) => ({ y, x })), "#0b3d91", 2.5);
-  if (line.length) drawPath(line, byId("amount").dataset.tool === "burn" ? "#0077b6" : "#c1121f", 3, true);
+  if (trial) drawTrial(hasWater);
+  for (const [y, x] of region.sinks) drawMark({ y, x }, COLOURS.sink, 4);
+  const point = shownOf(asked);
+  if (point && point.path) drawPath(point.path, COLOURS.path, 2.5);
+  for (const edit of edits()) drawEdit(edit);
   if (asked) drawMark(asked);
   drawScale();
+  showKey();
 }
 
-function drawPath(points, colour, width, corners = false) {
-  pen.beginPath();
-  for (const point of points) pen.lineTo(...pixelOf(point));
-  pen.strokeStyle = "rgb(255 255 255 / .8)";
-  pen.lineWidth = width + 2;
-  pen.stroke();
-  pen.strokeStyle = colour;
-  pen.lineWidth = width;
-  pen.stroke();
-  if (!corners) return;
-  for (const point of points) drawMark(point, colour, 3.5);
+// Water before or after, in the frame in which it is counted.
+function drawTrial(hasWater) {
+  if (!hasWater) drawBox(trial.images[shown()], trial.box);
+  pen.setLineDash([6, 4]);
+  pen.strokeStyle = COLOURS.frame;
+  pen.lineWidth = 1.5;
+  pen.strokeRect(...pixelsOf(trial.box));
+  pen.setLineDash([]);
 }
+
+// What is tried, and what is being drawn.
+function edits() {
+  const drawn = line.length ? [{ kind: tool(), line }] : [];
+  return [...(trial ? trial.edits : []), ...drafts, ...drawn];
+}
+
+function drawEdit({ kind, line: corners }) {
+  if (kind === "patch" && corners.length === 2) {
+    const [ys, xs] = [corners.map(([y]) => y), corners.map(([, x]) => x)];
+    const [top, west] = [Math.max(...ys), Math.min(...xs)];
+    pen.strokeStyle = COLOURS.patch;
+    pen.lineWidth = 3;
+    pen.strokeRect(...pixelsOf({ top, left: west, rows: top - Math.min(...ys) + 1, columns: Math.max(...xs) - west + 1 }));
+    return;
+  }
+  const colour = COLOURS[kind] || COLOURS.sink;
+  drawPath(corners, colour, 3);
+  for (const [y, x] of corners) drawMark({ y, x }, colour, 3.5);
+}
+
+function drawPath(points, colour, width) {
+  pen.beginPath();
+  for (const [y, x] of points) pen.lineTo(...pixelOf({ y, x }));
+  pen.lineJoin = pen.lineCap = "round";
+  for (const [style, wide] of [["rgb(255 255 255 / .8)", width + 2], [colour, width]]) {
+    pen.strokeStyle = style;
+    pen.lineWidth = wide;
+    pen.stroke();
+  }
+}
+
+const widthOfOrder = (order) => 0.8 + 0.9 * order;
 
 // Streams, the wider the higher their order.
 function drawStreams() {
-  pen.strokeStyle = "#1f6fb2";
+  pen.strokeStyle = COLOURS.stream;
   pen.lineJoin = pen.lineCap = "round";
   for (const { geometry, properties } of streams.features) {
     if (geometry.type !== "LineString") continue;
@@ -172,12 +223,12 @@ function drawStreams() {
     for (const [longitude, latitude] of geometry.coordinates) {
       pen.lineTo(...pixelOf({ y: latitude * (region.side - 1), x: longitude * (region.side - 1) }));
     }
-    pen.lineWidth = 0.6 + 0.8 * properties.order;
+    pen.lineWidth = widthOfOrder(properties.order);
     pen.stroke();
   }
 }
 
-function drawMark(point, colour = "#0b3d91", radius = 5) {
+function drawMark(point, colour = COLOURS.path, radius = 5) {
   pen.beginPath();
   pen.arc(...pixelOf(point), radius, 0, 2 * Math.PI);
   pen.fillStyle = "white";
@@ -185,10 +236,6 @@ function drawMark(point, colour = "#0b3d91", radius = 5) {
   pen.strokeStyle = colour;
   pen.lineWidth = 2;
   pen.stroke();
-}
-
-function drawSinks() {
-  for (const [y, x] of region.sinks) drawMark({ y, x }, "#7b2cbf", 4);
 }
 
 function drawScale() {
@@ -199,263 +246,36 @@ function drawScale() {
   byId("scale-text").textContent = length >= 1000 ? `${length / 1000} km` : `${length} m`;
 }
 
-// ---- Questions
-
-async function ask(point) {
-  asked = await request("ask", point);
-  watershed = null;
-  showPoint();
-  return asked.height === null ? "A void: no height is known" : `Height ${asked.height} m, water at ${asked.level} m, a path of ${pointsOf(asked.steps)}`;
-}
-
-// Shows a place that was typed: two numbers, or numbers with N, S, E or W behind them.
-async function goTo(text) {
-  const words = text.toUpperCase().match(PLACE);
-  if (!words) throw new Error("A place is two numbers, as 37.5 -105.25 or 37.5 N 105.25 W");
-  const latitude = Number(words[1]) * (words[2] === "S" ? -1 : 1);
-  const longitude = Number(words[3]) * (words[4] === "W" ? -1 : 1);
-  const point = { y: Math.round(latitude * (region.side - 1)), x: Math.round(longitude * (region.side - 1)) };
-  const told = await ask(point);
-  [view.y, view.x] = [point.y, point.x];
-  view.pointsPerPixel = Math.min(view.pointsPerPixel, 1);
-  rememberPlace();
-  return told;
-}
-
-function showPoint() {
-  const rows = [
-    ["Point", `y ${asked.y}, x ${asked.x}`],
-    ["Latitude", degrees(asked.y / (region.side - 1), "N", "S")],
-    ["Longitude", degrees(asked.x / (region.side - 1), "E", "W")],
-    ["Height", asked.height === null ? "void" : `${asked.height} m`],
-  ];
-  if (asked.height !== null) {
-    rows.push(["Filled level", `${asked.level} m`], ["Standing water", `${asked.level - asked.height} m`]);
-    rows.push(["Flows", flowsTo(asked.direction)], ["Flow path", pointsOf(asked.steps)]);
-  }
-  if (watershed) rows.push(["Watershed", `${watershed.cells.toLocaleString("en")} points, ${squareKilometres(watershed)} km²`]);
-  byId("point").replaceChildren(...rows.flatMap(([name, value]) => [term("dt", name), term("dd", value)]));
-  byId("watershed").disabled = byId("save-path").disabled = asked.height === null;
-  byId("save-watershed").disabled = watershed === null;
-}
-
-function squareKilometres(area) {
-  return Number(area.km2.toPrecision(3)).toLocaleString("en");
-}
-
-function flowsTo(direction) {
-  return direction === "OFF" ? "off the mosaic" : direction.toLowerCase().replace("_", "-");
+// The legend of what is drawn over the terrain, each with its line.
+function showKey() {
+  const kinds = new Set(edits().map(({ kind }) => kind));
+  const most = streams ? streams.features.reduce((most, { properties }) => Math.max(most, properties.order), 1) : 0;
+  const point = shownOf(asked);
+  const entries = [
+    ...Array.from({ length: Math.min(most, 9) }, (_, order) => [order ? `${order + 1}` : "stream of order 1", COLOURS.stream, widthOfOrder(order + 1)]),
+    [point && point.path && "flow path", COLOURS.path, 3],
+    [shownOf(watershed) && "watershed", COLOURS.watershed, 10],
+    [kinds.has("wall") && "road or dam", COLOURS.wall, 3],
+    [kinds.has("burn") && "culvert", COLOURS.burn, 3],
+    [(kinds.has("sink") || region.sinks.length > 0) && "sink", COLOURS.sink, 6],
+    [trial && "frame of the trial", COLOURS.frame, 2],
+  ].filter(([text]) => text);
+  const told = JSON.stringify(entries);
+  if (byId("key").dataset.told === told) return;
+  byId("key").dataset.told = told;
+  byId("key").replaceChildren(...entries.map(([text, colour, width]) => {
+    const entry = term("span", ""), bar = document.createElement("i");
+    bar.style.background = colour;
+    bar.style.height = `${width}px`;
+    entry.append(bar, text);
+    return entry;
+  }));
 }
 
 function term(kind, text) {
   const element = document.createElement(kind);
   element.textContent = text;
   return element;
-}
-
-async function askWatershed(snap) {
-  const from = asked;
-  const told = await request("watershed", { y: from.y, x: from.x, snap });
-  const image = await imageOf(told.picture);
-  if (asked !== from) return "Another point was asked meanwhile: search its watershed";
-  const steps = Math.max(Math.abs(told.y - from.y), Math.abs(told.x - from.x));
-  if (steps) await ask({ y: told.y, x: told.x });
-  rememberPlace();
-  watershed = { ...told, image };
-  showPoint();
-  const moved = steps ? `; its outlet was moved ${steps} step${steps > 1 ? "s" : ""} to where most drains to` : "";
-  return `Watershed of ${told.cells.toLocaleString("en")} points, ${squareKilometres(told)} km²${moved}`;
-}
-
-// Has the browser save the watershed or the path that is shown.
-async function save(what) {
-  const told = await request("geojson", { what, y: asked.y, x: asked.x });
-  return saveAs(`${what}-${asked.y}-${asked.x}.geojson`, asGeoJson(told));
-}
-
-const asGeoJson = (told) => new Blob([JSON.stringify(told)], { type: "application/geo+json" });
-
-function saveAs(name, blob) {
-  const link = document.createElement("a");
-  link.href = URL.createObjectURL(blob);
-  link.download = name;
-  link.click();
-  setTimeout(() => URL.revokeObjectURL(link.href), 10000);
-  return `Saved as ${name}`;
-}
-
-// The points that are shown, by their south, west, north and east ends.
-function shownWindow() {
-  const north_west = pointAt(0, 0), south_east = pointAt(canvas.clientWidth, canvas.clientHeight);
-  return [south_east.y, north_west.x, north_west.y, south_east.x];
-}
-
-async function askStreams() {
-  const threshold = Number(byId("threshold").value);
-  takeStreams(await request("streams", { window: shownWindow(), threshold }));
-  const most = streams.features.reduce((most, { properties }) => Math.max(most, properties.order), 0);
-  return `${streams.features.length} reaches of order ${most} at most, where ${threshold} points and more drain through`;
-}
-
-function takeStreams(told) {
-  streams = told;
-  byId("save-streams").disabled = byId("clear-streams").disabled = streams === null;
-  draw();
-}
-
-async function saveRaster() {
-  const what = byId("raster").value;
-  return saveAs(`${what}.tif`, await request("raster", { window: shownWindow(), what }));
-}
-
-async function imageOf(source) {
-  const image = new Image();
-  image.src = source;
-  await image.decode();
-  return image;
-}
-
-// ---- Edits
-
-const tool = () => document.querySelector("input[name=tool]:checked").value;
-const shown = () => document.querySelector("input[name=shown]:checked").value;
-
-function chooseTool() {
-  const isLine = tool() !== "ask";
-  byId("amount-label").hidden = byId("hint").hidden = !isLine;
-  byId("amount-text").textContent = tool() === "burn" ? "Lower by" : "Raise to";
-  if (byId("amount").dataset.tool !== tool()) {
-    line = [];
-    byId("amount").value = tool() === "burn" ? 5 : "";
-  }
-  byId("amount").dataset.tool = tool();
-  showLine();
-}
-
-function showLine() {
-  byId("try").disabled = !line.length || byId("amount").value === "" || trial !== null;
-  byId("clear").disabled = !line.length;
-  draw();
-}
-
-async function addCorner(point) {
-  if (tool() === "wall" && byId("amount").value === "") {
-    const told = await request("ask", point);
-    if (told.height !== null) byId("amount").value = told.height + 10;
-  }
-  line.push(point);
-  showLine();
-}
-
-// Says what the first trial costs, until the copy is there.
-function showCopy() {
-  const { done, total, bytes } = region.copy;
-  byId("copy-told").hidden = done === total;
-  byId("copy-told").textContent = `The first trial copies ${total === 1 ? "the tile" : `all ${total} tiles`}, ${Math.ceil(bytes / 1e6)} MB, into memory; the store isn't touched.`;
-  byId("copied").max = total;
-  byId("copied").value = done;
-}
-
-// Copies the store, some tiles a request, so that the map answers meanwhile; it can be given up.
-async function copyStore() {
-  isCancelled = false;
-  byId("try").disabled = true;
-  byId("copying").hidden = region.copy.done === region.copy.total;
-  byId("copying").scrollIntoView({ block: "nearest" });
-  try {
-    do {
-      region.copy = await request("copy", {});
-      if (isCancelled) region.copy = await request("drop", {});
-      showCopy();
-      if (isCancelled) throw new Error("Cancelled: nothing was tried, and the copy is gone");
-      say(`Copied ${region.copy.done} of ${region.copy.total} tiles`);
-    } while (region.copy.done < region.copy.total);
-  } finally {
-    byId("copying").hidden = true;
-    showLine();
-  }
-}
-
-async function tryLine() {
-  await copyStore();
-  const words = { kind: tool(), amount: Number(byId("amount").value), line: line.map(({ y, x }) => [y, x]) };
-  await takeTrial(await request("try", words));
-  return "Tried: keep it, or take it back";
-}
-
-async function takeTrial(told) {
-  trial = { ...told, images: { store: await imageOf(told.before.picture), trial: await imageOf(told.after.picture) } };
-  showTrial();
-}
-
-// Shows the trial that the store's program still has, as after the page was loaded anew.
-async function resumeTrial(told) {
-  takeLine(told.kind, told.amount, told.line);
-  await takeTrial(told);
-}
-
-function takeLine(kind, amount, corners) {
-  document.querySelector(`input[name=tool][value=${kind}]`).checked = true;
-  chooseTool();
-  byId("amount").value = amount;
-  line = corners.map(([y, x]) => ({ y, x }));
-}
-
-function showTrial() {
-  byId("trial").hidden = trial === null;
-  byId("undo").disabled = trial !== null;
-  showLine();
-  if (!trial) return;
-  byId("trial").scrollIntoView({ block: "nearest" });
-  const rows = [
-    ["Points under water", (water) => water.points],
-    ["Deepest, m", (water) => water.deepest],
-    ["Volume, m³", (water) => water.volume],
-    ["Level at the line, m", (water) => water.level],
-  ];
-  byId("effects").replaceChildren(...rows.map(([name, told]) => {
-    const row = document.createElement("tr");
-    row.append(term("th", name), ...[trial.before, trial.after].map((water) => term("td", told(water).toLocaleString("en"))));
-    return row;
-  }));
-}
-
-// Ends a trial by "keep" or "discard", or takes the last edit back by "undo": once, however often its button is pressed meanwhile.
-async function change(path) {
-  const buttons = ["keep", "discard", "undo"].map(byId);
-  for (const button of buttons) button.disabled = true;
-  try {
-    return await changed(path);
-  } finally {
-    for (const button of buttons) button.disabled = false;
-    byId("undo").disabled = trial !== null;
-  }
-}
-
-async function changed(path) {
-  const { count } = await request(path, {});
-  trial = null;
-  line = [];
-  if (path !== "discard") takeStreams(null);
-  version += 1;
-  pictures.clear();
-  region = await request("region");
-  if (asked) await ask({ y: asked.y, x: asked.x });
-  showTrial();
-  showEdits();
-  showCopy();
-  const told = { keep: "Kept in the store", discard: "Taken back: the store is as it was", undo: "The last edit was undone" };
-  return `${told[path]}; the store counts ${count} commands`;
-}
-
-function showEdits() {
-  byId("edits").hidden = !region.edits.length;
-  byId("undo").disabled = trial !== null;
-  byId("kept").replaceChildren(...region.edits.map(({ kind, amount, line: corners }) => {
-    const [[y, x]] = corners;
-    const place = `${degrees(y / (region.side - 1), "N", "S")} ${degrees(x / (region.side - 1), "E", "W")}`;
-    return term("li", `${kind === "wall" ? `raised to ${amount} m` : `lowered by ${amount} m`}, from ${place}`);
-  }));
 }
 
 // ---- The mouse, fingers and the keys
@@ -527,12 +347,6 @@ canvas.addEventListener("keydown", (event) => {
   KEYS[event.key]();
 });
 
-// A point was chosen: it is asked, or is the next corner of the line.
-function choose(point) {
-  if (tool() === "ask") working("Asking …", () => ask(point)).then(rememberPlace);
-  else working("", () => addCorner(point));
-}
-
 // Moves the map by eighths of itself.
 function pan(north, east) {
   view.y += (north * canvas.clientHeight * view.pointsPerPixel) / 8;
@@ -551,74 +365,4 @@ function zoomBy(factor, across = canvas.clientWidth / 2, down = canvas.clientHei
   rememberPlace();
 }
 
-// ---- Links: #at=y,x,points-per-pixel & ask=y,x & watershed & snap=steps & streams=points & wall=height;y,x;y,x (or burn=..)
-
-function rememberPlace() {
-  const parts = [`at=${Math.round(view.y)},${Math.round(view.x)},${view.pointsPerPixel}`];
-  if (asked) parts.push(`ask=${asked.y},${asked.x}`);
-  history.replaceState(null, "", `#${parts.join("&")}`);
-}
-
-const numbers = (text) => text.split(",").map(Number);
-
-async function followLink() {
-  const parts = new URLSearchParams(location.hash.slice(1));
-  if (parts.has("at")) [view.y, view.x, view.pointsPerPixel] = numbers(parts.get("at"));
-  if (parts.has("standing")) byId("standing").checked = true;
-  if (parts.has("streams")) {
-    byId("threshold").value = parts.get("streams");
-    await askStreams();
-  }
-  if (parts.has("ask")) {
-    const [y, x] = numbers(parts.get("ask"));
-    await ask({ y, x });
-    if (parts.has("watershed")) await askWatershed(Number(parts.get("snap")));
-  }
-  if (region.trial) return resumeTrial(region.trial);
-  const kind = ["wall", "burn"].find((word) => parts.has(word));
-  if (!kind) return;
-  const [amount, ...corners] = parts.get(kind).split(";");
-  takeLine(kind, amount, corners.map(numbers));
-  return tryLine();
-}
-
-// ---- The start
-
-function showAll() {
-  const [south, west, north, east] = region.bounds;
-  [view.y, view.x] = [(south + north) / 2, (west + east) / 2];
-  view.pointsPerPixel = Math.max((north - south) / canvas.clientHeight, ((east - west) * narrow()) / canvas.clientWidth) * 1.05;
-}
-
-async function start() {
-  region = await request("region");
-  byId("store").textContent = `${region.name}: ${region.tiles.length} tile${region.tiles.length === 1 ? "" : "s"} of ${region.side} × ${region.side} samples`;
-  byId("legend-low").textContent = `${region.lowest} m`;
-  byId("legend-high").textContent = `${region.highest} m`;
-  byId("depth-high").textContent = `${region.deepest} m and more`;
-  showAll();
-  showEdits();
-  showCopy();
-  return followLink();
-}
-
-byId("watershed").addEventListener("click", () => working("Searching the watershed …", () => askWatershed(Number(byId("snap").value))));
-byId("save-watershed").addEventListener("click", () => working("Saving …", () => save("watershed")));
-byId("save-path").addEventListener("click", () => working("Saving …", () => save("path")));
-byId("streams").addEventListener("click", () => working("Finding streams …", askStreams));
-byId("save-streams").addEventListener("click", () => working("", async () => saveAs("streams.geojson", asGeoJson(streams))));
-byId("clear-streams").addEventListener("click", () => takeStreams(null));
-byId("save-raster").addEventListener("click", () => working("Asking …", saveRaster));
-byId("cancel").addEventListener("click", () => { isCancelled = true; });
-byId("go").addEventListener("submit", (event) => { event.preventDefault(); working("Going there …", () => goTo(byId("place").value)); });
-byId("try").addEventListener("click", () => working("Trying …", tryLine));
-byId("keep").addEventListener("click", () => working("Keeping …", () => change("keep")));
-byId("discard").addEventListener("click", () => working("Taking back …", () => change("discard")));
-byId("undo").addEventListener("click", () => working("Undoing …", () => change("undo")));
-byId("clear").addEventListener("click", () => { line = []; showLine(); });
-byId("amount").addEventListener("input", showLine);
-byId("standing").addEventListener("change", draw);
-for (const choice of document.querySelectorAll("input[name=tool]")) choice.addEventListener("change", () => { say(""); chooseTool(); });
-for (const choice of document.querySelectorAll("input[name=shown]")) choice.addEventListener("change", draw);
 window.addEventListener("resize", draw);
-working("Loading the tiles …", start);
