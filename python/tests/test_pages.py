@@ -22,7 +22,7 @@ if np is not None:
 
 AT = "#at=20,40,0.1"
 LINK = f"{AT}&ask=25,10&watershed&wall=190;10,40;30,40"
-LEVELS = "Level at Road to 190 m, m\t160\t190\t+30"
+LEVELS = "1. Road: level, m\t160\t190\t+30"
 
 
 class Pages(WithMap):
@@ -43,7 +43,7 @@ class Pages(WithMap):
             self.draw(browser, "wall", [(10, 40), (30, 40)], 190)
             self.draw(browser, "burn", [(20, 39), (20, 41)], 31)
             browser.press("try")
-            browser.wait_for_text("Level at Culvert by 31 m, m\t160\t159\t−1")
+            browser.wait_for_text("2. Culvert: level, m\t160\t159\t−1")
             told = browser.value("byId('difference').textContent")
             self.assertIn("under water", told)
             self.assertIn("By the trial", browser.value("byId('point').innerText"))
@@ -173,7 +173,7 @@ class Pages(WithMap):
                 browser.value(f"byId('place').value = {text!r}; byId('go').requestSubmit()")
                 browser.wait_for_text(point)
             browser.value("location.hash = '#at=20,60,0.5&ask=20,60&wall=190;10,40;30,40&burn=31;20,39;20,41'")
-            browser.wait_for_text("Level at Culvert by 31 m")
+            browser.wait_for_text("2. Culvert: level, m")
             self.assertEqual(browser.value("[view.y, view.x, view.pointsPerPixel].join()"), "20,60,0.5")
             browser.value("canvas.focus()")
             for key in ("+", "ArrowLeft", "Enter"):

@@ -158,9 +158,9 @@ function draw() {
   const hasWater = byId("standing").checked && view.pointsPerPixel <= 1;
   byId("finding").hidden = !hasWater || drawLayer(shown(), 0);
   byId("depths").hidden = !hasWater && !trial;
+  if (trial) drawTrial(hasWater);
   if (shownOf(watershed)) drawBox(shownOf(watershed).image, shownOf(watershed).box);
   if (streams) drawStreams();
-  if (trial) drawTrial(hasWater);
   for (const [y, x] of region.sinks) drawMark({ y, x }, COLOURS.sink, 4);
   const point = shownOf(asked);
   if (point && point.path) drawPath(point.path, COLOURS.path, 2.5);

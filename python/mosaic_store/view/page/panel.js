@@ -104,6 +104,7 @@ const whole = (value) => value.toLocaleString("en");
 const volumeOf = (value) => (Math.abs(value) >= 1e5 ? `${digits(value / 1e6)} million m³` : `${digits(value)} m³`);
 const areaOf = (value) => `${digits(value)} km²`;
 const signed = (value, told) => (value ? `${value > 0 ? "+" : "−"}${told(Math.abs(value))}` : "no change");
+const magnitude = (value) => Math.floor(Math.log10(Math.abs(value)));
 const pointsOf = (count) => `${whole(count)} point${count === 1 ? "" : "s"}`;
 const degrees = (value, positive, negative) => `${Math.abs(value).toFixed(5)}° ${value < 0 ? negative : positive}`;
 
@@ -246,14 +247,12 @@ const TOOLS = {
   sink: { hint: "Click a point where water leaves, or a sink that isn't one any more." },
   patch: { metres: "Give height", hint: "Click two corners of a box: its voids get this height." },
 };
-const NAMES = {
-  wall: ({ amount }) => `Road to ${amount} m`,
-  burn: ({ amount }) => `Culvert by ${amount} m`,
-  patch: ({ amount }) => `Voids to ${amount} m`,
-  sink: () => "Sink",
-  unsink: () => "No sink",
-};
-const nameOf = (edit) => `${NAMES[edit.kind](edit)}${edit.line.length > 1 && edit.kind !== "patch" ? `, ${lengthOf(edit.line)}` : ""}`;
+const KINDS = { wall: "Road", burn: "Culvert", patch: "Voids", sink: "Sink", unsink: "No sink" };
+
+function nameOf({ kind, amount, line: corners }) {
+  const metres = kind === "sink" || kind === "unsink" ? "" : ` ${kind === "burn" ? "by" : "to"} ${amount} m`;
+  return `${KINDS[kind]}${metres}${corners.length > 1 && kind !== "patch" ? `, ${lengthOf(corners)}` : ""}`;
+}
 
 function lengthOf(corners) {
   const east = Math.cos((corners[0][0] / (region.side - 1) * Math.PI) / 180);
@@ -393,22 +392,29 @@ function showTrial() {
   byId("cut").hidden = trial.whole;
   const rows = [
     ["Under water, points", ...[before.points, after.points].map(whole), signed(change.points, whole)],
-    ["Area, km²", ...[before.km2, after.km2].map(digits), signed(change.km2, digits)],
-    ["Volume, million m³", ...[before.volume, after.volume].map((value) => digits(value / 1e6)), signed(change.volume / 1e6, digits)],
+    ["Area, km²", ...totals(before.km2, after.km2), signed(change.km2, digits)],
+    ["Volume, million m³", ...totals(before.volume / 1e6, after.volume / 1e6), signed(change.volume / 1e6, digits)],
     ["Deepest, m", before.deepest, after.deepest, signed(change.deepest, whole)],
-    ...trial.edits.slice(0, 6).map((edit, number) => levelRow(edit, ...trial.levels[number])),
+    ...trial.edits.slice(0, 6).map(({ kind }, number) => levelRow(`${number + 1}. ${KINDS[kind]}: level, m`, ...trial.levels[number])),
   ];
   byId("effects").replaceChildren(...rows.map(([name, ...values]) => {
     const row = document.createElement("tr");
-    row.append(term("th", name), ...values.map((value) => term("td", value)));
+    row.append(term("th", name), ...values.map((value) => term("td", value === "no change" ? "0" : value)));
     return row;
   }));
   byId("trial").scrollIntoView({ block: "nearest" });
 }
 
-function levelRow(edit, before, after) {
+// Two totals with as many decimals as show how they differ.
+function totals(before, after) {
+  const decimals = before === after ? 0 : Math.max(0, Math.min(1 - magnitude(after - before), 6 - magnitude(Math.max(before, after))));
+  const told = (value) => value.toLocaleString("en", { minimumFractionDigits: decimals, maximumFractionDigits: decimals });
+  return before === after ? [digits(before), digits(after)] : [told(before), told(after)];
+}
+
+function levelRow(name, before, after) {
   const told = [before, after].map((level) => (level === null ? "void" : level));
-  return [`Level at ${NAMES[edit.kind](edit)}, m`, ...told, before === null || after === null ? "" : signed(after - before, whole)];
+  return [name, ...told, before === null || after === null ? "" : signed(after - before, whole)];
 }
 
 // Ends a trial by "keep" or "discard", or takes the last one back by "undo": once, however often its button is pressed meanwhile.
@@ -461,7 +467,7 @@ async function followLink() {
     told = await ask({ y, x });
     if (parts.has("watershed")) told = await askWatershed(Number(parts.get("snap")));
   }
-  const linked = [...parts].filter(([name]) => name in NAMES).map(([kind, value]) => {
+  const linked = [...parts].filter(([name]) => name in KINDS).map(([kind, value]) => {
     const [amount, ...corners] = value.split(";");
     return { kind, amount: Number(amount), line: corners.map(numbers) };
   });
