@@ -8,8 +8,9 @@ from support import output
 class Region:
     """The tiles of a region, to be edited by plain bytes and asked by the reference."""
 
-    def __init__(self, reference, side, folder):
-        self.reference, self.side, self.folder = reference, side, folder
+    def __init__(self, reference, side, folder, rows=2, columns=2):
+        self.words = [reference, "answer", str(side), str(rows), str(columns), folder]
+        self.side, self.folder = side, folder
 
     def edit(self, y, x, change):
         """Gives a point that only the tile N00E000 holds another height."""
@@ -20,8 +21,7 @@ class Region:
         path.write_bytes(data)
 
     def answers(self, lines):
-        words = [self.reference, "answer", str(self.side), "2", "2", self.folder]
-        return output(*words, input="\n".join(lines) + "\n").splitlines()
+        return output(*self.words, input="\n".join(lines) + "\n").splitlines()
 
     def levels(self, points):
         return {point: int(reply.split()[1]) for point, reply in zip(points, self.answers([f"fill {y} {x}" for y, x in points])) if reply.startswith("OK")}
