@@ -31,7 +31,7 @@ use crate::past_planes::PastPlanes;
 use crate::sinks::Sinks;
 use crate::writing::{write_kept, write_plane};
 use arrayvec::ArrayVec;
-use disk::Disk;
+use disk::{Disk, Fault};
 use lattice::{Corner, MOST_TILES, Point, Refusal};
 use page_codec::{Format, PAGE_BYTES, Root, Version};
 use page_map::{PageMap, Plane};
@@ -52,8 +52,7 @@ pub struct Tree<D: Disk> {
     sinks: Sinks,
     // Pages that were read lately.
     cache: PageCache,
-    // Where planes of stale tiles lay. A reopening forgets it, so that a sector that can't be read any more, though nothing
-    // lies on it, fails the tree once.
+    // Where planes of stale tiles lay. A reopening forgets it.
     past: PastPlanes,
     ghost sectors: { page_map.sectors ≡ D.Disk.size (disk_under roots) },
     ghost fits: { page_map.sectors < 2 ^ 32 },
@@ -386,19 +385,16 @@ impl<D: Disk> Tree<D> {
         (sector < self.roots.sectors()).then_some(sector)
     }
 
-    /// Reads a sector as it stands, whatever it holds. Refused as [`Tree::read_page`] is.
-    pub fn read_sector(&mut self, sector: u32, into: &mut [u8; PAGE_BYTES]) -> Result<(), Refusal>
-        requires { sector < D.size (disk_of self.old) }
-        ensures reads { Reads D.Disk self.old self.new result }
+    /// Reads a sector as it stands, whatever it holds. A fault fails nothing: only its count, and this answer, tell of it.
+    pub fn peek_sector(&mut self, sector: u32, into: &mut [u8; PAGE_BYTES]) -> Result<(), Fault>
+        requires works { has_failed self.old ≡ false }
+        requires in_range { sector < D.size (disk_of self.old) }
+        ensures reads { Reads {T = Unit {0}} D.Disk self.old self.new (Ok tt) }
+        ensures cause { HasCause (D.failures (disk_of self.old)) (D.failures (disk_of self.new)) result }
         ensures bytes { D.honest (disk_of self.new)
             → OnOk result (into.new ≡ D.seen (disk_of self.old) sector) }
-        ensures failed { has_failed self.old ≡ true
-            → (result ≡ Err Failed) × (disk_of self.new ≡ disk_of self.old) }
     {
-        if self.roots.has_failed() {
-            return Err(Refusal::Failed);
-        }
-        self.roots.read(sector, into)
+        self.roots.peek(sector, into)
     }
 
     // Where page `i` of a plane lies, as the next commit will have it.

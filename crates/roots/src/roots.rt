@@ -12,7 +12,7 @@ use crate::faults::{device, noted};
 use crate::opening::{Found, scan};
 use crate::slot::{Slot, closed_gate};
 use crate::writing::{fill_slot, write_only};
-use disk::{Disk, write_through};
+use disk::{Disk, Fault, write_through};
 use lattice::Refusal;
 use page_codec::{PAGE_BYTES, Root};
 use std::error::Error;
@@ -254,6 +254,27 @@ impl<D: Disk> Roots<D> {
     {
         let answer = self.disk.read(p, into);
         noted(&mut self.failed, answer)
+    }
+
+    /// Reads a sector that nothing has to be read from. A fault fails nothing: only its count, and this answer, tell of it.
+    pub fn peek(&mut self, p: u32, into: &mut [u8; PAGE_BYTES]) -> Result<(), Fault>
+        requires { p < D.size (disk_of self.old) }
+        ensures size { D.size (disk_of self.new) ≡ D.size (disk_of self.old) }
+        ensures cause { HasCause (D.failures (disk_of self.old)) (D.failures (disk_of self.new)) result }
+        ensures writes { D.writes (disk_of self.new) ≡ D.writes (disk_of self.old) }
+        ensures root { root_of self.new ≡ root_of self.old }
+        ensures read { D.honest (disk_of self.new)
+            → OnOk result (into.new ≡ D.seen (disk_of self.old) p) }
+        ensures seen { D.honest (disk_of self.new)
+            → D.seen (disk_of self.new) ≡ D.seen (disk_of self.old) }
+        ensures nothing { D.honest (disk_of self.new)
+            → AddsNothing D.Disk (disk_of self.old) (disk_of self.new) }
+        ensures ready { D.honest (disk_of self.new) → IsReady D.Disk self.old
+            → IsReady D.Disk self.new }
+        ensures begun { has_begun self.new ≡ has_begun self.old }
+        ensures failed { has_failed self.new ≡ has_failed self.old }
+    {
+        self.disk.read(p, into)
     }
 
     /// Begins a commit, if none has begun: the gate of the slot that isn't current is closed and settled, if it may be

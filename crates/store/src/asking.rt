@@ -1,6 +1,6 @@
 //! Questions about water, asked of a store's tree with what the store holds.
 //!
-//! Each is asked over any premise (see `Premise` in labelling.rt). `Store` asks at `Brand`, and picks as the premise that
+//! Each is asked over any premise (see `Premise` in tree_labellings.rt). `Store` asks at `Brand`, and picks as the premise that
 //! what it holds then is right.
 ghost use Rattle.std.specs.Prelude.{◌≡◌, ◌≢◌, ◌≤◌, length, false, IsTrue, IfOk, IfErr, Contains};
 ghost use Rattle.std.specs.List.{AllPairs};
@@ -16,7 +16,7 @@ ghost use Rattle.cow_tree.specs.Trees.{has_failed, corners_of};
 ghost use Rattle.drainage.specs.Between.{IsHeldOf};
 ghost use Rattle.store.specs.Water.{IsAskedOf};
 
-use crate::labelling::{Premise, TreeSource};
+use crate::tree_labellings::{Premise, TreeSource};
 use cow_tree::Tree;
 use disk::Disk;
 use drainage::DrainageCache;

@@ -25,7 +25,6 @@ mod commands;
 mod committing;
 mod heights;
 mod kept_right;
-mod labelling;
 mod laws;
 mod marking_stale;
 mod page_edit;
@@ -38,6 +37,7 @@ mod staging_pages;
 mod stepping;
 mod store;
 mod store_engine;
+mod tree_labellings;
 mod upgrading;
 mod voids;
 

@@ -1,7 +1,7 @@
 //! A store's tree as samples with labellings: that of a fresh tile is read from what is kept of it, a stale tile is flooded.
-ghost use Rattle.std.specs.Prelude.{◌≡◌, ◌≢◌, ◌*◌, ◌<◌, false, Some, Err, IsTrue, IfOk, IfErr, OnOk, vec_len};
+ghost use Rattle.std.specs.Prelude.{◌≡◌, ◌≢◌, ◌⊎◌, ◌*◌, ◌<◌, false, Some, Ok, Err, IsTrue, IfSome, IfOk, IfErr, OnOk, vec_len};
 ghost use Rattle.std.proofs.Common.{refl, ◌∙◌};
-ghost use Rattle.lattice.specs.declared.refusal.Refusal.TheVariants.{Damaged, NoMemory};
+ghost use Rattle.lattice.specs.declared.refusal.Refusal.TheVariants.{Damaged, Failed, NoMemory};
 ghost use Rattle.catalogue.specs.Endings.{ends_any};
 ghost use Rattle.catalogue.specs.Readers.{reads_of};
 ghost use Rattle.page_map.specs.declared.plane.Plane.TheVariants.{Levels, Labels};
@@ -215,14 +215,15 @@ fn kept_labelling<D: Disk>(
     labelled_from(alloc, side, &kept.levels, &kept.labels)
 }
 
-// What stands where the labelling of the corner's tile was kept before the tile went stale, where that is known: anything,
-// since its pages may have been written again.
+// What stands where the labelling of the corner's tile was kept before the tile went stale, where that is known and can be
+// read: anything, since its pages may have been written again. No fault of these reads fails the tree.
 fn past_labelling<D: Disk>(
     alloc: Global,
     tree: &mut Tree<D>,
     corner: Corner,
 ) -> Result<Option<Labelled>, Refusal>
-    ensures refusal { IfErr result (λ r. IsTrue (ends_any r) × (r ≢ Damaged)) }
+    ensures refusal { IfErr result (λ r. (r ≡ NoMemory) ⊎ (r ≡ Failed)) }
+    ensures works { have_failed tree.new ≡ have_failed tree.old }
     ensures reads { Consults D.Disk tree.old tree.new result }
 {
     if tree.has_failed() {
@@ -232,49 +233,57 @@ fn past_labelling<D: Disk>(
         return Ok(None);
     }
     let side = tree.current().side();
-    let levels = read_past(alloc, tree, corner, Plane::Levels)?;
-    let labels = read_past(alloc, tree, corner, Plane::Labels)?;
+    let Some(levels) = read_past(alloc, tree, corner, Plane::Levels)? else {
+        return Ok(None);
+    };
+    let Some(labels) = read_past(alloc, tree, corner, Plane::Labels)? else {
+        return Ok(None);
+    };
     Ok(labelled_from(alloc, side, &levels, &labels).ok())
 }
 
-// As many bytes as a plane of the corner's tile has, from where it lay before the tile went stale.
+// As many bytes as a plane of the corner's tile has, from where it lay before the tile went stale; None where a page of them
+// can't be read, which fails nothing.
 fn read_past<D: Disk>(
     alloc: Global,
     tree: &mut Tree<D>,
     corner: Corner,
     plane: Plane,
-) -> Result<Vec<u8>, Refusal>
+) -> Result<Option<Vec<u8>>, Refusal>
     requires { have_failed tree.old ≡ false }
-    ensures whole { IfOk result (λ bytes. vec_len bytes ≡ 2 * ((root_under tree.old).side * (root_under tree.old).side)) }
-    ensures refusal { IfErr result (λ r. IsTrue (ends_any r) × (r ≢ Damaged)) }
-    ensures reads { Reads D.Disk tree.old tree.new (reads_of result) }
+    ensures whole { IfOk result (λ found. IfSome found (λ bytes. vec_len bytes ≡ 2 * ((root_under tree.old).side * (root_under tree.old).side))) }
+    ensures refusal { IfErr result (λ r. r ≡ NoMemory) }
+    ensures reads { Reads {T = Unit {0}} D.Disk tree.old tree.new (Ok tt) }
 {
     let side = tree.current().side();
     let count = pages_in_plane(side);
     let mut bytes = Vec::with_capacity(alloc, count as usize * PAGE_BYTES)?;
     let mut page = [0; PAGE_BYTES];
     for i in 0..count {
-        read_past_page(tree, corner, plane, i, &mut page)?;
+        if !read_past_page(tree, corner, plane, i, &mut page) {
+            return Ok(None);
+        }
         bytes.extend_from_slice(&page)?;
     }
     bytes.truncate(side.file_bytes() as usize);
-    Ok(bytes)
+    Ok(Some(bytes))
 }
 
-// Reads what stands where page `i` of a plane of the corner's tile lay; nothing where that isn't known.
+// Reads what stands where page `i` of a plane of the corner's tile lay, and says whether it was read: not where that place
+// isn't known, nor where the disk fails the read.
 fn read_past_page<D: Disk>(
     tree: &mut Tree<D>,
     corner: Corner,
     plane: Plane,
     i: u32,
     into: &mut [u8; PAGE_BYTES],
-) -> Result<(), Refusal>
+) -> bool
     requires { have_failed tree.old ≡ false }
-    ensures reads { Reads D.Disk tree.old tree.new result }
+    ensures reads { Reads {T = Unit {0}} D.Disk tree.old tree.new (Ok tt) }
 {
     match tree.past_sector(corner, plane, i) {
-        Some(sector) => tree.read_sector(sector, into),
-        None => Ok(()),
+        Some(sector) => tree.peek_sector(sector, into).is_ok(),
+        None => false,
     }
 }
 

@@ -1,5 +1,5 @@
 use Rattle.store.proofs.Prelude.{HasOnlyRead, false, has_failed, vec_len, ◌*◌, ◌≡◌}
-use Rattle.store.proofs.labelling.read_past.Given as goal
+use Rattle.store.proofs.tree_labellings.read_past.Given as goal
 
 abbrev pub invariant-loop-i : goal.invariant-loop-i
 invariant-loop-i g l = record {

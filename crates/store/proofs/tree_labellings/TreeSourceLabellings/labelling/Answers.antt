@@ -3,7 +3,7 @@ use Rattle.catalogue.proofs.Asking.{asked_by_reads, asked_on}
 use Rattle.catalogue.proofs.Reading.{reads_answered}
 use Rattle.drainage.proofs.Questions.Questioned.{answered, passed_on, refused_by}
 use Rattle.store.proofs.KeptPlanes.Labelled.{answered_works, may_refuse, not_ready, was_sure}
-use Rattle.store.proofs.labelling.TreeSourceLabellings.labelling.Goals as goal
+use Rattle.store.proofs.tree_labellings.TreeSourceLabellings.labelling.Goals as goal
 
 pub returns-in_ok-labelled-clause-asked : goal.returns-in_ok-labelled-clause-asked
 returns-in_ok-labelled-clause-asked g c =

@@ -1,6 +1,6 @@
 use Rattle.store.proofs.Prelude.{Err, IsTileOf, KeptPlanes, List, Ok, RootValue, StoredTile, ap, option_map, plane_bytes, subst, sym, ◌≡◌}
 use Rattle.store.proofs.KeptPlanes.Labelled.{reads_refused, reads_then}
-use Rattle.store.proofs.labelling.read_kept.Goals as goal
+use Rattle.store.proofs.tree_labellings.read_kept.Goals as goal
 
 pub returns-clause-level_bytes : goal.returns-clause-level_bytes
 returns-clause-level_bytes g c honest t kept is has =

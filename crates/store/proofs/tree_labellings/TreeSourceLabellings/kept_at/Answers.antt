@@ -1,6 +1,6 @@
 use Rattle.store.proofs.Prelude.{Ok, RootValue, ap, asked, asked_answer, read_nothing, reads_nothing, refl, same_mosaic}
 use Rattle.store.proofs.KeptPlanes.Labelled.{was_sure, may_refuse, not_ready}
-use Rattle.store.proofs.labelling.TreeSourceLabellings.kept_at.Goals as goal
+use Rattle.store.proofs.tree_labellings.TreeSourceLabellings.kept_at.Goals as goal
 
 pub returns-then-not-keeps-clause-asked : goal.returns-then-not-keeps-clause-asked
 returns-then-not-keeps-clause-asked g c =

@@ -1,7 +1,7 @@
 use Rattle.store.proofs.Prelude.{on_ok, staged_in, ◌/◌}
 use Rattle.store.proofs.Reading.QueryingPages.{page_of_tile}
 use Rattle.store.proofs.Edits.LabelsRead.{two_stand}
-use Rattle.store.proofs.labelling.read_value.Goals as goal
+use Rattle.store.proofs.tree_labellings.read_value.Goals as goal
 
 pub returns-clause-value : goal.returns-clause-value
 returns-clause-value g c honest =

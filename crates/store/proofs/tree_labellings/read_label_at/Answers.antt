@@ -1,6 +1,6 @@
 use Rattle.store.proofs.Prelude.{Ok}
 use Rattle.store.proofs.KeptPlanes.Labelled.{reads_then}
-use Rattle.store.proofs.labelling.read_label_at.Goals as goal
+use Rattle.store.proofs.tree_labellings.read_label_at.Goals as goal
 
 pub returns-clause-reads : goal.returns-clause-reads
 returns-clause-reads g c =

@@ -1,6 +1,6 @@
 use Rattle.store.proofs.Prelude.{KeptPlanes, RootValue, ℕ, ap, mosaic_of, option_map, plane_bytes, subst, sym, ◌*◌, ◌<◌, ◌∙◌, ◌≡◌}
 use Rattle.store.proofs.KeptPlanes.Labelled.{was_sure, keeps_there, labelled_by_bytes, least_height, failed_before, answered_whole}
-use Rattle.store.proofs.labelling.kept_label_at.Goals as goal
+use Rattle.store.proofs.tree_labellings.kept_label_at.Goals as goal
 
 pub returns-then-has_failed-clause-reads : goal.returns-then-has_failed-clause-reads
 returns-then-has_failed-clause-reads g c = failed_before g.D.Disk g.met.D.Disk.only_now c.args.tree.now (sym c.has_failed.ensures ∙ c.if-has_failed.true)

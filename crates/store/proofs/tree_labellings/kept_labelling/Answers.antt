@@ -1,6 +1,6 @@
 use Rattle.store.proofs.Prelude.{IfOk, IsLabelling, List, RootValue, ℕ, ap, labels_in, levels_in, mosaic_of, plane_bytes, subst, sym, ◌∙◌, ◌≡◌}
 use Rattle.store.proofs.KeptPlanes.Labelled.{was_sure, keeps_there, flooded_by_bytes, least_height, failed_before, not_damaged}
-use Rattle.store.proofs.labelling.kept_labelling.Goals as goal
+use Rattle.store.proofs.tree_labellings.kept_labelling.Goals as goal
 
 pub returns-then-has_failed-clause-reads : goal.returns-then-has_failed-clause-reads
 returns-then-has_failed-clause-reads g c = failed_before g.D.Disk g.met.D.Disk.only_now c.args.tree.now (sym c.has_failed.ensures ∙ c.if-has_failed.true)
