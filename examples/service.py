@@ -1,22 +1,14 @@
 #!/usr/bin/env python3
 """A service for many clients over one store, on this machine alone.
 
-usage: service.py STORE [--port PORT] [--program PROGRAM]
+usage: service.py STORE [--port PORT] [--program PROGRAM] [--origin ORIGIN ..]
 
-    GET  /fill?y=183&x=411        also /elevation, /direction, /trace, /watershed             {"answer": ..}
-    GET  /fill?latitude=0.1525&longitude=0.3425                                               the same, by degrees
-    GET  /tiles                   also /sinks, /count                                         {"answer": ..}
-    GET  /export?tile=N00E000                                                                 the tile's HGT bytes
-    GET  /health                  503 where the program can't be begun                        {"answer": count}
-    GET  /info                    what it is and holds, how many tiles are fresh and stale    {"answer": {..}}
-    POST /wall                    {"height": 1193, "points": [[183, 411]]}                    {"answer": k}
-    POST /burn                    {"depth": 15, "points": [[183, 411]]}                       {"answer": k}
-    POST /patch                   {"y0": 3, "x0": 4, "y1": 9, "x1": 9, "height": 250}         {"answer": k}
-    POST /sink, /unsink           {"y": 183, "x": 411}                                        {"answer": k}
-    POST /import?tile=N00E000     HGT bytes, as application/octet-stream                      {"answer": k}
-    POST /remove                  {"tile": "N00E000"}                                         {"answer": k}
-    POST /step                    {}                                                          {"answer": name or null}
-    POST /backup                  {}                                                          {"answer": the copy's name}
+What it answers is told by itself: at / as a page, at /openapi.json as an OpenAPI document. Among it:
+
+    GET  /fill?y=183&x=411          {"answer": 1204}; also by latitude and longitude, and /elevation, /direction, /trace, /watershed
+    POST /fill                      {"points": [[183, 411], ..]} or {"places": [[0.1525, 0.3425], ..]}: {"answer": [..]}
+    POST /wall                      {"height": 1193, "points": [[183, 411]]}: {"answer": k}; also /burn, /patch, /sink ..
+    GET  /xyz/hillshade/9/135/199.png    a picture for a web map; also levels and water; needs numpy
 
 /backup copies the store, whole, to a file beside it: STORE.k, after the count k that it has. Where mosaic-tiles isn't beside the
 program /info leaves version and capacity out, and reads such a copy, which it takes away.
@@ -25,21 +17,24 @@ is killed, the service begins it anew and asks again only what doesn't stand; wh
 A refusal is status 404 where the point has no answer, 503 where the store failed, else 409, with its number and word; what
 can't be read is 400, what is asked of another name than this machine's own, or by a page of another site, is 403, and who
 takes longer than a minute for a request, or to take an answer, is let go. Each of these is a line on standard error.
+A page of an --origin, as http://localhost:8000, may get pictures and answers, and change nothing.
 """
 
 import argparse
 import asyncio
 import contextlib
 import dataclasses
+import html
 import json
 import pathlib
+import re
 import signal
 import sys
 import urllib.parse
 
 sys.path.insert(0, str(pathlib.Path(__file__).resolve().parents[1] / "python"))  # the package, also where it isn't installed
 
-from mosaic_store import Command, MosaicError, Refusal, StoreExists, errors, open_store, point_of, questions
+from mosaic_store import Command, MosaicError, Refusal, StoreExists, __version__, errors, open_store, point_of, questions
 
 QUESTIONS = {
     "/elevation": questions.Elevation,
@@ -58,7 +53,10 @@ COMMANDS = {
     "/remove": (questions.Remove, ("tile",)),
     "/step": (questions.Step, ()),
 }
-LONGEST_HEAD, LONGEST_BODY, LONGEST_TILE = 16_384, 65_536, 25_934_402
+MOST_POINTS = {"/trace": 100, "/watershed": 100}
+MOST_OTHERWISE = 10_000
+PICTURE = re.compile(r"/xyz/(\w+)/(\d{1,2})/(\d{1,8})/(\d{1,8})\.png")
+LONGEST_HEAD, LONGEST_BODY, LONGEST_LIST, LONGEST_TILE = 16_384, 65_536, 1 << 20, 25_934_402
 SECONDS_TO_SEND = 60
 OWN_NAMES = ("127.0.0.1", "localhost", "[::1]")
 OUTSIDE, VOID, DEVICE, FAILED = 7, 8, 20, 22
@@ -69,13 +67,22 @@ class BadRequest(Exception):
     """A request that can't be read: its one line goes to the client."""
 
 
+@dataclasses.dataclass(frozen=True)
+class Sent:
+    """An answer that isn't JSON."""
+
+    body: bytes
+    kind: str
+
+
 class Service:
     """Takes requests, and has one task ask the store."""
 
-    def __init__(self, session, store):
-        self.session, self.store = session, pathlib.Path(store)
+    def __init__(self, session, store, origins=()):
+        self.session, self.store, self.origins = session, pathlib.Path(store), frozenset(origins)
         self.side = session.side  # degrees are made points of without a question
         self.waiting = asyncio.Queue()
+        self.pictures = None
 
     async def answers(self):
         """Asks what waits, as much at a time as there is."""
@@ -116,7 +123,8 @@ class Service:
                 status, answer = await self.reply(*request)
                 if status != 200:
                     log(status, f"{request[0]} {request[1]}", answer["error"])
-                await send(writer, status, answer)
+                origin = request[2].get("origin")
+                await send(writer, status, answer, allowed=origin if origin in self.origins else None)
         except (BadRequest, asyncio.LimitOverrunError) as error:
             # Where its next request would begin can't be told, so the connection ends with this answer.
             log(400, "a request", error)
@@ -131,17 +139,44 @@ class Service:
         # A page of another site may have its own name lead here: what asks by that name isn't answered, nor such a page.
         if headers.get("host", "").rsplit(":", 1)[0] not in OWN_NAMES:
             return 403, {"error": "this service answers to 127.0.0.1 and localhost alone"}
-        own = f"http://{headers['host']}"
-        # A picture of such a page is asked for without an origin: browsers tell where that page is from.
-        if headers.get("origin", own) != own or headers.get("sec-fetch-site", "none") not in ("none", "same-origin"):
+        if not self.is_own(headers) and not (method == "GET" and self.is_of_an_origin(headers)):
             return 403, {"error": "this request comes from a page of another site"}
         try:
+            path = urllib.parse.urlsplit(target).path
+            if method == "GET" and (found := PICTURE.fullmatch(path)):
+                return 200, Sent(await asyncio.to_thread(self.picture, *found.groups()), "image/png")
+            if method == "GET" and path in PAGES:
+                return 200, PAGES[path]()
             question = self.question(method, target, headers, body)
         except (BadRequest, ValueError, RecursionError) as error:
             return 400, {"error": str(error)}
+        except MosaicError as error:
+            return told(error)
         future = asyncio.get_running_loop().create_future()
         self.waiting.put_nowait((question, future))
         return told(await future)
+
+    @staticmethod
+    def is_own(headers):
+        """Whether a request comes from no page, or from one of this service."""
+        own = f"http://{headers['host']}"
+        # A picture of a page is asked for without an origin: browsers tell where that page is from.
+        return headers.get("origin", own) == own and headers.get("sec-fetch-site", "none") in ("none", "same-origin")
+
+    def is_of_an_origin(self, headers):
+        """Whether it comes from a page that the user has named."""
+        page = urllib.parse.urlsplit(headers.get("referer", ""))
+        return headers.get("origin", f"{page.scheme}://{page.netloc}") in self.origins
+
+    def picture(self, layer, zoom, column, row):
+        """A picture for a web map."""
+        if self.pictures is None:
+            try:
+                from mosaic_store.view.xyz import Pictures
+            except ImportError as missing:
+                raise BadRequest(f"pictures need numpy ({missing})") from None
+            self.pictures = Pictures(self.session)
+        return self.pictures.picture(layer, int(zoom), int(column), int(row))
 
     def info(self):
         """What the store is and holds."""
@@ -172,6 +207,8 @@ class Service:
             return OF_THE_STORE[url.path]()
         if method == "GET" and url.path in QUESTIONS:
             return checked(QUESTIONS[url.path](*self.point(given)))
+        if method == "POST" and url.path in QUESTIONS:
+            return self.of_many(url.path, headers, body)
         if method == "GET" and url.path == "/export":
             return checked(questions.Export(given.get("tile", "")))
         if method == "POST" and url.path == "/import":
@@ -179,7 +216,21 @@ class Service:
             return checked(questions.Import(given.get("tile", ""), body))
         if method == "POST" and url.path in COMMANDS:
             return command(url.path, headers, body)
-        raise BadRequest(f"{method} {url.path} asks nothing: see this service's first lines")
+        raise BadRequest(f"{method} {url.path} asks nothing: the page at / has what does")
+
+    def of_many(self, path, headers, body):
+        """The question of many points, refusals in their places."""
+        sent_as(headers, "application/json")
+        given, most = json.loads(body), MOST_POINTS.get(path, MOST_OTHERWISE)
+        listed = given.get("points", given.get("places")) if isinstance(given, dict) and len(given) == 1 else None
+        if not isinstance(listed, list) or len(listed) > most or not all(isinstance(each, list) and len(each) == 2 for each in listed):
+            raise BadRequest(f"points are asked by {{\"points\": [[y, x], ..]}} or {{\"places\": [[latitude, longitude], ..]}}, at most {most} of them")
+        numbers = float if "places" in given else int
+        if any(type(number) not in (int, numbers) for each in listed for number in each):
+            raise BadRequest("a point is two whole numbers, a place two numbers of degrees")
+        points = [point_of(*each, self.side) for each in listed] if "places" in given else listed
+        asked = [checked(QUESTIONS[path](*point)) for point in points]
+        return lambda: [told(answer)[1] if isinstance(answer, Refusal) else plain(answer) for answer in self.session.ask_many(asked)]
 
     def point(self, given):
         if "y" in given and "x" in given:
@@ -201,7 +252,15 @@ def given_in(headers, body, names):
     given = json.loads(body)
     if not isinstance(given, dict) or set(given) != set(names) or not isinstance(given.get("points", []), list):
         raise BadRequest(f"this command is an object with {' and '.join(names) or 'nothing in it'}")
+    if any(isinstance(value, bool) for value in flattened(given.values())):
+        raise BadRequest("a number is needed, not true or false")
     return given
+
+
+def flattened(values):
+    """Values, and those of lists in them."""
+    for value in values:
+        yield from flattened(value) if isinstance(value, list) else [value]
 
 
 def sent_as(headers, kind):
@@ -238,7 +297,7 @@ async def read_request(reader, writer):
         raise BadRequest("this is no request of HTTP")
     if "transfer-encoding" in headers or [name for name, _ in named].count("content-length") > 1:
         raise BadRequest("a request tells its length, once")
-    longest = LONGEST_TILE if words[1].startswith("/import?") else LONGEST_BODY
+    longest = LONGEST_TILE if words[1].startswith("/import?") else LONGEST_LIST if words[1] in QUESTIONS else LONGEST_BODY
     if not (length.isascii() and length.isdecimal() and len(length) < 10 and int(length) <= longest):
         raise BadRequest(f"a request's body has at most {longest} bytes")
     if headers.get("expect", "").lower() == "100-continue":
@@ -246,12 +305,12 @@ async def read_request(reader, writer):
     return words[0], words[1], headers, await reader.readexactly(int(length))
 
 
-async def send(writer, status, answer, last=False):
-    """Sends a reply; `last` where the connection ends with it."""
-    body, kind = (answer, "octet-stream") if isinstance(answer, bytes) else (json.dumps(answer).encode(), "json")
-    ending = "Connection: close\r\n" if last else ""
-    head = f"HTTP/1.1 {status} -\r\nContent-Type: application/{kind}\r\nContent-Length: {len(body)}\r\n{ending}\r\n"
-    writer.write(head.encode() + body)
+async def send(writer, status, answer, last=False, allowed=None):
+    """Sends a reply; `last` where the connection ends with it, `allowed` an origin whose pages may read it."""
+    sent = answer if isinstance(answer, Sent) else Sent(json.dumps(answer).encode(), "application/json")
+    extra = ("Connection: close\r\n" if last else "") + (f"Access-Control-Allow-Origin: {allowed}\r\nVary: Origin\r\n" if allowed else "")
+    head = f"HTTP/1.1 {status} -\r\nContent-Type: {sent.kind}\r\nContent-Length: {len(sent.body)}\r\nX-Content-Type-Options: nosniff\r\n{extra}\r\n"
+    writer.write(head.encode() + sent.body)
     try:
         await asyncio.wait_for(writer.drain(), SECONDS_TO_SEND)
     except asyncio.TimeoutError:
@@ -268,16 +327,112 @@ def told(answer):
         return 409, {"error": str(answer)}
     if isinstance(answer, Exception):
         return 503, {"error": str(answer)}
-    if isinstance(answer, bytes):
-        return 200, answer
-    if hasattr(answer, "runs"):
-        return 200, {"answer": {"cells": answer.cells, "runs": answer.runs}}
-    return 200, {"answer": answer}
+    return 200, Sent(answer, "application/octet-stream") if isinstance(answer, bytes) else {"answer": plain(answer)}
+
+
+def plain(answer):
+    """An answer as JSON has it."""
+    return {"cells": answer.cells, "runs": answer.runs} if hasattr(answer, "runs") else answer
+
+
+ABOUT = {
+    "/elevation": "The height of a point in metres; null where it is void.",
+    "/fill": "The filled level of a point: as high as water stands before it runs off.",
+    "/direction": "The D8 direction code of a point; 0 is off the mosaic.",
+    "/trace": "The flow path of a point.",
+    "/watershed": "The points that drain to a point: their number, and runs of y, first x, last x.",
+    "/count": "How many commands were accepted.",
+    "/health": "The same; 503 where the program can't be begun.",
+    "/tiles": "The names of the present tiles.",
+    "/sinks": "The declared sinks.",
+    "/info": "What the store is and holds, how many tiles are fresh and stale.",
+    "/export": "A tile's HGT bytes.",
+    "/xyz/{layer}/{z}/{x}/{y}.png": "A picture of 256 pixels each way in Web Mercator.",
+    "/wall": "Raises 1 to 64 points to a height.",
+    "/burn": "Lowers 1 to 64 points by a depth.",
+    "/patch": "Gives the voids of a box a height.",
+    "/sink": "Declares a sink.",
+    "/unsink": "Takes a sink back.",
+    "/remove": "Takes a tile out.",
+    "/step": "Floods one stale tile; its name, or null.",
+    "/import": "Adds a tile of HGT bytes.",
+    "/backup": "Copies the store to a file beside it; its name.",
+}
+PAIRS = {"type": "array", "items": {"type": "array", "items": {"type": "number"}, "minItems": 2, "maxItems": 2}}
+KINDS = {"points": PAIRS, "tile": {"type": "string"}, "layer": {"type": "string", "enum": ["hillshade", "levels", "water"]}}
+
+
+def openapi():
+    """What the service answers, as an OpenAPI document."""
+    paths = {path: {} for path in ABOUT}
+    for path in QUESTIONS:
+        paths[path]["get"] = operation(path, [parameter(name) for name in ("y", "x", "latitude", "longitude")])
+        paths[path]["post"] = operation(path, body=one_of_lists(MOST_POINTS.get(path, MOST_OTHERWISE)))
+    for path in (*OF_THE_STORE, "/info"):
+        paths[path]["get"] = operation(path)
+    for path, (_, names) in COMMANDS.items():
+        paths[path]["post"] = operation(path, body={"application/json": {"schema": object_of(names)}})
+    octets = {"application/octet-stream": {"schema": {"type": "string", "format": "binary"}}}
+    paths["/export"]["get"] = operation("/export", [parameter("tile", required=True)], answer=octets)
+    paths["/import"]["post"] = operation("/import", [parameter("tile", required=True)], octets)
+    paths["/backup"]["post"] = operation("/backup", body={"application/json": {"schema": object_of(())}})
+    name = "/xyz/{layer}/{z}/{x}/{y}.png"
+    parts = [parameter(part, "path", True) for part in ("layer", "z", "x", "y")]
+    paths[name]["get"] = operation(name, parts, answer={"image/png": {"schema": {"type": "string", "format": "binary"}}})
+    about = {"title": "mosaic", "version": __version__, "description": "Drainage questions to a store of elevation tiles, and edits of its terrain."}
+    return {"openapi": "3.0.3", "info": about, "paths": paths}
+
+
+def parameter(name, where="query", required=False):
+    kind = "number" if name in ("latitude", "longitude") else "integer"
+    return {"name": name, "in": where, "required": required, "schema": KINDS.get(name, {"type": kind})}
+
+
+def operation(path, parameters=(), body=None, answer=None):
+    answers = answer or {"application/json": {"schema": {"type": "object", "properties": {"answer": {}}, "required": ["answer"]}}}
+    refused = {"application/json": {"schema": {"type": "object", "properties": {"error": {"type": "string"}}, "required": ["error"]}}}
+    made = {"summary": ABOUT[path], "parameters": list(parameters)} if parameters else {"summary": ABOUT[path]}
+    if body is not None:
+        made["requestBody"] = {"required": True, "content": body}
+    return made | {"responses": {"200": {"description": "The answer.", "content": answers}, "default": {"description": "A refusal.", "content": refused}}}
+
+
+def object_of(names):
+    properties = {name: KINDS.get(name, {"type": "integer"}) for name in names}
+    return {"type": "object", "properties": properties, "additionalProperties": False} | ({"required": list(names)} if names else {})
+
+
+def one_of_lists(most):
+    lists = [{"type": "object", "properties": {name: PAIRS | {"maxItems": most}}, "required": [name]} for name in ("points", "places")]
+    return {"application/json": {"schema": {"oneOf": lists}}}
+
+
+def page():
+    """The same for a person to read."""
+    rows = [
+        f"<tr><td>{method.upper()}<td><code>{html.escape(path)}</code><td>{html.escape(', '.join(given_of(made)))}<td>{html.escape(made['summary'])}"
+        for path, methods in openapi()["paths"].items()
+        for method, made in methods.items()
+    ]
+    head = '<!doctype html><html lang="en"><meta charset="utf-8"><meta name="viewport" content="width=device-width"><title>mosaic</title><h1>mosaic</h1>'
+    told = '<p>What this service answers; <a href="openapi.json">openapi.json</a> has it for programs.'
+    return f"{head}{told}<table><thead><tr><th>Method<th>Path<th>Given<th>Answer<tbody>{''.join(rows)}</table>"
+
+
+def given_of(made):
+    """The names of what a request holds."""
+    for content in made.get("requestBody", {}).get("content", {}).values():
+        schema = content["schema"]
+        yield from [name for each in schema.get("oneOf", [schema]) for name in each.get("properties", {})] or ["bytes"] * ("format" in schema)
+    yield from (each["name"] for each in made.get("parameters", ()))
+
+
+PAGES = {"/": lambda: Sent(page().encode(), "text/html; charset=utf-8"), "/openapi.json": openapi}
 
 
 async def run(options):
     with open_store(options.store, options.program, wait=10, restart=True) as session:
-        service = Service(session, options.store)
+        service = Service(session, options.store, options.origin)
         asking = asyncio.create_task(service.answers())
         server = await asyncio.start_server(service.serve, "127.0.0.1", options.port, limit=LONGEST_HEAD)
         port = server.sockets[0].getsockname()[1]
@@ -294,6 +449,7 @@ def main():
     parser.add_argument("store")
     parser.add_argument("--port", type=int, default=8765)
     parser.add_argument("--program")
+    parser.add_argument("--origin", action="append", default=[], help="pages of this origin may get pictures and answers")
     try:
         asyncio.run(run(parser.parse_args()))
     except (MosaicError, OSError) as error:

@@ -2,6 +2,7 @@
 
 import http.client
 import json
+import math
 import os
 import re
 import signal
@@ -11,20 +12,21 @@ import sys
 import threading
 import time
 import unittest
+import zlib
 
 from mosaic_store import check_store, find_server, open_store
 
-from .support import A_WHILE, PROGRAM, PYTHON, InFolder
+from .support import A_WHILE, PROGRAM, PYTHON, InFolder, needs
 
 BEGUN = re.compile(r"service: .* at http://127\.0\.0\.1:(\d+), program (\d+)")
 JSON = {"Content-Type": "application/json"}
 
 
 class Service(InFolder):
-    def start(self, path):
+    def start(self, path, *options):
         """Starts the service; its process, its port, and the process of its program."""
         process = subprocess.Popen(
-            [sys.executable, PYTHON.parent / "examples" / "service.py", path, "--port", "0", "--program", PROGRAM],
+            [sys.executable, PYTHON.parent / "examples" / "service.py", path, "--port", "0", "--program", PROGRAM, *options],
             stdout=subprocess.PIPE,
             stderr=self.log_file(),
             text=True,
@@ -84,6 +86,17 @@ class Service(InFolder):
             ("POST", "/wall", "{", JSON),
             ("POST", "/wall", json.dumps({"height": 1, "points": []}), JSON),
             ("POST", "/wall", json.dumps({"height": "x", "points": [[1, 1]]}), JSON),
+            ("POST", "/wall", json.dumps({"height": True, "points": [[1, 1]]}), JSON),
+            ("POST", "/wall", json.dumps({"height": 1, "points": [[1, True]]}), JSON),
+            ("POST", "/fill", json.dumps({"points": [[1, True]]}), JSON),
+            ("POST", "/fill", json.dumps({"points": [[1, 0.5]]}), JSON),
+            ("POST", "/fill", json.dumps({"points": [[1]]}), JSON),
+            ("POST", "/fill", json.dumps({"points": [], "places": []}), JSON),
+            ("POST", "/fill", json.dumps({"places": [[95, 0]]}), JSON),
+            ("POST", "/trace", json.dumps({"points": [[5, 5]] * 101}), JSON),
+            ("GET", "/xyz/relief/8/128/127.png", None, {}),
+            ("GET", "/xyz/water/8/256/127.png", None, {}),
+            ("GET", "/xyz/water/23/0/0.png", None, {}),
         ]
         bad.append(("POST", "/wall", "[" * 60000, JSON))
         for request in bad:
@@ -97,6 +110,82 @@ class Service(InFolder):
         self.assertEqual(self.ask(port, "POST", "/wall", wall, another)[0], 403)
         self.assertEqual(self.ask(port, "POST", "/burn", json.dumps({"depth": 0, "points": [[5, 5]]}))[0], 409)
         self.assertEqual(self.ask(port, "GET", "/count"), (200, {"answer": 5}))
+
+    def test_many_points_at_once(self):
+        """As they are answered one by one, refusals in their places; by points and by places."""
+        _, port, _ = self.start(self.store(11))
+        points = [[5, 5], [99, 0], [3, 2], [12, 17]]
+        for path in ("/elevation", "/fill", "/direction", "/trace", "/watershed"):
+            with self.subTest(path):
+                single = [self.ask(port, "GET", f"{path}?y={y}&x={x}")[1] for y, x in points]
+                wanted = [one.get("answer", one) for one in single]
+                self.assertEqual(self.ask(port, "POST", path, json.dumps({"points": points})), (200, {"answer": wanted}))
+                places = [[y / 10, x / 10] for y, x in points[2:]]
+                self.assertEqual(self.ask(port, "POST", path, json.dumps({"places": places})), (200, {"answer": wanted[2:]}))
+        self.assertEqual(self.ask(port, "POST", "/fill", json.dumps({"points": [[5, 5]] * 5000}))[0], 200)
+
+    @needs("numpy")
+    def test_pictures_for_web_maps(self):
+        """Where water stands, pixel for pixel by the formulas of Web Mercator; an edit is seen in the next picture."""
+        path = self.store(11)
+        _, port, _ = self.start(path)
+        for depth in (None, 40):
+            if depth:
+                self.ask(port, "POST", "/burn", json.dumps({"depth": depth, "points": [[y, x] for y in range(6, 9) for x in range(6, 9)]}))
+            opaque = self.opaque(self.ask(port, "GET", "/xyz/water/8/128/127.png", raw=True)[1])
+            latitudes = [math.degrees(math.atan(math.sinh(math.pi * (1 - 2 * (127 + (row + 0.5) / 256) / 256)))) for row in range(256)]
+            ys, xs = [round(latitude * 10) for latitude in latitudes], [round((column + 0.5) / 256 * 360 / 256 * 10) for column in range(256)]
+            places = sorted({(y, x) for y in ys for x in xs})
+            levels, heights = (
+                self.ask(port, "POST", path, json.dumps({"points": places}))[1]["answer"] for path in ("/fill", "/elevation")
+            )
+            wet = {place: height is not None and level > height for place, level, height in zip(places, levels, heights)}
+            self.assertEqual(opaque, [[wet[y, x] for x in xs] for y in ys])
+            self.assertIn(True, wet.values())
+        for layer, zoom, column, row, is_seen in (("hillshade", 8, 128, 127, True), ("levels", 5, 16, 15, True), ("hillshade", 8, 0, 0, False)):
+            told = self.ask(port, "GET", f"/xyz/{layer}/{zoom}/{column}/{row}.png", raw=True)[1]
+            self.assertEqual(any(map(any, self.opaque(told))), is_seen)
+
+    @staticmethod
+    def opaque(picture):
+        """Of each pixel of a PNG whether it is seen at all."""
+        rows = zlib.decompress(picture[picture.index(b"IDAT") + 4 : picture.index(b"IEND") - 8])
+        return [[rows[1025 * row + 4 * column + 4] > 0 for column in range(256)] for row in range(256)]
+
+    def test_the_service_tells_what_it_answers(self):
+        _, port, _ = self.start(self.store(11))
+        status, document = self.ask(port, "GET", "/openapi.json")
+        self.assertEqual((status, document["openapi"]), (200, "3.0.3"))
+        page = self.ask(port, "GET", "/", raw=True)[1].decode()
+        for path, methods in document["paths"].items():
+            for method in methods:
+                self.assertIn(f"<td>{method.upper()}<td><code>{path}</code>", page)
+                if "{" not in path:  # each is answered, or refused for what isn't given
+                    self.assertNotIn("asks nothing", str(self.ask(port, method.upper(), path, raw=True)[1]))
+
+    @needs("openapi_spec_validator")
+    def test_the_document_is_openapi(self):
+        import openapi_spec_validator
+
+        _, port, _ = self.start(self.store(11))
+        openapi_spec_validator.validate(self.ask(port, "GET", "/openapi.json")[1])
+
+    def test_pages_of_an_origin_get_answers(self):
+        """None others do, and none of them changes anything."""
+        _, port, _ = self.start(self.store(11), "--origin", "http://localhost:8000")
+        wall = json.dumps({"height": 900, "points": [[5, 5]]})
+        site = {"Sec-Fetch-Site": "same-site"}
+        rows = [
+            ("GET", "/count", None, {"Origin": "http://localhost:8000", **site}, 200),
+            ("GET", "/count", None, {"Referer": "http://localhost:8000/map.html", **site}, 200),
+            ("GET", "/count", None, {"Origin": "http://localhost:8001", **site}, 403),
+            ("GET", "/count", None, {"Referer": "http://localhost:8001/map.html", **site}, 403),
+            ("GET", "/count", None, site, 403),
+            ("POST", "/wall", wall, {"Origin": "http://localhost:8000", **site, **JSON}, 403),
+        ]
+        for method, target, body, headers, status in rows:
+            with self.subTest(headers):
+                self.assertEqual(self.ask(port, method, target, body, headers)[0], status)
 
     def test_every_word(self):
         """A tile that is taken out and put back, with a sink, a patch and a step between; by one client."""
