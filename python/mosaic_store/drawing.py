@@ -13,7 +13,8 @@ from typing import TYPE_CHECKING, Any
 from . import shading
 from .errors import BadArgument
 from .geojson import square_kilometres
-from .lattice import METRES_A_DEGREE, Point, degrees_of
+from .ellipsoid import degree
+from .lattice import Point, degrees_of
 from .questions import Watershed
 from .rasters import Heights
 from .samples import cure_for, needed_numpy
@@ -59,10 +60,15 @@ class Scene:
         return west, east, south, north
 
     @property
+    def degree(self) -> tuple[float, float]:
+        """How many metres a degree has in its middle, to the north and to the east."""
+        _, _, south, north = self.extent
+        return degree(max(-89.0, min(89.0, (south + north) / 2)))
+
+    @property
     def narrowing(self) -> float:
         """How much shorter a degree is eastwards than northwards, in its middle."""
-        _, _, south, north = self.extent
-        return max(0.01, math.cos(math.radians((south + north) / 2)))
+        return self.degree[1] / self.degree[0]
 
 
 def draw(scene: Scene, path: str) -> None:
@@ -92,9 +98,9 @@ def colours_of(scene: Scene) -> Array:
     numpy = needed_numpy()
     heights = scene.heights
     low, high = range_of(heights)
-    metres = METRES_A_DEGREE / (heights.side - 1) * heights.every
+    north, east = (metres / (heights.side - 1) * heights.every for metres in scene.degree)
     ringed = numpy.pad(heights.samples, 1, mode="edge")
-    colours = shading.relief(ringed, low, high, metres * scene.narrowing, metres)
+    colours = shading.relief(ringed, low, high, east, north)
     if scene.watershed is not None:
         covered = cover_of(scene.watershed, heights) & heights.ground
         colours[covered] = colours[covered] * (1 - _WATERSHED_SHARE) + numpy.array(WATERSHED) * _WATERSHED_SHARE
@@ -158,7 +164,7 @@ def _line(points: Sequence[Point], side: int) -> tuple[list[float], list[float]]
 def _draw_scale(axes: Any, scene: Scene) -> None:
     """A bar of a round number of metres, in the lower left."""
     west, east, south, north = scene.extent
-    metres_a_degree = METRES_A_DEGREE * scene.narrowing
+    _, metres_a_degree = scene.degree
     length = _round_below((east - west) * metres_a_degree * _SCALE_SHARE)
     start, level, thick = west + (east - west) * 0.04, south + (north - south) * 0.045, (north - south) * 0.012
     for part, colour in enumerate(("black", "white")):

@@ -6,11 +6,13 @@ through them.
 
 from __future__ import annotations
 
+import collections
 import math
 from collections.abc import Sequence
 from typing import Any
 
-from .lattice import METRES_A_DEGREE, Corner, Point, Run, degrees_of
+from .ellipsoid import cell_area
+from .lattice import Corner, Point, Run, degrees_of
 from .polygons import Ring, polygons_of
 from .questions import Watershed
 
@@ -31,14 +33,14 @@ def points_feature(runs: Sequence[Run], side: int, properties: dict[str, Any]) -
 
 
 def trace_feature(path: Sequence[Point], side: int) -> Feature:
-    """A flow path as a LineString, or as a Point where it has one point."""
+    """A flow path as a LineString; one of one point has two equal points."""
     return line_feature(path, side, {"what": "trace", "points": len(path), **_place(path[0], side)})
 
 
 def line_feature(points: Sequence[Point], side: int, properties: dict[str, Any]) -> Feature:
-    """A line through points as a LineString, or as a Point where there is one point."""
+    """A line through points as a LineString; one of one point has two equal points, as a layer of lines takes no point."""
     line = [_degrees(point.x, point.y, side) for point in points]
-    return _feature("LineString", line, properties) if len(line) > 1 else _feature("Point", line[0], properties)
+    return _feature("LineString", line if len(line) > 1 else line * 2, properties)
 
 
 def tile_feature(corner: Corner, side: int) -> Feature:
@@ -59,8 +61,10 @@ def _feature(kind: str, coordinates: Any, properties: dict[str, Any]) -> Feature
 
 def square_kilometres(runs: Sequence[Run], side: int) -> float:
     """The area of the cells of some runs, by their latitude."""
-    length = METRES_A_DEGREE / (side - 1) / 1000
-    return sum((last - first + 1) * math.cos(math.radians(y / (side - 1))) for y, first, last in runs) * length * length
+    cells: collections.Counter[int] = collections.Counter()
+    for y, first, last in runs:
+        cells[y] += last - first + 1
+    return math.fsum(count * cell_area(y, side) for y, count in cells.items()) / 1e6
 
 
 def _place(point: Point, side: int) -> dict[str, Any]:

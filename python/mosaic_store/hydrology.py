@@ -14,9 +14,11 @@ from dataclasses import dataclass
 from typing import TYPE_CHECKING
 
 from . import lines
+from .basins import merged_runs, runs_in
 from .directions import reaching
+from .ellipsoid import cell_area
 from .errors import BadArgument
-from .lattice import METRES_A_DEGREE, VOID, Corner, Point, Run, Window, corners_named, corners_of
+from .lattice import VOID, Corner, Point, Run, Window, corners_named, corners_of
 from .network import Network
 from .rasters import STEPS, Heights, heights_of, place_in, ring
 from .samples import array_of, bytes_of, needed_numpy
@@ -209,29 +211,14 @@ class Earthwork:
 
 def earthwork(before: Mapping[Point, int], after: Mapping[Point, int], side: int) -> Earthwork:
     """The cut and the fill between the heights of points before and after; those that one of them lacks count in neither."""
-    length = METRES_A_DEGREE / (side - 1)
-    areas = {point: length**2 * math.cos(math.radians(point.y / (side - 1))) for point in before.keys() & after.keys()}
+    areas = {point: cell_area(point.y, side) for point in before.keys() & after.keys()}
     changes = [(after[point] - before[point]) * area for point, area in areas.items()]
     return Earthwork(math.fsum(-change for change in changes if change < 0), math.fsum(change for change in changes if change > 0))
 
 
 def runs_of(mask: Array, window: Window) -> list[Run]:
     """The points of a mask of a window as maximal runs, from the north, then from the west."""
-    return runs_of_each(mask.astype("int8") - 1, 1, window)[0]
-
-
-def runs_of_each(labels: Array, count: int, window: Window) -> list[list[Run]]:
-    """Of each number below `count` the points of a window that have it, as `runs_of` tells them; -1 stands for none."""
-    numpy = needed_numpy()
-    padded = numpy.pad(labels, ((0, 0), (1, 1)), constant_values=-1)
-    begins = padded[:, 1:] != padded[:, :-1]
-    rows, firsts = numpy.nonzero(begins & (padded[:, 1:] >= 0))
-    _, ends = numpy.nonzero(begins & (padded[:, :-1] >= 0))
-    runs: list[list[Run]] = [[] for _ in range(count)]
-    numbers, ys, wests, easts = (part.tolist() for part in (labels[rows, firsts], window.y1 - rows, window.x0 + firsts, window.x0 + ends - 1))
-    for number, y, first, last in zip(numbers, ys, wests, easts):
-        runs[number].append(Run(y, first, last))
-    return runs
+    return merged_runs(runs_in(mask.astype("int8") - 1, window), 1)[0]
 
 
 def widened(points: Sequence[Point], width: int) -> list[Point]:

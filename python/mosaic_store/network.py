@@ -1,30 +1,29 @@
-"""The drainage network of a window: how many points drain through each, streams with their order, catchments.
+"""The drainage network of a window: how many points drain through each, streams with their order, longest paths.
 
-Arrays have the window's shape, the north row first. A cell is a point's; it is as wide as its latitude makes it, so areas
-are in square kilometres of the sphere. They need numpy.
+Arrays have the window's shape, the north row first. A cell is a point's; it is as high and as wide as its latitude makes it
+on the ellipsoid. They need numpy. `basins` has the network of all tiles.
 """
 
 from __future__ import annotations
 
 import functools
-import itertools
 from collections.abc import Iterator, Mapping, Sequence
 from dataclasses import dataclass
 from typing import TYPE_CHECKING
 
 from .directions import directions_at, levels_and_directions
-from .errors import BadArgument, BadReply
-from .geojson import Feature, line_feature
-from .lattice import METRES_A_DEGREE, Direction, Point, Window, corners_of
-from .rasters import NO_DIRECTION, STEPS, Heights, Told, heights_of
+from .ellipsoid import step_metres
+from .errors import BadArgument
+from .geojson import Feature
+from .lattice import Direction, Point, Window, corners_of
+from .rasters import NO_DIRECTION, STEPS, Heights, Told, asks_whole_tiles, heights_of, place_in, whole_tiles
 from .samples import needed_numpy
 from .session import Session
+from .snapping import nearest_stream
+from .streams import NOWHERE, check_threshold, ends_of, joined, keys_of, summed, turns
 
 if TYPE_CHECKING:
     from .samples import Array
-
-NOWHERE = -1
-"""Stands for no cell: water leaves the window, or there is no ground."""
 
 
 @dataclass(frozen=True)
@@ -64,13 +63,9 @@ class Network:
     def step_lengths(self) -> Array:
         """How long the step out of each cell is in metres, float64; 0 where water leaves the window there."""
         numpy = needed_numpy()
-        length = METRES_A_DEGREE / (self.heights.side - 1)
-        widths = (length * numpy.cos(numpy.radians(self.heights.ys / (self.heights.side - 1))))[:, None]
-        lengths = numpy.zeros(self.shape)
-        for number, (north, east) in enumerate(STEPS):
-            step = numpy.hypot(north * length, east * widths)
-            lengths = numpy.where(self.codes == 1 << number, step, lengths)
-        return numpy.where(self.receivers.reshape(self.shape) != NOWHERE, lengths, 0.0)
+        rows = numpy.broadcast_to(self.heights.ys[:, None], self.shape)
+        within = self.receivers.reshape(self.shape) != NOWHERE
+        return numpy.where(within, step_metres(rows, self.codes, self.heights.side), 0.0)
 
     @functools.cached_property
     def counts(self) -> Array:
@@ -117,16 +112,9 @@ class Network:
 
         Of several the one that most drain through; the point itself where there is none.
         """
-        numpy = needed_numpy()
-        row, column = divmod(self.cell(point), self.window.width)
-        top, left = max(0, row - reach), max(0, column - reach)
-        near = self.counts[top : row + reach + 1, left : column + reach + 1]
-        rows, columns = numpy.nonzero(near >= threshold)
-        if not rows.size:
-            return point
-        steps = numpy.maximum(abs(rows + top - row), abs(columns + left - column))
-        first = numpy.lexsort((-near[rows, columns], steps))[0]
-        return Point(self.window.y1 - top - int(rows[first]), self.window.x0 + left + int(columns[first]))
+        self.cell(point)
+        near = Window(point.y - reach, point.x - reach, point.y + reach, point.x + reach).met(self.window) or self.window
+        return nearest_stream(self.counts[place_in(self.window, near)], near, point, threshold)
 
     @functools.cached_property
     def path_lengths(self) -> Array:
@@ -135,7 +123,7 @@ class Network:
         ahead = numpy.append(self.receivers, NOWHERE)
         lengths = self.step_lengths().ravel()
         cells = numpy.flatnonzero(self.receivers != NOWHERE)
-        for _ in _turns(self.receivers.size):
+        for _ in turns(self.receivers.size):
             if not cells.size:
                 break
             to = ahead[cells]
@@ -160,25 +148,13 @@ class Network:
 
         -1 where its path leaves the window before one. BadArgument where `threshold` is less than 1.
         """
-        _check_threshold(threshold)
+        check_threshold(threshold)
         return self._first_of((self.counts >= threshold).ravel()).reshape(self.shape)
 
     def _first_of(self, stops: Array) -> Array:
-        """Of each cell the first on its flow path, itself among them, that is a stop: int64; -1 where there is none.
-
-        Each cell looks twice as far ahead at each turn.
-        """
-        numpy = needed_numpy()
-        ahead = numpy.append(numpy.where(stops, numpy.arange(stops.size), self.receivers), NOWHERE)
-        cells = numpy.flatnonzero(~stops & (self.receivers != NOWHERE))
-        for _ in _turns(stops.size):
-            if not cells.size:
-                break
-            further = ahead[ahead[cells]]
-            onward = further != ahead[cells]
-            cells = cells[onward]
-            ahead[cells] = further[onward]
-        return ahead[:-1]
+        """Of each cell the first on its flow path, itself among them, that is a stop: int64; -1 where there is none."""
+        ends = ends_of(self.receivers, stops)
+        return needed_numpy().where(stops[ends], ends, NOWHERE)
 
     def _summed(self, values: Array) -> Array:
         """The sums of values over all that drains through each cell.
@@ -205,7 +181,7 @@ class Network:
         left = numpy.flatnonzero(donors[:-1])
         number = numpy.full(sums.size, NOWHERE)
         number[left] = numpy.arange(left.size)
-        sums[left] = _summed_by_turns(number[self.receivers[left]], sums[left])
+        sums[left] = summed(number[self.receivers[left]], sums[left])
         return sums[:-1]
 
 
@@ -221,46 +197,22 @@ def _starts(ordered: Array) -> Array:
     return begins.nonzero()[0]
 
 
-def _summed_by_turns(receivers: Array, values: Array) -> Array:
-    """The sums of values over all that drains through each cell, as float64, which has whole numbers to 2^53."""
-    numpy = needed_numpy()
-    sums = values.astype(numpy.float64)
-    ahead = numpy.append(receivers, NOWHERE)
-    cells = numpy.flatnonzero(receivers != NOWHERE)
-    for _ in _turns(sums.size):
-        if not cells.size:
-            break
-        to = ahead[cells]
-        sums += numpy.bincount(to, sums[cells], sums.size)
-        further = ahead[to]
-        ahead[cells] = further
-        cells = cells[further != NOWHERE]
-    return sums
-
-
-def _turns(cells: int) -> Iterator[None]:
-    """As many turns as a way through all cells takes, where each goes twice as far as the one before, and two that find its end."""
-    yield from itertools.repeat(None, cells.bit_length() + 2)
-    raise BadReply("the directions of the window go round")
-
-
 def network_of(session: Session, window: Window, told: Told | None = None) -> Network:
     """The network of a window of a store. What drains into the window from outside is asked for where it enters.
 
-    The counts of a window that is a tile's own are the program's, where it tells those of whole tiles.
+    Where whole tiles are told at once, and the window is a good part of them, its counts are the program's.
     """
-    numpy = needed_numpy()
     heights = heights_of(session, window)
     levels, codes = levels_and_directions(session, heights, told)
-    receivers = _receivers(codes)
-    tile = next((corner.name for corner in heights.corners if corner.window(heights.side) == window), None)
-    if tile is None or not session.takes_whole_tiles:
+    receivers = receivers_of(codes)
+    if not asks_whole_tiles(session, heights):
         return Network(heights, levels, codes, receivers, _entering(session, heights))
-    counts = session.upstream(tile).astype(numpy.int64)
+    counts = whole_tiles(session.upstream, heights, 0, "int64", told)
     return Network(heights, levels, codes, receivers, _left_over(counts, heights, receivers), counts)
 
 
-def _receivers(codes: Array) -> Array:
+def receivers_of(codes: Array) -> Array:
+    """Of each cell of a window the one that it drains to, int64; -1 where water leaves the window, or there is no ground."""
     numpy = needed_numpy()
     columns = codes.shape[1]
     steps = numpy.zeros(256, numpy.int64)
@@ -307,88 +259,11 @@ def _around(window: Window) -> Iterator[Point]:
         yield Point(y, window.x1 + 1)
 
 
-@dataclass(frozen=True)
-class Reach:
-    """A part of a stream, from its source or a confluence to the next confluence or its end."""
-
-    points: list[Point]
-    """From above; the last is the confluence or the end."""
-    last: Point
-    """Its last own point: the one before the confluence, or the end."""
-    order: int
-    """Its order after Strahler: 1 from a source, or where it enters the window; one more where two of the same order meet."""
-    length: float
-    """In metres."""
-    drained: int
-    """How many points drain through its last own point."""
-
-
-def streams(network: Network, threshold: int) -> list[Reach]:
-    """The streams of a window: the points that `threshold` points and more drain through, reach by reach, from above."""
-    numpy = needed_numpy()
-    _check_threshold(threshold)
-    counts = network.counts.ravel()
-    receivers, lengths = network.receivers, network.step_lengths().ravel()
-    found = numpy.flatnonzero(counts >= threshold)
-    ordered = found[counts[found].argsort(kind="stable")].tolist()  # more drain through a cell than through those above it
-    above: dict[int, list[_Open]] = {}
-    reaches: list[Reach] = []
-    for cell in ordered:
-        met = above.pop(cell, [])
-        stream = met[0] if len(met) == 1 else _Open.at(cell, met)
-        if len(met) > 1:
-            reaches += [part.ended(network, cell) for part in met]
-        if len(met) == 1:
-            stream.cells.append(cell)
-        to = int(receivers[cell])
-        stream.length += float(lengths[cell])
-        if to == NOWHERE:
-            reaches.append(stream.ended(network, None))
-        else:
-            above.setdefault(to, []).append(stream)
-    return reaches
-
-
-def _check_threshold(threshold: int) -> None:
-    if threshold < 1:
-        raise BadArgument("a stream begins where 1 point and more drains through")
-
-
 def stream_features(network: Network, threshold: int) -> list[Feature]:
-    """The streams of a window as features, each with its order, its length, and how much drains through its last own point."""
-    areas = network.drained_area.ravel()
-    return [
-        line_feature(
-            reach.points,
-            network.heights.side,
-            {
-                "what": "stream",
-                "order": reach.order,
-                "length_m": round(reach.length, 1),
-                "points": reach.drained,
-                "km2": round(float(areas[network.cell(reach.last)]), 4),
-            },
-        )
-        for reach in streams(network, threshold)
-    ]
-
-
-@dataclass
-class _Open:
-    """A reach whose end isn't found yet."""
-
-    cells: list[int]
-    order: int
-    length: float
-
-    @staticmethod
-    def at(cell: int, met: Sequence[_Open]) -> _Open:
-        """The reach that begins at a source, or where others met."""
-        orders = sorted((stream.order for stream in met), reverse=True)
-        order = 1 if not orders else orders[0] + (len(orders) > 1 and orders[0] == orders[1])
-        return _Open([cell], order, 0.0)
-
-    def ended(self, network: Network, confluence: int | None) -> Reach:
-        cells, last = self.cells if confluence is None else [*self.cells, confluence], self.cells[-1]
-        points = [network.point(cell) for cell in cells]
-        return Reach(points, network.point(last), self.order, self.length, int(network.counts.ravel()[last]))
+    """The streams of a window as features. Those that enter it begin with order 1 there."""
+    numpy = needed_numpy()
+    check_threshold(threshold)
+    cells = numpy.flatnonzero(network.counts >= threshold)
+    keys = keys_of(network.window).ravel()[cells]
+    streams = joined(network.heights.side, keys, network.counts.ravel()[cells], network.codes.ravel()[cells])
+    return streams.features(1e6 * network.drained_area.ravel()[cells[keys.argsort()[streams.last]]])

@@ -10,8 +10,9 @@ from collections.abc import Callable, Sequence
 from dataclasses import dataclass
 from typing import TYPE_CHECKING
 
+from .ellipsoid import row_areas
 from .errors import BadArgument, BadReply, Refusal
-from .lattice import METRES_A_DEGREE, VOID, Corner, Window, corner_of, corners_named
+from .lattice import VOID, Corner, Window, corner_of, corners_named
 from .questions import Fill, Question
 from .samples import needed_numpy
 from .session import Session
@@ -66,9 +67,7 @@ class Heights:
 
     def cell_areas(self) -> Array:
         """The area of each cell in square metres by its latitude: float64 of shape (rows, 1)."""
-        numpy = needed_numpy()
-        length = METRES_A_DEGREE / (self.side - 1) * self.every
-        return (length * length * numpy.cos(numpy.radians(self.ys / (self.side - 1))))[:, None]
+        return row_areas(self.ys, self.side)[:, None] * self.every**2
 
 
 def heights_of(session: Session, window: Window, every: int = 1) -> Heights:

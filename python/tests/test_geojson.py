@@ -87,7 +87,7 @@ class Features(InFolder):
             table.import_tile("N00E000", THREE)
             path = trace_feature(table.trace(0, 0), 3)
             self.assertEqual(path["geometry"], {"type": "LineString", "coordinates": [[0, 0], [0.5, 0.5], [1, 0]]})
-            self.assertEqual(trace_feature(table.trace(0, 2), 3)["geometry"]["type"], "Point")
+            self.assertEqual(trace_feature(table.trace(0, 2), 3)["geometry"], {"type": "LineString", "coordinates": [[1, 0], [1, 0]]})
         ring = tile_feature(Corner(-1, -1), 3)["geometry"]["coordinates"][0]
         self.assertEqual(ring, [[-1, -1], [0, -1], [0, 0], [-1, 0], [-1, -1]])
 

@@ -1,7 +1,6 @@
 """Networks of windows, beside the program's own watersheds; reservoirs, heights above streams and voids, worked by hand."""
 
 import json
-import math
 import os
 import pathlib
 import random
@@ -10,7 +9,6 @@ import struct
 import unittest
 
 from mosaic_store import BadArgument, Point, Window, format_store, memory_table, open_store
-from mosaic_store.lattice import METRES_A_DEGREE
 
 from .support import A_WHILE, PROGRAM, InFolder, hills, needs
 
@@ -59,20 +57,6 @@ class Networks(InFolder):
         found = [{network.point(cell) for cell in (labels.ravel() == number).nonzero()[0]} for number in (0, 1)]
         self.assertEqual(found, [whole - inner, inner])
 
-    def test_streams_meet_where_they_should(self) -> None:
-        """Each point of a stream is in one reach; a reach's order is one more than that of two equal ones above it."""
-        from mosaic_store.network import network_of, streams
-
-        network = network_of(self.session, Window(0, 0, 20, 20))
-        reaches = streams(network, 5)
-        own = [point for reach in reaches for point in reach.points[: -1 if self.goes_on(network, reach) else None]]
-        self.assertEqual(len(own), len(set(own)))
-        self.assertEqual(set(own), {network.point(cell) for cell in (network.counts.ravel() >= 5).nonzero()[0]})
-        for reach in reaches:
-            above = sorted((other.order for other in reaches if other.points[-1] == reach.points[0] and other is not reach), reverse=True)
-            wanted = 1 if not above else above[0] + (above[0] == above[1])
-            self.assertEqual(reach.order, wanted)
-
     def test_a_stream_that_ends(self) -> None:
         """At the last point, and at a window's edge: its length is that of its line, its area that of what drains through its end."""
         from mosaic_store.network import network_of, stream_features
@@ -80,19 +64,14 @@ class Networks(InFolder):
         with memory_table(3, 1, PROGRAM) as table:
             # All drains to the middle row, three points a column, and there to the east.
             table.import_tile("N60E000", struct.pack(">9h", 9, 9, 9, 3, 2, 1, 9, 9, 9))
-            step = METRES_A_DEGREE / 2
-            column = step**2 * math.fsum(math.cos(math.radians(latitude)) for latitude in (60, 60.5, 61)) / 1e6
+            # A degree's metres to the north and to the east, at 60, 60.5 and 61 degrees.
+            column = (111_412.3 * 55_800.0 + 111_420.7 * 54_955.9 + 111_429.1 * 54_107.5) / 4e6
             for last in (0, 1, 2):
                 (stream,) = stream_features(network_of(table, Window(120, 0, 122, last)), 3)
                 own = stream["properties"]
                 self.assertEqual(own["points"], 3 * (last + 1))
-                self.assertAlmostEqual(own["km2"], column * (last + 1), delta=0.001)
-                self.assertAlmostEqual(own["length_m"], last * step * math.cos(math.radians(60.5)), delta=0.1)
-
-    @staticmethod
-    def goes_on(network, reach) -> bool:
-        """Whether the last point of a reach is a confluence, the next reach's first."""
-        return bool(network.receivers[network.cell(reach.points[-1])] != -1)
+                self.assertAlmostEqual(own["km2"] / (column * (last + 1)), 1, delta=1e-5)
+                self.assertAlmostEqual(own["length_m"], last * 54_955.9 / 2, delta=0.1)
 
 
 @needs("numpy")

@@ -8,21 +8,21 @@ import contextlib
 import csv
 import functools
 import itertools
-import json
 import os
 import pathlib
 import sys
-from collections.abc import Callable, Iterable, Iterator, Sequence
+from collections.abc import Callable, Iterable, Iterator, Mapping, Sequence
 from typing import TYPE_CHECKING
 
 from .. import lines
 from ..files import sync_folder
-from ..geojson import Feature, collection, line_feature, points_feature
-from ..grids import check_format, write_grid
-from ..lattice import Point
+from ..geojson import Feature, line_feature, points_feature
+from ..grids import check_format, write_bands
+from ..lattice import Corner, Point, Window
 from ..questions import Elevation
 from ..samples import needed_numpy
 from ..session import Session
+from ..vectors import check_vector, write_vector
 from .frame import (
     DONE,
     CommandError,
@@ -44,20 +44,24 @@ from .frame import (
 from .given import Outlet, features_of, outlets_of, told_at
 
 if TYPE_CHECKING:
+    from ..basins import Basins
     from ..network import Network
+    from ..rasters import Told
+    from ..samples import Array
 
 NAME = "mosaic-hydrology"
-DESCRIPTION = """What drains where in a window of a store. It needs numpy.
+DESCRIPTION = """What drains where in a store, or in a window of it. It needs numpy.
 
   mosaic-hydrology STORE accumulation points.tif       how many points drain through each, as a raster (.tif, .asc)
   mosaic-hydrology STORE above hand.tif --threshold 1000
                                                        metres above the nearest stream on each point's flow path
   mosaic-hydrology STORE streams streams.geojson --threshold 1000
-                                                       reaches with order (Strahler; 1 where a stream enters the window),
-                                                       length, drained points and km2
+                                                       reaches with id and next, order (Strahler), length, drained points
+                                                       and km2; in a --window order is 1 where a stream enters it
   mosaic-hydrology STORE catchments areas.geojson --outlets culverts.csv --reach 5
-                                                       nested catchments; columns latitude and longitude (or y and x), or a
-                                                       GeoJSON of points; all other columns are carried on
+                                                       nested catchments, whole, each with the next; columns latitude and
+                                                       longitude (or y and x), or a GeoJSON of points; all other columns are
+                                                       carried on. An outlet at the point of one before it is left out
   mosaic-hydrology STORE flooded floods.geojson --depths 1 2 5
                                                        standing water as polygons by depth in metres
   mosaic-hydrology STORE path path.geojson --at 37.5 -105.25
@@ -73,9 +77,11 @@ DESCRIPTION = """What drains where in a window of a store. It needs numpy.
                                                        those that reach the window's edge are left. A tile that has some
                                                        is taken out and imported again; STORE.voids has it meanwhile
 
-Numbers are degrees north and east; with --points they are points y x of the lattice. A window has at most 20 million points, that of
-a flood or of voids 50 million; what drains into one from outside counts in km2 as wide as where it enters. edit takes lines of any
-length, of a file in degrees, and leaves nothing of them where it fails."""
+Numbers are degrees north and east; with --points they are points y x of the lattice. Without --window all tiles are taken, a tile at
+a time, for accumulation, above, streams and catchments. A window has at most 20 million points, that of a flood or of voids 50
+million; what drains into one from outside counts in km2 as wide as where it enters. A reach of one point is a line of two equal ones.
+Features are written as .geojson, or as .gpkg where ogr2ogr is installed. edit takes lines of any length, of a file in degrees, and
+leaves nothing of them where it fails. Areas and lengths are those of the ellipsoid."""
 
 NO_ACCUMULATION = 0
 
@@ -127,6 +133,8 @@ def _check(options: argparse.Namespace) -> None:
     for name in (None if options.what == "edit" else options.file, options.picture):
         if name is not None:
             check_place(name, options.store)
+    if options.what in VECTORS:
+        check_vector(options.file)
     if options.threshold < 1:
         raise CommandError("a stream begins where 1 point and more drains through")
     if options.most < 1:
@@ -142,9 +150,16 @@ def _network(session: Session, options: argparse.Namespace) -> Network:
 
     window = window_given(options.window, session, options.points)
     check_size(window, options.what, MOST_OF_A_NETWORK)
-    progress = Progress(NAME, 0, "questions")
+    with _progress("questions") as told:
+        return network_of(session, window, told)
+
+
+@contextlib.contextmanager
+def _progress(what: str) -> Iterator[Callable[[int, int], None]]:
+    """Tells how far a work is, for as long as it lasts."""
+    progress = Progress(NAME, 0, what)
     try:
-        return network_of(session, window, progress.tell_of)
+        yield progress.tell_of
     finally:
         progress.clear()
 
@@ -152,59 +167,115 @@ def _network(session: Session, options: argparse.Namespace) -> Network:
 def _accumulation(session: Session, options: argparse.Namespace) -> str:
     numpy = needed_numpy()
     check_format(options.file)
-    network = _network(session, options)
-    counts = network.counts
-    with written_whole(options.file) as path:
-        write_grid(path, counts.astype(numpy.uint32), network.window, session.side, NO_ACCUMULATION, "points that drain through")
-    return f"at most {int(counts.max())} points drain through one"
+    most = [0]
+
+    def counted(parts: Iterable[Array]) -> Iterator[Array]:
+        for part in parts:
+            most.append(int(part.max()))
+            yield part.astype(numpy.uint32)
+
+    with written_whole(options.file) as path, _progress("tiles") as told:
+        window, bands = _bands(session, options, told, lambda network: network.counts, lambda basins: basins.counts(), NO_ACCUMULATION)
+        write_bands(path, counted(bands), window, session.side, NO_ACCUMULATION, "points that drain through", "uint32")
+    return f"at most {max(most)} points drain through one"
 
 
 def _above(session: Session, options: argparse.Namespace) -> str:
     from ..hydrology import heights_above_stream
 
     check_format(options.file)
-    network = _network(session, options)
-    above = heights_above_stream(network, options.threshold)
-    with written_whole(options.file) as path:
-        write_grid(path, above, network.window, session.side, -1, "metres above the nearest stream")
-    return f"{int((above >= 0).sum())} points lie above a stream of the window"
+    above = [0]
+
+    def counted(parts: Iterable[Array]) -> Iterator[Array]:
+        for part in parts:
+            above.append(int((part >= 0).sum()))
+            yield part
+
+    with written_whole(options.file) as path, _progress("tiles") as told:
+        window, bands = _bands(
+            session,
+            options,
+            told,
+            lambda network: heights_above_stream(network, options.threshold),
+            lambda basins: basins.above_streams(options.threshold),
+            -1,
+        )
+        write_bands(path, counted(bands), window, session.side, -1, "metres above the nearest stream", "int32")
+    return f"{sum(above)} points lie above a stream"
+
+
+def _bands(
+    session: Session,
+    options: argparse.Namespace,
+    told: Told,
+    of_window: Callable[[Network], Array],
+    of_tiles: Callable[[Basins], Iterable[tuple[Corner, Array]]],
+    nothing: int,
+) -> tuple[Window, Iterable[Array]]:
+    """A window, and what is found in it, some rows at a time: of the window that is given, else of all tiles."""
+    from ..basins import Basins, bands_of
+
+    if options.window is not None:
+        network = _network(session, options)
+        return network.window, [of_window(network)]
+    basins = Basins(session, told)
+    return basins.window, bands_of(of_tiles(basins), basins.side, basins.window, nothing)
 
 
 def _streams(session: Session, options: argparse.Namespace) -> str:
+    from ..basins import Basins
     from ..network import stream_features
 
-    features = stream_features(_network(session, options), options.threshold)
-    _write_json(options.file, features)
+    if options.window is not None:
+        features = stream_features(_network(session, options), options.threshold)
+    else:
+        with _progress("tiles") as told:
+            features = Basins(session, told).stream_features(options.threshold)
+    _write_vector(options.file, features)
     lengths, orders = ([feature["properties"][name] for feature in features] for name in ("length_m", "order"))
     return f"{len(features)} reaches, {sum(lengths) / 1000:.1f} km, of order {max(orders, default=0)} at most"
 
 
 def _catchments(session: Session, options: argparse.Namespace) -> str:
-    from ..hydrology import runs_of_each
+    from ..basins import Basins
 
     if options.outlets is None:
         raise CommandError("catchments take --outlets, a .csv or a .geojson of places")
+    if options.window is not None:
+        raise CommandError("catchments are never cut, and take no --window: leave it out")
     given, others = outlets_of(options.outlets)
-    places = [(_point_at(outlet, session), outlet.carried) for outlet in given]
-    network = _network(session, options)
-    outlets = [(network.snapped(point, options.reach, options.threshold), carried) for point, carried in places]
-    labels = network.catchments([outlet for outlet, _ in outlets])
-    counts, areas = network.counts.ravel(), network.drained_area.ravel()
+    points = [_point_at(outlet, session) for outlet in given]
+    with _progress("tiles") as told:
+        basins = Basins(session, told)
+        if options.reach:
+            points = [basins.snapped(point, options.reach, options.threshold) for point in points]
+        outlets: dict[Point, Outlet] = {}
+        for point, outlet in zip(points, given):
+            outlets.setdefault(point, outlet)
+        found = basins.catchments(list(outlets))
     features = []
-    for (outlet, carried), runs in zip(outlets, runs_of_each(labels, len(outlets), network.window)):
-        cell = network.cell(outlet)
-        own = {"what": "catchment", "cells": sum(run.last - run.first + 1 for run in runs)}
-        drained = {"drained_points": int(counts[cell]), "drained_km2": round(float(areas[cell]), 4)}
-        features.append(points_feature(runs, session.side, {**carried, **own, **drained, "y": outlet.y, "x": outlet.x}))
-    _write_json(options.file, features)
-    dry = sum(counts[network.cell(outlet)] < options.threshold for outlet, _ in outlets) if options.reach else 0
+    for number, (point, outlet, catchment) in enumerate(zip(outlets, outlets.values(), found), 1):
+        own = {"what": "catchment", "id": number, "next": catchment.following + 1 or None, "cells": catchment.cells}
+        drained = {"drained_points": catchment.drained, "drained_km2": round(catchment.drained_area / 1e6, 4)}
+        features.append(points_feature(catchment.runs, session.side, {**outlet.carried, **own, **drained, "y": point.y, "x": point.x}))
+    _write_vector(options.file, features)
+    dry = sum(catchment.drained < options.threshold for catchment in found) if options.reach else 0
     stayed = f"; {dry} without a stream within {options.reach} steps stay where they are" if dry else ""
-    return f"{len(features)} catchments{stayed}{_passed_by(others, 'a point')}"
+    return f"{len(features)} catchments{stayed}{_passed_by(others, 'a point')}{_doubled(given, points, outlets)}"
+
+
+def _doubled(given: Sequence[Outlet], points: Sequence[Point], outlets: Mapping[Point, Outlet]) -> str:
+    """Which outlets were left out, as they lie at the point of another one; empty where none does."""
+    doubled = [f"{outlet.at} (as {outlets[point].at})" for outlet, point in zip(given, points) if outlets[point] is not outlet]
+    return f"; left out, at the point of another one: {', '.join(doubled)}" if doubled else ""
 
 
 def _point_at(outlet: Outlet, session: Session) -> Point:
     with told_at(outlet.at):
-        return point_given(outlet.numbers, session, outlet.as_points)
+        point = point_given(outlet.numbers, session, outlet.as_points)
+        if session.elevation(*point) is None:
+            raise CommandError(f"nothing drains to the point {point.y} {point.x}, which has no height: choose another one")
+        return point
 
 
 def _flooded(session: Session, options: argparse.Namespace) -> str:
@@ -214,17 +285,17 @@ def _flooded(session: Session, options: argparse.Namespace) -> str:
     window = window_given(options.window, session, options.points)
     check_size(window, options.what)
     heights = heights_of(session, window)
-    progress = Progress(NAME, 0, "questions")
-    depths = depths_of(heights, levels_of(session, heights, progress.tell_of))
-    progress.clear()
+    with _progress("questions") as told:
+        depths = depths_of(heights, levels_of(session, heights, told))
     bounds = sorted(set(options.depths))
     features = []
     for least, next_one in zip(bounds, [*bounds[1:], 1 << 17]):
         runs = runs_of((least <= depths) & (depths < next_one), window)
         cells = sum(run.last - run.first + 1 for run in runs)
         to = None if next_one > 65535 else next_one - 1
-        features.append(points_feature(runs, session.side, {"what": "standing water", "from_m": least, "to_m": to, "cells": cells}))
-    _write_json(options.file, features)
+        if runs:
+            features.append(points_feature(runs, session.side, {"what": "standing water", "from_m": least, "to_m": to, "cells": cells}))
+    _write_vector(options.file, features)
     return f"{int((depths >= bounds[0]).sum())} points under {bounds[0]} m of water and more"
 
 
@@ -238,7 +309,7 @@ def _path(session: Session, options: argparse.Namespace) -> str:
     figures = longest_path(network, network.snapped(end, options.reach, options.threshold))
     told = {"length_m": round(figures.length, 1), "fall_m": figures.fall, "slope": round(figures.slope, 6)}
     minutes = round(figures.minutes, 1) if figures.fall > 0 else None
-    _write_json(options.file, [line_feature(figures.points, session.side, {"what": "longest path", **told, "minutes": minutes})])
+    _write_vector(options.file, [line_feature(figures.points, session.side, {"what": "longest path", **told, "minutes": minutes})])
     time = "no time of concentration" if minutes is None else f"time of concentration {minutes} minutes (Kirpich)"
     return f"{figures.length / 1000:.2f} km, {figures.fall} m of fall, {time}"
 
@@ -332,7 +403,7 @@ def _voids(session: Session, options: argparse.Namespace) -> str:
     with written_whole(options.file) as path, _tiles_beside(options.store, session) as save, session.trial() as trial:
         runs = filled_voids(session, window, options.most, save)
         count = sum(run.last - run.first + 1 for run in runs)
-        _dump_json(path, [points_feature(runs, session.side, {"what": "filled voids", "cells": count})])
+        write_vector(path, [points_feature(runs, session.side, {"what": "filled voids", "cells": count})] if runs else [])
         trial.keep()
     return f"{count} voids were given heights from their rim"
 
@@ -366,14 +437,9 @@ def _tiles_beside(store: str, session: Session) -> Iterator[Callable[[str, bytes
             folder.rmdir()
 
 
-def _write_json(name: str, features: Sequence[Feature]) -> None:
+def _write_vector(name: str, features: Sequence[Feature]) -> None:
     with written_whole(name) as path:
-        _dump_json(path, features)
-
-
-def _dump_json(path: str, features: Sequence[Feature]) -> None:
-    with open(path, "w", encoding="ascii") as file:
-        file.write(json.dumps(collection(features), separators=(",", ":")) + "\n")
+        write_vector(path, features)
 
 
 WORKS: dict[str, Callable[[Session, argparse.Namespace], str]] = {
@@ -387,6 +453,9 @@ WORKS: dict[str, Callable[[Session, argparse.Namespace], str]] = {
     "edit": _edit,
     "voids": _voids,
 }
+
+VECTORS = ("streams", "catchments", "flooded", "path", "voids")
+"""The works that write features."""
 
 EDITS = ("edit", "voids")
 """The works that change the store."""
