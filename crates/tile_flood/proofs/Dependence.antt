@@ -1,10 +1,10 @@
 -- What a labelling keeps when a height changes, and that carried levels that no link can lower are a labelling.
 use Rattle.std.proofs.Common.{rules}
-use Rattle.std.proofs.Common.{◌≡◌, ◌≢◌, ℕ, ◌+◌, ◌*◌, ◌/◌, ◌%◌, ◌<◌, ◌≤◌, ℤ, ◌≤ℤ◌, Bool, true, false, not, ◌-◌, IsTrue, List, [], ◌∷◌, length, get_or, set, get_or-set_other, get_or-set_same, slice_index, inl, inr, refl, sym, ap, ap₂, ◌∙◌, subst, arith, true≢false, ◌&&◌, ◌||◌, nat_eq, nat_lt, lt-ltb}
-use Rattle.tile_flood.proofs.Prelude.{AreCarried, AreRelaxed, IsCarriedBy, IsFilledLevel, IsInWindow, IsLabelling, IsPath, LeadsOut, Names, and_from, around, bare_block, block_is_lawful, block_of, block_terrain, cases_Bool, cases_eq, cases_lt, crest, end_of, get_or_past, int_max, is_beside, is_exit, is_inner_outlet, is_linked, is_marked, is_rim, is_sink_at, is_solid, is_void, le-max_left, le-max_right, list_all, max-le, max_one_of, void, ≤ℤ_same, ≤ℤ_trans}
+use Rattle.std.proofs.Common.{◌≡◌, ◌≢◌, ℕ, ◌+◌, ◌*◌, ◌/◌, ◌%◌, ◌<◌, ◌≤◌, ℤ, ◌≤ℤ◌, Bool, true, false, not, ◌-◌, IsTrue, List, [], ◌∷◌, length, get_or, set, get_or-set_same, slice_index, inl, inr, refl, sym, ap, ap₂, ◌∙◌, subst, arith, true≢false, ◌&&◌, ◌||◌, nat_eq, nat_lt, lt-ltb}
+use Rattle.tile_flood.proofs.Prelude.{AreCarried, AreRelaxed, IsCarriedBy, IsFilledLevel, IsInWindow, IsLabelling, IsPath, LeadsOut, Names, and_from, around, bare_block, block_is_lawful, block_of, block_terrain, cases_Bool, cases_lt, crest, end_of, get_or_past, int_max, is_beside, is_exit, is_inner_outlet, is_linked, is_marked, is_rim, is_sink_at, is_solid, le-max_left, le-max_right, list_all, max-le, max_one_of, void, ≤ℤ_same, ≤ℤ_trans}
 use Rattle.labelling.specs.Labelling.{IsLabelAt, OUT}
 use Rattle.tile_flood.specs.Carried.{IsCarried}
-use Rattle.labelling.proofs.Squares.{not_void_if, test_if, linked_parts, solid_height, solid_below, cell_of, row_of_cell, column_of_cell, apart_of, beside_if}
+use Rattle.labelling.proofs.Squares.{not_void_if, test_if, linked_parts, solid_height, solid_below, row_of_cell, column_of_cell, apart_of, beside_if}
 
 -- where a carried label leads
 module _ (n : ℕ) (heights : List ℤ) (sinks : List ℕ) (levels : List ℤ) (labels : List ℕ) where

@@ -1,6 +1,5 @@
 -- Labels that are carried but for suspects, while a labelling is mended.
-use Rattle.tile_flood.proofs.Prelude.{AreRelaxed, IsCarriedBy, IsFalse, IsHeldBy, IsHeldUp, IsSeed, IsTrue, List, Names, ℕ, ℤ, [], ap, arith, block_is_lawful, block_of, cases_Bool, cases_eq, clamps, eqb-false, get_or, get_or-set_other, get_or-set_same, inl, inr, int_eq, int_max, ints, is_exit, is_linked, is_marked, is_solid, length, nat_eq, not, refl, set, slice_index, subst, sym, true≢false, void, ≤ℤ_antisym, ≤ℤ_same, ≤ℤ_trans, ◌<ℤ◌, ◌<◌, ◌∙◌, ◌∷◌, ◌≡◌, ◌≢◌, ◌≤ℤ◌, ◌⊎◌}
-use Rattle.labelling.proofs.Squares.{apart_if}
+use Rattle.tile_flood.proofs.Prelude.{AreRelaxed, IsCarriedBy, IsFalse, IsHeldBy, IsHeldUp, IsSeed, IsTrue, List, Names, ℕ, ℤ, [], ap, arith, block_is_lawful, block_of, cases_eq, clamps, get_or, get_or-set_other, get_or-set_same, inl, inr, int_eq, int_max, ints, is_exit, is_linked, is_marked, is_solid, length, not, refl, set, slice_index, subst, sym, void, ≤ℤ_antisym, ≤ℤ_same, ≤ℤ_trans, ◌<ℤ◌, ◌<◌, ◌∙◌, ◌∷◌, ◌≡◌, ◌≢◌, ◌≤ℤ◌, ◌⊎◌}
 use Rattle.tile_flood.proofs.Dependence.{same_exit, same_inner, same_link, same_names}
 
 -- y is on the way from e on

@@ -1,11 +1,10 @@
 -- The levels and the labels that stand in cells.
 use Rattle.std.proofs.Common.{rules}
-use Rattle.tile_flood.proofs.Prelude.{AreCells, Cell, Decides-int_eq, IsOwnLabel, IsSpreading, IsTrue, List, NO_LABEL, Queue, ℕ, ℤ, and_from, ap, arith, bare_block, block_of, cases_Bool, cases_eq, cases_lt, cond-false, cond-true, eq-eqb, eqb-true, false, get_or, get_or-set_other, get_or-set_same, get_or_default, get_or_past, inl, inr, is_marked, is_solid, label_of, labels_of, length, length-map, length-set, level_of, levels_of, lt-ltb, nat_eq, nat_lt, ne_eqb, not, pos, set, slice_index, subst, sym, true, true≢false, void, ◌*◌, ◌+◌, ◌<◌, ◌∙◌, ◌≡◌, ◌≢◌}
+use Rattle.tile_flood.proofs.Prelude.{AreCells, Cell, Decides-int_eq, IsOwnLabel, IsTrue, List, NO_LABEL, ℕ, ℤ, and_from, ap, arith, bare_block, block_of, cases_Bool, cases_eq, cases_lt, eq-eqb, eqb-true, false, get_or, get_or-set_other, get_or-set_same, get_or_default, get_or_past, inl, inr, is_marked, is_solid, label_of, labels_of, length, length-map, length-set, level_of, levels_of, lt-ltb, nat_eq, nat_lt, not, pos, set, slice_index, subst, sym, true, true≢false, void, ◌*◌, ◌+◌, ◌<◌, ◌∙◌, ◌≡◌, ◌≢◌}
 use Rattle.std.proofs.lemmas.List.{get_or-map, map-set}
 use Rattle.lattice.specs.Limits.{IsSide}
-use Rattle.tile_flood.specs.Cells.{OPEN, IsFresh}
+use Rattle.tile_flood.specs.Cells.{OPEN, IsFresh, IsMark}
 use Rattle.tile_flood.proofs.Steps.{unmarked_void}
-use Rattle.tile_flood.proofs.Spreading.{spreader_solid}
 use Rattle.labelling.proofs.Squares.{not_void_if, test_if, solid_height, solid_below}
 use Rattle.labelling.proofs.Heights.{rim_number_below}
 
@@ -102,16 +101,14 @@ marked_unless_open n heights cells e whole s unlabelled below cell is test solid
       absurd (solid_height n heights e solid (s.gaps e none inside label))
 ]
 
--- the popped has a label
-pub front_labelled : (n : ℕ) (heights : List ℤ) (sinks : List ℕ) (cells : List Cell) (queue : Queue) (c : ℕ) (low : ℤ) (label : ℕ) → length heights ≡ n * n → AreCells heights cells → IsSpreading (block_of n heights sinks) (levels_of cells) (labels_of cells) queue c low label →
-    (label ≢ NO_LABEL) × (label ≢ OPEN)
-front_labelled n heights sinks cells queue c low label whole s spreading =
-    let solid = spreader_solid n heights sinks (levels_of cells) (labels_of cells) queue c low label spreading in
+-- the level and the label of a marked point are those of a mark
+pub marked_mark : (n : ℕ) (heights : List ℤ) (cells : List Cell) (c : ℕ) → length heights ≡ n * n → AreCells heights cells → IsTrue (is_solid (bare_block n heights) c) → IsTrue (is_marked (levels_of cells) c) → IsMark (get_or (levels_of cells) c void) (slice_index (labels_of cells) c)
+marked_mark n heights cells c whole s solid on =
     let below = solid_below n heights c solid in
     let inside : c < length cells = omega arith in
-    let closed = closed_if cells c none inside spreading.passing.marked in
-    let at : (get_or cells c none).label ≡ label = sym (label_at cells c none inside ∙ (value_if (get_or cells c none) closed).1) ∙ spreading.passing.named in
-    (λ is. solid_height n heights c solid (s.gaps c none inside (at ∙ is)), λ is. closed (at ∙ is))
+    let closed = closed_if cells c none inside on in
+    let at : (get_or cells c none).label ≡ slice_index (labels_of cells) c = sym (label_at cells c none inside ∙ (value_if (get_or cells c none) closed).1) in
+    (not_void_if (levels_of cells) c on, λ is. solid_height n heights c solid (s.gaps c none inside (at ∙ is)), λ is. closed (at ∙ is))
 
 -- a marked point's own label is in its cell
 pub label_in_cell : (cells : List Cell) (e : ℕ) → e < length cells → IsTrue (is_marked (levels_of cells) e) → slice_index (labels_of cells) e ≡ (get_or cells e none).label

@@ -12,6 +12,7 @@ pub mod OneRun
 pub mod Steps
 pub mod Windows
 pub mod Standing
+pub mod Spans
 pub mod Fitting
 pub mod Restored
 pub mod ListedChanges

@@ -2,7 +2,6 @@
 use Rattle.std.proofs.Common.{rules}
 use Rattle.tile_flood.proofs.Prelude.{HangTogether, IsInWindow, IsRun, IsTrue, List, ℕ, ℤ, [], ap, arith, cases_eq, cases_lt, inl, inr, is_beside, refl, subst, sym, ◌%◌, ◌++◌, ◌+◌, ◌-◌, ◌/◌, ◌<◌, ◌∙◌, ◌∷◌, ◌≡◌, ◌≢◌, ◌≤◌, ◌⊎◌}
 use Rattle.tile_flood.specs.Sparing.{IsAround, LeadsAround, IsSeen, in_round}
-use Rattle.labelling.proofs.Squares.{beside_if}
 use Rattle.tile_flood.proofs.Dependence.{window_point_of, one_window_point, beside_back}
 
 -- places of the window at most one row and one column apart

@@ -1,17 +1,15 @@
 -- Raising gives the filled levels of the mosaic at all points of a tile.
 use Rattle.std.proofs.Common.{rules}
-use Rattle.std.proofs.Common.{◌≡◌, ◌≢◌, ℕ, ◌+◌, ◌*◌, ◌-◌, ◌/◌, ◌%◌, ◌<◌, ◌≤◌, inl, inr, ℤ, ◌≤ℤ◌, Bool, true, false, cond, IsTrue, IsFalse, List, [], ◌∷◌, ◌++◌, length, length-append, get_or, slice_index, refl, sym, ap, ◌∙◌, subst, arith, true≢false, nat_eq, Some, None}
-use Rattle.tile_flood.proofs.Prelude.{AreRaisedBelow, Corner, Decides-int_eq, IsFilledLevel, IsLabelling, IsMosaic, IsPath, Mosaic, NO_LABEL, OUT, bare_block, block_is_lawful, block_of, block_terrain, cases_Bool, cases_lt, cond-false, cond-true, crest, end_of, eq-eqb, get_or-append, get_or-append_seam, get_or-eq_default, height-le_level, height_of, inner_if, int_max, is_exit, is_ground, is_inner_outlet, is_present, is_rim, is_solid, is_void, metres, ne_eqb, point_of, raised_level, terrain, terrain_is_lawful, void, ≤ℤ_antisym, ≤ℤ_same}
+use Rattle.std.proofs.Common.{◌≡◌, ◌≢◌, ℕ, ◌+◌, ◌*◌, ◌-◌, ◌<◌, ◌≤◌, inl, inr, ℤ, ◌≤ℤ◌, IsTrue, IsFalse, List, [], ◌∷◌, ◌++◌, length-append, get_or, slice_index, refl, sym, ap, ◌∙◌, subst, arith, true≢false, nat_eq, Some, None}
+use Rattle.tile_flood.proofs.Prelude.{AreRaisedBelow, Corner, IsFilledLevel, IsLabelling, IsMosaic, IsPath, Mosaic, NO_LABEL, OUT, bare_block, block_is_lawful, block_of, block_terrain, cases_Bool, cond-false, crest, end_of, get_or-append, get_or-append_seam, height-le_level, height_of, int_max, is_exit, is_ground, is_inner_outlet, is_present, is_rim, is_solid, is_void, metres, ne_eqb, point_of, raised_level, terrain, terrain_is_lawful, void, ≤ℤ_antisym}
 use borrow.Author.Count.{below_more}
-use Rattle.lattice.specs.Block.{AreHeightsOf, IsBlockOf, rim_number}
+use Rattle.lattice.specs.Block.{IsBlockOf, rim_number}
 use Rattle.lattice.specs.Limits.{largest_side}
 use Rattle.labelling.specs.Raising.{AreRimLevels, IsRimFilled, AreRaised, CannotBeRaised}
 use Rattle.water.specs.TileLevels.{AreTileLevels}
 use Rattle.labelling.proofs.Parts.{level_of_part, level_at_outlet}
 use Rattle.labelling.proofs.InMosaic.{block_is_part, ground_is, inner_outlet_is_outlet}
 use Rattle.labelling.proofs.Passages.{not_void, solid_has_level}
-use Rattle.lattice.proofs.SampleRange.{metres_are_sample}
-use Rattle.lattice.proofs.RimNumbers.{number_below}
 use Rattle.labelling.proofs.Heights.{lowest_height, rim_number_below}
 use Rattle.labelling.proofs.Squares.{solid_below, solid_height}
 

@@ -1,13 +1,13 @@
 -- Where each point's level fits or the point is listed, and each point stands, the levels and labels are a labelling of the block
 -- as it was before, carried to each point.
 use Rattle.std.proofs.Common.{rules}
-use Rattle.std.proofs.Common.{All, ◌≡◌, ◌≢◌, ℕ, zero, suc, ◌*◌, ◌<◌, ◌≤◌, ℤ, pos, ◌+ℤ◌, ◌<ℤ◌, ◌≤ℤ◌, true, false, not, IsTrue, List, [], ◌∷◌, Contains, length, length-set, get_or, set, get_or-set_other, get_or-set_same, slice_index, inl, inr, refl, sym, ap, ap₂, ◌∙◌, subst, arith, true≢false, ◌&&◌, ◌⊎◌, nat_lt}
+use Rattle.std.proofs.Common.{All, ◌≡◌, ◌≢◌, ℕ, zero, suc, ◌*◌, ◌<◌, ◌≤◌, ℤ, pos, ◌+ℤ◌, ◌<ℤ◌, ◌≤ℤ◌, true, false, not, IsTrue, List, [], ◌∷◌, Contains, length, length-set, get_or, set, get_or-set_other, get_or-set_same, slice_index, inl, inr, refl, sym, ap, ◌∙◌, subst, arith, true≢false, ◌&&◌, ◌⊎◌, nat_lt}
 use Rattle.std.proofs.lemmas.List.Elements.{All-get_or, Contains-append_cases, Contains-append_right}
 use Rattle.tile_flood.proofs.Buckets.{none_in}
 use Rattle.tile_flood.proofs.Fitting.{off_void}
 use Rattle.tile_flood.proofs.Standing.{only_one}
 use Rattle.lattice.specs.Mosaic.{IsSample}
-use Rattle.tile_flood.proofs.Prelude.{Decides-int_eq, IsHeldBy, IsHeldUp, IsMending, IsSeed, block_is_lawful, block_of, cases_Bool, cases_eq, cases_lt, clamps, get_or_past, int_max, ints, is_exit, is_solid, is_void, le-max_left, max-le, ne_eqb, void}
+use Rattle.tile_flood.proofs.Prelude.{IsHeldBy, IsHeldUp, IsMending, IsSeed, block_is_lawful, block_of, cases_Bool, cases_eq, cases_lt, clamps, get_or_past, int_max, ints, is_exit, is_solid, is_void, le-max_left, max-le, ne_eqb, void}
 use Rattle.tile_flood.specs.Mending.{IsLabelledBefore}
 use Rattle.tile_flood.specs.Restoring.{AreFitting, IsAlike, IsLeast, StandsBy}
 use Rattle.labelling.proofs.Squares.{not_void_if, test_if, linked_parts, linked_from, solid_below, solid_if}

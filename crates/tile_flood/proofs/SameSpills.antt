@@ -1,6 +1,6 @@
 -- Where all that a mending affected lies off the borders between labels, the spills are those of before.
 use Rattle.std.proofs.Common.{rules}
-use Rattle.tile_flood.proofs.Prelude.{Affected, AreCarried, AreChangesListed, AreOffBorders, AreSpills, IsLabelling, IsListed, IsTrue, List, Meets, Spill, ℕ, ℤ, ap₂, arith, bare_block, block_of, cases_Bool, get_or, inl, inr, int_eq, int_max, is_beside, is_marked, is_solid, length, not-true, slice_index, subst, sym, void, ◌∙◌, ◌≡◌, ◌≢◌, ◌⊎◌}
+use Rattle.tile_flood.proofs.Prelude.{Affected, AreCarried, AreChangesListed, AreOffBorders, AreSpills, IsLabelling, IsListed, IsTrue, List, Meets, Spill, ℕ, ℤ, ap₂, arith, bare_block, block_of, get_or, inl, inr, int_eq, int_max, is_beside, is_marked, is_solid, length, not-true, slice_index, subst, sym, void, ◌∙◌, ◌≡◌, ◌≢◌, ◌⊎◌}
 use Rattle.labelling.proofs.Squares.{linked_parts, linked_from, solid_height, solid_below, solid_if, test_if}
 use Rattle.tile_flood.proofs.Dependence.{full_at, beside_itself, beside_back}
 use Rattle.labelling.proofs.Passages.{not_void}

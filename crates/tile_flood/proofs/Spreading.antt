@@ -1,17 +1,18 @@
 -- The steps of a flood of a whole block: one of a labelling that is mended, where nothing is suspect and no level is lowered
 -- (after the correctness argument of Barnes, Lehman and Mulla 2014).
 use Rattle.std.proofs.Common.{rules}
-use Rattle.tile_flood.proofs.Prelude.{AreCarried, Decides-int_eq, IsFlooding, IsIn, IsInOr, IsJoined, IsLabelling, IsOwnLabel, IsSeed, IsSeeding, IsSpreading, IsTaken, IsTrue, List, NO_LABEL, Names, Queue, SFits, Waits, ℕ, ℤ, [], ap, ap₂, arith, bare_block, block_is_lawful, block_of, cases_eq, cases_lt, cond, false, get_or, get_or-set_same, inl, inr, int_eq, int_max, is_exit, is_linked, is_marked, is_solid, le-max_left, length, length-set, ne_eqb, not, not-true, of_z, refl, set, slice_index, subst, sum_by-set, sym, to_z, to_z-of_z, true≢false, void, w16, ≤ℤ_same, ≤ℤ_trans, ◌*◌, ◌+◌, ◌<◌, ◌∙◌, ◌≡◌, ◌≢◌, ◌≤ℤ◌, ◌≤◌}
+use Rattle.tile_flood.proofs.Prelude.{AreCarried, Decides-int_eq, IsFlooding, IsIn, IsJoined, IsLabelling, IsOwnLabel, IsSeed, IsSeeding, IsSpreading, IsTaken, IsTrue, List, NO_LABEL, Names, Queue, SFits, WaitStill, Waits, ℕ, ℤ, [], ap, arith, bare_block, block_is_lawful, block_of, cases_eq, cases_lt, cond, false, get_or, get_or-set_same, inl, inr, int_eq, int_max, is_exit, is_linked, is_marked, is_solid, le-max_left, length, length-set, ne_eqb, not, not-true, of_z, refl, set, slice_index, subst, sum_by-set, sym, to_z, true≢false, void, w16, ≤ℤ_same, ≤ℤ_trans, ◌*◌, ◌+◌, ◌<◌, ◌∙◌, ◌≡◌, ◌≢◌, ◌≤ℤ◌, ◌≤◌, ◌⊎◌}
 use Rattle.tile_flood.specs.Flooding.{unmarked, lack, AreMarkedStill, IsNear}
 use Rattle.tile_flood.specs.Spreading.{no_suspects, HaveLevels}
 use Rattle.tile_flood.proofs.Buckets.{none_in}
-use Rattle.labelling.proofs.Squares.{rim_is_exit, not_void_if, test_if, linked_parts, linked_from, solid_height, solid_below}
-use Rattle.tile_flood.proofs.Dependence.{max_mono}
+use Rattle.labelling.proofs.Squares.{rim_is_exit, test_if, linked_parts, linked_from, solid_height, solid_below}
+use Rattle.tile_flood.proofs.Dependence.{max_mono, beside_back}
 use Rattle.tile_flood.proofs.Held.{level_else, label_else, marked_else, seed_anew}
-use Rattle.tile_flood.proofs.Steps.{unmarked_void, in_still, taken_in, mending_as, mark_on, mended, at_most_as, max_second}
+use Rattle.tile_flood.proofs.Steps.{unmarked_void, in_still, taken_in, mending_as, mark_state, mended, at_most_as, max_second}
 
 -- the point y, which has no level, gets this one and waits at it
-module _ (levels : List ℤ) (labels : List ℕ) (queue queue' : Queue) (y : ℕ) (v : ℤ) (a : ℕ) (inside : y < length levels) (off : is_marked levels y ≡ false) (full : v ≢ void) (joined : IsJoined queue queue' v y) where
+module _ (levels : List ℤ) (labels : List ℕ) (queue queue' : Queue) (y : ℕ) (v : ℤ) (a : ℕ) (inside : y < length levels) (off : is_marked levels y ≡ false) (full : v ≢ void)
+    (only : (l : ℤ) (e : ℕ) → Waits queue' l e → ((l ≡ v) × (e ≡ y)) ⊎ Waits queue l e) where
   at : get_or (set levels y v) y void ≡ v
   at = get_or-set_same levels y v void inside
 
@@ -23,7 +24,7 @@ module _ (levels : List ℤ) (labels : List ℕ) (queue queue' : Queue) (y : ℕ
   apart e on same = true≢false (sym on ∙ (ap (is_marked levels) same ∙ off))
 
   waiting_on : HaveLevels levels queue → HaveLevels (set levels y v) queue'
-  waiting_on waiting l e w = elim (joined.only l e w) [
+  waiting_on waiting l e w = elim (only l e w) [
     | inl new ↦ (subst (λ x. IsTrue (is_marked (set levels y v) x)) (sym new.1) now, ap (λ x. get_or (set levels y v) x void) new.1 ∙ (at ∙ sym new.0))
     | inr old ↦
         let was = waiting l e old in
@@ -48,8 +49,8 @@ seeded n heights sinks levels levels' labels labels' queue queue' k v label s ex
     let in_levels : k < length levels = subst (λ m. k < m) (sym s.levels_whole) (solid_below n heights k solid) in
     let at_label : slice_index (set labels k label) k ≡ label = get_or-set_same labels k label 0 (subst (λ m. k < m) (sym s.labels_whole) (solid_below n heights k solid)) in
     let off = s.fresh k (omega arith) in
-    let at_level = at levels labels queue queue' k v label in_levels off full joined in
-    let on_now = now levels labels queue queue' k v label in_levels off full joined in
+    let at_level = at levels labels queue queue' k v label in_levels off full joined.only in
+    let on_now = now levels labels queue queue' k v label in_levels off full joined.only in
     let here : IsSeed (block_of n heights sinks) (set levels k v) (set labels k label) k = record {
       exit = exit;
       level = at_level ∙ is;
@@ -78,7 +79,7 @@ seeded n heights sinks levels levels' labels labels' queue queue' k v label s ex
         | inr other ↦ marked_else levels labels k v label e other ∙ s.outlets e (omega arith) out
       ];
       fresh = λ e above. let other : e ≢ k = omega arith in marked_else levels labels k v label e other ∙ s.fresh e (omega arith);
-      waiting = waiting_on levels labels queue queue' k v label in_levels off full joined s.waiting;
+      waiting = waiting_on levels labels queue queue' k v label in_levels off full joined.only s.waiting;
     }))
 
 -- no more of these points are outlets
@@ -133,37 +134,19 @@ module _ (n : ℕ) (heights : List ℤ) (sinks : List ℕ) (levels : List ℤ) (
       ground : (e : ℕ) → IsTrue (is_exit (block_of n heights sinks) e) → IsTrue (is_solid (block_of n heights sinks) e)
       ground = (block_is_lawful (block_of n heights sinks)).outlet_ground
 
-  -- a point of the lowest level is taken
-  pub spread_begin : (queue queue' : Queue) (c : ℕ) (low : ℤ) → IsFlooding (block_of n heights sinks) levels labels queue → IsTaken queue queue' low c → IsSpreading (block_of n heights sinks) levels labels queue' c low (slice_index labels c)
-  spread_begin queue queue' c low s taken =
-      let here = s.waiting low c taken.waited in
+  -- a point of the lowest level is taken, the one that spreads
+  pub spread_begin : (queue queue' : Queue) (Frontier : ℕ → Type 0) (c : ℕ) (low : ℤ) → IsFlooding (block_of n heights sinks) levels labels queue → IsTaken queue queue' low c → Frontier c → ((e : ℕ) → Frontier e → e ≡ c) →
+      IsSpreading (block_of n heights sinks) levels labels queue' Frontier low (slice_index labels c)
+  spread_begin queue queue' Frontier c low s taken here only =
+      let on = s.waiting low c taken.waited in
       record {
-        passing = record {
-          state = mending_as n heights sinks levels labels (IsIn queue levels) (IsIn no_suspects levels) (IsInOr queue' levels c low) (IsIn no_suspects levels) s.state
-              (λ e on is. is) (λ x y on link w. inl (taken_in levels queue queue' c low taken x w));
-          marked = here.0;
-          level = here.1;
-          named = refl;
-        };
+        state = mending_as n heights sinks levels labels (IsIn queue levels) (IsIn no_suspects levels) (λ e. IsIn queue' levels e ⊎ Frontier e) (IsIn no_suspects levels) s.state
+            (λ e on is. is) (λ x y on link w. inl (elim (taken_in levels queue queue' c low taken x w) [ inl waits ↦ inl waits | inr front ↦ inr (subst Frontier (sym front.0) here) ]));
+        frontier = λ e front. subst (λ z. IsTrue (is_marked levels z) × ((get_or levels z void ≡ low) × (slice_index labels z ≡ slice_index labels c))) (sym (only e front)) (on.0, (on.1, refl));
         waiting = λ l e w. s.waiting l e (taken.only l e w);
         lowest = λ l e w. taken.lowest l e (taken.only l e w);
         capped = λ e on. s.capped low c e taken.waited on;
       }
-
-  -- all that is adjacent to it is marked
-  pub spread_end : (queue : Queue) (c : ℕ) (low : ℤ) (label : ℕ) → IsSpreading (block_of n heights sinks) levels labels queue c low label →
-      ((z : ℕ) → IsTrue (is_linked (bare_block n heights) c z) → IsTrue (is_marked levels z)) → IsFlooding (block_of n heights sinks) levels labels queue
-  spread_end queue c low label s all = record {
-    state = mending_as n heights sinks levels labels (IsInOr queue levels c low) (IsIn no_suspects levels) (IsIn queue levels) (IsIn no_suspects levels) s.passing.state (λ e on is. is) (λ x y on link w. elim w [
-      | inl waits ↦ inl waits
-      | inr taken ↦
-          let on_y = all y (subst (λ z. IsTrue (is_linked (bare_block n heights) z y)) taken.0 link) in
-          inr (on_y, subst (λ m. get_or levels y void ≤ℤ int_max (get_or heights y void) m) (sym taken.1) (s.capped y on_y))
-    ]);
-    waiting = s.waiting;
-    capped = λ l x e w on. ≤ℤ_trans (get_or levels e void) (int_max (get_or heights e void) low) (int_max (get_or heights e void) l) (s.capped e on)
-        (max_mono (get_or heights e void) low (get_or heights e void) l (≤ℤ_same (get_or heights e void)) (s.lowest l x w));
-  }
 
   -- nobody waits any more
   module _ (queue : Queue) (some : 0 < n) (s : IsFlooding (block_of n heights sinks) levels labels queue) (nobody : (l : ℤ) (e : ℕ) → Waits queue l e → ⊥) where
@@ -173,68 +156,136 @@ module _ (n : ℕ) (heights : List ℤ) (sinks : List ℕ) (levels : List ℤ) (
     pub flooding_end : IsLabelling (block_of n heights sinks) levels labels × AreCarried (block_of n heights sinks) levels labels
     flooding_end = mended n heights sinks levels labels (IsIn queue levels) (IsIn no_suspects levels) (λ _. ⊥) (λ _. ⊥) s.state some (λ e w. nobody (get_or levels e void) e w) none_suspect
 
-  -- while c spreads
-  module _ (queue : Queue) (c : ℕ) (low : ℤ) (label : ℕ) (s : IsSpreading (block_of n heights sinks) levels labels queue c low label) where
-    pub spreader_solid : IsTrue (is_solid (bare_block n heights) c)
-    spreader_solid = s.passing.state.ground c s.passing.marked
+  -- while points spread
+  module _ (queue : Queue) (Frontier : ℕ → Type 0) (low : ℤ) (label : ℕ) (s : IsSpreading (block_of n heights sinks) levels labels queue Frontier low label) where
+    -- which points spread is said otherwise; one beside which all is marked need not be one of them
+    pub spread_on : (Frontier' : ℕ → Type 0) → ((e : ℕ) → Frontier' e → Frontier e) → ((e : ℕ) → Frontier e → Frontier' e ⊎ ((y : ℕ) → IsTrue (is_linked (bare_block n heights) e y) → IsTrue (is_marked levels y))) →
+        IsSpreading (block_of n heights sinks) levels labels queue Frontier' low label
+    spread_on Frontier' only still = record {
+      state = mending_as n heights sinks levels labels (λ e. IsIn queue levels e ⊎ Frontier e) (IsIn no_suspects levels) (λ e. IsIn queue levels e ⊎ Frontier' e) (IsIn no_suspects levels) s.state (λ e on is. is)
+          (λ x y on link w. elim w [
+            | inl waits ↦ inl (inl waits)
+            | inr front ↦ elim (still x front) [
+              | inl front' ↦ inl (inr front')
+              | inr all ↦
+                  let on_y = all y link in
+                  inr (on_y, subst (λ m. get_or levels y void ≤ℤ int_max (get_or heights y void) m) (sym (s.frontier x front).1.0) (s.capped y on_y))
+            ]
+          ]);
+      frontier = λ e front. s.frontier e (only e front);
+      waiting = s.waiting;
+      lowest = s.lowest;
+      capped = s.capped;
+    }
 
-    -- the point that is taken has a label
-    pub taken_below : c < length labels
-    taken_below = subst (λ k. c < k) (sym s.passing.state.labels_whole) (solid_below n heights c spreader_solid)
+    -- none spreads any more
+    pub spread_end : ((e : ℕ) → Frontier e → ⊥) → IsFlooding (block_of n heights sinks) levels labels queue
+    spread_end none = record {
+      state = mending_as n heights sinks levels labels (λ e. IsIn queue levels e ⊎ Frontier e) (IsIn no_suspects levels) (IsIn queue levels) (IsIn no_suspects levels) s.state (λ e on is. is)
+          (λ x y on link w. elim w [ inl waits ↦ inl waits | inr front ↦ absurd (none x front) ]);
+      waiting = s.waiting;
+      capped = λ l x e w on. ≤ℤ_trans (get_or levels e void) (int_max (get_or heights e void) low) (int_max (get_or heights e void) l) (s.capped e on)
+          (max_mono (get_or heights e void) low (get_or heights e void) l (≤ℤ_same (get_or heights e void)) (s.lowest l x w));
+    }
+
+    pub spreader_solid : (c : ℕ) → Frontier c → IsTrue (is_solid (bare_block n heights) c)
+    spreader_solid c from = s.state.ground c (s.frontier c from).0
+
+    pub spreader_below : (c : ℕ) → Frontier c → c < n * n
+    spreader_below c from = solid_below n heights c (spreader_solid c from)
 
     -- outlets have their levels
     pub outlet_marked : (e : ℕ) → IsTrue (is_exit (block_of n heights sinks) e) → IsTrue (is_marked levels e)
-    outlet_marked e out = test_if (get_or levels e void) (λ none. solid_height n heights e ((block_is_lawful (block_of n heights sinks)).outlet_ground e out) (sym (s.passing.state.exits e out).level ∙ none))
+    outlet_marked e out = test_if (get_or levels e void) (λ none. solid_height n heights e ((block_is_lawful (block_of n heights sinks)).outlet_ground e out) (sym (s.state.exits e out).level ∙ none))
 
-    -- a ground point without a level, near c, is linked to it: on the rim there is none
-    pub near_linked : (e : ℕ) → IsNear n c e → IsTrue (is_solid (bare_block n heights) e) → is_marked levels e ≡ false → IsTrue (is_linked (bare_block n heights) c e)
-    near_linked e near solid off = elim near [
+    -- a ground point without a level, near one that spreads, is linked to it: on the rim there is none
+    pub near_linked : (c e : ℕ) → Frontier c → IsNear n c e → IsTrue (is_solid (bare_block n heights) e) → is_marked levels e ≡ false → IsTrue (is_linked (bare_block n heights) c e)
+    near_linked c e from near solid off = elim near [
       | inl rim ↦ absurd (true≢false (sym (outlet_marked e (rim_is_exit n heights sinks e solid rim)) ∙ off))
       | inr beside ↦ linked_from n heights c e (record {
-        from = spreader_solid;
+        from = spreader_solid c from;
         to = solid;
-        apart = ap not (ne_eqb c e (λ h. true≢false (sym s.passing.marked ∙ (ap (is_marked levels) h ∙ off))));
+        apart = ap not (ne_eqb c e (λ h. true≢false (sym (s.frontier c from).0 ∙ (ap (is_marked levels) h ∙ off))));
         beside = beside;
       })
     ]
 
--- what the mark of a point beside c leaves
-pub record IsVisited (n : ℕ) (heights : List ℤ) (sinks : List ℕ) (levels levels' : List ℤ) (labels' : List ℕ) (queue' : Queue) (c : ℕ) (low : ℤ) (label e : ℕ) : Type 0 where
-  pub state : IsSpreading (block_of n heights sinks) levels' labels' queue' c low label
+-- the point e, which has no level, gets its level and its label from one that spreads beside it; it waits, or spreads too
+module _ (n : ℕ) (heights : List ℤ) (sinks : List ℕ) (levels : List ℤ) (labels : List ℕ) (queue queue' : Queue) (Frontier Frontier' : ℕ → Type 0) (low : ℤ) (label c e : ℕ) (v : ℤ)
+    (s : IsSpreading (block_of n heights sinks) levels labels queue Frontier low label) (from : Frontier c) (near : IsNear n c e) (solid : IsTrue (is_solid (bare_block n heights) e)) (off : is_marked levels e ≡ false)
+    (is : v ≡ int_max (get_or heights e void) low) (full : v ≢ void) (others : WaitStill queue queue') (only : (l : ℤ) (f : ℕ) → Waits queue' l f → ((l ≡ v) × (f ≡ e)) ⊎ Waits queue l f)
+    (keep : (z : ℕ) → Frontier z → Frontier' z) (new : (z : ℕ) → Frontier' z → ((z ≡ e) × (v ≡ low)) ⊎ Frontier z) (waits : Waits queue' v e ⊎ Frontier' e) where
+  link : IsTrue (is_linked (bare_block n heights) c e)
+  link = near_linked n heights sinks levels labels queue Frontier low label s c e from near solid off
+
+  inside : e < length levels
+  inside = subst (λ k. e < k) (sym s.state.levels_whole) (solid_below n heights e solid)
+
+  inside_labels : e < length labels
+  inside_labels = subst (λ k. e < k) (sym s.state.labels_whole) (solid_below n heights e solid)
+
+  at_e : get_or (set levels e v) e void ≡ v
+  at_e = at levels labels queue queue' e v label inside off full only
+
+  at_label : slice_index (set labels e label) e ≡ label
+  at_label = get_or-set_same labels e label 0 inside_labels
+
+  on_e : IsTrue (is_marked (set levels e v) e)
+  on_e = now levels labels queue queue' e v label inside off full only
+
+  other_than : (z : ℕ) → IsTrue (is_marked levels z) → z ≢ e
+  other_than z on = apart levels labels queue queue' e v label inside off full only z on
+
+  back : IsTrue (is_linked (block_of n heights sinks) e c)
+  back = let l = linked_parts n heights c e link in linked_from n heights e c (record {
+    from = l.to;
+    to = l.from;
+    apart = ap not (ne_eqb e c (λ same. other_than c (s.frontier c from).0 (sym same)));
+    beside = beside_back n c e l.beside;
+  })
+
+  visited : IsSpreading (block_of n heights sinks) (set levels e v) (set labels e label) queue' Frontier' low label
+  visited = record {
+    state = mark_state n heights sinks levels labels (λ z. IsIn queue levels z ⊎ Frontier z) (IsIn no_suspects levels) (λ z. IsIn queue' (set levels e v) z ⊎ Frontier' z) (IsIn no_suspects (set levels e v)) s.state
+        e c v label off full back (s.frontier c from).0 (is ∙ ap (int_max (get_or heights e void)) (sym (s.frontier c from).1.0)) (s.frontier c from).1.1
+        (λ z other w. in_still levels labels e v label no_suspects no_suspects (λ _ _ w. w) z other w)
+        (λ z other w. elim w [ inl in_queue ↦ inl (in_still levels labels e v label queue queue' others z other in_queue) | inr front ↦ inr (keep z front) ])
+        (elim waits [ inl w ↦ inl (subst (λ l. Waits queue' l e) (sym at_e) w) | inr front ↦ inr front ]);
+    frontier = λ z front. elim (new z front) [
+      | inl fresh ↦ subst (λ t. IsTrue (is_marked (set levels e v) t) × ((get_or (set levels e v) t void ≡ low) × (slice_index (set labels e label) t ≡ label))) (sym fresh.0) (on_e, (at_e ∙ fresh.1, at_label))
+      | inr old ↦
+          let was = s.frontier z old in
+          let other = other_than z was.0 in
+          (marked_else levels labels e v label z other ∙ was.0, (level_else levels labels e v label z other ∙ was.1.0, label_else levels labels e v label z other ∙ was.1.1))
+    ];
+    waiting = waiting_on levels labels queue queue' e v label inside off full only s.waiting;
+    lowest = λ m z w. elim (only m z w) [
+      | inl fresh ↦ subst (λ t. low ≤ℤ t) (sym fresh.0) (max_second (get_or heights e void) low v is)
+      | inr old ↦ s.lowest m z old
+    ];
+    capped = λ z on. elim (cases_eq z e) [
+      | inl same ↦ subst (λ t. get_or (set levels e v) t void ≤ℤ int_max (get_or heights t void) low) (sym same) (at_most_as (get_or (set levels e v) e void) (int_max (get_or heights e void) low) (at_e ∙ is))
+      | inr other ↦ subst (λ t. t ≤ℤ int_max (get_or heights z void) low) (sym (level_else levels labels e v label z other)) (s.capped z (sym (marked_else levels labels e v label z other) ∙ on))
+    ];
+  }
+
+  pub visited_as : (levels' : List ℤ) (labels' : List ℕ) → levels' ≡ set levels e v → labels' ≡ set labels e label → IsSpreading (block_of n heights sinks) levels' labels' queue' Frontier' low label
+  visited_as levels' labels' wrote wrote_label =
+      subst (λ ls. IsSpreading (block_of n heights sinks) ls labels' queue' Frontier' low label) (sym wrote)
+      (subst (λ bs. IsSpreading (block_of n heights sinks) (set levels e v) bs queue' Frontier' low label) (sym wrote_label) visited)
+
+-- what the mark of a point leaves, whoever spreads
+pub record IsMarkedNow (levels levels' : List ℤ) (e : ℕ) : Type 0 where
   pub marked : IsTrue (is_marked levels' e)
   pub still : AreMarkedStill levels levels'
   pub count : unmarked levels' + 1 ≡ unmarked levels
 
--- the point e beside c gets its level and its label from it
-pub visited_as : (n : ℕ) (heights : List ℤ) (sinks : List ℕ) (levels levels' : List ℤ) (labels labels' : List ℕ) (queue queue' : Queue) (c : ℕ) (low : ℤ) (e : ℕ) (v : ℤ) (label : ℕ) →
-    IsSpreading (block_of n heights sinks) levels labels queue c low label → IsTrue (is_linked (bare_block n heights) c e) → is_marked levels e ≡ false →
-    v ≡ int_max (get_or heights e void) low → levels' ≡ set levels e v → labels' ≡ set labels e label → IsJoined queue queue' v e →
-    IsVisited n heights sinks levels levels' labels' queue' c low label e
-visited_as n heights sinks levels levels' labels labels' queue queue' c low e v label s link off is wrote wrote_label joined =
-    let l = linked_parts n heights c e link in
-    let inside : e < length levels = subst (λ k. e < k) (sym s.passing.state.levels_whole) (solid_below n heights e l.to) in
-    let r = mark_on n heights sinks levels labels queue queue' no_suspects no_suspects c low label e v label s.passing l.to l.beside is joined.waits joined.others (λ _ _ w. w) levels' labels' off refl wrote wrote_label in
-    let level : get_or levels' e void ≡ v = ap (λ ls. get_or ls e void) wrote ∙ get_or-set_same levels e v void inside in
-    let full : v ≢ void = λ none. not_void_if levels' e r.reached.0 (level ∙ none) in
-    record {
-      state = record {
-        passing = r.state;
-        waiting = subst (λ ls. HaveLevels ls queue') (sym wrote) (waiting_on levels labels queue queue' e v label inside off full joined s.waiting);
-        lowest = λ m z w. elim (joined.only m z w) [
-          | inl new ↦ subst (λ t. low ≤ℤ t) (sym new.0) (max_second (get_or heights e void) low v is)
-          | inr old ↦ s.lowest m z old
-        ];
-        capped = λ z on. elim (cases_eq z e) [
-          | inl same ↦ subst (λ t. get_or levels' t void ≤ℤ int_max (get_or heights t void) low) (sym same) (at_most_as (get_or levels' e void) (int_max (get_or heights e void) low) (level ∙ is))
-          | inr other ↦
-              let was : get_or levels' z void ≡ get_or levels z void = ap (λ ls. get_or ls z void) wrote ∙ level_else levels labels e v label z other in
-              subst (λ t. t ≤ℤ int_max (get_or heights z void) low) (sym was) (s.capped z (ap (λ t. not (int_eq t void)) (sym was) ∙ on))
-        ];
-      };
-      marked = r.reached.0;
-      still = λ z on. (r.at_most z on).0;
-      count = subst (λ ls. unmarked ls + 1 ≡ unmarked levels) (sym wrote) (counted levels labels queue queue' e v label inside off full joined);
-    }
+pub marked_now : (levels levels' : List ℤ) (labels : List ℕ) (e : ℕ) (v : ℤ) (label : ℕ) → e < length levels → is_marked levels e ≡ false → v ≢ void → levels' ≡ set levels e v → IsMarkedNow levels levels' e
+marked_now levels levels' labels e v label inside off full wrote = subst (λ ls. IsMarkedNow levels ls e) (sym wrote) (record {
+  marked = now levels labels no_suspects no_suspects e v label inside off full (λ _ _ w. inr w);
+  still = λ z on. marked_else levels labels e v label z (apart levels labels no_suspects no_suspects e v label inside off full (λ _ _ w. inr w) z on) ∙ on;
+  count = counted levels labels no_suspects no_suspects e v label inside off full (λ _ _ w. inr w);
+})
 
 pub passed_max : (r h low g : ℤ) → SFits w16 r → SFits w16 h → SFits w16 low → r ≡ int_max (to_z w16 (of_z w16 h)) (to_z w16 (of_z w16 low)) → h ≡ g →
     to_z w16 (of_z w16 r) ≡ int_max g low

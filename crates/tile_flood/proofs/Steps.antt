@@ -1,7 +1,7 @@
 -- The steps by which a labelling is mended.
 use Rattle.std.proofs.Common.{rules}
-use Rattle.tile_flood.proofs.Prelude.{AreCarried, AreRelaxed, Contains, HangTogether, IsBeginning, IsBesideWith, IsCarriedBy, IsFalse, IsFirstSuspect, IsHeldBy, IsHeldUp, IsIn, IsInOr, IsLabelling, IsMending, IsOwnLabel, IsSeed, IsTaken, IsTrue, List, NO_LABEL, Names, Queue, WaitStill, Waits, ℕ, ℤ, [], ap, arith, block_is_lawful, block_of, block_terrain, cases_Bool, cases_eq, clamps, false, get_or, get_or-set_other, get_or-set_same, inl, inr, int_max, ints, is_beside, is_exit, is_linked, is_marked, is_solid, length, length-set, max-le, ne_eqb, not, refl, set, slice_index, subst, sym, true≢false, void, ≤ℤ_trans, ◌*◌, ◌+◌, ◌/◌, ◌<ℤ◌, ◌<◌, ◌∙◌, ◌∷◌, ◌≡◌, ◌≢◌, ◌≤ℤ◌, ◌⊎◌}
-use Rattle.lattice.proofs.Levels.{all_marked, max_one_of}
+use Rattle.tile_flood.proofs.Prelude.{AreCarried, AreRelaxed, Contains, HangTogether, IsBeginning, IsBesideWith, IsCarriedBy, IsFalse, IsFirstSuspect, IsHeldBy, IsHeldUp, IsIn, IsInOr, IsLabelling, IsMending, IsOwnLabel, IsSeed, IsTaken, IsTrue, List, NO_LABEL, Queue, WaitStill, Waits, ℕ, ℤ, [], ap, arith, block_is_lawful, block_of, block_terrain, cases_Bool, cases_eq, clamps, false, get_or, get_or-set_other, get_or-set_same, inl, inr, int_max, ints, is_beside, is_exit, is_linked, is_marked, is_solid, length, length-set, max-le, ne_eqb, not, refl, set, slice_index, subst, sym, true≢false, void, ≤ℤ_trans, ◌*◌, ◌+◌, ◌/◌, ◌<ℤ◌, ◌<◌, ◌∙◌, ◌∷◌, ◌≡◌, ◌≢◌, ◌≤ℤ◌, ◌⊎◌}
+use Rattle.lattice.proofs.Levels.{all_marked}
 use Rattle.lattice.proofs.IntTests.{le_or_above, eq_or_not}
 use Rattle.tile_flood.specs.Mending.{IsLabelledBefore}
 use Rattle.tile_flood.specs.Affected.{IsAmong}

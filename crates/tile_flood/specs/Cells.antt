@@ -33,3 +33,7 @@ pub record IsFresh (heights : List ℤ) (e : ℕ) (cell : Cell) : Type 0 where
   pub level : cell.level ≡ slice_index_or heights e void
   pub ground : IsTrue (is_marked heights e) → cell.label ≡ OPEN
   pub gap : is_marked heights e ≡ false → cell.label ≡ NO_LABEL
+
+-- a marked point may have this level and this label
+abbrev pub IsMark : ℤ → ℕ → Type 0
+IsMark level label = (level ≢ void) × (label ≢ NO_LABEL) × (label ≢ OPEN)

@@ -1,5 +1,5 @@
 -- The points of a block that have their levels in a flood.
-use Rattle.std.specs.Prelude.{◌≡◌, ℕ, ◌+◌, ◌*◌, ◌<◌, ◌≤◌, ℤ, Bool, false, not, cond, IsTrue, List, slice_index_or, ◌⊎◌, sum_by}
+use Rattle.std.specs.Prelude.{◌≡◌, ℕ, ◌+◌, ◌*◌, ◌<◌, ◌≤◌, ℤ, false, cond, IsTrue, List, ◌⊎◌, sum_by}
 use Rattle.std.specs.Ordering.{int_eq}
 use Rattle.lattice.specs.Mosaic.{void}
 use Rattle.lattice.specs.Block.{Block, is_solid, is_exit, is_inner_outlet, is_rim, is_beside}

@@ -7,6 +7,7 @@ pub mod Mending
 pub mod Affected
 pub mod Suspects
 pub mod Spreading
+pub mod Spans
 pub mod Sparing
 pub mod Kept
 pub mod Restoring

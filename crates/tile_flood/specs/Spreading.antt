@@ -1,6 +1,6 @@
 -- A flood of a block on its way (after Barnes, Lehman and Mulla 2014): some of the points that have their levels and labels
 -- still wait to spread.
-use Rattle.std.specs.Prelude.{◌≡◌, ℕ, ◌*◌, ◌<◌, ◌≤◌, ℤ, ◌≤ℤ◌, false, IsTrue, List, [], length, slice_index, slice_index_or}
+use Rattle.std.specs.Prelude.{◌≡◌, ℕ, ◌*◌, ◌<◌, ◌≤◌, ℤ, ◌≤ℤ◌, false, IsTrue, List, [], length, slice_index, slice_index_or, ◌⊎◌}
 use Rattle.std.specs.Int.{int_max}
 use Rattle.lattice.specs.Mosaic.{void}
 use Rattle.lattice.specs.Block.{Block, is_exit}
@@ -8,7 +8,7 @@ use Rattle.labelling.specs.Labelling.{NO_LABEL}
 use Rattle.tile_flood.specs.Carried.{IsSeed}
 use Rattle.tile_flood.specs.Waiting.{Queue, Waits}
 use Rattle.labelling.specs.Blocks.{is_marked}
-use Rattle.tile_flood.specs.Suspects.{AreMending, IsPassingOn}
+use Rattle.tile_flood.specs.Suspects.{AreMending, IsIn, IsMending}
 
 -- a flood has no suspects
 abbrev pub no_suspects : Queue
@@ -35,9 +35,10 @@ module _ (b : Block) (levels : List ℤ) (labels : List ℕ) (queue : Queue) whe
     pub waiting : HaveLevels levels queue
     pub capped : (l : ℤ) (x e : ℕ) → Waits queue l x → IsTrue (is_marked levels e) → slice_index_or levels e void ≤ℤ int_max (slice_index_or b.heights e void) l
 
-  -- the same while c spreads, at the lowest level and with this label
-  pub record IsSpreading (c : ℕ) (low : ℤ) (label : ℕ) : Type 0 where
-    pub passing : IsPassingOn b.side b.heights b.sinks levels labels queue no_suspects c low label
+  -- the same while these points spread: they have this level, the lowest, and this label
+  pub record IsSpreading (Frontier : ℕ → Type 0) (low : ℤ) (label : ℕ) : Type 0 where
+    pub state : IsMending b.side b.heights b.sinks levels labels (λ e. IsIn queue levels e ⊎ Frontier e) (IsIn no_suspects levels)
+    pub frontier : (e : ℕ) → Frontier e → IsTrue (is_marked levels e) × ((slice_index_or levels e void ≡ low) × (slice_index labels e ≡ label))
     pub waiting : HaveLevels levels queue
     pub lowest : (l : ℤ) (e : ℕ) → Waits queue l e → low ≤ℤ l
     pub capped : (e : ℕ) → IsTrue (is_marked levels e) → slice_index_or levels e void ≤ℤ int_max (slice_index_or b.heights e void) low

@@ -95,6 +95,6 @@ fn flood_cells(alloc: Global, block: &BlockView, cells: &mut [Cell]) -> Result<(
 {
     let mut queue = Queue::full(alloc)?;
     seed(block, cells, &mut queue)?;
-    settle(block, cells, &mut queue)?;
+    settle(alloc, block, cells, &mut queue)?;
     Ok(())
 }

@@ -17,6 +17,7 @@ mod affected;
 mod block;
 mod borders;
 mod cells;
+mod filling;
 mod flood;
 mod labelled;
 mod mending;

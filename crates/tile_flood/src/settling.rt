@@ -1,23 +1,27 @@
 //! Labelled points spread to the points beside them, the lowest level first.
-ghost use Rattle.std.specs.Prelude.{◌≡◌, ◌<◌, ◌*◌, ◌+◌, ◌/◌, ℕ, OnOk, IsTrue, length, slice_index};
+ghost use Rattle.std.specs.Prelude.{◌≡◌, ◌<◌, ◌≤◌, [], ◌*◌, ◌+◌, ◌/◌, ℕ, OnOk, IsTrue, List, length, slice_index};
 ghost use Rattle.lattice.specs.Block.{is_solid, is_linked};
 ghost use Rattle.labelling.specs.Labelling.{IsLabelling};
 ghost use Rattle.tile_flood.specs.Carried.{AreCarried};
 ghost use Rattle.tile_flood.specs.Views.{viewed_block};
 ghost use Rattle.tile_flood.specs.Waiting.{waiting};
-ghost use Rattle.tile_flood.specs.Cells.{levels_of, labels_of, AreCells};
+ghost use Rattle.tile_flood.specs.Cells.{IsMark, levels_of, labels_of, AreCells};
 ghost use Rattle.labelling.specs.Blocks.{is_marked};
 ghost use Rattle.tile_flood.specs.Flooding.{unmarked, AreMarkedStill, IsNear};
 ghost use Rattle.tile_flood.specs.Spreading.{IsFlooding, IsSpreading};
+ghost use Rattle.tile_flood.specs.declared.filling.FilledSpan.{FilledSpan};
+ghost use Rattle.tile_flood.specs.Spans.{InSpans, one_point};
 
 use crate::cells::{Cell, PoppedCell, cell_at, is_open, mark};
+use crate::filling::{FilledSpan, fill, is_low};
 use crate::queue::Queue;
 use crate::values::higher;
 use crate::views::BlockView;
-use std::alloc::AllocError;
+use std::alloc::{AllocError, Global};
 
 // Lets each point that waits spread, until none does.
 pub(crate) fn settle(
+    alloc: Global,
     block: &BlockView,
     cells: &mut [Cell],
     queue: &mut Queue,
@@ -27,6 +31,7 @@ pub(crate) fn settle(
     ensures { OnOk result (IsLabelling (viewed_block block.now) (levels_of cells.new) (labels_of cells.new)
         × AreCarried (viewed_block block.now) (levels_of cells.new) (labels_of cells.new)) }
 {
+    let mut spans: Vec<FilledSpan> = Vec::new(alloc);
     while let Some(entry) = queue.pop() {
         let point = entry.point as usize;
         let popped = PoppedCell {
@@ -34,7 +39,7 @@ pub(crate) fn settle(
             level: entry.level,
             label: cell_at(cells, point).label,
         };
-        spread(block, cells, queue, popped)?;
+        spread(block, cells, queue, &mut spans, popped)?;
     }
     Ok(())
 }
@@ -44,15 +49,24 @@ fn spread(
     block: &BlockView,
     cells: &mut [Cell],
     queue: &mut Queue,
+    spans: &mut Vec<FilledSpan>,
     popped: PoppedCell,
 ) -> Result<(), AllocError>
     requires cells { AreCells block.now.heights.now cells.old }
-    requires state { IsSpreading (viewed_block block.now) (levels_of cells.old) (labels_of cells.old) queue.old popped.point popped.level popped.label }
+    requires state { IsSpreading (viewed_block block.now) (levels_of cells.old) (labels_of cells.old) queue.old (InSpans (one_point popped.point)) popped.level popped.label }
+    requires mark { IsMark popped.level popped.label }
+    requires none { spans.old.items ≡ [] }
+    ensures none { OnOk result (spans.new.items ≡ []) }
     ensures cells { OnOk result (AreCells block.now.heights.now cells.new) }
     ensures state { OnOk result (IsFlooding (viewed_block block.now) (levels_of cells.new) (labels_of cells.new) queue.new) }
     ensures count { OnOk result (unmarked (levels_of cells.new) + waiting queue.new
-        ≡ unmarked (levels_of cells.old) + waiting queue.old) }
+        ≤ unmarked (levels_of cells.old) + waiting queue.old) }
 {
+    if is_low(cells, popped.point + 1, popped.level)
+        || popped.point > 0 && is_low(cells, popped.point - 1, popped.level)
+    {
+        return fill(block, cells, queue, spans, popped);
+    }
     visit_row(block, cells, queue, popped, 0)?;
     visit_row(block, cells, queue, popped, 1)?;
     visit_row(block, cells, queue, popped, 2)?;
@@ -71,10 +85,11 @@ fn visit_row(
     i: usize,
 ) -> Result<(), AllocError>
     requires cells { AreCells block.now.heights.now cells.old }
-    requires state { IsSpreading (viewed_block block.now) (levels_of cells.old) (labels_of cells.old) queue.old popped.point popped.level popped.label }
+    requires state { IsSpreading (viewed_block block.now) (levels_of cells.old) (labels_of cells.old) queue.old (InSpans (one_point popped.point)) popped.level popped.label }
+    requires mark { IsMark popped.level popped.label }
     requires i { i < 3 }
     ensures cells { OnOk result (AreCells block.now.heights.now cells.new) }
-    ensures state { OnOk result (IsSpreading (viewed_block block.now) (levels_of cells.new) (labels_of cells.new) queue.new popped.point popped.level popped.label) }
+    ensures state { OnOk result (IsSpreading (viewed_block block.now) (levels_of cells.new) (labels_of cells.new) queue.new (InSpans (one_point popped.point)) popped.level popped.label) }
     ensures still { OnOk result (AreMarkedStill (levels_of cells.old) (levels_of cells.new)) }
     ensures count { OnOk result (unmarked (levels_of cells.new) + waiting queue.new
         ≡ unmarked (levels_of cells.old) + waiting queue.old) }
@@ -94,10 +109,10 @@ fn visit_row(
     Ok(())
 }
 
-// Gives the point e, near the popped point, the popped point's label and the higher of its height and the popped point's
+// Gives the point e, near one that spreads, the popped point's label and the higher of its height and the popped point's
 // level, if it is open, and lets it wait.
 #[inline(always)]
-fn visit(
+pub(crate) fn visit(
     block: &BlockView,
     cells: &mut [Cell],
     queue: &mut Queue,
@@ -105,16 +120,17 @@ fn visit(
     e: usize,
 ) -> Result<(), AllocError>
     requires cells { AreCells block.now.heights.now cells.old }
-    requires state { IsSpreading (viewed_block block.now) (levels_of cells.old) (labels_of cells.old) queue.old popped.point popped.level popped.label }
+    requires mark { IsMark popped.level popped.label }
     requires e { e < block.now.n * block.now.n }
-    requires near { IsNear block.now.n popped.point e }
     ensures cells { OnOk result (AreCells block.now.heights.now cells.new) }
-    ensures state { OnOk result (IsSpreading (viewed_block block.now) (levels_of cells.new) (labels_of cells.new) queue.new popped.point popped.level popped.label) }
     ensures still { OnOk result (AreMarkedStill (levels_of cells.old) (levels_of cells.new)) }
     ensures count { OnOk result (unmarked (levels_of cells.new) + waiting queue.new
         ≡ unmarked (levels_of cells.old) + waiting queue.old) }
-    ensures marked { OnOk result (IsTrue (is_solid (viewed_block block.now) e)
-        → IsTrue (is_marked (levels_of cells.new) e)) }
+    ensures fewer { OnOk result (unmarked (levels_of cells.new) ≤ unmarked (levels_of cells.old)) }
+    ensures state { OnOk result ((spans : List FilledSpan) (c : ℕ) → InSpans spans c → IsNear block.now.n c e
+        → IsSpreading (viewed_block block.now) (levels_of cells.old) (labels_of cells.old) queue.old (InSpans spans) popped.level popped.label
+        → IsSpreading (viewed_block block.now) (levels_of cells.new) (labels_of cells.new) queue.new (InSpans spans) popped.level popped.label
+        × (IsTrue (is_solid (viewed_block block.now) e) → IsTrue (is_marked (levels_of cells.new) e))) }
 {
     let cell = cell_at(cells, e);
     if is_open(cell) {

@@ -1,7 +1,6 @@
 use Rattle.std.proofs.Common.{◌≡◌, ◌+◌, ◌-◌, ◌*◌, arith, subst}
 use Rattle.tile_flood.specs.Restoring.{AreFitting}
-use Rattle.labelling.proofs.Squares.{in_square}
-use Rattle.tile_flood.proofs.Fitting.{next_fits, settled_fits, span_fits}
+use Rattle.tile_flood.proofs.Fitting.{next_fits}
 use Rattle.tile_flood.proofs.restoring.look_at_row.Goals as goal
 
 pub look_at-requires-clause-standing : goal.look_at-requires-clause-standing
